@@ -1,0 +1,95 @@
+ghost use Rattle.std.specs.Prelude.{◌≡◌, ◌++◌, ◌∷◌, ◌<◌, [], List, IfOk, OnOk, OnErr, length, slice_set};
+ghost use Rattle.std.specs.Cmp.Lexicographic.{pointwise, lists_per, lists_equiv};
+
+use crate::memory::NoMemory;
+use std::alloc::Global;
+use std::marker::Model;
+
+/// A vector that contracts see as the list of its items.
+#[derive(Debug, Drop)]
+pub struct Items<T> {
+    vec: Vec<T>,
+}
+
+/// The bytes of a value.
+pub type Value = Items<u8>;
+
+impl<T> Model for Items<T> {
+    ghost use Rattle.std.specs.Prelude.{List};
+
+    ghost Value = { List T };
+
+    ghost view = { λ s. s.vec.items };
+}
+
+impl<T> Items<T> {
+    /// No items. Takes no memory.
+    pub fn new(alloc: Global) -> Items<T>
+        ensures { result ≡ [] }
+    {
+        Items {
+            vec: Vec::new(alloc),
+        }
+    }
+
+    /// The items of a vector. Takes no memory.
+    pub fn from_vec(vec: Vec<T>) -> Items<T>
+        ensures { result ≡ vec.items }
+    {
+        Items { vec }
+    }
+
+    /// The vector of the items. Takes no memory.
+    pub fn into_vec(self) -> Vec<T>
+        ensures { result.items ≡ self }
+    {
+        self.vec
+    }
+
+    pub fn as_slice(&self) -> &[T]
+        ensures { result.now ≡ self.now }
+    {
+        self.vec.as_slice()
+    }
+
+    pub fn len(&self) -> usize
+        ensures { result ≡ length self.now }
+    {
+        self.vec.len()
+    }
+}
+
+impl<T: Drop> Items<T> {
+    pub fn push(&mut self, item: T) -> Result<(), NoMemory>
+        ensures ok { OnOk result (self.new ≡ self.old ++ item ∷ []) }
+        ensures err { OnErr result (self.new ≡ self.old) }
+    {
+        self.vec.push(item)?;
+        Ok(())
+    }
+}
+
+impl Items<u8> {
+    /// The same bytes, in new memory.
+    pub fn try_clone(&self) -> Result<Items<u8>, NoMemory>
+        ensures { IfOk result (λ copy. copy ≡ self.now) }
+    {
+        Ok(Items {
+            vec: self.vec.as_slice().to_vec(*self.vec.allocator())?,
+        })
+    }
+}
+
+impl<T: PartialEq> PartialEq for Items<T> {
+    ghost eq = { pointwise T.eq };
+
+    ghost laws = { lists_per T.laws };
+
+    fn eq(&self, other: &Self) -> bool {
+        self.as_slice() == other.as_slice()
+    }
+}
+
+impl<T: Eq> Eq for Items<T> {
+    ghost laws = { lists_equiv T.Eq.laws };
+}

@@ -1,0 +1,8 @@
+//! The model store: what a request does to it, and what it replies.
+#![tactic(auto)]
+
+pub mod cell;
+pub mod store;
+
+pub use cell::{Cell, Kind, Lock, Write};
+pub use store::ModelStore;

@@ -1,0 +1,8 @@
+//! The report of a run, and its text.
+#![tactic(auto)]
+
+pub mod outcome;
+pub mod report;
+
+pub use outcome::{Outcome, Payload};
+pub use report::{Report, SentNote, SleepNote};
