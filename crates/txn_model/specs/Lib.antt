@@ -3,6 +3,8 @@ pub mod Commit
 pub mod Handled
 pub mod Locks
 pub mod Placement
+pub mod Placings
+pub mod Places
 pub mod Prewrite
 pub mod Store
 pub mod Table
