@@ -2,4 +2,5 @@ pub mod CellLists
 pub mod Keys
 pub mod Locking
 pub mod PlacesInOrder
+pub mod Unlocking
 pub mod Written

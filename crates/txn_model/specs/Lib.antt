@@ -8,3 +8,4 @@ pub mod Places
 pub mod Prewrite
 pub mod Store
 pub mod Table
+pub mod Unlocks

@@ -79,16 +79,22 @@ abbrev pub get_store_row : Store → GetStoreRequest → Handled
 get_store_row st r = record { store = st; reply = GetStore (record { store = store_with_id st.stores r.store_id }) }
 
 -- the first of the next timestamps, before it is known whether as many fit into its millisecond
-abbrev pub next_timestamp : Store → ℕ
-next_timestamp st = max (st.last + 1) (st.clock * 2 ^ 18)
+abbrev pub next_timestamp : ℕ → ℕ → ℕ
+next_timestamp last clock = max (last + 1) (clock * 2 ^ 18)
 
 -- the first of m timestamps: where they don't fit, the next millisecond's first
-abbrev pub first_timestamp : Store → ℕ → ℕ
-first_timestamp st m = if nat_lt (next_timestamp st % 2 ^ 18 + (m - 1)) (2 ^ 18) then next_timestamp st else (next_timestamp st / 2 ^ 18 + 1) * 2 ^ 18
+abbrev pub first_from : ℕ → ℕ → ℕ
+first_from next m = if nat_lt (next % 2 ^ 18 + (m - 1)) (2 ^ 18) then next else (next / 2 ^ 18 + 1) * 2 ^ 18
+
+abbrev pub first_timestamp : ℕ → ℕ → ℕ → ℕ
+first_timestamp last clock m = first_from (next_timestamp last clock) m
 
 -- the last of m timestamps
-abbrev pub last_timestamp : Store → ℕ → ℕ
-last_timestamp st m = first_timestamp st m + (m - 1)
+abbrev pub last_timestamp : ℕ → ℕ → ℕ → ℕ
+last_timestamp last clock m = first_timestamp last clock m + (m - 1)
 
 abbrev pub tso_row : Store → TsoRequest → Handled
-tso_row st r = record { store = record st { last = last_timestamp st r.count }; reply = Tso (record { count = r.count; timestamp = Some (timestamp_of (last_timestamp st r.count)) }) }
+tso_row st r = record {
+  store = record st { last = last_timestamp st.last st.clock r.count };
+  reply = Tso (record { count = r.count; timestamp = Some (timestamp_of (last_timestamp st.last st.clock r.count)) });
+}

@@ -9,6 +9,7 @@ mod placement;
 mod prewrite;
 pub mod region;
 pub mod store;
+mod unlock;
 
 pub use cell::{Cell, Kind, Lock, Write};
 pub use region::StoredRegion;

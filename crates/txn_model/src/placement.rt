@@ -1,7 +1,7 @@
 //! Regions, stores and the oracle.
 ghost use Rattle.std.specs.Prelude.{◌≡◌, ◌+◌, ◌-◌, ◌*◌, ◌<◌, ◌≤◌, ◌^◌, IfOk, find, nat_eq};
 ghost use Rattle.std.specs.Option.{option_copied};
-ghost use Rattle.txn_model.specs.Placement.{region_record, leader_of, region_with_id, region_holding, epoch_differs, led_elsewhere, holds_key, region_check_at, region_check, told_region, unknown_store, store_with_id};
+ghost use Rattle.txn_model.specs.Placement.{region_record, leader_of, region_with_id, region_holding, epoch_differs, led_elsewhere, holds_key, region_check_at, region_check, told_region, unknown_store, store_with_id, last_timestamp};
 
 use crate::region::StoredRegion;
 use std::alloc::Global;
@@ -58,7 +58,11 @@ fn region_with_id(regions: &[StoredRegion], id: u64) -> Option<&StoredRegion>
 }
 
 /// Why a request with this context, which names this region, is refused.
-fn error_at(alloc: Global, region: &StoredRegion, context: Context) -> Result<Option<RegionErr>, NoMemory>
+fn error_at(
+    alloc: Global,
+    region: &StoredRegion,
+    context: Context,
+) -> Result<Option<RegionErr>, NoMemory>
     ensures { IfOk result (λ error. error ≡ region_check_at (Some region.now) context) }
 {
     if led_elsewhere(region, context.peer) {
@@ -76,7 +80,11 @@ fn error_at(alloc: Global, region: &StoredRegion, context: Context) -> Result<Op
 }
 
 /// Why a request with this context is refused before its row is looked at.
-pub fn region_error(alloc: Global, regions: &[StoredRegion], context: Option<Context>) -> Result<Option<RegionErr>, NoMemory>
+pub fn region_error(
+    alloc: Global,
+    regions: &[StoredRegion],
+    context: Option<Context>,
+) -> Result<Option<RegionErr>, NoMemory>
     ensures { IfOk result (λ error. error ≡ region_check regions.now context) }
 {
     let Some(context) = context else {
@@ -167,5 +175,25 @@ pub fn told_store(alloc: Global, stores: &[StoreMeta], id: u64) -> Result<StoreM
     match store_with_id(stores, id) {
         Some(store) => copied_store(alloc, store),
         None => Ok(unknown_store(alloc, id)),
+    }
+}
+
+/// How many timestamps a millisecond has.
+const MILLISECOND: u64 = 262144;
+
+/// The last of `count` timestamps after `last`, by a clock in milliseconds.
+pub fn last_timestamp(last: u64, clock: u64, count: u32) -> u64
+    requires some { 1 ≤ count }
+    requires few { count ≤ 64 }
+    requires last_bits { last < 2 ^ 63 }
+    requires clock_bits { clock < 2 ^ 44 }
+    ensures { result ≡ last_timestamp last clock count }
+{
+    let more = u64::from(count) - 1;
+    let next = (last + 1).max(clock * MILLISECOND);
+    if next % MILLISECOND + more < MILLISECOND {
+        next + more
+    } else {
+        (next / MILLISECOND + 1) * MILLISECOND + more
     }
 }
