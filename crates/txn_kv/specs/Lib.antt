@@ -1,1 +1,3 @@
+pub mod Codec
 pub mod Timestamp
+pub mod Versions
