@@ -1,4 +1,5 @@
 pub mod CellLists
+pub mod KeptCells
 pub mod Keys
 pub mod Locking
 pub mod PlacesInOrder

@@ -6,6 +6,7 @@ pub mod Placement
 pub mod Placings
 pub mod Places
 pub mod Prewrite
+pub mod Served
 pub mod Store
 pub mod Table
 pub mod Unlocks

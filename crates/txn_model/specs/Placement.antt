@@ -14,15 +14,17 @@ use Rattle.txn_kv.specs.declared.request.GetStoreRequest.{GetStoreRequest}
 use Rattle.txn_kv.specs.declared.request.TsoRequest.{TsoRequest}
 use Rattle.txn_kv.specs.declared.reply.GetRegionResponse.{GetRegionResponse}
 use Rattle.txn_kv.specs.declared.reply.Reply.TheVariants.{GetRegion, GetStore, Tso}
+use Rattle.txn_kv.specs.Codec.{encoded}
 use Rattle.txn_kv.specs.Timestamp.{timestamp_of}
 use Rattle.txn_model.specs.declared.region.StoredRegion.{StoredRegion}
 use Rattle.txn_model.specs.Cells.{key_cmp, has_none}
 use Rattle.txn_model.specs.Store.{Store}
 use Rattle.txn_model.specs.Handled.{Handled}
 
--- a bound of a region, as the placement driver tells it
+-- a bound of a region, as the placement driver tells it: encoded, where there is one
 abbrev pub told_bound : List ℕ → List ℕ
-told_bound k = k
+told_bound [] = []
+told_bound (b ∷ bs) = encoded (b ∷ bs)
 
 abbrev pub region_record : StoredRegion → Region
 region_record g = record { id = g.id; start_key = told_bound g.start_key; end_key = told_bound g.end_key; region_epoch = Some g.epoch }

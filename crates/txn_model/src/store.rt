@@ -1,4 +1,5 @@
 ghost use Rattle.std.specs.Prelude.{◌≡◌, IfOk, OnOk, OnErr};
+ghost use Rattle.txn_model.specs.Cells.{AreKept};
 ghost use Rattle.txn_model.specs.Store.{opening, store_up};
 ghost use Rattle.txn_model.specs.Table.{table, prewrite_row, commit_row, tso_row, CanCount, CanServe};
 
@@ -93,7 +94,8 @@ impl ModelStore {
 
     /// The cells, in the order of their keys.
     pub fn cells(&self) -> &[Cell]
-        ensures { result.now ≡ self.now.cells }
+        ensures all { result.now ≡ self.now.cells }
+        ensures kept { AreKept self.now.cells }
     {
         self.cells.as_slice()
     }
