@@ -1,1 +1,2 @@
 pub mod Timestamp
+pub mod Spelling

@@ -1,0 +1,9 @@
+pub mod Cuts
+pub mod KindLaws
+pub mod LineLaws
+pub mod Numbers
+pub mod Options
+pub mod Pairs
+pub mod ScriptLaws
+pub mod Strings
+pub mod WordLaws
