@@ -2,6 +2,7 @@ pub mod Cuts
 pub mod KindLaws
 pub mod LineLaws
 pub mod Numbers
+pub mod OneReading
 pub mod Options
 pub mod Pairs
 pub mod ScriptLaws

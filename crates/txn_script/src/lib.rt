@@ -2,6 +2,7 @@
 #![tactic(auto)]
 
 mod fields;
+pub mod laws;
 pub mod line;
 pub mod line_kinds;
 mod parser;
