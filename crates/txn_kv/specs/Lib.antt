@@ -1,2 +1,4 @@
-pub mod Timestamp
+pub mod Codec
 pub mod Spelling
+pub mod Timestamp
+pub mod Versions

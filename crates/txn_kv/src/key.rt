@@ -2,7 +2,9 @@ ghost use Rattle.std.specs.Prelude.{◌≡◌, ◌==◌, [], nat_eq, length, IfO
 ghost use Rattle.std.specs.Ordering.{nat_cmp, as_partial_cmp};
 ghost use Rattle.std.specs.Cmp.{partial_equiv_from_equiv};
 ghost use Rattle.std.specs.Cmp.Lexicographic.{pointwise, slice_cmp, nat_list_eq_equiv, nat_list_cmp_total, texts_po, texts_ties};
+ghost use Rattle.txn_kv.specs.Codec.{encoded};
 
+use crate::codec::BytesEncoder;
 use crate::memory::NoMemory;
 use std::alloc::Global;
 use std::cmp::Ordering;
@@ -48,6 +50,15 @@ impl Key {
         ensures { result.now ≡ self.now }
     {
         self.bytes.as_slice()
+    }
+
+    /// The ascending encoding.
+    pub fn to_encoded(&self) -> Result<Key, NoMemory>
+        ensures { IfOk result (λ encoding. encoding ≡ encoded self.now) }
+    {
+        let mut bytes = Vec::new(*self.bytes.allocator());
+        bytes.encode_bytes(self.as_slice(), false)?;
+        Ok(Key { bytes })
     }
 
     /// The same key, in new memory.

@@ -1,6 +1,7 @@
 //! Keys, values, timestamps, errors and the messages of the transaction client and its servers.
 #![tactic(auto)]
 
+pub mod codec;
 pub mod errors;
 pub mod items;
 pub mod key;
@@ -13,6 +14,7 @@ pub mod text;
 pub mod ticket;
 pub mod timestamp;
 
+pub use codec::{BytesEncoder, max_encoded_bytes_size};
 pub use errors::{Error, Internal};
 pub use items::{Items, Value};
 pub use key::Key;

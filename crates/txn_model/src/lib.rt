@@ -2,7 +2,9 @@
 #![tactic(auto)]
 
 pub mod cell;
+pub mod region;
 pub mod store;
 
 pub use cell::{Cell, Kind, Lock, Write};
+pub use region::StoredRegion;
 pub use store::ModelStore;
