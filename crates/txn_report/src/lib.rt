@@ -9,3 +9,6 @@ mod words;
 pub use outcome::{Outcome, Payload};
 pub use report::{Report, SentNote, SleepNote};
 pub use text::report_text;
+
+#[cfg(test)]
+mod tests;

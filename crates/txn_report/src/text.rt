@@ -204,6 +204,10 @@ pub fn report_text(alloc: Global, report: &Report) -> Result<Vec<u8>, NoMemory>
     let mut text = Vec::new(alloc);
     push_outcomes(&mut text, report.outcomes.as_slice())?;
     push_cells(&mut text, report.store.cells())?;
-    push_counts(&mut text, report.sent.len() as u64, report.served.len() as u64)?;
+    push_counts(
+        &mut text,
+        report.sent.len() as u64,
+        report.served.len() as u64,
+    )?;
     Ok(text)
 }

@@ -1,6 +1,6 @@
 //! Numbers and byte strings at the end of a text.
 
-ghost use Rattle.std.specs.Prelude.{◌≡◌, ◌++◌, decimal, OnOk};
+ghost use Rattle.std.specs.Prelude.{◌≡◌, ◌<◌, ◌++◌, decimal, OnOk};
 ghost use Rattle.txn_kv.specs.Spelling.{hex_digit, hex};
 ghost use Rattle.txn_report.specs.Text.{text_of_bytes};
 
