@@ -1,6 +1,7 @@
 pub mod Cuts
 pub mod KindLaws
 pub mod LineLaws
+pub mod LongText
 pub mod Numbers
 pub mod OneReading
 pub mod Options

@@ -10,6 +10,10 @@ use Rattle.txn_script.specs.Lines.{max_lines, why_after}
 abbrev pub max_line_bytes : ℕ
 max_line_bytes = 4096
 
+-- what 65537 lines of so many bytes need, with their newlines
+abbrev pub most_bytes : ℕ
+most_bytes = 268505089
+
 -- no line is spelled so
 abbrev pub IsNoLine : List ℕ → Type 0
 IsNoLine bytes = (line : Line) → IsLine bytes line → ⊥
