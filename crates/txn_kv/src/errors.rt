@@ -1,3 +1,7 @@
+ghost use Rattle.std.specs.Prelude.{◌≡◌, IfOk};
+
+use crate::memory::NoMemory;
+
 /// What went wrong inside the client or at a server that keeps to no protocol.
 #[derive(Clone, Copy, Debug, PartialEq, Eq)]
 pub enum Internal {
@@ -12,4 +16,17 @@ pub enum Error {
     OperationAfterCommitError,
     InternalError { what: Internal },
     OutOfMemory,
+}
+
+impl Error {
+    /// The same error, in new memory.
+    pub fn try_clone(&self) -> Result<Error, NoMemory>
+        ensures { IfOk result (λ copy. copy ≡ self.now) }
+    {
+        Ok(match self {
+            Error::OperationAfterCommitError => Error::OperationAfterCommitError,
+            Error::InternalError { what } => Error::InternalError { what: *what },
+            Error::OutOfMemory => Error::OutOfMemory,
+        })
+    }
 }

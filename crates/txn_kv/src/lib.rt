@@ -9,6 +9,7 @@ pub mod memory;
 pub mod message;
 pub mod reply;
 pub mod request;
+pub mod spelling;
 pub mod text;
 pub mod ticket;
 pub mod timestamp;
