@@ -84,7 +84,7 @@ module _ (es : List Event) (x : ℕ) (k v : List ℕ) (ls : List Line) (store : 
         rowed = rowed_one (line ∷ ls) rows' (outs ++ Ok Nothing ∷ []) x h.client u (good, f.good) (let a = length-append (set rows (x - 1) (Running u)) (Plain ∷ []) in let c = counted' in omega arith) b' at'' fits' (λ n r apart e. other h.client h.line counted' n r apart (row_cases (set rows (x - 1) (Running u)) Plain n r e));
         awaited = awaited_none es (line ∷ ls) rows' (outs ++ Ok Nothing ∷ []) none (λ n first last e. over none n first last e (nat_eq n (suc (length ls))) refl);
         lone = lone_opened store line ls (set rows (x - 1) (Running u)) Plain outs (Ok Nothing) f.told counted' good (λ w e. cc) (lone_set ls store store rows outs x h.client t u f.good f.rowed h.line at refl refl f.lone.last (subst (λ c. CallCells store.cells u c (Some (record { key = k; value = v }))) (sym idle) (subst (λ c. CallCells store.cells t c t.put) idle (f.lone.cells x t at))) f.lone);
-        times = times_open outs ended (Ok Nothing) (suc (length outs)) (inr refl) f.times;
+        times = times_open outs ended (Ok Nothing) (suc (length outs)) (inr (refl, refl)) f.times;
       }
     where
       other : (client : ℕ) → line_at ls x ≡ Some (Begin client) → length (set rows (x - 1) (Running (record t { put = Some (record { key = k; value = v }) }))) ≡ length ls → (n : ℕ) (r : Row) → n ≢ x

@@ -157,7 +157,7 @@ module _ (es : List Event) (x : ℕ) (ls : List Line) (store : Store) (rows : Li
         rowed = rowed_now o u (running_now o u refl refl refl (inr refl) (idle_old (Commit x) ls rows (Committing x) outs o f.told f.rowed.counted x 0 refl still));
         awaited = awaited_none es (Commit x ∷ ls) (set (rows ++ Committing x ∷ []) (x - 1) (Running u)) (outs ++ o ∷ []) none (λ n first last e. ends n first last e (nat_eq n (suc (length ls))) refl);
         lone = lone_now o u (idle_cells o u t.status refl allowed);
-        times = times_open outs ended o (suc (length outs)) (inr refl) f.times;
+        times = times_open outs ended o (suc (length outs)) (inr (refl, refl)) f.times;
       }
     where
       ends : (n : ℕ) → 1 ≤ n → n ≤ suc (length ls) → is_unfinished (outcome_of (outs ++ Ok (Committed_at None) ∷ []) n) ≡ true → (b : Bool) → nat_eq n (suc (length ls)) ≡ b → ⊥

@@ -42,7 +42,7 @@ use Rattle.txn_run.proofs.Opens.{Leaves, IsQuietLine, last_outcome, old_row, sta
 use Rattle.txn_run.proofs.Steps.{fits_quiet, fits_begun}
 use Rattle.txn_run.proofs.Calls.{fits_put}
 use Rattle.txn_run.proofs.Commits.{fits_commit_none, fits_commit_sent}
-use Rattle.txn_run.proofs.Extends.{Extends, extends_open, extends_send, extends_then, close}
+use Rattle.txn_run.proofs.Extends.{Extends, extends_open, extends_send, extends_then, close, asks_push}
 
 use Rattle.txn_kv.specs.declared.reply.Reply.TheVariants.{Prewrite as Prewrote, Commit as Committed_reply, GetRegion as Got_region, GetStore as Got_store, Tso as Gave}
 use Rattle.txn_kv.specs.declared.request.Request.TheVariants.{GetRegion, GetStore}
@@ -58,7 +58,7 @@ use Rattle.txn_run.specs.declared.transaction.Place.{Place}
 use Rattle.txn_run.specs.declared.transaction.Stage.{Stage}
 use Rattle.txn_run.specs.declared.transaction.Stage.TheVariants.{FindingStore, Prewriting, Stamping, Committing as Stage_committing}
 use Rattle.txn_run.specs.Commit.{turned, stage_turned, version_in, prewrite_of, commit_of, stamped, found_store}
-use Rattle.txn_run.specs.Lists.{request_at, handled, reply_at, start_in, begun, advanced, passed_in, passed, waits, delivers_at, delivers}
+use Rattle.txn_run.specs.Lists.{AsksOne, request_at, handled, reply_at, start_in, begun, advanced, passed_in, passed, waits, delivers_at, delivers}
 use Rattle.txn_run.specs.Rowed.{BeginAwaits, CommitAwaits, CallCells, StageCells, Lone, first_region, here, locked_cells}
 use Rattle.txn_run.proofs.Lists.{get_within, get_some}
 use Rattle.txn_run.proofs.Mails.{mail_delivered, sent_at, request_at_is}
@@ -66,6 +66,14 @@ use Rattle.txn_run.proofs.Replies.{version_back, tso_store, tso_reply, region_re
 use Rattle.txn_run.proofs.Deliveries.{fits_start, fits_sends, fits_ends}
 use Rattle.txn_run.proofs.Extends.{extends_set}
 use Rattle.txn_run.proofs.Stepped.{StandsSo, quiet_stands, next_is}
+
+-- what a commit waits for asks for one timestamp at most
+asked_one : (start : ℕ) (put : Write) (stage : Stage) → AsksOne (asked_at start put stage)
+asked_one start put FindingRegion = tt
+asked_one start put (FindingStore place) = tt
+asked_one start put (Prewriting place) = tt
+asked_one start put (Stamping place) = refl
+asked_one start put (Stage_committing place c) = tt
 
 -- A delivery that finds nothing to handle.
 
@@ -167,7 +175,8 @@ module _ (es : List Event) (l : Lists) (ls : List Line) (t : Ticket) (p : ℕ) (
         (extends_set ls l.sent l1.outcomes l1.ended t.line (Begin h.client) (Ok (Number n)) ended_longer longer h.line (outcome_old l.outcomes Done t.line (let d = s.fits.told in omega arith) ∙ h.waits) refl (n, refl)))
         (cause (outcome_of l2.outcomes (suc (length ls))) (outcome_other l1.outcomes t.line (suc (length ls)) (Ok (Number n)) a1 apart ∙ newest_done))
         (mail_ended (Took t (request_at l.sent p) (table l.store (request_at l.sent p)).reply ∷ Served t (request_at l.sent p) (table l.store (request_at l.sent p)).reply ∷ es) (Deliver t ∷ ls) (table l.store (request_at l.sent p)).store l.sent (set l.letters p (record { served = true; gone = true })) (l.tickets ++ [] ∷ []) (l.outcomes ++ Done ∷ []) (l.served ++ t ∷ []) (t.line - 1) (Ok (Number n)) (vacant t.line a1 a2 h.waits) refl mail)
-        (subst (λ e. Fits (Took t (request_at l.sent p) (table l.store (request_at l.sent p)).reply ∷ Served t (request_at l.sent p) (table l.store (request_at l.sent p)).reply ∷ es) (Deliver t ∷ ls) (table l.store (request_at l.sent p)).store (set (l.rows ++ Plain ∷ []) (t.line - 1) (Running new)) (set (l.outcomes ++ Done ∷ []) (t.line - 1) (Ok (Number n))) (set (l.ended ++ e ∷ []) (t.line - 1) (length (l.outcomes ++ Done ∷ [])))) (sym (next_is (length l.outcomes))) fits'),
+        (subst (λ e. Fits (Took t (request_at l.sent p) (table l.store (request_at l.sent p)).reply ∷ Served t (request_at l.sent p) (table l.store (request_at l.sent p)).reply ∷ es) (Deliver t ∷ ls) (table l.store (request_at l.sent p)).store (set (l.rows ++ Plain ∷ []) (t.line - 1) (Running new)) (set (l.outcomes ++ Done ∷ []) (t.line - 1) (Ok (Number n))) (set (l.ended ++ e ∷ []) (t.line - 1) (length (l.outcomes ++ Done ∷ [])))) (sym (next_is (length l.outcomes))) fits')
+        s.asks,
       )
 
   -- A commit is answered.
@@ -221,7 +230,8 @@ module _ (es : List Event) (l : Lists) (ls : List Line) (t : Ticket) (p : ℕ) (
           (extends_then ls l.sent l.sent l2.sent l.outcomes l1.outcomes l2.outcomes l.ended l1.ended l2.ended opened_extends (extends_send ls l.sent l1.outcomes l1.ended (note_of l1.tickets t.line (length l1.outcomes) to q) longer))
           (cause (outcome_of l2.outcomes (suc (length ls))) newest_done)
           (mail_sent (Took t (request_at l.sent p) (table l.store (request_at l.sent p)).reply ∷ Served t (request_at l.sent p) (table l.store (request_at l.sent p)).reply ∷ es) (Deliver t) ls (table l.store (request_at l.sent p)).store l.sent (set l.letters p (record { served = true; gone = true })) (l.tickets ++ [] ∷ []) (l.outcomes ++ Done ∷ []) (l.served ++ t ∷ []) t.line to q a1 (omega arith) mail)
-          (subst (λ e. Fits (Sent tk q ∷ Took t (request_at l.sent p) (table l.store (request_at l.sent p)).reply ∷ Served t (request_at l.sent p) (table l.store (request_at l.sent p)).reply ∷ es) (Deliver t ∷ ls) (table l.store (request_at l.sent p)).store (set (l.rows ++ Plain ∷ []) (a.x - 1) (Running u)) (l.outcomes ++ Done ∷ []) (l.ended ++ e ∷ [])) (sym (next_is (length l.outcomes))) fits'),
+          (subst (λ e. Fits (Sent tk q ∷ Took t (request_at l.sent p) (table l.store (request_at l.sent p)).reply ∷ Served t (request_at l.sent p) (table l.store (request_at l.sent p)).reply ∷ es) (Deliver t ∷ ls) (table l.store (request_at l.sent p)).store (set (l.rows ++ Plain ∷ []) (a.x - 1) (Running u)) (l.outcomes ++ Done ∷ []) (l.ended ++ e ∷ [])) (sym (next_is (length l.outcomes))) fits')
+          (asks_push l.sent (note_of l1.tickets t.line (length l1.outcomes) to q) s.asks (asked_one a.t.start a.put stage)),
         )
 
     -- it is over
@@ -249,7 +259,8 @@ module _ (es : List Event) (l : Lists) (ls : List Line) (t : Ticket) (p : ℕ) (
           (extends_set ls l.sent l1.outcomes l1.ended t.line (Commit a.x) v ended_longer longer line_is (outcome_old l.outcomes Done t.line (omega arith) ∙ waits_at) refl (c, refl)))
           (cause (outcome_of l2.outcomes (suc (length ls))) (outcome_other l1.outcomes t.line (suc (length ls)) v a1 apart ∙ newest_done))
           (mail_ended (Took t (request_at l.sent p) (table l.store (request_at l.sent p)).reply ∷ Served t (request_at l.sent p) (table l.store (request_at l.sent p)).reply ∷ es) (Deliver t ∷ ls) (table l.store (request_at l.sent p)).store l.sent (set l.letters p (record { served = true; gone = true })) (l.tickets ++ [] ∷ []) (l.outcomes ++ Done ∷ []) (l.served ++ t ∷ []) (t.line - 1) v (vacant t.line a1 a2 waits_at) refl mail)
-          (subst₂ (λ e n. Fits (Took t (request_at l.sent p) (table l.store (request_at l.sent p)).reply ∷ Served t (request_at l.sent p) (table l.store (request_at l.sent p)).reply ∷ es) (Deliver t ∷ ls) (table l.store (request_at l.sent p)).store (set (l.rows ++ Plain ∷ []) (a.x - 1) (Running u)) (set (l.outcomes ++ Done ∷ []) (n - 1) (Ok (Committed_at (Some c)))) (set (l.ended ++ e ∷ []) (n - 1) (length (l.outcomes ++ Done ∷ [])))) (sym (next_is (length l.outcomes))) a.own fits'),
+          (subst₂ (λ e n. Fits (Took t (request_at l.sent p) (table l.store (request_at l.sent p)).reply ∷ Served t (request_at l.sent p) (table l.store (request_at l.sent p)).reply ∷ es) (Deliver t ∷ ls) (table l.store (request_at l.sent p)).store (set (l.rows ++ Plain ∷ []) (a.x - 1) (Running u)) (set (l.outcomes ++ Done ∷ []) (n - 1) (Ok (Committed_at (Some c)))) (set (l.ended ++ e ∷ []) (n - 1) (length (l.outcomes ++ Done ∷ [])))) (sym (next_is (length l.outcomes))) a.own fits')
+          s.asks,
         )
 
     commit_answered : StandsSo (passed (handled (opened l Plain Done (length l.outcomes + 1)) p t) t.line (reply_at l p)) (Deliver t ∷ ls)

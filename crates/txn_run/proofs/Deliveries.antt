@@ -79,7 +79,7 @@ module _ (es : List Event) (t : Ticket) (r : Request) (o : Reply) (ls : List Lin
   others x client n k b apart e = others_old (Deliver t ∷ ls) (rows ++ Plain ∷ []) (outs ++ Done ∷ []) x client n k good_more opened b apart e
 
   times_more : Times (outs ++ Done ∷ []) (ended ++ suc (length outs) ∷ [])
-  times_more = times_open outs ended Done (suc (length outs)) (inr refl) f.times
+  times_more = times_open outs ended Done (suc (length outs)) (inr (refl, refl)) f.times
 
   -- A transaction gets its start.
   module _ (store' : Store) (s : ℕ) (b : BeginAwaits es rows t) where
@@ -155,7 +155,7 @@ module _ (es : List Event) (t : Ticket) (r : Request) (o : Reply) (ls : List Lin
             ];
             empty = λ n. absurd (n t.line (record { start = s; status = Active; put = None; call = None }) new_at);
           };
-          times = times_set (outs ++ Done ∷ []) (ended ++ suc (length outs) ∷ []) (t.line - 1) (Ok (Number s)) (let w = within in let a = w.0 in let c = w.1 in omega arith) times_more;
+          times = times_set (outs ++ Done ∷ []) (ended ++ suc (length outs) ∷ []) (t.line - 1) (Ok (Number s)) (let w = within in let a = w.0 in let c = w.1 in omega arith) refl times_more;
         }
 
   -- A commit goes on.
@@ -262,7 +262,7 @@ module _ (es : List Event) (t : Ticket) (r : Request) (o : Reply) (ls : List Lin
           });
           awaited = awaited_none (Took t r o ∷ Served t r o ∷ es) (Deliver t ∷ ls) (set (rows ++ Plain ∷ []) (a.x - 1) (Running u)) outs' none (λ n first last e. over n first last e (nat_eq n a.call.line) refl);
           lone = next_lone u store' outs' len regions clock last tt;
-          times = times_set (outs ++ Done ∷ []) (ended ++ suc (length outs) ∷ []) (a.call.line - 1) o' (let w = within_call in let z = w.0 in let y = w.1 in omega arith) times_more;
+          times = times_set (outs ++ Done ∷ []) (ended ++ suc (length outs) ∷ []) (a.call.line - 1) o' (let w = within_call in let z = w.0 in let y = w.1 in omega arith) refl times_more;
         }
       where
         is_commit : Outcome → Bool

@@ -12,7 +12,7 @@ use Rattle.txn_report.specs.declared.outcome.Outcome.TheVariants.{Unfinished}
 use Rattle.txn_report.specs.declared.report.SentNote.{SentNote}
 use Rattle.txn_run.specs.Script.{outcome_of, is_done, find, with_sends, history, known}
 use Rattle.txn_run.specs.Causes.{is_unfinished, HasCause, Causes, IsDue, Dues}
-use Rattle.txn_run.specs.Lists.{Lists}
+use Rattle.txn_run.specs.Lists.{Lists, AllAskOne, AsksOne}
 use Rattle.txn_run.specs.Rowed.{Times, Awaited, Fits}
 use Rattle.txn_run.specs.Stands.{AllBefore, MailFits, StandsAt}
 use Rattle.txn_run.proofs.Lists.{or_last}
@@ -93,8 +93,9 @@ extends_then ls a b c p q r x y z e f = record {
 -- The line is over.
 pub close : (es es' : List Event) (l l' : Lists) (line : Line) (ls : List Line) → StandsAt es l ls → Extends ls l.sent l'.sent l.outcomes l'.outcomes l.ended l'.ended
     → HasCause (outcome_of l.outcomes) ls es line (outcome_of l'.outcomes (suc (length ls)))
-    → MailFits es' (line ∷ ls) l'.store l'.sent l'.letters l'.tickets l'.outcomes l'.served → Fits es' (line ∷ ls) l'.store l'.rows l'.outcomes l'.ended → StandsAt es' l' (line ∷ ls)
-close es es' l l' line ls s x cause mail fits = record {
+    → MailFits es' (line ∷ ls) l'.store l'.sent l'.letters l'.tickets l'.outcomes l'.served → Fits es' (line ∷ ls) l'.store l'.rows l'.outcomes l'.ended → AllAskOne l'.sent → StandsAt es' l' (line ∷ ls)
+close es es' l l' line ls s x cause mail fits asks = record {
+  asks = asks;
   mail = mail;
   fits = fits;
   causes = (
@@ -115,3 +116,7 @@ close es es' l l' line ls s x cause mail fits = record {
 
     now_is : outcome_of l'.outcomes ≡ known l'.outcomes l'.ended (suc (length ls) + 1)
     now_is = λ i n. sym (known_now l'.outcomes l'.ended (suc (length ls) + 1) n fits.times (let a = fits.told in omega arith)) i
+
+pub asks_push : (ns : List SentNote) (s : SentNote) → AllAskOne ns → AsksOne s.request → AllAskOne (ns ++ s ∷ [])
+asks_push [] s a h = (h, tt)
+asks_push (n ∷ ns) s a h = (a.0, asks_push ns s a.1 h)

@@ -100,18 +100,61 @@ known_now outs ended n (suc i) t h = by_zero (nat_eq (get_or ended i 0) 0) refl
         rw (a, b) refl
 
 -- the outcomes of the lines before stay
-pub times_open : (outs : List Outcome) (ended : List ℕ) (o : Outcome) (e : ℕ) → ((e ≡ 0) × (o ≡ Unfinished)) ⊎ (e ≡ suc (length outs)) → Times outs ended → Times (outs ++ o ∷ []) (ended ++ e ∷ [])
+pub times_open : (outs : List Outcome) (ended : List ℕ) (o : Outcome) (e : ℕ) → ((e ≡ 0) × (o ≡ Unfinished)) ⊎ ((e ≡ suc (length outs)) × (is_unfinished o ≡ false)) → Times outs ended → Times (outs ++ o ∷ []) (ended ++ e ∷ [])
 times_open outs ended o e c t = record {
   counted = let a = length-append outs (o ∷ []) in let b = length-append ended (e ∷ []) in let d = t.counted in omega arith;
   past = λ i. past_at i (nat_lt i (length ended)) refl;
   still = λ i z. open_at i z (nat_lt i (length ended)) refl;
+  own = λ i z. own_at i z (nat_lt i (length ended)) refl;
+  over = λ i z. over_at i z (nat_lt i (length ended)) refl;
 }
   where
     longer : length (outs ++ o ∷ []) ≡ length outs + 1
     longer = length-append outs (o ∷ [])
 
     small : e ≤ length outs + 1
-    small = elim c [ inl z ↦ (let a = z.0 in omega arith) | inr z ↦ omega arith ]
+    small = elim c [ inl z ↦ (let a = z.0 in omega arith) | inr z ↦ (let a = z.0 in omega arith) ]
+
+    own_at : (i : ℕ) → get_or (ended ++ e ∷ []) i 0 ≢ 0 → (b : Bool) → nat_lt i (length ended) ≡ b → i < get_or (ended ++ e ∷ []) i 0
+    own_at i z true f =
+        let inside : i < length ended = grind (arith, nat_tests) in
+        let v = or_pushed ended e 0 i inside in
+        let h = t.own i (λ q. z (v ∙ q)) in
+        rw v h
+    own_at i z false f = by_end (nat_eq i (length ended)) refl
+      where
+        by_end : (b : Bool) → nat_eq i (length ended) ≡ b → i < get_or (ended ++ e ∷ []) i 0
+        by_end true g =
+            let same : length ended ≡ i = grind (arith, nat_tests) in
+            let v : get_or (ended ++ e ∷ []) i 0 ≡ e = subst (λ k. get_or (ended ++ e ∷ []) k 0 ≡ e) same (or_last ended e 0) in
+            elim c [
+              | inl w ↦ absurd (z (v ∙ w.0))
+              | inr w ↦ (let a = w.0 in let d = t.counted in rw v (omega arith))
+            ]
+        by_end false g =
+            let l = length-append ended (e ∷ []) in
+            let far : length (ended ++ e ∷ []) ≤ i = grind (arith, nat_tests, l) in
+            absurd (z (or_past (ended ++ e ∷ []) 0 i far))
+
+    over_at : (i : ℕ) → get_or (ended ++ e ∷ []) i 0 ≢ 0 → (b : Bool) → nat_lt i (length ended) ≡ b → is_unfinished (get_or (outs ++ o ∷ []) i Unfinished) ≡ false
+    over_at i z true f =
+        let inside : i < length ended = grind (arith, nat_tests) in
+        let d = t.counted in
+        ap is_unfinished (or_pushed outs o Unfinished i (omega arith)) ∙ t.over i (λ q. z (or_pushed ended e 0 i inside ∙ q))
+    over_at i z false f = by_end (nat_eq i (length ended)) refl
+      where
+        by_end : (b : Bool) → nat_eq i (length ended) ≡ b → is_unfinished (get_or (outs ++ o ∷ []) i Unfinished) ≡ false
+        by_end true g =
+            let same : length ended ≡ i = grind (arith, nat_tests) in
+            let v : get_or (ended ++ e ∷ []) i 0 ≡ e = subst (λ k. get_or (ended ++ e ∷ []) k 0 ≡ e) same (or_last ended e 0) in
+            elim c [
+              | inl w ↦ absurd (z (v ∙ w.0))
+              | inr w ↦ (let d = t.counted in subst (λ k. is_unfinished (get_or (outs ++ o ∷ []) k Unfinished) ≡ false) (sym d ∙ same) (ap is_unfinished (or_last outs o Unfinished) ∙ w.1))
+            ]
+        by_end false g =
+            let l = length-append ended (e ∷ []) in
+            let far : length (ended ++ e ∷ []) ≤ i = grind (arith, nat_tests, l) in
+            absurd (z (or_past (ended ++ e ∷ []) 0 i far))
 
     past_at : (i : ℕ) (b : Bool) → nat_lt i (length ended) ≡ b → get_or (ended ++ e ∷ []) i 0 ≤ length (outs ++ o ∷ [])
     past_at i true f =
@@ -142,7 +185,7 @@ times_open outs ended o e c t = record {
             let same : length ended ≡ i = grind (arith, nat_tests) in
             let v : get_or (ended ++ e ∷ []) i 0 ≡ e = subst (λ k. get_or (ended ++ e ∷ []) k 0 ≡ e) same (or_last ended e 0) in
             let zero_e : e ≡ 0 = sym v ∙ z in
-            let is : o ≡ Unfinished = elim c [ inl w ↦ w.1 | inr w ↦ absurd (omega arith) ] in
+            let is : o ≡ Unfinished = elim c [ inl w ↦ w.1 | inr w ↦ absurd (let a = w.0 in omega arith) ] in
             let d = t.counted in
             subst (λ k. get_or (outs ++ o ∷ []) k Unfinished ≡ Unfinished) (sym d ∙ same) (or_last outs o Unfinished ∙ is)
         by_end false g =
@@ -150,11 +193,13 @@ times_open outs ended o e c t = record {
             let far : length (outs ++ o ∷ []) ≤ i = grind (arith, nat_tests, l) in
             or_past (outs ++ o ∷ []) Unfinished i far
 
-pub times_set : (outs : List Outcome) (ended : List ℕ) (i : ℕ) (o : Outcome) → i < length outs → Times outs ended → Times (set outs i o) (set ended i (length outs))
-times_set outs ended i o h t = record {
+pub times_set : (outs : List Outcome) (ended : List ℕ) (i : ℕ) (o : Outcome) → i < length outs → is_unfinished o ≡ false → Times outs ended → Times (set outs i o) (set ended i (length outs))
+times_set outs ended i o h u t = record {
   counted = length-set ended i (length outs) ∙ t.counted ∙ sym (length-set outs i o);
   past = λ j. past_at j (nat_eq j i) refl;
   still = λ j z. open_at j z (nat_eq j i) refl;
+  own = λ j z. own_at j z (nat_eq j i) refl;
+  over = λ j z. over_at j z (nat_eq j i) refl;
 }
   where
     past_at : (j : ℕ) (b : Bool) → nat_eq j i ≡ b → get_or (set ended i (length outs)) j 0 ≤ length (set outs i o)
@@ -166,6 +211,25 @@ times_set outs ended i o h t = record {
     past_at j false f =
         let apart : j ≢ i = grind (arith, nat_tests) in
         let a = t.past j in rw (or_other ended i j (length outs) 0 apart, length-set outs i o) a
+
+    own_at : (j : ℕ) → get_or (set ended i (length outs)) j 0 ≢ 0 → (b : Bool) → nat_eq j i ≡ b → j < get_or (set ended i (length outs)) j 0
+    own_at j z true f =
+        let same : j ≡ i = grind (arith, nat_tests) in
+        let d = t.counted in
+        let v : get_or (set ended i (length outs)) j 0 ≡ length outs = subst (λ k. get_or (set ended i (length outs)) k 0 ≡ length outs) (sym same) (or_same ended i (length outs) 0 (omega arith)) in
+        rw v (omega arith)
+    own_at j z false f =
+        let apart : j ≢ i = grind (arith, nat_tests) in
+        let v = or_other ended i j (length outs) 0 apart in
+        let a = t.own j (λ q. z (v ∙ q)) in rw v a
+
+    over_at : (j : ℕ) → get_or (set ended i (length outs)) j 0 ≢ 0 → (b : Bool) → nat_eq j i ≡ b → is_unfinished (get_or (set outs i o) j Unfinished) ≡ false
+    over_at j z true f =
+        let same : j ≡ i = grind (arith, nat_tests) in
+        subst (λ k. is_unfinished (get_or (set outs i o) k Unfinished) ≡ false) (sym same) (ap is_unfinished (or_same outs i o Unfinished h) ∙ u)
+    over_at j z false f =
+        let apart : j ≢ i = grind (arith, nat_tests) in
+        ap is_unfinished (or_other outs i j o Unfinished apart) ∙ t.over j (λ q. z (or_other ended i j (length outs) 0 apart ∙ q))
 
     open_at : (j : ℕ) → get_or (set ended i (length outs)) j 0 ≡ 0 → (b : Bool) → nat_eq j i ≡ b → get_or (set outs i o) j Unfinished ≡ Unfinished
     open_at j z true f =

@@ -14,3 +14,4 @@ pub mod Deliveries
 pub mod Extends
 pub mod Stepped
 pub mod Delivered
+pub mod Machines

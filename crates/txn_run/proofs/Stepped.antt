@@ -40,7 +40,7 @@ use Rattle.txn_run.proofs.Opens.{Leaves, IsQuietLine, last_outcome, old_row, sta
 use Rattle.txn_run.proofs.Steps.{fits_quiet, fits_begun}
 use Rattle.txn_run.proofs.Calls.{fits_put}
 use Rattle.txn_run.proofs.Commits.{fits_commit_none, fits_commit_sent}
-use Rattle.txn_run.proofs.Extends.{Extends, extends_open, extends_send, extends_then, close}
+use Rattle.txn_run.proofs.Extends.{Extends, extends_open, extends_send, extends_then, close, asks_push}
 
 -- The lists stand for some history of these lines.
 abbrev pub StandsSo : Lists → List Line → Type 0
@@ -54,7 +54,8 @@ quiet_stands es l line ls o e at good q k cause s = (
   (extends_open ls l.sent l.outcomes l.ended o e s.fits.told s.fits.times.counted (inr at))
   (subst (λ z. HasCause (outcome_of l.outcomes) ls es line z) (sym (last_outcome line ls l.rows Plain l.outcomes o s.fits.told s.fits.rowed.counted)) cause)
   (mail_opened es ls l.store l.sent l.letters l.tickets l.outcomes l.served line o q s.mail)
-  (subst (λ n. Fits es (line ∷ ls) l.store (l.rows ++ Plain ∷ []) (l.outcomes ++ o ∷ []) (l.ended ++ n ∷ [])) (sym at) (fits_quiet es line ls l.store l.rows l.outcomes l.ended o good k s.fits)),
+  (subst (λ n. Fits es (line ∷ ls) l.store (l.rows ++ Plain ∷ []) (l.outcomes ++ o ∷ []) (l.ended ++ n ∷ [])) (sym at) (fits_quiet es line ls l.store l.rows l.outcomes l.ended o good k s.fits))
+  s.asks,
 )
 
 pub next_is : (n : ℕ) → n + 1 ≡ suc n
@@ -101,7 +102,8 @@ module _ (es : List Event) (l : Lists) (ls : List Line) (s : StandsAt es l ls) w
         (extends_then ls l.sent l.sent l2.sent l.outcomes l1.outcomes l1.outcomes l.ended l1.ended l1.ended (extends_open ls l.sent l.outcomes l.ended Unfinished 0 s.fits.told s.fits.times.counted (inl refl)) (extends_send ls l.sent l1.outcomes l1.ended (record { ticket = tk; at = length l1.outcomes; to = Placement; request = ask_one; askers = x ∷ [] }) (omega arith)))
         (inl (last_outcome line ls l.rows Beginning l.outcomes Unfinished s.fits.told s.fits.rowed.counted))
         (mail_sent es line ls l.store l.sent l.letters l1.tickets l1.outcomes l.served x Placement ask_one (omega arith) (omega arith) m1)
-        (fits_begun es client ls l.store l.rows l.outcomes l.ended tk good s.fits (next_is (length l.outcomes)) refl fresh (m1.unsent tk fresh).1),
+        (fits_begun es client ls l.store l.rows l.outcomes l.ended tk good s.fits (next_is (length l.outcomes)) refl fresh (m1.unsent tk fresh).1)
+        (asks_push l.sent (record { ticket = tk; at = length l1.outcomes; to = Placement; request = ask_one; askers = x ∷ [] }) s.asks refl),
       )
 
   -- What stands at the begin of a call.
@@ -152,7 +154,8 @@ module _ (es : List Event) (l : Lists) (ls : List Line) (s : StandsAt es l ls) w
         (extends_open ls l.sent l.outcomes l.ended (Ok Nothing) (length l.outcomes + 1) s.fits.told s.fits.times.counted (inr (next_is (length l.outcomes))))
         (subst (λ z. WritesWith (is_free (outcome_of l.outcomes) x ls) (allows_write (status_of (outcome_of l.outcomes) x ls)) z) (sym (last_outcome line ls l.rows Plain l.outcomes (Ok Nothing) s.fits.told s.fits.rowed.counted)) (subst₂ (λ b c. WritesWith b c (Ok Nothing)) (sym free) (sym (ap allows_write allowed)) refl))
         (mail_opened es ls l.store l.sent l.letters l.tickets l.outcomes l.served line (Ok Nothing) tt s.mail)
-        (subst (λ n. Fits es (line ∷ ls) l.store (set l.rows (x - 1) (Running (record t { put = Some (record { key = k; value = v }) })) ++ Plain ∷ []) (l.outcomes ++ Ok Nothing ∷ []) (l.ended ++ n ∷ [])) (sym (next_is (length l.outcomes))) (fits_put es x k v ls l.store l.rows l.outcomes l.ended t good at idle s.fits)),
+        (subst (λ n. Fits es (line ∷ ls) l.store (set l.rows (x - 1) (Running (record t { put = Some (record { key = k; value = v }) })) ++ Plain ∷ []) (l.outcomes ++ Ok Nothing ∷ []) (l.ended ++ n ∷ [])) (sym (next_is (length l.outcomes))) (fits_put es x k v ls l.store l.rows l.outcomes l.ended t good at idle s.fits))
+        s.asks,
       )
 
   put_by x k v t good at idle StartedCommit is =
@@ -250,7 +253,8 @@ module _ (es : List Event) (l : Lists) (ls : List Line) (s : StandsAt es l ls) w
           (extends_open ls l.sent l.outcomes l.ended o (suc (length l.outcomes)) s.fits.told s.fits.times.counted (inr refl))
           (cause_of false (outcome_of (l.outcomes ++ o ∷ []) (suc (length ls))) allowed (ap (λ p. has_some (writes_in p)) empty) (last_outcome (Commit x) ls l.rows Plain l.outcomes o s.fits.told s.fits.rowed.counted))
           (mail_opened es ls l.store l.sent l.letters l.tickets l.outcomes l.served (Commit x) o tt s.mail)
-          (fits_commit_none es x ls l.store l.rows l.outcomes l.ended t good at idle allowed s.fits empty),
+          (fits_commit_none es x ls l.store l.rows l.outcomes l.ended t good at idle allowed s.fits empty)
+          s.asks,
         )
 
     -- some key is written
@@ -277,7 +281,8 @@ module _ (es : List Event) (l : Lists) (ls : List Line) (s : StandsAt es l ls) w
               (extends_then ls l.sent l.sent l2.sent l.outcomes l1.outcomes l1.outcomes l.ended l1.ended l1.ended (extends_open ls l.sent l.outcomes l.ended Unfinished 0 s.fits.told s.fits.times.counted (inl refl)) (extends_send ls l.sent l1.outcomes l1.ended (record { ticket = tk; at = length l1.outcomes; to = Placement; request = r; askers = [] }) (omega arith)))
               (cause_of true (outcome_of (l.outcomes ++ Unfinished ∷ []) (suc (length ls))) allowed (ap (λ q. has_some (writes_in q)) puts) (inl (last_outcome (Commit x) ls l.rows Plain l.outcomes Unfinished s.fits.told s.fits.rowed.counted)))
               (mail_sent es (Commit x) ls l.store l.sent l.letters l1.tickets l1.outcomes l.served m Placement r (omega arith) (omega arith) m1)
-              (fits_commit_sent es x ls l.store l.rows l.outcomes l.ended t good at idle allowed s.fits p tk puts refl refl fresh (m1.unsent tk fresh).1),
+              (fits_commit_sent es x ls l.store l.rows l.outcomes l.ended t good at idle allowed s.fits p tk puts refl refl fresh (m1.unsent tk fresh).1)
+              (asks_push l.sent (record { ticket = tk; at = length l1.outcomes; to = Placement; request = r; askers = [] }) s.asks tt),
             )
 
     pub commit_starts_stand : allows_commit t.status ≡ true → StandsSo (commit_begun (opened l (Committing x) Unfinished 0) x) (Commit x ∷ ls)

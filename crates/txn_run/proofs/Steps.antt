@@ -43,7 +43,7 @@ fits_quiet es l ls store rows outs ended o good q f = record {
   rowed = rowed_quiet l ls rows outs o f.told q f.rowed;
   awaited = awaited_quiet es l ls rows outs o f.told f.rowed.counted q.over f.awaited;
   lone = lone_opened store l ls rows Plain outs o f.told f.rowed.counted good (λ t e. cc) f.lone;
-  times = times_open outs ended o (suc (length outs)) (inr refl) f.times;
+  times = times_open outs ended o (suc (length outs)) (inr (refl, q.over)) f.times;
 }
 
 -- A transaction begins.

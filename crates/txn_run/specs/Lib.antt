@@ -4,5 +4,8 @@ pub mod Posting
 pub mod Lists
 pub mod Script
 pub mod Causes
-pub mod Stands
 pub mod Rowed
+pub mod Stands
+pub mod StandsFor
+pub mod Lawful
+pub mod Program

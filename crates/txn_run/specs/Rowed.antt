@@ -177,6 +177,8 @@ pub record Times (outs : List Outcome) (ended : List ℕ) : Type 0 where
   pub counted : length ended ≡ length outs
   pub past : (i : ℕ) → get_or ended i 0 ≤ length outs
   pub still : (i : ℕ) → get_or ended i 0 ≡ 0 → get_or outs i Unfinished ≡ Unfinished
+  pub own : (i : ℕ) → get_or ended i 0 ≢ 0 → i < get_or ended i 0
+  pub over : (i : ℕ) → get_or ended i 0 ≢ 0 → is_unfinished (get_or outs i Unfinished) ≡ false
 
 -- The rows, what is out, the store and the outcomes are where the lines leave them.
 pub record Fits (es : List Event) (lines : List Line) (store : Store) (rows : List Row) (outs : List Outcome) (ended : List ℕ) : Type 0 where

@@ -13,7 +13,7 @@ use Rattle.txn_run.specs.declared.post.Letter.{Letter}
 use Rattle.txn_run.specs.Posting.{position}
 use Rattle.txn_run.specs.Script.{find, history, served_tickets}
 use Rattle.txn_run.specs.Causes.{Causes, Dues}
-use Rattle.txn_run.specs.Lists.{Lists}
+use Rattle.txn_run.specs.Lists.{Lists, AllAskOne}
 use Rattle.txn_run.specs.Rowed.{Fits}
 
 abbrev pub AllBefore : ℕ → List SentNote → Type 0
@@ -55,6 +55,8 @@ pub record MailFits (es : List Event) (lines : List Line) (store : Store) (sent 
 pub record StandsAt (es : List Event) (l : Lists) (lines : List Line) : Type 0 where
   pub mail : MailFits es lines l.store l.sent l.letters l.tickets l.outcomes l.served
   pub fits : Fits es lines l.store l.rows l.outcomes l.ended
+  -- each request for timestamps asks for one
+  pub asks : AllAskOne l.sent
   -- each outcome has its cause
   pub causes : Causes l.sent l.outcomes l.ended lines
   -- after each line, something is out for each call that was open

@@ -1,7 +1,18 @@
-//! Runs scripts: a machine that goes through the lines, and the report of what they did.
+//! Runs scripts: a machine that goes through the lines, the report of what they did, and the program.
 #![tactic(auto)]
 
 mod post;
 mod transaction;
 
 pub mod machine;
+pub mod note;
+pub mod program;
+
+pub use machine::Machine;
+pub use note::{Ending, StepNote};
+pub use program::{End, RunEnd, run_program, run_script};
+pub use txn_report::{Outcome, Payload, Report, SentNote, SleepNote, report_text};
+pub use txn_script::{BadAt, Line, Script, Why, parse_line, parse_script};
+pub use txn_stream::{
+    Failed, MemorySink, MemorySource, Sink, Source, StdinSource, StdoutSink, SureSink, SureSource,
+};

@@ -1,15 +1,19 @@
-ghost use Rattle.std.specs.Prelude.{◌≡◌, ◌+◌, ◌-◌, ◌<◌, ◌≤◌, [], ◌∷◌, IfOk, OnOk, OnErr, length, List, IfSome, true, false, Option, Some, None, slice_get};
-ghost use Rattle.txn_model.specs.Table.{table, CanServe};
+ghost use Rattle.std.specs.Prelude.{◌≡◌, ◌+◌, ◌-◌, ◌<◌, ◌≤◌, [], ◌∷◌, IfOk, OnOk, OnErr, length, List, IfSome, true, false, Option, Some, None, slice_get, reverse};
+ghost use Rattle.txn_model.specs.Table.{table};
 ghost use Rattle.txn_run.specs.Lists.{lists_of, opened, ended_at, row_set, sent_more, next_of, row_at, sent_by, ended_by, followed, ask_one, begins, standing_in, written, puts, commit_begun, commits, request_at, handled, reply_at, start_in, begun, advanced, passed, waits, delivers, stepped, IsEven, IsSound};
 ghost use Rattle.txn_run.specs.Posting.{position};
+ghost use Rattle.txn_run.specs.StandsFor.{HasMemory, StandsFor, CanStep, IsNote, IsNoteFrom};
+ghost use Rattle.txn_run.specs.Lawful.{Lawful};
+ghost use Rattle.txn_script.specs.Lines.{why_after};
 
+use crate::note::{Ending, StepNote};
 use crate::post::{Letter, Post};
 use crate::transaction::{Put, Sending, Status, Transaction, Turn, version_in};
 use std::alloc::Global;
 use txn_kv::{Error, Internal, Items, Key, NoMemory, Reply, Request, Target, Ticket, TsoRequest, Value};
 use txn_model::ModelStore;
 use txn_report::{Outcome, Payload, Report};
-use txn_script::Line;
+use txn_script::{Line, LineKinds, Why};
 
 /// What stands at a line.
 #[derive(Debug, Drop)]
@@ -34,11 +38,17 @@ pub struct Machine {
     outcomes: Vec<Outcome>,
     ended: Vec<u64>,
     served: Vec<Ticket>,
+    kinds: LineKinds,
+    /// Memory was wanting in a step, so that nothing more is said of the machine.
+    broken: bool,
 }
 
 impl Machine {
     /// A machine that stands for no lines.
-    pub fn new(alloc: Global) -> Result<Machine, NoMemory> {
+    pub fn new(alloc: Global) -> Result<Machine, NoMemory>
+        ensures stands { IfOk result (λ machine. StandsFor machine []) }
+        ensures memory { IfOk result HasMemory }
+    {
         Ok(Machine {
             store: ModelStore::new(alloc)?,
             post: Post::new(alloc),
@@ -46,7 +56,73 @@ impl Machine {
             outcomes: Vec::new(alloc),
             ended: Vec::new(alloc),
             served: Vec::new(alloc),
+            kinds: LineKinds::new(alloc),
+            broken: false,
         })
+    }
+
+    /// Why a line is bad after the lines that the machine stands for.
+    pub fn check(&self, line: &Line) -> Option<Why>
+        ensures { HasMemory self.now → (lines : List Line) → StandsFor self.now lines → result ≡ why_after lines line.now }
+    {
+        self.kinds.why(line)
+    }
+
+    /// Runs one line more, which is not bad. Once a step has answered `NoMemory`, every later one does.
+    pub fn step(&mut self, line: Line) -> Result<StepNote, NoMemory>
+        requires { CanStep self.old line }
+        ensures stands { (lines : List Line) → StandsFor self.old lines → why_after lines line ≡ None → StandsFor self.new (line ∷ lines) }
+        ensures memory { OnOk result (HasMemory self.old × HasMemory self.new) }
+        ensures broken { OnErr result (HasMemory self.new → ⊥) }
+        ensures note { IfOk result (λ note. IsNote (lists_of self.new) note) }
+    {
+        if self.broken {
+            return Err(NoMemory);
+        }
+        let sent = self.post.sent.len();
+        self.broken = true;
+        self.kinds.push(&line)?;
+        self.run(line)?;
+        let note = self.note(sent)?;
+        self.broken = false;
+        Ok(note)
+    }
+
+    /// The note of the newest line. `from` is where in the list what it sent begins.
+    fn note(&self, from: usize) -> Result<StepNote, NoMemory>
+        requires some { 0 < length (lists_of self.now).outcomes }
+        requires from { from ≤ length (lists_of self.now).sent }
+        ensures { IfOk result (λ note. IsNoteFrom (lists_of self.now) from note) }
+    {
+        let alloc = *self.rows.allocator();
+        let place = self.outcomes.len();
+        let outcome = self.outcomes[place - 1].try_clone()?;
+        let mut sent = Items::new(alloc);
+        for note in &self.post.sent[from..] {
+            sent.push(note.ticket)?;
+        }
+        Ok(StepNote {
+            place: place as u64,
+            outcome,
+            sent,
+            ended: Items::new(alloc),
+        })
+    }
+
+    /// The report of the lines that the machine stands for. Takes no memory.
+    pub fn report(self) -> Report
+        requires { HasMemory self }
+        ensures { (lines : List Line) → StandsFor self lines → Lawful (reverse lines) result }
+    {
+        let post = self.post;
+        Report {
+            outcomes: Items::from_vec(self.outcomes),
+            ended: Items::from_vec(self.ended),
+            sent: Items::from_vec(post.sent),
+            sleeps: Items::new(*self.rows.allocator()),
+            served: Items::from_vec(self.served),
+            store: self.store,
+        }
     }
 
     /// The number of the line that comes next.
@@ -245,7 +321,7 @@ impl Machine {
         ensures reply { IfOk result (λ reply. reply ≡ reply_at (lists_of self.old) place) }
         ensures lists { OnOk result (lists_of self.new ≡ handled (lists_of self.old) place ticket) }
     {
-        let reply = serve_stub(&mut self.store, &self.post.sent[place].request)?;
+        let reply = self.store.serve(&self.post.sent[place].request)?;
         self.post.letters[place] = Letter {
             served: true,
             gone: true,
@@ -397,13 +473,4 @@ fn start_in(reply: Reply) -> Option<u64>
         Reply::Tso(answer) => version_in(answer.timestamp),
         _ => None,
     }
-}
-
-// STUB
-fn serve_stub(store: &mut ModelStore, request: &Request) -> Result<Reply, NoMemory>
-    requires { CanServe store.old request.now }
-    ensures reply { IfOk result (λ reply. reply ≡ (table store.old request.now).reply) }
-    ensures store { OnOk result (store.new ≡ (table store.old request.now).store) }
-{
-    Err(NoMemory)
 }

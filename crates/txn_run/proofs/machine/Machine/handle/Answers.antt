@@ -4,8 +4,8 @@ use Rattle.txn_run.specs.Lists.{lists_of, request_at}
 use Rattle.txn_run.proofs.Rows.{request_here, sound_serves_at}
 use Rattle.txn_run.proofs.machine.Machine.handle.Goals as goal
 
-pub serve_stub-requires : goal.serve_stub-requires
-serve_stub-requires c = sound_serves_at (lists_of c.args.self.now) c.args.place c.index.result.now c.requires.sound c.requires.sent c.index.ensures
+pub serve-requires : goal.serve-requires
+serve-requires c = sound_serves_at (lists_of c.args.self.now) c.args.place c.index.result.now c.requires.sound c.requires.sent c.index.ensures
 
 pub returns-clause-reply : goal.returns-clause-reply
 returns-clause-reply c =
@@ -15,7 +15,7 @@ returns-clause-reply c =
 pub returns-clause-lists : goal.returns-clause-lists
 returns-clause-lists c =
     let m = c.args.self.now in
-    let stored : c.serve_stub.new.store ≡ (table m.store (request_at m.post.sent.items c.args.place)).store =
+    let stored : c.serve.new.store ≡ (table m.store (request_at m.post.sent.items c.args.place)).store =
     c.in_ok-reply.ensures.store ∙ ap (λ r. (table m.store r).store) (sym (request_here m.post.sent.items c.args.place c.index.result.now c.requires.sent c.index.ensures)) in
     let served : c.push.new.self.items ≡ m.served.items ++ c.args.ticket ∷ [] = c.in_ok-push.ensures.items in
     λ i. record {

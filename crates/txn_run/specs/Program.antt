@@ -1,0 +1,112 @@
+-- How a run of a script, and of the program, ends.
+use Rattle.std.specs.Prelude.{◌≡◌, ℕ, ◌<◌, List, [], ◌∷◌, length, Option, None, take}
+use Rattle.std.specs.Io.KnownBytes.{Consumes, IsAtEnd, Appends}
+use Rattle.txn_script.specs.Text.{IsScript, IsFirstBad}
+use Rattle.txn_script.specs.declared.line.Line.{Line}
+use Rattle.txn_script.specs.declared.script.Why.{Why}
+use Rattle.txn_report.specs.declared.report.Report.{Report}
+use Rattle.txn_report.specs.Text.{text_of_report}
+use Rattle.txn_stream.specs.Bytes.{Rose, ReadsAll}
+use Rattle.txn_run.specs.declared.program.End.{End}
+use Rattle.txn_run.specs.declared.program.End.TheVariants.{Done, BadWords, BadLine, ReadFault, WriteFault, OutOfMemory}
+use Rattle.txn_script.specs.Lines.{why_after}
+use Rattle.txn_run.specs.declared.program.ScriptStop.{ScriptStop}
+use Rattle.txn_run.specs.declared.program.ScriptStop.TheVariants.{Bad, Memory}
+use Rattle.txn_run.specs.Lawful.{Lawful}
+
+-- the exit status
+abbrev pub status_of_end : End → ℕ
+status_of_end (Done report) = 0
+status_of_end BadWords = 2
+status_of_end (BadLine line why) = 3
+status_of_end ReadFault = 4
+status_of_end (WriteFault written) = 5
+status_of_end OutOfMemory = 6
+
+-- the bytes are a script, and the report is what it did
+pub record Ran (bytes : List ℕ) (report : Report) : Type 0 where
+  pub lines : List Line
+  pub script : IsScript bytes lines
+  pub lawful : Lawful lines report
+
+-- how the run of a script of these bytes ends
+abbrev pub EndOfScript : List ℕ → End → Type 0
+EndOfScript bytes (Done report) = Ran bytes report
+EndOfScript bytes BadWords = ⊥
+EndOfScript bytes (BadLine line why) = IsFirstBad bytes line why
+EndOfScript bytes ReadFault = ⊥
+EndOfScript bytes (WriteFault written) = ⊥
+EndOfScript bytes OutOfMemory = Unit {0}
+
+-- each line is not bad after these, the newest first, and the ones between
+abbrev pub AllGood : List Line → List Line → Type 0
+AllGood before [] = Unit {0}
+AllGood before (line ∷ lines) = (why_after before line ≡ None) × AllGood (line ∷ before) lines
+
+-- why the script of these bytes gives no report
+abbrev pub StopOfScript : List ℕ → ScriptStop → Type 0
+StopOfScript bytes (Bad bad) = IsFirstBad bytes bad.line bad.why
+StopOfScript bytes Memory = Unit {0}
+
+-- what became of the text of a report
+abbrev pub Wrote : Report → Option (List ℕ) → Option (List ℕ) → ℕ → ℕ → End → Type 0
+Wrote r written after faults faults_after (Done report) = (report ≡ r) × Appends written after (text_of_report r)
+Wrote r written after faults faults_after BadWords = ⊥
+Wrote r written after faults faults_after (BadLine line why) = ⊥
+Wrote r written after faults faults_after ReadFault = ⊥
+Wrote r written after faults faults_after (WriteFault taken) = Rose faults faults_after × (taken < length (text_of_report r)) × Appends written after (take taken (text_of_report r))
+Wrote r written after faults faults_after OutOfMemory = Unit {0}
+
+-- What a source and a sink were before a call, and are after it: bytes, where they are told, and counts of faults.
+pub record Edges : Type 0 where
+  pub left : Option (List ℕ)
+  pub left_after : Option (List ℕ)
+  pub read_faults : ℕ
+  pub read_faults_after : ℕ
+  pub written : Option (List ℕ)
+  pub written_after : Option (List ℕ)
+  pub write_faults : ℕ
+  pub write_faults_after : ℕ
+
+-- the source was read to its end, what it had is a script, and the sink was given the text of its report
+pub record Reported (e : Edges) (report : Report) : Type 0 where
+  pub bytes : List ℕ
+  pub consumed : Consumes e.left e.left_after bytes
+  pub to_end : IsAtEnd e.left_after
+  pub ran : Ran bytes report
+  pub text : Appends e.written e.written_after (text_of_report report)
+
+-- the first bad line stands among what was read, whatever follows it
+pub record FoundBad (e : Edges) (line : ℕ) (why : Why) : Type 0 where
+  pub bytes : List ℕ
+  pub read : ReadsAll e.left e.left_after bytes
+  pub bad : IsFirstBad bytes line why
+
+-- the sink took the first bytes of the text of a report for the source's script, and then failed
+pub record CutShort (e : Edges) (taken : ℕ) : Type 0 where
+  pub rose : Rose e.write_faults e.write_faults_after
+  pub bytes : List ℕ
+  pub consumed : Consumes e.left e.left_after bytes
+  pub to_end : IsAtEnd e.left_after
+  pub report : Report
+  pub ran : Ran bytes report
+  pub short : taken < length (text_of_report report)
+  pub text : Appends e.written e.written_after (take taken (text_of_report report))
+
+-- how the program ends, without words
+abbrev pub EndOfRun : Edges → End → Type 0
+EndOfRun e (Done report) = Reported e report
+EndOfRun e BadWords = ⊥
+EndOfRun e (BadLine line why) = FoundBad e line why
+EndOfRun e ReadFault = Rose e.read_faults e.read_faults_after
+EndOfRun e (WriteFault written) = CutShort e written
+EndOfRun e OutOfMemory = Unit {0}
+
+-- and nothing is written where there is nothing to report
+abbrev pub WritesNothing : {K : Type 0} → End → K → K → Type 0
+WritesNothing (Done report) old new = Unit {0}
+WritesNothing BadWords old new = new ≡ old
+WritesNothing (BadLine line why) old new = new ≡ old
+WritesNothing ReadFault old new = new ≡ old
+WritesNothing (WriteFault written) old new = Unit {0}
+WritesNothing OutOfMemory old new = Unit {0}
