@@ -14,5 +14,6 @@ pub mod Deliveries
 pub mod Extends
 pub mod Stepped
 pub mod Delivered
+pub mod Comes
 pub mod Machines
 pub mod Programs

@@ -30,7 +30,7 @@ use Rattle.txn_run.specs.Posting.{position, places_of, place_in, note_of}
 use Rattle.txn_run.specs.Lists.{Lists, lists_of, opened, row_at, row_set, sent_more, sent_by, ended_at, ended_by, followed, next_of, ask_one, begins, standing_in, written_in, puts_by, puts, commit_starts, commit_begun, commits_by, commits, handled, reply_at, start_in, begun, advanced, passed_in, passed, waits, delivers_at, delivers, stepped, IsEven, IsSound}
 use Rattle.txn_run.specs.Commit.{turned, started}
 use Rattle.txn_run.specs.Script.{outcome_of, history, served_tickets}
-use Rattle.txn_run.specs.Rowed.{Fits}
+use Rattle.txn_run.specs.Rowed.{Fits, AllCame}
 use Rattle.txn_run.specs.Stands.{AllBefore, request_in, MailFits, StandsAt}
 use Rattle.txn_run.specs.StandsFor.{HasMemory, Standing, StandsFor, CanStep, tickets_at, delivered_line, ending_of, IsNote, IsNoteFrom}
 use Rattle.txn_run.specs.Causes.{Causes, Dues}
@@ -40,6 +40,7 @@ use Rattle.txn_run.proofs.Lines.{good_few}
 use Rattle.txn_run.proofs.Opens.{Leaves, IsQuietLine}
 use Rattle.txn_run.proofs.Stepped.{StandsSo, quiet_stands, next_is, begin_stands, put_stands, commit_stands}
 use Rattle.txn_run.proofs.Delivered.{deliver_stands}
+use Rattle.txn_run.proofs.Comes.{Marks, stepped_marks, came_stepped}
 
 -- No lines.
 
@@ -100,6 +101,7 @@ pub new_stands : (m : Machine) → m.store ≡ opening → m.post.sent.items ≡
 new_stands m store sent letters tickets rows outcomes ended served kinds = record {
   stands = λ h. record {
     lists = subst (λ l. StandsAt [] l []) (lists_are (sym store) (sym sent) (sym letters) (sym tickets) (sym rows) (sym outcomes) (sym ended) (sym served)) opening_stands;
+    came = λ i h. absurd (h (ap (λ es. get_or es i 0) ended));
     kinds = kinds;
   };
 }
@@ -272,6 +274,7 @@ step_stands old new line lines is kinds good s h =
     let so = stepped_stands (history old.post.sent.items old.outcomes.items lines) (lists_of old) line lines good before.lists in
     record { stands = λ _. record {
       lists = subst (λ l. StandsAt (history l.sent l.outcomes (line ∷ lines)) l (line ∷ lines)) (sym is) (at_history so.0 (stepped (lists_of old) line) (line ∷ lines) so.1);
+      came = came_stepped (lists_of old) (lists_of new) line lines before.lists.fits.told before.lists.fits.times.counted before.lists.fits.times.past (subst (λ l. Marks (lists_of old) line l) (sym is) (stepped_marks (lists_of old) line)) before.came;
       kinds = kinds lines before.kinds;
     } }
 
@@ -301,8 +304,8 @@ step_sends old new line is =
 abbrev pub report_of : Lists → Report
 report_of l = record { outcomes = l.outcomes; ended = l.ended; sent = l.sent; sleeps = []; served = l.served; store = l.store }
 
-pub lawful_of : (l : Lists) (lines : List Line) → StandsAt (history l.sent l.outcomes lines) l lines → Lawful (reverse lines) (report_of l)
-lawful_of l lines s =
+pub lawful_of : (l : Lists) (lines : List Line) → StandsAt (history l.sent l.outcomes lines) l lines → AllCame lines l.ended → Lawful (reverse lines) (report_of l)
+lawful_of l lines s came =
     let back : lines ≡ reverse (reverse lines) = sym (reverse-reverse lines) in
     record {
       told = s.mail.told ∙ sym (length-reverse lines);
@@ -316,6 +319,7 @@ lawful_of l lines s =
         past = s.fits.times.past;
         still = s.fits.times.still;
         own = s.fits.times.own;
+        came = subst (λ ls. AllCame ls l.ended) back came;
         over = s.fits.times.over;
       };
       dues = subst (λ ls. Dues l.sent l.outcomes l.ended ls) back s.dues;
@@ -327,7 +331,7 @@ reports_are outcomes ended sent sleeps served store i = record { outcomes = outc
 
 pub report_lawful : (m : Machine) (r : Report) (lines : List Line) → HasMemory m → StandsFor m lines → r.outcomes ≡ m.outcomes.items → r.ended ≡ m.ended.items → r.sent ≡ m.post.sent.items → r.sleeps ≡ [] → r.served ≡ m.served.items → r.store ≡ m.store → Lawful (reverse lines) r
 report_lawful m r lines h s outcomes ended sent sleeps served store =
-    subst (λ q. Lawful (reverse lines) q) (sym (reports_are {r = r} {q = report_of (lists_of m)} outcomes ended sent sleeps served store)) (lawful_of (lists_of m) lines (s.stands h).lists)
+    subst (λ q. Lawful (reverse lines) q) (sym (reports_are {r = r} {q = report_of (lists_of m)} outcomes ended sent sleeps served store)) (lawful_of (lists_of m) lines (s.stands h).lists (s.stands h).came)
 
 -- A run of lines.
 

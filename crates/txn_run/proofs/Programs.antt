@@ -29,18 +29,20 @@ ended : (e : Edges) (r : Report) (bytes : List ℕ) → IsAtEnd e.left_after ⊎
 ended e r bytes (inl at_end) ran = at_end
 ended e r bytes (inr long) ran = absurd (no_script bytes ran.lines long ran.script)
 
-pub wrote_run : (e : Edges) (r : Report) (bytes : List ℕ) (end : End) → ReadsAll e.left e.left_after bytes → Ran bytes r → Wrote r e.written e.written_after e.write_faults e.write_faults_after end → EndOfRun e end
-wrote_run e r bytes (Done report) reads ran w = record {
+pub wrote_run : (e : Edges) (r : Report) (bytes : List ℕ) (end : End) → e.read_faults_after ≡ e.read_faults → ReadsAll e.left e.left_after bytes → Ran bytes r → Wrote r e.written e.written_after e.write_faults e.write_faults_after end → EndOfRun e end
+wrote_run e r bytes (Done report) unfailed reads ran w = record {
+  unfailed = unfailed;
   bytes = bytes;
   consumed = reads.0;
   to_end = ended e r bytes reads.1 ran;
   ran = subst (λ q. Ran bytes q) (sym w.0) ran;
   text = subst (λ q. Appends e.written e.written_after (text_of_report q)) (sym w.0) w.1;
 }
-wrote_run e r bytes BadWords reads ran w = w
-wrote_run e r bytes (BadLine line why) reads ran w = absurd w
-wrote_run e r bytes ReadFault reads ran w = absurd w
-wrote_run e r bytes (WriteFault taken) reads ran w = record {
+wrote_run e r bytes BadWords unfailed reads ran w = w
+wrote_run e r bytes (BadLine line why) unfailed reads ran w = absurd w
+wrote_run e r bytes ReadFault unfailed reads ran w = absurd w
+wrote_run e r bytes (WriteFault taken) unfailed reads ran w = record {
+  unfailed = unfailed;
   rose = w.0;
   bytes = bytes;
   consumed = reads.0;
@@ -50,4 +52,4 @@ wrote_run e r bytes (WriteFault taken) reads ran w = record {
   short = w.1;
   text = w.2;
 }
-wrote_run e r bytes OutOfMemory reads ran w = tt
+wrote_run e r bytes OutOfMemory unfailed reads ran w = tt

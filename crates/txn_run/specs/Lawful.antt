@@ -7,6 +7,7 @@ use Rattle.txn_report.specs.declared.outcome.Outcome.{Outcome}
 use Rattle.txn_report.specs.declared.outcome.Outcome.TheVariants.{Unfinished}
 use Rattle.txn_report.specs.declared.report.Report.{Report}
 use Rattle.txn_run.specs.Script.{history, served_tickets}
+use Rattle.txn_run.specs.Rowed.{AllCame}
 use Rattle.txn_run.specs.Causes.{is_unfinished, Causes, Dues}
 
 -- what was sent, served and taken, line by line: the newest first
@@ -19,11 +20,12 @@ pub record IsFoldOf (lines : List Line) (report : Report) : Type 0 where
   pub served : report.served ≡ reverse (served_tickets (events_of lines report))
 
 -- `ended` names for each line (the i-th has number i + 1) the line in whose step its outcome came.
-pub record NamesEnds (report : Report) : Type 0 where
+pub record NamesEnds (lines : List Line) (report : Report) : Type 0 where
   pub counted : length report.ended ≡ length report.outcomes
   pub past : (i : ℕ) → get_or report.ended i 0 ≤ length report.outcomes
   pub still : (i : ℕ) → get_or report.ended i 0 ≡ 0 → get_or report.outcomes i Unfinished ≡ Unfinished
   pub own : (i : ℕ) → get_or report.ended i 0 ≢ 0 → i < get_or report.ended i 0
+  pub came : AllCame (reverse lines) report.ended
   pub over : (i : ℕ) → get_or report.ended i 0 ≢ 0 → is_unfinished (get_or report.outcomes i Unfinished) ≡ false
 
 pub record Lawful (lines : List Line) (report : Report) : Type 0 where
@@ -32,7 +34,7 @@ pub record Lawful (lines : List Line) (report : Report) : Type 0 where
   pub folded : IsFoldOf lines report
   -- each outcome comes exactly when it may
   pub causes : Causes report.sent report.outcomes report.ended (reverse lines)
-  pub ends : NamesEnds report
+  pub ends : NamesEnds lines report
   -- after each line, something is out for each call that is open
   pub dues : Dues report.sent report.outcomes report.ended (reverse lines)
   -- no line sleeps

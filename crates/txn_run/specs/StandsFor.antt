@@ -15,6 +15,7 @@ use Rattle.txn_run.specs.declared.note.Ending.{Ending}
 use Rattle.txn_run.specs.Posting.{place_in}
 use Rattle.txn_run.specs.Lists.{Lists, lists_of}
 use Rattle.txn_run.specs.Script.{outcome_of, history}
+use Rattle.txn_run.specs.Rowed.{AllCame}
 use Rattle.txn_run.specs.Stands.{StandsAt}
 
 -- no step of the machine answered that memory is wanting
@@ -24,6 +25,7 @@ pub record HasMemory (m : Machine) : Type 0 where
 -- the lists and the kinds of lines are where these lines leave them
 pub record Standing (m : Machine) (lines : List Line) : Type 0 where
   pub lists : StandsAt (history m.post.sent.items m.outcomes.items lines) (lists_of m) lines
+  pub came : AllCame lines m.ended.items
   pub kinds : m.kinds ≡ kinds_of lines
 
 -- A machine stands for these lines. Where memory was wanting, nothing is said.
