@@ -2,7 +2,7 @@ use super::*;
 use std::alloc::Global;
 use std::process::Abort;
 use std::test::Fail;
-use txn_kv::NoMemory;
+use txn_kv::{NoMemory, Ticket};
 
 const FIRST_COMMIT: &[u8] =
     b"client\nbegin 1 opt\ndeliver 2.1\nput 2 k1 v1\ncommit 2\ndeliver 5.1\ndeliver 5.2\ndeliver 5.3\ndeliver 5.4\ndeliver 5.5\n";
@@ -144,12 +144,30 @@ fn words_are_bad(rt: HostRuntime) -> Result<(), Fail> {
 
 #[test]
 fn a_machine_runs_line_by_line(rt: HostRuntime) -> Result<(), Fail> {
+    let ticket = Ticket {
+        line: 2,
+        beat: false,
+        number: 1,
+    };
     let mut machine = Machine::new(rt.alloc())?;
     assert_eq!(rt; machine.check(&Line::Client), None);
-    let note = machine.step(Line::Client)?;
-    assert_eq!(rt; note.place, 1);
-    assert!(rt; matches!(note.outcome, Outcome::Ok(Payload::Unit)));
+    let first = machine.step(Line::Client)?;
+    assert_eq!(rt; first.place, 1);
+    assert!(rt; matches!(first.outcome, Outcome::Ok(Payload::Unit)));
+    assert_eq!(rt; first.ended.len(), 1);
+    let second = machine.step(Line::Begin { client: 1 })?;
+    assert!(rt; matches!(second.outcome, Outcome::Unfinished));
+    assert_eq!(rt; second.ended.len(), 0);
+    assert_eq!(rt; second.sent.as_slice(), [ticket].as_slice());
+    assert_eq!(rt; machine.outs()?.as_slice(), [ticket].as_slice());
+    let third = machine.step(Line::Deliver { ticket })?;
+    assert!(rt; matches!(third.outcome, Outcome::Done));
+    let ended = third.ended.as_slice();
+    assert_eq!(rt; ended.len(), 1);
+    assert_eq!(rt; ended[0].line, 2);
+    assert!(rt; matches!(ended[0].outcome, Outcome::Ok(Payload::Number(_))));
+    assert_eq!(rt; machine.outs()?.len(), 0);
     let report = machine.report();
-    assert_eq!(rt; report.outcomes.len(), 1);
+    assert_eq!(rt; report.outcomes.len(), 3);
     Ok(())
 }
