@@ -16,3 +16,6 @@ pub use txn_script::{BadAt, Line, Script, Why, parse_line, parse_script};
 pub use txn_stream::{
     Failed, MemorySink, MemorySource, Sink, Source, StdinSource, StdoutSink, SureSink, SureSource,
 };
+
+#[cfg(test)]
+mod tests;
