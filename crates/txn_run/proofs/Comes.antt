@@ -19,7 +19,7 @@ use Rattle.txn_run.specs.declared.transaction.Sending.{Sending}
 use Rattle.txn_run.specs.declared.transaction.Turn.{Turn}
 use Rattle.txn_run.specs.Commit.{turned, started}
 use Rattle.txn_run.specs.Posting.{position, places_of, place_in}
-use Rattle.txn_run.specs.Lists.{Lists, opened, row_at, row_set, sent_more, sent_by, ended_by, followed, next_of, begins, standing_in, written_in, puts_by, commit_starts, commits_by, handled, reply_at, start_in, begun, advanced, passed_in, waits, delivers_at, stepped}
+use Rattle.txn_run.specs.Lists.{Lists, opened, row_at, row_set, sent_more, sent_by, ended_by, followed, next_of, standing_in, written_in, puts_by, commit_starts, commits_by, handled, reply_at, start_in, begun, advanced, passed_in, waits, delivers_at, stepped}
 use Rattle.txn_run.specs.Rowed.{CameIn, AllCame}
 use Rattle.txn_run.specs.StandsFor.{delivered_line}
 use Rattle.txn_run.proofs.Lists.{or_pushed, or_past, or_last, or_same, or_other}
@@ -83,9 +83,9 @@ starts_marks l line l' x o (Some Plain) = opened_marks l line l' 0 o
 starts_marks l line l' x o (Some Beginning) = opened_marks l line l' 0 o
 starts_marks l line l' x o (Some (Running t)) =
     follow_marks l line (row_set l' x (Running (started t (length l'.outcomes)).transaction)) 0 (length l'.outcomes)
-      (record { is = o.is; ended = o.ended; longer = o.longer })
-      ((let a = o.longer in omega arith), inl o.longer)
-      (started t (length l'.outcomes)).turn
+    (record { is = o.is; ended = o.ended; longer = o.longer })
+    ((let a = o.longer in omega arith), inl o.longer)
+    (started t (length l'.outcomes)).turn
 starts_marks l line l' x o (Some (Committing y)) = opened_marks l line l' 0 o
 
 commits_marks : (l : Lists) (line : Line) (x : ℕ) (st : Option Status) → Marks l line (commits_by st l x)

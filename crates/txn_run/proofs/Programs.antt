@@ -1,17 +1,16 @@
 -- From a script's lines to the ends of the program.
-use Rattle.std.proofs.Common.{◌≡◌, ℕ, ◌<◌, ◌≤◌, ◌⊎◌, inl, inr, List, [], ◌∷◌, ◌++◌, Option, length, reverse, take, refl, sym, ap, ◌∙◌, subst, append-nil}
+use Rattle.std.proofs.Common.{◌≡◌, ℕ, ◌≤◌, ◌⊎◌, inl, inr, List, [], ◌∷◌, ◌++◌, length, reverse, sym, ◌∙◌, subst, append-nil}
 use Rattle.std.proofs.lemmas.List.{reverse-reverse}
-use Rattle.std.specs.Io.KnownBytes.{Consumes, IsAtEnd, Appends}
+use Rattle.std.specs.Io.KnownBytes.{IsAtEnd, Appends}
 use Rattle.txn_script.specs.declared.line.Line.{Line}
-use Rattle.txn_script.specs.Lines.{why_after}
 use Rattle.txn_script.specs.Text.{text_lines, AreGood, IsScript}
 use Rattle.txn_script.proofs.LongText.{no_script}
 use Rattle.txn_report.specs.declared.report.Report.{Report}
 use Rattle.txn_report.specs.Text.{text_of_report}
-use Rattle.txn_stream.specs.Bytes.{most_bytes, Rose, ReadsAll}
+use Rattle.txn_stream.specs.Bytes.{most_bytes, ReadsAll}
 use Rattle.txn_run.specs.declared.program.End.{End}
 use Rattle.txn_run.specs.declared.program.End.TheVariants.{Done, BadWords, BadLine, ReadFault, WriteFault, OutOfMemory}
-use Rattle.txn_run.specs.Program.{Ran, AllGood, Wrote, Edges, Reported, CutShort, EndOfRun}
+use Rattle.txn_run.specs.Program.{Ran, AllGood, Wrote, Edges, EndOfRun}
 use Rattle.txn_run.proofs.Machines.{turned_over}
 
 good_lines : (texts : List (List ℕ)) (lines rest : List Line) → AreGood texts lines → AllGood lines rest → AllGood [] (reverse lines ++ rest)

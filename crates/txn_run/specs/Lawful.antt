@@ -1,9 +1,8 @@
 -- What a report says of its script: the lines here stand in the order of the script.
-use Rattle.std.specs.Prelude.{◌≡◌, ◌≢◌, ◌⊎◌, ℕ, ◌+◌, ◌<◌, ◌≤◌, Bool, true, false, List, [], ◌∷◌, length, reverse, slice_index_or as get_or}
+use Rattle.std.specs.Prelude.{◌≡◌, ◌≢◌, ℕ, ◌<◌, ◌≤◌, false, List, [], length, reverse, slice_index_or as get_or}
 use Rattle.txn_history.specs.Event.{Event}
 use Rattle.txn_law.specs.Run.{store_after}
 use Rattle.txn_script.specs.declared.line.Line.{Line}
-use Rattle.txn_report.specs.declared.outcome.Outcome.{Outcome}
 use Rattle.txn_report.specs.declared.outcome.Outcome.TheVariants.{Unfinished}
 use Rattle.txn_report.specs.declared.report.Report.{Report}
 use Rattle.txn_run.specs.Script.{history, served_tickets}

@@ -1,5 +1,5 @@
 -- A machine and the lines that it stands for, of which the newest is the first.
-use Rattle.std.specs.Prelude.{◌≡◌, ℕ, ◌+◌, Bool, true, false, if◌then◌else◌, List, [], ◌∷◌, length, Option, Some, None, nat_eq, drop, map, ◌++◌, slice_get, option_to_list}
+use Rattle.std.specs.Prelude.{◌≡◌, ℕ, Bool, false, if◌then◌else◌, List, [], ◌∷◌, length, Option, Some, None, nat_eq, drop, map, ◌++◌, slice_get, option_to_list}
 use Rattle.std.proofs.Common.{zero, suc}
 use Rattle.txn_kv.specs.declared.ticket.Ticket.{Ticket}
 use Rattle.txn_script.specs.Lines.{why_after}

@@ -1,12 +1,11 @@
 //! Runs scripts: a machine that goes through the lines, the report of what they did, and the program.
 #![tactic(auto)]
 
-mod post;
-mod transaction;
-
 pub mod machine;
 pub mod note;
+mod post;
 pub mod program;
+mod transaction;
 
 pub use machine::Machine;
 pub use note::{Ending, StepNote};
