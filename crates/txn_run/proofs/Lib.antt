@@ -15,5 +15,6 @@ pub mod Extends
 pub mod Stepped
 pub mod Delivered
 pub mod Comes
+pub mod Posts
 pub mod Machines
 pub mod Programs

@@ -32,14 +32,15 @@ use Rattle.txn_run.specs.Commit.{turned, started}
 use Rattle.txn_run.specs.Script.{outcome_of, history, served_tickets}
 use Rattle.txn_run.specs.Rowed.{AllCame}
 use Rattle.txn_run.specs.Stands.{AllBefore, request_in, StandsAt}
-use Rattle.txn_run.specs.StandsFor.{HasMemory, StandsFor, CanStep, tickets_at, delivered_line, ending_of, IsNote, IsNoteFrom}
+use Rattle.txn_run.specs.StandsFor.{HasMemory, IsMailOf, StandsFor, CanStep, tickets_at, delivered_line, ending_of, IsNote, IsNoteFrom}
 use Rattle.txn_run.specs.Causes.{Causes, Dues}
 use Rattle.txn_run.specs.Program.{AllGood}
-use Rattle.txn_run.specs.Lawful.{Lawful}
+use Rattle.txn_run.specs.Lawful.{Lawful, IsMail}
 use Rattle.txn_run.proofs.Lines.{good_few}
 use Rattle.txn_run.proofs.Opens.{IsQuietLine}
 use Rattle.txn_run.proofs.Stepped.{StandsSo, quiet_stands, next_is, begin_stands, put_stands, commit_stands}
 use Rattle.txn_run.proofs.Delivered.{deliver_stands}
+use Rattle.txn_run.proofs.Posts.{no_mail, stepped_posts, mail_stepped}
 use Rattle.txn_run.proofs.Comes.{Marks, stepped_marks, came_stepped}
 
 -- No lines.
@@ -102,6 +103,7 @@ new_stands m store sent letters tickets rows outcomes ended served kinds = recor
   stands = λ h. record {
     lists = subst (λ l. StandsAt [] l []) (lists_are (sym store) (sym sent) (sym letters) (sym tickets) (sym rows) (sym outcomes) (sym ended) (sym served)) opening_stands;
     came = λ i h. absurd (h (ap (λ es. get_or es i 0) ended));
+    posted = subst₂ (λ ss ts. IsMailOf ss ts) (sym sent) (sym tickets) no_mail;
     kinds = kinds;
   };
 }
@@ -276,6 +278,7 @@ step_stands old new line lines is kinds good s h =
       stands = λ _. record {
         lists = subst (λ l. StandsAt (history l.sent l.outcomes (line ∷ lines)) l (line ∷ lines)) (sym is) (at_history so.0 (stepped (lists_of old) line) (line ∷ lines) so.1);
         came = came_stepped (lists_of old) (lists_of new) line lines before.lists.fits.told before.lists.fits.times.counted before.lists.fits.times.past (subst (λ l. Marks (lists_of old) line l) (sym is) (stepped_marks (lists_of old) line)) before.came;
+        posted = subst (λ l. IsMailOf l.sent l.tickets) (sym is) (mail_stepped (lists_of old) (stepped (lists_of old) line) (suc (length lines)) (let a = before.lists.fits.told in omega arith) before.lists.mail.before so.1.asks (stepped_posts (lists_of old) line (before.lists.mail.rowed ∙ sym before.lists.mail.told)) before.posted);
         kinds = kinds lines before.kinds;
       };
     }
@@ -306,8 +309,8 @@ step_sends old new line is =
 abbrev pub report_of : Lists → Report
 report_of l = record { outcomes = l.outcomes; ended = l.ended; sent = l.sent; sleeps = []; served = l.served; store = l.store }
 
-pub lawful_of : (l : Lists) (lines : List Line) → StandsAt (history l.sent l.outcomes lines) l lines → AllCame lines l.ended → Lawful (reverse lines) (report_of l)
-lawful_of l lines s came =
+pub lawful_of : (l : Lists) (lines : List Line) → StandsAt (history l.sent l.outcomes lines) l lines → AllCame lines l.ended → IsMail l.sent → Lawful (reverse lines) (report_of l)
+lawful_of l lines s came mail =
     let back : lines ≡ reverse (reverse lines) = sym (reverse-reverse lines) in
     record {
       told = s.mail.told ∙ sym (length-reverse lines);
@@ -315,6 +318,7 @@ lawful_of l lines s came =
         store = s.mail.stored ∙ ap (λ ls. store_after (history l.sent l.outcomes ls)) back;
         served = s.mail.handed ∙ ap (λ ls. reverse (served_tickets (history l.sent l.outcomes ls))) back;
       };
+      mail = mail;
       causes = subst (λ ls. Causes l.sent l.outcomes l.ended ls) back s.causes;
       ends = record {
         counted = s.fits.times.counted;
@@ -333,7 +337,7 @@ reports_are outcomes ended sent sleeps served store i = record { outcomes = outc
 
 pub report_lawful : (m : Machine) (r : Report) (lines : List Line) → HasMemory m → StandsFor m lines → r.outcomes ≡ m.outcomes.items → r.ended ≡ m.ended.items → r.sent ≡ m.post.sent.items → r.sleeps ≡ [] → r.served ≡ m.served.items → r.store ≡ m.store → Lawful (reverse lines) r
 report_lawful m r lines h s outcomes ended sent sleeps served store =
-    subst (λ q. Lawful (reverse lines) q) (sym (reports_are {r = r} {q = report_of (lists_of m)} outcomes ended sent sleeps served store)) (lawful_of (lists_of m) lines (s.stands h).lists (s.stands h).came)
+    subst (λ q. Lawful (reverse lines) q) (sym (reports_are {r = r} {q = report_of (lists_of m)} outcomes ended sent sleeps served store)) (lawful_of (lists_of m) lines (s.stands h).lists (s.stands h).came (s.stands h).posted.mail)
 
 -- A run of lines.
 
