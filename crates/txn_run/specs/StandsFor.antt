@@ -4,6 +4,7 @@ use Rattle.txn_kv.specs.declared.ticket.Ticket.{Ticket}
 use Rattle.txn_script.specs.Lines.{why_after}
 use Rattle.txn_script.specs.Kinds.{kinds_of}
 use Rattle.txn_script.specs.declared.line.Line.{Line}
+use Rattle.txn_report.specs.OutcomeView.{view_of_outcome}
 use Rattle.txn_report.specs.declared.outcome.Outcome.{Outcome}
 use Rattle.txn_report.specs.declared.report.SentNote.{SentNote}
 use Rattle.txn_run.specs.declared.machine.Machine.{Machine}
@@ -39,11 +40,11 @@ tickets_at n (s ∷ ss) = if nat_eq s.at n then s.ticket ∷ tickets_at n ss els
 -- what a note says of the newest line
 pub record IsNote (l : Lists) (note : StepNote) : Type 0 where
   pub place : note.place ≡ length l.outcomes
-  pub outcome : note.outcome ≡ outcome_of l.outcomes note.place
+  pub outcome : view_of_outcome note.outcome ≡ view_of_outcome (outcome_of l.outcomes note.place)
   pub sent : note.sent ≡ tickets_at note.place l.sent
 
 -- what a note says of the newest line, by where in the list what it sent begins
 pub record IsNoteFrom (l : Lists) (from : ℕ) (note : StepNote) : Type 0 where
   pub place : note.place ≡ length l.outcomes
-  pub outcome : note.outcome ≡ outcome_of l.outcomes (length l.outcomes)
+  pub outcome : view_of_outcome note.outcome ≡ view_of_outcome (outcome_of l.outcomes (length l.outcomes))
   pub sent : note.sent ≡ map (λ s. s.ticket) (drop from l.sent)
