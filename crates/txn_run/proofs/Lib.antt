@@ -15,3 +15,4 @@ pub mod Extends
 pub mod Stepped
 pub mod Delivered
 pub mod Machines
+pub mod Programs

@@ -1,10 +1,13 @@
 -- From the lists to the machine.
-use Rattle.std.proofs.Common.{◌≡◌, ◌≢◌, ℕ, zero, suc, ◌+◌, ◌-◌, ◌<◌, ◌≤◌, ◌⊎◌, inl, inr, Bool, true, false, not, ◌&&◌, if◌then◌else◌, List, [], ◌∷◌, ◌++◌, Option, Some, None, length, get_or, set, slice_get, is_some, nat_eq, nat_lt, map, drop, reverse, refl, sym, ap, ◌∙◌, subst, subst₂, arith, append-nil, length-append, length-set}
+use Rattle.std.proofs.Common.{◌≡◌, ◌≢◌, ℕ, zero, suc, ◌+◌, ◌-◌, ◌<◌, ◌≤◌, ◌⊎◌, inl, inr, Bool, true, false, not, ◌&&◌, if◌then◌else◌, List, [], ◌∷◌, ◌++◌, Option, Some, None, length, get_or, set, slice_get, is_some, nat_eq, nat_lt, map, drop, reverse, refl, sym, ap, ◌∙◌, subst, subst₂, arith, append-nil, length-append, length-set, Vec, Global}
+use Rattle.std.specs.Prelude.{vec_len}
+use Rattle.std.proofs.lemmas.List.{reverse-reverse, length-reverse, reverse-append, append_assoc}
 use Rattle.std.proofs.lemmas.Bool.Decides.{nat_tests}
 use Rattle.txn_kv.specs.declared.ticket.Ticket.{Ticket}
 use Rattle.txn_kv.specs.declared.reply.Reply.{Reply}
 use Rattle.txn_history.specs.Event.{Event, is_out}
 use Rattle.txn_model.specs.Store.{Store, opening}
+use Rattle.txn_law.specs.Run.{store_after}
 use Rattle.txn_script.specs.Lines.{line_at, why_after}
 use Rattle.txn_script.specs.Kinds.{kind_of, kinds_of}
 use Rattle.txn_script.specs.declared.line.Line.{Line}
@@ -27,10 +30,12 @@ use Rattle.txn_run.specs.declared.transaction.Turn.{Turn}
 use Rattle.txn_run.specs.Posting.{position, places_of, place_in, note_of}
 use Rattle.txn_run.specs.Lists.{Lists, lists_of, opened, row_at, row_set, sent_more, sent_by, ended_at, ended_by, followed, next_of, ask_one, begins, standing_in, written_in, puts_by, puts, commit_starts, commit_begun, commits_by, commits, handled, reply_at, start_in, begun, advanced, passed_in, passed, waits, delivers_at, delivers, stepped, IsEven, IsSound}
 use Rattle.txn_run.specs.Commit.{turned, started}
-use Rattle.txn_run.specs.Script.{outcome_of, history}
+use Rattle.txn_run.specs.Script.{outcome_of, history, served_tickets}
 use Rattle.txn_run.specs.Rowed.{Fits}
 use Rattle.txn_run.specs.Stands.{AllBefore, request_in, MailFits, StandsAt}
-use Rattle.txn_run.specs.StandsFor.{HasMemory, Standing, StandsFor, tickets_at, IsNote, IsNoteFrom}
+use Rattle.txn_run.specs.StandsFor.{HasMemory, Standing, StandsFor, CanStep, tickets_at, delivered_line, ending_of, IsNote, IsNoteFrom}
+use Rattle.txn_run.specs.Causes.{Causes, Dues}
+use Rattle.txn_run.specs.Program.{AllGood}
 use Rattle.txn_run.specs.Lawful.{IsFoldOf, NamesEnds, Lawful}
 use Rattle.txn_run.proofs.Lines.{good_few}
 use Rattle.txn_run.proofs.Opens.{Leaves, IsQuietLine}
@@ -89,10 +94,13 @@ opening_stands = record {
   dues = tt;
 }
 
+pub lists_are : {l m : Lists} → l.store ≡ m.store → l.sent ≡ m.sent → l.letters ≡ m.letters → l.tickets ≡ m.tickets → l.rows ≡ m.rows → l.outcomes ≡ m.outcomes → l.ended ≡ m.ended → l.served ≡ m.served → l ≡ m
+lists_are store sent letters tickets rows outcomes ended served i = record { store = store i; sent = sent i; letters = letters i; tickets = tickets i; rows = rows i; outcomes = outcomes i; ended = ended i; served = served i }
+
 pub new_stands : (m : Machine) → m.store ≡ opening → m.post.sent.items ≡ [] → m.post.letters.items ≡ [] → m.post.tickets.items ≡ [] → m.rows.items ≡ [] → m.outcomes.items ≡ [] → m.ended.items ≡ [] → m.served.items ≡ [] → m.kinds ≡ [] → StandsFor m []
 new_stands m store sent letters tickets rows outcomes ended served kinds = record {
   stands = λ h. record {
-    lists = subst (λ l. StandsAt [] l []) (λ i. record { store = store ~ i; sent = sent ~ i; letters = letters ~ i; tickets = tickets ~ i; rows = rows ~ i; outcomes = outcomes ~ i; ended = ended ~ i; served = served ~ i }) opening_stands;
+    lists = subst (λ l. StandsAt [] l []) (lists_are (sym store) (sym sent) (sym letters) (sym tickets) (sym rows) (sym outcomes) (sym ended) (sym served)) opening_stands;
     kinds = kinds;
   };
 }
@@ -147,7 +155,7 @@ pub record Grows (l l' : Lists) : Type 0 where
   pub at : AllAt (length l'.outcomes) news
 
 same_sent : (l l' : Lists) → l'.sent ≡ l.sent → Grows l l'
-same_sent l l' e = record { news = []; sent = e ∙ sym append-nil; at = tt }
+same_sent l l' e = record { news = []; sent = e ∙ sym (append-nil l.sent); at = tt }
 
 ended_grows : (l l' : Lists) (line : ℕ) (o : Option Outcome) → Grows l l' → Grows l (ended_by l' line o)
 ended_grows l l' line None g = g
@@ -238,8 +246,8 @@ drop_old : (old ss : List SentNote) → drop (length old) (old ++ ss) ≡ ss
 drop_old [] ss = refl
 drop_old (s ∷ old) ss = drop_old old ss
 
-pub note_of_step : (es : List Event) (l l' : Lists) (ls : List Line) (note : StepNote) → StandsAt es l ls → length l'.outcomes ≡ suc (length ls) → Grows l l' → IsNoteFrom l' (length l.sent) note → IsNote l' note
-note_of_step es l l' ls note s longer g n = record {
+pub note_of_step : (es : List Event) (l l' : Lists) (ls : List Line) (line : Line) (note : StepNote) → StandsAt es l ls → length l'.outcomes ≡ suc (length ls) → Grows l l' → IsNoteFrom l' (length l.sent) (delivered_line line) note → IsNote l' line note
+note_of_step es l l' ls line note s longer g n = record {
   place = n.place;
   outcome = n.outcome ∙ ap (λ p. view_of_outcome (outcome_of l'.outcomes p)) (sym n.place);
   sent = n.sent
@@ -249,4 +257,113 @@ note_of_step es l l' ls note s longer g n = record {
     ∙ sym (tickets_more (length l'.outcomes) l.sent g.news (subst (λ m. AllBefore m l.sent) (sym longer) s.mail.before))
     ∙ ap (λ ss. tickets_at (length l'.outcomes) ss) (sym g.sent)
     ∙ ap (λ m. tickets_at m l'.sent) (sym n.place);
+  ended = n.ended ∙ ap (λ p. ending_of l' (delivered_line line) ++ ending_of l' p) (sym n.place);
 }
+
+-- A step.
+
+pub step_requires : (m : Machine) (line : Line) (lines : List Line) → StandsFor m lines → why_after lines line ≡ None → HasMemory m → IsSound (lists_of m) × (length m.outcomes.items < 65536)
+step_requires m line lines s good h =
+    let at = (s.stands h).lists in
+    (sound_of (history m.post.sent.items m.outcomes.items lines) (lists_of m) lines at, few_of (history m.post.sent.items m.outcomes.items lines) (lists_of m) line lines good at)
+
+pub step_stands : (old new : Machine) (line : Line) (lines : List Line) → lists_of new ≡ stepped (lists_of old) line → ((ls : List Line) → old.kinds ≡ kinds_of ls → new.kinds ≡ kinds_of (line ∷ ls)) → why_after lines line ≡ None → StandsFor old lines → HasMemory old → StandsFor new (line ∷ lines)
+step_stands old new line lines is kinds good s h =
+    let before = s.stands h in
+    let so = stepped_stands (history old.post.sent.items old.outcomes.items lines) (lists_of old) line lines good before.lists in
+    record { stands = λ _. record {
+      lists = subst (λ l. StandsAt (history l.sent l.outcomes (line ∷ lines)) l (line ∷ lines)) (sym is) (at_history so.0 (stepped (lists_of old) line) (line ∷ lines) so.1);
+      kinds = kinds lines before.kinds;
+    } }
+
+pub step_note : (old : Machine) (l' : Lists) (line : Line) (lines : List Line) (note : StepNote) (from delivered : ℕ) → l' ≡ stepped (lists_of old) line → why_after lines line ≡ None → StandsFor old lines → HasMemory old → from ≡ length old.post.sent.items → delivered ≡ delivered_line line → IsNoteFrom l' from delivered note → IsNote l' line note
+step_note old l' line lines note from delivered is good s h f d n =
+    let before = s.stands h in
+    let so = stepped_stands (history old.post.sent.items old.outcomes.items lines) (lists_of old) line lines good before.lists in
+    let told : length l'.outcomes ≡ suc (length lines) = ap (λ l. length l.outcomes) is ∙ so.1.fits.told in
+    let here : IsNoteFrom l' (length old.post.sent.items) (delivered_line line) note = subst₂ (λ x y. IsNoteFrom l' x y note) f d n in
+    note_of_step (history old.post.sent.items old.outcomes.items lines) (lists_of old) l' lines line note before.lists told (subst (λ l. Grows (lists_of old) l) (sym is) (stepped_grows (lists_of old) line)) here
+
+pub step_longer : (old new : Machine) (line : Line) (lines : List Line) → lists_of new ≡ stepped (lists_of old) line → why_after lines line ≡ None → StandsFor old lines → HasMemory old → 0 < length new.outcomes.items
+step_longer old new line lines is good s h =
+    let before = s.stands h in
+    let so = stepped_stands (history old.post.sent.items old.outcomes.items lines) (lists_of old) line lines good before.lists in
+    let told : length new.outcomes.items ≡ suc (length lines) = ap (λ l. length l.outcomes) is ∙ so.1.fits.told in
+    omega arith
+
+pub step_sends : (old new : Machine) (line : Line) → lists_of new ≡ stepped (lists_of old) line → length old.post.sent.items ≤ length new.post.sent.items
+step_sends old new line is =
+    let g = stepped_grows (lists_of old) line in
+    let more : length new.post.sent.items ≡ length old.post.sent.items + length g.news = ap (λ l. length l.sent) is ∙ ap length g.sent ∙ length-append old.post.sent.items g.news in
+    omega arith
+
+-- The report.
+
+abbrev pub report_of : Lists → Report
+report_of l = record { outcomes = l.outcomes; ended = l.ended; sent = l.sent; sleeps = []; served = l.served; store = l.store }
+
+pub lawful_of : (l : Lists) (lines : List Line) → StandsAt (history l.sent l.outcomes lines) l lines → Lawful (reverse lines) (report_of l)
+lawful_of l lines s =
+    let back : lines ≡ reverse (reverse lines) = sym (reverse-reverse lines) in
+    record {
+      told = s.mail.told ∙ sym (length-reverse lines);
+      folded = record {
+        store = s.mail.stored ∙ ap (λ ls. store_after (history l.sent l.outcomes ls)) back;
+        served = s.mail.handed ∙ ap (λ ls. reverse (served_tickets (history l.sent l.outcomes ls))) back;
+      };
+      causes = subst (λ ls. Causes l.sent l.outcomes l.ended ls) back s.causes;
+      ends = record {
+        counted = s.fits.times.counted;
+        past = s.fits.times.past;
+        still = s.fits.times.still;
+        own = s.fits.times.own;
+        over = s.fits.times.over;
+      };
+      dues = subst (λ ls. Dues l.sent l.outcomes l.ended ls) back s.dues;
+      awake = refl;
+    }
+
+reports_are : {r q : Report} → r.outcomes ≡ q.outcomes → r.ended ≡ q.ended → r.sent ≡ q.sent → r.sleeps ≡ q.sleeps → r.served ≡ q.served → r.store ≡ q.store → r ≡ q
+reports_are outcomes ended sent sleeps served store i = record { outcomes = outcomes i; ended = ended i; sent = sent i; sleeps = sleeps i; served = served i; store = store i }
+
+pub report_lawful : (m : Machine) (r : Report) (lines : List Line) → HasMemory m → StandsFor m lines → r.outcomes ≡ m.outcomes.items → r.ended ≡ m.ended.items → r.sent ≡ m.post.sent.items → r.sleeps ≡ [] → r.served ≡ m.served.items → r.store ≡ m.store → Lawful (reverse lines) r
+report_lawful m r lines h s outcomes ended sent sleeps served store =
+    subst (λ q. Lawful (reverse lines) q) (sym (reports_are {r = r} {q = report_of (lists_of m)} outcomes ended sent sleeps served store)) (lawful_of (lists_of m) lines (s.stands h).lists)
+
+-- A run of lines.
+
+pub sent_len : (v : Vec SentNote Global) → vec_len v ≡ length v.items
+sent_len v = let e = v.ok.0 in omega arith
+
+none_left : (ls : List Line) → length ls ≡ 0 → ls ≡ []
+none_left [] e = refl
+none_left (l ∷ ls) e = absurd (omega arith)
+
+-- A machine stands for the first of these lines, and the rest are good after them.
+pub record RunsOn (m : Machine) (all rest : List Line) : Type 0 where
+  pub done : List Line
+  pub memory : HasMemory m
+  pub stands : StandsFor m done
+  pub good : AllGood done rest
+  pub together : reverse done ++ rest ≡ all
+
+pub turned_over : (line : Line) (done rest : List Line) → reverse (line ∷ done) ++ rest ≡ reverse done ++ line ∷ rest
+turned_over line done rest = ap (λ ls. ls ++ rest) (reverse-append (line ∷ []) done) ∙ append_assoc (reverse done) (line ∷ []) rest
+
+pub run_stepped : (m m' : Machine) (all before rest : List Line) (line : Line) → (r : RunsOn m all before) → before ≡ line ∷ rest → HasMemory m' → ((ls : List Line) → StandsFor m ls → why_after ls line ≡ None → StandsFor m' (line ∷ ls)) → RunsOn m' all rest
+run_stepped m m' all before rest line r e memory stands =
+    let good = subst (λ ls. AllGood r.done ls) e r.good in
+    record {
+      done = line ∷ r.done;
+      memory = memory;
+      stands = stands r.done r.stands good.0;
+      good = good.1;
+      together = turned_over line r.done rest ∙ ap (λ ls. reverse r.done ++ ls) (sym e) ∙ r.together;
+    }
+
+pub can_step : (m : Machine) (all before rest : List Line) (line : Line) → RunsOn m all before → before ≡ line ∷ rest → CanStep m line
+can_step m all before rest line r e = record { lines = r.done; stands = r.stands; good = (subst (λ ls. AllGood r.done ls) e r.good).0 }
+
+pub run_over : (m : Machine) (all rest : List Line) (report : Report) → RunsOn m all rest → length rest ≡ 0 → ((ls : List Line) → StandsFor m ls → Lawful (reverse ls) report) → Lawful all report
+run_over m all rest report r e lawful =
+    subst (λ ls. Lawful ls report) (sym (append-nil (reverse r.done)) ∙ ap (λ ls. reverse r.done ++ ls) (sym (none_left rest e)) ∙ r.together) (lawful r.done r.stands)

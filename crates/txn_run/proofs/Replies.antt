@@ -42,17 +42,17 @@ version_back n small =
     let b : nat_lt (n % 2 ^ 18) (2 ^ 18) ≡ true = (let l : n % 2 ^ 18 < 2 ^ 18 = omega arith in grind (arith, nat_tests)) in
     rw (a, b) (ap (λ v. Some v) (version_of-timestamp_of n))
 
-pub last_is : (st : Store) → st.clock ≡ 0 → last_timestamp st 1 ≡ st.last + 1
-last_is st clock =
-    let next : next_timestamp st ≡ st.last + 1 = ap (λ c. max (st.last + 1) (c * 2 ^ 18)) clock ∙ (let m : max (st.last + 1) 0 ≡ st.last + 1 = omega arith in m) in
-    let fits : nat_lt (next_timestamp st % 2 ^ 18 + (1 - 1)) (2 ^ 18) ≡ true = (let l : next_timestamp st % 2 ^ 18 < 2 ^ 18 = omega arith in grind (arith, nat_tests)) in
-    ap (λ (b : Bool). (if b then next_timestamp st else (next_timestamp st / 2 ^ 18 + 1) * 2 ^ 18) + (1 - 1)) fits ∙ (let a = next in omega arith)
+pub last_is : (last clock : ℕ) → clock ≡ 0 → last_timestamp last clock 1 ≡ last + 1
+last_is last clock still =
+    let next : next_timestamp last clock ≡ last + 1 = ap (λ c. max (last + 1) (c * 2 ^ 18)) still ∙ (let m : max (last + 1) 0 ≡ last + 1 = omega arith in m) in
+    let fits : nat_lt (next_timestamp last clock % 2 ^ 18 + (1 - 1)) (2 ^ 18) ≡ true = (let l : next_timestamp last clock % 2 ^ 18 < 2 ^ 18 = omega arith in grind (arith, nat_tests)) in
+    ap (λ (b : Bool). (if b then next_timestamp last clock else (next_timestamp last clock / 2 ^ 18 + 1) * 2 ^ 18) + (1 - 1)) fits ∙ (let a = next in omega arith)
 
 pub tso_store : (st : Store) → st.clock ≡ 0 → (table st ask_one).store ≡ record st { last = st.last + 1 }
-tso_store st clock = ap (λ n. record st { last = n }) (last_is st clock)
+tso_store st clock = ap (λ n. record st { last = n }) (last_is st.last st.clock clock)
 
 pub tso_reply : (st : Store) → st.clock ≡ 0 → (table st ask_one).reply ≡ Gave (record { count = 1; timestamp = Some (timestamp_of (st.last + 1)) })
-tso_reply st clock = ap (λ n. Gave (record { count = 1; timestamp = Some (timestamp_of n) })) (last_is st clock)
+tso_reply st clock = ap (λ n. Gave (record { count = 1; timestamp = Some (timestamp_of n) })) (last_is st.last st.clock clock)
 
 -- Regions.
 

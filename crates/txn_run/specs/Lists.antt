@@ -1,5 +1,6 @@
 -- The lists of a machine, and what each step makes of them.
 use Rattle.std.specs.Prelude.{◌≡◌, ℕ, ◌+◌, ◌-◌, ◌<◌, ◌≤◌, Bool, true, false, not, ◌&&◌, if◌then◌else◌, List, [], ◌∷◌, ◌++◌, length, Option, Some, None, slice_get, slice_set, slice_index_or}
+use Rattle.std.specs.List.{flat_map}
 use Rattle.std.proofs.Common.{zero, suc}
 use Rattle.txn_kv.specs.declared.errors.Error.TheVariants.{OperationAfterCommitError, InternalError}
 use Rattle.txn_kv.specs.declared.errors.Internal.TheVariants.{WrongReply}
@@ -31,7 +32,7 @@ use Rattle.txn_run.specs.declared.machine.Row.TheVariants.{Plain, Beginning, Run
 use Rattle.txn_run.specs.declared.machine.Machine.{Machine}
 use Rattle.txn_run.specs.Commit.{started, turned, version_in}
 use Rattle.txn_run.specs.Standing.{free_status}
-use Rattle.txn_run.specs.Posting.{places_of, position, note_of, fresh}
+use Rattle.txn_run.specs.Posting.{places_of, position, note_of, fresh, outs_at}
 
 pub record Lists : Type 0 where
   pub store : Store
@@ -54,6 +55,10 @@ lists_of m = record {
   ended = m.ended.items;
   served = m.served.items;
 }
+
+-- every ticket that is out, by line and number
+abbrev pub outs_of : Lists → List Ticket
+outs_of l = flat_map (outs_at l.sent l.letters) l.tickets
 
 -- one row more
 abbrev pub opened : Lists → Row → Outcome → ℕ → Lists

@@ -1,5 +1,6 @@
 -- How the machine keeps what was sent.
-use Rattle.std.specs.Prelude.{◌≡◌, ℕ, ◌+◌, ◌-◌, Bool, true, false, if◌then◌else◌, List, [], ◌∷◌, ◌++◌, length, Option, Some, None, slice_get, slice_set, slice_index_or}
+use Rattle.std.specs.Prelude.{◌≡◌, ℕ, ◌+◌, ◌-◌, Bool, true, false, if◌then◌else◌, List, [], ◌∷◌, ◌++◌, length, Option, Some, None, slice_get, slice_set, slice_index_or, option_to_list}
+use Rattle.std.specs.List.{flat_map}
 use Rattle.std.proofs.Common.{zero, suc}
 use Rattle.txn_kv.specs.declared.request.Request.{Request}
 use Rattle.txn_kv.specs.declared.request.Request.TheVariants.{Prewrite, Commit, GetRegion, GetStore, Tso}
@@ -44,3 +45,19 @@ pub record IsPosted (new old : Post) (line at : ℕ) (to : Target) (request : Re
   pub sent : new.sent.items ≡ old.sent.items ++ note_of old.tickets.items line at to request ∷ []
   pub letters : new.letters.items ≡ old.letters.items ++ fresh ∷ []
   pub tickets : new.tickets.items ≡ slice_set old.tickets.items (line - 1) (places_of old.tickets.items line ++ length old.sent.items ∷ [])
+
+-- the ticket of a request that is out: the client still waits for it
+abbrev pub out_by : Option SentNote → Option Letter → Option Ticket
+out_by (Some s) (Some v) = if v.gone then None else Some s.ticket
+out_by (Some s) None = None
+out_by None v = None
+
+abbrev pub out_at : List SentNote → List Letter → ℕ → Option Ticket
+out_at sent letters p = out_by (slice_get sent p) (slice_get letters p)
+
+abbrev pub out_tickets : List SentNote → List Letter → ℕ → List Ticket
+out_tickets sent letters p = option_to_list (out_at sent letters p)
+
+-- the tickets that are out, of these places
+abbrev pub outs_at : List SentNote → List Letter → List ℕ → List Ticket
+outs_at sent letters places = flat_map (out_tickets sent letters) places

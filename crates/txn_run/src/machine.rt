@@ -1,15 +1,17 @@
-ghost use Rattle.std.specs.Prelude.{◌≡◌, ◌+◌, ◌-◌, ◌<◌, ◌≤◌, [], ◌∷◌, IfOk, OnOk, OnErr, length, List, IfSome, true, false, Option, Some, None, slice_get, reverse};
+ghost use Rattle.std.specs.Prelude.{◌≡◌, ◌+◌, ◌-◌, ◌<◌, ◌≤◌, [], ◌∷◌, IfOk, OnOk, OnErr, length, List, IfSome, true, false, Option, Some, None, slice_get, reverse, map, option_map, drop, ◌++◌};
 ghost use Rattle.txn_model.specs.Table.{table};
-ghost use Rattle.txn_run.specs.Lists.{lists_of, opened, ended_at, row_set, sent_more, next_of, row_at, sent_by, ended_by, followed, ask_one, begins, standing_in, written, puts, commit_begun, commits, request_at, handled, reply_at, start_in, begun, advanced, passed, waits, delivers, stepped, IsEven, IsSound};
-ghost use Rattle.txn_run.specs.Posting.{position};
-ghost use Rattle.txn_run.specs.StandsFor.{HasMemory, StandsFor, CanStep, IsNote, IsNoteFrom};
+ghost use Rattle.txn_run.specs.Lists.{lists_of, outs_of, opened, ended_at, row_set, sent_more, next_of, row_at, sent_by, ended_by, followed, ask_one, begins, standing_in, written, puts, commit_begun, commits, request_at, handled, reply_at, start_in, begun, advanced, passed, waits, delivers, stepped, IsEven, IsSound};
+ghost use Rattle.txn_run.specs.Posting.{position, place_in};
+ghost use Rattle.txn_run.specs.StandsFor.{HasMemory, StandsFor, CanStep, delivered_line, ended_now, outcome_in, view_of_ending, answered, ending_of, IsNote, IsNoteFrom};
 ghost use Rattle.txn_run.specs.Lawful.{Lawful};
+ghost use Rattle.txn_script.specs.Kinds.{kinds_of};
 ghost use Rattle.txn_script.specs.Lines.{why_after};
 
 use crate::note::{Ending, StepNote};
 use crate::post::{Letter, Post};
 use crate::transaction::{Put, Sending, Status, Transaction, Turn, version_in};
 use std::alloc::Global;
+use std::mem::replace;
 use txn_kv::{Error, Internal, Items, Key, NoMemory, Reply, Request, Target, Ticket, TsoRequest, Value};
 use txn_model::ModelStore;
 use txn_report::{Outcome, Payload, Report};
@@ -43,6 +45,16 @@ pub struct Machine {
     broken: bool,
 }
 
+/// The line whose ticket a line delivers, or 0.
+fn delivered_line(line: &Line) -> u64
+    ensures { result ≡ delivered_line line.now }
+{
+    match line {
+        Line::Deliver { ticket } => ticket.line,
+        _ => 0,
+    }
+}
+
 impl Machine {
     /// A machine that stands for no lines.
     pub fn new(alloc: Global) -> Result<Machine, NoMemory>
@@ -74,39 +86,132 @@ impl Machine {
         ensures stands { (lines : List Line) → StandsFor self.old lines → why_after lines line ≡ None → StandsFor self.new (line ∷ lines) }
         ensures memory { OnOk result (HasMemory self.old × HasMemory self.new) }
         ensures broken { OnErr result (HasMemory self.new → ⊥) }
-        ensures note { IfOk result (λ note. IsNote (lists_of self.new) note) }
+        ensures note { IfOk result (λ note. IsNote (lists_of self.new) line note) }
     {
         if self.broken {
             return Err(NoMemory);
         }
-        let sent = self.post.sent.len();
-        self.broken = true;
-        self.kinds.push(&line)?;
+        match self.try_step(line) {
+            Ok(note) => {
+                self.broken = false;
+                Ok(note)
+            }
+            Err(error) => {
+                self.broken = true;
+                Err(error)
+            }
+        }
+    }
+
+    /// Runs one line more, where memory was never wanting.
+    fn try_step(&mut self, line: Line) -> Result<StepNote, NoMemory>
+        requires can { CanStep self.old line }
+        requires memory { HasMemory self.old }
+        ensures lists { OnOk result (lists_of self.new ≡ stepped (lists_of self.old) line) }
+        ensures kinds { OnOk result ((lines : List Line) → self.old.kinds ≡ kinds_of lines → self.new.kinds ≡ kinds_of (line ∷ lines)) }
+        ensures note { IfOk result (λ note. IsNote (lists_of self.new) line note) }
+    {
+        let from = self.post.sent.len();
+        let delivered = delivered_line(&line);
+        // The run of a line does not look at the kinds of the earlier ones: they stand apart while it lasts.
+        let alloc = *self.rows.allocator();
+        let mut kinds = replace(&mut self.kinds, LineKinds::new(alloc));
+        kinds.push(&line)?;
         self.run(line)?;
-        let note = self.note(sent)?;
-        self.broken = false;
+        let note = self.note(from, delivered)?;
+        self.kinds = kinds;
         Ok(note)
     }
 
-    /// The note of the newest line. `from` is where in the list what it sent begins.
-    fn note(&self, from: usize) -> Result<StepNote, NoMemory>
+    /// The note of the newest line. `from` is where in the list what it sent begins, and `delivered` the line whose
+    /// ticket it delivers, or 0.
+    fn note(&self, from: usize, delivered: u64) -> Result<StepNote, NoMemory>
         requires some { 0 < length (lists_of self.now).outcomes }
         requires from { from ≤ length (lists_of self.now).sent }
-        ensures { IfOk result (λ note. IsNoteFrom (lists_of self.now) from note) }
+        ensures { IfOk result (λ note. IsNoteFrom (lists_of self.now) from delivered note) }
     {
-        let alloc = *self.rows.allocator();
         let place = self.outcomes.len();
-        let outcome = self.outcomes[place - 1].try_clone()?;
-        let mut sent = Items::new(alloc);
+        let mut ended = Items::new(*self.rows.allocator());
+        self.push_ending(&mut ended, delivered)?;
+        self.push_ending(&mut ended, place as u64)?;
+        Ok(StepNote {
+            place: place as u64,
+            outcome: self.outcomes[place - 1].try_clone()?,
+            sent: self.sent_since(from)?,
+            ended,
+        })
+    }
+
+    /// The tickets of what was sent from a place on.
+    fn sent_since(&self, from: usize) -> Result<Items<Ticket>, NoMemory>
+        requires { from ≤ length (lists_of self.now).sent }
+        ensures { IfOk result (λ tickets. tickets ≡ map (λ s. s.ticket) (drop from (lists_of self.now).sent)) }
+    {
+        let mut sent = Items::new(*self.rows.allocator());
         for note in &self.post.sent[from..] {
             sent.push(note.ticket)?;
         }
-        Ok(StepNote {
-            place: place as u64,
-            outcome,
-            sent,
-            ended: Items::new(alloc),
+        Ok(sent)
+    }
+
+    /// Whether a line was over first in the step of the newest.
+    fn ended_now(&self, line: u64) -> bool
+        ensures { result ≡ ended_now (length (lists_of self.now).outcomes) (place_in (lists_of self.now).ended line) }
+    {
+        if line == 0 {
+            return false;
+        }
+        match self.ended.get(line as usize - 1) {
+            None => false,
+            Some(at) => *at == self.outcomes.len() as u64,
+        }
+    }
+
+    /// What the call of a line answered, if it did.
+    fn answer(&self, line: u64) -> Result<Option<Ending>, NoMemory>
+        ensures { IfOk result (λ ending. option_map view_of_ending ending ≡ answered line (outcome_in (lists_of self.now).outcomes line)) }
+    {
+        if line == 0 {
+            return Ok(None);
+        }
+        Ok(match self.outcomes.get(line as usize - 1) {
+            Some(Outcome::Ok(payload)) => Some(Ending {
+                line,
+                outcome: Outcome::Ok(payload.try_clone()?),
+            }),
+            Some(Outcome::Err(error)) => Some(Ending {
+                line,
+                outcome: Outcome::Err(error.try_clone()?),
+            }),
+            Some(Outcome::Unfinished) => None,
+            Some(Outcome::Done) => None,
+            Some(Outcome::Skipped) => None,
+            None => None,
         })
+    }
+
+    /// Notes the call of a line, where it answered in the step of the newest line.
+    fn push_ending(&self, endings: &mut Items<Ending>, line: u64) -> Result<(), NoMemory>
+        ensures { OnOk result (map view_of_ending endings.new ≡ map view_of_ending endings.old ++ ending_of (lists_of self.now) line) }
+    {
+        if !self.ended_now(line) {
+            return Ok(());
+        }
+        if let Some(ending) = self.answer(line)? {
+            endings.push(ending)?;
+        }
+        Ok(())
+    }
+
+    /// Every ticket that is out, by line and number.
+    pub fn outs(&self) -> Result<Vec<Ticket>, NoMemory>
+        ensures { IfOk result (λ outs. outs.items ≡ outs_of (lists_of self.now)) }
+    {
+        let mut outs = Vec::new(*self.rows.allocator());
+        for places in self.post.tickets.as_slice() {
+            self.post.push_outs(&mut outs, places.as_slice())?;
+        }
+        Ok(outs)
     }
 
     /// The report of the lines that the machine stands for. Takes no memory.

@@ -1,5 +1,5 @@
 ghost use Rattle.std.specs.Prelude.{◌≡◌, ◌++◌, ◌∷◌, [], ◌+◌, ◌<◌, ◌≤◌, IfOk, OnOk, length, IsTrue, None};
-ghost use Rattle.txn_run.specs.Posting.{position, IsPosted, askers_of};
+ghost use Rattle.txn_run.specs.Posting.{position, IsPosted, askers_of, out_at, out_tickets, outs_at};
 
 use std::alloc::Global;
 use txn_kv::{Items, NoMemory, Request, Target, Ticket};
@@ -61,6 +61,36 @@ impl Post {
                 .get(ticket.number as usize - 1)
                 .copied(),
         }
+    }
+
+    /// The ticket of the request at a place, where it is out.
+    fn out_at(&self, place: usize) -> Option<Ticket>
+        ensures { result ≡ out_at self.now.sent.items self.now.letters.items place }
+    {
+        match (self.sent.get(place), self.letters.get(place)) {
+            (Some(note), Some(letter)) if !letter.gone => Some(note.ticket),
+            _ => None,
+        }
+    }
+
+    /// Notes the ticket of the request at a place, where it is out.
+    fn push_out(&self, outs: &mut Vec<Ticket>, place: usize) -> Result<(), NoMemory>
+        ensures { OnOk result (outs.new.items ≡ outs.old.items ++ out_tickets self.now.sent.items self.now.letters.items place) }
+    {
+        if let Some(ticket) = self.out_at(place) {
+            outs.push(ticket)?;
+        }
+        Ok(())
+    }
+
+    /// Notes the tickets of the requests at these places that are out.
+    pub fn push_outs(&self, outs: &mut Vec<Ticket>, places: &[usize]) -> Result<(), NoMemory>
+        ensures { OnOk result (outs.new.items ≡ outs.old.items ++ outs_at self.now.sent.items self.now.letters.items places.now) }
+    {
+        for place in places {
+            self.push_out(outs, *place)?;
+        }
+        Ok(())
     }
 
     /// Room for the tickets of one line more.

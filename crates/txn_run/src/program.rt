@@ -68,13 +68,12 @@ impl End {
 }
 
 /// Runs lines, none of which is bad after the earlier ones.
-fn run_lines(alloc: Global, mut lines: Vec<Line>) -> Result<Report, NoMemory>
+fn run_lines(alloc: Global, lines: Vec<Line>) -> Result<Report, NoMemory>
     requires { AllGood [] lines.items }
     ensures { IfOk result (λ report. Lawful lines.items report) }
 {
     let mut machine = Machine::new(alloc)?;
-    lines.reverse();
-    while let Some(line) = lines.pop() {
+    for line in lines {
         machine.step(line)?;
     }
     Ok(machine.report())

@@ -15,7 +15,7 @@ returns-clause-reply c =
 pub returns-clause-lists : goal.returns-clause-lists
 returns-clause-lists c =
     let m = c.args.self.now in
-    let stored : c.serve.new.store ≡ (table m.store (request_at m.post.sent.items c.args.place)).store =
+    let stored : c.serve.new.self ≡ (table m.store (request_at m.post.sent.items c.args.place)).store =
     c.in_ok-reply.ensures.store ∙ ap (λ r. (table m.store r).store) (sym (request_here m.post.sent.items c.args.place c.index.result.now c.requires.sent c.index.ensures)) in
     let served : c.push.new.self.items ≡ m.served.items ++ c.args.ticket ∷ [] = c.in_ok-push.ensures.items in
     λ i. record {
