@@ -1,7 +1,5 @@
 -- A delivery leaves the lists where the history of the lines says.
-use Rattle.std.proofs.Common.{◌≡◌, ◌≢◌, ℕ, zero, suc, ◌+◌, ◌-◌, ◌^◌, ◌<◌, ◌≤◌, ◌⊎◌, inl, inr, Bool, true, false, not, ◌&&◌, ◌||◌, if◌then◌else◌, List, [], ◌∷◌, ◌++◌, Option, Some, None, length, get_or, set, slice_get, is_some, nat_eq, nat_le, nat_lt, refl, sym, ap, ◌∙◌, subst, subst₂, arith, length-append, length-set}
-use Rattle.std.proofs.lemmas.Bool.Decides.{nat_tests}
-use Rattle.txn_kv.specs.declared.errors.Error.TheVariants.{OperationAfterCommitError}
+use Rattle.std.proofs.Common.{◌≡◌, ◌≢◌, ℕ, zero, suc, ◌+◌, ◌-◌, ◌^◌, ◌<◌, ◌≤◌, inl, inr, Bool, true, false, not, ◌&&◌, if◌then◌else◌, List, [], ◌∷◌, ◌++◌, Option, Some, None, length, set, slice_get, is_some, refl, sym, ap, ◌∙◌, subst, subst₂, arith, length-append}
 use Rattle.txn_kv.specs.declared.request.Request.{Request}
 use Rattle.txn_kv.specs.declared.reply.Reply.{Reply}
 use Rattle.txn_kv.specs.declared.ticket.Ticket.{Ticket}
@@ -11,57 +9,46 @@ use Rattle.txn_history.specs.Event.{Event, sent_request, taken_reply, is_out, is
 use Rattle.txn_history.specs.Event.Event.{Sent, Served, Took}
 use Rattle.txn_script.specs.Lines.{line_at, why_after}
 use Rattle.txn_script.specs.declared.line.Line.{Line}
-use Rattle.txn_script.specs.declared.line.Line.TheVariants.{Blank, Client, Begin, Put, Commit, Deliver}
+use Rattle.txn_script.specs.declared.line.Line.TheVariants.{Begin, Commit, Deliver}
 use Rattle.txn_report.specs.declared.outcome.Outcome.{Outcome}
-use Rattle.txn_report.specs.declared.outcome.Outcome.TheVariants.{Ok, Err, Unfinished, Done, Skipped}
-use Rattle.txn_report.specs.declared.outcome.Payload.TheVariants.{Unit as Nothing, Number, Commit as Committed_at}
+use Rattle.txn_report.specs.declared.outcome.Outcome.TheVariants.{Ok, Unfinished, Done, Skipped}
+use Rattle.txn_report.specs.declared.outcome.Payload.TheVariants.{Number, Commit as Committed_at}
 use Rattle.txn_report.specs.declared.report.SentNote.{SentNote}
 use Rattle.txn_run.specs.declared.transaction.Transaction.{Transaction}
 use Rattle.txn_run.specs.declared.transaction.Put.{Put as Write}
-use Rattle.txn_run.specs.declared.transaction.CommitCall.{CommitCall}
 use Rattle.txn_run.specs.declared.transaction.Stage.TheVariants.{FindingRegion}
-use Rattle.txn_run.specs.declared.transaction.Status.{Status}
-use Rattle.txn_run.specs.declared.transaction.Status.TheVariants.{Active, StartedCommit, Committed}
+use Rattle.txn_run.specs.declared.transaction.Status.TheVariants.{Active, Committed}
 use Rattle.txn_run.specs.declared.machine.Row.{Row}
 use Rattle.txn_run.specs.declared.machine.Row.TheVariants.{Plain, Beginning, Running, Committing}
-use Rattle.txn_run.specs.Commit.{Step, started, ends, sends, at_stage}
-use Rattle.txn_run.specs.Standing.{free_status}
+use Rattle.txn_run.specs.Commit.{Step, ends, sends, at_stage}
 use Rattle.txn_run.specs.Posting.{position, ticket_after, note_of}
-use Rattle.txn_run.specs.Lists.{Lists, opened, row_at, row_set, sent_more, ask_one, begins, standing_in, written, written_in, puts_by, puts, commit_starts, commit_begun, commits_by, commits, followed, ended_at}
-use Rattle.txn_run.specs.Script.{outcome_of, is_done, history}
-use Rattle.txn_run.specs.Causes.{is_ok, is_unfinished, is_call_of, is_busy, is_free, allows_write, allows_commit, status_of, writes_of, has_some, WritesWith, CommitsWith, HasCause}
-use Rattle.txn_run.specs.Rowed.{CommitFits, CallFits, RunningFits, BeginningFits, Rowed, IsBegun, writes_in, Fits, asked_at}
+use Rattle.txn_run.specs.Lists.{Lists, opened, row_at, row_set, sent_more, ask_one, followed, ended_at}
+use Rattle.txn_run.specs.Script.{outcome_of}
+use Rattle.txn_run.specs.Causes.{HasCause}
+use Rattle.txn_run.specs.Rowed.{CommitFits, CallFits, RunningFits, Fits, asked_at}
 use Rattle.txn_run.specs.Stands.{request_in, MailFits, StandsAt}
-use Rattle.txn_run.proofs.Lists.{get_old, get_last}
+use Rattle.txn_run.proofs.Lists.{get_old}
 use Rattle.std.proofs.lemmas.Option.{slice_get-get_or}
-use Rattle.txn_run.proofs.Mails.{IsQuiet, mail_opened, mail_ended, mail_sent, position_old}
+use Rattle.txn_run.proofs.Mails.{mail_ended, mail_sent}
 use Rattle.txn_run.proofs.Lists.{position_fresh}
 use Rattle.txn_run.proofs.Histories.{outcome_old}
-use Rattle.txn_run.proofs.Lines.{outcome_other, put_named, commit_named, line_within, not_busy, busy_at}
-use Rattle.txn_run.proofs.Opens.{Leaves, IsQuietLine, last_outcome, old_row, status_old, status_err, status_skip, leaves_commit, leaves_put}
-use Rattle.txn_run.proofs.Steps.{fits_quiet, fits_begun}
-use Rattle.txn_run.proofs.Calls.{fits_put}
-use Rattle.txn_run.proofs.Commits.{fits_commit_none, fits_commit_sent}
+use Rattle.txn_run.proofs.Lines.{outcome_other, line_within}
+use Rattle.txn_run.proofs.Opens.{IsQuietLine, last_outcome, old_row}
 use Rattle.txn_run.proofs.Extends.{Extends, extends_open, extends_send, extends_then, close, asks_push}
-
 use Rattle.txn_kv.specs.declared.reply.Reply.TheVariants.{Prewrite as Prewrote, Commit as Committed_reply, GetRegion as Got_region, GetStore as Got_store, Tso as Gave}
-use Rattle.txn_kv.specs.declared.request.Request.TheVariants.{GetRegion, GetStore}
 use Rattle.txn_kv.specs.declared.ticket.Target.TheVariants.{Store as To_store}
-use Rattle.txn_kv.specs.declared.message.StoreMeta.{StoreMeta}
 use Rattle.txn_kv.specs.Timestamp.{timestamp_of}
-use Rattle.txn_model.specs.declared.cell.Cell.{Cell}
 use Rattle.txn_model.specs.Store.{Store}
 use Rattle.txn_model.specs.Table.{table}
 use Rattle.txn_model.specs.Placement.{store_with_id, region_record, leader_of}
 use Rattle.txn_run.specs.declared.post.Letter.{Letter}
-use Rattle.txn_run.specs.declared.transaction.Place.{Place}
 use Rattle.txn_run.specs.declared.transaction.Stage.{Stage}
 use Rattle.txn_run.specs.declared.transaction.Stage.TheVariants.{FindingStore, Prewriting, Stamping, Committing as Stage_committing}
-use Rattle.txn_run.specs.Commit.{turned, stage_turned, version_in, prewrite_of, commit_of, stamped, found_store}
+use Rattle.txn_run.specs.Commit.{turned, stage_turned, prewrite_of, commit_of, stamped, found_store}
 use Rattle.txn_run.specs.Lists.{AsksOne, request_at, handled, reply_at, start_in, begun, advanced, passed_in, passed, waits, delivers_at, delivers}
-use Rattle.txn_run.specs.Rowed.{BeginAwaits, CommitAwaits, CallCells, StageCells, Lone, first_region, here, locked_cells}
+use Rattle.txn_run.specs.Rowed.{BeginAwaits, CommitAwaits, CallCells, StageCells, first_region, here, locked_cells}
 use Rattle.txn_run.proofs.Lists.{get_within, get_some}
-use Rattle.txn_run.proofs.Mails.{mail_delivered, sent_at, request_at_is}
+use Rattle.txn_run.proofs.Mails.{mail_delivered, sent_at}
 use Rattle.txn_run.proofs.Replies.{version_back, tso_store, tso_reply, region_reply, prewrite_table, commit_table}
 use Rattle.txn_run.proofs.Deliveries.{fits_start, fits_sends, fits_ends}
 use Rattle.txn_run.proofs.Extends.{extends_set}
@@ -171,12 +158,12 @@ module _ (es : List Event) (l : Lists) (ls : List Line) (t : Ticket) (p : ℕ) (
       subst (λ z. StandsSo z (Deliver t ∷ ls)) (sym passes) (
         Took t (request_at l.sent p) (table l.store (request_at l.sent p)).reply ∷ Served t (request_at l.sent p) (table l.store (request_at l.sent p)).reply ∷ es,
         close es (Took t (request_at l.sent p) (table l.store (request_at l.sent p)).reply ∷ Served t (request_at l.sent p) (table l.store (request_at l.sent p)).reply ∷ es) l l2 (Deliver t) ls s
-        (extends_then ls l.sent l.sent l.sent l.outcomes l1.outcomes l2.outcomes l.ended l1.ended l2.ended opened_extends
-        (extends_set ls l.sent l1.outcomes l1.ended t.line (Begin h.client) (Ok (Number n)) ended_longer longer h.line (outcome_old l.outcomes Done t.line (let d = s.fits.told in omega arith) ∙ h.waits) refl (n, refl)))
-        (cause (outcome_of l2.outcomes (suc (length ls))) (outcome_other l1.outcomes t.line (suc (length ls)) (Ok (Number n)) a1 apart ∙ newest_done))
-        (mail_ended (Took t (request_at l.sent p) (table l.store (request_at l.sent p)).reply ∷ Served t (request_at l.sent p) (table l.store (request_at l.sent p)).reply ∷ es) (Deliver t ∷ ls) (table l.store (request_at l.sent p)).store l.sent (set l.letters p (record { served = true; gone = true })) (l.tickets ++ [] ∷ []) (l.outcomes ++ Done ∷ []) (l.served ++ t ∷ []) (t.line - 1) (Ok (Number n)) (vacant t.line a1 a2 h.waits) refl mail)
-        (subst (λ e. Fits (Took t (request_at l.sent p) (table l.store (request_at l.sent p)).reply ∷ Served t (request_at l.sent p) (table l.store (request_at l.sent p)).reply ∷ es) (Deliver t ∷ ls) (table l.store (request_at l.sent p)).store (set (l.rows ++ Plain ∷ []) (t.line - 1) (Running new)) (set (l.outcomes ++ Done ∷ []) (t.line - 1) (Ok (Number n))) (set (l.ended ++ e ∷ []) (t.line - 1) (length (l.outcomes ++ Done ∷ [])))) (sym (next_is (length l.outcomes))) fits')
-        s.asks,
+            (extends_then ls l.sent l.sent l.sent l.outcomes l1.outcomes l2.outcomes l.ended l1.ended l2.ended opened_extends
+            (extends_set ls l.sent l1.outcomes l1.ended t.line (Begin h.client) (Ok (Number n)) ended_longer longer h.line (outcome_old l.outcomes Done t.line (let d = s.fits.told in omega arith) ∙ h.waits) refl (n, refl)))
+            (cause (outcome_of l2.outcomes (suc (length ls))) (outcome_other l1.outcomes t.line (suc (length ls)) (Ok (Number n)) a1 apart ∙ newest_done))
+            (mail_ended (Took t (request_at l.sent p) (table l.store (request_at l.sent p)).reply ∷ Served t (request_at l.sent p) (table l.store (request_at l.sent p)).reply ∷ es) (Deliver t ∷ ls) (table l.store (request_at l.sent p)).store l.sent (set l.letters p (record { served = true; gone = true })) (l.tickets ++ [] ∷ []) (l.outcomes ++ Done ∷ []) (l.served ++ t ∷ []) (t.line - 1) (Ok (Number n)) (vacant t.line a1 a2 h.waits) refl mail)
+            (subst (λ e. Fits (Took t (request_at l.sent p) (table l.store (request_at l.sent p)).reply ∷ Served t (request_at l.sent p) (table l.store (request_at l.sent p)).reply ∷ es) (Deliver t ∷ ls) (table l.store (request_at l.sent p)).store (set (l.rows ++ Plain ∷ []) (t.line - 1) (Running new)) (set (l.outcomes ++ Done ∷ []) (t.line - 1) (Ok (Number n))) (set (l.ended ++ e ∷ []) (t.line - 1) (length (l.outcomes ++ Done ∷ [])))) (sym (next_is (length l.outcomes))) fits')
+            s.asks,
       )
 
   -- A commit is answered.
@@ -227,11 +214,11 @@ module _ (es : List Event) (l : Lists) (ls : List Line) (t : Ticket) (p : ℕ) (
         subst (λ z. StandsSo z (Deliver t ∷ ls)) (sym (passes (sends u to q) turn)) (
           Sent tk q ∷ Took t (request_at l.sent p) (table l.store (request_at l.sent p)).reply ∷ Served t (request_at l.sent p) (table l.store (request_at l.sent p)).reply ∷ es,
           close es (Sent tk q ∷ Took t (request_at l.sent p) (table l.store (request_at l.sent p)).reply ∷ Served t (request_at l.sent p) (table l.store (request_at l.sent p)).reply ∷ es) l l2 (Deliver t) ls s
-          (extends_then ls l.sent l.sent l2.sent l.outcomes l1.outcomes l2.outcomes l.ended l1.ended l2.ended opened_extends (extends_send ls l.sent l1.outcomes l1.ended (note_of l1.tickets t.line (length l1.outcomes) to q) longer))
-          (cause (outcome_of l2.outcomes (suc (length ls))) newest_done)
-          (mail_sent (Took t (request_at l.sent p) (table l.store (request_at l.sent p)).reply ∷ Served t (request_at l.sent p) (table l.store (request_at l.sent p)).reply ∷ es) (Deliver t) ls (table l.store (request_at l.sent p)).store l.sent (set l.letters p (record { served = true; gone = true })) (l.tickets ++ [] ∷ []) (l.outcomes ++ Done ∷ []) (l.served ++ t ∷ []) t.line to q a1 (omega arith) mail)
-          (subst (λ e. Fits (Sent tk q ∷ Took t (request_at l.sent p) (table l.store (request_at l.sent p)).reply ∷ Served t (request_at l.sent p) (table l.store (request_at l.sent p)).reply ∷ es) (Deliver t ∷ ls) (table l.store (request_at l.sent p)).store (set (l.rows ++ Plain ∷ []) (a.x - 1) (Running u)) (l.outcomes ++ Done ∷ []) (l.ended ++ e ∷ [])) (sym (next_is (length l.outcomes))) fits')
-          (asks_push l.sent (note_of l1.tickets t.line (length l1.outcomes) to q) s.asks (asked_one a.t.start a.put stage)),
+              (extends_then ls l.sent l.sent l2.sent l.outcomes l1.outcomes l2.outcomes l.ended l1.ended l2.ended opened_extends (extends_send ls l.sent l1.outcomes l1.ended (note_of l1.tickets t.line (length l1.outcomes) to q) longer))
+              (cause (outcome_of l2.outcomes (suc (length ls))) newest_done)
+              (mail_sent (Took t (request_at l.sent p) (table l.store (request_at l.sent p)).reply ∷ Served t (request_at l.sent p) (table l.store (request_at l.sent p)).reply ∷ es) (Deliver t) ls (table l.store (request_at l.sent p)).store l.sent (set l.letters p (record { served = true; gone = true })) (l.tickets ++ [] ∷ []) (l.outcomes ++ Done ∷ []) (l.served ++ t ∷ []) t.line to q a1 (omega arith) mail)
+              (subst (λ e. Fits (Sent tk q ∷ Took t (request_at l.sent p) (table l.store (request_at l.sent p)).reply ∷ Served t (request_at l.sent p) (table l.store (request_at l.sent p)).reply ∷ es) (Deliver t ∷ ls) (table l.store (request_at l.sent p)).store (set (l.rows ++ Plain ∷ []) (a.x - 1) (Running u)) (l.outcomes ++ Done ∷ []) (l.ended ++ e ∷ [])) (sym (next_is (length l.outcomes))) fits')
+              (asks_push l.sent (note_of l1.tickets t.line (length l1.outcomes) to q) s.asks (asked_one a.t.start a.put stage)),
         )
 
     -- it is over
@@ -255,12 +242,12 @@ module _ (es : List Event) (l : Lists) (ls : List Line) (t : Ticket) (p : ℕ) (
         subst (λ z. StandsSo z (Deliver t ∷ ls)) (sym (passes (ends (record a.t { status = Committed }) v) turn)) (
           es',
           close es (Took t (request_at l.sent p) (table l.store (request_at l.sent p)).reply ∷ Served t (request_at l.sent p) (table l.store (request_at l.sent p)).reply ∷ es) l l2 (Deliver t) ls s
-          (extends_then ls l.sent l.sent l.sent l.outcomes l1.outcomes l2.outcomes l.ended l1.ended l2.ended opened_extends
-          (extends_set ls l.sent l1.outcomes l1.ended t.line (Commit a.x) v ended_longer longer line_is (outcome_old l.outcomes Done t.line (omega arith) ∙ waits_at) refl (c, refl)))
-          (cause (outcome_of l2.outcomes (suc (length ls))) (outcome_other l1.outcomes t.line (suc (length ls)) v a1 apart ∙ newest_done))
-          (mail_ended (Took t (request_at l.sent p) (table l.store (request_at l.sent p)).reply ∷ Served t (request_at l.sent p) (table l.store (request_at l.sent p)).reply ∷ es) (Deliver t ∷ ls) (table l.store (request_at l.sent p)).store l.sent (set l.letters p (record { served = true; gone = true })) (l.tickets ++ [] ∷ []) (l.outcomes ++ Done ∷ []) (l.served ++ t ∷ []) (t.line - 1) v (vacant t.line a1 a2 waits_at) refl mail)
-          (subst₂ (λ e n. Fits (Took t (request_at l.sent p) (table l.store (request_at l.sent p)).reply ∷ Served t (request_at l.sent p) (table l.store (request_at l.sent p)).reply ∷ es) (Deliver t ∷ ls) (table l.store (request_at l.sent p)).store (set (l.rows ++ Plain ∷ []) (a.x - 1) (Running u)) (set (l.outcomes ++ Done ∷ []) (n - 1) (Ok (Committed_at (Some c)))) (set (l.ended ++ e ∷ []) (n - 1) (length (l.outcomes ++ Done ∷ [])))) (sym (next_is (length l.outcomes))) a.own fits')
-          s.asks,
+              (extends_then ls l.sent l.sent l.sent l.outcomes l1.outcomes l2.outcomes l.ended l1.ended l2.ended opened_extends
+              (extends_set ls l.sent l1.outcomes l1.ended t.line (Commit a.x) v ended_longer longer line_is (outcome_old l.outcomes Done t.line (omega arith) ∙ waits_at) refl (c, refl)))
+              (cause (outcome_of l2.outcomes (suc (length ls))) (outcome_other l1.outcomes t.line (suc (length ls)) v a1 apart ∙ newest_done))
+              (mail_ended (Took t (request_at l.sent p) (table l.store (request_at l.sent p)).reply ∷ Served t (request_at l.sent p) (table l.store (request_at l.sent p)).reply ∷ es) (Deliver t ∷ ls) (table l.store (request_at l.sent p)).store l.sent (set l.letters p (record { served = true; gone = true })) (l.tickets ++ [] ∷ []) (l.outcomes ++ Done ∷ []) (l.served ++ t ∷ []) (t.line - 1) v (vacant t.line a1 a2 waits_at) refl mail)
+              (subst₂ (λ e n. Fits (Took t (request_at l.sent p) (table l.store (request_at l.sent p)).reply ∷ Served t (request_at l.sent p) (table l.store (request_at l.sent p)).reply ∷ es) (Deliver t ∷ ls) (table l.store (request_at l.sent p)).store (set (l.rows ++ Plain ∷ []) (a.x - 1) (Running u)) (set (l.outcomes ++ Done ∷ []) (n - 1) (Ok (Committed_at (Some c)))) (set (l.ended ++ e ∷ []) (n - 1) (length (l.outcomes ++ Done ∷ [])))) (sym (next_is (length l.outcomes))) a.own fits')
+              s.asks,
         )
 
     commit_answered : StandsSo (passed (handled (opened l Plain Done (length l.outcomes + 1)) p t) t.line (reply_at l p)) (Deliver t ∷ ls)

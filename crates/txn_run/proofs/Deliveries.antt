@@ -1,39 +1,33 @@
 -- What the delivery of a reply makes of the row of the transaction, of what is out, and of the outcomes.
-use Rattle.std.proofs.Common.{◌≡◌, ◌≢◌, ℕ, zero, suc, ◌+◌, ◌-◌, ◌<◌, ◌≤◌, ◌⊎◌, inl, inr, Bool, true, false, not, ◌&&◌, ◌||◌, if◌then◌else◌, List, [], ◌∷◌, ◌++◌, Option, Some, None, length, get_or, set, slice_get, is_some, nat_eq, nat_le, nat_lt, refl, sym, ap, ◌∙◌, subst, subst₂, arith, length-append, length-set}
+use Rattle.std.proofs.Common.{◌≡◌, ◌≢◌, ℕ, suc, ◌-◌, ◌≤◌, inl, inr, Bool, true, false, List, [], ◌∷◌, ◌++◌, Option, Some, None, length, set, is_some, nat_eq, refl, sym, ap, ◌∙◌, subst, arith, length-append, length-set}
 use Rattle.std.proofs.lemmas.Bool.Decides.{nat_tests}
 use Rattle.txn_kv.specs.declared.request.Request.{Request}
 use Rattle.txn_kv.specs.declared.reply.Reply.{Reply}
 use Rattle.txn_kv.specs.declared.ticket.Ticket.{Ticket}
-use Rattle.txn_history.specs.Event.{Event, same_ticket, sent_request, taken_reply, is_out}
+use Rattle.txn_history.specs.Event.{Event, sent_request, taken_reply, is_out}
 use Rattle.txn_history.specs.Event.Event.{Sent, Served, Took}
-use Rattle.txn_model.specs.declared.cell.Cell.{Cell}
-use Rattle.txn_model.specs.Store.{Store, opening}
+use Rattle.txn_model.specs.Store.{Store}
 use Rattle.txn_script.specs.Lines.{line_at, why_after}
 use Rattle.txn_script.specs.declared.line.Line.{Line}
-use Rattle.txn_script.specs.declared.line.Line.TheVariants.{Blank, Client, Begin, Put, Commit, Deliver}
+use Rattle.txn_script.specs.declared.line.Line.TheVariants.{Begin, Put, Commit, Deliver}
 use Rattle.txn_report.specs.declared.outcome.Outcome.{Outcome}
-use Rattle.txn_report.specs.declared.outcome.Outcome.TheVariants.{Ok, Err, Unfinished, Done, Skipped}
-use Rattle.txn_report.specs.declared.outcome.Payload.TheVariants.{Unit as Nothing, Number, Commit as Committed_at}
+use Rattle.txn_report.specs.declared.outcome.Outcome.TheVariants.{Ok, Done}
+use Rattle.txn_report.specs.declared.outcome.Payload.TheVariants.{Number, Commit as Committed_at}
 use Rattle.txn_run.specs.declared.transaction.Transaction.{Transaction}
-use Rattle.txn_run.specs.declared.transaction.Put.{Put as Write}
 use Rattle.txn_run.specs.declared.transaction.CommitCall.{CommitCall}
 use Rattle.txn_run.specs.declared.transaction.Stage.{Stage}
-use Rattle.txn_run.specs.declared.transaction.Stage.TheVariants.{FindingRegion}
-use Rattle.txn_run.specs.declared.transaction.Status.{Status}
-use Rattle.txn_run.specs.declared.transaction.Status.TheVariants.{Active, StartedCommit, Committed}
+use Rattle.txn_run.specs.declared.transaction.Status.TheVariants.{Active, Committed}
 use Rattle.txn_run.specs.declared.machine.Row.{Row}
 use Rattle.txn_run.specs.declared.machine.Row.TheVariants.{Plain, Beginning, Running, Committing}
 use Rattle.txn_run.specs.Commit.{at_stage}
-use Rattle.txn_run.specs.Lists.{row_at, ask_one}
+use Rattle.txn_run.specs.Lists.{row_at}
 use Rattle.txn_run.specs.Script.{outcome_of}
-use Rattle.txn_run.specs.Causes.{Written, is_ok, is_unfinished, is_skipped, is_commit_at, is_call_of, status_of, status_after, writes_of, with_write, OwnIsOut, allows_commit, allows_write}
-use Rattle.txn_run.specs.Rowed.{AreGood, writes_in, IsIdleBut, CommitFits, CallFits, RunningFits, BeginningFits, RowFits, IsBegun, Rowed, BeginAwaits, CommitAwaits, Awaited, asked_at, CallCells, StageCells, Lone, Times, Fits}
+use Rattle.txn_run.specs.Causes.{is_unfinished, is_skipped, is_commit_at, is_call_of}
+use Rattle.txn_run.specs.Rowed.{AreGood, CommitFits, CallFits, RunningFits, BeginningFits, Rowed, BeginAwaits, CommitAwaits, asked_at, CallCells, StageCells, Lone, Times, Fits}
 use Rattle.txn_run.proofs.Knowns.{times_open, times_set}
-use Rattle.txn_run.proofs.Lines.{line_new, line_old, line_within, line_cases, row_new, row_old, row_cases, row_within, row_same, row_other, row_put, outcome_same, outcome_other, good_few, good_second, one_begin, no_begin, status_same, writes_same, no_writes, status_ended}
-use Rattle.txn_run.proofs.Opens.{Leaves, IsQuietLine, old_outcome, old_row, old_line, status_old, writes_old, idle_old, running_old, beginning_old, last_outcome, last_row, rowed_quiet, awaited_quiet, lone_opened}
-use Rattle.txn_run.proofs.Ones.{good_commit, good_put, status_none, writes_none, OtherRow, others_old, rowed_one, NoneOut, no_begin_none_out, idle_none_out, none_unfinished, awaited_none, sent_is, sent_out, awaited_sent, taken_none_out}
-
-use Rattle.txn_run.proofs.Calls.{lone_set, others_set}
+use Rattle.txn_run.proofs.Lines.{line_within, row_same, row_other, row_put, outcome_same, outcome_other, good_few, one_begin, status_same, writes_same, status_ended}
+use Rattle.txn_run.proofs.Opens.{IsQuietLine, old_outcome, old_row, last_outcome, rowed_quiet}
+use Rattle.txn_run.proofs.Ones.{OtherRow, others_old, rowed_one, NoneOut, awaited_none, sent_is, awaited_sent, taken_none_out}
 
 same_running : (t u : Transaction) → ◌≡◌ {A = Option Row} (Some (Running t)) (Some (Running u)) → t ≡ u
 same_running t u e = cc
@@ -141,8 +135,8 @@ module _ (es : List Event) (t : Ticket) (r : Request) (o : Reply) (ls : List Lin
           good = good_more;
           told = length-set (outs ++ Done ∷ []) (t.line - 1) (Ok (Number s)) ∙ told_more;
           rowed = rowed_one (Deliver t ∷ ls) (set (rows ++ Plain ∷ []) (t.line - 1) (Running (record { start = s; status = Active; put = None; call = None }))) (set (outs ++ Done ∷ []) (t.line - 1) (Ok (Number s))) t.line h.client (record { start = s; status = Active; put = None; call = None }) good_more
-          (length-set (rows ++ Plain ∷ []) (t.line - 1) (Running (record { start = s; status = Active; put = None; call = None })) ∙ opened.counted) h.line new_at new_fits
-          (λ n k apart e. others t.line h.client n k h.line apart (sym (row_other (rows ++ Plain ∷ []) t.line n (Running (record { start = s; status = Active; put = None; call = None })) within.0 apart) ∙ e));
+              (length-set (rows ++ Plain ∷ []) (t.line - 1) (Running (record { start = s; status = Active; put = None; call = None })) ∙ opened.counted) h.line new_at new_fits
+              (λ n k apart e. others t.line h.client n k h.line apart (sym (row_other (rows ++ Plain ∷ []) t.line n (Running (record { start = s; status = Active; put = None; call = None })) within.0 apart) ∙ e));
           awaited = awaited_none (Took t r o ∷ Served t r o ∷ es) (Deliver t ∷ ls) (set (rows ++ Plain ∷ []) (t.line - 1) (Running (record { start = s; status = Active; put = None; call = None }))) (set (outs ++ Done ∷ []) (t.line - 1) (Ok (Number s))) none (λ n first last e. over n first last e (nat_eq n t.line) refl);
           lone = record {
             regions = regions ∙ f.lone.regions;

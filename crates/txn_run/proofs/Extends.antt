@@ -1,5 +1,5 @@
 -- What is said of the lines before stays true while a line is run.
-use Rattle.std.proofs.Common.{◌≡◌, ◌≢◌, ℕ, zero, suc, ◌+◌, ◌-◌, ◌<◌, ◌≤◌, ◌⊎◌, inl, inr, Bool, true, false, not, ◌&&◌, ◌||◌, if◌then◌else◌, List, [], ◌∷◌, ◌++◌, Option, Some, None, length, get_or, set, slice_get, is_some, nat_eq, nat_lt, refl, sym, ap, ◌∙◌, subst, subst₂, arith, length-append, length-set}
+use Rattle.std.proofs.Common.{◌≡◌, ◌≢◌, ℕ, zero, suc, ◌+◌, ◌-◌, ◌<◌, ◌≤◌, ◌⊎◌, inl, Bool, true, false, if◌then◌else◌, List, [], ◌∷◌, ◌++◌, Some, length, set, slice_get, nat_eq, refl, sym, ap, ◌∙◌, subst, subst₂, arith}
 use Rattle.std.proofs.lemmas.Bool.Decides.{nat_tests}
 use Rattle.std.proofs.lemmas.Option.{slice_get-get_or}
 use Rattle.txn_kv.specs.declared.ticket.Ticket.{Ticket}
@@ -11,11 +11,10 @@ use Rattle.txn_report.specs.declared.outcome.Outcome.{Outcome}
 use Rattle.txn_report.specs.declared.outcome.Outcome.TheVariants.{Unfinished}
 use Rattle.txn_report.specs.declared.report.SentNote.{SentNote}
 use Rattle.txn_run.specs.Script.{outcome_of, is_done, find, with_sends, history, known}
-use Rattle.txn_run.specs.Causes.{is_unfinished, HasCause, Causes, IsDue, Dues}
+use Rattle.txn_run.specs.Causes.{HasCause, IsDue}
 use Rattle.txn_run.specs.Lists.{Lists, AllAskOne, AsksOne}
-use Rattle.txn_run.specs.Rowed.{Times, Awaited, Fits}
-use Rattle.txn_run.specs.Stands.{AllBefore, MailFits, StandsAt}
-use Rattle.txn_run.proofs.Lists.{or_last}
+use Rattle.txn_run.specs.Rowed.{Fits}
+use Rattle.txn_run.specs.Stands.{MailFits, StandsAt}
 use Rattle.txn_run.proofs.Histories.{outcome_old, flag_set, find_push, sends_push, history_same}
 use Rattle.txn_run.proofs.Knowns.{known_open, known_set, known_now, causes_same, dues_same, Answers, cause_answers}
 use Rattle.txn_run.proofs.Lines.{line_within, outcome_other, outcome_same}
@@ -42,9 +41,9 @@ extends_send ls sent outs ended s at = record {
   flags = λ j h. refl;
   finds = λ j h t. sym (find_push sent s j t (omega arith));
   sends = λ j h es. sym (
-    let apart : nat_eq s.at j ≡ false = grind (arith, nat_tests) in
-    sends_push sent s j es ∙ ap (λ (b : Bool). if b then Sent s.ticket s.request ∷ with_sends sent j es else with_sends sent j es) apart
-  );
+      let apart : nat_eq s.at j ≡ false = grind (arith, nat_tests) in
+      sends_push sent s j es ∙ ap (λ (b : Bool). if b then Sent s.ticket s.request ∷ with_sends sent j es else with_sends sent j es) apart
+      );
   knowns = λ n h i. refl;
   moves = λ n l seen before es e h. h;
 }

@@ -1,5 +1,5 @@
 -- What was known before a line stays so, and with it the causes of outcomes and what is due.
-use Rattle.std.proofs.Common.{◌≡◌, ◌≢◌, ℕ, zero, suc, ◌+◌, ◌-◌, ◌<◌, ◌≤◌, ◌⊎◌, inl, inr, Bool, true, false, not, ◌&&◌, ◌||◌, if◌then◌else◌, List, [], ◌∷◌, ◌++◌, Option, Some, None, length, get_or, set, slice_get, is_some, nat_eq, nat_lt, refl, sym, ap, ◌∙◌, subst, subst₂, arith, length-append, length-set}
+use Rattle.std.proofs.Common.{◌≡◌, ◌≢◌, ℕ, zero, suc, ◌+◌, ◌<◌, ◌≤◌, ◌⊎◌, inl, inr, Bool, true, false, ◌&&◌, if◌then◌else◌, List, [], ◌∷◌, ◌++◌, Some, length, get_or, set, slice_get, nat_eq, nat_lt, refl, sym, ap, ◌∙◌, subst, subst₂, arith, length-append, length-set}
 use Rattle.std.proofs.lemmas.Bool.Decides.{nat_tests}
 use Rattle.txn_kv.specs.declared.ticket.Ticket.{Ticket}
 use Rattle.txn_history.specs.Event.{Event}
@@ -7,13 +7,13 @@ use Rattle.txn_script.specs.Lines.{line_at}
 use Rattle.txn_script.specs.declared.line.Line.{Line}
 use Rattle.txn_script.specs.declared.line.Line.TheVariants.{Blank, Client, Begin, Put, Commit, Deliver}
 use Rattle.txn_report.specs.declared.outcome.Outcome.{Outcome}
-use Rattle.txn_report.specs.declared.outcome.Outcome.TheVariants.{Ok, Err, Unfinished, Done, Skipped}
+use Rattle.txn_report.specs.declared.outcome.Outcome.TheVariants.{Ok, Unfinished}
 use Rattle.txn_report.specs.declared.outcome.Payload.TheVariants.{Number, Commit as Committed_at}
 use Rattle.txn_report.specs.declared.report.SentNote.{SentNote}
 use Rattle.txn_run.specs.Script.{outcome_of, is_done, find, with_sends, history, known, known_of}
-use Rattle.txn_run.specs.Causes.{is_unfinished, is_free, allows_write, allows_commit, status_of, writes_of, has_some, BeginsWith, WritesWith, CommitsWith, HasCause, Causes, IsDue, Dues}
+use Rattle.txn_run.specs.Causes.{is_unfinished, is_free, allows_commit, status_of, writes_of, has_some, CommitsWith, HasCause, Causes, IsDue, Dues}
 use Rattle.txn_run.specs.Rowed.{Times}
-use Rattle.txn_run.proofs.Lists.{or_pushed, or_past, or_last, or_same, or_other, get_is_or, get_within, get_some}
+use Rattle.txn_run.proofs.Lists.{or_pushed, or_past, or_last, or_same, or_other, get_is_or, get_within}
 use Rattle.txn_run.proofs.Histories.{history_same}
 use Rattle.txn_run.proofs.Lines.{line_new, line_old, line_within}
 
@@ -255,8 +255,7 @@ causes_same sent sent' outs outs' ended ended' (l ∷ ls) a b c d e k =
     let n : ℕ = suc (length ls) in
     let seen : known outs ended (suc (length ls)) ≡ known outs' ended' (suc (length ls)) = λ i j. d (suc (length ls)) (omega arith) j i in
     let h : history sent outs ls ≡ history sent' outs' ls = history_same sent sent' outs outs' ls (λ j m. a j (omega arith)) (λ j m. b j (omega arith)) (λ j m. c j (omega arith)) in
-    let moved = e (suc (length ls)) l (known outs ended (suc (length ls))) ls (history sent outs ls) (line_new l ls) k.0 in
-    (
+    let moved = e (suc (length ls)) l (known outs ended (suc (length ls))) ls (history sent outs ls) (line_new l ls) k.0 in (
       subst₂ (λ s es. HasCause s ls es l (outcome_of outs' (suc (length ls)))) seen h moved,
       causes_same sent sent' outs outs' ended ended' ls (λ j m. a j (omega arith)) (λ j m. b j (omega arith)) (λ j m. c j (omega arith)) (λ j m. d j (omega arith)) (λ j q s bs es m. e j q s bs es (line_old l ls j (λ z. let w = line_within ls j q m in let y = w.1 in omega arith) ∙ m)) k.1,
     )
@@ -271,8 +270,7 @@ dues_same sent sent' outs outs' ended ended' [] a b c d k = tt
 dues_same sent sent' outs outs' ended ended' (l ∷ ls) a b c d k =
     let more : suc (length ls) + 1 ≤ suc (suc (length ls)) = omega arith in
     let seen : known outs ended (suc (length ls) + 1) ≡ known outs' ended' (suc (length ls) + 1) = λ i j. d (suc (length ls) + 1) more j i in
-    let h : history sent outs (l ∷ ls) ≡ history sent' outs' (l ∷ ls) = history_same sent sent' outs outs' (l ∷ ls) a b c in
-    (
+    let h : history sent outs (l ∷ ls) ≡ history sent' outs' (l ∷ ls) = history_same sent sent' outs outs' (l ∷ ls) a b c in (
       subst₂ (λ s es. IsDue s (l ∷ ls) es) seen h k.0,
       dues_same sent sent' outs outs' ended ended' ls (λ j m. a j (omega arith)) (λ j m. b j (omega arith)) (λ j m. c j (omega arith)) (λ j m. d j (omega arith)) k.1,
     )

@@ -14,5 +14,7 @@ pub mod Deliveries
 pub mod Extends
 pub mod Stepped
 pub mod Delivered
+pub mod Comes
+pub mod Posts
 pub mod Machines
 pub mod Programs

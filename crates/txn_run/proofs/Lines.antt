@@ -1,23 +1,21 @@
 -- Lines and rows by their numbers, and what is folded over them.
-use Rattle.std.proofs.Common.{◌≡◌, ◌≢◌, ℕ, zero, suc, ◌+◌, ◌-◌, ◌<◌, ◌≤◌, ◌⊎◌, inl, inr, Bool, true, false, not, ◌&&◌, ◌||◌, if◌then◌else◌, List, [], ◌∷◌, ◌++◌, Option, Some, None, length, get_or, set, slice_get, is_some, nat_eq, nat_le, nat_lt, refl, sym, ap, ◌∙◌, subst, subst₂, arith, length-append, length-set}
+use Rattle.std.proofs.Common.{◌≡◌, ◌≢◌, ℕ, zero, suc, ◌+◌, ◌-◌, ◌<◌, ◌≤◌, ◌⊎◌, inl, inr, Bool, true, false, ◌&&◌, ◌||◌, if◌then◌else◌, List, [], ◌∷◌, ◌++◌, Option, Some, None, length, get_or, set, slice_get, nat_eq, nat_le, refl, sym, ap, ◌∙◌, subst, subst₂, arith}
 use Rattle.std.proofs.lemmas.Bool.Decides.{nat_tests}
-use Rattle.txn_script.specs.Lines.{line_at, max_lines, is_client, is_begin, is_put, any_line, is_second, is_some_line, why_named, why_names, why_after}
+use Rattle.txn_script.specs.Lines.{line_at, max_lines, is_begin, is_put, any_line, is_second, is_some_line, why_named, why_names, why_after}
 use Rattle.txn_script.specs.declared.line.Line.{Line}
 use Rattle.txn_script.specs.declared.line.Line.TheVariants.{Blank, Client, Begin, Put, Commit, Deliver}
 use Rattle.txn_script.specs.declared.script.Why.{Why}
 use Rattle.txn_script.specs.declared.script.Why.TheVariants.{TooMany, Word, NotEarlier, Kind}
 use Rattle.txn_report.specs.declared.outcome.Outcome.{Outcome}
-use Rattle.txn_report.specs.declared.outcome.Outcome.TheVariants.{Ok, Err, Unfinished, Done, Skipped}
-use Rattle.txn_run.specs.declared.transaction.Transaction.{Transaction}
+use Rattle.txn_report.specs.declared.outcome.Outcome.TheVariants.{Unfinished, Skipped}
 use Rattle.txn_run.specs.declared.transaction.Status.{Status}
 use Rattle.txn_run.specs.declared.transaction.Status.TheVariants.{Active, StartedCommit, Committed}
 use Rattle.txn_run.specs.declared.machine.Row.{Row}
-use Rattle.txn_run.specs.declared.machine.Row.TheVariants.{Plain, Beginning, Running, Committing}
 use Rattle.txn_run.specs.Lists.{row_at}
 use Rattle.txn_run.specs.Script.{outcome_of}
-use Rattle.txn_run.specs.Causes.{Written, is_ok, is_unfinished, is_skipped, is_commit_at, is_call_of, is_busy, is_free, status_of, status_after, allows_commit, writes_of, with_write, has_some}
+use Rattle.txn_run.specs.Causes.{is_unfinished, is_skipped, is_commit_at, is_call_of, is_busy, status_of, status_after, writes_of}
 use Rattle.txn_run.specs.Rowed.{AreGood}
-use Rattle.txn_run.proofs.Lists.{get_old, get_last, get_pushed, get_below, get_same, get_other, get_put, get_within, or_pushed, or_last, or_same, or_other}
+use Rattle.txn_run.proofs.Lists.{get_last, get_same, get_other, get_within, or_same, or_other}
 
 pub and_left : (a b : Bool) → a && b ≡ true → a ≡ true
 and_left true b e = refl

@@ -1,15 +1,15 @@
 -- From the lists to the machine.
-use Rattle.std.proofs.Common.{◌≡◌, ◌≢◌, ℕ, zero, suc, ◌+◌, ◌-◌, ◌<◌, ◌≤◌, ◌⊎◌, inl, inr, Bool, true, false, not, ◌&&◌, if◌then◌else◌, List, [], ◌∷◌, ◌++◌, Option, Some, None, length, get_or, set, slice_get, is_some, nat_eq, nat_lt, map, drop, reverse, refl, sym, ap, ◌∙◌, subst, subst₂, arith, append-nil, length-append, length-set, Vec, Global}
+use Rattle.std.proofs.Common.{◌≡◌, ℕ, zero, suc, ◌+◌, ◌-◌, ◌<◌, ◌≤◌, Bool, true, false, if◌then◌else◌, List, [], ◌∷◌, ◌++◌, Option, Some, None, length, get_or, slice_get, nat_eq, map, drop, reverse, refl, sym, ap, ◌∙◌, subst, subst₂, arith, append-nil, length-append, length-set, Vec, Global}
 use Rattle.std.specs.Prelude.{vec_len}
 use Rattle.std.proofs.lemmas.List.{reverse-reverse, length-reverse, reverse-append, append_assoc}
 use Rattle.std.proofs.lemmas.Bool.Decides.{nat_tests}
 use Rattle.txn_kv.specs.declared.ticket.Ticket.{Ticket}
 use Rattle.txn_kv.specs.declared.reply.Reply.{Reply}
-use Rattle.txn_history.specs.Event.{Event, is_out}
-use Rattle.txn_model.specs.Store.{Store, opening}
+use Rattle.txn_history.specs.Event.{Event}
+use Rattle.txn_model.specs.Store.{opening}
 use Rattle.txn_law.specs.Run.{store_after}
-use Rattle.txn_script.specs.Lines.{line_at, why_after}
-use Rattle.txn_script.specs.Kinds.{kind_of, kinds_of}
+use Rattle.txn_script.specs.Lines.{why_after}
+use Rattle.txn_script.specs.Kinds.{kinds_of}
 use Rattle.txn_script.specs.declared.line.Line.{Line}
 use Rattle.txn_script.specs.declared.line.Line.TheVariants.{Blank, Client, Begin, Put, Commit, Deliver}
 use Rattle.txn_report.specs.OutcomeView.{view_of_outcome}
@@ -28,19 +28,21 @@ use Rattle.txn_run.specs.declared.transaction.Status.TheVariants.{Active, Starte
 use Rattle.txn_run.specs.declared.transaction.Sending.{Sending}
 use Rattle.txn_run.specs.declared.transaction.Turn.{Turn}
 use Rattle.txn_run.specs.Posting.{position, places_of, place_in, note_of}
-use Rattle.txn_run.specs.Lists.{Lists, lists_of, opened, row_at, row_set, sent_more, sent_by, ended_at, ended_by, followed, next_of, ask_one, begins, standing_in, written_in, puts_by, puts, commit_starts, commit_begun, commits_by, commits, handled, reply_at, start_in, begun, advanced, passed_in, passed, waits, delivers_at, delivers, stepped, IsEven, IsSound}
+use Rattle.txn_run.specs.Lists.{Lists, lists_of, opened, row_at, row_set, sent_by, ended_by, followed, next_of, ask_one, standing_in, written_in, puts_by, commit_starts, commits_by, handled, reply_at, start_in, begun, advanced, passed_in, passed, waits, delivers_at, stepped, IsSound}
 use Rattle.txn_run.specs.Commit.{turned, started}
 use Rattle.txn_run.specs.Script.{outcome_of, history, served_tickets}
-use Rattle.txn_run.specs.Rowed.{Fits}
-use Rattle.txn_run.specs.Stands.{AllBefore, request_in, MailFits, StandsAt}
-use Rattle.txn_run.specs.StandsFor.{HasMemory, Standing, StandsFor, CanStep, tickets_at, delivered_line, ending_of, IsNote, IsNoteFrom}
+use Rattle.txn_run.specs.Rowed.{AllCame}
+use Rattle.txn_run.specs.Stands.{AllBefore, request_in, StandsAt}
+use Rattle.txn_run.specs.StandsFor.{HasMemory, IsMailOf, StandsFor, CanStep, tickets_at, delivered_line, ending_of, IsNote, IsNoteFrom}
 use Rattle.txn_run.specs.Causes.{Causes, Dues}
 use Rattle.txn_run.specs.Program.{AllGood}
-use Rattle.txn_run.specs.Lawful.{IsFoldOf, NamesEnds, Lawful}
+use Rattle.txn_run.specs.Lawful.{Lawful, IsMail}
 use Rattle.txn_run.proofs.Lines.{good_few}
-use Rattle.txn_run.proofs.Opens.{Leaves, IsQuietLine}
+use Rattle.txn_run.proofs.Opens.{IsQuietLine}
 use Rattle.txn_run.proofs.Stepped.{StandsSo, quiet_stands, next_is, begin_stands, put_stands, commit_stands}
 use Rattle.txn_run.proofs.Delivered.{deliver_stands}
+use Rattle.txn_run.proofs.Posts.{no_mail, stepped_posts, mail_stepped}
+use Rattle.txn_run.proofs.Comes.{Marks, stepped_marks, came_stepped}
 
 -- No lines.
 
@@ -101,6 +103,8 @@ pub new_stands : (m : Machine) → m.store ≡ opening → m.post.sent.items ≡
 new_stands m store sent letters tickets rows outcomes ended served kinds = record {
   stands = λ h. record {
     lists = subst (λ l. StandsAt [] l []) (lists_are (sym store) (sym sent) (sym letters) (sym tickets) (sym rows) (sym outcomes) (sym ended) (sym served)) opening_stands;
+    came = λ i h. absurd (h (ap (λ es. get_or es i 0) ended));
+    posted = subst₂ (λ ss ts. IsMailOf ss ts) (sym sent) (sym tickets) no_mail;
     kinds = kinds;
   };
 }
@@ -251,12 +255,12 @@ note_of_step es l l' ls line note s longer g n = record {
   place = n.place;
   outcome = n.outcome ∙ ap (λ p. view_of_outcome (outcome_of l'.outcomes p)) (sym n.place);
   sent = n.sent
-    ∙ ap (λ ss. map (λ z. z.ticket) (drop (length l.sent) ss)) g.sent
-    ∙ ap (λ ss. map (λ z. z.ticket) ss) (drop_old l.sent g.news)
-    ∙ sym (tickets_new (length l'.outcomes) g.news g.at)
-    ∙ sym (tickets_more (length l'.outcomes) l.sent g.news (subst (λ m. AllBefore m l.sent) (sym longer) s.mail.before))
-    ∙ ap (λ ss. tickets_at (length l'.outcomes) ss) (sym g.sent)
-    ∙ ap (λ m. tickets_at m l'.sent) (sym n.place);
+      ∙ ap (λ ss. map (λ z. z.ticket) (drop (length l.sent) ss)) g.sent
+      ∙ ap (λ ss. map (λ z. z.ticket) ss) (drop_old l.sent g.news)
+      ∙ sym (tickets_new (length l'.outcomes) g.news g.at)
+      ∙ sym (tickets_more (length l'.outcomes) l.sent g.news (subst (λ m. AllBefore m l.sent) (sym longer) s.mail.before))
+      ∙ ap (λ ss. tickets_at (length l'.outcomes) ss) (sym g.sent)
+      ∙ ap (λ m. tickets_at m l'.sent) (sym n.place);
   ended = n.ended ∙ ap (λ p. ending_of l' (delivered_line line) ++ ending_of l' p) (sym n.place);
 }
 
@@ -271,10 +275,14 @@ pub step_stands : (old new : Machine) (line : Line) (lines : List Line) → list
 step_stands old new line lines is kinds good s h =
     let before = s.stands h in
     let so = stepped_stands (history old.post.sent.items old.outcomes.items lines) (lists_of old) line lines good before.lists in
-    record { stands = λ _. record {
-      lists = subst (λ l. StandsAt (history l.sent l.outcomes (line ∷ lines)) l (line ∷ lines)) (sym is) (at_history so.0 (stepped (lists_of old) line) (line ∷ lines) so.1);
-      kinds = kinds lines before.kinds;
-    } }
+    record {
+      stands = λ _. record {
+        lists = subst (λ l. StandsAt (history l.sent l.outcomes (line ∷ lines)) l (line ∷ lines)) (sym is) (at_history so.0 (stepped (lists_of old) line) (line ∷ lines) so.1);
+        came = came_stepped (lists_of old) (lists_of new) line lines before.lists.fits.told before.lists.fits.times.counted before.lists.fits.times.past (subst (λ l. Marks (lists_of old) line l) (sym is) (stepped_marks (lists_of old) line)) before.came;
+        posted = subst (λ l. IsMailOf l.sent l.tickets) (sym is) (mail_stepped (lists_of old) (stepped (lists_of old) line) (suc (length lines)) (let a = before.lists.fits.told in omega arith) before.lists.mail.before so.1.asks (stepped_posts (lists_of old) line (before.lists.mail.rowed ∙ sym before.lists.mail.told)) before.posted);
+        kinds = kinds lines before.kinds;
+      };
+    }
 
 pub step_note : (old : Machine) (l' : Lists) (line : Line) (lines : List Line) (note : StepNote) (from delivered : ℕ) → l' ≡ stepped (lists_of old) line → why_after lines line ≡ None → StandsFor old lines → HasMemory old → from ≡ length old.post.sent.items → delivered ≡ delivered_line line → IsNoteFrom l' from delivered note → IsNote l' line note
 step_note old l' line lines note from delivered is good s h f d n =
@@ -302,8 +310,8 @@ step_sends old new line is =
 abbrev pub report_of : Lists → Report
 report_of l = record { outcomes = l.outcomes; ended = l.ended; sent = l.sent; sleeps = []; served = l.served; store = l.store }
 
-pub lawful_of : (l : Lists) (lines : List Line) → StandsAt (history l.sent l.outcomes lines) l lines → Lawful (reverse lines) (report_of l)
-lawful_of l lines s =
+pub lawful_of : (l : Lists) (lines : List Line) → StandsAt (history l.sent l.outcomes lines) l lines → AllCame lines l.ended → IsMail l.sent → Lawful (reverse lines) (report_of l)
+lawful_of l lines s came mail =
     let back : lines ≡ reverse (reverse lines) = sym (reverse-reverse lines) in
     record {
       told = s.mail.told ∙ sym (length-reverse lines);
@@ -311,12 +319,14 @@ lawful_of l lines s =
         store = s.mail.stored ∙ ap (λ ls. store_after (history l.sent l.outcomes ls)) back;
         served = s.mail.handed ∙ ap (λ ls. reverse (served_tickets (history l.sent l.outcomes ls))) back;
       };
+      mail = mail;
       causes = subst (λ ls. Causes l.sent l.outcomes l.ended ls) back s.causes;
       ends = record {
         counted = s.fits.times.counted;
         past = s.fits.times.past;
         still = s.fits.times.still;
         own = s.fits.times.own;
+        came = subst (λ ls. AllCame ls l.ended) back came;
         over = s.fits.times.over;
       };
       dues = subst (λ ls. Dues l.sent l.outcomes l.ended ls) back s.dues;
@@ -328,7 +338,7 @@ reports_are outcomes ended sent sleeps served store i = record { outcomes = outc
 
 pub report_lawful : (m : Machine) (r : Report) (lines : List Line) → HasMemory m → StandsFor m lines → r.outcomes ≡ m.outcomes.items → r.ended ≡ m.ended.items → r.sent ≡ m.post.sent.items → r.sleeps ≡ [] → r.served ≡ m.served.items → r.store ≡ m.store → Lawful (reverse lines) r
 report_lawful m r lines h s outcomes ended sent sleeps served store =
-    subst (λ q. Lawful (reverse lines) q) (sym (reports_are {r = r} {q = report_of (lists_of m)} outcomes ended sent sleeps served store)) (lawful_of (lists_of m) lines (s.stands h).lists)
+    subst (λ q. Lawful (reverse lines) q) (sym (reports_are {r = r} {q = report_of (lists_of m)} outcomes ended sent sleeps served store)) (lawful_of (lists_of m) lines (s.stands h).lists (s.stands h).came (s.stands h).posted.mail)
 
 -- A run of lines.
 

@@ -1,5 +1,5 @@
 -- What each change of the lists keeps of the store and of what was sent.
-use Rattle.std.proofs.Common.{◌≡◌, ◌≢◌, ℕ, zero, suc, ◌+◌, ◌-◌, ◌<◌, ◌≤◌, ◌⊎◌, inl, inr, Bool, true, false, not, ◌&&◌, if◌then◌else◌, List, [], ◌∷◌, ◌++◌, Option, Some, None, length, get_or, set, slice_get, is_some, nat_eq, nat_lt, reverse, refl, sym, ap, ◌∙◌, subst, subst₂, arith, length-append, length-set}
+use Rattle.std.proofs.Common.{◌≡◌, ◌≢◌, ℕ, zero, suc, ◌-◌, ◌<◌, ◌≤◌, inl, inr, Bool, true, false, if◌then◌else◌, List, [], ◌∷◌, ◌++◌, Option, Some, None, length, get_or, set, slice_get, is_some, nat_eq, reverse, refl, sym, ap, ◌∙◌, subst, arith, length-append, length-set}
 use Rattle.std.proofs.lemmas.Bool.Decides.{nat_tests}
 use Rattle.std.proofs.lemmas.List.{reverse-append}
 use Rattle.txn_kv.specs.declared.request.Request.{Request}
@@ -19,9 +19,9 @@ use Rattle.txn_report.specs.declared.report.SentNote.{SentNote}
 use Rattle.txn_run.specs.declared.post.Letter.{Letter}
 use Rattle.txn_run.specs.Posting.{places_of, place_in, position, ticket_after, note_of, fresh}
 use Rattle.txn_run.specs.Script.{outcome_of, is_done, find, does, serves, takes, takes_it, with_sends, history, served_tickets}
-use Rattle.txn_run.specs.Stands.{AllBefore, request_of, request_in, MailFits}
+use Rattle.txn_run.specs.Stands.{request_of, request_in, MailFits}
 use Rattle.txn_run.specs.Lists.{request_at}
-use Rattle.txn_run.proofs.Lists.{get_old, get_last, get_pushed, get_below, get_same, get_other, get_put, get_within, or_pushed, or_past, or_last, position_set, position_fresh, same_is, same_itself}
+use Rattle.txn_run.proofs.Lists.{get_old, get_last, get_pushed, get_below, get_put, get_within, or_last, position_set, position_fresh, same_is, same_itself}
 use Rattle.txn_run.proofs.Histories.{outcome_old, flag_set, find_push, find_new, find_some, find_bound, sends_push, no_sends, all_push, all_more, history_same}
 
 -- One row more.

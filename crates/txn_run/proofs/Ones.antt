@@ -1,5 +1,5 @@
 -- There is one transaction at most: what follows for the rows and for what is out.
-use Rattle.std.proofs.Common.{◌≡◌, ◌≢◌, ℕ, zero, suc, ◌+◌, ◌-◌, ◌<◌, ◌≤◌, ◌⊎◌, inl, inr, Bool, true, false, not, ◌&&◌, ◌||◌, if◌then◌else◌, List, [], ◌∷◌, ◌++◌, Option, Some, None, length, get_or, set, slice_get, is_some, nat_eq, nat_le, nat_lt, refl, sym, ap, ◌∙◌, subst, subst₂, arith, length-append, length-set}
+use Rattle.std.proofs.Common.{◌≡◌, ◌≢◌, ℕ, suc, ◌≤◌, ◌⊎◌, inl, inr, Bool, true, false, not, ◌&&◌, if◌then◌else◌, List, [], ◌∷◌, Option, Some, None, length, is_some, nat_eq, refl, sym, ap, ◌∙◌, subst, subst₂, arith}
 use Rattle.std.proofs.lemmas.Bool.Decides.{nat_tests}
 use Rattle.txn_kv.specs.declared.request.Request.{Request}
 use Rattle.txn_kv.specs.declared.reply.Reply.{Reply}
@@ -10,19 +10,16 @@ use Rattle.txn_script.specs.Lines.{line_at, why_after}
 use Rattle.txn_script.specs.declared.line.Line.{Line}
 use Rattle.txn_script.specs.declared.line.Line.TheVariants.{Blank, Client, Begin, Put, Commit, Deliver}
 use Rattle.txn_report.specs.declared.outcome.Outcome.{Outcome}
-use Rattle.txn_report.specs.declared.outcome.Outcome.TheVariants.{Ok, Err, Unfinished, Done, Skipped}
 use Rattle.txn_run.specs.declared.transaction.Transaction.{Transaction}
-use Rattle.txn_run.specs.declared.transaction.CommitCall.{CommitCall}
-use Rattle.txn_run.specs.declared.transaction.Status.{Status}
-use Rattle.txn_run.specs.declared.transaction.Status.TheVariants.{Active, StartedCommit, Committed}
+use Rattle.txn_run.specs.declared.transaction.Status.TheVariants.{Active}
 use Rattle.txn_run.specs.declared.machine.Row.{Row}
 use Rattle.txn_run.specs.declared.machine.Row.TheVariants.{Plain, Beginning, Running, Committing}
 use Rattle.txn_run.specs.Lists.{row_at}
 use Rattle.txn_run.specs.Script.{outcome_of}
-use Rattle.txn_run.specs.Causes.{is_unfinished, is_call_of, status_of, writes_of, OwnIsOut}
-use Rattle.txn_run.specs.Rowed.{AreGood, IsIdleBut, CommitFits, CallFits, RunningFits, BeginningFits, RowFits, IsBegun, Rowed, BeginAwaits, CommitAwaits, Awaited}
+use Rattle.txn_run.specs.Causes.{is_unfinished, status_of, writes_of}
+use Rattle.txn_run.specs.Rowed.{AreGood, RunningFits, RowFits, IsBegun, Rowed, BeginAwaits, CommitAwaits, Awaited}
 use Rattle.txn_run.proofs.Lists.{same_is, same_itself}
-use Rattle.txn_run.proofs.Lines.{and_left, and_right, line_new, line_old, line_within, line_cases, one_begin, no_begin, put_named, commit_named}
+use Rattle.txn_run.proofs.Lines.{line_new, line_old, line_within, line_cases, one_begin, put_named, commit_named}
 
 -- A call names a begin.
 
@@ -127,20 +124,20 @@ same_row t u e = cc
 pub idle_none_out : (es : List Event) (lines : List Line) (rows : List Row) (outs : List Outcome) (x : ℕ) (t : Transaction) → AreGood lines → Rowed lines rows outs → Awaited es lines rows outs → row_at rows x ≡ Some (Running t) → t.call ≡ None → NoneOut es
 idle_none_out es lines rows outs x t g f a at idle u e = elim (a.known u e) [
   | inl b ↦ (
-    let h = f.fits u.line Beginning b.row in
-    let k = f.fits x (Running t) at in
-    let s = one_begin lines u.line x h.client k.client g h.line k.line in
-    let v = subst (λ i. row_at rows i ≡ Some Beginning) s b.row in
-    absurd (cc)
-  )
+      let h = f.fits u.line Beginning b.row in
+      let k = f.fits x (Running t) at in
+      let s = one_begin lines u.line x h.client k.client g h.line k.line in
+      let v = subst (λ i. row_at rows i ≡ Some Beginning) s b.row in
+      absurd (cc)
+      )
   | inr b ↦ (
-    let h = f.fits b.x (Running b.t) b.running in
-    let k = f.fits x (Running t) at in
-    let s = one_begin lines b.x x h.client k.client g h.line k.line in
-    let same = same_row b.t t (sym (subst (λ i. row_at rows i ≡ Some (Running b.t)) s b.running) ∙ at) in
-    let c : t.call ≡ Some b.call = ap (λ z. z.call) (sym same) ∙ b.calls in
-    absurd (cc)
-  )
+      let h = f.fits b.x (Running b.t) b.running in
+      let k = f.fits x (Running t) at in
+      let s = one_begin lines b.x x h.client k.client g h.line k.line in
+      let same = same_row b.t t (sym (subst (λ i. row_at rows i ≡ Some (Running b.t)) s b.running) ∙ at) in
+      let c : t.call ≡ Some b.call = ap (λ z. z.call) (sym same) ∙ b.calls in
+      absurd (cc)
+      )
 ]
 
 -- no line is unfinished while nothing is out

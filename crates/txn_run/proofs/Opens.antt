@@ -1,16 +1,14 @@
 -- A line that sends nothing.
-use Rattle.std.proofs.Common.{◌≡◌, ◌≢◌, ℕ, zero, suc, ◌+◌, ◌-◌, ◌<◌, ◌≤◌, ◌⊎◌, inl, inr, Bool, true, false, not, ◌&&◌, ◌||◌, if◌then◌else◌, List, [], ◌∷◌, ◌++◌, Option, Some, None, length, get_or, set, slice_get, is_some, nat_eq, nat_le, nat_lt, refl, sym, ap, ◌∙◌, subst, subst₂, arith, length-append, length-set}
+use Rattle.std.proofs.Common.{◌≡◌, ◌≢◌, ℕ, suc, ◌<◌, ◌≤◌, ◌⊎◌, inl, inr, Bool, true, false, ◌&&◌, if◌then◌else◌, List, [], ◌∷◌, ◌++◌, Option, Some, None, length, get_or, nat_eq, refl, sym, ap, ◌∙◌, subst, arith, length-append}
 use Rattle.std.proofs.lemmas.Bool.Decides.{nat_tests}
-use Rattle.txn_kv.specs.declared.ticket.Ticket.{Ticket}
 use Rattle.txn_kv.specs.declared.errors.Error.TheVariants.{OperationAfterCommitError}
-use Rattle.txn_history.specs.Event.{Event, is_out}
+use Rattle.txn_history.specs.Event.{Event}
 use Rattle.txn_model.specs.Store.{Store}
-use Rattle.txn_script.specs.Lines.{line_at, why_after, any_line, is_put}
+use Rattle.txn_script.specs.Lines.{line_at, why_after}
 use Rattle.txn_script.specs.declared.line.Line.{Line}
-use Rattle.txn_script.specs.declared.line.Line.TheVariants.{Blank, Client, Begin, Put, Commit, Deliver}
+use Rattle.txn_script.specs.declared.line.Line.TheVariants.{Begin, Put, Commit}
 use Rattle.txn_report.specs.declared.outcome.Outcome.{Outcome}
-use Rattle.txn_report.specs.declared.outcome.Outcome.TheVariants.{Ok, Err, Unfinished, Done, Skipped}
-use Rattle.txn_report.specs.declared.outcome.Payload.TheVariants.{Unit as Nothing, Number, Commit as Committed_at}
+use Rattle.txn_report.specs.declared.outcome.Outcome.TheVariants.{Err, Unfinished, Skipped}
 use Rattle.txn_run.specs.declared.transaction.Transaction.{Transaction}
 use Rattle.txn_run.specs.declared.transaction.CommitCall.{CommitCall}
 use Rattle.txn_run.specs.declared.transaction.Status.{Status}
@@ -19,10 +17,10 @@ use Rattle.txn_run.specs.declared.machine.Row.{Row}
 use Rattle.txn_run.specs.declared.machine.Row.TheVariants.{Plain, Beginning, Running, Committing}
 use Rattle.txn_run.specs.Lists.{row_at}
 use Rattle.txn_run.specs.Script.{outcome_of}
-use Rattle.txn_run.specs.Causes.{Written, is_ok, is_unfinished, is_skipped, is_commit_at, is_call_of, is_busy, is_free, status_of, status_after, allows_commit, writes_of, with_write, has_some, OwnIsOut}
-use Rattle.txn_run.specs.Rowed.{AreGood, writes_in, IsIdleBut, CommitFits, CallFits, RunningFits, BeginningFits, RowFits, IsBegun, Rowed, BeginAwaits, CommitAwaits, Awaited, CallCells, Lone}
+use Rattle.txn_run.specs.Causes.{is_ok, is_unfinished, status_of, status_after, writes_of, with_write, OwnIsOut}
+use Rattle.txn_run.specs.Rowed.{IsIdleBut, CallFits, RunningFits, BeginningFits, RowFits, IsBegun, Rowed, Awaited, Lone}
 use Rattle.txn_run.proofs.Histories.{outcome_old}
-use Rattle.txn_run.proofs.Lines.{line_new, line_old, line_within, line_cases, row_new, row_old, row_cases, row_within, row_same, row_other, row_put, good_few, good_second, one_begin, no_begin, status_same, writes_same, no_writes}
+use Rattle.txn_run.proofs.Lines.{line_old, line_within, line_cases, row_new, row_old, row_cases, row_within, good_few, status_same, writes_same}
 
 -- the newest line is no call that x has open, and leaves what x did as it was
 pub record Leaves (l : Line) (ls : List Line) (outs : List Outcome) (o : Outcome) (x : ℕ) : Type 0 where

@@ -1,17 +1,16 @@
 -- From a script's lines to the ends of the program.
-use Rattle.std.proofs.Common.{◌≡◌, ℕ, ◌<◌, ◌≤◌, ◌⊎◌, inl, inr, List, [], ◌∷◌, ◌++◌, Option, length, reverse, take, refl, sym, ap, ◌∙◌, subst, append-nil}
+use Rattle.std.proofs.Common.{◌≡◌, ℕ, ◌≤◌, ◌⊎◌, inl, inr, List, [], ◌∷◌, ◌++◌, length, reverse, sym, ◌∙◌, subst, append-nil}
 use Rattle.std.proofs.lemmas.List.{reverse-reverse}
-use Rattle.std.specs.Io.KnownBytes.{Consumes, IsAtEnd, Appends}
+use Rattle.std.specs.Io.KnownBytes.{IsAtEnd, Appends}
 use Rattle.txn_script.specs.declared.line.Line.{Line}
-use Rattle.txn_script.specs.Lines.{why_after}
 use Rattle.txn_script.specs.Text.{text_lines, AreGood, IsScript}
 use Rattle.txn_script.proofs.LongText.{no_script}
 use Rattle.txn_report.specs.declared.report.Report.{Report}
 use Rattle.txn_report.specs.Text.{text_of_report}
-use Rattle.txn_stream.specs.Bytes.{most_bytes, Rose, ReadsAll}
+use Rattle.txn_stream.specs.Bytes.{most_bytes, ReadsAll}
 use Rattle.txn_run.specs.declared.program.End.{End}
 use Rattle.txn_run.specs.declared.program.End.TheVariants.{Done, BadWords, BadLine, ReadFault, WriteFault, OutOfMemory}
-use Rattle.txn_run.specs.Program.{Ran, AllGood, Wrote, Edges, Reported, CutShort, EndOfRun}
+use Rattle.txn_run.specs.Program.{Ran, AllGood, Wrote, Edges, EndOfRun}
 use Rattle.txn_run.proofs.Machines.{turned_over}
 
 good_lines : (texts : List (List ℕ)) (lines rest : List Line) → AreGood texts lines → AllGood lines rest → AllGood [] (reverse lines ++ rest)
@@ -29,18 +28,20 @@ ended : (e : Edges) (r : Report) (bytes : List ℕ) → IsAtEnd e.left_after ⊎
 ended e r bytes (inl at_end) ran = at_end
 ended e r bytes (inr long) ran = absurd (no_script bytes ran.lines long ran.script)
 
-pub wrote_run : (e : Edges) (r : Report) (bytes : List ℕ) (end : End) → ReadsAll e.left e.left_after bytes → Ran bytes r → Wrote r e.written e.written_after e.write_faults e.write_faults_after end → EndOfRun e end
-wrote_run e r bytes (Done report) reads ran w = record {
+pub wrote_run : (e : Edges) (r : Report) (bytes : List ℕ) (end : End) → e.read_faults_after ≡ e.read_faults → ReadsAll e.left e.left_after bytes → Ran bytes r → Wrote r e.written e.written_after e.write_faults e.write_faults_after end → EndOfRun e end
+wrote_run e r bytes (Done report) unfailed reads ran w = record {
+  unfailed = unfailed;
   bytes = bytes;
   consumed = reads.0;
   to_end = ended e r bytes reads.1 ran;
   ran = subst (λ q. Ran bytes q) (sym w.0) ran;
   text = subst (λ q. Appends e.written e.written_after (text_of_report q)) (sym w.0) w.1;
 }
-wrote_run e r bytes BadWords reads ran w = w
-wrote_run e r bytes (BadLine line why) reads ran w = absurd w
-wrote_run e r bytes ReadFault reads ran w = absurd w
-wrote_run e r bytes (WriteFault taken) reads ran w = record {
+wrote_run e r bytes BadWords unfailed reads ran w = w
+wrote_run e r bytes (BadLine line why) unfailed reads ran w = absurd w
+wrote_run e r bytes ReadFault unfailed reads ran w = absurd w
+wrote_run e r bytes (WriteFault taken) unfailed reads ran w = record {
+  unfailed = unfailed;
   rose = w.0;
   bytes = bytes;
   consumed = reads.0;
@@ -50,4 +51,4 @@ wrote_run e r bytes (WriteFault taken) reads ran w = record {
   short = w.1;
   text = w.2;
 }
-wrote_run e r bytes OutOfMemory reads ran w = tt
+wrote_run e r bytes OutOfMemory unfailed reads ran w = tt

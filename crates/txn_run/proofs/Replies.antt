@@ -1,28 +1,18 @@
 -- What the store replies to the requests of the one transaction.
-use Rattle.std.proofs.Common.{◌≡◌, ◌≢◌, ℕ, zero, suc, ◌+◌, ◌-◌, ◌*◌, ◌/◌, ◌%◌, ◌^◌, ◌<◌, ◌≤◌, max, Bool, true, false, not, ◌&&◌, ◌||◌, if◌then◌else◌, List, [], ◌∷◌, ◌++◌, Option, Some, None, length, is_some, nat_eq, nat_lt, refl, sym, ap, ◌∙◌, subst, arith}
-use Rattle.std.specs.Prelude.{pos}
-use Rattle.std.specs.Cmp.Lexicographic.{pointwise, slice_cmp}
-use Rattle.std.specs.Ordering.{nat_cmp, is_gt}
+use Rattle.std.proofs.Common.{◌≡◌, ℕ, ◌+◌, ◌-◌, ◌*◌, ◌/◌, ◌%◌, ◌^◌, ◌<◌, max, Bool, true, false, not, ◌&&◌, ◌||◌, if◌then◌else◌, List, [], ◌∷◌, Some, None, nat_eq, nat_lt, refl, sym, ap, ◌∙◌, arith}
+use Rattle.std.specs.Ordering.{is_gt}
 use Rattle.std.proofs.lemmas.Bool.Decides.{nat_tests}
-use Rattle.txn_kv.specs.declared.request.Request.{Request}
-use Rattle.txn_kv.specs.declared.request.Request.TheVariants.{GetRegion, GetStore, Tso}
-use Rattle.txn_kv.specs.declared.reply.Reply.{Reply}
-use Rattle.txn_kv.specs.declared.reply.Reply.TheVariants.{Prewrite as Prewrote, Commit as Committed_reply, GetRegion as Got_region, GetStore as Got_store, Tso as Gave}
-use Rattle.txn_kv.specs.declared.timestamp.Timestamp.{Timestamp}
-use Rattle.txn_kv.specs.Timestamp.{version_of, timestamp_of}
+use Rattle.txn_kv.specs.declared.request.Request.TheVariants.{GetRegion}
+use Rattle.txn_kv.specs.declared.reply.Reply.TheVariants.{Prewrite as Prewrote, Commit as Committed_reply, GetRegion as Got_region, Tso as Gave}
+use Rattle.txn_kv.specs.Timestamp.{timestamp_of}
 use Rattle.txn_kv.specs.Versions.{version_of-timestamp_of}
-use Rattle.txn_kv.specs.declared.message.KeyError.{KeyError}
 use Rattle.txn_model.specs.declared.cell.Cell.{Cell}
-use Rattle.txn_model.specs.declared.cell.Write.{Write}
 use Rattle.txn_model.specs.Store.{Store, opening}
-use Rattle.txn_model.specs.Handled.{Handled}
 use Rattle.txn_model.specs.Table.{table}
-use Rattle.txn_model.specs.Cells.{key_eq, key_cmp, is_empty_cell, changed_at}
-use Rattle.txn_model.specs.Placement.{region_record, leader_of, told_region, region_holding, region_check, last_timestamp, first_timestamp, next_timestamp}
-use Rattle.txn_model.specs.Prewrite.{prewrite_by, prewrite_errors, prewrite_cell, mutation_keys}
+use Rattle.txn_model.specs.Cells.{key_eq, key_cmp, changed_at}
+use Rattle.txn_model.specs.Placement.{region_record, leader_of, told_region, region_holding, last_timestamp, next_timestamp}
 use Rattle.txn_model.specs.Commit.{commit_by, first_commit_error, committed as commits_cell}
 use Rattle.txn_run.specs.declared.transaction.Put.{Put}
-use Rattle.txn_run.specs.declared.transaction.Place.{Place}
 use Rattle.txn_run.specs.Commit.{version_in, prewrite_of, commit_of}
 use Rattle.txn_run.specs.Lists.{ask_one}
 use Rattle.txn_run.specs.Rowed.{first_region, here, locked_cells}
@@ -92,10 +82,9 @@ opened_commit st start p n =
 
 pub commit_table : (st : Store) (start : ℕ) (p : Put) (n : ℕ) → st.regions ≡ opening.regions → st.cells ≡ locked_cells start p → (cs : List Cell) × (table st (commit_of start p here n) ≡ record { store = record st { cells = cs }; reply = Committed_reply (record { region_error = None; error = None; commit_version = n }) })
 commit_table st start p n r c =
-    let there : st ≡ record st { cells = locked_cells start p; regions = opening.regions } = λ i. record st { cells = c i; regions = r i } in
-    (
+    let there : st ≡ record st { cells = locked_cells start p; regions = opening.regions } = λ i. record st { cells = c i; regions = r i } in (
       changed_at (p.key ∷ []) (commits_cell start n) (locked_cells start p),
       ap (λ z. table z (commit_of start p here n)) there
-      ∙ opened_commit st start p n
-      ∙ ap (λ gs. record { store = record st { cells = changed_at (p.key ∷ []) (commits_cell start n) (locked_cells start p); regions = gs }; reply = Committed_reply (record { region_error = None; error = None; commit_version = n }) }) (sym r),
+          ∙ opened_commit st start p n
+          ∙ ap (λ gs. record { store = record st { cells = changed_at (p.key ∷ []) (commits_cell start n) (locked_cells start p); regions = gs }; reply = Committed_reply (record { region_error = None; error = None; commit_version = n }) }) (sym r),
     )

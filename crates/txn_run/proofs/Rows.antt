@@ -1,17 +1,17 @@
 -- Rows of a machine, read and written back.
-use Rattle.std.proofs.Common.{◌≡◌, ℕ, zero, suc, ◌+◌, ◌-◌, ◌<◌, ◌≤◌, ◌^◌, List, [], ◌∷◌, Option, Some, None, length, set, get_or, slice_get, refl, sym, ap, ◌∙◌, subst, arith}
+use Rattle.std.proofs.Common.{◌≡◌, ℕ, zero, suc, ◌-◌, ◌<◌, ◌≤◌, List, [], ◌∷◌, Some, length, set, get_or, refl, sym, ap, ◌∙◌, subst, arith}
 use Rattle.std.proofs.lemmas.Option.{slice_get-get_or}
 use Rattle.txn_kv.specs.declared.reply.Reply.{Reply}
 use Rattle.txn_kv.specs.declared.request.Request.{Request}
 use Rattle.txn_kv.specs.declared.request.Request.TheVariants.{Prewrite, Commit, GetRegion, GetStore, Tso}
 use Rattle.txn_model.specs.Store.{Store}
-use Rattle.txn_model.specs.Table.{CanServe, CanCount}
+use Rattle.txn_model.specs.Table.{CanServe}
 use Rattle.txn_report.specs.declared.report.SentNote.{SentNote}
 use Rattle.txn_run.specs.declared.transaction.Transaction.{Transaction}
 use Rattle.txn_run.specs.declared.transaction.Turn.{Turn}
 use Rattle.txn_run.specs.declared.machine.Row.{Row}
 use Rattle.txn_run.specs.declared.machine.Row.TheVariants.{Plain, Beginning, Running, Committing}
-use Rattle.txn_run.specs.Commit.{Step, started, turned}
+use Rattle.txn_run.specs.Commit.{Step, turned}
 use Rattle.txn_run.specs.Lists.{Lists, row_at, row_set, written, written_in, commit_starts, commit_begun, advanced, followed, request_at, IsSound, AllAskOne, AsksOne}
 
 -- what is written where it stands already

@@ -1,21 +1,18 @@
 -- Each line leaves the lists where the history of the lines says.
-use Rattle.std.proofs.Common.{◌≡◌, ◌≢◌, ℕ, zero, suc, ◌+◌, ◌-◌, ◌<◌, ◌≤◌, ◌⊎◌, inl, inr, Bool, true, false, not, ◌&&◌, ◌||◌, if◌then◌else◌, List, [], ◌∷◌, ◌++◌, Option, Some, None, length, get_or, set, slice_get, is_some, nat_eq, nat_le, nat_lt, refl, sym, ap, ◌∙◌, subst, subst₂, arith, length-append, length-set}
+use Rattle.std.proofs.Common.{◌≡◌, ℕ, suc, ◌+◌, ◌-◌, inl, inr, Bool, true, false, List, [], ◌∷◌, ◌++◌, Option, Some, None, length, set, nat_eq, refl, sym, ap, ◌∙◌, subst, subst₂, arith, length-append}
 use Rattle.std.proofs.lemmas.Bool.Decides.{nat_tests}
 use Rattle.txn_kv.specs.declared.errors.Error.TheVariants.{OperationAfterCommitError}
 use Rattle.txn_kv.specs.declared.request.Request.{Request}
-use Rattle.txn_kv.specs.declared.reply.Reply.{Reply}
 use Rattle.txn_kv.specs.declared.ticket.Ticket.{Ticket}
-use Rattle.txn_kv.specs.declared.ticket.Target.{Target}
 use Rattle.txn_kv.specs.declared.ticket.Target.TheVariants.{Placement}
-use Rattle.txn_history.specs.Event.{Event, sent_request, taken_reply, is_out, is_served}
-use Rattle.txn_history.specs.Event.Event.{Sent, Served, Took}
-use Rattle.txn_script.specs.Lines.{line_at, why_after}
+use Rattle.txn_history.specs.Event.{Event, sent_request}
+use Rattle.txn_history.specs.Event.Event.{Sent}
+use Rattle.txn_script.specs.Lines.{why_after}
 use Rattle.txn_script.specs.declared.line.Line.{Line}
-use Rattle.txn_script.specs.declared.line.Line.TheVariants.{Blank, Client, Begin, Put, Commit, Deliver}
+use Rattle.txn_script.specs.declared.line.Line.TheVariants.{Begin, Put, Commit}
 use Rattle.txn_report.specs.declared.outcome.Outcome.{Outcome}
 use Rattle.txn_report.specs.declared.outcome.Outcome.TheVariants.{Ok, Err, Unfinished, Done, Skipped}
-use Rattle.txn_report.specs.declared.outcome.Payload.TheVariants.{Unit as Nothing, Number, Commit as Committed_at}
-use Rattle.txn_report.specs.declared.report.SentNote.{SentNote}
+use Rattle.txn_report.specs.declared.outcome.Payload.TheVariants.{Unit as Nothing, Commit as Committed_at}
 use Rattle.txn_run.specs.declared.transaction.Transaction.{Transaction}
 use Rattle.txn_run.specs.declared.transaction.Put.{Put as Write}
 use Rattle.txn_run.specs.declared.transaction.CommitCall.{CommitCall}
@@ -26,21 +23,20 @@ use Rattle.txn_run.specs.declared.machine.Row.{Row}
 use Rattle.txn_run.specs.declared.machine.Row.TheVariants.{Plain, Beginning, Running, Committing}
 use Rattle.txn_run.specs.Commit.{Step, started, ends, sends, at_stage}
 use Rattle.txn_run.specs.Standing.{free_status}
-use Rattle.txn_run.specs.Posting.{position, ticket_after}
+use Rattle.txn_run.specs.Posting.{ticket_after}
 use Rattle.txn_run.specs.Lists.{Lists, opened, row_at, row_set, sent_more, ask_one, begins, standing_in, written, written_in, puts_by, puts, commit_starts, commit_begun, commits_by, commits, followed, ended_at}
-use Rattle.txn_run.specs.Script.{outcome_of, is_done, history}
-use Rattle.txn_run.specs.Causes.{is_ok, is_unfinished, is_call_of, is_busy, is_free, allows_write, allows_commit, status_of, writes_of, has_some, WritesWith, CommitsWith, HasCause}
-use Rattle.txn_run.specs.Rowed.{CallFits, RunningFits, BeginningFits, Rowed, IsBegun, writes_in, Fits, asked_at}
-use Rattle.txn_run.specs.Stands.{request_in, MailFits, StandsAt}
-use Rattle.txn_run.proofs.Lists.{get_last}
-use Rattle.txn_run.proofs.Mails.{IsQuiet, mail_opened, mail_ended, mail_sent, position_old}
+use Rattle.txn_run.specs.Script.{outcome_of}
+use Rattle.txn_run.specs.Causes.{is_ok, is_unfinished, is_busy, is_free, allows_write, allows_commit, status_of, writes_of, has_some, WritesWith, CommitsWith, HasCause}
+use Rattle.txn_run.specs.Rowed.{CallFits, IsBegun, writes_in, Fits, asked_at}
+use Rattle.txn_run.specs.Stands.{request_in, StandsAt}
+use Rattle.txn_run.proofs.Mails.{IsQuiet, mail_opened, mail_sent}
 use Rattle.txn_run.proofs.Lists.{position_fresh}
 use Rattle.txn_run.proofs.Lines.{put_named, commit_named, line_within, not_busy, busy_at}
-use Rattle.txn_run.proofs.Opens.{Leaves, IsQuietLine, last_outcome, old_row, status_old, status_err, status_skip, leaves_commit, leaves_put}
+use Rattle.txn_run.proofs.Opens.{IsQuietLine, last_outcome, old_row, status_old, status_err, status_skip, leaves_commit, leaves_put}
 use Rattle.txn_run.proofs.Steps.{fits_quiet, fits_begun}
 use Rattle.txn_run.proofs.Calls.{fits_put}
 use Rattle.txn_run.proofs.Commits.{fits_commit_none, fits_commit_sent}
-use Rattle.txn_run.proofs.Extends.{Extends, extends_open, extends_send, extends_then, close, asks_push}
+use Rattle.txn_run.proofs.Extends.{extends_open, extends_send, extends_then, close, asks_push}
 
 -- The lists stand for some history of these lines.
 abbrev pub StandsSo : Lists → List Line → Type 0
@@ -51,11 +47,11 @@ pub quiet_stands : (es : List Event) (l : Lists) (line : Line) (ls : List Line) 
 quiet_stands es l line ls o e at good q k cause s = (
   es,
   close es es l (opened l Plain o e) line ls s
-  (extends_open ls l.sent l.outcomes l.ended o e s.fits.told s.fits.times.counted (inr at))
-  (subst (λ z. HasCause (outcome_of l.outcomes) ls es line z) (sym (last_outcome line ls l.rows Plain l.outcomes o s.fits.told s.fits.rowed.counted)) cause)
-  (mail_opened es ls l.store l.sent l.letters l.tickets l.outcomes l.served line o q s.mail)
-  (subst (λ n. Fits es (line ∷ ls) l.store (l.rows ++ Plain ∷ []) (l.outcomes ++ o ∷ []) (l.ended ++ n ∷ [])) (sym at) (fits_quiet es line ls l.store l.rows l.outcomes l.ended o good k s.fits))
-  s.asks,
+      (extends_open ls l.sent l.outcomes l.ended o e s.fits.told s.fits.times.counted (inr at))
+      (subst (λ z. HasCause (outcome_of l.outcomes) ls es line z) (sym (last_outcome line ls l.rows Plain l.outcomes o s.fits.told s.fits.rowed.counted)) cause)
+      (mail_opened es ls l.store l.sent l.letters l.tickets l.outcomes l.served line o q s.mail)
+      (subst (λ n. Fits es (line ∷ ls) l.store (l.rows ++ Plain ∷ []) (l.outcomes ++ o ∷ []) (l.ended ++ n ∷ [])) (sym at) (fits_quiet es line ls l.store l.rows l.outcomes l.ended o good k s.fits))
+      s.asks,
 )
 
 pub next_is : (n : ℕ) → n + 1 ≡ suc n
@@ -95,15 +91,14 @@ module _ (es : List Event) (l : Lists) (ls : List Line) (s : StandsAt es l ls) w
       let l2 : Lists = sent_more l1 x Placement ask_one in
       let a = m1.rowed in
       let b = s.fits.told in
-      let c = length-append l.outcomes (Unfinished ∷ []) in
-      (
+      let c = length-append l.outcomes (Unfinished ∷ []) in (
         Sent tk ask_one ∷ es,
         close es (Sent tk ask_one ∷ es) l l2 line ls s
-        (extends_then ls l.sent l.sent l2.sent l.outcomes l1.outcomes l1.outcomes l.ended l1.ended l1.ended (extends_open ls l.sent l.outcomes l.ended Unfinished 0 s.fits.told s.fits.times.counted (inl refl)) (extends_send ls l.sent l1.outcomes l1.ended (record { ticket = tk; at = length l1.outcomes; to = Placement; request = ask_one; askers = x ∷ [] }) (omega arith)))
-        (inl (last_outcome line ls l.rows Beginning l.outcomes Unfinished s.fits.told s.fits.rowed.counted))
-        (mail_sent es line ls l.store l.sent l.letters l1.tickets l1.outcomes l.served x Placement ask_one (omega arith) (omega arith) m1)
-        (fits_begun es client ls l.store l.rows l.outcomes l.ended tk good s.fits (next_is (length l.outcomes)) refl fresh (m1.unsent tk fresh).1)
-        (asks_push l.sent (record { ticket = tk; at = length l1.outcomes; to = Placement; request = ask_one; askers = x ∷ [] }) s.asks refl),
+            (extends_then ls l.sent l.sent l2.sent l.outcomes l1.outcomes l1.outcomes l.ended l1.ended l1.ended (extends_open ls l.sent l.outcomes l.ended Unfinished 0 s.fits.told s.fits.times.counted (inl refl)) (extends_send ls l.sent l1.outcomes l1.ended (record { ticket = tk; at = length l1.outcomes; to = Placement; request = ask_one; askers = x ∷ [] }) (omega arith)))
+            (inl (last_outcome line ls l.rows Beginning l.outcomes Unfinished s.fits.told s.fits.rowed.counted))
+            (mail_sent es line ls l.store l.sent l.letters l1.tickets l1.outcomes l.served x Placement ask_one (omega arith) (omega arith) m1)
+            (fits_begun es client ls l.store l.rows l.outcomes l.ended tk good s.fits (next_is (length l.outcomes)) refl fresh (m1.unsent tk fresh).1)
+            (asks_push l.sent (record { ticket = tk; at = length l1.outcomes; to = Placement; request = ask_one; askers = x ∷ [] }) s.asks refl),
       )
 
   -- What stands at the begin of a call.
@@ -151,13 +146,12 @@ module _ (es : List Event) (l : Lists) (ls : List Line) (s : StandsAt es l ls) w
       subst (λ z. StandsSo (opened z Plain (Ok Nothing) (length l.outcomes + 1)) (Put x k v ∷ ls)) (sym wrote) (
         es,
         close es es l (opened lw Plain (Ok Nothing) (length l.outcomes + 1)) line ls s
-        (extends_open ls l.sent l.outcomes l.ended (Ok Nothing) (length l.outcomes + 1) s.fits.told s.fits.times.counted (inr (next_is (length l.outcomes))))
-        (subst (λ z. WritesWith (is_free (outcome_of l.outcomes) x ls) (allows_write (status_of (outcome_of l.outcomes) x ls)) z) (sym (last_outcome line ls l.rows Plain l.outcomes (Ok Nothing) s.fits.told s.fits.rowed.counted)) (subst₂ (λ b c. WritesWith b c (Ok Nothing)) (sym free) (sym (ap allows_write allowed)) refl))
-        (mail_opened es ls l.store l.sent l.letters l.tickets l.outcomes l.served line (Ok Nothing) tt s.mail)
-        (subst (λ n. Fits es (line ∷ ls) l.store (set l.rows (x - 1) (Running (record t { put = Some (record { key = k; value = v }) })) ++ Plain ∷ []) (l.outcomes ++ Ok Nothing ∷ []) (l.ended ++ n ∷ [])) (sym (next_is (length l.outcomes))) (fits_put es x k v ls l.store l.rows l.outcomes l.ended t good at idle s.fits))
-        s.asks,
+            (extends_open ls l.sent l.outcomes l.ended (Ok Nothing) (length l.outcomes + 1) s.fits.told s.fits.times.counted (inr (next_is (length l.outcomes))))
+            (subst (λ z. WritesWith (is_free (outcome_of l.outcomes) x ls) (allows_write (status_of (outcome_of l.outcomes) x ls)) z) (sym (last_outcome line ls l.rows Plain l.outcomes (Ok Nothing) s.fits.told s.fits.rowed.counted)) (subst₂ (λ b c. WritesWith b c (Ok Nothing)) (sym free) (sym (ap allows_write allowed)) refl))
+            (mail_opened es ls l.store l.sent l.letters l.tickets l.outcomes l.served line (Ok Nothing) tt s.mail)
+            (subst (λ n. Fits es (line ∷ ls) l.store (set l.rows (x - 1) (Running (record t { put = Some (record { key = k; value = v }) })) ++ Plain ∷ []) (l.outcomes ++ Ok Nothing ∷ []) (l.ended ++ n ∷ [])) (sym (next_is (length l.outcomes))) (fits_put es x k v ls l.store l.rows l.outcomes l.ended t good at idle s.fits))
+            s.asks,
       )
-
   put_by x k v t good at idle StartedCommit is =
       let h = s.fits.rowed.fits x (Running t) at in
       put_refused x k v (Err OperationAfterCommitError) good refl refl (subst₂ (λ b c. WritesWith b c (Err OperationAfterCommitError)) (sym (free_at x t at idle)) (sym (ap allows_write (h.status ∙ is))) refl)
@@ -202,15 +196,15 @@ module _ (es : List Event) (l : Lists) (ls : List Line) (s : StandsAt es l ls) w
     over = refl;
     no_begin = λ client e. cc;
     leaves = λ y. leaves_commit ls l.outcomes (Err OperationAfterCommitError) x y s.fits.told (λ e.
-    let f = s.fits.rowed.fits x (Running t) at in
-    status_err (status_of (outcome_of (l.outcomes ++ Err OperationAfterCommitError ∷ [])) y ls) (ap (λ n. status_of (outcome_of (l.outcomes ++ Err OperationAfterCommitError ∷ [])) n ls) (sym e) ∙ status_old (Commit x) ls l.rows Plain l.outcomes (Err OperationAfterCommitError) s.fits.told s.fits.rowed.counted x ∙ f.status ∙ is));
+        let f = s.fits.rowed.fits x (Running t) at in
+        status_err (status_of (outcome_of (l.outcomes ++ Err OperationAfterCommitError ∷ [])) y ls) (ap (λ n. status_of (outcome_of (l.outcomes ++ Err OperationAfterCommitError ∷ [])) n ls) (sym e) ∙ status_old (Commit x) ls l.rows Plain l.outcomes (Err OperationAfterCommitError) s.fits.told s.fits.rowed.counted x ∙ f.status ∙ is));
     skips = λ y u call there calls e. absurd (
-      let same : x ≡ y = cc in
-      let z = subst (λ n. row_at l.rows n ≡ Some (Running u)) (sym same) there in
-      let k = same_transaction t u (sym at ∙ z) in
-      let c : t.call ≡ Some call = ap (λ w. w.call) k ∙ calls in
-      cc
-    );
+        let same : x ≡ y = cc in
+        let z = subst (λ n. row_at l.rows n ≡ Some (Running u)) (sym same) there in
+        let k = same_transaction t u (sym at ∙ z) in
+        let c : t.call ≡ Some call = ap (λ w. w.call) k ∙ calls in
+        cc
+        );
   }
     where
       same_transaction : (t u : Transaction) → ◌≡◌ {A = Option Row} (Some (Running t)) (Some (Running u)) → t ≡ u
@@ -250,11 +244,11 @@ module _ (es : List Event) (l : Lists) (ls : List Line) (s : StandsAt es l ls) w
         subst₂ (λ a b. StandsSo (record l { tickets = l.tickets ++ [] ∷ []; rows = set (l.rows ++ Committing x ∷ []) (x - 1) (Running (record t { status = StartedCommit; call = None })); outcomes = a; ended = b }) (Commit x ∷ ls)) (sym outs) (sym ends) (
           es,
           close es es l l' (Commit x) ls s
-          (extends_open ls l.sent l.outcomes l.ended o (suc (length l.outcomes)) s.fits.told s.fits.times.counted (inr refl))
-          (cause_of false (outcome_of (l.outcomes ++ o ∷ []) (suc (length ls))) allowed (ap (λ p. has_some (writes_in p)) empty) (last_outcome (Commit x) ls l.rows Plain l.outcomes o s.fits.told s.fits.rowed.counted))
-          (mail_opened es ls l.store l.sent l.letters l.tickets l.outcomes l.served (Commit x) o tt s.mail)
-          (fits_commit_none es x ls l.store l.rows l.outcomes l.ended t good at idle allowed s.fits empty)
-          s.asks,
+              (extends_open ls l.sent l.outcomes l.ended o (suc (length l.outcomes)) s.fits.told s.fits.times.counted (inr refl))
+              (cause_of false (outcome_of (l.outcomes ++ o ∷ []) (suc (length ls))) allowed (ap (λ p. has_some (writes_in p)) empty) (last_outcome (Commit x) ls l.rows Plain l.outcomes o s.fits.told s.fits.rowed.counted))
+              (mail_opened es ls l.store l.sent l.letters l.tickets l.outcomes l.served (Commit x) o tt s.mail)
+              (fits_commit_none es x ls l.store l.rows l.outcomes l.ended t good at idle allowed s.fits empty)
+              s.asks,
         )
 
     -- some key is written
@@ -274,15 +268,14 @@ module _ (es : List Event) (l : Lists) (ls : List Line) (s : StandsAt es l ls) w
             let fresh : sent_request es tk ≡ None = m1.listed tk ∙ ap (λ z. request_in l.sent z) (position_fresh l1.tickets m) in
             let a = m1.rowed in
             let b = s.fits.told in
-            let c = length-append l.outcomes (Unfinished ∷ []) in
-            (
+            let c = length-append l.outcomes (Unfinished ∷ []) in (
               Sent tk r ∷ es,
               close es (Sent tk r ∷ es) l l2 (Commit x) ls s
-              (extends_then ls l.sent l.sent l2.sent l.outcomes l1.outcomes l1.outcomes l.ended l1.ended l1.ended (extends_open ls l.sent l.outcomes l.ended Unfinished 0 s.fits.told s.fits.times.counted (inl refl)) (extends_send ls l.sent l1.outcomes l1.ended (record { ticket = tk; at = length l1.outcomes; to = Placement; request = r; askers = [] }) (omega arith)))
-              (cause_of true (outcome_of (l.outcomes ++ Unfinished ∷ []) (suc (length ls))) allowed (ap (λ q. has_some (writes_in q)) puts) (inl (last_outcome (Commit x) ls l.rows Plain l.outcomes Unfinished s.fits.told s.fits.rowed.counted)))
-              (mail_sent es (Commit x) ls l.store l.sent l.letters l1.tickets l1.outcomes l.served m Placement r (omega arith) (omega arith) m1)
-              (fits_commit_sent es x ls l.store l.rows l.outcomes l.ended t good at idle allowed s.fits p tk puts refl refl fresh (m1.unsent tk fresh).1)
-              (asks_push l.sent (record { ticket = tk; at = length l1.outcomes; to = Placement; request = r; askers = [] }) s.asks tt),
+                  (extends_then ls l.sent l.sent l2.sent l.outcomes l1.outcomes l1.outcomes l.ended l1.ended l1.ended (extends_open ls l.sent l.outcomes l.ended Unfinished 0 s.fits.told s.fits.times.counted (inl refl)) (extends_send ls l.sent l1.outcomes l1.ended (record { ticket = tk; at = length l1.outcomes; to = Placement; request = r; askers = [] }) (omega arith)))
+                  (cause_of true (outcome_of (l.outcomes ++ Unfinished ∷ []) (suc (length ls))) allowed (ap (λ q. has_some (writes_in q)) puts) (inl (last_outcome (Commit x) ls l.rows Plain l.outcomes Unfinished s.fits.told s.fits.rowed.counted)))
+                  (mail_sent es (Commit x) ls l.store l.sent l.letters l1.tickets l1.outcomes l.served m Placement r (omega arith) (omega arith) m1)
+                  (fits_commit_sent es x ls l.store l.rows l.outcomes l.ended t good at idle allowed s.fits p tk puts refl refl fresh (m1.unsent tk fresh).1)
+                  (asks_push l.sent (record { ticket = tk; at = length l1.outcomes; to = Placement; request = r; askers = [] }) s.asks tt),
             )
 
     pub commit_starts_stand : allows_commit t.status ≡ true → StandsSo (commit_begun (opened l (Committing x) Unfinished 0) x) (Commit x ∷ ls)

@@ -1,38 +1,25 @@
 -- What each line makes of the rows, of what is out, and of the outcomes.
-use Rattle.std.proofs.Common.{◌≡◌, ◌≢◌, ℕ, zero, suc, ◌+◌, ◌-◌, ◌<◌, ◌≤◌, ◌⊎◌, inl, inr, Bool, true, false, not, ◌&&◌, ◌||◌, if◌then◌else◌, List, [], ◌∷◌, ◌++◌, Option, Some, None, length, get_or, set, slice_get, is_some, nat_eq, nat_le, nat_lt, refl, sym, ap, ◌∙◌, subst, subst₂, arith, length-append, length-set}
+use Rattle.std.proofs.Common.{◌≡◌, ◌≢◌, ℕ, suc, ◌≤◌, ◌⊎◌, inl, inr, Bool, true, false, List, [], ◌∷◌, ◌++◌, Some, None, length, is_some, nat_eq, refl, sym, ap, ◌∙◌, subst, subst₂, arith, length-append}
 use Rattle.std.proofs.lemmas.Bool.Decides.{nat_tests}
-use Rattle.txn_kv.specs.declared.request.Request.{Request}
-use Rattle.txn_kv.specs.declared.reply.Reply.{Reply}
 use Rattle.txn_kv.specs.declared.ticket.Ticket.{Ticket}
-use Rattle.txn_history.specs.Event.{Event, same_ticket, sent_request, taken_reply, is_out}
-use Rattle.txn_history.specs.Event.Event.{Sent, Served, Took}
-use Rattle.txn_model.specs.declared.cell.Cell.{Cell}
-use Rattle.txn_model.specs.Store.{Store, opening}
+use Rattle.txn_history.specs.Event.{Event, sent_request, taken_reply}
+use Rattle.txn_history.specs.Event.Event.{Sent}
+use Rattle.txn_model.specs.Store.{Store}
 use Rattle.txn_script.specs.Lines.{line_at, why_after}
 use Rattle.txn_script.specs.declared.line.Line.{Line}
 use Rattle.txn_script.specs.declared.line.Line.TheVariants.{Blank, Client, Begin, Put, Commit, Deliver}
 use Rattle.txn_report.specs.declared.outcome.Outcome.{Outcome}
-use Rattle.txn_report.specs.declared.outcome.Outcome.TheVariants.{Ok, Err, Unfinished, Done, Skipped}
-use Rattle.txn_report.specs.declared.outcome.Payload.TheVariants.{Unit as Nothing, Number, Commit as Committed_at}
-use Rattle.txn_run.specs.declared.transaction.Transaction.{Transaction}
-use Rattle.txn_run.specs.declared.transaction.Put.{Put as Write}
-use Rattle.txn_run.specs.declared.transaction.CommitCall.{CommitCall}
-use Rattle.txn_run.specs.declared.transaction.Stage.{Stage}
-use Rattle.txn_run.specs.declared.transaction.Stage.TheVariants.{FindingRegion}
-use Rattle.txn_run.specs.declared.transaction.Status.{Status}
-use Rattle.txn_run.specs.declared.transaction.Status.TheVariants.{Active, StartedCommit, Committed}
+use Rattle.txn_report.specs.declared.outcome.Outcome.TheVariants.{Unfinished}
 use Rattle.txn_run.specs.declared.machine.Row.{Row}
 use Rattle.txn_run.specs.declared.machine.Row.TheVariants.{Plain, Beginning, Running, Committing}
-use Rattle.txn_run.specs.Commit.{at_stage}
 use Rattle.txn_run.specs.Lists.{row_at, ask_one}
 use Rattle.txn_run.specs.Script.{outcome_of}
-use Rattle.txn_run.specs.Causes.{Written, is_ok, is_unfinished, is_call_of, status_of, status_after, writes_of, with_write, OwnIsOut, allows_commit}
-use Rattle.txn_run.specs.Rowed.{AreGood, writes_in, IsIdleBut, CommitFits, CallFits, RunningFits, BeginningFits, RowFits, IsBegun, Rowed, BeginAwaits, CommitAwaits, Awaited, asked_at, CallCells, StageCells, Lone, Times, Fits}
-use Rattle.txn_run.proofs.Lists.{or_last}
-use Rattle.txn_run.proofs.Knowns.{times_open, times_set}
-use Rattle.txn_run.proofs.Lines.{line_new, line_old, line_within, line_cases, row_new, row_old, row_cases, row_within, row_same, row_other, row_put, outcome_same, outcome_other, good_few, good_second, one_begin, no_begin, status_same, writes_same, no_writes, status_ended}
-use Rattle.txn_run.proofs.Opens.{Leaves, IsQuietLine, old_outcome, old_row, old_line, status_old, writes_old, idle_old, running_old, beginning_old, last_outcome, last_row, rowed_quiet, awaited_quiet, lone_opened}
-use Rattle.txn_run.proofs.Ones.{good_commit, good_put, status_none, writes_none, OtherRow, others_old, rowed_one, NoneOut, no_begin_none_out, idle_none_out, none_unfinished, awaited_none, sent_is, sent_out, awaited_sent, taken_none_out}
+use Rattle.txn_run.specs.Causes.{is_unfinished, is_call_of}
+use Rattle.txn_run.specs.Rowed.{BeginningFits, RowFits, IsBegun, Rowed, Fits}
+use Rattle.txn_run.proofs.Knowns.{times_open}
+use Rattle.txn_run.proofs.Lines.{line_new, line_cases, row_cases, no_begin}
+use Rattle.txn_run.proofs.Opens.{IsQuietLine, old_outcome, old_line, last_outcome, last_row, rowed_quiet, awaited_quiet, lone_opened}
+use Rattle.txn_run.proofs.Ones.{good_commit, good_put, status_none, writes_none, NoneOut, no_begin_none_out, none_unfinished, sent_is, awaited_sent}
 
 -- A line that sends nothing and leaves the transaction as it is.
 

@@ -1,10 +1,8 @@
 -- When each outcome comes, by the lines before and what was known of them.
-use Rattle.std.specs.Prelude.{◌≡◌, ◌⊎◌, ℕ, ◌+◌, ◌<◌, ◌≤◌, Bool, true, false, not, ◌&&◌, ◌||◌, if◌then◌else◌, List, [], ◌∷◌, length, Option, Some, None, nat_eq, is_some}
+use Rattle.std.specs.Prelude.{◌≡◌, ◌⊎◌, ℕ, ◌+◌, ◌≤◌, Bool, true, false, not, ◌&&◌, ◌||◌, if◌then◌else◌, List, [], ◌∷◌, length, Option, Some, None, nat_eq, is_some}
 use Rattle.std.specs.Cmp.Lexicographic.{pointwise}
 use Rattle.txn_kv.specs.declared.ticket.Ticket.{Ticket}
-use Rattle.txn_kv.specs.declared.errors.Error.{Error}
-use Rattle.txn_kv.specs.declared.errors.Error.TheVariants.{OperationAfterCommitError, InternalError, OutOfMemory}
-use Rattle.txn_kv.specs.declared.request.Request.{Request}
+use Rattle.txn_kv.specs.declared.errors.Error.TheVariants.{OperationAfterCommitError}
 use Rattle.txn_kv.specs.declared.request.Request.TheVariants.{Tso}
 use Rattle.txn_kv.specs.declared.request.TsoRequest.{TsoRequest}
 use Rattle.txn_history.specs.Event.{Event, sent_request, is_out, is_served}
@@ -13,7 +11,6 @@ use Rattle.txn_script.specs.declared.line.Line.{Line}
 use Rattle.txn_script.specs.declared.line.Line.TheVariants.{Blank, Client, Begin, Put, Commit, Deliver}
 use Rattle.txn_report.specs.declared.outcome.Outcome.{Outcome}
 use Rattle.txn_report.specs.declared.outcome.Outcome.TheVariants.{Ok, Err, Unfinished, Done, Skipped}
-use Rattle.txn_report.specs.declared.outcome.Payload.{Payload}
 use Rattle.txn_report.specs.declared.outcome.Payload.TheVariants.{Unit as Nothing, Number, Commit as Committed_at}
 use Rattle.txn_report.specs.declared.report.SentNote.{SentNote}
 use Rattle.txn_run.specs.declared.transaction.Status.{Status}

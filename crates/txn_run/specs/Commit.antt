@@ -2,7 +2,6 @@
 use Rattle.std.specs.Prelude.{ℕ, ◌^◌, ◌-◌, Bool, true, false, ◌&&◌, if◌then◌else◌, List, [], ◌∷◌, Option, Some, None, ℤ, pos, negsuc, nat_lt}
 use Rattle.txn_kv.specs.Codec.{encoded}
 use Rattle.txn_kv.specs.Timestamp.{version_of}
-use Rattle.txn_kv.specs.declared.message.Context.{Context}
 use Rattle.txn_kv.specs.declared.message.ApiVersion.TheVariants.{V1}
 use Rattle.txn_kv.specs.declared.message.Op.TheVariants.{Put as Put_op}
 use Rattle.txn_kv.specs.declared.message.Assertion.TheVariants.{None as No_assertion}
@@ -30,7 +29,6 @@ use Rattle.txn_run.specs.declared.transaction.Stage.{Stage}
 use Rattle.txn_run.specs.declared.transaction.Stage.TheVariants.{FindingRegion, FindingStore, Prewriting, Stamping, Committing}
 use Rattle.txn_run.specs.declared.transaction.Status.TheVariants.{StartedCommit, Committed}
 use Rattle.txn_run.specs.declared.transaction.Turn.{Turn}
-use Rattle.txn_run.specs.declared.transaction.Sending.{Sending}
 
 -- the transaction afterwards, and what its call does
 pub record Step : Type 0 where

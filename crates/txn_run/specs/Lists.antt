@@ -1,5 +1,5 @@
 -- The lists of a machine, and what each step makes of them.
-use Rattle.std.specs.Prelude.{◌≡◌, ℕ, ◌+◌, ◌-◌, ◌<◌, ◌≤◌, Bool, true, false, not, ◌&&◌, if◌then◌else◌, List, [], ◌∷◌, ◌++◌, length, Option, Some, None, slice_get, slice_set, slice_index_or}
+use Rattle.std.specs.Prelude.{◌≡◌, ℕ, ◌+◌, ◌-◌, ◌≤◌, Bool, true, false, not, ◌&&◌, if◌then◌else◌, List, [], ◌∷◌, ◌++◌, length, Option, Some, None, slice_get, slice_set}
 use Rattle.std.specs.List.{flat_map}
 use Rattle.std.proofs.Common.{zero, suc}
 use Rattle.txn_kv.specs.declared.errors.Error.TheVariants.{OperationAfterCommitError, InternalError}
@@ -19,9 +19,6 @@ use Rattle.txn_report.specs.declared.outcome.Outcome.{Outcome}
 use Rattle.txn_report.specs.declared.outcome.Outcome.TheVariants.{Ok, Err, Unfinished, Done, Skipped}
 use Rattle.txn_report.specs.declared.outcome.Payload.TheVariants.{Unit as Nothing, Number}
 use Rattle.txn_report.specs.declared.report.SentNote.{SentNote}
-use Rattle.txn_run.specs.declared.transaction.Transaction.{Transaction}
-use Rattle.txn_run.specs.declared.transaction.Put.{Put as Write}
-use Rattle.txn_run.specs.declared.transaction.CommitCall.{CommitCall}
 use Rattle.txn_run.specs.declared.transaction.Status.{Status}
 use Rattle.txn_run.specs.declared.transaction.Status.TheVariants.{Active, StartedCommit, Committed}
 use Rattle.txn_run.specs.declared.transaction.Turn.{Turn}

@@ -1,5 +1,5 @@
 -- How the machine keeps what was sent.
-use Rattle.std.specs.Prelude.{◌≡◌, ℕ, ◌+◌, ◌-◌, Bool, true, false, if◌then◌else◌, List, [], ◌∷◌, ◌++◌, length, Option, Some, None, slice_get, slice_set, slice_index_or, option_to_list}
+use Rattle.std.specs.Prelude.{◌≡◌, ℕ, ◌+◌, ◌-◌, false, if◌then◌else◌, List, [], ◌∷◌, ◌++◌, length, Option, Some, None, slice_get, slice_set, slice_index_or, option_to_list}
 use Rattle.std.specs.List.{flat_map}
 use Rattle.std.proofs.Common.{zero, suc}
 use Rattle.txn_kv.specs.declared.request.Request.{Request}

@@ -68,22 +68,25 @@ pub record Edges : Type 0 where
   pub write_faults : ℕ
   pub write_faults_after : ℕ
 
--- the source was read to its end, what it had is a script, and the sink was given the text of its report
+-- no read failed, the source was read to its end, what it had is a script, and the sink was given the text of its report
 pub record Reported (e : Edges) (report : Report) : Type 0 where
+  pub unfailed : e.read_faults_after ≡ e.read_faults
   pub bytes : List ℕ
   pub consumed : Consumes e.left e.left_after bytes
   pub to_end : IsAtEnd e.left_after
   pub ran : Ran bytes report
   pub text : Appends e.written e.written_after (text_of_report report)
 
--- the first bad line stands among what was read, whatever follows it
+-- no read failed, and the first bad line stands among what was read, whatever follows it
 pub record FoundBad (e : Edges) (line : ℕ) (why : Why) : Type 0 where
+  pub unfailed : e.read_faults_after ≡ e.read_faults
   pub bytes : List ℕ
   pub read : ReadsAll e.left e.left_after bytes
   pub bad : IsFirstBad bytes line why
 
--- the sink took the first bytes of the text of a report for the source's script, and then failed
+-- no read failed, and the sink took the first bytes of the text of a report for the source's script, and then failed
 pub record CutShort (e : Edges) (taken : ℕ) : Type 0 where
+  pub unfailed : e.read_faults_after ≡ e.read_faults
   pub rose : Rose e.write_faults e.write_faults_after
   pub bytes : List ℕ
   pub consumed : Consumes e.left e.left_after bytes

@@ -1,6 +1,5 @@
 -- What stands at each line, and what is out, by the lines and their outcomes.
-use Rattle.std.specs.Prelude.{◌≡◌, ◌≢◌, ◌⊎◌, ℕ, ◌+◌, ◌<◌, ◌≤◌, Bool, true, false, List, [], ◌∷◌, length, Option, Some, None, slice_index_or as get_or}
-use Rattle.std.proofs.Common.{zero, suc}
+use Rattle.std.specs.Prelude.{◌≡◌, ◌≢◌, ◌⊎◌, ℕ, ◌+◌, ◌<◌, ◌≤◌, true, false, List, [], ◌∷◌, length, Option, Some, None, slice_index_or as get_or}
 use Rattle.txn_kv.specs.declared.request.Request.{Request}
 use Rattle.txn_kv.specs.declared.request.Request.TheVariants.{GetRegion, GetStore}
 use Rattle.txn_kv.specs.declared.ticket.Ticket.{Ticket}
@@ -13,7 +12,7 @@ use Rattle.txn_model.specs.Store.{Store, opening}
 use Rattle.txn_model.specs.Placement.{region_record, leader_of}
 use Rattle.txn_script.specs.Lines.{line_at, why_after}
 use Rattle.txn_script.specs.declared.line.Line.{Line}
-use Rattle.txn_script.specs.declared.line.Line.TheVariants.{Begin, Commit}
+use Rattle.txn_script.specs.declared.line.Line.TheVariants.{Begin, Commit, Deliver}
 use Rattle.txn_report.specs.declared.outcome.Outcome.{Outcome}
 use Rattle.txn_report.specs.declared.outcome.Outcome.TheVariants.{Ok, Unfinished, Skipped}
 use Rattle.txn_report.specs.declared.outcome.Payload.TheVariants.{Number}
@@ -179,6 +178,13 @@ pub record Times (outs : List Outcome) (ended : List ℕ) : Type 0 where
   pub still : (i : ℕ) → get_or ended i 0 ≡ 0 → get_or outs i Unfinished ≡ Unfinished
   pub own : (i : ℕ) → get_or ended i 0 ≢ 0 → i < get_or ended i 0
   pub over : (i : ℕ) → get_or ended i 0 ≢ 0 → is_unfinished (get_or outs i Unfinished) ≡ false
+
+-- The outcome of the line at place i came in the step of line e: its own, or one that delivers a ticket of it.
+abbrev pub CameIn : List Line → ℕ → ℕ → Type 0
+CameIn lines i e = (e ≡ i + 1) ⊎ ((t : Ticket) × (line_at lines e ≡ Some (Deliver t)) × (t.line ≡ i + 1))
+
+abbrev pub AllCame : List Line → List ℕ → Type 0
+AllCame lines ended = (i : ℕ) → get_or ended i 0 ≢ 0 → CameIn lines i (get_or ended i 0)
 
 -- The rows, what is out, the store and the outcomes are where the lines leave them.
 pub record Fits (es : List Event) (lines : List Line) (store : Store) (rows : List Row) (outs : List Outcome) (ended : List ℕ) : Type 0 where

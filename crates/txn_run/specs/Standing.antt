@@ -11,4 +11,3 @@ free_status t = by_call t.call
     by_call : Option CommitCall → Option Status
     by_call None = Some t.status
     by_call (Some c) = None
-

@@ -1,5 +1,5 @@
 -- A machine and the lines that it stands for, of which the newest is the first.
-use Rattle.std.specs.Prelude.{◌≡◌, ℕ, ◌+◌, Bool, true, false, if◌then◌else◌, List, [], ◌∷◌, length, Option, Some, None, nat_eq, drop, map, ◌++◌, slice_get, option_to_list}
+use Rattle.std.specs.Prelude.{◌≡◌, ℕ, Bool, false, if◌then◌else◌, List, [], ◌∷◌, length, Option, Some, None, nat_eq, drop, map, ◌++◌, slice_get, option_to_list}
 use Rattle.std.proofs.Common.{zero, suc}
 use Rattle.txn_kv.specs.declared.ticket.Ticket.{Ticket}
 use Rattle.txn_script.specs.Lines.{why_after}
@@ -13,18 +13,27 @@ use Rattle.txn_report.specs.declared.report.SentNote.{SentNote}
 use Rattle.txn_run.specs.declared.machine.Machine.{Machine}
 use Rattle.txn_run.specs.declared.note.StepNote.{StepNote}
 use Rattle.txn_run.specs.declared.note.Ending.{Ending}
-use Rattle.txn_run.specs.Posting.{place_in}
+use Rattle.txn_run.specs.Posting.{places_of, place_in}
+use Rattle.txn_run.specs.Lawful.{sent_of, IsMail}
 use Rattle.txn_run.specs.Lists.{Lists, lists_of}
 use Rattle.txn_run.specs.Script.{outcome_of, history}
+use Rattle.txn_run.specs.Rowed.{AllCame}
 use Rattle.txn_run.specs.Stands.{StandsAt}
 
 -- no step of the machine answered that memory is wanting
 pub record HasMemory (m : Machine) : Type 0 where
   pub whole : m.broken ≡ false
 
+-- what was sent is in order, and the lists of places have as many entries as were sent of each line
+pub record IsMailOf (sent : List SentNote) (tickets : List (List ℕ)) : Type 0 where
+  pub mail : IsMail sent
+  pub counted : (n : ℕ) → length (places_of tickets n) ≡ sent_of n sent
+
 -- the lists and the kinds of lines are where these lines leave them
 pub record Standing (m : Machine) (lines : List Line) : Type 0 where
   pub lists : StandsAt (history m.post.sent.items m.outcomes.items lines) (lists_of m) lines
+  pub came : AllCame lines m.ended.items
+  pub posted : IsMailOf m.post.sent.items m.post.tickets.items
   pub kinds : m.kinds ≡ kinds_of lines
 
 -- A machine stands for these lines. Where memory was wanting, nothing is said.

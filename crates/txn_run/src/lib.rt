@@ -1,12 +1,11 @@
 //! Runs scripts: a machine that goes through the lines, the report of what they did, and the program.
 #![tactic(auto)]
 
-mod post;
-mod transaction;
-
 pub mod machine;
 pub mod note;
+mod post;
 pub mod program;
+mod transaction;
 
 pub use machine::Machine;
 pub use note::{Ending, StepNote};
@@ -16,3 +15,6 @@ pub use txn_script::{BadAt, Line, Script, Why, parse_line, parse_script};
 pub use txn_stream::{
     Failed, MemorySink, MemorySource, Sink, Source, StdinSource, StdoutSink, SureSink, SureSource,
 };
+
+#[cfg(test)]
+mod tests;

@@ -12,7 +12,9 @@ use crate::post::{Letter, Post};
 use crate::transaction::{Put, Sending, Status, Transaction, Turn, version_in};
 use std::alloc::Global;
 use std::mem::replace;
-use txn_kv::{Error, Internal, Items, Key, NoMemory, Reply, Request, Target, Ticket, TsoRequest, Value};
+use txn_kv::{
+    Error, Internal, Items, Key, NoMemory, Reply, Request, Target, Ticket, TsoRequest, Value,
+};
 use txn_model::ModelStore;
 use txn_report::{Outcome, Payload, Report};
 use txn_script::{Line, LineKinds, Why};
@@ -26,9 +28,7 @@ pub enum Row {
     /// A transaction that has begun.
     Running(Transaction),
     /// A commit of the transaction of this line.
-    Committing {
-        transaction: u64,
-    },
+    Committing { transaction: u64 },
 }
 
 /// A machine that runs a script line by line.
@@ -313,7 +313,11 @@ impl Machine {
     {
         let line = self.next_line();
         self.open(Row::Beginning, Outcome::Unfinished, 0)?;
-        self.send(line, Target::Placement, Request::Tso(TsoRequest { count: 1 }))
+        self.send(
+            line,
+            Target::Placement,
+            Request::Tso(TsoRequest { count: 1 }),
+        )
     }
 
     /// The status of a transaction that has begun and has no call open.

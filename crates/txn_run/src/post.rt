@@ -56,10 +56,7 @@ impl Post {
         }
         match self.tickets.get(ticket.line as usize - 1) {
             None => None,
-            Some(places) => places
-                .as_slice()
-                .get(ticket.number as usize - 1)
-                .copied(),
+            Some(places) => places.as_slice().get(ticket.number as usize - 1).copied(),
         }
     }
 

@@ -17,15 +17,10 @@ pub enum End {
     /// There are words on the command line, and none are known.
     BadWords,
     /// The first bad line, counted from 1, and its first reason.
-    BadLine {
-        line: u64,
-        why: Why,
-    },
+    BadLine { line: u64, why: Why },
     ReadFault,
     /// The sink took this many bytes of the report's text, and then failed.
-    WriteFault {
-        written: u64,
-    },
+    WriteFault { written: u64 },
     OutOfMemory,
 }
 
@@ -118,8 +113,16 @@ fn write_report<K: Sink>(alloc: Global, report: Report, sink: &mut K) -> End
 
 /// Runs what a source has left, and writes the report.
 fn run_source<S: Source, K: Sink>(alloc: Global, source: &mut S, sink: &mut K) -> End
-    ensures run { EndOfRun (record { left = S.left source.old; left_after = S.left source.new; read_faults = S.faults source.old; read_faults_after = S.faults source.new;
-        written = K.written sink.old; written_after = K.written sink.new; write_faults = K.faults sink.old; write_faults_after = K.faults sink.new }) result }
+    ensures run { EndOfRun (record {
+      left = S.left source.old;
+      left_after = S.left source.new;
+      read_faults = S.faults source.old;
+      read_faults_after = S.faults source.new;
+      written = K.written sink.old;
+      written_after = K.written sink.new;
+      write_faults = K.faults sink.old;
+      write_faults_after = K.faults sink.new;
+    }) result }
     ensures unwritten { WritesNothing result sink.old sink.new }
 {
     match read_all(alloc, source) {
@@ -146,8 +149,16 @@ pub fn run_program<S: Source, K: Sink>(
     ensures status { result.status ≡ status_of_end result.end }
     // There are words, and nothing is read or written.
     ensures words { 0 < vec_len words.now → (result.end ≡ End.BadWords) × (source.new ≡ source.old) × (sink.new ≡ sink.old) }
-    ensures run { vec_len words.now ≡ 0 → EndOfRun (record { left = S.left source.old; left_after = S.left source.new; read_faults = S.faults source.old; read_faults_after = S.faults source.new;
-        written = K.written sink.old; written_after = K.written sink.new; write_faults = K.faults sink.old; write_faults_after = K.faults sink.new }) result.end }
+    ensures run { vec_len words.now ≡ 0 → EndOfRun (record {
+      left = S.left source.old;
+      left_after = S.left source.new;
+      read_faults = S.faults source.old;
+      read_faults_after = S.faults source.new;
+      written = K.written sink.old;
+      written_after = K.written sink.new;
+      write_faults = K.faults sink.old;
+      write_faults_after = K.faults sink.new;
+    }) result.end }
     ensures unwritten { WritesNothing result.end sink.old sink.new }
 {
     let end = if words.is_empty() {

@@ -4,9 +4,10 @@ ghost use Rattle.txn_run.specs.Commit.{Step, started, turned, version_in, fails,
 
 use std::alloc::Global;
 use txn_kv::{
-    ApiVersion, Assertion, CommitRequest, Context, Error, GetRegionRequest, GetStoreRequest,
-    Internal, Items, Key, Mutation, NoMemory, Op, Peer, PrewriteRequest, Region, Reply, Request,
-    StoreId, Target, Timestamp, TimestampExt, TsoRequest, Value, GetRegionResponse, PrewriteResponse, CommitResponse,
+    ApiVersion, Assertion, CommitRequest, CommitResponse, Context, Error, GetRegionRequest,
+    GetRegionResponse, GetStoreRequest, Internal, Items, Key, Mutation, NoMemory, Op, Peer,
+    PrewriteRequest, PrewriteResponse, Region, Reply, Request, StoreId, Target, Timestamp,
+    TimestampExt, TsoRequest, Value,
 };
 use txn_report::{Outcome, Payload};
 
@@ -135,7 +136,13 @@ impl Put {
     }
 
     /// Commits the key.
-    fn commit(&self, alloc: Global, start: u64, place: Place, commit: u64) -> Result<Request, NoMemory>
+    fn commit(
+        &self,
+        alloc: Global,
+        start: u64,
+        place: Place,
+        commit: u64,
+    ) -> Result<Request, NoMemory>
         ensures { IfOk result (λ request. request ≡ commit_of start self.now place commit) }
     {
         let mut keys = Items::new(alloc);
@@ -290,7 +297,12 @@ impl Transaction {
             None => Ok(self.fail()),
             Some(put) => {
                 let request = put.prewrite(alloc, self.start, place)?;
-                Ok(self.send(line, Stage::Prewriting { place }, Target::Store(place.store), request))
+                Ok(self.send(
+                    line,
+                    Stage::Prewriting { place },
+                    Target::Store(place.store),
+                    request,
+                ))
             }
         }
     }

@@ -1,4 +1,4 @@
-ghost use Rattle.std.specs.Prelude.{◌≡◌, ◌<◌, Some, take, drop, length, ◌≤◌, IfOk, OnErr, is_err};
+ghost use Rattle.std.specs.Prelude.{◌≡◌, ◌<◌, Some, take, drop, length, ◌≤◌, IfOk, OnOk, OnErr, is_err};
 ghost use Rattle.std.specs.Io.KnownBytes.{ReadConsumes};
 ghost use Rattle.txn_stream.specs.Bytes.{Rose};
 ghost use Rattle.txn_stream.specs.Memory.{fails};
@@ -62,6 +62,7 @@ impl Source for MemorySource {
         ensures within { IfOk result (λ n. n ≤ length buf.new) }
         ensures bytes { ReadConsumes (Some self.old.left) (Some self.new.left) result buf.new }
         ensures counted { self.old.faults ≤ self.new.faults }
+        ensures unfailed { OnOk result (self.new.faults ≡ self.old.faults) }
         ensures failed { OnErr result (Rose self.old.faults self.new.faults) }
         ensures listed { is_err result ≡ fails self.old.calls self.old.failing }
     {

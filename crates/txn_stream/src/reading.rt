@@ -1,4 +1,4 @@
-ghost use Rattle.std.specs.Prelude.{◌≡◌, ◌≤◌, IfOk, vec_len};
+ghost use Rattle.std.specs.Prelude.{◌≡◌, ◌≤◌, IfOk, vec_len, OnOk};
 ghost use Rattle.txn_stream.specs.Bytes.{Rose, ReadsAll};
 ghost use Rattle.txn_stream.specs.declared.reading.ReadStop.TheVariants.{Memory, Fault};
 
@@ -46,6 +46,7 @@ fn buffer_of(alloc: Global, len: usize) -> Result<Vec<u8>, AllocError>
 pub fn read_all<S: Source>(alloc: Global, source: &mut S) -> Result<Vec<u8>, ReadStop>
     ensures read { IfOk result (λ v. ReadsAll (S.left source.old) (S.left source.new) v.items) }
     ensures counted { S.faults source.old ≤ S.faults source.new }
+    ensures unfailed { OnOk result (S.faults source.new ≡ S.faults source.old) }
     ensures fault { result ≡ Err ReadStop.Fault → Rose (S.faults source.old) (S.faults source.new) }
 {
     let mut bytes = Vec::new(alloc);

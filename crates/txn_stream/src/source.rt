@@ -1,4 +1,4 @@
-ghost use Rattle.std.specs.Prelude.{◌≡◌, ℕ, ◌<◌, ◌≤◌, List, Option, length, IfOk, OnErr};
+ghost use Rattle.std.specs.Prelude.{◌≡◌, ℕ, ◌<◌, ◌≤◌, List, Option, length, IfOk, OnOk, OnErr};
 ghost use Rattle.std.specs.Io.KnownBytes.{ReadConsumes};
 ghost use Rattle.txn_stream.specs.Bytes.{Rose};
 
@@ -11,7 +11,7 @@ pub trait Source {
     // The bytes to come, where they are told.
     ghost left: { Self → Option (List ℕ) };
 
-    // How many reads went wrong. The count never falls, and stays at its last value.
+    // How many reads went wrong. The count rises with each that does, up to its last value, and with no other.
     ghost faults: { Self → ℕ };
 
     /// Puts the next bytes into the front of `buf`, and says how many they are. There are none only at the end.
@@ -20,5 +20,6 @@ pub trait Source {
         ensures within { IfOk result (λ n. n ≤ length buf.new) }
         ensures bytes { ReadConsumes (left self.old) (left self.new) result buf.new }
         ensures counted { faults self.old ≤ faults self.new }
+        ensures unfailed { OnOk result (faults self.new ≡ faults self.old) }
         ensures failed { OnErr result (Rose (faults self.old) (faults self.new)) };
 }

@@ -3,7 +3,7 @@
 
 use std::alloc::Global;
 use std::env;
-use std::io;
+use std::io::{self, ErrorKind};
 use std::process::ExitCode;
 use txn_run::{StdinSource, StdoutSink, run_program};
 
@@ -18,8 +18,11 @@ fn words(rt: &HostRuntime, alloc: Global) -> io::Result<Vec<String>> {
 
 fn main(rt: HostRuntime) -> ExitCode {
     let alloc = rt.alloc();
-    let Ok(words) = words(&rt, alloc) else {
-        return ExitCode::from(6);
+    let words = match words(&rt, alloc) {
+        Ok(words) => words,
+        // A word that is no text is not among those that are known.
+        Err(error) if error.kind() == ErrorKind::InvalidData => return ExitCode::from(2),
+        Err(_) => return ExitCode::from(6),
     };
     let mut source = StdinSource::new(rt.stdin());
     let mut sink = StdoutSink::new(rt.stdout());

@@ -1,4 +1,4 @@
-use Rattle.std.proofs.Common.{◌-◌, ◌<◌, ◌≤◌, vec_len}
+use Rattle.std.proofs.Common.{◌≡◌, ◌-◌, ◌<◌, vec_len}
 use Rattle.std.specs.Io.KnownBytes.{Consumes}
 use Rattle.txn_stream.specs.Bytes.{most_bytes}
 use Rattle.txn_stream.proofs.reading.read_all.Given as goal
@@ -7,7 +7,7 @@ abbrev pub invariant-loop-source : goal.invariant-loop-source
 invariant-loop-source g l = record {
   read : Consumes (g.S.Source.left l.fn.source) (g.S.Source.left l.source) l.bytes.items;
   room : 0 < vec_len l.buffer;
-  counted : g.S.Source.faults l.fn.source ≤ g.S.Source.faults l.source;
+  unfailed : g.S.Source.faults l.source ≡ g.S.Source.faults l.fn.source;
 }
 
 abbrev pub decreases-loop-source : goal.decreases-loop-source

@@ -1,5 +1,5 @@
 use Rattle.std.proofs.Common.{◌∙◌, ◌-◌, ap, sym, arith}
-use Rattle.txn_run.specs.Lists.{lists_of, row_set}
+use Rattle.txn_run.specs.Lists.{lists_of}
 use Rattle.txn_run.proofs.Rows.{set_here, unwritten}
 use Rattle.txn_run.proofs.machine.Machine.write.Goals as goal
 
