@@ -1,5 +1,5 @@
 -- Each variant: its layer is told apart by the match, and `search` does not unfold the fold over it.
-use Rattle.std.proofs.Common.{arith, ap, sym, ℕ, List, ◌≡◌, ◌∙◌, ◌++◌, codes, map}
+use Rattle.std.proofs.Common.{arith, ap, sym, ℕ, List, ◌∙◌, ◌++◌, codes, map}
 use Rattle.txn_kv.specs.declared.errors.Error.TheFolds.{fold-roll-Error}
 use Rattle.txn_kv.specs.declared.errors.Error.TheOpen as layer
 use Rattle.txn_kv.specs.declared.errors.Error.TheVariants as errors

@@ -1,5 +1,5 @@
-use Rattle.std.proofs.Common.{◌≡◌, ◌+◌, ◌-◌, ◌^◌, ◌++◌, min, drop}
-use Rattle.txn_buffer.specs.Contents.{Contents, first_locking, missing_keys, mutations, write_size}
+use Rattle.std.proofs.Common.{◌≡◌, ◌++◌, drop}
+use Rattle.txn_buffer.specs.Contents.{missing_keys}
 use Rattle.txn_buffer.proofs.buffer.Buffer.batch_missing.Given as goal
 
 abbrev pub invariant-loop-key : goal.invariant-loop-key

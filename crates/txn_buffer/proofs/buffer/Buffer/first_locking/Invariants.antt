@@ -1,5 +1,5 @@
-use Rattle.std.proofs.Common.{◌≡◌, ◌+◌, ◌-◌, ◌^◌, ◌++◌, min, drop}
-use Rattle.txn_buffer.specs.Contents.{Contents, first_locking, missing_keys, mutations, write_size}
+use Rattle.std.proofs.Common.{◌≡◌}
+use Rattle.txn_buffer.specs.Contents.{first_locking}
 use Rattle.txn_buffer.proofs.buffer.Buffer.first_locking.Given as goal
 
 abbrev pub invariant-loop-key : goal.invariant-loop-key

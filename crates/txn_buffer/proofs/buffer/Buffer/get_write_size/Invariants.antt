@@ -1,5 +1,5 @@
-use Rattle.std.proofs.Common.{◌≡◌, ◌+◌, ◌-◌, ◌^◌, ◌≤◌, ◌++◌, min, drop}
-use Rattle.txn_buffer.specs.Contents.{Contents, first_locking, missing_keys, mutations, write_size}
+use Rattle.std.proofs.Common.{◌≡◌, ◌+◌, ◌-◌, ◌^◌, ◌≤◌, min}
+use Rattle.txn_buffer.specs.Contents.{write_size}
 use Rattle.txn_buffer.proofs.buffer.Buffer.get_write_size.Given as goal
 
 abbrev pub invariant-loop-key : goal.invariant-loop-key
