@@ -1,4 +1,9 @@
+pub mod Backoff
 pub mod Codec
+pub mod ErrorView
+pub mod Errors
+pub mod Ranges
+pub mod Region
 pub mod Spelling
 pub mod Timestamp
 pub mod Versions

@@ -1,1 +1,3 @@
+pub mod ErrorText
+pub mod OutcomeView
 pub mod Text

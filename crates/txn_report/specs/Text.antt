@@ -1,33 +1,17 @@
 -- The text of a report: a line for each line of the script, then the keys in order, then how much was sent and served.
-use Rattle.std.specs.Prelude.{ℕ, ◌+◌, List, [], ◌∷◌, ◌++◌, length, codes, decimal, Option, Some, None, if◌then◌else◌}
+use Rattle.std.specs.Prelude.{ℕ, ◌+◌, List, [], ◌∷◌, ◌++◌, length, codes, decimal, Option, Some, None}
 use Rattle.std.specs.List.{flat_map}
-use Rattle.txn_kv.specs.Spelling.{is_plain, hex}
-use Rattle.txn_kv.specs.declared.errors.Error.{Error}
-use Rattle.txn_kv.specs.declared.errors.Error.TheVariants as errors
-use Rattle.txn_kv.specs.declared.errors.Internal.{Internal}
-use Rattle.txn_kv.specs.declared.errors.Internal.TheVariants as internals
 use Rattle.txn_model.specs.declared.cell.Cell.{Cell}
 use Rattle.txn_model.specs.declared.cell.Kind.{Kind}
 use Rattle.txn_model.specs.declared.cell.Kind.TheVariants as kinds
 use Rattle.txn_model.specs.declared.cell.Lock.{Lock}
 use Rattle.txn_model.specs.declared.cell.Write.{Write}
+use Rattle.txn_report.specs.ErrorText.{text_of_bytes, text_of_error}
 use Rattle.txn_report.specs.declared.outcome.Outcome.{Outcome}
 use Rattle.txn_report.specs.declared.outcome.Outcome.TheVariants as outcomes
 use Rattle.txn_report.specs.declared.outcome.Payload.{Payload}
 use Rattle.txn_report.specs.declared.outcome.Payload.TheVariants as payloads
 use Rattle.txn_report.specs.declared.report.Report.{Report}
-
--- letters, digits and `_` as they are, any other in hexadecimal
-abbrev pub text_of_bytes : List ℕ → List ℕ
-text_of_bytes bytes = if is_plain bytes then bytes else codes "x:" ++ hex bytes
-
-abbrev pub text_of_internal : Internal → List ℕ
-text_of_internal internals.WrongReply = codes "WrongReply"
-
-abbrev pub text_of_error : Error → List ℕ
-text_of_error errors.OperationAfterCommitError = codes "OperationAfterCommitError"
-text_of_error (errors.InternalError what) = codes "InternalError " ++ text_of_internal what
-text_of_error errors.OutOfMemory = codes "OutOfMemory"
 
 -- with the space before it
 abbrev pub text_of_payload : Payload → List ℕ

@@ -1,6 +1,7 @@
 //! The report of a run, and its text.
 #![tactic(auto)]
 
+mod error_text;
 pub mod outcome;
 pub mod report;
 mod text;

@@ -1,4 +1,5 @@
 ghost use Rattle.std.specs.Prelude.{◌≡◌, IfOk};
+ghost use Rattle.txn_report.specs.OutcomeView.{view_of_outcome};
 
 use txn_kv::{Error, NoMemory};
 
@@ -39,9 +40,9 @@ impl Payload {
 }
 
 impl Outcome {
-    /// The same outcome, in new memory.
+    /// An outcome of the same view, in new memory.
     pub fn try_clone(&self) -> Result<Outcome, NoMemory>
-        ensures { IfOk result (λ copy. copy ≡ self.now) }
+        ensures { IfOk result (λ copy. view_of_outcome copy ≡ view_of_outcome self.now) }
     {
         Ok(match self {
             Outcome::Ok(payload) => Outcome::Ok(payload.try_clone()?),

@@ -1,34 +1,14 @@
 ghost use Rattle.std.specs.Prelude.{◌≡◌, ◌++◌, IfOk, OnOk};
 ghost use Rattle.std.specs.List.{flat_map};
-ghost use Rattle.txn_report.specs.Text.{text_of_internal, text_of_error, text_of_payload, text_of_outcome, text_of_outcome_line, text_of_outcomes, text_of_kind, text_of_put_value, text_of_lock, text_of_lock_of, text_of_write, text_of_rolled, text_of_cell, text_of_counts, text_of_report};
+ghost use Rattle.txn_report.specs.Text.{text_of_payload, text_of_outcome, text_of_outcome_line, text_of_outcomes, text_of_kind, text_of_put_value, text_of_lock, text_of_lock_of, text_of_write, text_of_rolled, text_of_cell, text_of_counts, text_of_report};
 
+use crate::error_text::push_error;
 use crate::outcome::{Outcome, Payload};
 use crate::report::Report;
 use crate::words::{push_bytes, push_number, push_word};
 use std::alloc::Global;
-use txn_kv::{Error, Internal, NoMemory};
+use txn_kv::NoMemory;
 use txn_model::{Cell, Kind, Lock, Write};
-
-fn internal_name(what: Internal) -> &'static [u8]
-    ensures { result.now ≡ text_of_internal what }
-{
-    match what {
-        Internal::WrongReply => b"WrongReply",
-    }
-}
-
-fn push_error(out: &mut Vec<u8>, error: &Error) -> Result<(), NoMemory>
-    ensures { OnOk result (out.new.items ≡ out.old.items ++ text_of_error error.now) }
-{
-    match error {
-        Error::OperationAfterCommitError => push_word(out, b"OperationAfterCommitError"),
-        Error::InternalError { what } => {
-            push_word(out, b"InternalError ")?;
-            push_word(out, internal_name(*what))
-        }
-        Error::OutOfMemory => push_word(out, b"OutOfMemory"),
-    }
-}
 
 fn push_payload(out: &mut Vec<u8>, payload: &Payload) -> Result<(), NoMemory>
     ensures { OnOk result (out.new.items ≡ out.old.items ++ text_of_payload payload.now) }

@@ -2,7 +2,7 @@
 
 ghost use Rattle.std.specs.Prelude.{◌≡◌, ◌<◌, ◌++◌, decimal, OnOk};
 ghost use Rattle.txn_kv.specs.Spelling.{hex_digit, hex};
-ghost use Rattle.txn_report.specs.Text.{text_of_bytes};
+ghost use Rattle.txn_report.specs.ErrorText.{text_of_bytes};
 
 use itoa::Buffer;
 use txn_kv::NoMemory;

@@ -12,6 +12,7 @@ use Rattle.txn_script.specs.Lines.{why_after}
 use Rattle.txn_script.specs.Kinds.{kinds_of}
 use Rattle.txn_script.specs.declared.line.Line.{Line}
 use Rattle.txn_script.specs.declared.line.Line.TheVariants.{Blank, Client, Begin, Put, Commit, Deliver}
+use Rattle.txn_report.specs.OutcomeView.{view_of_outcome}
 use Rattle.txn_report.specs.declared.outcome.Outcome.{Outcome}
 use Rattle.txn_report.specs.declared.outcome.Outcome.TheVariants.{Ok, Unfinished, Done, Skipped}
 use Rattle.txn_kv.specs.declared.ticket.Target.TheVariants.{Placement}
@@ -252,7 +253,7 @@ drop_old (s ∷ old) ss = drop_old old ss
 pub note_of_step : (es : List Event) (l l' : Lists) (ls : List Line) (line : Line) (note : StepNote) → StandsAt es l ls → length l'.outcomes ≡ suc (length ls) → Grows l l' → IsNoteFrom l' (length l.sent) (delivered_line line) note → IsNote l' line note
 note_of_step es l l' ls line note s longer g n = record {
   place = n.place;
-  outcome = n.outcome ∙ ap (λ p. outcome_of l'.outcomes p) (sym n.place);
+  outcome = n.outcome ∙ ap (λ p. view_of_outcome (outcome_of l'.outcomes p)) (sym n.place);
   sent = n.sent
       ∙ ap (λ ss. map (λ z. z.ticket) (drop (length l.sent) ss)) g.sent
       ∙ ap (λ ss. map (λ z. z.ticket) ss) (drop_old l.sent g.news)

@@ -6,6 +6,7 @@ use Rattle.txn_script.specs.Lines.{why_after}
 use Rattle.txn_script.specs.Kinds.{kinds_of}
 use Rattle.txn_script.specs.declared.line.Line.{Line}
 use Rattle.txn_script.specs.declared.line.Line.TheVariants.{Blank, Client, Begin, Put, Commit, Deliver}
+use Rattle.txn_report.specs.OutcomeView.{OutcomeView, view_of_outcome}
 use Rattle.txn_report.specs.declared.outcome.Outcome.{Outcome}
 use Rattle.txn_report.specs.declared.outcome.Outcome.TheVariants.{Ok, Err, Unfinished, Done, Skipped}
 use Rattle.txn_report.specs.declared.report.SentNote.{SentNote}
@@ -69,29 +70,37 @@ abbrev pub outcome_in : List Outcome → ℕ → Option Outcome
 outcome_in outs zero = None
 outcome_in outs (suc i) = slice_get outs i
 
+-- an ending with the view of its outcome
+pub record EndingView : Type 0 where
+  pub line : ℕ
+  pub outcome : OutcomeView
+
+abbrev pub view_of_ending : Ending → EndingView
+view_of_ending ending = record { line = ending.line; outcome = view_of_outcome ending.outcome }
+
 -- a call that answered
-abbrev pub answered : ℕ → Option Outcome → Option Ending
+abbrev pub answered : ℕ → Option Outcome → Option EndingView
 answered line None = None
-answered line (Some (Ok p)) = Some (record { line = line; outcome = Ok p })
-answered line (Some (Err e)) = Some (record { line = line; outcome = Err e })
+answered line (Some (Ok p)) = Some (record { line = line; outcome = view_of_outcome (Ok p) })
+answered line (Some (Err e)) = Some (record { line = line; outcome = view_of_outcome (Err e) })
 answered line (Some Unfinished) = None
 answered line (Some Done) = None
 answered line (Some Skipped) = None
 
 -- the call of a line, where it answered in the step of the newest
-abbrev pub ending_of : Lists → ℕ → List Ending
+abbrev pub ending_of : Lists → ℕ → List EndingView
 ending_of l line = if ended_now (length l.outcomes) (place_in l.ended line) then option_to_list (answered line (outcome_in l.outcomes line)) else []
 
 -- What a note says of the newest line. In a step the call whose ticket is delivered may end, and the line itself.
 pub record IsNote (l : Lists) (line : Line) (note : StepNote) : Type 0 where
   pub place : note.place ≡ length l.outcomes
-  pub outcome : note.outcome ≡ outcome_of l.outcomes note.place
+  pub outcome : view_of_outcome note.outcome ≡ view_of_outcome (outcome_of l.outcomes note.place)
   pub sent : note.sent ≡ tickets_at note.place l.sent
-  pub ended : note.ended ≡ ending_of l (delivered_line line) ++ ending_of l note.place
+  pub ended : map view_of_ending note.ended ≡ ending_of l (delivered_line line) ++ ending_of l note.place
 
 -- what a note says of the newest line, by where in the list what it sent begins
 pub record IsNoteFrom (l : Lists) (from delivered : ℕ) (note : StepNote) : Type 0 where
   pub place : note.place ≡ length l.outcomes
-  pub outcome : note.outcome ≡ outcome_of l.outcomes (length l.outcomes)
+  pub outcome : view_of_outcome note.outcome ≡ view_of_outcome (outcome_of l.outcomes (length l.outcomes))
   pub sent : note.sent ≡ map (λ s. s.ticket) (drop from l.sent)
-  pub ended : note.ended ≡ ending_of l delivered ++ ending_of l (length l.outcomes)
+  pub ended : map view_of_ending note.ended ≡ ending_of l delivered ++ ending_of l (length l.outcomes)

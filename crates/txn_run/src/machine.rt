@@ -1,8 +1,8 @@
-ghost use Rattle.std.specs.Prelude.{◌≡◌, ◌+◌, ◌-◌, ◌<◌, ◌≤◌, [], ◌∷◌, IfOk, OnOk, OnErr, length, List, IfSome, true, false, Option, Some, None, slice_get, reverse, map, drop, ◌++◌};
+ghost use Rattle.std.specs.Prelude.{◌≡◌, ◌+◌, ◌-◌, ◌<◌, ◌≤◌, [], ◌∷◌, IfOk, OnOk, OnErr, length, List, IfSome, true, false, Option, Some, None, slice_get, reverse, map, option_map, drop, ◌++◌};
 ghost use Rattle.txn_model.specs.Table.{table};
 ghost use Rattle.txn_run.specs.Lists.{lists_of, outs_of, opened, ended_at, row_set, sent_more, next_of, row_at, sent_by, ended_by, followed, ask_one, begins, standing_in, written, puts, commit_begun, commits, request_at, handled, reply_at, start_in, begun, advanced, passed, waits, delivers, stepped, IsEven, IsSound};
 ghost use Rattle.txn_run.specs.Posting.{position, place_in};
-ghost use Rattle.txn_run.specs.StandsFor.{HasMemory, StandsFor, CanStep, delivered_line, ended_now, outcome_in, answered, ending_of, IsNote, IsNoteFrom};
+ghost use Rattle.txn_run.specs.StandsFor.{HasMemory, StandsFor, CanStep, delivered_line, ended_now, outcome_in, view_of_ending, answered, ending_of, IsNote, IsNoteFrom};
 ghost use Rattle.txn_run.specs.Lawful.{Lawful};
 ghost use Rattle.txn_script.specs.Kinds.{kinds_of};
 ghost use Rattle.txn_script.specs.Lines.{why_after};
@@ -169,7 +169,7 @@ impl Machine {
 
     /// What the call of a line answered, if it did.
     fn answer(&self, line: u64) -> Result<Option<Ending>, NoMemory>
-        ensures { IfOk result (λ ending. ending ≡ answered line (outcome_in (lists_of self.now).outcomes line)) }
+        ensures { IfOk result (λ ending. option_map view_of_ending ending ≡ answered line (outcome_in (lists_of self.now).outcomes line)) }
     {
         if line == 0 {
             return Ok(None);
@@ -192,7 +192,7 @@ impl Machine {
 
     /// Notes the call of a line, where it answered in the step of the newest line.
     fn push_ending(&self, endings: &mut Items<Ending>, line: u64) -> Result<(), NoMemory>
-        ensures { OnOk result (endings.new ≡ endings.old ++ ending_of (lists_of self.now) line) }
+        ensures { OnOk result (map view_of_ending endings.new ≡ map view_of_ending endings.old ++ ending_of (lists_of self.now) line) }
     {
         if !self.ended_now(line) {
             return Ok(());

@@ -1,0 +1,10 @@
+//! A transaction's own writes, its locks, and what it has read.
+#![tactic(auto)]
+
+pub mod buffer;
+pub mod entry;
+#[cfg(test)]
+mod tests;
+
+pub use buffer::Buffer;
+pub use entry::Entry;
