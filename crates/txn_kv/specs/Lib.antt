@@ -1,3 +1,4 @@
 pub mod Codec
+pub mod Errors
 pub mod Timestamp
 pub mod Versions

@@ -14,7 +14,7 @@ pub mod ticket;
 pub mod timestamp;
 
 pub use codec::{BytesEncoder, max_encoded_bytes_size};
-pub use errors::{Error, Internal};
+pub use errors::{Error, Internal, Result};
 pub use items::{Items, Value};
 pub use key::Key;
 pub use memory::NoMemory;
