@@ -1,4 +1,5 @@
 pub mod Codec
 pub mod Errors
+pub mod Request
 pub mod Timestamp
 pub mod Versions

@@ -12,6 +12,7 @@ pub mod request;
 pub mod text;
 pub mod ticket;
 pub mod timestamp;
+pub mod try_clone;
 
 pub use codec::{BytesEncoder, max_encoded_bytes_size};
 pub use errors::{Error, Internal, Result};
@@ -19,15 +20,25 @@ pub use items::{Items, Value};
 pub use key::Key;
 pub use memory::NoMemory;
 pub use message::{
-    ApiVersion, Assertion, Context, KeyError, LockInfo, Mutation, Op, Peer, Region, RegionEpoch,
-    RegionErr, StoreLabel, StoreMeta, StoreState,
+    Action, ApiVersion, Assertion, Context, KeyError, KeyRange, LockInfo, Mutation, Op, PbPair,
+    Peer, Region, RegionEpoch, RegionErr, StoreLabel, StoreMeta, StoreState, TxnInfo,
 };
 pub use reply::{
-    CommitResponse, GetRegionResponse, GetStoreResponse, PrewriteResponse, Reply, TsoResponse,
+    BatchGetResponse, BatchRollbackResponse, CheckSecondaryLocksResponse, CheckTxnStatusResponse,
+    CleanupResponse, CommitResponse, GetAllStoresResponse, GetRegionResponse, GetResponse,
+    GetStoreResponse, MembersResponse, PessimisticLockResponse, PessimisticRollbackResponse,
+    PrewriteResponse, Reply, ResolveLockResponse, ScanLockResponse, ScanResponse, TsoResponse,
+    TxnHeartBeatResponse, UnsafeDestroyRangeResponse, UpdateGcSafePointResponse,
 };
 pub use request::{
-    CommitRequest, GetRegionRequest, GetStoreRequest, PrewriteRequest, Request, TsoRequest,
+    BatchGetRequest, BatchRollbackRequest, CheckSecondaryLocksRequest, CheckTxnStatusRequest,
+    CleanupRequest, CommitRequest, GetAllStoresRequest, GetRegionByIdRequest, GetRegionRequest,
+    GetRequest, GetStoreRequest, MembersRequest, PessimisticLockRequest,
+    PessimisticRollbackRequest, PrewriteRequest, Request, ResolveLockRequest, ScanLockRequest,
+    ScanRequest, TsoRequest, TxnHeartBeatRequest, UnsafeDestroyRangeRequest,
+    UpdateGcSafePointRequest,
 };
 pub use text::Text;
 pub use ticket::{StoreId, Target, Ticket};
 pub use timestamp::{Timestamp, TimestampExt};
+pub use try_clone::TryClone;
