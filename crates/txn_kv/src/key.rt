@@ -1,17 +1,19 @@
-ghost use Rattle.std.specs.Prelude.{◌≡◌, ◌==◌, [], nat_eq, length, IfOk, refl};
+ghost use Rattle.std.specs.Prelude.{◌≡◌, ◌==◌, [], nat_eq, length, string_bytes, IfOk, refl};
 ghost use Rattle.std.specs.Ordering.{nat_cmp, as_partial_cmp};
 ghost use Rattle.std.specs.Cmp.{partial_equiv_from_equiv};
 ghost use Rattle.std.specs.Cmp.Lexicographic.{pointwise, slice_cmp, nat_list_eq_equiv, nat_list_cmp_total, texts_po, texts_ties};
 ghost use Rattle.txn_kv.specs.Codec.{encoded};
 
 use crate::codec::BytesEncoder;
+use crate::hex_repr::HexRepr;
 use crate::memory::NoMemory;
 use std::alloc::Global;
 use std::cmp::Ordering;
+use std::fmt;
 use std::marker::Model;
 
 /// A key of the store: a list of bytes, ordered as such lists are.
-#[derive(Debug, Drop)]
+#[derive(Drop)]
 pub struct Key {
     bytes: Vec<u8>,
 }
@@ -84,6 +86,31 @@ impl From<Key> for Vec<u8> {
 
     fn from(key: Key) -> Vec<u8> {
         key.bytes
+    }
+}
+
+impl From<String> for Key {
+    ghost from_gives = { λ string key. key ≡ string_bytes string };
+
+    fn from(string: String) -> Key {
+        Key {
+            bytes: string.into_bytes(),
+        }
+    }
+}
+
+impl AsRef<Key> for Key {
+    fn as_ref(&self) -> &Key
+        ensures { result.now ≡ self.now }
+    {
+        self
+    }
+}
+
+impl fmt::Debug for Key {
+    fn fmt<W: fmt::Write>(&self, f: &mut fmt::Formatter<W>) -> fmt::Result {
+        let hex = HexRepr(self.as_slice());
+        write!(f, "Key({hex})")
     }
 }
 
