@@ -1,6 +1,7 @@
 pub mod Backoff
 pub mod Codec
 pub mod Errors
+pub mod Ranges
 pub mod Region
 pub mod Request
 pub mod Timestamp

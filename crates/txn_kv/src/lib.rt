@@ -2,9 +2,11 @@
 #![tactic(auto)]
 
 pub mod backoff;
+pub mod bound_range;
 pub mod codec;
 pub mod errors;
 pub mod hex_repr;
+pub mod into_owned_range;
 pub mod items;
 pub mod key;
 pub mod kvpair;
@@ -23,9 +25,11 @@ pub use backoff::{
     Backoff, BackoffKind, DEFAULT_REGION_BACKOFF, DEFAULT_STORE_BACKOFF, OPTIMISTIC_BACKOFF,
     PESSIMISTIC_BACKOFF,
 };
+pub use bound_range::BoundRange;
 pub use codec::{BytesEncoder, max_encoded_bytes_size};
 pub use errors::{Error, Internal, Result};
 pub use hex_repr::HexRepr;
+pub use into_owned_range::{IntoOwnedRange, KeyBytes};
 pub use items::{Items, Value};
 pub use key::Key;
 pub use kvpair::KvPair;
