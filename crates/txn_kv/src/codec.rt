@@ -1,6 +1,9 @@
-ghost use Rattle.std.specs.Prelude.{◌≡◌, ◌+◌, ◌*◌, ◌/◌, ◌^◌, ◌<◌, ◌≤◌, ◌++◌, OnOk, OnErr, length, take, drop, vec_len};
-ghost use Rattle.txn_kv.specs.Codec.{complemented, encoded, encoding, last_group};
+ghost use Rattle.std.specs.Prelude.{◌≡◌, ◌==◌, ◌+◌, ◌*◌, ◌/◌, ◌^◌, ◌<◌, ◌≤◌, ◌++◌, ℕ, List, IfErr, IsOk, MatchResult, Ok, Err, true, false, OnOk, OnErr, slice_index, length, take, drop, vec_len};
+ghost use Rattle.std.specs.List.{list_all};
+ghost use Rattle.txn_kv.specs.declared.errors.Error.TheVariants.{InternalError};
+ghost use Rattle.txn_kv.specs.Codec.{ascending, closed_length, complemented, encoded, encoding, key_length, last_group, BeginsWithKey, IsRefusal};
 
+use crate::errors::{Error, Internal, Result};
 use crate::memory::NoMemory;
 
 /// How many bytes of a key are in a group.
@@ -26,7 +29,7 @@ pub trait BytesEncoder {
     ghost bytes: { Self → List ℕ };
 
     /// Appends the encoding of the key, in ascending or descending order. A refusal changes nothing.
-    fn encode_bytes(&mut self, key: &[u8], desc: bool) -> Result<(), NoMemory>
+    fn encode_bytes(&mut self, key: &[u8], desc: bool) -> std::result::Result<(), NoMemory>
         ensures ok { OnOk result (bytes self.new ≡ bytes self.old ++ encoding desc key.now) }
         ensures err { OnErr result (bytes self.new ≡ bytes self.old) };
 }
@@ -34,7 +37,7 @@ pub trait BytesEncoder {
 impl BytesEncoder for Vec<u8> {
     ghost bytes = { λ vec. vec.items };
 
-    fn encode_bytes(&mut self, key: &[u8], desc: bool) -> Result<(), NoMemory> {
+    fn encode_bytes(&mut self, key: &[u8], desc: bool) -> std::result::Result<(), NoMemory> {
         let start = self.len();
         let appended = append_groups(self, key);
         if appended.is_err() {
@@ -48,7 +51,7 @@ impl BytesEncoder for Vec<u8> {
 
 /// Appends the ascending encoding of the key. A refusal may leave a part of it.
 #[tactic(auto, using(crate::proofs::Encoding::groups))]
-fn append_groups(bytes: &mut Vec<u8>, key: &[u8]) -> Result<(), NoMemory>
+fn append_groups(bytes: &mut Vec<u8>, key: &[u8]) -> std::result::Result<(), NoMemory>
     ensures start { take (vec_len bytes.old) bytes.new.items ≡ bytes.old.items }
     ensures ok { OnOk result (bytes.new.items ≡ bytes.old.items ++ encoded key.now) }
 {
@@ -63,7 +66,7 @@ fn append_groups(bytes: &mut Vec<u8>, key: &[u8]) -> Result<(), NoMemory>
 }
 
 /// Appends the last group of a key. A refusal may leave a part of it.
-fn append_last_group(bytes: &mut Vec<u8>, group: &[u8]) -> Result<(), NoMemory>
+fn append_last_group(bytes: &mut Vec<u8>, group: &[u8]) -> std::result::Result<(), NoMemory>
     requires { length group.now < 8 }
     ensures start { take (vec_len bytes.old) bytes.new.items ≡ bytes.old.items }
     ensures ok { OnOk result (bytes.new.items ≡ bytes.old.items ++ last_group group.now) }
@@ -75,6 +78,12 @@ fn append_last_group(bytes: &mut Vec<u8>, group: &[u8]) -> Result<(), NoMemory>
     Ok(())
 }
 
+fn complement_all(bytes: &mut Vec<u8>)
+    ensures { bytes.new.items ≡ complemented bytes.old.items }
+{
+    complement(&mut bytes[..]);
+}
+
 /// Complements each byte.
 fn complement(bytes: &mut [u8])
     ensures { bytes.new ≡ complemented bytes.old }
@@ -82,6 +91,119 @@ fn complement(bytes: &mut [u8])
     for byte in bytes.iter_mut() {
         *byte = MARKER - *byte;
     }
+}
+
+/// Turns bytes that begin with the encoding of a key into that key, and leaves no bytes as they are. A refusal names the
+/// place of the refused group and changes nothing. Takes no memory.
+pub fn decode_bytes_in_place(bytes: &mut Vec<u8>, desc: bool) -> Result<()>
+    ensures ok { OnOk result (BeginsWithKey desc bytes.old.items bytes.new.items) }
+    ensures err { IfErr result (IsRefusal (ascending desc bytes.old.items)) }
+    ensures unchanged { OnErr result (bytes.new.items ≡ bytes.old.items) }
+    ensures decodes { (key rest : List ℕ) → ascending desc bytes.old.items ≡ encoded key ++ rest → IsOk result × (bytes.new.items ≡ key) }
+{
+    if desc {
+        refused(decode_descending(bytes))
+    } else {
+        refused(decode_ascending(bytes))
+    }
+}
+
+fn refused(decoded: std::result::Result<(), Internal>) -> Result<()>
+    ensures { MatchResult decoded (λ done. result ≡ Ok done) (λ what. result ≡ Err (InternalError what)) }
+{
+    match decoded {
+        Ok(()) => Ok(()),
+        Err(what) => Err(Error::InternalError { what }),
+    }
+}
+
+#[tactic(auto, using(crate::proofs::Decoding::turns))]
+fn decode_descending(bytes: &mut Vec<u8>) -> std::result::Result<(), Internal>
+    ensures ok { OnOk result (BeginsWithKey true bytes.old.items bytes.new.items) }
+    ensures err { IfErr result (λ what. key_length 0 (complemented bytes.old.items) ≡ Err what) }
+    ensures unchanged { OnErr result (bytes.new.items ≡ bytes.old.items) }
+    ensures decodes { (key rest : List ℕ) → complemented bytes.old.items ≡ encoded key ++ rest → IsOk result × (bytes.new.items ≡ key) }
+{
+    complement_all(bytes);
+    let decoded = decode_ascending(bytes);
+    if decoded.is_err() {
+        complement_all(bytes);
+    }
+    decoded
+}
+
+fn decode_ascending(bytes: &mut Vec<u8>) -> std::result::Result<(), Internal>
+    ensures ok { OnOk result (BeginsWithKey false bytes.old.items bytes.new.items) }
+    ensures err { IfErr result (λ what. key_length 0 bytes.old.items ≡ Err what) }
+    ensures unchanged { OnErr result (bytes.new.items ≡ bytes.old.items) }
+    ensures decodes { (key rest : List ℕ) → bytes.old.items ≡ encoded key ++ rest → IsOk result × (bytes.new.items ≡ key) }
+{
+    if bytes.is_empty() {
+        return Ok(());
+    }
+    match key_length(bytes.as_slice()) {
+        Ok(length) => {
+            drop_markers(bytes, length);
+            Ok(())
+        }
+        Err(what) => Err(what),
+    }
+}
+
+/// The length of the key whose ascending encoding comes first in the bytes.
+#[tactic(auto, using(crate::proofs::Decoding::parts))]
+fn key_length(bytes: &[u8]) -> std::result::Result<usize, Internal>
+    ensures { result ≡ key_length 0 bytes.now }
+{
+    let mut at = 0;
+    let mut rest = bytes;
+    loop {
+        if rest.len() <= GROUP_SIZE {
+            return Err(Internal::BadEnd { at });
+        }
+        let marker = rest[GROUP_SIZE];
+        if marker != MARKER {
+            return closed_length(at, &rest[..GROUP_SIZE], marker);
+        }
+        let (_group, after) = rest.split_at(GROUP_SIZE + 1);
+        at += GROUP_SIZE + 1;
+        rest = after;
+    }
+}
+
+/// The length of a key that the group at `at` closes.
+fn closed_length(at: usize, group: &[u8], marker: u8) -> std::result::Result<usize, Internal>
+    requires place { at < 2 ^ 63 }
+    requires group { length group.now ≡ 8 }
+    ensures { result ≡ closed_length at group.now marker }
+{
+    if marker < MARKER - 8 {
+        return Err(Internal::BadPadding { at });
+    }
+    let kept = (marker - (MARKER - 8)) as usize;
+    if are_zero(&group[kept..]) {
+        Ok(at / (GROUP_SIZE + 1) * GROUP_SIZE + kept)
+    } else {
+        Err(Internal::BadPadding { at })
+    }
+}
+
+fn are_zero(bytes: &[u8]) -> bool
+    ensures { result ≡ list_all (λ byte. byte == 0) bytes.now }
+{
+    bytes.iter().all(|byte| *byte == 0)
+}
+
+/// Moves the bytes of the groups together, up to `length` of them.
+fn drop_markers(bytes: &mut Vec<u8>, length: usize)
+    requires { length + length / 8 < vec_len bytes.old }
+    ensures length { vec_len bytes.new ≡ length }
+    ensures bytes { (k : ℕ) → k < length → slice_index bytes.new.items k ≡ slice_index bytes.old.items (k + k / 8) }
+{
+    for k in 0..length {
+        bytes[k] = bytes[k + k / GROUP_SIZE];
+    }
+    bytes.truncate(length);
 }
 
 #[cfg(test)]

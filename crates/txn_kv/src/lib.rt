@@ -26,7 +26,7 @@ pub use backoff::{
     PESSIMISTIC_BACKOFF,
 };
 pub use bound_range::BoundRange;
-pub use codec::{BytesEncoder, max_encoded_bytes_size};
+pub use codec::{BytesEncoder, decode_bytes_in_place, max_encoded_bytes_size};
 pub use errors::{Error, Internal, Result};
 pub use hex_repr::HexRepr;
 pub use into_owned_range::{IntoOwnedRange, KeyBytes};
