@@ -1,5 +1,6 @@
 pub mod Backoff
 pub mod Codec
+pub mod ErrorView
 pub mod Errors
 pub mod Ranges
 pub mod Region

@@ -5,10 +5,41 @@ ghost use Rattle.txn_kv.specs.declared.backoff.BackoffKind.TheVariants as Kind;
 
 use std::time::Duration;
 
-pub const DEFAULT_REGION_BACKOFF: Backoff = Backoff { kind: BackoffKind::NoJitter, current_attempts: 0, max_attempts: 10, base_delay_ms: 2, current_delay_ms: 2, max_delay_ms: 500 };
-pub const DEFAULT_STORE_BACKOFF: Backoff = Backoff { kind: BackoffKind::NoJitter, current_attempts: 0, max_attempts: 10, base_delay_ms: 2, current_delay_ms: 2, max_delay_ms: 1000 };
-pub const OPTIMISTIC_BACKOFF: Backoff = Backoff { kind: BackoffKind::NoJitter, current_attempts: 0, max_attempts: 10, base_delay_ms: 2, current_delay_ms: 2, max_delay_ms: 500 };
-pub const PESSIMISTIC_BACKOFF: Backoff = Backoff { kind: BackoffKind::NoJitter, current_attempts: 0, max_attempts: 10, base_delay_ms: 2, current_delay_ms: 2, max_delay_ms: 500 };
+pub const DEFAULT_REGION_BACKOFF: Backoff = Backoff {
+    kind: BackoffKind::NoJitter,
+    current_attempts: 0,
+    max_attempts: 10,
+    base_delay_ms: 2,
+    current_delay_ms: 2,
+    max_delay_ms: 500,
+};
+
+pub const DEFAULT_STORE_BACKOFF: Backoff = Backoff {
+    kind: BackoffKind::NoJitter,
+    current_attempts: 0,
+    max_attempts: 10,
+    base_delay_ms: 2,
+    current_delay_ms: 2,
+    max_delay_ms: 1000,
+};
+
+pub const OPTIMISTIC_BACKOFF: Backoff = Backoff {
+    kind: BackoffKind::NoJitter,
+    current_attempts: 0,
+    max_attempts: 10,
+    base_delay_ms: 2,
+    current_delay_ms: 2,
+    max_delay_ms: 500,
+};
+
+pub const PESSIMISTIC_BACKOFF: Backoff = Backoff {
+    kind: BackoffKind::NoJitter,
+    current_attempts: 0,
+    max_attempts: 10,
+    base_delay_ms: 2,
+    current_delay_ms: 2,
+    max_delay_ms: 500,
+};
 
 /// How the delays of a backoff are computed.
 #[derive(Clone, Copy, Debug, PartialEq, Eq)]
@@ -98,40 +129,43 @@ impl Backoff {
     }
 
     /// Delays that double, up to the maximum.
-    pub fn no_jitter_backoff(
-        base_delay_ms: u64,
-        max_delay_ms: u64,
-        max_attempts: u32,
-    ) -> Backoff
+    pub fn no_jitter_backoff(base_delay_ms: u64, max_delay_ms: u64, max_attempts: u32) -> Backoff
         ensures { result ≡ fresh Kind.NoJitter base_delay_ms max_delay_ms max_attempts }
     {
-        Backoff::fresh(BackoffKind::NoJitter, base_delay_ms, max_delay_ms, max_attempts)
+        Backoff::fresh(
+            BackoffKind::NoJitter,
+            base_delay_ms,
+            max_delay_ms,
+            max_attempts,
+        )
     }
 
     /// Below a delay that doubles, up to the maximum.
-    pub fn full_jitter_backoff(
-        base_delay_ms: u64,
-        max_delay_ms: u64,
-        max_attempts: u32,
-    ) -> Backoff
+    pub fn full_jitter_backoff(base_delay_ms: u64, max_delay_ms: u64, max_attempts: u32) -> Backoff
         requires base { 0 < base_delay_ms }
         requires maximum { 0 < max_delay_ms }
         ensures { result ≡ fresh Kind.FullJitter base_delay_ms max_delay_ms max_attempts }
     {
-        Backoff::fresh(BackoffKind::FullJitter, base_delay_ms, max_delay_ms, max_attempts)
+        Backoff::fresh(
+            BackoffKind::FullJitter,
+            base_delay_ms,
+            max_delay_ms,
+            max_attempts,
+        )
     }
 
     /// From half of a delay that doubles, up to that delay.
-    pub fn equal_jitter_backoff(
-        base_delay_ms: u64,
-        max_delay_ms: u64,
-        max_attempts: u32,
-    ) -> Backoff
+    pub fn equal_jitter_backoff(base_delay_ms: u64, max_delay_ms: u64, max_attempts: u32) -> Backoff
         requires base { 1 < base_delay_ms }
         requires maximum { 1 < max_delay_ms }
         ensures { result ≡ fresh Kind.EqualJitter base_delay_ms max_delay_ms max_attempts }
     {
-        Backoff::fresh(BackoffKind::EqualJitter, base_delay_ms, max_delay_ms, max_attempts)
+        Backoff::fresh(
+            BackoffKind::EqualJitter,
+            base_delay_ms,
+            max_delay_ms,
+            max_attempts,
+        )
     }
 
     /// From the base delay up to thrice the delay before.
@@ -143,15 +177,15 @@ impl Backoff {
         requires { 0 < base_delay_ms }
         ensures { result ≡ fresh Kind.DecorrelatedJitter base_delay_ms max_delay_ms max_attempts }
     {
-        Backoff::fresh(BackoffKind::DecorrelatedJitter, base_delay_ms, max_delay_ms, max_attempts)
+        Backoff::fresh(
+            BackoffKind::DecorrelatedJitter,
+            base_delay_ms,
+            max_delay_ms,
+            max_attempts,
+        )
     }
 
-    fn fresh(
-        kind: BackoffKind,
-        base_delay_ms: u64,
-        max_delay_ms: u64,
-        max_attempts: u32,
-    ) -> Backoff
+    fn fresh(kind: BackoffKind, base_delay_ms: u64, max_delay_ms: u64, max_attempts: u32) -> Backoff
         ensures { result ≡ fresh kind base_delay_ms max_delay_ms max_attempts }
     {
         Backoff {

@@ -8,9 +8,7 @@ use crate::key::Key;
 use crate::memory::NoMemory;
 use crate::message::KeyRange;
 use std::alloc::Global;
-use std::ops::{
-    Bound, Range, RangeFrom, RangeFull, RangeInclusive, RangeTo, RangeToInclusive,
-};
+use std::ops::{Bound, Range, RangeFrom, RangeFull, RangeInclusive, RangeTo, RangeToInclusive};
 
 /// A range of keys by its two bounds.
 #[derive(Debug, PartialEq, Eq, Drop)]

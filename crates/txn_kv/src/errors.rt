@@ -1,4 +1,5 @@
-ghost use Rattle.std.specs.Prelude.{◌≡◌, IfOk};
+ghost use Rattle.std.specs.Prelude.{◌≡◌, map, IfOk};
+ghost use Rattle.txn_kv.specs.ErrorView.{view_of};
 ghost use Rattle.txn_kv.specs.Errors.{IsKeyError, IsRegionError};
 
 use crate::items::Value;
@@ -6,26 +7,41 @@ use crate::key::Key;
 use crate::memory::NoMemory;
 use crate::message::{KeyError, LockInfo, RegionErr};
 use crate::ticket::Ticket;
+use crate::try_clone::TryClone;
 use std::alloc::Global;
 
 /// What went wrong inside the client or at a server that keeps to no protocol.
 #[derive(Debug, PartialEq, Eq, Drop)]
 pub enum Internal {
     /// An encoded key whose group at `at` has no marker.
-    BadEnd { at: usize },
+    BadEnd {
+        at: usize,
+    },
     /// An encoded key whose group at `at` says more than eight bytes of padding, or has another padding byte.
-    BadPadding { at: usize },
+    BadPadding {
+        at: usize,
+    },
     /// A region whose end is not above its start.
-    ReversedRegion { id: u64 },
-    NoEpoch { id: u64 },
+    ReversedRegion {
+        id: u64,
+    },
+    NoEpoch {
+        id: u64,
+    },
     /// The group of asks for a timestamp was lost.
     OracleLost,
-    OracleCount { asked: u32, given: u32 },
+    OracleCount {
+        asked: u32,
+        given: u32,
+    },
     OracleEmpty,
     /// A reply of another kind than the request's, or one that its call has no use for.
     WrongReply,
     /// Two lists that belong together have two lengths.
-    Shape { expected: u64, given: u64 },
+    Shape {
+        expected: u64,
+        given: u64,
+    },
     /// A status of a transaction that none of its forms fits.
     OddStatus,
     /// A read that differs from what the buffer knows.
@@ -33,6 +49,33 @@ pub enum Internal {
         kept: Option<Value>,
         read: Option<Value>,
     },
+}
+
+impl TryClone for Internal {
+    fn try_clone(&self) -> std::result::Result<Internal, NoMemory> {
+        Ok(match self {
+            Internal::BadEnd { at } => Internal::BadEnd { at: *at },
+            Internal::BadPadding { at } => Internal::BadPadding { at: *at },
+            Internal::ReversedRegion { id } => Internal::ReversedRegion { id: *id },
+            Internal::NoEpoch { id } => Internal::NoEpoch { id: *id },
+            Internal::OracleLost => Internal::OracleLost,
+            Internal::OracleCount { asked, given } => Internal::OracleCount {
+                asked: *asked,
+                given: *given,
+            },
+            Internal::OracleEmpty => Internal::OracleEmpty,
+            Internal::WrongReply => Internal::WrongReply,
+            Internal::Shape { expected, given } => Internal::Shape {
+                expected: *expected,
+                given: *given,
+            },
+            Internal::OddStatus => Internal::OddStatus,
+            Internal::UnlikeCache { kept, read } => Internal::UnlikeCache {
+                kept: kept.try_clone()?,
+                read: read.try_clone()?,
+            },
+        })
+    }
 }
 
 /// Why a call of the client ends without its answer.
@@ -65,15 +108,25 @@ pub enum Error {
     #[error("Multiple key errors: {0:?}")]
     MultipleKeyErrors(Vec<Error>),
     #[error("Region is not found for key: {key:?}")]
-    RegionForKeyNotFound { key: Key },
+    RegionForKeyNotFound {
+        key: Key,
+    },
     #[error("Region {region_id} is not found in the response")]
-    RegionNotFoundInResponse { region_id: u64 },
+    RegionNotFoundInResponse {
+        region_id: u64,
+    },
     #[error("Leader of region {region_id} is not found")]
-    LeaderNotFound { region_id: u64 },
+    LeaderNotFound {
+        region_id: u64,
+    },
     #[error("Kv error. {message}")]
-    KvError { message: String },
+    KvError {
+        message: String,
+    },
     #[error("{what:?}")]
-    InternalError { what: Internal },
+    InternalError {
+        what: Internal,
+    },
     #[error("{0}")]
     StringError(String),
     #[error("PessimisticLock error: {inner:?}")]
@@ -93,6 +146,80 @@ impl Error {
         ensures { IfOk result (IsRegionError error) }
     {
         Ok(Error::RegionError(Box::new(alloc, error)?))
+    }
+
+    /// An error of the same view, in new memory.
+    #[cycle(try_clone)]
+    pub fn try_clone(&self, alloc: Global) -> std::result::Result<Error, NoMemory>
+        ensures { IfOk result (λ copy. view_of copy ≡ view_of self.now) }
+    {
+        match self {
+            Error::UndeterminedError(inner) => {
+                let copy = (**inner).try_clone(alloc)?;
+                Ok(Error::UndeterminedError(Box::new(alloc, copy)?))
+            }
+            Error::ExtractedErrors(errors) => {
+                Ok(Error::ExtractedErrors(Error::try_clone_all(errors, alloc)?))
+            }
+            Error::MultipleKeyErrors(errors) => {
+                Ok(Error::MultipleKeyErrors(Error::try_clone_all(errors, alloc)?))
+            }
+            Error::PessimisticLockError {
+                inner,
+                success_keys,
+            } => {
+                let copy = (**inner).try_clone(alloc)?;
+                Ok(Error::PessimisticLockError {
+                    inner: Box::new(alloc, copy)?,
+                    success_keys: Key::try_clone_all(success_keys.as_slice(), alloc)?,
+                })
+            }
+            Error::ResolveLockError(locks) => Ok(Error::ResolveLockError(LockInfo::try_clone_all(
+                locks.as_slice(),
+                alloc,
+            )?)),
+            Error::RegionError(error) => Ok(Error::region(alloc, (**error).try_clone()?)?),
+            Error::KeyError(error) => Ok(Error::key(alloc, (**error).try_clone()?)?),
+            Error::KvError { message } => Ok(Error::KvError {
+                message: message.clone()?,
+            }),
+            Error::StringError(message) => Ok(Error::StringError(message.clone()?)),
+            Error::RegionForKeyNotFound { key } => Ok(Error::RegionForKeyNotFound {
+                key: key.try_clone()?,
+            }),
+            Error::InternalError { what } => Ok(Error::InternalError {
+                what: what.try_clone()?,
+            }),
+            Error::GrpcAPI(ticket) => Ok(Error::GrpcAPI(*ticket)),
+            Error::RegionNotFoundInResponse { region_id } => {
+                Ok(Error::RegionNotFoundInResponse {
+                    region_id: *region_id,
+                })
+            }
+            Error::LeaderNotFound { region_id } => Ok(Error::LeaderNotFound {
+                region_id: *region_id,
+            }),
+            Error::Unimplemented => Ok(Error::Unimplemented),
+            Error::DuplicateKeyInsertion => Ok(Error::DuplicateKeyInsertion),
+            Error::OperationAfterCommitError => Ok(Error::OperationAfterCommitError),
+            Error::OnePcFailure => Ok(Error::OnePcFailure),
+            Error::NoPrimaryKey => Ok(Error::NoPrimaryKey),
+            Error::OutOfMemory => Ok(Error::OutOfMemory),
+        }
+    }
+
+    #[cycle(try_clone)]
+    fn try_clone_all(
+        errors: &Vec<Error>,
+        alloc: Global,
+    ) -> std::result::Result<Vec<Error>, NoMemory>
+        ensures { IfOk result (λ copies. map view_of copies.items ≡ map view_of errors.now.items) }
+    {
+        let mut copies = Vec::new(alloc);
+        for error in errors {
+            copies.push(error.try_clone(alloc)?)?;
+        }
+        Ok(copies)
     }
 
     pub fn key(alloc: Global, error: KeyError) -> std::result::Result<Error, NoMemory>

@@ -8,9 +8,7 @@ use crate::bound_range::BoundRange;
 use crate::key::Key;
 use crate::memory::NoMemory;
 use std::alloc::Global;
-use std::ops::{
-    Bound, Range, RangeFrom, RangeFull, RangeInclusive, RangeTo, RangeToInclusive,
-};
+use std::ops::{Bound, Range, RangeFrom, RangeFull, RangeInclusive, RangeTo, RangeToInclusive};
 
 /// Borrowed bytes that a key is made of.
 pub trait KeyBytes: Sized {

@@ -8,7 +8,7 @@ pub returns-then-is_err-clause-unchanged : goal.returns-then-is_err-clause-uncha
 returns-then-is_err-clause-unchanged c =
     let small : (k : ℕ) → get_or c.args.bytes.now.items k 0 < 256 = λ k. grind (arith, common_steps) in
     let back : complemented c.decode_ascending-decoded.new.bytes.items ≡ c.complement_all-then-is_err.new.bytes.items
-      = grind (arith, common_steps)
+    = grind (arith, common_steps)
     in
     OnErr-then c.decode_ascending-decoded.result c.decode_ascending-decoded.ensures.unchanged
-      (λ kept. grind (arith, common_steps, kept, back, complemented-twice c.args.bytes.now.items small))
+    (λ kept. grind (arith, common_steps, kept, back, complemented-twice c.args.bytes.now.items small))
