@@ -1,0 +1,8 @@
+//! A transaction's own writes, its locks, and what it has read.
+#![tactic(auto)]
+
+pub mod buffer;
+pub mod entry;
+
+pub use buffer::Buffer;
+pub use entry::Entry;
