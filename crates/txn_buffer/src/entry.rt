@@ -1,10 +1,11 @@
-ghost use Rattle.std.specs.Prelude.{◌≡◌, IfOk, is_none};
+ghost use Rattle.std.specs.Prelude.{◌≡◌, ◌++◌, ◌-◌, ◌^◌, min, IfOk, IfErr, OnOk, OnErr, is_none};
 ghost use Rattle.std.specs.Option.{option_copied};
 ghost use Rattle.txn_buffer.specs.Writes.{after_delete, after_insert, after_put};
-ghost use Rattle.txn_buffer.specs.Contents.{entry_of, is_bare_lock, is_locking, known_of, known_value, lock_step, sets_primary, unlock_step, write_at_entry};
+ghost use Rattle.txn_buffer.specs.Contents.{entry_of, entry_size, mutations_of, written_value, Agrees, IsUnlike, is_bare_lock, is_locking, known_of, known_value, lock_step, sets_primary, unlock_step, write_at_entry};
 
+use std::alloc::Global;
 use std::mem;
-use txn_kv::{NoMemory, TryClone, Value};
+use txn_kv::{Assertion, Error, Internal, Key, Mutation, NoMemory, Op, Result, TryClone, Value};
 
 /// What a buffer knows of a key.
 #[derive(Debug, PartialEq, Eq, Drop)]
@@ -30,7 +31,7 @@ impl Entry {
     }
 
     /// The known value, in new memory.
-    pub fn known_value(&self) -> Result<Option<Value>, NoMemory>
+    pub fn known_value(&self) -> std::result::Result<Option<Value>, NoMemory>
         ensures { IfOk result (λ value. value ≡ known_value (known_of self.now)) }
     {
         match self {
@@ -112,5 +113,74 @@ impl Entry {
         ensures { result ≡ is_locking self.now }
     {
         !matches!(self, Entry::Cached(_) | Entry::CheckNotExist)
+    }
+
+    /// Refuses a value that was read where another is known.
+    pub(crate) fn check(&self, value: Option<Value>) -> Result<()>
+        ensures agrees { OnOk result (Agrees (known_of self.now) value) }
+        ensures why { IfErr result (IsUnlike (known_of self.now) value) }
+    {
+        if self.is_unknown() {
+            return Ok(());
+        }
+        let kept = self.known_value()?;
+        if kept == value {
+            Ok(())
+        } else {
+            Err(Error::InternalError {
+                what: Internal::UnlikeCache { kept, read: value },
+            })
+        }
+    }
+
+    /// How many bytes the entry of a key adds to what a commit writes, at most the largest number of 64 bits.
+    pub(crate) fn size(&self, key: &Key) -> u64
+        ensures { result ≡ min (entry_size key.now self.now) (2 ^ 64 - 1) }
+    {
+        match self {
+            Entry::Put(value) | Entry::Insert(value) => {
+                (key.len() as u64).saturating_add(value.len() as u64)
+            }
+            Entry::Del => key.len() as u64,
+            _ => 0,
+        }
+    }
+
+    /// Appends the mutation of the entry of a key, if it has one. A refusal changes nothing.
+    pub(crate) fn push_mutation(
+        &self,
+        key: &Key,
+        mutations: &mut Vec<Mutation>,
+        alloc: Global,
+    ) -> std::result::Result<(), NoMemory>
+        ensures ok { OnOk result (mutations.new.items ≡ mutations.old.items ++ mutations_of key.now self.now) }
+        ensures err { OnErr result (mutations.new.items ≡ mutations.old.items) }
+    {
+        let op = match self {
+            Entry::Cached(_) => return Ok(()),
+            Entry::Locked(_) => Op::Lock,
+            Entry::Put(_) => Op::Put,
+            Entry::Del => Op::Del,
+            Entry::Insert(_) => Op::Insert,
+            Entry::CheckNotExist => Op::CheckNotExists,
+        };
+        mutations.push(Mutation {
+            op,
+            key: key.try_clone()?,
+            value: self.written_value(alloc)?,
+            assertion: Assertion::None,
+        })?;
+        Ok(())
+    }
+
+    /// The value that is put or inserted, in new memory, else an empty one.
+    fn written_value(&self, alloc: Global) -> std::result::Result<Value, NoMemory>
+        ensures { IfOk result (λ value. value ≡ written_value self.now) }
+    {
+        match self {
+            Entry::Put(value) => value.try_clone(),
+            Entry::Insert(value) => value.try_clone(),
+            _ => Ok(Value::new(alloc)),
+        }
     }
 }

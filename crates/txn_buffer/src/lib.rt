@@ -3,6 +3,8 @@
 
 pub mod buffer;
 pub mod entry;
+#[cfg(test)]
+mod tests;
 
 pub use buffer::Buffer;
 pub use entry::Entry;

@@ -1,0 +1,122 @@
+use super::*;
+use std::alloc::Global;
+use std::test::Fail;
+use txn_kv::{Assertion, Error, Internal, Items, Key, Mutation, NoMemory, Op, Value};
+
+fn key(alloc: Global, name: &str) -> Result<Key, NoMemory> {
+    Ok(Key::from(name.as_bytes().to_vec(alloc)?))
+}
+
+fn value(alloc: Global, text: &str) -> Result<Value, NoMemory> {
+    Ok(Items::from_vec(text.as_bytes().to_vec(alloc)?))
+}
+
+fn mutation(alloc: Global, op: Op, name: &str, text: &str) -> Result<Mutation, NoMemory> {
+    Ok(Mutation {
+        op,
+        key: key(alloc, name)?,
+        value: value(alloc, text)?,
+        assertion: Assertion::None,
+    })
+}
+
+#[test]
+fn insert_then_delete_is_a_check(rt: HostRuntime) -> Result<(), Fail> {
+    let alloc = rt.alloc();
+    let mut buffer = Buffer::new(alloc, false);
+    buffer.insert(key(alloc, "a")?, value(alloc, "1")?)?;
+    buffer.delete(key(alloc, "a")?)?;
+    buffer.delete(key(alloc, "a")?)?;
+    let check = mutation(alloc, Op::CheckNotExists, "a", "")?;
+    assert_eq!(rt; buffer.to_proto_mutations()?.as_slice(), [check].as_slice());
+    assert_eq!(rt; buffer.get(&key(alloc, "a")?)?, None);
+    assert_eq!(rt; buffer.primary_for_commit(), None);
+    buffer.put(key(alloc, "a")?, value(alloc, "2")?)?;
+    let insert = mutation(alloc, Op::Insert, "a", "2")?;
+    assert_eq!(rt;
+        buffer.to_proto_mutations()?.as_slice(),
+        [insert].as_slice()
+    );
+    Ok(())
+}
+
+#[test]
+fn delete_then_insert_is_a_put(rt: HostRuntime) -> Result<(), Fail> {
+    let alloc = rt.alloc();
+    let mut buffer = Buffer::new(alloc, false);
+    buffer.delete(key(alloc, "a")?)?;
+    buffer.insert(key(alloc, "a")?, value(alloc, "1")?)?;
+    buffer.insert(key(alloc, "b")?, value(alloc, "2")?)?;
+    buffer.put(key(alloc, "b")?, value(alloc, "34")?)?;
+    let put = mutation(alloc, Op::Put, "a", "1")?;
+    let insert = mutation(alloc, Op::Insert, "b", "34")?;
+    assert_eq!(rt;
+        buffer.to_proto_mutations()?.as_slice(),
+        [put, insert].as_slice()
+    );
+    assert_eq!(rt; buffer.get_write_size(), 5);
+    assert_eq!(rt; buffer.get_primary_key().is_some(), true);
+    Ok(())
+}
+
+#[test]
+fn locks_come_and_go(rt: HostRuntime) -> Result<(), Fail> {
+    let alloc = rt.alloc();
+    let mut buffer = Buffer::new(alloc, false);
+    let a = key(alloc, "a")?;
+    buffer.lock(a.try_clone()?)?;
+    let lock = mutation(alloc, Op::Lock, "a", "")?;
+    assert_eq!(rt; buffer.to_proto_mutations()?.as_slice(), [lock].as_slice());
+    assert_eq!(rt; buffer.missing(&a), true);
+    assert_eq!(rt; buffer.primary_for_commit().is_some(), true);
+    buffer.unlock(&a);
+    assert_eq!(rt; buffer.to_proto_mutations()?.len(), 0);
+    assert_eq!(rt; buffer.primary_for_commit(), None);
+    buffer
+        .fill(a.try_clone()?, Some(value(alloc, "1")?))
+        .map_err(|_| NoMemory)?;
+    buffer.lock(a.try_clone()?)?;
+    buffer.unlock(&a);
+    assert_eq!(rt; buffer.get(&a)?, Some(value(alloc, "1")?));
+    Ok(())
+}
+
+#[test]
+fn a_filled_key_is_not_missing(rt: HostRuntime) -> Result<(), Fail> {
+    let alloc = rt.alloc();
+    let mut buffer = Buffer::new(alloc, true);
+    let asked = [key(alloc, "b")?, key(alloc, "a")?];
+    buffer.primary_key_or(&asked[0])?;
+    assert_eq!(rt; buffer.batch_missing(&asked)?.len(), 2);
+    assert_eq!(rt; buffer.fill(asked[1].try_clone()?, None).is_ok(), true);
+    assert_eq!(rt; buffer.missing(&asked[1]), false);
+    let missing = buffer.batch_missing(&asked)?;
+    assert_eq!(rt; missing.as_slice(), [key(alloc, "b")?].as_slice());
+    let unlike = buffer.fill(asked[1].try_clone()?, Some(value(alloc, "1")?));
+    let is_unlike = matches!(
+        unlike,
+        Err(Error::InternalError {
+            what: Internal::UnlikeCache { .. }
+        })
+    );
+    assert_eq!(rt; is_unlike, true);
+    Ok(())
+}
+
+#[test]
+fn mutates(rt: HostRuntime) -> Result<(), Fail> {
+    let alloc = rt.alloc();
+    let mut buffer = Buffer::new(alloc, false);
+    assert_eq!(rt;
+        buffer.mutate(mutation(alloc, Op::Put, "a", "1")?).is_ok(),
+        true
+    );
+    assert_eq!(rt;
+        buffer.mutate(mutation(alloc, Op::Del, "b", "")?).is_ok(),
+        true
+    );
+    let refused = buffer.mutate(mutation(alloc, Op::Lock, "c", "")?);
+    assert_eq!(rt; matches!(refused, Err(Error::Unimplemented)), true);
+    assert_eq!(rt; buffer.to_proto_mutations()?.len(), 2);
+    Ok(())
+}
