@@ -5,5 +5,6 @@ pub mod Errors
 pub mod Ranges
 pub mod Region
 pub mod Request
+pub mod Spelling
 pub mod Timestamp
 pub mod Versions

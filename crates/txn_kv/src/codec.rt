@@ -213,7 +213,7 @@ mod tests {
     use std::test::Fail;
 
     #[test]
-    fn encodes_keys(rt: HostRuntime) -> Result<(), Fail> {
+    fn encodes_keys(rt: HostRuntime) -> std::result::Result<(), Fail> {
         let rows: [(&[u8], &[u8]); 6] = [
             (&[], &[0, 0, 0, 0, 0, 0, 0, 0, 247]),
             (&[0], &[0, 0, 0, 0, 0, 0, 0, 0, 248]),

@@ -150,36 +150,45 @@ impl Error {
 
     /// An error of the same view, in new memory.
     #[cycle(try_clone)]
-    pub fn try_clone(&self, alloc: Global) -> std::result::Result<Error, NoMemory>
+    pub fn try_clone(&self) -> std::result::Result<Error, NoMemory>
         ensures { IfOk result (λ copy. view_of copy ≡ view_of self.now) }
     {
         match self {
             Error::UndeterminedError(inner) => {
-                let copy = (**inner).try_clone(alloc)?;
-                Ok(Error::UndeterminedError(Box::new(alloc, copy)?))
+                let copy = (**inner).try_clone()?;
+                Ok(Error::UndeterminedError(Box::new(*Box::allocator(inner), copy)?))
             }
             Error::ExtractedErrors(errors) => {
-                Ok(Error::ExtractedErrors(Error::try_clone_all(errors, alloc)?))
+                Ok(Error::ExtractedErrors(Error::try_clone_all(errors)?))
             }
             Error::MultipleKeyErrors(errors) => {
-                Ok(Error::MultipleKeyErrors(Error::try_clone_all(errors, alloc)?))
+                Ok(Error::MultipleKeyErrors(Error::try_clone_all(errors)?))
             }
             Error::PessimisticLockError {
                 inner,
                 success_keys,
             } => {
-                let copy = (**inner).try_clone(alloc)?;
+                let copy = (**inner).try_clone()?;
                 Ok(Error::PessimisticLockError {
-                    inner: Box::new(alloc, copy)?,
-                    success_keys: Key::try_clone_all(success_keys.as_slice(), alloc)?,
+                    inner: Box::new(*Box::allocator(inner), copy)?,
+                    success_keys: Key::try_clone_all(
+                        success_keys.as_slice(),
+                        *success_keys.allocator(),
+                    )?,
                 })
             }
             Error::ResolveLockError(locks) => Ok(Error::ResolveLockError(LockInfo::try_clone_all(
                 locks.as_slice(),
-                alloc,
+                *locks.allocator(),
             )?)),
-            Error::RegionError(error) => Ok(Error::region(alloc, (**error).try_clone()?)?),
-            Error::KeyError(error) => Ok(Error::key(alloc, (**error).try_clone()?)?),
+            Error::RegionError(error) => Ok(Error::region(
+                *Box::allocator(error),
+                (**error).try_clone()?,
+            )?),
+            Error::KeyError(error) => Ok(Error::key(
+                *Box::allocator(error),
+                (**error).try_clone()?,
+            )?),
             Error::KvError { message } => Ok(Error::KvError {
                 message: message.clone()?,
             }),
@@ -209,15 +218,12 @@ impl Error {
     }
 
     #[cycle(try_clone)]
-    fn try_clone_all(
-        errors: &Vec<Error>,
-        alloc: Global,
-    ) -> std::result::Result<Vec<Error>, NoMemory>
+    fn try_clone_all(errors: &Vec<Error>) -> std::result::Result<Vec<Error>, NoMemory>
         ensures { IfOk result (λ copies. map view_of copies.items ≡ map view_of errors.now.items) }
     {
-        let mut copies = Vec::new(alloc);
+        let mut copies = Vec::new(*errors.allocator());
         for error in errors {
-            copies.push(error.try_clone(alloc)?)?;
+            copies.push(error.try_clone()?)?;
         }
         Ok(copies)
     }

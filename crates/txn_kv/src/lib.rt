@@ -16,6 +16,9 @@ pub mod pessimistic_lock;
 pub mod region;
 pub mod reply;
 pub mod request;
+pub mod spelling;
+#[cfg(test)]
+mod tests;
 pub mod text;
 pub mod ticket;
 pub mod timestamp;

@@ -3,6 +3,10 @@ pub mod Commit
 pub mod Handled
 pub mod Locks
 pub mod Placement
+pub mod Placings
+pub mod Places
 pub mod Prewrite
+pub mod Served
 pub mod Store
 pub mod Table
+pub mod Unlocks

@@ -1,5 +1,5 @@
 -- Regions, stores and the oracle.
-use Rattle.std.specs.Prelude.{ℕ, ◌+◌, ◌-◌, ◌*◌, ◌/◌, ◌%◌, ◌^◌, max, Bool, true, not, ◌&&◌, ◌||◌, if◌then◌else◌, List, [], ◌∷◌, Option, Some, None, nat_eq, nat_lt}
+use Rattle.std.specs.Prelude.{ℕ, ◌+◌, ◌-◌, ◌*◌, ◌/◌, ◌%◌, ◌^◌, max, Bool, true, not, ◌&&◌, ◌||◌, if◌then◌else◌, List, [], ◌∷◌, Option, Some, None, unwrap_or, find, nat_eq, nat_lt}
 use Rattle.std.specs.Ordering.{is_lt, is_gt}
 use Rattle.txn_kv.specs.declared.message.Context.{Context}
 use Rattle.txn_kv.specs.declared.message.Peer.{Peer}
@@ -14,15 +14,17 @@ use Rattle.txn_kv.specs.declared.request.GetStoreRequest.{GetStoreRequest}
 use Rattle.txn_kv.specs.declared.request.TsoRequest.{TsoRequest}
 use Rattle.txn_kv.specs.declared.reply.GetRegionResponse.{GetRegionResponse}
 use Rattle.txn_kv.specs.declared.reply.Reply.TheVariants.{GetRegion, GetStore, Tso}
+use Rattle.txn_kv.specs.Codec.{encoded}
 use Rattle.txn_kv.specs.Timestamp.{timestamp_of}
 use Rattle.txn_model.specs.declared.region.StoredRegion.{StoredRegion}
 use Rattle.txn_model.specs.Cells.{key_cmp, has_none}
 use Rattle.txn_model.specs.Store.{Store}
 use Rattle.txn_model.specs.Handled.{Handled}
 
--- a bound of a region, as the placement driver tells it
+-- a bound of a region, as the placement driver tells it: encoded, where there is one
 abbrev pub told_bound : List ℕ → List ℕ
-told_bound k = k
+told_bound [] = []
+told_bound (b ∷ bs) = encoded (b ∷ bs)
 
 abbrev pub region_record : StoredRegion → Region
 region_record g = record { id = g.id; start_key = told_bound g.start_key; end_key = told_bound g.end_key; region_epoch = Some g.epoch }
@@ -32,16 +34,14 @@ abbrev pub leader_of : StoredRegion → Peer
 leader_of g = record { id = g.leader; store_id = g.leader }
 
 abbrev pub region_with_id : List StoredRegion → ℕ → Option StoredRegion
-region_with_id [] n = None
-region_with_id (g ∷ gs) n = if nat_eq g.id n then Some g else region_with_id gs n
+region_with_id gs n = find (λ g. nat_eq g.id n) gs
 
 -- an encoded key is in the region's encoded range, whose end is unbounded where it is empty
 abbrev pub holds_key : StoredRegion → List ℕ → Bool
 holds_key g k = not (is_gt (key_cmp (told_bound g.start_key) k)) && (has_none g.end_key || is_lt (key_cmp k (told_bound g.end_key)))
 
 abbrev pub region_holding : List StoredRegion → List ℕ → Option StoredRegion
-region_holding [] k = None
-region_holding (g ∷ gs) k = if holds_key g k then Some g else region_holding gs k
+region_holding gs k = find (λ g. holds_key g k) gs
 
 -- Region check.
 
@@ -58,9 +58,9 @@ region_check_at None x = Some (RegionNotFound x.region_id)
 region_check_at (Some g) x = if led_elsewhere g x.peer then Some (NotLeader g.id (Some (leader_of g))) else (if epoch_differs g.epoch x.region_epoch then Some (EpochNotMatch (region_record g ∷ [])) else None)
 
 -- why a request with this context is refused before its row is looked at
-abbrev pub region_check : Store → Option Context → Option RegionErr
-region_check st None = Some (RegionNotFound 0)
-region_check st (Some x) = region_check_at (region_with_id st.regions x.region_id) x
+abbrev pub region_check : List StoredRegion → Option Context → Option RegionErr
+region_check gs None = Some (RegionNotFound 0)
+region_check gs (Some x) = region_check_at (region_with_id gs x.region_id) x
 
 -- Requests to the placement driver.
 
@@ -75,23 +75,28 @@ abbrev pub unknown_store : ℕ → StoreMeta
 unknown_store n = record { id = n; address = []; state = Tombstone; labels = [] }
 
 abbrev pub store_with_id : List StoreMeta → ℕ → StoreMeta
-store_with_id [] n = unknown_store n
-store_with_id (s ∷ ss) n = if nat_eq s.id n then s else store_with_id ss n
+store_with_id ss n = unwrap_or (find (λ s. nat_eq s.id n) ss) (unknown_store n)
 
 abbrev pub get_store_row : Store → GetStoreRequest → Handled
 get_store_row st r = record { store = st; reply = GetStore (record { store = store_with_id st.stores r.store_id }) }
 
 -- the first of the next timestamps, before it is known whether as many fit into its millisecond
-abbrev pub next_timestamp : Store → ℕ
-next_timestamp st = max (st.last + 1) (st.clock * 2 ^ 18)
+abbrev pub next_timestamp : ℕ → ℕ → ℕ
+next_timestamp last clock = max (last + 1) (clock * 2 ^ 18)
 
 -- the first of m timestamps: where they don't fit, the next millisecond's first
-abbrev pub first_timestamp : Store → ℕ → ℕ
-first_timestamp st m = if nat_lt (next_timestamp st % 2 ^ 18 + (m - 1)) (2 ^ 18) then next_timestamp st else (next_timestamp st / 2 ^ 18 + 1) * 2 ^ 18
+abbrev pub first_from : ℕ → ℕ → ℕ
+first_from next m = if nat_lt (next % 2 ^ 18 + (m - 1)) (2 ^ 18) then next else (next / 2 ^ 18 + 1) * 2 ^ 18
+
+abbrev pub first_timestamp : ℕ → ℕ → ℕ → ℕ
+first_timestamp last clock m = first_from (next_timestamp last clock) m
 
 -- the last of m timestamps
-abbrev pub last_timestamp : Store → ℕ → ℕ
-last_timestamp st m = first_timestamp st m + (m - 1)
+abbrev pub last_timestamp : ℕ → ℕ → ℕ → ℕ
+last_timestamp last clock m = first_timestamp last clock m + (m - 1)
 
 abbrev pub tso_row : Store → TsoRequest → Handled
-tso_row st r = record { store = record st { last = last_timestamp st r.count }; reply = Tso (record { count = r.count; timestamp = Some (timestamp_of (last_timestamp st r.count)) }) }
+tso_row st r = record {
+  store = record st { last = last_timestamp st.last st.clock r.count };
+  reply = Tso (record { count = r.count; timestamp = Some (timestamp_of (last_timestamp st.last st.clock r.count)) });
+}

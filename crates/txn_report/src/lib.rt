@@ -3,6 +3,12 @@
 
 pub mod outcome;
 pub mod report;
+mod text;
+mod words;
 
 pub use outcome::{Outcome, Payload};
 pub use report::{Report, SentNote, SleepNote};
+pub use text::report_text;
+
+#[cfg(test)]
+mod tests;

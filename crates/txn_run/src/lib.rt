@@ -1,4 +1,7 @@
 //! Runs scripts: a machine that goes through the lines, and the report of what they did.
 #![tactic(auto)]
 
+mod post;
 mod transaction;
+
+pub mod machine;

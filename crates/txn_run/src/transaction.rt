@@ -1,4 +1,5 @@
 ghost use Rattle.std.specs.Prelude.{◌≡◌, IfOk, None};
+ghost use Rattle.txn_run.specs.Standing.{free_status};
 ghost use Rattle.txn_run.specs.Commit.{Step, started, turned, version_in, fails, found_region, found_store, prewrote, stamped, committed, stage_turned, sends, at_stage, prewrite_of, commit_of, place_of};
 
 use std::alloc::Global;
@@ -158,6 +159,16 @@ impl Transaction {
             status: Status::Active,
             put: None,
             call: None,
+        }
+    }
+
+    /// Its status, if it has no call open.
+    pub fn free_status(&self) -> Option<Status>
+        ensures { result ≡ free_status self.now }
+    {
+        match self.call {
+            None => Some(self.status),
+            Some(_) => None,
         }
     }
 

@@ -1,5 +1,5 @@
 -- The lines of a script so far, the newest first, and why one line more is bad.
-use Rattle.std.specs.Prelude.{◌≡◌, ℕ, ◌+◌, Bool, true, false, ◌&&◌, ◌||◌, if◌then◌else◌, List, [], ◌∷◌, length, Option, Some, None, nat_eq, nat_le}
+use Rattle.std.specs.Prelude.{ℕ, ◌+◌, Bool, true, false, ◌&&◌, ◌||◌, if◌then◌else◌, List, [], ◌∷◌, length, Option, Some, None, nat_eq, nat_le}
 use Rattle.txn_script.specs.declared.line.Line.{Line}
 use Rattle.txn_script.specs.declared.line.Line.TheVariants.{Blank, Client, Begin, Put, Commit, Deliver}
 use Rattle.txn_script.specs.declared.script.Why.{Why}

@@ -1,0 +1,16 @@
+pub mod Rows
+pub mod Lists
+pub mod Histories
+pub mod Mails
+pub mod Knowns
+pub mod Replies
+pub mod Lines
+pub mod Opens
+pub mod Ones
+pub mod Steps
+pub mod Calls
+pub mod Commits
+pub mod Deliveries
+pub mod Extends
+pub mod Stepped
+pub mod Delivered

@@ -1,0 +1,11 @@
+pub mod Cuts
+pub mod KindLaws
+pub mod LineLaws
+pub mod LongText
+pub mod Numbers
+pub mod OneReading
+pub mod Options
+pub mod Pairs
+pub mod ScriptLaws
+pub mod Strings
+pub mod WordLaws
