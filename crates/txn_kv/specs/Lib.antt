@@ -4,6 +4,7 @@ pub mod ErrorView
 pub mod Errors
 pub mod Ranges
 pub mod Region
+pub mod Request
 pub mod Spelling
 pub mod Timestamp
 pub mod Versions

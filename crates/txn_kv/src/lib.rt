@@ -38,16 +38,25 @@ pub use key::Key;
 pub use kvpair::KvPair;
 pub use memory::NoMemory;
 pub use message::{
-    ApiVersion, Assertion, Context, KeyError, KeyRange, LockInfo, Mutation, Op, PbPair, Peer,
-    Region, RegionEpoch, RegionErr, StoreLabel, StoreMeta, StoreState,
+    Action, ApiVersion, Assertion, Context, KeyError, KeyRange, LockInfo, Mutation, Op, PbPair,
+    Peer, Region, RegionEpoch, RegionErr, StoreLabel, StoreMeta, StoreState, TxnInfo,
 };
 pub use pessimistic_lock::PessimisticLock;
 pub use region::{RegionId, RegionVerId, RegionWithLeader};
 pub use reply::{
-    CommitResponse, GetRegionResponse, GetStoreResponse, PrewriteResponse, Reply, TsoResponse,
+    BatchGetResponse, BatchRollbackResponse, CheckSecondaryLocksResponse, CheckTxnStatusResponse,
+    CleanupResponse, CommitResponse, GetAllStoresResponse, GetRegionResponse, GetResponse,
+    GetStoreResponse, MembersResponse, PessimisticLockResponse, PessimisticRollbackResponse,
+    PrewriteResponse, Reply, ResolveLockResponse, ScanLockResponse, ScanResponse, TsoResponse,
+    TxnHeartBeatResponse, UnsafeDestroyRangeResponse, UpdateGcSafePointResponse,
 };
 pub use request::{
-    CommitRequest, GetRegionRequest, GetStoreRequest, PrewriteRequest, Request, TsoRequest,
+    BatchGetRequest, BatchRollbackRequest, CheckSecondaryLocksRequest, CheckTxnStatusRequest,
+    CleanupRequest, CommitRequest, GetAllStoresRequest, GetRegionByIdRequest, GetRegionRequest,
+    GetRequest, GetStoreRequest, MembersRequest, PessimisticLockRequest,
+    PessimisticRollbackRequest, PrewriteRequest, Request, ResolveLockRequest, ScanLockRequest,
+    ScanRequest, TsoRequest, TxnHeartBeatRequest, UnsafeDestroyRangeRequest,
+    UpdateGcSafePointRequest,
 };
 pub use text::Text;
 pub use ticket::{StoreId, Target, Ticket};

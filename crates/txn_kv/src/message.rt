@@ -116,6 +116,19 @@ impl TryClone for KeyRange {
     }
 }
 
+/// What became of the transaction that started at `txn`: its commit timestamp, or 0.
+#[derive(Clone, Copy, Debug, Default, PartialEq, Eq)]
+pub struct TxnInfo {
+    pub txn: u64,
+    pub status: u64,
+}
+
+impl TryClone for TxnInfo {
+    fn try_clone(&self) -> Result<TxnInfo, NoMemory> {
+        Ok(*self)
+    }
+}
+
 /// What a mutation does to its key.
 #[derive(Clone, Copy, Debug, PartialEq, Eq)]
 pub enum Op {
@@ -209,6 +222,18 @@ impl TryClone for PbPair {
             value: self.value.try_clone()?,
         })
     }
+}
+
+/// What a store did when it was asked for the status of a transaction.
+#[derive(Clone, Copy, Debug, Default, PartialEq, Eq)]
+pub enum Action {
+    #[default]
+    NoAction,
+    TtlExpireRollback,
+    LockNotExistRollback,
+    MinCommitTsPushed,
+    TtlExpirePessimisticRollback,
+    LockNotExistDoNothing,
 }
 
 /// Why a store refuses a request at a key.
