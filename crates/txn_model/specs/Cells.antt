@@ -1,5 +1,6 @@
 -- Cells in the order of their keys, and as a function from keys to cells.
 use Rattle.std.specs.Prelude.{◌≡◌, ℕ, Bool, true, false, not, ◌&&◌, ◌||◌, if◌then◌else◌, List, [], ◌∷◌, map, filter, None, is_none, nat_eq}
+use Rattle.std.specs.List.{list_any}
 use Rattle.std.specs.Ordering.{nat_cmp, match_ordering}
 use Rattle.std.specs.declared.cmp.Ordering.{Ordering}
 use Rattle.std.specs.declared.cmp.Ordering.TheVariants.{Less}
@@ -16,8 +17,7 @@ abbrev pub key_cmp : Key → Key → Ordering
 key_cmp = slice_cmp nat_cmp
 
 abbrev pub has_key : List Key → Key → Bool
-has_key [] k = false
-has_key (x ∷ xs) k = key_eq x k || has_key xs k
+has_key ks k = list_any (λ x. key_eq x k) ks
 
 -- the cell of a key of which nothing is known
 abbrev pub no_cell : Key → Cell

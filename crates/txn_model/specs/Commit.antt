@@ -47,4 +47,4 @@ commit_by None None st r = record {
 }
 
 abbrev pub commit_row : Store → CommitRequest → Handled
-commit_row st r = commit_by (region_check st r.context) (first_commit_error st.cells r r.keys) st r
+commit_row st r = commit_by (region_check st.regions r.context) (first_commit_error st.cells r r.keys) st r

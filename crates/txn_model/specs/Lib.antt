@@ -1,8 +1,17 @@
 pub mod Cells
 pub mod Commit
+pub mod Destroy
 pub mod Handled
 pub mod Locks
+pub mod PessimisticLock
 pub mod Placement
 pub mod Prewrite
+pub mod Ranges
+pub mod Read
+pub mod Regions
+pub mod Resolve
+pub mod Rollback
+pub mod Settle
+pub mod Status
 pub mod Store
 pub mod Table

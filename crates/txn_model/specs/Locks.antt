@@ -1,5 +1,6 @@
 -- Locks and commits of one cell.
-use Rattle.std.specs.Prelude.{ℕ, Bool, true, false, ◌&&◌, ◌||◌, if◌then◌else◌, List, [], ◌∷◌, Option, Some, None, nat_eq, nat_le, nat_lt}
+use Rattle.std.specs.Prelude.{ℕ, Bool, true, false, ◌&&◌, if◌then◌else◌, List, [], ◌∷◌, Option, Some, None, find, nat_eq, nat_le, nat_lt}
+use Rattle.std.specs.List.{list_any}
 use Rattle.txn_kv.specs.declared.message.LockInfo.{LockInfo}
 use Rattle.txn_kv.specs.declared.message.Op.{Op}
 use Rattle.txn_kv.specs.declared.message.Op.TheVariants.{Put as PutOp, Del as DelOp, Lock as LockOp, PessimisticLock as PessimisticLockOp}
@@ -9,8 +10,7 @@ use Rattle.txn_model.specs.declared.cell.Lock.{Lock}
 use Rattle.txn_model.specs.declared.cell.Write.{Write}
 
 abbrev pub has_start : List ℕ → ℕ → Bool
-has_start [] s = false
-has_start (x ∷ xs) s = nat_eq x s || has_start xs s
+has_start xs s = list_any (λ x. nat_eq x s) xs
 
 -- a lock that a prewrite set
 abbrev pub is_prewrite : Kind → Bool
@@ -31,44 +31,45 @@ holds (Some l) s = nat_eq l.start s
 
 -- the commit of a start
 abbrev pub commit_of : List Write → ℕ → Option Write
-commit_of [] s = None
-commit_of (w ∷ ws) s = if nat_eq w.start s then Some w else commit_of ws s
+commit_of ws s = find (λ w. nat_eq w.start s) ws
+
+abbrev pub newest_after : ℕ → List Write → ℕ
+newest_after n [] = n
+newest_after n (w ∷ ws) = newest_after w.commit ws
 
 -- the last commit timestamp, and 0 where there is none
 abbrev pub newest_commit : List Write → ℕ
-newest_commit [] = 0
-newest_commit (w ∷ ws) = newest_after w.commit ws
-  where
-    newest_after : ℕ → List Write → ℕ
-    newest_after n [] = n
-    newest_after n (v ∷ vs) = newest_after v.commit vs
+newest_commit ws = newest_after 0 ws
 
--- what a commit says of the value of its key: none where it neither wrote nor deleted
-abbrev pub written : Write → Option (Option (List ℕ))
-written w = by_kind w.kind
-  where
-    by_kind : Kind → Option (Option (List ℕ))
-    by_kind Put = Some (Some w.value)
-    by_kind Del = Some None
-    by_kind LockOnly = None
-    by_kind Pessimistic = None
+-- a commit of this kind says what the value of its key is
+abbrev pub is_written : Kind → Bool
+is_written Put = true
+is_written Del = true
+is_written LockOnly = false
+is_written Pessimistic = false
 
 abbrev pub or_earlier : {X : Type 0} → Option X → Option X → Option X
 or_earlier (Some x) y = Some x
 or_earlier None y = y
 
--- the last that was written at t or before
-abbrev pub last_written : List Write → ℕ → Option (Option (List ℕ))
+-- the last put or delete with a commit of at most t
+abbrev pub last_written : List Write → ℕ → Option Write
 last_written [] t = None
-last_written (w ∷ ws) t = or_earlier (last_written ws t) (if nat_le w.commit t then written w else None)
+last_written (w ∷ ws) t = or_earlier (last_written ws t) (if nat_le w.commit t && is_written w.kind then Some w else None)
 
-abbrev pub shown : Option (Option (List ℕ)) → Option (List ℕ)
-shown None = None
-shown (Some v) = v
+abbrev pub if_put : Kind → List ℕ → Option (List ℕ)
+if_put Put v = Some v
+if_put Del v = None
+if_put LockOnly v = None
+if_put Pessimistic v = None
+
+abbrev pub value_of : Option Write → Option (List ℕ)
+value_of None = None
+value_of (Some w) = if_put w.kind w.value
 
 -- the value at t
 abbrev pub value_at : List Write → ℕ → Option (List ℕ)
-value_at ws t = shown (last_written ws t)
+value_at ws t = value_of (last_written ws t)
 
 -- the commits with one more, in the order of `commit`
 abbrev pub with_commit : Write → List Write → List Write

@@ -1,5 +1,5 @@
 -- Regions, stores and the oracle.
-use Rattle.std.specs.Prelude.{ℕ, ◌+◌, ◌-◌, ◌*◌, ◌/◌, ◌%◌, ◌^◌, max, Bool, true, not, ◌&&◌, ◌||◌, if◌then◌else◌, List, [], ◌∷◌, Option, Some, None, nat_eq, nat_lt}
+use Rattle.std.specs.Prelude.{ℕ, ◌+◌, ◌-◌, ◌*◌, ◌/◌, ◌%◌, ◌^◌, max, Bool, true, not, ◌&&◌, ◌||◌, if◌then◌else◌, List, [], ◌∷◌, Option, Some, None, unwrap_or, find, nat_eq, nat_lt}
 use Rattle.std.specs.Ordering.{is_lt, is_gt}
 use Rattle.txn_kv.specs.declared.message.Context.{Context}
 use Rattle.txn_kv.specs.declared.message.Peer.{Peer}
@@ -10,10 +10,14 @@ use Rattle.txn_kv.specs.declared.message.RegionErr.TheVariants.{NotLeader, Regio
 use Rattle.txn_kv.specs.declared.message.StoreMeta.{StoreMeta}
 use Rattle.txn_kv.specs.declared.message.StoreState.TheVariants.{Tombstone}
 use Rattle.txn_kv.specs.declared.request.GetRegionRequest.{GetRegionRequest}
+use Rattle.txn_kv.specs.declared.request.GetRegionByIdRequest.{GetRegionByIdRequest}
 use Rattle.txn_kv.specs.declared.request.GetStoreRequest.{GetStoreRequest}
+use Rattle.txn_kv.specs.declared.request.GetAllStoresRequest.{GetAllStoresRequest}
+use Rattle.txn_kv.specs.declared.request.UpdateGcSafePointRequest.{UpdateGcSafePointRequest}
+use Rattle.txn_kv.specs.declared.request.MembersRequest.{MembersRequest}
 use Rattle.txn_kv.specs.declared.request.TsoRequest.{TsoRequest}
 use Rattle.txn_kv.specs.declared.reply.GetRegionResponse.{GetRegionResponse}
-use Rattle.txn_kv.specs.declared.reply.Reply.TheVariants.{GetRegion, GetStore, Tso}
+use Rattle.txn_kv.specs.declared.reply.Reply.TheVariants.{GetRegion, GetRegionById, GetStore, GetAllStores, UpdateGcSafePoint, Tso, Members}
 use Rattle.txn_kv.specs.Timestamp.{timestamp_of}
 use Rattle.txn_model.specs.declared.region.StoredRegion.{StoredRegion}
 use Rattle.txn_model.specs.Cells.{key_cmp, has_none}
@@ -32,16 +36,14 @@ abbrev pub leader_of : StoredRegion → Peer
 leader_of g = record { id = g.leader; store_id = g.leader }
 
 abbrev pub region_with_id : List StoredRegion → ℕ → Option StoredRegion
-region_with_id [] n = None
-region_with_id (g ∷ gs) n = if nat_eq g.id n then Some g else region_with_id gs n
+region_with_id gs n = find (λ g. nat_eq g.id n) gs
 
 -- an encoded key is in the region's encoded range, whose end is unbounded where it is empty
 abbrev pub holds_key : StoredRegion → List ℕ → Bool
 holds_key g k = not (is_gt (key_cmp (told_bound g.start_key) k)) && (has_none g.end_key || is_lt (key_cmp k (told_bound g.end_key)))
 
 abbrev pub region_holding : List StoredRegion → List ℕ → Option StoredRegion
-region_holding [] k = None
-region_holding (g ∷ gs) k = if holds_key g k then Some g else region_holding gs k
+region_holding gs k = find (λ g. holds_key g k) gs
 
 -- Region check.
 
@@ -58,9 +60,9 @@ region_check_at None x = Some (RegionNotFound x.region_id)
 region_check_at (Some g) x = if led_elsewhere g x.peer then Some (NotLeader g.id (Some (leader_of g))) else (if epoch_differs g.epoch x.region_epoch then Some (EpochNotMatch (region_record g ∷ [])) else None)
 
 -- why a request with this context is refused before its row is looked at
-abbrev pub region_check : Store → Option Context → Option RegionErr
-region_check st None = Some (RegionNotFound 0)
-region_check st (Some x) = region_check_at (region_with_id st.regions x.region_id) x
+abbrev pub region_check : List StoredRegion → Option Context → Option RegionErr
+region_check gs None = Some (RegionNotFound 0)
+region_check gs (Some x) = region_check_at (region_with_id gs x.region_id) x
 
 -- Requests to the placement driver.
 
@@ -71,15 +73,27 @@ told_region (Some g) = record { region = Some (region_record g); leader = Some (
 abbrev pub get_region_row : Store → GetRegionRequest → Handled
 get_region_row st r = record { store = st; reply = GetRegion (told_region (region_holding st.regions r.region_key)) }
 
+abbrev pub get_region_by_id_row : Store → GetRegionByIdRequest → Handled
+get_region_by_id_row st r = record { store = st; reply = GetRegionById (told_region (region_with_id st.regions r.region_id)) }
+
 abbrev pub unknown_store : ℕ → StoreMeta
 unknown_store n = record { id = n; address = []; state = Tombstone; labels = [] }
 
 abbrev pub store_with_id : List StoreMeta → ℕ → StoreMeta
-store_with_id [] n = unknown_store n
-store_with_id (s ∷ ss) n = if nat_eq s.id n then s else store_with_id ss n
+store_with_id ss n = unwrap_or (find (λ s. nat_eq s.id n) ss) (unknown_store n)
 
 abbrev pub get_store_row : Store → GetStoreRequest → Handled
 get_store_row st r = record { store = st; reply = GetStore (record { store = store_with_id st.stores r.store_id }) }
+
+abbrev pub get_all_stores_row : Store → GetAllStoresRequest → Handled
+get_all_stores_row st r = record { store = st; reply = GetAllStores (record { stores = st.stores }) }
+
+-- the safe point becomes the greater
+abbrev pub update_gc_safe_point_row : Store → UpdateGcSafePointRequest → Handled
+update_gc_safe_point_row st r = record { store = record st { safepoint = max st.safepoint r.safe_point }; reply = UpdateGcSafePoint (record { new_safe_point = max st.safepoint r.safe_point }) }
+
+abbrev pub members_row : Store → MembersRequest → Handled
+members_row st r = record { store = st; reply = Members (record {}) }
 
 -- the first of the next timestamps, before it is known whether as many fit into its millisecond
 abbrev pub next_timestamp : Store → ℕ

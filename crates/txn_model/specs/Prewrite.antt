@@ -104,4 +104,4 @@ prewrite_by None [] st r = record {
 }
 
 abbrev pub prewrite_row : Store → PrewriteRequest → Handled
-prewrite_row st r = prewrite_by (region_check st r.context) (prewrite_errors st.cells r r.mutations r.is_pessimistic_lock) st r
+prewrite_row st r = prewrite_by (region_check st.regions r.context) (prewrite_errors st.cells r r.mutations r.is_pessimistic_lock) st r
