@@ -5,6 +5,8 @@ pub mod Handled
 pub mod Locks
 pub mod PessimisticLock
 pub mod Placement
+pub mod Placings
+pub mod Places
 pub mod Prewrite
 pub mod Ranges
 pub mod Read

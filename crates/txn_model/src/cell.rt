@@ -1,4 +1,9 @@
-use txn_kv::{Items, Key, Value};
+ghost use Rattle.std.specs.Prelude.{◌≡◌, IfOk};
+ghost use Rattle.txn_model.specs.Cells.{no_cell};
+ghost use Rattle.txn_model.specs.Locks.{is_prewrite, is_written, op_of, lock_info};
+
+use std::alloc::Global;
+use txn_kv::{Items, Key, LockInfo, NoMemory, Op, Value};
 
 /// What a lock will become, or what a commit did.
 #[derive(Clone, Copy, Debug, PartialEq, Eq)]
@@ -7,6 +12,39 @@ pub enum Kind {
     Del,
     Lock,
     Pessimistic,
+}
+
+impl Kind {
+    /// A lock of this kind was set by a prewrite.
+    pub fn is_prewrite(self) -> bool
+        ensures { result ≡ is_prewrite self }
+    {
+        match self {
+            Kind::Put | Kind::Del | Kind::Lock => true,
+            Kind::Pessimistic => false,
+        }
+    }
+
+    /// A commit of this kind says what the value of its key is.
+    pub fn is_written(self) -> bool
+        ensures { result ≡ is_written self }
+    {
+        match self {
+            Kind::Put | Kind::Del => true,
+            Kind::Lock | Kind::Pessimistic => false,
+        }
+    }
+
+    fn op(self) -> Op
+        ensures { result ≡ op_of self }
+    {
+        match self {
+            Kind::Put => Op::Put,
+            Kind::Del => Op::Del,
+            Kind::Lock => Op::Lock,
+            Kind::Pessimistic => Op::PessimisticLock,
+        }
+    }
 }
 
 /// A lock of the transaction with this start, with its time to live in milliseconds.
@@ -21,6 +59,35 @@ pub struct Lock {
     pub min_commit: u64,
     pub use_async: bool,
     pub secondaries: Items<Key>,
+}
+
+fn copied_keys(alloc: Global, keys: &[Key]) -> Result<Items<Key>, NoMemory>
+    ensures { IfOk result (λ copies. copies ≡ keys.now) }
+{
+    let mut copies = Items::new(alloc);
+    for key in keys {
+        copies.push(key.try_clone()?)?;
+    }
+    Ok(copies)
+}
+
+impl Lock {
+    /// The lock at this key, as a reply shows it.
+    pub fn info(&self, alloc: Global, key: &Key) -> Result<LockInfo, NoMemory>
+        ensures { IfOk result (λ info. info ≡ lock_info key.now self.now) }
+    {
+        Ok(LockInfo {
+            key: key.try_clone()?,
+            primary_lock: self.primary.try_clone()?,
+            lock_version: self.start,
+            lock_ttl: self.ttl,
+            lock_type: self.kind.op(),
+            lock_for_update_ts: self.for_update,
+            use_async_commit: self.use_async,
+            min_commit_ts: self.min_commit,
+            secondaries: copied_keys(alloc, self.secondaries.as_slice())?,
+        })
+    }
 }
 
 /// A commit of the transaction with this start.
@@ -39,4 +106,18 @@ pub struct Cell {
     pub lock: Option<Lock>,
     pub commits: Items<Write>,
     pub rolled: Items<u64>,
+}
+
+impl Cell {
+    /// The cell of a key of which nothing is known. Takes no memory.
+    pub fn empty(alloc: Global, key: Key) -> Cell
+        ensures { result ≡ no_cell key }
+    {
+        Cell {
+            key,
+            lock: None,
+            commits: Items::new(alloc),
+            rolled: Items::new(alloc),
+        }
+    }
 }

@@ -2,6 +2,11 @@
 #![tactic(auto)]
 
 pub mod cell;
+mod cells;
+mod commit;
+mod commits;
+mod placement;
+mod prewrite;
 pub mod region;
 pub mod store;
 

@@ -1,0 +1,140 @@
+-- A prewrite, mutation by mutation.
+use Rattle.std.proofs.Common.{◌≡◌, ℕ, suc, zero, ◌+◌, ◌<◌, ◌≤◌, Bool, true, false, if◌then◌else◌, List, [], ◌∷◌, ◌++◌, drop, reverse, length, get_or, set, Option, Some, None, refl, sym, ap, ◌∙◌, subst, arith, append_assoc, append-nil}
+use Rattle.std.specs.Prelude.{option_to_list, ◌||◌}
+use Rattle.std.specs.List.{insert, list_any}
+use Rattle.std.proofs.lemmas.List.{drop_more, drop-drop, reverse-append}
+use Rattle.txn_kv.specs.declared.message.KeyError.{KeyError}
+use Rattle.txn_kv.specs.declared.message.Mutation.{Mutation}
+use Rattle.txn_kv.specs.declared.request.PrewriteRequest.{PrewriteRequest}
+use Rattle.txn_model.specs.declared.cell.Cell.{Cell}
+use Rattle.txn_model.specs.declared.cell.Kind.{Kind}
+use Rattle.txn_model.specs.declared.prewrite.Placing.{Placing}
+use Rattle.txn_model.specs.Cells.{Key, key_eq, has_key, no_cell, is_empty_cell, cell_at, AreInOrder, AreKept}
+use Rattle.txn_model.specs.Locks.{owns}
+use Rattle.txn_model.specs.Prewrite.{kind_of, placed, prewrite_cell, mutation_keys, first_flag, prewrite_error, prewrite_errors}
+use Rattle.txn_model.specs.Placings.{placing_of, placings, locked, all_locked}
+use Rattle.txn_model.specs.Places.{IsAt, IsGapFor}
+use Rattle.txn_model.proofs.CellLists.{key_of_cell, KeepsKeys}
+use Rattle.txn_model.proofs.PlacesInOrder.{changed_set, changed_insert, kept_set, kept_insert, full_read}
+
+-- the lock set at a place
+pub locked_set : (cs : List Cell) (p : Placing) (at : ℕ) (c : Cell) → AreKept cs → IsAt cs p.key at → c ≡ get_or cs at c → owns c.lock p.lock.start ≡ false → (j : Key) → cell_at (set cs at (record { key = c.key; lock = Some p.lock; commits = c.commits; rolled = c.rolled })) j ≡ (if key_eq p.key j then locked p (cell_at cs j) else cell_at cs j)
+locked_set cs p at c kept is read free = changed_set cs p.key at c _ (locked p) kept.in_order is read (rw free refl) (ap (λ x. x.key) read ∙ is.has_key c)
+
+pub kept_locked_set : (cs : List Cell) (p : Placing) (at : ℕ) (c : Cell) → AreKept cs → IsAt cs p.key at → c ≡ get_or cs at c → AreKept (set cs at (record { key = c.key; lock = Some p.lock; commits = c.commits; rolled = c.rolled }))
+kept_locked_set cs p at c kept is read = kept_set cs p.key at _ kept is (ap (λ x. x.key) read ∙ is.has_key c) refl
+
+-- the lock left alone
+pub locked_same : (cs : List Cell) (p : Placing) (at : ℕ) (c : Cell) → AreKept cs → IsAt cs p.key at → c ≡ get_or cs at c → owns c.lock p.lock.start ≡ true → (j : Key) → cell_at (set cs at c) j ≡ (if key_eq p.key j then locked p (cell_at cs j) else cell_at cs j)
+locked_same cs p at c kept is read held = changed_set cs p.key at c c (locked p) kept.in_order is read (rw held refl) (ap (λ x. x.key) read ∙ is.has_key c)
+
+pub kept_same : (cs : List Cell) (k : Key) (at : ℕ) (c : Cell) → AreKept cs → IsAt cs k at → c ≡ get_or cs at c → AreKept (set cs at c)
+kept_same cs k at c kept is read = kept_set cs k at c kept is (ap (λ x. x.key) read ∙ is.has_key c) (full_read cs k at c kept is read)
+
+-- a new cell with the lock
+pub locked_insert : (cs : List Cell) (p : Placing) (at : ℕ) → IsGapFor cs p.key at → (j : Key) → cell_at (insert cs at (record { key = p.key; lock = Some p.lock; commits = []; rolled = [] })) j ≡ (if key_eq p.key j then locked p (cell_at cs j) else cell_at cs j)
+locked_insert cs p at gap = changed_insert cs p.key at _ (locked p) gap refl refl
+
+pub kept_locked_insert : (cs : List Cell) (p : Placing) (at : ℕ) → AreKept cs → IsGapFor cs p.key at → AreKept (insert cs at (record { key = p.key; lock = Some p.lock; commits = []; rolled = [] }))
+kept_locked_insert cs p at kept gap = kept_insert cs p.key at _ kept gap refl refl
+
+-- one lock more in a row of them
+pub locked_next : (before rest : List Placing) (p : Placing) → before ≡ rest ++ p ∷ [] → (cs ds : List Cell) → ((j : Key) → cell_at ds j ≡ (if key_eq p.key j then locked p (cell_at cs j) else cell_at cs j)) → (j : Key) → all_locked (reverse rest) (cell_at ds j) ≡ all_locked (reverse before) (cell_at cs j)
+locked_next before rest p e cs ds step j =
+    ap (all_locked (reverse rest)) (step j ∙ ap (λ q. if key_eq p.key q then locked p (cell_at cs j) else cell_at cs j) (sym (key_of_cell cs j)))
+    ∙ sym (ap (λ x. all_locked x (cell_at cs j)) (ap reverse e ∙ reverse-append rest (p ∷ [])))
+
+-- the errors
+
+first_flag_at : (fs : List Bool) (i : ℕ) (d : Bool) → i < length fs → get_or fs i d ≡ first_flag (drop i fs)
+first_flag_at [] i d l = absurd (omega arith)
+first_flag_at (f ∷ fs) zero d l = refl
+first_flag_at (f ∷ fs) (suc i) d l = first_flag_at fs i d (omega arith)
+
+pub flag_read : (fs : List Bool) (i : ℕ) (f : Bool) → i < length fs → f ≡ get_or fs i f → f ≡ first_flag (drop i fs)
+flag_read fs i f l e = e ∙ first_flag_at fs i f l
+
+pub flag_missing : (fs : List Bool) (i : ℕ) → length fs ≤ i → false ≡ first_flag (drop i fs)
+flag_missing [] zero l = refl
+flag_missing [] (suc i) l = refl
+flag_missing (f ∷ fs) zero l = absurd (omega arith)
+flag_missing (f ∷ fs) (suc i) l = flag_missing fs i (omega arith)
+
+-- a part more of a list that is made from the front
+one_more : {X : Type 0} (done next part left left' all : List X) → next ≡ done ++ part → left ≡ part ++ left' → done ++ left ≡ all → next ++ left' ≡ all
+one_more done next part left left' all grows splits so_far = rw (grows, append_assoc) (ap (λ x. done ++ x) (sym splits) ∙ so_far)
+
+errors_more : (cs : List Cell) (r : PrewriteRequest) (ms : List Mutation) (fs : List Bool) (i : ℕ) (m : Mutation) → i < length ms → m ≡ get_or ms i m → prewrite_errors cs r (drop i ms) (drop i fs) ≡ option_to_list (prewrite_error r m (first_flag (drop i fs)) (cell_at cs m.key)) ++ prewrite_errors cs r (drop (i + 1) ms) (drop (i + 1) fs)
+errors_more cs r ms fs i m l e =
+    ap (λ x. prewrite_errors cs r x (drop i fs)) (drop_more ms i m l ∙ ap (λ x. x ∷ drop (i + 1) ms) (sym e))
+    ∙ ap (λ x. option_to_list (prewrite_error r m (first_flag (drop i fs)) (cell_at cs m.key)) ++ prewrite_errors cs r (drop (i + 1) ms) x) (drop-drop 1 i fs)
+
+-- the errors so far, after one more mutation
+pub errors_step : (cs : List Cell) (r : PrewriteRequest) (ms : List Mutation) (fs : List Bool) (i : ℕ) (m : Mutation) (f : Bool) (o : Option KeyError) (done next : List KeyError) → i < length ms → m ≡ get_or ms i m → f ≡ first_flag (drop i fs) → o ≡ prewrite_error r m f (cell_at cs m.key) → next ≡ done ++ option_to_list o → done ++ prewrite_errors cs r (drop i ms) (drop i fs) ≡ prewrite_errors cs r ms fs → next ++ prewrite_errors cs r (drop (i + 1) ms) (drop (i + 1) fs) ≡ prewrite_errors cs r ms fs
+errors_step cs r ms fs i m f o done next l e flag error grows so_far =
+    one_more done next (option_to_list o) (prewrite_errors cs r (drop i ms) (drop i fs)) (prewrite_errors cs r (drop (i + 1) ms) (drop (i + 1) fs)) (prewrite_errors cs r ms fs) grows
+    (errors_more cs r ms fs i m l e ∙ ap (λ x. option_to_list x ++ prewrite_errors cs r (drop (i + 1) ms) (drop (i + 1) fs)) (ap (λ x. prewrite_error r m x (cell_at cs m.key)) (sym flag) ∙ sym error))
+    so_far
+
+pub pushed_one : (done next : List KeyError) (o : Option KeyError) (e : KeyError) → o ≡ Some e → next ≡ done ++ e ∷ [] → next ≡ done ++ option_to_list o
+pushed_one done next o e some grows = grows ∙ ap (λ x. done ++ option_to_list x) (sym some)
+
+pub pushed_none : (done next : List KeyError) (o : Option KeyError) → o ≡ None → next ≡ done → next ≡ done ++ option_to_list o
+pushed_none done next o none same = same ∙ (sym (append-nil done) ∙ ap (λ x. done ++ option_to_list x) (sym none))
+
+pub placings_more : (r : PrewriteRequest) (ms : List Mutation) (i : ℕ) (m : Mutation) → i < length ms → m ≡ get_or ms i m → placings r (drop i ms) ≡ placing_of r m (kind_of m.op) ++ placings r (drop (i + 1) ms)
+placings_more r ms i m l e = ap (placings r) (drop_more ms i m l ∙ ap (λ x. x ∷ drop (i + 1) ms) (sym e))
+
+-- the mutations of a cell
+
+all_locked-append : (ps qs : List Placing) (c : Cell) → all_locked (ps ++ qs) c ≡ all_locked qs (all_locked ps c)
+all_locked-append [] qs c = refl
+all_locked-append (p ∷ ps) qs c = all_locked-append ps qs (if key_eq p.key c.key then locked p c else c)
+
+one_placed : (r : PrewriteRequest) (m : Mutation) (o : Option Kind) (c : Cell) → all_locked (placing_of r m o) c ≡ (if key_eq m.key c.key then placed r m.value o c else c)
+one_placed r m None c = by (key_eq m.key c.key)
+  where
+    by : (b : Bool) → c ≡ (if b then c else c)
+    by true = refl
+    by false = refl
+one_placed r m (Some kind) c = refl
+
+-- the locks that are made ready do what the mutations do
+pub all_locked_is : (r : PrewriteRequest) (ms : List Mutation) (c : Cell) → all_locked (placings r ms) c ≡ prewrite_cell r ms c
+all_locked_is r [] c = refl
+all_locked_is r (m ∷ ms) c =
+    all_locked-append (placing_of r m (kind_of m.op)) (placings r ms) c
+    ∙ (ap (all_locked (placings r ms)) (one_placed r m (kind_of m.op) c)
+    ∙ all_locked_is r ms (if key_eq m.key c.key then placed r m.value (kind_of m.op) c else c))
+
+placed_key : (r : PrewriteRequest) (v : List ℕ) (o : Option Kind) (c : Cell) → (placed r v o c).key ≡ c.key
+placed_key r v None c = refl
+placed_key r v (Some kind) c = by (owns c.lock r.start_version)
+  where
+    by : (b : Bool) → (if b then c else record { key = c.key; lock = Some (Rattle.txn_model.specs.Prewrite.lock_of r v kind); commits = c.commits; rolled = c.rolled }).key ≡ c.key
+    by true = refl
+    by false = refl
+
+if_key : (b : Bool) (x y : Cell) → x.key ≡ y.key → (if b then x else y).key ≡ y.key
+if_key true x y e = e
+if_key false x y e = refl
+
+pub prewrite_key : (r : PrewriteRequest) (ms : List Mutation) → KeepsKeys (prewrite_cell r ms)
+prewrite_key r [] c = refl
+prewrite_key r (m ∷ ms) c = prewrite_key r ms (if key_eq m.key c.key then placed r m.value (kind_of m.op) c else c) ∙ if_key (key_eq m.key c.key) (placed r m.value (kind_of m.op) c) c (placed_key r m.value (kind_of m.op) c)
+
+-- the cell of another key stays
+pub prewrite_other : (r : PrewriteRequest) (ms : List Mutation) (c : Cell) → has_key (mutation_keys ms) c.key ≡ false → prewrite_cell r ms c ≡ c
+prewrite_other r [] c h = refl
+prewrite_other r (m ∷ ms) c h = by (key_eq m.key c.key) h (prewrite_other r ms c)
+  where
+    by : (b : Bool) → (b || has_key (mutation_keys ms) c.key) ≡ false → (has_key (mutation_keys ms) c.key ≡ false → prewrite_cell r ms c ≡ c) → prewrite_cell r ms (if b then placed r m.value (kind_of m.op) c else c) ≡ c
+    by true h later = absurd (cc)
+    by false h later = later h
+
+pub prewritten : (r : PrewriteRequest) (ms : List Mutation) (cs : List Cell) (j : Key) → (if has_key (mutation_keys ms) j then prewrite_cell r ms (cell_at cs j) else cell_at cs j) ≡ prewrite_cell r ms (cell_at cs j)
+prewritten r ms cs j = by (has_key (mutation_keys ms) j) refl
+  where
+    by : (b : Bool) → has_key (mutation_keys ms) j ≡ b → (if b then prewrite_cell r ms (cell_at cs j) else cell_at cs j) ≡ prewrite_cell r ms (cell_at cs j)
+    by true e = refl
+    by false e = sym (prewrite_other r ms (cell_at cs j) (ap (has_key (mutation_keys ms)) (key_of_cell cs j) ∙ e))

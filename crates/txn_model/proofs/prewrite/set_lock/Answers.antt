@@ -1,0 +1,29 @@
+use Rattle.std.proofs.Common.{sym, ◌∙◌, subst, arith}
+use Rattle.std.proofs.lemmas.Bool.Decides.{nat_tests}
+use Rattle.txn_model.specs.Places.{IsAt, IsGapFor}
+use Rattle.txn_model.proofs.Locking.{locked_set, kept_locked_set, locked_same, kept_same, locked_insert, kept_locked_insert}
+use Rattle.txn_model.proofs.prewrite.set_lock.Goals as goal
+
+pub returns-then-not-owns-clause-cells : goal.returns-then-not-owns-clause-cells
+returns-then-not-owns-clause-cells c =
+    locked_set c.args.cells.now.items c.args.placing c.in-Ok.at c.index_mut-cell.result.now c.requires.kept (rw c.as_slice.ensures.value at c.in-Ok.ensures.found) c.index_mut-cell.ensures.value (grind (arith, c.if-not-owns.ensures))
+
+pub returns-then-not-owns-clause-kept : goal.returns-then-not-owns-clause-kept
+returns-then-not-owns-clause-kept c =
+    kept_locked_set c.args.cells.now.items c.args.placing c.in-Ok.at c.index_mut-cell.result.now c.requires.kept (rw c.as_slice.ensures.value at c.in-Ok.ensures.found) c.index_mut-cell.ensures.value
+
+pub returns-else-not-owns-clause-cells : goal.returns-else-not-owns-clause-cells
+returns-else-not-owns-clause-cells c =
+    locked_same c.args.cells.now.items c.args.placing c.in-Ok.at c.index_mut-cell.result.now c.requires.kept (rw c.as_slice.ensures.value at c.in-Ok.ensures.found) c.index_mut-cell.ensures.value (grind (arith, c.if-not-owns.ensures))
+
+pub returns-else-not-owns-clause-kept : goal.returns-else-not-owns-clause-kept
+returns-else-not-owns-clause-kept c =
+    kept_same c.args.cells.now.items c.args.placing.key c.in-Ok.at c.index_mut-cell.result.now c.requires.kept (rw c.as_slice.ensures.value at c.in-Ok.ensures.found) c.index_mut-cell.ensures.value
+
+pub returns-in-Err-clause-cells : goal.returns-in-Err-clause-cells
+returns-in-Err-clause-cells c =
+    rw (c.insert_within.ensures.items, c.empty-cell.ensures) (locked_insert c.args.cells.now.items c.args.placing c.in-Err.at (rw c.as_slice.ensures.value at c.in-Err.ensures.absent))
+
+pub returns-in-Err-clause-kept : goal.returns-in-Err-clause-kept
+returns-in-Err-clause-kept c =
+    rw (c.insert_within.ensures.items, c.empty-cell.ensures) (kept_locked_insert c.args.cells.now.items c.args.placing c.in-Err.at c.requires.kept (rw c.as_slice.ensures.value at c.in-Err.ensures.absent))

@@ -1,0 +1,258 @@
+//! Prewrite: a lock on each key, where nothing stands in the way.
+ghost use Rattle.std.specs.Prelude.{◌≡◌, ℕ, ◌+◌, ◌^◌, ◌<◌, ◌≤◌, List, if◌then◌else◌, IfOk, option_to_list, drop, vec_len, vec_capacity};
+ghost use Rattle.txn_model.specs.Cells.{AreInOrder, AreKept, Key, key_eq, cell_at};
+ghost use Rattle.txn_model.specs.Locks.{owns};
+ghost use Rattle.txn_model.specs.Prewrite.{kind_of, wants_absent, conflict, first_flag, prewrite_error, prewrite_errors, lock_of};
+ghost use Rattle.txn_model.specs.Placings.{placing_of, placings, locked, all_locked};
+
+use crate::cell::{Cell, Kind, Lock, Write};
+use crate::cells::{find, insert_within, search};
+use crate::commits::{commit_of, has_value, newest_commit};
+use std::alloc::Global;
+use txn_kv::{Items, Key, KeyError, Mutation, NoMemory, Op, PrewriteRequest, Value};
+
+/// A lock that is ready to be set at a key.
+#[derive(Debug, Drop)]
+pub struct Placing {
+    pub key: Key,
+    pub lock: Lock,
+}
+
+/// No value may stand where such a mutation is.
+fn wants_absent(op: Op) -> bool
+    ensures { result ≡ wants_absent op }
+{
+    matches!(op, Op::Insert | Op::CheckNotExists)
+}
+
+/// The kind of the lock that a mutation sets, if it sets one.
+fn kind_of(op: Op) -> Option<Kind>
+    ensures { result ≡ kind_of op }
+{
+    match op {
+        Op::Put | Op::Insert => Some(Kind::Put),
+        Op::Del => Some(Kind::Del),
+        Op::Lock | Op::Rollback | Op::PessimisticLock => Some(Kind::Lock),
+        Op::CheckNotExists => None,
+    }
+}
+
+/// What stands in the way among the commits. `held`: the start holds a pessimistic lock; `flag`: it must.
+fn conflict(
+    request: &PrewriteRequest,
+    mutation: &Mutation,
+    flag: bool,
+    held: bool,
+    commits: &[Write],
+) -> Result<Option<KeyError>, NoMemory>
+    ensures { IfOk result (λ error. error ≡ conflict request.now mutation.now flag held commits.now) }
+{
+    let start = request.start_version;
+    if let Some(write) = commit_of(commits, start) {
+        let commit = write.commit;
+        return Ok(Some(KeyError::WriteConflict {
+            key: mutation.key.try_clone()?,
+            start,
+            commit,
+        }));
+    }
+    if flag {
+        if held {
+            return Ok(None);
+        }
+        return Ok(Some(KeyError::PessimisticLockNotFound {
+            key: mutation.key.try_clone()?,
+        }));
+    }
+    let commit = newest_commit(commits);
+    if start < commit {
+        return Ok(Some(KeyError::WriteConflict {
+            key: mutation.key.try_clone()?,
+            start,
+            commit,
+        }));
+    }
+    if wants_absent(mutation.op) && has_value(commits, u64::MAX) {
+        return Ok(Some(KeyError::AlreadyExist {
+            key: mutation.key.try_clone()?,
+        }));
+    }
+    Ok(None)
+}
+
+/// The first error of a mutation at the cell of its key.
+fn prewrite_error(
+    alloc: Global,
+    request: &PrewriteRequest,
+    mutation: &Mutation,
+    flag: bool,
+    cell: &Cell,
+) -> Result<Option<KeyError>, NoMemory>
+    ensures { IfOk result (λ error. error ≡ prewrite_error request.now mutation.now flag cell.now) }
+{
+    let start = request.start_version;
+    if cell.rolled.as_slice().contains(&start) {
+        return Ok(Some(KeyError::Abort {
+            key: mutation.key.try_clone()?,
+            start,
+            commit: 0,
+        }));
+    }
+    match &cell.lock {
+        None => conflict(request, mutation, flag, false, cell.commits.as_slice()),
+        Some(lock) => {
+            if lock.start != start {
+                return Ok(Some(KeyError::Locked(lock.info(alloc, &mutation.key)?)));
+            }
+            if lock.kind.is_prewrite() {
+                return Ok(None);
+            }
+            conflict(request, mutation, flag, true, cell.commits.as_slice())
+        }
+    }
+}
+
+/// The first error of a mutation, among the cells.
+fn error_among(
+    alloc: Global,
+    cells: &[Cell],
+    request: &PrewriteRequest,
+    mutation: &Mutation,
+    flag: bool,
+) -> Result<Option<KeyError>, NoMemory>
+    requires { AreInOrder cells.now }
+    ensures { IfOk result (λ error. error ≡ prewrite_error request.now mutation.now flag (cell_at cells.now mutation.now.key)) }
+{
+    match find(cells, &mutation.key) {
+        Some(cell) => prewrite_error(alloc, request, mutation, flag, cell),
+        None => {
+            let empty = Cell::empty(alloc, Key::empty(alloc));
+            prewrite_error(alloc, request, mutation, flag, &empty)
+        }
+    }
+}
+
+/// The flag of the mutation at this place. Flags that are missing are false.
+fn flag_at(flags: &[bool], at: usize) -> bool
+    ensures { result ≡ first_flag (drop at flags.now) }
+{
+    if at < flags.len() { flags[at] } else { false }
+}
+
+/// The errors of a request's mutations, in their order.
+pub fn prewrite_errors(
+    alloc: Global,
+    cells: &[Cell],
+    request: &PrewriteRequest,
+) -> Result<Items<KeyError>, NoMemory>
+    requires { AreInOrder cells.now }
+    ensures { IfOk result (λ errors. errors ≡ prewrite_errors cells.now request.now request.now.mutations request.now.is_pessimistic_lock) }
+{
+    let flags = request.is_pessimistic_lock.as_slice();
+    let mut errors = Items::new(alloc);
+    for (i, mutation) in request.mutations.as_slice().iter().enumerate() {
+        if let Some(error) = error_among(alloc, cells, request, mutation, flag_at(flags, i))? {
+            errors.push(error)?;
+        }
+    }
+    Ok(errors)
+}
+
+fn lock_of(
+    alloc: Global,
+    request: &PrewriteRequest,
+    value: &Value,
+    kind: Kind,
+) -> Result<Lock, NoMemory>
+    ensures { IfOk result (λ lock. lock ≡ lock_of request.now value.now kind) }
+{
+    Ok(Lock {
+        start: request.start_version,
+        primary: request.primary_lock.try_clone()?,
+        kind,
+        value: value.try_clone()?,
+        ttl: request.lock_ttl,
+        for_update: request.for_update_ts,
+        min_commit: 0,
+        use_async: false,
+        secondaries: Items::new(alloc),
+    })
+}
+
+/// The lock that a mutation sets, if it sets one.
+fn placing_of(
+    alloc: Global,
+    request: &PrewriteRequest,
+    mutation: &Mutation,
+) -> Result<Option<Placing>, NoMemory>
+    ensures { IfOk result (λ placing. option_to_list placing ≡ placing_of request.now mutation.now (kind_of mutation.now.op)) }
+{
+    match kind_of(mutation.op) {
+        Some(kind) => {
+            let lock = lock_of(alloc, request, &mutation.value, kind)?;
+            let key = mutation.key.try_clone()?;
+            Ok(Some(Placing { key, lock }))
+        }
+        None => Ok(None),
+    }
+}
+
+/// The locks that a request's mutations set.
+pub fn placings(alloc: Global, request: &PrewriteRequest) -> Result<Vec<Placing>, NoMemory>
+    ensures { IfOk result (λ all. all.items ≡ placings request.now request.now.mutations) }
+{
+    let mut all = Vec::new(alloc);
+    for mutation in request.mutations.as_slice() {
+        if let Some(placing) = placing_of(alloc, request, mutation)? {
+            all.push(placing)?;
+        }
+    }
+    Ok(all)
+}
+
+/// The start holds a prewrite lock.
+fn owns(lock: &Option<Lock>, start: u64) -> bool
+    ensures { result ≡ owns lock.now start }
+{
+    match lock {
+        Some(lock) => lock.start == start && lock.kind.is_prewrite(),
+        None => false,
+    }
+}
+
+/// Sets a lock, unless its start holds a prewrite lock there. There is room for one more cell.
+fn set_lock(cells: &mut Vec<Cell>, placing: Placing)
+    requires kept { AreKept cells.old.items }
+    requires room { vec_len cells.old < vec_capacity cells.old }
+    ensures cells { (k : Key) → cell_at cells.new.items k ≡ (if key_eq placing.key k then locked placing (cell_at cells.old.items k) else cell_at cells.old.items k) }
+    ensures kept { AreKept cells.new.items }
+    ensures len { vec_len cells.new ≤ vec_len cells.old + 1 }
+    ensures capacity { vec_capacity cells.old ≤ vec_capacity cells.new }
+{
+    match search(cells.as_slice(), &placing.key) {
+        Ok(at) => {
+            let cell = &mut cells[at];
+            if !owns(&cell.lock, placing.lock.start) {
+                cell.lock = Some(placing.lock);
+            }
+        }
+        Err(at) => {
+            let mut cell = Cell::empty(*cells.allocator(), placing.key);
+            cell.lock = Some(placing.lock);
+            insert_within(cells, at, cell);
+        }
+    }
+}
+
+/// Sets locks one after another. There is room for as many cells.
+pub fn set_locks(cells: &mut Vec<Cell>, mut placings: Vec<Placing>)
+    requires kept { AreKept cells.old.items }
+    requires room { vec_len cells.old + vec_len placings ≤ vec_capacity cells.old }
+    ensures cells { (k : Key) → cell_at cells.new.items k ≡ all_locked placings.items (cell_at cells.old.items k) }
+    ensures kept { AreKept cells.new.items }
+{
+    placings.reverse();
+    while let Some(placing) = placings.pop() {
+        set_lock(cells, placing);
+    }
+}
