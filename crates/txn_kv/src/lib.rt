@@ -1,11 +1,19 @@
 //! Keys, values, timestamps, errors and the messages of the transaction client and its servers.
 #![tactic(auto)]
 
+pub mod backoff;
+pub mod bound_range;
+pub mod codec;
 pub mod errors;
+pub mod hex_repr;
+pub mod into_owned_range;
 pub mod items;
 pub mod key;
+pub mod kvpair;
 pub mod memory;
 pub mod message;
+pub mod pessimistic_lock;
+pub mod region;
 pub mod reply;
 pub mod request;
 pub mod text;
@@ -13,14 +21,25 @@ pub mod ticket;
 pub mod timestamp;
 pub mod try_clone;
 
-pub use errors::{Error, Internal};
+pub use backoff::{
+    Backoff, BackoffKind, DEFAULT_REGION_BACKOFF, DEFAULT_STORE_BACKOFF, OPTIMISTIC_BACKOFF,
+    PESSIMISTIC_BACKOFF,
+};
+pub use bound_range::BoundRange;
+pub use codec::{BytesEncoder, max_encoded_bytes_size};
+pub use errors::{Error, Internal, Result};
+pub use hex_repr::HexRepr;
+pub use into_owned_range::{IntoOwnedRange, KeyBytes};
 pub use items::{Items, Value};
 pub use key::Key;
+pub use kvpair::KvPair;
 pub use memory::NoMemory;
 pub use message::{
     Action, ApiVersion, Assertion, Context, KeyError, KeyRange, LockInfo, Mutation, Op, PbPair,
     Peer, Region, RegionEpoch, RegionErr, StoreLabel, StoreMeta, StoreState, TxnInfo,
 };
+pub use pessimistic_lock::PessimisticLock;
+pub use region::{RegionId, RegionVerId, RegionWithLeader};
 pub use reply::{
     BatchGetResponse, BatchRollbackResponse, CheckSecondaryLocksResponse, CheckTxnStatusResponse,
     CleanupResponse, CommitResponse, GetAllStoresResponse, GetRegionResponse, GetResponse,

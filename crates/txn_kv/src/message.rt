@@ -1,3 +1,5 @@
+ghost use Rattle.std.specs.Prelude.{◌≡◌};
+
 use crate::items::{Items, Value};
 use crate::key::Key;
 use crate::memory::NoMemory;
@@ -163,6 +165,14 @@ impl TryClone for Mutation {
             value: self.value.try_clone()?,
             assertion: self.assertion,
         })
+    }
+}
+
+impl AsRef<Key> for Mutation {
+    fn as_ref(&self) -> &Key
+        ensures { result.now ≡ self.now.key }
+    {
+        &self.key
     }
 }
 

@@ -1,0 +1,2 @@
+//! What is true of every run: theorems over definitions alone.
+#![tactic(auto)]

@@ -1,0 +1,4 @@
+//! Runs scripts: a machine that goes through the lines, and the report of what they did.
+#![tactic(auto)]
+
+mod transaction;
