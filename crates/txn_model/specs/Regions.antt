@@ -43,8 +43,12 @@ split st k = if can_split st k then record st { regions = split_at k (unused_id 
 
 -- Lead
 
+abbrev pub led_if : ℕ → ℕ → StoredRegion → StoredRegion
+led_if region store g = if nat_eq g.id region then record g { leader = store } else g
+
+-- the regions with this one led by the store
 abbrev pub led_by : ℕ → ℕ → List StoredRegion → List StoredRegion
-led_by region store gs = map (λ g. if nat_eq g.id region then record g { leader = store } else g) gs
+led_by region store gs = map (led_if region store) gs
 
 -- the region is known, and the store is one of the three
 abbrev pub can_lead : Store → ℕ → ℕ → Bool
