@@ -1,13 +1,13 @@
 -- Lists of cells in the order of their keys, as functions from keys to cells.
-use Rattle.std.proofs.Common.{◌≡◌, ℕ, Bool, true, false, not, ◌&&◌, if◌then◌else◌, List, [], ◌∷◌, Option, Some, None, map, filter, refl, sym, ap, ◌∙◌, subst, arith}
-use Rattle.std.specs.Prelude.{is_none, cond, ◌||◌}
+use Rattle.std.proofs.Common.{◌≡◌, Bool, true, false, not, if◌then◌else◌, List, [], ◌∷◌, Option, Some, None, refl, sym, ap, ◌∙◌, subst}
+use Rattle.std.specs.Prelude.{cond, ◌||◌}
 use Rattle.std.specs.List.{list_any}
 use Rattle.std.specs.Ordering.{match_ordering}
 use Rattle.std.specs.declared.cmp.Ordering.{Ordering}
 use Rattle.std.specs.declared.cmp.Ordering.TheVariants.{Less, Equal, Greater}
 use Rattle.txn_model.specs.declared.cell.Cell.{Cell}
 use Rattle.txn_model.specs.Cells.{Key, key_eq, key_cmp, has_key, no_cell, is_empty_cell, cell_at, with_room, with_rooms, each_changed, changed_at, AllAbove, AreInOrder, NoneEmpty, AreKept}
-use Rattle.txn_model.proofs.Keys.{same_key, key_itself, key_cmp_itself, less_trans, differs_if_less, differs_if_greater, same_if_equal, less_if_greater, order_cases}
+use Rattle.txn_model.proofs.Keys.{same_key, key_itself, less_trans, differs_if_less, differs_if_greater, same_if_equal, less_if_greater, order_cases}
 
 -- a cell that is empty is the one of which nothing is known
 pub empty_is_none : (c : Cell) → is_empty_cell c ≡ true → c ≡ no_cell c.key

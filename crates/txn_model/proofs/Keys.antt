@@ -1,6 +1,6 @@
 -- The order of keys. No other proof looks into it.
-use Rattle.std.proofs.Common.{◌≤◌, ◌≡◌, ℕ, Bool, true, false, List, [], ◌∷◌, nat_eq, refl, sym, ap, ◌∙◌, subst, arith}
-use Rattle.std.specs.Ordering.{nat_cmp, is_eq, ordering_index, ordering_reverse}
+use Rattle.std.proofs.Common.{◌≤◌, ◌≡◌, true, false, [], ◌∷◌, refl, ap, ◌∙◌, subst, arith}
+use Rattle.std.specs.Ordering.{is_eq, ordering_index, ordering_reverse}
 use Rattle.std.specs.declared.cmp.Ordering.{Ordering}
 use Rattle.std.specs.declared.cmp.Ordering.TheVariants.{Less, Equal, Greater}
 use Rattle.std.specs.Cmp.Lexicographic.{texts_ties}

@@ -1,7 +1,7 @@
 -- A prewrite, mutation by mutation.
-use Rattle.std.proofs.Common.{◌≡◌, ℕ, suc, zero, ◌+◌, ◌<◌, ◌≤◌, Bool, true, false, if◌then◌else◌, List, [], ◌∷◌, ◌++◌, drop, reverse, length, get_or, set, Option, Some, None, refl, sym, ap, ◌∙◌, subst, arith, append_assoc, append-nil}
+use Rattle.std.proofs.Common.{◌≡◌, ℕ, suc, zero, ◌+◌, ◌<◌, ◌≤◌, Bool, true, false, if◌then◌else◌, List, [], ◌∷◌, ◌++◌, drop, reverse, length, get_or, set, Option, Some, None, refl, sym, ap, ◌∙◌, arith, append_assoc, append-nil}
 use Rattle.std.specs.Prelude.{option_to_list, ◌||◌}
-use Rattle.std.specs.List.{insert, list_any}
+use Rattle.std.specs.List.{insert}
 use Rattle.std.proofs.lemmas.List.{drop_more, drop-drop, reverse-append}
 use Rattle.txn_kv.specs.declared.message.KeyError.{KeyError}
 use Rattle.txn_kv.specs.declared.message.Mutation.{Mutation}
@@ -9,12 +9,12 @@ use Rattle.txn_kv.specs.declared.request.PrewriteRequest.{PrewriteRequest}
 use Rattle.txn_model.specs.declared.cell.Cell.{Cell}
 use Rattle.txn_model.specs.declared.cell.Kind.{Kind}
 use Rattle.txn_model.specs.declared.prewrite.Placing.{Placing}
-use Rattle.txn_model.specs.Cells.{Key, key_eq, has_key, no_cell, is_empty_cell, cell_at, AreInOrder, AreKept}
+use Rattle.txn_model.specs.Cells.{Key, key_eq, has_key, cell_at, changed_at, AreKept}
 use Rattle.txn_model.specs.Locks.{owns}
 use Rattle.txn_model.specs.Prewrite.{kind_of, placed, prewrite_cell, mutation_keys, first_flag, prewrite_error, prewrite_errors}
 use Rattle.txn_model.specs.Placings.{placing_of, placings, locked, all_locked}
 use Rattle.txn_model.specs.Places.{IsAt, IsGapFor}
-use Rattle.txn_model.proofs.CellLists.{key_of_cell, KeepsKeys}
+use Rattle.txn_model.proofs.CellLists.{key_of_cell, same_cells, kept_changed, cell_changed, KeepsKeys}
 use Rattle.txn_model.proofs.PlacesInOrder.{changed_set, changed_insert, kept_set, kept_insert, full_read}
 
 -- the lock set at a place
@@ -138,3 +138,13 @@ prewritten r ms cs j = by (has_key (mutation_keys ms) j) refl
     by : (b : Bool) → has_key (mutation_keys ms) j ≡ b → (if b then prewrite_cell r ms (cell_at cs j) else cell_at cs j) ≡ prewrite_cell r ms (cell_at cs j)
     by true e = refl
     by false e = sym (prewrite_other r ms (cell_at cs j) (ap (has_key (mutation_keys ms)) (key_of_cell cs j) ∙ e))
+
+-- cells that show at each key what the locks make of it are those of the table
+pub locked_is_changed : (r : PrewriteRequest) (cs ds : List Cell) → AreKept cs → AreKept ds → ((j : Key) → cell_at ds j ≡ all_locked (placings r r.mutations) (cell_at cs j)) → ds ≡ changed_at (mutation_keys r.mutations) (prewrite_cell r r.mutations) cs
+locked_is_changed r cs ds old new locks =
+    let keys = mutation_keys r.mutations in
+    let f = prewrite_cell r r.mutations in
+    let keeps = prewrite_key r r.mutations in
+    let after = kept_changed keys f keeps cs old.in_order in
+    same_cells ds (changed_at keys f cs) new.in_order new.none_empty after.in_order after.none_empty
+    (λ j. locks j ∙ (all_locked_is r r.mutations (cell_at cs j) ∙ sym (cell_changed keys f keeps cs old.in_order j ∙ prewritten r r.mutations cs j)))

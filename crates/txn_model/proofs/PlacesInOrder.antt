@@ -1,16 +1,15 @@
 -- What a search finds among cells in the order of their keys, and what an edit at that place does.
-use Rattle.std.proofs.Common.{inl, inr, ◌≡◌, ℕ, suc, zero, ◌+◌, ◌-◌, ◌<◌, ◌≤◌, Bool, true, false, if◌then◌else◌, List, [], ◌∷◌, ◌++◌, take, drop, length, get_or, set, Option, Some, None, Result, Ok, Err, IfOk, IfErr, refl, sym, ap, ◌∙◌, subst, arith}
+use Rattle.std.proofs.Common.{inl, inr, ◌≡◌, ℕ, suc, zero, ◌<◌, ◌≤◌, Bool, true, false, if◌then◌else◌, List, [], ◌∷◌, length, get_or, set, Result, Ok, Err, IfOk, IfErr, refl, sym, ap, ◌∙◌, subst, arith}
 use Rattle.std.specs.List.{insert}
 use Rattle.std.specs.List.Sorted.{IsSearchInRange, IsBinarySearchResult, IsNonDecreasingBy}
 use Rattle.std.specs.Ordering.{ordering_index}
-use Rattle.std.specs.declared.cmp.Ordering.{Ordering}
-use Rattle.std.specs.declared.cmp.Ordering.TheVariants.{Less, Equal, Greater}
+use Rattle.std.specs.declared.cmp.Ordering.TheVariants.{Less}
 use Rattle.std.proofs.lemmas.Bool.{cases_order}
 use Rattle.txn_model.specs.declared.cell.Cell.{Cell}
 use Rattle.txn_model.specs.Cells.{Key, key_eq, key_cmp, no_cell, is_empty_cell, cell_at, AllAbove, AreInOrder, NoneEmpty, AreKept}
 use Rattle.txn_model.specs.Places.{IsAt, IsGapFor}
-use Rattle.txn_model.proofs.Keys.{same_key, key_itself, key_cmp_itself, less_trans, differs_if_less, differs_if_greater, same_if_equal, less_if_greater, rises}
-use Rattle.txn_model.proofs.CellLists.{none_below, above_below}
+use Rattle.txn_model.proofs.Keys.{same_key, key_itself, differs_if_less, differs_if_greater, same_if_equal, less_if_greater, rises}
+use Rattle.txn_model.proofs.CellLists.{none_below}
 
 above_at : (k : Key) (cs : List Cell) (i : ℕ) (d : Cell) → AllAbove k cs → i < length cs → key_cmp k (get_or cs i d).key ≡ Less
 above_at k [] i d a h = absurd (omega arith)

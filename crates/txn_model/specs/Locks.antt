@@ -1,6 +1,6 @@
 -- Locks and commits of one cell.
 use Rattle.std.specs.Prelude.{ℕ, Bool, true, false, ◌&&◌, if◌then◌else◌, List, [], ◌∷◌, Option, Some, None, find, nat_eq, nat_le, nat_lt}
-use Rattle.std.specs.List.{list_any}
+use Rattle.std.specs.List.{list_all, list_any}
 use Rattle.txn_kv.specs.declared.message.LockInfo.{LockInfo}
 use Rattle.txn_kv.specs.declared.message.Op.{Op}
 use Rattle.txn_kv.specs.declared.message.Op.TheVariants.{Put as PutOp, Del as DelOp, Lock as LockOp, PessimisticLock as PessimisticLockOp}
@@ -71,10 +71,14 @@ value_of (Some w) = if_put w.kind w.value
 abbrev pub value_at : List Write → ℕ → Option (List ℕ)
 value_at ws t = value_of (last_written ws t)
 
--- the commits with one more, in the order of `commit`
+-- each commit is above n
+abbrev pub all_above : ℕ → List Write → Bool
+all_above n ws = list_all (λ w. nat_lt n w.commit) ws
+
+-- the commits with one more, in the order of `commit`: before those at the end that are above it
 abbrev pub with_commit : Write → List Write → List Write
 with_commit w [] = w ∷ []
-with_commit w (v ∷ vs) = if nat_lt w.commit v.commit then w ∷ v ∷ vs else v ∷ with_commit w vs
+with_commit w (v ∷ vs) = if all_above w.commit (v ∷ vs) then w ∷ v ∷ vs else v ∷ with_commit w vs
 
 abbrev pub op_of : Kind → Op
 op_of Put = PutOp

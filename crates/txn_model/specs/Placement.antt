@@ -18,15 +18,17 @@ use Rattle.txn_kv.specs.declared.request.MembersRequest.{MembersRequest}
 use Rattle.txn_kv.specs.declared.request.TsoRequest.{TsoRequest}
 use Rattle.txn_kv.specs.declared.reply.GetRegionResponse.{GetRegionResponse}
 use Rattle.txn_kv.specs.declared.reply.Reply.TheVariants.{GetRegion, GetRegionById, GetStore, GetAllStores, UpdateGcSafePoint, Tso, Members}
+use Rattle.txn_kv.specs.Codec.{encoded}
 use Rattle.txn_kv.specs.Timestamp.{timestamp_of}
 use Rattle.txn_model.specs.declared.region.StoredRegion.{StoredRegion}
 use Rattle.txn_model.specs.Cells.{key_cmp, has_none}
 use Rattle.txn_model.specs.Store.{Store}
 use Rattle.txn_model.specs.Handled.{Handled}
 
--- a bound of a region, as the placement driver tells it
+-- a bound of a region, as the placement driver tells it: encoded, where there is one
 abbrev pub told_bound : List ℕ → List ℕ
-told_bound k = k
+told_bound [] = []
+told_bound (b ∷ bs) = encoded (b ∷ bs)
 
 abbrev pub region_record : StoredRegion → Region
 region_record g = record { id = g.id; start_key = told_bound g.start_key; end_key = told_bound g.end_key; region_epoch = Some g.epoch }
@@ -96,16 +98,22 @@ abbrev pub members_row : Store → MembersRequest → Handled
 members_row st r = record { store = st; reply = Members (record {}) }
 
 -- the first of the next timestamps, before it is known whether as many fit into its millisecond
-abbrev pub next_timestamp : Store → ℕ
-next_timestamp st = max (st.last + 1) (st.clock * 2 ^ 18)
+abbrev pub next_timestamp : ℕ → ℕ → ℕ
+next_timestamp last clock = max (last + 1) (clock * 2 ^ 18)
 
 -- the first of m timestamps: where they don't fit, the next millisecond's first
-abbrev pub first_timestamp : Store → ℕ → ℕ
-first_timestamp st m = if nat_lt (next_timestamp st % 2 ^ 18 + (m - 1)) (2 ^ 18) then next_timestamp st else (next_timestamp st / 2 ^ 18 + 1) * 2 ^ 18
+abbrev pub first_from : ℕ → ℕ → ℕ
+first_from next m = if nat_lt (next % 2 ^ 18 + (m - 1)) (2 ^ 18) then next else (next / 2 ^ 18 + 1) * 2 ^ 18
+
+abbrev pub first_timestamp : ℕ → ℕ → ℕ → ℕ
+first_timestamp last clock m = first_from (next_timestamp last clock) m
 
 -- the last of m timestamps
-abbrev pub last_timestamp : Store → ℕ → ℕ
-last_timestamp st m = first_timestamp st m + (m - 1)
+abbrev pub last_timestamp : ℕ → ℕ → ℕ → ℕ
+last_timestamp last clock m = first_timestamp last clock m + (m - 1)
 
 abbrev pub tso_row : Store → TsoRequest → Handled
-tso_row st r = record { store = record st { last = last_timestamp st r.count }; reply = Tso (record { count = r.count; timestamp = Some (timestamp_of (last_timestamp st r.count)) }) }
+tso_row st r = record {
+  store = record st { last = last_timestamp st.last st.clock r.count };
+  reply = Tso (record { count = r.count; timestamp = Some (timestamp_of (last_timestamp st.last st.clock r.count)) });
+}

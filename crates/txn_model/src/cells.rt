@@ -2,9 +2,10 @@
 ghost use Rattle.std.specs.Prelude.{◌≡◌, ◌+◌, ◌<◌, ◌≤◌, IfOk, IfErr, insert, unwrap_or, length, vec_len, vec_capacity};
 ghost use Rattle.std.specs.Option.{option_copied};
 ghost use Rattle.txn_model.specs.Cells.{AreInOrder, no_cell, cell_at};
+ghost use Rattle.txn_model.specs.Locks.{owns};
 ghost use Rattle.txn_model.specs.Places.{IsAt, IsGapFor};
 
-use crate::cell::Cell;
+use crate::cell::{Cell, Lock};
 use txn_kv::Key;
 
 /// Where the cell of a key is, or where it would go.
@@ -24,6 +25,16 @@ pub fn find<'a>(cells: &'a [Cell], key: &Key) -> Option<&'a Cell>
     match search(cells, key) {
         Ok(at) => Some(&cells[at]),
         Err(_) => None,
+    }
+}
+
+/// The start holds a prewrite lock.
+pub fn owns(lock: &Option<Lock>, start: u64) -> bool
+    ensures { result ≡ owns lock.now start }
+{
+    match lock {
+        Some(lock) => lock.start == start && lock.kind.is_prewrite(),
+        None => false,
     }
 }
 

@@ -1,16 +1,21 @@
 //! Commit: the locks of a start become commits.
-ghost use Rattle.std.specs.Prelude.{◌≡◌, IfOk, OnErr};
-ghost use Rattle.txn_model.specs.Cells.{AreInOrder, AreKept, Key, cell_at};
-ghost use Rattle.txn_model.specs.Commit.{uncommitted, commit_error, first_commit_error};
+ghost use Rattle.std.specs.Prelude.{◌≡◌, IfOk, OnOk, OnErr};
+ghost use Rattle.txn_model.specs.Cells.{AreInOrder, AreKept, cell_at, changed_at};
+ghost use Rattle.txn_model.specs.Commit.{uncommitted, commit_error, first_commit_error, committed};
 
 use crate::cell::Cell;
 use crate::cells::find;
 use crate::commits::commit_of;
+use crate::unlock::commit_keys;
 use std::alloc::Global;
 use txn_kv::{CommitRequest, Key, KeyError, NoMemory};
 
 /// The error of a key without an own prewrite lock.
-fn uncommitted(request: &CommitRequest, key: &Key, cell: &Cell) -> Result<Option<KeyError>, NoMemory>
+fn uncommitted(
+    request: &CommitRequest,
+    key: &Key,
+    cell: &Cell,
+) -> Result<Option<KeyError>, NoMemory>
     ensures { IfOk result (λ error. error ≡ uncommitted request.now key.now cell.now) }
 {
     match commit_of(cell.commits.as_slice(), request.start_version) {
@@ -22,7 +27,11 @@ fn uncommitted(request: &CommitRequest, key: &Key, cell: &Cell) -> Result<Option
 }
 
 /// Why a key can't be committed, at its cell.
-fn commit_error(request: &CommitRequest, key: &Key, cell: &Cell) -> Result<Option<KeyError>, NoMemory>
+fn commit_error(
+    request: &CommitRequest,
+    key: &Key,
+    cell: &Cell,
+) -> Result<Option<KeyError>, NoMemory>
     ensures { IfOk result (λ error. error ≡ commit_error request.now key.now cell.now) }
 {
     match &cell.lock {
@@ -75,4 +84,20 @@ pub fn first_error(
         }
     }
     Ok(None)
+}
+
+/// Makes commits of the locks of a request's keys.
+pub fn commit_all(cells: &mut Vec<Cell>, request: &CommitRequest) -> Result<(), NoMemory>
+    requires { AreKept cells.old.items }
+    ensures ok { OnOk result (cells.new.items ≡ changed_at request.now.keys (committed request.now.start_version request.now.commit_version) cells.old.items) }
+    ensures kept { AreKept cells.new.items }
+    ensures err { OnErr result (cells.new.items ≡ cells.old.items) }
+{
+    commit_keys(
+        cells,
+        request.keys.as_slice(),
+        request.start_version,
+        request.commit_version,
+    )?;
+    Ok(())
 }

@@ -9,6 +9,9 @@ mod placement;
 mod prewrite;
 pub mod region;
 pub mod store;
+#[cfg(test)]
+mod tests;
+mod unlock;
 
 pub use cell::{Cell, Kind, Lock, Write};
 pub use region::StoredRegion;

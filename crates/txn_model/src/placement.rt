@@ -1,7 +1,7 @@
 //! Regions, stores and the oracle.
 ghost use Rattle.std.specs.Prelude.{◌≡◌, ◌+◌, ◌-◌, ◌*◌, ◌<◌, ◌≤◌, ◌^◌, IfOk, find, nat_eq};
 ghost use Rattle.std.specs.Option.{option_copied};
-ghost use Rattle.txn_model.specs.Placement.{region_record, leader_of, region_with_id, region_holding, epoch_differs, led_elsewhere, holds_key, region_check_at, region_check, told_region, unknown_store, store_with_id};
+ghost use Rattle.txn_model.specs.Placement.{told_bound, region_record, leader_of, region_with_id, region_holding, epoch_differs, led_elsewhere, holds_key, region_check_at, region_check, told_region, unknown_store, store_with_id, last_timestamp};
 
 use crate::region::StoredRegion;
 use std::alloc::Global;
@@ -10,6 +10,17 @@ use txn_kv::{
     StoreLabel, StoreMeta, StoreState, Text,
 };
 
+/// A bound of a region, as the placement driver tells it: encoded, where there is one.
+fn told_bound(key: &Key) -> Result<Key, NoMemory>
+    ensures { IfOk result (λ bound. bound ≡ told_bound key.now) }
+{
+    if key.is_empty() {
+        key.try_clone()
+    } else {
+        key.to_encoded()
+    }
+}
+
 impl StoredRegion {
     /// The region, as the placement driver tells it.
     fn record(&self) -> Result<Region, NoMemory>
@@ -17,8 +28,8 @@ impl StoredRegion {
     {
         Ok(Region {
             id: self.id,
-            start_key: self.start_key.try_clone()?,
-            end_key: self.end_key.try_clone()?,
+            start_key: told_bound(&self.start_key)?,
+            end_key: told_bound(&self.end_key)?,
             region_epoch: Some(self.epoch),
         })
     }
@@ -58,7 +69,11 @@ fn region_with_id(regions: &[StoredRegion], id: u64) -> Option<&StoredRegion>
 }
 
 /// Why a request with this context, which names this region, is refused.
-fn error_at(alloc: Global, region: &StoredRegion, context: Context) -> Result<Option<RegionErr>, NoMemory>
+fn error_at(
+    alloc: Global,
+    region: &StoredRegion,
+    context: Context,
+) -> Result<Option<RegionErr>, NoMemory>
     ensures { IfOk result (λ error. error ≡ region_check_at (Some region.now) context) }
 {
     if led_elsewhere(region, context.peer) {
@@ -76,7 +91,11 @@ fn error_at(alloc: Global, region: &StoredRegion, context: Context) -> Result<Op
 }
 
 /// Why a request with this context is refused before its row is looked at.
-pub fn region_error(alloc: Global, regions: &[StoredRegion], context: Option<Context>) -> Result<Option<RegionErr>, NoMemory>
+pub fn region_error(
+    alloc: Global,
+    regions: &[StoredRegion],
+    context: Option<Context>,
+) -> Result<Option<RegionErr>, NoMemory>
     ensures { IfOk result (λ error. error ≡ region_check regions.now context) }
 {
     let Some(context) = context else {
@@ -90,24 +109,34 @@ pub fn region_error(alloc: Global, regions: &[StoredRegion], context: Option<Con
     }
 }
 
-/// Where the region's range is told to hold the key.
-fn holds_key(region: &StoredRegion, key: &Key) -> bool
-    ensures { result ≡ holds_key region.now key.now }
+/// The region's range is told to hold the encoded key.
+fn holds_key(region: &StoredRegion, key: &Key) -> Result<bool, NoMemory>
+    ensures { IfOk result (λ holds. holds ≡ holds_key region.now key.now) }
 {
-    region.start_key <= *key && (region.end_key.is_empty() || *key < region.end_key)
+    let start = told_bound(&region.start_key)?;
+    let end = told_bound(&region.end_key)?;
+    Ok(start <= *key && (region.end_key.is_empty() || *key < end))
 }
 
-fn region_holding<'a>(regions: &'a [StoredRegion], key: &Key) -> Option<&'a StoredRegion>
-    ensures { option_copied result ≡ region_holding regions.now key.now }
+fn region_holding<'a>(
+    regions: &'a [StoredRegion],
+    key: &Key,
+) -> Result<Option<&'a StoredRegion>, NoMemory>
+    ensures { IfOk result (λ region. option_copied region ≡ region_holding regions.now key.now) }
 {
-    regions.iter().find(|region| holds_key(region, key))
+    for region in regions {
+        if holds_key(region, key)? {
+            return Ok(Some(region));
+        }
+    }
+    Ok(None)
 }
 
 /// The region whose range holds an encoded key, if there is one.
 pub fn told_region(regions: &[StoredRegion], key: &Key) -> Result<GetRegionResponse, NoMemory>
     ensures { IfOk result (λ reply. reply ≡ told_region (region_holding regions.now key.now)) }
 {
-    match region_holding(regions, key) {
+    match region_holding(regions, key)? {
         Some(region) => Ok(GetRegionResponse {
             region: Some(region.record()?),
             leader: Some(region.leader()),
@@ -167,5 +196,25 @@ pub fn told_store(alloc: Global, stores: &[StoreMeta], id: u64) -> Result<StoreM
     match store_with_id(stores, id) {
         Some(store) => copied_store(alloc, store),
         None => Ok(unknown_store(alloc, id)),
+    }
+}
+
+/// How many timestamps a millisecond has.
+const MILLISECOND: u64 = 262144;
+
+/// The last of `count` timestamps after `last`, by a clock in milliseconds.
+pub fn last_timestamp(last: u64, clock: u64, count: u32) -> u64
+    requires some { 1 ≤ count }
+    requires few { count ≤ 64 }
+    requires last_bits { last < 2 ^ 63 }
+    requires clock_bits { clock < 2 ^ 44 }
+    ensures { result ≡ last_timestamp last clock count }
+{
+    let more = u64::from(count) - 1;
+    let next = (last + 1).max(clock * MILLISECOND);
+    if next % MILLISECOND + more < MILLISECOND {
+        next + more
+    } else {
+        (next / MILLISECOND + 1) * MILLISECOND + more
     }
 }

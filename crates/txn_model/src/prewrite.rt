@@ -1,12 +1,11 @@
 //! Prewrite: a lock on each key, where nothing stands in the way.
-ghost use Rattle.std.specs.Prelude.{◌≡◌, ℕ, ◌+◌, ◌^◌, ◌<◌, ◌≤◌, List, if◌then◌else◌, IfOk, option_to_list, drop, vec_len, vec_capacity};
-ghost use Rattle.txn_model.specs.Cells.{AreInOrder, AreKept, Key, key_eq, cell_at};
-ghost use Rattle.txn_model.specs.Locks.{owns};
-ghost use Rattle.txn_model.specs.Prewrite.{kind_of, wants_absent, conflict, first_flag, prewrite_error, prewrite_errors, lock_of};
+ghost use Rattle.std.specs.Prelude.{◌≡◌, ℕ, ◌+◌, ◌^◌, ◌<◌, ◌≤◌, List, if◌then◌else◌, IfOk, OnOk, OnErr, option_to_list, drop, vec_len, vec_capacity};
+ghost use Rattle.txn_model.specs.Cells.{AreInOrder, AreKept, Key, key_eq, cell_at, changed_at};
+ghost use Rattle.txn_model.specs.Prewrite.{kind_of, wants_absent, conflict, first_flag, prewrite_error, prewrite_errors, lock_of, mutation_keys, prewrite_cell};
 ghost use Rattle.txn_model.specs.Placings.{placing_of, placings, locked, all_locked};
 
 use crate::cell::{Cell, Kind, Lock, Write};
-use crate::cells::{find, insert_within, search};
+use crate::cells::{find, insert_within, owns, search};
 use crate::commits::{commit_of, has_value, newest_commit};
 use std::alloc::Global;
 use txn_kv::{Items, Key, KeyError, Mutation, NoMemory, Op, PrewriteRequest, Value};
@@ -210,16 +209,6 @@ pub fn placings(alloc: Global, request: &PrewriteRequest) -> Result<Vec<Placing>
     Ok(all)
 }
 
-/// The start holds a prewrite lock.
-fn owns(lock: &Option<Lock>, start: u64) -> bool
-    ensures { result ≡ owns lock.now start }
-{
-    match lock {
-        Some(lock) => lock.start == start && lock.kind.is_prewrite(),
-        None => false,
-    }
-}
-
 /// Sets a lock, unless its start holds a prewrite lock there. There is room for one more cell.
 fn set_lock(cells: &mut Vec<Cell>, placing: Placing)
     requires kept { AreKept cells.old.items }
@@ -255,4 +244,17 @@ pub fn set_locks(cells: &mut Vec<Cell>, mut placings: Vec<Placing>)
     while let Some(placing) = placings.pop() {
         set_lock(cells, placing);
     }
+}
+
+/// Sets the locks of a request's mutations.
+pub fn lock_all(cells: &mut Vec<Cell>, request: &PrewriteRequest) -> Result<(), NoMemory>
+    requires { AreKept cells.old.items }
+    ensures ok { OnOk result (cells.new.items ≡ changed_at (mutation_keys request.now.mutations) (prewrite_cell request.now request.now.mutations) cells.old.items) }
+    ensures kept { AreKept cells.new.items }
+    ensures err { OnErr result (cells.new.items ≡ cells.old.items) }
+{
+    let ready = placings(*cells.allocator(), request)?;
+    cells.reserve(ready.len())?;
+    set_locks(cells, ready);
+    Ok(())
 }

@@ -1,11 +1,20 @@
-ghost use Rattle.std.specs.Prelude.{◌≡◌, IfOk, string_bytes, List, ℕ};
+ghost use Rattle.std.specs.Prelude.{◌≡◌, IfOk, OnOk, OnErr};
+ghost use Rattle.txn_model.specs.Cells.{AreKept};
 ghost use Rattle.txn_model.specs.Store.{opening, store_up};
+ghost use Rattle.txn_model.specs.Table.{table, prewrite_row, commit_row, tso_row, CanCount, CanServe};
 
 use crate::cell::Cell;
+use crate::commit::{commit_all, first_error};
+use crate::placement::{last_timestamp, region_error, told_region, told_store};
+use crate::prewrite::{lock_all, prewrite_errors};
 use crate::region::StoredRegion;
 use std::alloc::Global;
 use std::marker::Model;
-use txn_kv::{Items, Key, NoMemory, RegionEpoch, StoreMeta, StoreState, Text};
+use txn_kv::{
+    CommitRequest, CommitResponse, GetStoreResponse, Items, Key, NoMemory, PrewriteRequest,
+    PrewriteResponse, RegionEpoch, Reply, Request, StoreMeta, StoreState, Text, Timestamp,
+    TimestampExt, TsoRequest, TsoResponse,
+};
 
 /// The store of a run: cells in the order of their keys, regions and stores, the clock in milliseconds, and the last
 /// timestamp of the oracle.
@@ -85,7 +94,8 @@ impl ModelStore {
 
     /// The cells, in the order of their keys.
     pub fn cells(&self) -> &[Cell]
-        ensures { result.now ≡ self.now.cells }
+        ensures all { result.now ≡ self.now.cells }
+        ensures kept { AreKept self.now.cells }
     {
         self.cells.as_slice()
     }
@@ -115,5 +125,100 @@ impl ModelStore {
         ensures { result ≡ self.now.safepoint }
     {
         self.safepoint
+    }
+
+    /// Sets a lock on each mutated key, if none conflicts.
+    fn prewrite(&mut self, request: &PrewriteRequest) -> Result<PrewriteResponse, NoMemory>
+        ensures reply { IfOk result (λ reply. Reply.Prewrite reply ≡ (prewrite_row self.old request.now).reply) }
+        ensures store { OnOk result (self.new ≡ (prewrite_row self.old request.now).store) }
+        ensures err { OnErr result (self.new ≡ self.old) }
+    {
+        let alloc = *self.cells.allocator();
+        let region_error = region_error(alloc, self.regions.as_slice(), request.context)?;
+        if region_error.is_some() {
+            return Ok(PrewriteResponse {
+                region_error,
+                errors: Items::new(alloc),
+                min_commit_ts: 0,
+                one_pc_commit_ts: 0,
+            });
+        }
+        let errors = prewrite_errors(alloc, self.cells.as_slice(), request)?;
+        if errors.len() == 0 {
+            lock_all(&mut self.cells, request)?;
+        }
+        Ok(PrewriteResponse {
+            region_error: None,
+            errors,
+            min_commit_ts: 0,
+            one_pc_commit_ts: 0,
+        })
+    }
+
+    /// Makes commits of the locks that a start holds.
+    fn commit(&mut self, request: &CommitRequest) -> Result<CommitResponse, NoMemory>
+        ensures reply { IfOk result (λ reply. Reply.Commit reply ≡ (commit_row self.old request.now).reply) }
+        ensures store { OnOk result (self.new ≡ (commit_row self.old request.now).store) }
+        ensures err { OnErr result (self.new ≡ self.old) }
+    {
+        let alloc = *self.cells.allocator();
+        let region_error = region_error(alloc, self.regions.as_slice(), request.context)?;
+        if region_error.is_some() {
+            return Ok(CommitResponse {
+                region_error,
+                error: None,
+                commit_version: 0,
+            });
+        }
+        let error = first_error(alloc, self.cells.as_slice(), request)?;
+        if error.is_some() {
+            return Ok(CommitResponse {
+                region_error: None,
+                error,
+                commit_version: 0,
+            });
+        }
+        commit_all(&mut self.cells, request)?;
+        Ok(CommitResponse {
+            region_error: None,
+            error: None,
+            commit_version: request.commit_version,
+        })
+    }
+
+    /// The last of the next `count` timestamps.
+    fn tso(&mut self, request: TsoRequest) -> TsoResponse
+        requires { CanCount self.old request }
+        ensures reply { Reply.Tso result ≡ (tso_row self.old request).reply }
+        ensures store { self.new ≡ (tso_row self.old request).store }
+    {
+        self.last = last_timestamp(self.last, self.clock, request.count);
+        TsoResponse {
+            count: request.count,
+            timestamp: Some(Timestamp::from_version(self.last)),
+        }
+    }
+
+    /// Does what a request asks and replies to it. Want of memory changes nothing.
+    pub fn serve(&mut self, request: &Request) -> Result<Reply, NoMemory>
+        requires { CanServe self.old request.now }
+        ensures reply { IfOk result (λ reply. reply ≡ (table self.old request.now).reply) }
+        ensures store { OnOk result (self.new ≡ (table self.old request.now).store) }
+        ensures err { OnErr result (self.new ≡ self.old) }
+    {
+        match request {
+            Request::Prewrite(request) => Ok(Reply::Prewrite(self.prewrite(request)?)),
+            Request::Commit(request) => Ok(Reply::Commit(self.commit(request)?)),
+            Request::GetRegion(request) => Ok(Reply::GetRegion(told_region(
+                self.regions.as_slice(),
+                &request.region_key,
+            )?)),
+            Request::GetStore(request) => {
+                let alloc = *self.cells.allocator();
+                let store = told_store(alloc, self.stores.as_slice(), request.store_id)?;
+                Ok(Reply::GetStore(GetStoreResponse { store }))
+            }
+            Request::Tso(request) => Ok(Reply::Tso(self.tso(*request))),
+        }
     }
 }

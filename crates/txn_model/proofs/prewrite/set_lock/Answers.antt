@@ -1,6 +1,4 @@
-use Rattle.std.proofs.Common.{sym, ◌∙◌, subst, arith}
-use Rattle.std.proofs.lemmas.Bool.Decides.{nat_tests}
-use Rattle.txn_model.specs.Places.{IsAt, IsGapFor}
+use Rattle.std.proofs.Common.{arith}
 use Rattle.txn_model.proofs.Locking.{locked_set, kept_locked_set, locked_same, kept_same, locked_insert, kept_locked_insert}
 use Rattle.txn_model.proofs.prewrite.set_lock.Goals as goal
 
