@@ -2,6 +2,7 @@ ghost use Rattle.std.specs.Prelude.{◌≡◌, ◌++◌, ◌∷◌, ◌<◌, [],
 ghost use Rattle.std.specs.Cmp.Lexicographic.{pointwise, lists_per, lists_equiv};
 
 use crate::memory::NoMemory;
+use crate::try_clone::TryClone;
 use std::alloc::Global;
 use std::marker::Model;
 
@@ -69,13 +70,13 @@ impl<T: Drop> Items<T> {
     }
 }
 
-impl Items<u8> {
-    /// The same bytes, in new memory.
-    pub fn try_clone(&self) -> Result<Items<u8>, NoMemory>
+impl<T: TryClone> Items<T> {
+    /// The same items, in new memory.
+    pub fn try_clone(&self) -> Result<Items<T>, NoMemory>
         ensures { IfOk result (λ copy. copy ≡ self.now) }
     {
         Ok(Items {
-            vec: self.vec.as_slice().to_vec(*self.vec.allocator())?,
+            vec: T::try_clone_all(self.vec.as_slice(), *self.vec.allocator())?,
         })
     }
 }

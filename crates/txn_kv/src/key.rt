@@ -1,17 +1,21 @@
-ghost use Rattle.std.specs.Prelude.{◌≡◌, ◌==◌, [], nat_eq, length, IfOk, refl};
+ghost use Rattle.std.specs.Prelude.{◌≡◌, ◌==◌, [], nat_eq, length, string_bytes, IfOk, Some, refl};
 ghost use Rattle.std.specs.Ordering.{nat_cmp, as_partial_cmp};
 ghost use Rattle.std.specs.Cmp.{partial_equiv_from_equiv};
 ghost use Rattle.std.specs.Cmp.Lexicographic.{pointwise, slice_cmp, nat_list_eq_equiv, nat_list_cmp_total, texts_po, texts_ties};
 ghost use Rattle.txn_kv.specs.Codec.{encoded};
+ghost use Rattle.txn_kv.specs.Ranges.{end_of, lower_bound, next_key, start_of, upper_bound};
 
 use crate::codec::BytesEncoder;
+use crate::hex_repr::HexRepr;
 use crate::memory::NoMemory;
 use std::alloc::Global;
 use std::cmp::Ordering;
+use std::fmt;
 use std::marker::Model;
+use std::ops::Bound;
 
 /// A key of the store: a list of bytes, ordered as such lists are.
-#[derive(Debug, Drop)]
+#[derive(Drop)]
 pub struct Key {
     bytes: Vec<u8>,
 }
@@ -61,6 +65,43 @@ impl Key {
         Ok(Key { bytes })
     }
 
+    /// The least key above this one.
+    pub(crate) fn into_next(self) -> Result<Key, NoMemory>
+        ensures { IfOk result (λ key. key ≡ next_key self) }
+    {
+        let mut bytes = self.bytes;
+        bytes.push(0)?;
+        Ok(Key { bytes })
+    }
+
+    /// The start that this first key stands for.
+    pub(crate) fn into_lower_bound(self) -> Bound<Key>
+        ensures bound { result ≡ lower_bound self }
+        ensures key { start_of result ≡ self }
+    {
+        let mut bytes = self.bytes;
+        if bytes.as_slice().last() == Some(&0) {
+            bytes.pop();
+            Bound::Excluded(Key { bytes })
+        } else {
+            Bound::Included(Key { bytes })
+        }
+    }
+
+    /// The end that this first key beyond it stands for.
+    pub(crate) fn into_upper_bound(self) -> Bound<Key>
+        ensures bound { result ≡ upper_bound self }
+        ensures key { end_of result ≡ Some self }
+    {
+        let mut bytes = self.bytes;
+        if bytes.as_slice().last() == Some(&0) {
+            bytes.pop();
+            Bound::Included(Key { bytes })
+        } else {
+            Bound::Excluded(Key { bytes })
+        }
+    }
+
     /// The same key, in new memory.
     pub fn try_clone(&self) -> Result<Key, NoMemory>
         ensures { IfOk result (λ copy. copy ≡ self.now) }
@@ -84,6 +125,31 @@ impl From<Key> for Vec<u8> {
 
     fn from(key: Key) -> Vec<u8> {
         key.bytes
+    }
+}
+
+impl From<String> for Key {
+    ghost from_gives = { λ string key. key ≡ string_bytes string };
+
+    fn from(string: String) -> Key {
+        Key {
+            bytes: string.into_bytes(),
+        }
+    }
+}
+
+impl AsRef<Key> for Key {
+    fn as_ref(&self) -> &Key
+        ensures { result.now ≡ self.now }
+    {
+        self
+    }
+}
+
+impl fmt::Debug for Key {
+    fn fmt<W: fmt::Write>(&self, f: &mut fmt::Formatter<W>) -> fmt::Result {
+        let hex = HexRepr(self.as_slice());
+        write!(f, "Key({hex})")
     }
 }
 

@@ -1,33 +1,61 @@
 //! Keys, values, timestamps, errors and the messages of the transaction client and its servers.
 #![tactic(auto)]
 
+pub mod backoff;
+pub mod bound_range;
 pub mod codec;
 pub mod errors;
+pub mod hex_repr;
+pub mod into_owned_range;
 pub mod items;
 pub mod key;
+pub mod kvpair;
 pub mod memory;
 pub mod message;
+pub mod pessimistic_lock;
+pub mod region;
 pub mod reply;
 pub mod request;
 pub mod text;
 pub mod ticket;
 pub mod timestamp;
+pub mod try_clone;
 
+pub use backoff::{
+    Backoff, BackoffKind, DEFAULT_REGION_BACKOFF, DEFAULT_STORE_BACKOFF, OPTIMISTIC_BACKOFF,
+    PESSIMISTIC_BACKOFF,
+};
+pub use bound_range::BoundRange;
 pub use codec::{BytesEncoder, max_encoded_bytes_size};
-pub use errors::{Error, Internal};
+pub use errors::{Error, Internal, Result};
+pub use hex_repr::HexRepr;
+pub use into_owned_range::{IntoOwnedRange, KeyBytes};
 pub use items::{Items, Value};
 pub use key::Key;
+pub use kvpair::KvPair;
 pub use memory::NoMemory;
 pub use message::{
-    ApiVersion, Assertion, Context, KeyError, LockInfo, Mutation, Op, Peer, Region, RegionEpoch,
-    RegionErr, StoreLabel, StoreMeta, StoreState,
+    Action, ApiVersion, Assertion, Context, KeyError, KeyRange, LockInfo, Mutation, Op, PbPair,
+    Peer, Region, RegionEpoch, RegionErr, StoreLabel, StoreMeta, StoreState, TxnInfo,
 };
+pub use pessimistic_lock::PessimisticLock;
+pub use region::{RegionId, RegionVerId, RegionWithLeader};
 pub use reply::{
-    CommitResponse, GetRegionResponse, GetStoreResponse, PrewriteResponse, Reply, TsoResponse,
+    BatchGetResponse, BatchRollbackResponse, CheckSecondaryLocksResponse, CheckTxnStatusResponse,
+    CleanupResponse, CommitResponse, GetAllStoresResponse, GetRegionResponse, GetResponse,
+    GetStoreResponse, MembersResponse, PessimisticLockResponse, PessimisticRollbackResponse,
+    PrewriteResponse, Reply, ResolveLockResponse, ScanLockResponse, ScanResponse, TsoResponse,
+    TxnHeartBeatResponse, UnsafeDestroyRangeResponse, UpdateGcSafePointResponse,
 };
 pub use request::{
-    CommitRequest, GetRegionRequest, GetStoreRequest, PrewriteRequest, Request, TsoRequest,
+    BatchGetRequest, BatchRollbackRequest, CheckSecondaryLocksRequest, CheckTxnStatusRequest,
+    CleanupRequest, CommitRequest, GetAllStoresRequest, GetRegionByIdRequest, GetRegionRequest,
+    GetRequest, GetStoreRequest, MembersRequest, PessimisticLockRequest,
+    PessimisticRollbackRequest, PrewriteRequest, Request, ResolveLockRequest, ScanLockRequest,
+    ScanRequest, TsoRequest, TxnHeartBeatRequest, UnsafeDestroyRangeRequest,
+    UpdateGcSafePointRequest,
 };
 pub use text::Text;
 pub use ticket::{StoreId, Target, Ticket};
 pub use timestamp::{Timestamp, TimestampExt};
+pub use try_clone::TryClone;

@@ -1,3 +1,5 @@
+use std::fmt;
+
 /// The id of a store.
 pub type StoreId = u64;
 
@@ -15,4 +17,17 @@ pub struct Ticket {
     pub line: u64,
     pub beat: bool,
     pub number: u64,
+}
+
+/// `L.n`, or `L.hn` for a heartbeat.
+impl fmt::Display for Ticket {
+    fn fmt<W: fmt::Write>(&self, f: &mut fmt::Formatter<W>) -> fmt::Result {
+        let line = self.line;
+        let number = self.number;
+        if self.beat {
+            write!(f, "{line}.h{number}")
+        } else {
+            write!(f, "{line}.{number}")
+        }
+    }
 }
