@@ -20,6 +20,7 @@ pub mod Scans
 pub mod Served
 pub mod Settle
 pub mod Settling
+pub mod Splits
 pub mod Status
 pub mod Statuses
 pub mod Store

@@ -8,6 +8,7 @@ mod commit;
 mod commits;
 mod destroy;
 mod heart_beat;
+mod lead;
 mod pessimistic;
 mod placement;
 mod prewrite;
@@ -19,6 +20,7 @@ mod rule;
 mod scan;
 mod secondaries;
 mod settle;
+mod split;
 mod status;
 pub mod store;
 #[cfg(test)]

@@ -1,5 +1,7 @@
-ghost use Rattle.std.specs.Prelude.{◌≡◌, IfOk, OnOk, OnErr};
+ghost use Rattle.std.specs.Prelude.{◌≡◌, ◌<◌, ◌^◌, IfOk, OnOk, OnErr};
 ghost use Rattle.txn_model.specs.Cells.{AreKept};
+ghost use Rattle.txn_model.specs.Regions.{at_clock, can_lead, can_split, lead, split};
+ghost use Rattle.txn_model.specs.Splits.{CanCountRegions};
 ghost use Rattle.txn_model.specs.Store.{opening, store_up};
 ghost use Rattle.txn_model.specs.Table.{table, prewrite_row, commit_row, tso_row, update_gc_safe_point_row, CanCount, CanServe};
 
@@ -10,17 +12,19 @@ mod statuses;
 
 use crate::cell::Cell;
 use crate::commit::{commit_all, first_error};
+use crate::lead::{can_lead, lead_region};
 use crate::placement::{
     last_timestamp, region_error, told_region, told_region_with_id, told_store, told_stores,
 };
 use crate::prewrite::{lock_all, prewrite_errors};
 use crate::region::StoredRegion;
+use crate::split::{split_region, starts_at};
 use std::alloc::Global;
 use std::marker::Model;
 use txn_kv::{
     CommitRequest, CommitResponse, GetAllStoresResponse, GetStoreResponse, Items, Key,
     MembersResponse, NoMemory, PrewriteRequest, PrewriteResponse, RegionEpoch, Reply, Request,
-    StoreMeta, StoreState, Text, Timestamp, TimestampExt, TsoRequest, TsoResponse,
+    StoreId, StoreMeta, StoreState, Text, Timestamp, TimestampExt, TsoRequest, TsoResponse,
     UpdateGcSafePointRequest, UpdateGcSafePointResponse,
 };
 
@@ -219,6 +223,41 @@ impl ModelStore {
         UpdateGcSafePointResponse {
             new_safe_point: self.safepoint,
         }
+    }
+
+    /// Sets the clock, in milliseconds.
+    pub fn set_clock(&mut self, milliseconds: u64)
+        requires { milliseconds < 2 ^ 44 }
+        ensures { self.new ≡ at_clock self.old milliseconds }
+    {
+        self.clock = milliseconds;
+    }
+
+    /// Splits the region that holds a key before it. False, and nothing changes, where a region begins at the key.
+    pub fn split(&mut self, key: &Key) -> Result<bool, NoMemory>
+        requires { CanCountRegions self.old }
+        ensures can { IfOk result (λ did. did ≡ can_split self.old key.now) }
+        ensures store { OnOk result (self.new ≡ split self.old key.now) }
+        ensures err { OnErr result (self.new ≡ self.old) }
+    {
+        if starts_at(self.regions.as_slice(), key) {
+            return Ok(false);
+        }
+        split_region(&mut self.regions, key)?;
+        Ok(true)
+    }
+
+    /// The region is led by the store. False, and nothing changes, where the region is unknown or the store is none of
+    /// the three. Takes no memory.
+    pub fn lead(&mut self, region: u64, store: StoreId) -> bool
+        ensures can { result ≡ can_lead self.old region store }
+        ensures store { self.new ≡ lead self.old region store }
+    {
+        if !can_lead(self.regions.as_slice(), region, store) {
+            return false;
+        }
+        lead_region(&mut self.regions, region, store);
+        true
     }
 
     /// Does what a request to a store or to the placement driver asks and replies to it. Want of memory changes nothing.
