@@ -16,6 +16,8 @@ mod ranges;
 mod read;
 pub mod region;
 mod rollback;
+#[cfg(test)]
+mod row_tests;
 mod rule;
 mod scan;
 mod secondaries;
