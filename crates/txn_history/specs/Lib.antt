@@ -1,1 +1,4 @@
+pub mod Among
 pub mod Event
+pub mod Licence
+pub mod Plan

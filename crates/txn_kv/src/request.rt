@@ -433,7 +433,7 @@ pub struct TsoRequest {
 pub struct MembersRequest;
 
 /// What a client sends, to a store or to the placement driver.
-#[derive(Debug, PartialEq, Eq, Drop)]
+#[derive(Debug, PartialEq, Eq)]
 pub enum Request {
     Get(GetRequest),
     BatchGet(BatchGetRequest),
@@ -457,6 +457,36 @@ pub enum Request {
     UpdateGcSafePoint(UpdateGcSafePointRequest),
     Tso(TsoRequest),
     Members(MembersRequest),
+}
+
+/// Each kind by one call: a derived drop is proved anew in each crate above, and for so many kinds that takes hours.
+impl Drop for Request {
+    fn drop(self) {
+        match self {
+            Request::Get(request) => drop(request),
+            Request::BatchGet(request) => drop(request),
+            Request::Scan(request) => drop(request),
+            Request::Prewrite(request) => drop(request),
+            Request::Commit(request) => drop(request),
+            Request::Cleanup(request) => drop(request),
+            Request::BatchRollback(request) => drop(request),
+            Request::PessimisticRollback(request) => drop(request),
+            Request::PessimisticLock(request) => drop(request),
+            Request::ResolveLock(request) => drop(request),
+            Request::ScanLock(request) => drop(request),
+            Request::TxnHeartBeat(request) => drop(request),
+            Request::CheckTxnStatus(request) => drop(request),
+            Request::CheckSecondaryLocks(request) => drop(request),
+            Request::UnsafeDestroyRange(request) => drop(request),
+            Request::GetRegion(request) => drop(request),
+            Request::GetRegionById(request) => drop(request),
+            Request::GetStore(request) => drop(request),
+            Request::GetAllStores(request) => drop(request),
+            Request::UpdateGcSafePoint(request) => drop(request),
+            Request::Tso(request) => drop(request),
+            Request::Members(request) => drop(request),
+        }
+    }
 }
 
 impl Request {

@@ -10,10 +10,14 @@ use Rattle.txn_kv.specs.declared.message.RegionErr.TheVariants.{NotLeader, Regio
 use Rattle.txn_kv.specs.declared.message.StoreMeta.{StoreMeta}
 use Rattle.txn_kv.specs.declared.message.StoreState.TheVariants.{Tombstone}
 use Rattle.txn_kv.specs.declared.request.GetRegionRequest.{GetRegionRequest}
+use Rattle.txn_kv.specs.declared.request.GetRegionByIdRequest.{GetRegionByIdRequest}
 use Rattle.txn_kv.specs.declared.request.GetStoreRequest.{GetStoreRequest}
+use Rattle.txn_kv.specs.declared.request.GetAllStoresRequest.{GetAllStoresRequest}
+use Rattle.txn_kv.specs.declared.request.UpdateGcSafePointRequest.{UpdateGcSafePointRequest}
+use Rattle.txn_kv.specs.declared.request.MembersRequest.{MembersRequest}
 use Rattle.txn_kv.specs.declared.request.TsoRequest.{TsoRequest}
 use Rattle.txn_kv.specs.declared.reply.GetRegionResponse.{GetRegionResponse}
-use Rattle.txn_kv.specs.declared.reply.Reply.TheVariants.{GetRegion, GetStore, Tso}
+use Rattle.txn_kv.specs.declared.reply.Reply.TheVariants.{GetRegion, GetRegionById, GetStore, GetAllStores, UpdateGcSafePoint, Tso, Members}
 use Rattle.txn_kv.specs.Codec.{encoded}
 use Rattle.txn_kv.specs.Timestamp.{timestamp_of}
 use Rattle.txn_model.specs.declared.region.StoredRegion.{StoredRegion}
@@ -71,6 +75,9 @@ told_region (Some g) = record { region = Some (region_record g); leader = Some (
 abbrev pub get_region_row : Store → GetRegionRequest → Handled
 get_region_row st r = record { store = st; reply = GetRegion (told_region (region_holding st.regions r.region_key)) }
 
+abbrev pub get_region_by_id_row : Store → GetRegionByIdRequest → Handled
+get_region_by_id_row st r = record { store = st; reply = GetRegionById (told_region (region_with_id st.regions r.region_id)) }
+
 abbrev pub unknown_store : ℕ → StoreMeta
 unknown_store n = record { id = n; address = []; state = Tombstone; labels = [] }
 
@@ -79,6 +86,16 @@ store_with_id ss n = unwrap_or (find (λ s. nat_eq s.id n) ss) (unknown_store n)
 
 abbrev pub get_store_row : Store → GetStoreRequest → Handled
 get_store_row st r = record { store = st; reply = GetStore (record { store = store_with_id st.stores r.store_id }) }
+
+abbrev pub get_all_stores_row : Store → GetAllStoresRequest → Handled
+get_all_stores_row st r = record { store = st; reply = GetAllStores (record { stores = st.stores }) }
+
+-- the safe point becomes the greater
+abbrev pub update_gc_safe_point_row : Store → UpdateGcSafePointRequest → Handled
+update_gc_safe_point_row st r = record { store = record st { safepoint = max st.safepoint r.safe_point }; reply = UpdateGcSafePoint (record { new_safe_point = max st.safepoint r.safe_point }) }
+
+abbrev pub members_row : Store → MembersRequest → Handled
+members_row st r = record { store = st; reply = Members (record {}) }
 
 -- the first of the next timestamps, before it is known whether as many fit into its millisecond
 abbrev pub next_timestamp : ℕ → ℕ → ℕ

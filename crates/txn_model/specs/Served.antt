@@ -3,55 +3,168 @@ use Rattle.std.proofs.Common.{◌≡◌, ℕ, ◌+◌, ◌-◌, ◌*◌, ◌/◌
 use Rattle.std.proofs.lemmas.Bool.Decides.{nat_tests}
 use Rattle.txn_kv.specs.declared.message.KeyError.{KeyError}
 use Rattle.txn_kv.specs.declared.message.RegionErr.{RegionErr}
+use Rattle.txn_kv.specs.declared.request.BatchGetRequest.{BatchGetRequest}
+use Rattle.txn_kv.specs.declared.request.BatchRollbackRequest.{BatchRollbackRequest}
+use Rattle.txn_kv.specs.declared.request.CheckSecondaryLocksRequest.{CheckSecondaryLocksRequest}
+use Rattle.txn_kv.specs.declared.request.CheckTxnStatusRequest.{CheckTxnStatusRequest}
+use Rattle.txn_kv.specs.declared.request.CleanupRequest.{CleanupRequest}
 use Rattle.txn_kv.specs.declared.request.CommitRequest.{CommitRequest}
+use Rattle.txn_kv.specs.declared.request.GetRequest.{GetRequest}
+use Rattle.txn_kv.specs.declared.request.PessimisticLockRequest.{PessimisticLockRequest}
+use Rattle.txn_kv.specs.declared.request.PessimisticRollbackRequest.{PessimisticRollbackRequest}
 use Rattle.txn_kv.specs.declared.request.PrewriteRequest.{PrewriteRequest}
+use Rattle.txn_kv.specs.declared.request.ResolveLockRequest.{ResolveLockRequest}
+use Rattle.txn_kv.specs.declared.request.ScanLockRequest.{ScanLockRequest}
+use Rattle.txn_kv.specs.declared.request.ScanRequest.{ScanRequest}
+use Rattle.txn_kv.specs.declared.request.TxnHeartBeatRequest.{TxnHeartBeatRequest}
 use Rattle.txn_kv.specs.declared.request.Request.{Request}
-use Rattle.txn_kv.specs.declared.request.Request.TheVariants.{Prewrite, Commit, GetRegion, GetStore, Tso}
+use Rattle.txn_kv.specs.declared.request.Request.TheVariants.{Get, BatchGet, Scan, Prewrite, Commit, Cleanup, BatchRollback, PessimisticRollback, PessimisticLock, ResolveLock, ScanLock, TxnHeartBeat, CheckTxnStatus, CheckSecondaryLocks, UnsafeDestroyRange, GetRegion, GetRegionById, GetStore, GetAllStores, UpdateGcSafePoint, Tso, Members}
+use Rattle.txn_model.specs.declared.cell.Cell.{Cell}
+use Rattle.txn_model.specs.declared.cell.Lock.{Lock}
+use Rattle.txn_model.specs.declared.cell.Write.{Write}
+use Rattle.txn_model.specs.Cells.{cell_at}
 use Rattle.txn_model.specs.Commit.{commit_by, first_commit_error}
+use Rattle.txn_model.specs.Locks.{commit_of}
+use Rattle.txn_model.specs.PessimisticLock.{pessimistic_lock_by, pessimistic_errors}
 use Rattle.txn_model.specs.Placement.{region_check, next_timestamp, first_from, last_timestamp}
 use Rattle.txn_model.specs.Prewrite.{prewrite_by, prewrite_errors}
+use Rattle.txn_model.specs.Read.{read_at, get_by, batch_get_by, scan_by}
+use Rattle.txn_model.specs.Resolve.{resolve_lock_by, scan_lock_by}
+use Rattle.txn_model.specs.Rollback.{batch_rollback_by, first_rollback_error, cleanup_by, pessimistic_rollback_by}
+use Rattle.txn_model.specs.Settle.{lock_of_start, mismatched_lock}
+use Rattle.txn_model.specs.Status.{Finding, finding, txn_heart_beat_by, check_txn_status_by, check_secondary_locks_by}
 use Rattle.txn_model.specs.Store.{Store}
 use Rattle.txn_model.specs.Table.{table, CanServe}
 
 -- the last timestamp after a request
 abbrev pub last_by : Store → Request → ℕ
-last_by st (Prewrite r) = st.last
-last_by st (Commit r) = st.last
-last_by st (GetRegion r) = st.last
-last_by st (GetStore r) = st.last
 last_by st (Tso r) = last_timestamp st.last st.clock r.count
+last_by st _ = st.last
 
--- what stands beside the cells, but for the last timestamp, is as it was
+-- what stands beside the cells and the last timestamp is as it was, and neither the greatest read nor the safe point falls
 pub record OthersStay (old new : Store) : Type 0 where
   pub regions : new.regions ≡ old.regions
   pub stores : new.stores ≡ old.stores
   pub clock : new.clock ≡ old.clock
-  pub max_read : new.max_read ≡ old.max_read
-  pub safepoint : new.safepoint ≡ old.safepoint
+  pub max_read : old.max_read ≤ new.max_read
+  pub safepoint : old.safepoint ≤ new.safepoint
 
-prewrite_stays : (e : Option RegionErr) (es : List KeyError) (st : Store) (r : PrewriteRequest) → OthersStay st (prewrite_by e es st r).store × ((prewrite_by e es st r).store.last ≡ st.last)
-prewrite_stays (Some e) es st r = (record { regions = refl; stores = refl; clock = refl; max_read = refl; safepoint = refl }, refl)
-prewrite_stays None (e ∷ es) st r = (record { regions = refl; stores = refl; clock = refl; max_read = refl; safepoint = refl }, refl)
-prewrite_stays None [] st r = (record { regions = refl; stores = refl; clock = refl; max_read = refl; safepoint = refl }, refl)
+with_cells : (st : Store) (cs : List Cell) → OthersStay st (record st { cells = cs })
+with_cells st cs = record { regions = refl; stores = refl; clock = refl; max_read = omega arith; safepoint = omega arith }
 
-commit_stays : (e : Option RegionErr) (o : Option KeyError) (st : Store) (r : CommitRequest) → OthersStay st (commit_by e o st r).store × ((commit_by e o st r).store.last ≡ st.last)
-commit_stays (Some e) o st r = (record { regions = refl; stores = refl; clock = refl; max_read = refl; safepoint = refl }, refl)
-commit_stays None (Some e) st r = (record { regions = refl; stores = refl; clock = refl; max_read = refl; safepoint = refl }, refl)
-commit_stays None None st r = (record { regions = refl; stores = refl; clock = refl; max_read = refl; safepoint = refl }, refl)
+after_read : (st : Store) (t : ℕ) (cs : List Cell) → OthersStay st (record (read_at t st) { cells = cs })
+after_read st t cs = record { regions = refl; stores = refl; clock = refl; max_read = omega arith; safepoint = omega arith }
+
+get_stays : (e : Option RegionErr) (st : Store) (r : GetRequest) → OthersStay st (get_by e st r).store × ((get_by e st r).store.last ≡ st.last)
+get_stays (Some e) st r = (with_cells st (get_by (Some e) st r).store.cells, refl)
+get_stays None st r = (after_read st r.version (get_by None st r).store.cells, refl)
+
+batch_get_stays : (e : Option RegionErr) (st : Store) (r : BatchGetRequest) → OthersStay st (batch_get_by e st r).store × ((batch_get_by e st r).store.last ≡ st.last)
+batch_get_stays (Some e) st r = (with_cells st (batch_get_by (Some e) st r).store.cells, refl)
+batch_get_stays None st r = (after_read st r.version (batch_get_by None st r).store.cells, refl)
+
+scan_stays : (e : Option RegionErr) (st : Store) (r : ScanRequest) → OthersStay st (scan_by e st r).store × ((scan_by e st r).store.last ≡ st.last)
+scan_stays (Some e) st r = (with_cells st (scan_by (Some e) st r).store.cells, refl)
+scan_stays None st r = (after_read st r.version (scan_by None st r).store.cells, refl)
+
+prewrite_stays : (e : Option RegionErr) (errors : List KeyError) (st : Store) (r : PrewriteRequest) → OthersStay st (prewrite_by e errors st r).store × ((prewrite_by e errors st r).store.last ≡ st.last)
+prewrite_stays (Some e) errors st r = (with_cells st (prewrite_by (Some e) errors st r).store.cells, refl)
+prewrite_stays None (x ∷ xs) st r = (with_cells st (prewrite_by None (x ∷ xs) st r).store.cells, refl)
+prewrite_stays None [] st r = (with_cells st (prewrite_by None [] st r).store.cells, refl)
+
+commit_stays : (e : Option RegionErr) (error : Option KeyError) (st : Store) (r : CommitRequest) → OthersStay st (commit_by e error st r).store × ((commit_by e error st r).store.last ≡ st.last)
+commit_stays (Some e) error st r = (with_cells st (commit_by (Some e) error st r).store.cells, refl)
+commit_stays None (Some x) st r = (with_cells st (commit_by None (Some x) st r).store.cells, refl)
+commit_stays None None st r = (with_cells st (commit_by None None st r).store.cells, refl)
+
+cleanup_stays : (e : Option RegionErr) (lock : Option Lock) (write : Option Write) (st : Store) (r : CleanupRequest) → OthersStay st (cleanup_by e lock write st r).store × ((cleanup_by e lock write st r).store.last ≡ st.last)
+cleanup_stays (Some e) l w st r = (with_cells st (cleanup_by (Some e) l w st r).store.cells, refl)
+cleanup_stays None (Some l) w st r = (with_cells st (cleanup_by None (Some l) w st r).store.cells, refl)
+cleanup_stays None None (Some w) st r = (with_cells st (cleanup_by None None (Some w) st r).store.cells, refl)
+cleanup_stays None None None st r = (with_cells st (cleanup_by None None None st r).store.cells, refl)
+
+batch_rollback_stays : (e : Option RegionErr) (error : Option KeyError) (st : Store) (r : BatchRollbackRequest) → OthersStay st (batch_rollback_by e error st r).store × ((batch_rollback_by e error st r).store.last ≡ st.last)
+batch_rollback_stays (Some e) error st r = (with_cells st (batch_rollback_by (Some e) error st r).store.cells, refl)
+batch_rollback_stays None (Some x) st r = (with_cells st (batch_rollback_by None (Some x) st r).store.cells, refl)
+batch_rollback_stays None None st r = (with_cells st (batch_rollback_by None None st r).store.cells, refl)
+
+pessimistic_rollback_stays : (e : Option RegionErr) (st : Store) (r : PessimisticRollbackRequest) → OthersStay st (pessimistic_rollback_by e st r).store × ((pessimistic_rollback_by e st r).store.last ≡ st.last)
+pessimistic_rollback_stays (Some e) st r = (with_cells st (pessimistic_rollback_by (Some e) st r).store.cells, refl)
+pessimistic_rollback_stays None st r = (with_cells st (pessimistic_rollback_by None st r).store.cells, refl)
+
+pessimistic_lock_stays : (e : Option RegionErr) (errors : List KeyError) (st : Store) (r : PessimisticLockRequest) → OthersStay st (pessimistic_lock_by e errors st r).store × ((pessimistic_lock_by e errors st r).store.last ≡ st.last)
+pessimistic_lock_stays (Some e) errors st r = (with_cells st (pessimistic_lock_by (Some e) errors st r).store.cells, refl)
+pessimistic_lock_stays None (x ∷ xs) st r = (after_read st r.for_update_ts (pessimistic_lock_by None (x ∷ xs) st r).store.cells, refl)
+pessimistic_lock_stays None [] st r = (after_read st r.for_update_ts (pessimistic_lock_by None [] st r).store.cells, refl)
+
+resolve_lock_stays : (e : Option RegionErr) (st : Store) (r : ResolveLockRequest) → OthersStay st (resolve_lock_by e st r).store × ((resolve_lock_by e st r).store.last ≡ st.last)
+resolve_lock_stays (Some e) st r = (with_cells st (resolve_lock_by (Some e) st r).store.cells, refl)
+resolve_lock_stays None st r = (with_cells st (resolve_lock_by None st r).store.cells, refl)
+
+scan_lock_stays : (e : Option RegionErr) (st : Store) (r : ScanLockRequest) → OthersStay st (scan_lock_by e st r).store × ((scan_lock_by e st r).store.last ≡ st.last)
+scan_lock_stays (Some e) st r = (with_cells st (scan_lock_by (Some e) st r).store.cells, refl)
+scan_lock_stays None st r = (with_cells st (scan_lock_by None st r).store.cells, refl)
+
+txn_heart_beat_stays : (e : Option RegionErr) (lock : Option Lock) (st : Store) (r : TxnHeartBeatRequest) → OthersStay st (txn_heart_beat_by e lock st r).store × ((txn_heart_beat_by e lock st r).store.last ≡ st.last)
+txn_heart_beat_stays (Some e) lock st r = (with_cells st (txn_heart_beat_by (Some e) lock st r).store.cells, refl)
+txn_heart_beat_stays None None st r = (with_cells st (txn_heart_beat_by None None st r).store.cells, refl)
+txn_heart_beat_stays None (Some x) st r = (with_cells st (txn_heart_beat_by None (Some x) st r).store.cells, refl)
+
+check_txn_status_stays : (e : Option RegionErr) (found : Finding) (st : Store) (r : CheckTxnStatusRequest) → OthersStay st (check_txn_status_by e found st r).store × ((check_txn_status_by e found st r).store.last ≡ st.last)
+check_txn_status_stays (Some e) found st r = (with_cells st (check_txn_status_by (Some e) found st r).store.cells, refl)
+check_txn_status_stays None found st r = (with_cells st (check_txn_status_by None found st r).store.cells, refl)
+
+check_secondary_locks_stays : (e : Option RegionErr) (st : Store) (r : CheckSecondaryLocksRequest) → OthersStay st (check_secondary_locks_by e st r).store × ((check_secondary_locks_by e st r).store.last ≡ st.last)
+check_secondary_locks_stays (Some e) st r = (with_cells st (check_secondary_locks_by (Some e) st r).store.cells, refl)
+check_secondary_locks_stays None st r = (with_cells st (check_secondary_locks_by None st r).store.cells, refl)
 
 pub others_stay : (st : Store) (r : Request) → OthersStay st (table st r).store
+others_stay st (Get r) = (get_stays (region_check st.regions r.context) st r).0
+others_stay st (BatchGet r) = (batch_get_stays (region_check st.regions r.context) st r).0
+others_stay st (Scan r) = (scan_stays (region_check st.regions r.context) st r).0
 others_stay st (Prewrite r) = (prewrite_stays (region_check st.regions r.context) (prewrite_errors st.cells r r.mutations r.is_pessimistic_lock) st r).0
 others_stay st (Commit r) = (commit_stays (region_check st.regions r.context) (first_commit_error st.cells r r.keys) st r).0
-others_stay st (GetRegion r) = record { regions = refl; stores = refl; clock = refl; max_read = refl; safepoint = refl }
-others_stay st (GetStore r) = record { regions = refl; stores = refl; clock = refl; max_read = refl; safepoint = refl }
-others_stay st (Tso r) = record { regions = refl; stores = refl; clock = refl; max_read = refl; safepoint = refl }
+others_stay st (Cleanup r) = (cleanup_stays (region_check st.regions r.context) (mismatched_lock r.key r.start_version (cell_at st.cells r.key).lock) (commit_of (cell_at st.cells r.key).commits r.start_version) st r).0
+others_stay st (BatchRollback r) = (batch_rollback_stays (region_check st.regions r.context) (first_rollback_error st.cells r.start_version r.keys) st r).0
+others_stay st (PessimisticRollback r) = (pessimistic_rollback_stays (region_check st.regions r.context) st r).0
+others_stay st (PessimisticLock r) = (pessimistic_lock_stays (region_check st.regions r.context) (pessimistic_errors st.cells r) st r).0
+others_stay st (ResolveLock r) = (resolve_lock_stays (region_check st.regions r.context) st r).0
+others_stay st (ScanLock r) = (scan_lock_stays (region_check st.regions r.context) st r).0
+others_stay st (TxnHeartBeat r) = (txn_heart_beat_stays (region_check st.regions r.context) (lock_of_start r.start_version (cell_at st.cells r.primary_lock).lock) st r).0
+others_stay st (CheckTxnStatus r) = (check_txn_status_stays (region_check st.regions r.context) (finding r (cell_at st.cells r.primary_key)) st r).0
+others_stay st (CheckSecondaryLocks r) = (check_secondary_locks_stays (region_check st.regions r.context) st r).0
+others_stay st (UpdateGcSafePoint r) = record { regions = refl; stores = refl; clock = refl; max_read = omega arith; safepoint = omega arith }
+others_stay st (UnsafeDestroyRange r) = with_cells st (table st (UnsafeDestroyRange r)).store.cells
+others_stay st (GetRegion r) = with_cells st st.cells
+others_stay st (GetRegionById r) = with_cells st st.cells
+others_stay st (GetStore r) = with_cells st st.cells
+others_stay st (GetAllStores r) = with_cells st st.cells
+others_stay st (Members r) = with_cells st st.cells
+others_stay st (Tso r) = record { regions = refl; stores = refl; clock = refl; max_read = omega arith; safepoint = omega arith }
 
 -- only a Tso changes the last timestamp
 pub last_after : (st : Store) (r : Request) → (table st r).store.last ≡ last_by st r
+last_after st (Get r) = (get_stays (region_check st.regions r.context) st r).1
+last_after st (BatchGet r) = (batch_get_stays (region_check st.regions r.context) st r).1
+last_after st (Scan r) = (scan_stays (region_check st.regions r.context) st r).1
 last_after st (Prewrite r) = (prewrite_stays (region_check st.regions r.context) (prewrite_errors st.cells r r.mutations r.is_pessimistic_lock) st r).1
 last_after st (Commit r) = (commit_stays (region_check st.regions r.context) (first_commit_error st.cells r r.keys) st r).1
+last_after st (Cleanup r) = (cleanup_stays (region_check st.regions r.context) (mismatched_lock r.key r.start_version (cell_at st.cells r.key).lock) (commit_of (cell_at st.cells r.key).commits r.start_version) st r).1
+last_after st (BatchRollback r) = (batch_rollback_stays (region_check st.regions r.context) (first_rollback_error st.cells r.start_version r.keys) st r).1
+last_after st (PessimisticRollback r) = (pessimistic_rollback_stays (region_check st.regions r.context) st r).1
+last_after st (PessimisticLock r) = (pessimistic_lock_stays (region_check st.regions r.context) (pessimistic_errors st.cells r) st r).1
+last_after st (ResolveLock r) = (resolve_lock_stays (region_check st.regions r.context) st r).1
+last_after st (ScanLock r) = (scan_lock_stays (region_check st.regions r.context) st r).1
+last_after st (TxnHeartBeat r) = (txn_heart_beat_stays (region_check st.regions r.context) (lock_of_start r.start_version (cell_at st.cells r.primary_lock).lock) st r).1
+last_after st (CheckTxnStatus r) = (check_txn_status_stays (region_check st.regions r.context) (finding r (cell_at st.cells r.primary_key)) st r).1
+last_after st (CheckSecondaryLocks r) = (check_secondary_locks_stays (region_check st.regions r.context) st r).1
+last_after st (UnsafeDestroyRange r) = refl
 last_after st (GetRegion r) = refl
+last_after st (GetRegionById r) = refl
 last_after st (GetStore r) = refl
+last_after st (GetAllStores r) = refl
+last_after st (UpdateGcSafePoint r) = refl
+last_after st (Members r) = refl
 last_after st (Tso r) = refl
 
 -- the first of m timestamps is at least the next one, and above it by less than m
@@ -72,8 +185,5 @@ last_small last clock m some few = let h = (first_bounds (next_timestamp last cl
 
 -- while the clock stands at 0, a request that can be served takes the last timestamp on by less than 128
 pub last_at_zero : (st : Store) (r : Request) → CanServe st r → st.clock ≡ 0 → (table st r).store.last < st.last + 128
-last_at_zero st (Prewrite r) can zero = let h = last_after st (Prewrite r) in omega (arith, h)
-last_at_zero st (Commit r) can zero = let h = last_after st (Commit r) in omega (arith, h)
-last_at_zero st (GetRegion r) can zero = omega arith
-last_at_zero st (GetStore r) can zero = omega arith
 last_at_zero st (Tso r) can zero = let h = last_small st.last st.clock r.count can.some can.few in omega (arith, can.few, h)
+last_at_zero st r can zero = let h = last_after st r in omega (arith, h)

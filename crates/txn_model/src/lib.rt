@@ -3,11 +3,27 @@
 
 pub mod cell;
 mod cells;
+mod change;
 mod commit;
 mod commits;
+mod destroy;
+mod heart_beat;
+mod lead;
+mod pessimistic;
 mod placement;
 mod prewrite;
+mod ranges;
+mod read;
 pub mod region;
+mod rollback;
+#[cfg(test)]
+mod row_tests;
+mod rule;
+mod scan;
+mod secondaries;
+mod settle;
+mod split;
+mod status;
 pub mod store;
 #[cfg(test)]
 mod tests;

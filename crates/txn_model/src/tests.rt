@@ -9,11 +9,11 @@ use txn_kv::{
     StoreState, Text, Timestamp, TsoRequest, TsoResponse, Value,
 };
 
-fn key(alloc: Global) -> Result<Key, NoMemory> {
+pub fn key(alloc: Global) -> Result<Key, NoMemory> {
     Ok(Key::from([97].to_vec(alloc)?))
 }
 
-fn value(alloc: Global) -> Result<Value, NoMemory> {
+pub fn value(alloc: Global) -> Result<Value, NoMemory> {
     Ok(Items::from_vec([118].to_vec(alloc)?))
 }
 
@@ -23,7 +23,7 @@ const FIRST: RegionEpoch = RegionEpoch {
 };
 
 /// To the store that leads the only region.
-fn here() -> Option<Context> {
+pub fn here() -> Option<Context> {
     Some(Context {
         region_id: 1,
         region_epoch: Some(FIRST),
@@ -45,7 +45,7 @@ fn mutations(alloc: Global, op: Op) -> Result<Items<Mutation>, NoMemory> {
     Ok(mutations)
 }
 
-fn prewrite(alloc: Global, op: Op, start_version: u64) -> Result<PrewriteRequest, NoMemory> {
+pub fn prewrite(alloc: Global, op: Op, start_version: u64) -> Result<PrewriteRequest, NoMemory> {
     let mutations = mutations(alloc, op)?;
     Ok(PrewriteRequest {
         context: here(),
@@ -96,7 +96,7 @@ fn committed(error: Option<KeyError>, commit_version: u64) -> Reply {
     })
 }
 
-fn locked_cell(alloc: Global) -> Result<Cell, NoMemory> {
+pub fn locked_cell(alloc: Global) -> Result<Cell, NoMemory> {
     let mut cell = Cell::empty(alloc, key(alloc)?);
     cell.lock = Some(Lock {
         start: 1,
@@ -112,7 +112,7 @@ fn locked_cell(alloc: Global) -> Result<Cell, NoMemory> {
     Ok(cell)
 }
 
-fn committed_cell(alloc: Global) -> Result<Cell, NoMemory> {
+pub fn committed_cell(alloc: Global) -> Result<Cell, NoMemory> {
     let mut cell = Cell::empty(alloc, key(alloc)?);
     cell.commits.push(Write {
         start: 1,
@@ -124,14 +124,14 @@ fn committed_cell(alloc: Global) -> Result<Cell, NoMemory> {
 }
 
 /// The opening store with a lock.
-fn with_lock(alloc: Global) -> Result<ModelStore, NoMemory> {
+pub fn with_lock(alloc: Global) -> Result<ModelStore, NoMemory> {
     let mut store = ModelStore::new(alloc)?;
     store.serve(&Request::Prewrite(prewrite(alloc, Op::Put, 1)?))?;
     Ok(store)
 }
 
 /// The same with a commit in its place.
-fn with_commit(alloc: Global) -> Result<ModelStore, NoMemory> {
+pub fn with_commit(alloc: Global) -> Result<ModelStore, NoMemory> {
     let mut store = with_lock(alloc)?;
     store.serve(&Request::Commit(commit(alloc)?))?;
     Ok(store)
