@@ -1,0 +1,249 @@
+-- What holds after every run.
+use Rattle.std.proofs.Common.{◌≡◌, ◌≢◌, ℕ, ◌<◌, ◌≤◌, ◌⊎◌, inl, inr, true, List, [], ◌∷◌, Some, refl, sym, ap, ◌∙◌, subst, subst₂, arith}
+use Rattle.txn_kv.specs.declared.ticket.Ticket.{Ticket}
+use Rattle.txn_kv.specs.declared.message.TxnInfo.{TxnInfo}
+use Rattle.txn_kv.specs.declared.request.Request.{Request}
+use Rattle.txn_kv.specs.declared.request.Request.TheVariants.{Prewrite, Commit, Cleanup, BatchRollback, ResolveLock, CheckTxnStatus, CheckSecondaryLocks, Tso}
+use Rattle.txn_kv.specs.declared.request.CommitRequest.{CommitRequest}
+use Rattle.txn_kv.specs.declared.request.ResolveLockRequest.{ResolveLockRequest}
+use Rattle.txn_kv.specs.declared.reply.Reply.{Reply}
+use Rattle.txn_kv.specs.declared.reply.Reply.TheVariants as reply
+use Rattle.txn_history.specs.Among.{IsAmong}
+use Rattle.txn_history.specs.Event.{Event, Has}
+use Rattle.txn_history.specs.Event.Event.{Sent, Served, Took}
+use Rattle.txn_history.specs.Licence.{AllAcknowledged, WasNamed, PrimaryCommitted, WasShown, WasDecided, PrimaryCommitLicence, CommitLicence, settled_starts, IsLicensed}
+use Rattle.txn_history.specs.Plan.{Key, Content, Plan, has_key}
+use Rattle.txn_model.specs.Cells.{cell_at, AreInOrder}
+use Rattle.txn_model.specs.Placement.{next_timestamp}
+use Rattle.txn_model.specs.Resolve.{infos, infos_of}
+use Rattle.txn_model.specs.Served.{last_by, last_after}
+use Rattle.txn_model.specs.Store.{Store}
+use Rattle.txn_model.specs.Table.{table}
+use Rattle.txn_law.specs.Run.{store_after, IsCovered, IsRun}
+use Rattle.txn_law.proofs.Phases.{Phase, Move, IsSound}
+use Rattle.txn_law.proofs.Phases.Phase.{Locked, Committed, RolledBack}
+use Rattle.txn_law.proofs.Phases.Move.{Locks, Commits, Rolls}
+use Rattle.txn_law.proofs.Coherent.{IsDecidedAt, IsHeld, AllHeld, Warrant, Change, Coherent, coherent_kept, coherent_more, warrant_more, warrant_stays}
+use Rattle.txn_law.proofs.Moves.{May, outcome, sound_after}
+use Rattle.txn_law.proofs.Rows.{row}
+use Rattle.txn_law.proofs.Replies.{phases, IsCommitted, MeansFine, Means, Stands, first_above, means_given, means_stays}
+
+-- a Commit of s at c that names the primary was sent, and c is a timestamp
+abbrev pub NamedBy : Plan → List Event → ℕ → ℕ → Type 0
+NamedBy plan es s c = WasNamed plan es s c × (0 < c)
+
+-- a phase that is locked names the primary of its start
+abbrev pub NamesPrimary : Plan → Phase → Type 0
+NamesPrimary plan before = (p : Key) (x : Content) → before ≡ Locked p x → p ≡ plan.primary
+
+-- each move that a request may make is warranted
+abbrev pub IsWarranted : (ℕ → Plan) → List Event → Store → Request → Type 0
+IsWarranted plans es st r = (k : Key) (t : ℕ) (before : Phase) (m : Move) → May r k t before m → NamesPrimary (plans t) before → Warrant (plans t) (NamedBy (plans t) es t) (phases st t) k before m
+
+pub record Inv (plans : ℕ → Plan) (es : List Event) : Type 0 where
+  pub in_order : AreInOrder (store_after es).cells
+  pub sound : (k : Key) → IsSound (cell_at (store_after es).cells k)
+  pub coherent : (s : ℕ) → Coherent (plans s) (NamedBy (plans s) es s) (phases (store_after es) s)
+  pub means : (t : Ticket) (r : Request) (o : Reply) → Has es (Served t r o) → Means plans (store_after es) r o
+  pub warranted : (t : Ticket) (r : Request) → Has es (Sent t r) → IsCovered r × IsWarranted plans es (store_after es) r
+  pub taken : (t : Ticket) (r : Request) (o : Reply) → Has es (Took t r o) → Has es (Served t r o)
+  pub sent : (t : Ticket) (r : Request) (o : Reply) → Has es (Served t r o) → Has es (Sent t r)
+  pub one : (s c d : ℕ) → WasNamed (plans s) es s c → WasNamed (plans s) es s d → c ≡ d
+
+was_named_more : (plan : Plan) (es : List Event) (e : Event) (s c : ℕ) → WasNamed plan es s c → WasNamed plan (e ∷ es) s c
+was_named_more plan es e s c h = (h.0, h.1, inr h.2, h.3, h.4, h.5)
+
+named_more : (plan : Plan) (es : List Event) (e : Event) (s c : ℕ) → NamedBy plan es s c → NamedBy plan (e ∷ es) s c
+named_more plan es e s c h = (was_named_more plan es e s c h.0, h.1)
+
+-- the starts that a ResolveLock settles are those that its row settles
+settled_infos : (r : ResolveLockRequest) (is : List TxnInfo) → settled_starts r is ≡ infos_of r is
+settled_infos r [] = refl
+settled_infos r (i ∷ is) = refl
+
+-- the last timestamp never falls
+pub last_stays : (st : Store) (r : Request) → st.last ≤ (table st r).store.last
+last_stays st r = subst (λ n. st.last ≤ n) (sym (last_after st r)) (by r)
+  where
+    by : (q : Request) → st.last ≤ last_by st q
+    by (Tso q) = let h = first_above (next_timestamp st.last st.clock) q.count in omega (arith, h)
+    by _ = omega arith
+
+-- From the licence of a request to what its moves have to rest on.
+module _ (plans : ℕ → Plan) (es : List Event) (i : Inv plans es) where
+  shown_primary : (s : ℕ) (p : Key) → WasShown es s p → p ≡ (plans s).primary
+  shown_primary s p h = sym h.primary ∙ ((i.means h.ticket h.request h.answer (i.taken h.ticket h.request h.answer h.taken)).shows h.lock h.shows h.prewrite ∙ ap (λ t. (plans t).primary) h.start)
+
+  pub all_held : (s : ℕ) → AllAcknowledged (plans s) es s → AllHeld (plans s) (phases (store_after es) s)
+  all_held s a k x e =
+      let h = a k x e in
+      let m = (i.means h.ticket (Prewrite h.request) (reply.Prewrite h.response) (i.taken h.ticket (Prewrite h.request) (reply.Prewrite h.response) h.taken)).fine h.fine in
+      held_at h.request.start_version h.start (m k h.locks)
+    where
+      held_at : (u : ℕ) → u ≡ s → IsHeld (plans u) (phases (store_after es) u) k → IsHeld (plans s) (phases (store_after es) s) k
+      held_at u e = subst (λ v. IsHeld (plans v) (phases (store_after es) v) k) e
+
+  -- who took a reply without error to a primary's Commit at c finds it decided at c
+  pub decided : (s c : ℕ) → PrimaryCommitted (plans s) es s c → IsDecidedAt (plans s) (phases (store_after es) s) c
+  decided s c h = by_phase (phases (store_after es) s (plans s).primary) refl (subst (λ u. IsCommitted (phases (store_after es) u (plans s).primary)) h.5 (m (plans s).primary h.7))
+    where
+      served_it : Has es (Served h.0 (Commit h.1) (reply.Commit h.2))
+      served_it = i.taken h.0 (Commit h.1) (reply.Commit h.2) h.3
+
+      m : MeansFine plans (store_after es) (Commit h.1)
+      m = (i.means h.0 (Commit h.1) (reply.Commit h.2) served_it).fine h.4
+
+      by_phase : (o : Phase) → phases (store_after es) s (plans s).primary ≡ o → IsCommitted o → IsDecidedAt (plans s) (phases (store_after es) s) c
+      by_phase (Committed d y) e g =
+          let w = (i.coherent s).named d (y, e) in
+          let same : d ≡ c = i.one s d c w.0 (h.0, h.1, i.sent h.0 (Commit h.1) (reply.Commit h.2) served_it, h.5, h.6, h.7) in
+          (y, subst (λ t. phases (store_after es) s (plans s).primary ≡ Committed t y) same e)
+      by_phase _ e g = absurd g
+
+  -- what a reply about the primary told
+  told : (s c : ℕ) → WasDecided es s c → ((c ≡ 0) × (phases (store_after es) s (plans s).primary ≡ RolledBack)) ⊎ ((0 < c) × IsDecidedAt (plans s) (phases (store_after es) s) c)
+  told s c h = elim (subst (λ q. Stands (store_after es) q s c) (shown_primary s h.primary h.shown) ((i.means h.ticket h.request h.answer (i.taken h.ticket h.request h.answer h.taken)).decides h.primary s c h.decides))
+      [ inl a ↦ inl a | inr a ↦ inr (let w = (i.coherent s).named c a in (w.1, a)) ]
+
+  -- a timestamp that the oracle gave is not 0
+  given_above : (s c : ℕ) → PrimaryCommitLicence (plans s) es s c → 0 < c
+  given_above s c l =
+      let a = l.asked in
+      ((i.means a.0 (Tso a.1) (reply.Tso a.2) (i.taken a.0 (Tso a.1) (reply.Tso a.2) a.4)).gives a.1 a.2 c refl refl a.5).0
+
+  settled_so : (r : ResolveLockRequest) (j : TxnInfo) → IsAmong (infos r) j → IsAmong (settled_starts r r.txn_infos) j
+  settled_so r j a = subst (λ js. IsAmong js j) (sym (settled_infos r r.txn_infos)) a
+
+  warrant_new : (n : Ticket) (r : Request) → IsLicensed plans es r → IsWarranted plans (Sent n r ∷ es) (store_after es) r
+  warrant_new n (Prewrite r) l k t b (Locks q x) h g = (h.1 ∙ (l.primary ∙ ap (λ u. (plans u).primary) (sym h.0)), subst₂ (λ u z. (plans u).writes z ≡ Some x) (sym h.0) h.4 (l.planned h.2 x h.3 h.5))
+  warrant_new n (Commit r) l k t b (Commits d) h g = subst₂ (λ u e. Warrant (plans u) (NamedBy (plans u) (Sent n (Commit r) ∷ es) u) (phases (store_after es) u) k b (Commits e)) (sym h.0) (sym h.1)
+      (elim (l k h.2) [
+        | inl a ↦ inl (a.0, all_held r.start_version a.1.ready, ((n, r, inl refl, refl, refl, subst (λ q. has_key r.keys q ≡ true) a.0 h.2), given_above r.start_version r.commit_version a.1))
+        | inr a ↦ inr (decided r.start_version r.commit_version a.1)
+      ])
+  warrant_new n (BatchRollback r) l k t b Rolls h g = λ q x e. subst (λ u. (k ≡ (plans u).primary) ⊎ (phases (store_after es) u (plans u).primary ≡ RolledBack)) (sym h.0)
+      (elim (l.primary_first k h.1) [
+        | inl d ↦ inl d
+        | inr w ↦ inr (subst (λ u. phases (store_after es) u (plans r.start_version).primary ≡ RolledBack) w.5 ((i.means w.0 (BatchRollback w.1) (reply.BatchRollback w.2) (i.taken w.0 (BatchRollback w.1) (reply.BatchRollback w.2) w.3)).fine w.4 (plans r.start_version).primary w.6))
+      ])
+  warrant_new n (Cleanup r) l k t b Rolls h g = λ q x e. inl (h.1 ∙ (sym (h.2 q x e) ∙ g q x e))
+  warrant_new n (CheckTxnStatus r) l k t b Rolls h g = λ q x e. inl (h.1 ∙ (sym (h.2 q x e) ∙ g q x e))
+  warrant_new n (CheckSecondaryLocks r) l k t b Rolls h g = λ q x e. absurd (h.1 q x e)
+  warrant_new n (ResolveLock r) l k t b (Commits d) h g = elim (told t d (subst₂ (WasDecided es) h.2 h.3 (l h.0 (settled_so r h.0 h.1)))) [ inl a ↦ absurd (h.4 a.0) | inr a ↦ inr a.1 ]
+  warrant_new n (ResolveLock r) l k t b Rolls h g = λ q x e. elim (told t 0 (subst₂ (WasDecided es) h.2 h.3 (l h.0 (settled_so r h.0 h.1)))) [ inl a ↦ inr a.1 | inr a ↦ absurd (omega (arith, a.0)) ]
+  warrant_new n _ l k t b _ h g = absurd h
+
+  -- a commit of the primary that goes out now
+  primary_licence : (r : CommitRequest) → CommitLicence (plans r.start_version) es r → (s c : ℕ) → r.start_version ≡ s → r.commit_version ≡ c → has_key r.keys (plans s).primary ≡ true → PrimaryCommitLicence (plans s) es s c
+  primary_licence r l s c e f h = subst₂ (λ u v. PrimaryCommitLicence (plans u) es u v) e f (elim (l (plans r.start_version).primary (subst (λ u. has_key r.keys (plans u).primary ≡ true) (sym e) h)) [ inl a ↦ a.1 | inr a ↦ absurd (a.0 refl) ])
+
+  coherent_next : (e : Event) (s : ℕ) → Coherent (plans s) (NamedBy (plans s) (e ∷ es) s) (phases (store_after es) s)
+  coherent_next e s = coherent_more (plans s) (NamedBy (plans s) es s) (NamedBy (plans s) (e ∷ es) s) (phases (store_after es) s) (named_more (plans s) es e s) (i.coherent s)
+
+  warranted_next : (e : Event) (n : Ticket) (r : Request) → Has es (Sent n r) → IsCovered r × IsWarranted plans (e ∷ es) (store_after es) r
+  warranted_next e n r h = ((i.warranted n r h).0, λ k t b m a g. warrant_more (plans t) (NamedBy (plans t) es t) (NamedBy (plans t) (e ∷ es) t) (phases (store_after es) t) (named_more (plans t) es e t) k b m ((i.warranted n r h).1 k t b m a g))
+
+  one_next : (e : Event) → ((n : Ticket) (r : Request) → e ≢ Sent n r) → (s c d : ℕ) → WasNamed (plans s) (e ∷ es) s c → WasNamed (plans s) (e ∷ es) s d → c ≡ d
+  one_next e f s c d h g = elim h.2 [
+    | inl w ↦ absurd (f h.0 (Commit h.1) w)
+    | inr v ↦ elim g.2 [ inl w ↦ absurd (f g.0 (Commit g.1) w) | inr u ↦ i.one s c d (h.0, h.1, v, h.3, h.4, h.5) (g.0, g.1, u, g.3, g.4, g.5) ]
+  ]
+
+  licence_of : (r : Request) (q : CommitRequest) → IsLicensed plans es r → r ≡ Commit q → CommitLicence (plans q.start_version) es q
+  licence_of r q l e = subst (IsLicensed plans es) e l
+
+  one_sent : (n : Ticket) (r : Request) → IsLicensed plans es r → (s c d : ℕ) → WasNamed (plans s) (Sent n r ∷ es) s c → WasNamed (plans s) (Sent n r ∷ es) s d → c ≡ d
+  one_sent n r l s c d h g = elim h.2 [
+    | inl e ↦ elim g.2 [
+      | inl f ↦ (let same : h.1 ≡ g.1 = cc in let a = h.4 in let b = g.4 in sym a ∙ (ap (λ (q : CommitRequest). q.commit_version) same ∙ b))
+      | inr o ↦ sym ((primary_licence h.1 (licence_of r h.1 l (cc)) s c h.3 h.4 h.5).same d (g.0, g.1, o, g.3, g.4, g.5))
+    ]
+    | inr o ↦ elim g.2 [
+      | inl f ↦ (primary_licence g.1 (licence_of r g.1 l (cc)) s d g.3 g.4 g.5).same c (h.0, h.1, o, h.3, h.4, h.5)
+      | inr u ↦ i.one s c d (h.0, h.1, o, h.3, h.4, h.5) (g.0, g.1, u, g.3, g.4, g.5)
+    ]
+  ]
+
+  Sent_kept : (n : Ticket) (r : Request) → IsCovered r → IsLicensed plans es r → Inv plans (Sent n r ∷ es)
+  Sent_kept n r c l = record {
+    in_order = i.in_order;
+    sound = i.sound;
+    coherent = coherent_next (Sent n r);
+    means = λ m q o h. elim h [ inl e ↦ absurd (cc) | inr w ↦ i.means m q o w ];
+    warranted = λ m q h. elim h [ inl e ↦ subst (λ z. IsCovered z × IsWarranted plans (Sent n r ∷ es) (store_after es) z) (cc) (c, warrant_new n r l) | inr w ↦ warranted_next (Sent n r) m q w ];
+    taken = λ m q o h. elim h [ inl e ↦ absurd (cc) | inr w ↦ inr (i.taken m q o w) ];
+    sent = λ m q o h. elim h [ inl e ↦ absurd (cc) | inr w ↦ inr (i.sent m q o w) ];
+    one = one_sent n r l;
+  }
+
+  -- a served request changes each phase as it is warranted
+  pub changes : (n : Ticket) (r : Request) → Has es (Sent n r) → (s : ℕ) (k : Key) → Change (plans s) (NamedBy (plans s) es s) (phases (store_after es) s) k (phases (table (store_after es) r).store s k)
+  changes n r h s k =
+      let w = i.warranted n r h in
+      let st = store_after es in
+      elim (outcome r k s (cell_at st.cells k) (cell_at (table st r).store.cells k) (i.sound k) ((row st r w.0 i.in_order).step k (i.sound k))) [
+        | inl e ↦ inl e
+        | inr v ↦ inr (v.0, w.1 k s (phases st s k) v.0 v.1 (λ p x e. ((i.coherent s).locked k p x e).0), v.2)
+      ]
+
+  Served_kept : (n : Ticket) (r : Request) (o : Reply) → Has es (Sent n r) → o ≡ (table (store_after es) r).reply → Inv plans (Served n r o ∷ es)
+  Served_kept n r o h g =
+      let st = store_after es in
+      let new = (table st r).store in
+      let e' = Served n r o in
+      let ch = changes n r h in
+      let covered = (i.warranted n r h).0 in
+      let rows = row st r covered i.in_order in
+      let sound_now : (k : Key) → IsSound (cell_at new.cells k) = λ k. sound_after r k (cell_at st.cells k) (cell_at new.cells k) (i.sound k) (rows.step k (i.sound k)) in
+      record {
+        in_order = rows.in_order;
+        sound = sound_now;
+        coherent = λ s. coherent_more (plans s) (NamedBy (plans s) es s) (NamedBy (plans s) (e' ∷ es) s) (phases new s) (named_more (plans s) es e' s)
+            (coherent_kept (plans s) (NamedBy (plans s) es s) (phases st s) (phases new s) (i.coherent s) (ch s));
+        means = λ m q a w. elim w [
+          | inl f ↦ subst₂ (Means plans new) (cc) (sym g ∙ cc) (means_given plans st i.in_order i.sound (λ s k p x z. ((i.coherent s).locked k p x z).0) r covered sound_now)
+          | inr u ↦ means_stays plans (λ s. NamedBy (plans s) es s) st new i.coherent ch (last_stays st r) q a (i.means m q a u)
+        ];
+        warranted = λ m q w. elim w [
+          | inl f ↦ absurd (cc)
+          | inr u ↦ (
+            (i.warranted m q u).0,
+            λ k t b v a c.
+                warrant_more (plans t) (NamedBy (plans t) es t) (NamedBy (plans t) (e' ∷ es) t) (phases new t) (named_more (plans t) es e' t) k b v
+                (warrant_stays (plans t) (NamedBy (plans t) es t) (phases st t) (phases new t) (i.coherent t) (ch t) k b v ((i.warranted m q u).1 k t b v a c)),
+          )
+        ];
+        taken = λ m q a w. elim w [ inl f ↦ absurd (cc) | inr u ↦ inr (i.taken m q a u) ];
+        sent = λ m q a w. elim w [ inl f ↦ inr (subst₂ (λ x y. Has es (Sent x y)) (cc) (cc) h) | inr u ↦ inr (i.sent m q a u) ];
+        one = one_next e' (λ m q f. cc);
+      }
+
+  Took_kept : (n : Ticket) (r : Request) (o : Reply) → Has es (Served n r o) → Inv plans (Took n r o ∷ es)
+  Took_kept n r o h = record {
+    in_order = i.in_order;
+    sound = i.sound;
+    coherent = coherent_next (Took n r o);
+    means = λ m q a g. elim g [ inl f ↦ absurd (cc) | inr u ↦ i.means m q a u ];
+    warranted = λ m q g. elim g [ inl f ↦ absurd (cc) | inr u ↦ warranted_next (Took n r o) m q u ];
+    taken = λ m q a g. elim g [ inl f ↦ inr (subst (Has es) (cc) h) | inr u ↦ inr (i.taken m q a u) ];
+    sent = λ m q a g. elim g [ inl f ↦ absurd (cc) | inr u ↦ inr (i.sent m q a u) ];
+    one = one_next (Took n r o) (λ m q f. cc);
+  }
+
+opening_kept : (plans : ℕ → Plan) → Inv plans []
+opening_kept plans = record {
+  in_order = tt;
+  sound = λ k. record { lock = λ s h. absurd (cc); rolled = λ s h. absurd (cc); once = λ w h. absurd h };
+  coherent = λ s. record { locked = λ k p x h. absurd (cc); committed = λ k c x h. absurd (cc); named = λ c d. absurd (cc d.1); whole = λ c d. absurd (cc d.1) };
+  means = λ m q o g. absurd g;
+  warranted = λ m q g. absurd g;
+  taken = λ m q o g. absurd g;
+  sent = λ m q o g. absurd g;
+  one = λ s c d g. absurd g.2;
+}
+
+pub kept : (plans : ℕ → Plan) (es : List Event) → IsRun plans es → Inv plans es
+kept plans [] run = opening_kept plans
+kept plans (Sent n r ∷ es) run = Sent_kept plans es (kept plans es run.2) n r run.1.0 run.1.1
+kept plans (Served n r o ∷ es) run = Served_kept plans es (kept plans es run.2) n r o run.0.0 run.0.1
+kept plans (Took n r o ∷ es) run = Took_kept plans es (kept plans es run.2) n r o run.0

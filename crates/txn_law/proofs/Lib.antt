@@ -1,0 +1,11 @@
+pub mod Phases
+pub mod Coherent
+pub mod Moves
+pub mod Prewriting
+pub mod Settling
+pub mod Rows
+pub mod Among
+pub mod Shown
+pub mod Replies
+pub mod Kept
+pub mod Wholes

@@ -1,0 +1,26 @@
+use Rattle.txn_law.proofs.Wholes.{law_whole, law_committed, law_rolled_back, law_rolled_stays, law_named, law_one, law_unlocked, law_recorded}
+use Rattle.txn_law.proofs.whole_or_nothing.Goals as goal
+
+pub returns-clause-whole : goal.returns-clause-whole
+returns-clause-whole c = law_whole
+
+pub returns-clause-committed : goal.returns-clause-committed
+returns-clause-committed c = law_committed
+
+pub returns-clause-rolled_back : goal.returns-clause-rolled_back
+returns-clause-rolled_back c = law_rolled_back
+
+pub returns-clause-rolled_stays : goal.returns-clause-rolled_stays
+returns-clause-rolled_stays c = law_rolled_stays
+
+pub returns-clause-named : goal.returns-clause-named
+returns-clause-named c = law_named
+
+pub returns-clause-one : goal.returns-clause-one
+returns-clause-one c = law_one
+
+pub returns-clause-unlocked : goal.returns-clause-unlocked
+returns-clause-unlocked c = law_unlocked
+
+pub returns-clause-recorded : goal.returns-clause-recorded
+returns-clause-recorded c = law_recorded

@@ -1,0 +1,45 @@
+-- A transaction is whole at one commit timestamp, or not at all.
+use Rattle.std.specs.Prelude.{◌≡◌, ◌≢◌, ◌⊎◌, ℕ, List, Some}
+use Rattle.txn_history.specs.Among.{IsAmong}
+use Rattle.txn_history.specs.Plan.{Key, Content, Plan}
+use Rattle.txn_model.specs.declared.cell.Cell.{Cell}
+use Rattle.txn_model.specs.declared.cell.Kind.{Kind}
+use Rattle.txn_model.specs.declared.cell.Lock.{Lock}
+use Rattle.txn_model.specs.declared.cell.Write.{Write}
+use Rattle.txn_model.specs.Cells.{cell_at}
+use Rattle.txn_model.specs.Locks.{op_of}
+
+-- what a lock or a commit of this kind and value writes
+abbrev pub content : Kind → List ℕ → Content
+content kind value = record { op = op_of kind; value = value }
+
+-- a commit of s at c with this content
+pub record HasCommit (c : Cell) (s n : ℕ) (x : Content) : Type 0 where
+  pub write : Write
+  pub among : IsAmong c.commits write
+  pub start : write.start ≡ s
+  pub commit : write.commit ≡ n
+  pub writes : content write.kind write.value ≡ x
+
+-- a lock of s under the primary with this content
+pub record HasLock (c : Cell) (s : ℕ) (primary : Key) (x : Content) : Type 0 where
+  pub lock : Lock
+  pub here : c.lock ≡ Some lock
+  pub start : lock.start ≡ s
+  pub under : lock.primary ≡ primary
+  pub writes : content lock.kind lock.value ≡ x
+
+-- Start s is whole at c: the primary holds its commit, each key that it writes holds the commit at c or the lock that
+-- becomes it, and no other commit of s is anywhere.
+pub record IsWholeAt (plan : Plan) (cells : List Cell) (s c : ℕ) : Type 0 where
+  pub primary : (x : Content) × HasCommit (cell_at cells plan.primary) s c x
+  pub each : (k : Key) (x : Content) → plan.writes k ≡ Some x → HasCommit (cell_at cells k) s c x ⊎ HasLock (cell_at cells k) s plan.primary x
+  pub others : (k : Key) (w : Write) → IsAmong (cell_at cells k).commits w → w.start ≡ s → (w.commit ≡ c) × (plan.writes k ≡ Some (content w.kind w.value))
+
+-- no commit of s is anywhere
+abbrev pub IsAbsent : List Cell → ℕ → Type 0
+IsAbsent cells s = (k : Key) (w : Write) → IsAmong (cell_at cells k).commits w → w.start ≢ s
+
+-- whole at one timestamp, or not at all
+abbrev pub IsWholeOrAbsent : Plan → List Cell → ℕ → Type 0
+IsWholeOrAbsent plan cells s = ((c : ℕ) × IsWholeAt plan cells s c) ⊎ IsAbsent cells s
