@@ -9,3 +9,4 @@ pub mod Shown
 pub mod Replies
 pub mod Kept
 pub mod Wholes
+pub mod OneRequest

@@ -11,6 +11,7 @@ use Rattle.txn_model.specs.Locks.{has_start, is_prewrite, owns, holds, commit_of
 use Rattle.txn_model.specs.Commit.{committed}
 use Rattle.txn_model.specs.Settle.{with_start, rolled_back, released}
 use Rattle.txn_model.specs.Status.{longer_lived, with_lock}
+pub use Rattle.txn_law.specs.Sound.{IsSound}
 use Rattle.txn_law.specs.Whole.{content}
 
 pub data Phase : Type 0 where
@@ -46,12 +47,6 @@ Goes (Locked p x) (Commits n) after = after ≡ Committed n x
 Goes (Locked p x) Rolls after = after ≡ RolledBack
 Goes (Committed n x) m after = ⊥
 Goes RolledBack m after = ⊥
-
--- a start that has a lock has neither a commit nor a rollback, one that is rolled back has no commit, and a start commits once
-pub record IsSound (c : Cell) : Type 0 where
-  pub lock : (s : ℕ) → holds c.lock s ≡ true → (has_start c.rolled s ≡ false) × (commit_of c.commits s ≡ None)
-  pub rolled : (s : ℕ) → has_start c.rolled s ≡ true → commit_of c.commits s ≡ None
-  pub once : (w : Write) → IsAmong c.commits w → commit_of c.commits w.start ≡ Some w
 
 -- the changes of a cell
 

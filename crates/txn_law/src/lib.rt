@@ -1,53 +1,8 @@
 //! What is true of every run: theorems over definitions alone.
 #![tactic(auto)]
 
-ghost use Rattle.std.specs.Prelude.{◌≡◌, ◌≢◌, ℕ, true, List};
-ghost use Rattle.txn_kv.specs.declared.ticket.Ticket.{Ticket};
-ghost use Rattle.txn_kv.specs.declared.request.Request.TheVariants.{Commit, BatchRollback};
-ghost use Rattle.txn_kv.specs.declared.request.CommitRequest.{CommitRequest};
-ghost use Rattle.txn_kv.specs.declared.request.BatchRollbackRequest.{BatchRollbackRequest};
-ghost use Rattle.txn_kv.specs.declared.reply.Reply.TheVariants as reply;
-ghost use Rattle.txn_kv.specs.declared.reply.CommitResponse.{CommitResponse};
-ghost use Rattle.txn_kv.specs.declared.reply.BatchRollbackResponse.{BatchRollbackResponse};
-ghost use Rattle.txn_history.specs.Event.{Event, Has};
-ghost use Rattle.txn_history.specs.Event.Event.{Took};
-ghost use Rattle.txn_history.specs.Licence.{IsWithoutError, WasNamed, PrimaryCommitted, PrimaryRolledBack};
-ghost use Rattle.txn_history.specs.Plan.{Key, Plan, has_key};
-ghost use Rattle.txn_model.specs.declared.cell.Lock.{Lock};
-ghost use Rattle.txn_model.specs.Cells.{cell_at};
-ghost use Rattle.txn_model.specs.Locks.{has_start};
-ghost use Rattle.txn_law.specs.Run.{IsRun, store_after};
-ghost use Rattle.txn_law.specs.Whole.{IsWholeAt, IsAbsent, IsWholeOrAbsent};
+mod request;
+mod whole;
 
-/// Whatever is lost, comes late or crashes: each transaction is whole at one commit timestamp or not at all.
-pub fn whole_or_nothing()
-    ensures whole { (plans : ℕ → Plan) (events : List Event) → IsRun plans events →
-        (s : ℕ) → IsWholeOrAbsent (plans s) (store_after events).cells s }
-    // Who was told that the primary is committed at c finds the transaction whole at c, then and ever after.
-    ensures committed { (plans : ℕ → Plan) (events : List Event) → IsRun plans events →
-        (s c : ℕ) → PrimaryCommitted (plans s) events s c → IsWholeAt (plans s) (store_after events).cells s c }
-    // Who was told that the primary is rolled back finds nothing of the transaction.
-    ensures rolled_back { (plans : ℕ → Plan) (events : List Event) → IsRun plans events →
-        (s : ℕ) → PrimaryRolledBack (plans s) events s → IsAbsent (store_after events).cells s }
-    // Once the start is recorded as rolled back at its primary, no key holds a commit of it.
-    ensures rolled_stays { (plans : ℕ → Plan) (events : List Event) → IsRun plans events →
-        (s : ℕ) → has_start (cell_at (store_after events).cells (plans s).primary).rolled s ≡ true →
-        IsAbsent (store_after events).cells s }
-    // What is whole at c was sent to the primary at c.
-    ensures named { (plans : ℕ → Plan) (events : List Event) → IsRun plans events →
-        (s c : ℕ) → IsWholeAt (plans s) (store_after events).cells s c → WasNamed (plans s) events s c }
-    // All commits of the primary name one timestamp.
-    ensures one { (plans : ℕ → Plan) (events : List Event) → IsRun plans events →
-        (s c d : ℕ) → WasNamed (plans s) events s c → WasNamed (plans s) events s d → c ≡ d }
-    // A commit that was answered leaves no lock of the transaction on its keys.
-    ensures unlocked { (plans : ℕ → Plan) (events : List Event) → IsRun plans events →
-        (t : Ticket) (r : CommitRequest) (o : CommitResponse) → Has events (Took t (Commit r) (reply.Commit o)) →
-        IsWithoutError (reply.Commit o) → (k : Key) → has_key r.keys k ≡ true →
-        (l : Lock) → (cell_at (store_after events).cells k).lock ≡ Some l → l.start ≢ r.start_version }
-    // A rollback that was answered is recorded, and leaves no lock of the transaction on its keys.
-    ensures recorded { (plans : ℕ → Plan) (events : List Event) → IsRun plans events →
-        (t : Ticket) (r : BatchRollbackRequest) (o : BatchRollbackResponse) → Has events (Took t (BatchRollback r) (reply.BatchRollback o)) →
-        IsWithoutError (reply.BatchRollback o) → (k : Key) → has_key r.keys k ≡ true →
-        (has_start (cell_at (store_after events).cells k).rolled r.start_version ≡ true)
-        × ((l : Lock) → (cell_at (store_after events).cells k).lock ≡ Some l → l.start ≢ r.start_version) }
-{}
+pub use request::one_request;
+pub use whole::whole_or_nothing;

@@ -1,5 +1,5 @@
 use Rattle.txn_law.proofs.Wholes.{law_whole, law_committed, law_rolled_back, law_rolled_stays, law_named, law_one, law_unlocked, law_recorded}
-use Rattle.txn_law.proofs.whole_or_nothing.Goals as goal
+use Rattle.txn_law.proofs.whole.whole_or_nothing.Goals as goal
 
 pub returns-clause-whole : goal.returns-clause-whole
 returns-clause-whole c = law_whole
