@@ -1,9 +1,14 @@
 -- What holds after every run.
+use Rattle.txn_law.specs.Whole.{content}
+use Rattle.txn_law.specs.Sound.{IsTimely}
+use Rattle.txn_kv.specs.declared.request.PessimisticLockRequest.{PessimisticLockRequest}
+use Rattle.txn_kv.specs.declared.request.TsoRequest.{TsoRequest}
+use Rattle.txn_kv.specs.declared.reply.TsoResponse.{TsoResponse}
 use Rattle.std.proofs.Common.{◌≡◌, ◌≢◌, ℕ, ◌<◌, ◌≤◌, ◌⊎◌, inl, inr, true, List, [], ◌∷◌, Some, refl, sym, ap, ◌∙◌, subst, subst₂, arith}
 use Rattle.txn_kv.specs.declared.ticket.Ticket.{Ticket}
 use Rattle.txn_kv.specs.declared.message.TxnInfo.{TxnInfo}
 use Rattle.txn_kv.specs.declared.request.Request.{Request}
-use Rattle.txn_kv.specs.declared.request.Request.TheVariants.{Prewrite, Commit, Cleanup, BatchRollback, ResolveLock, CheckTxnStatus, CheckSecondaryLocks, Tso}
+use Rattle.txn_kv.specs.declared.request.Request.TheVariants.{Prewrite, Commit, Cleanup, BatchRollback, ResolveLock, CheckTxnStatus, CheckSecondaryLocks, Tso, PessimisticLock}
 use Rattle.txn_kv.specs.declared.request.CommitRequest.{CommitRequest}
 use Rattle.txn_kv.specs.declared.request.ResolveLockRequest.{ResolveLockRequest}
 use Rattle.txn_kv.specs.declared.reply.Reply.{Reply}
@@ -11,7 +16,7 @@ use Rattle.txn_kv.specs.declared.reply.Reply.TheVariants as reply
 use Rattle.txn_history.specs.Among.{IsAmong}
 use Rattle.txn_history.specs.Event.{Event, Has}
 use Rattle.txn_history.specs.Event.Event.{Sent, Served, Took}
-use Rattle.txn_history.specs.Licence.{AllAcknowledged, WasNamed, PrimaryCommitted, WasShown, WasDecided, PrimaryCommitLicence, CommitLicence, settled_starts, IsLicensed}
+use Rattle.txn_history.specs.Licence.{AllAcknowledged, WasNamed, PrimaryCommitted, WasShown, WasDecided, PrimaryCommitLicence, CommitLicence, settled_starts, IsLicensed, AskedAfter, WasGiven, PessimisticLockLicence, GivesTimestamp}
 use Rattle.txn_history.specs.Plan.{Key, Content, Plan, has_key}
 use Rattle.txn_model.specs.Cells.{cell_at, AreInOrder}
 use Rattle.txn_model.specs.Placement.{next_timestamp}
@@ -19,14 +24,14 @@ use Rattle.txn_model.specs.Resolve.{infos, infos_of}
 use Rattle.txn_model.specs.Served.{last_by, last_after}
 use Rattle.txn_model.specs.Store.{Store}
 use Rattle.txn_model.specs.Table.{table}
-use Rattle.txn_law.specs.Run.{store_after, IsCovered, IsRun}
+use Rattle.txn_law.specs.Run.{store_after, IsCovered, IsRun, IsUnused}
 use Rattle.txn_law.proofs.Phases.{Phase, Move, IsSound}
 use Rattle.txn_law.proofs.Phases.Phase.{Locked, Committed, RolledBack}
 use Rattle.txn_law.proofs.Phases.Move.{Locks, Commits, Rolls}
 use Rattle.txn_law.proofs.Coherent.{IsDecidedAt, IsHeld, AllHeld, Warrant, Change, Coherent, coherent_kept, coherent_more, warrant_more, warrant_stays}
 use Rattle.txn_law.proofs.Moves.{May, outcome, sound_after}
 use Rattle.txn_law.proofs.Rows.{row}
-use Rattle.txn_law.proofs.Replies.{phases, IsCommitted, MeansFine, Means, Stands, first_above, means_given, means_stays}
+use Rattle.txn_law.proofs.Replies.{phases, IsCommitted, MeansFine, Means, Stands, first_above, means_given, means_stays, committed_phase, timestamps_rise}
 
 -- a Commit of s at c that names the primary was sent, and c is a timestamp
 abbrev pub NamedBy : Plan → List Event → ℕ → ℕ → Type 0
@@ -40,6 +45,10 @@ NamesPrimary plan before = (p : Key) (x : Content) → before ≡ Locked p x →
 abbrev pub IsWarranted : (ℕ → Plan) → List Event → Store → Request → Type 0
 IsWarranted plans es st r = (k : Key) (t : ℕ) (before : Phase) (m : Move) → May r k t before m → NamesPrimary (plans t) before → Warrant (plans t) (NamedBy (plans t) es t) (phases st t) k before m
 
+-- a timestamp is above the start, and where the start writes something above the time of each pessimistic lock of it
+abbrev pub IsAbove : Plan → List Event → ℕ → ℕ → Type 0
+IsAbove plan es s c = (s < c) × ((k : Key) (x : Content) → plan.writes k ≡ Some x → (t : Ticket) (q : PessimisticLockRequest) → Has es (Sent t (PessimisticLock q)) → q.start_version ≡ s → q.for_update_ts < c)
+
 pub record Inv (plans : ℕ → Plan) (es : List Event) : Type 0 where
   pub in_order : AreInOrder (store_after es).cells
   pub sound : (k : Key) → IsSound (cell_at (store_after es).cells k)
@@ -48,6 +57,9 @@ pub record Inv (plans : ℕ → Plan) (es : List Event) : Type 0 where
   pub warranted : (t : Ticket) (r : Request) → Has es (Sent t r) → IsCovered r × IsWarranted plans es (store_after es) r
   pub taken : (t : Ticket) (r : Request) (o : Reply) → Has es (Took t r o) → Has es (Served t r o)
   pub sent : (t : Ticket) (r : Request) (o : Reply) → Has es (Served t r o) → Has es (Sent t r)
+  pub locks : (t : Ticket) (q : PessimisticLockRequest) → Has es (Sent t (PessimisticLock q)) → q.for_update_ts ≤ (store_after es).last
+  pub times : (s : ℕ) (t : Ticket) → AskedAfter (plans s) es s t → (r : TsoRequest) (o : TsoResponse) (c : ℕ) → Has es (Served t (Tso r) (reply.Tso o)) → GivesTimestamp o c → IsAbove (plans s) es s c
+  pub named : (s c : ℕ) → WasNamed (plans s) es s c → AllAcknowledged (plans s) es s × IsAbove (plans s) es s c
   pub one : (s c d : ℕ) → WasNamed (plans s) es s c → WasNamed (plans s) es s d → c ≡ d
 
 was_named_more : (plan : Plan) (es : List Event) (e : Event) (s c : ℕ) → WasNamed plan es s c → WasNamed plan (e ∷ es) s c
@@ -55,6 +67,21 @@ was_named_more plan es e s c h = (h.0, h.1, inr h.2, h.3, h.4, h.5)
 
 named_more : (plan : Plan) (es : List Event) (e : Event) (s c : ℕ) → NamedBy plan es s c → NamedBy plan (e ∷ es) s c
 named_more plan es e s c h = (was_named_more plan es e s c h.0, h.1)
+
+given_more : (es : List Event) (e : Event) (u : ℕ) → WasGiven es u → WasGiven (e ∷ es) u
+given_more es e u w = (w.0, w.1, w.2, w.3, inr w.4, w.5, w.6)
+
+acknowledged_more : (plan : Plan) (es : List Event) (e : Event) (s : ℕ) → AllAcknowledged plan es s → AllAcknowledged plan (e ∷ es) s
+acknowledged_more plan es e s a k x w = let h = a k x w in record { ticket = h.ticket; request = h.request; response = h.response; taken = inr h.taken; fine = h.fine; start = h.start; locks = h.locks }
+
+-- who asked for a commit timestamp had each key acknowledged, and its start given
+pub asked_ready : (plan : Plan) (es : List Event) (s : ℕ) (t : Ticket) → AskedAfter plan es s t → AllAcknowledged plan es s × WasGiven es s
+asked_ready plan [] s t a = absurd a
+asked_ready plan (e ∷ es) s t (inl a) = (acknowledged_more plan es e s a.2, given_more es e s a.3)
+asked_ready plan (e ∷ es) s t (inr a) = let w = asked_ready plan es s t a in (acknowledged_more plan es e s w.0, given_more es e s w.1)
+
+above_next : (plan : Plan) (es : List Event) (e : Event) (s c : ℕ) → ((n : Ticket) (r : Request) → e ≢ Sent n r) → IsAbove plan es s c → IsAbove plan (e ∷ es) s c
+above_next plan es e s c f a = (a.0, λ k x w t q h d. elim h [ inl g ↦ absurd (f t (PessimisticLock q) g) | inr u ↦ a.1 k x w t q u d ])
 
 -- the starts that a ResolveLock settles are those that its row settles
 settled_infos : (r : ResolveLockRequest) (is : List TxnInfo) → settled_starts r is ≡ infos_of r is
@@ -105,11 +132,61 @@ module _ (plans : ℕ → Plan) (es : List Event) (i : Inv plans es) where
   told s c h = elim (subst (λ q. Stands (store_after es) q s c) (shown_primary s h.primary h.shown) ((i.means h.ticket h.request h.answer (i.taken h.ticket h.request h.answer h.taken)).decides h.primary s c h.decides))
       [ inl a ↦ inl a | inr a ↦ inr (let w = (i.coherent s).named c a in (w.1, a)) ]
 
-  -- a timestamp that the oracle gave is not 0
+  pub given_last : (u : ℕ) → WasGiven es u → u ≤ (store_after es).last
+  given_last u w =
+      let d = ((i.means w.0 (Tso w.1) (reply.Tso w.2) (i.taken w.0 (Tso w.1) (reply.Tso w.2) w.4)).gives w.1 w.2 w.3 refl refl w.5).1 in
+      let e = w.6 in
+      omega (arith, d, e)
+
+  -- a commit timestamp that may be sent now is above its start
+  licence_above : (s c : ℕ) → PrimaryCommitLicence (plans s) es s c → IsAbove (plans s) es s c
+  licence_above s c l = let a = l.asked in i.times s a.0 a.3 a.1 a.2 c (i.taken a.0 (Tso a.1) (reply.Tso a.2) a.4) a.5
+
   given_above : (s c : ℕ) → PrimaryCommitLicence (plans s) es s c → 0 < c
-  given_above s c l =
-      let a = l.asked in
-      ((i.means a.0 (Tso a.1) (reply.Tso a.2) (i.taken a.0 (Tso a.1) (reply.Tso a.2) a.4)).gives a.1 a.2 c refl refl a.5).0
+  given_above s c l = let a = (licence_above s c l).0 in omega (arith, a)
+
+  lock_licence : (r : Request) (q : PessimisticLockRequest) → IsLicensed plans es r → r ≡ PessimisticLock q → PessimisticLockLicence es q
+  lock_licence r q l e = subst (IsLicensed plans es) e l
+
+  -- once a key is acknowledged, no pessimistic lock of its start is sent
+  no_more_locks : (n : Ticket) (r : Request) → IsLicensed plans es r → (s : ℕ) → AllAcknowledged (plans s) es s → (k : Key) (x : Content) → (plans s).writes k ≡ Some x → (t : Ticket) (q : PessimisticLockRequest) → Sent n r ≡ Sent t (PessimisticLock q) → q.start_version ≡ s → ⊥
+  no_more_locks n r l s a k x w t q e d =
+      let h = a k x w in
+      let licence = lock_licence r q l (cc) in
+      licence.unwritten h.ticket h.request (i.sent h.ticket (Prewrite h.request) (reply.Prewrite h.response) (i.taken h.ticket (Prewrite h.request) (reply.Prewrite h.response) h.taken)) (h.start ∙ sym d)
+
+  above_sent : (n : Ticket) (r : Request) → IsLicensed plans es r → (s c : ℕ) → AllAcknowledged (plans s) es s → IsAbove (plans s) es s c → IsAbove (plans s) (Sent n r ∷ es) s c
+  above_sent n r l s c a b = (b.0, λ k x w t q h d. elim h [ inl e ↦ absurd (no_more_locks n r l s a k x w t q e d) | inr u ↦ b.1 k x w t q u d ])
+
+  -- a Tso that is served now gives more than all earlier ones
+  asked_now : (n : Ticket) (r : Request) (o : Reply) → o ≡ (table (store_after es) r).reply → (s : ℕ) (t : Ticket) → AskedAfter (plans s) es s t → (q : TsoRequest) (p : TsoResponse) (c : ℕ) → Served n r o ≡ Served t (Tso q) (reply.Tso p) → GivesTimestamp p c → IsAbove (plans s) (Served n r o ∷ es) s c
+  asked_now n r o g s t a q p c e v =
+      let same : r ≡ Tso q = cc in
+      let told : (table (store_after es) (Tso q)).reply ≡ reply.Tso p = subst (λ z. (table (store_after es) z).reply ≡ reply.Tso p) same (sym g ∙ cc) in
+      let rise = (timestamps_rise (store_after es) q p c told v).0 in
+      let begun = given_last s (asked_ready (plans s) es s t a).1 in
+      (omega (arith, rise, begun), λ k x w m z h d. elim h [ inl f ↦ absurd (cc) | inr u ↦ (let b = i.locks m z u in omega (arith, rise, b)) ])
+
+  times_next : (e : Event) → ((n : Ticket) (r : Request) → e ≢ Sent n r) → ((s : ℕ) (t : Ticket) → AskedAfter (plans s) es s t → (q : TsoRequest) (p : TsoResponse) (c : ℕ) → e ≡ Served t (Tso q) (reply.Tso p) → GivesTimestamp p c → IsAbove (plans s) (e ∷ es) s c) → (s : ℕ) (t : Ticket) → AskedAfter (plans s) (e ∷ es) s t → (r : TsoRequest) (o : TsoResponse) (c : ℕ) → Has (e ∷ es) (Served t (Tso r) (reply.Tso o)) → GivesTimestamp o c → IsAbove (plans s) (e ∷ es) s c
+  times_next e f g s t a r o c h v = elim a [
+    | inl b ↦ absurd (f t (Tso b.0) b.1)
+    | inr b ↦ elim h [ inl w ↦ g s t b r o c w v | inr u ↦ above_next (plans s) es e s c f (i.times s t b r o c u v) ]
+  ]
+
+  times_sent : (n : Ticket) (r : Request) → IsUnused es n → IsLicensed plans es r → (s : ℕ) (t : Ticket) → AskedAfter (plans s) (Sent n r ∷ es) s t → (q : TsoRequest) (o : TsoResponse) (c : ℕ) → Has (Sent n r ∷ es) (Served t (Tso q) (reply.Tso o)) → GivesTimestamp o c → IsAbove (plans s) (Sent n r ∷ es) s c
+  times_sent n r f l s t a q o c h v = elim h [
+    | inl w ↦ absurd (cc)
+    | inr u ↦ elim a [
+      | inl b ↦ (let w = b.1 in absurd (f (Tso q) (subst (λ z. Has es (Sent z (Tso q))) (cc) (i.sent t (Tso q) (reply.Tso o) u))))
+      | inr b ↦ above_sent n r l s c (asked_ready (plans s) es s t b).0 (i.times s t b q o c u v)
+    ]
+  ]
+
+  named_next : (e : Event) → ((n : Ticket) (r : Request) → e ≢ Sent n r) → (s c : ℕ) → WasNamed (plans s) (e ∷ es) s c → AllAcknowledged (plans s) (e ∷ es) s × IsAbove (plans s) (e ∷ es) s c
+  named_next e f s c h = elim h.2 [
+    | inl w ↦ absurd (f h.0 (Commit h.1) w)
+    | inr v ↦ (let w = i.named s c (h.0, h.1, v, h.3, h.4, h.5) in (acknowledged_more (plans s) es e s w.0, above_next (plans s) es e s c f w.1))
+  ]
 
   settled_so : (r : ResolveLockRequest) (j : TxnInfo) → IsAmong (infos r) j → IsAmong (settled_starts r r.txn_infos) j
   settled_so r j a = subst (λ js. IsAmong js j) (sym (settled_infos r r.txn_infos)) a
@@ -164,8 +241,20 @@ module _ (plans : ℕ → Plan) (es : List Event) (i : Inv plans es) where
     ]
   ]
 
-  Sent_kept : (n : Ticket) (r : Request) → IsCovered r → IsLicensed plans es r → Inv plans (Sent n r ∷ es)
-  Sent_kept n r c l = record {
+  named_sent : (n : Ticket) (r : Request) → IsLicensed plans es r → (s c : ℕ) → WasNamed (plans s) (Sent n r ∷ es) s c → AllAcknowledged (plans s) (Sent n r ∷ es) s × IsAbove (plans s) (Sent n r ∷ es) s c
+  named_sent n r l s c h = elim h.2 [
+    | inl e ↦ (let w = primary_licence h.1 (licence_of r h.1 l (cc)) s c h.3 h.4 h.5 in (acknowledged_more (plans s) es (Sent n r) s w.ready, above_sent n r l s c w.ready (licence_above s c w)))
+    | inr v ↦ (let w = i.named s c (h.0, h.1, v, h.3, h.4, h.5) in (acknowledged_more (plans s) es (Sent n r) s w.0, above_sent n r l s c w.0 w.1))
+  ]
+
+  locks_sent : (n : Ticket) (r : Request) → IsLicensed plans es r → (t : Ticket) (q : PessimisticLockRequest) → Has (Sent n r ∷ es) (Sent t (PessimisticLock q)) → q.for_update_ts ≤ (store_after es).last
+  locks_sent n r l t q h = elim h [ inl e ↦ (let licence = lock_licence r q l (cc) in given_last q.for_update_ts licence.given) | inr u ↦ i.locks t q u ]
+
+  Sent_kept : (n : Ticket) (r : Request) → IsUnused es n → IsCovered r → IsLicensed plans es r → Inv plans (Sent n r ∷ es)
+  Sent_kept n r f c l = record {
+    locks = locks_sent n r l;
+    times = times_sent n r f l;
+    named = named_sent n r l;
     in_order = i.in_order;
     sound = i.sound;
     coherent = coherent_next (Sent n r);
@@ -176,12 +265,19 @@ module _ (plans : ℕ → Plan) (es : List Event) (i : Inv plans es) where
     one = one_sent n r l;
   }
 
+  -- a pessimistic lock is sent before any commit of its start, at an earlier time
+  pub timely : (n : Ticket) (r : Request) → Has es (Sent n r) → IsTimely (store_after es) r
+  timely n (PessimisticLock q) h = λ k w e.
+      let m = (i.coherent q.start_version).committed k w.commit (content w.kind w.value) (committed_phase (cell_at (store_after es).cells k) q.start_version w (i.sound k) e) in
+      (i.named q.start_version w.commit ((i.coherent q.start_version).named w.commit m.1).0).1.1 k (content w.kind w.value) m.0 n q h refl
+  timely n _ h = tt
+
   -- a served request changes each phase as it is warranted
   pub changes : (n : Ticket) (r : Request) → Has es (Sent n r) → (s : ℕ) (k : Key) → Change (plans s) (NamedBy (plans s) es s) (phases (store_after es) s) k (phases (table (store_after es) r).store s k)
   changes n r h s k =
       let w = i.warranted n r h in
       let st = store_after es in
-      elim (outcome r k s (cell_at st.cells k) (cell_at (table st r).store.cells k) (i.sound k) ((row st r w.0 i.in_order).step k (i.sound k))) [
+      elim (outcome r k s (cell_at st.cells k) (cell_at (table st r).store.cells k) (i.sound k) ((row st r w.0 (timely n r h) i.in_order).step k (i.sound k))) [
         | inl e ↦ inl e
         | inr v ↦ inr (v.0, w.1 k s (phases st s k) v.0 v.1 (λ p x e. ((i.coherent s).locked k p x e).0), v.2)
       ]
@@ -193,7 +289,7 @@ module _ (plans : ℕ → Plan) (es : List Event) (i : Inv plans es) where
       let e' = Served n r o in
       let ch = changes n r h in
       let covered = (i.warranted n r h).0 in
-      let rows = row st r covered i.in_order in
+      let rows = row st r covered (timely n r h) i.in_order in
       let sound_now : (k : Key) → IsSound (cell_at new.cells k) = λ k. sound_after r k (cell_at st.cells k) (cell_at new.cells k) (i.sound k) (rows.step k (i.sound k)) in
       record {
         in_order = rows.in_order;
@@ -215,6 +311,9 @@ module _ (plans : ℕ → Plan) (es : List Event) (i : Inv plans es) where
         ];
         taken = λ m q a w. elim w [ inl f ↦ absurd (cc) | inr u ↦ inr (i.taken m q a u) ];
         sent = λ m q a w. elim w [ inl f ↦ inr (subst₂ (λ x y. Has es (Sent x y)) (cc) (cc) h) | inr u ↦ inr (i.sent m q a u) ];
+        locks = λ t q w. elim w [ inl f ↦ absurd (cc) | inr u ↦ (let a = i.locks t q u in let b = last_stays st r in omega (arith, a, b)) ];
+        times = times_next e' (λ m q f. cc) (asked_now n r o g);
+        named = named_next e' (λ m q f. cc);
         one = one_next e' (λ m q f. cc);
       }
 
@@ -227,23 +326,29 @@ module _ (plans : ℕ → Plan) (es : List Event) (i : Inv plans es) where
     warranted = λ m q g. elim g [ inl f ↦ absurd (cc) | inr u ↦ warranted_next (Took n r o) m q u ];
     taken = λ m q a g. elim g [ inl f ↦ inr (subst (Has es) (cc) h) | inr u ↦ inr (i.taken m q a u) ];
     sent = λ m q a g. elim g [ inl f ↦ absurd (cc) | inr u ↦ inr (i.sent m q a u) ];
+    locks = λ t q w. elim w [ inl f ↦ absurd (cc) | inr u ↦ i.locks t q u ];
+    times = times_next (Took n r o) (λ m q f. cc) (λ s t a q p c e. absurd (cc));
+    named = named_next (Took n r o) (λ m q f. cc);
     one = one_next (Took n r o) (λ m q f. cc);
   }
 
 opening_kept : (plans : ℕ → Plan) → Inv plans []
 opening_kept plans = record {
   in_order = tt;
-  sound = λ k. record { lock = λ s h. absurd (cc); rolled = λ s h. absurd (cc); once = λ w h. absurd h };
+  sound = λ k. record { lock = λ s h. absurd (cc); rolled = λ s h. absurd (cc); once = λ w h. absurd h; newest = λ w h. absurd h };
   coherent = λ s. record { locked = λ k p x h. absurd (cc); committed = λ k c x h. absurd (cc); named = λ c d. absurd (cc d.1); whole = λ c d. absurd (cc d.1) };
   means = λ m q o g. absurd g;
   warranted = λ m q g. absurd g;
   taken = λ m q o g. absurd g;
   sent = λ m q o g. absurd g;
+  locks = λ t q g. absurd g;
+  times = λ s t a. absurd a;
+  named = λ s c g. absurd g.2;
   one = λ s c d g. absurd g.2;
 }
 
 pub kept : (plans : ℕ → Plan) (es : List Event) → IsRun plans es → Inv plans es
 kept plans [] run = opening_kept plans
-kept plans (Sent n r ∷ es) run = Sent_kept plans es (kept plans es run.2) n r run.1.0 run.1.1
+kept plans (Sent n r ∷ es) run = Sent_kept plans es (kept plans es run.2) n r run.0 run.1.0 run.1.1
 kept plans (Served n r o ∷ es) run = Served_kept plans es (kept plans es run.2) n r o run.0.0 run.0.1
 kept plans (Took n r o ∷ es) run = Took_kept plans es (kept plans es run.2) n r o run.0

@@ -25,7 +25,7 @@ use Rattle.txn_model.specs.Status.{longer_lived}
 use Rattle.txn_model.specs.Store.{Store, opening}
 use Rattle.txn_model.specs.Table.{table}
 use Rattle.txn_law.specs.Run.{IsCovered}
-use Rattle.txn_law.specs.Sound.{IsSoundStore, Became}
+use Rattle.txn_law.specs.Sound.{IsSoundStore, Became, IsTimely}
 use Rattle.txn_law.proofs.Phases.{held, has_with_start}
 use Rattle.txn_law.proofs.Moves.{CellStep, sound_after}
 use Rattle.txn_law.proofs.Moves.CellStep.{Same, Places, Recorded, Made, Released, Held, Renewed}
@@ -144,12 +144,12 @@ lock_became r k c d (Renewed n ttl f) l e p =
 
 -- in the words of the store
 
-module _ (st : Store) (r : Request) (covered : IsCovered r) (i : IsSoundStore st) where
+module _ (st : Store) (r : Request) (covered : IsCovered r) (timely : IsTimely st r) (i : IsSoundStore st) where
   step_at : (k : Key) → CellStep r k (cell_at st.cells k) (cell_at (table st r).store.cells k)
-  step_at k = (row st r covered i.in_order).step k (i.cells k)
+  step_at k = (row st r covered timely i.in_order).step k (i.cells k)
 
   pub sound_next : IsSoundStore (table st r).store
-  sound_next = record { in_order = (row st r covered i.in_order).in_order; cells = λ k. sound_after r k (cell_at st.cells k) (cell_at (table st r).store.cells k) (i.cells k) (step_at k) }
+  sound_next = record { in_order = (row st r covered timely i.in_order).in_order; cells = λ k. sound_after r k (cell_at st.cells k) (cell_at (table st r).store.cells k) (i.cells k) (step_at k) }
 
   pub commit_there : (k : Key) (w : Write) → IsAmong (cell_at st.cells k).commits w → IsAmong (cell_at (table st r).store.cells k).commits w
   commit_there k w = commits_stay r k (cell_at st.cells k) (cell_at (table st r).store.cells k) (step_at k) w
@@ -174,4 +174,4 @@ pub prewrite_unrolled : (st : Store) (r : PrewriteRequest) → IsWithoutError (t
 prewrite_unrolled st r = passes_unrolled st r (region_check st.regions r.context) (prewrite_errors st.cells r r.mutations r.is_pessimistic_lock) refl
 
 pub opening_sound : IsSoundStore opening
-opening_sound = record { in_order = tt; cells = λ k. record { lock = λ s h. absurd (cc); rolled = λ s h. absurd (cc); once = λ w h. absurd h } }
+opening_sound = record { in_order = tt; cells = λ k. record { lock = λ s h. absurd (cc); rolled = λ s h. absurd (cc); once = λ w h. absurd h; newest = λ w h. absurd h } }

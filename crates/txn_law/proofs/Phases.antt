@@ -1,5 +1,5 @@
 -- The phase of a start at a cell, and how the cell's changes move it.
-use Rattle.std.proofs.Common.{◌≡◌, ℕ, ◌⊎◌, inl, Bool, true, false, ◌&&◌, ◌||◌, cond, List, [], ◌∷◌, Option, Some, None, nat_eq, refl, sym, subst, arith}
+use Rattle.std.proofs.Common.{◌≡◌, ℕ, ◌<◌, ◌≤◌, ◌⊎◌, inl, inr, Bool, true, false, ◌&&◌, ◌||◌, cond, List, [], ◌∷◌, Option, Some, None, nat_eq, nat_lt, refl, sym, subst, arith}
 use Rattle.std.specs.Prelude.{if◌then◌else◌}
 use Rattle.std.proofs.lemmas.Bool.Decides.{nat_tests}
 use Rattle.txn_history.specs.Among.{IsAmong}
@@ -7,9 +7,9 @@ use Rattle.txn_history.specs.Plan.{Key, Content}
 use Rattle.txn_model.specs.declared.cell.Cell.{Cell}
 use Rattle.txn_model.specs.declared.cell.Lock.{Lock}
 use Rattle.txn_model.specs.declared.cell.Write.{Write}
-use Rattle.txn_model.specs.Locks.{has_start, is_prewrite, owns, holds, commit_of, with_commit}
-use Rattle.txn_model.specs.Commit.{committed}
-use Rattle.txn_model.specs.Settle.{with_start, rolled_back, released}
+use Rattle.txn_model.specs.Locks.{has_start, is_prewrite, owns, holds, commit_of, with_commit, all_above, newest_after, newest_commit}
+use Rattle.txn_model.specs.Commit.{committed, commit_lock}
+use Rattle.txn_model.specs.Settle.{with_start, unlocked, rolled_back, released}
 use Rattle.txn_model.specs.Status.{longer_lived, with_lock}
 pub use Rattle.txn_law.specs.Sound.{IsSound}
 use Rattle.txn_law.specs.Whole.{content}
@@ -89,7 +89,7 @@ sound_placed l c h i = by_owner (owns c.lock l.start) refl
 
     by_owner : (b : Bool) → owns c.lock l.start ≡ b → IsSound (if b then c else held l c)
     by_owner true e = i
-    by_owner false e = record { lock = lock_now e; rolled = i.rolled; once = i.once }
+    by_owner false e = record { lock = lock_now e; rolled = i.rolled; once = i.once; newest = i.newest }
 
 pub has_with_start : (s : ℕ) (xs : List ℕ) (t : ℕ) → has_start (with_start s xs) t ≡ (nat_eq s t || has_start xs t)
 has_with_start s [] t = refl
@@ -103,6 +103,7 @@ sound_rolled s c h i = record {
   lock = λ t e. let f = has_with_start s c.rolled t in grind (arith, nat_tests);
   rolled = λ t e. let f = has_with_start s c.rolled t in grind (arith, nat_tests);
   once = i.once;
+  newest = i.newest;
 }
 
 pub phase_committed : (s n : ℕ) (c : Cell) (t : ℕ) → IsSound c → (phase (committed s n c) t ≡ phase c t) ⊎ ((t ≡ s) × Goes (phase c t) (Commits n) (phase (committed s n c) t))
@@ -115,11 +116,60 @@ has_with w (u ∷ vs) v h = grind (arith, has_with w vs v)
 once_committed : (s n : ℕ) (c : Cell) → IsSound c → (w : Write) → IsAmong (committed s n c).commits w → commit_of (committed s n c).commits w.start ≡ Some w
 once_committed s n c i w h = grind (arith, nat_tests, commit_of_with, has_with)
 
+-- the last commit is the newest
+
+above_newest : (m : ℕ) (vs : List Write) (n : ℕ) → m < n → all_above m vs ≡ true → m < newest_after n vs
+above_newest m [] n h a = h
+above_newest m (v ∷ vs) n h a = above_newest m vs v.commit (grind (arith, nat_tests)) (grind (arith, nat_tests))
+
+newest_with : (w : Write) (vs : List Write) (n : ℕ) → w.commit ≤ newest_after n (with_commit w vs)
+newest_with w [] n = omega arith
+newest_with w (v ∷ vs) n = by (newest_with w vs v.commit) (all_above w.commit (v ∷ vs)) refl
+  where
+    by : w.commit ≤ newest_after v.commit (with_commit w vs) → (b : Bool) → all_above w.commit (v ∷ vs) ≡ b → w.commit ≤ newest_after n (if b then w ∷ v ∷ vs else v ∷ with_commit w vs)
+    by rest true a =
+        let here : w.commit < v.commit = grind (arith, nat_tests) in
+        let others : all_above w.commit vs ≡ true = grind (arith, nat_tests) in
+        let above = above_newest w.commit vs v.commit here others in
+        omega (arith, above)
+    by rest false a = rest
+
+newest_grows : (w v : Write) (vs : List Write) (n : ℕ) → newest_after n (v ∷ vs) ≤ newest_after n (with_commit w (v ∷ vs))
+newest_grows w v [] n = by (nat_lt w.commit v.commit) refl
+  where
+    by : (b : Bool) → nat_lt w.commit v.commit ≡ b → v.commit ≤ newest_after n (if b && true then w ∷ v ∷ [] else v ∷ w ∷ [])
+    by true e = omega arith
+    by false e = grind (arith, nat_tests)
+newest_grows w v (u ∷ us) n = by (newest_grows w u us v.commit) (all_above w.commit (v ∷ u ∷ us))
+  where
+    by : newest_after v.commit (u ∷ us) ≤ newest_after v.commit (with_commit w (u ∷ us)) → (b : Bool) → newest_after v.commit (u ∷ us) ≤ newest_after n (if b then w ∷ v ∷ u ∷ us else v ∷ with_commit w (u ∷ us))
+    by rest true = omega arith
+    by rest false = rest
+
+newest_among : (w : Write) (vs : List Write) (u : Write) → ((v : Write) → IsAmong vs v → v.commit ≤ newest_commit vs) → IsAmong (with_commit w vs) u → u.commit ≤ newest_commit (with_commit w vs)
+newest_among w vs u i h = elim (has_with w vs u h) [ inl e ↦ subst (λ (v : Write). v.commit ≤ newest_commit (with_commit w vs)) e (newest_with w vs 0) | inr a ↦ grown vs i a ]
+  where
+    grown : (ws : List Write) → ((v : Write) → IsAmong ws v → v.commit ≤ newest_commit ws) → IsAmong ws u → u.commit ≤ newest_commit (with_commit w ws)
+    grown [] j a = absurd a
+    grown (v ∷ ws) j a = let b = j u a in let c = newest_grows w v ws 0 in omega (arith, b, c)
+
+newest_committed : (s n : ℕ) (c : Cell) → IsSound c → (u : Write) → IsAmong (committed s n c).commits u → u.commit ≤ newest_commit (committed s n c).commits
+newest_committed s n c i u h = by_lock c.lock h
+  where
+    by_own : (l : Lock) (b : Bool) → IsAmong (if b then record { key = c.key; lock = None; commits = with_commit (record { start = s; commit = n; kind = l.kind; value = l.value }) c.commits; rolled = c.rolled } else c).commits u → u.commit ≤ newest_commit (if b then record { key = c.key; lock = None; commits = with_commit (record { start = s; commit = n; kind = l.kind; value = l.value }) c.commits; rolled = c.rolled } else c).commits
+    by_own l true g = newest_among (record { start = s; commit = n; kind = l.kind; value = l.value }) c.commits u i.newest g
+    by_own l false g = i.newest u g
+
+    by_lock : (o : Option Lock) → IsAmong (commit_lock s n o c).commits u → u.commit ≤ newest_commit (commit_lock s n o c).commits
+    by_lock None g = i.newest u g
+    by_lock (Some l) g = by_own l (nat_eq l.start s && is_prewrite l.kind) g
+
 pub sound_committed : (s n : ℕ) (c : Cell) → IsSound c → IsSound (committed s n c)
 sound_committed s n c i = record {
   lock = λ t h. grind (arith, nat_tests, commit_of_with);
   rolled = λ t h. grind (arith, nat_tests, commit_of_with);
   once = once_committed s n c i;
+  newest = newest_committed s n c i;
 }
 
 -- What touches no prewrite lock moves no phase.
@@ -127,7 +177,14 @@ pub phase_released : (s : ℕ) (c : Cell) (t : ℕ) → phase (released s c) t �
 phase_released s c t = grind (arith, nat_tests)
 
 pub sound_released : (s : ℕ) (c : Cell) → IsSound c → IsSound (released s c)
-sound_released s c i = grind (arith, nat_tests)
+sound_released s c i = by (owns c.lock s)
+  where
+    free : (t : ℕ) → holds (if holds c.lock s then None else c.lock) t ≡ true → (has_start c.rolled t ≡ false) × (commit_of c.commits t ≡ None)
+    free t h = i.lock t (grind (arith, nat_tests))
+
+    by : (b : Bool) → IsSound (if b then c else unlocked s c)
+    by true = i
+    by false = record { lock = free; rolled = i.rolled; once = i.once; newest = i.newest }
 
 -- no rollback and no commit of the start, and no lock but its own pessimistic one: a pessimistic lock may stand here
 pub record IsClear (c : Cell) (s : ℕ) : Type 0 where
@@ -143,7 +200,7 @@ phase_held l c t k h = by_lock c.lock refl
     by_lock (Some m) e = let a = h.unlocked m e in grind (arith, nat_tests)
 
 pub sound_held : (l : Lock) (c : Cell) → IsClear c l.start → IsSound c → IsSound (held l c)
-sound_held l c h i = record { lock = lock_now; rolled = i.rolled; once = i.once }
+sound_held l c h i = record { lock = lock_now; rolled = i.rolled; once = i.once; newest = i.newest }
   where
     lock_now : (s : ℕ) → nat_eq l.start s ≡ true → (has_start c.rolled s ≡ false) × (commit_of c.commits s ≡ None)
     lock_now s e = let a = h.unrolled in let b = h.uncommitted in grind (arith, nat_tests)
@@ -153,4 +210,4 @@ pub phase_renewed : (l : Lock) (n : ℕ) (c : Cell) (t : ℕ) → c.lock ≡ Som
 phase_renewed l n c t e = rw e refl
 
 pub sound_renewed : (l : Lock) (n : ℕ) (c : Cell) → c.lock ≡ Some l → IsSound c → IsSound (with_lock (longer_lived n l) c)
-sound_renewed l n c e i = record { lock = λ s h. i.lock s (subst (λ o. holds o s ≡ true) (sym e) h); rolled = i.rolled; once = i.once }
+sound_renewed l n c e i = record { lock = λ s h. i.lock s (subst (λ o. holds o s ≡ true) (sym e) h); rolled = i.rolled; once = i.once; newest = i.newest }

@@ -291,7 +291,7 @@ module _ (plans : ℕ → Plan) (st : Store) (o : AreInOrder st.cells) (sound : 
     decides = λ p s d h. absurd h;
     gives = λ q x d e f g. let w = timestamps_rise st r x d f g in (omega (arith, w.0), w.1);
   }
-  means_given (PessimisticLock r) c i = absurd c
+  means_given (PessimisticLock r) c i = record { fine = λ h. tt; shows = shown_named (PessimisticLock r) c; decides = λ p s d h. absurd h; gives = λ q x d e. absurd (cc) }
   means_given (UnsafeDestroyRange r) c i = absurd c
   means_given (Get r) c i = record { fine = λ h. tt; shows = shown_named (Get r) c; decides = λ p s d h. absurd h; gives = λ q x d e. absurd (cc) }
   means_given (BatchGet r) c i = record { fine = λ h. tt; shows = shown_named (BatchGet r) c; decides = λ p s d h. absurd h; gives = λ q x d e. absurd (cc) }

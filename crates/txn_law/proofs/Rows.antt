@@ -1,5 +1,5 @@
 -- Each row of the request table changes each cell by a step that its request may make.
-use Rattle.std.proofs.Common.{◌≡◌, ℕ, Bool, true, false, not, ◌&&◌, ◌||◌, List, [], ◌∷◌, Option, Some, None, nat_eq, refl, sym, subst, arith}
+use Rattle.std.proofs.Common.{◌≡◌, ℕ, Bool, true, false, not, ◌&&◌, ◌||◌, List, [], ◌∷◌, Option, Some, None, nat_eq, refl, sym, subst, arith, ◌<◌, ◌≤◌, inl, inr, nat_lt}
 use Rattle.std.specs.Prelude.{if◌then◌else◌, is_some}
 use Rattle.std.proofs.lemmas.Bool.Decides.{nat_tests}
 use Rattle.txn_kv.specs.declared.message.KeyError.{KeyError}
@@ -13,19 +13,25 @@ use Rattle.txn_kv.specs.declared.request.ScanLockRequest.{ScanLockRequest}
 use Rattle.txn_kv.specs.declared.request.CommitRequest.{CommitRequest}
 use Rattle.txn_kv.specs.declared.request.CleanupRequest.{CleanupRequest}
 use Rattle.txn_kv.specs.declared.request.BatchRollbackRequest.{BatchRollbackRequest}
+use Rattle.txn_kv.specs.declared.request.PessimisticLockRequest.{PessimisticLockRequest}
 use Rattle.txn_kv.specs.declared.request.PessimisticRollbackRequest.{PessimisticRollbackRequest}
 use Rattle.txn_kv.specs.declared.request.TxnHeartBeatRequest.{TxnHeartBeatRequest}
 use Rattle.txn_kv.specs.declared.request.CheckTxnStatusRequest.{CheckTxnStatusRequest}
 use Rattle.txn_kv.specs.declared.request.CheckSecondaryLocksRequest.{CheckSecondaryLocksRequest}
+use Rattle.txn_history.specs.Among.{IsAmong}
+use Rattle.txn_kv.specs.declared.message.Mutation.{Mutation}
+use Rattle.txn_kv.specs.declared.message.KeyError.TheVariants as errors
+use Rattle.std.specs.List.{filter_map, cons_option}
 use Rattle.txn_history.specs.Plan.{Key, Content, has_key}
 use Rattle.txn_model.specs.declared.cell.Cell.{Cell}
 use Rattle.txn_model.specs.declared.cell.Lock.{Lock}
 use Rattle.txn_model.specs.declared.cell.Write.{Write}
 use Rattle.txn_model.specs.Cells.{key_eq, cell_at, AreInOrder}
 use Rattle.txn_model.specs.Commit.{commit_by, first_commit_error, committed}
-use Rattle.txn_model.specs.Locks.{has_start, owns, holds, commit_of, or_earlier}
+use Rattle.txn_model.specs.Locks.{has_start, is_prewrite, owns, holds, commit_of, newest_commit, or_earlier, lock_info}
 use Rattle.txn_model.specs.Placement.{region_check}
-use Rattle.txn_model.specs.Prewrite.{prewrite_errors}
+use Rattle.txn_model.specs.Prewrite.{prewrite_errors, mutation_keys}
+use Rattle.txn_model.specs.PessimisticLock.{asserts_absence, value_for_update, newest_conflict, held_conflict, pessimistic_error, pessimistic_errors, raised_lock, locked_for_update, pessimistic_lock_by}
 use Rattle.txn_model.specs.Read.{get_by, batch_get_by, scan_by}
 use Rattle.txn_model.specs.Resolve.{scan_lock_by}
 use Rattle.txn_model.specs.Rollback.{batch_rollback_by, first_rollback_error, committed_error, cleanup_by, pessimistic_rollback_by, released_by, is_for_update_by}
@@ -37,10 +43,11 @@ use Rattle.txn_model.specs.Table.{table}
 use Rattle.txn_model.proofs.CellLists.{KeepsKeys}
 use Rattle.txn_model.proofs.Keys.{same_key}
 use Rattle.txn_law.specs.Run.{IsCovered}
-use Rattle.txn_law.proofs.Phases.{phase, IsSound}
+use Rattle.txn_law.specs.Sound.{IsTimely}
+use Rattle.txn_law.proofs.Phases.{phase, IsSound, IsClear}
 use Rattle.txn_law.proofs.Phases.Phase.{Locked}
 use Rattle.txn_law.proofs.Moves.{Names, CellStep, RowStep, row_same, row_changed, if_cell}
-use Rattle.txn_law.proofs.Moves.CellStep.{Same, Recorded, Made, Released, Renewed}
+use Rattle.txn_law.proofs.Moves.CellStep.{Same, Held, Recorded, Made, Released, Renewed}
 use Rattle.txn_law.proofs.Prewriting.{row_prewrite}
 use Rattle.txn_law.proofs.Settling.{commit_keeps, release_keeps, row_resolve}
 
@@ -249,26 +256,102 @@ row_heart_beat st r o (Some e) lock h = row_same st (TxnHeartBeat r) o
 row_heart_beat st r o None None h = row_same st (TxnHeartBeat r) o
 row_heart_beat st r o None (Some l) h = row_changed st (TxnHeartBeat r) (r.primary_lock ∷ []) (with_lock (longer_lived r.advise_lock_ttl l)) (lock_keeps (longer_lived r.advise_lock_ttl l)) o (λ k g i. Renewed l r.advise_lock_ttl (subst (λ q. (cell_at st.cells q).lock ≡ Some l) (sym (only_key r.primary_lock k g)) (lock_found r.start_version (cell_at st.cells r.primary_lock).lock l h)))
 
-pub row : (st : Store) (r : Request) → IsCovered r → AreInOrder st.cells → RowStep st r (table st r).store.cells
-row st (Get r) h o = row_get st r o (region_check st.regions r.context)
-row st (BatchGet r) h o = row_batch_get st r o (region_check st.regions r.context)
-row st (Scan r) h o = row_scan st r o (region_check st.regions r.context)
-row st (Prewrite r) h o = row_prewrite st r o (region_check st.regions r.context) (prewrite_errors st.cells r r.mutations r.is_pessimistic_lock) refl
-row st (Commit r) h o = row_commit st r o (region_check st.regions r.context) (first_commit_error st.cells r r.keys)
-row st (Cleanup r) h o = row_cleanup st r o (region_check st.regions r.context) (mismatched_lock r.key r.start_version (cell_at st.cells r.key).lock) (commit_of (cell_at st.cells r.key).commits r.start_version) refl refl
-row st (BatchRollback r) h o = row_batch_rollback st r o (region_check st.regions r.context) (first_rollback_error st.cells r.start_version r.keys) refl
-row st (PessimisticRollback r) h o = row_pessimistic_rollback st r o (region_check st.regions r.context)
-row st (PessimisticLock r) h o = absurd h
-row st (ResolveLock r) h o = row_resolve st r o (region_check st.regions r.context)
-row st (ScanLock r) h o = row_scan_lock st r o (region_check st.regions r.context)
-row st (TxnHeartBeat r) h o = row_heart_beat st r o (region_check st.regions r.context) (lock_of_start r.start_version (cell_at st.cells r.primary_lock).lock) refl
-row st (CheckTxnStatus r) h o = row_status st r o (region_check st.regions r.context) (finding r (cell_at st.cells r.primary_key)) (finds r (cell_at st.cells r.primary_key))
-row st (CheckSecondaryLocks r) h o = row_secondary st r o (region_check st.regions r.context)
-row st (UnsafeDestroyRange r) h o = absurd h
-row st (GetRegion r) h o = row_same st (GetRegion r) o
-row st (GetRegionById r) h o = row_same st (GetRegionById r) o
-row st (GetStore r) h o = row_same st (GetStore r) o
-row st (GetAllStores r) h o = row_same st (GetAllStores r) o
-row st (UpdateGcSafePoint r) h o = row_same st (UpdateGcSafePoint r) o
-row st (Tso r) h o = row_same st (Tso r) o
-row st (Members r) h o = row_same st (Members r) o
+-- PessimisticLock
+
+none_mapped : {X Y : Type 0} (f : X → Option Y) (xs : List X) (x : X) → filter_map f xs ≡ [] → IsAmong xs x → f x ≡ None
+none_mapped f [] x h a = absurd a
+none_mapped {X} {Y} f (y ∷ ys) x h a = by (λ g b. none_mapped f ys x g b) (f y) refl h
+  where
+    by : (filter_map f ys ≡ [] → IsAmong ys x → f x ≡ None) → (o : Option Y) → f y ≡ o → cons_option o (filter_map f ys) ≡ [] → f x ≡ None
+    by rest None e g = elim a [ inl q ↦ subst (λ z. f z ≡ None) q e | inr b ↦ rest g b ]
+    by rest (Some z) e g = absurd (cc)
+
+mutation_of_key : (ms : List Mutation) (k : Key) → has_key (mutation_keys ms) k ≡ true → (m : Mutation) × IsAmong ms m × (m.key ≡ k)
+mutation_of_key [] k h = absurd (cc)
+mutation_of_key (m ∷ ms) k h = by (λ g. mutation_of_key ms k g) (key_eq m.key k) refl h
+  where
+    by : (has_key (mutation_keys ms) k ≡ true → (n : Mutation) × IsAmong ms n × (n.key ≡ k)) → (b : Bool) → key_eq m.key k ≡ b → (b || has_key (mutation_keys ms) k) ≡ true → (n : Mutation) × IsAmong (m ∷ ms) n × (n.key ≡ k)
+    by rest true e g = (m, inl refl, same_key m.key k e)
+    by rest false e g = let w = rest g in (w.0, inr w.1, w.2)
+
+raised_kind : (r : PessimisticLockRequest) (o : Option Lock) → is_prewrite (raised_lock r o).kind ≡ false
+raised_kind r None = refl
+raised_kind r (Some l) = refl
+
+raised_start : (r : PessimisticLockRequest) (o : Option Lock) → (raised_lock r o).start ≡ r.start_version
+raised_start r None = refl
+raised_start r (Some l) = refl
+
+-- the newest commit is at most the for-update timestamp
+newest_low : (r : PessimisticLockRequest) (m : Mutation) (c : Cell) → newest_conflict r m c ≡ None → newest_commit c.commits ≤ r.for_update_ts
+newest_low r m c h = by (nat_lt r.for_update_ts (newest_commit c.commits)) refl h
+  where
+    by : (b : Bool) → nat_lt r.for_update_ts (newest_commit c.commits) ≡ b → (if b then Some (errors.WriteConflict m.key r.start_version (newest_commit c.commits)) else (if asserts_absence m.assertion && is_some (value_for_update r c) then Some (errors.AlreadyExist m.key) else None)) ≡ None → newest_commit c.commits ≤ r.for_update_ts
+    by true e g = absurd (cc)
+    by false e g = grind (arith, nat_tests)
+
+found_among : (ws : List Write) (s : ℕ) (w : Write) → commit_of ws s ≡ Some w → IsAmong ws w
+found_among [] s w h = absurd (cc)
+found_among (v ∷ ws) s w h = grind (arith, nat_tests, found_among ws s w)
+
+not_late : (r : PessimisticLockRequest) (c : Cell) → IsSound c → newest_commit c.commits ≤ r.for_update_ts → ((w : Write) → commit_of c.commits r.start_version ≡ Some w → r.for_update_ts < w.commit) → (o : Option Write) → commit_of c.commits r.start_version ≡ o → commit_of c.commits r.start_version ≡ None
+not_late r c i low timely None e = e
+not_late r c i low timely (Some w) e = absurd (let a = timely w e in let b = i.newest w (found_among c.commits r.start_version w e) in omega (arith, low, a, b))
+
+clear_cell : (r : PessimisticLockRequest) (m : Mutation) (c : Cell) → IsSound c → pessimistic_error r m c ≡ None → ((w : Write) → commit_of c.commits r.start_version ≡ Some w → r.for_update_ts < w.commit) → IsClear c r.start_version
+clear_cell r m c i h timely = by_rolled (has_start c.rolled r.start_version) refl h
+  where
+    clear : has_start c.rolled r.start_version ≡ false → newest_conflict r m c ≡ None → ((l : Lock) → c.lock ≡ Some l → (l.start ≡ r.start_version) × (is_prewrite l.kind ≡ false)) → IsClear c r.start_version
+    clear a g u = record { unrolled = a; uncommitted = not_late r c i (newest_low r m c g) timely (commit_of c.commits r.start_version) refl; unlocked = u }
+
+    by_own : has_start c.rolled r.start_version ≡ false → (l : Lock) → c.lock ≡ Some l → (x y : Bool) → nat_eq l.start r.start_version ≡ x → is_prewrite l.kind ≡ y → (if x then (if y then Some (errors.Abort m.key r.start_version 0) else newest_conflict r m c) else Some (errors.Locked (lock_info m.key l))) ≡ None → IsClear c r.start_version
+    by_own a l e true true f y g = absurd (cc)
+    by_own a l e true false f y g = clear a g (λ n d. let same : l ≡ n = cc in (subst (λ (q : Lock). q.start ≡ r.start_version) same (grind (arith, nat_tests)), subst (λ (q : Lock). is_prewrite q.kind ≡ false) same y))
+    by_own a l e false y f z g = absurd (cc)
+
+    by_lock : has_start c.rolled r.start_version ≡ false → (o : Option Lock) → c.lock ≡ o → held_conflict r m c o ≡ None → IsClear c r.start_version
+    by_lock a None e g = clear a g (λ n d. absurd (cc))
+    by_lock a (Some l) e g = by_own a l e (nat_eq l.start r.start_version) (is_prewrite l.kind) refl refl g
+
+    by_rolled : (b : Bool) → has_start c.rolled r.start_version ≡ b → (if b then Some (errors.Abort m.key r.start_version 0) else held_conflict r m c c.lock) ≡ None → IsClear c r.start_version
+    by_rolled true e g = absurd (cc)
+    by_rolled false e g = by_lock e c.lock refl g
+
+for_update_lock_keeps : (r : PessimisticLockRequest) → KeepsKeys (locked_for_update r)
+for_update_lock_keeps r c = refl
+
+row_pessimistic_lock : (st : Store) (r : PessimisticLockRequest) → IsTimely st (PessimisticLock r) → AreInOrder st.cells → (e : Option RegionErr) (es : List KeyError) → pessimistic_errors st.cells r ≡ es → RowStep st (PessimisticLock r) (pessimistic_lock_by e es st r).store.cells
+row_pessimistic_lock st r timely o (Some e) es h = row_same st (PessimisticLock r) o
+row_pessimistic_lock st r timely o None (x ∷ xs) h = row_same st (PessimisticLock r) o
+row_pessimistic_lock st r timely o None [] h = row_changed st (PessimisticLock r) (mutation_keys r.mutations) (locked_for_update r) (for_update_lock_keeps r) o (λ k a i. by k i (mutation_of_key r.mutations k a))
+  where
+    by : (k : Key) → IsSound (cell_at st.cells k) → (m : Mutation) × IsAmong r.mutations m × (m.key ≡ k) → CellStep (PessimisticLock r) k (cell_at st.cells k) (locked_for_update r (cell_at st.cells k))
+    by k i w =
+        let passed = none_mapped (λ (q : Mutation). pessimistic_error r q (cell_at st.cells q.key)) r.mutations w.0 h w.1 in
+        let here = subst (λ q. pessimistic_error r w.0 (cell_at st.cells q) ≡ None) w.2 passed in
+        let lock = raised_lock r (cell_at st.cells k).lock in
+        Held lock (raised_kind r (cell_at st.cells k).lock) (subst (IsClear (cell_at st.cells k)) (sym (raised_start r (cell_at st.cells k).lock)) (clear_cell r w.0 (cell_at st.cells k) i here (timely k)))
+
+pub row : (st : Store) (r : Request) → IsCovered r → IsTimely st r → AreInOrder st.cells → RowStep st r (table st r).store.cells
+row st (Get r) h t o = row_get st r o (region_check st.regions r.context)
+row st (BatchGet r) h t o = row_batch_get st r o (region_check st.regions r.context)
+row st (Scan r) h t o = row_scan st r o (region_check st.regions r.context)
+row st (Prewrite r) h t o = row_prewrite st r o (region_check st.regions r.context) (prewrite_errors st.cells r r.mutations r.is_pessimistic_lock) refl
+row st (Commit r) h t o = row_commit st r o (region_check st.regions r.context) (first_commit_error st.cells r r.keys)
+row st (Cleanup r) h t o = row_cleanup st r o (region_check st.regions r.context) (mismatched_lock r.key r.start_version (cell_at st.cells r.key).lock) (commit_of (cell_at st.cells r.key).commits r.start_version) refl refl
+row st (BatchRollback r) h t o = row_batch_rollback st r o (region_check st.regions r.context) (first_rollback_error st.cells r.start_version r.keys) refl
+row st (PessimisticRollback r) h t o = row_pessimistic_rollback st r o (region_check st.regions r.context)
+row st (PessimisticLock r) h t o = row_pessimistic_lock st r t o (region_check st.regions r.context) (pessimistic_errors st.cells r) refl
+row st (ResolveLock r) h t o = row_resolve st r o (region_check st.regions r.context)
+row st (ScanLock r) h t o = row_scan_lock st r o (region_check st.regions r.context)
+row st (TxnHeartBeat r) h t o = row_heart_beat st r o (region_check st.regions r.context) (lock_of_start r.start_version (cell_at st.cells r.primary_lock).lock) refl
+row st (CheckTxnStatus r) h t o = row_status st r o (region_check st.regions r.context) (finding r (cell_at st.cells r.primary_key)) (finds r (cell_at st.cells r.primary_key))
+row st (CheckSecondaryLocks r) h t o = row_secondary st r o (region_check st.regions r.context)
+row st (UnsafeDestroyRange r) h t o = absurd h
+row st (GetRegion r) h t o = row_same st (GetRegion r) o
+row st (GetRegionById r) h t o = row_same st (GetRegionById r) o
+row st (GetStore r) h t o = row_same st (GetStore r) o
+row st (GetAllStores r) h t o = row_same st (GetAllStores r) o
+row st (UpdateGcSafePoint r) h t o = row_same st (UpdateGcSafePoint r) o
+row st (Tso r) h t o = row_same st (Tso r) o
+row st (Members r) h t o = row_same st (Members r) o

@@ -21,6 +21,7 @@ use Rattle.txn_kv.specs.declared.request.CleanupRequest.{CleanupRequest}
 use Rattle.txn_kv.specs.declared.request.CommitRequest.{CommitRequest}
 use Rattle.txn_kv.specs.declared.request.CheckTxnStatusRequest.{CheckTxnStatusRequest}
 use Rattle.txn_kv.specs.declared.request.CheckSecondaryLocksRequest.{CheckSecondaryLocksRequest}
+use Rattle.txn_kv.specs.declared.request.PessimisticLockRequest.{PessimisticLockRequest}
 use Rattle.txn_kv.specs.declared.request.PessimisticRollbackRequest.{PessimisticRollbackRequest}
 use Rattle.txn_kv.specs.declared.request.PrewriteRequest.{PrewriteRequest}
 use Rattle.txn_kv.specs.declared.request.ResolveLockRequest.{ResolveLockRequest}
@@ -37,6 +38,7 @@ use Rattle.txn_model.specs.Locks.{has_start, is_prewrite, is_written, commit_of,
 use Rattle.txn_model.specs.Placement.{region_check}
 use Rattle.txn_model.specs.Prewrite.{prewrite_error, lock_conflict, conflict, first_flag, prewrite_errors, prewrite_by, wants_absent}
 use Rattle.txn_model.specs.Ranges.{in_range, cells_in}
+use Rattle.txn_model.specs.PessimisticLock.{asserts_absence, value_for_update, newest_conflict, held_conflict, pessimistic_error, pessimistic_errors, pessimistic_lock_by}
 use Rattle.txn_model.specs.Read.{lock_before, pair_of_value, pair_of, read_pair, told_value, get_by, batch_get_by, scanned_cells, without_value, scan_by}
 use Rattle.txn_model.specs.Resolve.{lock_until, locks_until, scan_lock_by, resolve_lock_by}
 use Rattle.txn_model.specs.Rollback.{batch_rollback_by, first_rollback_error, cleanup_by, pessimistic_rollback_by}
@@ -159,6 +161,39 @@ prewrite_shows (Some e) es st r l d h = absurd h.1
 prewrite_shows None [] st r l d h = absurd h.1
 prewrite_shows None (x ∷ xs) st r l d h = errors_show st.cells r r.mutations r.is_pessimistic_lock h.0 l (subst (λ o. IsAmong o h.0) (sym d) h.1) h.2
 
+-- PessimisticLock
+
+no_newest : (r : PessimisticLockRequest) (m : Mutation) (c : Cell) (l : LockInfo) → ErrorShows (newest_conflict r m c) l → ⊥
+no_newest r m c l h = by (nat_lt r.for_update_ts (newest_commit c.commits)) (asserts_absence m.assertion && is_some (value_for_update r c)) h
+  where
+    by : (a b : Bool) → ErrorShows (if a then Some (errors.WriteConflict m.key r.start_version (newest_commit c.commits)) else (if b then Some (errors.AlreadyExist m.key) else None)) l → ⊥
+    by true b g = g
+    by false true g = g
+    by false false g = g
+
+tried_shows : (cs : List Cell) (r : PessimisticLockRequest) (m : Mutation) (l : LockInfo) → ErrorShows (pessimistic_error r m (cell_at cs m.key)) l → Stood cs l
+tried_shows cs r m l h = by_rolled (has_start (cell_at cs m.key).rolled r.start_version) h
+  where
+    by_own : (n : Lock) → (cell_at cs m.key).lock ≡ Some n → (a b : Bool) → ErrorShows (if a then (if b then Some (errors.Abort m.key r.start_version 0) else newest_conflict r m (cell_at cs m.key)) else Some (errors.Locked (lock_info m.key n))) l → Stood cs l
+    by_own n e true true g = absurd g
+    by_own n e true false g = absurd (no_newest r m (cell_at cs m.key) l g)
+    by_own n e false b g = record { at = m.key; key = m.key; lock = n; here = e; shown = g }
+
+    by_lock : (o : Option Lock) → (cell_at cs m.key).lock ≡ o → ErrorShows (held_conflict r m (cell_at cs m.key) o) l → Stood cs l
+    by_lock None e g = absurd (no_newest r m (cell_at cs m.key) l g)
+    by_lock (Some n) e g = by_own n e (nat_eq n.start r.start_version) (is_prewrite n.kind) g
+
+    by_rolled : (b : Bool) → ErrorShows (if b then Some (errors.Abort m.key r.start_version 0) else held_conflict r m (cell_at cs m.key) (cell_at cs m.key).lock) l → Stood cs l
+    by_rolled true g = absurd g
+    by_rolled false g = by_lock (cell_at cs m.key).lock refl g
+
+pessimistic_lock_shows : (e : Option RegionErr) (es : List KeyError) (st : Store) (r : PessimisticLockRequest) (l : LockInfo) → pessimistic_errors st.cells r ≡ es → ShowsLock (pessimistic_lock_by e es st r).reply l → Stood st.cells l
+pessimistic_lock_shows (Some e) es st r l d h = absurd h.1
+pessimistic_lock_shows None [] st r l d h = absurd h.1
+pessimistic_lock_shows None (x ∷ xs) st r l d h =
+    let w = among_filter_map (λ (m : Mutation). pessimistic_error r m (cell_at st.cells m.key)) r.mutations h.0 (subst (λ o. IsAmong o h.0) (sym d) h.1) in
+    tried_shows st.cells r w.0 l (subst (λ o. ErrorShows o l) (sym w.2) h.2)
+
 -- the others
 
 commit_shows : (e : Option RegionErr) (x : Option KeyError) (st : Store) (r : CommitRequest) (l : LockInfo) → ShowsLock (commit_by e x st r).reply l → ⊥
@@ -253,7 +288,7 @@ shown_stood st (Commit r) c o l h = absurd (commit_shows (region_check st.region
 shown_stood st (Cleanup r) c o l h = cleanup_shows (region_check st.regions r.context) (mismatched_lock r.key r.start_version (cell_at st.cells r.key).lock) (commit_of (cell_at st.cells r.key).commits r.start_version) st r l refl h
 shown_stood st (BatchRollback r) c o l h = absurd (rollback_shows (region_check st.regions r.context) (first_rollback_error st.cells r.start_version r.keys) st r l h)
 shown_stood st (PessimisticRollback r) c o l h = absurd (release_shows (region_check st.regions r.context) st r l h)
-shown_stood st (PessimisticLock r) c o l h = absurd c
+shown_stood st (PessimisticLock r) c o l h = pessimistic_lock_shows (region_check st.regions r.context) (pessimistic_errors st.cells r) st r l refl h
 shown_stood st (ResolveLock r) c o l h = absurd (resolve_shows (region_check st.regions r.context) st r l h)
 shown_stood st (ScanLock r) c o l h = scan_lock_shows (region_check st.regions r.context) st r l o h
 shown_stood st (TxnHeartBeat r) c o l h = absurd (heart_beat_shows (region_check st.regions r.context) (lock_of_start r.start_version (cell_at st.cells r.primary_lock).lock) st r l h)

@@ -1,7 +1,7 @@
 -- A run: what happened may happen, and every request is licensed when it is sent.
 use Rattle.std.specs.Prelude.{◌≡◌, ℕ, List, [], ◌∷◌}
 use Rattle.txn_kv.specs.declared.request.Request.{Request}
-use Rattle.txn_kv.specs.declared.request.Request.TheVariants.{PessimisticLock, UnsafeDestroyRange}
+use Rattle.txn_kv.specs.declared.request.Request.TheVariants.{UnsafeDestroyRange}
 use Rattle.txn_kv.specs.declared.ticket.Ticket.{Ticket}
 use Rattle.txn_history.specs.Event.{Event, Has}
 use Rattle.txn_history.specs.Event.Event.{Sent, Served, Took}
@@ -28,10 +28,8 @@ IsPossible es (Sent t r) = IsUnused es t
 IsPossible es (Served t r o) = Has es (Sent t r) × (o ≡ (table (store_after es) r).reply)
 IsPossible es (Took t r o) = Has es (Served t r o)
 
--- The requests of optimistic transactions, of reads, of resolvers and of the placement driver: no pessimistic lock is set,
--- and no range is destroyed.
+-- every request but the one that destroys a range
 abbrev pub IsCovered : Request → Type 0
-IsCovered (PessimisticLock r) = ⊥
 IsCovered (UnsafeDestroyRange r) = ⊥
 IsCovered _ = Unit {0}
 
