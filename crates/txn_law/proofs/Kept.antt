@@ -139,7 +139,7 @@ module _ (plans : ℕ → Plan) (es : List Event) (i : Inv plans es) where
       omega (arith, d, e)
 
   -- a commit timestamp that may be sent now is above its start
-  licence_above : (s c : ℕ) → PrimaryCommitLicence (plans s) es s c → IsAbove (plans s) es s c
+  pub licence_above : (s c : ℕ) → PrimaryCommitLicence (plans s) es s c → IsAbove (plans s) es s c
   licence_above s c l = let a = l.asked in i.times s a.0 a.3 a.1 a.2 c (i.taken a.0 (Tso a.1) (reply.Tso a.2) a.4) a.5
 
   given_above : (s c : ℕ) → PrimaryCommitLicence (plans s) es s c → 0 < c
@@ -211,7 +211,7 @@ module _ (plans : ℕ → Plan) (es : List Event) (i : Inv plans es) where
   warrant_new n _ l k t b _ h g = absurd h
 
   -- a commit of the primary that goes out now
-  primary_licence : (r : CommitRequest) → CommitLicence (plans r.start_version) es r → (s c : ℕ) → r.start_version ≡ s → r.commit_version ≡ c → has_key r.keys (plans s).primary ≡ true → PrimaryCommitLicence (plans s) es s c
+  pub primary_licence : (r : CommitRequest) → CommitLicence (plans r.start_version) es r → (s c : ℕ) → r.start_version ≡ s → r.commit_version ≡ c → has_key r.keys (plans s).primary ≡ true → PrimaryCommitLicence (plans s) es s c
   primary_licence r l s c e f h = subst₂ (λ u v. PrimaryCommitLicence (plans u) es u v) e f (elim (l (plans r.start_version).primary (subst (λ u. has_key r.keys (plans u).primary ≡ true) (sym e) h)) [ inl a ↦ a.1 | inr a ↦ absurd (a.0 refl) ])
 
   coherent_next : (e : Event) (s : ℕ) → Coherent (plans s) (NamedBy (plans s) (e ∷ es) s) (phases (store_after es) s)
@@ -226,7 +226,7 @@ module _ (plans : ℕ → Plan) (es : List Event) (i : Inv plans es) where
     | inr v ↦ elim g.2 [ inl w ↦ absurd (f g.0 (Commit g.1) w) | inr u ↦ i.one s c d (h.0, h.1, v, h.3, h.4, h.5) (g.0, g.1, u, g.3, g.4, g.5) ]
   ]
 
-  licence_of : (r : Request) (q : CommitRequest) → IsLicensed plans es r → r ≡ Commit q → CommitLicence (plans q.start_version) es q
+  pub licence_of : (r : Request) (q : CommitRequest) → IsLicensed plans es r → r ≡ Commit q → CommitLicence (plans q.start_version) es q
   licence_of r q l e = subst (IsLicensed plans es) e l
 
   one_sent : (n : Ticket) (r : Request) → IsLicensed plans es r → (s c d : ℕ) → WasNamed (plans s) (Sent n r ∷ es) s c → WasNamed (plans s) (Sent n r ∷ es) s d → c ≡ d

@@ -10,3 +10,5 @@ pub mod Replies
 pub mod Kept
 pub mod Wholes
 pub mod OneRequest
+pub mod Reading
+pub mod Answered

@@ -93,14 +93,14 @@ batch_get_shows None st r l h =
     let w = among_filter_map (λ (k : Key). read_pair r.version (cell_at st.cells k)) r.keys h.0 h.1 in
     pair_stood st.cells w.0 r.version h.0 l w.2 h.2
 
-among_scanned : (r : ScanRequest) (cs : List Cell) (c : Cell) → IsAmong (scanned_cells r cs) c → IsAmong cs c
+pub among_scanned : (r : ScanRequest) (cs : List Cell) (c : Cell) → IsAmong (scanned_cells r cs) c → IsAmong cs c
 among_scanned r cs c h = by r.reverse h
   where
     by : (b : Bool) → IsAmong (if b then reverse (cells_in r.end_key r.start_key cs) else cells_in r.start_key r.end_key cs) c → IsAmong cs c
     by true g = among_filter (λ (d : Cell). in_range r.end_key r.start_key d.key) cs c (among_reverse (cells_in r.end_key r.start_key cs) c g)
     by false g = among_filter (λ (d : Cell). in_range r.start_key r.end_key d.key) cs c g
 
-error_stays : (b : Bool) (p : PbPair) → (if b then without_value p else p).error ≡ p.error
+pub error_stays : (b : Bool) (p : PbPair) → (if b then without_value p else p).error ≡ p.error
 error_stays true p = refl
 error_stays false p = refl
 

@@ -1,3 +1,4 @@
+pub mod Reads
 pub mod Run
 pub mod Sound
 pub mod Whole

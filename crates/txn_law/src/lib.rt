@@ -1,8 +1,10 @@
 //! What is true of every run: theorems over definitions alone.
 #![tactic(auto)]
 
+mod reads;
 mod request;
 mod whole;
 
+pub use reads::reads_repeat;
 pub use request::one_request;
 pub use whole::whole_or_nothing;
