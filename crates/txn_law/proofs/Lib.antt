@@ -12,3 +12,5 @@ pub mod Wholes
 pub mod OneRequest
 pub mod Reading
 pub mod Answered
+pub mod Tickets
+pub mod SampleRun

@@ -1,4 +1,5 @@
 pub mod Reads
 pub mod Run
+pub mod Sample
 pub mod Sound
 pub mod Whole

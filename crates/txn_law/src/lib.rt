@@ -3,8 +3,10 @@
 
 mod reads;
 mod request;
+mod sample;
 mod whole;
 
 pub use reads::reads_repeat;
 pub use request::one_request;
+pub use sample::sample_run;
 pub use whole::whole_or_nothing;

@@ -1,0 +1,85 @@
+-- From what was sent, kept and taken under a ticket to the events of the run.
+use Rattle.std.proofs.Common.{◌≡◌, ℕ, inl, inr, Bool, true, false, ◌&&◌, List, [], ◌∷◌, Some, None, nat_eq, refl, subst, arith}
+use Rattle.std.specs.Prelude.{if◌then◌else◌}
+use Rattle.std.proofs.lemmas.Bool.Decides.{nat_tests}
+use Rattle.txn_kv.specs.declared.ticket.Ticket.{Ticket}
+use Rattle.txn_kv.specs.declared.request.Request.{Request}
+use Rattle.txn_kv.specs.declared.reply.Reply.{Reply}
+use Rattle.txn_history.specs.Event.{Event, Has, bool_eq, same_ticket, sent_request, kept_reply, taken_reply}
+use Rattle.txn_history.specs.Event.Event.{Sent, Served, Took}
+use Rattle.txn_law.specs.Run.{IsUnused}
+
+same_bool : (x y : Bool) → bool_eq x y ≡ true → x ≡ y
+same_bool true true h = refl
+same_bool true false h = absurd (cc)
+same_bool false true h = absurd (cc)
+same_bool false false h = refl
+
+both : (x y z : Bool) → (x && y && z) ≡ true → (x ≡ true) × (y ≡ true) × (z ≡ true)
+both true true true h = (refl, refl, refl)
+both true true false h = absurd (cc)
+both true false z h = absurd (cc)
+both false y z h = absurd (cc)
+
+same_number : (m n : ℕ) → nat_eq m n ≡ true → m ≡ n
+same_number m n h = grind (arith, nat_tests)
+
+pub ticket_is : (u t : Ticket) → same_ticket u t ≡ true → u ≡ t
+ticket_is u t h =
+    let w = both (nat_eq u.line t.line) (bool_eq u.beat t.beat) (nat_eq u.number t.number) h in
+    let x = same_number u.line t.line w.0 in
+    let y = same_bool u.beat t.beat w.1 in
+    let z = same_number u.number t.number w.2 in
+    λ i. record { line = x i; beat = y i; number = z i }
+
+pub ticket_itself : (t : Ticket) → same_ticket t t ≡ true
+ticket_itself t = by t.beat
+  where
+    by : (x : Bool) → (nat_eq t.line t.line && bool_eq x x && nat_eq t.number t.number) ≡ true
+    by true = grind (arith, nat_tests)
+    by false = grind (arith, nat_tests)
+
+sent_ticket : (u t : Ticket) (q r : Request) → Sent u q ≡ Sent t r → u ≡ t
+sent_ticket u t q r e = cc
+
+-- a ticket under which nothing was sent is unused
+pub unused : (es : List Event) (t : Ticket) → sent_request es t ≡ None → IsUnused es t
+unused [] t h r g = g
+unused (Sent u q ∷ es) t h r g = by (same_ticket u t) refl h (λ f. unused es t f r)
+  where
+    by : (x : Bool) → same_ticket u t ≡ x → (if x then Some q else sent_request es t) ≡ None → (sent_request es t ≡ None → Has es (Sent t r) → ⊥) → ⊥
+    by true e f rest = absurd (cc)
+    by false e f rest = elim g [ inl w ↦ absurd (let z : same_ticket u t ≡ true = subst (λ v. same_ticket u v ≡ true) (sent_ticket u t q r w) (ticket_itself u) in cc) | inr v ↦ rest f v ]
+unused (Served u q o ∷ es) t h r g = elim g [ inl w ↦ absurd (cc) | inr v ↦ unused es t h r v ]
+unused (Took u q o ∷ es) t h r g = elim g [ inl w ↦ absurd (cc) | inr v ↦ unused es t h r v ]
+
+-- what was sent under a ticket stands among the events
+pub was_sent : (es : List Event) (t : Ticket) (r : Request) → sent_request es t ≡ Some r → Has es (Sent t r)
+was_sent [] t r h = absurd (cc)
+was_sent (Sent u q ∷ es) t r h = by (same_ticket u t) refl h (was_sent es t r)
+  where
+    by : (x : Bool) → same_ticket u t ≡ x → (if x then Some q else sent_request es t) ≡ Some r → (sent_request es t ≡ Some r → Has es (Sent t r)) → Has (Sent u q ∷ es) (Sent t r)
+    by true e f rest = inl (let same = ticket_is u t e in let also : q ≡ r = cc in λ i. Sent (same i) (also i))
+    by false e f rest = inr (rest f)
+was_sent (Served u q o ∷ es) t r h = inr (was_sent es t r h)
+was_sent (Took u q o ∷ es) t r h = inr (was_sent es t r h)
+
+pub was_served : (es : List Event) (t : Ticket) (o : Reply) → kept_reply es t ≡ Some o → (r : Request) × Has es (Served t r o)
+was_served [] t o h = absurd (cc)
+was_served (Sent u q ∷ es) t o h = let w = was_served es t o h in (w.0, inr w.1)
+was_served (Served u q p ∷ es) t o h = by (same_ticket u t) refl h (was_served es t o)
+  where
+    by : (x : Bool) → same_ticket u t ≡ x → (if x then Some p else kept_reply es t) ≡ Some o → (kept_reply es t ≡ Some o → (r : Request) × Has es (Served t r o)) → (r : Request) × Has (Served u q p ∷ es) (Served t r o)
+    by true e f rest = (q, inl (let same = ticket_is u t e in let also : p ≡ o = cc in λ i. Served (same i) q (also i)))
+    by false e f rest = let w = rest f in (w.0, inr w.1)
+was_served (Took u q p ∷ es) t o h = let w = was_served es t o h in (w.0, inr w.1)
+
+pub was_taken : (es : List Event) (t : Ticket) (o : Reply) → taken_reply es t ≡ Some o → (r : Request) × Has es (Took t r o)
+was_taken [] t o h = absurd (cc)
+was_taken (Sent u q ∷ es) t o h = let w = was_taken es t o h in (w.0, inr w.1)
+was_taken (Served u q p ∷ es) t o h = let w = was_taken es t o h in (w.0, inr w.1)
+was_taken (Took u q p ∷ es) t o h = by (same_ticket u t) refl h (was_taken es t o)
+  where
+    by : (x : Bool) → same_ticket u t ≡ x → (if x then Some p else taken_reply es t) ≡ Some o → (taken_reply es t ≡ Some o → (r : Request) × Has es (Took t r o)) → (r : Request) × Has (Took u q p ∷ es) (Took t r o)
+    by true e f rest = (q, inl (let same = ticket_is u t e in let also : p ≡ o = cc in λ i. Took (same i) q (also i)))
+    by false e f rest = let w = rest f in (w.0, inr w.1)

@@ -1,0 +1,183 @@
+-- A run of one transaction that commits two keys: its second commit comes late, after a reader found the lock, asked
+-- about the primary, and resolved it.
+use Rattle.std.specs.Prelude.{ℕ, false, pos, List, [], ◌∷◌, Option, Some, None, if◌then◌else◌}
+use Rattle.txn_kv.specs.declared.message.ApiVersion.TheVariants.{V1}
+use Rattle.txn_kv.specs.declared.message.Assertion.TheVariants.{None as NoAssertion}
+use Rattle.txn_kv.specs.declared.message.Context.{Context}
+use Rattle.txn_kv.specs.declared.message.KeyError.TheVariants as errors
+use Rattle.txn_kv.specs.declared.message.LockInfo.{LockInfo}
+use Rattle.txn_kv.specs.declared.message.Mutation.{Mutation}
+use Rattle.txn_kv.specs.declared.message.Op.TheVariants.{Put}
+use Rattle.txn_kv.specs.declared.request.Request.{Request}
+use Rattle.txn_kv.specs.declared.request.Request.TheVariants.{Get, Prewrite, Commit, Cleanup, ResolveLock, Tso}
+use Rattle.txn_kv.specs.declared.reply.Reply.{Reply}
+use Rattle.txn_kv.specs.declared.reply.Reply.TheVariants as reply
+use Rattle.txn_kv.specs.declared.ticket.Ticket.{Ticket}
+use Rattle.txn_history.specs.Event.{Event}
+use Rattle.txn_history.specs.Event.Event.{Sent, Served, Took}
+use Rattle.txn_history.specs.Plan.{Key, key_eq, Content, Plan}
+
+abbrev pub first_key : Key
+first_key = 97 ∷ []
+
+abbrev pub second_key : Key
+second_key = 98 ∷ []
+
+abbrev pub put_of : List ℕ → Content
+put_of v = record { op = Put; value = v }
+
+-- what the transaction means to write
+abbrev pub sample_plans : ℕ → Plan
+sample_plans s = record { primary = first_key; writes = λ k. if key_eq first_key k then Some (put_of (7 ∷ [])) else (if key_eq second_key k then Some (put_of (8 ∷ [])) else None) }
+
+abbrev pub here : Option Context
+here = Some (record { region_id = 1; region_epoch = Some (record { conf_ver = 1; version = 1 }); peer = Some (record { id = 1; store_id = 1 }); api_version = V1 })
+
+abbrev pub put : Key → List ℕ → Mutation
+put k v = record { op = Put; key = k; value = v; assertion = NoAssertion }
+
+abbrev pub second_lock : LockInfo
+second_lock = record { key = second_key; primary_lock = first_key; lock_version = 1; lock_ttl = 3000; lock_type = Put; lock_for_update_ts = 0; use_async_commit = false; min_commit_ts = 0; secondaries = [] }
+
+abbrev pub ticket : ℕ → Ticket
+ticket n = record { line = n; beat = false; number = 1 }
+
+abbrev pub tso : Request
+tso = Tso (record { count = 1 })
+
+abbrev pub prewrite : Request
+prewrite = Prewrite (record { context = here; mutations = put first_key (7 ∷ []) ∷ put second_key (8 ∷ []) ∷ []; primary_lock = first_key; start_version = 1; lock_ttl = 3000; txn_size = 2; for_update_ts = 0; is_pessimistic_lock = []; use_async_commit = false; try_one_pc = false; secondaries = [] })
+
+abbrev pub commit_first : Request
+commit_first = Commit (record { context = here; keys = first_key ∷ []; start_version = 1; commit_version = 2 })
+
+abbrev pub commit_second : Request
+commit_second = Commit (record { context = here; keys = second_key ∷ []; start_version = 1; commit_version = 2 })
+
+abbrev pub get_second : Request
+get_second = Get (record { context = here; key = second_key; version = 3 })
+
+abbrev pub cleanup_first : Request
+cleanup_first = Cleanup (record { context = here; key = first_key; start_version = 1 })
+
+abbrev pub resolve : Request
+resolve = ResolveLock (record { context = here; start_version = 1; commit_version = 2; txn_infos = [] })
+
+abbrev pub gave_1 : Reply
+gave_1 = reply.Tso (record { count = 1; timestamp = Some (record { physical = pos 0; logical = pos 1; suffix_bits = 0 }) })
+
+abbrev pub gave_2 : Reply
+gave_2 = reply.Tso (record { count = 1; timestamp = Some (record { physical = pos 0; logical = pos 2; suffix_bits = 0 }) })
+
+abbrev pub gave_3 : Reply
+gave_3 = reply.Tso (record { count = 1; timestamp = Some (record { physical = pos 0; logical = pos 3; suffix_bits = 0 }) })
+
+abbrev pub prewritten : Reply
+prewritten = reply.Prewrite (record { region_error = None; errors = []; min_commit_ts = 0; one_pc_commit_ts = 0 })
+
+abbrev pub committed : Reply
+committed = reply.Commit (record { region_error = None; error = None; commit_version = 2 })
+
+abbrev pub locked : Reply
+locked = reply.Get (record { region_error = None; error = Some (errors.Locked second_lock); value = []; not_found = false })
+
+abbrev pub found : Reply
+found = reply.Get (record { region_error = None; error = None; value = 8 ∷ []; not_found = false })
+
+abbrev pub decided : Reply
+decided = reply.Cleanup (record { region_error = None; error = None; commit_version = 2 })
+
+abbrev pub resolved : Reply
+resolved = reply.ResolveLock (record { region_error = None; error = None })
+
+-- the run after each of its events, the newest first
+
+abbrev pub after_1 : List Event
+after_1 = Sent (ticket 1) tso ∷ []
+
+abbrev pub after_2 : List Event
+after_2 = Served (ticket 1) tso gave_1 ∷ after_1
+
+abbrev pub after_3 : List Event
+after_3 = Took (ticket 1) tso gave_1 ∷ after_2
+
+abbrev pub after_4 : List Event
+after_4 = Sent (ticket 2) prewrite ∷ after_3
+
+abbrev pub after_5 : List Event
+after_5 = Served (ticket 2) prewrite prewritten ∷ after_4
+
+abbrev pub after_6 : List Event
+after_6 = Took (ticket 2) prewrite prewritten ∷ after_5
+
+abbrev pub after_7 : List Event
+after_7 = Sent (ticket 3) tso ∷ after_6
+
+abbrev pub after_8 : List Event
+after_8 = Served (ticket 3) tso gave_2 ∷ after_7
+
+abbrev pub after_9 : List Event
+after_9 = Took (ticket 3) tso gave_2 ∷ after_8
+
+abbrev pub after_10 : List Event
+after_10 = Sent (ticket 4) commit_first ∷ after_9
+
+abbrev pub after_11 : List Event
+after_11 = Served (ticket 4) commit_first committed ∷ after_10
+
+abbrev pub after_12 : List Event
+after_12 = Took (ticket 4) commit_first committed ∷ after_11
+
+abbrev pub after_13 : List Event
+after_13 = Sent (ticket 5) commit_second ∷ after_12
+
+abbrev pub after_14 : List Event
+after_14 = Sent (ticket 6) tso ∷ after_13
+
+abbrev pub after_15 : List Event
+after_15 = Served (ticket 6) tso gave_3 ∷ after_14
+
+abbrev pub after_16 : List Event
+after_16 = Took (ticket 6) tso gave_3 ∷ after_15
+
+abbrev pub after_17 : List Event
+after_17 = Sent (ticket 7) get_second ∷ after_16
+
+abbrev pub after_18 : List Event
+after_18 = Served (ticket 7) get_second locked ∷ after_17
+
+abbrev pub after_19 : List Event
+after_19 = Took (ticket 7) get_second locked ∷ after_18
+
+abbrev pub after_20 : List Event
+after_20 = Sent (ticket 8) cleanup_first ∷ after_19
+
+abbrev pub after_21 : List Event
+after_21 = Served (ticket 8) cleanup_first decided ∷ after_20
+
+abbrev pub after_22 : List Event
+after_22 = Took (ticket 8) cleanup_first decided ∷ after_21
+
+abbrev pub after_23 : List Event
+after_23 = Sent (ticket 9) resolve ∷ after_22
+
+abbrev pub after_24 : List Event
+after_24 = Served (ticket 9) resolve resolved ∷ after_23
+
+abbrev pub after_25 : List Event
+after_25 = Took (ticket 9) resolve resolved ∷ after_24
+
+abbrev pub after_26 : List Event
+after_26 = Sent (ticket 10) get_second ∷ after_25
+
+abbrev pub after_27 : List Event
+after_27 = Served (ticket 10) get_second found ∷ after_26
+
+abbrev pub after_28 : List Event
+after_28 = Took (ticket 10) get_second found ∷ after_27
+
+abbrev pub after_29 : List Event
+after_29 = Served (ticket 5) commit_second committed ∷ after_28
+
+abbrev pub sample : List Event
+sample = after_29
