@@ -75,7 +75,7 @@ last_with w (v ∷ vs) t h = by (last_with w vs t h) (all_above w.commit (v ∷ 
 abbrev pub Seen : Request → Key → ℕ → Cell → Cell → Type 0
 Seen r k t c d = (value_at d.commits t ≡ value_at c.commits t) ⊎ ((s n : ℕ) × (p : Key) × (x : Content) × May r k s (Locked p x) (Commits n) × (phase c s ≡ Locked p x) × (is_written_op x.op ≡ true) × (n ≤ t))
 
-own_phase : (s : ℕ) (c : Cell) (l : Lock) → IsSound c → c.lock ≡ Some l → nat_eq l.start s ≡ true → is_prewrite l.kind ≡ true → phase c s ≡ Locked l.primary (content l.kind l.value)
+pub own_phase : (s : ℕ) (c : Cell) (l : Lock) → IsSound c → c.lock ≡ Some l → nat_eq l.start s ≡ true → is_prewrite l.kind ≡ true → phase c s ≡ Locked l.primary (content l.kind l.value)
 own_phase s c l i e h k = grind (arith, nat_tests, i.lock s)
 
 written_prewrites : (kind : Kind) → is_written kind ≡ true → is_prewrite kind ≡ true
@@ -118,7 +118,7 @@ seen_after r k t c d i (Released s) = inl (by (owns c.lock s))
     by : (b : Bool) → value_at (if b then c else unlocked s c).commits t ≡ value_at c.commits t
     by true = refl
     by false = refl
-seen_after r k t c d i (Held l e a) = inl refl
+seen_after r k t c d i (Held l e a b) = inl refl
 seen_after r k t c d i (Renewed l n e) = inl refl
 
 -- a lock that is there was there, or came where nothing was
@@ -148,11 +148,12 @@ read_given plans es (BatchGet r) (reply.BatchGet o) k t l h = subst (WasGiven es
 read_given plans es (Scan r) (reply.Scan o) k t l h = subst (WasGiven es) h.0 l
 read_given plans es _ _ k t l h = absurd h
 
-module _ (plans : ℕ → Plan) (es : List Event) (i : Inv plans es) (j : Reading plans es) where
+module _ (plans : ℕ → Plan) (es : List Event) (i : Inv plans es) where
   -- a warranted commit has been named
-  warrant_named : (n : Ticket) (r : Request) → Has es (Sent n r) → (k : Key) (s c : ℕ) (p : Key) (x : Content) → phases (store_after es) s k ≡ Locked p x → May r k s (Locked p x) (Commits c) → WasNamed (plans s) es s c
+  pub warrant_named : (n : Ticket) (r : Request) → Has es (Sent n r) → (k : Key) (s c : ℕ) (p : Key) (x : Content) → phases (store_after es) s k ≡ Locked p x → May r k s (Locked p x) (Commits c) → WasNamed (plans s) es s c
   warrant_named n r h k s c p x o m = elim ((i.warranted n r h).1 k s (Locked p x) (Commits c) m (λ q y e. ((i.coherent s).locked k q y (o ∙ e)).0)) [ inl a ↦ a.2.0 | inr d ↦ ((i.coherent s).named c d).0 ]
 
+module _ (plans : ℕ → Plan) (es : List Event) (i : Inv plans es) (j : Reading plans es) where
   later_sent : (n : Ticket) (r : Request) → IsUnused es n → IsLicensed plans es r → (s t : ℕ) → Later (plans s) es s t → Later (plans s) (Sent n r ∷ es) s t
   later_sent n r f l s t o = (
     (λ c d. elim d.2 [
@@ -189,7 +190,7 @@ module _ (plans : ℕ → Plan) (es : List Event) (i : Inv plans es) (j : Readin
   value_stays : (n : Ticket) (r : Request) → Has es (Sent n r) → (m : Ticket) (q : Request) (o : Reply) → Has es (Served m q o) → (k : Key) (t : ℕ) → Reads q o k t → value_at (cell_at (table (store_after es) r).store.cells k).commits t ≡ value_at (cell_at (store_after es).cells k).commits t
   value_stays n r h m q o u k t d = elim (seen_after r k t (cell_at (store_after es).cells k) (cell_at (table (store_after es) r).store.cells k) (i.sound k) ((row (store_after es) r (i.warranted n r h).0 (timely plans es i n r h) i.in_order).step k (i.sound k))) [
     | inl e ↦ e
-    | inr w ↦ (let c = warrant_named n r h k w.0 w.1 w.2 w.3 w.5 w.4 in let low = w.7 in absurd (elim (j.later m q o u k t d w.0 w.2 w.3 w.5 w.6) [ inl y ↦ (let a = (i.named w.0 w.1 c).1.0 in omega (arith, a, y, low)) | inr z ↦ (let a = z.0 w.1 c in omega (arith, a, low)) ]))
+    | inr w ↦ (let c = warrant_named plans es i n r h k w.0 w.1 w.2 w.3 w.5 w.4 in let low = w.7 in absurd (elim (j.later m q o u k t d w.0 w.2 w.3 w.5 w.6) [ inl y ↦ (let a = (i.named w.0 w.1 c).1.0 in omega (arith, a, y, low)) | inr z ↦ (let a = z.0 w.1 c in omega (arith, a, low)) ]))
   ]
 
   rises : (n : Ticket) (r : Request) (o : Reply) → o ≡ (table (store_after es) r).reply → (u : Ticket) (q : TsoRequest) (p : TsoResponse) (c : ℕ) → Served n r o ≡ Served u (Tso q) (reply.Tso p) → GivesTimestamp p c → (store_after es).last < c

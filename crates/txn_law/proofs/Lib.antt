@@ -14,3 +14,4 @@ pub mod Reading
 pub mod Answered
 pub mod Tickets
 pub mod SampleRun
+pub mod Apart

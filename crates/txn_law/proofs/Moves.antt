@@ -1,17 +1,18 @@
 -- What a request may do to the phase of a start at a key, and what it does to a cell.
-use Rattle.std.proofs.Common.{◌≡◌, ◌≢◌, ℕ, ◌⊎◌, inl, inr, Bool, true, false, List, Some, None, refl, sym, subst}
+use Rattle.txn_kv.specs.declared.request.PessimisticLockRequest.{PessimisticLockRequest}
+use Rattle.std.proofs.Common.{◌≡◌, ◌≢◌, ℕ, ◌⊎◌, inl, inr, Bool, true, false, List, Some, None, refl, sym, subst, ◌≤◌}
 use Rattle.std.specs.Prelude.{if◌then◌else◌}
 use Rattle.txn_kv.specs.declared.message.Mutation.{Mutation}
 use Rattle.txn_kv.specs.declared.message.TxnInfo.{TxnInfo}
 use Rattle.txn_kv.specs.declared.request.Request.{Request}
-use Rattle.txn_kv.specs.declared.request.Request.TheVariants.{Prewrite, Commit, Cleanup, BatchRollback, ResolveLock, CheckTxnStatus, CheckSecondaryLocks}
+use Rattle.txn_kv.specs.declared.request.Request.TheVariants.{Prewrite, Commit, Cleanup, BatchRollback, ResolveLock, CheckTxnStatus, CheckSecondaryLocks, PessimisticLock}
 use Rattle.txn_history.specs.Among.{IsAmong}
 use Rattle.txn_history.specs.Plan.{Key, Content, has_key, content_of}
 use Rattle.txn_model.specs.declared.cell.Cell.{Cell}
 use Rattle.txn_model.specs.declared.cell.Lock.{Lock}
 use Rattle.txn_model.specs.Cells.{cell_at, changed_at, AreInOrder}
 use Rattle.txn_model.specs.Commit.{committed}
-use Rattle.txn_model.specs.Locks.{is_prewrite, commit_of}
+use Rattle.txn_model.specs.Locks.{is_prewrite, commit_of, newest_commit}
 use Rattle.txn_model.specs.Resolve.{infos}
 use Rattle.txn_model.specs.Settle.{rolled_back, released}
 use Rattle.txn_model.specs.Status.{longer_lived, with_lock}
@@ -38,6 +39,10 @@ May (ResolveLock r) k t before (Commits n) = (i : TxnInfo) × IsAmong (infos r) 
 May (ResolveLock r) k t before Rolls = (i : TxnInfo) × IsAmong (infos r) i × (i.txn ≡ t) × (i.status ≡ 0)
 May _ k t before m = ⊥
 
+-- a request may set a pessimistic lock of the start where the newest commit is n
+abbrev pub MayHold : Request → ℕ → ℕ → Type 0
+MayHold r s n = (q : PessimisticLockRequest) × (r ≡ PessimisticLock q) × (q.start_version ≡ s) × (n ≤ q.for_update_ts)
+
 -- the phase stays, or goes by a move that the request may make
 abbrev pub Outcome : Request → Key → ℕ → Phase → Phase → Type 0
 Outcome r k t before after = (after ≡ before) ⊎ ((m : Move) × May r k t before m × Goes before m after)
@@ -50,7 +55,7 @@ pub data CellStep (r : Request) (k : Key) (c : Cell) : Cell → Type 0 where
   Recorded : (s : ℕ) → commit_of c.commits s ≡ None → May r k s (phase c s) Rolls → CellStep r k c (rolled_back s c)
   Made : (s n : ℕ) → May r k s (phase c s) (Commits n) → CellStep r k c (committed s n c)
   Released : (s : ℕ) → CellStep r k c (released s c)
-  Held : (l : Lock) → is_prewrite l.kind ≡ false → IsClear c l.start → CellStep r k c (held l c)
+  Held : (l : Lock) → is_prewrite l.kind ≡ false → IsClear c l.start → MayHold r l.start (newest_commit c.commits) → CellStep r k c (held l c)
   Renewed : (l : Lock) (ttl : ℕ) → c.lock ≡ Some l → CellStep r k c (with_lock (longer_lived ttl l) c)
 
 at_start : (r : Request) (k : Key) (c : Cell) (t s : ℕ) (m : Move) → t ≡ s → May r k s (phase c s) m → May r k t (phase c t) m
@@ -62,7 +67,7 @@ outcome r k t c d i (Places l e a w) = elim (phase_placed l c t e a) [ inl h ↦
 outcome r k t c d i (Recorded s a w) = elim (phase_rolled s c t a) [ inl h ↦ inl h | inr h ↦ inr (Rolls, at_start r k c t s Rolls h.0 w, h.1) ]
 outcome r k t c d i (Made s n w) = elim (phase_committed s n c t i) [ inl h ↦ inl h | inr h ↦ inr (Commits n, at_start r k c t s (Commits n) h.0 w, h.1) ]
 outcome r k t c d i (Released s) = inl (phase_released s c t)
-outcome r k t c d i (Held l e a) = inl (phase_held l c t e a)
+outcome r k t c d i (Held l e a b) = inl (phase_held l c t e a)
 outcome r k t c d i (Renewed l n e) = inl (phase_renewed l n c t e)
 
 pub sound_after : (r : Request) (k : Key) (c d : Cell) → IsSound c → CellStep r k c d → IsSound d
@@ -71,7 +76,7 @@ sound_after r k c d i (Places l e a w) = sound_placed l c a i
 sound_after r k c d i (Recorded s a w) = sound_rolled s c a i
 sound_after r k c d i (Made s n w) = sound_committed s n c i
 sound_after r k c d i (Released s) = sound_released s c i
-sound_after r k c d i (Held l e a) = sound_held l c a i
+sound_after r k c d i (Held l e a b) = sound_held l c a i
 sound_after r k c d i (Renewed l n e) = sound_renewed l n c e i
 
 -- what a request makes of the cells of a store: they stay in order, and each goes by a step

@@ -73,7 +73,7 @@ commits_stay r k c d (Released s) w h = by (owns c.lock s)
     by : (b : Bool) → IsAmong (if b then c else unlocked s c).commits w
     by true = h
     by false = h
-commits_stay r k c d (Held l e a) w h = h
+commits_stay r k c d (Held l e a b) w h = h
 commits_stay r k c d (Renewed l n e) w h = h
 
 -- A rolled start stays.
@@ -104,7 +104,7 @@ rolled_stays r k c d (Released t) s h = by (owns c.lock t)
     by : (b : Bool) → has_start (if b then c else unlocked t c).rolled s ≡ true
     by true = h
     by false = h
-rolled_stays r k c d (Held l e a) s h = h
+rolled_stays r k c d (Held l e a b) s h = h
 rolled_stays r k c d (Renewed l n e) s h = h
 
 -- A prewrite lock stands, or becomes the commit of its start, or its start is rolled back.
@@ -137,7 +137,7 @@ lock_became r k c d (Released s) l e p = by (nat_eq l.start s) refl
         let own : owns c.lock s ≡ false = rw (e, f) refl in
         let now : (unlocked s c).lock ≡ Some l = rw (e, f) refl in
         subst (Became l) (sym (rw own refl)) (stands_same l (unlocked s c) now)
-lock_became r k c d (Held n q a) l e p = absurd (let u = (a.unlocked l e).1 in cc)
+lock_became r k c d (Held n q a b) l e p = absurd (let u = (a.unlocked l e).1 in cc)
 lock_became r k c d (Renewed n ttl f) l e p =
     let same : n ≡ l = cc in
     inl (record { lock = longer_lived ttl n; here = refl; start = ap (λ (x : Lock). x.start) same; primary = ap (λ (x : Lock). x.primary) same; kind = ap (λ (x : Lock). x.kind) same; value = ap (λ (x : Lock). x.value) same })

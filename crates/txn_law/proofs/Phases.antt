@@ -67,6 +67,7 @@ pub record IsOpen (c : Cell) (s : ℕ) : Type 0 where
   pub unrolled : has_start c.rolled s ≡ false
   pub uncommitted : owns c.lock s ≡ false → commit_of c.commits s ≡ None
   pub unlocked : (l : Lock) → c.lock ≡ Some l → l.start ≡ s
+  pub newest : owns c.lock s ≡ false → (newest_commit c.commits ≤ s) ⊎ (holds c.lock s ≡ true)
 
 pub phase_placed : (l : Lock) (c : Cell) (t : ℕ) → is_prewrite l.kind ≡ true → IsOpen c l.start → (phase (placed l c) t ≡ phase c t) ⊎ ((t ≡ l.start) × Goes (phase c t) (Locks l.primary (content l.kind l.value)) (phase (placed l c) t))
 phase_placed l c t k h = by_owner (owns c.lock l.start) refl

@@ -1,6 +1,6 @@
 -- What a Prewrite does to the cells.
-use Rattle.std.proofs.Common.{◌≡◌, ℕ, ◌⊎◌, inl, inr, Bool, true, false, List, [], ◌∷◌, ◌++◌, Option, Some, None, nat_eq, refl, sym, ap, ◌∙◌, subst, arith}
-use Rattle.std.specs.Prelude.{if◌then◌else◌, option_to_list, drop}
+use Rattle.std.proofs.Common.{◌≡◌, ℕ, ◌⊎◌, inl, inr, Bool, true, false, List, [], ◌∷◌, ◌++◌, Option, Some, None, nat_eq, refl, sym, ap, ◌∙◌, subst, arith, ◌-◌, ◌^◌, ◌≤◌, ◌&&◌, nat_lt}
+use Rattle.std.specs.Prelude.{if◌then◌else◌, option_to_list, drop, is_some}
 use Rattle.std.proofs.lemmas.Bool.Decides.{nat_tests}
 use Rattle.txn_kv.specs.declared.message.KeyError.{KeyError}
 use Rattle.txn_kv.specs.declared.message.Op.{Op}
@@ -17,8 +17,8 @@ use Rattle.txn_model.specs.declared.cell.Kind.TheVariants as kinds
 use Rattle.txn_model.specs.declared.cell.Lock.{Lock}
 use Rattle.txn_model.specs.declared.cell.Write.{Write}
 use Rattle.txn_model.specs.Cells.{key_eq, cell_at, AreInOrder}
-use Rattle.txn_model.specs.Locks.{has_start, is_prewrite, owns, commit_of, lock_info}
-use Rattle.txn_model.specs.Prewrite.{prewrite_error, lock_conflict, conflict, first_flag, prewrite_errors, kind_of, lock_of, placed, prewrite_cell, mutation_keys, prewrite_by}
+use Rattle.txn_model.specs.Locks.{has_start, is_prewrite, owns, commit_of, lock_info, newest_commit, value_at}
+use Rattle.txn_model.specs.Prewrite.{prewrite_error, lock_conflict, conflict, first_flag, prewrite_errors, kind_of, lock_of, placed, prewrite_cell, mutation_keys, prewrite_by, wants_absent}
 use Rattle.txn_model.specs.Store.{Store}
 use Rattle.txn_model.proofs.CellLists.{KeepsKeys, key_of_cell}
 use Rattle.txn_model.proofs.Keys.{same_key, key_itself}
@@ -36,6 +36,22 @@ no_commit_open : (r : PrewriteRequest) (m : Mutation) (flag held : Bool) (ws : L
 no_commit_open r m flag held ws None e h = e
 no_commit_open r m flag held ws (Some w) e h = grind (arith, nat_tests)
 
+-- without a lock no commit is newer than the start
+no_newer : (r : PrewriteRequest) (m : Mutation) (flag : Bool) (ws : List Write) → conflict r m flag false ws ≡ None → newest_commit ws ≤ r.start_version
+no_newer r m flag ws h = by_commit (commit_of ws r.start_version) refl h
+  where
+    by_newest : (x : Bool) → nat_lt r.start_version (newest_commit ws) ≡ x → (if x then Some (KeyError.WriteConflict m.key r.start_version (newest_commit ws)) else (if wants_absent m.op && is_some (value_at ws (2 ^ 64 - 1)) then Some (KeyError.AlreadyExist m.key) else None)) ≡ None → newest_commit ws ≤ r.start_version
+    by_newest true e g = absurd (cc)
+    by_newest false e g = grind (arith, nat_tests)
+
+    by_flag : (f : Bool) → (if f then (if false then None else Some (KeyError.PessimisticLockNotFound m.key)) else (if nat_lt r.start_version (newest_commit ws) then Some (KeyError.WriteConflict m.key r.start_version (newest_commit ws)) else (if wants_absent m.op && is_some (value_at ws (2 ^ 64 - 1)) then Some (KeyError.AlreadyExist m.key) else None))) ≡ None → newest_commit ws ≤ r.start_version
+    by_flag true g = absurd (cc)
+    by_flag false g = by_newest (nat_lt r.start_version (newest_commit ws)) refl g
+
+    by_commit : (o : Option Write) → commit_of ws r.start_version ≡ o → conflict r m flag false ws ≡ None → newest_commit ws ≤ r.start_version
+    by_commit (Some w) e g = absurd (let z = rw e at g in cc)
+    by_commit None e g = by_flag flag (rw e at g)
+
 -- a mutation without error finds its cell open
 pub open_cell : (r : PrewriteRequest) (m : Mutation) (flag : Bool) (c : Cell) → prewrite_error r m flag c ≡ None → IsOpen c r.start_version
 open_cell r m flag c h = by_rolled (has_start c.rolled r.start_version) refl h
@@ -45,12 +61,13 @@ open_cell r m flag c h = by_rolled (has_start c.rolled r.start_version) refl h
       unrolled = a;
       uncommitted = λ f. no_commit_open r m flag false c.commits (commit_of c.commits r.start_version) refl g;
       unlocked = λ l f. absurd (cc);
+      newest = λ f. inl (no_newer r m flag c.commits g);
     }
     by_lock a (Some l) e g = by_own (nat_eq l.start r.start_version) (is_prewrite l.kind) refl refl g
       where
         by_own : (x y : Bool) → nat_eq l.start r.start_version ≡ x → is_prewrite l.kind ≡ y → (if x then (if y then None else conflict r m flag true c.commits) else Some (KeyError.Locked (lock_info m.key l))) ≡ None → IsOpen c r.start_version
-        by_own true true u v g = record { unrolled = a; uncommitted = λ f. grind (arith, nat_tests); unlocked = λ n f. grind (arith, nat_tests) }
-        by_own true false u v g = record { unrolled = a; uncommitted = λ f. no_commit_open r m flag true c.commits (commit_of c.commits r.start_version) refl g; unlocked = λ n f. grind (arith, nat_tests) }
+        by_own true true u v g = record { unrolled = a; uncommitted = λ f. grind (arith, nat_tests); unlocked = λ n f. grind (arith, nat_tests); newest = λ f. inr (rw (e, u) refl) }
+        by_own true false u v g = record { unrolled = a; uncommitted = λ f. no_commit_open r m flag true c.commits (commit_of c.commits r.start_version) refl g; unlocked = λ n f. grind (arith, nat_tests); newest = λ f. inr (rw (e, u) refl) }
         by_own false y u v g = absurd (cc)
 
     by_rolled : (x : Bool) → has_start c.rolled r.start_version ≡ x → (if x then Some (KeyError.Abort m.key r.start_version 0) else lock_conflict r m flag c.commits c.lock) ≡ None → IsOpen c r.start_version

@@ -317,6 +317,22 @@ clear_cell r m c i h timely = by_rolled (has_start c.rolled r.start_version) ref
     by_rolled true e g = absurd (cc)
     by_rolled false e g = by_lock e c.lock refl g
 
+error_low : (r : PessimisticLockRequest) (m : Mutation) (c : Cell) → pessimistic_error r m c ≡ None → newest_commit c.commits ≤ r.for_update_ts
+error_low r m c h = by_rolled (has_start c.rolled r.start_version) h
+  where
+    by_own : (l : Lock) (x y : Bool) → (if x then (if y then Some (errors.Abort m.key r.start_version 0) else newest_conflict r m c) else Some (errors.Locked (lock_info m.key l))) ≡ None → newest_commit c.commits ≤ r.for_update_ts
+    by_own l true true g = absurd (cc)
+    by_own l true false g = newest_low r m c g
+    by_own l false y g = absurd (cc)
+
+    by_lock : (o : Option Lock) → held_conflict r m c o ≡ None → newest_commit c.commits ≤ r.for_update_ts
+    by_lock None g = newest_low r m c g
+    by_lock (Some l) g = by_own l (nat_eq l.start r.start_version) (is_prewrite l.kind) g
+
+    by_rolled : (b : Bool) → (if b then Some (errors.Abort m.key r.start_version 0) else held_conflict r m c c.lock) ≡ None → newest_commit c.commits ≤ r.for_update_ts
+    by_rolled true g = absurd (cc)
+    by_rolled false g = by_lock c.lock g
+
 for_update_lock_keeps : (r : PessimisticLockRequest) → KeepsKeys (locked_for_update r)
 for_update_lock_keeps r c = refl
 
@@ -330,7 +346,7 @@ row_pessimistic_lock st r timely o None [] h = row_changed st (PessimisticLock r
         let passed = none_mapped (λ (q : Mutation). pessimistic_error r q (cell_at st.cells q.key)) r.mutations w.0 h w.1 in
         let here = subst (λ q. pessimistic_error r w.0 (cell_at st.cells q) ≡ None) w.2 passed in
         let lock = raised_lock r (cell_at st.cells k).lock in
-        Held lock (raised_kind r (cell_at st.cells k).lock) (subst (IsClear (cell_at st.cells k)) (sym (raised_start r (cell_at st.cells k).lock)) (clear_cell r w.0 (cell_at st.cells k) i here (timely k)))
+        Held lock (raised_kind r (cell_at st.cells k).lock) (subst (IsClear (cell_at st.cells k)) (sym (raised_start r (cell_at st.cells k).lock)) (clear_cell r w.0 (cell_at st.cells k) i here (timely k))) (r, refl, sym (raised_start r (cell_at st.cells k).lock), error_low r w.0 (cell_at st.cells k) here)
 
 pub row : (st : Store) (r : Request) → IsCovered r → IsTimely st r → AreInOrder st.cells → RowStep st r (table st r).store.cells
 row st (Get r) h t o = row_get st r o (region_check st.regions r.context)

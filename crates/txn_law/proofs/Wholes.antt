@@ -1,5 +1,5 @@
 -- From what is kept to the law's own words.
-use Rattle.std.proofs.Common.{◌≡◌, ◌≢◌, ℕ, inl, inr, true, List, [], ◌∷◌, Option, Some, None, refl, subst, arith}
+use Rattle.std.proofs.Common.{◌≡◌, ◌≢◌, ℕ, inl, inr, true, List, [], ◌∷◌, Option, Some, None, refl, subst, arith, ◌<◌, sym, ◌∙◌}
 use Rattle.std.proofs.lemmas.Bool.Decides.{nat_tests}
 use Rattle.txn_kv.specs.declared.ticket.Ticket.{Ticket}
 use Rattle.txn_kv.specs.declared.request.Request.TheVariants.{Commit, BatchRollback}
@@ -17,13 +17,13 @@ use Rattle.txn_model.specs.declared.cell.Cell.{Cell}
 use Rattle.txn_model.specs.declared.cell.Lock.{Lock}
 use Rattle.txn_model.specs.declared.cell.Write.{Write}
 use Rattle.txn_model.specs.Cells.{cell_at}
-use Rattle.txn_model.specs.Locks.{has_start, commit_of}
+use Rattle.txn_model.specs.Locks.{has_start, commit_of, is_prewrite}
 use Rattle.txn_law.specs.Run.{store_after, IsRun}
-use Rattle.txn_law.specs.Whole.{content, HasCommit, HasLock, IsWholeAt, IsAbsent, IsWholeOrAbsent}
+use Rattle.txn_law.specs.Whole.{content, HasCommit, HasLock, IsWholeAt, IsAbsent, IsWholeOrAbsent, KeyCommitted}
 use Rattle.txn_law.proofs.Phases.{Phase, phase, IsSound}
 use Rattle.txn_law.proofs.Phases.Phase.{Free, Locked, Committed, RolledBack}
 use Rattle.txn_law.proofs.Coherent.{IsDecidedAt}
-use Rattle.txn_law.proofs.Replies.{phases, IsCommitted}
+use Rattle.txn_law.proofs.Replies.{phases, IsCommitted, lock_is_phase}
 use Rattle.txn_law.proofs.Kept.{Inv, kept, decided}
 
 found_commit : (ws : List Write) (s : ℕ) (w : Write) → commit_of ws s ≡ Some w → IsAmong ws w × (w.start ≡ s)
@@ -155,3 +155,14 @@ law_rolled_stays plans es run s h =
     let i = kept plans es run in
     let r : phases (store_after es) s (plans s).primary ≡ RolledBack = rw h refl in
     absent plans es i s (λ c d. let y = d.1 in absurd (cc))
+
+-- where each key that s writes was committed with an answer, no prewrite lock of s stands
+pub law_no_lock : (plans : ℕ → Plan) (es : List Event) → IsRun plans es → (s : ℕ) → ((k : Key) (x : Content) → (plans s).writes k ≡ Some x → KeyCommitted es s k) → (k : Key) (l : Lock) → (cell_at (store_after es).cells k).lock ≡ Some l → is_prewrite l.kind ≡ true → l.start ≢ s
+law_no_lock plans es run s all k l e p d =
+    let i = kept plans es run in
+    let here : phases (store_after es) s k ≡ Locked l.primary (content l.kind l.value) = subst (λ u. phases (store_after es) u k ≡ Locked l.primary (content l.kind l.value)) d (lock_is_phase (cell_at (store_after es).cells k) l (i.sound k) e p) in
+    let w = all k (content l.kind l.value) ((i.coherent s).locked k l.primary (content l.kind l.value) here).1 in
+    law_unlocked plans es run w.0 w.1 w.2 w.3 w.4 k w.6 l e (d ∙ sym w.5)
+
+pub law_above : (plans : ℕ → Plan) (es : List Event) → IsRun plans es → (s c : ℕ) → WasNamed (plans s) es s c → s < c
+law_above plans es run s c h = ((kept plans es run).named s c h).1.0

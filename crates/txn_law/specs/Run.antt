@@ -1,7 +1,8 @@
 -- A run: what happened may happen, and every request is licensed when it is sent.
+use Rattle.txn_kv.specs.declared.request.PessimisticLockRequest.{PessimisticLockRequest}
 use Rattle.std.specs.Prelude.{◌≡◌, ℕ, List, [], ◌∷◌}
 use Rattle.txn_kv.specs.declared.request.Request.{Request}
-use Rattle.txn_kv.specs.declared.request.Request.TheVariants.{UnsafeDestroyRange}
+use Rattle.txn_kv.specs.declared.request.Request.TheVariants.{UnsafeDestroyRange, PessimisticLock}
 use Rattle.txn_kv.specs.declared.ticket.Ticket.{Ticket}
 use Rattle.txn_history.specs.Event.{Event, Has}
 use Rattle.txn_history.specs.Event.Event.{Sent, Served, Took}
@@ -42,3 +43,7 @@ IsAllowed plans es (Took t r o) = Unit {0}
 abbrev pub IsRun : (ℕ → Plan) → List Event → Type 0
 IsRun plans [] = Unit {0}
 IsRun plans (e ∷ es) = IsPossible es e × IsAllowed plans es e × IsRun plans es
+
+-- no pessimistic lock of the start was asked for
+abbrev pub IsOptimistic : List Event → ℕ → Type 0
+IsOptimistic es s = (t : Ticket) (q : PessimisticLockRequest) → Has es (Sent t (PessimisticLock q)) → q.start_version ≡ s → ⊥

@@ -1,7 +1,15 @@
 -- A transaction is whole at one commit timestamp, or not at all.
-use Rattle.std.specs.Prelude.{◌≡◌, ◌≢◌, ◌⊎◌, ℕ, List, Some}
+use Rattle.txn_kv.specs.declared.ticket.Ticket.{Ticket}
+use Rattle.txn_kv.specs.declared.request.CommitRequest.{CommitRequest}
+use Rattle.txn_kv.specs.declared.request.Request.TheVariants.{Commit}
+use Rattle.txn_kv.specs.declared.reply.CommitResponse.{CommitResponse}
+use Rattle.txn_kv.specs.declared.reply.Reply.TheVariants as reply
+use Rattle.txn_history.specs.Event.{Event, Has}
+use Rattle.txn_history.specs.Event.Event.{Took}
+use Rattle.txn_history.specs.Licence.{IsWithoutError}
+use Rattle.std.specs.Prelude.{◌≡◌, ◌≢◌, ◌⊎◌, ℕ, true, List, Some}
 use Rattle.txn_history.specs.Among.{IsAmong}
-use Rattle.txn_history.specs.Plan.{Key, Content, Plan}
+use Rattle.txn_history.specs.Plan.{Key, has_key, Content, Plan}
 use Rattle.txn_model.specs.declared.cell.Cell.{Cell}
 use Rattle.txn_model.specs.declared.cell.Kind.{Kind}
 use Rattle.txn_model.specs.declared.cell.Lock.{Lock}
@@ -43,3 +51,7 @@ IsAbsent cells s = (k : Key) (w : Write) → IsAmong (cell_at cells k).commits w
 -- whole at one timestamp, or not at all
 abbrev pub IsWholeOrAbsent : Plan → List Cell → ℕ → Type 0
 IsWholeOrAbsent plan cells s = ((c : ℕ) × IsWholeAt plan cells s c) ⊎ IsAbsent cells s
+
+-- a Commit of s that names the key was answered without error
+abbrev pub KeyCommitted : List Event → ℕ → Key → Type 0
+KeyCommitted es s k = (t : Ticket) × (r : CommitRequest) × (o : CommitResponse) × Has es (Took t (Commit r) (reply.Commit o)) × IsWithoutError (reply.Commit o) × (r.start_version ≡ s) × (has_key r.keys k ≡ true)

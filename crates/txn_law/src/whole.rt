@@ -1,4 +1,4 @@
-ghost use Rattle.std.specs.Prelude.{◌≡◌, ◌≢◌, ℕ, true, List};
+ghost use Rattle.std.specs.Prelude.{◌≡◌, ◌≢◌, ◌<◌, ℕ, true, List, Some};
 ghost use Rattle.txn_kv.specs.declared.ticket.Ticket.{Ticket};
 ghost use Rattle.txn_kv.specs.declared.request.Request.TheVariants.{Commit, BatchRollback};
 ghost use Rattle.txn_kv.specs.declared.request.CommitRequest.{CommitRequest};
@@ -9,12 +9,12 @@ ghost use Rattle.txn_kv.specs.declared.reply.BatchRollbackResponse.{BatchRollbac
 ghost use Rattle.txn_history.specs.Event.{Event, Has};
 ghost use Rattle.txn_history.specs.Event.Event.{Took};
 ghost use Rattle.txn_history.specs.Licence.{IsWithoutError, WasNamed, PrimaryCommitted, PrimaryRolledBack};
-ghost use Rattle.txn_history.specs.Plan.{Key, Plan, has_key};
+ghost use Rattle.txn_history.specs.Plan.{Key, Content, Plan, has_key};
 ghost use Rattle.txn_model.specs.declared.cell.Lock.{Lock};
 ghost use Rattle.txn_model.specs.Cells.{cell_at};
-ghost use Rattle.txn_model.specs.Locks.{has_start};
+ghost use Rattle.txn_model.specs.Locks.{has_start, is_prewrite};
 ghost use Rattle.txn_law.specs.Run.{IsRun, store_after};
-ghost use Rattle.txn_law.specs.Whole.{IsWholeAt, IsAbsent, IsWholeOrAbsent};
+ghost use Rattle.txn_law.specs.Whole.{IsWholeAt, IsAbsent, IsWholeOrAbsent, KeyCommitted};
 
 /// Whatever is lost, comes late or crashes: each transaction is whole at one commit timestamp or not at all.
 pub fn whole_or_nothing()
@@ -47,4 +47,11 @@ pub fn whole_or_nothing()
         IsWithoutError (reply.BatchRollback o) → (k : Key) → has_key r.keys k ≡ true →
         (has_start (cell_at (store_after events).cells k).rolled r.start_version ≡ true)
         × ((l : Lock) → (cell_at (store_after events).cells k).lock ≡ Some l → l.start ≢ r.start_version) }
+    // Where each key that the transaction writes stood in a Commit that was answered, no prewrite lock of it stays.
+    ensures no_lock { (plans : ℕ → Plan) (events : List Event) → IsRun plans events →
+        (s : ℕ) → ((k : Key) (x : Content) → (plans s).writes k ≡ Some x → KeyCommitted events s k) →
+        (k : Key) (l : Lock) → (cell_at (store_after events).cells k).lock ≡ Some l → is_prewrite l.kind ≡ true → l.start ≢ s }
+    // A commit timestamp that was sent is above its start.
+    ensures above { (plans : ℕ → Plan) (events : List Event) → IsRun plans events →
+        (s c : ℕ) → WasNamed (plans s) events s c → s < c }
 {}

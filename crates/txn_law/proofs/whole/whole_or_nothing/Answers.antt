@@ -1,4 +1,4 @@
-use Rattle.txn_law.proofs.Wholes.{law_whole, law_committed, law_rolled_back, law_rolled_stays, law_named, law_one, law_unlocked, law_recorded}
+use Rattle.txn_law.proofs.Wholes.{law_whole, law_committed, law_rolled_back, law_rolled_stays, law_no_lock, law_above, law_named, law_one, law_unlocked, law_recorded}
 use Rattle.txn_law.proofs.whole.whole_or_nothing.Goals as goal
 
 pub returns-clause-whole : goal.returns-clause-whole
@@ -24,3 +24,9 @@ returns-clause-unlocked c = law_unlocked
 
 pub returns-clause-recorded : goal.returns-clause-recorded
 returns-clause-recorded c = law_recorded
+
+pub returns-clause-no_lock : goal.returns-clause-no_lock
+returns-clause-no_lock c = law_no_lock
+
+pub returns-clause-above : goal.returns-clause-above
+returns-clause-above c = law_above
