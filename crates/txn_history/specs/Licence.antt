@@ -169,33 +169,41 @@ TriedToLock es s k = (t : Ticket) × (r : PessimisticLockRequest) × Has es (Sen
 
 -- Licences, one for each kind of request.
 
--- Without it, two keys of one transaction could hang on two primaries, or a key get another value.
+-- Without the first, two keys of one transaction could hang on two primaries, and without the second a key could get
+-- another value: no transaction would be whole.
 pub record PrewriteLicence (plan : Plan) (es : List Event) (r : PrewriteRequest) : Type 0 where
   pub primary : r.primary_lock ≡ plan.primary
   pub planned : ArePlanned plan r.mutations
 
 -- The primary is committed where all keys are acknowledged, at a timestamp that was asked for afterwards, and always at
--- the same one. Without the first a key could be left out, without the second a read before could miss the commit.
+-- the same one. Without the first a key could be left out, and no transaction would be whole. Without the second a commit
+-- could come at or below the timestamp of a read that missed it, and reads would not repeat. Without the third an answer
+-- could name another timestamp than the one at which the transaction is whole.
 pub record PrimaryCommitLicence (plan : Plan) (es : List Event) (s c : ℕ) : Type 0 where
   pub ready : AllAcknowledged plan es s
   pub asked : (t : Ticket) × (r : TsoRequest) × (o : TsoResponse) × AskedAfter plan es s t × Has es (Took t (Tso r) (reply.Tso o)) × GivesTimestamp o c
   pub same : (d : ℕ) → WasNamed plan es s d → d ≡ c
 
 -- Another key is committed where the primary's commit was answered without error. Without it a key could be committed
--- whose primary is rolled back later.
+-- whose primary is rolled back later, and no transaction would be whole or absent.
 abbrev pub CommitLicence : Plan → List Event → CommitRequest → Type 0
 CommitLicence plan es r = (k : Key) → has_key r.keys k ≡ true → ((k ≡ plan.primary) × PrimaryCommitLicence plan es r.start_version r.commit_version) ⊎ ((k ≢ plan.primary) × PrimaryCommitted plan es r.start_version r.commit_version)
 
--- The primary is rolled back first. Without it a key could be rolled back whose primary is committed later.
+-- The primary is rolled back first. Without it a key could be rolled back whose primary is committed later, and no
+-- transaction would be whole. That each commit was answered serves what a rollback answers to its caller: no law of the
+-- store rests on it.
 pub record BatchRollbackLicence (plan : Plan) (es : List Event) (r : BatchRollbackRequest) : Type 0 where
   pub answered : CommitsAnswered plan es r.start_version
   pub primary_first : (k : Key) → has_key r.keys k ≡ true → (k ≡ plan.primary) ⊎ PrimaryRolledBack plan es r.start_version
 
--- The timestamp was given before, and no key was prewritten. Without it a late lock could stand on a committed key.
+-- The timestamp was given before, and no key was prewritten. Without either a late lock could stand on a committed key: its
+-- expiry would record a committed start as rolled back.
 pub record PessimisticLockLicence (es : List Event) (r : PessimisticLockRequest) : Type 0 where
   pub given : WasGiven es r.for_update_ts
   pub unwritten : IsUnwritten es r.start_version
 
+-- A client releases what it was shown or tried to lock. No law of the store rests on it: what is released was never
+-- written.
 abbrev pub PessimisticRollbackLicence : List Event → PessimisticRollbackRequest → Type 0
 PessimisticRollbackLicence es r = (k : Key) → has_key r.keys k ≡ true → WasShownAt es r.start_version k ⊎ TriedToLock es r.start_version k
 
@@ -204,11 +212,12 @@ abbrev pub settled_starts : ResolveLockRequest → List TxnInfo → List TxnInfo
 settled_starts r [] = record { txn = r.start_version; status = r.commit_version } ∷ []
 settled_starts r (i ∷ is) = i ∷ is
 
--- Each start is settled as its primary was told to be. Without it a lock could be rolled back whose primary is committed.
+-- Each start is settled as its primary was told to be. Without it a lock could be rolled back whose primary is committed, or
+-- committed whose primary is rolled back.
 abbrev pub ResolveLockLicence : List Event → ResolveLockRequest → Type 0
 ResolveLockLicence es r = (i : TxnInfo) → IsAmong (settled_starts r r.txn_infos) i → WasDecided es i.txn i.status
 
--- A read is at a timestamp that was given before. Without it a later commit could come below it.
+-- A read is at a timestamp that was given before. Without it a later commit could come below it, and reads would not repeat.
 abbrev pub IsLicensed : (ℕ → Plan) → List Event → Request → Type 0
 IsLicensed plans es (Get r) = WasGiven es r.version
 IsLicensed plans es (BatchGet r) = WasGiven es r.version

@@ -1,5 +1,7 @@
 -- From what was sent, kept and taken under a ticket to the events of the run.
-use Rattle.std.proofs.Common.{◌≡◌, ℕ, inl, inr, Bool, true, false, ◌&&◌, List, [], ◌∷◌, Some, None, nat_eq, refl, subst, arith}
+use Rattle.txn_law.proofs.Kept.{kept}
+use Rattle.txn_history.specs.Plan.{Plan}
+use Rattle.std.proofs.Common.{◌≡◌, ℕ, inl, inr, Bool, true, false, ◌&&◌, List, [], ◌∷◌, Some, None, nat_eq, refl, subst, arith, sym, ◌∙◌}
 use Rattle.std.specs.Prelude.{if◌then◌else◌}
 use Rattle.std.proofs.lemmas.Bool.Decides.{nat_tests}
 use Rattle.txn_kv.specs.declared.ticket.Ticket.{Ticket}
@@ -7,7 +9,7 @@ use Rattle.txn_kv.specs.declared.request.Request.{Request}
 use Rattle.txn_kv.specs.declared.reply.Reply.{Reply}
 use Rattle.txn_history.specs.Event.{Event, Has, bool_eq, same_ticket, sent_request, kept_reply, taken_reply}
 use Rattle.txn_history.specs.Event.Event.{Sent, Served, Took}
-use Rattle.txn_law.specs.Run.{IsUnused}
+use Rattle.txn_law.specs.Run.{IsUnused, IsRun}
 
 same_bool : (x y : Bool) → bool_eq x y ≡ true → x ≡ y
 same_bool true true h = refl
@@ -83,3 +85,28 @@ was_taken (Took u q p ∷ es) t o h = by (same_ticket u t) refl h (was_taken es 
     by : (x : Bool) → same_ticket u t ≡ x → (if x then Some p else taken_reply es t) ≡ Some o → (taken_reply es t ≡ Some o → (r : Request) × Has es (Took t r o)) → (r : Request) × Has (Took u q p ∷ es) (Took t r o)
     by true e f rest = (q, inl (let same = ticket_is u t e in let also : p ≡ o = cc in λ i. Took (same i) q (also i)))
     by false e f rest = let w = rest f in (w.0, inr w.1)
+
+-- In a run each ticket has one request, so a kept reply may be taken for the request that was sent.
+
+sent_request_is : (u t : Ticket) (q r : Request) → Sent u q ≡ Sent t r → (u ≡ t) × (q ≡ r)
+sent_request_is u t q r e = (cc, cc)
+
+pub sent_once : (plans : ℕ → Plan) (es : List Event) → IsRun plans es → (t : Ticket) (q r : Request) → Has es (Sent t q) → Has es (Sent t r) → q ≡ r
+sent_once plans [] run t q r h g = absurd h
+sent_once plans (Sent u p ∷ es) run t q r h g = elim h [
+  | inl e ↦ elim g [
+    | inl f ↦ sym (sent_request_is u t p q e).1 ∙ (sent_request_is u t p r f).1
+    | inr b ↦ absurd (run.0 r (subst (λ z. Has es (Sent z r)) (sym (sent_request_is u t p q e).0) b))
+  ]
+  | inr a ↦ elim g [
+    | inl f ↦ absurd (run.0 q (subst (λ z. Has es (Sent z q)) (sym (sent_request_is u t p r f).0) a))
+    | inr b ↦ sent_once plans es run.2 t q r a b
+  ]
+]
+sent_once plans (Served u p o ∷ es) run t q r h g = elim h [ inl e ↦ absurd (cc) | inr a ↦ elim g [ inl f ↦ absurd (cc) | inr b ↦ sent_once plans es run.2 t q r a b ] ]
+sent_once plans (Took u p o ∷ es) run t q r h g = elim h [ inl e ↦ absurd (cc) | inr a ↦ elim g [ inl f ↦ absurd (cc) | inr b ↦ sent_once plans es run.2 t q r a b ] ]
+
+pub kept_for : (plans : ℕ → Plan) (es : List Event) → IsRun plans es → (t : Ticket) (r : Request) (o : Reply) → Has es (Sent t r) → kept_reply es t ≡ Some o → Has es (Served t r o)
+kept_for plans es run t r o h k =
+    let w = was_served es t o k in
+    subst (λ q. Has es (Served t q o)) (sent_once plans es run t w.0 r ((kept plans es run).sent t w.0 o w.1) h) w.1

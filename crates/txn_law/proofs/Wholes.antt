@@ -19,7 +19,7 @@ use Rattle.txn_model.specs.declared.cell.Write.{Write}
 use Rattle.txn_model.specs.Cells.{cell_at}
 use Rattle.txn_model.specs.Locks.{has_start, commit_of, is_prewrite}
 use Rattle.txn_law.specs.Run.{store_after, IsRun}
-use Rattle.txn_law.specs.Whole.{content, HasCommit, HasLock, IsWholeAt, IsAbsent, IsWholeOrAbsent, KeyCommitted}
+use Rattle.txn_law.specs.Whole.{content, HasCommit, HasLock, IsWholeAt, IsAbsent, IsWholeOrAbsent, KeyCommitted, FitsAnswers}
 use Rattle.txn_law.proofs.Phases.{Phase, phase, IsSound}
 use Rattle.txn_law.proofs.Phases.Phase.{Free, Locked, Committed, RolledBack}
 use Rattle.txn_law.proofs.Coherent.{IsDecidedAt}
@@ -166,3 +166,22 @@ law_no_lock plans es run s all k l e p d =
 
 pub law_above : (plans : ℕ → Plan) (es : List Event) → IsRun plans es → (s c : ℕ) → WasNamed (plans s) es s c → s < c
 law_above plans es run s c h = ((kept plans es run).named s c h).1.0
+
+-- what was answered fits what is there
+pub law_fits : (plans : ℕ → Plan) (es : List Event) → IsRun plans es → (s : ℕ) → FitsAnswers (plans s) es (store_after es).cells s
+law_fits plans es run s = by_phase (phases (store_after es) s (plans s).primary) refl
+  where
+    i : Inv plans es
+    i = kept plans es run
+
+    answered : (d : ℕ) → PrimaryCommitted (plans s) es s d → IsDecidedAt (plans s) (phases (store_after es) s) d
+    answered d h = decided plans es i s d h
+
+    none : (o : Phase) → phases (store_after es) s (plans s).primary ≡ o → ((c : ℕ) (x : Content) → o ≢ Committed c x) → FitsAnswers (plans s) es (store_after es).cells s
+    none o e n = inl (absent plans es i s (λ c d. n c d.0 (sym e ∙ d.1)), λ d h. let w = answered d h in n d w.0 (sym e ∙ w.1))
+
+    by_phase : (o : Phase) → phases (store_after es) s (plans s).primary ≡ o → FitsAnswers (plans s) es (store_after es).cells s
+    by_phase Free e = none Free e (λ c x f. cc)
+    by_phase (Locked p x) e = none (Locked p x) e (λ c y f. cc)
+    by_phase RolledBack e = none RolledBack e (λ c x f. cc)
+    by_phase (Committed c x) e = inr (c, whole_at plans es i s c (x, e), (λ d h. let w = (answered d h).1 in cc), ((i.coherent s).named c (x, e)).0)

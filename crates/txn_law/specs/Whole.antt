@@ -6,7 +6,7 @@ use Rattle.txn_kv.specs.declared.reply.CommitResponse.{CommitResponse}
 use Rattle.txn_kv.specs.declared.reply.Reply.TheVariants as reply
 use Rattle.txn_history.specs.Event.{Event, Has}
 use Rattle.txn_history.specs.Event.Event.{Took}
-use Rattle.txn_history.specs.Licence.{IsWithoutError}
+use Rattle.txn_history.specs.Licence.{IsWithoutError, PrimaryCommitted, WasNamed}
 use Rattle.std.specs.Prelude.{◌≡◌, ◌≢◌, ◌⊎◌, ℕ, true, List, Some}
 use Rattle.txn_history.specs.Among.{IsAmong}
 use Rattle.txn_history.specs.Plan.{Key, has_key, Content, Plan}
@@ -55,3 +55,8 @@ IsWholeOrAbsent plan cells s = ((c : ℕ) × IsWholeAt plan cells s c) ⊎ IsAbs
 -- a Commit of s that names the key was answered without error
 abbrev pub KeyCommitted : List Event → ℕ → Key → Type 0
 KeyCommitted es s k = (t : Ticket) × (r : CommitRequest) × (o : CommitResponse) × Has es (Took t (Commit r) (reply.Commit o)) × IsWithoutError (reply.Commit o) × (r.start_version ≡ s) × (has_key r.keys k ≡ true)
+
+-- What was answered fits what is there: nothing of s where no commit of its primary was answered, or s whole at one c that
+-- each such answer named, and that a Commit of the primary named.
+abbrev pub FitsAnswers : Plan → List Event → List Cell → ℕ → Type 0
+FitsAnswers plan es cells s = (IsAbsent cells s × ((d : ℕ) → PrimaryCommitted plan es s d → ⊥)) ⊎ ((c : ℕ) × IsWholeAt plan cells s c × ((d : ℕ) → PrimaryCommitted plan es s d → d ≡ c) × WasNamed plan es s c)

@@ -14,12 +14,15 @@ ghost use Rattle.txn_model.specs.declared.cell.Lock.{Lock};
 ghost use Rattle.txn_model.specs.Cells.{cell_at};
 ghost use Rattle.txn_model.specs.Locks.{has_start, is_prewrite};
 ghost use Rattle.txn_law.specs.Run.{IsRun, store_after};
-ghost use Rattle.txn_law.specs.Whole.{IsWholeAt, IsAbsent, IsWholeOrAbsent, KeyCommitted};
+ghost use Rattle.txn_law.specs.Whole.{FitsAnswers, IsWholeAt, IsAbsent, IsWholeOrAbsent, KeyCommitted};
 
 /// Whatever is lost, comes late or crashes: each transaction is whole at one commit timestamp or not at all.
 pub fn whole_or_nothing()
     ensures whole { (plans : ℕ → Plan) (events : List Event) → IsRun plans events →
         (s : ℕ) → IsWholeOrAbsent (plans s) (store_after events).cells s }
+    // What was answered fits what is there.
+    ensures fits { (plans : ℕ → Plan) (events : List Event) → IsRun plans events →
+        (s : ℕ) → FitsAnswers (plans s) events (store_after events).cells s }
     // Who was told that the primary is committed at c finds the transaction whole at c, then and ever after.
     ensures committed { (plans : ℕ → Plan) (events : List Event) → IsRun plans events →
         (s c : ℕ) → PrimaryCommitted (plans s) events s c → IsWholeAt (plans s) (store_after events).cells s c }

@@ -1,4 +1,4 @@
-use Rattle.txn_law.proofs.Wholes.{law_whole, law_committed, law_rolled_back, law_rolled_stays, law_no_lock, law_above, law_named, law_one, law_unlocked, law_recorded}
+use Rattle.txn_law.proofs.Wholes.{law_fits, law_whole, law_committed, law_rolled_back, law_rolled_stays, law_no_lock, law_above, law_named, law_one, law_unlocked, law_recorded}
 use Rattle.txn_law.proofs.whole.whole_or_nothing.Goals as goal
 
 pub returns-clause-whole : goal.returns-clause-whole
@@ -30,3 +30,6 @@ returns-clause-no_lock c = law_no_lock
 
 pub returns-clause-above : goal.returns-clause-above
 returns-clause-above c = law_above
+
+pub returns-clause-fits : goal.returns-clause-fits
+returns-clause-fits c = law_fits
