@@ -6,7 +6,7 @@ use Rattle.txn_kv.specs.declared.ticket.Ticket.{Ticket}
 use Rattle.txn_kv.specs.declared.message.Op.{Op}
 use Rattle.txn_kv.specs.declared.message.Op.TheVariants as op
 use Rattle.txn_kv.specs.declared.request.Request.{Request}
-use Rattle.txn_kv.specs.declared.request.Request.TheVariants.{Get, BatchGet, Scan, Commit, Tso}
+use Rattle.txn_kv.specs.declared.request.Request.TheVariants.{Get, BatchGet, Scan, Commit, Tso, PessimisticLock}
 use Rattle.txn_kv.specs.declared.request.TsoRequest.{TsoRequest}
 use Rattle.txn_kv.specs.declared.reply.Reply.{Reply}
 use Rattle.txn_kv.specs.declared.reply.Reply.TheVariants as reply
@@ -23,7 +23,6 @@ use Rattle.txn_model.specs.declared.cell.Write.{Write}
 use Rattle.txn_model.specs.Cells.{cell_at}
 use Rattle.txn_model.specs.Commit.{committed, commit_lock}
 use Rattle.txn_model.specs.Locks.{is_prewrite, is_written, owns, op_of, or_earlier, last_written, value_of, value_at, with_commit, all_above}
-use Rattle.txn_model.specs.Read.{lock_before}
 use Rattle.txn_model.specs.Settle.{unlocked}
 use Rattle.txn_model.specs.Table.{table}
 use Rattle.txn_law.specs.Reads.{Reads, Says}
@@ -36,7 +35,7 @@ use Rattle.txn_law.proofs.Moves.CellStep.{Same, Places, Recorded, Made, Released
 use Rattle.txn_law.proofs.Phases.{Phase, phase, IsSound, held}
 use Rattle.txn_law.proofs.Phases.Phase.{Free, Locked}
 use Rattle.txn_law.proofs.Phases.Move.{Commits}
-use Rattle.txn_law.proofs.Reading.{Told, IsClearAt, read_told, read_leaves}
+use Rattle.txn_law.proofs.Reading.{Given, read_given}
 use Rattle.txn_law.proofs.Replies.{phases, timestamps_rise}
 use Rattle.txn_law.proofs.Rows.{row}
 use Rattle.txn_law.proofs.Wholes.{locked_stands}
@@ -125,13 +124,6 @@ seen_after r k t c d i (Renewed l n e) = inl refl
 lock_from : (plan : Plan) (Named : ℕ → Type 0) (f : Key → Phase) (k : Key) (after : Phase) (p : Key) (x : Content) → Change plan Named f k after → after ≡ Locked p x → (f k ≡ Locked p x) ⊎ ((f k ≡ Free) × (plan.writes k ≡ Some x))
 lock_from plan Named f k after p x h e = grind arith
 
-clear_lock : (t : ℕ) (c : Cell) (l : Lock) → IsClearAt t c → c.lock ≡ Some l → is_written l.kind ≡ true → t < l.start
-clear_lock t c l h e k = by (nat_le l.start t) refl (subst (λ o. lock_before t o ≡ None) e h)
-  where
-    by : (b : Bool) → nat_le l.start t ≡ b → (if is_written l.kind && b then Some l else None) ≡ None → t < l.start
-    by true d g = absurd (let w : (if is_written l.kind && true then Some l else None) ≡ Some l = rw k refl in cc)
-    by false d g = grind (arith, nat_tests)
-
 -- each commit that s may have is above t
 abbrev pub Later : Plan → List Event → ℕ → ℕ → Type 0
 Later plan es s t = ((c : ℕ) → WasNamed plan es s c → t < c) × ((u : Ticket) (r : TsoRequest) (o : TsoResponse) (c : ℕ) → AskedAfter plan es s u → Has es (Served u (Tso r) (reply.Tso o)) → GivesTimestamp o c → t < c)
@@ -142,11 +134,12 @@ pub record Reading (plans : ℕ → Plan) (es : List Event) : Type 0 where
   pub later : (n : Ticket) (r : Request) (o : Reply) → Has es (Served n r o) → (k : Key) (t : ℕ) → Reads r o k t → (s : ℕ) (p : Key) (x : Content) → phases (store_after es) s k ≡ Locked p x → is_written_op x.op ≡ true → (t < s) ⊎ Later (plans s) es s t
 
 -- a read is sent at a timestamp that was given
-read_given : (plans : ℕ → Plan) (es : List Event) (r : Request) (o : Reply) (k : Key) (t : ℕ) → IsLicensed plans es r → Reads r o k t → WasGiven es t
-read_given plans es (Get r) (reply.Get o) k t l h = subst (WasGiven es) h.1 l
-read_given plans es (BatchGet r) (reply.BatchGet o) k t l h = subst (WasGiven es) h.0 l
-read_given plans es (Scan r) (reply.Scan o) k t l h = subst (WasGiven es) h.0 l
-read_given plans es _ _ k t l h = absurd h
+sent_given : (plans : ℕ → Plan) (es : List Event) (r : Request) (o : Reply) (k : Key) (t : ℕ) → IsLicensed plans es r → Reads r o k t → WasGiven es t
+sent_given plans es (Get r) (reply.Get o) k t l h = subst (WasGiven es) h.1 l
+sent_given plans es (BatchGet r) (reply.BatchGet o) k t l h = subst (WasGiven es) h.0 l
+sent_given plans es (Scan r) (reply.Scan o) k t l h = subst (WasGiven es) h.0 l
+sent_given plans es (PessimisticLock r) (reply.PessimisticLock o) k t l h = subst (WasGiven es) h.0 l.given
+sent_given plans es _ _ k t l h = absurd h
 
 module _ (plans : ℕ → Plan) (es : List Event) (i : Inv plans es) where
   -- a warranted commit has been named
@@ -184,7 +177,7 @@ module _ (plans : ℕ → Plan) (es : List Event) (i : Inv plans es) (j : Readin
   }
     where
       at_most_now : (o : Reply) (k : Key) (t : ℕ) → Reads r o k t → t ≤ (store_after es).last
-      at_most_now o k t d = given_last plans es i t (read_given plans es r o k t l d)
+      at_most_now o k t d = given_last plans es i t (sent_given plans es r o k t l d)
 
   -- what was seen is seen still
   value_stays : (n : Ticket) (r : Request) → Has es (Sent n r) → (m : Ticket) (q : Request) (o : Reply) → Has es (Served m q o) → (k : Key) (t : ℕ) → Reads q o k t → value_at (cell_at (table (store_after es) r).store.cells k).commits t ≡ value_at (cell_at (store_after es).cells k).commits t
@@ -212,17 +205,17 @@ module _ (plans : ℕ → Plan) (es : List Event) (i : Inv plans es) (j : Readin
       next = later_next (Served n r a) (λ z b f. cc) (rises n r a g) s t (j.at_most m q (i.sent m q o u) o k t d)
 
   -- a read that is served now
-  told_now : (r : Request) (a : Reply) → a ≡ (table (store_after es) r).reply → (k : Key) (t : ℕ) → Reads r a k t → Told (store_after es) r a k t
-  told_now r a g k t d = subst (λ z. Told (store_after es) r z k t) (sym g) (read_told (store_after es) r k t i.in_order (subst (λ z. Reads r z k t) g d))
+  given_now : (r : Request) (a : Reply) → a ≡ (table (store_after es) r).reply → (k : Key) (t : ℕ) → Reads r a k t → Given (table (store_after es) r).store r a k t
+  given_now r a g k t d = subst (λ z. Given (table (store_after es) r).store r z k t) (sym g) (read_given (store_after es) r k t i.in_order (subst (λ z. Reads r z k t) g d))
 
   says_now : (r : Request) (a : Reply) → a ≡ (table (store_after es) r).reply → (k : Key) (t : ℕ) → Reads r a k t → Says r a k (value_at (cell_at (table (store_after es) r).store.cells k).commits t)
-  says_now r a g k t d = subst (λ cs. Says r a k (value_at (cell_at cs k).commits t)) (sym (read_leaves (store_after es) r a k t d)) (told_now r a g k t d).1
+  says_now r a g k t d = (given_now r a g k t d).0
 
   later_now : (r : Request) (a : Reply) → a ≡ (table (store_after es) r).reply → (k : Key) (t : ℕ) → Reads r a k t → (s : ℕ) (p : Key) (x : Content) → phases (table (store_after es) r).store s k ≡ Locked p x → is_written_op x.op ≡ true → t < s
   later_now r a g k t d s p x w y =
-      let l = locked_stands (cell_at (store_after es).cells k) s p x (subst (λ cs. phase (cell_at cs k) s ≡ Locked p x) (read_leaves (store_after es) r a k t d) w) in
+      let l = locked_stands (cell_at (table (store_after es) r).store.cells k) s p x w in
       let counts : is_written l.lock.kind ≡ true = sym (written_op l.lock.kind) ∙ (ap (λ (z : Content). is_written_op z.op) l.writes ∙ y) in
-      subst (λ z. t < z) l.start (clear_lock t (cell_at (store_after es).cells k) l.lock (told_now r a g k t d).0 l.here counts)
+      subst (λ z. t < z) l.start ((given_now r a g k t d).1 l.lock l.here counts)
 
   Served_reading : (n : Ticket) (r : Request) (a : Reply) → Has es (Sent n r) → a ≡ (table (store_after es) r).reply → Reading plans (Served n r a ∷ es)
   Served_reading n r a h g = record {

@@ -1,12 +1,19 @@
 -- What the reply to a read says, when it is given.
-use Rattle.std.proofs.Common.{◌≡◌, ℕ, ◌<◌, inl, inr, Bool, true, false, List, [], Option, Some, None, length, refl, sym, ap, ◌∙◌, subst, subst₂}
-use Rattle.std.specs.Prelude.{if◌then◌else◌, map, take, reverse}
+use Rattle.txn_law.proofs.Replies.{changed_cell}
+use Rattle.txn_model.specs.Prewrite.{mutation_keys}
+use Rattle.txn_model.specs.PessimisticLock.{value_for_update, values_for_update, value_or_empty, raised_lock, locked_for_update, pessimistic_lock_by, pessimistic_errors}
+use Rattle.txn_kv.specs.declared.message.KeyError.{KeyError}
+use Rattle.txn_kv.specs.declared.message.Mutation.{Mutation}
+use Rattle.txn_kv.specs.declared.request.PessimisticLockRequest.{PessimisticLockRequest}
+use Rattle.std.proofs.Common.{◌≡◌, ℕ, ◌<◌, inl, inr, Bool, true, false, List, [], Option, Some, None, length, refl, sym, ap, ◌∙◌, subst, subst₂, ◌&&◌, ◌∷◌, nat_le, arith}
+use Rattle.std.proofs.lemmas.Bool.Decides.{nat_tests}
+use Rattle.std.specs.Prelude.{if◌then◌else◌, map, take, reverse, is_none}
 use Rattle.std.specs.List.{filter_map}
 use Rattle.txn_kv.specs.declared.message.KeyError.TheVariants as errors
 use Rattle.txn_kv.specs.declared.message.PbPair.{PbPair}
 use Rattle.txn_kv.specs.declared.message.RegionErr.{RegionErr}
 use Rattle.txn_kv.specs.declared.request.Request.{Request}
-use Rattle.txn_kv.specs.declared.request.Request.TheVariants.{Get, BatchGet, Scan}
+use Rattle.txn_kv.specs.declared.request.Request.TheVariants.{Get, BatchGet, Scan, PessimisticLock}
 use Rattle.txn_kv.specs.declared.request.GetRequest.{GetRequest}
 use Rattle.txn_kv.specs.declared.request.BatchGetRequest.{BatchGetRequest}
 use Rattle.txn_kv.specs.declared.request.ScanRequest.{ScanRequest}
@@ -17,14 +24,14 @@ use Rattle.txn_history.specs.Plan.{Key}
 use Rattle.txn_model.specs.declared.cell.Cell.{Cell}
 use Rattle.txn_model.specs.declared.cell.Lock.{Lock}
 use Rattle.txn_model.specs.Cells.{no_cell, cell_at, AreInOrder}
-use Rattle.txn_model.specs.Locks.{value_at, lock_info}
+use Rattle.txn_model.specs.Locks.{value_at, lock_info, is_written}
 use Rattle.txn_model.specs.Placement.{region_check}
 use Rattle.txn_model.specs.Ranges.{in_range, cells_in}
 use Rattle.txn_model.specs.Read.{lock_before, pair_of_value, pair_of, read_pair, told_value, get_by, pairs_at, batch_get_by, scanned_cells, without_value, scan_pairs, scan_by}
 use Rattle.txn_model.specs.Store.{Store}
 use Rattle.txn_model.specs.Table.{table}
-use Rattle.txn_model.proofs.CellLists.{key_of_cell}
-use Rattle.txn_law.specs.Reads.{IsUnlocked, HasPair, is_scanned, Reads, PairsSay, Says}
+use Rattle.txn_model.proofs.CellLists.{key_of_cell, cell_changed}
+use Rattle.txn_law.specs.Reads.{IsUnlocked, HasPair, is_scanned, Reads, PairsSay, Says, ValuesSay}
 use Rattle.txn_law.proofs.Among.{among_map, among_filter_map, among_take, cell_among, filter_map_among, map_among, filter_among, reverse_among, take_all, map_length, key_among, kept_or_none}
 use Rattle.txn_law.proofs.Shown.{among_scanned, error_stays}
 
@@ -173,12 +180,62 @@ scan_told None st r k t o h = subst (λ u. Told st (Scan r) (scan_by None st r).
         let key : v.0.key ≡ k = sym (key_stays r.key_only v.0) ∙ (ap (λ (z : PbPair). z.key) v.2 ∙ d) in
         (v.0, of_key st k w.0.key r.version v.0 at key, sym (error_stays r.key_only v.0) ∙ ap (λ (z : PbPair). z.error) v.2, λ f. sym (value_stays r.key_only v.0 f) ∙ ap (λ (z : PbPair). z.value) v.2)
 
--- A reply to a read says what its store shows.
-pub read_told : (st : Store) (r : Request) (k : Key) (t : ℕ) → AreInOrder st.cells → Reads r (table st r).reply k t → Told st r (table st r).reply k t
-read_told st (Get r) k t o h = get_told (region_check st.regions r.context) st r k t h
-read_told st (BatchGet r) k t o h = batch_get_told (region_check st.regions r.context) st r k t h
-read_told st (Scan r) k t o h = scan_told (region_check st.regions r.context) st r k t o h
-read_told st _ k t o h = absurd h
+-- Read for update
+
+one_says : (v : Option (List ℕ)) → v ≡ (if is_none v then None else Some (value_or_empty v))
+one_says None = refl
+one_says (Some x) = refl
+
+values_say : (cs : List Cell) (r : PessimisticLockRequest) (ms : List Mutation) (k : Key) → ValuesSay ms (map value_or_empty (map (λ m. value_for_update r (cell_at cs m.key)) ms)) (map is_none (map (λ m. value_for_update r (cell_at cs m.key)) ms)) k (value_at (cell_at cs k).commits r.for_update_ts)
+values_say cs r [] k = tt
+values_say cs r (m ∷ ms) k = ((λ e. subst (λ q. value_at (cell_at cs q).commits r.for_update_ts ≡ (if is_none (value_for_update r (cell_at cs m.key)) then None else Some (value_or_empty (value_for_update r (cell_at cs m.key))))) e (one_says (value_for_update r (cell_at cs m.key)))), values_say cs r ms k)
+
+asked_values : (cs : List Cell) (r : PessimisticLockRequest) → r.return_values ≡ true → values_for_update cs r ≡ map (λ m. value_for_update r (cell_at cs m.key)) r.mutations
+asked_values cs r h = rw h refl
+
+-- what a reply to a read says holds in the store after it, where each lock that says a value is above the timestamp
+abbrev pub Given : Store → Request → Reply → Key → ℕ → Type 0
+Given new r o k t = Says r o k (value_at (cell_at new.cells k).commits t) × ((l : Lock) → (cell_at new.cells k).lock ≡ Some l → is_written l.kind ≡ true → t < l.start)
+
+update_given : (e : Option RegionErr) (es : List KeyError) (st : Store) (r : PessimisticLockRequest) (k : Key) (t : ℕ) → AreInOrder st.cells → Reads (PessimisticLock r) (pessimistic_lock_by e es st r).reply k t → Given (pessimistic_lock_by e es st r).store (PessimisticLock r) (pessimistic_lock_by e es st r).reply k t
+update_given (Some e) es st r k t o h = absurd (cc h.1.0)
+update_given None (x ∷ xs) st r k t o h = absurd (cc h.1.1)
+update_given None [] st r k t o h = subst (λ u. Given new (PessimisticLock r) answer k u) h.0 (says, λ l e w. absurd (unwritten l e w))
+  where
+    new : Store
+    new = (pessimistic_lock_by None [] st r).store
+
+    answer : Reply
+    answer = (pessimistic_lock_by None [] st r).reply
+
+    now : cell_at new.cells k ≡ locked_for_update r (cell_at st.cells k)
+    now = changed_cell st new (mutation_keys r.mutations) (locked_for_update r) k (cell_changed (mutation_keys r.mutations) (locked_for_update r) (λ c. refl) st.cells o k) h.3
+
+    says : Says (PessimisticLock r) answer k (value_at (cell_at new.cells k).commits r.for_update_ts)
+    says = subst (λ (c : Cell). Says (PessimisticLock r) answer k (value_at c.commits r.for_update_ts)) (sym now) (subst (λ vs. ValuesSay r.mutations (map value_or_empty vs) (map is_none vs) k (value_at (cell_at st.cells k).commits r.for_update_ts)) (sym (asked_values st.cells r h.2)) (values_say st.cells r r.mutations k))
+
+    raised : (o : Option Lock) → is_written (raised_lock r o).kind ≡ false
+    raised None = refl
+    raised (Some n) = refl
+
+    unwritten : (l : Lock) → (cell_at new.cells k).lock ≡ Some l → is_written l.kind ≡ true → ⊥
+    unwritten l e w =
+        let same : Some (raised_lock r (cell_at st.cells k).lock) ≡ Some l = sym (ap (λ (c : Cell). c.lock) now) ∙ e in
+        let lock : raised_lock r (cell_at st.cells k).lock ≡ l = cc in
+        let kind = ap (λ (n : Lock). is_written n.kind) lock in
+        let free = raised (cell_at st.cells k).lock in
+        cc
+
+clear_lock : (t : ℕ) (c : Cell) (l : Lock) → IsClearAt t c → c.lock ≡ Some l → is_written l.kind ≡ true → t < l.start
+clear_lock t c l h e k = by (nat_le l.start t) refl (subst (λ o. lock_before t o ≡ None) e h)
+  where
+    by : (b : Bool) → nat_le l.start t ≡ b → (if is_written l.kind && b then Some l else None) ≡ None → t < l.start
+    by true d g = absurd (let w : (if is_written l.kind && true then Some l else None) ≡ Some l = rw k refl in cc)
+    by false d g = grind (arith, nat_tests)
+
+-- a request that leaves the cells
+told_given : (st new : Store) (r : Request) (o : Reply) (k : Key) (t : ℕ) → new.cells ≡ st.cells → Told st r o k t → Given new r o k t
+told_given st new r o k t e h = subst (λ cs. Says r o k (value_at (cell_at cs k).commits t) × ((l : Lock) → (cell_at cs k).lock ≡ Some l → is_written l.kind ≡ true → t < l.start)) (sym e) (h.1, λ l f w. clear_lock t (cell_at st.cells k) l h.0 f w)
 
 get_leaves : (e : Option RegionErr) (st : Store) (r : GetRequest) → (get_by e st r).store.cells ≡ st.cells
 get_leaves (Some e) st r = refl
@@ -192,9 +249,10 @@ scan_leaves : (e : Option RegionErr) (st : Store) (r : ScanRequest) → (scan_by
 scan_leaves (Some e) st r = refl
 scan_leaves None st r = refl
 
--- and the request leaves every cell
-pub read_leaves : (st : Store) (r : Request) (o : Reply) (k : Key) (t : ℕ) → Reads r o k t → (table st r).store.cells ≡ st.cells
-read_leaves st (Get r) o k t h = get_leaves (region_check st.regions r.context) st r
-read_leaves st (BatchGet r) o k t h = batch_get_leaves (region_check st.regions r.context) st r
-read_leaves st (Scan r) o k t h = scan_leaves (region_check st.regions r.context) st r
-read_leaves st _ o k t h = absurd h
+-- A reply to a read says what the store shows after it.
+pub read_given : (st : Store) (r : Request) (k : Key) (t : ℕ) → AreInOrder st.cells → Reads r (table st r).reply k t → Given (table st r).store r (table st r).reply k t
+read_given st (Get r) k t o h = told_given st (table st (Get r)).store (Get r) (table st (Get r)).reply k t (get_leaves (region_check st.regions r.context) st r) (get_told (region_check st.regions r.context) st r k t h)
+read_given st (BatchGet r) k t o h = told_given st (table st (BatchGet r)).store (BatchGet r) (table st (BatchGet r)).reply k t (batch_get_leaves (region_check st.regions r.context) st r) (batch_get_told (region_check st.regions r.context) st r k t h)
+read_given st (Scan r) k t o h = told_given st (table st (Scan r)).store (Scan r) (table st (Scan r)).reply k t (scan_leaves (region_check st.regions r.context) st r) (scan_told (region_check st.regions r.context) st r k t o h)
+read_given st (PessimisticLock r) k t o h = update_given (region_check st.regions r.context) (pessimistic_errors st.cells r) st r k t o h
+read_given st _ k t o h = absurd h

@@ -123,7 +123,7 @@ mutation_has_key (n ∷ ms) m k (inr a) e = by (key_eq n.key k) (mutation_has_ke
     by false h = h
 
 -- the cell of a changed key
-changed_cell : (st new : Store) (ks : List Key) (f : Cell → Cell) (k : Key) → cell_at new.cells k ≡ (if has_key ks k then f (cell_at st.cells k) else cell_at st.cells k) → has_key ks k ≡ true → cell_at new.cells k ≡ f (cell_at st.cells k)
+pub changed_cell : (st new : Store) (ks : List Key) (f : Cell → Cell) (k : Key) → cell_at new.cells k ≡ (if has_key ks k then f (cell_at st.cells k) else cell_at st.cells k) → has_key ks k ≡ true → cell_at new.cells k ≡ f (cell_at st.cells k)
 changed_cell st new ks f k e h = rw h at e
 
 prewrite_fine : (e : Option RegionErr) (es : List KeyError) (st : Store) (r : PrewriteRequest) → AreInOrder st.cells → ((k : Key) → IsSound (cell_at (prewrite_by e es st r).store.cells k)) → IsWithoutError (prewrite_by e es st r).reply → (k : Key) → LocksKey r.mutations k → IsLockedOrCommitted (phases (prewrite_by e es st r).store r.start_version k)

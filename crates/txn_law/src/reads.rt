@@ -10,7 +10,8 @@ ghost use Rattle.txn_model.specs.Locks.{value_at};
 ghost use Rattle.txn_law.specs.Reads.{Reads, Says};
 ghost use Rattle.txn_law.specs.Run.{IsRun, store_after};
 
-/// What a reply told of a key at a timestamp is what the last store shows there, whatever came later.
+/// What a reply told of a key at a timestamp is what the last store shows there, whatever came later: of a Get, a BatchGet
+/// or a Scan at its timestamp, and of a pessimistic lock that returns values at its for-update timestamp.
 pub fn reads_repeat()
     ensures { (plans : ℕ → Plan) (events : List Event) → IsRun plans events →
         (ticket : Ticket) (request : Request) (reply : Reply) → Has events (Took ticket request reply) →
