@@ -128,7 +128,7 @@ module _ (plans : ℕ → Plan) (es : List Event) (i : Inv plans es) where
       by_phase _ e g = absurd g
 
   -- what a reply about the primary told
-  told : (s c : ℕ) → WasDecided es s c → ((c ≡ 0) × (phases (store_after es) s (plans s).primary ≡ RolledBack)) ⊎ ((0 < c) × IsDecidedAt (plans s) (phases (store_after es) s) c)
+  pub told : (s c : ℕ) → WasDecided es s c → ((c ≡ 0) × (phases (store_after es) s (plans s).primary ≡ RolledBack)) ⊎ ((0 < c) × IsDecidedAt (plans s) (phases (store_after es) s) c)
   told s c h = elim (subst (λ q. Stands (store_after es) q s c) (shown_primary s h.primary h.shown) ((i.means h.ticket h.request h.answer (i.taken h.ticket h.request h.answer h.taken)).decides h.primary s c h.decides))
       [ inl a ↦ inl a | inr a ↦ inr (let w = (i.coherent s).named c a in (w.1, a)) ]
 

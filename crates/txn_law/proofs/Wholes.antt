@@ -1,5 +1,5 @@
 -- From what is kept to the law's own words.
-use Rattle.std.proofs.Common.{◌≡◌, ◌≢◌, ℕ, inl, inr, true, List, [], ◌∷◌, Option, Some, None, refl, subst, arith, ◌<◌, sym, ◌∙◌}
+use Rattle.std.proofs.Common.{◌≡◌, ◌≢◌, ℕ, inl, inr, true, List, [], ◌∷◌, Option, Some, None, refl, subst, arith, ◌<◌, sym, ◌∙◌, ◌⊎◌}
 use Rattle.std.proofs.lemmas.Bool.Decides.{nat_tests}
 use Rattle.txn_kv.specs.declared.ticket.Ticket.{Ticket}
 use Rattle.txn_kv.specs.declared.request.Request.TheVariants.{Commit, BatchRollback}
@@ -11,7 +11,7 @@ use Rattle.txn_kv.specs.declared.reply.BatchRollbackResponse.{BatchRollbackRespo
 use Rattle.txn_history.specs.Among.{IsAmong}
 use Rattle.txn_history.specs.Event.{Event, Has}
 use Rattle.txn_history.specs.Event.Event.{Took}
-use Rattle.txn_history.specs.Licence.{IsWithoutError, WasNamed, PrimaryCommitted, PrimaryRolledBack}
+use Rattle.txn_history.specs.Licence.{IsWithoutError, WasNamed, PrimaryCommitted, PrimaryRolledBack, WasDecided}
 use Rattle.txn_history.specs.Plan.{Key, Content, Plan, has_key}
 use Rattle.txn_model.specs.declared.cell.Cell.{Cell}
 use Rattle.txn_model.specs.declared.cell.Lock.{Lock}
@@ -24,7 +24,7 @@ use Rattle.txn_law.proofs.Phases.{Phase, phase, IsSound}
 use Rattle.txn_law.proofs.Phases.Phase.{Free, Locked, Committed, RolledBack}
 use Rattle.txn_law.proofs.Coherent.{IsDecidedAt}
 use Rattle.txn_law.proofs.Replies.{phases, IsCommitted, lock_is_phase}
-use Rattle.txn_law.proofs.Kept.{Inv, kept, decided}
+use Rattle.txn_law.proofs.Kept.{Inv, kept, decided, told}
 
 found_commit : (ws : List Write) (s : ℕ) (w : Write) → commit_of ws s ≡ Some w → IsAmong ws w × (w.start ≡ s)
 found_commit [] s w h = absurd (cc)
@@ -185,3 +185,12 @@ law_fits plans es run s = by_phase (phases (store_after es) s (plans s).primary)
     by_phase (Locked p x) e = none (Locked p x) e (λ c y f. cc)
     by_phase RolledBack e = none RolledBack e (λ c x f. cc)
     by_phase (Committed c x) e = inr (c, whole_at plans es i s c (x, e), (λ d h. let w = (answered d h).1 in cc), ((i.coherent s).named c (x, e)).0)
+
+-- what a resolver was told about a primary is so, and stays
+pub law_decided : (plans : ℕ → Plan) (es : List Event) → IsRun plans es → (s c : ℕ) → WasDecided es s c → ((c ≡ 0) × IsAbsent (store_after es).cells s) ⊎ IsWholeAt (plans s) (store_after es).cells s c
+law_decided plans es run s c h =
+    let i = kept plans es run in
+    elim (told plans es i s c h) [
+      | inl a ↦ inl (a.0, (let r = a.1 in absent plans es i s (λ d w. let y = w.1 in absurd (cc))))
+      | inr a ↦ inr (whole_at plans es i s c a.1)
+    ]

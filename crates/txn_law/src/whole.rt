@@ -1,4 +1,4 @@
-ghost use Rattle.std.specs.Prelude.{◌≡◌, ◌≢◌, ◌<◌, ℕ, true, List, Some};
+ghost use Rattle.std.specs.Prelude.{◌≡◌, ◌≢◌, ◌⊎◌, ◌<◌, ℕ, true, List, Some};
 ghost use Rattle.txn_kv.specs.declared.ticket.Ticket.{Ticket};
 ghost use Rattle.txn_kv.specs.declared.request.Request.TheVariants.{Commit, BatchRollback};
 ghost use Rattle.txn_kv.specs.declared.request.CommitRequest.{CommitRequest};
@@ -8,7 +8,7 @@ ghost use Rattle.txn_kv.specs.declared.reply.CommitResponse.{CommitResponse};
 ghost use Rattle.txn_kv.specs.declared.reply.BatchRollbackResponse.{BatchRollbackResponse};
 ghost use Rattle.txn_history.specs.Event.{Event, Has};
 ghost use Rattle.txn_history.specs.Event.Event.{Took};
-ghost use Rattle.txn_history.specs.Licence.{IsWithoutError, WasNamed, PrimaryCommitted, PrimaryRolledBack};
+ghost use Rattle.txn_history.specs.Licence.{IsWithoutError, WasDecided, WasNamed, PrimaryCommitted, PrimaryRolledBack};
 ghost use Rattle.txn_history.specs.Plan.{Key, Content, Plan, has_key};
 ghost use Rattle.txn_model.specs.declared.cell.Lock.{Lock};
 ghost use Rattle.txn_model.specs.Cells.{cell_at};
@@ -33,6 +33,10 @@ pub fn whole_or_nothing()
     ensures rolled_stays { (plans : ℕ → Plan) (events : List Event) → IsRun plans events →
         (s : ℕ) → has_start (cell_at (store_after events).cells (plans s).primary).rolled s ≡ true →
         IsAbsent (store_after events).cells s }
+    // What a resolver was told about the primary of a lock that it was shown is so: committed at c, or for 0 rolled back.
+    ensures decided { (plans : ℕ → Plan) (events : List Event) → IsRun plans events →
+        (s c : ℕ) → WasDecided events s c →
+        ((c ≡ 0) × IsAbsent (store_after events).cells s) ⊎ IsWholeAt (plans s) (store_after events).cells s c }
     // What is whole at c was sent to the primary at c.
     ensures named { (plans : ℕ → Plan) (events : List Event) → IsRun plans events →
         (s c : ℕ) → IsWholeAt (plans s) (store_after events).cells s c → WasNamed (plans s) events s c }
