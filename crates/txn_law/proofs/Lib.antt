@@ -15,3 +15,5 @@ pub mod Answered
 pub mod Tickets
 pub mod SampleRun
 pub mod Apart
+pub mod Agree
+pub mod Lone

@@ -1,3 +1,4 @@
+pub mod Lone
 pub mod Reads
 pub mod Run
 pub mod Sample

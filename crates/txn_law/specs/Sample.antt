@@ -15,16 +15,14 @@ use Rattle.txn_kv.specs.declared.reply.Reply.TheVariants as reply
 use Rattle.txn_kv.specs.declared.ticket.Ticket.{Ticket}
 use Rattle.txn_history.specs.Event.{Event}
 use Rattle.txn_history.specs.Event.Event.{Sent, Served, Took}
-use Rattle.txn_history.specs.Plan.{Key, key_eq, Content, Plan}
+use Rattle.txn_history.specs.Plan.{Key, key_eq, Plan}
+pub use Rattle.txn_law.specs.Lone.{put_of}
 
 abbrev pub first_key : Key
 first_key = 97 ∷ []
 
 abbrev pub second_key : Key
 second_key = 98 ∷ []
-
-abbrev pub put_of : List ℕ → Content
-put_of v = record { op = Put; value = v }
 
 -- what the transaction means to write
 abbrev pub sample_plans : ℕ → Plan

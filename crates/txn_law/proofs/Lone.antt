@@ -1,0 +1,51 @@
+-- The licences of a transaction that puts one key.
+use Rattle.std.proofs.Common.{◌≡◌, ℕ, inl, inr, Bool, true, false, List, [], ◌∷◌, Some, None, refl, sym, ap, ◌∙◌, subst}
+use Rattle.std.specs.Prelude.{if◌then◌else◌}
+use Rattle.txn_kv.specs.declared.ticket.Ticket.{Ticket}
+use Rattle.txn_kv.specs.declared.message.Mutation.{Mutation}
+use Rattle.txn_kv.specs.declared.message.Op.TheVariants.{Put}
+use Rattle.txn_kv.specs.declared.request.Request.TheVariants.{Prewrite}
+use Rattle.txn_kv.specs.declared.request.PrewriteRequest.{PrewriteRequest}
+use Rattle.txn_kv.specs.declared.request.CommitRequest.{CommitRequest}
+use Rattle.txn_kv.specs.declared.reply.Reply.TheVariants as reply
+use Rattle.txn_kv.specs.declared.reply.PrewriteResponse.{PrewriteResponse}
+use Rattle.txn_history.specs.Among.{IsAmong}
+use Rattle.txn_history.specs.Event.{Event, Has}
+use Rattle.txn_history.specs.Event.Event.{Took}
+use Rattle.txn_history.specs.Licence.{IsWithoutError, AllAcknowledged, PrewriteLicence, PrimaryCommitLicence, CommitLicence}
+use Rattle.txn_history.specs.Plan.{Key, key_eq, has_key, Content, content_of, LocksKey}
+use Rattle.txn_model.proofs.Keys.{same_key, key_itself}
+use Rattle.txn_law.specs.Lone.{put_of, lone_plan, PutsAlone}
+use Rattle.txn_law.proofs.Rows.{only_key}
+
+lone_writes : (k : Key) (v : List ℕ) → (lone_plan k v).writes k ≡ Some (put_of v)
+lone_writes k v = rw (key_itself k) refl
+
+lone_content : (m : Mutation) (k : Key) (v : List ℕ) (x : Content) → m.op ≡ Put → m.key ≡ k → m.value ≡ v → content_of m ≡ Some x → (lone_plan k v).writes m.key ≡ Some x
+lone_content m k v x a b c h =
+    let put : content_of m ≡ Some (put_of m.value) = rw a refl in
+    subst (λ q. (lone_plan k v).writes q ≡ Some x) (sym b) (lone_writes k v ∙ (ap (λ w. Some (put_of w)) (sym c) ∙ (sym put ∙ h)))
+
+pub lone_prewrite : (k : Key) (v : List ℕ) (es : List Event) (r : PrewriteRequest) → r.primary_lock ≡ k → PutsAlone r.mutations k v → PrewriteLicence (lone_plan k v) es r
+lone_prewrite k v es r p h = record { primary = p; planned = λ m x a e. planned m x (subst (λ ms. IsAmong ms m) h.is a) e }
+  where
+    planned : (m : Mutation) (x : Content) → IsAmong (h.mutation ∷ []) m → content_of m ≡ Some x → (lone_plan k v).writes m.key ≡ Some x
+    planned m x (inl a) e = subst (λ (n : Mutation). content_of n ≡ Some x → (lone_plan k v).writes n.key ≡ Some x) a (lone_content h.mutation k v x h.op h.key h.value) e
+    planned m x (inr a) e = absurd a
+
+-- a Prewrite that was answered without error holds all that is written
+pub lone_ready : (k : Key) (v : List ℕ) (es : List Event) (s : ℕ) (t : Ticket) (r : PrewriteRequest) (o : PrewriteResponse) → Has es (Took t (Prewrite r) (reply.Prewrite o)) → IsWithoutError (reply.Prewrite o) → r.start_version ≡ s → PutsAlone r.mutations k v → AllAcknowledged (lone_plan k v) es s
+lone_ready k v es s t r o taken fine start h q x w = record { ticket = t; request = r; response = o; taken = taken; fine = fine; start = start; locks = locks (key_eq k q) refl w }
+  where
+    put : content_of h.mutation ≡ Some (put_of h.mutation.value)
+    put = let a = h.op in rw a refl
+
+    here : IsAmong r.mutations h.mutation
+    here = subst (λ ms. IsAmong ms h.mutation) (sym h.is) (inl refl)
+
+    locks : (b : Bool) → key_eq k q ≡ b → (if b then Some (put_of v) else None) ≡ Some x → LocksKey r.mutations q
+    locks true e f = (h.mutation, put_of h.mutation.value, here, h.key ∙ same_key k q e, put)
+    locks false e f = absurd (cc)
+
+pub lone_commit : (k : Key) (v : List ℕ) (es : List Event) (r : CommitRequest) → r.keys ≡ (k ∷ []) → PrimaryCommitLicence (lone_plan k v) es r.start_version r.commit_version → CommitLicence (lone_plan k v) es r
+lone_commit k v es r e l = λ q h. inl (only_key k q (subst (λ ks. has_key ks q ≡ true) e h), l)
