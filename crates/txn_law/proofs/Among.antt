@@ -6,7 +6,7 @@ use mathlib.Core.List.{reverse_aux}
 use Rattle.txn_history.specs.Among.{IsAmong}
 use Rattle.txn_model.specs.declared.cell.Cell.{Cell}
 use Rattle.txn_model.specs.Cells.{Key, key_eq, key_cmp, has_key, no_cell, cell_at, AllAbove, AreInOrder}
-use Rattle.txn_model.proofs.Keys.{same_key, key_itself, differs_if_less}
+use Rattle.txn_model.proofs.Keys.{same_key, key_itself, differs_if_less, key_cmp_itself, less_trans}
 use Rattle.std.specs.declared.cmp.Ordering.TheVariants.{Less}
 
 pub among_map : {X Y : Type 0} (f : X → Y) (xs : List X) (y : Y) → IsAmong (map f xs) y → (x : X) × IsAmong xs x × (f x ≡ y)
@@ -119,3 +119,55 @@ kept_or_none (c ∷ cs) k = by (kept_or_none cs k) (key_eq c.key k)
     by : IsAmong cs (cell_at cs k) ⊎ (cell_at cs k ≡ no_cell k) → (b : Bool) → IsAmong (c ∷ cs) (if b then c else cell_at cs k) ⊎ ((if b then c else cell_at cs k) ≡ no_cell k)
     by rest true = inl (inl refl)
     by rest false = elim rest [ inl a ↦ inl (inr a) | inr a ↦ inr a ]
+
+-- Lists in an order of keys, upwards or downwards.
+
+abbrev pub Follows : Bool → Key → Key → Type 0
+Follows down k q = (if down then key_cmp q k else key_cmp k q) ≡ Less
+
+-- each cell goes before all later ones
+abbrev pub GoOn : Bool → List Cell → Type 0
+GoOn down [] = Unit {0}
+GoOn down (c ∷ cs) = ((d : Cell) → IsAmong cs d → Follows down c.key d.key) × GoOn down cs
+
+no_circle : (down : Bool) (k q : Key) → Follows down k q → Follows down q k → ⊥
+no_circle true k q h g = let e = key_cmp_itself k in let f = less_trans k q k g h in absurd (cc)
+no_circle false k q h g = let e = key_cmp_itself k in let f = less_trans k q k h g in absurd (cc)
+
+pub in_order_goes : (cs : List Cell) → AreInOrder cs → GoOn false cs
+in_order_goes [] o = tt
+in_order_goes (c ∷ cs) o = ((λ d a. above_all c.key cs d o.0 a), in_order_goes cs o.1)
+
+pub filter_goes : (down : Bool) (p : Cell → Bool) (cs : List Cell) → GoOn down cs → GoOn down (filter p cs)
+filter_goes down p [] g = tt
+filter_goes down p (c ∷ cs) g = by (filter_goes down p cs g.1) (p c)
+  where
+    by : GoOn down (filter p cs) → (b : Bool) → GoOn down (cond b (c ∷ filter p cs) (filter p cs))
+    by rest true = ((λ d a. g.0 d (among_filter p cs d a)), rest)
+    by rest false = rest
+
+reverse_aux_goes : (xs ys : List Cell) → GoOn false xs → GoOn true ys → ((x y : Cell) → IsAmong xs x → IsAmong ys y → key_cmp y.key x.key ≡ Less) → GoOn true (reverse_aux xs ys)
+reverse_aux_goes [] ys g h f = h
+reverse_aux_goes (x ∷ xs) ys g h f = reverse_aux_goes xs (x ∷ ys) g.1 ((λ d a. f x d (inl refl) a), h) (λ u v a b. elim b [ inl e ↦ subst (λ (z : Cell). key_cmp z.key u.key ≡ Less) e (g.0 u a) | inr e ↦ f u v (inr a) e ])
+
+pub reverse_goes : (xs : List Cell) → GoOn false xs → GoOn true (reverse xs)
+reverse_goes xs g = reverse_aux_goes xs [] g tt (λ x y a b. absurd b)
+
+-- What a list of cells gives in order: where something is taken that a later cell gave, all that earlier ones gave is taken.
+pub taken_before : {Y : Type 0} (down : Bool) (f : Cell → Option Y) (at : Y → Key) → ((c : Cell) (y : Y) → f c ≡ Some y → at y ≡ c.key) → (n : ℕ) (cs : List Cell) → GoOn down cs → (c : Cell) (y : Y) → IsAmong cs c → f c ≡ Some y → (q : Y) → IsAmong (take n (filter_map f cs)) q → Follows down c.key (at q) → IsAmong (take n (filter_map f cs)) y
+taken_before down f at k n [] g c y a e q b h = absurd a
+taken_before {Y} down f at k n (d ∷ ds) g c y a e q b h = by (f d) refl n (λ m x. taken_before down f at k m ds g.1 c y x e q) b
+  where
+    here : (z : Y) → f d ≡ Some z → IsAmong ds c → Follows down c.key (at z) → ⊥
+    here z u x w = no_circle down c.key d.key (subst (λ j. Follows down c.key j) (k d z u) w) (g.0 c x)
+
+    by : (o : Option Y) → f d ≡ o → (m : ℕ) → ((l : ℕ) → IsAmong ds c → IsAmong (take l (filter_map f ds)) q → Follows down c.key (at q) → IsAmong (take l (filter_map f ds)) y) → IsAmong (take m (cons_option o (filter_map f ds))) q → IsAmong (take m (cons_option o (filter_map f ds))) y
+    by None u m rest v = elim a [ inl w ↦ absurd (let z = ap f w in cc) | inr x ↦ rest m x v h ]
+    by (Some z) u zero rest v = absurd v
+    by (Some z) u (suc m) rest v = elim a [
+      | inl w ↦ inl (let p = ap f w in cc)
+      | inr x ↦ elim v [
+        | inl w ↦ absurd (here z u x (subst (λ j. Follows down c.key (at j)) (sym w) h))
+        | inr w ↦ inr (rest m x w h)
+      ]
+    ]

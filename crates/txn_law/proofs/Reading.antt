@@ -31,8 +31,8 @@ use Rattle.txn_model.specs.Read.{lock_before, pair_of_value, pair_of, read_pair,
 use Rattle.txn_model.specs.Store.{Store}
 use Rattle.txn_model.specs.Table.{table}
 use Rattle.txn_model.proofs.CellLists.{key_of_cell, cell_changed}
-use Rattle.txn_law.specs.Reads.{IsUnlocked, HasPair, is_scanned, Reads, PairsSay, Says, ValuesSay}
-use Rattle.txn_law.proofs.Among.{among_map, among_filter_map, among_take, cell_among, filter_map_among, map_among, filter_among, reverse_among, take_all, map_length, key_among, kept_or_none}
+use Rattle.txn_law.specs.Reads.{IsUnlocked, HasPair, is_scanned, Reads, PairsSay, Says, ValuesSay, ReachesPast}
+use Rattle.txn_law.proofs.Among.{among_map, among_filter_map, among_take, cell_among, filter_map_among, map_among, filter_among, reverse_among, take_all, map_length, key_among, kept_or_none, Follows, GoOn, in_order_goes, filter_goes, reverse_goes, taken_before}
 use Rattle.txn_law.proofs.Shown.{among_scanned, error_stays}
 
 -- no lock stands in the way of a read at t
@@ -168,8 +168,27 @@ scan_told None st r k t o h = subst (λ u. Told st (Scan r) (scan_by None st r).
       | inr a ↦ absurd (let w = sym (ap (read_pair r.version) a) ∙ e in cc)
     ]
 
+    in_order : GoOn r.reverse (scanned_cells r st.cells)
+    in_order = by r.reverse
+      where
+        by : (b : Bool) → GoOn b (if b then reverse (cells_in r.end_key r.start_key st.cells) else cells_in r.start_key r.end_key st.cells)
+        by true = reverse_goes (cells_in r.end_key r.start_key st.cells) (filter_goes false (λ (d : Cell). in_range r.end_key r.start_key d.key) st.cells (in_order_goes st.cells o))
+        by false = filter_goes false (λ (d : Cell). in_range r.start_key r.end_key d.key) st.cells (in_order_goes st.cells o)
+
+    passed : (p : PbPair) → read_pair r.version (cell_at st.cells k) ≡ Some p → is_scanned r k ≡ true → ReachesPast r (scan_pairs r st.cells) k → HasPair (scan_pairs r st.cells) k
+    passed p e s w = elim (kept_or_none st.cells k) [
+      | inl a ↦ (
+          let v = among_map shape (take r.limit found) w.0 w.1 in
+          let key : v.0.key ≡ w.0.key = sym (key_stays r.key_only v.0) ∙ ap (λ (z : PbPair). z.key) v.2 in
+          let here = scanned_among r st.cells (cell_at st.cells k) a (subst (λ q. is_scanned r q ≡ true) (sym (key_of_cell st.cells k)) s) in
+          let before : Follows r.reverse (cell_at st.cells k).key v.0.key = subst₂ (Follows r.reverse) (sym (key_of_cell st.cells k)) (sym key) w.2 in
+          let taken = taken_before r.reverse (read_pair r.version) (λ (z : PbPair). z.key) (λ c z g. (read_some c r.version z g).0) r.limit (scanned_cells r st.cells) in_order (cell_at st.cells k) p here e v.0 v.1 before in
+          (shape p, map_among shape (take r.limit found) p taken, key_stays r.key_only p ∙ ((read_some (cell_at st.cells k) r.version p e).0 ∙ key_of_cell st.cells k)))
+      | inr a ↦ absurd (let z = sym (ap (read_pair r.version) a) ∙ e in cc)
+    ]
+
     has : (p : PbPair) → read_pair r.version (cell_at st.cells k) ≡ Some p → HasPair (scan_pairs r st.cells) k
-    has p e = elim h.3 [ inl a ↦ a | inr a ↦ in_scan p e a.0 a.1 ]
+    has p e = elim h.3 [ inl a ↦ a | inr a ↦ elim a.1 [ inl b ↦ in_scan p e a.0 b | inr b ↦ passed p e a.0 b ] ]
 
     from : (q : PbPair) → IsAmong (scan_pairs r st.cells) q → q.key ≡ k → (p : PbPair) × (read_pair r.version (cell_at st.cells k) ≡ Some p) × (p.error ≡ q.error) × (r.key_only ≡ false → p.value ≡ q.value)
     from q a d =

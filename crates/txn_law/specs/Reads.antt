@@ -1,4 +1,6 @@
 -- What the reply to a read tells of a key.
+use Rattle.std.specs.declared.cmp.Ordering.TheVariants.{Less}
+use Rattle.txn_model.specs.Cells.{key_cmp}
 use Rattle.txn_model.specs.Prewrite.{mutation_keys}
 use Rattle.txn_kv.specs.declared.message.Mutation.{Mutation}
 use Rattle.std.specs.Prelude.{◌≡◌, ◌≢◌, ◌⊎◌, ℕ, ◌<◌, Bool, true, false, List, Option, Some, None, is_some, if◌then◌else◌, length, [], ◌∷◌}
@@ -24,13 +26,21 @@ HasPair ps k = (p : PbPair) × IsAmong ps p × (p.key ≡ k)
 abbrev pub is_scanned : ScanRequest → Key → Bool
 is_scanned r k = if r.reverse then in_range r.end_key r.start_key k else in_range r.start_key r.end_key k
 
+-- a scan goes over the first key before the second
+abbrev pub GoesBefore : ScanRequest → Key → Key → Type 0
+GoesBefore r k q = (if r.reverse then key_cmp q k else key_cmp k q) ≡ Less
+
+-- the pairs reach past the key
+abbrev pub ReachesPast : ScanRequest → List PbPair → Key → Type 0
+ReachesPast r ps k = (p : PbPair) × IsAmong ps p × GoesBefore r k p.key
+
 -- A reply reads the key at t: the request was served, and no lock stood in the way. A scan reads the keys of its pairs,
--- and where its limit was not reached each key of its range. A pessimistic lock that returns values reads its keys at its
+-- and of its range each key that its pairs reach past, and all where its limit was not reached. A pessimistic lock that returns values reads its keys at its
 -- for-update timestamp.
 abbrev pub Reads : Request → Reply → Key → ℕ → Type 0
 Reads (Get r) (reply.Get o) k t = (r.key ≡ k) × (r.version ≡ t) × IsWithoutError (reply.Get o)
 Reads (BatchGet r) (reply.BatchGet o) k t = (r.version ≡ t) × (o.region_error ≡ None) × (has_key r.keys k ≡ true) × IsUnlocked o.pairs k
-Reads (Scan r) (reply.Scan o) k t = (r.version ≡ t) × (o.region_error ≡ None) × IsUnlocked o.pairs k × (HasPair o.pairs k ⊎ ((is_scanned r k ≡ true) × (length o.pairs < r.limit)))
+Reads (Scan r) (reply.Scan o) k t = (r.version ≡ t) × (o.region_error ≡ None) × IsUnlocked o.pairs k × (HasPair o.pairs k ⊎ ((is_scanned r k ≡ true) × ((length o.pairs < r.limit) ⊎ ReachesPast r o.pairs k)))
 Reads (PessimisticLock r) (reply.PessimisticLock o) k t = (r.for_update_ts ≡ t) × IsWithoutError (reply.PessimisticLock o) × (r.return_values ≡ true) × (has_key (mutation_keys r.mutations) k ≡ true)
 Reads _ _ k t = ⊥
 
