@@ -35,8 +35,8 @@ abbrev pub ReachesPast : ScanRequest → List PbPair → Key → Type 0
 ReachesPast r ps k = (p : PbPair) × IsAmong ps p × GoesBefore r k p.key
 
 -- A reply reads the key at t: the request was served, and no lock stood in the way. A scan reads the keys of its pairs,
--- and of its range each key that its pairs reach past, and all where its limit was not reached. A pessimistic lock that returns values reads its keys at its
--- for-update timestamp.
+-- and of its range each key that its pairs reach past, and all where its limit was not reached. A pessimistic lock that
+-- returns values reads its keys at its for-update timestamp.
 abbrev pub Reads : Request → Reply → Key → ℕ → Type 0
 Reads (Get r) (reply.Get o) k t = (r.key ≡ k) × (r.version ≡ t) × IsWithoutError (reply.Get o)
 Reads (BatchGet r) (reply.BatchGet o) k t = (r.version ≡ t) × (o.region_error ≡ None) × (has_key r.keys k ≡ true) × IsUnlocked o.pairs k
