@@ -25,10 +25,3 @@ commit_kept : (e : Option RegionErr) (o : Option KeyError) (st : Store) (r : Com
 commit_kept (Some e) o st r kept = kept
 commit_kept None (Some e) st r kept = kept
 commit_kept None None st r kept = kept_changed r.keys (committed r.start_version r.commit_version) (commit_key_same r.start_version r.commit_version) st.cells kept.in_order
-
-pub kept_after : (st : Store) (r : Request) → AreKept st.cells → AreKept (table st r).store.cells
-kept_after st (Prewrite r) kept = prewrite_kept (region_check st.regions r.context) (prewrite_errors st.cells r r.mutations r.is_pessimistic_lock) st r kept
-kept_after st (Commit r) kept = commit_kept (region_check st.regions r.context) (first_commit_error st.cells r r.keys) st r kept
-kept_after st (GetRegion r) kept = kept
-kept_after st (GetStore r) kept = kept
-kept_after st (Tso r) kept = kept

@@ -44,6 +44,9 @@ order_cases a b {G} f g h = by (key_cmp a b) refl
     by Equal e = g (same_if_equal a b e)
     by Greater e = h (less_if_greater a b e)
 
+pub greater_if_less : (a b : Key) → key_cmp a b ≡ Less → key_cmp b a ≡ Greater
+greater_if_less a b h = nat_list_cmp_total.antisymm b a ∙ ap ordering_reverse h
+
 index_small : (o : Ordering) → ordering_index o ≤ 2
 index_small Less = omega arith
 index_small Equal = omega arith

@@ -1,15 +1,15 @@
 -- What a search finds among cells in the order of their keys, and what an edit at that place does.
-use Rattle.std.proofs.Common.{inl, inr, ◌≡◌, ℕ, suc, zero, ◌<◌, ◌≤◌, Bool, true, false, if◌then◌else◌, List, [], ◌∷◌, length, get_or, set, Result, Ok, Err, IfOk, IfErr, refl, sym, ap, ◌∙◌, subst, arith}
-use Rattle.std.specs.List.{insert}
+use Rattle.std.proofs.Common.{inl, inr, ◌≡◌, ℕ, suc, zero, ◌<◌, ◌≤◌, Bool, true, false, if◌then◌else◌, List, [], ◌∷◌, ◌+◌, take, drop, length, get_or, set, Result, Ok, Err, IfOk, IfErr, refl, sym, ap, ◌∙◌, subst, arith}
+use Rattle.std.specs.List.{insert, remove, filter}
 use Rattle.std.specs.List.Sorted.{IsSearchInRange, IsBinarySearchResult, IsNonDecreasingBy}
-use Rattle.std.specs.Ordering.{ordering_index}
+use Rattle.std.specs.Ordering.{ordering_index, is_lt}
 use Rattle.std.specs.declared.cmp.Ordering.TheVariants.{Less}
 use Rattle.std.proofs.lemmas.Bool.{cases_order}
 use Rattle.txn_model.specs.declared.cell.Cell.{Cell}
 use Rattle.txn_model.specs.Cells.{Key, key_eq, key_cmp, no_cell, is_empty_cell, cell_at, AllAbove, AreInOrder, NoneEmpty, AreKept}
 use Rattle.txn_model.specs.Places.{IsAt, IsGapFor}
-use Rattle.txn_model.proofs.Keys.{same_key, key_itself, differs_if_less, differs_if_greater, same_if_equal, less_if_greater, rises}
-use Rattle.txn_model.proofs.CellLists.{none_below}
+use Rattle.txn_model.proofs.Keys.{same_key, key_itself, differs_if_less, differs_if_greater, same_if_equal, less_if_greater, greater_if_less, key_cmp_itself, rises}
+use Rattle.txn_model.proofs.CellLists.{none_below, empty_is_none}
 
 above_at : (k : Key) (cs : List Cell) (i : ℕ) (d : Cell) → AllAbove k cs → i < length cs → key_cmp k (get_or cs i d).key ≡ Less
 above_at k [] i d a h = absurd (omega arith)
@@ -178,3 +178,94 @@ full_at (c ∷ cs) (suc at) d a l = full_at cs at d a.1 (omega arith)
 -- a cell that is read is not empty
 pub full_read : (cs : List Cell) (k : Key) (at : ℕ) (c : Cell) → AreKept cs → IsAt cs k at → c ≡ get_or cs at c → is_empty_cell c ≡ false
 full_read cs k at c kept is read = ap is_empty_cell read ∙ full_at cs at c kept.none_empty is.in_range
+
+-- A cell taken away.
+
+above_remove : (j : Key) (cs : List Cell) (at : ℕ) → AllAbove j cs → AllAbove j (remove cs at)
+above_remove j [] zero a = tt
+above_remove j [] (suc at) a = tt
+above_remove j (x ∷ cs) zero a = a.1
+above_remove j (x ∷ cs) (suc at) a = (a.0, above_remove j cs at a.1)
+
+order_remove : (cs : List Cell) (at : ℕ) → AreInOrder cs → AreInOrder (remove cs at)
+order_remove [] zero a = tt
+order_remove [] (suc at) a = tt
+order_remove (x ∷ cs) zero a = a.1
+order_remove (x ∷ cs) (suc at) a = (above_remove x.key cs at a.0, order_remove cs at a.1)
+
+none_empty_remove : (cs : List Cell) (at : ℕ) → NoneEmpty cs → NoneEmpty (remove cs at)
+none_empty_remove [] zero a = tt
+none_empty_remove [] (suc at) a = tt
+none_empty_remove (x ∷ cs) zero a = a.1
+none_empty_remove (x ∷ cs) (suc at) a = (a.0, none_empty_remove cs at a.1)
+
+-- what is kept of each key once the cell at a place is gone
+cell_remove : (cs : List Cell) (at : ℕ) (d : Cell) (j : Key) → AreInOrder cs → at < length cs → cell_at (remove cs at) j ≡ (if key_eq (get_or cs at d).key j then no_cell j else cell_at cs j)
+cell_remove [] at d j a l = absurd (omega arith)
+cell_remove (x ∷ cs) zero d j a l = by (key_eq x.key j) refl
+  where
+    by : (b : Bool) → key_eq x.key j ≡ b → cell_at cs j ≡ (if b then no_cell j else (if b then x else cell_at cs j))
+    by true e = none_below j cs (subst (λ q. AllAbove q cs) (same_key x.key j e) a.0)
+    by false e = refl
+cell_remove (x ∷ cs) (suc at) d j a l =
+    ap (λ z. if key_eq x.key j then x else z) (cell_remove cs at d j a.1 (omega arith)) ∙ apart x.key (get_or cs at d).key j x (no_cell j) (cell_at cs j) (above_at x.key cs at d a.0 (omega arith))
+
+set_removed : (cs : List Cell) (at : ℕ) (c : Cell) → remove (set cs at c) at ≡ remove cs at
+set_removed [] zero c = refl
+set_removed [] (suc at) c = refl
+set_removed (x ∷ cs) zero c = refl
+set_removed (x ∷ cs) (suc at) c = ap (λ z. x ∷ z) (set_removed cs at c)
+
+-- a cell that becomes empty is taken away
+pub changed_remove : (cs : List Cell) (k : Key) (at : ℕ) (c n : Cell) (f : Cell → Cell) → AreInOrder cs → IsAt cs k at → c ≡ get_or cs at c → n ≡ f c → n.key ≡ k → is_empty_cell n ≡ true → (j : Key) → cell_at (remove (set cs at n) at) j ≡ (if key_eq k j then f (cell_at cs j) else cell_at cs j)
+changed_remove cs k at c n f a is read makes same empty j =
+    ap (λ xs. cell_at xs j) (set_removed cs at n)
+    ∙ (cell_remove cs at c j a is.in_range
+    ∙ (ap (λ q. if key_eq q j then no_cell j else cell_at cs j) (is.has_key c)
+    ∙ changed_here k j f (no_cell j) (cell_at cs j) (λ here. ap no_cell (sym (same ∙ here)) ∙ (sym (empty_is_none n empty) ∙ (makes ∙ ap f (read ∙ sym (subst (λ q. cell_at cs q ≡ get_or cs at c) here (cell_found cs k at c a is))))))))
+
+pub kept_remove : (cs : List Cell) (at : ℕ) (n : Cell) → AreKept cs → AreKept (remove (set cs at n) at)
+kept_remove cs at n kept = subst AreKept (sym (set_removed cs at n)) (record { in_order = order_remove cs at kept.in_order; none_empty = none_empty_remove cs at kept.none_empty })
+
+-- a new cell that would be empty is not kept
+pub changed_gap : (cs : List Cell) (k : Key) (at : ℕ) (n : Cell) (f : Cell → Cell) → IsGapFor cs k at → n ≡ f (no_cell k) → n.key ≡ k → is_empty_cell n ≡ true → (j : Key) → cell_at cs j ≡ (if key_eq k j then f (cell_at cs j) else cell_at cs j)
+changed_gap cs k at n f gap makes same empty j = by (key_eq k j) refl
+  where
+    by : (b : Bool) → key_eq k j ≡ b → cell_at cs j ≡ (if b then f (cell_at cs j) else cell_at cs j)
+    by true e =
+        let here = same_key k j e in
+        let none : cell_at cs j ≡ no_cell k = subst (λ q. cell_at cs q ≡ no_cell k) here (cell_in_gap cs k at gap) in
+        none ∙ (ap no_cell (sym same) ∙ (sym (empty_is_none n empty) ∙ (makes ∙ ap f (sym none))))
+    by false e = refl
+
+-- What is below a key, and what is not.
+
+pub below_found : (cs : List Cell) (k : Key) (at i : ℕ) (d : Cell) → AreInOrder cs → IsAt cs k at → i < at → is_lt (key_cmp (get_or cs i d).key k) ≡ true
+below_found cs k at i d a is l = ap is_lt (subst (λ q. key_cmp (get_or cs i d).key q ≡ Less) (is.has_key d) (earlier_below cs i at d a l is.in_range))
+
+pub rest_found : (cs : List Cell) (k : Key) (at i : ℕ) (d : Cell) → AreInOrder cs → IsAt cs k at → at ≤ i → i < length cs → is_lt (key_cmp (get_or cs i d).key k) ≡ false
+rest_found cs k at i d a is le l =
+    elim (cases_order at i) [
+      | inl same ↦ ap is_lt (ap (λ q. key_cmp (get_or cs q d).key k) (sym same) ∙ (ap (λ q. key_cmp q k) (is.has_key d) ∙ key_cmp_itself k))
+      | inr (inl less) ↦ ap is_lt (greater_if_less k (get_or cs i d).key (subst (λ q. key_cmp q (get_or cs i d).key ≡ Less) (is.has_key d) (earlier_below cs at i d a less l)))
+      | inr (inr more) ↦ absurd (omega arith)
+    ]
+
+pub rest_gap : (cs : List Cell) (k : Key) (at i : ℕ) (d : Cell) → IsGapFor cs k at → at ≤ i → i < length cs → is_lt (key_cmp (get_or cs i d).key k) ≡ false
+rest_gap cs k at i d gap le l = ap is_lt (greater_if_less k (get_or cs i d).key (gap.above i d le l))
+
+-- a part of a list that has all that pass a test
+none_pass : (p : Cell → Bool) (cs : List Cell) → ((i : ℕ) (d : Cell) → i < length cs → p (get_or cs i d) ≡ false) → [] ≡ filter p cs
+none_pass p [] h = refl
+none_pass p (c ∷ cs) h = rw (h 0 c (omega arith)) (none_pass p cs (λ i d l. h (suc i) d (omega arith)))
+
+some_pass : (p : Cell → Bool) (cs : List Cell) (n : ℕ) → ((i : ℕ) (d : Cell) → i < n → i < length cs → p (get_or cs i d) ≡ true) → ((i : ℕ) (d : Cell) → n ≤ i → i < length cs → p (get_or cs i d) ≡ false) → take n cs ≡ filter p cs
+some_pass p cs zero passes fails = none_pass p cs (λ i d l. fails i d (omega arith) l)
+some_pass p [] (suc n) passes fails = refl
+some_pass p (c ∷ cs) (suc n) passes fails = rw (passes 0 c (omega arith) (omega arith)) (ap (λ z. c ∷ z) (some_pass p cs n (λ i d l k. passes (suc i) d (omega arith) (omega arith)) (λ i d l k. fails (suc i) d (omega arith) (omega arith))))
+
+pub part_passes : (p : Cell → Bool) (cs : List Cell) (m n : ℕ) → ((i : ℕ) (d : Cell) → i < m → i < length cs → p (get_or cs i d) ≡ false) → ((i : ℕ) (d : Cell) → m ≤ i → i < m + n → i < length cs → p (get_or cs i d) ≡ true) → ((i : ℕ) (d : Cell) → m + n ≤ i → i < length cs → p (get_or cs i d) ≡ false) → take n (drop m cs) ≡ filter p cs
+part_passes p cs zero n low passes high = some_pass p cs n (λ i d l k. passes i d (omega arith) (omega arith) k) (λ i d l k. high i d (omega arith) k)
+part_passes p [] (suc m) zero low passes high = refl
+part_passes p [] (suc m) (suc n) low passes high = refl
+part_passes p (c ∷ cs) (suc m) n low passes high = rw (low 0 c (omega arith) (omega arith)) (part_passes p cs m n (λ i d l k. low (suc i) d (omega arith) (omega arith)) (λ i d l k o. passes (suc i) d (omega arith) (omega arith) (omega arith)) (λ i d l k. high (suc i) d (omega arith) (omega arith)))

@@ -1,7 +1,9 @@
 pub mod Cells
+pub mod Changes
 pub mod Commit
 pub mod Destroy
 pub mod Handled
+pub mod Locking
 pub mod Locks
 pub mod PessimisticLock
 pub mod Placement
@@ -13,9 +15,13 @@ pub mod Read
 pub mod Regions
 pub mod Resolve
 pub mod Rollback
+pub mod Rules
+pub mod Scans
 pub mod Served
 pub mod Settle
+pub mod Settling
 pub mod Status
+pub mod Statuses
 pub mod Store
 pub mod Table
 pub mod Unlocks

@@ -1,5 +1,5 @@
 ghost use Rattle.std.specs.Prelude.{◌≡◌, IfOk};
-ghost use Rattle.txn_model.specs.Cells.{no_cell};
+ghost use Rattle.txn_model.specs.Cells.{no_cell, is_empty_cell};
 ghost use Rattle.txn_model.specs.Locks.{is_prewrite, is_written, op_of, lock_info};
 
 use std::alloc::Global;
@@ -119,5 +119,12 @@ impl Cell {
             commits: Items::new(alloc),
             rolled: Items::new(alloc),
         }
+    }
+
+    /// Nothing is known of the key.
+    pub fn is_empty(&self) -> bool
+        ensures { result ≡ is_empty_cell self.now }
+    {
+        self.lock.is_none() && self.commits.len() == 0 && self.rolled.len() == 0
     }
 }

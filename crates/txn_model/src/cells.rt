@@ -2,10 +2,12 @@
 ghost use Rattle.std.specs.Prelude.{◌≡◌, ◌+◌, ◌<◌, ◌≤◌, IfOk, IfErr, insert, unwrap_or, length, vec_len, vec_capacity};
 ghost use Rattle.std.specs.Option.{option_copied};
 ghost use Rattle.txn_model.specs.Cells.{AreInOrder, no_cell, cell_at};
-ghost use Rattle.txn_model.specs.Locks.{owns};
+ghost use Rattle.txn_model.specs.Locks.{owns, holds, commit_of};
+ghost use Rattle.txn_model.specs.Settle.{lock_of_start};
 ghost use Rattle.txn_model.specs.Places.{IsAt, IsGapFor};
 
-use crate::cell::{Cell, Lock};
+use crate::cell::{Cell, Lock, Write};
+use crate::commits;
 use txn_kv::Key;
 
 /// Where the cell of a key is, or where it would go.
@@ -35,6 +37,54 @@ pub fn owns(lock: &Option<Lock>, start: u64) -> bool
     match lock {
         Some(lock) => lock.start == start && lock.kind.is_prewrite(),
         None => false,
+    }
+}
+
+/// The start holds a lock of either kind.
+pub fn holds(lock: &Option<Lock>, start: u64) -> bool
+    ensures { result ≡ holds lock.now start }
+{
+    match lock {
+        Some(lock) => lock.start == start,
+        None => false,
+    }
+}
+
+/// The lock of a start, if it has one.
+pub fn lock_of_start(lock: &Option<Lock>, start: u64) -> Option<&Lock>
+    ensures { option_copied result ≡ lock_of_start start lock.now }
+{
+    match lock {
+        Some(lock) => {
+            if lock.start == start {
+                Some(lock)
+            } else {
+                None
+            }
+        }
+        None => None,
+    }
+}
+
+/// The lock of a start at a key, if it has one.
+pub fn lock_at<'a>(cells: &'a [Cell], key: &Key, start: u64) -> Option<&'a Lock>
+    requires { AreInOrder cells.now }
+    ensures { option_copied result ≡ lock_of_start start (cell_at cells.now key.now).lock }
+{
+    match find(cells, key) {
+        Some(cell) => lock_of_start(&cell.lock, start),
+        None => None,
+    }
+}
+
+/// The commit of a start at a key, if it has one.
+pub fn commit_at<'a>(cells: &'a [Cell], key: &Key, start: u64) -> Option<&'a Write>
+    requires { AreInOrder cells.now }
+    ensures { option_copied result ≡ commit_of (cell_at cells.now key.now).commits start }
+{
+    match find(cells, key) {
+        Some(cell) => commits::commit_of(cell.commits.as_slice(), start),
+        None => None,
     }
 }
 

@@ -62,7 +62,7 @@ fn led_elsewhere(region: &StoredRegion, peer: Option<Peer>) -> bool
     }
 }
 
-fn region_with_id(regions: &[StoredRegion], id: u64) -> Option<&StoredRegion>
+pub fn region_with_id(regions: &[StoredRegion], id: u64) -> Option<&StoredRegion>
     ensures { option_copied result ≡ region_with_id regions.now id }
 {
     regions.iter().find(|region| region.id == id)
@@ -148,6 +148,22 @@ pub fn told_region(regions: &[StoredRegion], key: &Key) -> Result<GetRegionRespo
     }
 }
 
+/// The region of an id, if there is one.
+pub fn told_region_with_id(regions: &[StoredRegion], id: u64) -> Result<GetRegionResponse, NoMemory>
+    ensures { IfOk result (λ reply. reply ≡ told_region (region_with_id regions.now id)) }
+{
+    match region_with_id(regions, id) {
+        Some(region) => Ok(GetRegionResponse {
+            region: Some(region.record()?),
+            leader: Some(region.leader()),
+        }),
+        None => Ok(GetRegionResponse {
+            region: None,
+            leader: None,
+        }),
+    }
+}
+
 fn copied_labels(alloc: Global, labels: &[StoreLabel]) -> Result<Items<StoreLabel>, NoMemory>
     ensures { IfOk result (λ copies. copies ≡ labels.now) }
 {
@@ -170,6 +186,17 @@ fn copied_store(alloc: Global, store: &StoreMeta) -> Result<StoreMeta, NoMemory>
         state: store.state,
         labels: copied_labels(alloc, store.labels.as_slice())?,
     })
+}
+
+/// All of the stores.
+pub fn told_stores(alloc: Global, stores: &[StoreMeta]) -> Result<Items<StoreMeta>, NoMemory>
+    ensures { IfOk result (λ copies. copies ≡ stores.now) }
+{
+    let mut copies = Items::new(alloc);
+    for store in stores {
+        copies.push(copied_store(alloc, store)?)?;
+    }
+    Ok(copies)
 }
 
 fn unknown_store(alloc: Global, id: u64) -> StoreMeta

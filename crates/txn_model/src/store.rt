@@ -1,19 +1,27 @@
 ghost use Rattle.std.specs.Prelude.{◌≡◌, IfOk, OnOk, OnErr};
 ghost use Rattle.txn_model.specs.Cells.{AreKept};
 ghost use Rattle.txn_model.specs.Store.{opening, store_up};
-ghost use Rattle.txn_model.specs.Table.{table, prewrite_row, commit_row, tso_row, CanCount, CanServe};
+ghost use Rattle.txn_model.specs.Table.{table, prewrite_row, commit_row, tso_row, update_gc_safe_point_row, CanCount, CanServe};
+
+mod locks;
+mod reads;
+mod rollbacks;
+mod statuses;
 
 use crate::cell::Cell;
 use crate::commit::{commit_all, first_error};
-use crate::placement::{last_timestamp, region_error, told_region, told_store};
+use crate::placement::{
+    last_timestamp, region_error, told_region, told_region_with_id, told_store, told_stores,
+};
 use crate::prewrite::{lock_all, prewrite_errors};
 use crate::region::StoredRegion;
 use std::alloc::Global;
 use std::marker::Model;
 use txn_kv::{
-    CommitRequest, CommitResponse, GetStoreResponse, Items, Key, NoMemory, PrewriteRequest,
-    PrewriteResponse, RegionEpoch, Reply, Request, StoreMeta, StoreState, Text, Timestamp,
-    TimestampExt, TsoRequest, TsoResponse,
+    CommitRequest, CommitResponse, GetAllStoresResponse, GetStoreResponse, Items, Key,
+    MembersResponse, NoMemory, PrewriteRequest, PrewriteResponse, RegionEpoch, Reply, Request,
+    StoreMeta, StoreState, Text, Timestamp, TimestampExt, TsoRequest, TsoResponse,
+    UpdateGcSafePointRequest, UpdateGcSafePointResponse,
 };
 
 /// The store of a run: cells in the order of their keys, regions and stores, the clock in milliseconds, and the last
@@ -199,7 +207,21 @@ impl ModelStore {
         }
     }
 
-    /// Does what a request asks and replies to it. Want of memory changes nothing.
+    /// The safe point becomes the greater.
+    fn update_gc_safe_point(
+        &mut self,
+        request: UpdateGcSafePointRequest,
+    ) -> UpdateGcSafePointResponse
+        ensures reply { Reply.UpdateGcSafePoint result ≡ (update_gc_safe_point_row self.old request).reply }
+        ensures store { self.new ≡ (update_gc_safe_point_row self.old request).store }
+    {
+        self.safepoint = self.safepoint.max(request.safe_point);
+        UpdateGcSafePointResponse {
+            new_safe_point: self.safepoint,
+        }
+    }
+
+    /// Does what a request to a store or to the placement driver asks and replies to it. Want of memory changes nothing.
     pub fn serve(&mut self, request: &Request) -> Result<Reply, NoMemory>
         requires { CanServe self.old request.now }
         ensures reply { IfOk result (λ reply. reply ≡ (table self.old request.now).reply) }
@@ -207,18 +229,58 @@ impl ModelStore {
         ensures err { OnErr result (self.new ≡ self.old) }
     {
         match request {
+            Request::Get(request) => Ok(Reply::Get(self.get(request)?)),
+            Request::BatchGet(request) => Ok(Reply::BatchGet(self.batch_get(request)?)),
+            Request::Scan(request) => Ok(Reply::Scan(self.scan(request)?)),
             Request::Prewrite(request) => Ok(Reply::Prewrite(self.prewrite(request)?)),
             Request::Commit(request) => Ok(Reply::Commit(self.commit(request)?)),
+            Request::Cleanup(request) => Ok(Reply::Cleanup(self.cleanup(request)?)),
+            Request::BatchRollback(request) => {
+                Ok(Reply::BatchRollback(self.batch_rollback(request)?))
+            }
+            Request::PessimisticRollback(request) => Ok(Reply::PessimisticRollback(
+                self.pessimistic_rollback(request)?,
+            )),
+            Request::PessimisticLock(request) => {
+                Ok(Reply::PessimisticLock(self.pessimistic_lock(request)?))
+            }
+            Request::ResolveLock(request) => Ok(Reply::ResolveLock(self.resolve_lock(request)?)),
+            Request::ScanLock(request) => Ok(Reply::ScanLock(self.scan_lock(request)?)),
+            Request::TxnHeartBeat(request) => Ok(Reply::TxnHeartBeat(self.txn_heart_beat(
+                request,
+            )?)),
+            Request::CheckTxnStatus(request) => {
+                Ok(Reply::CheckTxnStatus(self.check_txn_status(request)?))
+            }
+            Request::CheckSecondaryLocks(request) => Ok(Reply::CheckSecondaryLocks(
+                self.check_secondary_locks(request)?,
+            )),
+            Request::UnsafeDestroyRange(request) => Ok(Reply::UnsafeDestroyRange(
+                self.unsafe_destroy_range(request),
+            )),
             Request::GetRegion(request) => Ok(Reply::GetRegion(told_region(
                 self.regions.as_slice(),
                 &request.region_key,
+            )?)),
+            Request::GetRegionById(request) => Ok(Reply::GetRegionById(told_region_with_id(
+                self.regions.as_slice(),
+                request.region_id,
             )?)),
             Request::GetStore(request) => {
                 let alloc = *self.cells.allocator();
                 let store = told_store(alloc, self.stores.as_slice(), request.store_id)?;
                 Ok(Reply::GetStore(GetStoreResponse { store }))
             }
+            Request::GetAllStores(_) => {
+                let alloc = *self.cells.allocator();
+                let stores = told_stores(alloc, self.stores.as_slice())?;
+                Ok(Reply::GetAllStores(GetAllStoresResponse { stores }))
+            }
+            Request::UpdateGcSafePoint(request) => Ok(Reply::UpdateGcSafePoint(
+                self.update_gc_safe_point(*request),
+            )),
             Request::Tso(request) => Ok(Reply::Tso(self.tso(*request))),
+            Request::Members(_) => Ok(Reply::Members(MembersResponse)),
         }
     }
 }

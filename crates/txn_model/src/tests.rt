@@ -45,9 +45,9 @@ fn mutations(alloc: Global, op: Op) -> Result<Items<Mutation>, NoMemory> {
     Ok(mutations)
 }
 
-fn prewrite(alloc: Global, op: Op, start_version: u64) -> Result<Request, NoMemory> {
+fn prewrite(alloc: Global, op: Op, start_version: u64) -> Result<PrewriteRequest, NoMemory> {
     let mutations = mutations(alloc, op)?;
-    Ok(Request::Prewrite(PrewriteRequest {
+    Ok(PrewriteRequest {
         context: here(),
         mutations,
         primary_lock: key(alloc)?,
@@ -59,18 +59,18 @@ fn prewrite(alloc: Global, op: Op, start_version: u64) -> Result<Request, NoMemo
         use_async_commit: false,
         try_one_pc: false,
         secondaries: Items::new(alloc),
-    }))
+    })
 }
 
-fn commit(alloc: Global) -> Result<Request, NoMemory> {
+fn commit(alloc: Global) -> Result<CommitRequest, NoMemory> {
     let mut keys = Items::new(alloc);
     keys.push(key(alloc)?)?;
-    Ok(Request::Commit(CommitRequest {
+    Ok(CommitRequest {
         context: here(),
         keys,
         start_version: 1,
         commit_version: 5,
-    }))
+    })
 }
 
 fn prewritten(errors: Items<KeyError>) -> Reply {
@@ -126,14 +126,14 @@ fn committed_cell(alloc: Global) -> Result<Cell, NoMemory> {
 /// The opening store with a lock.
 fn with_lock(alloc: Global) -> Result<ModelStore, NoMemory> {
     let mut store = ModelStore::new(alloc)?;
-    store.serve(&prewrite(alloc, Op::Put, 1)?)?;
+    store.serve(&Request::Prewrite(prewrite(alloc, Op::Put, 1)?))?;
     Ok(store)
 }
 
 /// The same with a commit in its place.
 fn with_commit(alloc: Global) -> Result<ModelStore, NoMemory> {
     let mut store = with_lock(alloc)?;
-    store.serve(&commit(alloc)?)?;
+    store.serve(&Request::Commit(commit(alloc)?))?;
     Ok(store)
 }
 
@@ -216,7 +216,7 @@ fn commits_a_key(rt: HostRuntime) -> Result<(), Fail> {
 #[test]
 fn passes_a_prewrite(rt: HostRuntime) -> Result<(), Fail> {
     let mut store = with_lock(rt.alloc())?;
-    let again = store.serve(&prewrite(rt.alloc(), Op::Put, 1)?)?;
+    let again = store.serve(&Request::Prewrite(prewrite(rt.alloc(), Op::Put, 1)?))?;
     assert_eq!(rt; again, prewritten(Items::new(rt.alloc())));
     Ok(())
 }
@@ -224,7 +224,7 @@ fn passes_a_prewrite(rt: HostRuntime) -> Result<(), Fail> {
 #[test]
 fn passes_a_commit(rt: HostRuntime) -> Result<(), Fail> {
     let mut store = with_commit(rt.alloc())?;
-    let again = store.serve(&commit(rt.alloc())?)?;
+    let again = store.serve(&Request::Commit(commit(rt.alloc())?))?;
     assert_eq!(rt; again, committed(None, 5));
     Ok(())
 }
@@ -232,7 +232,7 @@ fn passes_a_commit(rt: HostRuntime) -> Result<(), Fail> {
 #[test]
 fn finds_no_lock_to_commit(rt: HostRuntime) -> Result<(), Fail> {
     let mut store = ModelStore::new(rt.alloc())?;
-    let missing = store.serve(&commit(rt.alloc())?)?;
+    let missing = store.serve(&Request::Commit(commit(rt.alloc())?))?;
     let key = key(rt.alloc())?;
     assert_eq!(rt;
         missing,
@@ -244,7 +244,7 @@ fn finds_no_lock_to_commit(rt: HostRuntime) -> Result<(), Fail> {
 #[test]
 fn shows_a_newer_commit(rt: HostRuntime) -> Result<(), Fail> {
     let mut store = with_commit(rt.alloc())?;
-    let late = store.serve(&prewrite(rt.alloc(), Op::Put, 3)?)?;
+    let late = store.serve(&Request::Prewrite(prewrite(rt.alloc(), Op::Put, 3)?))?;
     let newer = KeyError::WriteConflict {
         key: key(rt.alloc())?,
         start: 3,
@@ -257,7 +257,7 @@ fn shows_a_newer_commit(rt: HostRuntime) -> Result<(), Fail> {
 #[test]
 fn shows_that_a_value_stands(rt: HostRuntime) -> Result<(), Fail> {
     let mut store = with_commit(rt.alloc())?;
-    let again = store.serve(&prewrite(rt.alloc(), Op::Insert, 7)?)?;
+    let again = store.serve(&Request::Prewrite(prewrite(rt.alloc(), Op::Insert, 7)?))?;
     let key = key(rt.alloc())?;
     assert_eq!(rt; again, refused(rt.alloc(), KeyError::AlreadyExist { key })?);
     Ok(())

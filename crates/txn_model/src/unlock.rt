@@ -3,6 +3,7 @@ ghost use Rattle.std.specs.Prelude.{◌≡◌, ℕ, ◌+◌, ◌++◌, ◌∷◌
 ghost use Rattle.txn_model.specs.Cells.{AreKept, Key, key_eq, has_key, cell_at};
 ghost use Rattle.txn_model.specs.Commit.{committed};
 ghost use Rattle.txn_model.specs.Locks.{with_commit};
+ghost use Rattle.txn_model.specs.Settling.{all_committed};
 ghost use Rattle.txn_model.specs.Unlocks.{relocked, undone, all_undone, CanUndo, CanUndoAll, Undoes};
 
 use crate::cell::{Cell, Lock, Write};
@@ -18,6 +19,14 @@ pub struct Unlocked {
     pub at: usize,
     pub place: usize,
     pub lock: Lock,
+}
+
+/// A lock of a start at a key that is to become a commit at this timestamp.
+#[derive(Debug, Drop)]
+pub struct Commitment {
+    pub key: Key,
+    pub start: u64,
+    pub commit: u64,
 }
 
 /// Where a commit goes among the others: before those at the end that are above it.
@@ -101,6 +110,8 @@ fn commit_key(
     ensures kept { AreKept cells.new.items }
     ensures undo { IfOk result (λ o. Undoes o cells.old.items cells.new.items) }
     ensures err { OnErr result (cells.new.items ≡ cells.old.items) }
+    ensures len { vec_len cells.new ≡ vec_len cells.old }
+    ensures capacity { vec_capacity cells.old ≤ vec_capacity cells.new }
 {
     let at = match search(cells.as_slice(), key) {
         Ok(at) => at,
@@ -164,6 +175,27 @@ pub fn commit_keys(
     for key in keys {
         match commit_key(cells, key, start, commit) {
             Ok(one) => keep(&mut done, one),
+            Err(error) => {
+                undo_all(cells, done);
+                return Err(error);
+            }
+        }
+    }
+    Ok(())
+}
+
+/// Makes commits of locks, one after another.
+pub fn commit_each(cells: &mut Vec<Cell>, commitments: &[Commitment]) -> Result<(), NoMemory>
+    requires { AreKept cells.old.items }
+    ensures ok { OnOk result ((k : Key) → cell_at cells.new.items k ≡ all_committed commitments.now (cell_at cells.old.items k)) }
+    ensures kept { AreKept cells.new.items }
+    ensures err { OnErr result (cells.new.items ≡ cells.old.items) }
+    ensures room { OnOk result ((vec_len cells.new ≡ vec_len cells.old) × (vec_capacity cells.old ≤ vec_capacity cells.new)) }
+{
+    let mut done = Vec::with_capacity(*cells.allocator(), commitments.len())?;
+    for one in commitments {
+        match commit_key(cells, &one.key, one.start, one.commit) {
+            Ok(unlocked) => keep(&mut done, unlocked),
             Err(error) => {
                 undo_all(cells, done);
                 return Err(error);

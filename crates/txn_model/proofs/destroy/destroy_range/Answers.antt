@@ -1,0 +1,16 @@
+use Rattle.std.proofs.Common.{◌≡◌, rules}
+use Rattle.std.proofs.lemmas.Fn.{filter_same}
+use Rattle.std.specs.Prelude.{not}
+use Rattle.txn_model.specs.declared.cell.Cell.{Cell}
+use Rattle.txn_model.specs.Destroy.{cells_outside}
+use Rattle.txn_model.specs.Ranges.{in_range}
+use Rattle.txn_model.proofs.Filtering.{kept_filter}
+use Rattle.txn_model.proofs.destroy.destroy_range.Goals as goal
+
+pub returns-clause-cells : goal.returns-clause-cells
+returns-clause-cells c = filter_same _ _ _ (λ x b f' k. search rules) _ _ c.retain.ensures.filtered
+
+pub returns-clause-kept : goal.returns-clause-kept
+returns-clause-kept c =
+    let same : c.retain.new.self.items ≡ cells_outside c.args.low.now c.args.high.now c.args.cells.now.items = filter_same _ _ _ (λ x b f' k. search rules) _ _ c.retain.ensures.filtered in
+    rw same (kept_filter (λ (x : Cell). not (in_range c.args.low.now c.args.high.now x.key)) c.args.cells.now.items c.requires)
