@@ -47,7 +47,7 @@ commit_stays plan Named f k after c x h e = grind arith
 pub rollback_stays : (plan : Plan) (Named : ℕ → Type 0) (f : Key → Phase) (k : Key) (after : Phase) → Change plan Named f k after → f k ≡ RolledBack → after ≡ RolledBack
 rollback_stays plan Named f k after h e = grind arith
 
-lock_goes : (plan : Plan) (Named : ℕ → Type 0) (f : Key → Phase) (k : Key) (after : Phase) (p : Key) (x : Content) → Change plan Named f k after → f k ≡ Locked p x → (after ≡ Locked p x) ⊎ ((c : ℕ) × (after ≡ Committed c x)) ⊎ ((after ≡ RolledBack) × ((k ≡ plan.primary) ⊎ (f plan.primary ≡ RolledBack)))
+pub lock_goes : (plan : Plan) (Named : ℕ → Type 0) (f : Key → Phase) (k : Key) (after : Phase) (p : Key) (x : Content) → Change plan Named f k after → f k ≡ Locked p x → (after ≡ Locked p x) ⊎ ((c : ℕ) × (after ≡ Committed c x)) ⊎ ((after ≡ RolledBack) × ((k ≡ plan.primary) ⊎ (f plan.primary ≡ RolledBack)))
 lock_goes plan Named f k after p x (inl a) e = inl (a ∙ e)
 lock_goes plan Named f k after p x (inr a) e = by_move a.0 a.1 (subst (λ o. Goes o a.0 after) e a.2)
   where

@@ -17,3 +17,4 @@ pub mod SampleRun
 pub mod Apart
 pub mod Agree
 pub mod Lone
+pub mod StaysGone

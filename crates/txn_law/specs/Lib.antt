@@ -1,4 +1,5 @@
 pub mod Lone
+pub mod Part
 pub mod Reads
 pub mod Run
 pub mod Sample

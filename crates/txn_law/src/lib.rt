@@ -15,12 +15,14 @@
 #![tactic(auto)]
 
 mod between;
+mod gone;
 mod reads;
 mod request;
 mod sample;
 mod whole;
 
 pub use between::none_between;
+pub use gone::locks_stay_gone;
 pub use reads::reads_repeat;
 pub use request::one_request;
 pub use sample::sample_run;
