@@ -1,14 +1,29 @@
 -- A prewrite lock that is gone does not come back.
-use Rattle.std.proofs.Common.{◌≡◌, ℕ, ◌⊎◌, inl, inr, true, List, [], ◌∷◌, Option, Some, None, refl, sym, subst, arith}
+use Rattle.txn_kv.specs.declared.reply.Reply.TheVariants as reply
+use Rattle.std.specs.Prelude.{take, if◌then◌else◌, length}
+use Rattle.txn_law.proofs.Among.{take_all, filter_map_among, filter_among, kept_or_none}
+use Rattle.txn_model.proofs.CellLists.{key_of_cell}
+use Rattle.txn_model.specs.Store.{Store}
+use Rattle.txn_model.specs.Placement.{region_check}
+use Rattle.txn_model.specs.Resolve.{lock_until, locks_until, scan_lock_by}
+use Rattle.txn_model.specs.Ranges.{in_range, cells_in}
+use Rattle.txn_history.specs.Among.{IsAmong}
+use Rattle.txn_kv.specs.declared.ticket.Ticket.{Ticket}
+use Rattle.txn_kv.specs.declared.message.RegionErr.{RegionErr}
+use Rattle.txn_kv.specs.declared.message.LockInfo.{LockInfo}
+use Rattle.txn_kv.specs.declared.reply.ScanLockResponse.{ScanLockResponse}
+use Rattle.txn_kv.specs.declared.request.Request.TheVariants.{ScanLock}
+use Rattle.txn_kv.specs.declared.request.ScanLockRequest.{ScanLockRequest}
+use Rattle.std.proofs.Common.{◌≡◌, ℕ, ◌⊎◌, inl, inr, true, List, [], ◌∷◌, Option, Some, None, refl, sym, subst, arith, ◌<◌, ◌≤◌, Bool, false, nat_le, ap, ◌∙◌}
 use Rattle.std.proofs.lemmas.Bool.Decides.{nat_tests}
 use Rattle.txn_history.specs.Event.{Event}
 use Rattle.txn_model.specs.declared.cell.Lock.{Lock}
-use Rattle.txn_model.specs.Locks.{is_prewrite}
+use Rattle.txn_model.specs.Locks.{is_prewrite, lock_info}
 use Rattle.txn_history.specs.Event.Event.{Sent, Served, Took}
 use Rattle.txn_history.specs.Plan.{Key, Content, Plan}
 use Rattle.txn_model.specs.declared.cell.Cell.{Cell}
 use Rattle.txn_model.specs.Cells.{cell_at}
-use Rattle.txn_law.specs.Part.{IsPart, IsLockedBy}
+use Rattle.txn_law.specs.Part.{IsPart, IsLockedBy, ShowsNone}
 use Rattle.txn_law.specs.Run.{IsRun, store_after}
 use Rattle.txn_law.specs.Whole.{content}
 use Rattle.txn_law.proofs.Coherent.{commit_stays, rollback_stays, lock_goes}
@@ -94,3 +109,53 @@ law_gone plans es middle first run h g s k a b =
   where
     still : phases (store_after middle) s k ≡ Locked a.lock.primary (content a.lock.kind a.lock.value) → IsLockedBy (cell_at (store_after middle).cells k) s
     still w = owned_lock (cell_at (store_after middle).cells k) s a.lock.primary (content a.lock.kind a.lock.value) w
+
+-- a complete scan shows each lock that stands
+
+info_until : (t : ℕ) (k : Key) (l : Lock) → l.start ≤ t → lock_until t k (Some l) ≡ Some (lock_info k l)
+info_until t k l h = by (nat_le l.start t) refl
+  where
+    by : (b : Bool) → nat_le l.start t ≡ b → (if b then Some (lock_info k l) else None) ≡ Some (lock_info k l)
+    by true e = refl
+    by false e = absurd (grind (arith, nat_tests))
+
+scan_misses : (e : Option RegionErr) (st : Store) (r : ScanLockRequest) (o : ScanLockResponse) (s : ℕ) (k : Key) → (scan_lock_by e st r).reply ≡ reply.ScanLock o → ShowsNone r o s k → IsLockedBy (cell_at st.cells k) s → ⊥
+scan_misses (Some e) st r o s k d h l = let a = h.region in absurd (cc)
+scan_misses None st r o s k d h l = elim (kept_or_none st.cells k) [
+  | inl a ↦ h.none (lock_info (cell_at st.cells k).key l.lock) (subst (λ ls. IsAmong ls (lock_info (cell_at st.cells k).key l.lock)) (sym locks) (found a)) (key_of_cell st.cells k) l.start
+  | inr a ↦ absurd (let b = l.here in let c = ap (λ (x : Cell). x.lock) a in cc)
+]
+  where
+    all_locks : List LockInfo
+    all_locks = locks_until r.max_version (cells_in r.start_key r.end_key st.cells)
+
+    told : o.locks ≡ take r.limit all_locks
+    told = let same : o ≡ record { region_error = None; error = None; locks = take r.limit all_locks } = cc in ap (λ (x : ScanLockResponse). x.locks) same
+
+    locks : o.locks ≡ all_locks
+    locks = told ∙ take_all r.limit all_locks (subst (λ ls. length ls < r.limit) told h.all)
+
+    shown : lock_until r.max_version (cell_at st.cells k).key (cell_at st.cells k).lock ≡ Some (lock_info (cell_at st.cells k).key l.lock)
+    shown = ap (lock_until r.max_version (cell_at st.cells k).key) l.here ∙ info_until r.max_version (cell_at st.cells k).key l.lock (let a = h.until in let b = l.start in omega (arith, a, b))
+
+    found : IsAmong st.cells (cell_at st.cells k) → IsAmong all_locks (lock_info (cell_at st.cells k).key l.lock)
+    found a = filter_map_among (λ (c : Cell). lock_until r.max_version c.key c.lock) (cells_in r.start_key r.end_key st.cells) (cell_at st.cells k) (lock_info (cell_at st.cells k).key l.lock) (filter_among (λ (c : Cell). in_range r.start_key r.end_key c.key) st.cells (cell_at st.cells k) a (subst (λ q. in_range r.start_key r.end_key q ≡ true) (sym (key_of_cell st.cells k)) h.in_range)) shown
+
+-- a lock that stood before a complete scan that did not show it does not stand in the end
+pub law_unshown : (plans : ℕ → Plan) (es before first : List Event) (t : Ticket) (r : ScanLockRequest) (o : ScanLockResponse) → IsRun plans es → IsPart es (Served t (ScanLock r) (reply.ScanLock o) ∷ before) → IsPart before first → (s : ℕ) (k : Key) → IsLockedBy (cell_at (store_after first).cells k) s → ShowsNone r o s k → IsLockedBy (cell_at (store_after es).cells k) s → ⊥
+law_unshown plans es before first t r o run h g s k a n b =
+    let part = part_before es (Served t (ScanLock r) (reply.ScanLock o)) before h in
+    let served = run_part plans es (Served t (ScanLock r) (reply.ScanLock o) ∷ before) run h in
+    scan_misses (region_check (store_after before).regions r.context) (store_after before) r o s k (sym served.0.1) n (law_gone plans es before first run part g s k a b)
+  where
+    part_itself : (fs : List Event) → IsPart fs fs
+    part_itself [] = refl
+    part_itself (f ∷ fs) = inl refl
+
+    part_before : (fs : List Event) (f : Event) (gs : List Event) → IsPart fs (f ∷ gs) → IsPart fs gs
+    part_before [] f gs q = absurd (cc)
+    part_before (e ∷ fs) f gs (inl q) = inr (subst (IsPart fs) (tails q) (part_itself fs))
+      where
+        tails : (f ∷ gs) ≡ (e ∷ fs) → fs ≡ gs
+        tails q = cc
+    part_before (e ∷ fs) f gs (inr q) = inr (part_before fs f gs q)
