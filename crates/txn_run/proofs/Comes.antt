@@ -22,6 +22,7 @@ use Rattle.txn_run.specs.Posting.{position, places_of, place_in}
 use Rattle.txn_run.specs.Lists.{Lists, opened, row_at, row_set, sent_more, sent_by, ended_by, followed, next_of, standing_in, written_in, puts_by, commit_starts, commits_by, handled, reply_at, start_in, begun, advanced, passed_in, waits, delivers_at, stepped}
 use Rattle.txn_run.specs.Rowed.{CameIn, AllCame}
 use Rattle.txn_run.specs.StandsFor.{delivered_line}
+use Rattle.txn_run.proofs.Posts.{one_more, placed_in}
 use Rattle.txn_run.proofs.Lists.{or_pushed, or_past, or_last, or_same, or_other}
 
 -- A step opens one line, and then at most one line is over: the newest, or that whose ticket is delivered.
@@ -57,9 +58,6 @@ follow_marks l line l' own x o e turn = by_send turn.send
     by_send : (s : Option Sending) → Marks l line (ended_by (sent_by l' x s) x turn.outcome)
     by_send None = over_marks l line l' own x o e turn.outcome
     by_send (Some s) = over_marks l line (sent_more l' x s.to s.request) own x (record { is = o.is; ended = o.ended; longer = o.longer }) e turn.outcome
-
-one_more : (l : Lists) (o : Outcome) → length (l.outcomes ++ o ∷ []) ≡ length l.outcomes + 1
-one_more l o = length-append l.outcomes (o ∷ [])
 
 own_marks : (l : Lists) (line : Line) (row : Row) (o : Outcome) → Marks l line (opened l row o (next_of l))
 own_marks l line row o = opened_marks l line (opened l row o (next_of l)) (next_of l) (record { is = inr refl; ended = refl; longer = one_more l o })
@@ -115,25 +113,12 @@ passed_marks l line l' x reply o e (Some (Committing y)) = by_row (row_at l'.row
     by_row (Some (Running t)) = follow_marks l line (row_set l' y (Running (turned t reply).transaction)) (next_of l) x (record { is = o.is; ended = o.ended; longer = o.longer }) e (turned t reply).turn
     by_row (Some (Committing z)) = opened_marks l line l' (next_of l) o
 
--- a ticket that leads to a place has a line
-placed_one : (tickets : List (List ℕ)) (t : Ticket) (p : ℕ) → position tickets t ≡ Some p → 1 ≤ t.line
-placed_one tickets t p e = by_line t.line t.number (by_beat t.beat (place_in (places_of tickets t.line) t.number) e)
-  where
-    by_beat : (b : Bool) (o : Option ℕ) → (if b then None else o) ≡ Some p → o ≡ Some p
-    by_beat true o e = absurd (cc)
-    by_beat false o e = e
-
-    by_line : (n m : ℕ) → place_in (places_of tickets n) m ≡ Some p → 1 ≤ n
-    by_line zero zero e = absurd (cc)
-    by_line zero (suc m) e = absurd (cc)
-    by_line (suc n) m e = omega arith
-
 delivers_marks : (l : Lists) (t : Ticket) (o : Option ℕ) → position l.tickets t ≡ o → Marks l (Deliver t) (delivers_at o l t)
 delivers_marks l t None e = own_marks l (Deliver t) Plain Skipped
 delivers_marks l t (Some p) e = by_test (waits (slice_get l.letters p))
   where
     by_test : (b : Bool) → Marks l (Deliver t) (if b then passed_in (handled (opened l Plain Done (next_of l)) p t) t.line (reply_at l p) (row_at (handled (opened l Plain Done (next_of l)) p t).rows t.line) else opened l Plain Skipped (next_of l))
-    by_test true = passed_marks l (Deliver t) (handled (opened l Plain Done (next_of l)) p t) t.line (reply_at l p) (record { is = inr refl; ended = refl; longer = one_more l Done }) (placed_one l.tickets t p e, inr refl) (row_at (handled (opened l Plain Done (next_of l)) p t).rows t.line)
+    by_test true = passed_marks l (Deliver t) (handled (opened l Plain Done (next_of l)) p t) t.line (reply_at l p) (record { is = inr refl; ended = refl; longer = one_more l Done }) ((placed_in l.tickets t p e).0, inr refl) (row_at (handled (opened l Plain Done (next_of l)) p t).rows t.line)
     by_test false = own_marks l (Deliver t) Plain Skipped
 
 pub stepped_marks : (l : Lists) (line : Line) → Marks l line (stepped l line)

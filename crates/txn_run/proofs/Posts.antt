@@ -6,7 +6,7 @@ use Rattle.txn_kv.specs.declared.ticket.Target.{Target}
 use Rattle.txn_kv.specs.declared.ticket.Target.TheVariants.{Placement}
 use Rattle.txn_kv.specs.declared.reply.Reply.{Reply}
 use Rattle.txn_kv.specs.declared.request.Request.{Request}
-use Rattle.txn_kv.specs.declared.request.Request.TheVariants.{Prewrite, Commit as Commit_request, GetRegion, GetStore, Tso}
+use Rattle.txn_kv.specs.declared.request.Request.TheVariants.{Tso}
 use Rattle.txn_script.specs.declared.line.Line.{Line}
 use Rattle.txn_script.specs.declared.line.Line.TheVariants.{Blank, Client, Begin, Put, Commit, Deliver}
 use Rattle.txn_report.specs.declared.outcome.Outcome.{Outcome}
@@ -72,7 +72,7 @@ send_posts l l' x q one most (Some s) = inr (record {
 follow_posts : (l l' : Lists) (x : ℕ) → IsStill l l' → 1 ≤ x → x ≤ length l.tickets + 1 → (turn : Turn) → Posts l (followed l' x turn)
 follow_posts l l' x q one most turn = over_posts l (sent_by l' x turn.send) x (send_posts l l' x q one most turn.send) turn.outcome
 
-one_more : (l : Lists) (o : Outcome) → length (l.outcomes ++ o ∷ []) ≡ length l.outcomes + 1
+pub one_more : (l : Lists) (o : Outcome) → length (l.outcomes ++ o ∷ []) ≡ length l.outcomes + 1
 one_more l o = length-append l.outcomes (o ∷ [])
 
 opened_posts : (l : Lists) (row : Row) (o : Outcome) (e : ℕ) → Posts l (opened l row o e)
@@ -128,7 +128,7 @@ passed_posts l l' x reply q one most (Some (Committing y)) = by_row (row_at l'.r
     by_row (Some (Committing z)) = still_posts l l' q
 
 -- a ticket that leads to a place has a line that is there
-placed_in : (tickets : List (List ℕ)) (t : Ticket) (p : ℕ) → position tickets t ≡ Some p → (1 ≤ t.line) × (t.line ≤ length tickets)
+pub placed_in : (tickets : List (List ℕ)) (t : Ticket) (p : ℕ) → position tickets t ≡ Some p → (1 ≤ t.line) × (t.line ≤ length tickets)
 placed_in tickets t p e = by_line t.line t.number (by_beat t.beat (place_in (places_of tickets t.line) t.number) e)
   where
     by_beat : (b : Bool) (o : Option ℕ) → (if b then None else o) ≡ Some p → o ≡ Some p
@@ -194,11 +194,8 @@ sent_of_more n (s ∷ ss) x =
 
 -- the askers of a request that asks for one timestamp, if it asks for any
 askers_fit : (line : ℕ) (r : Request) → AsksOne r → HasAskers line r (askers_of line r)
-askers_fit line (Prewrite r) a = refl
-askers_fit line (Commit_request r) a = refl
-askers_fit line (GetRegion r) a = refl
-askers_fit line (GetStore r) a = refl
 askers_fit line (Tso r) a = (refl, a)
+askers_fit line r a = refl
 
 last_asks : (ss : List SentNote) (x : SentNote) → AllAskOne (ss ++ x ∷ []) → AsksOne x.request
 last_asks [] x h = h.0

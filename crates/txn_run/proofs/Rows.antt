@@ -3,7 +3,7 @@ use Rattle.std.proofs.Common.{◌≡◌, ℕ, zero, suc, ◌-◌, ◌<◌, ◌�
 use Rattle.std.proofs.lemmas.Option.{slice_get-get_or}
 use Rattle.txn_kv.specs.declared.reply.Reply.{Reply}
 use Rattle.txn_kv.specs.declared.request.Request.{Request}
-use Rattle.txn_kv.specs.declared.request.Request.TheVariants.{Prewrite, Commit, GetRegion, GetStore, Tso}
+use Rattle.txn_kv.specs.declared.request.Request.TheVariants.{Tso}
 use Rattle.txn_model.specs.Store.{Store}
 use Rattle.txn_model.specs.Table.{CanServe}
 use Rattle.txn_report.specs.declared.report.SentNote.{SentNote}
@@ -11,7 +11,7 @@ use Rattle.txn_run.specs.declared.transaction.Transaction.{Transaction}
 use Rattle.txn_run.specs.declared.transaction.Turn.{Turn}
 use Rattle.txn_run.specs.declared.machine.Row.{Row}
 use Rattle.txn_run.specs.declared.machine.Row.TheVariants.{Plain, Beginning, Running, Committing}
-use Rattle.txn_run.specs.Commit.{Step, turned}
+use Rattle.txn_run.specs.Commit.{Step, started, turned}
 use Rattle.txn_run.specs.Lists.{Lists, row_at, row_set, written, written_in, commit_starts, commit_begun, advanced, followed, request_at, IsSound, AllAskOne, AsksOne}
 
 -- what is written where it stands already
@@ -46,6 +46,15 @@ not_running_commits l x (Committing y) n = refl
 pub uncommitted : (l : Lists) (x : ℕ) (r : Row) → 1 ≤ x → x - 1 < length l.rows → r ≡ get_or l.rows (x - 1) r → ((t : Transaction) → r ≡ Running t → ⊥) → commit_begun l x ≡ l
 uncommitted l x r one below e n = ap (λ o. commit_starts l x o) (row_here l.rows x r one below e) ∙ not_running_commits l x r n
 
+-- a transaction that runs begins to commit
+pub commits_on : (l : Lists) (x line : ℕ) (r : Row) (t u : Transaction) (turn : Turn) → 1 ≤ x → x - 1 < length l.rows → r ≡ get_or l.rows (x - 1) r → r ≡ Running t → line ≡ length l.outcomes → ◌≡◌ {A = Step} (record { transaction = u; turn = turn }) (started t line)
+    → followed (row_set l x (Running u)) line turn ≡ commit_begun l x
+commits_on l x line r t u turn one below e is newest s =
+    let here : row_at l.rows x ≡ Some (Running t) = row_here l.rows x r one below e ∙ ap (λ z. Some z) is in
+    ap (λ (z : Step). followed (row_set l x (Running z.transaction)) line z.turn) s
+    ∙ ap (λ n. followed (row_set l x (Running (started t n).transaction)) n (started t n).turn) newest
+    ∙ sym (ap (λ o. commit_starts l x o) here)
+
 not_running_advances : (l : Lists) (x line : ℕ) (reply : Reply) (r : Row) → ((t : Transaction) → r ≡ Running t → ⊥) → advanced l x line reply (Some r) ≡ l
 not_running_advances l x line reply Plain n = refl
 not_running_advances l x line reply Beginning n = refl
@@ -75,11 +84,8 @@ asks_at (s ∷ sent) zero a = a.0
 asks_at (s ∷ sent) (suc p) a = asks_at sent p a.1
 
 can_serve : (st : Store) (r : Request) (n : ℕ) → AsksOne r → st.last ≤ n → n ≤ 65536 → st.clock ≡ 0 → CanServe st r
-can_serve st (Prewrite r) n a last few clock = tt
-can_serve st (Commit r) n a last few clock = tt
-can_serve st (GetRegion r) n a last few clock = tt
-can_serve st (GetStore r) n a last few clock = tt
 can_serve st (Tso r) n a last few clock = record { some = omega arith; few = omega arith; last_bits = omega arith; clock_bits = omega arith }
+can_serve st r n a last few clock = tt
 
 pub sound_serves : (l : Lists) (p : ℕ) → IsSound l → CanServe l.store (request_at l.sent p)
 sound_serves l p s = can_serve l.store (request_at l.sent p) (length l.outcomes) (asks_at l.sent p s.asks) s.last s.few s.clock

@@ -1,7 +1,7 @@
 -- What a report says of its script: the lines here stand in the order of the script.
 use Rattle.std.specs.Prelude.{◌≡◌, ◌≢◌, ℕ, ◌+◌, ◌<◌, ◌≤◌, false, if◌then◌else◌, nat_eq, List, [], ◌∷◌, length, reverse, slice_index_or as get_or}
 use Rattle.txn_kv.specs.declared.request.Request.{Request}
-use Rattle.txn_kv.specs.declared.request.Request.TheVariants.{Prewrite, Commit, GetRegion, GetStore, Tso}
+use Rattle.txn_kv.specs.declared.request.Request.TheVariants.{Tso}
 use Rattle.txn_history.specs.Event.{Event}
 use Rattle.txn_law.specs.Run.{store_after}
 use Rattle.txn_script.specs.declared.line.Line.{Line}
@@ -47,11 +47,8 @@ RisesFrom least (s ∷ ss) = (least ≤ s.at) × RisesFrom s.at ss
 
 -- a request for timestamps asks for as many as it has askers, its own line here, and no other request has askers
 abbrev pub HasAskers : ℕ → Request → List ℕ → Type 0
-HasAskers line (Prewrite r) askers = askers ≡ []
-HasAskers line (Commit r) askers = askers ≡ []
-HasAskers line (GetRegion r) askers = askers ≡ []
-HasAskers line (GetStore r) askers = askers ≡ []
 HasAskers line (Tso r) askers = (askers ≡ line ∷ []) × (r.count ≡ length askers)
+HasAskers line r askers = askers ≡ []
 
 abbrev pub AllHaveAskers : List SentNote → Type 0
 AllHaveAskers [] = Unit {0}

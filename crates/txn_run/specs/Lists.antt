@@ -5,9 +5,9 @@ use Rattle.std.proofs.Common.{zero, suc}
 use Rattle.txn_kv.specs.declared.errors.Error.TheVariants.{OperationAfterCommitError, InternalError}
 use Rattle.txn_kv.specs.declared.errors.Internal.TheVariants.{WrongReply}
 use Rattle.txn_kv.specs.declared.request.Request.{Request}
-use Rattle.txn_kv.specs.declared.request.Request.TheVariants.{Prewrite, Commit as Commit_request, GetRegion, GetStore, Tso}
+use Rattle.txn_kv.specs.declared.request.Request.TheVariants.{Tso}
 use Rattle.txn_kv.specs.declared.reply.Reply.{Reply}
-use Rattle.txn_kv.specs.declared.reply.Reply.TheVariants.{Prewrite as Prewrote, Commit as Committed_reply, GetRegion as Got_region, GetStore as Got_store, Tso as Gave}
+use Rattle.txn_kv.specs.declared.reply.Reply.TheVariants.{Tso as Gave}
 use Rattle.txn_kv.specs.declared.ticket.Ticket.{Ticket}
 use Rattle.txn_kv.specs.declared.ticket.Target.{Target}
 use Rattle.txn_kv.specs.declared.ticket.Target.TheVariants.{Placement}
@@ -169,11 +169,8 @@ reply_at l p = (table l.store (request_at l.sent p)).reply
 
 -- the start that a reply gives
 abbrev pub start_in : Reply → Option ℕ
-start_in (Prewrote r) = None
-start_in (Committed_reply r) = None
-start_in (Got_region r) = None
-start_in (Got_store r) = None
 start_in (Gave r) = version_in r.timestamp
+start_in r = None
 
 abbrev pub begun : Lists → ℕ → Option ℕ → Lists
 begun l line None = ended_at (row_set l line Plain) line (Err (InternalError WrongReply))
@@ -221,11 +218,8 @@ stepped l (Deliver t) = delivers l t
 
 -- a request for timestamps asks for one
 abbrev pub AsksOne : Request → Type 0
-AsksOne (Prewrite r) = Unit {0}
-AsksOne (Commit_request r) = Unit {0}
-AsksOne (GetRegion r) = Unit {0}
-AsksOne (GetStore r) = Unit {0}
 AsksOne (Tso r) = r.count ≡ 1
+AsksOne r = Unit {0}
 
 abbrev pub AllAskOne : List SentNote → Type 0
 AllAskOne [] = Unit {0}

@@ -3,7 +3,7 @@ use Rattle.std.specs.Prelude.{◌≡◌, ℕ, ◌+◌, ◌-◌, false, if◌then
 use Rattle.std.specs.List.{flat_map}
 use Rattle.std.proofs.Common.{zero, suc}
 use Rattle.txn_kv.specs.declared.request.Request.{Request}
-use Rattle.txn_kv.specs.declared.request.Request.TheVariants.{Prewrite, Commit, GetRegion, GetStore, Tso}
+use Rattle.txn_kv.specs.declared.request.Request.TheVariants.{Tso}
 use Rattle.txn_kv.specs.declared.ticket.Ticket.{Ticket}
 use Rattle.txn_kv.specs.declared.ticket.Target.{Target}
 use Rattle.txn_report.specs.declared.report.SentNote.{SentNote}
@@ -24,11 +24,8 @@ abbrev pub position : List (List ℕ) → Ticket → Option ℕ
 position tickets t = if t.beat then None else place_in (places_of tickets t.line) t.number
 
 abbrev pub askers_of : ℕ → Request → List ℕ
-askers_of line (Prewrite r) = []
-askers_of line (Commit r) = []
-askers_of line (GetRegion r) = []
-askers_of line (GetStore r) = []
 askers_of line (Tso r) = line ∷ []
+askers_of line r = []
 
 -- the next ticket of a line
 abbrev pub ticket_after : List (List ℕ) → ℕ → Ticket

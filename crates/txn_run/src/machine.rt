@@ -472,10 +472,10 @@ impl Machine {
     }
 
     /// A commit of a transaction takes a reply.
-    fn advance(&mut self, transaction: u64, line: u64, reply: Reply) -> Result<(), NoMemory>
+    fn advance(&mut self, transaction: u64, line: u64, reply: &Reply) -> Result<(), NoMemory>
         requires first { 1 ≤ line }
         requires last { line ≤ length (lists_of self.old).tickets }
-        ensures { OnOk result (lists_of self.new ≡ advanced (lists_of self.old) transaction line reply (row_at (lists_of self.old).rows transaction)) }
+        ensures { OnOk result (lists_of self.new ≡ advanced (lists_of self.old) transaction line reply.now (row_at (lists_of self.old).rows transaction)) }
     {
         if transaction == 0 {
             return Ok(());
@@ -495,9 +495,9 @@ impl Machine {
     }
 
     /// The call of a line takes a reply.
-    fn pass(&mut self, line: u64, reply: Reply) -> Result<(), NoMemory>
+    fn pass(&mut self, line: u64, reply: &Reply) -> Result<(), NoMemory>
         requires { IsEven (lists_of self.old) }
-        ensures { OnOk result (lists_of self.new ≡ passed (lists_of self.old) line reply) }
+        ensures { OnOk result (lists_of self.new ≡ passed (lists_of self.old) line reply.now) }
     {
         if line == 0 {
             return Ok(());
@@ -549,7 +549,7 @@ impl Machine {
         let line = self.next_line();
         self.open(Row::Plain, Outcome::Done, line)?;
         let reply = self.handle(place, ticket)?;
-        self.pass(ticket.line, reply)
+        self.pass(ticket.line, &reply)
     }
 
     /// What a line does.
@@ -575,8 +575,8 @@ impl Machine {
 }
 
 /// The start that a reply gives.
-fn start_in(reply: Reply) -> Option<u64>
-    ensures { result ≡ start_in reply }
+fn start_in(reply: &Reply) -> Option<u64>
+    ensures { result ≡ start_in reply.now }
 {
     match reply {
         Reply::Tso(answer) => version_in(answer.timestamp),

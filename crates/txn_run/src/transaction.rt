@@ -206,8 +206,8 @@ impl Transaction {
     }
 
     /// Takes the reply that its commit waits for.
-    pub fn take_reply(&mut self, alloc: Global, reply: Reply) -> Result<Turn, NoMemory>
-        ensures { IfOk result (λ turn. record { transaction = self.new; turn = turn } ≡ turned self.old reply) }
+    pub fn take_reply(&mut self, alloc: Global, reply: &Reply) -> Result<Turn, NoMemory>
+        ensures { IfOk result (λ turn. record { transaction = self.new; turn = turn } ≡ turned self.old reply.now) }
     {
         match self.call {
             None => Ok(Turn {
@@ -223,9 +223,9 @@ impl Transaction {
         alloc: Global,
         line: u64,
         stage: Stage,
-        reply: Reply,
+        reply: &Reply,
     ) -> Result<Turn, NoMemory>
-        ensures { IfOk result (λ turn. record { transaction = self.new; turn = turn } ≡ stage_turned self.old line stage reply) }
+        ensures { IfOk result (λ turn. record { transaction = self.new; turn = turn } ≡ stage_turned self.old line stage reply.now) }
     {
         match stage {
             Stage::FindingRegion => Ok(self.take_region(line, reply)),
@@ -236,17 +236,17 @@ impl Transaction {
         }
     }
 
-    fn take_region(&mut self, line: u64, reply: Reply) -> Turn
-        ensures { record { transaction = self.new; turn = result } ≡ stage_turned self.old line Stage.FindingRegion reply }
+    fn take_region(&mut self, line: u64, reply: &Reply) -> Turn
+        ensures { record { transaction = self.new; turn = result } ≡ stage_turned self.old line Stage.FindingRegion reply.now }
     {
         match reply {
-            Reply::GetRegion(found) => self.find_store(line, found.region, found.leader),
+            Reply::GetRegion(found) => self.find_store(line, &found.region, found.leader),
             _ => self.fail(),
         }
     }
 
-    fn find_store(&mut self, line: u64, region: Option<Region>, leader: Option<Peer>) -> Turn
-        ensures { record { transaction = self.new; turn = result } ≡ found_region self.old line region leader }
+    fn find_store(&mut self, line: u64, region: &Option<Region>, leader: Option<Peer>) -> Turn
+        ensures { record { transaction = self.new; turn = result } ≡ found_region self.old line region.now leader }
     {
         match region {
             None => self.fail(),
@@ -280,9 +280,9 @@ impl Transaction {
         alloc: Global,
         line: u64,
         place: Place,
-        reply: Reply,
+        reply: &Reply,
     ) -> Result<Turn, NoMemory>
-        ensures { IfOk result (λ turn. record { transaction = self.new; turn = turn } ≡ stage_turned self.old line (Stage.FindingStore place) reply) }
+        ensures { IfOk result (λ turn. record { transaction = self.new; turn = turn } ≡ stage_turned self.old line (Stage.FindingStore place) reply.now) }
     {
         match reply {
             Reply::GetStore(_) => self.prewrite(alloc, line, place),
@@ -307,8 +307,8 @@ impl Transaction {
         }
     }
 
-    fn take_prewrite(&mut self, line: u64, place: Place, reply: Reply) -> Turn
-        ensures { record { transaction = self.new; turn = result } ≡ stage_turned self.old line (Stage.Prewriting place) reply }
+    fn take_prewrite(&mut self, line: u64, place: Place, reply: &Reply) -> Turn
+        ensures { record { transaction = self.new; turn = result } ≡ stage_turned self.old line (Stage.Prewriting place) reply.now }
     {
         match reply {
             Reply::Prewrite(answer) => self.stamp(line, place, answer),
@@ -316,10 +316,10 @@ impl Transaction {
         }
     }
 
-    fn stamp(&mut self, line: u64, place: Place, answer: PrewriteResponse) -> Turn
-        ensures { record { transaction = self.new; turn = result } ≡ prewrote self.old line place answer.region_error answer.errors }
+    fn stamp(&mut self, line: u64, place: Place, answer: &PrewriteResponse) -> Turn
+        ensures { record { transaction = self.new; turn = result } ≡ prewrote self.old line place answer.now.region_error answer.now.errors }
     {
-        match answer.region_error {
+        match &answer.region_error {
             Some(_) => self.fail(),
             None => match answer.errors.as_slice() {
                 [] => self.send(
@@ -338,9 +338,9 @@ impl Transaction {
         alloc: Global,
         line: u64,
         place: Place,
-        reply: Reply,
+        reply: &Reply,
     ) -> Result<Turn, NoMemory>
-        ensures { IfOk result (λ turn. record { transaction = self.new; turn = turn } ≡ stage_turned self.old line (Stage.Stamping place) reply) }
+        ensures { IfOk result (λ turn. record { transaction = self.new; turn = turn } ≡ stage_turned self.old line (Stage.Stamping place) reply.now) }
     {
         match reply {
             Reply::Tso(answer) => self.commit(alloc, line, place, version_in(answer.timestamp)),
@@ -374,8 +374,8 @@ impl Transaction {
         }
     }
 
-    fn take_commit(&mut self, line: u64, place: Place, commit: u64, reply: Reply) -> Turn
-        ensures { record { transaction = self.new; turn = result } ≡ stage_turned self.old line (Stage.Committing place commit) reply }
+    fn take_commit(&mut self, line: u64, place: Place, commit: u64, reply: &Reply) -> Turn
+        ensures { record { transaction = self.new; turn = result } ≡ stage_turned self.old line (Stage.Committing place commit) reply.now }
     {
         match reply {
             Reply::Commit(answer) => self.finish(commit, answer),
@@ -383,12 +383,12 @@ impl Transaction {
         }
     }
 
-    fn finish(&mut self, commit: u64, answer: CommitResponse) -> Turn
-        ensures { record { transaction = self.new; turn = result } ≡ committed self.old commit answer.region_error answer.error }
+    fn finish(&mut self, commit: u64, answer: &CommitResponse) -> Turn
+        ensures { record { transaction = self.new; turn = result } ≡ committed self.old commit answer.now.region_error answer.now.error }
     {
-        match answer.region_error {
+        match &answer.region_error {
             Some(_) => self.fail(),
-            None => match answer.error {
+            None => match &answer.error {
                 Some(_) => self.fail(),
                 None => {
                     self.status = Status::Committed;

@@ -1,7 +1,12 @@
 use Rattle.std.proofs.Common.{◌∙◌, ◌-◌, ap, sym, arith}
+use Rattle.std.proofs.lemmas.Result.{on_ok_weaker}
 use Rattle.txn_run.specs.Lists.{lists_of}
-use Rattle.txn_run.proofs.Rows.{set_here, uncommitted}
+use Rattle.txn_run.proofs.Rows.{set_here, uncommitted, commits_on}
 use Rattle.txn_run.proofs.machine.Machine.start_commit.Goals as goal
+
+pub returns-in_ok-turn-in-Running : goal.returns-in_ok-turn-in-Running
+returns-in_ok-turn-in-Running c =
+    on_ok_weaker c.follow.result (λ h. h ∙ commits_on (lists_of c.args.self.now) c.args.transaction c.args.line c.index_mut.result.now c.in-Running.running c.start_commit.new.self c.in_ok-turn-in-Running.turn (omega arith) (omega arith) c.index_mut.ensures.value c.in-Running.is c.requires.newest c.in_ok-turn-in-Running.ensures) c.follow.ensures
 
 pub returns-in_default : goal.returns-in_default
 returns-in_default c =
