@@ -27,7 +27,7 @@ use Rattle.txn_kv.specs.declared.reply.CheckTxnStatusResponse.{CheckTxnStatusRes
 use Rattle.txn_kv.specs.declared.reply.TsoResponse.{TsoResponse}
 use Rattle.txn_history.specs.Among.{IsAmong}
 use Rattle.txn_history.specs.Event.{Event, Has}
-use Rattle.txn_history.specs.Event.Event.{Sent, Took}
+use Rattle.txn_history.specs.Event.Event.{Sent, Took, Asked}
 use Rattle.txn_history.specs.Plan.{Key, has_key, Content, Plan, ArePlanned, LocksKey}
 
 -- What a reply tells.
@@ -103,6 +103,20 @@ AllAcknowledged plan es s = (k : Key) (x : Content) → plan.writes k ≡ Some x
 abbrev pub AskedAfter : Plan → List Event → ℕ → Ticket → Type 0
 AskedAfter plan [] s t = ⊥
 AskedAfter plan (e ∷ es) s t = ((r : TsoRequest) × (e ≡ Sent t (Tso r)) × AllAcknowledged plan es s × WasGiven es s) ⊎ AskedAfter plan es s t
+
+-- a Tso was sent with this ticket after the ask
+abbrev pub SentAfterAsk : List Event → Ticket → Ticket → Type 0
+SentAfterAsk [] a t = ⊥
+SentAfterAsk (e ∷ es) a t = ((r : TsoRequest) × (e ≡ Sent t (Tso r)) × Has es (Asked a)) ⊎ SentAfterAsk es a t
+
+-- a taken reply to a Tso that was sent after the ask gave this timestamp
+abbrev pub WasTimed : List Event → Ticket → ℕ → Type 0
+WasTimed es a c = (t : Ticket) × (r : TsoRequest) × (o : TsoResponse) × SentAfterAsk es a t × Has es (Took t (Tso r) (reply.Tso o)) × GivesTimestamp o c
+
+-- a timestamp was asked for, after s was given and each key that it writes was acknowledged
+abbrev pub WantedAfter : Plan → List Event → ℕ → Ticket → Type 0
+WantedAfter plan [] s a = ⊥
+WantedAfter plan (e ∷ es) s a = ((e ≡ Asked a) × AllAcknowledged plan es s × WasGiven es s) ⊎ WantedAfter plan es s a
 
 -- a Commit of s at c that names the primary was sent
 abbrev pub WasNamed : Plan → List Event → ℕ → ℕ → Type 0

@@ -31,8 +31,7 @@ is_commit _ = false
 abbrev commits_sent : List Event → Bool
 commits_sent [] = false
 commits_sent (Sent t r ∷ es) = is_commit r || commits_sent es
-commits_sent (Served t r o ∷ es) = commits_sent es
-commits_sent (Took t r o ∷ es) = commits_sent es
+commits_sent (_ ∷ es) = commits_sent es
 
 sent_is : (u t : Ticket) (q r : Request) → Sent u q ≡ Sent t r → q ≡ r
 sent_is u t q r e = cc
@@ -44,8 +43,7 @@ none_sent (Sent u q ∷ es) f t r h = by (is_commit q) refl f (λ g. none_sent e
     by : (x : Bool) → is_commit q ≡ x → (x || commits_sent es) ≡ false → (commits_sent es ≡ false → Has es (Sent t (Commit r)) → ⊥) → ⊥
     by true e g rest = absurd (cc)
     by false e g rest = elim h [ inl w ↦ absurd (let z = ap is_commit (sent_is u t q (Commit r) w) in cc) | inr v ↦ rest g v ]
-none_sent (Served u q o ∷ es) f t r h = elim h [ inl w ↦ absurd (cc) | inr v ↦ none_sent es f t r v ]
-none_sent (Took u q o ∷ es) f t r h = elim h [ inl w ↦ absurd (cc) | inr v ↦ none_sent es f t r v ]
+none_sent (_ ∷ es) f t r h = elim h [ inl w ↦ absurd (cc) | inr v ↦ none_sent es f t r v ]
 
 locked_keys : (k : Key) (x : Content) → (sample_plans 1).writes k ≡ Some x → LocksKey (put first_key (7 ∷ []) ∷ put second_key (8 ∷ []) ∷ []) k
 locked_keys k x h = by (key_eq first_key k) (key_eq second_key k) refl refl h
@@ -94,7 +92,7 @@ run_2 : IsRun sample_plans after_2
 run_2 = ((inl refl, refl), tt, run_1)
 
 run_3 : IsRun sample_plans after_3
-run_3 = (inl refl, tt, run_2)
+run_3 = (inl (inl refl), tt, run_2)
 
 run_4 : IsRun sample_plans after_4
 run_4 = (unused after_3 (ticket 2) refl, (tt, record { primary = refl; planned = planned }), run_3)
@@ -103,7 +101,7 @@ run_5 : IsRun sample_plans after_5
 run_5 = ((inl refl, refl), tt, run_4)
 
 run_6 : IsRun sample_plans after_6
-run_6 = (inl refl, tt, run_5)
+run_6 = (inl (inl refl), tt, run_5)
 
 run_7 : IsRun sample_plans after_7
 run_7 = (unused after_6 (ticket 3) refl, (tt, tt), run_6)
@@ -112,7 +110,7 @@ run_8 : IsRun sample_plans after_8
 run_8 = ((inl refl, refl), tt, run_7)
 
 run_9 : IsRun sample_plans after_9
-run_9 = (inl refl, tt, run_8)
+run_9 = (inl (inl refl), tt, run_8)
 
 run_10 : IsRun sample_plans after_10
 run_10 = (unused after_9 (ticket 4) refl, (tt, λ k h. inl (only_key first_key k h, primary_licence)), run_9)
@@ -121,7 +119,7 @@ run_11 : IsRun sample_plans after_11
 run_11 = ((inl refl, refl), tt, run_10)
 
 run_12 : IsRun sample_plans after_12
-run_12 = (inl refl, tt, run_11)
+run_12 = (inl (inl refl), tt, run_11)
 
 run_13 : IsRun sample_plans after_13
 run_13 = (unused after_12 (ticket 5) refl, (tt, λ k h. inr ((λ e. differ (sym (only_key second_key k h) ∙ e)), (ticket 4, _, _, inl refl, (refl, refl), refl, refl, refl))), run_12)
@@ -133,7 +131,7 @@ run_15 : IsRun sample_plans after_15
 run_15 = ((inl refl, refl), tt, run_14)
 
 run_16 : IsRun sample_plans after_16
-run_16 = (inl refl, tt, run_15)
+run_16 = (inl (inl refl), tt, run_15)
 
 run_17 : IsRun sample_plans after_17
 run_17 = (unused after_16 (ticket 7) refl, (tt, given_3 after_16 (inl refl)), run_16)
@@ -142,7 +140,7 @@ run_18 : IsRun sample_plans after_18
 run_18 = ((inl refl, refl), tt, run_17)
 
 run_19 : IsRun sample_plans after_19
-run_19 = (inl refl, tt, run_18)
+run_19 = (inl (inl refl), tt, run_18)
 
 run_20 : IsRun sample_plans after_20
 run_20 = (unused after_19 (ticket 8) refl, (tt, tt), run_19)
@@ -151,7 +149,7 @@ run_21 : IsRun sample_plans after_21
 run_21 = ((inl refl, refl), tt, run_20)
 
 run_22 : IsRun sample_plans after_22
-run_22 = (inl refl, tt, run_21)
+run_22 = (inl (inl refl), tt, run_21)
 
 run_23 : IsRun sample_plans after_23
 run_23 = (unused after_22 (ticket 9) refl, (tt, λ i h. elim h [ inl e ↦ subst (λ (j : TxnInfo). WasDecided after_22 j.txn j.status) e resolved_so | inr e ↦ absurd e ]), run_22)
@@ -160,7 +158,7 @@ run_24 : IsRun sample_plans after_24
 run_24 = ((inl refl, refl), tt, run_23)
 
 run_25 : IsRun sample_plans after_25
-run_25 = (inl refl, tt, run_24)
+run_25 = (inl (inl refl), tt, run_24)
 
 run_26 : IsRun sample_plans after_26
 run_26 = (unused after_25 (ticket 10) refl, (tt, given_3 after_25 (inr (inr (inr (inr (inr (inr (inr (inr (inr (inl refl))))))))))), run_25)
@@ -169,7 +167,7 @@ run_27 : IsRun sample_plans after_27
 run_27 = ((inl refl, refl), tt, run_26)
 
 run_28 : IsRun sample_plans after_28
-run_28 = (inl refl, tt, run_27)
+run_28 = (inl (inl refl), tt, run_27)
 
 run_29 : IsRun sample_plans after_29
 run_29 = ((inr (inr (inr (inr (inr (inr (inr (inr (inr (inr (inr (inr (inr (inr (inr (inl refl))))))))))))))), refl), tt, run_28)

@@ -19,7 +19,7 @@ use Rattle.std.proofs.lemmas.Bool.Decides.{nat_tests}
 use Rattle.txn_history.specs.Event.{Event}
 use Rattle.txn_model.specs.declared.cell.Lock.{Lock}
 use Rattle.txn_model.specs.Locks.{is_prewrite, lock_info}
-use Rattle.txn_history.specs.Event.Event.{Sent, Served, Took}
+use Rattle.txn_history.specs.Event.Event.{Sent, Served}
 use Rattle.txn_history.specs.Plan.{Key, Content, Plan}
 use Rattle.txn_model.specs.declared.cell.Cell.{Cell}
 use Rattle.txn_model.specs.Cells.{cell_at}
@@ -27,7 +27,7 @@ use Rattle.txn_law.specs.Part.{IsPart, IsLockedBy, ShowsNone}
 use Rattle.txn_law.specs.Run.{IsRun, store_after}
 use Rattle.txn_law.specs.Whole.{content}
 use Rattle.txn_law.proofs.Coherent.{commit_stays, rollback_stays, lock_goes}
-use Rattle.txn_law.proofs.Kept.{NamedBy, kept, changes}
+use Rattle.txn_law.proofs.Kept.{NamedBy, kept, changes, passes}
 use Rattle.txn_law.proofs.Phases.{Phase, phase}
 use Rattle.txn_law.proofs.Phases.Phase.{Locked, Committed, RolledBack}
 use Rattle.txn_law.proofs.Replies.{phases, lock_is_phase}
@@ -48,7 +48,6 @@ over_stays : (plans : ℕ → Plan) (es part : List Event) → IsRun plans es �
 over_stays plans [] part run h s k o = subst (λ p. IsOver (phases (store_after p) s k)) h o
 over_stays plans (e ∷ es) part run (inl h) s k o = subst (λ p. IsOver (phases (store_after p) s k)) h o
 over_stays plans (Sent t r ∷ es) part run (inr h) s k o = over_stays plans es part run.2 h s k o
-over_stays plans (Took t r a ∷ es) part run (inr h) s k o = over_stays plans es part run.2 h s k o
 over_stays plans (Served t r a ∷ es) part run (inr h) s k o =
     let ch = changes plans es (kept plans es run.2) t r run.0.0 s k in
     let next = phases (store_after (Served t r a ∷ es)) s k in
@@ -56,12 +55,12 @@ over_stays plans (Served t r a ∷ es) part run (inr h) s k o =
       | inl w ↦ inl (w.0, w.1, commit_stays (plans s) (NamedBy (plans s) es s) (phases (store_after es) s) k next w.0 w.1 ch w.2)
       | inr w ↦ inr (rollback_stays (plans s) (NamedBy (plans s) es s) (phases (store_after es) s) k next ch w)
     ]
+over_stays plans (e ∷ es) part run (inr h) s k o = subst (λ cs. IsOver (phase (cell_at cs k) s)) (sym (passes es e tt).cells) (over_stays plans es part run.2 h s k o)
 
 begun_stays : (plans : ℕ → Plan) (es part : List Event) → IsRun plans es → IsPart es part → (s : ℕ) (k p : Key) (x : Content) → phases (store_after part) s k ≡ Locked p x → IsBegun (Locked p x) (phases (store_after es) s k)
 begun_stays plans [] part run h s k p x o = inl (subst (λ q. phases (store_after q) s k ≡ Locked p x) h o)
 begun_stays plans (e ∷ es) part run (inl h) s k p x o = inl (subst (λ q. phases (store_after q) s k ≡ Locked p x) h o)
 begun_stays plans (Sent t r ∷ es) part run (inr h) s k p x o = begun_stays plans es part run.2 h s k p x o
-begun_stays plans (Took t r a ∷ es) part run (inr h) s k p x o = begun_stays plans es part run.2 h s k p x o
 begun_stays plans (Served t r a ∷ es) part run (inr h) s k p x o =
     let ch = changes plans es (kept plans es run.2) t r run.0.0 s k in
     let next = phases (store_after (Served t r a ∷ es)) s k in
@@ -75,6 +74,7 @@ begun_stays plans (Served t r a ∷ es) part run (inr h) s k p x o =
         | inr v ↦ inr (rollback_stays (plans s) (NamedBy (plans s) es s) (phases (store_after es) s) k next ch v)
       ])
     ]
+begun_stays plans (e ∷ es) part run (inr h) s k p x o = subst (λ cs. IsBegun (Locked p x) (phase (cell_at cs k) s)) (sym (passes es e tt).cells) (begun_stays plans es part run.2 h s k p x o)
 
 locked_phase : (plans : ℕ → Plan) (es : List Event) → IsRun plans es → (s : ℕ) (k : Key) → (l : IsLockedBy (cell_at (store_after es).cells k) s) → phases (store_after es) s k ≡ Locked l.lock.primary (content l.lock.kind l.lock.value)
 locked_phase plans es run s k l = subst (λ u. phases (store_after es) u k ≡ Locked l.lock.primary (content l.lock.kind l.lock.value)) l.start (lock_is_phase (cell_at (store_after es).cells k) l.lock ((kept plans es run).sound k) l.here l.prewrite)
