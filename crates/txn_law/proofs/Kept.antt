@@ -92,7 +92,7 @@ above_next : (plan : Plan) (es : List Event) (e : Event) (s c : ℕ) → ((n : T
 above_next plan es e s c f a = (a.0, λ k x w t q h d. elim h [ inl g ↦ absurd (f t (PessimisticLock q) g) | inr u ↦ a.1 k x w t q u d ])
 
 -- the starts that a ResolveLock settles are those that its row settles
-settled_infos : (r : ResolveLockRequest) (is : List TxnInfo) → settled_starts r is ≡ infos_of r is
+pub settled_infos : (r : ResolveLockRequest) (is : List TxnInfo) → settled_starts r is ≡ infos_of r is
 settled_infos r [] = refl
 settled_infos r (i ∷ is) = refl
 
