@@ -3,3 +3,8 @@ pub mod Busy
 pub mod Event
 pub mod Licence
 pub mod Plan
+pub mod Posted
+pub mod Turn
+pub mod Moves
+pub mod Spends
+pub mod Parts
