@@ -104,6 +104,10 @@ abbrev pub AskedAfter : Plan → List Event → ℕ → Ticket → Type 0
 AskedAfter plan [] s t = ⊥
 AskedAfter plan (e ∷ es) s t = ((r : TsoRequest) × (e ≡ Sent t (Tso r)) × AllAcknowledged plan es s × WasGiven es s) ⊎ AskedAfter plan es s t
 
+-- a taken reply to such a Tso gave this timestamp
+abbrev pub WasAskedFor : Plan → List Event → ℕ → ℕ → Type 0
+WasAskedFor plan es s c = (t : Ticket) × (r : TsoRequest) × (o : TsoResponse) × AskedAfter plan es s t × Has es (Took t (Tso r) (reply.Tso o)) × GivesTimestamp o c
+
 -- a Tso was sent with this ticket after the ask
 abbrev pub SentAfterAsk : List Event → Ticket → Ticket → Type 0
 SentAfterAsk [] a t = ⊥
@@ -113,7 +117,7 @@ SentAfterAsk (e ∷ es) a t = ((r : TsoRequest) × (e ≡ Sent t (Tso r)) × Has
 abbrev pub WasTimed : List Event → Ticket → ℕ → Type 0
 WasTimed es a c = (t : Ticket) × (r : TsoRequest) × (o : TsoResponse) × SentAfterAsk es a t × Has es (Took t (Tso r) (reply.Tso o)) × GivesTimestamp o c
 
--- a timestamp was asked for, after s was given and each key that it writes was acknowledged
+-- an ask for a timestamp was made after s was given and each key that it writes was acknowledged
 abbrev pub WantedAfter : Plan → List Event → ℕ → Ticket → Type 0
 WantedAfter plan [] s a = ⊥
 WantedAfter plan (e ∷ es) s a = ((e ≡ Asked a) × AllAcknowledged plan es s × WasGiven es s) ⊎ WantedAfter plan es s a
@@ -195,7 +199,7 @@ pub record PrewriteLicence (plan : Plan) (es : List Event) (r : PrewriteRequest)
 -- could name another timestamp than the one at which the transaction is whole.
 pub record PrimaryCommitLicence (plan : Plan) (es : List Event) (s c : ℕ) : Type 0 where
   pub ready : AllAcknowledged plan es s
-  pub asked : (t : Ticket) × (r : TsoRequest) × (o : TsoResponse) × AskedAfter plan es s t × Has es (Took t (Tso r) (reply.Tso o)) × GivesTimestamp o c
+  pub asked : WasAskedFor plan es s c
   pub same : (d : ℕ) → WasNamed plan es s d → d ≡ c
 
 -- Another key is committed where the primary's commit was answered without error. Without it a key could be committed

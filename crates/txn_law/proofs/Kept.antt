@@ -76,10 +76,10 @@ was_named_more plan es e s c h = (h.0, h.1, inr h.2, h.3, h.4, h.5)
 named_more : (plan : Plan) (es : List Event) (e : Event) (s c : ℕ) → NamedBy plan es s c → NamedBy plan (e ∷ es) s c
 named_more plan es e s c h = (was_named_more plan es e s c h.0, h.1)
 
-given_more : (es : List Event) (e : Event) (u : ℕ) → WasGiven es u → WasGiven (e ∷ es) u
+pub given_more : (es : List Event) (e : Event) (u : ℕ) → WasGiven es u → WasGiven (e ∷ es) u
 given_more es e u w = (w.0, w.1, w.2, w.3, inr w.4, w.5, w.6)
 
-acknowledged_more : (plan : Plan) (es : List Event) (e : Event) (s : ℕ) → AllAcknowledged plan es s → AllAcknowledged plan (e ∷ es) s
+pub acknowledged_more : (plan : Plan) (es : List Event) (e : Event) (s : ℕ) → AllAcknowledged plan es s → AllAcknowledged plan (e ∷ es) s
 acknowledged_more plan es e s a k x w = let h = a k x w in record { ticket = h.ticket; request = h.request; response = h.response; taken = inr h.taken; fine = h.fine; start = h.start; locks = h.locks }
 
 -- who asked for a commit timestamp had each key acknowledged, and its start given
