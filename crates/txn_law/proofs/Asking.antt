@@ -1,10 +1,10 @@
 -- A timestamp that an ask was answered comes of a Tso that was sent after the ask.
-use Rattle.std.proofs.Common.{◌≡◌, ℕ, ◌≤◌, inl, inr, List, [], ◌∷◌, Option, Some, None, refl, sym, subst, subst₂, arith}
+use Rattle.std.proofs.Common.{◌≡◌, ℕ, inl, inr, List, [], ◌∷◌, Some, subst, arith}
 use Rattle.txn_kv.specs.Timestamp.{version_of}
 use Rattle.txn_kv.specs.declared.ticket.Ticket.{Ticket}
 use Rattle.txn_kv.specs.declared.timestamp.Timestamp.{Timestamp}
 use Rattle.txn_history.specs.Event.{Event, Has}
-use Rattle.txn_history.specs.Event.Event.{Sent, Asked, Answered}
+use Rattle.txn_history.specs.Event.Event.{Asked, Answered}
 use Rattle.txn_history.specs.Licence.{AllAcknowledged, AskedAfter, SentAfterAsk, WantedAfter, WasAskedFor, WasGiven, WasTimed}
 use Rattle.txn_history.specs.Plan.{Plan}
 use Rattle.txn_law.specs.Run.{IsPossible, IsRun}

@@ -1,9 +1,9 @@
 -- What a region's epoch tells of its range.
-use Rattle.std.proofs.Common.{◌≡◌, ◌≢◌, ℕ, ◌+◌, ◌<◌, ◌≤◌, ◌⊎◌, inl, inr, Bool, true, false, List, [], ◌∷◌, Option, Some, None, length, map, nat_eq, refl, sym, ap, ◌∙◌, subst, suc, arith}
-use Rattle.std.specs.Prelude.{if◌then◌else◌, cond, find}
+use Rattle.std.proofs.Common.{◌≡◌, ℕ, ◌+◌, ◌<◌, ◌≤◌, ◌⊎◌, inl, inr, Bool, true, false, List, [], ◌∷◌, Some, length, nat_eq, refl, sym, ap, ◌∙◌, subst, suc, arith}
+use Rattle.std.specs.Prelude.{if◌then◌else◌, cond}
 use Rattle.std.proofs.lemmas.Bool.Decides.{nat_tests}
 use Rattle.txn_history.specs.Event.{Event}
-use Rattle.txn_history.specs.Event.Event.{Served, Split, Led, Clocked}
+use Rattle.txn_history.specs.Event.Event.{Served, Split, Led}
 use Rattle.txn_history.specs.Plan.{Key}
 use Rattle.txn_model.specs.declared.region.StoredRegion.{StoredRegion}
 use Rattle.txn_model.specs.Placement.{region_with_id}
