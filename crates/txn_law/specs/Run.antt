@@ -48,7 +48,8 @@ IsPossible es (Split k) = Unit {0}
 IsPossible es (Led region store) = Unit {0}
 IsPossible es (Clocked ms) = Unit {0}
 
--- every request but the one that destroys a range
+-- Every request but the one that destroys a range: it takes commits away, and what was whole or was read would not stay
+-- (`whole`, `committed`, `reads_repeat`).
 abbrev pub IsCovered : Request → Type 0
 IsCovered (UnsafeDestroyRange r) = ⊥
 IsCovered _ = Unit {0}
