@@ -1,4 +1,10 @@
 pub mod Among
+pub mod Busy
 pub mod Event
 pub mod Licence
 pub mod Plan
+pub mod Posted
+pub mod Turn
+pub mod Moves
+pub mod Spends
+pub mod Parts

@@ -27,7 +27,7 @@ use Rattle.txn_kv.specs.declared.reply.CheckTxnStatusResponse.{CheckTxnStatusRes
 use Rattle.txn_kv.specs.declared.reply.TsoResponse.{TsoResponse}
 use Rattle.txn_history.specs.Among.{IsAmong}
 use Rattle.txn_history.specs.Event.{Event, Has}
-use Rattle.txn_history.specs.Event.Event.{Sent, Took}
+use Rattle.txn_history.specs.Event.Event.{Sent, Took, Asked}
 use Rattle.txn_history.specs.Plan.{Key, has_key, Content, Plan, ArePlanned, LocksKey}
 
 -- What a reply tells.
@@ -99,10 +99,30 @@ pub record IsAcknowledged (es : List Event) (s : ℕ) (k : Key) : Type 0 where
 abbrev pub AllAcknowledged : Plan → List Event → ℕ → Type 0
 AllAcknowledged plan es s = (k : Key) (x : Content) → plan.writes k ≡ Some x → IsAcknowledged es s k
 
--- a commit timestamp was asked for with this ticket, after s was given and each key that it writes was acknowledged
+-- A commit timestamp was asked for with this ticket, after s was given and each key that it writes was acknowledged. Without
+-- the start a commit could come at or below it: `above` and `none_between` fall, and `reads_repeat` where a read passes over
+-- the lock of a later start.
 abbrev pub AskedAfter : Plan → List Event → ℕ → Ticket → Type 0
 AskedAfter plan [] s t = ⊥
 AskedAfter plan (e ∷ es) s t = ((r : TsoRequest) × (e ≡ Sent t (Tso r)) × AllAcknowledged plan es s × WasGiven es s) ⊎ AskedAfter plan es s t
+
+-- a taken reply to such a Tso gave this timestamp
+abbrev pub WasAskedFor : Plan → List Event → ℕ → ℕ → Type 0
+WasAskedFor plan es s c = (t : Ticket) × (r : TsoRequest) × (o : TsoResponse) × AskedAfter plan es s t × Has es (Took t (Tso r) (reply.Tso o)) × GivesTimestamp o c
+
+-- a Tso was sent with this ticket after the ask
+abbrev pub SentAfterAsk : List Event → Ticket → Ticket → Type 0
+SentAfterAsk [] a t = ⊥
+SentAfterAsk (e ∷ es) a t = ((r : TsoRequest) × (e ≡ Sent t (Tso r)) × Has es (Asked a)) ⊎ SentAfterAsk es a t
+
+-- a taken reply to a Tso that was sent after the ask gave this timestamp
+abbrev pub WasTimed : List Event → Ticket → ℕ → Type 0
+WasTimed es a c = (t : Ticket) × (r : TsoRequest) × (o : TsoResponse) × SentAfterAsk es a t × Has es (Took t (Tso r) (reply.Tso o)) × GivesTimestamp o c
+
+-- an ask for a timestamp was made after s was given and each key that it writes was acknowledged
+abbrev pub WantedAfter : Plan → List Event → ℕ → Ticket → Type 0
+WantedAfter plan [] s a = ⊥
+WantedAfter plan (e ∷ es) s a = ((e ≡ Asked a) × AllAcknowledged plan es s × WasGiven es s) ⊎ WantedAfter plan es s a
 
 -- a Commit of s at c that names the primary was sent
 abbrev pub WasNamed : Plan → List Event → ℕ → ℕ → Type 0
@@ -167,37 +187,39 @@ WasShownAt es s k = (t : Ticket) × (r : Request) × (o : Reply) × (l : LockInf
 abbrev pub TriedToLock : List Event → ℕ → Key → Type 0
 TriedToLock es s k = (t : Ticket) × (r : PessimisticLockRequest) × Has es (Sent t (PessimisticLock r)) × (r.start_version ≡ s) × LocksKey r.mutations k
 
--- Licences, one for each kind of request.
+-- Licences, one for each kind of request. Beside each stands which conclusion of `txn_law` falls without it.
 
 -- Without the first, two keys of one transaction could hang on two primaries, and without the second a key could get
--- another value: no transaction would be whole.
+-- another value, or one that the transaction doesn't mean to write: `whole` falls with either, and with it all that was
+-- answered (`fits`, `committed`).
 pub record PrewriteLicence (plan : Plan) (es : List Event) (r : PrewriteRequest) : Type 0 where
   pub primary : r.primary_lock ≡ plan.primary
   pub planned : ArePlanned plan r.mutations
 
 -- The primary is committed where all keys are acknowledged, at a timestamp that was asked for afterwards, and always at
--- the same one. Without the first a key could be left out, and no transaction would be whole. Without the second a commit
--- could come at or below the timestamp of a read that missed it, and reads would not repeat. Without the third an answer
--- could name another timestamp than the one at which the transaction is whole.
+-- the same one. Without the first a key could be left out, and be rolled back or locked by another: `whole` falls. Without
+-- the second a commit could come at or below the timestamp of a read that missed it, or below its start: `reads_repeat`,
+-- `above` and `none_between` fall. Without the third a second Commit at another timestamp would be answered without error,
+-- and licence other keys at that one: `one`, `committed`, `fits` and then `whole` fall.
 pub record PrimaryCommitLicence (plan : Plan) (es : List Event) (s c : ℕ) : Type 0 where
   pub ready : AllAcknowledged plan es s
-  pub asked : (t : Ticket) × (r : TsoRequest) × (o : TsoResponse) × AskedAfter plan es s t × Has es (Took t (Tso r) (reply.Tso o)) × GivesTimestamp o c
+  pub asked : WasAskedFor plan es s c
   pub same : (d : ℕ) → WasNamed plan es s d → d ≡ c
 
 -- Another key is committed where the primary's commit was answered without error. Without it a key could be committed
--- whose primary is rolled back later, and no transaction would be whole or absent.
+-- whose primary is rolled back later: `whole` and `rolled_stays` fall.
 abbrev pub CommitLicence : Plan → List Event → CommitRequest → Type 0
 CommitLicence plan es r = (k : Key) → has_key r.keys k ≡ true → ((k ≡ plan.primary) × PrimaryCommitLicence plan es r.start_version r.commit_version) ⊎ ((k ≢ plan.primary) × PrimaryCommitted plan es r.start_version r.commit_version)
 
--- The primary is rolled back first. Without it a key could be rolled back whose primary is committed later, and no
--- transaction would be whole. That each commit was answered serves what a rollback answers to its caller: no law of the
--- store rests on it.
+-- The primary is rolled back first. Without it a key could be rolled back whose primary is committed later: `whole` falls.
+-- That each commit was answered serves what a rollback answers to its caller: no law of the store rests on it.
 pub record BatchRollbackLicence (plan : Plan) (es : List Event) (r : BatchRollbackRequest) : Type 0 where
   pub answered : CommitsAnswered plan es r.start_version
   pub primary_first : (k : Key) → has_key r.keys k ≡ true → (k ≡ plan.primary) ⊎ PrimaryRolledBack plan es r.start_version
 
--- The timestamp was given before, and no key was prewritten. Without either a late lock could stand on a committed key: its
--- expiry would record a committed start as rolled back.
+-- The timestamp was given before, and no key was prewritten. Without either a late lock could stand on a committed key, and
+-- its expiry would record a committed start as rolled back: `whole` falls. Without the first a value that it returns could
+-- be missed by a later commit below: `reads_repeat` falls for it.
 pub record PessimisticLockLicence (es : List Event) (r : PessimisticLockRequest) : Type 0 where
   pub given : WasGiven es r.for_update_ts
   pub unwritten : IsUnwritten es r.start_version
@@ -213,11 +235,12 @@ settled_starts r [] = record { txn = r.start_version; status = r.commit_version 
 settled_starts r (i ∷ is) = i ∷ is
 
 -- Each start is settled as its primary was told to be. Without it a lock could be rolled back whose primary is committed, or
--- committed whose primary is rolled back.
+-- committed whose primary is rolled back: `whole` and `rolled_stays` fall. Without the lock that named the primary, the reply
+-- could be about another key, and they fall as well.
 abbrev pub ResolveLockLicence : List Event → ResolveLockRequest → Type 0
 ResolveLockLicence es r = (i : TxnInfo) → IsAmong (settled_starts r r.txn_infos) i → WasDecided es i.txn i.status
 
--- A read is at a timestamp that was given before. Without it a later commit could come below it, and reads would not repeat.
+-- A read is at a timestamp that was given before. Without it a later commit could come below it: `reads_repeat` falls.
 abbrev pub IsLicensed : (ℕ → Plan) → List Event → Request → Type 0
 IsLicensed plans es (Get r) = WasGiven es r.version
 IsLicensed plans es (BatchGet r) = WasGiven es r.version

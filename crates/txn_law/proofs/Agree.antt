@@ -4,7 +4,7 @@ use Rattle.txn_kv.specs.declared.ticket.Ticket.{Ticket}
 use Rattle.txn_kv.specs.declared.request.Request.{Request}
 use Rattle.txn_kv.specs.declared.request.Request.TheVariants.{Prewrite, Commit, BatchRollback, Get, BatchGet, Scan, Cleanup, PessimisticRollback, PessimisticLock, ResolveLock, ScanLock, TxnHeartBeat, CheckTxnStatus, CheckSecondaryLocks, UnsafeDestroyRange, GetRegion, GetRegionById, GetStore, GetAllStores, UpdateGcSafePoint, Tso, Members}
 use Rattle.txn_history.specs.Event.{Event, Has}
-use Rattle.txn_history.specs.Event.Event.{Sent, Served, Took}
+use Rattle.txn_history.specs.Event.Event.{Sent}
 use Rattle.txn_history.specs.Licence.{PrewriteLicence, CommitLicence, BatchRollbackLicence, IsLicensed}
 use Rattle.txn_history.specs.Plan.{Plan}
 use Rattle.txn_law.specs.Run.{IsRun}
@@ -43,5 +43,4 @@ licence_agrees plans more es (Members r) h l = l
 pub run_agrees : (plans more : ℕ → Plan) (es : List Event) → ((t : Ticket) (r : Request) → Has es (Sent t r) → (s : ℕ) → IsAbout r s → plans s ≡ more s) → IsRun plans es → IsRun more es
 run_agrees plans more [] h run = tt
 run_agrees plans more (Sent t r ∷ es) h run = (run.0, (run.1.0, licence_agrees plans more es r (h t r (inl refl)) run.1.1), run_agrees plans more es (λ u q g. h u q (inr g)) run.2)
-run_agrees plans more (Served t r o ∷ es) h run = (run.0, tt, run_agrees plans more es (λ u q g. h u q (inr g)) run.2)
-run_agrees plans more (Took t r o ∷ es) h run = (run.0, tt, run_agrees plans more es (λ u q g. h u q (inr g)) run.2)
+run_agrees plans more (_ ∷ es) h run = (run.0, tt, run_agrees plans more es (λ u q g. h u q (inr g)) run.2)

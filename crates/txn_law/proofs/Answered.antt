@@ -11,6 +11,7 @@ use Rattle.txn_kv.specs.declared.request.TsoRequest.{TsoRequest}
 use Rattle.txn_kv.specs.declared.reply.Reply.{Reply}
 use Rattle.txn_kv.specs.declared.reply.Reply.TheVariants as reply
 use Rattle.txn_kv.specs.declared.reply.TsoResponse.{TsoResponse}
+use Rattle.txn_history.specs.Busy.{busy, busy_reply}
 use Rattle.txn_history.specs.Event.{Event, Has}
 use Rattle.txn_history.specs.Event.Event.{Sent, Served, Took}
 use Rattle.txn_history.specs.Licence.{GivesTimestamp, WasGiven, WasNamed, AskedAfter, IsLicensed}
@@ -29,7 +30,7 @@ use Rattle.txn_law.specs.Reads.{Reads, Says}
 use Rattle.txn_law.specs.Run.{IsRun, IsUnused, store_after}
 use Rattle.txn_law.specs.Whole.{content}
 use Rattle.txn_law.proofs.Coherent.{Change, held_begun}
-use Rattle.txn_law.proofs.Kept.{Inv, NamedBy, all_held, asked_ready, changes, given_last, kept, last_stays, licence_of, primary_licence, timely}
+use Rattle.txn_law.proofs.Kept.{Inv, NamedBy, all_held, asked_ready, changes, given_last, kept, last_stays, licence_of, primary_licence, timely, Passes, passes, served_time}
 use Rattle.txn_law.proofs.Moves.{CellStep, May}
 use Rattle.txn_law.proofs.Moves.CellStep.{Same, Places, Recorded, Made, Released, Held, Renewed}
 use Rattle.txn_law.proofs.Phases.{Phase, phase, IsSound, held}
@@ -150,7 +151,7 @@ module _ (plans : ℕ → Plan) (es : List Event) (i : Inv plans es) (j : Readin
   later_sent : (n : Ticket) (r : Request) → IsUnused es n → IsLicensed plans es r → (s t : ℕ) → Later (plans s) es s t → Later (plans s) (Sent n r ∷ es) s t
   later_sent n r f l s t o = (
     (λ c d. elim d.2 [
-      | inl e ↦ (let w = (primary_licence plans es i d.1 (licence_of plans es i r d.1 l (cc)) s c d.3 d.4 d.5).asked in o.1 w.0 w.1 w.2 c w.3 (i.taken w.0 (Tso w.1) (reply.Tso w.2) w.4) w.5)
+      | inl e ↦ (let w = (primary_licence plans es i d.1 (licence_of plans es i r d.1 l (cc)) s c d.3 d.4 d.5).asked in o.1 w.0 w.1 w.2 c w.3 (served_time plans es i w.0 w.1 w.2 w.4) w.5)
       | inr u ↦ o.0 c (d.0, d.1, u, d.3, d.4, d.5)
     ]),
     (λ m q p c a g v. elim g [
@@ -227,19 +228,39 @@ module _ (plans : ℕ → Plan) (es : List Event) (i : Inv plans es) (j : Readin
     later = λ m q o w k t d s p x b y. elim w [ inl f ↦ inl (later_now r a g k t (subst₂ (λ c e. Reads c e k t) (cc) (cc) d) s p x b y) | inr u ↦ later_kept n r a h g m q o u k t d s p x b y ];
   }
 
-  Took_reading : (n : Ticket) (r : Request) (a : Reply) → Reading plans (Took n r a ∷ es)
-  Took_reading n r a = record {
-    at_most = λ m q w. elim w [ inl f ↦ absurd (cc) | inr u ↦ j.at_most m q u ];
-    says = λ m q o w. elim w [ inl f ↦ absurd (cc) | inr u ↦ j.says m q o u ];
-    later = λ m q o w k t d s p x b y. elim w [ inl f ↦ absurd (cc) | inr u ↦ elim (j.later m q o u k t d s p x b y) [ inl z ↦ inl z | inr z ↦ inr (later_next (Took n r a) (λ c e f. cc) (λ v c e f g. absurd (cc)) s t (j.at_most m q (i.sent m q o u) o k t d) z) ] ];
+  Passed_reading : (e : Event) → Passes es e → Reading plans (e ∷ es)
+  Passed_reading e p = record {
+    at_most = λ m q w. elim w [ inl f ↦ absurd (p.unsent m q f) | inr u ↦ (λ o k t d. let a = j.at_most m q u o k t d in let z = p.last in omega (arith, a, z)) ];
+    says = λ m q o w k t d. elim w [ inl f ↦ absurd (p.unserved m q o f) | inr u ↦ subst (λ cs. Says q o k (value_at (cell_at cs k).commits t)) (sym p.cells) (j.says m q o u k t d) ];
+    later = λ m q o w k t d s y x b v. elim w [
+      | inl f ↦ absurd (p.unserved m q o f)
+      | inr u ↦ elim (j.later m q o u k t d s y x (subst (λ cs. phase (cell_at cs k) s ≡ Locked y x) p.cells b) v) [
+        | inl z ↦ inl z
+        | inr z ↦ inr (later_next e p.unsent (λ n c f g h. absurd (p.unserved n (Tso c) (reply.Tso f) h)) s t (j.at_most m q (i.sent m q o u) o k t d) z)
+      ]
+    ];
   }
 
 reading : (plans : ℕ → Plan) (es : List Event) → IsRun plans es → Reading plans es
 reading plans [] run = record { at_most = λ m q g. absurd g; says = λ m q o g. absurd g; later = λ m q o g. absurd g }
 reading plans (Sent n r ∷ es) run = Sent_reading plans es (kept plans es run.2) (reading plans es run.2) n r run.0 run.1.1
 reading plans (Served n r a ∷ es) run = Served_reading plans es (kept plans es run.2) (reading plans es run.2) n r a run.0.0 run.0.1
-reading plans (Took n r a ∷ es) run = Took_reading plans es (kept plans es run.2) (reading plans es run.2) n r a
+reading plans (e ∷ es) run = Passed_reading plans es (kept plans es run.2) (reading plans es run.2) e (passes es e tt)
+
+-- a reply of a store that was too busy reads nothing
+busy_reads : (r : Request) (o : Reply) (k : Key) (t : ℕ) → busy_reply r ≡ Some o → Reads r o k t → ⊥
+busy_reads r o k t e d = by r e d
+  where
+    by : (q : Request) → busy_reply q ≡ Some o → Reads q o k t → ⊥
+    by (Get q) f w = let same : reply.Get (record { region_error = busy; error = None; value = []; not_found = false }) ≡ o = cc in (subst (λ z. Reads (Get q) z k t → ⊥) same (λ x. let a = x.2.0 in absurd (cc))) w
+    by (BatchGet q) f w = let same : reply.BatchGet (record { region_error = busy; error = None; pairs = [] }) ≡ o = cc in (subst (λ z. Reads (BatchGet q) z k t → ⊥) same (λ x. let a = x.1 in absurd (cc))) w
+    by (Scan q) f w = let same : reply.Scan (record { region_error = busy; error = None; pairs = [] }) ≡ o = cc in (subst (λ z. Reads (Scan q) z k t → ⊥) same (λ x. let a = x.1 in absurd (cc))) w
+    by (PessimisticLock q) f w = let same : reply.PessimisticLock (record { region_error = busy; errors = []; values = []; not_founds = [] }) ≡ o = cc in (subst (λ z. Reads (PessimisticLock q) z k t → ⊥) same (λ x. let a = x.1.0 in absurd (cc))) w
+    by _ f w = w
 
 -- a read that was answered is the final store's at its timestamp
 pub law_read : (plans : ℕ → Plan) (es : List Event) → IsRun plans es → (n : Ticket) (r : Request) (o : Reply) → Has es (Took n r o) → (k : Key) (t : ℕ) → Reads r o k t → Says r o k (value_at (cell_at (store_after es).cells k).commits t)
-law_read plans es run n r o h = (reading plans es run).says n r o ((kept plans es run).taken n r o h)
+law_read plans es run n r o h k t d = elim ((kept plans es run).taken n r o h) [
+  | inl u ↦ (reading plans es run).says n r o u k t d
+  | inr u ↦ absurd (busy_reads r o k t ((kept plans es run).refused n r o u).1 d)
+]

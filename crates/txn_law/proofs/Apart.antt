@@ -8,7 +8,7 @@ use Rattle.txn_kv.specs.declared.request.Request.TheVariants.{PessimisticLock}
 use Rattle.txn_kv.specs.declared.request.PessimisticLockRequest.{PessimisticLockRequest}
 use Rattle.txn_history.specs.Among.{IsAmong}
 use Rattle.txn_history.specs.Event.{Event, Has}
-use Rattle.txn_history.specs.Event.Event.{Sent, Served, Took}
+use Rattle.txn_history.specs.Event.Event.{Sent, Served}
 use Rattle.txn_history.specs.Plan.{Key, Content, Plan}
 use Rattle.txn_model.specs.declared.cell.Cell.{Cell}
 use Rattle.txn_model.specs.declared.cell.Lock.{Lock}
@@ -23,7 +23,7 @@ use Rattle.txn_law.specs.Run.{IsOptimistic, IsRun, store_after}
 use Rattle.txn_law.specs.Sound.{IsSound}
 use Rattle.txn_law.specs.Whole.{content, HasCommit, HasLock, IsWholeAt}
 use Rattle.txn_law.proofs.Answered.{own_phase, warrant_named}
-use Rattle.txn_law.proofs.Kept.{Inv, kept, timely}
+use Rattle.txn_law.proofs.Kept.{Inv, kept, timely, passes}
 use Rattle.txn_law.proofs.Moves.{CellStep, May}
 use Rattle.txn_law.proofs.Moves.CellStep.{Same, Places, Recorded, Made, Released, Held, Renewed}
 use Rattle.txn_law.proofs.Phases.{phase, placed, held, has_with}
@@ -175,7 +175,7 @@ apart_kept plans (Served n r o ∷ es) run k =
     let st = store_after es in
     let step = (row st r (i.warranted n r run.0.0).0 (timely plans es i n r run.0.0) i.in_order).step k (i.sound k) in
     apart_more es (Served n r o) (cell_at (table st r).store.cells k) (apart_after es n r run.0.0 k (cell_at st.cells k) (cell_at (table st r).store.cells k) (i.sound k) (λ s c l m e own. above_bound plans es i n r run.0.0 k s c l m e own) step (apart_kept plans es run.2 k))
-apart_kept plans (Took n r o ∷ es) run k = apart_more es (Took n r o) (cell_at (store_after es).cells k) (apart_kept plans es run.2 k)
+apart_kept plans (e ∷ es) run k = apart_more es e (cell_at (store_after (e ∷ es)).cells k) (subst (λ cs. IsApart es (cell_at cs k)) (sym (passes es e tt).cells) (apart_kept plans es run.2 k))
 
 -- no key of a whole optimistic start has a commit of another start between
 pub law_between : (plans : ℕ → Plan) (es : List Event) → IsRun plans es → (s c : ℕ) → IsOptimistic es s → IsWholeAt (plans s) (store_after es).cells s c → (k : Key) (x : Content) → (plans s).writes k ≡ Some x → (w : Write) → IsAmong (cell_at (store_after es).cells k).commits w → w.start ≢ s → (w.commit ≤ s) ⊎ (c < w.commit)

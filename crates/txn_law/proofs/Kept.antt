@@ -4,7 +4,8 @@ use Rattle.txn_law.specs.Sound.{IsTimely}
 use Rattle.txn_kv.specs.declared.request.PessimisticLockRequest.{PessimisticLockRequest}
 use Rattle.txn_kv.specs.declared.request.TsoRequest.{TsoRequest}
 use Rattle.txn_kv.specs.declared.reply.TsoResponse.{TsoResponse}
-use Rattle.std.proofs.Common.{◌≡◌, ◌≢◌, ℕ, ◌<◌, ◌≤◌, ◌⊎◌, inl, inr, true, List, [], ◌∷◌, Some, refl, sym, ap, ◌∙◌, subst, subst₂, arith}
+use Rattle.std.proofs.Common.{◌≡◌, ◌≢◌, ℕ, ◌<◌, ◌≤◌, ◌⊎◌, inl, inr, Bool, true, false, List, [], ◌∷◌, Some, refl, sym, ap, ◌∙◌, subst, subst₂, arith}
+use Rattle.std.specs.Prelude.{if◌then◌else◌}
 use Rattle.txn_kv.specs.declared.ticket.Ticket.{Ticket}
 use Rattle.txn_kv.specs.declared.message.TxnInfo.{TxnInfo}
 use Rattle.txn_kv.specs.declared.request.Request.{Request}
@@ -14,24 +15,26 @@ use Rattle.txn_kv.specs.declared.request.ResolveLockRequest.{ResolveLockRequest}
 use Rattle.txn_kv.specs.declared.reply.Reply.{Reply}
 use Rattle.txn_kv.specs.declared.reply.Reply.TheVariants as reply
 use Rattle.txn_history.specs.Among.{IsAmong}
+use Rattle.txn_history.specs.Busy.{busy_reply}
 use Rattle.txn_history.specs.Event.{Event, Has}
-use Rattle.txn_history.specs.Event.Event.{Sent, Served, Took}
+use Rattle.txn_history.specs.Event.Event.{Sent, Served, Took, Refused, Split, Led}
 use Rattle.txn_history.specs.Licence.{AllAcknowledged, WasNamed, PrimaryCommitted, WasShown, WasDecided, PrimaryCommitLicence, CommitLicence, settled_starts, IsLicensed, AskedAfter, WasGiven, PessimisticLockLicence, GivesTimestamp}
 use Rattle.txn_history.specs.Plan.{Key, Content, Plan, has_key}
 use Rattle.txn_model.specs.Cells.{cell_at, AreInOrder}
 use Rattle.txn_model.specs.Placement.{next_timestamp}
+use Rattle.txn_model.specs.Regions.{split, split_at, can_split, unused_id, lead, led_by, can_lead}
 use Rattle.txn_model.specs.Resolve.{infos, infos_of}
 use Rattle.txn_model.specs.Served.{last_by, last_after}
 use Rattle.txn_model.specs.Store.{Store}
 use Rattle.txn_model.specs.Table.{table}
 use Rattle.txn_law.specs.Run.{store_after, IsCovered, IsRun, IsUnused}
-use Rattle.txn_law.proofs.Phases.{Phase, Move, IsSound}
+use Rattle.txn_law.proofs.Phases.{Phase, phase, Move, IsSound}
 use Rattle.txn_law.proofs.Phases.Phase.{Locked, Committed, RolledBack}
 use Rattle.txn_law.proofs.Phases.Move.{Locks, Commits, Rolls}
 use Rattle.txn_law.proofs.Coherent.{IsDecidedAt, IsHeld, AllHeld, Warrant, Change, Coherent, coherent_kept, coherent_more, warrant_more, warrant_stays}
 use Rattle.txn_law.proofs.Moves.{May, outcome, sound_after}
 use Rattle.txn_law.proofs.Rows.{row}
-use Rattle.txn_law.proofs.Replies.{phases, IsCommitted, MeansFine, Means, Stands, first_above, means_given, means_stays, committed_phase, timestamps_rise}
+use Rattle.txn_law.proofs.Replies.{phases, IsCommitted, MeansFine, Means, Stands, first_above, means_given, means_stays, committed_phase, busy_means, timestamps_rise}
 
 -- a Commit of s at c that names the primary was sent, and c is a timestamp
 abbrev pub NamedBy : Plan → List Event → ℕ → ℕ → Type 0
@@ -49,13 +52,18 @@ IsWarranted plans es st r = (k : Key) (t : ℕ) (before : Phase) (m : Move) → 
 abbrev pub IsAbove : Plan → List Event → ℕ → ℕ → Type 0
 IsAbove plan es s c = (s < c) × ((k : Key) (x : Content) → plan.writes k ≡ Some x → (t : Ticket) (q : PessimisticLockRequest) → Has es (Sent t (PessimisticLock q)) → q.start_version ≡ s → q.for_update_ts < c)
 
+-- the store gave this reply, or was too busy to look at the request
+abbrev pub WasReplied : List Event → Ticket → Request → Reply → Type 0
+WasReplied es t r o = Has es (Served t r o) ⊎ Has es (Refused t r o)
+
 pub record Inv (plans : ℕ → Plan) (es : List Event) : Type 0 where
   pub in_order : AreInOrder (store_after es).cells
   pub sound : (k : Key) → IsSound (cell_at (store_after es).cells k)
   pub coherent : (s : ℕ) → Coherent (plans s) (NamedBy (plans s) es s) (phases (store_after es) s)
   pub means : (t : Ticket) (r : Request) (o : Reply) → Has es (Served t r o) → Means plans (store_after es) r o
   pub warranted : (t : Ticket) (r : Request) → Has es (Sent t r) → IsCovered r × IsWarranted plans es (store_after es) r
-  pub taken : (t : Ticket) (r : Request) (o : Reply) → Has es (Took t r o) → Has es (Served t r o)
+  pub taken : (t : Ticket) (r : Request) (o : Reply) → Has es (Took t r o) → WasReplied es t r o
+  pub refused : (t : Ticket) (r : Request) (o : Reply) → Has es (Refused t r o) → Has es (Sent t r) × (busy_reply r ≡ Some o)
   pub sent : (t : Ticket) (r : Request) (o : Reply) → Has es (Served t r o) → Has es (Sent t r)
   pub locks : (t : Ticket) (q : PessimisticLockRequest) → Has es (Sent t (PessimisticLock q)) → q.for_update_ts ≤ (store_after es).last
   pub times : (s : ℕ) (t : Ticket) → AskedAfter (plans s) es s t → (r : TsoRequest) (o : TsoResponse) (c : ℕ) → Has es (Served t (Tso r) (reply.Tso o)) → GivesTimestamp o c → IsAbove (plans s) es s c
@@ -68,10 +76,10 @@ was_named_more plan es e s c h = (h.0, h.1, inr h.2, h.3, h.4, h.5)
 named_more : (plan : Plan) (es : List Event) (e : Event) (s c : ℕ) → NamedBy plan es s c → NamedBy plan (e ∷ es) s c
 named_more plan es e s c h = (was_named_more plan es e s c h.0, h.1)
 
-given_more : (es : List Event) (e : Event) (u : ℕ) → WasGiven es u → WasGiven (e ∷ es) u
+pub given_more : (es : List Event) (e : Event) (u : ℕ) → WasGiven es u → WasGiven (e ∷ es) u
 given_more es e u w = (w.0, w.1, w.2, w.3, inr w.4, w.5, w.6)
 
-acknowledged_more : (plan : Plan) (es : List Event) (e : Event) (s : ℕ) → AllAcknowledged plan es s → AllAcknowledged plan (e ∷ es) s
+pub acknowledged_more : (plan : Plan) (es : List Event) (e : Event) (s : ℕ) → AllAcknowledged plan es s → AllAcknowledged plan (e ∷ es) s
 acknowledged_more plan es e s a k x w = let h = a k x w in record { ticket = h.ticket; request = h.request; response = h.response; taken = inr h.taken; fine = h.fine; start = h.start; locks = h.locks }
 
 -- who asked for a commit timestamp had each key acknowledged, and its start given
@@ -84,7 +92,7 @@ above_next : (plan : Plan) (es : List Event) (e : Event) (s c : ℕ) → ((n : T
 above_next plan es e s c f a = (a.0, λ k x w t q h d. elim h [ inl g ↦ absurd (f t (PessimisticLock q) g) | inr u ↦ a.1 k x w t q u d ])
 
 -- the starts that a ResolveLock settles are those that its row settles
-settled_infos : (r : ResolveLockRequest) (is : List TxnInfo) → settled_starts r is ≡ infos_of r is
+pub settled_infos : (r : ResolveLockRequest) (is : List TxnInfo) → settled_starts r is ≡ infos_of r is
 settled_infos r [] = refl
 settled_infos r (i ∷ is) = refl
 
@@ -96,15 +104,72 @@ last_stays st r = subst (λ n. st.last ≤ n) (sym (last_after st r)) (by r)
     by (Tso q) = let h = first_above (next_timestamp st.last st.clock) q.count in omega (arith, h)
     by _ = omega arith
 
+replied_same : (es : List Event) (n t : Ticket) (r q : Request) (o a : Reply) → Took n r o ≡ Took t q a → WasReplied es n r o → WasReplied es t q a
+replied_same es n t r q o a e h = subst₂ (WasReplied es t) (cc) (cc) (subst (λ x. WasReplied es x r o) (cc) h)
+
+refused_same : (es : List Event) (n t : Ticket) (r q : Request) (o a : Reply) → Refused n r o ≡ Refused t q a → Has es (Sent n r) × (busy_reply r ≡ Some o) → Has es (Sent t q) × (busy_reply q ≡ Some a)
+refused_same es n t r q o a e h = (subst₂ (λ x y. Has es (Sent x y)) (cc) (cc) h.0, subst₂ (λ y z. busy_reply y ≡ Some z) (cc) (cc) h.1)
+
+-- an event that sends and serves nothing, and leaves the cells and the last timestamp
+pub record Passes (es : List Event) (e : Event) : Type 0 where
+  pub unsent : (n : Ticket) (r : Request) → e ≢ Sent n r
+  pub unserved : (n : Ticket) (r : Request) (o : Reply) → e ≢ Served n r o
+  pub cells : (store_after (e ∷ es)).cells ≡ (store_after es).cells
+  pub last : (store_after (e ∷ es)).last ≡ (store_after es).last
+
+abbrev pub MayPass : Event → Type 0
+MayPass (Sent t r) = ⊥
+MayPass (Served t r o) = ⊥
+MayPass _ = Unit {0}
+
+split_leaves : (st : Store) (k : Key) → ((split st k).cells ≡ st.cells) × ((split st k).last ≡ st.last)
+split_leaves st k = by (can_split st k)
+  where
+    by : (b : Bool) → ((if b then record st { regions = split_at k (unused_id st.regions) st.regions } else st).cells ≡ st.cells) × ((if b then record st { regions = split_at k (unused_id st.regions) st.regions } else st).last ≡ st.last)
+    by true = (refl, refl)
+    by false = (refl, refl)
+
+lead_leaves : (st : Store) (region store : ℕ) → ((lead st region store).cells ≡ st.cells) × ((lead st region store).last ≡ st.last)
+lead_leaves st region store = by (can_lead st region store)
+  where
+    by : (b : Bool) → ((if b then record st { regions = led_by region store st.regions } else st).cells ≡ st.cells) × ((if b then record st { regions = led_by region store st.regions } else st).last ≡ st.last)
+    by true = (refl, refl)
+    by false = (refl, refl)
+
+-- a region that changes, and the clock, leave all cells
+pub passes : (es : List Event) (e : Event) → MayPass e → Passes es e
+passes es (Sent t r) m = absurd m
+passes es (Served t r o) m = absurd m
+passes es (Split k) m = record { unsent = λ n r f. cc; unserved = λ n r o f. cc; cells = (split_leaves (store_after es) k).0; last = (split_leaves (store_after es) k).1 }
+passes es (Led g n) m = record { unsent = λ n r f. cc; unserved = λ n r o f. cc; cells = (lead_leaves (store_after es) g n).0; last = (lead_leaves (store_after es) g n).1 }
+passes es _ m = record { unsent = λ n r f. cc; unserved = λ n r o f. cc; cells = refl; last = refl }
+
+replied_more : (es : List Event) (e : Event) (t : Ticket) (r : Request) (o : Reply) → WasReplied es t r o → WasReplied (e ∷ es) t r o
+replied_more es e t r o (inl h) = inl (inr h)
+replied_more es e t r o (inr h) = inr (inr h)
+
 -- From the licence of a request to what its moves have to rest on.
 module _ (plans : ℕ → Plan) (es : List Event) (i : Inv plans es) where
+  -- a reply that was taken says the same as one that was served: that the store was busy says nothing
+  pub means_taken : (t : Ticket) (r : Request) (o : Reply) → Has es (Took t r o) → Means plans (store_after es) r o
+  means_taken t r o h = elim (i.taken t r o h) [
+    | inl u ↦ i.means t r o u
+    | inr u ↦ busy_means plans (store_after es) r o (i.refused t r o u).1
+  ]
+
+  pub sent_taken : (t : Ticket) (r : Request) (o : Reply) → Has es (Took t r o) → Has es (Sent t r)
+  sent_taken t r o h = elim (i.taken t r o h) [ inl u ↦ i.sent t r o u | inr u ↦ (i.refused t r o u).0 ]
+
+  pub served_time : (t : Ticket) (r : TsoRequest) (o : TsoResponse) → Has es (Took t (Tso r) (reply.Tso o)) → Has es (Served t (Tso r) (reply.Tso o))
+  served_time t r o h = elim (i.taken t (Tso r) (reply.Tso o) h) [ inl u ↦ u | inr u ↦ absurd (let w = (i.refused t (Tso r) (reply.Tso o) u).1 in cc) ]
+
   shown_primary : (s : ℕ) (p : Key) → WasShown es s p → p ≡ (plans s).primary
-  shown_primary s p h = sym h.primary ∙ ((i.means h.ticket h.request h.answer (i.taken h.ticket h.request h.answer h.taken)).shows h.lock h.shows h.prewrite ∙ ap (λ t. (plans t).primary) h.start)
+  shown_primary s p h = sym h.primary ∙ ((means_taken h.ticket h.request h.answer h.taken).shows h.lock h.shows h.prewrite ∙ ap (λ t. (plans t).primary) h.start)
 
   pub all_held : (s : ℕ) → AllAcknowledged (plans s) es s → AllHeld (plans s) (phases (store_after es) s)
   all_held s a k x e =
       let h = a k x e in
-      let m = (i.means h.ticket (Prewrite h.request) (reply.Prewrite h.response) (i.taken h.ticket (Prewrite h.request) (reply.Prewrite h.response) h.taken)).fine h.fine in
+      let m = (means_taken h.ticket (Prewrite h.request) (reply.Prewrite h.response) h.taken).fine h.fine in
       held_at h.request.start_version h.start (m k h.locks)
     where
       held_at : (u : ℕ) → u ≡ s → IsHeld (plans u) (phases (store_after es) u) k → IsHeld (plans s) (phases (store_after es) s) k
@@ -114,33 +179,30 @@ module _ (plans : ℕ → Plan) (es : List Event) (i : Inv plans es) where
   pub decided : (s c : ℕ) → PrimaryCommitted (plans s) es s c → IsDecidedAt (plans s) (phases (store_after es) s) c
   decided s c h = by_phase (phases (store_after es) s (plans s).primary) refl (subst (λ u. IsCommitted (phases (store_after es) u (plans s).primary)) h.5 (m (plans s).primary h.7))
     where
-      served_it : Has es (Served h.0 (Commit h.1) (reply.Commit h.2))
-      served_it = i.taken h.0 (Commit h.1) (reply.Commit h.2) h.3
-
       m : MeansFine plans (store_after es) (Commit h.1)
-      m = (i.means h.0 (Commit h.1) (reply.Commit h.2) served_it).fine h.4
+      m = (means_taken h.0 (Commit h.1) (reply.Commit h.2) h.3).fine h.4
 
       by_phase : (o : Phase) → phases (store_after es) s (plans s).primary ≡ o → IsCommitted o → IsDecidedAt (plans s) (phases (store_after es) s) c
       by_phase (Committed d y) e g =
           let w = (i.coherent s).named d (y, e) in
-          let same : d ≡ c = i.one s d c w.0 (h.0, h.1, i.sent h.0 (Commit h.1) (reply.Commit h.2) served_it, h.5, h.6, h.7) in
+          let same : d ≡ c = i.one s d c w.0 (h.0, h.1, sent_taken h.0 (Commit h.1) (reply.Commit h.2) h.3, h.5, h.6, h.7) in
           (y, subst (λ t. phases (store_after es) s (plans s).primary ≡ Committed t y) same e)
       by_phase _ e g = absurd g
 
   -- what a reply about the primary told
   pub told : (s c : ℕ) → WasDecided es s c → ((c ≡ 0) × (phases (store_after es) s (plans s).primary ≡ RolledBack)) ⊎ ((0 < c) × IsDecidedAt (plans s) (phases (store_after es) s) c)
-  told s c h = elim (subst (λ q. Stands (store_after es) q s c) (shown_primary s h.primary h.shown) ((i.means h.ticket h.request h.answer (i.taken h.ticket h.request h.answer h.taken)).decides h.primary s c h.decides))
+  told s c h = elim (subst (λ q. Stands (store_after es) q s c) (shown_primary s h.primary h.shown) ((means_taken h.ticket h.request h.answer h.taken).decides h.primary s c h.decides))
       [ inl a ↦ inl a | inr a ↦ inr (let w = (i.coherent s).named c a in (w.1, a)) ]
 
   pub given_last : (u : ℕ) → WasGiven es u → u ≤ (store_after es).last
   given_last u w =
-      let d = ((i.means w.0 (Tso w.1) (reply.Tso w.2) (i.taken w.0 (Tso w.1) (reply.Tso w.2) w.4)).gives w.1 w.2 w.3 refl refl w.5).1 in
+      let d = ((means_taken w.0 (Tso w.1) (reply.Tso w.2) w.4).gives w.1 w.2 w.3 refl refl w.5).1 in
       let e = w.6 in
       omega (arith, d, e)
 
   -- a commit timestamp that may be sent now is above its start
   pub licence_above : (s c : ℕ) → PrimaryCommitLicence (plans s) es s c → IsAbove (plans s) es s c
-  licence_above s c l = let a = l.asked in i.times s a.0 a.3 a.1 a.2 c (i.taken a.0 (Tso a.1) (reply.Tso a.2) a.4) a.5
+  licence_above s c l = let a = l.asked in i.times s a.0 a.3 a.1 a.2 c (served_time a.0 a.1 a.2 a.4) a.5
 
   given_above : (s c : ℕ) → PrimaryCommitLicence (plans s) es s c → 0 < c
   given_above s c l = let a = (licence_above s c l).0 in omega (arith, a)
@@ -153,7 +215,7 @@ module _ (plans : ℕ → Plan) (es : List Event) (i : Inv plans es) where
   no_more_locks n r l s a k x w t q e d =
       let h = a k x w in
       let licence = lock_licence r q l (cc) in
-      licence.unwritten h.ticket h.request (i.sent h.ticket (Prewrite h.request) (reply.Prewrite h.response) (i.taken h.ticket (Prewrite h.request) (reply.Prewrite h.response) h.taken)) (h.start ∙ sym d)
+      licence.unwritten h.ticket h.request (sent_taken h.ticket (Prewrite h.request) (reply.Prewrite h.response) h.taken) (h.start ∙ sym d)
 
   above_sent : (n : Ticket) (r : Request) → IsLicensed plans es r → (s c : ℕ) → AllAcknowledged (plans s) es s → IsAbove (plans s) es s c → IsAbove (plans s) (Sent n r ∷ es) s c
   above_sent n r l s c a b = (b.0, λ k x w t q h d. elim h [ inl e ↦ absurd (no_more_locks n r l s a k x w t q e d) | inr u ↦ b.1 k x w t q u d ])
@@ -201,7 +263,7 @@ module _ (plans : ℕ → Plan) (es : List Event) (i : Inv plans es) where
   warrant_new n (BatchRollback r) l k t b Rolls h g = λ q x e. subst (λ u. (k ≡ (plans u).primary) ⊎ (phases (store_after es) u (plans u).primary ≡ RolledBack)) (sym h.0)
       (elim (l.primary_first k h.1) [
         | inl d ↦ inl d
-        | inr w ↦ inr (subst (λ u. phases (store_after es) u (plans r.start_version).primary ≡ RolledBack) w.5 ((i.means w.0 (BatchRollback w.1) (reply.BatchRollback w.2) (i.taken w.0 (BatchRollback w.1) (reply.BatchRollback w.2) w.3)).fine w.4 (plans r.start_version).primary w.6))
+        | inr w ↦ inr (subst (λ u. phases (store_after es) u (plans r.start_version).primary ≡ RolledBack) w.5 ((means_taken w.0 (BatchRollback w.1) (reply.BatchRollback w.2) w.3).fine w.4 (plans r.start_version).primary w.6))
       ])
   warrant_new n (Cleanup r) l k t b Rolls h g = λ q x e. inl (h.1 ∙ (sym (h.2 q x e) ∙ g q x e))
   warrant_new n (CheckTxnStatus r) l k t b Rolls h g = λ q x e. inl (h.1 ∙ (sym (h.2 q x e) ∙ g q x e))
@@ -260,7 +322,8 @@ module _ (plans : ℕ → Plan) (es : List Event) (i : Inv plans es) where
     coherent = coherent_next (Sent n r);
     means = λ m q o h. elim h [ inl e ↦ absurd (cc) | inr w ↦ i.means m q o w ];
     warranted = λ m q h. elim h [ inl e ↦ subst (λ z. IsCovered z × IsWarranted plans (Sent n r ∷ es) (store_after es) z) (cc) (c, warrant_new n r l) | inr w ↦ warranted_next (Sent n r) m q w ];
-    taken = λ m q o h. elim h [ inl e ↦ absurd (cc) | inr w ↦ inr (i.taken m q o w) ];
+    taken = λ m q o h. elim h [ inl e ↦ absurd (cc) | inr w ↦ replied_more es (Sent n r) m q o (i.taken m q o w) ];
+    refused = λ m q o h. elim h [ inl e ↦ absurd (cc) | inr w ↦ (inr (i.refused m q o w).0, (i.refused m q o w).1) ];
     sent = λ m q o h. elim h [ inl e ↦ absurd (cc) | inr w ↦ inr (i.sent m q o w) ];
     one = one_sent n r l;
   }
@@ -309,7 +372,8 @@ module _ (plans : ℕ → Plan) (es : List Event) (i : Inv plans es) where
                 (warrant_stays (plans t) (NamedBy (plans t) es t) (phases st t) (phases new t) (i.coherent t) (ch t) k b v ((i.warranted m q u).1 k t b v a c)),
           )
         ];
-        taken = λ m q a w. elim w [ inl f ↦ absurd (cc) | inr u ↦ inr (i.taken m q a u) ];
+        taken = λ m q a w. elim w [ inl f ↦ absurd (cc) | inr u ↦ replied_more es e' m q a (i.taken m q a u) ];
+        refused = λ m q a w. elim w [ inl f ↦ absurd (cc) | inr u ↦ (inr (i.refused m q a u).0, (i.refused m q a u).1) ];
         sent = λ m q a w. elim w [ inl f ↦ inr (subst₂ (λ x y. Has es (Sent x y)) (cc) (cc) h) | inr u ↦ inr (i.sent m q a u) ];
         locks = λ t q w. elim w [ inl f ↦ absurd (cc) | inr u ↦ (let a = i.locks t q u in let b = last_stays st r in omega (arith, a, b)) ];
         times = times_next e' (λ m q f. cc) (asked_now n r o g);
@@ -317,20 +381,38 @@ module _ (plans : ℕ → Plan) (es : List Event) (i : Inv plans es) where
         one = one_next e' (λ m q f. cc);
       }
 
-  Took_kept : (n : Ticket) (r : Request) (o : Reply) → Has es (Served n r o) → Inv plans (Took n r o ∷ es)
-  Took_kept n r o h = record {
-    in_order = i.in_order;
-    sound = i.sound;
-    coherent = coherent_next (Took n r o);
-    means = λ m q a g. elim g [ inl f ↦ absurd (cc) | inr u ↦ i.means m q a u ];
-    warranted = λ m q g. elim g [ inl f ↦ absurd (cc) | inr u ↦ warranted_next (Took n r o) m q u ];
-    taken = λ m q a g. elim g [ inl f ↦ inr (subst (Has es) (cc) h) | inr u ↦ inr (i.taken m q a u) ];
-    sent = λ m q a g. elim g [ inl f ↦ absurd (cc) | inr u ↦ inr (i.sent m q a u) ];
-    locks = λ t q w. elim w [ inl f ↦ absurd (cc) | inr u ↦ i.locks t q u ];
-    times = times_next (Took n r o) (λ m q f. cc) (λ s t a q p c e. absurd (cc));
-    named = named_next (Took n r o) (λ m q f. cc);
-    one = one_next (Took n r o) (λ m q f. cc);
-  }
+  -- An event that sends and serves nothing, and leaves the cells and the last timestamp.
+  Passed_kept : (e : Event) → Passes es e → ((t : Ticket) (r : Request) (o : Reply) → e ≡ Took t r o → WasReplied es t r o) → ((t : Ticket) (r : Request) (o : Reply) → e ≡ Refused t r o → Has es (Sent t r) × (busy_reply r ≡ Some o)) → Inv plans (e ∷ es)
+  Passed_kept e p took busy =
+      let st = store_after es in
+      let new = store_after (e ∷ es) in
+      let ch : (s : ℕ) (k : Key) → Change (plans s) (NamedBy (plans s) es s) (phases st s) k (phases new s k) = λ s k. inl (ap (λ cs. phase (cell_at cs k) s) p.cells) in
+      record {
+        in_order = subst AreInOrder (sym p.cells) i.in_order;
+        sound = λ k. subst (λ cs. IsSound (cell_at cs k)) (sym p.cells) (i.sound k);
+        coherent = λ s. coherent_more (plans s) (NamedBy (plans s) es s) (NamedBy (plans s) (e ∷ es) s) (phases new s) (named_more (plans s) es e s)
+            (coherent_kept (plans s) (NamedBy (plans s) es s) (phases st s) (phases new s) (i.coherent s) (ch s));
+        means = λ m q a w. elim w [
+          | inl f ↦ absurd (p.unserved m q a f)
+          | inr u ↦ means_stays plans (λ s. NamedBy (plans s) es s) st new i.coherent ch (let z = p.last in omega (arith, z)) q a (i.means m q a u)
+        ];
+        warranted = λ m q w. elim w [
+          | inl f ↦ absurd (p.unsent m q f)
+          | inr u ↦ (
+            (i.warranted m q u).0,
+            λ k t b v a c.
+                warrant_more (plans t) (NamedBy (plans t) es t) (NamedBy (plans t) (e ∷ es) t) (phases new t) (named_more (plans t) es e t) k b v
+                (warrant_stays (plans t) (NamedBy (plans t) es t) (phases st t) (phases new t) (i.coherent t) (ch t) k b v ((i.warranted m q u).1 k t b v a c)),
+          )
+        ];
+        taken = λ m q a w. elim w [ inl f ↦ replied_more es e m q a (took m q a f) | inr u ↦ replied_more es e m q a (i.taken m q a u) ];
+        refused = λ m q a w. elim w [ inl f ↦ (inr (busy m q a f).0, (busy m q a f).1) | inr u ↦ (inr (i.refused m q a u).0, (i.refused m q a u).1) ];
+        sent = λ m q a w. elim w [ inl f ↦ absurd (p.unserved m q a f) | inr u ↦ inr (i.sent m q a u) ];
+        locks = λ t q w. elim w [ inl f ↦ absurd (p.unsent t (PessimisticLock q) f) | inr u ↦ (let a = i.locks t q u in let z = p.last in omega (arith, a, z)) ];
+        times = times_next e p.unsent (λ s t a q o c f. absurd (p.unserved t (Tso q) (reply.Tso o) f));
+        named = named_next e p.unsent;
+        one = one_next e p.unsent;
+      }
 
 opening_kept : (plans : ℕ → Plan) → Inv plans []
 opening_kept plans = record {
@@ -340,6 +422,7 @@ opening_kept plans = record {
   means = λ m q o g. absurd g;
   warranted = λ m q g. absurd g;
   taken = λ m q o g. absurd g;
+  refused = λ m q o g. absurd g;
   sent = λ m q o g. absurd g;
   locks = λ t q g. absurd g;
   times = λ s t a. absurd a;
@@ -351,4 +434,6 @@ pub kept : (plans : ℕ → Plan) (es : List Event) → IsRun plans es → Inv p
 kept plans [] run = opening_kept plans
 kept plans (Sent n r ∷ es) run = Sent_kept plans es (kept plans es run.2) n r run.0 run.1.0 run.1.1
 kept plans (Served n r o ∷ es) run = Served_kept plans es (kept plans es run.2) n r o run.0.0 run.0.1
-kept plans (Took n r o ∷ es) run = Took_kept plans es (kept plans es run.2) n r o run.0
+kept plans (Took n r o ∷ es) run = Passed_kept plans es (kept plans es run.2) (Took n r o) (passes es (Took n r o) tt) (λ t q a e. replied_same es n t r q o a e run.0) (λ t q a e. absurd (cc))
+kept plans (Refused n r o ∷ es) run = Passed_kept plans es (kept plans es run.2) (Refused n r o) (passes es (Refused n r o) tt) (λ t q a e. absurd (cc)) (λ t q a e. refused_same es n t r q o a e run.0)
+kept plans (e ∷ es) run = Passed_kept plans es (kept plans es run.2) e (passes es e tt) (λ t q a f. absurd (cc)) (λ t q a f. absurd (cc))

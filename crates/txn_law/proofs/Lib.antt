@@ -18,3 +18,5 @@ pub mod Apart
 pub mod Agree
 pub mod Lone
 pub mod StaysGone
+pub mod Asking
+pub mod Ranged

@@ -23,6 +23,7 @@ use Rattle.txn_kv.specs.declared.reply.Reply.{Reply}
 use Rattle.txn_kv.specs.declared.reply.Reply.TheVariants as reply
 use Rattle.txn_kv.specs.declared.reply.TsoResponse.{TsoResponse}
 use Rattle.txn_history.specs.Among.{IsAmong}
+use Rattle.txn_history.specs.Busy.{busy_reply}
 use Rattle.txn_history.specs.Licence.{IsWithoutError, GivesTimestamp, ShowsLock, IsPrewriteOp, TellsStatus, Decides}
 use Rattle.txn_history.specs.Plan.{Key, Content, Plan, has_key, LocksKey}
 use Rattle.txn_model.specs.declared.cell.Cell.{Cell}
@@ -333,3 +334,30 @@ module _ (plans : ℕ → Plan) (Named : ℕ → ℕ → Type 0) (st new : Store
     decides = λ p s c d. stands_stays p s c (m.decides p s c d);
     gives = λ q x c e f g. let w = m.gives q x c e f g in (w.0, omega (arith, w.1, later));
   }
+
+-- That a store was too busy says nothing.
+
+abbrev OfSome : Option Reply → (Reply → Type 0) → Type 0
+OfSome None P = Unit {0}
+OfSome (Some o) P = P o
+
+busy_says : (plans : ℕ → Plan) (st : Store) (r : Request) → OfSome (busy_reply r) (Means plans st r)
+busy_says plans st (Get r) = record { fine = λ h. tt; shows = λ l h w. absurd h; decides = λ p s d h. absurd h; gives = λ q x d e. absurd (cc) }
+busy_says plans st (BatchGet r) = record { fine = λ h. tt; shows = λ l h w. absurd h.1; decides = λ p s d h. absurd h; gives = λ q x d e. absurd (cc) }
+busy_says plans st (Scan r) = record { fine = λ h. tt; shows = λ l h w. absurd h.1; decides = λ p s d h. absurd h; gives = λ q x d e. absurd (cc) }
+busy_says plans st (Prewrite r) = record { fine = λ h. let a = h.0 in absurd (cc); shows = λ l h w. absurd h.1; decides = λ p s d h. absurd h; gives = λ q x d e. absurd (cc) }
+busy_says plans st (Commit r) = record { fine = λ h. let a = h.0 in absurd (cc); shows = λ l h w. absurd h; decides = λ p s d h. absurd h; gives = λ q x d e. absurd (cc) }
+busy_says plans st (Cleanup r) = record { fine = λ h. tt; shows = λ l h w. absurd h; decides = λ p s d h. let a = h.0.0 in absurd (cc); gives = λ q x d e. absurd (cc) }
+busy_says plans st (BatchRollback r) = record { fine = λ h. let a = h.0 in absurd (cc); shows = λ l h w. absurd h; decides = λ p s d h. absurd h; gives = λ q x d e. absurd (cc) }
+busy_says plans st (PessimisticRollback r) = record { fine = λ h. tt; shows = λ l h w. absurd h; decides = λ p s d h. absurd h; gives = λ q x d e. absurd (cc) }
+busy_says plans st (PessimisticLock r) = record { fine = λ h. tt; shows = λ l h w. absurd h.1; decides = λ p s d h. absurd h; gives = λ q x d e. absurd (cc) }
+busy_says plans st (ResolveLock r) = record { fine = λ h. tt; shows = λ l h w. absurd h; decides = λ p s d h. absurd h; gives = λ q x d e. absurd (cc) }
+busy_says plans st (ScanLock r) = record { fine = λ h. tt; shows = λ l h w. absurd h; decides = λ p s d h. absurd h; gives = λ q x d e. absurd (cc) }
+busy_says plans st (TxnHeartBeat r) = record { fine = λ h. tt; shows = λ l h w. absurd h; decides = λ p s d h. absurd h; gives = λ q x d e. absurd (cc) }
+busy_says plans st (CheckTxnStatus r) = record { fine = λ h. tt; shows = λ l h w. elim h [ inl a ↦ absurd (cc) | inr a ↦ absurd a ]; decides = λ p s d h. let a = h.0.0 in absurd (cc); gives = λ q x d e. absurd (cc) }
+busy_says plans st (CheckSecondaryLocks r) = record { fine = λ h. tt; shows = λ l h w. absurd h; decides = λ p s d h. absurd h; gives = λ q x d e. absurd (cc) }
+busy_says plans st (UnsafeDestroyRange r) = record { fine = λ h. tt; shows = λ l h w. absurd h; decides = λ p s d h. absurd h; gives = λ q x d e. absurd (cc) }
+busy_says plans st _ = tt
+
+pub busy_means : (plans : ℕ → Plan) (st : Store) (r : Request) (o : Reply) → busy_reply r ≡ Some o → Means plans st r o
+busy_means plans st r o e = subst (λ x. OfSome x (Means plans st r)) e (busy_says plans st r)

@@ -59,14 +59,14 @@ owner_holds : (o : Option Lock) (s : ℕ) → owns o s ≡ true → holds o s �
 owner_holds None s h = absurd (cc)
 owner_holds (Some l) s h = grind (arith, nat_tests)
 
-not_held : (i : TxnInfo) (c : Cell) → holds c.lock i.txn ≡ false → settled i c ≡ c
+pub not_held : (i : TxnInfo) (c : Cell) → holds c.lock i.txn ≡ false → settled i c ≡ c
 not_held i c h = by (owns c.lock i.txn) refl
   where
     by : (a : Bool) → owns c.lock i.txn ≡ a → (if a then (if nat_lt 0 i.status then committed i.txn i.status c else rolled_back i.txn c) else (if a then c else unlocked i.txn c)) ≡ c
     by true e = absurd (let f = owner_holds c.lock i.txn e in cc)
     by false e = rw h refl
 
-none_settled : (is : List TxnInfo) (c : Cell) → c.lock ≡ None → all_settled is c ≡ c
+pub none_settled : (is : List TxnInfo) (c : Cell) → c.lock ≡ None → all_settled is c ≡ c
 none_settled [] c h = refl
 none_settled (i ∷ is) c h =
     let same : settled i c ≡ c = not_held i c (rw h refl) in
@@ -79,7 +79,7 @@ commit_unlocks s n c h = by c.lock h
     by None e = absurd (cc)
     by (Some l) e = rw e refl
 
-held_unlocks : (i : TxnInfo) (c : Cell) → holds c.lock i.txn ≡ true → (settled i c).lock ≡ None
+pub held_unlocks : (i : TxnInfo) (c : Cell) → holds c.lock i.txn ≡ true → (settled i c).lock ≡ None
 held_unlocks i c h = by (owns c.lock i.txn) (nat_lt 0 i.status) refl
   where
     by : (a b : Bool) → owns c.lock i.txn ≡ a → (if a then (if b then committed i.txn i.status c else rolled_back i.txn c) else (if a then c else unlocked i.txn c)).lock ≡ None
@@ -108,17 +108,17 @@ settle_step r k (i ∷ is) c a sound = by (settle_step r k is c (λ j w. a j (in
     by rest true e = subst (CellStep (ResolveLock r) k c) (sym (none_settled is (settled i c) (held_unlocks i c e))) (one_settled r k i c (a i (inl refl)) sound)
     by rest false e = subst (λ d. CellStep (ResolveLock r) k c (all_settled is d)) (sym (not_held i c e)) rest
 
-abbrev in_region : Store → ResolveLockRequest → Cell → Cell
+abbrev pub in_region : Store → ResolveLockRequest → Cell → Cell
 in_region st r c = if is_in_context st.regions r.context c.key then all_settled (infos r) c else c
 
-region_keeps : (st : Store) (r : ResolveLockRequest) → KeepsKeys (in_region st r)
+pub region_keeps : (st : Store) (r : ResolveLockRequest) → KeepsKeys (in_region st r)
 region_keeps st r c = by (is_in_context st.regions r.context c.key)
   where
     by : (b : Bool) → (if b then all_settled (infos r) c else c).key ≡ c.key
     by true = settles_keep (infos r) c
     by false = refl
 
-region_none : (st : Store) (r : ResolveLockRequest) (k : Key) → in_region st r (no_cell k) ≡ no_cell k
+pub region_none : (st : Store) (r : ResolveLockRequest) (k : Key) → in_region st r (no_cell k) ≡ no_cell k
 region_none st r k = by (is_in_context st.regions r.context k)
   where
     by : (b : Bool) → (if b then all_settled (infos r) (no_cell k) else no_cell k) ≡ no_cell k

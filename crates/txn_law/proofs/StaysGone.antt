@@ -1,35 +1,49 @@
 -- A prewrite lock that is gone does not come back.
 use Rattle.txn_kv.specs.declared.reply.Reply.TheVariants as reply
 use Rattle.std.specs.Prelude.{take, if◌then◌else◌, length}
-use Rattle.txn_law.proofs.Among.{take_all, filter_map_among, filter_among, kept_or_none}
-use Rattle.txn_model.proofs.CellLists.{key_of_cell}
+use Rattle.txn_law.proofs.Among.{take_all, filter_map_among, filter_among, kept_or_none, taken_before, GoOn, filter_goes, in_order_goes}
+use Rattle.txn_model.proofs.CellLists.{key_of_cell, cell_each}
 use Rattle.txn_model.specs.Store.{Store}
 use Rattle.txn_model.specs.Placement.{region_check}
-use Rattle.txn_model.specs.Resolve.{lock_until, locks_until, scan_lock_by}
+use Rattle.txn_model.specs.Resolve.{lock_until, scan_lock_by, infos, settled, all_settled, is_in_context, resolve_lock_by}
+use Rattle.txn_model.specs.Table.{table}
 use Rattle.txn_model.specs.Ranges.{in_range, cells_in}
 use Rattle.txn_history.specs.Among.{IsAmong}
 use Rattle.txn_kv.specs.declared.ticket.Ticket.{Ticket}
 use Rattle.txn_kv.specs.declared.message.RegionErr.{RegionErr}
 use Rattle.txn_kv.specs.declared.message.LockInfo.{LockInfo}
 use Rattle.txn_kv.specs.declared.reply.ScanLockResponse.{ScanLockResponse}
-use Rattle.txn_kv.specs.declared.request.Request.TheVariants.{ScanLock}
+use Rattle.txn_kv.specs.declared.message.TxnInfo.{TxnInfo}
+use Rattle.txn_kv.specs.declared.request.Request.{Request}
+use Rattle.txn_kv.specs.declared.request.Request.TheVariants.{ScanLock, ResolveLock, Prewrite}
+use Rattle.txn_kv.specs.declared.request.PrewriteRequest.{PrewriteRequest}
+use Rattle.txn_kv.specs.declared.request.ResolveLockRequest.{ResolveLockRequest}
+use Rattle.txn_kv.specs.declared.reply.Reply.{Reply}
+use Rattle.txn_kv.specs.declared.reply.ResolveLockResponse.{ResolveLockResponse}
 use Rattle.txn_kv.specs.declared.request.ScanLockRequest.{ScanLockRequest}
 use Rattle.std.proofs.Common.{◌≡◌, ℕ, ◌⊎◌, inl, inr, true, List, [], ◌∷◌, Option, Some, None, refl, sym, subst, arith, ◌<◌, ◌≤◌, Bool, false, nat_le, ap, ◌∙◌}
 use Rattle.std.proofs.lemmas.Bool.Decides.{nat_tests}
-use Rattle.txn_history.specs.Event.{Event}
+use Rattle.txn_history.specs.Busy.{busy_reply}
+use Rattle.txn_history.specs.Event.{Event, Has}
 use Rattle.txn_model.specs.declared.cell.Lock.{Lock}
-use Rattle.txn_model.specs.Locks.{is_prewrite, lock_info}
+use Rattle.txn_model.specs.Locks.{is_prewrite, holds, lock_info}
 use Rattle.txn_history.specs.Event.Event.{Sent, Served, Took}
 use Rattle.txn_history.specs.Plan.{Key, Content, Plan}
 use Rattle.txn_model.specs.declared.cell.Cell.{Cell}
-use Rattle.txn_model.specs.Cells.{cell_at}
-use Rattle.txn_law.specs.Part.{IsPart, IsLockedBy, ShowsNone}
-use Rattle.txn_law.specs.Run.{IsRun, store_after}
+use Rattle.txn_model.specs.Cells.{cell_at, key_cmp, AreInOrder}
+use Rattle.txn_law.specs.Part.{IsPart, IsLockedBy, CameSince, NonePrewrittenSince, LooksAt, ShowsLockAt, WasResolvedSince, WasCleanedSince}
+use Rattle.txn_law.specs.Run.{IsRun, IsUnused, store_after}
 use Rattle.txn_law.specs.Whole.{content}
 use Rattle.txn_law.proofs.Coherent.{commit_stays, rollback_stays, lock_goes}
-use Rattle.txn_law.proofs.Kept.{NamedBy, kept, changes}
-use Rattle.txn_law.proofs.Phases.{Phase, phase}
-use Rattle.txn_law.proofs.Phases.Phase.{Locked, Committed, RolledBack}
+use Rattle.txn_law.proofs.Kept.{NamedBy, kept, changes, passes, timely, settled_infos}
+use Rattle.txn_law.proofs.Moves.{May, Outcome, outcome}
+use Rattle.txn_law.proofs.Phases.{Phase, Move, Goes, phase}
+use Rattle.txn_law.proofs.Phases.Phase.{Free, Locked, Committed, RolledBack}
+use Rattle.txn_law.proofs.Phases.Move.{Locks, Commits, Rolls}
+use Rattle.txn_law.proofs.Rows.{row}
+use Rattle.txn_law.proofs.Settling.{not_held, none_settled, held_unlocks, in_region, region_keeps, region_none}
+use Rattle.std.specs.List.{filter_map}
+use Rattle.std.specs.declared.cmp.Ordering.TheVariants.{Less}
 use Rattle.txn_law.proofs.Replies.{phases, lock_is_phase}
 
 -- the start was locked there, and now is committed or rolled back
@@ -48,7 +62,6 @@ over_stays : (plans : ℕ → Plan) (es part : List Event) → IsRun plans es �
 over_stays plans [] part run h s k o = subst (λ p. IsOver (phases (store_after p) s k)) h o
 over_stays plans (e ∷ es) part run (inl h) s k o = subst (λ p. IsOver (phases (store_after p) s k)) h o
 over_stays plans (Sent t r ∷ es) part run (inr h) s k o = over_stays plans es part run.2 h s k o
-over_stays plans (Took t r a ∷ es) part run (inr h) s k o = over_stays plans es part run.2 h s k o
 over_stays plans (Served t r a ∷ es) part run (inr h) s k o =
     let ch = changes plans es (kept plans es run.2) t r run.0.0 s k in
     let next = phases (store_after (Served t r a ∷ es)) s k in
@@ -56,12 +69,12 @@ over_stays plans (Served t r a ∷ es) part run (inr h) s k o =
       | inl w ↦ inl (w.0, w.1, commit_stays (plans s) (NamedBy (plans s) es s) (phases (store_after es) s) k next w.0 w.1 ch w.2)
       | inr w ↦ inr (rollback_stays (plans s) (NamedBy (plans s) es s) (phases (store_after es) s) k next ch w)
     ]
+over_stays plans (e ∷ es) part run (inr h) s k o = subst (λ cs. IsOver (phase (cell_at cs k) s)) (sym (passes es e tt).cells) (over_stays plans es part run.2 h s k o)
 
 begun_stays : (plans : ℕ → Plan) (es part : List Event) → IsRun plans es → IsPart es part → (s : ℕ) (k p : Key) (x : Content) → phases (store_after part) s k ≡ Locked p x → IsBegun (Locked p x) (phases (store_after es) s k)
 begun_stays plans [] part run h s k p x o = inl (subst (λ q. phases (store_after q) s k ≡ Locked p x) h o)
 begun_stays plans (e ∷ es) part run (inl h) s k p x o = inl (subst (λ q. phases (store_after q) s k ≡ Locked p x) h o)
 begun_stays plans (Sent t r ∷ es) part run (inr h) s k p x o = begun_stays plans es part run.2 h s k p x o
-begun_stays plans (Took t r a ∷ es) part run (inr h) s k p x o = begun_stays plans es part run.2 h s k p x o
 begun_stays plans (Served t r a ∷ es) part run (inr h) s k p x o =
     let ch = changes plans es (kept plans es run.2) t r run.0.0 s k in
     let next = phases (store_after (Served t r a ∷ es)) s k in
@@ -75,6 +88,7 @@ begun_stays plans (Served t r a ∷ es) part run (inr h) s k p x o =
         | inr v ↦ inr (rollback_stays (plans s) (NamedBy (plans s) es s) (phases (store_after es) s) k next ch v)
       ])
     ]
+begun_stays plans (e ∷ es) part run (inr h) s k p x o = subst (λ cs. IsBegun (Locked p x) (phase (cell_at cs k) s)) (sym (passes es e tt).cells) (begun_stays plans es part run.2 h s k p x o)
 
 locked_phase : (plans : ℕ → Plan) (es : List Event) → IsRun plans es → (s : ℕ) (k : Key) → (l : IsLockedBy (cell_at (store_after es).cells k) s) → phases (store_after es) s k ≡ Locked l.lock.primary (content l.lock.kind l.lock.value)
 locked_phase plans es run s k l = subst (λ u. phases (store_after es) u k ≡ Locked l.lock.primary (content l.lock.kind l.lock.value)) l.start (lock_is_phase (cell_at (store_after es).cells k) l.lock ((kept plans es run).sound k) l.here l.prewrite)
@@ -119,43 +133,180 @@ info_until t k l h = by (nat_le l.start t) refl
     by true e = refl
     by false e = absurd (grind (arith, nat_tests))
 
-scan_misses : (e : Option RegionErr) (st : Store) (r : ScanLockRequest) (o : ScanLockResponse) (s : ℕ) (k : Key) → (scan_lock_by e st r).reply ≡ reply.ScanLock o → ShowsNone r o s k → IsLockedBy (cell_at st.cells k) s → ⊥
-scan_misses (Some e) st r o s k d h l = let a = h.region in absurd (cc)
-scan_misses None st r o s k d h l = elim (kept_or_none st.cells k) [
-  | inl a ↦ h.none (lock_info (cell_at st.cells k).key l.lock) (subst (λ ls. IsAmong ls (lock_info (cell_at st.cells k).key l.lock)) (sym locks) (found a)) (key_of_cell st.cells k) l.start
+scan_shows : (e : Option RegionErr) (st : Store) (r : ScanLockRequest) (o : ScanLockResponse) (s : ℕ) (k : Key) → AreInOrder st.cells → (scan_lock_by e st r).reply ≡ reply.ScanLock o → LooksAt r o s k → IsLockedBy (cell_at st.cells k) s → ShowsLockAt o s k
+scan_shows (Some e) st r o s k order d h l = absurd (let a = h.region in cc)
+scan_shows None st r o s k order d h l = elim (kept_or_none st.cells k) [
+  | inl a ↦ (info, subst (λ ls. IsAmong ls info) (sym told) (taken a), key_of_cell st.cells k, l.start)
   | inr a ↦ absurd (let b = l.here in let c = ap (λ (x : Cell). x.lock) a in cc)
 ]
   where
-    all_locks : List LockInfo
-    all_locks = locks_until r.max_version (cells_in r.start_key r.end_key st.cells)
+    info : LockInfo
+    info = lock_info (cell_at st.cells k).key l.lock
 
-    told : o.locks ≡ take r.limit all_locks
-    told = let same : o ≡ record { region_error = None; error = None; locks = take r.limit all_locks } = cc in ap (λ (x : ScanLockResponse). x.locks) same
+    look : Cell → Option LockInfo
+    look c = lock_until r.max_version c.key c.lock
 
-    locks : o.locks ≡ all_locks
-    locks = told ∙ take_all r.limit all_locks (subst (λ ls. length ls < r.limit) told h.all)
+    ranged : List Cell
+    ranged = cells_in r.start_key r.end_key st.cells
 
-    shown : lock_until r.max_version (cell_at st.cells k).key (cell_at st.cells k).lock ≡ Some (lock_info (cell_at st.cells k).key l.lock)
+    told : o.locks ≡ take r.limit (filter_map look ranged)
+    told = let same : o ≡ record { region_error = None; error = None; locks = take r.limit (filter_map look ranged) } = cc in ap (λ (x : ScanLockResponse). x.locks) same
+
+    shown : look (cell_at st.cells k) ≡ Some info
     shown = ap (lock_until r.max_version (cell_at st.cells k).key) l.here ∙ info_until r.max_version (cell_at st.cells k).key l.lock (let a = h.until in let b = l.start in omega (arith, a, b))
 
-    found : IsAmong st.cells (cell_at st.cells k) → IsAmong all_locks (lock_info (cell_at st.cells k).key l.lock)
-    found a = filter_map_among (λ (c : Cell). lock_until r.max_version c.key c.lock) (cells_in r.start_key r.end_key st.cells) (cell_at st.cells k) (lock_info (cell_at st.cells k).key l.lock) (filter_among (λ (c : Cell). in_range r.start_key r.end_key c.key) st.cells (cell_at st.cells k) a (subst (λ q. in_range r.start_key r.end_key q ≡ true) (sym (key_of_cell st.cells k)) h.in_range)) shown
+    here : IsAmong st.cells (cell_at st.cells k) → IsAmong ranged (cell_at st.cells k)
+    here a = filter_among (λ (c : Cell). in_range r.start_key r.end_key c.key) st.cells (cell_at st.cells k) a (subst (λ q. in_range r.start_key r.end_key q ≡ true) (sym (key_of_cell st.cells k)) h.in_range)
 
--- a lock that stood before a complete scan that did not show it does not stand in the end
-pub law_unshown : (plans : ℕ → Plan) (es before first : List Event) (t : Ticket) (r : ScanLockRequest) (o : ScanLockResponse) → IsRun plans es → IsPart es (Served t (ScanLock r) (reply.ScanLock o) ∷ before) → IsPart before first → (s : ℕ) (k : Key) → IsLockedBy (cell_at (store_after first).cells k) s → ShowsNone r o s k → IsLockedBy (cell_at (store_after es).cells k) s → ⊥
-law_unshown plans es before first t r o run h g s k a n b =
+    named : (c : Cell) (y : LockInfo) → look c ≡ Some y → y.key ≡ c.key
+    named c y e = by c.lock e
+      where
+        by_start : (n : Lock) (b : Bool) → (if b then Some (lock_info c.key n) else None) ≡ Some y → y.key ≡ c.key
+        by_start n true f = let same : lock_info c.key n ≡ y = cc in sym (ap (λ (z : LockInfo). z.key) same)
+        by_start n false f = absurd (cc)
+
+        by : (w : Option Lock) → lock_until r.max_version c.key w ≡ Some y → y.key ≡ c.key
+        by None f = absurd (cc)
+        by (Some n) f = by_start n (nat_le n.start r.max_version) f
+
+    ordered : GoOn false ranged
+    ordered = filter_goes false (λ (c : Cell). in_range r.start_key r.end_key c.key) st.cells (in_order_goes st.cells order)
+
+    taken : IsAmong st.cells (cell_at st.cells k) → IsAmong (take r.limit (filter_map look ranged)) info
+    taken a = elim h.reached [
+      | inl m ↦ subst (λ ls. IsAmong ls info) (sym (take_all r.limit (filter_map look ranged) (subst (λ ls. length ls < r.limit) told m))) (filter_map_among look ranged (cell_at st.cells k) info (here a) shown)
+      | inr w ↦ taken_before false look (λ (z : LockInfo). z.key) named r.limit ranged ordered (cell_at st.cells k) info (here a) shown w.0 (subst (λ ls. IsAmong ls w.0) told w.1) (subst (λ q. key_cmp q w.0.key ≡ Less) (sym (key_of_cell st.cells k)) w.2)
+    ]
+
+part_itself : (fs : List Event) → IsPart fs fs
+part_itself [] = refl
+part_itself (f ∷ fs) = inl refl
+
+pub part_before : (fs : List Event) (f : Event) (gs : List Event) → IsPart fs (f ∷ gs) → IsPart fs gs
+part_before [] f gs q = absurd (cc)
+part_before (e ∷ fs) f gs (inl q) = inr (subst (IsPart fs) (tails q) (part_itself fs))
+  where
+    tails : (f ∷ gs) ≡ (e ∷ fs) → fs ≡ gs
+    tails q = cc
+part_before (e ∷ fs) f gs (inr q) = inr (part_before fs f gs q)
+
+-- a lock that stood at first and stands in the end is shown by a scan between that looks at its key
+found : (plans : ℕ → Plan) (es before first : List Event) (t : Ticket) (r : ScanLockRequest) (o : ScanLockResponse) → IsRun plans es → IsPart es (Served t (ScanLock r) (reply.ScanLock o) ∷ before) → IsPart before first → (s : ℕ) (k : Key) → IsLockedBy (cell_at (store_after first).cells k) s → LooksAt r o s k → IsLockedBy (cell_at (store_after es).cells k) s → ShowsLockAt o s k
+found plans es before first t r o run h g s k a n b =
     let part = part_before es (Served t (ScanLock r) (reply.ScanLock o)) before h in
     let served = run_part plans es (Served t (ScanLock r) (reply.ScanLock o) ∷ before) run h in
-    scan_misses (region_check (store_after before).regions r.context) (store_after before) r o s k (sym served.0.1) n (law_gone plans es before first run part g s k a b)
-  where
-    part_itself : (fs : List Event) → IsPart fs fs
-    part_itself [] = refl
-    part_itself (f ∷ fs) = inl refl
+    scan_shows (region_check (store_after before).regions r.context) (store_after before) r o s k (kept plans before served.2).in_order (sym served.0.1) n (law_gone plans es before first run part g s k a b)
 
-    part_before : (fs : List Event) (f : Event) (gs : List Event) → IsPart fs (f ∷ gs) → IsPart fs gs
-    part_before [] f gs q = absurd (cc)
-    part_before (e ∷ fs) f gs (inl q) = inr (subst (IsPart fs) (tails q) (part_itself fs))
+-- a lock that stood before a scan that looked at its key and did not show it does not stand in the end
+pub law_unshown : (plans : ℕ → Plan) (es before first : List Event) (t : Ticket) (r : ScanLockRequest) (o : ScanLockResponse) → IsRun plans es → IsPart es (Served t (ScanLock r) (reply.ScanLock o) ∷ before) → IsPart before first → (s : ℕ) (k : Key) → IsLockedBy (cell_at (store_after first).cells k) s → LooksAt r o s k → (ShowsLockAt o s k → ⊥) → IsLockedBy (cell_at (store_after es).cells k) s → ⊥
+law_unshown plans es before first t r o run h g s k a n u b = u (found plans es before first t r o run h g s k a n b)
+
+-- What a ResolveLock leaves.
+
+-- it takes locks away, and sets none
+lock_settled : (is : List TxnInfo) (c : Cell) → ((all_settled is c).lock ≡ None) ⊎ ((all_settled is c).lock ≡ c.lock)
+lock_settled [] c = inr refl
+lock_settled (i ∷ is) c = by (lock_settled is c) (holds c.lock i.txn) refl
+  where
+    by : ((all_settled is c).lock ≡ None) ⊎ ((all_settled is c).lock ≡ c.lock) → (b : Bool) → holds c.lock i.txn ≡ b → ((all_settled (i ∷ is) c).lock ≡ None) ⊎ ((all_settled (i ∷ is) c).lock ≡ c.lock)
+    by rest true e = let none = held_unlocks i c e in inl (ap (λ (d : Cell). d.lock) (none_settled is (settled i c) none) ∙ none)
+    by rest false e = subst (λ d. ((all_settled is d).lock ≡ None) ⊎ ((all_settled is d).lock ≡ c.lock)) (sym (not_held i c e)) rest
+
+-- and none of a start that it settles stays
+none_of_start : (is : List TxnInfo) (c : Cell) (i : TxnInfo) (l : Lock) → IsAmong is i → (all_settled is c).lock ≡ Some l → l.start ≡ i.txn → ⊥
+none_of_start [] c i l a e d = a
+none_of_start (j ∷ is) c i l a e d = by (λ g f. none_of_start is c i l g f d) (holds c.lock j.txn) refl
+  where
+    by : (IsAmong is i → (all_settled is c).lock ≡ Some l → ⊥) → (b : Bool) → holds c.lock j.txn ≡ b → ⊥
+    by rest true f = let none = held_unlocks j c f in let gone : (all_settled is (settled j c)).lock ≡ None = ap (λ (x : Cell). x.lock) (none_settled is (settled j c) none) ∙ none in absurd (cc)
+    by rest false f = elim a [
+      | inl g ↦ elim (lock_settled is c) [
+        | inl none ↦ absurd (let stays = later f in cc)
+        | inr same ↦ (let lock : c.lock ≡ Some l = sym same ∙ later f in let txn : j.txn ≡ i.txn = ap (λ (x : TxnInfo). x.txn) g in absurd (grind (arith, nat_tests)))
+      ]
+      | inr g ↦ rest g (later f)
+    ]
       where
-        tails : (f ∷ gs) ≡ (e ∷ fs) → fs ≡ gs
-        tails q = cc
-    part_before (e ∷ fs) f gs (inr q) = inr (part_before fs f gs q)
+        later : holds c.lock j.txn ≡ false → (all_settled is c).lock ≡ Some l
+        later f = subst (λ x. (all_settled is x).lock ≡ Some l) (not_held j c f) e
+
+resolve_takes : (e : Option RegionErr) (st : Store) (r : ResolveLockRequest) (o : ResolveLockResponse) (i : TxnInfo) (k : Key) → AreInOrder st.cells → (resolve_lock_by e st r).reply ≡ reply.ResolveLock o → o.region_error ≡ None → IsAmong (infos r) i → is_in_context st.regions r.context k ≡ true → IsLockedBy (cell_at (resolve_lock_by e st r).store.cells k) i.txn → ⊥
+resolve_takes (Some e) st r o i k order d h a g l = absurd (cc)
+resolve_takes None st r o i k order d h a g l = none_of_start (infos r) (cell_at st.cells k) i l.lock a (sym (ap (λ (c : Cell). c.lock) now) ∙ l.here) l.start
+  where
+    now : cell_at (resolve_lock_by None st r).store.cells k ≡ all_settled (infos r) (cell_at st.cells k)
+    now = cell_each (in_region st r) (region_keeps st r) st.cells k order (λ h. region_none st r k) ∙ (let inside = subst (λ q. is_in_context st.regions r.context q ≡ true) (sym (key_of_cell st.cells k)) g in rw inside refl)
+
+-- a lock that stood before a ResolveLock of its start in its region does not stand in the end
+pub law_resolved : (plans : ℕ → Plan) (es first : List Event) → IsRun plans es → IsPart es first → (s : ℕ) (k : Key) → IsLockedBy (cell_at (store_after first).cells k) s → WasResolvedSince es first s k → IsLockedBy (cell_at (store_after es).cells k) s → ⊥
+law_resolved plans es first run h s k a w b =
+    let before = w.came.0 in
+    let now = Served w.ticket (ResolveLock w.request) (reply.ResolveLock w.response) ∷ before in
+    let served = run_part plans es now run w.came.1 in
+    let stands = law_gone plans es now first run w.came.1 (inr w.came.2) s k a b in
+    resolve_takes (region_check (store_after before).regions w.request.context) (store_after before) w.request w.response w.info k (kept plans before served.2).in_order (sym served.0.1) w.fine.0 (subst (λ js. IsAmong js w.info) (settled_infos w.request w.request.txn_infos) w.settles) w.region (subst (IsLockedBy (cell_at (store_after now).cells k)) (sym w.start) stands)
+
+-- nor one that stood before a complete scan whose locks were settled
+pub law_cleaned : (plans : ℕ → Plan) (es first : List Event) → IsRun plans es → IsPart es first → (s : ℕ) (k : Key) → IsLockedBy (cell_at (store_after first).cells k) s → WasCleanedSince es first s k → IsLockedBy (cell_at (store_after es).cells k) s → ⊥
+law_cleaned plans es first run h s k a w b = law_resolved plans es first run h s k a (w.settled (found plans es w.came.0 first w.ticket w.request w.response run w.came.1 w.came.2 s k a w.looks b)) b
+
+-- A prewrite lock comes by a Prewrite alone.
+
+lock_came : (r : Request) (k : Key) (s : ℕ) (before after : Phase) (p : Key) (x : Content) → Outcome r k s before after → after ≡ Locked p x → (before ≡ Locked p x) ⊎ ((q : Key) × (y : Content) × May r k s before (Locks q y))
+lock_came r k s before after p x (inl h) e = inl (sym h ∙ e)
+lock_came r k s before after p x (inr h) e = by before h.0 h.1 h.2
+  where
+    by : (b : Phase) (m : Move) → May r k s b m → Goes b m after → (b ≡ Locked p x) ⊎ ((q : Key) × (y : Content) × May r k s b (Locks q y))
+    by b (Locks q y) w g = inr (q, y, w)
+    by Free (Commits n) w g = absurd g
+    by Free Rolls w g = absurd (cc)
+    by (Locked q y) (Commits n) w g = absurd (cc)
+    by (Locked q y) Rolls w g = absurd (cc)
+    by (Committed n y) m w g = absurd g
+    by RolledBack m w g = absurd g
+
+prewrites : (r : Request) (k : Key) (s : ℕ) (b : Phase) (q : Key) (y : Content) → May r k s b (Locks q y) → (p : PrewriteRequest) × (r ≡ Prewrite p) × (p.start_version ≡ s)
+prewrites (Prewrite p) k s b q y m = (p, refl, sym m.0)
+prewrites _ k s b q y m = absurd m
+
+since_more : (es first : List Event) (e f : Event) → CameSince es first f → CameSince (e ∷ es) first f
+since_more es first e f h = (h.0, inr h.1, h.2)
+
+stood_since : (plans : ℕ → Plan) (es first : List Event) → IsRun plans es → IsPart es first → (s : ℕ) (k p : Key) (x : Content) → NonePrewrittenSince es first s → phases (store_after es) s k ≡ Locked p x → phases (store_after first) s k ≡ Locked p x
+stood_since plans [] first run h s k p x n o = subst (λ q. phases (store_after q) s k ≡ Locked p x) (sym h) o
+stood_since plans (e ∷ es) first run (inl h) s k p x n o = subst (λ q. phases (store_after q) s k ≡ Locked p x) (sym h) o
+stood_since plans (Sent t r ∷ es) first run (inr h) s k p x n o = stood_since plans es first run.2 h s k p x (λ u q a w. n u q a (since_more es first (Sent t r) (Served u (Prewrite q) a) w)) o
+stood_since plans (Served t r a ∷ es) first run (inr h) s k p x n o =
+    let i = kept plans es run.2 in
+    let st = store_after es in
+    let came = outcome r k s (cell_at st.cells k) (cell_at (table st r).store.cells k) (i.sound k) ((row st r (i.warranted t r run.0.0).0 (timely plans es i t r run.0.0) i.in_order).step k (i.sound k)) in
+    elim (lock_came r k s (phases st s k) (phases (table st r).store s k) p x came o) [
+      | inl b ↦ stood_since plans es first run.2 h s k p x (λ u q c w. n u q c (since_more es first (Served t r a) (Served u (Prewrite q) c) w)) b
+      | inr b ↦ absurd (let w = prewrites r k s (phases st s k) b.0 b.1 b.2 in n t w.0 a (es, inl (λ j. Served t (sym w.1 j) a ∷ es), h) w.2)
+    ]
+stood_since plans (e ∷ es) first run (inr h) s k p x n o = stood_since plans es first run.2 h s k p x (λ u q a w. n u q a (since_more es first e (Served u (Prewrite q) a) w)) (subst (λ cs. phase (cell_at cs k) s ≡ Locked p x) (passes es e tt).cells o)
+
+-- where no Prewrite of the start was served since, none stands in the end
+pub law_none_left : (plans : ℕ → Plan) (es first : List Event) → IsRun plans es → IsPart es first → (s : ℕ) (k : Key) → NonePrewrittenSince es first s → WasCleanedSince es first s k → IsLockedBy (cell_at (store_after es).cells k) s → ⊥
+law_none_left plans es first run h s k n w b =
+    let stood = stood_since plans es first run h s k b.lock.primary (content b.lock.kind b.lock.value) n (locked_phase plans es run s k b) in
+    law_cleaned plans es first run h s k (owned_lock (cell_at (store_after first).cells k) s b.lock.primary (content b.lock.kind b.lock.value) stood) w b
+
+-- What was sent since was served since.
+
+part_has : (es part : List Event) (e : Event) → IsPart es part → Has part e → Has es e
+part_has [] part e h g = subst (λ es. Has es e) h g
+part_has (x ∷ es) part e (inl h) g = subst (λ es. Has es e) h g
+part_has (x ∷ es) part e (inr h) g = inr (part_has es part e h g)
+
+served_since : (plans : ℕ → Plan) (es first : List Event) → IsRun plans es → IsPart es first → (t : Ticket) (r : Request) (o : Reply) → IsUnused first t → Has es (Served t r o) → CameSince es first (Served t r o)
+served_since plans [] first run h t r o u g = absurd g
+served_since plans (e ∷ es) first run (inl h) t r o u g = absurd (u r (subst (λ fs. Has fs (Sent t r)) (sym h) ((kept plans (e ∷ es) run).sent t r o g)))
+served_since plans (e ∷ es) first run (inr h) t r o u (inl g) = (es, inl (λ j. sym g j ∷ es), h)
+served_since plans (e ∷ es) first run (inr h) t r o u (inr g) = since_more es first e (Served t r o) (served_since plans es first run.2 h t r o u g)
+
+pub law_since : (plans : ℕ → Plan) (es first : List Event) → IsRun plans es → IsPart es first → (t : Ticket) (r : Request) (o : Reply) → IsUnused first t → Has es (Took t r o) → (busy_reply r ≡ Some o → ⊥) → CameSince es first (Served t r o)
+law_since plans es first run h t r o u g n = elim ((kept plans es run).taken t r o g) [
+  | inl w ↦ served_since plans es first run h t r o u w
+  | inr w ↦ absurd (n ((kept plans es run).refused t r o w).1)
+]

@@ -52,8 +52,7 @@ unused (Sent u q ∷ es) t h r g = by (same_ticket u t) refl h (λ f. unused es 
     by : (x : Bool) → same_ticket u t ≡ x → (if x then Some q else sent_request es t) ≡ None → (sent_request es t ≡ None → Has es (Sent t r) → ⊥) → ⊥
     by true e f rest = absurd (cc)
     by false e f rest = elim g [ inl w ↦ absurd (let z : same_ticket u t ≡ true = subst (λ v. same_ticket u v ≡ true) (sent_ticket u t q r w) (ticket_itself u) in cc) | inr v ↦ rest f v ]
-unused (Served u q o ∷ es) t h r g = elim g [ inl w ↦ absurd (cc) | inr v ↦ unused es t h r v ]
-unused (Took u q o ∷ es) t h r g = elim g [ inl w ↦ absurd (cc) | inr v ↦ unused es t h r v ]
+unused (_ ∷ es) t h r g = elim g [ inl w ↦ absurd (cc) | inr v ↦ unused es t h r v ]
 
 -- what was sent under a ticket stands among the events
 pub was_sent : (es : List Event) (t : Ticket) (r : Request) → sent_request es t ≡ Some r → Has es (Sent t r)
@@ -63,28 +62,25 @@ was_sent (Sent u q ∷ es) t r h = by (same_ticket u t) refl h (was_sent es t r)
     by : (x : Bool) → same_ticket u t ≡ x → (if x then Some q else sent_request es t) ≡ Some r → (sent_request es t ≡ Some r → Has es (Sent t r)) → Has (Sent u q ∷ es) (Sent t r)
     by true e f rest = inl (let same = ticket_is u t e in let also : q ≡ r = cc in λ i. Sent (same i) (also i))
     by false e f rest = inr (rest f)
-was_sent (Served u q o ∷ es) t r h = inr (was_sent es t r h)
-was_sent (Took u q o ∷ es) t r h = inr (was_sent es t r h)
+was_sent (_ ∷ es) t r h = inr (was_sent es t r h)
 
 pub was_served : (es : List Event) (t : Ticket) (o : Reply) → kept_reply es t ≡ Some o → (r : Request) × Has es (Served t r o)
 was_served [] t o h = absurd (cc)
-was_served (Sent u q ∷ es) t o h = let w = was_served es t o h in (w.0, inr w.1)
 was_served (Served u q p ∷ es) t o h = by (same_ticket u t) refl h (was_served es t o)
   where
     by : (x : Bool) → same_ticket u t ≡ x → (if x then Some p else kept_reply es t) ≡ Some o → (kept_reply es t ≡ Some o → (r : Request) × Has es (Served t r o)) → (r : Request) × Has (Served u q p ∷ es) (Served t r o)
     by true e f rest = (q, inl (let same = ticket_is u t e in let also : p ≡ o = cc in λ i. Served (same i) q (also i)))
     by false e f rest = let w = rest f in (w.0, inr w.1)
-was_served (Took u q p ∷ es) t o h = let w = was_served es t o h in (w.0, inr w.1)
+was_served (_ ∷ es) t o h = let w = was_served es t o h in (w.0, inr w.1)
 
 pub was_taken : (es : List Event) (t : Ticket) (o : Reply) → taken_reply es t ≡ Some o → (r : Request) × Has es (Took t r o)
 was_taken [] t o h = absurd (cc)
-was_taken (Sent u q ∷ es) t o h = let w = was_taken es t o h in (w.0, inr w.1)
-was_taken (Served u q p ∷ es) t o h = let w = was_taken es t o h in (w.0, inr w.1)
 was_taken (Took u q p ∷ es) t o h = by (same_ticket u t) refl h (was_taken es t o)
   where
     by : (x : Bool) → same_ticket u t ≡ x → (if x then Some p else taken_reply es t) ≡ Some o → (taken_reply es t ≡ Some o → (r : Request) × Has es (Took t r o)) → (r : Request) × Has (Took u q p ∷ es) (Took t r o)
     by true e f rest = (q, inl (let same = ticket_is u t e in let also : p ≡ o = cc in λ i. Took (same i) q (also i)))
     by false e f rest = let w = rest f in (w.0, inr w.1)
+was_taken (_ ∷ es) t o h = let w = was_taken es t o h in (w.0, inr w.1)
 
 -- In a run each ticket has one request, so a kept reply may be taken for the request that was sent.
 
@@ -103,8 +99,7 @@ sent_once plans (Sent u p ∷ es) run t q r h g = elim h [
     | inr b ↦ sent_once plans es run.2 t q r a b
   ]
 ]
-sent_once plans (Served u p o ∷ es) run t q r h g = elim h [ inl e ↦ absurd (cc) | inr a ↦ elim g [ inl f ↦ absurd (cc) | inr b ↦ sent_once plans es run.2 t q r a b ] ]
-sent_once plans (Took u p o ∷ es) run t q r h g = elim h [ inl e ↦ absurd (cc) | inr a ↦ elim g [ inl f ↦ absurd (cc) | inr b ↦ sent_once plans es run.2 t q r a b ] ]
+sent_once plans (_ ∷ es) run t q r h g = elim h [ inl e ↦ absurd (cc) | inr a ↦ elim g [ inl f ↦ absurd (cc) | inr b ↦ sent_once plans es run.2 t q r a b ] ]
 
 pub kept_for : (plans : ℕ → Plan) (es : List Event) → IsRun plans es → (t : Ticket) (r : Request) (o : Reply) → Has es (Sent t r) → kept_reply es t ≡ Some o → Has es (Served t r o)
 kept_for plans es run t r o h k =

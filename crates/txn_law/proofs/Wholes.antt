@@ -24,7 +24,7 @@ use Rattle.txn_law.proofs.Phases.{Phase, phase, IsSound}
 use Rattle.txn_law.proofs.Phases.Phase.{Free, Locked, Committed, RolledBack}
 use Rattle.txn_law.proofs.Coherent.{IsDecidedAt}
 use Rattle.txn_law.proofs.Replies.{phases, IsCommitted, lock_is_phase}
-use Rattle.txn_law.proofs.Kept.{Inv, kept, decided, told}
+use Rattle.txn_law.proofs.Kept.{Inv, kept, decided, told, means_taken}
 
 found_commit : (ws : List Write) (s : ℕ) (w : Write) → commit_of ws s ≡ Some w → IsAmong ws w × (w.start ≡ s)
 found_commit [] s w h = absurd (cc)
@@ -106,7 +106,7 @@ law_committed plans es run s c h = let i = kept plans es run in whole_at plans e
 pub law_rolled_back : (plans : ℕ → Plan) (es : List Event) → IsRun plans es → (s : ℕ) → PrimaryRolledBack (plans s) es s → IsAbsent (store_after es).cells s
 law_rolled_back plans es run s h =
     let i = kept plans es run in
-    let m = (i.means h.0 (BatchRollback h.1) (reply.BatchRollback h.2) (i.taken h.0 (BatchRollback h.1) (reply.BatchRollback h.2) h.3)).fine h.4 (plans s).primary h.6 in
+    let m = (means_taken plans es i h.0 (BatchRollback h.1) (reply.BatchRollback h.2) h.3).fine h.4 (plans s).primary h.6 in
     let r : phases (store_after es) s (plans s).primary ≡ RolledBack = subst (λ u. phases (store_after es) u (plans s).primary ≡ RolledBack) h.5 m in
     absent plans es i s (λ c d. let y = d.1 in absurd (cc))
 
@@ -140,13 +140,13 @@ rolled_recorded c s h = by_lock c.lock refl
 pub law_unlocked : (plans : ℕ → Plan) (es : List Event) → IsRun plans es → (t : Ticket) (r : CommitRequest) (o : CommitResponse) → Has es (Took t (Commit r) (reply.Commit o)) → IsWithoutError (reply.Commit o) → (k : Key) → has_key r.keys k ≡ true → (l : Lock) → (cell_at (store_after es).cells k).lock ≡ Some l → l.start ≢ r.start_version
 law_unlocked plans es run t r o h f k g l e =
     let i = kept plans es run in
-    committed_unlocked (cell_at (store_after es).cells k) r.start_version l (i.sound k) ((i.means t (Commit r) (reply.Commit o) (i.taken t (Commit r) (reply.Commit o) h)).fine f k g) e
+    committed_unlocked (cell_at (store_after es).cells k) r.start_version l (i.sound k) ((means_taken plans es i t (Commit r) (reply.Commit o) h).fine f k g) e
 
 -- who was told that a key is rolled back finds it recorded, and no lock of s there
 pub law_recorded : (plans : ℕ → Plan) (es : List Event) → IsRun plans es → (t : Ticket) (r : BatchRollbackRequest) (o : BatchRollbackResponse) → Has es (Took t (BatchRollback r) (reply.BatchRollback o)) → IsWithoutError (reply.BatchRollback o) → (k : Key) → has_key r.keys k ≡ true → (has_start (cell_at (store_after es).cells k).rolled r.start_version ≡ true) × ((l : Lock) → (cell_at (store_after es).cells k).lock ≡ Some l → l.start ≢ r.start_version)
 law_recorded plans es run t r o h f k g =
     let i = kept plans es run in
-    let m = (i.means t (BatchRollback r) (reply.BatchRollback o) (i.taken t (BatchRollback r) (reply.BatchRollback o) h)).fine f k g in
+    let m = (means_taken plans es i t (BatchRollback r) (reply.BatchRollback o) h).fine f k g in
     (rolled_recorded (cell_at (store_after es).cells k) r.start_version m, λ l e. rolled_unlocked (cell_at (store_after es).cells k) r.start_version l (i.sound k) m e)
 
 -- once the primary is recorded as rolled back, no key has a commit of s

@@ -1,43 +1,62 @@
 -- A run: what happened may happen, and every request is licensed when it is sent.
 use Rattle.txn_kv.specs.declared.request.PessimisticLockRequest.{PessimisticLockRequest}
-use Rattle.std.specs.Prelude.{◌≡◌, ℕ, List, [], ◌∷◌}
+use Rattle.std.specs.Prelude.{◌≡◌, ◌⊎◌, ℕ, List, [], ◌∷◌, Some, None}
+use Rattle.txn_kv.specs.Timestamp.{version_of}
 use Rattle.txn_kv.specs.declared.request.Request.{Request}
 use Rattle.txn_kv.specs.declared.request.Request.TheVariants.{UnsafeDestroyRange, PessimisticLock}
 use Rattle.txn_kv.specs.declared.ticket.Ticket.{Ticket}
 use Rattle.txn_history.specs.Event.{Event, Has}
-use Rattle.txn_history.specs.Event.Event.{Sent, Served, Took}
-use Rattle.txn_history.specs.Licence.{IsLicensed}
+use Rattle.txn_history.specs.Busy.{busy_reply}
+use Rattle.txn_history.specs.Event.Event.{Sent, Served, Took, Refused, Lost, Began, Slept, Asked, Answered, Crashed, Split, Led, Clocked}
+use Rattle.txn_history.specs.Licence.{IsLicensed, WasTimed}
 use Rattle.txn_history.specs.Plan.{Plan}
+use Rattle.txn_model.specs.Regions.{split, lead, at_clock}
 use Rattle.txn_model.specs.Store.{Store, opening}
 use Rattle.txn_model.specs.Table.{table}
 
--- the store after these events, by the request table alone: the table folded over what was served
+-- The store after these events: the request table folded over what was served, and what splits a region, leads it
+-- elsewhere or sets the clock between.
 abbrev pub store_after : List Event → Store
 store_after [] = opening
-store_after (Sent t r ∷ es) = store_after es
 store_after (Served t r o ∷ es) = (table (store_after es) r).store
-store_after (Took t r o ∷ es) = store_after es
+store_after (Split k ∷ es) = split (store_after es) k
+store_after (Led region store ∷ es) = lead (store_after es) region store
+store_after (Clocked ms ∷ es) = at_clock (store_after es) ms
+store_after (_ ∷ es) = store_after es
 
 -- nothing was sent with this ticket
 abbrev pub IsUnused : List Event → Ticket → Type 0
 IsUnused es t = (r : Request) → Has es (Sent t r) → ⊥
 
--- Each ticket is used once, a request is served after it was sent, and a reply is taken after it was given. That it is
--- served only once is not asked for.
+-- Each ticket is used once, a request is served after it was sent, and a reply is taken after it was given. A timestamp
+-- that an ask is answered is one that a Tso gave which was sent after the ask. Nothing else is asked for: a
+-- request may be served more than once, and after it was refused or lost; a reply may be taken after it was lost, or after
+-- its client crashed; regions change and the clock goes as they like.
 abbrev pub IsPossible : List Event → Event → Type 0
 IsPossible es (Sent t r) = IsUnused es t
 IsPossible es (Served t r o) = Has es (Sent t r) × (o ≡ (table (store_after es) r).reply)
-IsPossible es (Took t r o) = Has es (Served t r o)
+IsPossible es (Took t r o) = Has es (Served t r o) ⊎ Has es (Refused t r o)
+IsPossible es (Refused t r o) = Has es (Sent t r) × (busy_reply r ≡ Some o)
+IsPossible es (Lost t r) = Has es (Sent t r)
+IsPossible es (Began t ms) = Unit {0}
+IsPossible es (Slept t) = Unit {0}
+IsPossible es (Asked a) = Has es (Asked a) → ⊥
+IsPossible es (Answered a None) = Has es (Asked a)
+IsPossible es (Answered a (Some time)) = WasTimed es a (version_of time)
+IsPossible es (Crashed client) = Unit {0}
+IsPossible es (Split k) = Unit {0}
+IsPossible es (Led region store) = Unit {0}
+IsPossible es (Clocked ms) = Unit {0}
 
--- every request but the one that destroys a range
+-- Every request but the one that destroys a range: it takes commits away, and what was whole or was read would not stay
+-- (`whole`, `committed`, `reads_repeat`).
 abbrev pub IsCovered : Request → Type 0
 IsCovered (UnsafeDestroyRange r) = ⊥
 IsCovered _ = Unit {0}
 
 abbrev pub IsAllowed : (ℕ → Plan) → List Event → Event → Type 0
 IsAllowed plans es (Sent t r) = IsCovered r × IsLicensed plans es r
-IsAllowed plans es (Served t r o) = Unit {0}
-IsAllowed plans es (Took t r o) = Unit {0}
+IsAllowed plans es _ = Unit {0}
 
 -- what happened, the newest first, under the plans of the transactions by their starts
 abbrev pub IsRun : (ℕ → Plan) → List Event → Type 0

@@ -1,5 +1,6 @@
--- A run of one transaction that commits two keys: its second commit comes late, after a reader found the lock, asked
--- about the primary, and resolved it.
+-- A run of one transaction that commits two keys: its second Commit is lost and comes late, after a reader found the lock,
+-- asked about the primary, and resolved it. Then a read is refused, a region is split and led elsewhere, the clock goes on and
+-- a client is gone.
 use Rattle.std.specs.Prelude.{ℕ, false, pos, List, [], ◌∷◌, Option, Some, None, if◌then◌else◌}
 use Rattle.txn_kv.specs.declared.message.ApiVersion.TheVariants.{V1}
 use Rattle.txn_kv.specs.declared.message.Assertion.TheVariants.{None as NoAssertion}
@@ -8,13 +9,15 @@ use Rattle.txn_kv.specs.declared.message.KeyError.TheVariants as errors
 use Rattle.txn_kv.specs.declared.message.LockInfo.{LockInfo}
 use Rattle.txn_kv.specs.declared.message.Mutation.{Mutation}
 use Rattle.txn_kv.specs.declared.message.Op.TheVariants.{Put}
+use Rattle.txn_kv.specs.declared.message.RegionErr.TheVariants.{ServerIsBusy}
+use Rattle.txn_kv.specs.declared.timestamp.Timestamp.{Timestamp}
 use Rattle.txn_kv.specs.declared.request.Request.{Request}
 use Rattle.txn_kv.specs.declared.request.Request.TheVariants.{Get, Prewrite, Commit, Cleanup, ResolveLock, Tso}
 use Rattle.txn_kv.specs.declared.reply.Reply.{Reply}
 use Rattle.txn_kv.specs.declared.reply.Reply.TheVariants as reply
 use Rattle.txn_kv.specs.declared.ticket.Ticket.{Ticket}
 use Rattle.txn_history.specs.Event.{Event}
-use Rattle.txn_history.specs.Event.Event.{Sent, Served, Took}
+use Rattle.txn_history.specs.Event.Event.{Sent, Served, Took, Refused, Lost, Began, Slept, Asked, Answered, Crashed, Split, Led, Clocked}
 use Rattle.txn_history.specs.Plan.{Key, key_eq, Plan}
 pub use Rattle.txn_law.specs.Lone.{put_of}
 
@@ -64,8 +67,11 @@ resolve = ResolveLock (record { context = here; start_version = 1; commit_versio
 abbrev pub gave_1 : Reply
 gave_1 = reply.Tso (record { count = 1; timestamp = Some (record { physical = pos 0; logical = pos 1; suffix_bits = 0 }) })
 
+abbrev pub time_2 : Timestamp
+time_2 = record { physical = pos 0; logical = pos 2; suffix_bits = 0 }
+
 abbrev pub gave_2 : Reply
-gave_2 = reply.Tso (record { count = 1; timestamp = Some (record { physical = pos 0; logical = pos 2; suffix_bits = 0 }) })
+gave_2 = reply.Tso (record { count = 1; timestamp = Some time_2 })
 
 abbrev pub gave_3 : Reply
 gave_3 = reply.Tso (record { count = 1; timestamp = Some (record { physical = pos 0; logical = pos 3; suffix_bits = 0 }) })
@@ -78,6 +84,9 @@ committed = reply.Commit (record { region_error = None; error = None; commit_ver
 
 abbrev pub locked : Reply
 locked = reply.Get (record { region_error = None; error = Some (errors.Locked second_lock); value = []; not_found = false })
+
+abbrev pub too_busy : Reply
+too_busy = reply.Get (record { region_error = Some ServerIsBusy; error = None; value = []; not_found = false })
 
 abbrev pub found : Reply
 found = reply.Get (record { region_error = None; error = None; value = 8 ∷ []; not_found = false })
@@ -108,8 +117,11 @@ after_5 = Served (ticket 2) prewrite prewritten ∷ after_4
 abbrev pub after_6 : List Event
 after_6 = Took (ticket 2) prewrite prewritten ∷ after_5
 
+abbrev pub asked_6 : List Event
+asked_6 = Asked (ticket 4) ∷ after_6
+
 abbrev pub after_7 : List Event
-after_7 = Sent (ticket 3) tso ∷ after_6
+after_7 = Sent (ticket 3) tso ∷ asked_6
 
 abbrev pub after_8 : List Event
 after_8 = Served (ticket 3) tso gave_2 ∷ after_7
@@ -117,8 +129,11 @@ after_8 = Served (ticket 3) tso gave_2 ∷ after_7
 abbrev pub after_9 : List Event
 after_9 = Took (ticket 3) tso gave_2 ∷ after_8
 
+abbrev pub answered_9 : List Event
+answered_9 = Answered (ticket 4) (Some time_2) ∷ after_9
+
 abbrev pub after_10 : List Event
-after_10 = Sent (ticket 4) commit_first ∷ after_9
+after_10 = Sent (ticket 4) commit_first ∷ answered_9
 
 abbrev pub after_11 : List Event
 after_11 = Served (ticket 4) commit_first committed ∷ after_10
@@ -129,8 +144,11 @@ after_12 = Took (ticket 4) commit_first committed ∷ after_11
 abbrev pub after_13 : List Event
 after_13 = Sent (ticket 5) commit_second ∷ after_12
 
+abbrev pub lost_13 : List Event
+lost_13 = Lost (ticket 5) commit_second ∷ after_13
+
 abbrev pub after_14 : List Event
-after_14 = Sent (ticket 6) tso ∷ after_13
+after_14 = Sent (ticket 6) tso ∷ lost_13
 
 abbrev pub after_15 : List Event
 after_15 = Served (ticket 6) tso gave_3 ∷ after_14
@@ -177,5 +195,32 @@ after_28 = Took (ticket 10) get_second found ∷ after_27
 abbrev pub after_29 : List Event
 after_29 = Served (ticket 5) commit_second committed ∷ after_28
 
+abbrev pub after_30 : List Event
+after_30 = Sent (ticket 11) get_second ∷ after_29
+
+abbrev pub after_31 : List Event
+after_31 = Refused (ticket 11) get_second too_busy ∷ after_30
+
+abbrev pub after_32 : List Event
+after_32 = Took (ticket 11) get_second too_busy ∷ after_31
+
+abbrev pub after_33 : List Event
+after_33 = Began (ticket 12) 2 ∷ after_32
+
+abbrev pub after_34 : List Event
+after_34 = Split second_key ∷ after_33
+
+abbrev pub after_35 : List Event
+after_35 = Led 2 3 ∷ after_34
+
+abbrev pub after_36 : List Event
+after_36 = Clocked 7 ∷ after_35
+
+abbrev pub after_37 : List Event
+after_37 = Slept (ticket 12) ∷ after_36
+
+abbrev pub after_38 : List Event
+after_38 = Crashed 2 ∷ after_37
+
 abbrev pub sample : List Event
-sample = after_29
+sample = after_38

@@ -14,15 +14,19 @@
 //! may still come there, and what it was told stays.
 #![tactic(auto)]
 
+mod asks;
 mod between;
 mod gone;
+mod ranges;
 mod reads;
 mod request;
 mod sample;
 mod whole;
 
+pub use asks::asks_are_answered_later;
 pub use between::none_between;
 pub use gone::locks_stay_gone;
+pub use ranges::epochs_tell_ranges;
 pub use reads::reads_repeat;
 pub use request::one_request;
 pub use sample::sample_run;

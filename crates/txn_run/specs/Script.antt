@@ -67,9 +67,8 @@ history sent outs (l ∷ ls) = with_sends sent (length (l ∷ ls)) (if is_done (
 -- the tickets that were served, the newest first
 abbrev pub served_tickets : List Event → List Ticket
 served_tickets [] = []
-served_tickets (Sent t r ∷ es) = served_tickets es
 served_tickets (Served t r o ∷ es) = t ∷ served_tickets es
-served_tickets (Took t r o ∷ es) = served_tickets es
+served_tickets (_ ∷ es) = served_tickets es
 
 -- An outcome that came in the step of line e, or not at all where e is 0, as it stood before line n.
 abbrev pub known_of : ℕ → ℕ → Outcome → Outcome
