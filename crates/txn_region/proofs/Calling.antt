@@ -54,6 +54,7 @@ module _ (p : RegionWithLeader → Bool) where
           let apart : AreApart (x ∷ y ∷ ys) = subst (λ b. AreApart (cond b (x ∷ y ∷ ys) (y ∷ placed x ys))) less a in
           ap (λ b. filter p (cond b (x ∷ y ∷ ys) (y ∷ placed x ys))) less
           ∙ sym (ap (λ zs. cond (p x) zs (filter p (y ∷ ys))) (placed_first x (filter p (y ∷ ys)) (upright x.region apart.0) (after_filter p x.region (y ∷ ys) apart.1)))
+
       later : (AreApart (placed x ys) → filter p (placed x ys) ≡ cond (p x) (placed x (filter p ys)) (filter p ys)) → is_lt (key_cmp x.region.start_key y.region.start_key) ≡ false → filter p (placed x (y ∷ ys)) ≡ cond (p x) (placed x (filter p (y ∷ ys))) (filter p (y ∷ ys))
       later rest unless_less =
           let apart : AreApart (y ∷ placed x ys) = subst (λ b. AreApart (cond b (x ∷ y ∷ ys) (y ∷ placed x ys))) unless_less a in
@@ -86,6 +87,7 @@ module _ (v : RegionVerId) (leader : Peer) where
     where
       same : is_lt (key_cmp x.region.start_key y.region.start_key) ≡ is_lt (key_cmp (led_if v leader x).region.start_key (led_if v leader y).region.start_key)
       same = sym (ap (λ (g : Region). is_lt (key_cmp g.start_key (led_if v leader y).region.start_key)) (same_region v leader x) ∙ ap (λ (g : Region). is_lt (key_cmp x.region.start_key g.start_key)) (same_region v leader y))
+
       by : (b : Bool) → map (led_if v leader) (placed x ys) ≡ placed (led_if v leader x) (map (led_if v leader) ys) → map (led_if v leader) (cond b (x ∷ y ∷ ys) (y ∷ placed x ys)) ≡ cond b (led_if v leader x ∷ map (led_if v leader) (y ∷ ys)) (led_if v leader y ∷ placed (led_if v leader x) (map (led_if v leader) ys))
       by true rest = refl
       by false rest = ap (λ zs. led_if v leader y ∷ zs) rest

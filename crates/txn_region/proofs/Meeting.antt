@@ -25,8 +25,8 @@ pub meet_at_key : (a b : Region) → is_reversed a ≡ false → is_reversed b �
 meet_at_key a b up upb met =
     let each = both (is_below a.start_key b.end_key) (is_below b.start_key a.end_key) met in
     by_cases (is_lt (key_cmp a.start_key b.start_key))
-      (λ less. (b.start_key, contained_if a b.start_key (not_after a.start_key b.start_key (less_itself a.start_key b.start_key less)) each.1, contained_if b b.start_key (not_itself b.start_key) (upright b upb)))
-      (λ not_less. (a.start_key, contained_if a a.start_key (not_itself a.start_key) (upright a up), contained_if b a.start_key not_less each.0))
+    (λ less. (b.start_key, contained_if a b.start_key (not_after a.start_key b.start_key (less_itself a.start_key b.start_key less)) each.1, contained_if b b.start_key (not_itself b.start_key) (upright b upb)))
+    (λ not_less. (a.start_key, contained_if a a.start_key (not_itself a.start_key) (upright a up), contained_if b a.start_key not_less each.0))
 
 clash : (g : Region) (key : Key) {G : Type 0} → contains_key g key ≡ true → contains_key g key ≡ false → G
 clash g key yes_in not_in = absurd (let h : true ≡ false = sym yes_in ∙ not_in in cc)
@@ -34,7 +34,7 @@ clash g key yes_in not_in = absurd (let h : true ≡ false = sym yes_in ∙ not_
 pub apart_by_key : (a b : Region) → meets a b ≡ false → (key : Key) → contains_key a key ≡ true → contains_key b key ≡ false
 apart_by_key a b apart key has =
     neither (is_below a.start_key b.end_key) (is_below b.start_key a.end_key) apart
-      (λ fails. by_cases (is_below key b.end_key)
-        (λ holds. clash a key has (begins_after a key (before_end key a.start_key b.end_key fails holds)))
-        (λ beyond. ended_before b key beyond))
-      (λ fails. begins_after b key (before_end key b.start_key a.end_key fails (contained_below a key has)))
+    (λ fails. by_cases (is_below key b.end_key)
+    (λ holds. clash a key has (begins_after a key (before_end key a.start_key b.end_key fails holds)))
+    (λ beyond. ended_before b key beyond))
+    (λ fails. begins_after b key (before_end key b.start_key a.end_key fails (contained_below a key has)))

@@ -74,6 +74,7 @@ apart_placed new (r ∷ rs) up none a = by_cases (is_lt (key_cmp new.region.star
         let begun : is_below new.region.start_key r.region.end_key ≡ true = below_before new.region.start_key r.region.start_key r.region.end_key (less_itself new.region.start_key r.region.start_key less) (upright r.region a.0) in
         let ended : is_below r.region.start_key new.region.end_key ≡ false = and_false (is_below new.region.start_key r.region.end_key) (is_below r.region.start_key new.region.end_key) begun none.0 in
         rw less (up, (ended, after_earlier new.region r.region rs (upright r.region a.0) ended a.1), a)
+
     later : AreApart (placed new rs) → is_lt (key_cmp new.region.start_key r.region.start_key) ≡ false → AreApart (placed new (r ∷ rs))
     later rest fails =
         let begun : is_below r.region.start_key new.region.end_key ≡ true = below_unless r.region.start_key new.region.start_key new.region.end_key fails (upright new.region up) in
@@ -150,9 +151,9 @@ ended_le_begun new [] up a = omega arith
 ended_le_begun new (r ∷ rs) up a = by_cases (is_below new.region.start_key r.region.end_key)
     (λ holds. rw holds (omega arith))
     (λ fails.
-      let begun : is_below r.region.start_key new.region.end_key ≡ true = below_before r.region.start_key new.region.start_key new.region.end_key (begun_if_ended new r up a.0 fails) (upright new.region up) in
-      let ih = ended_le_begun new rs up a.2 in
-      rw (fails, begun) (omega arith))
+    let begun : is_below r.region.start_key new.region.end_key ≡ true = below_before r.region.start_key new.region.start_key new.region.end_key (begun_if_ended new r up a.0 fails) (upright new.region up) in
+    let ih = ended_le_begun new rs up a.2 in
+    rw (fails, begun) (omega arith))
 
 placed_is_run : (new : RegionWithLeader) (rs : List RegionWithLeader) → is_reversed new.region ≡ false → AreApart rs → placed new (filter (unmet new.region) rs) ≡ run_replaced new rs
 placed_is_run new [] up a = refl
@@ -165,10 +166,12 @@ placed_is_run new (r ∷ rs) up a = by_cases (is_below new.region.start_key r.re
         let before : key_cmp r.region.start_key new.region.start_key ≡ Less = begun_if_ended new r up a.0 fails in
         let begun : is_below r.region.start_key new.region.end_key ≡ true = below_before r.region.start_key new.region.start_key new.region.end_key before (upright new.region up) in
         rw (fails, begun, not_after r.region.start_key new.region.start_key before) (ap (λ zs. r ∷ zs) rest)
+
     met : placed new (filter (unmet new.region) rs) ≡ run_replaced new rs → is_below new.region.start_key r.region.end_key ≡ true → is_below r.region.start_key new.region.end_key ≡ true → placed new (filter (unmet new.region) (r ∷ rs)) ≡ run_replaced new (r ∷ rs)
     met rest holds begun =
         let none : ended_at new.region.start_key rs ≡ 0 = none_ended new.region r.region rs a.2 holds a.1 in
         rw (holds, begun) (rest ∙ ap (λ n. take n rs ++ new ∷ drop (begun_below new.region.end_key rs) rs) none)
+
     beyond : is_below new.region.start_key r.region.end_key ≡ true → is_below r.region.start_key new.region.end_key ≡ false → placed new (filter (unmet new.region) (r ∷ rs)) ≡ run_replaced new (r ∷ rs)
     beyond holds fails =
         let before : key_cmp new.region.start_key r.region.start_key ≡ Less = before_end new.region.start_key r.region.start_key new.region.end_key fails (upright new.region up) in

@@ -46,8 +46,8 @@ ended_in_turn key rs a i j d le l ended =
           let late = get_or rs j d in
           let before : key_cmp late.region.start_key key ≡ Less = before_end late.region.start_key key late.region.end_key (not_false _ ended) (upright_at rs j d a l) in
           by_cases (is_below key early.region.end_key)
-            (λ holds. absurd (let h : false ≡ true = sym (later_after rs i j d a less l) ∙ below_before late.region.start_key key early.region.end_key before holds in cc))
-            (λ fails. false_not _ fails)
+          (λ holds. absurd (let h : false ≡ true = sym (later_after rs i j d a less l) ∙ below_before late.region.start_key key early.region.end_key before holds in cc))
+          (λ fails. false_not _ fails)
       | inr (inr more) ↦ absurd (omega arith)
     ]
 
@@ -83,9 +83,10 @@ found_there key (r ∷ rs) a = by_cases (is_below key r.region.end_key) here (la
     here holds =
         let none : ended_at key (r ∷ rs) ≡ 0 = rw holds refl in
         let first : region_of_key key (r ∷ rs) ≡ head_if key (r ∷ rs) = by_cases (contains_key r.region key)
-            (λ has. ap (λ b. cond b (Some r) (region_of_key key rs)) has ∙ sym (ap (λ b. cond b (Some r) None) has))
-            (λ not_there. ap (λ b. cond b (Some r) (region_of_key key rs)) not_there ∙ (none_after r.region rs key (upright r.region a.0) a.1 (after_key r.region key holds not_there) ∙ sym (ap (λ b. cond b (Some r) None) not_there))) in
+        (λ has. ap (λ b. cond b (Some r) (region_of_key key rs)) has ∙ sym (ap (λ b. cond b (Some r) None) has))
+        (λ not_there. ap (λ b. cond b (Some r) (region_of_key key rs)) not_there ∙ (none_after r.region rs key (upright r.region a.0) a.1 (after_key r.region key holds not_there) ∙ sym (ap (λ b. cond b (Some r) None) not_there))) in
         first ∙ sym (ap (λ n. head_if key (drop n (r ∷ rs))) none)
+
     later : region_of_key key rs ≡ head_if key (drop (ended_at key rs) rs) → is_below key r.region.end_key ≡ false → region_of_key key (r ∷ rs) ≡ head_if key (drop (ended_at key (r ∷ rs)) (r ∷ rs))
     later rest fails =
         let more : ended_at key (r ∷ rs) ≡ suc (ended_at key rs) = rw fails refl in

@@ -2,10 +2,11 @@
 #![tactic(auto)]
 
 pub mod known_store;
+mod law;
 pub mod look;
 pub mod query;
 pub mod region_cache;
-mod law;
+pub mod send;
 mod sorted;
 pub mod stores;
 #[cfg(test)]

@@ -11,8 +11,7 @@ ghost use Rattle.txn_region.specs.Cache.{after_look_by_id, answer_refusal, clear
 use crate::known_store::KnownStore;
 use crate::look::Look;
 use crate::query::{PdAnswer, PdQuery};
-use crate::sorted;
-use crate::stores;
+use crate::{sorted, stores};
 use std::alloc::Global;
 use std::marker::Model;
 use txn_kv::{
@@ -81,11 +80,7 @@ impl RegionCache {
 
     /// The region of an id, or the query for it, which is then out until `learn` is told of an answer. While another
     /// call's query is out it answers `Wait`, and gives up after five waits.
-    pub fn get_region_by_id(
-        &mut self,
-        id: RegionId,
-        waited: u32,
-    ) -> Result<Look<RegionWithLeader>>
+    pub fn get_region_by_id(&mut self, id: RegionId, waited: u32) -> Result<Look<RegionWithLeader>>
         ensures ok { IfOk result (λ look. look ≡ look_by_id id self.old) }
         ensures sound { IfOk result (IsSoundLook (IsSoundOf id)) }
         ensures in_time { OnOk result (is_spent id waited self.old ≡ false) }
@@ -272,7 +267,10 @@ fn drop_pending(pending: &mut Vec<RegionId>, id: RegionId)
 fn given_up(alloc: Global) -> Error
     ensures { IsGivenUp true result }
 {
-    match String::from_str(alloc, "another look-up of the region was waited for five times") {
+    match String::from_str(
+        alloc,
+        "another look-up of the region was waited for five times",
+    ) {
         Ok(message) => Error::StringError(message),
         Err(_) => Error::OutOfMemory,
     }

@@ -76,7 +76,12 @@ fn drop_id(regions: &mut Vec<RegionWithLeader>, id: RegionId)
 }
 
 /// Puts a region in place of a run of others. There is room for it.
-fn replace_run(regions: &mut Vec<RegionWithLeader>, from: usize, to: usize, region: RegionWithLeader)
+fn replace_run(
+    regions: &mut Vec<RegionWithLeader>,
+    from: usize,
+    to: usize,
+    region: RegionWithLeader,
+)
     requires order { from ≤ to }
     requires in_range { to ≤ vec_len regions.old }
     requires room { vec_len regions.old < vec_capacity regions.old }

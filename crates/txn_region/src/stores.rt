@@ -9,7 +9,9 @@ use std::alloc::Global;
 use txn_kv::{NoMemory, StoreId, StoreLabel, StoreMeta, StoreState, TryClone};
 
 const ENGINE_LABEL_KEY: &str = "engine";
+
 const ENGINE_LABEL_TIFLASH: &str = "tiflash";
+
 const ENGINE_LABEL_TIFLASH_COMPUTE: &str = "tiflash_compute";
 
 fn is_columnar(label: &StoreLabel) -> bool
@@ -99,10 +101,7 @@ fn append_within(known: &mut Vec<KnownStore>, new: Vec<KnownStore>)
 }
 
 /// Makes stores known in place of what was known under their ids. A refusal changes nothing.
-pub(crate) fn put_stores(
-    known: &mut Vec<KnownStore>,
-    new: Vec<KnownStore>,
-) -> Result<(), NoMemory>
+pub(crate) fn put_stores(known: &mut Vec<KnownStore>, new: Vec<KnownStore>) -> Result<(), NoMemory>
     ensures ok { OnOk result (known.new.items ≡ with_stores new.items known.old.items) }
     ensures err { OnErr result (known.new.items ≡ known.old.items) }
 {
