@@ -1,0 +1,63 @@
+//! Looks keys up in a region cache: `measure_regions REGIONS LOOKUPS`. It prints how many were found, and is there to be
+//! timed.
+#![tactic(auto)]
+
+use std::alloc::Global;
+use std::{env, io};
+use txn_kv::{Key, NoMemory, Region, RegionEpoch, RegionWithLeader, Result};
+use txn_region::{Look, RegionCache};
+
+/// The key of four bytes that spells a number.
+fn key(alloc: Global, number: u32) -> std::result::Result<Key, NoMemory> {
+    Ok(Key::from(number.to_be_bytes().as_slice().to_vec(alloc)?))
+}
+
+/// A cache with this many regions, each from the key of its number to the next.
+fn filled(alloc: Global, regions: u32) -> Result<RegionCache> {
+    let mut cache = RegionCache::new(alloc);
+    for number in 0..regions {
+        let region = Region {
+            id: u64::from(number),
+            start_key: key(alloc, number)?,
+            end_key: key(alloc, number.wrapping_add(1))?,
+            region_epoch: Some(RegionEpoch::default()),
+        };
+        cache.add_region(RegionWithLeader::new(region, None))?;
+    }
+    Ok(cache)
+}
+
+/// How many of the look-ups, at keys that jump about, find a region.
+fn found(alloc: Global, regions: u32, look_ups: u64) -> Result<u64> {
+    let mut cache = filled(alloc, regions)?;
+    let mut found: u64 = 0;
+    let mut state: u64 = 1;
+    for _ in 0..look_ups {
+        state = state
+            .wrapping_mul(6364136223846793005)
+            .wrapping_add(1442695040888963407);
+        let number = (state >> 33) as u32 % regions.max(1);
+        if let Look::Found(_) = cache.get_region_by_key(&key(alloc, number)?)? {
+            found = found.wrapping_add(1);
+        }
+    }
+    Ok(found)
+}
+
+/// The number that the next word spells, or 0.
+fn number(word: Option<String>) -> u32 {
+    match word {
+        Some(word) => word.as_str().parse::<u32>().unwrap_or(0),
+        None => 0,
+    }
+}
+
+fn main(rt: HostRuntime) -> io::Result<()> {
+    let mut words = env::args(&rt)?.skip(1);
+    let regions = number(words.next());
+    let look_ups = number(words.next());
+    match found(rt.alloc(), regions, u64::from(look_ups)) {
+        Ok(found) => println!(rt; "{found}"),
+        Err(error) => println!(rt; "{error}"),
+    }
+}

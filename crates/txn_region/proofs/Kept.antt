@@ -1,0 +1,42 @@
+-- What is kept was not refused.
+use Rattle.std.proofs.Common.{◌≡◌, ℕ, suc, zero, ◌<◌, Bool, true, false, List, [], ◌∷◌, length, get_or, refl, sym, ap, ◌∙◌, subst, arith}
+use Rattle.std.specs.Prelude.{cond, if◌then◌else◌, is_none, nat_eq, Option, Some, None}
+use Rattle.std.specs.List.{find}
+use Rattle.std.proofs.lemmas.Bool.Decides.{nat_tests}
+use Rattle.txn_kv.specs.declared.errors.Error.TheVariants.{InternalError}
+use Rattle.txn_kv.specs.declared.errors.Internal.TheVariants.{NoEpoch, ReversedRegion}
+use Rattle.txn_kv.specs.declared.message.Region.{Region}
+use Rattle.txn_kv.specs.declared.region.RegionWithLeader.{RegionWithLeader}
+use Rattle.txn_region.specs.Regions.{has_id, is_reversed, region_refusal, AreKept, IsSoundOf}
+
+taken_if : (g : Region) → is_reversed g ≡ false → is_none g.region_epoch ≡ false → region_refusal g ≡ None
+taken_if g up e = rw (up, e) refl
+
+first_taken : (r : RegionWithLeader) (rs : List RegionWithLeader) → AreKept (r ∷ rs) → region_refusal r.region ≡ None
+first_taken r rs k = taken_if r.region k.apart.0 k.epochs.0
+
+rest_kept : (r : RegionWithLeader) (rs : List RegionWithLeader) → AreKept (r ∷ rs) → AreKept rs
+rest_kept r rs k = record { apart = k.apart.2; epochs = k.epochs.1 }
+
+get_taken : (rs : List RegionWithLeader) (at : ℕ) (d : RegionWithLeader) → AreKept rs → at < length rs → region_refusal (get_or rs at d).region ≡ None
+get_taken [] at d k l = absurd (omega arith)
+get_taken (r ∷ rs) zero d k l = first_taken r rs k
+get_taken (r ∷ rs) (suc at) d k l = get_taken rs at d (rest_kept r rs k) (omega arith)
+
+pub taken_at : (rs : List RegionWithLeader) (at : ℕ) (r : RegionWithLeader) → AreKept rs → at < length rs → r ≡ get_or rs at r → region_refusal r.region ≡ None
+taken_at rs at r k l read = ap (λ (x : RegionWithLeader). region_refusal x.region) read ∙ get_taken rs at r k l
+
+-- what a search finds
+pub found_kept : (p : RegionWithLeader → Bool) (rs : List RegionWithLeader) (x : RegionWithLeader) → AreKept rs → find p rs ≡ Some x → (p x ≡ true) × (region_refusal x.region ≡ None)
+found_kept p [] x k h = absurd (cc)
+found_kept p (r ∷ rs) x k h = by (p r) refl h (found_kept p rs x (rest_kept r rs k))
+  where
+    by : (b : Bool) → p r ≡ b → cond b (Some r) (find p rs) ≡ Some x → (find p rs ≡ Some x → (p x ≡ true) × (region_refusal x.region ≡ None)) → (p x ≡ true) × (region_refusal x.region ≡ None)
+    by true e h later = let same : r ≡ x = grind arith in subst (λ (q : RegionWithLeader). (p q ≡ true) × (region_refusal q.region ≡ None)) same (e, first_taken r rs k)
+    by false e h later = later h
+
+same_number : (a b : ℕ) → nat_eq a b ≡ true → a ≡ b
+same_number a b h = grind (arith, nat_tests)
+
+pub found_sound : (id : ℕ) (rs : List RegionWithLeader) (x : RegionWithLeader) → AreKept rs → Some x ≡ find (has_id id) rs → IsSoundOf id x
+found_sound id rs x k h = let found = found_kept (has_id id) rs x k (sym h) in (same_number x.region.id id found.0, found.1)

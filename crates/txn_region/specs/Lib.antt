@@ -1,0 +1,4 @@
+pub mod Cache
+pub mod Calls
+pub mod Regions
+pub mod Stores

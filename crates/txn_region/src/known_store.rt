@@ -1,0 +1,8 @@
+use txn_kv::{StoreId, StoreMeta};
+
+/// What the placement driver answered when it was asked for the store of an id.
+#[derive(Debug, PartialEq, Eq, Drop)]
+pub struct KnownStore {
+    pub id: StoreId,
+    pub store: StoreMeta,
+}

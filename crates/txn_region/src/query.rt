@@ -1,0 +1,22 @@
+use txn_kv::{Key, RegionId, RegionWithLeader, StoreId, StoreMeta, Timestamp};
+
+/// What the placement driver is asked. The key is encoded.
+#[derive(Debug, PartialEq, Eq, Drop)]
+pub enum PdQuery {
+    Region(Key),
+    RegionId(RegionId),
+    Store(StoreId),
+    Stores,
+    Time,
+    Safepoint(u64),
+}
+
+/// What the placement driver answers, by the kind of the query.
+#[derive(Debug, PartialEq, Eq, Drop)]
+pub enum PdAnswer {
+    Region(RegionWithLeader),
+    Store(StoreMeta),
+    Stores(Vec<StoreMeta>),
+    Time(Timestamp),
+    Safepoint(u64),
+}
