@@ -10,12 +10,14 @@ pub mod into_owned_range;
 pub mod items;
 pub mod key;
 pub mod kvpair;
+pub mod laws;
 pub mod memory;
 pub mod message;
 pub mod pessimistic_lock;
 pub mod region;
 pub mod reply;
 pub mod request;
+pub mod send;
 pub mod spelling;
 #[cfg(test)]
 mod tests;
