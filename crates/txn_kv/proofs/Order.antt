@@ -1,7 +1,6 @@
 -- How encodings compare: as their keys do, and where the keys are equal, as what follows them.
 use Rattle.std.proofs.Common.{◌≡◌, ℕ, zero, suc, ◌+◌, ◌-◌, ◌<◌, ◌≤◌, List, [], ◌∷◌, ◌++◌, length, take, drop, Bool, true, false, Ordering, Less, Equal, Greater, refl, sym, ap, ◌∙◌, ⊎_elim, le_refl, append_assoc, length-append, length-drop, arith}
 use Rattle.std.specs.Prelude.{replicate}
-use Rattle.std.specs.List.{All}
 use Rattle.std.specs.Ordering.{nat_cmp, ordering_reverse, ordering_then}
 use Rattle.std.specs.Cmp.{nat_cmp_is}
 use Rattle.std.specs.Cmp.Lexicographic.{slice_cmp, nat_list_cmp_total}

@@ -1,5 +1,5 @@
 -- The items that the Oks of an iterator become, with its Errs between them.
-use Rattle.std.specs.Prelude.{◌≡◌, ℕ, ◌+◌, Option, Some, None, Result, Ok, Err, MatchOption, MatchResult, option_map, ⊤}
+use Rattle.std.specs.Prelude.{◌≡◌, ◌+◌, Option, Some, None, Result, Ok, Err, MatchOption, MatchResult, option_map, ⊤}
 use Rattle.std.specs.Option.{option_len}
 use Rattle.std.specs.Iterator.{Count, at_most, count_map, CallableAtEachTurn}
 use Rattle.std.specs.Fn.{Called, Mut, Takes}

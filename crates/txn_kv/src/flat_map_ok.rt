@@ -95,6 +95,7 @@ pub trait FlatMapOkIterExt: Iterator {
         ensures front { flatten_front result ≡ None }
         ensures back { flatten_back result ≡ None }
         ensures done { flatten_done result ≡ false }
+        ensures runs { EachRunFrom (flatten_steps (ok_source_steps Self.next_gives F.FnMut U.into_iter_gives) (λ opened items. items ≡ opened) (ok_items_steps U.IntoIter.next_gives)) result (λ given. SomeRun (ok_source_steps Self.next_gives F.FnMut U.into_iter_gives) (flatten_source result) (λ results. IsFlattenRun given results (ok_items_steps U.IntoIter.next_gives) (λ opened items. items ≡ opened))) }
     {
         OkSource { results: self, f }.flatten()
     }
