@@ -1,5 +1,5 @@
 -- How the encoding of a key follows from its groups.
-use Rattle.std.proofs.Common.{◌≡◌, ℕ, suc, ◌+◌, ◌≤◌, ◌<◌, List, [], ◌∷◌, ◌++◌, length, take, drop, append_assoc, refl, ap, arith}
+use Rattle.std.proofs.Common.{◌≡◌, ℕ, ◌≤◌, ◌<◌, List, [], ◌∷◌, ◌++◌, length, take, drop, append_assoc, refl, arith}
 use Rattle.txn_kv.specs.Codec.{encoded, last_group}
 
 -- a key of eight bytes or more: eight of them, 255, and the encoding of the rest

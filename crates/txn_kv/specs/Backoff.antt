@@ -1,5 +1,5 @@
 -- How long each kind of backoff waits.
-use Rattle.std.specs.Prelude.{ℕ, ◌+◌, ◌-◌, ◌*◌, ◌/◌, ◌%◌, ◌^◌, ◌==◌, Bool, true, false, Option, Some, None, if◌then◌else◌, nat_le, min}
+use Rattle.std.specs.Prelude.{ℕ, ◌+◌, ◌-◌, ◌*◌, ◌/◌, ◌%◌, ◌^◌, ◌==◌, Bool, true, false, if◌then◌else◌, nat_le, min}
 use Rattle.txn_kv.specs.declared.backoff.BackoffKind.{BackoffKind}
 use Rattle.txn_kv.specs.declared.backoff.BackoffKind.TheVariants as Kind
 use Rattle.txn_kv.specs.declared.backoff.Backoff.{Backoff}

@@ -1,11 +1,15 @@
 -- The encoding of keys that keeps their order: groups of eight bytes, each followed by a byte that says how many of
 -- its bytes are padding.
-use Rattle.std.specs.Prelude.{◌≡◌, ℕ, ◌+◌, ◌-◌, ◌*◌, ◌/◌, List, [], ◌∷◌, ◌++◌, Bool, cond, if◌then◌else◌, ◌&&◌, ◌==◌, ◌⊎◌, nat_le, length, drop, map, replicate, Result, Ok, Err}
-use Rattle.std.specs.List.{list_all}
+use Rattle.std.specs.Prelude.{◌≡◌, ℕ, ◌+◌, ◌-◌, ◌*◌, ◌/◌, List, [], ◌∷◌, ◌++◌, Bool, cond, if◌then◌else◌, ◌&&◌, ◌==◌, ◌<◌, ◌⊎◌, nat_le, length, drop, map, replicate, Result, Ok, Err}
+use Rattle.std.specs.List.{All, list_all}
 use Rattle.txn_kv.specs.declared.errors.Error.{Error}
 use Rattle.txn_kv.specs.declared.errors.Error.TheVariants.{InternalError}
 use Rattle.txn_kv.specs.declared.errors.Internal.{Internal}
 use Rattle.txn_kv.specs.declared.errors.Internal.TheVariants.{BadEnd, BadPadding}
+
+-- numbers that are bytes
+abbrev pub AreBytes : List ℕ → Type 0
+AreBytes = All (λ byte. byte < 256)
 
 -- the last group, of no more than seven bytes: its bytes, padding up to eight, and 255 minus the padding
 abbrev pub last_group : List ℕ → List ℕ

@@ -2,6 +2,8 @@ pub mod Backoff
 pub mod Codec
 pub mod ErrorView
 pub mod Errors
+pub mod FlatMapOk
+pub mod Pairs
 pub mod Ranges
 pub mod Region
 pub mod Request

@@ -1,5 +1,5 @@
 -- Timestamps as numbers.
-use Rattle.std.specs.Prelude.{◌≡◌, ℕ, ◌+◌, ◌*◌, ◌/◌, ◌%◌, ◌^◌, ◌<◌, ◌≤ℤ◌, ◌<ℤ◌, pos, unsigned_abs}
+use Rattle.std.specs.Prelude.{ℕ, ◌+◌, ◌*◌, ◌/◌, ◌%◌, ◌^◌, ◌≤ℤ◌, ◌<ℤ◌, pos, unsigned_abs}
 use Rattle.txn_kv.specs.declared.timestamp.Timestamp.{Timestamp}
 
 -- the parts are in range: 46 bits of milliseconds, 18 bits of a count

@@ -92,10 +92,30 @@ impl BoundRange {
         }
     }
 
+    /// The same range, in new memory.
+    pub fn try_clone(&self) -> Result<BoundRange, NoMemory>
+        ensures { IfOk result (λ copy. copy ≡ self.now) }
+    {
+        Ok(BoundRange {
+            from: copied(&self.from)?,
+            to: copied(&self.to)?,
+        })
+    }
+
     pub fn same_bounds(&self, bounds: &(Bound<Key>, Bound<Key>)) -> bool
         ensures { IsTrue result ↔ (self.now.from ≡ bounds.now.0) × (self.now.to ≡ bounds.now.1) }
     {
         self.from == bounds.0 && self.to == bounds.1
+    }
+}
+
+fn copied(bound: &Bound<Key>) -> Result<Bound<Key>, NoMemory>
+    ensures { IfOk result (λ copy. copy ≡ bound.now) }
+{
+    match bound {
+        Bound::Included(key) => Ok(Bound::Included(key.try_clone()?)),
+        Bound::Excluded(key) => Ok(Bound::Excluded(key.try_clone()?)),
+        Bound::Unbounded => Ok(Bound::Unbounded),
     }
 }
 

@@ -214,11 +214,16 @@ mod tests {
 
     #[test]
     fn encodes_keys(rt: HostRuntime) -> std::result::Result<(), Fail> {
-        let rows: [(&[u8], &[u8]); 6] = [
+        let rows: [(&[u8], &[u8]); 8] = [
             (&[], &[0, 0, 0, 0, 0, 0, 0, 0, 247]),
             (&[0], &[0, 0, 0, 0, 0, 0, 0, 0, 248]),
+            (&[1, 2, 3], &[1, 2, 3, 0, 0, 0, 0, 0, 250]),
             (&[1, 2, 3, 0], &[1, 2, 3, 0, 0, 0, 0, 0, 251]),
             (&[1, 2, 3, 4, 5, 6, 7], &[1, 2, 3, 4, 5, 6, 7, 0, 254]),
+            (
+                &[1, 2, 3, 4, 5, 6, 7, 8],
+                &[1, 2, 3, 4, 5, 6, 7, 8, 255, 0, 0, 0, 0, 0, 0, 0, 0, 247],
+            ),
             (
                 &[0, 0, 0, 0, 0, 0, 0, 0],
                 &[0, 0, 0, 0, 0, 0, 0, 0, 255, 0, 0, 0, 0, 0, 0, 0, 0, 247],
@@ -232,15 +237,51 @@ mod tests {
             let mut bytes = Vec::new(rt.alloc());
             bytes.encode_bytes(key, false)?;
             assert_eq!(rt; bytes.as_slice(), encoding);
+            assert!(rt; decode_bytes_in_place(&mut bytes, false).is_ok());
+            assert_eq!(rt; bytes.as_slice(), key);
             let mut descending = Vec::new(rt.alloc());
             descending.encode_bytes(key, true)?;
-            for byte in descending.iter_mut() {
-                *byte = 255 - *byte;
-            }
+            complement_all(&mut descending);
             assert_eq!(rt; descending.as_slice(), encoding);
+            complement_all(&mut descending);
+            assert!(rt; decode_bytes_in_place(&mut descending, true).is_ok());
+            assert_eq!(rt; descending.as_slice(), key);
             let encoded = Key::from(key.to_vec(rt.alloc())?).to_encoded()?;
             assert_eq!(rt; encoded.as_slice(), encoding);
         }
+        Ok(())
+    }
+
+    #[test]
+    fn refuses_other_bytes(rt: HostRuntime) -> std::result::Result<(), Fail> {
+        let rows: [(&[u8], &str); 5] = [
+            (&[1, 2, 3, 0, 0, 0, 0, 9, 250], "BadPadding { at: 0 }"),
+            (&[1, 2, 3], "BadEnd { at: 0 }"),
+            (&[0, 0, 0, 0, 0, 0, 0, 0, 246], "BadPadding { at: 0 }"),
+            (&[1, 2, 3, 4, 5, 6, 7, 8, 255], "BadEnd { at: 9 }"),
+            (
+                &[1, 2, 3, 4, 5, 6, 7, 8, 255, 0, 0, 0, 0, 0, 0, 0, 1, 247],
+                "BadPadding { at: 9 }",
+            ),
+        ];
+        for (refused, text) in rows {
+            let mut bytes = refused.to_vec(rt.alloc())?;
+            let error = decode_bytes_in_place(&mut bytes, false).expect_err(&rt, "refused");
+            assert_eq!(rt; error.to_string(rt.alloc())?.as_str(), text);
+            assert_eq!(rt; bytes.as_slice(), refused);
+        }
+        Ok(())
+    }
+
+    #[test]
+    fn decodes_nothing_and_beginnings(rt: HostRuntime) -> std::result::Result<(), Fail> {
+        let mut bytes = Vec::new(rt.alloc());
+        assert!(rt; decode_bytes_in_place(&mut bytes, false).is_ok());
+        assert!(rt; bytes.is_empty());
+        bytes.encode_bytes(&[1, 2, 3, 4, 5, 6, 7, 8, 9], true)?;
+        bytes.extend_from_slice(&[6, 6])?;
+        assert!(rt; decode_bytes_in_place(&mut bytes, true).is_ok());
+        assert_eq!(rt; bytes.as_slice(), [1, 2, 3, 4, 5, 6, 7, 8, 9].as_slice());
         Ok(())
     }
 

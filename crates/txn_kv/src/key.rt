@@ -1,7 +1,10 @@
 ghost use Rattle.std.specs.Prelude.{◌≡◌, ◌==◌, [], nat_eq, length, string_bytes, IfOk, Some, refl};
 ghost use Rattle.std.specs.Ordering.{nat_cmp, as_partial_cmp};
 ghost use Rattle.std.specs.Cmp.{partial_equiv_from_equiv};
+ghost use Rattle.std.specs.Cmp.Rules.{hashing};
 ghost use Rattle.std.specs.Cmp.Lexicographic.{pointwise, slice_cmp, nat_list_eq_equiv, nat_list_cmp_total, texts_po, texts_ties};
+ghost use Rattle.std.specs.Hash as fed;
+ghost use Rattle.std.proofs.Common.{rules};
 ghost use Rattle.txn_kv.specs.Codec.{encoded};
 ghost use Rattle.txn_kv.specs.Ranges.{end_of, lower_bound, next_key, start_of, upper_bound};
 
@@ -11,6 +14,7 @@ use crate::memory::NoMemory;
 use std::alloc::Global;
 use std::cmp::Ordering;
 use std::fmt;
+use std::hash::{Hash, Hasher};
 use std::marker::Model;
 use std::ops::Bound;
 
@@ -188,5 +192,15 @@ impl Ord for Key {
 
     fn cmp(&self, other: &Self) -> Ordering {
         self.as_slice().cmp(other.as_slice())
+    }
+}
+
+impl Hash for Key {
+    ghost hash_input = { λ key. fed.slice fed.u8 key };
+
+    ghost respects_eq = { Prim.search (hashing, rules) };
+
+    fn hash<H: Hasher>(&self, state: &mut H) {
+        self.as_slice().hash(state);
     }
 }

@@ -1,4 +1,6 @@
 ghost use Rattle.std.specs.Prelude.{◌≡◌, IfOk};
+ghost use Rattle.std.specs.Borrow.{sem};
+ghost use Rattle.txn_kv.specs.Pairs.{lends_key, lends_value};
 ghost use Rattle.txn_kv.specs.declared.kvpair.KvPair.{KvPair};
 
 use crate::hex_repr::HexRepr;
@@ -43,6 +45,22 @@ impl KvPair {
         ensures { result ≡ self.1 }
     {
         self.1
+    }
+
+    /// The key, for writing.
+    pub fn key_mut(&mut self) -> &mut Key
+        ensures* writes_back { sem 𝓛 (lends_key self.entry result) }
+        ensures key { result.now ≡ self.old.0 }
+    {
+        &mut self.0
+    }
+
+    /// The value, for writing.
+    pub fn value_mut(&mut self) -> &mut Value
+        ensures* writes_back { sem 𝓛 (lends_value self.entry result) }
+        ensures value { result.now ≡ self.old.1 }
+    {
+        &mut self.1
     }
 
     pub fn set_key(&mut self, key: Key)

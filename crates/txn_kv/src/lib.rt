@@ -5,17 +5,20 @@ pub mod backoff;
 pub mod bound_range;
 pub mod codec;
 pub mod errors;
+pub mod flat_map_ok;
 pub mod hex_repr;
 pub mod into_owned_range;
 pub mod items;
 pub mod key;
 pub mod kvpair;
+pub mod laws;
 pub mod memory;
 pub mod message;
 pub mod pessimistic_lock;
 pub mod region;
 pub mod reply;
 pub mod request;
+pub mod send;
 pub mod spelling;
 #[cfg(test)]
 mod tests;
@@ -31,6 +34,7 @@ pub use backoff::{
 pub use bound_range::BoundRange;
 pub use codec::{BytesEncoder, decode_bytes_in_place, max_encoded_bytes_size};
 pub use errors::{Error, Internal, Result};
+pub use flat_map_ok::{FlatMapOk, FlatMapOkIterExt};
 pub use hex_repr::HexRepr;
 pub use into_owned_range::{IntoOwnedRange, KeyBytes};
 pub use items::{Items, Value};

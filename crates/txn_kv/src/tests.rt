@@ -1,5 +1,7 @@
 use super::*;
 use std::alloc::Global;
+use std::collections::BTreeMap;
+use std::hash::{DefaultHasher, Hash, Hasher};
 use std::ops::Bound;
 use std::test::Fail;
 use std::time::Duration;
@@ -19,6 +21,10 @@ fn shows_plain_errors(rt: HostRuntime) -> std::result::Result<(), Fail> {
         (Error::Unimplemented, "Unimplemented feature"),
         (Error::DuplicateKeyInsertion, "Duplicate key insertion"),
         (
+            Error::OperationAfterCommitError,
+            "Cannot read or write data after any attempt to commit or roll back the transaction",
+        ),
+        (
             Error::OnePcFailure,
             "1PC transaction could not be committed.",
         ),
@@ -32,6 +38,12 @@ fn shows_plain_errors(rt: HostRuntime) -> std::result::Result<(), Fail> {
             Error::LeaderNotFound { region_id: 7 },
             "Leader of region 7 is not found",
         ),
+        (
+            Error::InternalError {
+                what: Internal::BadPadding { at: 9 },
+            },
+            "BadPadding { at: 9 }",
+        ),
         (Error::OutOfMemory, "out of memory"),
     ];
     for (error, text) in rows.iter() {
@@ -41,79 +53,196 @@ fn shows_plain_errors(rt: HostRuntime) -> std::result::Result<(), Fail> {
 }
 
 #[test]
-fn shows_region_errors(rt: HostRuntime) -> std::result::Result<(), Fail> {
-    let error = Error::region(rt.alloc(), RegionErr::StaleCommand)?.try_clone()?;
-    assert_eq!(rt;
-        error.to_string(rt.alloc())?.as_str(),
-        "Region error: StaleCommand"
-    );
-    Ok(())
-}
-
-#[test]
-fn shows_unknown_keys(rt: HostRuntime) -> std::result::Result<(), Fail> {
-    let error = Error::RegionForKeyNotFound {
-        key: key(rt.alloc(), &[1, 171])?,
+fn shows_errors_of_stores(rt: HostRuntime) -> std::result::Result<(), Fail> {
+    let bytes = [1, 171];
+    let unknown = KeyError::AlreadyExist {
+        key: key(rt.alloc(), bytes.as_slice())?,
     };
-    assert_eq!(rt;
-        error.to_string(rt.alloc())?.as_str(),
-        "Region is not found for key: Key(01AB)"
-    );
+    let rows = [
+        (
+            Error::ResolveLockError(Vec::new(rt.alloc())),
+            "Failed to resolve lock",
+        ),
+        (
+            Error::region(rt.alloc(), RegionErr::StaleCommand)?.try_clone()?,
+            "Region error: StaleCommand",
+        ),
+        (
+            Error::key(rt.alloc(), unknown)?,
+            "AlreadyExist { key: Key(01AB) }",
+        ),
+        (
+            Error::RegionForKeyNotFound {
+                key: key(rt.alloc(), bytes.as_slice())?,
+            },
+            "Region is not found for key: Key(01AB)",
+        ),
+        (
+            Error::KvError {
+                message: "busy".to_string(rt.alloc())?,
+            },
+            "Kv error. busy",
+        ),
+        (
+            Error::StringError("a text".to_string(rt.alloc())?),
+            "a text",
+        ),
+    ];
+    for (error, text) in rows.iter() {
+        assert_eq!(rt; error.to_string(rt.alloc())?.as_str(), *text);
+    }
     Ok(())
 }
 
 #[test]
-fn shows_pairs(rt: HostRuntime) -> std::result::Result<(), Fail> {
-    let pair = KvPair::new(
-        key(rt.alloc(), b"k1")?,
-        Items::from_vec(b"v\"".to_vec(rt.alloc())?),
-    );
-    let shown = format!(in rt.alloc(); "{pair:?}")?;
-    assert_eq!(rt; shown.as_str(), "KvPair(6B31, \"v\\\"\")");
+fn shows_errors_of_errors(rt: HostRuntime) -> std::result::Result<(), Fail> {
+    let alloc = rt.alloc();
+    let mut errors = Vec::new(alloc);
+    errors.push(Error::NoPrimaryKey)?;
+    errors.push(Error::OutOfMemory)?;
+    let mut others = Vec::new(alloc);
+    others.push(Error::OutOfMemory)?;
+    let rows = [
+        (
+            Error::UndeterminedError(Box::new(alloc, Error::OutOfMemory)?),
+            "Whether the transaction is committed or not is undetermined",
+        ),
+        (
+            Error::ExtractedErrors(errors),
+            "Multiple errors: [NoPrimaryKey, OutOfMemory]",
+        ),
+        (
+            Error::MultipleKeyErrors(others),
+            "Multiple key errors: [OutOfMemory]",
+        ),
+        (
+            Error::PessimisticLockError {
+                inner: Box::new(alloc, Error::NoPrimaryKey)?,
+                success_keys: Vec::new(alloc),
+            },
+            "PessimisticLock error: NoPrimaryKey",
+        ),
+    ];
+    for (error, text) in rows.iter() {
+        assert_eq!(rt; error.to_string(alloc)?.as_str(), *text);
+    }
     Ok(())
 }
 
 #[test]
-fn decodes_keys(rt: HostRuntime) -> std::result::Result<(), Fail> {
-    let mut bytes = Vec::new(rt.alloc());
-    bytes.encode_bytes(&[1, 2, 3, 4, 5, 6, 7, 8, 9], true)?;
-    assert_eq!(rt; decode_bytes_in_place(&mut bytes, true).is_ok(), true);
-    assert_eq!(rt; bytes.as_slice(), [1, 2, 3, 4, 5, 6, 7, 8, 9].as_slice());
+fn shows_keys_and_pairs(rt: HostRuntime) -> std::result::Result<(), Fail> {
+    let bytes = [0, 10, 255];
+    let hex = HexRepr(bytes.as_slice());
+    assert_eq!(rt; format!(in rt.alloc(); "{hex}")?.as_str(), "000AFF");
+    let rows: [(&[u8], &str); 2] = [
+        (b"v\"", "KvPair(6B31, \"v\\\"\")"),
+        (&[255, 1], "KvPair(6B31, FF01)"),
+    ];
+    for (value, text) in rows {
+        let value = Items::from_vec(value.to_vec(rt.alloc())?);
+        let pair = KvPair::new(key(rt.alloc(), b"k1")?, value);
+        assert_eq!(rt; format!(in rt.alloc(); "{pair:?}")?.as_str(), text);
+        let shown = pair.into_key();
+        assert_eq!(rt; format!(in rt.alloc(); "{shown:?}")?.as_str(), "Key(6B31)");
+    }
     Ok(())
+}
+
+#[test]
+fn writes_into_pairs(rt: HostRuntime) -> std::result::Result<(), Fail> {
+    let mut pair = KvPair::new(key(rt.alloc(), b"a")?, Items::new(rt.alloc()));
+    *pair.key_mut() = key(rt.alloc(), b"b")?;
+    pair.value_mut().push(7)?;
+    assert_eq!(rt; pair.key().as_slice(), b"b".as_slice());
+    assert_eq!(rt; pair.value().as_slice(), [7].as_slice());
+    Ok(())
+}
+
+#[test]
+fn keys_are_keys_of_maps(rt: HostRuntime) -> std::result::Result<(), Fail> {
+    let mut sorted = BTreeMap::new(rt.alloc());
+    sorted.insert(key(rt.alloc(), b"b")?, 2)?;
+    sorted.insert(key(rt.alloc(), b"a")?, 1)?;
+    assert_eq!(rt; sorted.get(&key(rt.alloc(), b"b")?), Some(&2));
+    let first = sorted.first_key_value().map(|entry| *entry.1);
+    assert_eq!(rt; first, Some(1));
+    let mut one = DefaultHasher::new();
+    let mut other = DefaultHasher::new();
+    key(rt.alloc(), b"a")?.hash(&mut one);
+    b"a".as_slice().hash(&mut other);
+    assert_eq!(rt; one.finish(), other.finish());
+    Ok(())
+}
+
+#[test]
+fn maps_the_oks(rt: HostRuntime) -> std::result::Result<(), Fail> {
+    let results: [std::result::Result<u32, ()>; 3] = [Ok(0), Err(()), Ok(2)];
+    let mut tripled = results.into_iter().flat_map_ok(|i| [i, i, i].into_iter());
+    let expected = [
+        Some(Ok(0)),
+        Some(Ok(0)),
+        Some(Ok(0)),
+        Some(Err(())),
+        Some(Ok(2)),
+        Some(Ok(2)),
+        Some(Ok(2)),
+        None,
+    ];
+    for item in expected {
+        assert!(rt; tripled.next() == item);
+    }
+    Ok(())
+}
+
+/// Whether the delays for the words are those milliseconds, and there is none after them.
+fn delays(backoff: Backoff, words: [u64; 3], milliseconds: [u64; 3]) -> bool {
+    let mut backoff = backoff;
+    backoff.next_delay_duration(words[0]) == Some(Duration::from_millis(milliseconds[0]))
+        && backoff.next_delay_duration(words[1]) == Some(Duration::from_millis(milliseconds[1]))
+        && backoff.next_delay_duration(words[2]) == Some(Duration::from_millis(milliseconds[2]))
+        && backoff.next_delay_duration(0).is_none()
+        && backoff.current_attempts() == 3
 }
 
 #[test]
 fn backs_off(rt: HostRuntime) {
-    let mut backoff = Backoff::no_jitter_backoff(2, 7, 3);
-    assert_eq!(rt;
-        backoff.next_delay_duration(0),
-        Some(Duration::from_millis(2))
-    );
-    assert_eq!(rt;
-        backoff.next_delay_duration(0),
-        Some(Duration::from_millis(4))
-    );
-    assert_eq!(rt;
-        backoff.next_delay_duration(0),
-        Some(Duration::from_millis(7))
-    );
-    assert_eq!(rt; backoff.next_delay_duration(0), None);
+    let mut none = Backoff::no_jitter_backoff(0, 0, 0);
+    assert_eq!(rt; none.next_delay_duration(0), None);
+    assert!(rt; Backoff::no_backoff().is_none());
+    let plain = Backoff::no_jitter_backoff(2, 7, 3);
+    let full = Backoff::full_jitter_backoff(2, 7, 3);
+    let equal = Backoff::equal_jitter_backoff(2, 7, 3);
+    let decorrelated = Backoff::decorrelated_jitter_backoff(2, 7, 3);
+    assert!(rt; delays(plain, [0, 0, 0], [2, 4, 7]));
+    assert!(rt; delays(full, [0, 0, 0], [0, 0, 0]));
+    assert!(rt; delays(full, [1, 3, 6], [1, 3, 6]));
+    assert!(rt; delays(full, [2, 4, 7], [0, 0, 0]));
+    assert!(rt; delays(equal, [0, 0, 0], [1, 2, 3]));
+    assert!(rt; delays(equal, [1, 1, 2], [1, 3, 5]));
+    assert!(rt; delays(decorrelated, [0, 0, 0], [2, 2, 2]));
+    assert!(rt; delays(decorrelated, [3, 5, 6], [5, 7, 7]));
 }
 
 #[test]
-fn backs_off_with_jitter(rt: HostRuntime) {
-    let mut full = Backoff::full_jitter_backoff(2, 7, 3);
-    assert_eq!(rt; full.next_delay_duration(3), Some(Duration::from_millis(1)));
-    let mut equal = Backoff::equal_jitter_backoff(2, 7, 3);
+fn derived(rt: HostRuntime) -> std::result::Result<(), Fail> {
+    let id = RegionVerId::default();
+    let stamp = Timestamp::default();
+    let backoff = OPTIMISTIC_BACKOFF;
     assert_eq!(rt;
-        equal.next_delay_duration(9),
-        Some(Duration::from_millis(1))
+        format!(in rt.alloc(); "{id:?}")?.as_str(),
+        "RegionVerId { id: 0, conf_ver: 0, ver: 0 }"
     );
-    let mut decorrelated = Backoff::decorrelated_jitter_backoff(2, 7, 3);
     assert_eq!(rt;
-        decorrelated.next_delay_duration(7),
-        Some(Duration::from_millis(5))
+        format!(in rt.alloc(); "{stamp:?}")?.as_str(),
+        "Timestamp { physical: 0, logical: 0, suffix_bits: 0 }"
     );
+    assert!(rt; backoff == PESSIMISTIC_BACKOFF && backoff != DEFAULT_STORE_BACKOFF);
+    let text = Text::from_string("t".to_string(rt.alloc())?);
+    assert_eq!(rt;
+        format!(in rt.alloc(); "{text:?}")?.as_str(),
+        "Text { string: \"t\" }"
+    );
+    Ok(())
 }
 
 #[test]

@@ -1,4 +1,4 @@
-use Rattle.std.proofs.Common.{◌≡◌, ◌≤◌, ◌++◌, length, take, vec_len}
+use Rattle.std.proofs.Common.{◌≡◌, ◌++◌, length, take, vec_len}
 use Rattle.txn_kv.specs.Codec.{encoded}
 use Rattle.txn_kv.proofs.codec.append_groups.Given as goal
 

@@ -1,4 +1,4 @@
-use Rattle.std.proofs.Common.{◌≡◌, ◌<◌, ◌^◌, ℕ, Ok, Err, get_or, length, refl, inr, ap, ◌∙◌, sym, arith, rules}
+use Rattle.std.proofs.Common.{◌≡◌, ◌<◌, ℕ, Ok, Err, get_or, length, refl, inr, ap, ◌∙◌, sym, arith}
 use Rattle.std.proofs.lemmas.Grind.{common_steps}
 use Rattle.txn_kv.specs.Codec.{key_length}
 use Rattle.txn_kv.proofs.Decoding.{begins, decodes, encoded-none, not_refused, room}

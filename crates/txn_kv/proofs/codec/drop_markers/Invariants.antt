@@ -1,4 +1,4 @@
-use Rattle.std.proofs.Common.{◌≡◌, ℕ, ◌+◌, ◌/◌, ◌<◌, ◌≤◌, length, get_or, vec_len}
+use Rattle.std.proofs.Common.{◌≡◌, ℕ, ◌+◌, ◌/◌, ◌<◌, ◌≤◌, get_or, vec_len}
 use Rattle.txn_kv.proofs.codec.drop_markers.Given as goal
 
 abbrev pub invariant-loop-k : goal.invariant-loop-k
