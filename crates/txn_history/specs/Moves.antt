@@ -18,7 +18,9 @@ pub record SameJob {S A : Type 0} (asks : S → List Event → Request → Type 
   pub given : (h : List Event) (v : A) → gives new h v → gives old h v
   pub gave : (h : List Event) (v : A) → gives old h v → gives new h v
 
--- From a state that was so, to one that is so, hearing an event and posting what may be posted.
+-- From a state that was so, to one that is so, hearing an event and posting what may be posted. What is heard is nothing
+-- where a state starts; `Took`, of each request that may have been sent under the number, where it takes a reply; `Lost` or
+-- `Slept` where it is told so; and `Answered` where it takes a timestamp.
 pub record Moves {A : Type 0}
     (may : List Event → Request → Type 0) (was is : List Event → Type 0) (gives : List Event → A → Type 0)
     (hear : List Event → List Event) (from to : Posted) (turn : Turn A) : Type 0 where

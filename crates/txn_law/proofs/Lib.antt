@@ -20,3 +20,4 @@ pub mod Lone
 pub mod StaysGone
 pub mod Asking
 pub mod Ranged
+pub mod Origins

@@ -1,6 +1,6 @@
 -- What a request may do to the phase of a start at a key, and what it does to a cell.
 use Rattle.txn_kv.specs.declared.request.PessimisticLockRequest.{PessimisticLockRequest}
-use Rattle.std.proofs.Common.{◌≡◌, ◌≢◌, ℕ, ◌⊎◌, inl, inr, Bool, true, false, List, Some, None, refl, sym, subst, ◌≤◌}
+use Rattle.std.proofs.Common.{◌≡◌, ◌≢◌, ℕ, ◌⊎◌, inl, inr, Bool, true, false, List, Option, Some, None, refl, sym, subst, ◌≤◌}
 use Rattle.std.specs.Prelude.{if◌then◌else◌}
 use Rattle.txn_kv.specs.declared.message.Mutation.{Mutation}
 use Rattle.txn_kv.specs.declared.message.TxnInfo.{TxnInfo}
@@ -13,6 +13,8 @@ use Rattle.txn_model.specs.declared.cell.Lock.{Lock}
 use Rattle.txn_model.specs.Cells.{cell_at, changed_at, AreInOrder}
 use Rattle.txn_model.specs.Commit.{committed}
 use Rattle.txn_model.specs.Locks.{is_prewrite, commit_of, newest_commit}
+use Rattle.txn_model.specs.PessimisticLock.{raised_lock}
+use Rattle.txn_model.specs.Prewrite.{mutation_keys}
 use Rattle.txn_model.specs.Resolve.{infos}
 use Rattle.txn_model.specs.Settle.{rolled_back, released}
 use Rattle.txn_model.specs.Status.{longer_lived, with_lock}
@@ -39,9 +41,9 @@ May (ResolveLock r) k t before (Commits n) = (i : TxnInfo) × IsAmong (infos r) 
 May (ResolveLock r) k t before Rolls = (i : TxnInfo) × IsAmong (infos r) i × (i.txn ≡ t) × (i.status ≡ 0)
 May _ k t before m = ⊥
 
--- a request may set a pessimistic lock of the start where the newest commit is n
-abbrev pub MayHold : Request → ℕ → ℕ → Type 0
-MayHold r s n = (q : PessimisticLockRequest) × (r ≡ PessimisticLock q) × (q.start_version ≡ s) × (n ≤ q.for_update_ts)
+-- a request may set this pessimistic lock at the key, whose lock was the other one and whose newest commit is n
+abbrev pub MayHold : Request → Key → Option Lock → Lock → ℕ → Type 0
+MayHold r k before l n = (q : PessimisticLockRequest) × (r ≡ PessimisticLock q) × (q.start_version ≡ l.start) × (n ≤ q.for_update_ts) × (has_key (mutation_keys q.mutations) k ≡ true) × (l ≡ raised_lock q before)
 
 -- the phase stays, or goes by a move that the request may make
 abbrev pub Outcome : Request → Key → ℕ → Phase → Phase → Type 0
@@ -55,7 +57,7 @@ pub data CellStep (r : Request) (k : Key) (c : Cell) : Cell → Type 0 where
   Recorded : (s : ℕ) → commit_of c.commits s ≡ None → May r k s (phase c s) Rolls → CellStep r k c (rolled_back s c)
   Made : (s n : ℕ) → May r k s (phase c s) (Commits n) → CellStep r k c (committed s n c)
   Released : (s : ℕ) → CellStep r k c (released s c)
-  Held : (l : Lock) → is_prewrite l.kind ≡ false → IsClear c l.start → MayHold r l.start (newest_commit c.commits) → CellStep r k c (held l c)
+  Held : (l : Lock) → is_prewrite l.kind ≡ false → IsClear c l.start → MayHold r k c.lock l (newest_commit c.commits) → CellStep r k c (held l c)
   Renewed : (l : Lock) (ttl : ℕ) → c.lock ≡ Some l → CellStep r k c (with_lock (longer_lived ttl l) c)
 
 at_start : (r : Request) (k : Key) (c : Cell) (t s : ℕ) (m : Move) → t ≡ s → May r k s (phase c s) m → May r k t (phase c t) m

@@ -227,7 +227,7 @@ row_secondary st r o None = row_changed st (CheckSecondaryLocks r) r.keys (missi
 
 -- PessimisticRollback
 
-for_update_keeps : (s f : ℕ) → KeepsKeys (released_by s f)
+pub for_update_keeps : (s f : ℕ) → KeepsKeys (released_by s f)
 for_update_keeps s f c = by (is_for_update_by f c.lock)
   where
     by : (b : Bool) → (if b then released s c else c).key ≡ c.key
@@ -339,14 +339,14 @@ for_update_lock_keeps r c = refl
 row_pessimistic_lock : (st : Store) (r : PessimisticLockRequest) → IsTimely st (PessimisticLock r) → AreInOrder st.cells → (e : Option RegionErr) (es : List KeyError) → pessimistic_errors st.cells r ≡ es → RowStep st (PessimisticLock r) (pessimistic_lock_by e es st r).store.cells
 row_pessimistic_lock st r timely o (Some e) es h = row_same st (PessimisticLock r) o
 row_pessimistic_lock st r timely o None (x ∷ xs) h = row_same st (PessimisticLock r) o
-row_pessimistic_lock st r timely o None [] h = row_changed st (PessimisticLock r) (mutation_keys r.mutations) (locked_for_update r) (for_update_lock_keeps r) o (λ k a i. by k i (mutation_of_key r.mutations k a))
+row_pessimistic_lock st r timely o None [] h = row_changed st (PessimisticLock r) (mutation_keys r.mutations) (locked_for_update r) (for_update_lock_keeps r) o (λ k a i. by k a i (mutation_of_key r.mutations k a))
   where
-    by : (k : Key) → IsSound (cell_at st.cells k) → (m : Mutation) × IsAmong r.mutations m × (m.key ≡ k) → CellStep (PessimisticLock r) k (cell_at st.cells k) (locked_for_update r (cell_at st.cells k))
-    by k i w =
+    by : (k : Key) → has_key (mutation_keys r.mutations) k ≡ true → IsSound (cell_at st.cells k) → (m : Mutation) × IsAmong r.mutations m × (m.key ≡ k) → CellStep (PessimisticLock r) k (cell_at st.cells k) (locked_for_update r (cell_at st.cells k))
+    by k a i w =
         let passed = none_mapped (λ (q : Mutation). pessimistic_error r q (cell_at st.cells q.key)) r.mutations w.0 h w.1 in
         let here = subst (λ q. pessimistic_error r w.0 (cell_at st.cells q) ≡ None) w.2 passed in
         let lock = raised_lock r (cell_at st.cells k).lock in
-        Held lock (raised_kind r (cell_at st.cells k).lock) (subst (IsClear (cell_at st.cells k)) (sym (raised_start r (cell_at st.cells k).lock)) (clear_cell r w.0 (cell_at st.cells k) i here (timely k))) (r, refl, sym (raised_start r (cell_at st.cells k).lock), error_low r w.0 (cell_at st.cells k) here)
+        Held lock (raised_kind r (cell_at st.cells k).lock) (subst (IsClear (cell_at st.cells k)) (sym (raised_start r (cell_at st.cells k).lock)) (clear_cell r w.0 (cell_at st.cells k) i here (timely k))) (r, refl, sym (raised_start r (cell_at st.cells k).lock), error_low r w.0 (cell_at st.cells k) here, a, refl)
 
 pub row : (st : Store) (r : Request) → IsCovered r → IsTimely st r → AreInOrder st.cells → RowStep st r (table st r).store.cells
 row st (Get r) h t o = row_get st r o (region_check st.regions r.context)

@@ -269,7 +269,7 @@ prewrites : (r : Request) (k : Key) (s : ℕ) (b : Phase) (q : Key) (y : Content
 prewrites (Prewrite p) k s b q y m = (p, refl, sym m.0)
 prewrites _ k s b q y m = absurd m
 
-since_more : (es first : List Event) (e f : Event) → CameSince es first f → CameSince (e ∷ es) first f
+pub since_more : (es first : List Event) (e f : Event) → CameSince es first f → CameSince (e ∷ es) first f
 since_more es first e f h = (h.0, inr h.1, h.2)
 
 stood_since : (plans : ℕ → Plan) (es first : List Event) → IsRun plans es → IsPart es first → (s : ℕ) (k p : Key) (x : Content) → NonePrewrittenSince es first s → phases (store_after es) s k ≡ Locked p x → phases (store_after first) s k ≡ Locked p x

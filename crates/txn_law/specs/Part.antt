@@ -1,27 +1,31 @@
 -- What a run was before some of its events.
 use Rattle.txn_model.specs.Ranges.{in_range}
-use Rattle.txn_history.specs.Plan.{Key}
+use Rattle.txn_history.specs.Plan.{Key, has_key}
 use Rattle.txn_history.specs.Among.{IsAmong}
 use Rattle.std.specs.declared.cmp.Ordering.TheVariants.{Less}
 use Rattle.txn_kv.specs.declared.message.LockInfo.{LockInfo}
 use Rattle.txn_kv.specs.declared.message.TxnInfo.{TxnInfo}
 use Rattle.txn_kv.specs.declared.ticket.Ticket.{Ticket}
-use Rattle.txn_kv.specs.declared.request.Request.TheVariants.{Prewrite, ResolveLock, ScanLock}
+use Rattle.txn_kv.specs.declared.request.Request.TheVariants.{Prewrite, PessimisticLock, PessimisticRollback, ResolveLock, ScanLock}
+use Rattle.txn_kv.specs.declared.request.PessimisticLockRequest.{PessimisticLockRequest}
+use Rattle.txn_kv.specs.declared.request.PessimisticRollbackRequest.{PessimisticRollbackRequest}
 use Rattle.txn_kv.specs.declared.request.PrewriteRequest.{PrewriteRequest}
 use Rattle.txn_kv.specs.declared.request.ResolveLockRequest.{ResolveLockRequest}
 use Rattle.txn_kv.specs.declared.reply.Reply.{Reply}
 use Rattle.txn_kv.specs.declared.reply.Reply.TheVariants as reply
+use Rattle.txn_kv.specs.declared.reply.PessimisticRollbackResponse.{PessimisticRollbackResponse}
 use Rattle.txn_kv.specs.declared.reply.ResolveLockResponse.{ResolveLockResponse}
 use Rattle.txn_kv.specs.declared.reply.ScanLockResponse.{ScanLockResponse}
 use Rattle.txn_kv.specs.declared.request.ScanLockRequest.{ScanLockRequest}
 use Rattle.std.specs.Prelude.{◌≡◌, ◌⊎◌, ℕ, true, List, [], ◌∷◌, Some, ◌<◌, ◌≤◌, None, length}
-use Rattle.txn_history.specs.Event.{Event}
+use Rattle.txn_history.specs.Event.{Event, Has}
 use Rattle.txn_history.specs.Event.Event.{Served}
 use Rattle.txn_history.specs.Licence.{IsWithoutError, settled_starts}
 use Rattle.txn_model.specs.declared.cell.Cell.{Cell}
 use Rattle.txn_model.specs.declared.cell.Lock.{Lock}
 use Rattle.txn_model.specs.Cells.{key_cmp}
 use Rattle.txn_model.specs.Locks.{is_prewrite}
+use Rattle.txn_model.specs.Prewrite.{mutation_keys}
 use Rattle.txn_model.specs.Resolve.{is_in_context}
 use Rattle.txn_law.specs.Run.{store_after}
 
@@ -44,6 +48,24 @@ CameSince es part e = (before : List Event) × IsPart es (e ∷ before) × IsPar
 -- no Prewrite of s was served in the first after the second
 abbrev pub NonePrewrittenSince : List Event → List Event → ℕ → Type 0
 NonePrewrittenSince es part s = (t : Ticket) (r : PrewriteRequest) (o : Reply) → CameSince es part (Served t (Prewrite r) o) → r.start_version ≡ s → ⊥
+
+-- it sets a pessimistic lock of s at the key, if it passes
+abbrev pub LocksForUpdate : PessimisticLockRequest → ℕ → Key → Type 0
+LocksForUpdate q s k = (q.start_version ≡ s) × (has_key (mutation_keys q.mutations) k ≡ true)
+
+-- A PessimisticRollback of s gave the key back: after the last PessimisticLock of s that names it was served, and for a
+-- for-update timestamp that is not below that of any.
+pub record WasGivenBack (es : List Event) (s : ℕ) (k : Key) : Type 0 where
+  pub ticket : Ticket
+  pub request : PessimisticRollbackRequest
+  pub response : PessimisticRollbackResponse
+  pub before : List Event
+  pub served : IsPart es (Served ticket (PessimisticRollback request) (reply.PessimisticRollback response) ∷ before)
+  pub fine : IsWithoutError (reply.PessimisticRollback response)
+  pub start : request.start_version ≡ s
+  pub key : has_key request.keys k ≡ true
+  pub earlier : (t : Ticket) (q : PessimisticLockRequest) (o : Reply) → Has before (Served t (PessimisticLock q) o) → LocksForUpdate q s k → q.for_update_ts ≤ request.for_update_ts
+  pub later : (t : Ticket) (q : PessimisticLockRequest) (o : Reply) → CameSince es (Served ticket (PessimisticRollback request) (reply.PessimisticRollback response) ∷ before) (Served t (PessimisticLock q) o) → LocksForUpdate q s k → ⊥
 
 -- the locks reach past the key
 abbrev pub LocksReachPast : List LockInfo → Key → Type 0

@@ -1,7 +1,8 @@
 //! What is true of every run: theorems over definitions alone.
 //!
 //! A run is a list of events in which every request is licensed when it is sent (`IsRun`): nothing else is asked of the
-//! clients, and nothing of the network. What was sent may be served late, more than once or never.
+//! clients, and nothing of the network. What was sent may be served late, more than once or never, after it was refused or
+//! lost, and after its client crashed; regions are split and led elsewhere, and the clock is set, as they like.
 //!
 //! At each cell a start stands in one of four phases: free, locked, committed or rolled back. Each row of the request table
 //! changes a cell in one of seven ways (`CellStep`), and each of these moves the phase of one start by a lock, a commit or a

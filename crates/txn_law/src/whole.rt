@@ -1,18 +1,21 @@
-ghost use Rattle.std.specs.Prelude.{◌≡◌, ◌≢◌, ◌⊎◌, ◌<◌, ℕ, true, List, Some};
+ghost use Rattle.std.specs.Prelude.{◌≡◌, ◌≢◌, ◌⊎◌, ◌<◌, ℕ, true, List, Some, None};
 ghost use Rattle.txn_kv.specs.declared.ticket.Ticket.{Ticket};
-ghost use Rattle.txn_kv.specs.declared.request.Request.TheVariants.{Commit, BatchRollback};
+ghost use Rattle.txn_kv.specs.declared.request.Request.TheVariants.{Commit, BatchRollback, PessimisticLock};
+ghost use Rattle.txn_kv.specs.declared.request.PessimisticLockRequest.{PessimisticLockRequest};
 ghost use Rattle.txn_kv.specs.declared.request.CommitRequest.{CommitRequest};
 ghost use Rattle.txn_kv.specs.declared.request.BatchRollbackRequest.{BatchRollbackRequest};
+ghost use Rattle.txn_kv.specs.declared.reply.Reply.{Reply};
 ghost use Rattle.txn_kv.specs.declared.reply.Reply.TheVariants as reply;
 ghost use Rattle.txn_kv.specs.declared.reply.CommitResponse.{CommitResponse};
 ghost use Rattle.txn_kv.specs.declared.reply.BatchRollbackResponse.{BatchRollbackResponse};
 ghost use Rattle.txn_history.specs.Event.{Event, Has};
-ghost use Rattle.txn_history.specs.Event.Event.{Took};
+ghost use Rattle.txn_history.specs.Event.Event.{Served, Took};
 ghost use Rattle.txn_history.specs.Licence.{IsWithoutError, WasDecided, WasNamed, PrimaryCommitted, PrimaryRolledBack};
 ghost use Rattle.txn_history.specs.Plan.{Key, Content, Plan, has_key};
 ghost use Rattle.txn_model.specs.declared.cell.Lock.{Lock};
 ghost use Rattle.txn_model.specs.Cells.{cell_at};
 ghost use Rattle.txn_model.specs.Locks.{has_start, is_prewrite};
+ghost use Rattle.txn_law.specs.Part.{LocksForUpdate, WasGivenBack};
 ghost use Rattle.txn_law.specs.Run.{IsRun, store_after};
 ghost use Rattle.txn_law.specs.Whole.{FitsAnswers, IsWholeAt, IsAbsent, IsWholeOrAbsent, KeyCommitted};
 
@@ -58,6 +61,11 @@ pub fn whole_or_nothing()
     ensures no_lock { (plans : ℕ → Plan) (events : List Event) → IsRun plans events →
         (s : ℕ) → ((k : Key) (x : Content) → (plans s).writes k ≡ Some x → KeyCommitted events s k) →
         (k : Key) (l : Lock) → (cell_at (store_after events).cells k).lock ≡ Some l → is_prewrite l.kind ≡ true → l.start ≢ s }
+    // And no lock at all where each other key that a PessimisticLock of it named was given back.
+    ensures no_lock_left { (plans : ℕ → Plan) (events : List Event) → IsRun plans events →
+        (s : ℕ) → ((k : Key) (x : Content) → (plans s).writes k ≡ Some x → KeyCommitted events s k) →
+        ((k : Key) → (plans s).writes k ≡ None → ((t : Ticket) (q : PessimisticLockRequest) (o : Reply) → Has events (Served t (PessimisticLock q) o) → LocksForUpdate q s k → ⊥) ⊎ WasGivenBack events s k) →
+        (k : Key) (l : Lock) → (cell_at (store_after events).cells k).lock ≡ Some l → l.start ≢ s }
     // A commit timestamp that was sent is above its start.
     ensures above { (plans : ℕ → Plan) (events : List Event) → IsRun plans events →
         (s c : ℕ) → WasNamed (plans s) events s c → s < c }

@@ -1,4 +1,5 @@
 use Rattle.txn_law.proofs.Wholes.{law_decided, law_fits, law_whole, law_committed, law_rolled_back, law_rolled_stays, law_no_lock, law_above, law_named, law_one, law_unlocked, law_recorded}
+use Rattle.txn_law.proofs.Origins.{law_no_lock_left}
 use Rattle.txn_law.proofs.whole.whole_or_nothing.Goals as goal
 
 pub returns-clause-whole : goal.returns-clause-whole
@@ -36,3 +37,6 @@ returns-clause-fits c = law_fits
 
 pub returns-clause-decided : goal.returns-clause-decided
 returns-clause-decided c = law_decided
+
+pub returns-clause-no_lock_left : goal.returns-clause-no_lock_left
+returns-clause-no_lock_left c = law_no_lock_left
