@@ -201,6 +201,7 @@ module _ (es : List Event) (x : ℕ) (ls : List Line) (store : Store) (rows : Li
           puts = puts;
           own = sym own;
           asks = sent_is es tk (asked_at t.start p FindingRegion) fresh untaken none;
+          told = tt;
         })) (λ n first last e. only tk own n first last e (nat_eq n (suc (length ls))) refl);
         lone = lone_now Unfinished u (subst (λ z. CallCells store.cells u (Some call) z) (sym puts) (idle_cells Unfinished u t.status refl allowed));
         times = times_open outs ended Unfinished 0 (inl (refl, refl)) f.times;

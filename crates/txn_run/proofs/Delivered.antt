@@ -1,5 +1,6 @@
 -- A delivery leaves the lists where the history of the lines says.
-use Rattle.std.proofs.Common.{◌≡◌, ◌≢◌, ℕ, zero, suc, ◌+◌, ◌-◌, ◌^◌, ◌<◌, ◌≤◌, inl, inr, Bool, true, false, not, ◌&&◌, if◌then◌else◌, List, [], ◌∷◌, ◌++◌, Option, Some, None, length, set, slice_get, is_some, refl, sym, ap, ◌∙◌, subst, subst₂, arith, length-append}
+use Rattle.std.proofs.Common.{◌≡◌, ◌≢◌, ℕ, zero, suc, ◌+◌, ◌-◌, ◌^◌, ◌<◌, ◌≤◌, inl, inr, Bool, true, false, not, ◌&&◌, ◌||◌, if◌then◌else◌, List, [], ◌∷◌, ◌++◌, Option, Some, None, length, set, slice_get, is_some, nat_eq, refl, sym, ap, ◌∙◌, subst, subst₂, arith, length-append}
+use Rattle.std.proofs.lemmas.Bool.Decides.{nat_tests}
 use Rattle.txn_kv.specs.declared.request.Request.{Request}
 use Rattle.txn_kv.specs.declared.reply.Reply.{Reply}
 use Rattle.txn_kv.specs.declared.ticket.Ticket.{Ticket}
@@ -49,10 +50,30 @@ use Rattle.txn_run.specs.Lists.{AsksOne, request_at, handled, reply_at, start_in
 use Rattle.txn_run.specs.Rowed.{BeginAwaits, CommitAwaits, CallCells, StageCells, first_region, here, locked_cells}
 use Rattle.txn_run.proofs.Lists.{get_within, get_some}
 use Rattle.txn_run.proofs.Mails.{mail_delivered, sent_at}
-use Rattle.txn_run.proofs.Replies.{version_back, tso_store, tso_reply, region_reply, prewrite_table, commit_table}
+use Rattle.txn_run.proofs.Replies.{key_itself, version_back, tso_store, tso_reply, region_reply, prewrite_table, commit_table}
 use Rattle.txn_run.proofs.Deliveries.{fits_start, fits_sends, fits_ends}
 use Rattle.txn_run.proofs.Extends.{extends_set}
 use Rattle.txn_run.proofs.Stepped.{StandsSo, quiet_stands, next_is}
+use Rattle.txn_kv.specs.Versions.{version_of-timestamp_of}
+use Rattle.txn_kv.specs.declared.message.Op.TheVariants.{Put as Put_op}
+use Rattle.txn_kv.specs.declared.message.Assertion.TheVariants.{None as No_assertion}
+use Rattle.txn_kv.specs.declared.request.Request.TheVariants.{Commit as Commit_request}
+use Rattle.txn_kv.specs.declared.request.CommitRequest.{CommitRequest}
+use Rattle.txn_history.specs.Event.{Has}
+use Rattle.txn_history.specs.Licence.{AskedAfter, WasGiven, PrimaryCommitted, CommitLicence, IsLicensed}
+use Rattle.txn_history.specs.Plan.{Key, has_key}
+use Rattle.txn_law.specs.Lone.{lone_plan, PutsAlone}
+use Rattle.txn_law.specs.Run.{IsUnused, IsCovered}
+use Rattle.txn_law.proofs.Kept.{asked_ready}
+use Rattle.txn_law.proofs.Lone.{lone_prewrite, lone_ready, lone_commit}
+use Rattle.txn_law.proofs.Tickets.{unused}
+use Rattle.txn_run.specs.declared.transaction.Place.{Place}
+use Rattle.txn_run.specs.declared.transaction.Status.TheVariants.{StartedCommit}
+use Rattle.txn_run.specs.Commit.{prewrite_request, commit_request}
+use Rattle.txn_run.specs.Rowed.{StageAsked}
+use Rattle.txn_run.specs.Licensed.{is_last, is_committed, has_committed, WasCommitted, Licensed}
+use Rattle.txn_run.proofs.Lines.{row_within, row_same, row_other, row_put, outcome_same, one_begin}
+use Rattle.txn_run.proofs.Licences.{same_row, running_is, row_pushed, keeps_then, starts_then, settles_then, keeps_push, starts_push, settles_on, keeps_on, keeps_begun, starts_set, pushed_commit, set_commit, not_committed, agrees_back, was_kept, licensed_rows, licensed_sent, licensed_delivered}
 
 -- what a commit waits for asks for one timestamp at most
 asked_one : (start : ℕ) (put : Write) (stage : Stage) → AsksOne (asked_at start put stage)
@@ -61,6 +82,29 @@ asked_one start put (FindingStore place) = tt
 asked_one start put (Prewriting place) = tt
 asked_one start put (Stamping place) = refl
 asked_one start put (Stage_committing place c) = tt
+
+-- and is covered by the law
+asked_covered : (start : ℕ) (put : Write) (stage : Stage) → IsCovered (asked_at start put stage)
+asked_covered start put FindingRegion = tt
+asked_covered start put (FindingStore place) = tt
+asked_covered start put (Prewriting place) = tt
+asked_covered start put (Stamping place) = tt
+asked_covered start put (Stage_committing place c) = tt
+
+-- a Commit is sent at the last stage alone
+asked_last : (start : ℕ) (put : Write) (stage : Stage) (r : CommitRequest) → asked_at start put stage ≡ Commit_request r → is_last stage ≡ true
+asked_last start put FindingRegion r e = absurd (cc)
+asked_last start put (FindingStore place) r e = absurd (cc)
+asked_last start put (Prewriting place) r e = absurd (cc)
+asked_last start put (Stamping place) r e = absurd (cc)
+asked_last start put (Stage_committing place c) r e = refl
+
+-- a Prewrite puts the one key
+puts_alone : (start : ℕ) (put : Write) (place : Place) (k v : List ℕ) → put.key ≡ k → put.value ≡ v → PutsAlone (prewrite_request start put place).mutations k v
+puts_alone start put place k v f g = record { mutation = record { op = Put_op; key = put.key; value = put.value; assertion = No_assertion }; is = refl; op = refl; key = f; value = g }
+
+has_itself : (k : Key) → has_key (k ∷ []) k ≡ true
+has_itself k = let e = key_itself k in rw e refl
 
 -- A delivery that finds nothing to handle.
 
@@ -73,7 +117,7 @@ delivery_skipped ls rows outs t = record {
 }
 
 skips : (es : List Event) (l : Lists) (ls : List Line) (t : Ticket) → why_after ls (Deliver t) ≡ None → is_out es t && not (is_served es t) ≡ false → StandsAt es l ls → StandsSo (opened l Plain Skipped (length l.outcomes + 1)) (Deliver t ∷ ls)
-skips es l ls t good e s = quiet_stands es l (Deliver t) ls Skipped (length l.outcomes + 1) (next_is (length l.outcomes)) good refl (delivery_skipped ls l.rows l.outcomes t) (sym (ap (λ (b : Bool). if b then Done else Skipped) e)) s
+skips es l ls t good e s = quiet_stands es l (Deliver t) ls Skipped (length l.outcomes + 1) (next_is (length l.outcomes)) good refl refl (delivery_skipped ls l.rows l.outcomes t) (sym (ap (λ (b : Bool). if b then Done else Skipped) e)) s
 
 -- A delivery of the request at place p.
 module _ (es : List Event) (l : Lists) (ls : List Line) (t : Ticket) (p : ℕ) (good : why_after ls (Deliver t) ≡ None) (at : position l.tickets t ≡ Some p) (out : is_out es t ≡ true) (unserved : is_served es t ≡ false) (s : StandsAt es l ls) where
@@ -105,6 +149,9 @@ module _ (es : List Event) (l : Lists) (ls : List Line) (t : Ticket) (p : ℕ) (
   cause o' is =
       let both : is_out es t && not (is_served es t) ≡ true = rw (out, unserved) refl in
       is ∙ sym (ap (λ (b : Bool). if b then Done else Skipped) both)
+
+  delivered : Licensed (Took t (request_at l.sent p) (table l.store (request_at l.sent p)).reply ∷ Served t (request_at l.sent p) (table l.store (request_at l.sent p)).reply ∷ es) l.rows l.outcomes
+  delivered = licensed_delivered es l.rows l.outcomes t (request_at l.sent p) (table l.store (request_at l.sent p)).reply asked (ap (λ st. (table st (request_at l.sent p)).reply) s.mail.stored) s.licensed
 
   -- The lists once the request is handled.
   handling : Lists
@@ -163,8 +210,28 @@ module _ (es : List Event) (l : Lists) (ls : List Line) (t : Ticket) (p : ℕ) (
             (cause (outcome_of l2.outcomes (suc (length ls))) (outcome_other l1.outcomes t.line (suc (length ls)) (Ok (Number n)) a1 apart ∙ newest_done))
             (mail_ended (Took t (request_at l.sent p) (table l.store (request_at l.sent p)).reply ∷ Served t (request_at l.sent p) (table l.store (request_at l.sent p)).reply ∷ es) (Deliver t ∷ ls) (table l.store (request_at l.sent p)).store l.sent (set l.letters p (record { served = true; gone = true })) (l.tickets ++ [] ∷ []) (l.outcomes ++ Done ∷ []) (l.served ++ t ∷ []) (t.line - 1) (Ok (Number n)) (vacant t.line a1 a2 h.waits) refl mail)
             (subst (λ e. Fits (Took t (request_at l.sent p) (table l.store (request_at l.sent p)).reply ∷ Served t (request_at l.sent p) (table l.store (request_at l.sent p)).reply ∷ es) (Deliver t ∷ ls) (table l.store (request_at l.sent p)).store (set (l.rows ++ Plain ∷ []) (t.line - 1) (Running new)) (set (l.outcomes ++ Done ∷ []) (t.line - 1) (Ok (Number n))) (set (l.ended ++ e ∷ []) (t.line - 1) (length (l.outcomes ++ Done ∷ [])))) (sym (next_is (length l.outcomes))) fits')
-            s.asks,
+            s.asks
+            (begun_licensed n b is (ap (λ q. (table l.store q).reply) is ∙ tso_reply l.store lone.clock)),
       )
+    where
+      begun_licensed : (n : ℕ) → BeginAwaits es l.rows t → (request_at l.sent p) ≡ ask_one → (table l.store (request_at l.sent p)).reply ≡ Gave (record { count = 1; timestamp = Some (timestamp_of n) })
+          → Licensed (Took t (request_at l.sent p) (table l.store (request_at l.sent p)).reply ∷ Served t (request_at l.sent p) (table l.store (request_at l.sent p)).reply ∷ es) (set (l.rows ++ Plain ∷ []) (t.line - 1) (Running (record { start = n; status = Active; put = None; call = None }))) (set (l.outcomes ++ Done ∷ []) (t.line - 1) (Ok (Number n)))
+      begun_licensed n b is gave =
+          let new : Transaction = record { start = n; status = Active; put = None; call = None } in
+          let rows1 : List Row = l.rows ++ Plain ∷ [] in
+          let at1 : row_at (l.rows ++ Plain ∷ []) t.line ≡ Some Beginning = row_stays t.line Beginning b.row in
+          let keeps = keeps_then l.rows rows1 (set rows1 (t.line - 1) (Running new)) (keeps_push l.rows Plain) (keeps_begun rows1 t.line new at1) in
+          let h = delivered in
+          let version = version_of-timestamp_of n in
+          record {
+            run = λ k v g. h.run k v (agrees_back l.rows (set rows1 (t.line - 1) (Running new)) k v keeps.settles g);
+            given = λ x u e. elim (row_put rows1 t.line x (Running new) (Running u) Beginning at1 e) [
+              | inl a ↦ subst (λ (z : Transaction). WasGiven (Took t (request_at l.sent p) (table l.store (request_at l.sent p)).reply ∷ Served t (request_at l.sent p) (table l.store (request_at l.sent p)).reply ∷ es) z.start) (running_is new u a.1) (t, record { count = 1 }, record { count = 1; timestamp = Some (timestamp_of n) }, n, inl (λ i. Took t (is i) (gave i)), (timestamp_of n, refl, omega arith, omega arith), omega arith)
+              | inr a ↦ (let w = starts_push l.rows Plain (λ v q. cc) x u a.1 in subst (λ m. WasGiven (Took t (request_at l.sent p) (table l.store (request_at l.sent p)).reply ∷ Served t (request_at l.sent p) (table l.store (request_at l.sent p)).reply ∷ es) m) (sym w.2) (h.given x w.0 w.1))
+            ];
+            owned = λ u r q. let w = h.owned u r q in (w.0, w.1, keeps.stays w.0 w.1 w.2 w.3, w.3);
+            answered = λ m c e. was_kept (Took t (request_at l.sent p) (table l.store (request_at l.sent p)).reply ∷ Served t (request_at l.sent p) (table l.store (request_at l.sent p)).reply ∷ es) l.rows (set rows1 (t.line - 1) (Running new)) keeps.stays c (h.answered m c (pushed_commit l.outcomes Done m c refl (set_commit (l.outcomes ++ Done ∷ []) (t.line - 1) (Ok (Number n)) m c refl e)));
+          }
 
   -- A commit is answered.
   module _ (a : CommitAwaits es l.rows t) where
@@ -195,10 +262,22 @@ module _ (es : List Event) (l : Lists) (ls : List Line) (t : Ticket) (p : ℕ) (
     within_line : (1 ≤ t.line) × (t.line ≤ length ls)
     within_line = subst (λ n. (1 ≤ n) × (n ≤ length ls)) a.own (line_within ls a.call.line (Commit a.x) calls.line)
 
+    -- its Commit is still to be sent
+    waiting : is_last a.call.stage ≡ false → has_committed a.t ≡ false
+    waiting e = let k = calls in not_committed a.t (Some a.call) StartedCommit a.calls k.started e refl
+
+    has_begun : a.t.status ≢ Active
+    has_begun e = let k = calls in let z = k.started in cc
+
+    opened_at : row_at (l.rows ++ Plain ∷ []) a.x ≡ Some (Running a.t)
+    opened_at = row_stays a.x (Running a.t) a.running
+
     -- it sends its next request
-    goes : (stage : Stage) (to : Target) → (table l.store (request_at l.sent p)).store.regions ≡ l.store.regions → (table l.store (request_at l.sent p)).store.clock ≡ l.store.clock → (table l.store (request_at l.sent p)).store.last ≤ suc (length l.outcomes) → StageCells (table l.store (request_at l.sent p)).store.cells a.t.start a.put stage
+    goes : (stage : Stage) (to : Target) → is_last a.call.stage ≡ false
+        → ((k : Key) (v : List ℕ) → a.put.key ≡ k → a.put.value ≡ v → IsLicensed (λ z. lone_plan k v) (Took t (request_at l.sent p) (table l.store (request_at l.sent p)).reply ∷ Served t (request_at l.sent p) (table l.store (request_at l.sent p)).reply ∷ es) (asked_at a.t.start a.put stage))
+        → ((tk : Ticket) → StageAsked (Sent tk (asked_at a.t.start a.put stage) ∷ Took t (request_at l.sent p) (table l.store (request_at l.sent p)).reply ∷ Served t (request_at l.sent p) (table l.store (request_at l.sent p)).reply ∷ es) a.t.start a.put stage tk) → (table l.store (request_at l.sent p)).store.regions ≡ l.store.regions → (table l.store (request_at l.sent p)).store.clock ≡ l.store.clock → (table l.store (request_at l.sent p)).store.last ≤ suc (length l.outcomes) → StageCells (table l.store (request_at l.sent p)).store.cells a.t.start a.put stage
         → stage_turned a.t a.call.line a.call.stage (reply_at l p) ≡ sends (at_stage a.t a.call.line stage) to (asked_at a.t.start a.put stage) → StandsSo (passed (handled (opened l Plain Done (length l.outcomes + 1)) p t) t.line (reply_at l p)) (Deliver t ∷ ls)
-    goes stage to regions clock last now turn =
+    goes stage to early licence told regions clock last now turn =
         let l1 : Lists = handled (opened l Plain Done (length l.outcomes + 1)) p t in
         let u : Transaction = at_stage a.t a.call.line stage in
         let q : Request = asked_at a.t.start a.put stage in
@@ -210,7 +289,7 @@ module _ (es : List Event) (l : Lists) (ls : List Line) (t : Ticket) (p : ℕ) (
         let a2 = w.1 in
         let a3 = mail.rowed in
         let a4 = longer in
-        let fits' = fits_sends es t (request_at l.sent p) (table l.store (request_at l.sent p)).reply ls l.store l.rows l.outcomes l.ended good out s.fits a stage tk (table l.store (request_at l.sent p)).store regions clock last now (sym a.own) refl fresh (mail.unsent tk fresh).1 in
+        let fits' = fits_sends es t (request_at l.sent p) (table l.store (request_at l.sent p)).reply ls l.store l.rows l.outcomes l.ended good out s.fits a stage tk (table l.store (request_at l.sent p)).store regions clock last now (sym a.own) refl fresh (mail.unsent tk fresh).1 (told tk) in
         subst (λ z. StandsSo z (Deliver t ∷ ls)) (sym (passes (sends u to q) turn)) (
           Sent tk q ∷ Took t (request_at l.sent p) (table l.store (request_at l.sent p)).reply ∷ Served t (request_at l.sent p) (table l.store (request_at l.sent p)).reply ∷ es,
           close es (Sent tk q ∷ Took t (request_at l.sent p) (table l.store (request_at l.sent p)).reply ∷ Served t (request_at l.sent p) (table l.store (request_at l.sent p)).reply ∷ es) l l2 (Deliver t) ls s
@@ -218,13 +297,30 @@ module _ (es : List Event) (l : Lists) (ls : List Line) (t : Ticket) (p : ℕ) (
               (cause (outcome_of l2.outcomes (suc (length ls))) newest_done)
               (mail_sent (Took t (request_at l.sent p) (table l.store (request_at l.sent p)).reply ∷ Served t (request_at l.sent p) (table l.store (request_at l.sent p)).reply ∷ es) (Deliver t) ls (table l.store (request_at l.sent p)).store l.sent (set l.letters p (record { served = true; gone = true })) (l.tickets ++ [] ∷ []) (l.outcomes ++ Done ∷ []) (l.served ++ t ∷ []) t.line to q a1 (omega arith) mail)
               (subst (λ e. Fits (Sent tk q ∷ Took t (request_at l.sent p) (table l.store (request_at l.sent p)).reply ∷ Served t (request_at l.sent p) (table l.store (request_at l.sent p)).reply ∷ es) (Deliver t ∷ ls) (table l.store (request_at l.sent p)).store (set (l.rows ++ Plain ∷ []) (a.x - 1) (Running u)) (l.outcomes ++ Done ∷ []) (l.ended ++ e ∷ [])) (sym (next_is (length l.outcomes))) fits')
-              (asks_push l.sent (note_of l1.tickets t.line (length l1.outcomes) to q) s.asks (asked_one a.t.start a.put stage)),
+              (asks_push l.sent (note_of l1.tickets t.line (length l1.outcomes) to q) s.asks (asked_one a.t.start a.put stage))
+              (sent_licensed stage tk early licence (unused (Took t (request_at l.sent p) (table l.store (request_at l.sent p)).reply ∷ Served t (request_at l.sent p) (table l.store (request_at l.sent p)).reply ∷ es) tk fresh)),
         )
+      where
+        sent_licensed : (stage : Stage) (tk : Ticket) → is_last a.call.stage ≡ false
+            → ((k : Key) (v : List ℕ) → a.put.key ≡ k → a.put.value ≡ v → IsLicensed (λ z. lone_plan k v) (Took t (request_at l.sent p) (table l.store (request_at l.sent p)).reply ∷ Served t (request_at l.sent p) (table l.store (request_at l.sent p)).reply ∷ es) (asked_at a.t.start a.put stage)) → IsUnused (Took t (request_at l.sent p) (table l.store (request_at l.sent p)).reply ∷ Served t (request_at l.sent p) (table l.store (request_at l.sent p)).reply ∷ es) tk
+            → Licensed (Sent tk (asked_at a.t.start a.put stage) ∷ Took t (request_at l.sent p) (table l.store (request_at l.sent p)).reply ∷ Served t (request_at l.sent p) (table l.store (request_at l.sent p)).reply ∷ es) (set (l.rows ++ Plain ∷ []) (a.x - 1) (Running (at_stage a.t a.call.line stage))) (l.outcomes ++ Done ∷ [])
+        sent_licensed stage tk early licence free =
+            let u : Transaction = at_stage a.t a.call.line stage in
+            let rows1 : List Row = l.rows ++ Plain ∷ [] in
+            let rows2 : List Row = set rows1 (a.x - 1) (Running u) in
+            let now : row_at rows2 a.x ≡ Some (Running u) = row_same rows1 a.x (Running u) (Running a.t) opened_at in
+            licensed_sent (Took t (request_at l.sent p) (table l.store (request_at l.sent p)).reply ∷ Served t (request_at l.sent p) (table l.store (request_at l.sent p)).reply ∷ es) rows2 (l.outcomes ++ Done ∷ []) tk (asked_at a.t.start a.put stage) free (asked_covered a.t.start a.put stage)
+            (λ k v g. let z = g a.x u a.put now a.puts has_begun in licence k v z.0 z.1)
+            (λ r e. (a.x, u, now, ap (λ z. z || is_committed a.t.status) (asked_last a.t.start a.put stage r e)))
+            (licensed_rows (Took t (request_at l.sent p) (table l.store (request_at l.sent p)).reply ∷ Served t (request_at l.sent p) (table l.store (request_at l.sent p)).reply ∷ es) l.rows rows2 l.outcomes (l.outcomes ++ Done ∷ [])
+            (keeps_then l.rows rows1 rows2 (keeps_push l.rows Plain) (keeps_on rows1 a.x a.t u opened_at refl has_begun (waiting early)))
+            (starts_then l.rows rows1 rows2 (starts_push l.rows Plain (λ w e. cc)) (starts_set rows1 a.x a.t u opened_at refl))
+            (λ n c e. pushed_commit l.outcomes Done n c refl e) delivered)
 
     -- it is over
-    is_over : (c : ℕ) → (table l.store (request_at l.sent p)).store.regions ≡ l.store.regions → (table l.store (request_at l.sent p)).store.clock ≡ l.store.clock → (table l.store (request_at l.sent p)).store.last ≤ suc (length l.outcomes)
+    is_over : (c : ℕ) → PrimaryCommitted (lone_plan a.put.key a.put.value) (Took t (request_at l.sent p) (table l.store (request_at l.sent p)).reply ∷ Served t (request_at l.sent p) (table l.store (request_at l.sent p)).reply ∷ es) a.t.start c → (table l.store (request_at l.sent p)).store.regions ≡ l.store.regions → (table l.store (request_at l.sent p)).store.clock ≡ l.store.clock → (table l.store (request_at l.sent p)).store.last ≤ suc (length l.outcomes)
         → stage_turned a.t a.call.line a.call.stage (reply_at l p) ≡ ends (record a.t { status = Committed }) (Ok (Committed_at (Some c))) → StandsSo (passed (handled (opened l Plain Done (length l.outcomes + 1)) p t) t.line (reply_at l p)) (Deliver t ∷ ls)
-    is_over c regions clock last turn =
+    is_over c was regions clock last turn =
         let l1 : Lists = handled (opened l Plain Done (length l.outcomes + 1)) p t in
         let u : Transaction = record a.t { status = Committed; call = None } in
         let v : Outcome = Ok (Committed_at (Some c)) in
@@ -247,8 +343,58 @@ module _ (es : List Event) (l : Lists) (ls : List Line) (t : Ticket) (p : ℕ) (
               (cause (outcome_of l2.outcomes (suc (length ls))) (outcome_other l1.outcomes t.line (suc (length ls)) v a1 apart ∙ newest_done))
               (mail_ended (Took t (request_at l.sent p) (table l.store (request_at l.sent p)).reply ∷ Served t (request_at l.sent p) (table l.store (request_at l.sent p)).reply ∷ es) (Deliver t ∷ ls) (table l.store (request_at l.sent p)).store l.sent (set l.letters p (record { served = true; gone = true })) (l.tickets ++ [] ∷ []) (l.outcomes ++ Done ∷ []) (l.served ++ t ∷ []) (t.line - 1) v (vacant t.line a1 a2 waits_at) refl mail)
               (subst₂ (λ e n. Fits (Took t (request_at l.sent p) (table l.store (request_at l.sent p)).reply ∷ Served t (request_at l.sent p) (table l.store (request_at l.sent p)).reply ∷ es) (Deliver t ∷ ls) (table l.store (request_at l.sent p)).store (set (l.rows ++ Plain ∷ []) (a.x - 1) (Running u)) (set (l.outcomes ++ Done ∷ []) (n - 1) (Ok (Committed_at (Some c)))) (set (l.ended ++ e ∷ []) (n - 1) (length (l.outcomes ++ Done ∷ [])))) (sym (next_is (length l.outcomes))) a.own fits')
-              s.asks,
+              s.asks
+              (over_licensed c was a1 (let z = longer in omega arith)),
         )
+      where
+        over_licensed : (c : ℕ) → PrimaryCommitted (lone_plan a.put.key a.put.value) (Took t (request_at l.sent p) (table l.store (request_at l.sent p)).reply ∷ Served t (request_at l.sent p) (table l.store (request_at l.sent p)).reply ∷ es) a.t.start c → 1 ≤ t.line → t.line ≤ length (l.outcomes ++ Done ∷ [])
+            → Licensed (Took t (request_at l.sent p) (table l.store (request_at l.sent p)).reply ∷ Served t (request_at l.sent p) (table l.store (request_at l.sent p)).reply ∷ es) (set (l.rows ++ Plain ∷ []) (a.x - 1) (Running (record a.t { status = Committed; call = None }))) (set (l.outcomes ++ Done ∷ []) (t.line - 1) (Ok (Committed_at (Some c))))
+        over_licensed c was first last =
+            let u : Transaction = record a.t { status = Committed; call = None } in
+            let rows1 : List Row = l.rows ++ Plain ∷ [] in
+            let rows2 : List Row = set rows1 (a.x - 1) (Running u) in
+            let h = delivered in
+            let now : row_at rows2 a.x ≡ Some (Running u) = row_same rows1 a.x (Running u) (Running a.t) opened_at in
+            let keeps = keeps_push l.rows Plain in
+            record {
+              run = λ k v g. h.run k v (agrees_back l.rows rows2 k v (settles_then l.rows rows1 rows2 keeps.settles (settles_on rows1 a.x a.t u opened_at refl (λ e. cc))) g);
+              given = λ y w e. let z = starts_then l.rows rows1 rows2 (starts_push l.rows Plain (λ v q. cc)) (starts_set rows1 a.x a.t u opened_at refl) y w e in subst (λ m. WasGiven (Took t (request_at l.sent p) (table l.store (request_at l.sent p)).reply ∷ Served t (request_at l.sent p) (table l.store (request_at l.sent p)).reply ∷ es) m) (sym z.2) (h.given y z.0 z.1);
+              owned = λ w r q. (a.x, u, now, refl);
+              answered = λ n d e. by_place n d now e (nat_eq n t.line) refl;
+            }
+          where
+            committed_is : (d : ℕ) → ◌≡◌ {A = Outcome} (Ok (Committed_at (Some c))) (Ok (Committed_at (Some d))) → c ≡ d
+            committed_is d e = cc
+
+            apart : (y : ℕ) (w : Transaction) → row_at l.rows y ≡ Some (Running w) → w.status ≡ Committed → y ≢ a.x
+            apart y w e over is =
+                let same = running_is w a.t (same_row (Running w) (Running a.t) (sym (subst (λ i. row_at l.rows i ≡ Some (Running w)) is e) ∙ a.running)) in
+                let k = calls in
+                let z : Committed ≡ StartedCommit = sym over ∙ ap (λ v. v.status) same ∙ k.started in
+                cc
+
+            kept : (d : ℕ) → WasCommitted (Took t (request_at l.sent p) (table l.store (request_at l.sent p)).reply ∷ Served t (request_at l.sent p) (table l.store (request_at l.sent p)).reply ∷ es) l.rows d → WasCommitted (Took t (request_at l.sent p) (table l.store (request_at l.sent p)).reply ∷ Served t (request_at l.sent p) (table l.store (request_at l.sent p)).reply ∷ es) (set (l.rows ++ Plain ∷ []) (a.x - 1) (Running (record a.t { status = Committed; call = None }))) d
+            kept d w = record {
+              x = w.x;
+              t = w.t;
+              put = w.put;
+              running = row_other (l.rows ++ Plain ∷ []) a.x w.x (Running (record a.t { status = Committed; call = None })) (row_within l.rows a.x (Running a.t) a.running).0 (apart w.x w.t w.running w.over) ∙ row_pushed l.rows Plain (Running w.t) w.x w.running;
+              puts = w.puts;
+              over = w.over;
+              told = w.told;
+            }
+
+            by_place : (n d : ℕ) → row_at (set (l.rows ++ Plain ∷ []) (a.x - 1) (Running (record a.t { status = Committed; call = None }))) a.x ≡ Some (Running (record a.t { status = Committed; call = None }))
+                → outcome_of (set (l.outcomes ++ Done ∷ []) (t.line - 1) (Ok (Committed_at (Some c)))) n ≡ Ok (Committed_at (Some d)) → (b : Bool) → nat_eq n t.line ≡ b
+                → WasCommitted (Took t (request_at l.sent p) (table l.store (request_at l.sent p)).reply ∷ Served t (request_at l.sent p) (table l.store (request_at l.sent p)).reply ∷ es) (set (l.rows ++ Plain ∷ []) (a.x - 1) (Running (record a.t { status = Committed; call = None }))) d
+            by_place n d now e true q =
+                let is : n ≡ t.line = grind (arith, nat_tests) in
+                let same = committed_is d (sym (outcome_same (l.outcomes ++ Done ∷ []) t.line (Ok (Committed_at (Some c))) first last) ∙ subst (λ i. outcome_of (set (l.outcomes ++ Done ∷ []) (t.line - 1) (Ok (Committed_at (Some c)))) i ≡ Ok (Committed_at (Some d))) is e) in
+                record { x = a.x; t = record a.t { status = Committed; call = None }; put = a.put; running = now; puts = a.puts; over = refl; told = subst (λ m. PrimaryCommitted (lone_plan a.put.key a.put.value) (Took t (request_at l.sent p) (table l.store (request_at l.sent p)).reply ∷ Served t (request_at l.sent p) (table l.store (request_at l.sent p)).reply ∷ es) a.t.start m) same was }
+            by_place n d now e false q =
+                let elsewhere : n ≢ t.line = grind (arith, nat_tests) in
+                let h = delivered in
+                kept d (h.answered n d (pushed_commit l.outcomes Done n d refl (sym (outcome_other (l.outcomes ++ Done ∷ []) t.line n (Ok (Committed_at (Some c))) first elsewhere) ∙ e)))
 
     commit_answered : StandsSo (passed (handled (opened l Plain Done (length l.outcomes + 1)) p t) t.line (reply_at l p)) (Deliver t ∷ ls)
     commit_answered = by_stage a.call.stage refl
@@ -256,20 +402,44 @@ module _ (es : List Event) (l : Lists) (ls : List Line) (t : Ticket) (p : ℕ) (
         same_regions : (q : Request) → request_at l.sent p ≡ q → (table l.store q).store.regions ≡ l.store.regions → (table l.store (request_at l.sent p)).store.regions ≡ l.store.regions
         same_regions q e h = ap (λ z. (table l.store z).store.regions) e ∙ h
 
+        -- no Commit was sent before
+        unsent_commit : (place : Place) → a.call.stage ≡ Stamping place → (u : Ticket) (r : CommitRequest) → Has (Took t (request_at l.sent p) (table l.store (request_at l.sent p)).reply ∷ Served t (request_at l.sent p) (table l.store (request_at l.sent p)).reply ∷ es) (Sent u (Commit_request r)) → ⊥
+        unsent_commit place e u r q =
+            let h = delivered in
+            let w = h.owned u r q in
+            let k = s.fits.rowed.fits w.0 (Running w.1) w.2 in
+            let j = s.fits.rowed.fits a.x (Running a.t) a.running in
+            let is = one_begin ls w.0 a.x k.client j.client s.fits.good k.line j.line in
+            let same = running_is w.1 a.t (same_row (Running w.1) (Running a.t) (sym (subst (λ i. row_at l.rows i ≡ Some (Running w.1)) is w.2) ∙ a.running)) in
+            let z : true ≡ false = sym w.3 ∙ ap has_committed same ∙ waiting (ap is_last e) in
+            cc
+
+        stamped_licence : (place : Place) (n : ℕ) (k : Key) (v : List ℕ) → a.call.stage ≡ Stamping place → (request_at l.sent p) ≡ ask_one → (table l.store (request_at l.sent p)).reply ≡ Gave (record { count = 1; timestamp = Some (timestamp_of n) }) → a.put.key ≡ k → a.put.value ≡ v
+            → CommitLicence (lone_plan k v) (Took t (request_at l.sent p) (table l.store (request_at l.sent p)).reply ∷ Served t (request_at l.sent p) (table l.store (request_at l.sent p)).reply ∷ es) (commit_request a.t.start a.put place n)
+        stamped_licence place n k v e is gave f g =
+            let asked_then : AskedAfter (lone_plan a.put.key a.put.value) es a.t.start t = subst (λ z. StageAsked es a.t.start a.put z t) e a.told in
+            let after : AskedAfter (lone_plan k v) (Took t (request_at l.sent p) (table l.store (request_at l.sent p)).reply ∷ Served t (request_at l.sent p) (table l.store (request_at l.sent p)).reply ∷ es) a.t.start t = inr (inr (subst₂ (λ i j. AskedAfter (lone_plan i j) es a.t.start t) f g asked_then)) in
+            let version = version_of-timestamp_of n in
+            lone_commit k v (Took t (request_at l.sent p) (table l.store (request_at l.sent p)).reply ∷ Served t (request_at l.sent p) (table l.store (request_at l.sent p)).reply ∷ es) (commit_request a.t.start a.put place n) (ap (λ z. z ∷ []) f) (record {
+              ready = (asked_ready (lone_plan k v) (Took t (request_at l.sent p) (table l.store (request_at l.sent p)).reply ∷ Served t (request_at l.sent p) (table l.store (request_at l.sent p)).reply ∷ es) a.t.start t after).0;
+              asked = (t, record { count = 1 }, record { count = 1; timestamp = Some (timestamp_of n) }, after, inl (λ i. Took t (is i) (gave i)), (timestamp_of n, refl, omega arith, omega arith));
+              same = λ d w. absurd (unsent_commit place e w.0 w.1 w.2);
+            })
+
         by_stage : (stage : Stage) → a.call.stage ≡ stage → StandsSo (passed (handled (opened l Plain Done (length l.outcomes + 1)) p t) t.line (reply_at l p)) (Deliver t ∷ ls)
         by_stage FindingRegion e =
             let is : request_at l.sent p ≡ asked_at a.t.start a.put FindingRegion = asks ∙ ap (λ z. asked_at a.t.start a.put z) e in
             let none : l.store.cells ≡ [] = subst (λ z. StageCells l.store.cells a.t.start a.put z) e cells in
             let stored : (table l.store (request_at l.sent p)).store ≡ l.store = ap (λ q. (table l.store q).store) is in
             let replied : reply_at l p ≡ Got_region (record { region = Some (region_record first_region); leader = Some (leader_of first_region) }) = ap (λ q. (table l.store q).reply) is ∙ region_reply l.store _ s.fits.lone.regions in
-            goes (FindingStore here) Placement (ap (λ z. z.regions) stored) (ap (λ z. z.clock) stored) (let b = ap (λ z. z.last) stored in let c = s.fits.lone.last in omega arith) (ap (λ z. z.cells) stored ∙ none, refl)
+            goes (FindingStore here) Placement (ap is_last e) (λ k v f g. tt) (λ tk. tt) (ap (λ z. z.regions) stored) (ap (λ z. z.clock) stored) (let b = ap (λ z. z.last) stored in let c = s.fits.lone.last in omega arith) (ap (λ z. z.cells) stored ∙ none, refl)
             (ap (λ z. stage_turned a.t a.call.line z (reply_at l p)) e ∙ ap (λ z. stage_turned a.t a.call.line FindingRegion z) replied)
         by_stage (FindingStore place) e =
             let is : request_at l.sent p ≡ asked_at a.t.start a.put (FindingStore place) = asks ∙ ap (λ z. asked_at a.t.start a.put z) e in
             let held = subst (λ z. StageCells l.store.cells a.t.start a.put z) e cells in
             let stored : (table l.store (request_at l.sent p)).store ≡ l.store = ap (λ q. (table l.store q).store) is in
             let replied : reply_at l p ≡ Got_store (record { store = store_with_id l.store.stores place.store }) = ap (λ q. (table l.store q).reply) is in
-            goes (Prewriting place) (To_store place.store) (ap (λ z. z.regions) stored) (ap (λ z. z.clock) stored) (let b = ap (λ z. z.last) stored in let c = s.fits.lone.last in omega arith) (ap (λ z. z.cells) stored ∙ held.0, held.1)
+            goes (Prewriting place) (To_store place.store) (ap is_last e) (λ k v f g. lone_prewrite k v (Took t (request_at l.sent p) (table l.store (request_at l.sent p)).reply ∷ Served t (request_at l.sent p) (table l.store (request_at l.sent p)).reply ∷ es) (prewrite_request a.t.start a.put place) f (puts_alone a.t.start a.put place k v f g)) (λ tk. tt) (ap (λ z. z.regions) stored) (ap (λ z. z.clock) stored) (let b = ap (λ z. z.last) stored in let c = s.fits.lone.last in omega arith) (ap (λ z. z.cells) stored ∙ held.0, held.1)
             (ap (λ z. stage_turned a.t a.call.line z (reply_at l p)) e ∙ ap (λ z. stage_turned a.t a.call.line (FindingStore place) z) replied ∙ ap (λ z. found_store a.t a.call.line place z) a.puts)
         by_stage (Prewriting place) e =
             let held = subst (λ z. StageCells l.store.cells a.t.start a.put z) e cells in
@@ -277,7 +447,9 @@ module _ (es : List Event) (l : Lists) (ls : List Line) (t : Ticket) (p : ℕ) (
             let done = prewrite_table l.store a.t.start a.put s.fits.lone.regions held.0 in
             let stored : (table l.store (request_at l.sent p)).store ≡ record l.store { cells = locked_cells a.t.start a.put } = ap (λ q. (table l.store q).store) is ∙ ap (λ z. z.store) done in
             let replied : reply_at l p ≡ Prewrote (record { region_error = None; errors = []; min_commit_ts = 0; one_pc_commit_ts = 0 }) = ap (λ q. (table l.store q).reply) is ∙ ap (λ z. z.reply) done in
-            goes (Stamping place) Placement (ap (λ z. z.regions) stored) (ap (λ z. z.clock) stored) (let b = ap (λ z. z.last) stored in let c = s.fits.lone.last in omega arith) (ap (λ z. z.cells) stored, held.1)
+            goes (Stamping place) Placement (ap is_last e) (λ k v f g. tt)
+            (λ tk. inl (record { count = 1 }, refl, lone_ready a.put.key a.put.value (Took t (request_at l.sent p) (table l.store (request_at l.sent p)).reply ∷ Served t (request_at l.sent p) (table l.store (request_at l.sent p)).reply ∷ es) a.t.start t (prewrite_request a.t.start a.put here) (record { region_error = None; errors = []; min_commit_ts = 0; one_pc_commit_ts = 0 }) (inl (λ i. Took t (is i) (replied i))) (refl, refl) refl (puts_alone a.t.start a.put here a.put.key a.put.value refl refl), (let h = delivered in h.given a.x a.t a.running)))
+            (ap (λ z. z.regions) stored) (ap (λ z. z.clock) stored) (let b = ap (λ z. z.last) stored in let c = s.fits.lone.last in omega arith) (ap (λ z. z.cells) stored, held.1)
             (ap (λ z. stage_turned a.t a.call.line z (reply_at l p)) e ∙ ap (λ z. stage_turned a.t a.call.line (Prewriting place) z) replied)
         by_stage (Stamping place) e =
             let held = subst (λ z. StageCells l.store.cells a.t.start a.put z) e cells in
@@ -287,7 +459,7 @@ module _ (es : List Event) (l : Lists) (ls : List Line) (t : Ticket) (p : ℕ) (
             let small : n < 2 ^ 64 = (let b = lone.last in let c = lone.few in omega arith) in
             let stored : (table l.store (request_at l.sent p)).store ≡ record l.store { last = l.store.last + 1 } = ap (λ q. (table l.store q).store) is ∙ tso_store l.store lone.clock in
             let replied : reply_at l p ≡ Gave (record { count = 1; timestamp = Some (timestamp_of (l.store.last + 1)) }) = ap (λ q. (table l.store q).reply) is ∙ tso_reply l.store lone.clock in
-            goes (Stage_committing place n) (To_store place.store) (ap (λ z. z.regions) stored) (ap (λ z. z.clock) stored) (let b = ap (λ z. z.last) stored in let c = lone.last in omega arith) (ap (λ z. z.cells) stored ∙ held.0, held.1)
+            goes (Stage_committing place n) (To_store place.store) (ap is_last e) (λ k v f g. stamped_licence place n k v e is replied f g) (λ tk. tt) (ap (λ z. z.regions) stored) (ap (λ z. z.clock) stored) (let b = ap (λ z. z.last) stored in let c = lone.last in omega arith) (ap (λ z. z.cells) stored ∙ held.0, held.1)
             (ap (λ z. stage_turned a.t a.call.line z (reply_at l p)) e ∙ ap (λ z. stage_turned a.t a.call.line (Stamping place) z) replied ∙ ap (λ z. stamped a.t a.call.line place a.t.put z) (version_back n small) ∙ ap (λ z. stamped a.t a.call.line place z (Some n)) a.puts)
         by_stage (Stage_committing place c) e =
             let held = subst (λ z. StageCells l.store.cells a.t.start a.put z) e cells in
@@ -295,7 +467,7 @@ module _ (es : List Event) (l : Lists) (ls : List Line) (t : Ticket) (p : ℕ) (
             let done = commit_table l.store a.t.start a.put c s.fits.lone.regions held.0 in
             let stored : (table l.store (request_at l.sent p)).store ≡ record l.store { cells = done.0 } = ap (λ q. (table l.store q).store) is ∙ ap (λ z. z.store) done.1 in
             let replied : reply_at l p ≡ Committed_reply (record { region_error = None; error = None; commit_version = c }) = ap (λ q. (table l.store q).reply) is ∙ ap (λ z. z.reply) done.1 in
-            is_over c (ap (λ z. z.regions) stored) (ap (λ z. z.clock) stored) (let b = ap (λ z. z.last) stored in let d = s.fits.lone.last in omega arith)
+            is_over c (t, commit_request a.t.start a.put here c, record { region_error = None; error = None; commit_version = c }, inl (λ i. Took t (is i) (replied i)), (refl, refl), refl, refl, has_itself a.put.key) (ap (λ z. z.regions) stored) (ap (λ z. z.clock) stored) (let b = ap (λ z. z.last) stored in let d = s.fits.lone.last in omega arith)
             (ap (λ z. stage_turned a.t a.call.line z (reply_at l p)) e ∙ ap (λ z. stage_turned a.t a.call.line (Stage_committing place c) z) replied)
 
 -- Any delivery.

@@ -23,7 +23,7 @@ use Rattle.txn_run.specs.Commit.{at_stage}
 use Rattle.txn_run.specs.Lists.{row_at}
 use Rattle.txn_run.specs.Script.{outcome_of}
 use Rattle.txn_run.specs.Causes.{is_unfinished, is_skipped, is_commit_at, is_call_of}
-use Rattle.txn_run.specs.Rowed.{AreGood, CommitFits, CallFits, RunningFits, BeginningFits, Rowed, BeginAwaits, CommitAwaits, asked_at, CallCells, StageCells, Lone, Times, Fits}
+use Rattle.txn_run.specs.Rowed.{AreGood, CommitFits, CallFits, RunningFits, BeginningFits, Rowed, BeginAwaits, CommitAwaits, StageAsked, asked_at, CallCells, StageCells, Lone, Times, Fits}
 use Rattle.txn_run.proofs.Knowns.{times_open, times_set}
 use Rattle.txn_run.proofs.Lines.{line_within, row_same, row_other, row_put, outcome_same, outcome_other, good_few, one_begin, status_same, writes_same, status_ended}
 use Rattle.txn_run.proofs.Opens.{IsQuietLine, old_outcome, old_row, last_outcome, rowed_quiet}
@@ -198,8 +198,9 @@ module _ (es : List Event) (t : Ticket) (r : Request) (o : Reply) (ls : List Lin
 
     pub fits_sends : (stage : Stage) (tk : Ticket) (store' : Store) → store'.regions ≡ store.regions → store'.clock ≡ store.clock → store'.last ≤ suc (length outs) → StageCells store'.cells a.t.start a.put stage
         → tk.line ≡ a.call.line → tk.beat ≡ false → sent_request (Took t r o ∷ Served t r o ∷ es) tk ≡ None → is_some (taken_reply (Took t r o ∷ Served t r o ∷ es) tk) ≡ false
+        → StageAsked (Sent tk (asked_at a.t.start a.put stage) ∷ Took t r o ∷ Served t r o ∷ es) a.t.start a.put stage tk
         → Fits (Sent tk (asked_at a.t.start a.put stage) ∷ Took t r o ∷ Served t r o ∷ es) (Deliver t ∷ ls) store' (set (rows ++ Plain ∷ []) (a.x - 1) (Running (at_stage a.t a.call.line stage))) (outs ++ Done ∷ []) (ended ++ suc (length outs) ∷ [])
-    fits_sends stage tk store' regions clock last cells own plain fresh untaken =
+    fits_sends stage tk store' regions clock last cells own plain fresh untaken told =
         let call : CommitCall = record { line = a.call.line; stage = stage } in
         let u : Transaction = at_stage a.t a.call.line stage in
         let rows' : List Row = set (rows ++ Plain ∷ []) (a.x - 1) (Running u) in
@@ -228,6 +229,7 @@ module _ (es : List Event) (t : Ticket) (r : Request) (o : Reply) (ls : List Lin
             puts = a.puts;
             own = sym own;
             asks = sent_is (Took t r o ∷ Served t r o ∷ es) tk (asked_at a.t.start a.put stage) fresh untaken none;
+            told = told;
           })) (λ n first last e. only n first last e ∙ sym a.own ∙ sym own);
           lone = next_lone u store' (outs ++ Done ∷ []) (let z = length-append outs (Done ∷ []) in omega arith) regions clock last (subst (λ z. CallCells store'.cells u (Some call) z) (sym a.puts) cells);
           times = times_more;

@@ -11,10 +11,12 @@ pub mod Steps
 pub mod Calls
 pub mod Commits
 pub mod Deliveries
+pub mod Licences
 pub mod Extends
 pub mod Stepped
 pub mod Delivered
 pub mod Comes
 pub mod Posts
+pub mod Whole
 pub mod Machines
 pub mod Programs

@@ -16,7 +16,7 @@ use Rattle.txn_report.specs.OutcomeView.{view_of_outcome}
 use Rattle.txn_report.specs.declared.outcome.Outcome.{Outcome}
 use Rattle.txn_report.specs.declared.outcome.Outcome.TheVariants.{Ok, Unfinished, Done, Skipped}
 use Rattle.txn_kv.specs.declared.ticket.Target.TheVariants.{Placement}
-use Rattle.txn_report.specs.declared.outcome.Payload.TheVariants.{Unit as Nothing}
+use Rattle.txn_report.specs.declared.outcome.Payload.TheVariants.{Unit as Nothing, Commit as Committed_at}
 use Rattle.txn_report.specs.declared.report.SentNote.{SentNote}
 use Rattle.txn_report.specs.declared.report.Report.{Report}
 use Rattle.txn_run.specs.declared.machine.Row.{Row}
@@ -37,11 +37,13 @@ use Rattle.txn_run.specs.StandsFor.{HasMemory, IsMailOf, StandsFor, CanStep, tic
 use Rattle.txn_run.specs.Causes.{Causes, Dues}
 use Rattle.txn_run.specs.Program.{AllGood}
 use Rattle.txn_run.specs.Lawful.{Lawful, IsMail}
+use Rattle.txn_run.specs.Whole.{AllFitCommits}
 use Rattle.txn_run.proofs.Lines.{good_few}
 use Rattle.txn_run.proofs.Opens.{IsQuietLine}
 use Rattle.txn_run.proofs.Stepped.{StandsSo, quiet_stands, next_is, begin_stands, put_stands, commit_stands}
 use Rattle.txn_run.proofs.Delivered.{deliver_stands}
 use Rattle.txn_run.proofs.Posts.{no_mail, stepped_posts, mail_stepped}
+use Rattle.txn_run.proofs.Whole.{commits_fit}
 use Rattle.txn_run.proofs.Comes.{Marks, stepped_marks, came_stepped}
 
 -- No lines.
@@ -65,6 +67,10 @@ no_position t = by_beat t.beat (at_line t.line t.number)
 no_row : (n : ℕ) (r : Row) → row_at [] n ≡ Some r → ⊥
 no_row zero r e = cc
 no_row (suc n) r e = cc
+
+no_answer : (n c : ℕ) → outcome_of [] n ≡ Ok (Committed_at (Some c)) → ⊥
+no_answer zero c e = cc
+no_answer (suc n) c e = cc
 
 pub opening_stands : StandsAt [] no_lists []
 opening_stands = record {
@@ -92,6 +98,7 @@ opening_stands = record {
     times = record { counted = refl; past = λ i. omega arith; still = λ i e. refl; own = λ i h. absurd (h refl); over = λ i h. absurd (h refl) };
   };
   asks = tt;
+  licensed = record { run = λ k v a. tt; given = λ x t e. absurd (no_row x (Running t) e); owned = λ u r h. absurd h; answered = λ n c e. absurd (no_answer n c e) };
   causes = tt;
   dues = tt;
 }
@@ -118,8 +125,8 @@ blank_quiet : (ls : List Line) (rows : List Row) (outs : List Outcome) → IsQui
 blank_quiet ls rows outs = record { over = refl; no_begin = λ client e. cc; leaves = λ x. record { status = refl; writes = refl }; skips = λ x u call e c k. absurd (cc) }
 
 pub stepped_stands : (es : List Event) (l : Lists) (line : Line) (ls : List Line) → why_after ls line ≡ None → StandsAt es l ls → StandsSo (stepped l line) (line ∷ ls)
-stepped_stands es l Blank ls good s = quiet_stands es l Blank ls Done (length l.outcomes + 1) (next_is (length l.outcomes)) good tt (blank_quiet ls l.rows l.outcomes) refl s
-stepped_stands es l Client ls good s = quiet_stands es l Client ls (Ok Nothing) (length l.outcomes + 1) (next_is (length l.outcomes)) good tt (client_quiet ls l.rows l.outcomes) refl s
+stepped_stands es l Blank ls good s = quiet_stands es l Blank ls Done (length l.outcomes + 1) (next_is (length l.outcomes)) good tt refl (blank_quiet ls l.rows l.outcomes) refl s
+stepped_stands es l Client ls good s = quiet_stands es l Client ls (Ok Nothing) (length l.outcomes + 1) (next_is (length l.outcomes)) good tt refl (client_quiet ls l.rows l.outcomes) refl s
 stepped_stands es l (Begin client) ls good s = begin_stands es l ls s client good
 stepped_stands es l (Put x k v) ls good s = put_stands es l ls s x k v good
 stepped_stands es l (Commit x) ls good s = commit_stands es l ls s x good
@@ -330,6 +337,7 @@ lawful_of l lines s came mail =
         over = s.fits.times.over;
       };
       dues = subst (λ ls. Dues l.sent l.outcomes l.ended ls) back s.dues;
+      fits = subst (λ ls. AllFitCommits ls (report_of l)) back (commits_fit (history l.sent l.outcomes lines) l lines s);
       awake = refl;
     }
 

@@ -152,7 +152,7 @@ pub awaited_quiet : (es : List Event) (l : Line) (ls : List Line) (rows : List R
 awaited_quiet es l ls rows outs o told counted u a = record {
   known = λ t e. elim (a.known t e) [
     | inl b ↦ inl (record { row = keep t.line Beginning b.row; asks = b.asks })
-    | inr b ↦ inr (record { x = b.x; t = b.t; call = b.call; put = b.put; row = keep t.line (Committing b.x) b.row; running = keep b.x (Running b.t) b.running; calls = b.calls; puts = b.puts; own = b.own; asks = b.asks })
+    | inr b ↦ inr (record { x = b.x; t = b.t; call = b.call; put = b.put; row = keep t.line (Committing b.x) b.row; running = keep b.x (Running b.t) b.running; calls = b.calls; puts = b.puts; own = b.own; asks = b.asks; told = b.told })
   ];
   one = a.one;
   owed = λ n first last e. owed_at n first last e (nat_eq n (suc (length ls))) refl;

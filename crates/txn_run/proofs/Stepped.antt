@@ -1,5 +1,5 @@
 -- Each line leaves the lists where the history of the lines says.
-use Rattle.std.proofs.Common.{◌≡◌, ℕ, suc, ◌+◌, ◌-◌, inl, inr, Bool, true, false, List, [], ◌∷◌, ◌++◌, Option, Some, None, length, set, nat_eq, refl, sym, ap, ◌∙◌, subst, subst₂, arith, length-append}
+use Rattle.std.proofs.Common.{◌≡◌, ◌≢◌, ℕ, suc, ◌+◌, ◌-◌, inl, inr, Bool, true, false, List, [], ◌∷◌, ◌++◌, Option, Some, None, length, set, nat_eq, refl, sym, ap, ◌∙◌, subst, subst₂, arith, length-append}
 use Rattle.std.proofs.lemmas.Bool.Decides.{nat_tests}
 use Rattle.txn_kv.specs.declared.errors.Error.TheVariants.{OperationAfterCommitError}
 use Rattle.txn_kv.specs.declared.request.Request.{Request}
@@ -26,7 +26,7 @@ use Rattle.txn_run.specs.Standing.{free_status}
 use Rattle.txn_run.specs.Posting.{ticket_after}
 use Rattle.txn_run.specs.Lists.{Lists, opened, row_at, row_set, sent_more, ask_one, begins, standing_in, written, written_in, puts_by, puts, commit_starts, commit_begun, commits_by, commits, followed, ended_at}
 use Rattle.txn_run.specs.Script.{outcome_of}
-use Rattle.txn_run.specs.Causes.{is_ok, is_unfinished, is_busy, is_free, allows_write, allows_commit, status_of, writes_of, has_some, WritesWith, CommitsWith, HasCause}
+use Rattle.txn_run.specs.Causes.{is_ok, is_unfinished, is_commit_at, is_busy, is_free, allows_write, allows_commit, status_of, writes_of, has_some, WritesWith, CommitsWith, HasCause}
 use Rattle.txn_run.specs.Rowed.{CallFits, IsBegun, writes_in, Fits, asked_at}
 use Rattle.txn_run.specs.Stands.{request_in, StandsAt}
 use Rattle.txn_run.proofs.Mails.{IsQuiet, mail_opened, mail_sent}
@@ -36,6 +36,8 @@ use Rattle.txn_run.proofs.Opens.{IsQuietLine, last_outcome, old_row, status_old,
 use Rattle.txn_run.proofs.Steps.{fits_quiet, fits_begun}
 use Rattle.txn_run.proofs.Calls.{fits_put}
 use Rattle.txn_run.proofs.Commits.{fits_commit_none, fits_commit_sent}
+use Rattle.txn_law.proofs.Tickets.{unused}
+use Rattle.txn_run.proofs.Licences.{Keeps, Starts, keeps_then, starts_then, keeps_push, starts_push, keeps_on, keeps_put, starts_set, pushed_commit, not_committed, allowed_open, licensed_rows, licensed_sent}
 use Rattle.txn_run.proofs.Extends.{extends_open, extends_send, extends_then, close, asks_push}
 
 -- The lists stand for some history of these lines.
@@ -43,15 +45,16 @@ abbrev pub StandsSo : Lists → List Line → Type 0
 StandsSo l lines = (es : List Event) × StandsAt es l lines
 
 -- A line that sends nothing.
-pub quiet_stands : (es : List Event) (l : Lists) (line : Line) (ls : List Line) (o : Outcome) (e : ℕ) → e ≡ suc (length l.outcomes) → why_after ls line ≡ None → IsQuiet line o → IsQuietLine line ls l.rows l.outcomes o → HasCause (outcome_of l.outcomes) ls es line o → StandsAt es l ls → StandsSo (opened l Plain o e) (line ∷ ls)
-quiet_stands es l line ls o e at good q k cause s = (
+pub quiet_stands : (es : List Event) (l : Lists) (line : Line) (ls : List Line) (o : Outcome) (e : ℕ) → e ≡ suc (length l.outcomes) → why_after ls line ≡ None → IsQuiet line o → is_commit_at o ≡ false → IsQuietLine line ls l.rows l.outcomes o → HasCause (outcome_of l.outcomes) ls es line o → StandsAt es l ls → StandsSo (opened l Plain o e) (line ∷ ls)
+quiet_stands es l line ls o e at good q plain k cause s = (
   es,
   close es es l (opened l Plain o e) line ls s
       (extends_open ls l.sent l.outcomes l.ended o e s.fits.told s.fits.times.counted (inr at))
       (subst (λ z. HasCause (outcome_of l.outcomes) ls es line z) (sym (last_outcome line ls l.rows Plain l.outcomes o s.fits.told s.fits.rowed.counted)) cause)
       (mail_opened es ls l.store l.sent l.letters l.tickets l.outcomes l.served line o q s.mail)
       (subst (λ n. Fits es (line ∷ ls) l.store (l.rows ++ Plain ∷ []) (l.outcomes ++ o ∷ []) (l.ended ++ n ∷ [])) (sym at) (fits_quiet es line ls l.store l.rows l.outcomes l.ended o good k s.fits))
-      s.asks,
+      s.asks
+      (licensed_rows es l.rows (l.rows ++ Plain ∷ []) l.outcomes (l.outcomes ++ o ∷ []) (keeps_push l.rows Plain) (starts_push l.rows Plain (λ u h. cc)) (λ n c h. pushed_commit l.outcomes o n c plain h) s.licensed),
 )
 
 pub next_is : (n : ℕ) → n + 1 ≡ suc n
@@ -61,6 +64,13 @@ next_is n = omega arith
 
 pub fresh_sent : (es : List Event) (l : Lists) (lines : List Line) (x : ℕ) → StandsAt es l lines → sent_request es (ticket_after l.tickets x) ≡ None
 fresh_sent es l lines x s = s.mail.listed (ticket_after l.tickets x) ∙ ap (λ z. request_in l.sent z) (position_fresh l.tickets x)
+
+not_answered : (o : Outcome) → is_ok o ≡ false → is_commit_at o ≡ false
+not_answered (Ok p) e = absurd (cc)
+not_answered (Err x) e = refl
+not_answered Unfinished e = refl
+not_answered Done e = refl
+not_answered Skipped e = refl
 
 set_last : {X : Type 0} (xs : List X) (a b : X) → set (xs ++ a ∷ []) (length xs) b ≡ xs ++ b ∷ []
 set_last [] a b = refl
@@ -98,7 +108,9 @@ module _ (es : List Event) (l : Lists) (ls : List Line) (s : StandsAt es l ls) w
             (inl (last_outcome line ls l.rows Beginning l.outcomes Unfinished s.fits.told s.fits.rowed.counted))
             (mail_sent es line ls l.store l.sent l.letters l1.tickets l1.outcomes l.served x Placement ask_one (omega arith) (omega arith) m1)
             (fits_begun es client ls l.store l.rows l.outcomes l.ended tk good s.fits (next_is (length l.outcomes)) refl fresh (m1.unsent tk fresh).1)
-            (asks_push l.sent (record { ticket = tk; at = length l1.outcomes; to = Placement; request = ask_one; askers = x ∷ [] }) s.asks refl),
+            (asks_push l.sent (record { ticket = tk; at = length l1.outcomes; to = Placement; request = ask_one; askers = x ∷ [] }) s.asks refl)
+            (licensed_sent es l1.rows l1.outcomes tk ask_one (unused es tk fresh) tt (λ k v g. tt) (λ r e. absurd (cc))
+            (licensed_rows es l.rows l1.rows l.outcomes l1.outcomes (keeps_push l.rows Beginning) (starts_push l.rows Beginning (λ u e. cc)) (λ n d e. pushed_commit l.outcomes Unfinished n d refl e) s.licensed)),
       )
 
   -- What stands at the begin of a call.
@@ -132,7 +144,7 @@ module _ (es : List Event) (l : Lists) (ls : List Line) (s : StandsAt es l ls) w
   }
 
   put_refused : (x : ℕ) (k v : List ℕ) (o : Outcome) → why_after ls (Put x k v) ≡ None → is_ok o ≡ false → is_unfinished o ≡ false → WritesWith (is_free (outcome_of l.outcomes) x ls) (allows_write (status_of (outcome_of l.outcomes) x ls)) o → StandsSo (opened l Plain o (length l.outcomes + 1)) (Put x k v ∷ ls)
-  put_refused x k v o good refused over cause = quiet_stands es l (Put x k v) ls o (length l.outcomes + 1) (next_is (length l.outcomes)) good tt (put_quiet x k v o refused over) cause s
+  put_refused x k v o good refused over cause = quiet_stands es l (Put x k v) ls o (length l.outcomes + 1) (next_is (length l.outcomes)) good tt (not_answered o refused) (put_quiet x k v o refused over) cause s
 
   put_by : (x : ℕ) (k v : List ℕ) (t : Transaction) → why_after ls (Put x k v) ≡ None → row_at l.rows x ≡ Some (Running t) → t.call ≡ None → (st : Status) → t.status ≡ st → StandsSo (puts_by (Some st) l x k v) (Put x k v ∷ ls)
   put_by x k v t good at idle Active is =
@@ -150,7 +162,11 @@ module _ (es : List Event) (l : Lists) (ls : List Line) (s : StandsAt es l ls) w
             (subst (λ z. WritesWith (is_free (outcome_of l.outcomes) x ls) (allows_write (status_of (outcome_of l.outcomes) x ls)) z) (sym (last_outcome line ls l.rows Plain l.outcomes (Ok Nothing) s.fits.told s.fits.rowed.counted)) (subst₂ (λ b c. WritesWith b c (Ok Nothing)) (sym free) (sym (ap allows_write allowed)) refl))
             (mail_opened es ls l.store l.sent l.letters l.tickets l.outcomes l.served line (Ok Nothing) tt s.mail)
             (subst (λ n. Fits es (line ∷ ls) l.store (set l.rows (x - 1) (Running (record t { put = Some (record { key = k; value = v }) })) ++ Plain ∷ []) (l.outcomes ++ Ok Nothing ∷ []) (l.ended ++ n ∷ [])) (sym (next_is (length l.outcomes))) (fits_put es x k v ls l.store l.rows l.outcomes l.ended t good at idle s.fits))
-            s.asks,
+            s.asks
+            (licensed_rows es l.rows (lw.rows ++ Plain ∷ []) l.outcomes (l.outcomes ++ Ok Nothing ∷ [])
+            (keeps_then l.rows lw.rows (lw.rows ++ Plain ∷ []) (keeps_put l.rows x t (record t { put = Some (record { key = k; value = v }) }) at is (not_committed t None Active idle is refl refl)) (keeps_push lw.rows Plain))
+            (starts_then l.rows lw.rows (lw.rows ++ Plain ∷ []) (starts_set l.rows x t (record t { put = Some (record { key = k; value = v }) }) at refl) (starts_push lw.rows Plain (λ u h. cc)))
+            (λ n c h. pushed_commit l.outcomes (Ok Nothing) n c refl h) s.licensed),
       )
   put_by x k v t good at idle StartedCommit is =
       let h = s.fits.rowed.fits x (Running t) at in
@@ -211,7 +227,7 @@ module _ (es : List Event) (l : Lists) (ls : List Line) (s : StandsAt es l ls) w
       same_transaction t u e = cc
 
   commit_skips : (x : ℕ) → why_after ls (Commit x) ≡ None → is_free (outcome_of l.outcomes) x ls ≡ false → StandsSo (opened l Plain Skipped (length l.outcomes + 1)) (Commit x ∷ ls)
-  commit_skips x good busy = quiet_stands es l (Commit x) ls Skipped (length l.outcomes + 1) (next_is (length l.outcomes)) good tt (commit_skipped x) (subst (λ b. CommitsWith b (allows_commit (status_of (outcome_of l.outcomes) x ls)) (has_some (writes_of (outcome_of l.outcomes) x ls)) Skipped) (sym busy) refl) s
+  commit_skips x good busy = quiet_stands es l (Commit x) ls Skipped (length l.outcomes + 1) (next_is (length l.outcomes)) good tt refl (commit_skipped x) (subst (λ b. CommitsWith b (allows_commit (status_of (outcome_of l.outcomes) x ls)) (has_some (writes_of (outcome_of l.outcomes) x ls)) Skipped) (sym busy) refl) s
 
   module _ (x : ℕ) (t : Transaction) (good : why_after ls (Commit x) ≡ None) (at : row_at l.rows x ≡ Some (Running t)) (idle : t.call ≡ None) where
     cause_of : (written : Bool) (o : Outcome) → allows_commit t.status ≡ true → has_some (writes_in t.put) ≡ written → CommitsWith true true written o → CommitsWith (is_free (outcome_of l.outcomes) x ls) (allows_commit (status_of (outcome_of l.outcomes) x ls)) (has_some (writes_of (outcome_of l.outcomes) x ls)) o
@@ -228,6 +244,13 @@ module _ (es : List Event) (l : Lists) (ls : List Line) (s : StandsAt es l ls) w
 
     newest_is : length (l.outcomes ++ Unfinished ∷ []) ≡ suc (length l.outcomes)
     newest_is = let a = length-append l.outcomes (Unfinished ∷ []) in omega arith
+
+    -- the transaction begins to commit
+    keeps_commit : (u : Transaction) → u.put ≡ t.put → u.status ≢ Active → allows_commit t.status ≡ true → Keeps l.rows (set (l.rows ++ Committing x ∷ []) (x - 1) (Running u))
+    keeps_commit u put begun allowed = keeps_then l.rows (l.rows ++ Committing x ∷ []) (set (l.rows ++ Committing x ∷ []) (x - 1) (Running u)) (keeps_push l.rows (Committing x)) (keeps_on (l.rows ++ Committing x ∷ []) x t u opened_row put begun (not_committed t None t.status idle refl refl (allowed_open t.status allowed)))
+
+    starts_commit : (u : Transaction) → u.start ≡ t.start → Starts l.rows (set (l.rows ++ Committing x ∷ []) (x - 1) (Running u))
+    starts_commit u start = starts_then l.rows (l.rows ++ Committing x ∷ []) (set (l.rows ++ Committing x ∷ []) (x - 1) (Running u)) (starts_push l.rows (Committing x) (λ w e. cc)) (starts_set (l.rows ++ Committing x ∷ []) x t u opened_row start)
 
     -- nothing is written
     empty_stands : (n : ℕ) → n ≡ suc (length l.outcomes) → allows_commit t.status ≡ true → t.put ≡ None
@@ -248,7 +271,8 @@ module _ (es : List Event) (l : Lists) (ls : List Line) (s : StandsAt es l ls) w
               (cause_of false (outcome_of (l.outcomes ++ o ∷ []) (suc (length ls))) allowed (ap (λ p. has_some (writes_in p)) empty) (last_outcome (Commit x) ls l.rows Plain l.outcomes o s.fits.told s.fits.rowed.counted))
               (mail_opened es ls l.store l.sent l.letters l.tickets l.outcomes l.served (Commit x) o tt s.mail)
               (fits_commit_none es x ls l.store l.rows l.outcomes l.ended t good at idle allowed s.fits empty)
-              s.asks,
+              s.asks
+              (licensed_rows es l.rows rows l.outcomes (l.outcomes ++ o ∷ []) (keeps_commit u refl (λ h. cc) allowed) (starts_commit u refl) (λ m c h. pushed_commit l.outcomes o m c refl h) s.licensed),
         )
 
     -- some key is written
@@ -275,7 +299,9 @@ module _ (es : List Event) (l : Lists) (ls : List Line) (s : StandsAt es l ls) w
                   (cause_of true (outcome_of (l.outcomes ++ Unfinished ∷ []) (suc (length ls))) allowed (ap (λ q. has_some (writes_in q)) puts) (inl (last_outcome (Commit x) ls l.rows Plain l.outcomes Unfinished s.fits.told s.fits.rowed.counted)))
                   (mail_sent es (Commit x) ls l.store l.sent l.letters l1.tickets l1.outcomes l.served m Placement r (omega arith) (omega arith) m1)
                   (fits_commit_sent es x ls l.store l.rows l.outcomes l.ended t good at idle allowed s.fits p tk puts refl refl fresh (m1.unsent tk fresh).1)
-                  (asks_push l.sent (record { ticket = tk; at = length l1.outcomes; to = Placement; request = r; askers = [] }) s.asks tt),
+                  (asks_push l.sent (record { ticket = tk; at = length l1.outcomes; to = Placement; request = r; askers = [] }) s.asks tt)
+                  (licensed_sent es l2.rows l2.outcomes tk r (unused es tk fresh) tt (λ k v g. tt) (λ q e. absurd (cc))
+                  (licensed_rows es l.rows l2.rows l.outcomes l2.outcomes (keeps_commit u refl (λ h. cc) allowed) (starts_commit u refl) (λ i d h. pushed_commit l.outcomes Unfinished i d refl h) s.licensed)),
             )
 
     pub commit_starts_stand : allows_commit t.status ≡ true → StandsSo (commit_begun (opened l (Committing x) Unfinished 0) x) (Commit x ∷ ls)
@@ -290,7 +316,7 @@ module _ (es : List Event) (l : Lists) (ls : List Line) (s : StandsAt es l ls) w
   commit_by x t good at idle StartedCommit is = commit_starts_stand x t good at idle (ap allows_commit is)
   commit_by x t good at idle Committed is =
       let h = s.fits.rowed.fits x (Running t) at in
-      quiet_stands es l (Commit x) ls (Err OperationAfterCommitError) (length l.outcomes + 1) (next_is (length l.outcomes)) good tt (commit_refused x t at idle is)
+      quiet_stands es l (Commit x) ls (Err OperationAfterCommitError) (length l.outcomes + 1) (next_is (length l.outcomes)) good tt refl (commit_refused x t at idle is)
       (subst₂ (λ b c. CommitsWith b c (has_some (writes_of (outcome_of l.outcomes) x ls)) (Err OperationAfterCommitError)) (sym (free_at x t at idle)) (sym (ap allows_commit (h.status ∙ is))) refl) s
 
   pub commit_stands : (x : ℕ) → why_after ls (Commit x) ≡ None → StandsSo (commits l x) (Commit x ∷ ls)

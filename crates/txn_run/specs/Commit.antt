@@ -10,6 +10,8 @@ use Rattle.txn_kv.specs.declared.message.Peer.{Peer}
 use Rattle.txn_kv.specs.declared.message.RegionErr.{RegionErr}
 use Rattle.txn_kv.specs.declared.message.KeyError.{KeyError}
 use Rattle.txn_kv.specs.declared.request.Request.{Request}
+use Rattle.txn_kv.specs.declared.request.PrewriteRequest.{PrewriteRequest}
+use Rattle.txn_kv.specs.declared.request.CommitRequest.{CommitRequest}
 use Rattle.txn_kv.specs.declared.request.Request.TheVariants.{Prewrite, Commit, GetRegion, GetStore, Tso}
 use Rattle.txn_kv.specs.declared.reply.Reply.{Reply}
 use Rattle.txn_kv.specs.declared.reply.Reply.TheVariants.{Prewrite as Prewrote, Commit as Committed_reply, GetRegion as Got_region, GetStore as Got_store, Tso as Gave}
@@ -59,8 +61,8 @@ started t line = by_put t.put
 abbrev pub place_of : Region → Peer → Place
 place_of region leader = record { context = record { region_id = region.id; region_epoch = region.region_epoch; peer = Some leader; api_version = V1 }; store = leader.store_id }
 
-abbrev pub prewrite_of : ℕ → Put → Place → Request
-prewrite_of start p place = Prewrite (record {
+abbrev pub prewrite_request : ℕ → Put → Place → PrewriteRequest
+prewrite_request start p place = record {
   context = Some place.context;
   mutations = record { op = Put_op; key = p.key; value = p.value; assertion = No_assertion } ∷ [];
   primary_lock = p.key;
@@ -72,10 +74,16 @@ prewrite_of start p place = Prewrite (record {
   use_async_commit = false;
   try_one_pc = false;
   secondaries = [];
-})
+}
+
+abbrev pub prewrite_of : ℕ → Put → Place → Request
+prewrite_of start p place = Prewrite (prewrite_request start p place)
+
+abbrev pub commit_request : ℕ → Put → Place → ℕ → CommitRequest
+commit_request start p place commit = record { context = Some place.context; keys = p.key ∷ []; start_version = start; commit_version = commit }
 
 abbrev pub commit_of : ℕ → Put → Place → ℕ → Request
-commit_of start p place commit = Commit (record { context = Some place.context; keys = p.key ∷ []; start_version = start; commit_version = commit })
+commit_of start p place commit = Commit (commit_request start p place commit)
 
 abbrev pub non_negative : ℤ → Bool
 non_negative (pos n) = true

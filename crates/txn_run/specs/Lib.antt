@@ -5,6 +5,8 @@ pub mod Lists
 pub mod Script
 pub mod Causes
 pub mod Rowed
+pub mod Licensed
+pub mod Whole
 pub mod Stands
 pub mod StandsFor
 pub mod Lawful

@@ -5,6 +5,8 @@ use Rattle.txn_kv.specs.declared.request.Request.TheVariants.{GetRegion, GetStor
 use Rattle.txn_kv.specs.declared.ticket.Ticket.{Ticket}
 use Rattle.txn_kv.specs.Codec.{encoded}
 use Rattle.txn_history.specs.Event.{Event, sent_request, is_out}
+use Rattle.txn_history.specs.Licence.{AskedAfter}
+use Rattle.txn_law.specs.Lone.{lone_plan}
 use Rattle.txn_model.specs.declared.cell.Cell.{Cell}
 use Rattle.txn_model.specs.declared.cell.Kind.TheVariants.{Put as Put_kind}
 use Rattle.txn_model.specs.declared.region.StoredRegion.{StoredRegion}
@@ -104,6 +106,12 @@ asked_at start p (Prewriting place) = prewrite_of start p place
 asked_at start p (Stamping place) = ask_one
 asked_at start p (Committing place c) = commit_of start p place c
 
+-- What the request of this ticket, of a commit at this stage, rests on: a commit timestamp was asked for after the key was
+-- acknowledged.
+abbrev pub StageAsked : List Event → ℕ → Put → Stage → Ticket → Type 0
+StageAsked es start p (Stamping place) ticket = AskedAfter (lone_plan p.key p.value) es start ticket
+StageAsked es start p stage ticket = Unit {0}
+
 -- a commit waits for the request of this ticket
 pub record CommitAwaits (es : List Event) (rows : List Row) (ticket : Ticket) : Type 0 where
   pub x : ℕ
@@ -116,6 +124,7 @@ pub record CommitAwaits (es : List Event) (rows : List Row) (ticket : Ticket) : 
   pub puts : t.put ≡ Some put
   pub own : call.line ≡ ticket.line
   pub asks : sent_request es ticket ≡ Some (asked_at t.start put call.stage)
+  pub told : StageAsked es t.start put call.stage ticket
 
 -- a begin waits for it
 pub record BeginAwaits (es : List Event) (rows : List Row) (ticket : Ticket) : Type 0 where

@@ -15,6 +15,7 @@ use Rattle.txn_run.specs.Script.{find, history, served_tickets}
 use Rattle.txn_run.specs.Causes.{Causes, Dues}
 use Rattle.txn_run.specs.Lists.{Lists, AllAskOne}
 use Rattle.txn_run.specs.Rowed.{Fits}
+use Rattle.txn_run.specs.Licensed.{Licensed}
 
 abbrev pub AllBefore : ℕ → List SentNote → Type 0
 AllBefore n [] = Unit {0}
@@ -57,6 +58,8 @@ pub record StandsAt (es : List Event) (l : Lists) (lines : List Line) : Type 0 w
   pub fits : Fits es lines l.store l.rows l.outcomes l.ended
   -- each request for timestamps asks for one
   pub asks : AllAskOne l.sent
+  -- the events are a run of the law
+  pub licensed : Licensed es l.rows l.outcomes
   -- each outcome has its cause
   pub causes : Causes l.sent l.outcomes l.ended lines
   -- after each line, something is out for each call that was open
