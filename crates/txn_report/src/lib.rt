@@ -4,6 +4,7 @@
 mod error_text;
 pub mod outcome;
 pub mod report;
+pub mod send;
 mod text;
 mod words;
 

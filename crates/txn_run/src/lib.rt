@@ -5,6 +5,7 @@ pub mod machine;
 pub mod note;
 mod post;
 pub mod program;
+pub mod send;
 mod transaction;
 
 pub use machine::Machine;

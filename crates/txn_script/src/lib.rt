@@ -8,6 +8,7 @@ pub mod line_kinds;
 mod parser;
 pub mod script;
 mod script_parser;
+pub mod send;
 mod stop;
 mod words;
 
