@@ -5,10 +5,15 @@ pub mod KeptCells
 pub mod Keys
 pub mod Locking
 mod Mapping
+pub mod Orders
 pub mod PlacesInOrder
 mod Ruling
 mod Scanning
 mod Settled
 mod Splitting
+pub mod StepFacts
+pub mod StepRows
+pub mod Steps
+pub mod TableFacts
 pub mod Unlocking
 pub mod Written

@@ -194,7 +194,7 @@ module _ (gs : List StoredRegion) (r : ResolveLockRequest) where
       by true e rest = here
       by false e rest = later e rest
 
-  in_region_keys : KeepsKeys (λ c. if is_in_context gs r.context c.key then all_settled (infos r) c else c)
+  pub in_region_keys : KeepsKeys (λ c. if is_in_context gs r.context c.key then all_settled (infos r) c else c)
   in_region_keys c = ap (λ x. x.key) (sym (settled_is gs r c) ∙ sym (one_settled (info_at gs r c) c)) ∙ (changed_key (change_by (info_at gs r c) c) (all_committed (commitment_by (info_at gs r c) c) c) ∙ committed_key (commitment_by (info_at gs r c) c) c)
     where
       changed_key : (xs : List Change) (d : Cell) → (all_made xs d).key ≡ d.key

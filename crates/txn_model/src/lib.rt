@@ -7,6 +7,7 @@ mod change;
 mod commit;
 mod commits;
 mod destroy;
+mod facts;
 mod heart_beat;
 mod lead;
 mod pessimistic;
@@ -30,5 +31,9 @@ mod tests;
 mod unlock;
 
 pub use cell::{Cell, Kind, Lock, Write};
+pub use facts::{
+    cells_stay_in_order, commits_and_rollbacks_stay, locks_leave, numbers_never_fall,
+    refusals_change_nothing, rolled_back_stays_without, timestamps_rise, what_is_kept_comes,
+};
 pub use region::StoredRegion;
 pub use store::ModelStore;
