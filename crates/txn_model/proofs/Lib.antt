@@ -3,8 +3,10 @@ mod Changing
 mod Filtering
 pub mod KeptCells
 pub mod Keys
+pub mod Lengthening
 pub mod Locking
 mod Mapping
+pub mod OrderlyCells
 pub mod Orders
 pub mod PlacesInOrder
 mod Ruling

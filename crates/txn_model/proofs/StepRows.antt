@@ -72,7 +72,7 @@ row_changed : (st : Store) (r : Request) (ks : List Key) (f : Cell → Cell) →
 row_changed st r ks f keeps o h k = subst (CellStep st r k (cell_at st.cells k)) (sym (cell_changed ks f keeps st.cells o k)) (if_cell (CellStep st r k (cell_at st.cells k)) (has_key ks k) (cell_at st.cells k) (f (cell_at st.cells k)) Same (h k))
 
 -- the only key of a list
-only_key : (p k : Key) → has_key (p ∷ []) k ≡ true → k ≡ p
+pub only_key : (p k : Key) → has_key (p ∷ []) k ≡ true → k ≡ p
 only_key p k h = by (key_eq p k) refl h
   where
     by : (b : Bool) → key_eq p k ≡ b → (b || false) ≡ true → k ≡ p
@@ -156,7 +156,7 @@ prewrite_is r (m ∷ ms) c = by_key (prewrite_is r ms c) (key_eq m.key c.key)
     by_key rest true = by_kind rest (kind_of m.op) refl
     by_key rest false = rest
 
-row_prewrite : (st : Store) (r : PrewriteRequest) → AreInOrder st.cells → (e : Option RegionErr) (es : List KeyError) → prewrite_errors st.cells r r.mutations r.is_pessimistic_lock ≡ es → RowStep st (Prewrite r) (prewrite_by e es st r).store.cells
+pub row_prewrite : (st : Store) (r : PrewriteRequest) → AreInOrder st.cells → (e : Option RegionErr) (es : List KeyError) → prewrite_errors st.cells r r.mutations r.is_pessimistic_lock ≡ es → RowStep st (Prewrite r) (prewrite_by e es st r).store.cells
 row_prewrite st r o (Some e) es h = row_same st (Prewrite r)
 row_prewrite st r o None (x ∷ xs) h = row_same st (Prewrite r)
 row_prewrite st r o None [] h = row_changed st (Prewrite r) (mutation_keys r.mutations) (prewrite_cell r r.mutations) (prewrite_key r r.mutations) o (λ k a. by k a (prewrite_is r r.mutations (cell_at st.cells k)))
@@ -169,7 +169,7 @@ row_prewrite st r o None [] h = row_changed st (Prewrite r) (mutation_keys r.mut
 
 -- PessimisticLock
 
-raised_kind : (r : PessimisticLockRequest) (o : Option Lock) → is_prewrite (raised_lock r o).kind ≡ false
+pub raised_kind : (r : PessimisticLockRequest) (o : Option Lock) → is_prewrite (raised_lock r o).kind ≡ false
 raised_kind r None = refl
 raised_kind r (Some l) = refl
 
@@ -300,10 +300,10 @@ module _ (st : Store) (r : ResolveLockRequest) (k : Key) (here : is_in_context s
       by rest true e = subst (CellStep st (ResolveLock r) k c) (sym (none_settled is (settled i c) (held_unlocks i c e))) (one_settled i c (a i.txn i.status first))
       by rest false e = subst (λ d. CellStep st (ResolveLock r) k c (all_settled is d)) (sym (not_held i c e)) rest
 
-abbrev in_region : Store → ResolveLockRequest → Cell → Cell
+abbrev pub in_region : Store → ResolveLockRequest → Cell → Cell
 in_region st r c = if is_in_context st.regions r.context c.key then all_settled (infos r) c else c
 
-region_none : (st : Store) (r : ResolveLockRequest) (k : Key) → in_region st r (no_cell k) ≡ no_cell k
+pub region_none : (st : Store) (r : ResolveLockRequest) (k : Key) → in_region st r (no_cell k) ≡ no_cell k
 region_none st r k = by (is_in_context st.regions r.context k)
   where
     by : (b : Bool) → (if b then all_settled (infos r) (no_cell k) else no_cell k) ≡ no_cell k
@@ -357,7 +357,7 @@ row_pessimistic_rollback st r o (Some e) = row_same st (PessimisticRollback r)
 row_pessimistic_rollback st r o None = row_changed st (PessimisticRollback r) r.keys (released_by r.start_version r.for_update_ts) (rule_keeps_keys (ReleaseUpTo r.start_version r.for_update_ts)) o
     (λ k a. if_cell (CellStep st (PessimisticRollback r) k (cell_at st.cells k)) (is_for_update_by r.for_update_ts (cell_at st.cells k).lock) (cell_at st.cells k) (released r.start_version (cell_at st.cells k)) Same (λ e. Released r.start_version (refl, a)))
 
-lock_found : (s : ℕ) (o : Option Lock) (l : Lock) → lock_of_start s o ≡ Some l → o ≡ Some l
+pub lock_found : (s : ℕ) (o : Option Lock) (l : Lock) → lock_of_start s o ≡ Some l → o ≡ Some l
 lock_found s None l h = absurd (cc)
 lock_found s (Some m) l h = by (nat_eq m.start s) h
   where
@@ -381,7 +381,7 @@ row_secondary st r o None = row_changed st (CheckSecondaryLocks r) r.keys (missi
     (λ k a. if_cell (CellStep st (CheckSecondaryLocks r) k (cell_at st.cells k)) (is_missing r.start_version (cell_at st.cells k)) (cell_at st.cells k) (rolled_back r.start_version (cell_at st.cells k)) Same (λ e. Recorded r.start_version (refl, a)))
 
 -- the cell of a key outside a range stays, and one in it goes
-outside_at : (low high : Key) (cs : List Cell) (k : Key) → cell_at (cells_outside low high cs) k ≡ (if in_range low high k then no_cell k else cell_at cs k)
+pub outside_at : (low high : Key) (cs : List Cell) (k : Key) → cell_at (cells_outside low high cs) k ≡ (if in_range low high k then no_cell k else cell_at cs k)
 outside_at low high [] k = by (in_range low high k)
   where
     by : (b : Bool) → no_cell k ≡ (if b then no_cell k else no_cell k)

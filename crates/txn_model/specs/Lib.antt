@@ -3,6 +3,8 @@ pub mod Changes
 pub mod Commit
 pub mod Destroy
 pub mod Handled
+pub mod HeartBeats
+pub mod InOrder
 pub mod Locking
 pub mod Locks
 pub mod Orderly

@@ -3,6 +3,7 @@ ghost use Rattle.std.specs.Prelude.{◌≡◌, Some, map, is_none, IfOk, OnOk, O
 ghost use Rattle.txn_kv.specs.declared.message.KeyError.TheVariants.{Abort};
 ghost use Rattle.txn_model.specs.Cells.{AreInOrder, AreKept, cell_at, changed_at};
 ghost use Rattle.txn_model.specs.Locking.{locking};
+ghost use Rattle.txn_model.specs.Orderly.{AreOrderly};
 ghost use Rattle.txn_model.specs.PessimisticLock.{asserts_absence, value_for_update, newest_conflict, pessimistic_error, pessimistic_errors, pessimistic_lock_of, raised_lock, locked_for_update, value_or_empty, values_for_update};
 ghost use Rattle.txn_model.specs.Prewrite.{mutation_keys};
 
@@ -263,9 +264,11 @@ pub fn lock_for_update(
     cells: &mut Vec<Cell>,
     request: &PessimisticLockRequest,
 ) -> Result<(), NoMemory>
-    requires { AreKept cells.old.items }
+    requires kept { AreKept cells.old.items }
+    requires ordered { AreOrderly cells.old.items }
     ensures ok { OnOk result (cells.new.items ≡ changed_at (mutation_keys request.now.mutations) (locked_for_update request.now) cells.old.items) }
     ensures kept { AreKept cells.new.items }
+    ensures ordered { AreOrderly cells.new.items }
     ensures err { OnErr result (cells.new.items ≡ cells.old.items) }
 {
     let changes = lockings(*cells.allocator(), cells.as_slice(), request)?;

@@ -1,6 +1,7 @@
 //! Prewrite: a lock on each key, where nothing stands in the way.
-ghost use Rattle.std.specs.Prelude.{◌≡◌, ℕ, ◌+◌, ◌^◌, ◌<◌, ◌≤◌, List, if◌then◌else◌, IfOk, OnOk, OnErr, option_to_list, drop, vec_len, vec_capacity};
+ghost use Rattle.std.specs.Prelude.{◌≡◌, [], ℕ, ◌+◌, ◌^◌, ◌<◌, ◌≤◌, List, if◌then◌else◌, IfOk, OnOk, OnErr, option_to_list, drop, vec_len, vec_capacity};
 ghost use Rattle.txn_model.specs.Cells.{AreInOrder, AreKept, Key, key_eq, cell_at, changed_at};
+ghost use Rattle.txn_model.specs.Orderly.{AreOrderly};
 ghost use Rattle.txn_model.specs.Prewrite.{kind_of, wants_absent, conflict, first_flag, prewrite_error, prewrite_errors, lock_of, mutation_keys, prewrite_cell};
 ghost use Rattle.txn_model.specs.Placings.{placing_of, placings, locked, all_locked};
 
@@ -248,9 +249,12 @@ pub fn set_locks(cells: &mut Vec<Cell>, mut placings: Vec<Placing>)
 
 /// Sets the locks of a request's mutations.
 pub fn lock_all(cells: &mut Vec<Cell>, request: &PrewriteRequest) -> Result<(), NoMemory>
-    requires { AreKept cells.old.items }
+    requires kept { AreKept cells.old.items }
+    requires ordered { AreOrderly cells.old.items }
+    requires free { prewrite_errors cells.old.items request.now request.now.mutations request.now.is_pessimistic_lock ≡ [] }
     ensures ok { OnOk result (cells.new.items ≡ changed_at (mutation_keys request.now.mutations) (prewrite_cell request.now request.now.mutations) cells.old.items) }
     ensures kept { AreKept cells.new.items }
+    ensures ordered { AreOrderly cells.new.items }
     ensures err { OnErr result (cells.new.items ≡ cells.old.items) }
 {
     let ready = placings(*cells.allocator(), request)?;
