@@ -1,5 +1,5 @@
 -- The cells of every key stay orderly under what the functions of this crate do to them.
-use Rattle.std.proofs.Common.{◌≡◌, ℕ, Bool, true, false, List, [], ◌∷◌, Option, Some, None, nat_eq, nat_lt, refl, sym, ap, ◌∙◌, subst}
+use Rattle.std.proofs.Common.{◌≡◌, ℕ, suc, zero, ◌<◌, Bool, true, false, List, [], ◌∷◌, length, get_or, Option, Some, None, nat_eq, nat_lt, refl, sym, ap, ◌∙◌, subst, arith}
 use Rattle.std.specs.Prelude.{if◌then◌else◌}
 use Rattle.txn_kv.specs.declared.message.TxnInfo.{TxnInfo}
 use Rattle.txn_kv.specs.declared.request.PessimisticLockRequest.{PessimisticLockRequest}
@@ -11,14 +11,15 @@ use Rattle.txn_model.specs.declared.cell.Lock.{Lock}
 use Rattle.txn_model.specs.declared.region.StoredRegion.{StoredRegion}
 use Rattle.txn_model.specs.declared.rule.Rule.{Rule}
 use Rattle.txn_model.specs.declared.rule.Rule.TheVariants.{RollBack, RollBackMissing, Release, ReleaseUpTo, Stay}
-use Rattle.txn_model.specs.Cells.{Key, has_key, no_cell, cell_at, changed_at, each_changed, AreInOrder}
+use Rattle.txn_model.specs.Cells.{Key, key_eq, has_key, no_cell, cell_at, changed_at, each_changed, AreInOrder}
 use Rattle.txn_model.specs.Commit.{committed}
 use Rattle.txn_model.specs.Destroy.{cells_outside}
 use Rattle.txn_model.specs.Locks.{owns, is_prewrite}
-use Rattle.txn_model.specs.Orderly.{IsOrderly, AreOrderly}
+use Rattle.txn_model.specs.Orderly.{CommitsAscend, IsOrderly, AreOrderly}
 use Rattle.txn_model.specs.PessimisticLock.{raised_lock, locked_for_update}
 use Rattle.txn_model.specs.Prewrite.{prewrite_errors, prewrite_cell, mutation_keys}
-use Rattle.txn_model.specs.Ranges.{in_range}
+use Rattle.txn_model.specs.Places.{IsAt}
+use Rattle.txn_model.specs.Ranges.{in_range, cells_in}
 use Rattle.txn_model.specs.Resolve.{infos, settled, all_settled, is_in_context}
 use Rattle.txn_model.specs.Rollback.{is_for_update_by, released_by}
 use Rattle.txn_model.specs.Rules.{changed_by}
@@ -26,6 +27,9 @@ use Rattle.txn_model.specs.Settle.{rolled_back, released}
 use Rattle.txn_model.specs.Status.{is_missing, missing_rolled_back}
 use Rattle.txn_model.specs.Store.{Store, opening}
 use Rattle.txn_model.proofs.CellLists.{KeepsKeys, cell_changed, cell_each}
+use Rattle.txn_model.proofs.Filtering.{order_filter}
+use Rattle.txn_model.proofs.Keys.{same_key}
+use Rattle.txn_model.proofs.PlacesInOrder.{cell_found}
 use Rattle.txn_model.proofs.Ruling.{rule_keeps_keys}
 use Rattle.txn_model.proofs.Settled.{in_region_keys}
 use Rattle.txn_model.proofs.StepRows.{in_region, region_none, outside_at, raised_kind, row_prewrite}
@@ -72,6 +76,44 @@ orderly_settled gs r cs o i k =
 
 pub orderly_outside : (low high : Key) (cs : List Cell) → AreOrderly cs → AreOrderly (cells_outside low high cs)
 orderly_outside low high cs i k = subst IsOrderly (sym (outside_at low high cs k)) (orderly_if (in_range low high k) (no_cell k) (cell_at cs k) (orderly_none k) (i k))
+
+-- the cells of a range are in order as all are
+
+pub order_in : (low high : Key) (cs : List Cell) → AreInOrder cs → AreInOrder (cells_in low high cs)
+order_in low high cs o = order_filter (λ c. in_range low high c.key) cs o
+
+inside_at : (low high : Key) (cs : List Cell) (k : Key) → cell_at (cells_in low high cs) k ≡ (if in_range low high k then cell_at cs k else no_cell k)
+inside_at low high [] k = by (in_range low high k)
+  where
+    by : (b : Bool) → no_cell k ≡ (if b then no_cell k else no_cell k)
+    by true = refl
+    by false = refl
+inside_at low high (c ∷ cs) k = by (in_range low high c.key) (key_eq c.key k) refl refl (inside_at low high cs k)
+  where
+    by : (a b : Bool) → in_range low high c.key ≡ a → key_eq c.key k ≡ b → cell_at (cells_in low high cs) k ≡ (if in_range low high k then cell_at cs k else no_cell k) → cell_at (if a then c ∷ cells_in low high cs else cells_in low high cs) k ≡ (if in_range low high k then (if b then c else cell_at cs k) else no_cell k)
+    by true true e f rest =
+        let here : in_range low high k ≡ true = subst (λ q. in_range low high q ≡ true) (same_key c.key k f) e in
+        rw (f, here) refl
+    by true false e f rest = rw f rest
+    by false true e f rest =
+        let here : in_range low high k ≡ false = subst (λ q. in_range low high q ≡ false) (same_key c.key k f) e in
+        rest ∙ rw here refl
+    by false false e f rest = rest
+
+pub orderly_in : (low high : Key) (cs : List Cell) → AreOrderly cs → AreOrderly (cells_in low high cs)
+orderly_in low high cs i k = subst IsOrderly (sym (inside_at low high cs k)) (orderly_if (in_range low high k) (cell_at cs k) (no_cell k) (i k) (orderly_none k))
+
+-- the cell at a place
+pub commits_at : (cs : List Cell) (i : ℕ) (c : Cell) → AreInOrder cs → AreOrderly cs → i < length cs → c ≡ get_or cs i c → CommitsAscend c.commits
+commits_at cs i c o ordered l e =
+    let is : IsAt cs c.key i = record { in_range = l; has_key = λ d. ap (λ (x : Cell). x.key) (any_cell cs i d c l ∙ sym e) } in
+    let here : cell_at cs c.key ≡ c = cell_found cs c.key i c o is ∙ sym e in
+    subst (λ (x : Cell). CommitsAscend x.commits) here (ordered c.key).commits
+  where
+    any_cell : (xs : List Cell) (j : ℕ) (a b : Cell) → j < length xs → get_or xs j a ≡ get_or xs j b
+    any_cell [] j a b m = absurd (omega arith)
+    any_cell (x ∷ xs) zero a b m = refl
+    any_cell (x ∷ xs) (suc j) a b m = any_cell xs j a b (omega arith)
 
 -- where no mutation has an error, the prewrite locks keep cells orderly
 pub orderly_prewrites : (r : PrewriteRequest) (cs : List Cell) → AreInOrder cs → AreOrderly cs → prewrite_errors cs r r.mutations r.is_pessimistic_lock ≡ [] → AreOrderly (changed_at (mutation_keys r.mutations) (prewrite_cell r r.mutations) cs)

@@ -64,10 +64,10 @@ module _ (st : Store) (r : Request) (k : Key) (c d : Cell) (i : IsOrderly c) (st
           on false = h
       by x (Recorded t v) = inl h
       by x (Made t n v) = inl (by_commit (λ y. commit_of y.commits s ≡ Some w) t n c h (λ l e f p.
-        let u : owns c.lock t ≡ true = grind (arith, nat_tests) in
-        let none = (i.free t u).1 in
-        let more = commit_of_with (record { start = t; commit = n; kind = l.kind; value = l.value }) c.commits s none in
-        grind (arith, nat_tests)))
+          let u : owns c.lock t ≡ true = grind (arith, nat_tests) in
+          let none = (i.free t u).1 in
+          let more = commit_of_with (record { start = t; commit = n; kind = l.kind; value = l.value }) c.commits s none in
+          grind (arith, nat_tests)))
       by x (Released t v) = inl (by_release (λ y. commit_of y.commits s ≡ Some w) t c h (λ l e f p. h))
       by x (Held l p a v) = inl h
       by x (Renewed l n e) = inl h
@@ -249,9 +249,9 @@ module _ (st : Store) (r : Request) (k : Key) (c d : Cell) (i : IsOrderly c) (st
           on false f = stays (rolled_back s c) (rw (e, f) refl)
       by x (Made s n v) = by_commit (PessimisticLockBecomes st r k l) s n c (stays c e) (λ m f g q. absurd (let same : l ≡ m = cc in let z : is_prewrite m.kind ≡ false = subst (λ (y : Lock). is_prewrite y.kind ≡ false) same p in cc))
       by x (Released s v) = by_release (PessimisticLockBecomes st r k l) s c (stays c e) (λ m f g q.
-        let same : m ≡ l = cc in
-        let start : s ≡ l.start = sym g ∙ ap (λ (y : Lock). y.start) same in
-        inr (inr (inl (subst (λ z. ReleasesAt st r k z) start v, refl))))
+          let same : m ≡ l = cc in
+          let start : s ≡ l.start = sym g ∙ ap (λ (y : Lock). y.start) same in
+          inr (inr (inl (subst (λ z. ReleasesAt st r k z) start v, refl))))
       by x (Held m q a v) =
           let start = (a l e).0 in
           inl (grind (arith, nat_tests), λ g. absurd (on (nat_eq m.start l.start) g))

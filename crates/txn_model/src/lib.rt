@@ -22,6 +22,7 @@ mod row_tests;
 mod rule;
 mod scan;
 mod secondaries;
+pub mod send;
 mod settle;
 mod split;
 mod status;

@@ -26,11 +26,11 @@ loop-i-preserved c =
       | in-Some+in_ok-push w ↦
           let grows : next ≡ done ++ shown r.key_only w.in-Some.pair ∷ [] = w.pairs-is ∙ (w.in_ok-push.ensures.ok ∙ ap (λ p. done ++ p ∷ []) w.shown.ensures) in
           record {
-            so_far = next_some (read_pair r.version) (shown r.key_only) cells c.loop-i.i c.nth-cell.result.now o w.in-Some.pair done next l c.nth-cell.ensures c.in_ok-pair.ensures w.in-Some.is grows c.loop-i.invariant.so_far;
+            so_far = next_some (read_pair r.version) (shown r.key_only) cells c.loop-i.i c.nth-cell.result.now o w.in-Some.pair done next l c.nth-cell.ensures.value c.in_ok-pair.ensures w.in-Some.is grows c.loop-i.invariant.so_far;
             few = length_more done next _ r.limit grows under;
           }
       | in_default w ↦ record {
-        so_far = next_none (read_pair r.version) (shown r.key_only) cells c.loop-i.i c.nth-cell.result.now o done next l c.nth-cell.ensures c.in_ok-pair.ensures w.in_default.is w.pairs-is c.loop-i.invariant.so_far;
+        so_far = next_none (read_pair r.version) (shown r.key_only) cells c.loop-i.i c.nth-cell.result.now o done next l c.nth-cell.ensures.value c.in_ok-pair.ensures w.in_default.is w.pairs-is c.loop-i.invariant.so_far;
         few = length_same done next r.limit w.pairs-is c.loop-i.invariant.few;
       }
     ]
