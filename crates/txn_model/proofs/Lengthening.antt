@@ -3,7 +3,7 @@ use Rattle.std.proofs.Common.{◌≡◌, ℕ, suc, zero, ◌<◌, Bool, true, fa
 use Rattle.std.specs.Prelude.{if◌then◌else◌, ◌||◌}
 use Rattle.txn_model.specs.declared.cell.Cell.{Cell}
 use Rattle.txn_model.specs.declared.cell.Lock.{Lock}
-use Rattle.txn_model.specs.Cells.{Key, key_eq, has_key, no_cell, cell_at, changed_at, AreKept}
+use Rattle.txn_model.specs.Cells.{Key, key_eq, has_key, cell_at, AreKept}
 use Rattle.txn_model.specs.HeartBeats.{lengthened_if, lengthened_at}
 use Rattle.txn_model.specs.Orderly.{IsOrderly, AreOrderly}
 use Rattle.txn_model.specs.Places.{IsAt, IsGapFor}

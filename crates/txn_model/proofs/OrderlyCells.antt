@@ -1,5 +1,5 @@
 -- The cells of every key stay orderly under what the functions of this crate do to them.
-use Rattle.std.proofs.Common.{◌≡◌, ℕ, suc, zero, ◌<◌, Bool, true, false, List, [], ◌∷◌, length, get_or, Option, Some, None, nat_eq, nat_lt, refl, sym, ap, ◌∙◌, subst, arith}
+use Rattle.std.proofs.Common.{◌≡◌, ℕ, suc, zero, ◌<◌, Bool, true, false, List, [], ◌∷◌, length, get_or, None, nat_lt, refl, sym, ap, ◌∙◌, subst, arith}
 use Rattle.std.specs.Prelude.{if◌then◌else◌}
 use Rattle.txn_kv.specs.declared.message.TxnInfo.{TxnInfo}
 use Rattle.txn_kv.specs.declared.request.PessimisticLockRequest.{PessimisticLockRequest}
@@ -7,24 +7,23 @@ use Rattle.txn_kv.specs.declared.request.PrewriteRequest.{PrewriteRequest}
 use Rattle.txn_kv.specs.declared.request.Request.TheVariants.{Prewrite}
 use Rattle.txn_kv.specs.declared.request.ResolveLockRequest.{ResolveLockRequest}
 use Rattle.txn_model.specs.declared.cell.Cell.{Cell}
-use Rattle.txn_model.specs.declared.cell.Lock.{Lock}
 use Rattle.txn_model.specs.declared.region.StoredRegion.{StoredRegion}
 use Rattle.txn_model.specs.declared.rule.Rule.{Rule}
 use Rattle.txn_model.specs.declared.rule.Rule.TheVariants.{RollBack, RollBackMissing, Release, ReleaseUpTo, Stay}
 use Rattle.txn_model.specs.Cells.{Key, key_eq, has_key, no_cell, cell_at, changed_at, each_changed, AreInOrder}
 use Rattle.txn_model.specs.Commit.{committed}
 use Rattle.txn_model.specs.Destroy.{cells_outside}
-use Rattle.txn_model.specs.Locks.{owns, is_prewrite}
+use Rattle.txn_model.specs.Locks.{owns}
 use Rattle.txn_model.specs.Orderly.{CommitsAscend, IsOrderly, AreOrderly}
 use Rattle.txn_model.specs.PessimisticLock.{raised_lock, locked_for_update}
 use Rattle.txn_model.specs.Prewrite.{prewrite_errors, prewrite_cell, mutation_keys}
 use Rattle.txn_model.specs.Places.{IsAt}
 use Rattle.txn_model.specs.Ranges.{in_range, cells_in}
 use Rattle.txn_model.specs.Resolve.{infos, settled, all_settled, is_in_context}
-use Rattle.txn_model.specs.Rollback.{is_for_update_by, released_by}
+use Rattle.txn_model.specs.Rollback.{is_for_update_by}
 use Rattle.txn_model.specs.Rules.{changed_by}
 use Rattle.txn_model.specs.Settle.{rolled_back, released}
-use Rattle.txn_model.specs.Status.{is_missing, missing_rolled_back}
+use Rattle.txn_model.specs.Status.{is_missing}
 use Rattle.txn_model.specs.Store.{Store, opening}
 use Rattle.txn_model.proofs.CellLists.{KeepsKeys, cell_changed, cell_each}
 use Rattle.txn_model.proofs.Filtering.{order_filter}

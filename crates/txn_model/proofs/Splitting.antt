@@ -5,7 +5,7 @@ use Rattle.std.specs.List.{insert}
 use Rattle.txn_model.specs.declared.region.StoredRegion.{StoredRegion}
 use Rattle.txn_model.specs.Cells.{Key}
 use Rattle.txn_model.specs.Regions.{lower_part, upper_part, split_at}
-use Rattle.txn_model.specs.Regions.{led_if, led_by}
+use Rattle.txn_model.specs.Regions.{led_by}
 use Rattle.txn_model.specs.Splits.{holds, VersionsFit, VersionsUpTo, AreCounted}
 
 pub not_split : (k : Key) (n : ℕ) (gs : List StoredRegion) → ((i : ℕ) (d : StoredRegion) → i < length gs → holds k (get_or gs i d) ≡ false) → gs ≡ split_at k n gs

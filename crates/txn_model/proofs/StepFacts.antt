@@ -1,21 +1,21 @@
 -- What each change leaves of commits, rolled starts and locks, and what it brings.
-use Rattle.std.proofs.Common.{◌≡◌, ℕ, ◌<◌, ◌⊎◌, inl, inr, Bool, true, false, ◌&&◌, ◌||◌, cond, List, [], ◌∷◌, Option, Some, None, nat_eq, refl, sym, ap, ◌∙◌, subst, arith}
+use Rattle.std.proofs.Common.{◌≡◌, ℕ, ◌⊎◌, inl, inr, Bool, true, false, ◌&&◌, ◌||◌, cond, Option, Some, None, nat_eq, refl, sym, ap, ◌∙◌, subst, arith}
 use Rattle.std.specs.Prelude.{if◌then◌else◌}
 use Rattle.std.proofs.lemmas.Bool.Decides.{nat_tests}
 use Rattle.txn_kv.specs.declared.request.Request.{Request}
 use Rattle.txn_model.specs.declared.cell.Cell.{Cell}
 use Rattle.txn_model.specs.declared.cell.Lock.{Lock}
 use Rattle.txn_model.specs.declared.cell.Write.{Write}
-use Rattle.txn_model.specs.Cells.{Key, no_cell}
+use Rattle.txn_model.specs.Cells.{Key}
 use Rattle.txn_model.specs.Commit.{committed, commit_lock}
 use Rattle.txn_model.specs.Locks.{has_start, is_prewrite, owns, holds, commit_of, with_commit}
 use Rattle.txn_model.specs.Orderly.{IsOrderly}
-use Rattle.txn_model.specs.Settle.{with_start, rolled_back, released, unlocked}
-use Rattle.txn_model.specs.Status.{longer_lived, with_lock}
-use Rattle.txn_model.specs.Steps.{PrewritesAt, LocksAt, CommitsAt, RollsBackAt, ReleasesAt, DestroysAt, StandsOn, commit_from, PrewriteLockBecomes, PessimisticLockBecomes}
+use Rattle.txn_model.specs.Settle.{rolled_back, released}
+use Rattle.txn_model.specs.Status.{longer_lived}
+use Rattle.txn_model.specs.Steps.{PrewritesAt, CommitsAt, RollsBackAt, ReleasesAt, DestroysAt, StandsOn, commit_from, PrewriteLockBecomes, PessimisticLockBecomes}
 use Rattle.txn_model.specs.Store.{Store}
 use Rattle.txn_model.proofs.Orders.{has_with_start, commit_of_with}
-use Rattle.txn_model.proofs.Steps.{CellStep, held, placed_lock, orderly_after}
+use Rattle.txn_model.proofs.Steps.{CellStep, held, placed_lock}
 use Rattle.txn_model.proofs.Steps.CellStep.{Same, Places, Recorded, Made, Released, Held, Renewed, Destroyed}
 
 -- What stays.

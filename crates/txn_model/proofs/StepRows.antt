@@ -1,6 +1,6 @@
 -- Each row of the request table changes the cell of each key by a step that its request may make.
-use Rattle.std.proofs.Common.{◌≡◌, ℕ, ◌<◌, ◌⊎◌, inl, inr, Bool, true, false, not, ◌&&◌, ◌||◌, List, [], ◌∷◌, ◌++◌, Option, Some, None, nat_eq, nat_lt, refl, sym, ap, ◌∙◌, subst, arith}
-use Rattle.std.specs.Prelude.{if◌then◌else◌, option_to_list, drop, is_some}
+use Rattle.std.proofs.Common.{◌≡◌, ℕ, ◌⊎◌, inl, inr, Bool, true, false, not, ◌&&◌, ◌||◌, List, [], ◌∷◌, ◌++◌, Option, Some, None, nat_eq, nat_lt, refl, sym, ap, ◌∙◌, subst, arith}
+use Rattle.std.specs.Prelude.{if◌then◌else◌, option_to_list, drop}
 use Rattle.std.specs.List.{filter_map, cons_option}
 use Rattle.std.proofs.lemmas.Bool.Decides.{nat_tests}
 use Rattle.txn_kv.specs.declared.message.KeyError.{KeyError}
@@ -31,7 +31,7 @@ use Rattle.txn_model.specs.declared.cell.Kind.{Kind}
 use Rattle.txn_model.specs.declared.cell.Lock.{Lock}
 use Rattle.txn_model.specs.declared.cell.Write.{Write}
 use Rattle.txn_model.specs.declared.rule.Rule.TheVariants.{RollBack, RollBackMissing, ReleaseUpTo}
-use Rattle.txn_model.specs.Cells.{Key, key_eq, has_key, no_cell, cell_at, changed_at, each_changed, AreInOrder}
+use Rattle.txn_model.specs.Cells.{Key, key_eq, has_key, no_cell, cell_at, changed_at, AreInOrder}
 use Rattle.txn_model.specs.Commit.{commit_by, first_commit_error, committed, commit_lock}
 use Rattle.txn_model.specs.Destroy.{cells_outside}
 use Rattle.txn_model.specs.Locks.{has_start, is_prewrite, owns, holds, commit_of, lock_info}
@@ -45,7 +45,7 @@ use Rattle.txn_model.specs.Rollback.{batch_rollback_by, first_rollback_error, cl
 use Rattle.txn_model.specs.Settle.{rolled_back, released, unlocked, mismatched_lock, lock_of_start}
 use Rattle.txn_model.specs.Status.{Finding, finding, status_cell, goes_unrecorded, check_txn_status_by, is_missing, missing_rolled_back, check_secondary_locks_by, longer_lived, with_lock, txn_heart_beat_by}
 use Rattle.txn_model.specs.Status.Finding.{Mismatched, Expired, Live, IsCommitted, IsRolledBack, Nothing}
-use Rattle.txn_model.specs.Steps.{has_info, DestroysAt}
+use Rattle.txn_model.specs.Steps.{has_info}
 use Rattle.txn_model.specs.Store.{Store}
 use Rattle.txn_model.specs.Table.{table}
 use Rattle.txn_model.proofs.CellLists.{KeepsKeys, key_of_cell, cell_changed, cell_each}

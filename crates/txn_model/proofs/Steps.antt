@@ -1,5 +1,5 @@
 -- What a request does to one cell is one of a few changes, and each fact about cells is shown once for each of them.
-use Rattle.std.proofs.Common.{◌≡◌, ℕ, ◌<◌, ◌⊎◌, inl, inr, Bool, true, false, ◌&&◌, ◌||◌, cond, List, [], ◌∷◌, Option, Some, None, nat_eq, refl, sym, ap, ◌∙◌, subst, arith}
+use Rattle.std.proofs.Common.{◌≡◌, ℕ, Bool, true, false, ◌&&◌, Option, Some, None, nat_eq, refl, sym, subst, arith}
 use Rattle.std.specs.Prelude.{if◌then◌else◌}
 use Rattle.std.proofs.lemmas.Bool.Decides.{nat_tests}
 use Rattle.txn_kv.specs.declared.request.Request.{Request}
@@ -12,9 +12,9 @@ use Rattle.txn_model.specs.Locks.{has_start, is_prewrite, owns, holds, commit_of
 use Rattle.txn_model.specs.Orderly.{IsOrderly}
 use Rattle.txn_model.specs.Settle.{with_start, rolled_back, released, unlocked}
 use Rattle.txn_model.specs.Status.{longer_lived, with_lock}
-use Rattle.txn_model.specs.Steps.{PrewritesAt, LocksAt, CommitsAt, RollsBackAt, ReleasesAt, DestroysAt, StandsOn, commit_from, PrewriteLockBecomes, PessimisticLockBecomes}
+use Rattle.txn_model.specs.Steps.{PrewritesAt, LocksAt, CommitsAt, RollsBackAt, ReleasesAt, DestroysAt}
 use Rattle.txn_model.specs.Store.{Store}
-use Rattle.txn_model.proofs.Orders.{ascend_with, differ_with, start_with, has_with_start, commit_of_with}
+use Rattle.txn_model.proofs.Orders.{ascend_with, differ_with, start_with, has_with_start}
 
 -- a lock is set
 abbrev pub held : Lock → Cell → Cell

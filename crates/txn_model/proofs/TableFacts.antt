@@ -42,7 +42,7 @@ use Rattle.txn_model.specs.Read.{read_at, read_pair, told_value, get_by, batch_g
 use Rattle.txn_model.specs.Refusals.{region_error_in, refuses, read_timestamp}
 use Rattle.txn_model.specs.Resolve.{resolve_lock_by, scan_lock_by}
 use Rattle.txn_model.specs.Rollback.{batch_rollback_by, first_rollback_error, cleanup_by, pessimistic_rollback_by}
-use Rattle.txn_model.specs.Served.{last_by, last_after, others_stay}
+use Rattle.txn_model.specs.Served.{last_by, last_after}
 use Rattle.txn_model.specs.Settle.{lock_of_start, mismatched_lock, rolled_back}
 use Rattle.txn_model.specs.Status.{Finding, finding, status_cell, status_reply, status_told, no_status, check_txn_status_by, check_secondary_locks_by, txn_heart_beat_by}
 use Rattle.txn_model.specs.Status.Finding.{Mismatched, Expired, Live, IsCommitted, IsRolledBack, Nothing}

@@ -1,7 +1,6 @@
-use Rattle.std.proofs.Common.{rules, of_calls, ◌≡◌, ◌≤◌, true, false, get_or, arith}
+use Rattle.std.proofs.Common.{rules, of_calls, ◌≡◌, true, false, get_or, arith}
 use Rattle.std.specs.Prelude.{nat_le}
 use Rattle.std.specs.List.Sorted.{IsPartitionPoint}
-use Rattle.std.proofs.lemmas.Bool.Decides.{nat_tests}
 use Rattle.std.proofs.lemmas.Fn.{always_returns_same}
 use Rattle.txn_model.specs.declared.cell.Write.{Write}
 use Rattle.txn_model.proofs.Written.{commits_rise, le_trans}

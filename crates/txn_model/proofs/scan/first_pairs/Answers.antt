@@ -1,5 +1,4 @@
-use Rattle.std.proofs.Common.{◌≡◌, ◌<◌, ◌≤◌, ◌+◌, length, map, take, arith}
-use Rattle.std.specs.List.{filter_map}
+use Rattle.std.proofs.Common.{◌≡◌, ◌<◌, length, arith}
 use Rattle.txn_model.specs.Read.{read_pair}
 use Rattle.txn_model.specs.Scans.{ordered, shown}
 use Rattle.txn_model.proofs.Scanning.{next_some, next_none, stopped, length_more, length_same, ordered_length}

@@ -3,7 +3,6 @@ use Rattle.txn_model.specs.Cells.{cell_at, each_changed}
 use Rattle.txn_model.specs.Changes.{all_made}
 use Rattle.txn_model.specs.Settling.{all_committed, commitments, changes}
 use Rattle.txn_model.proofs.Settled.{settled_is_changed}
-use Rattle.txn_model.specs.declared.cell.Cell.{Cell}
 use Rattle.txn_model.specs.Resolve.{infos, is_in_context, all_settled}
 use Rattle.txn_model.proofs.OrderlyCells.{orderly_settled}
 use Rattle.txn_model.proofs.settle.settle_all.Goals as goal

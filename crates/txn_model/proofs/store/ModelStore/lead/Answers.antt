@@ -1,5 +1,3 @@
-use Rattle.std.proofs.Common.{◌≡◌}
-use Rattle.txn_model.specs.Regions.{led_by}
 use Rattle.txn_model.specs.Splits.{AreCounted}
 use Rattle.txn_model.proofs.Splitting.{counted_led}
 use Rattle.txn_model.proofs.store.ModelStore.lead.Goals as goal

@@ -1,5 +1,4 @@
-use Rattle.std.proofs.Common.{◌≡◌, ◌+◌, ◌<◌, ◌^◌, length, arith}
-use Rattle.txn_model.specs.Regions.{split_at}
+use Rattle.std.proofs.Common.{◌+◌, length, arith}
 use Rattle.txn_model.specs.Splits.{AreCounted}
 use Rattle.txn_model.proofs.Splitting.{counted_split, counted_fit}
 use Rattle.txn_model.proofs.store.ModelStore.split.Goals as goal
