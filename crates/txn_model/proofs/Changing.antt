@@ -1,18 +1,15 @@
 -- Changes of cells beside their commits.
-use Rattle.std.proofs.Common.{◌≡◌, ℕ, ◌+◌, ◌<◌, ◌≤◌, Bool, true, false, ◌&&◌, if◌then◌else◌, List, [], ◌∷◌, ◌++◌, map, take, drop, reverse, length, get_or, set, Option, Some, None, refl, sym, ap, ◌∙◌, subst, arith}
-use Rattle.std.specs.Prelude.{◌||◌, ◌==◌, nat_eq, unwrap_or}
-use Rattle.std.specs.List.{insert, remove}
+use Rattle.std.proofs.Common.{◌≡◌, ℕ, Bool, true, false, if◌then◌else◌, List, [], ◌∷◌, ◌++◌, map, reverse, Option, Some, None, refl, sym, ap, ◌∙◌}
+use Rattle.std.specs.Prelude.{◌||◌}
 use Rattle.std.proofs.lemmas.List.{reverse-append}
 use Rattle.txn_model.specs.declared.cell.Cell.{Cell}
-use Rattle.txn_model.specs.declared.cell.Lock.{Lock}
 use Rattle.txn_model.specs.declared.change.Change.{Change}
 use Rattle.txn_model.specs.declared.change.LockChange.{LockChange}
 use Rattle.txn_model.specs.declared.change.LockChange.TheVariants.{Stays, Goes, Becomes}
-use Rattle.txn_model.specs.Cells.{Key, key_eq, has_key, has_none, no_cell, is_empty_cell, cell_at, changed_at, AreKept}
-use Rattle.txn_model.specs.Changes.{lock_after, made, made_by, all_made}
-use Rattle.txn_model.specs.Places.{IsAt, IsGapFor}
+use Rattle.txn_model.specs.Cells.{Key, key_eq, has_key, cell_at, changed_at, AreKept}
+use Rattle.txn_model.specs.Changes.{made, made_by, all_made}
 use Rattle.txn_model.proofs.CellLists.{key_of_cell, same_cells, kept_changed, cell_changed, KeepsKeys}
-use Rattle.txn_model.proofs.Keys.{same_key, key_itself}
+use Rattle.txn_model.proofs.Keys.{same_key}
 
 -- one change more in a row of them
 pub made_next : (before rest : List Change) (x : Change) → before ≡ rest ++ x ∷ [] → (cs ds : List Cell) → ((j : Key) → cell_at ds j ≡ (if key_eq x.key j then made_by x (cell_at cs j) else cell_at cs j)) → (j : Key) → all_made (reverse rest) (cell_at ds j) ≡ all_made (reverse before) (cell_at cs j)

@@ -1,5 +1,5 @@
 -- Some of the cells, in their order.
-use Rattle.std.proofs.Common.{◌≡◌, Bool, true, false, List, [], ◌∷◌}
+use Rattle.std.proofs.Common.{Bool, true, false, List, [], ◌∷◌}
 use Rattle.std.specs.Prelude.{cond}
 use Rattle.std.specs.List.{filter}
 use Rattle.txn_model.specs.declared.cell.Cell.{Cell}
@@ -14,7 +14,7 @@ module _ (p : Cell → Bool) where
       by true rest = (a.0, rest)
       by false rest = rest
 
-  order_filter : (cs : List Cell) → AreInOrder cs → AreInOrder (filter p cs)
+  pub order_filter : (cs : List Cell) → AreInOrder cs → AreInOrder (filter p cs)
   order_filter [] a = tt
   order_filter (c ∷ cs) a = by (p c) (order_filter cs a.1) (above_filter c.key cs a.0)
     where

@@ -1,5 +1,5 @@
 -- Cells stay in the order of their keys, and none is empty.
-use Rattle.std.proofs.Common.{List, [], ◌∷◌, Option, Some, None, not, if◌then◌else◌, refl}
+use Rattle.std.proofs.Common.{List, [], ◌∷◌, Option, Some, None, not, refl}
 use Rattle.txn_kv.specs.declared.message.KeyError.{KeyError}
 use Rattle.txn_kv.specs.declared.message.RegionErr.{RegionErr}
 use Rattle.txn_kv.specs.declared.request.BatchGetRequest.{BatchGetRequest}
@@ -32,7 +32,6 @@ use Rattle.txn_model.specs.Ranges.{in_range}
 use Rattle.txn_model.specs.Read.{get_by, batch_get_by, scan_by}
 use Rattle.txn_model.specs.Resolve.{resolve_lock_by, scan_lock_by}
 use Rattle.txn_model.specs.Rollback.{batch_rollback_by, first_rollback_error, cleanup_by, pessimistic_rollback_by, released_by}
-use Rattle.txn_model.specs.Rules.{changed_by}
 use Rattle.txn_model.specs.Settle.{rolled_back, mismatched_lock, lock_of_start}
 use Rattle.txn_model.specs.Status.{Finding, finding, status_cell, check_txn_status_by, check_secondary_locks_by, missing_rolled_back, txn_heart_beat_by, with_lock, longer_lived}
 use Rattle.txn_model.specs.Store.{Store}

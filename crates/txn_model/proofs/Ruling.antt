@@ -1,12 +1,11 @@
 -- What is made ready for a rule does what the rule says.
-use Rattle.std.proofs.Common.{◌≡◌, ℕ, Bool, true, false, not, ◌&&◌, if◌then◌else◌, List, [], ◌∷◌, map, Option, Some, None, refl, sym, ap, ◌∙◌}
-use Rattle.std.specs.Prelude.{unwrap_or, ◌||◌}
+use Rattle.std.proofs.Common.{◌≡◌, ℕ, Bool, true, false, not, ◌&&◌, if◌then◌else◌, List, [], ◌∷◌, map, Some, None, refl, sym, ap, ◌∙◌}
 use Rattle.txn_model.specs.declared.cell.Cell.{Cell}
 use Rattle.txn_model.specs.declared.change.Change.{Change}
 use Rattle.txn_model.specs.declared.rule.Rule.{Rule}
 use Rattle.txn_model.specs.declared.rule.Rule.TheVariants.{RollBack, RollBackMissing, Release, ReleaseUpTo, Stay}
-use Rattle.txn_model.specs.Cells.{Key, cell_at, changed_at, has_key, key_eq, AreKept}
-use Rattle.txn_model.specs.Changes.{made, made_by, all_made, lock_after}
+use Rattle.txn_model.specs.Cells.{Key, cell_at, changed_at, key_eq, AreKept}
+use Rattle.txn_model.specs.Changes.{made, made_by, all_made}
 use Rattle.txn_model.specs.Locks.{owns, holds}
 use Rattle.txn_model.specs.Rollback.{is_for_update_by}
 use Rattle.txn_model.specs.Rules.{changed_by, change_of, rolling_back, unlocking, goes_if}

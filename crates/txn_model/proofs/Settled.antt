@@ -1,9 +1,7 @@
 -- The locks of a region, settled one after another.
-use Rattle.std.proofs.Common.{◌≡◌, ℕ, ◌+◌, ◌<◌, ◌≤◌, Bool, true, false, not, ◌&&◌, if◌then◌else◌, List, [], ◌∷◌, ◌++◌, take, drop, length, get_or, Option, Some, None, refl, sym, ap, ◌∙◌, subst}
-use Rattle.std.specs.Prelude.{find, nat_eq, nat_lt}
-use Rattle.std.specs.declared.cmp.Ordering.TheVariants.{Less}
+use Rattle.std.proofs.Common.{◌≡◌, ℕ, ◌+◌, ◌<◌, Bool, true, false, ◌&&◌, if◌then◌else◌, List, [], ◌∷◌, ◌++◌, take, length, get_or, Option, Some, None, refl, sym, ap, ◌∙◌, subst}
+use Rattle.std.specs.Prelude.{nat_eq, nat_lt}
 use Rattle.std.proofs.lemmas.List.{take_more}
-use Rattle.txn_kv.specs.declared.message.Context.{Context}
 use Rattle.txn_kv.specs.declared.message.TxnInfo.{TxnInfo}
 use Rattle.txn_kv.specs.declared.request.ResolveLockRequest.{ResolveLockRequest}
 use Rattle.txn_model.specs.declared.cell.Cell.{Cell}
@@ -13,16 +11,16 @@ use Rattle.txn_model.specs.declared.change.Change.{Change}
 use Rattle.txn_model.specs.declared.region.StoredRegion.{StoredRegion}
 use Rattle.txn_model.specs.declared.rule.Rule.TheVariants.{RollBack, Release}
 use Rattle.txn_model.specs.declared.unlock.Commitment.{Commitment}
-use Rattle.txn_model.specs.Cells.{Key, key_eq, key_cmp, no_cell, cell_at, each_changed, AllAbove, AreInOrder, AreKept}
-use Rattle.txn_model.specs.Changes.{made, made_by, all_made}
-use Rattle.txn_model.specs.Commit.{committed, commit_lock}
-use Rattle.txn_model.specs.Locks.{owns, holds, is_prewrite, with_commit}
+use Rattle.txn_model.specs.Cells.{Key, key_eq, no_cell, cell_at, each_changed, AllAbove, AreInOrder, AreKept}
+use Rattle.txn_model.specs.Changes.{made_by, all_made}
+use Rattle.txn_model.specs.Commit.{committed}
+use Rattle.txn_model.specs.Locks.{owns, is_prewrite, with_commit}
 use Rattle.txn_model.specs.Resolve.{infos, settled, all_settled, is_in_context}
 use Rattle.txn_model.specs.Rules.{rolling_back, unlocking, holds_pessimistic}
 use Rattle.txn_model.specs.Settle.{rolled_back, released, with_start}
 use Rattle.txn_model.specs.Settling.{all_committed, info_for, info_at, becomes_commit, commitment_by, settling, change_by, commitments, changes, settled_by}
 use Rattle.txn_model.proofs.CellLists.{key_of_cell, same_cells, order_each, none_empty_each, cell_each, KeepsKeys}
-use Rattle.txn_model.proofs.Keys.{same_key, key_itself, differs_if_greater}
+use Rattle.txn_model.proofs.Keys.{key_itself, differs_if_greater}
 use Rattle.txn_model.proofs.Ruling.{makes}
 use Rattle.txn_model.proofs.Unlocking.{commit_key_same}
 
@@ -194,7 +192,7 @@ module _ (gs : List StoredRegion) (r : ResolveLockRequest) where
       by true e rest = here
       by false e rest = later e rest
 
-  in_region_keys : KeepsKeys (λ c. if is_in_context gs r.context c.key then all_settled (infos r) c else c)
+  pub in_region_keys : KeepsKeys (λ c. if is_in_context gs r.context c.key then all_settled (infos r) c else c)
   in_region_keys c = ap (λ x. x.key) (sym (settled_is gs r c) ∙ sym (one_settled (info_at gs r c) c)) ∙ (changed_key (change_by (info_at gs r c) c) (all_committed (commitment_by (info_at gs r c) c) c) ∙ committed_key (commitment_by (info_at gs r c) c) c)
     where
       changed_key : (xs : List Change) (d : Cell) → (all_made xs d).key ≡ d.key

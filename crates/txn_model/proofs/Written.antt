@@ -1,8 +1,10 @@
 -- The newest commits of a key.
-use Rattle.std.proofs.Common.{◌≡◌, ℕ, suc, zero, ◌-◌, ◌+◌, ◌<◌, true, false, ◌&&◌, List, [], ◌∷◌, ◌++◌, take, get_or, length, Option, Some, None, refl, ap, ◌∙◌, arith}
+use Rattle.std.proofs.Common.{◌≡◌, ℕ, suc, zero, ◌-◌, ◌+◌, ◌<◌, ◌≤◌, true, false, ◌&&◌, List, [], ◌∷◌, ◌++◌, take, get_or, length, Option, Some, None, refl, ap, ◌∙◌, arith}
 use Rattle.std.specs.Prelude.{slice_get, nat_le, if◌then◌else◌}
+use Rattle.std.proofs.lemmas.Bool.Decides.{nat_tests}
 use Rattle.std.proofs.lemmas.List.{take_more}
 use Rattle.txn_model.specs.declared.cell.Write.{Write}
+use Rattle.txn_model.specs.Orderly.{AllFrom, CommitsAscend}
 use Rattle.txn_model.specs.Locks.{newest_after, newest_commit, last_written, or_earlier, is_written}
 
 newest_at : (n : ℕ) (ws : List Write) (w : Write) (k : ℕ) → k + 1 ≡ length ws → slice_get ws k ≡ Some w → newest_after n ws ≡ w.commit
@@ -42,3 +44,29 @@ written_found ws i j w t e l is holds = rw (e, written_more ws i w t l, ← is, 
 
 pub written_passed : (ws : List Write) (i j : ℕ) (w : Write) (t : ℕ) → j ≡ i + 1 → i < length ws → w ≡ get_or ws i w → (nat_le w.commit t && is_written w.kind) ≡ false → last_written (take j ws) t ≡ last_written (take i ws) t
 written_passed ws i j w t e l is fails = rw (e, written_more ws i w t l, ← is, fails) refl
+
+-- commits that are later than t say nothing at t
+pub later_passed : (ws : List Write) (n t : ℕ) → ((i : ℕ) (d : Write) → n ≤ i → i < length ws → nat_le (get_or ws i d).commit t ≡ false) → last_written ws t ≡ last_written (take n ws) t
+later_passed [] zero t h = refl
+later_passed [] (suc n) t h = refl
+later_passed (w ∷ ws) zero t h =
+    let first : nat_le w.commit t ≡ false = h 0 w (omega arith) (omega arith) in
+    let rest : last_written ws t ≡ last_written (take 0 ws) t = later_passed ws zero t (λ i d a b. h (suc i) d (omega arith) (omega arith)) in
+    rw first (ap (λ o. or_earlier o None) rest)
+later_passed (w ∷ ws) (suc n) t h = ap (λ o. or_earlier o (written_by w t)) (later_passed ws n t (λ i d a b. h (suc i) d (omega arith) (omega arith)))
+
+-- commits in the order of `commit` do not fall
+commits_from : (n : ℕ) (ws : List Write) (j : ℕ) (d : Write) → AllFrom n ws → j < length ws → n ≤ (get_or ws j d).commit
+commits_from n [] j d a l = absurd (omega arith)
+commits_from n (w ∷ ws) zero d a l = a.0
+commits_from n (w ∷ ws) (suc j) d a l = commits_from n ws j d a.1 (omega arith)
+
+pub commits_rise : (ws : List Write) (i j : ℕ) (d : Write) → CommitsAscend ws → i ≤ j → j < length ws → (get_or ws i d).commit ≤ (get_or ws j d).commit
+commits_rise [] i j d a le l = absurd (omega arith)
+commits_rise (w ∷ ws) zero zero d a le l = omega arith
+commits_rise (w ∷ ws) zero (suc j) d a le l = commits_from w.commit ws j d a.0 (omega arith)
+commits_rise (w ∷ ws) (suc i) zero d a le l = absurd (omega arith)
+commits_rise (w ∷ ws) (suc i) (suc j) d a le l = commits_rise ws i j d a.1 (omega arith) (omega arith)
+
+pub le_trans : (a b t : ℕ) → a ≤ b → nat_le b t ≡ true → nat_le a t ≡ true
+le_trans a b t le h = grind (arith, nat_tests)

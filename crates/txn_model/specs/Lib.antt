@@ -3,8 +3,11 @@ pub mod Changes
 pub mod Commit
 pub mod Destroy
 pub mod Handled
+pub mod HeartBeats
+pub mod InOrder
 pub mod Locking
 pub mod Locks
+pub mod Orderly
 pub mod PessimisticLock
 pub mod Placement
 pub mod Places
@@ -12,6 +15,7 @@ pub mod Placings
 pub mod Prewrite
 pub mod Ranges
 pub mod Read
+pub mod Refusals
 pub mod Regions
 pub mod Resolve
 pub mod Rollback
@@ -23,6 +27,7 @@ pub mod Settling
 pub mod Splits
 pub mod Status
 pub mod Statuses
+pub mod Steps
 pub mod Store
 pub mod Table
 pub mod Unlocks

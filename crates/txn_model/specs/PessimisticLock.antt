@@ -12,7 +12,7 @@ use Rattle.txn_kv.specs.declared.reply.Reply.TheVariants.{PessimisticLock}
 use Rattle.txn_model.specs.declared.cell.Cell.{Cell}
 use Rattle.txn_model.specs.declared.cell.Kind.TheVariants.{Pessimistic}
 use Rattle.txn_model.specs.declared.cell.Lock.{Lock}
-use Rattle.txn_model.specs.Cells.{Key, cell_at, changed_at}
+use Rattle.txn_model.specs.Cells.{cell_at, changed_at}
 use Rattle.txn_model.specs.Locks.{has_start, is_prewrite, newest_commit, value_at, lock_info}
 use Rattle.txn_model.specs.Prewrite.{mutation_keys}
 use Rattle.txn_model.specs.Read.{read_at}

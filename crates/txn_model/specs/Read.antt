@@ -1,5 +1,5 @@
 -- Get, BatchGet and Scan: the newest values at a timestamp, or the locks that stand in the way.
-use Rattle.std.specs.Prelude.{ℕ, max, true, false, ◌&&◌, if◌then◌else◌, List, [], ◌∷◌, map, take, reverse, Option, Some, None, nat_le}
+use Rattle.std.specs.Prelude.{ℕ, max, true, false, ◌&&◌, if◌then◌else◌, List, [], map, take, reverse, Option, Some, None, nat_le}
 use Rattle.std.specs.List.{filter_map}
 use Rattle.txn_kv.specs.declared.message.KeyError.TheVariants.{Locked}
 use Rattle.txn_kv.specs.declared.message.PbPair.{PbPair}

@@ -1,5 +1,5 @@
 -- What changes the store from outside: a region is split or led elsewhere, the clock is set.
-use Rattle.std.specs.Prelude.{ℕ, ◌+◌, Bool, true, false, not, ◌&&◌, if◌then◌else◌, List, [], ◌∷◌, length, map, Option, Some, None, is_some, nat_eq, nat_le}
+use Rattle.std.specs.Prelude.{ℕ, ◌+◌, Bool, not, ◌&&◌, if◌then◌else◌, List, [], ◌∷◌, length, map, is_some, nat_eq, nat_le}
 use Rattle.std.specs.List.{list_any}
 use Rattle.txn_kv.specs.declared.message.RegionEpoch.{RegionEpoch}
 use Rattle.txn_model.specs.declared.region.StoredRegion.{StoredRegion}

@@ -1,5 +1,5 @@
 -- ResolveLock and ScanLock: the locks of a region or a range are settled or shown.
-use Rattle.std.specs.Prelude.{ℕ, Bool, false, ◌&&◌, if◌then◌else◌, List, [], ◌∷◌, take, Option, Some, None, nat_le, nat_lt}
+use Rattle.std.specs.Prelude.{ℕ, Bool, false, if◌then◌else◌, List, [], ◌∷◌, take, Option, Some, None, nat_le, nat_lt}
 use Rattle.std.specs.List.{filter_map}
 use Rattle.txn_kv.specs.declared.message.Context.{Context}
 use Rattle.txn_kv.specs.declared.message.LockInfo.{LockInfo}

@@ -1,5 +1,5 @@
 -- How requests change the cells of their keys, and what they make ready for it.
-use Rattle.std.specs.Prelude.{ℕ, Bool, true, false, not, ◌&&◌, if◌then◌else◌, Option, Some, None}
+use Rattle.std.specs.Prelude.{ℕ, Bool, true, false, not, ◌&&◌, if◌then◌else◌, Some, None}
 use Rattle.txn_model.specs.declared.cell.Cell.{Cell}
 use Rattle.txn_model.specs.declared.change.Change.{Change}
 use Rattle.txn_model.specs.declared.change.LockChange.{LockChange}

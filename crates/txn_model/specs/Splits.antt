@@ -1,9 +1,8 @@
 -- Regions that can be split.
-use Rattle.std.specs.Prelude.{◌+◌, ◌<◌, ◌^◌, Bool, List, [], ◌∷◌, length}
+use Rattle.std.specs.Prelude.{ℕ, ◌+◌, ◌<◌, ◌≤◌, ◌^◌, Bool, List, [], ◌∷◌, length}
 use Rattle.txn_model.specs.declared.region.StoredRegion.{StoredRegion}
 use Rattle.txn_model.specs.Cells.{Key}
 use Rattle.txn_model.specs.Ranges.{in_range}
-use Rattle.txn_model.specs.Store.{Store}
 
 -- the region's range holds the key
 abbrev pub holds : Key → StoredRegion → Bool
@@ -14,6 +13,11 @@ abbrev pub VersionsFit : List StoredRegion → Type 0
 VersionsFit [] = Unit {0}
 VersionsFit (g ∷ gs) = (g.epoch.version + 1 < 2 ^ 64) × VersionsFit gs
 
-pub record CanCountRegions (st : Store) : Type 0 where
-  pub versions : VersionsFit st.regions
-  pub ids : length st.regions + 1 < 2 ^ 64
+-- each version is at most n
+abbrev pub VersionsUpTo : ℕ → List StoredRegion → Type 0
+VersionsUpTo n [] = Unit {0}
+VersionsUpTo n (g ∷ gs) = (g.epoch.version ≤ n) × VersionsUpTo n gs
+
+-- each version is at most the number of regions
+abbrev pub AreCounted : List StoredRegion → Type 0
+AreCounted gs = VersionsUpTo (length gs) gs

@@ -1,10 +1,11 @@
 //! Cells in the order of their keys.
-ghost use Rattle.std.specs.Prelude.{◌≡◌, ◌+◌, ◌<◌, ◌≤◌, IfOk, IfErr, insert, unwrap_or, length, vec_len, vec_capacity};
+ghost use Rattle.std.specs.Prelude.{◌≡◌, ◌+◌, ◌<◌, ◌≤◌, IfOk, IfErr, IfSome, insert, unwrap_or, length, vec_len, vec_capacity};
 ghost use Rattle.std.specs.Option.{option_copied};
 ghost use Rattle.txn_model.specs.Cells.{AreInOrder, no_cell, cell_at};
 ghost use Rattle.txn_model.specs.Locks.{owns, holds, commit_of};
-ghost use Rattle.txn_model.specs.Settle.{lock_of_start};
+ghost use Rattle.txn_model.specs.Orderly.{AreOrderly, CommitsAscend};
 ghost use Rattle.txn_model.specs.Places.{IsAt, IsGapFor};
+ghost use Rattle.txn_model.specs.Settle.{lock_of_start};
 
 use crate::cell::{Cell, Lock, Write};
 use crate::commits;
@@ -22,7 +23,8 @@ pub fn search(cells: &[Cell], key: &Key) -> Result<usize, usize>
 /// The cell of a key, if one is kept.
 pub fn find<'a>(cells: &'a [Cell], key: &Key) -> Option<&'a Cell>
     requires { AreInOrder cells.now }
-    ensures { unwrap_or (option_copied result) (no_cell key.now) ≡ cell_at cells.now key.now }
+    ensures value { unwrap_or (option_copied result) (no_cell key.now) ≡ cell_at cells.now key.now }
+    ensures commits { AreOrderly cells.now → IfSome result (λ cell. CommitsAscend cell.now.commits) }
 {
     match search(cells, key) {
         Ok(at) => Some(&cells[at]),

@@ -2,6 +2,7 @@
 ghost use Rattle.std.specs.Prelude.{◌≡◌, IfOk, OnOk, OnErr};
 ghost use Rattle.txn_model.specs.Cells.{AreInOrder, AreKept, cell_at, changed_at};
 ghost use Rattle.txn_model.specs.Commit.{uncommitted, commit_error, first_commit_error, committed};
+ghost use Rattle.txn_model.specs.Orderly.{AreOrderly};
 
 use crate::cell::Cell;
 use crate::cells::find;
@@ -88,9 +89,11 @@ pub fn first_error(
 
 /// Makes commits of the locks of a request's keys.
 pub fn commit_all(cells: &mut Vec<Cell>, request: &CommitRequest) -> Result<(), NoMemory>
-    requires { AreKept cells.old.items }
+    requires kept { AreKept cells.old.items }
+    requires ordered { AreOrderly cells.old.items }
     ensures ok { OnOk result (cells.new.items ≡ changed_at request.now.keys (committed request.now.start_version request.now.commit_version) cells.old.items) }
     ensures kept { AreKept cells.new.items }
+    ensures ordered { AreOrderly cells.new.items }
     ensures err { OnErr result (cells.new.items ≡ cells.old.items) }
 {
     commit_keys(

@@ -1,42 +1,40 @@
 //! Heartbeats: a lock lives longer.
-ghost use Rattle.std.specs.Prelude.{◌≡◌, ◌∷◌, [], IfOk, OnOk, OnErr};
-ghost use Rattle.txn_model.specs.Cells.{AreKept, changed_at};
-ghost use Rattle.txn_model.specs.Status.{longer_lived, with_lock};
+ghost use Rattle.std.specs.Prelude.{◌≡◌};
+ghost use Rattle.txn_model.specs.Cells.{AreKept, cell_at};
+ghost use Rattle.txn_model.specs.HeartBeats.{ttl_told, lengthened, lengthened_at};
+ghost use Rattle.txn_model.specs.Orderly.{AreOrderly};
+ghost use Rattle.txn_model.specs.Settle.{lock_of_start};
 
 use crate::cell::{Cell, Lock};
-use crate::change::{Change, LockChange, make_change};
-use txn_kv::{Key, NoMemory};
+use crate::cells::search;
+use txn_kv::Key;
 
-/// The lock with the greater of its time to live and this.
-pub fn longer_lived(lock: &Lock, ttl: u64) -> Result<Lock, NoMemory>
-    ensures { IfOk result (λ longer. longer ≡ longer_lived ttl lock.now) }
+/// Lengthens the life of the lock of a start: what its time to live is then, if it has one.
+fn lengthen_lock(lock: &mut Option<Lock>, start: u64, ttl: u64) -> Option<u64>
+    ensures lock { lock.new ≡ lengthened start ttl lock.old }
+    ensures told { result ≡ ttl_told ttl (lock_of_start start lock.old) }
 {
-    Ok(Lock {
-        start: lock.start,
-        primary: lock.primary.try_clone()?,
-        kind: lock.kind,
-        value: lock.value.try_clone()?,
-        ttl: lock.ttl.max(ttl),
-        for_update: lock.for_update,
-        min_commit: lock.min_commit,
-        use_async: lock.use_async,
-        secondaries: lock.secondaries.try_clone()?,
-    })
+    let Some(lock) = lock else {
+        return None;
+    };
+    if lock.start != start {
+        return None;
+    }
+    lock.ttl = lock.ttl.max(ttl);
+    Some(lock.ttl)
 }
 
-/// Sets the lock of a key.
-pub fn set_lock_at(cells: &mut Vec<Cell>, key: &Key, lock: Lock) -> Result<(), NoMemory>
-    requires { AreKept cells.old.items }
-    ensures ok { OnOk result (cells.new.items ≡ changed_at (key.now ∷ []) (with_lock lock) cells.old.items) }
+/// The same of the lock at a key. Takes no memory.
+pub fn lengthen(cells: &mut Vec<Cell>, key: &Key, start: u64, ttl: u64) -> Option<u64>
+    requires kept { AreKept cells.old.items }
+    requires ordered { AreOrderly cells.old.items }
+    ensures cells { cells.new.items ≡ lengthened_at key.now ttl (lock_of_start start (cell_at cells.old.items key.now).lock) cells.old.items }
+    ensures told { result ≡ ttl_told ttl (lock_of_start start (cell_at cells.old.items key.now).lock) }
     ensures kept { AreKept cells.new.items }
-    ensures err { OnErr result (cells.new.items ≡ cells.old.items) }
+    ensures ordered { AreOrderly cells.new.items }
 {
-    let change = Change {
-        key: key.try_clone()?,
-        lock: LockChange::Becomes(lock),
-        rolled: None,
-    };
-    cells.reserve(1)?;
-    make_change(cells, change);
-    Ok(())
+    match search(cells.as_slice(), key) {
+        Ok(at) => lengthen_lock(&mut cells[at].lock, start, ttl),
+        Err(_) => None,
+    }
 }

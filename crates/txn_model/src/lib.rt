@@ -7,6 +7,7 @@ mod change;
 mod commit;
 mod commits;
 mod destroy;
+mod facts;
 mod heart_beat;
 mod lead;
 mod pessimistic;
@@ -21,6 +22,7 @@ mod row_tests;
 mod rule;
 mod scan;
 mod secondaries;
+pub mod send;
 mod settle;
 mod split;
 mod status;
@@ -30,5 +32,9 @@ mod tests;
 mod unlock;
 
 pub use cell::{Cell, Kind, Lock, Write};
+pub use facts::{
+    cells_stay_in_order, commits_and_rollbacks_stay, locks_leave, numbers_never_fall,
+    refusals_change_nothing, rolled_back_stays_without, timestamps_rise, what_is_kept_comes,
+};
 pub use region::StoredRegion;
 pub use store::ModelStore;

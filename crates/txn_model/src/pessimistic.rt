@@ -3,6 +3,7 @@ ghost use Rattle.std.specs.Prelude.{◌≡◌, Some, map, is_none, IfOk, OnOk, O
 ghost use Rattle.txn_kv.specs.declared.message.KeyError.TheVariants.{Abort};
 ghost use Rattle.txn_model.specs.Cells.{AreInOrder, AreKept, cell_at, changed_at};
 ghost use Rattle.txn_model.specs.Locking.{locking};
+ghost use Rattle.txn_model.specs.Orderly.{AreOrderly, CommitsAscend};
 ghost use Rattle.txn_model.specs.PessimisticLock.{asserts_absence, value_for_update, newest_conflict, pessimistic_error, pessimistic_errors, pessimistic_lock_of, raised_lock, locked_for_update, value_or_empty, values_for_update};
 ghost use Rattle.txn_model.specs.Prewrite.{mutation_keys};
 
@@ -26,6 +27,7 @@ fn newest_conflict(
     mutation: &Mutation,
     cell: &Cell,
 ) -> Result<Option<KeyError>, NoMemory>
+    requires { CommitsAscend cell.now.commits }
     ensures { IfOk result (λ error. error ≡ newest_conflict request.now mutation.now cell.now) }
 {
     let commits = cell.commits.as_slice();
@@ -62,6 +64,7 @@ fn pessimistic_error(
     mutation: &Mutation,
     cell: &Cell,
 ) -> Result<Option<KeyError>, NoMemory>
+    requires { CommitsAscend cell.now.commits }
     ensures { IfOk result (λ error. error ≡ pessimistic_error request.now mutation.now cell.now) }
 {
     let start = request.start_version;
@@ -88,7 +91,8 @@ fn error_among(
     request: &PessimisticLockRequest,
     mutation: &Mutation,
 ) -> Result<Option<KeyError>, NoMemory>
-    requires { AreInOrder cells.now }
+    requires in_order { AreInOrder cells.now }
+    requires ordered { AreOrderly cells.now }
     ensures { IfOk result (λ error. error ≡ pessimistic_error request.now mutation.now (cell_at cells.now mutation.now.key)) }
 {
     match find(cells, &mutation.key) {
@@ -106,7 +110,8 @@ pub fn pessimistic_errors(
     cells: &[Cell],
     request: &PessimisticLockRequest,
 ) -> Result<Items<KeyError>, NoMemory>
-    requires { AreInOrder cells.now }
+    requires in_order { AreInOrder cells.now }
+    requires ordered { AreOrderly cells.now }
     ensures { IfOk result (λ errors. errors ≡ pessimistic_errors cells.now request.now) }
 {
     let mut errors = Items::new(alloc);
@@ -124,7 +129,8 @@ fn value_for_update(
     request: &PessimisticLockRequest,
     key: &Key,
 ) -> Result<Value, NoMemory>
-    requires { AreInOrder cells.now }
+    requires in_order { AreInOrder cells.now }
+    requires ordered { AreOrderly cells.now }
     ensures { IfOk result (λ value. value ≡ value_or_empty (value_for_update request.now (cell_at cells.now key.now))) }
 {
     let Some(cell) = find(cells, key) else {
@@ -137,7 +143,8 @@ fn value_for_update(
 }
 
 fn lacks_value(cells: &[Cell], request: &PessimisticLockRequest, key: &Key) -> bool
-    requires { AreInOrder cells.now }
+    requires in_order { AreInOrder cells.now }
+    requires ordered { AreOrderly cells.now }
     ensures { result ≡ is_none (value_for_update request.now (cell_at cells.now key.now)) }
 {
     match find(cells, key) {
@@ -152,7 +159,8 @@ pub fn values_for_update(
     cells: &[Cell],
     request: &PessimisticLockRequest,
 ) -> Result<Items<Value>, NoMemory>
-    requires { AreInOrder cells.now }
+    requires in_order { AreInOrder cells.now }
+    requires ordered { AreOrderly cells.now }
     ensures { IfOk result (λ values. values ≡ map value_or_empty (values_for_update cells.now request.now)) }
 {
     let mut values = Items::new(alloc);
@@ -171,7 +179,8 @@ pub fn not_founds(
     cells: &[Cell],
     request: &PessimisticLockRequest,
 ) -> Result<Items<bool>, NoMemory>
-    requires { AreInOrder cells.now }
+    requires in_order { AreInOrder cells.now }
+    requires ordered { AreOrderly cells.now }
     ensures { IfOk result (λ not_founds. not_founds ≡ map is_none (values_for_update cells.now request.now)) }
 {
     let mut flags = Items::new(alloc);
@@ -263,9 +272,11 @@ pub fn lock_for_update(
     cells: &mut Vec<Cell>,
     request: &PessimisticLockRequest,
 ) -> Result<(), NoMemory>
-    requires { AreKept cells.old.items }
+    requires kept { AreKept cells.old.items }
+    requires ordered { AreOrderly cells.old.items }
     ensures ok { OnOk result (cells.new.items ≡ changed_at (mutation_keys request.now.mutations) (locked_for_update request.now) cells.old.items) }
     ensures kept { AreKept cells.new.items }
+    ensures ordered { AreOrderly cells.new.items }
     ensures err { OnErr result (cells.new.items ≡ cells.old.items) }
 {
     let changes = lockings(*cells.allocator(), cells.as_slice(), request)?;

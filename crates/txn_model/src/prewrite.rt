@@ -1,6 +1,7 @@
 //! Prewrite: a lock on each key, where nothing stands in the way.
-ghost use Rattle.std.specs.Prelude.{◌≡◌, ℕ, ◌+◌, ◌^◌, ◌<◌, ◌≤◌, List, if◌then◌else◌, IfOk, OnOk, OnErr, option_to_list, drop, vec_len, vec_capacity};
+ghost use Rattle.std.specs.Prelude.{◌≡◌, [], ℕ, ◌+◌, ◌^◌, ◌<◌, ◌≤◌, List, if◌then◌else◌, IfOk, OnOk, OnErr, option_to_list, drop, vec_len, vec_capacity};
 ghost use Rattle.txn_model.specs.Cells.{AreInOrder, AreKept, Key, key_eq, cell_at, changed_at};
+ghost use Rattle.txn_model.specs.Orderly.{AreOrderly, CommitsAscend};
 ghost use Rattle.txn_model.specs.Prewrite.{kind_of, wants_absent, conflict, first_flag, prewrite_error, prewrite_errors, lock_of, mutation_keys, prewrite_cell};
 ghost use Rattle.txn_model.specs.Placings.{placing_of, placings, locked, all_locked};
 
@@ -44,6 +45,7 @@ fn conflict(
     held: bool,
     commits: &[Write],
 ) -> Result<Option<KeyError>, NoMemory>
+    requires { CommitsAscend commits.now }
     ensures { IfOk result (λ error. error ≡ conflict request.now mutation.now flag held commits.now) }
 {
     let start = request.start_version;
@@ -87,6 +89,7 @@ fn prewrite_error(
     flag: bool,
     cell: &Cell,
 ) -> Result<Option<KeyError>, NoMemory>
+    requires { CommitsAscend cell.now.commits }
     ensures { IfOk result (λ error. error ≡ prewrite_error request.now mutation.now flag cell.now) }
 {
     let start = request.start_version;
@@ -119,7 +122,8 @@ fn error_among(
     mutation: &Mutation,
     flag: bool,
 ) -> Result<Option<KeyError>, NoMemory>
-    requires { AreInOrder cells.now }
+    requires in_order { AreInOrder cells.now }
+    requires ordered { AreOrderly cells.now }
     ensures { IfOk result (λ error. error ≡ prewrite_error request.now mutation.now flag (cell_at cells.now mutation.now.key)) }
 {
     match find(cells, &mutation.key) {
@@ -144,7 +148,8 @@ pub fn prewrite_errors(
     cells: &[Cell],
     request: &PrewriteRequest,
 ) -> Result<Items<KeyError>, NoMemory>
-    requires { AreInOrder cells.now }
+    requires in_order { AreInOrder cells.now }
+    requires ordered { AreOrderly cells.now }
     ensures { IfOk result (λ errors. errors ≡ prewrite_errors cells.now request.now request.now.mutations request.now.is_pessimistic_lock) }
 {
     let flags = request.is_pessimistic_lock.as_slice();
@@ -248,9 +253,12 @@ pub fn set_locks(cells: &mut Vec<Cell>, mut placings: Vec<Placing>)
 
 /// Sets the locks of a request's mutations.
 pub fn lock_all(cells: &mut Vec<Cell>, request: &PrewriteRequest) -> Result<(), NoMemory>
-    requires { AreKept cells.old.items }
+    requires kept { AreKept cells.old.items }
+    requires ordered { AreOrderly cells.old.items }
+    requires free { prewrite_errors cells.old.items request.now request.now.mutations request.now.is_pessimistic_lock ≡ [] }
     ensures ok { OnOk result (cells.new.items ≡ changed_at (mutation_keys request.now.mutations) (prewrite_cell request.now request.now.mutations) cells.old.items) }
     ensures kept { AreKept cells.new.items }
+    ensures ordered { AreOrderly cells.new.items }
     ensures err { OnErr result (cells.new.items ≡ cells.old.items) }
 {
     let ready = placings(*cells.allocator(), request)?;

@@ -3,6 +3,7 @@ ghost use Rattle.std.specs.Prelude.{◌≡◌, ℕ, ◌<◌, ◌≤◌, ◌||◌
 ghost use Rattle.std.specs.Ordering.{is_lt};
 ghost use Rattle.txn_model.specs.declared.cell.Cell.{Cell};
 ghost use Rattle.txn_model.specs.Cells.{AreInOrder, key_cmp, has_none};
+ghost use Rattle.txn_model.specs.Orderly.{AreOrderly};
 ghost use Rattle.txn_model.specs.Ranges.{in_range, cells_in};
 
 use crate::cell::Cell;
@@ -44,8 +45,11 @@ fn count_until(cells: &[Cell], high: &Key) -> usize
 
 /// The cells of a range, in the order of their keys.
 pub fn cells_in<'a>(cells: &'a [Cell], low: &Key, high: &Key) -> &'a [Cell]
-    requires { AreInOrder cells.now }
-    ensures { result.now ≡ cells_in low.now high.now cells.now }
+    requires in_order { AreInOrder cells.now }
+    requires ordered { AreOrderly cells.now }
+    ensures value { result.now ≡ cells_in low.now high.now cells.now }
+    ensures in_order { AreInOrder result.now }
+    ensures ordered { AreOrderly result.now }
 {
     let from = count_below(cells, low);
     let to = count_until(cells, high).max(from);

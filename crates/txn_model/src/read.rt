@@ -3,6 +3,7 @@ ghost use Rattle.std.specs.Prelude.{◌≡◌, [], Some, None, IfOk};
 ghost use Rattle.txn_kv.specs.declared.message.KeyError.TheVariants.{Locked};
 ghost use Rattle.txn_model.specs.Cells.{AreInOrder, cell_at};
 ghost use Rattle.txn_model.specs.Locks.{value_at, value_of, lock_info};
+ghost use Rattle.txn_model.specs.Orderly.{AreOrderly, CommitsAscend};
 ghost use Rattle.txn_model.specs.Read.{pair_of, read_pair, told_value, pairs_at};
 
 use crate::cell::{Cell, Kind, Lock, Write};
@@ -23,6 +24,7 @@ fn put_value(write: &Write) -> Result<Option<Value>, NoMemory>
 
 /// The value at a timestamp.
 pub fn value_at(commits: &[Write], at: u64) -> Result<Option<Value>, NoMemory>
+    requires { CommitsAscend commits.now }
     ensures { IfOk result (λ value. value ≡ value_at commits.now at) }
 {
     match last_written(commits, at) {
@@ -42,6 +44,7 @@ fn locked_pair(alloc: Global, key: &Key, lock: &Lock) -> Result<Option<PbPair>, 
 }
 
 fn value_pair(cell: &Cell, at: u64) -> Result<Option<PbPair>, NoMemory>
+    requires { CommitsAscend cell.now.commits }
     ensures { IfOk result (λ pair. pair ≡ pair_of cell.now at None) }
 {
     match value_at(cell.commits.as_slice(), at)? {
@@ -56,6 +59,7 @@ fn value_pair(cell: &Cell, at: u64) -> Result<Option<PbPair>, NoMemory>
 
 /// What a read at a timestamp finds at a cell: its value, a lock that stands in the way, or nothing.
 pub fn read_pair(alloc: Global, cell: &Cell, at: u64) -> Result<Option<PbPair>, NoMemory>
+    requires { CommitsAscend cell.now.commits }
     ensures { IfOk result (λ pair. pair ≡ read_pair at cell.now) }
 {
     match &cell.lock {
@@ -76,7 +80,8 @@ pub fn read_key(
     key: &Key,
     at: u64,
 ) -> Result<Option<PbPair>, NoMemory>
-    requires { AreInOrder cells.now }
+    requires in_order { AreInOrder cells.now }
+    requires ordered { AreOrderly cells.now }
     ensures { IfOk result (λ pair. pair ≡ read_pair at (cell_at cells.now key.now)) }
 {
     match find(cells, key) {
@@ -112,7 +117,8 @@ pub fn pairs_at(
     keys: &[Key],
     at: u64,
 ) -> Result<Items<PbPair>, NoMemory>
-    requires { AreInOrder cells.now }
+    requires in_order { AreInOrder cells.now }
+    requires ordered { AreOrderly cells.now }
     ensures { IfOk result (λ pairs. pairs ≡ pairs_at at cells.now keys.now) }
 {
     let mut pairs = Items::new(alloc);

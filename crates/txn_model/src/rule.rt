@@ -1,6 +1,7 @@
 //! How requests change the cells of their keys, all or none.
 ghost use Rattle.std.specs.Prelude.{◌≡◌, ◌∷◌, [], map, IfOk, OnOk, OnErr};
 ghost use Rattle.txn_model.specs.Cells.{AreInOrder, AreKept, cell_at, changed_at};
+ghost use Rattle.txn_model.specs.Orderly.{AreOrderly};
 ghost use Rattle.txn_model.specs.Rollback.{is_for_update_by};
 ghost use Rattle.txn_model.specs.Rules.{changed_by, goes_if, rolling_back, unlocking, holds_pessimistic, change_of};
 ghost use Rattle.txn_model.specs.Settle.{with_start};
@@ -151,9 +152,11 @@ fn changes_at(
 
 /// Changes the cells of keys by a rule.
 pub fn change_all(cells: &mut Vec<Cell>, rule: Rule, keys: &[Key]) -> Result<(), NoMemory>
-    requires { AreKept cells.old.items }
+    requires kept { AreKept cells.old.items }
+    requires ordered { AreOrderly cells.old.items }
     ensures ok { OnOk result (cells.new.items ≡ changed_at keys.now (changed_by rule) cells.old.items) }
     ensures kept { AreKept cells.new.items }
+    ensures ordered { AreOrderly cells.new.items }
     ensures err { OnErr result (cells.new.items ≡ cells.old.items) }
 {
     let changes = changes_at(*cells.allocator(), cells.as_slice(), rule, keys)?;
@@ -164,9 +167,11 @@ pub fn change_all(cells: &mut Vec<Cell>, rule: Rule, keys: &[Key]) -> Result<(),
 
 /// Changes the cell of one key by a rule.
 pub fn change_one(cells: &mut Vec<Cell>, rule: Rule, key: &Key) -> Result<(), NoMemory>
-    requires { AreKept cells.old.items }
+    requires kept { AreKept cells.old.items }
+    requires ordered { AreOrderly cells.old.items }
     ensures ok { OnOk result (cells.new.items ≡ changed_at (key.now ∷ []) (changed_by rule) cells.old.items) }
     ensures kept { AreKept cells.new.items }
+    ensures ordered { AreOrderly cells.new.items }
     ensures err { OnErr result (cells.new.items ≡ cells.old.items) }
 {
     let change = change_at(*cells.allocator(), cells.as_slice(), rule, key)?;

@@ -2,6 +2,7 @@
 ghost use Rattle.std.specs.Prelude.{◌≡◌, ◌<◌, IfOk, if◌then◌else◌, map, take, reverse, length, slice_index_or};
 ghost use Rattle.std.specs.List.{filter_map};
 ghost use Rattle.txn_model.specs.Cells.{AreInOrder};
+ghost use Rattle.txn_model.specs.Orderly.{AreOrderly, CommitsAscend};
 ghost use Rattle.txn_model.specs.Read.{read_pair, scan_pairs, without_value};
 ghost use Rattle.txn_model.specs.Resolve.{lock_until, locks_until};
 ghost use Rattle.txn_model.specs.Scans.{ordered, shown};
@@ -29,8 +30,11 @@ fn shown(alloc: Global, key_only: bool, pair: PbPair) -> PbPair
 
 /// The cell at a place, counted from the end where the order is reversed.
 fn nth(cells: &[Cell], is_reversed: bool, at: usize) -> &Cell
-    requires { at < length cells.now }
-    ensures { result.now ≡ slice_index_or (ordered is_reversed cells.now) at result.now }
+    requires in_range { at < length cells.now }
+    requires in_order { AreInOrder cells.now }
+    requires ordered { AreOrderly cells.now }
+    ensures value { result.now ≡ slice_index_or (ordered is_reversed cells.now) at result.now }
+    ensures commits { CommitsAscend result.now.commits }
 {
     if is_reversed {
         &cells[cells.len() - 1 - at]
@@ -45,6 +49,8 @@ fn first_pairs(
     cells: &[Cell],
     request: &ScanRequest,
 ) -> Result<Items<PbPair>, NoMemory>
+    requires in_order { AreInOrder cells.now }
+    requires ordered { AreOrderly cells.now }
     ensures { IfOk result (λ pairs. pairs ≡ map (shown request.now.key_only) (take request.now.limit (filter_map (read_pair request.now.version) (ordered request.now.reverse cells.now)))) }
 {
     let mut pairs = Items::new(alloc);
@@ -66,7 +72,8 @@ pub fn scan_pairs(
     cells: &[Cell],
     request: &ScanRequest,
 ) -> Result<Items<PbPair>, NoMemory>
-    requires { AreInOrder cells.now }
+    requires in_order { AreInOrder cells.now }
+    requires ordered { AreOrderly cells.now }
     ensures { IfOk result (λ pairs. pairs ≡ scan_pairs request.now cells.now) }
 {
     if request.reverse {

@@ -1,6 +1,7 @@
 //! The locks of a region are settled, all or none.
 ghost use Rattle.std.specs.Prelude.{◌≡◌, IfOk, OnOk, OnErr, if◌then◌else◌, option_to_list};
 ghost use Rattle.txn_model.specs.Cells.{AreKept, each_changed};
+ghost use Rattle.txn_model.specs.Orderly.{AreOrderly};
 ghost use Rattle.txn_model.specs.Resolve.{infos, is_in_context, all_settled};
 ghost use Rattle.txn_model.specs.Settling.{info_for, info_at, becomes_commit, commitment_by, settling, change_by, commitments, changes};
 
@@ -159,9 +160,11 @@ pub fn settle_all(
     regions: &[StoredRegion],
     request: &ResolveLockRequest,
 ) -> Result<(), NoMemory>
-    requires { AreKept cells.old.items }
+    requires kept { AreKept cells.old.items }
+    requires ordered { AreOrderly cells.old.items }
     ensures ok { OnOk result (cells.new.items ≡ each_changed (λ c. if is_in_context regions.now request.now.context c.key then all_settled (infos request.now) c else c) cells.old.items) }
     ensures kept { AreKept cells.new.items }
+    ensures ordered { AreOrderly cells.new.items }
     ensures err { OnErr result (cells.new.items ≡ cells.old.items) }
 {
     let alloc = *cells.allocator();

@@ -3,6 +3,7 @@ ghost use Rattle.std.specs.Prelude.{◌≡◌, ◌∷◌, [], IfOk, OnOk, OnErr}
 ghost use Rattle.std.specs.Option.{option_copied};
 ghost use Rattle.txn_model.specs.Cells.{AreInOrder, AreKept, cell_at, changed_at};
 ghost use Rattle.txn_model.specs.Locks.{has_start};
+ghost use Rattle.txn_model.specs.Orderly.{AreOrderly};
 ghost use Rattle.txn_model.specs.Statuses.{found_lock, status_rule};
 ghost use Rattle.txn_model.specs.Status.{is_expired, finding, unlocked_finding, goes_unrecorded, status_cell, status_told, status_reply};
 
@@ -204,9 +205,11 @@ fn status_rule(cells: &[Cell], request: &CheckTxnStatusRequest) -> Rule
 
 /// Does at the primary what a check of a start does there.
 pub fn settle_status(cells: &mut Vec<Cell>, request: &CheckTxnStatusRequest) -> Result<(), NoMemory>
-    requires { AreKept cells.old.items }
+    requires kept { AreKept cells.old.items }
+    requires ordered { AreOrderly cells.old.items }
     ensures ok { OnOk result (cells.new.items ≡ changed_at (request.now.primary_key ∷ []) (status_cell request.now (finding request.now (cell_at cells.old.items request.now.primary_key))) cells.old.items) }
     ensures kept { AreKept cells.new.items }
+    ensures ordered { AreOrderly cells.new.items }
     ensures err { OnErr result (cells.new.items ≡ cells.old.items) }
 {
     let rule = status_rule(cells.as_slice(), request);

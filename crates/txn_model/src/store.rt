@@ -1,7 +1,7 @@
 ghost use Rattle.std.specs.Prelude.{◌≡◌, ◌<◌, ◌^◌, IfOk, OnOk, OnErr};
 ghost use Rattle.txn_model.specs.Cells.{AreKept};
+ghost use Rattle.txn_model.specs.Orderly.{AreOrderly};
 ghost use Rattle.txn_model.specs.Regions.{at_clock, can_lead, can_split, lead, split};
-ghost use Rattle.txn_model.specs.Splits.{CanCountRegions};
 ghost use Rattle.txn_model.specs.Store.{opening, store_up};
 ghost use Rattle.txn_model.specs.Table.{table, prewrite_row, commit_row, tso_row, update_gc_safe_point_row, CanCount, CanServe};
 
@@ -46,7 +46,7 @@ impl Model for ModelStore {
 
     ghost Value = { Store };
 
-    ghost use Rattle.txn_model.specs.Cells.{AreKept};
+    ghost use Rattle.txn_model.specs.InOrder.{IsInOrder};
 
     ghost view = { λ s. record {
       cells = s.cells.items;
@@ -58,7 +58,7 @@ impl Model for ModelStore {
       safepoint = s.safepoint;
     } };
 
-    ghost invariant = { λ s. AreKept s.cells.items };
+    ghost invariant = { λ s. IsInOrder s.cells.items s.regions.items s.clock };
 }
 
 /// A store that is up.
@@ -108,13 +108,15 @@ impl ModelStore {
     pub fn cells(&self) -> &[Cell]
         ensures all { result.now ≡ self.now.cells }
         ensures kept { AreKept self.now.cells }
+        ensures ordered { AreOrderly self.now.cells }
     {
         self.cells.as_slice()
     }
 
     /// The clock, in milliseconds.
     pub fn clock(&self) -> u64
-        ensures { result ≡ self.now.clock }
+        ensures value { result ≡ self.now.clock }
+        ensures bits { result < 2 ^ 44 }
     {
         self.clock
     }
@@ -235,7 +237,6 @@ impl ModelStore {
 
     /// Splits the region that holds a key before it. False, and nothing changes, where a region begins at the key.
     pub fn split(&mut self, key: &Key) -> Result<bool, NoMemory>
-        requires { CanCountRegions self.old }
         ensures can { IfOk result (λ did. did ≡ can_split self.old key.now) }
         ensures store { OnOk result (self.new ≡ split self.old key.now) }
         ensures err { OnErr result (self.new ≡ self.old) }

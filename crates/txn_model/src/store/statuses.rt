@@ -5,8 +5,7 @@ ghost use Rattle.txn_model.specs.Cells.{cell_at};
 ghost use Rattle.txn_model.specs.Status.{finding, status_reply, check_txn_status_by};
 ghost use Rattle.txn_model.specs.Table.{check_txn_status_row, check_secondary_locks_row, txn_heart_beat_row};
 
-use crate::cells::lock_at;
-use crate::heart_beat::{longer_lived, set_lock_at};
+use crate::heart_beat::lengthen;
 use crate::placement::region_error;
 use crate::rule::{Rule, change_all};
 use crate::secondaries::{any_missing, first_commit, own_locks};
@@ -112,23 +111,20 @@ impl ModelStore {
         }
         let key = &request.primary_lock;
         let start = request.start_version;
-        let Some(lock) = lock_at(self.cells.as_slice(), key, start) else {
-            return Ok(TxnHeartBeatResponse {
+        match lengthen(&mut self.cells, key, start, request.advise_lock_ttl) {
+            Some(lock_ttl) => Ok(TxnHeartBeatResponse {
+                region_error: None,
+                error: None,
+                lock_ttl,
+            }),
+            None => Ok(TxnHeartBeatResponse {
                 region_error: None,
                 error: Some(KeyError::TxnNotFound {
                     key: key.try_clone()?,
                     start,
                 }),
                 lock_ttl: 0,
-            });
-        };
-        let longer = longer_lived(lock, request.advise_lock_ttl)?;
-        let lock_ttl = longer.ttl;
-        set_lock_at(&mut self.cells, key, longer)?;
-        Ok(TxnHeartBeatResponse {
-            region_error: None,
-            error: None,
-            lock_ttl,
-        })
+            }),
+        }
     }
 }

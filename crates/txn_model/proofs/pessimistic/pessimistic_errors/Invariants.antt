@@ -1,4 +1,4 @@
-use Rattle.std.proofs.Common.{◌≡◌, take, map}
+use Rattle.std.proofs.Common.{◌≡◌, take}
 use Rattle.std.specs.List.{filter_map}
 use Rattle.txn_model.specs.Cells.{cell_at}
 use Rattle.txn_model.specs.PessimisticLock.{pessimistic_error}

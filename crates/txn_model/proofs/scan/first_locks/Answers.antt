@@ -1,4 +1,4 @@
-use Rattle.std.proofs.Common.{◌≡◌, ◌<◌, ◌∙◌, sym, ap, ◌++◌, ◌∷◌, [], length, take, arith}
+use Rattle.std.proofs.Common.{◌≡◌, ◌<◌, ◌∙◌, sym, ◌++◌, ◌∷◌, [], length, take, arith}
 use Rattle.txn_model.specs.declared.cell.Cell.{Cell}
 use Rattle.txn_model.specs.Resolve.{lock_until, locks_until}
 use Rattle.txn_model.proofs.Scanning.{next_some, next_none, stopped, map_same, length_more, length_same}

@@ -1,5 +1,4 @@
-use Rattle.std.proofs.Common.{◌≡◌, ◌<◌, ◌≤◌, ◌+◌, length, map, take, arith}
-use Rattle.std.specs.List.{filter_map}
+use Rattle.std.proofs.Common.{◌≡◌, ◌<◌, length, arith}
 use Rattle.txn_model.specs.Read.{read_pair}
 use Rattle.txn_model.specs.Scans.{ordered, shown}
 use Rattle.txn_model.proofs.Scanning.{next_some, next_none, stopped, length_more, length_same, ordered_length}
@@ -26,11 +25,11 @@ loop-i-preserved c =
       | in-Some+in_ok-push w ↦
           let grows : next ≡ done ++ shown r.key_only w.in-Some.pair ∷ [] = w.pairs-is ∙ (w.in_ok-push.ensures.ok ∙ ap (λ p. done ++ p ∷ []) w.shown.ensures) in
           record {
-            so_far = next_some (read_pair r.version) (shown r.key_only) cells c.loop-i.i c.nth-cell.result.now o w.in-Some.pair done next l c.nth-cell.ensures c.in_ok-pair.ensures w.in-Some.is grows c.loop-i.invariant.so_far;
+            so_far = next_some (read_pair r.version) (shown r.key_only) cells c.loop-i.i c.nth-cell.result.now o w.in-Some.pair done next l c.nth-cell.ensures.value c.in_ok-pair.ensures w.in-Some.is grows c.loop-i.invariant.so_far;
             few = length_more done next _ r.limit grows under;
           }
       | in_default w ↦ record {
-        so_far = next_none (read_pair r.version) (shown r.key_only) cells c.loop-i.i c.nth-cell.result.now o done next l c.nth-cell.ensures c.in_ok-pair.ensures w.in_default.is w.pairs-is c.loop-i.invariant.so_far;
+        so_far = next_none (read_pair r.version) (shown r.key_only) cells c.loop-i.i c.nth-cell.result.now o done next l c.nth-cell.ensures.value c.in_ok-pair.ensures w.in_default.is w.pairs-is c.loop-i.invariant.so_far;
         few = length_same done next r.limit w.pairs-is c.loop-i.invariant.few;
       }
     ]

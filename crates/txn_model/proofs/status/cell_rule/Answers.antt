@@ -1,7 +1,6 @@
-use Rattle.std.proofs.Common.{None, sym, ◌∙◌, ap, ap₂}
+use Rattle.std.proofs.Common.{sym, ◌∙◌, ap, ap₂}
 use Rattle.std.specs.Option.{option_copied}
 use Rattle.txn_model.specs.Locks.{commit_of}
-use Rattle.txn_model.specs.Settle.{lock_of_start}
 use Rattle.txn_model.specs.Status.{unlocked_finding, locked_finding}
 use Rattle.txn_model.specs.Statuses.{status_rule}
 use Rattle.txn_model.proofs.status.cell_rule.Goals as goal

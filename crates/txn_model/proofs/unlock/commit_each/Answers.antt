@@ -1,5 +1,4 @@
 use Rattle.std.proofs.Common.{arith}
-use Rattle.txn_model.specs.Cells.{cell_at}
 use Rattle.txn_model.proofs.Unlocking.{can_more, back_more}
 use Rattle.txn_model.proofs.Settled.{commitment_more}
 use Rattle.txn_model.proofs.unlock.commit_each.Goals as goal
