@@ -1,13 +1,12 @@
 -- Regions of which none meets another, in the order of their starts.
-use Rattle.std.proofs.Common.{◌≡◌, ℕ, suc, zero, ◌<◌, ◌≤◌, Bool, true, false, List, [], ◌∷◌, length, get_or, refl, sym, ap, ◌∙◌, subst, arith}
-use Rattle.std.specs.Prelude.{cond, if◌then◌else◌, not, is_none, map, Some}
+use Rattle.std.proofs.Common.{◌≡◌, ℕ, suc, zero, ◌<◌, Bool, true, false, List, [], ◌∷◌, length, get_or, refl, sym, ap, ◌∙◌, subst, arith}
+use Rattle.std.specs.Prelude.{cond, if◌then◌else◌, is_none, map, Some}
 use Rattle.txn_kv.specs.declared.message.Peer.{Peer}
 use Rattle.txn_kv.specs.declared.region.RegionVerId.{RegionVerId}
 use Rattle.std.specs.List.{filter}
-use Rattle.txn_kv.specs.Region.{contains_key}
 use Rattle.txn_kv.specs.declared.message.Region.{Region}
 use Rattle.txn_kv.specs.declared.region.RegionWithLeader.{RegionWithLeader}
-use Rattle.txn_region.specs.Regions.{Key, has_ver_id, led_if, is_below, is_reversed, AllAfter, AreApart, HaveEpochs, AreKept, in_order, placed}
+use Rattle.txn_region.specs.Regions.{Key, has_ver_id, led_if, is_below, is_reversed, AllAfter, AreApart, HaveEpochs, AreKept}
 use Rattle.txn_region.specs.Calls.{AreDisjoint, NoneHolds}
 use Rattle.txn_region.proofs.Order.{before_end, begins_after, contained_below, upright}
 

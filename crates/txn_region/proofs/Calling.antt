@@ -1,7 +1,7 @@
 -- A cache after a list of calls has the regions that a client believes in, in the order of their starts.
 use Rattle.std.proofs.Common.{◌≡◌, ℕ, Bool, true, false, List, [], ◌∷◌, refl, sym, ap, ◌∙◌, subst}
 use Rattle.std.specs.Prelude.{cond, if◌then◌else◌, not, map, Option, Some, None, Result, Ok, Err}
-use Rattle.std.specs.List.{filter, find}
+use Rattle.std.specs.List.{filter}
 use Rattle.std.specs.Ordering.{is_lt}
 use Rattle.txn_kv.specs.Region.{contains_key}
 use Rattle.txn_kv.specs.declared.errors.Error.{Error}
@@ -13,9 +13,9 @@ use Rattle.txn_region.specs.declared.query.PdAnswer.{PdAnswer}
 use Rattle.txn_region.specs.declared.query.PdAnswer.TheVariants as answer
 use Rattle.txn_region.specs.declared.query.PdQuery.{PdQuery}
 use Rattle.txn_region.specs.declared.query.PdQuery.TheVariants as query
-use Rattle.txn_region.specs.Regions.{Key, key_cmp, added, has_ver_id, in_order, is_reversed, led_if, placed, region_of_id, region_of_key, region_refusal, stays, AllAfter, AreApart}
-use Rattle.txn_region.specs.Cache.{Cache, after_look_by_id, answer_refusal, asked_where, cleared, empty, is_pending, is_spent, learnt, or_elsewhere, with_region}
-use Rattle.txn_region.specs.Calls.{Call, Made, after, after_learn, after_made, after_starved, added_unless, believed, believed_of, cache_after, regions_after, unless, AreDisjoint, NoneHolds}
+use Rattle.txn_region.specs.Regions.{Key, key_cmp, added, has_ver_id, in_order, led_if, placed, region_of_id, region_of_key, region_refusal, stays, AllAfter, AreApart}
+use Rattle.txn_region.specs.Cache.{Cache, after_look_by_id, answer_refusal, asked_where, cleared, is_pending, is_spent, learnt, or_elsewhere, with_region}
+use Rattle.txn_region.specs.Calls.{Call, Made, after, after_starved, added_unless, believed, believed_of, cache_after, regions_after, unless, AreDisjoint, NoneHolds}
 use Rattle.txn_region.specs.Calls.Call.{add_region, get_region_by_id, get_region_by_key, get_store_by_id, invalidate, learn, update_leader}
 use Rattle.txn_region.specs.Calls.Made.{answered, starved}
 use Rattle.txn_region.proofs.Apart.{after_filter, apart_filter, apart_led, disjoint_if_apart, same_region}

@@ -1,8 +1,7 @@
 -- Regions that meet have a key in common.
-use Rattle.std.proofs.Common.{◌≡◌, Bool, true, false, refl, sym, ap, ◌∙◌, subst}
+use Rattle.std.proofs.Common.{◌≡◌, Bool, true, false, refl, sym, ◌∙◌}
 use Rattle.std.specs.Prelude.{◌&&◌}
 use Rattle.std.specs.Ordering.{is_lt}
-use Rattle.std.specs.declared.cmp.Ordering.TheVariants.{Less}
 use Rattle.txn_kv.specs.Region.{contains_key}
 use Rattle.txn_kv.specs.declared.message.Region.{Region}
 use Rattle.txn_region.specs.Regions.{Key, key_cmp, is_below, is_reversed, meets}

@@ -11,7 +11,7 @@ use Rattle.std.proofs.lemmas.Bool.Decides.{nat_tests}
 use Rattle.std.proofs.lemmas.Cmp.{nat_list_cmp_total, tied_itself}
 use Rattle.txn_kv.specs.declared.message.Region.{Region}
 use Rattle.txn_kv.specs.Region.{contains_key}
-use Rattle.txn_region.specs.Regions.{Key, key_cmp, is_below, is_reversed, meets}
+use Rattle.txn_region.specs.Regions.{Key, key_cmp, is_below, is_reversed}
 
 same_key : (a b : Key) → pointwise nat_eq a b ≡ true → a ≡ b
 same_key [] [] h = refl

@@ -1,6 +1,6 @@
 -- A region among others that are apart.
-use Rattle.std.proofs.Common.{◌≡◌, ℕ, suc, zero, ◌<◌, ◌≤◌, ◌+◌, ◌++◌, Bool, true, false, List, [], ◌∷◌, length, take, drop, refl, sym, ap, ◌∙◌, subst, arith, length-take}
-use Rattle.std.specs.Prelude.{cond, if◌then◌else◌, not, ◌&&◌, is_none, Option, Some, None}
+use Rattle.std.proofs.Common.{◌≡◌, ℕ, suc, ◌≤◌, ◌++◌, Bool, true, false, List, [], ◌∷◌, length, take, drop, refl, sym, ap, ◌∙◌, subst, arith}
+use Rattle.std.specs.Prelude.{cond, if◌then◌else◌, not, ◌&&◌, is_none, Some, None}
 use Rattle.std.specs.List.{filter, insert, remove_range}
 use Rattle.std.specs.Ordering.{is_lt}
 use Rattle.std.specs.declared.cmp.Ordering.TheVariants.{Less}
@@ -9,9 +9,9 @@ use Rattle.txn_kv.specs.declared.errors.Error.TheVariants.{InternalError}
 use Rattle.txn_kv.specs.declared.errors.Internal.TheVariants.{NoEpoch, ReversedRegion}
 use Rattle.txn_kv.specs.declared.message.Region.{Region}
 use Rattle.txn_kv.specs.declared.region.RegionWithLeader.{RegionWithLeader}
-use Rattle.txn_region.specs.Regions.{Key, key_cmp, added, has_id, is_below, is_reversed, meets, region_refusal, stays, placed, in_order, leading, ended_at, begun_below, AllAfter, AreApart, HaveEpochs, AreKept}
+use Rattle.txn_region.specs.Regions.{key_cmp, added, has_id, is_below, is_reversed, meets, region_refusal, stays, placed, in_order, leading, ended_at, begun_below, AllAfter, AreApart, HaveEpochs, AreKept}
 use Rattle.txn_region.proofs.Order.{before_end, below_before, below_unless, less_itself, not_after, upright}
-use Rattle.txn_region.proofs.Apart.{after_filter, apart_filter, kept_filter}
+use Rattle.txn_region.proofs.Apart.{apart_filter, kept_filter}
 
 by_cases : (b : Bool) {G : Type 0} → (b ≡ true → G) → (b ≡ false → G) → G
 by_cases true f g = f refl

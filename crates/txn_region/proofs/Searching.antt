@@ -1,7 +1,6 @@
 -- Where a key is among regions that are apart.
-use Rattle.std.proofs.Common.{inl, inr, ◌≡◌, ℕ, suc, zero, ◌<◌, ◌≤◌, Bool, true, false, List, [], ◌∷◌, length, get_or, drop, ◌+◌, refl, sym, ap, ◌∙◌, subst, arith}
+use Rattle.std.proofs.Common.{inl, inr, ◌≡◌, ℕ, suc, zero, ◌<◌, ◌≤◌, Bool, true, false, List, [], ◌∷◌, length, get_or, drop, ◌+◌, refl, sym, ap, ◌∙◌, arith}
 use Rattle.std.specs.Prelude.{cond, not, Option, Some, None}
-use Rattle.std.specs.List.{filter, find, AllWithin}
 use Rattle.std.specs.List.Sorted.{IsPartitionedBy, IsPartitionPoint}
 use Rattle.std.specs.declared.cmp.Ordering.TheVariants.{Less}
 use Rattle.std.proofs.lemmas.Bool.{cases_order}
@@ -9,7 +8,7 @@ use Rattle.std.proofs.lemmas.List.{drop_more, drop_all}
 use Rattle.txn_kv.specs.Region.{contains_key}
 use Rattle.txn_kv.specs.declared.message.Region.{Region}
 use Rattle.txn_kv.specs.declared.region.RegionWithLeader.{RegionWithLeader}
-use Rattle.txn_region.specs.Regions.{Key, key_cmp, is_below, AllAfter, AreApart, leading, ended_at, begun_below, region_of_key}
+use Rattle.txn_region.specs.Regions.{Key, key_cmp, is_below, AllAfter, AreApart, leading, ended_at, region_of_key}
 use Rattle.txn_region.proofs.Order.{after_key, before_end, begins_after, below_before, ended_before, less_trans, upright}
 use Rattle.txn_region.proofs.Apart.{later_after, upright_at}
 

@@ -1,5 +1,5 @@
 -- What a client believes of regions and stores, and how each call changes it.
-use Rattle.std.specs.Prelude.{◌≡◌, ℕ, List, [], ◌∷◌, ◌++◌, Bool, true, false, not, ◌&&◌, cond, if◌then◌else◌, nat_eq, nat_lt, Option, Some, None, is_none, is_some, Result, Ok, Err, ◌⊎◌, MatchOption, ⊤, map}
+use Rattle.std.specs.Prelude.{◌≡◌, ℕ, List, [], ◌∷◌, ◌++◌, Bool, true, false, not, ◌&&◌, if◌then◌else◌, nat_eq, nat_lt, Option, Some, None, is_none, Result, Ok, Err, ◌⊎◌, MatchOption, ⊤, map}
 use Rattle.std.specs.List.{filter, list_any}
 use Rattle.txn_kv.specs.ErrorView.{view_of}
 use Rattle.txn_kv.specs.Region.{contains_key}

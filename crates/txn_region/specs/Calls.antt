@@ -1,5 +1,5 @@
 -- Lists of calls of a region cache, the newest first, and what each leaves.
-use Rattle.std.specs.Prelude.{◌≡◌, ℕ, List, [], ◌∷◌, Bool, true, false, not, if◌then◌else◌, Option, Some, None, is_none, Result, Ok, Err, map}
+use Rattle.std.specs.Prelude.{◌≡◌, ℕ, List, [], ◌∷◌, true, false, not, if◌then◌else◌, Option, Some, None, Result, Ok, Err, map}
 use Rattle.std.specs.List.{filter}
 use Rattle.txn_kv.specs.Region.{contains_key}
 use Rattle.txn_kv.specs.declared.errors.Error.{Error}

@@ -1,10 +1,7 @@
-use Rattle.std.proofs.Common.{◌≡◌, ◌≤◌, length, take, drop, ◌++◌, ◌∷◌, ap, sym, ◌∙◌, subst, arith}
-use Rattle.std.specs.Prelude.{not}
-use Rattle.std.specs.List.{filter}
-use Rattle.txn_kv.specs.declared.region.RegionWithLeader.{RegionWithLeader}
-use Rattle.txn_region.specs.Regions.{AreApart, begun_below, ended_at, has_id}
+use Rattle.std.proofs.Common.{take, drop, ◌++◌, ◌∷◌, ap, sym, ◌∙◌}
+use Rattle.txn_region.specs.Regions.{AreApart, ended_at}
 use Rattle.txn_region.proofs.Apart.{apart_filter}
-use Rattle.txn_region.proofs.Placing.{added_by_run, ended_le_begun, inserted_in_range, leading_le}
+use Rattle.txn_region.proofs.Placing.{added_by_run, ended_le_begun, inserted_in_range}
 use Rattle.txn_region.proofs.sorted.put_region.Goals as goal
 
 pub count_ended-from-requires : goal.count_ended-from-requires

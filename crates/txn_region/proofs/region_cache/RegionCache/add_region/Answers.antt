@@ -1,8 +1,3 @@
-use Rattle.std.proofs.Common.{◌≡◌, Bool, true, false, refl, sym}
-use Rattle.std.specs.Prelude.{if◌then◌else◌, is_none, Option, Some, None}
-use Rattle.txn_kv.specs.declared.errors.Error.{Error}
-use Rattle.txn_kv.specs.declared.region.RegionWithLeader.{RegionWithLeader}
-use Rattle.txn_region.specs.Regions.{AreKept, is_reversed, region_refusal}
 use Rattle.txn_region.proofs.Placing.{kept_if_taken}
 use Rattle.txn_region.proofs.region_cache.RegionCache.add_region.Goals as goal
 
