@@ -1,5 +1,5 @@
 -- In which step the outcome of each line came.
-use Rattle.std.proofs.Common.{◌≡◌, ◌≢◌, ℕ, zero, suc, ◌+◌, ◌-◌, ◌<◌, ◌≤◌, ◌⊎◌, inl, inr, Bool, true, false, if◌then◌else◌, List, [], ◌∷◌, ◌++◌, Option, Some, None, length, get_or, set, slice_get, nat_eq, nat_lt, refl, sym, ap, ◌∙◌, subst, arith, length-append, length-set}
+use Rattle.std.proofs.Common.{◌≡◌, ◌≢◌, ℕ, ◌+◌, ◌-◌, ◌<◌, ◌≤◌, ◌⊎◌, inl, inr, Bool, true, false, if◌then◌else◌, List, [], ◌∷◌, ◌++◌, Option, Some, None, length, get_or, set, slice_get, nat_eq, nat_lt, refl, sym, ap, ◌∙◌, subst, arith, length-append, length-set}
 use Rattle.std.proofs.lemmas.Bool.Decides.{nat_tests}
 use Rattle.txn_kv.specs.declared.ticket.Ticket.{Ticket}
 use Rattle.txn_kv.specs.declared.reply.Reply.{Reply}
@@ -18,7 +18,7 @@ use Rattle.txn_run.specs.declared.transaction.Status.TheVariants.{Active, Starte
 use Rattle.txn_run.specs.declared.transaction.Sending.{Sending}
 use Rattle.txn_run.specs.declared.transaction.Turn.{Turn}
 use Rattle.txn_run.specs.Commit.{turned, started}
-use Rattle.txn_run.specs.Posting.{position, places_of, place_in}
+use Rattle.txn_run.specs.Posting.{position}
 use Rattle.txn_run.specs.Lists.{Lists, opened, row_at, row_set, sent_more, sent_by, ended_by, followed, next_of, standing_in, written_in, puts_by, commit_starts, commits_by, handled, reply_at, start_in, begun, advanced, passed_in, waits, delivers_at, stepped}
 use Rattle.txn_run.specs.Rowed.{CameIn, AllCame}
 use Rattle.txn_run.specs.StandsFor.{delivered_line}

@@ -1,18 +1,18 @@
 -- What each change of the lists keeps of the licences.
-use Rattle.std.proofs.Common.{◌≡◌, ◌≢◌, ℕ, zero, suc, ◌-◌, ◌<◌, ◌≤◌, ◌⊎◌, inl, inr, Bool, true, false, ◌||◌, List, [], ◌∷◌, ◌++◌, Option, Some, None, length, get_or, set, nat_eq, refl, sym, ap, ◌∙◌, subst, arith}
+use Rattle.std.proofs.Common.{◌≡◌, ◌≢◌, ℕ, zero, suc, ◌-◌, inl, inr, Bool, true, false, ◌||◌, List, [], ◌∷◌, ◌++◌, Option, Some, get_or, set, nat_eq, refl, sym, ap, ◌∙◌, subst, arith}
 use Rattle.std.proofs.lemmas.Bool.Decides.{nat_tests}
 use Rattle.txn_kv.specs.declared.ticket.Ticket.{Ticket}
 use Rattle.txn_kv.specs.declared.request.Request.{Request}
 use Rattle.txn_kv.specs.declared.request.Request.TheVariants.{Commit}
 use Rattle.txn_kv.specs.declared.request.CommitRequest.{CommitRequest}
 use Rattle.txn_kv.specs.declared.reply.Reply.{Reply}
-use Rattle.txn_history.specs.Event.{Event, Has, sent_request}
+use Rattle.txn_history.specs.Event.{Event, sent_request}
 use Rattle.txn_history.specs.Event.Event.{Sent, Served, Took}
-use Rattle.txn_history.specs.Licence.{WasGiven, PrimaryCommitted, IsLicensed}
-use Rattle.txn_history.specs.Plan.{Key, Plan}
+use Rattle.txn_history.specs.Licence.{WasGiven, IsLicensed}
+use Rattle.txn_history.specs.Plan.{Key}
 use Rattle.txn_model.specs.Table.{table}
 use Rattle.txn_law.specs.Lone.{lone_plan}
-use Rattle.txn_law.specs.Run.{store_after, IsUnused, IsCovered, IsRun}
+use Rattle.txn_law.specs.Run.{store_after, IsUnused, IsCovered}
 use Rattle.txn_law.proofs.Tickets.{was_sent}
 use Rattle.txn_report.specs.declared.outcome.Outcome.{Outcome}
 use Rattle.txn_report.specs.declared.outcome.Outcome.TheVariants.{Ok, Unfinished}

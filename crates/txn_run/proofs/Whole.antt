@@ -1,5 +1,5 @@
 -- The law of licensed runs, said of the transaction of the lines.
-use Rattle.std.proofs.Common.{◌≡◌, ◌≢◌, ℕ, zero, suc, ◌<◌, ◌≤◌, ◌⊎◌, inl, inr, Bool, true, false, not, ◌&&◌, ◌||◌, if◌then◌else◌, List, [], ◌∷◌, Option, Some, None, length, slice_get, nat_eq, refl, sym, ap, ◌∙◌, subst, subst₂, arith}
+use Rattle.std.proofs.Common.{◌≡◌, ℕ, zero, suc, ◌⊎◌, inl, inr, Bool, true, false, not, ◌&&◌, ◌||◌, if◌then◌else◌, List, [], ◌∷◌, Option, Some, None, length, slice_get, nat_eq, refl, sym, ap, ◌∙◌, subst, subst₂, arith}
 use Rattle.std.proofs.lemmas.Bool.Decides.{nat_tests}
 use Rattle.txn_kv.specs.declared.ticket.Ticket.{Ticket}
 use Rattle.txn_kv.specs.declared.request.Request.{Request}
@@ -10,11 +10,11 @@ use Rattle.txn_history.specs.Among.{IsAmong}
 use Rattle.txn_history.specs.Event.{Event, Has, sent_request}
 use Rattle.txn_history.specs.Event.Event.{Sent, Served, Took}
 use Rattle.txn_history.specs.Licence.{PrewriteLicence, PrimaryCommitted, WasNamed, IsLicensed}
-use Rattle.txn_history.specs.Plan.{Key, Plan}
+use Rattle.txn_history.specs.Plan.{Plan}
 use Rattle.txn_model.proofs.Keys.{key_itself}
 use Rattle.txn_law.specs.Lone.{put_of, lone_plan}
-use Rattle.txn_law.specs.Run.{IsRun, store_after}
-use Rattle.txn_law.specs.Whole.{IsWholeAt, IsAbsent, FitsAnswers}
+use Rattle.txn_law.specs.Run.{IsRun}
+use Rattle.txn_law.specs.Whole.{IsWholeAt, FitsAnswers}
 use Rattle.txn_law.proofs.Kept.{kept}
 use Rattle.txn_law.proofs.Tickets.{unused, was_sent, sent_once}
 use Rattle.txn_law.proofs.Wholes.{law_fits}
@@ -38,9 +38,9 @@ use Rattle.txn_run.specs.Lists.{Lists, row_at}
 use Rattle.txn_run.specs.Script.{outcome_of}
 use Rattle.txn_run.specs.Causes.{is_skipped, is_commit_at, status_of, status_after}
 use Rattle.txn_run.specs.Rowed.{writes_in, CommitFits, CallFits, IsBegun}
-use Rattle.txn_run.specs.Stands.{request_of, request_in, MailFits, StandsAt}
-use Rattle.txn_run.specs.Licensed.{Agrees, is_committing, is_committed, has_committed, Licensed}
-use Rattle.txn_run.specs.Whole.{content_at, IsPrimary, IsWhole, AnsweredAt, may_be_committed, FitsCommits}
+use Rattle.txn_run.specs.Stands.{request_of, request_in, StandsAt}
+use Rattle.txn_run.specs.Licensed.{is_committing, is_committed, has_committed}
+use Rattle.txn_run.specs.Whole.{content_at, IsPrimary, may_be_committed, FitsCommits}
 use Rattle.txn_run.proofs.Lines.{line_new, line_old, line_within, one_begin}
 use Rattle.txn_run.proofs.Licences.{same_row}
 

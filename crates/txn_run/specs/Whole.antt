@@ -1,7 +1,7 @@
 -- Each transaction is whole at one commit timestamp or not at all, as its commits answered. Lines stand with the newest
 -- first.
 use Rattle.std.specs.Prelude.{◌≡◌, ◌⊎◌, ℕ, Bool, true, false, if◌then◌else◌, List, [], ◌∷◌, Option, Some, None, is_some}
-use Rattle.txn_kv.specs.ErrorView.{ErrorView, undetermined}
+use Rattle.txn_kv.specs.ErrorView.{undetermined}
 use Rattle.txn_kv.specs.declared.request.PrewriteRequest.{PrewriteRequest}
 use Rattle.txn_kv.specs.declared.request.Request.TheVariants.{Prewrite}
 use Rattle.txn_history.specs.Among.{IsAmong}
