@@ -73,6 +73,11 @@ use Rattle.txn_run.specs.Commit.{prewrite_request, commit_request}
 use Rattle.txn_run.specs.Rowed.{StageAsked}
 use Rattle.txn_run.specs.Licensed.{is_last, is_committed, has_committed, WasCommitted, Licensed}
 use Rattle.txn_run.proofs.Lines.{row_within, row_same, row_other, row_put, outcome_same, one_begin}
+use Rattle.txn_run.specs.declared.transaction.CommitCall.{CommitCall}
+use Rattle.txn_run.specs.Posting.{askers_of}
+use Rattle.txn_run.specs.Lawful.{sent_of}
+use Rattle.txn_run.specs.Counted.{stage_number, IsCounted}
+use Rattle.txn_run.proofs.Counts.{call_is, opens_push, opens_set, opens_then, counted_rows, counted_sent}
 use Rattle.txn_run.proofs.Licences.{same_row, running_is, row_pushed, keeps_then, starts_then, settles_then, keeps_push, starts_push, settles_on, keeps_on, keeps_begun, starts_set, pushed_commit, set_commit, not_committed, agrees_back, was_kept, licensed_rows, licensed_sent, licensed_delivered}
 
 -- what a commit waits for asks for one timestamp at most
@@ -82,6 +87,13 @@ asked_one start put (FindingStore place) = tt
 asked_one start put (Prewriting place) = tt
 asked_one start put (Stamping place) = refl
 asked_one start put (Stage_committing place c) = tt
+
+stage_most : (stage : Stage) → stage_number stage ≤ 5
+stage_most FindingRegion = omega arith
+stage_most (FindingStore place) = omega arith
+stage_most (Prewriting place) = omega arith
+stage_most (Stamping place) = omega arith
+stage_most (Stage_committing place c) = omega arith
 
 -- and is covered by the law
 asked_covered : (start : ℕ) (put : Write) (stage : Stage) → IsCovered (asked_at start put stage)
@@ -211,7 +223,8 @@ module _ (es : List Event) (l : Lists) (ls : List Line) (t : Ticket) (p : ℕ) (
             (mail_ended (Took t (request_at l.sent p) (table l.store (request_at l.sent p)).reply ∷ Served t (request_at l.sent p) (table l.store (request_at l.sent p)).reply ∷ es) (Deliver t ∷ ls) (table l.store (request_at l.sent p)).store l.sent (set l.letters p (record { served = true; gone = true })) (l.tickets ++ [] ∷ []) (l.outcomes ++ Done ∷ []) (l.served ++ t ∷ []) (t.line - 1) (Ok (Number n)) (vacant t.line a1 a2 h.waits) refl mail)
             (subst (λ e. Fits (Took t (request_at l.sent p) (table l.store (request_at l.sent p)).reply ∷ Served t (request_at l.sent p) (table l.store (request_at l.sent p)).reply ∷ es) (Deliver t ∷ ls) (table l.store (request_at l.sent p)).store (set (l.rows ++ Plain ∷ []) (t.line - 1) (Running new)) (set (l.outcomes ++ Done ∷ []) (t.line - 1) (Ok (Number n))) (set (l.ended ++ e ∷ []) (t.line - 1) (length (l.outcomes ++ Done ∷ [])))) (sym (next_is (length l.outcomes))) fits')
             s.asks
-            (begun_licensed n b is (ap (λ q. (table l.store q).reply) is ∙ tso_reply l.store lone.clock)),
+            (begun_licensed n b is (ap (λ q. (table l.store q).reply) is ∙ tso_reply l.store lone.clock))
+            (counted_rows l.sent l.rows (set (l.rows ++ Plain ∷ []) (t.line - 1) (Running new)) (opens_then l.rows (l.rows ++ Plain ∷ []) (set (l.rows ++ Plain ∷ []) (t.line - 1) (Running new)) (opens_push l.rows Plain (λ v q. cc)) (opens_set (l.rows ++ Plain ∷ []) t.line Beginning new (row_stays t.line Beginning b.row) refl)) s.counted),
       )
     where
       begun_licensed : (n : ℕ) → BeginAwaits es l.rows t → (request_at l.sent p) ≡ ask_one → (table l.store (request_at l.sent p)).reply ≡ Gave (record { count = 1; timestamp = Some (timestamp_of n) })
@@ -273,11 +286,11 @@ module _ (es : List Event) (l : Lists) (ls : List Line) (t : Ticket) (p : ℕ) (
     opened_at = row_stays a.x (Running a.t) a.running
 
     -- it sends its next request
-    goes : (stage : Stage) (to : Target) → is_last a.call.stage ≡ false
+    goes : (stage : Stage) (to : Target) → is_last a.call.stage ≡ false → stage_number stage ≡ stage_number a.call.stage + 1
         → ((k : Key) (v : List ℕ) → a.put.key ≡ k → a.put.value ≡ v → IsLicensed (λ z. lone_plan k v) (Took t (request_at l.sent p) (table l.store (request_at l.sent p)).reply ∷ Served t (request_at l.sent p) (table l.store (request_at l.sent p)).reply ∷ es) (asked_at a.t.start a.put stage))
         → ((tk : Ticket) → StageAsked (Sent tk (asked_at a.t.start a.put stage) ∷ Took t (request_at l.sent p) (table l.store (request_at l.sent p)).reply ∷ Served t (request_at l.sent p) (table l.store (request_at l.sent p)).reply ∷ es) a.t.start a.put stage tk) → (table l.store (request_at l.sent p)).store.regions ≡ l.store.regions → (table l.store (request_at l.sent p)).store.clock ≡ l.store.clock → (table l.store (request_at l.sent p)).store.last ≤ suc (length l.outcomes) → StageCells (table l.store (request_at l.sent p)).store.cells a.t.start a.put stage
         → stage_turned a.t a.call.line a.call.stage (reply_at l p) ≡ sends (at_stage a.t a.call.line stage) to (asked_at a.t.start a.put stage) → StandsSo (passed (handled (opened l Plain Done (length l.outcomes + 1)) p t) t.line (reply_at l p)) (Deliver t ∷ ls)
-    goes stage to early licence told regions clock last now turn =
+    goes stage to early next licence told regions clock last now turn =
         let l1 : Lists = handled (opened l Plain Done (length l.outcomes + 1)) p t in
         let u : Transaction = at_stage a.t a.call.line stage in
         let q : Request = asked_at a.t.start a.put stage in
@@ -298,9 +311,37 @@ module _ (es : List Event) (l : Lists) (ls : List Line) (t : Ticket) (p : ℕ) (
               (mail_sent (Took t (request_at l.sent p) (table l.store (request_at l.sent p)).reply ∷ Served t (request_at l.sent p) (table l.store (request_at l.sent p)).reply ∷ es) (Deliver t) ls (table l.store (request_at l.sent p)).store l.sent (set l.letters p (record { served = true; gone = true })) (l.tickets ++ [] ∷ []) (l.outcomes ++ Done ∷ []) (l.served ++ t ∷ []) t.line to q a1 (omega arith) mail)
               (subst (λ e. Fits (Sent tk q ∷ Took t (request_at l.sent p) (table l.store (request_at l.sent p)).reply ∷ Served t (request_at l.sent p) (table l.store (request_at l.sent p)).reply ∷ es) (Deliver t ∷ ls) (table l.store (request_at l.sent p)).store (set (l.rows ++ Plain ∷ []) (a.x - 1) (Running u)) (l.outcomes ++ Done ∷ []) (l.ended ++ e ∷ [])) (sym (next_is (length l.outcomes))) fits')
               (asks_push l.sent (note_of l1.tickets t.line (length l1.outcomes) to q) s.asks (asked_one a.t.start a.put stage))
-              (sent_licensed stage tk early licence (unused (Took t (request_at l.sent p) (table l.store (request_at l.sent p)).reply ∷ Served t (request_at l.sent p) (table l.store (request_at l.sent p)).reply ∷ es) tk fresh)),
+              (sent_licensed stage tk early licence (unused (Took t (request_at l.sent p) (table l.store (request_at l.sent p)).reply ∷ Served t (request_at l.sent p) (table l.store (request_at l.sent p)).reply ∷ es) tk fresh))
+              (sent_counted stage to tk next refl),
         )
       where
+        sent_counted : (stage : Stage) (to : Target) (tk : Ticket) → stage_number stage ≡ stage_number a.call.stage + 1 → tk.line ≡ t.line
+            → IsCounted (l.sent ++ record { ticket = tk; at = length (l.outcomes ++ Done ∷ []); to = to; request = asked_at a.t.start a.put stage; askers = askers_of t.line (asked_at a.t.start a.put stage) } ∷ []) (set (l.rows ++ Plain ∷ []) (a.x - 1) (Running (at_stage a.t a.call.line stage)))
+        sent_counted stage to tk next own =
+            let u : Transaction = at_stage a.t a.call.line stage in
+            let rows1 : List Row = l.rows ++ Plain ∷ [] in
+            let c = s.counted in
+            let known : sent_of tk.line l.sent ≡ stage_number a.call.stage = ap (λ n. sent_of n l.sent) (own ∙ sym a.own) ∙ c.stage a.x a.t a.call a.running a.calls in
+            let most = stage_most stage in
+            counted_sent l.sent l.rows (set rows1 (a.x - 1) (Running u)) (record { ticket = tk; at = length (l.outcomes ++ Done ∷ []); to = to; request = asked_at a.t.start a.put stage; askers = askers_of t.line (asked_at a.t.start a.put stage) }) (stage_number a.call.stage) known (omega arith) c
+            (λ y w call e f. elim (row_put rows1 a.x y (Running u) (Running w) (Running a.t) opened_at e) [
+              | inl b ↦ inl (goes_call tk.line own w call (running_is u w b.1) f)
+              | inr b ↦ absurd (b.0 (only y w b.1))
+            ])
+          where
+            goes_call : (line : ℕ) → line ≡ t.line → (w : Transaction) (call : CommitCall) → at_stage a.t a.call.line stage ≡ w → w.call ≡ Some call → (line ≡ call.line) × (stage_number call.stage ≡ stage_number a.call.stage + 1)
+            goes_call line own w call same f =
+                let c : ◌≡◌ {A = Option CommitCall} (Some (record { line = a.call.line; stage = stage })) (Some call) = ap (λ z. z.call) same ∙ f in
+                let d = call_is (record { line = a.call.line; stage = stage }) call c in
+                (own ∙ sym a.own ∙ ap (λ z. z.line) d, sym (ap (λ z. stage_number z.stage) d) ∙ next)
+
+            only : (y : ℕ) (w : Transaction) → row_at (l.rows ++ Plain ∷ []) y ≡ Some (Running w) → y ≡ a.x
+            only y w e =
+                let z = starts_push l.rows Plain (λ v q. cc) y w e in
+                let k = s.fits.rowed.fits y (Running z.0) z.1 in
+                let j = s.fits.rowed.fits a.x (Running a.t) a.running in
+                one_begin ls y a.x k.client j.client s.fits.good k.line j.line
+
         sent_licensed : (stage : Stage) (tk : Ticket) → is_last a.call.stage ≡ false
             → ((k : Key) (v : List ℕ) → a.put.key ≡ k → a.put.value ≡ v → IsLicensed (λ z. lone_plan k v) (Took t (request_at l.sent p) (table l.store (request_at l.sent p)).reply ∷ Served t (request_at l.sent p) (table l.store (request_at l.sent p)).reply ∷ es) (asked_at a.t.start a.put stage)) → IsUnused (Took t (request_at l.sent p) (table l.store (request_at l.sent p)).reply ∷ Served t (request_at l.sent p) (table l.store (request_at l.sent p)).reply ∷ es) tk
             → Licensed (Sent tk (asked_at a.t.start a.put stage) ∷ Took t (request_at l.sent p) (table l.store (request_at l.sent p)).reply ∷ Served t (request_at l.sent p) (table l.store (request_at l.sent p)).reply ∷ es) (set (l.rows ++ Plain ∷ []) (a.x - 1) (Running (at_stage a.t a.call.line stage))) (l.outcomes ++ Done ∷ [])
@@ -344,7 +385,8 @@ module _ (es : List Event) (l : Lists) (ls : List Line) (t : Ticket) (p : ℕ) (
               (mail_ended (Took t (request_at l.sent p) (table l.store (request_at l.sent p)).reply ∷ Served t (request_at l.sent p) (table l.store (request_at l.sent p)).reply ∷ es) (Deliver t ∷ ls) (table l.store (request_at l.sent p)).store l.sent (set l.letters p (record { served = true; gone = true })) (l.tickets ++ [] ∷ []) (l.outcomes ++ Done ∷ []) (l.served ++ t ∷ []) (t.line - 1) v (vacant t.line a1 a2 waits_at) refl mail)
               (subst₂ (λ e n. Fits (Took t (request_at l.sent p) (table l.store (request_at l.sent p)).reply ∷ Served t (request_at l.sent p) (table l.store (request_at l.sent p)).reply ∷ es) (Deliver t ∷ ls) (table l.store (request_at l.sent p)).store (set (l.rows ++ Plain ∷ []) (a.x - 1) (Running u)) (set (l.outcomes ++ Done ∷ []) (n - 1) (Ok (Committed_at (Some c)))) (set (l.ended ++ e ∷ []) (n - 1) (length (l.outcomes ++ Done ∷ [])))) (sym (next_is (length l.outcomes))) a.own fits')
               s.asks
-              (over_licensed c was a1 (let z = longer in omega arith)),
+              (over_licensed c was a1 (let z = longer in omega arith))
+              (counted_rows l.sent l.rows (set (l.rows ++ Plain ∷ []) (a.x - 1) (Running u)) (opens_then l.rows (l.rows ++ Plain ∷ []) (set (l.rows ++ Plain ∷ []) (a.x - 1) (Running u)) (opens_push l.rows Plain (λ z q. cc)) (opens_set (l.rows ++ Plain ∷ []) a.x (Running a.t) u opened_at refl)) s.counted),
         )
       where
         over_licensed : (c : ℕ) → PrimaryCommitted (lone_plan a.put.key a.put.value) (Took t (request_at l.sent p) (table l.store (request_at l.sent p)).reply ∷ Served t (request_at l.sent p) (table l.store (request_at l.sent p)).reply ∷ es) a.t.start c → 1 ≤ t.line → t.line ≤ length (l.outcomes ++ Done ∷ [])
@@ -432,14 +474,14 @@ module _ (es : List Event) (l : Lists) (ls : List Line) (t : Ticket) (p : ℕ) (
             let none : l.store.cells ≡ [] = subst (λ z. StageCells l.store.cells a.t.start a.put z) e cells in
             let stored : (table l.store (request_at l.sent p)).store ≡ l.store = ap (λ q. (table l.store q).store) is in
             let replied : reply_at l p ≡ Got_region (record { region = Some (region_record first_region); leader = Some (leader_of first_region) }) = ap (λ q. (table l.store q).reply) is ∙ region_reply l.store _ s.fits.lone.regions in
-            goes (FindingStore here) Placement (ap is_last e) (λ k v f g. tt) (λ tk. tt) (ap (λ z. z.regions) stored) (ap (λ z. z.clock) stored) (let b = ap (λ z. z.last) stored in let c = s.fits.lone.last in omega arith) (ap (λ z. z.cells) stored ∙ none, refl)
+            goes (FindingStore here) Placement (ap is_last e) (sym (ap (λ z. stage_number z + 1) e)) (λ k v f g. tt) (λ tk. tt) (ap (λ z. z.regions) stored) (ap (λ z. z.clock) stored) (let b = ap (λ z. z.last) stored in let c = s.fits.lone.last in omega arith) (ap (λ z. z.cells) stored ∙ none, refl)
             (ap (λ z. stage_turned a.t a.call.line z (reply_at l p)) e ∙ ap (λ z. stage_turned a.t a.call.line FindingRegion z) replied)
         by_stage (FindingStore place) e =
             let is : request_at l.sent p ≡ asked_at a.t.start a.put (FindingStore place) = asks ∙ ap (λ z. asked_at a.t.start a.put z) e in
             let held = subst (λ z. StageCells l.store.cells a.t.start a.put z) e cells in
             let stored : (table l.store (request_at l.sent p)).store ≡ l.store = ap (λ q. (table l.store q).store) is in
             let replied : reply_at l p ≡ Got_store (record { store = store_with_id l.store.stores place.store }) = ap (λ q. (table l.store q).reply) is in
-            goes (Prewriting place) (To_store place.store) (ap is_last e) (λ k v f g. lone_prewrite k v (Took t (request_at l.sent p) (table l.store (request_at l.sent p)).reply ∷ Served t (request_at l.sent p) (table l.store (request_at l.sent p)).reply ∷ es) (prewrite_request a.t.start a.put place) f (puts_alone a.t.start a.put place k v f g)) (λ tk. tt) (ap (λ z. z.regions) stored) (ap (λ z. z.clock) stored) (let b = ap (λ z. z.last) stored in let c = s.fits.lone.last in omega arith) (ap (λ z. z.cells) stored ∙ held.0, held.1)
+            goes (Prewriting place) (To_store place.store) (ap is_last e) (sym (ap (λ z. stage_number z + 1) e)) (λ k v f g. lone_prewrite k v (Took t (request_at l.sent p) (table l.store (request_at l.sent p)).reply ∷ Served t (request_at l.sent p) (table l.store (request_at l.sent p)).reply ∷ es) (prewrite_request a.t.start a.put place) f (puts_alone a.t.start a.put place k v f g)) (λ tk. tt) (ap (λ z. z.regions) stored) (ap (λ z. z.clock) stored) (let b = ap (λ z. z.last) stored in let c = s.fits.lone.last in omega arith) (ap (λ z. z.cells) stored ∙ held.0, held.1)
             (ap (λ z. stage_turned a.t a.call.line z (reply_at l p)) e ∙ ap (λ z. stage_turned a.t a.call.line (FindingStore place) z) replied ∙ ap (λ z. found_store a.t a.call.line place z) a.puts)
         by_stage (Prewriting place) e =
             let held = subst (λ z. StageCells l.store.cells a.t.start a.put z) e cells in
@@ -447,7 +489,7 @@ module _ (es : List Event) (l : Lists) (ls : List Line) (t : Ticket) (p : ℕ) (
             let done = prewrite_table l.store a.t.start a.put s.fits.lone.regions held.0 in
             let stored : (table l.store (request_at l.sent p)).store ≡ record l.store { cells = locked_cells a.t.start a.put } = ap (λ q. (table l.store q).store) is ∙ ap (λ z. z.store) done in
             let replied : reply_at l p ≡ Prewrote (record { region_error = None; errors = []; min_commit_ts = 0; one_pc_commit_ts = 0 }) = ap (λ q. (table l.store q).reply) is ∙ ap (λ z. z.reply) done in
-            goes (Stamping place) Placement (ap is_last e) (λ k v f g. tt)
+            goes (Stamping place) Placement (ap is_last e) (sym (ap (λ z. stage_number z + 1) e)) (λ k v f g. tt)
             (λ tk. inl (record { count = 1 }, refl, lone_ready a.put.key a.put.value (Took t (request_at l.sent p) (table l.store (request_at l.sent p)).reply ∷ Served t (request_at l.sent p) (table l.store (request_at l.sent p)).reply ∷ es) a.t.start t (prewrite_request a.t.start a.put here) (record { region_error = None; errors = []; min_commit_ts = 0; one_pc_commit_ts = 0 }) (inl (λ i. Took t (is i) (replied i))) (refl, refl) refl (puts_alone a.t.start a.put here a.put.key a.put.value refl refl), (let h = delivered in h.given a.x a.t a.running)))
             (ap (λ z. z.regions) stored) (ap (λ z. z.clock) stored) (let b = ap (λ z. z.last) stored in let c = s.fits.lone.last in omega arith) (ap (λ z. z.cells) stored, held.1)
             (ap (λ z. stage_turned a.t a.call.line z (reply_at l p)) e ∙ ap (λ z. stage_turned a.t a.call.line (Prewriting place) z) replied)
@@ -459,7 +501,7 @@ module _ (es : List Event) (l : Lists) (ls : List Line) (t : Ticket) (p : ℕ) (
             let small : n < 2 ^ 64 = (let b = lone.last in let c = lone.few in omega arith) in
             let stored : (table l.store (request_at l.sent p)).store ≡ record l.store { last = l.store.last + 1 } = ap (λ q. (table l.store q).store) is ∙ tso_store l.store lone.clock in
             let replied : reply_at l p ≡ Gave (record { count = 1; timestamp = Some (timestamp_of (l.store.last + 1)) }) = ap (λ q. (table l.store q).reply) is ∙ tso_reply l.store lone.clock in
-            goes (Stage_committing place n) (To_store place.store) (ap is_last e) (λ k v f g. stamped_licence place n k v e is replied f g) (λ tk. tt) (ap (λ z. z.regions) stored) (ap (λ z. z.clock) stored) (let b = ap (λ z. z.last) stored in let c = lone.last in omega arith) (ap (λ z. z.cells) stored ∙ held.0, held.1)
+            goes (Stage_committing place n) (To_store place.store) (ap is_last e) (sym (ap (λ z. stage_number z + 1) e)) (λ k v f g. stamped_licence place n k v e is replied f g) (λ tk. tt) (ap (λ z. z.regions) stored) (ap (λ z. z.clock) stored) (let b = ap (λ z. z.last) stored in let c = lone.last in omega arith) (ap (λ z. z.cells) stored ∙ held.0, held.1)
             (ap (λ z. stage_turned a.t a.call.line z (reply_at l p)) e ∙ ap (λ z. stage_turned a.t a.call.line (Stamping place) z) replied ∙ ap (λ z. stamped a.t a.call.line place a.t.put z) (version_back n small) ∙ ap (λ z. stamped a.t a.call.line place z (Some n)) a.puts)
         by_stage (Stage_committing place c) e =
             let held = subst (λ z. StageCells l.store.cells a.t.start a.put z) e cells in

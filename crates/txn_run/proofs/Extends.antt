@@ -15,6 +15,7 @@ use Rattle.txn_run.specs.Causes.{HasCause, IsDue}
 use Rattle.txn_run.specs.Lists.{Lists, AllAskOne, AsksOne}
 use Rattle.txn_run.specs.Rowed.{Fits}
 use Rattle.txn_run.specs.Licensed.{Licensed}
+use Rattle.txn_run.specs.Counted.{IsCounted}
 use Rattle.txn_run.specs.Stands.{MailFits, StandsAt}
 use Rattle.txn_run.proofs.Histories.{outcome_old, flag_set, find_push, sends_push, history_same}
 use Rattle.txn_run.proofs.Knowns.{known_open, known_set, known_now, causes_same, dues_same, Answers, cause_answers}
@@ -93,8 +94,9 @@ extends_then ls a b c p q r x y z e f = record {
 -- The line is over.
 pub close : (es es' : List Event) (l l' : Lists) (line : Line) (ls : List Line) → StandsAt es l ls → Extends ls l.sent l'.sent l.outcomes l'.outcomes l.ended l'.ended
     → HasCause (outcome_of l.outcomes) ls es line (outcome_of l'.outcomes (suc (length ls)))
-    → MailFits es' (line ∷ ls) l'.store l'.sent l'.letters l'.tickets l'.outcomes l'.served → Fits es' (line ∷ ls) l'.store l'.rows l'.outcomes l'.ended → AllAskOne l'.sent → Licensed es' l'.rows l'.outcomes → StandsAt es' l' (line ∷ ls)
-close es es' l l' line ls s x cause mail fits asks licensed = record {
+    → MailFits es' (line ∷ ls) l'.store l'.sent l'.letters l'.tickets l'.outcomes l'.served → Fits es' (line ∷ ls) l'.store l'.rows l'.outcomes l'.ended → AllAskOne l'.sent → Licensed es' l'.rows l'.outcomes → IsCounted l'.sent l'.rows → StandsAt es' l' (line ∷ ls)
+close es es' l l' line ls s x cause mail fits asks licensed counted = record {
+  counted = counted;
   asks = asks;
   licensed = licensed;
   mail = mail;

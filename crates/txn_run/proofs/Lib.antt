@@ -12,11 +12,13 @@ pub mod Calls
 pub mod Commits
 pub mod Deliveries
 pub mod Licences
+pub mod Counts
 pub mod Extends
 pub mod Stepped
 pub mod Delivered
 pub mod Comes
 pub mod Posts
 pub mod Whole
+pub mod Clean
 pub mod Machines
 pub mod Programs

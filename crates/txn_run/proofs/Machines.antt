@@ -38,12 +38,14 @@ use Rattle.txn_run.specs.Causes.{Causes, Dues}
 use Rattle.txn_run.specs.Program.{AllGood}
 use Rattle.txn_run.specs.Lawful.{Lawful, IsMail}
 use Rattle.txn_run.specs.Whole.{AllFitCommits}
+use Rattle.txn_run.specs.Clean.{AllEndClean}
 use Rattle.txn_run.proofs.Lines.{good_few}
 use Rattle.txn_run.proofs.Opens.{IsQuietLine}
 use Rattle.txn_run.proofs.Stepped.{StandsSo, quiet_stands, next_is, begin_stands, put_stands, commit_stands}
 use Rattle.txn_run.proofs.Delivered.{deliver_stands}
 use Rattle.txn_run.proofs.Posts.{no_mail, stepped_posts, mail_stepped}
 use Rattle.txn_run.proofs.Whole.{commits_fit}
+use Rattle.txn_run.proofs.Clean.{ends_clean}
 use Rattle.txn_run.proofs.Comes.{Marks, stepped_marks, came_stepped}
 
 -- No lines.
@@ -98,6 +100,7 @@ opening_stands = record {
     times = record { counted = refl; past = λ i. omega arith; still = λ i e. refl; own = λ i h. absurd (h refl); over = λ i h. absurd (h refl) };
   };
   asks = tt;
+  counted = record { few = λ n. omega arith; stage = λ x t call e f. absurd (no_row x (Running t) e) };
   licensed = record { run = λ k v a. tt; given = λ x t e. absurd (no_row x (Running t) e); owned = λ u r h. absurd h; answered = λ n c e. absurd (no_answer n c e) };
   causes = tt;
   dues = tt;
@@ -337,6 +340,7 @@ lawful_of l lines s came mail =
         over = s.fits.times.over;
       };
       dues = subst (λ ls. Dues l.sent l.outcomes l.ended ls) back s.dues;
+      clean = subst (λ ls. AllEndClean ls (report_of l)) back (ends_clean lines (report_of l) s.causes s.counted.few refl);
       fits = subst (λ ls. AllFitCommits ls (report_of l)) back (commits_fit (history l.sent l.outcomes lines) l lines s);
       awake = refl;
     }

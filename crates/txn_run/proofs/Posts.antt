@@ -184,7 +184,7 @@ asked_more : (ss : List SentNote) (x : SentNote) → HasAskers x.ticket.line x.r
 asked_more [] x a h = (a, tt)
 asked_more (s ∷ ss) x a h = (h.0, asked_more ss x a h.1)
 
-sent_of_more : (n : ℕ) (ss : List SentNote) (x : SentNote) → sent_of n (ss ++ x ∷ []) ≡ sent_of n ss + (if nat_eq x.ticket.line n then 1 else 0)
+pub sent_of_more : (n : ℕ) (ss : List SentNote) (x : SentNote) → sent_of n (ss ++ x ∷ []) ≡ sent_of n ss + (if nat_eq x.ticket.line n then 1 else 0)
 sent_of_more n [] x = (let zero_more : (if nat_eq x.ticket.line n then 1 else 0) + 0 ≡ 0 + (if nat_eq x.ticket.line n then 1 else 0) = omega arith in zero_more)
 sent_of_more n (s ∷ ss) x =
     let rest = sent_of_more n ss x in

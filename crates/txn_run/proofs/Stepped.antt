@@ -38,6 +38,11 @@ use Rattle.txn_run.proofs.Calls.{fits_put}
 use Rattle.txn_run.proofs.Commits.{fits_commit_none, fits_commit_sent}
 use Rattle.txn_law.proofs.Tickets.{unused}
 use Rattle.txn_run.proofs.Licences.{Keeps, Starts, keeps_then, starts_then, keeps_push, starts_push, keeps_on, keeps_put, starts_set, pushed_commit, not_committed, allowed_open, licensed_rows, licensed_sent}
+use Rattle.txn_run.specs.Lawful.{sent_of}
+use Rattle.txn_run.specs.Counted.{stage_number, IsCounted}
+use Rattle.txn_run.proofs.Lines.{row_put}
+use Rattle.txn_run.proofs.Licences.{running_is}
+use Rattle.txn_run.proofs.Counts.{call_is, opens_push, opens_set, opens_then, counted_rows, counted_sent, other_call, none_before}
 use Rattle.txn_run.proofs.Extends.{extends_open, extends_send, extends_then, close, asks_push}
 
 -- The lists stand for some history of these lines.
@@ -54,7 +59,8 @@ quiet_stands es l line ls o e at good q plain k cause s = (
       (mail_opened es ls l.store l.sent l.letters l.tickets l.outcomes l.served line o q s.mail)
       (subst (λ n. Fits es (line ∷ ls) l.store (l.rows ++ Plain ∷ []) (l.outcomes ++ o ∷ []) (l.ended ++ n ∷ [])) (sym at) (fits_quiet es line ls l.store l.rows l.outcomes l.ended o good k s.fits))
       s.asks
-      (licensed_rows es l.rows (l.rows ++ Plain ∷ []) l.outcomes (l.outcomes ++ o ∷ []) (keeps_push l.rows Plain) (starts_push l.rows Plain (λ u h. cc)) (λ n c h. pushed_commit l.outcomes o n c plain h) s.licensed),
+      (licensed_rows es l.rows (l.rows ++ Plain ∷ []) l.outcomes (l.outcomes ++ o ∷ []) (keeps_push l.rows Plain) (starts_push l.rows Plain (λ u h. cc)) (λ n c h. pushed_commit l.outcomes o n c plain h) s.licensed)
+      (counted_rows l.sent l.rows (l.rows ++ Plain ∷ []) (opens_push l.rows Plain (λ u h. cc)) s.counted),
 )
 
 pub next_is : (n : ℕ) → n + 1 ≡ suc n
@@ -110,7 +116,9 @@ module _ (es : List Event) (l : Lists) (ls : List Line) (s : StandsAt es l ls) w
             (fits_begun es client ls l.store l.rows l.outcomes l.ended tk good s.fits (next_is (length l.outcomes)) refl fresh (m1.unsent tk fresh).1)
             (asks_push l.sent (record { ticket = tk; at = length l1.outcomes; to = Placement; request = ask_one; askers = x ∷ [] }) s.asks refl)
             (licensed_sent es l1.rows l1.outcomes tk ask_one (unused es tk fresh) tt (λ k v g. tt) (λ r e. absurd (cc))
-            (licensed_rows es l.rows l1.rows l.outcomes l1.outcomes (keeps_push l.rows Beginning) (starts_push l.rows Beginning (λ u e. cc)) (λ n d e. pushed_commit l.outcomes Unfinished n d refl e) s.licensed)),
+            (licensed_rows es l.rows l1.rows l.outcomes l1.outcomes (keeps_push l.rows Beginning) (starts_push l.rows Beginning (λ u e. cc)) (λ n d e. pushed_commit l.outcomes Unfinished n d refl e) s.licensed))
+            (counted_sent l.sent l.rows l1.rows (record { ticket = tk; at = length l1.outcomes; to = Placement; request = ask_one; askers = x ∷ [] }) 0 (none_before es l ls x s (omega arith)) (omega arith) s.counted
+            (λ y u call e f. let w = opens_push l.rows Beginning (λ v q. cc) y u call e f in inr (other_call l.sent l.rows x w.0 w.1 call (none_before es l ls x s (omega arith)) s.counted w.2 w.3))),
       )
 
   -- What stands at the begin of a call.
@@ -166,7 +174,8 @@ module _ (es : List Event) (l : Lists) (ls : List Line) (s : StandsAt es l ls) w
             (licensed_rows es l.rows (lw.rows ++ Plain ∷ []) l.outcomes (l.outcomes ++ Ok Nothing ∷ [])
             (keeps_then l.rows lw.rows (lw.rows ++ Plain ∷ []) (keeps_put l.rows x t (record t { put = Some (record { key = k; value = v }) }) at is (not_committed t None Active idle is refl refl)) (keeps_push lw.rows Plain))
             (starts_then l.rows lw.rows (lw.rows ++ Plain ∷ []) (starts_set l.rows x t (record t { put = Some (record { key = k; value = v }) }) at refl) (starts_push lw.rows Plain (λ u h. cc)))
-            (λ n c h. pushed_commit l.outcomes (Ok Nothing) n c refl h) s.licensed),
+            (λ n c h. pushed_commit l.outcomes (Ok Nothing) n c refl h) s.licensed)
+            (counted_rows l.sent l.rows (lw.rows ++ Plain ∷ []) (opens_then l.rows lw.rows (lw.rows ++ Plain ∷ []) (opens_set l.rows x (Running t) (record t { put = Some (record { key = k; value = v }) }) at idle) (opens_push lw.rows Plain (λ u h. cc))) s.counted),
       )
   put_by x k v t good at idle StartedCommit is =
       let h = s.fits.rowed.fits x (Running t) at in
@@ -272,7 +281,8 @@ module _ (es : List Event) (l : Lists) (ls : List Line) (s : StandsAt es l ls) w
               (mail_opened es ls l.store l.sent l.letters l.tickets l.outcomes l.served (Commit x) o tt s.mail)
               (fits_commit_none es x ls l.store l.rows l.outcomes l.ended t good at idle allowed s.fits empty)
               s.asks
-              (licensed_rows es l.rows rows l.outcomes (l.outcomes ++ o ∷ []) (keeps_commit u refl (λ h. cc) allowed) (starts_commit u refl) (λ m c h. pushed_commit l.outcomes o m c refl h) s.licensed),
+              (licensed_rows es l.rows rows l.outcomes (l.outcomes ++ o ∷ []) (keeps_commit u refl (λ h. cc) allowed) (starts_commit u refl) (λ m c h. pushed_commit l.outcomes o m c refl h) s.licensed)
+              (counted_rows l.sent l.rows rows (opens_then l.rows (l.rows ++ Committing x ∷ []) rows (opens_push l.rows (Committing x) (λ w h. cc)) (opens_set (l.rows ++ Committing x ∷ []) x (Running t) u opened_row refl)) s.counted),
         )
 
     -- some key is written
@@ -280,6 +290,25 @@ module _ (es : List Event) (l : Lists) (ls : List Line) (s : StandsAt es l ls) w
         → StandsSo (sent_more (row_set (opened l (Committing x) Unfinished 0) x (Running (record t { status = StartedCommit; call = Some (record { line = n; stage = FindingRegion }) }))) n Placement (asked_at t.start p FindingRegion)) (Commit x ∷ ls)
     full_stands n is allowed p puts = subst (λ m. StandsSo (sent_more (row_set (opened l (Committing x) Unfinished 0) x (Running (record t { status = StartedCommit; call = Some (record { line = m; stage = FindingRegion }) }))) m Placement (asked_at t.start p FindingRegion)) (Commit x ∷ ls)) (sym is) at_newest
       where
+        counted_starts : (tk : Ticket) (now : ℕ) → tk.line ≡ suc (length l.outcomes) → IsCounted l.sent l.rows
+            → IsCounted (l.sent ++ record { ticket = tk; at = now; to = Placement; request = asked_at t.start p FindingRegion; askers = [] } ∷ []) (set (l.rows ++ Committing x ∷ []) (x - 1) (Running (record t { status = StartedCommit; call = Some (record { line = suc (length l.outcomes); stage = FindingRegion }) })))
+        counted_starts tk now own counted =
+            let u : Transaction = record t { status = StartedCommit; call = Some (record { line = suc (length l.outcomes); stage = FindingRegion }) } in
+            let rows1 : List Row = l.rows ++ Committing x ∷ [] in
+            let told = s.fits.told in
+            let none : sent_of tk.line l.sent ≡ 0 = none_before es l ls tk.line s (omega arith) in
+            counted_sent l.sent l.rows (set rows1 (x - 1) (Running u)) (record { ticket = tk; at = now; to = Placement; request = asked_at t.start p FindingRegion; askers = [] }) 0 none (omega arith) counted
+            (λ y w call e f. elim (row_put rows1 x y (Running u) (Running w) (Running t) opened_row e) [
+              | inl a ↦ inl (started_call tk.line own w call (running_is u w a.1) f)
+              | inr a ↦ (let z = opens_push l.rows (Committing x) (λ v q. cc) y w call a.1 f in inr (other_call l.sent l.rows tk.line z.0 z.1 call none counted z.2 z.3))
+            ])
+          where
+            started_call : (line : ℕ) → line ≡ suc (length l.outcomes) → (w : Transaction) (call : CommitCall) → record t { status = StartedCommit; call = Some (record { line = suc (length l.outcomes); stage = FindingRegion }) } ≡ w → w.call ≡ Some call → (line ≡ call.line) × (stage_number call.stage ≡ 0 + 1)
+            started_call line own w call same f =
+                let c : ◌≡◌ {A = Option CommitCall} (Some (record { line = suc (length l.outcomes); stage = FindingRegion })) (Some call) = ap (λ z. z.call) same ∙ f in
+                let d = call_is (record { line = suc (length l.outcomes); stage = FindingRegion }) call c in
+                (own ∙ ap (λ z. z.line) d, sym (ap (λ z. stage_number z.stage) d))
+
         at_newest : StandsSo (sent_more (row_set (opened l (Committing x) Unfinished 0) x (Running (record t { status = StartedCommit; call = Some (record { line = suc (length l.outcomes); stage = FindingRegion }) }))) (suc (length l.outcomes)) Placement (asked_at t.start p FindingRegion)) (Commit x ∷ ls)
         at_newest =
             let m : ℕ = suc (length l.outcomes) in
@@ -301,7 +330,8 @@ module _ (es : List Event) (l : Lists) (ls : List Line) (s : StandsAt es l ls) w
                   (fits_commit_sent es x ls l.store l.rows l.outcomes l.ended t good at idle allowed s.fits p tk puts refl refl fresh (m1.unsent tk fresh).1)
                   (asks_push l.sent (record { ticket = tk; at = length l1.outcomes; to = Placement; request = r; askers = [] }) s.asks tt)
                   (licensed_sent es l2.rows l2.outcomes tk r (unused es tk fresh) tt (λ k v g. tt) (λ q e. absurd (cc))
-                  (licensed_rows es l.rows l2.rows l.outcomes l2.outcomes (keeps_commit u refl (λ h. cc) allowed) (starts_commit u refl) (λ i d h. pushed_commit l.outcomes Unfinished i d refl h) s.licensed)),
+                  (licensed_rows es l.rows l2.rows l.outcomes l2.outcomes (keeps_commit u refl (λ h. cc) allowed) (starts_commit u refl) (λ i d h. pushed_commit l.outcomes Unfinished i d refl h) s.licensed))
+                  (counted_starts tk (length l1.outcomes) refl s.counted),
             )
 
     pub commit_starts_stand : allows_commit t.status ≡ true → StandsSo (commit_begun (opened l (Committing x) Unfinished 0) x) (Commit x ∷ ls)

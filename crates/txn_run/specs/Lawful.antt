@@ -12,6 +12,7 @@ use Rattle.txn_run.specs.Script.{history, served_tickets}
 use Rattle.txn_run.specs.Rowed.{AllCame}
 use Rattle.txn_run.specs.Causes.{is_unfinished, Causes, Dues}
 use Rattle.txn_run.specs.Whole.{AllFitCommits}
+use Rattle.txn_run.specs.Clean.{AllEndClean}
 
 -- what was sent, served and taken, line by line: the newest first
 abbrev pub events_of : List Line → Report → List Event
@@ -73,5 +74,7 @@ pub record Lawful (lines : List Line) (report : Report) : Type 0 where
   pub dues : Dues report.sent report.outcomes report.ended (reverse lines)
   -- each transaction is whole at one commit timestamp or not at all, as its commit lines answered
   pub fits : AllFitCommits (reverse lines) report
+  -- a clean commit answers a timestamp or is unfinished, and costs no more than it must
+  pub clean : AllEndClean (reverse lines) report
   -- no line sleeps
   pub awake : report.sleeps ≡ []

@@ -7,6 +7,8 @@ pub mod Causes
 pub mod Rowed
 pub mod Licensed
 pub mod Whole
+pub mod Clean
+pub mod Counted
 pub mod Stands
 pub mod StandsFor
 pub mod Lawful

@@ -16,6 +16,7 @@ use Rattle.txn_run.specs.Causes.{Causes, Dues}
 use Rattle.txn_run.specs.Lists.{Lists, AllAskOne}
 use Rattle.txn_run.specs.Rowed.{Fits}
 use Rattle.txn_run.specs.Licensed.{Licensed}
+use Rattle.txn_run.specs.Counted.{IsCounted}
 
 abbrev pub AllBefore : ℕ → List SentNote → Type 0
 AllBefore n [] = Unit {0}
@@ -60,6 +61,8 @@ pub record StandsAt (es : List Event) (l : Lists) (lines : List Line) : Type 0 w
   pub asks : AllAskOne l.sent
   -- the events are a run of the law
   pub licensed : Licensed es l.rows l.outcomes
+  -- each line has sent what its call has come to
+  pub counted : IsCounted l.sent l.rows
   -- each outcome has its cause
   pub causes : Causes l.sent l.outcomes l.ended lines
   -- after each line, something is out for each call that was open
