@@ -1,2 +1,3 @@
-pub mod Undo
 pub mod Scans
+pub mod Steps
+pub mod Undo

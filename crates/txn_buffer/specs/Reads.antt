@@ -7,7 +7,7 @@ use Rattle.std.specs.List.Sorted.{IsPermutation, IsSorted}
 use Rattle.std.specs.Ordering.{nat_cmp}
 use Rattle.txn_buffer.specs.declared.entry.Entry.{Entry}
 use Rattle.txn_buffer.specs.declared.entry.Entry.TheVariants as entry
-use Rattle.txn_buffer.specs.Contents.{Contents, Agrees, IsUnlike, entry_at, filled, is_bare_lock, known_at, known_value, with_value, without_entry, write_at, write_of}
+use Rattle.txn_buffer.specs.Contents.{Contents, Agrees, IsUnlike, entry_at, filled, known_at, known_value, with_value, without_entry, write_at, write_of}
 use Rattle.txn_buffer.specs.Overlay.{Pairs}
 use Rattle.txn_buffer.specs.Writes.{Write, Writes}
 use Rattle.txn_kv.specs.Ranges.{effective_end}

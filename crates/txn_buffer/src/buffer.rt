@@ -1,12 +1,13 @@
 ghost use Rattle.std.specs.Prelude.{◌≡◌, ◌∷◌, ◌++◌, ◌-◌, ◌^◌, OnOk, OnErr, IfOk, IfErr, MatchOption, min, not, Ok, Some, None, [], option_map, is_none};
 ghost use Rattle.std.specs.Option.{option_copied};
 ghost use Rattle.std.specs.Cmp.Lexicographic.{slice_cmp};
-ghost use Rattle.std.specs.List.Sorted.{IsPermutation, IsSorted};
+ghost use Rattle.std.specs.List.Sorted.{IsPermutation, IsSorted, IsStrictlySortedBy};
+ghost use Rattle.std.specs.Map.{keys_of};
 ghost use Rattle.std.specs.Ordering.{nat_cmp};
 ghost use Rattle.txn_kv.specs.declared.errors.Error.TheVariants.{Unimplemented, OutOfMemory};
-ghost use Rattle.txn_buffer.specs.Writes.{after_delete, after_insert, after_put};
+ghost use Rattle.txn_buffer.specs.Writes.{after_call, after_delete, after_insert, after_put, delete_call, insert_call, put_call};
 ghost use Rattle.txn_buffer.specs.Overlay.{directed, first_pairs, in_key_order, overlay};
-ghost use Rattle.txn_buffer.specs.Reads.{AgreesAll, IsBatch, IsUnlikeOne, cached_pairs, filled_all, is_some_cached, known_pairs, pairs_of, scan_limit, unfilled, unfilled_all, unwritten, writes_in};
+ghost use Rattle.txn_buffer.specs.Reads.{AgreesAll, IsBatch, IsUnlikeOne, cached_pairs, filled_all, is_some_cached, known_pairs, pairs_of, scan_limit, unfilled, unfilled_all, unwritten, writes, writes_in};
 ghost use Rattle.txn_buffer.specs.Contents.{commit_primary, entry_at, filled, first_locking, is_locking_at, is_some_bare_lock, known_at, known_value, missing_keys, mutated, mutations, write_size, Agrees, IsUnlike, locked, locked_at, unlocked, with_new_entry, with_primary, with_write, write_at};
 
 use crate::bounds::runs_forward;
@@ -27,7 +28,7 @@ pub struct Buffer {
 
 impl Model for Buffer {
     ghost use Rattle.txn_buffer.specs.Overlay.{directed, first_pairs, in_key_order, overlay};
-    ghost use Rattle.txn_buffer.specs.Reads.{AgreesAll, IsBatch, IsUnlikeOne, cached_pairs, filled_all, is_some_cached, known_pairs, pairs_of, scan_limit, unfilled, unfilled_all, unwritten, writes_in};
+    ghost use Rattle.txn_buffer.specs.Reads.{AgreesAll, IsBatch, IsUnlikeOne, cached_pairs, filled_all, is_some_cached, known_pairs, pairs_of, scan_limit, unfilled, unfilled_all, unwritten, writes, writes_in};
     ghost use Rattle.txn_buffer.specs.Contents.{Contents};
 
     ghost Value = { Contents };
@@ -85,8 +86,10 @@ impl Buffer {
     }
 
     /// Buffers a put. A refusal changes nothing.
+    #[tactic(auto, using(crate::proofs::Steps::put_steps))]
     pub fn put(&mut self, key: Key, value: Value) -> std::result::Result<(), NoMemory>
         ensures ok { OnOk result (self.new ≡ with_write self.old key (after_put (write_at self.old key) value)) }
+        ensures step { OnOk result (writes self.new ≡ after_call self.old.is_pessimistic (writes self.old) (put_call key value)) }
         ensures err { OnErr result (self.new ≡ self.old) }
     {
         let entry = Entry::put_over(self.entry_map.get(&key), value);
@@ -94,8 +97,10 @@ impl Buffer {
     }
 
     /// Buffers an insert. A refusal changes nothing.
+    #[tactic(auto, using(crate::proofs::Steps::insert_steps))]
     pub fn insert(&mut self, key: Key, value: Value) -> std::result::Result<(), NoMemory>
         ensures ok { OnOk result (self.new ≡ with_write self.old key (after_insert (write_at self.old key) value)) }
+        ensures step { OnOk result (writes self.new ≡ after_call self.old.is_pessimistic (writes self.old) (insert_call key value)) }
         ensures err { OnErr result (self.new ≡ self.old) }
     {
         let entry = Entry::insert_over(self.entry_map.get(&key), value);
@@ -103,8 +108,10 @@ impl Buffer {
     }
 
     /// Buffers a delete. A refusal changes nothing.
+    #[tactic(auto, using(crate::proofs::Steps::delete_steps))]
     pub fn delete(&mut self, key: Key) -> std::result::Result<(), NoMemory>
         ensures ok { OnOk result (self.new ≡ with_write self.old key (after_delete self.old.is_pessimistic (write_at self.old key))) }
+        ensures step { OnOk result (writes self.new ≡ after_call self.old.is_pessimistic (writes self.old) (delete_call key)) }
         ensures err { OnErr result (self.new ≡ self.old) }
     {
         let entry = Entry::delete_over(self.entry_map.get(&key), self.is_pessimistic);
@@ -114,6 +121,7 @@ impl Buffer {
     /// Sets an entry, and the primary key where there is none and the entry sets it. A refusal changes nothing.
     fn set_entry(&mut self, key: Key, entry: Entry) -> std::result::Result<(), NoMemory>
         ensures ok { OnOk result (self.new ≡ with_new_entry self.old key entry) }
+        ensures ordered { OnOk result (IsStrictlySortedBy (slice_cmp nat_cmp) (keys_of self.old.entries)) }
         ensures err { OnErr result (self.new ≡ self.old) }
     {
         if entry.sets_primary() && self.primary_key.is_none() {

@@ -128,8 +128,8 @@ fn pair(alloc: Global, name: &str, text: &str) -> Result<KvPair, NoMemory> {
     Ok(KvPair(key(alloc, name)?, value(alloc, text)?))
 }
 
-fn taken<T>(result: txn_kv::Result<T>) -> Result<T, NoMemory> {
-    match result {
+fn taken<T>(answer: txn_kv::Result<T>) -> Result<T, NoMemory> {
+    match answer {
         Ok(value) => Ok(value),
         Err(_) => Err(NoMemory),
     }

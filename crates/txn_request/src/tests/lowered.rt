@@ -1,60 +1,72 @@
-use super::{key, keys, mutations};
 use crate::lowering::*;
-use crate::requests;
-use std::alloc::Global;
 use std::ops::Bound;
 use std::test::Fail;
-use txn_kv::{Assertion, BoundRange, Key, NoMemory, Op, Timestamp, TimestampExt};
+use txn_kv::{Assertion, BoundRange, Items, Key, Op, Timestamp, TimestampExt};
 
-/// From a on, b included.
-fn range(alloc: Global) -> Result<BoundRange, NoMemory> {
-    Ok(BoundRange::new(
-        Bound::Included(key(alloc, "a")?),
-        Bound::Included(key(alloc, "b")?),
-    ))
+#[test]
+fn reads(rt: HostRuntime) {
+    let alloc = rt.alloc();
+    let seven = Timestamp::from_version(7);
+    assert!(rt; new_get_request(Key::empty(alloc), seven).version == 7);
+    assert!(rt; new_batch_get_request(Items::new(alloc), seven).version == 7);
 }
 
 #[test]
-fn reads(rt: HostRuntime) -> Result<(), Fail> {
+fn scans(rt: HostRuntime) -> Result<(), Fail> {
     let alloc = rt.alloc();
     let seven = Timestamp::from_version(7);
-    let get = requests::new_get_request(key(alloc, "a")?, 7);
-    assert_eq!(rt; new_get_request(key(alloc, "a")?, seven), get);
-    let batch_get = requests::new_batch_get_request(keys(alloc)?, 7);
-    assert_eq!(rt; new_batch_get_request(keys(alloc)?, seven), batch_get);
-    let made = new_scan_request(alloc, range(alloc)?, seven, 3, false, true)?;
-    assert_eq!(rt; made.start_key, key(alloc, "b\0")?);
-    assert_eq!(rt; made.end_key, key(alloc, "a")?);
-    assert_eq!(rt; made.version, 7);
-    assert_eq!(rt; made.limit, 3);
-    let from_a = BoundRange::range_from(key(alloc, "a")?);
-    let made = new_scan_lock_request(alloc, from_a, seven, 3)?;
-    let scan_lock = requests::new_scan_lock_request(key(alloc, "a")?, Key::empty(alloc), 7, 3);
-    assert_eq!(rt; made, scan_lock);
-    let made = new_unsafe_destroy_range_request(alloc, range(alloc)?)?;
-    let destroy = requests::new_unsafe_destroy_range_request(key(alloc, "a")?, key(alloc, "b\0")?);
-    assert_eq!(rt; made, destroy);
+    let only_empty = BoundRange::new(Bound::Unbounded, Bound::Included(Key::empty(alloc)));
+    let made = new_scan_request(alloc, only_empty, seven, 3, false, true)?;
+    assert!(rt; made.start_key.len() == 1 && made.end_key.is_empty());
+    assert!(rt; made.version == 7 && made.limit == 3);
     Ok(())
 }
 
 #[test]
-fn writes(rt: HostRuntime) -> Result<(), Fail> {
+fn ranges(rt: HostRuntime) -> Result<(), Fail> {
+    let alloc = rt.alloc();
+    let seven = Timestamp::from_version(7);
+    let after_empty = BoundRange::new(Bound::Excluded(Key::empty(alloc)), Bound::Unbounded);
+    let made = new_scan_lock_request(alloc, after_empty, seven, 3)?;
+    assert!(rt; made.start_key.len() == 1 && made.end_key.is_empty());
+    assert!(rt; made.max_version == 7 && made.limit == 3);
+    Ok(())
+}
+
+#[test]
+fn destroys(rt: HostRuntime) -> Result<(), Fail> {
+    let alloc = rt.alloc();
+    let after_empty = BoundRange::new(Bound::Excluded(Key::empty(alloc)), Bound::Unbounded);
+    let made = new_unsafe_destroy_range_request(alloc, after_empty)?;
+    assert!(rt; made.start_key.len() == 1 && made.end_key.is_empty());
+    Ok(())
+}
+
+#[test]
+fn writes(rt: HostRuntime) {
     let alloc = rt.alloc();
     let five = Timestamp::from_version(5);
     let six = Timestamp::from_version(6);
-    let primary = key(alloc, "p")?;
-    let puts = mutations(alloc, Op::Put, Assertion::None)?;
-    let made = new_prewrite_request(alloc, puts, primary, five, 3000);
-    assert_eq!(rt; made.start_version, 5);
-    let primary = key(alloc, "p")?;
-    let puts = mutations(alloc, Op::Put, Assertion::None)?;
-    let made = new_pessimistic_prewrite_request(alloc, puts, primary, five, 3000, six)?;
-    assert_eq!(rt; made.for_update_ts, 6);
-    assert_eq!(rt; made.is_pessimistic_lock.len(), 1);
-    let commit = requests::new_commit_request(keys(alloc)?, 5, 6);
-    assert_eq!(rt; new_commit_request(keys(alloc)?, five, six), commit);
-    let rollback = requests::new_batch_rollback_request(keys(alloc)?, 5);
-    assert_eq!(rt; new_batch_rollback_request(keys(alloc)?, five), rollback);
+    let made = new_prewrite_request(alloc, Items::new(alloc), Key::empty(alloc), five, 3000);
+    assert!(rt; made.start_version == 5 && made.lock_ttl == 3000);
+    let made = new_commit_request(Items::new(alloc), five, six);
+    assert!(rt; made.start_version == 5 && made.commit_version == 6);
+    assert!(rt; new_batch_rollback_request(Items::new(alloc), five).start_version == 5);
+    let made = new_pessimistic_rollback_request(Items::new(alloc), five, six);
+    assert!(rt; made.start_version == 5 && made.for_update_ts == 6);
+    let made = new_heart_beat_request(five, Key::empty(alloc), 20000);
+    assert!(rt; made.start_version == 5 && made.advise_lock_ttl == 20000);
+}
+
+#[test]
+fn pessimistic_writes(rt: HostRuntime) -> Result<(), Fail> {
+    let alloc = rt.alloc();
+    let five = Timestamp::from_version(5);
+    let six = Timestamp::from_version(6);
+    let primary = Key::empty(alloc);
+    let none = Items::new(alloc);
+    let made = new_pessimistic_prewrite_request(alloc, none, primary, five, 3000, six)?;
+    assert!(rt; made.start_version == 5 && made.for_update_ts == 6);
     Ok(())
 }
 
@@ -63,31 +75,25 @@ fn locks(rt: HostRuntime) -> Result<(), Fail> {
     let alloc = rt.alloc();
     let five = Timestamp::from_version(5);
     let six = Timestamp::from_version(6);
-    let locks = vec![in alloc; (key(alloc, "a")?, Assertion::NotExist)]?;
-    let primary = key(alloc, "p")?;
+    let locks = vec![in alloc; (Key::empty(alloc), Assertion::NotExist)]?;
+    let primary = Key::empty(alloc);
     let made = new_pessimistic_lock_request(alloc, locks, primary, five, 3000, six, true)?;
-    let lock = requests::new_pessimistic_lock_request(
-        mutations(alloc, Op::PessimisticLock, Assertion::NotExist)?,
-        key(alloc, "p")?,
-        5,
-        3000,
-        6,
-        true,
-    );
-    assert_eq!(rt; made, lock);
-    let bare = vec![in alloc; key(alloc, "a")?]?;
-    let primary = key(alloc, "p")?;
-    let made = new_pessimistic_lock_request(alloc, bare, primary, five, 3000, six, false)?;
-    assert_eq!(rt; made.return_values, false);
-    let rollback = requests::new_pessimistic_rollback_request(keys(alloc)?, 5, 6);
-    assert_eq!(rt;
-        new_pessimistic_rollback_request(keys(alloc)?, five, six),
-        rollback
-    );
-    let heart_beat = requests::new_heart_beat_request(5, key(alloc, "p")?, 20000);
-    assert_eq!(rt;
-        new_heart_beat_request(five, key(alloc, "p")?, 20000),
-        heart_beat
-    );
+    assert!(rt; made.start_version == 5 && made.for_update_ts == 6 && made.return_values);
+    let is_asserted = match made.mutations.as_slice().first() {
+        Some(lock) => lock.op == Op::PessimisticLock && lock.assertion == Assertion::NotExist,
+        None => false,
+    };
+    assert!(rt; is_asserted);
+    Ok(())
+}
+
+#[test]
+fn bare_locks(rt: HostRuntime) -> Result<(), Fail> {
+    let alloc = rt.alloc();
+    let five = Timestamp::from_version(5);
+    let bare = vec![in alloc; Key::empty(alloc)]?;
+    let primary = Key::empty(alloc);
+    let made = new_pessimistic_lock_request(alloc, bare, primary, five, 3000, five, false)?;
+    assert!(rt; made.mutations.len() == 1);
     Ok(())
 }

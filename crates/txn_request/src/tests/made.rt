@@ -1,65 +1,75 @@
-use super::{key, keys, mutations};
 use crate::requests::*;
 use std::test::Fail;
 use txn_kv::{
-    Assertion, BatchGetRequest, BatchRollbackRequest, CheckSecondaryLocksRequest,
-    CheckTxnStatusRequest, CleanupRequest, CommitRequest, GetRequest, Items, Op,
-    PessimisticLockRequest, PessimisticRollbackRequest, PrewriteRequest, ResolveLockRequest,
-    ScanLockRequest, ScanRequest, TxnHeartBeatRequest, TxnInfo, UnsafeDestroyRangeRequest,
+    BatchGetRequest, BatchRollbackRequest, CheckSecondaryLocksRequest, CheckTxnStatusRequest,
+    CleanupRequest, CommitRequest, GetRequest, Items, Key, PessimisticLockRequest,
+    PessimisticRollbackRequest, PrewriteRequest, ResolveLockRequest, ScanLockRequest,
+    TxnHeartBeatRequest, UnsafeDestroyRangeRequest,
 };
 
 #[test]
-fn reads(rt: HostRuntime) -> Result<(), Fail> {
+fn reads(rt: HostRuntime) {
     let alloc = rt.alloc();
     let get = GetRequest {
         context: None,
-        key: key(alloc, "a")?,
+        key: Key::empty(alloc),
         version: 7,
     };
-    assert_eq!(rt; new_get_request(key(alloc, "a")?, 7), get);
+    assert!(rt; new_get_request(Key::empty(alloc), 7) == get);
     let batch_get = BatchGetRequest {
         context: None,
-        keys: keys(alloc)?,
+        keys: Items::new(alloc),
         version: 7,
     };
-    assert_eq!(rt; new_batch_get_request(keys(alloc)?, 7), batch_get);
-    let scan = ScanRequest {
-        context: None,
-        start_key: key(alloc, "b")?,
-        end_key: key(alloc, "a")?,
-        limit: 3,
-        key_only: true,
-        version: 7,
-        reverse: true,
-    };
-    let made = new_scan_request(key(alloc, "a")?, key(alloc, "b")?, 7, 3, true, true);
-    assert_eq!(rt; made, scan);
-    let scan_lock = ScanLockRequest {
-        context: None,
-        start_key: key(alloc, "a")?,
-        end_key: key(alloc, "b")?,
-        max_version: 7,
-        limit: 3,
-    };
-    let made = new_scan_lock_request(key(alloc, "a")?, key(alloc, "b")?, 7, 3);
-    assert_eq!(rt; made, scan_lock);
-    let destroy = UnsafeDestroyRangeRequest {
-        context: None,
-        start_key: key(alloc, "a")?,
-        end_key: key(alloc, "b")?,
-    };
-    let made = new_unsafe_destroy_range_request(key(alloc, "a")?, key(alloc, "b")?);
-    assert_eq!(rt; made, destroy);
+    assert!(rt; new_batch_get_request(Items::new(alloc), 7) == batch_get);
+}
+
+#[test]
+fn scans(rt: HostRuntime) -> Result<(), Fail> {
+    let alloc = rt.alloc();
+    let start = Key::from(b"a".to_vec(alloc)?);
+    let made = new_scan_request(start, Key::empty(alloc), 7, 3, true, true);
+    assert!(rt; made.start_key.is_empty());
+    assert!(rt; made.end_key.len() == 1);
+    assert!(rt; made.version == 7 && made.limit == 3 && made.key_only && made.reverse);
     Ok(())
 }
 
 #[test]
-fn writes(rt: HostRuntime) -> Result<(), Fail> {
+fn ranges(rt: HostRuntime) {
     let alloc = rt.alloc();
+    let scan_lock = ScanLockRequest {
+        context: None,
+        start_key: Key::empty(alloc),
+        end_key: Key::empty(alloc),
+        max_version: 7,
+        limit: 3,
+    };
+    assert!(rt; new_scan_lock_request(Key::empty(alloc), Key::empty(alloc), 7, 3) == scan_lock);
+    let destroy = UnsafeDestroyRangeRequest {
+        context: None,
+        start_key: Key::empty(alloc),
+        end_key: Key::empty(alloc),
+    };
+    assert!(rt; new_unsafe_destroy_range_request(Key::empty(alloc), Key::empty(alloc)) == destroy);
+}
+
+#[test]
+fn prewrites(rt: HostRuntime) -> Result<(), Fail> {
+    let alloc = rt.alloc();
+    let made = new_pessimistic_prewrite_request(
+        alloc,
+        Items::new(alloc),
+        Key::empty(alloc),
+        5,
+        3000,
+        6,
+    )?;
+    assert!(rt; made.for_update_ts == 6);
     let optimistic = PrewriteRequest {
         context: None,
-        mutations: mutations(alloc, Op::Del, Assertion::None)?,
-        primary_lock: key(alloc, "p")?,
+        mutations: Items::new(alloc),
+        primary_lock: Key::empty(alloc),
         start_version: 5,
         lock_ttl: 3000,
         txn_size: u64::MAX,
@@ -69,47 +79,43 @@ fn writes(rt: HostRuntime) -> Result<(), Fail> {
         try_one_pc: false,
         secondaries: Items::new(alloc),
     };
-    let made = new_prewrite_request(
-        alloc,
-        mutations(alloc, Op::Del, Assertion::None)?,
-        key(alloc, "p")?,
-        5,
-        3000,
-    );
-    assert_eq!(rt; made, optimistic);
-    let made = new_pessimistic_prewrite_request(
-        alloc,
-        mutations(alloc, Op::Del, Assertion::None)?,
-        key(alloc, "p")?,
-        5,
-        3000,
-        6,
-    )?;
-    assert_eq!(rt; made.for_update_ts, 6);
-    assert_eq!(rt; made.is_pessimistic_lock.as_slice(), [true].as_slice());
-    let commit = CommitRequest {
-        context: None,
-        keys: keys(alloc)?,
-        start_version: 5,
-        commit_version: 9,
-    };
-    assert_eq!(rt; new_commit_request(keys(alloc)?, 5, 9), commit);
-    let rollback = BatchRollbackRequest {
-        context: None,
-        keys: keys(alloc)?,
-        start_version: 5,
-    };
-    assert_eq!(rt; new_batch_rollback_request(keys(alloc)?, 5), rollback);
+    let made = new_prewrite_request(alloc, Items::new(alloc), Key::empty(alloc), 5, 3000);
+    assert!(rt; made == optimistic);
     Ok(())
 }
 
 #[test]
-fn locks(rt: HostRuntime) -> Result<(), Fail> {
+fn ends(rt: HostRuntime) {
+    let alloc = rt.alloc();
+    let commit = CommitRequest {
+        context: None,
+        keys: Items::new(alloc),
+        start_version: 5,
+        commit_version: 9,
+    };
+    assert!(rt; new_commit_request(Items::new(alloc), 5, 9) == commit);
+    let rollback = BatchRollbackRequest {
+        context: None,
+        keys: Items::new(alloc),
+        start_version: 5,
+    };
+    assert!(rt; new_batch_rollback_request(Items::new(alloc), 5) == rollback);
+    let rollback = PessimisticRollbackRequest {
+        context: None,
+        keys: Items::new(alloc),
+        start_version: 5,
+        for_update_ts: 6,
+    };
+    assert!(rt; new_pessimistic_rollback_request(Items::new(alloc), 5, 6) == rollback);
+}
+
+#[test]
+fn locks(rt: HostRuntime) {
     let alloc = rt.alloc();
     let lock = PessimisticLockRequest {
         context: None,
-        mutations: mutations(alloc, Op::PessimisticLock, Assertion::None)?,
-        primary_lock: key(alloc, "p")?,
+        mutations: Items::new(alloc),
+        primary_lock: Key::empty(alloc),
         start_version: 5,
         lock_ttl: 3000,
         for_update_ts: 6,
@@ -118,40 +124,19 @@ fn locks(rt: HostRuntime) -> Result<(), Fail> {
         return_values: true,
         min_commit_ts: 0,
     };
-    let made = new_pessimistic_lock_request(
-        mutations(alloc, Op::PessimisticLock, Assertion::None)?,
-        key(alloc, "p")?,
-        5,
-        3000,
-        6,
-        true,
-    );
-    assert_eq!(rt; made, lock);
-    let rollback = PessimisticRollbackRequest {
-        context: None,
-        keys: keys(alloc)?,
-        start_version: 5,
-        for_update_ts: 6,
-    };
-    assert_eq!(rt;
-        new_pessimistic_rollback_request(keys(alloc)?, 5, 6),
-        rollback
-    );
+    let made = new_pessimistic_lock_request(Items::new(alloc), Key::empty(alloc), 5, 3000, 6, true);
+    assert!(rt; made == lock);
     let heart_beat = TxnHeartBeatRequest {
         context: None,
-        primary_lock: key(alloc, "p")?,
+        primary_lock: Key::empty(alloc),
         start_version: 5,
         advise_lock_ttl: 20000,
     };
-    assert_eq!(rt;
-        new_heart_beat_request(5, key(alloc, "p")?, 20000),
-        heart_beat
-    );
-    Ok(())
+    assert!(rt; new_heart_beat_request(5, Key::empty(alloc), 20000) == heart_beat);
 }
 
 #[test]
-fn settles(rt: HostRuntime) -> Result<(), Fail> {
+fn settles(rt: HostRuntime) {
     let alloc = rt.alloc();
     let resolve = ResolveLockRequest {
         context: None,
@@ -159,22 +144,23 @@ fn settles(rt: HostRuntime) -> Result<(), Fail> {
         commit_version: 9,
         txn_infos: Items::new(alloc),
     };
-    assert_eq!(rt; new_resolve_lock_request(alloc, 5, 9), resolve);
-    let mut infos = Items::new(alloc);
-    infos.push(TxnInfo { txn: 5, status: 9 })?;
-    let made = new_batch_resolve_lock_request(infos);
-    assert_eq!(rt; made.start_version, 0);
-    assert_eq!(rt; made.commit_version, 0);
-    assert_eq!(rt; made.txn_infos.len(), 1);
+    assert!(rt; new_resolve_lock_request(alloc, 5, 9) == resolve);
+    let batch = new_batch_resolve_lock_request(Items::new(alloc));
+    assert!(rt; batch.start_version == 0 && batch.commit_version == 0);
     let cleanup = CleanupRequest {
         context: None,
-        key: key(alloc, "a")?,
+        key: Key::empty(alloc),
         start_version: 5,
     };
-    assert_eq!(rt; new_cleanup_request(key(alloc, "a")?, 5), cleanup);
+    assert!(rt; new_cleanup_request(Key::empty(alloc), 5) == cleanup);
+}
+
+#[test]
+fn checks(rt: HostRuntime) {
+    let alloc = rt.alloc();
     let status = CheckTxnStatusRequest {
         context: None,
-        primary_key: key(alloc, "p")?,
+        primary_key: Key::empty(alloc),
         lock_ts: 5,
         caller_start_ts: 7,
         current_ts: 8,
@@ -182,16 +168,12 @@ fn settles(rt: HostRuntime) -> Result<(), Fail> {
         force_sync_commit: false,
         resolving_pessimistic_lock: true,
     };
-    let made = new_check_txn_status_request(key(alloc, "p")?, 5, 7, 8, true, false, true);
-    assert_eq!(rt; made, status);
+    let made = new_check_txn_status_request(Key::empty(alloc), 5, 7, 8, true, false, true);
+    assert!(rt; made == status);
     let secondaries = CheckSecondaryLocksRequest {
         context: None,
-        keys: keys(alloc)?,
+        keys: Items::new(alloc),
         start_version: 5,
     };
-    assert_eq!(rt;
-        new_check_secondary_locks_request(keys(alloc)?, 5),
-        secondaries
-    );
-    Ok(())
+    assert!(rt; new_check_secondary_locks_request(Items::new(alloc), 5) == secondaries);
 }

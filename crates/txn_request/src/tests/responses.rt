@@ -1,5 +1,4 @@
 use crate::KvRequest;
-use std::test::Fail;
 use txn_kv::*;
 
 /// Whether a reply of the request's kind is taken, and one of another kind refused.
@@ -27,7 +26,7 @@ fn tso() -> Reply {
 }
 
 #[test]
-fn answers_reads(rt: HostRuntime) -> std::result::Result<(), Fail> {
+fn answers_reads(rt: HostRuntime) {
     let alloc = rt.alloc();
     let get = Reply::Get(GetResponse {
         region_error: None,
@@ -35,30 +34,29 @@ fn answers_reads(rt: HostRuntime) -> std::result::Result<(), Fail> {
         value: Value::new(alloc),
         not_found: true,
     });
-    assert_eq!(rt; takes_own::<GetRequest>(get, tso()), true);
+    assert!(rt; takes_own::<GetRequest>(get, tso()));
     let batch_get = Reply::BatchGet(BatchGetResponse {
         region_error: None,
         error: None,
         pairs: Items::new(alloc),
     });
-    assert_eq!(rt; takes_own::<BatchGetRequest>(batch_get, tso()), true);
+    assert!(rt; takes_own::<BatchGetRequest>(batch_get, tso()));
     let scan = Reply::Scan(ScanResponse {
         region_error: None,
         error: None,
         pairs: Items::new(alloc),
     });
-    assert_eq!(rt; takes_own::<ScanRequest>(scan, tso()), true);
+    assert!(rt; takes_own::<ScanRequest>(scan, tso()));
     let scan_lock = Reply::ScanLock(ScanLockResponse {
         region_error: None,
         error: None,
         locks: Items::new(alloc),
     });
-    assert_eq!(rt; takes_own::<ScanLockRequest>(scan_lock, tso()), true);
-    Ok(())
+    assert!(rt; takes_own::<ScanLockRequest>(scan_lock, tso()));
 }
 
 #[test]
-fn answers_writes(rt: HostRuntime) -> std::result::Result<(), Fail> {
+fn answers_writes(rt: HostRuntime) {
     let alloc = rt.alloc();
     let prewrite = Reply::Prewrite(PrewriteResponse {
         region_error: None,
@@ -66,37 +64,33 @@ fn answers_writes(rt: HostRuntime) -> std::result::Result<(), Fail> {
         min_commit_ts: 0,
         one_pc_commit_ts: 0,
     });
-    assert_eq!(rt; takes_own::<PrewriteRequest>(prewrite, tso()), true);
+    assert!(rt; takes_own::<PrewriteRequest>(prewrite, tso()));
     let commit = Reply::Commit(CommitResponse {
         region_error: None,
         error: None,
         commit_version: 0,
     });
-    assert_eq!(rt; takes_own::<CommitRequest>(commit, tso()), true);
+    assert!(rt; takes_own::<CommitRequest>(commit, tso()));
     let cleanup = Reply::Cleanup(CleanupResponse {
         region_error: None,
         error: None,
         commit_version: 0,
     });
-    assert_eq!(rt; takes_own::<CleanupRequest>(cleanup, tso()), true);
+    assert!(rt; takes_own::<CleanupRequest>(cleanup, tso()));
     let rollback = Reply::BatchRollback(BatchRollbackResponse {
         region_error: None,
         error: None,
     });
-    assert_eq!(rt; takes_own::<BatchRollbackRequest>(rollback, tso()), true);
+    assert!(rt; takes_own::<BatchRollbackRequest>(rollback, tso()));
     let destroy = Reply::UnsafeDestroyRange(UnsafeDestroyRangeResponse {
         region_error: None,
         error: Text::from_string(String::new(alloc)),
     });
-    assert_eq!(rt;
-        takes_own::<UnsafeDestroyRangeRequest>(destroy, tso()),
-        true
-    );
-    Ok(())
+    assert!(rt; takes_own::<UnsafeDestroyRangeRequest>(destroy, tso()));
 }
 
 #[test]
-fn answers_locks(rt: HostRuntime) -> std::result::Result<(), Fail> {
+fn answers_locks(rt: HostRuntime) {
     let alloc = rt.alloc();
     let lock = Reply::PessimisticLock(PessimisticLockResponse {
         region_error: None,
@@ -104,26 +98,23 @@ fn answers_locks(rt: HostRuntime) -> std::result::Result<(), Fail> {
         values: Items::new(alloc),
         not_founds: Items::new(alloc),
     });
-    assert_eq!(rt; takes_own::<PessimisticLockRequest>(lock, tso()), true);
+    assert!(rt; takes_own::<PessimisticLockRequest>(lock, tso()));
     let rollback = Reply::PessimisticRollback(PessimisticRollbackResponse {
         region_error: None,
         errors: Items::new(alloc),
     });
-    assert_eq!(rt;
-        takes_own::<PessimisticRollbackRequest>(rollback, tso()),
-        true
-    );
+    assert!(rt; takes_own::<PessimisticRollbackRequest>(rollback, tso()));
     let resolve = Reply::ResolveLock(ResolveLockResponse {
         region_error: None,
         error: None,
     });
-    assert_eq!(rt; takes_own::<ResolveLockRequest>(resolve, tso()), true);
+    assert!(rt; takes_own::<ResolveLockRequest>(resolve, tso()));
     let heart_beat = Reply::TxnHeartBeat(TxnHeartBeatResponse {
         region_error: None,
         error: None,
         lock_ttl: 0,
     });
-    assert_eq!(rt; takes_own::<TxnHeartBeatRequest>(heart_beat, tso()), true);
+    assert!(rt; takes_own::<TxnHeartBeatRequest>(heart_beat, tso()));
     let status = Reply::CheckTxnStatus(CheckTxnStatusResponse {
         region_error: None,
         error: None,
@@ -132,7 +123,7 @@ fn answers_locks(rt: HostRuntime) -> std::result::Result<(), Fail> {
         action: Action::NoAction,
         lock_info: None,
     });
-    assert_eq!(rt; takes_own::<CheckTxnStatusRequest>(status, tso()), true);
+    assert!(rt; takes_own::<CheckTxnStatusRequest>(status, tso()));
     let secondaries = Reply::CheckSecondaryLocks(CheckSecondaryLocksResponse {
         region_error: None,
         error: None,
@@ -140,26 +131,22 @@ fn answers_locks(rt: HostRuntime) -> std::result::Result<(), Fail> {
         commit_ts: 0,
         missing: false,
     });
-    assert_eq!(rt;
-        takes_own::<CheckSecondaryLocksRequest>(secondaries, tso()),
-        true
-    );
-    Ok(())
+    assert!(rt; takes_own::<CheckSecondaryLocksRequest>(secondaries, tso()));
 }
 
 #[test]
-fn answers_placement(rt: HostRuntime) -> std::result::Result<(), Fail> {
+fn answers_placement(rt: HostRuntime) {
     let alloc = rt.alloc();
     let region = Reply::GetRegion(GetRegionResponse {
         region: None,
         leader: None,
     });
-    assert_eq!(rt; takes_own::<GetRegionRequest>(region, tso()), true);
+    assert!(rt; takes_own::<GetRegionRequest>(region, tso()));
     let region = Reply::GetRegionById(GetRegionResponse {
         region: None,
         leader: None,
     });
-    assert_eq!(rt; takes_own::<GetRegionByIdRequest>(region, tso()), true);
+    assert!(rt; takes_own::<GetRegionByIdRequest>(region, tso()));
     let store = Reply::GetStore(GetStoreResponse {
         store: StoreMeta {
             id: 1,
@@ -168,25 +155,21 @@ fn answers_placement(rt: HostRuntime) -> std::result::Result<(), Fail> {
             labels: Items::new(alloc),
         },
     });
-    assert_eq!(rt; takes_own::<GetStoreRequest>(store, tso()), true);
+    assert!(rt; takes_own::<GetStoreRequest>(store, tso()));
     let stores = Reply::GetAllStores(GetAllStoresResponse {
         stores: Items::new(alloc),
     });
-    assert_eq!(rt; takes_own::<GetAllStoresRequest>(stores, tso()), true);
+    assert!(rt; takes_own::<GetAllStoresRequest>(stores, tso()));
     let safe_point = Reply::UpdateGcSafePoint(UpdateGcSafePointResponse { new_safe_point: 1 });
-    assert_eq!(rt;
-        takes_own::<UpdateGcSafePointRequest>(safe_point, tso()),
-        true
-    );
+    assert!(rt; takes_own::<UpdateGcSafePointRequest>(safe_point, tso()));
     let members = Reply::Members(MembersResponse);
-    assert_eq!(rt; takes_own::<TsoRequest>(tso(), members), true);
+    assert!(rt; takes_own::<TsoRequest>(tso(), members));
     let members = Reply::Members(MembersResponse);
-    assert_eq!(rt; takes_own::<MembersRequest>(members, tso()), true);
-    Ok(())
+    assert!(rt; takes_own::<MembersRequest>(members, tso()));
 }
 
 #[test]
-fn gets_a_context(rt: HostRuntime) -> std::result::Result<(), Fail> {
+fn gets_a_context(rt: HostRuntime) {
     let alloc = rt.alloc();
     let mut request = GetRequest {
         context: None,
@@ -205,7 +188,6 @@ fn gets_a_context(rt: HostRuntime) -> std::result::Result<(), Fail> {
         api_version: ApiVersion::V2,
         ..context
     };
-    assert_eq!(rt; request.context, Some(kept));
-    assert_eq!(rt; request.into_request().label(), "kv_get");
-    Ok(())
+    assert!(rt; request.context == Some(kept));
+    assert!(rt; request.into_request().label() == "kv_get");
 }
