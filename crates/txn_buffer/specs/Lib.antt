@@ -1,2 +1,4 @@
 pub mod Contents
+pub mod Overlay
+pub mod Reads
 pub mod Writes

@@ -1,14 +1,21 @@
-ghost use Rattle.std.specs.Prelude.{◌≡◌, ◌-◌, ◌^◌, OnOk, OnErr, IfOk, IfErr, MatchOption, min, Some, None, [], option_map, is_none};
+ghost use Rattle.std.specs.Prelude.{◌≡◌, ◌∷◌, ◌++◌, ◌-◌, ◌^◌, OnOk, OnErr, IfOk, IfErr, MatchOption, min, not, Ok, Some, None, [], option_map, is_none};
 ghost use Rattle.std.specs.Option.{option_copied};
+ghost use Rattle.std.specs.Cmp.Lexicographic.{slice_cmp};
+ghost use Rattle.std.specs.List.Sorted.{IsPermutation, IsSorted, IsStrictlySortedBy};
+ghost use Rattle.std.specs.Map.{keys_of};
+ghost use Rattle.std.specs.Ordering.{nat_cmp};
 ghost use Rattle.txn_kv.specs.declared.errors.Error.TheVariants.{Unimplemented, OutOfMemory};
-ghost use Rattle.txn_buffer.specs.Writes.{after_delete, after_insert, after_put};
+ghost use Rattle.txn_buffer.specs.Writes.{after_call, after_delete, after_insert, after_put, delete_call, insert_call, put_call};
+ghost use Rattle.txn_buffer.specs.Overlay.{directed, first_pairs, in_key_order, overlay};
+ghost use Rattle.txn_buffer.specs.Reads.{AgreesAll, IsBatch, IsUnlikeOne, cached_pairs, filled_all, is_some_cached, known_pairs, pairs_of, scan_limit, unfilled, unfilled_all, unwritten, writes, writes_in};
 ghost use Rattle.txn_buffer.specs.Contents.{commit_primary, entry_at, filled, first_locking, is_locking_at, is_some_bare_lock, known_at, known_value, missing_keys, mutated, mutations, write_size, Agrees, IsUnlike, locked, locked_at, unlocked, with_new_entry, with_primary, with_write, write_at};
 
+use crate::bounds::runs_forward;
 use crate::entry::Entry;
 use std::alloc::Global;
 use std::collections::BTreeMap;
 use std::marker::Model;
-use txn_kv::{Error, Key, Mutation, NoMemory, Op, Result, Value};
+use txn_kv::{BoundRange, Error, Key, KvPair, Mutation, NoMemory, Op, Result, TryClone, Value};
 
 /// The writes, locks and reads of a transaction.
 #[derive(Drop)]
@@ -20,6 +27,8 @@ pub struct Buffer {
 }
 
 impl Model for Buffer {
+    ghost use Rattle.txn_buffer.specs.Overlay.{directed, first_pairs, in_key_order, overlay};
+    ghost use Rattle.txn_buffer.specs.Reads.{AgreesAll, IsBatch, IsUnlikeOne, cached_pairs, filled_all, is_some_cached, known_pairs, pairs_of, scan_limit, unfilled, unfilled_all, unwritten, writes, writes_in};
     ghost use Rattle.txn_buffer.specs.Contents.{Contents};
 
     ghost Value = { Contents };
@@ -77,8 +86,10 @@ impl Buffer {
     }
 
     /// Buffers a put. A refusal changes nothing.
+    #[tactic(auto, using(crate::proofs::Steps::put_steps))]
     pub fn put(&mut self, key: Key, value: Value) -> std::result::Result<(), NoMemory>
         ensures ok { OnOk result (self.new ≡ with_write self.old key (after_put (write_at self.old key) value)) }
+        ensures step { OnOk result (writes self.new ≡ after_call self.old.is_pessimistic (writes self.old) (put_call key value)) }
         ensures err { OnErr result (self.new ≡ self.old) }
     {
         let entry = Entry::put_over(self.entry_map.get(&key), value);
@@ -86,8 +97,10 @@ impl Buffer {
     }
 
     /// Buffers an insert. A refusal changes nothing.
+    #[tactic(auto, using(crate::proofs::Steps::insert_steps))]
     pub fn insert(&mut self, key: Key, value: Value) -> std::result::Result<(), NoMemory>
         ensures ok { OnOk result (self.new ≡ with_write self.old key (after_insert (write_at self.old key) value)) }
+        ensures step { OnOk result (writes self.new ≡ after_call self.old.is_pessimistic (writes self.old) (insert_call key value)) }
         ensures err { OnErr result (self.new ≡ self.old) }
     {
         let entry = Entry::insert_over(self.entry_map.get(&key), value);
@@ -95,8 +108,10 @@ impl Buffer {
     }
 
     /// Buffers a delete. A refusal changes nothing.
+    #[tactic(auto, using(crate::proofs::Steps::delete_steps))]
     pub fn delete(&mut self, key: Key) -> std::result::Result<(), NoMemory>
         ensures ok { OnOk result (self.new ≡ with_write self.old key (after_delete self.old.is_pessimistic (write_at self.old key))) }
+        ensures step { OnOk result (writes self.new ≡ after_call self.old.is_pessimistic (writes self.old) (delete_call key)) }
         ensures err { OnErr result (self.new ≡ self.old) }
     {
         let entry = Entry::delete_over(self.entry_map.get(&key), self.is_pessimistic);
@@ -106,6 +121,7 @@ impl Buffer {
     /// Sets an entry, and the primary key where there is none and the entry sets it. A refusal changes nothing.
     fn set_entry(&mut self, key: Key, entry: Entry) -> std::result::Result<(), NoMemory>
         ensures ok { OnOk result (self.new ≡ with_new_entry self.old key entry) }
+        ensures ordered { OnOk result (IsStrictlySortedBy (slice_cmp nat_cmp) (keys_of self.old.entries)) }
         ensures err { OnErr result (self.new ≡ self.old) }
     {
         if entry.sets_primary() && self.primary_key.is_none() {
@@ -275,4 +291,264 @@ impl Buffer {
         }
         Ok(missing)
     }
+
+    /// Takes what was read of the keys, and gives the pair of each asked key that has a value, in key order, repeats kept.
+    /// A refusal changes nothing: another value is known of one of the keys.
+    #[tactic(auto, using(crate::proofs::Undo::unlike_no_memory))]
+    pub fn batch_fill(&mut self, asked: &[Key], fetched: Vec<KvPair>) -> Result<Vec<KvPair>>
+        ensures ok { OnOk result (self.new ≡ filled_all self.old (pairs_of fetched.items)) }
+        ensures agrees { OnOk result (AgreesAll self.old (pairs_of fetched.items)) }
+        ensures pairs { IfOk result (λ pairs. IsBatch self.new asked.now (pairs_of pairs.items)) }
+        ensures err { OnErr result (self.new ≡ self.old) }
+        ensures why { IfErr result (IsUnlikeOne self.old (pairs_of fetched.items)) }
+    {
+        let keys = sorted(self.alloc, asked)?;
+        let filled = self.fill_all(fetched)?;
+        match self.known_pairs(keys) {
+            Ok(pairs) => Ok(pairs),
+            Err(_) => {
+                self.unfill_all(filled);
+                Err(Error::OutOfMemory)
+            }
+        }
+    }
+
+    fn known_pairs(&self, keys: Vec<Key>) -> std::result::Result<Vec<KvPair>, NoMemory>
+        ensures { IfOk result (λ pairs. pairs_of pairs.items ≡ known_pairs self.now keys.items) }
+    {
+        let mut pairs = Vec::new(self.alloc);
+        for key in keys {
+            if let Some(value) = self.get(&key)? {
+                pairs.push(KvPair(key, value))?;
+            }
+        }
+        Ok(pairs)
+    }
+
+    /// Takes what was read of some keys, and gives those of which nothing was known. A refusal changes nothing.
+    fn fill_all(&mut self, pairs: Vec<KvPair>) -> Result<Vec<Key>>
+        ensures ok { OnOk result (self.new ≡ filled_all self.old (pairs_of pairs.items)) }
+        ensures agrees { OnOk result (AgreesAll self.old (pairs_of pairs.items)) }
+        ensures undo { IfOk result (λ keys. unfilled_all self.new keys.items ≡ self.old) }
+        ensures err { OnErr result (self.new ≡ self.old) }
+        ensures why { IfErr result (IsUnlikeOne self.old (pairs_of pairs.items)) }
+    {
+        let mut keys = Vec::new(self.alloc);
+        for pair in pairs {
+            if let Err(error) = self.fill_noting(pair, &mut keys) {
+                self.unfill_all(keys);
+                return Err(error);
+            }
+        }
+        Ok(keys)
+    }
+
+    /// Takes what was read of a key, and notes the key where nothing was known of it.
+    fn fill_noting(&mut self, pair: KvPair, keys: &mut Vec<Key>) -> Result<()>
+        ensures ok { OnOk result (self.new ≡ filled self.old pair.0 (Some pair.1)) }
+        ensures agrees { OnOk result (Agrees (known_at self.old pair.0) (Some pair.1)) }
+        ensures undo { unfilled_all self.new keys.new.items ≡ unfilled_all self.old keys.old.items }
+        ensures why { IfErr result (IsUnlike (known_at self.old pair.0) (Some pair.1)) }
+    {
+        let KvPair(key, value) = pair;
+        if !self.missing(&key) {
+            return self.check(&key, Some(value));
+        }
+        note(keys, &key)?;
+        self.fill(key, Some(value))
+    }
+
+    /// Forgets what was read of the keys, the last first.
+    #[tactic(auto, using(crate::proofs::Undo::unfilled_all_push))]
+    fn unfill_all(&mut self, mut keys: Vec<Key>)
+        ensures { self.new ≡ unfilled_all self.old keys.items }
+    {
+        for _ in 0..keys.len() {
+            if let Some(key) = keys.pop() {
+                self.unfill(&key);
+            }
+        }
+    }
+
+    fn unfill(&mut self, key: &Key)
+        ensures { self.new ≡ unfilled self.old key.now }
+    {
+        if self.is_cached(key) {
+            self.entry_map.remove(key);
+        } else if let Some(entry) = self.entry_map.get_mut(key) {
+            entry.unfill();
+        }
+    }
+
+    fn is_cached(&self, key: &Key) -> bool
+        ensures { result ≡ is_some_cached (entry_at self.now key.now) }
+    {
+        match self.entry_map.get(key) {
+            Some(entry) => entry.is_cached(),
+            None => false,
+        }
+    }
+
+    /// How many pairs of the range have to be read so that `limit` are left whatever the buffer deletes.
+    #[tactic(auto, using(crate::proofs::Scans::filter_no))]
+    pub fn scan_limit(&self, range: &BoundRange, limit: u32) -> std::result::Result<u64, NoMemory>
+        ensures { result ≡ Ok (scan_limit self.now range.now limit) }
+    {
+        let mut most = limit as u64;
+        let bounds = (range.start_bound(), range.end_bound());
+        if runs_forward(bounds.0, bounds.1) {
+            for (_, entry) in self.entry_map.range(bounds) {
+                if entry.is_absent() {
+                    most += 1;
+                }
+            }
+        }
+        Ok(most)
+    }
+
+    /// Gives the first `limit` pairs of the range, from its low end or, where `reverse`, from its high end:
+    /// those fetched, seen through what is written in the buffer. Where `update_cache`, the buffer takes
+    /// what was read of each key that is not written. A refusal changes nothing.
+    #[tactic(auto, using(crate::proofs::Undo::unlike_no_memory))]
+    pub fn scan_fill(
+        &mut self,
+        range: &BoundRange,
+        limit: u32,
+        update_cache: bool,
+        reverse: bool,
+        fetched: Vec<KvPair>,
+    ) -> Result<Vec<KvPair>>
+        ensures ok { OnOk result (self.new ≡ filled_all self.old (cached_pairs update_cache self.old (pairs_of fetched.items))) }
+        ensures agrees { OnOk result (AgreesAll self.old (cached_pairs update_cache self.old (pairs_of fetched.items))) }
+        ensures pairs { IfOk result (λ pairs. pairs_of pairs.items ≡ first_pairs limit reverse (overlay (pairs_of fetched.items) (writes_in range.now self.old))) }
+        ensures err { OnErr result (self.new ≡ self.old) }
+        ensures why { IfErr result (IsUnlikeOne self.old (cached_pairs update_cache self.old (pairs_of fetched.items))) }
+    {
+        let read = self.cached_pairs(update_cache, &fetched)?;
+        let pairs = self.overlay(range, fetched)?;
+        let pairs = first_pairs(self.alloc, pairs, limit as usize, reverse)?;
+        self.fill_all(read)?;
+        Ok(pairs)
+    }
+
+    /// The pairs, where they are kept, whose keys are not written.
+    fn cached_pairs(
+        &self,
+        update_cache: bool,
+        pairs: &[KvPair],
+    ) -> std::result::Result<Vec<KvPair>, NoMemory>
+        ensures { IfOk result (λ read. pairs_of read.items ≡ cached_pairs update_cache self.now (pairs_of pairs.now)) }
+    {
+        if update_cache {
+            self.unwritten(KvPair::try_clone_all(pairs, self.alloc)?)
+        } else {
+            Ok(Vec::new(self.alloc))
+        }
+    }
+
+    fn unwritten(&self, pairs: Vec<KvPair>) -> std::result::Result<Vec<KvPair>, NoMemory>
+        ensures { IfOk result (λ read. pairs_of read.items ≡ unwritten self.now (pairs_of pairs.items)) }
+    {
+        let mut read = Vec::new(self.alloc);
+        for pair in pairs {
+            if !self.is_written(&pair.0) {
+                read.push(pair)?;
+            }
+        }
+        Ok(read)
+    }
+
+    fn is_written(&self, key: &Key) -> bool
+        ensures { is_none (write_at self.now key.now) ≡ not result }
+    {
+        match self.entry_map.get(key) {
+            Some(entry) => entry.is_write(),
+            None => false,
+        }
+    }
+
+    #[tactic(auto, using(crate::proofs::Scans::overlaid_and, crate::proofs::Scans::filter_no))]
+    fn overlay(
+        &self,
+        range: &BoundRange,
+        fetched: Vec<KvPair>,
+    ) -> std::result::Result<BTreeMap<Key, Value>, NoMemory>
+        ensures { IfOk result (λ pairs. pairs.entries ≡ overlay (pairs_of fetched.items) (writes_in range.now self.now)) }
+    {
+        let mut pairs = in_key_order(self.alloc, fetched)?;
+        let bounds = (range.start_bound(), range.end_bound());
+        if runs_forward(bounds.0, bounds.1) {
+            for (key, entry) in self.entry_map.range(bounds) {
+                entry.write_over(key, &mut pairs)?;
+            }
+        }
+        Ok(pairs)
+    }
+}
+
+fn in_key_order(
+    alloc: Global,
+    fetched: Vec<KvPair>,
+) -> std::result::Result<BTreeMap<Key, Value>, NoMemory>
+    ensures { IfOk result (λ pairs. pairs.entries ≡ in_key_order (pairs_of fetched.items)) }
+{
+    let mut pairs = BTreeMap::new(alloc);
+    for pair in fetched {
+        pairs.insert(pair.0, pair.1)?;
+    }
+    Ok(pairs)
+}
+
+#[tactic(auto, using(crate::proofs::Scans::firsts_of))]
+fn first_pairs(
+    alloc: Global,
+    pairs: BTreeMap<Key, Value>,
+    limit: usize,
+    reverse: bool,
+) -> std::result::Result<Vec<KvPair>, NoMemory>
+    ensures { IfOk result (λ firsts. pairs_of firsts.items ≡ first_pairs limit reverse pairs.entries) }
+{
+    let mut firsts = directed(all_pairs(alloc, pairs)?, reverse);
+    firsts.truncate(limit);
+    Ok(firsts)
+}
+
+fn directed(mut pairs: Vec<KvPair>, reverse: bool) -> Vec<KvPair>
+    ensures { result.items ≡ directed reverse pairs.items }
+{
+    if reverse {
+        pairs.reverse();
+    }
+    pairs
+}
+
+fn all_pairs(
+    alloc: Global,
+    pairs: BTreeMap<Key, Value>,
+) -> std::result::Result<Vec<KvPair>, NoMemory>
+    ensures { IfOk result (λ all. pairs_of all.items ≡ pairs.entries) }
+{
+    let mut all = Vec::new(alloc);
+    for (key, value) in pairs {
+        all.push(KvPair(key, value))?;
+    }
+    Ok(all)
+}
+
+/// The keys in their order, in new memory.
+fn sorted(alloc: Global, keys: &[Key]) -> std::result::Result<Vec<Key>, NoMemory>
+    ensures same { IfOk result (λ sorted. IsPermutation keys.now sorted.items) }
+    ensures in_order { IfOk result (λ sorted. IsSorted (slice_cmp nat_cmp) sorted.items) }
+{
+    let mut sorted = Key::try_clone_all(keys, alloc)?;
+    sorted.sort()?;
+    Ok(sorted)
+}
+
+fn note(keys: &mut Vec<Key>, key: &Key) -> std::result::Result<(), NoMemory>
+    ensures ok { OnOk result (keys.new.items ≡ keys.old.items ++ key.now ∷ []) }
+    ensures err { OnErr result (keys.new.items ≡ keys.old.items) }
+{
+    keys.push(key.try_clone()?)?;
+    Ok(())
 }

@@ -1,6 +1,7 @@
 //! A transaction's own writes, its locks, and what it has read.
 #![tactic(auto)]
 
+mod bounds;
 pub mod buffer;
 pub mod entry;
 #[cfg(test)]

@@ -1,7 +1,10 @@
 use super::*;
 use std::alloc::Global;
+use std::ops::Bound;
 use std::test::Fail;
-use txn_kv::{Assertion, Error, Internal, Items, Key, Mutation, NoMemory, Op, Value};
+use txn_kv::{
+    Assertion, BoundRange, Error, Internal, Items, Key, KvPair, Mutation, NoMemory, Op, Value,
+};
 
 fn key(alloc: Global, name: &str) -> Result<Key, NoMemory> {
     Ok(Key::from(name.as_bytes().to_vec(alloc)?))
@@ -118,5 +121,124 @@ fn mutates(rt: HostRuntime) -> Result<(), Fail> {
     let refused = buffer.mutate(mutation(alloc, Op::Lock, "c", "")?);
     assert_eq!(rt; matches!(refused, Err(Error::Unimplemented)), true);
     assert_eq!(rt; buffer.to_proto_mutations()?.len(), 2);
+    Ok(())
+}
+
+fn pair(alloc: Global, name: &str, text: &str) -> Result<KvPair, NoMemory> {
+    Ok(KvPair(key(alloc, name)?, value(alloc, text)?))
+}
+
+fn taken<T>(answer: txn_kv::Result<T>) -> Result<T, NoMemory> {
+    match answer {
+        Ok(value) => Ok(value),
+        Err(_) => Err(NoMemory),
+    }
+}
+
+#[test]
+fn reads_what_was_put(rt: HostRuntime) -> Result<(), Fail> {
+    let alloc = rt.alloc();
+    let mut buffer = Buffer::new(alloc, false);
+    buffer.put(key(alloc, "key1")?, value(alloc, "value1")?)?;
+    buffer.put(key(alloc, "key2")?, value(alloc, "value2")?)?;
+    assert_eq!(rt;
+        buffer.get(&key(alloc, "key1")?)?,
+        Some(value(alloc, "value1")?)
+    );
+    buffer.delete(key(alloc, "key2")?)?;
+    buffer.put(key(alloc, "key1")?, value(alloc, "value")?)?;
+    let asked = [key(alloc, "key2")?, key(alloc, "key1")?];
+    let pairs = taken(buffer.batch_fill(&asked, Vec::new(alloc)))?;
+    assert_eq!(rt;
+        pairs.as_slice(),
+        [pair(alloc, "key1", "value")?].as_slice()
+    );
+    Ok(())
+}
+
+#[test]
+fn reads_what_was_inserted(rt: HostRuntime) -> Result<(), Fail> {
+    let alloc = rt.alloc();
+    let mut buffer = Buffer::new(alloc, false);
+    buffer.insert(key(alloc, "key1")?, value(alloc, "value1")?)?;
+    buffer.insert(key(alloc, "key2")?, value(alloc, "value2")?)?;
+    assert_eq!(rt;
+        buffer.get(&key(alloc, "key1")?)?,
+        Some(value(alloc, "value1")?)
+    );
+    buffer.delete(key(alloc, "key2")?)?;
+    buffer.insert(key(alloc, "key1")?, value(alloc, "value")?)?;
+    let asked = [key(alloc, "key2")?, key(alloc, "key1")?];
+    let pairs = taken(buffer.batch_fill(&asked, Vec::new(alloc)))?;
+    assert_eq!(rt;
+        pairs.as_slice(),
+        [pair(alloc, "key1", "value")?].as_slice()
+    );
+    Ok(())
+}
+
+#[test]
+fn repeated_reads_are_known(rt: HostRuntime) -> Result<(), Fail> {
+    let alloc = rt.alloc();
+    let mut buffer = Buffer::new(alloc, false);
+    let asked = [
+        key(alloc, "key2")?,
+        key(alloc, "key1")?,
+        key(alloc, "key2")?,
+    ];
+    let mut fetched = Vec::new(alloc);
+    fetched.push(pair(alloc, "key1", "value1")?)?;
+    fetched.push(pair(alloc, "key2", "value2")?)?;
+    let pairs = taken(buffer.batch_fill(&asked, fetched))?;
+    let first = pair(alloc, "key1", "value1")?;
+    let second = pair(alloc, "key2", "value2")?;
+    let again = pair(alloc, "key2", "value2")?;
+    assert_eq!(rt; pairs.as_slice(), [first, second, again].as_slice());
+    assert_eq!(rt; buffer.batch_missing(&asked)?.len(), 0);
+    let mut unlike = Vec::new(alloc);
+    unlike.push(pair(alloc, "key3", "value3")?)?;
+    unlike.push(pair(alloc, "key1", "value2")?)?;
+    let is_unlike = matches!(
+        buffer.batch_fill(&asked, unlike),
+        Err(Error::InternalError {
+            what: Internal::UnlikeCache { .. }
+        })
+    );
+    assert_eq!(rt; is_unlike, true);
+    assert_eq!(rt; buffer.missing(&key(alloc, "key3")?), true);
+    Ok(())
+}
+
+#[test]
+fn scans_through_the_writes(rt: HostRuntime) -> Result<(), Fail> {
+    let alloc = rt.alloc();
+    let mut buffer = Buffer::new(alloc, false);
+    buffer.delete(key(alloc, "a")?)?;
+    buffer.insert(key(alloc, "b")?, value(alloc, "2")?)?;
+    let range = BoundRange::range_from(key(alloc, "a")?);
+    assert_eq!(rt; buffer.scan_limit(&range, 2)?, 3);
+    let mut fetched = Vec::new(alloc);
+    fetched.push(pair(alloc, "a", "1")?)?;
+    fetched.push(pair(alloc, "c", "3")?)?;
+    fetched.push(pair(alloc, "e", "5")?)?;
+    let pairs = taken(buffer.scan_fill(&range, 2, true, false, fetched))?;
+    let first = pair(alloc, "b", "2")?;
+    let second = pair(alloc, "c", "3")?;
+    assert_eq!(rt; pairs.as_slice(), [first, second].as_slice());
+    assert_eq!(rt; buffer.missing(&key(alloc, "e")?), false);
+    let mut unlike = Vec::new(alloc);
+    unlike.push(pair(alloc, "e", "6")?)?;
+    let is_unlike = matches!(
+        buffer.scan_fill(&range, 2, true, true, unlike),
+        Err(Error::InternalError {
+            what: Internal::UnlikeCache { .. }
+        })
+    );
+    assert_eq!(rt; is_unlike, true);
+    let behind = BoundRange::new(
+        Bound::Excluded(key(alloc, "b")?),
+        Bound::Excluded(key(alloc, "a")?),
+    );
+    assert_eq!(rt; buffer.scan_limit(&behind, 2)?, 2);
     Ok(())
 }

@@ -2,6 +2,9 @@
 #![tactic(auto)]
 
 pub mod kv_request;
+pub mod lowering;
 pub mod requests;
+#[cfg(test)]
+mod tests;
 
 pub use kv_request::KvRequest;

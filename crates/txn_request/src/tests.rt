@@ -1,0 +1,3 @@
+mod lowered;
+mod made;
+mod responses;
