@@ -14,7 +14,8 @@ ghost use Rattle.txn_model.specs.Cells.{cell_at};
 ghost use Rattle.txn_law.specs.Part.{IsPart, IsLockedBy, CameSince, NonePrewrittenSince, LooksAt, ShowsLockAt, WasResolvedSince, WasCleanedSince};
 ghost use Rattle.txn_law.specs.Run.{IsRun, IsUnused, store_after};
 
-/// A prewrite lock that is gone does not come back: one that stood at first and stands in the end stood all the time.
+/// A prewrite lock that is gone does not come back: one that stood at first and stands in the end stood all the time. So a
+/// complete scan for locks, and the settling of those that it shows, cleans the range for good.
 pub fn locks_stay_gone()
     ensures stood { (plans : ℕ → Plan) (events middle first : List Event) → IsRun plans events →
         IsPart events middle → IsPart middle first → (s : ℕ) (k : Key) →
@@ -37,7 +38,7 @@ pub fn locks_stay_gone()
     ensures none_left { (plans : ℕ → Plan) (events first : List Event) → IsRun plans events → IsPart events first →
         (s : ℕ) (k : Key) → NonePrewrittenSince events first s → WasCleanedSince events first s k →
         IsLockedBy (cell_at (store_after events).cells k) s → ⊥ }
-    // A reply without region error that was taken of a request that was sent since was served since.
+    // A reply that was taken of a request that was sent since, and is not that of a busy store, was served since.
     ensures since { (plans : ℕ → Plan) (events first : List Event) → IsRun plans events → IsPart events first →
         (t : Ticket) (r : Request) (o : Reply) → IsUnused first t → Has events (Took t r o) → (busy_reply r ≡ Some o → ⊥) →
         CameSince events first (Served t r o) }
