@@ -15,7 +15,7 @@ use Rattle.txn_model.proofs.Keys.{key_itself}
 use Rattle.txn_law.specs.Lone.{put_of, lone_plan}
 use Rattle.txn_law.specs.Run.{IsRun}
 use Rattle.txn_law.specs.Whole.{IsWholeAt, FitsAnswers}
-use Rattle.txn_law.proofs.Kept.{kept}
+use Rattle.txn_law.proofs.Kept.{sent_taken, kept}
 use Rattle.txn_law.proofs.Tickets.{unused, was_sent, sent_once}
 use Rattle.txn_law.proofs.Wholes.{law_fits}
 use Rattle.txn_script.specs.Lines.{line_at}
@@ -133,8 +133,7 @@ prewrite_named plans (Sent u q ∷ es) run t r h = elim h [
   | inl e ↦ (let l : PrewriteLicence (plans r.start_version) es r = subst (λ z. IsLicensed plans es z) (sent_same u t q (Prewrite r) e) run.1.1 in l.primary)
   | inr g ↦ prewrite_named plans es run.2 t r g
 ]
-prewrite_named plans (Served u q o ∷ es) run t r h = elim h [ inl e ↦ absurd (cc) | inr g ↦ prewrite_named plans es run.2 t r g ]
-prewrite_named plans (Took u q o ∷ es) run t r h = elim h [ inl e ↦ absurd (cc) | inr g ↦ prewrite_named plans es run.2 t r g ]
+prewrite_named plans (_ ∷ es) run t r h = elim h [ inl e ↦ absurd (cc) | inr g ↦ prewrite_named plans es run.2 t r g ]
 
 module _ (es : List Event) (l : Lists) (lines : List Line) (s : StandsAt es l lines) where
   note_sent : (n : SentNote) → IsAmong l.sent n → Has es (Sent n.ticket n.request)
@@ -206,7 +205,7 @@ module _ (es : List Event) (l : Lists) (lines : List Line) (s : StandsAt es l li
           some =
               let i = kept (λ z. lone_plan p.key p.value) es plan_run in
               let a = (i.named t.start c w).0 p.key (put_of p.value) writes in
-              let h = i.sent a.ticket (Prewrite a.request) (reply.Prewrite a.response) (i.taken a.ticket (Prewrite a.request) (reply.Prewrite a.response) a.taken) in
+              let h = sent_taken (λ z. lone_plan p.key p.value) es i a.ticket (Prewrite a.request) (reply.Prewrite a.response) a.taken in
               let n = sent_note a.ticket (Prewrite a.request) (sent_found (λ z. lone_plan p.key p.value) es plan_run a.ticket (Prewrite a.request) h) in
               (n.0, a.request, n.1, n.2, a.start)
 
