@@ -2,6 +2,7 @@
 use Rattle.std.proofs.Common.{◌≡◌, ℕ, ◌+◌, ◌<◌, Bool, true, false, ◌&&◌, if◌then◌else◌, List, [], ◌∷◌, ◌++◌, take, length, get_or, Option, Some, None, refl, sym, ap, ◌∙◌, subst}
 use Rattle.std.specs.Prelude.{nat_eq, nat_lt}
 use Rattle.std.proofs.lemmas.List.{take_more}
+use Rattle.txn_kv.specs.declared.message.Context.{Context}
 use Rattle.txn_kv.specs.declared.message.TxnInfo.{TxnInfo}
 use Rattle.txn_kv.specs.declared.request.ResolveLockRequest.{ResolveLockRequest}
 use Rattle.txn_model.specs.declared.cell.Cell.{Cell}
@@ -15,7 +16,9 @@ use Rattle.txn_model.specs.Cells.{Key, key_eq, no_cell, cell_at, each_changed, A
 use Rattle.txn_model.specs.Changes.{made_by, all_made}
 use Rattle.txn_model.specs.Commit.{committed}
 use Rattle.txn_model.specs.Locks.{owns, is_prewrite, with_commit}
-use Rattle.txn_model.specs.Resolve.{infos, settled, all_settled, is_in_context}
+use Rattle.txn_model.specs.Placement.{region_with_id}
+use Rattle.txn_model.specs.Ranges.{in_range, cells_in}
+use Rattle.txn_model.specs.Resolve.{infos, settled, all_settled, is_in_region, is_in_context}
 use Rattle.txn_model.specs.Rules.{rolling_back, unlocking, holds_pessimistic}
 use Rattle.txn_model.specs.Settle.{rolled_back, released, with_start}
 use Rattle.txn_model.specs.Settling.{all_committed, info_for, info_at, becomes_commit, commitment_by, settling, change_by, commitments, changes, settled_by}
@@ -213,3 +216,46 @@ module _ (gs : List StoredRegion) (r : ResolveLockRequest) where
       let after = kept_settled cs old in
       same_cells ds (each_changed g cs) new.in_order new.none_empty after.in_order after.none_empty
       (λ j. ready j ∙ (each_settled cs j old.in_order ∙ (settled_is gs r (cell_at cs j) ∙ sym (cell_each g in_region_keys cs j old.in_order (λ h. sym (settled_is gs r (no_cell j)) ∙ none_settled j)))))
+
+-- The cells of the region are enough.
+
+module _ (gs : List StoredRegion) (r : ResolveLockRequest) where
+  none_committed : (c : Cell) → is_in_context gs r.context c.key ≡ false → commitment_by (info_at gs r c) c ≡ []
+  none_committed c h = ap (λ b. commitment_by (if b then info_for (infos r) c.lock else None) c) h
+
+  none_changed : (c : Cell) → is_in_context gs r.context c.key ≡ false → change_by (info_at gs r c) c ≡ []
+  none_changed c h = ap (λ b. change_by (if b then info_for (infos r) c.lock else None) c) h
+
+  pub commitments_none : ((k : Key) → is_in_context gs r.context k ≡ false) → (cs : List Cell) → [] ≡ commitments gs r cs
+  commitments_none out [] = refl
+  commitments_none out (c ∷ cs) = commitments_none out cs ∙ ap (λ xs. xs ++ commitments gs r cs) (sym (none_committed c (out c.key)))
+
+  pub changes_none : ((k : Key) → is_in_context gs r.context k ≡ false) → (cs : List Cell) → [] ≡ changes gs r cs
+  changes_none out [] = refl
+  changes_none out (c ∷ cs) = changes_none out cs ∙ ap (λ xs. xs ++ changes gs r cs) (sym (none_changed c (out c.key)))
+
+  module _ (low high : Key) (region : (k : Key) → is_in_context gs r.context k ≡ in_range low high k) where
+    pub commitments_in : (cs : List Cell) → commitments gs r (cells_in low high cs) ≡ commitments gs r cs
+    commitments_in [] = refl
+    commitments_in (c ∷ cs) = by (in_range low high c.key) refl (commitments_in cs)
+      where
+        by : (b : Bool) → in_range low high c.key ≡ b → commitments gs r (cells_in low high cs) ≡ commitments gs r cs → commitments gs r (if b then c ∷ cells_in low high cs else cells_in low high cs) ≡ commitment_by (info_at gs r c) c ++ commitments gs r cs
+        by true e rest = ap (λ xs. commitment_by (info_at gs r c) c ++ xs) rest
+        by false e rest = rest ∙ ap (λ xs. xs ++ commitments gs r cs) (sym (none_committed c (region c.key ∙ e)))
+
+    pub changes_in : (cs : List Cell) → changes gs r (cells_in low high cs) ≡ changes gs r cs
+    changes_in [] = refl
+    changes_in (c ∷ cs) = by (in_range low high c.key) refl (changes_in cs)
+      where
+        by : (b : Bool) → in_range low high c.key ≡ b → changes gs r (cells_in low high cs) ≡ changes gs r cs → changes gs r (if b then c ∷ cells_in low high cs else cells_in low high cs) ≡ change_by (info_at gs r c) c ++ changes gs r cs
+        by true e rest = ap (λ xs. change_by (info_at gs r c) c ++ xs) rest
+        by false e rest = rest ∙ ap (λ xs. xs ++ changes gs r cs) (sym (none_changed c (region c.key ∙ e)))
+
+  pub in_no_context : r.context ≡ None → (k : Key) → is_in_context gs r.context k ≡ false
+  in_no_context e k = ap (λ x. is_in_context gs x k) e
+
+  pub in_no_region : (x : Context) → r.context ≡ Some x → None ≡ region_with_id gs x.region_id → (k : Key) → is_in_context gs r.context k ≡ false
+  in_no_region x e f k = ap (λ o. is_in_context gs o k) e ∙ ap (λ g. is_in_region g k) (sym f)
+
+  pub in_the_region : (x : Context) (g : StoredRegion) → r.context ≡ Some x → Some g ≡ region_with_id gs x.region_id → (k : Key) → is_in_context gs r.context k ≡ in_range g.start_key g.end_key k
+  in_the_region x g e f k = ap (λ o. is_in_context gs o k) e ∙ ap (λ h. is_in_region h k) (sym f)

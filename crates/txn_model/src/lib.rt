@@ -17,8 +17,6 @@ mod ranges;
 mod read;
 pub mod region;
 mod rollback;
-#[cfg(test)]
-mod row_tests;
 mod rule;
 mod scan;
 mod secondaries;

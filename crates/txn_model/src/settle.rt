@@ -1,6 +1,6 @@
 //! The locks of a region are settled, all or none.
 ghost use Rattle.std.specs.Prelude.{◌≡◌, IfOk, OnOk, OnErr, if◌then◌else◌, option_to_list};
-ghost use Rattle.txn_model.specs.Cells.{AreKept, each_changed};
+ghost use Rattle.txn_model.specs.Cells.{AreInOrder, AreKept, each_changed};
 ghost use Rattle.txn_model.specs.Orderly.{AreOrderly};
 ghost use Rattle.txn_model.specs.Resolve.{infos, is_in_context, all_settled};
 ghost use Rattle.txn_model.specs.Settling.{info_for, info_at, becomes_commit, commitment_by, settling, change_by, commitments, changes};
@@ -9,7 +9,7 @@ use crate::cell::{Cell, Lock};
 use crate::cells::owns;
 use crate::change::{Change, make_changes};
 use crate::placement::region_with_id;
-use crate::ranges::is_in_range;
+use crate::ranges::{cells_in, is_in_range};
 use crate::region::StoredRegion;
 use crate::rule::{holds_pessimistic, rolling_back, unlocking};
 use crate::unlock::{Commitment, commit_each};
@@ -154,6 +154,26 @@ fn changes(
     Ok(all)
 }
 
+/// The cells of the region that a request names, which are all that it settles.
+fn cells_of_region<'a>(
+    cells: &'a [Cell],
+    regions: &[StoredRegion],
+    request: &ResolveLockRequest,
+) -> &'a [Cell]
+    requires in_order { AreInOrder cells.now }
+    requires ordered { AreOrderly cells.now }
+    ensures commitments { commitments regions.now request.now result.now ≡ commitments regions.now request.now cells.now }
+    ensures changes { changes regions.now request.now result.now ≡ changes regions.now request.now cells.now }
+{
+    let Some(context) = request.context else {
+        return &[];
+    };
+    match region_with_id(regions, context.region_id) {
+        Some(region) => cells_in(cells, &region.start_key, &region.end_key),
+        None => &[],
+    }
+}
+
 /// Settles the locks of the region that a request names.
 pub fn settle_all(
     cells: &mut Vec<Cell>,
@@ -168,8 +188,9 @@ pub fn settle_all(
     ensures err { OnErr result (cells.new.items ≡ cells.old.items) }
 {
     let alloc = *cells.allocator();
-    let commitments = commitments(alloc, cells.as_slice(), regions, request)?;
-    let changes = changes(alloc, cells.as_slice(), regions, request)?;
+    let settled = cells_of_region(cells.as_slice(), regions, request);
+    let commitments = commitments(alloc, settled, regions, request)?;
+    let changes = changes(alloc, settled, regions, request)?;
     cells.reserve(changes.len())?;
     commit_each(cells, commitments.as_slice())?;
     make_changes(cells, changes);

@@ -1,43 +1,40 @@
+//! The calls of the crate, each once. The rows of the request table are tried by the cases of the program `store_cases`.
 use crate::cell::{Cell, Kind, Lock, Write};
 use crate::store::ModelStore;
 use std::alloc::Global;
 use std::test::Fail;
 use txn_kv::{
-    ApiVersion, Assertion, CommitRequest, CommitResponse, Context, GetRegionRequest,
-    GetRegionResponse, GetStoreRequest, GetStoreResponse, Items, Key, KeyError, Mutation, NoMemory,
-    Op, Peer, PrewriteRequest, PrewriteResponse, Region, RegionEpoch, Reply, Request, StoreMeta,
-    StoreState, Text, Timestamp, TsoRequest, TsoResponse, Value,
+    ApiVersion, Assertion, CommitRequest, Context, Items, Key, LockInfo, Mutation, NoMemory, Op,
+    Peer, PrewriteRequest, RegionEpoch, Reply, Request, Timestamp, TsoRequest, TsoResponse, Value,
 };
 
-pub fn key(alloc: Global) -> Result<Key, NoMemory> {
+fn key(alloc: Global) -> Result<Key, NoMemory> {
     Ok(Key::from([97].to_vec(alloc)?))
 }
 
-pub fn value(alloc: Global) -> Result<Value, NoMemory> {
+fn value(alloc: Global) -> Result<Value, NoMemory> {
     Ok(Items::from_vec([118].to_vec(alloc)?))
 }
 
-const FIRST: RegionEpoch = RegionEpoch {
-    conf_ver: 1,
-    version: 1,
-};
-
 /// To the store that leads the only region.
-pub fn here() -> Option<Context> {
+fn here() -> Option<Context> {
     Some(Context {
         region_id: 1,
-        region_epoch: Some(FIRST),
+        region_epoch: Some(RegionEpoch {
+            conf_ver: 1,
+            version: 1,
+        }),
         peer: Some(Peer { id: 1, store_id: 1 }),
         api_version: ApiVersion::V1,
     })
 }
 
-fn mutations(alloc: Global, op: Op) -> Result<Items<Mutation>, NoMemory> {
+fn mutations(alloc: Global) -> Result<Items<Mutation>, NoMemory> {
     let key = key(alloc)?;
     let value = value(alloc)?;
     let mut mutations = Items::new(alloc);
     mutations.push(Mutation {
-        op,
+        op: Op::Put,
         key,
         value,
         assertion: Assertion::None,
@@ -45,13 +42,13 @@ fn mutations(alloc: Global, op: Op) -> Result<Items<Mutation>, NoMemory> {
     Ok(mutations)
 }
 
-pub fn prewrite(alloc: Global, op: Op, start_version: u64) -> Result<PrewriteRequest, NoMemory> {
-    let mutations = mutations(alloc, op)?;
+fn prewrite(alloc: Global) -> Result<PrewriteRequest, NoMemory> {
+    let mutations = mutations(alloc)?;
     Ok(PrewriteRequest {
         context: here(),
         mutations,
         primary_lock: key(alloc)?,
-        start_version,
+        start_version: 1,
         lock_ttl: 3000,
         txn_size: 1,
         for_update_ts: 0,
@@ -73,32 +70,8 @@ fn commit(alloc: Global) -> Result<CommitRequest, NoMemory> {
     })
 }
 
-fn prewritten(errors: Items<KeyError>) -> Reply {
-    Reply::Prewrite(PrewriteResponse {
-        region_error: None,
-        errors,
-        min_commit_ts: 0,
-        one_pc_commit_ts: 0,
-    })
-}
-
-fn refused(alloc: Global, error: KeyError) -> Result<Reply, NoMemory> {
-    let mut errors = Items::new(alloc);
-    errors.push(error)?;
-    Ok(prewritten(errors))
-}
-
-fn committed(error: Option<KeyError>, commit_version: u64) -> Reply {
-    Reply::Commit(CommitResponse {
-        region_error: None,
-        error,
-        commit_version,
-    })
-}
-
-pub fn locked_cell(alloc: Global) -> Result<Cell, NoMemory> {
-    let mut cell = Cell::empty(alloc, key(alloc)?);
-    cell.lock = Some(Lock {
+fn lock(alloc: Global) -> Result<Lock, NoMemory> {
+    Ok(Lock {
         start: 1,
         primary: key(alloc)?,
         kind: Kind::Put,
@@ -108,11 +81,10 @@ pub fn locked_cell(alloc: Global) -> Result<Cell, NoMemory> {
         min_commit: 0,
         use_async: false,
         secondaries: Items::new(alloc),
-    });
-    Ok(cell)
+    })
 }
 
-pub fn committed_cell(alloc: Global) -> Result<Cell, NoMemory> {
+fn committed_cell(alloc: Global) -> Result<Cell, NoMemory> {
     let mut cell = Cell::empty(alloc, key(alloc)?);
     cell.commits.push(Write {
         start: 1,
@@ -123,52 +95,18 @@ pub fn committed_cell(alloc: Global) -> Result<Cell, NoMemory> {
     Ok(cell)
 }
 
-/// The opening store with a lock.
-pub fn with_lock(alloc: Global) -> Result<ModelStore, NoMemory> {
+/// The opening store with a commit.
+fn with_commit(alloc: Global) -> Result<ModelStore, NoMemory> {
     let mut store = ModelStore::new(alloc)?;
-    store.serve(&Request::Prewrite(prewrite(alloc, Op::Put, 1)?))?;
-    Ok(store)
-}
-
-/// The same with a commit in its place.
-pub fn with_commit(alloc: Global) -> Result<ModelStore, NoMemory> {
-    let mut store = with_lock(alloc)?;
+    store.serve(&Request::Prewrite(prewrite(alloc)?))?;
     store.serve(&Request::Commit(commit(alloc)?))?;
     Ok(store)
 }
 
-fn region_told(alloc: Global) -> Reply {
-    Reply::GetRegion(GetRegionResponse {
-        region: Some(Region {
-            id: 1,
-            start_key: Key::empty(alloc),
-            end_key: Key::empty(alloc),
-            region_epoch: Some(FIRST),
-        }),
-        leader: Some(Peer { id: 1, store_id: 1 }),
-    })
-}
-
 #[test]
-fn tells_the_region(rt: HostRuntime) -> Result<(), Fail> {
-    let mut store = ModelStore::new(rt.alloc())?;
-    let region_key = key(rt.alloc())?;
-    let told = store.serve(&Request::GetRegion(GetRegionRequest { region_key }))?;
-    assert_eq!(rt; told, region_told(rt.alloc()));
-    Ok(())
-}
-
-#[test]
-fn tells_a_store(rt: HostRuntime) -> Result<(), Fail> {
-    let mut store = ModelStore::new(rt.alloc())?;
-    let told = store.serve(&Request::GetStore(GetStoreRequest { store_id: 2 }))?;
-    let up = StoreMeta {
-        id: 2,
-        address: Text::from_string(String::from_str(rt.alloc(), "s2")?),
-        state: StoreState::Up,
-        labels: Items::new(rt.alloc()),
-    };
-    assert_eq!(rt; told, Reply::GetStore(GetStoreResponse { store: up }));
+fn commits_a_key(rt: HostRuntime) -> Result<(), Fail> {
+    let store = with_commit(rt.alloc())?;
+    assert_eq!(rt; store.cells(), [committed_cell(rt.alloc())?].as_slice());
     Ok(())
 }
 
@@ -200,65 +138,44 @@ fn opens_with_zeros(rt: HostRuntime) -> Result<(), Fail> {
 }
 
 #[test]
-fn locks_a_key(rt: HostRuntime) -> Result<(), Fail> {
-    let store = with_lock(rt.alloc())?;
-    assert_eq!(rt; store.cells(), [locked_cell(rt.alloc())?].as_slice());
-    Ok(())
-}
-
-#[test]
-fn commits_a_key(rt: HostRuntime) -> Result<(), Fail> {
-    let store = with_commit(rt.alloc())?;
-    assert_eq!(rt; store.cells(), [committed_cell(rt.alloc())?].as_slice());
-    Ok(())
-}
-
-#[test]
-fn passes_a_prewrite(rt: HostRuntime) -> Result<(), Fail> {
-    let mut store = with_lock(rt.alloc())?;
-    let again = store.serve(&Request::Prewrite(prewrite(rt.alloc(), Op::Put, 1)?))?;
-    assert_eq!(rt; again, prewritten(Items::new(rt.alloc())));
-    Ok(())
-}
-
-#[test]
-fn passes_a_commit(rt: HostRuntime) -> Result<(), Fail> {
-    let mut store = with_commit(rt.alloc())?;
-    let again = store.serve(&Request::Commit(commit(rt.alloc())?))?;
-    assert_eq!(rt; again, committed(None, 5));
-    Ok(())
-}
-
-#[test]
-fn finds_no_lock_to_commit(rt: HostRuntime) -> Result<(), Fail> {
+fn splits_once_and_leads(rt: HostRuntime) -> Result<(), Fail> {
     let mut store = ModelStore::new(rt.alloc())?;
-    let missing = store.serve(&Request::Commit(commit(rt.alloc())?))?;
     let key = key(rt.alloc())?;
-    assert_eq!(rt;
-        missing,
-        committed(Some(KeyError::TxnLockNotFound { key }), 0)
-    );
+    let first = store.split(&key)?;
+    let again = store.split(&key)?;
+    assert!(rt; first && !again);
+    assert!(rt; store.lead(2, 3));
+    store.set_clock(7);
+    assert_eq!(rt; store.clock(), 7);
     Ok(())
 }
 
 #[test]
-fn shows_a_newer_commit(rt: HostRuntime) -> Result<(), Fail> {
-    let mut store = with_commit(rt.alloc())?;
-    let late = store.serve(&Request::Prewrite(prewrite(rt.alloc(), Op::Put, 3)?))?;
-    let newer = KeyError::WriteConflict {
-        key: key(rt.alloc())?,
-        start: 3,
-        commit: 5,
+fn shows_a_lock(rt: HostRuntime) -> Result<(), Fail> {
+    let alloc = rt.alloc();
+    let info = lock(alloc)?.info(alloc, &key(alloc)?)?;
+    let shown = LockInfo {
+        key: key(alloc)?,
+        primary_lock: key(alloc)?,
+        lock_version: 1,
+        lock_ttl: 3000,
+        lock_type: Op::Put,
+        lock_for_update_ts: 0,
+        use_async_commit: false,
+        min_commit_ts: 0,
+        secondaries: Items::new(alloc),
     };
-    assert_eq!(rt; late, refused(rt.alloc(), newer)?);
+    assert_eq!(rt; info, shown);
     Ok(())
 }
 
 #[test]
-fn shows_that_a_value_stands(rt: HostRuntime) -> Result<(), Fail> {
-    let mut store = with_commit(rt.alloc())?;
-    let again = store.serve(&Request::Prewrite(prewrite(rt.alloc(), Op::Insert, 7)?))?;
-    let key = key(rt.alloc())?;
-    assert_eq!(rt; again, refused(rt.alloc(), KeyError::AlreadyExist { key })?);
+fn tells_cells_and_kinds_apart(rt: HostRuntime) -> Result<(), Fail> {
+    let alloc = rt.alloc();
+    let empty = Cell::empty(alloc, key(alloc)?);
+    let full = committed_cell(alloc)?;
+    assert!(rt; empty.is_empty() && !full.is_empty());
+    assert!(rt; Kind::Lock.is_prewrite() && !Kind::Pessimistic.is_prewrite());
+    assert!(rt; Kind::Del.is_written() && !Kind::Lock.is_written());
     Ok(())
 }

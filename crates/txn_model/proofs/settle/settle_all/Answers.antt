@@ -12,8 +12,8 @@ returns-clause-ok c =
     let gs = c.args.regions.now in
     let r = c.args.request.now in
     let cs = c.args.cells.now.items in
-    let found = c.in_ok-changes.ensures ∙ ap (changes gs r) c.as_slice-2.ensures.value in
-    let ready = c.as_slice-3.ensures.value ∙ (c.in_ok-commitments.ensures ∙ ap (commitments gs r) c.as_slice.ensures.value) in
+    let found = c.in_ok-changes.ensures ∙ (c.cells_of_region-settled.ensures.changes ∙ ap (changes gs r) c.as_slice.ensures.value) in
+    let ready = c.as_slice-2.ensures.value ∙ (c.in_ok-commitments.ensures ∙ (c.cells_of_region-settled.ensures.commitments ∙ ap (commitments gs r) c.as_slice.ensures.value)) in
     settled_is_changed gs r cs c.make_changes.new.cells.items c.requires.kept c.make_changes.ensures.kept
     (λ j. c.make_changes.ensures.cells j ∙ ap₂ all_made found (c.in_ok-commit_each.ensures.ok j ∙ ap₂ (λ xs ds. all_committed xs (cell_at ds j)) ready c.in_ok-reserve.ensures.items))
 
