@@ -1,7 +1,6 @@
 -- What a clean commit answers, and what it costs.
-use Rattle.std.proofs.Common.{◌≡◌, ◌≢◌, ℕ, zero, suc, ◌+◌, ◌*◌, ◌<◌, ◌≤◌, ◌⊎◌, inl, inr, Bool, true, false, not, ◌&&◌, ◌||◌, if◌then◌else◌, List, [], ◌∷◌, Some, length, nat_eq, nat_lt, refl, sym, ap, ◌∙◌, subst, subst₂, arith}
+use Rattle.std.proofs.Common.{◌≡◌, ℕ, zero, suc, ◌+◌, ◌<◌, ◌≤◌, ◌⊎◌, inl, inr, Bool, true, false, not, ◌&&◌, if◌then◌else◌, List, [], ◌∷◌, Some, length, nat_eq, nat_lt, refl, sym, ap, ◌∙◌, subst, subst₂, arith}
 use Rattle.std.proofs.lemmas.Bool.Decides.{nat_tests}
-use Rattle.txn_history.specs.Event.{Event}
 use Rattle.txn_script.specs.Lines.{line_at}
 use Rattle.txn_script.specs.declared.line.Line.{Line}
 use Rattle.txn_script.specs.declared.line.Line.TheVariants.{Blank, Client, Begin, Put, Commit, Deliver}
@@ -10,7 +9,6 @@ use Rattle.txn_report.specs.declared.outcome.Outcome.TheVariants.{Ok, Unfinished
 use Rattle.txn_report.specs.declared.outcome.Payload.TheVariants.{Commit as Committed_at}
 use Rattle.txn_report.specs.declared.report.Report.{Report}
 use Rattle.txn_report.specs.declared.report.SentNote.{SentNote}
-use Rattle.txn_run.specs.declared.transaction.Status.{Status}
 use Rattle.txn_run.specs.declared.transaction.Status.TheVariants.{Active}
 use Rattle.txn_run.specs.Lawful.{sent_of}
 use Rattle.txn_run.specs.Script.{outcome_of, history, known}

@@ -1,5 +1,5 @@
 -- Clean commits: commit lines that met no error, what they answer and what they cost. Lines stand with the newest first.
-use Rattle.std.specs.Prelude.{◌≡◌, ◌⊎◌, ℕ, ◌+◌, ◌*◌, ◌<◌, ◌≤◌, Bool, true, false, not, ◌&&◌, ◌||◌, if◌then◌else◌, List, [], ◌∷◌, length, Option, Some, None, is_some, nat_eq, nat_lt, slice_index_or}
+use Rattle.std.specs.Prelude.{◌≡◌, ◌⊎◌, ℕ, ◌+◌, ◌*◌, ◌<◌, ◌≤◌, Bool, true, false, not, ◌&&◌, ◌||◌, if◌then◌else◌, List, [], ◌∷◌, length, Some, is_some, nat_eq, nat_lt, slice_index_or}
 use Rattle.std.specs.Ordering.{is_lt, is_gt}
 use Rattle.std.proofs.Common.{zero, suc}
 use Rattle.txn_kv.specs.declared.message.Region.{Region}
