@@ -1,15 +1,13 @@
-//! A machine can move between threads, and so can what it answers.
+//! A machine can move between threads, and so can the ends of a run.
 
 use crate::machine::Machine;
-use crate::note::{Ending, StepNote};
-use crate::program::{End, RunEnd};
+use crate::note::Ending;
+use crate::program::End;
 use txn_kv::send::can_move;
 
-/// The types of this crate do.
+/// The types of this crate that a machine or its run holds do.
 pub fn machines_can_move() {
     can_move::<Machine>();
-    can_move::<StepNote>();
     can_move::<Ending>();
     can_move::<End>();
-    can_move::<RunEnd>();
 }
