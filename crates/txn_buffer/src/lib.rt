@@ -4,6 +4,7 @@
 mod bounds;
 pub mod buffer;
 pub mod entry;
+pub mod send;
 #[cfg(test)]
 mod tests;
 
