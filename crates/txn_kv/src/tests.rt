@@ -52,45 +52,32 @@ fn shows_plain_errors(rt: HostRuntime) -> std::result::Result<(), Fail> {
     Ok(())
 }
 
+fn is_shown(alloc: Global, error: Error, text: &str) -> std::result::Result<bool, NoMemory> {
+    Ok(error.to_string(alloc)?.as_str() == text)
+}
+
 #[test]
 fn shows_errors_of_stores(rt: HostRuntime) -> std::result::Result<(), Fail> {
-    let bytes = [1, 171];
-    let unknown = KeyError::AlreadyExist {
-        key: key(rt.alloc(), bytes.as_slice())?,
+    let alloc = rt.alloc();
+    let locks = Error::ResolveLockError(Vec::new(alloc));
+    assert!(rt; is_shown(alloc, locks, "Failed to resolve lock")?);
+    let region = Error::region(alloc, RegionErr::StaleCommand)?.try_clone()?;
+    assert!(rt; is_shown(alloc, region, "Region error: StaleCommand")?);
+    let exists = KeyError::AlreadyExist {
+        key: key(alloc, &[1, 171])?,
     };
-    let rows = [
-        (
-            Error::ResolveLockError(Vec::new(rt.alloc())),
-            "Failed to resolve lock",
-        ),
-        (
-            Error::region(rt.alloc(), RegionErr::StaleCommand)?.try_clone()?,
-            "Region error: StaleCommand",
-        ),
-        (
-            Error::key(rt.alloc(), unknown)?,
-            "AlreadyExist { key: Key(01AB) }",
-        ),
-        (
-            Error::RegionForKeyNotFound {
-                key: key(rt.alloc(), bytes.as_slice())?,
-            },
-            "Region is not found for key: Key(01AB)",
-        ),
-        (
-            Error::KvError {
-                message: "busy".to_string(rt.alloc())?,
-            },
-            "Kv error. busy",
-        ),
-        (
-            Error::StringError("a text".to_string(rt.alloc())?),
-            "a text",
-        ),
-    ];
-    for (error, text) in rows.iter() {
-        assert_eq!(rt; error.to_string(rt.alloc())?.as_str(), *text);
-    }
+    let exists = Error::key(alloc, exists)?;
+    assert!(rt; is_shown(alloc, exists, "AlreadyExist { key: Key(01AB) }")?);
+    let unknown = Error::RegionForKeyNotFound {
+        key: key(alloc, &[1, 171])?,
+    };
+    assert!(rt; is_shown(alloc, unknown, "Region is not found for key: Key(01AB)")?);
+    let message = Error::KvError {
+        message: "busy".to_string(alloc)?,
+    };
+    assert!(rt; is_shown(alloc, message, "Kv error. busy")?);
+    let string = Error::StringError("a text".to_string(alloc)?);
+    assert!(rt; is_shown(alloc, string, "a text")?);
     Ok(())
 }
 
