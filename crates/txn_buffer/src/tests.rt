@@ -209,36 +209,63 @@ fn repeated_reads_are_known(rt: HostRuntime) -> Result<(), Fail> {
     Ok(())
 }
 
-#[test]
-fn scans_through_the_writes(rt: HostRuntime) -> Result<(), Fail> {
-    let alloc = rt.alloc();
+/// A buffer in which `a` is deleted and `b` inserted.
+fn written(alloc: Global) -> Result<Buffer, NoMemory> {
     let mut buffer = Buffer::new(alloc, false);
     buffer.delete(key(alloc, "a")?)?;
     buffer.insert(key(alloc, "b")?, value(alloc, "2")?)?;
-    let range = BoundRange::range_from(key(alloc, "a")?);
-    assert_eq!(rt; buffer.scan_limit(&range, 2)?, 3);
-    let mut fetched = Vec::new(alloc);
-    fetched.push(pair(alloc, "a", "1")?)?;
-    fetched.push(pair(alloc, "c", "3")?)?;
-    fetched.push(pair(alloc, "e", "5")?)?;
-    let pairs = taken(buffer.scan_fill(&range, 2, true, false, fetched))?;
+    Ok(buffer)
+}
+
+/// What a scan from `a` fetched.
+fn fetched(alloc: Global) -> Result<Vec<KvPair>, NoMemory> {
+    let mut pairs = Vec::new(alloc);
+    pairs.push(pair(alloc, "a", "1")?)?;
+    pairs.push(pair(alloc, "c", "3")?)?;
+    pairs.push(pair(alloc, "e", "5")?)?;
+    Ok(pairs)
+}
+
+fn from_a(alloc: Global) -> Result<BoundRange, NoMemory> {
+    Ok(BoundRange::range_from(key(alloc, "a")?))
+}
+
+#[test]
+fn scans_for_more_where_keys_are_deleted(rt: HostRuntime) -> Result<(), Fail> {
+    let buffer = written(rt.alloc())?;
+    assert_eq!(rt; buffer.scan_limit(&from_a(rt.alloc())?, 2)?, 3);
+    Ok(())
+}
+
+#[test]
+fn scans_for_the_limit_where_the_range_is_empty(rt: HostRuntime) -> Result<(), Fail> {
+    let alloc = rt.alloc();
+    let buffer = written(alloc)?;
+    let b = Bound::Excluded(key(alloc, "b")?);
+    let a = Bound::Excluded(key(alloc, "a")?);
+    assert_eq!(rt; buffer.scan_limit(&BoundRange::new(b, a), 2)?, 2);
+    Ok(())
+}
+
+#[test]
+fn scans_through_the_writes(rt: HostRuntime) -> Result<(), Fail> {
+    let alloc = rt.alloc();
+    let mut buffer = written(alloc)?;
+    let range = from_a(alloc)?;
+    let pairs = taken(buffer.scan_fill(&range, 2, true, false, fetched(alloc)?))?;
     let first = pair(alloc, "b", "2")?;
     let second = pair(alloc, "c", "3")?;
     assert_eq!(rt; pairs.as_slice(), [first, second].as_slice());
+    Ok(())
+}
+
+#[test]
+fn scans_fill_what_they_read(rt: HostRuntime) -> Result<(), Fail> {
+    let alloc = rt.alloc();
+    let mut buffer = written(alloc)?;
+    let range = from_a(alloc)?;
+    let pairs = taken(buffer.scan_fill(&range, 2, true, false, fetched(alloc)?))?;
+    assert_eq!(rt; pairs.len(), 2);
     assert_eq!(rt; buffer.missing(&key(alloc, "e")?), false);
-    let mut unlike = Vec::new(alloc);
-    unlike.push(pair(alloc, "e", "6")?)?;
-    let is_unlike = matches!(
-        buffer.scan_fill(&range, 2, true, true, unlike),
-        Err(Error::InternalError {
-            what: Internal::UnlikeCache { .. }
-        })
-    );
-    assert_eq!(rt; is_unlike, true);
-    let behind = BoundRange::new(
-        Bound::Excluded(key(alloc, "b")?),
-        Bound::Excluded(key(alloc, "a")?),
-    );
-    assert_eq!(rt; buffer.scan_limit(&behind, 2)?, 2);
     Ok(())
 }
