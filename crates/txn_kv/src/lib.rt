@@ -12,9 +12,13 @@ pub mod items;
 pub mod key;
 pub mod kvpair;
 pub mod laws;
+pub mod look;
 pub mod memory;
 pub mod message;
+pub mod outbox;
 pub mod pessimistic_lock;
+pub mod progress;
+pub mod query;
 pub mod region;
 pub mod reply;
 pub mod request;
@@ -40,12 +44,16 @@ pub use into_owned_range::{IntoOwnedRange, KeyBytes};
 pub use items::{Items, Value};
 pub use key::Key;
 pub use kvpair::KvPair;
+pub use look::Look;
 pub use memory::NoMemory;
 pub use message::{
     Action, ApiVersion, Assertion, Context, KeyError, KeyRange, LockInfo, Mutation, Op, PbPair,
     Peer, Region, RegionEpoch, RegionErr, StoreLabel, StoreMeta, StoreState, TxnInfo,
 };
+pub use outbox::{Errand, Outbox};
 pub use pessimistic_lock::PessimisticLock;
+pub use progress::Progress;
+pub use query::{PdAnswer, PdQuery};
 pub use region::{RegionId, RegionVerId, RegionWithLeader};
 pub use reply::{
     BatchGetResponse, BatchRollbackResponse, CheckSecondaryLocksResponse, CheckTxnStatusResponse,
