@@ -1,1 +1,2 @@
 pub mod Oracle
+pub mod Placement

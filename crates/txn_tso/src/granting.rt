@@ -8,6 +8,7 @@ use txn_kv::{Error, Internal, NoMemory, Result, Timestamp, TsoResponse};
 
 /// One more than the greatest physical and the greatest logical part.
 const PHYSICAL_END: i64 = 70_368_744_177_664;
+
 const LOGICAL_END: i64 = 262_144;
 
 /// Whether the parts of a timestamp are in range.

@@ -1,4 +1,4 @@
-use super::*;
+use crate::{Asker, TimestampOracle};
 use std::alloc::Global;
 use std::test::Fail;
 use txn_kv::{Error, Internal, NoMemory, Result, Timestamp, TsoRequest, TsoResponse};
@@ -52,7 +52,10 @@ fn one_asker(rt: HostRuntime) -> std::result::Result<(), Fail> {
     assert_eq!(rt; oracle.next_group()?, Some(TsoRequest { count: 1 }));
     assert_eq!(rt; oracle.next_group()?, None);
     let answers = oracle.take_reply(&last(1, 5, 9))?;
-    assert_eq!(rt; granted(alloc, answers.as_slice())?.as_slice(), [(1, 9)].as_slice());
+    assert_eq!(rt;
+        granted(alloc, answers.as_slice())?.as_slice(),
+        [(1, 9)].as_slice()
+    );
     assert_eq!(rt; oracle.take_reply(&last(1, 5, 9))?.len(), 0);
     assert_eq!(rt; oracle.next_group()?, None);
     Ok(())
@@ -70,7 +73,10 @@ fn groups_of_64_and_1(rt: HostRuntime) -> std::result::Result<(), Fail> {
     assert_eq!(rt; pairs.last(), Some(&(64, 100)));
     assert_eq!(rt; oracle.next_group()?, Some(TsoRequest { count: 1 }));
     let answers = oracle.take_reply(&last(1, 5, 101))?;
-    assert_eq!(rt; granted(alloc, answers.as_slice())?.as_slice(), [(65, 101)].as_slice());
+    assert_eq!(rt;
+        granted(alloc, answers.as_slice())?.as_slice(),
+        [(65, 101)].as_slice()
+    );
     Ok(())
 }
 
