@@ -1,2 +1,4 @@
+pub mod Calling
 pub mod Oracle
 pub mod Placement
+pub mod Steps

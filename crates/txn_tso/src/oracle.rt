@@ -1,6 +1,6 @@
-ghost use Rattle.std.specs.Prelude.{◌≡◌, ◌++◌, ◌∷◌, [], map, None, OnErr, OnOk, IfOk};
+ghost use Rattle.std.specs.Prelude.{◌≡◌, ◌≤◌, ◌++◌, ◌∷◌, [], drop, map, take, vec_len, None, OnErr, OnOk, IfOk};
 ghost use Rattle.std.specs.List.{All};
-ghost use Rattle.txn_tso.specs.Oracle.{answered, askers_out, idle, next_request, with_next_group, AreRising, HasVersionIfOk, IsGroup};
+ghost use Rattle.txn_tso.specs.Oracle.{answered, askers_out, idle, is_ready, most, next_request, with_next_group, AreRising, HasVersionIfOk, IsGroup};
 
 use crate::asker::Asker;
 use crate::granting::answer_all;
@@ -58,14 +58,21 @@ impl TimestampOracle {
         ensures ok { OnOk result (self.new ≡ with_next_group self.old) }
         ensures err { OnErr result (self.new ≡ self.old) }
     {
-        if self.group.is_some() || self.queue.is_empty() {
+        if !self.is_ready() {
             return Ok(None);
         }
-        let size = self.queue.len().min(MAX_GROUP);
-        let rest = self.queue.split_off(size)?;
+        let rest = cut_group(self.alloc, &mut self.queue)?;
         let group = mem::replace(&mut self.queue, rest);
+        let count = group.len() as u32;
         self.group = Some(Items::from_vec(group));
-        Ok(Some(TsoRequest { count: size as u32 }))
+        Ok(Some(TsoRequest { count }))
+    }
+
+    /// Whether a group may be sent: none is out, and somebody waits.
+    fn is_ready(&self) -> bool
+        ensures { result ≡ is_ready self.now }
+    {
+        self.group.is_none() && !self.queue.is_empty()
     }
 
     /// Takes the reply to the group that is out, and gives each of its askers the answer, in their order. The group is not
@@ -108,4 +115,17 @@ impl TimestampOracle {
             None => Vec::new(self.alloc),
         }
     }
+}
+
+/// Leaves the first group in a queue, and gives those behind it.
+fn cut_group(alloc: Global, queue: &mut Vec<Asker>) -> std::result::Result<Vec<Asker>, NoMemory>
+    ensures first { OnOk result (queue.new.items ≡ take most queue.old.items) }
+    ensures small { OnOk result (vec_len queue.new ≤ most) }
+    ensures rest { IfOk result (λ rest. rest.items ≡ drop most queue.old.items) }
+    ensures err { OnErr result (queue.new ≡ queue.old) }
+{
+    if queue.len() <= MAX_GROUP {
+        return Ok(Vec::new(alloc));
+    }
+    Ok(queue.split_off(MAX_GROUP)?)
 }

@@ -1,5 +1,14 @@
-ghost use Rattle.std.specs.Prelude.{◌≡◌, IfOk};
+ghost use Rattle.std.specs.Prelude.{◌≡◌, ◌∷◌, None, Some, IfOk, IsErr};
+ghost use Rattle.std.specs.Result.{result_ok};
+ghost use Rattle.txn_kv.specs.declared.errors.Error.TheVariants.{GrpcAPI};
+ghost use Rattle.txn_kv.specs.declared.request.Request.{Request as Asked};
+ghost use Rattle.txn_history.specs.Event.Event.{Took, Lost, Slept, Answered};
+ghost use Rattle.txn_history.specs.Moves.{Moves};
+ghost use Rattle.txn_history.specs.Posted.{HasNumbers, Posted, ticket_of};
+ghost use Rattle.txn_history.specs.Turn.{turn_of};
+ghost use Rattle.txn_tso.specs.Calling.{CallFits, Gives, MayAsk, MayBe};
 ghost use Rattle.txn_tso.specs.Placement.{fresh, request_of, not_found};
+ghost use Rattle.txn_tso.specs.Steps.{connected, connecting, ends, failing_try, losing_members, on_answer, on_loss, on_start, on_waking, reconnected, resting, standing, tried, tried_with, unconnected, waits, IsMembersReply, IsOnReply, IsQueryReply, Stands, StandsBy};
 
 use crate::cluster::Cluster;
 use crate::reading::{Reading, read};
@@ -47,7 +56,13 @@ impl PdCall {
     }
 
     /// Makes the first try.
-    pub fn start(&mut self, client: &mut RetryClient, _now: u64, out: &mut Outbox) -> Turn {
+    pub fn start(&mut self, client: &mut RetryClient, _now: u64, out: &mut Outbox) -> Turn
+        requires { HasNumbers out.old }
+        ensures step { Stands (on_start self.old.stage (standing self.old client.old out.old)) (turn_of result) (standing self.new client.new out.new) }
+        ensures moves { Moves (MayAsk self.old) (CallFits self.old out.old) (CallFits self.new out.new) (Gives self.old out.old) (λ h. h) out.old out.new (turn_of result) }
+        ensures job { self.new.query ≡ self.old.query }
+        ensures given_up { self.old.stage ≡ Stage.Stopped → IsErr result }
+    {
         match self.stage {
             Stage::Fresh => self.make_try(client, out),
             Stage::Stopped => Err(NoMemory),
@@ -63,7 +78,14 @@ impl PdCall {
         number: u64,
         reply: Reply,
         out: &mut Outbox,
-    ) -> Turn {
+    ) -> Turn
+        requires { HasNumbers out.old }
+        ensures step { StandsBy (IsOnReply self.old.stage number reply now (standing self.old client.old out.old)) (turn_of result) (standing self.new client.new out.new) }
+        ensures moves { (r : Asked) → MayBe self.old.query self.old.stage number r →
+            Moves (MayAsk self.old) (CallFits self.old out.old) (CallFits self.new out.new) (Gives self.old out.old) (λ h. Took (ticket_of out.old number) r reply ∷ h) out.old out.new (turn_of result) }
+        ensures job { self.new.query ≡ self.old.query }
+        ensures given_up { self.old.stage ≡ Stage.Stopped → IsErr result }
+    {
         match self.stage {
             Stage::Sent(sent) => {
                 if sent != number {
@@ -89,7 +111,14 @@ impl PdCall {
         now: u64,
         number: u64,
         out: &mut Outbox,
-    ) -> Turn {
+    ) -> Turn
+        requires { HasNumbers out.old }
+        ensures step { Stands (on_loss self.old.stage number now (standing self.old client.old out.old)) (turn_of result) (standing self.new client.new out.new) }
+        ensures moves { (r : Asked) → MayBe self.old.query self.old.stage number r →
+            Moves (MayAsk self.old) (CallFits self.old out.old) (CallFits self.new out.new) (Gives self.old out.old) (λ h. Lost (ticket_of out.old number) r ∷ h) out.old out.new (turn_of result) }
+        ensures job { self.new.query ≡ self.old.query }
+        ensures given_up { self.old.stage ≡ Stage.Stopped → IsErr result }
+    {
         match self.stage {
             Stage::Sent(sent) => {
                 if sent != number {
@@ -119,7 +148,13 @@ impl PdCall {
         now: u64,
         number: u64,
         out: &mut Outbox,
-    ) -> Turn {
+    ) -> Turn
+        requires { HasNumbers out.old }
+        ensures step { Stands (on_waking self.old.stage number now (standing self.old client.old out.old)) (turn_of result) (standing self.new client.new out.new) }
+        ensures moves { Moves (MayAsk self.old) (CallFits self.old out.old) (CallFits self.new out.new) (Gives self.old out.old) (λ h. Slept (ticket_of out.old number) ∷ h) out.old out.new (turn_of result) }
+        ensures job { self.new.query ≡ self.old.query }
+        ensures given_up { self.old.stage ≡ Stage.Stopped → IsErr result }
+    {
         match self.stage {
             Stage::Resting {
                 number: begun,
@@ -143,7 +178,13 @@ impl PdCall {
         ask: u64,
         answer: Result<Timestamp>,
         out: &mut Outbox,
-    ) -> Turn {
+    ) -> Turn
+        requires { HasNumbers out.old }
+        ensures step { Stands (on_answer self.old.stage ask answer now (standing self.old client.old out.old)) (turn_of result) (standing self.new client.new out.new) }
+        ensures moves { Moves (MayAsk self.old) (CallFits self.old out.old) (CallFits self.new out.new) (Gives self.old out.old) (λ h. Answered (ticket_of out.old ask) (result_ok answer) ∷ h) out.old out.new (turn_of result) }
+        ensures job { self.new.query ≡ self.old.query }
+        ensures given_up { self.old.stage ≡ Stage.Stopped → IsErr result }
+    {
         match self.stage {
             Stage::Asked(asked) => {
                 if asked != ask {
@@ -174,7 +215,10 @@ impl PdCall {
     }
 
     /// Sends the query, or asks for a timestamp.
-    fn make_try(&mut self, client: &RetryClient, out: &mut Outbox) -> Turn {
+    fn make_try(&mut self, client: &RetryClient, out: &mut Outbox) -> Turn
+        requires { HasNumbers out.old }
+        ensures { Stands (waits (tried (standing self.old client.now out.old))) (turn_of result) (standing self.new client.now out.new) }
+    {
         self.stage = Stage::Stopped;
         match self.request(client.cluster())? {
             Some(request) => self.send(request, out),
@@ -182,21 +226,29 @@ impl PdCall {
         }
     }
 
-    fn send(&mut self, request: Request, out: &mut Outbox) -> Turn {
+    fn send(&mut self, request: Request, out: &mut Outbox) -> Turn
+        requires { HasNumbers out.old }
+        ensures { (c : RetryClient) → Stands (waits (tried_with (Some request) (standing self.old c out.old))) (turn_of result) (standing self.new c out.new) }
+    {
         self.stage = Stage::Stopped;
         let number = out.send(Target::Placement, request)?;
         self.stage = Stage::Sent(number);
         Ok(Progress::Waiting)
     }
 
-    fn ask(&mut self, out: &mut Outbox) -> Turn {
+    fn ask(&mut self, out: &mut Outbox) -> Turn
+        requires { HasNumbers out.old }
+        ensures { (c : RetryClient) → Stands (waits (tried_with None (standing self.old c out.old))) (turn_of result) (standing self.new c out.new) }
+    {
         self.stage = Stage::Stopped;
         let ask = out.ask()?;
         self.stage = Stage::Asked(ask);
         Ok(Progress::Waiting)
     }
 
-    fn end(&mut self, answer: Result<PdAnswer>) -> Turn {
+    fn end(&mut self, answer: Result<PdAnswer>) -> Turn
+        ensures { (c : RetryClient) (o : Posted) → Stands (ends answer (standing self.old c o)) (turn_of result) (standing self.new c o) }
+    {
         self.stage = Stage::Over;
         Ok(Progress::Done(answer))
     }
@@ -207,7 +259,10 @@ impl PdCall {
         now: u64,
         reply: Reply,
         out: &mut Outbox,
-    ) -> Turn {
+    ) -> Turn
+        requires { HasNumbers out.old }
+        ensures { StandsBy (IsQueryReply reply now (standing self.old client.old out.old)) (turn_of result) (standing self.new client.new out.new) }
+    {
         match read(&self.query, reply) {
             Reading::Answer(answer) => self.end(Ok(answer)),
             Reading::Nothing => self.find_nothing(client, now, out),
@@ -215,7 +270,10 @@ impl PdCall {
         }
     }
 
-    fn find_nothing(&mut self, client: &mut RetryClient, now: u64, out: &mut Outbox) -> Turn {
+    fn find_nothing(&mut self, client: &mut RetryClient, now: u64, out: &mut Outbox) -> Turn
+        requires { HasNumbers out.old }
+        ensures { Stands (failing_try (not_found self.old.query) now (standing self.old client.old out.old)) (turn_of result) (standing self.new client.new out.new) }
+    {
         self.stage = Stage::Stopped;
         let why = self.not_found()?;
         self.fail(why, client, now, out)
@@ -235,12 +293,14 @@ impl PdCall {
     }
 
     /// A try has failed. The last of them is the answer.
-    fn fail(&mut self, why: Error, client: &mut RetryClient, now: u64, out: &mut Outbox) -> Turn {
-        let failed = self.failed + 1;
-        if failed >= MAX_TRIES {
+    fn fail(&mut self, why: Error, client: &mut RetryClient, now: u64, out: &mut Outbox) -> Turn
+        requires { HasNumbers out.old }
+        ensures { Stands (failing_try why now (standing self.old client.old out.old)) (turn_of result) (standing self.new client.new out.new) }
+    {
+        if self.failed >= MAX_TRIES - 1 {
             return self.end(Err(why));
         }
-        self.failed = failed;
+        self.failed += 1;
         self.reconnect(0, client, now, out)
     }
 
@@ -251,7 +311,10 @@ impl PdCall {
         client: &mut RetryClient,
         now: u64,
         out: &mut Outbox,
-    ) -> Turn {
+    ) -> Turn
+        requires { HasNumbers out.old }
+        ensures { Stands (waits (reconnected failed now (standing self.old client.old out.old))) (turn_of result) (standing self.new client.new out.new) }
+    {
         if client.may_connect(now) {
             self.ask_members(failed, client, out)
         } else {
@@ -259,7 +322,10 @@ impl PdCall {
         }
     }
 
-    fn ask_members(&mut self, failed: u32, client: &mut RetryClient, out: &mut Outbox) -> Turn {
+    fn ask_members(&mut self, failed: u32, client: &mut RetryClient, out: &mut Outbox) -> Turn
+        requires { HasNumbers out.old }
+        ensures { Stands (waits (connecting failed (standing self.old client.old out.old))) (turn_of result) (standing self.new client.new out.new) }
+    {
         self.stage = Stage::Stopped;
         let number = out.send(Target::Placement, client.cluster().members())?;
         client.begin();
@@ -273,7 +339,10 @@ impl PdCall {
         now: u64,
         reply: Reply,
         out: &mut Outbox,
-    ) -> Turn {
+    ) -> Turn
+        requires { HasNumbers out.old }
+        ensures { StandsBy (IsMembersReply reply now (standing self.old client.old out.old)) (turn_of result) (standing self.new client.new out.new) }
+    {
         match reply.into_members() {
             Ok(_) => {
                 client.connect(now);
@@ -292,16 +361,21 @@ impl PdCall {
         number: u64,
         failed: u32,
         out: &mut Outbox,
-    ) -> Turn {
+    ) -> Turn
+        requires { HasNumbers out.old }
+        ensures { Stands (losing_members (GrpcAPI (ticket_of out.old number)) failed (unconnected (standing self.old client.old out.old))) (turn_of result) (standing self.new client.new out.new) }
+    {
         client.give_up();
-        let failed = failed + 1;
-        if failed >= MAX_RECONNECTS {
+        if failed >= MAX_RECONNECTS - 1 {
             return self.end(Err(Error::GrpcAPI(out.ticket(number))));
         }
-        self.rest(failed, out)
+        self.rest(failed + 1, out)
     }
 
-    fn rest(&mut self, failed: u32, out: &mut Outbox) -> Turn {
+    fn rest(&mut self, failed: u32, out: &mut Outbox) -> Turn
+        requires { HasNumbers out.old }
+        ensures { (c : RetryClient) → Stands (waits (resting failed (standing self.old c out.old))) (turn_of result) (standing self.new c out.new) }
+    {
         self.stage = Stage::Stopped;
         let number = out.sleep(RECONNECT_INTERVAL_MS)?;
         self.stage = Stage::Resting { number, failed };

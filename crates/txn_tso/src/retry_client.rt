@@ -1,6 +1,6 @@
 ghost use Rattle.std.specs.Prelude.{◌≡◌, false, true};
 ghost use Rattle.txn_kv.specs.declared.query.PdQuery.TheVariants as query;
-ghost use Rattle.txn_tso.specs.Placement.{fresh, may_connect, linked};
+ghost use Rattle.txn_tso.specs.Placement.{fresh, may_connect};
 
 use crate::cluster::Cluster;
 use crate::pd_call::PdCall;
