@@ -12,3 +12,8 @@ use Rattle.txn_tso.specs.declared.asker.Asker.{Asker}
 pub answers-order : (x : TsoResponse) (n : ℕ) (g : List Asker) → map (λ (a : Answer). a.0) (answers x n g) ≡ g
 answers-order x n [] = refl
 answers-order x n (a ∷ g) = ap (λ (r : List Asker). a ∷ r) (answers-order x n g)
+
+-- what is so of each answer of a group of n, by how many askers stand behind
+pub answers-all : (P : Answer → Type 0) (x : TsoResponse) (n : ℕ) → ((a : Asker) (b : ℕ) → b < n → P (a, answer x n b)) → (g : List Asker) → length g ≤ n → All P (answers x n g)
+answers-all P x n each [] le = λ k d small. absurd (omega arith)
+answers-all P x n each (a ∷ g) le = each a (length g) (omega arith) ∷ answers-all P x n each g (omega arith)

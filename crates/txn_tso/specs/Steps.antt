@@ -1,5 +1,6 @@
 -- What an event of a call to the placement driver does: what it posts, where the call then stands, and what becomes of the
 -- client's connection.
+use Rattle.std.specs.Bool.{MatchBool}
 use Rattle.std.specs.Prelude.{◌≡◌, ◌≢◌, ◌⊎◌, ℕ, suc, ◌+◌, ◌<◌, ◌++◌, Bool, true, false, if◌then◌else◌, nat_eq, nat_lt, List, [], ◌∷◌, Option, Some, None, Result, Ok, Err}
 use Rattle.txn_kv.specs.declared.errors.Error.{Error}
 use Rattle.txn_kv.specs.declared.errors.Error.TheVariants.{GrpcAPI, InternalError}
@@ -152,8 +153,8 @@ IsMembersReply r now x s =
 
 -- the reply to the request of number n came
 abbrev pub IsOnReply : Stage → ℕ → Reply → ℕ → Standing → Stood → Type 0
-IsOnReply (stage.Sent k) n r now x s = if nat_eq k n then IsQueryReply r now x s else (s ≡ waits x)
-IsOnReply (stage.Reconnecting k lost) n r now x s = if nat_eq k n then IsMembersReply r now x s else (s ≡ waits x)
+IsOnReply (stage.Sent k) n r now x s = MatchBool (nat_eq k n) (IsQueryReply r now x s) (s ≡ waits x)
+IsOnReply (stage.Reconnecting k lost) n r now x s = MatchBool (nat_eq k n) (IsMembersReply r now x s) (s ≡ waits x)
 IsOnReply _ n r now x s = s ≡ waits x
 
 -- one of these came about

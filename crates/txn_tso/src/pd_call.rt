@@ -1,4 +1,4 @@
-ghost use Rattle.std.specs.Prelude.{◌≡◌, ◌∷◌, None, Some, IfOk, IsErr};
+ghost use Rattle.std.specs.Prelude.{◌≡◌, ◌∷◌, None, Some, IfOk, IsErr, is_err, true, false};
 ghost use Rattle.std.specs.Result.{result_ok};
 ghost use Rattle.txn_kv.specs.declared.errors.Error.TheVariants.{GrpcAPI};
 ghost use Rattle.txn_kv.specs.declared.request.Request.{Request as Asked};
@@ -7,6 +7,7 @@ ghost use Rattle.txn_history.specs.Moves.{Moves};
 ghost use Rattle.txn_history.specs.Posted.{HasNumbers, Posted, ticket_of};
 ghost use Rattle.txn_history.specs.Turn.{turn_of};
 ghost use Rattle.txn_tso.specs.Calling.{CallFits, Gives, MayAsk, MayBe};
+ghost use Rattle.txn_tso.specs.Counting.{CallSpends};
 ghost use Rattle.txn_tso.specs.Placement.{fresh, request_of, not_found};
 ghost use Rattle.txn_tso.specs.Steps.{connected, connecting, ends, failing_try, losing_members, on_answer, on_loss, on_start, on_waking, reconnected, resting, standing, tried, tried_with, unconnected, waits, IsMembersReply, IsOnReply, IsQueryReply, Stands, StandsBy};
 
@@ -60,6 +61,7 @@ impl PdCall {
         requires { HasNumbers out.old }
         ensures step { Stands (on_start self.old.stage (standing self.old client.old out.old)) (turn_of result) (standing self.new client.new out.new) }
         ensures moves { Moves (MayAsk self.old) (CallFits self.old out.old) (CallFits self.new out.new) (Gives self.old out.old) (λ h. h) out.old out.new (turn_of result) }
+        ensures spends { CallSpends self.old self.new false out.old out.new (turn_of result) }
         ensures job { self.new.query ≡ self.old.query }
         ensures given_up { self.old.stage ≡ Stage.Stopped → IsErr result }
     {
@@ -83,6 +85,7 @@ impl PdCall {
         ensures step { StandsBy (IsOnReply self.old.stage number reply now (standing self.old client.old out.old)) (turn_of result) (standing self.new client.new out.new) }
         ensures moves { (r : Asked) → MayBe self.old.query self.old.stage number r →
             Moves (MayAsk self.old) (CallFits self.old out.old) (CallFits self.new out.new) (Gives self.old out.old) (λ h. Took (ticket_of out.old number) r reply ∷ h) out.old out.new (turn_of result) }
+        ensures spends { CallSpends self.old self.new false out.old out.new (turn_of result) }
         ensures job { self.new.query ≡ self.old.query }
         ensures given_up { self.old.stage ≡ Stage.Stopped → IsErr result }
     {
@@ -116,6 +119,7 @@ impl PdCall {
         ensures step { Stands (on_loss self.old.stage number now (standing self.old client.old out.old)) (turn_of result) (standing self.new client.new out.new) }
         ensures moves { (r : Asked) → MayBe self.old.query self.old.stage number r →
             Moves (MayAsk self.old) (CallFits self.old out.old) (CallFits self.new out.new) (Gives self.old out.old) (λ h. Lost (ticket_of out.old number) r ∷ h) out.old out.new (turn_of result) }
+        ensures spends { CallSpends self.old self.new true out.old out.new (turn_of result) }
         ensures job { self.new.query ≡ self.old.query }
         ensures given_up { self.old.stage ≡ Stage.Stopped → IsErr result }
     {
@@ -152,6 +156,7 @@ impl PdCall {
         requires { HasNumbers out.old }
         ensures step { Stands (on_waking self.old.stage number now (standing self.old client.old out.old)) (turn_of result) (standing self.new client.new out.new) }
         ensures moves { Moves (MayAsk self.old) (CallFits self.old out.old) (CallFits self.new out.new) (Gives self.old out.old) (λ h. Slept (ticket_of out.old number) ∷ h) out.old out.new (turn_of result) }
+        ensures spends { CallSpends self.old self.new false out.old out.new (turn_of result) }
         ensures job { self.new.query ≡ self.old.query }
         ensures given_up { self.old.stage ≡ Stage.Stopped → IsErr result }
     {
@@ -182,6 +187,7 @@ impl PdCall {
         requires { HasNumbers out.old }
         ensures step { Stands (on_answer self.old.stage ask answer now (standing self.old client.old out.old)) (turn_of result) (standing self.new client.new out.new) }
         ensures moves { Moves (MayAsk self.old) (CallFits self.old out.old) (CallFits self.new out.new) (Gives self.old out.old) (λ h. Answered (ticket_of out.old ask) (result_ok answer) ∷ h) out.old out.new (turn_of result) }
+        ensures spends { CallSpends self.old self.new (is_err answer) out.old out.new (turn_of result) }
         ensures job { self.new.query ≡ self.old.query }
         ensures given_up { self.old.stage ≡ Stage.Stopped → IsErr result }
     {
