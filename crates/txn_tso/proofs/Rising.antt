@@ -1,10 +1,15 @@
 -- The answers to a group keep its order, rise, and are in range.
-use Rattle.std.proofs.Common.{◌≡◌, ℕ, ◌+◌, ◌<◌, ◌≤◌, Bool, true, false, List, [], ◌∷◌, length, map, refl, ap, arith, suc}
-use Rattle.std.specs.Prelude.{ℤ, pos, negsuc, ◌≤ℤ◌, ◌<ℤ◌, ◌-ℤ◌, unsigned_abs, if◌then◌else◌, Option, Some, None, Result, Ok, Err}
+use Rattle.std.proofs.Common.{◌≡◌, ℕ, ◌+◌, ◌-◌, ◌*◌, ◌^◌, ◌<◌, ◌≤◌, Bool, true, false, List, [], ◌∷◌, length, map, drop, get_or, refl, ap, ◌∙◌, arith}
+use Rattle.std.proofs.Math.Seq.{drop-cons}
+use Rattle.std.proofs.lemmas.List.{length-drop}
+use Rattle.std.specs.Prelude.{ℤ, pos, negsuc, ◌≤ℤ◌, ◌<ℤ◌, ◌-ℤ◌, unsigned_abs, int_lt, if◌then◌else◌, Option, Some, None, Result, Ok, Err}
 use Rattle.std.specs.List.{All}
 use Rattle.std.proofs.lemmas.Int.{ints}
 use Rattle.txn_kv.specs.declared.reply.TsoResponse.{TsoResponse}
 use Rattle.txn_kv.specs.declared.timestamp.Timestamp.{Timestamp}
+use Rattle.txn_kv.specs.declared.errors.Error.{Error}
+use Rattle.txn_kv.specs.declared.errors.Error.TheVariants.{InternalError}
+use Rattle.txn_kv.specs.declared.errors.Internal.TheVariants.{OracleCount, OracleEmpty}
 use Rattle.txn_kv.specs.Timestamp.{HasVersion, version_of}
 use Rattle.txn_tso.specs.Oracle.{answer, answers, granted, granted_if, has_version, is_unlike, IsBelow, AreRising, HasVersionIfOk, Answer}
 use Rattle.txn_tso.specs.declared.asker.Asker.{Asker}
@@ -13,7 +18,7 @@ pub answers-order : (x : TsoResponse) (n : ℕ) (g : List Asker) → map (λ (a 
 answers-order x n [] = refl
 answers-order x n (a ∷ g) = ap (λ (r : List Asker). a ∷ r) (answers-order x n g)
 
--- what is so of each answer of a group of n, by how many askers stand behind
-pub answers-all : (P : Answer → Type 0) (x : TsoResponse) (n : ℕ) → ((a : Asker) (b : ℕ) → b < n → P (a, answer x n b)) → (g : List Asker) → length g ≤ n → All P (answers x n g)
-answers-all P x n each [] le = λ k d small. absurd (omega arith)
-answers-all P x n each (a ∷ g) le = each a (length g) (omega arith) ∷ answers-all P x n each g (omega arith)
+-- one asker more is answered
+pub answers-step : (x : TsoResponse) (n i : ℕ) (g : List Asker) (d : Asker) → i < length g → answers x n (drop i g) ≡ (get_or g i d, answer x n (length g - (i + 1))) ∷ answers x n (drop (i + 1) g)
+answers-step x n i g d w =
+    ap (answers x n) (drop-cons g i d w) ∙ ap (λ (k : ℕ). (get_or g i d, answer x n k) ∷ answers x n (drop (i + 1) g)) (length-drop (i + 1) g)

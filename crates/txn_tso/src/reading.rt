@@ -17,10 +17,9 @@ pub enum Reading {
 fn read_region(told: GetRegionResponse) -> Reading
     ensures { IsRegionRead told result }
 {
-    match told.region {
-        Some(region) => {
-            Reading::Answer(PdAnswer::Region(RegionWithLeader::new(region, told.leader)))
-        }
+    let GetRegionResponse { region, leader } = told;
+    match region {
+        Some(region) => Reading::Answer(PdAnswer::Region(RegionWithLeader::new(region, leader))),
         None => Reading::Nothing,
     }
 }
