@@ -1,5 +1,5 @@
 -- The answers to a group keep its order, rise, and are in range.
-use Rattle.std.proofs.Common.{◌≡◌, ℕ, ◌+◌, ◌-◌, ◌*◌, ◌^◌, ◌<◌, ◌≤◌, Bool, true, false, List, [], ◌∷◌, length, map, drop, get_or, refl, ap, ◌∙◌, arith}
+use Rattle.std.proofs.Common.{◌≡◌, ℕ, ◌+◌, ◌-◌, ◌*◌, ◌^◌, ◌<◌, ◌≤◌, Bool, true, false, List, [], ◌∷◌, length, map, drop, get_or, refl, ap, subst, suc, ◌∙◌, arith}
 use Rattle.std.proofs.Math.Seq.{drop-cons}
 use Rattle.std.proofs.lemmas.List.{length-drop}
 use Rattle.std.specs.Prelude.{ℤ, pos, negsuc, ◌≤ℤ◌, ◌<ℤ◌, ◌-ℤ◌, unsigned_abs, int_lt, if◌then◌else◌, Option, Some, None, Result, Ok, Err}
@@ -21,4 +21,6 @@ answers-order x n (a ∷ g) = ap (λ (r : List Asker). a ∷ r) (answers-order x
 -- one asker more is answered
 pub answers-step : (x : TsoResponse) (n i : ℕ) (g : List Asker) (d : Asker) → i < length g → answers x n (drop i g) ≡ (get_or g i d, answer x n (length g - (i + 1))) ∷ answers x n (drop (i + 1) g)
 answers-step x n i g d w =
-    ap (answers x n) (drop-cons g i d w) ∙ ap (λ (k : ℕ). (get_or g i d, answer x n k) ∷ answers x n (drop (i + 1) g)) (length-drop (i + 1) g)
+    let one : suc i ≡ i + 1 = omega arith in
+    let first : drop i g ≡ get_or g i d ∷ drop (i + 1) g = subst (λ (k : ℕ). drop i g ≡ get_or g i d ∷ drop k g) one (drop-cons g i d w) in
+    ap (answers x n) first ∙ ap (λ (k : ℕ). (get_or g i d, answer x n k) ∷ answers x n (drop (i + 1) g)) (length-drop (i + 1) g)

@@ -1,7 +1,7 @@
 -- What an event of a call to the placement driver does: what it posts, where the call then stands, and what becomes of the
 -- client's connection.
 use Rattle.std.specs.Bool.{MatchBool}
-use Rattle.std.specs.Prelude.{◌≡◌, ◌≢◌, ◌⊎◌, ℕ, suc, ◌+◌, ◌<◌, ◌++◌, Bool, true, false, if◌then◌else◌, nat_eq, nat_lt, List, [], ◌∷◌, Option, Some, None, Result, Ok, Err}
+use Rattle.std.specs.Prelude.{◌≡◌, ◌≢◌, ◌⊎◌, ℕ, ◌+◌, ◌<◌, ◌++◌, Bool, true, false, if◌then◌else◌, nat_eq, nat_lt, List, [], ◌∷◌, Option, Some, None, Result, Ok, Err}
 use Rattle.txn_kv.specs.declared.errors.Error.{Error}
 use Rattle.txn_kv.specs.declared.errors.Error.TheVariants.{GrpcAPI, InternalError}
 use Rattle.txn_kv.specs.declared.errors.Internal.TheVariants.{WrongReply}
@@ -69,7 +69,7 @@ abbrev pub over : Standing → Standing
 over x = record { call = at_stage stage.Over x.call; client = x.client; out = x.out }
 
 abbrev pub one_more_failed : Standing → Standing
-one_more_failed x = record { call = record x.call { failed = suc x.call.failed }; client = x.client; out = x.out }
+one_more_failed x = record { call = record x.call { failed = x.call.failed + 1 }; client = x.client; out = x.out }
 
 -- how the call ends, and how it stands then
 pub record Stood : Type 0 where
@@ -79,13 +79,13 @@ pub record Stood : Type 0 where
 -- a try has failed, for this reason: the tenth failure is the answer, and a reconnect follows each before it
 abbrev pub failing_try : Error → ℕ → Standing → Stood
 failing_try why now x =
-    if nat_lt (suc x.call.failed) 10 then record { turn = Waits; at = reconnected 0 now (one_more_failed x) }
+    if nat_lt (x.call.failed + 1) 10 then record { turn = Waits; at = reconnected 0 now (one_more_failed x) }
     else record { turn = Ends (Err why); at = over x }
 
 -- a request for the members was lost, of ticket and all: the fifth since the last try is the answer
 abbrev pub losing_members : Error → ℕ → Standing → Stood
 losing_members why lost x =
-    if nat_lt (suc lost) 5 then record { turn = Waits; at = resting (suc lost) x }
+    if nat_lt (lost + 1) 5 then record { turn = Waits; at = resting (lost + 1) x }
     else record { turn = Ends (Err why); at = over x }
 
 -- the call did so, unless it gave up for want of memory; then it has given up for good
