@@ -1,5 +1,7 @@
-ghost use Rattle.std.specs.Prelude.{◌≡◌, ◌∷◌, None, Some, IfOk, IsErr, is_err, true, false};
+ghost use Rattle.std.specs.Prelude.{◌≡◌, ◌≢◌, ◌∷◌, None, Some, IfOk, IsErr, is_err, true, false};
+ghost use Rattle.std.specs.Bool.{MatchBool};
 ghost use Rattle.std.specs.Result.{result_ok};
+ghost use Rattle.txn_kv.specs.declared.reply.MembersResponse.{MembersResponse};
 ghost use Rattle.txn_kv.specs.declared.errors.Error.TheVariants.{GrpcAPI};
 ghost use Rattle.txn_kv.specs.declared.request.Request.{Request as Asked};
 ghost use Rattle.txn_history.specs.Event.Event.{Took, Lost, Slept, Answered};
@@ -349,16 +351,12 @@ impl PdCall {
         requires { HasNumbers out.old }
         ensures { StandsBy (IsMembersReply reply now (standing self.old client.old out.old)) (turn_of result) (standing self.new client.new out.new) }
     {
-        match reply.into_members() {
-            Ok(_) => {
-                client.connect(now);
-                self.make_try(client, out)
-            }
-            Err(_) => {
-                client.give_up();
-                self.end(Err(wrong_reply()))
-            }
+        if !is_members(reply) {
+            client.give_up();
+            return self.end(Err(wrong_reply()));
         }
+        client.connect(now);
+        self.make_try(client, out)
     }
 
     fn lose_members(
@@ -394,5 +392,15 @@ fn wrong_reply() -> Error
 {
     Error::InternalError {
         what: Internal::WrongReply,
+    }
+}
+
+/// Whether a reply is one to a request for the members.
+fn is_members(reply: Reply) -> bool
+    ensures { MatchBool result ((o : MembersResponse) × (reply ≡ Reply.Members o)) ((o : MembersResponse) → reply ≢ Reply.Members o) }
+{
+    match reply.into_members() {
+        Ok(_) => true,
+        Err(_) => false,
     }
 }

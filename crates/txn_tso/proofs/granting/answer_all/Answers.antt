@@ -19,9 +19,10 @@ loop-asker-preserved c =
     let next = length-drop (i + 1) g in
     let behind : c.loop-asker.behind - 1 ≡ length g - (i + 1) = omega (arith, c.loop-asker.invariant.0, here) in
     let said = c.answer.ensures ∙ ap (answer c.args.reply.now c.args.asked) behind in
-    let step = ap (λ (r : Result Timestamp Error). (get_or g i nobody, r) ∷ rest) said ∙ sym (answers-step c.args.reply.now c.args.asked i g nobody within) in
-    (omega (arith, c.loop-asker.invariant.0, here, next),
-        ap (λ (v : List Answer). v ++ rest) c.in_ok-push.ensures.items
-        ∙ append_assoc c.loop-asker.given.items ((get_or g i nobody, c.answer.result) ∷ []) rest
-        ∙ ap (λ (v : List Answer). c.loop-asker.given.items ++ v) step
-        ∙ c.loop-asker.invariant.1)
+    let step = ap (λ (r : Result Timestamp Error). (get_or g i nobody, r) ∷ rest) said ∙ sym (answers-step c.args.reply.now c.args.asked i g nobody within) in (
+      omega (arith, c.loop-asker.invariant.0, here, next),
+      ap (λ (v : List Answer). v ++ rest) c.in_ok-push.ensures.items
+          ∙ append_assoc c.loop-asker.given.items ((get_or g i nobody, c.answer.result) ∷ []) rest
+          ∙ ap (λ (v : List Answer). c.loop-asker.given.items ++ v) step
+          ∙ c.loop-asker.invariant.1,
+    )
