@@ -88,11 +88,12 @@ losing_members why lost x =
     if nat_lt (lost + 1) 5 then record { turn = Waits; at = resting (lost + 1) x }
     else record { turn = Ends (Err why); at = over x }
 
--- the call did so, unless it gave up for want of memory; then it has given up for good
-abbrev pub Stands : Stood → Turn (Result PdAnswer Error) → Standing → Type 0
-Stands s Stopped x = x.call.stage ≡ stage.Stopped
-Stands s Waits x = (s.turn ≡ Waits) × (x ≡ s.at)
-Stands s (Ends v) x = (s.turn ≡ Ends v) × (x ≡ s.at)
+-- The call of this query did so, where so much was posted before; unless it gave up for want of memory. Then it has given up
+-- for good, and nothing was posted.
+abbrev pub Stands : PdQuery → Posted → Stood → Turn (Result PdAnswer Error) → Standing → Type 0
+Stands q o s Stopped x = (x.call.stage ≡ stage.Stopped) × (x.call.query ≡ q) × (x.out ≡ o)
+Stands q o s Waits x = (s.turn ≡ Waits) × (x ≡ s.at)
+Stands q o s (Ends v) x = (s.turn ≡ Ends v) × (x ≡ s.at)
 
 abbrev pub standing : PdCall → RetryClient → Posted → Standing
 standing s c o = record { call = s; client = c; out = o }
@@ -158,5 +159,5 @@ IsOnReply (stage.Reconnecting k lost) n r now x s = MatchBool (nat_eq k n) (IsMe
 IsOnReply _ n r now x s = s ≡ waits x
 
 -- one of these came about
-abbrev pub StandsBy : (Stood → Type 0) → Turn (Result PdAnswer Error) → Standing → Type 0
-StandsBy is turn x = (s : Stood) × is s × Stands s turn x
+abbrev pub StandsBy : PdQuery → Posted → (Stood → Type 0) → Turn (Result PdAnswer Error) → Standing → Type 0
+StandsBy q o is turn x = (s : Stood) × is s × Stands q o s turn x

@@ -61,7 +61,7 @@ impl PdCall {
     /// Makes the first try.
     pub fn start(&mut self, client: &mut RetryClient, _now: u64, out: &mut Outbox) -> Turn
         requires { HasNumbers out.old }
-        ensures step { Stands (on_start self.old.stage (standing self.old client.old out.old)) (turn_of result) (standing self.new client.new out.new) }
+        ensures step { Stands self.old.query out.old (on_start self.old.stage (standing self.old client.old out.old)) (turn_of result) (standing self.new client.new out.new) }
         ensures moves { Moves (MayAsk self.old) (CallFits self.old out.old) (CallFits self.new out.new) (Gives self.old out.old) (λ h. h) out.old out.new (turn_of result) }
         ensures spends { CallSpends self.old self.new false out.old out.new (turn_of result) }
         ensures job { self.new.query ≡ self.old.query }
@@ -84,7 +84,7 @@ impl PdCall {
         out: &mut Outbox,
     ) -> Turn
         requires { HasNumbers out.old }
-        ensures step { StandsBy (IsOnReply self.old.stage number reply now (standing self.old client.old out.old)) (turn_of result) (standing self.new client.new out.new) }
+        ensures step { StandsBy self.old.query out.old (IsOnReply self.old.stage number reply now (standing self.old client.old out.old)) (turn_of result) (standing self.new client.new out.new) }
         ensures moves { (r : Asked) → MayBe self.old.query self.old.stage number r →
             Moves (MayAsk self.old) (CallFits self.old out.old) (CallFits self.new out.new) (Gives self.old out.old) (λ h. Took (ticket_of out.old number) r reply ∷ h) out.old out.new (turn_of result) }
         ensures spends { CallSpends self.old self.new false out.old out.new (turn_of result) }
@@ -118,7 +118,7 @@ impl PdCall {
         out: &mut Outbox,
     ) -> Turn
         requires { HasNumbers out.old }
-        ensures step { Stands (on_loss self.old.stage number now (standing self.old client.old out.old)) (turn_of result) (standing self.new client.new out.new) }
+        ensures step { Stands self.old.query out.old (on_loss self.old.stage number now (standing self.old client.old out.old)) (turn_of result) (standing self.new client.new out.new) }
         ensures moves { (r : Asked) → MayBe self.old.query self.old.stage number r →
             Moves (MayAsk self.old) (CallFits self.old out.old) (CallFits self.new out.new) (Gives self.old out.old) (λ h. Lost (ticket_of out.old number) r ∷ h) out.old out.new (turn_of result) }
         ensures spends { CallSpends self.old self.new true out.old out.new (turn_of result) }
@@ -156,7 +156,7 @@ impl PdCall {
         out: &mut Outbox,
     ) -> Turn
         requires { HasNumbers out.old }
-        ensures step { Stands (on_waking self.old.stage number now (standing self.old client.old out.old)) (turn_of result) (standing self.new client.new out.new) }
+        ensures step { Stands self.old.query out.old (on_waking self.old.stage number now (standing self.old client.old out.old)) (turn_of result) (standing self.new client.new out.new) }
         ensures moves { Moves (MayAsk self.old) (CallFits self.old out.old) (CallFits self.new out.new) (Gives self.old out.old) (λ h. Slept (ticket_of out.old number) ∷ h) out.old out.new (turn_of result) }
         ensures spends { CallSpends self.old self.new false out.old out.new (turn_of result) }
         ensures job { self.new.query ≡ self.old.query }
@@ -187,7 +187,7 @@ impl PdCall {
         out: &mut Outbox,
     ) -> Turn
         requires { HasNumbers out.old }
-        ensures step { Stands (on_answer self.old.stage ask answer now (standing self.old client.old out.old)) (turn_of result) (standing self.new client.new out.new) }
+        ensures step { Stands self.old.query out.old (on_answer self.old.stage ask answer now (standing self.old client.old out.old)) (turn_of result) (standing self.new client.new out.new) }
         ensures moves { Moves (MayAsk self.old) (CallFits self.old out.old) (CallFits self.new out.new) (Gives self.old out.old) (λ h. Answered (ticket_of out.old ask) (result_ok answer) ∷ h) out.old out.new (turn_of result) }
         ensures spends { CallSpends self.old self.new (is_err answer) out.old out.new (turn_of result) }
         ensures job { self.new.query ≡ self.old.query }
@@ -225,7 +225,7 @@ impl PdCall {
     /// Sends the query, or asks for a timestamp.
     fn make_try(&mut self, client: &RetryClient, out: &mut Outbox) -> Turn
         requires { HasNumbers out.old }
-        ensures { Stands (waits (tried (standing self.old client.now out.old))) (turn_of result) (standing self.new client.now out.new) }
+        ensures { Stands self.old.query out.old (waits (tried (standing self.old client.now out.old))) (turn_of result) (standing self.new client.now out.new) }
     {
         self.stage = Stage::Stopped;
         match self.request(client.cluster())? {
@@ -236,7 +236,7 @@ impl PdCall {
 
     fn send(&mut self, request: Request, out: &mut Outbox) -> Turn
         requires { HasNumbers out.old }
-        ensures { (c : RetryClient) → Stands (waits (tried_with (Some request) (standing self.old c out.old))) (turn_of result) (standing self.new c out.new) }
+        ensures { (c : RetryClient) → Stands self.old.query out.old (waits (tried_with (Some request) (standing self.old c out.old))) (turn_of result) (standing self.new c out.new) }
     {
         self.stage = Stage::Stopped;
         let number = out.send(Target::Placement, request)?;
@@ -246,7 +246,7 @@ impl PdCall {
 
     fn ask(&mut self, out: &mut Outbox) -> Turn
         requires { HasNumbers out.old }
-        ensures { (c : RetryClient) → Stands (waits (tried_with None (standing self.old c out.old))) (turn_of result) (standing self.new c out.new) }
+        ensures { (c : RetryClient) → Stands self.old.query out.old (waits (tried_with None (standing self.old c out.old))) (turn_of result) (standing self.new c out.new) }
     {
         self.stage = Stage::Stopped;
         let ask = out.ask()?;
@@ -255,7 +255,7 @@ impl PdCall {
     }
 
     fn end(&mut self, answer: Result<PdAnswer>) -> Turn
-        ensures { (c : RetryClient) (o : Posted) → Stands (ends answer (standing self.old c o)) (turn_of result) (standing self.new c o) }
+        ensures { (c : RetryClient) (o : Posted) → Stands self.old.query o (ends answer (standing self.old c o)) (turn_of result) (standing self.new c o) }
     {
         self.stage = Stage::Over;
         Ok(Progress::Done(answer))
@@ -269,7 +269,7 @@ impl PdCall {
         out: &mut Outbox,
     ) -> Turn
         requires { HasNumbers out.old }
-        ensures { StandsBy (IsQueryReply reply now (standing self.old client.old out.old)) (turn_of result) (standing self.new client.new out.new) }
+        ensures { StandsBy self.old.query out.old (IsQueryReply reply now (standing self.old client.old out.old)) (turn_of result) (standing self.new client.new out.new) }
     {
         match read(&self.query, reply) {
             Reading::Answer(answer) => self.end(Ok(answer)),
@@ -280,7 +280,7 @@ impl PdCall {
 
     fn find_nothing(&mut self, client: &mut RetryClient, now: u64, out: &mut Outbox) -> Turn
         requires { HasNumbers out.old }
-        ensures { Stands (failing_try (not_found self.old.query) now (standing self.old client.old out.old)) (turn_of result) (standing self.new client.new out.new) }
+        ensures { Stands self.old.query out.old (failing_try (not_found self.old.query) now (standing self.old client.old out.old)) (turn_of result) (standing self.new client.new out.new) }
     {
         self.stage = Stage::Stopped;
         let why = self.not_found()?;
@@ -303,7 +303,7 @@ impl PdCall {
     /// A try has failed. The last of them is the answer.
     fn fail(&mut self, why: Error, client: &mut RetryClient, now: u64, out: &mut Outbox) -> Turn
         requires { HasNumbers out.old }
-        ensures { Stands (failing_try why now (standing self.old client.old out.old)) (turn_of result) (standing self.new client.new out.new) }
+        ensures { Stands self.old.query out.old (failing_try why now (standing self.old client.old out.old)) (turn_of result) (standing self.new client.new out.new) }
     {
         if self.failed >= MAX_TRIES - 1 {
             return self.end(Err(why));
@@ -321,7 +321,7 @@ impl PdCall {
         out: &mut Outbox,
     ) -> Turn
         requires { HasNumbers out.old }
-        ensures { Stands (waits (reconnected failed now (standing self.old client.old out.old))) (turn_of result) (standing self.new client.new out.new) }
+        ensures { Stands self.old.query out.old (waits (reconnected failed now (standing self.old client.old out.old))) (turn_of result) (standing self.new client.new out.new) }
     {
         if client.may_connect(now) {
             self.ask_members(failed, client, out)
@@ -332,7 +332,7 @@ impl PdCall {
 
     fn ask_members(&mut self, failed: u32, client: &mut RetryClient, out: &mut Outbox) -> Turn
         requires { HasNumbers out.old }
-        ensures { Stands (waits (connecting failed (standing self.old client.old out.old))) (turn_of result) (standing self.new client.new out.new) }
+        ensures { Stands self.old.query out.old (waits (connecting failed (standing self.old client.old out.old))) (turn_of result) (standing self.new client.new out.new) }
     {
         self.stage = Stage::Stopped;
         let number = out.send(Target::Placement, client.cluster().members())?;
@@ -349,7 +349,7 @@ impl PdCall {
         out: &mut Outbox,
     ) -> Turn
         requires { HasNumbers out.old }
-        ensures { StandsBy (IsMembersReply reply now (standing self.old client.old out.old)) (turn_of result) (standing self.new client.new out.new) }
+        ensures { StandsBy self.old.query out.old (IsMembersReply reply now (standing self.old client.old out.old)) (turn_of result) (standing self.new client.new out.new) }
     {
         if !is_members(reply) {
             client.give_up();
@@ -367,7 +367,7 @@ impl PdCall {
         out: &mut Outbox,
     ) -> Turn
         requires { HasNumbers out.old }
-        ensures { Stands (losing_members (GrpcAPI (ticket_of out.old number)) failed (unconnected (standing self.old client.old out.old))) (turn_of result) (standing self.new client.new out.new) }
+        ensures { Stands self.old.query out.old (losing_members (GrpcAPI (ticket_of out.old number)) failed (unconnected (standing self.old client.old out.old))) (turn_of result) (standing self.new client.new out.new) }
     {
         client.give_up();
         if failed >= MAX_RECONNECTS - 1 {
@@ -378,7 +378,7 @@ impl PdCall {
 
     fn rest(&mut self, failed: u32, out: &mut Outbox) -> Turn
         requires { HasNumbers out.old }
-        ensures { (c : RetryClient) → Stands (waits (resting failed (standing self.old c out.old))) (turn_of result) (standing self.new c out.new) }
+        ensures { (c : RetryClient) → Stands self.old.query out.old (waits (resting failed (standing self.old c out.old))) (turn_of result) (standing self.new c out.new) }
     {
         self.stage = Stage::Stopped;
         let number = out.sleep(RECONNECT_INTERVAL_MS)?;
