@@ -2,6 +2,7 @@
 use Rattle.std.proofs.Common.{◌≡◌, ℕ, ◌+◌, ◌-◌, ◌*◌, ◌^◌, ◌<◌, ◌≤◌, Bool, true, false, List, [], ◌∷◌, length, map, drop, get_or, refl, ap, subst, suc, ◌∙◌, arith}
 use Rattle.std.proofs.Math.Seq.{drop-cons}
 use Rattle.std.proofs.lemmas.List.{length-drop}
+use Rattle.std.proofs.lemmas.List.Elements.{All-cons, All-nil}
 use Rattle.std.specs.Prelude.{ℤ, pos, negsuc, ◌≤ℤ◌, ◌<ℤ◌, ◌-ℤ◌, unsigned_abs, int_lt, if◌then◌else◌, Option, Some, None, Result, Ok, Err}
 use Rattle.std.specs.List.{All}
 use Rattle.std.proofs.lemmas.Int.{ints}
@@ -24,3 +25,26 @@ answers-step x n i g d w =
     let one : suc i ≡ i + 1 = omega arith in
     let first : drop i g ≡ get_or g i d ∷ drop (i + 1) g = subst (λ (k : ℕ). drop i g ≡ get_or g i d ∷ drop k g) one (drop-cons g i d w) in
     ap (answers x n) first ∙ ap (λ (k : ℕ). (get_or g i d, answer x n k) ∷ answers x n (drop (i + 1) g)) (length-drop (i + 1) g)
+
+-- of two asks of a group the one with more behind it gets the lower timestamp
+below_unless : (u : Bool) (last : Timestamp) (c n a b : ℕ) → has_version last ≡ true → is_unlike last c n ≡ u → b < a → a < n
+    → IsBelow (if u then Err (InternalError (OracleCount n c)) else Ok (record last { logical = last.logical -ℤ pos a })) (if u then Err (InternalError (OracleCount n c)) else Ok (record last { logical = last.logical -ℤ pos b }))
+below_unless true last c n a b has like more le = tt
+below_unless false last c n a b has like more le = ?
+
+below_if : (v : Bool) (last : Timestamp) (c n a b : ℕ) → has_version last ≡ v → b < a → a < n
+    → IsBelow (if v then granted last c n a else Err (InternalError OracleEmpty)) (if v then granted last c n b else Err (InternalError OracleEmpty))
+below_if true last c n a b has more le = below_unless (is_unlike last c n) last c n a b has refl more le
+below_if false last c n a b has more le = tt
+
+below : (t : Option Timestamp) (c n a b : ℕ) → b < a → a < n → IsBelow (granted_if t c n a) (granted_if t c n b)
+below None c n a b more le = tt
+below (Some last) c n a b more le = below_if (has_version last) last c n a b refl more le
+
+below_all : (x : TsoResponse) (n a : ℕ) → a < n → (g : List Asker) → length g ≤ a → All (λ (b : Answer). IsBelow (answer x n a) b.1) (answers x n g)
+below_all x n a le [] small = All-nil (λ (d : Answer). IsBelow (answer x n a) d.1)
+below_all x n a le (b ∷ g) small = All-cons (λ (d : Answer). IsBelow (answer x n a) d.1) (b, answer x n (length g)) (answers x n g) (below x.timestamp x.count n a (length g) (omega (arith, small)) le) (below_all x n a le g (omega (arith, small)))
+
+pub answers-rise : (x : TsoResponse) (n : ℕ) (g : List Asker) → length g ≤ n → AreRising (answers x n g)
+answers-rise x n [] small = tt
+answers-rise x n (a ∷ g) small = (below_all x n (length g) (omega (arith, small)) g (omega arith), answers-rise x n g (omega (arith, small)))
