@@ -26,6 +26,9 @@ answers-step x n i g d w =
     let first : drop i g ≡ get_or g i d ∷ drop (i + 1) g = subst (λ (k : ℕ). drop i g ≡ get_or g i d ∷ drop k g) one (drop-cons g i d w) in
     ap (answers x n) first ∙ ap (λ (k : ℕ). (get_or g i d, answer x n k) ∷ answers x n (drop (i + 1) g)) (length-drop (i + 1) g)
 
+lower : (m n a b : ℕ) → n ≤ m + 1 → b < a → a < n → unsigned_abs (pos m -ℤ pos a) < unsigned_abs (pos m -ℤ pos b)
+lower m n a b high more le = omega (arith, ints, high, more, le)
+
 -- of two asks of a group the one with more behind it gets the lower timestamp
 below_unless : (u : Bool) (last : Timestamp) (c n a b : ℕ) → has_version last ≡ true → is_unlike last c n ≡ u → b < a → a < n
     → IsBelow (if u then Err (InternalError (OracleCount n c)) else Ok (record last { logical = last.logical -ℤ pos a })) (if u then Err (InternalError (OracleCount n c)) else Ok (record last { logical = last.logical -ℤ pos b }))
