@@ -3,7 +3,7 @@ use Rattle.std.proofs.Common.{◌≡◌, ℕ, ◌+◌, ◌-◌, ◌*◌, ◌^◌
 use Rattle.std.proofs.Math.Seq.{drop-cons}
 use Rattle.std.proofs.lemmas.List.{length-drop}
 use Rattle.std.proofs.lemmas.List.Elements.{All-cons, All-nil}
-use Rattle.std.specs.Prelude.{ℤ, pos, negsuc, ◌≤ℤ◌, ◌<ℤ◌, ◌-ℤ◌, unsigned_abs, int_lt, if◌then◌else◌, Option, Some, None, Result, Ok, Err}
+use Rattle.std.specs.Prelude.{ℤ, pos, negsuc, ◌≤ℤ◌, ◌<ℤ◌, ◌-ℤ◌, unsigned_abs, int_le, int_lt, if◌then◌else◌, Option, Some, None, Result, Ok, Err}
 use Rattle.std.specs.List.{All}
 use Rattle.std.proofs.lemmas.Int.{ints}
 use Rattle.txn_kv.specs.declared.reply.TsoResponse.{TsoResponse}
@@ -28,6 +28,10 @@ answers-step x n i g d w =
 
 lower : (m n a b : ℕ) → n ≤ m + 1 → b < a → a < n → unsigned_abs (pos m -ℤ pos a) < unsigned_abs (pos m -ℤ pos b)
 lower m n a b high more le = omega (arith, ints, high, more, le)
+
+lower_at : (l : ℤ) (n a b : ℕ) → int_lt l (pos n -ℤ pos 1) ≡ false → int_le (pos 0) l ≡ true → b < a → a < n → unsigned_abs (l -ℤ pos a) < unsigned_abs (l -ℤ pos b)
+lower_at (pos m) n a b high low more le = lower m n a b (omega (arith, ints, high)) more le
+lower_at (negsuc m) n a b high low more le = absurd (omega (arith, ints, low))
 
 -- of two asks of a group the one with more behind it gets the lower timestamp
 below_unless : (u : Bool) (last : Timestamp) (c n a b : ℕ) → has_version last ≡ true → is_unlike last c n ≡ u → b < a → a < n
