@@ -37,7 +37,7 @@ lower_at (negsuc m) n a b high low more le = absurd (omega (arith, ints, low))
 below_unless : (u : Bool) (last : Timestamp) (c n a b : ℕ) → has_version last ≡ true → is_unlike last c n ≡ u → b < a → a < n
     → IsBelow (if u then Err (InternalError (OracleCount n c)) else Ok (record last { logical = last.logical -ℤ pos a })) (if u then Err (InternalError (OracleCount n c)) else Ok (record last { logical = last.logical -ℤ pos b }))
 below_unless true last c n a b has like more le = tt
-below_unless false last c n a b has like more le = ?
+below_unless false last c n a b has like more le = let l = lower_at last.logical n a b (grind arith) (grind arith) more le in omega (arith, l)
 
 below_if : (v : Bool) (last : Timestamp) (c n a b : ℕ) → has_version last ≡ v → b < a → a < n
     → IsBelow (if v then granted last c n a else Err (InternalError OracleEmpty)) (if v then granted last c n b else Err (InternalError OracleEmpty))
