@@ -3,7 +3,7 @@ use Rattle.std.proofs.Common.{◌≡◌, ℕ, ◌+◌, ◌-◌, ◌*◌, ◌^◌
 use Rattle.std.proofs.Math.Seq.{drop-cons}
 use Rattle.std.proofs.lemmas.List.{length-drop}
 use Rattle.std.proofs.lemmas.List.Elements.{All-cons, All-nil}
-use Rattle.std.specs.Prelude.{ℤ, pos, negsuc, ◌≤ℤ◌, ◌<ℤ◌, ◌-ℤ◌, unsigned_abs, int_le, int_lt, if◌then◌else◌, Option, Some, None, Result, Ok, Err}
+use Rattle.std.specs.Prelude.{IfOk, ℤ, pos, negsuc, ◌≤ℤ◌, ◌<ℤ◌, ◌-ℤ◌, unsigned_abs, int_le, int_lt, if◌then◌else◌, Option, Some, None, Result, Ok, Err}
 use Rattle.std.specs.List.{All}
 use Rattle.std.proofs.lemmas.Int.{ints}
 use Rattle.txn_kv.specs.declared.reply.TsoResponse.{TsoResponse}
@@ -55,3 +55,32 @@ below_all x n a le (b ∷ g) small = All-cons (λ (d : Answer). IsBelow (answer 
 pub answers-rise : (x : TsoResponse) (n : ℕ) (g : List Asker) → length g ≤ n → AreRising (answers x n g)
 answers-rise x n [] small = tt
 answers-rise x n (a ∷ g) small = (below_all x n (length g) (omega (arith, small)) g (omega arith), answers-rise x n g (omega (arith, small)))
+
+in_range_unless : (u : Bool) (last : Timestamp) (c n b : ℕ) → has_version last ≡ true → is_unlike last c n ≡ u → b < n
+    → IfOk (if u then Err (InternalError (OracleCount n c)) else Ok (record last { logical = last.logical -ℤ pos b })) HasVersion
+in_range_unless true last c n b has like small = tt
+in_range_unless false last c n b has like small =
+    let p0 : int_le (pos 0) last.physical ≡ true = grind arith in
+    let p1 : int_lt last.physical (pos (2 ^ 46)) ≡ true = grind arith in
+    let l0 : int_le (pos 0) last.logical ≡ true = grind arith in
+    let l1 : int_lt last.logical (pos (2 ^ 18)) ≡ true = grind arith in
+    let m : int_lt last.logical (pos n -ℤ pos 1) ≡ false = grind arith in
+    record {
+      physical = omega (arith, ints, p0);
+      physical_bits = omega (arith, ints, p1);
+      logical = omega (arith, ints, l0, m, small);
+      logical_bits = omega (arith, ints, l0, l1);
+    }
+
+in_range_if : (v : Bool) (last : Timestamp) (c n b : ℕ) → has_version last ≡ v → b < n
+    → IfOk (if v then granted last c n b else Err (InternalError OracleEmpty)) HasVersion
+in_range_if true last c n b has small = in_range_unless (is_unlike last c n) last c n b has refl small
+in_range_if false last c n b has small = tt
+
+in_range : (t : Option Timestamp) (c n b : ℕ) → b < n → IfOk (granted_if t c n b) HasVersion
+in_range None c n b small = tt
+in_range (Some last) c n b small = in_range_if (has_version last) last c n b refl small
+
+pub answers-in_range : (x : TsoResponse) (n : ℕ) (g : List Asker) → length g ≤ n → All HasVersionIfOk (answers x n g)
+answers-in_range x n [] small = All-nil HasVersionIfOk
+answers-in_range x n (a ∷ g) small = All-cons HasVersionIfOk (a, answer x n (length g)) (answers x n g) (in_range x.timestamp x.count n (length g) (omega (arith, small))) (answers-in_range x n g (omega (arith, small)))
