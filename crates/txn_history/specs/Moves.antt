@@ -8,7 +8,7 @@ use Rattle.txn_kv.specs.declared.request.Request.{Request}
 use Rattle.txn_history.specs.Event.{Event}
 use Rattle.txn_history.specs.Event.Event.{Sent, Began, Asked}
 use Rattle.txn_history.specs.Posted.{Errand, Posted, ticket_of, posting, after, after-append, Within, Within-trans, Within-after, AreNumbered, AreNumbered-append, Licensed, Licensed-append, Licensed-weaker}
-use Rattle.txn_history.specs.Posted.Errand.{Send, Sleep, Ask}
+use Rattle.txn_kv.specs.declared.outbox.Errand.TheVariants.{Send, Sleep, Ask}
 use Rattle.txn_history.specs.Turn.{Turn, IfKept, IfEnds, IfKept-weaker, IfKept-stopped, IfKept-out, IfEnds-weaker, IfEnds-stopped}
 use Rattle.txn_history.specs.Turn.Turn.{Stopped, Waits}
 

@@ -2,24 +2,14 @@
 use Rattle.std.specs.Prelude.{◌≡◌, ℕ, ◌+◌, Bool, List, [], ◌∷◌, ◌++◌, refl}
 use Rattle.std.proofs.Common.{inr, subst}
 use Rattle.txn_kv.specs.declared.ticket.Target.{Target}
+use Rattle.txn_kv.specs.declared.outbox.Errand.TheVariants.{Send, Sleep, Ask}
 use Rattle.txn_kv.specs.declared.ticket.Ticket.{Ticket}
 use Rattle.txn_kv.specs.declared.request.Request.{Request}
 use Rattle.txn_history.specs.Event.{Event, Has}
 use Rattle.txn_history.specs.Event.Event.{Sent, Began, Asked}
 
-pub data Errand : Type 0 where
-  Send : (number : ℕ) (to : Target) (request : Request) → Errand
-  Sleep : (number ms : ℕ) → Errand
-  Ask : (ask : ℕ) → Errand
-
--- the line that posts, and whether it is its heartbeat that does; the next number of a request or a sleep, and of an ask;
--- what is posted, the oldest first
-pub record Posted : Type 0 where
-  pub line : ℕ
-  pub beat : Bool
-  pub next : ℕ
-  pub next_ask : ℕ
-  pub sends : List Errand
+pub use Rattle.txn_kv.specs.declared.outbox.Errand.{Errand}
+pub use Rattle.txn_kv.specs.Posted.{Posted, HasNumbers}
 
 abbrev pub ticket_of : Posted → ℕ → Ticket
 ticket_of o n = record { line = o.line; beat = o.beat; number = n }

@@ -9,7 +9,7 @@ use Rattle.txn_kv.specs.declared.message.PbPair.{PbPair}
 use Rattle.txn_kv.specs.declared.reply.Reply.{Reply}
 use Rattle.txn_kv.specs.declared.reply.Reply.TheVariants as reply
 use Rattle.txn_history.specs.Posted.{Errand, Posted}
-use Rattle.txn_history.specs.Posted.Errand.{Send, Sleep, Ask}
+use Rattle.txn_kv.specs.declared.outbox.Errand.TheVariants.{Send, Sleep, Ask}
 
 -- a request to a store or an ask
 abbrev pub is_call : Errand → Bool

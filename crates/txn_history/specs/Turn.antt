@@ -1,5 +1,9 @@
 -- How an event call of a state ends.
-use Rattle.std.specs.Prelude.{◌≡◌, ◌≢◌, Bool, false, refl}
+use Rattle.std.specs.Prelude.{◌≡◌, ◌≢◌, Bool, false, Result, Ok, Err, refl}
+use Rattle.txn_kv.specs.declared.errors.Error.{Error}
+use Rattle.txn_kv.specs.declared.memory.NoMemory.{NoMemory}
+use Rattle.txn_kv.specs.declared.progress.Progress.{Progress}
+use Rattle.txn_kv.specs.declared.progress.Progress.TheVariants.{Waiting, Done}
 
 pub data Turn (A : Type 0) : Type 0 where
   -- it gave up, for want of memory
@@ -8,6 +12,12 @@ pub data Turn (A : Type 0) : Type 0 where
   Waits : Turn A
   -- this is the answer, which may be an error
   Ends : (answer : A) → Turn A
+
+-- how a call ended that answers its progress, or gives up for want of memory
+abbrev pub turn_of : {A : Type 0} → Result (Progress A) NoMemory → Turn (Result A Error)
+turn_of (Ok Waiting) = Waits
+turn_of (Ok (Done v)) = Ends v
+turn_of (Err e) = Stopped
 
 -- P, where the call did not give up
 abbrev pub IfKept : {A : Type 0} → Turn A → Type 0 → Type 0

@@ -4,6 +4,7 @@ pub mod ErrorView
 pub mod Errors
 pub mod FlatMapOk
 pub mod Pairs
+pub mod Posted
 pub mod Ranges
 pub mod Region
 pub mod Request

@@ -12,9 +12,13 @@ pub mod items;
 pub mod key;
 pub mod kvpair;
 pub mod laws;
+pub mod look;
 pub mod memory;
 pub mod message;
+pub mod outbox;
 pub mod pessimistic_lock;
+pub mod progress;
+pub mod query;
 pub mod region;
 pub mod reply;
 pub mod request;
@@ -27,42 +31,106 @@ pub mod ticket;
 pub mod timestamp;
 pub mod try_clone;
 
-pub use backoff::{
-    Backoff, BackoffKind, DEFAULT_REGION_BACKOFF, DEFAULT_STORE_BACKOFF, OPTIMISTIC_BACKOFF,
-    PESSIMISTIC_BACKOFF,
-};
+pub use backoff::Backoff;
+pub use backoff::BackoffKind;
+pub use backoff::DEFAULT_REGION_BACKOFF;
+pub use backoff::DEFAULT_STORE_BACKOFF;
+pub use backoff::OPTIMISTIC_BACKOFF;
+pub use backoff::PESSIMISTIC_BACKOFF;
 pub use bound_range::BoundRange;
-pub use codec::{BytesEncoder, decode_bytes_in_place, max_encoded_bytes_size};
-pub use errors::{Error, Internal, Result};
-pub use flat_map_ok::{FlatMapOk, FlatMapOkIterExt};
+pub use codec::BytesEncoder;
+pub use codec::decode_bytes_in_place;
+pub use codec::max_encoded_bytes_size;
+pub use errors::Error;
+pub use errors::Internal;
+pub use errors::Result;
+pub use flat_map_ok::FlatMapOk;
+pub use flat_map_ok::FlatMapOkIterExt;
 pub use hex_repr::HexRepr;
-pub use into_owned_range::{IntoOwnedRange, KeyBytes};
-pub use items::{Items, Value};
+pub use into_owned_range::IntoOwnedRange;
+pub use into_owned_range::KeyBytes;
+pub use items::Items;
+pub use items::Value;
 pub use key::Key;
 pub use kvpair::KvPair;
+pub use look::Look;
 pub use memory::NoMemory;
-pub use message::{
-    Action, ApiVersion, Assertion, Context, KeyError, KeyRange, LockInfo, Mutation, Op, PbPair,
-    Peer, Region, RegionEpoch, RegionErr, StoreLabel, StoreMeta, StoreState, TxnInfo,
-};
+pub use message::Action;
+pub use message::ApiVersion;
+pub use message::Assertion;
+pub use message::Context;
+pub use message::KeyError;
+pub use message::KeyRange;
+pub use message::LockInfo;
+pub use message::Mutation;
+pub use message::Op;
+pub use message::PbPair;
+pub use message::Peer;
+pub use message::Region;
+pub use message::RegionEpoch;
+pub use message::RegionErr;
+pub use message::StoreLabel;
+pub use message::StoreMeta;
+pub use message::StoreState;
+pub use message::TxnInfo;
+pub use outbox::Errand;
+pub use outbox::Outbox;
 pub use pessimistic_lock::PessimisticLock;
-pub use region::{RegionId, RegionVerId, RegionWithLeader};
-pub use reply::{
-    BatchGetResponse, BatchRollbackResponse, CheckSecondaryLocksResponse, CheckTxnStatusResponse,
-    CleanupResponse, CommitResponse, GetAllStoresResponse, GetRegionResponse, GetResponse,
-    GetStoreResponse, MembersResponse, PessimisticLockResponse, PessimisticRollbackResponse,
-    PrewriteResponse, Reply, ResolveLockResponse, ScanLockResponse, ScanResponse, TsoResponse,
-    TxnHeartBeatResponse, UnsafeDestroyRangeResponse, UpdateGcSafePointResponse,
-};
-pub use request::{
-    BatchGetRequest, BatchRollbackRequest, CheckSecondaryLocksRequest, CheckTxnStatusRequest,
-    CleanupRequest, CommitRequest, GetAllStoresRequest, GetRegionByIdRequest, GetRegionRequest,
-    GetRequest, GetStoreRequest, MembersRequest, PessimisticLockRequest,
-    PessimisticRollbackRequest, PrewriteRequest, Request, ResolveLockRequest, ScanLockRequest,
-    ScanRequest, TsoRequest, TxnHeartBeatRequest, UnsafeDestroyRangeRequest,
-    UpdateGcSafePointRequest,
-};
+pub use progress::Progress;
+pub use query::PdAnswer;
+pub use query::PdQuery;
+pub use region::RegionId;
+pub use region::RegionVerId;
+pub use region::RegionWithLeader;
+pub use reply::BatchGetResponse;
+pub use reply::BatchRollbackResponse;
+pub use reply::CheckSecondaryLocksResponse;
+pub use reply::CheckTxnStatusResponse;
+pub use reply::CleanupResponse;
+pub use reply::CommitResponse;
+pub use reply::GetAllStoresResponse;
+pub use reply::GetRegionResponse;
+pub use reply::GetResponse;
+pub use reply::GetStoreResponse;
+pub use reply::MembersResponse;
+pub use reply::PessimisticLockResponse;
+pub use reply::PessimisticRollbackResponse;
+pub use reply::PrewriteResponse;
+pub use reply::Reply;
+pub use reply::ResolveLockResponse;
+pub use reply::ScanLockResponse;
+pub use reply::ScanResponse;
+pub use reply::TsoResponse;
+pub use reply::TxnHeartBeatResponse;
+pub use reply::UnsafeDestroyRangeResponse;
+pub use reply::UpdateGcSafePointResponse;
+pub use request::BatchGetRequest;
+pub use request::BatchRollbackRequest;
+pub use request::CheckSecondaryLocksRequest;
+pub use request::CheckTxnStatusRequest;
+pub use request::CleanupRequest;
+pub use request::CommitRequest;
+pub use request::GetAllStoresRequest;
+pub use request::GetRegionByIdRequest;
+pub use request::GetRegionRequest;
+pub use request::GetRequest;
+pub use request::GetStoreRequest;
+pub use request::MembersRequest;
+pub use request::PessimisticLockRequest;
+pub use request::PessimisticRollbackRequest;
+pub use request::PrewriteRequest;
+pub use request::Request;
+pub use request::ResolveLockRequest;
+pub use request::ScanLockRequest;
+pub use request::ScanRequest;
+pub use request::TsoRequest;
+pub use request::TxnHeartBeatRequest;
+pub use request::UnsafeDestroyRangeRequest;
+pub use request::UpdateGcSafePointRequest;
 pub use text::Text;
-pub use ticket::{StoreId, Target, Ticket};
-pub use timestamp::{Timestamp, TimestampExt};
+pub use ticket::StoreId;
+pub use ticket::Target;
+pub use ticket::Ticket;
+pub use timestamp::Timestamp;
+pub use timestamp::TimestampExt;
 pub use try_clone::TryClone;

@@ -6,8 +6,12 @@ use crate::errors::{Error, Internal};
 use crate::items::{Items, Value};
 use crate::key::Key;
 use crate::kvpair::KvPair;
+use crate::look::Look;
 use crate::memory::NoMemory;
 use crate::message::{KeyError, LockInfo, Mutation, PbPair, Region, RegionErr, StoreMeta};
+use crate::outbox::{Errand, Outbox};
+use crate::progress::Progress;
+use crate::query::{PdAnswer, PdQuery};
 use crate::region::{RegionVerId, RegionWithLeader};
 use crate::reply::Reply;
 use crate::request::Request;
@@ -49,4 +53,14 @@ pub fn messages_can_move() {
     can_move::<Items<PbPair>>();
     can_move::<Request>();
     can_move::<Reply>();
+}
+
+/// What a call hands out, and what it is answered, does.
+pub fn progress_can_move() {
+    can_move::<Errand>();
+    can_move::<Outbox>();
+    can_move::<PdQuery>();
+    can_move::<PdAnswer>();
+    can_move::<Look<RegionWithLeader>>();
+    can_move::<Progress<PdAnswer>>();
 }

@@ -9,10 +9,10 @@ use Rattle.txn_kv.specs.declared.message.Peer.{Peer}
 use Rattle.txn_kv.specs.declared.message.Region.{Region}
 use Rattle.txn_kv.specs.declared.region.RegionVerId.{RegionVerId}
 use Rattle.txn_kv.specs.declared.region.RegionWithLeader.{RegionWithLeader}
-use Rattle.txn_region.specs.declared.query.PdAnswer.{PdAnswer}
-use Rattle.txn_region.specs.declared.query.PdAnswer.TheVariants as answer
-use Rattle.txn_region.specs.declared.query.PdQuery.{PdQuery}
-use Rattle.txn_region.specs.declared.query.PdQuery.TheVariants as query
+use Rattle.txn_kv.specs.declared.query.PdAnswer.{PdAnswer}
+use Rattle.txn_kv.specs.declared.query.PdAnswer.TheVariants as answer
+use Rattle.txn_kv.specs.declared.query.PdQuery.{PdQuery}
+use Rattle.txn_kv.specs.declared.query.PdQuery.TheVariants as query
 use Rattle.txn_region.specs.Regions.{Key, key_cmp, added, has_ver_id, in_order, led_if, placed, region_of_id, region_of_key, region_refusal, stays, AllAfter, AreApart}
 use Rattle.txn_region.specs.Cache.{Cache, after_look_by_id, answer_refusal, asked_where, cleared, is_pending, is_spent, learnt, or_elsewhere, with_region}
 use Rattle.txn_region.specs.Calls.{Call, Made, after, after_starved, added_unless, believed, believed_of, cache_after, regions_after, unless, AreDisjoint, NoneHolds}

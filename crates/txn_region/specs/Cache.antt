@@ -11,12 +11,12 @@ use Rattle.txn_kv.specs.declared.message.StoreMeta.{StoreMeta}
 use Rattle.txn_kv.specs.declared.region.RegionVerId.{RegionVerId}
 use Rattle.txn_kv.specs.declared.region.RegionWithLeader.{RegionWithLeader}
 use Rattle.txn_region.specs.declared.known_store.KnownStore.{KnownStore}
-use Rattle.txn_region.specs.declared.look.Look.{Look}
-use Rattle.txn_region.specs.declared.look.Look.TheVariants.{Found, Query, Wait}
-use Rattle.txn_region.specs.declared.query.PdQuery.{PdQuery}
-use Rattle.txn_region.specs.declared.query.PdQuery.TheVariants as query
-use Rattle.txn_region.specs.declared.query.PdAnswer.{PdAnswer}
-use Rattle.txn_region.specs.declared.query.PdAnswer.TheVariants as answer
+use Rattle.txn_kv.specs.declared.look.Look.{Look}
+use Rattle.txn_kv.specs.declared.look.Look.TheVariants.{Found, Query, Wait}
+use Rattle.txn_kv.specs.declared.query.PdQuery.{PdQuery}
+use Rattle.txn_kv.specs.declared.query.PdQuery.TheVariants as query
+use Rattle.txn_kv.specs.declared.query.PdAnswer.{PdAnswer}
+use Rattle.txn_kv.specs.declared.query.PdAnswer.TheVariants as answer
 use Rattle.txn_region.specs.Regions.{Key, added, has_ver_id, in_order, led_if, region_of_id, region_of_key, region_refusal}
 use Rattle.txn_region.specs.Stores.{known_as, store_of_id, valid_stores, with_stores}
 

@@ -6,10 +6,10 @@ use Rattle.txn_kv.specs.declared.errors.Error.{Error}
 use Rattle.txn_kv.specs.declared.message.Peer.{Peer}
 use Rattle.txn_kv.specs.declared.region.RegionVerId.{RegionVerId}
 use Rattle.txn_kv.specs.declared.region.RegionWithLeader.{RegionWithLeader}
-use Rattle.txn_region.specs.declared.query.PdQuery.{PdQuery}
-use Rattle.txn_region.specs.declared.query.PdQuery.TheVariants as query
-use Rattle.txn_region.specs.declared.query.PdAnswer.{PdAnswer}
-use Rattle.txn_region.specs.declared.query.PdAnswer.TheVariants as answer
+use Rattle.txn_kv.specs.declared.query.PdQuery.{PdQuery}
+use Rattle.txn_kv.specs.declared.query.PdQuery.TheVariants as query
+use Rattle.txn_kv.specs.declared.query.PdAnswer.{PdAnswer}
+use Rattle.txn_kv.specs.declared.query.PdAnswer.TheVariants as answer
 use Rattle.txn_region.specs.Regions.{Key, added, has_ver_id, led_if, region_refusal}
 use Rattle.txn_region.specs.Cache.{Cache, empty, after_look_by_id, answer_refusal, cleared, is_spent, learnt, with_leader, with_region, without_region}
 

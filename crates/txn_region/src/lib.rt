@@ -3,8 +3,6 @@
 
 pub mod known_store;
 mod law;
-pub mod look;
-pub mod query;
 pub mod region_cache;
 pub mod send;
 mod sorted;
@@ -14,7 +12,6 @@ mod tests;
 
 pub use known_store::KnownStore;
 pub use law::{after_any_calls, meeting_regions};
-pub use look::Look;
-pub use query::{PdAnswer, PdQuery};
 pub use region_cache::RegionCache;
 pub use stores::is_valid_tikv_store;
+pub use txn_kv::{Look, PdAnswer, PdQuery};

@@ -2,21 +2,19 @@ ghost use Rattle.std.specs.Prelude.{◌≡◌, ◌++◌, ◌∷◌, [], true, fa
 ghost use Rattle.std.specs.List.{filter, list_any};
 ghost use Rattle.txn_kv.specs.Region.{contains_key};
 ghost use Rattle.txn_kv.specs.declared.errors.Error.TheVariants.{OutOfMemory};
-ghost use Rattle.txn_region.specs.declared.query.PdQuery.TheVariants as query;
+ghost use Rattle.txn_kv.specs.declared.query.PdQuery.TheVariants as query;
 ghost use Rattle.txn_region.specs.Regions.{region_refusal, AreApart, HaveEpochs, IsSoundAt, IsSoundOf};
 ghost use Rattle.txn_region.specs.Stores.{valid_stores};
 ghost use Rattle.txn_region.specs.Calls.{AreDisjoint};
 ghost use Rattle.txn_region.specs.Cache.{after_look_by_id, answer_refusal, cleared, empty, is_pending, is_spent, learnt, look_at_store, look_by_id, look_by_key, or_elsewhere, with_known, with_leader, with_region, without_region, IsGivenUp, IsLearnt, IsRefusal, IsRegionRefusal, IsSoundLook};
 
 use crate::known_store::KnownStore;
-use crate::look::Look;
-use crate::query::{PdAnswer, PdQuery};
 use crate::{sorted, stores};
 use std::alloc::Global;
 use std::marker::Model;
 use txn_kv::{
-    Error, Internal, Key, NoMemory, Peer, Region, RegionId, RegionVerId, RegionWithLeader, Result,
-    StoreId, StoreMeta, TryClone,
+    Error, Internal, Key, Look, NoMemory, PdAnswer, PdQuery, Peer, Region, RegionId, RegionVerId,
+    RegionWithLeader, Result, StoreId, StoreMeta, TryClone,
 };
 
 /// How often a call waits for another's look-up of the same region.

@@ -1,4 +1,8 @@
-use txn_kv::{Key, RegionId, RegionWithLeader, StoreId, StoreMeta, Timestamp};
+use crate::key::Key;
+use crate::message::StoreMeta;
+use crate::region::{RegionId, RegionWithLeader};
+use crate::ticket::StoreId;
+use crate::timestamp::Timestamp;
 
 /// What the placement driver is asked. The key is encoded.
 #[derive(Debug, PartialEq, Eq, Drop)]
