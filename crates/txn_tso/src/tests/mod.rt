@@ -1,2 +1,1 @@
 mod oracle;
-mod placement;
