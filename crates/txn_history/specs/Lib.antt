@@ -8,3 +8,4 @@ pub mod Turn
 pub mod Moves
 pub mod Spends
 pub mod Parts
+pub mod Later

@@ -58,6 +58,24 @@ impl PdCall {
         }
     }
 
+    /// What it asks.
+    pub fn query(&self) -> &PdQuery
+        ensures { result.now ≡ self.now.query }
+    {
+        &self.query
+    }
+
+    /// The same call, which waits for the same.
+    pub fn try_clone(&self) -> std::result::Result<PdCall, NoMemory>
+        ensures { IfOk result (λ call. call ≡ self.now) }
+    {
+        Ok(PdCall {
+            query: copy_query(&self.query)?,
+            failed: self.failed,
+            stage: self.stage,
+        })
+    }
+
     /// The request of the query, if it has one: a timestamp is asked of the oracle.
     fn request(&self, cluster: Cluster) -> std::result::Result<Option<Request>, NoMemory>
         ensures { IfOk result (λ request. request ≡ request_of self.now.query) }
@@ -235,6 +253,19 @@ impl PdCall {
         self.stage = Stage::Resting { number, failed };
         Ok(Progress::Waiting)
     }
+}
+
+fn copy_query(query: &PdQuery) -> std::result::Result<PdQuery, NoMemory>
+    ensures { IfOk result (λ copy. copy ≡ query.now) }
+{
+    Ok(match query {
+        PdQuery::Region(key) => PdQuery::Region(key.try_clone()?),
+        PdQuery::RegionId(id) => PdQuery::RegionId(*id),
+        PdQuery::Store(id) => PdQuery::Store(*id),
+        PdQuery::Stores => PdQuery::Stores,
+        PdQuery::Time => PdQuery::Time,
+        PdQuery::Safepoint(safe_point) => PdQuery::Safepoint(*safe_point),
+    })
 }
 
 fn wrong_reply() -> Error
