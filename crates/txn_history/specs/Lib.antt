@@ -9,3 +9,4 @@ pub mod Moves
 pub mod Spends
 pub mod Parts
 pub mod Later
+pub mod Heeds
