@@ -1,7 +1,7 @@
 -- What a call makes of each event is allowed, and leads to where the call can have arisen.
-use Rattle.std.proofs.Common.{◌≡◌, ◌≢◌, ◌⊎◌, inl, inr, ℕ, ◌+◌, ◌<◌, ◌≤◌, Bool, true, false, List, [], ◌∷◌, Option, Some, None, refl, sym, ap, subst, ◌∙◌, arith}
+use Rattle.std.proofs.Common.{◌≡◌, inl, inr, ℕ, ◌<◌, ◌≤◌, Bool, true, false, List, ◌∷◌, Some, None, refl, sym, ap, subst, ◌∙◌, arith}
 use Rattle.std.proofs.Math.Nat.{le_refl}
-use Rattle.std.proofs.lemmas.Bool.{eqb-true, MatchBool-at_false, MatchBool-at_true}
+use Rattle.std.proofs.lemmas.Bool.{eqb-true}
 use Rattle.std.specs.Bool.{MatchBool}
 use Rattle.std.specs.Prelude.{if◌then◌else◌, nat_eq, Result, Ok, Err}
 use Rattle.std.specs.Result.{result_ok}
@@ -10,18 +10,17 @@ use Rattle.txn_kv.specs.declared.errors.Error.TheVariants.{GrpcAPI, InternalErro
 use Rattle.txn_kv.specs.declared.errors.Internal.TheVariants.{WrongReply}
 use Rattle.txn_kv.specs.declared.query.PdAnswer.TheVariants as answer
 use Rattle.txn_kv.specs.declared.query.PdQuery.{PdQuery}
-use Rattle.txn_kv.specs.declared.query.PdQuery.TheVariants.{Region, RegionId, Store, Stores, Time, Safepoint}
 use Rattle.txn_kv.specs.declared.reply.Reply.{Reply}
 use Rattle.txn_kv.specs.declared.request.Request.{Request}
 use Rattle.txn_kv.specs.declared.timestamp.Timestamp.{Timestamp}
-use Rattle.txn_history.specs.Event.{Event, Has}
-use Rattle.txn_history.specs.Event.Event.{Sent, Took, Lost, Slept, Answered}
+use Rattle.txn_history.specs.Event.{Event}
+use Rattle.txn_history.specs.Event.Event.{Took, Lost, Slept, Answered}
 use Rattle.txn_history.specs.Later.{IsLater-refl}
-use Rattle.txn_history.specs.Posted.{Posted, Within, Within-one, Within-refl, ticket_of}
-use Rattle.txn_tso.specs.Calling.{members, next_try, CallFits, Gives, HaveFailed, HaveLostMembers, IsAt, IsFailure, MayBe}
+use Rattle.txn_history.specs.Posted.{Posted, Within-one, Within-refl, ticket_of}
+use Rattle.txn_tso.specs.Calling.{members, next_try, CallFits, HaveFailed, HaveLostMembers, IsAt, MayBe}
 use Rattle.txn_tso.specs.Longer.{failed_longer, lost_longer}
-use Rattle.txn_tso.specs.Placement.{not_found, request_of, HasNoRegion}
-use Rattle.txn_tso.specs.Steps.{connected, ends, failing_try, losing_members, on_answer, on_loss, on_start, on_timestamp, on_waking, reconnected, standing, tried, unconnected, waits, IsMembersReply, IsOnReply, IsQueryReply, Stood}
+use Rattle.txn_tso.specs.Placement.{not_found, request_of}
+use Rattle.txn_tso.specs.Steps.{failing_try, losing_members, on_answer, on_loss, on_start, on_timestamp, on_waking, reconnected, standing, unconnected, waits, IsMembersReply, IsOnReply, IsQueryReply, Stood}
 use Rattle.txn_tso.specs.declared.pd_call.PdCall.{PdCall}
 use Rattle.txn_tso.specs.declared.retry_client.RetryClient.{RetryClient}
 use Rattle.txn_tso.specs.declared.stage.Stage.{Stage}
@@ -76,13 +75,13 @@ members_lost s o n lost r e i h f = let a = fits_at s (stage.Reconnecting n lost
 loss_if_sent : (b : Bool) (s : PdCall) (c : RetryClient) (o : Posted) (k n now : ℕ) (r : Request) → nat_eq k n ≡ b → s.stage ≡ stage.Sent k → MayBe s.query (stage.Sent k) n r
     → Safe s o (λ h. Lost (ticket_of o n) r ∷ h) (if b then failing_try (GrpcAPI (ticket_of o n)) now (standing s c o) else waits (standing s c o))
 loss_if_sent true s c o k n now r t e m = let same = eqb-true k n t in
-  failing_try_safe s c o (λ h. Lost (ticket_of o n) r ∷ h) now (GrpcAPI (ticket_of o n)) (query_lost s o n r (e ∙ ap (λ x. stage.Sent x) same) (m (sym same)))
+    failing_try_safe s c o (λ h. Lost (ticket_of o n) r ∷ h) now (GrpcAPI (ticket_of o n)) (query_lost s o n r (e ∙ ap (λ x. stage.Sent x) same) (m (sym same)))
 loss_if_sent false s c o k n now r t e m = quiet_one s c o (Lost (ticket_of o n) r)
 
 loss_if_reconnecting : (b : Bool) (s : PdCall) (c : RetryClient) (o : Posted) (k lost n now : ℕ) (r : Request) → nat_eq k n ≡ b → s.stage ≡ stage.Reconnecting k lost → MayBe s.query (stage.Reconnecting k lost) n r
     → Safe s o (λ h. Lost (ticket_of o n) r ∷ h) (if b then losing_members (GrpcAPI (ticket_of o n)) lost (unconnected (standing s c o)) else waits (standing s c o))
 loss_if_reconnecting true s c o k lost n now r t e m = let same = eqb-true k n t in
-  losing_members_safe s (record c { connecting = false }) o (λ h. Lost (ticket_of o n) r ∷ h) lost (GrpcAPI (ticket_of o n)) (members_lost s o n lost r (e ∙ ap (λ x. stage.Reconnecting x lost) same) (m (sym same)))
+    losing_members_safe s (record c { connecting = false }) o (λ h. Lost (ticket_of o n) r ∷ h) lost (GrpcAPI (ticket_of o n)) (members_lost s o n lost r (e ∙ ap (λ x. stage.Reconnecting x lost) same) (m (sym same)))
 loss_if_reconnecting false s c o k lost n now r t e m = quiet_one s c o (Lost (ticket_of o n) r)
 
 pub loss_safe : (s : PdCall) (c : RetryClient) (o : Posted) (n now : ℕ) (r : Request) (g : Stage) → s.stage ≡ g → MayBe s.query g n r
@@ -121,7 +120,7 @@ waking_safe s c o n now stage.Stopped e = quiet_one s c o (Slept (ticket_of o n)
 timestamp_safe : (told : Result Timestamp Error) (s : PdCall) (c : RetryClient) (o : Posted) (n now : ℕ) → s.stage ≡ stage.Asked n
     → Safe s o (λ h. Answered (ticket_of o n) (result_ok told) ∷ h) (on_timestamp told now (standing s c o))
 timestamp_safe (Ok t) s c o n now e = ends_safe s c o (λ h. Answered (ticket_of o n) (Some t) ∷ h) (Ok (answer.Time t)) (λ h f. let a = fits_at s (stage.Asked n) o h e f in
-  inr (n, t, a.0, inl refl, refl))
+    inr (n, t, a.0, inl refl, refl))
 timestamp_safe (Err why) s c o n now e = failing_try_safe s c o (λ h. Answered (ticket_of o n) None ∷ h) now why (λ h f. let a = fits_at s (stage.Asked n) o h e f in (
   n,
   (let t = ap (λ q. next_try q o) a.0 in let below : n < o.next_ask = a.2 in omega arith),
@@ -148,25 +147,25 @@ answer_safe s c o n now told stage.Stopped e = quiet_one s c o (Answered (ticket
 query_reply_safe : (s : PdCall) (c : RetryClient) (o : Posted) (n now : ℕ) (r : Request) (x : Reply) (st : Stood) → s.stage ≡ stage.Sent n → request_of s.query ≡ Some r
     → IsQueryReply x now (standing s c o) st → Safe s o (λ h. Took (ticket_of o n) r x ∷ h) st
 query_reply_safe s c o n now r x st e i (inl m) = subst (Safe s o (λ h. Took (ticket_of o n) r x ∷ h)) (sym m.2)
-  (ends_safe s c o (λ h. Took (ticket_of o n) r x ∷ h) (Ok m.0) (λ h f. inl (n, r, x, i, inl refl, m.1)))
+    (ends_safe s c o (λ h. Took (ticket_of o n) r x ∷ h) (Ok m.0) (λ h f. inl (n, r, x, i, inl refl, m.1)))
 query_reply_safe s c o n now r x st e i (inr (inl m)) = subst (Safe s o (λ h. Took (ticket_of o n) r x ∷ h)) (sym m.1)
-  (failing_try_safe s c o (λ h. Took (ticket_of o n) r x ∷ h) now (not_found s.query) (λ h f. let a = fits_at s (stage.Sent n) o h e f in (
-    n,
-    (let t = try_of_request s.query r o i in let below : n < o.next = a.3 in omega arith),
-    inr (inl (r, x, i, inl refl, m.0, refl)),
-    failed_still s.query o (Took (ticket_of o n) r x) h s.failed n a.4,
-  )))
+    (failing_try_safe s c o (λ h. Took (ticket_of o n) r x ∷ h) now (not_found s.query) (λ h f. let a = fits_at s (stage.Sent n) o h e f in (
+      n,
+      (let t = try_of_request s.query r o i in let below : n < o.next = a.3 in omega arith),
+      inr (inl (r, x, i, inl refl, m.0, refl)),
+      failed_still s.query o (Took (ticket_of o n) r x) h s.failed n a.4,
+    )))
 query_reply_safe s c o n now r x st e i (inr (inr m)) = subst (Safe s o (λ h. Took (ticket_of o n) r x ∷ h)) (sym m.1)
-  (ends_safe s c o (λ h. Took (ticket_of o n) r x ∷ h) (Err (InternalError WrongReply)) (λ h f. inr (inr (n, r, x, inl refl, inl (i, m.0), refl))))
+    (ends_safe s c o (λ h. Took (ticket_of o n) r x ∷ h) (Err (InternalError WrongReply)) (λ h f. inr (inr (n, r, x, inl refl, inl (i, m.0), refl))))
 
 -- the reply to the request for the members came
 members_reply_safe : (s : PdCall) (c : RetryClient) (o : Posted) (n lost now : ℕ) (r : Request) (x : Reply) (st : Stood) → s.stage ≡ stage.Reconnecting n lost → r ≡ members
     → IsMembersReply x now (standing s c o) st → Safe s o (λ h. Took (ticket_of o n) r x ∷ h) st
 members_reply_safe s c o n lost now r x st e i (inl m) = subst (Safe s o (λ h. Took (ticket_of o n) r x ∷ h)) (sym m.2)
-  (tried_safe s s.failed (record c { last_connected = now; connecting = false }) o (λ h. Took (ticket_of o n) r x ∷ h) (λ h f. let a = fits_at s (stage.Reconnecting n lost) o h e f in
+    (tried_safe s s.failed (record c { last_connected = now; connecting = false }) o (λ h. Took (ticket_of o n) r x ∷ h) (λ h f. let a = fits_at s (stage.Reconnecting n lost) o h e f in
     (f.few, failed_still s.query o (Took (ticket_of o n) r x) h s.failed (next_try s.query o) a.4)))
 members_reply_safe s c o n lost now r x st e i (inr m) = subst (Safe s o (λ h. Took (ticket_of o n) r x ∷ h)) (sym m.1)
-  (ends_safe s (record c { connecting = false }) o (λ h. Took (ticket_of o n) r x ∷ h) (Err (InternalError WrongReply)) (λ h f. inr (inr (n, r, x, inl refl, inr (i, m.0), refl))))
+    (ends_safe s (record c { connecting = false }) o (λ h. Took (ticket_of o n) r x ∷ h) (Err (InternalError WrongReply)) (λ h f. inr (inr (n, r, x, inl refl, inr (i, m.0), refl))))
 
 reply_if_sent : (b : Bool) (s : PdCall) (c : RetryClient) (o : Posted) (k n now : ℕ) (r : Request) (x : Reply) (st : Stood) → nat_eq k n ≡ b → s.stage ≡ stage.Sent k → MayBe s.query (stage.Sent k) n r
     → MatchBool b (IsQueryReply x now (standing s c o) st) (st ≡ waits (standing s c o)) → Safe s o (λ h. Took (ticket_of o n) r x ∷ h) st

@@ -15,7 +15,7 @@ use Rattle.txn_history.specs.Turn.{Turn}
 use Rattle.txn_history.specs.Turn.Turn.{Stopped, Waits, Ends}
 use Rattle.txn_tso.specs.Heeding.{hears_answer, hears_reply, hears_start, hears_waking, IsOut}
 use Rattle.txn_tso.specs.Placement.{may_connect, not_found, request_of}
-use Rattle.txn_tso.specs.Steps.{connected, connecting, ends, failing_try, losing_members, on_answer, on_loss, on_start, on_timestamp, on_waking, one_more_failed, over, reconnected, resting, tried, tried_with, unconnected, waits, IsMembersReply, IsOnReply, IsQueryReply, Standing, Stood}
+use Rattle.txn_tso.specs.Steps.{connected, connecting, failing_try, losing_members, on_answer, on_loss, on_start, on_timestamp, on_waking, one_more_failed, over, reconnected, resting, tried, tried_with, unconnected, waits, IsMembersReply, IsOnReply, IsQueryReply, Standing, Stood}
 use Rattle.txn_tso.specs.declared.stage.Stage.{Stage}
 use Rattle.txn_tso.specs.declared.stage.Stage.TheVariants as stage
 

@@ -1,9 +1,9 @@
 -- What each step of a call posts may be posted, and where the call then stands has arisen from it.
-use Rattle.std.proofs.Common.{◌≡◌, ◌≢◌, ◌⊎◌, inl, inr, ℕ, ◌+◌, ◌<◌, ◌≤◌, Bool, true, false, List, [], ◌∷◌, Option, Some, None, refl, sym, ap, subst, ◌∙◌, arith}
+use Rattle.std.proofs.Common.{◌≡◌, inl, inr, ℕ, ◌+◌, ◌<◌, Bool, true, false, List, ◌∷◌, Option, Some, None, refl, sym, ap, subst, arith}
 use Rattle.std.proofs.Math.Numerals.{add-one}
 use Rattle.std.proofs.Math.Nat.{le_refl}
-use Rattle.std.proofs.lemmas.Bool.{eqb-true, ltb-true, ltb-false}
-use Rattle.std.specs.Prelude.{zero, suc, if◌then◌else◌, nat_eq, nat_lt, Result, Ok, Err}
+use Rattle.std.proofs.lemmas.Bool.{ltb-true, ltb-false}
+use Rattle.std.specs.Prelude.{if◌then◌else◌, nat_lt, Result, Err}
 use Rattle.txn_kv.specs.declared.errors.Error.{Error}
 use Rattle.txn_kv.specs.declared.errors.Error.TheVariants.{GrpcAPI}
 use Rattle.txn_kv.specs.declared.query.PdAnswer.{PdAnswer}
@@ -16,15 +16,13 @@ use Rattle.txn_history.specs.Event.Event.{Sent, Began, Asked, Lost}
 use Rattle.txn_history.specs.Later.{IsLater, IsLater-refl}
 use Rattle.txn_history.specs.Moves.{Moves, Moves-asked, Moves-quiet, Moves-sent, Moves-slept}
 use Rattle.txn_history.specs.Posted.{Posted, Within, Within-one, ticket_of}
-use Rattle.txn_history.specs.Turn.Turn.{Stopped, Waits, Ends}
-use Rattle.txn_tso.specs.Calling.{members, next_try, CallFits, Gives, HaveFailed, HaveLostMembers, IsAt, IsFailure, MayAsk}
+use Rattle.txn_history.specs.Turn.Turn.{Waits, Ends}
+use Rattle.txn_tso.specs.Calling.{members, next_try, CallFits, Gives, HaveFailed, HaveLostMembers, IsFailure, MayAsk}
 use Rattle.txn_tso.specs.Longer.{failed_longer, fits_longer, lost_longer, try_later}
 use Rattle.txn_tso.specs.Placement.{may_connect, request_of}
-use Rattle.txn_tso.specs.Steps.{connecting, ends, failing_try, losing_members, one_more_failed, over, reconnected, resting, standing, tried, tried_with, waits, with_ask, with_request, with_sleep, Standing, Stood}
+use Rattle.txn_tso.specs.Steps.{connecting, ends, failing_try, losing_members, one_more_failed, over, reconnected, resting, standing, tried, tried_with, waits, with_ask, with_request, with_sleep, Stood}
 use Rattle.txn_tso.specs.declared.pd_call.PdCall.{PdCall}
 use Rattle.txn_tso.specs.declared.retry_client.RetryClient.{RetryClient}
-use Rattle.txn_tso.specs.declared.stage.Stage.{Stage}
-use Rattle.txn_tso.specs.declared.stage.Stage.TheVariants as stage
 
 -- the call that stood here may post what is posted there, and what is known there has arisen from what was heard
 abbrev pub Safe : PdCall → Posted → (List Event → List Event) → Stood → Type 0
@@ -143,9 +141,9 @@ failing_if true s c o hear now why e p = reconnected_safe s (s.failed + 1) c o h
   (omega arith, tt),
 ))
 failing_if false s c o hear now why e p = ends_safe s c o hear (Err why) (λ h f. let k = p h f in
-  let high = ltb-false (s.failed + 1) 10 e in
-  let nine : s.failed ≡ 9 = omega (arith, f.few, high) in
-  inl (k.0, k.2, subst (λ (n : ℕ). HaveFailed s.query o n k.0 (hear h)) nine k.3))
+    let high = ltb-false (s.failed + 1) 10 e in
+    let nine : s.failed ≡ 9 = omega (arith, f.few, high) in
+    inl (k.0, k.2, subst (λ (n : ℕ). HaveFailed s.query o n k.0 (hear h)) nine k.3))
 
 pub failing_try_safe : (s : PdCall) (c : RetryClient) (o : Posted) (hear : List Event → List Event) (now : ℕ) (why : Error)
     → Knowing s o hear (HasFailed s o why) → Safe s o hear (failing_try why now (standing s c o))
@@ -164,10 +162,10 @@ losing_if true s c o hear lost why e p = resting_safe s c o hear (lost + 1) (ome
   (ltb-true (lost + 1) 5 e, subst (λ (n : ℕ). HaveLostMembers o n o.next (hear h)) (sym (add-one lost)) (k.0, k.1, k.3, k.5)),
 ))
 losing_if false s c o hear lost why e p = ends_safe s c o hear (Err why) (λ h f. let k = p h f in
-  let high = ltb-false (lost + 1) 5 e in
-  let below : lost < 5 = k.2 in
-  let four : lost ≡ 4 = omega (arith, below, high) in
-  inr (inl (k.0, k.3, k.4, subst (λ (n : ℕ). HaveLostMembers o n k.0 (hear h)) four k.5)))
+    let high = ltb-false (lost + 1) 5 e in
+    let below : lost < 5 = k.2 in
+    let four : lost ≡ 4 = omega (arith, below, high) in
+    inr (inl (k.0, k.3, k.4, subst (λ (n : ℕ). HaveLostMembers o n k.0 (hear h)) four k.5)))
 
 pub losing_members_safe : (s : PdCall) (c : RetryClient) (o : Posted) (hear : List Event → List Event) (lost : ℕ) (why : Error)
     → Knowing s o hear (HasLostMembers s o lost why) → Safe s o hear (losing_members why lost (standing s c o))

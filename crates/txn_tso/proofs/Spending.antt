@@ -1,5 +1,5 @@
 -- How many asks each step of a call makes, and how many it leaves.
-use Rattle.std.proofs.Common.{◌≡◌, inl, inr, sym, subst, ℕ, ◌+◌, ◌≤◌, Bool, true, false, ◌∷◌, [], ◌++◌, Option, Some, None, refl, ap, ◌∙◌, arith}
+use Rattle.std.proofs.Common.{◌≡◌, inl, inr, sym, subst, ℕ, ◌+◌, ◌≤◌, Bool, true, false, Option, Some, None, refl, ap, ◌∙◌, arith}
 use Rattle.std.proofs.lemmas.Bool.{false≢true}
 use Rattle.std.specs.Bool.{MatchBool}
 use Rattle.std.specs.Prelude.{if◌then◌else◌, is_err, nat_eq, nat_lt, Result, Ok, Err}
@@ -17,8 +17,8 @@ use Rattle.txn_kv.specs.declared.ticket.Target.TheVariants.{Placement}
 use Rattle.txn_kv.specs.declared.timestamp.Timestamp.{Timestamp}
 use Rattle.txn_history.specs.Posted.{Posted, ticket_of}
 use Rattle.txn_history.specs.Spends.{Spends, calls, sleeps, spare}
-use Rattle.txn_history.specs.Turn.Turn.{Stopped, Waits, Ends}
-use Rattle.txn_history.proofs.Counting.{calls-more, sleeps-more, spare-le, Spends-quiet}
+use Rattle.txn_history.specs.Turn.Turn.{Waits, Ends}
+use Rattle.txn_history.proofs.Counting.{calls-more, sleeps-more, spare-le}
 use Rattle.txn_tso.specs.Calling.{members}
 use Rattle.txn_tso.specs.Counting.{asks_of, call_bears, call_left, call_round, is_loss, left_at, CallSpends}
 use Rattle.txn_tso.specs.Placement.{may_connect, not_found, request_of, HasNoRegion}

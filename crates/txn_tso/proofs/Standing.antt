@@ -1,13 +1,12 @@
 -- From how an event is told step by step to what is said of it: over histories, in numbers, and of what the call waits for.
-use Rattle.std.proofs.Common.{◌≡◌, ◌≢◌, inl, inr, ℕ, Bool, true, false, List, refl, sym, ap, subst, ◌∙◌, arith}
+use Rattle.std.proofs.Common.{◌≡◌, ◌≢◌, inl, inr, Bool, true, false, List, refl, sym, ap, subst, ◌∙◌, arith}
 use Rattle.std.proofs.lemmas.Bool.{cases_Bool}
-use Rattle.std.specs.Prelude.{Result, Ok, Err}
+use Rattle.std.specs.Prelude.{Result}
 use Rattle.txn_kv.specs.declared.errors.Error.{Error}
 use Rattle.txn_kv.specs.declared.query.PdAnswer.{PdAnswer}
 use Rattle.txn_kv.specs.declared.query.PdQuery.{PdQuery}
 use Rattle.txn_history.proofs.Counting.{Spends-failed}
 use Rattle.txn_history.specs.Event.{Event}
-use Rattle.txn_history.specs.Heeds.{Heeds}
 use Rattle.txn_history.specs.Moves.{Moves, Moves-stopped}
 use Rattle.txn_history.specs.Posted.{Posted}
 use Rattle.txn_history.specs.Spends.{calls, sleeps}
@@ -16,7 +15,7 @@ use Rattle.txn_history.specs.Turn.Turn.{Stopped, Waits, Ends}
 use Rattle.txn_tso.specs.Calling.{CallFits, Gives, MayAsk}
 use Rattle.txn_tso.specs.Counting.{CallSpends}
 use Rattle.txn_tso.specs.Heeding.{CallHeeds, IsOut}
-use Rattle.txn_tso.specs.Steps.{standing, Standing, Stands, Stood}
+use Rattle.txn_tso.specs.Steps.{Standing, Stands, Stood}
 use Rattle.txn_tso.specs.declared.pd_call.PdCall.{PdCall}
 use Rattle.txn_tso.specs.declared.stage.Stage.TheVariants as stage
 use Rattle.txn_tso.proofs.Heeding.{IsHeard, IsHeardBy}
@@ -75,7 +74,7 @@ pub stood_heeds : (hears : Bool) (x : Standing) (st : Stood) (turn : Turn (Resul
 stood_heeds hears x st turn y kept once heard quiet d = record {
   once = once;
   over = elim (cases_Bool hears) [
-    inl e ↦ heard_ends x.call.query x.out st turn y d (heard e)
+    | inl e ↦ heard_ends x.call.query x.out st turn y d (heard e)
     | inr e ↦ unheard_ends (y.call.stage ≡ stage.Over) turn (quiet e).0
   ];
   unheard = λ e n. quiet e;
