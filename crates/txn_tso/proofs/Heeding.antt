@@ -1,12 +1,11 @@
--- What a call that heard an event then waits for, and that its query stays.
-use Rattle.std.proofs.Common.{◌≡◌, inl, inr, ℕ, ◌+◌, Bool, true, false, Option, Some, None, refl, sym, ap, subst, ◌∙◌}
+-- What a call that heard an event then waits for.
+use Rattle.std.proofs.Common.{◌≡◌, inl, inr, ℕ, ◌+◌, Bool, true, false, Option, Some, None, refl, sym, subst}
 use Rattle.std.proofs.lemmas.Bool.{false≢true}
 use Rattle.std.specs.Bool.{MatchBool}
 use Rattle.std.specs.Prelude.{if◌then◌else◌, nat_eq, nat_lt, Result, Ok, Err}
 use Rattle.txn_kv.specs.declared.errors.Error.{Error}
 use Rattle.txn_kv.specs.declared.errors.Error.TheVariants.{GrpcAPI}
 use Rattle.txn_kv.specs.declared.query.PdAnswer.{PdAnswer}
-use Rattle.txn_kv.specs.declared.query.PdQuery.{PdQuery}
 use Rattle.txn_kv.specs.declared.reply.Reply.{Reply}
 use Rattle.txn_kv.specs.declared.request.Request.{Request}
 use Rattle.txn_kv.specs.declared.timestamp.Timestamp.{Timestamp}
@@ -126,96 +125,3 @@ reply_heard (stage.Reconnecting k lost) n r now x st e i = match_heard (nat_eq k
 reply_heard (stage.Resting k lost) n r now x st e i = absurd (false≢true e)
 reply_heard stage.Over n r now x st e i = absurd (false≢true e)
 reply_heard stage.Stopped n r now x st e i = absurd (false≢true e)
-
--- the query stays
-
-tried_with_query : (r : Option Request) (x : Standing) → (tried_with r x).call.query ≡ x.call.query
-tried_with_query (Some r) x = refl
-tried_with_query None x = refl
-
-reconnected_if_query : (b : Bool) (lost : ℕ) (x : Standing) → (if b then connecting lost x else tried x).call.query ≡ x.call.query
-reconnected_if_query true lost x = refl
-reconnected_if_query false lost x = tried_with_query (request_of x.call.query) x
-
-abbrev pub query_of : Stood → PdQuery
-query_of st = st.at.call.query
-
-failing_if_query : (b : Bool) (why : Error) (now : ℕ) (x : Standing)
-    → query_of (if b then record { turn = Waits; at = reconnected 0 now (one_more_failed x) } else record { turn = Ends (Err why); at = over x }) ≡ x.call.query
-failing_if_query true why now x = reconnected_if_query (may_connect x.client now) 0 (one_more_failed x)
-failing_if_query false why now x = refl
-
-failing_try_query : (why : Error) (now : ℕ) (x : Standing) → (failing_try why now x).at.call.query ≡ x.call.query
-failing_try_query why now x = failing_if_query (nat_lt (x.call.failed + 1) 10) why now x
-
-losing_if_query : (b : Bool) (why : Error) (lost : ℕ) (x : Standing)
-    → query_of (if b then record { turn = Waits; at = resting (lost + 1) x } else record { turn = Ends (Err why); at = over x }) ≡ x.call.query
-losing_if_query true why lost x = refl
-losing_if_query false why lost x = refl
-
-if_query : (b : Bool) (st : Stood) (x : Standing) → st.at.call.query ≡ x.call.query → query_of (if b then st else waits x) ≡ x.call.query
-if_query true st x e = e
-if_query false st x e = refl
-
-pub start_query : (g : Stage) (x : Standing) → (on_start g x).at.call.query ≡ x.call.query
-start_query stage.Fresh x = tried_with_query (request_of x.call.query) x
-start_query (stage.Sent n) x = refl
-start_query (stage.Asked n) x = refl
-start_query (stage.Reconnecting n lost) x = refl
-start_query (stage.Resting n lost) x = refl
-start_query stage.Over x = refl
-start_query stage.Stopped x = refl
-
-pub loss_query : (g : Stage) (n now : ℕ) (x : Standing) → (on_loss g n now x).at.call.query ≡ x.call.query
-loss_query stage.Fresh n now x = refl
-loss_query (stage.Sent k) n now x = if_query (nat_eq k n) (failing_try (GrpcAPI (ticket_of x.out n)) now x) x (failing_try_query (GrpcAPI (ticket_of x.out n)) now x)
-loss_query (stage.Asked k) n now x = refl
-loss_query (stage.Reconnecting k lost) n now x =
-    if_query (nat_eq k n) (losing_members (GrpcAPI (ticket_of x.out n)) lost (unconnected x)) x (losing_if_query (nat_lt (lost + 1) 5) (GrpcAPI (ticket_of x.out n)) lost (unconnected x))
-loss_query (stage.Resting k lost) n now x = refl
-loss_query stage.Over n now x = refl
-loss_query stage.Stopped n now x = refl
-
-pub waking_query : (g : Stage) (n now : ℕ) (x : Standing) → (on_waking g n now x).at.call.query ≡ x.call.query
-waking_query stage.Fresh n now x = refl
-waking_query (stage.Sent k) n now x = refl
-waking_query (stage.Asked k) n now x = refl
-waking_query (stage.Reconnecting k lost) n now x = refl
-waking_query (stage.Resting k lost) n now x = if_query (nat_eq k n) (waits (reconnected lost now x)) x (reconnected_if_query (may_connect x.client now) lost x)
-waking_query stage.Over n now x = refl
-waking_query stage.Stopped n now x = refl
-
-timestamp_query : (told : Result Timestamp Error) (now : ℕ) (x : Standing) → (on_timestamp told now x).at.call.query ≡ x.call.query
-timestamp_query (Ok t) now x = refl
-timestamp_query (Err why) now x = failing_try_query why now x
-
-pub answer_query : (g : Stage) (n : ℕ) (told : Result Timestamp Error) (now : ℕ) (x : Standing) → (on_answer g n told now x).at.call.query ≡ x.call.query
-answer_query stage.Fresh n told now x = refl
-answer_query (stage.Sent k) n told now x = refl
-answer_query (stage.Asked k) n told now x = if_query (nat_eq k n) (on_timestamp told now x) x (timestamp_query told now x)
-answer_query (stage.Reconnecting k lost) n told now x = refl
-answer_query (stage.Resting k lost) n told now x = refl
-answer_query stage.Over n told now x = refl
-answer_query stage.Stopped n told now x = refl
-
-query_reply_query : (r : Reply) (now : ℕ) (x : Standing) (st : Stood) → IsQueryReply r now x st → st.at.call.query ≡ x.call.query
-query_reply_query r now x st (inl m) = ap (λ (y : Stood). y.at.call.query) m.2
-query_reply_query r now x st (inr (inl m)) = ap (λ (y : Stood). y.at.call.query) m.1 ∙ failing_try_query (not_found x.call.query) now x
-query_reply_query r now x st (inr (inr m)) = ap (λ (y : Stood). y.at.call.query) m.1
-
-members_reply_query : (r : Reply) (now : ℕ) (x : Standing) (st : Stood) → IsMembersReply r now x st → st.at.call.query ≡ x.call.query
-members_reply_query r now x st (inl m) = ap (λ (y : Stood). y.at.call.query) m.2 ∙ tried_with_query (request_of x.call.query) (connected now x)
-members_reply_query r now x st (inr m) = ap (λ (y : Stood). y.at.call.query) m.1
-
-match_query : (b : Bool) (P : Type 0) (x : Standing) (st : Stood) → (P → st.at.call.query ≡ x.call.query) → MatchBool b P (st ≡ waits x) → st.at.call.query ≡ x.call.query
-match_query true P x st h m = h m
-match_query false P x st h m = ap (λ (y : Stood). y.at.call.query) m
-
-pub reply_query : (g : Stage) (n : ℕ) (r : Reply) (now : ℕ) (x : Standing) (st : Stood) → IsOnReply g n r now x st → st.at.call.query ≡ x.call.query
-reply_query stage.Fresh n r now x st i = ap (λ (y : Stood). y.at.call.query) i
-reply_query (stage.Sent k) n r now x st i = match_query (nat_eq k n) (IsQueryReply r now x st) x st (query_reply_query r now x st) i
-reply_query (stage.Asked k) n r now x st i = ap (λ (y : Stood). y.at.call.query) i
-reply_query (stage.Reconnecting k lost) n r now x st i = match_query (nat_eq k n) (IsMembersReply r now x st) x st (members_reply_query r now x st) i
-reply_query (stage.Resting k lost) n r now x st i = ap (λ (y : Stood). y.at.call.query) i
-reply_query stage.Over n r now x st i = ap (λ (y : Stood). y.at.call.query) i
-reply_query stage.Stopped n r now x st i = ap (λ (y : Stood). y.at.call.query) i

@@ -1,5 +1,5 @@
 -- From how an event is told step by step to what is said of it: over histories, in numbers, and of what the call waits for.
-use Rattle.std.proofs.Common.{◌≡◌, ◌≢◌, inl, inr, Bool, true, false, List, refl, sym, ap, subst, ◌∙◌, arith}
+use Rattle.std.proofs.Common.{◌≡◌, ◌≢◌, inl, inr, Bool, true, false, List, refl, sym, ap, subst, arith}
 use Rattle.std.proofs.lemmas.Bool.{cases_Bool}
 use Rattle.std.specs.Prelude.{Result}
 use Rattle.txn_kv.specs.declared.errors.Error.{Error}
@@ -8,7 +8,7 @@ use Rattle.txn_kv.specs.declared.query.PdQuery.{PdQuery}
 use Rattle.txn_history.proofs.Counting.{Spends-failed}
 use Rattle.txn_history.specs.Event.{Event}
 use Rattle.txn_history.specs.Moves.{Moves, Moves-stopped}
-use Rattle.txn_history.specs.Posted.{Posted}
+use Rattle.txn_history.specs.Posted.{HasNumbers, Posted}
 use Rattle.txn_history.specs.Spends.{calls, sleeps}
 use Rattle.txn_history.specs.Turn.{IfEnds, Turn}
 use Rattle.txn_history.specs.Turn.Turn.{Stopped, Waits, Ends}
@@ -19,6 +19,7 @@ use Rattle.txn_tso.specs.Steps.{Standing, Stands, Stood}
 use Rattle.txn_tso.specs.declared.pd_call.PdCall.{PdCall}
 use Rattle.txn_tso.specs.declared.stage.Stage.TheVariants as stage
 use Rattle.txn_tso.proofs.Heeding.{IsHeard, IsHeardBy}
+use Rattle.txn_tso.proofs.Keeping.{Asks, HasMore, Then}
 use Rattle.txn_tso.proofs.Moving.{Safe}
 use Rattle.txn_tso.proofs.Spending.{Paid}
 
@@ -38,10 +39,16 @@ stood_spends s bad o st Stopped x p d = Spends-failed refl (ap calls d.2) (let s
 stood_spends s bad o st Waits x p d = came_about (λ t y. CallSpends s y.call bad o y.out t) st Waits x d.0 d.1 p
 stood_spends s bad o st (Ends v) x p d = came_about (λ t y. CallSpends s y.call bad o y.out t) st (Ends v) x d.0 d.1 p
 
-pub stood_query : (q : PdQuery) (o : Posted) (st : Stood) (turn : Turn (Result PdAnswer Error)) (x : Standing) → st.at.call.query ≡ q → Stands q o st turn x → x.call.query ≡ q
+-- what is kept stays; a call that gives up has its query and its outbox as before
+pub stood_query : (q : PdQuery) (o : Posted) (st : Stood) (turn : Turn (Result PdAnswer Error)) (x : Standing) → Then (Asks q) st → Stands q o st turn x → x.call.query ≡ q
 stood_query q o st Stopped x e d = d.1
-stood_query q o st Waits x e d = ap (λ (y : Standing). y.call.query) d.1 ∙ e
-stood_query q o st (Ends v) x e d = ap (λ (y : Standing). y.call.query) d.1 ∙ e
+stood_query q o st Waits x e d = came_about (λ t. Asks q) st Waits x d.0 d.1 e
+stood_query q o st (Ends v) x e d = came_about (λ t. Asks q) st (Ends v) x d.0 d.1 e
+
+pub stood_numbers : (q : PdQuery) (o : Posted) (st : Stood) (turn : Turn (Result PdAnswer Error)) (x : Standing) → HasNumbers o → Then HasMore st → Stands q o st turn x → HasNumbers x.out
+stood_numbers q o st Stopped x n e d = subst HasNumbers (sym d.2) n
+stood_numbers q o st Waits x n e d = came_about (λ t. HasMore) st Waits x d.0 d.1 e
+stood_numbers q o st (Ends v) x n e d = came_about (λ t. HasMore) st (Ends v) x d.0 d.1 e
 
 stopped_gone : (q : PdQuery) (o : Posted) (st : Stood) (turn : Turn (Result PdAnswer Error)) (x : Standing) → Stands q o st turn x → turn ≡ Stopped → x.call.stage ≡ stage.Stopped
 stopped_gone q o st Stopped x d e = d.0

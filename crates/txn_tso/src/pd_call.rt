@@ -85,6 +85,7 @@ impl PdCall {
         ensures moves { Moves (MayAsk self.old) (CallFits self.old out.old) (CallFits self.new out.new) (Gives self.old out.old) (λ h. h) out.old out.new (turn_of result) }
         ensures spends { CallSpends self.old self.new false out.old out.new (turn_of result) }
         ensures job { self.new.query ≡ self.old.query }
+        ensures numbers { HasNumbers out.new }
         ensures heeds { CallHeeds (hears_start self.old.stage) (standing self.old client.old out.old) (turn_of result) (standing self.new client.new out.new) }
     {
         if self.has_given_up() {
@@ -108,6 +109,7 @@ impl PdCall {
             Moves (MayAsk self.old) (CallFits self.old out.old) (CallFits self.new out.new) (Gives self.old out.old) (λ h. Took (ticket_of out.old number) r reply ∷ h) out.old out.new (turn_of result) }
         ensures spends { CallSpends self.old self.new false out.old out.new (turn_of result) }
         ensures job { self.new.query ≡ self.old.query }
+        ensures numbers { HasNumbers out.new }
         ensures heeds { CallHeeds (hears_reply self.old.stage number) (standing self.old client.old out.old) (turn_of result) (standing self.new client.new out.new) }
     {
         if self.has_given_up() {
@@ -130,6 +132,7 @@ impl PdCall {
             Moves (MayAsk self.old) (CallFits self.old out.old) (CallFits self.new out.new) (Gives self.old out.old) (λ h. Lost (ticket_of out.old number) r ∷ h) out.old out.new (turn_of result) }
         ensures spends { CallSpends self.old self.new true out.old out.new (turn_of result) }
         ensures job { self.new.query ≡ self.old.query }
+        ensures numbers { HasNumbers out.new }
         ensures heeds { CallHeeds (hears_reply self.old.stage number) (standing self.old client.old out.old) (turn_of result) (standing self.new client.new out.new) }
     {
         if self.has_given_up() {
@@ -151,6 +154,7 @@ impl PdCall {
         ensures moves { Moves (MayAsk self.old) (CallFits self.old out.old) (CallFits self.new out.new) (Gives self.old out.old) (λ h. Slept (ticket_of out.old number) ∷ h) out.old out.new (turn_of result) }
         ensures spends { CallSpends self.old self.new false out.old out.new (turn_of result) }
         ensures job { self.new.query ≡ self.old.query }
+        ensures numbers { HasNumbers out.new }
         ensures heeds { CallHeeds (hears_waking self.old.stage number) (standing self.old client.old out.old) (turn_of result) (standing self.new client.new out.new) }
     {
         if self.has_given_up() {
@@ -173,6 +177,7 @@ impl PdCall {
         ensures moves { Moves (MayAsk self.old) (CallFits self.old out.old) (CallFits self.new out.new) (Gives self.old out.old) (λ h. Answered (ticket_of out.old ask) (result_ok answer) ∷ h) out.old out.new (turn_of result) }
         ensures spends { CallSpends self.old self.new (is_err answer) out.old out.new (turn_of result) }
         ensures job { self.new.query ≡ self.old.query }
+        ensures numbers { HasNumbers out.new }
         ensures heeds { CallHeeds (hears_answer self.old.stage ask) (standing self.old client.old out.old) (turn_of result) (standing self.new client.new out.new) }
     {
         if self.has_given_up() {

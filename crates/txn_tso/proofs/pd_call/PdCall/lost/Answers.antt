@@ -7,9 +7,10 @@ use Rattle.txn_history.specs.Turn.{turn_of}
 use Rattle.txn_tso.specs.Heeding.{hears_reply}
 use Rattle.txn_tso.specs.Steps.{on_loss, standing}
 use Rattle.txn_tso.proofs.Hearing.{loss_safe}
-use Rattle.txn_tso.proofs.Heeding.{loss_heard, loss_query}
+use Rattle.txn_tso.proofs.Heeding.{loss_heard}
+use Rattle.txn_tso.proofs.Keeping.{loss_kept, numbers_kept, query_kept, Asks, HasMore}
 use Rattle.txn_tso.proofs.Spending.{loss_paid}
-use Rattle.txn_tso.proofs.Standing.{gone_heeds, stood_heeds, stood_moves, stood_query, stood_spends}
+use Rattle.txn_tso.proofs.Standing.{gone_heeds, stood_heeds, stood_moves, stood_numbers, stood_query, stood_spends}
 use Rattle.txn_tso.proofs.pd_call.PdCall.lost.Goals as goal
 
 pub returns-then-has_given_up-clause-moves : goal.returns-then-has_given_up-clause-moves
@@ -45,7 +46,17 @@ returns-clause-job c = stood_query
     (on_loss c.args.self.now.stage c.args.number c.args.now (standing c.args.self.now c.args.client.now c.args.out.now))
     (turn_of c.hear_loss.result)
     (standing c.hear_loss.new.self c.hear_loss.new.client c.hear_loss.new.out)
-    (loss_query c.args.self.now.stage c.args.number c.args.now (standing c.args.self.now c.args.client.now c.args.out.now))
+    (loss_kept (Asks c.args.self.now.query) (query_kept c.args.self.now.query) c.args.self.now.stage c.args.number c.args.now (standing c.args.self.now c.args.client.now c.args.out.now) refl)
+    c.hear_loss.ensures.step
+
+pub returns-clause-numbers : goal.returns-clause-numbers
+returns-clause-numbers c = stood_numbers
+    c.args.self.now.query c.args.out.now
+    (on_loss c.args.self.now.stage c.args.number c.args.now (standing c.args.self.now c.args.client.now c.args.out.now))
+    (turn_of c.hear_loss.result)
+    (standing c.hear_loss.new.self c.hear_loss.new.client c.hear_loss.new.out)
+    c.requires
+    (loss_kept HasMore numbers_kept c.args.self.now.stage c.args.number c.args.now (standing c.args.self.now c.args.client.now c.args.out.now) c.requires)
     c.hear_loss.ensures.step
 
 pub returns-clause-heeds : goal.returns-clause-heeds

@@ -7,9 +7,10 @@ use Rattle.txn_history.specs.Turn.{turn_of}
 use Rattle.txn_tso.specs.Heeding.{hears_waking}
 use Rattle.txn_tso.specs.Steps.{on_waking, standing}
 use Rattle.txn_tso.proofs.Hearing.{waking_safe}
-use Rattle.txn_tso.proofs.Heeding.{waking_heard, waking_query}
+use Rattle.txn_tso.proofs.Heeding.{waking_heard}
+use Rattle.txn_tso.proofs.Keeping.{waking_kept, numbers_kept, query_kept, Asks, HasMore}
 use Rattle.txn_tso.proofs.Spending.{waking_paid}
-use Rattle.txn_tso.proofs.Standing.{gone_heeds, stood_heeds, stood_moves, stood_query, stood_spends}
+use Rattle.txn_tso.proofs.Standing.{gone_heeds, stood_heeds, stood_moves, stood_numbers, stood_query, stood_spends}
 use Rattle.txn_tso.proofs.pd_call.PdCall.slept.Goals as goal
 
 pub returns-then-has_given_up-clause-moves : goal.returns-then-has_given_up-clause-moves
@@ -45,7 +46,17 @@ returns-clause-job c = stood_query
     (on_waking c.args.self.now.stage c.args.number c.args.now (standing c.args.self.now c.args.client.now c.args.out.now))
     (turn_of c.hear_waking.result)
     (standing c.hear_waking.new.self c.hear_waking.new.client c.hear_waking.new.out)
-    (waking_query c.args.self.now.stage c.args.number c.args.now (standing c.args.self.now c.args.client.now c.args.out.now))
+    (waking_kept (Asks c.args.self.now.query) (query_kept c.args.self.now.query) c.args.self.now.stage c.args.number c.args.now (standing c.args.self.now c.args.client.now c.args.out.now) refl)
+    c.hear_waking.ensures.step
+
+pub returns-clause-numbers : goal.returns-clause-numbers
+returns-clause-numbers c = stood_numbers
+    c.args.self.now.query c.args.out.now
+    (on_waking c.args.self.now.stage c.args.number c.args.now (standing c.args.self.now c.args.client.now c.args.out.now))
+    (turn_of c.hear_waking.result)
+    (standing c.hear_waking.new.self c.hear_waking.new.client c.hear_waking.new.out)
+    c.requires
+    (waking_kept HasMore numbers_kept c.args.self.now.stage c.args.number c.args.now (standing c.args.self.now c.args.client.now c.args.out.now) c.requires)
     c.hear_waking.ensures.step
 
 pub returns-clause-heeds : goal.returns-clause-heeds

@@ -7,9 +7,10 @@ use Rattle.txn_tso.specs.Heeding.{hears_start}
 use Rattle.txn_tso.specs.Steps.{on_start, standing}
 use Rattle.txn_tso.specs.declared.pd_call.PdCall.{PdCall}
 use Rattle.txn_tso.proofs.Hearing.{start_safe}
-use Rattle.txn_tso.proofs.Heeding.{start_heard, start_query}
+use Rattle.txn_tso.proofs.Heeding.{start_heard}
+use Rattle.txn_tso.proofs.Keeping.{start_kept, numbers_kept, query_kept, Asks, HasMore}
 use Rattle.txn_tso.proofs.Spending.{start_paid}
-use Rattle.txn_tso.proofs.Standing.{gone_heeds, stood_heeds, stood_moves, stood_query, stood_spends}
+use Rattle.txn_tso.proofs.Standing.{gone_heeds, stood_heeds, stood_moves, stood_numbers, stood_query, stood_spends}
 use Rattle.txn_tso.proofs.pd_call.PdCall.start.Goals as goal
 
 pub returns-then-has_given_up-clause-moves : goal.returns-then-has_given_up-clause-moves
@@ -45,7 +46,17 @@ returns-clause-job c = stood_query
     (on_start c.args.self.now.stage (standing c.args.self.now c.args.client.now c.args.out.now))
     (turn_of c.hear_start.result)
     (standing c.hear_start.new.self c.args.client.now c.hear_start.new.out)
-    (start_query c.args.self.now.stage (standing c.args.self.now c.args.client.now c.args.out.now))
+    (start_kept (Asks c.args.self.now.query) (query_kept c.args.self.now.query) c.args.self.now.stage (standing c.args.self.now c.args.client.now c.args.out.now) refl)
+    c.hear_start.ensures.step
+
+pub returns-clause-numbers : goal.returns-clause-numbers
+returns-clause-numbers c = stood_numbers
+    c.args.self.now.query c.args.out.now
+    (on_start c.args.self.now.stage (standing c.args.self.now c.args.client.now c.args.out.now))
+    (turn_of c.hear_start.result)
+    (standing c.hear_start.new.self c.args.client.now c.hear_start.new.out)
+    c.requires
+    (start_kept HasMore numbers_kept c.args.self.now.stage (standing c.args.self.now c.args.client.now c.args.out.now) c.requires)
     c.hear_start.ensures.step
 
 pub returns-clause-heeds : goal.returns-clause-heeds

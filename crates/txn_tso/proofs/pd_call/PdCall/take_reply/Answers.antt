@@ -7,9 +7,10 @@ use Rattle.txn_history.specs.Turn.{turn_of}
 use Rattle.txn_tso.specs.Heeding.{hears_reply}
 use Rattle.txn_tso.specs.Steps.{standing, waits}
 use Rattle.txn_tso.proofs.Hearing.{reply_safe}
-use Rattle.txn_tso.proofs.Heeding.{reply_heard, reply_query}
+use Rattle.txn_tso.proofs.Heeding.{reply_heard}
+use Rattle.txn_tso.proofs.Keeping.{reply_kept, numbers_kept, query_kept, Asks, HasMore}
 use Rattle.txn_tso.proofs.Spending.{reply_paid}
-use Rattle.txn_tso.proofs.Standing.{gone_heeds, stood_heeds, stood_moves, stood_query, stood_spends}
+use Rattle.txn_tso.proofs.Standing.{gone_heeds, stood_heeds, stood_moves, stood_numbers, stood_query, stood_spends}
 use Rattle.txn_tso.proofs.pd_call.PdCall.take_reply.Goals as goal
 
 pub returns-then-has_given_up-clause-step : goal.returns-then-has_given_up-clause-step
@@ -48,7 +49,17 @@ returns-clause-job c = stood_query
     (c.hear_reply.ensures.step.0)
     (turn_of c.hear_reply.result)
     (standing c.hear_reply.new.self c.hear_reply.new.client c.hear_reply.new.out)
-    (reply_query c.args.self.now.stage c.args.number c.args.reply c.args.now (standing c.args.self.now c.args.client.now c.args.out.now) c.hear_reply.ensures.step.0 c.hear_reply.ensures.step.1)
+    (reply_kept (Asks c.args.self.now.query) (query_kept c.args.self.now.query) c.args.self.now.stage c.args.number c.args.reply c.args.now (standing c.args.self.now c.args.client.now c.args.out.now) c.hear_reply.ensures.step.0 refl c.hear_reply.ensures.step.1)
+    c.hear_reply.ensures.step.2
+
+pub returns-clause-numbers : goal.returns-clause-numbers
+returns-clause-numbers c = stood_numbers
+    c.args.self.now.query c.args.out.now
+    (c.hear_reply.ensures.step.0)
+    (turn_of c.hear_reply.result)
+    (standing c.hear_reply.new.self c.hear_reply.new.client c.hear_reply.new.out)
+    c.requires
+    (reply_kept HasMore numbers_kept c.args.self.now.stage c.args.number c.args.reply c.args.now (standing c.args.self.now c.args.client.now c.args.out.now) c.hear_reply.ensures.step.0 c.requires c.hear_reply.ensures.step.1)
     c.hear_reply.ensures.step.2
 
 pub returns-clause-heeds : goal.returns-clause-heeds

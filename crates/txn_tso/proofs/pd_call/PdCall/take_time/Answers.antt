@@ -9,9 +9,10 @@ use Rattle.txn_history.specs.Turn.{turn_of}
 use Rattle.txn_tso.specs.Heeding.{hears_answer}
 use Rattle.txn_tso.specs.Steps.{on_answer, standing}
 use Rattle.txn_tso.proofs.Hearing.{answer_safe}
-use Rattle.txn_tso.proofs.Heeding.{answer_heard, answer_query}
+use Rattle.txn_tso.proofs.Heeding.{answer_heard}
+use Rattle.txn_tso.proofs.Keeping.{answer_kept, numbers_kept, query_kept, Asks, HasMore}
 use Rattle.txn_tso.proofs.Spending.{answer_paid}
-use Rattle.txn_tso.proofs.Standing.{gone_heeds, stood_heeds, stood_moves, stood_query, stood_spends}
+use Rattle.txn_tso.proofs.Standing.{gone_heeds, stood_heeds, stood_moves, stood_numbers, stood_query, stood_spends}
 use Rattle.txn_tso.proofs.pd_call.PdCall.take_time.Goals as goal
 
 pub returns-then-has_given_up-clause-moves : goal.returns-then-has_given_up-clause-moves
@@ -47,7 +48,17 @@ returns-clause-job c = stood_query
     (on_answer c.args.self.now.stage c.args.ask c.args.answer c.args.now (standing c.args.self.now c.args.client.now c.args.out.now))
     (turn_of c.hear_answer.result)
     (standing c.hear_answer.new.self c.hear_answer.new.client c.hear_answer.new.out)
-    (answer_query c.args.self.now.stage c.args.ask c.args.answer c.args.now (standing c.args.self.now c.args.client.now c.args.out.now))
+    (answer_kept (Asks c.args.self.now.query) (query_kept c.args.self.now.query) c.args.self.now.stage c.args.ask c.args.answer c.args.now (standing c.args.self.now c.args.client.now c.args.out.now) refl)
+    c.hear_answer.ensures.step
+
+pub returns-clause-numbers : goal.returns-clause-numbers
+returns-clause-numbers c = stood_numbers
+    c.args.self.now.query c.args.out.now
+    (on_answer c.args.self.now.stage c.args.ask c.args.answer c.args.now (standing c.args.self.now c.args.client.now c.args.out.now))
+    (turn_of c.hear_answer.result)
+    (standing c.hear_answer.new.self c.hear_answer.new.client c.hear_answer.new.out)
+    c.requires
+    (answer_kept HasMore numbers_kept c.args.self.now.stage c.args.ask c.args.answer c.args.now (standing c.args.self.now c.args.client.now c.args.out.now) c.requires)
     c.hear_answer.ensures.step
 
 pub returns-clause-heeds : goal.returns-clause-heeds
