@@ -13,7 +13,7 @@ struct Line {
     out: Outbox,
 }
 
-fn line(alloc: Global) -> Line {
+fn first_line(alloc: Global) -> Line {
     Line {
         client: RetryClient::new(Cluster { id: 0 }, 0),
         out: Outbox::new(alloc, 7, false),
@@ -79,7 +79,7 @@ fn tries_that_all_fail_are_ten(rt: HostRuntime) -> std::result::Result<(), Fail>
     let Line {
         mut client,
         mut out,
-    } = line(alloc);
+    } = first_line(alloc);
     let mut call = client.get_store(3);
     let mut progress = call.start(&mut client, 0, &mut out)?;
     for number in 1..11 {
@@ -99,7 +99,7 @@ fn one_failure_makes_two_tries(rt: HostRuntime) -> std::result::Result<(), Fail>
     let Line {
         mut client,
         mut out,
-    } = line(alloc);
+    } = first_line(alloc);
     let mut call = client.get_region(Key::empty(alloc));
     call.start(&mut client, 0, &mut out)?;
     let nothing = Reply::GetRegion(region_reply(alloc, None)?);
@@ -126,7 +126,7 @@ fn reconnects_that_all_fail_are_five(rt: HostRuntime) -> std::result::Result<(),
     let Line {
         mut client,
         mut out,
-    } = line(alloc);
+    } = first_line(alloc);
     let mut call = client.get_all_stores();
     call.start(&mut client, 5000, &mut out)?;
     let mut progress = call.lost(&mut client, 5000, 1, &mut out)?;
@@ -148,7 +148,7 @@ fn one_call_alone_reconnects(rt: HostRuntime) -> std::result::Result<(), Fail> {
     let Line {
         mut client,
         mut out,
-    } = line(alloc);
+    } = first_line(alloc);
     let mut first = client.get_store(1);
     let mut second = client.update_safepoint(9);
     first.start(&mut client, 5000, &mut out)?;
@@ -168,7 +168,7 @@ fn a_failed_ask_is_made_again(rt: HostRuntime) -> std::result::Result<(), Fail> 
     let Line {
         mut client,
         mut out,
-    } = line(alloc);
+    } = first_line(alloc);
     let mut call = client.get_timestamp();
     call.start(&mut client, 0, &mut out)?;
     let refused = Err(Error::InternalError {
@@ -196,7 +196,7 @@ fn the_last_failure_is_named(rt: HostRuntime) -> std::result::Result<(), Fail> {
     let Line {
         mut client,
         mut out,
-    } = line(alloc);
+    } = first_line(alloc);
     let mut call = client.get_region_by_id(4);
     let mut progress = call.start(&mut client, 0, &mut out)?;
     for number in 1..10 {
@@ -219,7 +219,7 @@ fn another_kind_is_refused(rt: HostRuntime) -> std::result::Result<(), Fail> {
     let Line {
         mut client,
         mut out,
-    } = line(alloc);
+    } = first_line(alloc);
     let mut call = client.get_store(1);
     call.start(&mut client, 0, &mut out)?;
     let stores = Reply::GetAllStores(GetAllStoresResponse {
