@@ -22,7 +22,7 @@ use Rattle.txn_history.proofs.Counting.{calls-more, sleeps-more, spare-le}
 use Rattle.txn_tso.specs.Calling.{members}
 use Rattle.txn_tso.specs.Counting.{asks_of, call_bears, call_left, call_round, is_loss, left_at, CallSpends}
 use Rattle.txn_tso.specs.Placement.{may_connect, not_found, request_of, HasNoRegion}
-use Rattle.txn_tso.specs.Steps.{connecting, ends, failing_try, losing_members, on_answer, on_loss, on_start, on_timestamp, on_waking, one_more_failed, over, reconnected, resting, standing, tried, tried_with, unconnected, waits, with_ask, with_request, with_sleep, IsMembersReply, IsOnReply, IsQueryReply, Stood}
+use Rattle.txn_tso.specs.Steps.{connecting, ends, failing_try, losing_members, on_answer, on_loss, on_start, on_timestamp, on_waking, one_more_failed, over, reconnected, resting, standing, tried, tried_with, unconnected, waits, with_ask, with_request, with_sleep, IsMembersReply, IsOnReply, IsQueryReply, Standing, Stood}
 use Rattle.txn_tso.specs.declared.pd_call.PdCall.{PdCall}
 use Rattle.txn_tso.specs.declared.retry_client.RetryClient.{RetryClient}
 use Rattle.txn_tso.specs.declared.stage.Stage.{Stage}
@@ -219,3 +219,38 @@ reply_paid s c o n now x st (stage.Reconnecting k lost) e i = reply_if_reconnect
 reply_paid s c o n now x st (stage.Resting k lost) e i = quiet_reply_paid s c o st i
 reply_paid s c o n now x st stage.Over e i = quiet_reply_paid s c o st i
 reply_paid s c o n now x st stage.Stopped e i = quiet_reply_paid s c o st i
+
+-- no sleep is begun, but for the members
+
+tried_with_awake : (r : Option Request) (x : Standing) → sleeps (tried_with r x).out ≡ sleeps x.out
+tried_with_awake (Some r) x = let rest = sleeps-more x.out (with_request r x.out) (Send x.out.next Placement r) refl in omega arith
+tried_with_awake None x = let rest = sleeps-more x.out (with_ask x.out) (Ask x.out.next_ask) refl in omega arith
+
+reconnected_if_awake : (b : Bool) (lost : ℕ) (x : Standing) → sleeps (if b then connecting lost x else tried x).out ≡ sleeps x.out
+reconnected_if_awake true lost x = let rest = sleeps-more x.out (with_request members x.out) (Send x.out.next Placement members) refl in omega arith
+reconnected_if_awake false lost x = tried_with_awake (request_of x.call.query) x
+
+abbrev pub sleeps_then : Stood → ℕ
+sleeps_then st = sleeps st.at.out
+
+failing_if_awake : (b : Bool) (why : Error) (now : ℕ) (x : Standing)
+    → sleeps_then (if b then record { turn = Waits; at = reconnected 0 now (one_more_failed x) } else record { turn = Ends (Err why); at = over x }) ≡ sleeps x.out
+failing_if_awake true why now x = reconnected_if_awake (may_connect x.client now) 0 (one_more_failed x)
+failing_if_awake false why now x = refl
+
+timestamp_awake : (told : Result Timestamp Error) (now : ℕ) (x : Standing) → sleeps_then (on_timestamp told now x) ≡ sleeps x.out
+timestamp_awake (Ok t) now x = refl
+timestamp_awake (Err why) now x = failing_if_awake (nat_lt (x.call.failed + 1) 10) why now x
+
+answer_if_awake : (b : Bool) (told : Result Timestamp Error) (now : ℕ) (x : Standing) → sleeps_then (if b then on_timestamp told now x else waits x) ≡ sleeps x.out
+answer_if_awake true told now x = timestamp_awake told now x
+answer_if_awake false told now x = refl
+
+pub answer_awake : (g : Stage) (n : ℕ) (told : Result Timestamp Error) (now : ℕ) (x : Standing) → sleeps_then (on_answer g n told now x) ≡ sleeps x.out
+answer_awake stage.Fresh n told now x = refl
+answer_awake (stage.Sent k) n told now x = refl
+answer_awake (stage.Asked k) n told now x = answer_if_awake (nat_eq k n) told now x
+answer_awake (stage.Reconnecting k lost) n told now x = refl
+answer_awake (stage.Resting k lost) n told now x = refl
+answer_awake stage.Over n told now x = refl
+answer_awake stage.Stopped n told now x = refl

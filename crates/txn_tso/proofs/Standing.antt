@@ -100,3 +100,8 @@ gone_heeds hears x g once = record {
   gone = λ e. g;
   waits = λ e f. absurd (cc);
 }
+
+pub stood_awake : (q : PdQuery) (o : Posted) (st : Stood) (turn : Turn (Result PdAnswer Error)) (x : Standing) → sleeps st.at.out ≡ sleeps o → Stands q o st turn x → sleeps x.out ≡ sleeps o
+stood_awake q o st Stopped x e d = ap sleeps d.2
+stood_awake q o st Waits x e d = came_about (λ t y. sleeps y.out ≡ sleeps o) st Waits x d.0 d.1 e
+stood_awake q o st (Ends v) x e d = came_about (λ t y. sleeps y.out ≡ sleeps o) st (Ends v) x d.0 d.1 e

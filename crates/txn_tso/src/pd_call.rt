@@ -7,6 +7,7 @@ ghost use Rattle.txn_kv.specs.declared.request.Request.{Request as Asked};
 ghost use Rattle.txn_history.specs.Event.Event.{Took, Lost, Slept, Answered};
 ghost use Rattle.txn_history.specs.Moves.{Moves};
 ghost use Rattle.txn_history.specs.Posted.{HasNumbers, Posted, ticket_of};
+ghost use Rattle.txn_history.specs.Spends.{sleeps};
 ghost use Rattle.txn_history.specs.Turn.{turn_of};
 ghost use Rattle.txn_history.specs.Turn.Turn.{Waits};
 ghost use Rattle.txn_tso.specs.Heeding.{hears_answer, hears_reply, hears_start, hears_waking, CallHeeds};
@@ -176,6 +177,7 @@ impl PdCall {
         ensures step { Stands self.old.query out.old (on_answer self.old.stage ask answer now (standing self.old client.old out.old)) (turn_of result) (standing self.new client.new out.new) }
         ensures moves { Moves (MayAsk self.old) (CallFits self.old out.old) (CallFits self.new out.new) (Gives self.old out.old) (λ h. Answered (ticket_of out.old ask) (result_ok answer) ∷ h) out.old out.new (turn_of result) }
         ensures spends { CallSpends self.old self.new (is_err answer) out.old out.new (turn_of result) }
+        ensures awake { sleeps out.new ≡ sleeps out.old }
         ensures job { self.new.query ≡ self.old.query }
         ensures numbers { HasNumbers out.new }
         ensures heeds { CallHeeds (hears_answer self.old.stage ask) (standing self.old client.old out.old) (turn_of result) (standing self.new client.new out.new) }

@@ -54,6 +54,38 @@ fn lost_ticket(progress: &Progress<PdAnswer>) -> Option<Ticket> {
     }
 }
 
+/// The region that a call answers.
+fn told_region(progress: &Progress<PdAnswer>) -> Option<u64> {
+    match progress {
+        Progress::Done(Ok(PdAnswer::Region(region))) => Some(region.id()),
+        _ => None,
+    }
+}
+
+fn told_time(progress: &Progress<PdAnswer>) -> Option<Timestamp> {
+    match progress {
+        Progress::Done(Ok(PdAnswer::Time(timestamp))) => Some(*timestamp),
+        _ => None,
+    }
+}
+
+/// The region that a call did not find.
+fn missing_region(progress: &Progress<PdAnswer>) -> Option<u64> {
+    match progress {
+        Progress::Done(Err(Error::RegionNotFoundInResponse { region_id })) => Some(*region_id),
+        _ => None,
+    }
+}
+
+fn is_wrong_reply(progress: &Progress<PdAnswer>) -> bool {
+    matches!(
+        progress,
+        Progress::Done(Err(Error::InternalError {
+            what: Internal::WrongReply
+        }))
+    )
+}
+
 fn region_reply(
     alloc: Global,
     id: Option<u64>,
@@ -112,11 +144,7 @@ fn one_failure_makes_two_tries(rt: HostRuntime) -> std::result::Result<(), Fail>
     assert!(rt; client.may_connect(2501));
     let found = Reply::GetRegion(region_reply(alloc, Some(4))?);
     let progress = call.take_reply(&mut client, 1600, 3, found, &mut out)?;
-    let told = match progress {
-        Progress::Done(Ok(PdAnswer::Region(region))) => Some(region.id()),
-        _ => None,
-    };
-    assert_eq!(rt; told, Some(4));
+    assert_eq!(rt; told_region(&progress), Some(4));
     Ok(())
 }
 
@@ -182,11 +210,7 @@ fn a_failed_ask_is_made_again(rt: HostRuntime) -> std::result::Result<(), Fail> 
         suffix_bits: 0,
     };
     let progress = call.take_time(&mut client, 0, 2, Ok(timestamp), &mut out)?;
-    let told = match progress {
-        Progress::Done(Ok(PdAnswer::Time(told))) => Some(told),
-        _ => None,
-    };
-    assert_eq!(rt; told, Some(timestamp));
+    assert_eq!(rt; told_time(&progress), Some(timestamp));
     Ok(())
 }
 
@@ -205,11 +229,7 @@ fn the_last_failure_is_named(rt: HostRuntime) -> std::result::Result<(), Fail> {
     assert!(rt; matches!(progress, Progress::Waiting));
     let nothing = Reply::GetRegionById(region_reply(alloc, None)?);
     progress = call.take_reply(&mut client, 0, 10, nothing, &mut out)?;
-    let told = match progress {
-        Progress::Done(Err(Error::RegionNotFoundInResponse { region_id })) => Some(region_id),
-        _ => None,
-    };
-    assert_eq!(rt; told, Some(4));
+    assert_eq!(rt; missing_region(&progress), Some(4));
     Ok(())
 }
 
@@ -226,10 +246,6 @@ fn another_kind_is_refused(rt: HostRuntime) -> std::result::Result<(), Fail> {
         stores: Items::new(alloc),
     });
     let progress = call.take_reply(&mut client, 0, 1, stores, &mut out)?;
-    let told = match progress {
-        Progress::Done(Err(Error::InternalError { what })) => Some(what),
-        _ => None,
-    };
-    assert_eq!(rt; told, Some(Internal::WrongReply));
+    assert!(rt; is_wrong_reply(&progress));
     Ok(())
 }

@@ -11,8 +11,8 @@ use Rattle.txn_tso.specs.Steps.{on_answer, standing}
 use Rattle.txn_tso.proofs.Hearing.{answer_safe}
 use Rattle.txn_tso.proofs.Heeding.{answer_heard}
 use Rattle.txn_tso.proofs.Keeping.{answer_kept, numbers_kept, query_kept, Asks, HasMore}
-use Rattle.txn_tso.proofs.Spending.{answer_paid}
-use Rattle.txn_tso.proofs.Standing.{gone_heeds, stood_heeds, stood_moves, stood_numbers, stood_query, stood_spends}
+use Rattle.txn_tso.proofs.Spending.{answer_awake, answer_paid}
+use Rattle.txn_tso.proofs.Standing.{gone_heeds, stood_awake, stood_heeds, stood_moves, stood_numbers, stood_query, stood_spends}
 use Rattle.txn_tso.proofs.pd_call.PdCall.take_time.Goals as goal
 
 pub returns-then-has_given_up-clause-moves : goal.returns-then-has_given_up-clause-moves
@@ -72,4 +72,13 @@ returns-clause-heeds c = stood_heeds
     (λ e. ap (λ g. hears_answer g c.args.ask) e)
     (answer_heard c.args.self.now.stage c.args.ask c.args.answer c.args.now (standing c.args.self.now c.args.client.now c.args.out.now))
     c.hear_answer.ensures.unheard
+    c.hear_answer.ensures.step
+
+pub returns-clause-awake : goal.returns-clause-awake
+returns-clause-awake c = stood_awake
+    c.args.self.now.query c.args.out.now
+    (on_answer c.args.self.now.stage c.args.ask c.args.answer c.args.now (standing c.args.self.now c.args.client.now c.args.out.now))
+    (turn_of c.hear_answer.result)
+    (standing c.hear_answer.new.self c.hear_answer.new.client c.hear_answer.new.out)
+    (answer_awake c.args.self.now.stage c.args.ask c.args.answer c.args.now (standing c.args.self.now c.args.client.now c.args.out.now))
     c.hear_answer.ensures.step
