@@ -1,6 +1,8 @@
 pub mod Apart
+pub mod Believing
 pub mod Calling
 pub mod Kept
+pub mod KeyDecoding
 pub mod KeyGroups
 pub mod Meeting
 pub mod Order

@@ -3,10 +3,13 @@
 
 pub mod as_key;
 pub mod codec;
+mod decoding;
 mod grouping;
 pub mod known_store;
 mod law;
 pub mod pd_client;
+pub mod pd_rpc_client;
+pub mod placement;
 pub mod region_cache;
 pub mod send;
 mod sorted;
@@ -20,6 +23,7 @@ pub use codec::{ApiV1RawCodec, ApiV1TxnCodec, ApiV2TxnCodec, Codec, EncodedReque
 pub use known_store::KnownStore;
 pub use law::{after_any_calls, meeting_regions};
 pub use pd_client::PdClient;
+pub use pd_rpc_client::PdRpcClient;
 pub use region_cache::RegionCache;
 pub use store::{RegionStore, Store};
 pub use stores::is_valid_tikv_store;
