@@ -217,7 +217,7 @@ cleared_regions (query.Safepoint time) c = refl
 spoilt_is_bad : (encodes : Bool) (r : RegionWithLeader) (error : Error) → IsSpoilt encodes r error → IsBadRegion r error
 spoilt_is_bad encodes r error (inl (is, (what, inl start, e))) = subst (IsBadRegion r) (sym e) (bad_start what start)
 spoilt_is_bad encodes r error (inl (is, (what, inr end, e))) = subst (IsBadRegion r) (sym e) (bad_end what end)
-spoilt_is_bad encodes r error (inr (none, e)) = subst (IsBadRegion r) (sym e) (no_leader none)
+spoilt_is_bad encodes r error (inr (start, end, none, e)) = subst (IsBadRegion r) (sym e) (no_leader none)
 
 elsewhere : (r : RegionWithLeader) (asked : Bool) (id : ℕ) (e : Error) → or_elsewhere (region_refusal r.region) asked id ≡ Some e → IsBadRegion r e ⊎ ((asked ≡ false) × (e ≡ RegionNotFoundInResponse id))
 elsewhere r asked id e h = by (is_reversed r.region) (is_none r.region.region_epoch) asked refl refl refl h

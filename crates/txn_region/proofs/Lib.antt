@@ -2,6 +2,7 @@ pub mod Apart
 pub mod Believing
 pub mod Calling
 pub mod Kept
+pub mod Joined
 pub mod KeyDecoding
 pub mod KeyGroups
 pub mod Meeting

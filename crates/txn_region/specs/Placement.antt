@@ -34,7 +34,8 @@ AreGood encodes (r ∷ rs) = IsGood encodes r × AreGood encodes rs
 -- why a region can not be given out: its keys are looked at first
 abbrev pub IsSpoilt : Bool → RegionWithLeader → Error → Type 0
 IsSpoilt encodes r error =
-    ((encodes ≡ true) × HasBadKey r error) ⊎ ((is_none r.leader ≡ true) × (error ≡ LeaderNotFound r.region.id))
+    ((encodes ≡ true) × HasBadKey r error)
+    ⊎ (CanBeShown encodes r.region.start_key × CanBeShown encodes r.region.end_key × (is_none r.leader ≡ true) × (error ≡ LeaderNotFound r.region.id))
 
 -- what the client has no answer to
 abbrev pub IsUnknown : Cache → PdQuery → Type 0

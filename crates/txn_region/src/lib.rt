@@ -21,7 +21,7 @@ mod tests;
 pub use as_key::AsKey;
 pub use codec::{ApiV1RawCodec, ApiV1TxnCodec, ApiV2TxnCodec, Codec, EncodedRequest};
 pub use known_store::KnownStore;
-pub use law::{after_any_calls, meeting_regions};
+pub use law::{after_any_calls, groups_are_the_input, meeting_regions};
 pub use pd_client::PdClient;
 pub use pd_rpc_client::PdRpcClient;
 pub use region_cache::RegionCache;
