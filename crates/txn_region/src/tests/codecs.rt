@@ -1,8 +1,12 @@
+use crate::as_key::AsKey;
 use crate::codec::{ApiV1RawCodec, ApiV1TxnCodec, ApiV2TxnCodec, Codec, EncodedRequest};
 use crate::store::{RegionStore, Store};
 use std::alloc::Global;
 use std::test::Fail;
-use txn_kv::{ApiVersion, Context, GetRequest, Key, Region, RegionWithLeader};
+use txn_kv::{
+    ApiVersion, Assertion, Context, GetRequest, Items, Key, KvPair, Mutation, Op, Region,
+    RegionWithLeader,
+};
 
 fn get(alloc: Global) -> GetRequest {
     GetRequest {
@@ -54,5 +58,39 @@ fn a_region_store_is_copied(rt: HostRuntime) -> Result<(), Fail> {
     assert!(rt; copy == store);
     assert_eq!(rt; copy.store, 41);
     assert_eq!(rt; Store::new(4).id, 4);
+    Ok(())
+}
+
+#[test]
+fn codecs_and_stores_are_cloned(rt: HostRuntime) -> Result<(), Fail> {
+    let mut request = get(rt.alloc());
+    ApiV1TxnCodec::default()
+        .clone()?
+        .encode_request(&mut request);
+    ApiV1RawCodec::default()
+        .clone()?
+        .encode_request(&mut request);
+    assert_eq!(rt; request.context, None);
+    ApiV2TxnCodec::new(3).clone()?.encode_request(&mut request);
+    assert!(rt; request.context.is_some());
+    assert_eq!(rt; Store::new(4).clone()?, Store::new(4));
+    Ok(())
+}
+
+#[test]
+fn keys_mutations_and_pairs_have_keys(rt: HostRuntime) -> Result<(), Fail> {
+    let alloc = rt.alloc();
+    let key = Key::from(b"a".to_vec(alloc)?);
+    assert!(rt; *key.as_key() == key);
+    assert!(rt; *(&key).as_key() == key);
+    let pair = KvPair::new(key.try_clone()?, Items::new(alloc));
+    assert!(rt; *pair.as_key() == key);
+    let mutation = Mutation {
+        op: Op::Del,
+        key: key.try_clone()?,
+        value: Items::new(alloc),
+        assertion: Assertion::None,
+    };
+    assert!(rt; *mutation.as_key() == key);
     Ok(())
 }
