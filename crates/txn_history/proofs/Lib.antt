@@ -1,3 +1,4 @@
 pub mod Counting
 pub mod Parting
 pub mod Showing
+pub mod Telling

@@ -8,3 +8,6 @@ pub mod Turn
 pub mod Moves
 pub mod Spends
 pub mod Parts
+pub mod Faults
+pub mod Phase
+pub mod Meaning

@@ -1,0 +1,13 @@
+//! Plans: states that hand out requests and take what comes of them, until they have an answer.
+#![tactic(auto)]
+
+pub mod copy_request;
+pub mod dispatch;
+pub mod pd_client;
+pub mod plan;
+pub mod stage;
+
+pub use copy_request::CopyRequest;
+pub use dispatch::Dispatch;
+pub use pd_client::PdClient;
+pub use plan::Plan;

@@ -1,0 +1,4 @@
+/// Stands in for the client of the placement driver.
+pub trait PdClient {
+    fn touch(&self);
+}
