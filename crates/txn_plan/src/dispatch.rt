@@ -6,10 +6,10 @@ ghost use Rattle.txn_history.specs.Turn.{turn_of};
 ghost use Rattle.txn_plan.specs.Dispatch.{dispatch, dispatch-lawful, stage_phase, unsent, IsSentOnce};
 
 use crate::copy_request::CopyRequest;
-use crate::pd_client::PdClient;
 use crate::plan::Plan;
 use crate::stage::Stage;
 use txn_kv::{Error, NoMemory, Outbox, Progress, Reply, StoreId, Target, Timestamp};
+use txn_region::PdClient;
 
 /// Sends one request to one store, once.
 #[derive(Drop)]

@@ -3,11 +3,9 @@
 
 pub mod copy_request;
 pub mod dispatch;
-pub mod pd_client;
 pub mod plan;
 pub mod stage;
 
 pub use copy_request::CopyRequest;
 pub use dispatch::Dispatch;
-pub use pd_client::PdClient;
 pub use plan::Plan;

@@ -10,8 +10,8 @@ ghost use Rattle.txn_history.specs.Turn.{turn_of};
 ghost use Rattle.txn_kv.specs.declared.request.Request.{Request as Asked};
 ghost use Rattle.txn_plan.specs.Answered.{IsTimeAnswer};
 
-use crate::pd_client::PdClient;
 use txn_kv::{NoMemory, Outbox, Progress, Reply, Timestamp};
+use txn_region::PdClient;
 
 /// A state that hands out requests and takes what comes of them, until it has an answer.
 pub trait Plan: Sized + Drop {
