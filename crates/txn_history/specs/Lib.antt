@@ -11,3 +11,4 @@ pub mod Parts
 pub mod Faults
 pub mod Phase
 pub mod Meaning
+pub mod Around

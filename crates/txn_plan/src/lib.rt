@@ -4,8 +4,12 @@
 pub mod copy_request;
 pub mod dispatch;
 pub mod plan;
+pub mod process;
+pub mod process_response;
 pub mod stage;
 
 pub use copy_request::CopyRequest;
 pub use dispatch::Dispatch;
 pub use plan::Plan;
+pub use process::Process;
+pub use process_response::ProcessResponse;
