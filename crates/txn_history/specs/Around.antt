@@ -5,7 +5,7 @@ use Rattle.txn_history.specs.Turn.{Turn}
 use Rattle.txn_history.specs.Turn.Turn.{Stopped, Waits, Ends}
 
 -- What it means, by what the inner state does. Its answer is one that it `reads` in an answer of the inner state. It may be
--- started where the inner state may, and `more` holds.
+-- called where the inner state may, and `more` holds.
 abbrev pub around : {S T A B : Type 0} → Meaning S A → (T → S) → (T → A → B → Type 0) → (T → Type 0) → (B → Bool) → Meaning T B
 around {A} m inner reads more fails = record {
   fits = λ t o h. m.fits (inner t) o h;

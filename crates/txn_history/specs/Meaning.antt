@@ -26,7 +26,7 @@ pub record Meaning (S A : Type 0) : Type 1 where
   -- where it stands, and what it waits for
   pub phase : S → Phase
   pub waits : S → Awaited → Type 0
-  -- it may be started
+  -- it may be called: what its code rests on, as that a request's store is set. Every call keeps it.
   pub ready : S → Type 0
   -- The most requests to stores and asks that a fresh copy posts, and that the state still posts, where no error and no
   -- lock comes and no request is cut into more than n parts. `width` is the greatest number of parts so far.

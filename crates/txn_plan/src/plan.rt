@@ -40,6 +40,7 @@ pub trait Plan: Sized + Drop {
         ensures tells { Tells meaning started self.old self.new out.old out.new (turn_of result) }
         ensures goes { Goes meaning (meaning.phase self.old ≡ Fresh) self.old self.new out.old out.new pd.old pd.new (turn_of result) }
         ensures counts { Counts meaning false false 0 0 self.old self.new out.old out.new (turn_of result) }
+        ensures ready { meaning.ready self.new }
         ensures numbers { HasNumbers out.new };
 
     /// The reply to the request of this number came.
@@ -51,11 +52,13 @@ pub trait Plan: Sized + Drop {
         reply: Reply,
         out: &mut Outbox,
     ) -> Result<Progress<Self::Result>, NoMemory>
+        requires ready { meaning.ready self.old }
         requires numbers { HasNumbers out.old }
         requires clock { now < 2 ^ 44 }
         ensures tells { (r : Asked) → Tells meaning (replied (ticket_of out.old number) r reply) self.old self.new out.old out.new (turn_of result) }
         ensures goes { Goes meaning (meaning.waits self.old (ReplyTo number)) self.old self.new out.old out.new pd.old pd.new (turn_of result) }
         ensures counts { Counts meaning (has_error reply) (has_region_error reply) (weight_of reply) (locked_of reply) self.old self.new out.old out.new (turn_of result) }
+        ensures ready { meaning.ready self.new }
         ensures numbers { HasNumbers out.new };
 
     /// No reply to the request of this number will come.
@@ -66,11 +69,13 @@ pub trait Plan: Sized + Drop {
         number: u64,
         out: &mut Outbox,
     ) -> Result<Progress<Self::Result>, NoMemory>
+        requires ready { meaning.ready self.old }
         requires numbers { HasNumbers out.old }
         requires clock { now < 2 ^ 44 }
         ensures tells { (r : Asked) → Tells meaning (missed (ticket_of out.old number) r) self.old self.new out.old out.new (turn_of result) }
         ensures goes { Goes meaning (meaning.waits self.old (ReplyTo number)) self.old self.new out.old out.new pd.old pd.new (turn_of result) }
         ensures counts { Counts meaning true true 0 0 self.old self.new out.old out.new (turn_of result) }
+        ensures ready { meaning.ready self.new }
         ensures numbers { HasNumbers out.new };
 
     /// The sleep of this number has ended.
@@ -81,11 +86,13 @@ pub trait Plan: Sized + Drop {
         number: u64,
         out: &mut Outbox,
     ) -> Result<Progress<Self::Result>, NoMemory>
+        requires ready { meaning.ready self.old }
         requires numbers { HasNumbers out.old }
         requires clock { now < 2 ^ 44 }
         ensures tells { Tells meaning (woken (ticket_of out.old number)) self.old self.new out.old out.new (turn_of result) }
         ensures goes { Goes meaning (meaning.waits self.old (EndOf number)) self.old self.new out.old out.new pd.old pd.new (turn_of result) }
         ensures counts { Counts meaning false false 0 0 self.old self.new out.old out.new (turn_of result) }
+        ensures ready { meaning.ready self.new }
         ensures numbers { HasNumbers out.new };
 
     /// The ask of this number was answered, by the oracle of the client.
@@ -97,12 +104,14 @@ pub trait Plan: Sized + Drop {
         answer: txn_kv::Result<Timestamp>,
         out: &mut Outbox,
     ) -> Result<Progress<Self::Result>, NoMemory>
+        requires ready { meaning.ready self.old }
         requires answer { IsTimeAnswer answer }
         requires numbers { HasNumbers out.old }
         requires clock { now < 2 ^ 44 }
         ensures tells { Tells meaning (timed (ticket_of out.old ask) (result_ok answer)) self.old self.new out.old out.new (turn_of result) }
         ensures goes { Goes meaning (meaning.waits self.old (TimeOf ask)) self.old self.new out.old out.new pd.old pd.new (turn_of result) }
         ensures counts { Counts meaning (is_err answer) false 0 0 self.old self.new out.old out.new (turn_of result) }
+        ensures ready { meaning.ready self.new }
         ensures numbers { HasNumbers out.new };
 
     ghost lawful: { IsLawful meaning };
