@@ -54,18 +54,18 @@ read_after reads Waits turn' i = rw i refl
 read_after reads (Ends a) turn' i = rw i.1 refl
 
 -- the second: the wrapper changes where the inner state does
-pub Goes-around : {S T A B C : Type 0} (m : Meaning S A) (inner : T → S) (reads : T → A → B → Type 0) (more : T → Type 0) (fails : B → Bool)
+pub Goes-around : {S T A B C : Type 0} (phase : S → Phase) (inner : T → S) (reads : A → B → Type 0)
     {meant : Type 0} {old new : T} {from to : Posted} {pd pd' : C} {turn : Turn A} {turn' : Turn B}
     → (inner new ≡ inner old → new ≡ old)
-    → IsRead (reads old) turn turn'
-    → Goes m meant (inner old) (inner new) from to pd pd' turn
-    → Goes (around m inner reads more fails) meant old new from to pd pd' turn'
-Goes-around m inner reads more fails {old} {new} {turn} {turn'} same i t = record {
-  deaf = λ other. read_unheard (reads old) (m.phase (inner old)) turn turn' i (t.deaf other);
+    → IsRead reads turn turn'
+    → Goes phase meant (inner old) (inner new) from to pd pd' turn
+    → Goes (λ t. phase (inner t)) meant old new from to pd pd' turn'
+Goes-around phase inner reads {old} {new} {turn = turn} {turn' = turn'} same i t = record {
+  deaf = λ other. read_unheard reads (phase (inner old)) turn turn' i (t.deaf other);
   state = λ other. same (t.state other);
   outbox = t.outbox;
   client = t.client;
-  next = λ this. t.next this ∙ read_after (reads old) turn turn' i;
+  next = λ this. t.next this ∙ read_after reads turn turn' i;
 }
 
 -- the third: the wrapper's answer is tried again only where the inner one is

@@ -119,13 +119,13 @@ pub record Tells {S A : Type 0} (m : Meaning S A) (told : Told) (old new : S) (f
 
 -- The second: where it stands then. A call that is not `meant` for the state changes nothing: the state did not wait for it,
 -- or was started before.
-pub record Goes {S A C : Type 0} (m : Meaning S A) (meant : Type 0)
+pub record Goes {S A C : Type 0} (phase : S → Phase) (meant : Type 0)
     (old new : S) (from to : Posted) (pd pd' : C) (turn : Turn A) : Type 0 where
-  pub deaf : (meant → ⊥) → turn ≡ unheard (m.phase old)
+  pub deaf : (meant → ⊥) → turn ≡ unheard (phase old)
   pub state : (meant → ⊥) → new ≡ old
   pub outbox : (meant → ⊥) → to ≡ from
   pub client : (meant → ⊥) → pd' ≡ pd
-  pub next : meant → m.phase new ≡ phase_after turn
+  pub next : meant → phase new ≡ phase_after turn
 
 -- The third: what it posts and has left to post. It is told of an error where `bad`, and of one that a new run may better
 -- where `fails`; of locks of this weight, where `locked` is one.

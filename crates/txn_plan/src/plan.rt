@@ -38,7 +38,7 @@ pub trait Plan: Sized + Drop {
         requires numbers { HasNumbers out.old }
         requires clock { now < 2 ^ 44 }
         ensures tells { Tells meaning started self.old self.new out.old out.new (turn_of result) }
-        ensures goes { Goes meaning (meaning.phase self.old ≡ Fresh) self.old self.new out.old out.new pd.old pd.new (turn_of result) }
+        ensures goes { Goes meaning.phase (meaning.phase self.old ≡ Fresh) self.old self.new out.old out.new pd.old pd.new (turn_of result) }
         ensures counts { Counts meaning false false 0 0 self.old self.new out.old out.new (turn_of result) }
         ensures ready { meaning.ready self.new }
         ensures numbers { HasNumbers out.new };
@@ -56,7 +56,7 @@ pub trait Plan: Sized + Drop {
         requires numbers { HasNumbers out.old }
         requires clock { now < 2 ^ 44 }
         ensures tells { (r : Asked) → Tells meaning (replied (ticket_of out.old number) r reply) self.old self.new out.old out.new (turn_of result) }
-        ensures goes { Goes meaning (meaning.waits self.old (ReplyTo number)) self.old self.new out.old out.new pd.old pd.new (turn_of result) }
+        ensures goes { Goes meaning.phase (meaning.waits self.old (ReplyTo number)) self.old self.new out.old out.new pd.old pd.new (turn_of result) }
         ensures counts { Counts meaning (has_error reply) (has_region_error reply) (weight_of reply) (locked_of reply) self.old self.new out.old out.new (turn_of result) }
         ensures ready { meaning.ready self.new }
         ensures numbers { HasNumbers out.new };
@@ -73,7 +73,7 @@ pub trait Plan: Sized + Drop {
         requires numbers { HasNumbers out.old }
         requires clock { now < 2 ^ 44 }
         ensures tells { (r : Asked) → Tells meaning (missed (ticket_of out.old number) r) self.old self.new out.old out.new (turn_of result) }
-        ensures goes { Goes meaning (meaning.waits self.old (ReplyTo number)) self.old self.new out.old out.new pd.old pd.new (turn_of result) }
+        ensures goes { Goes meaning.phase (meaning.waits self.old (ReplyTo number)) self.old self.new out.old out.new pd.old pd.new (turn_of result) }
         ensures counts { Counts meaning true true 0 0 self.old self.new out.old out.new (turn_of result) }
         ensures ready { meaning.ready self.new }
         ensures numbers { HasNumbers out.new };
@@ -90,7 +90,7 @@ pub trait Plan: Sized + Drop {
         requires numbers { HasNumbers out.old }
         requires clock { now < 2 ^ 44 }
         ensures tells { Tells meaning (woken (ticket_of out.old number)) self.old self.new out.old out.new (turn_of result) }
-        ensures goes { Goes meaning (meaning.waits self.old (EndOf number)) self.old self.new out.old out.new pd.old pd.new (turn_of result) }
+        ensures goes { Goes meaning.phase (meaning.waits self.old (EndOf number)) self.old self.new out.old out.new pd.old pd.new (turn_of result) }
         ensures counts { Counts meaning false false 0 0 self.old self.new out.old out.new (turn_of result) }
         ensures ready { meaning.ready self.new }
         ensures numbers { HasNumbers out.new };
@@ -109,7 +109,7 @@ pub trait Plan: Sized + Drop {
         requires numbers { HasNumbers out.old }
         requires clock { now < 2 ^ 44 }
         ensures tells { Tells meaning (timed (ticket_of out.old ask) (result_ok answer)) self.old self.new out.old out.new (turn_of result) }
-        ensures goes { Goes meaning (meaning.waits self.old (TimeOf ask)) self.old self.new out.old out.new pd.old pd.new (turn_of result) }
+        ensures goes { Goes meaning.phase (meaning.waits self.old (TimeOf ask)) self.old self.new out.old out.new pd.old pd.new (turn_of result) }
         ensures counts { Counts meaning (is_err answer) false 0 0 self.old self.new out.old out.new (turn_of result) }
         ensures ready { meaning.ready self.new }
         ensures numbers { HasNumbers out.new };
