@@ -1,4 +1,5 @@
 pub mod Counting
+pub mod Numbering
 pub mod Parting
 pub mod Showing
 pub mod Telling

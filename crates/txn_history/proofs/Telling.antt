@@ -12,7 +12,8 @@ use Rattle.txn_kv.specs.declared.ticket.Target.{Target}
 use Rattle.txn_history.specs.Among.{IsAmong}
 use Rattle.txn_history.specs.Event.{Event}
 use Rattle.txn_history.specs.Event.Event.{Sent}
-use Rattle.txn_history.specs.Meaning.{further, Counts, Expects, Goes, IsLater, IsLawful, Meaning, Tells, Told}
+use Rattle.txn_history.specs.Meaning.{further, Counts, Expects, Goes, IsLawful, Meaning, Tells, Told}
+use Rattle.txn_history.specs.Later.{IsLater-refl}
 use Rattle.txn_history.specs.Moves.{Moves, Moves-before, Moves-map, Moves-quiet, Moves-sent, Moves-then, SameJob, SameJob-trans}
 use Rattle.txn_history.specs.Spends.{Spends}
 use Rattle.txn_history.proofs.Counting.{Spends-then}
@@ -24,9 +25,6 @@ use Rattle.txn_history.specs.Turn.Turn.{Stopped, Waits, Ends}
 
 pub SameJob-refl : {S A : Type 0} {asks : S → List Event → Request → Type 0} {gives : S → List Event → A → Type 0} {s : S} → SameJob asks gives s s
 SameJob-refl = record { asked = λ h r x. x; given = λ h v x. x; gave = λ h v x. x }
-
-pub IsLater-refl : (o : Posted) → IsLater o o
-IsLater-refl o = record { line = refl; beat = refl; next = le_refl o.next; next_ask = le_refl o.next_ask }
 
 -- a call that answers that memory is wanting
 pub turn_stopped : {A : Type 0} (r : Result (Progress A) NoMemory) → IsErr r → turn_of r ≡ Stopped

@@ -8,6 +8,8 @@ pub mod Turn
 pub mod Moves
 pub mod Spends
 pub mod Parts
+pub mod Later
+pub mod Heeds
 pub mod Faults
 pub mod Phase
 pub mod Meaning

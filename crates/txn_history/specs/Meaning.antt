@@ -1,11 +1,13 @@
 -- What a contract sees of a call state, whatever the state is made of, and what each event call of every state keeps to.
 use Rattle.std.specs.Prelude.{◌≡◌, ◌⊎◌, ⊤, ℕ, ◌<◌, ◌≤◌, ◌++◌, Bool, List, ◌∷◌, Option}
 use Rattle.txn_kv.specs.declared.request.Request.{Request}
+use Rattle.std.proofs.Math.Nat.{le_trans}
 use Rattle.txn_kv.specs.declared.reply.Reply.{Reply}
 use Rattle.txn_kv.specs.declared.ticket.Ticket.{Ticket}
 use Rattle.txn_kv.specs.declared.timestamp.Timestamp.{Timestamp}
 use Rattle.txn_history.specs.Event.{Event, Has}
 use Rattle.txn_history.specs.Event.Event.{Sent, Took, Lost, Began, Slept, Asked, Answered}
+use Rattle.txn_history.specs.Later.{IsLater, IsLater-ticket}
 use Rattle.txn_history.specs.Moves.{Moves, SameJob}
 use Rattle.txn_history.specs.Phase.{Phase, Awaited, phase_after, unheard, IsPosted}
 use Rattle.txn_history.specs.Phase.Awaited.{ReplyTo, EndOf, TimeOf}
@@ -37,13 +39,6 @@ pub record Meaning (S A : Type 0) : Type 1 where
   pub bears : S → ℕ → Type 0
   -- the answer is one that a new run may better
   pub fails : A → Bool
-
--- the outbox of the same line, later
-pub record IsLater (o p : Posted) : Type 0 where
-  pub line : p.line ≡ o.line
-  pub beat : p.beat ≡ o.beat
-  pub next : o.next ≤ p.next
-  pub next_ask : o.next_ask ≤ p.next_ask
 
 -- what is waited for was posted by this line
 abbrev pub WasPosted : Posted → List Event → Awaited → Type 0
@@ -133,3 +128,10 @@ pub record Counts {S A : Type 0} (m : Meaning S A) (bad fails : Bool) (weight lo
     (old new : S) (from to : Posted) (turn : Turn A) : Type 0 where
   pub spends : Spends (m.bears old) (m.bears new) (m.left old) (m.left new) (m.round old) bad fails weight locked (m.width old) (m.width new) from to (is_kept turn) (failing m.fails turn)
   pub fewer : (n : ℕ) → m.round new n ≤ m.round old n
+
+-- lemmas
+
+pub WasPosted-longer : {o later : Posted} (h longer : List Event) (a : Awaited) → IsLater o later → Within h longer → WasPosted o h a → WasPosted later longer a
+WasPosted-longer h longer (ReplyTo n) l w p = (p.0, rw (IsLater-ticket l n) (w _ p.1), le_trans p.2 l.next)
+WasPosted-longer h longer (EndOf n) l w p = (p.0, rw (IsLater-ticket l n) (w _ p.1), le_trans p.2 l.next)
+WasPosted-longer h longer (TimeOf n) l w p = (rw (IsLater-ticket l n) (w _ p.0), le_trans p.1 l.next_ask)

@@ -5,7 +5,8 @@ use Rattle.std.proofs.Math.Nat.{le_trans}
 use Rattle.txn_history.specs.Event.{Event, Has}
 use Rattle.txn_history.specs.Event.Event.{Sent, Took, Lost}
 use Rattle.txn_history.specs.Faults.{may_better}
-use Rattle.txn_history.specs.Meaning.{IsLater, IsLawful, Meaning, WasPosted}
+use Rattle.txn_history.specs.Later.{IsLater, IsLater-ticket}
+use Rattle.txn_history.specs.Meaning.{IsLawful, Meaning, WasPosted}
 use Rattle.txn_history.specs.Phase.{Awaited, IsRunning, Phase}
 use Rattle.txn_history.specs.Phase.Awaited.{ReplyTo}
 use Rattle.txn_history.specs.Phase.Phase.{Fresh, Running, Over, GivenUp}
@@ -81,12 +82,9 @@ IsSentOnce r store g o p = (g ≡ stage.Sent o.next) × (p ≡ record o { next =
 
 -- lemmas
 
-same_ticket : (o p : Posted) (n : ℕ) → IsLater o p → ticket_of o n ≡ ticket_of p n
-same_ticket o p n l = rw (l.line, l.beat) refl
-
 IsAt-longer : (r : Request) (g : Stage) (o p : Posted) (h longer : List Event) → IsLater o p → Within h longer → IsAt r g o h → IsAt r g p longer
 IsAt-longer r stage.Fresh o p h longer l w f = tt
-IsAt-longer r (stage.Sent n) o p h longer l w f = (subst (λ (t : Ticket). Has longer (Sent t r)) (same_ticket o p n l) (w _ f.0), le_trans f.1 l.next)
+IsAt-longer r (stage.Sent n) o p h longer l w f = (rw (IsLater-ticket l n) (w _ f.0), le_trans f.1 l.next)
 IsAt-longer r stage.Over o p h longer l w f = tt
 IsAt-longer r stage.Stopped o p h longer l w f = tt
 

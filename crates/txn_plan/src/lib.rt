@@ -6,7 +6,10 @@ pub mod dispatch;
 pub mod plan;
 pub mod process;
 pub mod process_response;
+pub mod send;
 pub mod stage;
+#[cfg(test)]
+mod tests;
 
 pub use copy_request::CopyRequest;
 pub use dispatch::Dispatch;

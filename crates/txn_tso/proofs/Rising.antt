@@ -1,17 +1,16 @@
 -- The answers to a group keep its order, rise, and are in range.
-use Rattle.std.proofs.Common.{◌≡◌, ℕ, ◌+◌, ◌-◌, ◌*◌, ◌^◌, ◌<◌, ◌≤◌, Bool, true, false, List, [], ◌∷◌, length, map, drop, get_or, refl, ap, subst, suc, ◌∙◌, arith}
+use Rattle.std.proofs.Common.{◌≡◌, ℕ, ◌+◌, ◌-◌, ◌^◌, ◌<◌, ◌≤◌, Bool, true, false, List, [], ◌∷◌, length, map, drop, get_or, refl, ap, subst, suc, ◌∙◌, arith}
 use Rattle.std.proofs.Math.Seq.{drop-cons}
 use Rattle.std.proofs.lemmas.List.{length-drop}
 use Rattle.std.proofs.lemmas.List.Elements.{All-cons, All-nil}
-use Rattle.std.specs.Prelude.{IfOk, ℤ, pos, negsuc, ◌≤ℤ◌, ◌<ℤ◌, ◌-ℤ◌, unsigned_abs, int_le, int_lt, if◌then◌else◌, Option, Some, None, Result, Ok, Err}
+use Rattle.std.specs.Prelude.{IfOk, ℤ, pos, negsuc, ◌-ℤ◌, unsigned_abs, int_le, int_lt, if◌then◌else◌, Option, Some, None, Ok, Err}
 use Rattle.std.specs.List.{All}
 use Rattle.std.proofs.lemmas.Int.{ints}
 use Rattle.txn_kv.specs.declared.reply.TsoResponse.{TsoResponse}
 use Rattle.txn_kv.specs.declared.timestamp.Timestamp.{Timestamp}
-use Rattle.txn_kv.specs.declared.errors.Error.{Error}
 use Rattle.txn_kv.specs.declared.errors.Error.TheVariants.{InternalError}
 use Rattle.txn_kv.specs.declared.errors.Internal.TheVariants.{OracleCount, OracleEmpty}
-use Rattle.txn_kv.specs.Timestamp.{HasVersion, version_of}
+use Rattle.txn_kv.specs.Timestamp.{HasVersion}
 use Rattle.txn_tso.specs.Oracle.{answer, answers, granted, granted_if, has_version, is_unlike, IsBelow, AreRising, HasVersionIfOk, Answer}
 use Rattle.txn_tso.specs.declared.asker.Asker.{Asker}
 

@@ -1,15 +1,15 @@
 -- How many asks a call to the placement driver makes, and how many it has left. Its requests to the placement driver are not
 -- counted here.
-use Rattle.std.specs.Prelude.{ℕ, Bool, true, false, Result, Ok, Err, is_err}
+use Rattle.std.specs.Prelude.{ℕ, Bool, true, false, Result, Ok, Err}
 use Rattle.txn_kv.specs.declared.errors.Error.{Error}
 use Rattle.txn_kv.specs.declared.errors.Error.TheVariants.{GrpcAPI}
 use Rattle.txn_kv.specs.declared.query.PdAnswer.{PdAnswer}
 use Rattle.txn_kv.specs.declared.query.PdQuery.{PdQuery}
-use Rattle.txn_kv.specs.declared.query.PdQuery.TheVariants.{Region, RegionId, Store, Stores, Time, Safepoint}
+use Rattle.txn_kv.specs.declared.query.PdQuery.TheVariants.{Time}
 use Rattle.txn_history.specs.Posted.{Posted}
 use Rattle.txn_history.specs.Spends.{Spends}
 use Rattle.txn_history.specs.Turn.{Turn, failing}
-use Rattle.txn_history.specs.Turn.Turn.{Stopped, Waits, Ends}
+use Rattle.txn_history.specs.Turn.Turn.{Stopped}
 use Rattle.txn_tso.specs.declared.pd_call.PdCall.{PdCall}
 use Rattle.txn_tso.specs.declared.stage.Stage.{Stage}
 use Rattle.txn_tso.specs.declared.stage.Stage.TheVariants as stage

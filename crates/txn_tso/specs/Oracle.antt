@@ -1,5 +1,5 @@
 -- A client's asks for timestamps, and what they are answered.
-use Rattle.std.specs.Prelude.{ℕ, ◌<◌, ◌≤◌, ◌^◌, ◌==◌, ◌&&◌, ◌||◌, Bool, not, if◌then◌else◌, min, List, [], ◌∷◌, length, take, drop, Option, Some, None, is_none, Result, Ok, Err, IfOk, nat_eq, pos, int_le, int_lt, ◌-ℤ◌}
+use Rattle.std.specs.Prelude.{ℕ, ◌<◌, ◌≤◌, ◌^◌, ◌==◌, ◌&&◌, ◌||◌, Bool, not, if◌then◌else◌, List, [], ◌∷◌, length, take, drop, Option, Some, None, is_none, Result, Ok, Err, IfOk, nat_eq, pos, int_le, int_lt, ◌-ℤ◌}
 use Rattle.std.specs.List.{All}
 use Rattle.txn_kv.specs.Timestamp.{HasVersion, version_of}
 use Rattle.txn_kv.specs.declared.errors.Error.{Error}

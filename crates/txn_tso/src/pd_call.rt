@@ -1,4 +1,4 @@
-ghost use Rattle.std.specs.Prelude.{◌≡◌, ◌≢◌, ◌∷◌, None, Some, IfOk, IsErr, is_err, true, false};
+ghost use Rattle.std.specs.Prelude.{◌≡◌, ◌≢◌, ◌∷◌, None, Some, IfOk, is_err, true, false};
 ghost use Rattle.std.specs.Bool.{MatchBool};
 ghost use Rattle.std.specs.Result.{result_ok};
 ghost use Rattle.txn_kv.specs.declared.reply.MembersResponse.{MembersResponse};
@@ -7,11 +7,14 @@ ghost use Rattle.txn_kv.specs.declared.request.Request.{Request as Asked};
 ghost use Rattle.txn_history.specs.Event.Event.{Took, Lost, Slept, Answered};
 ghost use Rattle.txn_history.specs.Moves.{Moves};
 ghost use Rattle.txn_history.specs.Posted.{HasNumbers, Posted, ticket_of};
+ghost use Rattle.txn_history.specs.Spends.{sleeps};
 ghost use Rattle.txn_history.specs.Turn.{turn_of};
+ghost use Rattle.txn_history.specs.Turn.Turn.{Waits};
+ghost use Rattle.txn_tso.specs.Heeding.{hears_answer, hears_reply, hears_start, hears_waking, CallHeeds};
 ghost use Rattle.txn_tso.specs.Calling.{CallFits, Gives, MayAsk, MayBe};
 ghost use Rattle.txn_tso.specs.Counting.{CallSpends};
 ghost use Rattle.txn_tso.specs.Placement.{fresh, request_of, not_found};
-ghost use Rattle.txn_tso.specs.Steps.{connected, connecting, ends, failing_try, losing_members, on_answer, on_loss, on_start, on_waking, reconnected, resting, standing, tried, tried_with, unconnected, waits, IsMembersReply, IsOnReply, IsQueryReply, Stands, StandsBy};
+ghost use Rattle.txn_tso.specs.Steps.{connected, connecting, ends, failing_try, losing_members, on_answer, on_loss, on_start, on_timestamp, on_waking, reconnected, resting, standing, tried, tried_with, unconnected, waits, IsMembersReply, IsOnReply, IsQueryReply, Stands, StandsBy};
 
 use crate::cluster::Cluster;
 use crate::reading::{Reading, read};
@@ -55,6 +58,277 @@ impl PdCall {
             query,
             failed: 0,
             stage: Stage::Fresh,
+        }
+    }
+
+    /// What it asks.
+    pub fn query(&self) -> &PdQuery
+        ensures { result.now ≡ self.now.query }
+    {
+        &self.query
+    }
+
+    /// The same call, which waits for the same.
+    pub fn try_clone(&self) -> std::result::Result<PdCall, NoMemory>
+        ensures { IfOk result (λ call. call ≡ self.now) }
+    {
+        Ok(PdCall {
+            query: copy_query(&self.query)?,
+            failed: self.failed,
+            stage: self.stage,
+        })
+    }
+
+    /// Makes the first try.
+    pub fn start(&mut self, client: &mut RetryClient, _now: u64, out: &mut Outbox) -> Turn
+        requires { HasNumbers out.old }
+        ensures step { Stands self.old.query out.old (on_start self.old.stage (standing self.old client.old out.old)) (turn_of result) (standing self.new client.new out.new) }
+        ensures moves { Moves (MayAsk self.old) (CallFits self.old out.old) (CallFits self.new out.new) (Gives self.old out.old) (λ h. h) out.old out.new (turn_of result) }
+        ensures spends { CallSpends self.old self.new false out.old out.new (turn_of result) }
+        ensures job { self.new.query ≡ self.old.query }
+        ensures numbers { HasNumbers out.new }
+        ensures heeds { CallHeeds (hears_start self.old.stage) (standing self.old client.old out.old) (turn_of result) (standing self.new client.new out.new) }
+    {
+        if self.has_given_up() {
+            return Err(NoMemory);
+        }
+        self.hear_start(client, out)
+    }
+
+    /// The reply to the request of this number came.
+    pub fn take_reply(
+        &mut self,
+        client: &mut RetryClient,
+        now: u64,
+        number: u64,
+        reply: Reply,
+        out: &mut Outbox,
+    ) -> Turn
+        requires { HasNumbers out.old }
+        ensures step { StandsBy self.old.query out.old (IsOnReply self.old.stage number reply now (standing self.old client.old out.old)) (turn_of result) (standing self.new client.new out.new) }
+        ensures moves { (r : Asked) → MayBe self.old.query self.old.stage number r →
+            Moves (MayAsk self.old) (CallFits self.old out.old) (CallFits self.new out.new) (Gives self.old out.old) (λ h. Took (ticket_of out.old number) r reply ∷ h) out.old out.new (turn_of result) }
+        ensures spends { CallSpends self.old self.new false out.old out.new (turn_of result) }
+        ensures job { self.new.query ≡ self.old.query }
+        ensures numbers { HasNumbers out.new }
+        ensures heeds { CallHeeds (hears_reply self.old.stage number) (standing self.old client.old out.old) (turn_of result) (standing self.new client.new out.new) }
+    {
+        if self.has_given_up() {
+            return Err(NoMemory);
+        }
+        self.hear_reply(client, now, number, reply, out)
+    }
+
+    /// No reply to the request of this number will come.
+    pub fn lost(
+        &mut self,
+        client: &mut RetryClient,
+        now: u64,
+        number: u64,
+        out: &mut Outbox,
+    ) -> Turn
+        requires { HasNumbers out.old }
+        ensures step { Stands self.old.query out.old (on_loss self.old.stage number now (standing self.old client.old out.old)) (turn_of result) (standing self.new client.new out.new) }
+        ensures moves { (r : Asked) → MayBe self.old.query self.old.stage number r →
+            Moves (MayAsk self.old) (CallFits self.old out.old) (CallFits self.new out.new) (Gives self.old out.old) (λ h. Lost (ticket_of out.old number) r ∷ h) out.old out.new (turn_of result) }
+        ensures spends { CallSpends self.old self.new true out.old out.new (turn_of result) }
+        ensures job { self.new.query ≡ self.old.query }
+        ensures numbers { HasNumbers out.new }
+        ensures heeds { CallHeeds (hears_reply self.old.stage number) (standing self.old client.old out.old) (turn_of result) (standing self.new client.new out.new) }
+    {
+        if self.has_given_up() {
+            return Err(NoMemory);
+        }
+        self.hear_loss(client, now, number, out)
+    }
+
+    /// The sleep of this number has ended.
+    pub fn slept(
+        &mut self,
+        client: &mut RetryClient,
+        now: u64,
+        number: u64,
+        out: &mut Outbox,
+    ) -> Turn
+        requires { HasNumbers out.old }
+        ensures step { Stands self.old.query out.old (on_waking self.old.stage number now (standing self.old client.old out.old)) (turn_of result) (standing self.new client.new out.new) }
+        ensures moves { Moves (MayAsk self.old) (CallFits self.old out.old) (CallFits self.new out.new) (Gives self.old out.old) (λ h. Slept (ticket_of out.old number) ∷ h) out.old out.new (turn_of result) }
+        ensures spends { CallSpends self.old self.new false out.old out.new (turn_of result) }
+        ensures job { self.new.query ≡ self.old.query }
+        ensures numbers { HasNumbers out.new }
+        ensures heeds { CallHeeds (hears_waking self.old.stage number) (standing self.old client.old out.old) (turn_of result) (standing self.new client.new out.new) }
+    {
+        if self.has_given_up() {
+            return Err(NoMemory);
+        }
+        self.hear_waking(client, now, number, out)
+    }
+
+    /// The ask of this number was answered, by the oracle of the client.
+    pub fn take_time(
+        &mut self,
+        client: &mut RetryClient,
+        now: u64,
+        ask: u64,
+        answer: Result<Timestamp>,
+        out: &mut Outbox,
+    ) -> Turn
+        requires { HasNumbers out.old }
+        ensures step { Stands self.old.query out.old (on_answer self.old.stage ask answer now (standing self.old client.old out.old)) (turn_of result) (standing self.new client.new out.new) }
+        ensures moves { Moves (MayAsk self.old) (CallFits self.old out.old) (CallFits self.new out.new) (Gives self.old out.old) (λ h. Answered (ticket_of out.old ask) (result_ok answer) ∷ h) out.old out.new (turn_of result) }
+        ensures spends { CallSpends self.old self.new (is_err answer) out.old out.new (turn_of result) }
+        ensures awake { sleeps out.new ≡ sleeps out.old }
+        ensures job { self.new.query ≡ self.old.query }
+        ensures numbers { HasNumbers out.new }
+        ensures heeds { CallHeeds (hears_answer self.old.stage ask) (standing self.old client.old out.old) (turn_of result) (standing self.new client.new out.new) }
+    {
+        if self.has_given_up() {
+            return Err(NoMemory);
+        }
+        self.hear_answer(client, now, ask, answer, out)
+    }
+
+    fn has_given_up(&self) -> bool
+        ensures { MatchBool result (self.now.stage ≡ Stage.Stopped) (self.now.stage ≢ Stage.Stopped) }
+    {
+        matches!(self.stage, Stage::Stopped)
+    }
+
+    // What a call that has not given up makes of each event. It hears only what it waits for.
+
+    fn hear_start(&mut self, client: &RetryClient, out: &mut Outbox) -> Turn
+        requires { HasNumbers out.old }
+        ensures step { Stands self.old.query out.old (on_start self.old.stage (standing self.old client.now out.old)) (turn_of result) (standing self.new client.now out.new) }
+        ensures unheard { hears_start self.old.stage ≡ false → (turn_of result ≡ Waits) × (self.new ≡ self.old) × (out.new ≡ out.old) }
+    {
+        match self.stage {
+            Stage::Fresh => self.make_try(client, out),
+            _ => Ok(Progress::Waiting),
+        }
+    }
+
+    fn hear_reply(
+        &mut self,
+        client: &mut RetryClient,
+        now: u64,
+        number: u64,
+        reply: Reply,
+        out: &mut Outbox,
+    ) -> Turn
+        requires { HasNumbers out.old }
+        ensures step { StandsBy self.old.query out.old (IsOnReply self.old.stage number reply now (standing self.old client.old out.old)) (turn_of result) (standing self.new client.new out.new) }
+        ensures unheard { hears_reply self.old.stage number ≡ false → (turn_of result ≡ Waits) × (standing self.new client.new out.new ≡ standing self.old client.old out.old) }
+    {
+        match self.stage {
+            Stage::Sent(sent) => {
+                if sent != number {
+                    return Ok(Progress::Waiting);
+                }
+                self.take_answer(client, now, reply, out)
+            }
+            Stage::Reconnecting { number: sent, .. } => {
+                if sent != number {
+                    return Ok(Progress::Waiting);
+                }
+                self.take_members(client, now, reply, out)
+            }
+            _ => Ok(Progress::Waiting),
+        }
+    }
+
+    fn hear_loss(
+        &mut self,
+        client: &mut RetryClient,
+        now: u64,
+        number: u64,
+        out: &mut Outbox,
+    ) -> Turn
+        requires { HasNumbers out.old }
+        ensures step { Stands self.old.query out.old (on_loss self.old.stage number now (standing self.old client.old out.old)) (turn_of result) (standing self.new client.new out.new) }
+        ensures unheard { hears_reply self.old.stage number ≡ false → (turn_of result ≡ Waits) × (standing self.new client.new out.new ≡ standing self.old client.old out.old) }
+    {
+        match self.stage {
+            Stage::Sent(sent) => {
+                if sent != number {
+                    return Ok(Progress::Waiting);
+                }
+                let ticket = out.ticket(number);
+                self.fail(Error::GrpcAPI(ticket), client, now, out)
+            }
+            Stage::Reconnecting {
+                number: sent,
+                failed,
+            } => {
+                if sent != number {
+                    return Ok(Progress::Waiting);
+                }
+                self.lose_members(client, number, failed, out)
+            }
+            _ => Ok(Progress::Waiting),
+        }
+    }
+
+    fn hear_waking(
+        &mut self,
+        client: &mut RetryClient,
+        now: u64,
+        number: u64,
+        out: &mut Outbox,
+    ) -> Turn
+        requires { HasNumbers out.old }
+        ensures step { Stands self.old.query out.old (on_waking self.old.stage number now (standing self.old client.old out.old)) (turn_of result) (standing self.new client.new out.new) }
+        ensures unheard { hears_waking self.old.stage number ≡ false → (turn_of result ≡ Waits) × (standing self.new client.new out.new ≡ standing self.old client.old out.old) }
+    {
+        match self.stage {
+            Stage::Resting {
+                number: begun,
+                failed,
+            } => {
+                if begun != number {
+                    return Ok(Progress::Waiting);
+                }
+                self.reconnect(failed, client, now, out)
+            }
+            _ => Ok(Progress::Waiting),
+        }
+    }
+
+    fn hear_answer(
+        &mut self,
+        client: &mut RetryClient,
+        now: u64,
+        ask: u64,
+        answer: Result<Timestamp>,
+        out: &mut Outbox,
+    ) -> Turn
+        requires { HasNumbers out.old }
+        ensures step { Stands self.old.query out.old (on_answer self.old.stage ask answer now (standing self.old client.old out.old)) (turn_of result) (standing self.new client.new out.new) }
+        ensures unheard { hears_answer self.old.stage ask ≡ false → (turn_of result ≡ Waits) × (standing self.new client.new out.new ≡ standing self.old client.old out.old) }
+    {
+        match self.stage {
+            Stage::Asked(asked) => {
+                if asked != ask {
+                    return Ok(Progress::Waiting);
+                }
+                self.take_timestamp(client, now, answer, out)
+            }
+            _ => Ok(Progress::Waiting),
+        }
+    }
+
+    fn take_timestamp(
+        &mut self,
+        client: &mut RetryClient,
+        now: u64,
+        answer: Result<Timestamp>,
+        out: &mut Outbox,
+    ) -> Turn
+        requires { HasNumbers out.old }
+        ensures { Stands self.old.query out.old (on_timestamp answer now (standing self.old client.old out.old)) (turn_of result) (standing self.new client.new out.new) }
+    {
+        match answer {
+            Ok(timestamp) => self.end(Ok(PdAnswer::Time(timestamp))),
+            Err(why) => self.fail(why, client, now, out),
         }
     }
 
@@ -235,6 +509,19 @@ impl PdCall {
         self.stage = Stage::Resting { number, failed };
         Ok(Progress::Waiting)
     }
+}
+
+fn copy_query(query: &PdQuery) -> std::result::Result<PdQuery, NoMemory>
+    ensures { IfOk result (λ copy. copy ≡ query.now) }
+{
+    Ok(match query {
+        PdQuery::Region(key) => PdQuery::Region(key.try_clone()?),
+        PdQuery::RegionId(id) => PdQuery::RegionId(*id),
+        PdQuery::Store(id) => PdQuery::Store(*id),
+        PdQuery::Stores => PdQuery::Stores,
+        PdQuery::Time => PdQuery::Time,
+        PdQuery::Safepoint(safe_point) => PdQuery::Safepoint(*safe_point),
+    })
 }
 
 fn wrong_reply() -> Error

@@ -1,4 +1,4 @@
-use Rattle.std.proofs.Common.{◌≡◌, length, arith}
+use Rattle.std.proofs.Common.{length, arith}
 use Rattle.txn_tso.proofs.Rising.{answers-in_range, answers-order, answers-rise}
 use Rattle.txn_tso.specs.Oracle.{askers_out}
 use Rattle.txn_tso.proofs.oracle.TimestampOracle.take_reply.Goals as goal

@@ -1,4 +1,4 @@
-use Rattle.std.proofs.Common.{◌≡◌, Some, None, sym, subst, ◌∙◌}
+use Rattle.std.proofs.Common.{sym, subst, ◌∙◌}
 use Rattle.std.specs.Prelude.{Option}
 use Rattle.txn_history.specs.Turn.{turn_of}
 use Rattle.txn_kv.specs.declared.request.Request.{Request}
