@@ -20,7 +20,7 @@ use Rattle.txn_history.proofs.Counting.{Spends-then}
 use Rattle.txn_history.specs.Phase.{Awaited, IsPosted, Phase, phase_after, unheard}
 use Rattle.txn_history.specs.Phase.Phase.{Fresh, Running, Over, GivenUp}
 use Rattle.txn_history.specs.Posted.{Posted, ticket_of, Within-refl}
-use Rattle.txn_history.specs.Turn.{Turn, turn_of, IfEnds, IfKept, IfKept-all, IfKept-out}
+use Rattle.txn_history.specs.Turn.{HasEnded, Turn, turn_of, IfEnds, IfKept, IfKept-all, IfKept-out}
 use Rattle.txn_history.specs.Turn.Turn.{Stopped, Waits, Ends}
 
 pub SameJob-refl : {S A : Type 0} {asks : S → List Event → Request → Type 0} {gives : S → List Event → A → Type 0} {s : S} → SameJob asks gives s s
@@ -139,12 +139,6 @@ Tells-then {m = m} {told = told} {old = old} {mid = mid} {new = new} {from = fro
     t_asks : (l : List Event) (r : Request) → m.asks mid l r → m.asks old l r
     t_asks l r a = job.asked l r a
 
--- there is an answer
-abbrev pub HasEnded : {A : Type 0} → Turn A → Type 0
-HasEnded Stopped = ⊥
-HasEnded Waits = ⊥
-HasEnded (Ends v) = ⊤
-
 -- The second call is for the state where the first had an answer.
 pub Goes-then : {S A B C : Type 0} {phase : S → Phase} {meant : Type 0} {old mid new : S} {from via to : Posted} {pd pd' pd'' : C} {turn : Turn B}
     → (p : Turn A) → p ≢ Stopped
@@ -178,3 +172,23 @@ Counts-then worse s fewer t = record {
   spends = Spends-then worse (λ e. e) (λ e. e) (λ n w u o. fewer n) s t.spends;
   fewer = λ n. le_trans (t.fewer n) (fewer n);
 }
+
+-- a state that answered is over
+pub Goes-ended : {S A C : Type 0} {phase : S → Phase} {meant : Type 0} {old new : S} {from to : Posted} {pd pd' : C} (turn : Turn A)
+    → Goes phase meant old new from to pd pd' turn → HasEnded turn → phase new ≡ Over
+Goes-ended Stopped t e = absurd e
+Goes-ended Waits t e = absurd e
+Goes-ended {phase = phase} {old = old} {new = new} (Ends a) t e = over (phase new) (λ other. never_ends (phase old) a (t.deaf (λ this. other (t.next this))))
+  where
+    over : (p : Phase) → ((p ≡ Over → ⊥) → ⊥) → p ≡ Over
+    over Fresh n = absurd (n (λ (q : Fresh ≡ Over). cc))
+    over Running n = absurd (n (λ (q : Running ≡ Over). cc))
+    over Over n = refl
+    over GivenUp n = absurd (n (λ (q : GivenUp ≡ Over). cc))
+
+-- what is known before may say more
+pub Tells-before : {S A : Type 0} {m : Meaning S A} {known more : List Event → Type 0} {old new : S} {from to : Posted} {turn : Turn A}
+    → ((h : List Event) → more h → known h)
+    → Tells m (further known) old new from to turn
+    → Tells m (further more) old new from to turn
+Tells-before w t = record { moves = Moves-before (λ h f. (f.0, w h f.1)) t.moves; job = t.job; expects = t.expects }

@@ -31,6 +31,12 @@ IfEnds Stopped P = Unit {0}
 IfEnds Waits P = Unit {0}
 IfEnds (Ends v) P = P v
 
+-- there is an answer
+abbrev pub HasEnded : {A : Type 0} → Turn A → Type 0
+HasEnded Stopped = ⊥
+HasEnded Waits = ⊥
+HasEnded (Ends v) = Unit {0}
+
 -- it did not give up
 abbrev pub is_kept : {A : Type 0} → Turn A → Bool
 is_kept Stopped = false

@@ -18,7 +18,7 @@ use Rattle.txn_history.specs.Posted.{Posted, ticket_of}
 use Rattle.txn_history.specs.Turn.{Turn}
 use Rattle.txn_history.specs.Turn.Turn.{Stopped, Waits, Ends}
 use Rattle.txn_history.proofs.Telling.{Tells-quiet, Tells-sent, Tells-stopped}
-use Rattle.txn_plan.specs.Dispatch.{dispatch, stage_waits, IsAt, IsReplied, IsSentOnce}
+use Rattle.txn_plan.specs.Dispatch.{dispatch, stage_waits, IsAt, IsReplied, IsSentOnce, IsUnsent}
 use Rattle.txn_plan.specs.declared.dispatch.Dispatch.{Dispatch}
 use Rattle.txn_plan.specs.declared.stage.Stage.{Stage}
 use Rattle.txn_plan.specs.declared.stage.Stage.TheVariants as stage
@@ -58,8 +58,9 @@ not_ask g n a e w = no_ask g n (rw e at w)
 -- calls that are
 
 same_job : {R V : Type 0} (request_of : R → Request) (reply_of : V → Reply) (old : Dispatch R V) (g : Stage)
+    → (IsUnsent g → ⊥)
     → SameJob (dispatch request_of reply_of).asks (dispatch request_of reply_of).gives (record old { stage = g }) old
-same_job request_of reply_of old g = record { asked = λ h r x. x; given = λ h v x. x; gave = λ h v x. x }
+same_job request_of reply_of old g gone = record { asked = λ h r x. absurd (gone x.0); given = λ h v x. x; gave = λ h v x. x }
 
 -- the reply's content is the answer, or it is of another kind
 read : {V : Type 0} (reply_of : V → Reply) (r q : Request) (t : Ticket) (x : Reply) (v : Result V Error) (h : List Event) → r ≡ q
@@ -75,7 +76,7 @@ pub take_reply : {R V : Type 0} (request_of : R → Request) (reply_of : V → R
 take_reply request_of reply_of old o n q x v e m = Tells-quiet
     (λ h f. tt)
     (λ h f. read reply_of (request_of old.request) q (ticket_of o n) x v h (f.1.alone _ ((rw e at f.0).0)) m)
-    (same_job request_of reply_of old stage.Over)
+    (same_job request_of reply_of old stage.Over (λ u. u))
     (λ a w. absurd w)
 
 pub lose : {R V : Type 0} (request_of : R → Request) (reply_of : V → Reply) (old : Dispatch R V) (o : Posted) (n : ℕ) (q : Request)
@@ -84,7 +85,7 @@ pub lose : {R V : Type 0} (request_of : R → Request) (reply_of : V → Reply) 
 lose request_of reply_of old o n q e = Tells-quiet
     (λ h f. tt)
     (λ h f. inl (ticket_of o n, inl (let same = f.1.alone _ ((rw e at f.0).0) in cc), refl))
-    (same_job request_of reply_of old stage.Over)
+    (same_job request_of reply_of old stage.Over (λ u. u))
     (λ a w. absurd w)
 
 -- its request goes out
@@ -95,14 +96,18 @@ may_wait old g n store r e a w = inr (Send n (Store store) r, inl refl, sym (rw 
 is_at : (r : Request) (g : Stage) (n : ℕ) (o : Posted) (h : List Event) → g ≡ stage.Sent n → n < o.next → IsAt r g o (Sent (ticket_of o n) r ∷ h)
 is_at r g n o h e l = rw e (inl refl, l)
 
+gone : (g : Stage) (n : ℕ) → g ≡ stage.Sent n → IsUnsent g → ⊥
+gone g n e u = rw e at u
+
 pub send : {R V : Type 0} (request_of : R → Request) (reply_of : V → Reply) (old new : Dispatch R V) (store : ℕ) (o p : Posted)
+    → old.stage ≡ stage.Fresh
     → new ≡ record old { stage = new.stage }
     → IsSentOnce (request_of old.request) store new.stage o p
     → Tells (dispatch request_of reply_of) started old new o p Waits
-send request_of reply_of old new store o p e i = rw e (Tells-sent (Store store) (request_of old.request) i.1
-    (λ h f. refl)
+send request_of reply_of old new store o p g e i = rw e (Tells-sent (Store store) (request_of old.request) i.1
+    (λ h f. (rw g tt, refl))
     (λ h f. rw i.1 (is_at (request_of old.request) new.stage o.next _ h i.0 (omega arith)))
-    (same_job request_of reply_of old new.stage)
+    (same_job request_of reply_of old new.stage (gone new.stage o.next i.0))
     (may_wait old.stage new.stage o.next store (request_of old.request) i.0))
 
 pub give_up : {R V : Type 0} (request_of : R → Request) (reply_of : V → Reply) (old new : Dispatch R V) (o p : Posted) (turn : Turn (Result V Error))
@@ -111,5 +116,5 @@ pub give_up : {R V : Type 0} (request_of : R → Request) (reply_of : V → Repl
     → turn ≡ Stopped
     → Tells (dispatch request_of reply_of) started old new o p turn
 give_up request_of reply_of old new o p turn e i t = Tells-stopped t i.1
-    (subst (λ (s : Dispatch _ _). SameJob (dispatch request_of reply_of).asks (dispatch request_of reply_of).gives s old) (sym e) (same_job request_of reply_of old new.stage))
+    (subst (λ (s : Dispatch _ _). SameJob (dispatch request_of reply_of).asks (dispatch request_of reply_of).gives s old) (sym e) (same_job request_of reply_of old new.stage (λ u. rw i.0 at u)))
     (λ a w. absurd (rw i.0 at w))

@@ -39,6 +39,13 @@ stage_waits (stage.Sent n) a = a ≡ ReplyTo n
 stage_waits stage.Over a = ⊥
 stage_waits stage.Stopped a = ⊥
 
+-- the request may still be sent
+abbrev pub IsUnsent : Stage → Type 0
+IsUnsent stage.Fresh = ⊤
+IsUnsent (stage.Sent n) = ⊥
+IsUnsent stage.Over = ⊥
+IsUnsent stage.Stopped = ⊥
+
 -- one request is left until it is sent
 abbrev pub stage_left : Stage → ℕ
 stage_left stage.Fresh = 1
@@ -64,7 +71,7 @@ IsReplied reply_of r h (Err e) =
 abbrev pub dispatch : {R V : Type 0} → (R → Request) → (V → Reply) → Meaning (Dispatch R V) (Result V Error)
 dispatch request_of reply_of = record {
   fits = λ s o h. IsAt (request_of s.request) s.stage o h;
-  asks = λ s h r. r ≡ request_of s.request;
+  asks = λ s h r. IsUnsent s.stage × (r ≡ request_of s.request);
   gives = λ s h v. IsReplied reply_of (request_of s.request) h v;
   phase = λ s. stage_phase s.stage;
   waits = λ s a. stage_waits s.stage a;

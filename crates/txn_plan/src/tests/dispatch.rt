@@ -3,8 +3,8 @@ use crate::{Dispatch, Plan};
 use std::alloc::Global;
 use std::test::Fail;
 use txn_kv::{
-    CleanupResponse, Errand, Error, GetRequest, GetResponse, Internal, Items, Key, NoMemory, Outbox,
-    Progress, Reply, Request, Target, Ticket, Value,
+    CleanupResponse, Errand, Error, GetRequest, GetResponse, Internal, Items, Key, NoMemory,
+    Outbox, Progress, Reply, Request, Target, Ticket, Value,
 };
 
 fn request(alloc: Global) -> GetRequest {
