@@ -2,3 +2,5 @@ pub mod Counting
 pub mod Numbering
 pub mod Parting
 pub mod Showing
+pub mod Telling
+pub mod Around

@@ -10,3 +10,7 @@ pub mod Spends
 pub mod Parts
 pub mod Later
 pub mod Heeds
+pub mod Faults
+pub mod Phase
+pub mod Meaning
+pub mod Around
