@@ -13,13 +13,23 @@ pub fn is_below(key: &Key, end: &Key) -> bool
     *key < *end || end.is_empty()
 }
 
-/// How many regions have ended where a key comes.
+/// How many regions have ended where a key comes. Each step branches, so that the processor reads on while it compares.
 fn count_ended(regions: &[RegionWithLeader], key: &Key) -> usize
     requires { AreApart regions.now }
     ensures count { result ≡ ended_at key.now regions.now }
     ensures bound { result ≤ length regions.now }
 {
-    regions.partition_point(|known| !is_below(key, &known.region.end_key))
+    let mut from = 0;
+    let mut to = regions.len();
+    'search: while from < to {
+        let middle = from + (to - from) / 2;
+        if is_below(key, &regions[middle].region.end_key) {
+            to = middle;
+        } else {
+            from = middle + 1;
+        }
+    }
+    from
 }
 
 /// How many regions begin below an end.
