@@ -1,5 +1,7 @@
 pub mod Apart
 pub mod Calling
+pub mod Ids
+pub mod Indexed
 pub mod Kept
 pub mod Meeting
 pub mod Order

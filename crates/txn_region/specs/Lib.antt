@@ -1,4 +1,5 @@
 pub mod Cache
 pub mod Calls
 pub mod Regions
+pub mod Starts
 pub mod Stores

@@ -6,6 +6,7 @@ mod law;
 pub mod region_cache;
 pub mod send;
 mod sorted;
+mod starts;
 pub mod stores;
 #[cfg(test)]
 mod tests;
