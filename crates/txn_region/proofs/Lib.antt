@@ -1,6 +1,8 @@
 pub mod Apart
 pub mod Believing
 pub mod Calling
+pub mod Ids
+pub mod Indexed
 pub mod Kept
 pub mod Joined
 pub mod KeyDecoding

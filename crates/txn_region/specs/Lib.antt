@@ -6,4 +6,5 @@ pub mod Groups
 pub mod Placement
 pub mod Regions
 pub mod RpcClient
+pub mod Starts
 pub mod Stores

@@ -13,6 +13,7 @@ pub mod placement;
 pub mod region_cache;
 pub mod send;
 mod sorted;
+mod starts;
 pub mod store;
 pub mod stores;
 #[cfg(test)]
