@@ -1,0 +1,4 @@
+pub mod Found
+pub mod KeyErrors
+pub mod Locks
+pub mod Views
