@@ -1,6 +1,7 @@
 ghost use Rattle.std.specs.Prelude.{◌≡◌, List, [], ◌∷◌, IfOk, OnOk, None, map};
 ghost use Rattle.std.proofs.Common.{ap, ◌∙◌};
 ghost use Rattle.txn_kv.specs.ErrorView.{ErrorView, key, view_of};
+ghost use Rattle.txn_merge.specs.Firsts.{LeftIn, first_seen, none_in, seen_in};
 ghost use Rattle.txn_merge.specs.Found.{AreSeen};
 ghost use Rattle.txn_merge.specs.KeyErrors.{no_error, no_errors, no_pair_errors, no_text, views_of_error, views_of_pairs, views_of_text, without_pair_error};
 
@@ -218,4 +219,49 @@ impl<Resp: HasKeyErrors, Shard> HasKeyErrors for ResponseWithShard<Resp, Shard> 
     fn key_errors(&mut self, alloc: Global) -> Result<Option<Vec<Error>>, NoMemory> {
         self.0.key_errors(alloc)
     }
+}
+
+/// An Err is its own error.
+impl<T: HasKeyErrors> HasKeyErrors for Result<T, Error> {
+    ghost key_errors_in = { seen_in T.key_errors_in };
+
+    ghost key_errors_left = { LeftIn T.key_errors_left };
+
+    ghost no_key_errors = { none_in T.key_errors_in T.key_errors_left T.no_key_errors };
+
+    fn key_errors(&mut self, alloc: Global) -> Result<Option<Vec<Error>>, NoMemory> {
+        match self {
+            Ok(value) => value.key_errors(alloc),
+            Err(error) => take_whole(alloc, error),
+        }
+    }
+}
+
+/// The errors of the first item that has some.
+impl<T: HasKeyErrors> HasKeyErrors for Vec<T> {
+    ghost key_errors_in = { λ s. first_seen T.key_errors_in s.items };
+
+    ghost key_errors_left = { λ old new. first_seen T.key_errors_in old.items ≡ [] → new ≡ old };
+
+    ghost no_key_errors = { λ _ _ left none. left none };
+
+    fn key_errors(&mut self, alloc: Global) -> Result<Option<Vec<Error>>, NoMemory> {
+        first_errors(alloc, self.as_mut_slice())
+    }
+}
+
+fn first_errors<T: HasKeyErrors>(
+    alloc: Global,
+    items: &mut [T],
+) -> Result<Option<Vec<Error>>, NoMemory>
+    ensures found { IfOk result (AreSeen (first_seen T.key_errors_in items.old)) }
+    ensures left { OnOk result (first_seen T.key_errors_in items.old ≡ [] → items.new ≡ items.old) }
+{
+    for item in items.iter_mut() {
+        let found = item.key_errors(alloc)?;
+        if found.is_some() {
+            return Ok(found);
+        }
+    }
+    Ok(None)
 }

@@ -1,9 +1,10 @@
 ghost use Rattle.std.specs.Prelude.{◌≡◌, List, [], IfOk, OnOk, None, Option};
 ghost use Rattle.std.proofs.Common.{ap, sym, ◌∙◌};
 ghost use Rattle.txn_kv.specs.declared.message.RegionErr.{RegionErr};
+ghost use Rattle.txn_merge.specs.Firsts.{no_region_in, region_in, without_region_in};
 
 use crate::response_with_shard::ResponseWithShard;
-use txn_kv::{GetResponse, BatchGetResponse, ScanResponse, PrewriteResponse, CommitResponse, CleanupResponse, BatchRollbackResponse, PessimisticRollbackResponse, PessimisticLockResponse, ResolveLockResponse, ScanLockResponse, TxnHeartBeatResponse, CheckTxnStatusResponse, CheckSecondaryLocksResponse, UnsafeDestroyRangeResponse, RegionErr};
+use txn_kv::{GetResponse, BatchGetResponse, ScanResponse, PrewriteResponse, CommitResponse, CleanupResponse, BatchRollbackResponse, PessimisticRollbackResponse, PessimisticLockResponse, ResolveLockResponse, ScanLockResponse, TxnHeartBeatResponse, CheckTxnStatusResponse, CheckSecondaryLocksResponse, UnsafeDestroyRangeResponse, Error, RegionErr};
 
 /// What a reply, or an answer, says of an error of its region.
 pub trait HasRegionError: Sized {
@@ -209,5 +210,21 @@ impl<Resp: HasRegionError, Shard> HasRegionError for ResponseWithShard<Resp, Sha
 
     fn region_error(&mut self) -> Option<RegionErr> {
         self.0.region_error()
+    }
+}
+
+/// An Err has none.
+impl<T: HasRegionError> HasRegionError for Result<T, Error> {
+    ghost region_error_in = { region_in T.region_error_in };
+
+    ghost without_region_error = { without_region_in T.without_region_error };
+
+    ghost no_region_error = { no_region_in T.region_error_in T.without_region_error T.no_region_error };
+
+    fn region_error(&mut self) -> Option<RegionErr> {
+        match self {
+            Ok(value) => value.region_error(),
+            Err(_) => None,
+        }
     }
 }
