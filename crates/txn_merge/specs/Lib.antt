@@ -4,3 +4,10 @@ pub mod Locks
 pub mod Views
 pub mod Firsts
 pub mod RegionErrors
+pub mod Extracted
+pub mod Gathered
+pub mod Joined
+pub mod Processed
+pub mod Secondary
+pub mod Shards
+pub mod Status
