@@ -1,5 +1,5 @@
 -- Errors that were found are those that are extracted.
-use Rattle.std.proofs.Common.{◌≡◌, ◌≢◌, List, [], ◌∷◌, Option, Some, None, map, refl, sym, ap, subst, ◌∙◌}
+use Rattle.std.proofs.Common.{◌≡◌, ◌≢◌, List, [], ◌∷◌, Option, Some, map, refl, sym, ap, subst, ◌∙◌}
 use Rattle.std.specs.Global.{Vec}
 use Rattle.txn_kv.specs.ErrorView.{ErrorView, extracted, listed, region, view_of}
 use Rattle.txn_kv.specs.declared.errors.Error.{Error}

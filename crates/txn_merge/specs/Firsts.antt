@@ -1,5 +1,5 @@
 -- Errors in results, and in lists of which one is asked after the other.
-use Rattle.std.specs.Prelude.{◌≡◌, List, [], ◌∷◌, Result, Ok, Err, Option, Some, None}
+use Rattle.std.specs.Prelude.{◌≡◌, List, [], ◌∷◌, Result, Ok, Err, Option, None}
 use Rattle.std.proofs.Common.{ap, refl}
 use Rattle.txn_kv.specs.ErrorView.{ErrorView, view_of}
 use Rattle.txn_kv.specs.declared.errors.Error.{Error}

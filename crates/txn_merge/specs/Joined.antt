@@ -1,5 +1,5 @@
 -- What replies hold, joined in their order.
-use Rattle.std.specs.Prelude.{◌≡◌, List, map}
+use Rattle.std.specs.Prelude.{List, map}
 use Rattle.std.specs.List.{flat_map}
 use Rattle.txn_kv.specs.declared.kvpair.KvPair.{KvPair}
 use Rattle.txn_kv.specs.declared.message.PbPair.{PbPair}

@@ -1,9 +1,9 @@
 -- The errors at keys that a reply holds, as the client's errors are seen.
-use Rattle.std.specs.Prelude.{◌≡◌, ◌≢◌, Bool, true, false, List, [], ◌∷◌, ◌++◌, Option, Some, None, map, ℕ}
-use Rattle.std.specs.List.{filter_map, flat_map}
+use Rattle.std.specs.Prelude.{◌≡◌, List, [], ◌∷◌, Option, Some, None, map, ℕ}
+use Rattle.std.specs.List.{flat_map}
 use Rattle.std.proofs.Common.{ap, refl, ◌∙◌}
 use Rattle.txn_merge.specs.Locks.{both_empty}
-use Rattle.txn_kv.specs.ErrorView.{ErrorView, view_of, key, kv}
+use Rattle.txn_kv.specs.ErrorView.{ErrorView, key, kv}
 use Rattle.txn_kv.specs.declared.message.KeyError.{KeyError}
 use Rattle.txn_kv.specs.declared.message.PbPair.{PbPair}
 

@@ -4,6 +4,8 @@ pub mod Locks
 pub mod Views
 pub mod Firsts
 pub mod RegionErrors
+pub mod Cleanup
+pub mod Counted
 pub mod Extracted
 pub mod Gathered
 pub mod Joined

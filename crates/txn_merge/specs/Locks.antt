@@ -1,5 +1,5 @@
 -- The locks that stand in the way of a request, in its reply.
-use Rattle.std.specs.Prelude.{◌≡◌, Bool, true, false, List, [], ◌∷◌, ◌++◌, Option, Some, None, map, filter, is_none}
+use Rattle.std.specs.Prelude.{◌≡◌, List, [], ◌∷◌, ◌++◌, Option, Some, None, map, filter, is_none}
 use Rattle.std.specs.List.{filter_map, flat_map}
 use Rattle.std.proofs.Common.{ap, refl, ◌∙◌}
 use Rattle.txn_kv.specs.declared.message.KeyError.{KeyError}

@@ -11,10 +11,10 @@ use Rattle.txn_merge.specs.Gathered.{errors_of, first, shape, values_of}
 use Rattle.txn_merge.specs.declared.response_with_shard.ResponseWithShard.{ResponseWithShard}
 
 abbrev pub Locked : Type 0
-Locked = ResponseWithShard PessimisticLockResponse (Vec Mutation)
+Locked = ResponseWithShard PessimisticLockResponse (List Mutation)
 
 abbrev pub keys_of : Locked → List (List ℕ)
-keys_of shard = map (λ mutation. mutation.key) shard.1.items
+keys_of shard = map (λ mutation. mutation.key) shard.1
 
 -- the first keys, each beside its value
 abbrev pub paired : List (List ℕ) → List (List ℕ) → List KvPair
@@ -45,7 +45,7 @@ misfit_of keys values flags =
     else Some (shape values flags)
 
 abbrev pub misfit : Locked → Option Error
-misfit shard = misfit_of (length shard.1.items) (length shard.0.values) (length shard.0.not_founds)
+misfit shard = misfit_of (length shard.1) (length shard.0.values) (length shard.0.not_founds)
 
 abbrev pub last_or : {A : Type 0} → Option A → List A → Option A
 last_or before [] = before

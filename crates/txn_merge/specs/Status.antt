@@ -1,5 +1,5 @@
 -- The status of a transaction, as a reply tells it.
-use Rattle.std.specs.Prelude.{◌≡◌, ◌==◌, ◌&&◌, ◌||◌, ◌+◌, ◌/◌, ◌^◌, ℕ, ℤ, pos, negsuc, nat_le, Bool, true, false, Option, Some, None, Result, Ok, Err, if◌then◌else◌}
+use Rattle.std.specs.Prelude.{◌==◌, ◌&&◌, ◌+◌, ◌/◌, ◌^◌, ℕ, ℤ, pos, negsuc, nat_le, Bool, true, false, Option, Some, None, Result, Ok, Err, if◌then◌else◌}
 use Rattle.txn_kv.specs.Timestamp.{timestamp_of}
 use Rattle.txn_kv.specs.declared.errors.Error.{Error}
 use Rattle.txn_kv.specs.declared.errors.Error.TheVariants.{InternalError}

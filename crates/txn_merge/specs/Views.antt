@@ -1,6 +1,6 @@
 -- The views of errors that hold others: what is seen of each error through its variant.
 use Rattle.std.specs.Prelude.{◌≡◌, ℕ, List, map, string_bytes}
-use Rattle.std.proofs.Common.{ap, sym, ◌∙◌, refl}
+use Rattle.std.proofs.Common.{ap, sym, ◌∙◌}
 use Rattle.std.specs.Global.{Vec}
 use Rattle.txn_kv.specs.declared.errors.Error.{Error}
 use Rattle.txn_kv.specs.declared.errors.Error.TheFolds.{fold-roll-Error}

@@ -9,10 +9,12 @@ ghost use Rattle.txn_merge.specs.Shards.{Collected, IsCollected, IsLockError, La
 use crate::merge::{CollectWithShard, Merge, misshapen};
 use crate::response_with_shard::ResponseWithShard;
 use std::alloc::Global;
-use txn_kv::{Error, Key, KvPair, Mutation, NoMemory, PessimisticLockResponse, Result, Value};
+use txn_kv::{
+    Error, Items, Key, KvPair, Mutation, NoMemory, PessimisticLockResponse, Result, Value,
+};
 
 /// The reply to a pessimistic lock, beside the mutations that it locks.
-type Locked = ResponseWithShard<PessimisticLockResponse, Vec<Mutation>>;
+type Locked = ResponseWithShard<PessimisticLockResponse, Items<Mutation>>;
 
 /// The values of results, and the last of their errors.
 #[derive(Drop)]
@@ -21,10 +23,7 @@ struct Parted<T> {
     last_error: Option<Error>,
 }
 
-fn part<T: Drop>(
-    alloc: Global,
-    input: Vec<Result<T>>,
-) -> std::result::Result<Parted<T>, NoMemory>
+fn part<T: Drop>(alloc: Global, input: Vec<Result<T>>) -> std::result::Result<Parted<T>, NoMemory>
     ensures values { IfOk result (λ parts. parts.values.items ≡ values_of input.items) }
     ensures error { IfOk result (λ parts. parts.last_error ≡ last_or None (errors_of input.items)) }
 {
@@ -54,7 +53,7 @@ fn success_keys(alloc: Global, shards: Vec<Locked>) -> std::result::Result<Vec<K
 {
     let mut keys = Vec::new(alloc);
     for shard in shards {
-        add_keys(&mut keys, shard.1)?;
+        add_keys(&mut keys, shard.1.into_vec())?;
     }
     Ok(keys)
 }
@@ -138,6 +137,7 @@ fn add_found(pairs: &mut Vec<KvPair>, shard: Locked) -> std::result::Result<(), 
     ensures { OnOk result (pairs.new.items ≡ pairs.old.items ++ pairs_of shard) }
 {
     let ResponseWithShard(reply, mutations) = shard;
+    let mutations = mutations.into_vec();
     let values = reply.values.into_vec();
     let not_founds = reply.not_founds.into_vec();
     if not_founds.is_empty() {
@@ -186,7 +186,7 @@ fn all_or_error(
 }
 
 /// Where a shard failed, `PessimisticLockError` of the last error and the keys of the shards that succeeded.
-impl Merge<ResponseWithShard<PessimisticLockResponse, Vec<Mutation>>> for CollectWithShard {
+impl Merge<ResponseWithShard<PessimisticLockResponse, Items<Mutation>>> for CollectWithShard {
     type Out = Vec<KvPair>;
 
     ghost merges = { λ _ results result. IsCollected results result };
@@ -194,7 +194,7 @@ impl Merge<ResponseWithShard<PessimisticLockResponse, Vec<Mutation>>> for Collec
     fn merge(
         &self,
         alloc: Global,
-        input: Vec<Result<ResponseWithShard<PessimisticLockResponse, Vec<Mutation>>>>,
+        input: Vec<Result<ResponseWithShard<PessimisticLockResponse, Items<Mutation>>>>,
     ) -> Result<Vec<KvPair>>
         ensures { UnlessMemory (IsCollected input.items) result }
     {

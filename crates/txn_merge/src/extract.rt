@@ -46,10 +46,7 @@ fn extract_regions<T: HasRegionErrors + Drop>(
 }
 
 /// Errors of regions as errors of the client's.
-fn as_errors(
-    alloc: Global,
-    errors: Vec<RegionErr>,
-) -> std::result::Result<Vec<Error>, NoMemory>
+fn as_errors(alloc: Global, errors: Vec<RegionErr>) -> std::result::Result<Vec<Error>, NoMemory>
     ensures { IfOk result (λ all. map view_of all.items ≡ map region errors.items) }
 {
     let mut all = Vec::new(alloc);

@@ -8,7 +8,12 @@ ghost use Rattle.txn_merge.specs.KeyErrors.{no_error, no_errors, no_pair_errors,
 use crate::response_with_shard::ResponseWithShard;
 use crate::taking::{take_error, take_errors, take_pair_errors, take_text, take_whole};
 use std::alloc::Global;
-use txn_kv::{GetResponse, BatchGetResponse, ScanResponse, PrewriteResponse, CommitResponse, CleanupResponse, BatchRollbackResponse, PessimisticRollbackResponse, PessimisticLockResponse, ResolveLockResponse, ScanLockResponse, TxnHeartBeatResponse, CheckTxnStatusResponse, CheckSecondaryLocksResponse, UnsafeDestroyRangeResponse, Error, NoMemory};
+use txn_kv::{
+    BatchGetResponse, BatchRollbackResponse, CheckSecondaryLocksResponse, CheckTxnStatusResponse,
+    CleanupResponse, CommitResponse, Error, GetResponse, NoMemory, PessimisticLockResponse,
+    PessimisticRollbackResponse, PrewriteResponse, ResolveLockResponse, ScanLockResponse,
+    ScanResponse, TxnHeartBeatResponse, UnsafeDestroyRangeResponse,
+};
 
 /// What a reply, or an answer, says of errors at keys.
 pub trait HasKeyErrors: Sized {

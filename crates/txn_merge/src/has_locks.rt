@@ -7,7 +7,12 @@ use crate::response_with_shard::ResponseWithShard;
 use crate::taking::{take_error_lock, take_error_locks, take_pair_locks_or};
 use std::alloc::Global;
 use std::mem;
-use txn_kv::{GetResponse, BatchGetResponse, ScanResponse, PrewriteResponse, CommitResponse, CleanupResponse, BatchRollbackResponse, PessimisticRollbackResponse, PessimisticLockResponse, ResolveLockResponse, ScanLockResponse, TxnHeartBeatResponse, CheckTxnStatusResponse, CheckSecondaryLocksResponse, UnsafeDestroyRangeResponse, Items, LockInfo, NoMemory};
+use txn_kv::{
+    BatchGetResponse, BatchRollbackResponse, CheckSecondaryLocksResponse, CheckTxnStatusResponse,
+    CleanupResponse, CommitResponse, GetResponse, Items, LockInfo, NoMemory,
+    PessimisticLockResponse, PessimisticRollbackResponse, PrewriteResponse, ResolveLockResponse,
+    ScanLockResponse, ScanResponse, TxnHeartBeatResponse, UnsafeDestroyRangeResponse,
+};
 
 /// What a reply says of locks that stand in the way of its request.
 pub trait HasLocks: Sized {

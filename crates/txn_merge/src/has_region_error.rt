@@ -4,7 +4,12 @@ ghost use Rattle.txn_kv.specs.declared.message.RegionErr.{RegionErr};
 ghost use Rattle.txn_merge.specs.Firsts.{no_region_in, region_in, without_region_in};
 
 use crate::response_with_shard::ResponseWithShard;
-use txn_kv::{GetResponse, BatchGetResponse, ScanResponse, PrewriteResponse, CommitResponse, CleanupResponse, BatchRollbackResponse, PessimisticRollbackResponse, PessimisticLockResponse, ResolveLockResponse, ScanLockResponse, TxnHeartBeatResponse, CheckTxnStatusResponse, CheckSecondaryLocksResponse, UnsafeDestroyRangeResponse, Error, RegionErr};
+use txn_kv::{
+    BatchGetResponse, BatchRollbackResponse, CheckSecondaryLocksResponse, CheckTxnStatusResponse,
+    CleanupResponse, CommitResponse, Error, GetResponse, PessimisticLockResponse,
+    PessimisticRollbackResponse, PrewriteResponse, RegionErr, ResolveLockResponse,
+    ScanLockResponse, ScanResponse, TxnHeartBeatResponse, UnsafeDestroyRangeResponse,
+};
 
 /// What a reply, or an answer, says of an error of its region.
 pub trait HasRegionError: Sized {

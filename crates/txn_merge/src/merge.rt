@@ -4,7 +4,7 @@ ghost use Rattle.txn_kv.specs.declared.errors.Error.TheVariants.{OutOfMemory};
 ghost use Rattle.txn_merge.specs.Gathered.{FirstErrorOr, UnlessMemory, errors_of, first, shape, single_of, values_of};
 
 use std::alloc::Global;
-use txn_kv::{Error, Internal, Result};
+use txn_kv::{Error, Internal, NoMemory, Result, TryClone};
 
 /// Makes one answer of many.
 pub trait Merge<In>: Sized {
@@ -33,15 +33,36 @@ pub struct CollectError;
 #[derive(Clone, Debug, Drop)]
 pub struct CollectWithShard;
 
+impl TryClone for Collect {
+    fn try_clone(&self) -> std::result::Result<Collect, NoMemory> {
+        Ok(Collect)
+    }
+}
+
+impl TryClone for CollectSingle {
+    fn try_clone(&self) -> std::result::Result<CollectSingle, NoMemory> {
+        Ok(CollectSingle)
+    }
+}
+
+impl TryClone for CollectError {
+    fn try_clone(&self) -> std::result::Result<CollectError, NoMemory> {
+        Ok(CollectError)
+    }
+}
+
+impl TryClone for CollectWithShard {
+    fn try_clone(&self) -> std::result::Result<CollectWithShard, NoMemory> {
+        Ok(CollectWithShard)
+    }
+}
+
 /// Two numbers differ that have to be one.
 pub fn misshapen(expected: u64, given: u64) -> Error
     ensures { result ≡ shape expected given }
 {
     Error::InternalError {
-        what: Internal::Shape {
-            expected,
-            given,
-        },
+        what: Internal::Shape { expected, given },
     }
 }
 

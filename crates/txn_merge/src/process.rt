@@ -5,7 +5,8 @@ ghost use Rattle.txn_merge.specs.Status.{status_in};
 
 use crate::transaction_status::TransactionStatus;
 use txn_kv::{
-    CheckTxnStatusResponse, CleanupResponse, Error, GetResponse, Result, TxnHeartBeatResponse, Value,
+    CheckTxnStatusResponse, CleanupResponse, Error, GetResponse, NoMemory, Result, TryClone,
+    TxnHeartBeatResponse, Value,
 };
 
 /// Makes one answer into another.
@@ -21,6 +22,12 @@ pub trait Process<In>: Sized {
 /// Takes what its caller asked for out of a reply. An error stays as it is.
 #[derive(Clone, Copy, Debug)]
 pub struct DefaultProcessor;
+
+impl TryClone for DefaultProcessor {
+    fn try_clone(&self) -> std::result::Result<DefaultProcessor, NoMemory> {
+        Ok(DefaultProcessor)
+    }
+}
 
 /// The value, or none where the reply says that there is none.
 impl Process<GetResponse> for DefaultProcessor {

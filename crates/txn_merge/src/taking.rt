@@ -1,6 +1,6 @@
 //! Takes locks and errors out of the parts of replies.
 
-ghost use Rattle.std.specs.Prelude.{◌≡◌, ◌∷◌, [], IfOk, OnOk, MatchResult, None, Some, map};
+ghost use Rattle.std.specs.Prelude.{◌≡◌, ◌∷◌, [], false, IfOk, OnOk, MatchResult, None, Some, map};
 ghost use Rattle.txn_kv.specs.ErrorView.{key, view_of};
 ghost use Rattle.txn_kv.specs.declared.errors.Error.TheVariants.{Unimplemented};
 ghost use Rattle.txn_merge.specs.Found.{AreSeen};
@@ -73,19 +73,39 @@ pub fn take_error_locks(
     Ok(locks)
 }
 
-/// Whether a lock stands in the way of a pair.
-fn has_lock(pairs: &Items<PbPair>) -> bool {
-    pairs
-        .as_slice()
-        .iter()
-        .any(|pair| matches!(&pair.error, Some(KeyError::Locked(_))))
+fn is_locked(error: &Option<KeyError>) -> bool
+    ensures { result ≡ false → locks_of_error error.now ≡ [] }
+{
+    match error {
+        None => false,
+        Some(held) => matches!(held, KeyError::Locked(_)),
+    }
+}
+
+/// Whether a lock stands in the way of some pair.
+fn has_lock(pairs: &[PbPair]) -> bool
+    ensures { result ≡ false → locks_of_pairs pairs.now ≡ [] }
+{
+    for pair in pairs {
+        if is_locked(&pair.error) {
+            return true;
+        }
+    }
+    false
 }
 
 /// The locks of pairs. The pairs stay.
-pub fn take_pair_locks(
-    alloc: Global,
-    pairs: &mut Items<PbPair>,
-) -> Result<Vec<LockInfo>, NoMemory>
+pub fn take_pair_locks(alloc: Global, pairs: &mut Items<PbPair>) -> Result<Vec<LockInfo>, NoMemory>
+    ensures taken { IfOk result (λ found. found.items ≡ locks_of_pairs pairs.old) }
+    ensures left { OnOk result (pairs.new ≡ map without_pair_lock pairs.old) }
+{
+    if !has_lock(pairs.as_slice()) {
+        return Ok(Vec::new(alloc));
+    }
+    part_locks(alloc, pairs)
+}
+
+fn part_locks(alloc: Global, pairs: &mut Items<PbPair>) -> Result<Vec<LockInfo>, NoMemory>
     ensures taken { IfOk result (λ found. found.items ≡ locks_of_pairs pairs.old) }
     ensures left { OnOk result (pairs.new ≡ map without_pair_lock pairs.old) }
 {
@@ -172,6 +192,28 @@ pub fn take_pair_errors(
     alloc: Global,
     pairs: &mut Items<PbPair>,
 ) -> Result<Option<Vec<Error>>, NoMemory>
+    ensures found { IfOk result (AreSeen (views_of_pairs pairs.old)) }
+    ensures left { OnOk result (pairs.new ≡ map without_pair_error pairs.old) }
+{
+    if !has_error(pairs.as_slice()) {
+        return Ok(None);
+    }
+    part_errors(alloc, pairs)
+}
+
+/// Whether some pair has an error.
+fn has_error(pairs: &[PbPair]) -> bool
+    ensures { result ≡ false → views_of_pairs pairs.now ≡ [] }
+{
+    for pair in pairs {
+        if pair.error.is_some() {
+            return true;
+        }
+    }
+    false
+}
+
+fn part_errors(alloc: Global, pairs: &mut Items<PbPair>) -> Result<Option<Vec<Error>>, NoMemory>
     ensures found { IfOk result (AreSeen (views_of_pairs pairs.old)) }
     ensures left { OnOk result (pairs.new ≡ map without_pair_error pairs.old) }
 {

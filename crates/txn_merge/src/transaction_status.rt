@@ -1,7 +1,10 @@
 ghost use Rattle.std.specs.Prelude.{◌≡◌, ◌||◌};
 ghost use Rattle.txn_merge.specs.Status.{is_certain, is_decided, is_past, kind_of, status_in};
 
-use txn_kv::{Action, CheckTxnStatusResponse, Error, Internal, LockInfo, NoMemory, Result, Timestamp, TimestampExt, TryClone};
+use txn_kv::{
+    Action, CheckTxnStatusResponse, Error, Internal, LockInfo, NoMemory, Result, Timestamp,
+    TimestampExt, TryClone,
+};
 
 /// What became of a transaction, as the store of its primary key told it.
 #[derive(Debug, Drop)]

@@ -1,6 +1,6 @@
 use Rattle.std.proofs.Common.{◌≡◌, ◌++◌, map}
 use Rattle.txn_merge.specs.Locks.{locks_of_pairs, without_pair_lock}
-use Rattle.txn_merge.proofs.taking.take_pair_locks.Given as goal
+use Rattle.txn_merge.proofs.taking.part_locks.Given as goal
 
 abbrev pub invariant-loop-pair : goal.invariant-loop-pair
 invariant-loop-pair l = record {

@@ -1,7 +1,7 @@
 use Rattle.std.proofs.Common.{◌≡◌, ◌++◌, map}
 use Rattle.txn_kv.specs.ErrorView.{view_of}
 use Rattle.txn_merge.specs.KeyErrors.{views_of_pairs, without_pair_error}
-use Rattle.txn_merge.proofs.taking.take_pair_errors.Given as goal
+use Rattle.txn_merge.proofs.taking.part_errors.Given as goal
 
 abbrev pub invariant-loop-pair : goal.invariant-loop-pair
 invariant-loop-pair l = record {
