@@ -1,4 +1,5 @@
 pub mod Cache
 pub mod Calls
+pub mod Clients
 pub mod Regions
 pub mod Stores
