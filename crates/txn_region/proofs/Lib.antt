@@ -1,7 +1,10 @@
 pub mod Apart
 pub mod Calling
 pub mod Kept
+pub mod KeyGroups
 pub mod Meeting
 pub mod Order
 pub mod Placing
+pub mod RangeGroups
+pub mod RangePieces
 pub mod Searching

@@ -47,6 +47,13 @@ IsFoundOf id r = (r.region.id ≡ id) × IsUsable r
 abbrev pub MayRefuseStore : (Lookup → Error → Type 0) → (RegionWithLeader → Type 0) → Error → Type 0
 MayRefuseStore refuses found error = (r : RegionWithLeader) × found r × refuses (store_of r) error
 
+-- the look-up of some key, and of its store, is refused
+abbrev pub MayRefuseKey : (Lookup → Error → Type 0) → Error → Type 0
+MayRefuseKey refuses error = (key : Key) × refuses (by_key key) error
+
+abbrev pub MayRefuseKeyStore : (Lookup → Error → Type 0) → Error → Type 0
+MayRefuseKeyStore refuses error = (key : Key) × (refuses (by_key key) error ⊎ MayRefuseStore refuses (IsFoundAt key) error)
+
 -- a query for a region or for a store
 abbrev pub IsPlaceQuery : PdQuery → Type 0
 IsPlaceQuery (query.Region key) = ⊤

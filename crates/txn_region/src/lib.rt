@@ -3,6 +3,7 @@
 
 pub mod as_key;
 pub mod codec;
+mod grouping;
 pub mod known_store;
 mod law;
 pub mod pd_client;

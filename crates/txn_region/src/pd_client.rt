@@ -1,17 +1,21 @@
-ghost use Rattle.std.specs.Prelude.{◌≡◌, ◌⊎◌, ⊤, IfErr, IfOk, IsOk, OnOk, false, is_none};
+ghost use Rattle.std.specs.Prelude.{◌≡◌, ◌⊎◌, ◌<◌, [], ⊤, IfErr, IfOk, IsOk, MatchOption, OnOk, false, is_none, length, map, reverse};
 ghost use Rattle.std.specs.Borrow.{Lends, sem};
 ghost use Rattle.txn_kv.specs.Timestamp.{HasVersion};
 ghost use Rattle.txn_kv.specs.declared.errors.Error.TheVariants.{OutOfMemory};
 ghost use Rattle.txn_kv.specs.declared.query.PdQuery.TheVariants as query;
-ghost use Rattle.txn_region.specs.Clients.{by_id, by_key, store_of, IsFoundAt, IsFoundOf, IsPlaceQuery, IsRefused, MatchLook, MayRefuseStore, OrStarved, UnlessStarved};
+ghost use Rattle.txn_region.specs.Clients.{by_id, by_key, store_of, IsFoundAt, IsFoundOf, IsPlaceQuery, IsRefused, IsUsable, MatchLook, MayRefuseKey, MayRefuseKeyStore, MayRefuseStore, OrStarved, UnlessStarved};
 ghost use Rattle.txn_region.specs.Clients as lookup;
+ghost use Rattle.txn_region.specs.Groups.{next_start, or_unbounded, IsKeyGroup, IsRangeGroup};
 ghost use Rattle.txn_tso.specs.Placement.{fresh};
 ghost use Rattle.txn_tso.specs.contracts.retry_client.RetryClient.{the_row as connection_row};
 
+use crate::as_key::AsKey;
 use crate::codec::Codec;
+use crate::grouping::{group_end, next_start_or_none, take_group};
 use crate::store::{RegionStore, Store};
 use txn_kv::{
-    Key, Look, PdAnswer, PdQuery, Peer, RegionId, RegionVerId, RegionWithLeader, Result, Timestamp,
+    Key, KeyRange, Look, PdAnswer, PdQuery, Peer, RegionId, RegionVerId, RegionWithLeader, Result,
+    Timestamp,
 };
 use txn_tso::{PdCall, RetryClient};
 
@@ -141,6 +145,71 @@ pub trait PdClient {
             Look::Found(region) => self.map_region_to_store(region),
             Look::Query(query) => Ok(Look::Query(query)),
             Look::Wait => Ok(Look::Wait),
+        }
+    }
+
+    /// The region of the key at a place, and the place behind the last following key that it contains.
+    final fn group_keys_by_region<K: AsKey>(
+        &mut self,
+        keys: &[K],
+        first: usize,
+    ) -> Result<Look<(RegionWithLeader, usize)>>
+        requires { first < length keys.now }
+        ensures look { IfOk result (λ look. MatchLook look (λ found. IsUsable found.0 × IsKeyGroup (map K.key keys.now) first found.0.region found.1) (λ q. IsPlaceQuery q × asks self.new q) ⊥) }
+        ensures why { IfErr result (OrStarved (MayRefuseKey refuses)) }
+        ensures changed { looked self.old self.new }
+    {
+        match self.region_for_key(keys[first].as_key())? {
+            Look::Found(region) => {
+                let next = group_end(&region, keys, first);
+                Ok(Look::Found((region, next)))
+            }
+            Look::Query(query) => Ok(Look::Query(query)),
+            Look::Wait => unreachable!(),
+        }
+    }
+
+    /// The store of the region of a key in a range, and the region's end, or none where the range does not go on behind it.
+    /// An empty end is unbounded, and so is none.
+    final fn stores_for_range(
+        &mut self,
+        end: &Option<Key>,
+        first: &Key,
+    ) -> Result<Look<(RegionStore, Option<Key>)>>
+        ensures look { IfOk result (λ look. MatchLook look (λ found. IsFoundAt first.now found.0.region_with_leader × is_at self.new found.0.region_with_leader found.0.store × (found.1 ≡ next_start found.0.region_with_leader.region (or_unbounded end.now))) (λ q. IsPlaceQuery q × asks self.new q) ⊥) }
+        ensures why { IfErr result (OrStarved (MayRefuseKeyStore refuses)) }
+        ensures changed { looked self.old self.new }
+    {
+        match self.store_for_key(first)? {
+            Look::Found(store) => {
+                let next = next_start_or_none(&store.region_with_leader, end)?;
+                Ok(Look::Found((store, next)))
+            }
+            Look::Query(query) => Ok(Look::Query(query)),
+            Look::Wait => unreachable!(),
+        }
+    }
+
+    /// Takes the first group off a reversed list of ranges: those that follow each other in one region, in order. A range that
+    /// goes on behind the region is cut at its end. None where the list is empty.
+    final fn group_ranges_by_region(
+        &mut self,
+        ranges: &mut Vec<KeyRange>,
+    ) -> Result<Look<Option<(RegionWithLeader, Vec<KeyRange>)>>>
+        ensures look { IfOk result (λ look. MatchLook look (λ found. MatchOption found (ranges.old.items ≡ []) (λ group. IsUsable group.0 × IsRangeGroup group.0.region (reverse ranges.old.items) group.1.items (reverse ranges.new.items))) (λ q. IsPlaceQuery q × asks self.new q × (ranges.new ≡ ranges.old)) ⊥) }
+        ensures why { IfErr result (OrStarved (MayRefuseKey refuses)) }
+        ensures changed { looked self.old self.new }
+    {
+        let Some(range) = ranges.as_slice().last() else {
+            return Ok(Look::Found(None));
+        };
+        match self.region_for_key(&range.start_key)? {
+            Look::Found(region) => {
+                let group = take_group(&region, ranges)?;
+                Ok(Look::Found(Some((region, group))))
+            }
+            Look::Query(query) => Ok(Look::Query(query)),
+            Look::Wait => unreachable!(),
         }
     }
 
