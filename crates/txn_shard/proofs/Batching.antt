@@ -1,11 +1,10 @@
 -- Items that go into batches one by one.
-use Rattle.std.proofs.Common.{◌≡◌, ℕ, suc, ◌+◌, ◌<◌, ◌≤◌, List, [], ◌∷◌, ◌++◌, length, refl, sym, ap, ◌∙◌, append-nil, append_assoc, length-append, arith}
-use Rattle.std.specs.Prelude.{map}
-use Rattle.std.specs.List.{All, flat_map, sum_by}
+use Rattle.std.proofs.Common.{◌≡◌, ℕ, ◌+◌, ◌<◌, ◌≤◌, List, [], ◌∷◌, ◌++◌, length, refl, sym, ap, ◌∙◌, append-nil, append_assoc, arith}
+use Rattle.std.specs.List.{All, sum_by}
 use Rattle.std.proofs.lemmas.List.Concat.{flat_map-append}
-use Rattle.std.proofs.lemmas.List.Elements.{All-nil, All-push, All-take, All-append, All-cons, All-head, All-tail}
-use Rattle.std.proofs.lemmas.List.Sums.{sum_by_push, sum_by-cons}
-use Rattle.txn_shard.specs.Batches.{joined, IsBatch, IsFullBefore, IsFullBeforeRest, AreFull, AreBatches}
+use Rattle.std.proofs.lemmas.List.Elements.{All-nil, All-push, All-cons, All-head, All-tail}
+use Rattle.std.proofs.lemmas.List.Sums.{sum_by_push}
+use Rattle.txn_shard.specs.Batches.{joined, IsBatch, IsFullBefore, AreFull, AreBatches}
 
 -- what is done so far, of which the last batch is still open; it is empty only where nothing is done
 abbrev pub AreUnderWay : {X : Type 0} → (X → ℕ) → ℕ → List X → List (List X) → List X → Type 0

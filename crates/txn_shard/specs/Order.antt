@@ -1,5 +1,5 @@
 -- Items in ascending order of their keys.
-use Rattle.std.specs.Prelude.{ℕ, List, [], ◌∷◌, Bool, if◌then◌else◌}
+use Rattle.std.specs.Prelude.{List, [], ◌∷◌, Bool, if◌then◌else◌}
 use Rattle.std.specs.Ordering.{is_lt}
 use Rattle.txn_region.specs.Regions.{Key, key_cmp}
 

@@ -1,8 +1,8 @@
 ghost use Rattle.std.specs.Prelude.{◌≡◌, ◌+◌, ◌<◌, ◌≤◌, ◌∷◌, [], ℕ, true, false, IfOk, length, map};
 ghost use Rattle.txn_shard.specs.Batches.{AreBatches};
 
+use crate::in_bytes::InBytes;
 use std::alloc::Global;
-use std::mem;
 use txn_kv::{CommitRequest, Key, Mutation, NoMemory, PrewriteRequest};
 
 /// The size at which a batch of a Prewrite or of a Commit is closed, in bytes.
@@ -65,31 +65,7 @@ impl Batchable for CommitRequest {
     }
 }
 
-/// What takes bytes in a request.
-trait InBytes: Drop {
-    ghost count: { Self → ℕ };
-
-    fn bytes(&self) -> u64
-        ensures { result ≡ count self.now };
-}
-
-impl InBytes for Mutation {
-    ghost count = { λ mutation. length mutation.key + length mutation.value };
-
-    fn bytes(&self) -> u64 {
-        self.key.as_slice().len() as u64 + self.value.as_slice().len() as u64
-    }
-}
-
-impl InBytes for Key {
-    ghost count = { λ key. length key };
-
-    fn bytes(&self) -> u64 {
-        self.as_slice().len() as u64
-    }
-}
-
-fn in_batches<T: InBytes>(
+pub(crate) fn in_batches<T: InBytes>(
     alloc: Global,
     items: Vec<T>,
     batch_size: u64,
@@ -126,7 +102,7 @@ fn is_full<T>(batch: &Vec<T>, grown: u64, batch_size: u64) -> bool
     !batch.is_empty() && grown >= batch_size
 }
 
-fn batch_of<T: Drop>(alloc: Global, item: T) -> Result<Vec<T>, NoMemory>
+pub(crate) fn batch_of<T: Drop>(alloc: Global, item: T) -> Result<Vec<T>, NoMemory>
     ensures { IfOk result (λ batch. batch.items ≡ item ∷ []) }
 {
     let mut batch = Vec::new(alloc);

@@ -1,7 +1,8 @@
 use Rattle.std.proofs.Common.{rules, ◌∙◌, ap}
 use Rattle.std.proofs.lemmas.List.Sorted.{answers_always}
 use Rattle.txn_shard.specs.Order.{comes_before, in_order}
-use Rattle.txn_shard.proofs.Sorting.{order, sorted_is}
+use Rattle.txn_shard.specs.Sorted.{order}
+use Rattle.txn_shard.proofs.Sorting.{sorted_is}
 use Rattle.txn_shard.proofs.sorted.sorted.Goals as goal
 
 pub returns : goal.returns
