@@ -3,8 +3,8 @@
 
 pub mod copy_request;
 pub mod dispatch;
+pub mod merge_response;
 pub mod plan;
-pub mod process;
 pub mod process_response;
 pub mod send;
 pub mod stage;
@@ -13,6 +13,6 @@ mod tests;
 
 pub use copy_request::CopyRequest;
 pub use dispatch::Dispatch;
+pub use merge_response::MergeResponse;
 pub use plan::Plan;
-pub use process::Process;
 pub use process_response::ProcessResponse;

@@ -3,8 +3,8 @@ ghost use Rattle.txn_history.specs.Turn.{turn_of};
 ghost use Rattle.txn_plan.specs.Process.{processed, processed-lawful};
 
 use crate::plan::Plan;
-use crate::process::Process;
 use txn_kv::{NoMemory, Outbox, Progress, Reply, Timestamp, TryClone};
+use txn_merge::Process;
 use txn_region::PdClient;
 
 /// A plan whose answer is made into another.

@@ -2,11 +2,11 @@
 
 use crate::dispatch::Dispatch;
 use crate::plan::Plan;
-use crate::process::Process;
 use crate::process_response::ProcessResponse;
 use crate::stage::Stage;
 use std::marker::Send;
 use txn_kv::{GetRequest, PrewriteRequest, TryClone};
+use txn_merge::Process;
 
 /// Accepts the types that can move between threads, and no other.
 pub fn can_move<T: Send>() {}
