@@ -256,7 +256,7 @@ pub tells_of : (told : Told) (hears : Bool) (n : ℕ) (r : Request) (x y : Stand
     → Tells looked_up told x.call y.call x.out y.out turn
 tells_of told hears n r x y turn known e deaf w m = record {
   moves = Moves-map told.within (λ h f. f) (λ h f k r a. a) (λ h f k v i. i) (λ h f k v g. (x.out, g))
-    (Moves-known (MayAsk x.call) (CallFits x.call x.out) told.known (CallFits y.call y.out) (Gives x.call x.out) told.hear turn (MayBe x.call.query x.call.stage n r)
+      (Moves-known (MayAsk x.call) (CallFits x.call x.out) told.known (CallFits y.call y.out) (Gives x.call x.out) told.hear turn (MayBe x.call.query x.call.stage n r)
       (pushes hears x y w) (λ h f. maybe x.call.query x.call.failed n x.call.stage x.out r h f.0.at (known h f.1)) m);
   job = same_job y.call x.call e;
   expects = expects hears told.heard x y deaf w;
