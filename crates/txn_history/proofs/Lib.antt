@@ -4,3 +4,4 @@ pub mod Parting
 pub mod Showing
 pub mod Telling
 pub mod Around
+pub mod Knowing

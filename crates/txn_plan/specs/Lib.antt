@@ -2,3 +2,4 @@ pub mod Answered
 pub mod Dispatch
 pub mod Merged
 pub mod Process
+pub mod LookUp

@@ -70,20 +70,40 @@ fn is_wrong_reply(progress: Progress<GetResponse>) -> bool {
 }
 
 #[test]
-fn the_reply_is_the_answer(rt: HostRuntime) -> std::result::Result<(), Fail> {
+fn one_request_goes_out(rt: HostRuntime) -> std::result::Result<(), Fail> {
     let alloc = rt.alloc();
     let mut pd = NoClient::new();
     let mut out = Outbox::new(alloc, 7, false);
     let mut plan = Dispatch::new(request(alloc), Some(3));
     assert!(rt; is_waiting(&plan.start(&mut pd, 0, &mut out)?));
+    assert!(rt; is_waiting(&plan.start(&mut pd, 1, &mut out)?));
     assert!(rt; is_posted_once(&out));
-    let other = plan.take_reply(&mut pd, 1, 2, Reply::Get(found(alloc)?), &mut out)?;
-    assert!(rt; is_waiting(&other));
+    Ok(())
+}
+
+#[test]
+fn the_reply_is_the_answer(rt: HostRuntime) -> std::result::Result<(), Fail> {
+    let alloc = rt.alloc();
+    let mut pd = NoClient::new();
+    let mut out = Outbox::new(alloc, 7, false);
+    let mut plan = Dispatch::new(request(alloc), Some(3));
+    plan.start(&mut pd, 0, &mut out)?;
     let answer = plan.take_reply(&mut pd, 2, 1, Reply::Get(found(alloc)?), &mut out)?;
     assert_eq!(rt; value_in(answer), Some(found(alloc)?.value));
     let late = plan.take_reply(&mut pd, 3, 1, Reply::Get(found(alloc)?), &mut out)?;
     assert!(rt; is_waiting(&late));
-    assert!(rt; is_posted_once(&out));
+    Ok(())
+}
+
+#[test]
+fn a_reply_to_another_number_is_not_its_own(rt: HostRuntime) -> std::result::Result<(), Fail> {
+    let alloc = rt.alloc();
+    let mut pd = NoClient::new();
+    let mut out = Outbox::new(alloc, 7, false);
+    let mut plan = Dispatch::new(request(alloc), Some(3));
+    plan.start(&mut pd, 0, &mut out)?;
+    let other = plan.take_reply(&mut pd, 1, 2, Reply::Get(found(alloc)?), &mut out)?;
+    assert!(rt; is_waiting(&other));
     Ok(())
 }
 
@@ -113,7 +133,6 @@ fn a_reply_of_another_kind_is_wrong(rt: HostRuntime) -> std::result::Result<(), 
     let mut out = Outbox::new(alloc, 7, false);
     let mut plan = Dispatch::new(request(alloc), Some(3));
     plan.start(&mut pd, 0, &mut out)?;
-    let mut copy = plan.try_clone()?;
     let other = Reply::Cleanup(CleanupResponse {
         region_error: None,
         error: None,
@@ -121,6 +140,17 @@ fn a_reply_of_another_kind_is_wrong(rt: HostRuntime) -> std::result::Result<(), 
     });
     let answer = plan.take_reply(&mut pd, 1, 1, other, &mut out)?;
     assert!(rt; is_wrong_reply(answer));
+    Ok(())
+}
+
+#[test]
+fn a_copy_waits_for_the_same(rt: HostRuntime) -> std::result::Result<(), Fail> {
+    let alloc = rt.alloc();
+    let mut pd = NoClient::new();
+    let mut out = Outbox::new(alloc, 7, false);
+    let mut plan = Dispatch::new(request(alloc), Some(3));
+    plan.start(&mut pd, 0, &mut out)?;
+    let mut copy = plan.try_clone()?;
     let answer = copy.take_reply(&mut pd, 1, 1, Reply::Get(found(alloc)?), &mut out)?;
     assert_eq!(rt; value_in(answer), Some(found(alloc)?.value));
     Ok(())

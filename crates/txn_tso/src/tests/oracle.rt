@@ -25,8 +25,8 @@ fn last(count: u32, physical: i64, logical: i64) -> TsoResponse {
 /// An oracle that so many lines have asked.
 fn asked(alloc: Global, lines: u64) -> std::result::Result<TimestampOracle, NoMemory> {
     let mut oracle = TimestampOracle::new(alloc);
-    for line in 1..lines + 1 {
-        oracle.ask(asker(line))?;
+    for others in 0..lines {
+        oracle.ask(asker(others + 1))?;
     }
     Ok(oracle)
 }
