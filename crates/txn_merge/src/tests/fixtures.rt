@@ -85,35 +85,34 @@ pub fn mutation(alloc: Global, bytes: &[u8]) -> Result<Mutation, NoMemory> {
 
 pub type Locked = ResponseWithShard<PessimisticLockResponse, Items<Mutation>>;
 
-/// A shard of one key, its value, and no flag.
-pub fn locked_one(alloc: Global, bytes: &[u8], found: &[u8]) -> Result<Locked, NoMemory> {
+pub fn one_mutation(alloc: Global, bytes: &[u8]) -> Result<Items<Mutation>, NoMemory> {
     let mut mutations = Items::new(alloc);
     mutations.push(mutation(alloc, bytes)?)?;
-    let mut values = Items::new(alloc);
-    values.push(value(alloc, found)?)?;
-    Ok(ResponseWithShard(
-        PessimisticLockResponse {
-            region_error: None,
-            errors: Items::new(alloc),
-            values,
-            not_founds: Items::new(alloc),
-        },
-        mutations,
-    ))
+    Ok(mutations)
 }
 
-/// The shard of key3 without a value, and of key4 with an empty one, by their flags.
-pub fn locked_two(alloc: Global) -> Result<Locked, NoMemory> {
-    let mut mutations = Items::new(alloc);
-    mutations.push(mutation(alloc, b"key3")?)?;
-    mutations.push(mutation(alloc, b"key4")?)?;
+pub fn one_value(alloc: Global, bytes: &[u8]) -> Result<Items<Value>, NoMemory> {
     let mut values = Items::new(alloc);
-    values.push(Value::new(alloc))?;
-    values.push(Value::new(alloc))?;
+    values.push(value(alloc, bytes)?)?;
+    Ok(values)
+}
+
+/// Absent, and there.
+pub fn two_flags(alloc: Global) -> Result<Items<bool>, NoMemory> {
     let mut not_founds = Items::new(alloc);
     not_founds.push(true)?;
     not_founds.push(false)?;
-    Ok(ResponseWithShard(
+    Ok(not_founds)
+}
+
+/// The reply for a shard, beside its mutations.
+pub fn locked(
+    alloc: Global,
+    mutations: Items<Mutation>,
+    values: Items<Value>,
+    not_founds: Items<bool>,
+) -> Locked {
+    ResponseWithShard(
         PessimisticLockResponse {
             region_error: None,
             errors: Items::new(alloc),
@@ -121,5 +120,32 @@ pub fn locked_two(alloc: Global) -> Result<Locked, NoMemory> {
             not_founds,
         },
         mutations,
-    ))
+    )
+}
+
+/// A shard of one key, its value, and no flag.
+pub fn locked_one(alloc: Global, bytes: &[u8], found: &[u8]) -> Result<Locked, NoMemory> {
+    let mutations = one_mutation(alloc, bytes)?;
+    let values = one_value(alloc, found)?;
+    Ok(locked(alloc, mutations, values, Items::new(alloc)))
+}
+
+fn two_mutations(alloc: Global) -> Result<Items<Mutation>, NoMemory> {
+    let mut mutations = one_mutation(alloc, b"key3")?;
+    mutations.push(mutation(alloc, b"key4")?)?;
+    Ok(mutations)
+}
+
+fn two_values(alloc: Global) -> Result<Items<Value>, NoMemory> {
+    let mut values = one_value(alloc, b"")?;
+    values.push(Value::new(alloc))?;
+    Ok(values)
+}
+
+/// The shard of key3 without a value, and of key4 with an empty one, by their flags.
+pub fn locked_two(alloc: Global) -> Result<Locked, NoMemory> {
+    let mutations = two_mutations(alloc)?;
+    let values = two_values(alloc)?;
+    let not_founds = two_flags(alloc)?;
+    Ok(locked(alloc, mutations, values, not_founds))
 }

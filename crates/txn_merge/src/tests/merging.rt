@@ -11,19 +11,55 @@ use txn_kv::{
     UnsafeDestroyRangeResponse,
 };
 
+fn add(shards: &mut Vec<Result<Locked>>, shard: Locked) -> std::result::Result<(), NoMemory> {
+    shards.push(Ok(shard))?;
+    Ok(())
+}
+
+fn add_one(
+    alloc: Global,
+    shards: &mut Vec<Result<Locked>>,
+    bytes: &[u8],
+    found: &[u8],
+) -> std::result::Result<(), NoMemory> {
+    let shard = locked_one(alloc, bytes, found)?;
+    add(shards, shard)
+}
+
+fn add_two(alloc: Global, shards: &mut Vec<Result<Locked>>) -> std::result::Result<(), NoMemory> {
+    let shard = locked_two(alloc)?;
+    add(shards, shard)
+}
+
 fn shards(alloc: Global) -> std::result::Result<Vec<Result<Locked>>, NoMemory> {
     let mut shards = Vec::new(alloc);
-    shards.push(Ok(locked_one(alloc, b"key1", b"value1")?))?;
-    shards.push(Ok(locked_one(alloc, b"key2", b"")?))?;
-    shards.push(Ok(locked_two(alloc)?))?;
+    add_one(alloc, &mut shards, b"key1", b"value1")?;
+    add_one(alloc, &mut shards, b"key2", b"")?;
+    add_two(alloc, &mut shards)?;
     Ok(shards)
+}
+
+/// The pairs that the shards collect to, as a text.
+fn collected(alloc: Global) -> Result<String> {
+    let all = shards(alloc)?;
+    let pairs = CollectWithShard.merge(alloc, all)?;
+    match format!(in alloc; "{pairs:?}") {
+        Ok(text) => Ok(text),
+        Err(_) => Err(Error::OutOfMemory),
+    }
+}
+
+/// What a failed shard makes of them.
+fn failed(alloc: Global) -> std::result::Result<Option<usize>, NoMemory> {
+    let mut all = shards(alloc)?;
+    all.push(Err(Error::ResolveLockError(Vec::new(alloc))))?;
+    let answer = CollectWithShard.merge(alloc, all);
+    Ok(named_keys(&answer))
 }
 
 #[test]
 fn locks_of_shards(rt: HostRuntime) -> std::result::Result<(), Fail> {
-    let alloc = rt.alloc();
-    let pairs = CollectWithShard.merge(alloc, shards(alloc)?)?;
-    let text = format!(in alloc; "{pairs:?}")?;
+    let text = collected(rt.alloc())?;
     assert_eq!(rt;
         text.as_str(),
         "[KvPair(6B657931, \"value1\"), KvPair(6B657934, \"\")]"
@@ -32,14 +68,14 @@ fn locks_of_shards(rt: HostRuntime) -> std::result::Result<(), Fail> {
 }
 
 /// How many keys a failed lock names, where its error is one of no locks.
-fn named_keys(answer: Result<Vec<KvPair>>) -> Option<usize> {
+fn named_keys(answer: &Result<Vec<KvPair>>) -> Option<usize> {
     match answer {
         Err(
             Error::PessimisticLockError {
                 inner,
                 success_keys,
             },
-        ) => match &*inner {
+        ) => match &**inner {
             Error::ResolveLockError(locks) if locks.is_empty() => Some(success_keys.len()),
             _ => None,
         },
@@ -49,21 +85,18 @@ fn named_keys(answer: Result<Vec<KvPair>>) -> Option<usize> {
 
 #[test]
 fn a_shard_fails(rt: HostRuntime) -> std::result::Result<(), Fail> {
-    let alloc = rt.alloc();
-    let mut all = shards(alloc)?;
-    all.push(Err(Error::ResolveLockError(Vec::new(alloc))))?;
-    assert_eq!(rt; named_keys(CollectWithShard.merge(alloc, all)), Some(4));
+    assert_eq!(rt; failed(rt.alloc())?, Some(4));
     Ok(())
 }
 
 /// The two numbers of a refusal.
-fn shape<T: Drop>(answer: Result<T>) -> Option<(u64, u64)> {
+fn shape<T>(answer: &Result<T>) -> Option<(u64, u64)> {
     match answer {
         Err(
             Error::InternalError {
                 what: Internal::Shape { expected, given },
             },
-        ) => Some((expected, given)),
+        ) => Some((*expected, *given)),
         _ => None,
     }
 }
@@ -85,7 +118,8 @@ fn unlike_commits(rt: HostRuntime) -> std::result::Result<(), Fail> {
     let alloc = rt.alloc();
     let first = secondaries(alloc, None, 7, false)?;
     let second = secondaries(alloc, None, 8, false)?;
-    assert_eq!(rt; shape(states(alloc, first, second)), Some((7, 8)));
+    let answer = states(alloc, first, second);
+    assert_eq!(rt; shape(&answer), Some((7, 8)));
     Ok(())
 }
 
@@ -112,7 +146,8 @@ fn one_answer(rt: HostRuntime) -> std::result::Result<(), Fail> {
     let reply = CollectSingle.merge(alloc, one)?;
     assert_eq!(rt; reply, commit(None, None));
     let none: Vec<Result<CommitResponse>> = Vec::new(alloc);
-    assert_eq!(rt; shape(CollectSingle.merge(alloc, none)), Some((1, 0)));
+    let answer = CollectSingle.merge(alloc, none);
+    assert_eq!(rt; shape(&answer), Some((1, 0)));
     Ok(())
 }
 

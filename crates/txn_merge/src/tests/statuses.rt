@@ -12,8 +12,13 @@ use txn_kv::{
 
 /// A word for what a reply tells.
 fn word(reply: CheckTxnStatusResponse) -> &'static str {
-    match DefaultProcessor.process(Ok(reply)) {
-        Ok(status) => match status.kind {
+    let told = DefaultProcessor.process(Ok(reply));
+    word_of(&told)
+}
+
+fn word_of(told: &Result<TransactionStatus>) -> &'static str {
+    match told {
+        Ok(status) => match &status.kind {
             TransactionStatusKind::Committed(_) => "committed",
             TransactionStatusKind::RolledBack => "rolled back",
             TransactionStatusKind::Locked(_, _) => "locked",
