@@ -1,3 +1,5 @@
 pub mod Dispatching
+pub mod Extracting
+pub mod Merging
 pub mod Processing
 pub mod LookingUp

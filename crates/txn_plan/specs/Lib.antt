@@ -1,5 +1,6 @@
 pub mod Answered
 pub mod Dispatch
+pub mod Extracted
 pub mod Merged
 pub mod Process
 pub mod LookUp

@@ -1,3 +1,4 @@
+ghost use Rattle.std.specs.Prelude.{◌≡◌};
 ghost use Rattle.txn_history.specs.Around.{IsRead};
 ghost use Rattle.txn_history.specs.Turn.{turn_of};
 ghost use Rattle.txn_plan.specs.Extracted.{extracted, extracted-lawful, IsAnswer};

@@ -3,6 +3,7 @@
 
 pub mod copy_request;
 pub mod dispatch;
+pub mod extract_error;
 pub mod merge_response;
 pub mod plan;
 pub mod process_response;
@@ -13,6 +14,7 @@ mod tests;
 
 pub use copy_request::CopyRequest;
 pub use dispatch::Dispatch;
+pub use extract_error::ExtractError;
 pub use merge_response::MergeResponse;
 pub use plan::Plan;
 pub use process_response::ProcessResponse;
