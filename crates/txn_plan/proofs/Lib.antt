@@ -1,5 +1,6 @@
 pub mod Dispatching
 pub mod Extracting
 pub mod Merging
+pub mod Preserving
 pub mod Processing
 pub mod LookingUp

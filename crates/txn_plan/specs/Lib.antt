@@ -2,5 +2,6 @@ pub mod Answered
 pub mod Dispatch
 pub mod Extracted
 pub mod Merged
+pub mod Preserved
 pub mod Process
 pub mod LookUp

@@ -6,8 +6,10 @@ pub mod dispatch;
 pub mod extract_error;
 pub mod merge_response;
 pub mod plan;
+pub mod preserve_shard;
 pub mod process_response;
 pub mod send;
+mod shard;
 pub mod stage;
 #[cfg(test)]
 mod tests;
@@ -17,4 +19,5 @@ pub use dispatch::Dispatch;
 pub use extract_error::ExtractError;
 pub use merge_response::MergeResponse;
 pub use plan::Plan;
+pub use preserve_shard::PreserveShard;
 pub use process_response::ProcessResponse;

@@ -12,15 +12,22 @@ use txn_region::PdClient;
 
 /// A plan over many shards, whose results are merged into one answer. An error of the plan stays as it is.
 #[derive(Drop)]
-pub struct MergeResponse<P: Plan<Result = Vec<txn_kv::Result<In>>>, In: Drop, M: Merge<In> + TryClone> {
+pub struct MergeResponse<
+    P: Plan<Result = Vec<txn_kv::Result<In>>>,
+    In: Drop,
+    M: Merge<In> + TryClone,
+> {
     pub inner: P,
     pub merge: M,
     alloc: Global,
     of: PhantomData<In>,
 }
 
-impl<P: Plan<Result = Vec<txn_kv::Result<In>>>, In: Drop, M: Merge<In> + TryClone>
-    MergeResponse<P, In, M>
+impl<P: Plan<Result = Vec<txn_kv::Result<In>>>, In: Drop, M: Merge<In> + TryClone> MergeResponse<
+    P,
+    In,
+    M,
+>
 where
     M::Out: Drop,
 {
@@ -37,10 +44,7 @@ where
         }
     }
 
-    fn merged(
-        &self,
-        answer: txn_kv::Result<Vec<txn_kv::Result<In>>>,
-    ) -> txn_kv::Result<M::Out>
+    fn merged(&self, answer: txn_kv::Result<Vec<txn_kv::Result<In>>>) -> txn_kv::Result<M::Out>
         ensures { IsMerged (M.merges self.now.merge) answer result }
     {
         self.merge.merge(self.alloc, answer?)
