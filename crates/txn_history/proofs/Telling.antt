@@ -10,7 +10,9 @@ use Rattle.txn_kv.specs.declared.outbox.Errand.TheVariants.{Send, Sleep, Ask}
 use Rattle.txn_kv.specs.declared.request.Request.{Request}
 use Rattle.txn_kv.specs.declared.ticket.Target.{Target}
 use Rattle.txn_history.specs.Among.{IsAmong}
+use Rattle.txn_kv.specs.declared.reply.Reply.{Reply}
 use Rattle.txn_history.specs.Event.{Event}
+use Rattle.txn_history.specs.Faults.{has_error, has_region_error}
 use Rattle.txn_history.specs.Event.Event.{Sent, Began, Asked}
 use Rattle.txn_history.specs.Meaning.{further, Counts, Expects, Goes, GoesOn, IsLawful, Meaning, Tells, Told}
 use Rattle.txn_history.specs.Later.{IsLater-refl}
@@ -224,3 +226,7 @@ pub Tells-before : {S A : Type 0} {m : Meaning S A} {known more : List Event →
     → Tells m (further known) old new from to turn
     → Tells m (further more) old new from to turn
 Tells-before w t = record { moves = Moves-before (λ h f. (f.0, w h f.1)) t.moves; job = t.job; expects = t.expects }
+
+-- an error of the region is an error
+pub region_error_is_error : (o : Reply) → has_region_error o ≡ true → has_error o ≡ true
+region_error_is_error o e = rw e refl
