@@ -1,6 +1,9 @@
 pub mod Apart
+pub mod Believing
 pub mod Calling
 pub mod Kept
+pub mod Joined
+pub mod KeyDecoding
 pub mod KeyGroups
 pub mod Meeting
 pub mod Order

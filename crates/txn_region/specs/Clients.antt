@@ -84,8 +84,8 @@ IsBadKey bytes what =
 pub data IsBadRegion (r : RegionWithLeader) : Error → Type 0 where
   reversed : is_reversed r.region ≡ true → IsBadRegion r (InternalError (ReversedRegion r.region.id))
   no_epoch : is_none r.region.region_epoch ≡ true → IsBadRegion r (InternalError (NoEpoch r.region.id))
-  start : (what : Internal) → IsBadKey r.region.start_key what → IsBadRegion r (InternalError what)
-  end : (what : Internal) → IsBadKey r.region.end_key what → IsBadRegion r (InternalError what)
+  bad_start : (what : Internal) → IsBadKey r.region.start_key what → IsBadRegion r (InternalError what)
+  bad_end : (what : Internal) → IsBadKey r.region.end_key what → IsBadRegion r (InternalError what)
   no_leader : is_none r.leader ≡ true → IsBadRegion r (LeaderNotFound r.region.id)
 
 -- an answer that is refused, and why: its region is wrong in itself, or another than the one that was asked for; or it is of

@@ -114,3 +114,31 @@ pub record IsRangeGroup (region : Region) (before group after : List KeyRange) :
   pub some : 0 < length group
   pub inside : All (LiesIn region) group
   pub joined : (key : Key) → in_ranges before key ≡ (in_ranges group key || in_ranges after key)
+
+-- Groups one after another
+
+-- from a place on to the end of the keys: of each group the region and the place behind it
+abbrev pub AreKeyGroups : List Key → ℕ → List (Region × ℕ) → Type 0
+AreKeyGroups keys first [] = first ≡ length keys
+AreKeyGroups keys first (g ∷ gs) = IsKeyGroup keys first g.0 g.1 × AreKeyGroups keys g.1 gs
+
+abbrev pub joined_keys : List Key → ℕ → List (Region × ℕ) → List Key
+joined_keys keys first [] = []
+joined_keys keys first (g ∷ gs) = slice_range keys first g.1 ++ joined_keys keys g.1 gs
+
+-- of a list of ranges, until none is left: of each group the region and the ranges
+abbrev pub AreRangeGroups : List KeyRange → List (Region × List KeyRange) → Type 0
+AreRangeGroups ranges [] = ranges ≡ []
+AreRangeGroups ranges (g ∷ gs) = (after : List KeyRange) × IsRangeGroup g.0 ranges g.1 after × AreRangeGroups after gs
+
+abbrev pub in_groups : List (Region × List KeyRange) → Key → Bool
+in_groups groups key = list_any (λ g. in_ranges g.1 key) groups
+
+-- of a range, from a key on: of each piece the region and the two keys
+abbrev pub AreRangePieces : Option Key → Key → List (Region × (Key × Key)) → Type 0
+AreRangePieces None end ps = ps ≡ []
+AreRangePieces (Some first) end [] = ⊥
+AreRangePieces (Some first) end (p ∷ ps) = (next : Option Key) × IsRangePiece p.0 first end p.1 next × AreRangePieces next end ps
+
+abbrev pub in_pieces : List (Region × (Key × Key)) → Key → Bool
+in_pieces pieces key = list_any (λ p. is_between p.1.0 p.1.1 key) pieces

@@ -1,6 +1,9 @@
 pub mod Cache
 pub mod Calls
 pub mod Clients
+pub mod Decoded
 pub mod Groups
+pub mod Placement
 pub mod Regions
+pub mod RpcClient
 pub mod Stores

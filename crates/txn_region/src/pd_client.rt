@@ -1,16 +1,18 @@
-ghost use Rattle.std.specs.Prelude.{◌≡◌, ◌⊎◌, ◌<◌, [], ⊤, IfErr, IfOk, IsOk, MatchOption, OnOk, false, is_none, length, map, reverse};
+ghost use Rattle.std.specs.Prelude.{◌≡◌, ◌⊎◌, ◌<◌, [], ⊤, IfErr, IfOk, IsOk, MatchOption, OnOk, false, is_none, true, length, map, reverse};
 ghost use Rattle.std.specs.Borrow.{Lends, sem};
 ghost use Rattle.txn_kv.specs.Timestamp.{HasVersion};
 ghost use Rattle.txn_kv.specs.declared.errors.Error.TheVariants.{OutOfMemory};
 ghost use Rattle.txn_kv.specs.declared.query.PdQuery.TheVariants as query;
 ghost use Rattle.txn_region.specs.Clients.{by_id, by_key, store_of, IsFoundAt, IsFoundOf, IsPlaceQuery, IsRefused, IsUsable, MatchLook, MayRefuseKey, MayRefuseKeyStore, MayRefuseStore, OrStarved, UnlessStarved};
 ghost use Rattle.txn_region.specs.Clients as lookup;
+ghost use Rattle.txn_region.specs.Decoded.{CanBeShown, HasBadKey, IsShownAs};
 ghost use Rattle.txn_region.specs.Groups.{next_start, or_unbounded, IsKeyGroup, IsRangeGroup};
 ghost use Rattle.txn_tso.specs.Placement.{fresh};
 ghost use Rattle.txn_tso.specs.contracts.retry_client.RetryClient.{the_row as connection_row};
 
 use crate::as_key::AsKey;
 use crate::codec::Codec;
+use crate::decoding::decode_region;
 use crate::grouping::{group_end, next_start_or_none, take_group};
 use crate::store::{RegionStore, Store};
 use txn_kv::{
@@ -211,6 +213,19 @@ pub trait PdClient {
             Look::Query(query) => Ok(Look::Query(query)),
             Look::Wait => unreachable!(),
         }
+    }
+
+    /// Decodes the keys of a region, where they are encoded. Bytes behind a key's closing group are refused with `BadEnd`, which
+    /// names the place behind that group. Takes no memory.
+    final fn decode_region(
+        region: RegionWithLeader,
+        enable_mvcc_codec: bool,
+    ) -> Result<RegionWithLeader>
+        ensures ok { IfOk result (λ decoded. IsShownAs enable_mvcc_codec region decoded) }
+        ensures err { IfErr result (λ error. (enable_mvcc_codec ≡ true) × HasBadKey region error) }
+        ensures decodes { CanBeShown enable_mvcc_codec region.region.start_key → CanBeShown enable_mvcc_codec region.region.end_key → IsOk result }
+    {
+        decode_region(region, enable_mvcc_codec)
     }
 
     ghost looked_same: { (c : Self) → looked c c };
