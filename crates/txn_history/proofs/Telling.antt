@@ -6,15 +6,17 @@ use Rattle.std.specs.Prelude.{⊤, IsErr, Result, Ok, Err}
 use Rattle.txn_kv.specs.declared.memory.NoMemory.{NoMemory}
 use Rattle.txn_kv.specs.declared.progress.Progress.{Progress}
 use Rattle.txn_kv.specs.declared.progress.Progress.TheVariants.{Waiting, Done}
-use Rattle.txn_kv.specs.declared.outbox.Errand.TheVariants.{Send}
+use Rattle.txn_kv.specs.declared.outbox.Errand.TheVariants.{Send, Sleep, Ask}
 use Rattle.txn_kv.specs.declared.request.Request.{Request}
 use Rattle.txn_kv.specs.declared.ticket.Target.{Target}
 use Rattle.txn_history.specs.Among.{IsAmong}
+use Rattle.txn_kv.specs.declared.reply.Reply.{Reply}
 use Rattle.txn_history.specs.Event.{Event}
-use Rattle.txn_history.specs.Event.Event.{Sent}
-use Rattle.txn_history.specs.Meaning.{further, Counts, Expects, Goes, IsLawful, Meaning, Tells, Told}
+use Rattle.txn_history.specs.Faults.{has_error, has_region_error}
+use Rattle.txn_history.specs.Event.Event.{Sent, Began, Asked}
+use Rattle.txn_history.specs.Meaning.{further, Counts, Expects, Goes, GoesOn, IsLawful, Meaning, Tells, Told}
 use Rattle.txn_history.specs.Later.{IsLater-refl}
-use Rattle.txn_history.specs.Moves.{Moves, Moves-before, Moves-map, Moves-quiet, Moves-sent, Moves-then, SameJob, SameJob-trans}
+use Rattle.txn_history.specs.Moves.{Moves, Moves-before, Moves-map, Moves-asked, Moves-quiet, Moves-sent, Moves-slept, Moves-then, SameJob, SameJob-trans}
 use Rattle.txn_history.specs.Spends.{Spends}
 use Rattle.txn_history.proofs.Counting.{Spends-then}
 use Rattle.txn_history.specs.Phase.{Awaited, IsPosted, Phase, phase_after, unheard}
@@ -43,6 +45,12 @@ never_ends Fresh v e = cc
 never_ends Running v e = cc
 never_ends Over v e = cc
 never_ends GivenUp v e = cc
+
+waits_only : {A B : Type 0} (p : Phase) (t : Turn A) → t ≡ Waits → t ≡ unheard p → unheard {A = B} p ≡ Waits
+waits_only Fresh t w e = refl
+waits_only Running t w e = refl
+waits_only Over t w e = refl
+waits_only GivenUp t w e = cc
 
 -- nothing is posted, and nothing more is waited for
 pub Expects-quiet : {was is heard : Awaited → Type 0} {o : Posted} → ((a : Awaited) → is a → was a × (heard a → ⊥)) → Expects was is heard o o
@@ -89,6 +97,32 @@ Tells-sent {from} to_whom r e may is job waits = record {
   moves = Moves-sent to_whom r e may is;
   job = job;
   expects = record { sends = Send from.next to_whom r ∷ []; pushed = ap (λ (o : Posted). o.sends) e; only = waits };
+}
+
+-- one sleep is begun
+pub Tells-slept : {S A : Type 0} {m : Meaning S A} {told : Told} {old new : S} {from to : Posted} (ms : ℕ)
+    → to ≡ record from { next = from.next + 1; sends = from.sends ++ Sleep from.next ms ∷ [] }
+    → ((h : List Event) → m.fits old from h × told.known h → m.fits new to (Began (ticket_of from from.next) ms ∷ told.hear h))
+    → SameJob m.asks m.gives new old
+    → ((a : Awaited) → m.waits new a → (m.waits old a × (told.heard a → ⊥)) ⊎ IsPosted (Sleep from.next ms ∷ []) a)
+    → Tells m told old new from to Waits
+Tells-slept {from = from} ms e is job waits = record {
+  moves = Moves-slept ms e is;
+  job = job;
+  expects = record { sends = Sleep from.next ms ∷ []; pushed = ap (λ (o : Posted). o.sends) e; only = waits };
+}
+
+-- a timestamp is asked for
+pub Tells-asked : {S A : Type 0} {m : Meaning S A} {told : Told} {old new : S} {from to : Posted}
+    → to ≡ record from { next_ask = from.next_ask + 1; sends = from.sends ++ Ask from.next_ask ∷ [] }
+    → ((h : List Event) → m.fits old from h × told.known h → m.fits new to (Asked (ticket_of from from.next_ask) ∷ told.hear h))
+    → SameJob m.asks m.gives new old
+    → ((a : Awaited) → m.waits new a → (m.waits old a × (told.heard a → ⊥)) ⊎ IsPosted (Ask from.next_ask ∷ []) a)
+    → Tells m told old new from to Waits
+Tells-asked {from = from} e is job waits = record {
+  moves = Moves-asked e is;
+  job = job;
+  expects = record { sends = Ask from.next_ask ∷ []; pushed = ap (λ (o : Posted). o.sends) e; only = waits };
 }
 
 -- One call after another.
@@ -139,19 +173,19 @@ Tells-then {m = m} {told = told} {old = old} {mid = mid} {new = new} {from = fro
     t_asks : (l : List Event) (r : Request) → m.asks mid l r → m.asks old l r
     t_asks l r a = job.asked l r a
 
--- The second call is for the state where the first had an answer.
+-- the second clause of both
 pub Goes-then : {S A B C : Type 0} {phase : S → Phase} {meant : Type 0} {old mid new : S} {from via to : Posted} {pd pd' pd'' : C} {turn : Turn B}
     → (p : Turn A) → p ≢ Stopped
     → Goes phase meant old mid from via pd pd' p
-    → Goes phase (HasEnded p) mid new via to pd' pd'' turn
+    → GoesOn phase p mid new via to pd' pd'' turn
     → Goes phase meant old new from to pd pd'' turn
 Goes-then Stopped kept s t = absurd (kept refl)
-Goes-then {phase = phase} {old = old} {mid = mid} {new = new} {turn = turn} Waits kept s t = record {
-  deaf = λ other. t.deaf (λ b. b) ∙ ap (λ (x : _). unheard (phase x)) (s.state other);
-  state = λ other. t.state (λ b. b) ∙ s.state other;
-  outbox = λ other. t.outbox (λ b. b) ∙ s.outbox other;
-  client = λ other. t.client (λ b. b) ∙ s.client other;
-  next = λ this. ap phase (t.state (λ b. b)) ∙ (s.next this ∙ sym (ap phase_after (t.deaf (λ b. b) ∙ ap unheard (s.next this))));
+Goes-then {phase = phase} {old = old} Waits kept s t = record {
+  deaf = λ other. t.deaf refl ∙ sym (waits_only (phase old) Waits refl (s.deaf other));
+  state = λ other. t.state refl ∙ s.state other;
+  outbox = λ other. t.outbox refl ∙ s.outbox other;
+  client = λ other. t.client refl ∙ s.client other;
+  next = λ this. ap phase (t.state refl) ∙ (s.next this ∙ sym (ap phase_after (t.deaf refl)));
 }
 Goes-then {phase = phase} {old = old} (Ends a) kept s t = record {
   deaf = λ other. absurd (never_ends (phase old) a (s.deaf other));
@@ -192,3 +226,7 @@ pub Tells-before : {S A : Type 0} {m : Meaning S A} {known more : List Event →
     → Tells m (further known) old new from to turn
     → Tells m (further more) old new from to turn
 Tells-before w t = record { moves = Moves-before (λ h f. (f.0, w h f.1)) t.moves; job = t.job; expects = t.expects }
+
+-- an error of the region is an error
+pub region_error_is_error : (o : Reply) → has_region_error o ≡ true → has_error o ≡ true
+region_error_is_error o e = rw e refl

@@ -14,7 +14,8 @@ use Rattle.txn_history.specs.Phase.Awaited.{ReplyTo, EndOf, TimeOf}
 use Rattle.txn_history.specs.Phase.Phase.{Fresh, Running}
 use Rattle.txn_history.specs.Posted.{Errand, Posted, ticket_of, Within, Within-one, Within-refl}
 use Rattle.txn_history.specs.Spends.{Spends}
-use Rattle.txn_history.specs.Turn.{Turn, failing, is_kept}
+use Rattle.txn_history.specs.Turn.{HasEnded, Turn, failing, is_kept}
+use Rattle.txn_history.specs.Turn.Turn.{Waits}
 
 -- A state of type S, whose answer, a value or an error, is an A.
 pub record Meaning (S A : Type 0) : Type 1 where
@@ -121,6 +122,15 @@ pub record Goes {S A C : Type 0} (phase : S → Phase) (meant : Type 0)
   pub outbox : (meant → ⊥) → to ≡ from
   pub client : (meant → ⊥) → pd' ≡ pd
   pub next : meant → phase new ≡ phase_after turn
+
+-- The like of a function of a state that goes on after a call of a state inside, which ended so.
+pub record GoesOn {S A B C : Type 0} (phase : S → Phase) (inner : Turn A)
+    (old new : S) (from to : Posted) (pd pd' : C) (turn : Turn B) : Type 0 where
+  pub deaf : inner ≡ Waits → turn ≡ Waits
+  pub state : inner ≡ Waits → new ≡ old
+  pub outbox : inner ≡ Waits → to ≡ from
+  pub client : inner ≡ Waits → pd' ≡ pd
+  pub next : HasEnded inner → phase new ≡ phase_after turn
 
 -- The third: what it posts and has left to post. It is told of an error where `bad`, and of one that a new run may better
 -- where `fails`; of locks of this weight, where `locked` is one.

@@ -1,12 +1,12 @@
 -- One request, and its reply.
 use Rattle.std.specs.Prelude.{◌≡◌, ◌≢◌, ◌⊎◌, ⊤, ℕ, ◌+◌, ◌<◌, ◌++◌, List, [], ◌∷◌, Option, IsSome, Result, Ok, Err, refl}
 use Rattle.std.proofs.Common.{inl, inr, subst, sym}
-use Rattle.std.proofs.Math.Nat.{le_trans}
+use Rattle.std.proofs.Math.Nat.{le_refl, le_trans}
 use Rattle.txn_history.specs.Event.{Event, Has}
 use Rattle.txn_history.specs.Event.Event.{Sent, Took, Lost}
 use Rattle.txn_history.specs.Faults.{may_better}
 use Rattle.txn_history.specs.Later.{IsLater, IsLater-ticket}
-use Rattle.txn_history.specs.Meaning.{IsLawful, Meaning, WasPosted}
+use Rattle.txn_history.specs.Meaning.{IsLawful, IsUnbegun, Meaning, WasPosted}
 use Rattle.txn_history.specs.Phase.{Awaited, IsRunning, Phase}
 use Rattle.txn_history.specs.Phase.Awaited.{ReplyTo}
 use Rattle.txn_history.specs.Phase.Phase.{Fresh, Running, Over, GivenUp}
@@ -127,3 +127,7 @@ dispatch-lawful request_of reply_of = record {
   waits = λ s o h f e. IsAt-waits (request_of s.request) s.stage o h f e;
   posted = λ s o h a f w. IsAt-posted (request_of s.request) s.stage o h a f w;
 }
+
+-- a request that was not sent fits every history, and owes itself
+pub unsent-unbegun : {R V : Type 0} (request_of : R → Request) (reply_of : V → Reply) (r : R) (s : Option ℕ) → IsUnbegun (dispatch request_of reply_of) (unsent r s)
+unsent-unbegun request_of reply_of r s = record { phase = refl; fits = λ o h. tt; whole = λ n. le_refl 1; light = λ w. tt }

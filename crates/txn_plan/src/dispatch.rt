@@ -1,6 +1,7 @@
 ghost use Rattle.std.specs.Prelude.{◌≡◌, ◌≢◌, OnOk, OnErr};
 ghost use Rattle.txn_history.specs.Posted.{HasNumbers};
 ghost use Rattle.std.specs.Bool.{MatchBool};
+ghost use Rattle.txn_history.specs.Meaning.{IsUnbegun};
 ghost use Rattle.txn_history.specs.Phase.{unheard};
 ghost use Rattle.txn_history.specs.Turn.{turn_of};
 ghost use Rattle.txn_plan.specs.Dispatch.{dispatch, dispatch-lawful, stage_phase, unsent, IsSentOnce};
@@ -23,7 +24,8 @@ pub struct Dispatch<R: CopyRequest> {
 impl<R: CopyRequest> Dispatch<R> {
     /// A request that is not sent yet.
     pub fn new(request: R, store: Option<StoreId>) -> Dispatch<R>
-        ensures { result ≡ unsent request store }
+        ensures value { result ≡ unsent request store }
+        ensures unbegun { IsUnbegun (dispatch R.request_of R.reply_of) result }
     {
         Dispatch {
             request,

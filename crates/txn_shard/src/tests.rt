@@ -1,6 +1,7 @@
 mod fake;
 mod found;
 mod parts;
+mod wrapped;
 
 use super::*;
 use fake::key;

@@ -151,19 +151,33 @@ fn locked(alloc: Global, bytes: &[u8]) -> std::result::Result<LockInfo, NoMemory
     })
 }
 
-#[test]
-fn goes_on_behind_the_last_lock(rt: HostRuntime) -> std::result::Result<(), Fail> {
-    let alloc = rt.alloc();
-    let mut response = ScanLockResponse {
+fn two_locks(alloc: Global) -> std::result::Result<Items<LockInfo>, NoMemory> {
+    let mut locks = Items::new(alloc);
+    locks.push(locked(alloc, b"a")?)?;
+    locks.push(locked(alloc, b"b")?)?;
+    Ok(locks)
+}
+
+/// What follows a reply with these locks.
+fn next_of(locks: Items<LockInfo>) -> std::result::Result<Option<(Key, Key)>, NoMemory> {
+    let response = ScanLockResponse {
         region_error: None,
         error: None,
-        locks: Items::new(alloc),
+        locks,
     };
-    assert!(rt; response.has_next_batch()?.is_none());
-    response.locks.push(locked(alloc, b"a")?)?;
-    response.locks.push(locked(alloc, b"b")?)?;
-    let next = response.has_next_batch()?.ok_or("none")?;
+    response.has_next_batch()
+}
+
+#[test]
+fn goes_on_behind_the_last_lock(rt: HostRuntime) -> std::result::Result<(), Fail> {
+    let next = next_of(two_locks(rt.alloc())?)?.ok_or("none")?;
     assert!(rt; next.0.as_slice() == b"b\0".as_slice() && next.1.is_empty());
+    Ok(())
+}
+
+#[test]
+fn nothing_follows_no_locks(rt: HostRuntime) -> std::result::Result<(), Fail> {
+    assert!(rt; next_of(Items::new(rt.alloc()))?.is_none());
     Ok(())
 }
 
