@@ -1,19 +1,19 @@
 -- The calls of a look-up, in the form that every call state has.
-use Rattle.std.proofs.Common.{◌≡◌, ◌≢◌, ◌≤◌, ◌⊎◌, inl, inr, ℕ, ◌+◌, ◌++◌, Bool, true, false, List, [], ◌∷◌, Option, Some, None, refl, sym, ap, subst, ◌∙◌, append-nil, arith}
+use Rattle.std.proofs.Common.{◌≡◌, ◌≢◌, ◌≤◌, ◌⊎◌, inl, inr, ℕ, ◌+◌, Bool, true, false, List, [], ◌∷◌, Option, Some, None, refl, sym, ap, subst, ◌∙◌, append-nil, arith}
 use Rattle.std.proofs.Math.Nat.{le_refl}
 use Rattle.std.proofs.lemmas.Bool.{false≢true, eq-eqb}
 use Rattle.std.specs.Bool.{MatchBool}
-use Rattle.std.specs.Prelude.{⊤, if◌then◌else◌, nat_eq, nat_lt, Result, Ok, Err}
+use Rattle.std.specs.Prelude.{if◌then◌else◌, nat_eq, nat_lt, Result, Ok, Err}
 use Rattle.txn_history.specs.Event.{Event, Has}
 use Rattle.txn_history.specs.Event.Event.{Sent}
-use Rattle.txn_history.specs.Meaning.{Counts, Expects, Goes, IsSent, Meaning, Tells, Told}
+use Rattle.txn_history.specs.Meaning.{Counts, Expects, Goes, IsSent, Tells, Told}
 use Rattle.txn_history.specs.Moves.{Moves, Moves-map, SameJob}
 use Rattle.txn_history.specs.Phase.{Awaited, IsPosted, phase_after, unheard}
 use Rattle.txn_history.specs.Phase.Phase.{Running}
 use Rattle.txn_history.specs.Spends.{Spends, sleeps}
 use Rattle.txn_history.proofs.Counting.{Spends-before}
 use Rattle.txn_history.specs.Phase.Awaited.{EndOf, ReplyTo, TimeOf}
-use Rattle.txn_history.specs.Posted.{Errand, Posted, ticket_of, AreNumbered}
+use Rattle.txn_history.specs.Posted.{Posted, ticket_of}
 use Rattle.txn_history.specs.Turn.{failing, is_kept, Turn}
 use Rattle.txn_history.specs.Turn.Turn.{Stopped, Waits, Ends}
 use Rattle.txn_history.proofs.Knowing.{Moves-known, Pushes}
@@ -33,7 +33,7 @@ use Rattle.txn_tso.specs.Counting.{asks_of, call_bears, call_left, call_round, i
 use Rattle.txn_tso.specs.Counting as counting
 use Rattle.txn_tso.specs.Heeding.{CallHeeds, IsOut, hears_answer, hears_reply, hears_start, hears_waking}
 use Rattle.txn_tso.specs.Placement.{may_connect, not_found, request_of}
-use Rattle.txn_tso.specs.Steps.{connected, connecting, ends, failing_try, losing_members, on_answer, on_loss, on_start, on_timestamp, on_waking, one_more_failed, over, reconnected, resting, standing, tried, tried_with, unconnected, waits, with_ask, with_request, with_sleep, IsMembersReply, IsOnReply, IsQueryReply, Standing, Stands, StandsBy, Stood}
+use Rattle.txn_tso.specs.Steps.{connected, connecting, failing_try, losing_members, on_answer, on_loss, on_start, on_timestamp, on_waking, one_more_failed, over, reconnected, resting, tried, tried_with, unconnected, waits, with_ask, with_request, with_sleep, IsMembersReply, IsOnReply, IsQueryReply, Standing, Stands, Stood}
 use Rattle.txn_tso.specs.declared.pd_call.PdCall.{PdCall}
 use Rattle.txn_tso.specs.declared.stage.Stage.{Stage}
 use Rattle.txn_tso.specs.declared.stage.Stage.TheVariants as stage

@@ -1,7 +1,7 @@
 -- A look-up at the placement driver, as a state among others.
-use Rattle.std.specs.Prelude.{◌≡◌, ⊤, ℕ, zero, suc, List, Result, refl}
+use Rattle.std.specs.Prelude.{◌≡◌, ⊤, ℕ, List, Result, refl}
 use Rattle.std.proofs.Common.{subst, sym}
-use Rattle.txn_history.specs.Event.{Event, Has}
+use Rattle.txn_history.specs.Event.{Event}
 use Rattle.std.proofs.Common.{lit<}
 use Rattle.std.proofs.Math.Nat.{le_refl}
 use Rattle.txn_history.specs.Later.{IsLater-refl}
@@ -9,12 +9,12 @@ use Rattle.txn_history.specs.Meaning.{IsLawful, IsUnbegun, Meaning, WasPosted}
 use Rattle.txn_history.specs.Phase.{Awaited, IsRunning, Phase}
 use Rattle.txn_history.specs.Phase.Awaited.{EndOf, ReplyTo, TimeOf}
 use Rattle.txn_history.specs.Phase.Phase.{Fresh, GivenUp, Over, Running}
-use Rattle.txn_history.specs.Posted.{Posted, Within}
+use Rattle.txn_history.specs.Posted.{Posted}
 use Rattle.txn_kv.specs.declared.errors.Error.{Error}
 use Rattle.txn_kv.specs.declared.query.PdAnswer.{PdAnswer}
 use Rattle.txn_kv.specs.declared.query.PdQuery.{PdQuery}
 use Rattle.txn_tso.specs.Calling.{members, CallFits, Gives, IsAt, MayAsk}
-use Rattle.txn_tso.specs.Counting.{call_bears, call_left, call_round, is_loss}
+use Rattle.txn_tso.specs.Counting.{call_left, call_round, is_loss}
 use Rattle.txn_tso.specs.Longer.{fits_longer, gives_longer}
 use Rattle.txn_tso.specs.Placement.{fresh}
 use Rattle.txn_tso.specs.declared.pd_call.PdCall.{PdCall}
