@@ -1,3 +1,4 @@
+mod builder;
 mod client;
 mod dispatch;
 mod wrappers;
