@@ -1,7 +1,8 @@
 -- How far a transaction has come, and which calls and moves that allows.
 use Rattle.std.specs.Prelude.{ℕ, Bool, true, false, if◌then◌else◌, List, [], ◌∷◌, Option, Some, None, Result, Ok, Err}
 use Rattle.txn_kv.specs.declared.errors.Error.{Error}
-use Rattle.txn_kv.specs.declared.errors.Error.TheVariants.{UndeterminedError}
+use Rattle.txn_kv.specs.ErrorView.{ErrorView, view_of}
+use Rattle.txn_kv.specs.ErrorView.ErrorView.{undetermined}
 use Rattle.txn_kv.specs.declared.timestamp.Timestamp.{Timestamp}
 use Rattle.txn_core.specs.declared.close_answer.CloseAnswer.{CloseAnswer}
 use Rattle.txn_core.specs.declared.close_answer.CloseAnswer.TheVariants.{WouldPanic, Warned, Clean}
@@ -115,9 +116,12 @@ after_commit (Some (Err error)) has_prewritten = StartedCommit
 after_commit (Some (Ok (Some timestamp))) has_prewritten = Committed
 after_commit (Some (Ok None)) has_prewritten = if has_prewritten then Committed else StartedCommit
 
+abbrev pub is_undetermined_view : ErrorView → Bool
+is_undetermined_view (undetermined inner) = true
+is_undetermined_view _ = false
+
 abbrev pub is_undetermined : Error → Bool
-is_undetermined (UndeterminedError inner) = true
-is_undetermined _ = false
+is_undetermined error = is_undetermined_view (view_of error)
 
 -- a rollback that is refused since a commit's end is not known leaves the status
 abbrev pub after_rollback : Status → Option (Result (Unit {0}) Error) → Status

@@ -1,8 +1,8 @@
 ghost use Rattle.std.specs.Prelude.{◌≡◌};
 ghost use Rattle.txn_core.specs.Options.{no_retries, usual_retries};
 
-use txn_kv::backoff::{DEFAULT_REGION_BACKOFF, OPTIMISTIC_BACKOFF, PESSIMISTIC_BACKOFF};
 use txn_kv::Backoff;
+use txn_kv::backoff::{DEFAULT_REGION_BACKOFF, OPTIMISTIC_BACKOFF, PESSIMISTIC_BACKOFF};
 
 /// How often, and after how long, requests are sent again after a region error or a loss, and after a lock.
 #[derive(Clone, Copy, Debug, PartialEq, Eq)]

@@ -87,14 +87,20 @@ impl Status {
     pub fn allows_rollback(self) -> bool
         ensures { result ≡ allows_rollback self }
     {
-        matches!(self, Status::Active | Status::StartedCommit | Status::StartedRollback)
+        matches!(
+            self,
+            Status::Active | Status::StartedCommit | Status::StartedRollback
+        )
     }
 
     /// Whether nothing comes after it but that the transaction is let go.
     pub fn is_end(self) -> bool
         ensures { result ≡ is_end self }
     {
-        matches!(self, Status::Committed | Status::Rolledback | Status::Dropped)
+        matches!(
+            self,
+            Status::Committed | Status::Rolledback | Status::Dropped
+        )
     }
 
     /// What a user is told who lets a transaction go that has come so far.

@@ -50,7 +50,7 @@ fn base_ttl(write_size: u64) -> u64
 }
 
 /// How long the locks of a commit live, in milliseconds.
-pub(crate) fn txn_lock_ttl(write_size: u64, started: u64, now: u64) -> u64
+pub fn txn_lock_ttl(write_size: u64, started: u64, now: u64) -> u64
     ensures { IsTtl write_size started now result }
 {
     base_ttl(write_size).saturating_add(elapsed(started, now))

@@ -1,4 +1,4 @@
-use Rattle.std.proofs.Common.{◌≡◌, ◌-◌, ◌^◌, ℕ, ◌+◌, ◌*◌, ◌<◌, ◌≤◌, length}
+use Rattle.std.proofs.Common.{◌-◌, ◌^◌, ℕ, ◌*◌, ◌<◌, ◌≤◌}
 use Rattle.txn_core.proofs.ttl.integer_root.Given as goal
 
 pub record Between (square root above : ℕ) : Type 0 where
