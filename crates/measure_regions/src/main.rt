@@ -1,5 +1,5 @@
-//! Looks keys up in a region cache: `measure_regions REGIONS LOOKUPS`. It prints how many were found, and is there to be
-//! timed.
+//! Looks keys up in a region cache: `measure_regions REGIONS LOOKUPS`, or ids, with a third word `id`. It prints how many
+//! were found, and is there to be timed.
 #![tactic(auto)]
 
 use std::alloc::Global;
@@ -27,21 +27,53 @@ fn filled(alloc: Global, regions: u32) -> Result<RegionCache> {
     Ok(cache)
 }
 
-/// How many of the look-ups, at keys that jump about, find a region.
-fn found(alloc: Global, regions: u32, look_ups: u64) -> Result<u64> {
-    let mut cache = filled(alloc, regions)?;
+/// Numbers that jump about.
+fn jumped(state: u64) -> u64 {
+    state
+        .wrapping_mul(6364136223846793005)
+        .wrapping_add(1442695040888963407)
+}
+
+/// How many of the look-ups by key find a region.
+fn found_by_key(
+    alloc: Global,
+    cache: &mut RegionCache,
+    regions: u32,
+    look_ups: u64,
+) -> Result<u64> {
     let mut found: u64 = 0;
     let mut state: u64 = 1;
     for _ in 0..look_ups {
-        state = state
-            .wrapping_mul(6364136223846793005)
-            .wrapping_add(1442695040888963407);
+        state = jumped(state);
         let number = (state >> 33) as u32 % regions.max(1);
         if let Look::Found(_) = cache.get_region_by_key(&key(alloc, number)?)? {
             found = found.wrapping_add(1);
         }
     }
     Ok(found)
+}
+
+/// How many of the look-ups by id find a region.
+fn found_by_id(cache: &mut RegionCache, regions: u32, look_ups: u64) -> Result<u64> {
+    let mut found: u64 = 0;
+    let mut state: u64 = 1;
+    for _ in 0..look_ups {
+        state = jumped(state);
+        let id = (state >> 33) % u64::from(regions.max(1));
+        if let Look::Found(_) = cache.get_region_by_id(id, 0)? {
+            found = found.wrapping_add(1);
+        }
+    }
+    Ok(found)
+}
+
+fn found(alloc: Global, regions: u32, look_ups: u64, by_id: bool) -> Result<u64> {
+    let mut cache = filled(alloc, regions)?;
+    if by_id {
+        found_by_id(&mut cache, regions, look_ups)
+    } else {
+        found_by_key(alloc, &mut cache, regions, look_ups)
+    }
 }
 
 /// The number that the next word spells, or 0.
@@ -56,7 +88,8 @@ fn main(rt: HostRuntime) -> io::Result<()> {
     let mut words = env::args(&rt)?.skip(1);
     let regions = number(words.next());
     let look_ups = number(words.next());
-    match found(rt.alloc(), regions, u64::from(look_ups)) {
+    let by_id = words.next().is_some();
+    match found(rt.alloc(), regions, u64::from(look_ups), by_id) {
         Ok(found) => println!(rt; "{found}"),
         Err(error) => println!(rt; "{error}"),
     }

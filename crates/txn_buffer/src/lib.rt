@@ -4,6 +4,7 @@
 mod bounds;
 pub mod buffer;
 pub mod entry;
+pub mod law;
 pub mod send;
 #[cfg(test)]
 mod tests;

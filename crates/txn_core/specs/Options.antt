@@ -10,7 +10,7 @@ use Rattle.txn_core.specs.declared.options.HeartbeatOption.TheVariants.{NoHeartb
 use Rattle.txn_core.specs.declared.options.TransactionKind.{TransactionKind}
 use Rattle.txn_core.specs.declared.options.TransactionKind.TheVariants.{Optimistic, Pessimistic}
 use Rattle.txn_core.specs.declared.options.TransactionOptions.{TransactionOptions}
-use Rattle.txn_core.specs.declared.retry_options.RetryOptions.{RetryOptions}
+use Rattle.txn_merge.specs.declared.retry_options.RetryOptions.{RetryOptions}
 
 -- nothing is tried again
 abbrev pub no_backoff : Backoff
@@ -22,9 +22,6 @@ usual_backoff = fresh delays.NoJitter 2 500 10
 
 abbrev pub usual_retries : RetryOptions
 usual_retries = record { region_backoff = usual_backoff; lock_backoff = usual_backoff }
-
-abbrev pub no_retries : RetryOptions
-no_retries = record { region_backoff = no_backoff; lock_backoff = no_backoff }
 
 abbrev pub is_pessimistic : TransactionKind → Bool
 is_pessimistic Optimistic = false

@@ -6,7 +6,6 @@ pub mod commit_parts;
 pub mod laws;
 pub mod options;
 pub mod primary_commits;
-pub mod retry_options;
 pub mod send;
 pub mod status;
 #[cfg(test)]
@@ -17,5 +16,4 @@ pub use close_answer::CloseAnswer;
 pub use commit_parts::CommitParts;
 pub use options::{CheckLevel, HeartbeatOption, TransactionKind, TransactionOptions};
 pub use primary_commits::PrimaryCommits;
-pub use retry_options::RetryOptions;
 pub use status::Status;

@@ -4,9 +4,9 @@ ghost use Rattle.txn_core.specs.Options.{AreDefault, beats, is_auto, is_pessimis
 ghost use Rattle.txn_core.specs.declared.options.TransactionKind.TheVariants as kinds;
 ghost use Rattle.txn_core.specs.declared.options.CheckLevel.TheVariants as levels;
 
-use crate::retry_options::RetryOptions;
 use std::time::Duration;
 use txn_kv::{Backoff, Timestamp, TimestampExt};
+use txn_merge::RetryOptions;
 
 /// How long a lock lives at most beyond the time that its transaction has run, in milliseconds.
 pub(crate) const MAX_TTL: u64 = 20000;
@@ -49,7 +49,7 @@ impl HeartbeatOption {
 }
 
 /// How a transaction begins, and how it goes about its requests. By default it is pessimistic.
-#[derive(Clone, Copy, Debug, PartialEq, Eq)]
+#[derive(Clone, Debug, PartialEq, Eq, Drop)]
 pub struct TransactionOptions {
     pub kind: TransactionKind,
     pub try_one_pc: bool,

@@ -6,47 +6,58 @@ use txn_buffer::Buffer;
 use txn_kv::{
     Backoff, CommitRequest, Errand, Items, Key, NoMemory, Request, Target, Ticket, Timestamp, Value,
 };
+use txn_merge::RetryOptions;
 
 fn key(alloc: Global, name: &str) -> Result<Key, NoMemory> {
     Ok(Key::from(name.as_bytes().to_vec(alloc)?))
 }
 
+fn optimistic() -> TransactionOptions {
+    TransactionOptions::new_optimistic()
+}
+
 #[test]
 fn options_change_one_by_one(rt: HostRuntime) {
-    let options = TransactionOptions::new_optimistic();
-    assert_eq!(rt; options.is_pessimistic(), false);
-    assert_eq!(rt; options.retry_options, RetryOptions::default_optimistic());
-    assert_eq!(rt; options.read_only().read_only, true);
-    assert_eq!(rt; options.use_async_commit().async_commit, true);
-    assert_eq!(rt; options.try_one_pc().try_one_pc, true);
+    assert_eq!(rt; optimistic().is_pessimistic(), false);
     assert_eq!(rt;
-        options.drop_check(CheckLevel::Warn).check_level,
-        CheckLevel::Warn
+        optimistic().retry_options,
+        RetryOptions::default_optimistic()
     );
-    let quiet = options.heartbeat_option(HeartbeatOption::NoHeartbeat);
-    assert_eq!(rt; quiet.heartbeat_option.is_auto_heartbeat(), false);
-    let interval = HeartbeatOption::FixedTime(Duration::from_millis(10_000));
-    assert_eq!(rt; options.heartbeat_option, interval);
-    assert_eq!(rt; options.heartbeat_option.is_auto_heartbeat(), true);
+    assert_eq!(rt; optimistic().read_only().read_only, true);
+    assert_eq!(rt; optimistic().use_async_commit().async_commit, true);
+    assert_eq!(rt; optimistic().try_one_pc().try_one_pc, true);
+    let warned = optimistic().drop_check(CheckLevel::Warn);
+    assert_eq!(rt; warned.check_level, CheckLevel::Warn);
     assert_eq!(rt; TransactionOptions::default().is_pessimistic(), true);
     assert_eq!(rt; CheckLevel::default(), CheckLevel::Panic);
 }
 
 #[test]
+fn heartbeats_by_default(rt: HostRuntime) {
+    let interval = HeartbeatOption::FixedTime(Duration::from_millis(10_000));
+    assert_eq!(rt; optimistic().heartbeat_option, interval);
+    assert_eq!(rt; HeartbeatOption::default(), interval);
+    assert_eq!(rt; interval.is_auto_heartbeat(), true);
+    let quiet = optimistic().heartbeat_option(HeartbeatOption::NoHeartbeat);
+    assert_eq!(rt; quiet.heartbeat_option.is_auto_heartbeat(), false);
+}
+
+#[test]
 fn retries_are_left_out(rt: HostRuntime) {
-    let options = TransactionOptions::new_optimistic();
-    let no_locks = options.no_resolve_locks().retry_options;
+    let no_locks = optimistic().no_resolve_locks().retry_options;
     assert_eq!(rt; no_locks.lock_backoff, Backoff::no_backoff());
     assert_eq!(rt;
         no_locks.region_backoff,
-        options.retry_options.region_backoff
+        RetryOptions::default_optimistic().region_backoff
     );
-    let neither = options
+    let neither = optimistic()
         .no_resolve_locks()
         .no_resolve_regions()
         .retry_options;
     assert_eq!(rt; neither, RetryOptions::none());
-    let set = options.retry_options(RetryOptions::none()).retry_options;
+    let set = optimistic()
+        .retry_options(RetryOptions::none())
+        .retry_options;
     assert_eq!(rt; set, RetryOptions::none());
 }
 

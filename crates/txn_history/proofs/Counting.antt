@@ -1,6 +1,7 @@
 -- Calls that are counted, one after another and of a state around them.
 use Rattle.std.proofs.lemmas.Bool.{false≢true}
 use Rattle.std.proofs.lemmas.List.Sums.{sum_by-append}
+use Rattle.std.proofs.Math.Nat.{le_refl}
 use Rattle.std.specs.Prelude.{cond, count_by, List, [], ◌∷◌, ◌++◌}
 use Rattle.std.proofs.Common.{ℕ, Bool, true, false, ◌≡◌, ◌≤◌, ◌+◌, refl, sym, ap, ◌∙◌, arith}
 use Rattle.txn_history.specs.Posted.{Errand, Posted}
@@ -33,6 +34,12 @@ spare-less true false true x w = absurd (false≢true (w refl))
 spare-less true false false x w = omega arith
 spare-less false f f' x w = omega arith
 
+-- more may be allowed
+pub spare-more : (bad bad' f : Bool) (x : ℕ) → (bad ≡ true → bad' ≡ true) → spare bad f x ≤ spare bad' f x
+spare-more true true f x m = le_refl (spare true f x)
+spare-more true false f x m = absurd (false≢true (m refl))
+spare-more false bad' f x m = omega arith
+
 pub zero-right : (x : ℕ) → x + 0 ≡ x
 zero-right x = omega arith
 
@@ -41,15 +48,16 @@ pub Spends-stops : {was is is' : ℕ → Type 0} {before after after' round : �
     {from to : Posted} {kept failed kept' failed' : Bool}
     → Spends was is before after round bad fails weight locked width width' from to kept failed
     → kept' ≡ false
+    → (fails ≡ true → fails' ≡ true)
     → Spends was is' before after' round bad fails' weight locked width width' from to kept' failed'
-Spends-stops s i = record {
+Spends-stops {fails} {fails'} s i m = record {
   wider = s.wider;
   bears = λ e. absurd (false≢true (sym i ∙ e));
   allowed = λ e. absurd (false≢true (sym i ∙ e));
   spends = λ e. absurd (false≢true (sym i ∙ e));
   stopped = s.stopped;
   rests = λ e. absurd (false≢true (sym i ∙ e));
-  stopped_rests = s.stopped_rests;
+  stopped_rests = let x = s.stopped_rests in let y = spare-more fails fails' false 1 m in omega arith;
 }
 
 -- the same call, of a state around it
@@ -81,15 +89,16 @@ Spends-map {round} {round'} {bad} {weight} {failed} p i r b a s = record {
 }
 
 -- one call after another; the second may spend and fail only where the first failed
-pub Spends-then : {was mid is : ℕ → Type 0} {before middle after round round' : ℕ → ℕ} {bad bad' fails' : Bool} {weight locked width via_width width' : ℕ}
+pub Spends-then : {was mid is : ℕ → Type 0} {before middle after round round' : ℕ → ℕ} {bad fails bad' fails' : Bool} {weight locked width via_width width' : ℕ}
     {from via to : Posted} {first kept failed : Bool}
+    → (fails ≡ true → bad ≡ true)
     → (bad' ≡ true → first ≡ true)
     → (fails' ≡ true → first ≡ true)
     → ((n w : ℕ) → 1 ≤ n → was w → round' n ≤ round n)
-    → Spends was mid before middle round bad bad weight locked width via_width from via true first
+    → Spends was mid before middle round bad fails weight locked width via_width from via true first
     → Spends mid is middle after round' bad' fails' 0 0 via_width width' via to kept failed
-    → Spends was is before after round bad bad weight locked width width' from to kept failed
-Spends-then {was} {mid} {is} {before} {middle} {after} {round} {round'} {bad} {bad'} {weight} {locked} {from} {via} {to} {first} {kept} {failed} b f r s t = record {
+    → Spends was is before after round bad fails weight locked width width' from to kept failed
+Spends-then {was} {mid} {is} {before} {middle} {after} {round} {round'} {bad} {fails} {bad'} {fails'} {weight} {locked} {from} {via} {to} {first} {kept} {failed} worse b f r s t = record {
   wider = let x = s.wider in let y = t.wider in omega arith;
   bears = λ e w o. rw (← (zero-right (w + weight))) (t.bears e (w + weight) (s.bears refl w o));
   allowed = λ e g. s.allowed refl (f (t.allowed e g));
@@ -97,34 +106,35 @@ Spends-then {was} {mid} {is} {before} {middle} {after} {round} {round'} {bad} {b
       let one = s.spends refl n w u (let x = t.wider in omega arith) o in
       let two = t.spends e n (w + weight) u m (s.bears refl w o) in
       let z = r n w u o in
-      let join = spare-join bad first bad' failed (round n + w + weight) (round' n + (w + weight) + 0) (s.allowed refl) b (λ g. f (t.allowed e g)) (omega arith) in
+      let join = spare-join bad first bad' failed (round n + w + weight) (round' n + (w + weight) + 0) (λ g. worse (s.allowed refl g)) b (λ g. f (t.allowed e g)) (omega arith) in
       omega arith;
   stopped = λ n w u m o.
       let one = s.spends refl n w u (let x = t.wider in omega arith) o in
       let two = t.stopped n (w + weight) u m (s.bears refl w o) in
       let z = r n w u o in
-      let join = spare-join bad first bad' false (round n + w + weight) (round' n + (w + weight) + 0) (s.allowed refl) b (λ g. absurd (false≢true g)) (omega arith) in
+      let join = spare-join bad first bad' false (round n + w + weight) (round' n + (w + weight) + 0) (λ g. worse (s.allowed refl g)) b (λ g. absurd (false≢true g)) (omega arith) in
       omega arith;
   rests = λ e.
       let one = s.rests refl in
       let two = t.rests e in
-      let join = spare-join bad first bad' failed 1 1 (s.allowed refl) b (λ g. f (t.allowed e g)) (omega arith) in
+      let join = spare-join fails first fails' failed 1 1 (s.allowed refl) f (λ g. f (t.allowed e g)) (omega arith) in
       omega arith;
   stopped_rests =
       let one = s.rests refl in
       let two = t.stopped_rests in
-      let join = spare-join bad first bad' false 1 1 (s.allowed refl) b (λ g. absurd (false≢true g)) (omega arith) in
+      let join = spare-join fails first fails' false 1 1 (s.allowed refl) f (λ g. absurd (false≢true g)) (omega arith) in
       omega arith;
 }
 
 -- one call after another, of which the second is told of nothing
-pub Spends-next : {was mid is : ℕ → Type 0} {before middle after round round' : ℕ → ℕ} {bad : Bool} {weight locked width via_width width' : ℕ}
+pub Spends-next : {was mid is : ℕ → Type 0} {before middle after round round' : ℕ → ℕ} {bad fails : Bool} {weight locked width via_width width' : ℕ}
     {from via to : Posted} {first kept failed : Bool}
+    → (fails ≡ true → bad ≡ true)
     → ((n w : ℕ) → 1 ≤ n → was w → round' n ≤ round n)
-    → Spends was mid before middle round bad bad weight locked width via_width from via true first
+    → Spends was mid before middle round bad fails weight locked width via_width from via true first
     → Spends mid is middle after round' false false 0 0 via_width width' via to kept failed
-    → Spends was is before after round bad bad weight locked width width' from to kept failed
-Spends-next r s t = Spends-then (λ e. absurd (false≢true e)) (λ e. absurd (false≢true e)) r s t
+    → Spends was is before after round bad fails weight locked width width' from to kept failed
+Spends-next worse r s t = Spends-then worse (λ e. absurd (false≢true e)) (λ e. absurd (false≢true e)) r s t
 
 -- a call, and then work on the state alone
 pub Spends-after : {was mid is : ℕ → Type 0} {before middle after round : ℕ → ℕ} {bad fails : Bool} {weight locked width width' : ℕ}
@@ -134,7 +144,7 @@ pub Spends-after : {was mid is : ℕ → Type 0} {before middle after round : �
     → ((n : ℕ) → after n ≤ middle n)
     → Spends was mid before middle round bad fails weight locked width width' from to true first
     → Spends was is before after round bad fails weight locked width width' from to true failed
-Spends-after {round} {bad} {weight} {first} {failed} f i a s = record {
+Spends-after {round} {bad} {fails} {weight} {first} {failed} f i a s = record {
   wider = s.wider;
   bears = λ e w o. i _ (s.bears e w o);
   allowed = λ e g. s.allowed e (f g);
@@ -144,7 +154,7 @@ Spends-after {round} {bad} {weight} {first} {failed} f i a s = record {
       let y = spare-less bad first failed (round n + w + weight) f in
       omega arith;
   stopped = s.stopped;
-  rests = λ e. let one = s.rests e in let y = spare-less bad first failed 1 f in omega arith;
+  rests = λ e. let one = s.rests e in let y = spare-less fails first failed 1 f in omega arith;
   stopped_rests = s.stopped_rests;
 }
 
@@ -168,14 +178,14 @@ Spends-quiet f i a = record {
 pub Spends-before : {was was' is : ℕ → Type 0} {before before' after after' round round' : ℕ → ℕ} {bad fails : Bool} {weight locked width via_width width' : ℕ}
     {from via to : Posted} {kept failed : Bool}
     → calls via ≡ calls from
-    → sleeps via ≤ sleeps from + spare bad false 1 + locked
+    → sleeps via ≤ sleeps from + spare fails false 1 + locked
     → width ≤ via_width
     → ((w : ℕ) → was' w → was (w + weight))
     → ((n w : ℕ) → 1 ≤ n → via_width ≤ n → was' w → before n ≤ before' n + spare bad false (round' n + w + weight) + weight)
     → ((n : ℕ) → after' n ≤ after n)
     → Spends was is before after round false false 0 0 via_width width' via to kept failed
     → Spends was' is before' after' round' bad fails weight locked width width' from to kept failed
-Spends-before {round} {round'} {bad} {weight} {from} {via} {to} {kept} {failed} same m v p b d s = record {
+Spends-before {round} {round'} {bad} {fails} {weight} {from} {via} {to} {kept} {failed} same m v p b d s = record {
   wider = let x = s.wider in omega arith;
   bears = λ e w o. rw (← (zero-right (w + weight))) (s.bears e (w + weight) (p w o));
   allowed = λ e g. absurd (false≢true (s.allowed e g));
@@ -189,7 +199,7 @@ Spends-before {round} {round'} {bad} {weight} {from} {via} {to} {kept} {failed} 
       let one = s.stopped n (w + weight) u t (p w o) in
       let x = b n w u (let y = s.wider in omega arith) o in
       omega arith;
-  rests = λ e. let one = s.rests e in let y = spare-less bad false failed 1 (λ g. absurd (false≢true (s.allowed e g))) in omega arith;
+  rests = λ e. let one = s.rests e in let y = spare-less fails false failed 1 (λ g. absurd (false≢true (s.allowed e g))) in omega arith;
   stopped_rests = let x = s.stopped_rests in omega arith;
 }
 
@@ -199,14 +209,14 @@ pub Spends-fails : {was is : ℕ → Type 0} {before after round : ℕ → ℕ} 
     → (fails ≡ true → fails' ≡ true)
     → Spends was is before after round bad fails weight locked width width' from to kept failed
     → Spends was is before after round bad fails' weight locked width width' from to kept failed
-Spends-fails f s = record {
+Spends-fails {fails} {fails'} {failed} f s = record {
   wider = s.wider;
   bears = s.bears;
   allowed = λ e g. f (s.allowed e g);
   spends = s.spends;
   stopped = s.stopped;
-  rests = s.rests;
-  stopped_rests = s.stopped_rests;
+  rests = λ e. let x = s.rests e in let y = spare-more fails fails' failed 1 f in omega arith;
+  stopped_rests = let x = s.stopped_rests in let y = spare-more fails fails' false 1 f in omega arith;
 }
 
 -- the call gives up, and posts nothing but a sleep
@@ -214,7 +224,7 @@ pub Spends-failed : {was is : ℕ → Type 0} {before after round : ℕ → ℕ}
     {from to : Posted} {kept failed : Bool}
     → kept ≡ false
     → calls to ≡ calls from
-    → sleeps to ≤ sleeps from + spare bad false 1
+    → sleeps to ≤ sleeps from + spare fails false 1
     → width ≤ width'
     → Spends was is before after round bad fails weight locked width width' from to kept failed
 Spends-failed i x m v = record {

@@ -8,3 +8,9 @@ pub mod Turn
 pub mod Moves
 pub mod Spends
 pub mod Parts
+pub mod Later
+pub mod Heeds
+pub mod Faults
+pub mod Phase
+pub mod Meaning
+pub mod Around

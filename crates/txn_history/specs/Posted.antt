@@ -1,13 +1,11 @@
 -- What a call posts: requests, sleeps and asks for a timestamp, as its outbox holds them.
 use Rattle.std.specs.Prelude.{◌≡◌, ℕ, ◌+◌, Bool, List, [], ◌∷◌, ◌++◌, refl}
 use Rattle.std.proofs.Common.{inr, subst}
-use Rattle.txn_kv.specs.declared.ticket.Target.{Target}
 use Rattle.txn_kv.specs.declared.outbox.Errand.TheVariants.{Send, Sleep, Ask}
 use Rattle.txn_kv.specs.declared.ticket.Ticket.{Ticket}
 use Rattle.txn_kv.specs.declared.request.Request.{Request}
 use Rattle.txn_history.specs.Event.{Event, Has}
 use Rattle.txn_history.specs.Event.Event.{Sent, Began, Asked}
-
 pub use Rattle.txn_kv.specs.declared.outbox.Errand.{Errand}
 pub use Rattle.txn_kv.specs.Posted.{Posted, HasNumbers}
 

@@ -94,8 +94,8 @@ pub record Spends
   pub spends : kept ≡ true → (n w : ℕ) → 1 ≤ n → wider_width ≤ n → was w → calls to + after n ≤ calls from + before n + spare bad failed (round n + w + weight) + weight
   pub stopped : (n w : ℕ) → 1 ≤ n → wider_width ≤ n → was w → calls to ≤ calls from + before n + spare bad false (round n + w + weight) + weight
   -- the sleeps that were begun
-  pub rests : kept ≡ true → sleeps to ≤ sleeps from + spare bad failed 1 + locked
-  pub stopped_rests : sleeps to ≤ sleeps from + spare bad false 1 + locked
+  pub rests : kept ≡ true → sleeps to ≤ sleeps from + spare fails failed 1 + locked
+  pub stopped_rests : sleeps to ≤ sleeps from + spare fails false 1 + locked
 
 -- nothing was posted yet, and no lock was given
 pub record IsFresh {S : Type 0} (round left : S → ℕ → ℕ) (bears : S → ℕ → Type 0) (s : S) : Type 0 where

@@ -1,5 +1,5 @@
 -- How an event call of a state ends.
-use Rattle.std.specs.Prelude.{◌≡◌, ◌≢◌, Bool, false, Result, Ok, Err, refl}
+use Rattle.std.specs.Prelude.{◌≡◌, ◌≢◌, Bool, true, false, Result, Ok, Err, refl}
 use Rattle.txn_kv.specs.declared.errors.Error.{Error}
 use Rattle.txn_kv.specs.declared.memory.NoMemory.{NoMemory}
 use Rattle.txn_kv.specs.declared.progress.Progress.{Progress}
@@ -30,6 +30,18 @@ abbrev pub IfEnds : {A : Type 0} → Turn A → (A → Type 0) → Type 0
 IfEnds Stopped P = Unit {0}
 IfEnds Waits P = Unit {0}
 IfEnds (Ends v) P = P v
+
+-- there is an answer
+abbrev pub HasEnded : {A : Type 0} → Turn A → Type 0
+HasEnded Stopped = ⊥
+HasEnded Waits = ⊥
+HasEnded (Ends v) = Unit {0}
+
+-- it did not give up
+abbrev pub is_kept : {A : Type 0} → Turn A → Bool
+is_kept Stopped = false
+is_kept Waits = true
+is_kept (Ends v) = true
 
 -- the answer is one that a new run may better
 abbrev pub failing : {A : Type 0} → (A → Bool) → Turn A → Bool

@@ -1,3 +1,5 @@
+mod requests;
+
 use super::*;
 use std::alloc::Global;
 use std::collections::BTreeMap;

@@ -8,6 +8,7 @@ use Rattle.txn_kv.specs.declared.message.Region.{Region}
 use Rattle.txn_kv.specs.declared.region.RegionWithLeader.{RegionWithLeader}
 use Rattle.txn_region.specs.Regions.{Key, has_ver_id, led_if, is_below, is_reversed, AllAfter, AreApart, HaveEpochs, AreKept}
 use Rattle.txn_region.specs.Calls.{AreDisjoint, NoneHolds}
+use Rattle.txn_region.proofs.Ids.{own_filter, own_led}
 use Rattle.txn_region.proofs.Order.{before_end, begins_after, contained_below, upright}
 
 module _ (p : RegionWithLeader → Bool) where
@@ -36,7 +37,7 @@ module _ (p : RegionWithLeader → Bool) where
       by false rest = rest
 
   pub kept_filter : (rs : List RegionWithLeader) → AreKept rs → AreKept (filter p rs)
-  kept_filter rs k = record { apart = apart_filter rs k.apart; epochs = epochs_filter rs k.epochs }
+  kept_filter rs k = record { apart = apart_filter rs k.apart; epochs = epochs_filter rs k.epochs; own_ids = own_filter p rs k.own_ids }
 
 -- A leader set: each region keeps its range and its epoch.
 
@@ -61,7 +62,7 @@ module _ (v : RegionVerId) (leader : Peer) where
   epochs_led (r ∷ rs) a = (ap (λ (h : Region). is_none h.region_epoch) (same_region r) ∙ a.0, epochs_led rs a.1)
 
   pub kept_led : (rs : List RegionWithLeader) → AreKept rs → AreKept (map (led_if v leader) rs)
-  kept_led rs k = record { apart = apart_led rs k.apart; epochs = epochs_led rs k.epochs }
+  kept_led rs k = record { apart = apart_led rs k.apart; epochs = epochs_led rs k.epochs; own_ids = own_led v leader rs k.own_ids }
 
 -- what comes after a region does not hold a key of it
 none_later : (g : Region) (rs : List RegionWithLeader) → AllAfter g rs → (key : Key) → is_below key g.end_key ≡ true → NoneHolds key rs

@@ -1,11 +1,11 @@
 -- What is kept was not refused.
 use Rattle.std.proofs.Common.{◌≡◌, ℕ, suc, zero, ◌<◌, Bool, true, false, List, [], ◌∷◌, length, get_or, refl, sym, ap, ◌∙◌, subst, arith}
-use Rattle.std.specs.Prelude.{cond, is_none, nat_eq, Some, None}
+use Rattle.std.specs.Prelude.{cond, is_none, Some, None}
 use Rattle.std.specs.List.{find}
-use Rattle.std.proofs.lemmas.Bool.Decides.{nat_tests}
 use Rattle.txn_kv.specs.declared.message.Region.{Region}
 use Rattle.txn_kv.specs.declared.region.RegionWithLeader.{RegionWithLeader}
-use Rattle.txn_region.specs.Regions.{has_id, is_reversed, region_refusal, AreKept, IsSoundOf}
+use Rattle.txn_region.specs.Regions.{has_id, is_reversed, region_of_id, region_refusal, AreKept, IsPlaceOf, IsSoundOf}
+use Rattle.txn_region.proofs.Ids.{found_at_place, same_number}
 
 taken_if : (g : Region) → is_reversed g ≡ false → is_none g.region_epoch ≡ false → region_refusal g ≡ None
 taken_if g up e = rw (up, e) refl
@@ -14,7 +14,7 @@ first_taken : (r : RegionWithLeader) (rs : List RegionWithLeader) → AreKept (r
 first_taken r rs k = taken_if r.region k.apart.0 k.epochs.0
 
 rest_kept : (r : RegionWithLeader) (rs : List RegionWithLeader) → AreKept (r ∷ rs) → AreKept rs
-rest_kept r rs k = record { apart = k.apart.2; epochs = k.epochs.1 }
+rest_kept r rs k = record { apart = k.apart.2; epochs = k.epochs.1; own_ids = k.own_ids.1 }
 
 get_taken : (rs : List RegionWithLeader) (at : ℕ) (d : RegionWithLeader) → AreKept rs → at < length rs → region_refusal (get_or rs at d).region ≡ None
 get_taken [] at d k l = absurd (omega arith)
@@ -33,8 +33,8 @@ found_kept p (r ∷ rs) x k h = by (p r) refl h (found_kept p rs x (rest_kept r 
     by true e h later = let same : r ≡ x = grind arith in subst (λ (q : RegionWithLeader). (p q ≡ true) × (region_refusal q.region ≡ None)) same (e, first_taken r rs k)
     by false e h later = later h
 
-same_number : (a b : ℕ) → nat_eq a b ≡ true → a ≡ b
-same_number a b h = grind (arith, nat_tests)
+pub sound_at_place : (id : ℕ) (rs : List RegionWithLeader) (at : ℕ) (r : RegionWithLeader) → AreKept rs → IsPlaceOf id rs at → r ≡ get_or rs at r → IsSoundOf id r
+sound_at_place id rs at r k place read = (same_number r.region.id id (ap (has_id id) read ∙ place.has r), taken_at rs at r k place.in_range read)
 
-pub found_sound : (id : ℕ) (rs : List RegionWithLeader) (x : RegionWithLeader) → AreKept rs → Some x ≡ find (has_id id) rs → IsSoundOf id x
-found_sound id rs x k h = let found = found_kept (has_id id) rs x k (sym h) in (same_number x.region.id id found.0, found.1)
+pub found_at : (id : ℕ) (rs : List RegionWithLeader) (at : ℕ) (r : RegionWithLeader) → AreKept rs → IsPlaceOf id rs at → r ≡ get_or rs at r → Some r ≡ region_of_id id rs
+found_at id rs at r k place read = ap (λ x. Some x) read ∙ sym (found_at_place id rs at r k.own_ids place.in_range (place.has r))

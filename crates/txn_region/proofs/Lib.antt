@@ -1,7 +1,15 @@
 pub mod Apart
+pub mod Believing
 pub mod Calling
+pub mod Ids
+pub mod Indexed
 pub mod Kept
+pub mod Joined
+pub mod KeyDecoding
+pub mod KeyGroups
 pub mod Meeting
 pub mod Order
 pub mod Placing
+pub mod RangeGroups
+pub mod RangePieces
 pub mod Searching

@@ -19,16 +19,16 @@ same_key [] (y ∷ ys) h = grind arith
 same_key (x ∷ xs) [] h = grind arith
 same_key (x ∷ xs) (y ∷ ys) h = grind (arith, nat_tests, same_key xs ys)
 
-same_if_equal : (a b : Key) → key_cmp a b ≡ Equal → a ≡ b
+pub same_if_equal : (a b : Key) → key_cmp a b ≡ Equal → a ≡ b
 same_if_equal a b h = same_key a b (texts_ties a b ∙ ap is_eq h)
 
 pub less_trans : (a b c : Key) → key_cmp a b ≡ Less → key_cmp b c ≡ Less → key_cmp a c ≡ Less
 less_trans a b c = nat_list_cmp_total.trans a b c
 
-less_if_greater : (a b : Key) → key_cmp a b ≡ Greater → key_cmp b a ≡ Less
+pub less_if_greater : (a b : Key) → key_cmp a b ≡ Greater → key_cmp b a ≡ Less
 less_if_greater a b h = nat_list_cmp_total.antisymm b a ∙ ap ordering_reverse h
 
-greater_if_less : (a b : Key) → key_cmp a b ≡ Less → key_cmp b a ≡ Greater
+pub greater_if_less : (a b : Key) → key_cmp a b ≡ Less → key_cmp b a ≡ Greater
 greater_if_less a b h = nat_list_cmp_total.antisymm b a ∙ ap ordering_reverse h
 
 -- a key below an end is below each key that is not

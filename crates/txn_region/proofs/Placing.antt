@@ -9,7 +9,9 @@ use Rattle.txn_kv.specs.declared.errors.Error.TheVariants.{InternalError}
 use Rattle.txn_kv.specs.declared.errors.Internal.TheVariants.{NoEpoch, ReversedRegion}
 use Rattle.txn_kv.specs.declared.message.Region.{Region}
 use Rattle.txn_kv.specs.declared.region.RegionWithLeader.{RegionWithLeader}
-use Rattle.txn_region.specs.Regions.{key_cmp, added, has_id, is_below, is_reversed, meets, region_refusal, stays, placed, in_order, leading, ended_at, begun_below, AllAfter, AreApart, HaveEpochs, AreKept}
+use Rattle.txn_region.specs.Regions.{key_cmp, added, has_id, is_below, is_reversed, meets, region_refusal, stays, placed, in_order, leading, ended_at, begun_below, AllAfter, AreApart, HaveEpochs, HaveOwnIds, AreKept}
+use Rattle.txn_region.proofs.Ids as ids
+use Rattle.txn_region.proofs.Ids.{own_placed}
 use Rattle.txn_region.proofs.Order.{before_end, below_before, below_unless, less_itself, not_after, upright}
 use Rattle.txn_region.proofs.Apart.{apart_filter, kept_filter}
 
@@ -112,6 +114,7 @@ kept_added new rs up e k =
     record {
       apart = apart_added new rs up k.apart;
       epochs = subst (λ zs. HaveEpochs (placed new zs)) (sym (in_order_already others kept.apart)) (epochs_placed new others e kept.epochs);
+      own_ids = subst (λ zs. HaveOwnIds (placed new zs)) (sym (in_order_already others kept.apart)) (own_placed new others (ids.none_staying new.region rs) kept.own_ids);
     }
 
 -- The run that a new region meets.
@@ -132,7 +135,7 @@ all_unmet g h (r ∷ rs) up fails a =
         by true b e = e
         by false b e = refl
 
-none_ended : (g h : Region) (rs : List RegionWithLeader) → AreApart rs → is_below g.start_key h.end_key ≡ true → AllAfter h rs → ended_at g.start_key rs ≡ 0
+pub none_ended : (g h : Region) (rs : List RegionWithLeader) → AreApart rs → is_below g.start_key h.end_key ≡ true → AllAfter h rs → ended_at g.start_key rs ≡ 0
 none_ended g h [] a holds after = refl
 none_ended g h (r ∷ rs) a holds after =
     let before : key_cmp g.start_key r.region.start_key ≡ Less = before_end g.start_key r.region.start_key h.end_key after.0 holds in
@@ -143,7 +146,7 @@ abbrev run_replaced : RegionWithLeader → List RegionWithLeader → List Region
 run_replaced new rs = take (ended_at new.region.start_key rs) rs ++ new ∷ drop (begun_below new.region.end_key rs) rs
 
 -- a region that has ended where the new one begins, begins below its end
-begun_if_ended : (new r : RegionWithLeader) → is_reversed new.region ≡ false → is_reversed r.region ≡ false → is_below new.region.start_key r.region.end_key ≡ false → key_cmp r.region.start_key new.region.start_key ≡ Less
+pub begun_if_ended : (new r : RegionWithLeader) → is_reversed new.region ≡ false → is_reversed r.region ≡ false → is_below new.region.start_key r.region.end_key ≡ false → key_cmp r.region.start_key new.region.start_key ≡ Less
 begun_if_ended new r up upr fails = before_end r.region.start_key new.region.start_key r.region.end_key fails (upright r.region upr)
 
 pub ended_le_begun : (new : RegionWithLeader) (rs : List RegionWithLeader) → is_reversed new.region ≡ false → AreApart rs → ended_at new.region.start_key rs ≤ begun_below new.region.end_key rs
@@ -219,3 +222,9 @@ epoch_if_taken g h = by (is_reversed g) (is_none g.region_epoch) h
 
 pub kept_if_taken : (new : RegionWithLeader) (rs : List RegionWithLeader) → region_refusal new.region ≡ None → AreKept rs → AreKept (in_order (added new rs))
 kept_if_taken new rs h k = kept_added new rs (upright_if_taken new.region h) (epoch_if_taken new.region h) k
+
+-- the regions of other ids that the new one does not meet, in order already
+pub added_is_placed : (new : RegionWithLeader) (old : List RegionWithLeader) → AreApart old → in_order (added new old) ≡ placed new (filter (λ r. not (meets new.region r.region)) (filter (λ r. not (has_id new.region.id r)) old))
+added_is_placed new old a =
+    ap (placed new) (in_order_already (filter (stays new.region) old) (apart_filter (stays new.region) old a)
+    ∙ filter_both (λ r. not (has_id new.region.id r)) (unmet new.region) old)

@@ -50,6 +50,24 @@ ended_in_turn key rs a i j d le l ended =
       | inr (inr more) ↦ absurd (omega arith)
     ]
 
+-- one that has ended is among those that have, and one that has not comes after them
+pub among_ended : (key : Key) (rs : List RegionWithLeader) (i : ℕ) (d : RegionWithLeader) → AreApart rs → i < length rs → is_below key (get_or rs i d).region.end_key ≡ false → i < ended_at key rs
+among_ended key [] i d a l fails = absurd (omega arith)
+among_ended key (r ∷ rs) zero d a l fails = rw fails (omega arith)
+among_ended key (r ∷ rs) (suc i) d a l fails =
+    let first : is_below key r.region.end_key ≡ false = not_false _ (ended_in_turn key (r ∷ rs) a 0 (suc i) d (omega arith) l (false_not _ fails)) in
+    let later : i < ended_at key rs = among_ended key rs i d a.2 (omega arith) fails in
+    rw first (omega arith)
+
+pub after_ended : (key : Key) (rs : List RegionWithLeader) (i : ℕ) (d : RegionWithLeader) → i < length rs → is_below key (get_or rs i d).region.end_key ≡ true → ended_at key rs ≤ i
+after_ended key [] i d l holds = absurd (omega arith)
+after_ended key (r ∷ rs) zero d l holds = rw holds (omega arith)
+after_ended key (r ∷ rs) (suc i) d l holds = by (is_below key r.region.end_key) (after_ended key rs i d (omega arith) holds)
+  where
+    by : (b : Bool) → ended_at key rs ≤ i → cond (not b) (suc (ended_at key rs)) 0 ≤ suc i
+    by true le = omega arith
+    by false le = omega arith
+
 -- no region that begins below an end comes after one that does not
 pub begun_in_turn : (end : Key) (rs : List RegionWithLeader) → AreApart rs → IsPartitionedBy (λ r. is_below r.region.start_key end) rs
 begun_in_turn end rs a i j d le l begun =

@@ -1,4 +1,10 @@
 pub mod Cache
 pub mod Calls
+pub mod Clients
+pub mod Decoded
+pub mod Groups
+pub mod Placement
 pub mod Regions
+pub mod RpcClient
+pub mod Starts
 pub mod Stores

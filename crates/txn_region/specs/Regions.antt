@@ -1,6 +1,6 @@
 -- Regions that a client knows: a list of which no two have a key in common. An empty end is unbounded.
-use Rattle.std.specs.Prelude.{◌≡◌, ℕ, suc, List, [], ◌∷◌, Bool, true, false, not, ◌&&◌, ◌||◌, ◌==◌, cond, if◌then◌else◌, length, nat_eq, Option, Some, None, is_none}
-use Rattle.std.specs.List.{filter, find}
+use Rattle.std.specs.Prelude.{◌≡◌, ◌<◌, slice_index_or, ℕ, suc, List, [], ◌∷◌, Bool, true, false, not, ◌&&◌, ◌||◌, ◌==◌, cond, if◌then◌else◌, length, nat_eq, Option, Some, None, is_none}
+use Rattle.std.specs.List.{filter, find, remove}
 use Rattle.std.specs.Ordering.{nat_cmp, is_lt}
 use Rattle.std.specs.declared.cmp.Ordering.{Ordering}
 use Rattle.std.specs.Cmp.Lexicographic.{slice_cmp}
@@ -93,10 +93,20 @@ abbrev pub HaveEpochs : List RegionWithLeader → Type 0
 HaveEpochs [] = Unit {0}
 HaveEpochs (r ∷ rs) = (is_none r.region.region_epoch ≡ false) × HaveEpochs rs
 
+-- no two have the same id
+abbrev pub NoneHasId : ℕ → List RegionWithLeader → Type 0
+NoneHasId id [] = Unit {0}
+NoneHasId id (r ∷ rs) = (has_id id r ≡ false) × NoneHasId id rs
+
+abbrev pub HaveOwnIds : List RegionWithLeader → Type 0
+HaveOwnIds [] = Unit {0}
+HaveOwnIds (r ∷ rs) = NoneHasId r.region.id rs × HaveOwnIds rs
+
 -- what holds of the regions that a cache keeps
 pub record AreKept (rs : List RegionWithLeader) : Type 0 where
   pub apart : AreApart rs
   pub epochs : HaveEpochs rs
+  pub own_ids : HaveOwnIds rs
 
 -- a region that was not refused, and contains the key or is of the id
 abbrev pub IsSoundAt : Key → RegionWithLeader → Type 0
@@ -116,3 +126,16 @@ ended_at key rs = leading (λ r. not (is_below key r.region.end_key)) rs
 
 abbrev pub begun_below : Key → List RegionWithLeader → ℕ
 begun_below end rs = leading (λ r. is_below r.region.start_key end) rs
+
+-- the region of the id stands at this place
+pub record IsPlaceOf (id : ℕ) (rs : List RegionWithLeader) (at : ℕ) : Type 0 where
+  pub in_range : at < length rs
+  pub has : (d : RegionWithLeader) → has_id id (slice_index_or rs at d) ≡ true
+
+abbrev pub without_place : Option ℕ → List RegionWithLeader → List RegionWithLeader
+without_place None rs = rs
+without_place (Some at) rs = remove rs at
+
+-- the regions of other ids that meet a new one
+abbrev pub met : Region → List RegionWithLeader → List RegionWithLeader
+met new rs = filter (λ r. meets new r.region) (filter (λ r. not (has_id new.id r)) rs)

@@ -9,6 +9,7 @@ ghost use Rattle.txn_region.specs.Calls.{AreDisjoint};
 ghost use Rattle.txn_region.specs.Cache.{after_look_by_id, answer_refusal, cleared, empty, is_pending, is_spent, learnt, look_at_store, look_by_id, look_by_key, or_elsewhere, with_known, with_leader, with_region, without_region, IsGivenUp, IsLearnt, IsRefusal, IsRegionRefusal, IsSoundLook};
 
 use crate::known_store::KnownStore;
+use crate::starts::Starts;
 use crate::{sorted, stores};
 use std::alloc::Global;
 use std::marker::Model;
@@ -24,6 +25,7 @@ const MAX_WAITS: u32 = 5;
 #[derive(Drop)]
 pub struct RegionCache {
     regions: Vec<RegionWithLeader>,
+    starts: Starts,
     stores: Vec<KnownStore>,
     pending: Vec<RegionId>,
     alloc: Global,
@@ -32,12 +34,13 @@ pub struct RegionCache {
 impl Model for RegionCache {
     ghost use Rattle.txn_region.specs.Cache.{Cache};
     ghost use Rattle.txn_region.specs.Regions.{AreKept};
+    ghost use Rattle.txn_region.specs.Starts.{AreStartsOf};
 
     ghost Value = { Cache };
 
     ghost view = { λ c. record { regions = c.regions.items; stores = c.stores.items; pending = c.pending.items } };
 
-    ghost invariant = { λ c. AreKept c.regions.items };
+    ghost invariant = { λ c. AreKept c.regions.items × AreStartsOf c.starts c.regions.items };
 }
 
 impl RegionCache {
@@ -47,6 +50,7 @@ impl RegionCache {
     {
         RegionCache {
             regions: Vec::new(alloc),
+            starts: Starts::new(alloc),
             stores: Vec::new(alloc),
             pending: Vec::new(alloc),
             alloc,
@@ -86,7 +90,7 @@ impl RegionCache {
         ensures err { OnErr result (self.new ≡ self.old) }
         ensures why { IfErr result (IsGivenUp (is_spent id waited self.old)) }
     {
-        if let Some(region) = sorted::find_by_id(self.regions.as_slice(), id) {
+        if let Some(region) = sorted::find_by_id(self.regions.as_slice(), &self.starts, id) {
             return Ok(Look::Found(region.try_clone()?));
         }
         if !is_among(self.pending.as_slice(), id) {
@@ -217,8 +221,7 @@ impl RegionCache {
         ensures why { IfErr result (IsRegionRefusal region) }
     {
         refuse(&region.region)?;
-        sorted::make_room(&mut self.regions)?;
-        sorted::put_region(&mut self.regions, region);
+        sorted::put_region(&mut self.regions, &mut self.starts, region)?;
         Ok(())
     }
 
@@ -226,14 +229,14 @@ impl RegionCache {
     pub fn update_leader(&mut self, ver_id: &RegionVerId, leader: Peer)
         ensures { self.new ≡ with_leader ver_id.now leader self.old }
     {
-        sorted::lead(&mut self.regions, ver_id, leader);
+        sorted::lead(&mut self.regions, &self.starts, ver_id, leader);
     }
 
     /// Drops the region of an id at an epoch, where it is cached. Takes no memory.
     pub fn invalidate_region_cache(&mut self, ver_id: &RegionVerId)
         ensures { self.new ≡ without_region ver_id.now self.old }
     {
-        sorted::drop_ver_id(&mut self.regions, ver_id);
+        sorted::drop_ver_id(&mut self.regions, &mut self.starts, ver_id);
     }
 }
 

@@ -1,9 +1,11 @@
 //! Regions in ascending order of their starts, none of which meets another.
-ghost use Rattle.std.specs.Prelude.{◌≡◌, ◌+◌, ◌<◌, ◌≤◌, not, map, false, length, IfSome, OnOk, insert, vec_len, vec_capacity};
-ghost use Rattle.std.specs.List.{filter, find, remove_range};
+ghost use Rattle.std.specs.Prelude.{◌≡◌, ◌+◌, ◌<◌, ◌≤◌, ℕ, not, map, cond, false, length, None, IfSome, IfNone, OnOk, OnErr, insert, vec_len, vec_capacity};
+ghost use Rattle.std.specs.List.{filter, list_any, remove_range};
 ghost use Rattle.std.specs.Option.{option_copied};
-ghost use Rattle.txn_region.specs.Regions.{added, begun_below, ended_at, has_id, has_ver_id, in_order, is_below, is_reversed, led_if, region_of_id, region_of_key, same_epoch, AreApart, AreKept, IsSoundAt, IsSoundOf};
+ghost use Rattle.txn_region.specs.Regions.{added, begun_below, ended_at, has_id, has_ver_id, in_order, is_below, is_reversed, led_if, met, region_of_id, region_of_key, region_refusal, same_epoch, without_place, AreApart, AreKept, IsPlaceOf, IsSoundAt, IsSoundOf};
+ghost use Rattle.txn_region.specs.Starts.{start_at, AreStartsOf};
 
+use crate::starts::{Starts, forget, forget_run, set_start};
 use txn_kv::{Key, NoMemory, Peer, RegionEpoch, RegionId, RegionVerId, RegionWithLeader};
 
 /// Whether a key is below an end, where there is one.
@@ -13,13 +15,23 @@ pub fn is_below(key: &Key, end: &Key) -> bool
     *key < *end || end.is_empty()
 }
 
-/// How many regions have ended where a key comes.
+/// How many regions have ended where a key comes. Each step branches, so that the processor reads on while it compares.
 fn count_ended(regions: &[RegionWithLeader], key: &Key) -> usize
     requires { AreApart regions.now }
     ensures count { result ≡ ended_at key.now regions.now }
     ensures bound { result ≤ length regions.now }
 {
-    regions.partition_point(|known| !is_below(key, &known.region.end_key))
+    let mut from = 0;
+    let mut to = regions.len();
+    'search: while from < to {
+        let middle = from + (to - from) / 2;
+        if is_below(key, &regions[middle].region.end_key) {
+            to = middle;
+        } else {
+            from = middle + 1;
+        }
+    }
+    from
 }
 
 /// How many regions begin below an end.
@@ -49,30 +61,46 @@ pub fn find_by_key<'a>(regions: &'a [RegionWithLeader], key: &Key) -> Option<&'a
     }
 }
 
-fn with_id(regions: &[RegionWithLeader], id: RegionId) -> Option<&RegionWithLeader>
-    ensures { option_copied result ≡ region_of_id id regions.now }
+/// The place of the region of an id, by its start.
+pub fn place_of(regions: &[RegionWithLeader], starts: &Starts, id: RegionId) -> Option<usize>
+    requires kept { AreKept regions.now }
+    requires starts { AreStartsOf starts.now regions.now }
+    ensures found { IfSome result (IsPlaceOf id regions.now) }
+    ensures none { IfNone result (region_of_id id regions.now ≡ None) }
 {
-    regions.iter().find(|known| known.region.id == id)
-}
-
-/// The region of an id, by its number alone.
-pub fn find_by_id(regions: &[RegionWithLeader], id: RegionId) -> Option<&RegionWithLeader>
-    requires { AreKept regions.now }
-    ensures found { option_copied result ≡ region_of_id id regions.now }
-    ensures sound { IfSome result (λ r. IsSoundOf id r.now) }
-{
-    match with_id(regions, id) {
-        Some(region) => Some(region),
+    match starts.get(&id) {
+        Some(start) => Some(count_ended(regions, start)),
         None => None,
     }
 }
 
-fn drop_id(regions: &mut Vec<RegionWithLeader>, id: RegionId)
-    ensures items { regions.new.items ≡ filter (λ r. not (has_id id r)) regions.old.items }
+/// The region of an id.
+pub fn find_by_id<'a>(
+    regions: &'a [RegionWithLeader],
+    starts: &Starts,
+    id: RegionId,
+) -> Option<&'a RegionWithLeader>
+    requires kept { AreKept regions.now }
+    requires starts { AreStartsOf starts.now regions.now }
+    ensures found { option_copied result ≡ region_of_id id regions.now }
+    ensures sound { IfSome result (λ r. IsSoundOf id r.now) }
+{
+    match place_of(regions, starts, id) {
+        Some(at) => Some(&regions[at]),
+        None => None,
+    }
+}
+
+/// Drops the region at a place, where there is one.
+fn drop_place(regions: &mut Vec<RegionWithLeader>, place: Option<usize>)
+    requires { IfSome place (λ at. at < vec_len regions.old) }
+    ensures items { regions.new.items ≡ without_place place regions.old.items }
     ensures len { vec_len regions.new ≤ vec_len regions.old }
     ensures capacity { vec_capacity regions.new ≡ vec_capacity regions.old }
 {
-    regions.retain(|known| known.region.id != id);
+    if let Some(at) = place {
+        regions.remove(at);
+    }
 }
 
 /// Puts a region in place of a run of others. There is room for it.
@@ -100,17 +128,48 @@ pub fn make_room(regions: &mut Vec<RegionWithLeader>) -> Result<(), NoMemory>
     Ok(())
 }
 
-/// Puts a region among others, in place of those that it meets and of the one of its id. There is room for it.
-pub fn put_region(regions: &mut Vec<RegionWithLeader>, region: RegionWithLeader)
+/// Puts a region among others, in place of those that it meets and of the one of its id, which is at this place. There
+/// is room for it.
+fn put_at(
+    regions: &mut Vec<RegionWithLeader>,
+    starts: &mut Starts,
+    place: Option<usize>,
+    region: RegionWithLeader,
+)
     requires kept { AreKept regions.old.items }
     requires right_way { is_reversed region.region ≡ false }
     requires room { vec_len regions.old < vec_capacity regions.old }
-    ensures { regions.new.items ≡ in_order (added region regions.old.items) }
+    requires found { IfSome place (IsPlaceOf region.region.id regions.old.items) }
+    requires none { IfNone place (region_of_id region.region.id regions.old.items ≡ None) }
+    ensures items { regions.new.items ≡ in_order (added region regions.old.items) }
+    ensures starts { (q : ℕ) → start_at starts.new q ≡ cond (list_any (has_id q) (met region.region regions.old.items)) None (start_at starts.old q) }
 {
-    drop_id(regions, region.region.id);
+    drop_place(regions, place);
     let from = count_ended(regions.as_slice(), &region.region.start_key);
     let to = count_begun(regions.as_slice(), &region.region.end_key);
+    forget_run(starts, regions.as_slice(), from, to);
     replace_run(regions, from, to, region);
+}
+
+/// Puts a region among others, in place of those that it meets and of the one of its id. A refusal changes nothing.
+pub fn put_region(
+    regions: &mut Vec<RegionWithLeader>,
+    starts: &mut Starts,
+    region: RegionWithLeader,
+) -> Result<(), NoMemory>
+    requires kept { AreKept regions.old.items }
+    requires starts { AreStartsOf starts.old regions.old.items }
+    requires taken { region_refusal region.region ≡ None }
+    ensures ok { OnOk result (regions.new.items ≡ in_order (added region regions.old.items)) }
+    ensures err { OnErr result (regions.new.items ≡ regions.old.items) }
+    ensures starts { AreStartsOf starts.new regions.new.items }
+{
+    let start = region.region.start_key.try_clone()?;
+    let place = place_of(regions.as_slice(), starts, region.region.id);
+    make_room(regions)?;
+    set_start(starts, region.region.id, start)?;
+    put_at(regions, starts, place, region);
+    Ok(())
 }
 
 fn same_epoch(ver_id: &RegionVerId, epoch: Option<RegionEpoch>) -> bool
@@ -137,17 +196,50 @@ fn lead_if(known: &mut RegionWithLeader, ver_id: &RegionVerId, leader: Peer)
 }
 
 /// Sets the leader of the region of an id at an epoch.
-pub fn lead(regions: &mut Vec<RegionWithLeader>, ver_id: &RegionVerId, leader: Peer)
+pub fn lead(
+    regions: &mut Vec<RegionWithLeader>,
+    starts: &Starts,
+    ver_id: &RegionVerId,
+    leader: Peer,
+)
+    requires kept { AreKept regions.old.items }
+    requires starts { AreStartsOf starts.now regions.old.items }
     ensures { regions.new.items ≡ map (led_if ver_id.now leader) regions.old.items }
 {
-    for i in 0..regions.len() {
-        lead_if(&mut regions[i], ver_id, leader);
+    match place_of(regions.as_slice(), starts, ver_id.id) {
+        Some(at) => lead_if(&mut regions[at], ver_id, leader),
+        None => {}
+    }
+}
+
+/// Drops the region at the place of an id, where it is of the epoch.
+fn drop_at(
+    regions: &mut Vec<RegionWithLeader>,
+    starts: &mut Starts,
+    at: usize,
+    ver_id: &RegionVerId,
+)
+    requires kept { AreKept regions.old.items }
+    requires starts { AreStartsOf starts.old regions.old.items }
+    requires place { IsPlaceOf ver_id.now.id regions.old.items at }
+    ensures items { regions.new.items ≡ filter (λ r. not (has_ver_id ver_id.now r)) regions.old.items }
+    ensures starts { AreStartsOf starts.new regions.new.items }
+{
+    if same_epoch(ver_id, regions[at].region.region_epoch) {
+        regions.remove(at);
+        forget(starts, ver_id.id);
     }
 }
 
 /// Drops the region of an id at an epoch.
-pub fn drop_ver_id(regions: &mut Vec<RegionWithLeader>, ver_id: &RegionVerId)
-    ensures { regions.new.items ≡ filter (λ r. not (has_ver_id ver_id.now r)) regions.old.items }
+pub fn drop_ver_id(regions: &mut Vec<RegionWithLeader>, starts: &mut Starts, ver_id: &RegionVerId)
+    requires kept { AreKept regions.old.items }
+    requires starts { AreStartsOf starts.old regions.old.items }
+    ensures items { regions.new.items ≡ filter (λ r. not (has_ver_id ver_id.now r)) regions.old.items }
+    ensures starts { AreStartsOf starts.new regions.new.items }
 {
-    regions.retain(|known| !has_ver_id(known, ver_id));
+    match place_of(regions.as_slice(), starts, ver_id.id) {
+        Some(at) => drop_at(regions, starts, at, ver_id),
+        None => {}
+    }
 }

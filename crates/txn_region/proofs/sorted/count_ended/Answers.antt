@@ -1,13 +1,23 @@
-use Rattle.std.proofs.Common.{rules}
-use Rattle.std.specs.Prelude.{not}
-use Rattle.std.proofs.lemmas.List.Sorted.{IsPartitionPoint-from_clause}
-use Rattle.txn_kv.specs.declared.region.RegionWithLeader.{RegionWithLeader}
-use Rattle.txn_region.specs.Regions.{is_below}
-use Rattle.txn_region.proofs.Searching.{ended_in_turn, point_is_leading}
+use Rattle.std.proofs.Common.{◌+◌, ◌-◌, ◌/◌, ◌<◌, ◌∙◌, length, sym, arith}
+use Rattle.txn_region.specs.Regions.{ended_at}
+use Rattle.txn_region.proofs.Placing.{leading_le}
+use Rattle.txn_region.proofs.Searching.{among_ended, after_ended}
 use Rattle.txn_region.proofs.sorted.count_ended.Goals as goal
 
-pub returns-clause-count : goal.returns-clause-count
-returns-clause-count c =
-    let rs = c.args.regions.now in
-    let p = λ (r : RegionWithLeader). not (is_below c.args.key.now r.region.end_key) in
-    point_is_leading p rs c.partition_point.result c.partition_point.ensures.bound (IsPartitionPoint-from_clause p rs c.partition_point.result c.partition_point.ensures.partitioned (ended_in_turn c.args.key.now rs c.requires) (λ a r f' k. search rules))
+pub search-init : goal.search-init
+search-init c = record { from = omega arith; to = leading_le _ _; in_range = omega arith }
+
+pub search-preserved : goal.search-preserved
+search-preserved c =
+    let more = c.search-test.true in
+    let in_range = c.search.invariant.in_range in
+    let l : c.search.from + (c.search.to - c.search.from) / 2 < length c.args.regions.now = omega arith in
+    let ended : c.search.from + (c.search.to - c.search.from) / 2 < ended_at c.args.key.now c.args.regions.now = among_ended c.args.key.now c.args.regions.now _ _ c.requires l (sym c.is_below.ensures ∙ c.if-is_below.false) in
+    record { from = omega arith; to = c.search.invariant.to; in_range = in_range }
+
+pub search-preserved-then-is_below : goal.search-preserved-then-is_below
+search-preserved-then-is_below c =
+    let more = c.search-test.true in
+    let in_range = c.search.invariant.in_range in
+    let l : c.search.from + (c.search.to - c.search.from) / 2 < length c.args.regions.now = omega arith in
+    record { from = c.search.invariant.from; to = after_ended c.args.key.now c.args.regions.now _ _ l (sym c.is_below.ensures ∙ c.if-is_below.true); in_range = omega arith }

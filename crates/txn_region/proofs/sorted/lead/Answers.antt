@@ -1,10 +1,18 @@
-use Rattle.std.proofs.Common.{◌<◌, ◌∙◌, ap, length, set, arith}
-use Rattle.std.proofs.lemmas.List.Edits.{map_over_more}
-use Rattle.txn_region.specs.Regions.{led_if}
+use Rattle.std.proofs.Common.{◌∙◌, ap, set, sym}
+use Rattle.txn_region.specs.Regions.{led_if, IsPlaceOf}
+use Rattle.txn_region.proofs.Ids.{led_at, none_if_not_found, none_led_here}
 use Rattle.txn_region.proofs.sorted.lead.Goals as goal
 
-pub loop-i-preserved : goal.loop-i-preserved
-loop-i-preserved c =
-    let l : c.loop-i.i < length c.args.regions.now.items = omega arith in
-    ap (set c.loop-i.regions.items c.loop-i.i) c.lead_if.ensures
-    ∙ map_over_more (led_if c.args.ver_id.now c.args.leader) c.args.regions.now.items c.loop-i.regions.items c.loop-i.i c.index_mut.result.now l c.loop-i.invariant c.index_mut.ensures.value
+pub returns-in-Some : goal.returns-in-Some
+returns-in-Some c =
+    let v = c.args.ver_id.now in
+    let rs = c.args.regions.now.items in
+    let place : IsPlaceOf v.id rs c.in-Some.at = rw c.as_slice.ensures.value at c.in-Some.ensures.found in
+    ap (set rs c.in-Some.at) (c.lead_if.ensures ∙ ap (led_if v c.args.leader) c.index_mut.ensures.value)
+    ∙ led_at v c.args.leader rs c.in-Some.at c.index_mut.result.now c.requires.kept.own_ids place.in_range (place.has c.index_mut.result.now)
+
+pub returns-in-None : goal.returns-in-None
+returns-in-None c =
+    let v = c.args.ver_id.now in
+    let none = rw c.as_slice.ensures.value at c.in-None.ensures.none in
+    sym (none_led_here v c.args.leader _ (none_if_not_found v.id _ none))

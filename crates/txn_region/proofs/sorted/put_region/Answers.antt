@@ -1,32 +1,30 @@
-use Rattle.std.proofs.Common.{take, drop, ◌++◌, ◌∷◌, ap, sym, ◌∙◌}
-use Rattle.txn_region.specs.Regions.{AreApart, ended_at}
-use Rattle.txn_region.proofs.Apart.{apart_filter}
-use Rattle.txn_region.proofs.Placing.{added_by_run, ended_le_begun, inserted_in_range}
+use Rattle.std.proofs.Common.{◌≡◌, ◌∙◌, Some, None, ap, refl, sym}
+use Rattle.std.specs.Prelude.{cond, nat_eq, not}
+use Rattle.std.specs.List.{filter, find, list_any}
+use Rattle.std.specs.Option.{option_map}
+use Rattle.txn_kv.specs.declared.region.RegionWithLeader.{RegionWithLeader}
+use Rattle.txn_region.specs.Regions.{added, has_id, in_order, meets, met, placed}
+use Rattle.txn_region.specs.Starts.{start_at, start_of}
+use Rattle.txn_region.proofs.Ids.{start_with}
+use Rattle.txn_region.proofs.Placing.{added_is_placed}
 use Rattle.txn_region.proofs.sorted.put_region.Goals as goal
 
-pub count_ended-from-requires : goal.count_ended-from-requires
-count_ended-from-requires c = rw (c.as_slice.ensures.value, c.drop_id.ensures.items) (apart_filter _ _ c.requires.kept.apart)
-
-pub count_begun-to-requires : goal.count_begun-to-requires
-count_begun-to-requires c = rw (c.as_slice-2.ensures.value, c.drop_id.ensures.items) (apart_filter _ _ c.requires.kept.apart)
-
-pub replace_run-requires-clause-order : goal.replace_run-requires-clause-order
-replace_run-requires-clause-order c =
-    let rs = c.drop_id.new.regions.items in
-    let apart : AreApart rs = rw c.drop_id.ensures.items (apart_filter _ _ c.requires.kept.apart) in
-    let from = rw c.as_slice.ensures.value at c.count_ended-from.ensures.count in
-    let to = rw c.as_slice-2.ensures.value at c.count_begun-to.ensures.count in
-    rw (from, to) (ended_le_begun c.args.region rs c.requires.right_way apart)
-
-pub returns : goal.returns
-returns c =
+pub returns-clause-starts : goal.returns-clause-starts
+returns-clause-starts c = λ q.
     let new = c.args.region in
-    let rs = c.drop_id.new.regions.items in
-    let from = rw c.as_slice.ensures.value at c.count_ended-from.ensures.count in
-    let to = rw c.as_slice-2.ensures.value at c.count_begun-to.ensures.count in
-    let bound = rw c.as_slice.ensures.value at c.count_ended-from.ensures.bound in
-    c.replace_run.ensures
-    ∙ (inserted_in_range rs c.count_ended-from.result c.count_begun-to.result new bound
-    ∙ (ap (λ n. take n rs ++ new ∷ drop c.count_begun-to.result rs) from
-    ∙ (ap (λ n. take (ended_at new.region.start_key rs) rs ++ new ∷ drop n rs) to
-    ∙ sym (added_by_run new c.args.regions.now.items rs c.requires.right_way c.requires.kept.apart c.drop_id.ensures.items))))
+    let id = new.region.id in
+    let old = c.args.regions.now.items in
+    let others = filter (λ r. not (has_id id r)) old in
+    let kept = filter (λ (r : RegionWithLeader). not (meets new.region r.region)) others in
+    let same = c.make_room.ensures.items in
+    let placed_there : c.put_at.new.regions.items ≡ placed new kept =
+    c.put_at.ensures.items ∙ (ap (λ zs. in_order (added new zs)) same ∙ added_is_placed new old c.requires.kept.apart) in
+    let before : start_at c.set_start.new.starts q ≡ cond (nat_eq id q) (Some new.region.start_key) (option_map start_of (find (has_id q) old)) =
+    c.in_ok-set_start.ensures.ok q
+    ∙ (ap (λ s. cond (nat_eq id q) (Some s) (start_at c.args.starts.now q)) c.in_ok-start.ensures
+    ∙ ap (λ z. cond (nat_eq id q) (Some new.region.start_key) z) (c.requires.starts q)) in
+    c.put_at.ensures.starts q
+    ∙ (ap (λ zs. cond (list_any (has_id q) (met new.region zs)) None (start_at c.set_start.new.starts q)) same
+    ∙ (ap (λ z. cond (list_any (has_id q) (met new.region old)) None z) before
+    ∙ (start_with q new old others kept (λ (r : RegionWithLeader). meets new.region r.region) c.requires.kept.own_ids refl refl
+    ∙ sym (ap (λ zs. option_map start_of (find (has_id q) zs)) placed_there))))

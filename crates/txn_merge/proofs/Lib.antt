@@ -1,0 +1,3 @@
+pub mod Vecs
+pub mod Extracting
+pub mod SecondarySeen

@@ -1,0 +1,15 @@
+pub mod Found
+pub mod KeyErrors
+pub mod Locks
+pub mod Views
+pub mod Firsts
+pub mod RegionErrors
+pub mod Cleanup
+pub mod Counted
+pub mod Extracted
+pub mod Gathered
+pub mod Joined
+pub mod Processed
+pub mod Secondary
+pub mod Shards
+pub mod Status

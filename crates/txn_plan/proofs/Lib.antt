@@ -1,0 +1,3 @@
+pub mod Dispatching
+pub mod Processing
+pub mod LookingUp

@@ -1,0 +1,4 @@
+pub mod Answered
+pub mod Dispatch
+pub mod Process
+pub mod LookUp

@@ -1,0 +1,157 @@
+ghost use Rattle.std.specs.Prelude.{◌≡◌, ◌≢◌, OnOk, OnErr};
+ghost use Rattle.txn_history.specs.Posted.{HasNumbers};
+ghost use Rattle.std.specs.Bool.{MatchBool};
+ghost use Rattle.txn_history.specs.Phase.{unheard};
+ghost use Rattle.txn_history.specs.Turn.{turn_of};
+ghost use Rattle.txn_plan.specs.Dispatch.{dispatch, dispatch-lawful, stage_phase, unsent, IsSentOnce};
+
+use crate::copy_request::CopyRequest;
+use crate::plan::Plan;
+use crate::stage::Stage;
+use txn_kv::{Error, NoMemory, Outbox, Progress, Reply, StoreId, Target, Timestamp};
+use txn_region::PdClient;
+
+/// Sends one request to one store, once.
+#[derive(Drop)]
+pub struct Dispatch<R: CopyRequest> {
+    pub request: R,
+    /// Where it goes. It is set before the start.
+    pub store: Option<StoreId>,
+    stage: Stage,
+}
+
+impl<R: CopyRequest> Dispatch<R> {
+    /// A request that is not sent yet.
+    pub fn new(request: R, store: Option<StoreId>) -> Dispatch<R>
+        ensures { result ≡ unsent request store }
+    {
+        Dispatch {
+            request,
+            store,
+            stage: Stage::Fresh,
+        }
+    }
+
+    fn is_fresh(&self) -> bool
+        ensures { MatchBool result (self.now.stage ≡ Stage.Fresh) (self.now.stage ≢ Stage.Fresh) }
+    {
+        matches!(self.stage, Stage::Fresh)
+    }
+
+    /// Whether the request is out under this number.
+    fn is_out(&self, number: u64) -> bool
+        ensures { MatchBool result (self.now.stage ≡ Stage.Sent number) (self.now.stage ≢ Stage.Sent number) }
+    {
+        match self.stage {
+            Stage::Sent(sent) => sent == number,
+            _ => false,
+        }
+    }
+
+    /// What comes of an event that is not for this state.
+    fn stay(&self) -> Result<Progress<R::Response>, NoMemory>
+        ensures { turn_of result ≡ unheard (stage_phase self.now.stage) }
+    {
+        match self.stage {
+            Stage::Stopped => Err(NoMemory),
+            _ => Ok(Progress::Waiting),
+        }
+    }
+
+    /// Posts the request.
+    fn send(&mut self, store: StoreId, out: &mut Outbox) -> Result<(), NoMemory>
+        requires { HasNumbers out.old }
+        ensures state { self.new ≡ record self.old { stage = self.new.stage } }
+        ensures ok { OnOk result (IsSentOnce (R.request_of self.old.request) store self.new.stage out.old out.new) }
+        ensures err { OnErr result ((self.new.stage ≡ Stage.Stopped) × (out.new ≡ out.old)) }
+        ensures numbers { HasNumbers out.new }
+    {
+        self.stage = Stage::Stopped;
+        let request = self.request.copy()?.into_request();
+        let number = out.send(Target::Store(store), request)?;
+        self.stage = Stage::Sent(number);
+        Ok(())
+    }
+}
+
+impl<R: CopyRequest> Plan for Dispatch<R>
+where
+    R::Response: Drop,
+{
+    type Result = R::Response;
+
+    ghost meaning = { dispatch R.request_of R.reply_of };
+
+    fn try_clone(&self) -> Result<Self, NoMemory> {
+        Ok(Dispatch {
+            request: self.request.copy()?,
+            store: self.store,
+            stage: self.stage,
+        })
+    }
+
+    fn start<C: PdClient>(
+        &mut self,
+        _pd: &mut C,
+        _now: u64,
+        out: &mut Outbox,
+    ) -> Result<Progress<R::Response>, NoMemory> {
+        if !self.is_fresh() {
+            return self.stay();
+        }
+        self.send(self.store.unwrap(), out)?;
+        Ok(Progress::Waiting)
+    }
+
+    fn take_reply<C: PdClient>(
+        &mut self,
+        _pd: &mut C,
+        _now: u64,
+        number: u64,
+        reply: Reply,
+        _out: &mut Outbox,
+    ) -> Result<Progress<R::Response>, NoMemory> {
+        if !self.is_out(number) {
+            return self.stay();
+        }
+        self.stage = Stage::Over;
+        Ok(Progress::Done(R::response(reply)))
+    }
+
+    fn lost<C: PdClient>(
+        &mut self,
+        _pd: &mut C,
+        _now: u64,
+        number: u64,
+        out: &mut Outbox,
+    ) -> Result<Progress<R::Response>, NoMemory> {
+        if !self.is_out(number) {
+            return self.stay();
+        }
+        self.stage = Stage::Over;
+        Ok(Progress::Done(Err(Error::GrpcAPI(out.ticket(number)))))
+    }
+
+    fn slept<C: PdClient>(
+        &mut self,
+        _pd: &mut C,
+        _now: u64,
+        _number: u64,
+        _out: &mut Outbox,
+    ) -> Result<Progress<R::Response>, NoMemory> {
+        self.stay()
+    }
+
+    fn take_time<C: PdClient>(
+        &mut self,
+        _pd: &mut C,
+        _now: u64,
+        _ask: u64,
+        _answer: txn_kv::Result<Timestamp>,
+        _out: &mut Outbox,
+    ) -> Result<Progress<R::Response>, NoMemory> {
+        self.stay()
+    }
+
+    ghost lawful = { dispatch-lawful R.request_of R.reply_of };
+}

@@ -1,0 +1,106 @@
+ghost use Rattle.txn_history.specs.Around.{IsRead};
+ghost use Rattle.txn_history.specs.Turn.{turn_of};
+ghost use Rattle.txn_plan.specs.Process.{processed, processed-lawful};
+
+use crate::plan::Plan;
+use crate::process::Process;
+use txn_kv::{NoMemory, Outbox, Progress, Reply, Timestamp, TryClone};
+use txn_region::PdClient;
+
+/// A plan whose answer is made into another.
+#[derive(Drop)]
+pub struct ProcessResponse<P: Plan, Pr: Process<P::Result> + TryClone> {
+    pub inner: P,
+    pub processor: Pr,
+}
+
+impl<P: Plan, Pr: Process<P::Result> + TryClone> ProcessResponse<P, Pr>
+where
+    Pr::Out: Drop,
+{
+    fn read(
+        &self,
+        turn: Result<Progress<P::Result>, NoMemory>,
+    ) -> Result<Progress<Pr::Out>, NoMemory>
+        ensures { IsRead (Pr.processes self.now.processor) (turn_of turn) (turn_of result) }
+    {
+        match turn? {
+            Progress::Waiting => Ok(Progress::Waiting),
+            Progress::Done(answer) => Ok(Progress::Done(self.processor.process(answer))),
+        }
+    }
+}
+
+impl<P: Plan, Pr: Process<P::Result> + TryClone> Plan for ProcessResponse<P, Pr>
+where
+    Pr::Out: Drop,
+{
+    type Result = Pr::Out;
+
+    ghost meaning = { processed P.meaning Pr.processes };
+
+    fn try_clone(&self) -> Result<Self, NoMemory> {
+        Ok(ProcessResponse {
+            inner: self.inner.try_clone()?,
+            processor: self.processor.try_clone()?,
+        })
+    }
+
+    fn start<C: PdClient>(
+        &mut self,
+        pd: &mut C,
+        now: u64,
+        out: &mut Outbox,
+    ) -> Result<Progress<Pr::Out>, NoMemory> {
+        let turn = self.inner.start(pd, now, out);
+        self.read(turn)
+    }
+
+    fn take_reply<C: PdClient>(
+        &mut self,
+        pd: &mut C,
+        now: u64,
+        number: u64,
+        reply: Reply,
+        out: &mut Outbox,
+    ) -> Result<Progress<Pr::Out>, NoMemory> {
+        let turn = self.inner.take_reply(pd, now, number, reply, out);
+        self.read(turn)
+    }
+
+    fn lost<C: PdClient>(
+        &mut self,
+        pd: &mut C,
+        now: u64,
+        number: u64,
+        out: &mut Outbox,
+    ) -> Result<Progress<Pr::Out>, NoMemory> {
+        let turn = self.inner.lost(pd, now, number, out);
+        self.read(turn)
+    }
+
+    fn slept<C: PdClient>(
+        &mut self,
+        pd: &mut C,
+        now: u64,
+        number: u64,
+        out: &mut Outbox,
+    ) -> Result<Progress<Pr::Out>, NoMemory> {
+        let turn = self.inner.slept(pd, now, number, out);
+        self.read(turn)
+    }
+
+    fn take_time<C: PdClient>(
+        &mut self,
+        pd: &mut C,
+        now: u64,
+        ask: u64,
+        answer: txn_kv::Result<Timestamp>,
+        out: &mut Outbox,
+    ) -> Result<Progress<Pr::Out>, NoMemory> {
+        let turn = self.inner.take_time(pd, now, ask, answer, out);
+        self.read(turn)
+    }
+
+    ghost lawful = { processed-lawful P.meaning Pr.processes P.lawful };
+}
