@@ -1,0 +1,4 @@
+mod fixtures;
+mod merging;
+mod statuses;
+mod taken_out;
