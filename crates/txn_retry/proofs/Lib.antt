@@ -1,4 +1,4 @@
-pub mod Cutting
+pub mod Cuts
 pub mod Outcomes
 pub mod Queues
 pub mod Standing

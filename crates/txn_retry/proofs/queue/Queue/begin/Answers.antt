@@ -1,6 +1,6 @@
 use Rattle.std.proofs.Common.{◌≡◌, [], refl, ap, arith, sym, ◌∙◌}
 use Rattle.txn_retry.specs.Place.{begun, waiting_places, Queued}
-use Rattle.txn_retry.proofs.Cutting.{order_of-begun, IsQueue-begun}
+use Rattle.txn_retry.proofs.Cuts.{order_of-begun, IsQueue-begun}
 use Rattle.txn_retry.proofs.queue.Queue.begin.Goals as goal
 
 pub invariant_of-self-2 : goal.invariant_of-self-2
