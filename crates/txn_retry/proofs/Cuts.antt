@@ -1,8 +1,8 @@
 -- A cut keeps a queue, and no task stands in two places.
-use Rattle.std.proofs.Common.{◌≡◌, ◌≢◌, ℕ, zero, suc, ◌+◌, ◌-◌, ◌*◌, ◌<◌, ◌≤◌, Bool, true, false, cond, List, [], ◌∷◌, ◌++◌, length, get_or, set, map, replicate, refl, sym, ap, subst, ◌∙◌, arith, rules, inl, inr, add-zero}
+use Rattle.std.proofs.Common.{◌≡◌, ◌≢◌, ℕ, zero, suc, ◌+◌, ◌-◌, ◌<◌, ◌≤◌, cond, List, [], ◌∷◌, ◌++◌, length, get_or, set, map, replicate, refl, sym, ap, subst, ◌∙◌, arith, inl, inr}
 use Rattle.std.specs.Prelude.{Option, Some, None, nat_eq, if◌then◌else◌}
-use Rattle.std.specs.List.{All, count_by, flat_map, range_with_len, sum_by}
-use Rattle.std.proofs.lemmas.Bool.{cases_eq, cases_lt, eq-eqb, ne_eqb}
+use Rattle.std.specs.List.{All, count_by, range_with_len}
+use Rattle.std.proofs.lemmas.Bool.{cases_eq, cases_lt}
 use Rattle.std.proofs.lemmas.List.{append-nil, length-append, length-replicate, length-set, get_or-append_right, get_or_append_left, get_or_past, get_or-replicate, get_or-set_same, get_or-set_other, length-map}
 use Rattle.std.proofs.lemmas.List.Elements.{All-append, All-cons, All-from_get_or, All-head, All-nil, All-tail, All-weaker}
 use Rattle.std.proofs.lemmas.List.Folds.{sum_by-replicate}
@@ -11,8 +11,8 @@ use Rattle.std.proofs.lemmas.List.Sums.{sum_by-append}
 use Rattle.std.proofs.Math.ListN.{get_or-map}
 use Rattle.txn_retry.specs.declared.place.Parts.{Parts}
 use Rattle.txn_retry.specs.declared.place.Place.{Place}
-use Rattle.txn_retry.specs.declared.place.Place.TheVariants.{Waiting, Running, Resting, Cut, Ended}
-use Rattle.txn_retry.specs.Place.{is_waiting, is_running, is_resting, is_open, parts_of, running, open_ones, numbers, waiting_places, order_of, replaced, standing, AreDistinct, AreLater, AreWhole, IsQueue, StandsAt}
+use Rattle.txn_retry.specs.declared.place.Place.TheVariants.{Waiting, Cut}
+use Rattle.txn_retry.specs.Place.{is_waiting, is_running, is_resting, is_open, parts_of, waiting_places, order_of, replaced, standing, AreDistinct, AreWhole, IsQueue, StandsAt}
 use Rattle.txn_retry.proofs.Standing.{flat_map-alone, flat_map-range, order_of-cut, replaced-itself, replaced-other, standing-alone, IsCut, IsCut-later}
 use Rattle.txn_retry.proofs.Queues.{began-set, count_by-set, resting_is, waits-set, was_started}
 

@@ -1,15 +1,14 @@
 -- What a change of one place keeps of a queue.
-use Rattle.std.proofs.Common.{◌≡◌, ◌≢◌, ℕ, zero, suc, ◌+◌, ◌-◌, ◌<◌, ◌≤◌, Bool, true, false, cond, List, [], ◌∷◌, ◌++◌, length, get_or, set, map, refl, sym, ap, subst, ◌∙◌, arith, rules, inl, inr}
-use Rattle.std.specs.Prelude.{Option, Some, None, nat_lt, position, if◌then◌else◌}
-use Rattle.std.specs.List.{All, count_by, flat_map, position_or_len, range_with_len, sum_by}
-use Rattle.std.proofs.lemmas.Bool.{cases_eq, cases_lt, eq-eqb, le-ltb, lt-ltb, ne_eqb}
-use Rattle.std.proofs.lemmas.List.{length-set, get_or-set_same, get_or-set_other, length-map}
+use Rattle.std.proofs.Common.{◌≡◌, ◌≢◌, ℕ, ◌+◌, ◌-◌, ◌<◌, ◌≤◌, Bool, true, false, cond, List, length, get_or, set, map, refl, sym, ap, arith, inl, inr}
+use Rattle.std.specs.Prelude.{Some, None, nat_lt, position, if◌then◌else◌}
+use Rattle.std.specs.List.{count_by, position_or_len}
+use Rattle.std.proofs.lemmas.Bool.{cases_eq, cases_lt, le-ltb, lt-ltb}
+use Rattle.std.proofs.lemmas.List.{length-set, get_or-set_same, get_or-set_other}
 use Rattle.std.proofs.lemmas.List.Sums.{position_or_len_is, sum_by-set}
 use Rattle.std.proofs.Math.Seq.{map-set_same}
-use Rattle.txn_retry.specs.declared.place.Parts.{Parts}
 use Rattle.txn_retry.specs.declared.place.Place.{Place}
 use Rattle.txn_retry.specs.declared.place.Place.TheVariants.{Waiting, Running, Resting, Cut, Ended}
-use Rattle.txn_retry.specs.Place.{is_waiting, is_running, is_resting, is_open, parts_of, running, open_ones, next_task, order_of, AreLater, AreWhole, IsQueue, StandsAt}
+use Rattle.txn_retry.specs.Place.{is_waiting, is_running, is_resting, is_open, parts_of, running, open_ones, next_task, order_of, IsQueue, StandsAt}
 
 pub count_by-set : {X : Type 0} (p : X → Bool) (xs : List X) (i : ℕ) (y d : X) → i < length xs → count_by p (set xs i y) + cond (p (get_or xs i d)) 1 0 ≡ count_by p xs + cond (p y) 1 0
 count_by-set p xs i y d l = sum_by-set (λ x. cond (p x) 1 0) xs i y d l

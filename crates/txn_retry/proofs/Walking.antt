@@ -1,13 +1,13 @@
 -- A walk through tasks ends, and comes to each in its place.
-use Rattle.std.proofs.Common.{◌≡◌, ◌≢◌, ℕ, zero, suc, ◌+◌, ◌-◌, ◌*◌, ◌<◌, ◌≤◌, List, [], ◌∷◌, ◌++◌, length, get_or, reverse, map, refl, sym, ap, ◌∙◌, append_assoc, arith, rules}
+use Rattle.std.proofs.Common.{◌≡◌, ℕ, zero, suc, ◌+◌, ◌-◌, ◌<◌, ◌≤◌, List, [], ◌∷◌, ◌++◌, length, get_or, refl, sym, ap, ◌∙◌, append_assoc, arith}
 use Rattle.std.specs.Prelude.{Option, Some, None}
-use Rattle.std.specs.List.{All, flat_map, range_with_len, sum_by}
-use Rattle.std.proofs.lemmas.List.{append-nil, get_or_past, reverse-append}
-use Rattle.std.proofs.lemmas.List.Elements.{All-append, All-cons, All-nil, All-push}
+use Rattle.std.specs.List.{flat_map, range_with_len, sum_by}
+use Rattle.std.proofs.lemmas.List.{get_or_past, reverse-append}
+use Rattle.std.proofs.lemmas.List.Elements.{All-push}
 use Rattle.std.proofs.lemmas.List.Sums.{sum_by-cons, sum_by_push}
 use Rattle.txn_retry.specs.declared.place.Parts.{Parts}
 use Rattle.txn_retry.specs.Place.{itself_or, numbers, standing, AreLater}
-use Rattle.txn_retry.specs.Walk.{pending, run_of, steps_at, steps_for, steps_left, steps_of, IsMade, Walks}
+use Rattle.txn_retry.specs.Walk.{pending, run_of, steps_at, steps_for, steps_of, IsMade, Walks}
 use Rattle.txn_retry.proofs.Standing.{standing-steps}
 
 sum_by-range : (f g : ℕ → ℕ) (a n : ℕ) → ((k : ℕ) → a ≤ k → k < a + n → f k ≡ g k) → sum_by f (range_with_len a n) ≡ sum_by g (range_with_len a n)

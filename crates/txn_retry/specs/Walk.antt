@@ -1,5 +1,5 @@
 -- A walk through tasks in the order of their results.
-use Rattle.std.specs.Prelude.{◌≡◌, ℕ, zero, suc, ◌+◌, ◌<◌, ◌≤◌, List, [], ◌∷◌, ◌++◌, length, reverse, Option, Some, None}
+use Rattle.std.specs.Prelude.{◌≡◌, ℕ, zero, suc, ◌+◌, ◌<◌, ◌≤◌, List, ◌++◌, length, reverse, Option, Some, None}
 use Rattle.std.specs.List.{All, flat_map, sum_by}
 use Rattle.std.proofs.Math.ListN.{get_or}
 use Rattle.txn_retry.specs.declared.place.Parts.{Parts}

@@ -1,5 +1,4 @@
-use Rattle.std.proofs.Common.{◌≡◌, ◌++◌, map}
-use Rattle.std.specs.Prelude.{Ok}
+use Rattle.std.proofs.Common.{◌≡◌}
 use Rattle.txn_retry.specs.Outcome.{all_or_first}
 use Rattle.txn_retry.proofs.Outcomes.{led_by}
 use Rattle.txn_retry.proofs.outcome.all_or_first.Given as goal

@@ -1,6 +1,6 @@
-use Rattle.std.proofs.Common.{◌≡◌, ◌∷◌, ◌<◌, length, arith, refl, sym, ap, ◌∙◌}
+use Rattle.std.proofs.Common.{◌∷◌, ◌<◌, length, arith, ◌∙◌}
 use Rattle.std.proofs.lemmas.List.{length-set}
-use Rattle.std.proofs.lemmas.List.Elements.{All-head, All-tail, All-weaker}
+use Rattle.std.proofs.lemmas.List.Elements.{All-head, All-tail}
 use Rattle.txn_retry.specs.Place.{AreDistinct}
 use Rattle.txn_retry.proofs.Taking.{results-taken}
 use Rattle.txn_retry.proofs.walk.take_results.Goals as goal

@@ -1,5 +1,5 @@
 use Rattle.std.proofs.Common.{◌≡◌, [], refl, ap, arith, sym, ◌∙◌}
-use Rattle.txn_retry.specs.Place.{begun, waiting_places, Queued}
+use Rattle.txn_retry.specs.Place.{waiting_places, Queued}
 use Rattle.txn_retry.proofs.Cuts.{order_of-begun, IsQueue-begun}
 use Rattle.txn_retry.proofs.queue.Queue.begin.Goals as goal
 

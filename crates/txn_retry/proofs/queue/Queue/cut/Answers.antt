@@ -1,6 +1,6 @@
-use Rattle.std.proofs.Common.{◌≡◌, ◌++◌, length, set, arith, refl, sym, ap, ◌∙◌}
+use Rattle.std.proofs.Common.{◌≡◌, length, arith, refl}
 use Rattle.std.proofs.lemmas.List.{set-append_left}
-use Rattle.txn_retry.specs.Place.{is_resting, new_parts, waiting_places, StandsAt}
+use Rattle.txn_retry.specs.Place.{is_resting, waiting_places, StandsAt}
 use Rattle.txn_retry.specs.declared.place.Place.TheVariants.{Cut}
 use Rattle.txn_retry.proofs.Cuts.{order_of-cut_at, IsQueue-cut}
 use Rattle.txn_retry.proofs.queue.Queue.cut.Goals as goal
