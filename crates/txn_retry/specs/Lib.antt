@@ -1,0 +1,4 @@
+pub mod Outcome
+pub mod Place
+pub mod Remedy
+pub mod Walk
