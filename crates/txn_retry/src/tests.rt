@@ -47,7 +47,9 @@ fn a_spent_loss_drops_the_region(rt: HostRuntime) -> Result<(), Fail> {
 fn cut_once(alloc: Global) -> Result<Queue<u64>, NoMemory> {
     let mut queue = Queue::new(alloc);
     queue.begin(3)?;
-    while queue.start_next().is_some() {}
+    queue.start_next();
+    queue.start_next();
+    queue.start_next();
     if queue.is_running(0) {
         queue.rest(0);
     }
@@ -87,10 +89,13 @@ fn sixteen_tasks_run(rt: HostRuntime) -> Result<(), Fail> {
     let mut queue: Queue<u64> = Queue::new(rt.alloc());
     queue.begin(17)?;
     let mut started = 0;
-    while queue.start_next().is_some() {
-        started += 1;
+    for n in 0..17 {
+        if queue.start_next().is_some() {
+            started = n + 1;
+        }
     }
     assert_eq!(rt; started, 16);
+    assert_eq!(rt; queue.start_next(), None);
     finish(&mut queue, 5, 1);
     assert_eq!(rt; queue.start_next(), Some(16));
     Ok(())
