@@ -1,3 +1,5 @@
+pub mod Ordered
+pub mod Passing
 pub mod Scans
 pub mod Steps
 pub mod Undo

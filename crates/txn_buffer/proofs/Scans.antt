@@ -1,21 +1,16 @@
 -- Steps of a scan over the entries of a buffer.
-use Rattle.std.proofs.Common.{◌≡◌, ◌∙◌, sym, refl, ap, ℕ, List, [], ◌∷◌, ◌++◌, map, reverse, take, Bool, true, false, cond, Option, Some, None}
+use Rattle.std.proofs.Common.{◌≡◌, ◌∙◌, sym, refl, ap, ℕ, List, [], ◌∷◌, ◌++◌, map, reverse, take, Bool, true, false, cond}
 use Rattle.std.specs.List.{filter}
-use Rattle.txn_buffer.specs.Overlay.{Pairs, directed, first_pairs, overlaid}
-use Rattle.txn_buffer.specs.Reads.{and_write, pair_of, pairs_of}
-use Rattle.txn_buffer.specs.Writes.{Write, Writes}
+use Rattle.txn_buffer.specs.Overlay.{directed, first_pairs}
+use Rattle.txn_buffer.specs.Reads.{pair_of, pairs_of}
 use Rattle.txn_kv.specs.declared.kvpair.KvPair.{KvPair}
 use Rattle.std.proofs.lemmas.List.{map-append, reverse-append, take-map}
-
-pub overlaid_and : (pairs : Pairs) (key : List ℕ) (write : Option Write) (writes : Writes) → overlaid (overlaid pairs (and_write key write [])) writes ≡ overlaid pairs (and_write key write writes)
-overlaid_and pairs key None writes = refl
-overlaid_and pairs key (Some write) writes = refl
 
 pub filter_no : {X : Type 0} (test : X → Bool) → ((x : X) → test x ≡ false) → (xs : List X) → filter test xs ≡ []
 filter_no test none [] = refl
 filter_no test none (x ∷ xs) = ap (λ b. cond b (x ∷ filter test xs) (filter test xs)) (none x) ∙ filter_no test none xs
 
-map-reverse : {X Y : Type 0} (f : X → Y) (xs : List X) → map f (reverse xs) ≡ reverse (map f xs)
+pub map-reverse : {X Y : Type 0} (f : X → Y) (xs : List X) → map f (reverse xs) ≡ reverse (map f xs)
 map-reverse f [] = refl
 map-reverse f (x ∷ xs) = ap (map f) (reverse-append (x ∷ []) xs) ∙ map-append f (reverse xs) (x ∷ []) ∙ ap (λ ys. ys ++ f x ∷ []) (map-reverse f xs) ∙ sym (reverse-append (f x ∷ []) (map f xs))
 

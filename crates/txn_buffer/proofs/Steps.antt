@@ -4,30 +4,26 @@ use Rattle.std.specs.declared.cmp.Ordering.TheVariants.{Less, Equal, Greater}
 use Rattle.std.specs.Ordering.{is_eq, match_ordering, nat_cmp}
 use Rattle.std.specs.Cmp.Lexicographic.{slice_cmp}
 use Rattle.std.specs.BTreeMap.{insert_entry, is_at}
-use Rattle.std.specs.List.{AllByRecursion}
 use Rattle.std.specs.List.Sorted.{IsStrictlySortedBy}
 use Rattle.std.specs.Map.{keys_of, lookup}
 use Rattle.std.proofs.lemmas.Cmp.{nat_list_cmp_total}
 use Rattle.std.proofs.lemmas.Map.Lookups.{exact_bytes}
 use Rattle.txn_buffer.specs.declared.entry.Entry.{Entry}
 use Rattle.txn_buffer.specs.Contents.{Contents, entry_of, with_write, write_at, write_at_entry, write_of}
+use Rattle.txn_buffer.specs.Passing.{IsBelow}
 use Rattle.txn_buffer.specs.Reads.{and_write, writes, writes_of}
 use Rattle.txn_buffer.specs.Writes.{Write, Writes, after_call, after_delete, after_insert, after_put, check, delete, delete_call, insert, insert_call, put, put_call, with_write_in}
 
--- a key is below each key of a list
-abbrev IsBelow : {X : Type 0} → List ℕ → List (List ℕ × X) → Type 0
-IsBelow key entries = AllByRecursion (λ k. slice_cmp nat_cmp key k ≡ Less) (keys_of entries)
-
 module _ {X : Type 0} where
-  first_below : (e : List ℕ × X) (entries : List (List ℕ × X)) → IsStrictlySortedBy (slice_cmp nat_cmp) (keys_of (e ∷ entries)) → IsBelow e.0 entries
+  pub first_below : (e : List ℕ × X) (entries : List (List ℕ × X)) → IsStrictlySortedBy (slice_cmp nat_cmp) (keys_of (e ∷ entries)) → IsBelow e.0 entries
   unfolding IsStrictlySortedBy
   first_below e entries sorted = sorted.0
 
-  rest_sorted : (e : List ℕ × X) (entries : List (List ℕ × X)) → IsStrictlySortedBy (slice_cmp nat_cmp) (keys_of (e ∷ entries)) → IsStrictlySortedBy (slice_cmp nat_cmp) (keys_of entries)
+  pub rest_sorted : (e : List ℕ × X) (entries : List (List ℕ × X)) → IsStrictlySortedBy (slice_cmp nat_cmp) (keys_of (e ∷ entries)) → IsStrictlySortedBy (slice_cmp nat_cmp) (keys_of entries)
   unfolding IsStrictlySortedBy
   rest_sorted e entries sorted = sorted.1
 
-  below_trans : (a b : List ℕ) (entries : List (List ℕ × X)) → slice_cmp nat_cmp a b ≡ Less → IsBelow b entries → IsBelow a entries
+  pub below_trans : (a b : List ℕ) (entries : List (List ℕ × X)) → slice_cmp nat_cmp a b ≡ Less → IsBelow b entries → IsBelow a entries
   below_trans a b [] h below = tt
   below_trans a b (e ∷ entries) h below = (nat_list_cmp_total.trans a b e.0 h below.0, below_trans a b entries h below.1)
 
@@ -39,11 +35,11 @@ module _ {X : Type 0} where
   none_below key [] below = refl
   none_below key (e ∷ entries) below = ap (λ o. cond (is_eq o) (Some e.1) (lookup (is_at (slice_cmp nat_cmp key)) entries)) below.0 ∙ none_below key entries below.1
 
-  front : (key : List ℕ) (x : X) (entries : List (List ℕ × X)) → IsBelow key entries → insert_entry (slice_cmp nat_cmp) entries key x ≡ (key, x) ∷ entries
+  pub front : (key : List ℕ) (x : X) (entries : List (List ℕ × X)) → IsBelow key entries → insert_entry (slice_cmp nat_cmp) entries key x ≡ (key, x) ∷ entries
   front key x [] below = refl
   front key x (e ∷ entries) below = ap (λ o. match_ordering o ((key, x) ∷ e ∷ entries) ((e.0, x) ∷ entries) (e ∷ insert_entry (slice_cmp nat_cmp) entries key x)) below.0
 
-writes_below : (key : List ℕ) (entries : List (List ℕ × Entry)) → IsBelow key entries → IsBelow key (writes_of entries)
+pub writes_below : (key : List ℕ) (entries : List (List ℕ × Entry)) → IsBelow key entries → IsBelow key (writes_of entries)
 writes_below key [] below = tt
 writes_below key (e ∷ entries) below = by (write_of e.1) (writes_below key entries below.1)
   where

@@ -1,5 +1,5 @@
 -- A buffer as its user thinks of it: a finite map from keys to entries, in key order, with a primary key or none.
-use Rattle.std.specs.Prelude.{◌≡◌, ℕ, ◌+◌, List, [], ◌∷◌, ◌++◌, length, Bool, true, false, cond, Option, Some, None, is_none, ◌⊎◌, ⊤}
+use Rattle.std.specs.Prelude.{◌≡◌, ℕ, ◌+◌, List, [], ◌∷◌, ◌++◌, map, length, Bool, true, false, cond, Option, Some, None, is_none, ◌⊎◌, ⊤}
 use Rattle.std.specs.Ordering.{nat_cmp}
 use Rattle.std.specs.Cmp.Lexicographic.{slice_cmp}
 use Rattle.std.specs.BTreeMap.{insert_entry, is_at}
@@ -222,6 +222,9 @@ written_value entry.CheckNotExist = []
 abbrev pub mutations : List (List ℕ × Entry) → List Mutation
 mutations [] = []
 mutations (e ∷ rest) = mutations_of e.0 e.1 ++ mutations rest
+
+abbrev pub keys_of_mutations : List Mutation → List (List ℕ)
+keys_of_mutations ms = map (λ m. m.key) ms
 
 -- the contents after a mutation that is a put or a delete
 abbrev pub mutated_by : Op → Contents → List ℕ → List ℕ → Option Contents

@@ -1,4 +1,5 @@
 pub mod Contents
 pub mod Overlay
+pub mod Passing
 pub mod Reads
 pub mod Writes

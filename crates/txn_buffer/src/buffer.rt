@@ -6,12 +6,15 @@ ghost use Rattle.std.specs.Map.{keys_of};
 ghost use Rattle.std.specs.Ordering.{nat_cmp};
 ghost use Rattle.txn_kv.specs.declared.errors.Error.TheVariants.{Unimplemented, OutOfMemory};
 ghost use Rattle.txn_buffer.specs.Writes.{after_call, after_delete, after_insert, after_put, delete_call, insert_call, put_call};
-ghost use Rattle.txn_buffer.specs.Overlay.{directed, first_pairs, in_key_order, overlay};
+ghost use Rattle.txn_buffer.specs.Overlay.{first_pairs, overlaid, overlay};
+ghost use Rattle.txn_buffer.specs.Passing.{IsAscending};
 ghost use Rattle.txn_buffer.specs.Reads.{AgreesAll, IsBatch, IsUnlikeOne, cached_pairs, filled_all, is_some_cached, known_pairs, pairs_of, scan_limit, unfilled, unfilled_all, unwritten, writes, writes_in};
-ghost use Rattle.txn_buffer.specs.Contents.{commit_primary, entry_at, filled, first_locking, is_locking_at, is_some_bare_lock, known_at, known_value, missing_keys, mutated, mutations, write_size, Agrees, IsUnlike, locked, locked_at, unlocked, with_new_entry, with_primary, with_write, write_at};
+ghost use Rattle.txn_buffer.specs.Contents.{commit_primary, entry_at, filled, first_locking, is_locking_at, is_some_bare_lock, keys_of_mutations, known_at, known_value, missing_keys, mutated, mutations, write_size, Agrees, IsUnlike, locked, locked_at, unlocked, with_new_entry, with_primary, with_write, write_at};
 
 use crate::bounds::runs_forward;
 use crate::entry::Entry;
+use crate::merge::Merge;
+use crate::pairs::{first_pairs, in_key_order};
 use std::alloc::Global;
 use std::collections::BTreeMap;
 use std::marker::Model;
@@ -27,7 +30,7 @@ pub struct Buffer {
 }
 
 impl Model for Buffer {
-    ghost use Rattle.txn_buffer.specs.Overlay.{directed, first_pairs, in_key_order, overlay};
+    ghost use Rattle.txn_buffer.specs.Overlay.{first_pairs, overlaid, overlay};
     ghost use Rattle.txn_buffer.specs.Reads.{AgreesAll, IsBatch, IsUnlikeOne, cached_pairs, filled_all, is_some_cached, known_pairs, pairs_of, scan_limit, unfilled, unfilled_all, unwritten, writes, writes_in};
     ghost use Rattle.txn_buffer.specs.Contents.{Contents};
 
@@ -268,9 +271,10 @@ impl Buffer {
         size
     }
 
-    /// The mutation of each entry but those that were only read, in key order.
+    /// The mutation of each entry but those that were only read, in key order. No two are of one key.
     pub fn to_proto_mutations(&self) -> std::result::Result<Vec<Mutation>, NoMemory>
-        ensures { IfOk result (λ vec. vec.items ≡ mutations self.now.entries) }
+        ensures all { IfOk result (λ vec. vec.items ≡ mutations self.now.entries) }
+        ensures ascending { IfOk result (λ vec. IsStrictlySortedBy (slice_cmp nat_cmp) (keys_of_mutations vec.items)) }
     {
         let mut mutations = Vec::new(self.alloc);
         for (key, entry) in self.entry_map.iter() {
@@ -293,7 +297,8 @@ impl Buffer {
     }
 
     /// Takes what was read of the keys, and gives the pair of each asked key that has a value, in key order, repeats kept.
-    /// A refusal changes nothing: another value is known of one of the keys.
+    /// A refusal changes nothing: another value is known of one of the keys. Each pair and each key is looked up once;
+    /// to sort the keys takes one walk where they ascend or fall.
     #[tactic(auto, using(crate::proofs::Undo::unlike_no_memory))]
     pub fn batch_fill(&mut self, asked: &[Key], fetched: Vec<KvPair>) -> Result<Vec<KvPair>>
         ensures ok { OnOk result (self.new ≡ filled_all self.old (pairs_of fetched.items)) }
@@ -408,7 +413,8 @@ impl Buffer {
 
     /// Gives the first `limit` pairs of the range, from its low end or, where `reverse`, from its high end:
     /// those fetched, seen through what is written in the buffer. Where `update_cache`, the buffer takes
-    /// what was read of each key that is not written. A refusal changes nothing.
+    /// what was read of each key that is not written. A refusal changes nothing. One walk goes over the pairs and
+    /// the entries of the range; pairs that do not come in the direction, or two of one key, are sorted first.
     #[tactic(auto, using(crate::proofs::Undo::unlike_no_memory))]
     pub fn scan_fill(
         &mut self,
@@ -425,10 +431,10 @@ impl Buffer {
         ensures why { IfErr result (IsUnlikeOne self.old (cached_pairs update_cache self.old (pairs_of fetched.items))) }
     {
         let read = self.cached_pairs(update_cache, &fetched)?;
+        let fetched = in_key_order(self.alloc, fetched, reverse)?;
         let pairs = self.overlay(range, fetched)?;
-        let pairs = first_pairs(self.alloc, pairs, limit as usize, reverse)?;
         self.fill_all(read)?;
-        Ok(pairs)
+        Ok(first_pairs(pairs, limit as usize, reverse))
     }
 
     /// The pairs, where they are kept, whose keys are not written.
@@ -467,72 +473,25 @@ impl Buffer {
         }
     }
 
-    #[tactic(auto, using(crate::proofs::Scans::overlaid_and, crate::proofs::Scans::filter_no))]
+    /// The pairs, which ascend, seen through what is written in the range: one walk over both.
+    #[tactic(auto, using(crate::proofs::Scans::filter_no, crate::proofs::Passing::met, crate::proofs::Steps::rest_sorted, crate::proofs::Ordered::between_ascends))]
     fn overlay(
         &self,
         range: &BoundRange,
-        fetched: Vec<KvPair>,
-    ) -> std::result::Result<BTreeMap<Key, Value>, NoMemory>
-        ensures { IfOk result (λ pairs. pairs.entries ≡ overlay (pairs_of fetched.items) (writes_in range.now self.now)) }
+        pairs: Vec<KvPair>,
+    ) -> std::result::Result<Vec<KvPair>, NoMemory>
+        requires { IsAscending (pairs_of pairs.items) }
+        ensures { IfOk result (λ seen. pairs_of seen.items ≡ overlaid (pairs_of pairs.items) (writes_in range.now self.now)) }
     {
-        let mut pairs = in_key_order(self.alloc, fetched)?;
+        let mut merge = Merge::new(self.alloc, pairs);
         let bounds = (range.start_bound(), range.end_bound());
         if runs_forward(bounds.0, bounds.1) {
             for (key, entry) in self.entry_map.range(bounds) {
-                entry.write_over(key, &mut pairs)?;
+                merge.meet(key, entry)?;
             }
         }
-        Ok(pairs)
+        merge.into_pairs()
     }
-}
-
-fn in_key_order(
-    alloc: Global,
-    fetched: Vec<KvPair>,
-) -> std::result::Result<BTreeMap<Key, Value>, NoMemory>
-    ensures { IfOk result (λ pairs. pairs.entries ≡ in_key_order (pairs_of fetched.items)) }
-{
-    let mut pairs = BTreeMap::new(alloc);
-    for pair in fetched {
-        pairs.insert(pair.0, pair.1)?;
-    }
-    Ok(pairs)
-}
-
-#[tactic(auto, using(crate::proofs::Scans::firsts_of))]
-fn first_pairs(
-    alloc: Global,
-    pairs: BTreeMap<Key, Value>,
-    limit: usize,
-    reverse: bool,
-) -> std::result::Result<Vec<KvPair>, NoMemory>
-    ensures { IfOk result (λ firsts. pairs_of firsts.items ≡ first_pairs limit reverse pairs.entries) }
-{
-    let mut firsts = directed(all_pairs(alloc, pairs)?, reverse);
-    firsts.truncate(limit);
-    Ok(firsts)
-}
-
-fn directed(mut pairs: Vec<KvPair>, reverse: bool) -> Vec<KvPair>
-    ensures { result.items ≡ directed reverse pairs.items }
-{
-    if reverse {
-        pairs.reverse();
-    }
-    pairs
-}
-
-fn all_pairs(
-    alloc: Global,
-    pairs: BTreeMap<Key, Value>,
-) -> std::result::Result<Vec<KvPair>, NoMemory>
-    ensures { IfOk result (λ all. pairs_of all.items ≡ pairs.entries) }
-{
-    let mut all = Vec::new(alloc);
-    for (key, value) in pairs {
-        all.push(KvPair(key, value))?;
-    }
-    Ok(all)
 }
 
 /// The keys in their order, in new memory.

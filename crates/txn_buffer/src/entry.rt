@@ -2,11 +2,9 @@ ghost use Rattle.std.specs.Prelude.{◌≡◌, ◌++◌, ◌-◌, ◌^◌, [], m
 ghost use Rattle.std.specs.Option.{option_copied};
 ghost use Rattle.txn_buffer.specs.Writes.{after_delete, after_insert, after_put};
 ghost use Rattle.txn_buffer.specs.Contents.{entry_of, entry_size, mutations_of, written_value, Agrees, IsUnlike, is_bare_lock, is_locking, known_of, known_value, lock_step, sets_primary, unlock_step, write_at_entry, write_of};
-ghost use Rattle.txn_buffer.specs.Overlay.{overlaid};
-ghost use Rattle.txn_buffer.specs.Reads.{and_write, is_absent, is_cached, unfill_step};
+ghost use Rattle.txn_buffer.specs.Reads.{is_absent, is_cached, unfill_step};
 
 use std::alloc::Global;
-use std::collections::BTreeMap;
 use std::mem;
 use txn_kv::{Assertion, Error, Internal, Key, Mutation, NoMemory, Op, Result, TryClone, Value};
 
@@ -213,25 +211,5 @@ impl Entry {
         ensures { is_none (write_of self.now) ≡ not result }
     {
         !matches!(self, Entry::Cached(_) | Entry::Locked(_))
-    }
-
-    /// Writes the key in some pairs, if the entry does.
-    pub(crate) fn write_over(
-        &self,
-        key: &Key,
-        pairs: &mut BTreeMap<Key, Value>,
-    ) -> std::result::Result<(), NoMemory>
-        ensures { OnOk result (pairs.new.entries ≡ overlaid pairs.old.entries (and_write key.now (write_of self.now) [])) }
-    {
-        match self {
-            Entry::Put(value) | Entry::Insert(value) => {
-                pairs.insert(key.try_clone()?, value.try_clone()?)?;
-            }
-            Entry::Del | Entry::CheckNotExist => {
-                pairs.remove(key);
-            }
-            Entry::Cached(_) | Entry::Locked(_) => {}
-        }
-        Ok(())
     }
 }

@@ -5,6 +5,8 @@ mod bounds;
 pub mod buffer;
 pub mod entry;
 pub mod law;
+mod merge;
+mod pairs;
 pub mod send;
 #[cfg(test)]
 mod tests;

@@ -269,3 +269,57 @@ fn scans_fill_what_they_read(rt: HostRuntime) -> Result<(), Fail> {
     assert_eq!(rt; buffer.missing(&key(alloc, "e")?), false);
     Ok(())
 }
+
+#[test]
+fn scans_merge_pairs_that_ascend(rt: HostRuntime) -> Result<(), Fail> {
+    let alloc = rt.alloc();
+    let mut buffer = written(alloc)?;
+    let range = from_a(alloc)?;
+    let pairs = taken(buffer.scan_fill(&range, 9, true, false, fetched(alloc)?))?;
+    let first = pair(alloc, "b", "2")?;
+    let second = pair(alloc, "c", "3")?;
+    let third = pair(alloc, "e", "5")?;
+    assert_eq!(rt; pairs.as_slice(), [first, second, third].as_slice());
+    Ok(())
+}
+
+#[test]
+fn scans_sort_pairs_that_do_not_ascend(rt: HostRuntime) -> Result<(), Fail> {
+    let alloc = rt.alloc();
+    let mut buffer = written(alloc)?;
+    let mut mixed = Vec::new(alloc);
+    mixed.push(pair(alloc, "c", "0")?)?;
+    mixed.push(pair(alloc, "a", "1")?)?;
+    mixed.push(pair(alloc, "c", "3")?)?;
+    let range = from_a(alloc)?;
+    let pairs = taken(buffer.scan_fill(&range, 9, false, false, mixed))?;
+    let first = pair(alloc, "b", "2")?;
+    let second = pair(alloc, "c", "3")?;
+    assert_eq!(rt; pairs.as_slice(), [first, second].as_slice());
+    Ok(())
+}
+
+#[test]
+fn reverse_scans_merge_pairs_that_descend(rt: HostRuntime) -> Result<(), Fail> {
+    let alloc = rt.alloc();
+    let mut buffer = written(alloc)?;
+    let mut falling = Vec::new(alloc);
+    falling.push(pair(alloc, "c", "3")?)?;
+    falling.push(pair(alloc, "a", "1")?)?;
+    let range = from_a(alloc)?;
+    let pairs = taken(buffer.scan_fill(&range, 9, true, true, falling))?;
+    let first = pair(alloc, "c", "3")?;
+    let second = pair(alloc, "b", "2")?;
+    assert_eq!(rt; pairs.as_slice(), [first, second].as_slice());
+    Ok(())
+}
+
+#[test]
+fn scans_stop_at_the_limit(rt: HostRuntime) -> Result<(), Fail> {
+    let alloc = rt.alloc();
+    let mut buffer = written(alloc)?;
+    let range = from_a(alloc)?;
+    let pairs = taken(buffer.scan_fill(&range, 1, true, false, fetched(alloc)?))?;
+    assert_eq!(rt; pairs.as_slice(), [pair(alloc, "b", "2")?].as_slice());
+    Ok(())
+}
