@@ -1,5 +1,5 @@
 pub mod Answered
-pub mod Built
+pub mod Applied
 pub mod Dispatch
 pub mod Extracted
 pub mod Merged

@@ -66,7 +66,7 @@ call_runs (stage.Resting n lost) a w = refl
 call_runs stage.Over a w = absurd w
 call_runs stage.Stopped a w = absurd w
 
-something : (g : Stage) → call_phase g ≡ Running → (a : Awaited) × call_waits g a
+pub something : (g : Stage) → call_phase g ≡ Running → (a : Awaited) × call_waits g a
 something stage.Fresh e = absurd (subst IsRunning (sym e) tt)
 something (stage.Sent n) e = (ReplyTo n, refl)
 something (stage.Asked n) e = (TimeOf n, refl)

@@ -1,4 +1,3 @@
-mod builder;
 mod client;
 mod dispatch;
 mod wrappers;
