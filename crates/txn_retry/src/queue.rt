@@ -1,6 +1,7 @@
 //! The tasks of a plan, in the order in which they were made and in the order of their results.
-ghost use Rattle.std.specs.Prelude.{◌≡◌, ◌++◌, ◌+◌, ◌<◌, ◌≤◌, ◌==◌, [], true, false, IfOk, OnOk, OnErr, IfSome, length, replicate, slice_index_or};
-ghost use Rattle.txn_retry.specs.Place.{begun, cut_at, is_open, is_resting, is_running, is_waiting, next_task, open_ones, parts_of, placed, results, result_of, running, started, StandsAt};
+ghost use Rattle.std.specs.Prelude.{◌≡◌, ◌++◌, ◌+◌, ◌<◌, ◌≤◌, ◌==◌, [], true, false, IfOk, OnOk, OnErr, IfSome, length, map, replicate, slice_index_or};
+ghost use Rattle.std.proofs.Math.ListN.{get_or};
+ghost use Rattle.txn_retry.specs.Place.{begun, cut_at, is_open, is_resting, is_running, is_waiting, next_task, open_ones, parts_of, placed, results, result_of, running, started, AreWhole, StandsAt};
 ghost use Rattle.txn_retry.specs.declared.place.Place.TheVariants.{Waiting, Running, Resting, Ended};
 
 use crate::place::{Parts, Place};
@@ -105,13 +106,15 @@ impl<R: Drop> Queue<R> {
     }
 
     pub fn is_running(&self, at: usize) -> bool
-        ensures { result ≡ true → StandsAt is_running self.now.places at }
+        ensures value { result ≡ is_running (get_or self.now.places at Waiting) }
+        ensures stands { result ≡ true → StandsAt is_running self.now.places at }
     {
         at < self.places.len() && matches!(self.places[at], Place::Running)
     }
 
     pub fn is_resting(&self, at: usize) -> bool
-        ensures { result ≡ true → StandsAt is_resting self.now.places at }
+        ensures value { result ≡ is_resting (get_or self.now.places at Waiting) }
+        ensures stands { result ≡ true → StandsAt is_resting self.now.places at }
     {
         at < self.places.len() && matches!(self.places[at], Place::Resting)
     }
@@ -137,6 +140,7 @@ impl<R: Drop> Queue<R> {
     /// A task that rests gives its place to so many.
     pub fn cut(&mut self, at: usize, count: usize) -> Result<(), NoMemory>
         requires { StandsAt is_resting self.old.places at }
+        ensures whole { AreWhole (map parts_of self.old.places) self.old.order }
         ensures ok { OnOk result (self.new ≡ cut_at at count self.old) }
         ensures err { OnErr result (self.new ≡ self.old) }
     {
@@ -156,7 +160,8 @@ impl<R: Drop> Queue<R> {
 
     /// The results of the tasks that have ended, in their order.
     pub fn into_results(self) -> Result<Vec<R>, NoMemory>
-        ensures { IfOk result (λ v. v.items ≡ results self.places self.order) }
+        ensures whole { AreWhole (map parts_of self.places) self.order }
+        ensures results { IfOk result (λ v. v.items ≡ results self.places self.order) }
     {
         let order = walk::in_order(self.alloc, self.places.as_slice(), self.roots)?;
         walk::take_results(self.alloc, self.places, order)

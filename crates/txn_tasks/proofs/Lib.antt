@@ -1,0 +1,12 @@
+pub mod Continuing
+pub mod Counting
+pub mod Outcomes
+pub mod Posting
+pub mod Readying
+pub mod Routing
+pub mod Settling
+pub mod Singles
+pub mod Spending
+pub mod Stepping
+pub mod Telling
+pub mod Waiting
