@@ -1,0 +1,4 @@
+pub mod Costs
+pub mod Lookings
+pub mod Multis
+pub mod Retrying

@@ -1,0 +1,391 @@
+-- Look-ups of shards, and the plans that come of them.
+use Rattle.std.proofs.Common.{◌≡◌, ◌≢◌, inl, inr, ℕ, ◌+◌, ◌≤◌, Bool, true, false, List, [], ◌∷◌, ◌++◌, length, suc, map, refl, sym, ap, subst, ◌∙◌, append_assoc, arith}
+use Rattle.std.specs.Prelude.{⊤, Result}
+use Rattle.std.specs.List.{All}
+use Rattle.std.specs.Global.{Vec}
+use Rattle.std.proofs.Math.Nat.{le_refl, le_trans}
+use Rattle.std.proofs.lemmas.Bool.{false≢true}
+use Rattle.std.proofs.lemmas.List.Elements.{All-cons, All-nil}
+use Rattle.txn_history.specs.Event.{Event}
+use Rattle.txn_history.specs.Meaning.{started, Counts, Expects, IsUnbegun, Meaning, Tells, Told}
+use Rattle.txn_history.specs.Moves.{Moves, Moves-before, Moves-map, Moves-quiet, Moves-stops, Moves-then}
+use Rattle.txn_history.specs.Phase.{Awaited, phase_after, unheard}
+use Rattle.txn_history.specs.Phase.Awaited.{EndOf, ReplyTo}
+use Rattle.txn_history.specs.Phase.Phase.{Running}
+use Rattle.txn_history.specs.Posted.{Posted, Within-refl}
+use Rattle.txn_history.specs.Spends.{Spends, calls, is_call, sleeps, spare}
+use Rattle.txn_history.specs.Turn.{failing, is_kept, IfEnds, IfKept-out, Turn}
+use Rattle.txn_history.specs.Turn.Turn.{Stopped, Waits, Ends}
+use Rattle.txn_history.proofs.Counting.{calls-more, one_if, spare-more}
+use Rattle.txn_history.proofs.Telling.{Expects-quiet, Expects-then, Tells-idle}
+use Rattle.txn_kv.specs.declared.errors.Error.{Error}
+use Rattle.txn_kv.specs.declared.query.PdAnswer.{PdAnswer}
+use Rattle.txn_kv.specs.declared.query.PdQuery.{PdQuery}
+use Rattle.txn_kv.specs.declared.query.PdQuery.TheVariants as query
+use Rattle.txn_kv.specs.declared.request.Request.{Request}
+use Rattle.txn_plan.specs.Applied.{IsApplied}
+use Rattle.txn_plan.specs.LookUp.{call_phase, call_waits, fresh-unbegun, looked_up, something}
+use Rattle.txn_plan.proofs.LookingUp.{PostsTo, Went, deaf_reply, deaf_waking, stands}
+use Rattle.txn_region.specs.Clients.{IsPlaceQuery}
+use Rattle.txn_region.specs.declared.store.RegionStore.{RegionStore}
+use Rattle.txn_multi.specs.Cutting.{cut_phase, cut_waits, cutting, cutting-lawful, AreApplied, ArePartsOf, AreWithin, CutAt, GivesParts, IsPartOf, IsPlacement, Looking}
+use Rattle.txn_multi.specs.Searching.{AwaitsLast, Holds, IsTaken, LooksOn}
+use Rattle.txn_multi.specs.declared.cut_stage.CutStage.{CutStage}
+use Rattle.txn_multi.specs.declared.cut_stage.CutStage.TheVariants as search
+use Rattle.txn_multi.specs.declared.part.Part.{Part}
+use Rattle.txn_tso.specs.Calling.{CallFits, MayAsk}
+use Rattle.txn_tso.specs.Counting.{asks_of, left_at, CallSpends}
+use Rattle.txn_tso.specs.Heeding.{hears_reply, hears_waking, CallHeeds}
+use Rattle.txn_tso.specs.Placement.{fresh}
+use Rattle.txn_tso.specs.Steps.{Standing}
+use Rattle.txn_tso.specs.declared.pd_call.PdCall.{PdCall}
+use Rattle.txn_tso.specs.declared.stage.Stage.{Stage}
+use Rattle.txn_tso.specs.declared.stage.Stage.TheVariants as stage
+
+-- a plan more
+pub AreApplied-push : {S H : Type 0} (applies : S → H → RegionStore → S → Type 0) (whole : S) (fs : List (H × RegionStore)) (ps : List (Part S)) (f : H × RegionStore) (p : Part S)
+    → AreApplied applies whole fs ps → applies whole f.0 f.1 p.plan → AreApplied applies whole (fs ++ f ∷ []) (ps ++ p ∷ [])
+AreApplied-push applies whole [] [] f p a x = (x, tt)
+AreApplied-push applies whole [] (q ∷ ps) f p a x = absurd a
+AreApplied-push applies whole (g ∷ fs) [] f p a x = absurd a
+AreApplied-push applies whole (g ∷ fs) (q ∷ ps) f p a x = (a.0, AreApplied-push applies whole fs ps f p a.1 x)
+
+-- plans with the shards that a plan is cut into are its parts
+module _ {S A H L : Type 0} (m : Meaning S A) (is_part : S → S → Type 0) (load : S → L) (load_of : H → L) (are_cut : L → List L → Type 0) (applies : S → H → RegionStore → S → Type 0)
+    (applied_load : (old new : S) (shard : H) (store : RegionStore) (before behind : List L) → are_cut (load old) (before ++ load_of shard ∷ behind) → applies old shard store new → load new ≡ load_of shard)
+    (applied_part : (old new : S) (shard : H) (store : RegionStore) (before behind : List L) → are_cut (load old) (before ++ load_of shard ∷ behind) → applies old shard store new → is_part new old)
+    (applied_unbegun : (old new : S) (shard : H) (store : RegionStore) → IsUnbegun m old → applies old shard store new → IsApplied m old new) where
+  loads_of : List (H × RegionStore) → List L
+  loads_of fs = map load_of (map (λ f. f.0) fs)
+
+  each_part : (whole : S) (before : List L) (fs : List (H × RegionStore)) (ps : List (Part S)) → IsUnbegun m whole → are_cut (load whole) (before ++ map load_of (map (λ f. f.0) fs)) → AreApplied applies whole fs ps
+      → All (λ p. IsPartOf m is_part whole p.plan) ps
+  each_part whole before [] [] u c a = All-nil (λ (p : Part S). IsPartOf m is_part whole p.plan)
+  each_part whole before [] (p ∷ ps) u c a = absurd a
+  each_part whole before (f ∷ fs) [] u c a = absurd a
+  each_part whole before (f ∷ fs) (p ∷ ps) u c a =
+      let behind : List L = map load_of (map (λ f. f.0) fs) in
+      let next : are_cut (load whole) ((before ++ load_of f.0 ∷ []) ++ behind) = rw (append_assoc before (load_of f.0 ∷ []) behind) c in
+      All-cons (λ (p : Part S). IsPartOf m is_part whole p.plan) p ps
+      (record { applied = applied_unbegun whole p.plan f.0 f.1 u a.0; belongs = applied_part whole p.plan f.0 f.1 before behind c a.0 })
+      (each_part whole (before ++ load_of f.0 ∷ []) fs ps u next a.1)
+
+  same_loads : (whole : S) (before : List L) (fs : List (H × RegionStore)) (ps : List (Part S)) → are_cut (load whole) (before ++ map load_of (map (λ f. f.0) fs)) → AreApplied applies whole fs ps
+      → map (λ p. load p.plan) ps ≡ map load_of (map (λ f. f.0) fs)
+  same_loads whole before [] [] c a = refl
+  same_loads whole before [] (p ∷ ps) c a = absurd a
+  same_loads whole before (f ∷ fs) [] c a = absurd a
+  same_loads whole before (f ∷ fs) (p ∷ ps) c a =
+      let behind : List L = map load_of (map (λ f. f.0) fs) in
+      let next : are_cut (load whole) ((before ++ load_of f.0 ∷ []) ++ behind) = rw (append_assoc before (load_of f.0 ∷ []) behind) c in
+      let here : load p.plan ≡ load_of f.0 = applied_load whole p.plan f.0 f.1 before behind c a.0 in
+      let rest = same_loads whole (before ++ load_of f.0 ∷ []) fs ps next a.1 in
+      cc
+
+  pub ArePartsOf-applied : (whole : S) (fs : List (H × RegionStore)) (ps : List (Part S)) → IsUnbegun m whole → are_cut (load whole) (map load_of (map (λ f. f.0) fs)) → AreApplied applies whole fs ps
+      → ArePartsOf m is_part load are_cut whole ps
+  ArePartsOf-applied whole fs ps u c a = record { each = each_part whole [] fs ps u c a; cut = rw (same_loads whole [] fs ps c a) c }
+
+-- there are as many plans as shards
+pub same_length : {S H : Type 0} (applies : S → H → RegionStore → S → Type 0) (whole : S) (fs : List (H × RegionStore)) (ps : List (Part S)) → AreApplied applies whole fs ps → length ps ≡ length fs
+same_length applies whole [] [] a = refl
+same_length applies whole [] (p ∷ ps) a = absurd a
+same_length applies whole (f ∷ fs) [] a = absurd a
+same_length applies whole (f ∷ fs) (p ∷ ps) a = ap (λ n. suc n) (same_length applies whole fs ps a.1)
+
+-- What a look-up of a place posts.
+
+asks_none : (q : PdQuery) → IsPlaceQuery q → asks_of q ≡ 0
+asks_none (query.Region key) p = refl
+asks_none (query.RegionId id) p = refl
+asks_none (query.Store id) p = refl
+asks_none query.Stores p = absurd p
+asks_none query.Time p = absurd p
+asks_none (query.Safepoint t) p = absurd p
+
+left_none : (q : PdQuery) (g : Stage) → IsPlaceQuery q → left_at q g ≡ 0
+left_none q stage.Fresh p = asks_none q p
+left_none q (stage.Sent n) p = refl
+left_none q (stage.Asked n) p = refl
+left_none q (stage.Reconnecting n lost) p = asks_none q p
+left_none q (stage.Resting n lost) p = asks_none q p
+left_none q stage.Over p = refl
+left_none q stage.Stopped p = refl
+
+spare_none : (bad : Bool) → spare bad false 0 ≡ 0
+spare_none true = refl
+spare_none false = refl
+
+-- no call of a store
+pub calls_none : (bad : Bool) (old new : PdCall) (from to : Posted) (turn : Turn (Result PdAnswer Error)) → IsPlaceQuery old.query → CallSpends old new bad from to turn → calls to ≤ calls from
+calls_none bad old new from to turn p s =
+    let k : calls to ≤ calls from + left_at old.query old.stage + spare bad false (asks_of old.query + 0 + 0) + 0 = s.stopped 1 0 (omega arith) (omega arith) tt in
+    let l : left_at old.query old.stage ≡ 0 = left_none old.query old.stage p in
+    let a : asks_of old.query ≡ 0 = asks_none old.query p in
+    let z : spare bad false (asks_of old.query + 0 + 0) ≡ 0 = rw a (spare_none bad) in
+    omega arith
+
+is_true : (b : Bool) → (b ≡ false → ⊥) → b ≡ true
+is_true true n = refl
+is_true false n = absurd (n refl)
+
+is_false : (b : Bool) (k l : ℕ) → k ≡ l + one_if b → k ≤ l → b ≡ false
+is_false true k l e m = absurd (omega arith)
+is_false false k l e m = refl
+
+pub hears_if_asking : (g : Stage) (n : ℕ) → call_waits g (ReplyTo n) → hears_reply g n ≡ true
+hears_if_asking g n w = is_true (hears_reply g n) (λ e. deaf_reply g n e (ReplyTo n) refl w)
+
+pub hears_if_resting : (g : Stage) (n : ℕ) → call_waits g (EndOf n) → hears_waking g n ≡ true
+hears_if_resting g n w = is_true (hears_waking g n) (λ e. deaf_waking g n e (EndOf n) refl w)
+
+posts : (b : Bool) (x y : Standing) → Went b x y → b ≡ true → PostsTo x y
+posts b x y (inl w) e = absurd (false≢true (sym w.0 ∙ e))
+posts b x y (inr p) e = p
+
+-- a look-up that goes on waits for what it posted
+pub awaits_last : (hears : Bool) (x y : Standing) → hears ≡ true → Went hears x y → calls y.out ≤ calls x.out → call_phase y.call.stage ≡ Running → AwaitsLast y.call y.out
+awaits_last hears x y h w few runs =
+    let a = something y.call.stage runs in
+    let p = posts hears x y w h in
+    let l = p.alone a.0 a.1 in
+    record {
+      before = x.out.sends;
+      last = l.0;
+      posted = l.1;
+      waits = rw l.2 a.1;
+      places = is_false (is_call l.0) (calls y.out) (calls x.out) (calls-more x.out y.out l.0 l.1) few;
+    }
+
+runs_on : (hears : Bool) (x y : Standing) (turn : Turn (Result PdAnswer Error)) → hears ≡ true → CallHeeds hears x turn y → turn ≡ Waits → call_phase y.call.stage ≡ Running
+runs_on hears x y turn h s e = stands x y turn (subst (λ (b : Bool). CallHeeds b x turn y) h s) ∙ ap phase_after e
+
+pub goes_on : (hears : Bool) (x y : Standing) (turn : Turn (Result PdAnswer Error)) → hears ≡ true → Went hears x y → calls y.out ≤ calls x.out → CallHeeds hears x turn y → turn ≡ Waits → AwaitsLast y.call y.out
+goes_on hears x y turn h w few s e = awaits_last hears x y h w few (runs_on hears x y turn h s e)
+
+-- A look-up that is out is the one that is waited for.
+
+one_awaited : (g : Stage) (a b : Awaited) → call_waits g a → call_waits g b → a ≡ b
+one_awaited stage.Fresh a b v w = absurd v
+one_awaited (stage.Sent n) a b v w = v ∙ sym w
+one_awaited (stage.Asked n) a b v w = v ∙ sym w
+one_awaited (stage.Reconnecting n lost) a b v w = v ∙ sym w
+one_awaited (stage.Resting n lost) a b v w = v ∙ sym w
+one_awaited stage.Over a b v w = absurd v
+one_awaited stage.Stopped a b v w = absurd v
+
+held_fits : (call : PdCall) (g : CutStage) (o : Posted) (h : List Event) → Holds call g → CutAt g o h → CallFits call o h
+held_fits call search.Fresh o h i f = absurd i
+held_fits call (search.Asking c n) o h i f = subst (λ (d : PdCall). CallFits d o h) i.0 f.0
+held_fits call (search.Resting c n) o h i f = subst (λ (d : PdCall). CallFits d o h) i.0 f.0
+held_fits call search.Over o h i f = absurd i
+held_fits call search.Stopped o h i f = absurd i
+
+held_at : (call : PdCall) (g : CutStage) (o : Posted) (h : List Event) → Holds call g → CallFits call o h → CutAt g o h
+held_at call search.Fresh o h i f = absurd i
+held_at call (search.Asking c n) o h i f = (rw i.0 f, rw i.0 i.1)
+held_at call (search.Resting c n) o h i f = (rw i.0 f, rw i.0 i.1)
+held_at call search.Over o h i f = absurd i
+held_at call search.Stopped o h i f = absurd i
+
+held_waits : (call : PdCall) (g : CutStage) (a : Awaited) → Holds call g → call_waits call.stage a → cut_waits g a
+held_waits call search.Fresh a i w = absurd i
+held_waits call (search.Asking c n) a i w = one_awaited call.stage a (ReplyTo n) w i.1
+held_waits call (search.Resting c n) a i w = one_awaited call.stage a (EndOf n) w i.1
+held_waits call search.Over a i w = absurd i
+held_waits call search.Stopped a i w = absurd i
+
+pub waits_held : (call : PdCall) (g : CutStage) (a : Awaited) → Holds call g → cut_waits g a → call_waits call.stage a
+waits_held call search.Fresh a i w = absurd i
+waits_held call (search.Asking c n) a i w = rw w i.1
+waits_held call (search.Resting c n) a i w = rw w i.1
+waits_held call search.Over a i w = absurd i
+waits_held call search.Stopped a i w = absurd i
+
+held_runs : (call : PdCall) (g : CutStage) → Holds call g → cut_phase g ≡ Running
+held_runs call search.Fresh i = absurd i
+held_runs call (search.Asking c n) i = refl
+held_runs call (search.Resting c n) i = refl
+held_runs call search.Over i = absurd i
+held_runs call search.Stopped i = absurd i
+
+MayAsk-place : (s : PdCall) (h : List Event) (r : Request) → MayAsk s h r → IsPlacement h r
+MayAsk-place s h r (inl a) = inl (s.query, a)
+MayAsk-place s h r (inr a) = inr a
+
+never_fails : {A : Type 0} (turn : Turn A) → failing (λ v. false) turn ≡ false
+never_fails Stopped = refl
+never_fails Waits = refl
+never_fails (Ends v) = refl
+
+both_moves : {A : Type 0} {was mid is : List Event → Type 0} {hear : List Event → List Event} {gives : List Event → A → Type 0} {from via to : Posted} (p : Turn (Result PdAnswer Error)) {turn : Turn A}
+    → (p ≡ Stopped → (turn ≡ Stopped) × (to ≡ via))
+    → Moves IsPlacement was mid (λ h (v : Result PdAnswer Error). ⊤) hear from via p
+    → Moves IsPlacement mid is gives (λ h. h) via to turn
+    → Moves IsPlacement was is gives hear from to turn
+both_moves Stopped stops first s = let e = stops refl in rw e.1 (Moves-stops first e.0)
+both_moves Waits stops first s = Moves-then first (Moves-before (λ h k. k.0) s)
+both_moves (Ends v) stops first s = Moves-then first (Moves-before (λ h k. k.0) s)
+
+-- The steps of the search.
+module _ {S A H L : Type 0} (m : Meaning S A) (is_part : S → S → Type 0) (load : S → L) (are_cut : L → List L → Type 0) where
+  -- it gave up, and nothing was posted
+  pub stopped : {known : List Event → Type 0} {was : Awaited → Type 0} {c : Looking S H} {o : Posted} → c.stage ≡ search.Stopped → LooksOn m is_part load are_cut known was c c o o Stopped
+  stopped {c = c} e = record {
+    moves = Moves-quiet refl tt tt;
+    expects = Expects-quiet (λ a w. absurd (rw e at w));
+    next = ap cut_phase e;
+    parts = tt;
+    wider = le_refl c.width;
+    wide = tt;
+    plan = refl;
+    calls = le_refl _;
+    sleeps = le_refl _;
+  }
+
+  -- it has answered
+  pub ended : {known : List Event → Type 0} {was : Awaited → Type 0} {old new : Looking S H} {o : Posted} (v : Result (Vec (Part S)) Error)
+      → new.stage ≡ search.Over → new.plan ≡ old.plan → new.width ≡ old.width → GivesParts m is_part load are_cut old.plan v → AreWithin new.width v
+      → LooksOn m is_part load are_cut known was old new o o (Ends v)
+  ended v over same width parts wide = record {
+    moves = Moves-quiet refl (λ h k. rw over tt) (λ h k. parts);
+    expects = Expects-quiet (λ a w. absurd (rw over at w));
+    next = ap cut_phase over;
+    parts = parts;
+    wider = rw width (le_refl _);
+    wide = wide;
+    plan = same;
+    calls = le_refl _;
+    sleeps = le_refl _;
+  }
+
+  -- it waits for what was posted before
+  pub waiting : {old new : Looking S H} {call : PdCall} {o : Posted}
+      → Holds call new.stage → new ≡ record old { stage = new.stage }
+      → LooksOn m is_part load are_cut (λ h. CallFits call o h) (call_waits call.stage) old new o o Waits
+  waiting {old = old} {new = new} {call = call} {o = o} held e = record {
+    moves = Moves-quiet refl (λ h f. held_at call new.stage o h held f) tt;
+    expects = Expects-quiet (λ a w. (waits_held call new.stage a held w, λ x. x));
+    next = held_runs call new.stage held;
+    parts = tt;
+    wider = rw (ap (λ (c : Looking S H). c.width) e) (le_refl _);
+    wide = tt;
+    plan = ap (λ (c : Looking S H). c.plan) e;
+    calls = le_refl _;
+    sleeps = le_refl _;
+  }
+
+  -- a step that rests on nothing, after a change of what was found
+  pub from_mid : {known : List Event → Type 0} {was : Awaited → Type 0} {old mid new : Looking S H} {from to : Posted} {turn : Turn (Result (Vec (Part S)) Error)}
+      → mid.plan ≡ old.plan → old.width ≤ mid.width
+      → LooksOn m is_part load are_cut (λ h. ⊤) (λ a. ⊥) mid new from to turn
+      → LooksOn m is_part load are_cut known was old new from to turn
+  from_mid {old = old} {mid = mid} {new = new} {from = from} {to = to} {turn = turn} same wider s = record {
+    moves = Moves-before (λ h k. tt) (subst (λ (p : S). Moves IsPlacement (λ h. ⊤) (λ h. CutAt new.stage to h) (λ h. GivesParts m is_part load are_cut p) (λ h. h) from to turn) same s.moves);
+    expects = let e = s.expects in record { sends = e.sends; pushed = e.pushed; only = λ a w. elim (e.only a w) [ inl x ↦ absurd x.0 | inr p ↦ inr p ] };
+    next = s.next;
+    parts = subst (λ (p : S). IfEnds turn (GivesParts m is_part load are_cut p)) same s.parts;
+    wider = le_trans wider s.wider;
+    wide = s.wide;
+    plan = s.plan ∙ same;
+    calls = s.calls;
+    sleeps = s.sleeps;
+  }
+
+  -- a call of a look-up, and what comes of it
+  pub after_call : {known : List Event → Type 0} {was : Awaited → Type 0} {old new : Looking S H} {call : PdCall} {from via to : Posted} {p : Turn (Result PdAnswer Error)} {turn : Turn (Result (Vec (Part S)) Error)}
+      → p ≢ Stopped
+      → Moves IsPlacement known (λ h. CallFits call via h) (λ h v. ⊤) (λ h. h) from via p
+      → Expects was (call_waits call.stage) (λ a. ⊥) from via
+      → calls via ≤ calls from → sleeps via ≤ sleeps from
+      → LooksOn m is_part load are_cut (λ h. CallFits call via h) (call_waits call.stage) old new via to turn
+      → LooksOn m is_part load are_cut known was old new from to turn
+  after_call {p = p} kept first waits few awake s = record {
+    moves = Moves-then first (Moves-before (λ h k. IfKept-out p kept k.0) s.moves);
+    expects = Expects-then waits s.expects;
+    next = s.next;
+    parts = s.parts;
+    wider = s.wider;
+    wide = s.wide;
+    plan = s.plan;
+    calls = le_trans s.calls few;
+    sleeps = le_trans s.sleeps awake;
+  }
+
+  lifted : {told : Told} (old : Looking S H) {call call' : PdCall} {from via : Posted} {p : Turn (Result PdAnswer Error)}
+      → Holds call old.stage → Tells looked_up told call call' from via p
+      → Moves IsPlacement (λ h. CutAt old.stage from h × told.known h) (λ h. CallFits call' via h) (λ h (v : Result PdAnswer Error). ⊤) told.hear from via p
+  lifted {told = told} old {call = call} {from = from} held t =
+      Moves-map told.within (λ h f. (held_fits call old.stage from h held f.0, f.1)) (λ h f k r a. MayAsk-place call k r a) (λ h f k w i. i) (λ h f k v g. tt) t.moves
+
+  -- an event of the look-up is an event of the search
+  pub heard : {told : Told} {old mid new : Looking S H} {a : Awaited} {call call' : PdCall} {from via to : Posted} {p : Turn (Result PdAnswer Error)} {turn : Turn (Result (Vec (Part S)) Error)}
+      → IsTaken a old mid call
+      → Tells looked_up told call call' from via p
+      → (p ≡ Stopped → (turn ≡ Stopped) × (to ≡ via))
+      → LooksOn m is_part load are_cut (λ h. CallFits call' via h) (call_waits call'.stage) mid new via to turn
+      → Tells (cutting m is_part load are_cut) told old new from to turn
+  heard {told = told} {old = old} {mid = mid} {new = new} {call = call} {call' = call'} {from = from} {via = via} {to = to} {p = p} {turn = turn} taken t stops s =
+      let plan : mid.plan ≡ old.plan = ap (λ (c : Looking S H). c.plan) taken.same in
+      let e = t.expects in
+      let first : Expects (cut_waits old.stage) (call_waits call'.stage) told.heard from via =
+      record { sends = e.sends; pushed = e.pushed; only = λ b w. elim (e.only b w) [ inl x ↦ inl (held_waits call old.stage b taken.held x.0, x.1) | inr x ↦ inr x ] } in
+      record {
+        moves = both_moves p stops (lifted old taken.held t) (subst (λ (q : S). Moves IsPlacement (λ h. CallFits call' via h) (λ h. CutAt new.stage to h) (λ h. GivesParts m is_part load are_cut q) (λ h. h) via to turn) plan s.moves);
+        job = record { asked = λ h r x. x; given = λ h v g. rw (s.plan ∙ plan) at g; gave = λ h v g. rw (s.plan ∙ plan) g };
+        expects = Expects-then first s.expects;
+      }
+
+  -- no call of a store is made
+  pub counted : {bad fails : Bool} {weight locked : ℕ} {old new : Looking S H} {from to : Posted} {turn : Turn (Result (Vec (Part S)) Error)}
+      → old.width ≤ new.width → calls to ≤ calls from → sleeps to ≤ sleeps from + spare fails false 1
+      → Counts (cutting m is_part load are_cut) bad fails weight locked old new from to turn
+  counted {bad = bad} {fails = fails} {weight = weight} {locked = locked} {old = old} {new = new} {from = from} {to = to} {turn = turn} wider few awake = record {
+    spends = subst (λ (f : Bool). Spends (λ w. ⊤) (λ w. ⊤) (λ n. 0) (λ n. 0) (λ n. 0) bad fails weight locked old.width new.width from to (is_kept turn) f) (sym (never_fails turn)) (record {
+      wider = wider;
+      bears = λ k w u. tt;
+      allowed = λ k f. absurd (false≢true f);
+      spends = λ k n w u l b. omega arith;
+      stopped = λ n w u l b. omega arith;
+      rests = λ k. omega arith;
+      stopped_rests = omega arith;
+    });
+    fewer = λ n. le_refl 0;
+  }
+
+  -- so far the search asked no store, and it goes on so after an event of its look-up
+  pub counted_after : {bad bad' fails : Bool} {weight locked : ℕ} {old mid new : Looking S H} {a : Awaited} {call : PdCall} {from via to : Posted} {turn : Turn (Result (Vec (Part S)) Error)} {known : List Event → Type 0} {was : Awaited → Type 0}
+      (call' : PdCall) (p : Turn (Result PdAnswer Error))
+      → (bad ≡ true → fails ≡ true)
+      → IsTaken a old mid call
+      → CallSpends call call' bad from via p
+      → LooksOn m is_part load are_cut known was mid new via to turn
+      → Counts (cutting m is_part load are_cut) bad' fails weight locked old new from to turn
+  counted_after {bad = bad} {fails = fails} {call = call} {from = from} {via = via} call' p f taken spent s =
+      counted (rw (ap (λ (c : Looking S H). c.width) taken.same) at s.wider)
+      (le_trans s.calls (calls_none bad call call' from via p taken.place spent))
+      (let x = s.sleeps in let y = spent.stopped_rests in let z = spare-more bad fails false 1 f in omega arith)
+
+  -- it sends its first try
+  pub asked : {old new : Looking S H} {call call' : PdCall} {from to : Posted} {turn : Turn (Result (Vec (Part S)) Error)} (p : Turn (Result PdAnswer Error)) (q : PdQuery)
+      → IsPlaceQuery q → call ≡ fresh q → p ≢ Stopped
+      → Tells looked_up started call call' from to p
+      → CallSpends call call' false from to p
+      → LooksOn m is_part load are_cut (λ h. CallFits call' to h) (call_waits call'.stage) old new to to turn
+      → LooksOn m is_part load are_cut (λ h. ⊤) (λ a. ⊥) old new from to turn
+  asked {call = call} {call' = call'} {from = from} {to = to} p q place e kept t spent s =
+      after_call kept
+      (Moves-map Within-refl (λ h k. (rw e (let u = fresh-unbegun q in u.fits from h), tt)) (λ h f k r a. MayAsk-place call k r a) (λ h f k w i. i) (λ h f k v g. tt) t.moves)
+      (let x = t.expects in record { sends = x.sends; pushed = x.pushed; only = λ a w. elim (x.only a w) [ inl y ↦ absurd (rw e at y.0) | inr y ↦ inr y ] })
+      (calls_none false call call' from to p (rw e place) spent)
+      (let y = spent.stopped_rests in omega arith)
+      s
+
+  -- an event that is not for the search
+  pub unmoved : {told : Told} {old new : Looking S H} {o : Posted} {turn : Turn (Result (Vec (Part S)) Error)} (a : Awaited)
+      → ((b : Awaited) → told.heard b → b ≡ a)
+      → (new ≡ old) × (cut_waits old.stage a → ⊥)
+      → turn ≡ unheard (cut_phase new.stage)
+      → Tells (cutting m is_part load are_cut) told old new o o turn
+  unmoved {told = told} {old = old} {turn = turn} a heard stays e =
+      rw stays.0 (Tells-idle (cutting-lawful m is_part load are_cut) (λ b h w. stays.1 (rw (heard b h) at w)) (rw stays.0 at e))

@@ -1,0 +1,10 @@
+use Rattle.txn_history.proofs.Numbering.{Moves-numbers}
+use Rattle.txn_history.proofs.Telling.{Tells-idle}
+use Rattle.txn_multi.specs.Cutting.{cutting-lawful}
+use Rattle.txn_multi.proofs.cutting.Cutting.start.Goals as goal
+
+pub returns-then-is_fresh-clause-numbers : goal.returns-then-is_fresh-clause-numbers
+returns-then-is_fresh-clause-numbers g c = let s = c.look.ensures.on in Moves-numbers s.moves c.requires.numbers
+
+pub returns-else-is_fresh-clause-tells : goal.returns-else-is_fresh-clause-tells
+returns-else-is_fresh-clause-tells g c = Tells-idle (cutting-lawful g.P.Plan.meaning g.P.Shardable.IsPart g.P.Shardable.load g.P.Shardable.AreCut) (λ a heard w. heard) c.stay.ensures

@@ -1,0 +1,5 @@
+use Rattle.txn_multi.proofs.Multis.{begins_refused}
+use Rattle.txn_multi.proofs.multi_region.RetryableMultiRegion.after_cut.Goals as goal
+
+pub returns-clause-after : goal.returns-clause-after
+returns-clause-after g c = rw (c.in_ok-turn.was, c.in-Done-Err.is, c.refuse.ensures.turn, c.refuse.ensures.state) (begins_refused g.P.Plan.meaning g.P.Result.HasKeyErrors.key_errors_in g.P.Result.HasRegionError.region_error_in g.P.Shardable.IsPart g.P.Shardable.load g.P.Shardable.AreCut c.args.self.now c.in-Done-Err.error c.requires.inner c.requires.none)

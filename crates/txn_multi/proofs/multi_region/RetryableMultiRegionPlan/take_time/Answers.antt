@@ -1,0 +1,5 @@
+use Rattle.txn_multi.proofs.multi_region.RetryableMultiRegionPlan.take_time.Goals as goal
+use Rattle.txn_tso.specs.Calling.{members}
+
+pub returns-clause-tells : goal.returns-clause-tells
+returns-clause-tells g c = c.tell.ensures.tells members

@@ -1,0 +1,16 @@
+use Rattle.std.proofs.Common.{refl, ap, sym}
+use Rattle.txn_retry.specs.Remedy.{delay_ms}
+use Rattle.txn_retry.specs.declared.remedy.Remedy.{Remedy}
+use Rattle.txn_multi.proofs.Retrying.{keeps_at, may_refuse, step_stopped, Over-before, Over-mid, Over-stopped}
+use Rattle.txn_multi.proofs.task.RegionTask.take_region_error.Goals as goal
+
+pub returns-in_err-failure-clause-over : goal.returns-in_err-failure-clause-over
+returns-in_err-failure-clause-over g c = Over-stopped _ _ _ _ _ _ g.met.P.Plan.lawful c.args.self.now _ refl refl c.requires.stopped (step_stopped c.from_residual.result c.from_residual.ensures.0)
+
+pub returns-clause-over : goal.returns-clause-over
+returns-clause-over g c = Over-before
+    (λ h f. may_refuse g.P.Plan.meaning g.P.Result.HasKeyErrors.key_errors_in g.P.Result.HasRegionError.region_error_in c.args.self.now.region c.args.self.now.job c.args.error (delay_ms c.args.self.now.backoff) _ _ h (ap (λ (r : Remedy). r.next) (sym c.on_region_error-remedy.ensures.remedy)) c.in_ok-failure.ensures f)
+    (Over-mid (record { asked = λ h r x. x; given = λ h v x. x; gave = λ h v x. x }) c.heed.ensures.over)
+
+pub returns-clause-keeps : goal.returns-clause-keeps
+returns-clause-keeps g c = keeps_at _ _ _ _ _ _ c.args.self.now _ _ refl c.heed.ensures.keeps

@@ -1,0 +1,6 @@
+pub mod Arrivals
+pub mod Cutting
+pub mod Multi
+pub mod Searching
+pub mod Shown
+pub mod Task

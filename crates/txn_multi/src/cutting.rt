@@ -1,0 +1,414 @@
+//! A plan whose request is being cut into shards.
+ghost use Rattle.std.specs.Bool.{MatchBool};
+ghost use Rattle.std.specs.Prelude.{◌≡◌, ◌≤◌, ◌++◌, ◌∷◌, [], ⊤, IfOk, IfSome, MatchOption, None, Ok, OnOk, false, length, map, true};
+ghost use Rattle.txn_history.specs.Faults.{has_error, has_region_error};
+ghost use Rattle.txn_history.specs.Meaning.{missed, replied, started, woken, Counts, Goes, IsUnbegun, Tells};
+ghost use Rattle.txn_history.specs.Phase.{unheard};
+ghost use Rattle.txn_history.specs.Phase.Awaited.{EndOf, ReplyTo};
+ghost use Rattle.txn_history.specs.Phase.Phase.{Fresh};
+ghost use Rattle.txn_history.specs.Posted.{HasNumbers, Posted, ticket_of};
+ghost use Rattle.txn_history.specs.Spends.{locked_of, weight_of};
+ghost use Rattle.txn_history.specs.Turn.{turn_of, IfEnds};
+ghost use Rattle.txn_history.specs.Turn.Turn.{Ends, Stopped, Waits};
+ghost use Rattle.txn_kv.specs.declared.request.Request.{Request as Asked};
+ghost use Rattle.txn_multi.specs.Cutting.{cut_phase, cut_waits, cutting, AreApplied, AreWithin, GivesParts};
+ghost use Rattle.txn_multi.specs.Searching.{AwaitsLast, Holds, IsTaken, LooksOn};
+ghost use Rattle.txn_plan.specs.LookUp.{call_waits};
+ghost use Rattle.txn_region.specs.Clients.{IsPlaceQuery};
+ghost use Rattle.txn_shard.specs.Shards.{shards_of};
+ghost use Rattle.txn_tso.specs.Calling.{CallFits};
+
+use crate::cut_stage::CutStage;
+use crate::part::Part;
+use std::alloc::Global;
+use std::marker::Model;
+use std::mem;
+use txn_kv::{Errand, Error, NoMemory, Outbox, PdAnswer, PdQuery, Progress, Reply, Result};
+use txn_plan::ShardPlan;
+use txn_region::{PdClient, RegionStore};
+use txn_shard::ShardList;
+use txn_tso::PdCall;
+
+/// What an event of a state answers.
+type Turn<T> = std::result::Result<Progress<T>, NoMemory>;
+
+/// Looks up the regions and stores of a plan's request, one after the other, and makes a plan for each shard. The first
+/// look-up that fails is the answer.
+#[derive(Drop)]
+pub struct Cutting<P: ShardPlan> {
+    plan: P,
+    found: ShardList<P::Shard>,
+    stage: CutStage,
+    /// How many shards were found so far.
+    width: usize,
+    alloc: Global,
+}
+
+impl<P: ShardPlan> Model for Cutting<P> {
+    ghost use Rattle.std.specs.Prelude.{◌≤◌, length};
+    ghost use Rattle.txn_multi.specs.Cutting.{Looking};
+    ghost use Rattle.txn_multi.specs.Searching.{IsOut};
+
+    ghost Value = { Looking P P.Shard };
+
+    ghost view = { λ c. record { plan = c.plan; found = c.found; stage = c.stage; width = c.width } };
+
+    ghost invariant = { λ c. P.IsFound c.plan c.found × (length c.found.shards.items ≤ c.width) × IsOut c.stage };
+}
+
+impl<P: ShardPlan> Cutting<P> {
+    /// Nothing is looked up yet. Takes no memory.
+    pub fn new(alloc: Global, plan: P) -> Cutting<P>
+        ensures plan { result.plan ≡ plan }
+        ensures unbegun { IsUnbegun (cutting P.meaning P.IsPart P.load P.AreCut) result }
+    {
+        Cutting {
+            plan,
+            found: ShardList::new(alloc),
+            stage: CutStage::Fresh,
+            width: 0,
+            alloc,
+        }
+    }
+
+    /// Looks for the first shards.
+    pub fn start<C: PdClient>(
+        &mut self,
+        pd: &mut C,
+        now: u64,
+        out: &mut Outbox,
+    ) -> Turn<Vec<Part<P>>>
+        requires ready { IsUnbegun P.meaning self.old.plan }
+        requires numbers { HasNumbers out.old }
+        ensures tells { Tells (cutting P.meaning P.IsPart P.load P.AreCut) started self.old self.new out.old out.new (turn_of result) }
+        ensures goes { Goes (λ c. cut_phase c.stage) (cut_phase self.old.stage ≡ Fresh) self.old self.new out.old out.new pd.old pd.new (turn_of result) }
+        ensures counts { Counts (cutting P.meaning P.IsPart P.load P.AreCut) false false 0 0 self.old self.new out.old out.new (turn_of result) }
+        ensures parts { IfEnds (turn_of result) (GivesParts P.meaning P.IsPart P.load P.AreCut self.old.plan) }
+        ensures wide { IfEnds (turn_of result) (AreWithin self.new.width) }
+        ensures plan { self.new.plan ≡ self.old.plan }
+        ensures ready { IsUnbegun P.meaning self.new.plan }
+        ensures numbers { HasNumbers out.new }
+    {
+        if self.is_fresh() {
+            self.stage = CutStage::Stopped;
+            self.look(pd, now, out)
+        } else {
+            self.stay()
+        }
+    }
+
+    /// The reply to the request of this number came.
+    pub fn take_reply<C: PdClient>(
+        &mut self,
+        pd: &mut C,
+        now: u64,
+        number: u64,
+        reply: Reply,
+        out: &mut Outbox,
+    ) -> Turn<Vec<Part<P>>>
+        requires ready { IsUnbegun P.meaning self.old.plan }
+        requires numbers { HasNumbers out.old }
+        ensures tells { (r : Asked) → Tells (cutting P.meaning P.IsPart P.load P.AreCut) (replied (ticket_of out.old number) r reply) self.old self.new out.old out.new (turn_of result) }
+        ensures goes { Goes (λ c. cut_phase c.stage) (cut_waits self.old.stage (ReplyTo number)) self.old self.new out.old out.new pd.old pd.new (turn_of result) }
+        ensures counts { Counts (cutting P.meaning P.IsPart P.load P.AreCut) (has_error reply) (has_region_error reply) (weight_of reply) (locked_of reply) self.old self.new out.old out.new (turn_of result) }
+        ensures parts { IfEnds (turn_of result) (GivesParts P.meaning P.IsPart P.load P.AreCut self.old.plan) }
+        ensures wide { IfEnds (turn_of result) (AreWithin self.new.width) }
+        ensures plan { self.new.plan ≡ self.old.plan }
+        ensures ready { IsUnbegun P.meaning self.new.plan }
+        ensures numbers { HasNumbers out.new }
+    {
+        match self.take_asking(number) {
+            Some(call) => {
+                let mut call = call;
+                let turn = call.take_reply(pd.retry_client(), now, number, reply, out);
+                self.hear(call, turn, pd, now, out)
+            }
+            None => self.stay(),
+        }
+    }
+
+    /// No reply to the request of this number will come.
+    pub fn lost<C: PdClient>(
+        &mut self,
+        pd: &mut C,
+        now: u64,
+        number: u64,
+        out: &mut Outbox,
+    ) -> Turn<Vec<Part<P>>>
+        requires ready { IsUnbegun P.meaning self.old.plan }
+        requires numbers { HasNumbers out.old }
+        ensures tells { (r : Asked) → Tells (cutting P.meaning P.IsPart P.load P.AreCut) (missed (ticket_of out.old number) r) self.old self.new out.old out.new (turn_of result) }
+        ensures goes { Goes (λ c. cut_phase c.stage) (cut_waits self.old.stage (ReplyTo number)) self.old self.new out.old out.new pd.old pd.new (turn_of result) }
+        ensures counts { Counts (cutting P.meaning P.IsPart P.load P.AreCut) true true 0 0 self.old self.new out.old out.new (turn_of result) }
+        ensures parts { IfEnds (turn_of result) (GivesParts P.meaning P.IsPart P.load P.AreCut self.old.plan) }
+        ensures wide { IfEnds (turn_of result) (AreWithin self.new.width) }
+        ensures plan { self.new.plan ≡ self.old.plan }
+        ensures ready { IsUnbegun P.meaning self.new.plan }
+        ensures numbers { HasNumbers out.new }
+    {
+        match self.take_asking(number) {
+            Some(call) => {
+                let mut call = call;
+                let turn = call.lost(pd.retry_client(), now, number, out);
+                self.hear(call, turn, pd, now, out)
+            }
+            None => self.stay(),
+        }
+    }
+
+    /// The sleep of this number has ended.
+    pub fn slept<C: PdClient>(
+        &mut self,
+        pd: &mut C,
+        now: u64,
+        number: u64,
+        out: &mut Outbox,
+    ) -> Turn<Vec<Part<P>>>
+        requires ready { IsUnbegun P.meaning self.old.plan }
+        requires numbers { HasNumbers out.old }
+        ensures tells { Tells (cutting P.meaning P.IsPart P.load P.AreCut) (woken (ticket_of out.old number)) self.old self.new out.old out.new (turn_of result) }
+        ensures goes { Goes (λ c. cut_phase c.stage) (cut_waits self.old.stage (EndOf number)) self.old self.new out.old out.new pd.old pd.new (turn_of result) }
+        ensures counts { Counts (cutting P.meaning P.IsPart P.load P.AreCut) false false 0 0 self.old self.new out.old out.new (turn_of result) }
+        ensures parts { IfEnds (turn_of result) (GivesParts P.meaning P.IsPart P.load P.AreCut self.old.plan) }
+        ensures wide { IfEnds (turn_of result) (AreWithin self.new.width) }
+        ensures plan { self.new.plan ≡ self.old.plan }
+        ensures ready { IsUnbegun P.meaning self.new.plan }
+        ensures numbers { HasNumbers out.new }
+    {
+        match self.take_resting(number) {
+            Some(call) => {
+                let mut call = call;
+                let turn = call.slept(pd.retry_client(), now, number, out);
+                self.hear(call, turn, pd, now, out)
+            }
+            None => self.stay(),
+        }
+    }
+
+    fn is_fresh(&self) -> bool
+        ensures { MatchBool result (self.now.stage ≡ CutStage.Fresh) (cut_phase self.now.stage ≡ Fresh → ⊥) }
+    {
+        matches!(self.stage, CutStage::Fresh)
+    }
+
+    /// What comes of an event that is not for this state. The connection is lent to no look-up then.
+    pub(crate) fn stay(&self) -> Turn<Vec<Part<P>>>
+        ensures { turn_of result ≡ unheard (cut_phase self.now.stage) }
+    {
+        match self.stage {
+            CutStage::Stopped => Err(NoMemory),
+            _ => Ok(Progress::Waiting),
+        }
+    }
+
+    /// Takes the look-up that waits for the reply to this request.
+    fn take_asking(&mut self, number: u64) -> Option<PdCall>
+        ensures { MatchOption result ((self.new ≡ self.old) × (cut_waits self.old.stage (ReplyTo number) → ⊥)) (IsTaken (ReplyTo number) self.old self.new) }
+    {
+        match mem::replace(&mut self.stage, CutStage::Stopped) {
+            CutStage::Asking {
+                call,
+                number: asked,
+            } if asked == number => Some(call),
+            stage => {
+                self.stage = stage;
+                None
+            }
+        }
+    }
+
+    /// Takes the look-up that waits for the end of this sleep.
+    fn take_resting(&mut self, number: u64) -> Option<PdCall>
+        ensures { MatchOption result ((self.new ≡ self.old) × (cut_waits self.old.stage (EndOf number) → ⊥)) (IsTaken (EndOf number) self.old self.new) }
+    {
+        match mem::replace(&mut self.stage, CutStage::Stopped) {
+            CutStage::Resting {
+                call,
+                number: begun,
+            } if begun == number => Some(call),
+            stage => {
+                self.stage = stage;
+                None
+            }
+        }
+    }
+
+    /// Goes on after an event of the look-up.
+    fn hear<C: PdClient>(
+        &mut self,
+        call: PdCall,
+        turn: Turn<PdAnswer>,
+        pd: &mut C,
+        now: u64,
+        out: &mut Outbox,
+    ) -> Turn<Vec<Part<P>>>
+        requires stopped { self.old.stage ≡ CutStage.Stopped }
+        requires ready { IsUnbegun P.meaning self.old.plan }
+        requires place { IsPlaceQuery call.query }
+        requires waits { turn_of turn ≡ Waits → AwaitsLast call out.old }
+        requires numbers { HasNumbers out.old }
+        ensures stops { turn_of turn ≡ Stopped → (turn_of result ≡ Stopped) × (out.new ≡ out.old) }
+        ensures on { LooksOn P.meaning P.IsPart P.load P.AreCut (λ h. CallFits call out.old h) (call_waits call.stage) self.old self.new out.old out.new (turn_of result) }
+    {
+        match turn? {
+            Progress::Waiting => self.wait(call, out),
+            Progress::Done(answer) => self.learn(call, answer, pd, now, out),
+        }
+    }
+
+    /// The look-up waits for what was posted last.
+    fn wait(&mut self, call: PdCall, out: &Outbox) -> Turn<Vec<Part<P>>>
+        requires place { IsPlaceQuery call.query }
+        requires waits { AwaitsLast call out.now }
+        ensures turn { turn_of result ≡ Waits }
+        ensures holds { Holds call self.new.stage }
+        ensures state { self.new ≡ record self.old { stage = self.new.stage } }
+    {
+        self.stage = match out.sends.as_slice().last() {
+            Some(Errand::Send { number, .. }) => CutStage::Asking {
+                call,
+                number: *number,
+            },
+            Some(Errand::Sleep { number, .. }) => CutStage::Resting {
+                call,
+                number: *number,
+            },
+            _ => unreachable!(),
+        };
+        Ok(Progress::Waiting)
+    }
+
+    /// Takes what came of a look-up, and looks for more shards.
+    fn learn<C: PdClient>(
+        &mut self,
+        call: PdCall,
+        answer: Result<PdAnswer>,
+        pd: &mut C,
+        now: u64,
+        out: &mut Outbox,
+    ) -> Turn<Vec<Part<P>>>
+        requires stopped { self.old.stage ≡ CutStage.Stopped }
+        requires ready { IsUnbegun P.meaning self.old.plan }
+        requires numbers { HasNumbers out.old }
+        ensures on { LooksOn P.meaning P.IsPart P.load P.AreCut (λ h. ⊤) (λ a. ⊥) self.old self.new out.old out.new (turn_of result) }
+    {
+        match pd.learn(call.query(), &answer) {
+            Ok(()) => self.look(pd, now, out),
+            Err(error) => self.refuse(error),
+        }
+    }
+
+    /// Looks for the next shards.
+    fn look<C: PdClient>(&mut self, pd: &mut C, now: u64, out: &mut Outbox) -> Turn<Vec<Part<P>>>
+        requires stopped { self.old.stage ≡ CutStage.Stopped }
+        requires ready { IsUnbegun P.meaning self.old.plan }
+        requires numbers { HasNumbers out.old }
+        ensures on { LooksOn P.meaning P.IsPart P.load P.AreCut (λ h. ⊤) (λ a. ⊥) self.old self.new out.old out.new (turn_of result) }
+    {
+        match self.find(pd) {
+            Ok(Some(query)) => self.ask(query, pd, now, out),
+            Ok(None) => self.end(),
+            Err(error) => self.refuse(error),
+        }
+    }
+
+    /// Finds as many shards as are known, and then the query that has to be asked.
+    fn find<C: PdClient>(&mut self, pd: &mut C) -> Result<Option<PdQuery>>
+        ensures same { (self.new.plan ≡ self.old.plan) × (self.new.stage ≡ self.old.stage) }
+        ensures wider { self.old.width ≤ self.new.width }
+        ensures all { result ≡ Ok None → P.AreCut (P.load self.old.plan) (map P.load_of (shards_of self.new.found)) }
+        ensures place { IfOk result (λ query. IfSome query IsPlaceQuery) }
+    {
+        let query = self.plan.shards(self.alloc, pd, &mut self.found);
+        self.width = self.width.max(self.found.shards.len());
+        query
+    }
+
+    /// Sends a look-up.
+    fn ask<C: PdClient>(
+        &mut self,
+        query: PdQuery,
+        pd: &mut C,
+        now: u64,
+        out: &mut Outbox,
+    ) -> Turn<Vec<Part<P>>>
+        requires stopped { self.old.stage ≡ CutStage.Stopped }
+        requires place { IsPlaceQuery query }
+        requires numbers { HasNumbers out.old }
+        ensures on { LooksOn P.meaning P.IsPart P.load P.AreCut (λ h. ⊤) (λ a. ⊥) self.old self.new out.old out.new (turn_of result) }
+    {
+        let mut call = pd.call(query);
+        let progress = call.start(pd.retry_client(), now, out)?;
+        pass_over(progress);
+        self.wait(call, out)
+    }
+
+    /// All shards are found.
+    fn end(&mut self) -> Turn<Vec<Part<P>>>
+        requires stopped { self.old.stage ≡ CutStage.Stopped }
+        requires ready { IsUnbegun P.meaning self.old.plan }
+        requires all { P.AreCut (P.load self.old.plan) (map P.load_of (shards_of self.old.found)) }
+        ensures on { (o : Posted) → LooksOn P.meaning P.IsPart P.load P.AreCut (λ h. ⊤) (λ a. ⊥) self.old self.new o o (turn_of result) }
+    {
+        let found = mem::replace(&mut self.found, ShardList::new(self.alloc));
+        match parts_of(self.alloc, &self.plan, found.shards) {
+            Ok(parts) => self.answer(Ok(parts)),
+            Err(error) => self.refuse(error),
+        }
+    }
+
+    /// An error as the answer. Want of memory is none.
+    fn refuse(&mut self, error: Error) -> Turn<Vec<Part<P>>>
+        requires stopped { self.old.stage ≡ CutStage.Stopped }
+        ensures on { (o : Posted) → LooksOn P.meaning P.IsPart P.load P.AreCut (λ h. ⊤) (λ a. ⊥) self.old self.new o o (turn_of result) }
+    {
+        match error {
+            Error::OutOfMemory => Err(NoMemory),
+            error => self.answer(Err(error)),
+        }
+    }
+
+    fn answer(&mut self, answer: Result<Vec<Part<P>>>) -> Turn<Vec<Part<P>>>
+        ensures turn { turn_of result ≡ Ends answer }
+        ensures state { self.new ≡ record self.old { stage = CutStage.Over } }
+    {
+        self.stage = CutStage::Over;
+        Ok(Progress::Done(answer))
+    }
+}
+
+/// A look-up that was begun has no answer yet.
+fn pass_over(_progress: Progress<PdAnswer>) {}
+
+/// A plan for each shard.
+fn parts_of<P: ShardPlan>(
+    alloc: Global,
+    plan: &P,
+    shards: Vec<(P::Shard, RegionStore)>,
+) -> Result<Vec<Part<P>>>
+    requires { IsUnbegun P.meaning plan.now }
+    ensures { IfOk result (λ parts. AreApplied P.Applies plan.now shards.items parts.items) }
+{
+    let mut parts = Vec::new(alloc);
+    for (shard, store) in shards {
+        push(&mut parts, part_of(plan, shard, &store)?)?;
+    }
+    Ok(parts)
+}
+
+fn push<T: Drop>(items: &mut Vec<T>, item: T) -> std::result::Result<(), NoMemory>
+    ensures { OnOk result (items.new.items ≡ items.old.items ++ item ∷ []) }
+{
+    items.push(item)?;
+    Ok(())
+}
+
+fn part_of<P: ShardPlan>(plan: &P, shard: P::Shard, store: &RegionStore) -> Result<Part<P>>
+    requires { IsUnbegun P.meaning plan.now }
+    ensures { IfOk result (λ part. P.Applies plan.now shard store.now part.plan) }
+{
+    let mut part = plan.try_clone()?;
+    part.apply_shard(shard, store)?;
+    let region = store.region_with_leader.ver_id()?;
+    Ok(Part { plan: part, region })
+}

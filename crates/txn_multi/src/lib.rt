@@ -1,0 +1,21 @@
+//! A plan over many regions: its request is cut into shards, each of which is sent to its region and tried again.
+#![tactic(auto)]
+
+pub(crate) mod arrival;
+pub mod cut_stage;
+pub mod cutting;
+pub mod multi_region;
+pub mod multi_stage;
+pub mod part;
+pub mod region_plan;
+pub mod region_request;
+pub mod stage;
+pub mod task;
+#[cfg(test)]
+mod tests;
+
+pub use multi_region::RetryableMultiRegion;
+pub use part::Part;
+pub use region_plan::RegionPlan;
+pub use region_request::RegionRequest;
+pub use task::RegionTask;

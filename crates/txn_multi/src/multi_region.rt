@@ -1,0 +1,403 @@
+//! A plan over many regions.
+ghost use Rattle.std.specs.Prelude.{◌≡◌, ◌<◌, ◌^◌, Err, IfOk, None};
+ghost use Rattle.txn_history.specs.Meaning.{started, Counts, Goes, IsUnbegun, Tells};
+ghost use Rattle.txn_history.specs.Phase.{phase_after, unheard};
+ghost use Rattle.txn_history.specs.Phase.Phase.{Running};
+ghost use Rattle.txn_history.specs.Posted.{HasNumbers, Posted};
+ghost use Rattle.txn_history.specs.Turn.{turn_of, IfEnds};
+ghost use Rattle.txn_history.specs.Turn.Turn.{Ends, Waits};
+ghost use Rattle.txn_kv.specs.declared.request.Request.{Request as Asked};
+ghost use Rattle.txn_multi.specs.Arrivals.{awaited_as, is_bad, is_failure, locked_in, told_by, weight_in, MayArrive};
+ghost use Rattle.txn_multi.specs.Cutting.{cut_phase, cut_waits, ArePartsOf, GivesParts};
+ghost use Rattle.txn_multi.specs.Multi.{multi, multi-lawful, multi_phase, tasks_for, AfterCut, AfterTasks, Begins, Holding, IsAnswer};
+ghost use Rattle.txn_multi.specs.Task.{region_task, stage_runs};
+ghost use Rattle.txn_tasks.specs.Tasks.{tasks_phase, tasks_turn, AreReady, LeadsSomewhere};
+
+use crate::arrival::Arrival;
+use crate::cutting::Cutting;
+use crate::multi_stage::MultiStage;
+use crate::part::Part;
+use crate::region_plan::RegionPlan;
+use crate::task::{RegionTask, tasks_of};
+use std::alloc::Global;
+use std::mem;
+use txn_kv::{Backoff, NoMemory, Outbox, Progress, Reply, Result, Timestamp};
+use txn_merge::has_key_errors::HasKeyErrors;
+use txn_merge::has_region_error::HasRegionError;
+use txn_plan::{Plan, ShardPlan};
+use txn_region::PdClient;
+use txn_retry::{all_or_first, keep_all};
+use txn_tasks::Tasks;
+
+type Turn<P> = std::result::Result<Progress<Vec<Result<<P as Plan>::Result>>>, NoMemory>;
+
+/// How each task ended, once all have.
+type TasksTurn<P> = std::result::Result<Option<Vec<Result<Result<<P as Plan>::Result>>>>, NoMemory>;
+
+/// A plan whose request is cut into shards, of which each is sent to its region. All shards are found before any is sent. A
+/// shard that meets a region error or a loss is cut into shards again, as often as the backoff has attempts.
+#[derive(Drop)]
+pub struct RetryableMultiRegion<P: RegionPlan>
+where
+    P::Result: HasKeyErrors + HasRegionError,
+{
+    /// The plan, which is never begun itself.
+    inner: P,
+    pub backoff: Backoff,
+    /// Errors of regions are kept in their places. Else the first of them is the answer.
+    pub preserve_region_results: bool,
+    stage: MultiStage<P>,
+    /// Once all shards were found.
+    tasks: Option<Tasks<RegionTask<P>>>,
+    /// How many shards were found.
+    width: usize,
+    alloc: Global,
+}
+
+impl<P: RegionPlan> RetryableMultiRegion<P>
+where
+    P::Result: HasKeyErrors + HasRegionError,
+{
+    /// Takes no memory.
+    pub fn new(
+        alloc: Global,
+        inner: P,
+        backoff: Backoff,
+        preserve_region_results: bool,
+    ) -> RetryableMultiRegion<P>
+        requires unbegun { IsUnbegun P.meaning inner }
+        ensures value { result ≡ record { inner = inner; backoff = backoff; preserve_region_results = preserve_region_results; stage = MultiStage.Fresh; tasks = None; width = 0; alloc = alloc } }
+        ensures unbegun { IsUnbegun (multi P.meaning P.Result.key_errors_in P.Result.region_error_in P.IsPart P.load P.AreCut) result }
+        ensures ready { (multi P.meaning P.Result.key_errors_in P.Result.region_error_in P.IsPart P.load P.AreCut).ready result }
+    {
+        RetryableMultiRegion {
+            inner,
+            backoff,
+            preserve_region_results,
+            stage: MultiStage::Fresh,
+            tasks: None,
+            width: 0,
+            alloc,
+        }
+    }
+
+    /// What comes of an event that is not for it.
+    fn stay(&mut self, stage: MultiStage<P>) -> Turn<P>
+        ensures turn { turn_of result ≡ unheard (multi_phase stage) }
+        ensures state { self.new ≡ record self.old { stage = stage } }
+    {
+        let stopped = matches!(stage, MultiStage::Stopped);
+        self.stage = stage;
+        if stopped {
+            Err(NoMemory)
+        } else {
+            Ok(Progress::Waiting)
+        }
+    }
+
+    /// It is told of something.
+    fn tell<C: PdClient>(
+        &mut self,
+        arrival: Arrival,
+        pd: &mut C,
+        now: u64,
+        out: &mut Outbox,
+    ) -> Turn<P>
+        requires ready { (multi P.meaning P.Result.key_errors_in P.Result.region_error_in P.IsPart P.load P.AreCut).ready self.old }
+        requires arrives { MayArrive arrival }
+        requires numbers { HasNumbers out.old }
+        requires clock { now < 2 ^ 44 }
+        ensures tells { (r : Asked) → Tells (multi P.meaning P.Result.key_errors_in P.Result.region_error_in P.IsPart P.load P.AreCut) (told_by arrival out.old r) self.old self.new out.old out.new (turn_of result) }
+        ensures goes { Goes (multi P.meaning P.Result.key_errors_in P.Result.region_error_in P.IsPart P.load P.AreCut).phase ((multi P.meaning P.Result.key_errors_in P.Result.region_error_in P.IsPart P.load P.AreCut).waits self.old (awaited_as arrival)) self.old self.new out.old out.new pd.old pd.new (turn_of result) }
+        ensures counts { Counts (multi P.meaning P.Result.key_errors_in P.Result.region_error_in P.IsPart P.load P.AreCut) (is_bad arrival) (is_failure arrival) (weight_in arrival) (locked_in arrival) self.old self.new out.old out.new (turn_of result) }
+        ensures ready { (multi P.meaning P.Result.key_errors_in P.Result.region_error_in P.IsPart P.load P.AreCut).ready self.new }
+        ensures numbers { HasNumbers out.new }
+    {
+        match mem::replace(&mut self.stage, MultiStage::Stopped) {
+            MultiStage::Cutting(cutting) => self.tell_cutting(cutting, arrival, pd, now, out),
+            MultiStage::Running => self.tell_tasks(arrival, pd, now, out),
+            stage => self.stay(stage),
+        }
+    }
+
+    /// Looks for the shards of a copy of the plan.
+    fn begin<C: PdClient>(&mut self, pd: &mut C, now: u64, out: &mut Outbox) -> Turn<P>
+        requires stopped { self.old.stage ≡ MultiStage.Stopped }
+        requires inner { IsUnbegun P.meaning self.old.inner }
+        requires none { self.old.tasks ≡ None }
+        requires numbers { HasNumbers out.old }
+        requires clock { now < 2 ^ 44 }
+        ensures begins { Begins (multi P.meaning P.Result.key_errors_in P.Result.region_error_in P.IsPart P.load P.AreCut) (record self.old { stage = MultiStage.Fresh }) self.new out.old out.new (turn_of result) }
+        ensures ready { (multi P.meaning P.Result.key_errors_in P.Result.region_error_in P.IsPart P.load P.AreCut).ready self.new }
+        ensures numbers { HasNumbers out.new }
+    {
+        let inner = self.inner.try_clone()?;
+        let mut cutting = Cutting::new(self.alloc, inner);
+        let turn = cutting.start(pd, now, out);
+        self.after_cut(cutting, turn, pd, now, out)
+    }
+
+    /// The search of its shards is told of something.
+    fn tell_cutting<C: PdClient>(
+        &mut self,
+        cutting: Cutting<P>,
+        arrival: Arrival,
+        pd: &mut C,
+        now: u64,
+        out: &mut Outbox,
+    ) -> Turn<P>
+        requires stopped { self.old.stage ≡ MultiStage.Stopped }
+        requires inner { IsUnbegun P.meaning self.old.inner }
+        requires none { self.old.tasks ≡ None }
+        requires same { cutting.plan ≡ self.old.inner }
+        requires running { cut_phase cutting.stage ≡ Running }
+        requires numbers { HasNumbers out.old }
+        requires clock { now < 2 ^ 44 }
+        ensures tells { (r : Asked) → Tells (multi P.meaning P.Result.key_errors_in P.Result.region_error_in P.IsPart P.load P.AreCut) (told_by arrival out.old r) (record self.old { stage = MultiStage.Cutting cutting }) self.new out.old out.new (turn_of result) }
+        ensures goes { Goes (multi P.meaning P.Result.key_errors_in P.Result.region_error_in P.IsPart P.load P.AreCut).phase (cut_waits cutting.stage (awaited_as arrival)) (record self.old { stage = MultiStage.Cutting cutting }) self.new out.old out.new pd.old pd.new (turn_of result) }
+        ensures counts { Counts (multi P.meaning P.Result.key_errors_in P.Result.region_error_in P.IsPart P.load P.AreCut) (is_bad arrival) (is_failure arrival) (weight_in arrival) (locked_in arrival) (record self.old { stage = MultiStage.Cutting cutting }) self.new out.old out.new (turn_of result) }
+        ensures ready { (multi P.meaning P.Result.key_errors_in P.Result.region_error_in P.IsPart P.load P.AreCut).ready self.new }
+        ensures numbers { HasNumbers out.new }
+    {
+        let mut cutting = cutting;
+        let turn = arrival.tell_cutting(&mut cutting, pd, now, out);
+        self.after_cut(cutting, turn, pd, now, out)
+    }
+
+    /// Goes on after a call of the search.
+    fn after_cut<C: PdClient>(
+        &mut self,
+        cutting: Cutting<P>,
+        turn: std::result::Result<Progress<Vec<Part<P>>>, NoMemory>,
+        pd: &mut C,
+        now: u64,
+        out: &mut Outbox,
+    ) -> Turn<P>
+        requires stopped { self.old.stage ≡ MultiStage.Stopped }
+        requires inner { IsUnbegun P.meaning self.old.inner }
+        requires none { self.old.tasks ≡ None }
+        requires same { cutting.plan ≡ self.old.inner }
+        requires running { turn_of turn ≡ Waits → cut_phase cutting.stage ≡ Running }
+        requires parts { IfEnds (turn_of turn) (GivesParts P.meaning P.IsPart P.load P.AreCut self.old.inner) }
+        requires numbers { HasNumbers out.old }
+        requires clock { now < 2 ^ 44 }
+        ensures after { AfterCut (multi P.meaning P.Result.key_errors_in P.Result.region_error_in P.IsPart P.load P.AreCut) (turn_of turn) cutting self.old self.new out.old out.new pd.old pd.new (turn_of result) }
+        ensures ready { (multi P.meaning P.Result.key_errors_in P.Result.region_error_in P.IsPart P.load P.AreCut).ready self.new }
+        ensures numbers { HasNumbers out.new }
+    {
+        match turn? {
+            Progress::Waiting => {
+                self.stage = MultiStage::Cutting(cutting);
+                Ok(Progress::Waiting)
+            }
+            Progress::Done(Ok(parts)) => self.run(parts, pd, now, out),
+            Progress::Done(Err(error)) => self.refuse(error),
+        }
+    }
+
+    /// All shards are found.
+    fn run<C: PdClient>(
+        &mut self,
+        parts: Vec<Part<P>>,
+        pd: &mut C,
+        now: u64,
+        out: &mut Outbox,
+    ) -> Turn<P>
+        requires stopped { self.old.stage ≡ MultiStage.Stopped }
+        requires inner { IsUnbegun P.meaning self.old.inner }
+        requires none { self.old.tasks ≡ None }
+        requires parts { ArePartsOf P.meaning P.IsPart P.load P.AreCut self.old.inner parts.items }
+        requires numbers { HasNumbers out.old }
+        requires clock { now < 2 ^ 44 }
+        ensures begins { Begins (multi P.meaning P.Result.key_errors_in P.Result.region_error_in P.IsPart P.load P.AreCut) (record self.old { stage = MultiStage.Fresh }) self.new out.old out.new (turn_of result) }
+        ensures ready { (multi P.meaning P.Result.key_errors_in P.Result.region_error_in P.IsPart P.load P.AreCut).ready self.new }
+        ensures numbers { HasNumbers out.new }
+    {
+        self.width = self.width.max(parts.len());
+        let first = tasks_of(self.alloc, parts, self.backoff)?;
+        let mut tasks = Tasks::new(self.alloc, first)?;
+        let turn = tasks.start(pd, now, out);
+        self.tasks = Some(tasks);
+        self.after_tasks(turn)
+    }
+
+    /// Its tasks are told of something.
+    fn tell_tasks<C: PdClient>(
+        &mut self,
+        arrival: Arrival,
+        pd: &mut C,
+        now: u64,
+        out: &mut Outbox,
+    ) -> Turn<P>
+        requires stopped { self.old.stage ≡ MultiStage.Stopped }
+        requires inner { IsUnbegun P.meaning self.old.inner }
+        requires tasks { Holding self.old.tasks (λ t. (tasks_for P.meaning P.Result.key_errors_in P.Result.region_error_in P.IsPart P.load P.AreCut self.old.inner).ready t × (tasks_phase t.stage ≡ Running)) }
+        requires arrives { MayArrive arrival }
+        requires numbers { HasNumbers out.old }
+        requires clock { now < 2 ^ 44 }
+        ensures tells { (r : Asked) → Tells (multi P.meaning P.Result.key_errors_in P.Result.region_error_in P.IsPart P.load P.AreCut) (told_by arrival out.old r) (record self.old { stage = MultiStage.Running }) self.new out.old out.new (turn_of result) }
+        ensures goes { Goes (multi P.meaning P.Result.key_errors_in P.Result.region_error_in P.IsPart P.load P.AreCut).phase (Holding self.old.tasks (λ t. LeadsSomewhere t (awaited_as arrival))) (record self.old { stage = MultiStage.Running }) self.new out.old out.new pd.old pd.new (turn_of result) }
+        ensures counts { Counts (multi P.meaning P.Result.key_errors_in P.Result.region_error_in P.IsPart P.load P.AreCut) (is_bad arrival) (is_failure arrival) (weight_in arrival) (locked_in arrival) (record self.old { stage = MultiStage.Running }) self.new out.old out.new (turn_of result) }
+        ensures ready { (multi P.meaning P.Result.key_errors_in P.Result.region_error_in P.IsPart P.load P.AreCut).ready self.new }
+        ensures numbers { HasNumbers out.new }
+    {
+        let Some(tasks) = &mut self.tasks else {
+            unreachable!()
+        };
+        let turn = tell(tasks, arrival, pd, now, out);
+        self.after_tasks(turn)
+    }
+
+    /// Goes on after a call of its tasks.
+    fn after_tasks(&mut self, turn: TasksTurn<P>) -> Turn<P>
+        requires stopped { self.old.stage ≡ MultiStage.Stopped }
+        ensures state { self.new ≡ record self.old { stage = self.new.stage } }
+        ensures after { AfterTasks self.old.preserve_region_results (tasks_turn turn) self.new.stage (turn_of result) }
+    {
+        match turn? {
+            None => {
+                self.stage = MultiStage::Running;
+                Ok(Progress::Waiting)
+            }
+            Some(outcomes) => self.end(outcomes),
+        }
+    }
+
+    /// All tasks have ended.
+    fn end(&mut self, outcomes: Vec<Result<Result<P::Result>>>) -> Turn<P>
+        requires stopped { self.old.stage ≡ MultiStage.Stopped }
+        ensures state { self.new ≡ record self.old { stage = self.new.stage } }
+        ensures after { AfterTasks self.old.preserve_region_results (Ends outcomes.items) self.new.stage (turn_of result) }
+    {
+        let answer = self.answer_of(outcomes)?;
+        self.stage = MultiStage::Over;
+        Ok(Progress::Done(answer))
+    }
+
+    /// Why not all shards were found.
+    fn refuse(&mut self, error: txn_kv::Error) -> Turn<P>
+        ensures turn { turn_of result ≡ Ends (Err error) }
+        ensures state { self.new ≡ record self.old { stage = MultiStage.Over } }
+    {
+        self.stage = MultiStage::Over;
+        Ok(Progress::Done(Err(error)))
+    }
+
+    fn answer_of(
+        &self,
+        outcomes: Vec<Result<Result<P::Result>>>,
+    ) -> std::result::Result<Result<Vec<Result<P::Result>>>, NoMemory>
+        ensures { IfOk result (IsAnswer self.now.preserve_region_results outcomes.items) }
+    {
+        if self.preserve_region_results {
+            let results = keep_all(self.alloc, outcomes)?;
+            Ok(Ok(results))
+        } else {
+            all_or_first(self.alloc, outcomes)
+        }
+    }
+}
+
+/// Tells tasks of something.
+fn tell<P: RegionPlan, C: PdClient>(
+    tasks: &mut Tasks<RegionTask<P>>,
+    arrival: Arrival,
+    pd: &mut C,
+    now: u64,
+    out: &mut Outbox,
+) -> TasksTurn<P>
+where
+    P::Result: HasKeyErrors + HasRegionError,
+    requires ready { AreReady (region_task P.meaning P.Result.key_errors_in P.Result.region_error_in P.IsPart P.load P.AreCut) (λ t. stage_runs t.stage) tasks.old }
+    requires arrives { MayArrive arrival }
+    requires numbers { HasNumbers out.old }
+    requires clock { now < 2 ^ 44 }
+    ensures tells { (inner : P) (r : Asked) → Tells (tasks_for P.meaning P.Result.key_errors_in P.Result.region_error_in P.IsPart P.load P.AreCut inner) (told_by arrival out.old r) tasks.old tasks.new out.old out.new (tasks_turn result) }
+    ensures goes { Goes (λ t. tasks_phase t.stage) (LeadsSomewhere tasks.old (awaited_as arrival)) tasks.old tasks.new out.old out.new pd.old pd.new (tasks_turn result) }
+    ensures counts { (inner : P) → Counts (tasks_for P.meaning P.Result.key_errors_in P.Result.region_error_in P.IsPart P.load P.AreCut inner) (is_bad arrival) (is_failure arrival) (weight_in arrival) (locked_in arrival) tasks.old tasks.new out.old out.new (tasks_turn result) }
+    ensures ready { AreReady (region_task P.meaning P.Result.key_errors_in P.Result.region_error_in P.IsPart P.load P.AreCut) (λ t. stage_runs t.stage) tasks.new }
+    ensures numbers { HasNumbers out.new }
+{
+    match arrival {
+        Arrival::Reply { number, reply } => tasks.take_reply(pd, now, number, reply, out),
+        Arrival::Lost { number } => tasks.lost(pd, now, number, out),
+        Arrival::Slept { number } => tasks.slept(pd, now, number, out),
+        Arrival::Time { ask, answer } => tasks.take_time(pd, now, ask, answer, out),
+    }
+}
+
+impl<P: RegionPlan> Plan for RetryableMultiRegion<P>
+where
+    P::Result: HasKeyErrors + HasRegionError,
+{
+    type Result = Vec<Result<P::Result>>;
+
+    ghost meaning = { multi P.meaning P.Result.key_errors_in P.Result.region_error_in P.IsPart P.load P.AreCut };
+
+    /// A plan that has begun has no copy.
+    fn try_clone(&self) -> std::result::Result<RetryableMultiRegion<P>, NoMemory> {
+        let MultiStage::Fresh = self.stage else {
+            return Err(NoMemory);
+        };
+        Ok(RetryableMultiRegion {
+            inner: self.inner.try_clone()?,
+            backoff: self.backoff,
+            preserve_region_results: self.preserve_region_results,
+            stage: MultiStage::Fresh,
+            tasks: None,
+            width: self.width,
+            alloc: self.alloc,
+        })
+    }
+
+    fn start<C: PdClient>(&mut self, pd: &mut C, now: u64, out: &mut Outbox) -> Turn<P> {
+        match mem::replace(&mut self.stage, MultiStage::Stopped) {
+            MultiStage::Fresh => self.begin(pd, now, out),
+            stage => self.stay(stage),
+        }
+    }
+
+    fn take_reply<C: PdClient>(
+        &mut self,
+        pd: &mut C,
+        now: u64,
+        number: u64,
+        reply: Reply,
+        out: &mut Outbox,
+    ) -> Turn<P> {
+        self.tell(Arrival::Reply { number, reply }, pd, now, out)
+    }
+
+    fn lost<C: PdClient>(
+        &mut self,
+        pd: &mut C,
+        now: u64,
+        number: u64,
+        out: &mut Outbox,
+    ) -> Turn<P> {
+        self.tell(Arrival::Lost { number }, pd, now, out)
+    }
+
+    fn slept<C: PdClient>(
+        &mut self,
+        pd: &mut C,
+        now: u64,
+        number: u64,
+        out: &mut Outbox,
+    ) -> Turn<P> {
+        self.tell(Arrival::Slept { number }, pd, now, out)
+    }
+
+    fn take_time<C: PdClient>(
+        &mut self,
+        pd: &mut C,
+        now: u64,
+        ask: u64,
+        answer: Result<Timestamp>,
+        out: &mut Outbox,
+    ) -> Turn<P> {
+        self.tell(Arrival::Time { ask, answer }, pd, now, out)
+    }
+
+    ghost lawful = { multi-lawful P.meaning P.Result.key_errors_in P.Result.region_error_in P.IsPart P.load P.AreCut P.lawful };
+}

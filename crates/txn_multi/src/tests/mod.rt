@@ -1,0 +1,3 @@
+mod client;
+mod line;
+mod retries;
