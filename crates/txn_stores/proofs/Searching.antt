@@ -1,0 +1,313 @@
+-- The look-up of all stores, call by call.
+use Rattle.std.proofs.Common.{◌≡◌, ◌≢◌, inl, inr, ℕ, ◌+◌, ◌≤◌, Bool, true, false, List, refl, sym, ap, subst, ◌∙◌, arith}
+use Rattle.std.specs.Prelude.{⊤, Result, Ok, Err}
+use Rattle.std.specs.Global.{Vec}
+use Rattle.std.proofs.Math.Nat.{le_refl, le_trans}
+use Rattle.std.proofs.lemmas.Bool.{false≢true}
+use Rattle.txn_history.specs.Event.{Event}
+use Rattle.txn_history.specs.Meaning.{started, Counts, Expects, Tells, Told}
+use Rattle.txn_history.specs.Moves.{Moves-before, Moves-map, Moves-quiet, Moves-then}
+use Rattle.txn_history.specs.Phase.{Awaited, phase_after, unheard}
+use Rattle.txn_history.specs.Phase.Awaited.{EndOf, ReplyTo}
+use Rattle.txn_history.specs.Phase.Phase.{Running}
+use Rattle.txn_history.specs.Posted.{Posted, Within-refl}
+use Rattle.txn_history.specs.Spends.{Spends, calls, is_call, sleeps, spare}
+use Rattle.txn_history.specs.Turn.{failing, is_kept, IfKept-out, Turn}
+use Rattle.txn_history.specs.Turn.Turn.{Stopped, Waits, Ends}
+use Rattle.txn_history.proofs.Counting.{calls-more, one_if, spare-more}
+use Rattle.txn_history.proofs.Telling.{Expects-quiet, Expects-then, Tells-idle}
+use Rattle.txn_kv.specs.declared.errors.Error.{Error}
+use Rattle.txn_kv.specs.declared.errors.Error.TheVariants.{OutOfMemory}
+use Rattle.txn_kv.specs.declared.query.PdAnswer.{PdAnswer}
+use Rattle.txn_kv.specs.declared.query.PdQuery.{PdQuery}
+use Rattle.txn_kv.specs.declared.query.PdQuery.TheVariants as query
+use Rattle.txn_plan.specs.LookUp.{call_phase, call_waits, fresh-unbegun, looked_up, something}
+use Rattle.txn_plan.proofs.LookingUp.{PostsTo, Went, deaf_reply, deaf_waking, stands}
+use Rattle.txn_region.specs.Clients as clients
+use Rattle.txn_region.specs.declared.store.Store.{Store}
+use Rattle.txn_stores.specs.Search.{search_phase, search_waits, searching, searching-lawful, AwaitsLast, GivesStores, Holds, IsHeard, IsOut, IsRefusal, IsSearched, IsTaken, SearchAt, SearchesOn}
+use Rattle.txn_stores.specs.declared.search_stage.SearchStage.{SearchStage}
+use Rattle.txn_stores.specs.declared.search_stage.SearchStage.TheVariants as search
+use Rattle.txn_stores.specs.declared.store_search.StoreSearch.{StoreSearch}
+use Rattle.txn_tso.specs.Calling.{CallFits, IsRefused, IsTold, MayAsk}
+use Rattle.txn_tso.specs.Counting.{asks_of, left_at, CallSpends}
+use Rattle.txn_tso.specs.Heeding.{hears_reply, hears_waking, CallHeeds}
+use Rattle.txn_tso.specs.Placement.{fresh}
+use Rattle.txn_tso.specs.Steps.{Standing}
+use Rattle.txn_tso.specs.declared.pd_call.PdCall.{PdCall}
+use Rattle.txn_tso.specs.declared.stage.Stage.{Stage}
+use Rattle.txn_tso.specs.declared.stage.Stage.TheVariants as stage
+
+-- What the look-up posts.
+
+left_none : (g : Stage) → left_at query.Stores g ≡ 0
+left_none stage.Fresh = refl
+left_none (stage.Sent n) = refl
+left_none (stage.Asked n) = refl
+left_none (stage.Reconnecting n lost) = refl
+left_none (stage.Resting n lost) = refl
+left_none stage.Over = refl
+left_none stage.Stopped = refl
+
+spare_none : (bad : Bool) → spare bad false 0 ≡ 0
+spare_none true = refl
+spare_none false = refl
+
+-- no call of a store
+pub calls_none : (bad : Bool) (old new : PdCall) (from to : Posted) (turn : Turn (Result PdAnswer Error)) → old.query ≡ query.Stores → CallSpends old new bad from to turn → calls to ≤ calls from
+calls_none bad old new from to turn e s =
+    let k : calls to ≤ calls from + left_at old.query old.stage + spare bad false (asks_of old.query + 0 + 0) + 0 = s.stopped 1 0 (omega arith) (omega arith) tt in
+    let l : left_at old.query old.stage ≡ 0 = rw e (left_none old.stage) in
+    let z : spare bad false (asks_of old.query + 0 + 0) ≡ 0 = rw e (spare_none bad) in
+    omega arith
+
+is_true : (b : Bool) → (b ≡ false → ⊥) → b ≡ true
+is_true true n = refl
+is_true false n = absurd (n refl)
+
+is_false : (b : Bool) (k l : ℕ) → k ≡ l + one_if b → k ≤ l → b ≡ false
+is_false true k l e m = absurd (omega arith)
+is_false false k l e m = refl
+
+pub hears_if_asking : (g : Stage) (n : ℕ) → call_waits g (ReplyTo n) → hears_reply g n ≡ true
+hears_if_asking g n w = is_true (hears_reply g n) (λ e. deaf_reply g n e (ReplyTo n) refl w)
+
+pub hears_if_resting : (g : Stage) (n : ℕ) → call_waits g (EndOf n) → hears_waking g n ≡ true
+hears_if_resting g n w = is_true (hears_waking g n) (λ e. deaf_waking g n e (EndOf n) refl w)
+
+posts : (b : Bool) (x y : Standing) → Went b x y → b ≡ true → PostsTo x y
+posts b x y (inl w) e = absurd (false≢true (sym w.0 ∙ e))
+posts b x y (inr p) e = p
+
+-- a look-up that goes on waits for what it posted
+awaits_last : (hears : Bool) (x y : Standing) → hears ≡ true → Went hears x y → calls y.out ≤ calls x.out → call_phase y.call.stage ≡ Running → AwaitsLast y.call y.out
+awaits_last hears x y h w few runs =
+    let a = something y.call.stage runs in
+    let p = posts hears x y w h in
+    let l = p.alone a.0 a.1 in
+    record {
+      before = x.out.sends;
+      last = l.0;
+      posted = l.1;
+      waits = rw l.2 a.1;
+      places = is_false (is_call l.0) (calls y.out) (calls x.out) (calls-more x.out y.out l.0 l.1) few;
+    }
+
+pub goes_on : (hears : Bool) (x y : Standing) (turn : Turn (Result PdAnswer Error)) → hears ≡ true → Went hears x y → calls y.out ≤ calls x.out → CallHeeds hears x turn y → turn ≡ Waits → AwaitsLast y.call y.out
+goes_on hears x y turn h w few s e = awaits_last hears x y h w few (stands x y turn (subst (λ (b : Bool). CallHeeds b x turn y) h s) ∙ ap phase_after e)
+
+-- A look-up that is out is the one that is waited for.
+
+one_awaited : (g : Stage) (a b : Awaited) → call_waits g a → call_waits g b → a ≡ b
+one_awaited stage.Fresh a b v w = absurd v
+one_awaited (stage.Sent n) a b v w = v ∙ sym w
+one_awaited (stage.Asked n) a b v w = v ∙ sym w
+one_awaited (stage.Reconnecting n lost) a b v w = v ∙ sym w
+one_awaited (stage.Resting n lost) a b v w = v ∙ sym w
+one_awaited stage.Over a b v w = absurd v
+one_awaited stage.Stopped a b v w = absurd v
+
+held_fits : (call : PdCall) (g : SearchStage) (o : Posted) (h : List Event) → Holds call g → SearchAt g o h → CallFits call o h
+held_fits call search.Fresh o h i f = absurd i
+held_fits call (search.Asking c n) o h i f = subst (λ (d : PdCall). CallFits d o h) i.0 f.0
+held_fits call (search.Resting c n) o h i f = subst (λ (d : PdCall). CallFits d o h) i.0 f.0
+held_fits call search.Over o h i f = absurd i
+held_fits call search.Stopped o h i f = absurd i
+
+held_at : (call : PdCall) (g : SearchStage) (o : Posted) (h : List Event) → Holds call g → CallFits call o h → SearchAt g o h
+held_at call search.Fresh o h i f = absurd i
+held_at call (search.Asking c n) o h i f = (rw i.0 f, rw i.0 i.1)
+held_at call (search.Resting c n) o h i f = (rw i.0 f, rw i.0 i.1)
+held_at call search.Over o h i f = absurd i
+held_at call search.Stopped o h i f = absurd i
+
+held_out : (call : PdCall) (g : SearchStage) → call.query ≡ query.Stores → Holds call g → IsOut g
+held_out call search.Fresh e i = absurd i
+held_out call (search.Asking c n) e i = (rw i.0 e, rw i.0 i.1)
+held_out call (search.Resting c n) e i = (rw i.0 e, rw i.0 i.1)
+held_out call search.Over e i = absurd i
+held_out call search.Stopped e i = absurd i
+
+held_waits : (call : PdCall) (g : SearchStage) (a : Awaited) → Holds call g → call_waits call.stage a → search_waits g a
+held_waits call search.Fresh a i w = absurd i
+held_waits call (search.Asking c n) a i w = one_awaited call.stage a (ReplyTo n) w i.1
+held_waits call (search.Resting c n) a i w = one_awaited call.stage a (EndOf n) w i.1
+held_waits call search.Over a i w = absurd i
+held_waits call search.Stopped a i w = absurd i
+
+pub waits_held : (call : PdCall) (g : SearchStage) (a : Awaited) → Holds call g → search_waits g a → call_waits call.stage a
+waits_held call search.Fresh a i w = absurd i
+waits_held call (search.Asking c n) a i w = rw w i.1
+waits_held call (search.Resting c n) a i w = rw w i.1
+waits_held call search.Over a i w = absurd i
+waits_held call search.Stopped a i w = absurd i
+
+held_runs : (call : PdCall) (g : SearchStage) → Holds call g → search_phase g ≡ Running
+held_runs call search.Fresh i = absurd i
+held_runs call (search.Asking c n) i = refl
+held_runs call (search.Resting c n) i = refl
+held_runs call search.Over i = absurd i
+held_runs call search.Stopped i = absurd i
+
+-- the look-up is that of all stores
+
+asks_stores : (call : PdCall) (h : List Event) (r : _) → call.query ≡ query.Stores → MayAsk call h r → MayAsk (fresh query.Stores) h r
+asks_stores call h r e (inl a) = inl (rw e at a)
+asks_stores call h r e (inr a) = inr a
+
+gives_stores : (call : PdCall) (h : List Event) (v : Result PdAnswer Error) → call.query ≡ query.Stores → looked_up.gives call h v → looked_up.gives (fresh query.Stores) h v
+gives_stores call h (Ok a) e g = (g.0, subst (λ (q : PdQuery). IsTold q g.0 h a) e g.1)
+gives_stores call h (Err why) e g = (g.0, subst (λ (q : PdQuery). IsRefused q g.0 h why) e g.1)
+
+-- The steps of the search.
+
+-- it gave up, and nothing was posted
+pub stopped : {known : List Event → Type 0} {was : Awaited → Type 0} {c : StoreSearch} {o : Posted} → c.stage ≡ search.Stopped → SearchesOn known was c o o Stopped
+stopped {c = c} e = record {
+  moves = Moves-quiet refl tt tt;
+  expects = Expects-quiet (λ a w. absurd (rw e at w));
+  next = ap search_phase e;
+  ready = rw e tt;
+  calls = le_refl _;
+  sleeps = le_refl _;
+}
+
+-- it has answered
+pub ended : {known : List Event → Type 0} {was : Awaited → Type 0} {new : StoreSearch} {o : Posted} (v : Result (Vec Store) Error)
+    → new.stage ≡ search.Over → ((h : List Event) → known h → GivesStores h v)
+    → SearchesOn known was new o o (Ends v)
+ended v over gives = record {
+  moves = Moves-quiet refl (λ h k. rw over tt) gives;
+  expects = Expects-quiet (λ a w. absurd (rw over at w));
+  next = ap search_phase over;
+  ready = rw over tt;
+  calls = le_refl _;
+  sleeps = le_refl _;
+}
+
+-- it waits for what was posted before
+pub waiting : {new : StoreSearch} {call : PdCall} {o : Posted} {known : List Event → Type 0} → call.query ≡ query.Stores → Holds call new.stage
+    → ((h : List Event) → known h → CallFits call o h)
+    → SearchesOn known (call_waits call.stage) new o o Waits
+waiting {new = new} {call = call} {o = o} e held fits = record {
+  moves = Moves-quiet refl (λ h f. held_at call new.stage o h held (fits h f)) tt;
+  expects = Expects-quiet (λ a w. (waits_held call new.stage a held w, λ x. x));
+  next = held_runs call new.stage held;
+  ready = held_out call new.stage e held;
+  calls = le_refl _;
+  sleeps = le_refl _;
+}
+
+-- an event of the look-up is an event of the search
+pub heard : {told : Told} {old mid new : StoreSearch} {a : Awaited} {call call' : PdCall} {from via to : Posted} {p : Turn (Result PdAnswer Error)} {turn : Turn (Result (Vec Store) Error)}
+    → IsTaken a old mid call
+    → Tells looked_up told call call' from via p
+    → SearchesOn (λ h. IsHeard call' p via h) (call_waits call'.stage) new via to turn
+    → Tells searching told old new from to turn
+heard {told = told} {old = old} {call = call} {call' = call'} {from = from} {via = via} taken t s =
+    let e = t.expects in
+    let first : Expects (search_waits old.stage) (call_waits call'.stage) told.heard from via =
+    record { sends = e.sends; pushed = e.pushed; only = λ b w. elim (e.only b w) [ inl x ↦ inl (held_waits call old.stage b taken.held x.0, x.1) | inr x ↦ inr x ] } in
+    record {
+      moves = Moves-then (Moves-map told.within (λ h f. (held_fits call old.stage from h taken.held f.0, f.1)) (λ h f k r x. asks_stores call k r taken.query x) (λ h f k w i. i) (λ h f k v g. gives_stores call k v taken.query g) t.moves) s.moves;
+      job = record { asked = λ h r x. x; given = λ h v g. g; gave = λ h v g. g };
+      expects = Expects-then first s.expects;
+    }
+
+never_fails : {A : Type 0} (turn : Turn A) → failing (λ v. false) turn ≡ false
+never_fails Stopped = refl
+never_fails Waits = refl
+never_fails (Ends v) = refl
+
+-- no call of a store is made
+pub counted : {bad fails : Bool} {weight locked : ℕ} {old new : StoreSearch} {from to : Posted} {turn : Turn (Result (Vec Store) Error)}
+    → calls to ≤ calls from → sleeps to ≤ sleeps from + spare fails false 1
+    → Counts searching bad fails weight locked old new from to turn
+counted {bad = bad} {fails = fails} {weight = weight} {locked = locked} {from = from} {to = to} {turn = turn} few awake = record {
+  spends = subst (λ (f : Bool). Spends (λ w. ⊤) (λ w. ⊤) (λ n. 0) (λ n. 0) (λ n. 0) bad fails weight locked 0 0 from to (is_kept turn) f) (sym (never_fails turn)) (record {
+    wider = le_refl 0;
+    bears = λ k w u. tt;
+    allowed = λ k f. absurd (false≢true f);
+    spends = λ k n w u l b. omega arith;
+    stopped = λ n w u l b. omega arith;
+    rests = λ k. omega arith;
+    stopped_rests = omega arith;
+  });
+  fewer = λ n. le_refl 0;
+}
+
+-- so far the search asked no store, and it goes on so after an event of its look-up
+pub counted_after : {bad bad' fails : Bool} {weight locked : ℕ} {old mid new : StoreSearch} {a : Awaited} {call : PdCall} {from via to : Posted} {turn : Turn (Result (Vec Store) Error)} {known : List Event → Type 0} {was : Awaited → Type 0}
+    (call' : PdCall) (p : Turn (Result PdAnswer Error))
+    → (bad ≡ true → fails ≡ true)
+    → IsTaken a old mid call
+    → CallSpends call call' bad from via p
+    → SearchesOn known was new via to turn
+    → Counts searching bad' fails weight locked old new from to turn
+counted_after {bad = bad} {fails = fails} {call = call} {from = from} {via = via} call' p f taken spent s =
+    counted
+    (le_trans s.calls (calls_none bad call call' from via p taken.query spent))
+    (let x = s.sleeps in let y = spent.stopped_rests in let z = spare-more bad fails false 1 f in omega arith)
+
+-- it sends its first try
+pub asked : {new : StoreSearch} {call call' : PdCall} {from to : Posted} {turn : Turn (Result (Vec Store) Error)} (p : Turn (Result PdAnswer Error))
+    → call ≡ fresh query.Stores → p ≢ Stopped
+    → Tells looked_up started call call' from to p
+    → CallSpends call call' false from to p
+    → SearchesOn (λ h. CallFits call' to h) (call_waits call'.stage) new to to turn
+    → SearchesOn (λ h. ⊤) (λ a. ⊥) new from to turn
+asked {call = call} {call' = call'} {from = from} {to = to} p e kept t spent s =
+    let x = t.expects in
+    let first : Expects (λ a. ⊥) (call_waits call'.stage) (λ a. ⊥) from to =
+    record { sends = x.sends; pushed = x.pushed; only = λ a w. elim (x.only a w) [ inl y ↦ absurd (rw e at y.0) | inr y ↦ inr y ] } in
+    record {
+      moves = Moves-then (Moves-map {gives' = λ h v. ⊤} Within-refl (λ h k. (rw e (let u = fresh-unbegun query.Stores in u.fits from h), tt)) (λ h f k r a. asks_stores call k r (ap (λ (c : PdCall). c.query) e) a) (λ h f k w i. i) (λ h f k v g. tt) t.moves)
+          (Moves-before (λ h k. IfKept-out p kept k.0) s.moves);
+      expects = Expects-then first s.expects;
+      next = s.next;
+      ready = s.ready;
+      calls = le_trans s.calls (calls_none false call call' from to p (ap (λ (c : PdCall). c.query) e) spent);
+      sleeps = let y = spent.stopped_rests in let z = s.sleeps in omega arith;
+    }
+
+-- an event that is not for the search
+pub unmoved : {told : Told} {old new : StoreSearch} {o : Posted} {turn : Turn (Result (Vec Store) Error)} (a : Awaited)
+    → ((b : Awaited) → told.heard b → b ≡ a)
+    → (new ≡ old) × (search_waits old.stage a → ⊥)
+    → turn ≡ unheard (search_phase new.stage)
+    → Tells searching told old new o o turn
+unmoved {told = told} {old = old} {turn = turn} a heard stays e =
+    rw stays.0 (Tells-idle searching-lawful (λ b h w. stays.1 (rw (heard b h) at w)) (rw stays.0 at e))
+
+-- it rests on less
+pub from_less : {known more : List Event → Type 0} {was : Awaited → Type 0} {new : StoreSearch} {from to : Posted} {turn : Turn (Result (Vec Store) Error)}
+    → ((h : List Event) → more h → known h)
+    → SearchesOn known (λ a. ⊥) new from to turn
+    → SearchesOn more was new from to turn
+from_less w s =
+    let e = s.expects in record {
+      moves = Moves-before w s.moves;
+      expects = record { sends = e.sends; pushed = e.pushed; only = λ a v. elim (e.only a v) [ inl x ↦ absurd x.0 | inr p ↦ inr p ] };
+      next = s.next;
+      ready = s.ready;
+      calls = s.calls;
+      sleeps = s.sleeps;
+    }
+
+not_starved : (told : Result PdAnswer Error) (why : Error) → why ≢ OutOfMemory → IsSearched told (Err why) → clients.IsRefused query.Stores told why
+not_starved told why other (inl e) = absurd (other e)
+not_starved told why other (inr i) = i
+
+-- what came of the look-up is refused
+pub refused : (told : Result PdAnswer Error) (why : Error) (new : StoreSearch) (o : Posted) (turn : Turn (Result (Vec Store) Error))
+    → IsSearched told (Err why) → IsRefusal why new turn
+    → SearchesOn (λ h. looked_up.gives (fresh query.Stores) h told) (λ a. ⊥) new o o turn
+refused told why new o Stopped s i = stopped i
+refused told why new o Waits s i = absurd i
+refused told why new o (Ends v) s i = rw i.1 (ended (Err why) i.0 (λ h k. (told, k, not_starved told why i.2 s)))
+
+-- the stores of the answer are the answer
+pub found : (told : Result PdAnswer Error) (stores : Vec Store) (new : StoreSearch) (o : Posted)
+    → new.stage ≡ search.Over → IsSearched told (Ok stores)
+    → SearchesOn (λ h. looked_up.gives (fresh query.Stores) h told) (λ a. ⊥) new o o (Ends (Ok stores))
+found told stores new o over s = ended {known = λ h. looked_up.gives (fresh query.Stores) h told} (Ok stores) over (λ h k. (s.0, subst (λ (v : Result PdAnswer Error). looked_up.gives (fresh query.Stores) h v) s.1 k, s.2))

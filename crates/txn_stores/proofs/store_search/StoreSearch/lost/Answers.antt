@@ -1,0 +1,36 @@
+use Rattle.std.proofs.Common.{true}
+use Rattle.txn_history.proofs.Numbering.{Moves-numbers}
+use Rattle.txn_history.specs.Meaning.{missed}
+use Rattle.txn_history.specs.Phase.Awaited.{ReplyTo}
+use Rattle.txn_history.specs.Posted.{ticket_of}
+use Rattle.txn_history.specs.Turn.{turn_of}
+use Rattle.txn_stores.proofs.Searching.{calls_none, counted_after, goes_on, heard, hears_if_asking, unmoved, waits_held}
+use Rattle.txn_stores.proofs.store_search.StoreSearch.lost.Goals as goal
+use Rattle.txn_plan.proofs.LookingUp.{deaf_reply, tells_of, went, went_loss}
+use Rattle.txn_tso.specs.Heeding.{hears_reply}
+use Rattle.txn_tso.specs.Steps.{on_loss, standing}
+
+pub hear-requires-clause-waits : goal.hear-requires-clause-waits
+hear-requires-clause-waits g c e =
+    let x = standing c.in-Some.call c.retry_client.result.now c.args.out.now in
+    let y = standing c.lost-turn.new.self c.lost-turn.new.client c.lost-turn.new.out in
+    let i = c.in-Some.ensures in
+    let w = went (hears_reply x.call.stage c.args.number) x.call.query (on_loss x.call.stage c.args.number c.args.now x) (turn_of c.lost-turn.result) x y c.lost-turn.ensures.step (went_loss x.call.stage c.args.number c.args.now x) in
+    goes_on (hears_reply x.call.stage c.args.number) x y (turn_of c.lost-turn.result) (hears_if_asking x.call.stage c.args.number (waits_held x.call c.args.self.now.stage (ReplyTo c.args.number) i.held i.waits)) w
+    (calls_none true x.call y.call x.out y.out (turn_of c.lost-turn.result) i.query c.lost-turn.ensures.spends) c.lost-turn.ensures.heeds e
+
+pub returns-in-Some-clause-tells : goal.returns-in-Some-clause-tells
+returns-in-Some-clause-tells g c r =
+    let x = standing c.in-Some.call c.retry_client.result.now c.args.out.now in
+    let y = standing c.lost-turn.new.self c.lost-turn.new.client c.lost-turn.new.out in
+    let w = went (hears_reply x.call.stage c.args.number) x.call.query (on_loss x.call.stage c.args.number c.args.now x) (turn_of c.lost-turn.result) x y c.lost-turn.ensures.step (went_loss x.call.stage c.args.number c.args.now x) in
+    heard c.in-Some.ensures (tells_of (missed (ticket_of c.args.out.now c.args.number) r) (hears_reply x.call.stage c.args.number) c.args.number r x y (turn_of c.lost-turn.result) (λ h k. k) c.lost-turn.ensures.job (deaf_reply x.call.stage c.args.number) w (c.lost-turn.ensures.moves r)) c.hear.ensures.on
+
+pub returns-in-Some-clause-counts : goal.returns-in-Some-clause-counts
+returns-in-Some-clause-counts g c = counted_after c.lost-turn.new.self (turn_of c.lost-turn.result) (λ e. e) c.in-Some.ensures c.lost-turn.ensures.spends c.hear.ensures.on
+
+pub returns-in-Some-clause-numbers : goal.returns-in-Some-clause-numbers
+returns-in-Some-clause-numbers g c = let s = c.hear.ensures.on in Moves-numbers s.moves c.lost-turn.ensures.numbers
+
+pub returns-in-None-clause-tells : goal.returns-in-None-clause-tells
+returns-in-None-clause-tells g c r = unmoved (ReplyTo c.args.number) (λ b h. h) c.in-None.ensures c.stay.ensures

@@ -1,0 +1,37 @@
+use Rattle.std.proofs.Common.{false}
+use Rattle.std.proofs.lemmas.Bool.{false≢true}
+use Rattle.txn_history.proofs.Numbering.{Moves-numbers}
+use Rattle.txn_history.specs.Meaning.{woken}
+use Rattle.txn_history.specs.Phase.Awaited.{EndOf}
+use Rattle.txn_history.specs.Posted.{ticket_of}
+use Rattle.txn_history.specs.Turn.{turn_of}
+use Rattle.txn_stores.proofs.Searching.{calls_none, counted_after, goes_on, heard, hears_if_resting, unmoved, waits_held}
+use Rattle.txn_stores.proofs.store_search.StoreSearch.slept.Goals as goal
+use Rattle.txn_plan.proofs.LookingUp.{deaf_waking, tells, went, went_waking}
+use Rattle.txn_tso.specs.Heeding.{hears_waking}
+use Rattle.txn_tso.specs.Steps.{on_waking, standing}
+
+pub hear-requires-clause-waits : goal.hear-requires-clause-waits
+hear-requires-clause-waits g c e =
+    let x = standing c.in-Some.call c.retry_client.result.now c.args.out.now in
+    let y = standing c.slept-turn.new.self c.slept-turn.new.client c.slept-turn.new.out in
+    let i = c.in-Some.ensures in
+    let w = went (hears_waking x.call.stage c.args.number) x.call.query (on_waking x.call.stage c.args.number c.args.now x) (turn_of c.slept-turn.result) x y c.slept-turn.ensures.step (went_waking x.call.stage c.args.number c.args.now x) in
+    goes_on (hears_waking x.call.stage c.args.number) x y (turn_of c.slept-turn.result) (hears_if_resting x.call.stage c.args.number (waits_held x.call c.args.self.now.stage (EndOf c.args.number) i.held i.waits)) w
+    (calls_none false x.call y.call x.out y.out (turn_of c.slept-turn.result) i.query c.slept-turn.ensures.spends) c.slept-turn.ensures.heeds e
+
+pub returns-in-Some-clause-tells : goal.returns-in-Some-clause-tells
+returns-in-Some-clause-tells g c =
+    let x = standing c.in-Some.call c.retry_client.result.now c.args.out.now in
+    let y = standing c.slept-turn.new.self c.slept-turn.new.client c.slept-turn.new.out in
+    let w = went (hears_waking x.call.stage c.args.number) x.call.query (on_waking x.call.stage c.args.number c.args.now x) (turn_of c.slept-turn.result) x y c.slept-turn.ensures.step (went_waking x.call.stage c.args.number c.args.now x) in
+    heard c.in-Some.ensures (tells (woken (ticket_of c.args.out.now c.args.number)) (hears_waking x.call.stage c.args.number) x y (turn_of c.slept-turn.result) c.slept-turn.ensures.job (deaf_waking x.call.stage c.args.number) w c.slept-turn.ensures.moves) c.hear.ensures.on
+
+pub returns-in-Some-clause-counts : goal.returns-in-Some-clause-counts
+returns-in-Some-clause-counts g c = counted_after c.slept-turn.new.self (turn_of c.slept-turn.result) (λ e. absurd (false≢true e)) c.in-Some.ensures c.slept-turn.ensures.spends c.hear.ensures.on
+
+pub returns-in-Some-clause-numbers : goal.returns-in-Some-clause-numbers
+returns-in-Some-clause-numbers g c = let s = c.hear.ensures.on in Moves-numbers s.moves c.slept-turn.ensures.numbers
+
+pub returns-in-None-clause-tells : goal.returns-in-None-clause-tells
+returns-in-None-clause-tells g c = unmoved (EndOf c.args.number) (λ b h. h) c.in-None.ensures c.stay.ensures

@@ -1,0 +1,27 @@
+use Rattle.txn_history.proofs.Telling.{region_error_is_error, Tells-idle}
+use Rattle.txn_history.specs.Phase.Awaited.{ReplyTo}
+use Rattle.txn_history.specs.Turn.{turn_of}
+use Rattle.txn_tso.specs.Calling.{members}
+use Rattle.txn_stores.specs.TaskLaws.{store_task-lawful}
+use Rattle.txn_stores.proofs.Running.{Run-counts, Run-goes, Run-ready, Run-tells}
+use Rattle.txn_stores.proofs.Tasking.{Task-keeps}
+use Rattle.txn_stores.proofs.Waking.{not_reply}
+use Rattle.txn_stores.proofs.store_task.StoreTaskTask.take_reply.Goals as goal
+
+pub returns-then-not-is_under_way-clause-tells : goal.returns-then-not-is_under_way-clause-tells
+returns-then-not-is_under_way-clause-tells g c r = Tells-idle (store_task-lawful g.P.Plan.meaning g.P.Result.HasKeyErrors.key_errors_in g.P.Result.HasRegionError.region_error_in g.met.P.Plan.lawful) (not_reply (g.P.Plan.meaning.waits c.args.self.now.plan) c.args.self.now.stage c.args.number c.if-not-is_under_way.ensures) c.stay.ensures
+
+pub returns-clause-tells : goal.returns-clause-tells
+returns-clause-tells g c r = Run-tells g.P.Plan.meaning g.P.Result.HasKeyErrors.key_errors_in g.P.Result.HasRegionError.region_error_in c.args.self.now c.after_plan.new.self c.take_reply-turn.new.self (turn_of c.take_reply-turn.result) c.if-not-is_under_way.ensures c.requires.ready c.take_reply-turn.ensures.goes (c.take_reply-turn.ensures.tells r) c.after_plan.ensures.follows
+
+pub returns-clause-goes : goal.returns-clause-goes
+returns-clause-goes g c = Run-goes g.P.Plan.meaning g.P.Result.HasKeyErrors.key_errors_in g.P.Result.HasRegionError.region_error_in (ReplyTo c.args.number) c.args.self.now c.after_plan.new.self c.take_reply-turn.new.self (turn_of c.take_reply-turn.result) c.if-not-is_under_way.ensures c.requires.ready c.take_reply-turn.ensures.goes c.after_plan.ensures.follows
+
+pub returns-clause-counts : goal.returns-clause-counts
+returns-clause-counts g c = Run-counts g.P.Plan.meaning g.P.Result.HasKeyErrors.key_errors_in g.P.Result.HasRegionError.region_error_in c.args.self.now c.after_plan.new.self c.take_reply-turn.new.self (turn_of c.take_reply-turn.result) (region_error_is_error c.args.reply) c.if-not-is_under_way.ensures c.requires.ready c.take_reply-turn.ensures.counts c.after_plan.ensures.follows
+
+pub returns-clause-keeps : goal.returns-clause-keeps
+returns-clause-keeps g c = Task-keeps g.P.StoreRequest.at_store c.take_reply-turn.new.self c.args.self.now.stage (turn_of c.take_reply-turn.result) c.after_plan.ensures.follows
+
+pub returns-clause-ready : goal.returns-clause-ready
+returns-clause-ready g c = Run-ready g.P.Plan.meaning g.P.Result.HasKeyErrors.key_errors_in g.P.Result.HasRegionError.region_error_in c.args.self.now c.after_plan.new.self c.take_reply-turn.new.self (turn_of c.take_reply-turn.result) c.if-not-is_under_way.ensures c.requires.ready c.take_reply-turn.ensures.goes (c.take_reply-turn.ensures.tells members) c.take_reply-turn.ensures.counts c.take_reply-turn.ensures.ready c.after_plan.ensures.follows

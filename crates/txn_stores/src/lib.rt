@@ -1,0 +1,16 @@
+//! A plan that is sent to every store, and is tried again where a request is lost.
+#![tactic(auto)]
+
+pub mod all_stage;
+pub mod all_stores;
+pub mod search_stage;
+pub mod stage;
+pub mod store_plan;
+pub mod store_search;
+pub mod store_task;
+#[cfg(test)]
+mod tests;
+
+pub use all_stores::RetryableAllStores;
+pub use store_plan::StorePlan;
+pub use store_task::StoreTask;

@@ -1,0 +1,313 @@
+//! The look-up of all stores.
+ghost use Rattle.std.specs.Bool.{MatchBool};
+ghost use Rattle.std.specs.Prelude.{◌≡◌, ⊤, IfErr, IfOk, MatchOption, false, map, true};
+ghost use Rattle.txn_history.specs.Faults.{has_error, has_region_error};
+ghost use Rattle.txn_history.specs.Meaning.{missed, replied, started, woken, Counts, Goes, IsUnbegun, Tells};
+ghost use Rattle.txn_history.specs.Phase.{unheard};
+ghost use Rattle.txn_history.specs.Phase.Awaited.{EndOf, ReplyTo};
+ghost use Rattle.txn_history.specs.Phase.Phase.{Fresh};
+ghost use Rattle.txn_history.specs.Posted.{HasNumbers, Posted, ticket_of};
+ghost use Rattle.txn_history.specs.Spends.{locked_of, weight_of};
+ghost use Rattle.txn_history.specs.Turn.{turn_of};
+ghost use Rattle.txn_history.specs.Turn.Turn.{Ends, Stopped, Waits};
+ghost use Rattle.txn_kv.specs.declared.query.PdQuery.TheVariants as query;
+ghost use Rattle.txn_kv.specs.declared.request.Request.{Request as Asked};
+ghost use Rattle.txn_plan.specs.LookUp.{call_waits, looked_up};
+ghost use Rattle.txn_region.specs.Clients.{IsRefused, OrStarved};
+ghost use Rattle.txn_stores.specs.Search.{search_phase, search_waits, searching, stores_in, AwaitsLast, Holds, IsHeard, IsOut, IsRefusal, IsSearched, IsTaken, SearchesOn};
+ghost use Rattle.txn_tso.specs.Placement.{fresh};
+
+use crate::search_stage::SearchStage;
+use std::alloc::Global;
+use std::mem;
+use txn_kv::{
+    Errand, Error, Internal, NoMemory, Outbox, PdAnswer, PdQuery, Progress, Reply, Result,
+    StoreMeta,
+};
+use txn_region::{PdClient, Store, is_valid_tikv_store};
+use txn_tso::PdCall;
+
+/// What an event answers.
+type Turn<T> = std::result::Result<Progress<T>, NoMemory>;
+
+/// Asks the placement driver for all stores, and answers those that transactions are sent to, in the order of its answer. The
+/// driver is asked anew, whatever the client knows.
+#[derive(Drop)]
+pub struct StoreSearch {
+    stage: SearchStage,
+    alloc: Global,
+}
+
+impl StoreSearch {
+    /// Nothing is asked yet. Takes no memory.
+    pub fn new(alloc: Global) -> StoreSearch
+        ensures value { result ≡ record { stage = SearchStage.Fresh; alloc = alloc } }
+        ensures unbegun { IsUnbegun searching result }
+        ensures ready { IsOut result.stage }
+    {
+        StoreSearch {
+            stage: SearchStage::Fresh,
+            alloc,
+        }
+    }
+
+    pub fn start<C: PdClient>(&mut self, pd: &mut C, now: u64, out: &mut Outbox) -> Turn<Vec<Store>>
+        requires ready { IsOut self.old.stage }
+        requires numbers { HasNumbers out.old }
+        ensures tells { Tells searching started self.old self.new out.old out.new (turn_of result) }
+        ensures goes { Goes searching.phase (search_phase self.old.stage ≡ Fresh) self.old self.new out.old out.new pd.old pd.new (turn_of result) }
+        ensures counts { Counts searching false false 0 0 self.old self.new out.old out.new (turn_of result) }
+        ensures ready { IsOut self.new.stage }
+        ensures numbers { HasNumbers out.new }
+    {
+        if self.is_fresh() {
+            self.stage = SearchStage::Stopped;
+            self.ask(pd, now, out)
+        } else {
+            self.stay()
+        }
+    }
+
+    /// The reply to the request of this number came.
+    pub fn take_reply<C: PdClient>(
+        &mut self,
+        pd: &mut C,
+        now: u64,
+        number: u64,
+        reply: Reply,
+        out: &mut Outbox,
+    ) -> Turn<Vec<Store>>
+        requires ready { IsOut self.old.stage }
+        requires numbers { HasNumbers out.old }
+        ensures tells { (r : Asked) → Tells searching (replied (ticket_of out.old number) r reply) self.old self.new out.old out.new (turn_of result) }
+        ensures goes { Goes searching.phase (search_waits self.old.stage (ReplyTo number)) self.old self.new out.old out.new pd.old pd.new (turn_of result) }
+        ensures counts { Counts searching (has_error reply) (has_region_error reply) (weight_of reply) (locked_of reply) self.old self.new out.old out.new (turn_of result) }
+        ensures ready { IsOut self.new.stage }
+        ensures numbers { HasNumbers out.new }
+    {
+        match self.take_asking(number) {
+            Some(call) => {
+                let mut call = call;
+                let turn = call.take_reply(pd.retry_client(), now, number, reply, out);
+                self.hear(call, turn, pd, out)
+            }
+            None => self.stay(),
+        }
+    }
+
+    /// No reply to the request of this number will come.
+    pub fn lost<C: PdClient>(
+        &mut self,
+        pd: &mut C,
+        now: u64,
+        number: u64,
+        out: &mut Outbox,
+    ) -> Turn<Vec<Store>>
+        requires ready { IsOut self.old.stage }
+        requires numbers { HasNumbers out.old }
+        ensures tells { (r : Asked) → Tells searching (missed (ticket_of out.old number) r) self.old self.new out.old out.new (turn_of result) }
+        ensures goes { Goes searching.phase (search_waits self.old.stage (ReplyTo number)) self.old self.new out.old out.new pd.old pd.new (turn_of result) }
+        ensures counts { Counts searching true true 0 0 self.old self.new out.old out.new (turn_of result) }
+        ensures ready { IsOut self.new.stage }
+        ensures numbers { HasNumbers out.new }
+    {
+        match self.take_asking(number) {
+            Some(call) => {
+                let mut call = call;
+                let turn = call.lost(pd.retry_client(), now, number, out);
+                self.hear(call, turn, pd, out)
+            }
+            None => self.stay(),
+        }
+    }
+
+    /// The sleep of this number has ended.
+    pub fn slept<C: PdClient>(
+        &mut self,
+        pd: &mut C,
+        now: u64,
+        number: u64,
+        out: &mut Outbox,
+    ) -> Turn<Vec<Store>>
+        requires ready { IsOut self.old.stage }
+        requires numbers { HasNumbers out.old }
+        ensures tells { Tells searching (woken (ticket_of out.old number)) self.old self.new out.old out.new (turn_of result) }
+        ensures goes { Goes searching.phase (search_waits self.old.stage (EndOf number)) self.old self.new out.old out.new pd.old pd.new (turn_of result) }
+        ensures counts { Counts searching false false 0 0 self.old self.new out.old out.new (turn_of result) }
+        ensures ready { IsOut self.new.stage }
+        ensures numbers { HasNumbers out.new }
+    {
+        match self.take_resting(number) {
+            Some(call) => {
+                let mut call = call;
+                let turn = call.slept(pd.retry_client(), now, number, out);
+                self.hear(call, turn, pd, out)
+            }
+            None => self.stay(),
+        }
+    }
+
+    fn is_fresh(&self) -> bool
+        ensures { MatchBool result (self.now.stage ≡ SearchStage.Fresh) (search_phase self.now.stage ≡ Fresh → ⊥) }
+    {
+        matches!(self.stage, SearchStage::Fresh)
+    }
+
+    /// What comes of an event that is not for this state. The connection is lent to no look-up then.
+    pub(crate) fn stay(&self) -> Turn<Vec<Store>>
+        ensures { turn_of result ≡ unheard (search_phase self.now.stage) }
+    {
+        match self.stage {
+            SearchStage::Stopped => Err(NoMemory),
+            _ => Ok(Progress::Waiting),
+        }
+    }
+
+    /// Takes the look-up that waits for the reply to this request.
+    fn take_asking(&mut self, number: u64) -> Option<PdCall>
+        requires { IsOut self.old.stage }
+        ensures { MatchOption result ((self.new ≡ self.old) × (search_waits self.old.stage (ReplyTo number) → ⊥)) (IsTaken (ReplyTo number) self.old self.new) }
+    {
+        match mem::replace(&mut self.stage, SearchStage::Stopped) {
+            SearchStage::Asking {
+                call,
+                number: asked,
+            } if asked == number => Some(call),
+            stage => {
+                self.stage = stage;
+                None
+            }
+        }
+    }
+
+    /// Takes the look-up that waits for the end of this sleep.
+    fn take_resting(&mut self, number: u64) -> Option<PdCall>
+        requires { IsOut self.old.stage }
+        ensures { MatchOption result ((self.new ≡ self.old) × (search_waits self.old.stage (EndOf number) → ⊥)) (IsTaken (EndOf number) self.old self.new) }
+    {
+        match mem::replace(&mut self.stage, SearchStage::Stopped) {
+            SearchStage::Resting {
+                call,
+                number: begun,
+            } if begun == number => Some(call),
+            stage => {
+                self.stage = stage;
+                None
+            }
+        }
+    }
+
+    /// Sends the look-up.
+    fn ask<C: PdClient>(&mut self, pd: &mut C, now: u64, out: &mut Outbox) -> Turn<Vec<Store>>
+        requires stopped { self.old.stage ≡ SearchStage.Stopped }
+        requires numbers { HasNumbers out.old }
+        ensures on { SearchesOn (λ h. ⊤) (λ a. ⊥) self.new out.old out.new (turn_of result) }
+    {
+        let mut call = pd.call(PdQuery::Stores);
+        let progress = call.start(pd.retry_client(), now, out)?;
+        pass_over(progress);
+        self.wait(call, out)
+    }
+
+    /// Goes on after an event of the look-up.
+    fn hear<C: PdClient>(
+        &mut self,
+        call: PdCall,
+        turn: Turn<PdAnswer>,
+        pd: &mut C,
+        out: &mut Outbox,
+    ) -> Turn<Vec<Store>>
+        requires stopped { self.old.stage ≡ SearchStage.Stopped }
+        requires query { call.query ≡ query.Stores }
+        requires waits { turn_of turn ≡ Waits → AwaitsLast call out.old }
+        ensures stops { turn_of turn ≡ Stopped → (turn_of result ≡ Stopped) × (out.new ≡ out.old) }
+        ensures on { SearchesOn (λ h. IsHeard call (turn_of turn) out.old h) (call_waits call.stage) self.new out.old out.new (turn_of result) }
+    {
+        match turn? {
+            Progress::Waiting => self.wait(call, out),
+            Progress::Done(answer) => self.learn(answer, pd),
+        }
+    }
+
+    /// The look-up waits for what was posted last.
+    fn wait(&mut self, call: PdCall, out: &Outbox) -> Turn<Vec<Store>>
+        requires query { call.query ≡ query.Stores }
+        requires waits { AwaitsLast call out.now }
+        ensures turn { turn_of result ≡ Waits }
+        ensures holds { Holds call self.new.stage }
+    {
+        self.stage = match out.sends.as_slice().last() {
+            Some(Errand::Send { number, .. }) => SearchStage::Asking {
+                call,
+                number: *number,
+            },
+            Some(Errand::Sleep { number, .. }) => SearchStage::Resting {
+                call,
+                number: *number,
+            },
+            _ => unreachable!(),
+        };
+        Ok(Progress::Waiting)
+    }
+
+    /// The client learns what came of the look-up, and may refuse it.
+    fn learn<C: PdClient>(&mut self, answer: Result<PdAnswer>, pd: &mut C) -> Turn<Vec<Store>>
+        requires stopped { self.old.stage ≡ SearchStage.Stopped }
+        ensures on { (o : Posted) → SearchesOn (λ h. looked_up.gives (fresh query.Stores) h answer) (λ a. ⊥) self.new o o (turn_of result) }
+    {
+        let learnt = pd.learn(&PdQuery::Stores, &answer);
+        match take_stores(self.alloc, answer, learnt) {
+            Ok(stores) => self.end(Ok(stores)),
+            Err(error) => self.refuse(error),
+        }
+    }
+
+    /// An error as the answer. Want of memory is none.
+    fn refuse(&mut self, error: Error) -> Turn<Vec<Store>>
+        requires stopped { self.old.stage ≡ SearchStage.Stopped }
+        ensures { IsRefusal error self.new (turn_of result) }
+    {
+        match error {
+            Error::OutOfMemory => Err(NoMemory),
+            error => self.end(Err(error)),
+        }
+    }
+
+    fn end(&mut self, answer: Result<Vec<Store>>) -> Turn<Vec<Store>>
+        ensures turn { turn_of result ≡ Ends answer }
+        ensures stage { self.new.stage ≡ SearchStage.Over }
+    {
+        self.stage = SearchStage::Over;
+        Ok(Progress::Done(answer))
+    }
+}
+
+/// A look-up that was begun has no answer yet.
+fn pass_over(_progress: Progress<PdAnswer>) {}
+
+/// The stores of an answer that was learnt, or why it was not.
+fn take_stores(alloc: Global, answer: Result<PdAnswer>, learnt: Result<()>) -> Result<Vec<Store>>
+    requires { IfErr learnt (OrStarved (IsRefused query.Stores answer)) }
+    ensures { IsSearched answer result }
+{
+    learnt?;
+    match answer? {
+        PdAnswer::Stores(all) => Ok(valid_stores(alloc, all)?),
+        _ => Err(Error::InternalError {
+            what: Internal::WrongReply,
+        }),
+    }
+}
+
+/// Those of all stores that transactions are sent to.
+fn valid_stores(alloc: Global, all: Vec<StoreMeta>) -> std::result::Result<Vec<Store>, NoMemory>
+    ensures { IfOk result (λ stores. map (λ store. store.id) stores.items ≡ stores_in all.items) }
+{
+    let mut stores = Vec::new(alloc);
+    for meta in all {
+        if is_valid_tikv_store(&meta) {
+            stores.push(Store::new(meta.id))?;
+        }
+    }
+    Ok(stores)
+}

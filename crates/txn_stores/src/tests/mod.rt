@@ -1,0 +1,2 @@
+mod all_stores;
+mod client;
