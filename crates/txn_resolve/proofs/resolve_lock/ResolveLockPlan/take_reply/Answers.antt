@@ -1,0 +1,11 @@
+use Rattle.txn_resolve.proofs.Unlocking.{counts, goes, tells}
+use Rattle.txn_resolve.proofs.resolve_lock.ResolveLockPlan.take_reply.Goals as goal
+
+pub returns-clause-tells : goal.returns-clause-tells
+returns-clause-tells g c r = tells g.P.Plan.meaning g.P.Result.HasLocks.locks c.read.ensures (c.take_reply-turn.ensures.tells r)
+
+pub returns-clause-goes : goal.returns-clause-goes
+returns-clause-goes g c = goes g.P.Plan.meaning.phase g.P.Result.HasLocks.locks c.read.ensures c.take_reply-turn.ensures.goes
+
+pub returns-clause-counts : goal.returns-clause-counts
+returns-clause-counts g c = counts g.P.Plan.meaning g.P.Result.HasLocks.locks c.read.ensures c.take_reply-turn.ensures.counts

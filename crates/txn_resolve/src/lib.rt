@@ -1,0 +1,10 @@
+//! Locks that stand in the way of a request.
+#![tactic(auto)]
+
+pub mod resolve_lock;
+pub mod send;
+mod shard;
+#[cfg(test)]
+mod tests;
+
+pub use resolve_lock::ResolveLock;
