@@ -1,5 +1,5 @@
-pub mod Following
-pub mod Keys
-pub mod Licences
+pub mod Going
+pub mod Lists
 pub mod Moving
-pub mod Planned
+pub mod Naming
+pub mod Ordered

@@ -1,6 +1,5 @@
-pub mod Following
+pub mod Going
 pub mod Options
-pub mod Parts
-pub mod Sending
 pub mod Status
+pub mod Transaction
 pub mod Ttl

@@ -1,17 +1,22 @@
 //! Each type of this crate can move between threads.
 
 use crate::close_answer::CloseAnswer;
-use crate::commit_parts::CommitParts;
 use crate::options::TransactionOptions;
-use crate::primary_commits::PrimaryCommits;
 use crate::status::Status;
+use crate::transaction::Transaction;
+use crate::txn_answer::TxnAnswer;
+use std::marker::Send;
 use txn_kv::send::can_move;
 
 /// The types of this crate do.
 pub fn parts_can_move() {
     can_move::<CloseAnswer>();
-    can_move::<CommitParts>();
-    can_move::<PrimaryCommits>();
     can_move::<Status>();
     can_move::<TransactionOptions>();
+}
+
+/// A transaction does where its plans do.
+pub fn transactions_can_move<C: Send, P: Send, Q: Send, K: Send>() {
+    can_move::<Transaction<C, P, Q, K>>();
+    can_move::<TxnAnswer<Q>>();
 }

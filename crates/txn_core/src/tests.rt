@@ -1,16 +1,7 @@
 use super::*;
-use std::alloc::Global;
-use std::test::Fail;
 use std::time::Duration;
-use txn_buffer::Buffer;
-use txn_kv::{
-    Backoff, CommitRequest, Errand, Items, Key, NoMemory, Request, Target, Ticket, Timestamp, Value,
-};
+use txn_kv::Backoff;
 use txn_merge::RetryOptions;
-
-fn key(alloc: Global, name: &str) -> Result<Key, NoMemory> {
-    Ok(Key::from(name.as_bytes().to_vec(alloc)?))
-}
 
 fn optimistic() -> TransactionOptions {
     TransactionOptions::new_optimistic()
@@ -112,84 +103,4 @@ fn time_to_live(rt: HostRuntime) {
     assert_eq!(rt; ttl::txn_lock_ttl(1 << 40, 0, 0), 20000);
     assert_eq!(rt; ttl::txn_lock_ttl(5, 100, 350), 3250);
     assert_eq!(rt; ttl::txn_lock_ttl(5, 350, 100), 3000);
-}
-
-#[test]
-fn parts_of_writes_locks_and_checks(rt: HostRuntime) -> Result<(), Fail> {
-    let alloc = rt.alloc();
-    let mut buffer = Buffer::new(alloc, false);
-    assert_eq!(rt; CommitParts::of_buffer(alloc, &buffer)?, None);
-    buffer.insert(key(alloc, "a")?, Value::new(alloc))?;
-    buffer.put(key(alloc, "c")?, Value::new(alloc))?;
-    buffer.lock(key(alloc, "b")?)?;
-    buffer.delete(key(alloc, "a")?)?;
-    let parts = CommitParts::of_buffer(alloc, &buffer)?.ok_or("no parts")?;
-    assert_eq!(rt; parts.mutations.len(), 3);
-    assert_eq!(rt; parts.primary, key(alloc, "b")?);
-    assert_eq!(rt; parts.secondaries.as_slice(), [key(alloc, "c")?].as_slice());
-    assert_eq!(rt; parts.locks, true);
-    Ok(())
-}
-
-#[test]
-fn parts_of_checks_alone(rt: HostRuntime) -> Result<(), Fail> {
-    let alloc = rt.alloc();
-    let mut buffer = Buffer::new(alloc, false);
-    buffer.insert(key(alloc, "b")?, Value::new(alloc))?;
-    buffer.insert(key(alloc, "a")?, Value::new(alloc))?;
-    buffer.delete(key(alloc, "a")?)?;
-    buffer.delete(key(alloc, "b")?)?;
-    let parts = CommitParts::of_buffer(alloc, &buffer)?.ok_or("no parts")?;
-    assert_eq!(rt; parts.primary, key(alloc, "b")?);
-    assert_eq!(rt; parts.secondaries.len(), 0);
-    assert_eq!(rt; parts.locks, false);
-    Ok(())
-}
-
-fn ticket(number: u64) -> Ticket {
-    Ticket {
-        line: 6,
-        beat: false,
-        number,
-    }
-}
-
-fn commit_sent(alloc: Global, number: u64) -> Errand {
-    Errand::Send {
-        number,
-        to: Target::Store(1),
-        request: Request::Commit(CommitRequest {
-            context: None,
-            keys: Items::new(alloc),
-            start_version: 1,
-            commit_version: 2,
-        }),
-    }
-}
-
-#[test]
-fn commits_are_followed_until_one_is_lost(rt: HostRuntime) -> Result<(), Fail> {
-    let alloc = rt.alloc();
-    let at = Timestamp {
-        physical: 0,
-        logical: 2,
-        suffix_bits: 0,
-    };
-    let mut commits = PrimaryCommits::new(alloc);
-    let mut errands = Vec::new(alloc);
-    errands.push(Errand::Sleep { number: 4, ms: 2 })?;
-    commits.send(6, false, errands.as_slice(), at)?;
-    assert_eq!(rt; commits.timestamp(), None);
-    errands.push(commit_sent(alloc, 5))?;
-    commits.send(6, false, errands.as_slice(), at)?;
-    assert_eq!(rt; commits.timestamp(), Some(at));
-    assert_eq!(rt; commits.undetermined(), Some(ticket(5)));
-    commits.lose(ticket(4));
-    commits.take(ticket(5));
-    assert_eq!(rt; commits.undetermined(), None);
-    commits.send(6, false, errands.as_slice(), at)?;
-    commits.lose(ticket(5));
-    commits.take(ticket(5));
-    assert_eq!(rt; commits.undetermined(), Some(ticket(5)));
-    Ok(())
 }

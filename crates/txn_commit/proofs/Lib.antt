@@ -1,0 +1,12 @@
+pub mod Committing
+pub mod Counting
+pub mod Following
+pub mod Jobs
+pub mod Keys
+pub mod Licences
+pub mod Once
+pub mod Planned
+pub mod Posting
+pub mod Sending
+pub mod Stages
+pub mod Timing

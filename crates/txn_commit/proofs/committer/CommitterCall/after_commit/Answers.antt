@@ -1,0 +1,14 @@
+use Rattle.std.proofs.Common.{inl, inr}
+use Rattle.txn_kv.specs.Timestamp.{version_of}
+use Rattle.txn_commit.specs.Sending.{plan_of}
+use Rattle.txn_commit.proofs.Stages.{ends_is, goes_on_ends, goes_on_waits, primary_committed, waits_is}
+use Rattle.txn_commit.proofs.committer.CommitterCall.after_commit.Goals as goal
+
+pub returns-in-Waiting-clause-moves : goal.returns-in-Waiting-clause-moves
+returns-in-Waiting-clause-moves g c c' o q e = goes_on_waits _ _ _ _ _ _ _ (waits_is c.in-Waiting.is)
+
+pub returns-in-Done-Ok-clause-moves : goal.returns-in-Done-Ok-clause-moves
+returns-in-Done-Ok-clause-moves g c c' o q e = goes_on_ends _ _ _ _ _ _ _ _ _ _ _ (ends_is c.in-Done-Ok.is c.in-Done-Ok.field-0-is) c.end.ensures.state c.end.ensures.turn (λ h f s. primary_committed (plan_of c.args.self.now.parts) (version_of c.args.self.now.start) (version_of c.args.timestamp) h s)
+
+pub returns-clause-moves : goal.returns-clause-moves
+returns-clause-moves g c c' o q e = goes_on_ends _ _ _ _ _ _ _ _ _ _ _ (ends_is c.in-Done-Err.is c.in-Done-Err.field-0-is) c.end-in-Done-Err.ensures.state c.end-in-Done-Err.ensures.turn (λ h f s. inl (inr s))

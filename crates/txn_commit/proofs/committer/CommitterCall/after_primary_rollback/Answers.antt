@@ -1,0 +1,19 @@
+use Rattle.std.proofs.Common.{inl, inr}
+use Rattle.txn_commit.specs.declared.committer.Stage.TheVariants as stages
+use Rattle.txn_commit.proofs.Committing.{at_stage}
+use Rattle.txn_commit.proofs.Stages.{ends_is, goes_on_ends, goes_on_next, goes_on_waits, waits_is}
+use Rattle.txn_commit.proofs.Counting.{next_counts}
+use Rattle.std.proofs.Math.Nat.{le-add_left}
+use Rattle.txn_commit.proofs.committer.CommitterCall.after_primary_rollback.Goals as goal
+
+pub returns-in-Waiting-clause-moves : goal.returns-in-Waiting-clause-moves
+returns-in-Waiting-clause-moves g c c' k e = goes_on_waits _ _ _ _ _ _ _ (waits_is c.in-Waiting.is)
+
+pub returns-in-Done-Ok-clause-moves : goal.returns-in-Done-Ok-clause-moves
+returns-in-Done-Ok-clause-moves g c c' k e = goes_on_next _ _ _ _ _ _ _ _ _ _ _ _ _ (ends_is c.in-Done-Ok.is c.in-Done-Ok.field-0-is) (λ h f s. record { settled = (at_stage _ c.args.self.now (stages.RollingBackPrimary k) c' c.args.out.now h e f).settled; rolled = s }) (c.roll_back_others.ensures.moves c')
+
+pub returns-clause-moves : goal.returns-clause-moves
+returns-clause-moves g c c' k e = goes_on_ends _ _ _ _ _ _ _ _ _ _ _ (ends_is c.in-Done-Err.is c.in-Done-Err.field-0-is) c.end.ensures.state c.end.ensures.turn (λ h f s. inr (inl s))
+
+pub returns-in-Done-Ok-clause-counts : goal.returns-in-Done-Ok-clause-counts
+returns-in-Done-Ok-clause-counts g c k e = next_counts _ _ _ _ _ (stages.RollingBackPrimary k) _ _ _ e (λ n. le-add_left _ _) (λ n. le-add_left _ _) c.roll_back_others.ensures.counts

@@ -1,0 +1,12 @@
+use Rattle.txn_history.specs.Moves.{Moves-stopped}
+use Rattle.txn_commit.proofs.Stages.{asks_on, ends_on, stopped_is}
+use Rattle.txn_commit.proofs.committer.CommitterCall.ask.Goals as goal
+
+pub returns-then-not-self-clause-moves : goal.returns-then-not-self-clause-moves
+returns-then-not-self-clause-moves g c c' = ends_on _ _ _ _ _ _ _ _ c.end.ensures.state c.end.ensures.turn (λ h f k. (c.if-not-self.true, k.keys))
+
+pub returns-in_err-call-clause-moves : goal.returns-in_err-call-clause-moves
+returns-in_err-call-clause-moves g c c' = Moves-stopped (stopped_is _ c.from_residual.ensures.0) c.in_err-call.ensures.err
+
+pub returns-clause-moves : goal.returns-clause-moves
+returns-clause-moves g c c' = rw (c.go-2.ensures.state, c.go.ensures.state) (asks_on _ c.args.self.now c.go-2.new.self.width c.in_ok-call.call c' c.args.out.now c.begin.new.out c.in_ok-call.ensures.ok)

@@ -1,0 +1,84 @@
+use Rattle.txn_commit.specs.declared.committer.Stage.TheVariants as stages
+use Rattle.std.proofs.Common.{refl}
+use Rattle.txn_history.specs.Moves.{Moves-stopped, Moves-stops, Moves-then}
+use Rattle.txn_history.specs.Turn.{turn_of}
+use Rattle.txn_commit.specs.Arrivals.{told_by}
+use Rattle.txn_commit.specs.Committing.{ways}
+use Rattle.txn_commit.specs.Following.{heard}
+use Rattle.txn_commit.proofs.Committing.{prewriting_on, rolling_on, rolling_others_on}
+use Rattle.txn_commit.proofs.Posting.{heard_time, hears_told, knows_heard}
+use Rattle.txn_commit.proofs.Stages.{asking_on, commits_on, over_on, stopped_is}
+use Rattle.txn_commit.proofs.Counting.{asking_counts, committing_counts, failure_is_error, gave_up_counts, idle_counts, is_kept_so, prewriting_counts, rolling_counts, rolling_others_counts, stop_counts, then_counts}
+use Rattle.txn_commit.proofs.committer.CommitterCall.tell.Goals as goal
+
+pub returns-in_err-progress-in-Prewriting-clause-moves : goal.returns-in_err-progress-in-Prewriting-clause-moves
+returns-in_err-progress-in-Prewriting-clause-moves g c r = Moves-stops (prewriting_on _ c.args.self.now c.in-Prewriting.plan c.tell.new.plan c.args.commits.now (told_by c.args.arrival c.args.out.now r) c.args.out.now _ _ c.in-Prewriting.is (hears_told c.args.arrival c.args.out.now r) (c.tell.ensures.tells r).moves (c.tell.ensures.tells r).job) (stopped_is _ c.from_residual.ensures.0)
+
+pub returns-in-Err-clause-moves : goal.returns-in-Err-clause-moves
+returns-in-Err-clause-moves g c r = Moves-stops (asking_on _ c.args.self.now c.in-Asking.call c.tell-in-Asking.new.self c.args.commits.now c.args.arrival r c.args.out.now _ _ c.in-Asking.is (rw c.in-Asking.is at c.requires.ready).1 (c.tell-in-Asking.ensures.tells r) c.tell-in-Asking.ensures.answer) c.give_up.ensures.turn
+
+pub returns-in_err-progress-in-Committing-clause-moves : goal.returns-in_err-progress-in-Committing-clause-moves
+returns-in_err-progress-in-Committing-clause-moves g c r = Moves-stops (commits_on _ c.args.self.now c.in-Committing.plan c.tell_commit.new.plan c.in-Committing.timestamp c.args.commits.now (heard c.args.arrival c.args.out.now c.args.commits.now) c.tell_commit.new.commits (told_by c.args.arrival c.args.out.now r) c.args.out.now _ _ c.in-Committing.is (hears_told c.args.arrival c.args.out.now r) (λ h n k. knows_heard _ _ c.args.commits.now c.args.arrival c.args.out.now r h n k) (heard_time c.args.arrival c.args.out.now c.args.commits.now) (c.tell_commit.ensures.sends r)) (stopped_is _ c.from_residual-in_err-progress-in-Committing.ensures.0)
+
+pub returns-in_err-progress-in-RollingBackPrimary-clause-moves : goal.returns-in_err-progress-in-RollingBackPrimary-clause-moves
+returns-in_err-progress-in-RollingBackPrimary-clause-moves g c r = Moves-stops (rolling_on _ c.args.self.now c.in-RollingBackPrimary.plan c.tell-in-RollingBackPrimary.new.plan c.args.commits.now (told_by c.args.arrival c.args.out.now r) c.args.out.now _ _ c.in-RollingBackPrimary.is (hears_told c.args.arrival c.args.out.now r) (c.tell-in-RollingBackPrimary.ensures.tells r).moves (c.tell-in-RollingBackPrimary.ensures.tells r).job) (stopped_is _ c.from_residual-in_err-progress-in-RollingBackPrimary.ensures.0)
+
+pub returns-in_err-progress-in-RollingBackOthers-clause-moves : goal.returns-in_err-progress-in-RollingBackOthers-clause-moves
+returns-in_err-progress-in-RollingBackOthers-clause-moves g c r = Moves-stops (rolling_others_on _ c.args.self.now c.in-RollingBackOthers.plan c.tell-in-RollingBackOthers.new.plan c.args.commits.now (told_by c.args.arrival c.args.out.now r) c.args.out.now _ _ c.in-RollingBackOthers.is (hears_told c.args.arrival c.args.out.now r) (c.tell-in-RollingBackOthers.ensures.tells r).moves (c.tell-in-RollingBackOthers.ensures.tells r).job) (stopped_is _ c.from_residual-in_err-progress-in-RollingBackOthers.ensures.0)
+
+pub returns-in_ok-progress-in-Prewriting-clause-moves : goal.returns-in_ok-progress-in-Prewriting-clause-moves
+returns-in_ok-progress-in-Prewriting-clause-moves g c r = Moves-then (prewriting_on _ c.args.self.now c.in-Prewriting.plan c.tell.new.plan c.args.commits.now (told_by c.args.arrival c.args.out.now r) c.args.out.now _ _ c.in-Prewriting.is (hears_told c.args.arrival c.args.out.now r) (c.in_ok-progress-in-Prewriting.ensures.tells r).moves (c.in_ok-progress-in-Prewriting.ensures.tells r).job) (c.after_prewrite.ensures.moves c.args.commits.now c.tell.new.plan refl)
+
+pub returns-in-Ok-clause-moves : goal.returns-in-Ok-clause-moves
+returns-in-Ok-clause-moves g c r = Moves-then (rw c.in-Ok.is at (asking_on (ways g.P.Plan.meaning g.Q.Plan.meaning g.K.Plan.meaning g.P.PlanFor.refuses g.Q.PlanFor.refuses g.K.PlanFor.refuses) c.args.self.now c.in-Asking.call c.tell-in-Asking.new.self c.args.commits.now c.args.arrival r c.args.out.now c.tell-in-Asking.new.out (turn_of c.tell-in-Asking.result) c.in-Asking.is (rw c.in-Asking.is at c.requires.ready).1 (c.tell-in-Asking.ensures.tells r) c.tell-in-Asking.ensures.answer)) (c.after_time.ensures.moves c.tell-in-Asking.new.self refl)
+
+pub returns-in_ok-progress-in-Committing-clause-moves : goal.returns-in_ok-progress-in-Committing-clause-moves
+returns-in_ok-progress-in-Committing-clause-moves g c r = Moves-then (commits_on _ c.args.self.now c.in-Committing.plan c.tell_commit.new.plan c.in-Committing.timestamp c.args.commits.now (heard c.args.arrival c.args.out.now c.args.commits.now) c.tell_commit.new.commits (told_by c.args.arrival c.args.out.now r) c.args.out.now _ _ c.in-Committing.is (hears_told c.args.arrival c.args.out.now r) (λ h n k. knows_heard _ _ c.args.commits.now c.args.arrival c.args.out.now r h n k) (heard_time c.args.arrival c.args.out.now c.args.commits.now) (c.in_ok-progress-in-Committing.ensures.sends r)) (c.after_commit.ensures.moves c.tell_commit.new.commits _ c.tell_commit.new.plan refl)
+
+pub returns-in_ok-progress-in-RollingBackPrimary-clause-moves : goal.returns-in_ok-progress-in-RollingBackPrimary-clause-moves
+returns-in_ok-progress-in-RollingBackPrimary-clause-moves g c r = Moves-then (rolling_on _ c.args.self.now c.in-RollingBackPrimary.plan c.tell-in-RollingBackPrimary.new.plan c.args.commits.now (told_by c.args.arrival c.args.out.now r) c.args.out.now _ _ c.in-RollingBackPrimary.is (hears_told c.args.arrival c.args.out.now r) (c.in_ok-progress-in-RollingBackPrimary.ensures.tells r).moves (c.in_ok-progress-in-RollingBackPrimary.ensures.tells r).job) (c.after_primary_rollback.ensures.moves c.args.commits.now c.tell-in-RollingBackPrimary.new.plan refl)
+
+pub returns-in_ok-progress-in-RollingBackOthers-clause-moves : goal.returns-in_ok-progress-in-RollingBackOthers-clause-moves
+returns-in_ok-progress-in-RollingBackOthers-clause-moves g c r = Moves-then (rolling_others_on _ c.args.self.now c.in-RollingBackOthers.plan c.tell-in-RollingBackOthers.new.plan c.args.commits.now (told_by c.args.arrival c.args.out.now r) c.args.out.now _ _ c.in-RollingBackOthers.is (hears_told c.args.arrival c.args.out.now r) (c.in_ok-progress-in-RollingBackOthers.ensures.tells r).moves (c.in_ok-progress-in-RollingBackOthers.ensures.tells r).job) (c.after_rollback.ensures.moves c.args.commits.now _ c.tell-in-RollingBackOthers.new.plan refl)
+
+pub returns-in-Over-clause-moves : goal.returns-in-Over-clause-moves
+returns-in-Over-clause-moves g c r = over_on _ c.args.self.now c.args.commits.now (told_by c.args.arrival c.args.out.now r) c.args.out.now c.in-Over.is (hears_told c.args.arrival c.args.out.now r)
+
+pub returns-in-Stopped-clause-moves : goal.returns-in-Stopped-clause-moves
+returns-in-Stopped-clause-moves g c r = Moves-stopped refl refl
+
+pub returns-in_err-progress-in-Prewriting-clause-counts : goal.returns-in_err-progress-in-Prewriting-clause-counts
+returns-in_err-progress-in-Prewriting-clause-counts g c = stop_counts _ _ (stopped_is _ c.from_residual.ensures.0) (prewriting_counts _ _ c.args.self.now c.in-Prewriting.plan c.tell.new.plan c.in-Prewriting.is c.tell.ensures.counts)
+
+pub returns-in_ok-progress-in-Prewriting-clause-counts : goal.returns-in_ok-progress-in-Prewriting-clause-counts
+returns-in_ok-progress-in-Prewriting-clause-counts g c = then_counts _ _ (failure_is_error c.args.arrival) (is_kept_so c.in_ok-progress-in-Prewriting.progress) (prewriting_counts _ _ c.args.self.now c.in-Prewriting.plan c.tell.new.plan c.in-Prewriting.is c.in_ok-progress-in-Prewriting.ensures.counts) (c.after_prewrite.ensures.counts c.tell.new.plan refl)
+
+pub returns-in_err-progress-in-Committing-clause-counts : goal.returns-in_err-progress-in-Committing-clause-counts
+returns-in_err-progress-in-Committing-clause-counts g c = stop_counts _ _ (stopped_is _ c.from_residual-in_err-progress-in-Committing.ensures.0) (committing_counts _ _ c.args.self.now c.in-Committing.plan c.tell_commit.new.plan c.in-Committing.timestamp c.in-Committing.is c.tell_commit.ensures.counts)
+
+pub returns-in_ok-progress-in-Committing-clause-counts : goal.returns-in_ok-progress-in-Committing-clause-counts
+returns-in_ok-progress-in-Committing-clause-counts g c = then_counts _ _ (failure_is_error c.args.arrival) (is_kept_so c.in_ok-progress-in-Committing.progress) (committing_counts _ _ c.args.self.now c.in-Committing.plan c.tell_commit.new.plan c.in-Committing.timestamp c.in-Committing.is c.in_ok-progress-in-Committing.ensures.counts) (c.after_commit.ensures.counts _)
+
+pub returns-in_err-progress-in-RollingBackPrimary-clause-counts : goal.returns-in_err-progress-in-RollingBackPrimary-clause-counts
+returns-in_err-progress-in-RollingBackPrimary-clause-counts g c = stop_counts _ _ (stopped_is _ c.from_residual-in_err-progress-in-RollingBackPrimary.ensures.0) (rolling_counts _ _ c.args.self.now c.in-RollingBackPrimary.plan c.tell-in-RollingBackPrimary.new.plan c.in-RollingBackPrimary.is c.tell-in-RollingBackPrimary.ensures.counts)
+
+pub returns-in_ok-progress-in-RollingBackPrimary-clause-counts : goal.returns-in_ok-progress-in-RollingBackPrimary-clause-counts
+returns-in_ok-progress-in-RollingBackPrimary-clause-counts g c = then_counts _ _ (failure_is_error c.args.arrival) (is_kept_so c.in_ok-progress-in-RollingBackPrimary.progress) (rolling_counts _ _ c.args.self.now c.in-RollingBackPrimary.plan c.tell-in-RollingBackPrimary.new.plan c.in-RollingBackPrimary.is c.in_ok-progress-in-RollingBackPrimary.ensures.counts) (c.after_primary_rollback.ensures.counts c.tell-in-RollingBackPrimary.new.plan refl)
+
+pub returns-in_err-progress-in-RollingBackOthers-clause-counts : goal.returns-in_err-progress-in-RollingBackOthers-clause-counts
+returns-in_err-progress-in-RollingBackOthers-clause-counts g c = stop_counts _ _ (stopped_is _ c.from_residual-in_err-progress-in-RollingBackOthers.ensures.0) (rolling_others_counts _ _ c.args.self.now c.in-RollingBackOthers.plan c.tell-in-RollingBackOthers.new.plan c.in-RollingBackOthers.is c.tell-in-RollingBackOthers.ensures.counts)
+
+pub returns-in_ok-progress-in-RollingBackOthers-clause-counts : goal.returns-in_ok-progress-in-RollingBackOthers-clause-counts
+returns-in_ok-progress-in-RollingBackOthers-clause-counts g c = then_counts _ _ (failure_is_error c.args.arrival) (is_kept_so c.in_ok-progress-in-RollingBackOthers.progress) (rolling_others_counts _ _ c.args.self.now c.in-RollingBackOthers.plan c.tell-in-RollingBackOthers.new.plan c.in-RollingBackOthers.is c.in_ok-progress-in-RollingBackOthers.ensures.counts) (c.after_rollback.ensures.counts _)
+
+pub returns-in-Ok-clause-counts : goal.returns-in-Ok-clause-counts
+returns-in-Ok-clause-counts g c = then_counts _ _ (failure_is_error c.args.arrival) (rw c.in-Ok.is (is_kept_so c.in-Ok.progress)) (asking_counts _ _ c.args.self.now c.in-Asking.call c.tell-in-Asking.new.self c.in-Asking.is c.tell-in-Asking.ensures.counts) (c.after_time.ensures.counts c.tell-in-Asking.new.self refl)
+
+pub returns-in-Err-clause-counts : goal.returns-in-Err-clause-counts
+returns-in-Err-clause-counts g c = gave_up_counts _ _ c.give_up.ensures.turn c.give_up.ensures.state c.give_up.ensures.width (asking_counts _ _ c.args.self.now c.in-Asking.call c.tell-in-Asking.new.self c.in-Asking.is c.tell-in-Asking.ensures.counts)
+
+pub returns-in-Over-clause-counts : goal.returns-in-Over-clause-counts
+returns-in-Over-clause-counts g c = idle_counts _ _ c.args.self.now stages.Over _ _ _ _ _ _ c.in-Over.is (λ m. tt)
+
+pub returns-in-Stopped-clause-counts : goal.returns-in-Stopped-clause-counts
+returns-in-Stopped-clause-counts g c = idle_counts _ _ c.args.self.now stages.Stopped _ _ _ _ _ _ c.in-Stopped.is (λ m. tt)

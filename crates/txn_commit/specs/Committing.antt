@@ -1,0 +1,168 @@
+-- A commit or a rollback in a run: what has happened where it stands, and what its answer stands on.
+use Rattle.std.specs.Prelude.{◌≡◌, ◌⊎◌, ⊤, ℕ, true, false, List, [], ◌∷◌, Some, None, Result, Ok, Err}
+use Rattle.txn_kv.specs.Timestamp.{HasVersion, version_of}
+use Rattle.txn_kv.specs.declared.errors.Error.{Error}
+use Rattle.txn_kv.specs.declared.ticket.Ticket.{Ticket}
+use Rattle.txn_kv.specs.declared.timestamp.Timestamp.{Timestamp}
+use Rattle.txn_history.specs.Event.{Event, Has}
+use Rattle.txn_history.specs.Event.Event.{Answered}
+use Rattle.txn_history.specs.Licence.{AllAcknowledged, PrimaryCommitted, PrimaryRolledBack, WantedAfter, WasGiven}
+use Rattle.txn_history.specs.Meaning.{Meaning, Told}
+use Rattle.txn_history.specs.Moves.{Knows, Moves, SameJob}
+use Rattle.txn_history.specs.Plan.{Key, has_key, ArePlanned, Plan}
+use Rattle.txn_history.specs.Posted.{Posted, ticket_of}
+use Rattle.txn_history.specs.Turn.{Turn, IfKept}
+use Rattle.txn_commit.specs.Following.{Commits, KnowsCommits, sent, undetermined}
+use Rattle.txn_commit.specs.Plans.{AreCommitted, ArePrewritten, AreRolledBack, IsOfCommit, IsOfPrewrite, IsOfRollback, IsUnderWay, Says}
+use Rattle.txn_commit.specs.Sending.{MaySend, plan_of}
+use Rattle.txn_commit.specs.declared.commit_parts.CommitParts.{CommitParts}
+use Rattle.txn_commit.specs.Timing.{HasAsked, WasUntimed, time_asked}
+use Rattle.txn_commit.specs.declared.committer.CommitterAnswer.{CommitterAnswer}
+use Rattle.txn_commit.specs.declared.committer.CommitterAnswer.TheVariants.{Committed, Checked, RolledBack}
+use Rattle.txn_commit.specs.declared.committer.CommitterCall.{CommitterCall}
+use Rattle.txn_commit.specs.declared.committer.Stage.{Stage}
+use Rattle.txn_commit.specs.declared.committer.Stage.TheVariants as stage
+use Rattle.txn_commit.specs.declared.timestamp_call.TimestampCall.{TimestampCall}
+
+-- The ways in which its requests go: plans of Prewrites, of Commits and of BatchRollbacks, and what their errors rest on.
+pub record Ways (P Q K A B D : Type 0) : Type 1 where
+  pub prewriting : Meaning P (Result A Error)
+  pub committing : Meaning Q (Result B Error)
+  pub rolling : Meaning K (Result D Error)
+  pub unwritten : List Event → Error → Type 0
+  pub uncommitted : List Event → Error → Type 0
+  pub unrolled : List Event → Error → Type 0
+
+abbrev pub ways : {P Q K A B D : Type 0} → Meaning P (Result A Error) → Meaning Q (Result B Error) → Meaning K (Result D Error)
+    → (List Event → Error → Type 0) → (List Event → Error → Type 0) → (List Event → Error → Type 0) → Ways P Q K A B D
+ways p q k e f g = record { prewriting = p; committing = q; rolling = k; unwritten = e; uncommitted = f; unrolled = g }
+
+-- each key has one mutation, and the primary is none of the others
+pub record IsFormed (parts : CommitParts) : Type 0 where
+  pub planned : ArePlanned (plan_of parts) parts.mutations
+  pub apart : (k : Key) → has_key parts.secondaries k ≡ true → k ≡ parts.primary → ⊥
+
+-- The timestamp was asked for after all keys were acknowledged, and this is what that ask was answered.
+pub record IsReady (plan : Plan) (s c : ℕ) (h : List Event) : Type 0 where
+  pub keys : AllAcknowledged plan h s
+  pub ask : Ticket
+  pub given : Timestamp
+  pub wanted : WantedAfter plan h s ask
+  pub answered : Has h (Answered ask (Some given))
+  pub at : version_of given ≡ c
+
+-- What has happened at each stage, for a transaction with this start and these parts.
+
+-- it prewrites: its start was given, and no Commit was sent
+pub record IsPrewriting {P A : Type 0} (m : Meaning P (Result A Error)) (refuses : List Event → Error → Type 0) (s : ℕ) (parts : CommitParts) (p : P) (c : Commits) (o : Posted) (h : List Event) : Type 0 where
+  pub now : m.fits p o h
+  pub way : IsUnderWay m refuses (IsOfPrewrite s parts.primary parts.mutations) (ArePrewritten s parts.mutations) p
+  pub given : WasGiven h s
+  pub first : c.timestamp ≡ None
+
+-- it asks for the timestamp of the commit, after all keys were acknowledged
+pub record IsAsking (s : ℕ) (parts : CommitParts) (t : TimestampCall) (c : Commits) (o : Posted) (h : List Event) : Type 0 where
+  pub keys : AllAcknowledged (plan_of parts) h s
+  pub given : WasGiven h s
+  pub first : c.timestamp ≡ None
+  pub now : time_asked.fits t o h
+  pub asked : (n : ℕ) → HasAsked t n → WantedAfter (plan_of parts) h s (ticket_of o n)
+
+-- it commits the primary, at the one timestamp
+pub record IsCommitting {Q B : Type 0} (m : Meaning Q (Result B Error)) (refuses : List Event → Error → Type 0) (s : ℕ) (parts : CommitParts) (q : Q) (t : Timestamp) (c : Commits) (o : Posted) (h : List Event) : Type 0 where
+  pub now : m.fits q o h
+  pub way : IsUnderWay m refuses (IsOfCommit s (version_of t) (parts.primary ∷ [])) (AreCommitted s (version_of t) (parts.primary ∷ [])) q
+  pub ready : IsReady (plan_of parts) s (version_of t) h
+  pub same : (u : Timestamp) → c.timestamp ≡ Some u → version_of u ≡ version_of t
+
+-- it rolls some keys back, the primary first, when each Commit of it was answered
+pub record IsRollingBack {K D : Type 0} (m : Meaning K (Result D Error)) (refuses : List Event → Error → Type 0) (s : ℕ) (parts : CommitParts) (keys : List Key) (k : K) (c : Commits) (o : Posted) (h : List Event) : Type 0 where
+  pub now : m.fits k o h
+  pub way : IsUnderWay m refuses (IsOfRollback s keys) (AreRolledBack s keys) k
+  pub settled : undetermined c ≡ None
+  pub primary_first : (x : Key) → has_key keys x ≡ true → (x ≡ parts.primary) ⊎ PrimaryRolledBack (plan_of parts) h s
+
+abbrev pub IsAt : {P Q K A B D : Type 0} → Ways P Q K A B D → ℕ → CommitParts → Stage P Q K → Commits → Posted → List Event → Type 0
+IsAt w s parts (stage.Prewriting p) c o h = IsPrewriting w.prewriting w.unwritten s parts p c o h
+IsAt w s parts (stage.Asking t) c o h = IsAsking s parts t c o h
+IsAt w s parts (stage.Committing q t) c o h = IsCommitting w.committing w.uncommitted s parts q t c o h
+IsAt w s parts (stage.RollingBackPrimary k) c o h = IsRollingBack w.rolling w.unrolled s parts (parts.primary ∷ []) k c o h
+IsAt w s parts (stage.RollingBackOthers k) c o h = IsRollingBack w.rolling w.unrolled s parts parts.secondaries k c o h × PrimaryRolledBack (plan_of parts) h s
+IsAt w s parts stage.Over c o h = ⊤
+IsAt w s parts stage.Stopped c o h = ⊤
+
+-- The call can have arisen from the history, where so much is known of the Commits of the primary.
+pub record CommitterFits {P Q K A B D : Type 0} (w : Ways P Q K A B D) (call : CommitterCall P Q K) (c : Commits) (o : Posted) (h : List Event) : Type 0 where
+  pub start : HasVersion call.start
+  pub formed : IsFormed call.parts
+  pub knows : KnowsCommits (plan_of call.parts) (version_of call.start) c h
+  pub at : IsAt w (version_of call.start) call.parts call.stage c o h
+
+-- What the answer stands on: the primary's Commit was answered without error; or all was prewritten and nothing is locked; or
+-- each key was rolled back. An error is one of a plan, or there was no timestamp.
+abbrev pub CommitterGives : {P Q K A B D : Type 0} → Ways P Q K A B D → ℕ → CommitParts → List Event → Result CommitterAnswer Error → Type 0
+CommitterGives w s parts h (Ok (Committed t)) = PrimaryCommitted (plan_of parts) h s (version_of t)
+CommitterGives w s parts h (Ok Checked) = (parts.locks ≡ false) × ArePrewritten s parts.mutations h
+CommitterGives w s parts h (Ok RolledBack) = AreRolledBack s (parts.primary ∷ []) h × AreRolledBack s parts.secondaries h
+CommitterGives w s parts h (Err e) = (w.unwritten h e ⊎ w.uncommitted h e) ⊎ (w.unrolled h e ⊎ WasUntimed h e)
+
+-- an event call of it, in a history of which more is known
+abbrev pub CommitterMoves : {P Q K A B D : Type 0} → Ways P Q K A B D → (List Event → Type 0) → (List Event → List Event)
+    → CommitterCall P Q K → CommitterCall P Q K → Commits → Commits → Posted → Posted → Turn (Result CommitterAnswer Error) → Type 0
+CommitterMoves w known hear old new c d from to turn =
+    Moves (MaySend (plan_of old.parts) (version_of old.start)) (λ h. CommitterFits w old c from h × known h) (CommitterFits w new d to) (CommitterGives w (version_of old.start) old.parts) hear from to turn
+
+-- it goes on after one of its plans did, with what that one's answer says, if it has one
+abbrev pub CommitterGoesOn : {P Q K A B D E : Type 0} → Ways P Q K A B D → (List Event → Error → Type 0) → (List Event → Type 0)
+    → CommitterCall P Q K → CommitterCall P Q K → Commits → Commits → Posted → Posted → Turn (Result E Error) → Turn (Result CommitterAnswer Error) → Type 0
+CommitterGoesOn w refuses says old new c d from to heard turn =
+    Moves (MaySend (plan_of old.parts) (version_of old.start)) (Knows heard (CommitterFits w old c from) (Says refuses says)) (CommitterFits w new d to) (CommitterGives w (version_of old.start) old.parts) (λ h. h) from to turn
+
+-- all was prewritten, and no Commit was sent before
+pub record IsWritten (s : ℕ) (parts : CommitParts) (c : Commits) (h : List Event) : Type 0 where
+  pub given : WasGiven h s
+  pub first : c.timestamp ≡ None
+  pub keys : ArePrewritten s parts.mutations h
+
+-- the primary was rolled back, when each Commit of it was answered
+pub record IsRolled (s : ℕ) (parts : CommitParts) (c : Commits) (h : List Event) : Type 0 where
+  pub settled : undetermined c ≡ None
+  pub rolled : AreRolledBack s (parts.primary ∷ []) h
+
+-- a start was given, and no Commit was sent before
+pub record IsFirst (s : ℕ) (c : Commits) (h : List Event) : Type 0 where
+  pub given : WasGiven h s
+  pub first : c.timestamp ≡ None
+
+-- the primary may be committed at this timestamp, as before
+pub record MayCommit (plan : Plan) (s : ℕ) (t : Timestamp) (c : Commits) (h : List Event) : Type 0 where
+  pub ready : IsReady plan s (version_of t) h
+  pub same : (u : Timestamp) → c.timestamp ≡ Some u → version_of u ≡ version_of t
+
+-- what the answer to its ask says
+abbrev pub TimeSays : Plan → ℕ → List Event → Result Timestamp Error → Type 0
+TimeSays plan s h (Ok t) = IsReady plan s (version_of t) h
+TimeSays plan s h (Err e) = WasUntimed h e
+
+-- a plan of Commits of the primary went on, and what it sent is known
+pub record SendsCommits {S A : Type 0} (m : Meaning S A) (told : Told) (t : Timestamp) (c d : Commits) (old new : S) (from to : Posted) (turn : Turn A) : Type 0 where
+  pub moves : Moves (m.asks old) (λ h. m.fits old from h × told.known h) (m.fits new to) (m.gives old) told.hear from to turn
+  pub job : SameJob m.asks m.gives new old
+  pub follows : IfKept turn (d ≡ sent from.line from.beat moves.sends t c)
+
+-- the plan of a stage may be told of something, and a timestamp is in range
+abbrev pub StageReady : {P Q K A B D : Type 0} → Ways P Q K A B D → Stage P Q K → Type 0
+StageReady w (stage.Prewriting p) = w.prewriting.ready p
+StageReady w (stage.Asking t) = time_asked.ready t
+StageReady w (stage.Committing q t) = w.committing.ready q × HasVersion t
+StageReady w (stage.RollingBackPrimary k) = w.rolling.ready k
+StageReady w (stage.RollingBackOthers k) = w.rolling.ready k
+StageReady w stage.Over = ⊤
+StageReady w stage.Stopped = ⊤
+
+-- the timestamp of an answer is in range
+abbrev pub IsInRange : Result CommitterAnswer Error → Type 0
+IsInRange (Ok (Committed t)) = HasVersion t
+IsInRange (Ok Checked) = ⊤
+IsInRange (Ok RolledBack) = ⊤
+IsInRange (Err e) = ⊤

@@ -1,0 +1,113 @@
+-- The Commits of a transaction's primary, and what became of them.
+use Rattle.std.specs.Prelude.{◌≡◌, ◌≢◌, ◌⊎◌, ℕ, Bool, true, false, not, if◌then◌else◌, List, [], ◌∷◌, ◌++◌, filter, Option, Some, None}
+use Rattle.std.specs.List.{list_any}
+use Rattle.txn_kv.specs.Timestamp.{version_of}
+use Rattle.txn_kv.specs.declared.outbox.Errand.{Errand}
+use Rattle.txn_kv.specs.declared.outbox.Errand.TheVariants.{Send, Sleep, Ask}
+use Rattle.txn_kv.specs.declared.reply.Reply.{Reply}
+use Rattle.txn_kv.specs.declared.request.CommitRequest.{CommitRequest}
+use Rattle.txn_kv.specs.declared.request.Request.{Request}
+use Rattle.txn_kv.specs.declared.request.Request.TheVariants.{Commit}
+use Rattle.txn_kv.specs.declared.ticket.Ticket.{Ticket}
+use Rattle.txn_kv.specs.declared.timestamp.Timestamp.{Timestamp}
+use Rattle.txn_history.specs.Among.{IsAmong}
+use Rattle.txn_history.specs.Event.{Event, Has, same_ticket}
+use Rattle.txn_history.specs.Event.Event.{Sent, Took, Lost}
+use Rattle.txn_history.specs.Licence.{WasNamed}
+use Rattle.txn_history.specs.Plan.{Plan, has_key}
+use Rattle.txn_history.specs.Posted.{Posted, ticket_of}
+use Rattle.txn_commit.specs.declared.arrival.Arrival.{Arrival}
+use Rattle.txn_commit.specs.declared.arrival.Arrival.TheVariants.{Reply as Reply_came, Lost as Was_lost, Slept as Has_slept, Time as Time_came}
+
+-- the timestamp that they name, once one was sent; those that are neither answered nor lost; and the first that was lost
+pub record Commits : Type 0 where
+  pub timestamp : Option Timestamp
+  pub out : List Ticket
+  pub lost : Option Ticket
+
+abbrev pub none_sent : Commits
+none_sent = record { timestamp = None; out = []; lost = None }
+
+abbrev pub without : Ticket → List Ticket → List Ticket
+without t ts = filter (λ u. not (same_ticket u t)) ts
+
+abbrev pub is_out : Ticket → Commits → Bool
+is_out t c = list_any (λ u. same_ticket u t) c.out
+
+-- a reply was taken
+abbrev pub answered : Ticket → Commits → Commits
+answered t c = record c { out = without t c.out }
+
+abbrev pub or_ticket : Option Ticket → Ticket → Option Ticket
+or_ticket None t = Some t
+or_ticket (Some first) t = Some first
+
+-- a request was lost: it counts where it is one of them
+abbrev pub lost : Ticket → Commits → Commits
+lost t c = if is_out t c then record c { out = without t c.out; lost = or_ticket c.lost t } else c
+
+-- what the line of this outbox was told of
+abbrev pub heard : Arrival → Posted → Commits → Commits
+heard (Reply_came n x) o c = answered (ticket_of o n) c
+heard (Was_lost n) o c = lost (ticket_of o n) c
+heard (Has_slept n) o c = c
+heard (Time_came n x) o c = c
+
+abbrev pub is_commit : Request → Bool
+is_commit (Commit r) = true
+is_commit _ = false
+
+-- the ticket of each Commit that is posted
+abbrev pub and_ticket : Bool → Ticket → List Ticket → List Ticket
+and_ticket b t ts = if b then t ∷ ts else ts
+
+abbrev pub commit_tickets : ℕ → Bool → List Errand → List Ticket
+commit_tickets line beat [] = []
+commit_tickets line beat (Send n to r ∷ rest) = and_ticket (is_commit r) (record { line = line; beat = beat; number = n }) (commit_tickets line beat rest)
+commit_tickets line beat (Sleep n ms ∷ rest) = commit_tickets line beat rest
+commit_tickets line beat (Ask n ∷ rest) = commit_tickets line beat rest
+
+abbrev pub and_sent : List Ticket → Timestamp → Commits → Commits
+and_sent [] time c = c
+and_sent (t ∷ ts) time c = record c { timestamp = Some time; out = c.out ++ t ∷ ts }
+
+-- errands were posted, of which each Commit commits the primary at this timestamp
+abbrev pub sent : ℕ → Bool → List Errand → Timestamp → Commits → Commits
+sent line beat errands time c = and_sent (commit_tickets line beat errands) time c
+
+abbrev pub first_of : List Ticket → Option Ticket
+first_of [] = None
+first_of (t ∷ ts) = Some t
+
+abbrev pub or_first : Option Ticket → List Ticket → Option Ticket
+or_first (Some t) out = Some t
+or_first None out = first_of out
+
+-- one that was lost or is still out: whether the transaction is committed is not known
+abbrev pub undetermined : Commits → Option Ticket
+undetermined c = or_first c.lost c.out
+
+-- What of this happened
+
+-- the request commits the primary of the transaction
+pub record CommitsPrimary (plan : Plan) (s : ℕ) (r : CommitRequest) : Type 0 where
+  pub start : r.start_version ≡ s
+  pub primary : has_key r.keys plan.primary ≡ true
+
+-- one was sent with this ticket
+abbrev pub PrimarySent : Plan → ℕ → List Event → Ticket → Type 0
+PrimarySent plan s h t = (r : CommitRequest) × Has h (Sent t (Commit r)) × CommitsPrimary plan s r
+
+-- and was lost
+abbrev pub PrimaryLost : Plan → ℕ → List Event → Ticket → Type 0
+PrimaryLost plan s h t = (r : CommitRequest) × Has h (Lost t (Commit r)) × CommitsPrimary plan s r
+
+-- Each that was sent names the one timestamp, and one was sent that does. What is out was sent, and the first that was lost was. Each that was sent was
+-- answered, or is out, or one was lost.
+pub record KnowsCommits (plan : Plan) (s : ℕ) (c : Commits) (h : List Event) : Type 0 where
+  pub named : (d : ℕ) → WasNamed plan h s d → (t : Timestamp) × (c.timestamp ≡ Some t) × (version_of t ≡ d)
+  pub since : (t : Timestamp) → c.timestamp ≡ Some t → WasNamed plan h s (version_of t)
+  pub waiting : (t : Ticket) → IsAmong c.out t → PrimarySent plan s h t
+  pub losing : (t : Ticket) → c.lost ≡ Some t → PrimaryLost plan s h t
+  pub all : (t : Ticket) (r : CommitRequest) → Has h (Sent t (Commit r)) → CommitsPrimary plan s r
+      → ((o : Reply) × Has h (Took t (Commit r) o)) ⊎ ((c.lost ≢ None) ⊎ IsAmong c.out t)

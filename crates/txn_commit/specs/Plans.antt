@@ -1,0 +1,99 @@
+-- A plan of a Prewrite, a Commit or a BatchRollback: which requests it sends, and what its answer says.
+use Rattle.std.specs.Prelude.{◌≡◌, ◌⊎◌, ◌≤◌, ℕ, ⊤, true, List, [], length, None, Result, Ok, Err}
+use Rattle.txn_kv.specs.declared.errors.Error.{Error}
+use Rattle.txn_kv.specs.declared.message.Mutation.{Mutation}
+use Rattle.txn_kv.specs.declared.request.Request.{Request}
+use Rattle.txn_kv.specs.declared.request.Request.TheVariants.{Prewrite, Commit, BatchRollback}
+use Rattle.txn_history.specs.Among.{IsAmong}
+use Rattle.txn_history.specs.Event.{Event}
+use Rattle.txn_history.specs.Licence.{IsAcknowledged, IsLicensed, PrimaryCommitted, PrimaryRolledBack}
+use Rattle.txn_history.specs.Meaning.{IsUnbegun, Meaning}
+use Rattle.txn_history.specs.Plan.{Key, has_key, LocksKey, Plan}
+use Rattle.txn_history.specs.Posted.{Within}
+
+-- The requests that one is cut into are of its start, and of nothing that it doesn't name. A Commit names some key.
+
+abbrev pub IsOfPrewrite : ℕ → Key → List Mutation → Request → Type 0
+IsOfPrewrite s primary ms (Prewrite r) = (r.start_version ≡ s) × (r.primary_lock ≡ primary) × ((m : Mutation) → IsAmong r.mutations m → IsAmong ms m)
+IsOfPrewrite s primary ms _ = ⊥
+
+abbrev pub IsOfCommit : ℕ → ℕ → List Key → Request → Type 0
+IsOfCommit s c ks (Commit r) = (r.start_version ≡ s) × (r.commit_version ≡ c) × ((k : Key) → has_key r.keys k ≡ true → has_key ks k ≡ true) × ((k : Key) × (has_key r.keys k ≡ true))
+IsOfCommit s c ks _ = ⊥
+
+abbrev pub IsOfRollback : ℕ → List Key → Request → Type 0
+IsOfRollback s ks (BatchRollback r) = (r.start_version ≡ s) × ((k : Key) → has_key r.keys k ≡ true → has_key ks k ≡ true)
+IsOfRollback s ks _ = ⊥
+
+abbrev pub IsPartOf : Request → Request → Type 0
+IsPartOf (Prewrite r) part = IsOfPrewrite r.start_version r.primary_lock r.mutations part
+IsPartOf (Commit r) part = IsOfCommit r.start_version r.commit_version r.keys part
+IsPartOf (BatchRollback r) part = IsOfRollback r.start_version r.keys part
+IsPartOf _ part = ⊥
+
+-- a transaction of one key, which writes nothing
+abbrev pub only_key : Key → Plan
+only_key k = record { primary = k; writes = λ _. None }
+
+-- It looks for regions and stores, and settles the locks of others, as the licences allow. These rest on no plan.
+abbrev pub IsForeign : List Event → Request → Type 0
+IsForeign h (Prewrite r) = ⊥
+IsForeign h (Commit r) = ⊥
+IsForeign h (BatchRollback r) = ⊥
+IsForeign h r = IsLicensed (λ _. only_key []) h r
+
+-- Each key that it names was answered without error.
+
+abbrev pub ArePrewritten : ℕ → List Mutation → List Event → Type 0
+ArePrewritten s ms h = (k : Key) → LocksKey ms k → IsAcknowledged h s k
+
+abbrev pub AreCommitted : ℕ → ℕ → List Key → List Event → Type 0
+AreCommitted s c ks h = (k : Key) → has_key ks k ≡ true → PrimaryCommitted (only_key k) h s c
+
+abbrev pub AreRolledBack : ℕ → List Key → List Event → Type 0
+AreRolledBack s ks h = (k : Key) → has_key ks k ≡ true → PrimaryRolledBack (only_key k) h s
+
+abbrev pub IsAnswered : Request → List Event → Type 0
+IsAnswered (Prewrite r) h = ArePrewritten r.start_version r.mutations h
+IsAnswered (Commit r) h = AreCommitted r.start_version r.commit_version r.keys h
+IsAnswered (BatchRollback r) h = AreRolledBack r.start_version r.keys h
+IsAnswered _ h = ⊤
+
+-- how many keys it names
+abbrev pub size_of : Request → ℕ
+size_of (Prewrite r) = length r.mutations
+size_of (Commit r) = length r.keys
+size_of (BatchRollback r) = length r.keys
+size_of _ = 0
+
+-- A plan that is not begun yet. Where a request of so many keys is cut into so many parts at most, it posts no more than this.
+pub record IsPlanFor {S A : Type 0} (m : Meaning S (Result A Error)) (refuses : List Event → Error → Type 0) (costs : ℕ → ℕ → ℕ) (request : Request) (p : S) : Type 0 where
+  pub unbegun : IsUnbegun m p
+  pub ready : m.ready p
+  pub light : (n : ℕ) → m.round p n ≤ costs (size_of request) n
+  pub asks : (h : List Event) (r : Request) → m.asks p h r → IsPartOf request r ⊎ IsForeign h r
+  pub means : (h : List Event) (v : A) → m.gives p h (Ok v) → IsAnswered request h
+  pub fails : (h : List Event) (e : Error) → m.gives p h (Err e) → refuses h e
+
+-- and one that is under way
+pub record IsUnderWay {S A : Type 0} (m : Meaning S (Result A Error)) (refuses : List Event → Error → Type 0) (part : Request → Type 0) (answered : List Event → Type 0) (p : S) : Type 0 where
+  pub asks : (h : List Event) (r : Request) → m.asks p h r → part r ⊎ IsForeign h r
+  pub means : (h : List Event) (v : A) → m.gives p h (Ok v) → answered h
+  pub fails : (h : List Event) (e : Error) → m.gives p h (Err e) → refuses h e
+
+-- what its answer says
+abbrev pub Says : {A : Type 0} → (List Event → Error → Type 0) → (List Event → Type 0) → List Event → Result A Error → Type 0
+Says refuses answered h (Ok v) = answered h
+Says refuses answered h (Err e) = refuses h e
+
+-- lemmas
+
+pub committed_longer : (plan : Plan) (s c : ℕ) (h k : List Event) → Within h k → PrimaryCommitted plan h s c → PrimaryCommitted plan k s c
+committed_longer plan s c h k w g = (g.0, g.1, g.2, w _ g.3, g.4, g.5, g.6, g.7)
+
+-- what is said of Commits stays so
+pub says_longer : {A : Type 0} (refuses : List Event → Error → Type 0) (s c : ℕ) (keys : List Key)
+    → ((h longer : List Event) (e : Error) → Within h longer → refuses h e → refuses longer e)
+    → (h longer : List Event) (v : Result A Error) → Within h longer → Says refuses (AreCommitted s c keys) h v → Says refuses (AreCommitted s c keys) longer v
+says_longer refuses s c keys more h longer (Ok v) w g = λ k i. committed_longer (only_key k) s c h longer w (g k i)
+says_longer refuses s c keys more h longer (Err e) w g = more h longer e w g

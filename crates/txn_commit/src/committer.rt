@@ -1,0 +1,520 @@
+ghost use Rattle.std.specs.Prelude.{◌≡◌, ◌<◌, ◌^◌, ◌∷◌, [], IfOk, None, Ok, false};
+ghost use Rattle.txn_history.specs.Meaning.{started, Counts};
+ghost use Rattle.txn_history.specs.Moves.{Knows, Moves};
+ghost use Rattle.txn_history.specs.Posted.{HasNumbers, Posted};
+ghost use Rattle.txn_history.specs.Turn.{turn_of, IfEnds};
+ghost use Rattle.txn_history.specs.Turn.Turn.{Ends, Stopped as Stops};
+ghost use Rattle.txn_kv.specs.Timestamp.{HasVersion, version_of};
+ghost use Rattle.txn_kv.specs.declared.request.Request.{Request as Asked};
+ghost use Rattle.txn_kv.specs.declared.request.Request.TheVariants.{BatchRollback};
+ghost use Rattle.txn_request.specs.Defaults.{default_batch_rollback};
+ghost use Rattle.txn_commit.specs.Arrivals.{MayArrive, locked_told, tells_error, tells_failure, told_by, weight_told};
+ghost use Rattle.txn_commit.specs.Committing.{CommitterFits, CommitterGives, CommitterGoesOn, CommitterMoves, IsFirst, IsInRange, IsRolled, IsWritten, MayCommit, SendsCommits, StageReady, TimeSays, ways};
+ghost use Rattle.txn_commit.specs.Counting.{Begins, CommitterCounts, ask_costs, call_width, commit_again_costs, commit_costs, costs_of, others_costs, rollback_costs, stage_width};
+ghost use Rattle.txn_commit.specs.Following.{Commits, heard, undetermined};
+ghost use Rattle.txn_commit.specs.Plans.{AreCommitted, ArePrewritten, AreRolledBack, IsPlanFor};
+ghost use Rattle.txn_commit.specs.Sending.{MaySend, plan_of};
+ghost use Rattle.txn_commit.specs.Timing.{HasVersionIfDone};
+ghost use Rattle.txn_commit.specs.declared.committer.Stage.TheVariants as stages;
+
+use crate::arrival::Arrival;
+use crate::commit_parts::CommitParts;
+use crate::plan_for::PlanFor;
+use crate::primary_commits::{PrimaryCommits, count_posted};
+use crate::timestamp_call::TimestampCall;
+use std::alloc::Global;
+use txn_kv::{
+    BatchRollbackRequest, CommitRequest, Error, Items, Key, NoMemory, Outbox, PrewriteRequest,
+    Progress, Timestamp,
+};
+use txn_merge::RetryOptions;
+use txn_plan::Plan;
+use txn_region::PdClient;
+use txn_request::lowering::{new_batch_rollback_request, new_commit_request, new_prewrite_request};
+
+/// What a commit or a rollback came to.
+#[derive(Clone, Copy, Debug, PartialEq, Eq)]
+pub enum CommitterAnswer {
+    /// The primary was committed, at this timestamp.
+    Committed(Timestamp),
+    /// All was checked, and nothing is to be committed.
+    Checked,
+    RolledBack,
+}
+
+type Turn = Result<Progress<CommitterAnswer>, NoMemory>;
+
+/// What a commit or a rollback waits for.
+#[derive(Drop)]
+enum Stage<P, Q, K> {
+    Prewriting(P),
+    Asking(TimestampCall),
+    Committing { plan: Q, timestamp: Timestamp },
+    RollingBackPrimary(K),
+    RollingBackOthers(K),
+    Over,
+    /// It gave up for want of memory.
+    Stopped,
+}
+
+/// A commit or a rollback that is under way.
+#[derive(Drop)]
+pub struct CommitterCall<P, Q, K> {
+    start: Timestamp,
+    parts: CommitParts,
+    retry_options: RetryOptions,
+    stage: Stage<P, Q, K>,
+    /// The most parts that a request of a plan was cut into that is let go.
+    width: u64,
+    alloc: Global,
+}
+
+impl<P, Q, K> Stage<P, Q, K>
+where
+    P: PlanFor<PrewriteRequest>,
+    Q: PlanFor<CommitRequest>,
+    K: PlanFor<BatchRollbackRequest>,
+{
+    /// The most parts that a request of its plan was cut into.
+    fn width(&self) -> u64
+        ensures { result ≡ stage_width (ways P.meaning Q.meaning K.meaning P.refuses Q.refuses K.refuses) self.now }
+    {
+        match self {
+            Stage::Prewriting(plan) => plan.width(),
+            Stage::Asking(_) => 0,
+            Stage::Committing { plan, .. } => plan.width(),
+            Stage::RollingBackPrimary(plan) => plan.width(),
+            Stage::RollingBackOthers(plan) => plan.width(),
+            Stage::Over => 0,
+            Stage::Stopped => 0,
+        }
+    }
+}
+
+impl<P, Q, K> CommitterCall<P, Q, K>
+where
+    P: PlanFor<PrewriteRequest>,
+    Q: PlanFor<CommitRequest>,
+    K: PlanFor<BatchRollbackRequest>,
+{
+    /// A commit or a rollback that is not begun.
+    pub fn new(
+        alloc: Global,
+        start: Timestamp,
+        parts: CommitParts,
+        retry_options: RetryOptions,
+    ) -> Self
+        ensures start { result.start ≡ start }
+        ensures parts { result.parts ≡ parts }
+        ensures stage { result.stage ≡ stages.Over }
+        ensures width { result.width ≡ 0 }
+    {
+        CommitterCall {
+            start,
+            parts,
+            retry_options,
+            stage: Stage::Over,
+            width: 0,
+            alloc,
+        }
+    }
+
+    /// The keys that are left to commit once the primary is.
+    pub fn into_secondaries(self) -> Items<Key>
+        ensures { result ≡ self.parts.secondaries }
+    {
+        self.parts.secondaries
+    }
+
+    /// Begins to commit: prewrites all, under locks that live so long.
+    pub fn prewrite<C: PdClient>(
+        &mut self,
+        pd: &mut C,
+        now: u64,
+        ttl: u64,
+        out: &mut Outbox,
+    ) -> Turn
+        requires start { HasVersion self.old.start }
+        requires numbers { HasNumbers out.old }
+        requires clock { now < 2 ^ 44 }
+        ensures moves { (c : Commits) → CommitterMoves (ways P.meaning Q.meaning K.meaning P.refuses Q.refuses K.refuses) (IsFirst (version_of self.old.start) c) (λ h. h) self.old self.new c c out.old out.new (turn_of result) }
+        ensures counts { Begins (ways P.meaning Q.meaning K.meaning P.refuses Q.refuses K.refuses) (costs_of P.costs Q.costs K.costs) (commit_costs (costs_of P.costs Q.costs K.costs) self.old.parts) self.old self.new out.old out.new (turn_of result) }
+        ensures version { IfEnds (turn_of result) IsInRange }
+        ensures job { self.new ≡ record self.old { stage = self.new.stage; width = self.new.width } }
+        ensures ready { StageReady (ways P.meaning Q.meaning K.meaning P.refuses Q.refuses K.refuses) self.new.stage }
+        ensures numbers { HasNumbers out.new }
+    {
+        self.go(Stage::Stopped);
+        let request = new_prewrite_request(
+            self.alloc,
+            self.parts.mutations.try_clone()?,
+            self.parts.primary.try_clone()?,
+            self.start,
+            ttl,
+        );
+        let mut plan = P::plan_for(self.alloc, pd, request, self.retry_options.clone()?)?;
+        let turn = plan.start(pd, now, out);
+        self.go(Stage::Prewriting(plan));
+        self.after_prewrite(turn?, pd, now, out)
+    }
+
+    /// Begins to commit where a Commit of the primary was sent before: sends it again, at its timestamp.
+    pub fn commit_again<C: PdClient>(
+        &mut self,
+        commits: &mut PrimaryCommits,
+        timestamp: Timestamp,
+        pd: &mut C,
+        now: u64,
+        out: &mut Outbox,
+    ) -> Turn
+        requires start { HasVersion self.old.start }
+        requires timestamp { HasVersion timestamp }
+        requires numbers { HasNumbers out.old }
+        requires clock { now < 2 ^ 44 }
+        ensures moves { CommitterMoves (ways P.meaning Q.meaning K.meaning P.refuses Q.refuses K.refuses) (MayCommit (plan_of self.old.parts) (version_of self.old.start) timestamp commits.old) (λ h. h) self.old self.new commits.old commits.new out.old out.new (turn_of result) }
+        ensures counts { Begins (ways P.meaning Q.meaning K.meaning P.refuses Q.refuses K.refuses) (costs_of P.costs Q.costs K.costs) (commit_again_costs (costs_of P.costs Q.costs K.costs)) self.old self.new out.old out.new (turn_of result) }
+        ensures version { IfEnds (turn_of result) IsInRange }
+        ensures job { self.new ≡ record self.old { stage = self.new.stage; width = self.new.width } }
+        ensures ready { StageReady (ways P.meaning Q.meaning K.meaning P.refuses Q.refuses K.refuses) self.new.stage }
+        ensures numbers { HasNumbers out.new }
+    {
+        self.commit_primary(commits, timestamp, pd, now, out)
+    }
+
+    /// Begins to roll back.
+    pub fn roll_back<C: PdClient>(&mut self, pd: &mut C, now: u64, out: &mut Outbox) -> Turn
+        requires start { HasVersion self.old.start }
+        requires numbers { HasNumbers out.old }
+        requires clock { now < 2 ^ 44 }
+        ensures moves { (c : Commits) → CommitterMoves (ways P.meaning Q.meaning K.meaning P.refuses Q.refuses K.refuses) (λ h. undetermined c ≡ None) (λ h. h) self.old self.new c c out.old out.new (turn_of result) }
+        ensures counts { Begins (ways P.meaning Q.meaning K.meaning P.refuses Q.refuses K.refuses) (costs_of P.costs Q.costs K.costs) (rollback_costs (costs_of P.costs Q.costs K.costs) self.old.parts) self.old self.new out.old out.new (turn_of result) }
+        ensures version { IfEnds (turn_of result) IsInRange }
+        ensures job { self.new ≡ record self.old { stage = self.new.stage; width = self.new.width } }
+        ensures ready { StageReady (ways P.meaning Q.meaning K.meaning P.refuses Q.refuses K.refuses) self.new.stage }
+        ensures numbers { HasNumbers out.new }
+    {
+        self.go(Stage::Stopped);
+        let keys = self.primary_alone()?;
+        let mut plan = self.rollback_plan(pd, keys)?;
+        let turn = plan.start(pd, now, out);
+        self.go(Stage::RollingBackPrimary(plan));
+        self.after_primary_rollback(turn?, pd, now, out)
+    }
+
+    /// It is told of something.
+    pub fn tell<C: PdClient>(
+        &mut self,
+        commits: &mut PrimaryCommits,
+        arrival: Arrival,
+        pd: &mut C,
+        now: u64,
+        out: &mut Outbox,
+    ) -> Turn
+        requires start { HasVersion self.old.start }
+        requires ready { StageReady (ways P.meaning Q.meaning K.meaning P.refuses Q.refuses K.refuses) self.old.stage }
+        requires arrives { MayArrive arrival }
+        requires numbers { HasNumbers out.old }
+        requires clock { now < 2 ^ 44 }
+        ensures moves { (r : Asked) → CommitterMoves (ways P.meaning Q.meaning K.meaning P.refuses Q.refuses K.refuses) (told_by arrival out.old r).known (told_by arrival out.old r).hear self.old self.new commits.old commits.new out.old out.new (turn_of result) }
+        ensures counts { CommitterCounts (ways P.meaning Q.meaning K.meaning P.refuses Q.refuses K.refuses) (costs_of P.costs Q.costs K.costs) (tells_error arrival) (tells_failure arrival) (weight_told arrival) (locked_told arrival) self.old self.new out.old out.new (turn_of result) }
+        ensures version { IfEnds (turn_of result) IsInRange }
+        ensures job { self.new ≡ record self.old { stage = self.new.stage; width = self.new.width } }
+        ensures ready { StageReady (ways P.meaning Q.meaning K.meaning P.refuses Q.refuses K.refuses) self.new.stage }
+        ensures numbers { HasNumbers out.new }
+    {
+        match &mut self.stage {
+            Stage::Prewriting(plan) => {
+                let progress = arrival.tell(plan, pd, now, out)?;
+                self.after_prewrite(progress, pd, now, out)
+            }
+            Stage::Asking(call) => match call.tell(arrival, pd, now, out) {
+                Ok(progress) => self.after_time(progress, commits, pd, now, out),
+                Err(_) => self.give_up(),
+            },
+            Stage::Committing { plan, timestamp } => {
+                let timestamp = *timestamp;
+                let progress = tell_commit(commits, plan, timestamp, arrival, pd, now, out)?;
+                self.after_commit(progress, timestamp)
+            }
+            Stage::RollingBackPrimary(plan) => {
+                let progress = arrival.tell(plan, pd, now, out)?;
+                self.after_primary_rollback(progress, pd, now, out)
+            }
+            Stage::RollingBackOthers(plan) => {
+                let progress = arrival.tell(plan, pd, now, out)?;
+                self.after_rollback(progress)
+            }
+            Stage::Over => Ok(Progress::Waiting),
+            Stage::Stopped => Err(NoMemory),
+        }
+    }
+
+    fn after_prewrite<C: PdClient>(
+        &mut self,
+        progress: Progress<P::Result>,
+        pd: &mut C,
+        now: u64,
+        out: &mut Outbox,
+    ) -> Turn
+        requires numbers { HasNumbers out.old }
+        requires ready { StageReady (ways P.meaning Q.meaning K.meaning P.refuses Q.refuses K.refuses) self.old.stage }
+        ensures moves { (c : Commits) (p : P) → self.old.stage ≡ stages.Prewriting p → CommitterGoesOn (ways P.meaning Q.meaning K.meaning P.refuses Q.refuses K.refuses) P.refuses (ArePrewritten (version_of self.old.start) self.old.parts.mutations) self.old self.new c c out.old out.new (turn_of (Ok progress)) (turn_of result) }
+        ensures counts { (p : P) → self.old.stage ≡ stages.Prewriting p → CommitterCounts (ways P.meaning Q.meaning K.meaning P.refuses Q.refuses K.refuses) (costs_of P.costs Q.costs K.costs) false false 0 0 self.old self.new out.old out.new (turn_of result) }
+        ensures version { IfEnds (turn_of result) IsInRange }
+        ensures job { self.new ≡ record self.old { stage = self.new.stage; width = self.new.width } }
+        ensures ready { StageReady (ways P.meaning Q.meaning K.meaning P.refuses Q.refuses K.refuses) self.new.stage }
+        ensures numbers { HasNumbers out.new }
+    {
+        match progress {
+            Progress::Waiting => Ok(Progress::Waiting),
+            Progress::Done(Ok(_)) => self.ask(pd, now, out),
+            Progress::Done(Err(error)) => self.end(Err(error)),
+        }
+    }
+
+    /// All was prewritten. Asks for the timestamp of the commit, where there is anything to commit.
+    fn ask<C: PdClient>(&mut self, pd: &mut C, now: u64, out: &mut Outbox) -> Turn
+        requires numbers { HasNumbers out.old }
+        ensures moves { (c : Commits) → CommitterMoves (ways P.meaning Q.meaning K.meaning P.refuses Q.refuses K.refuses) (IsWritten (version_of self.old.start) self.old.parts c) (λ h. h) self.old self.new c c out.old out.new (turn_of result) }
+        ensures counts { Begins (ways P.meaning Q.meaning K.meaning P.refuses Q.refuses K.refuses) (costs_of P.costs Q.costs K.costs) (ask_costs (costs_of P.costs Q.costs K.costs)) self.old self.new out.old out.new (turn_of result) }
+        ensures version { IfEnds (turn_of result) IsInRange }
+        ensures job { self.new ≡ record self.old { stage = self.new.stage; width = self.new.width } }
+        ensures ready { StageReady (ways P.meaning Q.meaning K.meaning P.refuses Q.refuses K.refuses) self.new.stage }
+        ensures numbers { HasNumbers out.new }
+    {
+        if !self.parts.locks {
+            return self.end(Ok(CommitterAnswer::Checked));
+        }
+        self.go(Stage::Stopped);
+        let call = TimestampCall::begin(pd, now, out)?;
+        self.go(Stage::Asking(call));
+        Ok(Progress::Waiting)
+    }
+
+    fn after_time<C: PdClient>(
+        &mut self,
+        progress: Progress<Timestamp>,
+        commits: &mut PrimaryCommits,
+        pd: &mut C,
+        now: u64,
+        out: &mut Outbox,
+    ) -> Turn
+        requires start { HasVersion self.old.start }
+        requires timestamp { HasVersionIfDone progress }
+        requires numbers { HasNumbers out.old }
+        requires clock { now < 2 ^ 44 }
+        requires ready { StageReady (ways P.meaning Q.meaning K.meaning P.refuses Q.refuses K.refuses) self.old.stage }
+        ensures moves { (t : TimestampCall) → self.old.stage ≡ stages.Asking t → Moves (MaySend (plan_of self.old.parts) (version_of self.old.start)) (Knows (turn_of (Ok progress)) (CommitterFits (ways P.meaning Q.meaning K.meaning P.refuses Q.refuses K.refuses) self.old commits.old out.old) (TimeSays (plan_of self.old.parts) (version_of self.old.start))) (CommitterFits (ways P.meaning Q.meaning K.meaning P.refuses Q.refuses K.refuses) self.new commits.new out.new) (CommitterGives (ways P.meaning Q.meaning K.meaning P.refuses Q.refuses K.refuses) (version_of self.old.start) self.old.parts) (λ h. h) out.old out.new (turn_of result) }
+        ensures counts { (t : TimestampCall) → self.old.stage ≡ stages.Asking t → CommitterCounts (ways P.meaning Q.meaning K.meaning P.refuses Q.refuses K.refuses) (costs_of P.costs Q.costs K.costs) false false 0 0 self.old self.new out.old out.new (turn_of result) }
+        ensures version { IfEnds (turn_of result) IsInRange }
+        ensures job { self.new ≡ record self.old { stage = self.new.stage; width = self.new.width } }
+        ensures ready { StageReady (ways P.meaning Q.meaning K.meaning P.refuses Q.refuses K.refuses) self.new.stage }
+        ensures numbers { HasNumbers out.new }
+    {
+        match progress {
+            Progress::Waiting => Ok(Progress::Waiting),
+            Progress::Done(Ok(time)) => self.commit_primary(commits, time, pd, now, out),
+            Progress::Done(Err(error)) => self.end(Err(error)),
+        }
+    }
+
+    fn commit_primary<C: PdClient>(
+        &mut self,
+        commits: &mut PrimaryCommits,
+        timestamp: Timestamp,
+        pd: &mut C,
+        now: u64,
+        out: &mut Outbox,
+    ) -> Turn
+        requires start { HasVersion self.old.start }
+        requires timestamp { HasVersion timestamp }
+        requires numbers { HasNumbers out.old }
+        requires clock { now < 2 ^ 44 }
+        ensures moves { CommitterMoves (ways P.meaning Q.meaning K.meaning P.refuses Q.refuses K.refuses) (MayCommit (plan_of self.old.parts) (version_of self.old.start) timestamp commits.old) (λ h. h) self.old self.new commits.old commits.new out.old out.new (turn_of result) }
+        ensures counts { Begins (ways P.meaning Q.meaning K.meaning P.refuses Q.refuses K.refuses) (costs_of P.costs Q.costs K.costs) (commit_again_costs (costs_of P.costs Q.costs K.costs)) self.old self.new out.old out.new (turn_of result) }
+        ensures version { IfEnds (turn_of result) IsInRange }
+        ensures job { self.new ≡ record self.old { stage = self.new.stage; width = self.new.width } }
+        ensures ready { StageReady (ways P.meaning Q.meaning K.meaning P.refuses Q.refuses K.refuses) self.new.stage }
+        ensures numbers { HasNumbers out.new }
+    {
+        self.go(Stage::Stopped);
+        let request = new_commit_request(self.primary_alone()?, self.start, timestamp);
+        let mut plan = Q::plan_for(self.alloc, pd, request, self.retry_options.clone()?)?;
+        let turn = start_commit(commits, &mut plan, timestamp, pd, now, out);
+        self.go(Stage::Committing { plan, timestamp });
+        self.after_commit(turn?, timestamp)
+    }
+
+    fn after_commit(&mut self, progress: Progress<Q::Result>, timestamp: Timestamp) -> Turn
+        requires timestamp { HasVersion timestamp }
+        requires ready { StageReady (ways P.meaning Q.meaning K.meaning P.refuses Q.refuses K.refuses) self.old.stage }
+        ensures moves { (c : Commits) (o : Posted) (q : Q) → self.old.stage ≡ stages.Committing q timestamp → CommitterGoesOn (ways P.meaning Q.meaning K.meaning P.refuses Q.refuses K.refuses) Q.refuses (AreCommitted (version_of self.old.start) (version_of timestamp) (self.old.parts.primary ∷ [])) self.old self.new c c o o (turn_of (Ok progress)) (turn_of result) }
+        ensures counts { (o : Posted) → CommitterCounts (ways P.meaning Q.meaning K.meaning P.refuses Q.refuses K.refuses) (costs_of P.costs Q.costs K.costs) false false 0 0 self.old self.new o o (turn_of result) }
+        ensures version { IfEnds (turn_of result) IsInRange }
+        ensures job { self.new ≡ record self.old { stage = self.new.stage; width = self.new.width } }
+        ensures ready { StageReady (ways P.meaning Q.meaning K.meaning P.refuses Q.refuses K.refuses) self.new.stage }
+    {
+        match progress {
+            Progress::Waiting => Ok(Progress::Waiting),
+            Progress::Done(Ok(_)) => self.end(Ok(CommitterAnswer::Committed(timestamp))),
+            Progress::Done(Err(error)) => self.end(Err(error)),
+        }
+    }
+
+    fn after_primary_rollback<C: PdClient>(
+        &mut self,
+        progress: Progress<K::Result>,
+        pd: &mut C,
+        now: u64,
+        out: &mut Outbox,
+    ) -> Turn
+        requires start { HasVersion self.old.start }
+        requires numbers { HasNumbers out.old }
+        requires clock { now < 2 ^ 44 }
+        requires ready { StageReady (ways P.meaning Q.meaning K.meaning P.refuses Q.refuses K.refuses) self.old.stage }
+        ensures moves { (c : Commits) (k : K) → self.old.stage ≡ stages.RollingBackPrimary k → CommitterGoesOn (ways P.meaning Q.meaning K.meaning P.refuses Q.refuses K.refuses) K.refuses (AreRolledBack (version_of self.old.start) (self.old.parts.primary ∷ [])) self.old self.new c c out.old out.new (turn_of (Ok progress)) (turn_of result) }
+        ensures counts { (k : K) → self.old.stage ≡ stages.RollingBackPrimary k → CommitterCounts (ways P.meaning Q.meaning K.meaning P.refuses Q.refuses K.refuses) (costs_of P.costs Q.costs K.costs) false false 0 0 self.old self.new out.old out.new (turn_of result) }
+        ensures version { IfEnds (turn_of result) IsInRange }
+        ensures job { self.new ≡ record self.old { stage = self.new.stage; width = self.new.width } }
+        ensures ready { StageReady (ways P.meaning Q.meaning K.meaning P.refuses Q.refuses K.refuses) self.new.stage }
+        ensures numbers { HasNumbers out.new }
+    {
+        match progress {
+            Progress::Waiting => Ok(Progress::Waiting),
+            Progress::Done(Ok(_)) => self.roll_back_others(pd, now, out),
+            Progress::Done(Err(error)) => self.end(Err(error)),
+        }
+    }
+
+    fn roll_back_others<C: PdClient>(&mut self, pd: &mut C, now: u64, out: &mut Outbox) -> Turn
+        requires start { HasVersion self.old.start }
+        requires numbers { HasNumbers out.old }
+        requires clock { now < 2 ^ 44 }
+        ensures moves { (c : Commits) → CommitterMoves (ways P.meaning Q.meaning K.meaning P.refuses Q.refuses K.refuses) (IsRolled (version_of self.old.start) self.old.parts c) (λ h. h) self.old self.new c c out.old out.new (turn_of result) }
+        ensures counts { Begins (ways P.meaning Q.meaning K.meaning P.refuses Q.refuses K.refuses) (costs_of P.costs Q.costs K.costs) (others_costs (costs_of P.costs Q.costs K.costs) self.old.parts) self.old self.new out.old out.new (turn_of result) }
+        ensures version { IfEnds (turn_of result) IsInRange }
+        ensures job { self.new ≡ record self.old { stage = self.new.stage; width = self.new.width } }
+        ensures ready { StageReady (ways P.meaning Q.meaning K.meaning P.refuses Q.refuses K.refuses) self.new.stage }
+        ensures numbers { HasNumbers out.new }
+    {
+        if self.parts.secondaries.as_slice().is_empty() {
+            return self.end(Ok(CommitterAnswer::RolledBack));
+        }
+        self.go(Stage::Stopped);
+        let keys = self.parts.secondaries.try_clone()?;
+        let mut plan = self.rollback_plan(pd, keys)?;
+        let turn = plan.start(pd, now, out);
+        self.go(Stage::RollingBackOthers(plan));
+        self.after_rollback(turn?)
+    }
+
+    fn after_rollback(&mut self, progress: Progress<K::Result>) -> Turn
+        requires ready { StageReady (ways P.meaning Q.meaning K.meaning P.refuses Q.refuses K.refuses) self.old.stage }
+        ensures moves { (c : Commits) (o : Posted) (k : K) → self.old.stage ≡ stages.RollingBackOthers k → CommitterGoesOn (ways P.meaning Q.meaning K.meaning P.refuses Q.refuses K.refuses) K.refuses (AreRolledBack (version_of self.old.start) self.old.parts.secondaries) self.old self.new c c o o (turn_of (Ok progress)) (turn_of result) }
+        ensures counts { (o : Posted) → CommitterCounts (ways P.meaning Q.meaning K.meaning P.refuses Q.refuses K.refuses) (costs_of P.costs Q.costs K.costs) false false 0 0 self.old self.new o o (turn_of result) }
+        ensures version { IfEnds (turn_of result) IsInRange }
+        ensures job { self.new ≡ record self.old { stage = self.new.stage; width = self.new.width } }
+        ensures ready { StageReady (ways P.meaning Q.meaning K.meaning P.refuses Q.refuses K.refuses) self.new.stage }
+    {
+        match progress {
+            Progress::Waiting => Ok(Progress::Waiting),
+            Progress::Done(Ok(_)) => self.end(Ok(CommitterAnswer::RolledBack)),
+            Progress::Done(Err(error)) => self.end(Err(error)),
+        }
+    }
+
+    /// Goes to a stage, and lets the plan go that was under way.
+    fn go(&mut self, stage: Stage<P, Q, K>)
+        ensures state { self.new ≡ record self.old { stage = stage; width = self.new.width } }
+        ensures width { self.new.width ≡ call_width (ways P.meaning Q.meaning K.meaning P.refuses Q.refuses K.refuses) self.old }
+    {
+        self.width = self.width.max(self.stage.width());
+        self.stage = stage;
+    }
+
+    fn end(&mut self, answer: txn_kv::Result<CommitterAnswer>) -> Turn
+        ensures state { self.new ≡ record self.old { stage = stages.Over; width = self.new.width } }
+        ensures width { self.new.width ≡ call_width (ways P.meaning Q.meaning K.meaning P.refuses Q.refuses K.refuses) self.old }
+        ensures turn { turn_of result ≡ Ends answer }
+    {
+        self.go(Stage::Over);
+        Ok(Progress::Done(answer))
+    }
+
+    /// Memory is wanting.
+    fn give_up(&mut self) -> Turn
+        ensures state { self.new ≡ record self.old { stage = stages.Stopped; width = self.new.width } }
+        ensures width { self.new.width ≡ call_width (ways P.meaning Q.meaning K.meaning P.refuses Q.refuses K.refuses) self.old }
+        ensures turn { turn_of result ≡ Stops }
+    {
+        self.go(Stage::Stopped);
+        Err(NoMemory)
+    }
+
+    fn primary_alone(&self) -> Result<Items<Key>, NoMemory>
+        ensures { IfOk result (λ keys. keys ≡ self.now.parts.primary ∷ []) }
+    {
+        let mut keys = Items::new(self.alloc);
+        keys.push(self.parts.primary.try_clone()?)?;
+        Ok(keys)
+    }
+
+    fn rollback_plan<C: PdClient>(&self, pd: &C, keys: Items<Key>) -> Result<K, NoMemory>
+        requires { HasVersion self.now.start }
+        ensures { IfOk result (IsPlanFor K.meaning K.refuses K.costs (BatchRollback (record default_batch_rollback { keys = keys; start_version = version_of self.now.start }))) }
+    {
+        let request = new_batch_rollback_request(keys, self.start);
+        K::plan_for(self.alloc, pd, request, self.retry_options.clone()?)
+    }
+}
+
+/// Starts the plan of a Commit of the primary, and notes what it sends.
+fn start_commit<Q: Plan, C: PdClient>(
+    commits: &mut PrimaryCommits,
+    plan: &mut Q,
+    timestamp: Timestamp,
+    pd: &mut C,
+    now: u64,
+    out: &mut Outbox,
+) -> Result<Progress<Q::Result>, NoMemory>
+    requires timestamp { HasVersion timestamp }
+    requires ready { Q.meaning.ready plan.old }
+    requires numbers { HasNumbers out.old }
+    requires clock { now < 2 ^ 44 }
+    ensures sends { SendsCommits Q.meaning started timestamp commits.old commits.new plan.old plan.new out.old out.new (turn_of result) }
+    ensures counts { Counts Q.meaning false false 0 0 plan.old plan.new out.old out.new (turn_of result) }
+    ensures ready { Q.meaning.ready plan.new }
+    ensures numbers { HasNumbers out.new }
+{
+    let had = count_posted(out);
+    let progress = plan.start(pd, now, out)?;
+    commits.send(out, had, timestamp)?;
+    Ok(progress)
+}
+
+/// Tells the plan of a Commit of the primary, and notes what became of what it sent, and what it sends.
+fn tell_commit<Q: Plan, C: PdClient>(
+    commits: &mut PrimaryCommits,
+    plan: &mut Q,
+    timestamp: Timestamp,
+    arrival: Arrival,
+    pd: &mut C,
+    now: u64,
+    out: &mut Outbox,
+) -> Result<Progress<Q::Result>, NoMemory>
+    requires timestamp { HasVersion timestamp }
+    requires ready { Q.meaning.ready plan.old }
+    requires arrives { MayArrive arrival }
+    requires numbers { HasNumbers out.old }
+    requires clock { now < 2 ^ 44 }
+    ensures sends { (r : Asked) → SendsCommits Q.meaning (told_by arrival out.old r) timestamp (heard arrival out.old commits.old) commits.new plan.old plan.new out.old out.new (turn_of result) }
+    ensures counts { Counts Q.meaning (tells_error arrival) (tells_failure arrival) (weight_told arrival) (locked_told arrival) plan.old plan.new out.old out.new (turn_of result) }
+    ensures ready { Q.meaning.ready plan.new }
+    ensures numbers { HasNumbers out.new }
+{
+    commits.hear(&arrival, out);
+    let had = count_posted(out);
+    let progress = arrival.tell(plan, pd, now, out)?;
+    commits.send(out, had, timestamp)?;
+    Ok(progress)
+}

@@ -1,0 +1,44 @@
+//! Laws of the definitions, as contracts of functions that do nothing.
+ghost use Rattle.std.specs.Prelude.{ℕ, ◌+◌, ◌≡◌, ◌≢◌, ◌≤◌, ◌∷◌, List, Option, Some, length, true};
+ghost use Rattle.txn_buffer.specs.Contents.{Contents};
+ghost use Rattle.txn_history.specs.Event.{Event, Has};
+ghost use Rattle.txn_history.specs.Event.Event.{Answered, Took, Lost};
+ghost use Rattle.txn_history.specs.Licence.{IsLicensed, WantedAfter, WasAskedFor};
+ghost use Rattle.txn_history.specs.Meaning.{IsSent};
+ghost use Rattle.txn_history.specs.Plan.{ArePlanned, Key, Plan, has_key};
+ghost use Rattle.txn_kv.specs.Timestamp.{version_of};
+ghost use Rattle.txn_kv.specs.declared.reply.Reply.{Reply};
+ghost use Rattle.txn_kv.specs.declared.request.Request.{Request};
+ghost use Rattle.txn_kv.specs.declared.ticket.Ticket.{Ticket};
+ghost use Rattle.txn_kv.specs.declared.timestamp.Timestamp.{Timestamp};
+ghost use Rattle.txn_commit.specs.Counting.{Costs, IsOneEach, commit_costs, rollback_costs};
+ghost use Rattle.txn_commit.specs.Following.{Commits, KnowsCommits, answered, lost};
+ghost use Rattle.txn_commit.specs.Parts.{AreDistinct, parts_of};
+ghost use Rattle.txn_commit.specs.Sending.{MaySend, plan_of};
+ghost use Rattle.txn_commit.specs.declared.commit_parts.CommitParts.{CommitParts};
+
+/// What is known of the Commits of a primary is known of them once a reply was taken, or a request was lost.
+pub fn commits_are_followed()
+    ensures answered { (plan : Plan) (s : ℕ) (c : Commits) (t : Ticket) (q : Request) (o : Reply) (h : List Event) → IsSent t q h → KnowsCommits plan s c h → KnowsCommits plan s (answered t c) (Took t q o ∷ h) }
+    ensures lost { (plan : Plan) (s : ℕ) (c : Commits) (t : Ticket) (q : Request) (h : List Event) → IsSent t q h → KnowsCommits plan s c h → KnowsCommits plan s (lost t c) (Lost t q ∷ h) }
+{}
+
+/// What a transaction may send has its licence, where a timestamp that an ask was answered with was asked for.
+pub fn sending_is_licensed()
+    ensures { (plans : ℕ → Plan) (s : ℕ) (h : List Event) (r : Request)
+        → ((a : Ticket) (time : Timestamp) → WantedAfter (plans s) h s a → Has h (Answered a (Some time)) → WasAskedFor (plans s) h s (version_of time))
+        → MaySend (plans s) s h r → IsLicensed plans h r }
+{}
+
+/// The primary is none of the other keys of a commit, and where each key is mutated once, all is planned.
+pub fn parts_are_apart()
+    ensures apart { (contents : Contents) (parts : CommitParts) → parts_of contents ≡ Some parts → (k : Key) → has_key parts.secondaries k ≡ true → k ≢ parts.primary }
+    ensures planned { (parts : CommitParts) → AreDistinct parts.mutations → ArePlanned (plan_of parts) parts.mutations }
+{}
+
+/// Where a plan posts no more than one request for each of its keys, a commit of k mutations costs at most k + 2, and a
+/// rollback of k keys k.
+pub fn costs_are_bounded()
+    ensures commit { (costs : Costs) (parts : CommitParts) (n : ℕ) → IsOneEach costs → commit_costs costs parts n ≤ length parts.mutations + 2 }
+    ensures rollback { (costs : Costs) (parts : CommitParts) (n : ℕ) → IsOneEach costs → rollback_costs costs parts n ≤ length parts.secondaries + 1 }
+{}

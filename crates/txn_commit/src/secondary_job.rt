@@ -1,0 +1,268 @@
+ghost use Rattle.std.specs.Prelude.{◌≡◌, ◌<◌, ◌^◌, List, OnErr, OnOk, false, is_err, true};
+ghost use Rattle.std.specs.Bool.{MatchBool};
+ghost use Rattle.txn_history.specs.Around.{IsRead};
+ghost use Rattle.std.specs.Result.{result_ok};
+ghost use Rattle.txn_history.specs.Faults.{has_error, has_region_error};
+ghost use Rattle.txn_history.specs.Meaning.{missed, replied, started, timed, woken, Counts, Goes, Tells};
+ghost use Rattle.txn_history.specs.Phase.Awaited.{EndOf, ReplyTo, TimeOf};
+ghost use Rattle.txn_history.specs.Phase.Phase.{Fresh as Unbegun};
+ghost use Rattle.txn_history.specs.Plan.{Key as Name, Plan as Writing};
+ghost use Rattle.txn_history.specs.Posted.{HasNumbers, ticket_of};
+ghost use Rattle.txn_history.specs.Spends.{locked_of, weight_of};
+ghost use Rattle.txn_history.specs.Turn.{turn_of};
+ghost use Rattle.txn_kv.specs.Timestamp.{HasVersion, version_of};
+ghost use Rattle.txn_kv.specs.declared.request.Request.{Request as Asked};
+ghost use Rattle.txn_commit.specs.Arrivals.{MayArrive, awaited_as, locked_told, tells_error, tells_failure, told_by, weight_told};
+ghost use Rattle.txn_commit.specs.Jobs.{IsPlanned, JobReady, ReadsDone, job_phase, job_waits, others};
+ghost use Rattle.txn_plan.specs.Answered.{IsTimeAnswer};
+ghost use Rattle.txn_commit.specs.declared.secondary_job.Stage.TheVariants as stages;
+
+use crate::arrival::Arrival;
+use crate::plan_for::PlanFor;
+use std::alloc::Global;
+use std::mem;
+use txn_kv::{CommitRequest, Items, Key, NoMemory, Outbox, Progress, Reply, Timestamp};
+use txn_merge::RetryOptions;
+use txn_region::PdClient;
+use txn_request::lowering::new_commit_request;
+
+type Turn = Result<Progress<()>, NoMemory>;
+
+/// How far the job has come.
+#[derive(Drop)]
+enum Stage<Q> {
+    Fresh,
+    /// It stands where the plan of its Commits does.
+    Committing(Q),
+    /// It gave up for want of memory, before there was a plan.
+    Stopped,
+}
+
+/// Commits the other keys of a transaction whose primary is committed. The transaction does not wait for it.
+#[derive(Drop)]
+pub struct SecondaryJob<Q> {
+    start: Timestamp,
+    commit: Timestamp,
+    keys: Items<Key>,
+    retry_options: RetryOptions,
+    stage: Stage<Q>,
+    alloc: Global,
+}
+
+impl<Q: PlanFor<CommitRequest>> SecondaryJob<Q> {
+    /// A job that is not started.
+    pub fn new(
+        alloc: Global,
+        start: Timestamp,
+        commit: Timestamp,
+        keys: Items<Key>,
+        retry_options: RetryOptions,
+    ) -> SecondaryJob<Q>
+        ensures start { result.start ≡ start }
+        ensures commit { result.commit ≡ commit }
+        ensures keys { result.keys ≡ keys }
+        ensures stage { result.stage ≡ stages.Fresh }
+    {
+        SecondaryJob {
+            start,
+            commit,
+            keys,
+            retry_options,
+            stage: Stage::Fresh,
+            alloc,
+        }
+    }
+
+    pub fn start<C: PdClient>(&mut self, pd: &mut C, now: u64, out: &mut Outbox) -> Turn
+        requires ready { JobReady Q.meaning self.old }
+        requires numbers { HasNumbers out.old }
+        requires clock { now < 2 ^ 44 }
+        ensures tells { (plan : Writing) (keys : List Name) → Tells (others Q.meaning Q.refuses Q.costs plan keys) started self.old self.new out.old out.new (turn_of result) }
+        ensures goes { Goes (λ (s : SecondaryJob Q). job_phase Q.meaning s.stage) (job_phase Q.meaning self.old.stage ≡ Unbegun) self.old self.new out.old out.new pd.old pd.new (turn_of result) }
+        ensures counts { (plan : Writing) (keys : List Name) → Counts (others Q.meaning Q.refuses Q.costs plan keys) false false 0 0 self.old self.new out.old out.new (turn_of result) }
+        ensures ready { JobReady Q.meaning self.new }
+        ensures numbers { HasNumbers out.new }
+    {
+        if !self.is_fresh() {
+            return self.begin(pd, now, out);
+        }
+        self.start_fresh(pd, now, out)
+    }
+
+    fn start_fresh<C: PdClient>(&mut self, pd: &mut C, now: u64, out: &mut Outbox) -> Turn
+        requires fresh { self.old.stage ≡ stages.Fresh }
+        requires ready { JobReady Q.meaning self.old }
+        requires numbers { HasNumbers out.old }
+        requires clock { now < 2 ^ 44 }
+        ensures tells { (plan : Writing) (keys : List Name) → Tells (others Q.meaning Q.refuses Q.costs plan keys) started self.old self.new out.old out.new (turn_of result) }
+        ensures goes { Goes (λ (s : SecondaryJob Q). job_phase Q.meaning s.stage) (job_phase Q.meaning self.old.stage ≡ Unbegun) self.old self.new out.old out.new pd.old pd.new (turn_of result) }
+        ensures counts { (plan : Writing) (keys : List Name) → Counts (others Q.meaning Q.refuses Q.costs plan keys) false false 0 0 self.old self.new out.old out.new (turn_of result) }
+        ensures ready { JobReady Q.meaning self.new }
+        ensures numbers { HasNumbers out.new }
+    {
+        self.make_plan(pd)?;
+        self.begin(pd, now, out)
+    }
+
+    pub fn take_reply<C: PdClient>(
+        &mut self,
+        pd: &mut C,
+        now: u64,
+        number: u64,
+        reply: Reply,
+        out: &mut Outbox,
+    ) -> Turn
+        requires ready { JobReady Q.meaning self.old }
+        requires numbers { HasNumbers out.old }
+        requires clock { now < 2 ^ 44 }
+        ensures tells { (plan : Writing) (keys : List Name) (r : Asked) → Tells (others Q.meaning Q.refuses Q.costs plan keys) (replied (ticket_of out.old number) r reply) self.old self.new out.old out.new (turn_of result) }
+        ensures goes { Goes (λ (s : SecondaryJob Q). job_phase Q.meaning s.stage) (job_waits Q.meaning self.old.stage (ReplyTo number)) self.old self.new out.old out.new pd.old pd.new (turn_of result) }
+        ensures counts { (plan : Writing) (keys : List Name) → Counts (others Q.meaning Q.refuses Q.costs plan keys) (has_error reply) (has_region_error reply) (weight_of reply) (locked_of reply) self.old self.new out.old out.new (turn_of result) }
+        ensures ready { JobReady Q.meaning self.new }
+        ensures numbers { HasNumbers out.new }
+    {
+        self.tell(Arrival::Reply { number, reply }, pd, now, out)
+    }
+
+    pub fn lost<C: PdClient>(&mut self, pd: &mut C, now: u64, number: u64, out: &mut Outbox) -> Turn
+        requires ready { JobReady Q.meaning self.old }
+        requires numbers { HasNumbers out.old }
+        requires clock { now < 2 ^ 44 }
+        ensures tells { (plan : Writing) (keys : List Name) (r : Asked) → Tells (others Q.meaning Q.refuses Q.costs plan keys) (missed (ticket_of out.old number) r) self.old self.new out.old out.new (turn_of result) }
+        ensures goes { Goes (λ (s : SecondaryJob Q). job_phase Q.meaning s.stage) (job_waits Q.meaning self.old.stage (ReplyTo number)) self.old self.new out.old out.new pd.old pd.new (turn_of result) }
+        ensures counts { (plan : Writing) (keys : List Name) → Counts (others Q.meaning Q.refuses Q.costs plan keys) true true 0 0 self.old self.new out.old out.new (turn_of result) }
+        ensures ready { JobReady Q.meaning self.new }
+        ensures numbers { HasNumbers out.new }
+    {
+        self.tell(Arrival::Lost { number }, pd, now, out)
+    }
+
+    pub fn slept<C: PdClient>(
+        &mut self,
+        pd: &mut C,
+        now: u64,
+        number: u64,
+        out: &mut Outbox,
+    ) -> Turn
+        requires ready { JobReady Q.meaning self.old }
+        requires numbers { HasNumbers out.old }
+        requires clock { now < 2 ^ 44 }
+        ensures tells { (plan : Writing) (keys : List Name) → Tells (others Q.meaning Q.refuses Q.costs plan keys) (woken (ticket_of out.old number)) self.old self.new out.old out.new (turn_of result) }
+        ensures goes { Goes (λ (s : SecondaryJob Q). job_phase Q.meaning s.stage) (job_waits Q.meaning self.old.stage (EndOf number)) self.old self.new out.old out.new pd.old pd.new (turn_of result) }
+        ensures counts { (plan : Writing) (keys : List Name) → Counts (others Q.meaning Q.refuses Q.costs plan keys) false false 0 0 self.old self.new out.old out.new (turn_of result) }
+        ensures ready { JobReady Q.meaning self.new }
+        ensures numbers { HasNumbers out.new }
+    {
+        self.tell(Arrival::Slept { number }, pd, now, out)
+    }
+
+    pub fn take_time<C: PdClient>(
+        &mut self,
+        pd: &mut C,
+        now: u64,
+        ask: u64,
+        answer: txn_kv::Result<Timestamp>,
+        out: &mut Outbox,
+    ) -> Turn
+        requires ready { JobReady Q.meaning self.old }
+        requires answer { IsTimeAnswer answer }
+        requires numbers { HasNumbers out.old }
+        requires clock { now < 2 ^ 44 }
+        ensures tells { (plan : Writing) (keys : List Name) → Tells (others Q.meaning Q.refuses Q.costs plan keys) (timed (ticket_of out.old ask) (result_ok answer)) self.old self.new out.old out.new (turn_of result) }
+        ensures goes { Goes (λ (s : SecondaryJob Q). job_phase Q.meaning s.stage) (job_waits Q.meaning self.old.stage (TimeOf ask)) self.old self.new out.old out.new pd.old pd.new (turn_of result) }
+        ensures counts { (plan : Writing) (keys : List Name) → Counts (others Q.meaning Q.refuses Q.costs plan keys) (is_err answer) false 0 0 self.old self.new out.old out.new (turn_of result) }
+        ensures ready { JobReady Q.meaning self.new }
+        ensures numbers { HasNumbers out.new }
+    {
+        self.tell(Arrival::Time { ask, answer }, pd, now, out)
+    }
+
+    /// It is told of something.
+    pub fn tell<C: PdClient>(
+        &mut self,
+        arrival: Arrival,
+        pd: &mut C,
+        now: u64,
+        out: &mut Outbox,
+    ) -> Turn
+        requires ready { JobReady Q.meaning self.old }
+        requires arrives { MayArrive arrival }
+        requires numbers { HasNumbers out.old }
+        requires clock { now < 2 ^ 44 }
+        ensures tells { (plan : Writing) (keys : List Name) (r : Asked) → Tells (others Q.meaning Q.refuses Q.costs plan keys) (told_by arrival out.old r) self.old self.new out.old out.new (turn_of result) }
+        ensures goes { Goes (λ (s : SecondaryJob Q). job_phase Q.meaning s.stage) (job_waits Q.meaning self.old.stage (awaited_as arrival)) self.old self.new out.old out.new pd.old pd.new (turn_of result) }
+        ensures counts { (plan : Writing) (keys : List Name) → Counts (others Q.meaning Q.refuses Q.costs plan keys) (tells_error arrival) (tells_failure arrival) (weight_told arrival) (locked_told arrival) self.old self.new out.old out.new (turn_of result) }
+        ensures ready { JobReady Q.meaning self.new }
+        ensures numbers { HasNumbers out.new }
+    {
+        match &mut self.stage {
+            Stage::Committing(plan) => {
+                let turn = arrival.tell(plan, pd, now, out);
+                read(turn)
+            }
+            Stage::Fresh => Ok(Progress::Waiting),
+            Stage::Stopped => Err(NoMemory),
+        }
+    }
+
+    /// Makes the plan of its Commits.
+    fn make_plan<C: PdClient>(&mut self, pd: &C) -> Result<(), NoMemory>
+        requires ready { JobReady Q.meaning self.old }
+        ensures ok { OnOk result (IsPlanned Q.meaning Q.refuses Q.costs self.old self.new) }
+        ensures err { OnErr result (self.new ≡ record self.old { keys = self.new.keys; stage = stages.Stopped }) }
+    {
+        self.stage = Stage::Stopped;
+        let keys = mem::replace(&mut self.keys, Items::new(self.alloc));
+        let request = new_commit_request(keys, self.start, self.commit);
+        let plan = Q::plan_for(self.alloc, pd, request, self.retry_options.clone()?)?;
+        self.stage = Stage::Committing(plan);
+        Ok(())
+    }
+
+    /// Starts the plan.
+    fn begin<C: PdClient>(&mut self, pd: &mut C, now: u64, out: &mut Outbox) -> Turn
+        requires made { self.old.stage ≡ stages.Fresh → ⊥ }
+        requires ready { JobReady Q.meaning self.old }
+        requires numbers { HasNumbers out.old }
+        requires clock { now < 2 ^ 44 }
+        ensures tells { (plan : Writing) (keys : List Name) → Tells (others Q.meaning Q.refuses Q.costs plan keys) started self.old self.new out.old out.new (turn_of result) }
+        ensures goes { Goes (λ (s : SecondaryJob Q). job_phase Q.meaning s.stage) (job_phase Q.meaning self.old.stage ≡ Unbegun) self.old self.new out.old out.new pd.old pd.new (turn_of result) }
+        ensures counts { (plan : Writing) (keys : List Name) → Counts (others Q.meaning Q.refuses Q.costs plan keys) false false 0 0 self.old self.new out.old out.new (turn_of result) }
+        ensures ready { JobReady Q.meaning self.new }
+        ensures numbers { HasNumbers out.new }
+    {
+        match &mut self.stage {
+            Stage::Committing(plan) => {
+                let turn = plan.start(pd, now, out);
+                read(turn)
+            }
+            Stage::Fresh => Ok(Progress::Waiting),
+            Stage::Stopped => Err(NoMemory),
+        }
+    }
+
+    fn is_fresh(&self) -> bool
+        ensures { MatchBool result (self.now.stage ≡ stages.Fresh) (self.now.stage ≡ stages.Fresh → ⊥) }
+    {
+        matches!(self.stage, Stage::Fresh)
+    }
+}
+
+/// The answer of its plan as that of the job.
+fn read<T: Drop>(turn: Result<Progress<T>, NoMemory>) -> Turn
+    ensures { IsRead ReadsDone (turn_of turn) (turn_of result) }
+{
+    match turn? {
+        Progress::Waiting => Ok(Progress::Waiting),
+        Progress::Done(answer) => Ok(Progress::Done(done(answer))),
+    }
+}
+
+fn done<T: Drop>(answer: txn_kv::Result<T>) -> txn_kv::Result<()>
+    ensures { ReadsDone answer result }
+{
+    match answer {
+        Ok(_) => Ok(()),
+        Err(error) => Err(error),
+    }
+}

@@ -1,0 +1,25 @@
+//! Each type of this crate can move between threads.
+
+use crate::arrival::Arrival;
+use crate::commit_parts::CommitParts;
+use crate::committer::{CommitterAnswer, CommitterCall};
+use crate::primary_commits::PrimaryCommits;
+use crate::secondary_job::SecondaryJob;
+use crate::timestamp_call::TimestampCall;
+use std::marker::Send;
+use txn_kv::send::can_move;
+
+/// The types of this crate do.
+pub fn parts_can_move() {
+    can_move::<Arrival>();
+    can_move::<CommitParts>();
+    can_move::<CommitterAnswer>();
+    can_move::<PrimaryCommits>();
+    can_move::<TimestampCall>();
+}
+
+/// A commit, and the job behind it, do where their plans do.
+pub fn commits_can_move<P: Send, Q: Send, K: Send>() {
+    can_move::<CommitterCall<P, Q, K>>();
+    can_move::<SecondaryJob<Q>>();
+}

@@ -1,0 +1,14 @@
+use Rattle.std.proofs.Common.{◌∙◌, refl, sym}
+use Rattle.txn_history.specs.Moves.{Moves-stopped}
+use Rattle.txn_history.proofs.Telling.{turn_stopped}
+use Rattle.txn_core.proofs.Going.{back_nothing, goes_back}
+use Rattle.txn_core.proofs.transaction.Transaction.go_back.Goals as goal
+
+pub returns-in_err-parts-clause-moves : goal.returns-in_err-parts-clause-moves
+returns-in_err-parts-clause-moves g c = Moves-stopped (turn_stopped _ c.from_residual.ensures.0) refl
+
+pub returns-in-None-clause-moves : goal.returns-in-None-clause-moves
+returns-in-None-clause-moves g c = back_nothing _ c.args.self.now c.begin.new.self c.nothing_rolled_back.new.self _ _ c.begin.ensures c.nothing_rolled_back.ensures.state (sym c.in_ok-parts.ensures ∙ c.in-None.is) c.nothing_rolled_back.ensures.answer
+
+pub returns-in-Some-clause-moves : goal.returns-in-Some-clause-moves
+returns-in-Some-clause-moves g c = goes_back _ c.args.self.now c.begin.new.self c.start_rollback.new.self c.in-Some.parts _ _ _ c.begin.ensures (sym c.in_ok-parts.ensures ∙ c.in-Some.is) c.start_rollback.ensures.moves

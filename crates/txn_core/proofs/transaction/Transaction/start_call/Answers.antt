@@ -1,0 +1,7 @@
+use Rattle.std.proofs.Common.{◌∙◌, refl, sym}
+use Rattle.txn_history.specs.Moves.{Moves-before}
+use Rattle.txn_core.proofs.Going.{may_again}
+use Rattle.txn_core.proofs.transaction.Transaction.start_call.Goals as goal
+
+pub returns-in-Some-clause-moves : goal.returns-in-Some-clause-moves
+returns-in-Some-clause-moves g c = Moves-before (λ h f. (f.0, may_again _ _ _ _ h (sym c.commit_time.ensures.time ∙ c.in-Some.is) f.1)) c.commit_again.ensures.moves

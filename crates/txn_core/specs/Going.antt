@@ -1,0 +1,219 @@
+-- The commit and the rollback of a transaction in a run: what has happened where it stands, and what its answers stand on.
+use Rattle.std.specs.Prelude.{◌≡◌, ◌⊎◌, ⊤, ℕ, true, false, List, [], ◌∷◌, Option, Some, None, Result, Ok, Err}
+use Rattle.txn_kv.specs.ErrorView.{view_of}
+use Rattle.txn_kv.specs.ErrorView.ErrorView.{undetermined as not_known}
+use Rattle.txn_kv.specs.Timestamp.{HasVersion, version_of}
+use Rattle.txn_kv.specs.declared.errors.Error.{Error}
+use Rattle.txn_kv.specs.declared.errors.Error.TheVariants.{GrpcAPI}
+use Rattle.txn_kv.specs.declared.request.CommitRequest.{CommitRequest}
+use Rattle.txn_kv.specs.declared.request.Request.{Request}
+use Rattle.txn_kv.specs.declared.request.Request.TheVariants.{Commit}
+use Rattle.txn_kv.specs.declared.ticket.Ticket.{Ticket}
+use Rattle.txn_kv.specs.declared.timestamp.Timestamp.{Timestamp}
+use Rattle.txn_history.specs.Event.{Event, Has}
+use Rattle.txn_history.specs.Event.Event.{Sent}
+use Rattle.txn_history.specs.Licence.{PrimaryCommitted, WasGiven, WasNamed}
+use Rattle.txn_history.specs.Meaning.{Told}
+use Rattle.txn_history.specs.Moves.{Knows, Moves}
+use Rattle.txn_history.specs.Plan.{Key, Plan}
+use Rattle.txn_history.specs.Posted.{Posted}
+use Rattle.txn_history.specs.Turn.{Turn, IfEnds, IfKept}
+use Rattle.txn_history.specs.Turn.Turn.{Stopped, Waits, Ends}
+use Rattle.txn_buffer.specs.Contents.{Contents}
+use Rattle.txn_commit.specs.Committing.{CommitterFits, CommitterGives, IsFormed, IsReady, StageReady, Ways}
+use Rattle.txn_commit.specs.Following.{Commits, KnowsCommits, none_sent, undetermined}
+use Rattle.txn_commit.specs.Parts.{parts_of}
+use Rattle.txn_commit.specs.Plans.{ArePrewritten, AreRolledBack}
+use Rattle.txn_commit.specs.Sending.{MaySend, plan_of}
+use Rattle.txn_commit.specs.declared.commit_parts.CommitParts.{CommitParts}
+use Rattle.txn_commit.specs.declared.committer.CommitterAnswer.{CommitterAnswer}
+use Rattle.txn_commit.specs.declared.committer.CommitterCall.{CommitterCall}
+use Rattle.txn_commit.specs.declared.committer.Stage.TheVariants.{Over}
+use Rattle.txn_commit.specs.declared.secondary_job.SecondaryJob.{SecondaryJob}
+use Rattle.txn_commit.specs.declared.secondary_job.Stage.TheVariants.{Fresh}
+use Rattle.txn_core.specs.Status.{allows_data}
+use Rattle.txn_core.specs.Transaction.{Standing}
+use Rattle.txn_core.specs.declared.status.Status.{Status}
+use Rattle.txn_core.specs.declared.transaction.Work.{Work}
+use Rattle.txn_core.specs.declared.transaction.Work.TheVariants.{Idle, Open, GaveUp}
+use Rattle.txn_core.specs.declared.txn_answer.TxnAnswer.{TxnAnswer}
+use Rattle.txn_core.specs.declared.txn_answer.TxnAnswer.TheVariants as answer
+
+-- Where it stands
+
+-- no Commit of this start was sent
+abbrev pub IsUncommitted : ℕ → List Event → Type 0
+IsUncommitted s h = (t : Ticket) (r : CommitRequest) → Has h (Sent t (Commit r)) → r.start_version ≡ s → ⊥
+
+-- While it may be written, no Commit of it was sent.
+pub record IsUnsent (s : ℕ) (c : Commits) (h : List Event) : Type 0 where
+  pub none : c ≡ none_sent
+  pub never : IsUncommitted s h
+
+-- a timestamp that a Commit of the primary names was asked for after all keys were acknowledged
+abbrev pub NamesReady : Plan → ℕ → List Event → Type 0
+NamesReady plan s h = (d : ℕ) → WasNamed plan h s d → IsReady plan s d h
+
+-- between calls: what is known of the Commits of the primary of these parts
+pub record KnowsParts (s : ℕ) (c : Commits) (h : List Event) (parts : CommitParts) : Type 0 where
+  pub formed : IsFormed parts
+  pub knows : KnowsCommits (plan_of parts) s c h
+  pub ready : NamesReady (plan_of parts) s h
+
+-- The open call is of this transaction, and of what its buffer holds. Nothing is written meanwhile.
+pub record IsUnderWay {P Q K A B D : Type 0} (w : Ways P Q K A B D) (start : Timestamp) (status : Status) (contents : Contents) (c : Commits) (call : CommitterCall P Q K) (o : Posted) (h : List Event) : Type 0 where
+  pub own : call.start ≡ start
+  pub started : allows_data status ≡ false
+  pub whole : parts_of contents ≡ Some call.parts
+  pub ready : NamesReady (plan_of call.parts) (version_of call.start) h
+  pub fits : CommitterFits w call c o h
+
+-- a call that is not begun
+pub record IsNewCall {P Q K : Type 0} (start : Timestamp) (parts : CommitParts) (call : CommitterCall P Q K) : Type 0 where
+  pub own : call.start ≡ start
+  pub whole : call.parts ≡ parts
+  pub stage : call.stage ≡ Over
+
+abbrev pub IsAtWork : {P Q K A B D : Type 0} → Ways P Q K A B D → Timestamp → Status → Contents → Commits → Work P Q K → Posted → List Event → Type 0
+IsAtWork w start status contents c Idle o h = (parts : CommitParts) → parts_of contents ≡ Some parts → KnowsParts (version_of start) c h parts
+IsAtWork w start status contents c (Open call) o h = IsUnderWay w start status contents c call o h
+IsAtWork w start status contents c GaveUp o h = ⊤
+
+-- The transaction can have arisen from the history: its start was given.
+pub record TransactionFits {P Q K A B D : Type 0} (w : Ways P Q K A B D) (t : Standing P Q K) (o : Posted) (h : List Event) : Type 0 where
+  pub given : WasGiven h (version_of t.start)
+  pub unsent : allows_data t.status ≡ true → IsUnsent (version_of t.start) t.commits h
+  pub at : IsAtWork w t.start t.status t.contents t.commits t.work o h
+
+-- and so it can, while this call is open
+pub record CallFits {P Q K A B D : Type 0} (w : Ways P Q K A B D) (t : Standing P Q K) (call : CommitterCall P Q K) (o : Posted) (h : List Event) : Type 0 where
+  pub given : WasGiven h (version_of t.start)
+  pub under_way : IsUnderWay w t.start t.status t.contents t.commits call o h
+
+-- a commit or a rollback of these parts may begin
+pub record MayBegin {P Q K : Type 0} (t : Standing P Q K) (parts : CommitParts) (h : List Event) : Type 0 where
+  pub given : WasGiven h (version_of t.start)
+  pub started : allows_data t.status ≡ false
+  pub knows : KnowsParts (version_of t.start) t.commits h parts
+
+-- its open call may be told of something
+abbrev pub WorkReady : {P Q K A B D : Type 0} → Ways P Q K A B D → Timestamp → Work P Q K → Type 0
+WorkReady w start Idle = ⊤
+WorkReady w start (Open call) = (call.start ≡ start) × StageReady w call.stage
+WorkReady w start GaveUp = ⊤
+
+pub record TransactionReady {P Q K A B D : Type 0} (w : Ways P Q K A B D) (t : Standing P Q K) : Type 0 where
+  pub start : HasVersion t.start
+  pub work : WorkReady w t.start t.work
+
+-- What it may send, and what an answer stands on
+
+-- what the licences allow under the plan of its buffer
+abbrev pub MaySendFor : Contents → ℕ → List Event → Request → Type 0
+MaySendFor contents s h r = (parts : CommitParts) × (parts_of contents ≡ Some parts) × MaySend (plan_of parts) s h r
+
+-- a job of these keys that is not started
+pub record IsJobOf {Q : Type 0} (start commit : Timestamp) (keys : List Key) (job : SecondaryJob Q) : Type 0 where
+  pub own : job.start ≡ start
+  pub at : job.commit ≡ commit
+  pub names : job.keys ≡ keys
+  pub stage : job.stage ≡ Fresh
+
+-- there is none where no key is left
+abbrev pub IsJobFor : {Q : Type 0} → Timestamp → Timestamp → List Key → Option (SecondaryJob Q) → Type 0
+IsJobFor start commit [] None = ⊤
+IsJobFor start commit [] (Some job) = ⊥
+IsJobFor start commit (k ∷ ks) None = ⊥
+IsJobFor start commit (k ∷ ks) (Some job) = IsJobOf start commit (k ∷ ks) job
+
+-- the primary is committed at this timestamp, and the job commits the other keys
+pub record IsCommitted {Q : Type 0} (start t : Timestamp) (parts : CommitParts) (job : Option (SecondaryJob Q)) (h : List Event) : Type 0 where
+  pub primary : PrimaryCommitted (plan_of parts) h (version_of start) (version_of t)
+  pub others : IsJobFor start t parts.secondaries job
+
+-- An error, where this Commit of the primary was lost or is out: the transaction may be committed, and that is what is said,
+-- with the error that it ended with. Where there is none it is that error itself.
+abbrev pub FailsWith : {P Q K A B D : Type 0} → Ways P Q K A B D → ℕ → CommitParts → Option Ticket → List Event → Error → Type 0
+FailsWith w s parts None h e = CommitterGives w s parts h (Err e)
+FailsWith w s parts (Some t) h e = (inner : Error) × (view_of e ≡ not_known (view_of inner)) × CommitterGives w s parts h (Err inner)
+
+abbrev pub StandsOn : {P Q K A B D : Type 0} → Ways P Q K A B D → Timestamp → CommitParts → Commits → List Event → Result (TxnAnswer Q) Error → Type 0
+StandsOn w start parts c h (Ok (answer.Committed (Some t) job)) = IsCommitted start t parts job h
+StandsOn w start parts c h (Ok (answer.Committed None None)) = (parts.locks ≡ false) × ArePrewritten (version_of start) parts.mutations h
+StandsOn w start parts c h (Ok answer.Unit) = (parts.locks ≡ false) ⊎ (AreRolledBack (version_of start) (parts.primary ∷ []) h × AreRolledBack (version_of start) parts.secondaries h)
+StandsOn w start parts c h (Err e) = FailsWith w (version_of start) parts (undetermined c) h e
+StandsOn w start parts c h _ = ⊥
+
+-- it is committed, or rolled back, and there was nothing to do
+abbrev pub IsNothing : {Q : Type 0} → Result (TxnAnswer Q) Error → Type 0
+IsNothing v = (v ≡ Ok (answer.Committed None None)) ⊎ (v ≡ Ok answer.Unit)
+
+abbrev pub TransactionGives : {P Q K A B D : Type 0} → Ways P Q K A B D → Timestamp → Contents → Commits → List Event → Result (TxnAnswer Q) Error → Type 0
+TransactionGives w start contents c h v =
+    ((parts : CommitParts) × (parts_of contents ≡ Some parts) × StandsOn w start parts c h v) ⊎ ((parts_of contents ≡ None) × IsNothing v)
+
+-- an event call of it, in a history of which more is known
+abbrev pub TransactionMoves : {P Q K A B D : Type 0} → Ways P Q K A B D → (List Event → Type 0) → (List Event → List Event)
+    → Standing P Q K → Standing P Q K → Posted → Posted → Turn (Result (TxnAnswer Q) Error) → Type 0
+TransactionMoves w known hear old new from to turn =
+    Moves (MaySendFor old.contents (version_of old.start)) (λ h. TransactionFits w old from h × known h) (TransactionFits w new to) (TransactionGives w old.start old.contents new.commits) hear from to turn
+
+-- the same from where this call is open, and from where one may begin
+abbrev pub CallMoves : {P Q K A B D : Type 0} → Ways P Q K A B D → (List Event → Type 0) → (List Event → List Event) → CommitterCall P Q K
+    → Standing P Q K → Standing P Q K → Posted → Posted → Turn (Result (TxnAnswer Q) Error) → Type 0
+CallMoves w known hear call old new from to turn =
+    Moves (MaySendFor old.contents (version_of old.start)) (λ h. CallFits w old call from h × known h) (TransactionFits w new to) (TransactionGives w old.start old.contents new.commits) hear from to turn
+
+abbrev pub BeginMoves : {P Q K A B D : Type 0} → Ways P Q K A B D → (List Event → Type 0)
+    → Standing P Q K → Standing P Q K → Posted → Posted → Turn (Result (TxnAnswer Q) Error) → Type 0
+BeginMoves w may old new from to turn =
+    Moves (MaySendFor old.contents (version_of old.start)) may (TransactionFits w new to) (TransactionGives w old.start old.contents new.commits) (λ h. h) from to turn
+
+-- what is known where the open call has gone on so
+abbrev pub KnowsCall : {P Q K A B D : Type 0} → Ways P Q K A B D → CommitterCall P Q K → Standing P Q K → Posted → Turn (Result CommitterAnswer Error) → List Event → Type 0
+KnowsCall w call t o inner h = Knows inner (CallFits w t call o) (CommitterGives w (version_of call.start) call.parts) h
+
+-- it goes on after its open call did
+pub record TakesUp {P Q K A B D : Type 0} (w : Ways P Q K A B D) (call : CommitterCall P Q K) (old new : Standing P Q K) (o : Posted) (inner : Turn (Result CommitterAnswer Error)) (turn : Turn (Result (TxnAnswer Q) Error)) : Type 0 where
+  pub still : IfKept turn ((h : List Event) → KnowsCall w call old o inner h → TransactionFits w new o h)
+  pub done : IfEnds turn (λ v. (h : List Event) → KnowsCall w call old o inner h → TransactionGives w old.start old.contents new.commits h v)
+
+-- the name of a failure: what is said of it where a Commit of the primary was lost or is out
+abbrev pub IsNamed : Option Ticket → Error → Error → Type 0
+IsNamed None inner e = e ≡ inner
+IsNamed (Some t) inner e = view_of e ≡ not_known (view_of inner)
+
+-- it ended with an error, or gave up
+abbrev pub HasFailed : {A : Type 0} → Turn (Result A Error) → Type 0
+HasFailed Stopped = ⊤
+HasFailed Waits = ⊥
+HasFailed (Ends (Ok v)) = ⊥
+HasFailed (Ends (Err e)) = ⊤
+
+-- it answers this timestamp, and the job of these keys
+abbrev pub IsCommittedAt : {Q : Type 0} → Timestamp → Timestamp → List Key → Turn (Result (TxnAnswer Q) Error) → Type 0
+IsCommittedAt {Q} start t keys turn = (job : Option (SecondaryJob Q)) × (turn ≡ Ends (Ok (answer.Committed (Some t) job))) × IsJobFor start t keys job
+
+-- a rollback may begin, of whatever the buffer holds
+pub record MayGoBack {P Q K : Type 0} (t : Standing P Q K) (h : List Event) : Type 0 where
+  pub given : WasGiven h (version_of t.start)
+  pub settled : undetermined t.commits ≡ None
+  pub knows : (parts : CommitParts) → parts_of t.contents ≡ Some parts → KnowsParts (version_of t.start) t.commits h parts
+
+-- a start was given, and so much is known of the Commits of its primary
+pub record MayStart (plan : Plan) (s : ℕ) (c : Commits) (h : List Event) : Type 0 where
+  pub given : WasGiven h s
+  pub knows : KnowsCommits plan s c h
+  pub ready : NamesReady plan s h
+
+-- the open call is still the one of the same parts
+pub record IsSameCall {P Q K : Type 0} (call now : CommitterCall P Q K) : Type 0 where
+  pub start : now.start ≡ call.start
+  pub parts : now.parts ≡ call.parts
+
+-- It is refused: whether it is committed is not known, since this Commit of the primary was lost or is out.
+abbrev pub IsUndetermined : {Q : Type 0} → Ticket → Turn (Result (TxnAnswer Q) Error) → Type 0
+IsUndetermined t Stopped = ⊤
+IsUndetermined t Waits = ⊥
+IsUndetermined t (Ends (Ok v)) = ⊥
+IsUndetermined t (Ends (Err e)) = view_of e ≡ not_known (view_of (GrpcAPI t))

@@ -1,0 +1,872 @@
+ghost use Rattle.std.specs.Prelude.{◌≡◌, ◌<◌, ◌^◌, ⊤, IfOk, IfSome, OnErr, OnOk, List, None, Some, Ok, Err, false, true, is_none, is_some, not, option_map};
+ghost use Rattle.txn_buffer.specs.Contents.{Contents, known_at, known_value, locked, mutated, with_write, write_at};
+ghost use Rattle.txn_buffer.specs.Reads.{writes};
+ghost use Rattle.txn_buffer.specs.Writes.{after_call, after_delete, after_insert, after_put, delete_call, insert_call, put_call};
+ghost use Rattle.txn_history.specs.Event.{Event};
+ghost use Rattle.txn_history.specs.Licence.{WasGiven};
+ghost use Rattle.txn_history.specs.Posted.{HasNumbers, Posted};
+ghost use Rattle.txn_history.specs.Turn.{HasEnded, turn_of};
+ghost use Rattle.txn_history.specs.Turn.Turn.{Ends, Stopped, Waits};
+ghost use Rattle.txn_kv.specs.ErrorView.{view_of};
+ghost use Rattle.txn_kv.specs.ErrorView.ErrorView.{undetermined as not_known};
+ghost use Rattle.txn_kv.specs.Timestamp.{HasVersion, version_of};
+ghost use Rattle.txn_kv.specs.declared.errors.Error.TheVariants.{OperationAfterCommitError};
+ghost use Rattle.txn_kv.specs.declared.request.Request.{Request as Asked};
+ghost use Rattle.txn_kv.specs.declared.ticket.Ticket.{Ticket as Named};
+ghost use Rattle.txn_plan.specs.Answered.{IsTimeAnswer};
+ghost use Rattle.txn_commit.specs.Arrivals.{MayArrive, told_by};
+ghost use Rattle.txn_commit.specs.Committing.{CommitterMoves, IsFirst, MayCommit, StageReady, ways};
+ghost use Rattle.txn_commit.specs.Following.{undetermined};
+ghost use Rattle.txn_commit.specs.Parts.{parts_of};
+ghost use Rattle.txn_commit.specs.Sending.{plan_of};
+ghost use Rattle.txn_commit.specs.declared.arrival.Arrival.TheVariants as arrivals;
+ghost use Rattle.txn_commit.specs.declared.commit_parts.CommitParts.{CommitParts as Parts};
+ghost use Rattle.txn_commit.specs.declared.committer.CommitterCall.{CommitterCall as Calling};
+ghost use Rattle.txn_core.specs.Going.{BeginMoves, CallMoves, HasFailed, IsCommittedAt, IsJobFor, IsNamed, IsNewCall, IsSameCall, IsUncommitted, MayBegin, MayGoBack, MayStart, IsUndetermined, TakesUp, TransactionFits, TransactionMoves, TransactionReady};
+ghost use Rattle.txn_core.specs.Status.{Became, allows_commit, allows_data, allows_rollback, closing, status_step};
+ghost use Rattle.txn_core.specs.Status.Became.{commits};
+ghost use Rattle.txn_core.specs.Transaction.{AreLocked, AreSteps, GivesUp, AnswersAtOnce, IsRefused, IsStep, WriteEnds, locks_nothing, all_put_or_delete, begun, call_by, commit_outcome, has_given_up, insert_refusal, is_open, is_put_or_delete, is_waiting, locked_all, moved, moved_by, mutate_refusal, mutated_all, rolled_status, write_refusal};
+ghost use Rattle.txn_core.specs.declared.status.Status.TheVariants as statuses;
+ghost use Rattle.txn_core.specs.declared.transaction.Work.TheVariants as works;
+ghost use Rattle.txn_core.specs.declared.txn_answer.TxnAnswer.TheVariants as answers;
+
+use crate::close_answer::CloseAnswer;
+use crate::options::TransactionOptions;
+use crate::status::Status;
+use crate::ttl::txn_lock_ttl;
+use crate::txn_answer::TxnAnswer;
+use std::alloc::Global;
+use std::marker::{Model, PhantomData};
+use std::mem;
+use txn_buffer::Buffer;
+use txn_commit::{
+    Arrival, CommitParts, CommitterAnswer, CommitterCall, PlanFor, PrimaryCommits, SecondaryJob,
+};
+use txn_kv::{
+    BatchRollbackRequest, CommitRequest, Error, Items, Key, Mutation, NoMemory, Op, Outbox,
+    PrewriteRequest, Progress, Reply, Ticket, Timestamp, Value,
+};
+use txn_merge::RetryOptions;
+use txn_region::PdClient;
+
+type Turn<Q> = Result<Progress<TxnAnswer<Q>>, NoMemory>;
+
+/// The call that is open, if one is.
+#[derive(Drop)]
+enum Work<P, Q, K> {
+    Idle,
+    Open(CommitterCall<P, Q, K>),
+    /// A call gave up for want of memory, and so does each later one.
+    GaveUp,
+}
+
+/// A transaction that has begun: it buffers writes until they are committed or rolled back.
+///
+/// A call answers at once, or goes on by the events that it asked for. One call is open at a time. A call that gave up for want
+/// of memory gives up ever after, and so does each later one.
+#[derive(Drop)]
+pub struct Transaction<C, P, Q, K> {
+    timestamp: Timestamp,
+    options: TransactionOptions,
+    /// The clock as the start timestamp came.
+    started: u64,
+    status: Status,
+    buffer: Buffer,
+    commits: PrimaryCommits,
+    work: Work<P, Q, K>,
+    alloc: Global,
+    client: PhantomData<C>,
+}
+
+impl<C, P, Q, K> Model for Transaction<C, P, Q, K> {
+    ghost use Rattle.txn_core.specs.Transaction.{Standing};
+
+    ghost Value = { Standing P Q K };
+
+    ghost view = { λ t. record { start = t.timestamp; options = t.options; began = t.started; status = t.status; contents = t.buffer; commits = t.commits; work = t.work } };
+}
+
+impl<C, P, Q, K> Transaction<C, P, Q, K>
+where
+    C: PdClient,
+    P: PlanFor<PrewriteRequest>,
+    Q: PlanFor<CommitRequest>,
+    K: PlanFor<BatchRollbackRequest>,
+{
+    pub fn new(
+        alloc: Global,
+        timestamp: Timestamp,
+        options: TransactionOptions,
+        now: u64,
+    ) -> Result<Self, NoMemory>
+        ensures state { IfOk result (λ t. t ≡ begun timestamp options now) }
+    {
+        Ok(Transaction {
+            timestamp,
+            started: now,
+            status: Status::opening(options.read_only),
+            buffer: Buffer::new(alloc, options.is_pessimistic()),
+            commits: PrimaryCommits::new(alloc),
+            work: Work::Idle,
+            options,
+            alloc,
+            client: PhantomData,
+        })
+    }
+
+    pub fn start_timestamp(&self) -> Timestamp
+        ensures { result ≡ self.now.start }
+    {
+        self.timestamp
+    }
+
+    /// Whether a call is open.
+    pub fn is_busy(&self) -> bool
+        ensures { result ≡ is_open self.now.work }
+    {
+        matches!(self.work, Work::Open(_))
+    }
+
+    /// Lets the transaction go. A call that is open goes on.
+    pub fn close(&mut self) -> CloseAnswer
+        ensures answer { result ≡ closing self.old.status self.old.options.check_level }
+        ensures state { self.new ≡ record self.old { status = statuses.Dropped } }
+    {
+        let answer = self.status.closing(self.options.check_level);
+        self.status = Status::Dropped;
+        answer
+    }
+
+    pub fn put(
+        &mut self,
+        _pd: &mut C,
+        key: Key,
+        value: Value,
+        _now: u64,
+        _out: &mut Outbox,
+    ) -> Turn<Q>
+        requires idle { is_open self.old.work ≡ false }
+        ensures ends { WriteEnds (write_refusal self.old.status) (λ c d. IsStep (with_write c key (after_put (write_at c key) value)) (put_call key value) c d) self.old self.new (turn_of result) }
+        ensures gives_up { GivesUp self.old self.new (turn_of result) }
+        ensures quiet { (_out.new ≡ _out.old) × (_pd.new ≡ _pd.old) }
+    {
+        if self.has_given_up() {
+            return Err(NoMemory);
+        }
+        if !self.status.allows_data() {
+            return Ok(refused(Error::OperationAfterCommitError));
+        }
+        match self.buffer.put(key, value) {
+            Ok(()) => Ok(done()),
+            Err(_) => self.give_up(),
+        }
+    }
+
+    /// A key of which a value is known is refused.
+    pub fn insert(
+        &mut self,
+        _pd: &mut C,
+        key: Key,
+        value: Value,
+        _now: u64,
+        _out: &mut Outbox,
+    ) -> Turn<Q>
+        requires idle { is_open self.old.work ≡ false }
+        ensures ends { WriteEnds (insert_refusal self.old.status self.old.contents key) (λ c d. IsStep (with_write c key (after_insert (write_at c key) value)) (insert_call key value) c d) self.old self.new (turn_of result) }
+        ensures gives_up { GivesUp self.old self.new (turn_of result) }
+        ensures quiet { (_out.new ≡ _out.old) × (_pd.new ≡ _pd.old) }
+    {
+        if self.has_given_up() {
+            return Err(NoMemory);
+        }
+        if !self.status.allows_data() {
+            return Ok(refused(Error::OperationAfterCommitError));
+        }
+        match self.buffer.get(&key) {
+            Ok(None) => self.insert_new(key, value),
+            Ok(Some(_)) => Ok(refused(Error::DuplicateKeyInsertion)),
+            Err(_) => self.give_up(),
+        }
+    }
+
+    pub fn delete(&mut self, _pd: &mut C, key: Key, _now: u64, _out: &mut Outbox) -> Turn<Q>
+        requires idle { is_open self.old.work ≡ false }
+        ensures ends { WriteEnds (write_refusal self.old.status) (λ c d. IsStep (with_write c key (after_delete c.is_pessimistic (write_at c key))) (delete_call key) c d) self.old self.new (turn_of result) }
+        ensures gives_up { GivesUp self.old self.new (turn_of result) }
+        ensures quiet { (_out.new ≡ _out.old) × (_pd.new ≡ _pd.old) }
+    {
+        if self.has_given_up() {
+            return Err(NoMemory);
+        }
+        if !self.status.allows_data() {
+            return Ok(refused(Error::OperationAfterCommitError));
+        }
+        match self.buffer.delete(key) {
+            Ok(()) => Ok(done()),
+            Err(_) => self.give_up(),
+        }
+    }
+
+    /// Puts and deletes, in their order. Others are refused before anything is done.
+    pub fn batch_mutate(
+        &mut self,
+        _pd: &mut C,
+        mutations: Vec<Mutation>,
+        _now: u64,
+        _out: &mut Outbox,
+    ) -> Turn<Q>
+        requires idle { is_open self.old.work ≡ false }
+        ensures ends { WriteEnds (mutate_refusal self.old.status mutations.items) (AreSteps mutations.items) self.old self.new (turn_of result) }
+        ensures gives_up { GivesUp self.old self.new (turn_of result) }
+        ensures quiet { (_out.new ≡ _out.old) × (_pd.new ≡ _pd.old) }
+    {
+        if self.has_given_up() {
+            return Err(NoMemory);
+        }
+        if !self.status.allows_data() {
+            return Ok(refused(Error::OperationAfterCommitError));
+        }
+        if !all_put_or_delete(mutations.as_slice()) {
+            return Ok(refused(Error::Unimplemented));
+        }
+        match mutate_all(&mut self.buffer, mutations) {
+            Ok(()) => Ok(done()),
+            Err(_) => self.give_up(),
+        }
+    }
+
+    pub fn lock_keys(
+        &mut self,
+        _pd: &mut C,
+        keys: Vec<Key>,
+        _now: u64,
+        _out: &mut Outbox,
+    ) -> Turn<Q>
+        requires idle { is_open self.old.work ≡ false }
+        ensures ends { WriteEnds (write_refusal self.old.status) (AreLocked keys.items) self.old self.new (turn_of result) }
+        ensures gives_up { GivesUp self.old self.new (turn_of result) }
+        ensures quiet { (_out.new ≡ _out.old) × (_pd.new ≡ _pd.old) }
+    {
+        if self.has_given_up() {
+            return Err(NoMemory);
+        }
+        if !self.status.allows_data() {
+            return Ok(refused(Error::OperationAfterCommitError));
+        }
+        match lock_all(&mut self.buffer, keys) {
+            Ok(()) => Ok(done()),
+            Err(_) => self.give_up(),
+        }
+    }
+
+    /// Commits what was written and locked. Once a Commit of the primary was sent, a further call sends it again.
+    pub fn commit(&mut self, pd: &mut C, now: u64, out: &mut Outbox) -> Turn<Q>
+        requires idle { is_open self.old.work ≡ false }
+        requires ready { TransactionReady (ways P.meaning Q.meaning K.meaning P.refuses Q.refuses K.refuses) self.old }
+        requires numbers { HasNumbers out.old }
+        requires clock { now < 2 ^ 44 }
+        ensures refused { allows_commit self.old.status ≡ false → IsRefused OperationAfterCommitError self.old self.new (turn_of result) × (out.new ≡ out.old) }
+        ensures empty { allows_commit self.old.status ≡ true → parts_of self.old.contents ≡ None → AnswersAtOnce (answers.Committed None None) (turn_of result) × (out.new ≡ out.old) }
+        ensures moves { allows_commit self.old.status ≡ true → TransactionMoves (ways P.meaning Q.meaning K.meaning P.refuses Q.refuses K.refuses) (λ h. ⊤) (λ h. h) self.old self.new out.old out.new (turn_of result) }
+        ensures status { self.old.work ≡ works.Idle → self.new.status ≡ status_step self.old.status (commits (commit_outcome (turn_of result)) (is_some (parts_of self.old.contents))) }
+        ensures kept { self.new ≡ record self.old { status = self.new.status; commits = self.new.commits; work = self.new.work } }
+        ensures gives_up { GivesUp self.old self.new (turn_of result) }
+        ensures busy { is_open self.new.work ≡ is_waiting (turn_of result) }
+        ensures ready { TransactionReady (ways P.meaning Q.meaning K.meaning P.refuses Q.refuses K.refuses) self.new }
+        ensures numbers { HasNumbers out.new }
+    {
+        if self.has_given_up() {
+            return Err(NoMemory);
+        }
+        if !self.status.allows_commit() {
+            return Ok(refused(Error::OperationAfterCommitError));
+        }
+        self.begin(Status::StartedCommit);
+        match self.parts()? {
+            None => Ok(self.nothing_committed()),
+            Some(parts) => self.start_commit(parts, pd, now, out),
+        }
+    }
+
+    /// Takes back what a failed commit may have left. Refused where a Commit of the primary was lost: whether it was served is not
+    /// known.
+    pub fn rollback(&mut self, pd: &mut C, now: u64, out: &mut Outbox) -> Turn<Q>
+        requires idle { is_open self.old.work ≡ false }
+        requires ready { TransactionReady (ways P.meaning Q.meaning K.meaning P.refuses Q.refuses K.refuses) self.old }
+        requires numbers { HasNumbers out.old }
+        requires clock { now < 2 ^ 44 }
+        ensures refused { allows_rollback self.old.status ≡ false → IsRefused OperationAfterCommitError self.old self.new (turn_of result) × (out.new ≡ out.old) }
+        ensures undetermined { (t : Named) → allows_rollback self.old.status ≡ true → undetermined self.old.commits ≡ Some t → IsUndetermined t (turn_of result) × (self.new ≡ record self.old { work = self.new.work }) × (out.new ≡ out.old) }
+        ensures empty { allows_rollback self.old.status ≡ true → undetermined self.old.commits ≡ None → locks_nothing self.old.contents ≡ true → AnswersAtOnce answers.Unit (turn_of result) × (out.new ≡ out.old) }
+        ensures moves { allows_rollback self.old.status ≡ true → undetermined self.old.commits ≡ None → TransactionMoves (ways P.meaning Q.meaning K.meaning P.refuses Q.refuses K.refuses) (λ h. ⊤) (λ h. h) self.old self.new out.old out.new (turn_of result) }
+        ensures status { self.old.work ≡ works.Idle → self.new.status ≡ rolled_status self.old.status (is_some (undetermined self.old.commits)) (turn_of result) }
+        ensures kept { self.new ≡ record self.old { status = self.new.status; commits = self.new.commits; work = self.new.work } }
+        ensures gives_up { GivesUp self.old self.new (turn_of result) }
+        ensures busy { is_open self.new.work ≡ is_waiting (turn_of result) }
+        ensures ready { TransactionReady (ways P.meaning Q.meaning K.meaning P.refuses Q.refuses K.refuses) self.new }
+        ensures numbers { HasNumbers out.new }
+    {
+        if self.has_given_up() {
+            return Err(NoMemory);
+        }
+        if !self.status.allows_rollback() {
+            return Ok(refused(Error::OperationAfterCommitError));
+        }
+        match self.lost_commit() {
+            Some(ticket) => self.refuse_rollback(ticket),
+            None => self.go_back(pd, now, out),
+        }
+    }
+
+    pub fn take_reply(
+        &mut self,
+        pd: &mut C,
+        now: u64,
+        number: u64,
+        reply: Reply,
+        out: &mut Outbox,
+    ) -> Turn<Q>
+        requires ready { TransactionReady (ways P.meaning Q.meaning K.meaning P.refuses Q.refuses K.refuses) self.old }
+        requires numbers { HasNumbers out.old }
+        requires clock { now < 2 ^ 44 }
+        ensures tells { (r : Asked) → TransactionMoves (ways P.meaning Q.meaning K.meaning P.refuses Q.refuses K.refuses) (told_by (arrivals.Reply number reply) out.old r).known (told_by (arrivals.Reply number reply) out.old r).hear self.old self.new out.old out.new (turn_of result) }
+        ensures status { self.new.status ≡ moved_by self.old.status (turn_of result) }
+        ensures kept { self.new ≡ record self.old { status = self.new.status; commits = self.new.commits; work = self.new.work } }
+        ensures gives_up { GivesUp self.old self.new (turn_of result) }
+        ensures deaf { self.old.work ≡ works.Idle → (turn_of result ≡ Waits) × (self.new ≡ self.old) × (out.new ≡ out.old) }
+        ensures ready { TransactionReady (ways P.meaning Q.meaning K.meaning P.refuses Q.refuses K.refuses) self.new }
+        ensures numbers { HasNumbers out.new }
+    {
+        self.tell(Arrival::Reply { number, reply }, pd, now, out)
+    }
+
+    pub fn lost(&mut self, pd: &mut C, now: u64, number: u64, out: &mut Outbox) -> Turn<Q>
+        requires ready { TransactionReady (ways P.meaning Q.meaning K.meaning P.refuses Q.refuses K.refuses) self.old }
+        requires numbers { HasNumbers out.old }
+        requires clock { now < 2 ^ 44 }
+        ensures tells { (r : Asked) → TransactionMoves (ways P.meaning Q.meaning K.meaning P.refuses Q.refuses K.refuses) (told_by (arrivals.Lost number) out.old r).known (told_by (arrivals.Lost number) out.old r).hear self.old self.new out.old out.new (turn_of result) }
+        ensures status { self.new.status ≡ moved_by self.old.status (turn_of result) }
+        ensures kept { self.new ≡ record self.old { status = self.new.status; commits = self.new.commits; work = self.new.work } }
+        ensures gives_up { GivesUp self.old self.new (turn_of result) }
+        ensures deaf { self.old.work ≡ works.Idle → (turn_of result ≡ Waits) × (self.new ≡ self.old) × (out.new ≡ out.old) }
+        ensures ready { TransactionReady (ways P.meaning Q.meaning K.meaning P.refuses Q.refuses K.refuses) self.new }
+        ensures numbers { HasNumbers out.new }
+    {
+        self.tell(Arrival::Lost { number }, pd, now, out)
+    }
+
+    pub fn slept(&mut self, pd: &mut C, now: u64, number: u64, out: &mut Outbox) -> Turn<Q>
+        requires ready { TransactionReady (ways P.meaning Q.meaning K.meaning P.refuses Q.refuses K.refuses) self.old }
+        requires numbers { HasNumbers out.old }
+        requires clock { now < 2 ^ 44 }
+        ensures tells { (r : Asked) → TransactionMoves (ways P.meaning Q.meaning K.meaning P.refuses Q.refuses K.refuses) (told_by (arrivals.Slept number) out.old r).known (told_by (arrivals.Slept number) out.old r).hear self.old self.new out.old out.new (turn_of result) }
+        ensures status { self.new.status ≡ moved_by self.old.status (turn_of result) }
+        ensures kept { self.new ≡ record self.old { status = self.new.status; commits = self.new.commits; work = self.new.work } }
+        ensures gives_up { GivesUp self.old self.new (turn_of result) }
+        ensures deaf { self.old.work ≡ works.Idle → (turn_of result ≡ Waits) × (self.new ≡ self.old) × (out.new ≡ out.old) }
+        ensures ready { TransactionReady (ways P.meaning Q.meaning K.meaning P.refuses Q.refuses K.refuses) self.new }
+        ensures numbers { HasNumbers out.new }
+    {
+        self.tell(Arrival::Slept { number }, pd, now, out)
+    }
+
+    pub fn take_time(
+        &mut self,
+        pd: &mut C,
+        now: u64,
+        ask: u64,
+        answer: txn_kv::Result<Timestamp>,
+        out: &mut Outbox,
+    ) -> Turn<Q>
+        requires ready { TransactionReady (ways P.meaning Q.meaning K.meaning P.refuses Q.refuses K.refuses) self.old }
+        requires answer { IsTimeAnswer answer }
+        requires numbers { HasNumbers out.old }
+        requires clock { now < 2 ^ 44 }
+        ensures tells { (r : Asked) → TransactionMoves (ways P.meaning Q.meaning K.meaning P.refuses Q.refuses K.refuses) (told_by (arrivals.Time ask answer) out.old r).known (told_by (arrivals.Time ask answer) out.old r).hear self.old self.new out.old out.new (turn_of result) }
+        ensures status { self.new.status ≡ moved_by self.old.status (turn_of result) }
+        ensures kept { self.new ≡ record self.old { status = self.new.status; commits = self.new.commits; work = self.new.work } }
+        ensures gives_up { GivesUp self.old self.new (turn_of result) }
+        ensures deaf { self.old.work ≡ works.Idle → (turn_of result ≡ Waits) × (self.new ≡ self.old) × (out.new ≡ out.old) }
+        ensures ready { TransactionReady (ways P.meaning Q.meaning K.meaning P.refuses Q.refuses K.refuses) self.new }
+        ensures numbers { HasNumbers out.new }
+    {
+        self.tell(Arrival::Time { ask, answer }, pd, now, out)
+    }
+
+    fn tell(&mut self, arrival: Arrival, pd: &mut C, now: u64, out: &mut Outbox) -> Turn<Q>
+        requires ready { TransactionReady (ways P.meaning Q.meaning K.meaning P.refuses Q.refuses K.refuses) self.old }
+        requires arrives { MayArrive arrival }
+        requires numbers { HasNumbers out.old }
+        requires clock { now < 2 ^ 44 }
+        ensures tells { (r : Asked) → TransactionMoves (ways P.meaning Q.meaning K.meaning P.refuses Q.refuses K.refuses) (told_by arrival out.old r).known (told_by arrival out.old r).hear self.old self.new out.old out.new (turn_of result) }
+        ensures status { self.new.status ≡ moved_by self.old.status (turn_of result) }
+        ensures kept { self.new ≡ record self.old { status = self.new.status; commits = self.new.commits; work = self.new.work } }
+        ensures gives_up { GivesUp self.old self.new (turn_of result) }
+        ensures deaf { self.old.work ≡ works.Idle → (turn_of result ≡ Waits) × (self.new ≡ self.old) × (out.new ≡ out.old) }
+        ensures ready { TransactionReady (ways P.meaning Q.meaning K.meaning P.refuses Q.refuses K.refuses) self.new }
+        ensures numbers { HasNumbers out.new }
+    {
+        match self.take_work() {
+            Work::Idle => Ok(self.wait()),
+            Work::Open(call) => self.tell_call(call, arrival, pd, now, out),
+            Work::GaveUp => Err(NoMemory),
+        }
+    }
+
+    fn tell_call(
+        &mut self,
+        call: CommitterCall<P, Q, K>,
+        arrival: Arrival,
+        pd: &mut C,
+        now: u64,
+        out: &mut Outbox,
+    ) -> Turn<Q>
+        requires aside { self.old.work ≡ works.GaveUp }
+        requires start { HasVersion self.old.start }
+        requires call { (call.start ≡ self.old.start) × StageReady (ways P.meaning Q.meaning K.meaning P.refuses Q.refuses K.refuses) call.stage }
+        requires arrives { MayArrive arrival }
+        requires numbers { HasNumbers out.old }
+        requires clock { now < 2 ^ 44 }
+        ensures moves { (r : Asked) → CallMoves (ways P.meaning Q.meaning K.meaning P.refuses Q.refuses K.refuses) (told_by arrival out.old r).known (told_by arrival out.old r).hear call self.old self.new out.old out.new (turn_of result) }
+        ensures status { self.new.status ≡ moved_by self.old.status (turn_of result) }
+        ensures kept { self.new ≡ record self.old { status = self.new.status; commits = self.new.commits; work = self.new.work } }
+        ensures stops { turn_of result ≡ Stopped → self.new.work ≡ works.GaveUp }
+        ensures busy { is_open self.new.work ≡ is_waiting (turn_of result) }
+        ensures ready { TransactionReady (ways P.meaning Q.meaning K.meaning P.refuses Q.refuses K.refuses) self.new }
+        ensures numbers { HasNumbers out.new }
+    {
+        let mut call = call;
+        let progress = self.tell_open(&mut call, arrival, pd, now, out)?;
+        self.go_on(call, progress)
+    }
+
+    fn start_commit(
+        &mut self,
+        parts: CommitParts,
+        pd: &mut C,
+        now: u64,
+        out: &mut Outbox,
+    ) -> Turn<Q>
+        requires aside { self.old.work ≡ works.GaveUp }
+        requires start { HasVersion self.old.start }
+        requires parts { parts_of self.old.contents ≡ Some parts }
+        requires numbers { HasNumbers out.old }
+        requires clock { now < 2 ^ 44 }
+        ensures moves { BeginMoves (ways P.meaning Q.meaning K.meaning P.refuses Q.refuses K.refuses) (MayBegin self.old parts) self.old self.new out.old out.new (turn_of result) }
+        ensures status { self.new.status ≡ moved_by self.old.status (turn_of result) }
+        ensures kept { self.new ≡ record self.old { status = self.new.status; commits = self.new.commits; work = self.new.work } }
+        ensures stops { turn_of result ≡ Stopped → self.new.work ≡ works.GaveUp }
+        ensures busy { is_open self.new.work ≡ is_waiting (turn_of result) }
+        ensures ready { TransactionReady (ways P.meaning Q.meaning K.meaning P.refuses Q.refuses K.refuses) self.new }
+        ensures numbers { HasNumbers out.new }
+    {
+        let mut call = self.committer(parts);
+        let progress = self.start_call(&mut call, pd, now, out)?;
+        self.go_on(call, progress)
+    }
+
+    /// Prewrites, or sends the Commit of the primary again once one was sent.
+    fn start_call(
+        &mut self,
+        call: &mut CommitterCall<P, Q, K>,
+        pd: &mut C,
+        now: u64,
+        out: &mut Outbox,
+    ) -> Result<Progress<CommitterAnswer>, NoMemory>
+        requires start { HasVersion self.old.start }
+        requires call { call.old.start ≡ self.old.start }
+        requires numbers { HasNumbers out.old }
+        requires clock { now < 2 ^ 44 }
+        ensures moves { CommitterMoves (ways P.meaning Q.meaning K.meaning P.refuses Q.refuses K.refuses) (MayStart (plan_of call.old.parts) (version_of call.old.start) self.old.commits) (λ h. h) call.old call.new self.old.commits self.new.commits out.old out.new (turn_of result) }
+        ensures job { IsSameCall call.old call.new }
+        ensures kept { self.new ≡ record self.old { commits = self.new.commits } }
+        ensures ready { StageReady (ways P.meaning Q.meaning K.meaning P.refuses Q.refuses K.refuses) call.new.stage }
+        ensures numbers { HasNumbers out.new }
+    {
+        match self.commit_time() {
+            Some(timestamp) => self.commit_again(call, timestamp, pd, now, out),
+            None => {
+                let ttl = txn_lock_ttl(self.buffer.get_write_size(), self.started, now);
+                call.prewrite(pd, now, ttl, out)
+            }
+        }
+    }
+
+    fn commit_again(
+        &mut self,
+        call: &mut CommitterCall<P, Q, K>,
+        timestamp: Timestamp,
+        pd: &mut C,
+        now: u64,
+        out: &mut Outbox,
+    ) -> Result<Progress<CommitterAnswer>, NoMemory>
+        requires start { HasVersion call.old.start }
+        requires timestamp { HasVersion timestamp }
+        requires numbers { HasNumbers out.old }
+        requires clock { now < 2 ^ 44 }
+        ensures moves { CommitterMoves (ways P.meaning Q.meaning K.meaning P.refuses Q.refuses K.refuses) (MayCommit (plan_of call.old.parts) (version_of call.old.start) timestamp self.old.commits) (λ h. h) call.old call.new self.old.commits self.new.commits out.old out.new (turn_of result) }
+        ensures job { IsSameCall call.old call.new }
+        ensures kept { self.new ≡ record self.old { commits = self.new.commits } }
+        ensures ready { StageReady (ways P.meaning Q.meaning K.meaning P.refuses Q.refuses K.refuses) call.new.stage }
+        ensures numbers { HasNumbers out.new }
+    {
+        call.commit_again(&mut self.commits, timestamp, pd, now, out)
+    }
+
+    fn tell_open(
+        &mut self,
+        call: &mut CommitterCall<P, Q, K>,
+        arrival: Arrival,
+        pd: &mut C,
+        now: u64,
+        out: &mut Outbox,
+    ) -> Result<Progress<CommitterAnswer>, NoMemory>
+        requires start { HasVersion call.old.start }
+        requires ready { StageReady (ways P.meaning Q.meaning K.meaning P.refuses Q.refuses K.refuses) call.old.stage }
+        requires arrives { MayArrive arrival }
+        requires numbers { HasNumbers out.old }
+        requires clock { now < 2 ^ 44 }
+        ensures moves { (r : Asked) → CommitterMoves (ways P.meaning Q.meaning K.meaning P.refuses Q.refuses K.refuses) (told_by arrival out.old r).known (told_by arrival out.old r).hear call.old call.new self.old.commits self.new.commits out.old out.new (turn_of result) }
+        ensures job { IsSameCall call.old call.new }
+        ensures kept { self.new ≡ record self.old { commits = self.new.commits } }
+        ensures ready { StageReady (ways P.meaning Q.meaning K.meaning P.refuses Q.refuses K.refuses) call.new.stage }
+        ensures numbers { HasNumbers out.new }
+    {
+        call.tell(&mut self.commits, arrival, pd, now, out)
+    }
+
+    /// Whether the transaction is committed is not known, since this Commit of its primary was lost or is out.
+    fn refuse_rollback(&mut self, ticket: Ticket) -> Turn<Q>
+        ensures answer { IsUndetermined ticket (turn_of result) }
+        ensures state { self.new ≡ record self.old { work = self.new.work } }
+        ensures stops { turn_of result ≡ Stopped → self.new.work ≡ works.GaveUp }
+        ensures busy { is_open self.new.work ≡ false }
+    {
+        self.set_work(Work::GaveUp);
+        let error = self.undetermined(Error::GrpcAPI(ticket))?;
+        self.set_work(Work::Idle);
+        Ok(refused(error))
+    }
+
+    fn go_back(&mut self, pd: &mut C, now: u64, out: &mut Outbox) -> Turn<Q>
+        requires start { HasVersion self.old.start }
+        requires numbers { HasNumbers out.old }
+        requires clock { now < 2 ^ 44 }
+        ensures empty { locks_nothing self.old.contents ≡ true → AnswersAtOnce answers.Unit (turn_of result) × (out.new ≡ out.old) }
+        ensures moves { BeginMoves (ways P.meaning Q.meaning K.meaning P.refuses Q.refuses K.refuses) (MayGoBack self.old) self.old self.new out.old out.new (turn_of result) }
+        ensures status { self.new.status ≡ moved_by statuses.StartedRollback (turn_of result) }
+        ensures kept { self.new ≡ record self.old { status = self.new.status; commits = self.new.commits; work = self.new.work } }
+        ensures stops { turn_of result ≡ Stopped → self.new.work ≡ works.GaveUp }
+        ensures busy { is_open self.new.work ≡ is_waiting (turn_of result) }
+        ensures ready { TransactionReady (ways P.meaning Q.meaning K.meaning P.refuses Q.refuses K.refuses) self.new }
+        ensures numbers { HasNumbers out.new }
+    {
+        self.begin(Status::StartedRollback);
+        match self.parts()? {
+            None => Ok(self.nothing_rolled_back()),
+            Some(parts) => self.start_rollback(parts, pd, now, out),
+        }
+    }
+
+    fn start_rollback(
+        &mut self,
+        parts: CommitParts,
+        pd: &mut C,
+        now: u64,
+        out: &mut Outbox,
+    ) -> Turn<Q>
+        requires aside { self.old.work ≡ works.GaveUp }
+        requires start { HasVersion self.old.start }
+        requires parts { parts_of self.old.contents ≡ Some parts }
+        requires numbers { HasNumbers out.old }
+        requires clock { now < 2 ^ 44 }
+        ensures empty { parts.locks ≡ false → AnswersAtOnce answers.Unit (turn_of result) × (out.new ≡ out.old) }
+        ensures moves { BeginMoves (ways P.meaning Q.meaning K.meaning P.refuses Q.refuses K.refuses) (λ h. MayBegin self.old parts h × (undetermined self.old.commits ≡ None)) self.old self.new out.old out.new (turn_of result) }
+        ensures status { self.new.status ≡ moved_by self.old.status (turn_of result) }
+        ensures kept { self.new ≡ record self.old { status = self.new.status; commits = self.new.commits; work = self.new.work } }
+        ensures stops { turn_of result ≡ Stopped → self.new.work ≡ works.GaveUp }
+        ensures busy { is_open self.new.work ≡ is_waiting (turn_of result) }
+        ensures ready { TransactionReady (ways P.meaning Q.meaning K.meaning P.refuses Q.refuses K.refuses) self.new }
+        ensures numbers { HasNumbers out.new }
+    {
+        if !parts.locks {
+            return Ok(self.nothing_rolled_back());
+        }
+        let mut call = self.committer(parts);
+        let progress = call.roll_back(pd, now, out)?;
+        self.go_on(call, progress)
+    }
+
+    /// Keeps a call that waits, and answers for one that has ended.
+    fn go_on(
+        &mut self,
+        call: CommitterCall<P, Q, K>,
+        progress: Progress<CommitterAnswer>,
+    ) -> Turn<Q>
+        requires aside { self.old.work ≡ works.GaveUp }
+        requires start { HasVersion self.old.start }
+        requires call { (call.start ≡ self.old.start) × StageReady (ways P.meaning Q.meaning K.meaning P.refuses Q.refuses K.refuses) call.stage }
+        ensures takes_up { (o : Posted) → TakesUp (ways P.meaning Q.meaning K.meaning P.refuses Q.refuses K.refuses) call self.old self.new o (turn_of (Ok progress)) (turn_of result) }
+        ensures status { self.new.status ≡ moved_by self.old.status (turn_of result) }
+        ensures kept { self.new ≡ record self.old { status = self.new.status; work = self.new.work } }
+        ensures stops { turn_of result ≡ Stopped → self.new.work ≡ works.GaveUp }
+        ensures busy { is_open self.new.work ≡ is_waiting (turn_of result) }
+        ensures ready { TransactionReady (ways P.meaning Q.meaning K.meaning P.refuses Q.refuses K.refuses) self.new }
+    {
+        match progress {
+            Progress::Waiting => {
+                self.set_work(Work::Open(call));
+                Ok(Progress::Waiting)
+            }
+            Progress::Done(Ok(answer)) => Ok(self.answer(call, answer)),
+            Progress::Done(Err(error)) => self.fail(error),
+        }
+    }
+
+    fn answer(
+        &mut self,
+        call: CommitterCall<P, Q, K>,
+        answer: CommitterAnswer,
+    ) -> Progress<TxnAnswer<Q>>
+        ensures takes_up { (o : Posted) → TakesUp (ways P.meaning Q.meaning K.meaning P.refuses Q.refuses K.refuses) call self.old self.new o (Ends (Ok answer)) (turn_of (Ok result)) }
+        ensures ended { HasEnded (turn_of (Ok result)) }
+        ensures status { self.new.status ≡ moved_by self.old.status (turn_of (Ok result)) }
+        ensures kept { self.new ≡ record self.old { status = self.new.status; work = works.Idle } }
+    {
+        self.set_work(Work::Idle);
+        match answer {
+            CommitterAnswer::Committed(timestamp) => {
+                self.reach(Status::Committed);
+                self.committed(timestamp, call.into_secondaries())
+            }
+            CommitterAnswer::Checked => {
+                self.reach(Status::Committed);
+                Progress::Done(Ok(TxnAnswer::Committed(None, None)))
+            }
+            CommitterAnswer::RolledBack => {
+                self.reach(Status::Rolledback);
+                Progress::Done(Ok(TxnAnswer::Unit))
+            }
+        }
+    }
+
+    /// The primary is committed. A job is left for the other keys.
+    fn committed(&self, timestamp: Timestamp, keys: Items<Key>) -> Progress<TxnAnswer<Q>>
+        ensures { IsCommittedAt self.now.start timestamp keys (turn_of (Ok result)) }
+    {
+        Progress::Done(Ok(TxnAnswer::Committed(Some(timestamp), self.job(timestamp, keys))))
+    }
+
+    fn job(&self, timestamp: Timestamp, keys: Items<Key>) -> Option<SecondaryJob<Q>>
+        ensures { IsJobFor self.now.start timestamp keys result }
+    {
+        if keys.as_slice().is_empty() {
+            return None;
+        }
+        Some(SecondaryJob::new(self.alloc, self.timestamp, timestamp, keys, self.retries()))
+    }
+
+    /// A commit or a rollback ended so. Where a Commit of the primary was lost, nobody knows whether it was served.
+    fn fail(&mut self, error: Error) -> Turn<Q>
+        requires aside { self.old.work ≡ works.GaveUp }
+        ensures takes_up { (call : Calling P Q K) (o : Posted) → TakesUp (ways P.meaning Q.meaning K.meaning P.refuses Q.refuses K.refuses) call self.old self.new o (Ends (Err error)) (turn_of result) }
+        ensures fails { HasFailed (turn_of result) }
+        ensures kept { self.new ≡ record self.old { work = self.new.work } }
+        ensures stops { turn_of result ≡ Stopped → self.new.work ≡ works.GaveUp }
+        ensures busy { is_open self.new.work ≡ false }
+    {
+        let error = self.name_failure(error)?;
+        self.set_work(Work::Idle);
+        Ok(refused(error))
+    }
+
+    fn name_failure(&self, error: Error) -> Result<Error, NoMemory>
+        ensures { IfOk result (IsNamed (undetermined self.now.commits) error) }
+    {
+        match self.lost_commit() {
+            None => Ok(error),
+            Some(_) => self.undetermined(error),
+        }
+    }
+
+    fn undetermined(&self, error: Error) -> Result<Error, NoMemory>
+        ensures { IfOk result (λ e. view_of e ≡ not_known (view_of error)) }
+    {
+        Ok(Error::UndeterminedError(Box::new(self.alloc, error)?))
+    }
+
+    fn committer(&self, parts: CommitParts) -> CommitterCall<P, Q, K>
+        ensures { IsNewCall self.now.start parts result }
+    {
+        CommitterCall::new(self.alloc, self.timestamp, parts, self.retries())
+    }
+
+    fn retries(&self) -> RetryOptions
+        ensures { result ≡ self.now.options.retry_options }
+    {
+        RetryOptions::new(
+            self.options.retry_options.region_backoff,
+            self.options.retry_options.lock_backoff,
+        )
+    }
+
+    /// A commit or a rollback begins. Until it has gone on it has given up.
+    fn begin(&mut self, status: Status)
+        ensures { self.new ≡ record self.old { status = status; work = works.GaveUp } }
+    {
+        self.status = status;
+        self.set_work(Work::GaveUp);
+    }
+
+    fn nothing_committed(&mut self) -> Progress<TxnAnswer<Q>>
+        ensures answer { turn_of (Ok result) ≡ Ends (Ok (answers.Committed None None)) }
+        ensures state { self.new ≡ record self.old { work = works.Idle } }
+    {
+        self.set_work(Work::Idle);
+        Progress::Done(Ok(TxnAnswer::Committed(None, None)))
+    }
+
+    fn nothing_rolled_back(&mut self) -> Progress<TxnAnswer<Q>>
+        ensures answer { turn_of (Ok result) ≡ Ends (Ok answers.Unit) }
+        ensures state { self.new ≡ record self.old { status = moved self.old.status statuses.Rolledback; work = works.Idle } }
+    {
+        self.set_work(Work::Idle);
+        self.reach(Status::Rolledback);
+        done()
+    }
+
+    /// The status goes there, if it may: where the transaction was let go it stays so.
+    fn reach(&mut self, next: Status)
+        ensures { self.new ≡ record self.old { status = moved self.old.status next } }
+    {
+        if self.status.may_move_to(next) {
+            self.status = next;
+        }
+    }
+
+    fn wait(&mut self) -> Progress<TxnAnswer<Q>>
+        ensures answer { turn_of (Ok result) ≡ Waits }
+        ensures state { self.new ≡ record self.old { work = works.Idle } }
+    {
+        self.set_work(Work::Idle);
+        Progress::Waiting
+    }
+
+    /// The call that is open, for a while: until it is set back the transaction has given up.
+    fn take_work(&mut self) -> Work<P, Q, K>
+        ensures work { result ≡ self.old.work }
+        ensures state { self.new ≡ record self.old { work = works.GaveUp } }
+    {
+        mem::replace(&mut self.work, Work::GaveUp)
+    }
+
+    fn set_work(&mut self, work: Work<P, Q, K>)
+        ensures { self.new ≡ record self.old { work = work } }
+    {
+        self.work = work;
+    }
+
+    fn parts(&self) -> Result<Option<CommitParts>, NoMemory>
+        ensures { IfOk result (λ parts. parts ≡ parts_of self.now.contents) }
+    {
+        CommitParts::of_buffer(self.alloc, &self.buffer)
+    }
+
+    /// The timestamp that the Commits of the primary name, once one was sent.
+    fn commit_time(&self) -> Option<Timestamp>
+        ensures time { result ≡ self.now.commits.timestamp }
+        ensures version { IfSome result HasVersion }
+    {
+        self.commits.timestamp()
+    }
+
+    /// A Commit of the primary that was lost or is out.
+    fn lost_commit(&self) -> Option<Ticket>
+        ensures { result ≡ undetermined self.now.commits }
+    {
+        self.commits.undetermined()
+    }
+
+    fn has_given_up(&self) -> bool
+        ensures { result ≡ has_given_up self.now.work }
+    {
+        matches!(self.work, Work::GaveUp)
+    }
+
+    fn give_up(&mut self) -> Turn<Q>
+        ensures turn { turn_of result ≡ Stopped }
+        ensures state { self.new ≡ record self.old { work = works.GaveUp } }
+    {
+        self.set_work(Work::GaveUp);
+        Err(NoMemory)
+    }
+
+    fn insert_new(&mut self, key: Key, value: Value) -> Turn<Q>
+        ensures { WriteEnds None (λ c d. IsStep (with_write c key (after_insert (write_at c key) value)) (insert_call key value) c d) self.old self.new (turn_of result) }
+    {
+        match self.buffer.insert(key, value) {
+            Ok(()) => Ok(done()),
+            Err(_) => self.give_up(),
+        }
+    }
+}
+
+fn refused<Q>(error: Error) -> Progress<TxnAnswer<Q>>
+    ensures { turn_of (Ok result) ≡ Ends (Err error) }
+{
+    Progress::Done(Err(error))
+}
+
+fn done<Q>() -> Progress<TxnAnswer<Q>>
+    ensures { turn_of (Ok result) ≡ Ends (Ok answers.Unit) }
+{
+    Progress::Done(Ok(TxnAnswer::Unit))
+}
+
+fn is_put_or_delete(op: Op) -> bool
+    ensures { result ≡ is_put_or_delete op }
+{
+    matches!(op, Op::Put | Op::Del)
+}
+
+fn all_put_or_delete(mutations: &[Mutation]) -> bool
+    ensures { result ≡ all_put_or_delete mutations.now }
+{
+    for mutation in mutations {
+        if !is_put_or_delete(mutation.op) {
+            return false;
+        }
+    }
+    true
+}
+
+fn mutate_all(buffer: &mut Buffer, mutations: Vec<Mutation>) -> Result<(), NoMemory>
+    requires { all_put_or_delete mutations.items ≡ true }
+    ensures { OnOk result (AreSteps mutations.items buffer.old buffer.new) }
+{
+    for mutation in mutations {
+        mutate(buffer, mutation)?;
+    }
+    Ok(())
+}
+
+/// A put or a delete.
+fn mutate(buffer: &mut Buffer, mutation: Mutation) -> Result<(), NoMemory>
+    requires { is_put_or_delete mutation.op ≡ true }
+    ensures ok { OnOk result (mutated buffer.old mutation ≡ Some buffer.new) }
+    ensures step { OnOk result (writes buffer.new ≡ after_call buffer.old.is_pessimistic (writes buffer.old) (call_by mutation.op mutation.key mutation.value)) }
+{
+    match mutation.op {
+        Op::Put => buffer.put(mutation.key, mutation.value),
+        _ => buffer.delete(mutation.key),
+    }
+}
+
+fn lock_all(buffer: &mut Buffer, keys: Vec<Key>) -> Result<(), NoMemory>
+    ensures { OnOk result (AreLocked keys.items buffer.old buffer.new) }
+{
+    for key in keys {
+        buffer.lock(key)?;
+    }
+    Ok(())
+}
