@@ -6,7 +6,6 @@ use txn_kv::{
     Backoff, Errand, Error, GetRequest, Key, Outbox, Peer, Progress, Region, RegionEpoch,
     RegionWithLeader, Request, Target,
 };
-use txn_merge::CollectSingle;
 use txn_plan::Plan;
 use txn_region::{ApiV1TxnCodec, EncodedRequest, RegionStore};
 
@@ -64,13 +63,12 @@ fn a_request_goes_to_the_store_that_is_named(rt: HostRuntime) -> std::result::Re
 
 /// The client refuses to look a region up, which is the answer.
 #[test]
-fn the_shards_of_a_request_are_merged(rt: HostRuntime) -> std::result::Result<(), Fail> {
+fn the_shards_of_a_request_are_looked_for(rt: HostRuntime) -> std::result::Result<(), Fail> {
     let alloc = rt.alloc();
     let mut pd = NoClient::new();
     let mut out = Outbox::new(alloc, 7, false);
     let builder = PlanBuilder::new(alloc, request(alloc)).retry_multi_region(Backoff::no_backoff());
-    let mut plan = builder.merge(CollectSingle {}).plan();
-    let progress = plan.start(&mut pd, 0, &mut out)?;
+    let progress = builder.plan().start(&mut pd, 0, &mut out)?;
     assert!(rt; matches!(progress, Progress::Done(Err(Error::Unimplemented))));
     Ok(())
 }
