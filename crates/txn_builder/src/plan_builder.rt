@@ -139,14 +139,13 @@ where
     }
 }
 
-impl<P: Plan, Ph: PlanBuilderPhase> PlanBuilder<P, Ph> {
+impl<In: Drop, P: Plan<Result = Vec<Result<In>>>, Ph: PlanBuilderPhase> PlanBuilder<P, Ph> {
     /// Merges the results of the shards.
-    pub fn merge<In: Drop, M: Merge<In> + TryClone>(
+    pub fn merge<M: Merge<In> + TryClone>(
         self,
         merge: M,
     ) -> PlanBuilder<MergeResponse<P, In, M>, Ph>
     where
-        P: Plan<Result = Vec<Result<In>>>,
         M::Out: Drop,
         ensures inner { result.inner ≡ self }
         ensures merge { result.merge ≡ merge }

@@ -19,18 +19,18 @@ use Rattle.txn_history.specs.Posted.{Posted}
 use Rattle.txn_history.specs.Spends.{Spends}
 use Rattle.txn_history.specs.Turn.{failing, is_kept, turn_of, Turn}
 use Rattle.txn_history.specs.Turn.Turn.{Stopped}
-use Rattle.txn_commit.specs.Arrivals.{tells_error, tells_failure}
 use Rattle.txn_commit.specs.Committing.{Ways}
 use Rattle.txn_commit.specs.Counting.{Begins, CommitterCounts, Costs, Pays, ask_costs, call_width, commit_again_costs, commit_costs, others_costs, rollback_costs, stage_bears, stage_left, stage_round, stage_width}
 use Rattle.txn_commit.specs.Plans.{IsPlanFor}
 use Rattle.txn_commit.specs.Timing.{time_asked}
-use Rattle.txn_commit.specs.declared.arrival.Arrival.{Arrival}
-use Rattle.txn_commit.specs.declared.arrival.Arrival.TheVariants as arrival
 use Rattle.txn_commit.specs.declared.committer.CommitterAnswer.{CommitterAnswer}
 use Rattle.txn_commit.specs.declared.committer.CommitterCall.{CommitterCall}
 use Rattle.txn_commit.specs.declared.committer.Stage.{Stage}
 use Rattle.txn_commit.specs.declared.committer.Stage.TheVariants as stage
 use Rattle.txn_commit.specs.declared.timestamp_call.TimestampCall.{TimestampCall}
+use Rattle.txn_plan.specs.Arrivals.{tells_error, tells_failure}
+use Rattle.txn_plan.specs.declared.arrival.Arrival.{Arrival}
+use Rattle.txn_plan.specs.declared.arrival.Arrival.TheVariants as arrival
 
 -- what a new run may better is an error
 pub failure_is_error : (a : Arrival) → tells_failure a ≡ true → tells_error a ≡ true
@@ -49,7 +49,7 @@ pub counts_stop : {S V : Type 0} {m : Meaning S V} {bad fails : Bool} {weight lo
 counts_stop e c = record { spends = Spends-stops c.spends (ap is_kept e) (λ x. x); fewer = c.fewer }
 
 -- wider bounds serve too
-Spends-wider : {was is : ℕ → Type 0} {before after round : ℕ → ℕ} {bad fails : Bool} {weight locked width width' v v' : ℕ} {from to : Posted} {kept failed : Bool}
+pub Spends-wider : {was is : ℕ → Type 0} {before after round : ℕ → ℕ} {bad fails : Bool} {weight locked width width' v v' : ℕ} {from to : Posted} {kept failed : Bool}
     → v ≤ v' → width' ≤ v'
     → Spends was is before after round bad fails weight locked width width' from to kept failed
     → Spends was is before after round bad fails weight locked v v' from to kept failed

@@ -1,12 +1,11 @@
 -- A plan that sends its request to one store, once, and takes the errors out of the reply, is a plan of the request.
-use Rattle.std.proofs.Common.{◌≡◌, inl, inr, ℕ, ◌||◌, false, length, ◌==◌, List, [], ◌∷◌, Option, Some, None, map, refl, sym, ap, subst, ◌∙◌}
+use Rattle.std.proofs.Common.{◌≡◌, inl, inr, ℕ, false, List, [], ◌∷◌, Option, Some, None, map, refl, sym, ap, subst, ◌∙◌}
 use Rattle.std.proofs.Math.Nat.{le_refl}
 use Rattle.std.specs.Prelude.{⊤, true, Result, Ok, Err}
 use Rattle.txn_history.specs.Around.{around-unbegun}
 use Rattle.txn_history.specs.Event.{Event, Has}
 use Rattle.txn_history.specs.Event.Event.{Took}
 use Rattle.txn_history.specs.Meaning.{IsUnbegun}
-use Rattle.txn_history.specs.Plan.{Key, has_key}
 use Rattle.txn_kv.specs.ErrorView.{ErrorView, key, region}
 use Rattle.txn_kv.specs.declared.errors.Error.{Error}
 use Rattle.txn_kv.specs.declared.message.KeyError.{KeyError}
@@ -30,7 +29,6 @@ use Rattle.txn_plan.specs.Extracted.{extracted, IsAnswer}
 use Rattle.txn_plan.specs.declared.dispatch.Dispatch.{Dispatch}
 use Rattle.txn_plan.specs.declared.extract_error.ExtractError.{ExtractError}
 use Rattle.txn_commit.specs.Plans.{AreCommitted, ArePrewritten, IsPartOf, IsPlanFor}
-use Rattle.txn_commit.proofs.Keys.{key_itself}
 
 -- an answer that holds no error is that of the plan inside
 
@@ -70,12 +68,11 @@ once_prewrites request store p e = record {
     of_request r f = rw f (refl, refl, λ m a. a)
 
     prewritten : (h : List Event) (v : PrewriteResponse) → (t : Ticket) × Has h (Took t (Prewrite request) (reply.Prewrite v)) × (map key v.errors ≡ []) × (map region (listed v.region_error) ≡ []) → ArePrewritten request.start_version request.mutations h
-    prewritten h v (t, taken, ks, rs) k locked = record { ticket = t; request = request; response = v; taken = taken; fine = (none_listed v.region_error rs, sym (no_errors v.errors ks)); start = refl; locks = locked }
+    prewritten h v (t, taken, ks, rs) m among = record { ticket = t; request = request; response = v; taken = taken; fine = (none_listed v.region_error rs, sym (no_errors v.errors ks)); start = refl; names = among }
 
 pub once_commits : (request : CommitRequest) (store : ℕ) (p : ExtractError (Dispatch CommitRequest CommitResponse) CommitResponse) → p.inner ≡ unsent request (Some store)
-    → (length request.keys == 0) ≡ false
     → IsPlanFor (extracted (dispatch Commit reply.Commit) (λ v. views_of_error v.error) (λ v. listed v.region_error)) (λ h e. ⊤) (λ k n. 1) (Commit request) p
-once_commits request store p e some = record {
+once_commits request store p e = record {
   unbegun = around-unbegun (dispatch Commit reply.Commit) (λ s. s.inner) (λ s. IsAnswer (λ (v : CommitResponse). views_of_error v.error) (λ v. listed v.region_error)) (λ s. ⊤) (λ b. false) p (rw e (unsent-unbegun Commit reply.Commit request (Some store)));
   ready = (rw e refl, tt);
   light = λ n. le_refl 1;
@@ -84,12 +81,8 @@ once_commits request store p e some = record {
   fails = λ h x g. tt;
 }
   where
-    first : (ks : List Key) → (length ks == 0) ≡ false → (k : Key) × (has_key ks k ≡ true)
-    first [] f = cc
-    first (k ∷ ks) f = (k, ap (λ b. b || has_key ks k) (key_itself k))
-
     of_request : (r : Request) → r ≡ Commit request → IsPartOf (Commit request) r
-    of_request r f = rw f (refl, refl, (λ k g. g), first request.keys some)
+    of_request r f = rw f (refl, refl, (λ k g. g), λ k g. (k, g))
 
     committed : (h : List Event) (v : CommitResponse) → (t : Ticket) × Has h (Took t (Commit request) (reply.Commit v)) × (views_of_error v.error ≡ []) × (map region (listed v.region_error) ≡ []) → AreCommitted request.start_version request.commit_version request.keys h
     committed h v (t, taken, ks, rs) k named = (t, request, v, taken, (none_listed v.region_error rs, sym (no_error v.error ks)), refl, refl, named)

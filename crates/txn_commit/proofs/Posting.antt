@@ -13,13 +13,13 @@ use Rattle.txn_history.specs.Event.{Event}
 use Rattle.txn_history.specs.Event.Event.{Sent, Took, Lost, Slept, Began, Asked, Answered}
 use Rattle.txn_history.specs.Plan.{Plan}
 use Rattle.txn_history.specs.Posted.{Errand, Licensed, Posted, after, posting, ticket_of}
-use Rattle.txn_commit.specs.Arrivals.{told_by}
 use Rattle.txn_commit.specs.Following.{Commits, CommitsPrimary, KnowsCommits, and_sent, and_ticket, commit_tickets, heard, is_commit, is_out, lost, sent}
 use Rattle.txn_commit.specs.Plans.{IsForeign, IsOfCommit}
-use Rattle.txn_commit.specs.declared.arrival.Arrival.{Arrival}
-use Rattle.txn_commit.specs.declared.arrival.Arrival.TheVariants as arrival
 use Rattle.txn_commit.proofs.Following.{IsNoSending, knows_answered, knows_lost, knows_more, lost_more, sent_more}
 use Rattle.txn_commit.proofs.Sending.{IsNoCommit, commits_primary, knows_quiet}
+use Rattle.txn_plan.specs.Arrivals.{told_by}
+use Rattle.txn_plan.specs.declared.arrival.Arrival.{Arrival}
+use Rattle.txn_plan.specs.declared.arrival.Arrival.TheVariants as arrival
 
 -- what was heard is one event, and no sending; or nothing was heard
 pub data Hears (h : List Event) : List Event → Type 0 where

@@ -17,7 +17,7 @@ use Rattle.txn_commit.specs.Following.{Commits, CommitsPrimary, KnowsCommits, un
 use Rattle.txn_commit.specs.Plans.{IsForeign, IsOfCommit, IsOfPrewrite, IsOfRollback}
 use Rattle.txn_commit.specs.Sending.{MaySend, PrimaryMayGo}
 use Rattle.txn_commit.proofs.Following.{IsNoSending, lost_more, sent_more}
-use Rattle.txn_commit.proofs.Keys.{only}
+use Rattle.txn_commit.proofs.Keys.{has_only, only}
 
 -- what is sent to settle the locks of others rests on no plan
 pub foreign_may : (plan : Plan) (s : ℕ) (h : List Event) (r : Request) → IsForeign h r → MaySend plan s h r
@@ -164,9 +164,9 @@ named_more plan s c e h n m d w = elim w.2 [
 
 -- it names the primary alone
 pub commits_primary : (plan : Plan) (s c : ℕ) (q : CommitRequest) → IsOfCommit s c (plan.primary ∷ []) (Commit q) → CommitsPrimary plan s q
-commits_primary plan s c q w = record {
+commits_primary plan s c q w = let some = w.3 plan.primary (has_only plan.primary) in record {
   start = w.0;
-  primary = subst (λ k. has_key q.keys k ≡ true) (only plan.primary w.3.0 (w.2 w.3.0 w.3.1)) w.3.1;
+  primary = subst (λ k. has_key q.keys k ≡ true) (only plan.primary some.0 (w.2 some.0 some.1)) some.1;
 }
 
 pub commit_may : (plan : Plan) (s c : ℕ) (h : List Event) (q : CommitRequest) → IsReady plan s c h → IsNamed plan s c h → IsOfCommit s c (plan.primary ∷ []) (Commit q) → MaySend plan s h (Commit q)

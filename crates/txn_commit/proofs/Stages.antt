@@ -31,11 +31,9 @@ use Rattle.txn_history.specs.Turn.Turn.{Stopped, Waits, Ends}
 use Rattle.txn_tso.specs.declared.stage.Stage.TheVariants.{Asked as Out_with}
 use Rattle.txn_commit.specs.Committing.{CommitterFits, CommitterGives, CommitterGoesOn, CommitterMoves, IsAsking, IsFirst, IsRolled, IsWritten, MayCommit, SendsCommits, TimeSays, Ways}
 use Rattle.txn_commit.specs.Following.{Commits, KnowsCommits, sent, undetermined}
-use Rattle.txn_commit.specs.Plans.{AreCommitted, ArePrewritten, AreRolledBack, IsAnswered, IsForeign, IsPartOf, IsPlanFor, IsUnderWay, Says}
+use Rattle.txn_commit.specs.Plans.{AreCommitted, ArePrewritten, AreRolledBack, IsAnswered, IsForeign, IsPartOf, IsPlanFor, IsUnderWay, Says, prewritten_key}
 use Rattle.txn_commit.specs.Sending.{MaySend, plan_of}
-use Rattle.txn_commit.specs.Arrivals.{told_by}
 use Rattle.txn_commit.specs.Timing.{AsksTime, HasAsked, HasBegun, IsAnswerOf, time_asked}
-use Rattle.txn_commit.specs.declared.arrival.Arrival.{Arrival}
 use Rattle.txn_commit.proofs.Timing.{IsTimed, TimeTells, time_tells}
 use Rattle.txn_commit.specs.declared.commit_parts.CommitParts.{CommitParts}
 use Rattle.txn_commit.specs.declared.committer.CommitterAnswer.{CommitterAnswer}
@@ -48,6 +46,8 @@ use Rattle.txn_commit.proofs.Following.{knows_more}
 use Rattle.txn_commit.proofs.Keys.{has_only, locks_key, only}
 use Rattle.txn_commit.proofs.Posting.{Hears, heard_keeps, hears_told}
 use Rattle.txn_commit.proofs.Sending.{IsNoCommit, acknowledged_longer, foreign_may, given_longer, knows_quiet, licensed_lift}
+use Rattle.txn_plan.specs.Arrivals.{told_by}
+use Rattle.txn_plan.specs.declared.arrival.Arrival.{Arrival}
 
 pub waits_is : {V : Type 0} {p : Progress V} → p ≡ Waiting → turn_of (Ok p) ≡ Waits
 waits_is e = rw e refl
@@ -71,7 +71,7 @@ sent_since {from} m t c n e = rw (m.line, m.beat, m.pushed, e, drop-append_seam 
 
 -- all was prewritten, so each key that is written was acknowledged
 pub all_acknowledged : (s : ℕ) (parts : CommitParts) (h : List Event) → ArePrewritten s parts.mutations h → AllAcknowledged (plan_of parts) h s
-all_acknowledged s parts h w k x e = w k (locks_key parts.mutations k x e)
+all_acknowledged s parts h w k x e = prewritten_key s parts.mutations h k w (locks_key parts.mutations k x e)
 
 -- the primary is one of the keys that were committed, or rolled back
 pub primary_committed : (plan : Plan) (s c : ℕ) (h : List Event) → AreCommitted s c (plan.primary ∷ []) h → PrimaryCommitted plan h s c

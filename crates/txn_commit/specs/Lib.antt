@@ -1,4 +1,3 @@
-pub mod Arrivals
 pub mod Committing
 pub mod Counting
 pub mod Following

@@ -2,23 +2,29 @@
 use Rattle.std.specs.Prelude.{◌≡◌, ◌⊎◌, ◌≤◌, ℕ, ⊤, true, List, [], length, None, Result, Ok, Err}
 use Rattle.txn_kv.specs.declared.errors.Error.{Error}
 use Rattle.txn_kv.specs.declared.message.Mutation.{Mutation}
+use Rattle.txn_kv.specs.declared.reply.PrewriteResponse.{PrewriteResponse}
+use Rattle.txn_kv.specs.declared.reply.Reply.TheVariants as reply
+use Rattle.txn_kv.specs.declared.request.PrewriteRequest.{PrewriteRequest}
 use Rattle.txn_kv.specs.declared.request.Request.{Request}
 use Rattle.txn_kv.specs.declared.request.Request.TheVariants.{Prewrite, Commit, BatchRollback}
+use Rattle.txn_kv.specs.declared.ticket.Ticket.{Ticket}
 use Rattle.txn_history.specs.Among.{IsAmong}
-use Rattle.txn_history.specs.Event.{Event}
-use Rattle.txn_history.specs.Licence.{IsAcknowledged, IsLicensed, PrimaryCommitted, PrimaryRolledBack}
+use Rattle.txn_history.specs.Event.{Event, Has}
+use Rattle.txn_history.specs.Event.Event.{Took}
+use Rattle.txn_history.specs.Licence.{IsAcknowledged, IsLicensed, IsWithoutError, PrimaryCommitted, PrimaryRolledBack}
 use Rattle.txn_history.specs.Meaning.{IsUnbegun, Meaning}
 use Rattle.txn_history.specs.Plan.{Key, has_key, LocksKey, Plan}
 use Rattle.txn_history.specs.Posted.{Within}
 
--- The requests that one is cut into are of its start, and of nothing that it doesn't name. A Commit names some key.
+-- The requests that one is cut into are of its start, and of nothing that it doesn't name. Where a Commit names some key, each
+-- of them does.
 
 abbrev pub IsOfPrewrite : ℕ → Key → List Mutation → Request → Type 0
 IsOfPrewrite s primary ms (Prewrite r) = (r.start_version ≡ s) × (r.primary_lock ≡ primary) × ((m : Mutation) → IsAmong r.mutations m → IsAmong ms m)
 IsOfPrewrite s primary ms _ = ⊥
 
 abbrev pub IsOfCommit : ℕ → ℕ → List Key → Request → Type 0
-IsOfCommit s c ks (Commit r) = (r.start_version ≡ s) × (r.commit_version ≡ c) × ((k : Key) → has_key r.keys k ≡ true → has_key ks k ≡ true) × ((k : Key) × (has_key r.keys k ≡ true))
+IsOfCommit s c ks (Commit r) = (r.start_version ≡ s) × (r.commit_version ≡ c) × ((k : Key) → has_key r.keys k ≡ true → has_key ks k ≡ true) × ((k : Key) → has_key ks k ≡ true → (j : Key) × (has_key r.keys j ≡ true))
 IsOfCommit s c ks _ = ⊥
 
 abbrev pub IsOfRollback : ℕ → List Key → Request → Type 0
@@ -42,10 +48,20 @@ IsForeign h (Commit r) = ⊥
 IsForeign h (BatchRollback r) = ⊥
 IsForeign h r = IsLicensed (λ _. only_key []) h r
 
--- Each key that it names was answered without error.
+-- Each mutation or key that it names was answered without error.
+
+-- a Prewrite of s with the mutation was, be it one that locks its key or a check
+pub record IsPrewritten (s : ℕ) (m : Mutation) (h : List Event) : Type 0 where
+  pub ticket : Ticket
+  pub request : PrewriteRequest
+  pub response : PrewriteResponse
+  pub taken : Has h (Took ticket (Prewrite request) (reply.Prewrite response))
+  pub fine : IsWithoutError (reply.Prewrite response)
+  pub start : request.start_version ≡ s
+  pub names : IsAmong request.mutations m
 
 abbrev pub ArePrewritten : ℕ → List Mutation → List Event → Type 0
-ArePrewritten s ms h = (k : Key) → LocksKey ms k → IsAcknowledged h s k
+ArePrewritten s ms h = (m : Mutation) → IsAmong ms m → IsPrewritten s m h
 
 abbrev pub AreCommitted : ℕ → ℕ → List Key → List Event → Type 0
 AreCommitted s c ks h = (k : Key) → has_key ks k ≡ true → PrimaryCommitted (only_key k) h s c
@@ -87,6 +103,18 @@ Says refuses answered h (Ok v) = answered h
 Says refuses answered h (Err e) = refuses h e
 
 -- lemmas
+
+-- a key that a mutation locks was acknowledged
+pub prewritten_key : (s : ℕ) (ms : List Mutation) (h : List Event) (k : Key) → ArePrewritten s ms h → LocksKey ms k → IsAcknowledged h s k
+prewritten_key s ms h k all locked = let p = all locked.0 locked.2 in record {
+  ticket = p.ticket;
+  request = p.request;
+  response = p.response;
+  taken = p.taken;
+  fine = p.fine;
+  start = p.start;
+  locks = (locked.0, locked.1, p.names, locked.3, locked.4);
+}
 
 pub committed_longer : (plan : Plan) (s c : ℕ) (h k : List Event) → Within h k → PrimaryCommitted plan h s c → PrimaryCommitted plan k s c
 committed_longer plan s c h k w g = (g.0, g.1, g.2, w _ g.3, g.4, g.5, g.6, g.7)

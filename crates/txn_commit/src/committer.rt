@@ -8,7 +8,6 @@ ghost use Rattle.txn_kv.specs.Timestamp.{HasVersion, version_of};
 ghost use Rattle.txn_kv.specs.declared.request.Request.{Request as Asked};
 ghost use Rattle.txn_kv.specs.declared.request.Request.TheVariants.{BatchRollback};
 ghost use Rattle.txn_request.specs.Defaults.{default_batch_rollback};
-ghost use Rattle.txn_commit.specs.Arrivals.{MayArrive, locked_told, tells_error, tells_failure, told_by, weight_told};
 ghost use Rattle.txn_commit.specs.Committing.{CommitterFits, CommitterGives, CommitterGoesOn, CommitterMoves, IsFirst, IsInRange, IsRolled, IsWritten, MayCommit, SendsCommits, StageReady, TimeSays, ways};
 ghost use Rattle.txn_commit.specs.Counting.{Begins, CommitterCounts, ask_costs, call_width, commit_again_costs, commit_costs, costs_of, others_costs, rollback_costs, stage_width};
 ghost use Rattle.txn_commit.specs.Following.{Commits, heard, undetermined};
@@ -16,8 +15,8 @@ ghost use Rattle.txn_commit.specs.Plans.{AreCommitted, ArePrewritten, AreRolledB
 ghost use Rattle.txn_commit.specs.Sending.{MaySend, plan_of};
 ghost use Rattle.txn_commit.specs.Timing.{HasVersionIfDone};
 ghost use Rattle.txn_commit.specs.declared.committer.Stage.TheVariants as stages;
+ghost use Rattle.txn_plan.specs.Arrivals.{MayArrive, locked_told, tells_error, tells_failure, told_by, weight_told};
 
-use crate::arrival::Arrival;
 use crate::commit_parts::CommitParts;
 use crate::plan_for::PlanFor;
 use crate::primary_commits::{PrimaryCommits, count_posted};
@@ -28,7 +27,7 @@ use txn_kv::{
     Progress, Timestamp,
 };
 use txn_merge::RetryOptions;
-use txn_plan::Plan;
+use txn_plan::{Arrival, Plan};
 use txn_region::PdClient;
 use txn_request::lowering::{new_batch_rollback_request, new_commit_request, new_prewrite_request};
 
@@ -117,6 +116,13 @@ where
             width: 0,
             alloc,
         }
+    }
+
+    /// The most parts that a request of a plan of it was cut into so far.
+    pub fn width(&self) -> u64
+        ensures { result ≡ call_width (ways P.meaning Q.meaning K.meaning P.refuses Q.refuses K.refuses) self.now }
+    {
+        self.width.max(self.stage.width())
     }
 
     /// The keys that are left to commit once the primary is.
@@ -428,7 +434,7 @@ where
         ensures state { self.new ≡ record self.old { stage = stage; width = self.new.width } }
         ensures width { self.new.width ≡ call_width (ways P.meaning Q.meaning K.meaning P.refuses Q.refuses K.refuses) self.old }
     {
-        self.width = self.width.max(self.stage.width());
+        self.width = self.width();
         self.stage = stage;
     }
 

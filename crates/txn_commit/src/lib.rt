@@ -1,7 +1,6 @@
 //! Commits and rollbacks of optimistic transactions, built of plans, and the job behind a commit.
 #![tactic(auto)]
 
-pub mod arrival;
 pub mod commit_parts;
 pub mod committer;
 pub mod laws;
@@ -13,7 +12,6 @@ pub mod send;
 mod tests;
 pub mod timestamp_call;
 
-pub use arrival::Arrival;
 pub use commit_parts::CommitParts;
 pub use committer::{CommitterAnswer, CommitterCall};
 pub use plan_for::PlanFor;

@@ -3,10 +3,10 @@ ghost use Rattle.txn_history.specs.Event.{same_ticket};
 ghost use Rattle.txn_kv.specs.Timestamp.{HasVersion};
 ghost use Rattle.txn_commit.specs.Following.{answered, commit_tickets, heard, is_commit, is_out, lost, none_sent, sent, undetermined, without};
 
-use crate::arrival::Arrival;
 use std::alloc::Global;
 use std::marker::Model;
 use txn_kv::{Errand, NoMemory, Outbox, Request, Ticket, Timestamp};
+use txn_plan::Arrival;
 
 /// The Commits of a transaction's primary: the timestamp that all of them name, once one was sent, and what became of them.
 #[derive(Debug, Drop)]

@@ -12,17 +12,17 @@ ghost use Rattle.txn_history.specs.Spends.{locked_of, weight_of};
 ghost use Rattle.txn_history.specs.Turn.{turn_of};
 ghost use Rattle.txn_kv.specs.Timestamp.{HasVersion, version_of};
 ghost use Rattle.txn_kv.specs.declared.request.Request.{Request as Asked};
-ghost use Rattle.txn_commit.specs.Arrivals.{MayArrive, awaited_as, locked_told, tells_error, tells_failure, told_by, weight_told};
 ghost use Rattle.txn_commit.specs.Jobs.{IsPlanned, JobReady, ReadsDone, job_phase, job_waits, others};
 ghost use Rattle.txn_plan.specs.Answered.{IsTimeAnswer};
 ghost use Rattle.txn_commit.specs.declared.secondary_job.Stage.TheVariants as stages;
+ghost use Rattle.txn_plan.specs.Arrivals.{MayArrive, awaited_as, locked_told, tells_error, tells_failure, told_by, weight_told};
 
-use crate::arrival::Arrival;
 use crate::plan_for::PlanFor;
 use std::alloc::Global;
 use std::mem;
 use txn_kv::{CommitRequest, Items, Key, NoMemory, Outbox, Progress, Reply, Timestamp};
 use txn_merge::RetryOptions;
+use txn_plan::Arrival;
 use txn_region::PdClient;
 use txn_request::lowering::new_commit_request;
 

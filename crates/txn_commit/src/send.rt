@@ -1,6 +1,5 @@
 //! Each type of this crate can move between threads.
 
-use crate::arrival::Arrival;
 use crate::commit_parts::CommitParts;
 use crate::committer::{CommitterAnswer, CommitterCall};
 use crate::primary_commits::PrimaryCommits;
@@ -11,7 +10,6 @@ use txn_kv::send::can_move;
 
 /// The types of this crate do.
 pub fn parts_can_move() {
-    can_move::<Arrival>();
     can_move::<CommitParts>();
     can_move::<CommitterAnswer>();
     can_move::<PrimaryCommits>();

@@ -6,11 +6,11 @@ ghost use Rattle.txn_history.specs.Turn.{turn_of, IfEnds, IfKept};
 ghost use Rattle.txn_kv.specs.declared.request.Request.{Request as Asked};
 ghost use Rattle.txn_plan.specs.LookUp.{looked_up};
 ghost use Rattle.txn_tso.specs.declared.stage.Stage.TheVariants.{Stopped};
-ghost use Rattle.txn_commit.specs.Arrivals.{MayArrive, awaited_as, locked_told, tells_error, tells_failure, told_by, weight_told};
 ghost use Rattle.txn_commit.specs.Timing.{HasBegun, HasVersionIfDone, IsAnswerOf, IsToldTo, ReadsTime, time_asked};
+ghost use Rattle.txn_plan.specs.Arrivals.{MayArrive, awaited_as, locked_told, tells_error, tells_failure, told_by, weight_told};
 
-use crate::arrival::Arrival;
 use txn_kv::{Error, Internal, NoMemory, Outbox, PdAnswer, PdQuery, Progress, Timestamp};
+use txn_plan::Arrival;
 use txn_region::PdClient;
 use txn_tso::PdCall;
 

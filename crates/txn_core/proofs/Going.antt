@@ -18,9 +18,6 @@ use Rattle.txn_history.specs.Turn.{Turn, IfEnds, IfKept}
 use Rattle.txn_history.specs.Turn.Turn.{Stopped, Waits, Ends}
 use Rattle.txn_buffer.specs.Contents.{Contents}
 use Rattle.txn_commit.specs.Committing.{CommitterFits, CommitterGives, CommitterMoves, MayCommit, Ways}
-use Rattle.txn_commit.specs.Arrivals.{told_by}
-use Rattle.txn_commit.specs.declared.arrival.Arrival.{Arrival}
-use Rattle.txn_commit.specs.declared.arrival.Arrival.TheVariants as arrival
 use Rattle.txn_commit.specs.Following.{Commits, KnowsCommits, undetermined}
 use Rattle.txn_commit.specs.Parts.{parts_of}
 use Rattle.txn_commit.specs.Plans.{ArePrewritten, AreRolledBack}
@@ -44,6 +41,9 @@ use Rattle.txn_core.specs.declared.transaction.Work.{Work}
 use Rattle.txn_core.specs.declared.transaction.Work.TheVariants.{Idle, Open, GaveUp}
 use Rattle.txn_core.specs.declared.txn_answer.TxnAnswer.{TxnAnswer}
 use Rattle.txn_core.specs.declared.txn_answer.TxnAnswer.TheVariants as answer
+use Rattle.txn_plan.specs.Arrivals.{told_by}
+use Rattle.txn_plan.specs.declared.arrival.Arrival.{Arrival}
+use Rattle.txn_plan.specs.declared.arrival.Arrival.TheVariants as arrival
 
 -- a status that allows no data moves to none that does
 pub stays_started : (s next : Status) → allows_data s ≡ false → allows_data next ≡ false → allows_data (moved s next) ≡ false
@@ -80,10 +80,10 @@ module _ {P Q K A B D : Type 0} where
       (subst (λ x. KnowsParts (version_of x) c h call.parts) u.own (record { formed = u.fits.formed; knows = u.fits.knows; ready = u.ready }))
 
   -- the open call has ended, and the transaction rests
-  pub rests : (w : Ways P Q K A B D) (t new : Standing P Q K) (call : CommitterCall P Q K) (next : Status) (o : Posted) (h : List Event)
-      → new ≡ record t { status = next; work = Idle } → allows_data next ≡ false
+  pub rests : (w : Ways P Q K A B D) (t new : Standing P Q K) (call : CommitterCall P Q K) (next : Status) (v : ℕ) (o : Posted) (h : List Event)
+      → new ≡ record t { status = next; work = Idle; width = v } → allows_data next ≡ false
       → CallFits w t call o h → TransactionFits w new o h
-  rests w t new call next o h e n f = rw e (record {
+  rests w t new call next v o h e n f = rw e (record {
     given = f.given;
     unsent = λ a. absurd (let g = sym n ∙ a in cc);
     at = knows_parts w t.start t.status t.contents t.commits call o h f.under_way;
@@ -98,13 +98,13 @@ module _ {P Q K A B D : Type 0} where
   }
 
   -- the primary is committed
-  pub takes_committed : (w : Ways P Q K A B D) (call : CommitterCall P Q K) (old new : Standing P Q K) (t : Timestamp) (keys : List Key) (o : Posted) (turn : Turn (Result (TxnAnswer Q) Error))
-      → new ≡ record old { status = moved old.status Is_committed; work = Idle }
+  pub takes_committed : (w : Ways P Q K A B D) (call : CommitterCall P Q K) (old new : Standing P Q K) (t : Timestamp) (keys : List Key) (v : ℕ) (o : Posted) (turn : Turn (Result (TxnAnswer Q) Error))
+      → new ≡ record old { status = moved old.status Is_committed; work = Idle; width = v }
       → keys ≡ call.parts.secondaries
       → IsCommittedAt new.start t keys turn
       → TakesUp w call old new o (Ends (Ok (Committed t))) turn
-  takes_committed w call old new t keys o turn e f (job, g, j) = rw g (record {
-    still = λ h k. rests w old new call (moved old.status Is_committed) o h e (stays_started old.status Is_committed k.0.under_way.started refl) k.0;
+  takes_committed w call old new t keys v o turn e f (job, g, j) = rw g (record {
+    still = λ h k. rests w old new call (moved old.status Is_committed) v o h e (stays_started old.status Is_committed k.0.under_way.started refl) k.0;
     done = λ h k. inl (
       call.parts,
       k.0.under_way.whole,
@@ -116,20 +116,20 @@ module _ {P Q K A B D : Type 0} where
   })
 
   -- all was checked
-  pub takes_checked : (w : Ways P Q K A B D) (call : CommitterCall P Q K) (old new : Standing P Q K) (o : Posted)
-      → new ≡ record old { status = moved old.status Is_committed; work = Idle }
+  pub takes_checked : (w : Ways P Q K A B D) (call : CommitterCall P Q K) (old new : Standing P Q K) (v : ℕ) (o : Posted)
+      → new ≡ record old { status = moved old.status Is_committed; work = Idle; width = v }
       → TakesUp w call old new o (Ends (Ok Checked)) (Ends (Ok (answer.Committed None None)))
-  takes_checked w call old new o e = record {
-    still = λ h k. rests w old new call (moved old.status Is_committed) o h e (stays_started old.status Is_committed k.0.under_way.started refl) k.0;
+  takes_checked w call old new v o e = record {
+    still = λ h k. rests w old new call (moved old.status Is_committed) v o h e (stays_started old.status Is_committed k.0.under_way.started refl) k.0;
     done = λ h k. inl (call.parts, k.0.under_way.whole, (k.1.0, subst (λ (x : Timestamp). ArePrewritten (version_of x) call.parts.mutations h) k.0.under_way.own k.1.1));
   }
 
   -- all was rolled back
-  pub takes_rolled : (w : Ways P Q K A B D) (call : CommitterCall P Q K) (old new : Standing P Q K) (o : Posted)
-      → new ≡ record old { status = moved old.status Rolledback; work = Idle }
+  pub takes_rolled : (w : Ways P Q K A B D) (call : CommitterCall P Q K) (old new : Standing P Q K) (v : ℕ) (o : Posted)
+      → new ≡ record old { status = moved old.status Rolledback; work = Idle; width = v }
       → TakesUp w call old new o (Ends (Ok RolledBack)) (Ends (Ok answer.Unit))
-  takes_rolled w call old new o e = record {
-    still = λ h k. rests w old new call (moved old.status Rolledback) o h e (stays_started old.status Rolledback k.0.under_way.started refl) k.0;
+  takes_rolled w call old new v o e = record {
+    still = λ h k. rests w old new call (moved old.status Rolledback) v o h e (stays_started old.status Rolledback k.0.under_way.started refl) k.0;
     done = λ h k. inl (call.parts, k.0.under_way.whole, inr (subst (λ (x : Timestamp). AreRolledBack (version_of x) (call.parts.primary ∷ []) h × AreRolledBack (version_of x) call.parts.secondaries h) k.0.under_way.own k.1));
   }
 
@@ -139,12 +139,12 @@ module _ {P Q K A B D : Type 0} where
   named_fails w s r parts (Some t) h inner e n g = (inner, n, g)
 
   -- it has failed
-  pub takes_failed : (w : Ways P Q K A B D) (call : CommitterCall P Q K) (old new : Standing P Q K) (inner e : Error) (o : Posted)
-      → new ≡ record old { work = Idle }
+  pub takes_failed : (w : Ways P Q K A B D) (call : CommitterCall P Q K) (old new : Standing P Q K) (inner e : Error) (v : ℕ) (o : Posted)
+      → new ≡ record old { work = Idle; width = v }
       → IsNamed (undetermined old.commits) inner e
       → TakesUp w call old new o (Ends (Err inner)) (Ends (Err e))
-  takes_failed w call old new inner e o f n = record {
-    still = λ h k. rests w old new call old.status o h f k.0.under_way.started k.0;
+  takes_failed w call old new inner e v o f n = record {
+    still = λ h k. rests w old new call old.status v o h f k.0.under_way.started k.0;
     done = λ h k. inl (call.parts, k.0.under_way.whole, rw f (named_fails w (version_of call.start) (version_of old.start) call.parts (undetermined old.commits) h inner e n k.1));
   }
 

@@ -1,3 +1,5 @@
+pub mod Adding
+pub mod Counting
 pub mod Going
 pub mod Lists
 pub mod Moving

@@ -19,7 +19,7 @@ use Rattle.txn_commit.specs.Following.{Commits, none_sent}
 use Rattle.txn_commit.specs.Parts.{parts_of}
 use Rattle.txn_commit.specs.declared.commit_parts.CommitParts.{CommitParts}
 use Rattle.txn_core.specs.Options.{is_pessimistic}
-use Rattle.txn_core.specs.Status.{allows_commit, allows_data, allows_rollback, may_move, opening}
+use Rattle.txn_core.specs.Status.{allows_commit, allows_data, allows_rollback, is_undetermined, may_move, opening}
 use Rattle.txn_core.specs.declared.options.TransactionOptions.{TransactionOptions}
 use Rattle.txn_core.specs.declared.status.Status.{Status}
 use Rattle.txn_core.specs.declared.status.Status.TheVariants as statuses
@@ -29,7 +29,8 @@ use Rattle.txn_core.specs.declared.txn_answer.TxnAnswer.{TxnAnswer}
 use Rattle.txn_core.specs.declared.txn_answer.TxnAnswer.TheVariants as answer
 
 -- What contracts see of a transaction: its start timestamp and its options, the clock as that timestamp came, how far it has
--- come, what its buffer holds, what is known of the Commits of its primary, and the call that is open.
+-- come, what its buffer holds, what is known of the Commits of its primary, the call that is open, and the most parts that a
+-- request of one was cut into that is let go.
 pub record Standing (P Q K : Type 0) : Type 0 where
   pub start : Timestamp
   pub options : TransactionOptions
@@ -38,6 +39,7 @@ pub record Standing (P Q K : Type 0) : Type 0 where
   pub contents : Contents
   pub commits : Commits
   pub work : Work P Q K
+  pub width : ℕ
 
 -- one that has just begun
 abbrev pub begun : {P Q K : Type 0} → Timestamp → TransactionOptions → ℕ → Standing P Q K
@@ -49,6 +51,7 @@ begun start options now = record {
   contents = record { entries = []; primary = None; is_pessimistic = is_pessimistic options.kind };
   commits = none_sent;
   work = Idle;
+  width = 0;
 }
 
 -- a call is open
@@ -189,6 +192,13 @@ rollback_outcome Waits = None
 rollback_outcome (Ends (Err e)) = Some (Err e)
 rollback_outcome (Ends (Ok answer.Unit)) = Some (Ok tt)
 rollback_outcome (Ends (Ok _)) = None
+
+-- no error says that a commit's end is not known
+abbrev pub IsDetermined : {Q : Type 0} → Turn (Result (TxnAnswer Q) Error) → Type 0
+IsDetermined Stopped = ⊤
+IsDetermined Waits = ⊤
+IsDetermined (Ends (Ok v)) = ⊤
+IsDetermined (Ends (Err e)) = is_undetermined e ≡ false
 
 -- The status goes where it may: one that was let go stays so.
 abbrev pub moved : Status → Status → Status

@@ -1,22 +1,31 @@
 //! Laws of the definitions, as contracts of functions that do nothing.
-ghost use Rattle.std.specs.Prelude.{◌≡◌, ℕ, List, true};
-ghost use Rattle.txn_buffer.specs.Contents.{Contents, locked, with_write};
+ghost use Rattle.std.specs.Prelude.{◌≡◌, ◌≤◌, ◌+◌, ◌*◌, ℕ, ◌∷◌, Bool, List, None, Result, false, length, true};
+ghost use Rattle.txn_buffer.specs.Contents.{Contents, locked, mutations, with_write};
 ghost use Rattle.txn_buffer.specs.Writes.{Write};
 ghost use Rattle.txn_commit.specs.Committing.{IsFormed, ways};
+ghost use Rattle.txn_commit.specs.Counting.{Costs, IsOneEach};
 ghost use Rattle.txn_commit.specs.Jobs.{JobFits};
+ghost use Rattle.txn_commit.specs.Parts.{parts_of};
 ghost use Rattle.txn_commit.specs.Sending.{plan_of};
 ghost use Rattle.txn_commit.specs.declared.commit_parts.CommitParts.{CommitParts};
 ghost use Rattle.txn_commit.specs.declared.secondary_job.SecondaryJob.{SecondaryJob};
-ghost use Rattle.txn_core.specs.Going.{IsJobOf, IsUncommitted, TransactionFits};
-ghost use Rattle.txn_core.specs.Status.{Became, allows_data, may_move, status_step};
-ghost use Rattle.txn_core.specs.Transaction.{IsOrdered, Standing, begun};
+ghost use Rattle.txn_core.specs.Counting.{Runs, Step, commit_price, errors, failures, locked as locked_by, posted, rested, rollback_price, standing_after, transaction_width, weighed};
+ghost use Rattle.txn_core.specs.Going.{IsJobOf, IsUncommitted, IsUndetermined, TransactionFits};
+ghost use Rattle.txn_core.specs.Status.{Became, allows_commit, allows_data, allows_rollback, may_move, status_step};
+ghost use Rattle.txn_core.specs.Status.Became.{commits, rolls_back};
+ghost use Rattle.txn_core.specs.Transaction.{IsDetermined, IsOrdered, Standing, begun, commit_outcome, moved_by, rollback_outcome, rolled_status};
 ghost use Rattle.txn_core.specs.declared.options.TransactionOptions.{TransactionOptions};
 ghost use Rattle.txn_core.specs.declared.status.Status.{Status};
+ghost use Rattle.txn_core.specs.declared.status.Status.TheVariants.{Dropped};
 ghost use Rattle.txn_core.specs.declared.transaction.Work.TheVariants.{Idle};
+ghost use Rattle.txn_core.specs.declared.txn_answer.TxnAnswer.{TxnAnswer};
 ghost use Rattle.txn_history.specs.Event.{Event};
 ghost use Rattle.txn_history.specs.Licence.{PrimaryCommitted, WasGiven};
 ghost use Rattle.txn_history.specs.Posted.{Posted};
+ghost use Rattle.txn_history.specs.Turn.{HasEnded, Turn};
 ghost use Rattle.txn_kv.specs.Timestamp.{version_of};
+ghost use Rattle.txn_kv.specs.declared.errors.Error.{Error};
+ghost use Rattle.txn_kv.specs.declared.ticket.Ticket.{Ticket};
 ghost use Rattle.txn_kv.specs.declared.timestamp.Timestamp.{Timestamp};
 
 use txn_commit::PlanFor;
@@ -25,6 +34,21 @@ use txn_kv::{BatchRollbackRequest, CommitRequest, PrewriteRequest};
 /// Whatever becomes of a call, the status goes there by at most two moves.
 pub fn statuses_move()
     ensures { (s : Status) (call : Became) → (via : Status) × (may_move s via ≡ true) × (may_move via (status_step s call) ≡ true) }
+{}
+
+/// As a commit or a rollback goes on that is open, the status becomes what it is to be after a call that came to this: a commit, of
+/// which something was prewritten, or a rollback, of which no error says that a commit's end is not known. One that was let go
+/// meanwhile stays so. A rollback that begins leaves it, or moves it so, by whether a Commit of the primary was lost.
+pub fn statuses_follow<Q: PlanFor<CommitRequest>>()
+    ensures commit { (s : Status) (has_prewritten : Bool) (turn : Turn (Result (TxnAnswer Q) Error)) → allows_commit s ≡ true
+        → moved_by (status_step s (commits None has_prewritten)) turn ≡ status_step s (commits (commit_outcome turn) true) }
+    ensures rollback { (s : Status) (turn : Turn (Result (TxnAnswer Q) Error)) → allows_rollback s ≡ true → IsDetermined turn
+        → moved_by (status_step s (rolls_back None)) turn ≡ status_step s (rolls_back (rollback_outcome turn)) }
+    ensures closed { (turn : Turn (Result (TxnAnswer Q) Error)) → moved_by Dropped turn ≡ Dropped }
+    ensures refused { (s : Status) (t : Ticket) (turn : Turn (Result (TxnAnswer Q) Error)) → IsUndetermined t turn → HasEnded turn
+        → rolled_status s true turn ≡ status_step s (rolls_back (rollback_outcome turn)) }
+    ensures begun { (s : Status) (turn : Turn (Result (TxnAnswer Q) Error)) → IsDetermined turn
+        → rolled_status s false turn ≡ status_step s (rolls_back (rollback_outcome turn)) }
 {}
 
 /// A transaction that has begun can have arisen from each history in which its start was given and no Commit of it was sent, and
@@ -51,4 +75,35 @@ pub fn jobs_arise<Q: PlanFor<CommitRequest>>()
     ensures { (start t : Timestamp) (parts : CommitParts) (job : SecondaryJob Q) (o : Posted) (h : List Event)
         → IsFormed parts → PrimaryCommitted (plan_of parts) h (version_of start) (version_of t) → IsJobOf start t parts.secondaries job
         → JobFits Q.meaning Q.refuses (plan_of parts) parts.secondaries job o h }
+{}
+
+/// A whole call posts no more requests and asks than it costs, once more for each error that comes to it, where locks weigh what
+/// they may cost. It begins no more sleeps than it is told of failures and of replies with locks.
+pub fn whole_calls_are_paid<P, Q, K>()
+where
+    P: PlanFor<PrewriteRequest>,
+    Q: PlanFor<CommitRequest>,
+    K: PlanFor<BatchRollbackRequest>,
+    ensures posted { (costs : Costs) (whole : ℕ → ℕ) (first : Step P Q K) (steps : List (Step P Q K)) (n : ℕ)
+        → Runs (ways P.meaning Q.meaning K.meaning P.refuses Q.refuses K.refuses) costs whole first steps
+        → 1 ≤ n → transaction_width (ways P.meaning Q.meaning K.meaning P.refuses Q.refuses K.refuses) (standing_after first.new steps) ≤ n
+        → posted (first ∷ steps) ≤ (1 + errors steps) * (whole n + weighed steps) }
+    ensures rested { (costs : Costs) (whole : ℕ → ℕ) (first : Step P Q K) (steps : List (Step P Q K))
+        → Runs (ways P.meaning Q.meaning K.meaning P.refuses Q.refuses K.refuses) costs whole first steps
+        → rested (first ∷ steps) ≤ failures steps + locked_by steps }
+{}
+
+/// Where a plan posts no more than one request for each of its keys, a commit or a rollback of k mutations posts no more than 2k + 9
+/// requests and asks, once more for each error that comes to it, and what locks may cost.
+pub fn commits_are_bounded<P, Q, K>()
+where
+    P: PlanFor<PrewriteRequest>,
+    Q: PlanFor<CommitRequest>,
+    K: PlanFor<BatchRollbackRequest>,
+    ensures commit { (costs : Costs) (first : Step P Q K) (steps : List (Step P Q K)) → IsOneEach costs
+        → Runs (ways P.meaning Q.meaning K.meaning P.refuses Q.refuses K.refuses) costs (commit_price costs (parts_of first.old.contents) first.old.commits.timestamp) first steps
+        → posted (first ∷ steps) ≤ (1 + errors steps) * (2 * length (mutations first.old.contents.entries) + 9 + weighed steps) }
+    ensures rollback { (costs : Costs) (first : Step P Q K) (steps : List (Step P Q K)) → IsOneEach costs
+        → Runs (ways P.meaning Q.meaning K.meaning P.refuses Q.refuses K.refuses) costs (rollback_price costs (parts_of first.old.contents)) first steps
+        → posted (first ∷ steps) ≤ (1 + errors steps) * (2 * length (mutations first.old.contents.entries) + 9 + weighed steps) }
 {}

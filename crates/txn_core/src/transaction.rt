@@ -1,10 +1,7 @@
-ghost use Rattle.std.specs.Prelude.{◌≡◌, ◌<◌, ◌^◌, ⊤, IfOk, IfSome, OnErr, OnOk, List, None, Some, Ok, Err, false, true, is_none, is_some, not, option_map};
-ghost use Rattle.txn_buffer.specs.Contents.{Contents, known_at, known_value, locked, mutated, with_write, write_at};
-ghost use Rattle.txn_buffer.specs.Reads.{writes};
-ghost use Rattle.txn_buffer.specs.Writes.{after_call, after_delete, after_insert, after_put, delete_call, insert_call, put_call};
-ghost use Rattle.txn_history.specs.Event.{Event};
-ghost use Rattle.txn_history.specs.Licence.{WasGiven};
+ghost use Rattle.std.specs.Prelude.{◌≡◌, ◌<◌, ◌^◌, ⊤, IfOk, IfSome, None, Some, Ok, Err, false, is_err, max, true, is_some};
+ghost use Rattle.txn_history.specs.Faults.{has_error, has_region_error};
 ghost use Rattle.txn_history.specs.Posted.{HasNumbers, Posted};
+ghost use Rattle.txn_history.specs.Spends.{locked_of, weight_of};
 ghost use Rattle.txn_history.specs.Turn.{HasEnded, turn_of};
 ghost use Rattle.txn_history.specs.Turn.Turn.{Ends, Stopped, Waits};
 ghost use Rattle.txn_kv.specs.ErrorView.{view_of};
@@ -14,21 +11,23 @@ ghost use Rattle.txn_kv.specs.declared.errors.Error.TheVariants.{OperationAfterC
 ghost use Rattle.txn_kv.specs.declared.request.Request.{Request as Asked};
 ghost use Rattle.txn_kv.specs.declared.ticket.Ticket.{Ticket as Named};
 ghost use Rattle.txn_plan.specs.Answered.{IsTimeAnswer};
-ghost use Rattle.txn_commit.specs.Arrivals.{MayArrive, told_by};
-ghost use Rattle.txn_commit.specs.Committing.{CommitterMoves, IsFirst, MayCommit, StageReady, ways};
+ghost use Rattle.txn_commit.specs.Committing.{CommitterMoves, MayCommit, StageReady, ways};
+ghost use Rattle.txn_commit.specs.Counting.{Begins, CommitterCounts, call_width, commit_again_costs, costs_of};
 ghost use Rattle.txn_commit.specs.Following.{undetermined};
 ghost use Rattle.txn_commit.specs.Parts.{parts_of};
 ghost use Rattle.txn_commit.specs.Sending.{plan_of};
-ghost use Rattle.txn_commit.specs.declared.arrival.Arrival.TheVariants as arrivals;
-ghost use Rattle.txn_commit.specs.declared.commit_parts.CommitParts.{CommitParts as Parts};
-ghost use Rattle.txn_commit.specs.declared.committer.CommitterCall.{CommitterCall as Calling};
-ghost use Rattle.txn_core.specs.Going.{BeginMoves, CallMoves, HasFailed, IsCommittedAt, IsJobFor, IsNamed, IsNewCall, IsSameCall, IsUncommitted, MayBegin, MayGoBack, MayStart, IsUndetermined, TakesUp, TransactionFits, TransactionMoves, TransactionReady};
-ghost use Rattle.txn_core.specs.Status.{Became, allows_commit, allows_data, allows_rollback, closing, status_step};
+ghost use Rattle.txn_core.specs.Counting.{IsOpenOrGone, Keeps, OpenCounts, TransactionBegins, TransactionCounts, commit_price, rollback_price};
+ghost use Rattle.txn_core.specs.Going.{BeginMoves, CallMoves, HasFailed, IsCommittedAt, IsJobFor, IsNamed, IsNewCall, IsSameCall, MayBegin, MayGoBack, MayStart, IsUndetermined, TakesUp, TransactionMoves, TransactionReady};
+ghost use Rattle.txn_core.specs.Status.{allows_commit, allows_rollback, closing, status_step};
 ghost use Rattle.txn_core.specs.Status.Became.{commits};
-ghost use Rattle.txn_core.specs.Transaction.{AreLocked, AreSteps, GivesUp, AnswersAtOnce, IsRefused, IsStep, WriteEnds, locks_nothing, all_put_or_delete, begun, call_by, commit_outcome, has_given_up, insert_refusal, is_open, is_put_or_delete, is_waiting, locked_all, moved, moved_by, mutate_refusal, mutated_all, rolled_status, write_refusal};
+ghost use Rattle.txn_core.specs.Transaction.{GivesUp, AnswersAtOnce, IsRefused, locks_nothing, begun, commit_outcome, has_given_up, is_open, is_waiting, moved, moved_by, rolled_status};
 ghost use Rattle.txn_core.specs.declared.status.Status.TheVariants as statuses;
 ghost use Rattle.txn_core.specs.declared.transaction.Work.TheVariants as works;
 ghost use Rattle.txn_core.specs.declared.txn_answer.TxnAnswer.TheVariants as answers;
+ghost use Rattle.txn_plan.specs.Arrivals.{MayArrive, locked_told, tells_error, tells_failure, told_by, weight_told};
+ghost use Rattle.txn_plan.specs.declared.arrival.Arrival.TheVariants as arrivals;
+
+mod writes;
 
 use crate::close_answer::CloseAnswer;
 use crate::options::TransactionOptions;
@@ -40,13 +39,14 @@ use std::marker::{Model, PhantomData};
 use std::mem;
 use txn_buffer::Buffer;
 use txn_commit::{
-    Arrival, CommitParts, CommitterAnswer, CommitterCall, PlanFor, PrimaryCommits, SecondaryJob,
+    CommitParts, CommitterAnswer, CommitterCall, PlanFor, PrimaryCommits, SecondaryJob,
 };
 use txn_kv::{
-    BatchRollbackRequest, CommitRequest, Error, Items, Key, Mutation, NoMemory, Op, Outbox,
-    PrewriteRequest, Progress, Reply, Ticket, Timestamp, Value,
+    BatchRollbackRequest, CommitRequest, Error, Items, Key, NoMemory, Outbox, PrewriteRequest,
+    Progress, Reply, Ticket, Timestamp,
 };
 use txn_merge::RetryOptions;
+use txn_plan::Arrival;
 use txn_region::PdClient;
 
 type Turn<Q> = Result<Progress<TxnAnswer<Q>>, NoMemory>;
@@ -74,6 +74,8 @@ pub struct Transaction<C, P, Q, K> {
     buffer: Buffer,
     commits: PrimaryCommits,
     work: Work<P, Q, K>,
+    /// The most parts that a request of a call was cut into that is let go.
+    width: u64,
     alloc: Global,
     client: PhantomData<C>,
 }
@@ -83,7 +85,7 @@ impl<C, P, Q, K> Model for Transaction<C, P, Q, K> {
 
     ghost Value = { Standing P Q K };
 
-    ghost view = { λ t. record { start = t.timestamp; options = t.options; began = t.started; status = t.status; contents = t.buffer; commits = t.commits; work = t.work } };
+    ghost view = { λ t. record { start = t.timestamp; options = t.options; began = t.started; status = t.status; contents = t.buffer; commits = t.commits; work = t.work; width = t.width } };
 }
 
 impl<C, P, Q, K> Transaction<C, P, Q, K>
@@ -108,6 +110,7 @@ where
             buffer: Buffer::new(alloc, options.is_pessimistic()),
             commits: PrimaryCommits::new(alloc),
             work: Work::Idle,
+            width: 0,
             options,
             alloc,
             client: PhantomData,
@@ -137,128 +140,6 @@ where
         answer
     }
 
-    pub fn put(
-        &mut self,
-        _pd: &mut C,
-        key: Key,
-        value: Value,
-        _now: u64,
-        _out: &mut Outbox,
-    ) -> Turn<Q>
-        requires idle { is_open self.old.work ≡ false }
-        ensures ends { WriteEnds (write_refusal self.old.status) (λ c d. IsStep (with_write c key (after_put (write_at c key) value)) (put_call key value) c d) self.old self.new (turn_of result) }
-        ensures gives_up { GivesUp self.old self.new (turn_of result) }
-        ensures quiet { (_out.new ≡ _out.old) × (_pd.new ≡ _pd.old) }
-    {
-        if self.has_given_up() {
-            return Err(NoMemory);
-        }
-        if !self.status.allows_data() {
-            return Ok(refused(Error::OperationAfterCommitError));
-        }
-        match self.buffer.put(key, value) {
-            Ok(()) => Ok(done()),
-            Err(_) => self.give_up(),
-        }
-    }
-
-    /// A key of which a value is known is refused.
-    pub fn insert(
-        &mut self,
-        _pd: &mut C,
-        key: Key,
-        value: Value,
-        _now: u64,
-        _out: &mut Outbox,
-    ) -> Turn<Q>
-        requires idle { is_open self.old.work ≡ false }
-        ensures ends { WriteEnds (insert_refusal self.old.status self.old.contents key) (λ c d. IsStep (with_write c key (after_insert (write_at c key) value)) (insert_call key value) c d) self.old self.new (turn_of result) }
-        ensures gives_up { GivesUp self.old self.new (turn_of result) }
-        ensures quiet { (_out.new ≡ _out.old) × (_pd.new ≡ _pd.old) }
-    {
-        if self.has_given_up() {
-            return Err(NoMemory);
-        }
-        if !self.status.allows_data() {
-            return Ok(refused(Error::OperationAfterCommitError));
-        }
-        match self.buffer.get(&key) {
-            Ok(None) => self.insert_new(key, value),
-            Ok(Some(_)) => Ok(refused(Error::DuplicateKeyInsertion)),
-            Err(_) => self.give_up(),
-        }
-    }
-
-    pub fn delete(&mut self, _pd: &mut C, key: Key, _now: u64, _out: &mut Outbox) -> Turn<Q>
-        requires idle { is_open self.old.work ≡ false }
-        ensures ends { WriteEnds (write_refusal self.old.status) (λ c d. IsStep (with_write c key (after_delete c.is_pessimistic (write_at c key))) (delete_call key) c d) self.old self.new (turn_of result) }
-        ensures gives_up { GivesUp self.old self.new (turn_of result) }
-        ensures quiet { (_out.new ≡ _out.old) × (_pd.new ≡ _pd.old) }
-    {
-        if self.has_given_up() {
-            return Err(NoMemory);
-        }
-        if !self.status.allows_data() {
-            return Ok(refused(Error::OperationAfterCommitError));
-        }
-        match self.buffer.delete(key) {
-            Ok(()) => Ok(done()),
-            Err(_) => self.give_up(),
-        }
-    }
-
-    /// Puts and deletes, in their order. Others are refused before anything is done.
-    pub fn batch_mutate(
-        &mut self,
-        _pd: &mut C,
-        mutations: Vec<Mutation>,
-        _now: u64,
-        _out: &mut Outbox,
-    ) -> Turn<Q>
-        requires idle { is_open self.old.work ≡ false }
-        ensures ends { WriteEnds (mutate_refusal self.old.status mutations.items) (AreSteps mutations.items) self.old self.new (turn_of result) }
-        ensures gives_up { GivesUp self.old self.new (turn_of result) }
-        ensures quiet { (_out.new ≡ _out.old) × (_pd.new ≡ _pd.old) }
-    {
-        if self.has_given_up() {
-            return Err(NoMemory);
-        }
-        if !self.status.allows_data() {
-            return Ok(refused(Error::OperationAfterCommitError));
-        }
-        if !all_put_or_delete(mutations.as_slice()) {
-            return Ok(refused(Error::Unimplemented));
-        }
-        match mutate_all(&mut self.buffer, mutations) {
-            Ok(()) => Ok(done()),
-            Err(_) => self.give_up(),
-        }
-    }
-
-    pub fn lock_keys(
-        &mut self,
-        _pd: &mut C,
-        keys: Vec<Key>,
-        _now: u64,
-        _out: &mut Outbox,
-    ) -> Turn<Q>
-        requires idle { is_open self.old.work ≡ false }
-        ensures ends { WriteEnds (write_refusal self.old.status) (AreLocked keys.items) self.old self.new (turn_of result) }
-        ensures gives_up { GivesUp self.old self.new (turn_of result) }
-        ensures quiet { (_out.new ≡ _out.old) × (_pd.new ≡ _pd.old) }
-    {
-        if self.has_given_up() {
-            return Err(NoMemory);
-        }
-        if !self.status.allows_data() {
-            return Ok(refused(Error::OperationAfterCommitError));
-        }
-        match lock_all(&mut self.buffer, keys) {
-            Ok(()) => Ok(done()),
-            Err(_) => self.give_up(),
-        }
-    }
-
     /// Commits what was written and locked. Once a Commit of the primary was sent, a further call sends it again.
     pub fn commit(&mut self, pd: &mut C, now: u64, out: &mut Outbox) -> Turn<Q>
         requires idle { is_open self.old.work ≡ false }
@@ -268,8 +149,9 @@ where
         ensures refused { allows_commit self.old.status ≡ false → IsRefused OperationAfterCommitError self.old self.new (turn_of result) × (out.new ≡ out.old) }
         ensures empty { allows_commit self.old.status ≡ true → parts_of self.old.contents ≡ None → AnswersAtOnce (answers.Committed None None) (turn_of result) × (out.new ≡ out.old) }
         ensures moves { allows_commit self.old.status ≡ true → TransactionMoves (ways P.meaning Q.meaning K.meaning P.refuses Q.refuses K.refuses) (λ h. ⊤) (λ h. h) self.old self.new out.old out.new (turn_of result) }
+        ensures counts { TransactionBegins (ways P.meaning Q.meaning K.meaning P.refuses Q.refuses K.refuses) (costs_of P.costs Q.costs K.costs) (commit_price (costs_of P.costs Q.costs K.costs) (parts_of self.old.contents) self.old.commits.timestamp) self.old self.new out.old out.new (turn_of result) }
         ensures status { self.old.work ≡ works.Idle → self.new.status ≡ status_step self.old.status (commits (commit_outcome (turn_of result)) (is_some (parts_of self.old.contents))) }
-        ensures kept { self.new ≡ record self.old { status = self.new.status; commits = self.new.commits; work = self.new.work } }
+        ensures kept { self.new ≡ record self.old { status = self.new.status; commits = self.new.commits; work = self.new.work; width = self.new.width } }
         ensures gives_up { GivesUp self.old self.new (turn_of result) }
         ensures busy { is_open self.new.work ≡ is_waiting (turn_of result) }
         ensures ready { TransactionReady (ways P.meaning Q.meaning K.meaning P.refuses Q.refuses K.refuses) self.new }
@@ -299,8 +181,9 @@ where
         ensures undetermined { (t : Named) → allows_rollback self.old.status ≡ true → undetermined self.old.commits ≡ Some t → IsUndetermined t (turn_of result) × (self.new ≡ record self.old { work = self.new.work }) × (out.new ≡ out.old) }
         ensures empty { allows_rollback self.old.status ≡ true → undetermined self.old.commits ≡ None → locks_nothing self.old.contents ≡ true → AnswersAtOnce answers.Unit (turn_of result) × (out.new ≡ out.old) }
         ensures moves { allows_rollback self.old.status ≡ true → undetermined self.old.commits ≡ None → TransactionMoves (ways P.meaning Q.meaning K.meaning P.refuses Q.refuses K.refuses) (λ h. ⊤) (λ h. h) self.old self.new out.old out.new (turn_of result) }
+        ensures counts { TransactionBegins (ways P.meaning Q.meaning K.meaning P.refuses Q.refuses K.refuses) (costs_of P.costs Q.costs K.costs) (rollback_price (costs_of P.costs Q.costs K.costs) (parts_of self.old.contents)) self.old self.new out.old out.new (turn_of result) }
         ensures status { self.old.work ≡ works.Idle → self.new.status ≡ rolled_status self.old.status (is_some (undetermined self.old.commits)) (turn_of result) }
-        ensures kept { self.new ≡ record self.old { status = self.new.status; commits = self.new.commits; work = self.new.work } }
+        ensures kept { self.new ≡ record self.old { status = self.new.status; commits = self.new.commits; work = self.new.work; width = self.new.width } }
         ensures gives_up { GivesUp self.old self.new (turn_of result) }
         ensures busy { is_open self.new.work ≡ is_waiting (turn_of result) }
         ensures ready { TransactionReady (ways P.meaning Q.meaning K.meaning P.refuses Q.refuses K.refuses) self.new }
@@ -330,8 +213,9 @@ where
         requires numbers { HasNumbers out.old }
         requires clock { now < 2 ^ 44 }
         ensures tells { (r : Asked) → TransactionMoves (ways P.meaning Q.meaning K.meaning P.refuses Q.refuses K.refuses) (told_by (arrivals.Reply number reply) out.old r).known (told_by (arrivals.Reply number reply) out.old r).hear self.old self.new out.old out.new (turn_of result) }
+        ensures counts { TransactionCounts (ways P.meaning Q.meaning K.meaning P.refuses Q.refuses K.refuses) (costs_of P.costs Q.costs K.costs) (has_error reply) (has_region_error reply) (weight_of reply) (locked_of reply) self.old self.new out.old out.new (turn_of result) }
         ensures status { self.new.status ≡ moved_by self.old.status (turn_of result) }
-        ensures kept { self.new ≡ record self.old { status = self.new.status; commits = self.new.commits; work = self.new.work } }
+        ensures kept { self.new ≡ record self.old { status = self.new.status; commits = self.new.commits; work = self.new.work; width = self.new.width } }
         ensures gives_up { GivesUp self.old self.new (turn_of result) }
         ensures deaf { self.old.work ≡ works.Idle → (turn_of result ≡ Waits) × (self.new ≡ self.old) × (out.new ≡ out.old) }
         ensures ready { TransactionReady (ways P.meaning Q.meaning K.meaning P.refuses Q.refuses K.refuses) self.new }
@@ -345,8 +229,9 @@ where
         requires numbers { HasNumbers out.old }
         requires clock { now < 2 ^ 44 }
         ensures tells { (r : Asked) → TransactionMoves (ways P.meaning Q.meaning K.meaning P.refuses Q.refuses K.refuses) (told_by (arrivals.Lost number) out.old r).known (told_by (arrivals.Lost number) out.old r).hear self.old self.new out.old out.new (turn_of result) }
+        ensures counts { TransactionCounts (ways P.meaning Q.meaning K.meaning P.refuses Q.refuses K.refuses) (costs_of P.costs Q.costs K.costs) true true 0 0 self.old self.new out.old out.new (turn_of result) }
         ensures status { self.new.status ≡ moved_by self.old.status (turn_of result) }
-        ensures kept { self.new ≡ record self.old { status = self.new.status; commits = self.new.commits; work = self.new.work } }
+        ensures kept { self.new ≡ record self.old { status = self.new.status; commits = self.new.commits; work = self.new.work; width = self.new.width } }
         ensures gives_up { GivesUp self.old self.new (turn_of result) }
         ensures deaf { self.old.work ≡ works.Idle → (turn_of result ≡ Waits) × (self.new ≡ self.old) × (out.new ≡ out.old) }
         ensures ready { TransactionReady (ways P.meaning Q.meaning K.meaning P.refuses Q.refuses K.refuses) self.new }
@@ -360,8 +245,9 @@ where
         requires numbers { HasNumbers out.old }
         requires clock { now < 2 ^ 44 }
         ensures tells { (r : Asked) → TransactionMoves (ways P.meaning Q.meaning K.meaning P.refuses Q.refuses K.refuses) (told_by (arrivals.Slept number) out.old r).known (told_by (arrivals.Slept number) out.old r).hear self.old self.new out.old out.new (turn_of result) }
+        ensures counts { TransactionCounts (ways P.meaning Q.meaning K.meaning P.refuses Q.refuses K.refuses) (costs_of P.costs Q.costs K.costs) false false 0 0 self.old self.new out.old out.new (turn_of result) }
         ensures status { self.new.status ≡ moved_by self.old.status (turn_of result) }
-        ensures kept { self.new ≡ record self.old { status = self.new.status; commits = self.new.commits; work = self.new.work } }
+        ensures kept { self.new ≡ record self.old { status = self.new.status; commits = self.new.commits; work = self.new.work; width = self.new.width } }
         ensures gives_up { GivesUp self.old self.new (turn_of result) }
         ensures deaf { self.old.work ≡ works.Idle → (turn_of result ≡ Waits) × (self.new ≡ self.old) × (out.new ≡ out.old) }
         ensures ready { TransactionReady (ways P.meaning Q.meaning K.meaning P.refuses Q.refuses K.refuses) self.new }
@@ -383,8 +269,9 @@ where
         requires numbers { HasNumbers out.old }
         requires clock { now < 2 ^ 44 }
         ensures tells { (r : Asked) → TransactionMoves (ways P.meaning Q.meaning K.meaning P.refuses Q.refuses K.refuses) (told_by (arrivals.Time ask answer) out.old r).known (told_by (arrivals.Time ask answer) out.old r).hear self.old self.new out.old out.new (turn_of result) }
+        ensures counts { TransactionCounts (ways P.meaning Q.meaning K.meaning P.refuses Q.refuses K.refuses) (costs_of P.costs Q.costs K.costs) (is_err answer) false 0 0 self.old self.new out.old out.new (turn_of result) }
         ensures status { self.new.status ≡ moved_by self.old.status (turn_of result) }
-        ensures kept { self.new ≡ record self.old { status = self.new.status; commits = self.new.commits; work = self.new.work } }
+        ensures kept { self.new ≡ record self.old { status = self.new.status; commits = self.new.commits; work = self.new.work; width = self.new.width } }
         ensures gives_up { GivesUp self.old self.new (turn_of result) }
         ensures deaf { self.old.work ≡ works.Idle → (turn_of result ≡ Waits) × (self.new ≡ self.old) × (out.new ≡ out.old) }
         ensures ready { TransactionReady (ways P.meaning Q.meaning K.meaning P.refuses Q.refuses K.refuses) self.new }
@@ -399,8 +286,9 @@ where
         requires numbers { HasNumbers out.old }
         requires clock { now < 2 ^ 44 }
         ensures tells { (r : Asked) → TransactionMoves (ways P.meaning Q.meaning K.meaning P.refuses Q.refuses K.refuses) (told_by arrival out.old r).known (told_by arrival out.old r).hear self.old self.new out.old out.new (turn_of result) }
+        ensures counts { TransactionCounts (ways P.meaning Q.meaning K.meaning P.refuses Q.refuses K.refuses) (costs_of P.costs Q.costs K.costs) (tells_error arrival) (tells_failure arrival) (weight_told arrival) (locked_told arrival) self.old self.new out.old out.new (turn_of result) }
         ensures status { self.new.status ≡ moved_by self.old.status (turn_of result) }
-        ensures kept { self.new ≡ record self.old { status = self.new.status; commits = self.new.commits; work = self.new.work } }
+        ensures kept { self.new ≡ record self.old { status = self.new.status; commits = self.new.commits; work = self.new.work; width = self.new.width } }
         ensures gives_up { GivesUp self.old self.new (turn_of result) }
         ensures deaf { self.old.work ≡ works.Idle → (turn_of result ≡ Waits) × (self.new ≡ self.old) × (out.new ≡ out.old) }
         ensures ready { TransactionReady (ways P.meaning Q.meaning K.meaning P.refuses Q.refuses K.refuses) self.new }
@@ -428,16 +316,19 @@ where
         requires numbers { HasNumbers out.old }
         requires clock { now < 2 ^ 44 }
         ensures moves { (r : Asked) → CallMoves (ways P.meaning Q.meaning K.meaning P.refuses Q.refuses K.refuses) (told_by arrival out.old r).known (told_by arrival out.old r).hear call self.old self.new out.old out.new (turn_of result) }
+        ensures counts { OpenCounts (ways P.meaning Q.meaning K.meaning P.refuses Q.refuses K.refuses) (costs_of P.costs Q.costs K.costs) call (tells_error arrival) (tells_failure arrival) (weight_told arrival) (locked_told arrival) self.old self.new out.old out.new (turn_of result) }
         ensures status { self.new.status ≡ moved_by self.old.status (turn_of result) }
-        ensures kept { self.new ≡ record self.old { status = self.new.status; commits = self.new.commits; work = self.new.work } }
+        ensures kept { self.new ≡ record self.old { status = self.new.status; commits = self.new.commits; work = self.new.work; width = self.new.width } }
         ensures stops { turn_of result ≡ Stopped → self.new.work ≡ works.GaveUp }
         ensures busy { is_open self.new.work ≡ is_waiting (turn_of result) }
         ensures ready { TransactionReady (ways P.meaning Q.meaning K.meaning P.refuses Q.refuses K.refuses) self.new }
         ensures numbers { HasNumbers out.new }
     {
         let mut call = call;
-        let progress = self.tell_open(&mut call, arrival, pd, now, out)?;
-        self.go_on(call, progress)
+        match self.tell_open(&mut call, arrival, pd, now, out) {
+            Ok(progress) => self.go_on(call, progress),
+            Err(_) => self.stop(call),
+        }
     }
 
     fn start_commit(
@@ -453,16 +344,19 @@ where
         requires numbers { HasNumbers out.old }
         requires clock { now < 2 ^ 44 }
         ensures moves { BeginMoves (ways P.meaning Q.meaning K.meaning P.refuses Q.refuses K.refuses) (MayBegin self.old parts) self.old self.new out.old out.new (turn_of result) }
+        ensures counts { TransactionBegins (ways P.meaning Q.meaning K.meaning P.refuses Q.refuses K.refuses) (costs_of P.costs Q.costs K.costs) (commit_price (costs_of P.costs Q.costs K.costs) (Some parts) self.old.commits.timestamp) self.old self.new out.old out.new (turn_of result) }
         ensures status { self.new.status ≡ moved_by self.old.status (turn_of result) }
-        ensures kept { self.new ≡ record self.old { status = self.new.status; commits = self.new.commits; work = self.new.work } }
+        ensures kept { self.new ≡ record self.old { status = self.new.status; commits = self.new.commits; work = self.new.work; width = self.new.width } }
         ensures stops { turn_of result ≡ Stopped → self.new.work ≡ works.GaveUp }
         ensures busy { is_open self.new.work ≡ is_waiting (turn_of result) }
         ensures ready { TransactionReady (ways P.meaning Q.meaning K.meaning P.refuses Q.refuses K.refuses) self.new }
         ensures numbers { HasNumbers out.new }
     {
         let mut call = self.committer(parts);
-        let progress = self.start_call(&mut call, pd, now, out)?;
-        self.go_on(call, progress)
+        match self.start_call(&mut call, pd, now, out) {
+            Ok(progress) => self.go_on(call, progress),
+            Err(_) => self.stop(call),
+        }
     }
 
     /// Prewrites, or sends the Commit of the primary again once one was sent.
@@ -478,6 +372,7 @@ where
         requires numbers { HasNumbers out.old }
         requires clock { now < 2 ^ 44 }
         ensures moves { CommitterMoves (ways P.meaning Q.meaning K.meaning P.refuses Q.refuses K.refuses) (MayStart (plan_of call.old.parts) (version_of call.old.start) self.old.commits) (λ h. h) call.old call.new self.old.commits self.new.commits out.old out.new (turn_of result) }
+        ensures counts { Begins (ways P.meaning Q.meaning K.meaning P.refuses Q.refuses K.refuses) (costs_of P.costs Q.costs K.costs) (commit_price (costs_of P.costs Q.costs K.costs) (Some call.old.parts) self.old.commits.timestamp) call.old call.new out.old out.new (turn_of result) }
         ensures job { IsSameCall call.old call.new }
         ensures kept { self.new ≡ record self.old { commits = self.new.commits } }
         ensures ready { StageReady (ways P.meaning Q.meaning K.meaning P.refuses Q.refuses K.refuses) call.new.stage }
@@ -505,6 +400,7 @@ where
         requires numbers { HasNumbers out.old }
         requires clock { now < 2 ^ 44 }
         ensures moves { CommitterMoves (ways P.meaning Q.meaning K.meaning P.refuses Q.refuses K.refuses) (MayCommit (plan_of call.old.parts) (version_of call.old.start) timestamp self.old.commits) (λ h. h) call.old call.new self.old.commits self.new.commits out.old out.new (turn_of result) }
+        ensures counts { Begins (ways P.meaning Q.meaning K.meaning P.refuses Q.refuses K.refuses) (costs_of P.costs Q.costs K.costs) (commit_again_costs (costs_of P.costs Q.costs K.costs)) call.old call.new out.old out.new (turn_of result) }
         ensures job { IsSameCall call.old call.new }
         ensures kept { self.new ≡ record self.old { commits = self.new.commits } }
         ensures ready { StageReady (ways P.meaning Q.meaning K.meaning P.refuses Q.refuses K.refuses) call.new.stage }
@@ -527,6 +423,7 @@ where
         requires numbers { HasNumbers out.old }
         requires clock { now < 2 ^ 44 }
         ensures moves { (r : Asked) → CommitterMoves (ways P.meaning Q.meaning K.meaning P.refuses Q.refuses K.refuses) (told_by arrival out.old r).known (told_by arrival out.old r).hear call.old call.new self.old.commits self.new.commits out.old out.new (turn_of result) }
+        ensures counts { CommitterCounts (ways P.meaning Q.meaning K.meaning P.refuses Q.refuses K.refuses) (costs_of P.costs Q.costs K.costs) (tells_error arrival) (tells_failure arrival) (weight_told arrival) (locked_told arrival) call.old call.new out.old out.new (turn_of result) }
         ensures job { IsSameCall call.old call.new }
         ensures kept { self.new ≡ record self.old { commits = self.new.commits } }
         ensures ready { StageReady (ways P.meaning Q.meaning K.meaning P.refuses Q.refuses K.refuses) call.new.stage }
@@ -549,13 +446,15 @@ where
     }
 
     fn go_back(&mut self, pd: &mut C, now: u64, out: &mut Outbox) -> Turn<Q>
+        requires idle { is_open self.old.work ≡ false }
         requires start { HasVersion self.old.start }
         requires numbers { HasNumbers out.old }
         requires clock { now < 2 ^ 44 }
         ensures empty { locks_nothing self.old.contents ≡ true → AnswersAtOnce answers.Unit (turn_of result) × (out.new ≡ out.old) }
         ensures moves { BeginMoves (ways P.meaning Q.meaning K.meaning P.refuses Q.refuses K.refuses) (MayGoBack self.old) self.old self.new out.old out.new (turn_of result) }
+        ensures counts { TransactionBegins (ways P.meaning Q.meaning K.meaning P.refuses Q.refuses K.refuses) (costs_of P.costs Q.costs K.costs) (rollback_price (costs_of P.costs Q.costs K.costs) (parts_of self.old.contents)) self.old self.new out.old out.new (turn_of result) }
         ensures status { self.new.status ≡ moved_by statuses.StartedRollback (turn_of result) }
-        ensures kept { self.new ≡ record self.old { status = self.new.status; commits = self.new.commits; work = self.new.work } }
+        ensures kept { self.new ≡ record self.old { status = self.new.status; commits = self.new.commits; work = self.new.work; width = self.new.width } }
         ensures stops { turn_of result ≡ Stopped → self.new.work ≡ works.GaveUp }
         ensures busy { is_open self.new.work ≡ is_waiting (turn_of result) }
         ensures ready { TransactionReady (ways P.meaning Q.meaning K.meaning P.refuses Q.refuses K.refuses) self.new }
@@ -582,8 +481,9 @@ where
         requires clock { now < 2 ^ 44 }
         ensures empty { parts.locks ≡ false → AnswersAtOnce answers.Unit (turn_of result) × (out.new ≡ out.old) }
         ensures moves { BeginMoves (ways P.meaning Q.meaning K.meaning P.refuses Q.refuses K.refuses) (λ h. MayBegin self.old parts h × (undetermined self.old.commits ≡ None)) self.old self.new out.old out.new (turn_of result) }
+        ensures counts { TransactionBegins (ways P.meaning Q.meaning K.meaning P.refuses Q.refuses K.refuses) (costs_of P.costs Q.costs K.costs) (rollback_price (costs_of P.costs Q.costs K.costs) (Some parts)) self.old self.new out.old out.new (turn_of result) }
         ensures status { self.new.status ≡ moved_by self.old.status (turn_of result) }
-        ensures kept { self.new ≡ record self.old { status = self.new.status; commits = self.new.commits; work = self.new.work } }
+        ensures kept { self.new ≡ record self.old { status = self.new.status; commits = self.new.commits; work = self.new.work; width = self.new.width } }
         ensures stops { turn_of result ≡ Stopped → self.new.work ≡ works.GaveUp }
         ensures busy { is_open self.new.work ≡ is_waiting (turn_of result) }
         ensures ready { TransactionReady (ways P.meaning Q.meaning K.meaning P.refuses Q.refuses K.refuses) self.new }
@@ -593,8 +493,10 @@ where
             return Ok(self.nothing_rolled_back());
         }
         let mut call = self.committer(parts);
-        let progress = call.roll_back(pd, now, out)?;
-        self.go_on(call, progress)
+        match call.roll_back(pd, now, out) {
+            Ok(progress) => self.go_on(call, progress),
+            Err(_) => self.stop(call),
+        }
     }
 
     /// Keeps a call that waits, and answers for one that has ended.
@@ -607,8 +509,9 @@ where
         requires start { HasVersion self.old.start }
         requires call { (call.start ≡ self.old.start) × StageReady (ways P.meaning Q.meaning K.meaning P.refuses Q.refuses K.refuses) call.stage }
         ensures takes_up { (o : Posted) → TakesUp (ways P.meaning Q.meaning K.meaning P.refuses Q.refuses K.refuses) call self.old self.new o (turn_of (Ok progress)) (turn_of result) }
+        ensures keeps { Keeps (ways P.meaning Q.meaning K.meaning P.refuses Q.refuses K.refuses) call self.old self.new }
         ensures status { self.new.status ≡ moved_by self.old.status (turn_of result) }
-        ensures kept { self.new ≡ record self.old { status = self.new.status; work = self.new.work } }
+        ensures kept { self.new ≡ record self.old { status = self.new.status; work = self.new.work; width = self.new.width } }
         ensures stops { turn_of result ≡ Stopped → self.new.work ≡ works.GaveUp }
         ensures busy { is_open self.new.work ≡ is_waiting (turn_of result) }
         ensures ready { TransactionReady (ways P.meaning Q.meaning K.meaning P.refuses Q.refuses K.refuses) self.new }
@@ -619,7 +522,7 @@ where
                 Ok(Progress::Waiting)
             }
             Progress::Done(Ok(answer)) => Ok(self.answer(call, answer)),
-            Progress::Done(Err(error)) => self.fail(error),
+            Progress::Done(Err(error)) => self.fail(call, error),
         }
     }
 
@@ -631,9 +534,10 @@ where
         ensures takes_up { (o : Posted) → TakesUp (ways P.meaning Q.meaning K.meaning P.refuses Q.refuses K.refuses) call self.old self.new o (Ends (Ok answer)) (turn_of (Ok result)) }
         ensures ended { HasEnded (turn_of (Ok result)) }
         ensures status { self.new.status ≡ moved_by self.old.status (turn_of (Ok result)) }
-        ensures kept { self.new ≡ record self.old { status = self.new.status; work = works.Idle } }
+        ensures kept { self.new ≡ record self.old { status = self.new.status; work = works.Idle; width = self.new.width } }
+        ensures width { self.new.width ≡ max self.old.width (call_width (ways P.meaning Q.meaning K.meaning P.refuses Q.refuses K.refuses) call) }
     {
-        self.set_work(Work::Idle);
+        self.let_go(&call);
         match answer {
             CommitterAnswer::Committed(timestamp) => {
                 self.reach(Status::Committed);
@@ -667,14 +571,16 @@ where
     }
 
     /// A commit or a rollback ended so. Where a Commit of the primary was lost, nobody knows whether it was served.
-    fn fail(&mut self, error: Error) -> Turn<Q>
+    fn fail(&mut self, call: CommitterCall<P, Q, K>, error: Error) -> Turn<Q>
         requires aside { self.old.work ≡ works.GaveUp }
-        ensures takes_up { (call : Calling P Q K) (o : Posted) → TakesUp (ways P.meaning Q.meaning K.meaning P.refuses Q.refuses K.refuses) call self.old self.new o (Ends (Err error)) (turn_of result) }
+        ensures takes_up { (o : Posted) → TakesUp (ways P.meaning Q.meaning K.meaning P.refuses Q.refuses K.refuses) call self.old self.new o (Ends (Err error)) (turn_of result) }
         ensures fails { HasFailed (turn_of result) }
-        ensures kept { self.new ≡ record self.old { work = self.new.work } }
+        ensures kept { self.new ≡ record self.old { work = self.new.work; width = self.new.width } }
+        ensures width { self.new.width ≡ max self.old.width (call_width (ways P.meaning Q.meaning K.meaning P.refuses Q.refuses K.refuses) call) }
         ensures stops { turn_of result ≡ Stopped → self.new.work ≡ works.GaveUp }
         ensures busy { is_open self.new.work ≡ false }
     {
+        self.note_width(&call);
         let error = self.name_failure(error)?;
         self.set_work(Work::Idle);
         Ok(refused(error))
@@ -793,6 +699,29 @@ where
         matches!(self.work, Work::GaveUp)
     }
 
+    /// The call has ended. No other is open then.
+    fn let_go(&mut self, call: &CommitterCall<P, Q, K>)
+        ensures { self.new ≡ record self.old { work = works.Idle; width = max self.old.width (call_width (ways P.meaning Q.meaning K.meaning P.refuses Q.refuses K.refuses) call.now) } }
+    {
+        self.note_width(call);
+        self.set_work(Work::Idle);
+    }
+
+    fn note_width(&mut self, call: &CommitterCall<P, Q, K>)
+        ensures { self.new ≡ record self.old { width = max self.old.width (call_width (ways P.meaning Q.meaning K.meaning P.refuses Q.refuses K.refuses) call.now) } }
+    {
+        self.width = self.width.max(call.width());
+    }
+
+    /// The call gave up, and so does the transaction.
+    fn stop(&mut self, call: CommitterCall<P, Q, K>) -> Turn<Q>
+        ensures turn { turn_of result ≡ Stopped }
+        ensures state { self.new ≡ record self.old { work = works.GaveUp; width = max self.old.width (call_width (ways P.meaning Q.meaning K.meaning P.refuses Q.refuses K.refuses) call) } }
+    {
+        self.note_width(&call);
+        self.give_up()
+    }
+
     fn give_up(&mut self) -> Turn<Q>
         ensures turn { turn_of result ≡ Stopped }
         ensures state { self.new ≡ record self.old { work = works.GaveUp } }
@@ -800,73 +729,16 @@ where
         self.set_work(Work::GaveUp);
         Err(NoMemory)
     }
-
-    fn insert_new(&mut self, key: Key, value: Value) -> Turn<Q>
-        ensures { WriteEnds None (λ c d. IsStep (with_write c key (after_insert (write_at c key) value)) (insert_call key value) c d) self.old self.new (turn_of result) }
-    {
-        match self.buffer.insert(key, value) {
-            Ok(()) => Ok(done()),
-            Err(_) => self.give_up(),
-        }
-    }
 }
 
-fn refused<Q>(error: Error) -> Progress<TxnAnswer<Q>>
+pub(crate) fn refused<Q>(error: Error) -> Progress<TxnAnswer<Q>>
     ensures { turn_of (Ok result) ≡ Ends (Err error) }
 {
     Progress::Done(Err(error))
 }
 
-fn done<Q>() -> Progress<TxnAnswer<Q>>
+pub(crate) fn done<Q>() -> Progress<TxnAnswer<Q>>
     ensures { turn_of (Ok result) ≡ Ends (Ok answers.Unit) }
 {
     Progress::Done(Ok(TxnAnswer::Unit))
-}
-
-fn is_put_or_delete(op: Op) -> bool
-    ensures { result ≡ is_put_or_delete op }
-{
-    matches!(op, Op::Put | Op::Del)
-}
-
-fn all_put_or_delete(mutations: &[Mutation]) -> bool
-    ensures { result ≡ all_put_or_delete mutations.now }
-{
-    for mutation in mutations {
-        if !is_put_or_delete(mutation.op) {
-            return false;
-        }
-    }
-    true
-}
-
-fn mutate_all(buffer: &mut Buffer, mutations: Vec<Mutation>) -> Result<(), NoMemory>
-    requires { all_put_or_delete mutations.items ≡ true }
-    ensures { OnOk result (AreSteps mutations.items buffer.old buffer.new) }
-{
-    for mutation in mutations {
-        mutate(buffer, mutation)?;
-    }
-    Ok(())
-}
-
-/// A put or a delete.
-fn mutate(buffer: &mut Buffer, mutation: Mutation) -> Result<(), NoMemory>
-    requires { is_put_or_delete mutation.op ≡ true }
-    ensures ok { OnOk result (mutated buffer.old mutation ≡ Some buffer.new) }
-    ensures step { OnOk result (writes buffer.new ≡ after_call buffer.old.is_pessimistic (writes buffer.old) (call_by mutation.op mutation.key mutation.value)) }
-{
-    match mutation.op {
-        Op::Put => buffer.put(mutation.key, mutation.value),
-        _ => buffer.delete(mutation.key),
-    }
-}
-
-fn lock_all(buffer: &mut Buffer, keys: Vec<Key>) -> Result<(), NoMemory>
-    ensures { OnOk result (AreLocked keys.items buffer.old buffer.new) }
-{
-    for key in keys {
-        buffer.lock(key)?;
-    }
-    Ok(())
 }

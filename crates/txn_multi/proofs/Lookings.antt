@@ -9,14 +9,14 @@ use Rattle.std.proofs.lemmas.List.Elements.{All-cons, All-nil}
 use Rattle.txn_history.specs.Event.{Event}
 use Rattle.txn_history.specs.Meaning.{started, Counts, Expects, IsUnbegun, Meaning, Tells, Told}
 use Rattle.txn_history.specs.Moves.{Moves, Moves-before, Moves-map, Moves-quiet, Moves-stops, Moves-then}
-use Rattle.txn_history.specs.Phase.{Awaited, phase_after, unheard}
+use Rattle.txn_history.specs.Phase.{Awaited, unheard}
 use Rattle.txn_history.specs.Phase.Awaited.{EndOf, ReplyTo}
 use Rattle.txn_history.specs.Phase.Phase.{Running}
 use Rattle.txn_history.specs.Posted.{Posted, Within-refl}
-use Rattle.txn_history.specs.Spends.{Spends, calls, is_call, sleeps, spare}
-use Rattle.txn_history.specs.Turn.{failing, is_kept, IfEnds, IfKept-out, Turn}
+use Rattle.txn_history.specs.Spends.{Spends, calls, sleeps, spare}
+use Rattle.txn_history.specs.Turn.{is_kept, IfEnds, IfKept-out, Turn}
 use Rattle.txn_history.specs.Turn.Turn.{Stopped, Waits, Ends}
-use Rattle.txn_history.proofs.Counting.{calls-more, one_if, spare-more}
+use Rattle.txn_history.proofs.Counting.{spare-more}
 use Rattle.txn_history.proofs.Telling.{Expects-quiet, Expects-then, Tells-idle}
 use Rattle.txn_kv.specs.declared.errors.Error.{Error}
 use Rattle.txn_kv.specs.declared.query.PdAnswer.{PdAnswer}
@@ -24,23 +24,19 @@ use Rattle.txn_kv.specs.declared.query.PdQuery.{PdQuery}
 use Rattle.txn_kv.specs.declared.query.PdQuery.TheVariants as query
 use Rattle.txn_kv.specs.declared.request.Request.{Request}
 use Rattle.txn_plan.specs.Applied.{IsApplied}
-use Rattle.txn_plan.specs.LookUp.{call_phase, call_waits, fresh-unbegun, looked_up, something}
-use Rattle.txn_plan.proofs.LookingUp.{PostsTo, Went, deaf_reply, deaf_waking, stands}
+use Rattle.txn_plan.specs.LookUp.{call_waits, fresh-unbegun, looked_up}
+use Rattle.txn_plan.proofs.LastPosted.{calls_none, never_fails, one_awaited}
 use Rattle.txn_region.specs.Clients.{IsPlaceQuery}
 use Rattle.txn_region.specs.declared.store.RegionStore.{RegionStore}
 use Rattle.txn_multi.specs.Cutting.{cut_phase, cut_waits, cutting, cutting-lawful, AreApplied, ArePartsOf, AreWithin, CutAt, GivesParts, IsPartOf, IsPlacement, Looking}
-use Rattle.txn_multi.specs.Searching.{AwaitsLast, Holds, IsTaken, LooksOn}
+use Rattle.txn_multi.specs.Searching.{Holds, IsTaken, LooksOn}
 use Rattle.txn_multi.specs.declared.cut_stage.CutStage.{CutStage}
 use Rattle.txn_multi.specs.declared.cut_stage.CutStage.TheVariants as search
 use Rattle.txn_multi.specs.declared.part.Part.{Part}
 use Rattle.txn_tso.specs.Calling.{CallFits, MayAsk}
-use Rattle.txn_tso.specs.Counting.{asks_of, left_at, CallSpends}
-use Rattle.txn_tso.specs.Heeding.{hears_reply, hears_waking, CallHeeds}
+use Rattle.txn_tso.specs.Counting.{asks_of, CallSpends}
 use Rattle.txn_tso.specs.Placement.{fresh}
-use Rattle.txn_tso.specs.Steps.{Standing}
 use Rattle.txn_tso.specs.declared.pd_call.PdCall.{PdCall}
-use Rattle.txn_tso.specs.declared.stage.Stage.{Stage}
-use Rattle.txn_tso.specs.declared.stage.Stage.TheVariants as stage
 
 -- a plan more
 pub AreApplied-push : {S H : Type 0} (applies : S → H → RegionStore → S → Type 0) (whole : S) (fs : List (H × RegionStore)) (ps : List (Part S)) (f : H × RegionStore) (p : Part S)
@@ -93,9 +89,8 @@ same_length applies whole [] (p ∷ ps) a = absurd a
 same_length applies whole (f ∷ fs) [] a = absurd a
 same_length applies whole (f ∷ fs) (p ∷ ps) a = ap (λ n. suc n) (same_length applies whole fs ps a.1)
 
--- What a look-up of a place posts.
-
-asks_none : (q : PdQuery) → IsPlaceQuery q → asks_of q ≡ 0
+-- a look-up of a place asks for no timestamp
+pub asks_none : (q : PdQuery) → IsPlaceQuery q → asks_of q ≡ 0
 asks_none (query.Region key) p = refl
 asks_none (query.RegionId id) p = refl
 asks_none (query.Store id) p = refl
@@ -103,76 +98,7 @@ asks_none query.Stores p = absurd p
 asks_none query.Time p = absurd p
 asks_none (query.Safepoint t) p = absurd p
 
-left_none : (q : PdQuery) (g : Stage) → IsPlaceQuery q → left_at q g ≡ 0
-left_none q stage.Fresh p = asks_none q p
-left_none q (stage.Sent n) p = refl
-left_none q (stage.Asked n) p = refl
-left_none q (stage.Reconnecting n lost) p = asks_none q p
-left_none q (stage.Resting n lost) p = asks_none q p
-left_none q stage.Over p = refl
-left_none q stage.Stopped p = refl
-
-spare_none : (bad : Bool) → spare bad false 0 ≡ 0
-spare_none true = refl
-spare_none false = refl
-
--- no call of a store
-pub calls_none : (bad : Bool) (old new : PdCall) (from to : Posted) (turn : Turn (Result PdAnswer Error)) → IsPlaceQuery old.query → CallSpends old new bad from to turn → calls to ≤ calls from
-calls_none bad old new from to turn p s =
-    let k : calls to ≤ calls from + left_at old.query old.stage + spare bad false (asks_of old.query + 0 + 0) + 0 = s.stopped 1 0 (omega arith) (omega arith) tt in
-    let l : left_at old.query old.stage ≡ 0 = left_none old.query old.stage p in
-    let a : asks_of old.query ≡ 0 = asks_none old.query p in
-    let z : spare bad false (asks_of old.query + 0 + 0) ≡ 0 = rw a (spare_none bad) in
-    omega arith
-
-is_true : (b : Bool) → (b ≡ false → ⊥) → b ≡ true
-is_true true n = refl
-is_true false n = absurd (n refl)
-
-is_false : (b : Bool) (k l : ℕ) → k ≡ l + one_if b → k ≤ l → b ≡ false
-is_false true k l e m = absurd (omega arith)
-is_false false k l e m = refl
-
-pub hears_if_asking : (g : Stage) (n : ℕ) → call_waits g (ReplyTo n) → hears_reply g n ≡ true
-hears_if_asking g n w = is_true (hears_reply g n) (λ e. deaf_reply g n e (ReplyTo n) refl w)
-
-pub hears_if_resting : (g : Stage) (n : ℕ) → call_waits g (EndOf n) → hears_waking g n ≡ true
-hears_if_resting g n w = is_true (hears_waking g n) (λ e. deaf_waking g n e (EndOf n) refl w)
-
-posts : (b : Bool) (x y : Standing) → Went b x y → b ≡ true → PostsTo x y
-posts b x y (inl w) e = absurd (false≢true (sym w.0 ∙ e))
-posts b x y (inr p) e = p
-
--- a look-up that goes on waits for what it posted
-pub awaits_last : (hears : Bool) (x y : Standing) → hears ≡ true → Went hears x y → calls y.out ≤ calls x.out → call_phase y.call.stage ≡ Running → AwaitsLast y.call y.out
-awaits_last hears x y h w few runs =
-    let a = something y.call.stage runs in
-    let p = posts hears x y w h in
-    let l = p.alone a.0 a.1 in
-    record {
-      before = x.out.sends;
-      last = l.0;
-      posted = l.1;
-      waits = rw l.2 a.1;
-      places = is_false (is_call l.0) (calls y.out) (calls x.out) (calls-more x.out y.out l.0 l.1) few;
-    }
-
-runs_on : (hears : Bool) (x y : Standing) (turn : Turn (Result PdAnswer Error)) → hears ≡ true → CallHeeds hears x turn y → turn ≡ Waits → call_phase y.call.stage ≡ Running
-runs_on hears x y turn h s e = stands x y turn (subst (λ (b : Bool). CallHeeds b x turn y) h s) ∙ ap phase_after e
-
-pub goes_on : (hears : Bool) (x y : Standing) (turn : Turn (Result PdAnswer Error)) → hears ≡ true → Went hears x y → calls y.out ≤ calls x.out → CallHeeds hears x turn y → turn ≡ Waits → AwaitsLast y.call y.out
-goes_on hears x y turn h w few s e = awaits_last hears x y h w few (runs_on hears x y turn h s e)
-
 -- A look-up that is out is the one that is waited for.
-
-one_awaited : (g : Stage) (a b : Awaited) → call_waits g a → call_waits g b → a ≡ b
-one_awaited stage.Fresh a b v w = absurd v
-one_awaited (stage.Sent n) a b v w = v ∙ sym w
-one_awaited (stage.Asked n) a b v w = v ∙ sym w
-one_awaited (stage.Reconnecting n lost) a b v w = v ∙ sym w
-one_awaited (stage.Resting n lost) a b v w = v ∙ sym w
-one_awaited stage.Over a b v w = absurd v
-one_awaited stage.Stopped a b v w = absurd v
 
 held_fits : (call : PdCall) (g : CutStage) (o : Posted) (h : List Event) → Holds call g → CutAt g o h → CallFits call o h
 held_fits call search.Fresh o h i f = absurd i
@@ -212,11 +138,6 @@ held_runs call search.Stopped i = absurd i
 MayAsk-place : (s : PdCall) (h : List Event) (r : Request) → MayAsk s h r → IsPlacement h r
 MayAsk-place s h r (inl a) = inl (s.query, a)
 MayAsk-place s h r (inr a) = inr a
-
-never_fails : {A : Type 0} (turn : Turn A) → failing (λ v. false) turn ≡ false
-never_fails Stopped = refl
-never_fails Waits = refl
-never_fails (Ends v) = refl
 
 both_moves : {A : Type 0} {was mid is : List Event → Type 0} {hear : List Event → List Event} {gives : List Event → A → Type 0} {from via to : Posted} (p : Turn (Result PdAnswer Error)) {turn : Turn A}
     → (p ≡ Stopped → (turn ≡ Stopped) × (to ≡ via))
@@ -363,7 +284,7 @@ module _ {S A H L : Type 0} (m : Meaning S A) (is_part : S → S → Type 0) (lo
       → Counts (cutting m is_part load are_cut) bad' fails weight locked old new from to turn
   counted_after {bad = bad} {fails = fails} {call = call} {from = from} {via = via} call' p f taken spent s =
       counted (rw (ap (λ (c : Looking S H). c.width) taken.same) at s.wider)
-      (le_trans s.calls (calls_none bad call call' from via p taken.place spent))
+      (le_trans s.calls (calls_none bad call call' from via p (asks_none call.query taken.place) spent))
       (let x = s.sleeps in let y = spent.stopped_rests in let z = spare-more bad fails false 1 f in omega arith)
 
   -- it sends its first try
@@ -377,7 +298,7 @@ module _ {S A H L : Type 0} (m : Meaning S A) (is_part : S → S → Type 0) (lo
       after_call kept
       (Moves-map Within-refl (λ h k. (rw e (let u = fresh-unbegun q in u.fits from h), tt)) (λ h f k r a. MayAsk-place call k r a) (λ h f k w i. i) (λ h f k v g. tt) t.moves)
       (let x = t.expects in record { sends = x.sends; pushed = x.pushed; only = λ a w. elim (x.only a w) [ inl y ↦ absurd (rw e at y.0) | inr y ↦ inr y ] })
-      (calls_none false call call' from to p (rw e place) spent)
+      (calls_none false call call' from to p (asks_none call.query (rw e place)) spent)
       (let y = spent.stopped_rests in omega arith)
       s
 

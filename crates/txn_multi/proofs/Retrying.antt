@@ -34,15 +34,15 @@ use Rattle.txn_kv.specs.declared.outbox.Errand.TheVariants.{Sleep}
 use Rattle.txn_kv.specs.declared.region.RegionVerId.{RegionVerId}
 use Rattle.txn_kv.specs.declared.request.Request.{Request}
 use Rattle.txn_kv.specs.declared.ticket.Ticket.{Ticket}
-use Rattle.txn_multi.specs.Arrivals.{awaited_as, is_bad, is_failure, locked_in, told_by, weight_in}
 use Rattle.txn_multi.specs.Cutting.{cut_phase, cutting, cutting-lawful, ArePartsOf, IsPartOf, Looking}
 use Rattle.txn_multi.specs.Task.{failed_longer, region_task, stage_left, stage_phase, stage_runs, task_for, GoesOver, HasFailed, IsChanged, IsRefused, IsTaskOf, IsUnderWay, MayGoOn, StageWaits, StepGives, TaskFits}
-use Rattle.txn_multi.specs.declared.arrival.Arrival.{Arrival}
-use Rattle.txn_multi.specs.declared.arrival.Arrival.TheVariants as arrival
 use Rattle.txn_multi.specs.declared.part.Part.{Part}
 use Rattle.txn_multi.specs.declared.stage.Stage.{Stage}
 use Rattle.txn_multi.specs.declared.stage.Stage.TheVariants as stage
 use Rattle.txn_multi.specs.declared.task.RegionTask.{RegionTask}
+use Rattle.txn_plan.specs.Arrivals.{awaited_as, locked_told, tells_error, tells_failure, told_by, weight_told}
+use Rattle.txn_plan.specs.declared.arrival.Arrival.{Arrival}
+use Rattle.txn_plan.specs.declared.arrival.Arrival.TheVariants as arrival
 use Rattle.txn_retry.specs.Remedy.{on_loss, on_region_error}
 use Rattle.txn_retry.specs.declared.remedy.Next.{Next}
 use Rattle.txn_retry.specs.declared.remedy.Next.TheVariants as next
@@ -86,17 +86,17 @@ heard_is (arrival.Slept n) o r a e = e
 heard_is (arrival.Time n x) o r a e = e
 
 -- a failure is an error
-pub failure_is_bad : (x : Arrival) → is_failure x ≡ true → is_bad x ≡ true
+pub failure_is_bad : (x : Arrival) → tells_failure x ≡ true → tells_error x ≡ true
 failure_is_bad (arrival.Reply n x) e = region_error_is_error x e
 failure_is_bad (arrival.Lost n) e = refl
 failure_is_bad (arrival.Slept n) e = absurd (false≢true e)
 failure_is_bad (arrival.Time n x) e = absurd (false≢true e)
 
 pub record IsNoError (x : Arrival) : Type 0 where
-  pub good : is_bad x ≡ false
-  pub fine : is_failure x ≡ false
-  pub light : weight_in x ≡ 0
-  pub free : locked_in x ≡ 0
+  pub good : tells_error x ≡ false
+  pub fine : tells_failure x ≡ false
+  pub light : weight_told x ≡ 0
+  pub free : locked_told x ≡ 0
 
 -- the end of a sleep tells of no error
 pub end_is_no_error : (x : Arrival) (n : ℕ) → awaited_as x ≡ EndOf n → IsNoError x

@@ -1,4 +1,3 @@
-pub mod Arrivals
 pub mod Cutting
 pub mod Multi
 pub mod Searching

@@ -1,13 +1,13 @@
 -- What the search of a plan's shards does in each of its steps.
-use Rattle.std.specs.Prelude.{◌≡◌, ⊤, ◌≤◌, false, List, [], ◌∷◌, ◌++◌, Result}
+use Rattle.std.specs.Prelude.{◌≡◌, ⊤, ◌≤◌, List, Result}
 use Rattle.std.specs.Global.{Vec}
 use Rattle.txn_history.specs.Event.{Event}
 use Rattle.txn_history.specs.Meaning.{Expects, Meaning}
 use Rattle.txn_history.specs.Moves.{Moves}
-use Rattle.txn_history.specs.Phase.{awaited, phase_after, Awaited}
+use Rattle.txn_history.specs.Phase.{phase_after, Awaited}
 use Rattle.txn_history.specs.Phase.Awaited.{EndOf, ReplyTo}
-use Rattle.txn_history.specs.Posted.{Errand, Posted}
-use Rattle.txn_history.specs.Spends.{calls, is_call, sleeps}
+use Rattle.txn_history.specs.Posted.{Posted}
+use Rattle.txn_history.specs.Spends.{calls, sleeps}
 use Rattle.txn_history.specs.Turn.{IfEnds, Turn}
 use Rattle.txn_kv.specs.declared.errors.Error.{Error}
 use Rattle.txn_multi.specs.Cutting.{cut_phase, cut_waits, AreWithin, CutAt, GivesParts, IsPlacement, Looking}
@@ -40,14 +40,6 @@ pub record IsTaken {S H : Type 0} (a : Awaited) (old new : Looking S H) (call : 
   pub place : IsPlaceQuery call.query
   pub waits : cut_waits old.stage a
   pub same : new ≡ record old { stage = stage.Stopped }
-
--- a look-up waits for what was posted last, which is no call of a store
-pub record AwaitsLast (call : PdCall) (o : Posted) : Type 0 where
-  pub before : List Errand
-  pub last : Errand
-  pub posted : o.sends ≡ before ++ last ∷ []
-  pub waits : call_waits call.stage (awaited last)
-  pub places : is_call last ≡ false
 
 -- The search goes on, after what is known: it asks further, or ends. So far it waited for what `was` says.
 pub record LooksOn {S A H L : Type 0} (m : Meaning S A) (is_part : S → S → Type 0) (load : S → L) (are_cut : L → List L → Type 0)

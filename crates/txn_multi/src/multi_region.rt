@@ -1,4 +1,5 @@
 //! A plan over many regions.
+ghost use Rattle.std.specs.Bool.{MatchBool};
 ghost use Rattle.std.specs.Prelude.{◌≡◌, ◌<◌, ◌^◌, Err, IfOk, None};
 ghost use Rattle.txn_history.specs.Meaning.{started, Counts, Goes, IsUnbegun, Tells};
 ghost use Rattle.txn_history.specs.Phase.{phase_after, unheard};
@@ -7,24 +8,24 @@ ghost use Rattle.txn_history.specs.Posted.{HasNumbers, Posted};
 ghost use Rattle.txn_history.specs.Turn.{turn_of, IfEnds};
 ghost use Rattle.txn_history.specs.Turn.Turn.{Ends, Waits};
 ghost use Rattle.txn_kv.specs.declared.request.Request.{Request as Asked};
-ghost use Rattle.txn_multi.specs.Arrivals.{awaited_as, is_bad, is_failure, locked_in, told_by, weight_in, MayArrive};
 ghost use Rattle.txn_multi.specs.Cutting.{cut_phase, cut_waits, ArePartsOf, GivesParts};
 ghost use Rattle.txn_multi.specs.Multi.{multi, multi-lawful, multi_phase, tasks_for, AfterCut, AfterTasks, Begins, Holding, IsAnswer};
 ghost use Rattle.txn_multi.specs.Task.{region_task, stage_runs};
+ghost use Rattle.txn_plan.specs.Arrivals.{awaited_as, locked_told, tells_error, tells_failure, told_by, weight_told, MayArrive};
 ghost use Rattle.txn_tasks.specs.Tasks.{tasks_phase, tasks_turn, AreReady, LeadsSomewhere};
 
-use crate::arrival::Arrival;
+use crate::arrival::tell_cutting;
 use crate::cutting::Cutting;
 use crate::multi_stage::MultiStage;
 use crate::part::Part;
 use crate::region_plan::RegionPlan;
-use crate::task::{RegionTask, tasks_of};
+use crate::task::{RegionTask, most_parts, tasks_of};
 use std::alloc::Global;
 use std::mem;
 use txn_kv::{Backoff, NoMemory, Outbox, Progress, Reply, Result, Timestamp};
 use txn_merge::has_key_errors::HasKeyErrors;
 use txn_merge::has_region_error::HasRegionError;
-use txn_plan::{Plan, ShardPlan};
+use txn_plan::{Arrival, Plan, ShardPlan};
 use txn_region::PdClient;
 use txn_retry::{all_or_first, keep_all};
 use txn_tasks::Tasks;
@@ -81,6 +82,26 @@ where
         }
     }
 
+    /// The most parts that its request, or a part of it, was cut into so far.
+    pub fn width(&self) -> usize
+        ensures { result ≡ (multi P.meaning P.Result.key_errors_in P.Result.region_error_in P.IsPart P.load P.AreCut).width self.now }
+    {
+        match &self.tasks {
+            Some(tasks) => most_parts(self.width, tasks.tasks()),
+            None => self.width,
+        }
+    }
+
+    /// Whether it was not started, and so has no tasks.
+    fn is_fresh(&self) -> bool
+        ensures { MatchBool result ((self.now.stage ≡ MultiStage.Fresh) × (self.now.tasks ≡ None)) ((self.now.stage ≡ MultiStage.Fresh) × (self.now.tasks ≡ None) → ⊥) }
+    {
+        match (&self.stage, &self.tasks) {
+            (MultiStage::Fresh, None) => true,
+            _ => false,
+        }
+    }
+
     /// What comes of an event that is not for it.
     fn stay(&mut self, stage: MultiStage<P>) -> Turn<P>
         ensures turn { turn_of result ≡ unheard (multi_phase stage) }
@@ -109,7 +130,7 @@ where
         requires clock { now < 2 ^ 44 }
         ensures tells { (r : Asked) → Tells (multi P.meaning P.Result.key_errors_in P.Result.region_error_in P.IsPart P.load P.AreCut) (told_by arrival out.old r) self.old self.new out.old out.new (turn_of result) }
         ensures goes { Goes (multi P.meaning P.Result.key_errors_in P.Result.region_error_in P.IsPart P.load P.AreCut).phase ((multi P.meaning P.Result.key_errors_in P.Result.region_error_in P.IsPart P.load P.AreCut).waits self.old (awaited_as arrival)) self.old self.new out.old out.new pd.old pd.new (turn_of result) }
-        ensures counts { Counts (multi P.meaning P.Result.key_errors_in P.Result.region_error_in P.IsPart P.load P.AreCut) (is_bad arrival) (is_failure arrival) (weight_in arrival) (locked_in arrival) self.old self.new out.old out.new (turn_of result) }
+        ensures counts { Counts (multi P.meaning P.Result.key_errors_in P.Result.region_error_in P.IsPart P.load P.AreCut) (tells_error arrival) (tells_failure arrival) (weight_told arrival) (locked_told arrival) self.old self.new out.old out.new (turn_of result) }
         ensures ready { (multi P.meaning P.Result.key_errors_in P.Result.region_error_in P.IsPart P.load P.AreCut).ready self.new }
         ensures numbers { HasNumbers out.new }
     {
@@ -155,12 +176,12 @@ where
         requires clock { now < 2 ^ 44 }
         ensures tells { (r : Asked) → Tells (multi P.meaning P.Result.key_errors_in P.Result.region_error_in P.IsPart P.load P.AreCut) (told_by arrival out.old r) (record self.old { stage = MultiStage.Cutting cutting }) self.new out.old out.new (turn_of result) }
         ensures goes { Goes (multi P.meaning P.Result.key_errors_in P.Result.region_error_in P.IsPart P.load P.AreCut).phase (cut_waits cutting.stage (awaited_as arrival)) (record self.old { stage = MultiStage.Cutting cutting }) self.new out.old out.new pd.old pd.new (turn_of result) }
-        ensures counts { Counts (multi P.meaning P.Result.key_errors_in P.Result.region_error_in P.IsPart P.load P.AreCut) (is_bad arrival) (is_failure arrival) (weight_in arrival) (locked_in arrival) (record self.old { stage = MultiStage.Cutting cutting }) self.new out.old out.new (turn_of result) }
+        ensures counts { Counts (multi P.meaning P.Result.key_errors_in P.Result.region_error_in P.IsPart P.load P.AreCut) (tells_error arrival) (tells_failure arrival) (weight_told arrival) (locked_told arrival) (record self.old { stage = MultiStage.Cutting cutting }) self.new out.old out.new (turn_of result) }
         ensures ready { (multi P.meaning P.Result.key_errors_in P.Result.region_error_in P.IsPart P.load P.AreCut).ready self.new }
         ensures numbers { HasNumbers out.new }
     {
         let mut cutting = cutting;
-        let turn = arrival.tell_cutting(&mut cutting, pd, now, out);
+        let turn = tell_cutting(arrival, &mut cutting, pd, now, out);
         self.after_cut(cutting, turn, pd, now, out)
     }
 
@@ -237,7 +258,7 @@ where
         requires clock { now < 2 ^ 44 }
         ensures tells { (r : Asked) → Tells (multi P.meaning P.Result.key_errors_in P.Result.region_error_in P.IsPart P.load P.AreCut) (told_by arrival out.old r) (record self.old { stage = MultiStage.Running }) self.new out.old out.new (turn_of result) }
         ensures goes { Goes (multi P.meaning P.Result.key_errors_in P.Result.region_error_in P.IsPart P.load P.AreCut).phase (Holding self.old.tasks (λ t. LeadsSomewhere t (awaited_as arrival))) (record self.old { stage = MultiStage.Running }) self.new out.old out.new pd.old pd.new (turn_of result) }
-        ensures counts { Counts (multi P.meaning P.Result.key_errors_in P.Result.region_error_in P.IsPart P.load P.AreCut) (is_bad arrival) (is_failure arrival) (weight_in arrival) (locked_in arrival) (record self.old { stage = MultiStage.Running }) self.new out.old out.new (turn_of result) }
+        ensures counts { Counts (multi P.meaning P.Result.key_errors_in P.Result.region_error_in P.IsPart P.load P.AreCut) (tells_error arrival) (tells_failure arrival) (weight_told arrival) (locked_told arrival) (record self.old { stage = MultiStage.Running }) self.new out.old out.new (turn_of result) }
         ensures ready { (multi P.meaning P.Result.key_errors_in P.Result.region_error_in P.IsPart P.load P.AreCut).ready self.new }
         ensures numbers { HasNumbers out.new }
     {
@@ -314,7 +335,7 @@ where
     requires clock { now < 2 ^ 44 }
     ensures tells { (inner : P) (r : Asked) → Tells (tasks_for P.meaning P.Result.key_errors_in P.Result.region_error_in P.IsPart P.load P.AreCut inner) (told_by arrival out.old r) tasks.old tasks.new out.old out.new (tasks_turn result) }
     ensures goes { Goes (λ t. tasks_phase t.stage) (LeadsSomewhere tasks.old (awaited_as arrival)) tasks.old tasks.new out.old out.new pd.old pd.new (tasks_turn result) }
-    ensures counts { (inner : P) → Counts (tasks_for P.meaning P.Result.key_errors_in P.Result.region_error_in P.IsPart P.load P.AreCut inner) (is_bad arrival) (is_failure arrival) (weight_in arrival) (locked_in arrival) tasks.old tasks.new out.old out.new (tasks_turn result) }
+    ensures counts { (inner : P) → Counts (tasks_for P.meaning P.Result.key_errors_in P.Result.region_error_in P.IsPart P.load P.AreCut inner) (tells_error arrival) (tells_failure arrival) (weight_told arrival) (locked_told arrival) tasks.old tasks.new out.old out.new (tasks_turn result) }
     ensures ready { AreReady (region_task P.meaning P.Result.key_errors_in P.Result.region_error_in P.IsPart P.load P.AreCut) (λ t. stage_runs t.stage) tasks.new }
     ensures numbers { HasNumbers out.new }
 {
@@ -334,11 +355,11 @@ where
 
     ghost meaning = { multi P.meaning P.Result.key_errors_in P.Result.region_error_in P.IsPart P.load P.AreCut };
 
-    /// A plan that has begun has no copy.
+    /// A plan that has begun has no copy: it is refused as if for want of memory.
     fn try_clone(&self) -> std::result::Result<RetryableMultiRegion<P>, NoMemory> {
-        let MultiStage::Fresh = self.stage else {
+        if !self.is_fresh() {
             return Err(NoMemory);
-        };
+        }
         Ok(RetryableMultiRegion {
             inner: self.inner.try_clone()?,
             backoff: self.backoff,

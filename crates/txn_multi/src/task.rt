@@ -1,6 +1,6 @@
 //! One task of a plan over many regions.
 ghost use Rattle.std.proofs.Math.Nat.{mul-le-mul_left};
-ghost use Rattle.std.specs.Prelude.{◌≡◌, ◌<◌, ◌^◌, ◌*◌, ℕ, Bool, IfOk, Ok, Err, OnOk, false, map, true};
+ghost use Rattle.std.specs.Prelude.{◌≡◌, ◌<◌, ◌^◌, ◌*◌, ℕ, Bool, IfOk, Ok, Err, OnOk, false, map, max, true};
 ghost use Rattle.txn_history.specs.Meaning.{started, Counts, Goes, Tells};
 ghost use Rattle.txn_history.specs.Phase.{phase_after, unheard};
 ghost use Rattle.txn_history.specs.Phase.Awaited.{EndOf};
@@ -9,12 +9,13 @@ ghost use Rattle.txn_history.specs.Posted.{HasNumbers, Posted};
 ghost use Rattle.txn_history.specs.Turn.{IfEnds};
 ghost use Rattle.txn_kv.specs.declared.errors.Error.TheVariants.{GrpcAPI};
 ghost use Rattle.txn_kv.specs.declared.request.Request.{Request as Asked};
-ghost use Rattle.txn_multi.specs.Arrivals.{awaited_as, is_bad, is_failure, locked_in, told_by, weight_in, MayArrive};
 ghost use Rattle.txn_multi.specs.Cutting.{cut_phase, cut_waits, ArePartsOf, GivesParts};
 ghost use Rattle.txn_multi.specs.Task.{region_task, region_task-lawful, runs_running, stage_phase, stage_runs, task_for, CostsOver, GoesOver, HasFailed, IsChanged, IsOutcome, IsReady, IsRefused, IsTaskOf, IsUnderWay, MayGoOn, TaskReady};
+ghost use Rattle.txn_plan.specs.Arrivals.{awaited_as, locked_told, tells_error, tells_failure, told_by, weight_told, MayArrive};
 ghost use Rattle.txn_tasks.specs.Step.{step_turn, IsEnd, Keeps};
+ghost use Rattle.txn_tasks.specs.Tasks.{greatest};
 
-use crate::arrival::Arrival;
+use crate::arrival::tell_cutting;
 use crate::cutting::Cutting;
 use crate::part::Part;
 use crate::region_plan::RegionPlan;
@@ -26,7 +27,7 @@ use txn_kv::{
     Ticket, Timestamp,
 };
 use txn_merge::{HasKeyErrors, HasRegionError};
-use txn_plan::{Plan, ShardPlan};
+use txn_plan::{Arrival, Plan, ShardPlan};
 use txn_region::PdClient;
 use txn_retry::{CacheChange, Next, Remedy, on_loss, on_region_error};
 use txn_tasks::{Step, Task};
@@ -112,7 +113,7 @@ where
         requires clock { now < 2 ^ 44 }
         ensures tells { (r : Asked) → Tells (region_task P.meaning P.Result.key_errors_in P.Result.region_error_in P.IsPart P.load P.AreCut) (told_by arrival out.old r) self.old self.new out.old out.new (step_turn result) }
         ensures goes { Goes (region_task P.meaning P.Result.key_errors_in P.Result.region_error_in P.IsPart P.load P.AreCut).phase ((region_task P.meaning P.Result.key_errors_in P.Result.region_error_in P.IsPart P.load P.AreCut).waits self.old (awaited_as arrival)) self.old self.new out.old out.new pd.old pd.new (step_turn result) }
-        ensures counts { Counts (region_task P.meaning P.Result.key_errors_in P.Result.region_error_in P.IsPart P.load P.AreCut) (is_bad arrival) (is_failure arrival) (weight_in arrival) (locked_in arrival) self.old self.new out.old out.new (step_turn result) }
+        ensures counts { Counts (region_task P.meaning P.Result.key_errors_in P.Result.region_error_in P.IsPart P.load P.AreCut) (tells_error arrival) (tells_failure arrival) (weight_told arrival) (locked_told arrival) self.old self.new out.old out.new (step_turn result) }
         ensures keeps { Keeps (region_task P.meaning P.Result.key_errors_in P.Result.region_error_in P.IsPart P.load P.AreCut) (λ t. P.load t.job) P.AreCut (IsTaskOf P.meaning P.IsPart) (λ t. stage_runs t.stage) self.old self.new (step_turn result) }
         ensures off { stage_runs self.old.stage ≡ false → stage_runs self.new.stage ≡ false }
         ensures ready { TaskReady P.meaning self.new }
@@ -143,7 +144,7 @@ where
         requires clock { now < 2 ^ 44 }
         ensures tells { (r : Asked) → Tells (region_task P.meaning P.Result.key_errors_in P.Result.region_error_in P.IsPart P.load P.AreCut) (told_by arrival out.old r) (record self.old { stage = Stage.Running plan }) self.new out.old out.new (step_turn result) }
         ensures goes { Goes (region_task P.meaning P.Result.key_errors_in P.Result.region_error_in P.IsPart P.load P.AreCut).phase (P.meaning.waits plan (awaited_as arrival)) (record self.old { stage = Stage.Running plan }) self.new out.old out.new pd.old pd.new (step_turn result) }
-        ensures counts { Counts (region_task P.meaning P.Result.key_errors_in P.Result.region_error_in P.IsPart P.load P.AreCut) (is_bad arrival) (is_failure arrival) (weight_in arrival) (locked_in arrival) (record self.old { stage = Stage.Running plan }) self.new out.old out.new (step_turn result) }
+        ensures counts { Counts (region_task P.meaning P.Result.key_errors_in P.Result.region_error_in P.IsPart P.load P.AreCut) (tells_error arrival) (tells_failure arrival) (weight_told arrival) (locked_told arrival) (record self.old { stage = Stage.Running plan }) self.new out.old out.new (step_turn result) }
         ensures keeps { Keeps (region_task P.meaning P.Result.key_errors_in P.Result.region_error_in P.IsPart P.load P.AreCut) (λ t. P.load t.job) P.AreCut (IsTaskOf P.meaning P.IsPart) (λ t. stage_runs t.stage) self.old self.new (step_turn result) }
         ensures ready { TaskReady P.meaning self.new }
         ensures numbers { HasNumbers out.new }
@@ -172,7 +173,7 @@ where
         requires numbers { HasNumbers out.old }
         ensures tells { (r : Asked) → Tells (region_task P.meaning P.Result.key_errors_in P.Result.region_error_in P.IsPart P.load P.AreCut) (told_by arrival out.old r) (record self.old { stage = Stage.Sleeping number }) self.new out.old out.new (step_turn result) }
         ensures goes { Goes (region_task P.meaning P.Result.key_errors_in P.Result.region_error_in P.IsPart P.load P.AreCut).phase (awaited_as arrival ≡ EndOf number) (record self.old { stage = Stage.Sleeping number }) self.new out.old out.new pd.old pd.new (step_turn result) }
-        ensures counts { Counts (region_task P.meaning P.Result.key_errors_in P.Result.region_error_in P.IsPart P.load P.AreCut) (is_bad arrival) (is_failure arrival) (weight_in arrival) (locked_in arrival) (record self.old { stage = Stage.Sleeping number }) self.new out.old out.new (step_turn result) }
+        ensures counts { Counts (region_task P.meaning P.Result.key_errors_in P.Result.region_error_in P.IsPart P.load P.AreCut) (tells_error arrival) (tells_failure arrival) (weight_told arrival) (locked_told arrival) (record self.old { stage = Stage.Sleeping number }) self.new out.old out.new (step_turn result) }
         ensures keeps { Keeps (region_task P.meaning P.Result.key_errors_in P.Result.region_error_in P.IsPart P.load P.AreCut) (λ t. P.load t.job) P.AreCut (IsTaskOf P.meaning P.IsPart) (λ t. stage_runs t.stage) self.old self.new (step_turn result) }
         ensures off { stage_runs self.new.stage ≡ false }
         ensures ready { TaskReady P.meaning self.new }
@@ -201,14 +202,14 @@ where
         requires numbers { HasNumbers out.old }
         ensures tells { (r : Asked) → Tells (region_task P.meaning P.Result.key_errors_in P.Result.region_error_in P.IsPart P.load P.AreCut) (told_by arrival out.old r) (record self.old { stage = Stage.Cutting cutting }) self.new out.old out.new (step_turn result) }
         ensures goes { Goes (region_task P.meaning P.Result.key_errors_in P.Result.region_error_in P.IsPart P.load P.AreCut).phase (cut_waits cutting.stage (awaited_as arrival)) (record self.old { stage = Stage.Cutting cutting }) self.new out.old out.new pd.old pd.new (step_turn result) }
-        ensures counts { Counts (region_task P.meaning P.Result.key_errors_in P.Result.region_error_in P.IsPart P.load P.AreCut) (is_bad arrival) (is_failure arrival) (weight_in arrival) (locked_in arrival) (record self.old { stage = Stage.Cutting cutting }) self.new out.old out.new (step_turn result) }
+        ensures counts { Counts (region_task P.meaning P.Result.key_errors_in P.Result.region_error_in P.IsPart P.load P.AreCut) (tells_error arrival) (tells_failure arrival) (weight_told arrival) (locked_told arrival) (record self.old { stage = Stage.Cutting cutting }) self.new out.old out.new (step_turn result) }
         ensures keeps { Keeps (region_task P.meaning P.Result.key_errors_in P.Result.region_error_in P.IsPart P.load P.AreCut) (λ t. P.load t.job) P.AreCut (IsTaskOf P.meaning P.IsPart) (λ t. stage_runs t.stage) self.old self.new (step_turn result) }
         ensures off { stage_runs self.new.stage ≡ false }
         ensures ready { TaskReady P.meaning self.new }
         ensures numbers { HasNumbers out.new }
     {
         let mut cutting = cutting;
-        match arrival.tell_cutting(&mut cutting, pd, now, out)? {
+        match tell_cutting(arrival, &mut cutting, pd, now, out)? {
             Progress::Waiting => {
                 self.stage = Stage::Cutting(cutting);
                 Ok(None)
@@ -449,6 +450,17 @@ where
         tasks.push(RegionTask::new(alloc, part, backoff))?;
     }
     Ok(tasks)
+}
+
+/// The most parts that one of these gave, where so many were given before.
+pub fn most_parts<P: ShardPlan>(before: usize, tasks: &[RegionTask<P>]) -> usize
+    ensures { result ≡ max before (greatest (λ task. task.width) tasks.now) }
+{
+    let mut most = before;
+    for task in tasks {
+        most = most.max(task.width);
+    }
+    most
 }
 
 /// Tells the client what a failure says of the region.

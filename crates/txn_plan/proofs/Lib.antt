@@ -4,3 +4,4 @@ pub mod Merging
 pub mod Preserving
 pub mod Processing
 pub mod LookingUp
+pub mod LastPosted

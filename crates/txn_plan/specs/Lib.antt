@@ -1,5 +1,6 @@
 pub mod Answered
 pub mod Applied
+pub mod Arrivals
 pub mod Dispatch
 pub mod Extracted
 pub mod Merged

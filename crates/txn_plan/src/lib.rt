@@ -1,6 +1,7 @@
 //! Plans: states that hand out requests and take what comes of them, until they have an answer.
 #![tactic(auto)]
 
+pub mod arrival;
 mod at_store;
 pub mod copy_request;
 pub mod dispatch;
@@ -16,6 +17,7 @@ pub mod stage;
 #[cfg(test)]
 mod tests;
 
+pub use arrival::Arrival;
 pub use copy_request::CopyRequest;
 pub use dispatch::Dispatch;
 pub use extract_error::ExtractError;

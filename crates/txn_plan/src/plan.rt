@@ -1,7 +1,7 @@
 ghost use Rattle.std.specs.Prelude.{◌≡◌, ◌<◌, ◌^◌, true, false, IfOk, is_err};
 ghost use Rattle.std.specs.Result.{result_ok};
 ghost use Rattle.txn_history.specs.Faults.{has_error, has_region_error};
-ghost use Rattle.txn_history.specs.Meaning.{missed, replied, started, timed, woken, Counts, Goes, IsLawful, IsUnbegun, Meaning, Tells};
+ghost use Rattle.txn_history.specs.Meaning.{missed, replied, started, timed, woken, Counts, Goes, IsLawful, Meaning, Tells};
 ghost use Rattle.txn_history.specs.Phase.Awaited.{EndOf, ReplyTo, TimeOf};
 ghost use Rattle.txn_history.specs.Phase.Phase.{Fresh};
 ghost use Rattle.txn_history.specs.Posted.{HasNumbers, ticket_of};
@@ -23,9 +23,10 @@ pub trait Plan: Sized + Drop {
 
     ghost meaning: { Meaning Self (Result Self.Result Error) };
 
-    /// The same state, in new memory. What comes of a plan that has begun is not said.
+    /// The same state, in new memory: it waits for the same. A plan that can be copied only before it begins refuses afterwards,
+    /// as if for want of memory.
     fn try_clone(&self) -> Result<Self, NoMemory>
-        ensures { IfOk result (λ copy. IsUnbegun meaning self.now → copy ≡ self.now) };
+        ensures { IfOk result (λ copy. copy ≡ self.now) };
 
     /// Begins.
     fn start<C: PdClient>(

@@ -1,6 +1,7 @@
 pub mod Apart
 pub mod Believing
 pub mod Calling
+pub mod FirstBytes
 pub mod Ids
 pub mod Indexed
 pub mod Kept

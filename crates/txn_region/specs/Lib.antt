@@ -3,6 +3,7 @@ pub mod Calls
 pub mod Clients
 pub mod Decoded
 pub mod Groups
+pub mod Heads
 pub mod Placement
 pub mod Regions
 pub mod RpcClient

@@ -132,9 +132,9 @@ pub record IsPlaceOf (id : ℕ) (rs : List RegionWithLeader) (at : ℕ) : Type 0
   pub in_range : at < length rs
   pub has : (d : RegionWithLeader) → has_id id (slice_index_or rs at d) ≡ true
 
-abbrev pub without_place : Option ℕ → List RegionWithLeader → List RegionWithLeader
-without_place None rs = rs
-without_place (Some at) rs = remove rs at
+abbrev pub without_place : {X : Type 0} → Option ℕ → List X → List X
+without_place None xs = xs
+without_place (Some at) xs = remove xs at
 
 -- the regions of other ids that meet a new one
 abbrev pub met : Region → List RegionWithLeader → List RegionWithLeader

@@ -5,6 +5,7 @@ pub mod as_key;
 pub mod codec;
 mod decoding;
 mod grouping;
+mod heads;
 pub mod known_store;
 mod law;
 pub mod pd_client;

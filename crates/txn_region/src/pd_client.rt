@@ -235,4 +235,6 @@ pub trait PdClient {
     ghost looked_lent: { (c : Self) (w : RetryClient) → looked c (with_connection c w) };
 
     ghost connection_lent: { (c : Self) (w : RetryClient) → connection (with_connection c w) ≡ w };
+
+    ghost connection_same: { (c : Self) → with_connection c (connection c) ≡ c };
 }

@@ -133,4 +133,6 @@ impl<Cod: Codec> PdClient for PdRpcClient<Cod> {
     ghost looked_lent = { λ _ _. record { regions = refl; stores = refl; encodes = refl; codec = refl } };
 
     ghost connection_lent = { λ _ _. refl };
+
+    ghost connection_same = { λ _. refl };
 }

@@ -8,6 +8,7 @@ ghost use Rattle.txn_region.specs.Stores.{valid_stores};
 ghost use Rattle.txn_region.specs.Calls.{AreDisjoint};
 ghost use Rattle.txn_region.specs.Cache.{after_look_by_id, answer_refusal, cleared, empty, is_pending, is_spent, learnt, look_at_store, look_by_id, look_by_key, or_elsewhere, with_known, with_leader, with_region, without_region, IsGivenUp, IsLearnt, IsRefusal, IsRegionRefusal, IsSoundLook};
 
+use crate::heads::Head;
 use crate::known_store::KnownStore;
 use crate::starts::Starts;
 use crate::{sorted, stores};
@@ -25,6 +26,7 @@ const MAX_WAITS: u32 = 5;
 #[derive(Drop)]
 pub struct RegionCache {
     regions: Vec<RegionWithLeader>,
+    heads: Vec<Option<Head>>,
     starts: Starts,
     stores: Vec<KnownStore>,
     pending: Vec<RegionId>,
@@ -33,6 +35,7 @@ pub struct RegionCache {
 
 impl Model for RegionCache {
     ghost use Rattle.txn_region.specs.Cache.{Cache};
+    ghost use Rattle.txn_region.specs.Heads.{AreHeadsOf};
     ghost use Rattle.txn_region.specs.Regions.{AreKept};
     ghost use Rattle.txn_region.specs.Starts.{AreStartsOf};
 
@@ -40,7 +43,7 @@ impl Model for RegionCache {
 
     ghost view = { λ c. record { regions = c.regions.items; stores = c.stores.items; pending = c.pending.items } };
 
-    ghost invariant = { λ c. AreKept c.regions.items × AreStartsOf c.starts c.regions.items };
+    ghost invariant = { λ c. AreKept c.regions.items × AreHeadsOf c.heads.items c.regions.items × AreStartsOf c.starts c.regions.items };
 }
 
 impl RegionCache {
@@ -50,6 +53,7 @@ impl RegionCache {
     {
         RegionCache {
             regions: Vec::new(alloc),
+            heads: Vec::new(alloc),
             starts: Starts::new(alloc),
             stores: Vec::new(alloc),
             pending: Vec::new(alloc),
@@ -74,7 +78,7 @@ impl RegionCache {
         ensures why { IfErr result (λ error. error ≡ OutOfMemory) }
         ensures same { self.new ≡ self.old }
     {
-        match sorted::find_by_key(self.regions.as_slice(), key) {
+        match sorted::find_by_key(self.regions.as_slice(), self.heads.as_slice(), key) {
             Some(region) => Ok(Look::Found(region.try_clone()?)),
             None => Ok(Look::Query(PdQuery::Region(key.try_clone()?))),
         }
@@ -90,7 +94,8 @@ impl RegionCache {
         ensures err { OnErr result (self.new ≡ self.old) }
         ensures why { IfErr result (IsGivenUp (is_spent id waited self.old)) }
     {
-        if let Some(region) = sorted::find_by_id(self.regions.as_slice(), &self.starts, id) {
+        let heads = self.heads.as_slice();
+        if let Some(region) = sorted::find_by_id(self.regions.as_slice(), heads, &self.starts, id) {
             return Ok(Look::Found(region.try_clone()?));
         }
         if !is_among(self.pending.as_slice(), id) {
@@ -221,7 +226,7 @@ impl RegionCache {
         ensures why { IfErr result (IsRegionRefusal region) }
     {
         refuse(&region.region)?;
-        sorted::put_region(&mut self.regions, &mut self.starts, region)?;
+        sorted::put_region(&mut self.regions, &mut self.heads, &mut self.starts, region)?;
         Ok(())
     }
 
@@ -229,14 +234,15 @@ impl RegionCache {
     pub fn update_leader(&mut self, ver_id: &RegionVerId, leader: Peer)
         ensures { self.new ≡ with_leader ver_id.now leader self.old }
     {
-        sorted::lead(&mut self.regions, &self.starts, ver_id, leader);
+        let heads = self.heads.as_slice();
+        sorted::lead(&mut self.regions, heads, &self.starts, ver_id, leader);
     }
 
     /// Drops the region of an id at an epoch, where it is cached. Takes no memory.
     pub fn invalidate_region_cache(&mut self, ver_id: &RegionVerId)
         ensures { self.new ≡ without_region ver_id.now self.old }
     {
-        sorted::drop_ver_id(&mut self.regions, &mut self.starts, ver_id);
+        sorted::drop_ver_id(&mut self.regions, &mut self.heads, &mut self.starts, ver_id);
     }
 }
 

@@ -1,15 +1,15 @@
 -- A load that is cut into pieces, of which one is cut again.
-use Rattle.std.proofs.Common.{◌≡◌, Bool, true, false, List, [], ◌∷◌, ◌++◌, refl, sym, ap, ◌∙◌, subst, append-nil, append_assoc, inl, inr}
+use Rattle.std.proofs.Common.{◌≡◌, ◌≢◌, Bool, true, false, List, [], ◌∷◌, ◌++◌, refl, sym, ap, ◌∙◌, subst, append-nil, append_assoc, inl, inr}
 use Rattle.std.specs.Prelude.{cond, ⊤}
-use Rattle.std.specs.List.{filter}
+use Rattle.std.specs.List.{All, filter}
 use Rattle.std.proofs.lemmas.List.Concat.{flat_map-append}
-use Rattle.std.proofs.lemmas.List.Elements.{filter-append}
+use Rattle.std.proofs.lemmas.List.Elements.{All-append, All-cons, All-head, All-nil, All-tail, filter-append}
 use Rattle.txn_history.specs.Among.{IsAmong}
 use Rattle.txn_region.specs.Regions.{Key}
 use Rattle.txn_shard.specs.Batches.{joined}
-use Rattle.txn_shard.specs.Order.{in_order}
+use Rattle.txn_shard.specs.Order.{comes_before, in_order, placed}
 use Rattle.txn_shard.specs.Sorted.{Ascends, ascends_in_order, ascends_left, ascends_right, among_in_order, in_order_same}
-use Rattle.txn_shard.specs.Shards.{AreJoined, Range, holds, IsOnce, IsBelow, IsBelowAll, AreAscending, IsPartition}
+use Rattle.txn_shard.specs.Shards.{AreJoined, ArePieces, Range, holds, IsOnce, IsBelow, IsBelowAll, AreAscending, IsPartition}
 
 -- Items
 
@@ -22,6 +22,31 @@ AreJoined-again whole piece before parts behind w p =
     ∙ ap (λ l. l ++ joined behind) (flat_map-append (λ l. l) before parts ∙ ap (λ l. joined before ++ l) p)
     ∙ append_assoc (joined before) piece (joined behind)
     ∙ sym (flat_map-append (λ l. l) before (piece ∷ behind)) ∙ w
+
+pub ArePieces-whole : {X : Type 0} (items : List X) → ArePieces items (items ∷ [])
+ArePieces-whole items = record { joined = AreJoined-whole items; some = λ is. All-cons (λ piece. piece ≢ []) items [] is (All-nil (λ piece. piece ≢ [])) }
+
+-- what holds of each of some holds of each of those behind the first of them
+each_behind : {X : Type 0} (P : X → Type 0) (xs ys : List X) → All P (xs ++ ys) → All P ys
+each_behind P [] ys a = a
+each_behind P (x ∷ xs) ys a = each_behind P xs ys (All-tail P x (xs ++ ys) a)
+
+each_before : {X : Type 0} (P : X → Type 0) (xs ys : List X) → All P (xs ++ ys) → All P xs
+each_before P [] ys a = All-nil P
+each_before P (x ∷ xs) ys a = All-cons P x xs (All-head P x (xs ++ ys) a) (each_before P xs ys (All-tail P x (xs ++ ys) a))
+
+pub ArePieces-again : {X : Type 0} (whole piece : List X) (before parts behind : List (List X)) → ArePieces whole (before ++ piece ∷ behind) → ArePieces piece parts → ArePieces whole (before ++ parts ++ behind)
+ArePieces-again {X} whole piece before parts behind w p = record {
+  joined = AreJoined-again whole piece before parts behind w.joined p.joined;
+  some = λ is.
+    let from = each_behind some before (piece ∷ behind) (w.some is) in
+    All-append some (before ++ parts) behind
+    (All-append some before parts (each_before some before (piece ∷ behind) (w.some is)) (p.some (All-head some piece behind from)))
+    (All-tail some piece behind from);
+}
+  where
+    some : List X → Type 0
+    some xs = xs ≢ []
 
 -- a piece of items in order is in order
 pub piece_in_order : {X : Type 0} (key : X → Key) (items piece : List X) (before behind : List (List X)) → AreJoined (in_order key items) (before ++ piece ∷ behind) → in_order key piece ≡ piece
@@ -43,6 +68,23 @@ pub piece_among : {X : Type 0} (key : X → Key) (items piece : List X) (before 
 piece_among key items piece before behind j x i =
     among_in_order key items x (subst (λ l. IsAmong l x) (sym (flat_map-append (λ l. l) before (piece ∷ behind)) ∙ j)
     (among_right (joined before) (piece ++ joined behind) x (among_left piece (joined behind) x i)))
+
+placed_some : {X : Type 0} (key : X → Key) (x : X) (ys : List X) → placed key x ys ≢ []
+placed_some key x [] e = cc
+placed_some key x (y ∷ ys) e = by (comes_before key y x) e
+  where
+    by : (b : Bool) → cond b (y ∷ placed key x ys) (x ∷ y ∷ ys) ≡ [] → ⊥
+    by true e = cc
+    by false e = cc
+
+in_order_some : {X : Type 0} (key : X → Key) (items : List X) → items ≢ [] → in_order key items ≢ []
+in_order_some key [] is e = is e
+in_order_some key (x ∷ items) is e = placed_some key x (in_order key items) e
+
+-- a piece of items that are not empty is not
+pub some_piece : {X : Type 0} (key : X → Key) (items piece : List X) (before behind : List (List X)) → ArePieces (in_order key items) (before ++ piece ∷ behind) → items ≢ [] → piece ≢ []
+some_piece key items piece before behind cut is =
+    All-head (λ p. p ≢ []) piece behind (each_behind (λ p. p ≢ []) before (piece ∷ behind) (cut.some (in_order_some key items is)))
 
 -- Ranges
 

@@ -1,5 +1,5 @@
 -- A request that is cut becomes a request for a part, and a part of a part is a part.
-use Rattle.std.proofs.Common.{◌≡◌, ℕ, Bool, true, false, ◌≤◌, List, [], ◌∷◌, ◌++◌, length, refl, sym, ap, ◌∙◌, subst, append_assoc, arith}
+use Rattle.std.proofs.Common.{◌≡◌, ◌≢◌, ℕ, Bool, true, false, ◌≤◌, List, [], ◌∷◌, ◌++◌, length, refl, sym, ap, ◌∙◌, subst, append_assoc, arith}
 use Rattle.std.specs.Prelude.{Option, None, IfSome, map, take, drop}
 use Rattle.std.proofs.lemmas.List.Elements.{All-nil}
 use Rattle.std.specs.List.{All}
@@ -20,10 +20,10 @@ use Rattle.txn_kv.specs.declared.request.ScanRequest.{ScanRequest}
 use Rattle.txn_kv.specs.declared.request.TxnHeartBeatRequest.{TxnHeartBeatRequest}
 use Rattle.txn_region.specs.Regions.{Key}
 use Rattle.txn_shard.specs.Batches.{joined}
-use Rattle.txn_shard.specs.Cutting.{piece_among, piece_inside}
+use Rattle.txn_shard.specs.Cutting.{piece_among, piece_inside, some_piece}
 use Rattle.txn_shard.specs.Order.{in_order}
 use Rattle.txn_shard.specs.Parts.{range_by, scan_range, lock_range, GetPart, CleanupPart, TxnHeartBeatPart, CheckTxnStatusPart, BatchGetPart, BatchRollbackPart, PessimisticRollbackPart, CheckSecondaryLocksPart, CommitPart, PrewritePart, PessimisticLockPart, ScanPart, ScanLockPart}
-use Rattle.txn_shard.specs.Shards.{AreJoined, AreEnded, IsAlone, IsAt, IsFresh, IsShard, KeyIsFound, KeyLiesIn, KeysAreFound, KeysLieIn, Range, RangeIsFound, RangeLiesIn, PartIsFound, holds, shards_of, IsPartition}
+use Rattle.txn_shard.specs.Shards.{AreJoined, AreEnded, ArePieces, IsAlone, IsAt, IsFresh, IsShard, KeyIsFound, KeyLiesIn, KeysAreFound, KeysLieIn, Range, RangeIsFound, RangeLiesIn, PartIsFound, holds, shards_of, IsPartition}
 use Rattle.txn_shard.specs.declared.shard_list.ShardList.{ShardList}
 
 -- One key
@@ -116,13 +116,15 @@ CheckSecondaryLocksPart-applied old new shard before behind cut e =
 pub CheckSecondaryLocksPart-part : (a b c : CheckSecondaryLocksRequest) → CheckSecondaryLocksPart a b → CheckSecondaryLocksPart b c → CheckSecondaryLocksPart a c
 CheckSecondaryLocksPart-part a b c p q = (p.0 ∙ ap (λ (r : CheckSecondaryLocksRequest). record r { context = a.context; keys = a.keys }) q.0, λ x among. q.1 x (p.1 x among))
 
-pub CommitPart-applied : (old new : CommitRequest) (shard : List Key) (before behind : List (List Key)) → AreJoined (in_order (λ key. key) old.keys) (before ++ shard ∷ behind) → new ≡ record old { context = new.context; keys = shard } → CommitPart new old
+pub CommitPart-applied : (old new : CommitRequest) (shard : List Key) (before behind : List (List Key)) → ArePieces (in_order (λ key. key) old.keys) (before ++ shard ∷ behind) → new ≡ record old { context = new.context; keys = shard } → CommitPart new old
 CommitPart-applied old new shard before behind cut e =
     let same = ap (λ (r : CommitRequest). r.keys) e in
-    (e ∙ ap (λ items. record old { context = new.context; keys = items }) (sym same), λ x among. piece_among (λ key. key) old.keys shard before behind cut x (subst (λ items. IsAmong items x) same among))
+    (e ∙ ap (λ items. record old { context = new.context; keys = items }) (sym same),
+    (λ x among. piece_among (λ key. key) old.keys shard before behind cut.joined x (subst (λ items. IsAmong items x) same among)),
+    λ is. subst (λ items. items ≢ []) (sym same) (some_piece (λ key. key) old.keys shard before behind cut is))
 
 pub CommitPart-part : (a b c : CommitRequest) → CommitPart a b → CommitPart b c → CommitPart a c
-CommitPart-part a b c p q = (p.0 ∙ ap (λ (r : CommitRequest). record r { context = a.context; keys = a.keys }) q.0, λ x among. q.1 x (p.1 x among))
+CommitPart-part a b c p q = (p.0 ∙ ap (λ (r : CommitRequest). record r { context = a.context; keys = a.keys }) q.0, (λ x among. q.1 x (p.1 x among)), λ is. p.2 (q.2 is))
 
 pub PrewritePart-applied : (old new : PrewriteRequest) (shard : List Mutation) (before behind : List (List Mutation)) → AreJoined (in_order (λ mutation. mutation.key) old.mutations) (before ++ shard ∷ behind) → new ≡ record old { context = new.context; mutations = shard } → PrewritePart new old
 PrewritePart-applied old new shard before behind cut e =

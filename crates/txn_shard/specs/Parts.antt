@@ -1,5 +1,5 @@
 -- A request for a part of what another one asks for: alike but for its context, with some of the keys or a part of the range.
-use Rattle.std.proofs.Common.{◌≡◌, Bool, true, false, List}
+use Rattle.std.proofs.Common.{◌≡◌, ◌≢◌, Bool, true, false, List, []}
 use Rattle.std.specs.Prelude.{Option, Some, Ok}
 use Rattle.txn_history.specs.Among.{IsAmong}
 use Rattle.txn_kv.specs.Region.{context_of}
@@ -28,6 +28,10 @@ IsPlaced store old new = (context : Context) × (context_of store.region_with_le
 
 abbrev pub AreAmong : {X : Type 0} → List X → List X → Type 0
 AreAmong {X} xs ys = (x : X) → IsAmong xs x → IsAmong ys x
+
+-- there is some in the first, where there is some in the second
+abbrev pub HasSome : {X : Type 0} → List X → List X → Type 0
+HasSome xs ys = ys ≢ [] → xs ≢ []
 
 abbrev pub IsWithin : Range → Range → Type 0
 IsWithin a b = (key : Key) → holds a key ≡ true → holds b key ≡ true
@@ -71,8 +75,9 @@ PessimisticRollbackPart p w = (p ≡ record w { context = p.context; keys = p.ke
 abbrev pub CheckSecondaryLocksPart : CheckSecondaryLocksRequest → CheckSecondaryLocksRequest → Type 0
 CheckSecondaryLocksPart p w = (p ≡ record w { context = p.context; keys = p.keys }) × AreAmong p.keys w.keys
 
+-- which names some key, where the other one does
 abbrev pub CommitPart : CommitRequest → CommitRequest → Type 0
-CommitPart p w = (p ≡ record w { context = p.context; keys = p.keys }) × AreAmong p.keys w.keys
+CommitPart p w = (p ≡ record w { context = p.context; keys = p.keys }) × AreAmong p.keys w.keys × HasSome p.keys w.keys
 
 -- Mutations
 

@@ -29,6 +29,11 @@ shards_of found = map (λ f. f.0) found.shards.items
 abbrev pub AreJoined : {X : Type 0} → List X → List (List X) → Type 0
 AreJoined items pieces = joined pieces ≡ items
 
+-- no piece is empty, where there are items
+pub record ArePieces {X : Type 0} (items : List X) (pieces : List (List X)) : Type 0 where
+  pub joined : AreJoined items pieces
+  pub some : items ≢ [] → All (λ piece. piece ≢ []) pieces
+
 -- each of the items' keys lies in the region
 abbrev pub KeysLieIn : {X : Type 0} → (X → Key) → Region → List X → Type 0
 KeysLieIn {X} key region items = (x : X) → IsAmong items x → contains_key region (key x) ≡ true

@@ -6,11 +6,11 @@ ghost use Rattle.txn_kv.specs.declared.message.Mutation.{Mutation as Mutated};
 ghost use Rattle.txn_region.specs.Clients.{IsPlaceQuery, IsUsable, MayRefuseKeyStore, OrStarved};
 ghost use Rattle.txn_region.specs.Groups.{IsKeyGroup};
 ghost use Rattle.txn_region.specs.Regions.{Key as Bytes};
-ghost use Rattle.txn_shard.specs.Cutting.{AreJoined-whole, AreJoined-again, piece_in_order};
+ghost use Rattle.txn_shard.specs.Cutting.{AreJoined-whole, AreJoined-again, ArePieces-whole, ArePieces-again, piece_in_order};
 ghost use Rattle.txn_shard.specs.Order.{in_order};
 ghost use Rattle.txn_shard.specs.Parting.{KeysAreFound-none, BatchGetPart-applied, BatchGetPart-part, BatchRollbackPart-applied, BatchRollbackPart-part, PessimisticRollbackPart-applied, PessimisticRollbackPart-part, CheckSecondaryLocksPart-applied, CheckSecondaryLocksPart-part, CommitPart-applied, CommitPart-part, PrewritePart-applied, PrewritePart-part, PessimisticLockPart-applied, PessimisticLockPart-part};
 ghost use Rattle.txn_shard.specs.Parts.{IsPlaced, BatchGetPart, BatchRollbackPart, PessimisticRollbackPart, CheckSecondaryLocksPart, CommitPart, PrewritePart, PessimisticLockPart};
-ghost use Rattle.txn_shard.specs.Shards.{shards_of, AreJoined, AreShards, KeysAreFound, KeysLieIn};
+ghost use Rattle.txn_shard.specs.Shards.{shards_of, AreJoined, ArePieces, AreShards, KeysAreFound, KeysLieIn};
 ghost use Rattle.txn_shard.specs.declared.batchable.TheConstants.{TXN_COMMIT_BATCH_SIZE};
 
 use crate::batchable::{TXN_COMMIT_BATCH_SIZE, batch_of, in_batches};
@@ -356,7 +356,7 @@ impl Shardable for CommitRequest {
 
     ghost load_of = { λ shard. shard };
 
-    ghost AreCut = { λ whole pieces. AreJoined whole pieces };
+    ghost AreCut = { λ whole pieces. ArePieces whole pieces };
 
     ghost LiesIn = { KeysLieIn (λ key. key) };
 
@@ -390,15 +390,15 @@ impl Shardable for CommitRequest {
 
     ghost none_found = { λ request found fresh. KeysAreFound-none (λ key. key) (λ key. length key) (Some TXN_COMMIT_BATCH_SIZE) (in_order (λ key. key) request.keys) found fresh };
 
-    ghost cut_whole = { AreJoined-whole };
+    ghost cut_whole = { ArePieces-whole };
 
-    ghost cut_again = { AreJoined-again };
+    ghost cut_again = { ArePieces-again };
 
-    ghost applied_load = { λ old new shard store before behind cut applied. ap (λ r. in_order (λ key. key) r.keys) applied.1 ∙ piece_in_order (λ key. key) old.keys shard before behind cut };
+    ghost applied_load = { λ old new shard store before behind cut applied. ap (λ r. in_order (λ key. key) r.keys) applied.1 ∙ piece_in_order (λ key. key) old.keys shard before behind cut.joined };
 
     ghost applied_part = { λ old new shard store before behind cut applied. CommitPart-applied old new shard before behind cut applied.1 };
 
-    ghost part_itself = { λ request. (refl, λ x among. among) };
+    ghost part_itself = { λ request. (refl, (λ x among. among), λ some. some) };
 
     ghost part_of_part = { CommitPart-part };
 }

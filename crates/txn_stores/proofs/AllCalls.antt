@@ -1,12 +1,12 @@
 -- The calls of a plan over all stores, by where it stands.
-use Rattle.std.proofs.Common.{◌≡◌, ◌≢◌, ℕ, ◌+◌, Bool, true, false, List, [], refl, ap, subst, arith}
+use Rattle.std.proofs.Common.{◌≡◌, ◌≢◌, ℕ, ◌+◌, Bool, true, false, List, refl, ap, subst, arith}
 use Rattle.std.proofs.Math.Nat.{le_refl}
 use Rattle.std.proofs.lemmas.Bool.{false≢true}
 use Rattle.std.specs.Global.{Vec}
 use Rattle.std.specs.Prelude.{Option, Some, None, Result}
 use Rattle.txn_history.proofs.Counting.{Spends-quiet}
 use Rattle.txn_history.proofs.Telling.{Tells-idle}
-use Rattle.txn_history.specs.Meaning.{started, Counts, Goes, IsLawful, IsUnbegun, Meaning, Tells, Told}
+use Rattle.txn_history.specs.Meaning.{started, Counts, Goes, IsLawful, Meaning, Tells, Told}
 use Rattle.txn_history.specs.Phase.{unheard, Awaited}
 use Rattle.txn_history.specs.Phase.Awaited.{TimeOf}
 use Rattle.txn_history.specs.Phase.Phase.{Fresh, Running}
@@ -22,7 +22,7 @@ use Rattle.txn_stores.proofs.AllSearching.{with_search, Search-counts, Search-go
 use Rattle.txn_stores.proofs.Tasking.{stands}
 use Rattle.txn_stores.specs.AllFollows.{SearchFollows, TasksFollow}
 use Rattle.txn_stores.specs.AllLaws.{all_stores-lawful}
-use Rattle.txn_stores.specs.AllStores.{all_phase, all_stores, all_waits, ids_of, store_tasks, unbegun_all, AllAt, AllReady, IfRun, IsFreshAll, ReadyAt, TasksReady}
+use Rattle.txn_stores.specs.AllStores.{all_phase, all_stores, all_waits, ids_of, store_tasks, AllAt, AllReady, IfRun, IsFreshAll, ReadyAt, TasksReady}
 use Rattle.txn_stores.specs.Search.{search_phase, search_waits, searching, IsOut}
 use Rattle.txn_stores.specs.StoreTask.{is_running, store_task}
 use Rattle.txn_stores.specs.declared.all_stage.AllStage.{AllStage}
@@ -216,24 +216,7 @@ module _ {S R : Type 0} (m : Meaning S (Result R Error)) (keys : R → List Erro
       let all = all_stores-lawful m keys region at_store law in
       record { spends = rw (never_fails turn) (Spends-quiet (λ f. absurd (false≢true f)) (λ w b. all.bears_more t w (w + weight) (omega arith) b) (λ n. le_refl _)); fewer = λ n. le_refl _ }
 
-  -- a copy
-
-  fresh_stage : (g : AllStage) → all_phase g ≡ Fresh → g ≡ stage.Fresh
-  fresh_stage stage.Fresh e = refl
-  fresh_stage stage.Searching e = cc
-  fresh_stage stage.Running e = cc
-  fresh_stage stage.Over e = cc
-  fresh_stage stage.Stopped e = cc
-
-  nothing : Posted
-  nothing = record { line = 0; beat = false; next = 0; next_ask = 0; sends = [] }
-
-  pub unbegun_is : (t : RetryableAllStores S R) → IsUnbegun plan t → (IsUnbegun m t.inner) × (t ≡ unbegun_all t.inner t.backoff t.alloc)
-  unbegun_is t u =
-      let at = fresh_stage t.stage u.phase in
-      let fits = u.fits nothing [] in
-      let f : IsFreshAll m t = subst (λ (g : AllStage). AllAt m keys region at_store t g nothing []) at fits.at in
-      (f.unbegun, whole t at f.search f.none)
-    where
-      whole : (t : RetryableAllStores S R) → t.stage ≡ stage.Fresh → t.search ≡ record { stage = search_stage.Fresh; alloc = t.alloc } → t.run ≡ None → t ≡ unbegun_all t.inner t.backoff t.alloc
-      whole t a b c = rw (← a, ← b, ← c) refl
+-- a copy of a plan that was not started
+pub copied : {S R : Type 0} (s : RetryableAllStores S R) (inner : S) (search : StoreSearch) → s.stage ≡ stage.Fresh → s.run ≡ None → inner ≡ s.inner → search ≡ s.search
+    → record s { inner = inner; search = search; run = None; stage = stage.Fresh } ≡ s
+copied s inner search fresh none same found = rw (same, found, ← fresh, ← none) refl

@@ -1,5 +1,5 @@
 -- The look-up of all stores, call by call.
-use Rattle.std.proofs.Common.{◌≡◌, ◌≢◌, inl, inr, ℕ, ◌+◌, ◌≤◌, Bool, true, false, List, refl, sym, ap, subst, ◌∙◌, arith}
+use Rattle.std.proofs.Common.{◌≡◌, ◌≢◌, inl, inr, ℕ, ◌+◌, ◌≤◌, Bool, true, false, List, refl, sym, ap, subst, arith}
 use Rattle.std.specs.Prelude.{⊤, Result, Ok, Err}
 use Rattle.std.specs.Global.{Vec}
 use Rattle.std.proofs.Math.Nat.{le_refl, le_trans}
@@ -7,105 +7,34 @@ use Rattle.std.proofs.lemmas.Bool.{false≢true}
 use Rattle.txn_history.specs.Event.{Event}
 use Rattle.txn_history.specs.Meaning.{started, Counts, Expects, Tells, Told}
 use Rattle.txn_history.specs.Moves.{Moves-before, Moves-map, Moves-quiet, Moves-then}
-use Rattle.txn_history.specs.Phase.{Awaited, phase_after, unheard}
+use Rattle.txn_history.specs.Phase.{Awaited, unheard}
 use Rattle.txn_history.specs.Phase.Awaited.{EndOf, ReplyTo}
 use Rattle.txn_history.specs.Phase.Phase.{Running}
 use Rattle.txn_history.specs.Posted.{Posted, Within-refl}
-use Rattle.txn_history.specs.Spends.{Spends, calls, is_call, sleeps, spare}
-use Rattle.txn_history.specs.Turn.{failing, is_kept, IfKept-out, Turn}
+use Rattle.txn_history.specs.Spends.{Spends, calls, sleeps, spare}
+use Rattle.txn_history.specs.Turn.{is_kept, IfKept-out, Turn}
 use Rattle.txn_history.specs.Turn.Turn.{Stopped, Waits, Ends}
-use Rattle.txn_history.proofs.Counting.{calls-more, one_if, spare-more}
+use Rattle.txn_history.proofs.Counting.{spare-more}
 use Rattle.txn_history.proofs.Telling.{Expects-quiet, Expects-then, Tells-idle}
 use Rattle.txn_kv.specs.declared.errors.Error.{Error}
 use Rattle.txn_kv.specs.declared.errors.Error.TheVariants.{OutOfMemory}
 use Rattle.txn_kv.specs.declared.query.PdAnswer.{PdAnswer}
 use Rattle.txn_kv.specs.declared.query.PdQuery.{PdQuery}
 use Rattle.txn_kv.specs.declared.query.PdQuery.TheVariants as query
-use Rattle.txn_plan.specs.LookUp.{call_phase, call_waits, fresh-unbegun, looked_up, something}
-use Rattle.txn_plan.proofs.LookingUp.{PostsTo, Went, deaf_reply, deaf_waking, stands}
+use Rattle.txn_plan.specs.LookUp.{call_waits, fresh-unbegun, looked_up}
+use Rattle.txn_plan.proofs.LastPosted.{calls_none, never_fails, one_awaited}
 use Rattle.txn_region.specs.Clients as clients
 use Rattle.txn_region.specs.declared.store.Store.{Store}
-use Rattle.txn_stores.specs.Search.{search_phase, search_waits, searching, searching-lawful, AwaitsLast, GivesStores, Holds, IsHeard, IsOut, IsRefusal, IsSearched, IsTaken, SearchAt, SearchesOn}
+use Rattle.txn_stores.specs.Search.{search_phase, search_waits, searching, searching-lawful, GivesStores, Holds, IsHeard, IsOut, IsRefusal, IsSearched, IsTaken, SearchAt, SearchesOn}
 use Rattle.txn_stores.specs.declared.search_stage.SearchStage.{SearchStage}
 use Rattle.txn_stores.specs.declared.search_stage.SearchStage.TheVariants as search
 use Rattle.txn_stores.specs.declared.store_search.StoreSearch.{StoreSearch}
 use Rattle.txn_tso.specs.Calling.{CallFits, IsRefused, IsTold, MayAsk}
-use Rattle.txn_tso.specs.Counting.{asks_of, left_at, CallSpends}
-use Rattle.txn_tso.specs.Heeding.{hears_reply, hears_waking, CallHeeds}
+use Rattle.txn_tso.specs.Counting.{asks_of, CallSpends}
 use Rattle.txn_tso.specs.Placement.{fresh}
-use Rattle.txn_tso.specs.Steps.{Standing}
 use Rattle.txn_tso.specs.declared.pd_call.PdCall.{PdCall}
-use Rattle.txn_tso.specs.declared.stage.Stage.{Stage}
-use Rattle.txn_tso.specs.declared.stage.Stage.TheVariants as stage
-
--- What the look-up posts.
-
-left_none : (g : Stage) → left_at query.Stores g ≡ 0
-left_none stage.Fresh = refl
-left_none (stage.Sent n) = refl
-left_none (stage.Asked n) = refl
-left_none (stage.Reconnecting n lost) = refl
-left_none (stage.Resting n lost) = refl
-left_none stage.Over = refl
-left_none stage.Stopped = refl
-
-spare_none : (bad : Bool) → spare bad false 0 ≡ 0
-spare_none true = refl
-spare_none false = refl
-
--- no call of a store
-pub calls_none : (bad : Bool) (old new : PdCall) (from to : Posted) (turn : Turn (Result PdAnswer Error)) → old.query ≡ query.Stores → CallSpends old new bad from to turn → calls to ≤ calls from
-calls_none bad old new from to turn e s =
-    let k : calls to ≤ calls from + left_at old.query old.stage + spare bad false (asks_of old.query + 0 + 0) + 0 = s.stopped 1 0 (omega arith) (omega arith) tt in
-    let l : left_at old.query old.stage ≡ 0 = rw e (left_none old.stage) in
-    let z : spare bad false (asks_of old.query + 0 + 0) ≡ 0 = rw e (spare_none bad) in
-    omega arith
-
-is_true : (b : Bool) → (b ≡ false → ⊥) → b ≡ true
-is_true true n = refl
-is_true false n = absurd (n refl)
-
-is_false : (b : Bool) (k l : ℕ) → k ≡ l + one_if b → k ≤ l → b ≡ false
-is_false true k l e m = absurd (omega arith)
-is_false false k l e m = refl
-
-pub hears_if_asking : (g : Stage) (n : ℕ) → call_waits g (ReplyTo n) → hears_reply g n ≡ true
-hears_if_asking g n w = is_true (hears_reply g n) (λ e. deaf_reply g n e (ReplyTo n) refl w)
-
-pub hears_if_resting : (g : Stage) (n : ℕ) → call_waits g (EndOf n) → hears_waking g n ≡ true
-hears_if_resting g n w = is_true (hears_waking g n) (λ e. deaf_waking g n e (EndOf n) refl w)
-
-posts : (b : Bool) (x y : Standing) → Went b x y → b ≡ true → PostsTo x y
-posts b x y (inl w) e = absurd (false≢true (sym w.0 ∙ e))
-posts b x y (inr p) e = p
-
--- a look-up that goes on waits for what it posted
-awaits_last : (hears : Bool) (x y : Standing) → hears ≡ true → Went hears x y → calls y.out ≤ calls x.out → call_phase y.call.stage ≡ Running → AwaitsLast y.call y.out
-awaits_last hears x y h w few runs =
-    let a = something y.call.stage runs in
-    let p = posts hears x y w h in
-    let l = p.alone a.0 a.1 in
-    record {
-      before = x.out.sends;
-      last = l.0;
-      posted = l.1;
-      waits = rw l.2 a.1;
-      places = is_false (is_call l.0) (calls y.out) (calls x.out) (calls-more x.out y.out l.0 l.1) few;
-    }
-
-pub goes_on : (hears : Bool) (x y : Standing) (turn : Turn (Result PdAnswer Error)) → hears ≡ true → Went hears x y → calls y.out ≤ calls x.out → CallHeeds hears x turn y → turn ≡ Waits → AwaitsLast y.call y.out
-goes_on hears x y turn h w few s e = awaits_last hears x y h w few (stands x y turn (subst (λ (b : Bool). CallHeeds b x turn y) h s) ∙ ap phase_after e)
 
 -- A look-up that is out is the one that is waited for.
-
-one_awaited : (g : Stage) (a b : Awaited) → call_waits g a → call_waits g b → a ≡ b
-one_awaited stage.Fresh a b v w = absurd v
-one_awaited (stage.Sent n) a b v w = v ∙ sym w
-one_awaited (stage.Asked n) a b v w = v ∙ sym w
-one_awaited (stage.Reconnecting n lost) a b v w = v ∙ sym w
-one_awaited (stage.Resting n lost) a b v w = v ∙ sym w
-one_awaited stage.Over a b v w = absurd v
-one_awaited stage.Stopped a b v w = absurd v
 
 held_fits : (call : PdCall) (g : SearchStage) (o : Posted) (h : List Event) → Holds call g → SearchAt g o h → CallFits call o h
 held_fits call search.Fresh o h i f = absurd i
@@ -214,11 +143,6 @@ heard {told = told} {old = old} {call = call} {call' = call'} {from = from} {via
       expects = Expects-then first s.expects;
     }
 
-never_fails : {A : Type 0} (turn : Turn A) → failing (λ v. false) turn ≡ false
-never_fails Stopped = refl
-never_fails Waits = refl
-never_fails (Ends v) = refl
-
 -- no call of a store is made
 pub counted : {bad fails : Bool} {weight locked : ℕ} {old new : StoreSearch} {from to : Posted} {turn : Turn (Result (Vec Store) Error)}
     → calls to ≤ calls from → sleeps to ≤ sleeps from + spare fails false 1
@@ -246,7 +170,7 @@ pub counted_after : {bad bad' fails : Bool} {weight locked : ℕ} {old mid new :
     → Counts searching bad' fails weight locked old new from to turn
 counted_after {bad = bad} {fails = fails} {call = call} {from = from} {via = via} call' p f taken spent s =
     counted
-    (le_trans s.calls (calls_none bad call call' from via p taken.query spent))
+    (le_trans s.calls (calls_none bad call call' from via p (ap asks_of taken.query) spent))
     (let x = s.sleeps in let y = spent.stopped_rests in let z = spare-more bad fails false 1 f in omega arith)
 
 -- it sends its first try
@@ -266,7 +190,7 @@ asked {call = call} {call' = call'} {from = from} {to = to} p e kept t spent s =
       expects = Expects-then first s.expects;
       next = s.next;
       ready = s.ready;
-      calls = le_trans s.calls (calls_none false call call' from to p (ap (λ (c : PdCall). c.query) e) spent);
+      calls = le_trans s.calls (calls_none false call call' from to p (ap (λ (c : PdCall). asks_of c.query) e) spent);
       sleeps = let y = spent.stopped_rests in let z = s.sleeps in omega arith;
     }
 

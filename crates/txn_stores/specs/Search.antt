@@ -1,5 +1,5 @@
 -- The look-up of all stores.
-use Rattle.std.specs.Prelude.{◌≡◌, ◌≢◌, ◌⊎◌, ⊤, ℕ, ◌≤◌, false, List, [], ◌∷◌, ◌++◌, map, Result, Ok, Err, refl}
+use Rattle.std.specs.Prelude.{◌≡◌, ◌≢◌, ◌⊎◌, ⊤, ℕ, ◌≤◌, false, List, map, Result, Ok, Err, refl}
 use Rattle.std.proofs.Common.{subst, sym}
 use Rattle.std.specs.Global.{Vec}
 use Rattle.std.specs.List.{filter}
@@ -7,11 +7,11 @@ use Rattle.txn_history.specs.Event.{Event}
 use Rattle.txn_history.specs.Later.{IsLater}
 use Rattle.txn_history.specs.Meaning.{Expects, IsLawful, Meaning, WasPosted}
 use Rattle.txn_history.specs.Moves.{Knows, Moves}
-use Rattle.txn_history.specs.Phase.{awaited, phase_after, Awaited, IsRunning, Phase}
+use Rattle.txn_history.specs.Phase.{phase_after, Awaited, IsRunning, Phase}
 use Rattle.txn_history.specs.Phase.Awaited.{EndOf, ReplyTo}
 use Rattle.txn_history.specs.Phase.Phase.{Fresh, GivenUp, Over, Running}
-use Rattle.txn_history.specs.Posted.{Errand, Posted, Within}
-use Rattle.txn_history.specs.Spends.{calls, is_call, sleeps}
+use Rattle.txn_history.specs.Posted.{Posted, Within}
+use Rattle.txn_history.specs.Spends.{calls, sleeps}
 use Rattle.txn_history.specs.Turn.{Turn}
 use Rattle.txn_history.specs.Turn.Turn.{Stopped, Waits, Ends}
 use Rattle.txn_kv.specs.declared.errors.Error.{Error}
@@ -106,14 +106,6 @@ pub record IsTaken (a : Awaited) (old new : StoreSearch) (call : PdCall) : Type 
   pub query : call.query ≡ query.Stores
   pub waits : search_waits old.stage a
   pub same : new ≡ record old { stage = stage.Stopped }
-
--- a look-up waits for what was posted last, which is no call of a store
-pub record AwaitsLast (call : PdCall) (o : Posted) : Type 0 where
-  pub before : List Errand
-  pub last : Errand
-  pub posted : o.sends ≡ before ++ last ∷ []
-  pub waits : call_waits call.stage (awaited last)
-  pub places : is_call last ≡ false
 
 -- what is known once the look-up has heard an event, which ended so
 abbrev pub IsHeard : PdCall → Turn (Result PdAnswer Error) → Posted → List Event → Type 0

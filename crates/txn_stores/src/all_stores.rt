@@ -1,6 +1,6 @@
 //! A plan that is sent to every store.
 ghost use Rattle.std.specs.Bool.{MatchBool};
-ghost use Rattle.std.specs.Prelude.{◌≡◌, ◌≢◌, ◌<◌, ◌^◌, IfOk, map};
+ghost use Rattle.std.specs.Prelude.{◌≡◌, ◌≢◌, ◌<◌, ◌^◌, IfOk, None, map};
 ghost use Rattle.txn_history.specs.Meaning.{IsUnbegun};
 ghost use Rattle.txn_history.specs.Phase.{unheard};
 ghost use Rattle.txn_history.specs.Posted.{HasNumbers};
@@ -77,6 +77,16 @@ where
         ensures { MatchBool result (self.now.stage ≡ AllStage.Fresh) (self.now.stage ≢ AllStage.Fresh) }
     {
         matches!(self.stage, AllStage::Fresh)
+    }
+
+    /// Whether it was not started, and so has no tasks.
+    fn is_unbegun(&self) -> bool
+        ensures { MatchBool result ((self.now.stage ≡ AllStage.Fresh) × (self.now.run ≡ None)) ((self.now.stage ≡ AllStage.Fresh) × (self.now.run ≡ None) → ⊥) }
+    {
+        match (self.stage, &self.run) {
+            (AllStage::Fresh, None) => true,
+            _ => false,
+        }
     }
 
     /// What comes of an event that is not for this state.
@@ -173,8 +183,19 @@ where
 
     ghost meaning = { all_stores P.meaning P.Result.key_errors_in P.Result.region_error_in P.at_store };
 
+    /// A plan that has begun has no copy: it is refused as if for want of memory.
     fn try_clone(&self) -> std::result::Result<RetryableAllStores<P>, NoMemory> {
-        Ok(RetryableAllStores::new(self.alloc, self.inner.try_clone()?, self.backoff))
+        if !self.is_unbegun() {
+            return Err(NoMemory);
+        }
+        Ok(RetryableAllStores {
+            inner: self.inner.try_clone()?,
+            backoff: self.backoff,
+            search: self.search.copy()?,
+            run: None,
+            stage: AllStage::Fresh,
+            alloc: self.alloc,
+        })
     }
 
     fn start<C: PdClient>(&mut self, pd: &mut C, now: u64, out: &mut Outbox) -> Turn<P> {

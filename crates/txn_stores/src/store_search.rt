@@ -12,9 +12,9 @@ ghost use Rattle.txn_history.specs.Turn.{turn_of};
 ghost use Rattle.txn_history.specs.Turn.Turn.{Ends, Stopped, Waits};
 ghost use Rattle.txn_kv.specs.declared.query.PdQuery.TheVariants as query;
 ghost use Rattle.txn_kv.specs.declared.request.Request.{Request as Asked};
-ghost use Rattle.txn_plan.specs.LookUp.{call_waits, looked_up};
+ghost use Rattle.txn_plan.specs.LookUp.{call_waits, looked_up, AwaitsLast};
 ghost use Rattle.txn_region.specs.Clients.{IsRefused, OrStarved};
-ghost use Rattle.txn_stores.specs.Search.{search_phase, search_waits, searching, stores_in, AwaitsLast, Holds, IsHeard, IsOut, IsRefusal, IsSearched, IsTaken, SearchesOn};
+ghost use Rattle.txn_stores.specs.Search.{search_phase, search_waits, searching, stores_in, Holds, IsHeard, IsOut, IsRefusal, IsSearched, IsTaken, SearchesOn};
 ghost use Rattle.txn_tso.specs.Placement.{fresh};
 
 use crate::search_stage::SearchStage;
@@ -49,6 +49,16 @@ impl StoreSearch {
             stage: SearchStage::Fresh,
             alloc,
         }
+    }
+
+    /// A search that was started has no copy: it is refused as if for want of memory.
+    pub fn copy(&self) -> std::result::Result<StoreSearch, NoMemory>
+        ensures { IfOk result (λ copy. copy ≡ self.now) }
+    {
+        if !self.is_fresh() {
+            return Err(NoMemory);
+        }
+        Ok(StoreSearch::new(self.alloc))
     }
 
     pub fn start<C: PdClient>(&mut self, pd: &mut C, now: u64, out: &mut Outbox) -> Turn<Vec<Store>>

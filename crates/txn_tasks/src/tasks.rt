@@ -67,6 +67,13 @@ impl<T: Task> Tasks<T> {
         })
     }
 
+    /// All tasks that there are and were, those among them that gave parts.
+    pub fn tasks(&self) -> &[T]
+        ensures { result.now ≡ self.now.tasks.items }
+    {
+        self.tasks.as_slice()
+    }
+
     fn is_fresh(&self) -> bool
         ensures { MatchBool result (self.now.stage ≡ Stage.Fresh) (self.now.stage ≢ Stage.Fresh) }
     {

@@ -1,11 +1,12 @@
-use super::client::NoClient;
+use super::client::FewRegions;
 use crate::PlanBuilder;
 use std::alloc::Global;
 use std::test::Fail;
 use txn_kv::{
-    Backoff, Errand, Error, GetRequest, Key, Outbox, Peer, Progress, Region, RegionEpoch,
-    RegionWithLeader, Request, Target,
+    Backoff, Errand, Error, GetRequest, GetResponse, Key, Outbox, Peer, Progress, Region,
+    RegionEpoch, RegionWithLeader, Reply, Request, Target, Value,
 };
+use txn_merge::CollectSingle;
 use txn_plan::Plan;
 use txn_region::{ApiV1TxnCodec, EncodedRequest, RegionStore};
 
@@ -51,7 +52,7 @@ fn is_aimed(out: &Outbox) -> bool {
 #[test]
 fn a_request_goes_to_the_store_that_is_named(rt: HostRuntime) -> std::result::Result<(), Fail> {
     let alloc = rt.alloc();
-    let mut pd = NoClient::new();
+    let mut pd = FewRegions::new(None);
     let mut out = Outbox::new(alloc, 7, false);
     let leader = Peer { id: 3, store_id: 9 };
     let builder = PlanBuilder::new(alloc, request(alloc));
@@ -65,10 +66,43 @@ fn a_request_goes_to_the_store_that_is_named(rt: HostRuntime) -> std::result::Re
 #[test]
 fn the_shards_of_a_request_are_looked_for(rt: HostRuntime) -> std::result::Result<(), Fail> {
     let alloc = rt.alloc();
-    let mut pd = NoClient::new();
+    let mut pd = FewRegions::new(None);
     let mut out = Outbox::new(alloc, 7, false);
     let builder = PlanBuilder::new(alloc, request(alloc)).retry_multi_region(Backoff::no_backoff());
     let progress = builder.plan().start(&mut pd, 0, &mut out)?;
     assert!(rt; matches!(progress, Progress::Done(Err(Error::Unimplemented))));
+    Ok(())
+}
+
+/// A reply that finds nothing.
+fn reply(alloc: Global) -> Reply {
+    Reply::Get(GetResponse {
+        region_error: None,
+        error: None,
+        value: Value::new(alloc),
+        not_found: true,
+    })
+}
+
+fn finds_nothing(progress: &Progress<GetResponse>) -> bool {
+    match progress {
+        Progress::Done(Ok(reply)) => reply.not_found,
+        _ => false,
+    }
+}
+
+/// The region of the key is known, and its reply is the answer of all.
+#[test]
+fn the_reply_of_the_one_region_is_the_answer(rt: HostRuntime) -> std::result::Result<(), Fail> {
+    let alloc = rt.alloc();
+    let leader = Peer { id: 3, store_id: 9 };
+    let mut pd = FewRegions::new(Some(region(alloc, Some(leader))));
+    let mut out = Outbox::new(alloc, 7, false);
+    let builder = PlanBuilder::new(alloc, request(alloc)).retry_multi_region(Backoff::no_backoff());
+    let mut plan = builder.merge(CollectSingle).plan();
+    plan.start(&mut pd, 0, &mut out)?;
+    assert!(rt; is_aimed(&out));
+    let progress = plan.take_reply(&mut pd, 0, 1, reply(alloc), &mut out)?;
+    assert!(rt; finds_nothing(&progress));
     Ok(())
 }

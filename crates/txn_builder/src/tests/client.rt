@@ -1,4 +1,5 @@
-ghost use Rattle.std.specs.Prelude.{⊤, refl};
+ghost use Rattle.std.specs.Prelude.{◌≡◌, ⊤, refl, true};
+ghost use Rattle.txn_region.specs.Clients.{IsFoundAt};
 
 use txn_kv::{
     Error, Key, Look, PdAnswer, PdQuery, Peer, RegionId, RegionVerId, RegionWithLeader, Result,
@@ -7,23 +8,36 @@ use txn_kv::{
 use txn_region::{ApiV1TxnCodec, PdClient, RegionStore, Store};
 use txn_tso::{Cluster, PdCall, RetryClient};
 
-/// A client that knows nothing and refuses each look-up.
+/// A client that knows one region or none, and refuses each other look-up.
 #[derive(Drop)]
-pub struct NoClient {
+pub struct FewRegions {
+    known: Option<RegionStore>,
     connection: RetryClient,
     codec: ApiV1TxnCodec,
 }
 
-impl NoClient {
-    pub fn new() -> NoClient {
-        NoClient {
+/// Whether requests for the key can be made for the region.
+fn holds(region: &RegionWithLeader, key: &Key) -> bool
+    ensures { result ≡ true → IsFoundAt key.now region.now }
+{
+    let range = &region.region;
+    region.contains(key)
+        && (range.start_key < range.end_key || range.end_key.is_empty())
+        && range.region_epoch.is_some()
+        && region.leader.is_some()
+}
+
+impl FewRegions {
+    pub fn new(known: Option<RegionStore>) -> FewRegions {
+        FewRegions {
+            known,
             connection: RetryClient::new(Cluster { id: 0 }, 0),
             codec: ApiV1TxnCodec {},
         }
     }
 }
 
-impl PdClient for NoClient {
+impl PdClient for FewRegions {
     type Codec = ApiV1TxnCodec;
 
     ghost asks = { λ _ _. ⊤ };
@@ -46,7 +60,13 @@ impl PdClient for NoClient {
 
     ghost codec = { λ c. c.codec };
 
-    fn region_for_key(&mut self, _key: &Key) -> Result<Look<RegionWithLeader>> {
+    fn region_for_key(&mut self, key: &Key) -> Result<Look<RegionWithLeader>> {
+        if let Some(known) = &self.known {
+            let region = &known.region_with_leader;
+            if holds(region, key) {
+                return Ok(Look::Found(region.try_clone()?));
+            }
+        }
         Err(Error::Unimplemented)
     }
 
@@ -54,8 +74,11 @@ impl PdClient for NoClient {
         Err(Error::Unimplemented)
     }
 
-    fn map_region_to_store(&mut self, _region: RegionWithLeader) -> Result<Look<RegionStore>> {
-        Err(Error::Unimplemented)
+    fn map_region_to_store(&mut self, region: RegionWithLeader) -> Result<Look<RegionStore>> {
+        match &self.known {
+            Some(known) => Ok(Look::Found(RegionStore::new(region, known.store))),
+            None => Err(Error::Unimplemented),
+        }
     }
 
     fn all_stores(&mut self) -> Result<Look<Vec<Store>>> {
@@ -99,4 +122,6 @@ impl PdClient for NoClient {
     ghost looked_lent = { λ c w. tt };
 
     ghost connection_lent = { λ c w. refl };
+
+    ghost connection_same = { λ c. refl };
 }

@@ -1,14 +1,14 @@
 //! A commit of two keys, the job behind it, and a rollback, request by request.
-ghost use Rattle.txn_commit.specs.Arrivals.{MayArrive};
 ghost use Rattle.txn_commit.specs.Committing.{StageReady, ways};
 ghost use Rattle.txn_commit.specs.Jobs.{JobReady};
 ghost use Rattle.txn_history.specs.Posted.{HasNumbers};
 ghost use Rattle.txn_kv.specs.Timestamp.{HasVersion};
+ghost use Rattle.txn_plan.specs.Arrivals.{MayArrive};
 
 use super::client::NoClient;
 use super::plans::Once;
 use crate::{
-    Arrival, CommitParts, CommitterAnswer, CommitterCall, PlanFor, PrimaryCommits, SecondaryJob,
+    CommitParts, CommitterAnswer, CommitterCall, PlanFor, PrimaryCommits, SecondaryJob,
 };
 use std::alloc::Global;
 use std::test::Fail;
@@ -19,6 +19,7 @@ use txn_kv::{
     Value,
 };
 use txn_merge::RetryOptions;
+use txn_plan::Arrival;
 use txn_region::PdClient;
 
 type Call = CommitterCall<Once<PrewriteRequest>, Once<CommitRequest>, Once<BatchRollbackRequest>>;

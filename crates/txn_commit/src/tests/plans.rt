@@ -38,16 +38,12 @@ impl PlanFor<CommitRequest> for Once<CommitRequest> {
 
     ghost costs = { λ _ _. 1 };
 
-    /// A Commit of no key has no plan.
     fn plan_for<C: PdClient>(
         alloc: Global,
         _pd: &C,
         request: CommitRequest,
         _retry_options: RetryOptions,
     ) -> Result<Self, NoMemory> {
-        if request.keys.as_slice().is_empty() {
-            return Err(NoMemory);
-        }
         let sent = Dispatch::new(request, Some(1));
         Ok(ExtractError::new(alloc, sent))
     }

@@ -1,50 +1,127 @@
-ghost use Rattle.std.specs.Prelude.{⊤, refl};
-ghost use Rattle.txn_region.specs.Regions.{Key as Bytes};
+ghost use Rattle.std.specs.Prelude.{◌≡◌, ⊤, refl, true};
 ghost use Rattle.txn_region.specs.Clients.{IsFoundAt};
 
 use std::alloc::Global;
 use txn_kv::{
-    Error, Key, Look, PdAnswer, PdQuery, Peer, Region, RegionEpoch, RegionId, RegionVerId,
-    RegionWithLeader, Result, Timestamp,
+    Error, Key, Look, NoMemory, PdAnswer, PdQuery, Peer, Region, RegionEpoch, RegionId,
+    RegionVerId, RegionWithLeader, Result, Timestamp,
 };
 use txn_region::{ApiV1TxnCodec, PdClient, RegionStore, Store};
+use txn_retry::CacheChange;
 use txn_tso::{Cluster, PdCall, RetryClient};
 
-/// A client that believes in one region, which holds all keys and is led by store 9.
+/// The key of this byte.
+pub fn key(alloc: Global, byte: u8) -> std::result::Result<Key, NoMemory> {
+    let mut bytes = Vec::new(alloc);
+    bytes.push(byte)?;
+    Ok(Key::from(bytes))
+}
+
+/// A client that believes in the regions that some keys divide, and keeps what it was last told of a region. It may forget each
+/// region and store once it has found it, and asks the placement driver for what it does not know.
 #[derive(Drop)]
-pub struct OneRegion {
+pub struct Regions {
+    regions: Vec<RegionWithLeader>,
+    forgets: bool,
+    knows_region: bool,
+    knows_store: bool,
+    told: CacheChange,
     connection: RetryClient,
     codec: ApiV1TxnCodec,
-    alloc: Global,
 }
 
-/// It begins nowhere and ends nowhere.
-fn the_region(alloc: Global) -> RegionWithLeader
-    ensures { (key : Bytes) → IsFoundAt key result }
-{
-    let region = Region {
-        id: 4,
-        start_key: Key::empty(alloc),
-        end_key: Key::empty(alloc),
+/// A region of epoch 2 and 2, led by the store of its own id.
+pub fn region(id: RegionId, start_key: Key, end_key: Key) -> Region {
+    Region {
+        id,
+        start_key,
+        end_key,
         region_epoch: Some(RegionEpoch {
-            conf_ver: 1,
-            version: 1,
+            conf_ver: 2,
+            version: 2,
         }),
-    };
-    RegionWithLeader::new(region, Some(Peer { id: 3, store_id: 9 }))
+    }
 }
 
-impl OneRegion {
-    pub fn new(alloc: Global) -> OneRegion {
-        OneRegion {
+fn led(region: Region) -> RegionWithLeader {
+    let store_id = region.id;
+    RegionWithLeader::new(region, Some(Peer { id: 7, store_id }))
+}
+
+/// The regions that begin at the start and at these bytes, which ascend. Their ids count from 1.
+fn divided(alloc: Global, splits: &[u8]) -> std::result::Result<Vec<RegionWithLeader>, NoMemory> {
+    let mut regions = Vec::new(alloc);
+    let mut start = Key::empty(alloc);
+    let mut id = 1_u64;
+    for split in splits {
+        let end = key(alloc, *split)?;
+        regions.push(led(region(id, start, end.try_clone()?)))?;
+        start = end;
+        id = id.saturating_add(1);
+    }
+    regions.push(led(region(id, start, Key::empty(alloc))))?;
+    Ok(regions)
+}
+
+/// Whether requests for the key can be made for the region.
+fn holds(region: &RegionWithLeader, key: &Key) -> bool
+    ensures { result ≡ true → IsFoundAt key.now region.now }
+{
+    let range = &region.region;
+    region.contains(key)
+        && (range.start_key < range.end_key || range.end_key.is_empty())
+        && range.region_epoch.is_some()
+        && region.leader.is_some()
+}
+
+impl Regions {
+    /// It knows all regions.
+    pub fn new(alloc: Global, splits: &[u8]) -> std::result::Result<Regions, NoMemory> {
+        Ok(Regions {
+            regions: divided(alloc, splits)?,
+            forgets: false,
+            knows_region: true,
+            knows_store: true,
+            told: CacheChange::Keep,
             connection: RetryClient::new(Cluster { id: 0 }, 0),
             codec: ApiV1TxnCodec {},
-            alloc,
+        })
+    }
+
+    /// It knows nothing from now on, but what it asks for the next time.
+    pub fn forget(&mut self) {
+        self.forgets = true;
+        self.forget_found();
+    }
+
+    fn forget_found(&mut self) {
+        if self.forgets {
+            self.knows_region = false;
+            self.knows_store = false;
+        }
+    }
+
+    /// Other bytes divide the regions from now on.
+    pub fn divide(&mut self, alloc: Global, splits: &[u8]) -> std::result::Result<(), NoMemory> {
+        self.regions = divided(alloc, splits)?;
+        Ok(())
+    }
+
+    /// What it was last told of a region.
+    pub fn told(&self) -> CacheChange {
+        self.told
+    }
+
+    fn keep(&mut self, query: &PdQuery) {
+        match query {
+            PdQuery::Region(_) => self.knows_region = true,
+            PdQuery::Store(_) => self.knows_store = true,
+            _ => {}
         }
     }
 }
 
-impl PdClient for OneRegion {
+impl PdClient for Regions {
     type Codec = ApiV1TxnCodec;
 
     ghost asks = { λ _ _. ⊤ };
@@ -67,8 +144,16 @@ impl PdClient for OneRegion {
 
     ghost codec = { λ c. c.codec };
 
-    fn region_for_key(&mut self, _key: &Key) -> Result<Look<RegionWithLeader>> {
-        Ok(Look::Found(the_region(self.alloc)))
+    fn region_for_key(&mut self, key: &Key) -> Result<Look<RegionWithLeader>> {
+        if !self.knows_region {
+            return Ok(Look::Query(PdQuery::Region(key.try_clone()?)));
+        }
+        for region in &self.regions {
+            if holds(region, key) {
+                return Ok(Look::Found(region.try_clone()?));
+            }
+        }
+        Err(Error::Unimplemented)
     }
 
     fn region_for_id(&mut self, _id: RegionId, _waited: u32) -> Result<Look<RegionWithLeader>> {
@@ -76,7 +161,12 @@ impl PdClient for OneRegion {
     }
 
     fn map_region_to_store(&mut self, region: RegionWithLeader) -> Result<Look<RegionStore>> {
-        Ok(Look::Found(RegionStore::new(region, 9)))
+        let store = region.get_store_id()?;
+        if !self.knows_store {
+            return Ok(Look::Query(PdQuery::Store(store)));
+        }
+        self.forget_found();
+        Ok(Look::Found(RegionStore::new(region, store)))
     }
 
     fn all_stores(&mut self) -> Result<Look<Vec<Store>>> {
@@ -99,18 +189,29 @@ impl PdClient for OneRegion {
         &mut self.connection
     }
 
-    fn learn(&mut self, _query: &PdQuery, answer: &Result<PdAnswer>) -> Result<()> {
+    fn learn(&mut self, query: &PdQuery, answer: &Result<PdAnswer>) -> Result<()> {
         match answer {
-            Ok(_) => Ok(()),
-            Err(_) => Err(Error::OutOfMemory),
+            Ok(_) => {
+                self.keep(query);
+                Ok(())
+            }
+            Err(error) => Err(error.try_clone()?),
         }
     }
 
-    fn update_leader(&mut self, _ver_id: &RegionVerId, _leader: Peer) -> Result<()> {
+    fn update_leader(&mut self, ver_id: &RegionVerId, leader: Peer) -> Result<()> {
+        for region in &mut self.regions {
+            if region.region.id == ver_id.id {
+                region.leader = Some(leader);
+            }
+        }
+        self.told = CacheChange::UpdateLeader(leader);
         Ok(())
     }
 
-    fn invalidate_region_cache(&mut self, _ver_id: &RegionVerId) {}
+    fn invalidate_region_cache(&mut self, _ver_id: &RegionVerId) {
+        self.told = CacheChange::Invalidate;
+    }
 
     fn get_codec(&self) -> &ApiV1TxnCodec {
         &self.codec
@@ -123,4 +224,6 @@ impl PdClient for OneRegion {
     ghost looked_lent = { λ c w. tt };
 
     ghost connection_lent = { λ c w. refl };
+
+    ghost connection_same = { λ c. refl };
 }

@@ -1,14 +1,15 @@
 //! A plan with its client and its outbox.
-use super::client::OneRegion;
+use super::client::Regions;
 use std::alloc::Global;
 use std::marker::Model;
 use txn_kv::{Errand, NoMemory, Outbox, Progress, Reply};
 use txn_plan::Plan;
+use txn_retry::CacheChange;
 
 #[derive(Drop)]
 pub struct Line<P: Plan> {
     plan: P,
-    pd: OneRegion,
+    pd: Regions,
     out: Outbox,
 }
 
@@ -23,12 +24,12 @@ impl<P: Plan> Model for Line<P> {
 }
 
 impl<P: Plan> Line<P> {
-    pub fn new(alloc: Global, plan: P) -> Line<P>
+    pub fn new(alloc: Global, plan: P, pd: Regions) -> Line<P>
         requires { P.meaning.ready plan }
     {
         Line {
             plan,
-            pd: OneRegion::new(alloc),
+            pd,
             out: Outbox::new(alloc, 7, false),
         }
     }
@@ -53,5 +54,15 @@ impl<P: Plan> Line<P> {
     /// What was posted.
     pub fn errands(&self) -> &[Errand] {
         self.out.sends.as_slice()
+    }
+
+    /// Other bytes divide the regions from now on.
+    pub fn divide(&mut self, alloc: Global, splits: &[u8]) -> Result<(), NoMemory> {
+        self.pd.divide(alloc, splits)
+    }
+
+    /// What the client was last told of a region.
+    pub fn told(&self) -> CacheChange {
+        self.pd.told()
     }
 }

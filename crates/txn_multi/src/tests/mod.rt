@@ -1,3 +1,7 @@
 mod client;
 mod line;
+mod losses;
+mod many;
 mod retries;
+mod run;
+mod table;

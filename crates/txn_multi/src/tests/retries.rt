@@ -1,27 +1,26 @@
+use super::client::Regions;
 use super::line::Line;
 use crate::RetryableMultiRegion;
 use std::alloc::Global;
 use std::test::Fail;
 use txn_kv::{
-    Backoff, Errand, Error, GetRequest, GetResponse, Key, Peer, Progress, RegionErr, Reply, Result,
-    Target, Value,
+    Backoff, Errand, Error, GetRequest, GetResponse, Key, NoMemory, Peer, Progress, RegionErr,
+    Reply, Result, Target, Value,
 };
 use txn_plan::Dispatch;
 
 type Getting = RetryableMultiRegion<Dispatch<GetRequest>>;
 
-/// A Get on its own line.
-fn line(alloc: Global, backoff: Backoff) -> Line<Getting> {
+/// A Get on its own line. Its region is led by store 1.
+fn line(alloc: Global, backoff: Backoff) -> std::result::Result<Line<Getting>, NoMemory> {
     let request = GetRequest {
         context: None,
         key: Key::empty(alloc),
         version: 5,
     };
     let inner = Dispatch::new(request, None);
-    Line::new(
-        alloc,
-        RetryableMultiRegion::new(alloc, inner, backoff, false),
-    )
+    let plan = RetryableMultiRegion::new(alloc, inner, backoff, false);
+    Ok(Line::new(alloc, plan, Regions::new(alloc, &[])?))
 }
 
 /// A reply that finds nothing, or is refused for its region.
@@ -39,11 +38,11 @@ fn unknown(alloc: Global) -> Reply {
 }
 
 fn led_elsewhere(alloc: Global) -> Reply {
-    let leader = Some(Peer { id: 5, store_id: 9 });
+    let leader = Some(Peer { id: 5, store_id: 1 });
     reply(
         alloc,
         Some(RegionErr::NotLeader {
-            region_id: 4,
+            region_id: 1,
             leader,
         }),
     )
@@ -68,10 +67,10 @@ fn is_waiting(progress: &Progress<Vec<Result<GetResponse>>>) -> bool {
     matches!(progress, Progress::Waiting)
 }
 
-/// Whether the errand of this place is a request to store 9.
+/// Whether the errand of this place is a request to store 1.
 fn goes_to_the_store(errands: &[Errand], at: usize) -> bool {
     match errands.get(at) {
-        Some(Errand::Send { to, .. }) => matches!(to, Target::Store(9)),
+        Some(Errand::Send { to, .. }) => matches!(to, Target::Store(1)),
         _ => false,
     }
 }
@@ -79,7 +78,7 @@ fn goes_to_the_store(errands: &[Errand], at: usize) -> bool {
 #[test]
 fn a_request_goes_to_its_region(rt: HostRuntime) -> std::result::Result<(), Fail> {
     let alloc = rt.alloc();
-    let mut line = line(alloc, Backoff::no_jitter_backoff(1, 1, 3));
+    let mut line = line(alloc, Backoff::no_jitter_backoff(1, 1, 3))?;
     line.start()?;
     assert!(rt; goes_to_the_store(line.errands(), 0));
     let progress = line.reply(1, reply(alloc, None))?;
@@ -93,7 +92,7 @@ fn a_region_that_is_not_known_is_asked_for_four_times(
     rt: HostRuntime,
 ) -> std::result::Result<(), Fail> {
     let alloc = rt.alloc();
-    let mut line = line(alloc, Backoff::no_jitter_backoff(1, 1, 3));
+    let mut line = line(alloc, Backoff::no_jitter_backoff(1, 1, 3))?;
     line.start()?;
     line.reply(1, unknown(alloc))?;
     line.wake(2)?;
@@ -109,7 +108,7 @@ fn a_region_that_is_not_known_is_asked_for_four_times(
 
 #[test]
 fn a_loss_is_the_answer_where_no_attempt_is_left(rt: HostRuntime) -> std::result::Result<(), Fail> {
-    let mut line = line(rt.alloc(), Backoff::no_backoff());
+    let mut line = line(rt.alloc(), Backoff::no_backoff())?;
     line.start()?;
     let progress = line.lose(1)?;
     assert!(rt; is_lost(&progress));
@@ -119,7 +118,7 @@ fn a_loss_is_the_answer_where_no_attempt_is_left(rt: HostRuntime) -> std::result
 #[test]
 fn a_new_leader_is_asked_at_once(rt: HostRuntime) -> std::result::Result<(), Fail> {
     let alloc = rt.alloc();
-    let mut line = line(alloc, Backoff::no_jitter_backoff(1, 1, 3));
+    let mut line = line(alloc, Backoff::no_jitter_backoff(1, 1, 3))?;
     line.start()?;
     line.reply(1, led_elsewhere(alloc))?;
     assert!(rt; goes_to_the_store(line.errands(), 1));
@@ -129,7 +128,7 @@ fn a_new_leader_is_asked_at_once(rt: HostRuntime) -> std::result::Result<(), Fai
 #[test]
 fn a_reply_after_the_end_changes_nothing(rt: HostRuntime) -> std::result::Result<(), Fail> {
     let alloc = rt.alloc();
-    let mut line = line(alloc, Backoff::no_jitter_backoff(1, 1, 3));
+    let mut line = line(alloc, Backoff::no_jitter_backoff(1, 1, 3))?;
     line.start()?;
     line.reply(1, reply(alloc, None))?;
     let late = line.reply(1, led_elsewhere(alloc))?;

@@ -157,6 +157,19 @@ fn a_copy_asks_the_same(rt: HostRuntime) -> std::result::Result<(), Fail> {
 }
 
 #[test]
+fn a_copy_waits_for_the_same(rt: HostRuntime) -> std::result::Result<(), Fail> {
+    let alloc = rt.alloc();
+    let mut pd = NoClient::new();
+    let mut out = Outbox::new(alloc, 7, false);
+    let mut plan = Dispatch::new(request(alloc), Some(3));
+    plan.start(&mut pd, 0, &mut out)?;
+    let mut copy = plan.try_clone()?;
+    let answer = copy.take_reply(&mut pd, 1, 1, Reply::Get(found(alloc)?), &mut out)?;
+    assert_eq!(rt; value_in(answer), Some(found(alloc)?.value));
+    Ok(())
+}
+
+#[test]
 fn sleeps_and_timestamps_are_not_its_own(rt: HostRuntime) -> std::result::Result<(), Fail> {
     let alloc = rt.alloc();
     let mut pd = NoClient::new();

@@ -189,4 +189,6 @@ impl PdClient for ThreeRegions {
     ghost looked_lent = { λ _ _. tt };
 
     ghost connection_lent = { λ _ _. refl };
+
+    ghost connection_same = { λ _. refl };
 }

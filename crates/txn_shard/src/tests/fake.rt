@@ -161,4 +161,6 @@ impl PdClient for ThreeRegions {
     ghost looked_lent = { λ c w. tt };
 
     ghost connection_lent = { λ c w. refl };
+
+    ghost connection_same = { λ c. refl };
 }

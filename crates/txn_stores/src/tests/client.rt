@@ -81,7 +81,7 @@ impl PdClient for AnyStores {
     fn learn(&mut self, _query: &PdQuery, answer: &Result<PdAnswer>) -> Result<()> {
         match answer {
             Ok(_) => Ok(()),
-            Err(_) => Err(Error::OutOfMemory),
+            Err(error) => Err(error.try_clone()?),
         }
     }
 
@@ -102,4 +102,6 @@ impl PdClient for AnyStores {
     ghost looked_lent = { λ c w. tt };
 
     ghost connection_lent = { λ c w. refl };
+
+    ghost connection_same = { λ c. refl };
 }

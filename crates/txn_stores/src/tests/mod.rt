@@ -1,2 +1,5 @@
 mod all_stores;
 mod client;
+mod line;
+mod losses;
+mod run;

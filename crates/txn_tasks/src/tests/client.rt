@@ -99,4 +99,6 @@ impl PdClient for NoClient {
     ghost looked_lent = { λ c w. tt };
 
     ghost connection_lent = { λ c w. refl };
+
+    ghost connection_same = { λ c. refl };
 }

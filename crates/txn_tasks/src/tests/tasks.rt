@@ -44,6 +44,7 @@ fn parts_stand_in_place(rt: HostRuntime) -> std::result::Result<(), Fail> {
     let mut pd = NoClient::new();
     let mut out = Outbox::new(alloc, 7, false);
     let mut tasks = Tasks::new(alloc, toys(alloc, 2)?)?;
+    assert_eq!(rt; tasks.tasks().len(), 2);
     assert!(rt; tasks.start(&mut pd, 0, &mut out)?.is_none());
     assert!(rt;
         tasks

@@ -3,8 +3,8 @@ use Rattle.txn_region.specs.Regions.{IsPlaceOf}
 use Rattle.txn_region.proofs.Indexed.{none_without_start, place_of_start}
 use Rattle.txn_region.proofs.sorted.place_of.Goals as goal
 
-pub count_ended-requires : goal.count_ended-requires
-count_ended-requires c = c.requires.kept.apart
+pub count_ended-requires-clause-apart : goal.count_ended-requires-clause-apart
+count_ended-requires-clause-apart c = c.requires.kept.apart
 
 pub returns-in-Some-clause-found : goal.returns-in-Some-clause-found
 returns-in-Some-clause-found c =

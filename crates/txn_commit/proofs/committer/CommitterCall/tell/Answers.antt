@@ -2,7 +2,6 @@ use Rattle.txn_commit.specs.declared.committer.Stage.TheVariants as stages
 use Rattle.std.proofs.Common.{refl}
 use Rattle.txn_history.specs.Moves.{Moves-stopped, Moves-stops, Moves-then}
 use Rattle.txn_history.specs.Turn.{turn_of}
-use Rattle.txn_commit.specs.Arrivals.{told_by}
 use Rattle.txn_commit.specs.Committing.{ways}
 use Rattle.txn_commit.specs.Following.{heard}
 use Rattle.txn_commit.proofs.Committing.{prewriting_on, rolling_on, rolling_others_on}
@@ -10,6 +9,7 @@ use Rattle.txn_commit.proofs.Posting.{heard_time, hears_told, knows_heard}
 use Rattle.txn_commit.proofs.Stages.{asking_on, commits_on, over_on, stopped_is}
 use Rattle.txn_commit.proofs.Counting.{asking_counts, committing_counts, failure_is_error, gave_up_counts, idle_counts, is_kept_so, prewriting_counts, rolling_counts, rolling_others_counts, stop_counts, then_counts}
 use Rattle.txn_commit.proofs.committer.CommitterCall.tell.Goals as goal
+use Rattle.txn_plan.specs.Arrivals.{told_by}
 
 pub returns-in_err-progress-in-Prewriting-clause-moves : goal.returns-in_err-progress-in-Prewriting-clause-moves
 returns-in_err-progress-in-Prewriting-clause-moves g c r = Moves-stops (prewriting_on _ c.args.self.now c.in-Prewriting.plan c.tell.new.plan c.args.commits.now (told_by c.args.arrival c.args.out.now r) c.args.out.now _ _ c.in-Prewriting.is (hears_told c.args.arrival c.args.out.now r) (c.tell.ensures.tells r).moves (c.tell.ensures.tells r).job) (stopped_is _ c.from_residual.ensures.0)

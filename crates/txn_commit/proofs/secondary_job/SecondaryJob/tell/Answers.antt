@@ -1,11 +1,11 @@
 use Rattle.std.proofs.Common.{refl}
 use Rattle.txn_history.proofs.Telling.{Tells-idle}
-use Rattle.txn_commit.specs.Arrivals.{awaited_as, locked_told, tells_error, tells_failure, told_by, weight_told}
 use Rattle.txn_commit.specs.Jobs.{job_waits, others-lawful}
 use Rattle.txn_commit.specs.declared.secondary_job.Stage.TheVariants as stage
 use Rattle.txn_commit.proofs.Jobs.{counts_on, goes_on, tells_on, unheard_is, waits_not}
 use Rattle.txn_commit.proofs.Posting.{hears_told}
 use Rattle.txn_commit.proofs.secondary_job.SecondaryJob.tell.Goals as goal
+use Rattle.txn_plan.specs.Arrivals.{awaited_as, locked_told, tells_error, tells_failure, told_by, weight_told}
 
 pub returns-in-Committing-clause-tells : goal.returns-in-Committing-clause-tells
 returns-in-Committing-clause-tells g c plan keys r = tells_on g.Q.Plan.meaning g.Q.PlanFor.refuses g.Q.PlanFor.costs plan keys c.args.self.now c.in-Committing.plan c.tell-turn.new.plan (told_by c.args.arrival c.args.out.now r) c.args.out.now _ _ _ c.in-Committing.is (hears_told c.args.arrival c.args.out.now r) c.read.ensures (c.tell-turn.ensures.tells r)

@@ -1,6 +1,7 @@
 use Rattle.std.proofs.Common.{◌∙◌, refl, sym}
 use Rattle.txn_history.specs.Moves.{Moves-stopped}
 use Rattle.txn_history.proofs.Telling.{turn_stopped}
+use Rattle.txn_core.proofs.Counting.{commits_counts, rest_pays}
 use Rattle.txn_core.proofs.Going.{commits_nothing, commits_on, idle_work}
 use Rattle.txn_core.proofs.transaction.Transaction.commit.Goals as goal
 
@@ -15,3 +16,18 @@ returns-in-None-clause-moves g c a = commits_nothing _ c.args.self.now c.begin.n
 
 pub returns-in-Some-clause-moves : goal.returns-in-Some-clause-moves
 returns-in-Some-clause-moves g c a = commits_on _ c.args.self.now c.begin.new.self c.start_commit.new.self c.in-Some.parts _ _ _ (idle_work _ c.requires.idle (sym c.has_given_up.ensures ∙ c.if-has_given_up.false)) c.begin.ensures (sym c.in_ok-parts.ensures ∙ c.in-Some.is) c.start_commit.ensures.moves
+
+pub returns-then-has_given_up-clause-counts : goal.returns-then-has_given_up-clause-counts
+returns-then-has_given_up-clause-counts g c = rest_pays _ _ c.args.self.now c.args.self.now c.requires.idle c.requires.idle refl
+
+pub returns-then-not-allows_commit-clause-counts : goal.returns-then-not-allows_commit-clause-counts
+returns-then-not-allows_commit-clause-counts g c = rest_pays _ _ c.args.self.now c.args.self.now c.requires.idle c.requires.idle refl
+
+pub returns-in_err-parts-clause-counts : goal.returns-in_err-parts-clause-counts
+returns-in_err-parts-clause-counts g c = rest_pays _ _ c.args.self.now c.begin.new.self c.requires.idle (rw c.begin.ensures refl) (rw c.begin.ensures refl)
+
+pub returns-in-None-clause-counts : goal.returns-in-None-clause-counts
+returns-in-None-clause-counts g c = rest_pays _ _ c.args.self.now c.nothing_committed.new.self c.requires.idle (rw c.nothing_committed.ensures.state refl) (rw (c.nothing_committed.ensures.state, c.begin.ensures) refl)
+
+pub returns-in-Some-clause-counts : goal.returns-in-Some-clause-counts
+returns-in-Some-clause-counts g c = commits_counts _ _ c.args.self.now c.begin.new.self c.start_commit.new.self c.in-Some.parts _ c.requires.idle c.begin.ensures (sym c.in_ok-parts.ensures ∙ c.in-Some.is) c.start_commit.ensures.counts

@@ -1,6 +1,7 @@
 use Rattle.std.proofs.Common.{◌∙◌, refl, sym}
 use Rattle.txn_history.specs.Moves.{Moves-stopped}
 use Rattle.txn_history.proofs.Telling.{turn_stopped}
+use Rattle.txn_core.proofs.Counting.{goes_back_counts, rest_pays}
 use Rattle.txn_core.proofs.Going.{back_nothing, goes_back}
 use Rattle.txn_core.proofs.transaction.Transaction.go_back.Goals as goal
 
@@ -12,3 +13,12 @@ returns-in-None-clause-moves g c = back_nothing _ c.args.self.now c.begin.new.se
 
 pub returns-in-Some-clause-moves : goal.returns-in-Some-clause-moves
 returns-in-Some-clause-moves g c = goes_back _ c.args.self.now c.begin.new.self c.start_rollback.new.self c.in-Some.parts _ _ _ c.begin.ensures (sym c.in_ok-parts.ensures ∙ c.in-Some.is) c.start_rollback.ensures.moves
+
+pub returns-in_err-parts-clause-counts : goal.returns-in_err-parts-clause-counts
+returns-in_err-parts-clause-counts g c = rest_pays _ _ c.args.self.now c.begin.new.self c.requires.idle (rw c.begin.ensures refl) (rw c.begin.ensures refl)
+
+pub returns-in-None-clause-counts : goal.returns-in-None-clause-counts
+returns-in-None-clause-counts g c = rest_pays _ _ c.args.self.now c.nothing_rolled_back.new.self c.requires.idle (rw c.nothing_rolled_back.ensures.state refl) (rw (c.nothing_rolled_back.ensures.state, c.begin.ensures) refl)
+
+pub returns-in-Some-clause-counts : goal.returns-in-Some-clause-counts
+returns-in-Some-clause-counts g c = goes_back_counts _ _ c.args.self.now c.begin.new.self c.start_rollback.new.self c.in-Some.parts _ c.requires.idle c.begin.ensures (sym c.in_ok-parts.ensures ∙ c.in-Some.is) c.start_rollback.ensures.counts

@@ -4,8 +4,9 @@ use Rattle.txn_history.specs.Meaning.{missed}
 use Rattle.txn_history.specs.Phase.Awaited.{ReplyTo}
 use Rattle.txn_history.specs.Posted.{ticket_of}
 use Rattle.txn_history.specs.Turn.{turn_of}
-use Rattle.txn_multi.proofs.Lookings.{calls_none, counted_after, goes_on, heard, hears_if_asking, unmoved, waits_held}
+use Rattle.txn_multi.proofs.Lookings.{asks_none, counted_after, heard, unmoved, waits_held}
 use Rattle.txn_multi.proofs.cutting.Cutting.lost.Goals as goal
+use Rattle.txn_plan.proofs.LastPosted.{calls_none, goes_on, hears_if_asking}
 use Rattle.txn_plan.proofs.LookingUp.{deaf_reply, tells_of, went, went_loss}
 use Rattle.txn_tso.specs.Heeding.{hears_reply}
 use Rattle.txn_tso.specs.Steps.{standing, on_loss}
@@ -17,7 +18,7 @@ hear-requires-clause-waits g c e =
     let i = c.in-Some.ensures in
     goes_on (hears_reply x.call.stage c.args.number) x y (turn_of c.lost-turn.result) (hears_if_asking x.call.stage c.args.number (waits_held x.call c.args.self.now.stage (ReplyTo c.args.number) i.held i.waits))
     (went (hears_reply x.call.stage c.args.number) x.call.query (on_loss x.call.stage c.args.number c.args.now x) (turn_of c.lost-turn.result) x y c.lost-turn.ensures.step (went_loss x.call.stage c.args.number c.args.now x))
-    (calls_none true x.call y.call x.out y.out (turn_of c.lost-turn.result) i.place c.lost-turn.ensures.spends) c.lost-turn.ensures.heeds e
+    (calls_none true x.call y.call x.out y.out (turn_of c.lost-turn.result) (asks_none x.call.query i.place) c.lost-turn.ensures.spends) c.lost-turn.ensures.heeds e
 
 pub returns-in-Some-clause-tells : goal.returns-in-Some-clause-tells
 returns-in-Some-clause-tells g c r =

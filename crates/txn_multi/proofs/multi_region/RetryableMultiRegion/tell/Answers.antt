@@ -1,12 +1,12 @@
 use Rattle.std.proofs.Common.{ap, subst, sym, ◌∙◌}
 use Rattle.txn_history.specs.Meaning.{Tells}
 use Rattle.txn_history.specs.Turn.{turn_of}
-use Rattle.txn_multi.specs.Arrivals.{told_by}
 use Rattle.txn_multi.specs.Multi.{multi, multi_phase}
 use Rattle.txn_multi.specs.declared.multi_stage.MultiStage.{MultiStage}
 use Rattle.txn_multi.proofs.Multis.{idle_counted, idle_told, not_waiting, Goes-idle}
 use Rattle.txn_history.specs.Phase.{unheard, Awaited}
 use Rattle.txn_multi.proofs.multi_region.RetryableMultiRegion.tell.Goals as goal
+use Rattle.txn_plan.specs.Arrivals.{told_by}
 
 pub returns-in-Cutting-clause-tells : goal.returns-in-Cutting-clause-tells
 returns-in-Cutting-clause-tells g c r =

@@ -2,13 +2,13 @@ use Rattle.std.proofs.Common.{subst, sym}
 use Rattle.std.proofs.Math.Nat.{le_refl}
 use Rattle.txn_history.specs.Meaning.{Counts, Goes, Tells}
 use Rattle.txn_history.specs.Turn.{turn_of}
-use Rattle.txn_multi.specs.Arrivals.{awaited_as, is_bad, is_failure, locked_in, told_by, weight_in}
 use Rattle.txn_multi.specs.Multi.{multi, Holding}
 use Rattle.txn_multi.specs.declared.multi_region.RetryableMultiRegion.{RetryableMultiRegion}
 use Rattle.txn_multi.specs.declared.multi_stage.MultiStage.TheVariants as stage
 use Rattle.txn_multi.proofs.Multis.{ready_after, tasks_counted, tasks_gone, tasks_told}
 use Rattle.txn_multi.proofs.Retrying.{still_running}
 use Rattle.txn_multi.proofs.multi_region.RetryableMultiRegion.tell_tasks.Goals as goal
+use Rattle.txn_plan.specs.Arrivals.{awaited_as, locked_told, tells_error, tells_failure, told_by, weight_told}
 use Rattle.txn_tasks.specs.Tasks.{tasks_turn, LeadsSomewhere}
 
 pub returns-clause-tells : goal.returns-clause-tells
@@ -29,7 +29,7 @@ returns-clause-goes g c =
 pub returns-clause-counts : goal.returns-clause-counts
 returns-clause-counts g c =
     let s = c.args.self.now in
-    subst (λ (x : RetryableMultiRegion _ _ _). Counts (multi g.P.Plan.meaning g.P.Result.HasKeyErrors.key_errors_in g.P.Result.HasRegionError.region_error_in g.P.Shardable.IsPart g.P.Shardable.load g.P.Shardable.AreCut) (is_bad c.args.arrival) (is_failure c.args.arrival) (weight_in c.args.arrival) (locked_in c.args.arrival) (record s { stage = stage.Running }) x c.args.out.now c.tell-turn.new.out (turn_of c.after_tasks.result)) (sym c.after_tasks.ensures.state)
+    subst (λ (x : RetryableMultiRegion _ _ _). Counts (multi g.P.Plan.meaning g.P.Result.HasKeyErrors.key_errors_in g.P.Result.HasRegionError.region_error_in g.P.Shardable.IsPart g.P.Shardable.load g.P.Shardable.AreCut) (tells_error c.args.arrival) (tells_failure c.args.arrival) (weight_told c.args.arrival) (locked_told c.args.arrival) (record s { stage = stage.Running }) x c.args.out.now c.tell-turn.new.out (turn_of c.after_tasks.result)) (sym c.after_tasks.ensures.state)
     (tasks_counted g.P.Plan.meaning g.P.Result.HasKeyErrors.key_errors_in g.P.Result.HasRegionError.region_error_in g.P.Shardable.IsPart g.P.Shardable.load g.P.Shardable.AreCut (record s { stage = stage.Running }) c.in-Some.tasks c.tell-turn.new.tasks c.after_tasks.new.self.stage s.width (tasks_turn c.tell-turn.result)
     (le_refl _) (rw c.in-Some.is (le_refl _)) (λ w b. rw c.in-Some.is at b) (λ n l. rw c.in-Some.is (le_refl _)) c.after_tasks.ensures.after (c.tell-turn.ensures.counts s.inner))
 

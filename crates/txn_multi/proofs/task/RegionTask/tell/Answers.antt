@@ -1,11 +1,11 @@
 use Rattle.std.proofs.Common.{◌≡◌, ◌∙◌, ap, refl, subst, sym}
 use Rattle.txn_history.specs.Phase.{unheard, Awaited}
 use Rattle.txn_history.proofs.Telling.{Tells-idle}
-use Rattle.txn_multi.specs.Arrivals.{awaited_as}
 use Rattle.txn_multi.specs.declared.stage.Stage.TheVariants as stage
 use Rattle.txn_multi.specs.Task.{region_task-lawful, stage_phase, StageWaits}
 use Rattle.txn_multi.proofs.Retrying.{counts_at, goes_at, idle_at, keeps_at, keeps_idle, tells_at}
 use Rattle.txn_multi.proofs.task.RegionTask.tell.Goals as goal
+use Rattle.txn_plan.specs.Arrivals.{awaited_as}
 
 pub returns-in-Running-clause-tells : goal.returns-in-Running-clause-tells
 returns-in-Running-clause-tells g c r = tells_at _ _ _ _ _ _ c.args.self.now (stage.Running c.in-Running.plan) (sym c.replace.ensures.value ∙ c.in-Running.is) (c.tell_plan.ensures.tells r)

@@ -1,9 +1,5 @@
-use Rattle.std.proofs.Common.{ap, sym, ◌∙◌}
-use Rattle.txn_stores.proofs.AllCalls.{unbegun_is}
-use Rattle.txn_stores.specs.AllStores.{unbegun_all}
+use Rattle.txn_stores.proofs.AllCalls.{copied}
 use Rattle.txn_stores.proofs.all_stores.RetryableAllStoresPlan.try_clone.Goals as goal
 
 pub returns : goal.returns
-returns g c = λ u.
-    let k = unbegun_is g.P.Plan.meaning g.P.Result.HasKeyErrors.key_errors_in g.P.Result.HasRegionError.region_error_in g.P.StoreRequest.at_store c.args.self.now u in
-    c.new.ensures.value ∙ ap (λ x. unbegun_all x c.args.self.now.backoff c.args.self.now.alloc) (c.in_ok-try_clone.ensures k.0) ∙ sym k.1
+returns g c = copied c.args.self.now c.in_ok-try_clone.field-0 c.in_ok-copy.field-0 c.if-not-is_unbegun.ensures.0 c.if-not-is_unbegun.ensures.1 c.in_ok-try_clone.ensures c.in_ok-copy.ensures

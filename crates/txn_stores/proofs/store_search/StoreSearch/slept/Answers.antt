@@ -1,13 +1,15 @@
-use Rattle.std.proofs.Common.{false}
+use Rattle.std.proofs.Common.{false, ap}
 use Rattle.std.proofs.lemmas.Bool.{false≢true}
 use Rattle.txn_history.proofs.Numbering.{Moves-numbers}
 use Rattle.txn_history.specs.Meaning.{woken}
 use Rattle.txn_history.specs.Phase.Awaited.{EndOf}
 use Rattle.txn_history.specs.Posted.{ticket_of}
 use Rattle.txn_history.specs.Turn.{turn_of}
-use Rattle.txn_stores.proofs.Searching.{calls_none, counted_after, goes_on, heard, hears_if_resting, unmoved, waits_held}
+use Rattle.txn_stores.proofs.Searching.{counted_after, heard, unmoved, waits_held}
 use Rattle.txn_stores.proofs.store_search.StoreSearch.slept.Goals as goal
+use Rattle.txn_plan.proofs.LastPosted.{calls_none, goes_on, hears_if_resting}
 use Rattle.txn_plan.proofs.LookingUp.{deaf_waking, tells, went, went_waking}
+use Rattle.txn_tso.specs.Counting.{asks_of}
 use Rattle.txn_tso.specs.Heeding.{hears_waking}
 use Rattle.txn_tso.specs.Steps.{on_waking, standing}
 
@@ -18,7 +20,7 @@ hear-requires-clause-waits g c e =
     let i = c.in-Some.ensures in
     let w = went (hears_waking x.call.stage c.args.number) x.call.query (on_waking x.call.stage c.args.number c.args.now x) (turn_of c.slept-turn.result) x y c.slept-turn.ensures.step (went_waking x.call.stage c.args.number c.args.now x) in
     goes_on (hears_waking x.call.stage c.args.number) x y (turn_of c.slept-turn.result) (hears_if_resting x.call.stage c.args.number (waits_held x.call c.args.self.now.stage (EndOf c.args.number) i.held i.waits)) w
-    (calls_none false x.call y.call x.out y.out (turn_of c.slept-turn.result) i.query c.slept-turn.ensures.spends) c.slept-turn.ensures.heeds e
+    (calls_none false x.call y.call x.out y.out (turn_of c.slept-turn.result) (ap asks_of i.query) c.slept-turn.ensures.spends) c.slept-turn.ensures.heeds e
 
 pub returns-in-Some-clause-tells : goal.returns-in-Some-clause-tells
 returns-in-Some-clause-tells g c =

@@ -1,13 +1,15 @@
-use Rattle.std.proofs.Common.{false}
+use Rattle.std.proofs.Common.{false, ap}
 use Rattle.std.proofs.lemmas.Bool.{false≢true}
 use Rattle.txn_history.proofs.Numbering.{Moves-numbers}
 use Rattle.txn_history.specs.Meaning.{replied}
 use Rattle.txn_history.specs.Phase.Awaited.{ReplyTo}
 use Rattle.txn_history.specs.Posted.{ticket_of}
 use Rattle.txn_history.specs.Turn.{turn_of}
-use Rattle.txn_stores.proofs.Searching.{calls_none, counted_after, goes_on, heard, hears_if_asking, unmoved, waits_held}
+use Rattle.txn_stores.proofs.Searching.{counted_after, heard, unmoved, waits_held}
 use Rattle.txn_stores.proofs.store_search.StoreSearch.take_reply.Goals as goal
+use Rattle.txn_plan.proofs.LastPosted.{calls_none, goes_on, hears_if_asking}
 use Rattle.txn_plan.proofs.LookingUp.{deaf_reply, tells_of, went, went_reply}
+use Rattle.txn_tso.specs.Counting.{asks_of}
 use Rattle.txn_tso.specs.Heeding.{hears_reply}
 use Rattle.txn_tso.specs.Steps.{standing}
 
@@ -19,7 +21,7 @@ hear-requires-clause-waits g c e =
     let s = c.take_reply-turn.ensures.step in
     let w = went (hears_reply x.call.stage c.args.number) x.call.query s.0 (turn_of c.take_reply-turn.result) x y s.2 (went_reply x.call.stage c.args.number c.args.reply c.args.now x s.0 s.1) in
     goes_on (hears_reply x.call.stage c.args.number) x y (turn_of c.take_reply-turn.result) (hears_if_asking x.call.stage c.args.number (waits_held x.call c.args.self.now.stage (ReplyTo c.args.number) i.held i.waits)) w
-    (calls_none false x.call y.call x.out y.out (turn_of c.take_reply-turn.result) i.query c.take_reply-turn.ensures.spends) c.take_reply-turn.ensures.heeds e
+    (calls_none false x.call y.call x.out y.out (turn_of c.take_reply-turn.result) (ap asks_of i.query) c.take_reply-turn.ensures.spends) c.take_reply-turn.ensures.heeds e
 
 pub returns-in-Some-clause-tells : goal.returns-in-Some-clause-tells
 returns-in-Some-clause-tells g c r =

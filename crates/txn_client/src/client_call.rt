@@ -1,0 +1,325 @@
+ghost use Rattle.std.specs.Prelude.{◌≡◌, ◌<◌, ◌^◌, IfOk, false, is_err, true};
+ghost use Rattle.std.specs.Bool.{MatchBool};
+ghost use Rattle.std.specs.Result.{result_ok};
+ghost use Rattle.txn_history.specs.Faults.{has_error, has_region_error};
+ghost use Rattle.txn_history.specs.Meaning.{missed, replied, started, timed, woken, Counts, Goes, IsUnbegun, Tells};
+ghost use Rattle.txn_history.specs.Phase.{unheard};
+ghost use Rattle.txn_history.specs.Phase.Awaited.{EndOf, ReplyTo, TimeOf};
+ghost use Rattle.txn_history.specs.Phase.Phase.{Fresh as Unbegun};
+ghost use Rattle.txn_history.specs.Posted.{HasNumbers, ticket_of};
+ghost use Rattle.txn_history.specs.Spends.{locked_of, weight_of};
+ghost use Rattle.txn_history.specs.Turn.{turn_of, IfEnds};
+ghost use Rattle.txn_kv.specs.declared.request.Request.{Request as Asked};
+ghost use Rattle.txn_plan.specs.Answered.{IsTimeAnswer};
+ghost use Rattle.txn_plan.specs.Arrivals.{MayArrive, awaited_as, locked_told, tells_error, tells_failure, told_by, weight_told};
+ghost use Rattle.txn_commit.specs.Committing.{ways};
+ghost use Rattle.txn_plan.specs.declared.arrival.Arrival.TheVariants as arrivals;
+ghost use Rattle.txn_client.specs.Calls.{called, made, stage_phase, stage_waits, AnswerReady, Asks, CallReady, Follows, IsEnded, IsMade, IsMadeOf, IsNewCall};
+ghost use Rattle.txn_client.specs.declared.client_call.Stage.TheVariants as stages;
+ghost use Rattle.txn_client.specs.declared.client_call.Wanted.TheVariants as wants;
+
+use crate::client_answer::ClientAnswer;
+use std::alloc::Global;
+use std::marker::PhantomData;
+use txn_commit::{PlanFor, TimestampCall};
+use txn_core::{Transaction, TransactionOptions};
+use txn_kv::{
+    BatchRollbackRequest, CommitRequest, NoMemory, Outbox, PrewriteRequest, Progress, Reply,
+    Timestamp,
+};
+use txn_plan::Arrival;
+use txn_region::PdClient;
+
+type Turn<C, P, Q, K> = Result<Progress<ClientAnswer<C, P, Q, K>>, NoMemory>;
+
+/// What the timestamp is for.
+#[derive(Drop)]
+enum Wanted {
+    Timestamp,
+    Transaction(TransactionOptions),
+}
+
+/// How far the call has come.
+#[derive(Drop)]
+enum Stage {
+    Fresh,
+    Asking(TimestampCall),
+    Over,
+    /// It gave up for want of memory.
+    Stopped,
+}
+
+/// A call of a client: it asks for a timestamp, and answers that, or a transaction that begins at it. One that gave up for want
+/// of memory gives up ever after.
+#[derive(Drop)]
+pub struct ClientCall<C, P, Q, K> {
+    wanted: Wanted,
+    stage: Stage,
+    alloc: Global,
+    begins: PhantomData<Transaction<C, P, Q, K>>,
+}
+
+impl<C, P, Q, K> ClientCall<C, P, Q, K>
+where
+    C: PdClient,
+    P: PlanFor<PrewriteRequest>,
+    Q: PlanFor<CommitRequest>,
+    K: PlanFor<BatchRollbackRequest>,
+{
+    /// A call that begins a transaction, and is not started.
+    pub(crate) fn begin(alloc: Global, options: TransactionOptions) -> Self
+        ensures new { IsNewCall (wants.Transaction options) result }
+        ensures unbegun { IsUnbegun called result }
+    {
+        ClientCall::new(alloc, Wanted::Transaction(options))
+    }
+
+    /// A call for a timestamp that is not started.
+    pub(crate) fn timestamp(alloc: Global) -> Self
+        ensures new { IsNewCall wants.Timestamp result }
+        ensures unbegun { IsUnbegun called result }
+    {
+        ClientCall::new(alloc, Wanted::Timestamp)
+    }
+
+    fn new(alloc: Global, wanted: Wanted) -> Self
+        ensures new { IsNewCall wanted result }
+        ensures unbegun { IsUnbegun called result }
+    {
+        ClientCall {
+            wanted,
+            stage: Stage::Fresh,
+            alloc,
+            begins: PhantomData,
+        }
+    }
+
+    /// Asks for the timestamp.
+    pub fn start<D: PdClient>(&mut self, pd: &mut D, now: u64, out: &mut Outbox) -> Turn<C, P, Q, K>
+        requires numbers { HasNumbers out.old }
+        requires ready { CallReady self.old.stage }
+        ensures tells { Tells called started self.old self.new out.old out.new (turn_of result) }
+        ensures goes { Goes called.phase (stage_phase self.old.stage ≡ Unbegun) self.old self.new out.old out.new pd.old pd.new (turn_of result) }
+        ensures counts { Counts called false false 0 0 self.old self.new out.old out.new (turn_of result) }
+        ensures ready { CallReady self.new.stage }
+        ensures numbers { HasNumbers out.new }
+    {
+        if !self.is_fresh() {
+            return self.stay();
+        }
+        self.ask(pd, now, out)
+    }
+
+    /// The reply to the request of this number came.
+    pub fn take_reply<D: PdClient>(
+        &mut self,
+        pd: &mut D,
+        now: u64,
+        number: u64,
+        reply: Reply,
+        out: &mut Outbox,
+    ) -> Turn<C, P, Q, K>
+        requires ready { CallReady self.old.stage }
+        requires numbers { HasNumbers out.old }
+        requires clock { now < 2 ^ 44 }
+        ensures tells { (r : Asked) → Tells called (replied (ticket_of out.old number) r reply) self.old self.new out.old out.new (turn_of result) }
+        ensures goes { Goes called.phase (stage_waits self.old.stage (ReplyTo number)) self.old self.new out.old out.new (D.connection pd.old) (D.connection pd.new) (turn_of result) }
+        ensures counts { Counts called (has_error reply) (has_region_error reply) (weight_of reply) (locked_of reply) self.old self.new out.old out.new (turn_of result) }
+        ensures made { IfEnds (turn_of result) (IsMadeOf self.old.wanted now (arrivals.Reply number reply)) }
+        ensures answer { IfEnds (turn_of result) (AnswerReady (ways P.meaning Q.meaning K.meaning P.refuses Q.refuses K.refuses)) }
+        ensures ready { CallReady self.new.stage }
+        ensures numbers { HasNumbers out.new }
+    {
+        self.tell(Arrival::Reply { number, reply }, pd, now, out)
+    }
+
+    /// No reply to the request of this number will come.
+    pub fn lost<D: PdClient>(
+        &mut self,
+        pd: &mut D,
+        now: u64,
+        number: u64,
+        out: &mut Outbox,
+    ) -> Turn<C, P, Q, K>
+        requires ready { CallReady self.old.stage }
+        requires numbers { HasNumbers out.old }
+        requires clock { now < 2 ^ 44 }
+        ensures tells { (r : Asked) → Tells called (missed (ticket_of out.old number) r) self.old self.new out.old out.new (turn_of result) }
+        ensures goes { Goes called.phase (stage_waits self.old.stage (ReplyTo number)) self.old self.new out.old out.new (D.connection pd.old) (D.connection pd.new) (turn_of result) }
+        ensures counts { Counts called true true 0 0 self.old self.new out.old out.new (turn_of result) }
+        ensures made { IfEnds (turn_of result) (IsMadeOf self.old.wanted now (arrivals.Lost number)) }
+        ensures answer { IfEnds (turn_of result) (AnswerReady (ways P.meaning Q.meaning K.meaning P.refuses Q.refuses K.refuses)) }
+        ensures ready { CallReady self.new.stage }
+        ensures numbers { HasNumbers out.new }
+    {
+        self.tell(Arrival::Lost { number }, pd, now, out)
+    }
+
+    /// The sleep of this number has ended.
+    pub fn slept<D: PdClient>(
+        &mut self,
+        pd: &mut D,
+        now: u64,
+        number: u64,
+        out: &mut Outbox,
+    ) -> Turn<C, P, Q, K>
+        requires ready { CallReady self.old.stage }
+        requires numbers { HasNumbers out.old }
+        requires clock { now < 2 ^ 44 }
+        ensures tells { Tells called (woken (ticket_of out.old number)) self.old self.new out.old out.new (turn_of result) }
+        ensures goes { Goes called.phase (stage_waits self.old.stage (EndOf number)) self.old self.new out.old out.new (D.connection pd.old) (D.connection pd.new) (turn_of result) }
+        ensures counts { Counts called false false 0 0 self.old self.new out.old out.new (turn_of result) }
+        ensures made { IfEnds (turn_of result) (IsMadeOf self.old.wanted now (arrivals.Slept number)) }
+        ensures answer { IfEnds (turn_of result) (AnswerReady (ways P.meaning Q.meaning K.meaning P.refuses Q.refuses K.refuses)) }
+        ensures ready { CallReady self.new.stage }
+        ensures numbers { HasNumbers out.new }
+    {
+        self.tell(Arrival::Slept { number }, pd, now, out)
+    }
+
+    /// The ask of this number was answered, by the oracle of the client.
+    pub fn take_time<D: PdClient>(
+        &mut self,
+        pd: &mut D,
+        now: u64,
+        ask: u64,
+        answer: txn_kv::Result<Timestamp>,
+        out: &mut Outbox,
+    ) -> Turn<C, P, Q, K>
+        requires ready { CallReady self.old.stage }
+        requires answer { IsTimeAnswer answer }
+        requires numbers { HasNumbers out.old }
+        requires clock { now < 2 ^ 44 }
+        ensures tells { Tells called (timed (ticket_of out.old ask) (result_ok answer)) self.old self.new out.old out.new (turn_of result) }
+        ensures goes { Goes called.phase (stage_waits self.old.stage (TimeOf ask)) self.old self.new out.old out.new (D.connection pd.old) (D.connection pd.new) (turn_of result) }
+        ensures counts { Counts called (is_err answer) false 0 0 self.old self.new out.old out.new (turn_of result) }
+        ensures made { IfEnds (turn_of result) (IsMadeOf self.old.wanted now (arrivals.Time ask answer)) }
+        ensures answer { IfEnds (turn_of result) (AnswerReady (ways P.meaning Q.meaning K.meaning P.refuses Q.refuses K.refuses)) }
+        ensures ready { CallReady self.new.stage }
+        ensures numbers { HasNumbers out.new }
+    {
+        self.tell(Arrival::Time { ask, answer }, pd, now, out)
+    }
+
+    /// It is told of something.
+    pub fn tell<D: PdClient>(
+        &mut self,
+        arrival: Arrival,
+        pd: &mut D,
+        now: u64,
+        out: &mut Outbox,
+    ) -> Turn<C, P, Q, K>
+        requires ready { CallReady self.old.stage }
+        requires arrives { MayArrive arrival }
+        requires numbers { HasNumbers out.old }
+        requires clock { now < 2 ^ 44 }
+        ensures tells { (r : Asked) → Tells called (told_by arrival out.old r) self.old self.new out.old out.new (turn_of result) }
+        ensures goes { Goes called.phase (stage_waits self.old.stage (awaited_as arrival)) self.old self.new out.old out.new (D.connection pd.old) (D.connection pd.new) (turn_of result) }
+        ensures counts { Counts called (tells_error arrival) (tells_failure arrival) (weight_told arrival) (locked_told arrival) self.old self.new out.old out.new (turn_of result) }
+        ensures made { IfEnds (turn_of result) (IsMadeOf self.old.wanted now (arrival)) }
+        ensures answer { IfEnds (turn_of result) (AnswerReady (ways P.meaning Q.meaning K.meaning P.refuses Q.refuses K.refuses)) }
+        ensures ready { CallReady self.new.stage }
+        ensures numbers { HasNumbers out.new }
+    {
+        match &mut self.stage {
+            Stage::Asking(call) => {
+                let turn = call.tell(arrival, pd, now, out);
+                self.go_on(turn, now)
+            }
+            Stage::Fresh => Ok(Progress::Waiting),
+            Stage::Over => Ok(Progress::Waiting),
+            Stage::Stopped => Err(NoMemory),
+        }
+    }
+
+    fn is_fresh(&self) -> bool
+        ensures { MatchBool result (self.now.stage ≡ stages.Fresh) (self.now.stage ≡ stages.Fresh → ⊥) }
+    {
+        matches!(self.stage, Stage::Fresh)
+    }
+
+    /// What comes of a start that is not the first.
+    fn stay(&self) -> Turn<C, P, Q, K>
+        requires ready { CallReady self.now.stage }
+        ensures { turn_of result ≡ unheard (stage_phase self.now.stage) }
+    {
+        match &self.stage {
+            Stage::Fresh => Ok(Progress::Waiting),
+            Stage::Asking(_call) => Ok(Progress::Waiting),
+            Stage::Over => Ok(Progress::Waiting),
+            Stage::Stopped => Err(NoMemory),
+        }
+    }
+
+    fn ask<D: PdClient>(&mut self, pd: &mut D, now: u64, out: &mut Outbox) -> Turn<C, P, Q, K>
+        requires numbers { HasNumbers out.old }
+        ensures asks { Asks self.old self.new out.old out.new (turn_of result) }
+        ensures numbers { HasNumbers out.new }
+    {
+        match TimestampCall::begin(pd, now, out) {
+            Ok(call) => {
+                self.stage = Stage::Asking(call);
+                Ok(Progress::Waiting)
+            }
+            Err(NoMemory) => {
+                self.stage = Stage::Stopped;
+                Err(NoMemory)
+            }
+        }
+    }
+
+    /// Goes on after its ask did.
+    fn go_on(&mut self, turn: Result<Progress<Timestamp>, NoMemory>, now: u64) -> Turn<C, P, Q, K>
+        ensures { Follows now (turn_of turn) self.old self.new (turn_of result) }
+    {
+        match turn {
+            Ok(Progress::Waiting) => Ok(Progress::Waiting),
+            Ok(Progress::Done(answer)) => self.end(answer, now),
+            Err(NoMemory) => {
+                self.stage = Stage::Stopped;
+                Err(NoMemory)
+            }
+        }
+    }
+
+    fn end(&mut self, answer: txn_kv::Result<Timestamp>, now: u64) -> Turn<C, P, Q, K>
+        ensures { IsEnded (IsMade self.old.wanted now answer) self.old self.new (turn_of result) }
+    {
+        match self.answer(answer, now) {
+            Ok(answer) => {
+                self.stage = Stage::Over;
+                Ok(Progress::Done(answer))
+            }
+            Err(NoMemory) => {
+                self.stage = Stage::Stopped;
+                Err(NoMemory)
+            }
+        }
+    }
+
+    fn answer(
+        &self,
+        answer: txn_kv::Result<Timestamp>,
+        now: u64,
+    ) -> Result<txn_kv::Result<ClientAnswer<C, P, Q, K>>, NoMemory>
+        ensures { IfOk result (IsMade self.now.wanted now answer) }
+    {
+        match answer {
+            Ok(timestamp) => Ok(Ok(self.make(timestamp, now)?)),
+            Err(error) => Ok(Err(error)),
+        }
+    }
+
+    /// What was wanted, made of the timestamp that came at this clock.
+    fn make(&self, timestamp: Timestamp, now: u64) -> Result<ClientAnswer<C, P, Q, K>, NoMemory>
+        ensures { IfOk result (λ answer. answer ≡ made self.now.wanted now timestamp) }
+    {
+        match &self.wanted {
+            Wanted::Timestamp => Ok(ClientAnswer::Time(timestamp)),
+            Wanted::Transaction(options) => {
+                let transaction = Transaction::new(self.alloc, timestamp, options.clone()?, now)?;
+                Ok(ClientAnswer::Begun(transaction))
+            }
+        }
+    }
+}

@@ -1,0 +1,14 @@
+//! A client of a cluster: it makes transactions, and tells the time.
+#![tactic(auto)]
+
+pub mod client;
+pub mod client_answer;
+pub mod client_call;
+pub mod laws;
+pub mod send;
+#[cfg(test)]
+mod tests;
+
+pub use client::Client;
+pub use client_answer::ClientAnswer;
+pub use client_call::ClientCall;

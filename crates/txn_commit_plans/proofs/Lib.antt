@@ -1,0 +1,4 @@
+pub mod Answering
+pub mod Pieces
+pub mod Placing
+pub mod Planning

@@ -1,0 +1,16 @@
+//! The plans by which the requests of a commit and a rollback go to the regions of their keys.
+#![tactic(auto)]
+
+pub mod batch_rollback;
+pub mod commit;
+pub mod laws;
+pub mod over_regions;
+pub mod prewrite;
+pub mod send;
+pub mod transaction_plan;
+
+pub use batch_rollback::BatchRollbackPlan;
+pub use commit::CommitPlan;
+pub use over_regions::OverRegions;
+pub use prewrite::PrewritePlan;
+pub use transaction_plan::TransactionPlan;
