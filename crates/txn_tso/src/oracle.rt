@@ -75,6 +75,16 @@ impl TimestampOracle {
         self.group.is_none() && !self.queue.is_empty()
     }
 
+    /// Those whose asks are out, in their order. Takes no memory.
+    pub fn askers(&self) -> &[Asker]
+        ensures { result.now ≡ askers_out self.now }
+    {
+        match &self.group {
+            Some(group) => group.as_slice(),
+            None => &[],
+        }
+    }
+
     /// Takes the reply to the group that is out, and gives each of its askers the answer, in their order. The group is not
     /// out any more. Where none is out there is nobody to answer.
     pub fn take_reply(

@@ -97,8 +97,10 @@ fn a_lost_group_may_ask_again(rt: HostRuntime) -> std::result::Result<(), Fail> 
     let mut oracle = asked(alloc, 2)?;
     assert_eq!(rt; oracle.next_group()?, Some(TsoRequest { count: 2 }));
     oracle.ask(asker(3))?;
+    assert_eq!(rt; oracle.askers(), [asker(1), asker(2)].as_slice());
     let lost = oracle.lost();
     assert_eq!(rt; lost.as_slice(), [asker(1), asker(2)].as_slice());
+    assert_eq!(rt; oracle.askers().len(), 0);
     assert_eq!(rt; oracle.lost().len(), 0);
     oracle.ask(asker(1))?;
     assert_eq!(rt; oracle.next_group()?, Some(TsoRequest { count: 2 }));
