@@ -39,10 +39,10 @@ pub ArePieces-again : {X : Type 0} (whole piece : List X) (before parts behind :
 ArePieces-again {X} whole piece before parts behind w p = record {
   joined = AreJoined-again whole piece before parts behind w.joined p.joined;
   some = λ is.
-    let from = each_behind some before (piece ∷ behind) (w.some is) in
-    All-append some (before ++ parts) behind
-    (All-append some before parts (each_before some before (piece ∷ behind) (w.some is)) (p.some (All-head some piece behind from)))
-    (All-tail some piece behind from);
+      let from = each_behind some before (piece ∷ behind) (w.some is) in
+      All-append some (before ++ parts) behind
+      (All-append some before parts (each_before some before (piece ∷ behind) (w.some is)) (p.some (All-head some piece behind from)))
+      (All-tail some piece behind from);
 }
   where
     some : List X → Type 0

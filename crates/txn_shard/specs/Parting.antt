@@ -118,10 +118,11 @@ CheckSecondaryLocksPart-part a b c p q = (p.0 ∙ ap (λ (r : CheckSecondaryLock
 
 pub CommitPart-applied : (old new : CommitRequest) (shard : List Key) (before behind : List (List Key)) → ArePieces (in_order (λ key. key) old.keys) (before ++ shard ∷ behind) → new ≡ record old { context = new.context; keys = shard } → CommitPart new old
 CommitPart-applied old new shard before behind cut e =
-    let same = ap (λ (r : CommitRequest). r.keys) e in
-    (e ∙ ap (λ items. record old { context = new.context; keys = items }) (sym same),
-    (λ x among. piece_among (λ key. key) old.keys shard before behind cut.joined x (subst (λ items. IsAmong items x) same among)),
-    λ is. subst (λ items. items ≢ []) (sym same) (some_piece (λ key. key) old.keys shard before behind cut is))
+    let same = ap (λ (r : CommitRequest). r.keys) e in (
+      e ∙ ap (λ items. record old { context = new.context; keys = items }) (sym same),
+      (λ x among. piece_among (λ key. key) old.keys shard before behind cut.joined x (subst (λ items. IsAmong items x) same among)),
+      λ is. subst (λ items. items ≢ []) (sym same) (some_piece (λ key. key) old.keys shard before behind cut is),
+    )
 
 pub CommitPart-part : (a b c : CommitRequest) → CommitPart a b → CommitPart b c → CommitPart a c
 CommitPart-part a b c p q = (p.0 ∙ ap (λ (r : CommitRequest). record r { context = a.context; keys = a.keys }) q.0, (λ x among. q.1 x (p.1 x among)), λ is. p.2 (q.2 is))

@@ -7,9 +7,7 @@ ghost use Rattle.txn_plan.specs.Arrivals.{MayArrive};
 
 use super::client::NoClient;
 use super::plans::Once;
-use crate::{
-    CommitParts, CommitterAnswer, CommitterCall, PlanFor, PrimaryCommits, SecondaryJob,
-};
+use crate::{CommitParts, CommitterAnswer, CommitterCall, PlanFor, PrimaryCommits, SecondaryJob};
 use std::alloc::Global;
 use std::test::Fail;
 use txn_buffer::Buffer;

@@ -12,9 +12,7 @@ fn sent(alloc: Global, count: u64) -> std::result::Result<Run, NoMemory> {
 }
 
 #[test]
-fn a_store_whose_request_is_lost_is_asked_again(
-    rt: HostRuntime,
-) -> std::result::Result<(), Fail> {
+fn a_store_whose_request_is_lost_is_asked_again(rt: HostRuntime) -> std::result::Result<(), Fail> {
     let mut run = sent(rt.alloc(), 2)?;
     run.lose(2)?;
     assert_eq!(rt; run.posted(4), Posted::Sleep(1));
@@ -80,9 +78,7 @@ fn sixteen_stores_are_asked_at_once(rt: HostRuntime) -> std::result::Result<(), 
 
 /// The placement driver is asked ten times.
 #[test]
-fn the_tenth_loss_of_the_look_up_is_the_answer(
-    rt: HostRuntime,
-) -> std::result::Result<(), Fail> {
+fn the_tenth_loss_of_the_look_up_is_the_answer(rt: HostRuntime) -> std::result::Result<(), Fail> {
     let mut run = Run::new(rt.alloc(), Backoff::no_backoff())?;
     for number in 1..10 {
         run.lose(number)?;

@@ -140,7 +140,10 @@ impl Run {
 
     /// The request of this number is refused for its region.
     pub fn refuse(&mut self, number: u64) -> std::result::Result<(), NoMemory> {
-        self.reply(number, reply(Some(RegionErr::Unknown), String::new(self.alloc)))
+        self.reply(
+            number,
+            reply(Some(RegionErr::Unknown), String::new(self.alloc)),
+        )
     }
 
     /// The request of this number is refused in words, and for its region.
