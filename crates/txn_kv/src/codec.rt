@@ -1,4 +1,4 @@
-ghost use Rattle.std.specs.Prelude.{◌≡◌, ◌==◌, ◌+◌, ◌*◌, ◌/◌, ◌^◌, ◌<◌, ◌≤◌, ◌++◌, ℕ, List, IfErr, IsOk, MatchResult, Ok, Err, true, false, OnOk, OnErr, slice_index, length, take, drop, vec_len};
+ghost use Rattle.std.specs.Prelude.{◌≡◌, ◌==◌, ◌+◌, ◌*◌, ◌/◌, ◌^◌, ◌<◌, ◌≤◌, ◌++◌, ℕ, List, IfErr, IsOk, MatchResult, Ok, Err, true, false, OnOk, OnErr, slice_index, [], length, take, drop, vec_len};
 ghost use Rattle.std.specs.List.{list_all};
 ghost use Rattle.txn_kv.specs.declared.errors.Error.TheVariants.{InternalError};
 ghost use Rattle.txn_kv.specs.Codec.{ascending, closed_length, complemented, encoded, encoding, key_length, last_group, BeginsWithKey, IsRefusal};
@@ -99,6 +99,7 @@ pub fn decode_bytes_in_place(bytes: &mut Vec<u8>, desc: bool) -> Result<()>
     ensures ok { OnOk result (BeginsWithKey desc bytes.old.items bytes.new.items) }
     ensures err { IfErr result (IsRefusal (ascending desc bytes.old.items)) }
     ensures unchanged { OnErr result (bytes.new.items ≡ bytes.old.items) }
+    ensures empty { bytes.old.items ≡ [] → IsOk result }
     ensures decodes { (key rest : List ℕ) → ascending desc bytes.old.items ≡ encoded key ++ rest → IsOk result × (bytes.new.items ≡ key) }
 {
     if desc {
@@ -122,6 +123,7 @@ fn decode_descending(bytes: &mut Vec<u8>) -> std::result::Result<(), Internal>
     ensures ok { OnOk result (BeginsWithKey true bytes.old.items bytes.new.items) }
     ensures err { IfErr result (λ what. key_length 0 (complemented bytes.old.items) ≡ Err what) }
     ensures unchanged { OnErr result (bytes.new.items ≡ bytes.old.items) }
+    ensures empty { bytes.old.items ≡ [] → IsOk result }
     ensures decodes { (key rest : List ℕ) → complemented bytes.old.items ≡ encoded key ++ rest → IsOk result × (bytes.new.items ≡ key) }
 {
     complement_all(bytes);
@@ -136,6 +138,7 @@ fn decode_ascending(bytes: &mut Vec<u8>) -> std::result::Result<(), Internal>
     ensures ok { OnOk result (BeginsWithKey false bytes.old.items bytes.new.items) }
     ensures err { IfErr result (λ what. key_length 0 bytes.old.items ≡ Err what) }
     ensures unchanged { OnErr result (bytes.new.items ≡ bytes.old.items) }
+    ensures empty { bytes.old.items ≡ [] → IsOk result }
     ensures decodes { (key rest : List ℕ) → bytes.old.items ≡ encoded key ++ rest → IsOk result × (bytes.new.items ≡ key) }
 {
     if bytes.is_empty() {
