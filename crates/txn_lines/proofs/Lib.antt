@@ -1,0 +1,15 @@
+pub mod Cuts
+pub mod KeyLaws
+pub mod KindLaws
+pub mod LineLaws
+pub mod LongText
+pub mod MutationLaws
+pub mod Numbers
+pub mod OneReading
+pub mod OptionLaws
+pub mod Options
+pub mod Pairs
+pub mod ScriptLaws
+pub mod Splits
+pub mod Strings
+pub mod WordLaws

@@ -1,0 +1,5 @@
+pub mod Grammar
+pub mod Kinds
+pub mod Lines
+pub mod Reading
+pub mod Text
