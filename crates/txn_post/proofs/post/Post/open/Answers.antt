@@ -1,0 +1,5 @@
+use Rattle.txn_post.proofs.Mails.{opened_is_mail}
+use Rattle.txn_post.proofs.post.Post.open.Goals as goal
+
+pub invariant_of-self-2 : goal.invariant_of-self-2
+invariant_of-self-2 c = rw (c.in_ok-push.ensures.items, c.new.ensures) (opened_is_mail _ c.self.invariant)
