@@ -1,6 +1,7 @@
 pub mod Committing
 pub mod Counting
 pub mod Following
+pub mod Going
 pub mod Jobs
 pub mod Keys
 pub mod Licences

@@ -9,7 +9,7 @@ use Rattle.txn_history.specs.Event.{Event}
 use Rattle.txn_history.specs.Event.Event.{Took, Lost, Slept, Answered}
 use Rattle.txn_history.specs.Meaning.{missed, replied, timed, woken, Goes, Tells, Told}
 use Rattle.txn_history.specs.Moves.{Moves, Moves-map}
-use Rattle.txn_history.specs.Phase.{IsPosted}
+use Rattle.txn_history.specs.Phase.{IsPosted, Phase}
 use Rattle.txn_history.specs.Phase.Awaited.{EndOf, ReplyTo, TimeOf}
 use Rattle.txn_history.specs.Posted.{Posted, ticket_of}
 use Rattle.txn_history.specs.Turn.{IfEnds, Turn}
@@ -109,6 +109,13 @@ module _ (s s' : PdCall) (k k' : RetryClient) (o o' : Posted) (turn : Turn (Resu
 
   pub goes_time : (n : ℕ) → CallHeeds (hears_answer s.stage n) (standing s k o) turn (standing s' k' o') → Goes looked_up.phase (looked_up.waits s (TimeOf n)) s s' o o' k k' turn
   goes_time n h = goes (hears_answer s.stage n) (call_waits s.stage (TimeOf n)) (standing s k o) (standing s' k' o') turn kept (meant_answer s.stage n) (λ e w. deaf_answer s.stage n e (TimeOf n) refl w) h
+
+-- what it is lent is a part of the client, which stays as that does
+pub goes_lent : {S A C W : Type 0} {phase : S → Phase} {meant : Type 0} {old new : S} {from to : Posted} {k k' : W} {turn : Turn A}
+    (with : W → C) (pd : C) → with k ≡ pd
+    → Goes phase meant old new from to k k' turn
+    → Goes phase meant old new from to pd (with k') turn
+goes_lent with pd e g = record { deaf = g.deaf; state = g.state; outbox = g.outbox; client = λ other. ap with (g.client other) ∙ e; next = g.next }
 
 -- No reply holds a timestamp.
 

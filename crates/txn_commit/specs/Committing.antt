@@ -1,5 +1,5 @@
 -- A commit or a rollback in a run: what has happened where it stands, and what its answer stands on.
-use Rattle.std.specs.Prelude.{◌≡◌, ◌⊎◌, ⊤, ℕ, true, false, List, [], ◌∷◌, Some, None, Result, Ok, Err}
+use Rattle.std.specs.Prelude.{◌≡◌, ◌≢◌, ◌⊎◌, ⊤, ℕ, true, false, List, [], ◌∷◌, Some, None, Result, Ok, Err}
 use Rattle.txn_kv.specs.Timestamp.{HasVersion, version_of}
 use Rattle.txn_kv.specs.declared.errors.Error.{Error}
 use Rattle.txn_kv.specs.declared.ticket.Ticket.{Ticket}
@@ -7,8 +7,9 @@ use Rattle.txn_kv.specs.declared.timestamp.Timestamp.{Timestamp}
 use Rattle.txn_history.specs.Event.{Event, Has}
 use Rattle.txn_history.specs.Event.Event.{Answered}
 use Rattle.txn_history.specs.Licence.{AllAcknowledged, PrimaryCommitted, PrimaryRolledBack, WantedAfter, WasGiven}
-use Rattle.txn_history.specs.Meaning.{Meaning, Told}
+use Rattle.txn_history.specs.Meaning.{Expects, Meaning, Told}
 use Rattle.txn_history.specs.Moves.{Knows, Moves, SameJob}
+use Rattle.txn_history.specs.Phase.Phase.{GivenUp}
 use Rattle.txn_history.specs.Plan.{Key, has_key, ArePlanned, Plan}
 use Rattle.txn_history.specs.Posted.{Posted, ticket_of}
 use Rattle.txn_history.specs.Turn.{Turn, IfKept}
@@ -148,13 +149,15 @@ TimeSays plan s h (Err e) = WasUntimed h e
 pub record SendsCommits {S A : Type 0} (m : Meaning S A) (told : Told) (t : Timestamp) (c d : Commits) (old new : S) (from to : Posted) (turn : Turn A) : Type 0 where
   pub moves : Moves (m.asks old) (λ h. m.fits old from h × told.known h) (m.fits new to) (m.gives old) told.hear from to turn
   pub job : SameJob m.asks m.gives new old
+  pub expects : Expects (m.waits old) (m.waits new) told.heard from to
   pub follows : IfKept turn (d ≡ sent from.line from.beat moves.sends t c)
 
--- the plan of a stage may be told of something, and a timestamp is in range
+-- The plan of a stage may be told of something, and a timestamp is in range. Where it commits the plan has not given up: with
+-- such a one the call gives up.
 abbrev pub StageReady : {P Q K A B D : Type 0} → Ways P Q K A B D → Stage P Q K → Type 0
 StageReady w (stage.Prewriting p) = w.prewriting.ready p
 StageReady w (stage.Asking t) = time_asked.ready t
-StageReady w (stage.Committing q t) = w.committing.ready q × HasVersion t
+StageReady w (stage.Committing q t) = w.committing.ready q × HasVersion t × (w.committing.phase q ≢ GivenUp)
 StageReady w (stage.RollingBackPrimary k) = w.rolling.ready k
 StageReady w (stage.RollingBackOthers k) = w.rolling.ready k
 StageReady w stage.Over = ⊤

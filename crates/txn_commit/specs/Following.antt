@@ -53,6 +53,13 @@ heard (Was_lost n) o c = lost (ticket_of o n) c
 heard (Has_slept n) o c = c
 heard (Time_came n x) o c = c
 
+-- one of them is out, and waits for it
+abbrev pub awaits : Arrival → Posted → Commits → Bool
+awaits (Reply_came n x) o c = is_out (ticket_of o n) c
+awaits (Was_lost n) o c = is_out (ticket_of o n) c
+awaits (Has_slept n) o c = false
+awaits (Time_came n x) o c = false
+
 abbrev pub is_commit : Request → Bool
 is_commit (Commit r) = true
 is_commit _ = false

@@ -1,21 +1,23 @@
-ghost use Rattle.std.specs.Prelude.{◌≡◌, ◌<◌, ◌^◌, ◌∷◌, [], IfOk, None, Ok, false};
+ghost use Rattle.std.specs.Prelude.{◌≡◌, ◌≢◌, ◌<◌, ◌^◌, ◌∷◌, [], IfOk, None, Ok, false};
 ghost use Rattle.txn_history.specs.Meaning.{started, Counts};
 ghost use Rattle.txn_history.specs.Moves.{Knows, Moves};
+ghost use Rattle.txn_history.specs.Phase.Phase.{Fresh as Unbegun, GivenUp};
 ghost use Rattle.txn_history.specs.Posted.{HasNumbers, Posted};
 ghost use Rattle.txn_history.specs.Turn.{turn_of, IfEnds};
-ghost use Rattle.txn_history.specs.Turn.Turn.{Ends, Stopped as Stops};
+ghost use Rattle.txn_history.specs.Turn.Turn.{Ends, Stopped as Stops, Waits};
 ghost use Rattle.txn_kv.specs.Timestamp.{HasVersion, version_of};
 ghost use Rattle.txn_kv.specs.declared.request.Request.{Request as Asked};
 ghost use Rattle.txn_kv.specs.declared.request.Request.TheVariants.{BatchRollback};
 ghost use Rattle.txn_request.specs.Defaults.{default_batch_rollback};
 ghost use Rattle.txn_commit.specs.Committing.{CommitterFits, CommitterGives, CommitterGoesOn, CommitterMoves, IsFirst, IsInRange, IsRolled, IsWritten, MayCommit, SendsCommits, StageReady, TimeSays, ways};
 ghost use Rattle.txn_commit.specs.Counting.{Begins, CommitterCounts, ask_costs, call_width, commit_again_costs, commit_costs, costs_of, others_costs, rollback_costs, stage_width};
-ghost use Rattle.txn_commit.specs.Following.{Commits, heard, undetermined};
+ghost use Rattle.txn_commit.specs.Following.{Commits, awaits, heard, undetermined};
+ghost use Rattle.txn_commit.specs.Going.{CommitterExpects, CommitterGoes, Opens, Relays, Resumes, Settles, stage_waits};
 ghost use Rattle.txn_commit.specs.Plans.{AreCommitted, ArePrewritten, AreRolledBack, IsPlanFor};
 ghost use Rattle.txn_commit.specs.Sending.{MaySend, plan_of};
 ghost use Rattle.txn_commit.specs.Timing.{HasVersionIfDone};
 ghost use Rattle.txn_commit.specs.declared.committer.Stage.TheVariants as stages;
-ghost use Rattle.txn_plan.specs.Arrivals.{MayArrive, locked_told, tells_error, tells_failure, told_by, weight_told};
+ghost use Rattle.txn_plan.specs.Arrivals.{MayArrive, awaited_as, locked_told, tells_error, tells_failure, told_by, weight_told};
 
 use crate::commit_parts::CommitParts;
 use crate::plan_for::PlanFor;
@@ -145,6 +147,7 @@ where
         requires clock { now < 2 ^ 44 }
         ensures moves { (c : Commits) → CommitterMoves (ways P.meaning Q.meaning K.meaning P.refuses Q.refuses K.refuses) (IsFirst (version_of self.old.start) c) (λ h. h) self.old self.new c c out.old out.new (turn_of result) }
         ensures counts { Begins (ways P.meaning Q.meaning K.meaning P.refuses Q.refuses K.refuses) (costs_of P.costs Q.costs K.costs) (commit_costs (costs_of P.costs Q.costs K.costs) self.old.parts) self.old self.new out.old out.new (turn_of result) }
+        ensures opens { Opens (ways P.meaning Q.meaning K.meaning P.refuses Q.refuses K.refuses) self.new out.old out.new (turn_of result) }
         ensures version { IfEnds (turn_of result) IsInRange }
         ensures job { self.new ≡ record self.old { stage = self.new.stage; width = self.new.width } }
         ensures ready { StageReady (ways P.meaning Q.meaning K.meaning P.refuses Q.refuses K.refuses) self.new.stage }
@@ -179,6 +182,7 @@ where
         requires clock { now < 2 ^ 44 }
         ensures moves { CommitterMoves (ways P.meaning Q.meaning K.meaning P.refuses Q.refuses K.refuses) (MayCommit (plan_of self.old.parts) (version_of self.old.start) timestamp commits.old) (λ h. h) self.old self.new commits.old commits.new out.old out.new (turn_of result) }
         ensures counts { Begins (ways P.meaning Q.meaning K.meaning P.refuses Q.refuses K.refuses) (costs_of P.costs Q.costs K.costs) (commit_again_costs (costs_of P.costs Q.costs K.costs)) self.old self.new out.old out.new (turn_of result) }
+        ensures opens { Opens (ways P.meaning Q.meaning K.meaning P.refuses Q.refuses K.refuses) self.new out.old out.new (turn_of result) }
         ensures version { IfEnds (turn_of result) IsInRange }
         ensures job { self.new ≡ record self.old { stage = self.new.stage; width = self.new.width } }
         ensures ready { StageReady (ways P.meaning Q.meaning K.meaning P.refuses Q.refuses K.refuses) self.new.stage }
@@ -194,6 +198,7 @@ where
         requires clock { now < 2 ^ 44 }
         ensures moves { (c : Commits) → CommitterMoves (ways P.meaning Q.meaning K.meaning P.refuses Q.refuses K.refuses) (λ h. undetermined c ≡ None) (λ h. h) self.old self.new c c out.old out.new (turn_of result) }
         ensures counts { Begins (ways P.meaning Q.meaning K.meaning P.refuses Q.refuses K.refuses) (costs_of P.costs Q.costs K.costs) (rollback_costs (costs_of P.costs Q.costs K.costs) self.old.parts) self.old self.new out.old out.new (turn_of result) }
+        ensures opens { Opens (ways P.meaning Q.meaning K.meaning P.refuses Q.refuses K.refuses) self.new out.old out.new (turn_of result) }
         ensures version { IfEnds (turn_of result) IsInRange }
         ensures job { self.new ≡ record self.old { stage = self.new.stage; width = self.new.width } }
         ensures ready { StageReady (ways P.meaning Q.meaning K.meaning P.refuses Q.refuses K.refuses) self.new.stage }
@@ -223,6 +228,9 @@ where
         requires clock { now < 2 ^ 44 }
         ensures moves { (r : Asked) → CommitterMoves (ways P.meaning Q.meaning K.meaning P.refuses Q.refuses K.refuses) (told_by arrival out.old r).known (told_by arrival out.old r).hear self.old self.new commits.old commits.new out.old out.new (turn_of result) }
         ensures counts { CommitterCounts (ways P.meaning Q.meaning K.meaning P.refuses Q.refuses K.refuses) (costs_of P.costs Q.costs K.costs) (tells_error arrival) (tells_failure arrival) (weight_told arrival) (locked_told arrival) self.old self.new out.old out.new (turn_of result) }
+        ensures goes { CommitterGoes (ways P.meaning Q.meaning K.meaning P.refuses Q.refuses K.refuses) (stage_waits (ways P.meaning Q.meaning K.meaning P.refuses Q.refuses K.refuses) self.old.stage (awaited_as arrival)) self.old self.new out.old out.new pd.old pd.new (turn_of result) }
+        ensures expects { CommitterExpects (ways P.meaning Q.meaning K.meaning P.refuses Q.refuses K.refuses) (λ a. a ≡ awaited_as arrival) self.old self.new out.old out.new }
+        ensures commits { (stage_waits (ways P.meaning Q.meaning K.meaning P.refuses Q.refuses K.refuses) self.old.stage (awaited_as arrival) → ⊥) → awaits arrival out.old commits.old ≡ false → commits.new ≡ commits.old }
         ensures version { IfEnds (turn_of result) IsInRange }
         ensures job { self.new ≡ record self.old { stage = self.new.stage; width = self.new.width } }
         ensures ready { StageReady (ways P.meaning Q.meaning K.meaning P.refuses Q.refuses K.refuses) self.new.stage }
@@ -239,8 +247,10 @@ where
             },
             Stage::Committing { plan, timestamp } => {
                 let timestamp = *timestamp;
-                let progress = tell_commit(commits, plan, timestamp, arrival, pd, now, out)?;
-                self.after_commit(progress, timestamp)
+                match tell_commit(commits, plan, timestamp, arrival, pd, now, out) {
+                    Ok(progress) => self.after_commit(progress, timestamp),
+                    Err(_) => self.give_up(),
+                }
             }
             Stage::RollingBackPrimary(plan) => {
                 let progress = arrival.tell(plan, pd, now, out)?;
@@ -266,6 +276,7 @@ where
         requires ready { StageReady (ways P.meaning Q.meaning K.meaning P.refuses Q.refuses K.refuses) self.old.stage }
         ensures moves { (c : Commits) (p : P) → self.old.stage ≡ stages.Prewriting p → CommitterGoesOn (ways P.meaning Q.meaning K.meaning P.refuses Q.refuses K.refuses) P.refuses (ArePrewritten (version_of self.old.start) self.old.parts.mutations) self.old self.new c c out.old out.new (turn_of (Ok progress)) (turn_of result) }
         ensures counts { (p : P) → self.old.stage ≡ stages.Prewriting p → CommitterCounts (ways P.meaning Q.meaning K.meaning P.refuses Q.refuses K.refuses) (costs_of P.costs Q.costs K.costs) false false 0 0 self.old self.new out.old out.new (turn_of result) }
+        ensures resumes { Resumes (ways P.meaning Q.meaning K.meaning P.refuses Q.refuses K.refuses) (turn_of (Ok progress)) self.old self.new out.old out.new pd.old pd.new (turn_of result) }
         ensures version { IfEnds (turn_of result) IsInRange }
         ensures job { self.new ≡ record self.old { stage = self.new.stage; width = self.new.width } }
         ensures ready { StageReady (ways P.meaning Q.meaning K.meaning P.refuses Q.refuses K.refuses) self.new.stage }
@@ -283,6 +294,7 @@ where
         requires numbers { HasNumbers out.old }
         ensures moves { (c : Commits) → CommitterMoves (ways P.meaning Q.meaning K.meaning P.refuses Q.refuses K.refuses) (IsWritten (version_of self.old.start) self.old.parts c) (λ h. h) self.old self.new c c out.old out.new (turn_of result) }
         ensures counts { Begins (ways P.meaning Q.meaning K.meaning P.refuses Q.refuses K.refuses) (costs_of P.costs Q.costs K.costs) (ask_costs (costs_of P.costs Q.costs K.costs)) self.old self.new out.old out.new (turn_of result) }
+        ensures opens { Opens (ways P.meaning Q.meaning K.meaning P.refuses Q.refuses K.refuses) self.new out.old out.new (turn_of result) }
         ensures version { IfEnds (turn_of result) IsInRange }
         ensures job { self.new ≡ record self.old { stage = self.new.stage; width = self.new.width } }
         ensures ready { StageReady (ways P.meaning Q.meaning K.meaning P.refuses Q.refuses K.refuses) self.new.stage }
@@ -312,6 +324,8 @@ where
         requires ready { StageReady (ways P.meaning Q.meaning K.meaning P.refuses Q.refuses K.refuses) self.old.stage }
         ensures moves { (t : TimestampCall) → self.old.stage ≡ stages.Asking t → Moves (MaySend (plan_of self.old.parts) (version_of self.old.start)) (Knows (turn_of (Ok progress)) (CommitterFits (ways P.meaning Q.meaning K.meaning P.refuses Q.refuses K.refuses) self.old commits.old out.old) (TimeSays (plan_of self.old.parts) (version_of self.old.start))) (CommitterFits (ways P.meaning Q.meaning K.meaning P.refuses Q.refuses K.refuses) self.new commits.new out.new) (CommitterGives (ways P.meaning Q.meaning K.meaning P.refuses Q.refuses K.refuses) (version_of self.old.start) self.old.parts) (λ h. h) out.old out.new (turn_of result) }
         ensures counts { (t : TimestampCall) → self.old.stage ≡ stages.Asking t → CommitterCounts (ways P.meaning Q.meaning K.meaning P.refuses Q.refuses K.refuses) (costs_of P.costs Q.costs K.costs) false false 0 0 self.old self.new out.old out.new (turn_of result) }
+        ensures resumes { Resumes (ways P.meaning Q.meaning K.meaning P.refuses Q.refuses K.refuses) (turn_of (Ok progress)) self.old self.new out.old out.new pd.old pd.new (turn_of result) }
+        ensures commits { turn_of (Ok progress) ≡ Waits → commits.new ≡ commits.old }
         ensures version { IfEnds (turn_of result) IsInRange }
         ensures job { self.new ≡ record self.old { stage = self.new.stage; width = self.new.width } }
         ensures ready { StageReady (ways P.meaning Q.meaning K.meaning P.refuses Q.refuses K.refuses) self.new.stage }
@@ -338,6 +352,7 @@ where
         requires clock { now < 2 ^ 44 }
         ensures moves { CommitterMoves (ways P.meaning Q.meaning K.meaning P.refuses Q.refuses K.refuses) (MayCommit (plan_of self.old.parts) (version_of self.old.start) timestamp commits.old) (λ h. h) self.old self.new commits.old commits.new out.old out.new (turn_of result) }
         ensures counts { Begins (ways P.meaning Q.meaning K.meaning P.refuses Q.refuses K.refuses) (costs_of P.costs Q.costs K.costs) (commit_again_costs (costs_of P.costs Q.costs K.costs)) self.old self.new out.old out.new (turn_of result) }
+        ensures opens { Opens (ways P.meaning Q.meaning K.meaning P.refuses Q.refuses K.refuses) self.new out.old out.new (turn_of result) }
         ensures version { IfEnds (turn_of result) IsInRange }
         ensures job { self.new ≡ record self.old { stage = self.new.stage; width = self.new.width } }
         ensures ready { StageReady (ways P.meaning Q.meaning K.meaning P.refuses Q.refuses K.refuses) self.new.stage }
@@ -348,7 +363,10 @@ where
         let mut plan = Q::plan_for(self.alloc, pd, request, self.retry_options.clone()?)?;
         let turn = start_commit(commits, &mut plan, timestamp, pd, now, out);
         self.go(Stage::Committing { plan, timestamp });
-        self.after_commit(turn?, timestamp)
+        match turn {
+            Ok(progress) => self.after_commit(progress, timestamp),
+            Err(_) => self.give_up(),
+        }
     }
 
     fn after_commit(&mut self, progress: Progress<Q::Result>, timestamp: Timestamp) -> Turn
@@ -356,6 +374,7 @@ where
         requires ready { StageReady (ways P.meaning Q.meaning K.meaning P.refuses Q.refuses K.refuses) self.old.stage }
         ensures moves { (c : Commits) (o : Posted) (q : Q) → self.old.stage ≡ stages.Committing q timestamp → CommitterGoesOn (ways P.meaning Q.meaning K.meaning P.refuses Q.refuses K.refuses) Q.refuses (AreCommitted (version_of self.old.start) (version_of timestamp) (self.old.parts.primary ∷ [])) self.old self.new c c o o (turn_of (Ok progress)) (turn_of result) }
         ensures counts { (o : Posted) → CommitterCounts (ways P.meaning Q.meaning K.meaning P.refuses Q.refuses K.refuses) (costs_of P.costs Q.costs K.costs) false false 0 0 self.old self.new o o (turn_of result) }
+        ensures settles { Settles (turn_of (Ok progress)) self.old self.new (turn_of result) }
         ensures version { IfEnds (turn_of result) IsInRange }
         ensures job { self.new ≡ record self.old { stage = self.new.stage; width = self.new.width } }
         ensures ready { StageReady (ways P.meaning Q.meaning K.meaning P.refuses Q.refuses K.refuses) self.new.stage }
@@ -380,6 +399,7 @@ where
         requires ready { StageReady (ways P.meaning Q.meaning K.meaning P.refuses Q.refuses K.refuses) self.old.stage }
         ensures moves { (c : Commits) (k : K) → self.old.stage ≡ stages.RollingBackPrimary k → CommitterGoesOn (ways P.meaning Q.meaning K.meaning P.refuses Q.refuses K.refuses) K.refuses (AreRolledBack (version_of self.old.start) (self.old.parts.primary ∷ [])) self.old self.new c c out.old out.new (turn_of (Ok progress)) (turn_of result) }
         ensures counts { (k : K) → self.old.stage ≡ stages.RollingBackPrimary k → CommitterCounts (ways P.meaning Q.meaning K.meaning P.refuses Q.refuses K.refuses) (costs_of P.costs Q.costs K.costs) false false 0 0 self.old self.new out.old out.new (turn_of result) }
+        ensures resumes { Resumes (ways P.meaning Q.meaning K.meaning P.refuses Q.refuses K.refuses) (turn_of (Ok progress)) self.old self.new out.old out.new pd.old pd.new (turn_of result) }
         ensures version { IfEnds (turn_of result) IsInRange }
         ensures job { self.new ≡ record self.old { stage = self.new.stage; width = self.new.width } }
         ensures ready { StageReady (ways P.meaning Q.meaning K.meaning P.refuses Q.refuses K.refuses) self.new.stage }
@@ -398,6 +418,7 @@ where
         requires clock { now < 2 ^ 44 }
         ensures moves { (c : Commits) → CommitterMoves (ways P.meaning Q.meaning K.meaning P.refuses Q.refuses K.refuses) (IsRolled (version_of self.old.start) self.old.parts c) (λ h. h) self.old self.new c c out.old out.new (turn_of result) }
         ensures counts { Begins (ways P.meaning Q.meaning K.meaning P.refuses Q.refuses K.refuses) (costs_of P.costs Q.costs K.costs) (others_costs (costs_of P.costs Q.costs K.costs) self.old.parts) self.old self.new out.old out.new (turn_of result) }
+        ensures opens { Opens (ways P.meaning Q.meaning K.meaning P.refuses Q.refuses K.refuses) self.new out.old out.new (turn_of result) }
         ensures version { IfEnds (turn_of result) IsInRange }
         ensures job { self.new ≡ record self.old { stage = self.new.stage; width = self.new.width } }
         ensures ready { StageReady (ways P.meaning Q.meaning K.meaning P.refuses Q.refuses K.refuses) self.new.stage }
@@ -418,6 +439,7 @@ where
         requires ready { StageReady (ways P.meaning Q.meaning K.meaning P.refuses Q.refuses K.refuses) self.old.stage }
         ensures moves { (c : Commits) (o : Posted) (k : K) → self.old.stage ≡ stages.RollingBackOthers k → CommitterGoesOn (ways P.meaning Q.meaning K.meaning P.refuses Q.refuses K.refuses) K.refuses (AreRolledBack (version_of self.old.start) self.old.parts.secondaries) self.old self.new c c o o (turn_of (Ok progress)) (turn_of result) }
         ensures counts { (o : Posted) → CommitterCounts (ways P.meaning Q.meaning K.meaning P.refuses Q.refuses K.refuses) (costs_of P.costs Q.costs K.costs) false false 0 0 self.old self.new o o (turn_of result) }
+        ensures settles { Settles (turn_of (Ok progress)) self.old self.new (turn_of result) }
         ensures version { IfEnds (turn_of result) IsInRange }
         ensures job { self.new ≡ record self.old { stage = self.new.stage; width = self.new.width } }
         ensures ready { StageReady (ways P.meaning Q.meaning K.meaning P.refuses Q.refuses K.refuses) self.new.stage }
@@ -488,6 +510,7 @@ fn start_commit<Q: Plan, C: PdClient>(
     requires numbers { HasNumbers out.old }
     requires clock { now < 2 ^ 44 }
     ensures sends { SendsCommits Q.meaning started timestamp commits.old commits.new plan.old plan.new out.old out.new (turn_of result) }
+    ensures relays { Relays Q.meaning (Q.meaning.phase plan.old ≡ Unbegun) plan.old plan.new out.old out.new pd.old pd.new (turn_of result) }
     ensures counts { Counts Q.meaning false false 0 0 plan.old plan.new out.old out.new (turn_of result) }
     ensures ready { Q.meaning.ready plan.new }
     ensures numbers { HasNumbers out.new }
@@ -514,6 +537,8 @@ fn tell_commit<Q: Plan, C: PdClient>(
     requires numbers { HasNumbers out.old }
     requires clock { now < 2 ^ 44 }
     ensures sends { (r : Asked) → SendsCommits Q.meaning (told_by arrival out.old r) timestamp (heard arrival out.old commits.old) commits.new plan.old plan.new out.old out.new (turn_of result) }
+    ensures relays { Relays Q.meaning (Q.meaning.waits plan.old (awaited_as arrival)) plan.old plan.new out.old out.new pd.old pd.new (turn_of result) }
+    ensures commits { (Q.meaning.waits plan.old (awaited_as arrival) → ⊥) → Q.meaning.phase plan.old ≢ GivenUp → commits.new ≡ heard arrival out.old commits.old }
     ensures counts { Counts Q.meaning (tells_error arrival) (tells_failure arrival) (weight_told arrival) (locked_told arrival) plan.old plan.new out.old out.new (turn_of result) }
     ensures ready { Q.meaning.ready plan.new }
     ensures numbers { HasNumbers out.new }

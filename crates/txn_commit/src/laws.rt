@@ -1,21 +1,32 @@
 //! Laws of the definitions, as contracts of functions that do nothing.
-ghost use Rattle.std.specs.Prelude.{ℕ, ◌+◌, ◌≡◌, ◌≢◌, ◌≤◌, ◌∷◌, List, Option, Some, length, true};
+ghost use Rattle.std.specs.Prelude.{ℕ, ◌+◌, ◌≡◌, ◌≢◌, ◌≤◌, ◌∷◌, List, Option, Some, false, length, true};
 ghost use Rattle.txn_buffer.specs.Contents.{Contents};
 ghost use Rattle.txn_history.specs.Event.{Event, Has};
 ghost use Rattle.txn_history.specs.Event.Event.{Answered, Took, Lost};
 ghost use Rattle.txn_history.specs.Licence.{IsLicensed, WantedAfter, WasAskedFor};
-ghost use Rattle.txn_history.specs.Meaning.{IsSent};
+ghost use Rattle.txn_history.specs.Meaning.{IsSent, WasPosted};
+ghost use Rattle.txn_history.specs.Phase.{Awaited};
+ghost use Rattle.txn_history.specs.Phase.Phase.{Running};
 ghost use Rattle.txn_history.specs.Plan.{ArePlanned, Key, Plan, has_key};
+ghost use Rattle.txn_history.specs.Posted.{Posted};
 ghost use Rattle.txn_kv.specs.Timestamp.{version_of};
 ghost use Rattle.txn_kv.specs.declared.reply.Reply.{Reply};
 ghost use Rattle.txn_kv.specs.declared.request.Request.{Request};
 ghost use Rattle.txn_kv.specs.declared.ticket.Ticket.{Ticket};
 ghost use Rattle.txn_kv.specs.declared.timestamp.Timestamp.{Timestamp};
+ghost use Rattle.txn_commit.specs.Committing.{CommitterFits, ways};
 ghost use Rattle.txn_commit.specs.Counting.{Costs, IsOneEach, commit_costs, rollback_costs};
-ghost use Rattle.txn_commit.specs.Following.{Commits, KnowsCommits, answered, lost};
+ghost use Rattle.txn_commit.specs.Following.{Commits, KnowsCommits, answered, awaits, heard, lost};
+ghost use Rattle.txn_commit.specs.Going.{stage_phase, stage_waits};
 ghost use Rattle.txn_commit.specs.Parts.{AreDistinct, parts_of};
 ghost use Rattle.txn_commit.specs.Sending.{MaySend, plan_of};
 ghost use Rattle.txn_commit.specs.declared.commit_parts.CommitParts.{CommitParts};
+ghost use Rattle.txn_commit.specs.declared.committer.CommitterCall.{CommitterCall};
+ghost use Rattle.txn_commit.specs.declared.committer.Stage.{Stage};
+ghost use Rattle.txn_plan.specs.declared.arrival.Arrival.{Arrival};
+
+use crate::plan_for::PlanFor;
+use txn_kv::{BatchRollbackRequest, CommitRequest, PrewriteRequest};
 
 /// What is known of the Commits of a primary is known of them once a reply was taken, or a request was lost.
 pub fn commits_are_followed()
@@ -41,4 +52,22 @@ pub fn parts_are_apart()
 pub fn costs_are_bounded()
     ensures commit { (costs : Costs) (parts : CommitParts) (n : ℕ) → IsOneEach costs → commit_costs costs parts n ≤ length parts.mutations + 2 }
     ensures rollback { (costs : Costs) (parts : CommitParts) (n : ℕ) → IsOneEach costs → rollback_costs costs parts n ≤ length parts.secondaries + 1 }
+{}
+
+/// A commit or a rollback waits for something exactly while it runs, and what it waits for was posted.
+pub fn calls_wait_for_what_was_posted<P, Q, K>()
+where
+    P: PlanFor<PrewriteRequest>,
+    Q: PlanFor<CommitRequest>,
+    K: PlanFor<BatchRollbackRequest>,
+    ensures runs { (g : Stage P Q K) (a : Awaited) → stage_waits (ways P.meaning Q.meaning K.meaning P.refuses Q.refuses K.refuses) g a → stage_phase (ways P.meaning Q.meaning K.meaning P.refuses Q.refuses K.refuses) g ≡ Running }
+    ensures waits { (call : CommitterCall P Q K) (c : Commits) (o : Posted) (h : List Event) → CommitterFits (ways P.meaning Q.meaning K.meaning P.refuses Q.refuses K.refuses) call c o h
+        → stage_phase (ways P.meaning Q.meaning K.meaning P.refuses Q.refuses K.refuses) call.stage ≡ Running → (a : Awaited) × stage_waits (ways P.meaning Q.meaning K.meaning P.refuses Q.refuses K.refuses) call.stage a }
+    ensures posted { (call : CommitterCall P Q K) (c : Commits) (o : Posted) (h : List Event) (a : Awaited) → CommitterFits (ways P.meaning Q.meaning K.meaning P.refuses Q.refuses K.refuses) call c o h
+        → stage_waits (ways P.meaning Q.meaning K.meaning P.refuses Q.refuses K.refuses) call.stage a → WasPosted o h a }
+{}
+
+/// What none of the Commits that are out waits for changes nothing of what is known of them.
+pub fn others_are_not_followed()
+    ensures { (a : Arrival) (o : Posted) (c : Commits) → awaits a o c ≡ false → heard a o c ≡ c }
 {}

@@ -1,4 +1,4 @@
-ghost use Rattle.std.specs.Prelude.{◌≡◌, ◌++◌, IfSome, OnOk, drop, filter, length, not};
+ghost use Rattle.std.specs.Prelude.{◌≡◌, ◌<◌, ◌++◌, IfSome, OnErr, OnOk, drop, filter, length, not};
 ghost use Rattle.txn_history.specs.Event.{same_ticket};
 ghost use Rattle.txn_kv.specs.Timestamp.{HasVersion};
 ghost use Rattle.txn_commit.specs.Following.{answered, commit_tickets, heard, is_commit, is_out, lost, none_sent, sent, undetermined, without};
@@ -94,11 +94,12 @@ impl PrimaryCommits {
         false
     }
 
-    /// What an outbox holds beyond this place was posted, of which each Commit commits the primary at this timestamp. A refusal
-    /// leaves it open what is known.
+    /// What an outbox holds beyond this place was posted, of which each Commit commits the primary at this timestamp. It refuses
+    /// only where something was posted, and leaves it open then what is known.
     pub fn send(&mut self, out: &Outbox, had: usize, timestamp: Timestamp) -> Result<(), NoMemory>
         requires { HasVersion timestamp }
-        ensures { OnOk result (self.new ≡ sent out.now.line out.now.beat (drop had out.now.sends) timestamp self.old) }
+        ensures ok { OnOk result (self.new ≡ sent out.now.line out.now.beat (drop had out.now.sends) timestamp self.old) }
+        ensures err { OnErr result (had < length out.now.sends) }
     {
         let before = self.out.len();
         push_commits(&mut self.out, out, had)?;
@@ -146,7 +147,8 @@ pub(crate) fn count_posted(out: &Outbox) -> usize
 
 /// Appends the ticket of each Commit beyond this place.
 fn push_commits(tickets: &mut Vec<Ticket>, out: &Outbox, had: usize) -> Result<(), NoMemory>
-    ensures { OnOk result (tickets.new.items ≡ tickets.old.items ++ commit_tickets out.now.line out.now.beat (drop had out.now.sends)) }
+    ensures ok { OnOk result (tickets.new.items ≡ tickets.old.items ++ commit_tickets out.now.line out.now.beat (drop had out.now.sends)) }
+    ensures err { OnErr result (had < length out.now.sends) }
 {
     push_each(tickets, out.line, out.beat, out.sends.as_slice(), had)
 }
@@ -158,7 +160,8 @@ fn push_each(
     errands: &[Errand],
     had: usize,
 ) -> Result<(), NoMemory>
-    ensures { OnOk result (tickets.new.items ≡ tickets.old.items ++ commit_tickets line beat (drop had errands.now)) }
+    ensures ok { OnOk result (tickets.new.items ≡ tickets.old.items ++ commit_tickets line beat (drop had errands.now)) }
+    ensures err { OnErr result (had < length errands.now) }
 {
     for index in had..errands.len() {
         if let Errand::Send {

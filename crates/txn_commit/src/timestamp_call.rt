@@ -51,7 +51,7 @@ impl TimestampCall {
         requires arrives { MayArrive arrival }
         requires numbers { HasNumbers out.old }
         ensures tells { (r : Asked) → Tells time_asked (told_by arrival out.old r) self.old self.new out.old out.new (turn_of result) }
-        ensures goes { Goes time_asked.phase (time_asked.waits self.old (awaited_as arrival)) self.old self.new out.old out.new (C.connection pd.old) (C.connection pd.new) (turn_of result) }
+        ensures goes { Goes time_asked.phase (time_asked.waits self.old (awaited_as arrival)) self.old self.new out.old out.new pd.old pd.new (turn_of result) }
         ensures counts { Counts time_asked (tells_error arrival) (tells_failure arrival) (weight_told arrival) (locked_told arrival) self.old self.new out.old out.new (turn_of result) }
         ensures answer { IfEnds (turn_of result) (IsAnswerOf self.old arrival) }
         ensures version { IfOk result HasVersionIfDone }
@@ -72,7 +72,7 @@ impl TimestampCall {
         requires arrives { MayArrive arrival }
         requires numbers { HasNumbers out.old }
         ensures tells { (r : Asked) → Tells looked_up (told_by arrival out.old r) self.old.call self.new.call out.old out.new (turn_of result) }
-        ensures goes { self.old.call.stage ≢ Stopped → Goes looked_up.phase (looked_up.waits self.old.call (awaited_as arrival)) self.old.call self.new.call out.old out.new (C.connection pd.old) (C.connection pd.new) (turn_of result) }
+        ensures goes { self.old.call.stage ≢ Stopped → Goes looked_up.phase (looked_up.waits self.old.call (awaited_as arrival)) self.old.call self.new.call out.old out.new pd.old pd.new (turn_of result) }
         ensures counts { Counts looked_up (tells_error arrival) (tells_failure arrival) (weight_told arrival) (locked_told arrival) self.old.call self.new.call out.old out.new (turn_of result) }
         ensures job { self.new.call.query ≡ self.old.call.query }
         ensures answer { IfEnds (turn_of result) (IsToldTo self.old arrival) }

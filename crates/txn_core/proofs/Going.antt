@@ -68,7 +68,7 @@ pub may_start : {P Q K : Type 0} (old : Standing P Q K) (call : CommitterCall P 
     → IsNewCall old.start parts call → MayBegin old parts h → MayStart (plan_of call.parts) (version_of call.start) old.commits h
 may_start old call parts h n m = rw (n.own, n.whole) (record { given = m.given; knows = m.knows.knows; ready = m.knows.ready })
 
-as_before : {P Q K : Type 0} (old mid new : Standing P Q K) → old.work ≡ Idle → mid ≡ record old { work = GaveUp } → new ≡ record mid { work = Idle } → new ≡ old
+pub as_before : {P Q K : Type 0} (old mid new : Standing P Q K) → old.work ≡ Idle → mid ≡ record old { work = GaveUp } → new ≡ record mid { work = Idle } → new ≡ old
 as_before {P} {Q} {K} old mid new i e n = n ∙ ap (λ (x : Standing P Q K). record x { work = Idle }) e ∙ ap (λ (x : Work P Q K). record old { work = x }) (sym i)
 
 module _ {P Q K A B D : Type 0} where

@@ -5,3 +5,4 @@ pub mod Lists
 pub mod Moving
 pub mod Naming
 pub mod Ordered
+pub mod Waiting

@@ -15,6 +15,7 @@ use Rattle.txn_history.specs.Event.Event.{Sent}
 use Rattle.txn_history.specs.Licence.{PrimaryCommitted, WasGiven, WasNamed}
 use Rattle.txn_history.specs.Meaning.{Told}
 use Rattle.txn_history.specs.Moves.{Knows, Moves}
+use Rattle.txn_history.specs.Phase.Phase.{Running}
 use Rattle.txn_history.specs.Plan.{Key, Plan}
 use Rattle.txn_history.specs.Posted.{Posted}
 use Rattle.txn_history.specs.Turn.{Turn, IfEnds, IfKept}
@@ -22,6 +23,7 @@ use Rattle.txn_history.specs.Turn.Turn.{Stopped, Waits, Ends}
 use Rattle.txn_buffer.specs.Contents.{Contents}
 use Rattle.txn_commit.specs.Committing.{CommitterFits, CommitterGives, IsFormed, IsReady, StageReady, Ways}
 use Rattle.txn_commit.specs.Following.{Commits, KnowsCommits, none_sent, undetermined}
+use Rattle.txn_commit.specs.Going.{stage_phase}
 use Rattle.txn_commit.specs.Parts.{parts_of}
 use Rattle.txn_commit.specs.Plans.{ArePrewritten, AreRolledBack}
 use Rattle.txn_commit.specs.Sending.{MaySend, plan_of}
@@ -96,10 +98,10 @@ pub record MayBegin {P Q K : Type 0} (t : Standing P Q K) (parts : CommitParts) 
   pub started : allows_data t.status ≡ false
   pub knows : KnowsParts (version_of t.start) t.commits h parts
 
--- its open call may be told of something
+-- its open call may be told of something, and waits for something
 abbrev pub WorkReady : {P Q K A B D : Type 0} → Ways P Q K A B D → Timestamp → Work P Q K → Type 0
 WorkReady w start Idle = ⊤
-WorkReady w start (Open call) = (call.start ≡ start) × StageReady w call.stage
+WorkReady w start (Open call) = (call.start ≡ start) × StageReady w call.stage × (stage_phase w call.stage ≡ Running)
 WorkReady w start GaveUp = ⊤
 
 pub record TransactionReady {P Q K A B D : Type 0} (w : Ways P Q K A B D) (t : Standing P Q K) : Type 0 where

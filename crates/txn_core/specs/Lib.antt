@@ -4,3 +4,4 @@ pub mod Options
 pub mod Status
 pub mod Transaction
 pub mod Ttl
+pub mod Waiting

@@ -10,17 +10,22 @@ ghost use Rattle.txn_commit.specs.Sending.{plan_of};
 ghost use Rattle.txn_commit.specs.declared.commit_parts.CommitParts.{CommitParts};
 ghost use Rattle.txn_commit.specs.declared.secondary_job.SecondaryJob.{SecondaryJob};
 ghost use Rattle.txn_core.specs.Counting.{Runs, Step, commit_price, errors, failures, locked as locked_by, posted, rested, rollback_price, standing_after, transaction_width, weighed};
-ghost use Rattle.txn_core.specs.Going.{IsJobOf, IsUncommitted, IsUndetermined, TransactionFits};
+ghost use Rattle.txn_core.specs.Going.{IsJobOf, IsUncommitted, IsUndetermined, TransactionFits, TransactionReady};
 ghost use Rattle.txn_core.specs.Status.{Became, allows_commit, allows_data, allows_rollback, may_move, status_step};
 ghost use Rattle.txn_core.specs.Status.Became.{commits, rolls_back};
-ghost use Rattle.txn_core.specs.Transaction.{IsDetermined, IsOrdered, Standing, begun, commit_outcome, moved_by, rollback_outcome, rolled_status};
+ghost use Rattle.txn_core.specs.Transaction.{IsDetermined, IsOrdered, Standing, begun, commit_outcome, is_open, moved_by, rollback_outcome, rolled_status};
+ghost use Rattle.txn_core.specs.Waiting.{work_phase, work_waits};
 ghost use Rattle.txn_core.specs.declared.options.TransactionOptions.{TransactionOptions};
 ghost use Rattle.txn_core.specs.declared.status.Status.{Status};
 ghost use Rattle.txn_core.specs.declared.status.Status.TheVariants.{Dropped};
+ghost use Rattle.txn_core.specs.declared.transaction.Work.{Work};
 ghost use Rattle.txn_core.specs.declared.transaction.Work.TheVariants.{Idle};
 ghost use Rattle.txn_core.specs.declared.txn_answer.TxnAnswer.{TxnAnswer};
 ghost use Rattle.txn_history.specs.Event.{Event};
 ghost use Rattle.txn_history.specs.Licence.{PrimaryCommitted, WasGiven};
+ghost use Rattle.txn_history.specs.Meaning.{WasPosted};
+ghost use Rattle.txn_history.specs.Phase.{Awaited};
+ghost use Rattle.txn_history.specs.Phase.Phase.{Running};
 ghost use Rattle.txn_history.specs.Posted.{Posted};
 ghost use Rattle.txn_history.specs.Turn.{HasEnded, Turn};
 ghost use Rattle.txn_kv.specs.Timestamp.{version_of};
@@ -106,4 +111,19 @@ where
     ensures rollback { (costs : Costs) (first : Step P Q K) (steps : List (Step P Q K)) → IsOneEach costs
         → Runs (ways P.meaning Q.meaning K.meaning P.refuses Q.refuses K.refuses) costs (rollback_price costs (parts_of first.old.contents)) first steps
         → posted (first ∷ steps) ≤ (1 + errors steps) * (2 * length (mutations first.old.contents.entries) + 9 + weighed steps) }
+{}
+
+/// A transaction waits for something exactly while a call of it runs, and what it waits for was posted. One that may be called
+/// runs while a call of it is open.
+pub fn transactions_wait_for_what_was_posted<P, Q, K>()
+where
+    P: PlanFor<PrewriteRequest>,
+    Q: PlanFor<CommitRequest>,
+    K: PlanFor<BatchRollbackRequest>,
+    ensures runs { (g : Work P Q K) (a : Awaited) → work_waits (ways P.meaning Q.meaning K.meaning P.refuses Q.refuses K.refuses) g a → work_phase (ways P.meaning Q.meaning K.meaning P.refuses Q.refuses K.refuses) g ≡ Running }
+    ensures busy { (t : Standing P Q K) → TransactionReady (ways P.meaning Q.meaning K.meaning P.refuses Q.refuses K.refuses) t → is_open t.work ≡ true → work_phase (ways P.meaning Q.meaning K.meaning P.refuses Q.refuses K.refuses) t.work ≡ Running }
+    ensures waits { (t : Standing P Q K) (o : Posted) (h : List Event) → TransactionFits (ways P.meaning Q.meaning K.meaning P.refuses Q.refuses K.refuses) t o h
+        → work_phase (ways P.meaning Q.meaning K.meaning P.refuses Q.refuses K.refuses) t.work ≡ Running → (a : Awaited) × work_waits (ways P.meaning Q.meaning K.meaning P.refuses Q.refuses K.refuses) t.work a }
+    ensures posted { (t : Standing P Q K) (o : Posted) (h : List Event) (a : Awaited) → TransactionFits (ways P.meaning Q.meaning K.meaning P.refuses Q.refuses K.refuses) t o h
+        → work_waits (ways P.meaning Q.meaning K.meaning P.refuses Q.refuses K.refuses) t.work a → WasPosted o h a }
 {}

@@ -1,8 +1,11 @@
 ghost use Rattle.std.specs.Prelude.{◌≡◌, ◌<◌, ◌^◌, ⊤, IfOk, IfSome, None, Some, Ok, Err, false, is_err, max, true, is_some};
 ghost use Rattle.txn_history.specs.Faults.{has_error, has_region_error};
-ghost use Rattle.txn_history.specs.Posted.{HasNumbers, Posted};
+ghost use Rattle.txn_history.specs.Meaning.{Expects};
+ghost use Rattle.txn_history.specs.Phase.Awaited.{EndOf, ReplyTo, TimeOf};
+ghost use Rattle.txn_history.specs.Phase.Phase.{Running};
+ghost use Rattle.txn_history.specs.Posted.{HasNumbers, Posted, ticket_of};
 ghost use Rattle.txn_history.specs.Spends.{locked_of, weight_of};
-ghost use Rattle.txn_history.specs.Turn.{HasEnded, turn_of};
+ghost use Rattle.txn_history.specs.Turn.{HasEnded, IfEnds, turn_of};
 ghost use Rattle.txn_history.specs.Turn.Turn.{Ends, Stopped, Waits};
 ghost use Rattle.txn_kv.specs.ErrorView.{view_of};
 ghost use Rattle.txn_kv.specs.ErrorView.ErrorView.{undetermined as not_known};
@@ -11,9 +14,10 @@ ghost use Rattle.txn_kv.specs.declared.errors.Error.TheVariants.{OperationAfterC
 ghost use Rattle.txn_kv.specs.declared.request.Request.{Request as Asked};
 ghost use Rattle.txn_kv.specs.declared.ticket.Ticket.{Ticket as Named};
 ghost use Rattle.txn_plan.specs.Answered.{IsTimeAnswer};
-ghost use Rattle.txn_commit.specs.Committing.{CommitterMoves, MayCommit, StageReady, ways};
+ghost use Rattle.txn_commit.specs.Committing.{CommitterMoves, IsInRange, MayCommit, StageReady, ways};
 ghost use Rattle.txn_commit.specs.Counting.{Begins, CommitterCounts, call_width, commit_again_costs, costs_of};
-ghost use Rattle.txn_commit.specs.Following.{undetermined};
+ghost use Rattle.txn_commit.specs.Following.{awaits, is_out, undetermined};
+ghost use Rattle.txn_commit.specs.Going.{CommitterExpects, CommitterGoes, Opens as CallOpens, stage_phase, stage_waits};
 ghost use Rattle.txn_commit.specs.Parts.{parts_of};
 ghost use Rattle.txn_commit.specs.Sending.{plan_of};
 ghost use Rattle.txn_core.specs.Counting.{IsOpenOrGone, Keeps, OpenCounts, TransactionBegins, TransactionCounts, commit_price, rollback_price};
@@ -21,10 +25,11 @@ ghost use Rattle.txn_core.specs.Going.{BeginMoves, CallMoves, HasFailed, IsCommi
 ghost use Rattle.txn_core.specs.Status.{allows_commit, allows_rollback, closing, status_step};
 ghost use Rattle.txn_core.specs.Status.Became.{commits};
 ghost use Rattle.txn_core.specs.Transaction.{GivesUp, AnswersAtOnce, IsRefused, locks_nothing, begun, commit_outcome, has_given_up, is_open, is_waiting, moved, moved_by, rolled_status};
+ghost use Rattle.txn_core.specs.Waiting.{Follows, HandsOut, Opens, Rests, TransactionGoes, work_waits};
 ghost use Rattle.txn_core.specs.declared.status.Status.TheVariants as statuses;
 ghost use Rattle.txn_core.specs.declared.transaction.Work.TheVariants as works;
 ghost use Rattle.txn_core.specs.declared.txn_answer.TxnAnswer.TheVariants as answers;
-ghost use Rattle.txn_plan.specs.Arrivals.{MayArrive, locked_told, tells_error, tells_failure, told_by, weight_told};
+ghost use Rattle.txn_plan.specs.Arrivals.{MayArrive, awaited_as, locked_told, tells_error, tells_failure, told_by, weight_told};
 ghost use Rattle.txn_plan.specs.declared.arrival.Arrival.TheVariants as arrivals;
 
 mod writes;
@@ -154,6 +159,8 @@ where
         ensures kept { self.new ≡ record self.old { status = self.new.status; commits = self.new.commits; work = self.new.work; width = self.new.width } }
         ensures gives_up { GivesUp self.old self.new (turn_of result) }
         ensures busy { is_open self.new.work ≡ is_waiting (turn_of result) }
+        ensures opens { Opens (ways P.meaning Q.meaning K.meaning P.refuses Q.refuses K.refuses) self.new out.old out.new (turn_of result) }
+        ensures job { IfEnds (turn_of result) (HandsOut Q.meaning) }
         ensures ready { TransactionReady (ways P.meaning Q.meaning K.meaning P.refuses Q.refuses K.refuses) self.new }
         ensures numbers { HasNumbers out.new }
     {
@@ -186,6 +193,7 @@ where
         ensures kept { self.new ≡ record self.old { status = self.new.status; commits = self.new.commits; work = self.new.work; width = self.new.width } }
         ensures gives_up { GivesUp self.old self.new (turn_of result) }
         ensures busy { is_open self.new.work ≡ is_waiting (turn_of result) }
+        ensures opens { Opens (ways P.meaning Q.meaning K.meaning P.refuses Q.refuses K.refuses) self.new out.old out.new (turn_of result) }
         ensures ready { TransactionReady (ways P.meaning Q.meaning K.meaning P.refuses Q.refuses K.refuses) self.new }
         ensures numbers { HasNumbers out.new }
     {
@@ -218,6 +226,10 @@ where
         ensures kept { self.new ≡ record self.old { status = self.new.status; commits = self.new.commits; work = self.new.work; width = self.new.width } }
         ensures gives_up { GivesUp self.old self.new (turn_of result) }
         ensures deaf { self.old.work ≡ works.Idle → (turn_of result ≡ Waits) × (self.new ≡ self.old) × (out.new ≡ out.old) }
+        ensures goes { TransactionGoes (ways P.meaning Q.meaning K.meaning P.refuses Q.refuses K.refuses) (work_waits (ways P.meaning Q.meaning K.meaning P.refuses Q.refuses K.refuses) self.old.work (ReplyTo number)) (record self.old { commits = self.new.commits }) self.new out.old out.new pd.old pd.new (turn_of result) }
+        ensures expects { Expects (work_waits (ways P.meaning Q.meaning K.meaning P.refuses Q.refuses K.refuses) self.old.work) (work_waits (ways P.meaning Q.meaning K.meaning P.refuses Q.refuses K.refuses) self.new.work) (λ a. a ≡ ReplyTo number) out.old out.new }
+        ensures commits { (work_waits (ways P.meaning Q.meaning K.meaning P.refuses Q.refuses K.refuses) self.old.work (ReplyTo number) → ⊥) → is_out (ticket_of out.old number) self.old.commits ≡ false → self.new.commits ≡ self.old.commits }
+        ensures job { IfEnds (turn_of result) (HandsOut Q.meaning) }
         ensures ready { TransactionReady (ways P.meaning Q.meaning K.meaning P.refuses Q.refuses K.refuses) self.new }
         ensures numbers { HasNumbers out.new }
     {
@@ -234,6 +246,10 @@ where
         ensures kept { self.new ≡ record self.old { status = self.new.status; commits = self.new.commits; work = self.new.work; width = self.new.width } }
         ensures gives_up { GivesUp self.old self.new (turn_of result) }
         ensures deaf { self.old.work ≡ works.Idle → (turn_of result ≡ Waits) × (self.new ≡ self.old) × (out.new ≡ out.old) }
+        ensures goes { TransactionGoes (ways P.meaning Q.meaning K.meaning P.refuses Q.refuses K.refuses) (work_waits (ways P.meaning Q.meaning K.meaning P.refuses Q.refuses K.refuses) self.old.work (ReplyTo number)) (record self.old { commits = self.new.commits }) self.new out.old out.new pd.old pd.new (turn_of result) }
+        ensures expects { Expects (work_waits (ways P.meaning Q.meaning K.meaning P.refuses Q.refuses K.refuses) self.old.work) (work_waits (ways P.meaning Q.meaning K.meaning P.refuses Q.refuses K.refuses) self.new.work) (λ a. a ≡ ReplyTo number) out.old out.new }
+        ensures commits { (work_waits (ways P.meaning Q.meaning K.meaning P.refuses Q.refuses K.refuses) self.old.work (ReplyTo number) → ⊥) → is_out (ticket_of out.old number) self.old.commits ≡ false → self.new.commits ≡ self.old.commits }
+        ensures job { IfEnds (turn_of result) (HandsOut Q.meaning) }
         ensures ready { TransactionReady (ways P.meaning Q.meaning K.meaning P.refuses Q.refuses K.refuses) self.new }
         ensures numbers { HasNumbers out.new }
     {
@@ -250,6 +266,10 @@ where
         ensures kept { self.new ≡ record self.old { status = self.new.status; commits = self.new.commits; work = self.new.work; width = self.new.width } }
         ensures gives_up { GivesUp self.old self.new (turn_of result) }
         ensures deaf { self.old.work ≡ works.Idle → (turn_of result ≡ Waits) × (self.new ≡ self.old) × (out.new ≡ out.old) }
+        ensures goes { TransactionGoes (ways P.meaning Q.meaning K.meaning P.refuses Q.refuses K.refuses) (work_waits (ways P.meaning Q.meaning K.meaning P.refuses Q.refuses K.refuses) self.old.work (EndOf number)) (record self.old { commits = self.new.commits }) self.new out.old out.new pd.old pd.new (turn_of result) }
+        ensures expects { Expects (work_waits (ways P.meaning Q.meaning K.meaning P.refuses Q.refuses K.refuses) self.old.work) (work_waits (ways P.meaning Q.meaning K.meaning P.refuses Q.refuses K.refuses) self.new.work) (λ a. a ≡ EndOf number) out.old out.new }
+        ensures commits { (work_waits (ways P.meaning Q.meaning K.meaning P.refuses Q.refuses K.refuses) self.old.work (EndOf number) → ⊥) → self.new.commits ≡ self.old.commits }
+        ensures job { IfEnds (turn_of result) (HandsOut Q.meaning) }
         ensures ready { TransactionReady (ways P.meaning Q.meaning K.meaning P.refuses Q.refuses K.refuses) self.new }
         ensures numbers { HasNumbers out.new }
     {
@@ -274,6 +294,10 @@ where
         ensures kept { self.new ≡ record self.old { status = self.new.status; commits = self.new.commits; work = self.new.work; width = self.new.width } }
         ensures gives_up { GivesUp self.old self.new (turn_of result) }
         ensures deaf { self.old.work ≡ works.Idle → (turn_of result ≡ Waits) × (self.new ≡ self.old) × (out.new ≡ out.old) }
+        ensures goes { TransactionGoes (ways P.meaning Q.meaning K.meaning P.refuses Q.refuses K.refuses) (work_waits (ways P.meaning Q.meaning K.meaning P.refuses Q.refuses K.refuses) self.old.work (TimeOf ask)) (record self.old { commits = self.new.commits }) self.new out.old out.new pd.old pd.new (turn_of result) }
+        ensures expects { Expects (work_waits (ways P.meaning Q.meaning K.meaning P.refuses Q.refuses K.refuses) self.old.work) (work_waits (ways P.meaning Q.meaning K.meaning P.refuses Q.refuses K.refuses) self.new.work) (λ a. a ≡ TimeOf ask) out.old out.new }
+        ensures commits { (work_waits (ways P.meaning Q.meaning K.meaning P.refuses Q.refuses K.refuses) self.old.work (TimeOf ask) → ⊥) → self.new.commits ≡ self.old.commits }
+        ensures job { IfEnds (turn_of result) (HandsOut Q.meaning) }
         ensures ready { TransactionReady (ways P.meaning Q.meaning K.meaning P.refuses Q.refuses K.refuses) self.new }
         ensures numbers { HasNumbers out.new }
     {
@@ -291,6 +315,10 @@ where
         ensures kept { self.new ≡ record self.old { status = self.new.status; commits = self.new.commits; work = self.new.work; width = self.new.width } }
         ensures gives_up { GivesUp self.old self.new (turn_of result) }
         ensures deaf { self.old.work ≡ works.Idle → (turn_of result ≡ Waits) × (self.new ≡ self.old) × (out.new ≡ out.old) }
+        ensures goes { TransactionGoes (ways P.meaning Q.meaning K.meaning P.refuses Q.refuses K.refuses) (work_waits (ways P.meaning Q.meaning K.meaning P.refuses Q.refuses K.refuses) self.old.work (awaited_as arrival)) (record self.old { commits = self.new.commits }) self.new out.old out.new pd.old pd.new (turn_of result) }
+        ensures expects { Expects (work_waits (ways P.meaning Q.meaning K.meaning P.refuses Q.refuses K.refuses) self.old.work) (work_waits (ways P.meaning Q.meaning K.meaning P.refuses Q.refuses K.refuses) self.new.work) (λ a. a ≡ awaited_as arrival) out.old out.new }
+        ensures commits { (work_waits (ways P.meaning Q.meaning K.meaning P.refuses Q.refuses K.refuses) self.old.work (awaited_as arrival) → ⊥) → awaits arrival out.old self.old.commits ≡ false → self.new.commits ≡ self.old.commits }
+        ensures job { IfEnds (turn_of result) (HandsOut Q.meaning) }
         ensures ready { TransactionReady (ways P.meaning Q.meaning K.meaning P.refuses Q.refuses K.refuses) self.new }
         ensures numbers { HasNumbers out.new }
     {
@@ -312,6 +340,7 @@ where
         requires aside { self.old.work ≡ works.GaveUp }
         requires start { HasVersion self.old.start }
         requires call { (call.start ≡ self.old.start) × StageReady (ways P.meaning Q.meaning K.meaning P.refuses Q.refuses K.refuses) call.stage }
+        requires runs { stage_phase (ways P.meaning Q.meaning K.meaning P.refuses Q.refuses K.refuses) call.stage ≡ Running }
         requires arrives { MayArrive arrival }
         requires numbers { HasNumbers out.old }
         requires clock { now < 2 ^ 44 }
@@ -321,6 +350,10 @@ where
         ensures kept { self.new ≡ record self.old { status = self.new.status; commits = self.new.commits; work = self.new.work; width = self.new.width } }
         ensures stops { turn_of result ≡ Stopped → self.new.work ≡ works.GaveUp }
         ensures busy { is_open self.new.work ≡ is_waiting (turn_of result) }
+        ensures goes { TransactionGoes (ways P.meaning Q.meaning K.meaning P.refuses Q.refuses K.refuses) (stage_waits (ways P.meaning Q.meaning K.meaning P.refuses Q.refuses K.refuses) call.stage (awaited_as arrival)) (record self.old { work = works.Open call; commits = self.new.commits }) self.new out.old out.new pd.old pd.new (turn_of result) }
+        ensures expects { Expects (stage_waits (ways P.meaning Q.meaning K.meaning P.refuses Q.refuses K.refuses) call.stage) (work_waits (ways P.meaning Q.meaning K.meaning P.refuses Q.refuses K.refuses) self.new.work) (λ a. a ≡ awaited_as arrival) out.old out.new }
+        ensures commits { (stage_waits (ways P.meaning Q.meaning K.meaning P.refuses Q.refuses K.refuses) call.stage (awaited_as arrival) → ⊥) → awaits arrival out.old self.old.commits ≡ false → self.new.commits ≡ self.old.commits }
+        ensures job { IfEnds (turn_of result) (HandsOut Q.meaning) }
         ensures ready { TransactionReady (ways P.meaning Q.meaning K.meaning P.refuses Q.refuses K.refuses) self.new }
         ensures numbers { HasNumbers out.new }
     {
@@ -349,6 +382,8 @@ where
         ensures kept { self.new ≡ record self.old { status = self.new.status; commits = self.new.commits; work = self.new.work; width = self.new.width } }
         ensures stops { turn_of result ≡ Stopped → self.new.work ≡ works.GaveUp }
         ensures busy { is_open self.new.work ≡ is_waiting (turn_of result) }
+        ensures opens { Opens (ways P.meaning Q.meaning K.meaning P.refuses Q.refuses K.refuses) self.new out.old out.new (turn_of result) }
+        ensures job { IfEnds (turn_of result) (HandsOut Q.meaning) }
         ensures ready { TransactionReady (ways P.meaning Q.meaning K.meaning P.refuses Q.refuses K.refuses) self.new }
         ensures numbers { HasNumbers out.new }
     {
@@ -375,6 +410,8 @@ where
         ensures counts { Begins (ways P.meaning Q.meaning K.meaning P.refuses Q.refuses K.refuses) (costs_of P.costs Q.costs K.costs) (commit_price (costs_of P.costs Q.costs K.costs) (Some call.old.parts) self.old.commits.timestamp) call.old call.new out.old out.new (turn_of result) }
         ensures job { IsSameCall call.old call.new }
         ensures kept { self.new ≡ record self.old { commits = self.new.commits } }
+        ensures opens { CallOpens (ways P.meaning Q.meaning K.meaning P.refuses Q.refuses K.refuses) call.new out.old out.new (turn_of result) }
+        ensures version { IfEnds (turn_of result) IsInRange }
         ensures ready { StageReady (ways P.meaning Q.meaning K.meaning P.refuses Q.refuses K.refuses) call.new.stage }
         ensures numbers { HasNumbers out.new }
     {
@@ -403,6 +440,8 @@ where
         ensures counts { Begins (ways P.meaning Q.meaning K.meaning P.refuses Q.refuses K.refuses) (costs_of P.costs Q.costs K.costs) (commit_again_costs (costs_of P.costs Q.costs K.costs)) call.old call.new out.old out.new (turn_of result) }
         ensures job { IsSameCall call.old call.new }
         ensures kept { self.new ≡ record self.old { commits = self.new.commits } }
+        ensures opens { CallOpens (ways P.meaning Q.meaning K.meaning P.refuses Q.refuses K.refuses) call.new out.old out.new (turn_of result) }
+        ensures version { IfEnds (turn_of result) IsInRange }
         ensures ready { StageReady (ways P.meaning Q.meaning K.meaning P.refuses Q.refuses K.refuses) call.new.stage }
         ensures numbers { HasNumbers out.new }
     {
@@ -426,6 +465,10 @@ where
         ensures counts { CommitterCounts (ways P.meaning Q.meaning K.meaning P.refuses Q.refuses K.refuses) (costs_of P.costs Q.costs K.costs) (tells_error arrival) (tells_failure arrival) (weight_told arrival) (locked_told arrival) call.old call.new out.old out.new (turn_of result) }
         ensures job { IsSameCall call.old call.new }
         ensures kept { self.new ≡ record self.old { commits = self.new.commits } }
+        ensures goes { CommitterGoes (ways P.meaning Q.meaning K.meaning P.refuses Q.refuses K.refuses) (stage_waits (ways P.meaning Q.meaning K.meaning P.refuses Q.refuses K.refuses) call.old.stage (awaited_as arrival)) call.old call.new out.old out.new pd.old pd.new (turn_of result) }
+        ensures expects { CommitterExpects (ways P.meaning Q.meaning K.meaning P.refuses Q.refuses K.refuses) (λ a. a ≡ awaited_as arrival) call.old call.new out.old out.new }
+        ensures commits { (stage_waits (ways P.meaning Q.meaning K.meaning P.refuses Q.refuses K.refuses) call.old.stage (awaited_as arrival) → ⊥) → awaits arrival out.old self.old.commits ≡ false → self.new.commits ≡ self.old.commits }
+        ensures version { IfEnds (turn_of result) IsInRange }
         ensures ready { StageReady (ways P.meaning Q.meaning K.meaning P.refuses Q.refuses K.refuses) call.new.stage }
         ensures numbers { HasNumbers out.new }
     {
@@ -436,6 +479,7 @@ where
     fn refuse_rollback(&mut self, ticket: Ticket) -> Turn<Q>
         ensures answer { IsUndetermined ticket (turn_of result) }
         ensures state { self.new ≡ record self.old { work = self.new.work } }
+        ensures rests { Rests (ways P.meaning Q.meaning K.meaning P.refuses Q.refuses K.refuses) self.new (turn_of result) }
         ensures stops { turn_of result ≡ Stopped → self.new.work ≡ works.GaveUp }
         ensures busy { is_open self.new.work ≡ false }
     {
@@ -457,6 +501,7 @@ where
         ensures kept { self.new ≡ record self.old { status = self.new.status; commits = self.new.commits; work = self.new.work; width = self.new.width } }
         ensures stops { turn_of result ≡ Stopped → self.new.work ≡ works.GaveUp }
         ensures busy { is_open self.new.work ≡ is_waiting (turn_of result) }
+        ensures opens { Opens (ways P.meaning Q.meaning K.meaning P.refuses Q.refuses K.refuses) self.new out.old out.new (turn_of result) }
         ensures ready { TransactionReady (ways P.meaning Q.meaning K.meaning P.refuses Q.refuses K.refuses) self.new }
         ensures numbers { HasNumbers out.new }
     {
@@ -486,6 +531,7 @@ where
         ensures kept { self.new ≡ record self.old { status = self.new.status; commits = self.new.commits; work = self.new.work; width = self.new.width } }
         ensures stops { turn_of result ≡ Stopped → self.new.work ≡ works.GaveUp }
         ensures busy { is_open self.new.work ≡ is_waiting (turn_of result) }
+        ensures opens { Opens (ways P.meaning Q.meaning K.meaning P.refuses Q.refuses K.refuses) self.new out.old out.new (turn_of result) }
         ensures ready { TransactionReady (ways P.meaning Q.meaning K.meaning P.refuses Q.refuses K.refuses) self.new }
         ensures numbers { HasNumbers out.new }
     {
@@ -508,12 +554,16 @@ where
         requires aside { self.old.work ≡ works.GaveUp }
         requires start { HasVersion self.old.start }
         requires call { (call.start ≡ self.old.start) × StageReady (ways P.meaning Q.meaning K.meaning P.refuses Q.refuses K.refuses) call.stage }
+        requires runs { turn_of (Ok progress) ≡ Waits → stage_phase (ways P.meaning Q.meaning K.meaning P.refuses Q.refuses K.refuses) call.stage ≡ Running }
+        requires version { IfEnds (turn_of (Ok progress)) IsInRange }
         ensures takes_up { (o : Posted) → TakesUp (ways P.meaning Q.meaning K.meaning P.refuses Q.refuses K.refuses) call self.old self.new o (turn_of (Ok progress)) (turn_of result) }
         ensures keeps { Keeps (ways P.meaning Q.meaning K.meaning P.refuses Q.refuses K.refuses) call self.old self.new }
         ensures status { self.new.status ≡ moved_by self.old.status (turn_of result) }
         ensures kept { self.new ≡ record self.old { status = self.new.status; work = self.new.work; width = self.new.width } }
         ensures stops { turn_of result ≡ Stopped → self.new.work ≡ works.GaveUp }
         ensures busy { is_open self.new.work ≡ is_waiting (turn_of result) }
+        ensures follows { Follows (ways P.meaning Q.meaning K.meaning P.refuses Q.refuses K.refuses) call (turn_of (Ok progress)) self.old self.new (turn_of result) }
+        ensures job { IfEnds (turn_of result) (HandsOut Q.meaning) }
         ensures ready { TransactionReady (ways P.meaning Q.meaning K.meaning P.refuses Q.refuses K.refuses) self.new }
     {
         match progress {
@@ -531,10 +581,13 @@ where
         call: CommitterCall<P, Q, K>,
         answer: CommitterAnswer,
     ) -> Progress<TxnAnswer<Q>>
+        requires start { HasVersion self.old.start }
+        requires version { IsInRange (Ok answer) }
         ensures takes_up { (o : Posted) → TakesUp (ways P.meaning Q.meaning K.meaning P.refuses Q.refuses K.refuses) call self.old self.new o (Ends (Ok answer)) (turn_of (Ok result)) }
         ensures ended { HasEnded (turn_of (Ok result)) }
         ensures status { self.new.status ≡ moved_by self.old.status (turn_of (Ok result)) }
         ensures kept { self.new ≡ record self.old { status = self.new.status; work = works.Idle; width = self.new.width } }
+        ensures job { IfEnds (turn_of (Ok result)) (HandsOut Q.meaning) }
         ensures width { self.new.width ≡ max self.old.width (call_width (ways P.meaning Q.meaning K.meaning P.refuses Q.refuses K.refuses) call) }
     {
         self.let_go(&call);
@@ -577,6 +630,7 @@ where
         ensures fails { HasFailed (turn_of result) }
         ensures kept { self.new ≡ record self.old { work = self.new.work; width = self.new.width } }
         ensures width { self.new.width ≡ max self.old.width (call_width (ways P.meaning Q.meaning K.meaning P.refuses Q.refuses K.refuses) call) }
+        ensures rests { Rests (ways P.meaning Q.meaning K.meaning P.refuses Q.refuses K.refuses) self.new (turn_of result) }
         ensures stops { turn_of result ≡ Stopped → self.new.work ≡ works.GaveUp }
         ensures busy { is_open self.new.work ≡ false }
     {

@@ -4,6 +4,7 @@ use Rattle.txn_commit.proofs.Committing.{at_stage}
 use Rattle.txn_commit.proofs.Stages.{ends_is, goes_on_ends, goes_on_next, goes_on_waits, waits_is}
 use Rattle.txn_commit.proofs.Counting.{next_counts}
 use Rattle.std.proofs.Math.Nat.{le-add_left}
+use Rattle.txn_commit.proofs.Going.{resumes_next, resumes_over, resumes_waits}
 use Rattle.txn_commit.proofs.committer.CommitterCall.after_primary_rollback.Goals as goal
 
 pub returns-in-Waiting-clause-moves : goal.returns-in-Waiting-clause-moves
@@ -17,3 +18,12 @@ returns-clause-moves g c c' k e = goes_on_ends _ _ _ _ _ _ _ _ _ _ _ (ends_is c.
 
 pub returns-in-Done-Ok-clause-counts : goal.returns-in-Done-Ok-clause-counts
 returns-in-Done-Ok-clause-counts g c k e = next_counts _ _ _ _ _ (stages.RollingBackPrimary k) _ _ _ e (λ n. le-add_left _ _) (λ n. le-add_left _ _) c.roll_back_others.ensures.counts
+
+pub returns-in-Waiting-clause-resumes : goal.returns-in-Waiting-clause-resumes
+returns-in-Waiting-clause-resumes g c = resumes_waits _ c.args.self.now _ _ _ (waits_is c.in-Waiting.is)
+
+pub returns-in-Done-Ok-clause-resumes : goal.returns-in-Done-Ok-clause-resumes
+returns-in-Done-Ok-clause-resumes g c = resumes_next _ c.args.self.now c.roll_back_others.new.self _ _ _ _ _ _ _ (ends_is c.in-Done-Ok.is c.in-Done-Ok.field-0-is) c.roll_back_others.ensures.opens
+
+pub returns-clause-resumes : goal.returns-clause-resumes
+returns-clause-resumes g c = resumes_over _ c.args.self.now c.end.new.self _ _ _ _ _ _ (ends_is c.in-Done-Err.is c.in-Done-Err.field-0-is) c.end.ensures.state c.end.ensures.turn

@@ -10,6 +10,8 @@ use Rattle.txn_commit.proofs.Stages.{ends_on, none_left, rolling_others_begins, 
 use Rattle.txn_commit.specs.Committing.{ways}
 use Rattle.txn_commit.specs.Counting.{costs_of}
 use Rattle.txn_commit.proofs.Counting.{rolling_others_starts, gone_wide, is_kept_so, stop_counts, then_counts}
+use Rattle.txn_history.proofs.Telling.{is_kept_ok}
+use Rattle.txn_commit.proofs.Going.{opens_over, opens_stopped, opens_stops, opens_then, resumes_settled}
 use Rattle.txn_commit.proofs.committer.CommitterCall.roll_back_others.Goals as goal
 
 pub returns-then-is_empty-clause-moves : goal.returns-then-is_empty-clause-moves
@@ -32,3 +34,18 @@ returns-in_err-turn-clause-counts g c = stop_counts _ _ (stopped_is _ c.from_res
 
 pub returns-clause-counts : goal.returns-clause-counts
 returns-clause-counts g c = then_counts _ _ (λ e. e) (rw c.in_ok-turn.was (is_kept_so c.in_ok-turn.field-0)) (rolling_others_starts _ _ c.args.self.now c.go-2.new.self _ c.in_ok-plan.plan c.start-turn.new.self (c.go-2.ensures.state ∙ rw c.go.ensures.state refl) (gone_wide (ways g.P.Plan.meaning g.Q.Plan.meaning g.K.Plan.meaning g.P.PlanFor.refuses g.Q.PlanFor.refuses g.K.PlanFor.refuses) (costs_of g.P.PlanFor.costs g.Q.PlanFor.costs g.K.PlanFor.costs) c.args.self.now c.go.new.self c.go-2.new.self c.go.ensures.width c.go-2.ensures.width) (c.in_ok-keys.ensures ∙ rw c.go.ensures.state refl) c.in_ok-plan.ensures c.start-turn.ensures.counts) (c.after_rollback.ensures.counts _)
+
+pub returns-then-is_empty-clause-opens : goal.returns-then-is_empty-clause-opens
+returns-then-is_empty-clause-opens g c = opens_over _ c.args.self.now c.end.new.self _ _ _ c.end.ensures.state c.end.ensures.turn
+
+pub returns-in_err-keys-clause-opens : goal.returns-in_err-keys-clause-opens
+returns-in_err-keys-clause-opens g c = opens_stopped _ c.args.self.now c.go.new.self _ _ _ c.go.ensures.state (stopped_is _ c.from_residual.ensures.0) refl
+
+pub returns-in_err-plan-clause-opens : goal.returns-in_err-plan-clause-opens
+returns-in_err-plan-clause-opens g c = opens_stopped _ c.args.self.now c.go.new.self _ _ _ c.go.ensures.state (stopped_is _ c.from_residual-in_err-plan.ensures.0) refl
+
+pub returns-in_err-turn-clause-opens : goal.returns-in_err-turn-clause-opens
+returns-in_err-turn-clause-opens g c = opens_stops _ g.K.Plan.meaning (λ p. stages.RollingBackOthers p) (λ s. refl) (λ s a x. x) (λ s a x. x) c.go-2.new.self c.in_ok-plan.plan c.start-turn.new.self _ _ _ _ (rw c.go-2.ensures.state refl) refl (stopped_is _ c.from_residual-in_err-turn.ensures.0) g.met.K.Plan.lawful c.in_ok-plan.ensures.unbegun (c.in_err-turn.ensures.goes.next c.in_ok-plan.ensures.unbegun.phase) c.in_err-turn.ensures.tells.expects
+
+pub returns-clause-opens : goal.returns-clause-opens
+returns-clause-opens g c = opens_then _ g.K.Plan.meaning (λ p. stages.RollingBackOthers p) (λ s. refl) (λ s a x. x) (λ s a x. x) c.go-2.new.self c.after_rollback.new.self c.in_ok-plan.plan c.start-turn.new.self _ _ _ _ _ _ _ (rw c.go-2.ensures.state refl) (is_kept_ok c.in_ok-turn.field-0) g.met.K.Plan.lawful c.in_ok-plan.ensures.unbegun (c.in_ok-turn.ensures.goes.next c.in_ok-plan.ensures.unbegun.phase) c.in_ok-turn.ensures.tells.expects (resumes_settled _ c.go-2.new.self c.after_rollback.new.self c.start-turn.new.out (tt {0}) _ _ (is_kept_ok c.in_ok-turn.field-0) c.after_rollback.ensures.settles)

@@ -1,5 +1,6 @@
 use Rattle.std.proofs.Common.{◌∙◌, refl, sym}
 use Rattle.txn_core.proofs.Going.{takes_checked, takes_committed, takes_rolled}
+use Rattle.txn_core.proofs.Waiting.{hands_committed}
 use Rattle.txn_core.proofs.transaction.Transaction.answer.Goals as goal
 
 pub returns-in-Committed-clause-takes_up : goal.returns-in-Committed-clause-takes_up
@@ -10,3 +11,6 @@ returns-in-Checked-clause-takes_up g c o = rw c.in-Checked.is (takes_checked _ c
 
 pub returns-in-RolledBack-clause-takes_up : goal.returns-in-RolledBack-clause-takes_up
 returns-in-RolledBack-clause-takes_up g c o = rw c.in-RolledBack.is (takes_rolled _ c.args.call c.args.self.now c.reach-in-RolledBack.new.self c.reach-in-RolledBack.new.self.width o (rw (c.reach-in-RolledBack.ensures, c.let_go.ensures) refl))
+
+pub returns-in-Committed-clause-job : goal.returns-in-Committed-clause-job
+returns-in-Committed-clause-job g c = hands_committed g.Q.Plan.meaning _ c.in-Committed.timestamp _ _ (rw (c.reach.ensures, c.let_go.ensures) c.requires.start) (rw c.in-Committed.is at c.requires.version) c.committed.ensures

@@ -5,6 +5,8 @@ use Rattle.txn_history.specs.Turn.{turn_of}
 use Rattle.txn_commit.proofs.Counting.{is_kept_so}
 use Rattle.txn_core.proofs.Counting.{begin_counts, commit_priced, kept_of_ok, lets_go, never_kept}
 use Rattle.txn_core.proofs.Going.{begin_fits, goes_on, lifts, may_start}
+use Rattle.txn_history.proofs.Telling.{is_kept_ok}
+use Rattle.txn_core.proofs.Waiting.{call_runs, opens_call, opens_gone}
 use Rattle.txn_core.proofs.transaction.Transaction.start_commit.Goals as goal
 
 pub returns-in-Err-clause-moves : goal.returns-in-Err-clause-moves
@@ -18,3 +20,12 @@ returns-in-Err-clause-counts g c = begin_counts _ _ c.committer-call.result c.st
 
 pub returns-in-Ok-clause-counts : goal.returns-in-Ok-clause-counts
 returns-in-Ok-clause-counts g c = begin_counts _ _ c.committer-call.result c.start_call.new.call c.args.self.now c.start_call.new.self c.go_on.new.self _ c.requires.aside c.start_call.ensures.kept c.go_on.ensures.keeps (kept_of_ok _ (turn_of c.start_call.result) (rw c.in-Ok.is (is_kept_so c.in-Ok.progress))) (commit_priced _ _ c.args.self.now.commits.timestamp c.committer-call.result c.start_call.new.call c.args.parts c.committer-call.ensures.whole c.start_call.ensures.counts)
+
+pub returns-in-Ok-clause-opens : goal.returns-in-Ok-clause-opens
+returns-in-Ok-clause-opens g c = opens_call _ c.start_call.new.call _ c.start_call.new.self c.go_on.new.self _ _ _ (is_kept_ok c.in-Ok.progress) (rw c.in-Ok.is at c.start_call.ensures.opens) c.go_on.ensures.follows
+
+pub returns-in-Err-clause-opens : goal.returns-in-Err-clause-opens
+returns-in-Err-clause-opens g c = opens_gone _ c.start_call.new.call _ c.stop.new.self _ _ _ (rw c.stop.ensures.state refl) c.stop.ensures.turn c.start_call.ensures.opens
+
+pub returns-in-Err-clause-job : goal.returns-in-Err-clause-job
+returns-in-Err-clause-job g c = rw c.stop.ensures.turn tt

@@ -5,6 +5,8 @@ use Rattle.txn_history.specs.Turn.{turn_of}
 use Rattle.txn_commit.proofs.Counting.{is_kept_so}
 use Rattle.txn_core.proofs.Counting.{begin_counts, is_locking, kept_of_ok, lets_go, locks_price, never_kept, rest_pays, rollback_priced}
 use Rattle.txn_core.proofs.Going.{begin_fits, goes_on, lifts, not_locking, rolls_nothing}
+use Rattle.txn_history.proofs.Telling.{is_kept_ok}
+use Rattle.txn_core.proofs.Waiting.{call_runs, opens_call, opens_gone, opens_rests, rests_idle}
 use Rattle.txn_core.proofs.transaction.Transaction.start_rollback.Goals as goal
 
 pub returns-then-not-parts-clause-moves : goal.returns-then-not-parts-clause-moves
@@ -24,3 +26,12 @@ returns-in-Err-clause-counts g c = locks_price _ _ c.args.parts c.args.self.now 
 
 pub returns-in-Ok-clause-counts : goal.returns-in-Ok-clause-counts
 returns-in-Ok-clause-counts g c = locks_price _ _ c.args.parts c.args.self.now c.go_on.new.self (is_locking _ c.if-not-parts.false) (begin_counts _ _ c.committer-call.result c.roll_back.new.self c.args.self.now c.args.self.now c.go_on.new.self _ c.requires.aside refl c.go_on.ensures.keeps (kept_of_ok _ (turn_of c.roll_back.result) (rw c.in-Ok.is (is_kept_so c.in-Ok.progress))) (rollback_priced _ _ c.committer-call.result c.roll_back.new.self c.args.parts c.committer-call.ensures.whole c.roll_back.ensures.counts))
+
+pub returns-then-not-parts-clause-opens : goal.returns-then-not-parts-clause-opens
+returns-then-not-parts-clause-opens g c = opens_rests _ c.nothing_rolled_back.new.self _ _ (rests_idle _ c.nothing_rolled_back.new.self _ (rw c.nothing_rolled_back.ensures.state refl) (rw c.nothing_rolled_back.ensures.answer tt))
+
+pub returns-in-Ok-clause-opens : goal.returns-in-Ok-clause-opens
+returns-in-Ok-clause-opens g c = opens_call _ c.roll_back.new.self _ c.args.self.now c.go_on.new.self _ _ _ (is_kept_ok c.in-Ok.progress) (rw c.in-Ok.is at c.roll_back.ensures.opens) c.go_on.ensures.follows
+
+pub returns-in-Err-clause-opens : goal.returns-in-Err-clause-opens
+returns-in-Err-clause-opens g c = opens_gone _ c.roll_back.new.self _ c.stop.new.self _ _ _ (rw c.stop.ensures.state refl) c.stop.ensures.turn c.roll_back.ensures.opens
