@@ -21,3 +21,4 @@ pub mod StaysGone
 pub mod Asking
 pub mod Ranged
 pub mod Origins
+pub mod GivenOnce

@@ -17,6 +17,7 @@
 
 mod asks;
 mod between;
+mod given;
 mod gone;
 mod ranges;
 mod reads;
@@ -26,6 +27,7 @@ mod whole;
 
 pub use asks::asks_are_answered_later;
 pub use between::none_between;
+pub use given::timestamps_are_given_once;
 pub use gone::locks_stay_gone;
 pub use ranges::epochs_tell_ranges;
 pub use reads::reads_repeat;
