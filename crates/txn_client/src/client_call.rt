@@ -123,7 +123,7 @@ where
         requires numbers { HasNumbers out.old }
         requires clock { now < 2 ^ 44 }
         ensures tells { (r : Asked) → Tells called (replied (ticket_of out.old number) r reply) self.old self.new out.old out.new (turn_of result) }
-        ensures goes { Goes called.phase (stage_waits self.old.stage (ReplyTo number)) self.old self.new out.old out.new (D.connection pd.old) (D.connection pd.new) (turn_of result) }
+        ensures goes { Goes called.phase (stage_waits self.old.stage (ReplyTo number)) self.old self.new out.old out.new pd.old pd.new (turn_of result) }
         ensures counts { Counts called (has_error reply) (has_region_error reply) (weight_of reply) (locked_of reply) self.old self.new out.old out.new (turn_of result) }
         ensures made { IfEnds (turn_of result) (IsMadeOf self.old.wanted now (arrivals.Reply number reply)) }
         ensures answer { IfEnds (turn_of result) (AnswerReady (ways P.meaning Q.meaning K.meaning P.refuses Q.refuses K.refuses)) }
@@ -145,7 +145,7 @@ where
         requires numbers { HasNumbers out.old }
         requires clock { now < 2 ^ 44 }
         ensures tells { (r : Asked) → Tells called (missed (ticket_of out.old number) r) self.old self.new out.old out.new (turn_of result) }
-        ensures goes { Goes called.phase (stage_waits self.old.stage (ReplyTo number)) self.old self.new out.old out.new (D.connection pd.old) (D.connection pd.new) (turn_of result) }
+        ensures goes { Goes called.phase (stage_waits self.old.stage (ReplyTo number)) self.old self.new out.old out.new pd.old pd.new (turn_of result) }
         ensures counts { Counts called true true 0 0 self.old self.new out.old out.new (turn_of result) }
         ensures made { IfEnds (turn_of result) (IsMadeOf self.old.wanted now (arrivals.Lost number)) }
         ensures answer { IfEnds (turn_of result) (AnswerReady (ways P.meaning Q.meaning K.meaning P.refuses Q.refuses K.refuses)) }
@@ -167,7 +167,7 @@ where
         requires numbers { HasNumbers out.old }
         requires clock { now < 2 ^ 44 }
         ensures tells { Tells called (woken (ticket_of out.old number)) self.old self.new out.old out.new (turn_of result) }
-        ensures goes { Goes called.phase (stage_waits self.old.stage (EndOf number)) self.old self.new out.old out.new (D.connection pd.old) (D.connection pd.new) (turn_of result) }
+        ensures goes { Goes called.phase (stage_waits self.old.stage (EndOf number)) self.old self.new out.old out.new pd.old pd.new (turn_of result) }
         ensures counts { Counts called false false 0 0 self.old self.new out.old out.new (turn_of result) }
         ensures made { IfEnds (turn_of result) (IsMadeOf self.old.wanted now (arrivals.Slept number)) }
         ensures answer { IfEnds (turn_of result) (AnswerReady (ways P.meaning Q.meaning K.meaning P.refuses Q.refuses K.refuses)) }
@@ -191,7 +191,7 @@ where
         requires numbers { HasNumbers out.old }
         requires clock { now < 2 ^ 44 }
         ensures tells { Tells called (timed (ticket_of out.old ask) (result_ok answer)) self.old self.new out.old out.new (turn_of result) }
-        ensures goes { Goes called.phase (stage_waits self.old.stage (TimeOf ask)) self.old self.new out.old out.new (D.connection pd.old) (D.connection pd.new) (turn_of result) }
+        ensures goes { Goes called.phase (stage_waits self.old.stage (TimeOf ask)) self.old self.new out.old out.new pd.old pd.new (turn_of result) }
         ensures counts { Counts called (is_err answer) false 0 0 self.old self.new out.old out.new (turn_of result) }
         ensures made { IfEnds (turn_of result) (IsMadeOf self.old.wanted now (arrivals.Time ask answer)) }
         ensures answer { IfEnds (turn_of result) (AnswerReady (ways P.meaning Q.meaning K.meaning P.refuses Q.refuses K.refuses)) }
@@ -214,7 +214,7 @@ where
         requires numbers { HasNumbers out.old }
         requires clock { now < 2 ^ 44 }
         ensures tells { (r : Asked) → Tells called (told_by arrival out.old r) self.old self.new out.old out.new (turn_of result) }
-        ensures goes { Goes called.phase (stage_waits self.old.stage (awaited_as arrival)) self.old self.new out.old out.new (D.connection pd.old) (D.connection pd.new) (turn_of result) }
+        ensures goes { Goes called.phase (stage_waits self.old.stage (awaited_as arrival)) self.old self.new out.old out.new pd.old pd.new (turn_of result) }
         ensures counts { Counts called (tells_error arrival) (tells_failure arrival) (weight_told arrival) (locked_told arrival) self.old self.new out.old out.new (turn_of result) }
         ensures made { IfEnds (turn_of result) (IsMadeOf self.old.wanted now (arrival)) }
         ensures answer { IfEnds (turn_of result) (AnswerReady (ways P.meaning Q.meaning K.meaning P.refuses Q.refuses K.refuses)) }
