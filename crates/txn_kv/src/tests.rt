@@ -1,4 +1,6 @@
+mod replies;
 mod requests;
+mod values;
 
 use super::*;
 use std::alloc::Global;

@@ -259,3 +259,55 @@ fn sets_the_api_version(rt: HostRuntime) {
     let placement = with_api_version(get_region(alloc), ApiVersion::V2);
     assert!(rt; placement == get_region(alloc));
 }
+
+/// Whether a copy of the request is made, and equals it.
+fn is_copied(request: Request) -> bool {
+    match request.try_clone() {
+        Ok(copy) => copy == request,
+        Err(_) => false,
+    }
+}
+
+#[test]
+fn copies_reads(rt: HostRuntime) {
+    let alloc = rt.alloc();
+    assert!(rt; is_copied(get(alloc, None)));
+    assert!(rt; is_copied(batch_get(alloc)));
+    assert!(rt; is_copied(scan(alloc)));
+    assert!(rt; is_copied(scan_lock(alloc)));
+}
+
+#[test]
+fn copies_writes(rt: HostRuntime) {
+    let alloc = rt.alloc();
+    assert!(rt; is_copied(prewrite(alloc)));
+    assert!(rt; is_copied(commit(alloc)));
+    assert!(rt; is_copied(cleanup(alloc)));
+    assert!(rt; is_copied(batch_rollback(alloc)));
+    assert!(rt; is_copied(pessimistic_rollback(alloc)));
+    assert!(rt; is_copied(pessimistic_lock(alloc)));
+}
+
+#[test]
+fn copies_settling(rt: HostRuntime) {
+    let alloc = rt.alloc();
+    assert!(rt; is_copied(resolve_lock(alloc)));
+    assert!(rt; is_copied(heart_beat(alloc)));
+    assert!(rt; is_copied(check_status(alloc)));
+    assert!(rt; is_copied(check_secondaries(alloc)));
+    assert!(rt; is_copied(destroy(alloc)));
+}
+
+#[test]
+fn copies_placement(rt: HostRuntime) {
+    let by_id = Request::GetRegionById(GetRegionByIdRequest { region_id: 2 });
+    let store = Request::GetStore(GetStoreRequest { store_id: 4 });
+    let safe_point = Request::UpdateGcSafePoint(UpdateGcSafePointRequest { safe_point: 9 });
+    assert!(rt; is_copied(get_region(rt.alloc())));
+    assert!(rt; is_copied(by_id));
+    assert!(rt; is_copied(store));
+    assert!(rt; is_copied(Request::GetAllStores(GetAllStoresRequest)));
+    assert!(rt; is_copied(safe_point));
+    assert!(rt; is_copied(Request::Tso(TsoRequest { count: 64 })));
+    assert!(rt; is_copied(Request::Members(MembersRequest)));
+}
