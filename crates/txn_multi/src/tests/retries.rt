@@ -86,6 +86,25 @@ fn a_request_goes_to_its_region(rt: HostRuntime) -> std::result::Result<(), Fail
     Ok(())
 }
 
+/// The region is not known, and after a sleep the request goes out again.
+fn try_again(
+    line: &mut Line<Getting>,
+    alloc: Global,
+    asked: u64,
+    slept: u64,
+) -> std::result::Result<(), NoMemory> {
+    line.reply(asked, unknown(alloc))?;
+    line.wake(slept)?;
+    Ok(())
+}
+
+fn spend_three(line: &mut Line<Getting>, alloc: Global) -> std::result::Result<(), NoMemory> {
+    try_again(line, alloc, 1, 2)?;
+    try_again(line, alloc, 3, 4)?;
+    try_again(line, alloc, 5, 6)?;
+    Ok(())
+}
+
 /// Four requests go out, each but the last followed by a sleep: the backoff has three attempts.
 #[test]
 fn a_region_that_is_not_known_is_asked_for_four_times(
@@ -94,12 +113,7 @@ fn a_region_that_is_not_known_is_asked_for_four_times(
     let alloc = rt.alloc();
     let mut line = line(alloc, Backoff::no_jitter_backoff(1, 1, 3))?;
     line.start()?;
-    line.reply(1, unknown(alloc))?;
-    line.wake(2)?;
-    line.reply(3, unknown(alloc))?;
-    line.wake(4)?;
-    line.reply(5, unknown(alloc))?;
-    line.wake(6)?;
+    spend_three(&mut line, alloc)?;
     let last = line.reply(7, unknown(alloc))?;
     assert!(rt; is_refused(&last));
     assert_eq!(rt; line.errands().len(), 7);
