@@ -1,0 +1,6 @@
+mod Numbers
+mod Orders
+mod Finds
+mod Calms
+mod Folds
+mod Standings

@@ -1,0 +1,24 @@
+use Rattle.std.proofs.Common.{refl}
+use Rattle.txn_machine.proofs.Standings.{broken_stands, few_lines, good_fine, step_stands}
+use Rattle.txn_machine.proofs.machine.Machine.step.Goals as goal
+
+pub try_step-requires-clause-ordered : goal.try_step-requires-clause-ordered
+try_step-requires-clause-ordered g c = (c.requires.stands.stands (record { whole = c.if-self.false })).ordered
+
+pub try_step-requires-clause-ready : goal.try_step-requires-clause-ready
+try_step-requires-clause-ready g c = (c.requires.stands.stands (record { whole = c.if-self.false })).able
+
+pub try_step-requires-clause-room : goal.try_step-requires-clause-room
+try_step-requires-clause-room g c = few_lines g.S.ClientSide.sight g.S.ClientSide.ready c.args.self.now c.requires.lines c.args.line c.requires.good (c.requires.stands.stands (record { whole = c.if-self.false }))
+
+pub try_step-requires-clause-fine : goal.try_step-requires-clause-fine
+try_step-requires-clause-fine g c = good_fine c.requires.lines c.args.line c.requires.good
+
+pub returns-then-self-clause-stands : goal.returns-then-self-clause-stands
+returns-then-self-clause-stands g c lines s good = broken_stands g.S.ClientSide.sight g.S.ClientSide.ready _ c.args.line lines c.if-self.true good
+
+pub returns-in-Ok-clause-stands : goal.returns-in-Ok-clause-stands
+returns-in-Ok-clause-stands g c lines s good = step_stands g.S.ClientSide.sight g.S.ClientSide.ready c.args.self.now _ c.args.line lines c.in-Ok.ensures.lists c.in-Ok.ensures.ready (c.in-Ok.ensures.kinds lines) good (record { whole = c.if-self.false }) s
+
+pub returns-in-Err-clause-stands : goal.returns-in-Err-clause-stands
+returns-in-Err-clause-stands g c lines s good = broken_stands g.S.ClientSide.sight g.S.ClientSide.ready _ c.args.line lines refl good

@@ -1,0 +1,12 @@
+use Rattle.txn_machine.specs.Running.{lists_of}
+use Rattle.txn_machine.proofs.Standings.{opened_ordered, opened_some, step_lists}
+use Rattle.txn_machine.proofs.machine.Machine.try_step.Goals as goal
+
+pub run-requires-clause-ordered : goal.run-requires-clause-ordered
+run-requires-clause-ordered g c = opened_ordered (lists_of g.S.ClientSide.sight c.args.self.now) _ c.in_ok-open.ensures.lists c.requires.room c.requires.ordered
+
+pub run-requires-clause-some : goal.run-requires-clause-some
+run-requires-clause-some g c = opened_some (lists_of g.S.ClientSide.sight c.args.self.now) _ c.in_ok-open.ensures.lists
+
+pub returns-clause-lists : goal.returns-clause-lists
+returns-clause-lists g c = step_lists c.args.line (lists_of g.S.ClientSide.sight c.args.self.now) _ _ _ c.in_ok-done.done c.in_ok-open.ensures.lists c.in_ok-done.ensures.does c.in_ok-note.ensures.lists

@@ -1,0 +1,125 @@
+-- What each line does.
+use Rattle.std.specs.Prelude.{◌≡◌, ℕ, ◌&&◌, Bool, true, false, if◌then◌else◌, List, [], Option, Some, None}
+use Rattle.txn_kv.specs.declared.reply.Reply.{Reply}
+use Rattle.txn_kv.specs.declared.ticket.Ticket.{Ticket}
+use Rattle.txn_history.specs.Busy.{busy_reply}
+use Rattle.txn_lines.specs.declared.line.Line.{Line}
+use Rattle.txn_lines.specs.declared.line.Line.TheVariants as lines
+use Rattle.txn_model.specs.Regions.{at_clock, can_lead, can_split, lead, split}
+use Rattle.txn_post.specs.Mail.{can_be_served, delivering, found_awaited, found_lasting, found_unserved, keeping, letter_at, losing, refusing, taking, waking}
+use Rattle.txn_report.specs.declared.outcome.Outcome.{Outcome}
+use Rattle.txn_report.specs.declared.outcome.Outcome.TheVariants.{Done, Ok, Skipped}
+use Rattle.txn_report.specs.declared.outcome.Payload.TheVariants.{Unit as Nothing}
+use Rattle.txn_side.specs.Sight.{Acts, Asks, Goes, Sight, connected, crash, is_live}
+use Rattle.txn_side.specs.declared.act.Act.TheVariants as acts
+use Rattle.txn_side.specs.declared.turn.Ending.{Ending}
+use Rattle.txn_side.specs.declared.turn.Posting.{Posting}
+use Rattle.txn_side.specs.declared.turn.Turn.{Turn}
+use Rattle.txn_machine.specs.Lists.{Lists, fated, followed, handled, opened, outright, reply_at, request_at, with_mail, with_sight, with_store}
+
+-- an event that could do nothing where it stood
+abbrev pub skipped : Lists → Lists
+skipped l = outright Skipped l
+
+abbrev pub done_if : Bool → Outcome
+done_if b = if b then Done else Skipped
+
+-- Calls
+
+abbrev pub called : Option Turn → Lists → Lists
+called None l = skipped l
+called (Some turn) l = followed turn.posted.items turn.ended.items l
+
+abbrev pub posted_in : Option Turn → List Posting
+posted_in None = []
+posted_in (Some turn) = turn.posted.items
+
+-- the clients do so, and the line is a call that they begin, or skip
+pub record Calls (Begins : Sight → Sight → Option Turn → Type 0) (l new : Lists) : Type 0 where
+  pub sight : Sight
+  pub turn : Option Turn
+  pub begins : Begins l.sight sight turn
+  pub is : new ≡ called turn (with_sight sight l)
+
+-- Events
+
+-- the event is done, and the clients are told of it
+pub record Hears (l new : Lists) : Type 0 where
+  pub sight : Sight
+  pub posted : List Posting
+  pub ended : List Ending
+  pub goes : Goes posted ended l.sight sight
+  pub is : new ≡ followed posted ended (outright Done (with_sight sight l))
+
+-- where the request stands that a ticket names and whose client, which has not crashed, waits for a reply
+abbrev pub found_out : Lists → Ticket → Option ℕ
+found_out l t = if is_live l.sight t.line then found_awaited l.mail t else None
+
+-- at the place, if there is one
+abbrev pub AtPlace : Option ℕ → (ℕ → Lists → Lists → Type 0) → Lists → Lists → Type 0
+AtPlace None Does l new = new ≡ skipped l
+AtPlace (Some place) Does l new = Does place l new
+
+abbrev pub Serves : Ticket → ℕ → Lists → Lists → Type 0
+Serves t place l new = new ≡ outright Done (fated (keeping (reply_at l place)) place (handled t place l))
+
+abbrev pub Takes : ℕ → Option Reply → Lists → Lists → Type 0
+Takes place None l new = new ≡ skipped l
+Takes place (Some o) l new = Hears (fated taking place l) new
+
+abbrev pub Answers : ℕ → Lists → Lists → Type 0
+Answers place l new = Takes place (letter_at l.mail place).kept l new
+
+abbrev pub IfServable : Bool → (Lists → Lists → Type 0) → Lists → Lists → Type 0
+IfServable true Does l new = Does l new
+IfServable false Does l new = new ≡ skipped l
+
+abbrev pub Delivers : Ticket → ℕ → Lists → Lists → Type 0
+Delivers t place l new = IfServable (can_be_served l.mail place) (λ l new. Hears (fated delivering place (handled t place l)) new) l new
+
+abbrev pub Refuses : ℕ → Option Reply → Lists → Lists → Type 0
+Refuses place None l new = new ≡ skipped l
+Refuses place (Some o) l new = Hears (fated refusing place l) new
+
+abbrev pub IsBusy : ℕ → Lists → Lists → Type 0
+IsBusy place l new = IfServable (can_be_served l.mail place) (λ l new. Refuses place (busy_reply (request_at l place)) l new) l new
+
+abbrev pub Loses : ℕ → Lists → Lists → Type 0
+Loses place l new = Hears (fated losing place l) new
+
+abbrev pub Wakes : ℕ → Lists → Lists → Type 0
+Wakes place l new = Hears (with_mail (waking place l.mail) l) new
+
+-- where the sleep stands that a ticket names and that lasts, of a client that has not crashed
+abbrev pub found_asleep : Lists → Ticket → Option ℕ
+found_asleep l t = if is_live l.sight t.line then found_lasting l.mail t else None
+
+-- Lines
+
+-- what the newest line does
+abbrev pub Does : Line → Lists → Lists → Type 0
+Does lines.Blank l new = new ≡ outright Done l
+Does lines.Client l new = new ≡ outright (Ok Nothing) (with_sight (connected l.sight) l)
+Does (lines.Begin client options) l new = Calls (Asks true client) l new
+Does (lines.Timestamp client) l new = Calls (Asks false client) l new
+Does (lines.Put x key value) l new = Calls (Acts (acts.Put key value) x) l new
+Does (lines.Insert x key value) l new = Calls (Acts (acts.Insert key value) x) l new
+Does (lines.Delete x key) l new = Calls (Acts (acts.Delete key) x) l new
+Does (lines.Mutate x mutations) l new = Calls (Acts (acts.Mutate mutations) x) l new
+Does (lines.Lock x keys) l new = Calls (Acts (acts.Lock keys) x) l new
+Does (lines.Commit x) l new = Calls (Acts acts.Commit x) l new
+Does (lines.Rollback x) l new = Calls (Acts acts.Rollback x) l new
+Does (lines.Serve t) l new = AtPlace (found_unserved l.mail t) (Serves t) l new
+Does (lines.Answer t) l new = AtPlace (found_out l t) Answers l new
+Does (lines.Deliver t) l new = AtPlace (found_out l t) (Delivers t) l new
+Does (lines.Lose t) l new = AtPlace (found_out l t) Loses l new
+Does (lines.Busy t) l new = AtPlace (found_out l t) IsBusy l new
+Does (lines.Wake t) l new = AtPlace (found_asleep l t) Wakes l new
+Does (lines.Split key) l new = new ≡ outright (done_if (can_split l.store key)) (with_store (split l.store key) l)
+Does (lines.Lead region store) l new = new ≡ outright (done_if (can_lead l.store region store)) (with_store (lead l.store region store) l)
+Does (lines.Clock ms) l new = new ≡ outright Done (with_store (at_clock l.store ms) l)
+Does (lines.Crash client) l new = new ≡ outright (done_if (is_live l.sight client)) (with_sight (crash client l.sight) l)
+
+-- one line more
+abbrev pub Steps : Line → Lists → Lists → Type 0
+Steps line old new = Does line (opened old) new

@@ -1,0 +1,253 @@
+//! Events: what becomes of requests and sleeps, and of the store and the clients.
+ghost use Rattle.std.specs.Prelude.{◌≡◌, ◌≤◌, ◌<◌, ◌^◌, [], IfOk, IfSome, OnOk, Some, length};
+ghost use Rattle.txn_post.specs.Mail.{IsSentAt, IsSleptAt};
+ghost use Rattle.txn_machine.specs.Lists.{Lists, handled, newest, outright, reply_at};
+ghost use Rattle.txn_machine.specs.Running.{CanClose, IsEven, IsOrdered, closed, lists_of};
+ghost use Rattle.txn_machine.specs.Steps.{Does, Hears, done_if, found_asleep, found_out};
+
+use crate::busy::busy_reply;
+use crate::done::Done;
+use crate::machine::Machine;
+use txn_kv::{Key, NoMemory, Reply, Ticket};
+use txn_lines::Line;
+use txn_report::Outcome;
+use txn_side::{ClientSide, Turn};
+
+impl<S: ClientSide> Machine<S> {
+    /// The event is done, or could do nothing.
+    fn happened(&self, done: bool) -> Done
+        ensures closed { (l : Lists) → closed result l ≡ outright (done_if done) l }
+        ensures nothing { result.turn.posted.items ≡ [] }
+    {
+        if done {
+            self.outright(Outcome::Done)
+        } else {
+            self.outright(Outcome::Skipped)
+        }
+    }
+
+    /// The event is done, and the clients did so.
+    fn came(&self, turn: Turn) -> Done
+        ensures outcome { result.outcome ≡ Some Outcome.Done }
+        ensures turn { result.turn ≡ turn }
+    {
+        Done {
+            outcome: Some(Outcome::Done),
+            turn,
+        }
+    }
+
+    /// Where the request that a ticket names stands, if its client waits for a reply.
+    fn find_out(&self, ticket: &Ticket) -> Option<usize>
+        ensures exact { result ≡ found_out (lists_of S.sight self.now) ticket.now }
+        ensures found { IfSome result (IsSentAt (lists_of S.sight self.now).mail ticket.now) }
+    {
+        if !self.clients.is_live(ticket.line) {
+            return None;
+        }
+        self.post.find_awaited(ticket)
+    }
+
+    /// Where the sleep that a ticket names stands, if it lasts and its client has not crashed.
+    fn find_asleep(&self, ticket: &Ticket) -> Option<usize>
+        ensures exact { result ≡ found_asleep (lists_of S.sight self.now) ticket.now }
+        ensures found { IfSome result (IsSleptAt (lists_of S.sight self.now).mail ticket.now) }
+    {
+        if self.clients.is_live(ticket.line) {
+            self.post.find_lasting(ticket)
+        } else {
+            None
+        }
+    }
+
+    /// The store handles the request at a place.
+    fn handle(&mut self, place: usize, ticket: Ticket) -> Result<Reply, NoMemory>
+        requires ordered { IsOrdered (lists_of S.sight self.old) }
+        requires sent { place < length (lists_of S.sight self.old).mail.sent }
+        ensures reply { IfOk result (λ reply. reply ≡ reply_at (lists_of S.sight self.old) place) }
+        ensures lists { OnOk result (lists_of S.sight self.new ≡ handled ticket place (lists_of S.sight self.old)) }
+        ensures clients { OnOk result (self.new.clients ≡ self.old.clients) }
+    {
+        let reply = self.store.serve(&self.post.sent()[place].request)?;
+        self.served.push(ticket)?;
+        Ok(reply)
+    }
+
+    /// The store handles a request, also after it was lost or its client crashed.
+    pub(crate) fn serve(&mut self, ticket: Ticket) -> Result<Done, NoMemory>
+        requires ready { S.ready self.old.clients }
+        requires ordered { IsOrdered (lists_of S.sight self.old) }
+        requires some { 1 ≤ newest (lists_of S.sight self.old) }
+        ensures does { IfOk result (λ done. Does (Line.Serve ticket) (lists_of S.sight self.old) (closed done (lists_of S.sight self.new))) }
+        ensures can { IfOk result (λ done. CanClose done (lists_of S.sight self.new)) }
+        ensures ready { OnOk result (S.ready self.new.clients) }
+    {
+        let Some(place) = self.post.find_unserved(&ticket) else {
+            return Ok(self.happened(false));
+        };
+        let reply = self.handle(place, ticket)?;
+        self.post.keep(place, reply);
+        Ok(self.happened(true))
+    }
+
+    /// The client takes the reply that the store gave.
+    pub(crate) fn answer(&mut self, ticket: Ticket) -> Result<Done, NoMemory>
+        requires ready { S.ready self.old.clients }
+        requires ordered { IsOrdered (lists_of S.sight self.old) }
+        requires some { 1 ≤ newest (lists_of S.sight self.old) }
+        ensures does { IfOk result (λ done. Does (Line.Answer ticket) (lists_of S.sight self.old) (closed done (lists_of S.sight self.new))) }
+        ensures can { IfOk result (λ done. CanClose done (lists_of S.sight self.new)) }
+        ensures ready { OnOk result (S.ready self.new.clients) }
+    {
+        let Some(place) = self.find_out(&ticket) else {
+            return Ok(self.happened(false));
+        };
+        match self.post.take_kept(place) {
+            None => Ok(self.happened(false)),
+            Some(reply) => self.hear(ticket, reply),
+        }
+    }
+
+    /// The store handles a request, and the client takes the reply.
+    pub(crate) fn deliver(&mut self, ticket: Ticket) -> Result<Done, NoMemory>
+        requires ready { S.ready self.old.clients }
+        requires ordered { IsOrdered (lists_of S.sight self.old) }
+        requires some { 1 ≤ newest (lists_of S.sight self.old) }
+        ensures does { IfOk result (λ done. Does (Line.Deliver ticket) (lists_of S.sight self.old) (closed done (lists_of S.sight self.new))) }
+        ensures can { IfOk result (λ done. CanClose done (lists_of S.sight self.new)) }
+        ensures ready { OnOk result (S.ready self.new.clients) }
+    {
+        let Some(place) = self.find_out(&ticket) else {
+            return Ok(self.happened(false));
+        };
+        if !self.post.can_be_served(place) {
+            return Ok(self.happened(false));
+        }
+        let reply = self.handle(place, ticket)?;
+        self.post.deliver(place);
+        self.hear(ticket, reply)
+    }
+
+    /// The client is told by a store that it is too busy.
+    pub(crate) fn busy(&mut self, ticket: Ticket) -> Result<Done, NoMemory>
+        requires ready { S.ready self.old.clients }
+        requires ordered { IsOrdered (lists_of S.sight self.old) }
+        requires some { 1 ≤ newest (lists_of S.sight self.old) }
+        ensures does { IfOk result (λ done. Does (Line.Busy ticket) (lists_of S.sight self.old) (closed done (lists_of S.sight self.new))) }
+        ensures can { IfOk result (λ done. CanClose done (lists_of S.sight self.new)) }
+        ensures ready { OnOk result (S.ready self.new.clients) }
+    {
+        let Some(place) = self.find_out(&ticket) else {
+            return Ok(self.happened(false));
+        };
+        if !self.post.can_be_served(place) {
+            return Ok(self.happened(false));
+        }
+        match busy_reply(self.alloc, &self.post.sent()[place].request) {
+            None => Ok(self.happened(false)),
+            Some(reply) => {
+                self.post.refuse(place);
+                self.hear(ticket, reply)
+            }
+        }
+    }
+
+    /// The client of a ticket takes a reply.
+    fn hear(&mut self, ticket: Ticket, reply: Reply) -> Result<Done, NoMemory>
+        requires ready { S.ready self.old.clients }
+        requires even { IsEven (lists_of S.sight self.old) }
+        requires some { 1 ≤ newest (lists_of S.sight self.old) }
+        ensures hears { IfOk result (λ done. Hears (lists_of S.sight self.old) (closed done (lists_of S.sight self.new))) }
+        ensures can { IfOk result (λ done. CanClose done (lists_of S.sight self.new)) }
+        ensures ready { OnOk result (S.ready self.new.clients) }
+    {
+        let now = self.store.clock();
+        let turn = self.clients.take_reply(ticket, reply, now)?;
+        Ok(self.came(turn))
+    }
+
+    /// The client is told that no reply will come.
+    pub(crate) fn lose(&mut self, ticket: Ticket) -> Result<Done, NoMemory>
+        requires ready { S.ready self.old.clients }
+        requires ordered { IsOrdered (lists_of S.sight self.old) }
+        requires some { 1 ≤ newest (lists_of S.sight self.old) }
+        ensures does { IfOk result (λ done. Does (Line.Lose ticket) (lists_of S.sight self.old) (closed done (lists_of S.sight self.new))) }
+        ensures can { IfOk result (λ done. CanClose done (lists_of S.sight self.new)) }
+        ensures ready { OnOk result (S.ready self.new.clients) }
+    {
+        let Some(place) = self.find_out(&ticket) else {
+            return Ok(self.happened(false));
+        };
+        self.post.lose(place);
+        let now = self.store.clock();
+        let request = &self.post.sent()[place].request;
+        let turn = self.clients.lost(ticket, request, now)?;
+        Ok(self.came(turn))
+    }
+
+    /// A sleep ends.
+    pub(crate) fn wake(&mut self, ticket: Ticket) -> Result<Done, NoMemory>
+        requires ready { S.ready self.old.clients }
+        requires ordered { IsOrdered (lists_of S.sight self.old) }
+        requires some { 1 ≤ newest (lists_of S.sight self.old) }
+        ensures does { IfOk result (λ done. Does (Line.Wake ticket) (lists_of S.sight self.old) (closed done (lists_of S.sight self.new))) }
+        ensures can { IfOk result (λ done. CanClose done (lists_of S.sight self.new)) }
+        ensures ready { OnOk result (S.ready self.new.clients) }
+    {
+        let Some(place) = self.find_asleep(&ticket) else {
+            return Ok(self.happened(false));
+        };
+        self.post.wake(place);
+        let turn = self.clients.slept(ticket, self.store.clock())?;
+        Ok(self.came(turn))
+    }
+
+    pub(crate) fn split(&mut self, key: Key) -> Result<Done, NoMemory>
+        requires ready { S.ready self.old.clients }
+        requires ordered { IsOrdered (lists_of S.sight self.old) }
+        requires some { 1 ≤ newest (lists_of S.sight self.old) }
+        ensures does { IfOk result (λ done. Does (Line.Split key) (lists_of S.sight self.old) (closed done (lists_of S.sight self.new))) }
+        ensures can { IfOk result (λ done. CanClose done (lists_of S.sight self.new)) }
+        ensures ready { OnOk result (S.ready self.new.clients) }
+    {
+        let done = self.store.split(&key)?;
+        Ok(self.happened(done))
+    }
+
+    pub(crate) fn lead(&mut self, region: u64, store: u64) -> Result<Done, NoMemory>
+        requires ready { S.ready self.old.clients }
+        requires ordered { IsOrdered (lists_of S.sight self.old) }
+        requires some { 1 ≤ newest (lists_of S.sight self.old) }
+        ensures does { IfOk result (λ done. Does (Line.Lead region store) (lists_of S.sight self.old) (closed done (lists_of S.sight self.new))) }
+        ensures can { IfOk result (λ done. CanClose done (lists_of S.sight self.new)) }
+        ensures ready { OnOk result (S.ready self.new.clients) }
+    {
+        let done = self.store.lead(region, store);
+        Ok(self.happened(done))
+    }
+
+    pub(crate) fn set_clock(&mut self, ms: u64) -> Result<Done, NoMemory>
+        requires ready { S.ready self.old.clients }
+        requires ordered { IsOrdered (lists_of S.sight self.old) }
+        requires some { 1 ≤ newest (lists_of S.sight self.old) }
+        requires fine { ms < 2 ^ 44 }
+        ensures does { IfOk result (λ done. Does (Line.Clock ms) (lists_of S.sight self.old) (closed done (lists_of S.sight self.new))) }
+        ensures can { IfOk result (λ done. CanClose done (lists_of S.sight self.new)) }
+        ensures ready { OnOk result (S.ready self.new.clients) }
+    {
+        self.store.set_clock(ms);
+        Ok(self.happened(true))
+    }
+
+    pub(crate) fn crash(&mut self, client: u64) -> Result<Done, NoMemory>
+        requires ready { S.ready self.old.clients }
+        requires ordered { IsOrdered (lists_of S.sight self.old) }
+        requires some { 1 ≤ newest (lists_of S.sight self.old) }
+        ensures does { IfOk result (λ done. Does (Line.Crash client) (lists_of S.sight self.old) (closed done (lists_of S.sight self.new))) }
+        ensures can { IfOk result (λ done. CanClose done (lists_of S.sight self.new)) }
+        ensures ready { OnOk result (S.ready self.new.clients) }
+    {
+        let done = self.clients.crash(client);
+        Ok(self.happened(done))
+    }
+}

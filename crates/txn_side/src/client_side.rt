@@ -1,0 +1,97 @@
+ghost use Rattle.std.specs.Prelude.{◌≡◌, ◌<◌, ◌≤◌, ◌^◌, IfOk, OnOk, false, true};
+ghost use Rattle.txn_side.specs.Sight.{Acts, Asks, Goes, connected, crash, is_live, line_count, opened};
+
+use crate::act::Act;
+use crate::turn::Turn;
+use txn_kv::{NoMemory, Reply, Request, Ticket};
+use txn_lines::BeginOptions;
+
+/// The clients of a run, whatever they are made of. Lines are counted from 1. The clock is in milliseconds.
+///
+/// After a call has answered `NoMemory` nothing more is said of them.
+pub trait ClientSide: Sized + Drop {
+    ghost use Rattle.txn_side.specs.Sight.{Sight};
+
+    // What stands at each line, which clients have crashed, and how far the numbers of each line have come.
+    ghost sight: { Self → Sight };
+
+    // They may be called: what their code rests on.
+    ghost ready: { Self → Type 0 };
+
+    /// One line more, at which nothing stands.
+    fn open(&mut self) -> Result<(), NoMemory>
+        requires ready { ready self.old }
+        ensures sight { OnOk result (sight self.new ≡ opened (sight self.old)) }
+        ensures ready { OnOk result (ready self.new) };
+
+    /// Whether a line has a client that has not crashed.
+    fn is_live(&self, line: u64) -> bool
+        ensures { result ≡ is_live (sight self.now) line };
+
+    /// The newest line makes a client.
+    fn connect(&mut self, now: u64) -> Result<(), NoMemory>
+        requires ready { ready self.old }
+        requires line { 1 ≤ line_count (sight self.old) }
+        requires clock { now < 2 ^ 44 }
+        ensures sight { OnOk result (sight self.new ≡ connected (sight self.old)) }
+        ensures ready { OnOk result (ready self.new) };
+
+    /// The client of a line is gone, and its open calls and jobs with it. Whether it was there.
+    fn crash(&mut self, line: u64) -> bool
+        requires ready { ready self.old }
+        ensures there { result ≡ is_live (sight self.old) line }
+        ensures gone { sight self.new ≡ crash line (sight self.old) }
+        ensures ready { ready self.new };
+
+    /// The newest line begins a transaction of a line's client; none where that has crashed.
+    fn begin(
+        &mut self,
+        client: u64,
+        options: BeginOptions,
+        now: u64,
+    ) -> Result<Option<Turn>, NoMemory>
+        requires ready { ready self.old }
+        requires line { 1 ≤ line_count (sight self.old) }
+        requires clock { now < 2 ^ 44 }
+        ensures turn { IfOk result (Asks true client (sight self.old) (sight self.new)) }
+        ensures ready { OnOk result (ready self.new) };
+
+    /// The newest line asks for a timestamp; none where the client has crashed.
+    fn timestamp(&mut self, client: u64, now: u64) -> Result<Option<Turn>, NoMemory>
+        requires ready { ready self.old }
+        requires line { 1 ≤ line_count (sight self.old) }
+        requires clock { now < 2 ^ 44 }
+        ensures turn { IfOk result (Asks false client (sight self.old) (sight self.new)) }
+        ensures ready { OnOk result (ready self.new) };
+
+    /// The newest line asks something of a transaction; none where its client has crashed, it has not begun, or a call of it is
+    /// open.
+    fn act(&mut self, transaction: u64, act: Act, now: u64) -> Result<Option<Turn>, NoMemory>
+        requires ready { ready self.old }
+        requires line { 1 ≤ line_count (sight self.old) }
+        requires clock { now < 2 ^ 44 }
+        ensures turn { IfOk result (Acts act transaction (sight self.old) (sight self.new)) }
+        ensures ready { OnOk result (ready self.new) };
+
+    /// A reply comes: to the call of the ticket's line, or from the oracle to those who asked. Nothing is done where the line's
+    /// client has crashed.
+    fn take_reply(&mut self, ticket: Ticket, reply: Reply, now: u64) -> Result<Turn, NoMemory>
+        requires ready { ready self.old }
+        requires clock { now < 2 ^ 44 }
+        ensures turn { IfOk result (λ turn. Goes turn.posted.items turn.ended.items (sight self.old) (sight self.new)) }
+        ensures ready { OnOk result (ready self.new) };
+
+    /// No reply to the request of the ticket will come.
+    fn lost(&mut self, ticket: Ticket, request: &Request, now: u64) -> Result<Turn, NoMemory>
+        requires ready { ready self.old }
+        requires clock { now < 2 ^ 44 }
+        ensures turn { IfOk result (λ turn. Goes turn.posted.items turn.ended.items (sight self.old) (sight self.new)) }
+        ensures ready { OnOk result (ready self.new) };
+
+    /// A sleep has ended.
+    fn slept(&mut self, ticket: Ticket, now: u64) -> Result<Turn, NoMemory>
+        requires ready { ready self.old }
+        requires clock { now < 2 ^ 44 }
+        ensures turn { IfOk result (λ turn. Goes turn.posted.items turn.ended.items (sight self.old) (sight self.new)) }
+        ensures ready { OnOk result (ready self.new) };
+}
