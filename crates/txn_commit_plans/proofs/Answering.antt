@@ -110,7 +110,7 @@ module _ {R V H L : Type 0} (request_of : R → Request) (reply_of : V → Reply
     belong = λ p i. all_among (λ (x : Part (Shard R V)). is_part x.plan.inner.request s.inner.inner.request) g.0 p g.2.belong i;
     each = λ p i. parts_answered request_of reply_of keys region locks h g.0 g.1 results.items g.2.each (subst (λ b. IsAnswer b g.1 (Ok results)) e g.3) ok p i;
   }
-  answered s h results e (inr w) ok = cc
+  answered s h results e (inr w) ok = let never = w.1 in cc
 
   -- it sends its parts, and looks for regions and stores
   pub sends : (s : RetryableMultiRegion (Shard R V) V H) (h : List Event) (r : Request) → (over_regions request_of reply_of keys region locks is_part load are_cut).asks s h r

@@ -8,7 +8,7 @@ use Rattle.std.proofs.lemmas.Bool.{false≢true}
 use Rattle.std.proofs.lemmas.List.Elements.{All-cons, All-nil}
 use Rattle.txn_history.specs.Event.{Event}
 use Rattle.txn_history.specs.Meaning.{started, Counts, Expects, IsUnbegun, Meaning, Tells, Told}
-use Rattle.txn_history.specs.Moves.{Moves, Moves-before, Moves-map, Moves-quiet, Moves-stops, Moves-then}
+use Rattle.txn_history.specs.Moves.{Knows, Moves, Moves-before, Moves-map, Moves-quiet, Moves-then}
 use Rattle.txn_history.specs.Phase.{Awaited, unheard}
 use Rattle.txn_history.specs.Phase.Awaited.{EndOf, ReplyTo}
 use Rattle.txn_history.specs.Phase.Phase.{Running}
@@ -19,6 +19,7 @@ use Rattle.txn_history.specs.Turn.Turn.{Stopped, Waits, Ends}
 use Rattle.txn_history.proofs.Counting.{spare-more}
 use Rattle.txn_history.proofs.Telling.{Expects-quiet, Expects-then, Tells-idle}
 use Rattle.txn_kv.specs.declared.errors.Error.{Error}
+use Rattle.txn_kv.specs.declared.errors.Error.TheVariants.{OutOfMemory}
 use Rattle.txn_kv.specs.declared.query.PdAnswer.{PdAnswer}
 use Rattle.txn_kv.specs.declared.query.PdQuery.{PdQuery}
 use Rattle.txn_kv.specs.declared.query.PdQuery.TheVariants as query
@@ -26,9 +27,10 @@ use Rattle.txn_kv.specs.declared.request.Request.{Request}
 use Rattle.txn_plan.specs.Applied.{IsApplied}
 use Rattle.txn_plan.specs.LookUp.{call_waits, fresh-unbegun, looked_up}
 use Rattle.txn_plan.proofs.LastPosted.{calls_none, never_fails, one_awaited}
-use Rattle.txn_region.specs.Clients.{IsPlaceQuery}
+use Rattle.txn_region.specs.Clients.{IsPlaceQuery, IsRefused, OrStarved}
+use Rattle.txn_region.specs.Refusals.{IsPlacementError}
 use Rattle.txn_region.specs.declared.store.RegionStore.{RegionStore}
-use Rattle.txn_multi.specs.Cutting.{cut_phase, cut_waits, cutting, cutting-lawful, AreApplied, ArePartsOf, AreWithin, CutAt, GivesParts, IsPartOf, IsPlacement, Looking}
+use Rattle.txn_multi.specs.Cutting.{cut_phase, cut_waits, cutting, cutting-lawful, AreApplied, ArePartsOf, AreWithin, CutAt, GivesParts, IfParts, IsPartOf, IsPlacement, Looking, UnfoundIfErr, WhyUnfound}
 use Rattle.txn_multi.specs.Searching.{Holds, IsTaken, LooksOn}
 use Rattle.txn_multi.specs.declared.cut_stage.CutStage.{CutStage}
 use Rattle.txn_multi.specs.declared.cut_stage.CutStage.TheVariants as search
@@ -139,14 +141,20 @@ MayAsk-place : (s : PdCall) (h : List Event) (r : Request) → MayAsk s h r → 
 MayAsk-place s h r (inl a) = inl (s.query, a)
 MayAsk-place s h r (inr a) = inr a
 
-both_moves : {A : Type 0} {was mid is : List Event → Type 0} {hear : List Event → List Event} {gives : List Event → A → Type 0} {from via to : Posted} (p : Turn (Result PdAnswer Error)) {turn : Turn A}
-    → (p ≡ Stopped → (turn ≡ Stopped) × (to ≡ via))
-    → Moves IsPlacement was mid (λ h (v : Result PdAnswer Error). ⊤) hear from via p
-    → Moves IsPlacement mid is gives (λ h. h) via to turn
-    → Moves IsPlacement was is gives hear from to turn
-both_moves Stopped stops first s = let e = stops refl in rw e.1 (Moves-stops first e.0)
-both_moves Waits stops first s = Moves-then first (Moves-before (λ h k. k.0) s)
-both_moves (Ends v) stops first s = Moves-then first (Moves-before (λ h k. k.0) s)
+-- Why not all shards were found, from what the client refuses. Want of memory is another matter.
+
+pub unfound_placed : (h : List Event) (why : Error) → OrStarved IsPlacementError why → OrStarved (WhyUnfound h) why
+unfound_placed h why (inl starved) = inl starved
+unfound_placed h why (inr placed) = inr (inl placed)
+
+pub unfound_learnt : (call : PdCall) (answer : Result PdAnswer Error) (h : List Event) (why : Error) → IsPlaceQuery call.query → looked_up.gives call h answer
+    → OrStarved (IsRefused call.query answer) why → OrStarved (WhyUnfound h) why
+unfound_learnt call answer h why place given (inl starved) = inl starved
+unfound_learnt call answer h why place given (inr refused) = inr (inr (record { call = call; place = place; answer = answer; given = given; refused = refused }))
+
+pub unless_starved : (P : Error → Type 0) (why : Error) → (why ≡ OutOfMemory → ⊥) → OrStarved P why → P why
+unless_starved P why fed (inl starved) = absurd (fed starved)
+unless_starved P why fed (inr p) = p
 
 -- The steps of the search.
 module _ {S A H L : Type 0} (m : Meaning S A) (is_part : S → S → Type 0) (load : S → L) (are_cut : L → List L → Type 0) where
@@ -166,10 +174,10 @@ module _ {S A H L : Type 0} (m : Meaning S A) (is_part : S → S → Type 0) (lo
 
   -- it has answered
   pub ended : {known : List Event → Type 0} {was : Awaited → Type 0} {old new : Looking S H} {o : Posted} (v : Result (Vec (Part S)) Error)
-      → new.stage ≡ search.Over → new.plan ≡ old.plan → new.width ≡ old.width → GivesParts m is_part load are_cut old.plan v → AreWithin new.width v
+      → new.stage ≡ search.Over → new.plan ≡ old.plan → new.width ≡ old.width → IfParts m is_part load are_cut old.plan v → ((h : List Event) → known h → UnfoundIfErr h v) → AreWithin new.width v
       → LooksOn m is_part load are_cut known was old new o o (Ends v)
-  ended v over same width parts wide = record {
-    moves = Moves-quiet refl (λ h k. rw over tt) (λ h k. parts);
+  ended v over same width parts unfound wide = record {
+    moves = Moves-quiet refl (λ h k. rw over tt) (λ h k. (parts, unfound h k));
     expects = Expects-quiet (λ a w. absurd (rw over at w));
     next = ap cut_phase over;
     parts = parts;
@@ -196,19 +204,36 @@ module _ {S A H L : Type 0} (m : Meaning S A) (is_part : S → S → Type 0) (lo
     sleeps = le_refl _;
   }
 
-  -- a step that rests on nothing, after a change of what was found
-  pub from_mid : {known : List Event → Type 0} {was : Awaited → Type 0} {old mid new : Looking S H} {from to : Posted} {turn : Turn (Result (Vec (Part S)) Error)}
-      → mid.plan ≡ old.plan → old.width ≤ mid.width
-      → LooksOn m is_part load are_cut (λ h. ⊤) (λ a. ⊥) mid new from to turn
+  -- a step that rests on no more than is known, after a change of what was found
+  pub from_mid : {known less : List Event → Type 0} {was : Awaited → Type 0} {old mid new : Looking S H} {from to : Posted} {turn : Turn (Result (Vec (Part S)) Error)}
+      → ((h : List Event) → known h → less h) → mid.plan ≡ old.plan → old.width ≤ mid.width
+      → LooksOn m is_part load are_cut less (λ a. ⊥) mid new from to turn
       → LooksOn m is_part load are_cut known was old new from to turn
-  from_mid {old = old} {mid = mid} {new = new} {from = from} {to = to} {turn = turn} same wider s = record {
-    moves = Moves-before (λ h k. tt) (subst (λ (p : S). Moves IsPlacement (λ h. ⊤) (λ h. CutAt new.stage to h) (λ h. GivesParts m is_part load are_cut p) (λ h. h) from to turn) same s.moves);
+  from_mid {less = less} {old = old} {mid = mid} {new = new} {from = from} {to = to} {turn = turn} knows same wider s = record {
+    moves = Moves-before knows (subst (λ (p : S). Moves IsPlacement less (λ h. CutAt new.stage to h) (λ h. GivesParts m is_part load are_cut p h) (λ h. h) from to turn) same s.moves);
     expects = let e = s.expects in record { sends = e.sends; pushed = e.pushed; only = λ a w. elim (e.only a w) [ inl x ↦ absurd x.0 | inr p ↦ inr p ] };
     next = s.next;
-    parts = subst (λ (p : S). IfEnds turn (GivesParts m is_part load are_cut p)) same s.parts;
+    parts = subst (λ (p : S). IfEnds turn (IfParts m is_part load are_cut p)) same s.parts;
     wider = le_trans wider s.wider;
     wide = s.wide;
     plan = s.plan ∙ same;
+    calls = s.calls;
+    sleeps = s.sleeps;
+  }
+
+  -- a step where more is known
+  pub knowing : {known less : List Event → Type 0} {was : Awaited → Type 0} {old new : Looking S H} {from to : Posted} {turn : Turn (Result (Vec (Part S)) Error)}
+      → ((h : List Event) → known h → less h)
+      → LooksOn m is_part load are_cut less was old new from to turn
+      → LooksOn m is_part load are_cut known was old new from to turn
+  knowing knows s = record {
+    moves = Moves-before knows s.moves;
+    expects = s.expects;
+    next = s.next;
+    parts = s.parts;
+    wider = s.wider;
+    wide = s.wide;
+    plan = s.plan;
     calls = s.calls;
     sleeps = s.sleeps;
   }
@@ -235,24 +260,23 @@ module _ {S A H L : Type 0} (m : Meaning S A) (is_part : S → S → Type 0) (lo
 
   lifted : {told : Told} (old : Looking S H) {call call' : PdCall} {from via : Posted} {p : Turn (Result PdAnswer Error)}
       → Holds call old.stage → Tells looked_up told call call' from via p
-      → Moves IsPlacement (λ h. CutAt old.stage from h × told.known h) (λ h. CallFits call' via h) (λ h (v : Result PdAnswer Error). ⊤) told.hear from via p
+      → Moves IsPlacement (λ h. CutAt old.stage from h × told.known h) (λ h. CallFits call' via h) (λ h v. looked_up.gives call' h v) told.hear from via p
   lifted {told = told} old {call = call} {from = from} held t =
-      Moves-map told.within (λ h f. (held_fits call old.stage from h held f.0, f.1)) (λ h f k r a. MayAsk-place call k r a) (λ h f k w i. i) (λ h f k v g. tt) t.moves
+      Moves-map told.within (λ h f. (held_fits call old.stage from h held f.0, f.1)) (λ h f k r a. MayAsk-place call k r a) (λ h f k w i. i) (λ h f k v g. t.job.gave k v g) t.moves
 
   -- an event of the look-up is an event of the search
   pub heard : {told : Told} {old mid new : Looking S H} {a : Awaited} {call call' : PdCall} {from via to : Posted} {p : Turn (Result PdAnswer Error)} {turn : Turn (Result (Vec (Part S)) Error)}
       → IsTaken a old mid call
       → Tells looked_up told call call' from via p
-      → (p ≡ Stopped → (turn ≡ Stopped) × (to ≡ via))
-      → LooksOn m is_part load are_cut (λ h. CallFits call' via h) (call_waits call'.stage) mid new via to turn
+      → LooksOn m is_part load are_cut (Knows p (λ h. CallFits call' via h) (λ h v. looked_up.gives call' h v)) (call_waits call'.stage) mid new via to turn
       → Tells (cutting m is_part load are_cut) told old new from to turn
-  heard {told = told} {old = old} {mid = mid} {new = new} {call = call} {call' = call'} {from = from} {via = via} {to = to} {p = p} {turn = turn} taken t stops s =
+  heard {told = told} {old = old} {mid = mid} {new = new} {call = call} {call' = call'} {from = from} {via = via} {to = to} {p = p} {turn = turn} taken t s =
       let plan : mid.plan ≡ old.plan = ap (λ (c : Looking S H). c.plan) taken.same in
       let e = t.expects in
       let first : Expects (cut_waits old.stage) (call_waits call'.stage) told.heard from via =
       record { sends = e.sends; pushed = e.pushed; only = λ b w. elim (e.only b w) [ inl x ↦ inl (held_waits call old.stage b taken.held x.0, x.1) | inr x ↦ inr x ] } in
       record {
-        moves = both_moves p stops (lifted old taken.held t) (subst (λ (q : S). Moves IsPlacement (λ h. CallFits call' via h) (λ h. CutAt new.stage to h) (λ h. GivesParts m is_part load are_cut q) (λ h. h) via to turn) plan s.moves);
+        moves = Moves-then (lifted old taken.held t) (subst (λ (q : S). Moves IsPlacement (Knows p (λ h. CallFits call' via h) (λ h v. looked_up.gives call' h v)) (λ h. CutAt new.stage to h) (λ h. GivesParts m is_part load are_cut q h) (λ h. h) via to turn) plan s.moves);
         job = record { asked = λ h r x. x; given = λ h v g. rw (s.plan ∙ plan) at g; gave = λ h v g. rw (s.plan ∙ plan) g };
         expects = Expects-then first s.expects;
       }

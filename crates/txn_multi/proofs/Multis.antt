@@ -18,13 +18,13 @@ use Rattle.txn_history.specs.Spends.{Spends}
 use Rattle.txn_history.specs.Turn.{failing, Turn}
 use Rattle.txn_history.specs.Turn.Turn.{Ends, Stopped, Waits}
 use Rattle.txn_history.proofs.Counting.{spare-le, Spends-quiet}
-use Rattle.txn_history.proofs.Telling.{Counts-then, Expects-quiet, Tells-before, Tells-idle, Tells-stopped, Tells-then}
+use Rattle.txn_history.proofs.Telling.{Counts-then, Expects-quiet, Tells-idle, Tells-stopped, Tells-then}
 use Rattle.txn_kv.specs.ErrorView.{ErrorView}
 use Rattle.txn_kv.specs.declared.backoff.Backoff.{Backoff}
 use Rattle.txn_kv.specs.declared.errors.Error.{Error}
 use Rattle.txn_kv.specs.declared.message.RegionErr.{RegionErr}
 use Rattle.txn_kv.specs.declared.request.Request.{Request}
-use Rattle.txn_multi.specs.Cutting.{cut_phase, cut_waits, cutting, cutting-lawful, ArePartsOf, CutAt, IsPartOf, Looking}
+use Rattle.txn_multi.specs.Cutting.{cut_phase, cut_waits, cutting, cutting-lawful, ArePartsOf, CutAt, IsPartOf, Looking, UnfoundIfErr, WhyUnfound}
 use Rattle.txn_multi.specs.Multi.{multi, multi-lawful, multi_phase, number_of, tasks_for, AfterCut, AfterTasks, Begins, IsAnswer, MultiAsks, MultiGives, MultiWaits, StandsReady}
 use Rattle.txn_multi.specs.Task.{region_task, stage_left, task_for, IsOutcome, IsTaskOf}
 use Rattle.txn_multi.specs.declared.multi_region.RetryableMultiRegion.{RetryableMultiRegion}
@@ -314,8 +314,8 @@ module _ {S R H L : Type 0} (m : Meaning S (Result R Error)) (keys : R → List 
   looked : {told : Told} (old : RetryableMultiRegion S R H) (c c' : Looking S H) {from to : Posted} {p : Turn (Result (Vec (Part S)) Error)}
       → ((h : List Event) → (multi {H = H} m keys region is_part load are_cut).fits old from h → CutAt c.stage from h)
       → Tells (cutting {H = H} m is_part load are_cut) told c c' from to p
-      → Moves (MultiAsks m is_part old.inner) (λ h. (multi {H = H} m keys region is_part load are_cut).fits old from h × told.known h) (λ h. CutAt c'.stage to h) (λ h (v : Result (Vec (Part S)) Error). ⊤) told.hear from to p
-  looked {told = told} old c c' fits t = Moves-map told.within (λ h f. (fits h f.0, f.1)) (λ h f k r a. inr a) (λ h f k w i. i) (λ h f k v g. tt) t.moves
+      → Moves (MultiAsks m is_part old.inner) (λ h. (multi {H = H} m keys region is_part load are_cut).fits old from h × told.known h) (λ h. CutAt c'.stage to h) (λ h (v : Result (Vec (Part S)) Error). UnfoundIfErr h v) told.hear from to p
+  looked {told = told} old c c' fits t = Moves-map told.within (λ h f. (fits h f.0, f.1)) (λ h f k r a. inr a) (λ h f k w i. i) (λ h f k v g. g.1) t.moves
 
   pub cut_told : {C : Type 0} {told : Told} (s new : RetryableMultiRegion S R H) (g : MultiStage S R H) (c c' : Looking S H) {from via to : Posted} (pd pd' : C) (p : Turn (Result (Vec (Part S)) Error)) {turn : Turn (Result (Vec (Result R Error)) Error)}
       → s.stage ≡ stage.Stopped → IsUnbegun m s.inner → s.tasks ≡ None
@@ -335,11 +335,11 @@ module _ {S R H L : Type 0} (m : Meaning S (Result R Error)) (keys : R → List 
     job = record { asked = λ h r x. x; given = λ h v x. x; gave = λ h v x. x };
     expects = record { sends = t.expects.sends; pushed = t.expects.pushed; only = λ a w. elim (t.expects.only a w) [ inl x ↦ inl (waits a x.0, x.1) | inr x ↦ inr x ] };
   })
-  cut_told {told = told} s new g c c' {via = via} pd pd' (Ends v) gone ready none fits waits runs t after = Tells-then {mid = record s { stage = stage.Fresh }} {gives = λ h (v : Result (Vec (Part S)) Error). ⊤} {p = Ends v} (λ e. cc)
-      (Moves-after (looked (record s { stage = g }) c c' fits t) (λ h k. (ready, none)) (λ h k. tt))
+  cut_told {told = told} s new g c c' {via = via} pd pd' (Ends v) gone ready none fits waits runs t after = Tells-then {mid = record s { stage = stage.Fresh }} {gives = λ h (v : Result (Vec (Part S)) Error). UnfoundIfErr h v} {p = Ends v} (λ e. cc)
+      (Moves-after (looked (record s { stage = g }) c c' fits t) (λ h k. (ready, none)) (λ h k. k.1))
       (record { asked = λ h r x. x; given = λ h v x. x; gave = λ h v x. x })
       (record { sends = t.expects.sends; pushed = t.expects.pushed; only = λ a w. absurd w })
-      (Tells-before (λ h k. tt) after.tells)
+      after.tells
 
   pub cut_counted : {C : Type 0} {bad fails : Bool} {weight locked : ℕ} (s new : RetryableMultiRegion S R H) (g : MultiStage S R H) (c c' : Looking S H) {from via to : Posted} (pd pd' : C) (p : Turn (Result (Vec (Part S)) Error)) {turn : Turn (Result (Vec (Result R Error)) Error)}
       → (fails ≡ true → bad ≡ true)
@@ -418,9 +418,9 @@ module _ {S R H L : Type 0} (m : Meaning S (Result R Error)) (keys : R → List 
   -- How it begins.
 
   -- it gave up before its tasks were started
-  pub begins_not : (s : RetryableMultiRegion S R H) (width : ℕ) {o : Posted} {turn : Turn (Result (Vec (Result R Error)) Error)}
+  pub begins_not : {known : List Event → Type 0} (s : RetryableMultiRegion S R H) (width : ℕ) {o : Posted} {turn : Turn (Result (Vec (Result R Error)) Error)}
       → s.stage ≡ stage.Stopped → s.tasks ≡ None → s.width ≤ width → turn ≡ Stopped
-      → Begins (multi {H = H} m keys region is_part load are_cut) (record s { stage = stage.Fresh }) (record s { width = width }) o o turn
+      → Begins (multi {H = H} m keys region is_part load are_cut) known (record s { stage = stage.Fresh }) (record s { width = width }) o o turn
   begins_not s width gone none wide e = rw e (record {
     tells = Tells-stopped refl refl (record { asked = λ h r x. x; given = λ h v x. x; gave = λ h v x. x }) (λ a w. absurd (rw gone at w));
     counts = record { spends = Spends-off (rw none (max-le (le_trans wide (le-max_left width 0)) (omega arith))); fewer = λ n. le_refl _ };
@@ -430,10 +430,10 @@ module _ {S R H L : Type 0} (m : Meaning S (Result R Error)) (keys : R → List 
   -- the first look-ups failed
   pub begins_refused : (s : RetryableMultiRegion S R H) (why : Error) {o : Posted}
       → IsUnbegun m s.inner → s.tasks ≡ None
-      → Begins (multi {H = H} m keys region is_part load are_cut) (record s { stage = stage.Fresh }) (record s { stage = stage.Over }) o o (Ends (Err why))
+      → Begins (multi {H = H} m keys region is_part load are_cut) (λ h. WhyUnfound h why) (record s { stage = stage.Fresh }) (record s { stage = stage.Over }) o o (Ends (Err why))
   begins_refused s why ready none = record {
     tells = record {
-      moves = Moves-quiet refl (λ h f. tt) (λ h f. inr (why, refl));
+      moves = Moves-quiet refl (λ h f. tt) (λ h f. inr (why, refl, f.1));
       job = record { asked = λ h r x. x; given = λ h v x. x; gave = λ h v x. x };
       expects = Expects-quiet (λ a w. absurd w);
     };
@@ -463,7 +463,7 @@ module _ {S R H L : Type 0} (m : Meaning S (Result R Error)) (keys : R → List 
       → AfterTasks s.preserve_region_results p g turn
       → Tells (tasks_for {H = H} m keys region is_part load are_cut s.inner) started ts ts' from to p
       → Counts (tasks_for {H = H} m keys region is_part load are_cut s.inner) false false 0 0 ts ts' from to p
-      → Begins (multi {H = H} m keys region is_part load are_cut) (record s { stage = stage.Fresh }) (record s { stage = g; tasks = Some ts'; width = width }) from to turn
+      → Begins (multi {H = H} m keys region is_part load are_cut) (λ h. ⊤) (record s { stage = stage.Fresh }) (record s { stage = g; tasks = Some ts'; width = width }) from to turn
   begins_tasks s ts ts' g width {from = from} p none wide fresh fits light left runs after t c = record {
     tells = tasks_told (record s { stage = stage.Fresh }) ts ts' g width p (λ h f. fits from h) (λ a w. absurd (fresh_waits ts.stage fresh w.1)) runs after t;
     counts = tasks_counted (record s { stage = stage.Fresh }) ts ts' g width p wide (rw none (omega arith)) (λ w b. light w) left after c;

@@ -34,7 +34,7 @@ use Rattle.txn_kv.specs.declared.outbox.Errand.TheVariants.{Sleep}
 use Rattle.txn_kv.specs.declared.region.RegionVerId.{RegionVerId}
 use Rattle.txn_kv.specs.declared.request.Request.{Request}
 use Rattle.txn_kv.specs.declared.ticket.Ticket.{Ticket}
-use Rattle.txn_multi.specs.Cutting.{cut_phase, cutting, cutting-lawful, ArePartsOf, IsPartOf, Looking}
+use Rattle.txn_multi.specs.Cutting.{cut_phase, cutting, cutting-lawful, ArePartsOf, IsPartOf, Looking, UnfoundIfErr}
 use Rattle.txn_multi.specs.Task.{failed_longer, region_task, stage_left, stage_phase, stage_runs, task_for, GoesOver, HasFailed, IsChanged, IsRefused, IsTaskOf, IsUnderWay, MayGoOn, StageWaits, StepGives, TaskFits}
 use Rattle.txn_multi.specs.declared.part.Part.{Part}
 use Rattle.txn_multi.specs.declared.stage.Stage.{Stage}
@@ -197,7 +197,7 @@ module _ {S R : Type 0} (m : Meaning S (Result R Error)) (keys : R → List Erro
   may_lose used job t next.AtOnce h g = inl (t, g)
   may_lose used job t (next.Sleep ms) h g = inl (t, g)
   may_lose used job t next.End h g = inl g
-  may_lose used job t (next.EndWithoutEpoch id) h g = inr (inr (inl (t, g)))
+  may_lose used job t (next.EndWithoutEpoch id) h g = inr (inr (inl (t, g), inl tt))
 
   -- what is known of an error of the region
   pub may_refuse : (used : RegionVerId) (job : S) (e : RegionErr) (delay : Option ℕ) (failure : Error) (n : Next) (h : List Event) → (on_region_error delay e used).next ≡ n → IsRegionError e failure → IsRefused m keys region job h e → MayGoOn m keys region used job failure n h
@@ -445,10 +445,10 @@ module _ {S R H L : Type 0} (m : Meaning S (Result R Error)) (keys : R → List 
     -- its search has ended
     pub tells_over_search : {told : Told} (t : RegionTask S R H) (c d : Looking S H) {new : RegionTask S R H} {v : Result (Vec (Part S)) Error} {from via to : Posted} {turn : Turn (Step (RegionTask S R H) R)}
         → Tells (cutting m is_part load are_cut) told c d from via (Ends v)
-        → GoesOver (region_task m keys region is_part load are_cut) (HasFailed m keys region t.job) t new via to turn
+        → GoesOver (region_task m keys region is_part load are_cut) (λ h. HasFailed m keys region t.job h × UnfoundIfErr h v) t new via to turn
         → Tells (region_task m keys region is_part load are_cut) told (record t { stage = stage.Cutting c }) new from to turn
     tells_over_search {told} t c d s over = Tells-over
-        (Moves-after (Moves-map {is' = HasFailed m keys region t.job} told.within (λ h f. (f.0.at.0, f.1)) (λ h f k r a. inr a) (λ h f k w i. failed_longer m keys region law t.job h k w f.0.at.2) (λ h f k v g. g) s.moves) (λ h k. k.0) tt)
+        (Moves-after (Moves-map {is' = HasFailed m keys region t.job} told.within (λ h f. (f.0.at.0, f.1)) (λ h f k r a. inr a) (λ h f k w i. failed_longer m keys region law t.job h k w f.0.at.2) (λ h f k v g. g) s.moves) (λ h k. (k.0, k.1.1)) tt)
         (record { asked = λ h r x. x; given = λ h v x. x; gave = λ h v x. x }) s.expects over
 
     -- its search gave up
@@ -488,10 +488,10 @@ module _ {S R H L : Type 0} (m : Meaning S (Result R Error)) (keys : R → List 
     -- a search that is begun, and ends at once
     pub over_over_search : (t : RegionTask S R H) (c d : Looking S H) {new : RegionTask S R H} {v : Result (Vec (Part S)) Error} {from via to : Posted} {turn : Turn (Step (RegionTask S R H) R)} → IsUnbegun (cutting m is_part load are_cut) c
         → Tells (cutting m is_part load are_cut) started c d from via (Ends v)
-        → GoesOver (region_task m keys region is_part load are_cut) (HasFailed m keys region t.job) t new via to turn
+        → GoesOver (region_task m keys region is_part load are_cut) (λ h. HasFailed m keys region t.job h × UnfoundIfErr h v) t new via to turn
         → GoesOver (region_task m keys region is_part load are_cut) (HasFailed m keys region t.job) t new from to turn
     over_over_search t c d {from = from} u s over = record {
-      moves = Moves-then (Moves-after {B = Step (RegionTask S R H) R} {gives' = λ h v. ⊤} {q = Waits} (Moves-map {is' = HasFailed m keys region t.job} Within-refl (λ h f. (u.fits from h, tt)) (λ h f k r a. inr a) (λ h f k w i. failed_longer m keys region law t.job h k w f) (λ h f k v g. g) s.moves) (λ h k. k.0) tt)
+      moves = Moves-then (Moves-after {B = Step (RegionTask S R H) R} {gives' = λ h v. ⊤} {q = Waits} (Moves-map {is' = HasFailed m keys region t.job} Within-refl (λ h f. (u.fits from h, tt)) (λ h f k r a. inr a) (λ h f k w i. failed_longer m keys region law t.job h k w f) (λ h f k v g. g) s.moves) (λ h k. (k.0, k.1.1)) tt)
           (Moves-before (λ h k. k.0) over.moves);
       job = over.job;
       expects = Expects-then (begun (cutting-lawful {H = H} m is_part load are_cut) {job = c} {q = d} u.phase s.expects) (record {

@@ -1,6 +1,6 @@
 -- A plan whose request is being cut into shards.
 use Rattle.std.specs.Prelude.{◌≡◌, ◌⊎◌, ⊤, ℕ, ◌≤◌, false, List, [], ◌∷◌, length, map, Some, Result, Ok, Err, refl}
-use Rattle.std.proofs.Common.{subst, sym}
+use Rattle.std.proofs.Common.{inl, inr, subst, sym}
 use Rattle.std.proofs.Math.Nat.{le_refl}
 use Rattle.std.specs.List.{All}
 use Rattle.std.specs.Global.{Vec}
@@ -14,10 +14,13 @@ use Rattle.txn_history.specs.Posted.{Posted, Within}
 use Rattle.txn_history.specs.Turn.{Turn}
 use Rattle.txn_history.specs.Turn.Turn.{Stopped, Waits, Ends}
 use Rattle.txn_kv.specs.declared.errors.Error.{Error}
+use Rattle.txn_kv.specs.declared.query.PdAnswer.{PdAnswer}
 use Rattle.txn_kv.specs.declared.query.PdQuery.{PdQuery}
 use Rattle.txn_kv.specs.declared.request.Request.{Request}
 use Rattle.txn_plan.specs.Applied.{IsApplied}
-use Rattle.txn_plan.specs.LookUp.{call_waits, looked_up-lawful}
+use Rattle.txn_plan.specs.LookUp.{call_waits, looked_up, looked_up-lawful}
+use Rattle.txn_region.specs.Clients.{IsPlaceQuery, IsRefused}
+use Rattle.txn_region.specs.Refusals.{IsPlacementError}
 use Rattle.txn_region.specs.declared.store.RegionStore.{RegionStore}
 use Rattle.txn_multi.specs.declared.cut_stage.CutStage.{CutStage}
 use Rattle.txn_multi.specs.declared.cut_stage.CutStage.TheVariants as stage
@@ -25,6 +28,7 @@ use Rattle.txn_multi.specs.declared.part.Part.{Part}
 use Rattle.txn_shard.specs.declared.shard_list.ShardList.{ShardList}
 use Rattle.txn_tso.specs.Calling.{members, CallFits}
 use Rattle.txn_tso.specs.Placement.{request_of}
+use Rattle.txn_tso.specs.declared.pd_call.PdCall.{PdCall}
 
 -- a plan, which of its shards are found, where their search stands, and how many shards were found so far
 pub record Looking (S H : Type 0) : Type 0 where
@@ -43,10 +47,31 @@ pub record ArePartsOf {S A L : Type 0} (m : Meaning S A) (is_part : S → S → 
   pub each : All (λ p. IsPartOf m is_part whole p.plan) parts
   pub cut : are_cut (load whole) (map (λ p. load p.plan) parts)
 
--- what comes of the look-ups: the parts, or why one failed
-abbrev pub GivesParts : {S A L : Type 0} → Meaning S A → (S → S → Type 0) → (S → L) → (L → List L → Type 0) → S → Result (Vec (Part S)) Error → Type 0
-GivesParts m is_part load are_cut whole (Ok parts) = ArePartsOf m is_part load are_cut whole parts.items
-GivesParts m is_part load are_cut whole (Err why) = ⊤
+-- what came of a look-up of a place, which is refused
+pub record IsLookUpRefused (h : List Event) (why : Error) : Type 0 where
+  pub call : PdCall
+  pub place : IsPlaceQuery call.query
+  pub answer : Result PdAnswer Error
+  pub given : looked_up.gives call h answer
+  pub refused : IsRefused call.query answer why
+
+-- Why not all shards were found: a place is not known, or what came of a look-up is refused.
+abbrev pub WhyUnfound : List Event → Error → Type 0
+WhyUnfound h why = IsPlacementError why ⊎ IsLookUpRefused h why
+
+-- so of an error
+abbrev pub UnfoundIfErr : {A : Type 0} → List Event → Result A Error → Type 0
+UnfoundIfErr h (Ok x) = ⊤
+UnfoundIfErr h (Err why) = WhyUnfound h why
+
+-- the parts, where all shards were found
+abbrev pub IfParts : {S A L : Type 0} → Meaning S A → (S → S → Type 0) → (S → L) → (L → List L → Type 0) → S → Result (Vec (Part S)) Error → Type 0
+IfParts m is_part load are_cut whole (Ok parts) = ArePartsOf m is_part load are_cut whole parts.items
+IfParts m is_part load are_cut whole (Err why) = ⊤
+
+-- what comes of the look-ups: the parts, or why not all shards were found
+abbrev pub GivesParts : {S A L : Type 0} → Meaning S A → (S → S → Type 0) → (S → L) → (L → List L → Type 0) → S → List Event → Result (Vec (Part S)) Error → Type 0
+GivesParts m is_part load are_cut whole h v = IfParts m is_part load are_cut whole v × UnfoundIfErr h v
 
 -- no more parts than this
 abbrev pub AreWithin : {S : Type 0} → ℕ → Result (Vec (Part S)) Error → Type 0
@@ -85,7 +110,7 @@ abbrev pub cutting : {S A H L : Type 0} → Meaning S A → (S → S → Type 0)
 cutting m is_part load are_cut = record {
   fits = λ c o h. CutAt c.stage o h;
   asks = λ c h r. IsPlacement h r;
-  gives = λ c h v. GivesParts m is_part load are_cut c.plan v;
+  gives = λ c h v. GivesParts m is_part load are_cut c.plan h v;
   phase = λ c. cut_phase c.stage;
   waits = λ c a. cut_waits c.stage a;
   ready = λ c. IsUnbegun m c.plan;
@@ -110,6 +135,15 @@ AreApplied applies whole (f ∷ fs) [] = ⊥
 AreApplied applies whole (f ∷ fs) (p ∷ ps) = applies whole f.0 f.1 p.plan × AreApplied applies whole fs ps
 
 -- lemmas
+
+pub WhyUnfound-longer : (h longer : List Event) (why : Error) → Within h longer → WhyUnfound h why → WhyUnfound longer why
+WhyUnfound-longer h longer why w (inl placed) = inl placed
+WhyUnfound-longer h longer why w (inr r) =
+    inr (record { call = r.call; place = r.place; answer = r.answer; given = looked_up-lawful.gives_longer r.call h longer r.answer w r.given; refused = r.refused })
+
+UnfoundIfErr-longer : {A : Type 0} (h longer : List Event) (v : Result A Error) → Within h longer → UnfoundIfErr h v → UnfoundIfErr longer v
+UnfoundIfErr-longer h longer (Ok x) w u = tt
+UnfoundIfErr-longer h longer (Err why) w u = WhyUnfound-longer h longer why w u
 
 CutAt-longer : (g : CutStage) (o p : Posted) (h longer : List Event) → IsLater o p → Within h longer → CutAt g o h → CutAt g p longer
 CutAt-longer stage.Fresh o p h longer l w f = tt
@@ -150,7 +184,7 @@ never_timed stage.Stopped ask w = w
 pub cutting-lawful : {S A H L : Type 0} (m : Meaning S A) (is_part : S → S → Type 0) (load : S → L) (are_cut : L → List L → Type 0) → IsLawful (cutting {H = H} m is_part load are_cut)
 cutting-lawful m is_part load are_cut = record {
   fits_longer = λ c o p h longer l w f. CutAt-longer c.stage o p h longer l w f;
-  gives_longer = λ c h longer v w g. g;
+  gives_longer = λ c h longer v w g. (g.0, UnfoundIfErr-longer h longer v w g.1);
   bears_more = λ c w more l b. tt;
   runs = λ c a w. cut_runs c.stage a w;
   waits = λ c o h f e. something c.stage e;

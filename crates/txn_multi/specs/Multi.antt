@@ -5,7 +5,7 @@ use Rattle.std.specs.Global.{Vec}
 use Rattle.std.specs.List.{All, AllZip}
 use Rattle.txn_history.specs.Event.{Event}
 use Rattle.txn_history.specs.Later.{IsLater}
-use Rattle.txn_history.specs.Meaning.{started, Counts, IsLawful, IsUnbegun, Meaning, Tells, WasPosted}
+use Rattle.txn_history.specs.Meaning.{further, Counts, IsLawful, IsUnbegun, Meaning, Tells, WasPosted}
 use Rattle.txn_history.specs.Phase.{phase_after, Awaited, IsRunning, Phase}
 use Rattle.txn_history.specs.Phase.Phase.{Fresh, GivenUp, Over, Running}
 use Rattle.txn_history.specs.Posted.{Posted, Within}
@@ -14,10 +14,9 @@ use Rattle.txn_history.specs.Turn.Turn.{Ends, Stopped, Waits}
 use Rattle.txn_kv.specs.ErrorView.{ErrorView}
 use Rattle.txn_kv.specs.declared.errors.Error.{Error}
 use Rattle.txn_kv.specs.declared.message.RegionErr.{RegionErr}
-use Rattle.txn_kv.specs.declared.region.RegionVerId.{RegionVerId}
 use Rattle.txn_kv.specs.declared.request.Request.{Request}
-use Rattle.txn_multi.specs.Cutting.{cut_phase, cut_waits, cutting, cutting-lawful, CutAt, IsPlacement, Looking}
-use Rattle.txn_multi.specs.Task.{failed_longer, region_task, region_task-lawful, stage_runs, IsOutcome, IsRefused, IsResult, IsTaskOf}
+use Rattle.txn_multi.specs.Cutting.{cut_phase, cut_waits, cutting, cutting-lawful, CutAt, IsPlacement, Looking, UnfoundIfErr, WhyUnfound, WhyUnfound-longer}
+use Rattle.txn_multi.specs.Task.{outcome_longer, region_task, region_task-lawful, stage_runs, IsOutcome, IsTaskOf}
 use Rattle.txn_multi.specs.declared.multi_region.RetryableMultiRegion.{RetryableMultiRegion}
 use Rattle.txn_multi.specs.declared.multi_stage.MultiStage.{MultiStage}
 use Rattle.txn_multi.specs.declared.multi_stage.MultiStage.TheVariants as stage
@@ -49,11 +48,11 @@ IsAnswer true outcomes (Err why) = ⊥
 IsAnswer false outcomes (Ok results) = all_or_first outcomes ≡ Ok results.items
 IsAnswer false outcomes (Err why) = all_or_first outcomes ≡ Err why
 
--- The answer is made of how the parts have ended; or it is why the first shards were not found, which is not said yet.
+-- The answer is made of how the parts have ended; or it is why the first shards were not found.
 abbrev pub MultiGives : {S R L : Type 0} → Meaning S (Result R Error) → (R → List ErrorView) → (R → Option RegionErr) → (S → S → Type 0) → (S → L) → (L → List L → Type 0) → S → Bool → List Event → Result (Vec (Result R Error)) Error → Type 0
 MultiGives {S} {R} m keys region is_part load are_cut inner preserve h v =
     ((parts : List (Part S)) × (outcomes : List (Outcome R)) × HaveEnded m keys region is_part load are_cut inner h parts outcomes × IsAnswer preserve outcomes v)
-    ⊎ ((why : Error) × (v ≡ Err why))
+    ⊎ ((why : Error) × (v ≡ Err why) × WhyUnfound h why)
 
 -- it sends what some part may, and look-ups
 abbrev pub MultiAsks : {S A : Type 0} → Meaning S A → (S → S → Type 0) → S → List Event → Request → Type 0
@@ -134,17 +133,17 @@ AfterTasks {R = R} preserve (Ends outcomes) g turn =
     ((turn ≡ Stopped) × (g ≡ stage.Stopped))
     ⊎ ((v : Result (Vec (Result R Error)) Error) × (turn ≡ Ends v) × (g ≡ stage.Over) × IsAnswer preserve outcomes v)
 
--- it goes on as a plan that was just started
-pub record Begins {S A : Type 0} (m : Meaning S A) (old new : S) (from to : Posted) (turn : Turn A) : Type 0 where
-  pub tells : Tells m started old new from to turn
+-- it goes on as a plan that was just started, and so much is known
+pub record Begins {S A : Type 0} (m : Meaning S A) (known : List Event → Type 0) (old new : S) (from to : Posted) (turn : Turn A) : Type 0 where
+  pub tells : Tells m (further known) old new from to turn
   pub counts : Counts m false false 0 0 old new from to turn
   pub next : m.phase new ≡ phase_after turn
 
 -- what comes of a call of the search of its shards, which ended so
-abbrev pub AfterCut : {S R H C A : Type 0} → Meaning (RetryableMultiRegion S R H) (Result (Vec (Result R Error)) Error) → Turn A → Looking S H → RetryableMultiRegion S R H → RetryableMultiRegion S R H → Posted → Posted → C → C → Turn (Result (Vec (Result R Error)) Error) → Type 0
+abbrev pub AfterCut : {S R H C A : Type 0} → Meaning (RetryableMultiRegion S R H) (Result (Vec (Result R Error)) Error) → Turn (Result A Error) → Looking S H → RetryableMultiRegion S R H → RetryableMultiRegion S R H → Posted → Posted → C → C → Turn (Result (Vec (Result R Error)) Error) → Type 0
 AfterCut m Stopped c old new from to pd pd' turn = (turn ≡ Stopped) × (new ≡ old) × (to ≡ from)
 AfterCut m Waits c old new from to pd pd' turn = (turn ≡ Waits) × (new ≡ record old { stage = stage.Cutting c }) × (to ≡ from) × (pd' ≡ pd)
-AfterCut m (Ends v) c old new from to pd pd' turn = Begins m (record old { stage = stage.Fresh }) new from to turn
+AfterCut m (Ends v) c old new from to pd pd' turn = Begins m (λ h. UnfoundIfErr h v) (record old { stage = stage.Fresh }) new from to turn
 
 -- lemmas
 
@@ -153,29 +152,16 @@ holding None w f = f
 holding (Some x) w f = w x f
 
 module _ {S R : Type 0} (m : Meaning S (Result R Error)) (keys : R → List ErrorView) (region : R → Option RegionErr) (law : IsLawful m) where
-  refused_longer : (job : S) (h longer : List Event) (e : RegionErr) → Within h longer → IsRefused m keys region job h e → IsRefused m keys region job longer e
-  refused_longer job h longer e w i = record { reply = i.reply; given = law.gives_longer job h longer (Ok i.reply) w i.given; clean = i.clean; found = i.found }
-
-  result_longer : (job : S) (h longer : List Event) (v : Result R Error) → Within h longer → IsResult m keys region job h v → IsResult m keys region job longer v
-  result_longer job h longer (Ok reply) w i = (law.gives_longer job h longer (Ok reply) w i.0, i.1, i.2)
-  result_longer job h longer (Err why) w i = (i.0, law.gives_longer job h longer (Ok i.0) w i.1, i.2, i.3)
-
-  outcome_longer : (used : RegionVerId) (job : S) (h longer : List Event) (v : Outcome R) → Within h longer → IsOutcome m keys region used job h v → IsOutcome m keys region used job longer v
-  outcome_longer used job h longer (Ok v) w i = result_longer job h longer v w i
-  outcome_longer used job h longer (Err why) w (inl own) = inl (law.gives_longer job h longer (Err why) w own)
-  outcome_longer used job h longer (Err why) w (inr (inl r)) = inr (inl (record { error = r.error; delay = r.delay; refused = refused_longer job h longer r.error w r.refused; end = r.end }))
-  outcome_longer used job h longer (Err why) w (inr (inr f)) = inr (inr (failed_longer m keys region law job h longer w f))
-
   ended_longer : (h longer : List Event) (parts : List (Part S)) (outcomes : List (Outcome R)) → Within h longer
       → AllZip (λ p outcome. IsOutcome m keys region p.region p.plan h outcome) parts outcomes → AllZip (λ p outcome. IsOutcome m keys region p.region p.plan longer outcome) parts outcomes
   ended_longer h longer [] [] w z = tt
   ended_longer h longer [] (o ∷ outcomes) w z = absurd z
   ended_longer h longer (p ∷ parts) [] w z = absurd z
-  ended_longer h longer (p ∷ parts) (o ∷ outcomes) w z = (outcome_longer p.region p.plan h longer o w z.0, ended_longer h longer parts outcomes w z.1)
+  ended_longer h longer (p ∷ parts) (o ∷ outcomes) w z = (outcome_longer m keys region law p.region p.plan h longer o w z.0, ended_longer h longer parts outcomes w z.1)
 
   answer_longer : {L : Type 0} (is_part : S → S → Type 0) (load : S → L) (are_cut : L → List L → Type 0) (inner : S) (preserve : Bool) (h longer : List Event) (v : Result (Vec (Result R Error)) Error) → Within h longer → MultiGives m keys region is_part load are_cut inner preserve h v → MultiGives m keys region is_part load are_cut inner preserve longer v
   answer_longer is_part load are_cut inner preserve h longer v w (inl g) = inl (g.0, g.1, record { cut = g.2.cut; belong = g.2.belong; each = ended_longer h longer g.0 g.1 w g.2.each }, g.3)
-  answer_longer is_part load are_cut inner preserve h longer v w (inr g) = inr g
+  answer_longer is_part load are_cut inner preserve h longer v w (inr g) = inr (g.0, g.1, WhyUnfound-longer h longer g.0 w g.2)
 
 module _ {S R H L : Type 0} (m : Meaning S (Result R Error)) (keys : R → List ErrorView) (region : R → Option RegionErr) (is_part : S → S → Type 0) (load : S → L) (are_cut : L → List L → Type 0) (law : IsLawful m) where
   looking : IsLawful (cutting {H = H} m is_part load are_cut)

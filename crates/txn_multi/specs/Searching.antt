@@ -10,7 +10,7 @@ use Rattle.txn_history.specs.Posted.{Posted}
 use Rattle.txn_history.specs.Spends.{calls, sleeps}
 use Rattle.txn_history.specs.Turn.{IfEnds, Turn}
 use Rattle.txn_kv.specs.declared.errors.Error.{Error}
-use Rattle.txn_multi.specs.Cutting.{cut_phase, cut_waits, AreWithin, CutAt, GivesParts, IsPlacement, Looking}
+use Rattle.txn_multi.specs.Cutting.{cut_phase, cut_waits, AreWithin, CutAt, GivesParts, IfParts, IsPlacement, Looking}
 use Rattle.txn_multi.specs.declared.cut_stage.CutStage.{CutStage}
 use Rattle.txn_multi.specs.declared.cut_stage.CutStage.TheVariants as stage
 use Rattle.txn_multi.specs.declared.part.Part.{Part}
@@ -44,11 +44,11 @@ pub record IsTaken {S H : Type 0} (a : Awaited) (old new : Looking S H) (call : 
 -- The search goes on, after what is known: it asks further, or ends. So far it waited for what `was` says.
 pub record LooksOn {S A H L : Type 0} (m : Meaning S A) (is_part : S → S → Type 0) (load : S → L) (are_cut : L → List L → Type 0)
     (known : List Event → Type 0) (was : Awaited → Type 0) (old new : Looking S H) (from to : Posted) (turn : Turn (Result (Vec (Part S)) Error)) : Type 0 where
-  pub moves : Moves IsPlacement known (λ h. CutAt new.stage to h) (λ h. GivesParts m is_part load are_cut old.plan) (λ h. h) from to turn
+  pub moves : Moves IsPlacement known (λ h. CutAt new.stage to h) (λ h. GivesParts m is_part load are_cut old.plan h) (λ h. h) from to turn
   pub expects : Expects was (cut_waits new.stage) (λ a. ⊥) from to
   pub next : cut_phase new.stage ≡ phase_after turn
   pub wider : old.width ≤ new.width
-  pub parts : IfEnds turn (GivesParts m is_part load are_cut old.plan)
+  pub parts : IfEnds turn (IfParts m is_part load are_cut old.plan)
   pub wide : IfEnds turn (AreWithin new.width)
   pub plan : new.plan ≡ old.plan
   pub calls : calls to ≤ calls from

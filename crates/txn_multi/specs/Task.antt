@@ -24,7 +24,7 @@ use Rattle.txn_kv.specs.declared.message.RegionErr.{RegionErr}
 use Rattle.txn_kv.specs.declared.region.RegionVerId.{RegionVerId}
 use Rattle.txn_kv.specs.declared.request.Request.{Request}
 use Rattle.txn_kv.specs.declared.ticket.Ticket.{Ticket}
-use Rattle.txn_multi.specs.Cutting.{cut_phase, cut_waits, cutting, cutting-lawful, ArePartsOf, CutAt, IsPlacement}
+use Rattle.txn_multi.specs.Cutting.{cut_phase, cut_waits, cutting, cutting-lawful, ArePartsOf, CutAt, IsPlacement, WhyUnfound, WhyUnfound-longer}
 use Rattle.txn_multi.specs.declared.part.Part.{Part}
 use Rattle.txn_multi.specs.declared.stage.Stage.{Stage}
 use Rattle.txn_multi.specs.declared.stage.Stage.TheVariants as stage
@@ -69,11 +69,11 @@ pub record IsRefusedFor {S R : Type 0} (m : Meaning S (Result R Error)) (keys : 
   pub refused : IsRefused m keys region job h error
   pub end : IsEndAt error (on_region_error delay error used).next why
 
--- How a task ends: with what a reply says, or with an error. That is one of its plan, the error of its region, or the one of a
--- look-up that was made once the plan had failed.
+-- How a task ends: with what a reply says, or with an error. That is one of its plan, or the error of its region; or the plan
+-- had failed, and this is why its shards were not found again.
 abbrev pub IsOutcome : {S R : Type 0} → Meaning S (Result R Error) → (R → List ErrorView) → (R → Option RegionErr) → RegionVerId → S → List Event → Result (Result R Error) Error → Type 0
 IsOutcome m keys region used job h (Ok result) = IsResult m keys region job h result
-IsOutcome m keys region used job h (Err why) = m.gives job h (Err why) ⊎ (IsRefusedFor m keys region used job h why ⊎ HasFailed m keys region job h)
+IsOutcome m keys region used job h (Err why) = m.gives job h (Err why) ⊎ (IsRefusedFor m keys region used job h why ⊎ (HasFailed m keys region job h × WhyUnfound h why))
 
 -- a task for a part, which was not started
 abbrev pub task_for : {S R H : Type 0} → Global → Backoff → Part S → RegionTask S R H
@@ -248,11 +248,11 @@ module _ {S R : Type 0} (m : Meaning S (Result R Error)) (keys : R → List Erro
   result_longer job h longer (Ok reply) w i = (law.gives_longer job h longer (Ok reply) w i.0, i.1, i.2)
   result_longer job h longer (Err why) w i = (i.0, law.gives_longer job h longer (Ok i.0) w i.1, i.2, i.3)
 
-  outcome_longer : (used : RegionVerId) (job : S) (h longer : List Event) (v : Result (Result R Error) Error) → Within h longer → IsOutcome m keys region used job h v → IsOutcome m keys region used job longer v
+  pub outcome_longer : (used : RegionVerId) (job : S) (h longer : List Event) (v : Result (Result R Error) Error) → Within h longer → IsOutcome m keys region used job h v → IsOutcome m keys region used job longer v
   outcome_longer used job h longer (Ok v) w i = result_longer job h longer v w i
   outcome_longer used job h longer (Err why) w (inl own) = inl (law.gives_longer job h longer (Err why) w own)
   outcome_longer used job h longer (Err why) w (inr (inl r)) = inr (inl (record { error = r.error; delay = r.delay; refused = refused_longer job h longer r.error w r.refused; end = r.end }))
-  outcome_longer used job h longer (Err why) w (inr (inr f)) = inr (inr (failed_longer job h longer w f))
+  outcome_longer used job h longer (Err why) w (inr (inr f)) = inr (inr (failed_longer job h longer w f.0, WhyUnfound-longer h longer why w f.1))
 
 module _ {S R H L : Type 0} (m : Meaning S (Result R Error)) (keys : R → List ErrorView) (region : R → Option RegionErr) (is_part : S → S → Type 0) (load : S → L) (are_cut : L → List L → Type 0) (law : IsLawful m) where
   looking : IsLawful (cutting {H = H} m is_part load are_cut)

@@ -3,7 +3,7 @@ ghost use Rattle.txn_history.specs.Meaning.{Counts, Goes, IsUnbegun, Tells};
 ghost use Rattle.txn_history.specs.Posted.{HasNumbers};
 ghost use Rattle.txn_history.specs.Turn.{turn_of, IfEnds};
 ghost use Rattle.txn_kv.specs.declared.request.Request.{Request as Asked};
-ghost use Rattle.txn_multi.specs.Cutting.{cut_phase, cut_waits, cutting, GivesParts};
+ghost use Rattle.txn_multi.specs.Cutting.{cut_phase, cut_waits, cutting, IfParts};
 ghost use Rattle.txn_plan.specs.Arrivals.{awaited_as, locked_told, tells_error, tells_failure, told_by, weight_told};
 
 use crate::cutting::Cutting;
@@ -25,7 +25,7 @@ pub(crate) fn tell_cutting<P: ShardPlan, C: PdClient>(
     ensures tells { (r : Asked) → Tells (cutting P.meaning P.IsPart P.load P.AreCut) (told_by arrival out.old r) search.old search.new out.old out.new (turn_of result) }
     ensures goes { Goes (λ c. cut_phase c.stage) (cut_waits search.old.stage (awaited_as arrival)) search.old search.new out.old out.new pd.old pd.new (turn_of result) }
     ensures counts { Counts (cutting P.meaning P.IsPart P.load P.AreCut) (tells_error arrival) (tells_failure arrival) (weight_told arrival) (locked_told arrival) search.old search.new out.old out.new (turn_of result) }
-    ensures parts { IfEnds (turn_of result) (GivesParts P.meaning P.IsPart P.load P.AreCut search.old.plan) }
+    ensures parts { IfEnds (turn_of result) (IfParts P.meaning P.IsPart P.load P.AreCut search.old.plan) }
     ensures plan { search.new.plan ≡ search.old.plan }
     ensures numbers { HasNumbers out.new }
 {

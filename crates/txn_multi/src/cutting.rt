@@ -1,8 +1,9 @@
 //! A plan whose request is being cut into shards.
 ghost use Rattle.std.specs.Bool.{MatchBool};
-ghost use Rattle.std.specs.Prelude.{◌≡◌, ◌≤◌, ◌++◌, ◌∷◌, [], ⊤, IfOk, IfSome, MatchOption, None, Ok, OnOk, false, length, map, true};
+ghost use Rattle.std.specs.Prelude.{◌≡◌, ◌≤◌, ◌++◌, ◌∷◌, [], ⊤, IfErr, IfOk, IfSome, MatchOption, None, Ok, OnOk, false, length, map, true};
 ghost use Rattle.txn_history.specs.Faults.{has_error, has_region_error};
 ghost use Rattle.txn_history.specs.Meaning.{missed, replied, started, woken, Counts, Goes, IsUnbegun, Tells};
+ghost use Rattle.txn_history.specs.Moves.{Knows};
 ghost use Rattle.txn_history.specs.Phase.{unheard};
 ghost use Rattle.txn_history.specs.Phase.Awaited.{EndOf, ReplyTo};
 ghost use Rattle.txn_history.specs.Phase.Phase.{Fresh};
@@ -11,10 +12,11 @@ ghost use Rattle.txn_history.specs.Spends.{locked_of, weight_of};
 ghost use Rattle.txn_history.specs.Turn.{turn_of, IfEnds};
 ghost use Rattle.txn_history.specs.Turn.Turn.{Ends, Stopped, Waits};
 ghost use Rattle.txn_kv.specs.declared.request.Request.{Request as Asked};
-ghost use Rattle.txn_multi.specs.Cutting.{cut_phase, cut_waits, cutting, AreApplied, AreWithin, GivesParts};
+ghost use Rattle.txn_multi.specs.Cutting.{cut_phase, cut_waits, cutting, AreApplied, AreWithin, IfParts, WhyUnfound};
 ghost use Rattle.txn_multi.specs.Searching.{Holds, IsTaken, LooksOn};
-ghost use Rattle.txn_plan.specs.LookUp.{call_waits, AwaitsLast};
-ghost use Rattle.txn_region.specs.Clients.{IsPlaceQuery};
+ghost use Rattle.txn_plan.specs.LookUp.{call_waits, looked_up, AwaitsLast};
+ghost use Rattle.txn_region.specs.Clients.{IsPlaceQuery, OrStarved};
+ghost use Rattle.txn_region.specs.Refusals.{IsPlacementError};
 ghost use Rattle.txn_shard.specs.Shards.{shards_of};
 ghost use Rattle.txn_tso.specs.Calling.{CallFits};
 
@@ -83,7 +85,7 @@ impl<P: ShardPlan> Cutting<P> {
         ensures tells { Tells (cutting P.meaning P.IsPart P.load P.AreCut) started self.old self.new out.old out.new (turn_of result) }
         ensures goes { Goes (λ c. cut_phase c.stage) (cut_phase self.old.stage ≡ Fresh) self.old self.new out.old out.new pd.old pd.new (turn_of result) }
         ensures counts { Counts (cutting P.meaning P.IsPart P.load P.AreCut) false false 0 0 self.old self.new out.old out.new (turn_of result) }
-        ensures parts { IfEnds (turn_of result) (GivesParts P.meaning P.IsPart P.load P.AreCut self.old.plan) }
+        ensures parts { IfEnds (turn_of result) (IfParts P.meaning P.IsPart P.load P.AreCut self.old.plan) }
         ensures wide { IfEnds (turn_of result) (AreWithin self.new.width) }
         ensures plan { self.new.plan ≡ self.old.plan }
         ensures ready { IsUnbegun P.meaning self.new.plan }
@@ -111,7 +113,7 @@ impl<P: ShardPlan> Cutting<P> {
         ensures tells { (r : Asked) → Tells (cutting P.meaning P.IsPart P.load P.AreCut) (replied (ticket_of out.old number) r reply) self.old self.new out.old out.new (turn_of result) }
         ensures goes { Goes (λ c. cut_phase c.stage) (cut_waits self.old.stage (ReplyTo number)) self.old self.new out.old out.new pd.old pd.new (turn_of result) }
         ensures counts { Counts (cutting P.meaning P.IsPart P.load P.AreCut) (has_error reply) (has_region_error reply) (weight_of reply) (locked_of reply) self.old self.new out.old out.new (turn_of result) }
-        ensures parts { IfEnds (turn_of result) (GivesParts P.meaning P.IsPart P.load P.AreCut self.old.plan) }
+        ensures parts { IfEnds (turn_of result) (IfParts P.meaning P.IsPart P.load P.AreCut self.old.plan) }
         ensures wide { IfEnds (turn_of result) (AreWithin self.new.width) }
         ensures plan { self.new.plan ≡ self.old.plan }
         ensures ready { IsUnbegun P.meaning self.new.plan }
@@ -140,7 +142,7 @@ impl<P: ShardPlan> Cutting<P> {
         ensures tells { (r : Asked) → Tells (cutting P.meaning P.IsPart P.load P.AreCut) (missed (ticket_of out.old number) r) self.old self.new out.old out.new (turn_of result) }
         ensures goes { Goes (λ c. cut_phase c.stage) (cut_waits self.old.stage (ReplyTo number)) self.old self.new out.old out.new pd.old pd.new (turn_of result) }
         ensures counts { Counts (cutting P.meaning P.IsPart P.load P.AreCut) true true 0 0 self.old self.new out.old out.new (turn_of result) }
-        ensures parts { IfEnds (turn_of result) (GivesParts P.meaning P.IsPart P.load P.AreCut self.old.plan) }
+        ensures parts { IfEnds (turn_of result) (IfParts P.meaning P.IsPart P.load P.AreCut self.old.plan) }
         ensures wide { IfEnds (turn_of result) (AreWithin self.new.width) }
         ensures plan { self.new.plan ≡ self.old.plan }
         ensures ready { IsUnbegun P.meaning self.new.plan }
@@ -169,7 +171,7 @@ impl<P: ShardPlan> Cutting<P> {
         ensures tells { Tells (cutting P.meaning P.IsPart P.load P.AreCut) (woken (ticket_of out.old number)) self.old self.new out.old out.new (turn_of result) }
         ensures goes { Goes (λ c. cut_phase c.stage) (cut_waits self.old.stage (EndOf number)) self.old self.new out.old out.new pd.old pd.new (turn_of result) }
         ensures counts { Counts (cutting P.meaning P.IsPart P.load P.AreCut) false false 0 0 self.old self.new out.old out.new (turn_of result) }
-        ensures parts { IfEnds (turn_of result) (GivesParts P.meaning P.IsPart P.load P.AreCut self.old.plan) }
+        ensures parts { IfEnds (turn_of result) (IfParts P.meaning P.IsPart P.load P.AreCut self.old.plan) }
         ensures wide { IfEnds (turn_of result) (AreWithin self.new.width) }
         ensures plan { self.new.plan ≡ self.old.plan }
         ensures ready { IsUnbegun P.meaning self.new.plan }
@@ -248,7 +250,7 @@ impl<P: ShardPlan> Cutting<P> {
         requires waits { turn_of turn ≡ Waits → AwaitsLast call out.old }
         requires numbers { HasNumbers out.old }
         ensures stops { turn_of turn ≡ Stopped → (turn_of result ≡ Stopped) × (out.new ≡ out.old) }
-        ensures on { LooksOn P.meaning P.IsPart P.load P.AreCut (λ h. CallFits call out.old h) (call_waits call.stage) self.old self.new out.old out.new (turn_of result) }
+        ensures on { LooksOn P.meaning P.IsPart P.load P.AreCut (Knows (turn_of turn) (λ h. CallFits call out.old h) (λ h v. looked_up.gives call h v)) (call_waits call.stage) self.old self.new out.old out.new (turn_of result) }
     {
         match turn? {
             Progress::Waiting => self.wait(call, out),
@@ -289,8 +291,9 @@ impl<P: ShardPlan> Cutting<P> {
     ) -> Turn<Vec<Part<P>>>
         requires stopped { self.old.stage ≡ CutStage.Stopped }
         requires ready { IsUnbegun P.meaning self.old.plan }
+        requires place { IsPlaceQuery call.query }
         requires numbers { HasNumbers out.old }
-        ensures on { LooksOn P.meaning P.IsPart P.load P.AreCut (λ h. ⊤) (λ a. ⊥) self.old self.new out.old out.new (turn_of result) }
+        ensures on { LooksOn P.meaning P.IsPart P.load P.AreCut (λ h. looked_up.gives call h answer) (λ a. ⊥) self.old self.new out.old out.new (turn_of result) }
     {
         match pd.learn(call.query(), &answer) {
             Ok(()) => self.look(pd, now, out),
@@ -318,6 +321,7 @@ impl<P: ShardPlan> Cutting<P> {
         ensures wider { self.old.width ≤ self.new.width }
         ensures all { result ≡ Ok None → P.AreCut (P.load self.old.plan) (map P.load_of (shards_of self.new.found)) }
         ensures place { IfOk result (λ query. IfSome query IsPlaceQuery) }
+        ensures why { IfErr result (OrStarved IsPlacementError) }
     {
         let query = self.plan.shards(self.alloc, pd, &mut self.found);
         self.width = self.width.max(self.found.shards.len());
@@ -360,7 +364,7 @@ impl<P: ShardPlan> Cutting<P> {
     /// An error as the answer. Want of memory is none.
     fn refuse(&mut self, error: Error) -> Turn<Vec<Part<P>>>
         requires stopped { self.old.stage ≡ CutStage.Stopped }
-        ensures on { (o : Posted) → LooksOn P.meaning P.IsPart P.load P.AreCut (λ h. ⊤) (λ a. ⊥) self.old self.new o o (turn_of result) }
+        ensures on { (o : Posted) → LooksOn P.meaning P.IsPart P.load P.AreCut (λ h. OrStarved (WhyUnfound h) error) (λ a. ⊥) self.old self.new o o (turn_of result) }
     {
         match error {
             Error::OutOfMemory => Err(NoMemory),
@@ -387,7 +391,8 @@ fn parts_of<P: ShardPlan>(
     shards: Vec<(P::Shard, RegionStore)>,
 ) -> Result<Vec<Part<P>>>
     requires { IsUnbegun P.meaning plan.now }
-    ensures { IfOk result (λ parts. AreApplied P.Applies plan.now shards.items parts.items) }
+    ensures parts { IfOk result (λ parts. AreApplied P.Applies plan.now shards.items parts.items) }
+    ensures why { IfErr result (OrStarved IsPlacementError) }
 {
     let mut parts = Vec::new(alloc);
     for (shard, store) in shards {
@@ -403,9 +408,11 @@ fn push<T: Drop>(items: &mut Vec<T>, item: T) -> std::result::Result<(), NoMemor
     Ok(())
 }
 
+#[tactic(auto, using(txn_region::specs::Refusals::context_refused, txn_region::specs::Refusals::ver_id_refused))]
 fn part_of<P: ShardPlan>(plan: &P, shard: P::Shard, store: &RegionStore) -> Result<Part<P>>
     requires { IsUnbegun P.meaning plan.now }
-    ensures { IfOk result (λ part. P.Applies plan.now shard store.now part.plan) }
+    ensures part { IfOk result (λ part. P.Applies plan.now shard store.now part.plan) }
+    ensures why { IfErr result (OrStarved IsPlacementError) }
 {
     let mut part = plan.try_clone()?;
     part.apply_shard(shard, store)?;

@@ -1,6 +1,6 @@
 //! A plan over many regions.
 ghost use Rattle.std.specs.Bool.{MatchBool};
-ghost use Rattle.std.specs.Prelude.{◌≡◌, ◌<◌, ◌^◌, Err, IfOk, None};
+ghost use Rattle.std.specs.Prelude.{◌≡◌, ◌<◌, ◌^◌, ⊤, Err, IfOk, None};
 ghost use Rattle.txn_history.specs.Meaning.{started, Counts, Goes, IsUnbegun, Tells};
 ghost use Rattle.txn_history.specs.Phase.{phase_after, unheard};
 ghost use Rattle.txn_history.specs.Phase.Phase.{Running};
@@ -8,7 +8,7 @@ ghost use Rattle.txn_history.specs.Posted.{HasNumbers, Posted};
 ghost use Rattle.txn_history.specs.Turn.{turn_of, IfEnds};
 ghost use Rattle.txn_history.specs.Turn.Turn.{Ends, Waits};
 ghost use Rattle.txn_kv.specs.declared.request.Request.{Request as Asked};
-ghost use Rattle.txn_multi.specs.Cutting.{cut_phase, cut_waits, ArePartsOf, GivesParts};
+ghost use Rattle.txn_multi.specs.Cutting.{cut_phase, cut_waits, ArePartsOf, IfParts};
 ghost use Rattle.txn_multi.specs.Multi.{multi, multi-lawful, multi_phase, tasks_for, AfterCut, AfterTasks, Begins, Holding, IsAnswer};
 ghost use Rattle.txn_multi.specs.Task.{region_task, stage_runs};
 ghost use Rattle.txn_plan.specs.Arrivals.{awaited_as, locked_told, tells_error, tells_failure, told_by, weight_told, MayArrive};
@@ -148,7 +148,7 @@ where
         requires none { self.old.tasks ≡ None }
         requires numbers { HasNumbers out.old }
         requires clock { now < 2 ^ 44 }
-        ensures begins { Begins (multi P.meaning P.Result.key_errors_in P.Result.region_error_in P.IsPart P.load P.AreCut) (record self.old { stage = MultiStage.Fresh }) self.new out.old out.new (turn_of result) }
+        ensures begins { Begins (multi P.meaning P.Result.key_errors_in P.Result.region_error_in P.IsPart P.load P.AreCut) (λ h. ⊤) (record self.old { stage = MultiStage.Fresh }) self.new out.old out.new (turn_of result) }
         ensures ready { (multi P.meaning P.Result.key_errors_in P.Result.region_error_in P.IsPart P.load P.AreCut).ready self.new }
         ensures numbers { HasNumbers out.new }
     {
@@ -199,7 +199,7 @@ where
         requires none { self.old.tasks ≡ None }
         requires same { cutting.plan ≡ self.old.inner }
         requires running { turn_of turn ≡ Waits → cut_phase cutting.stage ≡ Running }
-        requires parts { IfEnds (turn_of turn) (GivesParts P.meaning P.IsPart P.load P.AreCut self.old.inner) }
+        requires parts { IfEnds (turn_of turn) (IfParts P.meaning P.IsPart P.load P.AreCut self.old.inner) }
         requires numbers { HasNumbers out.old }
         requires clock { now < 2 ^ 44 }
         ensures after { AfterCut (multi P.meaning P.Result.key_errors_in P.Result.region_error_in P.IsPart P.load P.AreCut) (turn_of turn) cutting self.old self.new out.old out.new pd.old pd.new (turn_of result) }
@@ -230,7 +230,7 @@ where
         requires parts { ArePartsOf P.meaning P.IsPart P.load P.AreCut self.old.inner parts.items }
         requires numbers { HasNumbers out.old }
         requires clock { now < 2 ^ 44 }
-        ensures begins { Begins (multi P.meaning P.Result.key_errors_in P.Result.region_error_in P.IsPart P.load P.AreCut) (record self.old { stage = MultiStage.Fresh }) self.new out.old out.new (turn_of result) }
+        ensures begins { Begins (multi P.meaning P.Result.key_errors_in P.Result.region_error_in P.IsPart P.load P.AreCut) (λ h. ⊤) (record self.old { stage = MultiStage.Fresh }) self.new out.old out.new (turn_of result) }
         ensures ready { (multi P.meaning P.Result.key_errors_in P.Result.region_error_in P.IsPart P.load P.AreCut).ready self.new }
         ensures numbers { HasNumbers out.new }
     {

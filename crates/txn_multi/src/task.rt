@@ -9,7 +9,7 @@ ghost use Rattle.txn_history.specs.Posted.{HasNumbers, Posted};
 ghost use Rattle.txn_history.specs.Turn.{IfEnds};
 ghost use Rattle.txn_kv.specs.declared.errors.Error.TheVariants.{GrpcAPI};
 ghost use Rattle.txn_kv.specs.declared.request.Request.{Request as Asked};
-ghost use Rattle.txn_multi.specs.Cutting.{cut_phase, cut_waits, ArePartsOf, GivesParts};
+ghost use Rattle.txn_multi.specs.Cutting.{cut_phase, cut_waits, ArePartsOf, IfParts, UnfoundIfErr};
 ghost use Rattle.txn_multi.specs.Task.{region_task, region_task-lawful, runs_running, stage_phase, stage_runs, task_for, CostsOver, GoesOver, HasFailed, IsChanged, IsOutcome, IsReady, IsRefused, IsTaskOf, IsUnderWay, MayGoOn, TaskReady};
 ghost use Rattle.txn_plan.specs.Arrivals.{awaited_as, locked_told, tells_error, tells_failure, told_by, weight_told, MayArrive};
 ghost use Rattle.txn_tasks.specs.Step.{step_turn, IsEnd, Keeps};
@@ -393,8 +393,8 @@ where
     fn take_parts(&mut self, answer: Result<Vec<Part<P>>>) -> Turn<P>
         requires stopped { self.old.stage ≡ Stage.Stopped }
         requires job { IsReady P.meaning self.old.job }
-        requires parts { GivesParts P.meaning P.IsPart P.load P.AreCut self.old.job answer }
-        ensures over { (o : Posted) → GoesOver (region_task P.meaning P.Result.key_errors_in P.Result.region_error_in P.IsPart P.load P.AreCut) (HasFailed P.meaning P.Result.key_errors_in P.Result.region_error_in self.old.job) self.old self.new o o (step_turn result) }
+        requires parts { IfParts P.meaning P.IsPart P.load P.AreCut self.old.job answer }
+        ensures over { (o : Posted) → GoesOver (region_task P.meaning P.Result.key_errors_in P.Result.region_error_in P.IsPart P.load P.AreCut) (λ h. HasFailed P.meaning P.Result.key_errors_in P.Result.region_error_in self.old.job h × UnfoundIfErr h answer) self.old self.new o o (step_turn result) }
         ensures costs { (o : Posted) → CostsOver (region_task P.meaning P.Result.key_errors_in P.Result.region_error_in P.IsPart P.load P.AreCut) (λ n. n * P.meaning.round self.old.job n) false self.old self.new o o (step_turn result) }
         ensures keeps { Keeps (region_task P.meaning P.Result.key_errors_in P.Result.region_error_in P.IsPart P.load P.AreCut) (λ t. P.load t.job) P.AreCut (IsTaskOf P.meaning P.IsPart) (λ t. stage_runs t.stage) self.old self.new (step_turn result) }
         ensures off { stage_runs self.new.stage ≡ false }

@@ -5,6 +5,7 @@ pub mod Decoded
 pub mod Groups
 pub mod Heads
 pub mod Placement
+pub mod Refusals
 pub mod Regions
 pub mod RpcClient
 pub mod Starts

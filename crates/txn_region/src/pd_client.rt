@@ -7,6 +7,7 @@ ghost use Rattle.txn_region.specs.Clients.{by_id, by_key, store_of, IsFoundAt, I
 ghost use Rattle.txn_region.specs.Clients as lookup;
 ghost use Rattle.txn_region.specs.Decoded.{CanBeShown, HasBadKey, IsShownAs};
 ghost use Rattle.txn_region.specs.Groups.{next_start, or_unbounded, IsKeyGroup, IsRangeGroup};
+ghost use Rattle.txn_region.specs.Refusals.{IsPlacementError};
 ghost use Rattle.txn_tso.specs.Placement.{fresh};
 ghost use Rattle.txn_tso.specs.contracts.retry_client.RetryClient.{the_row as connection_row};
 
@@ -41,7 +42,7 @@ pub trait PdClient {
     // The client, as it is, has no answer to the query.
     ghost asks: { Self → PdQuery → Type 0 };
 
-    // What a look-up may refuse besides want of memory.
+    // What a look-up may refuse besides want of memory: a region, its leader or its epoch that is not known.
     ghost refuses: { Lookup → Error → Type 0 };
 
     // Requests for the region go to the store of this id.
@@ -227,6 +228,8 @@ pub trait PdClient {
     {
         decode_region(region, enable_mvcc_codec)
     }
+
+    ghost refuses_so: { (look : Lookup) (error : Error) → refuses look error → IsPlacementError error };
 
     ghost looked_same: { (c : Self) → looked c c };
 

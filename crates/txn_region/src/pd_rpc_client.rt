@@ -2,6 +2,7 @@ ghost use Rattle.std.specs.Prelude.{◌≡◌, Ok, false, refl};
 ghost use Rattle.txn_kv.specs.Region.{store_id_of};
 ghost use Rattle.txn_region.specs.Cache.{empty, with_leader, without_region};
 ghost use Rattle.txn_region.specs.Placement.{IsUnknown, Learns, MayRefuse};
+ghost use Rattle.txn_region.specs.Refusals.{refused_so};
 ghost use Rattle.txn_region.specs.RpcClient.{looked_on, LookedUp};
 
 use crate::codec::Codec;
@@ -125,6 +126,8 @@ impl<Cod: Codec> PdClient for PdRpcClient<Cod> {
     fn get_codec(&self) -> &Cod {
         &self.codec
     }
+
+    ghost refuses_so = { refused_so };
 
     ghost looked_same = { λ _. record { regions = refl; stores = refl; encodes = refl; codec = refl } };
 

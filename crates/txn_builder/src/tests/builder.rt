@@ -70,7 +70,12 @@ fn the_shards_of_a_request_are_looked_for(rt: HostRuntime) -> std::result::Resul
     let mut out = Outbox::new(alloc, 7, false);
     let builder = PlanBuilder::new(alloc, request(alloc)).retry_multi_region(Backoff::no_backoff());
     let progress = builder.plan().start(&mut pd, 0, &mut out)?;
-    assert!(rt; matches!(progress, Progress::Done(Err(Error::Unimplemented))));
+    assert!(rt;
+        matches!(
+            progress,
+            Progress::Done(Err(Error::RegionNotFoundInResponse { .. }))
+        )
+    );
     Ok(())
 }
 

@@ -1,5 +1,6 @@
 ghost use Rattle.std.specs.Prelude.{◌≡◌, ⊤, refl, true};
 ghost use Rattle.txn_region.specs.Clients.{IsFoundAt};
+ghost use Rattle.txn_region.specs.Refusals.{IsPlacementError};
 
 use txn_kv::{
     Error, Key, Look, PdAnswer, PdQuery, Peer, RegionId, RegionVerId, RegionWithLeader, Result,
@@ -42,7 +43,7 @@ impl PdClient for FewRegions {
 
     ghost asks = { λ _ _. ⊤ };
 
-    ghost refuses = { λ _ _. ⊤ };
+    ghost refuses = { λ _ error. IsPlacementError error };
 
     ghost is_at = { λ _ _ _. ⊤ };
 
@@ -67,22 +68,22 @@ impl PdClient for FewRegions {
                 return Ok(Look::Found(region.try_clone()?));
             }
         }
-        Err(Error::Unimplemented)
+        Err(Error::RegionNotFoundInResponse { region_id: 0 })
     }
 
     fn region_for_id(&mut self, _id: RegionId, _waited: u32) -> Result<Look<RegionWithLeader>> {
-        Err(Error::Unimplemented)
+        Err(Error::RegionNotFoundInResponse { region_id: 0 })
     }
 
     fn map_region_to_store(&mut self, region: RegionWithLeader) -> Result<Look<RegionStore>> {
         match &self.known {
             Some(known) => Ok(Look::Found(RegionStore::new(region, known.store))),
-            None => Err(Error::Unimplemented),
+            None => Err(Error::RegionNotFoundInResponse { region_id: 0 }),
         }
     }
 
     fn all_stores(&mut self) -> Result<Look<Vec<Store>>> {
-        Err(Error::Unimplemented)
+        Err(Error::RegionNotFoundInResponse { region_id: 0 })
     }
 
     fn get_timestamp(&mut self) -> Look<Timestamp> {
@@ -114,6 +115,8 @@ impl PdClient for FewRegions {
     fn get_codec(&self) -> &ApiV1TxnCodec {
         &self.codec
     }
+
+    ghost refuses_so = { λ look error refused. refused };
 
     ghost looked_same = { λ c. tt };
 

@@ -1,4 +1,5 @@
 ghost use Rattle.std.specs.Prelude.{⊤, refl};
+ghost use Rattle.txn_region.specs.Refusals.{IsPlacementError};
 
 use txn_kv::{
     Error, Key, Look, PdAnswer, PdQuery, Peer, RegionId, RegionVerId, RegionWithLeader, Result,
@@ -28,7 +29,7 @@ impl PdClient for NoClient {
 
     ghost asks = { λ _ _. ⊤ };
 
-    ghost refuses = { λ _ _. ⊤ };
+    ghost refuses = { λ _ error. IsPlacementError error };
 
     ghost is_at = { λ _ _ _. ⊤ };
 
@@ -47,19 +48,19 @@ impl PdClient for NoClient {
     ghost codec = { λ c. c.codec };
 
     fn region_for_key(&mut self, _key: &Key) -> Result<Look<RegionWithLeader>> {
-        Err(Error::Unimplemented)
+        Err(Error::RegionNotFoundInResponse { region_id: 0 })
     }
 
     fn region_for_id(&mut self, _id: RegionId, _waited: u32) -> Result<Look<RegionWithLeader>> {
-        Err(Error::Unimplemented)
+        Err(Error::RegionNotFoundInResponse { region_id: 0 })
     }
 
     fn map_region_to_store(&mut self, _region: RegionWithLeader) -> Result<Look<RegionStore>> {
-        Err(Error::Unimplemented)
+        Err(Error::RegionNotFoundInResponse { region_id: 0 })
     }
 
     fn all_stores(&mut self) -> Result<Look<Vec<Store>>> {
-        Err(Error::Unimplemented)
+        Err(Error::RegionNotFoundInResponse { region_id: 0 })
     }
 
     fn get_timestamp(&mut self) -> Look<Timestamp> {
@@ -91,6 +92,8 @@ impl PdClient for NoClient {
     fn get_codec(&self) -> &ApiV1TxnCodec {
         &self.codec
     }
+
+    ghost refuses_so = { λ look error refused. refused };
 
     ghost looked_same = { λ c. tt };
 

@@ -1,5 +1,6 @@
 ghost use Rattle.std.specs.Prelude.{◌≡◌, ⊤, refl, true};
 ghost use Rattle.txn_region.specs.Clients.{IsFoundAt};
+ghost use Rattle.txn_region.specs.Refusals.{IsPlacementError};
 
 use std::alloc::Global;
 use txn_kv::{
@@ -126,7 +127,7 @@ impl PdClient for Regions {
 
     ghost asks = { λ _ _. ⊤ };
 
-    ghost refuses = { λ _ _. ⊤ };
+    ghost refuses = { λ _ error. IsPlacementError error };
 
     ghost is_at = { λ _ _ _. ⊤ };
 
@@ -153,13 +154,14 @@ impl PdClient for Regions {
                 return Ok(Look::Found(region.try_clone()?));
             }
         }
-        Err(Error::Unimplemented)
+        Err(Error::RegionNotFoundInResponse { region_id: 0 })
     }
 
     fn region_for_id(&mut self, _id: RegionId, _waited: u32) -> Result<Look<RegionWithLeader>> {
-        Err(Error::Unimplemented)
+        Err(Error::RegionNotFoundInResponse { region_id: 0 })
     }
 
+    #[tactic(auto, using(txn_region::specs::Refusals::store_refused))]
     fn map_region_to_store(&mut self, region: RegionWithLeader) -> Result<Look<RegionStore>> {
         let store = region.get_store_id()?;
         if !self.knows_store {
@@ -170,7 +172,7 @@ impl PdClient for Regions {
     }
 
     fn all_stores(&mut self) -> Result<Look<Vec<Store>>> {
-        Err(Error::Unimplemented)
+        Err(Error::RegionNotFoundInResponse { region_id: 0 })
     }
 
     fn get_timestamp(&mut self) -> Look<Timestamp> {
@@ -216,6 +218,8 @@ impl PdClient for Regions {
     fn get_codec(&self) -> &ApiV1TxnCodec {
         &self.codec
     }
+
+    ghost refuses_so = { λ look error refused. refused };
 
     ghost looked_same = { λ c. tt };
 

@@ -1,6 +1,8 @@
 //! A placement client for tests, which knows three regions and answers from them alone.
-ghost use Rattle.std.specs.Prelude.{◌≡◌, IfOk, IfSome, false, refl, true, ⊤};
-ghost use Rattle.txn_region.specs.Clients.{IsFoundAt, IsFoundOf, IsUsable};
+ghost use Rattle.std.specs.Prelude.{◌≡◌, IfErr, IfOk, IfSome, false, refl, true, ⊤};
+ghost use Rattle.txn_kv.specs.declared.errors.Error.TheVariants.{OutOfMemory};
+ghost use Rattle.txn_region.specs.Clients.{IsFoundAt, IsFoundOf, IsUsable, OrStarved};
+ghost use Rattle.txn_region.specs.Refusals.{IsPlacementError};
 ghost use Rattle.txn_region.specs.Regions.{is_below};
 
 use crate::codec::ApiV1TxnCodec;
@@ -45,7 +47,8 @@ fn region(
     store_id: u64,
 ) -> Result<RegionWithLeader>
     requires { is_below start.now end.now ≡ true }
-    ensures { IfOk result IsUsable }
+    ensures ok { IfOk result IsUsable }
+    ensures why { IfErr result (λ error. error ≡ OutOfMemory) }
 {
     let region = Region {
         id,
@@ -60,25 +63,29 @@ fn region(
 }
 
 pub fn region1(alloc: Global) -> Result<RegionWithLeader>
-    ensures { IfOk result IsUsable }
+    ensures ok { IfOk result IsUsable }
+    ensures why { IfErr result (λ error. error ≡ OutOfMemory) }
 {
     region(alloc, 1, &[], &[10], 41)
 }
 
 pub fn region2(alloc: Global) -> Result<RegionWithLeader>
-    ensures { IfOk result IsUsable }
+    ensures ok { IfOk result IsUsable }
+    ensures why { IfErr result (λ error. error ≡ OutOfMemory) }
 {
     region(alloc, 2, &[10], &[250, 250], 42)
 }
 
 pub fn region3(alloc: Global) -> Result<RegionWithLeader>
-    ensures { IfOk result IsUsable }
+    ensures ok { IfOk result IsUsable }
+    ensures why { IfErr result (λ error. error ≡ OutOfMemory) }
 {
     region(alloc, 3, &[250, 250], &[], 43)
 }
 
 fn region_at(alloc: Global, key: &Key) -> Result<RegionWithLeader>
-    ensures { IfOk result (IsFoundAt key.now) }
+    ensures ok { IfOk result (IsFoundAt key.now) }
+    ensures why { IfErr result (OrStarved IsPlacementError) }
 {
     let first = region1(alloc)?;
     if first.contains(key) {
@@ -92,11 +99,14 @@ fn region_at(alloc: Global, key: &Key) -> Result<RegionWithLeader>
     if third.contains(key) {
         return Ok(third);
     }
-    Err(Error::Unimplemented)
+    Err(Error::RegionForKeyNotFound {
+        key: key.try_clone()?,
+    })
 }
 
 fn region_of(alloc: Global, id: RegionId) -> Result<RegionWithLeader>
-    ensures { IfOk result (IsFoundOf id) }
+    ensures ok { IfOk result (IsFoundOf id) }
+    ensures why { IfErr result (OrStarved IsPlacementError) }
 {
     let region = match id {
         1 => region1(alloc)?,
@@ -114,7 +124,7 @@ impl PdClient for ThreeRegions {
 
     ghost asks = { λ _ _. ⊤ };
 
-    ghost refuses = { λ _ _. ⊤ };
+    ghost refuses = { λ _ error. IsPlacementError error };
 
     ghost is_at = { λ _ _ _. ⊤ };
 
@@ -140,6 +150,7 @@ impl PdClient for ThreeRegions {
         Ok(Look::Found(region_of(self.alloc, id)?))
     }
 
+    #[tactic(auto, using(crate::specs::Refusals::store_refused))]
     fn map_region_to_store(&mut self, region: RegionWithLeader) -> Result<Look<RegionStore>> {
         let store = region.get_store_id()?;
         Ok(Look::Found(RegionStore::new(region, store)))
@@ -181,6 +192,8 @@ impl PdClient for ThreeRegions {
     fn get_codec(&self) -> &ApiV1TxnCodec {
         &self.codec
     }
+
+    ghost refuses_so = { λ look error refused. refused };
 
     ghost looked_same = { λ _. tt };
 

@@ -1,6 +1,7 @@
 //! A client of three regions, below [10], below [250, 250] and from there on, led by stores 41, 42 and 43.
-ghost use Rattle.std.specs.Prelude.{◌≡◌, false, is_none, IfOk, refl};
-ghost use Rattle.txn_region.specs.Clients.{IsFoundAt};
+ghost use Rattle.std.specs.Prelude.{◌≡◌, false, is_none, IfErr, IfOk, refl};
+ghost use Rattle.txn_region.specs.Clients.{IsFoundAt, OrStarved};
+ghost use Rattle.txn_region.specs.Refusals.{IsPlacementError};
 
 use crate::by_range::begins_below;
 use std::alloc::Global;
@@ -62,7 +63,8 @@ fn region(
 }
 
 fn region_at(alloc: Global, key: &Key) -> Result<RegionWithLeader>
-    ensures { IfOk result (IsFoundAt key.now) }
+    ensures ok { IfOk result (IsFoundAt key.now) }
+    ensures why { IfErr result (OrStarved IsPlacementError) }
 {
     let rows: [(u64, &[u8], &[u8]); 3] = [
         (1, &[], &[10]),
@@ -85,7 +87,7 @@ impl PdClient for ThreeRegions {
 
     ghost asks = { λ c q. Unit {0} };
 
-    ghost refuses = { λ look error. Unit {0} };
+    ghost refuses = { λ look error. IsPlacementError error };
 
     ghost is_at = { λ c region store. Unit {0} };
 
@@ -115,6 +117,7 @@ impl PdClient for ThreeRegions {
         Ok(Look::Query(PdQuery::RegionId(id)))
     }
 
+    #[tactic(auto, using(txn_region::specs::Refusals::store_refused))]
     fn map_region_to_store(&mut self, region: RegionWithLeader) -> Result<Look<RegionStore>> {
         let store = region.get_store_id()?;
         Ok(Look::Found(RegionStore::new(region, store)))
@@ -153,6 +156,8 @@ impl PdClient for ThreeRegions {
     fn get_codec(&self) -> &ApiV1TxnCodec {
         &self.codec
     }
+
+    ghost refuses_so = { λ look error refused. refused };
 
     ghost looked_same = { λ c. tt };
 

@@ -1,9 +1,14 @@
+use Rattle.std.proofs.Common.{refl}
+use Rattle.std.proofs.Math.Nat.{le_refl}
 use Rattle.txn_history.proofs.Telling.{turn_stopped}
-use Rattle.txn_multi.proofs.Lookings.{stopped, waiting}
+use Rattle.txn_multi.proofs.Lookings.{from_mid, knowing, stopped, waiting}
 use Rattle.txn_multi.proofs.cutting.Cutting.hear.Goals as goal
 
 pub returns-in_err-turn-clause-on : goal.returns-in_err-turn-clause-on
 returns-in_err-turn-clause-on g c = rw (turn_stopped c.from_residual.result c.from_residual.ensures.0) (stopped g.P.Plan.meaning g.P.Shardable.IsPart g.P.Shardable.load g.P.Shardable.AreCut c.requires.stopped)
 
 pub returns-in-Waiting-clause-on : goal.returns-in-Waiting-clause-on
-returns-in-Waiting-clause-on g c = rw c.wait.ensures.turn (waiting g.P.Plan.meaning g.P.Shardable.IsPart g.P.Shardable.load g.P.Shardable.AreCut c.wait.ensures.holds c.wait.ensures.state)
+returns-in-Waiting-clause-on g c = rw (c.in_ok-turn.was, c.in-Waiting.is, c.wait.ensures.turn) (knowing g.P.Plan.meaning g.P.Shardable.IsPart g.P.Shardable.load g.P.Shardable.AreCut (λ h k. k.0) (waiting g.P.Plan.meaning g.P.Shardable.IsPart g.P.Shardable.load g.P.Shardable.AreCut c.wait.ensures.holds c.wait.ensures.state))
+
+pub returns-in-Done-clause-on : goal.returns-in-Done-clause-on
+returns-in-Done-clause-on g c = rw (c.in_ok-turn.was, c.in-Done.is) (from_mid g.P.Plan.meaning g.P.Shardable.IsPart g.P.Shardable.load g.P.Shardable.AreCut (λ h k. k.1) refl (le_refl _) c.learn.ensures.on)

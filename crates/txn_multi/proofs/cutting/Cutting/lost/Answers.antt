@@ -27,7 +27,7 @@ returns-in-Some-clause-tells g c r =
     let w = went (hears_reply x.call.stage c.args.number) x.call.query (on_loss x.call.stage c.args.number c.args.now x) (turn_of c.lost-turn.result) x y c.lost-turn.ensures.step (went_loss x.call.stage c.args.number c.args.now x) in
     heard g.P.Plan.meaning g.P.Shardable.IsPart g.P.Shardable.load g.P.Shardable.AreCut c.in-Some.ensures
     (tells_of (missed (ticket_of c.args.out.now c.args.number) r) (hears_reply x.call.stage c.args.number) c.args.number r x y (turn_of c.lost-turn.result) (λ h k. k) c.lost-turn.ensures.job (deaf_reply x.call.stage c.args.number) w (c.lost-turn.ensures.moves r))
-    c.hear.ensures.stops c.hear.ensures.on
+    c.hear.ensures.on
 
 pub returns-in-Some-clause-counts : goal.returns-in-Some-clause-counts
 returns-in-Some-clause-counts g c = counted_after g.P.Plan.meaning g.P.Shardable.IsPart g.P.Shardable.load g.P.Shardable.AreCut c.lost-turn.new.self (turn_of c.lost-turn.result) (λ e. e) c.in-Some.ensures c.lost-turn.ensures.spends c.hear.ensures.on

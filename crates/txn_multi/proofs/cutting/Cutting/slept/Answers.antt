@@ -28,7 +28,7 @@ returns-in-Some-clause-tells g c =
     let w = went (hears_waking x.call.stage c.args.number) x.call.query (on_waking x.call.stage c.args.number c.args.now x) (turn_of c.slept-turn.result) x y c.slept-turn.ensures.step (went_waking x.call.stage c.args.number c.args.now x) in
     heard g.P.Plan.meaning g.P.Shardable.IsPart g.P.Shardable.load g.P.Shardable.AreCut c.in-Some.ensures
     (tells (woken (ticket_of c.args.out.now c.args.number)) (hears_waking x.call.stage c.args.number) x y (turn_of c.slept-turn.result) c.slept-turn.ensures.job (deaf_waking x.call.stage c.args.number) w c.slept-turn.ensures.moves)
-    c.hear.ensures.stops c.hear.ensures.on
+    c.hear.ensures.on
 
 pub returns-in-Some-clause-counts : goal.returns-in-Some-clause-counts
 returns-in-Some-clause-counts g c = counted_after g.P.Plan.meaning g.P.Shardable.IsPart g.P.Shardable.load g.P.Shardable.AreCut c.slept-turn.new.self (turn_of c.slept-turn.result) (λ e. absurd (false≢true e)) c.in-Some.ensures c.slept-turn.ensures.spends c.hear.ensures.on

@@ -1,4 +1,5 @@
 use Rattle.std.proofs.Common.{arith, ap, subst, sym, ◌∙◌}
+use Rattle.std.specs.Prelude.{⊤}
 use Rattle.txn_history.proofs.Telling.{turn_stopped}
 use Rattle.txn_history.specs.Phase.{phase_after}
 use Rattle.txn_history.specs.Turn.{turn_of}
@@ -26,7 +27,7 @@ returns-clause-begins g c =
     let ts = c.in_ok-tasks.tasks in
     let e = c.in_ok-tasks.ensures in
     let goes = c.start-turn.ensures.goes in
-    subst (λ (x : RetryableMultiRegion _ _ _). Begins (multi g.P.Plan.meaning g.P.Result.HasKeyErrors.key_errors_in g.P.Result.HasRegionError.region_error_in g.P.Shardable.IsPart g.P.Shardable.load g.P.Shardable.AreCut) (record s { stage = stage.Fresh }) x c.args.out.now c.start-turn.new.out (turn_of c.after_tasks.result)) (sym c.after_tasks.ensures.state)
+    subst (λ (x : RetryableMultiRegion _ _ _). Begins (multi g.P.Plan.meaning g.P.Result.HasKeyErrors.key_errors_in g.P.Result.HasRegionError.region_error_in g.P.Shardable.IsPart g.P.Shardable.load g.P.Shardable.AreCut) (λ h. ⊤) (record s { stage = stage.Fresh }) x c.args.out.now c.start-turn.new.out (turn_of c.after_tasks.result)) (sym c.after_tasks.ensures.state)
     (begins_tasks g.P.Plan.meaning g.P.Result.HasKeyErrors.key_errors_in g.P.Result.HasRegionError.region_error_in g.P.Shardable.IsPart g.P.Shardable.load g.P.Shardable.AreCut s ts c.start-turn.new.self c.after_tasks.new.self.stage c.max-self.result (tasks_turn c.start-turn.result) c.requires.none (let x : _ = c.max-self.ensures in omega arith) e.fresh
     (λ o h. e.fits inner (g.P.Shardable.load inner) o h (rw c.in_ok-first.ensures (tasks_belong g.P.Plan.meaning g.P.Result.HasKeyErrors.key_errors_in g.P.Result.HasRegionError.region_error_in g.P.Shardable.IsPart g.P.Shardable.load g.P.Shardable.AreCut inner s.alloc s.backoff parts c.requires.parts)) (rw c.in_ok-first.ensures (tasks_cut _ g.P.Plan.meaning g.P.Shardable.IsPart g.P.Shardable.load g.P.Shardable.AreCut inner s.alloc s.backoff parts c.requires.parts)))
     (λ w. e.bears inner (g.P.Shardable.load inner) w (rw c.in_ok-first.ensures (tasks_belong g.P.Plan.meaning g.P.Result.HasKeyErrors.key_errors_in g.P.Result.HasRegionError.region_error_in g.P.Shardable.IsPart g.P.Shardable.load g.P.Shardable.AreCut inner s.alloc s.backoff parts c.requires.parts)))
