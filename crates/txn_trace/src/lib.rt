@@ -1,0 +1,18 @@
+//! What clients post keeps a history a run: laws over definitions alone.
+//!
+//! A machine with many clients has one history, and `txn_law` speaks of histories that are runs (`IsRun`). Here stands what
+//! keeps it one, event by event. What a line posts does, where each request was licensed when it was posted and the line's
+//! numbers rise from ones that are free (`posting_keeps_runs`), as a transaction's are by what it may send
+//! (`transactions_keep_runs`); any other event does that may happen (`events_keep_runs`). A report does not show every event,
+//! and those that it shows are a run too (`what_is_seen_is_a_run`).
+#![tactic(auto)]
+
+mod more;
+mod posts;
+mod transacts;
+mod view;
+
+pub use more::events_keep_runs;
+pub use posts::posting_keeps_runs;
+pub use transacts::transactions_keep_runs;
+pub use view::what_is_seen_is_a_run;
