@@ -6,3 +6,4 @@ pub mod Seen
 pub mod Granting
 pub mod Fitting
 pub mod Timing
+pub mod Drawn

@@ -7,9 +7,11 @@
 //! and those that it shows are a run too (`what_is_seen_is_a_run`).
 //!
 //! Timestamps come to the lines of a client through its oracle, which asks for several lines at once. What the oracle holds
-//! fits the history (`oracles_fit`), and so each answer that it gives may be given (`answers_are_timed`).
+//! fits the history (`oracles_fit`), and so each answer that it gives may be given (`answers_are_timed`). No timestamp is drawn
+//! by two lines (`draws_are_apart`).
 #![tactic(auto)]
 
+mod draws;
 mod more;
 mod oracles;
 mod posts;
@@ -17,6 +19,7 @@ mod timed;
 mod transacts;
 mod view;
 
+pub use draws::draws_are_apart;
 pub use more::events_keep_runs;
 pub use oracles::oracles_fit;
 pub use posts::posting_keeps_runs;
