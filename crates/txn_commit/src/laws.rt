@@ -12,6 +12,8 @@ ghost use Rattle.txn_history.specs.Posted.{Posted};
 ghost use Rattle.txn_kv.specs.Timestamp.{version_of};
 ghost use Rattle.txn_kv.specs.declared.reply.Reply.{Reply};
 ghost use Rattle.txn_kv.specs.declared.request.Request.{Request};
+ghost use Rattle.txn_kv.specs.declared.request.Request.TheVariants.{UnsafeDestroyRange};
+ghost use Rattle.txn_kv.specs.declared.request.UnsafeDestroyRangeRequest.{UnsafeDestroyRangeRequest};
 ghost use Rattle.txn_kv.specs.declared.ticket.Ticket.{Ticket};
 ghost use Rattle.txn_kv.specs.declared.timestamp.Timestamp.{Timestamp};
 ghost use Rattle.txn_commit.specs.Committing.{CommitterFits, ways};
@@ -19,6 +21,7 @@ ghost use Rattle.txn_commit.specs.Counting.{Costs, IsOneEach, commit_costs, roll
 ghost use Rattle.txn_commit.specs.Following.{Commits, KnowsCommits, answered, awaits, heard, lost};
 ghost use Rattle.txn_commit.specs.Going.{stage_phase, stage_waits};
 ghost use Rattle.txn_commit.specs.Parts.{AreDistinct, parts_of};
+ghost use Rattle.txn_commit.specs.Plans.{IsForeign};
 ghost use Rattle.txn_commit.specs.Sending.{MaySend, plan_of};
 ghost use Rattle.txn_commit.specs.declared.commit_parts.CommitParts.{CommitParts};
 ghost use Rattle.txn_commit.specs.declared.committer.CommitterCall.{CommitterCall};
@@ -70,4 +73,10 @@ where
 /// What none of the Commits that are out waits for changes nothing of what is known of them.
 pub fn others_are_not_followed()
     ensures { (a : Arrival) (o : Posted) (c : Commits) → awaits a o c ≡ false → heard a o c ≡ c }
+{}
+
+/// No transaction and no job destroys a range: a run has no such request.
+pub fn no_range_is_destroyed()
+    ensures sent { (plan : Plan) (s : ℕ) (h : List Event) (r : UnsafeDestroyRangeRequest) → MaySend plan s h (UnsafeDestroyRange r) → ⊥ }
+    ensures foreign { (h : List Event) (r : UnsafeDestroyRangeRequest) → IsForeign h (UnsafeDestroyRange r) → ⊥ }
 {}
