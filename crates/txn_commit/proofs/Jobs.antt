@@ -24,7 +24,7 @@ use Rattle.txn_history.specs.Turn.{Turn, IfEnds, IfKept}
 use Rattle.txn_history.specs.Turn.Turn.{Stopped, Waits, Ends}
 use Rattle.txn_commit.specs.Jobs.{IsJobAt, IsOut, IsPlanned, JobFits, ReadsDone, job_phase, job_waits, others}
 use Rattle.txn_commit.specs.Plans.{AreCommitted, IsForeign, IsOfCommit, IsPlanFor, Says, committed_longer}
-use Rattle.txn_commit.specs.Sending.{MaySend}
+use Rattle.txn_commit.specs.Sending.{MaySend, MaySendBehind, NamesNoPrimary}
 use Rattle.txn_commit.specs.declared.secondary_job.SecondaryJob.{SecondaryJob}
 use Rattle.txn_commit.specs.declared.secondary_job.Stage.{Stage}
 use Rattle.txn_commit.specs.declared.secondary_job.Stage.TheVariants as stage
@@ -38,6 +38,13 @@ others_may : (plan : Plan) (s c : ℕ) (keys : List Key) (h : List Event) (r : R
 others_may plan s c keys h r apart p (inr g) = foreign_may plan s h r g
 others_may plan s c keys h (Commit r) apart p (inl w) = (w.0, λ k g. inr (apart k (w.2 k g), subst (λ x. PrimaryCommitted plan h x r.commit_version) (sym w.0) (subst (λ y. PrimaryCommitted plan h s y) (sym w.1) p)))
 others_may plan s c keys h _ apart p (inl w) = absurd w
+
+no_primary : (plan : Plan) (s c : ℕ) (keys : List Key) (h : List Event) (r : Request) → ((k : Key) → has_key keys k ≡ true → k ≡ plan.primary → ⊥) → IsOfCommit s c keys r ⊎ IsForeign h r → NamesNoPrimary plan r
+no_primary plan s c keys h r apart a q e k = elim (subst (λ x. IsOfCommit s c keys x ⊎ IsForeign h x) e a) [ inl w ↦ apart plan.primary (w.2 plan.primary k) refl | inr f ↦ f ]
+
+others_only : (plan : Plan) (s c : ℕ) (keys : List Key) (h : List Event) (r : Request) → ((k : Key) → has_key keys k ≡ true → k ≡ plan.primary → ⊥) → PrimaryCommitted plan h s c
+    → IsOfCommit s c keys r ⊎ IsForeign h r → MaySendBehind plan s h r
+others_only plan s c keys h r apart p a = record { may = others_may plan s c keys h r apart p a; others = no_primary plan s c keys h r apart a }
 
 -- what the answer of its plan says is what its own says
 read_says : {B : Type 0} (refuses : List Event → Error → Type 0) (answered : List Event → Type 0) (v : Result B Error) (b : Result (Unit {0}) Error) (h : List Event) → ReadsDone v b → Says refuses answered h v → Says refuses answered h b
@@ -77,11 +84,11 @@ module _ {Q B : Type 0} where
       → ((h : List Event) → Hears h (told.hear h))
       → Moves (m.asks q) (λ h. m.fits q o h × told.known h) (m.fits q' o') (m.gives q) told.hear o o' turn
       → SameJob m.asks m.gives q' q
-      → Moves (MaySend plan (version_of job.start)) (λ h. JobFits m refuses plan keys job o h × told.known h) (JobFits m refuses plan keys (record job { stage = stage.Committing q' }) o')
+      → Moves (MaySendBehind plan (version_of job.start)) (λ h. JobFits m refuses plan keys job o h × told.known h) (JobFits m refuses plan keys (record job { stage = stage.Committing q' }) o')
       (Says refuses (AreCommitted (version_of job.start) (version_of job.commit) keys)) told.hear o o' turn
   job_on m refuses plan keys job q q' told o o' turn e hears x j =
       lift fact
-      (λ h u k r i a. others_may plan s c keys k r u.0.apart i ((at h u).way.asks k r a))
+      (λ h u k r i a. others_only plan s c keys k r u.0.apart i ((at h u).way.asks k r a))
       (λ h u k t r i a. longer k (Sent t r ∷ k) (λ y g. inr g) i)
       (λ k x n i. longer k (x ∷ k) (λ y g. inr g) i)
       (λ h u. (((at h u).now, u.1), heard_keeps fact (λ k x n i. longer k (x ∷ k) (λ y g. inr g) i) h (told.hear h) (hears h) u.0.committed))

@@ -14,7 +14,7 @@ use Rattle.txn_history.specs.Phase.Phase.{Fresh, GivenUp, Running}
 use Rattle.txn_history.specs.Plan.{Key, has_key, Plan}
 use Rattle.txn_history.specs.Posted.{Posted, Within}
 use Rattle.txn_commit.specs.Plans.{AreCommitted, IsOfCommit, IsPlanFor, IsUnderWay, Says, committed_longer, says_longer}
-use Rattle.txn_commit.specs.Sending.{MaySend}
+use Rattle.txn_commit.specs.Sending.{MaySendBehind}
 use Rattle.txn_commit.specs.declared.secondary_job.SecondaryJob.{SecondaryJob}
 use Rattle.txn_commit.specs.declared.secondary_job.Stage.{Stage}
 use Rattle.txn_commit.specs.declared.secondary_job.Stage.TheVariants as stage
@@ -78,12 +78,12 @@ job_bears m stage.Fresh w = ⊤
 job_bears m (stage.Committing q) w = m.bears q w
 job_bears m stage.Stopped w = ⊤
 
--- The job of these keys of a transaction that means to write so. It answers that each of them was committed. Nobody runs it
--- again.
+-- The job of these keys of a transaction that means to write so. It sends no Commit that names the primary, and answers that
+-- each of its keys was committed. Nobody runs it again.
 abbrev pub others : {Q B : Type 0} → Meaning Q (Result B Error) → (List Event → Error → Type 0) → (ℕ → ℕ → ℕ) → Plan → List Key → Meaning (SecondaryJob Q) (Result (Unit {0}) Error)
 others m refuses costs plan keys = record {
   fits = λ s o h. JobFits m refuses plan keys s o h;
-  asks = λ s h r. MaySend plan (version_of s.start) h r;
+  asks = λ s h r. MaySendBehind plan (version_of s.start) h r;
   gives = λ s h v. Says refuses (AreCommitted (version_of s.start) (version_of s.commit) keys) h v;
   phase = λ s. job_phase m s.stage;
   waits = λ s a. job_waits m s.stage a;

@@ -48,3 +48,12 @@ MaySend plan s h (Commit r) = (r.start_version ≡ s) × CommitMayGo plan h r
 MaySend plan s h (BatchRollback r) = (r.start_version ≡ s) × BatchRollbackLicence plan h r
 MaySend plan s h (UnsafeDestroyRange r) = ⊥
 MaySend plan s h r = IsLicensed (λ _. plan) h r
+
+-- The job behind a commit sends the like, but no Commit that names the primary.
+
+abbrev pub NamesNoPrimary : Plan → Request → Type 0
+NamesNoPrimary plan r = (q : CommitRequest) → r ≡ Commit q → has_key q.keys plan.primary ≡ true → ⊥
+
+pub record MaySendBehind (plan : Plan) (s : ℕ) (h : List Event) (r : Request) : Type 0 where
+  pub may : MaySend plan s h r
+  pub others : NamesNoPrimary plan r
