@@ -61,7 +61,7 @@ within_heard : (h k : List Event) → Hears h k → Within h k
 within_heard h k Nothing e i = i
 within_heard h k (One x n) e i = inr i
 
-some_same : {X : Type 0} {a b : X} {o : Option X} → o ≡ Some a → o ≡ Some b → a ≡ b
+pub some_same : {X : Type 0} {a b : X} {o : Option X} → o ≡ Some a → o ≡ Some b → a ≡ b
 some_same e f = let g = sym e ∙ f in cc
 
 pub may_start : {P Q K : Type 0} (old : Standing P Q K) (call : CommitterCall P Q K) (parts : CommitParts) (h : List Event)

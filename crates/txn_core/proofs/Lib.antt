@@ -1,8 +1,11 @@
 pub mod Adding
 pub mod Counting
+pub mod Ending
 pub mod Going
 pub mod Lists
 pub mod Moving
 pub mod Naming
 pub mod Ordered
+pub mod Others
+pub mod Owning
 pub mod Waiting

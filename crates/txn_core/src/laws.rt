@@ -1,19 +1,21 @@
 //! Laws of the definitions, as contracts of functions that do nothing.
-ghost use Rattle.std.specs.Prelude.{◌≡◌, ◌≤◌, ◌+◌, ◌*◌, ℕ, ◌∷◌, Bool, List, None, Result, false, length, true};
+ghost use Rattle.std.specs.Prelude.{◌≡◌, ◌≢◌, ◌⊎◌, ◌≤◌, ◌+◌, ◌*◌, ℕ, ◌∷◌, Bool, List, None, Ok, Option, Result, Some, false, length, true};
 ghost use Rattle.txn_buffer.specs.Contents.{Contents, locked, mutations, with_write};
 ghost use Rattle.txn_buffer.specs.Writes.{Write};
 ghost use Rattle.txn_commit.specs.Committing.{IsFormed, ways};
 ghost use Rattle.txn_commit.specs.Counting.{Costs, IsOneEach};
+ghost use Rattle.txn_commit.specs.Following.{Commits as Followed};
 ghost use Rattle.txn_commit.specs.Jobs.{JobFits};
 ghost use Rattle.txn_commit.specs.Parts.{parts_of};
-ghost use Rattle.txn_commit.specs.Sending.{plan_of};
+ghost use Rattle.txn_commit.specs.Sending.{MaySendBehind, plan_of};
 ghost use Rattle.txn_commit.specs.declared.commit_parts.CommitParts.{CommitParts};
 ghost use Rattle.txn_commit.specs.declared.secondary_job.SecondaryJob.{SecondaryJob};
 ghost use Rattle.txn_core.specs.Counting.{Runs, Step, commit_price, errors, failures, locked as locked_by, posted, rested, rollback_price, standing_after, transaction_width, weighed};
-ghost use Rattle.txn_core.specs.Going.{IsJobOf, IsUncommitted, IsUndetermined, TransactionFits, TransactionReady};
+ghost use Rattle.txn_core.specs.Going.{IsJobOf, IsUncommitted, IsUndetermined, MaySendFor, TransactionFits, TransactionGives, TransactionReady};
+ghost use Rattle.txn_core.specs.Others.{AddsNoPrimaryOf, AddsNothingOf, IsBeside};
 ghost use Rattle.txn_core.specs.Status.{Became, allows_commit, allows_data, allows_rollback, may_move, status_step};
 ghost use Rattle.txn_core.specs.Status.Became.{commits, rolls_back};
-ghost use Rattle.txn_core.specs.Transaction.{IsDetermined, IsOrdered, Standing, begun, commit_outcome, is_open, moved_by, rollback_outcome, rolled_status};
+ghost use Rattle.txn_core.specs.Transaction.{IsDetermined, IsOrdered, Standing, begun, commit_outcome, is_open, locks_nothing, moved_by, rollback_outcome, rolled_status};
 ghost use Rattle.txn_core.specs.Waiting.{work_phase, work_waits};
 ghost use Rattle.txn_core.specs.declared.options.TransactionOptions.{TransactionOptions};
 ghost use Rattle.txn_core.specs.declared.status.Status.{Status};
@@ -21,15 +23,21 @@ ghost use Rattle.txn_core.specs.declared.status.Status.TheVariants.{Dropped};
 ghost use Rattle.txn_core.specs.declared.transaction.Work.{Work};
 ghost use Rattle.txn_core.specs.declared.transaction.Work.TheVariants.{Idle};
 ghost use Rattle.txn_core.specs.declared.txn_answer.TxnAnswer.{TxnAnswer};
-ghost use Rattle.txn_history.specs.Event.{Event};
-ghost use Rattle.txn_history.specs.Licence.{PrimaryCommitted, WasGiven};
+ghost use Rattle.txn_core.specs.declared.txn_answer.TxnAnswer.TheVariants as answers;
+ghost use Rattle.txn_history.specs.Event.{Event, Has};
+ghost use Rattle.txn_history.specs.Event.Event.{Sent};
+ghost use Rattle.txn_history.specs.Later.{IsLater};
+ghost use Rattle.txn_history.specs.Licence.{PrimaryCommitted, PrimaryRolledBack, WasGiven};
 ghost use Rattle.txn_history.specs.Meaning.{WasPosted};
 ghost use Rattle.txn_history.specs.Phase.{Awaited};
 ghost use Rattle.txn_history.specs.Phase.Phase.{Running};
-ghost use Rattle.txn_history.specs.Posted.{Posted};
+ghost use Rattle.txn_history.specs.Plan.{Key, Plan};
+ghost use Rattle.txn_history.specs.Posted.{Errand, Licensed, Posted, Within, after};
 ghost use Rattle.txn_history.specs.Turn.{HasEnded, Turn};
 ghost use Rattle.txn_kv.specs.Timestamp.{version_of};
 ghost use Rattle.txn_kv.specs.declared.errors.Error.{Error};
+ghost use Rattle.txn_kv.specs.declared.request.CommitRequest.{CommitRequest as Asked};
+ghost use Rattle.txn_kv.specs.declared.request.Request.TheVariants.{Commit};
 ghost use Rattle.txn_kv.specs.declared.ticket.Ticket.{Ticket};
 ghost use Rattle.txn_kv.specs.declared.timestamp.Timestamp.{Timestamp};
 
@@ -126,4 +134,74 @@ where
         → work_phase (ways P.meaning Q.meaning K.meaning P.refuses Q.refuses K.refuses) t.work ≡ Running → (a : Awaited) × work_waits (ways P.meaning Q.meaning K.meaning P.refuses Q.refuses K.refuses) t.work a }
     ensures posted { (t : Standing P Q K) (o : Posted) (h : List Event) (a : Awaited) → TransactionFits (ways P.meaning Q.meaning K.meaning P.refuses Q.refuses K.refuses) t o h
         → work_waits (ways P.meaning Q.meaning K.meaning P.refuses Q.refuses K.refuses) t.work a → WasPosted o h a }
+{}
+
+/// What others send and take changes nothing that a transaction knows, where no Commit of its start is sent beside it. Nor does
+/// what its own job sends, once the transaction is no longer written: no Commit that names its primary. Between calls it waits
+/// for nothing that a line posts.
+pub fn others_change_nothing<P, Q, K>()
+where
+    P: PlanFor<PrewriteRequest>,
+    Q: PlanFor<CommitRequest>,
+    K: PlanFor<BatchRollbackRequest>,
+    ensures others { (t : Standing P Q K) (o p : Posted) (h longer : List Event) → IsLater o p → AddsNothingOf (version_of t.start) h longer
+        → TransactionFits (ways P.meaning Q.meaning K.meaning P.refuses Q.refuses K.refuses) t o h → TransactionFits (ways P.meaning Q.meaning K.meaning P.refuses Q.refuses K.refuses) t p longer }
+    ensures own_job { (t : Standing P Q K) (parts : CommitParts) (o p : Posted) (h longer : List Event) → allows_data t.status ≡ false → parts_of t.contents ≡ Some parts
+        → IsLater o p → AddsNoPrimaryOf (plan_of parts) (version_of t.start) h longer
+        → TransactionFits (ways P.meaning Q.meaning K.meaning P.refuses Q.refuses K.refuses) t o h → TransactionFits (ways P.meaning Q.meaning K.meaning P.refuses Q.refuses K.refuses) t p longer }
+    ensures idle { (t : Standing P Q K) (o p : Posted) (h : List Event) → t.work ≡ Idle
+        → TransactionFits (ways P.meaning Q.meaning K.meaning P.refuses Q.refuses K.refuses) t o h → TransactionFits (ways P.meaning Q.meaning K.meaning P.refuses Q.refuses K.refuses) t p h }
+{}
+
+/// What others send and take changes nothing that a job knows.
+pub fn jobs_last<Q: PlanFor<CommitRequest>>()
+    ensures { (plan : Plan) (keys : List Key) (job : SecondaryJob Q) (o p : Posted) (h longer : List Event) → IsLater o p → Within h longer
+        → JobFits Q.meaning Q.refuses plan keys job o h → JobFits Q.meaning Q.refuses plan keys job p longer }
+{}
+
+/// A history grows one event at a time, and what it had stays. Each event but a Commit of a start adds nothing of the start.
+pub fn histories_grow()
+    ensures within { (s : ℕ) (h longer : List Event) → AddsNothingOf s h longer → Within h longer }
+    ensures same { (s : ℕ) (h : List Event) → AddsNothingOf s h h }
+    ensures further { (s : ℕ) (a b c : List Event) → AddsNothingOf s a b → AddsNothingOf s b c → AddsNothingOf s a c }
+    ensures event { (s : ℕ) (e : Event) (h : List Event) → IsBeside s e → AddsNothingOf s h (e ∷ h) }
+    ensures primary { (plan : Plan) (s : ℕ) (h longer : List Event) → AddsNothingOf s h longer → AddsNoPrimaryOf plan s h longer }
+    ensures primary_within { (plan : Plan) (s : ℕ) (h longer : List Event) → AddsNoPrimaryOf plan s h longer → Within h longer }
+    ensures primary_further { (plan : Plan) (s : ℕ) (a b c : List Event) → AddsNoPrimaryOf plan s a b → AddsNoPrimaryOf plan s b c → AddsNoPrimaryOf plan s a c }
+{}
+
+/// The Commits that a transaction and its job send are of its own start. So they are none of another start, and those of the job
+/// are none of the primary.
+pub fn commits_are_owned()
+    ensures transaction { (contents : Contents) (s line : ℕ) (beat : Bool) (h : List Event) (sends : List Errand) (t : Ticket) (r : Asked) → Licensed (MaySendFor contents s) line beat h sends
+        → Has (after line beat h sends) (Sent t (Commit r)) → Has h (Sent t (Commit r)) ⊎ (r.start_version ≡ s) }
+    ensures job { (plan : Plan) (s line : ℕ) (beat : Bool) (h : List Event) (sends : List Errand) (t : Ticket) (r : Asked) → Licensed (MaySendBehind plan s) line beat h sends
+        → Has (after line beat h sends) (Sent t (Commit r)) → Has h (Sent t (Commit r)) ⊎ (r.start_version ≡ s) }
+    ensures other_transaction { (contents : Contents) (s own line : ℕ) (beat : Bool) (h : List Event) (sends : List Errand) → own ≢ s → Licensed (MaySendFor contents own) line beat h sends
+        → AddsNothingOf s h (after line beat h sends) }
+    ensures other_job { (plan : Plan) (s own line : ℕ) (beat : Bool) (h : List Event) (sends : List Errand) → own ≢ s → Licensed (MaySendBehind plan own) line beat h sends
+        → AddsNothingOf s h (after line beat h sends) }
+    ensures own_job { (plan : Plan) (s line : ℕ) (beat : Bool) (h : List Event) (sends : List Errand) → Licensed (MaySendBehind plan s) line beat h sends
+        → AddsNoPrimaryOf plan s h (after line beat h sends) }
+{}
+
+/// What the end of a commit or a rollback stands on. A timestamp says that the primary of what the buffer holds is committed there,
+/// and the job beside it can have arisen so. No timestamp says that no key is locked. A rollback that did something rolled the
+/// primary back.
+pub fn ends_stand<P, Q, K>()
+where
+    P: PlanFor<PrewriteRequest>,
+    Q: PlanFor<CommitRequest>,
+    K: PlanFor<BatchRollbackRequest>,
+    ensures committed { (start t : Timestamp) (contents : Contents) (c : Followed) (h : List Event) (job : Option (SecondaryJob Q))
+        → TransactionGives (ways P.meaning Q.meaning K.meaning P.refuses Q.refuses K.refuses) start contents c h (Ok (answers.Committed (Some t) job))
+        → (parts : CommitParts) × (parts_of contents ≡ Some parts) × PrimaryCommitted (plan_of parts) h (version_of start) (version_of t) }
+    ensures job { (start t : Timestamp) (contents : Contents) (c : Followed) (o : Posted) (h : List Event) (job : SecondaryJob Q)
+        → TransactionGives (ways P.meaning Q.meaning K.meaning P.refuses Q.refuses K.refuses) start contents c h (Ok (answers.Committed (Some t) (Some job)))
+        → (parts : CommitParts) × (parts_of contents ≡ Some parts) × (job.start ≡ start) × (job.commit ≡ t) × JobFits Q.meaning Q.refuses (plan_of parts) parts.secondaries job o h }
+    ensures checked { (start : Timestamp) (contents : Contents) (c : Followed) (h : List Event) (job : Option (SecondaryJob Q))
+        → TransactionGives (ways P.meaning Q.meaning K.meaning P.refuses Q.refuses K.refuses) start contents c h (Ok (answers.Committed None job)) → locks_nothing contents ≡ true }
+    ensures rolled_back { (start : Timestamp) (contents : Contents) (c : Followed) (h : List Event)
+        → TransactionGives (ways P.meaning Q.meaning K.meaning P.refuses Q.refuses K.refuses) start contents c h (Ok answers.Unit)
+        → (locks_nothing contents ≡ true) ⊎ ((parts : CommitParts) × (parts_of contents ≡ Some parts) × PrimaryRolledBack (plan_of parts) h (version_of start)) }
 {}
