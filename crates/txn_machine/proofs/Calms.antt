@@ -14,15 +14,15 @@ use Rattle.txn_machine.specs.Script.{AreCalm, is_done, outcome_of, waits}
 
 -- Outcomes.
 
-or_same : {X : Type 0} (xs : List X) (i : ℕ) (y d : X) → i < length xs → get_or (set xs i y) i d ≡ y
+pub or_same : {X : Type 0} (xs : List X) (i : ℕ) (y d : X) → i < length xs → get_or (set xs i y) i d ≡ y
 or_same [] i y d h = absurd (omega arith)
 or_same (z ∷ xs) zero y d h = refl
 or_same (z ∷ xs) (suc i) y d h = or_same xs i y d (omega arith)
 
-suc_apart : (i j : ℕ) → suc j ≢ suc i → j ≢ i
+pub suc_apart : (i j : ℕ) → suc j ≢ suc i → j ≢ i
 suc_apart i j h e = h (ap (λ n. suc n) e)
 
-or_other : {X : Type 0} (xs : List X) (i j : ℕ) (y d : X) → j ≢ i → get_or (set xs i y) j d ≡ get_or xs j d
+pub or_other : {X : Type 0} (xs : List X) (i j : ℕ) (y d : X) → j ≢ i → get_or (set xs i y) j d ≡ get_or xs j d
 or_other [] i j y d h = refl
 or_other (w ∷ xs) zero zero y d h = absurd (h refl)
 or_other (w ∷ xs) zero (suc j) y d h = refl
@@ -139,18 +139,18 @@ module _ (posted : List Posting) (ended : List Ending) (from to : Sight) (l : Li
 
 -- Lines that are opened and set.
 
-or_old : {X : Type 0} (xs : List X) (y d : X) (i : ℕ) → i < length xs → get_or (xs ++ y ∷ []) i d ≡ get_or xs i d
+pub or_old : {X : Type 0} (xs : List X) (y d : X) (i : ℕ) → i < length xs → get_or (xs ++ y ∷ []) i d ≡ get_or xs i d
 or_old [] y d i h = absurd (omega arith)
 or_old (z ∷ xs) y d zero h = refl
 or_old (z ∷ xs) y d (suc i) h = or_old xs y d i (omega arith)
 
-or_ended : {X : Type 0} (xs : List X) (d : X) (i : ℕ) → get_or (xs ++ d ∷ []) i d ≡ get_or xs i d
+pub or_ended : {X : Type 0} (xs : List X) (d : X) (i : ℕ) → get_or (xs ++ d ∷ []) i d ≡ get_or xs i d
 or_ended [] d zero = refl
 or_ended [] d (suc i) = refl
 or_ended (z ∷ xs) d zero = refl
 or_ended (z ∷ xs) d (suc i) = or_ended xs d i
 
-or_past : {X : Type 0} (xs : List X) (d : X) (i : ℕ) → length xs ≤ i → get_or xs i d ≡ d
+pub or_past : {X : Type 0} (xs : List X) (d : X) (i : ℕ) → length xs ≤ i → get_or xs i d ≡ d
 or_past [] d i h = refl
 or_past (z ∷ xs) d zero h = absurd (omega arith)
 or_past (z ∷ xs) d (suc i) h = or_past xs d i (omega arith)
@@ -170,7 +170,7 @@ pub begun_line : (stands : List Stand) (x c : ℕ) → stand_at stands x ≡ Has
 begun_line stands zero c e = absurd (cc)
 begun_line stands (suc i) c e = omega arith
 
-stand_opened : (stands : List Stand) (j : ℕ) → stand_at (stands ++ Idle ∷ []) j ≡ stand_at stands j
+pub stand_opened : (stands : List Stand) (j : ℕ) → stand_at (stands ++ Idle ∷ []) j ≡ stand_at stands j
 stand_opened stands zero = refl
 stand_opened stands (suc i) = or_ended stands Idle i
 
@@ -180,7 +180,7 @@ calm_opened stands outs h = λ j w. ap is_done (outcome_opened outs j) ∙ h j (
 pub stand_last : (stands : List Stand) (n : ℕ) → length stands ≡ n → waits (stand_at (stands ++ Idle ∷ []) (suc n)) ≡ false
 stand_last stands n e = ap waits (stand_opened stands (suc n) ∙ or_past stands Idle n (omega arith))
 
-same_line : (line n : ℕ) → (n ≡ line) ⊎ (n ≢ line)
+pub same_line : (line n : ℕ) → (n ≡ line) ⊎ (n ≢ line)
 same_line line n = by (nat_eq n line) refl
   where
     by : (b : Bool) → nat_eq n line ≡ b → (n ≡ line) ⊎ (n ≢ line)
@@ -203,7 +203,7 @@ stand_same stands (suc i) s one w = let e : suc i - 1 ≡ i = omega arith in at_
     at_index (x ∷ xs) zero v = v
     at_index (x ∷ xs) (suc k) v = at_index xs k v
 
-stand_other : (stands : List Stand) (line j : ℕ) (s : Stand) → 1 ≤ line → j ≢ line → stand_at (set stands (line - 1) s) j ≡ stand_at stands j
+pub stand_other : (stands : List Stand) (line j : ℕ) (s : Stand) → 1 ≤ line → j ≢ line → stand_at (set stands (line - 1) s) j ≡ stand_at stands j
 stand_other stands zero j s one apart = absurd (omega arith)
 stand_other stands (suc i) zero s one apart = refl
 stand_other stands (suc i) (suc j) s one apart = let e : suc i - 1 ≡ i = omega arith in rw e (or_other stands i j s Idle (suc_apart i j apart))

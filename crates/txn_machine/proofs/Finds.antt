@@ -17,7 +17,7 @@ use Rattle.txn_machine.specs.Script.{AllBefore, find, with_sends}
 
 -- Tickets.
 
-same_itself : (t : Ticket) → same_ticket t t ≡ true
+pub same_itself : (t : Ticket) → same_ticket t t ≡ true
 same_itself t = by_beat t.beat refl
   where
     by_beat : (b : Bool) → t.beat ≡ b → same_ticket t t ≡ true
@@ -38,7 +38,7 @@ and_right : (a b : Bool) → a && b ≡ true → b ≡ true
 and_right true b e = e
 and_right false b e = absurd (cc)
 
-same_is : (t u : Ticket) → same_ticket t u ≡ true → t ≡ u
+pub same_is : (t u : Ticket) → same_ticket t u ≡ true → t ≡ u
 same_is t u e =
     let first = and_left (nat_eq t.line u.line && bool_eq t.beat u.beat) (nat_eq t.number u.number) e in
     let number : nat_eq t.number u.number ≡ true = and_right (nat_eq t.line u.line && bool_eq t.beat u.beat) (nat_eq t.number u.number) e in
@@ -127,7 +127,7 @@ find_push [] s n t h =
     at_false false = refl
 find_push (m ∷ ns) s n t h = ap (λ (z : Option Request). if same_ticket m.ticket t && nat_lt m.at n then Some m.request else z) (find_push ns s n t h)
 
-sends_push : (ns : List SentNote) (s : SentNote) (n : ℕ) (es : List Event) → with_sends (ns ++ s ∷ []) n es ≡ (if nat_eq s.at n then SentEvent s.ticket s.request ∷ with_sends ns n es else with_sends ns n es)
+pub sends_push : (ns : List SentNote) (s : SentNote) (n : ℕ) (es : List Event) → with_sends (ns ++ s ∷ []) n es ≡ (if nat_eq s.at n then SentEvent s.ticket s.request ∷ with_sends ns n es else with_sends ns n es)
 sends_push [] s n es = refl
 sends_push (m ∷ ns) s n es = sends_push ns s n (if nat_eq m.at n then SentEvent m.ticket m.request ∷ es else es)
 

@@ -79,7 +79,7 @@ module _ (st : Store) (sv : List Ticket) where
 abbrev Effect : Line → Lists → Bool → Store → List Ticket → Type 0
 Effect line old done store served = (looks : Ticket → Option Request) (es : List Event) → ((t : Ticket) → looks t ≡ looked_up old.mail t) → IsFoldOf es old.store old.served → IsFoldOf (if done then does looks line es else es) store served
 
-only_some : (p : ℕ → Bool) (o : Option ℕ) (k : ℕ) → only p o ≡ Some k → o ≡ Some k
+pub only_some : (p : ℕ → Bool) (o : Option ℕ) (k : ℕ) → only p o ≡ Some k → o ≡ Some k
 only_some p None k e = e
 only_some p (Some j) k e = by (p j) e
   where
@@ -104,7 +104,7 @@ module _ (old : Lists) (t : Ticket) (k : ℕ) (m : IsMail old.mail) (named : as_
   here : (s : SentNote) × (slice_get old.mail.sent k ≡ Some s)
   here = sent_there old.mail t k m named
 
-  asked : looked_up old.mail t ≡ Some (request_at (opened old) k)
+  pub asked : looked_up old.mail t ≡ Some (request_at (opened old) k)
   asked = ap (λ o. request_by old.mail.sent o) named ∙ ap (λ o. option_map (λ (s : SentNote). s.request) o) here.1 ∙ ap (λ o. Some (request_in o)) (sym here.1)
 
   served_so : (looks : Ticket → Option Request) (es : List Event) → ((u : Ticket) → looks u ≡ looked_up old.mail u) → IsFoldOf es old.store old.served → IsFoldOf (serves t (looks t) es) (handled t k (opened old)).store (handled t k (opened old)).served
@@ -152,19 +152,19 @@ record Ready (n : ℕ) (line : Line) (old m : Lists) : Type 0 where
   flags : (j : ℕ) → j ≤ n → is_done (outcome_of m.outcomes j) ≡ is_done (outcome_of old.outcomes j)
   effect : Effect line old (is_done (outcome_of m.outcomes (suc n))) m.store m.served
 
-ended_mail : (es : List Ending) (l : Lists) → (all_ended es l).mail ≡ l.mail
+pub ended_mail : (es : List Ending) (l : Lists) → (all_ended es l).mail ≡ l.mail
 ended_mail [] l = refl
 ended_mail (e ∷ es) l = ended_mail es (ended_at e.line e.outcome l)
 
-ended_store : (es : List Ending) (l : Lists) → (all_ended es l).store ≡ l.store
+pub ended_store : (es : List Ending) (l : Lists) → (all_ended es l).store ≡ l.store
 ended_store [] l = refl
 ended_store (e ∷ es) l = ended_store es (ended_at e.line e.outcome l)
 
-ended_served : (es : List Ending) (l : Lists) → (all_ended es l).served ≡ l.served
+pub ended_served : (es : List Ending) (l : Lists) → (all_ended es l).served ≡ l.served
 ended_served [] l = refl
 ended_served (e ∷ es) l = ended_served es (ended_at e.line e.outcome l)
 
-ended_sight : (es : List Ending) (l : Lists) → (all_ended es l).sight ≡ l.sight
+pub ended_sight : (es : List Ending) (l : Lists) → (all_ended es l).sight ≡ l.sight
 ended_sight [] l = refl
 ended_sight (e ∷ es) l = ended_sight es (ended_at e.line e.outcome l)
 
@@ -337,7 +337,7 @@ module _ (n : ℕ) (old : Lists) (told : newest old ≡ n) (even : length old.si
     delivers_at t None new e skips = is_skipped (lines.Deliver t) new skips
     delivers_at t (Some place) new e c = deliver_if t (can_be_served (opened old).mail place) place new e c
 
-    stepped : (line : Line) (new : Lists) → Steps line old new → Stepped n line old new
+    pub stepped : (line : Line) (new : Lists) → Steps line old new → Stepped n line old new
     stepped lines.Blank new s = tells lines.Blank (opened old) new Done s refl refl refl (λ looks es same f. f)
     stepped lines.Client new s = subst (λ x. Stepped n lines.Client old x) (sym s) (quiet_stepped n lines.Client old (outright (Ok Nothing) (with_sight (connected (opened old).sight) (opened old)))
         (ready_outright lines.Client (with_sight (connected (opened old).sight) (opened old)) (Ok Nothing) refl refl (λ looks es same f. f))
@@ -364,7 +364,7 @@ module _ (n : ℕ) (old : Lists) (told : newest old ≡ n) (even : length old.si
 
 -- The history of the lines.
 
-history_same : (sent sent' : List SentNote) (outs outs' : List Outcome) (ls : List Line)
+pub history_same : (sent sent' : List SentNote) (outs outs' : List Outcome) (ls : List Line)
     → ((j : ℕ) → j ≤ length ls → is_done (outcome_of outs j) ≡ is_done (outcome_of outs' j))
     → ((j : ℕ) → j ≤ length ls → (t : Ticket) → find sent j t ≡ find sent' j t)
     → ((j : ℕ) → j ≤ length ls → (es : List Event) → with_sends sent j es ≡ with_sends sent' j es)

@@ -3,4 +3,16 @@ mod Orders
 mod Finds
 mod Calms
 mod Folds
+mod Numberings
+mod Goings
+mod Beginnings
+mod Courses
+mod Idles
+mod Caused
+mod Fates
+mod Events
+mod Happenings
+mod Carried
+mod Alive
+mod Keepings
 mod Standings

@@ -43,7 +43,7 @@ or_old [] y d i h = absurd (omega arith)
 or_old (z ∷ xs) y d zero h = refl
 or_old (z ∷ xs) y d (suc i) h = or_old xs y d i (omega arith)
 
-or_last : {X : Type 0} (xs : List X) (y d : X) → get_or (xs ++ y ∷ []) (length xs) d ≡ y
+pub or_last : {X : Type 0} (xs : List X) (y d : X) → get_or (xs ++ y ∷ []) (length xs) d ≡ y
 or_last [] y d = refl
 or_last (z ∷ xs) y d = or_last xs y d
 
@@ -112,7 +112,7 @@ numbered_one at p mail nexts next a = subst (λ ts. AreNumbered ts (with_next ne
 
 -- The mail has a place for it.
 
-next_in : (t : Ticket) (mail : Mail) (nexts : List ℕ) → IsNext nexts t → AreNumbered mail.tickets nexts → mails.IsNext mail t
+pub next_in : (t : Ticket) (mail : Mail) (nexts : List ℕ) → IsNext nexts t → AreNumbered mail.tickets nexts → mails.IsNext mail t
 next_in t mail nexts next a = record {
   first = next.first;
   last = subst (λ m. t.line ≤ m) (sym a.lines) next.last;
@@ -152,7 +152,7 @@ pub lines_stay : (ps : List Posting) (from to : List ℕ) → ArePosted from ps 
 lines_stay [] from to h = ap (λ ns. length ns) h
 lines_stay (p ∷ ps) from to h = lines_stay ps (with_next from (ticket_in p).line) to h.2 ∙ length-set from ((ticket_in p).line - 1) (next_at from (ticket_in p).line + 1)
 
-mail_one : (at : ℕ) (p : Posting) (mail : Mail) → mails.IsNext mail (ticket_in p) → mails.IsMail mail → mails.IsMail (posted_at at p mail)
+pub mail_one : (at : ℕ) (p : Posting) (mail : Mail) → mails.IsNext mail (ticket_in p) → mails.IsMail mail → mails.IsMail (posted_at at p mail)
 mail_one at (Send t to r askers) mail next m = sent_is_mail mail (record { ticket = t; at = at; to = to; request = r; askers = askers }) next m
 mail_one at (Sleep t) mail next m = slept_is_mail mail (record { ticket = t; at = at }) next m
 

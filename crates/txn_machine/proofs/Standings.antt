@@ -2,22 +2,28 @@
 use Rattle.std.proofs.Common.{◌≡◌, ℕ, zero, suc, ◌+◌, ◌*◌, ◌^◌, ◌<◌, ◌≤◌, Bool, true, false, if◌then◌else◌, List, [], ◌∷◌, Option, Some, None, length, reverse, nat_le, nat_lt, refl, sym, ap, ◌∙◌, subst, arith}
 use Rattle.std.proofs.lemmas.Bool.Decides.{nat_tests}
 use Rattle.txn_lines.specs.Kinds.{kinds_of}
-use Rattle.txn_lines.specs.Lines.{clients_in, clock_in, max_clock, max_lines, named_by, or_else, why_after, why_alone, why_clock, why_named}
+use Rattle.txn_lines.specs.Lines.{clients_in, clock_in, line_at, max_clock, max_lines, named_by, or_else, why_after, why_alone, why_clock, why_named}
 use Rattle.txn_lines.specs.declared.line.Line.{Line}
 use Rattle.txn_lines.specs.declared.line.Line.TheVariants as lines
 use Rattle.txn_lines.specs.declared.script.Why.{Why}
 use Rattle.txn_lines.specs.declared.script.Why.TheVariants.{TooMany, ClockHigh, ClockFalls}
 use Rattle.txn_model.specs.Store.{opening}
-use Rattle.txn_post.specs.Mail.{no_mail}
+use Rattle.txn_kv.specs.declared.ticket.Ticket.{Ticket}
+use Rattle.txn_post.specs.Mail.{no_mail, place_in, place_of, places_of}
 use Rattle.txn_post.proofs.Mails.{none_is_mail}
 use Rattle.txn_report.specs.declared.report.Report.{Report}
-use Rattle.txn_side.specs.Sight.{Sight, nobody, stand_at}
+use Rattle.txn_side.specs.Sight.{Sight, Stand, client_at, nobody, stand_at}
+use Rattle.txn_side.specs.Sight.Stand.{Calling, HasBegun, Idle, IsClient}
+use Rattle.txn_machine.specs.Causes.{AllCallsMeet, AllEnd, AllEventsMeet, AllLive, AreTold, CallsMeetLines, EndsLines, EventsMeetLines, LivesLines, TellsLines, answers, ended_of, role_of}
 use Rattle.txn_machine.specs.Lists.{Lists, newest, nothing, opened}
+use Rattle.txn_machine.specs.Rows.{Caused, Fate, IsNoRow, Row, outcome_in, role_in}
+use Rattle.txn_machine.specs.Rows.Row.{Acted, AskFailed, AskSkipped, AskWaits, Begun, CallFailed, CallSkipped, CallWaits, Happened, Made, Over, Timed, Works}
 use Rattle.txn_machine.specs.Running.{HasMemory, IsFine, IsOrdered, IsReportOf, LedTo, Standing, StandsFor, closed, lists_of}
 use Rattle.txn_machine.specs.Steps.{Does, Steps}
 use Rattle.txn_machine.specs.declared.machine.Machine.{Machine}
-use Rattle.txn_machine.specs.Script.{FoldsLines, Folded, history, served_tickets, waits}
+use Rattle.txn_machine.specs.Script.{FoldsLines, Folded, history, outcome_of, served_tickets, waits}
 use Rattle.txn_law.specs.Run.{store_after}
+use Rattle.txn_machine.proofs.Keepings.{caused_step}
 use Rattle.txn_machine.proofs.Folds.{folded_step}
 use Rattle.txn_machine.proofs.Orders.{Stays, opened_count, opened_keeps, steps_keep}
 use Rattle.txn_machine.specs.declared.done.Done.{Done as Course}
@@ -72,6 +78,48 @@ folded_nothing = record {
   folds = record { store = refl; served = refl };
 }
 
+none_has_read : (n : ℕ) → IsNoRow (outcome_of [] n) (ended_of [] n) (stand_at [] n)
+none_has_read zero = record { outcome = refl; ended = refl; at = refl }
+none_has_read (suc i) = record { outcome = refl; ended = refl; at = refl }
+
+none_stands : (n : ℕ) (s : Stand) → stand_at [] n ≡ s → s ≡ Idle
+none_stands n s e = sym e ∙ (none_has_read n).at
+
+nothing_named : (t : Ticket) → place_of [] t ≡ None
+nothing_named t = by t.beat
+  where
+    none_in : (n m : ℕ) → place_in (places_of [] n) m ≡ None
+    none_in zero zero = refl
+    none_in zero (suc m) = refl
+    none_in (suc n) zero = refl
+    none_in (suc n) (suc m) = refl
+
+    by : (b : Bool) → (if b then None else place_in (places_of [] t.line) t.number) ≡ None
+    by true = refl
+    by false = none_in t.line t.number
+
+caused_nothing : Caused [] nothing
+caused_nothing = record {
+  rows = record {
+    rows = λ n line there. absurd (cc);
+    none = λ n there. none_has_read n;
+    ended = λ n line there. absurd (cc);
+    woven = record {
+      calling = λ n c x b h. absurd (let e = none_stands n (Calling c x b) h in cc);
+      called = λ x c m one h. absurd (let e = none_stands x (HasBegun c m) h in cc);
+      one = λ j k c a b. absurd (let e = none_stands j (IsClient c) a in cc);
+      below = λ n c h. absurd (let e = none_stands n (IsClient c) h in cc);
+      clients = λ n c h. absurd (let e = sym h ∙ ap client_at (none_has_read n).at in cc);
+      flags = λ n c h. absurd (let e = none_stands n (IsClient c) h in cc);
+      ahead = λ n h. refl;
+    };
+  };
+  lives = λ n line there. absurd (cc);
+  calls = tt;
+  events = tt;
+  fates = record { fates = λ t. subst (λ o. Fate [] no_mail t o) (sym (nothing_named t)) (record { sent = refl; kept = refl; taken = refl; refused = refl; lost = refl }, refl); slept = tt };
+}
+
 pub new_stands : {S : Type 0} (sight : S → Sight) (ready : S → Type 0) (m : Machine S) → m.store ≡ opening → m.post ≡ no_mail → sight m.clients ≡ nobody → m.outcomes.items ≡ [] → m.ended.items ≡ [] → m.served.items ≡ [] → m.kinds ≡ kinds_of [] → ready m.clients → StandsFor sight ready m []
 new_stands sight ready m store post clients outcomes ended served kinds able = record {
   stands = λ h. record {
@@ -80,6 +128,7 @@ new_stands sight ready m store post clients outcomes ended served kinds able = r
     told = ap (λ (l : Lists). newest l) here;
     ordered = subst (λ l. IsOrdered l) (sym here) ordered_nothing;
     folded = subst (λ l. Folded [] l) (sym here) folded_nothing;
+    caused = subst (λ l. Caused [] l) (sym here) caused_nothing;
     kinds = kinds;
   };
   few = omega arith;
@@ -100,6 +149,7 @@ step_stands sight ready old new line before steps able kinds good memory stood =
     able = able;
     told = let a = next.count in let b = was.told in omega arith;
     ordered = next.ordered;
+    caused = caused_step line before (lists_of sight old) (lists_of sight new) was.told was.ordered good steps was.folded was.caused;
     folded = folded_step line before (lists_of sight old) (lists_of sight new) was.told was.ordered.even.stands was.ordered.sound.mail steps was.folded;
     kinds = kinds was.kinds;
   };
@@ -140,3 +190,43 @@ report_folds l report script r f = record {
   where
     same : history l.mail.sent l.outcomes script ≡ history report.sent report.outcomes script
     same = λ i. history (sym r.sent i) (sym r.outcomes i) script
+
+-- Each row answers what its call may.
+row_answers : (r : Row) → answers (role_in r) (outcome_in r) ≡ true
+row_answers (Made c) = refl
+row_answers (AskWaits b k c) = refl
+row_answers (Begun k v c m) = refl
+row_answers (Timed k v) = refl
+row_answers (AskFailed b k e) = refl
+row_answers (AskSkipped b k) = refl
+row_answers (CallWaits b x c) = refl
+row_answers (Acted x) = refl
+row_answers (Over x v) = refl
+row_answers (Works x v c) = refl
+row_answers (CallFailed b x e) = refl
+row_answers (CallSkipped b x) = refl
+row_answers (Happened true) = refl
+row_answers (Happened false) = refl
+
+pub report_tells : (l : Lists) (report : Report) (script : List Line) → IsReportOf l report → IsOrdered l → newest l ≡ length script → Caused script l → TellsLines script report
+report_tells l report script r ordered told caused = subst (λ outs. AreTold script outs report.ended) (sym r.outcomes) (subst (λ ends. AreTold script l.outcomes ends) (sym r.ended) (record {
+  outcomes = told;
+  ends = ordered.even.ended ∙ told;
+  kinds = λ n line there. let w = caused.rows.rows n line there in (λ i. answers (sym w.is i) (sym w.outcome i)) ∙ row_answers w.row;
+}))
+
+pub report_ends : (l : Lists) (report : Report) (script : List Line) → IsReportOf l report → Caused script l → EndsLines script report
+report_ends l report script r caused = subst (λ outs. AllEnd script (λ n. outcome_of outs n) (λ n. ended_of report.ended n)) (sym r.outcomes) (subst (λ ends. AllEnd script (λ n. outcome_of l.outcomes n) (λ n. ended_of ends n)) (sym r.ended) caused.rows.ended)
+
+pub report_calls : (l : Lists) (report : Report) (script : List Line) → IsReportOf l report → Caused script l → CallsMeetLines script report
+report_calls l report script r caused = subst (λ outs. AllCallsMeet outs report.ended script) (sym r.outcomes) (subst (λ ends. AllCallsMeet l.outcomes ends script) (sym r.ended) caused.calls)
+
+pub report_lives : (l : Lists) (report : Report) (script : List Line) → IsReportOf l report → Caused script l → LivesLines script report
+report_lives l report script r caused = subst (λ outs. AllLive script (λ n. outcome_of outs n) (λ n. ended_of report.ended n)) (sym r.outcomes) (subst (λ ends. AllLive script (λ n. outcome_of l.outcomes n) (λ n. ended_of ends n)) (sym r.ended) caused.lives)
+
+pub report_events : (l : Lists) (report : Report) (script : List Line) → IsReportOf l report → Caused script l → EventsMeetLines script report
+report_events l report script r caused =
+    subst (λ sent. AllEventsMeet sent report.sleeps report.outcomes report.ended script) (sym r.sent)
+    (subst (λ sleeps. AllEventsMeet l.mail.sent sleeps report.outcomes report.ended script) (sym r.sleeps)
+    (subst (λ outs. AllEventsMeet l.mail.sent l.mail.sleeps outs report.ended script) (sym r.outcomes)
+    (subst (λ ends. AllEventsMeet l.mail.sent l.mail.sleeps l.outcomes ends script) (sym r.ended) caused.events)))

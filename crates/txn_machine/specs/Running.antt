@@ -15,6 +15,7 @@ use Rattle.txn_report.specs.declared.report.SentNote.{SentNote}
 use Rattle.txn_side.specs.Sight.{AskFor, ArePosted, Sight, is_live, next_at}
 use Rattle.txn_side.specs.declared.turn.Posting.{Posting}
 use Rattle.txn_machine.specs.Lists.{Lists, followed, newest, nothing, outright}
+use Rattle.txn_machine.specs.Rows.{Caused}
 use Rattle.txn_machine.specs.Script.{Folded}
 use Rattle.txn_machine.specs.Steps.{Steps}
 use Rattle.txn_machine.specs.declared.done.Done.{Done as Course}
@@ -69,6 +70,7 @@ pub record Standing {S : Type 0} (sight : S → Sight) (ready : S → Type 0) (m
   pub told : newest (lists_of sight m) ≡ length lines
   pub ordered : IsOrdered (lists_of sight m)
   pub folded : Folded lines (lists_of sight m)
+  pub caused : Caused lines (lists_of sight m)
   pub kinds : m.kinds ≡ kinds_of lines
 
 -- A machine stands for these lines. Where memory was wanting, nothing is said.

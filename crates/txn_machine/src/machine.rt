@@ -1,6 +1,7 @@
 ghost use Rattle.std.specs.Prelude.{◌≡◌, ◌+◌, ◌++◌, ◌∷◌, ◌<◌, ◌≤◌, [], IfOk, List, OnErr, OnOk, None, Some, length, map};
 ghost use Rattle.txn_lines.specs.Kinds.{kinds_of};
 ghost use Rattle.txn_lines.specs.Lines.{max_lines, why_after};
+ghost use Rattle.txn_machine.specs.Causes.{CallsMeetLines, EndsLines, EventsMeetLines, LivesLines, TellsLines};
 ghost use Rattle.txn_machine.specs.Lists.{Lists, all_ended, all_posted, ended_at, newest, opened, outright, posted_at, with_mail};
 ghost use Rattle.txn_machine.specs.Running.{CanClose, CanPost, CanStep, HasMemory, IsEven, IsFine, IsOrdered, IsReportOf, StandsFor, LedTo, closed, lists_of, outs_at, outs_until, with_own};
 ghost use Rattle.txn_machine.specs.Script.{FoldsLines};
@@ -411,6 +412,11 @@ impl<S: ClientSide> Machine<S> {
         requires { HasMemory self }
         ensures lists { (lines : List Line) → StandsFor S.sight S.ready self lines → (l : Lists) × LedTo lines l × IsReportOf l result }
         ensures folded { (lines : List Line) → StandsFor S.sight S.ready self lines → FoldsLines lines result }
+        ensures told { (lines : List Line) → StandsFor S.sight S.ready self lines → TellsLines lines result }
+        ensures ends { (lines : List Line) → StandsFor S.sight S.ready self lines → EndsLines lines result }
+        ensures lives { (lines : List Line) → StandsFor S.sight S.ready self lines → LivesLines lines result }
+        ensures calls { (lines : List Line) → StandsFor S.sight S.ready self lines → CallsMeetLines lines result }
+        ensures events { (lines : List Line) → StandsFor S.sight S.ready self lines → EventsMeetLines lines result }
     {
         let (sent, sleeps) = self.post.into_notes();
         Report {

@@ -1,0 +1,356 @@
+-- How each line begins, and what the clients do then.
+use Rattle.std.proofs.Common.{◌≡◌, ℕ, ◌⊎◌, inl, inr, Bool, true, false, ◌&&◌, if◌then◌else◌, List, [], Option, Some, None, is_some, refl, sym, ap, ◌∙◌, subst, arith}
+use Rattle.txn_kv.specs.declared.reply.Reply.{Reply}
+use Rattle.txn_kv.specs.declared.ticket.Ticket.{Ticket}
+use Rattle.txn_history.specs.Busy.{busy_reply}
+use Rattle.txn_lines.specs.declared.line.Line.{Line}
+use Rattle.txn_lines.specs.declared.line.Line.TheVariants as lines
+use Rattle.txn_model.specs.Regions.{at_clock, can_lead, can_split, lead, split}
+use Rattle.txn_post.specs.Mail.{Mail, as_sent, as_slept, can_be_served, changing, delivering, found_awaited, found_lasting, found_unserved, is_awaited, is_lasting, keeping, letter_at, losing, only, place_of, refusing, taking, waking}
+use Rattle.txn_post.specs.declared.letter.Letter.{Letter}
+use Rattle.txn_report.specs.declared.outcome.Outcome.{Outcome}
+use Rattle.txn_report.specs.declared.outcome.Outcome.TheVariants.{Done, Ok, Skipped}
+use Rattle.txn_report.specs.declared.outcome.Payload.TheVariants.{Unit as Nothing}
+use Rattle.txn_side.specs.Sight.{Acts, Asks, Goes, LineGoes, Sight, Stand, client_at, commits, connected, crash, is_free, is_live, line_count, stand_at, with_stand}
+use Rattle.txn_side.specs.Sight.Stand.{Asking, Calling, HasBegun, Idle, IsClient, Working}
+use Rattle.txn_side.specs.declared.act.Act.{Act}
+use Rattle.txn_side.specs.declared.act.Act.TheVariants as acts
+use Rattle.txn_side.specs.declared.turn.Ending.{Ending}
+use Rattle.txn_side.specs.declared.turn.Posting.{Posting}
+use Rattle.txn_side.specs.declared.turn.Turn.{Turn}
+use Rattle.txn_machine.specs.Causes.{Role, role_of, tells}
+use Rattle.txn_machine.specs.Causes.Role.{AsksTime, MakesClient, NoCall, UsesTransaction}
+use Rattle.txn_machine.specs.Lists.{Lists, fated, followed, handled, opened, outright, reply_at, request_at, with_mail, with_sight, with_store}
+use Rattle.txn_machine.specs.Running.{with_own}
+use Rattle.txn_machine.specs.Script.{is_done}
+use Rattle.txn_machine.specs.Steps.{Answers, AtPlace, Delivers, Hears, IfServable, IsBusy, Refuses, Serves, Steps, Takes, called, done_if, found_asleep, found_out, skipped}
+
+-- it is skipped, and the clients stay as they were
+pub record IsIdle (can : Bool) (own : Option Outcome) (ended : List Ending) (s from : Sight) : Type 0 where
+  pub is : own ≡ Some Skipped
+  pub cannot : can ≡ false
+  pub same : from ≡ s
+  pub none : ended ≡ []
+
+pub record IsAsked (k : ℕ) (b : Bool) (own : Option Outcome) (s from : Sight) : Type 0 where
+  pub client : ℕ
+  pub is : own ≡ None
+  pub there : client_at (stand_at s.stands k) ≡ Some client
+  pub can : is_live s k ≡ true
+  pub begun : from ≡ with_stand (line_count s) (Asking client b) s
+
+pub record IsCalled (x : ℕ) (b : Bool) (own : Option Outcome) (s from : Sight) : Type 0 where
+  pub client : ℕ
+  pub is : own ≡ None
+  pub free : stand_at s.stands x ≡ HasBegun client 0
+  pub can : is_free s x ≡ true
+  pub begun : from ≡ with_stand (line_count s) (Calling client x b) (with_stand x (HasBegun client (line_count s)) s)
+
+-- a client that a line names is gone
+abbrev pub Falls : Line → Bool → Sight → Sight → Type 0
+Falls (lines.Crash k) d s from = (d ≡ is_live s k) × (from ≡ crash k s)
+Falls line d s from = from ≡ s
+
+pub record IsEvent (line : Line) (own : Option Outcome) (ended : List Ending) (s from : Sight) : Type 0 where
+  pub done : Bool
+  pub is : own ≡ Some (done_if done)
+  pub falls : Falls line done s from
+  pub ends : (ended ≡ []) ⊎ ((done ≡ true) × (tells line ≡ true))
+
+pub record IsMade (own : Option Outcome) (ended : List Ending) (s from : Sight) : Type 0 where
+  pub is : own ≡ Some (Ok Nothing)
+  pub begun : from ≡ connected s
+  pub none : ended ≡ []
+
+abbrev pub Begins : Role → Line → Option Outcome → List Ending → Sight → Sight → Type 0
+Begins MakesClient line own ended s from = IsMade own ended s from
+Begins (AsksTime b k) line own ended s from = IsIdle (is_live s k) own ended s from ⊎ IsAsked k b own s from
+Begins (UsesTransaction b x) line own ended s from = IsIdle (is_free s x) own ended s from ⊎ IsCalled x b own s from
+Begins NoCall line own ended s from = IsEvent line own ended s from
+
+-- What an event does, and when.
+
+abbrev pub test_at : (ℕ → Bool) → Option ℕ → Bool
+test_at test None = false
+test_at test (Some k) = test k
+
+-- an event is done
+abbrev pub does_it : Line → Lists → Bool
+does_it lines.Blank l = true
+does_it (lines.Serve t) l = test_at (λ k. true) (found_unserved l.mail t)
+does_it (lines.Answer t) l = test_at (λ k. is_some (letter_at l.mail k).kept) (found_out l t)
+does_it (lines.Deliver t) l = test_at (λ k. can_be_served l.mail k) (found_out l t)
+does_it (lines.Lose t) l = test_at (λ k. true) (found_out l t)
+does_it (lines.Busy t) l = test_at (λ k. can_be_served l.mail k && is_some (busy_reply (request_at l k))) (found_out l t)
+does_it (lines.Wake t) l = test_at (λ k. true) (found_asleep l t)
+does_it (lines.Split key) l = can_split l.store key
+does_it (lines.Lead region store) l = can_lead l.store region store
+does_it (lines.Clock ms) l = true
+does_it (lines.Crash client) l = is_live l.sight client
+does_it line l = false
+
+-- the letter of the request that the ticket names changes
+pub record Changes (t : Ticket) (change : ℕ → Letter → Letter) (l : Lists) (mail : Mail) : Type 0 where
+  pub place : ℕ
+  pub sent : as_sent (place_of l.mail.tickets t) ≡ Some place
+  pub is : mail ≡ changing (change place) place l.mail
+
+pub record Answered (t : Ticket) (l : Lists) (mail : Mail) : Type 0 where
+  pub place : ℕ
+  pub sent : as_sent (place_of l.mail.tickets t) ≡ Some place
+  pub awaited : (letter_at l.mail place).awaited ≡ true
+  pub reply : Reply
+  pub kept : (letter_at l.mail place).kept ≡ Some reply
+  pub is : mail ≡ changing taking place l.mail
+
+pub record Busied (t : Ticket) (l : Lists) (mail : Mail) : Type 0 where
+  pub place : ℕ
+  pub sent : as_sent (place_of l.mail.tickets t) ≡ Some place
+  pub reply : Reply
+  pub busy : busy_reply (request_at l place) ≡ Some reply
+  pub is : mail ≡ changing refusing place l.mail
+
+pub record Wakened (t : Ticket) (l : Lists) (mail : Mail) : Type 0 where
+  pub place : ℕ
+  pub slept : as_slept (place_of l.mail.tickets t) ≡ Some place
+  pub is : mail ≡ waking place l.mail
+
+-- what a line that is done, or not, makes of the mail
+abbrev pub MailGoes : Bool → Line → Lists → Mail → Type 0
+MailGoes false line l mail = mail ≡ l.mail
+MailGoes true (lines.Serve t) l mail = Changes t (λ k. keeping (reply_at l k)) l mail
+MailGoes true (lines.Answer t) l mail = Answered t l mail
+MailGoes true (lines.Deliver t) l mail = Changes t (λ k. delivering) l mail
+MailGoes true (lines.Lose t) l mail = Changes t (λ k. losing) l mail
+MailGoes true (lines.Busy t) l mail = Busied t l mail
+MailGoes true (lines.Wake t) l mail = Wakened t l mail
+MailGoes true line l mail = mail ≡ l.mail
+
+abbrev pub own_done : Option Outcome → Bool
+own_done None = false
+own_done (Some o) = is_done o
+
+-- The line begins from the lists that were, and what it comes to is followed by what the clients do.
+pub record Course (line : Line) (old new : Lists) : Type 0 where
+  pub own : Option Outcome
+  pub mid : Lists
+  pub posted : List Posting
+  pub ended : List Ending
+  pub from : Sight
+  pub is : new ≡ followed posted ended mid
+  pub outcomes : mid.outcomes ≡ (with_own own (opened old)).outcomes
+  pub ends : mid.ended ≡ (with_own own (opened old)).ended
+  pub goes : Goes posted ended from mid.sight
+  pub begins : Begins (role_of line) line own ended (opened old).sight from
+  pub sure : role_of line ≡ NoCall → own ≡ Some (done_if (does_it line (opened old)))
+  pub mails : MailGoes (own_done own) line (opened old) mid.mail
+
+line_stays : (n : ℕ) (s : Stand) → LineGoes [] n s s
+line_stays n Idle = (refl, refl)
+line_stays n (IsClient c) = (refl, refl)
+line_stays n (Asking c b) = refl
+line_stays n (HasBegun c m) = (refl, refl)
+line_stays n (Calling c x b) = refl
+line_stays n (Working c) = (refl, refl)
+
+sight_stays : (s : Sight) → Goes [] [] s s
+sight_stays s = record { crashed = refl; count = refl; lines = λ n. line_stays n (stand_at s.stands n); live = λ k d h. absurd (omega arith); numbers = refl }
+
+only_there : (p : ℕ → Bool) (o : Option ℕ) (k : ℕ) → only p o ≡ Some k → (o ≡ Some k) × (p k ≡ true)
+only_there p None k e = absurd (cc)
+only_there p (Some j) k e = by (p j) refl e
+  where
+    by : (b : Bool) → p j ≡ b → (if b then Some j else None) ≡ Some k → (◌≡◌ {A = Option ℕ} (Some j) (Some k)) × (p k ≡ true)
+    by true q f = let same : j ≡ k = cc in (f, subst (λ i. p i ≡ true) same q)
+    by false q f = absurd (cc)
+
+module _ (old : Lists) where
+  -- the outcome comes at once, and the clients do nothing more
+  at_once : (line : Line) (y new : Lists) (o : Outcome) → new ≡ outright o y → y.outcomes ≡ (opened old).outcomes → y.ended ≡ (opened old).ended → Begins (role_of line) line (Some o) [] (opened old).sight y.sight
+      → (role_of line ≡ NoCall → ◌≡◌ {A = Option Outcome} (Some o) (Some (done_if (does_it line (opened old))))) → MailGoes (is_done o) line (opened old) y.mail → Course line old new
+  at_once line y new o is outs ends begins sure mails = record {
+    own = Some o;
+    mid = outright o y;
+    posted = [];
+    ended = [];
+    from = y.sight;
+    is = is;
+    outcomes = ap (λ os. (outright o (record y { outcomes = os })).outcomes) outs;
+    ends = λ i. (outright o (record y { outcomes = outs i; ended = ends i })).ended;
+    goes = sight_stays y.sight;
+    begins = begins;
+    sure = sure;
+    mails = mails;
+  }
+
+  -- an event that could do nothing
+  missed : (line : Line) (new : Lists) → role_of line ≡ NoCall → ((s : Sight) → Falls line false s s) → does_it line (opened old) ≡ false → new ≡ skipped (opened old) → Course line old new
+  missed line new role falls cannot is = at_once line (opened old) new Skipped is refl refl
+      (subst (λ r. Begins r line (Some Skipped) [] (opened old).sight (opened old).sight) (sym role) (record { done = false; is = refl; falls = falls (opened old).sight; ends = inl refl }))
+      (λ r. ap (λ b. Some (done_if b)) (sym cannot)) refl
+
+  -- an event of which the clients hear
+  heard : (line : Line) (y new : Lists) → role_of line ≡ NoCall → ((s : Sight) → Falls line true s s) → tells line ≡ true → y.outcomes ≡ (opened old).outcomes → y.ended ≡ (opened old).ended → y.sight ≡ (opened old).sight → does_it line (opened old) ≡ true → MailGoes true line (opened old) y.mail → Hears y new → Course line old new
+  heard line y new role falls tell outs ends sight can mails c = record {
+    own = Some Done;
+    mid = outright Done (with_sight c.sight y);
+    posted = c.posted;
+    ended = c.ended;
+    from = y.sight;
+    is = c.is;
+    outcomes = ap (λ os. (outright Done (record y { outcomes = os })).outcomes) outs;
+    ends = λ i. (outright Done (record y { outcomes = outs i; ended = ends i })).ended;
+    goes = c.goes;
+    begins = subst (λ r. Begins r line (Some Done) c.ended (opened old).sight y.sight) (sym role)
+        (record { done = true; is = refl; falls = subst (λ s. Falls line true (opened old).sight s) (sym sight) (falls (opened old).sight); ends = inr (refl, tell) });
+    sure = λ r. ap (λ b. Some (done_if b)) (sym can);
+    mails = mails;
+  }
+
+  asks : (line : Line) (b : Bool) (k : ℕ) (new : Lists) (s : Sight) (turn : Option Turn) → role_of line ≡ AsksTime b k → Asks b k (opened old).sight s turn → new ≡ called turn (with_sight s (opened old)) → Course line old new
+  asks line b k new s None role a is = at_once line (with_sight s (opened old)) new Skipped is refl refl
+      (subst (λ r. Begins r line (Some Skipped) [] (opened old).sight s) (sym role) (inl (record { is = refl; cannot = a.0; same = a.1; none = refl })))
+      (λ r. absurd (let z = sym role ∙ r in cc)) refl
+  asks line b k new s (Some turn) role a is = record {
+    own = None;
+    mid = with_sight s (opened old);
+    posted = turn.posted.items;
+    ended = turn.ended.items;
+    from = with_stand (line_count (opened old).sight) (Asking a.0 b) (opened old).sight;
+    is = is;
+    outcomes = refl;
+    ends = refl;
+    goes = a.3;
+    begins = subst (λ r. Begins r line None turn.ended.items (opened old).sight (with_stand (line_count (opened old).sight) (Asking a.0 b) (opened old).sight)) (sym role)
+        (inr (record { client = a.0; is = refl; there = a.1; can = a.2; begun = refl }));
+    sure = λ r. absurd (let z = sym role ∙ r in cc);
+    mails = refl;
+  }
+
+  acts_so : (line : Line) (act : Act) (b : Bool) (x : ℕ) (new : Lists) (s : Sight) (turn : Option Turn) → role_of line ≡ UsesTransaction b x → commits act ≡ b → Acts act x (opened old).sight s turn → new ≡ called turn (with_sight s (opened old)) → Course line old new
+  acts_so line act b x new s None role kind a is = at_once line (with_sight s (opened old)) new Skipped is refl refl
+      (subst (λ r. Begins r line (Some Skipped) [] (opened old).sight s) (sym role) (inl (record { is = refl; cannot = a.0; same = a.1; none = refl })))
+      (λ r. absurd (let z = sym role ∙ r in cc)) refl
+  acts_so line act b x new s (Some turn) role kind a is = record {
+    own = None;
+    mid = with_sight s (opened old);
+    posted = turn.posted.items;
+    ended = turn.ended.items;
+    from = calling;
+    is = is;
+    outcomes = refl;
+    ends = refl;
+    goes = subst (λ (k : Bool). Goes turn.posted.items turn.ended.items (with_stand (line_count (opened old).sight) (Calling a.0 x k) (with_stand x (HasBegun a.0 (line_count (opened old).sight)) (opened old).sight)) s) kind a.3;
+    begins = subst (λ r. Begins r line None turn.ended.items (opened old).sight calling) (sym role)
+        (inr (record { client = a.0; is = refl; free = a.1; can = a.2; begun = refl }));
+    sure = λ r. absurd (let z = sym role ∙ r in cc);
+    mails = refl;
+  }
+    where
+      calling : Sight
+      calling = with_stand (line_count (opened old).sight) (Calling a.0 x b) (with_stand x (HasBegun a.0 (line_count (opened old).sight)) (opened old).sight)
+
+  -- where a ticket was found
+  out_there : (t : Ticket) (k : ℕ) → found_out (opened old) t ≡ Some k → (as_sent (place_of (opened old).mail.tickets t) ≡ Some k) × ((letter_at (opened old).mail k).awaited ≡ true)
+  out_there t k e = by (is_live (opened old).sight t.line) e
+    where
+      by : (b : Bool) → (if b then found_awaited (opened old).mail t else None) ≡ Some k → (as_sent (place_of (opened old).mail.tickets t) ≡ Some k) × ((letter_at (opened old).mail k).awaited ≡ true)
+      by true f = only_there (λ j. is_awaited (opened old).mail j) (as_sent (place_of (opened old).mail.tickets t)) k f
+      by false f = absurd (cc)
+
+  asleep_there : (t : Ticket) (k : ℕ) → found_asleep (opened old) t ≡ Some k → as_slept (place_of (opened old).mail.tickets t) ≡ Some k
+  asleep_there t k e = by (is_live (opened old).sight t.line) e
+    where
+      by : (b : Bool) → (if b then found_lasting (opened old).mail t else None) ≡ Some k → as_slept (place_of (opened old).mail.tickets t) ≡ Some k
+      by true f = (only_there (λ j. is_lasting (opened old).mail j) (as_slept (place_of (opened old).mail.tickets t)) k f).0
+      by false f = absurd (cc)
+
+  answers : (t : Ticket) (o : Option ℕ) (new : Lists) → found_out (opened old) t ≡ o → AtPlace o Answers (opened old) new → Course (lines.Answer t) old new
+  answers t None new e h = missed (lines.Answer t) new refl (λ s. refl) (ap (λ z. test_at (λ k. is_some (letter_at (opened old).mail k).kept) z) e) h
+  answers t (Some place) new e h = by (letter_at (opened old).mail place).kept refl h
+    where
+      can : does_it (lines.Answer t) (opened old) ≡ is_some (letter_at (opened old).mail place).kept
+      can = ap (λ z. test_at (λ k. is_some (letter_at (opened old).mail k).kept) z) e
+
+      by : (kept : Option Reply) → (letter_at (opened old).mail place).kept ≡ kept → Takes place kept (opened old) new → Course (lines.Answer t) old new
+      by None k g = missed (lines.Answer t) new refl (λ s. refl) (can ∙ ap is_some k) g
+      by (Some o) k g = heard (lines.Answer t) (fated taking place (opened old)) new refl (λ s. refl) refl refl refl refl (can ∙ ap is_some k)
+          (let there = out_there t place e in record { place = place; sent = there.0; awaited = there.1; reply = o; kept = k; is = refl }) g
+
+  delivers : (t : Ticket) (o : Option ℕ) (new : Lists) → found_out (opened old) t ≡ o → AtPlace o (Delivers t) (opened old) new → Course (lines.Deliver t) old new
+  delivers t None new e h = missed (lines.Deliver t) new refl (λ s. refl) (ap (λ z. test_at (λ k. can_be_served (opened old).mail k) z) e) h
+  delivers t (Some place) new e h = by (can_be_served (opened old).mail place) refl h
+    where
+      can : does_it (lines.Deliver t) (opened old) ≡ can_be_served (opened old).mail place
+      can = ap (λ z. test_at (λ k. can_be_served (opened old).mail k) z) e
+
+      by : (b : Bool) → can_be_served (opened old).mail place ≡ b → IfServable b (λ l x. Hears (fated delivering place (handled t place l)) x) (opened old) new → Course (lines.Deliver t) old new
+      by false k g = missed (lines.Deliver t) new refl (λ s. refl) (can ∙ k) g
+      by true k g = heard (lines.Deliver t) (fated delivering place (handled t place (opened old))) new refl (λ s. refl) refl refl refl refl (can ∙ k)
+          (record { place = place; sent = (out_there t place e).0; is = refl }) g
+
+  busies : (t : Ticket) (o : Option ℕ) (new : Lists) → found_out (opened old) t ≡ o → AtPlace o IsBusy (opened old) new → Course (lines.Busy t) old new
+  busies t None new e h = missed (lines.Busy t) new refl (λ s. refl) (ap (λ z. test_at (λ k. can_be_served (opened old).mail k && is_some (busy_reply (request_at (opened old) k))) z) e) h
+  busies t (Some place) new e h = by (can_be_served (opened old).mail place) refl h
+    where
+      can : does_it (lines.Busy t) (opened old) ≡ (can_be_served (opened old).mail place && is_some (busy_reply (request_at (opened old) place)))
+      can = ap (λ z. test_at (λ k. can_be_served (opened old).mail k && is_some (busy_reply (request_at (opened old) k))) z) e
+
+      refuses : (reply : Option Reply) → can_be_served (opened old).mail place ≡ true → busy_reply (request_at (opened old) place) ≡ reply → Refuses place reply (opened old) new → Course (lines.Busy t) old new
+      refuses None k r g = missed (lines.Busy t) new refl (λ s. refl) (can ∙ (λ i. k i && is_some (r i))) g
+      refuses (Some o) k r g = heard (lines.Busy t) (fated refusing place (opened old)) new refl (λ s. refl) refl refl refl refl (can ∙ (λ i. k i && is_some (r i)))
+          (record { place = place; sent = (out_there t place e).0; reply = o; busy = r; is = refl }) g
+
+      by : (b : Bool) → can_be_served (opened old).mail place ≡ b → IfServable b (λ l x. Refuses place (busy_reply (request_at l place)) l x) (opened old) new → Course (lines.Busy t) old new
+      by false k g = missed (lines.Busy t) new refl (λ s. refl) (can ∙ ap (λ b. b && is_some (busy_reply (request_at (opened old) place))) k) g
+      by true k g = refuses (busy_reply (request_at (opened old) place)) k refl g
+
+  loses : (t : Ticket) (o : Option ℕ) (new : Lists) → found_out (opened old) t ≡ o → AtPlace o (λ place l x. Hears (fated losing place l) x) (opened old) new → Course (lines.Lose t) old new
+  loses t None new e h = missed (lines.Lose t) new refl (λ s. refl) (ap (λ z. test_at (λ k. true) z) e) h
+  loses t (Some place) new e h = heard (lines.Lose t) (fated losing place (opened old)) new refl (λ s. refl) refl refl refl refl (ap (λ z. test_at (λ k. true) z) e) (record { place = place; sent = (out_there t place e).0; is = refl }) h
+
+  wakes : (t : Ticket) (o : Option ℕ) (new : Lists) → found_asleep (opened old) t ≡ o → AtPlace o (λ place l x. Hears (with_mail (waking place l.mail) l) x) (opened old) new → Course (lines.Wake t) old new
+  wakes t None new e h = missed (lines.Wake t) new refl (λ s. refl) (ap (λ z. test_at (λ k. true) z) e) h
+  wakes t (Some place) new e h = heard (lines.Wake t) (with_mail (waking place (opened old).mail) (opened old)) new refl (λ s. refl) refl refl refl refl (ap (λ z. test_at (λ k. true) z) e) (record { place = place; slept = asleep_there t place e; is = refl }) h
+
+  serves : (t : Ticket) (o : Option ℕ) (new : Lists) → found_unserved (opened old).mail t ≡ o → AtPlace o (Serves t) (opened old) new → Course (lines.Serve t) old new
+  serves t None new e h = missed (lines.Serve t) new refl (λ s. refl) (ap (λ z. test_at (λ k. true) z) e) h
+  serves t (Some place) new e h = at_once (lines.Serve t) (fated (keeping (reply_at (opened old) place)) place (handled t place (opened old))) new Done h refl refl (record { done = true; is = refl; falls = refl; ends = inl refl })
+      (λ r. ap (λ b. Some (done_if b)) (sym (ap (λ z. test_at (λ k. true) z) e)))
+      (record { place = place; sent = (only_there (λ j. can_be_served (opened old).mail j) (as_sent (place_of (opened old).mail.tickets t)) place e).0; is = refl })
+
+  -- an event that is not about a ticket
+  split_mail : (d : Bool) (key : List ℕ) → MailGoes (is_done (done_if d)) (lines.Split key) (opened old) (opened old).mail
+  split_mail true key = refl
+  split_mail false key = refl
+
+  lead_mail : (d : Bool) (region store : ℕ) → MailGoes (is_done (done_if d)) (lines.Lead region store) (opened old) (opened old).mail
+  lead_mail true region store = refl
+  lead_mail false region store = refl
+
+  crash_mail : (d : Bool) (client : ℕ) → MailGoes (is_done (done_if d)) (lines.Crash client) (opened old) (opened old).mail
+  crash_mail true client = refl
+  crash_mail false client = refl
+
+  pub course : (line : Line) (new : Lists) → Steps line old new → Course line old new
+  course lines.Blank new s = at_once lines.Blank (opened old) new Done s refl refl (record { done = true; is = refl; falls = refl; ends = inl refl }) (λ r. refl) refl
+  course lines.Client new s = at_once lines.Client (with_sight (connected (opened old).sight) (opened old)) new (Ok Nothing) s refl refl (record { is = refl; begun = refl; none = refl }) (λ r. absurd (cc)) refl
+  course (lines.Begin client options) new s = asks (lines.Begin client options) true client new s.sight s.turn refl s.begins s.is
+  course (lines.Timestamp client) new s = asks (lines.Timestamp client) false client new s.sight s.turn refl s.begins s.is
+  course (lines.Put x key value) new s = acts_so (lines.Put x key value) (acts.Put key value) false x new s.sight s.turn refl refl s.begins s.is
+  course (lines.Insert x key value) new s = acts_so (lines.Insert x key value) (acts.Insert key value) false x new s.sight s.turn refl refl s.begins s.is
+  course (lines.Delete x key) new s = acts_so (lines.Delete x key) (acts.Delete key) false x new s.sight s.turn refl refl s.begins s.is
+  course (lines.Mutate x mutations) new s = acts_so (lines.Mutate x mutations) (acts.Mutate mutations) false x new s.sight s.turn refl refl s.begins s.is
+  course (lines.Lock x keys) new s = acts_so (lines.Lock x keys) (acts.Lock keys) false x new s.sight s.turn refl refl s.begins s.is
+  course (lines.Commit x) new s = acts_so (lines.Commit x) acts.Commit true x new s.sight s.turn refl refl s.begins s.is
+  course (lines.Rollback x) new s = acts_so (lines.Rollback x) acts.Rollback false x new s.sight s.turn refl refl s.begins s.is
+  course (lines.Serve t) new s = serves t (found_unserved (opened old).mail t) new refl s
+  course (lines.Answer t) new s = answers t (found_out (opened old) t) new refl s
+  course (lines.Deliver t) new s = delivers t (found_out (opened old) t) new refl s
+  course (lines.Lose t) new s = loses t (found_out (opened old) t) new refl s
+  course (lines.Busy t) new s = busies t (found_out (opened old) t) new refl s
+  course (lines.Wake t) new s = wakes t (found_asleep (opened old) t) new refl s
+  course (lines.Split key) new s = at_once (lines.Split key) (with_store (split old.store key) (opened old)) new (done_if (can_split old.store key)) s refl refl (record { done = can_split old.store key; is = refl; falls = refl; ends = inl refl }) (λ r. refl) (split_mail (can_split old.store key) key)
+  course (lines.Lead region store) new s = at_once (lines.Lead region store) (with_store (lead old.store region store) (opened old)) new (done_if (can_lead old.store region store)) s refl refl (record { done = can_lead old.store region store; is = refl; falls = refl; ends = inl refl }) (λ r. refl) (lead_mail (can_lead old.store region store) region store)
+  course (lines.Clock ms) new s = at_once (lines.Clock ms) (with_store (at_clock old.store ms) (opened old)) new Done s refl refl (record { done = true; is = refl; falls = refl; ends = inl refl }) (λ r. refl) refl
+  course (lines.Crash client) new s = at_once (lines.Crash client) (with_sight (crash client (opened old).sight) (opened old)) new (done_if (is_live (opened old).sight client)) s refl refl (record { done = is_live (opened old).sight client; is = refl; falls = (refl, refl); ends = inl refl }) (λ r. refl) (crash_mail (is_live (opened old).sight client) client)

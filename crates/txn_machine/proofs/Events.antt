@@ -1,0 +1,224 @@
+-- Each event is done just where it can be.
+use Rattle.std.proofs.Common.{◌≡◌, ℕ, suc, inl, inr, Bool, true, false, not, ◌&&◌, if◌then◌else◌, List, [], ◌∷◌, Option, Some, None, length, slice_get, is_some, nat_eq, refl, sym, ap, ◌∙◌, subst, arith}
+use Rattle.std.proofs.lemmas.Bool.Decides.{nat_tests}
+use Rattle.txn_kv.specs.declared.ticket.Ticket.{Ticket}
+use Rattle.txn_history.specs.Busy.{busy_reply}
+use Rattle.txn_history.specs.Event.{Event, is_awaited, is_lost, is_refused, is_served, taken_reply}
+use Rattle.txn_law.specs.Run.{store_after}
+use Rattle.txn_lines.specs.Lines.{line_at, why_after}
+use Rattle.txn_lines.specs.declared.line.Line.{Line}
+use Rattle.txn_lines.specs.declared.line.Line.TheVariants as lines
+use Rattle.txn_model.specs.Regions.{can_lead, can_split}
+use Rattle.txn_post.specs.Mail.{as_sent, as_slept, can_be_served, found_awaited, found_lasting, found_unserved, is_awaited as awaits, is_lasting, letter_at, only, place_of}
+use Rattle.txn_post.specs.declared.post.Place.{Place}
+use Rattle.txn_post.specs.declared.post.Place.TheVariants.{Sent, Slept}
+use Rattle.txn_report.specs.declared.outcome.Outcome.{Outcome}
+use Rattle.txn_side.specs.Sight.{Stand, client_at, is_live, lives, stand_at}
+use Rattle.txn_machine.specs.Causes.{EventMeets, IsTold, can_refuse, hears, is_refusable, is_servable, is_there, is_woken, role_of, stands_at}
+use Rattle.txn_machine.specs.Causes.Role.{NoCall}
+use Rattle.txn_machine.specs.Lists.{Lists, opened, request_at, request_in}
+use Rattle.txn_machine.specs.Rows.{AreRows, Fate, IsFate, IsUnsent, Row, outcome_in, role_in, stand_in}
+use Rattle.txn_machine.specs.Rows.Row.{Acted, AskFailed, AskSkipped, AskWaits, Begun, CallFailed, CallSkipped, CallWaits, Happened, Made, Over, Timed, Works}
+use Rattle.txn_machine.specs.Script.{outcome_of}
+use Rattle.txn_machine.specs.Steps.{done_if, found_asleep, found_out}
+use Rattle.txn_post.proofs.Naming.{opened_leads}
+use Rattle.txn_machine.proofs.Calms.{stand_opened}
+use Rattle.txn_machine.proofs.Courses.{does_it, test_at}
+use Rattle.txn_machine.proofs.Fates.{Fates}
+use Rattle.txn_machine.proofs.Idles.{crash_names, live_is, live_of}
+use Rattle.txn_machine.proofs.Numberings.{line_new, line_old, line_range}
+
+-- Where something stands.
+
+pub record StandsThere (ls : List Line) (seen : ℕ → Outcome) (n : ℕ) : Type 0 where
+  pub line : Line
+  pub there : line_at ls n ≡ Some line
+  pub is : is_there (role_of line) (seen n) ≡ true
+
+stands_line : (ls : List Line) (seen : ℕ → Outcome) (n : ℕ) → stands_at ls seen n ≡ true → StandsThere ls seen n
+stands_line [] seen n h = absurd (cc)
+stands_line (l ∷ ls) seen n h = by (nat_eq (suc (length ls)) n) refl (λ g. stands_line ls seen n g) h
+  where
+    older : StandsThere ls seen n → StandsThere (l ∷ ls) seen n
+    older s =
+        let most = (line_range ls n s.line s.there).1 in
+        record { line = s.line; there = line_old l ls n (λ e. absurd (omega arith)) ∙ s.there; is = s.is }
+
+    by : (b : Bool) → nat_eq (suc (length ls)) n ≡ b → (stands_at ls seen n ≡ true → StandsThere ls seen n) → (if b then is_there (role_of l) (seen n) else stands_at ls seen n) ≡ true → StandsThere (l ∷ ls) seen n
+    by true e more g =
+        let here : suc (length ls) ≡ n = grind (arith, nat_tests) in
+        record { line = l; there = ap (λ k. line_at (l ∷ ls) k) (sym here) ∙ line_new l ls; is = g }
+    by false e more g = older (more g)
+
+has_client : (r : Row) → is_there (role_in r) (outcome_in r) ≡ true → (c : ℕ) × (client_at (stand_in r) ≡ Some c)
+has_client (Made c) h = (c, refl)
+has_client (AskWaits b k c) h = (c, refl)
+has_client (Begun k v c m) h = (c, refl)
+has_client (CallWaits b x c) h = (c, refl)
+has_client (Works x v c) h = (c, refl)
+has_client (Timed k v) h = absurd (cc)
+has_client (AskFailed true k e) h = absurd (cc)
+has_client (AskFailed false k e) h = absurd (cc)
+has_client (AskSkipped true k) h = absurd (cc)
+has_client (AskSkipped false k) h = absurd (cc)
+has_client (Acted x) h = absurd (cc)
+has_client (Over x v) h = absurd (cc)
+has_client (CallFailed b x e) h = absurd (cc)
+has_client (CallSkipped b x) h = absurd (cc)
+has_client (Happened d) h = absurd (cc)
+
+lives_client : (crashed : List Bool) (o : Option ℕ) → lives crashed o ≡ true → (c : ℕ) × (o ≡ Some c)
+lives_client crashed None h = absurd (cc)
+lives_client crashed (Some c) h = (c, refl)
+
+told_so : (b live heard rest : Bool) → (live ≡ true → heard ≡ true) → (b ≡ true → live ≡ heard) → IsTold b (heard && rest) (done_if (live && rest))
+told_so true live heard rest f g = ap (λ z. done_if (z && rest)) (g refl)
+told_so false true heard rest f g = inr (ap (λ z. done_if (z && rest)) (sym (f refl)))
+told_so false false heard rest f g = inl refl
+
+both_none : (a : Bool) → false ≡ a && false
+both_none true = refl
+both_none false = refl
+
+-- What the mail finds.
+
+and_true : (a : Bool) → a && true ≡ a
+and_true true = refl
+and_true false = refl
+
+not_not : (a : Bool) → not (not a) ≡ a
+not_not true = refl
+not_not false = refl
+
+only_test : (p test : ℕ → Bool) (k : ℕ) → test_at test (only p (Some k)) ≡ p k && test k
+only_test p test k = by (p k)
+  where
+    by : (b : Bool) → test_at test (if b then Some k else None) ≡ b && test k
+    by true = refl
+    by false = refl
+
+if_test : (live : Bool) (test : ℕ → Bool) (o : Option ℕ) → test_at test (if live then o else None) ≡ live && test_at test o
+if_test true test o = refl
+if_test false test o = refl
+
+module _ (es : List Event) (old : Lists) (t : Ticket) where
+  unsent_awaited : IsUnsent es t → false ≡ is_awaited es t
+  unsent_awaited f = sym (ap (λ z. (is_some z && not (is_some (taken_reply es t))) && not (is_lost es t)) f.sent)
+
+  unsent_servable : IsUnsent es t → false ≡ is_servable es t
+  unsent_servable f = sym (ap (λ z. is_some z && (not (is_served es t) && not (is_refused es t))) f.sent)
+
+  none_and : (a : Bool) → false ≡ a → (b : Bool) → false ≡ a && b
+  none_and a h b = ap (λ z. z && b) h
+
+  module _ (p test : ℕ → Bool) (rest : Bool) (none : IsUnsent es t → false ≡ rest)
+      (some : (k : ℕ) → IsFate es t (request_in (slice_get old.mail.sent k)) (letter_at old.mail k) → p k && test k ≡ rest) where
+    sent_test : (o : Option Place) → Fate es old.mail t o → test_at test (only p (as_sent o)) ≡ rest
+    sent_test None f = none f.0
+    sent_test (Some (Slept k)) f = none f.0
+    sent_test (Some (Sent k)) f = only_test p test k ∙ some k f
+
+  answer_some : (k : ℕ) → IsFate es t (request_in (slice_get old.mail.sent k)) (letter_at old.mail k) → awaits old.mail k && is_some (letter_at old.mail k).kept ≡ is_awaited es t && is_served es t
+  answer_some k f = by (letter_at old.mail k).awaited refl
+    where
+      by : (b : Bool) → (letter_at old.mail k).awaited ≡ b → (letter_at old.mail k).awaited && is_some (letter_at old.mail k).kept ≡ is_awaited es t && is_served es t
+      by true w = λ i. sym f.awaited i && is_some (sym (f.kept w) i)
+      by false w = ap (λ z. z && is_some (letter_at old.mail k).kept) w ∙ sym (ap (λ z. z && is_served es t) (f.awaited ∙ w))
+
+  servable_some : (k : ℕ) → IsFate es t (request_in (slice_get old.mail.sent k)) (letter_at old.mail k) → can_be_served old.mail k ≡ is_servable es t
+  servable_some k f = λ i. is_some (sym f.sent i) && (not (sym f.served i) && not (sym f.refused i))
+
+  refusable_some : (k : ℕ) → IsFate es t (request_in (slice_get old.mail.sent k)) (letter_at old.mail k) → is_some (busy_reply (request_in (slice_get old.mail.sent k))) ≡ is_refusable es t
+  refusable_some k f = ap can_refuse (sym f.sent)
+
+  module _ (fates : Fates es old.mail) where
+    place : Option Place
+    place = place_of old.mail.tickets t
+
+    unserved_is : test_at (λ k. true) (found_unserved (opened old).mail t) ≡ is_servable es t
+    unserved_is = ap (λ z. test_at (λ k. true) (only (can_be_served old.mail) (as_sent z))) (opened_leads old.mail.tickets t)
+        ∙ sent_test (can_be_served old.mail) (λ k. true) (is_servable es t) unsent_servable (λ k f. and_true (can_be_served old.mail k) ∙ servable_some k f) (place_of old.mail.tickets t) (fates t)
+
+    out_is : (test : ℕ → Bool) (rest : Bool) → (IsUnsent es t → false ≡ rest) → ((k : ℕ) → IsFate es t (request_in (slice_get old.mail.sent k)) (letter_at old.mail k) → awaits old.mail k && test k ≡ rest)
+        → test_at test (found_out (opened old) t) ≡ is_live (opened old).sight t.line && rest
+    out_is test rest none some = if_test (is_live (opened old).sight t.line) test (found_awaited (opened old).mail t)
+        ∙ ap (λ z. is_live (opened old).sight t.line && z)
+        (ap (λ z. test_at test (only (awaits old.mail) (as_sent z))) (opened_leads old.mail.tickets t) ∙ sent_test (awaits old.mail) test rest none some (place_of old.mail.tickets t) (fates t))
+
+    lose_is : test_at (λ k. true) (found_out (opened old) t) ≡ is_live (opened old).sight t.line && is_awaited es t
+    lose_is = out_is (λ k. true) (is_awaited es t) unsent_awaited (λ k f. and_true (awaits old.mail k) ∙ sym f.awaited)
+
+    answer_is : test_at (λ k. is_some (letter_at (opened old).mail k).kept) (found_out (opened old) t) ≡ is_live (opened old).sight t.line && (is_awaited es t && is_served es t)
+    answer_is = out_is (λ k. is_some (letter_at old.mail k).kept) (is_awaited es t && is_served es t) (λ f. none_and (is_awaited es t) (unsent_awaited f) (is_served es t)) answer_some
+
+    deliver_is : test_at (λ k. can_be_served (opened old).mail k) (found_out (opened old) t) ≡ is_live (opened old).sight t.line && (is_awaited es t && is_servable es t)
+    deliver_is = out_is (λ k. can_be_served old.mail k) (is_awaited es t && is_servable es t) (λ f. none_and (is_awaited es t) (unsent_awaited f) (is_servable es t)) (λ k f i. sym f.awaited i && servable_some k f i)
+
+    busy_is : test_at (λ k. can_be_served (opened old).mail k && is_some (busy_reply (request_at (opened old) k))) (found_out (opened old) t) ≡ is_live (opened old).sight t.line && (is_awaited es t && (is_servable es t && is_refusable es t))
+    busy_is = out_is (λ k. can_be_served old.mail k && is_some (busy_reply (request_in (slice_get old.mail.sent k)))) (is_awaited es t && (is_servable es t && is_refusable es t)) (λ f. none_and (is_awaited es t) (unsent_awaited f) (is_servable es t && is_refusable es t))
+        (λ k f i. sym f.awaited i && (servable_some k f i && refusable_some k f i))
+
+    wake_is : (asleep : Bool) → asleep ≡ is_some (as_slept (place_of old.mail.tickets t)) → test_at (λ k. true) (found_asleep (opened old) t) ≡ is_live (opened old).sight t.line && (asleep && not (is_woken es t))
+    wake_is asleep is = if_test (is_live (opened old).sight t.line) (λ k. true) (found_lasting (opened old).mail t)
+        ∙ ap (λ z. is_live (opened old).sight t.line && z)
+        (ap (λ z. test_at (λ k. true) (only (is_lasting old.mail) (as_slept z))) (opened_leads old.mail.tickets t) ∙ by (place_of old.mail.tickets t) (fates t) ∙ ap (λ z. z && not (is_woken es t)) (sym is))
+      where
+        by : (o : Option Place) → Fate es old.mail t o → test_at (λ k. true) (only (is_lasting old.mail) (as_slept o)) ≡ is_some (as_slept o) && not (is_woken es t)
+        by None f = refl
+        by (Some (Sent k)) f = refl
+        by (Some (Slept k)) f = only_test (is_lasting old.mail) (λ j. true) k ∙ and_true (is_lasting old.mail k) ∙ sym (not_not (is_lasting old.mail k)) ∙ ap not (sym f.1)
+
+module _ (ls : List Line) (old : Lists) (e : ℕ → ℕ) (was : AreRows ls (λ n. outcome_of old.outcomes n) e (λ n. stand_at old.sight.stands n) old.sight.crashed) where
+  abbrev o : ℕ → Outcome
+  o n = outcome_of old.outcomes n
+
+  abbrev st : ℕ → Stand
+  st n = stand_at old.sight.stands n
+
+  live_opened : (n : ℕ) → is_live (opened old).sight n ≡ lives old.sight.crashed (client_at (st n))
+  live_opened n = ap (λ z. lives old.sight.crashed (client_at z)) (stand_opened old.sight.stands n)
+
+  live_hears : (t : Ticket) (c : ℕ) → client_at (st t.line) ≡ Some c → is_live (opened old).sight t.line ≡ hears o ls t
+  live_hears t c h = live_opened t.line ∙ live_of ls o e st old.sight.crashed was t.line c h
+
+  heard : (t : Ticket) → is_live (opened old).sight t.line ≡ true → hears o ls t ≡ true
+  heard t h =
+      let c = lives_client old.sight.crashed (client_at (st t.line)) (sym (live_opened t.line) ∙ h) in
+      sym (live_hears t c.0 c.1) ∙ h
+
+  there_hears : (t : Ticket) → stands_at ls o t.line ≡ true → is_live (opened old).sight t.line ≡ hears o ls t
+  there_hears t h =
+      let s = stands_line ls o t.line h in
+      let r = was.rows t.line s.line s.there in
+      let c = has_client r.row ((λ i. is_there (r.is i) (r.outcome i)) ∙ s.is) in
+      live_hears t c.0 (ap client_at (sym r.at) ∙ c.1)
+
+  told : (t : Ticket) (rest d : Bool) (x : Outcome) → x ≡ done_if d → d ≡ is_live (opened old).sight t.line && rest → IsTold (stands_at ls o t.line) (hears o ls t && rest) x
+  told t rest d x is can = subst (λ z. IsTold (stands_at ls o t.line) (hears o ls t && rest) z) (sym (is ∙ ap done_if can))
+      (told_so (stands_at ls o t.line) (is_live (opened old).sight t.line) (hears o ls t) rest (heard t) (there_hears t))
+
+  module _ (es : List Event) (asleep : Ticket → Bool) (fates : Fates es old.mail) (store : old.store ≡ store_after es)
+      (slept : (t : Ticket) → asleep t ≡ is_some (as_slept (place_of old.mail.tickets t)))
+    where
+      pub event_meets : (line : Line) (x : Outcome) → why_after ls line ≡ None → (role_of line ≡ NoCall → x ≡ done_if (does_it line (opened old))) → EventMeets asleep o ls es line x
+      event_meets lines.Blank x good is = is refl
+      event_meets (lines.Serve t) x good is = is refl ∙ ap done_if (unserved_is es old t fates)
+      event_meets (lines.Answer t) x good is = told t (is_awaited es t && is_served es t) (does_it (lines.Answer t) (opened old)) x (is refl) (answer_is es old t fates)
+      event_meets (lines.Deliver t) x good is = told t (is_awaited es t && is_servable es t) (does_it (lines.Deliver t) (opened old)) x (is refl) (deliver_is es old t fates)
+      event_meets (lines.Lose t) x good is = told t (is_awaited es t) (does_it (lines.Lose t) (opened old)) x (is refl) (lose_is es old t fates)
+      event_meets (lines.Busy t) x good is = told t (is_awaited es t && (is_servable es t && is_refusable es t)) (does_it (lines.Busy t) (opened old)) x (is refl) (busy_is es old t fates)
+      event_meets (lines.Wake t) x good is = told t (asleep t && not (is_woken es t)) (does_it (lines.Wake t) (opened old)) x (is refl) (wake_is es old t fates (asleep t) (slept t))
+      event_meets (lines.Split key) x good is = is refl ∙ ap (λ s. done_if (can_split s key)) store
+      event_meets (lines.Lead region to) x good is = is refl ∙ ap (λ s. done_if (can_lead s region to)) store
+      event_meets (lines.Clock ms) x good is = is refl
+      event_meets (lines.Crash k) x good is = is refl ∙ ap done_if (live_opened k ∙ live_is ls o e st old.sight.crashed was k (crash_names ls k good))
+      event_meets lines.Client x good is = tt
+      event_meets (lines.Begin c options) x good is = tt
+      event_meets (lines.Timestamp c) x good is = tt
+      event_meets (lines.Put y k v) x good is = tt
+      event_meets (lines.Insert y k v) x good is = tt
+      event_meets (lines.Delete y k) x good is = tt
+      event_meets (lines.Mutate y ms) x good is = tt
+      event_meets (lines.Lock y ks) x good is = tt
+      event_meets (lines.Commit y) x good is = tt
+      event_meets (lines.Rollback y) x good is = tt

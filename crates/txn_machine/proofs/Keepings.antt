@@ -1,0 +1,26 @@
+-- Each line keeps what is said of causes.
+use Rattle.std.proofs.Common.{◌≡◌, List, ◌∷◌, None, length, sym, subst}
+use Rattle.txn_lines.specs.Lines.{why_after}
+use Rattle.txn_lines.specs.declared.line.Line.{Line}
+use Rattle.txn_machine.specs.Lists.{Lists, newest}
+use Rattle.txn_machine.specs.Rows.{Caused}
+use Rattle.txn_machine.specs.Running.{IsOrdered}
+use Rattle.txn_machine.specs.Script.{Folded}
+use Rattle.txn_machine.specs.Steps.{Steps}
+use Rattle.txn_machine.proofs.Alive.{live_now}
+use Rattle.txn_machine.proofs.Carried.{events_now, fates_now}
+use Rattle.txn_machine.proofs.Caused.{calls_now, end_rows}
+use Rattle.txn_machine.proofs.Courses.{course}
+use Rattle.txn_machine.proofs.Folds.{Stepped, stepped}
+
+pub caused_step : (line : Line) (ls : List Line) (old new : Lists) → newest old ≡ length ls → IsOrdered old → why_after ls line ≡ None → Steps line old new → Folded ls old → Caused ls old → Caused (line ∷ ls) new
+caused_step line ls old new told ordered good steps folded was =
+    let c = course old line new steps in
+    let s = subst (λ x. Stepped (length ls) line old x) c.is (stepped (length ls) old told ordered.even.stands folded.calm ordered.sound.mail line new steps) in
+    subst (λ l. Caused (line ∷ ls) l) (sym c.is) (record {
+      rows = end_rows line ls old told ordered.even good was.rows new c;
+      lives = live_now line ls old told ordered.even good was.rows was.lives new c;
+      calls = calls_now line ls old told ordered.even good was.rows new c was.calls;
+      events = events_now line ls old told ordered good was folded new c s;
+      fates = fates_now line ls old told ordered good was folded new c s;
+    })

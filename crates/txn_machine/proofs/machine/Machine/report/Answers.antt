@@ -1,0 +1,29 @@
+use Rattle.std.proofs.Common.{refl}
+use Rattle.txn_machine.specs.Running.{lists_of}
+use Rattle.txn_machine.proofs.Standings.{report_calls, report_ends, report_events, report_lives, report_tells}
+use Rattle.txn_machine.proofs.machine.Machine.report.Goals as goal
+
+pub returns-clause-told : goal.returns-clause-told
+returns-clause-told g c lines s =
+    let h = s.stands c.requires in
+    report_tells (lists_of g.S.ClientSide.sight c.args.self) _ lines (record { outcomes = c.from_vec.ensures; ended = c.from_vec-2.ensures; sent = c.into_notes-sent.ensures.sent; sleeps = c.into_notes-sent.ensures.sleeps; served = c.from_vec-3.ensures; store = refl }) h.ordered h.told h.caused
+
+pub returns-clause-ends : goal.returns-clause-ends
+returns-clause-ends g c lines s =
+    let h = s.stands c.requires in
+    report_ends (lists_of g.S.ClientSide.sight c.args.self) _ lines (record { outcomes = c.from_vec.ensures; ended = c.from_vec-2.ensures; sent = c.into_notes-sent.ensures.sent; sleeps = c.into_notes-sent.ensures.sleeps; served = c.from_vec-3.ensures; store = refl }) h.caused
+
+pub returns-clause-lives : goal.returns-clause-lives
+returns-clause-lives g c lines s =
+    let h = s.stands c.requires in
+    report_lives (lists_of g.S.ClientSide.sight c.args.self) _ lines (record { outcomes = c.from_vec.ensures; ended = c.from_vec-2.ensures; sent = c.into_notes-sent.ensures.sent; sleeps = c.into_notes-sent.ensures.sleeps; served = c.from_vec-3.ensures; store = refl }) h.caused
+
+pub returns-clause-calls : goal.returns-clause-calls
+returns-clause-calls g c lines s =
+    let h = s.stands c.requires in
+    report_calls (lists_of g.S.ClientSide.sight c.args.self) _ lines (record { outcomes = c.from_vec.ensures; ended = c.from_vec-2.ensures; sent = c.into_notes-sent.ensures.sent; sleeps = c.into_notes-sent.ensures.sleeps; served = c.from_vec-3.ensures; store = refl }) h.caused
+
+pub returns-clause-events : goal.returns-clause-events
+returns-clause-events g c lines s =
+    let h = s.stands c.requires in
+    report_events (lists_of g.S.ClientSide.sight c.args.self) _ lines (record { outcomes = c.from_vec.ensures; ended = c.from_vec-2.ensures; sent = c.into_notes-sent.ensures.sent; sleeps = c.into_notes-sent.ensures.sleeps; served = c.from_vec-3.ensures; store = refl }) h.caused
