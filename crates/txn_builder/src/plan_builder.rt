@@ -103,7 +103,7 @@ where
         ensures inner { result.inner ≡ self }
         ensures backoff { result.backoff ≡ backoff }
         ensures errors { result.preserve_region_results ≡ false }
-        ensures ready { (multi P.meaning P.Result.key_errors_in P.Result.region_error_in P.IsPart P.load P.AreCut).ready result }
+        ensures ready { (multi P.meaning P.Result.key_errors_in P.Result.region_error_in P.IsPart P.load P.AreCut P.most).ready result }
     {
         let plan = RetryableMultiRegion::new(self.alloc, self.plan, backoff, false);
         built(self.alloc, plan)
@@ -117,7 +117,7 @@ where
         ensures inner { result.inner ≡ self }
         ensures backoff { result.backoff ≡ backoff }
         ensures errors { result.preserve_region_results ≡ true }
-        ensures ready { (multi P.meaning P.Result.key_errors_in P.Result.region_error_in P.IsPart P.load P.AreCut).ready result }
+        ensures ready { (multi P.meaning P.Result.key_errors_in P.Result.region_error_in P.IsPart P.load P.AreCut P.most).ready result }
     {
         let plan = RetryableMultiRegion::new(self.alloc, self.plan, backoff, true);
         built(self.alloc, plan)

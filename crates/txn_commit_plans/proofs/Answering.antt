@@ -1,5 +1,5 @@
 -- What was sent and answered where a request over regions is answered without error.
-use Rattle.std.proofs.Common.{◌≡◌, inl, inr, List, [], ◌∷◌, Option, None, map, refl, sym, ap, subst}
+use Rattle.std.proofs.Common.{◌≡◌, inl, inr, ℕ, List, [], ◌∷◌, Option, None, map, refl, sym, ap, subst}
 use Rattle.std.proofs.lemmas.List.Elements.{All-head, All-tail}
 use Rattle.std.specs.Global.{Vec}
 use Rattle.std.specs.List.{All, AllZip}
@@ -100,9 +100,9 @@ module _ {R V : Type 0} (request_of : R → Request) (reply_of : V → Reply) (k
       at (Ok v) rest is all (inr among) others = others all among
       at (Err why) rest is all among others = absurd all
 
-module _ {R V H L : Type 0} (request_of : R → Request) (reply_of : V → Reply) (keys : V → List ErrorView) (region : V → Option RegionErr) (locks : V → List LockInfo) (is_part : R → R → Type 0) (load : R → L) (are_cut : L → List L → Type 0) where
+module _ {R V H L : Type 0} (request_of : R → Request) (reply_of : V → Reply) (keys : V → List ErrorView) (region : V → Option RegionErr) (locks : V → List LockInfo) (is_part : R → R → Type 0) (load : R → L) (are_cut : L → List L → Type 0) (most : R → ℕ → ℕ) where
   pub answered : (s : RetryableMultiRegion (Shard R V) V H) (h : List Event) (results : Vec (Result V Error)) → s.preserve_region_results ≡ false
-      → (over_regions request_of reply_of keys region locks is_part load are_cut).gives s h (Ok results) → AreOk results.items
+      → (over_regions request_of reply_of keys region locks is_part load are_cut most).gives s h (Ok results) → AreOk results.items
       → AreAnswered request_of reply_of keys region is_part load are_cut h s.inner.inner.request
   answered s h results e (inl g) ok = record {
     parts = g.0;
@@ -113,7 +113,7 @@ module _ {R V H L : Type 0} (request_of : R → Request) (reply_of : V → Reply
   answered s h results e (inr w) ok = let never = w.1 in cc
 
   -- it sends its parts, and looks for regions and stores
-  pub sends : (s : RetryableMultiRegion (Shard R V) V H) (h : List Event) (r : Request) → (over_regions request_of reply_of keys region locks is_part load are_cut).asks s h r
+  pub sends : (s : RetryableMultiRegion (Shard R V) V H) (h : List Event) (r : Request) → (over_regions request_of reply_of keys region locks is_part load are_cut most).asks s h r
       → ((part : R) × is_part part s.inner.inner.request × (r ≡ request_of part)) ⊎ IsPlacement h r
   sends s h r (inl a) = inl (a.0.inner.request, a.1, a.2.1)
   sends s h r (inr p) = inr p

@@ -1,8 +1,9 @@
 -- The plans of a Prewrite, a Commit and a BatchRollback are plans of them.
-use Rattle.std.proofs.Common.{◌≡◌, inl, inr, ℕ, ◌*◌, ◌≤◌, List, [], ◌∷◌, Option, None, map, refl, sym, ap, subst, ◌∙◌, arith}
+use Rattle.std.proofs.Common.{◌≡◌, inl, inr, ℕ, ◌*◌, ◌≤◌, true, false, List, [], ◌∷◌, Option, None, length, map, refl, sym, ap, subst, ◌∙◌, arith}
+use Rattle.std.proofs.Math.Nat.{min-le_right}
 use Rattle.std.specs.Global.{Vec}
 use Rattle.std.specs.List.{filter_map}
-use Rattle.std.specs.Prelude.{◌⊎◌, ⊤, true, false, Result, Ok, Err}
+use Rattle.std.specs.Prelude.{◌⊎◌, ⊤, max, Result, Ok, Err}
 use Rattle.txn_history.specs.Among.{IsAmong}
 use Rattle.txn_history.specs.Around.{around-unbegun}
 use Rattle.txn_history.specs.Event.{Event}
@@ -27,10 +28,12 @@ use Rattle.txn_merge.specs.Gathered.{FirstErrorOr}
 use Rattle.txn_merge.specs.KeyErrors.{no_error, no_errors, views_of_error}
 use Rattle.txn_merge.specs.Locks.{locks_of_error, locks_of_errors}
 use Rattle.txn_multi.specs.Cutting.{IsPlacement}
+use Rattle.txn_multi.specs.Few.{by_items}
 use Rattle.txn_plan.specs.Extracted.{IsAnswer}
 use Rattle.txn_plan.specs.Merged.{IsMerged}
 use Rattle.txn_shard.specs.Parts.{BatchRollbackPart, CommitPart, PrewritePart}
 use Rattle.txn_shard.specs.Shards.{AreJoined, ArePieces}
+use Rattle.txn_commit.specs.Counting.{costs_of, IsOneEach}
 use Rattle.txn_commit.specs.Plans.{AreCommitted, ArePrewritten, AreRolledBack, IsForeign, IsPartOf, IsPlanFor}
 use Rattle.txn_commit_plans.specs.Failing.{HasGiven}
 use Rattle.txn_commit_plans.specs.Kinds.{collected, commit_keys, commit_plan, commits, mutations_of, prewrite_plan, prewrites, rollback_keys, rollback_plan, rollbacks, Collected, CommitPlan, Commits, PrewritePlan, Prewrites, RollbackPlan, Rollbacks}
@@ -49,8 +52,9 @@ whole_answer keys regions x v (inl e) = cc
 whole_answer keys regions (Ok w) v (inr i) = (ap Ok (sym i.1), subst (λ y. keys y ≡ []) (sym i.1) (no_views (keys w) (regions w) i.0))
 whole_answer keys regions (Err e) v (inr i) = cc
 
-once_each : (n : ℕ) → n * 1 ≤ n
-once_each n = omega arith
+-- a plan over regions posts one request for each item, and no more than it has parts
+light_each : (items n : ℕ) → by_items items n * 1 ≤ by_items items n
+light_each items n = omega arith
 
 -- A Commit
 
@@ -80,12 +84,12 @@ committed request context h a k named =
     )
 
 pub plans_commit : (request : CommitRequest) (context : Option Context) (p : CommitPlan) → p.inner.inner.inner.request ≡ record request { context = context } → p.inner.preserve_region_results ≡ false
-    → IsUnbegun commit_plan p → commit_plan.ready p → IsPlanFor commit_plan (HasGiven commit_plan) (λ keys n. n) (Commit request) p
+    → IsUnbegun commit_plan p → commit_plan.ready p → IsPlanFor commit_plan (HasGiven commit_plan) by_items (Commit request) p
 plans_commit request context p e all u r = record {
   unbegun = u;
   ready = r;
-  light = once_each;
-  asks = λ h q a. sent q h (sends Commit reply.Commit (λ v. views_of_error v.error) (λ v. v.region_error) (λ v. locks_of_error v.error) CommitPart commit_keys (λ whole pieces. ArePieces whole pieces) p.inner h q a);
+  light = λ n. subst (λ (r : CommitRequest). by_items (length r.keys) n * 1 ≤ by_items (length request.keys) n) (sym e) (light_each (length request.keys) n);
+  asks = λ h q a. sent q h (sends Commit reply.Commit (λ v. views_of_error v.error) (λ v. v.region_error) (λ v. locks_of_error v.error) CommitPart commit_keys (λ whole pieces. ArePieces whole pieces) (λ r. by_items (length r.keys)) p.inner h q a);
   means = λ h v g. answers h v g.0 g.1 (whole_answer (λ (x : Vec (Result CommitResponse Error)). first_seen (seen_in (λ (y : CommitResponse). views_of_error y.error)) x.items) _ g.0 v g.2);
   fails = λ h x g. (p, g);
 }
@@ -98,7 +102,7 @@ plans_commit request context p e all u r = record {
         → (a ≡ Ok v) × (first_seen (seen_in (λ (y : CommitResponse). views_of_error y.error)) v.items ≡ []) → AreCommitted request.start_version request.commit_version request.keys h
     answers h v a g w =
         committed request context h (subst (λ x. AreAnswered Commit reply.Commit (λ (y : CommitResponse). views_of_error y.error) (λ y. y.region_error) CommitPart commit_keys (λ whole pieces. ArePieces whole pieces) h x) e
-        (answered Commit reply.Commit (λ y. views_of_error y.error) (λ y. y.region_error) (λ y. locks_of_error y.error) CommitPart commit_keys (λ whole pieces. ArePieces whole pieces) p.inner h v all
+        (answered Commit reply.Commit (λ y. views_of_error y.error) (λ y. y.region_error) (λ y. locks_of_error y.error) CommitPart commit_keys (λ whole pieces. ArePieces whole pieces) (λ r. by_items (length r.keys)) p.inner h v all
         (subst (λ x. commits.gives p.inner h x) w.0 g) (ok_if_clean (λ (y : CommitResponse). views_of_error y.error) v.items w.1)))
 
 -- A BatchRollback
@@ -123,12 +127,12 @@ rolled_back request context h a k named =
     )
 
 pub plans_rollback : (request : BatchRollbackRequest) (context : Option Context) (p : RollbackPlan) → p.inner.inner.inner.request ≡ record request { context = context } → p.inner.preserve_region_results ≡ false
-    → IsUnbegun rollback_plan p → rollback_plan.ready p → IsPlanFor rollback_plan (HasGiven rollback_plan) (λ keys n. n) (BatchRollback request) p
+    → IsUnbegun rollback_plan p → rollback_plan.ready p → IsPlanFor rollback_plan (HasGiven rollback_plan) by_items (BatchRollback request) p
 plans_rollback request context p e all u r = record {
   unbegun = u;
   ready = r;
-  light = once_each;
-  asks = λ h q a. sent q h (sends BatchRollback reply.BatchRollback (λ v. views_of_error v.error) (λ v. v.region_error) (λ v. locks_of_error v.error) BatchRollbackPart rollback_keys (λ whole pieces. AreJoined whole pieces) p.inner h q a);
+  light = λ n. subst (λ (r : BatchRollbackRequest). by_items (length r.keys) n * 1 ≤ by_items (length request.keys) n) (sym e) (light_each (length request.keys) n);
+  asks = λ h q a. sent q h (sends BatchRollback reply.BatchRollback (λ v. views_of_error v.error) (λ v. v.region_error) (λ v. locks_of_error v.error) BatchRollbackPart rollback_keys (λ whole pieces. AreJoined whole pieces) (λ r. by_items (length r.keys)) p.inner h q a);
   means = λ h v g. answers h v g.0 g.1 (whole_answer (λ (x : Vec (Result BatchRollbackResponse Error)). first_seen (seen_in (λ (y : BatchRollbackResponse). views_of_error y.error)) x.items) _ g.0 v g.2);
   fails = λ h x g. (p, g);
 }
@@ -141,7 +145,7 @@ plans_rollback request context p e all u r = record {
         → (a ≡ Ok v) × (first_seen (seen_in (λ (y : BatchRollbackResponse). views_of_error y.error)) v.items ≡ []) → AreRolledBack request.start_version request.keys h
     answers h v a g w =
         rolled_back request context h (subst (λ x. AreAnswered BatchRollback reply.BatchRollback (λ (y : BatchRollbackResponse). views_of_error y.error) (λ y. y.region_error) BatchRollbackPart rollback_keys (λ whole pieces. AreJoined whole pieces) h x) e
-        (answered BatchRollback reply.BatchRollback (λ y. views_of_error y.error) (λ y. y.region_error) (λ y. locks_of_error y.error) BatchRollbackPart rollback_keys (λ whole pieces. AreJoined whole pieces) p.inner h v all
+        (answered BatchRollback reply.BatchRollback (λ y. views_of_error y.error) (λ y. y.region_error) (λ y. locks_of_error y.error) BatchRollbackPart rollback_keys (λ whole pieces. AreJoined whole pieces) (λ r. by_items (length r.keys)) p.inner h v all
         (subst (λ x. rollbacks.gives p.inner h x) w.0 g) (ok_if_clean (λ (y : BatchRollbackResponse). views_of_error y.error) v.items w.1)))
 
 -- A Prewrite
@@ -167,12 +171,12 @@ prewritten request context h a m among =
     }
 
 pub plans_prewrite : (request : PrewriteRequest) (context : Option Context) (p : PrewritePlan) → p.inner.inner.inner.inner.request ≡ record request { context = context } → p.inner.inner.preserve_region_results ≡ false
-    → IsUnbegun prewrite_plan p → prewrite_plan.ready p → IsPlanFor prewrite_plan (HasGiven prewrite_plan) (λ keys n. n) (Prewrite request) p
+    → IsUnbegun prewrite_plan p → prewrite_plan.ready p → IsPlanFor prewrite_plan (HasGiven prewrite_plan) by_items (Prewrite request) p
 plans_prewrite request context p e all u r = record {
   unbegun = u;
   ready = r;
-  light = once_each;
-  asks = λ h q a. sent q h (sends Prewrite reply.Prewrite (λ v. map key v.errors) (λ v. v.region_error) (λ v. locks_of_errors v.errors) PrewritePart mutations_of (λ whole pieces. AreJoined whole pieces) p.inner.inner h q a);
+  light = λ n. subst (λ (r : PrewriteRequest). by_items (length r.mutations) n * 1 ≤ by_items (length request.mutations) n) (sym e) (light_each (length request.mutations) n);
+  asks = λ h q a. sent q h (sends Prewrite reply.Prewrite (λ v. map key v.errors) (λ v. v.region_error) (λ v. locks_of_errors v.errors) PrewritePart mutations_of (λ whole pieces. AreJoined whole pieces) (λ r. by_items (length r.mutations)) p.inner.inner h q a);
   means = λ h v g. answers h v g.0 g.1 (whole_answer (λ (x : Vec PrewriteResponse). first_seen (λ (y : PrewriteResponse). map key y.errors) x.items) _ g.0 v g.2).0;
   fails = λ h x g. (p, g);
 }
@@ -185,7 +189,7 @@ plans_prewrite request context p e all u r = record {
         → IsMerged (λ results result. FirstErrorOr (λ values out. out.items ≡ values) results result) a (Ok v) → ArePrewritten request.start_version request.mutations h
     gathered h v (Ok results) g m =
         prewritten request context h (subst (λ x. AreAnswered Prewrite reply.Prewrite (λ (y : PrewriteResponse). map key y.errors) (λ y. y.region_error) PrewritePart mutations_of (λ whole pieces. AreJoined whole pieces) h x) e
-        (answered Prewrite reply.Prewrite (λ y. map key y.errors) (λ y. y.region_error) (λ y. locks_of_errors y.errors) PrewritePart mutations_of (λ whole pieces. AreJoined whole pieces) p.inner.inner h results all g (ok_if_collected results.items m.0)))
+        (answered Prewrite reply.Prewrite (λ y. map key y.errors) (λ y. y.region_error) (λ y. locks_of_errors y.errors) PrewritePart mutations_of (λ whole pieces. AreJoined whole pieces) (λ r. by_items (length r.mutations)) p.inner.inner h results all g (ok_if_collected results.items m.0)))
     gathered h v (Err why) g m = cc
 
     answers : (h : List Event) (v : Vec PrewriteResponse) (b : Result (Vec PrewriteResponse) Error) → collected.gives p.inner h b → b ≡ Ok v → ArePrewritten request.start_version request.mutations h
@@ -194,24 +198,31 @@ plans_prewrite request context p e all u r = record {
 -- The plans as they are made: of a request over regions, whose errors are taken out.
 
 pub made_commit : (request : CommitRequest) (context : Option Context) (s : Commits) (p : CommitPlan) → p.inner ≡ s → s.inner.inner.request ≡ record request { context = context } → s.preserve_region_results ≡ false
-    → IsUnbegun commits s → commits.ready s → IsPlanFor commit_plan (HasGiven commit_plan) (λ keys n. n) (Commit request) p
+    → IsUnbegun commits s → commits.ready s → IsPlanFor commit_plan (HasGiven commit_plan) by_items (Commit request) p
 made_commit request context s p e same all u r =
     plans_commit request context p (ap (λ (x : Commits). x.inner.inner.request) e ∙ same) (ap (λ (x : Commits). x.preserve_region_results) e ∙ all)
     (around-unbegun commits (λ x. x.inner) (λ x. IsAnswer (λ v. first_seen (seen_in (λ (y : CommitResponse). views_of_error y.error)) v.items) (λ v. filter_map (region_in (λ (y : CommitResponse). y.region_error)) v.items)) (λ x. ⊤) (λ b. false) p (subst (IsUnbegun commits) (sym e) u))
     (subst commits.ready (sym e) r, tt)
 
 pub made_rollback : (request : BatchRollbackRequest) (context : Option Context) (s : Rollbacks) (p : RollbackPlan) → p.inner ≡ s → s.inner.inner.request ≡ record request { context = context } → s.preserve_region_results ≡ false
-    → IsUnbegun rollbacks s → rollbacks.ready s → IsPlanFor rollback_plan (HasGiven rollback_plan) (λ keys n. n) (BatchRollback request) p
+    → IsUnbegun rollbacks s → rollbacks.ready s → IsPlanFor rollback_plan (HasGiven rollback_plan) by_items (BatchRollback request) p
 made_rollback request context s p e same all u r =
     plans_rollback request context p (ap (λ (x : Rollbacks). x.inner.inner.request) e ∙ same) (ap (λ (x : Rollbacks). x.preserve_region_results) e ∙ all)
     (around-unbegun rollbacks (λ x. x.inner) (λ x. IsAnswer (λ v. first_seen (seen_in (λ (y : BatchRollbackResponse). views_of_error y.error)) v.items) (λ v. filter_map (region_in (λ (y : BatchRollbackResponse). y.region_error)) v.items)) (λ x. ⊤) (λ b. false) p (subst (IsUnbegun rollbacks) (sym e) u))
     (subst rollbacks.ready (sym e) r, tt)
 
 pub made_prewrite : (request : PrewriteRequest) (context : Option Context) (s : Prewrites) (m : Collected) (p : PrewritePlan) → p.inner ≡ m → m.inner ≡ s → s.inner.inner.request ≡ record request { context = context } → s.preserve_region_results ≡ false
-    → IsUnbegun prewrites s → prewrites.ready s → IsPlanFor prewrite_plan (HasGiven prewrite_plan) (λ keys n. n) (Prewrite request) p
+    → IsUnbegun prewrites s → prewrites.ready s → IsPlanFor prewrite_plan (HasGiven prewrite_plan) by_items (Prewrite request) p
 made_prewrite request context s m p e f same all u r =
     let g = ap (λ (x : Collected). x.inner) e ∙ f in
     plans_prewrite request context p (ap (λ (x : Prewrites). x.inner.inner.request) g ∙ same) (ap (λ (x : Prewrites). x.preserve_region_results) g ∙ all)
     (around-unbegun collected (λ x. x.inner) (λ x. IsAnswer (λ v. first_seen (λ (y : PrewriteResponse). map key y.errors) v.items) (λ v. filter_map (λ (y : PrewriteResponse). y.region_error) v.items)) (λ x. ⊤) (λ b. false) p
     (around-unbegun prewrites (λ x. x.inner) (λ x. IsMerged (λ results result. FirstErrorOr (λ values out. out.items ≡ values) results result)) (λ x. ⊤) (λ b. false) p.inner (subst (IsUnbegun prewrites) (sym g) u)))
     ((subst prewrites.ready (sym g) r, tt), tt)
+
+pub are_one_each : IsOneEach (costs_of by_items by_items by_items)
+are_one_each = record {
+  prewrites = λ keys n. min-le_right (max 1 n) keys;
+  commits = λ keys n. min-le_right (max 1 n) keys;
+  rollbacks = λ keys n. min-le_right (max 1 n) keys;
+}

@@ -1,5 +1,5 @@
 -- The plans of a Prewrite, a Commit and a BatchRollback, by what they mean.
-use Rattle.std.specs.Prelude.{◌≡◌, List, map, Result}
+use Rattle.std.specs.Prelude.{◌≡◌, List, length, map, Result}
 use Rattle.std.specs.Global.{Vec}
 use Rattle.std.specs.List.{filter_map}
 use Rattle.txn_history.specs.Meaning.{IsLawful, Meaning}
@@ -19,6 +19,7 @@ use Rattle.txn_merge.specs.Gathered.{FirstErrorOr}
 use Rattle.txn_merge.specs.KeyErrors.{views_of_error}
 use Rattle.txn_merge.specs.Locks.{locks_of_error, locks_of_errors}
 use Rattle.txn_merge.specs.declared.merge.CollectError.{CollectError}
+use Rattle.txn_multi.specs.Few.{by_items}
 use Rattle.txn_multi.specs.declared.multi_region.RetryableMultiRegion.{RetryableMultiRegion}
 use Rattle.txn_plan.specs.Extracted.{extracted, extracted-lawful}
 use Rattle.txn_plan.specs.Merged.{merged, merged-lawful}
@@ -47,7 +48,7 @@ abbrev pub Commits : Type 0
 Commits = RetryableMultiRegion (Shard CommitRequest CommitResponse) CommitResponse (List Key)
 
 abbrev pub commits : Meaning Commits (Result (Vec (Result CommitResponse Error)) Error)
-commits = over_regions Commit reply.Commit (λ v. views_of_error v.error) (λ v. v.region_error) (λ v. locks_of_error v.error) CommitPart commit_keys (λ whole pieces. ArePieces whole pieces)
+commits = over_regions Commit reply.Commit (λ v. views_of_error v.error) (λ v. v.region_error) (λ v. locks_of_error v.error) CommitPart commit_keys (λ whole pieces. ArePieces whole pieces) (λ r. by_items (length r.keys))
 
 abbrev pub CommitPlan : Type 0
 CommitPlan = ExtractError Commits (Vec (Result CommitResponse Error))
@@ -61,7 +62,7 @@ abbrev pub Rollbacks : Type 0
 Rollbacks = RetryableMultiRegion (Shard BatchRollbackRequest BatchRollbackResponse) BatchRollbackResponse (List Key)
 
 abbrev pub rollbacks : Meaning Rollbacks (Result (Vec (Result BatchRollbackResponse Error)) Error)
-rollbacks = over_regions BatchRollback reply.BatchRollback (λ v. views_of_error v.error) (λ v. v.region_error) (λ v. locks_of_error v.error) BatchRollbackPart rollback_keys (λ whole pieces. AreJoined whole pieces)
+rollbacks = over_regions BatchRollback reply.BatchRollback (λ v. views_of_error v.error) (λ v. v.region_error) (λ v. locks_of_error v.error) BatchRollbackPart rollback_keys (λ whole pieces. AreJoined whole pieces) (λ r. by_items (length r.keys))
 
 abbrev pub RollbackPlan : Type 0
 RollbackPlan = ExtractError Rollbacks (Vec (Result BatchRollbackResponse Error))
@@ -75,7 +76,7 @@ abbrev pub Prewrites : Type 0
 Prewrites = RetryableMultiRegion (Shard PrewriteRequest PrewriteResponse) PrewriteResponse (List Mutation)
 
 abbrev pub prewrites : Meaning Prewrites (Result (Vec (Result PrewriteResponse Error)) Error)
-prewrites = over_regions Prewrite reply.Prewrite (λ v. map key v.errors) (λ v. v.region_error) (λ v. locks_of_errors v.errors) PrewritePart mutations_of (λ whole pieces. AreJoined whole pieces)
+prewrites = over_regions Prewrite reply.Prewrite (λ v. map key v.errors) (λ v. v.region_error) (λ v. locks_of_errors v.errors) PrewritePart mutations_of (λ whole pieces. AreJoined whole pieces) (λ r. by_items (length r.mutations))
 
 abbrev pub Collected : Type 0
 Collected = MergeResponse Prewrites PrewriteResponse CollectError (Vec PrewriteResponse)
@@ -92,10 +93,10 @@ prewrite_plan = extracted collected (λ v. first_seen (λ (r : PrewriteResponse)
 -- lemmas
 
 pub commit_plan-lawful : IsLawful commit_plan
-commit_plan-lawful = extracted-lawful commits _ _ (over_regions-lawful Commit reply.Commit (λ v. views_of_error v.error) (λ v. v.region_error) (λ v. locks_of_error v.error) CommitPart commit_keys (λ whole pieces. ArePieces whole pieces))
+commit_plan-lawful = extracted-lawful commits _ _ (over_regions-lawful Commit reply.Commit (λ v. views_of_error v.error) (λ v. v.region_error) (λ v. locks_of_error v.error) CommitPart commit_keys (λ whole pieces. ArePieces whole pieces) (λ r. by_items (length r.keys)))
 
 pub rollback_plan-lawful : IsLawful rollback_plan
-rollback_plan-lawful = extracted-lawful rollbacks _ _ (over_regions-lawful BatchRollback reply.BatchRollback (λ v. views_of_error v.error) (λ v. v.region_error) (λ v. locks_of_error v.error) BatchRollbackPart rollback_keys (λ whole pieces. AreJoined whole pieces))
+rollback_plan-lawful = extracted-lawful rollbacks _ _ (over_regions-lawful BatchRollback reply.BatchRollback (λ v. views_of_error v.error) (λ v. v.region_error) (λ v. locks_of_error v.error) BatchRollbackPart rollback_keys (λ whole pieces. AreJoined whole pieces) (λ r. by_items (length r.keys)))
 
 pub prewrite_plan-lawful : IsLawful prewrite_plan
-prewrite_plan-lawful = extracted-lawful collected _ _ (merged-lawful prewrites (λ all results result. FirstErrorOr (λ values out. out.items ≡ values) results result) (over_regions-lawful Prewrite reply.Prewrite (λ v. map key v.errors) (λ v. v.region_error) (λ v. locks_of_errors v.errors) PrewritePart mutations_of (λ whole pieces. AreJoined whole pieces)))
+prewrite_plan-lawful = extracted-lawful collected _ _ (merged-lawful prewrites (λ all results result. FirstErrorOr (λ values out. out.items ≡ values) results result) (over_regions-lawful Prewrite reply.Prewrite (λ v. map key v.errors) (λ v. v.region_error) (λ v. locks_of_errors v.errors) PrewritePart mutations_of (λ whole pieces. AreJoined whole pieces) (λ r. by_items (length r.mutations))))

@@ -1,5 +1,5 @@
 -- A request whose shards go to their regions, and are refused there for locks.
-use Rattle.std.specs.Prelude.{List, Option, Result}
+use Rattle.std.specs.Prelude.{ℕ, List, Option, Result}
 use Rattle.std.specs.Global.{Vec}
 use Rattle.txn_history.specs.Meaning.{IsLawful, Meaning}
 use Rattle.txn_kv.specs.ErrorView.{ErrorView}
@@ -19,14 +19,14 @@ use Rattle.txn_resolve.specs.declared.resolve_lock.ResolveLock.{ResolveLock}
 abbrev pub Shard : Type 0 → Type 0 → Type 0
 Shard R V = ResolveLock (Dispatch R V) V
 
-abbrev pub over_regions : {R V H L : Type 0} → (R → Request) → (V → Reply) → (V → List ErrorView) → (V → Option RegionErr) → (V → List LockInfo) → (R → R → Type 0) → (R → L) → (L → List L → Type 0)
+abbrev pub over_regions : {R V H L : Type 0} → (R → Request) → (V → Reply) → (V → List ErrorView) → (V → Option RegionErr) → (V → List LockInfo) → (R → R → Type 0) → (R → L) → (L → List L → Type 0) → (R → ℕ → ℕ)
     → Meaning (RetryableMultiRegion (Shard R V) V H) (Result (Vec (Result V Error)) Error)
-over_regions request_of reply_of keys region locks is_part load are_cut =
-    multi (unlocked (dispatch request_of reply_of) locks) keys region (λ part whole. is_part part.inner.request whole.inner.request) (λ s. load s.inner.request) are_cut
+over_regions request_of reply_of keys region locks is_part load are_cut most =
+    multi (unlocked (dispatch request_of reply_of) locks) keys region (λ part whole. is_part part.inner.request whole.inner.request) (λ s. load s.inner.request) are_cut (λ s. most s.inner.request)
 
 -- lemmas
 
-pub over_regions-lawful : {R V H L : Type 0} (request_of : R → Request) (reply_of : V → Reply) (keys : V → List ErrorView) (region : V → Option RegionErr) (locks : V → List LockInfo) (is_part : R → R → Type 0) (load : R → L) (are_cut : L → List L → Type 0)
-    → IsLawful (over_regions {H = H} request_of reply_of keys region locks is_part load are_cut)
-over_regions-lawful request_of reply_of keys region locks is_part load are_cut =
-    multi-lawful (unlocked (dispatch request_of reply_of) locks) keys region (λ part whole. is_part part.inner.request whole.inner.request) (λ s. load s.inner.request) are_cut (unlocked-lawful (dispatch request_of reply_of) locks (dispatch-lawful request_of reply_of))
+pub over_regions-lawful : {R V H L : Type 0} (request_of : R → Request) (reply_of : V → Reply) (keys : V → List ErrorView) (region : V → Option RegionErr) (locks : V → List LockInfo) (is_part : R → R → Type 0) (load : R → L) (are_cut : L → List L → Type 0) (most : R → ℕ → ℕ)
+    → IsLawful (over_regions {H = H} request_of reply_of keys region locks is_part load are_cut most)
+over_regions-lawful request_of reply_of keys region locks is_part load are_cut most =
+    multi-lawful (unlocked (dispatch request_of reply_of) locks) keys region (λ part whole. is_part part.inner.request whole.inner.request) (λ s. load s.inner.request) are_cut (λ s. most s.inner.request) (unlocked-lawful (dispatch request_of reply_of) locks (dispatch-lawful request_of reply_of))

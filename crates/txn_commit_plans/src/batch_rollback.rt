@@ -3,6 +3,7 @@ ghost use Rattle.txn_commit_plans.specs.Failing.{HasGiven, has_given_longer};
 ghost use Rattle.txn_commit_plans.specs.Kinds.{rollback_plan-lawful};
 ghost use Rattle.txn_kv.specs.declared.request.BatchRollbackRequest.{BatchRollbackRequest as Sent};
 ghost use Rattle.txn_kv.specs.declared.request.Request.TheVariants.{BatchRollback};
+ghost use Rattle.txn_multi.specs.Few.{by_items};
 ghost use Rattle.txn_request.specs.Defaults.{default_batch_rollback};
 
 use crate::over_regions::{OverRegions, plan_over_regions};
@@ -37,7 +38,7 @@ fn encoded<C: PdClient>(
 impl PlanFor<BatchRollbackRequest> for BatchRollbackPlan {
     ghost refuses = { HasGiven Self.Plan.meaning };
 
-    ghost costs = { λ _ n. n };
+    ghost costs = { by_items };
 
     fn plan_for<C: PdClient>(
         alloc: Global,

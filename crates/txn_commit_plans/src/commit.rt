@@ -3,6 +3,7 @@ ghost use Rattle.txn_commit_plans.specs.Failing.{HasGiven, has_given_longer};
 ghost use Rattle.txn_commit_plans.specs.Kinds.{commit_plan-lawful};
 ghost use Rattle.txn_kv.specs.declared.request.CommitRequest.{CommitRequest as Sent};
 ghost use Rattle.txn_kv.specs.declared.request.Request.TheVariants.{Commit};
+ghost use Rattle.txn_multi.specs.Few.{by_items};
 ghost use Rattle.txn_request.specs.Defaults.{default_commit};
 
 use crate::over_regions::{OverRegions, plan_over_regions};
@@ -33,7 +34,7 @@ fn encoded<C: PdClient>(alloc: Global, pd: &C, request: CommitRequest) -> Commit
 impl PlanFor<CommitRequest> for CommitPlan {
     ghost refuses = { HasGiven Self.Plan.meaning };
 
-    ghost costs = { λ _ n. n };
+    ghost costs = { by_items };
 
     fn plan_for<C: PdClient>(
         alloc: Global,

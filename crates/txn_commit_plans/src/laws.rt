@@ -1,19 +1,59 @@
 //! What the plans of requests are, as contracts of functions that do nothing.
-ghost use Rattle.std.specs.Prelude.{◌≡◌, false, Option};
+ghost use Rattle.std.specs.Prelude.{◌≡◌, ◌≤◌, ◌+◌, ◌*◌, ◌∷◌, ℕ, List, Option, false, length};
+ghost use Rattle.txn_buffer.specs.Contents.{mutations};
+ghost use Rattle.txn_commit.specs.Committing.{ways};
+ghost use Rattle.txn_commit.specs.Counting.{costs_of, IsOneEach};
+ghost use Rattle.txn_commit.specs.Jobs.{others};
+ghost use Rattle.txn_commit.specs.Parts.{parts_of};
 ghost use Rattle.txn_commit.specs.Plans.{IsPlanFor};
+ghost use Rattle.txn_commit.specs.declared.secondary_job.SecondaryJob.{SecondaryJob};
+ghost use Rattle.txn_commit.specs.declared.secondary_job.Stage.TheVariants.{Fresh};
 ghost use Rattle.txn_commit_plans.specs.Failing.{HasGiven};
 ghost use Rattle.txn_commit_plans.specs.Kinds.{commit_plan, prewrite_plan, rollback_plan, CommitPlan as Committing, PrewritePlan as Prewriting, RollbackPlan as Rolling};
+ghost use Rattle.txn_core.specs.Counting.{commit_price, errors, posted, rollback_price, weighed, Runs, Step};
 ghost use Rattle.txn_history.specs.Meaning.{IsUnbegun};
+ghost use Rattle.txn_history.specs.Plan.{Plan};
+ghost use Rattle.txn_multi.specs.Few.{by_items};
 ghost use Rattle.txn_kv.specs.declared.message.Context.{Context as Place};
-ghost use Rattle.txn_kv.specs.declared.request.BatchRollbackRequest.{BatchRollbackRequest};
-ghost use Rattle.txn_kv.specs.declared.request.CommitRequest.{CommitRequest};
-ghost use Rattle.txn_kv.specs.declared.request.PrewriteRequest.{PrewriteRequest};
+ghost use Rattle.txn_kv.specs.declared.request.BatchRollbackRequest.{BatchRollbackRequest as RolledBack};
+ghost use Rattle.txn_kv.specs.declared.request.CommitRequest.{CommitRequest as Committed};
+ghost use Rattle.txn_kv.specs.declared.request.PrewriteRequest.{PrewriteRequest as Prewritten};
 ghost use Rattle.txn_kv.specs.declared.request.Request.TheVariants.{BatchRollback, Commit, Prewrite};
+
+use crate::batch_rollback::BatchRollbackPlan;
+use crate::commit::CommitPlan;
+use crate::prewrite::PrewritePlan;
+use txn_commit::PlanFor;
+use txn_core::laws::commits_are_bounded;
+use txn_kv::{BatchRollbackRequest, CommitRequest, PrewriteRequest};
 
 /// A plan that is not begun, and sends a request in any context to the regions of its keys, is a plan of the request: all that
 /// the request names was answered without error where the plan's answer is no error.
 pub fn plans_are_of_their_requests()
-    ensures prewrite { (request : PrewriteRequest) (context : Option Place) (p : Prewriting) → p.inner.inner.inner.inner.request ≡ record request { context = context } → p.inner.inner.preserve_region_results ≡ false → IsUnbegun prewrite_plan p → prewrite_plan.ready p → IsPlanFor prewrite_plan (HasGiven prewrite_plan) (λ keys n. n) (Prewrite request) p }
-    ensures commit { (request : CommitRequest) (context : Option Place) (p : Committing) → p.inner.inner.inner.request ≡ record request { context = context } → p.inner.preserve_region_results ≡ false → IsUnbegun commit_plan p → commit_plan.ready p → IsPlanFor commit_plan (HasGiven commit_plan) (λ keys n. n) (Commit request) p }
-    ensures batch_rollback { (request : BatchRollbackRequest) (context : Option Place) (p : Rolling) → p.inner.inner.inner.request ≡ record request { context = context } → p.inner.preserve_region_results ≡ false → IsUnbegun rollback_plan p → rollback_plan.ready p → IsPlanFor rollback_plan (HasGiven rollback_plan) (λ keys n. n) (BatchRollback request) p }
+    ensures prewrite { (request : Prewritten) (context : Option Place) (p : Prewriting) → p.inner.inner.inner.inner.request ≡ record request { context = context } → p.inner.inner.preserve_region_results ≡ false → IsUnbegun prewrite_plan p → prewrite_plan.ready p → IsPlanFor prewrite_plan (HasGiven prewrite_plan) by_items (Prewrite request) p }
+    ensures commit { (request : Committed) (context : Option Place) (p : Committing) → p.inner.inner.inner.request ≡ record request { context = context } → p.inner.preserve_region_results ≡ false → IsUnbegun commit_plan p → commit_plan.ready p → IsPlanFor commit_plan (HasGiven commit_plan) by_items (Commit request) p }
+    ensures batch_rollback { (request : RolledBack) (context : Option Place) (p : Rolling) → p.inner.inner.inner.request ≡ record request { context = context } → p.inner.preserve_region_results ≡ false → IsUnbegun rollback_plan p → rollback_plan.ready p → IsPlanFor rollback_plan (HasGiven rollback_plan) by_items (BatchRollback request) p }
+{}
+
+/// Each plan posts no more than one request for each key of its request, whatever it is cut into.
+pub fn plans_cost_one_request_a_key()
+    ensures { IsOneEach (costs_of ⟦<PrewritePlan as PlanFor<PrewriteRequest>>⟧.costs ⟦<CommitPlan as PlanFor<CommitRequest>>⟧.costs ⟦<BatchRollbackPlan as PlanFor<BatchRollbackRequest>>⟧.costs) }
+{}
+
+/// By these plans a commit or a rollback of k mutations posts no more than 2k + 9 requests and asks, once more for each error that
+/// comes to it, and what locks may cost.
+pub fn commits_by_plans_are_bounded()
+    ensures commit { (first : Step Prewriting Committing Rolling) (steps : List (Step Prewriting Committing Rolling))
+        → Runs (ways prewrite_plan commit_plan rollback_plan (HasGiven prewrite_plan) (HasGiven commit_plan) (HasGiven rollback_plan)) (costs_of by_items by_items by_items) (commit_price (costs_of by_items by_items by_items) (parts_of first.old.contents) first.old.commits.timestamp) first steps
+        → posted (first ∷ steps) ≤ (1 + errors steps) * (2 * length (mutations first.old.contents.entries) + 9 + weighed steps) }
+    ensures rollback { (first : Step Prewriting Committing Rolling) (steps : List (Step Prewriting Committing Rolling))
+        → Runs (ways prewrite_plan commit_plan rollback_plan (HasGiven prewrite_plan) (HasGiven commit_plan) (HasGiven rollback_plan)) (costs_of by_items by_items by_items) (rollback_price (costs_of by_items by_items by_items) (parts_of first.old.contents)) first steps
+        → posted (first ∷ steps) ≤ (1 + errors steps) * (2 * length (mutations first.old.contents.entries) + 9 + weighed steps) }
+{
+    commits_are_bounded::<PrewritePlan, CommitPlan, BatchRollbackPlan>();
+}
+
+/// The job of k other keys, which is not started, posts no more than k requests.
+pub fn jobs_by_plans_are_bounded()
+    ensures { (job : SecondaryJob Committing) (plan : Plan) (n : ℕ) → job.stage ≡ Fresh → (others commit_plan (HasGiven commit_plan) by_items plan job.keys).round job n ≤ length job.keys }
 {}

@@ -24,8 +24,8 @@ where
     ensures locks { result.inner.backoff ≡ retry_options.lock_backoff }
     ensures backoff { result.backoff ≡ retry_options.region_backoff }
     ensures errors { result.preserve_region_results ≡ false }
-    ensures unbegun { IsUnbegun (over_regions R.request_of R.reply_of R.Response.key_errors_in R.Response.region_error_in R.Response.locks R.IsPart R.load R.AreCut) result }
-    ensures ready { (over_regions R.request_of R.reply_of R.Response.key_errors_in R.Response.region_error_in R.Response.locks R.IsPart R.load R.AreCut).ready result }
+    ensures unbegun { IsUnbegun (over_regions R.request_of R.reply_of R.Response.key_errors_in R.Response.region_error_in R.Response.locks R.IsPart R.load R.AreCut R.most) result }
+    ensures ready { (over_regions R.request_of R.reply_of R.Response.key_errors_in R.Response.region_error_in R.Response.locks R.IsPart R.load R.AreCut R.most).ready result }
 {
     let sent = Dispatch::new(request, None);
     let locked = ResolveLock::new(alloc, sent, retry_options.lock_backoff);

@@ -1,8 +1,8 @@
 -- What the events of one task of a plan over many regions cost.
 use Rattle.std.proofs.Common.{◌≡◌, ℕ, ◌+◌, ◌*◌, ◌≤◌, Bool, true, false, List, refl, ap, arith}
-use Rattle.std.proofs.Math.Nat.{le_refl, le_trans, mul-le-mul_right}
+use Rattle.std.proofs.Math.Nat.{le-max_left, le_refl, le_trans, mul-le-mul_right}
 use Rattle.std.specs.Global.{Vec}
-use Rattle.std.specs.Prelude.{⊤, Option, Result}
+use Rattle.std.specs.Prelude.{⊤, max, Option, Result}
 use Rattle.txn_history.specs.Meaning.{Counts, IsUnbegun, Meaning}
 use Rattle.txn_history.specs.Posted.{Posted}
 use Rattle.txn_history.specs.Spends.{Spends}
@@ -13,15 +13,15 @@ use Rattle.txn_kv.specs.ErrorView.{ErrorView}
 use Rattle.txn_kv.specs.declared.errors.Error.{Error}
 use Rattle.txn_kv.specs.declared.message.RegionErr.{RegionErr}
 use Rattle.txn_multi.specs.Cutting.{cutting, Looking}
-use Rattle.txn_multi.specs.Task.{region_task, CostsOver, IsUnderWay}
+use Rattle.txn_multi.specs.Task.{owed, region_task, CostsOver, IsUnderWay}
 use Rattle.txn_multi.specs.declared.part.Part.{Part}
 use Rattle.txn_multi.specs.declared.stage.Stage.TheVariants as stage
 use Rattle.txn_multi.specs.declared.task.RegionTask.{RegionTask}
 use Rattle.txn_tasks.specs.declared.step.Step.{Step}
 
--- a new run in each of n parts costs no less than one run
-round_within : (x y n : ℕ) → 1 ≤ n → x ≤ y → x ≤ n * y
-round_within x y n u l = let k = mul-le-mul_right y u in omega arith
+-- a new run in each part, or in one, costs no less than one run
+round_within : (x y k : ℕ) → x ≤ y → x ≤ max 1 k * y
+round_within x y k l = let one = mul-le-mul_right y (le-max_left 1 k) in omega arith
 
 -- nothing inside is cut
 Spends-narrow : {was is : ℕ → Type 0} {before after round : ℕ → ℕ} {bad fails : Bool} {weight locked inner inner' : ℕ} {from to : Posted} {kept failed : Bool} (width : ℕ)
@@ -67,19 +67,19 @@ Costs-paid t = record {
 }
 
 -- a call of its plan, which is left to post so much
-inside : {S A : Type 0} {m : Meaning S A} {was : ℕ → Type 0} {before : ℕ → ℕ} {bad fails : Bool} {weight locked : ℕ} (job : S) {p q : S} (width : ℕ) {from to : Posted} {turn : Turn A}
+inside : {S A : Type 0} {m : Meaning S A} (most : S → ℕ → ℕ) {was : ℕ → Type 0} {before : ℕ → ℕ} {bad fails : Bool} {weight locked : ℕ} (job : S) {p q : S} (width : ℕ) {from to : Posted} {turn : Turn A}
     → ((w : ℕ) → was w → m.bears p w) → ((n : ℕ) → m.left p n ≤ before n) → ((n : ℕ) → m.round p n ≤ m.round job n) → m.width q ≤ 1
     → Counts m bad fails weight locked p q from to turn
-    → Spends was (m.bears q) before (m.left q) (λ n. n * m.round job n) bad fails weight locked width width from to (is_kept turn) (failing m.fails turn)
-inside {m = m} job {p} {q} width b l r uncut s = Spends-map b (λ w v k o i. i) (λ n w u o. round_within (m.round p n) (m.round job n) n u (r n)) (λ n w u o. l n) (λ n w u o. let x = l n in omega arith) (Spends-narrow width uncut s.spends)
+    → Spends was (m.bears q) before (m.left q) (owed m most job) bad fails weight locked width width from to (is_kept turn) (failing m.fails turn)
+inside {m = m} most job {p} {q} width b l r uncut s = Spends-map b (λ w v k o i. i) (λ n w u o. round_within (m.round p n) (m.round job n) (most job n) (r n)) (λ n w u o. l n) (λ n w u o. let x = l n in omega arith) (Spends-narrow width uncut s.spends)
 
-module _ {S R H L : Type 0} (m : Meaning S (Result R Error)) (keys : R → List ErrorView) (region : R → Option RegionErr) (is_part : S → S → Type 0) (load : S → L) (are_cut : L → List L → Type 0) where
+module _ {S R H L : Type 0} (m : Meaning S (Result R Error)) (keys : R → List ErrorView) (region : R → Option RegionErr) (is_part : S → S → Type 0) (load : S → L) (are_cut : L → List L → Type 0) (most : S → ℕ → ℕ) where
   -- its plan runs on
   pub counts_on_plan : {bad fails : Bool} {weight locked : ℕ} (t : RegionTask S R H) (p q : S) {from to : Posted} → IsUnderWay m t.job p → m.width q ≤ 1
       → Counts m bad fails weight locked p q from to Waits
-      → Counts (region_task m keys region is_part load are_cut) bad fails weight locked (record t { stage = stage.Running p }) (record t { stage = stage.Running q }) from to Waits
+      → Counts (region_task m keys region is_part load are_cut most) bad fails weight locked (record t { stage = stage.Running p }) (record t { stage = stage.Running q }) from to Waits
   counts_on_plan t p q way uncut s = record {
-    spends = inside t.job t.width (λ w o. o) (λ n. le_refl _) way.less uncut s;
+    spends = inside most t.job t.width (λ w o. o) (λ n. le_refl _) way.less uncut s;
     fewer = λ n. le_refl _;
   }
 
@@ -87,9 +87,9 @@ module _ {S R H L : Type 0} (m : Meaning S (Result R Error)) (keys : R → List 
   pub counts_off_plan : {bad fails : Bool} {weight locked : ℕ} (t u : RegionTask S R H) (p q : S) {from to : Posted} {inner : Turn (Result R Error)} {turn : Turn (Step (RegionTask S R H) R)} → IsUnderWay m t.job p → m.width q ≤ 1
       → u.job ≡ t.job → u.width ≡ t.width → turn ≡ Stopped
       → Counts m bad fails weight locked p q from to inner
-      → Counts (region_task m keys region is_part load are_cut) bad fails weight locked (record t { stage = stage.Running p }) u from to turn
+      → Counts (region_task m keys region is_part load are_cut most) bad fails weight locked (record t { stage = stage.Running p }) u from to turn
   counts_off_plan t u p q way uncut same wide e s = record {
-    spends = rw wide (Spends-stops (inside t.job t.width (λ w o. o) (λ n. le_refl _) way.less uncut s) (ap is_kept e) (λ f. f));
+    spends = rw wide (Spends-stops (inside most t.job t.width (λ w o. o) (λ n. le_refl _) way.less uncut s) (ap is_kept e) (λ f. f));
     fewer = λ n. rw same (le_refl _);
   }
 
@@ -97,20 +97,20 @@ module _ {S R H L : Type 0} (m : Meaning S (Result R Error)) (keys : R → List 
   pub counts_over_plan : {bad fails : Bool} {weight locked : ℕ} (t : RegionTask S R H) (p q : S) {new : RegionTask S R H} {v : Result R Error} {from via to : Posted} {turn : Turn (Step (RegionTask S R H) R)} → IsUnderWay m t.job p → m.width q ≤ 1
       → (fails ≡ true → bad ≡ true)
       → Counts m bad fails weight locked p q from via (Ends v)
-      → CostsOver (region_task m keys region is_part load are_cut) (λ n. 0) (m.fails v) t new via to turn
-      → Counts (region_task m keys region is_part load are_cut) bad fails weight locked (record t { stage = stage.Running p }) new from to turn
+      → CostsOver (region_task m keys region is_part load are_cut most) (λ n. 0) (m.fails v) t new via to turn
+      → Counts (region_task m keys region is_part load are_cut most) bad fails weight locked (record t { stage = stage.Running p }) new from to turn
   counts_over_plan t p q way uncut worse s over = record {
     spends = Spends-then worse (λ f. f) (λ f. f) (λ n w u o. le_refl _)
-        (Spends-after {is = λ w. ⊤} (λ f. f) (λ w o. tt) (λ n. omega arith) (inside t.job t.width (λ w o. o) (λ n. le_refl _) way.less uncut s)) over.spends;
+        (Spends-after {is = λ w. ⊤} (λ f. f) (λ w o. tt) (λ n. omega arith) (inside most t.job t.width (λ w o. o) (λ n. le_refl _) way.less uncut s)) over.spends;
     fewer = over.fewer;
   }
 
   -- its plan was started
   pub counts_on_start : (t : RegionTask S R H) (q : S) {from to : Posted} → IsUnbegun m t.job → m.width q ≤ 1
       → Counts m false false 0 0 t.job q from to Waits
-      → Counts (region_task m keys region is_part load are_cut) false false 0 0 (record t { stage = stage.Fresh }) (record t { stage = stage.Running q }) from to Waits
+      → Counts (region_task m keys region is_part load are_cut most) false false 0 0 (record t { stage = stage.Fresh }) (record t { stage = stage.Running q }) from to Waits
   counts_on_start t q u uncut s = record {
-    spends = inside t.job t.width (λ w o. u.light w) u.whole (λ n. le_refl _) uncut s;
+    spends = inside most t.job t.width (λ w o. u.light w) u.whole (λ n. le_refl _) uncut s;
     fewer = λ n. le_refl _;
   }
 
@@ -118,85 +118,85 @@ module _ {S R H L : Type 0} (m : Meaning S (Result R Error)) (keys : R → List 
   pub counts_off_start : (t u : RegionTask S R H) (q : S) {from to : Posted} {inner : Turn (Result R Error)} {turn : Turn (Step (RegionTask S R H) R)} → IsUnbegun m t.job → m.width q ≤ 1
       → u.job ≡ t.job → u.width ≡ t.width → turn ≡ Stopped
       → Counts m false false 0 0 t.job q from to inner
-      → Counts (region_task m keys region is_part load are_cut) false false 0 0 (record t { stage = stage.Fresh }) u from to turn
+      → Counts (region_task m keys region is_part load are_cut most) false false 0 0 (record t { stage = stage.Fresh }) u from to turn
   counts_off_start t u q unbegun uncut same wide e s = record {
-    spends = rw wide (Spends-stops (inside t.job t.width (λ w o. unbegun.light w) unbegun.whole (λ n. le_refl _) uncut s) (ap is_kept e) (λ f. f));
+    spends = rw wide (Spends-stops (inside most t.job t.width (λ w o. unbegun.light w) unbegun.whole (λ n. le_refl _) uncut s) (ap is_kept e) (λ f. f));
     fewer = λ n. rw same (le_refl _);
   }
 
   -- its plan ended as it was started
   pub counts_over_start : (t : RegionTask S R H) (q : S) {new : RegionTask S R H} {v : Result R Error} {from via to : Posted} {turn : Turn (Step (RegionTask S R H) R)} → IsUnbegun m t.job → m.width q ≤ 1
       → Counts m false false 0 0 t.job q from via (Ends v)
-      → CostsOver (region_task m keys region is_part load are_cut) (λ n. 0) (m.fails v) t new via to turn
-      → Counts (region_task m keys region is_part load are_cut) false false 0 0 (record t { stage = stage.Fresh }) new from to turn
+      → CostsOver (region_task m keys region is_part load are_cut most) (λ n. 0) (m.fails v) t new via to turn
+      → Counts (region_task m keys region is_part load are_cut most) false false 0 0 (record t { stage = stage.Fresh }) new from to turn
   counts_over_start t q u uncut s over = record {
     spends = Spends-then (λ f. f) (λ f. f) (λ f. f) (λ n w k o. le_refl _)
-        (Spends-after {is = λ w. ⊤} (λ f. f) (λ w o. tt) (λ n. omega arith) (inside t.job t.width (λ w o. u.light w) u.whole (λ n. le_refl _) uncut s)) over.spends;
+        (Spends-after {is = λ w. ⊤} (λ f. f) (λ w o. tt) (λ n. omega arith) (inside most t.job t.width (λ w o. u.light w) u.whole (λ n. le_refl _) uncut s)) over.spends;
     fewer = over.fewer;
   }
 
   -- the search of its shards goes on
   pub counts_on_search : {bad fails : Bool} {weight locked : ℕ} (t : RegionTask S R H) (c d : Looking S H) {from to : Posted}
-      → Counts (cutting m is_part load are_cut) bad fails weight locked c d from to Waits
-      → Counts (region_task m keys region is_part load are_cut) bad fails weight locked (record t { stage = stage.Cutting c }) (record t { stage = stage.Cutting d }) from to Waits
+      → Counts (cutting m is_part load are_cut most) bad fails weight locked c d from to Waits
+      → Counts (region_task m keys region is_part load are_cut most) bad fails weight locked (record t { stage = stage.Cutting c }) (record t { stage = stage.Cutting d }) from to Waits
   counts_on_search t c d s = record {
-    spends = Spends-beside (λ n. n * m.round t.job n) (λ n. n * m.round t.job n) t.width s.spends;
+    spends = Spends-beside (owed m most t.job) (owed m most t.job) t.width s.spends;
     fewer = λ n. le_refl _;
   }
 
   -- the search gave up
   pub counts_off_search : {bad fails : Bool} {weight locked : ℕ} (t u : RegionTask S R H) (c d : Looking S H) {from to : Posted} {inner : Turn (Result (Vec (Part S)) Error)} {turn : Turn (Step (RegionTask S R H) R)}
       → u.job ≡ t.job → u.width ≡ t.width → turn ≡ Stopped
-      → Counts (cutting m is_part load are_cut) bad fails weight locked c d from to inner
-      → Counts (region_task m keys region is_part load are_cut) bad fails weight locked (record t { stage = stage.Cutting c }) u from to turn
+      → Counts (cutting m is_part load are_cut most) bad fails weight locked c d from to inner
+      → Counts (region_task m keys region is_part load are_cut most) bad fails weight locked (record t { stage = stage.Cutting c }) u from to turn
   counts_off_search t u c d same wide e s = record {
-    spends = rw wide (Spends-stops (Spends-beside (λ n. n * m.round t.job n) (λ n. n * m.round t.job n) t.width s.spends) (ap is_kept e) (λ f. f));
+    spends = rw wide (Spends-stops (Spends-beside (owed m most t.job) (owed m most t.job) t.width s.spends) (ap is_kept e) (λ f. f));
     fewer = λ n. rw same (le_refl _);
   }
 
   -- the search has ended
   pub counts_over_search : {bad fails : Bool} {weight locked : ℕ} (t : RegionTask S R H) (c d : Looking S H) {new : RegionTask S R H} {v : Result (Vec (Part S)) Error} {from via to : Posted} {turn : Turn (Step (RegionTask S R H) R)}
       → (fails ≡ true → bad ≡ true)
-      → Counts (cutting m is_part load are_cut) bad fails weight locked c d from via (Ends v)
-      → CostsOver (region_task m keys region is_part load are_cut) (λ n. n * m.round t.job n) false t new via to turn
-      → Counts (region_task m keys region is_part load are_cut) bad fails weight locked (record t { stage = stage.Cutting c }) new from to turn
+      → Counts (cutting m is_part load are_cut most) bad fails weight locked c d from via (Ends v)
+      → CostsOver (region_task m keys region is_part load are_cut most) (owed m most t.job) false t new via to turn
+      → Counts (region_task m keys region is_part load are_cut most) bad fails weight locked (record t { stage = stage.Cutting c }) new from to turn
   counts_over_search t c d worse s over = record {
-    spends = Spends-next worse (λ n w u o. le_refl _) (Spends-beside (λ n. n * m.round t.job n) (λ n. n * m.round t.job n) t.width s.spends) over.spends;
+    spends = Spends-next worse (λ n w u o. le_refl _) (Spends-beside (owed m most t.job) (owed m most t.job) t.width s.spends) over.spends;
     fewer = over.fewer;
   }
 
   -- a search was begun, and goes on
   pub costs_on_search : (t : RegionTask S R H) (c d : Looking S H) {from to : Posted}
-      → Counts (cutting m is_part load are_cut) false false 0 0 c d from to Waits
-      → CostsOver (region_task m keys region is_part load are_cut) (λ n. n * m.round t.job n) false t (record t { stage = stage.Cutting d }) from to Waits
+      → Counts (cutting m is_part load are_cut most) false false 0 0 c d from to Waits
+      → CostsOver (region_task m keys region is_part load are_cut most) (owed m most t.job) false t (record t { stage = stage.Cutting d }) from to Waits
   costs_on_search t c d s = record {
-    spends = Spends-beside (λ n. n * m.round t.job n) (λ n. n * m.round t.job n) t.width s.spends;
+    spends = Spends-beside (owed m most t.job) (owed m most t.job) t.width s.spends;
     fewer = λ n. le_refl _;
   }
 
   -- a search was begun, and gave up
   pub costs_off_search : (t u : RegionTask S R H) (c d : Looking S H) {from to : Posted} {inner : Turn (Result (Vec (Part S)) Error)} {turn : Turn (Step (RegionTask S R H) R)}
       → u.job ≡ t.job → u.width ≡ t.width → turn ≡ Stopped
-      → Counts (cutting m is_part load are_cut) false false 0 0 c d from to inner
-      → CostsOver (region_task m keys region is_part load are_cut) (λ n. n * m.round t.job n) false t u from to turn
+      → Counts (cutting m is_part load are_cut most) false false 0 0 c d from to inner
+      → CostsOver (region_task m keys region is_part load are_cut most) (owed m most t.job) false t u from to turn
   costs_off_search t u c d same wide e s = record {
-    spends = rw wide (Spends-stops (Spends-beside (λ n. n * m.round t.job n) (λ n. n * m.round t.job n) t.width s.spends) (ap is_kept e) (λ f. f));
+    spends = rw wide (Spends-stops (Spends-beside (owed m most t.job) (owed m most t.job) t.width s.spends) (ap is_kept e) (λ f. f));
     fewer = λ n. rw same (le_refl _);
   }
 
   -- a search was begun, and ended at once
   pub costs_over_search : (t : RegionTask S R H) (c d : Looking S H) {new : RegionTask S R H} {v : Result (Vec (Part S)) Error} {from via to : Posted} {turn : Turn (Step (RegionTask S R H) R)}
-      → Counts (cutting m is_part load are_cut) false false 0 0 c d from via (Ends v)
-      → CostsOver (region_task m keys region is_part load are_cut) (λ n. n * m.round t.job n) false t new via to turn
-      → CostsOver (region_task m keys region is_part load are_cut) (λ n. n * m.round t.job n) false t new from to turn
+      → Counts (cutting m is_part load are_cut most) false false 0 0 c d from via (Ends v)
+      → CostsOver (region_task m keys region is_part load are_cut most) (owed m most t.job) false t new via to turn
+      → CostsOver (region_task m keys region is_part load are_cut most) (owed m most t.job) false t new from to turn
   costs_over_search t c d s over = record {
-    spends = Spends-next (λ f. f) (λ n w u o. le_refl _) (Spends-beside (λ n. n * m.round t.job n) (λ n. n * m.round t.job n) t.width s.spends) over.spends;
+    spends = Spends-next (λ f. f) (λ n w u o. le_refl _) (Spends-beside (owed m most t.job) (owed m most t.job) t.width s.spends) over.spends;
     fewer = over.fewer;
   }
 
   -- tasks for its parts owe what it did
   pub costs_given : (t : RegionTask S R H) (width : ℕ) {o : Posted} {s : Step (RegionTask S R H) R} → t.width ≤ width
-      → CostsOver (region_task m keys region is_part load are_cut) (λ n. n * m.round t.job n) false t (record t { stage = stage.Cut; width = width }) o o (Ends s)
+      → CostsOver (region_task m keys region is_part load are_cut most) (owed m most t.job) false t (record t { stage = stage.Cut; width = width }) o o (Ends s)
   costs_given t width wider = record {
     spends = record {
       wider = wider;
@@ -213,6 +213,6 @@ module _ {S R H L : Type 0} (m : Meaning S (Result R Error)) (keys : R → List 
   -- a sleep ended, which is no error
   pub counts_wake : {bad fails : Bool} {weight locked : ℕ} (t : RegionTask S R H) (k : ℕ) {new : RegionTask S R H} {from to : Posted} {turn : Turn (Step (RegionTask S R H) R)}
       → bad ≡ false → fails ≡ false → weight ≡ 0 → locked ≡ 0
-      → CostsOver (region_task m keys region is_part load are_cut) (λ n. n * m.round t.job n) false t new from to turn
-      → Counts (region_task m keys region is_part load are_cut) bad fails weight locked (record t { stage = stage.Sleeping k }) new from to turn
+      → CostsOver (region_task m keys region is_part load are_cut most) (owed m most t.job) false t new from to turn
+      → Counts (region_task m keys region is_part load are_cut most) bad fails weight locked (record t { stage = stage.Sleeping k }) new from to turn
   counts_wake t k good fine light free over = rw (good, fine, light, free) (record { spends = over.spends; fewer = over.fewer })

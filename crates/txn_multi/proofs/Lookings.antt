@@ -1,11 +1,11 @@
 -- Look-ups of shards, and the plans that come of them.
 use Rattle.std.proofs.Common.{◌≡◌, ◌≢◌, inl, inr, ℕ, ◌+◌, ◌≤◌, Bool, true, false, List, [], ◌∷◌, ◌++◌, length, suc, map, refl, sym, ap, subst, ◌∙◌, append_assoc, arith}
-use Rattle.std.specs.Prelude.{⊤, Result}
+use Rattle.std.specs.Prelude.{⊤, max, Result}
 use Rattle.std.specs.List.{All}
 use Rattle.std.specs.Global.{Vec}
 use Rattle.std.proofs.Math.Nat.{le_refl, le_trans}
 use Rattle.std.proofs.lemmas.Bool.{false≢true}
-use Rattle.std.proofs.lemmas.List.Elements.{All-cons, All-nil}
+use Rattle.std.proofs.lemmas.List.Elements.{All-cons, All-head, All-nil, All-tail}
 use Rattle.txn_history.specs.Event.{Event}
 use Rattle.txn_history.specs.Meaning.{started, Counts, Expects, IsUnbegun, Meaning, Tells, Told}
 use Rattle.txn_history.specs.Moves.{Knows, Moves, Moves-before, Moves-map, Moves-quiet, Moves-then}
@@ -31,6 +31,7 @@ use Rattle.txn_region.specs.Clients.{IsPlaceQuery, IsRefused, OrStarved}
 use Rattle.txn_region.specs.Refusals.{IsPlacementError}
 use Rattle.txn_region.specs.declared.store.RegionStore.{RegionStore}
 use Rattle.txn_multi.specs.Cutting.{cut_phase, cut_waits, cutting, cutting-lawful, AreApplied, ArePartsOf, AreWithin, CutAt, GivesParts, IfParts, IsPartOf, IsPlacement, Looking, UnfoundIfErr, WhyUnfound}
+use Rattle.txn_multi.specs.Few.{AreFew}
 use Rattle.txn_multi.specs.Searching.{Holds, IsTaken, LooksOn}
 use Rattle.txn_multi.specs.declared.cut_stage.CutStage.{CutStage}
 use Rattle.txn_multi.specs.declared.cut_stage.CutStage.TheVariants as search
@@ -48,8 +49,15 @@ AreApplied-push applies whole [] (q ∷ ps) f p a x = absurd a
 AreApplied-push applies whole (g ∷ fs) [] f p a x = absurd a
 AreApplied-push applies whole (g ∷ fs) (q ∷ ps) f p a x = (a.0, AreApplied-push applies whole fs ps f p a.1 x)
 
+-- there are as many plans as shards
+pub same_length : {S H : Type 0} (applies : S → H → RegionStore → S → Type 0) (whole : S) (fs : List (H × RegionStore)) (ps : List (Part S)) → AreApplied applies whole fs ps → length ps ≡ length fs
+same_length applies whole [] [] a = refl
+same_length applies whole [] (p ∷ ps) a = absurd a
+same_length applies whole (f ∷ fs) [] a = absurd a
+same_length applies whole (f ∷ fs) (p ∷ ps) a = ap (λ n. suc n) (same_length applies whole fs ps a.1)
+
 -- plans with the shards that a plan is cut into are its parts
-module _ {S A H L : Type 0} (m : Meaning S A) (is_part : S → S → Type 0) (load : S → L) (load_of : H → L) (are_cut : L → List L → Type 0) (applies : S → H → RegionStore → S → Type 0)
+module _ {S A H L : Type 0} (m : Meaning S A) (is_part : S → S → Type 0) (load : S → L) (load_of : H → L) (are_cut : L → List L → Type 0) (most : S → ℕ → ℕ) (applies : S → H → RegionStore → S → Type 0)
     (applied_load : (old new : S) (shard : H) (store : RegionStore) (before behind : List L) → are_cut (load old) (before ++ load_of shard ∷ behind) → applies old shard store new → load new ≡ load_of shard)
     (applied_part : (old new : S) (shard : H) (store : RegionStore) (before behind : List L) → are_cut (load old) (before ++ load_of shard ∷ behind) → applies old shard store new → is_part new old)
     (applied_unbegun : (old new : S) (shard : H) (store : RegionStore) → IsUnbegun m old → applies old shard store new → IsApplied m old new) where
@@ -57,16 +65,21 @@ module _ {S A H L : Type 0} (m : Meaning S A) (is_part : S → S → Type 0) (lo
   loads_of fs = map load_of (map (λ f. f.0) fs)
 
   each_part : (whole : S) (before : List L) (fs : List (H × RegionStore)) (ps : List (Part S)) → IsUnbegun m whole → are_cut (load whole) (before ++ map load_of (map (λ f. f.0) fs)) → AreApplied applies whole fs ps
-      → All (λ p. IsPartOf m is_part whole p.plan) ps
-  each_part whole before [] [] u c a = All-nil (λ (p : Part S). IsPartOf m is_part whole p.plan)
-  each_part whole before [] (p ∷ ps) u c a = absurd a
-  each_part whole before (f ∷ fs) [] u c a = absurd a
-  each_part whole before (f ∷ fs) (p ∷ ps) u c a =
+      → All (λ f. (part : S) → applies whole f.0 f.1 part → (n : ℕ) → max 1 (most part n) ≤ most whole n) fs
+      → All (λ p. IsPartOf m is_part most whole p.plan) ps
+  each_part whole before [] [] u c a l = All-nil (λ (p : Part S). IsPartOf m is_part most whole p.plan)
+  each_part whole before [] (p ∷ ps) u c a l = absurd a
+  each_part whole before (f ∷ fs) [] u c a l = absurd a
+  each_part whole before (f ∷ fs) (p ∷ ps) u c a l =
       let behind : List L = map load_of (map (λ f. f.0) fs) in
       let next : are_cut (load whole) ((before ++ load_of f.0 ∷ []) ++ behind) = rw (append_assoc before (load_of f.0 ∷ []) behind) c in
-      All-cons (λ (p : Part S). IsPartOf m is_part whole p.plan) p ps
-      (record { applied = applied_unbegun whole p.plan f.0 f.1 u a.0; belongs = applied_part whole p.plan f.0 f.1 before behind c a.0 })
-      (each_part whole (before ++ load_of f.0 ∷ []) fs ps u next a.1)
+      All-cons (λ (p : Part S). IsPartOf m is_part most whole p.plan) p ps
+      (record {
+        applied = applied_unbegun whole p.plan f.0 f.1 u a.0;
+        belongs = applied_part whole p.plan f.0 f.1 before behind c a.0;
+        fewer = All-head (λ (g : H × RegionStore). (part : S) → applies whole g.0 g.1 part → (n : ℕ) → max 1 (most part n) ≤ most whole n) f fs l p.plan a.0;
+      })
+      (each_part whole (before ++ load_of f.0 ∷ []) fs ps u next a.1 (All-tail (λ (g : H × RegionStore). (part : S) → applies whole g.0 g.1 part → (n : ℕ) → max 1 (most part n) ≤ most whole n) f fs l))
 
   same_loads : (whole : S) (before : List L) (fs : List (H × RegionStore)) (ps : List (Part S)) → are_cut (load whole) (before ++ map load_of (map (λ f. f.0) fs)) → AreApplied applies whole fs ps
       → map (λ p. load p.plan) ps ≡ map load_of (map (λ f. f.0) fs)
@@ -80,16 +93,15 @@ module _ {S A H L : Type 0} (m : Meaning S A) (is_part : S → S → Type 0) (lo
       let rest = same_loads whole (before ++ load_of f.0 ∷ []) fs ps next a.1 in
       cc
 
-  pub ArePartsOf-applied : (whole : S) (fs : List (H × RegionStore)) (ps : List (Part S)) → IsUnbegun m whole → are_cut (load whole) (map load_of (map (λ f. f.0) fs)) → AreApplied applies whole fs ps
-      → ArePartsOf m is_part load are_cut whole ps
-  ArePartsOf-applied whole fs ps u c a = record { each = each_part whole [] fs ps u c a; cut = rw (same_loads whole [] fs ps c a) c }
-
--- there are as many plans as shards
-pub same_length : {S H : Type 0} (applies : S → H → RegionStore → S → Type 0) (whole : S) (fs : List (H × RegionStore)) (ps : List (Part S)) → AreApplied applies whole fs ps → length ps ≡ length fs
-same_length applies whole [] [] a = refl
-same_length applies whole [] (p ∷ ps) a = absurd a
-same_length applies whole (f ∷ fs) [] a = absurd a
-same_length applies whole (f ∷ fs) (p ∷ ps) a = ap (λ n. suc n) (same_length applies whole fs ps a.1)
+  pub ArePartsOf-applied : (whole : S) (fs : List (H × RegionStore)) (ps : List (Part S)) → IsUnbegun m whole → are_cut (load whole) (map load_of (map (λ f. f.0) fs)) → AreFew most applies whole fs → AreApplied applies whole fs ps
+      → ArePartsOf m is_part load are_cut most whole ps
+  ArePartsOf-applied whole fs ps u c few a =
+      let many : length ps ≡ length fs = same_length applies whole fs ps a in
+      record {
+        each = each_part whole [] fs ps u c a few.each;
+        cut = rw (same_loads whole [] fs ps c a) c;
+        few = λ n l. rw many (few.few n (rw many at l));
+      }
 
 -- a look-up of a place asks for no timestamp
 pub asks_none : (q : PdQuery) → IsPlaceQuery q → asks_of q ≡ 0
@@ -157,9 +169,9 @@ unless_starved P why fed (inl starved) = absurd (fed starved)
 unless_starved P why fed (inr p) = p
 
 -- The steps of the search.
-module _ {S A H L : Type 0} (m : Meaning S A) (is_part : S → S → Type 0) (load : S → L) (are_cut : L → List L → Type 0) where
+module _ {S A H L : Type 0} (m : Meaning S A) (is_part : S → S → Type 0) (load : S → L) (are_cut : L → List L → Type 0) (most : S → ℕ → ℕ) where
   -- it gave up, and nothing was posted
-  pub stopped : {known : List Event → Type 0} {was : Awaited → Type 0} {c : Looking S H} {o : Posted} → c.stage ≡ search.Stopped → LooksOn m is_part load are_cut known was c c o o Stopped
+  pub stopped : {known : List Event → Type 0} {was : Awaited → Type 0} {c : Looking S H} {o : Posted} → c.stage ≡ search.Stopped → LooksOn m is_part load are_cut most known was c c o o Stopped
   stopped {c = c} e = record {
     moves = Moves-quiet refl tt tt;
     expects = Expects-quiet (λ a w. absurd (rw e at w));
@@ -174,8 +186,8 @@ module _ {S A H L : Type 0} (m : Meaning S A) (is_part : S → S → Type 0) (lo
 
   -- it has answered
   pub ended : {known : List Event → Type 0} {was : Awaited → Type 0} {old new : Looking S H} {o : Posted} (v : Result (Vec (Part S)) Error)
-      → new.stage ≡ search.Over → new.plan ≡ old.plan → new.width ≡ old.width → IfParts m is_part load are_cut old.plan v → ((h : List Event) → known h → UnfoundIfErr h v) → AreWithin new.width v
-      → LooksOn m is_part load are_cut known was old new o o (Ends v)
+      → new.stage ≡ search.Over → new.plan ≡ old.plan → new.width ≡ old.width → IfParts m is_part load are_cut most old.plan v → ((h : List Event) → known h → UnfoundIfErr h v) → AreWithin new.width v
+      → LooksOn m is_part load are_cut most known was old new o o (Ends v)
   ended v over same width parts unfound wide = record {
     moves = Moves-quiet refl (λ h k. rw over tt) (λ h k. (parts, unfound h k));
     expects = Expects-quiet (λ a w. absurd (rw over at w));
@@ -191,7 +203,7 @@ module _ {S A H L : Type 0} (m : Meaning S A) (is_part : S → S → Type 0) (lo
   -- it waits for what was posted before
   pub waiting : {old new : Looking S H} {call : PdCall} {o : Posted}
       → Holds call new.stage → new ≡ record old { stage = new.stage }
-      → LooksOn m is_part load are_cut (λ h. CallFits call o h) (call_waits call.stage) old new o o Waits
+      → LooksOn m is_part load are_cut most (λ h. CallFits call o h) (call_waits call.stage) old new o o Waits
   waiting {old = old} {new = new} {call = call} {o = o} held e = record {
     moves = Moves-quiet refl (λ h f. held_at call new.stage o h held f) tt;
     expects = Expects-quiet (λ a w. (waits_held call new.stage a held w, λ x. x));
@@ -207,13 +219,13 @@ module _ {S A H L : Type 0} (m : Meaning S A) (is_part : S → S → Type 0) (lo
   -- a step that rests on no more than is known, after a change of what was found
   pub from_mid : {known less : List Event → Type 0} {was : Awaited → Type 0} {old mid new : Looking S H} {from to : Posted} {turn : Turn (Result (Vec (Part S)) Error)}
       → ((h : List Event) → known h → less h) → mid.plan ≡ old.plan → old.width ≤ mid.width
-      → LooksOn m is_part load are_cut less (λ a. ⊥) mid new from to turn
-      → LooksOn m is_part load are_cut known was old new from to turn
+      → LooksOn m is_part load are_cut most less (λ a. ⊥) mid new from to turn
+      → LooksOn m is_part load are_cut most known was old new from to turn
   from_mid {less = less} {old = old} {mid = mid} {new = new} {from = from} {to = to} {turn = turn} knows same wider s = record {
-    moves = Moves-before knows (subst (λ (p : S). Moves IsPlacement less (λ h. CutAt new.stage to h) (λ h. GivesParts m is_part load are_cut p h) (λ h. h) from to turn) same s.moves);
+    moves = Moves-before knows (subst (λ (p : S). Moves IsPlacement less (λ h. CutAt new.stage to h) (λ h. GivesParts m is_part load are_cut most p h) (λ h. h) from to turn) same s.moves);
     expects = let e = s.expects in record { sends = e.sends; pushed = e.pushed; only = λ a w. elim (e.only a w) [ inl x ↦ absurd x.0 | inr p ↦ inr p ] };
     next = s.next;
-    parts = subst (λ (p : S). IfEnds turn (IfParts m is_part load are_cut p)) same s.parts;
+    parts = subst (λ (p : S). IfEnds turn (IfParts m is_part load are_cut most p)) same s.parts;
     wider = le_trans wider s.wider;
     wide = s.wide;
     plan = s.plan ∙ same;
@@ -224,8 +236,8 @@ module _ {S A H L : Type 0} (m : Meaning S A) (is_part : S → S → Type 0) (lo
   -- a step where more is known
   pub knowing : {known less : List Event → Type 0} {was : Awaited → Type 0} {old new : Looking S H} {from to : Posted} {turn : Turn (Result (Vec (Part S)) Error)}
       → ((h : List Event) → known h → less h)
-      → LooksOn m is_part load are_cut less was old new from to turn
-      → LooksOn m is_part load are_cut known was old new from to turn
+      → LooksOn m is_part load are_cut most less was old new from to turn
+      → LooksOn m is_part load are_cut most known was old new from to turn
   knowing knows s = record {
     moves = Moves-before knows s.moves;
     expects = s.expects;
@@ -244,8 +256,8 @@ module _ {S A H L : Type 0} (m : Meaning S A) (is_part : S → S → Type 0) (lo
       → Moves IsPlacement known (λ h. CallFits call via h) (λ h v. ⊤) (λ h. h) from via p
       → Expects was (call_waits call.stage) (λ a. ⊥) from via
       → calls via ≤ calls from → sleeps via ≤ sleeps from
-      → LooksOn m is_part load are_cut (λ h. CallFits call via h) (call_waits call.stage) old new via to turn
-      → LooksOn m is_part load are_cut known was old new from to turn
+      → LooksOn m is_part load are_cut most (λ h. CallFits call via h) (call_waits call.stage) old new via to turn
+      → LooksOn m is_part load are_cut most known was old new from to turn
   after_call {p = p} kept first waits few awake s = record {
     moves = Moves-then first (Moves-before (λ h k. IfKept-out p kept k.0) s.moves);
     expects = Expects-then waits s.expects;
@@ -268,15 +280,15 @@ module _ {S A H L : Type 0} (m : Meaning S A) (is_part : S → S → Type 0) (lo
   pub heard : {told : Told} {old mid new : Looking S H} {a : Awaited} {call call' : PdCall} {from via to : Posted} {p : Turn (Result PdAnswer Error)} {turn : Turn (Result (Vec (Part S)) Error)}
       → IsTaken a old mid call
       → Tells looked_up told call call' from via p
-      → LooksOn m is_part load are_cut (Knows p (λ h. CallFits call' via h) (λ h v. looked_up.gives call' h v)) (call_waits call'.stage) mid new via to turn
-      → Tells (cutting m is_part load are_cut) told old new from to turn
+      → LooksOn m is_part load are_cut most (Knows p (λ h. CallFits call' via h) (λ h v. looked_up.gives call' h v)) (call_waits call'.stage) mid new via to turn
+      → Tells (cutting m is_part load are_cut most) told old new from to turn
   heard {told = told} {old = old} {mid = mid} {new = new} {call = call} {call' = call'} {from = from} {via = via} {to = to} {p = p} {turn = turn} taken t s =
       let plan : mid.plan ≡ old.plan = ap (λ (c : Looking S H). c.plan) taken.same in
       let e = t.expects in
       let first : Expects (cut_waits old.stage) (call_waits call'.stage) told.heard from via =
       record { sends = e.sends; pushed = e.pushed; only = λ b w. elim (e.only b w) [ inl x ↦ inl (held_waits call old.stage b taken.held x.0, x.1) | inr x ↦ inr x ] } in
       record {
-        moves = Moves-then (lifted old taken.held t) (subst (λ (q : S). Moves IsPlacement (Knows p (λ h. CallFits call' via h) (λ h v. looked_up.gives call' h v)) (λ h. CutAt new.stage to h) (λ h. GivesParts m is_part load are_cut q h) (λ h. h) via to turn) plan s.moves);
+        moves = Moves-then (lifted old taken.held t) (subst (λ (q : S). Moves IsPlacement (Knows p (λ h. CallFits call' via h) (λ h v. looked_up.gives call' h v)) (λ h. CutAt new.stage to h) (λ h. GivesParts m is_part load are_cut most q h) (λ h. h) via to turn) plan s.moves);
         job = record { asked = λ h r x. x; given = λ h v g. rw (s.plan ∙ plan) at g; gave = λ h v g. rw (s.plan ∙ plan) g };
         expects = Expects-then first s.expects;
       }
@@ -284,7 +296,7 @@ module _ {S A H L : Type 0} (m : Meaning S A) (is_part : S → S → Type 0) (lo
   -- no call of a store is made
   pub counted : {bad fails : Bool} {weight locked : ℕ} {old new : Looking S H} {from to : Posted} {turn : Turn (Result (Vec (Part S)) Error)}
       → old.width ≤ new.width → calls to ≤ calls from → sleeps to ≤ sleeps from + spare fails false 1
-      → Counts (cutting m is_part load are_cut) bad fails weight locked old new from to turn
+      → Counts (cutting m is_part load are_cut most) bad fails weight locked old new from to turn
   counted {bad = bad} {fails = fails} {weight = weight} {locked = locked} {old = old} {new = new} {from = from} {to = to} {turn = turn} wider few awake = record {
     spends = subst (λ (f : Bool). Spends (λ w. ⊤) (λ w. ⊤) (λ n. 0) (λ n. 0) (λ n. 0) bad fails weight locked old.width new.width from to (is_kept turn) f) (sym (never_fails turn)) (record {
       wider = wider;
@@ -304,8 +316,8 @@ module _ {S A H L : Type 0} (m : Meaning S A) (is_part : S → S → Type 0) (lo
       → (bad ≡ true → fails ≡ true)
       → IsTaken a old mid call
       → CallSpends call call' bad from via p
-      → LooksOn m is_part load are_cut known was mid new via to turn
-      → Counts (cutting m is_part load are_cut) bad' fails weight locked old new from to turn
+      → LooksOn m is_part load are_cut most known was mid new via to turn
+      → Counts (cutting m is_part load are_cut most) bad' fails weight locked old new from to turn
   counted_after {bad = bad} {fails = fails} {call = call} {from = from} {via = via} call' p f taken spent s =
       counted (rw (ap (λ (c : Looking S H). c.width) taken.same) at s.wider)
       (le_trans s.calls (calls_none bad call call' from via p (asks_none call.query taken.place) spent))
@@ -316,8 +328,8 @@ module _ {S A H L : Type 0} (m : Meaning S A) (is_part : S → S → Type 0) (lo
       → IsPlaceQuery q → call ≡ fresh q → p ≢ Stopped
       → Tells looked_up started call call' from to p
       → CallSpends call call' false from to p
-      → LooksOn m is_part load are_cut (λ h. CallFits call' to h) (call_waits call'.stage) old new to to turn
-      → LooksOn m is_part load are_cut (λ h. ⊤) (λ a. ⊥) old new from to turn
+      → LooksOn m is_part load are_cut most (λ h. CallFits call' to h) (call_waits call'.stage) old new to to turn
+      → LooksOn m is_part load are_cut most (λ h. ⊤) (λ a. ⊥) old new from to turn
   asked {call = call} {call' = call'} {from = from} {to = to} p q place e kept t spent s =
       after_call kept
       (Moves-map Within-refl (λ h k. (rw e (let u = fresh-unbegun q in u.fits from h), tt)) (λ h f k r a. MayAsk-place call k r a) (λ h f k w i. i) (λ h f k v g. tt) t.moves)
@@ -331,6 +343,6 @@ module _ {S A H L : Type 0} (m : Meaning S A) (is_part : S → S → Type 0) (lo
       → ((b : Awaited) → told.heard b → b ≡ a)
       → (new ≡ old) × (cut_waits old.stage a → ⊥)
       → turn ≡ unheard (cut_phase new.stage)
-      → Tells (cutting m is_part load are_cut) told old new o o turn
+      → Tells (cutting m is_part load are_cut most) told old new o o turn
   unmoved {told = told} {old = old} {turn = turn} a heard stays e =
-      rw stays.0 (Tells-idle (cutting-lawful m is_part load are_cut) (λ b h w. stays.1 (rw (heard b h) at w)) (rw stays.0 at e))
+      rw stays.0 (Tells-idle (cutting-lawful m is_part load are_cut most) (λ b h w. stays.1 (rw (heard b h) at w)) (rw stays.0 at e))

@@ -1,6 +1,6 @@
 -- Events of a plan over many regions, by those of the search of its shards and of its tasks.
 use Rattle.std.proofs.Common.{◌≡◌, inl, inr, ℕ, ◌+◌, ◌*◌, ◌≤◌, Bool, true, false, List, [], ◌∷◌, length, map, refl, sym, ap, subst, ◌∙◌, arith}
-use Rattle.std.proofs.Math.Nat.{le-max_left, le-max_right, le_refl, le_trans, max-le, mul-le-mul_right}
+use Rattle.std.proofs.Math.Nat.{le-max_left, le-max_right, le_refl, le_trans, max-le, mul-le-mul, mul-le-mul_right}
 use Rattle.std.proofs.lemmas.Bool.{false≢true}
 use Rattle.std.proofs.lemmas.List.{length-map}
 use Rattle.std.proofs.lemmas.List.Elements.{All-cons, All-head, All-nil, All-tail}
@@ -26,7 +26,7 @@ use Rattle.txn_kv.specs.declared.message.RegionErr.{RegionErr}
 use Rattle.txn_kv.specs.declared.request.Request.{Request}
 use Rattle.txn_multi.specs.Cutting.{cut_phase, cut_waits, cutting, cutting-lawful, ArePartsOf, CutAt, IsPartOf, Looking, UnfoundIfErr, WhyUnfound}
 use Rattle.txn_multi.specs.Multi.{multi, multi-lawful, multi_phase, number_of, tasks_for, AfterCut, AfterTasks, Begins, IsAnswer, MultiAsks, MultiGives, MultiWaits, StandsReady}
-use Rattle.txn_multi.specs.Task.{region_task, stage_left, task_for, IsOutcome, IsTaskOf}
+use Rattle.txn_multi.specs.Task.{region_task, shared, stage_left, task_for, IsOutcome, IsTaskOf}
 use Rattle.txn_multi.specs.declared.multi_region.RetryableMultiRegion.{RetryableMultiRegion}
 use Rattle.txn_multi.specs.declared.multi_stage.MultiStage.{MultiStage}
 use Rattle.txn_multi.specs.declared.multi_stage.MultiStage.TheVariants as stage
@@ -172,11 +172,11 @@ loads_same : {S R H L : Type 0} (load : S → L) (ts : List (RegionTask S R H)) 
 loads_same load [] = refl
 loads_same {L = L} load (t ∷ ts) = ap (λ (ls : List L). load t.job ∷ ls) (loads_same load ts)
 
-parts_belong : {S A R H : Type 0} (m : Meaning S A) (is_part : S → S → Type 0) (inner : S) (ts : List (RegionTask S R H)) → All (λ t. IsTaskOf m is_part t inner) ts → All (λ (p : Part S). is_part p.plan inner) (map part_of ts)
-parts_belong {S} m is_part inner [] a = All-nil (λ (p : Part S). is_part p.plan inner)
-parts_belong {S} {R = R} {H = H} m is_part inner (t ∷ ts) a = All-cons (λ (p : Part S). is_part p.plan inner) (part_of t) (map part_of ts)
-    (All-head (λ (u : RegionTask S R H). IsTaskOf m is_part u inner) t ts a).part
-    (parts_belong m is_part inner ts (All-tail (λ (u : RegionTask S R H). IsTaskOf m is_part u inner) t ts a))
+parts_belong : {S A R H : Type 0} (m : Meaning S A) (is_part : S → S → Type 0) (most : S → ℕ → ℕ) (inner : S) (ts : List (RegionTask S R H)) → All (λ t. IsTaskOf m is_part most t inner) ts → All (λ (p : Part S). is_part p.plan inner) (map part_of ts)
+parts_belong {S} m is_part most inner [] a = All-nil (λ (p : Part S). is_part p.plan inner)
+parts_belong {S} {R = R} {H = H} m is_part most inner (t ∷ ts) a = All-cons (λ (p : Part S). is_part p.plan inner) (part_of t) (map part_of ts)
+    (All-head (λ (u : RegionTask S R H). IsTaskOf m is_part most u inner) t ts a).part
+    (parts_belong m is_part most inner ts (All-tail (λ (u : RegionTask S R H). IsTaskOf m is_part most u inner) t ts a))
 
 parts_ended : {S R H : Type 0} (m : Meaning S (Result R Error)) (keys : R → List ErrorView) (region : R → Option RegionErr) (h : List Event) (ts : List (RegionTask S R H)) (outcomes : List (Outcome R))
     → AllZip (λ t outcome. IsOutcome m keys region t.region t.job h outcome) ts outcomes → AllZip (λ (p : Part S) outcome. IsOutcome m keys region p.region p.plan h outcome) (map part_of ts) outcomes
@@ -186,30 +186,30 @@ parts_ended m keys region h (t ∷ ts) [] z = absurd z
 parts_ended m keys region h (t ∷ ts) (o ∷ outcomes) z = (z.0, parts_ended m keys region h ts outcomes z.1)
 
 -- The tasks for parts.
-module _ {S A R H : Type 0} (m : Meaning S A) (is_part : S → S → Type 0) (inner : S) (alloc : Global) (backoff : Backoff) where
-  each_task : (P : RegionTask S R H → Type 0) → ((p : Part S) → IsPartOf m is_part inner p.plan → P (task_for alloc backoff p)) → (parts : List (Part S)) → All (λ p. IsPartOf m is_part inner p.plan) parts → All P (map (task_for alloc backoff) parts)
+module _ {S A R H : Type 0} (m : Meaning S A) (is_part : S → S → Type 0) (most : S → ℕ → ℕ) (inner : S) (alloc : Global) (backoff : Backoff) where
+  each_task : (P : RegionTask S R H → Type 0) → ((p : Part S) → IsPartOf m is_part most inner p.plan → P (task_for alloc backoff p)) → (parts : List (Part S)) → All (λ p. IsPartOf m is_part most inner p.plan) parts → All P (map (task_for alloc backoff) parts)
   each_task P f [] a = All-nil P
   each_task P f (p ∷ ps) a = All-cons P (task_for alloc backoff p) (map (task_for alloc backoff) ps)
-      (f p (All-head (λ (q : Part S). IsPartOf m is_part inner q.plan) p ps a))
-      (each_task P f ps (All-tail (λ (q : Part S). IsPartOf m is_part inner q.plan) p ps a))
+      (f p (All-head (λ (q : Part S). IsPartOf m is_part most inner q.plan) p ps a))
+      (each_task P f ps (All-tail (λ (q : Part S). IsPartOf m is_part most inner q.plan) p ps a))
 
 task_loads : {S L : Type 0} (R H : Type 0) (load : S → L) (alloc : Global) (backoff : Backoff) (parts : List (Part S)) → map (λ (t : RegionTask S R H). load t.job) (map (task_for alloc backoff) parts) ≡ map (λ p. load p.plan) parts
 task_loads R H load alloc backoff [] = refl
 task_loads {L = L} R H load alloc backoff (p ∷ ps) = ap (λ (xs : List L). load p.plan ∷ xs) (task_loads R H load alloc backoff ps)
 
-pub tasks_cut : (H : Type 0) {S R L : Type 0} (m : Meaning S (Result R Error)) (is_part : S → S → Type 0) (load : S → L) (are_cut : L → List L → Type 0) (inner : S) (alloc : Global) (backoff : Backoff) (parts : List (Part S)) → ArePartsOf m is_part load are_cut inner parts
+pub tasks_cut : (H : Type 0) {S R L : Type 0} (m : Meaning S (Result R Error)) (is_part : S → S → Type 0) (load : S → L) (are_cut : L → List L → Type 0) (most : S → ℕ → ℕ) (inner : S) (alloc : Global) (backoff : Backoff) (parts : List (Part S)) → ArePartsOf m is_part load are_cut most inner parts
     → are_cut (load inner) (map (λ (t : RegionTask S R H). load t.job) (map (task_for alloc backoff) parts))
-tasks_cut H {R = R} m is_part load are_cut inner alloc backoff parts are = rw (task_loads R H load alloc backoff parts) are.cut
+tasks_cut H {R = R} m is_part load are_cut most inner alloc backoff parts are = rw (task_loads R H load alloc backoff parts) are.cut
 
-pub tasks_owe : (H : Type 0) {S R L : Type 0} (m : Meaning S (Result R Error)) (is_part : S → S → Type 0) (load : S → L) (are_cut : L → List L → Type 0) (inner : S) (alloc : Global) (backoff : Backoff) (parts : List (Part S)) (n : ℕ) → ArePartsOf m is_part load are_cut inner parts → length parts ≤ n
-    → sum_by (λ (u : RegionTask S R H). stage_left m u.job u.stage n) (map (task_for alloc backoff) parts) ≤ n * m.round inner n
-tasks_owe H {S} {R} m is_part load are_cut inner alloc backoff parts n are few =
+pub tasks_owe : (H : Type 0) {S R L : Type 0} (m : Meaning S (Result R Error)) (is_part : S → S → Type 0) (load : S → L) (are_cut : L → List L → Type 0) (most : S → ℕ → ℕ) (inner : S) (alloc : Global) (backoff : Backoff) (parts : List (Part S)) (n : ℕ) → ArePartsOf m is_part load are_cut most inner parts → length parts ≤ n
+    → sum_by (λ (u : RegionTask S R H). stage_left m most u.job u.stage n) (map (task_for alloc backoff) parts) ≤ shared m most inner n
+tasks_owe H {S} {R} m is_part load are_cut most inner alloc backoff parts n are few =
     let made : List (RegionTask S R H) = map (task_for alloc backoff) parts in
-    let each : All (λ (u : RegionTask S R H). stage_left m u.job u.stage n ≤ m.round inner n) made =
-    each_task {R = R} {H = H} m is_part inner alloc backoff (λ u. stage_left m u.job u.stage n ≤ m.round inner n) (λ p i. i.applied.less n) parts are.each in
-    let sum : sum_by (λ (u : RegionTask S R H). stage_left m u.job u.stage n) made ≤ length made * m.round inner n =
-    sum_by-le (λ (u : RegionTask S R H). stage_left m u.job u.stage n) (m.round inner n) made each in
-    let short : length made ≤ n = rw (length-map parts (task_for {R = R} {H = H} alloc backoff)) few in
+    let each : All (λ (u : RegionTask S R H). stage_left m most u.job u.stage n ≤ m.round inner n) made =
+    each_task {R = R} {H = H} m is_part most inner alloc backoff (λ u. stage_left m most u.job u.stage n ≤ m.round inner n) (λ p i. i.applied.less n) parts are.each in
+    let sum : sum_by (λ (u : RegionTask S R H). stage_left m most u.job u.stage n) made ≤ length made * m.round inner n =
+    sum_by-le (λ (u : RegionTask S R H). stage_left m most u.job u.stage n) (m.round inner n) made each in
+    let short : length made ≤ most inner n = rw (length-map parts (task_for {R = R} {H = H} alloc backoff)) (are.few n few) in
     le_trans sum (mul-le-mul_right (m.round inner n) short)
 
 -- it stands as its turn says
@@ -219,50 +219,50 @@ after_phase preserve Waits g turn a = rw (a.0, a.1) refl
 after_phase preserve (Ends outcomes) g turn (inl a) = rw (a.0, a.1) refl
 after_phase preserve (Ends outcomes) g turn (inr a) = rw (a.1, a.2) refl
 
-module _ {S R H L : Type 0} (m : Meaning S (Result R Error)) (keys : R → List ErrorView) (region : R → Option RegionErr) (is_part : S → S → Type 0) (load : S → L) (are_cut : L → List L → Type 0) where
+module _ {S R H L : Type 0} (m : Meaning S (Result R Error)) (keys : R → List ErrorView) (region : R → Option RegionErr) (is_part : S → S → Type 0) (load : S → L) (are_cut : L → List L → Type 0) (most : S → ℕ → ℕ) where
   -- its answer is made of how its tasks have ended
   answers : (inner : S) (preserve : Bool) (ts : Tasks (RegionTask S R H) R) (h : List Event) (outcomes : List (Outcome R)) (v : Result (Vec (Result R Error)) Error)
-      → (tasks_for {H = H} m keys region is_part load are_cut inner).gives ts h outcomes → IsAnswer preserve outcomes v → MultiGives m keys region is_part load are_cut inner preserve h v
+      → (tasks_for {H = H} m keys region is_part load are_cut most inner).gives ts h outcomes → IsAnswer preserve outcomes v → MultiGives m keys region is_part load are_cut inner preserve h v
   answers inner preserve ts h outcomes v g a = inl (
     map part_of g.0,
     outcomes,
     record {
       cut = rw (loads_same load g.0) g.1.cut;
-      belong = parts_belong m is_part inner g.0 g.1.belong;
+      belong = parts_belong m is_part most inner g.0 g.1.belong;
       each = parts_ended m keys region h g.0 outcomes g.1.each;
     },
     a,
   )
 
-  asks_so : (inner : S) (ts : Tasks (RegionTask S R H) R) (h : List Event) (r : Request) → (tasks_for {H = H} m keys region is_part load are_cut inner).asks ts h r → MultiAsks m is_part inner h r
+  asks_so : (inner : S) (ts : Tasks (RegionTask S R H) R) (h : List Event) (r : Request) → (tasks_for {H = H} m keys region is_part load are_cut most inner).asks ts h r → MultiAsks m is_part inner h r
   asks_so inner ts h r a = elim a.2 [ inl x ↦ inl (a.0.job, a.1.part, x) | inr x ↦ inr x ]
 
   -- A call of its tasks.
 
   wider : (old : RetryableMultiRegion S R H) (ts ts' : Tasks (RegionTask S R H) R) (width : ℕ)
       → old.width ≤ width
-      → number_of old.tasks (tasks_for {H = H} m keys region is_part load are_cut old.inner).width ≤ (tasks_for {H = H} m keys region is_part load are_cut old.inner).width ts
-      → (tasks_for {H = H} m keys region is_part load are_cut old.inner).width ts ≤ (tasks_for {H = H} m keys region is_part load are_cut old.inner).width ts'
-      → max old.width (number_of old.tasks (tasks_for {H = H} m keys region is_part load are_cut old.inner).width) ≤ max width ((tasks_for {H = H} m keys region is_part load are_cut old.inner).width ts')
+      → number_of old.tasks (tasks_for {H = H} m keys region is_part load are_cut most old.inner).width ≤ (tasks_for {H = H} m keys region is_part load are_cut most old.inner).width ts
+      → (tasks_for {H = H} m keys region is_part load are_cut most old.inner).width ts ≤ (tasks_for {H = H} m keys region is_part load are_cut most old.inner).width ts'
+      → max old.width (number_of old.tasks (tasks_for {H = H} m keys region is_part load are_cut most old.inner).width) ≤ max width ((tasks_for {H = H} m keys region is_part load are_cut most old.inner).width ts')
   wider old ts ts' width wide inside further = max-le (le_trans wide (le-max_left width _)) (le_trans inside (le_trans further (le-max_right width _)))
 
-  borne : (s : RetryableMultiRegion S R H) → s.tasks ≡ None → (w : ℕ) → IfSome s.tasks (λ t. (tasks_for {H = H} m keys region is_part load are_cut s.inner).bears t w)
+  borne : (s : RetryableMultiRegion S R H) → s.tasks ≡ None → (w : ℕ) → IfSome s.tasks (λ t. (tasks_for {H = H} m keys region is_part load are_cut most s.inner).bears t w)
   borne s none w = rw none tt
 
   lifted : {told : Told} (old : RetryableMultiRegion S R H) (ts ts' : Tasks (RegionTask S R H) R) {from to : Posted} {p : Turn (List (Outcome R))}
-      → ((h : List Event) → (multi {H = H} m keys region is_part load are_cut).fits old from h → (tasks_for {H = H} m keys region is_part load are_cut old.inner).fits ts from h)
-      → Tells (tasks_for {H = H} m keys region is_part load are_cut old.inner) told ts ts' from to p
-      → Moves (MultiAsks m is_part old.inner) (λ h. (multi {H = H} m keys region is_part load are_cut).fits old from h × told.known h) (λ h. (tasks_for {H = H} m keys region is_part load are_cut old.inner).fits ts' to h)
-      (λ h v. (tasks_for {H = H} m keys region is_part load are_cut old.inner).gives ts h v) told.hear from to p
+      → ((h : List Event) → (multi {H = H} m keys region is_part load are_cut most).fits old from h → (tasks_for {H = H} m keys region is_part load are_cut most old.inner).fits ts from h)
+      → Tells (tasks_for {H = H} m keys region is_part load are_cut most old.inner) told ts ts' from to p
+      → Moves (MultiAsks m is_part old.inner) (λ h. (multi {H = H} m keys region is_part load are_cut most).fits old from h × told.known h) (λ h. (tasks_for {H = H} m keys region is_part load are_cut most old.inner).fits ts' to h)
+      (λ h v. (tasks_for {H = H} m keys region is_part load are_cut most old.inner).gives ts h v) told.hear from to p
   lifted {told = told} old ts ts' fits t = Moves-map told.within (λ h f. (fits h f.0, f.1)) (λ h f k r a. asks_so old.inner ts k r a) (λ h f k w i. i) (λ h f k v g. g) t.moves
 
   pub tasks_told : {told : Told} (old : RetryableMultiRegion S R H) (ts ts' : Tasks (RegionTask S R H) R) (g : MultiStage S R H) (width : ℕ) {from to : Posted} (p : Turn (List (Outcome R))) {turn : Turn (Result (Vec (Result R Error)) Error)}
-      → ((h : List Event) → (multi {H = H} m keys region is_part load are_cut).fits old from h → (tasks_for {H = H} m keys region is_part load are_cut old.inner).fits ts from h)
-      → ((a : Awaited) → (tasks_for {H = H} m keys region is_part load are_cut old.inner).waits ts a → (multi {H = H} m keys region is_part load are_cut).waits old a)
+      → ((h : List Event) → (multi {H = H} m keys region is_part load are_cut most).fits old from h → (tasks_for {H = H} m keys region is_part load are_cut most old.inner).fits ts from h)
+      → ((a : Awaited) → (tasks_for {H = H} m keys region is_part load are_cut most old.inner).waits ts a → (multi {H = H} m keys region is_part load are_cut most).waits old a)
       → (p ≡ Waits → tasks_phase ts'.stage ≡ Running)
       → AfterTasks old.preserve_region_results p g turn
-      → Tells (tasks_for {H = H} m keys region is_part load are_cut old.inner) told ts ts' from to p
-      → Tells (multi {H = H} m keys region is_part load are_cut) told old (record old { stage = g; tasks = Some ts'; width = width }) from to turn
+      → Tells (tasks_for {H = H} m keys region is_part load are_cut most old.inner) told ts ts' from to p
+      → Tells (multi {H = H} m keys region is_part load are_cut most) told old (record old { stage = g; tasks = Some ts'; width = width }) from to turn
   tasks_told old ts ts' g width Stopped fits waits runs after t = rw (after.0, after.1) (record {
     moves = Moves-stops (lifted old ts ts' fits t) refl;
     job = record { asked = λ h r x. x; given = λ h v x. x; gave = λ h v x. x };
@@ -286,12 +286,12 @@ module _ {S R H L : Type 0} (m : Meaning S (Result R Error)) (keys : R → List 
 
   pub tasks_counted : {bad fails : Bool} {weight locked : ℕ} (old : RetryableMultiRegion S R H) (ts ts' : Tasks (RegionTask S R H) R) (g : MultiStage S R H) (width : ℕ) {from to : Posted} (p : Turn (List (Outcome R))) {turn : Turn (Result (Vec (Result R Error)) Error)}
       → old.width ≤ width
-      → number_of old.tasks (tasks_for {H = H} m keys region is_part load are_cut old.inner).width ≤ (tasks_for {H = H} m keys region is_part load are_cut old.inner).width ts
-      → ((w : ℕ) → (multi {H = H} m keys region is_part load are_cut).bears old w → (tasks_for {H = H} m keys region is_part load are_cut old.inner).bears ts w)
-      → ((n : ℕ) → width ≤ n → (tasks_for {H = H} m keys region is_part load are_cut old.inner).left ts n ≤ (multi {H = H} m keys region is_part load are_cut).left old n)
+      → number_of old.tasks (tasks_for {H = H} m keys region is_part load are_cut most old.inner).width ≤ (tasks_for {H = H} m keys region is_part load are_cut most old.inner).width ts
+      → ((w : ℕ) → (multi {H = H} m keys region is_part load are_cut most).bears old w → (tasks_for {H = H} m keys region is_part load are_cut most old.inner).bears ts w)
+      → ((n : ℕ) → width ≤ n → (tasks_for {H = H} m keys region is_part load are_cut most old.inner).left ts n ≤ (multi {H = H} m keys region is_part load are_cut most).left old n)
       → AfterTasks old.preserve_region_results p g turn
-      → Counts (tasks_for {H = H} m keys region is_part load are_cut old.inner) bad fails weight locked ts ts' from to p
-      → Counts (multi {H = H} m keys region is_part load are_cut) bad fails weight locked old (record old { stage = g; tasks = Some ts'; width = width }) from to turn
+      → Counts (tasks_for {H = H} m keys region is_part load are_cut most old.inner) bad fails weight locked ts ts' from to p
+      → Counts (multi {H = H} m keys region is_part load are_cut most) bad fails weight locked old (record old { stage = g; tasks = Some ts'; width = width }) from to turn
   tasks_counted old ts ts' g width Stopped wide inside bears left after c = rw (after.0, after.1) (record {
     spends = Spends-around (wider old ts ts' width wide inside c.spends.wider) (le-max_right width _) bears (λ w b. b) (λ n l. left n (le_trans (le-max_left width _) l)) (λ n. omega arith) (λ e. e) c.spends;
     fewer = λ n. le_refl _;
@@ -312,19 +312,19 @@ module _ {S R H L : Type 0} (m : Meaning S (Result R Error)) (keys : R → List 
   -- A call of the search of its shards.
 
   looked : {told : Told} (old : RetryableMultiRegion S R H) (c c' : Looking S H) {from to : Posted} {p : Turn (Result (Vec (Part S)) Error)}
-      → ((h : List Event) → (multi {H = H} m keys region is_part load are_cut).fits old from h → CutAt c.stage from h)
-      → Tells (cutting {H = H} m is_part load are_cut) told c c' from to p
-      → Moves (MultiAsks m is_part old.inner) (λ h. (multi {H = H} m keys region is_part load are_cut).fits old from h × told.known h) (λ h. CutAt c'.stage to h) (λ h (v : Result (Vec (Part S)) Error). UnfoundIfErr h v) told.hear from to p
+      → ((h : List Event) → (multi {H = H} m keys region is_part load are_cut most).fits old from h → CutAt c.stage from h)
+      → Tells (cutting {H = H} m is_part load are_cut most) told c c' from to p
+      → Moves (MultiAsks m is_part old.inner) (λ h. (multi {H = H} m keys region is_part load are_cut most).fits old from h × told.known h) (λ h. CutAt c'.stage to h) (λ h (v : Result (Vec (Part S)) Error). UnfoundIfErr h v) told.hear from to p
   looked {told = told} old c c' fits t = Moves-map told.within (λ h f. (fits h f.0, f.1)) (λ h f k r a. inr a) (λ h f k w i. i) (λ h f k v g. g.1) t.moves
 
   pub cut_told : {C : Type 0} {told : Told} (s new : RetryableMultiRegion S R H) (g : MultiStage S R H) (c c' : Looking S H) {from via to : Posted} (pd pd' : C) (p : Turn (Result (Vec (Part S)) Error)) {turn : Turn (Result (Vec (Result R Error)) Error)}
       → s.stage ≡ stage.Stopped → IsUnbegun m s.inner → s.tasks ≡ None
-      → ((h : List Event) → (multi {H = H} m keys region is_part load are_cut).fits (record s { stage = g }) from h → CutAt c.stage from h)
-      → ((a : Awaited) → cut_waits c.stage a → (multi {H = H} m keys region is_part load are_cut).waits (record s { stage = g }) a)
+      → ((h : List Event) → (multi {H = H} m keys region is_part load are_cut most).fits (record s { stage = g }) from h → CutAt c.stage from h)
+      → ((a : Awaited) → cut_waits c.stage a → (multi {H = H} m keys region is_part load are_cut most).waits (record s { stage = g }) a)
       → (p ≡ Waits → cut_phase c'.stage ≡ Running)
-      → Tells (cutting {H = H} m is_part load are_cut) told c c' from via p
-      → AfterCut (multi {H = H} m keys region is_part load are_cut) p c' s new via to pd pd' turn
-      → Tells (multi {H = H} m keys region is_part load are_cut) told (record s { stage = g }) new from to turn
+      → Tells (cutting {H = H} m is_part load are_cut most) told c c' from via p
+      → AfterCut (multi {H = H} m keys region is_part load are_cut most) p c' s new via to pd pd' turn
+      → Tells (multi {H = H} m keys region is_part load are_cut most) told (record s { stage = g }) new from to turn
   cut_told s new g c c' pd pd' Stopped gone ready none fits waits runs t after = rw (after.0, after.1, after.2) (record {
     moves = Moves-stops (looked (record s { stage = g }) c c' fits t) refl;
     job = record { asked = λ h r x. x; given = λ h v x. x; gave = λ h v x. x };
@@ -344,20 +344,20 @@ module _ {S R H L : Type 0} (m : Meaning S (Result R Error)) (keys : R → List 
   pub cut_counted : {C : Type 0} {bad fails : Bool} {weight locked : ℕ} (s new : RetryableMultiRegion S R H) (g : MultiStage S R H) (c c' : Looking S H) {from via to : Posted} (pd pd' : C) (p : Turn (Result (Vec (Part S)) Error)) {turn : Turn (Result (Vec (Result R Error)) Error)}
       → (fails ≡ true → bad ≡ true)
       → s.tasks ≡ None
-      → ((n : ℕ) → (multi {H = H} m keys region is_part load are_cut).left (record s { stage = g }) n ≡ n * m.round s.inner n)
-      → Counts (cutting {H = H} m is_part load are_cut) bad fails weight locked c c' from via p
-      → AfterCut (multi {H = H} m keys region is_part load are_cut) p c' s new via to pd pd' turn
-      → Counts (multi {H = H} m keys region is_part load are_cut) bad fails weight locked (record s { stage = g }) new from to turn
+      → ((n : ℕ) → (multi {H = H} m keys region is_part load are_cut most).left (record s { stage = g }) n ≡ shared m most s.inner n)
+      → Counts (cutting {H = H} m is_part load are_cut most) bad fails weight locked c c' from via p
+      → AfterCut (multi {H = H} m keys region is_part load are_cut most) p c' s new via to pd pd' turn
+      → Counts (multi {H = H} m keys region is_part load are_cut most) bad fails weight locked (record s { stage = g }) new from to turn
   cut_counted s new g c c' pd pd' Stopped worse none left t after = rw (after.0, after.1, after.2) (record {
-    spends = Spends-gone (Spends-owing left (Spends-beside (λ n. n * m.round s.inner n) _ (borne s none) t.spends));
+    spends = Spends-gone (Spends-owing left (Spends-beside (shared m most s.inner) _ (borne s none) t.spends));
     fewer = λ n. le_refl _;
   })
   cut_counted s new g c c' pd pd' Waits worse none left t after = rw (after.0, after.1, after.2) (record {
-    spends = Spends-owing left (Spends-beside (λ n. n * m.round s.inner n) _ (borne s none) t.spends);
+    spends = Spends-owing left (Spends-beside (shared m most s.inner) _ (borne s none) t.spends);
     fewer = λ n. le_refl _;
   })
   cut_counted s new g c c' pd pd' (Ends v) worse none left t after = Counts-then {first = false} {mid = record s { stage = stage.Fresh }} worse
-      (Spends-owing left (Spends-beside (λ n. n * m.round s.inner n) _ (borne s none) t.spends)) (λ n. le_refl _) after.counts
+      (Spends-owing left (Spends-beside (shared m most s.inner) _ (borne s none) t.spends)) (λ n. le_refl _) after.counts
 
   -- Which calls are meant for it.
 
@@ -365,7 +365,7 @@ module _ {S R H L : Type 0} (m : Meaning S (Result R Error)) (keys : R → List 
       → tasks_phase ts.stage ≡ Running
       → AfterTasks old.preserve_region_results p g turn
       → Goes (λ (t : Tasks (RegionTask S R H) R). tasks_phase t.stage) meant ts ts' from to pd pd' p
-      → Goes (multi {H = H} m keys region is_part load are_cut).phase meant (record old { stage = stage.Running; tasks = Some ts }) (record old { stage = g; tasks = Some ts' }) from to pd pd' turn
+      → Goes (multi {H = H} m keys region is_part load are_cut most).phase meant (record old { stage = stage.Running; tasks = Some ts }) (record old { stage = g; tasks = Some ts' }) from to pd pd' turn
   tasks_gone old ts ts' g Stopped running after t = record {
     deaf = λ other. absurd (stopped_waits (t.deaf other ∙ ap unheard running));
     state = λ other. absurd (stopped_waits (t.deaf other ∙ ap unheard running));
@@ -391,8 +391,8 @@ module _ {S R H L : Type 0} (m : Meaning S (Result R Error)) (keys : R → List 
   pub cut_gone : {C : Type 0} {meant : Type 0} (s new : RetryableMultiRegion S R H) (c c' : Looking S H) {from via to : Posted} {pd pd' pd'' : C} (p : Turn (Result (Vec (Part S)) Error)) {turn : Turn (Result (Vec (Result R Error)) Error)}
       → s.stage ≡ stage.Stopped → cut_phase c.stage ≡ Running
       → Goes (λ (c : Looking S H). cut_phase c.stage) meant c c' from via pd pd' p
-      → AfterCut (multi {H = H} m keys region is_part load are_cut) p c' s new via to pd' pd'' turn
-      → Goes (multi {H = H} m keys region is_part load are_cut).phase meant (record s { stage = stage.Cutting c }) new from to pd pd'' turn
+      → AfterCut (multi {H = H} m keys region is_part load are_cut most) p c' s new via to pd' pd'' turn
+      → Goes (multi {H = H} m keys region is_part load are_cut most).phase meant (record s { stage = stage.Cutting c }) new from to pd pd'' turn
   cut_gone s new c c' Stopped gone running t after = record {
     deaf = λ other. absurd (stopped_waits (t.deaf other ∙ ap unheard running));
     state = λ other. absurd (stopped_waits (t.deaf other ∙ ap unheard running));
@@ -420,7 +420,7 @@ module _ {S R H L : Type 0} (m : Meaning S (Result R Error)) (keys : R → List 
   -- it gave up before its tasks were started
   pub begins_not : {known : List Event → Type 0} (s : RetryableMultiRegion S R H) (width : ℕ) {o : Posted} {turn : Turn (Result (Vec (Result R Error)) Error)}
       → s.stage ≡ stage.Stopped → s.tasks ≡ None → s.width ≤ width → turn ≡ Stopped
-      → Begins (multi {H = H} m keys region is_part load are_cut) known (record s { stage = stage.Fresh }) (record s { width = width }) o o turn
+      → Begins (multi {H = H} m keys region is_part load are_cut most) known (record s { stage = stage.Fresh }) (record s { width = width }) o o turn
   begins_not s width gone none wide e = rw e (record {
     tells = Tells-stopped refl refl (record { asked = λ h r x. x; given = λ h v x. x; gave = λ h v x. x }) (λ a w. absurd (rw gone at w));
     counts = record { spends = Spends-off (rw none (max-le (le_trans wide (le-max_left width 0)) (omega arith))); fewer = λ n. le_refl _ };
@@ -430,7 +430,7 @@ module _ {S R H L : Type 0} (m : Meaning S (Result R Error)) (keys : R → List 
   -- the first look-ups failed
   pub begins_refused : (s : RetryableMultiRegion S R H) (why : Error) {o : Posted}
       → IsUnbegun m s.inner → s.tasks ≡ None
-      → Begins (multi {H = H} m keys region is_part load are_cut) (λ h. WhyUnfound h why) (record s { stage = stage.Fresh }) (record s { stage = stage.Over }) o o (Ends (Err why))
+      → Begins (multi {H = H} m keys region is_part load are_cut most) (λ h. WhyUnfound h why) (record s { stage = stage.Fresh }) (record s { stage = stage.Over }) o o (Ends (Err why))
   begins_refused s why ready none = record {
     tells = record {
       moves = Moves-quiet refl (λ h f. tt) (λ h f. inr (why, refl, f.1));
@@ -442,28 +442,28 @@ module _ {S R H L : Type 0} (m : Meaning S (Result R Error)) (keys : R → List 
   }
 
   -- each task for a part is new, and is a task of the plan
-  pub tasks_new : (inner : S) (alloc : Global) (backoff : Backoff) (parts : List (Part S)) → ArePartsOf m is_part load are_cut inner parts
-      → All (λ t. IsNew (region_task {H = H} m keys region is_part load are_cut) t) (map (task_for alloc backoff) parts)
-  tasks_new inner alloc backoff parts are = each_task {R = R} {H = H} m is_part inner alloc backoff (λ u. IsNew (region_task m keys region is_part load are_cut) u)
+  pub tasks_new : (inner : S) (alloc : Global) (backoff : Backoff) (parts : List (Part S)) → ArePartsOf m is_part load are_cut most inner parts
+      → All (λ t. IsNew (region_task {H = H} m keys region is_part load are_cut most) t) (map (task_for alloc backoff) parts)
+  tasks_new inner alloc backoff parts are = each_task {R = R} {H = H} m is_part most inner alloc backoff (λ u. IsNew (region_task m keys region is_part load are_cut most) u)
       (λ p i. record { phase = refl; fits = λ o h. record { at = tt }; light = λ w. tt; ready = record { job = record { unbegun = i.applied.unbegun; ready = i.applied.ready }; at = tt } }) parts are.each
 
-  pub tasks_belong : (inner : S) (alloc : Global) (backoff : Backoff) (parts : List (Part S)) → ArePartsOf m is_part load are_cut inner parts
-      → All (λ (t : RegionTask S R H). IsTaskOf m is_part t inner) (map (task_for alloc backoff) parts)
-  tasks_belong inner alloc backoff parts are = each_task {R = R} {H = H} m is_part inner alloc backoff (λ u. IsTaskOf m is_part u inner)
-      (λ p i. record { part = i.belongs; less = i.applied.less }) parts are.each
+  pub tasks_belong : (inner : S) (alloc : Global) (backoff : Backoff) (parts : List (Part S)) → ArePartsOf m is_part load are_cut most inner parts
+      → All (λ (t : RegionTask S R H). IsTaskOf m is_part most t inner) (map (task_for alloc backoff) parts)
+  tasks_belong inner alloc backoff parts are = each_task {R = R} {H = H} m is_part most inner alloc backoff (λ u. IsTaskOf m is_part most u inner)
+      (λ p i. record { part = i.belongs; less = λ n. mul-le-mul (i.fewer n) (i.applied.less n) }) parts are.each
 
   -- its tasks are started
   pub begins_tasks : (s : RetryableMultiRegion S R H) (ts ts' : Tasks (RegionTask S R H) R) (g : MultiStage S R H) (width : ℕ) {from to : Posted} (p : Turn (List (Outcome R))) {turn : Turn (Result (Vec (Result R Error)) Error)}
       → s.tasks ≡ None → s.width ≤ width
       → tasks_phase ts.stage ≡ Fresh
-      → ((o : Posted) (h : List Event) → (tasks_for {H = H} m keys region is_part load are_cut s.inner).fits ts o h)
-      → ((w : ℕ) → (tasks_for {H = H} m keys region is_part load are_cut s.inner).bears ts w)
-      → ((n : ℕ) → width ≤ n → (tasks_for {H = H} m keys region is_part load are_cut s.inner).left ts n ≤ n * m.round s.inner n)
+      → ((o : Posted) (h : List Event) → (tasks_for {H = H} m keys region is_part load are_cut most s.inner).fits ts o h)
+      → ((w : ℕ) → (tasks_for {H = H} m keys region is_part load are_cut most s.inner).bears ts w)
+      → ((n : ℕ) → width ≤ n → (tasks_for {H = H} m keys region is_part load are_cut most s.inner).left ts n ≤ shared m most s.inner n)
       → (p ≡ Waits → tasks_phase ts'.stage ≡ Running)
       → AfterTasks s.preserve_region_results p g turn
-      → Tells (tasks_for {H = H} m keys region is_part load are_cut s.inner) started ts ts' from to p
-      → Counts (tasks_for {H = H} m keys region is_part load are_cut s.inner) false false 0 0 ts ts' from to p
-      → Begins (multi {H = H} m keys region is_part load are_cut) (λ h. ⊤) (record s { stage = stage.Fresh }) (record s { stage = g; tasks = Some ts'; width = width }) from to turn
+      → Tells (tasks_for {H = H} m keys region is_part load are_cut most s.inner) started ts ts' from to p
+      → Counts (tasks_for {H = H} m keys region is_part load are_cut most s.inner) false false 0 0 ts ts' from to p
+      → Begins (multi {H = H} m keys region is_part load are_cut most) (λ h. ⊤) (record s { stage = stage.Fresh }) (record s { stage = g; tasks = Some ts'; width = width }) from to turn
   begins_tasks s ts ts' g width {from = from} p none wide fresh fits light left runs after t c = record {
     tells = tasks_told (record s { stage = stage.Fresh }) ts ts' g width p (λ h f. fits from h) (λ a w. absurd (fresh_waits ts.stage fresh w.1)) runs after t;
     counts = tasks_counted (record s { stage = stage.Fresh }) ts ts' g width p wide (rw none (omega arith)) (λ w b. light w) left after c;
@@ -472,38 +472,38 @@ module _ {S R H L : Type 0} (m : Meaning S (Result R Error)) (keys : R → List 
 
   -- once it was told, it may be told more
   pub ready_after : (inner : S) (preserve : Bool) (ts' : Tasks (RegionTask S R H) R) (g : MultiStage S R H) (p : Turn (List (Outcome R))) (turn : Turn (Result (Vec (Result R Error)) Error))
-      → AfterTasks preserve p g turn → (p ≡ Waits → tasks_phase ts'.stage ≡ Running) → (tasks_for {H = H} m keys region is_part load are_cut inner).ready ts'
-      → StandsReady (tasks_for {H = H} m keys region is_part load are_cut inner) inner g (Some ts')
+      → AfterTasks preserve p g turn → (p ≡ Waits → tasks_phase ts'.stage ≡ Running) → (tasks_for {H = H} m keys region is_part load are_cut most inner).ready ts'
+      → StandsReady (tasks_for {H = H} m keys region is_part load are_cut most inner) inner g (Some ts')
   ready_after inner preserve ts' g Stopped turn after runs ready = rw after.1 tt
   ready_after inner preserve ts' g Waits turn after runs ready = rw after.1 (ready, runs refl)
   ready_after inner preserve ts' g (Ends outcomes) turn (inl after) runs ready = rw after.1 tt
   ready_after inner preserve ts' g (Ends outcomes) turn (inr after) runs ready = rw after.2 tt
 
   pub cut_next : {C : Type 0} (s new : RetryableMultiRegion S R H) (c' : Looking S H) (via to : Posted) (pd pd' : C) (p : Turn (Result (Vec (Part S)) Error)) (turn : Turn (Result (Vec (Result R Error)) Error))
-      → s.stage ≡ stage.Stopped → AfterCut (multi {H = H} m keys region is_part load are_cut) p c' s new via to pd pd' turn → multi_phase new.stage ≡ phase_after turn
+      → s.stage ≡ stage.Stopped → AfterCut (multi {H = H} m keys region is_part load are_cut most) p c' s new via to pd pd' turn → multi_phase new.stage ≡ phase_after turn
   cut_next s new c' via to pd pd' Stopped turn gone after = rw (after.1, gone, after.0) refl
   cut_next s new c' via to pd pd' Waits turn gone after = rw (after.0, after.1) refl
   cut_next s new c' via to pd pd' (Ends v) turn gone after = after.next
 
   -- a search that was not begun waits for nothing
-  pub unbegun_waits : (c : Looking S H) (a : Awaited) → IsUnbegun (cutting {H = H} m is_part load are_cut) c → cut_waits c.stage a → ⊥
-  unbegun_waits c a u w = let law = cutting-lawful {H = H} m is_part load are_cut in fresh_running (sym u.phase ∙ law.runs c a w)
+  pub unbegun_waits : (c : Looking S H) (a : Awaited) → IsUnbegun (cutting {H = H} m is_part load are_cut most) c → cut_waits c.stage a → ⊥
+  unbegun_waits c a u w = let law = cutting-lawful {H = H} m is_part load are_cut most in fresh_running (sym u.phase ∙ law.runs c a w)
 
   -- It is told of something that is not meant for it.
   pub idle_told : IsLawful m → {told : Told} (s new : RetryableMultiRegion S R H) {o : Posted} {turn : Turn (Result (Vec (Result R Error)) Error)}
-      → new ≡ s → ((a : Awaited) → told.heard a → (multi {H = H} m keys region is_part load are_cut).waits s a → ⊥) → turn ≡ unheard (multi_phase s.stage)
-      → Tells (multi {H = H} m keys region is_part load are_cut) told s new o o turn
-  idle_told law s new same deaf e = rw same (Tells-idle (multi-lawful m keys region is_part load are_cut law) deaf e)
+      → new ≡ s → ((a : Awaited) → told.heard a → (multi {H = H} m keys region is_part load are_cut most).waits s a → ⊥) → turn ≡ unheard (multi_phase s.stage)
+      → Tells (multi {H = H} m keys region is_part load are_cut most) told s new o o turn
+  idle_told law s new same deaf e = rw same (Tells-idle (multi-lawful m keys region is_part load are_cut most law) deaf e)
 
   pub idle_counted : IsLawful m → {bad fails : Bool} {weight locked : ℕ} (s new : RetryableMultiRegion S R H) {o : Posted} (turn : Turn (Result (Vec (Result R Error)) Error))
-      → new ≡ s → Counts (multi {H = H} m keys region is_part load are_cut) bad fails weight locked s new o o turn
+      → new ≡ s → Counts (multi {H = H} m keys region is_part load are_cut most) bad fails weight locked s new o o turn
   idle_counted law {weight = weight} s new turn same = rw same (record {
-    spends = Spends-quiet (λ f. absurd (false≢true (sym (never_fails turn) ∙ f))) (λ w b. let l = multi-lawful {H = H} m keys region is_part load are_cut law in l.bears_more s w (w + weight) (omega arith) b) (λ n. le_refl _);
+    spends = Spends-quiet (λ f. absurd (false≢true (sym (never_fails turn) ∙ f))) (λ w b. let l = multi-lawful {H = H} m keys region is_part load are_cut most law in l.bears_more s w (w + weight) (omega arith) b) (λ n. le_refl _);
     fewer = λ n. le_refl _;
   })
 
   pub not_waiting : (inner : S) (g : MultiStage S R H) (ts : Option (Tasks (RegionTask S R H) R)) (a : Awaited) → ((c : Looking S H) → g ≡ stage.Cutting c → ⊥) → (g ≡ stage.Running → ⊥)
-      → MultiWaits (tasks_for {H = H} m keys region is_part load are_cut inner) g ts a → ⊥
+      → MultiWaits (tasks_for {H = H} m keys region is_part load are_cut most inner) g ts a → ⊥
   not_waiting inner stage.Fresh ts a cuts runs w = w
   not_waiting inner (stage.Cutting c) ts a cuts runs w = cuts c refl
   not_waiting inner stage.Running ts a cuts runs w = runs refl

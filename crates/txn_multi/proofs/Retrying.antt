@@ -1,12 +1,12 @@
 -- Events of one task of a plan over many regions, by those of its plan and of the search of its shards.
 use Rattle.std.proofs.Common.{◌≡◌, ◌≢◌, ◌⊎◌, inl, inr, ℕ, ◌+◌, ◌*◌, ◌≤◌, Bool, true, false, List, [], ◌∷◌, ◌++◌, length, map, refl, sym, ap, subst, ◌∙◌, arith}
-use Rattle.std.proofs.Math.Nat.{le_trans, mul-le-mul_right}
+use Rattle.std.proofs.Math.Nat.{le-max_right, le_trans, mul-le-mul, mul-le-mul_right}
 use Rattle.std.proofs.lemmas.Bool.{false≢true}
 use Rattle.std.proofs.lemmas.List.{length-map}
 use Rattle.std.proofs.lemmas.List.Elements.{All-cons, All-head, All-nil, All-tail}
 use Rattle.std.proofs.lemmas.List.Sums.{sum_by-le}
 use Rattle.std.specs.List.{sum_by, All}
-use Rattle.std.specs.Prelude.{⊤, IsErr, OnOk, Option, Some, None, Result, Ok, Err}
+use Rattle.std.specs.Prelude.{⊤, max, IsErr, OnOk, Option, Some, None, Result, Ok, Err}
 use Rattle.std.specs.Global.{Global, Vec}
 use Rattle.txn_history.specs.Event.{Event}
 use Rattle.txn_history.specs.Event.Event.{Began}
@@ -35,7 +35,7 @@ use Rattle.txn_kv.specs.declared.region.RegionVerId.{RegionVerId}
 use Rattle.txn_kv.specs.declared.request.Request.{Request}
 use Rattle.txn_kv.specs.declared.ticket.Ticket.{Ticket}
 use Rattle.txn_multi.specs.Cutting.{cut_phase, cutting, cutting-lawful, ArePartsOf, IsPartOf, Looking, UnfoundIfErr}
-use Rattle.txn_multi.specs.Task.{failed_longer, region_task, stage_left, stage_phase, stage_runs, task_for, GoesOver, HasFailed, IsChanged, IsRefused, IsTaskOf, IsUnderWay, MayGoOn, StageWaits, StepGives, TaskFits}
+use Rattle.txn_multi.specs.Task.{failed_longer, owed, region_task, stage_left, stage_phase, stage_runs, task_for, GoesOver, HasFailed, IsChanged, IsRefused, IsTaskOf, IsUnderWay, MayGoOn, StageWaits, StepGives, TaskFits}
 use Rattle.txn_multi.specs.declared.part.Part.{Part}
 use Rattle.txn_multi.specs.declared.stage.Stage.{Stage}
 use Rattle.txn_multi.specs.declared.stage.Stage.TheVariants as stage
@@ -240,49 +240,49 @@ pub goes_at : {S A R H B C : Type 0} (m : Meaning S A) (a : Awaited) (t : Region
 goes_at {R = R} {H = H} m a t g {new} {from} {to} {pd} {pd'} {turn} e s = subst (λ (x : Stage _ R H). Goes (λ (y : RegionTask _ R H). stage_phase y.stage) (StageWaits m x a) (record t { stage = x }) new from to pd pd' turn) (sym e) s
 
 -- The tasks for parts.
-module _ {S A R H : Type 0} (m : Meaning S A) (is_part : S → S → Type 0) (job : S) (alloc : Global) (backoff : Backoff) where
-  each_made : (P : RegionTask S R H → Type 0) → ((p : Part S) → IsPartOf m is_part job p.plan → P (task_for alloc backoff p)) → (parts : List (Part S)) → All (λ p. IsPartOf m is_part job p.plan) parts → All P (map (task_for alloc backoff) parts)
+module _ {S A R H : Type 0} (m : Meaning S A) (is_part : S → S → Type 0) (most : S → ℕ → ℕ) (job : S) (alloc : Global) (backoff : Backoff) where
+  each_made : (P : RegionTask S R H → Type 0) → ((p : Part S) → IsPartOf m is_part most job p.plan → P (task_for alloc backoff p)) → (parts : List (Part S)) → All (λ p. IsPartOf m is_part most job p.plan) parts → All P (map (task_for alloc backoff) parts)
   each_made P f [] a = All-nil P
   each_made P f (p ∷ ps) a = All-cons P (task_for alloc backoff p) (map (task_for alloc backoff) ps)
-      (f p (All-head (λ (q : Part S). IsPartOf m is_part job q.plan) p ps a))
-      (each_made P f ps (All-tail (λ (q : Part S). IsPartOf m is_part job q.plan) p ps a))
+      (f p (All-head (λ (q : Part S). IsPartOf m is_part most job q.plan) p ps a))
+      (each_made P f ps (All-tail (λ (q : Part S). IsPartOf m is_part most job q.plan) p ps a))
 
 loads_made : {S L : Type 0} (R H : Type 0) (load : S → L) (alloc : Global) (backoff : Backoff) (parts : List (Part S)) → map (λ (t : RegionTask S R H). load t.job) (map (task_for alloc backoff) parts) ≡ map (λ p. load p.plan) parts
 loads_made R H load alloc backoff [] = refl
 loads_made {L = L} R H load alloc backoff (p ∷ ps) = ap (λ (xs : List L). load p.plan ∷ xs) (loads_made R H load alloc backoff ps)
 
-module _ {S R H L : Type 0} (m : Meaning S (Result R Error)) (keys : R → List ErrorView) (region : R → Option RegionErr) (is_part : S → S → Type 0) (load : S → L) (are_cut : L → List L → Type 0) where
+module _ {S R H L : Type 0} (m : Meaning S (Result R Error)) (keys : R → List ErrorView) (region : R → Option RegionErr) (is_part : S → S → Type 0) (load : S → L) (are_cut : L → List L → Type 0) (most : S → ℕ → ℕ) where
   -- they stand in the place of the task
   pub made_in_place : (part_of_part : (a b c : S) → is_part a b → is_part b c → is_part a c) (t : RegionTask S R H) (alloc : Global) (backoff : Backoff) (parts : List (Part S))
-      → ArePartsOf m is_part load are_cut t.job parts
-      → AreInPlace (region_task m keys region is_part load are_cut) (λ (u : RegionTask S R H). load u.job) are_cut (IsTaskOf m is_part) t (map (task_for alloc backoff) parts)
+      → ArePartsOf m is_part load are_cut most t.job parts
+      → AreInPlace (region_task m keys region is_part load are_cut most) (λ (u : RegionTask S R H). load u.job) are_cut (IsTaskOf m is_part most) t (map (task_for alloc backoff) parts)
   made_in_place part_of_part t alloc backoff parts are = record {
-    each = each_made {R = R} {H = H} m is_part t.job alloc backoff (λ u. IsNew (region_task m keys region is_part load are_cut) u)
+    each = each_made {R = R} {H = H} m is_part most t.job alloc backoff (λ u. IsNew (region_task m keys region is_part load are_cut most) u)
         (λ p i. record { phase = refl; fits = λ o h. record { at = tt }; light = λ w. tt; ready = record { job = record { unbegun = i.applied.unbegun; ready = i.applied.ready }; at = tt } }) parts are.each;
     cut = rw (loads_made R H load alloc backoff parts) are.cut;
-    belong = λ w is. each_made {R = R} {H = H} m is_part t.job alloc backoff (λ u. IsTaskOf m is_part u w)
-        (λ p i. record { part = part_of_part p.plan t.job w i.belongs is.part; less = λ n. le_trans (i.applied.less n) (is.less n) }) parts are.each;
+    belong = λ w is. each_made {R = R} {H = H} m is_part most t.job alloc backoff (λ u. IsTaskOf m is_part most u w)
+        (λ p i. record { part = part_of_part p.plan t.job w i.belongs is.part; less = λ n. le_trans (mul-le-mul (le_trans (i.fewer n) (le-max_right 1 _)) (i.applied.less n)) (is.less n) }) parts are.each;
   }
 
   -- they are left to post what it owed
   pub made_owe : (t : RegionTask S R H) (alloc : Global) (backoff : Backoff) (parts : List (Part S)) (n : ℕ)
-      → ArePartsOf m is_part load are_cut t.job parts → length parts ≤ n
-      → sum_by (λ (u : RegionTask S R H). stage_left m u.job u.stage n) (map (task_for alloc backoff) parts) ≤ n * m.round t.job n
+      → ArePartsOf m is_part load are_cut most t.job parts → length parts ≤ n
+      → sum_by (λ (u : RegionTask S R H). stage_left m most u.job u.stage n) (map (task_for alloc backoff) parts) ≤ owed m most t.job n
   made_owe t alloc backoff parts n are few =
       let made : List (RegionTask S R H) = map (task_for alloc backoff) parts in
-      let each : All (λ (u : RegionTask S R H). stage_left m u.job u.stage n ≤ m.round t.job n) made =
-      each_made {R = R} {H = H} m is_part t.job alloc backoff (λ u. stage_left m u.job u.stage n ≤ m.round t.job n) (λ p i. i.applied.less n) parts are.each in
-      let sum : sum_by (λ (u : RegionTask S R H). stage_left m u.job u.stage n) made ≤ length made * m.round t.job n =
-      sum_by-le (λ (u : RegionTask S R H). stage_left m u.job u.stage n) (m.round t.job n) made each in
-      let short : length made ≤ n = rw (length-map parts (task_for {R = R} {H = H} alloc backoff)) few in
+      let each : All (λ (u : RegionTask S R H). stage_left m most u.job u.stage n ≤ m.round t.job n) made =
+      each_made {R = R} {H = H} m is_part most t.job alloc backoff (λ u. stage_left m most u.job u.stage n ≤ m.round t.job n) (λ p i. i.applied.less n) parts are.each in
+      let sum : sum_by (λ (u : RegionTask S R H). stage_left m most u.job u.stage n) made ≤ length made * m.round t.job n =
+      sum_by-le (λ (u : RegionTask S R H). stage_left m most u.job u.stage n) (m.round t.job n) made each in
+      let short : length made ≤ max 1 (most t.job n) = rw (length-map parts (task_for {R = R} {H = H} alloc backoff)) (le_trans (are.few n few) (le-max_right 1 _)) in
       le_trans sum (mul-le-mul_right (m.round t.job n) short)
 
-  step_same : (t u : RegionTask S R H) → u.job ≡ t.job → u.region ≡ t.region → (h : List Event) (s : Step (RegionTask S R H) R) → StepGives m keys region is_part load are_cut u h s → StepGives m keys region is_part load are_cut t h s
+  step_same : (t u : RegionTask S R H) → u.job ≡ t.job → u.region ≡ t.region → (h : List Event) (s : Step (RegionTask S R H) R) → StepGives m keys region is_part load are_cut most u h s → StepGives m keys region is_part load are_cut most t h s
   step_same t u same used h (End v) g = rw (same, used) at g
   step_same t u same used h (Parts tasks) g = rw same at g
 
   -- its job is the same
-  pub same_task : (t u : RegionTask S R H) → u.job ≡ t.job → u.region ≡ t.region → SameJob (region_task {H = H} m keys region is_part load are_cut).asks (region_task {H = H} m keys region is_part load are_cut).gives u t
+  pub same_task : (t u : RegionTask S R H) → u.job ≡ t.job → u.region ≡ t.region → SameJob (region_task {H = H} m keys region is_part load are_cut most).asks (region_task {H = H} m keys region is_part load are_cut most).gives u t
   same_task t u same used = record {
     asked = λ h r x. rw same at x;
     given = λ h v x. step_same t u same used h v x;
@@ -290,15 +290,15 @@ module _ {S R H L : Type 0} (m : Meaning S (Result R Error)) (keys : R → List 
   }
 
   may_stand : (t u : RegionTask S R H) → u.job ≡ t.job → (s : Step (RegionTask S R H) R)
-      → MayStand (region_task m keys region is_part load are_cut) (λ (x : RegionTask S R H). load x.job) are_cut (IsTaskOf m is_part) u s
-      → MayStand (region_task m keys region is_part load are_cut) (λ (x : RegionTask S R H). load x.job) are_cut (IsTaskOf m is_part) t s
+      → MayStand (region_task m keys region is_part load are_cut most) (λ (x : RegionTask S R H). load x.job) are_cut (IsTaskOf m is_part most) u s
+      → MayStand (region_task m keys region is_part load are_cut most) (λ (x : RegionTask S R H). load x.job) are_cut (IsTaskOf m is_part most) t s
   may_stand t u same (End v) x = tt
   may_stand t u same (Parts tasks) x = record { each = x.each; cut = rw same at x.cut; belong = λ w is. x.belong w (record { part = rw same is.part; less = λ n. rw same (is.less n) }) }
 
   -- what it keeps stands by its job alone
   pub keeps_at : (t u : RegionTask S R H) {new : RegionTask S R H} (turn : Turn (Step (RegionTask S R H) R)) → u.job ≡ t.job
-      → Keeps (region_task m keys region is_part load are_cut) (λ x. load x.job) are_cut (IsTaskOf m is_part) (λ x. stage_runs x.stage) u new turn
-      → Keeps (region_task m keys region is_part load are_cut) (λ x. load x.job) are_cut (IsTaskOf m is_part) (λ x. stage_runs x.stage) t new turn
+      → Keeps (region_task m keys region is_part load are_cut most) (λ x. load x.job) are_cut (IsTaskOf m is_part most) (λ x. stage_runs x.stage) u new turn
+      → Keeps (region_task m keys region is_part load are_cut most) (λ x. load x.job) are_cut (IsTaskOf m is_part most) (λ x. stage_runs x.stage) t new turn
   keeps_at t u turn same k = record {
     work = rw same at k.work;
     belongs = λ w is. k.belongs w (record { part = rw same is.part; less = λ n. rw same (is.less n) });
@@ -310,7 +310,7 @@ module _ {S R H L : Type 0} (m : Meaning S (Result R Error)) (keys : R → List 
 
   -- an event that is not for it
   pub keeps_idle : (t : RegionTask S R H) (p : Phase)
-      → Keeps (region_task m keys region is_part load are_cut) (λ x. load x.job) are_cut (IsTaskOf m is_part) (λ x. stage_runs x.stage) t t (unheard p)
+      → Keeps (region_task m keys region is_part load are_cut most) (λ x. load x.job) are_cut (IsTaskOf m is_part most) (λ x. stage_runs x.stage) t t (unheard p)
   keeps_idle t Fresh = record { work = refl; belongs = λ w is. is; rests = λ e. absurd e; stands = tt; wide = tt; owes = tt }
   keeps_idle t Running = record { work = refl; belongs = λ w is. is; rests = λ e. absurd e; stands = tt; wide = tt; owes = tt }
   keeps_idle t Over = record { work = refl; belongs = λ w is. is; rests = λ e. absurd e; stands = tt; wide = tt; owes = tt }
@@ -318,19 +318,19 @@ module _ {S R H L : Type 0} (m : Meaning S (Result R Error)) (keys : R → List 
 
   -- events of a task that stands at a stage
   pub tells_at : {told : Told} (t : RegionTask S R H) (g : Stage S R H) {new : RegionTask S R H} {from to : Posted} {turn : Turn (Step (RegionTask S R H) R)} → t.stage ≡ g
-      → Tells (region_task m keys region is_part load are_cut) told (record t { stage = g }) new from to turn
-      → Tells (region_task m keys region is_part load are_cut) told t new from to turn
-  tells_at {told} t g {new} {from} {to} {turn} e s = subst (λ (x : Stage S R H). Tells (region_task m keys region is_part load are_cut) told (record t { stage = x }) new from to turn) (sym e) s
+      → Tells (region_task m keys region is_part load are_cut most) told (record t { stage = g }) new from to turn
+      → Tells (region_task m keys region is_part load are_cut most) told t new from to turn
+  tells_at {told} t g {new} {from} {to} {turn} e s = subst (λ (x : Stage S R H). Tells (region_task m keys region is_part load are_cut most) told (record t { stage = x }) new from to turn) (sym e) s
 
   pub counts_at : {bad fails : Bool} {weight locked : ℕ} (t : RegionTask S R H) (g : Stage S R H) {new : RegionTask S R H} {from to : Posted} {turn : Turn (Step (RegionTask S R H) R)} → t.stage ≡ g
-      → Counts (region_task m keys region is_part load are_cut) bad fails weight locked (record t { stage = g }) new from to turn
-      → Counts (region_task m keys region is_part load are_cut) bad fails weight locked t new from to turn
-  counts_at {bad} {fails} {weight} {locked} t g {new} {from} {to} {turn} e s = subst (λ (x : Stage S R H). Counts (region_task m keys region is_part load are_cut) bad fails weight locked (record t { stage = x }) new from to turn) (sym e) s
+      → Counts (region_task m keys region is_part load are_cut most) bad fails weight locked (record t { stage = g }) new from to turn
+      → Counts (region_task m keys region is_part load are_cut most) bad fails weight locked t new from to turn
+  counts_at {bad} {fails} {weight} {locked} t g {new} {from} {to} {turn} e s = subst (λ (x : Stage S R H). Counts (region_task m keys region is_part load are_cut most) bad fails weight locked (record t { stage = x }) new from to turn) (sym e) s
 
   -- it gives tasks for its parts
   pub over_given : (t : RegionTask S R H) (width : ℕ) (alloc : Global) (backoff : Backoff) (parts : List (Part S)) (tasks : Vec (RegionTask S R H)) {o : Posted}
-      → ArePartsOf m is_part load are_cut t.job parts → tasks.items ≡ map (task_for alloc backoff) parts
-      → GoesOver (region_task m keys region is_part load are_cut) (HasFailed m keys region t.job) t (record t { stage = stage.Cut; width = width }) o o (Ends (Parts tasks))
+      → ArePartsOf m is_part load are_cut most t.job parts → tasks.items ≡ map (task_for alloc backoff) parts
+      → GoesOver (region_task m keys region is_part load are_cut most) (HasFailed m keys region t.job) t (record t { stage = stage.Cut; width = width }) o o (Ends (Parts tasks))
   over_given t width alloc backoff parts tasks are made = record {
     moves = Moves-quiet refl (λ h f. record { at = tt }) (λ h f. (f, record { parts = parts; are = are; alloc = alloc; backoff = backoff; made = made }));
     job = record { asked = λ h r x. x; given = λ h v x. x; gave = λ h v x. x };
@@ -339,8 +339,8 @@ module _ {S R H L : Type 0} (m : Meaning S (Result R Error)) (keys : R → List 
   }
 
   pub keeps_given : (part_of_part : (a b c : S) → is_part a b → is_part b c → is_part a c) (t : RegionTask S R H) (width : ℕ) (alloc : Global) (backoff : Backoff) (parts : List (Part S)) (tasks : Vec (RegionTask S R H))
-      → ArePartsOf m is_part load are_cut t.job parts → tasks.items ≡ map (task_for alloc backoff) parts → length parts ≤ width
-      → Keeps (region_task m keys region is_part load are_cut) (λ u. load u.job) are_cut (IsTaskOf m is_part) (λ u. stage_runs u.stage) t (record t { stage = stage.Cut; width = width }) (Ends (Parts tasks))
+      → ArePartsOf m is_part load are_cut most t.job parts → tasks.items ≡ map (task_for alloc backoff) parts → length parts ≤ width
+      → Keeps (region_task m keys region is_part load are_cut most) (λ u. load u.job) are_cut (IsTaskOf m is_part most) (λ u. stage_runs u.stage) t (record t { stage = stage.Cut; width = width }) (Ends (Parts tasks))
   keeps_given part_of_part t width alloc backoff parts tasks are made few = record {
     work = refl;
     belongs = λ w is. record { part = is.part; less = is.less };
@@ -354,7 +354,7 @@ module _ {S R H L : Type 0} (m : Meaning S (Result R Error)) (keys : R → List 
     -- it begins a sleep
     pub Over-slept : (t : RegionTask S R H) (ms n : ℕ) {from to : Posted} → n ≡ from.next
         → to ≡ record from { next = from.next + 1; sends = from.sends ++ Sleep from.next ms ∷ [] }
-        → GoesOver (region_task m keys region is_part load are_cut) (HasFailed m keys region t.job) t (record t { stage = stage.Sleeping n }) from to Waits
+        → GoesOver (region_task m keys region is_part load are_cut most) (HasFailed m keys region t.job) t (record t { stage = stage.Sleeping n }) from to Waits
     Over-slept t ms n {from} {to} e is = record {
       moves = Moves-slept ms is (λ h f. record { at = (rw (e, is) (ms, inl refl, omega arith), failed_longer m keys region law t.job h (Began (ticket_of from from.next) ms ∷ h) (Within-one (Began (ticket_of from from.next) ms) h) f) });
       job = record { asked = λ h r x. x; given = λ h v x. x; gave = λ h v x. x };
@@ -364,7 +364,7 @@ module _ {S R H L : Type 0} (m : Meaning S (Result R Error)) (keys : R → List 
 
     -- it gives up, and nothing is posted
     pub Over-stopped : {known : List Event → Type 0} (t u : RegionTask S R H) {o : Posted} {turn : Turn (Step (RegionTask S R H) R)} → u.job ≡ t.job → u.region ≡ t.region → u.stage ≡ stage.Stopped → turn ≡ Stopped
-        → GoesOver (region_task m keys region is_part load are_cut) known t u o o turn
+        → GoesOver (region_task m keys region is_part load are_cut most) known t u o o turn
     Over-stopped t u same used s e = record {
       moves = Moves-stopped e refl;
       job = same_task t u same used;
@@ -375,7 +375,7 @@ module _ {S R H L : Type 0} (m : Meaning S (Result R Error)) (keys : R → List 
     -- its plan runs on
     pub tells_on_plan : {told : Told} (t : RegionTask S R H) (p q : S) {from to : Posted} → IsUnderWay m t.job p → m.phase q ≡ Running
         → Tells m told p q from to Waits
-        → Tells (region_task m keys region is_part load are_cut) told (record t { stage = stage.Running p }) (record t { stage = stage.Running q }) from to Waits
+        → Tells (region_task m keys region is_part load are_cut most) told (record t { stage = stage.Running p }) (record t { stage = stage.Running q }) from to Waits
     tells_on_plan {told} t p q way runs s = record {
       moves = Moves-after (Moves-map told.within (λ h f. (f.0.at.0, f.1)) (λ h f k r a. inl (way.same.asked k r a)) (λ h f k w i. i) (λ h f k v g. g) s.moves) (λ h k. record { at = (k.0, runs) }) tt;
       job = record { asked = λ h r x. x; given = λ h v x. x; gave = λ h v x. x };
@@ -385,8 +385,8 @@ module _ {S R H L : Type 0} (m : Meaning S (Result R Error)) (keys : R → List 
     -- its plan has ended
     pub tells_over_plan : {told : Told} (t : RegionTask S R H) (p q : S) {new : RegionTask S R H} {v : Result R Error} {from via to : Posted} {turn : Turn (Step (RegionTask S R H) R)} → IsUnderWay m t.job p
         → Tells m told p q from via (Ends v)
-        → GoesOver (region_task m keys region is_part load are_cut) (λ h. m.gives t.job h v) t new via to turn
-        → Tells (region_task m keys region is_part load are_cut) told (record t { stage = stage.Running p }) new from to turn
+        → GoesOver (region_task m keys region is_part load are_cut most) (λ h. m.gives t.job h v) t new via to turn
+        → Tells (region_task m keys region is_part load are_cut most) told (record t { stage = stage.Running p }) new from to turn
     tells_over_plan {told} t p q way s over = Tells-over
         (Moves-after (Moves-map told.within (λ h f. (f.0.at.0, f.1)) (λ h f k r a. inl (way.same.asked k r a)) (λ h f k w i. i) (λ h f k v g. way.same.given k v g) s.moves) (λ h k. k.1) tt)
         (record { asked = λ h r x. x; given = λ h v x. x; gave = λ h v x. x }) s.expects over
@@ -395,7 +395,7 @@ module _ {S R H L : Type 0} (m : Meaning S (Result R Error)) (keys : R → List 
     pub tells_off_plan : {told : Told} (t u : RegionTask S R H) (p q : S) {from to : Posted} {inner : Turn (Result R Error)} {turn : Turn (Step (RegionTask S R H) R)} → IsUnderWay m t.job p
         → u.job ≡ t.job → u.region ≡ t.region → u.stage ≡ stage.Stopped → turn ≡ Stopped
         → Tells m told p q from to inner
-        → Tells (region_task m keys region is_part load are_cut) told (record t { stage = stage.Running p }) u from to turn
+        → Tells (region_task m keys region is_part load are_cut most) told (record t { stage = stage.Running p }) u from to turn
     tells_off_plan {told} t u p q way same used stops e s = record {
       moves = Moves-stops (Moves-map told.within (λ h f. (f.0.at.0, f.1)) (λ h f k r a. inl (way.same.asked k r a)) (λ h f k w i. i) (λ h f k v g. g) s.moves) e;
       job = same_task (record t { stage = stage.Running p }) u same used;
@@ -405,7 +405,7 @@ module _ {S R H L : Type 0} (m : Meaning S (Result R Error)) (keys : R → List 
     -- its plan was started
     pub tells_on_start : (t : RegionTask S R H) (q : S) {from to : Posted} → IsUnbegun m t.job → m.phase q ≡ Running
         → Tells m started t.job q from to Waits
-        → Tells (region_task m keys region is_part load are_cut) started (record t { stage = stage.Fresh }) (record t { stage = stage.Running q }) from to Waits
+        → Tells (region_task m keys region is_part load are_cut most) started (record t { stage = stage.Fresh }) (record t { stage = stage.Running q }) from to Waits
     tells_on_start t q {from} u runs s = record {
       moves = Moves-after (Moves-map Within-refl (λ h f. (u.fits from h, tt)) (λ h f k r a. inl a) (λ h f k w i. i) (λ h f k v g. g) s.moves) (λ h k. record { at = (k.0, runs) }) tt;
       job = record { asked = λ h r x. x; given = λ h v x. x; gave = λ h v x. x };
@@ -415,8 +415,8 @@ module _ {S R H L : Type 0} (m : Meaning S (Result R Error)) (keys : R → List 
     -- its plan ended as it was started
     pub tells_over_start : (t : RegionTask S R H) (q : S) {new : RegionTask S R H} {v : Result R Error} {from via to : Posted} {turn : Turn (Step (RegionTask S R H) R)} → IsUnbegun m t.job
         → Tells m started t.job q from via (Ends v)
-        → GoesOver (region_task m keys region is_part load are_cut) (λ h. m.gives t.job h v) t new via to turn
-        → Tells (region_task m keys region is_part load are_cut) started (record t { stage = stage.Fresh }) new from to turn
+        → GoesOver (region_task m keys region is_part load are_cut most) (λ h. m.gives t.job h v) t new via to turn
+        → Tells (region_task m keys region is_part load are_cut most) started (record t { stage = stage.Fresh }) new from to turn
     tells_over_start t q {from = from} u s over = Tells-over
         (Moves-after (Moves-map Within-refl (λ h f. (u.fits from h, tt)) (λ h f k r a. inl a) (λ h f k w i. i) (λ h f k v g. g) s.moves) (λ h k. k.1) tt)
         (record { asked = λ h r x. x; given = λ h v x. x; gave = λ h v x. x }) (begun law u.phase s.expects) over
@@ -425,7 +425,7 @@ module _ {S R H L : Type 0} (m : Meaning S (Result R Error)) (keys : R → List 
     pub tells_off_start : (t u : RegionTask S R H) (q : S) {from to : Posted} {inner : Turn (Result R Error)} {turn : Turn (Step (RegionTask S R H) R)} → IsUnbegun m t.job
         → u.job ≡ t.job → u.region ≡ t.region → u.stage ≡ stage.Stopped → turn ≡ Stopped
         → Tells m started t.job q from to inner
-        → Tells (region_task m keys region is_part load are_cut) started (record t { stage = stage.Fresh }) u from to turn
+        → Tells (region_task m keys region is_part load are_cut most) started (record t { stage = stage.Fresh }) u from to turn
     tells_off_start t u q {from} unbegun same used stops e s = record {
       moves = Moves-stops (Moves-map Within-refl (λ h f. (unbegun.fits from h, tt)) (λ h f k r a. inl a) (λ h f k w i. i) (λ h f k v g. g) s.moves) e;
       job = same_task (record t { stage = stage.Fresh }) u same used;
@@ -434,8 +434,8 @@ module _ {S R H L : Type 0} (m : Meaning S (Result R Error)) (keys : R → List 
 
     -- its search goes on
     pub tells_on_search : {told : Told} (t : RegionTask S R H) (c d : Looking S H) {from to : Posted} → cut_phase d.stage ≡ Running
-        → Tells (cutting m is_part load are_cut) told c d from to Waits
-        → Tells (region_task m keys region is_part load are_cut) told (record t { stage = stage.Cutting c }) (record t { stage = stage.Cutting d }) from to Waits
+        → Tells (cutting m is_part load are_cut most) told c d from to Waits
+        → Tells (region_task m keys region is_part load are_cut most) told (record t { stage = stage.Cutting c }) (record t { stage = stage.Cutting d }) from to Waits
     tells_on_search {told} t c d {to = to} runs s = record {
       moves = Moves-after (Moves-map {is' = TaskFits m keys region (record t { stage = stage.Cutting d }) to} told.within (λ h f. (f.0.at.0, f.1)) (λ h f k r a. inr a) (λ h f k w i. record { at = (i, runs, failed_longer m keys region law t.job h k w f.0.at.2) }) (λ h f k v g. g) s.moves) (λ h k. k.0) tt;
       job = record { asked = λ h r x. x; given = λ h v x. x; gave = λ h v x. x };
@@ -444,9 +444,9 @@ module _ {S R H L : Type 0} (m : Meaning S (Result R Error)) (keys : R → List 
 
     -- its search has ended
     pub tells_over_search : {told : Told} (t : RegionTask S R H) (c d : Looking S H) {new : RegionTask S R H} {v : Result (Vec (Part S)) Error} {from via to : Posted} {turn : Turn (Step (RegionTask S R H) R)}
-        → Tells (cutting m is_part load are_cut) told c d from via (Ends v)
-        → GoesOver (region_task m keys region is_part load are_cut) (λ h. HasFailed m keys region t.job h × UnfoundIfErr h v) t new via to turn
-        → Tells (region_task m keys region is_part load are_cut) told (record t { stage = stage.Cutting c }) new from to turn
+        → Tells (cutting m is_part load are_cut most) told c d from via (Ends v)
+        → GoesOver (region_task m keys region is_part load are_cut most) (λ h. HasFailed m keys region t.job h × UnfoundIfErr h v) t new via to turn
+        → Tells (region_task m keys region is_part load are_cut most) told (record t { stage = stage.Cutting c }) new from to turn
     tells_over_search {told} t c d s over = Tells-over
         (Moves-after (Moves-map {is' = HasFailed m keys region t.job} told.within (λ h f. (f.0.at.0, f.1)) (λ h f k r a. inr a) (λ h f k w i. failed_longer m keys region law t.job h k w f.0.at.2) (λ h f k v g. g) s.moves) (λ h k. (k.0, k.1.1)) tt)
         (record { asked = λ h r x. x; given = λ h v x. x; gave = λ h v x. x }) s.expects over
@@ -454,8 +454,8 @@ module _ {S R H L : Type 0} (m : Meaning S (Result R Error)) (keys : R → List 
     -- its search gave up
     pub tells_off_search : {told : Told} (t u : RegionTask S R H) (c d : Looking S H) {from to : Posted} {inner : Turn (Result (Vec (Part S)) Error)} {turn : Turn (Step (RegionTask S R H) R)}
         → u.job ≡ t.job → u.region ≡ t.region → u.stage ≡ stage.Stopped → turn ≡ Stopped
-        → Tells (cutting m is_part load are_cut) told c d from to inner
-        → Tells (region_task m keys region is_part load are_cut) told (record t { stage = stage.Cutting c }) u from to turn
+        → Tells (cutting m is_part load are_cut most) told c d from to inner
+        → Tells (region_task m keys region is_part load are_cut most) told (record t { stage = stage.Cutting c }) u from to turn
     tells_off_search {told} t u c d same used stops e s = record {
       moves = Moves-stops (Moves-map told.within (λ h f. (f.0.at.0, f.1)) (λ h f k r a. inr a) (λ h f k w i. i) (λ h f k v g. g) s.moves) e;
       job = same_task (record t { stage = stage.Cutting c }) u same used;
@@ -463,21 +463,21 @@ module _ {S R H L : Type 0} (m : Meaning S (Result R Error)) (keys : R → List 
     }
 
     -- a search that is begun, and goes on
-    pub over_on_search : (t : RegionTask S R H) (c d : Looking S H) {from to : Posted} → IsUnbegun (cutting m is_part load are_cut) c → cut_phase d.stage ≡ Running
-        → Tells (cutting m is_part load are_cut) started c d from to Waits
-        → GoesOver (region_task m keys region is_part load are_cut) (HasFailed m keys region t.job) t (record t { stage = stage.Cutting d }) from to Waits
+    pub over_on_search : (t : RegionTask S R H) (c d : Looking S H) {from to : Posted} → IsUnbegun (cutting m is_part load are_cut most) c → cut_phase d.stage ≡ Running
+        → Tells (cutting m is_part load are_cut most) started c d from to Waits
+        → GoesOver (region_task m keys region is_part load are_cut most) (HasFailed m keys region t.job) t (record t { stage = stage.Cutting d }) from to Waits
     over_on_search t c d {from} {to} u runs s = record {
       moves = Moves-after (Moves-map {is' = TaskFits m keys region (record t { stage = stage.Cutting d }) to} Within-refl (λ h f. (u.fits from h, tt)) (λ h f k r a. inr a) (λ h f k w i. record { at = (i, runs, failed_longer m keys region law t.job h k w f) }) (λ h f k v g. g) s.moves) (λ h k. k.0) tt;
       job = record { asked = λ h r x. x; given = λ h v x. x; gave = λ h v x. x };
-      expects = begun (cutting-lawful {H = H} m is_part load are_cut) {job = c} {q = d} u.phase s.expects;
+      expects = begun (cutting-lawful {H = H} m is_part load are_cut most) {job = c} {q = d} u.phase s.expects;
       next = refl;
     }
 
     -- a search that is begun, and gives up
-    pub over_off_search : {known : List Event → Type 0} (t u : RegionTask S R H) (c d : Looking S H) {from to : Posted} {inner : Turn (Result (Vec (Part S)) Error)} {turn : Turn (Step (RegionTask S R H) R)} → IsUnbegun (cutting m is_part load are_cut) c
+    pub over_off_search : {known : List Event → Type 0} (t u : RegionTask S R H) (c d : Looking S H) {from to : Posted} {inner : Turn (Result (Vec (Part S)) Error)} {turn : Turn (Step (RegionTask S R H) R)} → IsUnbegun (cutting m is_part load are_cut most) c
         → u.job ≡ t.job → u.region ≡ t.region → u.stage ≡ stage.Stopped → turn ≡ Stopped
-        → Tells (cutting m is_part load are_cut) started c d from to inner
-        → GoesOver (region_task m keys region is_part load are_cut) known t u from to turn
+        → Tells (cutting m is_part load are_cut most) started c d from to inner
+        → GoesOver (region_task m keys region is_part load are_cut most) known t u from to turn
     over_off_search {known} t u c d {from} unbegun same used stops e s = record {
       moves = Moves-stops (Moves-map {was' = known} Within-refl (λ h f. (unbegun.fits from h, tt)) (λ h f k r a. inr a) (λ h f k w i. i) (λ h f k v g. g) s.moves) e;
       job = same_task t u same used;
@@ -486,26 +486,26 @@ module _ {S R H L : Type 0} (m : Meaning S (Result R Error)) (keys : R → List 
     }
 
     -- a search that is begun, and ends at once
-    pub over_over_search : (t : RegionTask S R H) (c d : Looking S H) {new : RegionTask S R H} {v : Result (Vec (Part S)) Error} {from via to : Posted} {turn : Turn (Step (RegionTask S R H) R)} → IsUnbegun (cutting m is_part load are_cut) c
-        → Tells (cutting m is_part load are_cut) started c d from via (Ends v)
-        → GoesOver (region_task m keys region is_part load are_cut) (λ h. HasFailed m keys region t.job h × UnfoundIfErr h v) t new via to turn
-        → GoesOver (region_task m keys region is_part load are_cut) (HasFailed m keys region t.job) t new from to turn
+    pub over_over_search : (t : RegionTask S R H) (c d : Looking S H) {new : RegionTask S R H} {v : Result (Vec (Part S)) Error} {from via to : Posted} {turn : Turn (Step (RegionTask S R H) R)} → IsUnbegun (cutting m is_part load are_cut most) c
+        → Tells (cutting m is_part load are_cut most) started c d from via (Ends v)
+        → GoesOver (region_task m keys region is_part load are_cut most) (λ h. HasFailed m keys region t.job h × UnfoundIfErr h v) t new via to turn
+        → GoesOver (region_task m keys region is_part load are_cut most) (HasFailed m keys region t.job) t new from to turn
     over_over_search t c d {from = from} u s over = record {
       moves = Moves-then (Moves-after {B = Step (RegionTask S R H) R} {gives' = λ h v. ⊤} {q = Waits} (Moves-map {is' = HasFailed m keys region t.job} Within-refl (λ h f. (u.fits from h, tt)) (λ h f k r a. inr a) (λ h f k w i. failed_longer m keys region law t.job h k w f) (λ h f k v g. g) s.moves) (λ h k. (k.0, k.1.1)) tt)
           (Moves-before (λ h k. k.0) over.moves);
       job = over.job;
-      expects = Expects-then (begun (cutting-lawful {H = H} m is_part load are_cut) {job = c} {q = d} u.phase s.expects) (record {
+      expects = Expects-then (begun (cutting-lawful {H = H} m is_part load are_cut most) {job = c} {q = d} u.phase s.expects) (record {
         sends = over.expects.sends;
         pushed = over.expects.pushed;
-        only = λ a w. elim (over.expects.only a w) as (λ x. ((cutting {H = H} m is_part load are_cut).waits d a × (⊥ → ⊥)) ⊎ IsPosted over.expects.sends a) [ inl x ↦ absurd x.0 | inr p ↦ inr p ];
+        only = λ a w. elim (over.expects.only a w) as (λ x. ((cutting {H = H} m is_part load are_cut most).waits d a × (⊥ → ⊥)) ⊎ IsPosted over.expects.sends a) [ inl x ↦ absurd x.0 | inr p ↦ inr p ];
       });
       next = over.next;
     }
 
     -- its sleep has ended
     pub tells_wake : {told : Told} (t : RegionTask S R H) (n : ℕ) {new : RegionTask S R H} {from to : Posted} {turn : Turn (Step (RegionTask S R H) R)}
-        → GoesOver (region_task m keys region is_part load are_cut) (HasFailed m keys region t.job) t new from to turn
-        → Tells (region_task m keys region is_part load are_cut) told (record t { stage = stage.Sleeping n }) new from to turn
+        → GoesOver (region_task m keys region is_part load are_cut most) (HasFailed m keys region t.job) t new from to turn
+        → Tells (region_task m keys region is_part load are_cut most) told (record t { stage = stage.Sleeping n }) new from to turn
     tells_wake {told} t n over = Tells-over {waits = λ a. ⊥}
         (Moves-quiet refl (λ h f. failed_longer m keys region law t.job h (told.hear h) (told.within h) f.0.at.1) tt)
         (record { asked = λ h r x. x; given = λ h v x. x; gave = λ h v x. x }) (Expects-quiet (λ a w. absurd w)) over

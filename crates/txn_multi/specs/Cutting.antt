@@ -1,5 +1,5 @@
 -- A plan whose request is being cut into shards.
-use Rattle.std.specs.Prelude.{◌≡◌, ◌⊎◌, ⊤, ℕ, ◌≤◌, false, List, [], ◌∷◌, length, map, Some, Result, Ok, Err, refl}
+use Rattle.std.specs.Prelude.{◌≡◌, ◌⊎◌, ⊤, ℕ, ◌≤◌, max, false, List, [], ◌∷◌, length, map, Some, Result, Ok, Err, refl}
 use Rattle.std.proofs.Common.{inl, inr, subst, sym}
 use Rattle.std.proofs.Math.Nat.{le_refl}
 use Rattle.std.specs.List.{All}
@@ -37,15 +37,18 @@ pub record Looking (S H : Type 0) : Type 0 where
   pub stage : CutStage
   pub width : ℕ
 
--- A part of a plan, which has not begun and may be started. It costs no more than the plan.
-pub record IsPartOf {S A : Type 0} (m : Meaning S A) (is_part : S → S → Type 0) (whole part : S) : Type 0 where
+-- A part of a plan, which has not begun and may be started. It costs no more than the plan, and may have no more parts itself, one
+-- at least.
+pub record IsPartOf {S A : Type 0} (m : Meaning S A) (is_part : S → S → Type 0) (most : S → ℕ → ℕ) (whole part : S) : Type 0 where
   pub applied : IsApplied m whole part
   pub belongs : is_part part whole
+  pub fewer : (n : ℕ) → max 1 (most part n) ≤ most whole n
 
--- the parts of a plan: together they are the whole
-pub record ArePartsOf {S A L : Type 0} (m : Meaning S A) (is_part : S → S → Type 0) (load : S → L) (are_cut : L → List L → Type 0) (whole : S) (parts : List (Part S)) : Type 0 where
-  pub each : All (λ p. IsPartOf m is_part whole p.plan) parts
+-- The parts of a plan: together they are the whole. Where nothing is cut into more than n, there are no more than `most` says.
+pub record ArePartsOf {S A L : Type 0} (m : Meaning S A) (is_part : S → S → Type 0) (load : S → L) (are_cut : L → List L → Type 0) (most : S → ℕ → ℕ) (whole : S) (parts : List (Part S)) : Type 0 where
+  pub each : All (λ p. IsPartOf m is_part most whole p.plan) parts
   pub cut : are_cut (load whole) (map (λ p. load p.plan) parts)
+  pub few : (n : ℕ) → length parts ≤ n → length parts ≤ most whole n
 
 -- what came of a look-up of a place, which is refused
 pub record IsLookUpRefused (h : List Event) (why : Error) : Type 0 where
@@ -65,13 +68,13 @@ UnfoundIfErr h (Ok x) = ⊤
 UnfoundIfErr h (Err why) = WhyUnfound h why
 
 -- the parts, where all shards were found
-abbrev pub IfParts : {S A L : Type 0} → Meaning S A → (S → S → Type 0) → (S → L) → (L → List L → Type 0) → S → Result (Vec (Part S)) Error → Type 0
-IfParts m is_part load are_cut whole (Ok parts) = ArePartsOf m is_part load are_cut whole parts.items
-IfParts m is_part load are_cut whole (Err why) = ⊤
+abbrev pub IfParts : {S A L : Type 0} → Meaning S A → (S → S → Type 0) → (S → L) → (L → List L → Type 0) → (S → ℕ → ℕ) → S → Result (Vec (Part S)) Error → Type 0
+IfParts m is_part load are_cut most whole (Ok parts) = ArePartsOf m is_part load are_cut most whole parts.items
+IfParts m is_part load are_cut most whole (Err why) = ⊤
 
 -- what comes of the look-ups: the parts, or why not all shards were found
-abbrev pub GivesParts : {S A L : Type 0} → Meaning S A → (S → S → Type 0) → (S → L) → (L → List L → Type 0) → S → List Event → Result (Vec (Part S)) Error → Type 0
-GivesParts m is_part load are_cut whole h v = IfParts m is_part load are_cut whole v × UnfoundIfErr h v
+abbrev pub GivesParts : {S A L : Type 0} → Meaning S A → (S → S → Type 0) → (S → L) → (L → List L → Type 0) → (S → ℕ → ℕ) → S → List Event → Result (Vec (Part S)) Error → Type 0
+GivesParts m is_part load are_cut most whole h v = IfParts m is_part load are_cut most whole v × UnfoundIfErr h v
 
 -- no more parts than this
 abbrev pub AreWithin : {S : Type 0} → ℕ → Result (Vec (Part S)) Error → Type 0
@@ -106,11 +109,11 @@ cut_waits stage.Over a = ⊥
 cut_waits stage.Stopped a = ⊥
 
 -- The search of the shards of a plan that has not begun. It asks the placement driver alone, which is no call of a store.
-abbrev pub cutting : {S A H L : Type 0} → Meaning S A → (S → S → Type 0) → (S → L) → (L → List L → Type 0) → Meaning (Looking S H) (Result (Vec (Part S)) Error)
-cutting m is_part load are_cut = record {
+abbrev pub cutting : {S A H L : Type 0} → Meaning S A → (S → S → Type 0) → (S → L) → (L → List L → Type 0) → (S → ℕ → ℕ) → Meaning (Looking S H) (Result (Vec (Part S)) Error)
+cutting m is_part load are_cut most = record {
   fits = λ c o h. CutAt c.stage o h;
   asks = λ c h r. IsPlacement h r;
-  gives = λ c h v. GivesParts m is_part load are_cut c.plan h v;
+  gives = λ c h v. GivesParts m is_part load are_cut most c.plan h v;
   phase = λ c. cut_phase c.stage;
   waits = λ c a. cut_waits c.stage a;
   ready = λ c. IsUnbegun m c.plan;
@@ -181,8 +184,8 @@ never_timed (stage.Resting call n) ask w = cc
 never_timed stage.Over ask w = w
 never_timed stage.Stopped ask w = w
 
-pub cutting-lawful : {S A H L : Type 0} (m : Meaning S A) (is_part : S → S → Type 0) (load : S → L) (are_cut : L → List L → Type 0) → IsLawful (cutting {H = H} m is_part load are_cut)
-cutting-lawful m is_part load are_cut = record {
+pub cutting-lawful : {S A H L : Type 0} (m : Meaning S A) (is_part : S → S → Type 0) (load : S → L) (are_cut : L → List L → Type 0) (most : S → ℕ → ℕ) → IsLawful (cutting {H = H} m is_part load are_cut most)
+cutting-lawful m is_part load are_cut most = record {
   fits_longer = λ c o p h longer l w f. CutAt-longer c.stage o p h longer l w f;
   gives_longer = λ c h longer v w g. (g.0, UnfoundIfErr-longer h longer v w g.1);
   bears_more = λ c w more l b. tt;
@@ -192,8 +195,8 @@ cutting-lawful m is_part load are_cut = record {
 }
 
 -- where no look-up was made yet
-pub cutting-unbegun : {S A H L : Type 0} (m : Meaning S A) (is_part : S → S → Type 0) (load : S → L) (are_cut : L → List L → Type 0) (c : Looking S H) → c.stage ≡ stage.Fresh → IsUnbegun (cutting m is_part load are_cut) c
-cutting-unbegun m is_part load are_cut c e = record {
+pub cutting-unbegun : {S A H L : Type 0} (m : Meaning S A) (is_part : S → S → Type 0) (load : S → L) (are_cut : L → List L → Type 0) (most : S → ℕ → ℕ) (c : Looking S H) → c.stage ≡ stage.Fresh → IsUnbegun (cutting m is_part load are_cut most) c
+cutting-unbegun m is_part load are_cut most c e = record {
   phase = rw e refl;
   fits = λ o h. rw e tt;
   whole = λ n. le_refl 0;

@@ -1,4 +1,5 @@
 pub mod Cutting
+pub mod Few
 pub mod Multi
 pub mod Searching
 pub mod Shown

@@ -1,5 +1,5 @@
 -- A plan over many regions.
-use Rattle.std.specs.Prelude.{◌≡◌, ◌⊎◌, ⊤, ℕ, ◌*◌, ◌≤◌, max, Bool, true, false, List, [], ◌∷◌, map, Option, Some, None, IfSome, Result, Ok, Err, refl}
+use Rattle.std.specs.Prelude.{◌≡◌, ◌⊎◌, ⊤, ℕ, ◌≤◌, max, Bool, true, false, List, [], ◌∷◌, map, Option, Some, None, IfSome, Result, Ok, Err, refl}
 use Rattle.std.proofs.Common.{inl, inr, subst, sym}
 use Rattle.std.specs.Global.{Vec}
 use Rattle.std.specs.List.{All, AllZip}
@@ -16,7 +16,7 @@ use Rattle.txn_kv.specs.declared.errors.Error.{Error}
 use Rattle.txn_kv.specs.declared.message.RegionErr.{RegionErr}
 use Rattle.txn_kv.specs.declared.request.Request.{Request}
 use Rattle.txn_multi.specs.Cutting.{cut_phase, cut_waits, cutting, cutting-lawful, CutAt, IsPlacement, Looking, UnfoundIfErr, WhyUnfound, WhyUnfound-longer}
-use Rattle.txn_multi.specs.Task.{outcome_longer, region_task, region_task-lawful, stage_runs, IsOutcome, IsTaskOf}
+use Rattle.txn_multi.specs.Task.{outcome_longer, region_task, region_task-lawful, shared, stage_runs, IsOutcome, IsTaskOf}
 use Rattle.txn_multi.specs.declared.multi_region.RetryableMultiRegion.{RetryableMultiRegion}
 use Rattle.txn_multi.specs.declared.multi_stage.MultiStage.{MultiStage}
 use Rattle.txn_multi.specs.declared.multi_stage.MultiStage.TheVariants as stage
@@ -28,9 +28,9 @@ use Rattle.txn_tasks.specs.Tasks.{tasks_of, Outcome}
 use Rattle.txn_tasks.specs.declared.tasks.Tasks.{Tasks}
 
 -- the tasks of a plan
-abbrev pub tasks_for : {S R H L : Type 0} → Meaning S (Result R Error) → (R → List ErrorView) → (R → Option RegionErr) → (S → S → Type 0) → (S → L) → (L → List L → Type 0) → S → Meaning (Tasks (RegionTask S R H) R) (List (Outcome R))
-tasks_for m keys region is_part load are_cut inner =
-    tasks_of (region_task m keys region is_part load are_cut) (λ t. load t.job) are_cut (IsTaskOf m is_part) (λ whole n. n * m.round whole n) (λ t. stage_runs t.stage) inner (load inner)
+abbrev pub tasks_for : {S R H L : Type 0} → Meaning S (Result R Error) → (R → List ErrorView) → (R → Option RegionErr) → (S → S → Type 0) → (S → L) → (L → List L → Type 0) → (S → ℕ → ℕ) → S → Meaning (Tasks (RegionTask S R H) R) (List (Outcome R))
+tasks_for m keys region is_part load are_cut most inner =
+    tasks_of (region_task m keys region is_part load are_cut most) (λ t. load t.job) are_cut (IsTaskOf m is_part most) (λ whole n. shared m most whole n) (λ t. stage_runs t.stage) inner (load inner)
 
 -- What it answers.
 
@@ -100,26 +100,26 @@ StandsReady k inner stage.Over ts = ⊤
 StandsReady k inner stage.Stopped ts = ⊤
 
 -- a new run in each part, until the tasks run
-abbrev pub multi_left : {S A R H K B : Type 0} → Meaning S A → Meaning K B → S → MultiStage S R H → Option K → ℕ → ℕ
-multi_left m k inner stage.Fresh ts n = n * m.round inner n
-multi_left m k inner (stage.Cutting c) ts n = n * m.round inner n
-multi_left m k inner stage.Running ts n = number_of ts (λ t. k.left t n)
-multi_left m k inner stage.Over ts n = 0
-multi_left m k inner stage.Stopped ts n = 0
+abbrev pub multi_left : {S A R H K B : Type 0} → Meaning S A → (S → ℕ → ℕ) → Meaning K B → S → MultiStage S R H → Option K → ℕ → ℕ
+multi_left m most k inner stage.Fresh ts n = shared m most inner n
+multi_left m most k inner (stage.Cutting c) ts n = shared m most inner n
+multi_left m most k inner stage.Running ts n = number_of ts (λ t. k.left t n)
+multi_left m most k inner stage.Over ts n = 0
+multi_left m most k inner stage.Stopped ts n = 0
 
 -- No new run of the whole betters its answer: its tasks make new runs themselves.
-abbrev pub multi : {S R H L : Type 0} → Meaning S (Result R Error) → (R → List ErrorView) → (R → Option RegionErr) → (S → S → Type 0) → (S → L) → (L → List L → Type 0) → Meaning (RetryableMultiRegion S R H) (Result (Vec (Result R Error)) Error)
-multi {S} {R} {H} {L} m keys region is_part load are_cut = record {
-  fits = λ s o h. MultiAt m (tasks_for {H = H} m keys region is_part load are_cut s.inner) s.inner s.stage s.tasks o h;
+abbrev pub multi : {S R H L : Type 0} → Meaning S (Result R Error) → (R → List ErrorView) → (R → Option RegionErr) → (S → S → Type 0) → (S → L) → (L → List L → Type 0) → (S → ℕ → ℕ) → Meaning (RetryableMultiRegion S R H) (Result (Vec (Result R Error)) Error)
+multi {S} {R} {H} {L} m keys region is_part load are_cut most = record {
+  fits = λ s o h. MultiAt m (tasks_for {H = H} m keys region is_part load are_cut most s.inner) s.inner s.stage s.tasks o h;
   asks = λ s h r. MultiAsks m is_part s.inner h r;
   gives = λ s h v. MultiGives m keys region is_part load are_cut s.inner s.preserve_region_results h v;
   phase = λ s. multi_phase s.stage;
-  waits = λ s a. MultiWaits (tasks_for {H = H} m keys region is_part load are_cut s.inner) s.stage s.tasks a;
-  ready = λ s. IsUnbegun m s.inner × StandsReady (tasks_for {H = H} m keys region is_part load are_cut s.inner) s.inner s.stage s.tasks;
-  round = λ s n. n * m.round s.inner n;
-  left = λ s n. multi_left m (tasks_for {H = H} m keys region is_part load are_cut s.inner) s.inner s.stage s.tasks n;
-  width = λ s. max s.width (number_of s.tasks (tasks_for {H = H} m keys region is_part load are_cut s.inner).width);
-  bears = λ s w. IfSome s.tasks (λ t. (tasks_for {H = H} m keys region is_part load are_cut s.inner).bears t w);
+  waits = λ s a. MultiWaits (tasks_for {H = H} m keys region is_part load are_cut most s.inner) s.stage s.tasks a;
+  ready = λ s. IsUnbegun m s.inner × StandsReady (tasks_for {H = H} m keys region is_part load are_cut most s.inner) s.inner s.stage s.tasks;
+  round = λ s n. shared m most s.inner n;
+  left = λ s n. multi_left m most (tasks_for {H = H} m keys region is_part load are_cut most s.inner) s.inner s.stage s.tasks n;
+  width = λ s. max s.width (number_of s.tasks (tasks_for {H = H} m keys region is_part load are_cut most s.inner).width);
+  bears = λ s w. IfSome s.tasks (λ t. (tasks_for {H = H} m keys region is_part load are_cut most s.inner).bears t w);
   fails = λ v. false;
 }
 
@@ -163,15 +163,15 @@ module _ {S R : Type 0} (m : Meaning S (Result R Error)) (keys : R → List Erro
   answer_longer is_part load are_cut inner preserve h longer v w (inl g) = inl (g.0, g.1, record { cut = g.2.cut; belong = g.2.belong; each = ended_longer h longer g.0 g.1 w g.2.each }, g.3)
   answer_longer is_part load are_cut inner preserve h longer v w (inr g) = inr (g.0, g.1, WhyUnfound-longer h longer g.0 w g.2)
 
-module _ {S R H L : Type 0} (m : Meaning S (Result R Error)) (keys : R → List ErrorView) (region : R → Option RegionErr) (is_part : S → S → Type 0) (load : S → L) (are_cut : L → List L → Type 0) (law : IsLawful m) where
-  looking : IsLawful (cutting {H = H} m is_part load are_cut)
-  looking = cutting-lawful m is_part load are_cut
+module _ {S R H L : Type 0} (m : Meaning S (Result R Error)) (keys : R → List ErrorView) (region : R → Option RegionErr) (is_part : S → S → Type 0) (load : S → L) (are_cut : L → List L → Type 0) (most : S → ℕ → ℕ) (law : IsLawful m) where
+  looking : IsLawful (cutting {H = H} m is_part load are_cut most)
+  looking = cutting-lawful m is_part load are_cut most
 
-  working : (inner : S) → IsLawful (tasks_for {H = H} m keys region is_part load are_cut inner)
-  working inner = tasks-lawful (region_task m keys region is_part load are_cut) (λ t. load t.job) are_cut (IsTaskOf m is_part) (λ whole n. n * m.round whole n) (λ t. stage_runs t.stage) inner (load inner) (region_task-lawful m keys region is_part load are_cut law)
+  working : (inner : S) → IsLawful (tasks_for {H = H} m keys region is_part load are_cut most inner)
+  working inner = tasks-lawful (region_task m keys region is_part load are_cut most) (λ t. load t.job) are_cut (IsTaskOf m is_part most) (λ whole n. shared m most whole n) (λ t. stage_runs t.stage) inner (load inner) (region_task-lawful m keys region is_part load are_cut most law)
 
   at_longer : (inner : S) (g : MultiStage S R H) (ts : Option (Tasks (RegionTask S R H) R)) (o p : Posted) (h longer : List Event) → IsLater o p → Within h longer
-      → MultiAt m (tasks_for {H = H} m keys region is_part load are_cut inner) inner g ts o h → MultiAt m (tasks_for {H = H} m keys region is_part load are_cut inner) inner g ts p longer
+      → MultiAt m (tasks_for {H = H} m keys region is_part load are_cut most inner) inner g ts o h → MultiAt m (tasks_for {H = H} m keys region is_part load are_cut most inner) inner g ts p longer
   at_longer inner stage.Fresh ts o p h longer l w f = f
   at_longer inner (stage.Cutting c) ts o p h longer l w f = (looking.fits_longer c o p h longer l w f.0, f.1)
   at_longer inner stage.Running ts o p h longer l w f = holding ts (λ t x. ((working inner).fits_longer t o p h longer l w x.0, x.1)) f
@@ -179,11 +179,11 @@ module _ {S R H L : Type 0} (m : Meaning S (Result R Error)) (keys : R → List 
   at_longer inner stage.Stopped ts o p h longer l w f = tt
 
   more_borne : (inner : S) (ts : Option (Tasks (RegionTask S R H) R)) (w more : ℕ) → w ≤ more
-      → IfSome ts (λ t. (tasks_for {H = H} m keys region is_part load are_cut inner).bears t w) → IfSome ts (λ t. (tasks_for {H = H} m keys region is_part load are_cut inner).bears t more)
+      → IfSome ts (λ t. (tasks_for {H = H} m keys region is_part load are_cut most inner).bears t w) → IfSome ts (λ t. (tasks_for {H = H} m keys region is_part load are_cut most inner).bears t more)
   more_borne inner None w more l b = b
   more_borne inner (Some t) w more l b = (working inner).bears_more t w more l b
 
-  waits_running : (inner : S) (g : MultiStage S R H) (ts : Option (Tasks (RegionTask S R H) R)) (a : Awaited) → MultiWaits (tasks_for {H = H} m keys region is_part load are_cut inner) g ts a → multi_phase g ≡ Running
+  waits_running : (inner : S) (g : MultiStage S R H) (ts : Option (Tasks (RegionTask S R H) R)) (a : Awaited) → MultiWaits (tasks_for {H = H} m keys region is_part load are_cut most inner) g ts a → multi_phase g ≡ Running
   waits_running inner stage.Fresh ts a w = absurd w
   waits_running inner (stage.Cutting c) ts a w = refl
   waits_running inner stage.Running ts a w = refl
@@ -191,13 +191,13 @@ module _ {S R H L : Type 0} (m : Meaning S (Result R Error)) (keys : R → List 
   waits_running inner stage.Stopped ts a w = absurd w
 
   task_waits : (inner : S) (ts : Option (Tasks (RegionTask S R H) R)) (o : Posted) (h : List Event)
-      → Holding ts (λ t. (tasks_for {H = H} m keys region is_part load are_cut inner).fits t o h × ((tasks_for {H = H} m keys region is_part load are_cut inner).phase t ≡ Running))
-      → (a : Awaited) × Holding ts (λ t. (tasks_for {H = H} m keys region is_part load are_cut inner).waits t a)
+      → Holding ts (λ t. (tasks_for {H = H} m keys region is_part load are_cut most inner).fits t o h × ((tasks_for {H = H} m keys region is_part load are_cut most inner).phase t ≡ Running))
+      → (a : Awaited) × Holding ts (λ t. (tasks_for {H = H} m keys region is_part load are_cut most inner).waits t a)
   task_waits inner None o h f = absurd f
   task_waits inner (Some t) o h f = (working inner).waits t o h f.0 f.1
 
   something : (inner : S) (g : MultiStage S R H) (ts : Option (Tasks (RegionTask S R H) R)) (o : Posted) (h : List Event)
-      → MultiAt m (tasks_for {H = H} m keys region is_part load are_cut inner) inner g ts o h → multi_phase g ≡ Running → (a : Awaited) × MultiWaits (tasks_for {H = H} m keys region is_part load are_cut inner) g ts a
+      → MultiAt m (tasks_for {H = H} m keys region is_part load are_cut most inner) inner g ts o h → multi_phase g ≡ Running → (a : Awaited) × MultiWaits (tasks_for {H = H} m keys region is_part load are_cut most inner) g ts a
   something inner stage.Fresh ts o h f e = absurd (subst IsRunning (sym e) tt)
   something inner (stage.Cutting c) ts o h f e = looking.waits c o h f.0 f.1
   something inner stage.Running ts o h f e = task_waits inner ts o h f
@@ -205,20 +205,20 @@ module _ {S R H L : Type 0} (m : Meaning S (Result R Error)) (keys : R → List 
   something inner stage.Stopped ts o h f e = absurd (subst IsRunning (sym e) tt)
 
   task_posted : (inner : S) (ts : Option (Tasks (RegionTask S R H) R)) (o : Posted) (h : List Event) (a : Awaited)
-      → Holding ts (λ t. (tasks_for {H = H} m keys region is_part load are_cut inner).fits t o h × ((tasks_for {H = H} m keys region is_part load are_cut inner).phase t ≡ Running))
-      → Holding ts (λ t. (tasks_for {H = H} m keys region is_part load are_cut inner).waits t a) → WasPosted o h a
+      → Holding ts (λ t. (tasks_for {H = H} m keys region is_part load are_cut most inner).fits t o h × ((tasks_for {H = H} m keys region is_part load are_cut most inner).phase t ≡ Running))
+      → Holding ts (λ t. (tasks_for {H = H} m keys region is_part load are_cut most inner).waits t a) → WasPosted o h a
   task_posted inner None o h a f w = absurd f
   task_posted inner (Some t) o h a f w = (working inner).posted t o h a f.0 w
 
   was_posted : (inner : S) (g : MultiStage S R H) (ts : Option (Tasks (RegionTask S R H) R)) (o : Posted) (h : List Event) (a : Awaited)
-      → MultiAt m (tasks_for {H = H} m keys region is_part load are_cut inner) inner g ts o h → MultiWaits (tasks_for {H = H} m keys region is_part load are_cut inner) g ts a → WasPosted o h a
+      → MultiAt m (tasks_for {H = H} m keys region is_part load are_cut most inner) inner g ts o h → MultiWaits (tasks_for {H = H} m keys region is_part load are_cut most inner) g ts a → WasPosted o h a
   was_posted inner stage.Fresh ts o h a f w = absurd w
   was_posted inner (stage.Cutting c) ts o h a f w = looking.posted c o h a f.0 w
   was_posted inner stage.Running ts o h a f w = task_posted inner ts o h a f w
   was_posted inner stage.Over ts o h a f w = absurd w
   was_posted inner stage.Stopped ts o h a f w = absurd w
 
-  pub multi-lawful : IsLawful (multi {H = H} m keys region is_part load are_cut)
+  pub multi-lawful : IsLawful (multi {H = H} m keys region is_part load are_cut most)
   multi-lawful = record {
     fits_longer = λ s o p h longer l w f. at_longer s.inner s.stage s.tasks o p h longer l w f;
     gives_longer = λ s h longer v w g. answer_longer m keys region law is_part load are_cut s.inner s.preserve_region_results h longer v w g;

@@ -1,5 +1,5 @@
 -- What the search of a plan's shards does in each of its steps.
-use Rattle.std.specs.Prelude.{◌≡◌, ⊤, ◌≤◌, List, Result}
+use Rattle.std.specs.Prelude.{◌≡◌, ⊤, ℕ, ◌≤◌, List, Result}
 use Rattle.std.specs.Global.{Vec}
 use Rattle.txn_history.specs.Event.{Event}
 use Rattle.txn_history.specs.Meaning.{Expects, Meaning}
@@ -42,13 +42,13 @@ pub record IsTaken {S H : Type 0} (a : Awaited) (old new : Looking S H) (call : 
   pub same : new ≡ record old { stage = stage.Stopped }
 
 -- The search goes on, after what is known: it asks further, or ends. So far it waited for what `was` says.
-pub record LooksOn {S A H L : Type 0} (m : Meaning S A) (is_part : S → S → Type 0) (load : S → L) (are_cut : L → List L → Type 0)
+pub record LooksOn {S A H L : Type 0} (m : Meaning S A) (is_part : S → S → Type 0) (load : S → L) (are_cut : L → List L → Type 0) (most : S → ℕ → ℕ)
     (known : List Event → Type 0) (was : Awaited → Type 0) (old new : Looking S H) (from to : Posted) (turn : Turn (Result (Vec (Part S)) Error)) : Type 0 where
-  pub moves : Moves IsPlacement known (λ h. CutAt new.stage to h) (λ h. GivesParts m is_part load are_cut old.plan h) (λ h. h) from to turn
+  pub moves : Moves IsPlacement known (λ h. CutAt new.stage to h) (λ h. GivesParts m is_part load are_cut most old.plan h) (λ h. h) from to turn
   pub expects : Expects was (cut_waits new.stage) (λ a. ⊥) from to
   pub next : cut_phase new.stage ≡ phase_after turn
   pub wider : old.width ≤ new.width
-  pub parts : IfEnds turn (IfParts m is_part load are_cut old.plan)
+  pub parts : IfEnds turn (IfParts m is_part load are_cut most old.plan)
   pub wide : IfEnds turn (AreWithin new.width)
   pub plan : new.plan ≡ old.plan
   pub calls : calls to ≤ calls from

@@ -1,5 +1,5 @@
 -- One task of a plan over many regions.
-use Rattle.std.specs.Prelude.{◌≡◌, ◌≢◌, ◌⊎◌, ⊤, ℕ, ◌*◌, ◌≤◌, Bool, true, false, List, [], map, Option, Some, None, Result, Ok, Err, refl}
+use Rattle.std.specs.Prelude.{◌≡◌, ◌≢◌, ◌⊎◌, ⊤, ℕ, ◌*◌, ◌≤◌, max, Bool, true, false, List, [], map, Option, Some, None, Result, Ok, Err, refl}
 use Rattle.std.proofs.Common.{inl, inr, subst, sym}
 use Rattle.std.specs.Global.{Global}
 use Rattle.txn_history.specs.Event.{Event}
@@ -80,17 +80,17 @@ abbrev pub task_for : {S R H : Type 0} → Global → Backoff → Part S → Reg
 task_for alloc backoff part = record { job = part.plan; region = part.region; backoff = backoff; stage = stage.Fresh; width = 0; alloc = alloc }
 
 -- tasks for the parts of a job, each with a copy of one backoff
-pub record AreTasksOf {S A R H L : Type 0} (m : Meaning S A) (is_part : S → S → Type 0) (load : S → L) (are_cut : L → List L → Type 0) (job : S) (tasks : List (RegionTask S R H)) : Type 0 where
+pub record AreTasksOf {S A R H L : Type 0} (m : Meaning S A) (is_part : S → S → Type 0) (load : S → L) (are_cut : L → List L → Type 0) (most : S → ℕ → ℕ) (job : S) (tasks : List (RegionTask S R H)) : Type 0 where
   pub parts : List (Part S)
-  pub are : ArePartsOf m is_part load are_cut job parts
+  pub are : ArePartsOf m is_part load are_cut most job parts
   pub alloc : Global
   pub backoff : Backoff
   pub made : tasks ≡ map (task_for alloc backoff) parts
 
 -- What a task has come to. It is cut only once its plan has failed.
-abbrev pub StepGives : {S R H L : Type 0} → Meaning S (Result R Error) → (R → List ErrorView) → (R → Option RegionErr) → (S → S → Type 0) → (S → L) → (L → List L → Type 0) → RegionTask S R H → List Event → Step (RegionTask S R H) R → Type 0
-StepGives m keys region is_part load are_cut t h (End outcome) = IsOutcome m keys region t.region t.job h outcome
-StepGives m keys region is_part load are_cut t h (Parts tasks) = HasFailed m keys region t.job h × AreTasksOf m is_part load are_cut t.job tasks.items
+abbrev pub StepGives : {S R H L : Type 0} → Meaning S (Result R Error) → (R → List ErrorView) → (R → Option RegionErr) → (S → S → Type 0) → (S → L) → (L → List L → Type 0) → (S → ℕ → ℕ) → RegionTask S R H → List Event → Step (RegionTask S R H) R → Type 0
+StepGives m keys region is_part load are_cut most t h (End outcome) = IsOutcome m keys region t.region t.job h outcome
+StepGives m keys region is_part load are_cut most t h (Parts tasks) = HasFailed m keys region t.job h × AreTasksOf m is_part load are_cut most t.job tasks.items
 
 -- Where it stands.
 
@@ -163,40 +163,47 @@ pub record TaskReady {S A R H : Type 0} (m : Meaning S A) (t : RegionTask S R H)
 
 -- What it costs.
 
--- Once its plan has failed, it owes a new run of it in each of its parts. The tasks that it gives owe it in its place.
-abbrev pub stage_left : {S A R H : Type 0} → Meaning S A → S → Stage S R H → ℕ → ℕ
-stage_left m job stage.Fresh n = m.round job n
-stage_left m job (stage.Running p) n = m.left p n
-stage_left m job (stage.Sleeping k) n = n * m.round job n
-stage_left m job (stage.Cutting c) n = n * m.round job n
-stage_left m job stage.Cut n = n * m.round job n
-stage_left m job stage.Over n = 0
-stage_left m job stage.Stopped n = 0
+-- what a plan posts in its parts, where nothing is cut into more than n of them
+abbrev pub shared : {S A : Type 0} → Meaning S A → (S → ℕ → ℕ) → S → ℕ → ℕ
+shared m most plan n = most plan n * m.round plan n
+
+-- Once its plan has failed, it owes a new run of it in each of its parts, or in one. The tasks that it gives owe it in its place.
+abbrev pub owed : {S A : Type 0} → Meaning S A → (S → ℕ → ℕ) → S → ℕ → ℕ
+owed m most job n = max 1 (most job n) * m.round job n
+
+abbrev pub stage_left : {S A R H : Type 0} → Meaning S A → (S → ℕ → ℕ) → S → Stage S R H → ℕ → ℕ
+stage_left m most job stage.Fresh n = m.round job n
+stage_left m most job (stage.Running p) n = m.left p n
+stage_left m most job (stage.Sleeping k) n = owed m most job n
+stage_left m most job (stage.Cutting c) n = owed m most job n
+stage_left m most job stage.Cut n = owed m most job n
+stage_left m most job stage.Over n = 0
+stage_left m most job stage.Stopped n = 0
 
 abbrev pub StageBears : {S A R H : Type 0} → Meaning S A → Stage S R H → ℕ → Type 0
 StageBears m (stage.Running p) w = m.bears p w
 StageBears m _ w = ⊤
 
 -- A task for a part of a request. No new run of the whole task betters its answer: it makes new runs itself.
-abbrev pub region_task : {S R H L : Type 0} → Meaning S (Result R Error) → (R → List ErrorView) → (R → Option RegionErr) → (S → S → Type 0) → (S → L) → (L → List L → Type 0) → Meaning (RegionTask S R H) (Step (RegionTask S R H) R)
-region_task m keys region is_part load are_cut = record {
+abbrev pub region_task : {S R H L : Type 0} → Meaning S (Result R Error) → (R → List ErrorView) → (R → Option RegionErr) → (S → S → Type 0) → (S → L) → (L → List L → Type 0) → (S → ℕ → ℕ) → Meaning (RegionTask S R H) (Step (RegionTask S R H) R)
+region_task m keys region is_part load are_cut most = record {
   fits = λ t o h. TaskFits m keys region t o h;
   asks = λ t h r. TaskAsks m t.job h r;
-  gives = λ t h s. StepGives m keys region is_part load are_cut t h s;
+  gives = λ t h s. StepGives m keys region is_part load are_cut most t h s;
   phase = λ t. stage_phase t.stage;
   waits = λ t a. StageWaits m t.stage a;
   ready = λ t. TaskReady m t;
-  round = λ t n. n * m.round t.job n;
-  left = λ t n. stage_left m t.job t.stage n;
+  round = λ t n. owed m most t.job n;
+  left = λ t n. stage_left m most t.job t.stage n;
   width = λ t. t.width;
   bears = λ t w. StageBears m t.stage w;
   fails = λ s. false;
 }
 
--- a task of a plan: its plan is a part of that, and costs no more
-pub record IsTaskOf {S A R H : Type 0} (m : Meaning S A) (is_part : S → S → Type 0) (t : RegionTask S R H) (whole : S) : Type 0 where
+-- a task of a plan: its plan is a part of that, and a new run of it in its parts costs no more than that in its own
+pub record IsTaskOf {S A R H : Type 0} (m : Meaning S A) (is_part : S → S → Type 0) (most : S → ℕ → ℕ) (t : RegionTask S R H) (whole : S) : Type 0 where
   pub part : is_part t.job whole
-  pub less : (n : ℕ) → m.round t.job n ≤ m.round whole n
+  pub less : (n : ℕ) → owed m most t.job n ≤ shared m most whole n
 
 -- How a task goes on.
 
@@ -254,11 +261,11 @@ module _ {S R : Type 0} (m : Meaning S (Result R Error)) (keys : R → List Erro
   outcome_longer used job h longer (Err why) w (inr (inl r)) = inr (inl (record { error = r.error; delay = r.delay; refused = refused_longer job h longer r.error w r.refused; end = r.end }))
   outcome_longer used job h longer (Err why) w (inr (inr f)) = inr (inr (failed_longer job h longer w f.0, WhyUnfound-longer h longer why w f.1))
 
-module _ {S R H L : Type 0} (m : Meaning S (Result R Error)) (keys : R → List ErrorView) (region : R → Option RegionErr) (is_part : S → S → Type 0) (load : S → L) (are_cut : L → List L → Type 0) (law : IsLawful m) where
-  looking : IsLawful (cutting {H = H} m is_part load are_cut)
-  looking = cutting-lawful m is_part load are_cut
+module _ {S R H L : Type 0} (m : Meaning S (Result R Error)) (keys : R → List ErrorView) (region : R → Option RegionErr) (is_part : S → S → Type 0) (load : S → L) (are_cut : L → List L → Type 0) (most : S → ℕ → ℕ) (law : IsLawful m) where
+  looking : IsLawful (cutting {H = H} m is_part load are_cut most)
+  looking = cutting-lawful m is_part load are_cut most
 
-  step_longer : (t : RegionTask S R H) (h longer : List Event) (s : Step (RegionTask S R H) R) → Within h longer → StepGives m keys region is_part load are_cut t h s → StepGives m keys region is_part load are_cut t longer s
+  step_longer : (t : RegionTask S R H) (h longer : List Event) (s : Step (RegionTask S R H) R) → Within h longer → StepGives m keys region is_part load are_cut most t h s → StepGives m keys region is_part load are_cut most t longer s
   step_longer t h longer (End v) w g = outcome_longer m keys region law t.region t.job h longer v w g
   step_longer t h longer (Parts tasks) w g = (failed_longer m keys region law t.job h longer w g.0, g.1)
 
@@ -307,7 +314,7 @@ module _ {S R H L : Type 0} (m : Meaning S (Result R Error)) (keys : R → List 
   was_posted job stage.Over o h a f w = absurd w
   was_posted job stage.Stopped o h a f w = absurd w
 
-  pub region_task-lawful : IsLawful (region_task {H = H} m keys region is_part load are_cut)
+  pub region_task-lawful : IsLawful (region_task {H = H} m keys region is_part load are_cut most)
   region_task-lawful = record {
     fits_longer = λ t o p h longer l w f. record { at = at_longer t.job t.stage o p h longer l w f.at };
     gives_longer = λ t h longer s w g. step_longer t h longer s w g;

@@ -8,24 +8,28 @@ ghost use Rattle.txn_plan.specs.Arrivals.{awaited_as, locked_told, tells_error, 
 
 use crate::cutting::Cutting;
 use crate::part::Part;
+use crate::region_plan::RegionPlan;
 use txn_kv::{NoMemory, Outbox, Progress};
-use txn_plan::{Arrival, ShardPlan};
+use txn_merge::{HasKeyErrors, HasRegionError};
+use txn_plan::Arrival;
 use txn_region::PdClient;
 
 /// Tells the search of a plan's shards, which never asks for a timestamp.
-pub(crate) fn tell_cutting<P: ShardPlan, C: PdClient>(
+pub(crate) fn tell_cutting<P: RegionPlan, C: PdClient>(
     arrival: Arrival,
     search: &mut Cutting<P>,
     pd: &mut C,
     now: u64,
     out: &mut Outbox,
 ) -> Result<Progress<Vec<Part<P>>>, NoMemory>
+where
+    P::Result: HasKeyErrors + HasRegionError,
     requires ready { IsUnbegun P.meaning search.old.plan }
     requires numbers { HasNumbers out.old }
-    ensures tells { (r : Asked) → Tells (cutting P.meaning P.IsPart P.load P.AreCut) (told_by arrival out.old r) search.old search.new out.old out.new (turn_of result) }
+    ensures tells { (r : Asked) → Tells (cutting P.meaning P.IsPart P.load P.AreCut P.most) (told_by arrival out.old r) search.old search.new out.old out.new (turn_of result) }
     ensures goes { Goes (λ c. cut_phase c.stage) (cut_waits search.old.stage (awaited_as arrival)) search.old search.new out.old out.new pd.old pd.new (turn_of result) }
-    ensures counts { Counts (cutting P.meaning P.IsPart P.load P.AreCut) (tells_error arrival) (tells_failure arrival) (weight_told arrival) (locked_told arrival) search.old search.new out.old out.new (turn_of result) }
-    ensures parts { IfEnds (turn_of result) (IfParts P.meaning P.IsPart P.load P.AreCut search.old.plan) }
+    ensures counts { Counts (cutting P.meaning P.IsPart P.load P.AreCut P.most) (tells_error arrival) (tells_failure arrival) (weight_told arrival) (locked_told arrival) search.old search.new out.old out.new (turn_of result) }
+    ensures parts { IfEnds (turn_of result) (IfParts P.meaning P.IsPart P.load P.AreCut P.most search.old.plan) }
     ensures plan { search.new.plan ≡ search.old.plan }
     ensures numbers { HasNumbers out.new }
 {

@@ -22,10 +22,12 @@ ghost use Rattle.txn_tso.specs.Calling.{CallFits};
 
 use crate::cut_stage::CutStage;
 use crate::part::Part;
+use crate::region_plan::RegionPlan;
 use std::alloc::Global;
 use std::marker::Model;
 use std::mem;
 use txn_kv::{Errand, Error, NoMemory, Outbox, PdAnswer, PdQuery, Progress, Reply, Result};
+use txn_merge::{HasKeyErrors, HasRegionError};
 use txn_plan::ShardPlan;
 use txn_region::{PdClient, RegionStore};
 use txn_shard::ShardList;
@@ -58,11 +60,14 @@ impl<P: ShardPlan> Model for Cutting<P> {
     ghost invariant = { λ c. P.IsFound c.plan c.found × (length c.found.shards.items ≤ c.width) × IsOut c.stage };
 }
 
-impl<P: ShardPlan> Cutting<P> {
+impl<P: RegionPlan> Cutting<P>
+where
+    P::Result: HasKeyErrors + HasRegionError,
+{
     /// Nothing is looked up yet. Takes no memory.
     pub fn new(alloc: Global, plan: P) -> Cutting<P>
         ensures plan { result.plan ≡ plan }
-        ensures unbegun { IsUnbegun (cutting P.meaning P.IsPart P.load P.AreCut) result }
+        ensures unbegun { IsUnbegun (cutting P.meaning P.IsPart P.load P.AreCut P.most) result }
     {
         Cutting {
             plan,
@@ -82,10 +87,10 @@ impl<P: ShardPlan> Cutting<P> {
     ) -> Turn<Vec<Part<P>>>
         requires ready { IsUnbegun P.meaning self.old.plan }
         requires numbers { HasNumbers out.old }
-        ensures tells { Tells (cutting P.meaning P.IsPart P.load P.AreCut) started self.old self.new out.old out.new (turn_of result) }
+        ensures tells { Tells (cutting P.meaning P.IsPart P.load P.AreCut P.most) started self.old self.new out.old out.new (turn_of result) }
         ensures goes { Goes (λ c. cut_phase c.stage) (cut_phase self.old.stage ≡ Fresh) self.old self.new out.old out.new pd.old pd.new (turn_of result) }
-        ensures counts { Counts (cutting P.meaning P.IsPart P.load P.AreCut) false false 0 0 self.old self.new out.old out.new (turn_of result) }
-        ensures parts { IfEnds (turn_of result) (IfParts P.meaning P.IsPart P.load P.AreCut self.old.plan) }
+        ensures counts { Counts (cutting P.meaning P.IsPart P.load P.AreCut P.most) false false 0 0 self.old self.new out.old out.new (turn_of result) }
+        ensures parts { IfEnds (turn_of result) (IfParts P.meaning P.IsPart P.load P.AreCut P.most self.old.plan) }
         ensures wide { IfEnds (turn_of result) (AreWithin self.new.width) }
         ensures plan { self.new.plan ≡ self.old.plan }
         ensures ready { IsUnbegun P.meaning self.new.plan }
@@ -110,10 +115,10 @@ impl<P: ShardPlan> Cutting<P> {
     ) -> Turn<Vec<Part<P>>>
         requires ready { IsUnbegun P.meaning self.old.plan }
         requires numbers { HasNumbers out.old }
-        ensures tells { (r : Asked) → Tells (cutting P.meaning P.IsPart P.load P.AreCut) (replied (ticket_of out.old number) r reply) self.old self.new out.old out.new (turn_of result) }
+        ensures tells { (r : Asked) → Tells (cutting P.meaning P.IsPart P.load P.AreCut P.most) (replied (ticket_of out.old number) r reply) self.old self.new out.old out.new (turn_of result) }
         ensures goes { Goes (λ c. cut_phase c.stage) (cut_waits self.old.stage (ReplyTo number)) self.old self.new out.old out.new pd.old pd.new (turn_of result) }
-        ensures counts { Counts (cutting P.meaning P.IsPart P.load P.AreCut) (has_error reply) (has_region_error reply) (weight_of reply) (locked_of reply) self.old self.new out.old out.new (turn_of result) }
-        ensures parts { IfEnds (turn_of result) (IfParts P.meaning P.IsPart P.load P.AreCut self.old.plan) }
+        ensures counts { Counts (cutting P.meaning P.IsPart P.load P.AreCut P.most) (has_error reply) (has_region_error reply) (weight_of reply) (locked_of reply) self.old self.new out.old out.new (turn_of result) }
+        ensures parts { IfEnds (turn_of result) (IfParts P.meaning P.IsPart P.load P.AreCut P.most self.old.plan) }
         ensures wide { IfEnds (turn_of result) (AreWithin self.new.width) }
         ensures plan { self.new.plan ≡ self.old.plan }
         ensures ready { IsUnbegun P.meaning self.new.plan }
@@ -139,10 +144,10 @@ impl<P: ShardPlan> Cutting<P> {
     ) -> Turn<Vec<Part<P>>>
         requires ready { IsUnbegun P.meaning self.old.plan }
         requires numbers { HasNumbers out.old }
-        ensures tells { (r : Asked) → Tells (cutting P.meaning P.IsPart P.load P.AreCut) (missed (ticket_of out.old number) r) self.old self.new out.old out.new (turn_of result) }
+        ensures tells { (r : Asked) → Tells (cutting P.meaning P.IsPart P.load P.AreCut P.most) (missed (ticket_of out.old number) r) self.old self.new out.old out.new (turn_of result) }
         ensures goes { Goes (λ c. cut_phase c.stage) (cut_waits self.old.stage (ReplyTo number)) self.old self.new out.old out.new pd.old pd.new (turn_of result) }
-        ensures counts { Counts (cutting P.meaning P.IsPart P.load P.AreCut) true true 0 0 self.old self.new out.old out.new (turn_of result) }
-        ensures parts { IfEnds (turn_of result) (IfParts P.meaning P.IsPart P.load P.AreCut self.old.plan) }
+        ensures counts { Counts (cutting P.meaning P.IsPart P.load P.AreCut P.most) true true 0 0 self.old self.new out.old out.new (turn_of result) }
+        ensures parts { IfEnds (turn_of result) (IfParts P.meaning P.IsPart P.load P.AreCut P.most self.old.plan) }
         ensures wide { IfEnds (turn_of result) (AreWithin self.new.width) }
         ensures plan { self.new.plan ≡ self.old.plan }
         ensures ready { IsUnbegun P.meaning self.new.plan }
@@ -168,10 +173,10 @@ impl<P: ShardPlan> Cutting<P> {
     ) -> Turn<Vec<Part<P>>>
         requires ready { IsUnbegun P.meaning self.old.plan }
         requires numbers { HasNumbers out.old }
-        ensures tells { Tells (cutting P.meaning P.IsPart P.load P.AreCut) (woken (ticket_of out.old number)) self.old self.new out.old out.new (turn_of result) }
+        ensures tells { Tells (cutting P.meaning P.IsPart P.load P.AreCut P.most) (woken (ticket_of out.old number)) self.old self.new out.old out.new (turn_of result) }
         ensures goes { Goes (λ c. cut_phase c.stage) (cut_waits self.old.stage (EndOf number)) self.old self.new out.old out.new pd.old pd.new (turn_of result) }
-        ensures counts { Counts (cutting P.meaning P.IsPart P.load P.AreCut) false false 0 0 self.old self.new out.old out.new (turn_of result) }
-        ensures parts { IfEnds (turn_of result) (IfParts P.meaning P.IsPart P.load P.AreCut self.old.plan) }
+        ensures counts { Counts (cutting P.meaning P.IsPart P.load P.AreCut P.most) false false 0 0 self.old self.new out.old out.new (turn_of result) }
+        ensures parts { IfEnds (turn_of result) (IfParts P.meaning P.IsPart P.load P.AreCut P.most self.old.plan) }
         ensures wide { IfEnds (turn_of result) (AreWithin self.new.width) }
         ensures plan { self.new.plan ≡ self.old.plan }
         ensures ready { IsUnbegun P.meaning self.new.plan }
@@ -250,7 +255,7 @@ impl<P: ShardPlan> Cutting<P> {
         requires waits { turn_of turn ≡ Waits → AwaitsLast call out.old }
         requires numbers { HasNumbers out.old }
         ensures stops { turn_of turn ≡ Stopped → (turn_of result ≡ Stopped) × (out.new ≡ out.old) }
-        ensures on { LooksOn P.meaning P.IsPart P.load P.AreCut (Knows (turn_of turn) (λ h. CallFits call out.old h) (λ h v. looked_up.gives call h v)) (call_waits call.stage) self.old self.new out.old out.new (turn_of result) }
+        ensures on { LooksOn P.meaning P.IsPart P.load P.AreCut P.most (Knows (turn_of turn) (λ h. CallFits call out.old h) (λ h v. looked_up.gives call h v)) (call_waits call.stage) self.old self.new out.old out.new (turn_of result) }
     {
         match turn? {
             Progress::Waiting => self.wait(call, out),
@@ -293,7 +298,7 @@ impl<P: ShardPlan> Cutting<P> {
         requires ready { IsUnbegun P.meaning self.old.plan }
         requires place { IsPlaceQuery call.query }
         requires numbers { HasNumbers out.old }
-        ensures on { LooksOn P.meaning P.IsPart P.load P.AreCut (λ h. looked_up.gives call h answer) (λ a. ⊥) self.old self.new out.old out.new (turn_of result) }
+        ensures on { LooksOn P.meaning P.IsPart P.load P.AreCut P.most (λ h. looked_up.gives call h answer) (λ a. ⊥) self.old self.new out.old out.new (turn_of result) }
     {
         match pd.learn(call.query(), &answer) {
             Ok(()) => self.look(pd, now, out),
@@ -306,7 +311,7 @@ impl<P: ShardPlan> Cutting<P> {
         requires stopped { self.old.stage ≡ CutStage.Stopped }
         requires ready { IsUnbegun P.meaning self.old.plan }
         requires numbers { HasNumbers out.old }
-        ensures on { LooksOn P.meaning P.IsPart P.load P.AreCut (λ h. ⊤) (λ a. ⊥) self.old self.new out.old out.new (turn_of result) }
+        ensures on { LooksOn P.meaning P.IsPart P.load P.AreCut P.most (λ h. ⊤) (λ a. ⊥) self.old self.new out.old out.new (turn_of result) }
     {
         match self.find(pd) {
             Ok(Some(query)) => self.ask(query, pd, now, out),
@@ -339,7 +344,7 @@ impl<P: ShardPlan> Cutting<P> {
         requires stopped { self.old.stage ≡ CutStage.Stopped }
         requires place { IsPlaceQuery query }
         requires numbers { HasNumbers out.old }
-        ensures on { LooksOn P.meaning P.IsPart P.load P.AreCut (λ h. ⊤) (λ a. ⊥) self.old self.new out.old out.new (turn_of result) }
+        ensures on { LooksOn P.meaning P.IsPart P.load P.AreCut P.most (λ h. ⊤) (λ a. ⊥) self.old self.new out.old out.new (turn_of result) }
     {
         let mut call = pd.call(query);
         let progress = call.start(pd.retry_client(), now, out)?;
@@ -352,7 +357,7 @@ impl<P: ShardPlan> Cutting<P> {
         requires stopped { self.old.stage ≡ CutStage.Stopped }
         requires ready { IsUnbegun P.meaning self.old.plan }
         requires all { P.AreCut (P.load self.old.plan) (map P.load_of (shards_of self.old.found)) }
-        ensures on { (o : Posted) → LooksOn P.meaning P.IsPart P.load P.AreCut (λ h. ⊤) (λ a. ⊥) self.old self.new o o (turn_of result) }
+        ensures on { (o : Posted) → LooksOn P.meaning P.IsPart P.load P.AreCut P.most (λ h. ⊤) (λ a. ⊥) self.old self.new o o (turn_of result) }
     {
         let found = mem::replace(&mut self.found, ShardList::new(self.alloc));
         match parts_of(self.alloc, &self.plan, found.shards) {
@@ -364,7 +369,7 @@ impl<P: ShardPlan> Cutting<P> {
     /// An error as the answer. Want of memory is none.
     fn refuse(&mut self, error: Error) -> Turn<Vec<Part<P>>>
         requires stopped { self.old.stage ≡ CutStage.Stopped }
-        ensures on { (o : Posted) → LooksOn P.meaning P.IsPart P.load P.AreCut (λ h. OrStarved (WhyUnfound h) error) (λ a. ⊥) self.old self.new o o (turn_of result) }
+        ensures on { (o : Posted) → LooksOn P.meaning P.IsPart P.load P.AreCut P.most (λ h. OrStarved (WhyUnfound h) error) (λ a. ⊥) self.old self.new o o (turn_of result) }
     {
         match error {
             Error::OutOfMemory => Err(NoMemory),

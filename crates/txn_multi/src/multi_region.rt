@@ -68,8 +68,8 @@ where
     ) -> RetryableMultiRegion<P>
         requires unbegun { IsUnbegun P.meaning inner }
         ensures value { result ≡ record { inner = inner; backoff = backoff; preserve_region_results = preserve_region_results; stage = MultiStage.Fresh; tasks = None; width = 0; alloc = alloc } }
-        ensures unbegun { IsUnbegun (multi P.meaning P.Result.key_errors_in P.Result.region_error_in P.IsPart P.load P.AreCut) result }
-        ensures ready { (multi P.meaning P.Result.key_errors_in P.Result.region_error_in P.IsPart P.load P.AreCut).ready result }
+        ensures unbegun { IsUnbegun (multi P.meaning P.Result.key_errors_in P.Result.region_error_in P.IsPart P.load P.AreCut P.most) result }
+        ensures ready { (multi P.meaning P.Result.key_errors_in P.Result.region_error_in P.IsPart P.load P.AreCut P.most).ready result }
     {
         RetryableMultiRegion {
             inner,
@@ -84,7 +84,7 @@ where
 
     /// The most parts that its request, or a part of it, was cut into so far.
     pub fn width(&self) -> usize
-        ensures { result ≡ (multi P.meaning P.Result.key_errors_in P.Result.region_error_in P.IsPart P.load P.AreCut).width self.now }
+        ensures { result ≡ (multi P.meaning P.Result.key_errors_in P.Result.region_error_in P.IsPart P.load P.AreCut P.most).width self.now }
     {
         match &self.tasks {
             Some(tasks) => most_parts(self.width, tasks.tasks()),
@@ -124,14 +124,14 @@ where
         now: u64,
         out: &mut Outbox,
     ) -> Turn<P>
-        requires ready { (multi P.meaning P.Result.key_errors_in P.Result.region_error_in P.IsPart P.load P.AreCut).ready self.old }
+        requires ready { (multi P.meaning P.Result.key_errors_in P.Result.region_error_in P.IsPart P.load P.AreCut P.most).ready self.old }
         requires arrives { MayArrive arrival }
         requires numbers { HasNumbers out.old }
         requires clock { now < 2 ^ 44 }
-        ensures tells { (r : Asked) → Tells (multi P.meaning P.Result.key_errors_in P.Result.region_error_in P.IsPart P.load P.AreCut) (told_by arrival out.old r) self.old self.new out.old out.new (turn_of result) }
-        ensures goes { Goes (multi P.meaning P.Result.key_errors_in P.Result.region_error_in P.IsPart P.load P.AreCut).phase ((multi P.meaning P.Result.key_errors_in P.Result.region_error_in P.IsPart P.load P.AreCut).waits self.old (awaited_as arrival)) self.old self.new out.old out.new pd.old pd.new (turn_of result) }
-        ensures counts { Counts (multi P.meaning P.Result.key_errors_in P.Result.region_error_in P.IsPart P.load P.AreCut) (tells_error arrival) (tells_failure arrival) (weight_told arrival) (locked_told arrival) self.old self.new out.old out.new (turn_of result) }
-        ensures ready { (multi P.meaning P.Result.key_errors_in P.Result.region_error_in P.IsPart P.load P.AreCut).ready self.new }
+        ensures tells { (r : Asked) → Tells (multi P.meaning P.Result.key_errors_in P.Result.region_error_in P.IsPart P.load P.AreCut P.most) (told_by arrival out.old r) self.old self.new out.old out.new (turn_of result) }
+        ensures goes { Goes (multi P.meaning P.Result.key_errors_in P.Result.region_error_in P.IsPart P.load P.AreCut P.most).phase ((multi P.meaning P.Result.key_errors_in P.Result.region_error_in P.IsPart P.load P.AreCut P.most).waits self.old (awaited_as arrival)) self.old self.new out.old out.new pd.old pd.new (turn_of result) }
+        ensures counts { Counts (multi P.meaning P.Result.key_errors_in P.Result.region_error_in P.IsPart P.load P.AreCut P.most) (tells_error arrival) (tells_failure arrival) (weight_told arrival) (locked_told arrival) self.old self.new out.old out.new (turn_of result) }
+        ensures ready { (multi P.meaning P.Result.key_errors_in P.Result.region_error_in P.IsPart P.load P.AreCut P.most).ready self.new }
         ensures numbers { HasNumbers out.new }
     {
         match mem::replace(&mut self.stage, MultiStage::Stopped) {
@@ -148,8 +148,8 @@ where
         requires none { self.old.tasks ≡ None }
         requires numbers { HasNumbers out.old }
         requires clock { now < 2 ^ 44 }
-        ensures begins { Begins (multi P.meaning P.Result.key_errors_in P.Result.region_error_in P.IsPart P.load P.AreCut) (λ h. ⊤) (record self.old { stage = MultiStage.Fresh }) self.new out.old out.new (turn_of result) }
-        ensures ready { (multi P.meaning P.Result.key_errors_in P.Result.region_error_in P.IsPart P.load P.AreCut).ready self.new }
+        ensures begins { Begins (multi P.meaning P.Result.key_errors_in P.Result.region_error_in P.IsPart P.load P.AreCut P.most) (λ h. ⊤) (record self.old { stage = MultiStage.Fresh }) self.new out.old out.new (turn_of result) }
+        ensures ready { (multi P.meaning P.Result.key_errors_in P.Result.region_error_in P.IsPart P.load P.AreCut P.most).ready self.new }
         ensures numbers { HasNumbers out.new }
     {
         let inner = self.inner.try_clone()?;
@@ -174,10 +174,10 @@ where
         requires running { cut_phase cutting.stage ≡ Running }
         requires numbers { HasNumbers out.old }
         requires clock { now < 2 ^ 44 }
-        ensures tells { (r : Asked) → Tells (multi P.meaning P.Result.key_errors_in P.Result.region_error_in P.IsPart P.load P.AreCut) (told_by arrival out.old r) (record self.old { stage = MultiStage.Cutting cutting }) self.new out.old out.new (turn_of result) }
-        ensures goes { Goes (multi P.meaning P.Result.key_errors_in P.Result.region_error_in P.IsPart P.load P.AreCut).phase (cut_waits cutting.stage (awaited_as arrival)) (record self.old { stage = MultiStage.Cutting cutting }) self.new out.old out.new pd.old pd.new (turn_of result) }
-        ensures counts { Counts (multi P.meaning P.Result.key_errors_in P.Result.region_error_in P.IsPart P.load P.AreCut) (tells_error arrival) (tells_failure arrival) (weight_told arrival) (locked_told arrival) (record self.old { stage = MultiStage.Cutting cutting }) self.new out.old out.new (turn_of result) }
-        ensures ready { (multi P.meaning P.Result.key_errors_in P.Result.region_error_in P.IsPart P.load P.AreCut).ready self.new }
+        ensures tells { (r : Asked) → Tells (multi P.meaning P.Result.key_errors_in P.Result.region_error_in P.IsPart P.load P.AreCut P.most) (told_by arrival out.old r) (record self.old { stage = MultiStage.Cutting cutting }) self.new out.old out.new (turn_of result) }
+        ensures goes { Goes (multi P.meaning P.Result.key_errors_in P.Result.region_error_in P.IsPart P.load P.AreCut P.most).phase (cut_waits cutting.stage (awaited_as arrival)) (record self.old { stage = MultiStage.Cutting cutting }) self.new out.old out.new pd.old pd.new (turn_of result) }
+        ensures counts { Counts (multi P.meaning P.Result.key_errors_in P.Result.region_error_in P.IsPart P.load P.AreCut P.most) (tells_error arrival) (tells_failure arrival) (weight_told arrival) (locked_told arrival) (record self.old { stage = MultiStage.Cutting cutting }) self.new out.old out.new (turn_of result) }
+        ensures ready { (multi P.meaning P.Result.key_errors_in P.Result.region_error_in P.IsPart P.load P.AreCut P.most).ready self.new }
         ensures numbers { HasNumbers out.new }
     {
         let mut cutting = cutting;
@@ -199,11 +199,11 @@ where
         requires none { self.old.tasks ≡ None }
         requires same { cutting.plan ≡ self.old.inner }
         requires running { turn_of turn ≡ Waits → cut_phase cutting.stage ≡ Running }
-        requires parts { IfEnds (turn_of turn) (IfParts P.meaning P.IsPart P.load P.AreCut self.old.inner) }
+        requires parts { IfEnds (turn_of turn) (IfParts P.meaning P.IsPart P.load P.AreCut P.most self.old.inner) }
         requires numbers { HasNumbers out.old }
         requires clock { now < 2 ^ 44 }
-        ensures after { AfterCut (multi P.meaning P.Result.key_errors_in P.Result.region_error_in P.IsPart P.load P.AreCut) (turn_of turn) cutting self.old self.new out.old out.new pd.old pd.new (turn_of result) }
-        ensures ready { (multi P.meaning P.Result.key_errors_in P.Result.region_error_in P.IsPart P.load P.AreCut).ready self.new }
+        ensures after { AfterCut (multi P.meaning P.Result.key_errors_in P.Result.region_error_in P.IsPart P.load P.AreCut P.most) (turn_of turn) cutting self.old self.new out.old out.new pd.old pd.new (turn_of result) }
+        ensures ready { (multi P.meaning P.Result.key_errors_in P.Result.region_error_in P.IsPart P.load P.AreCut P.most).ready self.new }
         ensures numbers { HasNumbers out.new }
     {
         match turn? {
@@ -227,11 +227,11 @@ where
         requires stopped { self.old.stage ≡ MultiStage.Stopped }
         requires inner { IsUnbegun P.meaning self.old.inner }
         requires none { self.old.tasks ≡ None }
-        requires parts { ArePartsOf P.meaning P.IsPart P.load P.AreCut self.old.inner parts.items }
+        requires parts { ArePartsOf P.meaning P.IsPart P.load P.AreCut P.most self.old.inner parts.items }
         requires numbers { HasNumbers out.old }
         requires clock { now < 2 ^ 44 }
-        ensures begins { Begins (multi P.meaning P.Result.key_errors_in P.Result.region_error_in P.IsPart P.load P.AreCut) (λ h. ⊤) (record self.old { stage = MultiStage.Fresh }) self.new out.old out.new (turn_of result) }
-        ensures ready { (multi P.meaning P.Result.key_errors_in P.Result.region_error_in P.IsPart P.load P.AreCut).ready self.new }
+        ensures begins { Begins (multi P.meaning P.Result.key_errors_in P.Result.region_error_in P.IsPart P.load P.AreCut P.most) (λ h. ⊤) (record self.old { stage = MultiStage.Fresh }) self.new out.old out.new (turn_of result) }
+        ensures ready { (multi P.meaning P.Result.key_errors_in P.Result.region_error_in P.IsPart P.load P.AreCut P.most).ready self.new }
         ensures numbers { HasNumbers out.new }
     {
         self.width = self.width.max(parts.len());
@@ -252,14 +252,14 @@ where
     ) -> Turn<P>
         requires stopped { self.old.stage ≡ MultiStage.Stopped }
         requires inner { IsUnbegun P.meaning self.old.inner }
-        requires tasks { Holding self.old.tasks (λ t. (tasks_for P.meaning P.Result.key_errors_in P.Result.region_error_in P.IsPart P.load P.AreCut self.old.inner).ready t × (tasks_phase t.stage ≡ Running)) }
+        requires tasks { Holding self.old.tasks (λ t. (tasks_for P.meaning P.Result.key_errors_in P.Result.region_error_in P.IsPart P.load P.AreCut P.most self.old.inner).ready t × (tasks_phase t.stage ≡ Running)) }
         requires arrives { MayArrive arrival }
         requires numbers { HasNumbers out.old }
         requires clock { now < 2 ^ 44 }
-        ensures tells { (r : Asked) → Tells (multi P.meaning P.Result.key_errors_in P.Result.region_error_in P.IsPart P.load P.AreCut) (told_by arrival out.old r) (record self.old { stage = MultiStage.Running }) self.new out.old out.new (turn_of result) }
-        ensures goes { Goes (multi P.meaning P.Result.key_errors_in P.Result.region_error_in P.IsPart P.load P.AreCut).phase (Holding self.old.tasks (λ t. LeadsSomewhere t (awaited_as arrival))) (record self.old { stage = MultiStage.Running }) self.new out.old out.new pd.old pd.new (turn_of result) }
-        ensures counts { Counts (multi P.meaning P.Result.key_errors_in P.Result.region_error_in P.IsPart P.load P.AreCut) (tells_error arrival) (tells_failure arrival) (weight_told arrival) (locked_told arrival) (record self.old { stage = MultiStage.Running }) self.new out.old out.new (turn_of result) }
-        ensures ready { (multi P.meaning P.Result.key_errors_in P.Result.region_error_in P.IsPart P.load P.AreCut).ready self.new }
+        ensures tells { (r : Asked) → Tells (multi P.meaning P.Result.key_errors_in P.Result.region_error_in P.IsPart P.load P.AreCut P.most) (told_by arrival out.old r) (record self.old { stage = MultiStage.Running }) self.new out.old out.new (turn_of result) }
+        ensures goes { Goes (multi P.meaning P.Result.key_errors_in P.Result.region_error_in P.IsPart P.load P.AreCut P.most).phase (Holding self.old.tasks (λ t. LeadsSomewhere t (awaited_as arrival))) (record self.old { stage = MultiStage.Running }) self.new out.old out.new pd.old pd.new (turn_of result) }
+        ensures counts { Counts (multi P.meaning P.Result.key_errors_in P.Result.region_error_in P.IsPart P.load P.AreCut P.most) (tells_error arrival) (tells_failure arrival) (weight_told arrival) (locked_told arrival) (record self.old { stage = MultiStage.Running }) self.new out.old out.new (turn_of result) }
+        ensures ready { (multi P.meaning P.Result.key_errors_in P.Result.region_error_in P.IsPart P.load P.AreCut P.most).ready self.new }
         ensures numbers { HasNumbers out.new }
     {
         let Some(tasks) = &mut self.tasks else {
@@ -329,14 +329,14 @@ fn tell<P: RegionPlan, C: PdClient>(
 ) -> TasksTurn<P>
 where
     P::Result: HasKeyErrors + HasRegionError,
-    requires ready { AreReady (region_task P.meaning P.Result.key_errors_in P.Result.region_error_in P.IsPart P.load P.AreCut) (λ t. stage_runs t.stage) tasks.old }
+    requires ready { AreReady (region_task P.meaning P.Result.key_errors_in P.Result.region_error_in P.IsPart P.load P.AreCut P.most) (λ t. stage_runs t.stage) tasks.old }
     requires arrives { MayArrive arrival }
     requires numbers { HasNumbers out.old }
     requires clock { now < 2 ^ 44 }
-    ensures tells { (inner : P) (r : Asked) → Tells (tasks_for P.meaning P.Result.key_errors_in P.Result.region_error_in P.IsPart P.load P.AreCut inner) (told_by arrival out.old r) tasks.old tasks.new out.old out.new (tasks_turn result) }
+    ensures tells { (inner : P) (r : Asked) → Tells (tasks_for P.meaning P.Result.key_errors_in P.Result.region_error_in P.IsPart P.load P.AreCut P.most inner) (told_by arrival out.old r) tasks.old tasks.new out.old out.new (tasks_turn result) }
     ensures goes { Goes (λ t. tasks_phase t.stage) (LeadsSomewhere tasks.old (awaited_as arrival)) tasks.old tasks.new out.old out.new pd.old pd.new (tasks_turn result) }
-    ensures counts { (inner : P) → Counts (tasks_for P.meaning P.Result.key_errors_in P.Result.region_error_in P.IsPart P.load P.AreCut inner) (tells_error arrival) (tells_failure arrival) (weight_told arrival) (locked_told arrival) tasks.old tasks.new out.old out.new (tasks_turn result) }
-    ensures ready { AreReady (region_task P.meaning P.Result.key_errors_in P.Result.region_error_in P.IsPart P.load P.AreCut) (λ t. stage_runs t.stage) tasks.new }
+    ensures counts { (inner : P) → Counts (tasks_for P.meaning P.Result.key_errors_in P.Result.region_error_in P.IsPart P.load P.AreCut P.most inner) (tells_error arrival) (tells_failure arrival) (weight_told arrival) (locked_told arrival) tasks.old tasks.new out.old out.new (tasks_turn result) }
+    ensures ready { AreReady (region_task P.meaning P.Result.key_errors_in P.Result.region_error_in P.IsPart P.load P.AreCut P.most) (λ t. stage_runs t.stage) tasks.new }
     ensures numbers { HasNumbers out.new }
 {
     match arrival {
@@ -353,7 +353,7 @@ where
 {
     type Result = Vec<Result<P::Result>>;
 
-    ghost meaning = { multi P.meaning P.Result.key_errors_in P.Result.region_error_in P.IsPart P.load P.AreCut };
+    ghost meaning = { multi P.meaning P.Result.key_errors_in P.Result.region_error_in P.IsPart P.load P.AreCut P.most };
 
     /// A plan that has begun has no copy: it is refused as if for want of memory.
     fn try_clone(&self) -> std::result::Result<RetryableMultiRegion<P>, NoMemory> {
@@ -420,5 +420,5 @@ where
         self.tell(Arrival::Time { ask, answer }, pd, now, out)
     }
 
-    ghost lawful = { multi-lawful P.meaning P.Result.key_errors_in P.Result.region_error_in P.IsPart P.load P.AreCut P.lawful };
+    ghost lawful = { multi-lawful P.meaning P.Result.key_errors_in P.Result.region_error_in P.IsPart P.load P.AreCut P.most P.lawful };
 }

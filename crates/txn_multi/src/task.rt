@@ -1,6 +1,5 @@
 //! One task of a plan over many regions.
-ghost use Rattle.std.proofs.Math.Nat.{mul-le-mul_left};
-ghost use Rattle.std.specs.Prelude.{◌≡◌, ◌<◌, ◌^◌, ◌*◌, ℕ, Bool, IfOk, Ok, Err, OnOk, false, map, max, true};
+ghost use Rattle.std.specs.Prelude.{◌≡◌, ◌<◌, ◌^◌, ℕ, Bool, IfOk, Ok, Err, OnOk, false, map, max, true};
 ghost use Rattle.txn_history.specs.Meaning.{started, Counts, Goes, Tells};
 ghost use Rattle.txn_history.specs.Phase.{phase_after, unheard};
 ghost use Rattle.txn_history.specs.Phase.Awaited.{EndOf};
@@ -10,7 +9,7 @@ ghost use Rattle.txn_history.specs.Turn.{IfEnds};
 ghost use Rattle.txn_kv.specs.declared.errors.Error.TheVariants.{GrpcAPI};
 ghost use Rattle.txn_kv.specs.declared.request.Request.{Request as Asked};
 ghost use Rattle.txn_multi.specs.Cutting.{cut_phase, cut_waits, ArePartsOf, IfParts, UnfoundIfErr};
-ghost use Rattle.txn_multi.specs.Task.{region_task, region_task-lawful, runs_running, stage_phase, stage_runs, task_for, CostsOver, GoesOver, HasFailed, IsChanged, IsOutcome, IsReady, IsRefused, IsTaskOf, IsUnderWay, MayGoOn, TaskReady};
+ghost use Rattle.txn_multi.specs.Task.{owed, region_task, region_task-lawful, runs_running, shared, stage_phase, stage_runs, task_for, CostsOver, GoesOver, HasFailed, IsChanged, IsOutcome, IsReady, IsRefused, IsTaskOf, IsUnderWay, MayGoOn, TaskReady};
 ghost use Rattle.txn_plan.specs.Arrivals.{awaited_as, locked_told, tells_error, tells_failure, told_by, weight_told, MayArrive};
 ghost use Rattle.txn_tasks.specs.Step.{step_turn, IsEnd, Keeps};
 ghost use Rattle.txn_tasks.specs.Tasks.{greatest};
@@ -81,10 +80,10 @@ where
         requires job { IsReady P.meaning self.old.job }
         requires numbers { HasNumbers out.old }
         requires clock { now < 2 ^ 44 }
-        ensures tells { Tells (region_task P.meaning P.Result.key_errors_in P.Result.region_error_in P.IsPart P.load P.AreCut) started (record self.old { stage = Stage.Fresh }) self.new out.old out.new (step_turn result) }
+        ensures tells { Tells (region_task P.meaning P.Result.key_errors_in P.Result.region_error_in P.IsPart P.load P.AreCut P.most) started (record self.old { stage = Stage.Fresh }) self.new out.old out.new (step_turn result) }
         ensures next { stage_phase self.new.stage ≡ phase_after (step_turn result) }
-        ensures counts { Counts (region_task P.meaning P.Result.key_errors_in P.Result.region_error_in P.IsPart P.load P.AreCut) false false 0 0 (record self.old { stage = Stage.Fresh }) self.new out.old out.new (step_turn result) }
-        ensures keeps { Keeps (region_task P.meaning P.Result.key_errors_in P.Result.region_error_in P.IsPart P.load P.AreCut) (λ t. P.load t.job) P.AreCut (IsTaskOf P.meaning P.IsPart) (λ t. stage_runs t.stage) self.old self.new (step_turn result) }
+        ensures counts { Counts (region_task P.meaning P.Result.key_errors_in P.Result.region_error_in P.IsPart P.load P.AreCut P.most) false false 0 0 (record self.old { stage = Stage.Fresh }) self.new out.old out.new (step_turn result) }
+        ensures keeps { Keeps (region_task P.meaning P.Result.key_errors_in P.Result.region_error_in P.IsPart P.load P.AreCut P.most) (λ t. P.load t.job) P.AreCut (IsTaskOf P.meaning P.IsPart P.most) (λ t. stage_runs t.stage) self.old self.new (step_turn result) }
         ensures ends { IfEnds (step_turn result) IsEnd }
         ensures ready { TaskReady P.meaning self.new }
         ensures numbers { HasNumbers out.new }
@@ -111,10 +110,10 @@ where
         requires arrives { MayArrive arrival }
         requires numbers { HasNumbers out.old }
         requires clock { now < 2 ^ 44 }
-        ensures tells { (r : Asked) → Tells (region_task P.meaning P.Result.key_errors_in P.Result.region_error_in P.IsPart P.load P.AreCut) (told_by arrival out.old r) self.old self.new out.old out.new (step_turn result) }
-        ensures goes { Goes (region_task P.meaning P.Result.key_errors_in P.Result.region_error_in P.IsPart P.load P.AreCut).phase ((region_task P.meaning P.Result.key_errors_in P.Result.region_error_in P.IsPart P.load P.AreCut).waits self.old (awaited_as arrival)) self.old self.new out.old out.new pd.old pd.new (step_turn result) }
-        ensures counts { Counts (region_task P.meaning P.Result.key_errors_in P.Result.region_error_in P.IsPart P.load P.AreCut) (tells_error arrival) (tells_failure arrival) (weight_told arrival) (locked_told arrival) self.old self.new out.old out.new (step_turn result) }
-        ensures keeps { Keeps (region_task P.meaning P.Result.key_errors_in P.Result.region_error_in P.IsPart P.load P.AreCut) (λ t. P.load t.job) P.AreCut (IsTaskOf P.meaning P.IsPart) (λ t. stage_runs t.stage) self.old self.new (step_turn result) }
+        ensures tells { (r : Asked) → Tells (region_task P.meaning P.Result.key_errors_in P.Result.region_error_in P.IsPart P.load P.AreCut P.most) (told_by arrival out.old r) self.old self.new out.old out.new (step_turn result) }
+        ensures goes { Goes (region_task P.meaning P.Result.key_errors_in P.Result.region_error_in P.IsPart P.load P.AreCut P.most).phase ((region_task P.meaning P.Result.key_errors_in P.Result.region_error_in P.IsPart P.load P.AreCut P.most).waits self.old (awaited_as arrival)) self.old self.new out.old out.new pd.old pd.new (step_turn result) }
+        ensures counts { Counts (region_task P.meaning P.Result.key_errors_in P.Result.region_error_in P.IsPart P.load P.AreCut P.most) (tells_error arrival) (tells_failure arrival) (weight_told arrival) (locked_told arrival) self.old self.new out.old out.new (step_turn result) }
+        ensures keeps { Keeps (region_task P.meaning P.Result.key_errors_in P.Result.region_error_in P.IsPart P.load P.AreCut P.most) (λ t. P.load t.job) P.AreCut (IsTaskOf P.meaning P.IsPart P.most) (λ t. stage_runs t.stage) self.old self.new (step_turn result) }
         ensures off { stage_runs self.old.stage ≡ false → stage_runs self.new.stage ≡ false }
         ensures ready { TaskReady P.meaning self.new }
         ensures numbers { HasNumbers out.new }
@@ -142,10 +141,10 @@ where
         requires arrives { MayArrive arrival }
         requires numbers { HasNumbers out.old }
         requires clock { now < 2 ^ 44 }
-        ensures tells { (r : Asked) → Tells (region_task P.meaning P.Result.key_errors_in P.Result.region_error_in P.IsPart P.load P.AreCut) (told_by arrival out.old r) (record self.old { stage = Stage.Running plan }) self.new out.old out.new (step_turn result) }
-        ensures goes { Goes (region_task P.meaning P.Result.key_errors_in P.Result.region_error_in P.IsPart P.load P.AreCut).phase (P.meaning.waits plan (awaited_as arrival)) (record self.old { stage = Stage.Running plan }) self.new out.old out.new pd.old pd.new (step_turn result) }
-        ensures counts { Counts (region_task P.meaning P.Result.key_errors_in P.Result.region_error_in P.IsPart P.load P.AreCut) (tells_error arrival) (tells_failure arrival) (weight_told arrival) (locked_told arrival) (record self.old { stage = Stage.Running plan }) self.new out.old out.new (step_turn result) }
-        ensures keeps { Keeps (region_task P.meaning P.Result.key_errors_in P.Result.region_error_in P.IsPart P.load P.AreCut) (λ t. P.load t.job) P.AreCut (IsTaskOf P.meaning P.IsPart) (λ t. stage_runs t.stage) self.old self.new (step_turn result) }
+        ensures tells { (r : Asked) → Tells (region_task P.meaning P.Result.key_errors_in P.Result.region_error_in P.IsPart P.load P.AreCut P.most) (told_by arrival out.old r) (record self.old { stage = Stage.Running plan }) self.new out.old out.new (step_turn result) }
+        ensures goes { Goes (region_task P.meaning P.Result.key_errors_in P.Result.region_error_in P.IsPart P.load P.AreCut P.most).phase (P.meaning.waits plan (awaited_as arrival)) (record self.old { stage = Stage.Running plan }) self.new out.old out.new pd.old pd.new (step_turn result) }
+        ensures counts { Counts (region_task P.meaning P.Result.key_errors_in P.Result.region_error_in P.IsPart P.load P.AreCut P.most) (tells_error arrival) (tells_failure arrival) (weight_told arrival) (locked_told arrival) (record self.old { stage = Stage.Running plan }) self.new out.old out.new (step_turn result) }
+        ensures keeps { Keeps (region_task P.meaning P.Result.key_errors_in P.Result.region_error_in P.IsPart P.load P.AreCut P.most) (λ t. P.load t.job) P.AreCut (IsTaskOf P.meaning P.IsPart P.most) (λ t. stage_runs t.stage) self.old self.new (step_turn result) }
         ensures ready { TaskReady P.meaning self.new }
         ensures numbers { HasNumbers out.new }
     {
@@ -171,10 +170,10 @@ where
         requires stopped { self.old.stage ≡ Stage.Stopped }
         requires job { IsReady P.meaning self.old.job }
         requires numbers { HasNumbers out.old }
-        ensures tells { (r : Asked) → Tells (region_task P.meaning P.Result.key_errors_in P.Result.region_error_in P.IsPart P.load P.AreCut) (told_by arrival out.old r) (record self.old { stage = Stage.Sleeping number }) self.new out.old out.new (step_turn result) }
-        ensures goes { Goes (region_task P.meaning P.Result.key_errors_in P.Result.region_error_in P.IsPart P.load P.AreCut).phase (awaited_as arrival ≡ EndOf number) (record self.old { stage = Stage.Sleeping number }) self.new out.old out.new pd.old pd.new (step_turn result) }
-        ensures counts { Counts (region_task P.meaning P.Result.key_errors_in P.Result.region_error_in P.IsPart P.load P.AreCut) (tells_error arrival) (tells_failure arrival) (weight_told arrival) (locked_told arrival) (record self.old { stage = Stage.Sleeping number }) self.new out.old out.new (step_turn result) }
-        ensures keeps { Keeps (region_task P.meaning P.Result.key_errors_in P.Result.region_error_in P.IsPart P.load P.AreCut) (λ t. P.load t.job) P.AreCut (IsTaskOf P.meaning P.IsPart) (λ t. stage_runs t.stage) self.old self.new (step_turn result) }
+        ensures tells { (r : Asked) → Tells (region_task P.meaning P.Result.key_errors_in P.Result.region_error_in P.IsPart P.load P.AreCut P.most) (told_by arrival out.old r) (record self.old { stage = Stage.Sleeping number }) self.new out.old out.new (step_turn result) }
+        ensures goes { Goes (region_task P.meaning P.Result.key_errors_in P.Result.region_error_in P.IsPart P.load P.AreCut P.most).phase (awaited_as arrival ≡ EndOf number) (record self.old { stage = Stage.Sleeping number }) self.new out.old out.new pd.old pd.new (step_turn result) }
+        ensures counts { Counts (region_task P.meaning P.Result.key_errors_in P.Result.region_error_in P.IsPart P.load P.AreCut P.most) (tells_error arrival) (tells_failure arrival) (weight_told arrival) (locked_told arrival) (record self.old { stage = Stage.Sleeping number }) self.new out.old out.new (step_turn result) }
+        ensures keeps { Keeps (region_task P.meaning P.Result.key_errors_in P.Result.region_error_in P.IsPart P.load P.AreCut P.most) (λ t. P.load t.job) P.AreCut (IsTaskOf P.meaning P.IsPart P.most) (λ t. stage_runs t.stage) self.old self.new (step_turn result) }
         ensures off { stage_runs self.new.stage ≡ false }
         ensures ready { TaskReady P.meaning self.new }
         ensures numbers { HasNumbers out.new }
@@ -200,10 +199,10 @@ where
         requires same { cutting.plan ≡ self.old.job }
         requires running { cut_phase cutting.stage ≡ Running }
         requires numbers { HasNumbers out.old }
-        ensures tells { (r : Asked) → Tells (region_task P.meaning P.Result.key_errors_in P.Result.region_error_in P.IsPart P.load P.AreCut) (told_by arrival out.old r) (record self.old { stage = Stage.Cutting cutting }) self.new out.old out.new (step_turn result) }
-        ensures goes { Goes (region_task P.meaning P.Result.key_errors_in P.Result.region_error_in P.IsPart P.load P.AreCut).phase (cut_waits cutting.stage (awaited_as arrival)) (record self.old { stage = Stage.Cutting cutting }) self.new out.old out.new pd.old pd.new (step_turn result) }
-        ensures counts { Counts (region_task P.meaning P.Result.key_errors_in P.Result.region_error_in P.IsPart P.load P.AreCut) (tells_error arrival) (tells_failure arrival) (weight_told arrival) (locked_told arrival) (record self.old { stage = Stage.Cutting cutting }) self.new out.old out.new (step_turn result) }
-        ensures keeps { Keeps (region_task P.meaning P.Result.key_errors_in P.Result.region_error_in P.IsPart P.load P.AreCut) (λ t. P.load t.job) P.AreCut (IsTaskOf P.meaning P.IsPart) (λ t. stage_runs t.stage) self.old self.new (step_turn result) }
+        ensures tells { (r : Asked) → Tells (region_task P.meaning P.Result.key_errors_in P.Result.region_error_in P.IsPart P.load P.AreCut P.most) (told_by arrival out.old r) (record self.old { stage = Stage.Cutting cutting }) self.new out.old out.new (step_turn result) }
+        ensures goes { Goes (region_task P.meaning P.Result.key_errors_in P.Result.region_error_in P.IsPart P.load P.AreCut P.most).phase (cut_waits cutting.stage (awaited_as arrival)) (record self.old { stage = Stage.Cutting cutting }) self.new out.old out.new pd.old pd.new (step_turn result) }
+        ensures counts { Counts (region_task P.meaning P.Result.key_errors_in P.Result.region_error_in P.IsPart P.load P.AreCut P.most) (tells_error arrival) (tells_failure arrival) (weight_told arrival) (locked_told arrival) (record self.old { stage = Stage.Cutting cutting }) self.new out.old out.new (step_turn result) }
+        ensures keeps { Keeps (region_task P.meaning P.Result.key_errors_in P.Result.region_error_in P.IsPart P.load P.AreCut P.most) (λ t. P.load t.job) P.AreCut (IsTaskOf P.meaning P.IsPart P.most) (λ t. stage_runs t.stage) self.old self.new (step_turn result) }
         ensures off { stage_runs self.new.stage ≡ false }
         ensures ready { TaskReady P.meaning self.new }
         ensures numbers { HasNumbers out.new }
@@ -229,10 +228,10 @@ where
         requires stopped { self.old.stage ≡ Stage.Stopped }
         requires job { IsReady P.meaning self.old.job }
         requires numbers { HasNumbers out.old }
-        ensures over { GoesOver (region_task P.meaning P.Result.key_errors_in P.Result.region_error_in P.IsPart P.load P.AreCut) (λ h. P.meaning.gives self.old.job h answer) self.old self.new out.old out.new (step_turn result) }
-        ensures costs { CostsOver (region_task P.meaning P.Result.key_errors_in P.Result.region_error_in P.IsPart P.load P.AreCut) (λ n. 0) (P.meaning.fails answer) self.old self.new out.old out.new (step_turn result) }
+        ensures over { GoesOver (region_task P.meaning P.Result.key_errors_in P.Result.region_error_in P.IsPart P.load P.AreCut P.most) (λ h. P.meaning.gives self.old.job h answer) self.old self.new out.old out.new (step_turn result) }
+        ensures costs { CostsOver (region_task P.meaning P.Result.key_errors_in P.Result.region_error_in P.IsPart P.load P.AreCut P.most) (λ n. 0) (P.meaning.fails answer) self.old self.new out.old out.new (step_turn result) }
         ensures ends { P.meaning.fails answer ≡ false → IfEnds (step_turn result) IsEnd }
-        ensures keeps { Keeps (region_task P.meaning P.Result.key_errors_in P.Result.region_error_in P.IsPart P.load P.AreCut) (λ t. P.load t.job) P.AreCut (IsTaskOf P.meaning P.IsPart) (λ t. stage_runs t.stage) self.old self.new (step_turn result) }
+        ensures keeps { Keeps (region_task P.meaning P.Result.key_errors_in P.Result.region_error_in P.IsPart P.load P.AreCut P.most) (λ t. P.load t.job) P.AreCut (IsTaskOf P.meaning P.IsPart P.most) (λ t. stage_runs t.stage) self.old self.new (step_turn result) }
         ensures off { stage_runs self.new.stage ≡ false }
         ensures ready { TaskReady P.meaning self.new }
         ensures numbers { HasNumbers out.new }
@@ -255,10 +254,10 @@ where
         requires stopped { self.old.stage ≡ Stage.Stopped }
         requires job { IsReady P.meaning self.old.job }
         requires numbers { HasNumbers out.old }
-        ensures over { GoesOver (region_task P.meaning P.Result.key_errors_in P.Result.region_error_in P.IsPart P.load P.AreCut) (λ h. P.meaning.gives self.old.job h (Ok reply)) self.old self.new out.old out.new (step_turn result) }
-        ensures costs { CostsOver (region_task P.meaning P.Result.key_errors_in P.Result.region_error_in P.IsPart P.load P.AreCut) (λ n. 0) (P.meaning.fails (Ok reply)) self.old self.new out.old out.new (step_turn result) }
+        ensures over { GoesOver (region_task P.meaning P.Result.key_errors_in P.Result.region_error_in P.IsPart P.load P.AreCut P.most) (λ h. P.meaning.gives self.old.job h (Ok reply)) self.old self.new out.old out.new (step_turn result) }
+        ensures costs { CostsOver (region_task P.meaning P.Result.key_errors_in P.Result.region_error_in P.IsPart P.load P.AreCut P.most) (λ n. 0) (P.meaning.fails (Ok reply)) self.old self.new out.old out.new (step_turn result) }
         ensures ends { P.meaning.fails (Ok reply) ≡ false → IfEnds (step_turn result) IsEnd }
-        ensures keeps { Keeps (region_task P.meaning P.Result.key_errors_in P.Result.region_error_in P.IsPart P.load P.AreCut) (λ t. P.load t.job) P.AreCut (IsTaskOf P.meaning P.IsPart) (λ t. stage_runs t.stage) self.old self.new (step_turn result) }
+        ensures keeps { Keeps (region_task P.meaning P.Result.key_errors_in P.Result.region_error_in P.IsPart P.load P.AreCut P.most) (λ t. P.load t.job) P.AreCut (IsTaskOf P.meaning P.IsPart P.most) (λ t. stage_runs t.stage) self.old self.new (step_turn result) }
         ensures off { stage_runs self.new.stage ≡ false }
         ensures ready { TaskReady P.meaning self.new }
         ensures numbers { HasNumbers out.new }
@@ -284,9 +283,9 @@ where
         requires stopped { self.old.stage ≡ Stage.Stopped }
         requires job { IsReady P.meaning self.old.job }
         requires numbers { HasNumbers out.old }
-        ensures over { GoesOver (region_task P.meaning P.Result.key_errors_in P.Result.region_error_in P.IsPart P.load P.AreCut) (λ h. IsRefused P.meaning P.Result.key_errors_in P.Result.region_error_in self.old.job h error) self.old self.new out.old out.new (step_turn result) }
-        ensures costs { CostsOver (region_task P.meaning P.Result.key_errors_in P.Result.region_error_in P.IsPart P.load P.AreCut) (λ n. 0) true self.old self.new out.old out.new (step_turn result) }
-        ensures keeps { Keeps (region_task P.meaning P.Result.key_errors_in P.Result.region_error_in P.IsPart P.load P.AreCut) (λ t. P.load t.job) P.AreCut (IsTaskOf P.meaning P.IsPart) (λ t. stage_runs t.stage) self.old self.new (step_turn result) }
+        ensures over { GoesOver (region_task P.meaning P.Result.key_errors_in P.Result.region_error_in P.IsPart P.load P.AreCut P.most) (λ h. IsRefused P.meaning P.Result.key_errors_in P.Result.region_error_in self.old.job h error) self.old self.new out.old out.new (step_turn result) }
+        ensures costs { CostsOver (region_task P.meaning P.Result.key_errors_in P.Result.region_error_in P.IsPart P.load P.AreCut P.most) (λ n. 0) true self.old self.new out.old out.new (step_turn result) }
+        ensures keeps { Keeps (region_task P.meaning P.Result.key_errors_in P.Result.region_error_in P.IsPart P.load P.AreCut P.most) (λ t. P.load t.job) P.AreCut (IsTaskOf P.meaning P.IsPart P.most) (λ t. stage_runs t.stage) self.old self.new (step_turn result) }
         ensures off { stage_runs self.new.stage ≡ false }
         ensures ready { TaskReady P.meaning self.new }
         ensures numbers { HasNumbers out.new }
@@ -307,9 +306,9 @@ where
         requires stopped { self.old.stage ≡ Stage.Stopped }
         requires job { IsReady P.meaning self.old.job }
         requires numbers { HasNumbers out.old }
-        ensures over { GoesOver (region_task P.meaning P.Result.key_errors_in P.Result.region_error_in P.IsPart P.load P.AreCut) (λ h. P.meaning.gives self.old.job h (Err (GrpcAPI ticket))) self.old self.new out.old out.new (step_turn result) }
-        ensures costs { CostsOver (region_task P.meaning P.Result.key_errors_in P.Result.region_error_in P.IsPart P.load P.AreCut) (λ n. 0) true self.old self.new out.old out.new (step_turn result) }
-        ensures keeps { Keeps (region_task P.meaning P.Result.key_errors_in P.Result.region_error_in P.IsPart P.load P.AreCut) (λ t. P.load t.job) P.AreCut (IsTaskOf P.meaning P.IsPart) (λ t. stage_runs t.stage) self.old self.new (step_turn result) }
+        ensures over { GoesOver (region_task P.meaning P.Result.key_errors_in P.Result.region_error_in P.IsPart P.load P.AreCut P.most) (λ h. P.meaning.gives self.old.job h (Err (GrpcAPI ticket))) self.old self.new out.old out.new (step_turn result) }
+        ensures costs { CostsOver (region_task P.meaning P.Result.key_errors_in P.Result.region_error_in P.IsPart P.load P.AreCut P.most) (λ n. 0) true self.old self.new out.old out.new (step_turn result) }
+        ensures keeps { Keeps (region_task P.meaning P.Result.key_errors_in P.Result.region_error_in P.IsPart P.load P.AreCut P.most) (λ t. P.load t.job) P.AreCut (IsTaskOf P.meaning P.IsPart P.most) (λ t. stage_runs t.stage) self.old self.new (step_turn result) }
         ensures off { stage_runs self.new.stage ≡ false }
         ensures ready { TaskReady P.meaning self.new }
         ensures numbers { HasNumbers out.new }
@@ -331,9 +330,9 @@ where
         requires stopped { self.old.stage ≡ Stage.Stopped }
         requires job { IsReady P.meaning self.old.job }
         requires numbers { HasNumbers out.old }
-        ensures over { GoesOver (region_task P.meaning P.Result.key_errors_in P.Result.region_error_in P.IsPart P.load P.AreCut) (MayGoOn P.meaning P.Result.key_errors_in P.Result.region_error_in self.old.region self.old.job failure remedy.next) self.old self.new out.old out.new (step_turn result) }
-        ensures costs { CostsOver (region_task P.meaning P.Result.key_errors_in P.Result.region_error_in P.IsPart P.load P.AreCut) (λ n. 0) true self.old self.new out.old out.new (step_turn result) }
-        ensures keeps { Keeps (region_task P.meaning P.Result.key_errors_in P.Result.region_error_in P.IsPart P.load P.AreCut) (λ t. P.load t.job) P.AreCut (IsTaskOf P.meaning P.IsPart) (λ t. stage_runs t.stage) self.old self.new (step_turn result) }
+        ensures over { GoesOver (region_task P.meaning P.Result.key_errors_in P.Result.region_error_in P.IsPart P.load P.AreCut P.most) (MayGoOn P.meaning P.Result.key_errors_in P.Result.region_error_in self.old.region self.old.job failure remedy.next) self.old self.new out.old out.new (step_turn result) }
+        ensures costs { CostsOver (region_task P.meaning P.Result.key_errors_in P.Result.region_error_in P.IsPart P.load P.AreCut P.most) (λ n. 0) true self.old self.new out.old out.new (step_turn result) }
+        ensures keeps { Keeps (region_task P.meaning P.Result.key_errors_in P.Result.region_error_in P.IsPart P.load P.AreCut P.most) (λ t. P.load t.job) P.AreCut (IsTaskOf P.meaning P.IsPart P.most) (λ t. stage_runs t.stage) self.old self.new (step_turn result) }
         ensures off { stage_runs self.new.stage ≡ false }
         ensures ready { TaskReady P.meaning self.new }
         ensures numbers { HasNumbers out.new }
@@ -354,9 +353,9 @@ where
         requires stopped { self.old.stage ≡ Stage.Stopped }
         requires job { IsReady P.meaning self.old.job }
         requires numbers { HasNumbers out.old }
-        ensures over { GoesOver (region_task P.meaning P.Result.key_errors_in P.Result.region_error_in P.IsPart P.load P.AreCut) (HasFailed P.meaning P.Result.key_errors_in P.Result.region_error_in self.old.job) self.old self.new out.old out.new (step_turn result) }
-        ensures costs { CostsOver (region_task P.meaning P.Result.key_errors_in P.Result.region_error_in P.IsPart P.load P.AreCut) (λ n. 0) true self.old self.new out.old out.new (step_turn result) }
-        ensures keeps { Keeps (region_task P.meaning P.Result.key_errors_in P.Result.region_error_in P.IsPart P.load P.AreCut) (λ t. P.load t.job) P.AreCut (IsTaskOf P.meaning P.IsPart) (λ t. stage_runs t.stage) self.old self.new (step_turn result) }
+        ensures over { GoesOver (region_task P.meaning P.Result.key_errors_in P.Result.region_error_in P.IsPart P.load P.AreCut P.most) (HasFailed P.meaning P.Result.key_errors_in P.Result.region_error_in self.old.job) self.old self.new out.old out.new (step_turn result) }
+        ensures costs { CostsOver (region_task P.meaning P.Result.key_errors_in P.Result.region_error_in P.IsPart P.load P.AreCut P.most) (λ n. 0) true self.old self.new out.old out.new (step_turn result) }
+        ensures keeps { Keeps (region_task P.meaning P.Result.key_errors_in P.Result.region_error_in P.IsPart P.load P.AreCut P.most) (λ t. P.load t.job) P.AreCut (IsTaskOf P.meaning P.IsPart P.most) (λ t. stage_runs t.stage) self.old self.new (step_turn result) }
         ensures off { stage_runs self.new.stage ≡ false }
         ensures ready { TaskReady P.meaning self.new }
         ensures numbers { HasNumbers out.new }
@@ -371,9 +370,9 @@ where
         requires stopped { self.old.stage ≡ Stage.Stopped }
         requires job { IsReady P.meaning self.old.job }
         requires numbers { HasNumbers out.old }
-        ensures over { GoesOver (region_task P.meaning P.Result.key_errors_in P.Result.region_error_in P.IsPart P.load P.AreCut) (HasFailed P.meaning P.Result.key_errors_in P.Result.region_error_in self.old.job) self.old self.new out.old out.new (step_turn result) }
-        ensures costs { CostsOver (region_task P.meaning P.Result.key_errors_in P.Result.region_error_in P.IsPart P.load P.AreCut) (λ n. n * P.meaning.round self.old.job n) false self.old self.new out.old out.new (step_turn result) }
-        ensures keeps { Keeps (region_task P.meaning P.Result.key_errors_in P.Result.region_error_in P.IsPart P.load P.AreCut) (λ t. P.load t.job) P.AreCut (IsTaskOf P.meaning P.IsPart) (λ t. stage_runs t.stage) self.old self.new (step_turn result) }
+        ensures over { GoesOver (region_task P.meaning P.Result.key_errors_in P.Result.region_error_in P.IsPart P.load P.AreCut P.most) (HasFailed P.meaning P.Result.key_errors_in P.Result.region_error_in self.old.job) self.old self.new out.old out.new (step_turn result) }
+        ensures costs { CostsOver (region_task P.meaning P.Result.key_errors_in P.Result.region_error_in P.IsPart P.load P.AreCut P.most) (λ n. owed P.meaning P.most self.old.job n) false self.old self.new out.old out.new (step_turn result) }
+        ensures keeps { Keeps (region_task P.meaning P.Result.key_errors_in P.Result.region_error_in P.IsPart P.load P.AreCut P.most) (λ t. P.load t.job) P.AreCut (IsTaskOf P.meaning P.IsPart P.most) (λ t. stage_runs t.stage) self.old self.new (step_turn result) }
         ensures off { stage_runs self.new.stage ≡ false }
         ensures ready { TaskReady P.meaning self.new }
         ensures numbers { HasNumbers out.new }
@@ -393,10 +392,10 @@ where
     fn take_parts(&mut self, answer: Result<Vec<Part<P>>>) -> Turn<P>
         requires stopped { self.old.stage ≡ Stage.Stopped }
         requires job { IsReady P.meaning self.old.job }
-        requires parts { IfParts P.meaning P.IsPart P.load P.AreCut self.old.job answer }
-        ensures over { (o : Posted) → GoesOver (region_task P.meaning P.Result.key_errors_in P.Result.region_error_in P.IsPart P.load P.AreCut) (λ h. HasFailed P.meaning P.Result.key_errors_in P.Result.region_error_in self.old.job h × UnfoundIfErr h answer) self.old self.new o o (step_turn result) }
-        ensures costs { (o : Posted) → CostsOver (region_task P.meaning P.Result.key_errors_in P.Result.region_error_in P.IsPart P.load P.AreCut) (λ n. n * P.meaning.round self.old.job n) false self.old self.new o o (step_turn result) }
-        ensures keeps { Keeps (region_task P.meaning P.Result.key_errors_in P.Result.region_error_in P.IsPart P.load P.AreCut) (λ t. P.load t.job) P.AreCut (IsTaskOf P.meaning P.IsPart) (λ t. stage_runs t.stage) self.old self.new (step_turn result) }
+        requires parts { IfParts P.meaning P.IsPart P.load P.AreCut P.most self.old.job answer }
+        ensures over { (o : Posted) → GoesOver (region_task P.meaning P.Result.key_errors_in P.Result.region_error_in P.IsPart P.load P.AreCut P.most) (λ h. HasFailed P.meaning P.Result.key_errors_in P.Result.region_error_in self.old.job h × UnfoundIfErr h answer) self.old self.new o o (step_turn result) }
+        ensures costs { (o : Posted) → CostsOver (region_task P.meaning P.Result.key_errors_in P.Result.region_error_in P.IsPart P.load P.AreCut P.most) (λ n. owed P.meaning P.most self.old.job n) false self.old self.new o o (step_turn result) }
+        ensures keeps { Keeps (region_task P.meaning P.Result.key_errors_in P.Result.region_error_in P.IsPart P.load P.AreCut P.most) (λ t. P.load t.job) P.AreCut (IsTaskOf P.meaning P.IsPart P.most) (λ t. stage_runs t.stage) self.old self.new (step_turn result) }
         ensures off { stage_runs self.new.stage ≡ false }
         ensures ready { TaskReady P.meaning self.new }
     {
@@ -410,10 +409,10 @@ where
     fn give_parts(&mut self, parts: Vec<Part<P>>) -> Turn<P>
         requires stopped { self.old.stage ≡ Stage.Stopped }
         requires job { IsReady P.meaning self.old.job }
-        requires parts { ArePartsOf P.meaning P.IsPart P.load P.AreCut self.old.job parts.items }
-        ensures over { (o : Posted) → GoesOver (region_task P.meaning P.Result.key_errors_in P.Result.region_error_in P.IsPart P.load P.AreCut) (HasFailed P.meaning P.Result.key_errors_in P.Result.region_error_in self.old.job) self.old self.new o o (step_turn result) }
-        ensures costs { (o : Posted) → CostsOver (region_task P.meaning P.Result.key_errors_in P.Result.region_error_in P.IsPart P.load P.AreCut) (λ n. n * P.meaning.round self.old.job n) false self.old self.new o o (step_turn result) }
-        ensures keeps { Keeps (region_task P.meaning P.Result.key_errors_in P.Result.region_error_in P.IsPart P.load P.AreCut) (λ t. P.load t.job) P.AreCut (IsTaskOf P.meaning P.IsPart) (λ t. stage_runs t.stage) self.old self.new (step_turn result) }
+        requires parts { ArePartsOf P.meaning P.IsPart P.load P.AreCut P.most self.old.job parts.items }
+        ensures over { (o : Posted) → GoesOver (region_task P.meaning P.Result.key_errors_in P.Result.region_error_in P.IsPart P.load P.AreCut P.most) (HasFailed P.meaning P.Result.key_errors_in P.Result.region_error_in self.old.job) self.old self.new o o (step_turn result) }
+        ensures costs { (o : Posted) → CostsOver (region_task P.meaning P.Result.key_errors_in P.Result.region_error_in P.IsPart P.load P.AreCut P.most) (λ n. owed P.meaning P.most self.old.job n) false self.old self.new o o (step_turn result) }
+        ensures keeps { Keeps (region_task P.meaning P.Result.key_errors_in P.Result.region_error_in P.IsPart P.load P.AreCut P.most) (λ t. P.load t.job) P.AreCut (IsTaskOf P.meaning P.IsPart P.most) (λ t. stage_runs t.stage) self.old self.new (step_turn result) }
         ensures off { stage_runs self.new.stage ≡ false }
         ensures ready { TaskReady P.meaning self.new }
     {
@@ -424,10 +423,10 @@ where
     }
 
     fn end(&mut self, answer: Result<Result<P::Result>>) -> Turn<P>
-        ensures over { (o : Posted) → GoesOver (region_task P.meaning P.Result.key_errors_in P.Result.region_error_in P.IsPart P.load P.AreCut) (λ h. IsOutcome P.meaning P.Result.key_errors_in P.Result.region_error_in self.old.region self.old.job h answer) self.old self.new o o (step_turn result) }
-        ensures costs { (o : Posted) (before : ℕ → ℕ) (failed : Bool) → CostsOver (region_task P.meaning P.Result.key_errors_in P.Result.region_error_in P.IsPart P.load P.AreCut) before failed self.old self.new o o (step_turn result) }
+        ensures over { (o : Posted) → GoesOver (region_task P.meaning P.Result.key_errors_in P.Result.region_error_in P.IsPart P.load P.AreCut P.most) (λ h. IsOutcome P.meaning P.Result.key_errors_in P.Result.region_error_in self.old.region self.old.job h answer) self.old self.new o o (step_turn result) }
+        ensures costs { (o : Posted) (before : ℕ → ℕ) (failed : Bool) → CostsOver (region_task P.meaning P.Result.key_errors_in P.Result.region_error_in P.IsPart P.load P.AreCut P.most) before failed self.old self.new o o (step_turn result) }
         ensures ends { IfEnds (step_turn result) IsEnd }
-        ensures keeps { Keeps (region_task P.meaning P.Result.key_errors_in P.Result.region_error_in P.IsPart P.load P.AreCut) (λ t. P.load t.job) P.AreCut (IsTaskOf P.meaning P.IsPart) (λ t. stage_runs t.stage) self.old self.new (step_turn result) }
+        ensures keeps { Keeps (region_task P.meaning P.Result.key_errors_in P.Result.region_error_in P.IsPart P.load P.AreCut P.most) (λ t. P.load t.job) P.AreCut (IsTaskOf P.meaning P.IsPart P.most) (λ t. stage_runs t.stage) self.old self.new (step_turn result) }
         ensures state { self.new ≡ record self.old { stage = Stage.Over } }
     {
         self.stage = Stage::Over;
@@ -490,7 +489,7 @@ where
 {
     type Answer = P::Result;
 
-    ghost meaning = { region_task P.meaning P.Result.key_errors_in P.Result.region_error_in P.IsPart P.load P.AreCut };
+    ghost meaning = { region_task P.meaning P.Result.key_errors_in P.Result.region_error_in P.IsPart P.load P.AreCut P.most };
 
     ghost Load = { P.Load };
 
@@ -500,9 +499,9 @@ where
 
     ghost Whole = { P };
 
-    ghost IsOf = { IsTaskOf P.meaning P.IsPart };
+    ghost IsOf = { IsTaskOf P.meaning P.IsPart P.most };
 
-    ghost cost = { λ whole n. n * P.meaning.round whole n };
+    ghost cost = { λ whole n. shared P.meaning P.most whole n };
 
     ghost runs = { λ t. stage_runs t.stage };
 
@@ -559,11 +558,11 @@ where
         self.tell(Arrival::Time { ask, answer }, pd, now, out)
     }
 
-    ghost lawful = { region_task-lawful P.meaning P.Result.key_errors_in P.Result.region_error_in P.IsPart P.load P.AreCut P.lawful };
+    ghost lawful = { region_task-lawful P.meaning P.Result.key_errors_in P.Result.region_error_in P.IsPart P.load P.AreCut P.most P.lawful };
 
     ghost runs_running = { λ task runs. runs_running task.stage runs };
 
-    ghost costs = { λ task whole n is. mul-le-mul_left n (is.less n) };
+    ghost costs = { λ task whole n is. is.less n };
 
     ghost cut_whole = { P.cut_whole };
 

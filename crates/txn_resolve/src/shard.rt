@@ -1,5 +1,6 @@
 //! A plan that is refused for locks is cut as its inner plan is.
 ghost use Rattle.std.specs.Prelude.{◌≡◌};
+ghost use Rattle.txn_multi.specs.Few.{few_inside};
 ghost use Rattle.txn_resolve.specs.Applied.{unlocked_applied};
 
 use crate::resolve_lock::ResolveLock;
@@ -73,6 +74,10 @@ impl<P: RegionPlan> RegionPlan for ResolveLock<P>
 where
     P::Result: HasLocks + HasKeyErrors + HasRegionError,
 {
+    ghost most = { λ plan. P.most plan.inner };
+
+    ghost few = { λ plan found is. few_inside P.most P.Applies (λ (p : Self). p.inner) Self.Shardable.Applies (λ whole part shard store applied. applied.0) plan found.shards.items (P.few plan.inner found is) };
+
     ghost better_lost = { λ ticket. P.better_lost ticket };
 
     ghost better_refused = { λ reply error is. P.better_refused reply error is };

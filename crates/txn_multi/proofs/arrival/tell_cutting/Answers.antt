@@ -9,4 +9,4 @@ pub returns-in-Lost-clause-tells : goal.returns-in-Lost-clause-tells
 returns-in-Lost-clause-tells g c r = rw c.in-Lost.is (c.lost.ensures.tells r)
 
 pub returns-clause-tells : goal.returns-clause-tells
-returns-clause-tells g c r = rw c.in-Time.is (Tells-idle (cutting-lawful g.P.Plan.meaning g.P.Shardable.IsPart g.P.Shardable.load g.P.Shardable.AreCut) (λ a heard w. never_timed c.args.search.now.stage c.in-Time.ask (rw heard at w)) c.stay.ensures)
+returns-clause-tells g c r = rw c.in-Time.is (Tells-idle (cutting-lawful g.P.Plan.meaning g.P.Shardable.IsPart g.P.Shardable.load g.P.Shardable.AreCut g.P.RegionPlan.most) (λ a heard w. never_timed c.args.search.now.stage c.in-Time.ask (rw heard at w)) c.stay.ensures)

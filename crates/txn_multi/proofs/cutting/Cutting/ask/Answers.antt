@@ -12,4 +12,4 @@ returns g c =
     let y = standing c.start.new.self c.start.new.client c.start.new.out in
     let e = c.in_ok-progress.ensures in
     let t = tells started (hears_start x.call.stage) x y _ e.job (λ n. deaf_start x.call.stage) (went (hears_start x.call.stage) x.call.query (on_start x.call.stage x) _ x y e.step (went_start x.call.stage x)) e.moves in
-    record { on = rw c.wait.ensures.turn (asked g.P.Plan.meaning g.P.Shardable.IsPart g.P.Shardable.load g.P.Shardable.AreCut _ c.args.query c.requires.place c.call-call.ensures (is_kept_ok c.in_ok-progress.progress) t e.spends (waiting g.P.Plan.meaning g.P.Shardable.IsPart g.P.Shardable.load g.P.Shardable.AreCut c.wait.ensures.holds c.wait.ensures.state)) }
+    record { on = rw c.wait.ensures.turn (asked g.P.Plan.meaning g.P.Shardable.IsPart g.P.Shardable.load g.P.Shardable.AreCut g.P.RegionPlan.most _ c.args.query c.requires.place c.call-call.ensures (is_kept_ok c.in_ok-progress.progress) t e.spends (waiting g.P.Plan.meaning g.P.Shardable.IsPart g.P.Shardable.load g.P.Shardable.AreCut g.P.RegionPlan.most c.wait.ensures.holds c.wait.ensures.state)) }

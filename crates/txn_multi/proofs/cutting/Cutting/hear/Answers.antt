@@ -5,10 +5,10 @@ use Rattle.txn_multi.proofs.Lookings.{from_mid, knowing, stopped, waiting}
 use Rattle.txn_multi.proofs.cutting.Cutting.hear.Goals as goal
 
 pub returns-in_err-turn-clause-on : goal.returns-in_err-turn-clause-on
-returns-in_err-turn-clause-on g c = rw (turn_stopped c.from_residual.result c.from_residual.ensures.0) (stopped g.P.Plan.meaning g.P.Shardable.IsPart g.P.Shardable.load g.P.Shardable.AreCut c.requires.stopped)
+returns-in_err-turn-clause-on g c = rw (turn_stopped c.from_residual.result c.from_residual.ensures.0) (stopped g.P.Plan.meaning g.P.Shardable.IsPart g.P.Shardable.load g.P.Shardable.AreCut g.P.RegionPlan.most c.requires.stopped)
 
 pub returns-in-Waiting-clause-on : goal.returns-in-Waiting-clause-on
-returns-in-Waiting-clause-on g c = rw (c.in_ok-turn.was, c.in-Waiting.is, c.wait.ensures.turn) (knowing g.P.Plan.meaning g.P.Shardable.IsPart g.P.Shardable.load g.P.Shardable.AreCut (λ h k. k.0) (waiting g.P.Plan.meaning g.P.Shardable.IsPart g.P.Shardable.load g.P.Shardable.AreCut c.wait.ensures.holds c.wait.ensures.state))
+returns-in-Waiting-clause-on g c = rw (c.in_ok-turn.was, c.in-Waiting.is, c.wait.ensures.turn) (knowing g.P.Plan.meaning g.P.Shardable.IsPart g.P.Shardable.load g.P.Shardable.AreCut g.P.RegionPlan.most (λ h k. k.0) (waiting g.P.Plan.meaning g.P.Shardable.IsPart g.P.Shardable.load g.P.Shardable.AreCut g.P.RegionPlan.most c.wait.ensures.holds c.wait.ensures.state))
 
 pub returns-in-Done-clause-on : goal.returns-in-Done-clause-on
-returns-in-Done-clause-on g c = rw (c.in_ok-turn.was, c.in-Done.is) (from_mid g.P.Plan.meaning g.P.Shardable.IsPart g.P.Shardable.load g.P.Shardable.AreCut (λ h k. k.1) refl (le_refl _) c.learn.ensures.on)
+returns-in-Done-clause-on g c = rw (c.in_ok-turn.was, c.in-Done.is) (from_mid g.P.Plan.meaning g.P.Shardable.IsPart g.P.Shardable.load g.P.Shardable.AreCut g.P.RegionPlan.most (λ h k. k.1) refl (le_refl _) c.learn.ensures.on)

@@ -25,15 +25,15 @@ returns-in-Some-clause-tells g c r =
     let x = standing c.in-Some.call c.retry_client.result.now c.args.out.now in
     let y = standing c.lost-turn.new.self c.lost-turn.new.client c.lost-turn.new.out in
     let w = went (hears_reply x.call.stage c.args.number) x.call.query (on_loss x.call.stage c.args.number c.args.now x) (turn_of c.lost-turn.result) x y c.lost-turn.ensures.step (went_loss x.call.stage c.args.number c.args.now x) in
-    heard g.P.Plan.meaning g.P.Shardable.IsPart g.P.Shardable.load g.P.Shardable.AreCut c.in-Some.ensures
+    heard g.P.Plan.meaning g.P.Shardable.IsPart g.P.Shardable.load g.P.Shardable.AreCut g.P.RegionPlan.most c.in-Some.ensures
     (tells_of (missed (ticket_of c.args.out.now c.args.number) r) (hears_reply x.call.stage c.args.number) c.args.number r x y (turn_of c.lost-turn.result) (λ h k. k) c.lost-turn.ensures.job (deaf_reply x.call.stage c.args.number) w (c.lost-turn.ensures.moves r))
     c.hear.ensures.on
 
 pub returns-in-Some-clause-counts : goal.returns-in-Some-clause-counts
-returns-in-Some-clause-counts g c = counted_after g.P.Plan.meaning g.P.Shardable.IsPart g.P.Shardable.load g.P.Shardable.AreCut c.lost-turn.new.self (turn_of c.lost-turn.result) (λ e. e) c.in-Some.ensures c.lost-turn.ensures.spends c.hear.ensures.on
+returns-in-Some-clause-counts g c = counted_after g.P.Plan.meaning g.P.Shardable.IsPart g.P.Shardable.load g.P.Shardable.AreCut g.P.RegionPlan.most c.lost-turn.new.self (turn_of c.lost-turn.result) (λ e. e) c.in-Some.ensures c.lost-turn.ensures.spends c.hear.ensures.on
 
 pub returns-in-Some-clause-numbers : goal.returns-in-Some-clause-numbers
 returns-in-Some-clause-numbers g c = let s = c.hear.ensures.on in Moves-numbers s.moves c.lost-turn.ensures.numbers
 
 pub returns-in-None-clause-tells : goal.returns-in-None-clause-tells
-returns-in-None-clause-tells g c r = unmoved g.P.Plan.meaning g.P.Shardable.IsPart g.P.Shardable.load g.P.Shardable.AreCut (ReplyTo c.args.number) (λ b h. h) c.in-None.ensures c.stay.ensures
+returns-in-None-clause-tells g c r = unmoved g.P.Plan.meaning g.P.Shardable.IsPart g.P.Shardable.load g.P.Shardable.AreCut g.P.RegionPlan.most (ReplyTo c.args.number) (λ b h. h) c.in-None.ensures c.stay.ensures

@@ -26,15 +26,15 @@ returns-in-Some-clause-tells g c =
     let x = standing c.in-Some.call c.retry_client.result.now c.args.out.now in
     let y = standing c.slept-turn.new.self c.slept-turn.new.client c.slept-turn.new.out in
     let w = went (hears_waking x.call.stage c.args.number) x.call.query (on_waking x.call.stage c.args.number c.args.now x) (turn_of c.slept-turn.result) x y c.slept-turn.ensures.step (went_waking x.call.stage c.args.number c.args.now x) in
-    heard g.P.Plan.meaning g.P.Shardable.IsPart g.P.Shardable.load g.P.Shardable.AreCut c.in-Some.ensures
+    heard g.P.Plan.meaning g.P.Shardable.IsPart g.P.Shardable.load g.P.Shardable.AreCut g.P.RegionPlan.most c.in-Some.ensures
     (tells (woken (ticket_of c.args.out.now c.args.number)) (hears_waking x.call.stage c.args.number) x y (turn_of c.slept-turn.result) c.slept-turn.ensures.job (deaf_waking x.call.stage c.args.number) w c.slept-turn.ensures.moves)
     c.hear.ensures.on
 
 pub returns-in-Some-clause-counts : goal.returns-in-Some-clause-counts
-returns-in-Some-clause-counts g c = counted_after g.P.Plan.meaning g.P.Shardable.IsPart g.P.Shardable.load g.P.Shardable.AreCut c.slept-turn.new.self (turn_of c.slept-turn.result) (λ e. absurd (false≢true e)) c.in-Some.ensures c.slept-turn.ensures.spends c.hear.ensures.on
+returns-in-Some-clause-counts g c = counted_after g.P.Plan.meaning g.P.Shardable.IsPart g.P.Shardable.load g.P.Shardable.AreCut g.P.RegionPlan.most c.slept-turn.new.self (turn_of c.slept-turn.result) (λ e. absurd (false≢true e)) c.in-Some.ensures c.slept-turn.ensures.spends c.hear.ensures.on
 
 pub returns-in-Some-clause-numbers : goal.returns-in-Some-clause-numbers
 returns-in-Some-clause-numbers g c = let s = c.hear.ensures.on in Moves-numbers s.moves c.slept-turn.ensures.numbers
 
 pub returns-in-None-clause-tells : goal.returns-in-None-clause-tells
-returns-in-None-clause-tells g c = unmoved g.P.Plan.meaning g.P.Shardable.IsPart g.P.Shardable.load g.P.Shardable.AreCut (EndOf c.args.number) (λ b h. h) c.in-None.ensures c.stay.ensures
+returns-in-None-clause-tells g c = unmoved g.P.Plan.meaning g.P.Shardable.IsPart g.P.Shardable.load g.P.Shardable.AreCut g.P.RegionPlan.most (EndOf c.args.number) (λ b h. h) c.in-None.ensures c.stay.ensures

@@ -28,15 +28,15 @@ returns-in-Some-clause-tells g c r =
     let y = standing c.take_reply-turn.new.self c.take_reply-turn.new.client c.take_reply-turn.new.out in
     let s = c.take_reply-turn.ensures.step in
     let w = went (hears_reply x.call.stage c.args.number) x.call.query s.0 (turn_of c.take_reply-turn.result) x y s.2 (went_reply x.call.stage c.args.number c.args.reply c.args.now x s.0 s.1) in
-    heard g.P.Plan.meaning g.P.Shardable.IsPart g.P.Shardable.load g.P.Shardable.AreCut c.in-Some.ensures
+    heard g.P.Plan.meaning g.P.Shardable.IsPart g.P.Shardable.load g.P.Shardable.AreCut g.P.RegionPlan.most c.in-Some.ensures
     (tells_of (replied (ticket_of c.args.out.now c.args.number) r c.args.reply) (hears_reply x.call.stage c.args.number) c.args.number r x y (turn_of c.take_reply-turn.result) (λ h k. k) c.take_reply-turn.ensures.job (deaf_reply x.call.stage c.args.number) w (c.take_reply-turn.ensures.moves r))
     c.hear.ensures.on
 
 pub returns-in-Some-clause-counts : goal.returns-in-Some-clause-counts
-returns-in-Some-clause-counts g c = counted_after g.P.Plan.meaning g.P.Shardable.IsPart g.P.Shardable.load g.P.Shardable.AreCut c.take_reply-turn.new.self (turn_of c.take_reply-turn.result) (λ e. absurd (false≢true e)) c.in-Some.ensures c.take_reply-turn.ensures.spends c.hear.ensures.on
+returns-in-Some-clause-counts g c = counted_after g.P.Plan.meaning g.P.Shardable.IsPart g.P.Shardable.load g.P.Shardable.AreCut g.P.RegionPlan.most c.take_reply-turn.new.self (turn_of c.take_reply-turn.result) (λ e. absurd (false≢true e)) c.in-Some.ensures c.take_reply-turn.ensures.spends c.hear.ensures.on
 
 pub returns-in-Some-clause-numbers : goal.returns-in-Some-clause-numbers
 returns-in-Some-clause-numbers g c = let s = c.hear.ensures.on in Moves-numbers s.moves c.take_reply-turn.ensures.numbers
 
 pub returns-in-None-clause-tells : goal.returns-in-None-clause-tells
-returns-in-None-clause-tells g c r = unmoved g.P.Plan.meaning g.P.Shardable.IsPart g.P.Shardable.load g.P.Shardable.AreCut (ReplyTo c.args.number) (λ b h. h) c.in-None.ensures c.stay.ensures
+returns-in-None-clause-tells g c r = unmoved g.P.Plan.meaning g.P.Shardable.IsPart g.P.Shardable.load g.P.Shardable.AreCut g.P.RegionPlan.most (ReplyTo c.args.number) (λ b h. h) c.in-None.ensures c.stay.ensures

@@ -11,13 +11,13 @@ use Rattle.txn_multi.proofs.multi_region.RetryableMultiRegion.run.Goals as goal
 use Rattle.txn_tasks.specs.Tasks.{tasks_turn}
 
 pub returns-in_err-first-clause-begins : goal.returns-in_err-first-clause-begins
-returns-in_err-first-clause-begins g c = begins_not g.P.Plan.meaning g.P.Result.HasKeyErrors.key_errors_in g.P.Result.HasRegionError.region_error_in g.P.Shardable.IsPart g.P.Shardable.load g.P.Shardable.AreCut c.args.self.now _ c.requires.stopped c.requires.none (let x : _ = c.max-self.ensures in omega arith) (turn_stopped c.from_residual.result c.from_residual.ensures.0)
+returns-in_err-first-clause-begins g c = begins_not g.P.Plan.meaning g.P.Result.HasKeyErrors.key_errors_in g.P.Result.HasRegionError.region_error_in g.P.Shardable.IsPart g.P.Shardable.load g.P.Shardable.AreCut g.P.RegionPlan.most c.args.self.now _ c.requires.stopped c.requires.none (let x : _ = c.max-self.ensures in omega arith) (turn_stopped c.from_residual.result c.from_residual.ensures.0)
 
 pub new-requires : goal.new-requires
-new-requires g c = record { fresh = rw c.in_ok-first.ensures (tasks_new g.P.Plan.meaning g.P.Result.HasKeyErrors.key_errors_in g.P.Result.HasRegionError.region_error_in g.P.Shardable.IsPart g.P.Shardable.load g.P.Shardable.AreCut c.args.self.now.inner c.args.self.now.alloc c.args.self.now.backoff c.args.parts.items c.requires.parts) }
+new-requires g c = record { fresh = rw c.in_ok-first.ensures (tasks_new g.P.Plan.meaning g.P.Result.HasKeyErrors.key_errors_in g.P.Result.HasRegionError.region_error_in g.P.Shardable.IsPart g.P.Shardable.load g.P.Shardable.AreCut g.P.RegionPlan.most c.args.self.now.inner c.args.self.now.alloc c.args.self.now.backoff c.args.parts.items c.requires.parts) }
 
 pub returns-in_err-tasks-clause-begins : goal.returns-in_err-tasks-clause-begins
-returns-in_err-tasks-clause-begins g c = begins_not g.P.Plan.meaning g.P.Result.HasKeyErrors.key_errors_in g.P.Result.HasRegionError.region_error_in g.P.Shardable.IsPart g.P.Shardable.load g.P.Shardable.AreCut c.args.self.now _ c.requires.stopped c.requires.none (let x : _ = c.max-self.ensures in omega arith) (turn_stopped c.from_residual-in_err-tasks.result c.from_residual-in_err-tasks.ensures.0)
+returns-in_err-tasks-clause-begins g c = begins_not g.P.Plan.meaning g.P.Result.HasKeyErrors.key_errors_in g.P.Result.HasRegionError.region_error_in g.P.Shardable.IsPart g.P.Shardable.load g.P.Shardable.AreCut g.P.RegionPlan.most c.args.self.now _ c.requires.stopped c.requires.none (let x : _ = c.max-self.ensures in omega arith) (turn_stopped c.from_residual-in_err-tasks.result c.from_residual-in_err-tasks.ensures.0)
 
 pub returns-clause-begins : goal.returns-clause-begins
 returns-clause-begins g c =
@@ -27,11 +27,11 @@ returns-clause-begins g c =
     let ts = c.in_ok-tasks.tasks in
     let e = c.in_ok-tasks.ensures in
     let goes = c.start-turn.ensures.goes in
-    subst (λ (x : RetryableMultiRegion _ _ _). Begins (multi g.P.Plan.meaning g.P.Result.HasKeyErrors.key_errors_in g.P.Result.HasRegionError.region_error_in g.P.Shardable.IsPart g.P.Shardable.load g.P.Shardable.AreCut) (λ h. ⊤) (record s { stage = stage.Fresh }) x c.args.out.now c.start-turn.new.out (turn_of c.after_tasks.result)) (sym c.after_tasks.ensures.state)
-    (begins_tasks g.P.Plan.meaning g.P.Result.HasKeyErrors.key_errors_in g.P.Result.HasRegionError.region_error_in g.P.Shardable.IsPart g.P.Shardable.load g.P.Shardable.AreCut s ts c.start-turn.new.self c.after_tasks.new.self.stage c.max-self.result (tasks_turn c.start-turn.result) c.requires.none (let x : _ = c.max-self.ensures in omega arith) e.fresh
-    (λ o h. e.fits inner (g.P.Shardable.load inner) o h (rw c.in_ok-first.ensures (tasks_belong g.P.Plan.meaning g.P.Result.HasKeyErrors.key_errors_in g.P.Result.HasRegionError.region_error_in g.P.Shardable.IsPart g.P.Shardable.load g.P.Shardable.AreCut inner s.alloc s.backoff parts c.requires.parts)) (rw c.in_ok-first.ensures (tasks_cut _ g.P.Plan.meaning g.P.Shardable.IsPart g.P.Shardable.load g.P.Shardable.AreCut inner s.alloc s.backoff parts c.requires.parts)))
-    (λ w. e.bears inner (g.P.Shardable.load inner) w (rw c.in_ok-first.ensures (tasks_belong g.P.Plan.meaning g.P.Result.HasKeyErrors.key_errors_in g.P.Result.HasRegionError.region_error_in g.P.Shardable.IsPart g.P.Shardable.load g.P.Shardable.AreCut inner s.alloc s.backoff parts c.requires.parts)))
-    (λ n l. rw (e.left inner (g.P.Shardable.load inner) n, c.in_ok-first.ensures) (tasks_owe _ g.P.Plan.meaning g.P.Shardable.IsPart g.P.Shardable.load g.P.Shardable.AreCut inner s.alloc s.backoff parts n c.requires.parts (let x : _ = c.max-self.ensures in let y : _ = c.len.ensures in omega arith)))
+    subst (λ (x : RetryableMultiRegion _ _ _). Begins (multi g.P.Plan.meaning g.P.Result.HasKeyErrors.key_errors_in g.P.Result.HasRegionError.region_error_in g.P.Shardable.IsPart g.P.Shardable.load g.P.Shardable.AreCut g.P.RegionPlan.most) (λ h. ⊤) (record s { stage = stage.Fresh }) x c.args.out.now c.start-turn.new.out (turn_of c.after_tasks.result)) (sym c.after_tasks.ensures.state)
+    (begins_tasks g.P.Plan.meaning g.P.Result.HasKeyErrors.key_errors_in g.P.Result.HasRegionError.region_error_in g.P.Shardable.IsPart g.P.Shardable.load g.P.Shardable.AreCut g.P.RegionPlan.most s ts c.start-turn.new.self c.after_tasks.new.self.stage c.max-self.result (tasks_turn c.start-turn.result) c.requires.none (let x : _ = c.max-self.ensures in omega arith) e.fresh
+    (λ o h. e.fits inner (g.P.Shardable.load inner) o h (rw c.in_ok-first.ensures (tasks_belong g.P.Plan.meaning g.P.Result.HasKeyErrors.key_errors_in g.P.Result.HasRegionError.region_error_in g.P.Shardable.IsPart g.P.Shardable.load g.P.Shardable.AreCut g.P.RegionPlan.most inner s.alloc s.backoff parts c.requires.parts)) (rw c.in_ok-first.ensures (tasks_cut _ g.P.Plan.meaning g.P.Shardable.IsPart g.P.Shardable.load g.P.Shardable.AreCut g.P.RegionPlan.most inner s.alloc s.backoff parts c.requires.parts)))
+    (λ w. e.bears inner (g.P.Shardable.load inner) w (rw c.in_ok-first.ensures (tasks_belong g.P.Plan.meaning g.P.Result.HasKeyErrors.key_errors_in g.P.Result.HasRegionError.region_error_in g.P.Shardable.IsPart g.P.Shardable.load g.P.Shardable.AreCut g.P.RegionPlan.most inner s.alloc s.backoff parts c.requires.parts)))
+    (λ n l. rw (e.left inner (g.P.Shardable.load inner) n, c.in_ok-first.ensures) (tasks_owe _ g.P.Plan.meaning g.P.Shardable.IsPart g.P.Shardable.load g.P.Shardable.AreCut g.P.RegionPlan.most inner s.alloc s.backoff parts n c.requires.parts (let x : _ = c.max-self.ensures in let y : _ = c.len.ensures in omega arith)))
     (λ x. goes.next e.fresh ∙ ap phase_after x) c.after_tasks.ensures.after
     (c.start-turn.ensures.tells inner (g.P.Shardable.load inner)) (c.start-turn.ensures.counts inner (g.P.Shardable.load inner)))
 
@@ -40,5 +40,5 @@ returns-clause-ready g c =
     let s = c.args.self.now in
     let e = c.in_ok-tasks.ensures in
     let goes = c.start-turn.ensures.goes in
-    subst (λ (x : RetryableMultiRegion _ _ _). (multi g.P.Plan.meaning g.P.Result.HasKeyErrors.key_errors_in g.P.Result.HasRegionError.region_error_in g.P.Shardable.IsPart g.P.Shardable.load g.P.Shardable.AreCut).ready x) (sym c.after_tasks.ensures.state)
-    (c.requires.inner, ready_after g.P.Plan.meaning g.P.Result.HasKeyErrors.key_errors_in g.P.Result.HasRegionError.region_error_in g.P.Shardable.IsPart g.P.Shardable.load g.P.Shardable.AreCut s.inner s.preserve_region_results c.start-turn.new.self c.after_tasks.new.self.stage (tasks_turn c.start-turn.result) (turn_of c.after_tasks.result) c.after_tasks.ensures.after (λ x. goes.next e.fresh ∙ ap phase_after x) c.start-turn.ensures.ready)
+    subst (λ (x : RetryableMultiRegion _ _ _). (multi g.P.Plan.meaning g.P.Result.HasKeyErrors.key_errors_in g.P.Result.HasRegionError.region_error_in g.P.Shardable.IsPart g.P.Shardable.load g.P.Shardable.AreCut g.P.RegionPlan.most).ready x) (sym c.after_tasks.ensures.state)
+    (c.requires.inner, ready_after g.P.Plan.meaning g.P.Result.HasKeyErrors.key_errors_in g.P.Result.HasRegionError.region_error_in g.P.Shardable.IsPart g.P.Shardable.load g.P.Shardable.AreCut g.P.RegionPlan.most s.inner s.preserve_region_results c.start-turn.new.self c.after_tasks.new.self.stage (tasks_turn c.start-turn.result) (turn_of c.after_tasks.result) c.after_tasks.ensures.after (λ x. goes.next e.fresh ∙ ap phase_after x) c.start-turn.ensures.ready)

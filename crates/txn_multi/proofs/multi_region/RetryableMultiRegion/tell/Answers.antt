@@ -11,13 +11,13 @@ use Rattle.txn_plan.specs.Arrivals.{told_by}
 pub returns-in-Cutting-clause-tells : goal.returns-in-Cutting-clause-tells
 returns-in-Cutting-clause-tells g c r =
     let s = c.args.self.now in
-    subst (λ (x : MultiStage _ _ _). Tells (multi g.P.Plan.meaning g.P.Result.HasKeyErrors.key_errors_in g.P.Result.HasRegionError.region_error_in g.P.Shardable.IsPart g.P.Shardable.load g.P.Shardable.AreCut) (told_by c.args.arrival c.args.out.now r) (record s { stage = x }) c.tell_cutting.new.self c.args.out.now c.tell_cutting.new.out (turn_of c.tell_cutting.result))
+    subst (λ (x : MultiStage _ _ _). Tells (multi g.P.Plan.meaning g.P.Result.HasKeyErrors.key_errors_in g.P.Result.HasRegionError.region_error_in g.P.Shardable.IsPart g.P.Shardable.load g.P.Shardable.AreCut g.P.RegionPlan.most) (told_by c.args.arrival c.args.out.now r) (record s { stage = x }) c.tell_cutting.new.self c.args.out.now c.tell_cutting.new.out (turn_of c.tell_cutting.result))
     (sym c.in-Cutting.is ∙ c.replace.ensures.value) (c.tell_cutting.ensures.tells r)
 
 pub returns-in-Running-clause-tells : goal.returns-in-Running-clause-tells
 returns-in-Running-clause-tells g c r =
     let s = c.args.self.now in
-    subst (λ (x : MultiStage _ _ _). Tells (multi g.P.Plan.meaning g.P.Result.HasKeyErrors.key_errors_in g.P.Result.HasRegionError.region_error_in g.P.Shardable.IsPart g.P.Shardable.load g.P.Shardable.AreCut) (told_by c.args.arrival c.args.out.now r) (record s { stage = x }) c.tell_tasks.new.self c.args.out.now c.tell_tasks.new.out (turn_of c.tell_tasks.result))
+    subst (λ (x : MultiStage _ _ _). Tells (multi g.P.Plan.meaning g.P.Result.HasKeyErrors.key_errors_in g.P.Result.HasRegionError.region_error_in g.P.Shardable.IsPart g.P.Shardable.load g.P.Shardable.AreCut g.P.RegionPlan.most) (told_by c.args.arrival c.args.out.now r) (record s { stage = x }) c.tell_tasks.new.self c.args.out.now c.tell_tasks.new.out (turn_of c.tell_tasks.result))
     (sym c.in-Running.is ∙ c.replace.ensures.value) (c.tell_tasks.ensures.tells r)
 
 pub returns-in_default : goal.returns-in_default
@@ -25,12 +25,12 @@ returns-in_default g c =
     let s = c.args.self.now in
     let at = c.replace.ensures.value in
     let same = c.stay.ensures.state ∙ ap (λ (x : MultiStage _ _ _). record s { stage = x }) at in
-    let none = λ (a : Awaited). not_waiting g.P.Plan.meaning g.P.Result.HasKeyErrors.key_errors_in g.P.Result.HasRegionError.region_error_in g.P.Shardable.IsPart g.P.Shardable.load g.P.Shardable.AreCut s.inner s.stage s.tasks a (λ cut e. c.in_default.not-Cutting cut (c.replace.ensures.value ∙ e)) (λ e. c.in_default.not-Running (c.replace.ensures.value ∙ e)) in
+    let none = λ (a : Awaited). not_waiting g.P.Plan.meaning g.P.Result.HasKeyErrors.key_errors_in g.P.Result.HasRegionError.region_error_in g.P.Shardable.IsPart g.P.Shardable.load g.P.Shardable.AreCut g.P.RegionPlan.most s.inner s.stage s.tasks a (λ cut e. c.in_default.not-Cutting cut (c.replace.ensures.value ∙ e)) (λ e. c.in_default.not-Running (c.replace.ensures.value ∙ e)) in
     let turn = c.stay.ensures.turn ∙ ap (λ (x : MultiStage _ _ _). unheard (multi_phase x)) at in
     record {
-      tells = λ r. idle_told g.P.Plan.meaning g.P.Result.HasKeyErrors.key_errors_in g.P.Result.HasRegionError.region_error_in g.P.Shardable.IsPart g.P.Shardable.load g.P.Shardable.AreCut g.met.P.Plan.lawful s c.stay.new.self same (λ a heard. none a) turn;
+      tells = λ r. idle_told g.P.Plan.meaning g.P.Result.HasKeyErrors.key_errors_in g.P.Result.HasRegionError.region_error_in g.P.Shardable.IsPart g.P.Shardable.load g.P.Shardable.AreCut g.P.RegionPlan.most g.met.P.Plan.lawful s c.stay.new.self same (λ a heard. none a) turn;
       goes = Goes-idle same (none _) turn;
-      counts = idle_counted g.P.Plan.meaning g.P.Result.HasKeyErrors.key_errors_in g.P.Result.HasRegionError.region_error_in g.P.Shardable.IsPart g.P.Shardable.load g.P.Shardable.AreCut g.met.P.Plan.lawful s c.stay.new.self (turn_of c.stay.result) same;
+      counts = idle_counted g.P.Plan.meaning g.P.Result.HasKeyErrors.key_errors_in g.P.Result.HasRegionError.region_error_in g.P.Shardable.IsPart g.P.Shardable.load g.P.Shardable.AreCut g.P.RegionPlan.most g.met.P.Plan.lawful s c.stay.new.self (turn_of c.stay.result) same;
       ready = rw same c.requires.ready;
       numbers = c.requires.numbers;
     }

@@ -6,12 +6,12 @@ use Rattle.txn_multi.proofs.Retrying.{failure_is_bad, still_running}
 use Rattle.txn_multi.proofs.multi_region.RetryableMultiRegion.tell_cutting.Goals as goal
 
 pub returns-clause-tells : goal.returns-clause-tells
-returns-clause-tells g c r = cut_told g.P.Plan.meaning g.P.Result.HasKeyErrors.key_errors_in g.P.Result.HasRegionError.region_error_in g.P.Shardable.IsPart g.P.Shardable.load g.P.Shardable.AreCut c.args.self.now c.after_cut.new.self (stage.Cutting c.args.cutting) c.args.cutting c.tell_cutting-turn.new.search c.tell_cutting-turn.new.pd c.after_cut.new.pd (turn_of c.tell_cutting-turn.result)
+returns-clause-tells g c r = cut_told g.P.Plan.meaning g.P.Result.HasKeyErrors.key_errors_in g.P.Result.HasRegionError.region_error_in g.P.Shardable.IsPart g.P.Shardable.load g.P.Shardable.AreCut g.P.RegionPlan.most c.args.self.now c.after_cut.new.self (stage.Cutting c.args.cutting) c.args.cutting c.tell_cutting-turn.new.search c.tell_cutting-turn.new.pd c.after_cut.new.pd (turn_of c.tell_cutting-turn.result)
     c.requires.stopped c.requires.inner c.requires.none (λ h f. f.0) (λ a w. w) (λ e. still_running c.requires.running (rw e at c.tell_cutting-turn.ensures.goes)) (c.tell_cutting-turn.ensures.tells r) c.after_cut.ensures.after
 
 pub returns-clause-goes : goal.returns-clause-goes
-returns-clause-goes g c = cut_gone g.P.Plan.meaning g.P.Result.HasKeyErrors.key_errors_in g.P.Result.HasRegionError.region_error_in g.P.Shardable.IsPart g.P.Shardable.load g.P.Shardable.AreCut c.args.self.now c.after_cut.new.self c.args.cutting c.tell_cutting-turn.new.search (turn_of c.tell_cutting-turn.result) c.requires.stopped c.requires.running c.tell_cutting-turn.ensures.goes c.after_cut.ensures.after
+returns-clause-goes g c = cut_gone g.P.Plan.meaning g.P.Result.HasKeyErrors.key_errors_in g.P.Result.HasRegionError.region_error_in g.P.Shardable.IsPart g.P.Shardable.load g.P.Shardable.AreCut g.P.RegionPlan.most c.args.self.now c.after_cut.new.self c.args.cutting c.tell_cutting-turn.new.search (turn_of c.tell_cutting-turn.result) c.requires.stopped c.requires.running c.tell_cutting-turn.ensures.goes c.after_cut.ensures.after
 
 pub returns-clause-counts : goal.returns-clause-counts
-returns-clause-counts g c = cut_counted g.P.Plan.meaning g.P.Result.HasKeyErrors.key_errors_in g.P.Result.HasRegionError.region_error_in g.P.Shardable.IsPart g.P.Shardable.load g.P.Shardable.AreCut c.args.self.now c.after_cut.new.self (stage.Cutting c.args.cutting) c.args.cutting c.tell_cutting-turn.new.search c.tell_cutting-turn.new.pd c.after_cut.new.pd (turn_of c.tell_cutting-turn.result)
+returns-clause-counts g c = cut_counted g.P.Plan.meaning g.P.Result.HasKeyErrors.key_errors_in g.P.Result.HasRegionError.region_error_in g.P.Shardable.IsPart g.P.Shardable.load g.P.Shardable.AreCut g.P.RegionPlan.most c.args.self.now c.after_cut.new.self (stage.Cutting c.args.cutting) c.args.cutting c.tell_cutting-turn.new.search c.tell_cutting-turn.new.pd c.after_cut.new.pd (turn_of c.tell_cutting-turn.result)
     (failure_is_bad c.args.arrival) c.requires.none (λ n. refl) c.tell_cutting-turn.ensures.counts c.after_cut.ensures.after

@@ -13,9 +13,9 @@ returns-in_default g c =
     let same = c.stay.ensures.state ∙ ap (λ (x : MultiStage _ _ _). record s { stage = x }) at in
     let turn = c.stay.ensures.turn ∙ ap (λ (x : MultiStage _ _ _). unheard (multi_phase x)) at in
     record {
-      tells = idle_told g.P.Plan.meaning g.P.Result.HasKeyErrors.key_errors_in g.P.Result.HasRegionError.region_error_in g.P.Shardable.IsPart g.P.Shardable.load g.P.Shardable.AreCut g.met.P.Plan.lawful s c.stay.new.self same (λ a heard w. heard) turn;
+      tells = idle_told g.P.Plan.meaning g.P.Result.HasKeyErrors.key_errors_in g.P.Result.HasRegionError.region_error_in g.P.Shardable.IsPart g.P.Shardable.load g.P.Shardable.AreCut g.P.RegionPlan.most g.met.P.Plan.lawful s c.stay.new.self same (λ a heard w. heard) turn;
       goes = Goes-idle same (λ e. c.in_default.not-Fresh (c.replace.ensures.value ∙ fresh_only s.stage e)) turn;
-      counts = idle_counted g.P.Plan.meaning g.P.Result.HasKeyErrors.key_errors_in g.P.Result.HasRegionError.region_error_in g.P.Shardable.IsPart g.P.Shardable.load g.P.Shardable.AreCut g.met.P.Plan.lawful s c.stay.new.self (turn_of c.stay.result) same;
+      counts = idle_counted g.P.Plan.meaning g.P.Result.HasKeyErrors.key_errors_in g.P.Result.HasRegionError.region_error_in g.P.Shardable.IsPart g.P.Shardable.load g.P.Shardable.AreCut g.P.RegionPlan.most g.met.P.Plan.lawful s c.stay.new.self (turn_of c.stay.result) same;
       ready = rw same c.requires.ready;
       numbers = c.requires.numbers;
     }

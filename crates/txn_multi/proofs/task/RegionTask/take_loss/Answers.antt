@@ -8,7 +8,7 @@ pub returns-clause-over : goal.returns-clause-over
 returns-clause-over g c = Over-before (λ h f. may_lose g.P.Plan.meaning g.P.Result.HasKeyErrors.key_errors_in g.P.Result.HasRegionError.region_error_in c.args.self.now.region c.args.self.now.job c.args.ticket _ h f) (Over-mid (record { asked = λ h r x. x; given = λ h v x. x; gave = λ h v x. x }) c.heed.ensures.over)
 
 pub returns-clause-keeps : goal.returns-clause-keeps
-returns-clause-keeps g c = keeps_at _ _ _ _ _ _ c.args.self.now _ _ refl c.heed.ensures.keeps
+returns-clause-keeps g c = keeps_at _ _ _ _ _ _ _ c.args.self.now _ _ refl c.heed.ensures.keeps
 
 pub returns-clause-client : goal.returns-clause-client
 returns-clause-client g c =

@@ -5,7 +5,7 @@ use Rattle.txn_multi.proofs.Retrying.{keeps_at, may_refuse, step_stopped, Over-b
 use Rattle.txn_multi.proofs.task.RegionTask.take_region_error.Goals as goal
 
 pub returns-in_err-failure-clause-over : goal.returns-in_err-failure-clause-over
-returns-in_err-failure-clause-over g c = Over-stopped _ _ _ _ _ _ g.met.P.Plan.lawful c.args.self.now _ refl refl c.requires.stopped (step_stopped c.from_residual.result c.from_residual.ensures.0)
+returns-in_err-failure-clause-over g c = Over-stopped _ _ _ _ _ _ _ g.met.P.Plan.lawful c.args.self.now _ refl refl c.requires.stopped (step_stopped c.from_residual.result c.from_residual.ensures.0)
 
 pub returns-clause-over : goal.returns-clause-over
 returns-clause-over g c = Over-before
@@ -13,4 +13,4 @@ returns-clause-over g c = Over-before
     (Over-mid (record { asked = λ h r x. x; given = λ h v x. x; gave = λ h v x. x }) c.heed.ensures.over)
 
 pub returns-clause-keeps : goal.returns-clause-keeps
-returns-clause-keeps g c = keeps_at _ _ _ _ _ _ c.args.self.now _ _ refl c.heed.ensures.keeps
+returns-clause-keeps g c = keeps_at _ _ _ _ _ _ _ c.args.self.now _ _ refl c.heed.ensures.keeps

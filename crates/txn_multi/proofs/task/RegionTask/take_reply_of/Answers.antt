@@ -7,7 +7,7 @@ use Rattle.txn_multi.proofs.Retrying.{step_stopped, view-multiple, Over-before, 
 use Rattle.txn_multi.proofs.task.RegionTask.take_reply_of.Goals as goal
 
 pub returns-in_err-errors-clause-over : goal.returns-in_err-errors-clause-over
-returns-in_err-errors-clause-over g c = Over-stopped _ _ _ _ _ _ g.met.P.Plan.lawful c.args.self.now c.args.self.now refl refl c.requires.stopped (step_stopped c.from_residual.result c.from_residual.ensures.0)
+returns-in_err-errors-clause-over g c = Over-stopped _ _ _ _ _ _ _ g.met.P.Plan.lawful c.args.self.now c.args.self.now refl refl c.requires.stopped (step_stopped c.from_residual.result c.from_residual.ensures.0)
 
 pub returns-in-Some-clause-over : goal.returns-in-Some-clause-over
 returns-in-Some-clause-over g c =

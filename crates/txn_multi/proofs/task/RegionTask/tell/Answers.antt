@@ -8,48 +8,48 @@ use Rattle.txn_multi.proofs.task.RegionTask.tell.Goals as goal
 use Rattle.txn_plan.specs.Arrivals.{awaited_as}
 
 pub returns-in-Running-clause-tells : goal.returns-in-Running-clause-tells
-returns-in-Running-clause-tells g c r = tells_at _ _ _ _ _ _ c.args.self.now (stage.Running c.in-Running.plan) (sym c.replace.ensures.value ∙ c.in-Running.is) (c.tell_plan.ensures.tells r)
+returns-in-Running-clause-tells g c r = tells_at _ _ _ _ _ _ _ c.args.self.now (stage.Running c.in-Running.plan) (sym c.replace.ensures.value ∙ c.in-Running.is) (c.tell_plan.ensures.tells r)
 
 pub returns-in-Running-clause-goes : goal.returns-in-Running-clause-goes
 returns-in-Running-clause-goes g c = goes_at g.P.Plan.meaning (awaited_as c.args.arrival) c.args.self.now (stage.Running c.in-Running.plan) (sym c.replace.ensures.value ∙ c.in-Running.is) c.tell_plan.ensures.goes
 
 pub returns-in-Running-clause-counts : goal.returns-in-Running-clause-counts
-returns-in-Running-clause-counts g c = counts_at _ _ _ _ _ _ c.args.self.now (stage.Running c.in-Running.plan) (sym c.replace.ensures.value ∙ c.in-Running.is) c.tell_plan.ensures.counts
+returns-in-Running-clause-counts g c = counts_at _ _ _ _ _ _ _ c.args.self.now (stage.Running c.in-Running.plan) (sym c.replace.ensures.value ∙ c.in-Running.is) c.tell_plan.ensures.counts
 
 pub returns-in-Running-clause-keeps : goal.returns-in-Running-clause-keeps
-returns-in-Running-clause-keeps g c = keeps_at _ _ _ _ _ _ c.args.self.now _ _ refl c.tell_plan.ensures.keeps
+returns-in-Running-clause-keeps g c = keeps_at _ _ _ _ _ _ _ c.args.self.now _ _ refl c.tell_plan.ensures.keeps
 
 pub returns-in-Sleeping-clause-tells : goal.returns-in-Sleeping-clause-tells
-returns-in-Sleeping-clause-tells g c r = tells_at _ _ _ _ _ _ c.args.self.now (stage.Sleeping c.in-Sleeping.number) (sym c.replace.ensures.value ∙ c.in-Sleeping.is) (c.tell_sleeping.ensures.tells r)
+returns-in-Sleeping-clause-tells g c r = tells_at _ _ _ _ _ _ _ c.args.self.now (stage.Sleeping c.in-Sleeping.number) (sym c.replace.ensures.value ∙ c.in-Sleeping.is) (c.tell_sleeping.ensures.tells r)
 
 pub returns-in-Sleeping-clause-goes : goal.returns-in-Sleeping-clause-goes
 returns-in-Sleeping-clause-goes g c = goes_at g.P.Plan.meaning (awaited_as c.args.arrival) c.args.self.now (stage.Sleeping c.in-Sleeping.number) (sym c.replace.ensures.value ∙ c.in-Sleeping.is) c.tell_sleeping.ensures.goes
 
 pub returns-in-Sleeping-clause-counts : goal.returns-in-Sleeping-clause-counts
-returns-in-Sleeping-clause-counts g c = counts_at _ _ _ _ _ _ c.args.self.now (stage.Sleeping c.in-Sleeping.number) (sym c.replace.ensures.value ∙ c.in-Sleeping.is) c.tell_sleeping.ensures.counts
+returns-in-Sleeping-clause-counts g c = counts_at _ _ _ _ _ _ _ c.args.self.now (stage.Sleeping c.in-Sleeping.number) (sym c.replace.ensures.value ∙ c.in-Sleeping.is) c.tell_sleeping.ensures.counts
 
 pub returns-in-Sleeping-clause-keeps : goal.returns-in-Sleeping-clause-keeps
-returns-in-Sleeping-clause-keeps g c = keeps_at _ _ _ _ _ _ c.args.self.now _ _ refl c.tell_sleeping.ensures.keeps
+returns-in-Sleeping-clause-keeps g c = keeps_at _ _ _ _ _ _ _ c.args.self.now _ _ refl c.tell_sleeping.ensures.keeps
 
 pub returns-in-Cutting-clause-tells : goal.returns-in-Cutting-clause-tells
-returns-in-Cutting-clause-tells g c r = tells_at _ _ _ _ _ _ c.args.self.now (stage.Cutting c.in-Cutting.cutting) (sym c.replace.ensures.value ∙ c.in-Cutting.is) (c.tell_cutting.ensures.tells r)
+returns-in-Cutting-clause-tells g c r = tells_at _ _ _ _ _ _ _ c.args.self.now (stage.Cutting c.in-Cutting.cutting) (sym c.replace.ensures.value ∙ c.in-Cutting.is) (c.tell_cutting.ensures.tells r)
 
 pub returns-in-Cutting-clause-goes : goal.returns-in-Cutting-clause-goes
 returns-in-Cutting-clause-goes g c = goes_at g.P.Plan.meaning (awaited_as c.args.arrival) c.args.self.now (stage.Cutting c.in-Cutting.cutting) (sym c.replace.ensures.value ∙ c.in-Cutting.is) c.tell_cutting.ensures.goes
 
 pub returns-in-Cutting-clause-counts : goal.returns-in-Cutting-clause-counts
-returns-in-Cutting-clause-counts g c = counts_at _ _ _ _ _ _ c.args.self.now (stage.Cutting c.in-Cutting.cutting) (sym c.replace.ensures.value ∙ c.in-Cutting.is) c.tell_cutting.ensures.counts
+returns-in-Cutting-clause-counts g c = counts_at _ _ _ _ _ _ _ c.args.self.now (stage.Cutting c.in-Cutting.cutting) (sym c.replace.ensures.value ∙ c.in-Cutting.is) c.tell_cutting.ensures.counts
 
 pub returns-in-Cutting-clause-keeps : goal.returns-in-Cutting-clause-keeps
-returns-in-Cutting-clause-keeps g c = keeps_at _ _ _ _ _ _ c.args.self.now _ _ refl c.tell_cutting.ensures.keeps
+returns-in-Cutting-clause-keeps g c = keeps_at _ _ _ _ _ _ _ c.args.self.now _ _ refl c.tell_cutting.ensures.keeps
 
 pub returns-in_default-clause-tells : goal.returns-in_default-clause-tells
 returns-in_default-clause-tells g c r =
     let same : c.stay.new.self ≡ c.args.self.now = c.stay.ensures.state ∙ ap (λ x. record c.args.self.now { stage = x }) c.replace.ensures.value in
     let idle : (a : Awaited) → StageWaits g.P.Plan.meaning c.args.self.now.stage a → ⊥ = subst (λ x. (a : Awaited) → StageWaits g.P.Plan.meaning x a → ⊥) c.replace.ensures.value (idle_at g.P.Plan.meaning c.replace.result c.in_default.not-Running c.in_default.not-Sleeping c.in_default.not-Cutting) in
-    rw same (Tells-idle (region_task-lawful _ _ _ _ _ _ g.met.P.Plan.lawful) (λ a heard w. idle a w) (c.stay.ensures.turn ∙ ap (λ x. unheard (stage_phase x)) c.replace.ensures.value))
+    rw same (Tells-idle (region_task-lawful _ _ _ _ _ _ _ g.met.P.Plan.lawful) (λ a heard w. idle a w) (c.stay.ensures.turn ∙ ap (λ x. unheard (stage_phase x)) c.replace.ensures.value))
 
 pub returns-in_default-clause-keeps : goal.returns-in_default-clause-keeps
 returns-in_default-clause-keeps g c =
     let same : c.stay.new.self ≡ c.args.self.now = c.stay.ensures.state ∙ ap (λ x. record c.args.self.now { stage = x }) c.replace.ensures.value in
-    rw (same, c.stay.ensures.turn) (keeps_idle _ _ _ _ _ _ c.args.self.now (stage_phase c.replace.result))
+    rw (same, c.stay.ensures.turn) (keeps_idle _ _ _ _ _ _ _ c.args.self.now (stage_phase c.replace.result))

@@ -9,22 +9,22 @@ use Rattle.txn_tso.specs.Calling.{members}
 use Rattle.txn_multi.proofs.task.RegionTask.tell_plan.Goals as goal
 
 pub returns-in_err-tell-clause-tells : goal.returns-in_err-tell-clause-tells
-returns-in_err-tell-clause-tells g c r = tells_off_plan _ _ _ _ _ _ g.met.P.Plan.lawful c.args.self.now c.args.self.now c.args.plan c.tell.new.plan c.requires.plan refl refl c.requires.stopped (step_stopped c.from_residual.result c.from_residual.ensures.0) (c.in_err-tell.ensures.tells r)
+returns-in_err-tell-clause-tells g c r = tells_off_plan _ _ _ _ _ _ _ g.met.P.Plan.lawful c.args.self.now c.args.self.now c.args.plan c.tell.new.plan c.requires.plan refl refl c.requires.stopped (step_stopped c.from_residual.result c.from_residual.ensures.0) (c.in_err-tell.ensures.tells r)
 
 pub returns-in_err-tell-clause-goes : goal.returns-in_err-tell-clause-goes
 returns-in_err-tell-clause-goes g c = Goes-over Stopped (λ e. cc) c.requires.plan.phase c.in_err-tell.ensures.goes (rw (c.requires.stopped, step_stopped c.from_residual.result c.from_residual.ensures.0) refl)
 
 pub returns-in_err-tell-clause-counts : goal.returns-in_err-tell-clause-counts
-returns-in_err-tell-clause-counts g c = counts_off_plan _ _ _ _ _ _ c.args.self.now c.args.self.now c.args.plan c.tell.new.plan c.requires.plan (g.met.P.RegionPlan.uncut c.tell.new.plan) refl refl (step_stopped c.from_residual.result c.from_residual.ensures.0) c.in_err-tell.ensures.counts
+returns-in_err-tell-clause-counts g c = counts_off_plan _ _ _ _ _ _ _ c.args.self.now c.args.self.now c.args.plan c.tell.new.plan c.requires.plan (g.met.P.RegionPlan.uncut c.tell.new.plan) refl refl (step_stopped c.from_residual.result c.from_residual.ensures.0) c.in_err-tell.ensures.counts
 
 pub returns-in-Waiting-clause-tells : goal.returns-in-Waiting-clause-tells
-returns-in-Waiting-clause-tells g c r = tells_on_plan _ _ _ _ _ _ g.met.P.Plan.lawful c.args.self.now c.args.plan c.tell.new.plan c.requires.plan (still_running c.requires.plan.phase (rw c.in-Waiting.is at c.in_ok-tell.ensures.goes)) (rw c.in-Waiting.is at (c.in_ok-tell.ensures.tells r))
+returns-in-Waiting-clause-tells g c r = tells_on_plan _ _ _ _ _ _ _ g.met.P.Plan.lawful c.args.self.now c.args.plan c.tell.new.plan c.requires.plan (still_running c.requires.plan.phase (rw c.in-Waiting.is at c.in_ok-tell.ensures.goes)) (rw c.in-Waiting.is at (c.in_ok-tell.ensures.tells r))
 
 pub returns-in-Waiting-clause-goes : goal.returns-in-Waiting-clause-goes
 returns-in-Waiting-clause-goes g c = Goes-on (λ p. record c.args.self.now { stage = stage.Running p }) (λ p. refl) (rw c.in-Waiting.is at c.in_ok-tell.ensures.goes)
 
 pub returns-in-Waiting-clause-counts : goal.returns-in-Waiting-clause-counts
-returns-in-Waiting-clause-counts g c = counts_on_plan _ _ _ _ _ _ c.args.self.now c.args.plan c.tell.new.plan c.requires.plan (g.met.P.RegionPlan.uncut c.tell.new.plan) (rw c.in-Waiting.is at c.in_ok-tell.ensures.counts)
+returns-in-Waiting-clause-counts g c = counts_on_plan _ _ _ _ _ _ _ c.args.self.now c.args.plan c.tell.new.plan c.requires.plan (g.met.P.RegionPlan.uncut c.tell.new.plan) (rw c.in-Waiting.is at c.in_ok-tell.ensures.counts)
 
 pub returns-in-Waiting-clause-ready : goal.returns-in-Waiting-clause-ready
 returns-in-Waiting-clause-ready g c = record {
@@ -38,10 +38,10 @@ returns-in-Waiting-clause-ready g c = record {
 }
 
 pub returns-in-Done-clause-tells : goal.returns-in-Done-clause-tells
-returns-in-Done-clause-tells g c r = tells_over_plan _ _ _ _ _ _ g.met.P.Plan.lawful c.args.self.now c.args.plan c.tell.new.plan c.requires.plan (rw c.in-Done.is at (c.in_ok-tell.ensures.tells r)) c.take_answer.ensures.over
+returns-in-Done-clause-tells g c r = tells_over_plan _ _ _ _ _ _ _ g.met.P.Plan.lawful c.args.self.now c.args.plan c.tell.new.plan c.requires.plan (rw c.in-Done.is at (c.in_ok-tell.ensures.tells r)) c.take_answer.ensures.over
 
 pub returns-in-Done-clause-goes : goal.returns-in-Done-clause-goes
 returns-in-Done-clause-goes g c = Goes-over (Ends c.in-Done.answer) (λ e. cc) c.requires.plan.phase (rw c.in-Done.is at c.in_ok-tell.ensures.goes) c.take_answer.ensures.over.next
 
 pub returns-in-Done-clause-counts : goal.returns-in-Done-clause-counts
-returns-in-Done-clause-counts g c = counts_over_plan _ _ _ _ _ _ c.args.self.now c.args.plan c.tell.new.plan c.requires.plan (g.met.P.RegionPlan.uncut c.tell.new.plan) (failure_is_bad c.args.arrival) (rw c.in-Done.is at c.in_ok-tell.ensures.counts) c.take_answer.ensures.costs
+returns-in-Done-clause-counts g c = counts_over_plan _ _ _ _ _ _ _ c.args.self.now c.args.plan c.tell.new.plan c.requires.plan (g.met.P.RegionPlan.uncut c.tell.new.plan) (failure_is_bad c.args.arrival) (rw c.in-Done.is at c.in_ok-tell.ensures.counts) c.take_answer.ensures.costs

@@ -10,7 +10,7 @@ use Rattle.txn_multi.proofs.task.RegionTaskTask.start.Goals as goal
 pub returns-in_default-clause-tells : goal.returns-in_default-clause-tells
 returns-in_default-clause-tells g c =
     let same : c.stay.new.self ≡ c.args.self.now = c.stay.ensures.state ∙ ap (λ x. record c.args.self.now { stage = x }) c.replace.ensures.value in
-    rw same (Tells-idle (region_task-lawful _ _ _ _ _ _ g.met.P.Plan.lawful) (λ a heard w. heard) (c.stay.ensures.turn ∙ ap (λ x. unheard (stage_phase x)) c.replace.ensures.value))
+    rw same (Tells-idle (region_task-lawful _ _ _ _ _ _ _ g.met.P.Plan.lawful) (λ a heard w. heard) (c.stay.ensures.turn ∙ ap (λ x. unheard (stage_phase x)) c.replace.ensures.value))
 
 pub returns-in_default-clause-goes : goal.returns-in_default-clause-goes
 returns-in_default-clause-goes g c =
@@ -26,7 +26,7 @@ returns-in_default-clause-goes g c =
 pub returns-in_default-clause-keeps : goal.returns-in_default-clause-keeps
 returns-in_default-clause-keeps g c =
     let same : c.stay.new.self ≡ c.args.self.now = c.stay.ensures.state ∙ ap (λ x. record c.args.self.now { stage = x }) c.replace.ensures.value in
-    rw (same, c.stay.ensures.turn) (keeps_idle _ _ _ _ _ _ c.args.self.now (stage_phase c.replace.result))
+    rw (same, c.stay.ensures.turn) (keeps_idle _ _ _ _ _ _ _ c.args.self.now (stage_phase c.replace.result))
 
 pub returns-in_default-clause-ends : goal.returns-in_default-clause-ends
 returns-in_default-clause-ends g c = rw c.stay.ensures.turn (no_end (stage_phase c.replace.result) IsEnd)
