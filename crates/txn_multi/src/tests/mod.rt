@@ -4,4 +4,5 @@ mod losses;
 mod many;
 mod retries;
 mod run;
+mod splits;
 mod table;
