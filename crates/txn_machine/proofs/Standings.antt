@@ -1,8 +1,8 @@
 -- A machine stands for its lines, and for one more after each step.
-use Rattle.std.proofs.Common.{◌≡◌, ℕ, zero, suc, ◌+◌, ◌*◌, ◌^◌, ◌<◌, ◌≤◌, Bool, true, false, if◌then◌else◌, List, [], ◌∷◌, Option, Some, None, length, reverse, nat_le, nat_lt, refl, sym, ap, ◌∙◌, subst, arith}
+use Rattle.std.proofs.Common.{◌≡◌, ℕ, zero, suc, ◌+◌, ◌^◌, ◌<◌, ◌≤◌, Bool, true, false, if◌then◌else◌, List, [], ◌∷◌, Option, Some, None, length, reverse, nat_le, nat_lt, refl, sym, ap, ◌∙◌, subst, arith}
 use Rattle.std.proofs.lemmas.Bool.Decides.{nat_tests}
 use Rattle.txn_lines.specs.Kinds.{kinds_of}
-use Rattle.txn_lines.specs.Lines.{clients_in, clock_in, line_at, max_clock, max_lines, named_by, or_else, why_after, why_alone, why_clock, why_named}
+use Rattle.txn_lines.specs.Lines.{clients_in, clock_in, max_clock, max_lines, named_by, or_else, why_after, why_alone, why_clock, why_named}
 use Rattle.txn_lines.specs.declared.line.Line.{Line}
 use Rattle.txn_lines.specs.declared.line.Line.TheVariants as lines
 use Rattle.txn_lines.specs.declared.script.Why.{Why}
@@ -14,11 +14,11 @@ use Rattle.txn_post.proofs.Mails.{none_is_mail}
 use Rattle.txn_report.specs.declared.report.Report.{Report}
 use Rattle.txn_side.specs.Sight.{Sight, Stand, client_at, nobody, stand_at}
 use Rattle.txn_side.specs.Sight.Stand.{Calling, HasBegun, Idle, IsClient}
-use Rattle.txn_machine.specs.Causes.{AllCallsMeet, AllEnd, AllEventsMeet, AllLive, AreTold, CallsMeetLines, EndsLines, EventsMeetLines, LivesLines, TellsLines, answers, ended_of, role_of}
+use Rattle.txn_machine.specs.Causes.{AllCallsMeet, AllEnd, AllEventsMeet, AllLive, AreTold, CallsMeetLines, EndsLines, EventsMeetLines, LivesLines, TellsLines, answers, ended_of}
 use Rattle.txn_machine.specs.Lists.{Lists, newest, nothing, opened}
 use Rattle.txn_machine.specs.Rows.{Caused, Fate, IsNoRow, Row, outcome_in, role_in}
 use Rattle.txn_machine.specs.Rows.Row.{Acted, AskFailed, AskSkipped, AskWaits, Begun, CallFailed, CallSkipped, CallWaits, Happened, Made, Over, Timed, Works}
-use Rattle.txn_machine.specs.Running.{HasMemory, IsFine, IsOrdered, IsReportOf, LedTo, Standing, StandsFor, closed, lists_of}
+use Rattle.txn_machine.specs.Running.{HasMemory, IsFine, IsOrdered, IsReportOf, Standing, StandsFor, closed, lists_of}
 use Rattle.txn_machine.specs.Steps.{Does, Steps}
 use Rattle.txn_machine.specs.declared.machine.Machine.{Machine}
 use Rattle.txn_machine.specs.Script.{FoldsLines, Folded, history, outcome_of, served_tickets, waits}
