@@ -1,4 +1,5 @@
 mod Numbers
+mod Coming
 mod Orders
 mod Finds
 mod Calms
@@ -16,3 +17,6 @@ mod Carried
 mod Alive
 mod Keepings
 mod Standings
+mod Noting
+mod LineByLine
+pub mod Scripts

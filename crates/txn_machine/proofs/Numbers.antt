@@ -38,7 +38,7 @@ or_ended [] d (suc i) = refl
 or_ended (z ∷ xs) d zero = refl
 or_ended (z ∷ xs) d (suc i) = or_ended xs d i
 
-or_old : {X : Type 0} (xs : List X) (y d : X) (i : ℕ) → i < length xs → get_or (xs ++ y ∷ []) i d ≡ get_or xs i d
+pub or_old : {X : Type 0} (xs : List X) (y d : X) (i : ℕ) → i < length xs → get_or (xs ++ y ∷ []) i d ≡ get_or xs i d
 or_old [] y d i h = absurd (omega arith)
 or_old (z ∷ xs) y d zero h = refl
 or_old (z ∷ xs) y d (suc i) h = or_old xs y d i (omega arith)
@@ -54,11 +54,11 @@ or_past (z ∷ xs) d (suc i) h = or_past xs d i (omega arith)
 
 -- The places and the next number of a line.
 
-places_same : (tickets : List (List Place)) (line : ℕ) (ps : List Place) → 1 ≤ line → line ≤ length tickets → places_of (set tickets (line - 1) ps) line ≡ ps
+pub places_same : (tickets : List (List Place)) (line : ℕ) (ps : List Place) → 1 ≤ line → line ≤ length tickets → places_of (set tickets (line - 1) ps) line ≡ ps
 places_same tickets zero ps one most = absurd (omega arith)
 places_same tickets (suc i) ps one most = let e : suc i - 1 ≡ i = omega arith in rw e (or_same tickets i ps [] (omega arith))
 
-places_other : (tickets : List (List Place)) (line n : ℕ) (ps : List Place) → 1 ≤ line → n ≢ line → places_of (set tickets (line - 1) ps) n ≡ places_of tickets n
+pub places_other : (tickets : List (List Place)) (line n : ℕ) (ps : List Place) → 1 ≤ line → n ≢ line → places_of (set tickets (line - 1) ps) n ≡ places_of tickets n
 places_other tickets zero n ps one apart = absurd (omega arith)
 places_other tickets (suc i) zero ps one apart = refl
 places_other tickets (suc i) (suc j) ps one apart = let e : suc i - 1 ≡ i = omega arith in rw e (or_other tickets i j ps [] (suc_apart i j apart))
@@ -72,7 +72,7 @@ next_other nexts zero n v one apart = absurd (omega arith)
 next_other nexts (suc i) zero v one apart = refl
 next_other nexts (suc i) (suc j) v one apart = let e : suc i - 1 ≡ i = omega arith in rw e (or_other nexts i j v 0 (suc_apart i j apart))
 
-same_line : (line n : ℕ) → (n ≡ line) ⊎ (n ≢ line)
+pub same_line : (line n : ℕ) → (n ≡ line) ⊎ (n ≢ line)
 same_line line n = by (nat_eq n line) refl
   where
     by : (b : Bool) → nat_eq n line ≡ b → (n ≡ line) ⊎ (n ≢ line)
@@ -106,6 +106,9 @@ numbered_next tickets nexts t place next a = record {
         ∙ ap (λ ps. length ps + 1) (sym (places_same tickets t.line (places_of tickets t.line ++ place ∷ []) next.first here)))
     by n one most (inr apart) = next_other nexts t.line n (next_at nexts t.line + 1) next.first apart ∙ a.numbers n one most
         ∙ ap (λ ps. length ps + 1) (sym (places_other tickets t.line n (places_of tickets t.line ++ place ∷ []) next.first apart))
+
+pub length_next : (nexts : List ℕ) (line : ℕ) → length (with_next nexts line) ≡ length nexts
+length_next nexts line = length-set nexts (line - 1) (next_at nexts line + 1)
 
 pub numbered_one : (at : ℕ) (p : Posting) (mail : Mail) (nexts : List ℕ) → IsNext nexts (ticket_in p) → AreNumbered mail.tickets nexts → AreNumbered (posted_at at p mail).tickets (with_next nexts (ticket_in p).line)
 numbered_one at p mail nexts next a = subst (λ ts. AreNumbered ts (with_next nexts (ticket_in p).line)) (sym (named_so at p mail)) (numbered_next mail.tickets nexts (ticket_in p) (place_by mail p) next a)
@@ -186,7 +189,7 @@ asks_all at (p ∷ ps) mail from to h a = asks_all at ps (posted_at at p mail) (
 
 -- A line more has named nothing.
 
-places_opened : (tickets : List (List Place)) (n : ℕ) → places_of (tickets ++ [] ∷ []) n ≡ places_of tickets n
+pub places_opened : (tickets : List (List Place)) (n : ℕ) → places_of (tickets ++ [] ∷ []) n ≡ places_of tickets n
 places_opened tickets zero = refl
 places_opened tickets (suc i) = or_ended tickets [] i
 

@@ -27,8 +27,9 @@ use Rattle.txn_side.specs.declared.turn.Ending.{Ending}
 use Rattle.txn_side.specs.declared.turn.Posting.{Posting}
 use Rattle.txn_side.specs.declared.turn.Turn.{Turn}
 use Rattle.txn_machine.specs.Lists.{Lists, all_ended, all_posted, at_line, ended_at, fated, followed, handled, newest, opened, outright, reply_at, request_in, with_mail, with_sight, with_store}
-use Rattle.txn_machine.specs.Running.{AreNumbered, IsEven, IsFine, IsOrdered, IsSound}
+use Rattle.txn_machine.specs.Running.{AreNumbered, CameInOrder, IsEven, IsFine, IsOrdered, IsSound}
 use Rattle.txn_machine.specs.Steps.{Answers, AtPlace, Calls, Delivers, Hears, IfServable, IsBusy, Refuses, Serves, Steps, Takes, called, done_if, found_asleep, found_out, skipped}
+use Rattle.txn_machine.proofs.Coming.{order_all, order_opened}
 use Rattle.txn_machine.proofs.Numbers.{asks_all, lines_stay, mail_all, numbered_all, numbered_opened}
 use Rattle.txn_post.proofs.Mails.{changed_is_mail, opened_is_mail, waked_is_mail}
 
@@ -49,6 +50,7 @@ relisted l outs es a b h = record {
   };
   sound = record {
     mail = h.sound.mail;
+    order = subst (λ n. CameInOrder n l.mail) (sym a) h.sound.order;
     askers = h.sound.askers;
     last = subst (λ n. l.store.last ≤ 2 ^ 62 + 2 ^ 19 * n) (sym a) h.sound.last;
     clock = h.sound.clock;
@@ -79,7 +81,7 @@ pub sight_keeps : {n : ℕ} (s : Sight) (l : Lists) → length s.stands ≡ newe
 sight_keeps s l count nexts h = record {
   ordered = record {
     even = record { ended = h.ordered.even.ended; tickets = h.ordered.even.tickets; stands = count; numbered = subst (λ ns. AreNumbered l.mail.tickets ns) (sym nexts) h.ordered.even.numbered };
-    sound = record { mail = h.ordered.sound.mail; askers = h.ordered.sound.askers; last = h.ordered.sound.last; clock = h.ordered.sound.clock; few = h.ordered.sound.few };
+    sound = record { mail = h.ordered.sound.mail; order = h.ordered.sound.order; askers = h.ordered.sound.askers; last = h.ordered.sound.last; clock = h.ordered.sound.clock; few = h.ordered.sound.few };
   };
   count = h.count;
 }
@@ -95,6 +97,7 @@ followed_keeps s posted ended l count numbers h = all_ended_keeps ended (with_ma
     };
     sound = record {
       mail = mail_all (newest l) posted l.mail l.sight.nexts s.nexts numbers h.ordered.even.numbered h.ordered.sound.mail;
+      order = order_all (newest l) posted l.mail l.sight.nexts s.nexts numbers h.ordered.even.numbered (let e = h.ordered.even.tickets in omega arith) h.ordered.sound.mail h.ordered.sound.order;
       askers = asks_all (newest l) posted l.mail l.sight.nexts s.nexts numbers h.ordered.sound.askers;
       last = h.ordered.sound.last;
       clock = h.ordered.sound.clock;
@@ -120,7 +123,7 @@ fated_keeps : {n : ℕ} (change : Letter → Letter) (place : ℕ) (l : Lists) �
 fated_keeps change place l h = record {
   ordered = record {
     even = fated_even change place l h.ordered.even;
-    sound = record { mail = changed_is_mail change place l.mail h.ordered.sound.mail; askers = h.ordered.sound.askers; last = h.ordered.sound.last; clock = h.ordered.sound.clock; few = h.ordered.sound.few };
+    sound = record { mail = changed_is_mail change place l.mail h.ordered.sound.mail; order = record { sent = h.ordered.sound.order.sent; sleeps = h.ordered.sound.order.sleeps; lines = h.ordered.sound.order.lines }; askers = h.ordered.sound.askers; last = h.ordered.sound.last; clock = h.ordered.sound.clock; few = h.ordered.sound.few };
   };
   count = h.count;
 }
@@ -129,7 +132,7 @@ waked_keeps : {n : ℕ} (place : ℕ) (l : Lists) → Stays n l → Stays n (wit
 waked_keeps place l h = record {
   ordered = record {
     even = waked_even place l h.ordered.even;
-    sound = record { mail = waked_is_mail place l.mail h.ordered.sound.mail; askers = h.ordered.sound.askers; last = h.ordered.sound.last; clock = h.ordered.sound.clock; few = h.ordered.sound.few };
+    sound = record { mail = waked_is_mail place l.mail h.ordered.sound.mail; order = record { sent = h.ordered.sound.order.sent; sleeps = h.ordered.sound.order.sleeps; lines = h.ordered.sound.order.lines }; askers = h.ordered.sound.askers; last = h.ordered.sound.last; clock = h.ordered.sound.clock; few = h.ordered.sound.few };
   };
   count = h.count;
 }
@@ -156,6 +159,7 @@ opened_keeps l room h = record {
     even = opened_even l h.even;
     sound = record {
       mail = opened_is_mail l.mail h.sound.mail;
+      order = subst (λ n. CameInOrder n (opened l).mail) (sym (opened_count l)) (order_opened (newest l) l.mail h.sound.order);
       askers = h.sound.askers;
       last = more_room l.store.last (newest l) (newest (opened l)) (opened_count l) h.sound.last;
       clock = h.sound.clock;
@@ -198,6 +202,7 @@ handled_keeps t place l room h = record {
     sound : IsSound (handled t place (opened l))
     sound = record {
       mail = opened_is_mail l.mail h.sound.mail;
+      order = subst (λ n. CameInOrder n (opened l).mail) (sym (opened_count l)) (order_opened (newest l) l.mail h.sound.order);
       askers = h.sound.askers;
       last = subst (λ n. (table l.store (request_in (slice_get l.mail.sent place))).store.last ≤ 2 ^ 62 + 2 ^ 19 * n) (sym (opened_count l)) (serve_last l.store (request_in (slice_get l.mail.sent place)) (newest l) (can_serve_at l place h.sound) h.sound.last h.sound.clock);
       clock = subst (λ n. n < 2 ^ 44) (sym (others_stay l.store (request_in (slice_get l.mail.sent place))).clock) h.sound.clock;
@@ -208,7 +213,7 @@ stored_keeps : {n : ℕ} (st : Store) (l : Lists) → st.last ≡ l.store.last �
 stored_keeps st l last clock h = record {
   ordered = record {
     even = record { ended = h.ordered.even.ended; tickets = h.ordered.even.tickets; stands = h.ordered.even.stands; numbered = h.ordered.even.numbered };
-    sound = record { mail = h.ordered.sound.mail; askers = h.ordered.sound.askers; last = subst (λ n. n ≤ 2 ^ 62 + 2 ^ 19 * newest l) (sym last) h.ordered.sound.last; clock = clock; few = h.ordered.sound.few };
+    sound = record { mail = h.ordered.sound.mail; order = h.ordered.sound.order; askers = h.ordered.sound.askers; last = subst (λ n. n ≤ 2 ^ 62 + 2 ^ 19 * newest l) (sym last) h.ordered.sound.last; clock = clock; few = h.ordered.sound.few };
   };
   count = h.count;
 }

@@ -24,6 +24,7 @@ use Rattle.txn_machine.specs.declared.machine.Machine.{Machine}
 use Rattle.txn_machine.specs.Script.{FoldsLines, Folded, history, outcome_of, served_tickets, waits}
 use Rattle.txn_law.specs.Run.{store_after}
 use Rattle.txn_machine.proofs.Keepings.{caused_step}
+use Rattle.txn_machine.proofs.Coming.{none_in_order}
 use Rattle.txn_machine.proofs.Folds.{folded_step}
 use Rattle.txn_machine.proofs.Orders.{Stays, opened_count, opened_keeps, steps_keep}
 use Rattle.txn_machine.specs.declared.done.Done.{Done as Course}
@@ -64,7 +65,7 @@ good_fine before line e = tt
 ordered_nothing : IsOrdered nothing
 ordered_nothing = record {
   even = record { ended = refl; tickets = refl; stands = refl; numbered = record { lines = refl; numbers = λ n one most. absurd (omega arith) } };
-  sound = record { mail = none_is_mail; askers = λ k d h. absurd (omega arith); last = omega arith; clock = omega arith; few = omega arith };
+  sound = record { mail = none_is_mail; order = none_in_order 0; askers = λ k d h. absurd (omega arith); last = omega arith; clock = omega arith; few = omega arith };
 }
 
 none_waits : (n : ℕ) → waits (stand_at [] n) ≡ false

@@ -1,6 +1,6 @@
 -- The machine and the lines that it stands for, of which the newest is the first.
-use Rattle.std.specs.Prelude.{◌≡◌, ℕ, ◌+◌, ◌*◌, ◌≤◌, ◌<◌, ◌^◌, false, if◌then◌else◌, List, [], ◌∷◌, ◌++◌, length, Option, Some, None}
-use Rattle.std.specs.List.{All}
+use Rattle.std.specs.Prelude.{◌≡◌, ℕ, ◌+◌, ◌*◌, ◌≤◌, ◌<◌, ◌^◌, false, if◌then◌else◌, List, [], ◌∷◌, ◌++◌, length, map, slice_index_or, Option, Some, None}
+use Rattle.std.specs.List.{All, AllPairs}
 use Rattle.std.proofs.Common.{zero, suc}
 use Rattle.txn_kv.specs.declared.ticket.Ticket.{Ticket}
 use Rattle.txn_lines.specs.Kinds.{kinds_of}
@@ -9,6 +9,7 @@ use Rattle.txn_lines.specs.declared.line.Line.{Line}
 use Rattle.txn_lines.specs.declared.line.Line.TheVariants.{Clock}
 use Rattle.txn_post.specs.Mail.{IsMail, Mail, outs_of, places_of}
 use Rattle.txn_post.specs.declared.post.Place.{Place}
+use Rattle.txn_post.specs.declared.post.Place.TheVariants.{Sent, Slept}
 use Rattle.txn_report.specs.declared.outcome.Outcome.{Outcome}
 use Rattle.txn_report.specs.declared.report.Report.{Report}
 use Rattle.txn_report.specs.declared.report.SentNote.{SentNote}
@@ -45,10 +46,27 @@ pub record IsEven (l : Lists) : Type 0 where
   pub stands : length l.sight.stands ≡ newest l
   pub numbered : AreNumbered l.mail.tickets l.sight.nexts
 
+-- these rise, from this one at least up to that at most
+pub record AreRising (least most : ℕ) (xs : List ℕ) : Type 0 where
+  pub pairs : AllPairs (λ (a b : ℕ). a ≤ b) xs
+  pub within : All (λ (a : ℕ). (least ≤ a) × (a ≤ most)) xs
+
+-- the line in whose step what stands at a place was sent, or began
+abbrev pub at_of : Mail → Place → ℕ
+at_of mail (Sent place) = slice_index_or (map (λ s. s.at) mail.sent) place 0
+at_of mail (Slept place) = slice_index_or (map (λ s. s.at) mail.sleeps) place 0
+
+-- what is in the mail came in this order, in the steps of the first n lines, and none before its own line
+pub record CameInOrder (n : ℕ) (mail : Mail) : Type 0 where
+  pub sent : AreRising 0 n (map (λ s. s.at) mail.sent)
+  pub sleeps : AreRising 0 n (map (λ s. s.at) mail.sleeps)
+  pub lines : (line : ℕ) → AreRising line n (map (λ place. at_of mail place) (places_of mail.tickets line))
+
 -- Each ticket names what it should, and the store can serve each request that was sent: each for timestamps asks for 1 to 64, and the oracle is far from its end, since
 -- each line served at most one.
 pub record IsSound (l : Lists) : Type 0 where
   pub mail : IsMail l.mail
+  pub order : CameInOrder (newest l) l.mail
   pub askers : All (λ (s : SentNote). AskFor s.ticket.line s.request s.askers) l.mail.sent
   pub last : l.store.last ≤ 2 ^ 62 + 2 ^ 19 * newest l
   pub clock : l.store.clock < 2 ^ 44

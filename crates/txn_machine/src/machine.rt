@@ -3,6 +3,7 @@ ghost use Rattle.txn_lines.specs.Kinds.{kinds_of};
 ghost use Rattle.txn_lines.specs.Lines.{max_lines, why_after};
 ghost use Rattle.txn_machine.specs.Causes.{CallsMeetLines, EndsLines, EventsMeetLines, LivesLines, TellsLines};
 ghost use Rattle.txn_machine.specs.Lists.{Lists, all_ended, all_posted, ended_at, newest, opened, outright, posted_at, with_mail};
+ghost use Rattle.txn_machine.specs.Notes.{AreNoted};
 ghost use Rattle.txn_machine.specs.Running.{CanClose, CanPost, CanStep, HasMemory, IsEven, IsFine, IsOrdered, IsReportOf, StandsFor, LedTo, closed, lists_of, outs_at, outs_until, with_own};
 ghost use Rattle.txn_machine.specs.Script.{FoldsLines};
 ghost use Rattle.txn_machine.specs.Steps.{Calls, Does, Steps, called, posted_in};
@@ -417,6 +418,7 @@ impl<S: ClientSide> Machine<S> {
         ensures lives { (lines : List Line) → StandsFor S.sight S.ready self lines → LivesLines lines result }
         ensures calls { (lines : List Line) → StandsFor S.sight S.ready self lines → CallsMeetLines lines result }
         ensures events { (lines : List Line) → StandsFor S.sight S.ready self lines → EventsMeetLines lines result }
+        ensures noted { (lines : List Line) → StandsFor S.sight S.ready self lines → AreNoted (length lines) result.sent result.sleeps }
     {
         let (sent, sleeps) = self.post.into_notes();
         Report {

@@ -117,3 +117,13 @@ fn a_report_has_the_outcomes_and_the_store(rt: HostRuntime) -> Result<(), Fail> 
     assert!(rt; matches!(outcomes.last(), Some(Outcome::Skipped)));
     Ok(())
 }
+
+#[test]
+fn lines_are_run_to_a_report(rt: HostRuntime) -> Result<(), Fail> {
+    let alloc = rt.alloc();
+    let lines = vec![in alloc; Line::Blank, Line::Clock { ms: 5 }]?;
+    let report = run_lines(alloc, no_clients(alloc), lines)?;
+    assert_eq!(rt; report.store.clock(), 5);
+    assert_eq!(rt; report.ended.as_slice(), [1, 2].as_slice());
+    Ok(())
+}

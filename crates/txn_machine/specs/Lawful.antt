@@ -1,0 +1,27 @@
+-- What the report of a script says of it. Lines stand here in the order of the script.
+use Rattle.std.specs.Prelude.{◌≡◌, List, [], ◌∷◌, length, reverse, None}
+use Rattle.txn_lines.specs.Lines.{why_after}
+use Rattle.txn_lines.specs.declared.line.Line.{Line}
+use Rattle.txn_report.specs.declared.report.Report.{Report}
+use Rattle.txn_machine.specs.Causes.{CallsMeetLines, EndsLines, EventsMeetLines, LivesLines, TellsLines}
+use Rattle.txn_machine.specs.Notes.{AreNoted}
+use Rattle.txn_machine.specs.Script.{FoldsLines}
+
+-- each line is not bad after these, the newest first, and the ones between
+abbrev pub AllGood : List Line → List Line → Type 0
+AllGood before [] = Unit {0}
+AllGood before (line ∷ lines) = (why_after before line ≡ None) × AllGood (line ∷ before) lines
+
+pub record Lawful (script : List Line) (report : Report) : Type 0 where
+  -- one outcome for each line, of its kind
+  pub told : TellsLines (reverse script) report
+  -- the store is the request table folded over what was served, which is listed in order
+  pub folded : FoldsLines (reverse script) report
+  -- each ticket of a line once, from the first number on, in order
+  pub noted : AreNoted (length script) report.sent report.sleeps
+  -- each outcome came in the step of its line, or of a later event; none of a call whose client had crashed
+  pub ends : EndsLines (reverse script) report
+  pub lives : LivesLines (reverse script) report
+  -- a call is skipped, and an event done, exactly where it may
+  pub calls : CallsMeetLines (reverse script) report
+  pub events : EventsMeetLines (reverse script) report

@@ -1,0 +1,29 @@
+//! Whole scripts.
+ghost use Rattle.std.specs.Prelude.{◌≡◌, [], IfOk};
+ghost use Rattle.txn_machine.specs.Lawful.{AllGood, Lawful};
+ghost use Rattle.txn_side.specs.Sight.{nobody};
+
+use crate::machine::Machine;
+use std::alloc::Global;
+use txn_kv::NoMemory;
+use txn_lines::Line;
+use txn_report::Report;
+use txn_side::ClientSide;
+
+/// Runs lines, none of which is bad after the earlier ones, over clients of no line.
+pub fn run_lines<S: ClientSide>(
+    alloc: Global,
+    clients: S,
+    lines: Vec<Line>,
+) -> Result<Report, NoMemory>
+    requires nobody { S.sight clients ≡ nobody }
+    requires ready { S.ready clients }
+    requires good { AllGood [] lines.items }
+    ensures { IfOk result (λ report. Lawful lines.items report) }
+{
+    let mut machine = Machine::new(alloc, clients)?;
+    for line in lines {
+        machine.step(line)?;
+    }
+    Ok(machine.report())
+}
