@@ -45,10 +45,10 @@ runs_still phase {new = new} r g e = is_running (phase new) (λ n. n (ap phase (
 
 hands_job : {Q B : Type 0} (m : Meaning Q (Result B Error)) (start t : Timestamp) (keys : List Key) (job : Option (SecondaryJob Q))
     → HasVersion start → HasVersion t → IsJobFor start t keys job → HandsOut m (Ok (answer.Committed (Some t) job))
-hands_job m start t [] None u v j = tt
+hands_job m start t [] None u v j = (v, tt)
 hands_job m start t [] (Some job) u v j = absurd j
 hands_job m start t (k ∷ ks) None u v j = absurd j
-hands_job m start t (k ∷ ks) (Some job) u v j = (rw j.own u, rw j.at v, rw j.stage tt)
+hands_job m start t (k ∷ ks) (Some job) u v j = (v, (rw j.own u, rw j.at v, rw j.stage tt))
 
 pub hands_committed : {Q B : Type 0} (m : Meaning Q (Result B Error)) (start t : Timestamp) (keys : List Key) (turn : Turn (Result (TxnAnswer Q) Error))
     → HasVersion start → HasVersion t → IsCommittedAt start t keys turn → IfEnds turn (HandsOut m)

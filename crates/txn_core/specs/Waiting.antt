@@ -1,5 +1,6 @@
 -- Where a transaction stands, what it waits for, and that what it hands out may be started.
-use Rattle.std.specs.Prelude.{◌≡◌, ⊤, Some, Result, Ok, Err}
+use Rattle.std.specs.Prelude.{◌≡◌, ⊤, IfSome, Result, Ok, Err}
+use Rattle.txn_kv.specs.Timestamp.{HasVersion}
 use Rattle.txn_kv.specs.declared.errors.Error.{Error}
 use Rattle.txn_history.specs.Meaning.{Expects, Goes, Meaning}
 use Rattle.txn_history.specs.Phase.{Awaited, Phase, phase_after}
@@ -52,8 +53,8 @@ pub record Follows {P Q K A B D : Type 0} (w : Ways P Q K A B D) (call : Committ
   pub state : inner ≡ Waits → new ≡ record old { work = Open call }
   pub ended : HasEnded inner → Rests w new turn
 
--- the job that it hands out, if it does, may be started
+-- the timestamp that it hands out is in range, and the job may be started, where there are such
 abbrev pub HandsOut : {Q B : Type 0} → Meaning Q (Result B Error) → Result (TxnAnswer Q) Error → Type 0
-HandsOut m (Ok (answer.Committed t (Some job))) = JobReady m job
+HandsOut m (Ok (answer.Committed t job)) = IfSome t HasVersion × IfSome job (JobReady m)
 HandsOut m (Ok _) = ⊤
 HandsOut m (Err e) = ⊤

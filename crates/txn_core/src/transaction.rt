@@ -53,6 +53,7 @@ use txn_kv::{
 use txn_merge::RetryOptions;
 use txn_plan::Arrival;
 use txn_region::PdClient;
+use writes::done;
 
 type Turn<Q> = Result<Progress<TxnAnswer<Q>>, NoMemory>;
 
@@ -194,6 +195,7 @@ where
         ensures gives_up { GivesUp self.old self.new (turn_of result) }
         ensures busy { is_open self.new.work ≡ is_waiting (turn_of result) }
         ensures opens { Opens (ways P.meaning Q.meaning K.meaning P.refuses Q.refuses K.refuses) self.new out.old out.new (turn_of result) }
+        ensures job { IfEnds (turn_of result) (HandsOut Q.meaning) }
         ensures ready { TransactionReady (ways P.meaning Q.meaning K.meaning P.refuses Q.refuses K.refuses) self.new }
         ensures numbers { HasNumbers out.new }
     {
@@ -502,6 +504,7 @@ where
         ensures stops { turn_of result ≡ Stopped → self.new.work ≡ works.GaveUp }
         ensures busy { is_open self.new.work ≡ is_waiting (turn_of result) }
         ensures opens { Opens (ways P.meaning Q.meaning K.meaning P.refuses Q.refuses K.refuses) self.new out.old out.new (turn_of result) }
+        ensures job { IfEnds (turn_of result) (HandsOut Q.meaning) }
         ensures ready { TransactionReady (ways P.meaning Q.meaning K.meaning P.refuses Q.refuses K.refuses) self.new }
         ensures numbers { HasNumbers out.new }
     {
@@ -532,6 +535,7 @@ where
         ensures stops { turn_of result ≡ Stopped → self.new.work ≡ works.GaveUp }
         ensures busy { is_open self.new.work ≡ is_waiting (turn_of result) }
         ensures opens { Opens (ways P.meaning Q.meaning K.meaning P.refuses Q.refuses K.refuses) self.new out.old out.new (turn_of result) }
+        ensures job { IfEnds (turn_of result) (HandsOut Q.meaning) }
         ensures ready { TransactionReady (ways P.meaning Q.meaning K.meaning P.refuses Q.refuses K.refuses) self.new }
         ensures numbers { HasNumbers out.new }
     {
@@ -789,10 +793,4 @@ pub(crate) fn refused<Q>(error: Error) -> Progress<TxnAnswer<Q>>
     ensures { turn_of (Ok result) ≡ Ends (Err error) }
 {
     Progress::Done(Err(error))
-}
-
-pub(crate) fn done<Q>() -> Progress<TxnAnswer<Q>>
-    ensures { turn_of (Ok result) ≡ Ends (Ok answers.Unit) }
-{
-    Progress::Done(Ok(TxnAnswer::Unit))
 }

@@ -1,17 +1,20 @@
 //! What a transaction writes and locks, in its buffer alone.
-ghost use Rattle.std.specs.Prelude.{◌≡◌, OnOk, None, Some, false, true};
+ghost use Rattle.std.specs.Prelude.{◌≡◌, Ok, OnOk, None, Some, false, true};
 ghost use Rattle.txn_buffer.specs.Contents.{mutated, with_write, write_at};
 ghost use Rattle.txn_buffer.specs.Reads.{writes};
 ghost use Rattle.txn_buffer.specs.Writes.{after_call, after_delete, after_insert, after_put, delete_call, insert_call, put_call};
 ghost use Rattle.txn_history.specs.Turn.{turn_of};
+ghost use Rattle.txn_history.specs.Turn.Turn.{Ends};
 ghost use Rattle.txn_core.specs.Transaction.{AreLocked, AreSteps, GivesUp, IsStep, WriteEnds, all_put_or_delete, call_by, insert_refusal, is_open, is_put_or_delete, mutate_refusal, write_refusal};
+ghost use Rattle.txn_core.specs.declared.txn_answer.TxnAnswer.TheVariants as answers;
 
-use crate::transaction::{Transaction, Turn, done, refused};
+use crate::transaction::{Transaction, Turn, refused};
+use crate::txn_answer::TxnAnswer;
 use txn_buffer::Buffer;
 use txn_commit::PlanFor;
 use txn_kv::{
     BatchRollbackRequest, CommitRequest, Error, Key, Mutation, NoMemory, Op, Outbox,
-    PrewriteRequest, Value,
+    PrewriteRequest, Progress, Value,
 };
 use txn_region::PdClient;
 
@@ -200,4 +203,10 @@ fn lock_all(buffer: &mut Buffer, keys: Vec<Key>) -> Result<(), NoMemory>
         buffer.lock(key)?;
     }
     Ok(())
+}
+
+pub(super) fn done<Q>() -> Progress<TxnAnswer<Q>>
+    ensures { turn_of (Ok result) ≡ Ends (Ok answers.Unit) }
+{
+    Progress::Done(Ok(TxnAnswer::Unit))
 }

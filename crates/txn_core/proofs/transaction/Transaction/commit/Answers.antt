@@ -49,4 +49,4 @@ pub returns-then-not-allows_commit-clause-job : goal.returns-then-not-allows_com
 returns-then-not-allows_commit-clause-job g c = rw c.refused.ensures tt
 
 pub returns-in-None-clause-job : goal.returns-in-None-clause-job
-returns-in-None-clause-job g c = rw c.nothing_committed.ensures.answer tt
+returns-in-None-clause-job g c = rw c.nothing_committed.ensures.answer (tt, tt)
