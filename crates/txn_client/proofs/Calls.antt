@@ -129,6 +129,13 @@ made_ready : {P Q K A B D : Type 0} (C : Type 0) (ways : Ways P Q K A B D) (w : 
 made_ready C ways wanted.Timestamp now t v = v
 made_ready C ways (wanted.Transaction options) now t v = record { start = v; work = tt }
 
+-- what is not for a call is no answer
+pub unheard_only : {A : Type 0} (P : A → Type 0) (p : Phase) (turn : Turn A) → turn ≡ unheard p → IfEnds turn P
+unheard_only P Fresh turn e = rw e tt
+unheard_only P Running turn e = rw e tt
+unheard_only P Over turn e = rw e tt
+unheard_only P GivenUp turn e = rw e tt
+
 module _ {C P Q K : Type 0} where
   made_gives : (w : Wanted) (now : ℕ) (h : List Event) (v : Result Timestamp Error) (x : Result (ClientAnswer C P Q K) Error) → IsMade w now v x → Says h v → CallGives w h x
   made_gives wanted.Timestamp now h (Ok t) x i s = rw i s
@@ -381,6 +388,12 @@ module _ {C P Q K : Type 0} where
   ready_asks c c' o o' Stopped i = rw i.0 tt
   ready_asks c c' o o' Waits (t, b, is) = rw is (begun_ready t o o' b)
   ready_asks c c' o o' (Ends v) i = absurd i
+
+  -- a start does not answer
+  pub asks_only : (Q' : Result (ClientAnswer C P Q K) Error → Type 0) (c c' : ClientCall C P Q K) (o o' : Posted) (turn : Turn (Result (ClientAnswer C P Q K) Error)) → Asks c c' o o' turn → IfEnds turn Q'
+  asks_only Q' c c' o o' Stopped i = tt
+  asks_only Q' c c' o o' Waits i = tt
+  asks_only Q' c c' o o' (Ends v) i = absurd i
 
   pub counts_asks : (c c' : ClientCall C P Q K) (o o' : Posted) (turn : Turn (Result (ClientAnswer C P Q K) Error))
       → c.stage ≡ stage.Fresh → Asks c c' o o' turn → Counts called false false 0 0 c c' o o' turn

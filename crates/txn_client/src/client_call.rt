@@ -101,6 +101,7 @@ where
         ensures tells { Tells called started self.old self.new out.old out.new (turn_of result) }
         ensures goes { Goes called.phase (stage_phase self.old.stage ≡ Unbegun) self.old self.new out.old out.new pd.old pd.new (turn_of result) }
         ensures counts { Counts called false false 0 0 self.old self.new out.old out.new (turn_of result) }
+        ensures answer { IfEnds (turn_of result) (λ answer. ⊥) }
         ensures ready { CallReady self.new.stage }
         ensures numbers { HasNumbers out.new }
     {
