@@ -24,8 +24,6 @@ pub mod reply;
 pub mod request;
 pub mod send;
 pub mod spelling;
-#[cfg(test)]
-mod tests;
 pub mod text;
 pub mod ticket;
 pub mod timestamp;

@@ -1,63 +1,57 @@
-mod replies;
-mod requests;
-mod values;
-
-use super::*;
 use std::alloc::Global;
 use std::collections::BTreeMap;
 use std::hash::{DefaultHasher, Hash, Hasher};
 use std::ops::Bound;
 use std::test::Fail;
 use std::time::Duration;
+use txn_kv::*;
 
-fn key(alloc: Global, bytes: &[u8]) -> std::result::Result<Key, NoMemory> {
+pub fn key(alloc: Global, bytes: &[u8]) -> std::result::Result<Key, NoMemory> {
     Ok(Key::from(bytes.to_vec(alloc)?))
+}
+
+fn is_shown(alloc: Global, error: Error, text: &str) -> std::result::Result<bool, NoMemory> {
+    Ok(error.to_string(alloc)?.as_str() == text)
 }
 
 #[test]
 fn shows_plain_errors(rt: HostRuntime) -> std::result::Result<(), Fail> {
+    let alloc = rt.alloc();
+    assert!(rt; is_shown(alloc, Error::Unimplemented, "Unimplemented feature")?);
+    assert!(rt;
+        is_shown(
+            alloc,
+            Error::DuplicateKeyInsertion,
+            "Duplicate key insertion"
+        )?
+    );
+    let late = "Cannot read or write data after any attempt to commit or roll back the transaction";
+    assert!(rt; is_shown(alloc, Error::OperationAfterCommitError, late)?);
+    let whole = "1PC transaction could not be committed.";
+    assert!(rt; is_shown(alloc, Error::OnePcFailure, whole)?);
+    assert!(rt; is_shown(alloc, Error::NoPrimaryKey, "transaction has no primary key")?);
+    assert!(rt; is_shown(alloc, Error::OutOfMemory, "out of memory")?);
+    Ok(())
+}
+
+#[test]
+fn shows_errors_with_numbers(rt: HostRuntime) -> std::result::Result<(), Fail> {
+    let alloc = rt.alloc();
     let ticket = Ticket {
         line: 5,
         beat: true,
         number: 2,
     };
-    let rows = [
-        (Error::Unimplemented, "Unimplemented feature"),
-        (Error::DuplicateKeyInsertion, "Duplicate key insertion"),
-        (
-            Error::OperationAfterCommitError,
-            "Cannot read or write data after any attempt to commit or roll back the transaction",
-        ),
-        (
-            Error::OnePcFailure,
-            "1PC transaction could not be committed.",
-        ),
-        (Error::NoPrimaryKey, "transaction has no primary key"),
-        (Error::GrpcAPI(ticket), "gRPC api error: 5.h2"),
-        (
-            Error::RegionNotFoundInResponse { region_id: 7 },
-            "Region 7 is not found in the response",
-        ),
-        (
-            Error::LeaderNotFound { region_id: 7 },
-            "Leader of region 7 is not found",
-        ),
-        (
-            Error::InternalError {
-                what: Internal::BadPadding { at: 9 },
-            },
-            "BadPadding { at: 9 }",
-        ),
-        (Error::OutOfMemory, "out of memory"),
-    ];
-    for (error, text) in rows.iter() {
-        assert_eq!(rt; error.to_string(rt.alloc())?.as_str(), *text);
-    }
+    assert!(rt; is_shown(alloc, Error::GrpcAPI(ticket), "gRPC api error: 5.h2")?);
+    let missing = Error::RegionNotFoundInResponse { region_id: 7 };
+    assert!(rt; is_shown(alloc, missing, "Region 7 is not found in the response")?);
+    let unled = Error::LeaderNotFound { region_id: 7 };
+    assert!(rt; is_shown(alloc, unled, "Leader of region 7 is not found")?);
+    let odd = Error::InternalError {
+        what: Internal::BadPadding { at: 9 },
+    };
+    assert!(rt; is_shown(alloc, odd, "BadPadding { at: 9 }")?);
     Ok(())
-}
-
-fn is_shown(alloc: Global, error: Error, text: &str) -> std::result::Result<bool, NoMemory> {
-    Ok(error.to_string(alloc)?.as_str() == text)
 }
 
 #[test]
@@ -85,57 +79,62 @@ fn shows_errors_of_stores(rt: HostRuntime) -> std::result::Result<(), Fail> {
     Ok(())
 }
 
-#[test]
-fn shows_errors_of_errors(rt: HostRuntime) -> std::result::Result<(), Fail> {
-    let alloc = rt.alloc();
+fn two_errors(alloc: Global) -> std::result::Result<Vec<Error>, NoMemory> {
     let mut errors = Vec::new(alloc);
     errors.push(Error::NoPrimaryKey)?;
     errors.push(Error::OutOfMemory)?;
-    let mut others = Vec::new(alloc);
-    others.push(Error::OutOfMemory)?;
-    let rows = [
-        (
-            Error::UndeterminedError(Box::new(alloc, Error::OutOfMemory)?),
-            "Whether the transaction is committed or not is undetermined",
-        ),
-        (
-            Error::ExtractedErrors(errors),
-            "Multiple errors: [NoPrimaryKey, OutOfMemory]",
-        ),
-        (
-            Error::MultipleKeyErrors(others),
-            "Multiple key errors: [OutOfMemory]",
-        ),
-        (
-            Error::PessimisticLockError {
-                inner: Box::new(alloc, Error::NoPrimaryKey)?,
-                success_keys: Vec::new(alloc),
-            },
-            "PessimisticLock error: NoPrimaryKey",
-        ),
-    ];
-    for (error, text) in rows.iter() {
-        assert_eq!(rt; error.to_string(alloc)?.as_str(), *text);
-    }
+    Ok(errors)
+}
+
+fn one_error(alloc: Global) -> std::result::Result<Vec<Error>, NoMemory> {
+    let mut errors = Vec::new(alloc);
+    errors.push(Error::OutOfMemory)?;
+    Ok(errors)
+}
+
+fn undetermined(alloc: Global) -> std::result::Result<Error, NoMemory> {
+    Ok(Error::UndeterminedError(Box::new(alloc, Error::OutOfMemory)?))
+}
+
+fn not_locked(alloc: Global) -> std::result::Result<Error, NoMemory> {
+    Ok(Error::PessimisticLockError {
+        inner: Box::new(alloc, Error::NoPrimaryKey)?,
+        success_keys: Vec::new(alloc),
+    })
+}
+
+#[test]
+fn shows_errors_of_errors(rt: HostRuntime) -> std::result::Result<(), Fail> {
+    let alloc = rt.alloc();
+    let unknown = "Whether the transaction is committed or not is undetermined";
+    assert!(rt; is_shown(alloc, undetermined(alloc)?, unknown)?);
+    let extracted = Error::ExtractedErrors(two_errors(alloc)?);
+    let both = "Multiple errors: [NoPrimaryKey, OutOfMemory]";
+    assert!(rt; is_shown(alloc, extracted, both)?);
+    let keys = Error::MultipleKeyErrors(one_error(alloc)?);
+    assert!(rt; is_shown(alloc, keys, "Multiple key errors: [OutOfMemory]")?);
+    let lock = "PessimisticLock error: NoPrimaryKey";
+    assert!(rt; is_shown(alloc, not_locked(alloc)?, lock)?);
     Ok(())
+}
+
+/// Whether a pair of the key k1 and this value is written so.
+fn is_pair_shown(alloc: Global, value: &[u8], text: &str) -> std::result::Result<bool, NoMemory> {
+    let value = Items::from_vec(value.to_vec(alloc)?);
+    let pair = KvPair::new(key(alloc, b"k1")?, value);
+    Ok(format!(in alloc; "{pair:?}")?.as_str() == text)
 }
 
 #[test]
 fn shows_keys_and_pairs(rt: HostRuntime) -> std::result::Result<(), Fail> {
+    let alloc = rt.alloc();
     let bytes = [0, 10, 255];
     let hex = HexRepr(bytes.as_slice());
-    assert_eq!(rt; format!(in rt.alloc(); "{hex}")?.as_str(), "000AFF");
-    let rows: [(&[u8], &str); 2] = [
-        (b"v\"", "KvPair(6B31, \"v\\\"\")"),
-        (&[255, 1], "KvPair(6B31, FF01)"),
-    ];
-    for (value, text) in rows {
-        let value = Items::from_vec(value.to_vec(rt.alloc())?);
-        let pair = KvPair::new(key(rt.alloc(), b"k1")?, value);
-        assert_eq!(rt; format!(in rt.alloc(); "{pair:?}")?.as_str(), text);
-        let shown = pair.into_key();
-        assert_eq!(rt; format!(in rt.alloc(); "{shown:?}")?.as_str(), "Key(6B31)");
-    }
+    assert_eq!(rt; format!(in alloc; "{hex}")?.as_str(), "000AFF");
+    assert!(rt; is_pair_shown(alloc, b"v\"", "KvPair(6B31, \"v\\\"\")")?);
+    assert!(rt; is_pair_shown(alloc, &[255, 1], "KvPair(6B31, FF01)")?);
+    let shown = KvPair::new(key(alloc, b"k1")?, Items::new(alloc)).into_key();
+    assert_eq!(rt; format!(in alloc; "{shown:?}")?.as_str(), "Key(6B31)");
     Ok(())
 }
 
@@ -149,19 +148,39 @@ fn writes_into_pairs(rt: HostRuntime) -> std::result::Result<(), Fail> {
     Ok(())
 }
 
+fn hash_of_key(key: &Key) -> u64 {
+    let mut hasher = DefaultHasher::new();
+    key.hash(&mut hasher);
+    hasher.finish()
+}
+
+fn hash_of_bytes(bytes: &[u8]) -> u64 {
+    let mut hasher = DefaultHasher::new();
+    bytes.hash(&mut hasher);
+    hasher.finish()
+}
+
+#[test]
+fn keys_hash_as_their_bytes(rt: HostRuntime) -> std::result::Result<(), Fail> {
+    let key = key(rt.alloc(), b"a")?;
+    assert_eq!(rt; hash_of_key(&key), hash_of_bytes(b"a"));
+    Ok(())
+}
+
+fn sorted(alloc: Global) -> std::result::Result<BTreeMap<Key, u64>, NoMemory> {
+    let mut sorted = BTreeMap::new(alloc);
+    sorted.insert(key(alloc, b"b")?, 2)?;
+    sorted.insert(key(alloc, b"a")?, 1)?;
+    Ok(sorted)
+}
+
 #[test]
 fn keys_are_keys_of_maps(rt: HostRuntime) -> std::result::Result<(), Fail> {
-    let mut sorted = BTreeMap::new(rt.alloc());
-    sorted.insert(key(rt.alloc(), b"b")?, 2)?;
-    sorted.insert(key(rt.alloc(), b"a")?, 1)?;
-    assert_eq!(rt; sorted.get(&key(rt.alloc(), b"b")?), Some(&2));
+    let sorted = sorted(rt.alloc())?;
+    let second = key(rt.alloc(), b"b")?;
+    assert_eq!(rt; sorted.get(&second), Some(&2));
     let first = sorted.first_key_value().map(|entry| *entry.1);
     assert_eq!(rt; first, Some(1));
-    let mut one = DefaultHasher::new();
-    let mut other = DefaultHasher::new();
-    key(rt.alloc(), b"a")?.hash(&mut one);
-    b"a".as_slice().hash(&mut other);
-    assert_eq!(rt; one.finish(), other.finish());
     Ok(())
 }
 
@@ -215,19 +234,23 @@ fn backs_off(rt: HostRuntime) {
 }
 
 #[test]
+fn backoffs_are_compared(rt: HostRuntime) {
+    let backoff = OPTIMISTIC_BACKOFF;
+    assert!(rt; backoff == PESSIMISTIC_BACKOFF && backoff != DEFAULT_STORE_BACKOFF);
+}
+
+#[test]
 fn derived(rt: HostRuntime) -> std::result::Result<(), Fail> {
     let id = RegionVerId::default();
-    let stamp = Timestamp::default();
-    let backoff = OPTIMISTIC_BACKOFF;
     assert_eq!(rt;
         format!(in rt.alloc(); "{id:?}")?.as_str(),
         "RegionVerId { id: 0, conf_ver: 0, ver: 0 }"
     );
+    let stamp = Timestamp::default();
     assert_eq!(rt;
         format!(in rt.alloc(); "{stamp:?}")?.as_str(),
         "Timestamp { physical: 0, logical: 0, suffix_bits: 0 }"
     );
-    assert!(rt; backoff == PESSIMISTIC_BACKOFF && backoff != DEFAULT_STORE_BACKOFF);
     let text = Text::from_string("t".to_string(rt.alloc())?);
     assert_eq!(rt;
         format!(in rt.alloc(); "{text:?}")?.as_str(),

@@ -1,5 +1,5 @@
-use crate::*;
 use std::alloc::Global;
+use txn_kv::*;
 
 fn is_labelled(request: Request, label: &str) -> bool {
     request.label() == label

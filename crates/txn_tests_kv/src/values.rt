@@ -1,7 +1,7 @@
-use crate::*;
 use std::alloc::Global;
 use std::ops::Bound;
 use std::test::Fail;
+use txn_kv::*;
 
 /// Whether a copy was made, and equals the value.
 pub fn is_copy<T: PartialEq + Drop>(copy: std::result::Result<T, NoMemory>, value: &T) -> bool {
@@ -19,7 +19,7 @@ fn is_copied<T: TryClone + PartialEq>(value: T) -> bool {
 fn copies_values(rt: HostRuntime) -> std::result::Result<(), Fail> {
     let alloc = rt.alloc();
     assert!(rt; is_copied(7u8) && is_copied(7u64) && is_copied(true));
-    assert!(rt; is_copied(super::key(alloc, b"k")?));
+    assert!(rt; is_copied(crate::errors_and_keys::key(alloc, b"k")?));
     assert!(rt; is_copied(Some(Items::from_vec(b"v".to_vec(alloc)?))));
     assert!(rt; is_copied(Items::from_vec([1u64, 2].to_vec(alloc)?)));
     assert!(rt; is_copied(Items::from_vec([true, false].to_vec(alloc)?)));

@@ -1,6 +1,6 @@
-use super::values::is_copy;
-use crate::*;
+use crate::values::is_copy;
 use std::alloc::Global;
+use txn_kv::*;
 
 fn copies_get(alloc: Global) -> bool {
     let reply = GetResponse {
