@@ -25,8 +25,6 @@ mod settle;
 mod split;
 mod status;
 pub mod store;
-#[cfg(test)]
-mod tests;
 mod unlock;
 
 pub use cell::{Cell, Kind, Lock, Write};

@@ -1,12 +1,12 @@
 //! The calls of the crate, each once. The rows of the request table are tried by the cases of the program `store_cases`.
-use crate::cell::{Cell, Kind, Lock, Write};
-use crate::store::ModelStore;
 use std::alloc::Global;
 use std::test::Fail;
 use txn_kv::{
     ApiVersion, Assertion, CommitRequest, Context, Items, Key, LockInfo, Mutation, NoMemory, Op,
     Peer, PrewriteRequest, RegionEpoch, Reply, Request, Timestamp, TsoRequest, TsoResponse, Value,
 };
+use txn_model::cell::{Cell, Kind, Lock, Write};
+use txn_model::store::ModelStore;
 
 fn key(alloc: Global) -> Result<Key, NoMemory> {
     Ok(Key::from([97].to_vec(alloc)?))
