@@ -7,8 +7,6 @@ pub mod laws;
 pub mod over_regions;
 pub mod prewrite;
 pub mod send;
-#[cfg(test)]
-mod tests;
 pub mod transaction_plan;
 
 pub use batch_rollback::BatchRollbackPlan;
