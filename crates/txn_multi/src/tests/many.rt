@@ -53,31 +53,6 @@ fn sixteen_shards_run_at_once(rt: HostRuntime) -> std::result::Result<(), Fail> 
     Ok(())
 }
 
-/// The replies come from the last to the first.
-#[test]
-fn results_stand_in_the_order_of_their_shards(rt: HostRuntime) -> std::result::Result<(), Fail> {
-    let alloc = rt.alloc();
-    let mut run = eighteen(alloc)?;
-    commit_back(&mut run, 1..17)?;
-    commit_back(&mut run, 17..19)?;
-    let want = ascending(alloc)?;
-    assert_eq!(rt; run.results(), want.as_slice());
-    Ok(())
-}
-
-/// The first shard has spent its one attempt, and the second has its own.
-#[test]
-fn each_shard_has_a_backoff_of_its_own(rt: HostRuntime) -> std::result::Result<(), Fail> {
-    let mut run = three(rt.alloc(), false)?;
-    run.refuse(1, RegionErr::Unknown)?;
-    run.wake(4)?;
-    run.refuse(5, RegionErr::Unknown)?;
-    assert_eq!(rt; run.count(), 5);
-    run.refuse(2, RegionErr::Unknown)?;
-    assert_eq!(rt; run.posted(6), Posted::Sleep(1));
-    Ok(())
-}
-
 /// The first shard sleeps, so another runs. What comes of it then waits for its turn behind the eighteenth.
 #[test]
 fn a_shard_that_sleeps_gives_up_its_turn(rt: HostRuntime) -> std::result::Result<(), Fail> {

@@ -4,5 +4,4 @@ mod losses;
 mod many;
 mod retries;
 mod run;
-mod splits;
 mod table;
