@@ -1,16 +1,12 @@
 //! What the plans of requests are, as contracts of functions that do nothing.
-ghost use Rattle.std.specs.Prelude.{◌≡◌, ◌≤◌, ◌+◌, ◌*◌, ◌∷◌, ℕ, List, Option, false, length};
-ghost use Rattle.txn_buffer.specs.Contents.{mutations};
-ghost use Rattle.txn_commit.specs.Committing.{ways};
+ghost use Rattle.std.specs.Prelude.{◌≡◌, ◌≤◌, ℕ, Option, false, length};
 ghost use Rattle.txn_commit.specs.Counting.{costs_of, IsOneEach};
 ghost use Rattle.txn_commit.specs.Jobs.{others};
-ghost use Rattle.txn_commit.specs.Parts.{parts_of};
 ghost use Rattle.txn_commit.specs.Plans.{IsPlanFor};
 ghost use Rattle.txn_commit.specs.declared.secondary_job.SecondaryJob.{SecondaryJob};
 ghost use Rattle.txn_commit.specs.declared.secondary_job.Stage.TheVariants.{Fresh};
 ghost use Rattle.txn_commit_plans.specs.Failing.{HasGiven};
 ghost use Rattle.txn_commit_plans.specs.Kinds.{commit_plan, prewrite_plan, rollback_plan, CommitPlan as Committing, PrewritePlan as Prewriting, RollbackPlan as Rolling};
-ghost use Rattle.txn_core.specs.Counting.{commit_price, errors, posted, rollback_price, weighed, Runs, Step};
 ghost use Rattle.txn_history.specs.Meaning.{IsUnbegun};
 ghost use Rattle.txn_history.specs.Plan.{Plan};
 ghost use Rattle.txn_multi.specs.Few.{by_items};
@@ -24,7 +20,6 @@ use crate::batch_rollback::BatchRollbackPlan;
 use crate::commit::CommitPlan;
 use crate::prewrite::PrewritePlan;
 use txn_commit::PlanFor;
-use txn_core::laws::commits_are_bounded;
 use txn_kv::{BatchRollbackRequest, CommitRequest, PrewriteRequest};
 
 /// A plan that is not begun, and sends a request in any context to the regions of its keys, is a plan of the request: all that
@@ -39,19 +34,6 @@ pub fn plans_are_of_their_requests()
 pub fn plans_cost_one_request_a_key()
     ensures { IsOneEach (costs_of ⟦<PrewritePlan as PlanFor<PrewriteRequest>>⟧.costs ⟦<CommitPlan as PlanFor<CommitRequest>>⟧.costs ⟦<BatchRollbackPlan as PlanFor<BatchRollbackRequest>>⟧.costs) }
 {}
-
-/// By these plans a commit or a rollback of k mutations posts no more than 2k + 9 requests and asks, once more for each error that
-/// comes to it, and what locks may cost.
-pub fn commits_by_plans_are_bounded()
-    ensures commit { (first : Step Prewriting Committing Rolling) (steps : List (Step Prewriting Committing Rolling))
-        → Runs (ways prewrite_plan commit_plan rollback_plan (HasGiven prewrite_plan) (HasGiven commit_plan) (HasGiven rollback_plan)) (costs_of by_items by_items by_items) (commit_price (costs_of by_items by_items by_items) (parts_of first.old.contents) first.old.commits.timestamp) first steps
-        → posted (first ∷ steps) ≤ (1 + errors steps) * (2 * length (mutations first.old.contents.entries) + 9 + weighed steps) }
-    ensures rollback { (first : Step Prewriting Committing Rolling) (steps : List (Step Prewriting Committing Rolling))
-        → Runs (ways prewrite_plan commit_plan rollback_plan (HasGiven prewrite_plan) (HasGiven commit_plan) (HasGiven rollback_plan)) (costs_of by_items by_items by_items) (rollback_price (costs_of by_items by_items by_items) (parts_of first.old.contents)) first steps
-        → posted (first ∷ steps) ≤ (1 + errors steps) * (2 * length (mutations first.old.contents.entries) + 9 + weighed steps) }
-{
-    commits_are_bounded::<PrewritePlan, CommitPlan, BatchRollbackPlan>();
-}
 
 /// The job of k other keys, which is not started, posts no more than k requests.
 pub fn jobs_by_plans_are_bounded()
