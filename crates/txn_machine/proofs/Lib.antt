@@ -19,4 +19,3 @@ mod Keepings
 mod Standings
 mod Noting
 mod LineByLine
-pub mod Scripts
