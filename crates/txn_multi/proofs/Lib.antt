@@ -2,3 +2,4 @@ pub mod Costs
 pub mod Lookings
 pub mod Multis
 pub mod Retrying
+pub mod Touchings

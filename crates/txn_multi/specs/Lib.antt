@@ -4,3 +4,4 @@ pub mod Multi
 pub mod Searching
 pub mod Shown
 pub mod Task
+pub mod Touching

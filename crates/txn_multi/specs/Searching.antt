@@ -1,5 +1,5 @@
 -- What the search of a plan's shards does in each of its steps.
-use Rattle.std.specs.Prelude.{◌≡◌, ⊤, ℕ, ◌≤◌, List, Result}
+use Rattle.std.specs.Prelude.{◌≡◌, ◌⊎◌, ⊤, ℕ, ◌≤◌, List, Result}
 use Rattle.std.specs.Global.{Vec}
 use Rattle.txn_history.specs.Event.{Event}
 use Rattle.txn_history.specs.Meaning.{Expects, Meaning}
@@ -10,11 +10,14 @@ use Rattle.txn_history.specs.Posted.{Posted}
 use Rattle.txn_history.specs.Spends.{calls, sleeps}
 use Rattle.txn_history.specs.Turn.{IfEnds, Turn}
 use Rattle.txn_kv.specs.declared.errors.Error.{Error}
+use Rattle.txn_kv.specs.declared.query.PdAnswer.{PdAnswer}
+use Rattle.txn_kv.specs.declared.query.PdQuery.{PdQuery}
 use Rattle.txn_multi.specs.Cutting.{cut_phase, cut_waits, AreWithin, CutAt, GivesParts, IfParts, IsPlacement, Looking}
 use Rattle.txn_multi.specs.declared.cut_stage.CutStage.{CutStage}
 use Rattle.txn_multi.specs.declared.cut_stage.CutStage.TheVariants as stage
 use Rattle.txn_multi.specs.declared.part.Part.{Part}
 use Rattle.txn_plan.specs.LookUp.{call_waits}
+use Rattle.txn_plan.specs.Touch.{Touch}
 use Rattle.txn_region.specs.Clients.{IsPlaceQuery}
 use Rattle.txn_tso.specs.declared.pd_call.PdCall.{PdCall}
 
@@ -53,3 +56,17 @@ pub record LooksOn {S A H L : Type 0} (m : Meaning S A) (is_part : S → S → T
   pub plan : new.plan ≡ old.plan
   pub calls : calls to ≤ calls from
   pub sleeps : sleeps to ≤ sleeps from
+
+-- what came of one query was learnt, between look-ups
+pub record HasLearnt {C : Type 0} (t : Touch C) (old new : C) : Type 0 where
+  pub query : PdQuery
+  pub answer : Result PdAnswer Error
+  pub before : C
+  pub behind : C
+  pub looked : t.looked old before
+  pub learnt : t.learns query answer before behind
+  pub further : t.looked behind new
+
+-- The client was looked at alone, and was told at most what came of one query.
+abbrev pub Seeks : {C : Type 0} → Touch C → C → C → Type 0
+Seeks t old new = t.looked old new ⊎ HasLearnt t old new

@@ -1,10 +1,12 @@
 ghost use Rattle.std.specs.Prelude.{◌≡◌};
 ghost use Rattle.txn_history.specs.Meaning.{Counts, Goes, IsUnbegun, Tells};
 ghost use Rattle.txn_history.specs.Posted.{HasNumbers};
-ghost use Rattle.txn_history.specs.Turn.{turn_of, IfEnds};
+ghost use Rattle.txn_history.specs.Turn.{turn_of, IfEnds, IfKept};
 ghost use Rattle.txn_kv.specs.declared.request.Request.{Request as Asked};
 ghost use Rattle.txn_multi.specs.Cutting.{cut_phase, cut_waits, cutting, IfParts};
+ghost use Rattle.txn_multi.specs.Searching.{Seeks};
 ghost use Rattle.txn_plan.specs.Arrivals.{awaited_as, locked_told, tells_error, tells_failure, told_by, weight_told};
+ghost use Rattle.txn_plan.specs.Touch.{touch};
 
 use crate::cutting::Cutting;
 use crate::part::Part;
@@ -31,6 +33,7 @@ where
     ensures counts { Counts (cutting P.meaning P.IsPart P.load P.AreCut P.most) (tells_error arrival) (tells_failure arrival) (weight_told arrival) (locked_told arrival) search.old search.new out.old out.new (turn_of result) }
     ensures parts { IfEnds (turn_of result) (IfParts P.meaning P.IsPart P.load P.AreCut P.most search.old.plan) }
     ensures plan { search.new.plan ≡ search.old.plan }
+    ensures client { IfKept (turn_of result) (Seeks (touch C.looked C.learns C.leads C.drops) pd.old pd.new) }
     ensures numbers { HasNumbers out.new }
 {
     match arrival {

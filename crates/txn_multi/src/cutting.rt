@@ -9,12 +9,14 @@ ghost use Rattle.txn_history.specs.Phase.Awaited.{EndOf, ReplyTo};
 ghost use Rattle.txn_history.specs.Phase.Phase.{Fresh};
 ghost use Rattle.txn_history.specs.Posted.{HasNumbers, Posted, ticket_of};
 ghost use Rattle.txn_history.specs.Spends.{locked_of, weight_of};
-ghost use Rattle.txn_history.specs.Turn.{turn_of, IfEnds};
+ghost use Rattle.txn_history.specs.Turn.{turn_of, IfEnds, IfKept};
 ghost use Rattle.txn_history.specs.Turn.Turn.{Ends, Stopped, Waits};
+ghost use Rattle.txn_kv.specs.declared.errors.Error.TheVariants.{OutOfMemory};
 ghost use Rattle.txn_kv.specs.declared.request.Request.{Request as Asked};
 ghost use Rattle.txn_multi.specs.Cutting.{cut_phase, cut_waits, cutting, AreApplied, AreWithin, IfParts, WhyUnfound};
-ghost use Rattle.txn_multi.specs.Searching.{Holds, IsTaken, LooksOn};
+ghost use Rattle.txn_multi.specs.Searching.{Holds, IsTaken, LooksOn, Seeks};
 ghost use Rattle.txn_plan.specs.LookUp.{call_waits, looked_up, AwaitsLast};
+ghost use Rattle.txn_plan.specs.Touch.{touch};
 ghost use Rattle.txn_region.specs.Clients.{IsPlaceQuery, OrStarved};
 ghost use Rattle.txn_region.specs.Refusals.{IsPlacementError};
 ghost use Rattle.txn_shard.specs.Shards.{shards_of};
@@ -93,6 +95,7 @@ where
         ensures parts { IfEnds (turn_of result) (IfParts P.meaning P.IsPart P.load P.AreCut P.most self.old.plan) }
         ensures wide { IfEnds (turn_of result) (AreWithin self.new.width) }
         ensures plan { self.new.plan ≡ self.old.plan }
+        ensures changed { C.looked pd.old pd.new }
         ensures ready { IsUnbegun P.meaning self.new.plan }
         ensures numbers { HasNumbers out.new }
     {
@@ -121,6 +124,7 @@ where
         ensures parts { IfEnds (turn_of result) (IfParts P.meaning P.IsPart P.load P.AreCut P.most self.old.plan) }
         ensures wide { IfEnds (turn_of result) (AreWithin self.new.width) }
         ensures plan { self.new.plan ≡ self.old.plan }
+        ensures client { IfKept (turn_of result) (Seeks (touch C.looked C.learns C.leads C.drops) pd.old pd.new) }
         ensures ready { IsUnbegun P.meaning self.new.plan }
         ensures numbers { HasNumbers out.new }
     {
@@ -150,6 +154,7 @@ where
         ensures parts { IfEnds (turn_of result) (IfParts P.meaning P.IsPart P.load P.AreCut P.most self.old.plan) }
         ensures wide { IfEnds (turn_of result) (AreWithin self.new.width) }
         ensures plan { self.new.plan ≡ self.old.plan }
+        ensures client { IfKept (turn_of result) (Seeks (touch C.looked C.learns C.leads C.drops) pd.old pd.new) }
         ensures ready { IsUnbegun P.meaning self.new.plan }
         ensures numbers { HasNumbers out.new }
     {
@@ -179,6 +184,7 @@ where
         ensures parts { IfEnds (turn_of result) (IfParts P.meaning P.IsPart P.load P.AreCut P.most self.old.plan) }
         ensures wide { IfEnds (turn_of result) (AreWithin self.new.width) }
         ensures plan { self.new.plan ≡ self.old.plan }
+        ensures client { IfKept (turn_of result) (Seeks (touch C.looked C.learns C.leads C.drops) pd.old pd.new) }
         ensures ready { IsUnbegun P.meaning self.new.plan }
         ensures numbers { HasNumbers out.new }
     {
@@ -256,6 +262,7 @@ where
         requires numbers { HasNumbers out.old }
         ensures stops { turn_of turn ≡ Stopped → (turn_of result ≡ Stopped) × (out.new ≡ out.old) }
         ensures on { LooksOn P.meaning P.IsPart P.load P.AreCut P.most (Knows (turn_of turn) (λ h. CallFits call out.old h) (λ h v. looked_up.gives call h v)) (call_waits call.stage) self.old self.new out.old out.new (turn_of result) }
+        ensures client { IfKept (turn_of result) (Seeks (touch C.looked C.learns C.leads C.drops) pd.old pd.new) }
     {
         match turn? {
             Progress::Waiting => self.wait(call, out),
@@ -299,6 +306,7 @@ where
         requires place { IsPlaceQuery call.query }
         requires numbers { HasNumbers out.old }
         ensures on { LooksOn P.meaning P.IsPart P.load P.AreCut P.most (λ h. looked_up.gives call h answer) (λ a. ⊥) self.old self.new out.old out.new (turn_of result) }
+        ensures client { IfKept (turn_of result) (Seeks (touch C.looked C.learns C.leads C.drops) pd.old pd.new) }
     {
         match pd.learn(call.query(), &answer) {
             Ok(()) => self.look(pd, now, out),
@@ -312,6 +320,7 @@ where
         requires ready { IsUnbegun P.meaning self.old.plan }
         requires numbers { HasNumbers out.old }
         ensures on { LooksOn P.meaning P.IsPart P.load P.AreCut P.most (λ h. ⊤) (λ a. ⊥) self.old self.new out.old out.new (turn_of result) }
+        ensures changed { C.looked pd.old pd.new }
     {
         match self.find(pd) {
             Ok(Some(query)) => self.ask(query, pd, now, out),
@@ -327,6 +336,7 @@ where
         ensures all { result ≡ Ok None → P.AreCut (P.load self.old.plan) (map P.load_of (shards_of self.new.found)) }
         ensures place { IfOk result (λ query. IfSome query IsPlaceQuery) }
         ensures why { IfErr result (OrStarved IsPlacementError) }
+        ensures changed { C.looked pd.old pd.new }
     {
         let query = self.plan.shards(self.alloc, pd, &mut self.found);
         self.width = self.width.max(self.found.shards.len());
@@ -345,6 +355,7 @@ where
         requires place { IsPlaceQuery query }
         requires numbers { HasNumbers out.old }
         ensures on { LooksOn P.meaning P.IsPart P.load P.AreCut P.most (λ h. ⊤) (λ a. ⊥) self.old self.new out.old out.new (turn_of result) }
+        ensures changed { C.looked pd.old pd.new }
     {
         let mut call = pd.call(query);
         let progress = call.start(pd.retry_client(), now, out)?;
@@ -370,6 +381,7 @@ where
     fn refuse(&mut self, error: Error) -> Turn<Vec<Part<P>>>
         requires stopped { self.old.stage ≡ CutStage.Stopped }
         ensures on { (o : Posted) → LooksOn P.meaning P.IsPart P.load P.AreCut P.most (λ h. OrStarved (WhyUnfound h) error) (λ a. ⊥) self.old self.new o o (turn_of result) }
+        ensures kept { IfKept (turn_of result) (error ≡ OutOfMemory → ⊥) }
     {
         match error {
             Error::OutOfMemory => Err(NoMemory),

@@ -11,8 +11,6 @@ pub mod region_plan;
 pub mod region_request;
 pub mod stage;
 pub mod task;
-#[cfg(test)]
-mod tests;
 
 pub use multi_region::RetryableMultiRegion;
 pub use part::Part;

@@ -5,14 +5,17 @@ ghost use Rattle.txn_history.specs.Meaning.{started, Counts, Goes, IsUnbegun, Te
 ghost use Rattle.txn_history.specs.Phase.{phase_after, unheard};
 ghost use Rattle.txn_history.specs.Phase.Phase.{Running};
 ghost use Rattle.txn_history.specs.Posted.{HasNumbers, Posted};
-ghost use Rattle.txn_history.specs.Turn.{turn_of, IfEnds};
+ghost use Rattle.txn_history.specs.Turn.{turn_of, IfEnds, IfKept};
 ghost use Rattle.txn_history.specs.Turn.Turn.{Ends, Waits};
 ghost use Rattle.txn_kv.specs.declared.request.Request.{Request as Asked};
 ghost use Rattle.txn_multi.specs.Cutting.{cut_phase, cut_waits, ArePartsOf, IfParts};
 ghost use Rattle.txn_multi.specs.Multi.{multi, multi-lawful, multi_phase, tasks_for, AfterCut, AfterTasks, Begins, Holding, IsAnswer};
 ghost use Rattle.txn_multi.specs.Task.{region_task, stage_runs};
+ghost use Rattle.txn_multi.specs.Touching.{FoundTouches, MultiTouches, TaskTouches, UnlessGone};
 ghost use Rattle.txn_plan.specs.Arrivals.{awaited_as, locked_told, tells_error, tells_failure, told_by, weight_told, MayArrive};
+ghost use Rattle.txn_plan.specs.Touch.{touch};
 ghost use Rattle.txn_tasks.specs.Tasks.{tasks_phase, tasks_turn, AreReady, LeadsSomewhere};
+ghost use Rattle.txn_tasks.specs.Turns.{Turns};
 
 use crate::arrival::tell_cutting;
 use crate::cutting::Cutting;
@@ -131,6 +134,7 @@ where
         ensures tells { (r : Asked) → Tells (multi P.meaning P.Result.key_errors_in P.Result.region_error_in P.IsPart P.load P.AreCut P.most) (told_by arrival out.old r) self.old self.new out.old out.new (turn_of result) }
         ensures goes { Goes (multi P.meaning P.Result.key_errors_in P.Result.region_error_in P.IsPart P.load P.AreCut P.most).phase ((multi P.meaning P.Result.key_errors_in P.Result.region_error_in P.IsPart P.load P.AreCut P.most).waits self.old (awaited_as arrival)) self.old self.new out.old out.new pd.old pd.new (turn_of result) }
         ensures counts { Counts (multi P.meaning P.Result.key_errors_in P.Result.region_error_in P.IsPart P.load P.AreCut P.most) (tells_error arrival) (tells_failure arrival) (weight_told arrival) (locked_told arrival) self.old self.new out.old out.new (turn_of result) }
+        ensures client { (r : Asked) → MultiTouches (touch C.looked C.learns C.leads C.drops) (TaskTouches P.meaning P.Result.key_errors_in P.Result.region_error_in (touch C.looked C.learns C.leads C.drops) (P.touches (touch C.looked C.learns C.leads C.drops))) (told_by arrival out.old r) out.old self.old self.new pd.old pd.new }
         ensures ready { (multi P.meaning P.Result.key_errors_in P.Result.region_error_in P.IsPart P.load P.AreCut P.most).ready self.new }
         ensures numbers { HasNumbers out.new }
     {
@@ -149,6 +153,7 @@ where
         requires numbers { HasNumbers out.old }
         requires clock { now < 2 ^ 44 }
         ensures begins { Begins (multi P.meaning P.Result.key_errors_in P.Result.region_error_in P.IsPart P.load P.AreCut P.most) (λ h. ⊤) (record self.old { stage = MultiStage.Fresh }) self.new out.old out.new (turn_of result) }
+        ensures client { MultiTouches (touch C.looked C.learns C.leads C.drops) (TaskTouches P.meaning P.Result.key_errors_in P.Result.region_error_in (touch C.looked C.learns C.leads C.drops) (P.touches (touch C.looked C.learns C.leads C.drops))) started out.old self.old self.new pd.old pd.new }
         ensures ready { (multi P.meaning P.Result.key_errors_in P.Result.region_error_in P.IsPart P.load P.AreCut P.most).ready self.new }
         ensures numbers { HasNumbers out.new }
     {
@@ -177,6 +182,7 @@ where
         ensures tells { (r : Asked) → Tells (multi P.meaning P.Result.key_errors_in P.Result.region_error_in P.IsPart P.load P.AreCut P.most) (told_by arrival out.old r) (record self.old { stage = MultiStage.Cutting cutting }) self.new out.old out.new (turn_of result) }
         ensures goes { Goes (multi P.meaning P.Result.key_errors_in P.Result.region_error_in P.IsPart P.load P.AreCut P.most).phase (cut_waits cutting.stage (awaited_as arrival)) (record self.old { stage = MultiStage.Cutting cutting }) self.new out.old out.new pd.old pd.new (turn_of result) }
         ensures counts { Counts (multi P.meaning P.Result.key_errors_in P.Result.region_error_in P.IsPart P.load P.AreCut P.most) (tells_error arrival) (tells_failure arrival) (weight_told arrival) (locked_told arrival) (record self.old { stage = MultiStage.Cutting cutting }) self.new out.old out.new (turn_of result) }
+        ensures client { (r : Asked) → MultiTouches (touch C.looked C.learns C.leads C.drops) (TaskTouches P.meaning P.Result.key_errors_in P.Result.region_error_in (touch C.looked C.learns C.leads C.drops) (P.touches (touch C.looked C.learns C.leads C.drops))) (told_by arrival out.old r) out.old self.old self.new pd.old pd.new }
         ensures ready { (multi P.meaning P.Result.key_errors_in P.Result.region_error_in P.IsPart P.load P.AreCut P.most).ready self.new }
         ensures numbers { HasNumbers out.new }
     {
@@ -203,6 +209,7 @@ where
         requires numbers { HasNumbers out.old }
         requires clock { now < 2 ^ 44 }
         ensures after { AfterCut (multi P.meaning P.Result.key_errors_in P.Result.region_error_in P.IsPart P.load P.AreCut P.most) (turn_of turn) cutting self.old self.new out.old out.new pd.old pd.new (turn_of result) }
+        ensures client { UnlessGone self.new.stage (FoundTouches (TaskTouches P.meaning P.Result.key_errors_in P.Result.region_error_in (touch C.looked C.learns C.leads C.drops) (P.touches (touch C.looked C.learns C.leads C.drops))) self.old.backoff self.new.tasks pd.old pd.new) }
         ensures ready { (multi P.meaning P.Result.key_errors_in P.Result.region_error_in P.IsPart P.load P.AreCut P.most).ready self.new }
         ensures numbers { HasNumbers out.new }
     {
@@ -231,6 +238,7 @@ where
         requires numbers { HasNumbers out.old }
         requires clock { now < 2 ^ 44 }
         ensures begins { Begins (multi P.meaning P.Result.key_errors_in P.Result.region_error_in P.IsPart P.load P.AreCut P.most) (λ h. ⊤) (record self.old { stage = MultiStage.Fresh }) self.new out.old out.new (turn_of result) }
+        ensures client { UnlessGone self.new.stage (FoundTouches (TaskTouches P.meaning P.Result.key_errors_in P.Result.region_error_in (touch C.looked C.learns C.leads C.drops) (P.touches (touch C.looked C.learns C.leads C.drops))) self.old.backoff self.new.tasks pd.old pd.new) }
         ensures ready { (multi P.meaning P.Result.key_errors_in P.Result.region_error_in P.IsPart P.load P.AreCut P.most).ready self.new }
         ensures numbers { HasNumbers out.new }
     {
@@ -259,6 +267,7 @@ where
         ensures tells { (r : Asked) → Tells (multi P.meaning P.Result.key_errors_in P.Result.region_error_in P.IsPart P.load P.AreCut P.most) (told_by arrival out.old r) (record self.old { stage = MultiStage.Running }) self.new out.old out.new (turn_of result) }
         ensures goes { Goes (multi P.meaning P.Result.key_errors_in P.Result.region_error_in P.IsPart P.load P.AreCut P.most).phase (Holding self.old.tasks (λ t. LeadsSomewhere t (awaited_as arrival))) (record self.old { stage = MultiStage.Running }) self.new out.old out.new pd.old pd.new (turn_of result) }
         ensures counts { Counts (multi P.meaning P.Result.key_errors_in P.Result.region_error_in P.IsPart P.load P.AreCut P.most) (tells_error arrival) (tells_failure arrival) (weight_told arrival) (locked_told arrival) (record self.old { stage = MultiStage.Running }) self.new out.old out.new (turn_of result) }
+        ensures client { (r : Asked) → MultiTouches (touch C.looked C.learns C.leads C.drops) (TaskTouches P.meaning P.Result.key_errors_in P.Result.region_error_in (touch C.looked C.learns C.leads C.drops) (P.touches (touch C.looked C.learns C.leads C.drops))) (told_by arrival out.old r) out.old self.old self.new pd.old pd.new }
         ensures ready { (multi P.meaning P.Result.key_errors_in P.Result.region_error_in P.IsPart P.load P.AreCut P.most).ready self.new }
         ensures numbers { HasNumbers out.new }
     {
@@ -336,6 +345,7 @@ where
     ensures tells { (inner : P) (r : Asked) → Tells (tasks_for P.meaning P.Result.key_errors_in P.Result.region_error_in P.IsPart P.load P.AreCut P.most inner) (told_by arrival out.old r) tasks.old tasks.new out.old out.new (tasks_turn result) }
     ensures goes { Goes (λ t. tasks_phase t.stage) (LeadsSomewhere tasks.old (awaited_as arrival)) tasks.old tasks.new out.old out.new pd.old pd.new (tasks_turn result) }
     ensures counts { (inner : P) → Counts (tasks_for P.meaning P.Result.key_errors_in P.Result.region_error_in P.IsPart P.load P.AreCut P.most inner) (tells_error arrival) (tells_failure arrival) (weight_told arrival) (locked_told arrival) tasks.old tasks.new out.old out.new (tasks_turn result) }
+    ensures client { (r : Asked) → IfKept (tasks_turn result) (Turns (TaskTouches P.meaning P.Result.key_errors_in P.Result.region_error_in (touch C.looked C.learns C.leads C.drops) (P.touches (touch C.looked C.learns C.leads C.drops))) (told_by arrival out.old r) out.old tasks.old.tasks.items tasks.new.tasks.items pd.old pd.new) }
     ensures ready { AreReady (region_task P.meaning P.Result.key_errors_in P.Result.region_error_in P.IsPart P.load P.AreCut P.most) (λ t. stage_runs t.stage) tasks.new }
     ensures numbers { HasNumbers out.new }
 {
@@ -354,6 +364,8 @@ where
     type Result = Vec<Result<P::Result>>;
 
     ghost meaning = { multi P.meaning P.Result.key_errors_in P.Result.region_error_in P.IsPart P.load P.AreCut P.most };
+
+    ghost touches = { λ touch told from old new pd pd'. MultiTouches touch (TaskTouches P.meaning P.Result.key_errors_in P.Result.region_error_in touch (P.touches touch)) told from old new pd pd' };
 
     /// A plan that has begun has no copy: it is refused as if for want of memory.
     fn try_clone(&self) -> std::result::Result<RetryableMultiRegion<P>, NoMemory> {

@@ -9,8 +9,12 @@ ghost use Rattle.txn_history.specs.Turn.{IfEnds};
 ghost use Rattle.txn_kv.specs.declared.errors.Error.TheVariants.{GrpcAPI};
 ghost use Rattle.txn_kv.specs.declared.request.Request.{Request as Asked};
 ghost use Rattle.txn_multi.specs.Cutting.{cut_phase, cut_waits, ArePartsOf, IfParts, UnfoundIfErr};
+ghost use Rattle.txn_multi.specs.Searching.{Seeks};
 ghost use Rattle.txn_multi.specs.Task.{owed, region_task, region_task-lawful, runs_running, shared, stage_phase, stage_runs, task_for, CostsOver, GoesOver, HasFailed, IsChanged, IsOutcome, IsReady, IsRefused, IsTaskOf, IsUnderWay, MayGoOn, TaskReady};
+ghost use Rattle.txn_multi.specs.Touching.{change_after, IsHeeded, PlanTouches, TaskTouches, UnlessStopped};
 ghost use Rattle.txn_plan.specs.Arrivals.{awaited_as, locked_told, tells_error, tells_failure, told_by, weight_told, MayArrive};
+ghost use Rattle.txn_plan.specs.Touch.{touch};
+ghost use Rattle.txn_retry.specs.Remedy.{delay_ms, on_loss, on_region_error};
 ghost use Rattle.txn_tasks.specs.Step.{step_turn, IsEnd, Keeps};
 ghost use Rattle.txn_tasks.specs.Tasks.{greatest};
 
@@ -84,6 +88,7 @@ where
         ensures next { stage_phase self.new.stage ≡ phase_after (step_turn result) }
         ensures counts { Counts (region_task P.meaning P.Result.key_errors_in P.Result.region_error_in P.IsPart P.load P.AreCut P.most) false false 0 0 (record self.old { stage = Stage.Fresh }) self.new out.old out.new (step_turn result) }
         ensures keeps { Keeps (region_task P.meaning P.Result.key_errors_in P.Result.region_error_in P.IsPart P.load P.AreCut P.most) (λ t. P.load t.job) P.AreCut (IsTaskOf P.meaning P.IsPart P.most) (λ t. stage_runs t.stage) self.old self.new (step_turn result) }
+        ensures client { PlanTouches P.meaning P.Result.key_errors_in P.Result.region_error_in (touch C.looked C.learns C.leads C.drops) (P.touches (touch C.looked C.learns C.leads C.drops)) started out.old self.old.region (delay_ms self.old.backoff) self.old.job self.new.stage pd.old pd.new }
         ensures ends { IfEnds (step_turn result) IsEnd }
         ensures ready { TaskReady P.meaning self.new }
         ensures numbers { HasNumbers out.new }
@@ -114,6 +119,7 @@ where
         ensures goes { Goes (region_task P.meaning P.Result.key_errors_in P.Result.region_error_in P.IsPart P.load P.AreCut P.most).phase ((region_task P.meaning P.Result.key_errors_in P.Result.region_error_in P.IsPart P.load P.AreCut P.most).waits self.old (awaited_as arrival)) self.old self.new out.old out.new pd.old pd.new (step_turn result) }
         ensures counts { Counts (region_task P.meaning P.Result.key_errors_in P.Result.region_error_in P.IsPart P.load P.AreCut P.most) (tells_error arrival) (tells_failure arrival) (weight_told arrival) (locked_told arrival) self.old self.new out.old out.new (step_turn result) }
         ensures keeps { Keeps (region_task P.meaning P.Result.key_errors_in P.Result.region_error_in P.IsPart P.load P.AreCut P.most) (λ t. P.load t.job) P.AreCut (IsTaskOf P.meaning P.IsPart P.most) (λ t. stage_runs t.stage) self.old self.new (step_turn result) }
+        ensures client { (r : Asked) → TaskTouches P.meaning P.Result.key_errors_in P.Result.region_error_in (touch C.looked C.learns C.leads C.drops) (P.touches (touch C.looked C.learns C.leads C.drops)) (told_by arrival out.old r) out.old self.old self.new pd.old pd.new }
         ensures off { stage_runs self.old.stage ≡ false → stage_runs self.new.stage ≡ false }
         ensures ready { TaskReady P.meaning self.new }
         ensures numbers { HasNumbers out.new }
@@ -145,6 +151,7 @@ where
         ensures goes { Goes (region_task P.meaning P.Result.key_errors_in P.Result.region_error_in P.IsPart P.load P.AreCut P.most).phase (P.meaning.waits plan (awaited_as arrival)) (record self.old { stage = Stage.Running plan }) self.new out.old out.new pd.old pd.new (step_turn result) }
         ensures counts { Counts (region_task P.meaning P.Result.key_errors_in P.Result.region_error_in P.IsPart P.load P.AreCut P.most) (tells_error arrival) (tells_failure arrival) (weight_told arrival) (locked_told arrival) (record self.old { stage = Stage.Running plan }) self.new out.old out.new (step_turn result) }
         ensures keeps { Keeps (region_task P.meaning P.Result.key_errors_in P.Result.region_error_in P.IsPart P.load P.AreCut P.most) (λ t. P.load t.job) P.AreCut (IsTaskOf P.meaning P.IsPart P.most) (λ t. stage_runs t.stage) self.old self.new (step_turn result) }
+        ensures client { (r : Asked) → PlanTouches P.meaning P.Result.key_errors_in P.Result.region_error_in (touch C.looked C.learns C.leads C.drops) (P.touches (touch C.looked C.learns C.leads C.drops)) (told_by arrival out.old r) out.old self.old.region (delay_ms self.old.backoff) plan self.new.stage pd.old pd.new }
         ensures ready { TaskReady P.meaning self.new }
         ensures numbers { HasNumbers out.new }
     {
@@ -174,6 +181,7 @@ where
         ensures goes { Goes (region_task P.meaning P.Result.key_errors_in P.Result.region_error_in P.IsPart P.load P.AreCut P.most).phase (awaited_as arrival ≡ EndOf number) (record self.old { stage = Stage.Sleeping number }) self.new out.old out.new pd.old pd.new (step_turn result) }
         ensures counts { Counts (region_task P.meaning P.Result.key_errors_in P.Result.region_error_in P.IsPart P.load P.AreCut P.most) (tells_error arrival) (tells_failure arrival) (weight_told arrival) (locked_told arrival) (record self.old { stage = Stage.Sleeping number }) self.new out.old out.new (step_turn result) }
         ensures keeps { Keeps (region_task P.meaning P.Result.key_errors_in P.Result.region_error_in P.IsPart P.load P.AreCut P.most) (λ t. P.load t.job) P.AreCut (IsTaskOf P.meaning P.IsPart P.most) (λ t. stage_runs t.stage) self.old self.new (step_turn result) }
+        ensures changed { C.looked pd.old pd.new }
         ensures off { stage_runs self.new.stage ≡ false }
         ensures ready { TaskReady P.meaning self.new }
         ensures numbers { HasNumbers out.new }
@@ -203,6 +211,7 @@ where
         ensures goes { Goes (region_task P.meaning P.Result.key_errors_in P.Result.region_error_in P.IsPart P.load P.AreCut P.most).phase (cut_waits cutting.stage (awaited_as arrival)) (record self.old { stage = Stage.Cutting cutting }) self.new out.old out.new pd.old pd.new (step_turn result) }
         ensures counts { Counts (region_task P.meaning P.Result.key_errors_in P.Result.region_error_in P.IsPart P.load P.AreCut P.most) (tells_error arrival) (tells_failure arrival) (weight_told arrival) (locked_told arrival) (record self.old { stage = Stage.Cutting cutting }) self.new out.old out.new (step_turn result) }
         ensures keeps { Keeps (region_task P.meaning P.Result.key_errors_in P.Result.region_error_in P.IsPart P.load P.AreCut P.most) (λ t. P.load t.job) P.AreCut (IsTaskOf P.meaning P.IsPart P.most) (λ t. stage_runs t.stage) self.old self.new (step_turn result) }
+        ensures client { UnlessStopped self.new.stage (Seeks (touch C.looked C.learns C.leads C.drops) pd.old pd.new) }
         ensures off { stage_runs self.new.stage ≡ false }
         ensures ready { TaskReady P.meaning self.new }
         ensures numbers { HasNumbers out.new }
@@ -232,14 +241,17 @@ where
         ensures costs { CostsOver (region_task P.meaning P.Result.key_errors_in P.Result.region_error_in P.IsPart P.load P.AreCut P.most) (λ n. 0) (P.meaning.fails answer) self.old self.new out.old out.new (step_turn result) }
         ensures ends { P.meaning.fails answer ≡ false → IfEnds (step_turn result) IsEnd }
         ensures keeps { Keeps (region_task P.meaning P.Result.key_errors_in P.Result.region_error_in P.IsPart P.load P.AreCut P.most) (λ t. P.load t.job) P.AreCut (IsTaskOf P.meaning P.IsPart P.most) (λ t. stage_runs t.stage) self.old self.new (step_turn result) }
+        ensures heeded { OnOk result (IsHeeded (touch C.looked C.learns C.leads C.drops) self.old.region (change_after P.Result.key_errors_in P.Result.region_error_in (delay_ms self.old.backoff) self.old.region answer) pd.old pd.new) }
         ensures off { stage_runs self.new.stage ≡ false }
         ensures ready { TaskReady P.meaning self.new }
         ensures numbers { HasNumbers out.new }
     {
         match answer {
             Ok(reply) => self.take_reply_of(reply, pd, now, out),
-            Err(Error::GrpcAPI(ticket)) => self.take_loss(ticket, pd, now, out),
-            Err(error) => self.end(Err(error)),
+            Err(error) => match error {
+                Error::GrpcAPI(ticket) => self.take_loss(ticket, pd, now, out),
+                error => self.end(Err(error)),
+            },
         }
     }
 
@@ -258,6 +270,7 @@ where
         ensures costs { CostsOver (region_task P.meaning P.Result.key_errors_in P.Result.region_error_in P.IsPart P.load P.AreCut P.most) (λ n. 0) (P.meaning.fails (Ok reply)) self.old self.new out.old out.new (step_turn result) }
         ensures ends { P.meaning.fails (Ok reply) ≡ false → IfEnds (step_turn result) IsEnd }
         ensures keeps { Keeps (region_task P.meaning P.Result.key_errors_in P.Result.region_error_in P.IsPart P.load P.AreCut P.most) (λ t. P.load t.job) P.AreCut (IsTaskOf P.meaning P.IsPart P.most) (λ t. stage_runs t.stage) self.old self.new (step_turn result) }
+        ensures heeded { OnOk result (IsHeeded (touch C.looked C.learns C.leads C.drops) self.old.region (change_after P.Result.key_errors_in P.Result.region_error_in (delay_ms self.old.backoff) self.old.region (Ok reply)) pd.old pd.new) }
         ensures off { stage_runs self.new.stage ≡ false }
         ensures ready { TaskReady P.meaning self.new }
         ensures numbers { HasNumbers out.new }
@@ -286,6 +299,7 @@ where
         ensures over { GoesOver (region_task P.meaning P.Result.key_errors_in P.Result.region_error_in P.IsPart P.load P.AreCut P.most) (λ h. IsRefused P.meaning P.Result.key_errors_in P.Result.region_error_in self.old.job h error) self.old self.new out.old out.new (step_turn result) }
         ensures costs { CostsOver (region_task P.meaning P.Result.key_errors_in P.Result.region_error_in P.IsPart P.load P.AreCut P.most) (λ n. 0) true self.old self.new out.old out.new (step_turn result) }
         ensures keeps { Keeps (region_task P.meaning P.Result.key_errors_in P.Result.region_error_in P.IsPart P.load P.AreCut P.most) (λ t. P.load t.job) P.AreCut (IsTaskOf P.meaning P.IsPart P.most) (λ t. stage_runs t.stage) self.old self.new (step_turn result) }
+        ensures heeded { OnOk result (IsHeeded (touch C.looked C.learns C.leads C.drops) self.old.region ((on_region_error (delay_ms self.old.backoff) error self.old.region).change) pd.old pd.new) }
         ensures off { stage_runs self.new.stage ≡ false }
         ensures ready { TaskReady P.meaning self.new }
         ensures numbers { HasNumbers out.new }
@@ -309,6 +323,7 @@ where
         ensures over { GoesOver (region_task P.meaning P.Result.key_errors_in P.Result.region_error_in P.IsPart P.load P.AreCut P.most) (λ h. P.meaning.gives self.old.job h (Err (GrpcAPI ticket))) self.old self.new out.old out.new (step_turn result) }
         ensures costs { CostsOver (region_task P.meaning P.Result.key_errors_in P.Result.region_error_in P.IsPart P.load P.AreCut P.most) (λ n. 0) true self.old self.new out.old out.new (step_turn result) }
         ensures keeps { Keeps (region_task P.meaning P.Result.key_errors_in P.Result.region_error_in P.IsPart P.load P.AreCut P.most) (λ t. P.load t.job) P.AreCut (IsTaskOf P.meaning P.IsPart P.most) (λ t. stage_runs t.stage) self.old self.new (step_turn result) }
+        ensures heeded { OnOk result (IsHeeded (touch C.looked C.learns C.leads C.drops) self.old.region ((on_loss (delay_ms self.old.backoff)).change) pd.old pd.new) }
         ensures off { stage_runs self.new.stage ≡ false }
         ensures ready { TaskReady P.meaning self.new }
         ensures numbers { HasNumbers out.new }
@@ -333,6 +348,7 @@ where
         ensures over { GoesOver (region_task P.meaning P.Result.key_errors_in P.Result.region_error_in P.IsPart P.load P.AreCut P.most) (MayGoOn P.meaning P.Result.key_errors_in P.Result.region_error_in self.old.region self.old.job failure remedy.next) self.old self.new out.old out.new (step_turn result) }
         ensures costs { CostsOver (region_task P.meaning P.Result.key_errors_in P.Result.region_error_in P.IsPart P.load P.AreCut P.most) (λ n. 0) true self.old self.new out.old out.new (step_turn result) }
         ensures keeps { Keeps (region_task P.meaning P.Result.key_errors_in P.Result.region_error_in P.IsPart P.load P.AreCut P.most) (λ t. P.load t.job) P.AreCut (IsTaskOf P.meaning P.IsPart P.most) (λ t. stage_runs t.stage) self.old self.new (step_turn result) }
+        ensures heeded { OnOk result (IsHeeded (touch C.looked C.learns C.leads C.drops) self.old.region (remedy.change) pd.old pd.new) }
         ensures off { stage_runs self.new.stage ≡ false }
         ensures ready { TaskReady P.meaning self.new }
         ensures numbers { HasNumbers out.new }
@@ -373,6 +389,7 @@ where
         ensures over { GoesOver (region_task P.meaning P.Result.key_errors_in P.Result.region_error_in P.IsPart P.load P.AreCut P.most) (HasFailed P.meaning P.Result.key_errors_in P.Result.region_error_in self.old.job) self.old self.new out.old out.new (step_turn result) }
         ensures costs { CostsOver (region_task P.meaning P.Result.key_errors_in P.Result.region_error_in P.IsPart P.load P.AreCut P.most) (λ n. owed P.meaning P.most self.old.job n) false self.old self.new out.old out.new (step_turn result) }
         ensures keeps { Keeps (region_task P.meaning P.Result.key_errors_in P.Result.region_error_in P.IsPart P.load P.AreCut P.most) (λ t. P.load t.job) P.AreCut (IsTaskOf P.meaning P.IsPart P.most) (λ t. stage_runs t.stage) self.old self.new (step_turn result) }
+        ensures changed { C.looked pd.old pd.new }
         ensures off { stage_runs self.new.stage ≡ false }
         ensures ready { TaskReady P.meaning self.new }
         ensures numbers { HasNumbers out.new }
@@ -490,6 +507,8 @@ where
     type Answer = P::Result;
 
     ghost meaning = { region_task P.meaning P.Result.key_errors_in P.Result.region_error_in P.IsPart P.load P.AreCut P.most };
+
+    ghost touches = { λ touch told from old new pd pd'. TaskTouches P.meaning P.Result.key_errors_in P.Result.region_error_in touch (P.touches touch) told from old new pd pd' };
 
     ghost Load = { P.Load };
 

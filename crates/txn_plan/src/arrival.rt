@@ -6,6 +6,7 @@ ghost use Rattle.txn_history.specs.Posted.{HasNumbers};
 ghost use Rattle.txn_history.specs.Turn.{turn_of};
 ghost use Rattle.txn_kv.specs.declared.request.Request.{Request as Asked};
 ghost use Rattle.txn_plan.specs.Arrivals.{MayArrive, awaited_as, locked_told, tells_error, tells_failure, told_by, weight_told};
+ghost use Rattle.txn_plan.specs.Touch.{touch};
 
 use crate::plan::Plan;
 use txn_kv::{NoMemory, Outbox, Progress, Reply, Timestamp};
@@ -56,6 +57,7 @@ impl Arrival {
         ensures tells { (r : Asked) → Tells P.meaning (told_by self out.old r) plan.old plan.new out.old out.new (turn_of result) }
         ensures goes { Goes P.meaning.phase (P.meaning.waits plan.old (awaited_as self)) plan.old plan.new out.old out.new pd.old pd.new (turn_of result) }
         ensures counts { Counts P.meaning (tells_error self) (tells_failure self) (weight_told self) (locked_told self) plan.old plan.new out.old out.new (turn_of result) }
+        ensures client { (r : Asked) → P.touches (touch C.looked C.learns C.leads C.drops) (told_by self out.old r) out.old plan.old plan.new pd.old pd.new }
         ensures ready { P.meaning.ready plan.new }
         ensures numbers { HasNumbers out.new }
     {

@@ -84,6 +84,9 @@ where
 
     ghost meaning = { dispatch R.request_of R.reply_of };
 
+    // It makes no use of the client.
+    ghost touches = { λ touch told from old new pd pd'. pd' ≡ pd };
+
     fn try_clone(&self) -> Result<Self, NoMemory> {
         Ok(Dispatch {
             request: self.request.copy()?,

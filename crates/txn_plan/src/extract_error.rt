@@ -57,6 +57,8 @@ where
 
     ghost meaning = { extracted P.meaning P.Result.key_errors_in P.Result.region_errors_in };
 
+    ghost touches = { λ touch told from old new pd pd'. P.touches touch told from old.inner new.inner pd pd' };
+
     fn try_clone(&self) -> Result<Self, NoMemory> {
         Ok(ExtractError {
             inner: self.inner.try_clone()?,

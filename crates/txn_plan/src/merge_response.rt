@@ -72,6 +72,8 @@ where
 
     ghost meaning = { merged P.meaning M.merges };
 
+    ghost touches = { λ touch told from old new pd pd'. P.touches touch told from old.inner new.inner pd pd' };
+
     fn try_clone(&self) -> Result<Self, NoMemory> {
         Ok(MergeResponse {
             inner: self.inner.try_clone()?,

@@ -9,6 +9,7 @@ ghost use Rattle.txn_history.specs.Spends.{locked_of, weight_of};
 ghost use Rattle.txn_history.specs.Turn.{turn_of};
 ghost use Rattle.txn_kv.specs.declared.request.Request.{Request as Asked};
 ghost use Rattle.txn_plan.specs.Answered.{IsTimeAnswer};
+ghost use Rattle.txn_plan.specs.Touch.{touch};
 
 use txn_kv::{NoMemory, Outbox, Progress, Reply, Timestamp};
 use txn_region::PdClient;
@@ -16,12 +17,17 @@ use txn_region::PdClient;
 /// A state that hands out requests and takes what comes of them, until it has an answer.
 pub trait Plan: Sized + Drop {
     ghost use Rattle.std.specs.Prelude.{Result};
-    ghost use Rattle.txn_history.specs.Meaning.{Meaning};
+    ghost use Rattle.txn_history.specs.Meaning.{Meaning, Told};
+    ghost use Rattle.txn_history.specs.Posted.{Posted};
     ghost use Rattle.txn_kv.specs.declared.errors.Error.{Error};
+    ghost use Rattle.txn_plan.specs.Touch.{Touch};
 
     type Result: Drop;
 
     ghost meaning: { Meaning Self (Result Self.Result Error) };
+
+    // What a call that tells it this, where its line has posted so much, makes of the client.
+    ghost touches: { {C : Type 0} → Touch C → Told → Posted → Self → Self → C → C → Type 0 };
 
     /// The same state, in new memory: it waits for the same. A plan that can be copied only before it begins refuses afterwards,
     /// as if for want of memory.
@@ -41,6 +47,7 @@ pub trait Plan: Sized + Drop {
         ensures tells { Tells meaning started self.old self.new out.old out.new (turn_of result) }
         ensures goes { Goes meaning.phase (meaning.phase self.old ≡ Fresh) self.old self.new out.old out.new pd.old pd.new (turn_of result) }
         ensures counts { Counts meaning false false 0 0 self.old self.new out.old out.new (turn_of result) }
+        ensures client { touches (touch C.looked C.learns C.leads C.drops) started out.old self.old self.new pd.old pd.new }
         ensures ready { meaning.ready self.new }
         ensures numbers { HasNumbers out.new };
 
@@ -59,6 +66,7 @@ pub trait Plan: Sized + Drop {
         ensures tells { (r : Asked) → Tells meaning (replied (ticket_of out.old number) r reply) self.old self.new out.old out.new (turn_of result) }
         ensures goes { Goes meaning.phase (meaning.waits self.old (ReplyTo number)) self.old self.new out.old out.new pd.old pd.new (turn_of result) }
         ensures counts { Counts meaning (has_error reply) (has_region_error reply) (weight_of reply) (locked_of reply) self.old self.new out.old out.new (turn_of result) }
+        ensures client { (r : Asked) → touches (touch C.looked C.learns C.leads C.drops) (replied (ticket_of out.old number) r reply) out.old self.old self.new pd.old pd.new }
         ensures ready { meaning.ready self.new }
         ensures numbers { HasNumbers out.new };
 
@@ -76,6 +84,7 @@ pub trait Plan: Sized + Drop {
         ensures tells { (r : Asked) → Tells meaning (missed (ticket_of out.old number) r) self.old self.new out.old out.new (turn_of result) }
         ensures goes { Goes meaning.phase (meaning.waits self.old (ReplyTo number)) self.old self.new out.old out.new pd.old pd.new (turn_of result) }
         ensures counts { Counts meaning true true 0 0 self.old self.new out.old out.new (turn_of result) }
+        ensures client { (r : Asked) → touches (touch C.looked C.learns C.leads C.drops) (missed (ticket_of out.old number) r) out.old self.old self.new pd.old pd.new }
         ensures ready { meaning.ready self.new }
         ensures numbers { HasNumbers out.new };
 
@@ -93,6 +102,7 @@ pub trait Plan: Sized + Drop {
         ensures tells { Tells meaning (woken (ticket_of out.old number)) self.old self.new out.old out.new (turn_of result) }
         ensures goes { Goes meaning.phase (meaning.waits self.old (EndOf number)) self.old self.new out.old out.new pd.old pd.new (turn_of result) }
         ensures counts { Counts meaning false false 0 0 self.old self.new out.old out.new (turn_of result) }
+        ensures client { touches (touch C.looked C.learns C.leads C.drops) (woken (ticket_of out.old number)) out.old self.old self.new pd.old pd.new }
         ensures ready { meaning.ready self.new }
         ensures numbers { HasNumbers out.new };
 
@@ -112,6 +122,7 @@ pub trait Plan: Sized + Drop {
         ensures tells { Tells meaning (timed (ticket_of out.old ask) (result_ok answer)) self.old self.new out.old out.new (turn_of result) }
         ensures goes { Goes meaning.phase (meaning.waits self.old (TimeOf ask)) self.old self.new out.old out.new pd.old pd.new (turn_of result) }
         ensures counts { Counts meaning (is_err answer) false 0 0 self.old self.new out.old out.new (turn_of result) }
+        ensures client { touches (touch C.looked C.learns C.leads C.drops) (timed (ticket_of out.old ask) (result_ok answer)) out.old self.old self.new pd.old pd.new }
         ensures ready { meaning.ready self.new }
         ensures numbers { HasNumbers out.new };
 

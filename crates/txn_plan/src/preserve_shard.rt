@@ -61,6 +61,8 @@ where
 
     ghost meaning = { preserved P.meaning };
 
+    ghost touches = { λ touch told from old new pd pd'. P.touches touch told from old.inner new.inner pd pd' };
+
     fn try_clone(&self) -> Result<Self, NoMemory> {
         let inner = self.inner.try_clone()?;
         let shard = match &self.shard {

@@ -39,6 +39,8 @@ where
 
     ghost meaning = { processed P.meaning Pr.processes };
 
+    ghost touches = { λ touch told from old new pd pd'. P.touches touch told from old.inner new.inner pd pd' };
+
     fn try_clone(&self) -> Result<Self, NoMemory> {
         Ok(ProcessResponse {
             inner: self.inner.try_clone()?,

@@ -77,6 +77,8 @@ where
 
     ghost meaning = { unlocked P.meaning P.Result.locks };
 
+    ghost touches = { λ touch told from old new pd pd'. P.touches touch told from old.inner new.inner pd pd' };
+
     fn try_clone(&self) -> Result<Self, NoMemory> {
         Ok(ResolveLock {
             inner: self.inner.try_clone()?,

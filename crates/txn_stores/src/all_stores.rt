@@ -1,6 +1,6 @@
 //! A plan that is sent to every store.
 ghost use Rattle.std.specs.Bool.{MatchBool};
-ghost use Rattle.std.specs.Prelude.{◌≡◌, ◌≢◌, ◌<◌, ◌^◌, IfOk, None, map};
+ghost use Rattle.std.specs.Prelude.{◌≡◌, ◌≢◌, ◌<◌, ◌^◌, ⊤, IfOk, None, map};
 ghost use Rattle.txn_history.specs.Meaning.{IsUnbegun};
 ghost use Rattle.txn_history.specs.Phase.{unheard};
 ghost use Rattle.txn_history.specs.Posted.{HasNumbers};
@@ -182,6 +182,9 @@ where
     type Result = Vec<Result<P::Result>>;
 
     ghost meaning = { all_stores P.meaning P.Result.key_errors_in P.Result.region_error_in P.at_store };
+
+    // Nothing is said of it.
+    ghost touches = { λ touch told from old new pd pd'. ⊤ };
 
     /// A plan that has begun has no copy: it is refused as if for want of memory.
     fn try_clone(&self) -> std::result::Result<RetryableAllStores<P>, NoMemory> {

@@ -226,6 +226,9 @@ where
 
     ghost meaning = { store_task P.meaning P.Result.key_errors_in P.Result.region_error_in };
 
+    // Nothing is said of it.
+    ghost touches = { λ touch told from old new pd pd'. ⊤ };
+
     ghost Load = { List ℕ };
 
     ghost load = { store_of };

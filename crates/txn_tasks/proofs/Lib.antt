@@ -9,4 +9,5 @@ pub mod Singles
 pub mod Spending
 pub mod Stepping
 pub mod Telling
+pub mod Turning
 pub mod Waiting

@@ -4,3 +4,4 @@ pub mod Settled
 pub mod Single
 pub mod Step
 pub mod Tasks
+pub mod Turns

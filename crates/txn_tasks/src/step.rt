@@ -10,6 +10,7 @@ ghost use Rattle.txn_history.specs.Spends.{locked_of, weight_of};
 ghost use Rattle.txn_history.specs.Turn.{IfEnds};
 ghost use Rattle.txn_kv.specs.declared.request.Request.{Request as Asked};
 ghost use Rattle.txn_plan.specs.Answered.{IsTimeAnswer};
+ghost use Rattle.txn_plan.specs.Touch.{touch};
 ghost use Rattle.txn_tasks.specs.Step.{step_turn, IsEnd, Keeps};
 
 use txn_kv::{NoMemory, Outbox, Reply, Result, Timestamp};
@@ -25,7 +26,9 @@ pub enum Step<T: Drop, A: Drop> {
 /// A task of a plan, which runs while its inner plan is under way. An event answers how the task ends, once it does.
 pub trait Task: Sized + Drop {
     ghost use Rattle.std.specs.Prelude.{List, Bool, ℕ};
-    ghost use Rattle.txn_history.specs.Meaning.{Meaning};
+    ghost use Rattle.txn_history.specs.Meaning.{Meaning, Told};
+    ghost use Rattle.txn_history.specs.Posted.{Posted};
+    ghost use Rattle.txn_plan.specs.Touch.{Touch};
     ghost use Rattle.txn_tasks.specs.declared.step.Step.{Step};
 
     type Answer: Drop;
@@ -51,6 +54,9 @@ pub trait Task: Sized + Drop {
     // Its inner plan is under way.
     ghost runs: { Self → Bool };
 
+    // What a call that tells it this, where its line has posted so much, makes of the client.
+    ghost touches: { {C : Type 0} → Touch C → Told → Posted → Self → Self → C → C → Type 0 };
+
     fn is_running(&self) -> bool
         ensures { result ≡ runs self.now };
 
@@ -67,6 +73,7 @@ pub trait Task: Sized + Drop {
         ensures tells { Tells meaning started self.old self.new out.old out.new (step_turn result) }
         ensures goes { Goes meaning.phase (meaning.phase self.old ≡ Fresh) self.old self.new out.old out.new pd.old pd.new (step_turn result) }
         ensures counts { Counts meaning false false 0 0 self.old self.new out.old out.new (step_turn result) }
+        ensures client { touches (touch C.looked C.learns C.leads C.drops) started out.old self.old self.new pd.old pd.new }
         ensures keeps { Keeps meaning load AreCut IsOf runs self.old self.new (step_turn result) }
         ensures ends { IfEnds (step_turn result) IsEnd }
         ensures ready { meaning.ready self.new }
@@ -87,6 +94,7 @@ pub trait Task: Sized + Drop {
         ensures tells { (r : Asked) → Tells meaning (replied (ticket_of out.old number) r reply) self.old self.new out.old out.new (step_turn result) }
         ensures goes { Goes meaning.phase (meaning.waits self.old (ReplyTo number)) self.old self.new out.old out.new pd.old pd.new (step_turn result) }
         ensures counts { Counts meaning (has_error reply) (has_region_error reply) (weight_of reply) (locked_of reply) self.old self.new out.old out.new (step_turn result) }
+        ensures client { (r : Asked) → touches (touch C.looked C.learns C.leads C.drops) (replied (ticket_of out.old number) r reply) out.old self.old self.new pd.old pd.new }
         ensures keeps { Keeps meaning load AreCut IsOf runs self.old self.new (step_turn result) }
         ensures off { runs self.old ≡ false → runs self.new ≡ false }
         ensures ready { meaning.ready self.new }
@@ -106,6 +114,7 @@ pub trait Task: Sized + Drop {
         ensures tells { (r : Asked) → Tells meaning (missed (ticket_of out.old number) r) self.old self.new out.old out.new (step_turn result) }
         ensures goes { Goes meaning.phase (meaning.waits self.old (ReplyTo number)) self.old self.new out.old out.new pd.old pd.new (step_turn result) }
         ensures counts { Counts meaning true true 0 0 self.old self.new out.old out.new (step_turn result) }
+        ensures client { (r : Asked) → touches (touch C.looked C.learns C.leads C.drops) (missed (ticket_of out.old number) r) out.old self.old self.new pd.old pd.new }
         ensures keeps { Keeps meaning load AreCut IsOf runs self.old self.new (step_turn result) }
         ensures off { runs self.old ≡ false → runs self.new ≡ false }
         ensures ready { meaning.ready self.new }
@@ -125,6 +134,7 @@ pub trait Task: Sized + Drop {
         ensures tells { Tells meaning (woken (ticket_of out.old number)) self.old self.new out.old out.new (step_turn result) }
         ensures goes { Goes meaning.phase (meaning.waits self.old (EndOf number)) self.old self.new out.old out.new pd.old pd.new (step_turn result) }
         ensures counts { Counts meaning false false 0 0 self.old self.new out.old out.new (step_turn result) }
+        ensures client { touches (touch C.looked C.learns C.leads C.drops) (woken (ticket_of out.old number)) out.old self.old self.new pd.old pd.new }
         ensures keeps { Keeps meaning load AreCut IsOf runs self.old self.new (step_turn result) }
         ensures off { runs self.old ≡ false → runs self.new ≡ false }
         ensures ready { meaning.ready self.new }
@@ -146,6 +156,7 @@ pub trait Task: Sized + Drop {
         ensures tells { Tells meaning (timed (ticket_of out.old ask) (result_ok answer)) self.old self.new out.old out.new (step_turn result) }
         ensures goes { Goes meaning.phase (meaning.waits self.old (TimeOf ask)) self.old self.new out.old out.new pd.old pd.new (step_turn result) }
         ensures counts { Counts meaning (is_err answer) false 0 0 self.old self.new out.old out.new (step_turn result) }
+        ensures client { touches (touch C.looked C.learns C.leads C.drops) (timed (ticket_of out.old ask) (result_ok answer)) out.old self.old self.new pd.old pd.new }
         ensures keeps { Keeps meaning load AreCut IsOf runs self.old self.new (step_turn result) }
         ensures off { runs self.old ≡ false → runs self.new ≡ false }
         ensures ready { meaning.ready self.new }

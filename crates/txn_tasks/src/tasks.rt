@@ -1,5 +1,5 @@
 //! The tasks of a plan, sixteen of which run at once.
-ghost use Rattle.std.specs.Prelude.{◌≡◌, ◌≢◌, ◌≤◌, ◌<◌, ◌^◌, drop, IfOk, IfSome, List, None, Ok, OnOk, Option, false, is_err, length, map, true, ℕ};
+ghost use Rattle.std.specs.Prelude.{◌≡◌, ◌≢◌, ◌≤◌, ◌<◌, ◌^◌, ◌++◌, drop, IfOk, IfSome, List, None, Ok, OnOk, Option, false, is_err, length, map, true, ℕ};
 ghost use Rattle.std.specs.Bool.{MatchBool};
 ghost use Rattle.std.proofs.Math.ListN.{get_or};
 ghost use Rattle.std.specs.List.{count_by, sum_by, All};
@@ -16,11 +16,13 @@ ghost use Rattle.txn_history.specs.Spends.{locked_of, weight_of};
 ghost use Rattle.txn_history.specs.Turn.{IfEnds, IfKept};
 ghost use Rattle.txn_kv.specs.declared.request.Request.{Request as Asked};
 ghost use Rattle.txn_plan.specs.Answered.{IsTimeAnswer};
+ghost use Rattle.txn_plan.specs.Touch.{touch};
 ghost use Rattle.txn_retry.specs.Place.{next_task};
 ghost use Rattle.txn_tasks.specs.Settled.{ended, rested, waiting, Begins, Continues, Finds, GoesOnSo, HasEndedSo, HasGiven, IsMore, IsSettled};
 ghost use Rattle.txn_tasks.specs.Step.{parts_in, step_turn, IsNew};
 ghost use Rattle.txn_tasks.specs.declared.step.Step.{Step};
 ghost use Rattle.txn_tasks.specs.Tasks.{left_at, sum_left, tasks_of, tasks_phase, tasks_turn, AllFit, AreReady, BearAll, LeadsSomewhere};
+ghost use Rattle.txn_tasks.specs.Turns.{Starts, Turns};
 
 use crate::routes::Routes;
 use crate::stage::Stage;
@@ -150,6 +152,7 @@ impl<T: Task> Tasks<T> {
         ensures tells { (whole : T.Whole) (first : T.Load) → Tells (tasks_of T.meaning T.load T.AreCut T.IsOf T.cost T.runs whole first) started self.old self.new out.old out.new (tasks_turn result) }
         ensures goes { Goes (λ (s : Tasks T T.Answer). tasks_phase s.stage) (tasks_phase self.old.stage ≡ Fresh) self.old self.new out.old out.new pd.old pd.new (tasks_turn result) }
         ensures counts { (whole : T.Whole) (first : T.Load) → Counts (tasks_of T.meaning T.load T.AreCut T.IsOf T.cost T.runs whole first) false false 0 0 self.old self.new out.old out.new (tasks_turn result) }
+        ensures client { IfKept (tasks_turn result) (Starts (T.touches (touch C.looked C.learns C.leads C.drops)) self.old.tasks.items pd.old self.new.tasks.items pd.new) }
         ensures few { count_by T.runs self.new.tasks.items ≤ 16 }
         ensures ready { AreReady T.meaning T.runs self.new }
         ensures numbers { HasNumbers out.new }
@@ -177,6 +180,7 @@ impl<T: Task> Tasks<T> {
         ensures tells { (whole : T.Whole) (first : T.Load) → (r : Asked) → Tells (tasks_of T.meaning T.load T.AreCut T.IsOf T.cost T.runs whole first) (replied (ticket_of out.old number) r reply) self.old self.new out.old out.new (tasks_turn result) }
         ensures goes { Goes (λ (s : Tasks T T.Answer). tasks_phase s.stage) (LeadsSomewhere self.old (ReplyTo number)) self.old self.new out.old out.new pd.old pd.new (tasks_turn result) }
         ensures counts { (whole : T.Whole) (first : T.Load) → Counts (tasks_of T.meaning T.load T.AreCut T.IsOf T.cost T.runs whole first) (has_error reply) (has_region_error reply) (weight_of reply) (locked_of reply) self.old self.new out.old out.new (tasks_turn result) }
+        ensures client { (r : Asked) → IfKept (tasks_turn result) (Turns (T.touches (touch C.looked C.learns C.leads C.drops)) (replied (ticket_of out.old number) r reply) out.old self.old.tasks.items self.new.tasks.items pd.old pd.new) }
         ensures few { count_by T.runs self.new.tasks.items ≤ 16 }
         ensures ready { AreReady T.meaning T.runs self.new }
         ensures numbers { HasNumbers out.new }
@@ -203,6 +207,7 @@ impl<T: Task> Tasks<T> {
         ensures tells { (whole : T.Whole) (first : T.Load) → (r : Asked) → Tells (tasks_of T.meaning T.load T.AreCut T.IsOf T.cost T.runs whole first) (missed (ticket_of out.old number) r) self.old self.new out.old out.new (tasks_turn result) }
         ensures goes { Goes (λ (s : Tasks T T.Answer). tasks_phase s.stage) (LeadsSomewhere self.old (ReplyTo number)) self.old self.new out.old out.new pd.old pd.new (tasks_turn result) }
         ensures counts { (whole : T.Whole) (first : T.Load) → Counts (tasks_of T.meaning T.load T.AreCut T.IsOf T.cost T.runs whole first) true true 0 0 self.old self.new out.old out.new (tasks_turn result) }
+        ensures client { (r : Asked) → IfKept (tasks_turn result) (Turns (T.touches (touch C.looked C.learns C.leads C.drops)) (missed (ticket_of out.old number) r) out.old self.old.tasks.items self.new.tasks.items pd.old pd.new) }
         ensures few { count_by T.runs self.new.tasks.items ≤ 16 }
         ensures ready { AreReady T.meaning T.runs self.new }
         ensures numbers { HasNumbers out.new }
@@ -229,6 +234,7 @@ impl<T: Task> Tasks<T> {
         ensures tells { (whole : T.Whole) (first : T.Load) → Tells (tasks_of T.meaning T.load T.AreCut T.IsOf T.cost T.runs whole first) (woken (ticket_of out.old number)) self.old self.new out.old out.new (tasks_turn result) }
         ensures goes { Goes (λ (s : Tasks T T.Answer). tasks_phase s.stage) (LeadsSomewhere self.old (EndOf number)) self.old self.new out.old out.new pd.old pd.new (tasks_turn result) }
         ensures counts { (whole : T.Whole) (first : T.Load) → Counts (tasks_of T.meaning T.load T.AreCut T.IsOf T.cost T.runs whole first) false false 0 0 self.old self.new out.old out.new (tasks_turn result) }
+        ensures client { IfKept (tasks_turn result) (Turns (T.touches (touch C.looked C.learns C.leads C.drops)) (woken (ticket_of out.old number)) out.old self.old.tasks.items self.new.tasks.items pd.old pd.new) }
         ensures few { count_by T.runs self.new.tasks.items ≤ 16 }
         ensures ready { AreReady T.meaning T.runs self.new }
         ensures numbers { HasNumbers out.new }
@@ -257,6 +263,7 @@ impl<T: Task> Tasks<T> {
         ensures tells { (whole : T.Whole) (first : T.Load) → Tells (tasks_of T.meaning T.load T.AreCut T.IsOf T.cost T.runs whole first) (timed (ticket_of out.old ask) (result_ok answer)) self.old self.new out.old out.new (tasks_turn result) }
         ensures goes { Goes (λ (s : Tasks T T.Answer). tasks_phase s.stage) (LeadsSomewhere self.old (TimeOf ask)) self.old self.new out.old out.new pd.old pd.new (tasks_turn result) }
         ensures counts { (whole : T.Whole) (first : T.Load) → Counts (tasks_of T.meaning T.load T.AreCut T.IsOf T.cost T.runs whole first) (is_err answer) false 0 0 self.old self.new out.old out.new (tasks_turn result) }
+        ensures client { IfKept (tasks_turn result) (Turns (T.touches (touch C.looked C.learns C.leads C.drops)) (timed (ticket_of out.old ask) (result_ok answer)) out.old self.old.tasks.items self.new.tasks.items pd.old pd.new) }
         ensures few { count_by T.runs self.new.tasks.items ≤ 16 }
         ensures ready { AreReady T.meaning T.runs self.new }
         ensures numbers { HasNumbers out.new }
@@ -287,6 +294,7 @@ impl<T: Task> Tasks<T> {
         requires ready { AreReady T.meaning T.runs self.old }
         requires fresh { IfEnds (step_turn step) (λ s. All (λ part. IsNew T.meaning part) (parts_in s)) }
         ensures goes { (t : T) → GoesOnSo T.meaning T.load T.AreCut T.IsOf T.cost T.runs step (drop posted out.old.sends) (T.runs (get_or self.old.tasks.items at t)) at self.old self.new out.old out.new (tasks_turn result) }
+        ensures client { IfKept (tasks_turn result) ((more : List T) × Starts (T.touches (touch C.looked C.learns C.leads C.drops)) (self.old.tasks.items ++ more) pd.old self.new.tasks.items pd.new) }
         ensures few { count_by T.runs self.new.tasks.items ≤ 16 }
         ensures ready { AreReady T.meaning T.runs self.new }
         ensures numbers { HasNumbers out.new }
@@ -394,6 +402,7 @@ impl<T: Task> Tasks<T> {
         requires numbers { HasNumbers out.old }
         requires clock { now < 2 ^ 44 }
         ensures continues { Continues T.meaning T.load T.AreCut T.IsOf T.cost T.runs self.old self.new out.old out.new (tasks_turn result) }
+        ensures client { IfKept (tasks_turn result) (Starts (T.touches (touch C.looked C.learns C.leads C.drops)) self.old.tasks.items pd.old self.new.tasks.items pd.new) }
         ensures ready { AreReady T.meaning T.runs self.new }
         ensures numbers { HasNumbers out.new }
     {
@@ -412,6 +421,7 @@ impl<T: Task> Tasks<T> {
         requires numbers { HasNumbers out.old }
         requires clock { now < 2 ^ 44 }
         ensures begins { Begins T.meaning T.load T.AreCut T.IsOf T.cost T.runs self.old self.new out.old out.new result }
+        ensures client { OnOk result (Starts (T.touches (touch C.looked C.learns C.leads C.drops)) self.old.tasks.items pd.old self.new.tasks.items pd.new) }
         ensures none { IfOk result (λ more. more ≡ false → next_task self.new.queue.places ≡ None) }
         ensures fewer { IfOk result (λ more. more ≡ true → waiting self.new.queue.places < waiting self.old.queue.places) }
         ensures stage { self.new.stage ≡ self.old.stage }

@@ -33,6 +33,8 @@ impl<P: Plan> Plan for Own<P> {
 
     ghost meaning = { P.meaning };
 
+    ghost touches = { λ touch told from old new pd pd'. P.touches touch told from old new pd pd' };
+
     fn try_clone(&self) -> Result<Self, NoMemory> {
         Ok(Own {
             plan: self.plan.try_clone()?,

@@ -82,6 +82,8 @@ impl Task for Toy {
 
     ghost meaning = { single (λ t. t.stage) (λ t. t.sleeps) (λ t. t.number) };
 
+    ghost touches = { λ touch told from old new pd pd'. pd' ≡ pd };
+
     ghost Load = { Unit {0} };
 
     ghost load = { λ t. tt };

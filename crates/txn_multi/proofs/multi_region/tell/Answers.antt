@@ -47,3 +47,15 @@ returns-in-Time-clause-goes g c = rw c.in-Time.is (c.take_time.ensures.goes)
 
 pub returns-in-Time-clause-counts : goal.returns-in-Time-clause-counts
 returns-in-Time-clause-counts g c inner = rw c.in-Time.is (c.take_time.ensures.counts inner (g.P.Shardable.load inner))
+
+pub returns-in-Reply-clause-client : goal.returns-in-Reply-clause-client
+returns-in-Reply-clause-client g c r = rw c.in-Reply.is (c.take_reply.ensures.client r)
+
+pub returns-in-Lost-clause-client : goal.returns-in-Lost-clause-client
+returns-in-Lost-clause-client g c r = rw c.in-Lost.is (c.lost.ensures.client r)
+
+pub returns-in-Slept-clause-client : goal.returns-in-Slept-clause-client
+returns-in-Slept-clause-client g c r = rw c.in-Slept.is c.slept.ensures.client
+
+pub returns-in-Time-clause-client : goal.returns-in-Time-clause-client
+returns-in-Time-clause-client g c r = rw c.in-Time.is c.take_time.ensures.client

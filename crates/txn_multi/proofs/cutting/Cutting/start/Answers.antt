@@ -8,3 +8,6 @@ returns-then-is_fresh-clause-numbers g c = let s = c.look.ensures.on in Moves-nu
 
 pub returns-else-is_fresh-clause-tells : goal.returns-else-is_fresh-clause-tells
 returns-else-is_fresh-clause-tells g c = Tells-idle (cutting-lawful g.P.Plan.meaning g.P.Shardable.IsPart g.P.Shardable.load g.P.Shardable.AreCut g.P.RegionPlan.most) (λ a heard w. heard) c.stay.ensures
+
+pub returns-else-is_fresh-clause-changed : goal.returns-else-is_fresh-clause-changed
+returns-else-is_fresh-clause-changed g c = g.met.C.PdClient.looked_same _

@@ -1,11 +1,13 @@
-use Rattle.std.proofs.Common.{false}
+use Rattle.std.proofs.Common.{false, inl}
 use Rattle.std.proofs.lemmas.Bool.{false≢true}
 use Rattle.txn_history.proofs.Numbering.{Moves-numbers}
 use Rattle.txn_history.specs.Meaning.{replied}
 use Rattle.txn_history.specs.Phase.Awaited.{ReplyTo}
 use Rattle.txn_history.specs.Posted.{ticket_of}
-use Rattle.txn_history.specs.Turn.{turn_of}
+use Rattle.txn_history.specs.Turn.{turn_of, IfKept-all, IfKept-weaker}
 use Rattle.txn_multi.proofs.Lookings.{asks_none, counted_after, heard, unmoved, waits_held}
+use Rattle.txn_multi.proofs.Touchings.{seeks_after}
+use Rattle.txn_plan.specs.Touch.{touch}
 use Rattle.txn_multi.proofs.cutting.Cutting.take_reply.Goals as goal
 use Rattle.txn_plan.proofs.LastPosted.{calls_none, goes_on, hears_if_asking}
 use Rattle.txn_plan.proofs.LookingUp.{deaf_reply, tells_of, went, went_reply}
@@ -40,3 +42,9 @@ returns-in-Some-clause-numbers g c = let s = c.hear.ensures.on in Moves-numbers 
 
 pub returns-in-None-clause-tells : goal.returns-in-None-clause-tells
 returns-in-None-clause-tells g c r = unmoved g.P.Plan.meaning g.P.Shardable.IsPart g.P.Shardable.load g.P.Shardable.AreCut g.P.RegionPlan.most (ReplyTo c.args.number) (λ b h. h) c.in-None.ensures c.stay.ensures
+
+pub returns-in-Some-clause-client : goal.returns-in-Some-clause-client
+returns-in-Some-clause-client g c = IfKept-weaker (turn_of c.hear.result) (λ s. seeks_after (touch g.C.PdClient.looked g.C.PdClient.learns g.C.PdClient.leads g.C.PdClient.drops) g.met.C.PdClient.looked_on (g.met.C.PdClient.looked_lent _ _) s) c.hear.ensures.client
+
+pub returns-in-None-clause-client : goal.returns-in-None-clause-client
+returns-in-None-clause-client g c = IfKept-all (turn_of c.stay.result) (inl (g.met.C.PdClient.looked_same _))

@@ -1,12 +1,15 @@
 use Rattle.std.proofs.Common.{arith, ap, subst, sym, ◌∙◌}
-use Rattle.std.specs.Prelude.{⊤}
+use Rattle.std.specs.Prelude.{⊤, Some}
 use Rattle.txn_history.proofs.Telling.{turn_stopped}
 use Rattle.txn_history.specs.Phase.{phase_after}
-use Rattle.txn_history.specs.Turn.{turn_of}
+use Rattle.txn_history.specs.Turn.{turn_of, IfKept-weaker}
 use Rattle.txn_multi.specs.Multi.{multi, Begins}
 use Rattle.txn_multi.specs.declared.multi_region.RetryableMultiRegion.{RetryableMultiRegion}
 use Rattle.txn_multi.specs.declared.multi_stage.MultiStage.TheVariants as stage
 use Rattle.txn_multi.proofs.Multis.{begins_not, begins_tasks, ready_after, tasks_belong, tasks_cut, tasks_new, tasks_owe}
+use Rattle.txn_multi.proofs.Touchings.{after_kept}
+use Rattle.txn_multi.specs.Touching.{FoundTouches, TaskTouches, UnlessGone}
+use Rattle.txn_plan.specs.Touch.{touch}
 use Rattle.txn_multi.proofs.multi_region.RetryableMultiRegion.run.Goals as goal
 use Rattle.txn_tasks.specs.Tasks.{tasks_turn}
 
@@ -42,3 +45,16 @@ returns-clause-ready g c =
     let goes = c.start-turn.ensures.goes in
     subst (λ (x : RetryableMultiRegion _ _ _). (multi g.P.Plan.meaning g.P.Result.HasKeyErrors.key_errors_in g.P.Result.HasRegionError.region_error_in g.P.Shardable.IsPart g.P.Shardable.load g.P.Shardable.AreCut g.P.RegionPlan.most).ready x) (sym c.after_tasks.ensures.state)
     (c.requires.inner, ready_after g.P.Plan.meaning g.P.Result.HasKeyErrors.key_errors_in g.P.Result.HasRegionError.region_error_in g.P.Shardable.IsPart g.P.Shardable.load g.P.Shardable.AreCut g.P.RegionPlan.most s.inner s.preserve_region_results c.start-turn.new.self c.after_tasks.new.self.stage (tasks_turn c.start-turn.result) (turn_of c.after_tasks.result) c.after_tasks.ensures.after (λ x. goes.next e.fresh ∙ ap phase_after x) c.start-turn.ensures.ready)
+
+pub returns-in_err-first-clause-client : goal.returns-in_err-first-clause-client
+returns-in_err-first-clause-client g c = rw c.requires.stopped tt
+
+pub returns-in_err-tasks-clause-client : goal.returns-in_err-tasks-clause-client
+returns-in_err-tasks-clause-client g c = rw c.requires.stopped tt
+
+pub returns-clause-client : goal.returns-clause-client
+returns-clause-client g c =
+    let s = c.args.self.now in
+    subst (λ (x : RetryableMultiRegion _ _ _). UnlessGone x.stage (FoundTouches (TaskTouches g.P.Plan.meaning g.P.Result.HasKeyErrors.key_errors_in g.P.Result.HasRegionError.region_error_in (touch g.C.PdClient.looked g.C.PdClient.learns g.C.PdClient.leads g.C.PdClient.drops) (g.P.Plan.touches (touch g.C.PdClient.looked g.C.PdClient.learns g.C.PdClient.leads g.C.PdClient.drops))) s.backoff x.tasks c.args.pd.now c.start-turn.new.pd)) (sym c.after_tasks.ensures.state)
+    (after_kept (FoundTouches (TaskTouches g.P.Plan.meaning g.P.Result.HasKeyErrors.key_errors_in g.P.Result.HasRegionError.region_error_in (touch g.C.PdClient.looked g.C.PdClient.learns g.C.PdClient.leads g.C.PdClient.drops) (g.P.Plan.touches (touch g.C.PdClient.looked g.C.PdClient.learns g.C.PdClient.leads g.C.PdClient.drops))) s.backoff (Some c.start-turn.new.self) c.args.pd.now c.start-turn.new.pd) s.preserve_region_results (tasks_turn c.start-turn.result) c.after_tasks.new.self.stage (turn_of c.after_tasks.result) c.after_tasks.ensures.after
+    (IfKept-weaker (tasks_turn c.start-turn.result) (λ x. (s.alloc, c.args.parts.items, rw (c.in_ok-tasks.ensures.tasks, c.in_ok-first.ensures) at x)) c.start-turn.ensures.client))

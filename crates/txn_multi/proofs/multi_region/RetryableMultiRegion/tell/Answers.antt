@@ -5,6 +5,8 @@ use Rattle.txn_multi.specs.Multi.{multi, multi_phase}
 use Rattle.txn_multi.specs.declared.multi_stage.MultiStage.{MultiStage}
 use Rattle.txn_multi.proofs.Multis.{idle_counted, idle_told, not_waiting, Goes-idle}
 use Rattle.txn_history.specs.Phase.{unheard, Awaited}
+use Rattle.txn_multi.proofs.Touchings.{nothing, unless_gone}
+use Rattle.txn_plan.specs.Touch.{touch}
 use Rattle.txn_multi.proofs.multi_region.RetryableMultiRegion.tell.Goals as goal
 use Rattle.txn_plan.specs.Arrivals.{told_by}
 
@@ -31,6 +33,7 @@ returns-in_default g c =
       tells = λ r. idle_told g.P.Plan.meaning g.P.Result.HasKeyErrors.key_errors_in g.P.Result.HasRegionError.region_error_in g.P.Shardable.IsPart g.P.Shardable.load g.P.Shardable.AreCut g.P.RegionPlan.most g.met.P.Plan.lawful s c.stay.new.self same (λ a heard. none a) turn;
       goes = Goes-idle same (none _) turn;
       counts = idle_counted g.P.Plan.meaning g.P.Result.HasKeyErrors.key_errors_in g.P.Result.HasRegionError.region_error_in g.P.Shardable.IsPart g.P.Shardable.load g.P.Shardable.AreCut g.P.RegionPlan.most g.met.P.Plan.lawful s c.stay.new.self (turn_of c.stay.result) same;
+      client = λ r. rw same (unless_gone s.stage (nothing (touch g.C.PdClient.looked g.C.PdClient.learns g.C.PdClient.leads g.C.PdClient.drops) _ _ _ s.backoff s.tasks c.args.pd.now (g.met.C.PdClient.looked_same _)));
       ready = rw same c.requires.ready;
       numbers = c.requires.numbers;
     }

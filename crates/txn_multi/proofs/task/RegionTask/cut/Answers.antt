@@ -23,3 +23,6 @@ returns-in-Done-clause-over g c = over_over_search _ _ _ _ _ _ _ g.met.P.Plan.la
 
 pub returns-in-Done-clause-costs : goal.returns-in-Done-clause-costs
 returns-in-Done-clause-costs g c = costs_over_search _ _ _ _ _ _ _ c.args.self.now c.new-cutting.result c.start.new.self (rw c.in-Done.is at c.in_ok-start.ensures.counts) (c.take_parts.ensures.costs c.start.new.out)
+
+pub returns-in_err-job-clause-changed : goal.returns-in_err-job-clause-changed
+returns-in_err-job-clause-changed g c = g.met.C.PdClient.looked_same _

@@ -29,3 +29,15 @@ returns-in-End-clause-client g c waits = on_ok c.end.result c.in_ok-change.ensur
 
 pub returns-in-EndWithoutEpoch-clause-client : goal.returns-in-EndWithoutEpoch-clause-client
 returns-in-EndWithoutEpoch-clause-client g c waits = on_ok c.end-in-EndWithoutEpoch.result c.in_ok-change.ensures
+
+pub returns-in-AtOnce-clause-heeded : goal.returns-in-AtOnce-clause-heeded
+returns-in-AtOnce-clause-heeded g c = on_ok c.cut.result record { told = c.change.new.pd; changed = c.in_ok-change.ensures; looked = c.cut.ensures.changed }
+
+pub returns-in-Sleep-clause-heeded : goal.returns-in-Sleep-clause-heeded
+returns-in-Sleep-clause-heeded g c = on_ok c.sleep.result record { told = c.change.new.pd; changed = c.in_ok-change.ensures; looked = g.met.C.PdClient.looked_same _ }
+
+pub returns-in-End-clause-heeded : goal.returns-in-End-clause-heeded
+returns-in-End-clause-heeded g c = on_ok c.end.result record { told = c.change.new.pd; changed = c.in_ok-change.ensures; looked = g.met.C.PdClient.looked_same _ }
+
+pub returns-in-EndWithoutEpoch-clause-heeded : goal.returns-in-EndWithoutEpoch-clause-heeded
+returns-in-EndWithoutEpoch-clause-heeded g c = on_ok c.end-in-EndWithoutEpoch.result record { told = c.change.new.pd; changed = c.in_ok-change.ensures; looked = g.met.C.PdClient.looked_same _ }

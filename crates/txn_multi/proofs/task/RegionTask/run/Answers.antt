@@ -2,6 +2,10 @@ use Rattle.std.proofs.Common.{◌≡◌, refl}
 use Rattle.txn_history.proofs.Telling.{Tells-stopped}
 use Rattle.txn_multi.proofs.Costs.{counts_off_start, counts_on_start, counts_over_start}
 use Rattle.txn_multi.proofs.Retrying.{begun_running, step_stopped, tells_off_start, tells_on_start, tells_over_start}
+use Rattle.txn_history.specs.Meaning.{started}
+use Rattle.txn_multi.proofs.Touchings.{plan_answered}
+use Rattle.txn_plan.specs.Touch.{touch}
+use Rattle.txn_retry.specs.Remedy.{delay_ms}
 use Rattle.txn_multi.proofs.task.RegionTask.run.Goals as goal
 
 pub returns-in_err-start-clause-tells : goal.returns-in_err-start-clause-tells
@@ -37,3 +41,20 @@ returns-in-Done-clause-counts g c =
 
 pub returns-in_err-plan-clause-tells : goal.returns-in_err-plan-clause-tells
 returns-in_err-plan-clause-tells g c = Tells-stopped (step_stopped c.from_residual.result c.from_residual.ensures.0) refl (record { asked = λ h r x. x; given = λ h v x. x; gave = λ h v x. x }) (λ a w. absurd (rw c.requires.stopped at w))
+
+pub returns-in_err-plan-clause-client : goal.returns-in_err-plan-clause-client
+returns-in_err-plan-clause-client g c = rw c.requires.stopped tt
+
+pub returns-in_err-start-clause-client : goal.returns-in_err-start-clause-client
+returns-in_err-start-clause-client g c = rw c.requires.stopped tt
+
+pub returns-in-Waiting-clause-client : goal.returns-in-Waiting-clause-client
+returns-in-Waiting-clause-client g c =
+    let copy : c.in_ok-plan.plan ≡ c.args.self.now.job = c.in_ok-plan.ensures in
+    rw copy at c.in_ok-start.ensures.client
+
+pub returns-in-Done-clause-client : goal.returns-in-Done-clause-client
+returns-in-Done-clause-client g c =
+    let copy : c.in_ok-plan.plan ≡ c.args.self.now.job = c.in_ok-plan.ensures in
+    plan_answered g.P.Plan.meaning g.P.Result.HasKeyErrors.key_errors_in g.P.Result.HasRegionError.region_error_in (touch g.C.PdClient.looked g.C.PdClient.learns g.C.PdClient.leads g.C.PdClient.drops) (g.P.Plan.touches (touch g.C.PdClient.looked g.C.PdClient.learns g.C.PdClient.leads g.C.PdClient.drops)) started c.args.out.now c.args.self.now.region (delay_ms c.args.self.now.backoff) c.args.self.now.job c.start.new.self c.start.new.out c.in-Done.answer c.take_answer.new.self.stage c.take_answer.result c.args.pd.now c.start.new.pd c.take_answer.new.pd
+    c.take_answer.ensures.over.next c.take_answer.ensures.off (rw (copy, c.in-Done.is) at c.in_ok-start.ensures.tells) (rw copy at c.in_ok-start.ensures.client) c.take_answer.ensures.heeded

@@ -1,9 +1,19 @@
-use Rattle.std.proofs.Common.{inl}
-use Rattle.txn_multi.proofs.Retrying.{Over-before}
+use Rattle.std.proofs.Common.{inl, refl}
+use Rattle.txn_multi.proofs.Retrying.{on_ok, Over-before}
+use Rattle.txn_multi.proofs.Touchings.{no_loss}
 use Rattle.txn_multi.proofs.task.RegionTask.take_answer.Goals as goal
 
 pub returns-in-Ok-clause-over : goal.returns-in-Ok-clause-over
 returns-in-Ok-clause-over g c = Over-before (λ h f. rw c.in-Ok.is at f) c.take_reply_of.ensures.over
 
-pub returns-in-Err-clause-over : goal.returns-in-Err-clause-over
-returns-in-Err-clause-over g c = Over-before (λ h f. inl (rw c.in-Err.is at f)) (c.end.ensures.over c.args.out.now)
+pub returns-in_default-clause-over : goal.returns-in_default-clause-over
+returns-in_default-clause-over g c = Over-before (λ h f. inl (rw c.in-Err.is at f)) (c.end.ensures.over c.args.out.now)
+
+pub returns-in-Ok-clause-heeded : goal.returns-in-Ok-clause-heeded
+returns-in-Ok-clause-heeded g c = rw c.in-Ok.is c.take_reply_of.ensures.heeded
+
+pub returns-in-GrpcAPI-clause-heeded : goal.returns-in-GrpcAPI-clause-heeded
+returns-in-GrpcAPI-clause-heeded g c = rw (c.in-Err.is, c.in-GrpcAPI.is) c.take_loss.ensures.heeded
+
+pub returns-in_default-clause-heeded : goal.returns-in_default-clause-heeded
+returns-in_default-clause-heeded g c = rw (c.in-Err.is, no_loss c.in-Err.error c.in_default.not-GrpcAPI) (on_ok c.end.result record { told = c.args.pd.now; changed = refl; looked = g.met.C.PdClient.looked_same _ })

@@ -15,3 +15,6 @@ returns-clause-client g c =
     on_ok_weaker c.heed.result
     (λ x. loss_drops g.C.PdClient.drops g.C.PdClient.leads c.args.self.now.region (delay_ms c.args.self.now.backoff) (rw c.on_loss-remedy.ensures.remedy at x))
     (c.heed.ensures.client (λ e. loss_waits (delay_ms c.args.self.now.backoff) (ap (λ (r : Remedy). r.next) (sym c.on_loss-remedy.ensures.remedy) ∙ e)))
+
+pub returns-clause-heeded : goal.returns-clause-heeded
+returns-clause-heeded g c = on_ok_weaker c.heed.result (λ x. rw c.on_loss-remedy.ensures.remedy at x) c.heed.ensures.heeded

@@ -1,7 +1,7 @@
 use Rattle.std.proofs.Common.{refl, ap, sym}
 use Rattle.txn_retry.specs.Remedy.{delay_ms}
 use Rattle.txn_retry.specs.declared.remedy.Remedy.{Remedy}
-use Rattle.txn_multi.proofs.Retrying.{keeps_at, may_refuse, step_stopped, Over-before, Over-mid, Over-stopped}
+use Rattle.txn_multi.proofs.Retrying.{keeps_at, may_refuse, step_stopped, Over-before, Over-mid, Over-stopped, on_ok_weaker}
 use Rattle.txn_multi.proofs.task.RegionTask.take_region_error.Goals as goal
 
 pub returns-in_err-failure-clause-over : goal.returns-in_err-failure-clause-over
@@ -14,3 +14,6 @@ returns-clause-over g c = Over-before
 
 pub returns-clause-keeps : goal.returns-clause-keeps
 returns-clause-keeps g c = keeps_at _ _ _ _ _ _ _ c.args.self.now _ _ refl c.heed.ensures.keeps
+
+pub returns-clause-heeded : goal.returns-clause-heeded
+returns-clause-heeded g c = on_ok_weaker c.heed.result (λ x. rw c.on_region_error-remedy.ensures.remedy at x) c.heed.ensures.heeded

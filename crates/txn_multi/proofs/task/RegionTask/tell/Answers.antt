@@ -4,8 +4,11 @@ use Rattle.txn_history.proofs.Telling.{Tells-idle}
 use Rattle.txn_multi.specs.declared.stage.Stage.TheVariants as stage
 use Rattle.txn_multi.specs.Task.{region_task-lawful, stage_phase, StageWaits}
 use Rattle.txn_multi.proofs.Retrying.{counts_at, goes_at, idle_at, keeps_at, keeps_idle, tells_at}
+use Rattle.txn_multi.proofs.Touchings.{acts_at}
+use Rattle.txn_multi.specs.Touching.TaskTouches.{idle}
+use Rattle.txn_plan.specs.Touch.{touch}
 use Rattle.txn_multi.proofs.task.RegionTask.tell.Goals as goal
-use Rattle.txn_plan.specs.Arrivals.{awaited_as}
+use Rattle.txn_plan.specs.Arrivals.{awaited_as, told_by}
 
 pub returns-in-Running-clause-tells : goal.returns-in-Running-clause-tells
 returns-in-Running-clause-tells g c r = tells_at _ _ _ _ _ _ _ c.args.self.now (stage.Running c.in-Running.plan) (sym c.replace.ensures.value ∙ c.in-Running.is) (c.tell_plan.ensures.tells r)
@@ -53,3 +56,15 @@ pub returns-in_default-clause-keeps : goal.returns-in_default-clause-keeps
 returns-in_default-clause-keeps g c =
     let same : c.stay.new.self ≡ c.args.self.now = c.stay.ensures.state ∙ ap (λ x. record c.args.self.now { stage = x }) c.replace.ensures.value in
     rw (same, c.stay.ensures.turn) (keeps_idle _ _ _ _ _ _ _ c.args.self.now (stage_phase c.replace.result))
+
+pub returns-in-Running-clause-client : goal.returns-in-Running-clause-client
+returns-in-Running-clause-client g c r = acts_at g.P.Plan.meaning g.P.Result.HasKeyErrors.key_errors_in g.P.Result.HasRegionError.region_error_in (touch g.C.PdClient.looked g.C.PdClient.learns g.C.PdClient.leads g.C.PdClient.drops) (g.P.Plan.touches (touch g.C.PdClient.looked g.C.PdClient.learns g.C.PdClient.leads g.C.PdClient.drops)) (told_by c.args.arrival c.args.out.now r) c.args.out.now c.args.self.now c.tell_plan.new.self (stage.Running c.in-Running.plan) c.args.pd.now c.tell_plan.new.pd (sym c.replace.ensures.value ∙ c.in-Running.is) (c.tell_plan.ensures.client r)
+
+pub returns-in-Sleeping-clause-client : goal.returns-in-Sleeping-clause-client
+returns-in-Sleeping-clause-client g c r = acts_at g.P.Plan.meaning g.P.Result.HasKeyErrors.key_errors_in g.P.Result.HasRegionError.region_error_in (touch g.C.PdClient.looked g.C.PdClient.learns g.C.PdClient.leads g.C.PdClient.drops) (g.P.Plan.touches (touch g.C.PdClient.looked g.C.PdClient.learns g.C.PdClient.leads g.C.PdClient.drops)) (told_by c.args.arrival c.args.out.now r) c.args.out.now c.args.self.now c.tell_sleeping.new.self (stage.Sleeping c.in-Sleeping.number) c.args.pd.now c.tell_sleeping.new.pd (sym c.replace.ensures.value ∙ c.in-Sleeping.is) c.tell_sleeping.ensures.changed
+
+pub returns-in-Cutting-clause-client : goal.returns-in-Cutting-clause-client
+returns-in-Cutting-clause-client g c r = acts_at g.P.Plan.meaning g.P.Result.HasKeyErrors.key_errors_in g.P.Result.HasRegionError.region_error_in (touch g.C.PdClient.looked g.C.PdClient.learns g.C.PdClient.leads g.C.PdClient.drops) (g.P.Plan.touches (touch g.C.PdClient.looked g.C.PdClient.learns g.C.PdClient.leads g.C.PdClient.drops)) (told_by c.args.arrival c.args.out.now r) c.args.out.now c.args.self.now c.tell_cutting.new.self (stage.Cutting c.in-Cutting.cutting) c.args.pd.now c.tell_cutting.new.pd (sym c.replace.ensures.value ∙ c.in-Cutting.is) c.tell_cutting.ensures.client
+
+pub returns-in_default-clause-client : goal.returns-in_default-clause-client
+returns-in_default-clause-client g c r = idle (c.stay.ensures.state ∙ ap (λ x. record c.args.self.now { stage = x }) c.replace.ensures.value) refl

@@ -3,6 +3,7 @@ use Rattle.txn_history.specs.Turn.Turn.{Ends, Stopped}
 use Rattle.txn_multi.proofs.Costs.{counts_off_search, counts_on_search, counts_over_search}
 use Rattle.txn_multi.proofs.Retrying.{failure_is_bad, step_stopped, still_running, tells_off_search, tells_on_search, tells_over_search, Goes-on, Goes-over}
 use Rattle.txn_multi.specs.declared.stage.Stage.TheVariants as stage
+use Rattle.txn_multi.proofs.Touchings.{unless_all}
 use Rattle.txn_multi.proofs.task.RegionTask.tell_cutting.Goals as goal
 
 pub returns-in_err-tell_cutting-clause-tells : goal.returns-in_err-tell_cutting-clause-tells
@@ -37,3 +38,12 @@ returns-in-Done-clause-goes g c = Goes-over (Ends c.in-Done.answer) (λ e. cc) c
 
 pub returns-in-Done-clause-counts : goal.returns-in-Done-clause-counts
 returns-in-Done-clause-counts g c = counts_over_search _ _ _ _ _ _ _ c.args.self.now c.args.cutting c.tell_cutting.new.search (failure_is_bad c.args.arrival) (rw c.in-Done.is at c.in_ok-tell_cutting.ensures.counts) (c.take_parts.ensures.costs c.tell_cutting.new.out)
+
+pub returns-in_err-tell_cutting-clause-client : goal.returns-in_err-tell_cutting-clause-client
+returns-in_err-tell_cutting-clause-client g c = rw c.requires.stopped tt
+
+pub returns-in-Waiting-clause-client : goal.returns-in-Waiting-clause-client
+returns-in-Waiting-clause-client g c = rw c.in-Waiting.is at c.in_ok-tell_cutting.ensures.client
+
+pub returns-in-Done-clause-client : goal.returns-in-Done-clause-client
+returns-in-Done-clause-client g c = unless_all c.take_parts.new.self.stage (rw c.in-Done.is at c.in_ok-tell_cutting.ensures.client)

@@ -6,6 +6,10 @@ use Rattle.txn_multi.proofs.Costs.{counts_off_plan, counts_on_plan, counts_over_
 use Rattle.txn_multi.proofs.Retrying.{failure_is_bad, step_stopped, still_running, tells_off_plan, tells_on_plan, tells_over_plan, Goes-on, Goes-over}
 use Rattle.txn_multi.specs.declared.stage.Stage.TheVariants as stage
 use Rattle.txn_tso.specs.Calling.{members}
+use Rattle.txn_multi.proofs.Touchings.{plan_answered}
+use Rattle.txn_plan.specs.Touch.{touch}
+use Rattle.txn_plan.specs.Arrivals.{told_by}
+use Rattle.txn_retry.specs.Remedy.{delay_ms}
 use Rattle.txn_multi.proofs.task.RegionTask.tell_plan.Goals as goal
 
 pub returns-in_err-tell-clause-tells : goal.returns-in_err-tell-clause-tells
@@ -45,3 +49,10 @@ returns-in-Done-clause-goes g c = Goes-over (Ends c.in-Done.answer) (λ e. cc) c
 
 pub returns-in-Done-clause-counts : goal.returns-in-Done-clause-counts
 returns-in-Done-clause-counts g c = counts_over_plan _ _ _ _ _ _ _ c.args.self.now c.args.plan c.tell.new.plan c.requires.plan (g.met.P.RegionPlan.uncut c.tell.new.plan) (failure_is_bad c.args.arrival) (rw c.in-Done.is at c.in_ok-tell.ensures.counts) c.take_answer.ensures.costs
+
+pub returns-in_err-tell-clause-client : goal.returns-in_err-tell-clause-client
+returns-in_err-tell-clause-client g c r = rw c.requires.stopped tt
+
+pub returns-in-Done-clause-client : goal.returns-in-Done-clause-client
+returns-in-Done-clause-client g c r = plan_answered g.P.Plan.meaning g.P.Result.HasKeyErrors.key_errors_in g.P.Result.HasRegionError.region_error_in (touch g.C.PdClient.looked g.C.PdClient.learns g.C.PdClient.leads g.C.PdClient.drops) (g.P.Plan.touches (touch g.C.PdClient.looked g.C.PdClient.learns g.C.PdClient.leads g.C.PdClient.drops)) (told_by c.args.arrival c.args.out.now r) c.args.out.now c.args.self.now.region (delay_ms c.args.self.now.backoff) c.args.plan c.tell.new.plan c.tell.new.out c.in-Done.answer c.take_answer.new.self.stage c.take_answer.result c.args.pd.now c.tell.new.pd c.take_answer.new.pd
+    c.take_answer.ensures.over.next c.take_answer.ensures.off (rw c.in-Done.is at (c.in_ok-tell.ensures.tells r)) (c.in_ok-tell.ensures.client r) c.take_answer.ensures.heeded

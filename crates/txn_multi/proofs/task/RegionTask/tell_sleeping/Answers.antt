@@ -15,3 +15,6 @@ returns-then-is_end_of-clause-counts g c =
 
 pub returns-clause-tells : goal.returns-clause-tells
 returns-clause-tells g c r = Tells-idle (region_task-lawful _ _ _ _ _ _ _ g.met.P.Plan.lawful) (λ a heard w. c.if-is_end_of.ensures (sym (heard_is c.args.arrival c.args.out.now r a heard) ∙ w)) refl
+
+pub returns-clause-changed : goal.returns-clause-changed
+returns-clause-changed g c = g.met.C.PdClient.looked_same _

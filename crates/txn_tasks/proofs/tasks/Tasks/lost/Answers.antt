@@ -1,4 +1,4 @@
-use Rattle.std.proofs.Common.{◌≡◌, ◌<◌, length, set, arith, ap, sym, subst}
+use Rattle.std.proofs.Common.{◌≡◌, ◌<◌, length, set, arith, ap, sym, subst, ◌++◌, refl}
 use Rattle.std.specs.Prelude.{Some, drop}
 use Rattle.std.proofs.Common.{true}
 use Rattle.std.specs.Vec.{with_item}
@@ -9,12 +9,14 @@ use Rattle.txn_history.specs.Phase.Awaited.{ReplyTo}
 use Rattle.txn_history.specs.Posted.{ticket_of, Posted}
 use Rattle.txn_tso.specs.Calling.{members}
 use Rattle.txn_tasks.specs.Routes.{route, IsTaken}
-use Rattle.txn_tasks.specs.Tasks.{LeadsSomewhere}
+use Rattle.txn_tasks.specs.Tasks.{LeadsSomewhere, tasks_turn}
 use Rattle.txn_tasks.specs.declared.stage.Stage.TheVariants as stage
 use Rattle.txn_tasks.specs.declared.tasks.Tasks.{Tasks}
 use Rattle.txn_tasks.proofs.Readying.{Ready-few}
 use Rattle.txn_tasks.proofs.Settling.{TaskLaws}
 use Rattle.txn_tasks.proofs.Telling.{parts_fresh, Counts-event, Counts-stays, Goes-event, Taking, Tells-event, Tells-posts, Tells-stays}
+use Rattle.txn_history.specs.Turn.{IfKept-all, IfKept-weaker}
+use Rattle.txn_tasks.specs.Turns.Turns.{heard, unheard}
 use Rattle.txn_tasks.proofs.tasks.Tasks.lost.Goals as goal
 
 pub returns-in_default-clause-tells : goal.returns-in_default-clause-tells
@@ -150,3 +152,31 @@ returns-clause-goes g c =
     let posted : c.len-posted.result ≡ length c.args.out.now.sends = omega (arith, c.len-posted.ensures, c.out.inside.sends.ok.0, view) in
     let on = rw (get_or-set_same mid.tasks.items at is is within) at (c.go_on.ensures.goes is) in
     Goes-event via (drop c.len-posted.result c.lost-step.new.out.sends) (g.T.Task.runs is) at (ReplyTo c.args.number) finds.0 finds.1 stage_is on
+
+pub returns-in_default-clause-client : goal.returns-in_default-clause-client
+returns-in_default-clause-client g c r =
+    let none : (LeadsSomewhere c.args.self.now (ReplyTo c.args.number) → ⊥) × (c.find_reply.new.self ≡ c.args.self.now) = rw c.in_default.is at c.find_reply.ensures.finds in
+    IfKept-all (tasks_turn c.stay.result) (unheard (ap (λ (s : Tasks g.row.T.Denot g.row.T-Answer.Denot). s.tasks.items) none.1) refl)
+
+pub returns-clause-client : goal.returns-clause-client
+returns-clause-client g c r =
+    let old : Tasks g.row.T.Denot g.row.T-Answer.Denot = c.args.self.now in
+    let at = c.in-Some.at in
+    let mid : Tasks g.row.T.Denot g.row.T-Answer.Denot = c.find_reply.new.self in
+    let finds : (old.stage ≡ stage.Running) × (route old.routes (ReplyTo c.args.number) ≡ Some at) × (mid ≡ record old { stage = stage.GivenUp; routes = mid.routes }) × IsTaken (ReplyTo c.args.number) old.routes mid.routes = rw c.in-Some.is at c.find_reply.ensures.finds in
+    let within : at < length mid.tasks.items = rw c.in-Some.is at c.find_reply.ensures.within in
+    let is = c.lost-step.new.self in
+    let tasks_are : mid.tasks ≡ old.tasks = ap (λ (s : Tasks g.row.T.Denot g.row.T-Answer.Denot). s.tasks) finds.2 in
+    IfKept-weaker (tasks_turn c.go_on.result)
+    (λ s. heard at (set old.tasks.items at is ++ s.0) c.lost-step.new.pd
+    record {
+      old = c.index_mut.result.now;
+      new = is;
+      more = s.0;
+      within = rw tasks_are at within;
+      is = rw tasks_are at c.index_mut.ensures.value;
+      tasks = refl;
+      client = (c.lost-step.ensures.client r);
+    }
+    (rw tasks_are at s.1))
+    c.go_on.ensures.client

@@ -1,11 +1,10 @@
-//! Losses of each kind of request that a plan sends, and what comes too late.
+//! Losses of each kind of request that a plan sends.
 use super::client::{Regions, region};
 use super::run::{Ending, Posted, Run, attempts};
 use std::alloc::Global;
 use std::test::Fail;
 use txn_kv::{
-    GetRegionResponse, GetStoreResponse, Items, Key, NoMemory, RegionErr, Reply, StoreMeta,
-    StoreState, Text,
+    GetRegionResponse, GetStoreResponse, Items, Key, NoMemory, Reply, StoreMeta, StoreState, Text,
 };
 use txn_retry::CacheChange;
 

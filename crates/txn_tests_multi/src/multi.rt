@@ -1,7 +1,9 @@
 mod client;
+mod late;
 mod line;
 mod losses;
 mod many;
 mod retries;
 mod run;
+mod splits;
 mod table;

@@ -1,12 +1,12 @@
 use super::client::Regions;
 use super::line::Line;
-use crate::RetryableMultiRegion;
 use std::alloc::Global;
 use std::test::Fail;
 use txn_kv::{
     Backoff, Errand, Error, GetRequest, GetResponse, Key, NoMemory, Peer, Progress, RegionErr,
     Reply, Result, Target, Value,
 };
+use txn_multi::RetryableMultiRegion;
 use txn_plan::Dispatch;
 
 type Getting = RetryableMultiRegion<Dispatch<GetRequest>>;

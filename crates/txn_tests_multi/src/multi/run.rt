@@ -1,12 +1,12 @@
 //! A commit over regions, whose requests and sleeps a test answers by their numbers.
 use super::client::{Regions, key};
 use super::line::Line;
-use crate::RetryableMultiRegion;
 use std::alloc::Global;
 use txn_kv::{
     Backoff, CommitRequest, CommitResponse, Errand, Error, Internal, Items, Key, KeyError,
     NoMemory, Progress, RegionErr, Reply, Result, Target,
 };
+use txn_multi::RetryableMultiRegion;
 use txn_plan::Dispatch;
 use txn_retry::CacheChange;
 

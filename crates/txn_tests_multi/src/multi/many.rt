@@ -3,7 +3,7 @@ use super::client::Regions;
 use super::run::{Ending, Posted, Run, attempts};
 use std::alloc::Global;
 use std::test::Fail;
-use txn_kv::{Items, NoMemory, RegionErr};
+use txn_kv::{NoMemory, RegionErr};
 
 const EIGHTEEN: [u8; 18] = [
     1, 2, 3, 4, 5, 6, 7, 8, 9, 10, 11, 12, 13, 14, 15, 16, 17, 18,
@@ -50,6 +50,31 @@ fn sixteen_shards_run_at_once(rt: HostRuntime) -> std::result::Result<(), Fail> 
     run.commit(5, 5)?;
     assert_eq!(rt; run.count(), 17);
     assert_eq!(rt; run.posted(17), Posted::ToStore(17));
+    Ok(())
+}
+
+/// The replies come from the last to the first.
+#[test]
+fn results_stand_in_the_order_of_their_shards(rt: HostRuntime) -> std::result::Result<(), Fail> {
+    let alloc = rt.alloc();
+    let mut run = eighteen(alloc)?;
+    commit_back(&mut run, 1..17)?;
+    commit_back(&mut run, 17..19)?;
+    let want = ascending(alloc)?;
+    assert_eq!(rt; run.results(), want.as_slice());
+    Ok(())
+}
+
+/// The first shard has spent its one attempt, and the second has its own.
+#[test]
+fn each_shard_has_a_backoff_of_its_own(rt: HostRuntime) -> std::result::Result<(), Fail> {
+    let mut run = three(rt.alloc(), false)?;
+    run.refuse(1, RegionErr::Unknown)?;
+    run.wake(4)?;
+    run.refuse(5, RegionErr::Unknown)?;
+    assert_eq!(rt; run.count(), 5);
+    run.refuse(2, RegionErr::Unknown)?;
+    assert_eq!(rt; run.posted(6), Posted::Sleep(1));
     Ok(())
 }
 

@@ -1,0 +1,5 @@
+//! Tests of plans over many regions.
+#![tactic(auto)]
+
+#[cfg(test)]
+mod multi;
