@@ -8,8 +8,6 @@ pub mod law;
 mod merge;
 mod pairs;
 pub mod send;
-#[cfg(test)]
-mod tests;
 
 pub use buffer::Buffer;
 pub use entry::Entry;

@@ -21,8 +21,6 @@ pub mod retry_options;
 pub mod secondary_locks_status;
 pub mod send;
 mod taking;
-#[cfg(test)]
-mod tests;
 pub mod transaction_status;
 
 pub use cleanup_locks_result::CleanupLocksResult;

@@ -4,7 +4,5 @@
 pub mod kv_request;
 pub mod lowering;
 pub mod requests;
-#[cfg(test)]
-mod tests;
 
 pub use kv_request::KvRequest;

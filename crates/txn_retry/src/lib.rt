@@ -6,8 +6,6 @@ pub mod place;
 pub mod queue;
 pub mod remedy;
 pub mod send;
-#[cfg(test)]
-mod tests;
 mod walk;
 
 pub use outcome::{all_or_first, keep_all};

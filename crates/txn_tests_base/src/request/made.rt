@@ -1,4 +1,3 @@
-use crate::requests::*;
 use std::test::Fail;
 use txn_kv::{
     BatchGetRequest, BatchRollbackRequest, CheckSecondaryLocksRequest, CheckTxnStatusRequest,
@@ -6,6 +5,7 @@ use txn_kv::{
     PessimisticRollbackRequest, PrewriteRequest, ResolveLockRequest, ScanLockRequest,
     TxnHeartBeatRequest, UnsafeDestroyRangeRequest,
 };
+use txn_request::requests::*;
 
 #[test]
 fn reads(rt: HostRuntime) {

@@ -1,7 +1,7 @@
-use super::*;
 use std::alloc::Global;
 use std::test::Fail;
 use txn_kv::{Backoff, Error, NoMemory, Peer, RegionErr, RegionVerId};
+use txn_retry::*;
 
 const USED: RegionVerId = RegionVerId {
     id: 1,

@@ -1,13 +1,13 @@
 use super::fixtures::{lock, status, value};
-use crate::{
-    DefaultProcessor, KvClient, KvConnect, Process, RetryOptions, TransactionStatus,
-    TransactionStatusKind,
-};
 use std::test::Fail;
 use txn_kv::{
     Backoff, CheckTxnStatusResponse, CleanupResponse, Error, GetResponse, Internal, MembersRequest,
     Reply, Request, Result, StoreId, Timestamp, TimestampExt, TryClone, TsoResponse,
     TxnHeartBeatResponse,
+};
+use txn_merge::{
+    DefaultProcessor, KvClient, KvConnect, Process, RetryOptions, TransactionStatus,
+    TransactionStatusKind,
 };
 
 /// A word for what a reply tells.

@@ -1,8 +1,8 @@
 use super::fixtures::{commit, key, lock};
-use crate::{HasKeyErrors, HasLocks, HasRegionError, HasRegionErrors, extract_error};
 use std::alloc::Global;
 use std::test::Fail;
 use txn_kv::{CommitResponse, Error, KeyError, NoMemory, RegionErr, Result};
+use txn_merge::{HasKeyErrors, HasLocks, HasRegionError, HasRegionErrors, extract_error};
 
 fn not_found(alloc: Global) -> std::result::Result<KeyError, NoMemory> {
     Ok(KeyError::TxnLockNotFound {

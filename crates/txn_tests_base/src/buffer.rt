@@ -1,7 +1,7 @@
-use super::*;
 use std::alloc::Global;
 use std::ops::Bound;
 use std::test::Fail;
+use txn_buffer::*;
 use txn_kv::{
     Assertion, BoundRange, Error, Internal, Items, Key, KvPair, Mutation, NoMemory, Op, Value,
 };

@@ -1,7 +1,7 @@
-use crate::lowering::*;
 use std::ops::Bound;
 use std::test::Fail;
 use txn_kv::{Assertion, BoundRange, Items, Key, Op, Timestamp, TimestampExt};
+use txn_request::lowering::*;
 
 #[test]
 fn reads(rt: HostRuntime) {

@@ -1,9 +1,9 @@
-use crate::ResponseWithShard;
 use std::alloc::Global;
 use txn_kv::{
     Action, Assertion, CheckSecondaryLocksResponse, CheckTxnStatusResponse, CommitResponse, Items,
     Key, KeyError, LockInfo, Mutation, NoMemory, Op, PessimisticLockResponse, RegionErr, Value,
 };
+use txn_merge::ResponseWithShard;
 
 pub fn key(alloc: Global, bytes: &[u8]) -> Result<Key, NoMemory> {
     Ok(Key::from(bytes.to_vec(alloc)?))

@@ -1,5 +1,5 @@
-use crate::KvRequest;
 use txn_kv::*;
+use txn_request::KvRequest;
 
 /// Whether a reply of the request's kind is taken, and one of another kind refused.
 fn takes_own<R: KvRequest>(own: Reply, other: Reply) -> bool

@@ -1,14 +1,14 @@
 use super::fixtures::{Locked, commit, key, lock, locked_one, locked_two, secondaries, value};
-use crate::{
-    CleanupLocksResult, Collect, CollectError, CollectSingle, CollectWithShard, Merge,
-    SecondaryLocksStatus,
-};
 use std::alloc::Global;
 use std::test::Fail;
 use txn_kv::{
     BatchGetResponse, CheckSecondaryLocksResponse, CommitResponse, Error, Internal, Items, KvPair,
     NoMemory, PbPair, Result, ScanLockResponse, ScanResponse, Text, Timestamp, TimestampExt,
     UnsafeDestroyRangeResponse,
+};
+use txn_merge::{
+    CleanupLocksResult, Collect, CollectError, CollectSingle, CollectWithShard, Merge,
+    SecondaryLocksStatus,
 };
 
 fn add(shards: &mut Vec<Result<Locked>>, shard: Locked) -> std::result::Result<(), NoMemory> {
