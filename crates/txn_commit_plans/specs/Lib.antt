@@ -1,3 +1,4 @@
 pub mod Failing
 pub mod Kinds
 pub mod OverRegions
+pub mod OneEach

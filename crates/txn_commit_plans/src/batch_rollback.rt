@@ -3,9 +3,11 @@ ghost use Rattle.txn_commit_plans.specs.Failing.{HasGiven, has_given_longer};
 ghost use Rattle.txn_commit_plans.specs.Kinds.{rollback_plan-lawful};
 ghost use Rattle.txn_kv.specs.declared.request.BatchRollbackRequest.{BatchRollbackRequest as Sent};
 ghost use Rattle.txn_kv.specs.declared.request.Request.TheVariants.{BatchRollback};
+ghost use Rattle.txn_commit_plans.specs.OneEach.{few_by_items};
 ghost use Rattle.txn_multi.specs.Few.{by_items};
 ghost use Rattle.txn_request.specs.Defaults.{default_batch_rollback};
 
+use crate::one_each::OneEach;
 use crate::over_regions::{OverRegions, plan_over_regions};
 use crate::transaction_plan::TransactionPlan;
 use std::alloc::Global;
@@ -57,4 +59,8 @@ impl PlanFor<BatchRollbackRequest> for BatchRollbackPlan {
     }
 
     ghost refuses_longer = { has_given_longer Self.Plan.meaning rollback_plan-lawful };
+}
+
+impl OneEach<BatchRollbackRequest> for BatchRollbackPlan {
+    ghost one_each = { few_by_items };
 }

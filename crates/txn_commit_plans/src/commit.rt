@@ -3,9 +3,11 @@ ghost use Rattle.txn_commit_plans.specs.Failing.{HasGiven, has_given_longer};
 ghost use Rattle.txn_commit_plans.specs.Kinds.{commit_plan-lawful};
 ghost use Rattle.txn_kv.specs.declared.request.CommitRequest.{CommitRequest as Sent};
 ghost use Rattle.txn_kv.specs.declared.request.Request.TheVariants.{Commit};
+ghost use Rattle.txn_commit_plans.specs.OneEach.{few_by_items};
 ghost use Rattle.txn_multi.specs.Few.{by_items};
 ghost use Rattle.txn_request.specs.Defaults.{default_commit};
 
+use crate::one_each::OneEach;
 use crate::over_regions::{OverRegions, plan_over_regions};
 use crate::transaction_plan::TransactionPlan;
 use std::alloc::Global;
@@ -53,4 +55,8 @@ impl PlanFor<CommitRequest> for CommitPlan {
     }
 
     ghost refuses_longer = { has_given_longer Self.Plan.meaning commit_plan-lawful };
+}
+
+impl OneEach<CommitRequest> for CommitPlan {
+    ghost one_each = { few_by_items };
 }

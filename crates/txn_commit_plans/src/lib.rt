@@ -4,6 +4,7 @@
 pub mod batch_rollback;
 pub mod commit;
 pub mod laws;
+pub mod one_each;
 pub mod over_regions;
 pub mod prewrite;
 pub mod send;
@@ -11,6 +12,7 @@ pub mod transaction_plan;
 
 pub use batch_rollback::BatchRollbackPlan;
 pub use commit::CommitPlan;
+pub use one_each::OneEach;
 pub use over_regions::OverRegions;
 pub use prewrite::PrewritePlan;
 pub use transaction_plan::TransactionPlan;

@@ -3,9 +3,11 @@ ghost use Rattle.txn_commit_plans.specs.Failing.{HasGiven, has_given_longer};
 ghost use Rattle.txn_commit_plans.specs.Kinds.{prewrite_plan-lawful};
 ghost use Rattle.txn_kv.specs.declared.request.PrewriteRequest.{PrewriteRequest as Sent};
 ghost use Rattle.txn_kv.specs.declared.request.Request.TheVariants.{Prewrite};
+ghost use Rattle.txn_commit_plans.specs.OneEach.{few_by_items};
 ghost use Rattle.txn_multi.specs.Few.{by_items};
 ghost use Rattle.txn_request.specs.Defaults.{default_prewrite};
 
+use crate::one_each::OneEach;
 use crate::over_regions::{OverRegions, plan_over_regions};
 use crate::transaction_plan::TransactionPlan;
 use std::alloc::Global;
@@ -57,4 +59,8 @@ impl PlanFor<PrewriteRequest> for PrewritePlan {
     }
 
     ghost refuses_longer = { has_given_longer Self.Plan.meaning prewrite_plan-lawful };
+}
+
+impl OneEach<PrewriteRequest> for PrewritePlan {
+    ghost one_each = { few_by_items };
 }

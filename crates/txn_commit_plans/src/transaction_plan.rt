@@ -39,6 +39,8 @@ impl<P: Plan> Plan for TransactionPlan<P> {
 
     ghost meaning = { P.meaning };
 
+    ghost touches = { λ touch told from old new pd pd'. P.touches touch told from old new pd pd' };
+
     fn try_clone(&self) -> Result<Self, NoMemory> {
         Ok(TransactionPlan {
             inner: self.inner.try_clone()?,
