@@ -6,7 +6,7 @@ use Rattle.txn_lines.specs.declared.line.Line.{Line}
 use Rattle.txn_report.specs.declared.outcome.Outcome.{Outcome}
 use Rattle.txn_side.specs.Sight.{Stand, client_at}
 use Rattle.txn_side.specs.Sight.Stand.{Asking, Calling, HasBegun, Idle, IsClient}
-use Rattle.txn_machine.specs.Causes.{IsEnd, Role, can_end, client_by, client_of, comes_at_once, crashes, ends_at, is_crashed, is_skipped, is_unfinished, role_of}
+use Rattle.txn_machine.specs.Causes.{IsEnd, Role, can_end, client_by, client_of, comes_at_once, crashes, ends_at, is_crashed, is_unfinished, role_of}
 use Rattle.txn_machine.specs.Causes.Role.{AsksTime, MakesClient, UsesTransaction}
 use Rattle.txn_machine.specs.Rows.{AreRows, AreWoven, IsNoRow, IsRow, Row, outcome_in, role_in, stand_in}
 use Rattle.txn_machine.specs.Rows.Row.{Acted, AskFailed, AskSkipped, AskWaits, Begun, CallFailed, CallSkipped, CallWaits, Happened, Made, Over, Timed, Works}
@@ -62,7 +62,7 @@ module _ (line : Line) (ls : List Line) (o o2 : ℕ → Outcome) (e e2 : ℕ →
     ends_before k h =
         let there : nat_eq (suc (length ls)) k ≡ false = grind (arith, nat_tests) in
         let same = (apart k (older k h)).0 in
-        ap (λ (b : Bool). if b then can_end line (o2 k) else ends_at ls o2 k) there ∙ ends_same o2 o k (ap is_done same) (ap is_skipped same) ls
+        ap (λ (b : Bool). if b then can_end line (o2 k) else ends_at ls o2 k) there ∙ ends_same o2 o k (ap is_done same) ls
 
     end_before : (j : ℕ) (l : Line) → j ≢ suc (length ls) → IsEnd ls o j l (e j) → IsEnd (line ∷ ls) o2 j l (e2 j)
     end_before j l far h = record {
@@ -85,14 +85,14 @@ module _ (line : Line) (ls : List Line) (o o2 : ℕ → Outcome) (e e2 : ℕ →
         begun_row (Begun k v d m) c stand a b = record { row = Begun k v c (suc (length ls)); is = refl; outcome = refl; at = sym b }
         begun_row (Made d) c stand a b = absurd (cc)
         begun_row (AskWaits x k d) c stand a b = absurd (cc)
-        begun_row (Timed k v) c stand a b = absurd (cc)
-        begun_row (AskFailed x k y) c stand a b = absurd (cc)
+        begun_row (Timed k v d) c stand a b = absurd (cc)
+        begun_row (AskFailed x k d y) c stand a b = absurd (cc)
         begun_row (AskSkipped x k) c stand a b = absurd (cc)
         begun_row (CallWaits x y d) c stand a b = absurd (cc)
-        begun_row (Acted x) c stand a b = absurd (cc)
-        begun_row (Over x v) c stand a b = absurd (cc)
+        begun_row (Acted x d) c stand a b = absurd (cc)
+        begun_row (Over x v d) c stand a b = absurd (cc)
         begun_row (Works x v d) c stand a b = absurd (cc)
-        begun_row (CallFailed x y z) c stand a b = absurd (cc)
+        begun_row (CallFailed x y d z) c stand a b = absurd (cc)
         begun_row (CallSkipped x y) c stand a b = absurd (cc)
         begun_row (Happened x) c stand a b = absurd (cc)
 

@@ -1,15 +1,15 @@
 -- The outcome of an event is there to stay.
-use Rattle.std.proofs.Common.{◌≡◌, ◌≢◌, ℕ, zero, suc, ◌+◌, ◌-◌, ◌<◌, ◌≤◌, ◌⊎◌, inl, inr, Bool, true, false, if◌then◌else◌, List, [], ◌∷◌, ◌++◌, Option, Some, None, length, get_or, set, map, nat_eq, nat_lt, refl, sym, ap, ◌∙◌, subst, arith, length-append}
+use Rattle.std.proofs.Common.{◌≡◌, ◌≢◌, ℕ, zero, suc, ◌-◌, ◌<◌, ◌≤◌, ◌⊎◌, inl, inr, Bool, true, false, if◌then◌else◌, List, [], ◌∷◌, ◌++◌, length, get_or, set, map, nat_eq, refl, sym, ap, ◌∙◌, subst, arith, length-append}
 use Rattle.std.proofs.lemmas.Bool.Decides.{nat_tests}
 use Rattle.std.specs.List.{filter}
 use Rattle.txn_report.specs.declared.outcome.Outcome.{Outcome}
 use Rattle.txn_report.specs.declared.outcome.Outcome.TheVariants.{Done, Err, Ok, Skipped, Unfinished}
 use Rattle.txn_report.specs.declared.outcome.Payload.TheVariants.{Unit as Nothing, Number, Commit as Committed}
 use Rattle.txn_side.specs.Sight.{AskEnds, CallEnds, Goes, LineGoes, Sight, Stand, StaysOrEnds, outcomes_of, stand_at}
-use Rattle.txn_side.specs.Sight.Stand.{Asking, Calling, HasBegun, Idle, IsClient, Working}
+use Rattle.txn_side.specs.Sight.Stand.{Asking, Calling, HasBegun, Idle, IsClient, Past, Working}
 use Rattle.txn_side.specs.declared.turn.Ending.{Ending}
 use Rattle.txn_side.specs.declared.turn.Posting.{Posting}
-use Rattle.txn_machine.specs.Lists.{Lists, all_ended, at_line, ended_at, newest, outright}
+use Rattle.txn_machine.specs.Lists.{Lists, all_ended, at_line, ended_at}
 use Rattle.txn_machine.specs.Script.{AreCalm, is_done, outcome_of, waits}
 
 -- Outcomes.
@@ -124,6 +124,7 @@ line_comes ended n (Calling c x b) new h = call_comes c x b (outcomes_of n ended
 line_comes ended n (HasBegun c m) new h = nothing_comes (outcomes_of n ended) (HasBegun c m) new h.0 (λ w. subst (λ s. waits s ≡ true) h.1 w)
 line_comes ended n Idle new h = nothing_comes (outcomes_of n ended) Idle new h.0 (λ w. subst (λ s. waits s ≡ true) h.1 w)
 line_comes ended n (IsClient c) new h = nothing_comes (outcomes_of n ended) (IsClient c) new h.0 (λ w. subst (λ s. waits s ≡ true) h.1 w)
+line_comes ended n (Past c) new h = nothing_comes (outcomes_of n ended) (Past c) new h.0 (λ w. subst (λ s. waits s ≡ true) h.1 w)
 line_comes ended n (Working c) new h = nothing_comes (outcomes_of n ended) (Working c) new h.0 (λ w. subst (λ s. waits s ≡ true) h.1 w)
 
 module _ (posted : List Posting) (ended : List Ending) (from to : Sight) (l : Lists) (goes : Goes posted ended from to) (calm : AreCalm from.stands l.outcomes) where

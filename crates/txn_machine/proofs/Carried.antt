@@ -32,13 +32,13 @@ event_over : (r : Row) → role_in r ≡ NoCall → is_unfinished (outcome_in r)
 event_over (Happened d) h = over_is d
 event_over (Made c) h = refl
 event_over (Begun k v c m) h = refl
-event_over (Timed k v) h = refl
-event_over (AskFailed b k e) h = refl
+event_over (Timed k v c) h = refl
+event_over (AskFailed b k c e) h = refl
 event_over (AskSkipped b k) h = refl
-event_over (Acted x) h = refl
-event_over (Over x v) h = refl
+event_over (Acted x c) h = refl
+event_over (Over x v c) h = refl
 event_over (Works x v c) h = refl
-event_over (CallFailed b x e) h = refl
+event_over (CallFailed b x c e) h = refl
 event_over (CallSkipped b x) h = refl
 event_over (AskWaits b k c) h = absurd (cc)
 event_over (CallWaits b x c) h = absurd (cc)
@@ -129,7 +129,7 @@ module _ (line : Line) (ls : List Line) (old : Lists) (told : newest old ≡ len
   event_now : EventMeets (λ t. began all.mail.sleeps (suc (length ls)) t) (known all.outcomes all.ended (suc (length ls))) ls (history all.mail.sent all.outcomes ls) line (outcome_of all.outcomes (suc (length ls)))
   event_now = meets_same (λ t. began old.mail.sleeps (suc (length ls)) t) (λ t. began all.mail.sleeps (suc (length ls)) t) (λ k. outcome_of old.outcomes k) (known all.outcomes all.ended (suc (length ls))) ls (history old.mail.sent old.outcomes ls) (history all.mail.sent all.outcomes ls) line (outcome_of all.outcomes (suc (length ls))) (outcome_of all.outcomes (suc (length ls)))
       (same_began (suc (length ls)) (omega arith)) (sym (seen_now line ls old told ordered.even good was.rows new c)) (same_history ls (omega arith)) (λ role. refl)
-      (event_meets ls old (λ k. ended_of old.ended k) was.rows (history old.mail.sent old.outcomes ls) (λ t. began old.mail.sleeps (suc (length ls)) t) was.fates.fates folded.folds.store
+      (event_meets ls old (λ k. ended_of old.ended k) was.rows was.owned (history old.mail.sent old.outcomes ls) (λ t. began old.mail.sleeps (suc (length ls)) t) was.fates.fates folded.folds.store
       (λ t. began_by old.mail (suc (length ls)) t ordered.sound.mail was.fates.slept) line (outcome_of all.outcomes (suc (length ls))) good sure)
 
   pub events_now : AllEventsMeet all.mail.sent all.mail.sleeps all.outcomes all.ended (line ∷ ls)

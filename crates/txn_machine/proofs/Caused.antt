@@ -7,9 +7,9 @@ use Rattle.txn_lines.specs.declared.line.Line.TheVariants as lines
 use Rattle.txn_report.specs.declared.outcome.Outcome.{Outcome}
 use Rattle.txn_report.specs.declared.outcome.Outcome.TheVariants.{Done, Err, Ok, Skipped, Unfinished}
 use Rattle.txn_report.specs.declared.outcome.Payload.TheVariants.{Unit as Nothing}
-use Rattle.txn_side.specs.Sight.{Sight, Stand, client_at, connected, crash, free, is_free, is_live, line_count, lives, outcomes_of, stand_at, with_stand, without}
+use Rattle.txn_side.specs.Sight.{EndsAlone, Sight, Stand, client_at, connected, crash, free, is_free, is_live, line_count, lives, outcomes_of, stand_at, with_stand, without}
 use Rattle.txn_side.specs.Sight.Stand.{Asking, Calling, HasBegun, Idle, IsClient}
-use Rattle.txn_machine.specs.Causes.{AllCallsMeet, CallMeets, Role, can_end, comes_at_once, crashes, ended_of, ends_at, is_crashed, is_idle, is_skipped, is_unfinished, known, known_of, may_wait, role_of, tells}
+use Rattle.txn_machine.specs.Causes.{AllCallsMeet, CallMeets, Role, can_end, comes_at_once, crashes, ended_of, ends_at, is_crashed, is_idle, is_skipped, is_unfinished, known, known_of, may_wait, role_of}
 use Rattle.txn_machine.specs.Causes.Role.{AsksTime, MakesClient, NoCall, UsesTransaction}
 use Rattle.txn_machine.specs.Lists.{Lists, all_posted, at_line, followed, newest, opened, with_mail}
 use Rattle.txn_machine.specs.Rows.{AreRows, AreWoven, Row, outcome_in, role_in, stand_in}
@@ -171,7 +171,7 @@ module _ (line : Line) (ls : List Line) (old : Lists) (told : newest old ≡ len
   stands_same : (λ (n : ℕ). stand_at s.stands n) ≡ st
   stands_same = λ i n. stand_opened old.sight.stands n i
 
-  lined : line_count s ≡ suc (length ls)
+  pub lined : line_count s ≡ suc (length ls)
   lined = stands_opened old.sight.stands (length ls) (even.stands ∙ told)
 
   abbrev Rows2 : Sight → Type 0
@@ -180,7 +180,7 @@ module _ (line : Line) (ls : List Line) (old : Lists) (told : newest old ≡ len
   set_here : (x : Stand) → stand_at (set s.stands (line_count s - 1) x) (suc (length ls)) ≡ x
   set_here x = subst (λ k. stand_at (set s.stands (line_count s - 1) x) k ≡ x) lined (stand_set s.stands (line_count s) x (let a = lined in omega arith) (omega arith))
 
-  set_other : (x : Stand) (j : ℕ) → j ≢ suc (length ls) → stand_at (set s.stands (line_count s - 1) x) j ≡ st j
+  pub set_other : (x : Stand) (j : ℕ) → j ≢ suc (length ls) → stand_at (set s.stands (line_count s - 1) x) j ≡ st j
   set_other x j far = stand_other s.stands (line_count s) j x (let a = lined in omega arith) (λ h. far (h ∙ lined)) ∙ stand_opened old.sight.stands j
 
   calm : role_of line ≢ NoCall → (k : ℕ) → crashes line k ≡ false
@@ -217,7 +217,7 @@ module _ (line : Line) (ls : List Line) (old : Lists) (told : newest old ≡ len
       let same : z.client ≡ d = cc in
       z.is ∙ ap (λ n. IsClient n) same
 
-  asked_rows : (b : Bool) (k : ℕ) → role_of line ≡ AsksTime b k → line_at ls k ≡ Some lines.Client → IsAsked k b c.own s c.from → Rows2 c.from
+  asked_rows : (b : Bool) (k : ℕ) → role_of line ≡ AsksTime b k → line_at ls k ≡ Some lines.Client → IsAsked k b c.own c.ended s c.from → Rows2 c.from
   asked_rows b k role named h = subst Rows2 (sym h.begun)
       (begun_rows line ls o o2 e e2 st old.sight.crashed was apart at old.sight.crashed (λ j far. inl (set_other (Asking h.client b) j far))
       (opens_none (AskWaits b k h.client) (at (suc (length ls))) h.is (sym role) (ap may_wait role) refl (sym (set_here (Asking h.client b))))
@@ -226,7 +226,7 @@ module _ (line : Line) (ls : List Line) (old : Lists) (told : newest old ≡ len
       at : ℕ → Stand
       at n = stand_at (with_stand (line_count s) (Asking h.client b) s).stands n
 
-  called_rows : (b : Bool) (x : ℕ) → role_of line ≡ UsesTransaction b x → 1 ≤ x → x ≤ length ls → IsCalled x b c.own s c.from → Rows2 c.from
+  called_rows : (b : Bool) (x : ℕ) → role_of line ≡ UsesTransaction b x → 1 ≤ x → x ≤ length ls → IsCalled x b c.own c.ended s c.from → Rows2 c.from
   called_rows b x role low high h = subst Rows2 (sym h.begun)
       (begun_rows line ls o o2 e e2 st old.sight.crashed was apart at old.sight.crashed moved
       (opens_none (CallWaits b x h.client) (at (suc (length ls))) h.is (sym role) (ap may_wait role) refl (sym here))
@@ -337,26 +337,22 @@ module _ (line : Line) (ls : List Line) (old : Lists) (told : newest old ≡ len
       let q : nat_eq (suc (length ls)) (suc (length ls)) ≡ true = grind (arith, nat_tests) in
       ap (λ (b : Bool). if b then can_end line (o2 (suc (length ls))) else ends_at ls o2 (suc (length ls))) q ∙ ap (λ x. can_end line x) h
 
-  can_wait : (z : Bool) → z && false || true && true ≡ true
-  can_wait true = refl
-  can_wait false = refl
+  ends_none : c.ended ≡ [] → EndsAlone (suc (length ls)) c.ended
+  ends_none none = subst (λ es. EndsAlone (suc (length ls)) es) (sym none) (λ k d h. absurd (omega arith))
 
-  tells_it : (z : Bool) → true && true || z ≡ true
-  tells_it z = refl
+  ends_own : EndsAlone (line_count s) c.ended → EndsAlone (suc (length ls)) c.ended
+  ends_own alone = subst (λ k. EndsAlone k c.ended) lined alone
 
-  waits_end : c.own ≡ None → may_wait (role_of line) ≡ true → (c.ended ≡ []) ⊎ (ends_at (line ∷ ls) o2 (suc (length ls)) ≡ true)
-  waits_end own wait = inr (ends_new Unfinished (none_here own).0 ∙ ap (λ (b : Bool). tells line && false || b && true) wait ∙ can_wait (tells line))
-
-  ending : (c.ended ≡ []) ⊎ (ends_at (line ∷ ls) o2 (suc (length ls)) ≡ true)
+  ending : EndsAlone (suc (length ls)) c.ended ⊎ (ends_at (line ∷ ls) o2 (suc (length ls)) ≡ true)
   ending = by (role_of line) refl c.begins
     where
-      by : (r : Role) → role_of line ≡ r → Begins r line c.own c.ended s c.from → (c.ended ≡ []) ⊎ (ends_at (line ∷ ls) o2 (suc (length ls)) ≡ true)
-      by MakesClient role h = inl h.none
-      by (AsksTime b k) role h = elim h [ inl i ↦ inl i.none | inr a ↦ waits_end a.is (ap may_wait role) ]
-      by (UsesTransaction b x) role h = elim h [ inl i ↦ inl i.none | inr a ↦ waits_end a.is (ap may_wait role) ]
+      by : (r : Role) → role_of line ≡ r → Begins r line c.own c.ended s c.from → EndsAlone (suc (length ls)) c.ended ⊎ (ends_at (line ∷ ls) o2 (suc (length ls)) ≡ true)
+      by MakesClient role h = inl (ends_none h.none)
+      by (AsksTime b k) role h = elim h [ inl i ↦ inl (ends_none i.none) | inr a ↦ inl (ends_own a.alone) ]
+      by (UsesTransaction b x) role h = elim h [ inl i ↦ inl (ends_none i.none) | inr a ↦ inl (ends_own a.alone) ]
       by NoCall role h = elim h.ends [
-        | inl none ↦ inl none
-        | inr t ↦ inr (ends_new (done_if h.done) (some_here (done_if h.done) h.is).0 ∙ (λ i. t.1 i && is_done (done_if (t.0 i)) || may_wait (role_of line) && not (is_skipped (done_if (t.0 i)))) ∙ tells_it (may_wait (role_of line) && true))
+        | inl none ↦ inl (ends_none none)
+        | inr t ↦ inr (ends_new (done_if h.done) (some_here (done_if h.done) h.is).0 ∙ (λ i. t.1 i && is_done (done_if (t.0 i))))
       ]
 
   all_rows : AreRows (line ∷ ls) o3 e3 (λ n. stand_at c.mid.sight.stands n) c.from.crashed

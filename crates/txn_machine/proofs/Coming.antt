@@ -1,5 +1,5 @@
 -- What is in the mail came in order, and what comes next comes last.
-use Rattle.std.proofs.Common.{◌≡◌, ◌≢◌, ℕ, zero, suc, ◌+◌, ◌<◌, ◌≤◌, ◌⊎◌, inl, inr, Bool, true, false, List, [], ◌∷◌, ◌++◌, Option, Some, None, length, get_or, map, set, slice_get, nat_lt, refl, sym, ap, ◌∙◌, subst, arith, length-append, All, AllPairs}
+use Rattle.std.proofs.Common.{◌≡◌, ◌≢◌, ℕ, zero, suc, ◌+◌, ◌<◌, ◌≤◌, ◌⊎◌, inl, inr, Bool, true, false, List, [], ◌∷◌, ◌++◌, Some, length, get_or, map, slice_get, nat_lt, refl, sym, ap, ◌∙◌, subst, arith, length-append}
 use Rattle.std.proofs.lemmas.Bool.Decides.{nat_tests}
 use Rattle.std.proofs.lemmas.List.Elements.{All-push}
 use Rattle.std.specs.Option.{option_map}
@@ -8,8 +8,6 @@ use Rattle.txn_post.specs.Mail.{IsMail, Mail, naming, no_mail, opened, place_in,
 use Rattle.txn_post.specs.Mail as mails
 use Rattle.txn_post.specs.declared.post.Place.{Place}
 use Rattle.txn_post.specs.declared.post.Place.TheVariants.{Sent, Slept}
-use Rattle.txn_report.specs.declared.report.SentNote.{SentNote}
-use Rattle.txn_report.specs.declared.report.SleepNote.{SleepNote}
 use Rattle.txn_side.specs.Sight.{ArePosted, ticket_in, with_next}
 use Rattle.txn_side.specs.declared.turn.Posting.{Posting}
 use Rattle.txn_side.specs.declared.turn.Posting.TheVariants.{Send, Sleep}

@@ -11,8 +11,8 @@ use Rattle.txn_post.specs.declared.letter.Letter.{Letter}
 use Rattle.txn_report.specs.declared.outcome.Outcome.{Outcome}
 use Rattle.txn_report.specs.declared.outcome.Outcome.TheVariants.{Done, Ok, Skipped}
 use Rattle.txn_report.specs.declared.outcome.Payload.TheVariants.{Unit as Nothing}
-use Rattle.txn_side.specs.Sight.{Acts, Asks, Goes, LineGoes, Sight, Stand, client_at, commits, connected, crash, is_free, is_live, line_count, stand_at, with_stand}
-use Rattle.txn_side.specs.Sight.Stand.{Asking, Calling, HasBegun, Idle, IsClient, Working}
+use Rattle.txn_side.specs.Sight.{Acts, Asks, EndsAlone, Goes, LineGoes, Sight, Stand, client_at, commits, connected, crash, is_free, is_live, line_count, stand_at, with_stand}
+use Rattle.txn_side.specs.Sight.Stand.{Asking, Calling, HasBegun, Idle, IsClient, Past, Working}
 use Rattle.txn_side.specs.declared.act.Act.{Act}
 use Rattle.txn_side.specs.declared.act.Act.TheVariants as acts
 use Rattle.txn_side.specs.declared.turn.Ending.{Ending}
@@ -32,19 +32,21 @@ pub record IsIdle (can : Bool) (own : Option Outcome) (ended : List Ending) (s f
   pub same : from ≡ s
   pub none : ended ≡ []
 
-pub record IsAsked (k : ℕ) (b : Bool) (own : Option Outcome) (s from : Sight) : Type 0 where
+pub record IsAsked (k : ℕ) (b : Bool) (own : Option Outcome) (ended : List Ending) (s from : Sight) : Type 0 where
   pub client : ℕ
   pub is : own ≡ None
   pub there : client_at (stand_at s.stands k) ≡ Some client
   pub can : is_live s k ≡ true
   pub begun : from ≡ with_stand (line_count s) (Asking client b) s
+  pub alone : EndsAlone (line_count s) ended
 
-pub record IsCalled (x : ℕ) (b : Bool) (own : Option Outcome) (s from : Sight) : Type 0 where
+pub record IsCalled (x : ℕ) (b : Bool) (own : Option Outcome) (ended : List Ending) (s from : Sight) : Type 0 where
   pub client : ℕ
   pub is : own ≡ None
   pub free : stand_at s.stands x ≡ HasBegun client 0
   pub can : is_free s x ≡ true
   pub begun : from ≡ with_stand (line_count s) (Calling client x b) (with_stand x (HasBegun client (line_count s)) s)
+  pub alone : EndsAlone (line_count s) ended
 
 -- a client that a line names is gone
 abbrev pub Falls : Line → Bool → Sight → Sight → Type 0
@@ -64,8 +66,8 @@ pub record IsMade (own : Option Outcome) (ended : List Ending) (s from : Sight) 
 
 abbrev pub Begins : Role → Line → Option Outcome → List Ending → Sight → Sight → Type 0
 Begins MakesClient line own ended s from = IsMade own ended s from
-Begins (AsksTime b k) line own ended s from = IsIdle (is_live s k) own ended s from ⊎ IsAsked k b own s from
-Begins (UsesTransaction b x) line own ended s from = IsIdle (is_free s x) own ended s from ⊎ IsCalled x b own s from
+Begins (AsksTime b k) line own ended s from = IsIdle (is_live s k) own ended s from ⊎ IsAsked k b own ended s from
+Begins (UsesTransaction b x) line own ended s from = IsIdle (is_free s x) own ended s from ⊎ IsCalled x b own ended s from
 Begins NoCall line own ended s from = IsEvent line own ended s from
 
 -- What an event does, and when.
@@ -151,10 +153,11 @@ line_stays n (IsClient c) = (refl, refl)
 line_stays n (Asking c b) = refl
 line_stays n (HasBegun c m) = (refl, refl)
 line_stays n (Calling c x b) = refl
+line_stays n (Past c) = (refl, refl)
 line_stays n (Working c) = (refl, refl)
 
 sight_stays : (s : Sight) → Goes [] [] s s
-sight_stays s = record { crashed = refl; count = refl; lines = λ n. line_stays n (stand_at s.stands n); live = λ k d h. absurd (omega arith); numbers = refl }
+sight_stays s = record { crashed = refl; count = refl; lines = λ n. line_stays n (stand_at s.stands n); live = λ k d h. absurd (omega arith); posting = λ k d h. absurd (omega arith); numbers = refl }
 
 only_there : (p : ℕ → Bool) (o : Option ℕ) (k : ℕ) → only p o ≡ Some k → (o ≡ Some k) × (p k ≡ true)
 only_there p None k e = absurd (cc)
@@ -222,7 +225,7 @@ module _ (old : Lists) where
     ends = refl;
     goes = a.3;
     begins = subst (λ r. Begins r line None turn.ended.items (opened old).sight (with_stand (line_count (opened old).sight) (Asking a.0 b) (opened old).sight)) (sym role)
-        (inr (record { client = a.0; is = refl; there = a.1; can = a.2; begun = refl }));
+        (inr (record { client = a.0; is = refl; there = a.1; can = a.2; begun = refl; alone = a.4 }));
     sure = λ r. absurd (let z = sym role ∙ r in cc);
     mails = refl;
   }
@@ -242,7 +245,7 @@ module _ (old : Lists) where
     ends = refl;
     goes = subst (λ (k : Bool). Goes turn.posted.items turn.ended.items (with_stand (line_count (opened old).sight) (Calling a.0 x k) (with_stand x (HasBegun a.0 (line_count (opened old).sight)) (opened old).sight)) s) kind a.3;
     begins = subst (λ r. Begins r line None turn.ended.items (opened old).sight calling) (sym role)
-        (inr (record { client = a.0; is = refl; free = a.1; can = a.2; begun = refl }));
+        (inr (record { client = a.0; is = refl; free = a.1; can = a.2; begun = refl; alone = a.4 }));
     sure = λ r. absurd (let z = sym role ∙ r in cc);
     mails = refl;
   }

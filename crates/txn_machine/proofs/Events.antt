@@ -1,11 +1,10 @@
 -- Each event is done just where it can be.
-use Rattle.std.proofs.Common.{◌≡◌, ℕ, suc, inl, inr, Bool, true, false, not, ◌&&◌, if◌then◌else◌, List, [], ◌∷◌, Option, Some, None, length, slice_get, is_some, nat_eq, refl, sym, ap, ◌∙◌, subst, arith}
-use Rattle.std.proofs.lemmas.Bool.Decides.{nat_tests}
+use Rattle.std.proofs.Common.{◌≡◌, ℕ, Bool, true, false, not, ◌&&◌, if◌then◌else◌, List, Option, Some, None, slice_get, is_some, refl, sym, ap, ◌∙◌, subst}
 use Rattle.txn_kv.specs.declared.ticket.Ticket.{Ticket}
 use Rattle.txn_history.specs.Busy.{busy_reply}
 use Rattle.txn_history.specs.Event.{Event, is_awaited, is_lost, is_refused, is_served, taken_reply}
 use Rattle.txn_law.specs.Run.{store_after}
-use Rattle.txn_lines.specs.Lines.{line_at, why_after}
+use Rattle.txn_lines.specs.Lines.{why_after}
 use Rattle.txn_lines.specs.declared.line.Line.{Line}
 use Rattle.txn_lines.specs.declared.line.Line.TheVariants as lines
 use Rattle.txn_model.specs.Regions.{can_lead, can_split}
@@ -14,11 +13,10 @@ use Rattle.txn_post.specs.declared.post.Place.{Place}
 use Rattle.txn_post.specs.declared.post.Place.TheVariants.{Sent, Slept}
 use Rattle.txn_report.specs.declared.outcome.Outcome.{Outcome}
 use Rattle.txn_side.specs.Sight.{Stand, client_at, is_live, lives, stand_at}
-use Rattle.txn_machine.specs.Causes.{EventMeets, IsTold, can_refuse, hears, is_refusable, is_servable, is_there, is_woken, role_of, stands_at}
+use Rattle.txn_machine.specs.Causes.{EventMeets, can_refuse, hears, is_refusable, is_servable, is_woken, role_of}
 use Rattle.txn_machine.specs.Causes.Role.{NoCall}
 use Rattle.txn_machine.specs.Lists.{Lists, opened, request_at, request_in}
-use Rattle.txn_machine.specs.Rows.{AreRows, Fate, IsFate, IsUnsent, Row, outcome_in, role_in, stand_in}
-use Rattle.txn_machine.specs.Rows.Row.{Acted, AskFailed, AskSkipped, AskWaits, Begun, CallFailed, CallSkipped, CallWaits, Happened, Made, Over, Timed, Works}
+use Rattle.txn_machine.specs.Rows.{AreOwned, AreRows, Fate, IsFate, IsUnsent}
 use Rattle.txn_machine.specs.Script.{outcome_of}
 use Rattle.txn_machine.specs.Steps.{done_if, found_asleep, found_out}
 use Rattle.txn_post.proofs.Naming.{opened_leads}
@@ -26,65 +24,16 @@ use Rattle.txn_machine.proofs.Calms.{stand_opened}
 use Rattle.txn_machine.proofs.Courses.{does_it, test_at}
 use Rattle.txn_machine.proofs.Fates.{Fates}
 use Rattle.txn_machine.proofs.Idles.{crash_names, live_is, live_of}
-use Rattle.txn_machine.proofs.Numberings.{line_new, line_old, line_range}
-
--- Where something stands.
-
-pub record StandsThere (ls : List Line) (seen : ℕ → Outcome) (n : ℕ) : Type 0 where
-  pub line : Line
-  pub there : line_at ls n ≡ Some line
-  pub is : is_there (role_of line) (seen n) ≡ true
-
-stands_line : (ls : List Line) (seen : ℕ → Outcome) (n : ℕ) → stands_at ls seen n ≡ true → StandsThere ls seen n
-stands_line [] seen n h = absurd (cc)
-stands_line (l ∷ ls) seen n h = by (nat_eq (suc (length ls)) n) refl (λ g. stands_line ls seen n g) h
-  where
-    older : StandsThere ls seen n → StandsThere (l ∷ ls) seen n
-    older s =
-        let most = (line_range ls n s.line s.there).1 in
-        record { line = s.line; there = line_old l ls n (λ e. absurd (omega arith)) ∙ s.there; is = s.is }
-
-    by : (b : Bool) → nat_eq (suc (length ls)) n ≡ b → (stands_at ls seen n ≡ true → StandsThere ls seen n) → (if b then is_there (role_of l) (seen n) else stands_at ls seen n) ≡ true → StandsThere (l ∷ ls) seen n
-    by true e more g =
-        let here : suc (length ls) ≡ n = grind (arith, nat_tests) in
-        record { line = l; there = ap (λ k. line_at (l ∷ ls) k) (sym here) ∙ line_new l ls; is = g }
-    by false e more g = older (more g)
-
-has_client : (r : Row) → is_there (role_in r) (outcome_in r) ≡ true → (c : ℕ) × (client_at (stand_in r) ≡ Some c)
-has_client (Made c) h = (c, refl)
-has_client (AskWaits b k c) h = (c, refl)
-has_client (Begun k v c m) h = (c, refl)
-has_client (CallWaits b x c) h = (c, refl)
-has_client (Works x v c) h = (c, refl)
-has_client (Timed k v) h = absurd (cc)
-has_client (AskFailed true k e) h = absurd (cc)
-has_client (AskFailed false k e) h = absurd (cc)
-has_client (AskSkipped true k) h = absurd (cc)
-has_client (AskSkipped false k) h = absurd (cc)
-has_client (Acted x) h = absurd (cc)
-has_client (Over x v) h = absurd (cc)
-has_client (CallFailed b x e) h = absurd (cc)
-has_client (CallSkipped b x) h = absurd (cc)
-has_client (Happened d) h = absurd (cc)
-
-lives_client : (crashed : List Bool) (o : Option ℕ) → lives crashed o ≡ true → (c : ℕ) × (o ≡ Some c)
-lives_client crashed None h = absurd (cc)
-lives_client crashed (Some c) h = (c, refl)
-
-told_so : (b live heard rest : Bool) → (live ≡ true → heard ≡ true) → (b ≡ true → live ≡ heard) → IsTold b (heard && rest) (done_if (live && rest))
-told_so true live heard rest f g = ap (λ z. done_if (z && rest)) (g refl)
-told_so false true heard rest f g = inr (ap (λ z. done_if (z && rest)) (sym (f refl)))
-told_so false false heard rest f g = inl refl
-
-both_none : (a : Bool) → false ≡ a && false
-both_none true = refl
-both_none false = refl
 
 -- What the mail finds.
 
 and_true : (a : Bool) → a && true ≡ a
 and_true true = refl
 and_true false = refl
+
+and_false : (a : Bool) → a && false ≡ false
+and_false true = refl
+and_false false = refl
 
 not_not : (a : Bool) → not (not a) ≡ a
 not_not true = refl
@@ -168,7 +117,7 @@ module _ (es : List Event) (old : Lists) (t : Ticket) where
         by (Some (Sent k)) f = refl
         by (Some (Slept k)) f = only_test (is_lasting old.mail) (λ j. true) k ∙ and_true (is_lasting old.mail k) ∙ sym (not_not (is_lasting old.mail k)) ∙ ap not (sym f.1)
 
-module _ (ls : List Line) (old : Lists) (e : ℕ → ℕ) (was : AreRows ls (λ n. outcome_of old.outcomes n) e (λ n. stand_at old.sight.stands n) old.sight.crashed) where
+module _ (ls : List Line) (old : Lists) (e : ℕ → ℕ) (was : AreRows ls (λ n. outcome_of old.outcomes n) e (λ n. stand_at old.sight.stands n) old.sight.crashed) (owned : AreOwned old.mail old.sight.stands) where
   abbrev o : ℕ → Outcome
   o n = outcome_of old.outcomes n
 
@@ -181,33 +130,34 @@ module _ (ls : List Line) (old : Lists) (e : ℕ → ℕ) (was : AreRows ls (λ 
   live_hears : (t : Ticket) (c : ℕ) → client_at (st t.line) ≡ Some c → is_live (opened old).sight t.line ≡ hears o ls t
   live_hears t c h = live_opened t.line ∙ live_of ls o e st old.sight.crashed was t.line c h
 
-  heard : (t : Ticket) → is_live (opened old).sight t.line ≡ true → hears o ls t ≡ true
-  heard t h =
-      let c = lives_client old.sight.crashed (client_at (st t.line)) (sym (live_opened t.line) ∙ h) in
-      sym (live_hears t c.0 c.1) ∙ h
-
-  there_hears : (t : Ticket) → stands_at ls o t.line ≡ true → is_live (opened old).sight t.line ≡ hears o ls t
-  there_hears t h =
-      let s = stands_line ls o t.line h in
-      let r = was.rows t.line s.line s.there in
-      let c = has_client r.row ((λ i. is_there (r.is i) (r.outcome i)) ∙ s.is) in
-      live_hears t c.0 (ap client_at (sym r.at) ∙ c.1)
-
-  told : (t : Ticket) (rest d : Bool) (x : Outcome) → x ≡ done_if d → d ≡ is_live (opened old).sight t.line && rest → IsTold (stands_at ls o t.line) (hears o ls t && rest) x
-  told t rest d x is can = subst (λ z. IsTold (stands_at ls o t.line) (hears o ls t && rest) z) (sym (is ∙ ap done_if can))
-      (told_so (stands_at ls o t.line) (is_live (opened old).sight t.line) (hears o ls t) rest (heard t) (there_hears t))
+  -- what names nothing can do nothing, and the client of what names something is known
+  exact : (t : Ticket) (rest d : Bool) (x : Outcome) → x ≡ done_if d → d ≡ is_live (opened old).sight t.line && rest → (place_of old.mail.tickets t ≡ None → false ≡ rest) → x ≡ done_if (hears o ls t && rest)
+  exact t rest d x is can none = is ∙ ap done_if (can ∙ by (place_of old.mail.tickets t) refl)
+    where
+      by : (p : Option Place) → place_of old.mail.tickets t ≡ p → is_live (opened old).sight t.line && rest ≡ hears o ls t && rest
+      by None e = ap (λ z. is_live (opened old).sight t.line && z) (sym (none e)) ∙ and_false (is_live (opened old).sight t.line) ∙ sym (and_false (hears o ls t)) ∙ ap (λ z. hears o ls t && z) (none e)
+      by (Some p) e = let c = owned.owner t p e in ap (λ z. z && rest) (live_hears t c.0 c.1)
 
   module _ (es : List Event) (asleep : Ticket → Bool) (fates : Fates es old.mail) (store : old.store ≡ store_after es)
       (slept : (t : Ticket) → asleep t ≡ is_some (as_slept (place_of old.mail.tickets t)))
     where
+      unsent : (t : Ticket) → place_of old.mail.tickets t ≡ None → false ≡ is_awaited es t
+      unsent t e = unsent_awaited es old t (subst (λ z. Fate es old.mail t z) e (fates t)).0
+
+      unsent_and : (t : Ticket) (b : Bool) → place_of old.mail.tickets t ≡ None → false ≡ is_awaited es t && b
+      unsent_and t b e = none_and es old t (is_awaited es t) (unsent t e) b
+
+      awake : (t : Ticket) → place_of old.mail.tickets t ≡ None → false ≡ asleep t && not (is_woken es t)
+      awake t e = ap (λ z. z && not (is_woken es t)) (sym (slept t ∙ ap (λ z. is_some (as_slept z)) e))
+
       pub event_meets : (line : Line) (x : Outcome) → why_after ls line ≡ None → (role_of line ≡ NoCall → x ≡ done_if (does_it line (opened old))) → EventMeets asleep o ls es line x
       event_meets lines.Blank x good is = is refl
       event_meets (lines.Serve t) x good is = is refl ∙ ap done_if (unserved_is es old t fates)
-      event_meets (lines.Answer t) x good is = told t (is_awaited es t && is_served es t) (does_it (lines.Answer t) (opened old)) x (is refl) (answer_is es old t fates)
-      event_meets (lines.Deliver t) x good is = told t (is_awaited es t && is_servable es t) (does_it (lines.Deliver t) (opened old)) x (is refl) (deliver_is es old t fates)
-      event_meets (lines.Lose t) x good is = told t (is_awaited es t) (does_it (lines.Lose t) (opened old)) x (is refl) (lose_is es old t fates)
-      event_meets (lines.Busy t) x good is = told t (is_awaited es t && (is_servable es t && is_refusable es t)) (does_it (lines.Busy t) (opened old)) x (is refl) (busy_is es old t fates)
-      event_meets (lines.Wake t) x good is = told t (asleep t && not (is_woken es t)) (does_it (lines.Wake t) (opened old)) x (is refl) (wake_is es old t fates (asleep t) (slept t))
+      event_meets (lines.Answer t) x good is = exact t (is_awaited es t && is_served es t) (does_it (lines.Answer t) (opened old)) x (is refl) (answer_is es old t fates) (λ e. unsent_and t (is_served es t) e)
+      event_meets (lines.Deliver t) x good is = exact t (is_awaited es t && is_servable es t) (does_it (lines.Deliver t) (opened old)) x (is refl) (deliver_is es old t fates) (λ e. unsent_and t (is_servable es t) e)
+      event_meets (lines.Lose t) x good is = exact t (is_awaited es t) (does_it (lines.Lose t) (opened old)) x (is refl) (lose_is es old t fates) (λ e. unsent t e)
+      event_meets (lines.Busy t) x good is = exact t (is_awaited es t && (is_servable es t && is_refusable es t)) (does_it (lines.Busy t) (opened old)) x (is refl) (busy_is es old t fates) (λ e. unsent_and t (is_servable es t && is_refusable es t) e)
+      event_meets (lines.Wake t) x good is = exact t (asleep t && not (is_woken es t)) (does_it (lines.Wake t) (opened old)) x (is refl) (wake_is es old t fates (asleep t) (slept t)) (λ e. awake t e)
       event_meets (lines.Split key) x good is = is refl ∙ ap (λ s. done_if (can_split s key)) store
       event_meets (lines.Lead region to) x good is = is refl ∙ ap (λ s. done_if (can_lead s region to)) store
       event_meets (lines.Clock ms) x good is = is refl

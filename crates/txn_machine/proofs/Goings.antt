@@ -7,8 +7,8 @@ use Rattle.txn_lines.specs.declared.line.Line.{Line}
 use Rattle.txn_report.specs.declared.outcome.Outcome.{Outcome}
 use Rattle.txn_report.specs.declared.outcome.Outcome.TheVariants.{Done, Err, Ok, Skipped, Unfinished}
 use Rattle.txn_report.specs.declared.outcome.Payload.TheVariants.{Unit as Nothing, Number, Commit as Committed}
-use Rattle.txn_side.specs.Sight.{AskEnds, CallEnds, LineGoes, Stand, StaysOrEnds, client_at, outcomes_of, still_open}
-use Rattle.txn_side.specs.Sight.Stand.{Asking, Calling, HasBegun, Idle, IsClient, Working}
+use Rattle.txn_side.specs.Sight.{AskEnds, CallEnds, EndsAlone, LineGoes, Stand, StaysOrEnds, client_at, outcomes_of, still_open}
+use Rattle.txn_side.specs.Sight.Stand.{Asking, Calling, HasBegun, Idle, IsClient, Past, Working}
 use Rattle.txn_side.specs.declared.turn.Ending.{Ending}
 use Rattle.txn_machine.specs.Causes.{IsEnd, client_of, comes_at_once, ended_of, ends_at, is_skipped, is_unfinished, may_wait, role_of, tells}
 use Rattle.txn_machine.specs.Lists.{Lists, all_ended, at_line, ended_at, newest}
@@ -82,9 +82,9 @@ module _ (es : List Ending) (j n e : ℕ) (o2 : Outcome) (e2 : ℕ) (new : Stand
 
   ask_ends : (b : Bool) (k c : ℕ) (x : Outcome) → AskEnds c b x new → (o2 ≡ x) × (e2 ≡ n) → Went (AskWaits b k c) e n o2 e2 new
   ask_ends true k c (Ok (Number v)) g h = ends (AskWaits true k c) (Begun k v c 0) (Ok (Number v)) refl refl (sym g) refl (record { unfinished = refl; skipped = refl; done = refl }) h
-  ask_ends false k c (Ok (Number v)) g h = ends (AskWaits false k c) (Timed k v) (Ok (Number v)) refl refl (sym g) refl (record { unfinished = refl; skipped = refl; done = refl }) h
-  ask_ends true k c (Err x) g h = ends (AskWaits true k c) (AskFailed true k x) (Err x) refl refl (sym g) refl (record { unfinished = refl; skipped = refl; done = refl }) h
-  ask_ends false k c (Err x) g h = ends (AskWaits false k c) (AskFailed false k x) (Err x) refl refl (sym g) refl (record { unfinished = refl; skipped = refl; done = refl }) h
+  ask_ends false k c (Ok (Number v)) g h = ends (AskWaits false k c) (Timed k v c) (Ok (Number v)) refl refl (sym g) refl (record { unfinished = refl; skipped = refl; done = refl }) h
+  ask_ends true k c (Err x) g h = ends (AskWaits true k c) (AskFailed true k c x) (Err x) refl refl (sym g) refl (record { unfinished = refl; skipped = refl; done = refl }) h
+  ask_ends false k c (Err x) g h = ends (AskWaits false k c) (AskFailed false k c x) (Err x) refl refl (sym g) refl (record { unfinished = refl; skipped = refl; done = refl }) h
   ask_ends true k c (Ok Nothing) g h = absurd g
   ask_ends true k c (Ok (Committed v)) g h = absurd g
   ask_ends false k c (Ok Nothing) g h = absurd g
@@ -98,12 +98,12 @@ module _ (es : List Ending) (j n e : ℕ) (o2 : Outcome) (e2 : ℕ) (new : Stand
 
   call_ends : (b : Bool) (x c : ℕ) (o : Outcome) → CallEnds c b o new → (o2 ≡ o) × (e2 ≡ n) → Went (CallWaits b x c) e n o2 e2 new
   call_ends true x c (Ok (Committed t)) g h = elim g [
-    | inl i ↦ ends (CallWaits true x c) (Over x t) (Ok (Committed t)) refl refl (sym i) refl (record { unfinished = refl; skipped = refl; done = refl }) h
+    | inl i ↦ ends (CallWaits true x c) (Over x t c) (Ok (Committed t)) refl refl (sym i) refl (record { unfinished = refl; skipped = refl; done = refl }) h
     | inr i ↦ ends (CallWaits true x c) (Works x t c) (Ok (Committed t)) refl refl (sym i) refl (record { unfinished = refl; skipped = refl; done = refl }) h
   ]
-  call_ends false x c (Ok Nothing) g h = ends (CallWaits false x c) (Acted x) (Ok Nothing) refl refl (sym g) refl (record { unfinished = refl; skipped = refl; done = refl }) h
-  call_ends true x c (Err o) g h = ends (CallWaits true x c) (CallFailed true x o) (Err o) refl refl (sym g) refl (record { unfinished = refl; skipped = refl; done = refl }) h
-  call_ends false x c (Err o) g h = ends (CallWaits false x c) (CallFailed false x o) (Err o) refl refl (sym g) refl (record { unfinished = refl; skipped = refl; done = refl }) h
+  call_ends false x c (Ok Nothing) g h = ends (CallWaits false x c) (Acted x c) (Ok Nothing) refl refl (sym g) refl (record { unfinished = refl; skipped = refl; done = refl }) h
+  call_ends true x c (Err o) g h = ends (CallWaits true x c) (CallFailed true x c o) (Err o) refl refl (sym g) refl (record { unfinished = refl; skipped = refl; done = refl }) h
+  call_ends false x c (Err o) g h = ends (CallWaits false x c) (CallFailed false x c o) (Err o) refl refl (sym g) refl (record { unfinished = refl; skipped = refl; done = refl }) h
   call_ends true x c (Ok Nothing) g h = absurd g
   call_ends true x c (Ok (Number v)) g h = absurd g
   call_ends false x c (Ok (Committed v)) g h = absurd g
@@ -131,67 +131,67 @@ module _ (es : List Ending) (j n e : ℕ) (o2 : Outcome) (e2 : ℕ) (new : Stand
   went (Begun k v c m) g w =
       let is : Written j n [] (Ok (Number v)) e o2 e2 = subst (λ os. Written j n os (Ok (Number v)) e o2 e2) g.0 w in
       record { row = Begun k v c (still_open m (outcomes_of m es)); role = refl; outcome = sym is.0; stand = sym g.1; change = inl is }
-  went (Timed k v) g w = still (Timed k v) g.0 g.1 w
-  went (AskFailed b k x) g w = still (AskFailed b k x) g.0 g.1 w
+  went (Timed k v c) g w = still (Timed k v c) g.0 g.1 w
+  went (AskFailed b k c x) g w = still (AskFailed b k c x) g.0 g.1 w
   went (AskSkipped b k) g w = still (AskSkipped b k) g.0 g.1 w
   went (CallWaits b x c) g w = called b x c (outcomes_of j es) g w
-  went (Acted x) g w = still (Acted x) g.0 g.1 w
-  went (Over x v) g w = still (Over x v) g.0 g.1 w
+  went (Acted x c) g w = still (Acted x c) g.0 g.1 w
+  went (Over x v c) g w = still (Over x v c) g.0 g.1 w
   went (Works x v c) g w = still (Works x v c) g.0 g.1 w
-  went (CallFailed b x o) g w = still (CallFailed b x o) g.0 g.1 w
+  went (CallFailed b x c o) g w = still (CallFailed b x c o) g.0 g.1 w
   went (CallSkipped b x) g w = still (CallSkipped b x) g.0 g.1 w
   went (Happened d) g w = still (Happened d) g.0 g.1 w
 
 -- What stood there before.
 
 module _ (es : List Ending) (n : ℕ) where
-  ask_idle : (c : ℕ) (b : Bool) (o : Outcome) (new : Stand) → AskEnds c b o new → (new ≡ HasBegun c 0) ⊎ (new ≡ Idle)
-  ask_idle c true (Ok (Number v)) new g = inl g
-  ask_idle c false (Ok (Number v)) new g = inr g
-  ask_idle c true (Err x) new g = inr g
-  ask_idle c false (Err x) new g = inr g
-  ask_idle c true (Ok Nothing) new g = absurd g
-  ask_idle c true (Ok (Committed v)) new g = absurd g
-  ask_idle c false (Ok Nothing) new g = absurd g
-  ask_idle c false (Ok (Committed v)) new g = absurd g
-  ask_idle c true Unfinished new g = absurd g
-  ask_idle c false Unfinished new g = absurd g
-  ask_idle c true Done new g = absurd g
-  ask_idle c false Done new g = absurd g
-  ask_idle c true Skipped new g = absurd g
-  ask_idle c false Skipped new g = absurd g
+  ask_past : (c : ℕ) (b : Bool) (o : Outcome) (new : Stand) → AskEnds c b o new → (new ≡ HasBegun c 0) ⊎ (new ≡ Past c)
+  ask_past c true (Ok (Number v)) new g = inl g
+  ask_past c false (Ok (Number v)) new g = inr g
+  ask_past c true (Err x) new g = inr g
+  ask_past c false (Err x) new g = inr g
+  ask_past c true (Ok Nothing) new g = absurd g
+  ask_past c true (Ok (Committed v)) new g = absurd g
+  ask_past c false (Ok Nothing) new g = absurd g
+  ask_past c false (Ok (Committed v)) new g = absurd g
+  ask_past c true Unfinished new g = absurd g
+  ask_past c false Unfinished new g = absurd g
+  ask_past c true Done new g = absurd g
+  ask_past c false Done new g = absurd g
+  ask_past c true Skipped new g = absurd g
+  ask_past c false Skipped new g = absurd g
 
-  call_idle : (c : ℕ) (b : Bool) (o : Outcome) (new : Stand) → CallEnds c b o new → (new ≡ Idle) ⊎ (new ≡ Working c)
-  call_idle c true (Ok (Committed t)) new g = g
-  call_idle c false (Ok Nothing) new g = inl g
-  call_idle c true (Err x) new g = inl g
-  call_idle c false (Err x) new g = inl g
-  call_idle c true (Ok Nothing) new g = absurd g
-  call_idle c true (Ok (Number v)) new g = absurd g
-  call_idle c false (Ok (Committed v)) new g = absurd g
-  call_idle c false (Ok (Number v)) new g = absurd g
-  call_idle c true Unfinished new g = absurd g
-  call_idle c false Unfinished new g = absurd g
-  call_idle c true Done new g = absurd g
-  call_idle c false Done new g = absurd g
-  call_idle c true Skipped new g = absurd g
-  call_idle c false Skipped new g = absurd g
+  call_past : (c : ℕ) (b : Bool) (o : Outcome) (new : Stand) → CallEnds c b o new → (new ≡ Past c) ⊎ (new ≡ Working c)
+  call_past c true (Ok (Committed t)) new g = g
+  call_past c false (Ok Nothing) new g = inl g
+  call_past c true (Err x) new g = inl g
+  call_past c false (Err x) new g = inl g
+  call_past c true (Ok Nothing) new g = absurd g
+  call_past c true (Ok (Number v)) new g = absurd g
+  call_past c false (Ok (Committed v)) new g = absurd g
+  call_past c false (Ok (Number v)) new g = absurd g
+  call_past c true Unfinished new g = absurd g
+  call_past c false Unfinished new g = absurd g
+  call_past c true Done new g = absurd g
+  call_past c false Done new g = absurd g
+  call_past c true Skipped new g = absurd g
+  call_past c false Skipped new g = absurd g
 
   -- what may stand there after a step of the clients
   abbrev MayStand : Stand → Stand → Type 0
-  MayStand (Asking c b) new = ((outcomes_of n es ≡ []) × (new ≡ Asking c b)) ⊎ ((new ≡ HasBegun c 0) ⊎ (new ≡ Idle))
-  MayStand (Calling c x b) new = ((outcomes_of n es ≡ []) × (new ≡ Calling c x b)) ⊎ ((new ≡ Idle) ⊎ (new ≡ Working c))
+  MayStand (Asking c b) new = ((outcomes_of n es ≡ []) × (new ≡ Asking c b)) ⊎ ((new ≡ HasBegun c 0) ⊎ (new ≡ Past c))
+  MayStand (Calling c x b) new = ((outcomes_of n es ≡ []) × (new ≡ Calling c x b)) ⊎ ((new ≡ Past c) ⊎ (new ≡ Working c))
   MayStand (HasBegun c m) new = (outcomes_of n es ≡ []) × (new ≡ HasBegun c (still_open m (outcomes_of m es)))
   MayStand old new = (outcomes_of n es ≡ []) × (new ≡ old)
 
-  may_ask : (c : ℕ) (b : Bool) (os : List Outcome) (new : Stand) → StaysOrEnds (Asking c b) (AskEnds c b) os new → ((os ≡ []) × (new ≡ Asking c b)) ⊎ ((new ≡ HasBegun c 0) ⊎ (new ≡ Idle))
+  may_ask : (c : ℕ) (b : Bool) (os : List Outcome) (new : Stand) → StaysOrEnds (Asking c b) (AskEnds c b) os new → ((os ≡ []) × (new ≡ Asking c b)) ⊎ ((new ≡ HasBegun c 0) ⊎ (new ≡ Past c))
   may_ask c b [] new g = inl (refl, g)
-  may_ask c b (o ∷ []) new g = inr (ask_idle c b o new g)
+  may_ask c b (o ∷ []) new g = inr (ask_past c b o new g)
   may_ask c b (o ∷ p ∷ os) new g = absurd g
 
-  may_call : (c x : ℕ) (b : Bool) (os : List Outcome) (new : Stand) → StaysOrEnds (Calling c x b) (CallEnds c b) os new → ((os ≡ []) × (new ≡ Calling c x b)) ⊎ ((new ≡ Idle) ⊎ (new ≡ Working c))
+  may_call : (c x : ℕ) (b : Bool) (os : List Outcome) (new : Stand) → StaysOrEnds (Calling c x b) (CallEnds c b) os new → ((os ≡ []) × (new ≡ Calling c x b)) ⊎ ((new ≡ Past c) ⊎ (new ≡ Working c))
   may_call c x b [] new g = inl (refl, g)
-  may_call c x b (o ∷ []) new g = inr (call_idle c b o new g)
+  may_call c x b (o ∷ []) new g = inr (call_past c b o new g)
   may_call c x b (o ∷ p ∷ os) new g = absurd g
 
   may_stand : (old new : Stand) → LineGoes es n old new → MayStand old new
@@ -200,6 +200,7 @@ module _ (es : List Ending) (n : ℕ) where
   may_stand (HasBegun c m) new g = g
   may_stand Idle new g = g
   may_stand (IsClient c) new g = g
+  may_stand (Past c) new g = g
   may_stand (Working c) new g = g
 
   was_calling : (old new : Stand) (c x : ℕ) (b : Bool) → MayStand old new → new ≡ Calling c x b → (old ≡ Calling c x b) × (outcomes_of n es ≡ [])
@@ -208,6 +209,7 @@ module _ (es : List Ending) (n : ℕ) where
   was_calling (HasBegun d m) new c x b g e = absurd (let a = g.1 in cc)
   was_calling Idle new c x b g e = absurd (let a = g.1 in cc)
   was_calling (IsClient d) new c x b g e = absurd (let a = g.1 in cc)
+  was_calling (Past d) new c x b g e = absurd (let a = g.1 in cc)
   was_calling (Working d) new c x b g e = absurd (let a = g.1 in cc)
 
   stays_client : (old new : Stand) (c : ℕ) → MayStand old new → old ≡ IsClient c → new ≡ IsClient c
@@ -216,6 +218,7 @@ module _ (es : List Ending) (n : ℕ) where
   stays_client (HasBegun d m) new c g e = absurd (cc)
   stays_client Idle new c g e = absurd (cc)
   stays_client (IsClient d) new c g e = g.1 ∙ e
+  stays_client (Past d) new c g e = absurd (cc)
   stays_client (Working d) new c g e = absurd (cc)
 
   was_client : (old new : Stand) (c : ℕ) → MayStand old new → new ≡ IsClient c → old ≡ IsClient c
@@ -224,15 +227,21 @@ module _ (es : List Ending) (n : ℕ) where
   was_client (HasBegun d m) new c g e = absurd (let a = g.1 in cc)
   was_client Idle new c g e = absurd (let a = g.1 in cc)
   was_client (IsClient d) new c g e = sym g.1 ∙ e
+  was_client (Past d) new c g e = absurd (let a = g.1 in cc)
   was_client (Working d) new c g e = absurd (let a = g.1 in cc)
 
-  of_client : (old new : Stand) (c : ℕ) → MayStand old new → client_at new ≡ Some c → client_at old ≡ Some c
-  of_client (Asking d k) new c g e = elim g [ inl h ↦ ap client_at (sym h.1) ∙ e | inr h ↦ elim h [ inl i ↦ ap client_at (sym i) ∙ e | inr i ↦ absurd (let a = ap client_at (sym i) ∙ e in cc) ] ]
-  of_client (Calling d y k) new c g e = elim g [ inl h ↦ ap client_at (sym h.1) ∙ e | inr h ↦ elim h [ inl i ↦ absurd (let a = ap client_at (sym i) ∙ e in cc) | inr i ↦ ap client_at (sym i) ∙ e ] ]
-  of_client (HasBegun d m) new c g e = ap client_at (sym g.1) ∙ e
-  of_client Idle new c g e = ap client_at (sym g.1) ∙ e
-  of_client (IsClient d) new c g e = ap client_at (sym g.1) ∙ e
-  of_client (Working d) new c g e = ap client_at (sym g.1) ∙ e
+  same_client : (old new : Stand) → MayStand old new → client_at new ≡ client_at old
+  same_client (Asking d k) new g = elim g [ inl h ↦ ap client_at h.1 | inr h ↦ elim h [ inl i ↦ ap client_at i | inr i ↦ ap client_at i ] ]
+  same_client (Calling d y k) new g = elim g [ inl h ↦ ap client_at h.1 | inr h ↦ elim h [ inl i ↦ ap client_at i | inr i ↦ ap client_at i ] ]
+  same_client (HasBegun d m) new g = ap client_at g.1
+  same_client Idle new g = ap client_at g.1
+  same_client (IsClient d) new g = ap client_at g.1
+  same_client (Past d) new g = ap client_at g.1
+  same_client (Working d) new g = ap client_at g.1
+
+-- no line that is there loses its client, nor gets one
+pub client_stays : (es : List Ending) (n : ℕ) (old new : Stand) → LineGoes es n old new → client_at new ≡ client_at old
+client_stays es n old new g = same_client es n old new (may_stand es n old new g)
 
 begun_is : (c d k m : ℕ) → ◌≡◌ {A = Stand} (HasBegun c k) (HasBegun d m) → (c ≡ d) × (k ≡ m)
 begun_is c d k m e = (cc, cc)
@@ -250,6 +259,7 @@ was_begun es n (HasBegun d k) new c m one g e =
     ((λ i. HasBegun (is.0 i) (h.0 i)), subst (λ z. outcomes_of z es ≡ []) h.0 h.1)
 was_begun es n Idle new c m one g e = absurd (let a = g.1 in cc)
 was_begun es n (IsClient d) new c m one g e = absurd (let a = g.1 in cc)
+was_begun es n (Past d) new c m one g e = absurd (let a = g.1 in cc)
 was_begun es n (Working d) new c m one g e = absurd (let a = g.1 in cc)
 
 -- All lines.
@@ -280,17 +290,26 @@ skipped_stays n o o2 e e2 (inr h) = unskipped o h.0 ∙ sym h.2.skipped
     unskipped Done u = refl
     unskipped Skipped u = absurd (cc)
 
-pub ends_same : (seen know : ℕ → Outcome) (e : ℕ) → is_done (seen e) ≡ is_done (know e) → is_skipped (seen e) ≡ is_skipped (know e) → (ls : List Line) → ends_at ls seen e ≡ ends_at ls know e
-ends_same seen know e a b [] = refl
-ends_same seen know e a b (l ∷ ls) =
-    let before = ends_same seen know e a b ls in
-    λ i. if nat_eq (suc (length ls)) e then tells l && a i || may_wait (role_of l) && not (b i) else before i
+pub ends_same : (seen know : ℕ → Outcome) (e : ℕ) → is_done (seen e) ≡ is_done (know e) → (ls : List Line) → ends_at ls seen e ≡ ends_at ls know e
+ends_same seen know e a [] = refl
+ends_same seen know e a (l ∷ ls) =
+    let before = ends_same seen know e a ls in
+    λ i. if nat_eq (suc (length ls)) e then tells l && a i else before i
+
+-- where calls of one line only end, none of another does
+pub alone_none : (es : List Ending) (line n : ℕ) → EndsAlone line es → n ≢ line → outcomes_of n es ≡ []
+alone_none [] line n h far = refl
+alone_none (e ∷ es) line n h far =
+    let here : e.line ≡ line = h 0 e (omega arith) in
+    let off : nat_eq e.line n ≡ false = grind (arith, nat_tests) in
+    ap (λ (b : Bool). map (λ (x : Ending). x.outcome) (if b then e ∷ filter (λ (x : Ending). nat_eq x.line n) es else filter (λ (x : Ending). nat_eq x.line n) es)) off
+    ∙ alone_none es line n (λ k d low. h (suc k) d (omega arith)) far
 
 module _ (script : List Line) (es : List Ending) (o o2 : ℕ → Outcome) (e e2 : ℕ → ℕ) (st st2 : ℕ → Stand) (crashed : List Bool)
     (was : AreRows script o e st crashed)
     (goes : (n : ℕ) → LineGoes es n (st n) (st2 n))
     (writes : (n : ℕ) → Written n (length script) (outcomes_of n es) (o n) (e n) (o2 n) (e2 n))
-    (ending : (es ≡ []) ⊎ (ends_at script o (length script) ≡ true))
+    (ending : EndsAlone (length script) es ⊎ (ends_at script o (length script) ≡ true))
   where
     gone_row : (n : ℕ) (l : Line) → line_at script n ≡ Some l → IsRow (role_of l) (o2 n) (st2 n) × Change (length script) (o n) (e n) (o2 n) (e2 n)
     gone_row n l there =
@@ -312,11 +331,8 @@ module _ (script : List Line) (es : List Ending) (o o2 : ℕ → Outcome) (e e2 
     done_same : (n : ℕ) → is_done (o n) ≡ is_done (o2 n)
     done_same n = done_stays (length script) (o n) (o2 n) (e n) (e2 n) (gone_change n)
 
-    skipped_same : (n : ℕ) → is_skipped (o n) ≡ is_skipped (o2 n)
-    skipped_same n = skipped_stays (length script) (o n) (o2 n) (e n) (e2 n) (gone_change n)
-
     ends_still : (k : ℕ) → ends_at script o k ≡ ends_at script o2 k
-    ends_still k = ends_same o o2 k (done_same k) (skipped_same k) script
+    ends_still k = ends_same o o2 k (done_same k) script
 
     at_last : (n : ℕ) (l : Line) → line_at script n ≡ Some l → IsEnd script o n l (e n) → Change (length script) (o n) (e n) (o2 n) (e2 n) → IsEnd script o2 n l (e2 n)
     at_last n l there was_end (inl h) = record {
@@ -331,7 +347,7 @@ module _ (script : List Line) (es : List Ending) (o o2 : ℕ → Outcome) (e e2 
       past = λ one. subst (λ k. n ≤ k) (sym h.1) range.1;
       within = subst (λ k. k ≤ length script) (sym h.1) (omega arith);
       own = λ once. absurd (waited once);
-      later = λ after. subst (λ k. ends_at script o2 k ≡ true) (sym h.1) (sym (ends_still (length script)) ∙ elim ending [ inl none ↦ absurd (quiet none) | inr ok ↦ ok ]);
+      later = λ after. subst (λ k. ends_at script o2 k ≡ true) (sym h.1) (sym (ends_still (length script)) ∙ elim ending [ inl alone ↦ absurd (quiet alone (subst (λ k. n < k) h.1 after)) | inr ok ↦ ok ]);
     }
       where
         range : (1 ≤ n) × (n ≤ length script)
@@ -340,9 +356,10 @@ module _ (script : List Line) (es : List Ending) (o o2 : ℕ → Outcome) (e e2 
         last : nat_eq (e2 n) 0 ≡ false
         last = let a = range.0 in let b = range.1 in let c = h.1 in grind (arith, nat_tests)
 
-        quiet : es ≡ [] → ⊥
-        quiet none =
-            let w : (o2 n ≡ o n) × (e2 n ≡ e n) = subst (λ zs. Written n (length script) (outcomes_of n zs) (o n) (e n) (o2 n) (e2 n)) none (writes n) in
+        quiet : EndsAlone (length script) es → n < length script → ⊥
+        quiet alone before =
+            let none = alone_none es (length script) n alone (λ same. absurd (omega arith)) in
+            let w : (o2 n ≡ o n) × (e2 n ≡ e n) = subst (λ os. Written n (length script) os (o n) (e n) (o2 n) (e2 n)) none (writes n) in
             let a = ap is_unfinished w.0 ∙ h.0 in
             let b = h.2.unfinished in
             cc
@@ -352,13 +369,13 @@ module _ (script : List Line) (es : List Ending) (o o2 : ℕ → Outcome) (e e2 
         still_waits (CallWaits b x c) u v f = cc
         still_waits (Made c) u v f = cc
         still_waits (Begun k x c m) u v f = cc
-        still_waits (Timed k x) u v f = cc
-        still_waits (AskFailed b k x) u v f = cc
+        still_waits (Timed k x c) u v f = cc
+        still_waits (AskFailed b k c x) u v f = cc
         still_waits (AskSkipped b k) u v f = cc
-        still_waits (Acted x) u v f = cc
-        still_waits (Over x y) u v f = cc
+        still_waits (Acted x c) u v f = cc
+        still_waits (Over x y c) u v f = cc
         still_waits (Works x y c) u v f = cc
-        still_waits (CallFailed b x y) u v f = cc
+        still_waits (CallFailed b x c y) u v f = cc
         still_waits (CallSkipped b x) u v f = cc
         still_waits (Happened true) u v f = cc
         still_waits (Happened false) u v f = cc
@@ -386,7 +403,7 @@ module _ (script : List Line) (es : List Ending) (o o2 : ℕ → Outcome) (e e2 
           (k.0, still_calling m c x k.0 k.1 a.1);
       one = λ j k c a b. was.woven.one j k c (was_client es j (st j) (st2 j) c (may j) a) (was_client es k (st k) (st2 k) c (may k) b);
       below = λ n c h. was.woven.below n c (was_client es n (st n) (st2 n) c (may n) h);
-      clients = λ n c h. stays_client es (client_of script n) (st (client_of script n)) (st2 (client_of script n)) c (may (client_of script n)) (was.woven.clients n c (of_client es n (st n) (st2 n) c (may n) h));
+      clients = λ n c h. stays_client es (client_of script n) (st (client_of script n)) (st2 (client_of script n)) c (may (client_of script n)) (was.woven.clients n c (sym (same_client es n (st n) (st2 n) (may n)) ∙ h));
       flags = λ n c h. was.woven.flags n c (was_client es n (st n) (st2 n) c (may n) h) ∙ crashed_same o o2 script (λ j h. done_same j) n;
       ahead = λ n h. sym (crashed_same o o2 script (λ j m. done_same j) n) ∙ was.woven.ahead n h;
     }

@@ -12,6 +12,7 @@ use Rattle.txn_machine.proofs.Carried.{events_now, fates_now}
 use Rattle.txn_machine.proofs.Caused.{calls_now, end_rows}
 use Rattle.txn_machine.proofs.Courses.{course}
 use Rattle.txn_machine.proofs.Folds.{Stepped, stepped}
+use Rattle.txn_machine.proofs.Owners.{owned_now}
 
 pub caused_step : (line : Line) (ls : List Line) (old new : Lists) → newest old ≡ length ls → IsOrdered old → why_after ls line ≡ None → Steps line old new → Folded ls old → Caused ls old → Caused (line ∷ ls) new
 caused_step line ls old new told ordered good steps folded was =
@@ -23,4 +24,5 @@ caused_step line ls old new told ordered good steps folded was =
       calls = calls_now line ls old told ordered.even good was.rows new c was.calls;
       events = events_now line ls old told ordered good was folded new c s;
       fates = fates_now line ls old told ordered good was folded new c s;
+      owned = owned_now line ls old told ordered good was.rows was.owned new c;
     })

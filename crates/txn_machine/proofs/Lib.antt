@@ -14,8 +14,12 @@ mod Fates
 mod Events
 mod Happenings
 mod Carried
+mod Owners
 mod Alive
 mod Keepings
 mod Standings
 mod Noting
 mod LineByLine
+pub mod Scripts
+mod Ranking
+mod Telling

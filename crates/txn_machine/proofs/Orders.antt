@@ -1,5 +1,5 @@
 -- Each line keeps the lists in order.
-use Rattle.std.proofs.Common.{◌≡◌, ℕ, zero, suc, ◌+◌, ◌-◌, ◌*◌, ◌^◌, ◌<◌, ◌≤◌, Bool, true, false, if◌then◌else◌, max, List, [], ◌∷◌, ◌++◌, Option, Some, None, length, slice_get, set, refl, sym, ap, ◌∙◌, subst, arith, length-append, length-set}
+use Rattle.std.proofs.Common.{◌≡◌, ℕ, zero, suc, ◌+◌, ◌-◌, ◌*◌, ◌^◌, ◌<◌, ◌≤◌, Bool, true, false, if◌then◌else◌, max, List, [], ◌∷◌, Option, Some, None, length, slice_get, refl, sym, ap, ◌∙◌, subst, arith, length-append, length-set}
 use Rattle.std.specs.List.{All}
 use Rattle.txn_kv.specs.declared.reply.Reply.{Reply}
 use Rattle.txn_kv.specs.declared.request.Request.{Request}
@@ -13,14 +13,14 @@ use Rattle.txn_model.specs.Regions.{at_clock, can_lead, can_split, lead, led_by,
 use Rattle.txn_model.specs.Served.{last_after, last_small, others_stay}
 use Rattle.txn_model.specs.Store.{Store}
 use Rattle.txn_model.specs.Table.{CanServe, table}
-use Rattle.txn_post.specs.Mail.{can_be_served, delivering, found_lasting, found_unserved, keeping, letter_at, losing, refusing, taking, waking}
+use Rattle.txn_post.specs.Mail.{can_be_served, delivering, found_unserved, keeping, letter_at, losing, refusing, taking, waking}
 use Rattle.txn_post.specs.declared.letter.Letter.{Letter}
 use Rattle.txn_report.specs.declared.outcome.Outcome.{Outcome}
 use Rattle.txn_report.specs.declared.outcome.Outcome.TheVariants.{Done, Ok, Skipped, Unfinished}
 use Rattle.txn_report.specs.declared.outcome.Payload.TheVariants.{Unit as Nothing}
 use Rattle.txn_report.specs.declared.report.SentNote.{SentNote}
-use Rattle.txn_side.specs.Sight.{Acts, AskFor, ArePosted, Asks, Goes, Sight, Stand, connected, crash, is_live, line_count, with_stand}
-use Rattle.txn_side.specs.Sight.Stand.{Asking, Calling, HasBegun, Idle, IsClient}
+use Rattle.txn_side.specs.Sight.{Acts, AskFor, ArePosted, Asks, Sight, connected, crash, line_count}
+use Rattle.txn_side.specs.Sight.Stand.{Asking, HasBegun, Idle}
 use Rattle.txn_side.specs.declared.act.Act.{Act}
 use Rattle.txn_side.specs.declared.act.Act.TheVariants as acts
 use Rattle.txn_side.specs.declared.turn.Ending.{Ending}
@@ -28,7 +28,7 @@ use Rattle.txn_side.specs.declared.turn.Posting.{Posting}
 use Rattle.txn_side.specs.declared.turn.Turn.{Turn}
 use Rattle.txn_machine.specs.Lists.{Lists, all_ended, all_posted, at_line, ended_at, fated, followed, handled, newest, opened, outright, reply_at, request_in, with_mail, with_sight, with_store}
 use Rattle.txn_machine.specs.Running.{AreNumbered, CameInOrder, IsEven, IsFine, IsOrdered, IsSound}
-use Rattle.txn_machine.specs.Steps.{Answers, AtPlace, Calls, Delivers, Hears, IfServable, IsBusy, Refuses, Serves, Steps, Takes, called, done_if, found_asleep, found_out, skipped}
+use Rattle.txn_machine.specs.Steps.{Answers, AtPlace, Calls, Delivers, Hears, IfServable, IsBusy, Refuses, Serves, Steps, Takes, called, found_asleep, found_out, skipped}
 use Rattle.txn_machine.proofs.Coming.{order_all, order_opened}
 use Rattle.txn_machine.proofs.Numbers.{asks_all, lines_stay, mail_all, numbered_all, numbered_opened}
 use Rattle.txn_post.proofs.Mails.{changed_is_mail, opened_is_mail, waked_is_mail}

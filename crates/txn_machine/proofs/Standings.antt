@@ -1,5 +1,5 @@
 -- A machine stands for its lines, and for one more after each step.
-use Rattle.std.proofs.Common.{◌≡◌, ℕ, zero, suc, ◌+◌, ◌^◌, ◌<◌, ◌≤◌, Bool, true, false, if◌then◌else◌, List, [], ◌∷◌, Option, Some, None, length, reverse, nat_le, nat_lt, refl, sym, ap, ◌∙◌, subst, arith}
+use Rattle.std.proofs.Common.{◌≡◌, ℕ, zero, suc, ◌+◌, ◌^◌, ◌<◌, ◌≤◌, inl, inr, Bool, true, false, if◌then◌else◌, List, [], ◌∷◌, Option, Some, None, length, reverse, nat_le, nat_lt, refl, sym, ap, ◌∙◌, subst, arith}
 use Rattle.std.proofs.lemmas.Bool.Decides.{nat_tests}
 use Rattle.txn_lines.specs.Kinds.{kinds_of}
 use Rattle.txn_lines.specs.Lines.{clients_in, clock_in, max_clock, max_lines, named_by, or_else, why_after, why_alone, why_clock, why_named}
@@ -20,12 +20,14 @@ use Rattle.txn_machine.specs.Rows.{Caused, Fate, IsNoRow, Row, outcome_in, role_
 use Rattle.txn_machine.specs.Rows.Row.{Acted, AskFailed, AskSkipped, AskWaits, Begun, CallFailed, CallSkipped, CallWaits, Happened, Made, Over, Timed, Works}
 use Rattle.txn_machine.specs.Running.{HasMemory, IsFine, IsOrdered, IsReportOf, Standing, StandsFor, closed, lists_of}
 use Rattle.txn_machine.specs.Steps.{Does, Steps}
+use Rattle.txn_machine.specs.Told.{ArePast}
 use Rattle.txn_machine.specs.declared.machine.Machine.{Machine}
 use Rattle.txn_machine.specs.Script.{FoldsLines, Folded, history, outcome_of, served_tickets, waits}
 use Rattle.txn_law.specs.Run.{store_after}
 use Rattle.txn_machine.proofs.Keepings.{caused_step}
 use Rattle.txn_machine.proofs.Coming.{none_in_order}
 use Rattle.txn_machine.proofs.Folds.{folded_step}
+use Rattle.txn_machine.proofs.Numberings.{has_line}
 use Rattle.txn_machine.proofs.Orders.{Stays, opened_count, opened_keeps, steps_keep}
 use Rattle.txn_machine.specs.declared.done.Done.{Done as Course}
 
@@ -119,6 +121,7 @@ caused_nothing = record {
   calls = tt;
   events = tt;
   fates = record { fates = λ t. subst (λ o. Fate [] no_mail t o) (sym (nothing_named t)) (record { sent = refl; kept = refl; taken = refl; refused = refl; lost = refl }, refl); slept = tt };
+  owned = record { owner = λ t p h. absurd (let e = sym (nothing_named t) ∙ h in cc) };
 }
 
 pub new_stands : {S : Type 0} (sight : S → Sight) (ready : S → Type 0) (m : Machine S) → m.store ≡ opening → m.post ≡ no_mail → sight m.clients ≡ nobody → m.outcomes.items ≡ [] → m.ended.items ≡ [] → m.served.items ≡ [] → m.kinds ≡ kinds_of [] → ready m.clients → StandsFor sight ready m []
@@ -172,6 +175,12 @@ broken_stands sight ready m line before broken good = record {
 
 -- What the code of a step rests on.
 
+pub caused_past : (l : Lists) (script : List Line) → Caused script l → newest l ≡ length script → ArePast l
+caused_past l script caused told k = elim (has_line script k) [
+  | inl h ↦ (let a = (caused.rows.none k h).ended in omega arith)
+  | inr h ↦ (let a = (caused.rows.ended k h.0 h.1).within in omega arith)
+]
+
 pub opened_ordered : (l m : Lists) → m ≡ opened l → newest l < max_lines → IsOrdered l → IsOrdered m
 opened_ordered l m e room h = subst (λ x. IsOrdered x) (sym e) (opened_keeps l room h).ordered
 
@@ -197,14 +206,14 @@ row_answers : (r : Row) → answers (role_in r) (outcome_in r) ≡ true
 row_answers (Made c) = refl
 row_answers (AskWaits b k c) = refl
 row_answers (Begun k v c m) = refl
-row_answers (Timed k v) = refl
-row_answers (AskFailed b k e) = refl
+row_answers (Timed k v c) = refl
+row_answers (AskFailed b k c e) = refl
 row_answers (AskSkipped b k) = refl
 row_answers (CallWaits b x c) = refl
-row_answers (Acted x) = refl
-row_answers (Over x v) = refl
+row_answers (Acted x c) = refl
+row_answers (Over x v c) = refl
 row_answers (Works x v c) = refl
-row_answers (CallFailed b x e) = refl
+row_answers (CallFailed b x c e) = refl
 row_answers (CallSkipped b x) = refl
 row_answers (Happened true) = refl
 row_answers (Happened false) = refl

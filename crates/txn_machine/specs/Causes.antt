@@ -1,6 +1,6 @@
 -- When each outcome comes: by the lines before, by what was known of them, and by what had happened. Lines stand here with the
 -- newest first.
-use Rattle.std.specs.Prelude.{◌≡◌, ◌⊎◌, ℕ, ◌<◌, ◌≤◌, Bool, true, false, not, ◌&&◌, ◌||◌, if◌then◌else◌, List, [], ◌∷◌, length, Option, Some, None, is_some, nat_eq, nat_lt, slice_index_or}
+use Rattle.std.specs.Prelude.{◌≡◌, ℕ, ◌<◌, ◌≤◌, Bool, true, false, not, ◌&&◌, ◌||◌, if◌then◌else◌, List, [], ◌∷◌, length, Option, Some, None, is_some, nat_eq, nat_lt, slice_index_or}
 use Rattle.std.proofs.Common.{zero, suc}
 use Rattle.txn_kv.specs.declared.request.Request.{Request}
 use Rattle.txn_kv.specs.declared.ticket.Ticket.{Ticket}
@@ -140,9 +140,9 @@ TellsLines script report = AreTold script report.outcomes report.ended
 
 -- Ends.
 
--- in the step of such a line calls may end: of a line that tells the clients something and is done, or of a call that is made
+-- in the step of such a line calls of earlier lines may end: it tells the clients something, and is done
 abbrev pub can_end : Line → Outcome → Bool
-can_end line o = tells line && is_done o || may_wait (role_of line) && not (is_skipped o)
+can_end line o = tells line && is_done o
 
 -- line e is such a line
 abbrev pub ends_at : List Line → (ℕ → Outcome) → ℕ → Bool
@@ -260,33 +260,15 @@ is_refusable es t = can_refuse (sent_request es t)
 abbrev pub hears : (ℕ → Outcome) → List Line → Ticket → Bool
 hears seen before t = not (is_crashed seen before (client_of before t.line))
 
--- a client, a transaction that has begun or may begin, or a call that waits
-abbrev pub is_there : Role → Outcome → Bool
-is_there MakesClient o = true
-is_there (AsksTime true client) o = is_ok o || is_unfinished o
-is_there (AsksTime false client) o = is_unfinished o
-is_there (UsesTransaction commits x) o = is_unfinished o
-is_there NoCall o = false
-
--- such stands at line n
-abbrev pub stands_at : List Line → (ℕ → Outcome) → ℕ → Bool
-stands_at [] seen n = false
-stands_at (line ∷ before) seen n = if nat_eq (length (line ∷ before)) n then is_there (role_of line) (seen n) else stands_at before seen n
-
--- What the clients are told is done just where it can be; but where a line's call is over, it may be skipped all the same.
-abbrev pub IsTold : Bool → Bool → Outcome → Type 0
-IsTold true can o = o ≡ done_if can
-IsTold false can o = (o ≡ Skipped) ⊎ (o ≡ done_if can)
-
 -- an event is done just where it can be, and else skipped; of some tickets a sleep began before
 abbrev pub EventMeets : (Ticket → Bool) → (ℕ → Outcome) → List Line → List Event → Line → Outcome → Type 0
 EventMeets asleep seen before es lines.Blank o = o ≡ Done
 EventMeets asleep seen before es (lines.Serve t) o = o ≡ done_if (is_servable es t)
-EventMeets asleep seen before es (lines.Answer t) o = IsTold (stands_at before seen t.line) (hears seen before t && (is_awaited es t && is_served es t)) o
-EventMeets asleep seen before es (lines.Deliver t) o = IsTold (stands_at before seen t.line) (hears seen before t && (is_awaited es t && is_servable es t)) o
-EventMeets asleep seen before es (lines.Lose t) o = IsTold (stands_at before seen t.line) (hears seen before t && is_awaited es t) o
-EventMeets asleep seen before es (lines.Busy t) o = IsTold (stands_at before seen t.line) (hears seen before t && (is_awaited es t && (is_servable es t && is_refusable es t))) o
-EventMeets asleep seen before es (lines.Wake t) o = IsTold (stands_at before seen t.line) (hears seen before t && (asleep t && not (is_woken es t))) o
+EventMeets asleep seen before es (lines.Answer t) o = o ≡ done_if (hears seen before t && (is_awaited es t && is_served es t))
+EventMeets asleep seen before es (lines.Deliver t) o = o ≡ done_if (hears seen before t && (is_awaited es t && is_servable es t))
+EventMeets asleep seen before es (lines.Lose t) o = o ≡ done_if (hears seen before t && is_awaited es t)
+EventMeets asleep seen before es (lines.Busy t) o = o ≡ done_if (hears seen before t && (is_awaited es t && (is_servable es t && is_refusable es t)))
+EventMeets asleep seen before es (lines.Wake t) o = o ≡ done_if (hears seen before t && (asleep t && not (is_woken es t)))
 EventMeets asleep seen before es (lines.Split key) o = o ≡ done_if (can_split (store_after es) key)
 EventMeets asleep seen before es (lines.Lead region store) o = o ≡ done_if (can_lead (store_after es) region store)
 EventMeets asleep seen before es (lines.Clock ms) o = o ≡ Done

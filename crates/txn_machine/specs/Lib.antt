@@ -6,3 +6,4 @@ pub mod Rows
 pub mod Running
 pub mod Script
 pub mod Steps
+pub mod Told

@@ -16,7 +16,7 @@ use Rattle.txn_report.specs.declared.outcome.Outcome.TheVariants.{Ok, Err, Unfin
 use Rattle.txn_report.specs.declared.outcome.Payload.TheVariants.{Unit as Nothing, Number, Commit as Committed}
 use Rattle.txn_report.specs.declared.report.SleepNote.{SleepNote}
 use Rattle.txn_side.specs.Sight.{Stand, client_at, stand_at}
-use Rattle.txn_side.specs.Sight.Stand.{Asking, Calling, HasBegun, Idle, IsClient, Working}
+use Rattle.txn_side.specs.Sight.Stand.{Asking, Calling, HasBegun, Idle, IsClient, Past, Working}
 use Rattle.txn_machine.specs.Causes.{AllCallsMeet, AllEnd, AllEventsMeet, AllLive, Role, client_of, ended_of, is_crashed, is_woken, role_of}
 use Rattle.txn_machine.specs.Causes.Role.{AsksTime, MakesClient, NoCall, UsesTransaction}
 use Rattle.txn_machine.specs.Lists.{Lists, request_in}
@@ -27,15 +27,15 @@ pub data Row : Type 0 where
   Made : (client : ℕ) → Row
   AskWaits : (begins : Bool) (line client : ℕ) → Row
   Begun : (line version client waits : ℕ) → Row
-  Timed : (line version : ℕ) → Row
-  AskFailed : (begins : Bool) (line : ℕ) (error : Error) → Row
+  Timed : (line version client : ℕ) → Row
+  AskFailed : (begins : Bool) (line client : ℕ) (error : Error) → Row
   AskSkipped : (begins : Bool) (line : ℕ) → Row
   CallWaits : (commits : Bool) (transaction client : ℕ) → Row
-  Acted : (transaction : ℕ) → Row
+  Acted : (transaction client : ℕ) → Row
   -- a commit that left nothing, or a job
-  Over : (transaction : ℕ) (version : Option ℕ) → Row
+  Over : (transaction : ℕ) (version : Option ℕ) (client : ℕ) → Row
   Works : (transaction : ℕ) (version : Option ℕ) (client : ℕ) → Row
-  CallFailed : (commits : Bool) (transaction : ℕ) (error : Error) → Row
+  CallFailed : (commits : Bool) (transaction client : ℕ) (error : Error) → Row
   CallSkipped : (commits : Bool) (transaction : ℕ) → Row
   Happened : (done : Bool) → Row
 
@@ -43,14 +43,14 @@ abbrev pub role_in : Row → Role
 role_in (Made c) = MakesClient
 role_in (AskWaits b k c) = AsksTime b k
 role_in (Begun k v c m) = AsksTime true k
-role_in (Timed k v) = AsksTime false k
-role_in (AskFailed b k e) = AsksTime b k
+role_in (Timed k v c) = AsksTime false k
+role_in (AskFailed b k c e) = AsksTime b k
 role_in (AskSkipped b k) = AsksTime b k
 role_in (CallWaits b x c) = UsesTransaction b x
-role_in (Acted x) = UsesTransaction false x
-role_in (Over x v) = UsesTransaction true x
+role_in (Acted x c) = UsesTransaction false x
+role_in (Over x v c) = UsesTransaction true x
 role_in (Works x v c) = UsesTransaction true x
-role_in (CallFailed b x e) = UsesTransaction b x
+role_in (CallFailed b x c e) = UsesTransaction b x
 role_in (CallSkipped b x) = UsesTransaction b x
 role_in (Happened d) = NoCall
 
@@ -58,14 +58,14 @@ abbrev pub outcome_in : Row → Outcome
 outcome_in (Made c) = Ok Nothing
 outcome_in (AskWaits b k c) = Unfinished
 outcome_in (Begun k v c m) = Ok (Number v)
-outcome_in (Timed k v) = Ok (Number v)
-outcome_in (AskFailed b k e) = Err e
+outcome_in (Timed k v c) = Ok (Number v)
+outcome_in (AskFailed b k c e) = Err e
 outcome_in (AskSkipped b k) = Skipped
 outcome_in (CallWaits b x c) = Unfinished
-outcome_in (Acted x) = Ok Nothing
-outcome_in (Over x v) = Ok (Committed v)
+outcome_in (Acted x c) = Ok Nothing
+outcome_in (Over x v c) = Ok (Committed v)
 outcome_in (Works x v c) = Ok (Committed v)
-outcome_in (CallFailed b x e) = Err e
+outcome_in (CallFailed b x c e) = Err e
 outcome_in (CallSkipped b x) = Skipped
 outcome_in (Happened d) = if d then Done else Skipped
 
@@ -73,14 +73,14 @@ abbrev pub stand_in : Row → Stand
 stand_in (Made c) = IsClient c
 stand_in (AskWaits b k c) = Asking c b
 stand_in (Begun k v c m) = HasBegun c m
-stand_in (Timed k v) = Idle
-stand_in (AskFailed b k e) = Idle
+stand_in (Timed k v c) = Past c
+stand_in (AskFailed b k c e) = Past c
 stand_in (AskSkipped b k) = Idle
 stand_in (CallWaits b x c) = Calling c x b
-stand_in (Acted x) = Idle
-stand_in (Over x v) = Idle
+stand_in (Acted x c) = Past c
+stand_in (Over x v c) = Past c
 stand_in (Works x v c) = Working c
-stand_in (CallFailed b x e) = Idle
+stand_in (CallFailed b x c e) = Past c
 stand_in (CallSkipped b x) = Idle
 stand_in (Happened d) = Idle
 
@@ -146,6 +146,10 @@ pub record AreFates (es : List Event) (n : ℕ) (mail : Mail) : Type 0 where
   -- no sleep began in line n or later
   pub slept : AllSleptBefore n mail.sleeps
 
+-- what was posted is of lines that have a client
+pub record AreOwned (mail : Mail) (stands : List Stand) : Type 0 where
+  pub owner : (t : Ticket) (p : Place) → place_of mail.tickets t ≡ Some p → (c : ℕ) × (client_at (stand_at stands t.line) ≡ Some c)
+
 -- the lists of a machine after these lines
 pub record Caused (script : List Line) (l : Lists) : Type 0 where
   pub rows : AreRows script (λ n. outcome_of l.outcomes n) (λ n. ended_of l.ended n) (λ n. stand_at l.sight.stands n) l.sight.crashed
@@ -153,3 +157,4 @@ pub record Caused (script : List Line) (l : Lists) : Type 0 where
   pub calls : AllCallsMeet l.outcomes l.ended script
   pub events : AllEventsMeet l.mail.sent l.mail.sleeps l.outcomes l.ended script
   pub fates : AreFates (history l.mail.sent l.outcomes script) (suc (length script)) l.mail
+  pub owned : AreOwned l.mail l.sight.stands

@@ -96,6 +96,12 @@ pub record StandsFor {S : Type 0} (sight : S → Sight) (ready : S → Type 0) (
   pub stands : HasMemory m → Standing sight ready m lines
   pub few : length lines ≤ max_lines
 
+-- the machine stands for some lines, and memory was never wanting
+pub record Stands {S : Type 0} (sight : S → Sight) (ready : S → Type 0) (m : Machine S) : Type 0 where
+  pub memory : HasMemory m
+  pub lines : List Line
+  pub stands : StandsFor sight ready m lines
+
 -- the machine stands for some lines after which this line is not bad
 pub record CanStep {S : Type 0} (sight : S → Sight) (ready : S → Type 0) (m : Machine S) (line : Line) : Type 0 where
   pub lines : List Line

@@ -17,7 +17,7 @@ use Rattle.txn_report.specs.declared.outcome.Outcome.TheVariants.{Ok, Err, Unfin
 use Rattle.txn_report.specs.declared.report.Report.{Report}
 use Rattle.txn_report.specs.declared.report.SentNote.{SentNote}
 use Rattle.txn_side.specs.Sight.{Stand, stand_at}
-use Rattle.txn_side.specs.Sight.Stand.{Asking, Calling, HasBegun, Idle, IsClient, Working}
+use Rattle.txn_side.specs.Sight.Stand.{Asking, Calling, HasBegun, Idle, IsClient, Past, Working}
 use Rattle.txn_machine.specs.Lists.{Lists}
 
 -- the outcome of a line, by its number
@@ -127,6 +127,7 @@ waits (IsClient c) = false
 waits (Asking c b) = true
 waits (HasBegun c m) = false
 waits (Calling c x b) = true
+waits (Past c) = false
 waits (Working c) = false
 
 -- no line whose call waits is done

@@ -1,5 +1,5 @@
 -- What each line does.
-use Rattle.std.specs.Prelude.{◌≡◌, ℕ, ◌&&◌, Bool, true, false, if◌then◌else◌, List, [], Option, Some, None}
+use Rattle.std.specs.Prelude.{◌≡◌, ℕ, Bool, true, false, if◌then◌else◌, List, [], Option, Some, None}
 use Rattle.txn_kv.specs.declared.reply.Reply.{Reply}
 use Rattle.txn_kv.specs.declared.ticket.Ticket.{Ticket}
 use Rattle.txn_history.specs.Busy.{busy_reply}
@@ -33,6 +33,10 @@ called (Some turn) l = followed turn.posted.items turn.ended.items l
 abbrev pub posted_in : Option Turn → List Posting
 posted_in None = []
 posted_in (Some turn) = turn.posted.items
+
+abbrev pub ended_in : Option Turn → List Ending
+ended_in None = []
+ended_in (Some turn) = turn.ended.items
 
 -- the clients do so, and the line is a call that they begin, or skip
 pub record Calls (Begins : Sight → Sight → Option Turn → Type 0) (l new : Lists) : Type 0 where

@@ -1,13 +1,16 @@
+ghost use Rattle.std.specs.List.Sorted.{IsNonDecreasing, IsPermutation};
 ghost use Rattle.std.specs.Prelude.{◌≡◌, ◌+◌, ◌++◌, ◌∷◌, ◌<◌, ◌≤◌, [], IfOk, List, OnErr, OnOk, None, Some, length, map};
 ghost use Rattle.txn_lines.specs.Kinds.{kinds_of};
 ghost use Rattle.txn_lines.specs.Lines.{max_lines, why_after};
 ghost use Rattle.txn_machine.specs.Causes.{CallsMeetLines, EndsLines, EventsMeetLines, LivesLines, TellsLines};
 ghost use Rattle.txn_machine.specs.Lists.{Lists, all_ended, all_posted, ended_at, newest, opened, outright, posted_at, with_mail};
 ghost use Rattle.txn_machine.specs.Notes.{AreNoted};
-ghost use Rattle.txn_machine.specs.Running.{CanClose, CanPost, CanStep, HasMemory, IsEven, IsFine, IsOrdered, IsReportOf, StandsFor, LedTo, closed, lists_of, outs_at, outs_until, with_own};
-ghost use Rattle.txn_machine.specs.Script.{FoldsLines};
-ghost use Rattle.txn_machine.specs.Steps.{Calls, Does, Steps, called, posted_in};
+ghost use Rattle.txn_machine.specs.Running.{CanClose, CanPost, CanStep, HasMemory, IsEven, IsFine, IsOrdered, IsReportOf, LedTo, Stands, StandsFor, closed, lists_of, outs_at, outs_until, with_own};
+ghost use Rattle.txn_machine.specs.Script.{FoldsLines, outcome_of};
+ghost use Rattle.txn_machine.specs.Steps.{Calls, Does, Steps, called, ended_in, posted_in};
+ghost use Rattle.txn_machine.specs.Told.{ArePast, CanTell, IsNote, IsNoteOf, OwnEnds, ending_at, view_of_ending};
 ghost use Rattle.txn_post.specs.Mail.{IsNext};
+ghost use Rattle.txn_report.specs.OutcomeView.{view_of_outcome};
 ghost use Rattle.txn_side.specs.Sight.{Acts, nobody, ticket_in};
 
 mod events;
@@ -97,6 +100,7 @@ impl<S: ClientSide> Machine<S> {
         ensures stands { (lines : List Line) → StandsFor S.sight S.ready self.old lines → why_after lines line ≡ None → StandsFor S.sight S.ready self.new (line ∷ lines) }
         ensures memory { OnOk result (HasMemory self.old × HasMemory self.new) }
         ensures broken { OnErr result (HasMemory self.new → ⊥) }
+        ensures note { IfOk result (λ note. IsNote (lists_of S.sight self.new) note) }
     {
         if self.broken {
             return Err(NoMemory);
@@ -119,9 +123,11 @@ impl<S: ClientSide> Machine<S> {
         requires ordered { IsOrdered (lists_of S.sight self.old) }
         requires room { newest (lists_of S.sight self.old) < max_lines }
         requires fine { IsFine line }
+        requires past { ArePast (lists_of S.sight self.old) }
         ensures lists { OnOk result (Steps line (lists_of S.sight self.old) (lists_of S.sight self.new)) }
         ensures ready { OnOk result (S.ready self.new.clients) }
         ensures kinds { OnOk result ((lines : List Line) → self.old.kinds ≡ kinds_of lines → self.new.kinds ≡ kinds_of (line ∷ lines)) }
+        ensures note { IfOk result (λ note. IsNote (lists_of S.sight self.new) note) }
     {
         // The run of a line does not look at the kinds of the earlier ones: they stand apart while it lasts.
         let mut kinds = replace(&mut self.kinds, LineKinds::new(self.alloc));
@@ -161,6 +167,7 @@ impl<S: ClientSide> Machine<S> {
         requires fine { IsFine line }
         ensures does { IfOk result (λ done. Does line (lists_of S.sight self.old) (closed done (lists_of S.sight self.new))) }
         ensures can { IfOk result (λ done. CanClose done (lists_of S.sight self.new)) }
+        ensures tells { IfOk result (λ done. CanTell (lists_of S.sight self.old) done (lists_of S.sight self.new)) }
         ensures ready { OnOk result (S.ready self.new.clients) }
     {
         match line {
@@ -203,6 +210,8 @@ impl<S: ClientSide> Machine<S> {
     fn outright(&self, outcome: Outcome) -> Done
         ensures closed { (l : Lists) → closed result l ≡ outright outcome l }
         ensures nothing { result.turn.posted.items ≡ [] }
+        ensures outcome { result.outcome ≡ Some outcome }
+        ensures ended { result.turn.ended.items ≡ [] }
     {
         Done {
             outcome: Some(outcome),
@@ -214,6 +223,8 @@ impl<S: ClientSide> Machine<S> {
     fn called(&self, turn: Option<Turn>) -> Done
         ensures closed { (l : Lists) → closed result l ≡ called turn l }
         ensures posted { result.turn.posted.items ≡ posted_in turn }
+        ensures own { OwnEnds result.outcome }
+        ensures ended { result.turn.ended.items ≡ ended_in turn }
     {
         match turn {
             None => self.outright(Outcome::Skipped),
@@ -231,6 +242,7 @@ impl<S: ClientSide> Machine<S> {
         requires some { 1 ≤ newest (lists_of S.sight self.old) }
         ensures does { IfOk result (λ done. Does Line.Client (lists_of S.sight self.old) (closed done (lists_of S.sight self.new))) }
         ensures can { IfOk result (λ done. CanClose done (lists_of S.sight self.new)) }
+        ensures tells { IfOk result (λ done. CanTell (lists_of S.sight self.old) done (lists_of S.sight self.new)) }
         ensures ready { OnOk result (S.ready self.new.clients) }
     {
         self.clients.connect(self.store.clock())?;
@@ -248,6 +260,7 @@ impl<S: ClientSide> Machine<S> {
         requires some { 1 ≤ newest (lists_of S.sight self.old) }
         ensures does { IfOk result (λ done. Does (Line.Begin client options) (lists_of S.sight self.old) (closed done (lists_of S.sight self.new))) }
         ensures can { IfOk result (λ done. CanClose done (lists_of S.sight self.new)) }
+        ensures tells { IfOk result (λ done. CanTell (lists_of S.sight self.old) done (lists_of S.sight self.new)) }
         ensures ready { OnOk result (S.ready self.new.clients) }
     {
         let now = self.store.clock();
@@ -261,6 +274,7 @@ impl<S: ClientSide> Machine<S> {
         requires some { 1 ≤ newest (lists_of S.sight self.old) }
         ensures does { IfOk result (λ done. Does (Line.Timestamp client) (lists_of S.sight self.old) (closed done (lists_of S.sight self.new))) }
         ensures can { IfOk result (λ done. CanClose done (lists_of S.sight self.new)) }
+        ensures tells { IfOk result (λ done. CanTell (lists_of S.sight self.old) done (lists_of S.sight self.new)) }
         ensures ready { OnOk result (S.ready self.new.clients) }
     {
         let turn = self.clients.timestamp(client, self.store.clock())?;
@@ -274,6 +288,7 @@ impl<S: ClientSide> Machine<S> {
         requires some { 1 ≤ newest (lists_of S.sight self.old) }
         ensures does { IfOk result (λ done. Calls (Acts act transaction) (lists_of S.sight self.old) (closed done (lists_of S.sight self.new))) }
         ensures can { IfOk result (λ done. CanClose done (lists_of S.sight self.new)) }
+        ensures tells { IfOk result (λ done. CanTell (lists_of S.sight self.old) done (lists_of S.sight self.new)) }
         ensures ready { OnOk result (S.ready self.new.clients) }
     {
         let turn = self.clients.act(transaction, act, self.store.clock())?;
@@ -284,6 +299,7 @@ impl<S: ClientSide> Machine<S> {
     fn close(&mut self, done: Done) -> Result<StepNote, NoMemory>
         requires { CanClose done (lists_of S.sight self.old) }
         ensures lists { OnOk result (lists_of S.sight self.new ≡ closed done (lists_of S.sight self.old)) }
+        ensures note { IfOk result (λ note. IsNoteOf done (lists_of S.sight self.old) (lists_of S.sight self.new) note) }
         ensures clients { OnOk result (self.new.clients ≡ self.old.clients) }
     {
         let line = self.newest();
@@ -350,6 +366,8 @@ impl<S: ClientSide> Machine<S> {
     /// The calls ended in the step of the newest line. Gives their lines, in order.
     fn end_all(&mut self, ended: Vec<Ending>) -> Result<Vec<u64>, NoMemory>
         ensures lists { OnOk result (lists_of S.sight self.new ≡ all_ended ended.items (lists_of S.sight self.old)) }
+        ensures moved { IfOk result (λ lines. IsPermutation (map (λ e. e.line) ended.items) lines.items) }
+        ensures rises { IfOk result (λ lines. IsNonDecreasing lines.items) }
         ensures clients { OnOk result (self.new.clients ≡ self.old.clients) }
     {
         let mut lines = Vec::new(self.alloc);
@@ -362,7 +380,9 @@ impl<S: ClientSide> Machine<S> {
     }
 
     /// The outcome of a line so far.
-    fn outcome_of(&self, line: u64) -> Result<Outcome, NoMemory> {
+    fn outcome_of(&self, line: u64) -> Result<Outcome, NoMemory>
+        ensures { IfOk result (λ outcome. view_of_outcome outcome ≡ view_of_outcome (outcome_of self.now.outcomes.items line)) }
+    {
         if line == 0 {
             return Ok(Outcome::Unfinished);
         }
@@ -373,7 +393,9 @@ impl<S: ClientSide> Machine<S> {
     }
 
     /// What the calls of these lines answered.
-    fn endings(&self, lines: Vec<u64>) -> Result<Items<Ending>, NoMemory> {
+    fn endings(&self, lines: Vec<u64>) -> Result<Items<Ending>, NoMemory>
+        ensures { IfOk result (λ endings. map view_of_ending endings ≡ map (λ line. ending_at self.now.outcomes.items line) lines.items) }
+    {
         let mut endings = Items::new(self.alloc);
         for line in lines {
             endings.push(Ending {
@@ -398,7 +420,7 @@ impl<S: ClientSide> Machine<S> {
 
     /// Every ticket that is out, by line and number.
     pub fn outs(&self) -> Result<Vec<Ticket>, NoMemory>
-        requires { IsEven (lists_of S.sight self.now) }
+        requires { Stands S.sight S.ready self.now }
         ensures { IfOk result (λ outs. outs.items ≡ outs_until (lists_of S.sight self.now) (newest (lists_of S.sight self.now))) }
     {
         let mut outs = Vec::new(self.alloc);
@@ -411,6 +433,7 @@ impl<S: ClientSide> Machine<S> {
     /// The report of the lines that the machine stands for. Takes no memory.
     pub fn report(self) -> Report
         requires { HasMemory self }
+        ensures own { IsReportOf (lists_of S.sight self) result }
         ensures lists { (lines : List Line) → StandsFor S.sight S.ready self lines → (l : Lists) × LedTo lines l × IsReportOf l result }
         ensures folded { (lines : List Line) → StandsFor S.sight S.ready self lines → FoldsLines lines result }
         ensures told { (lines : List Line) → StandsFor S.sight S.ready self lines → TellsLines lines result }

@@ -28,7 +28,9 @@ pub data Stand : Type 0 where
   HasBegun : (client waits : ℕ) → Stand
   -- a call of the transaction of a line waits, which commits or does something else
   Calling : (client transaction : ℕ) (commits : Bool) → Stand
-  -- a job goes on behind a commit
+  -- a call that is over
+  Past : (client : ℕ) → Stand
+  -- a job goes on behind a commit, or is over
   Working : (client : ℕ) → Stand
 
 -- which clients have crashed; what stands at each line; and the number of the next request or sleep of each
@@ -53,6 +55,7 @@ client_at (IsClient c) = Some c
 client_at (Asking c b) = Some c
 client_at (HasBegun c m) = Some c
 client_at (Calling c x b) = Some c
+client_at (Past c) = Some c
 client_at (Working c) = Some c
 
 abbrev pub lives : List Bool → Option ℕ → Bool
@@ -135,15 +138,15 @@ outcomes_of n ended = map (λ e. e.outcome) (filter (λ e. nat_eq e.line n) ende
 -- A timestamp was given, at which a transaction has begun where it was asked for that; or the error is told.
 abbrev pub AskEnds : ℕ → Bool → Outcome → Stand → Type 0
 AskEnds c true (Ok (Number v)) new = new ≡ HasBegun c 0
-AskEnds c false (Ok (Number v)) new = new ≡ Idle
-AskEnds c b (Err e) new = new ≡ Idle
+AskEnds c false (Ok (Number v)) new = new ≡ Past c
+AskEnds c b (Err e) new = new ≡ Past c
 AskEnds c b _ new = ⊥
 
 -- a commit may leave a job
 abbrev pub CallEnds : ℕ → Bool → Outcome → Stand → Type 0
-CallEnds c true (Ok (Committed t)) new = (new ≡ Idle) ⊎ (new ≡ Working c)
-CallEnds c false (Ok Nothing) new = new ≡ Idle
-CallEnds c b (Err e) new = new ≡ Idle
+CallEnds c true (Ok (Committed t)) new = (new ≡ Past c) ⊎ (new ≡ Working c)
+CallEnds c false (Ok Nothing) new = new ≡ Past c
+CallEnds c b (Err e) new = new ≡ Past c
 CallEnds c b _ new = ⊥
 
 -- a call still waits, or ended once
@@ -163,13 +166,14 @@ LineGoes ended n (Calling c x b) new = StaysOrEnds (Calling c x b) (CallEnds c b
 LineGoes ended n (HasBegun c m) new = (outcomes_of n ended ≡ []) × (new ≡ HasBegun c (still_open m (outcomes_of m ended)))
 LineGoes ended n old new = (outcomes_of n ended ≡ []) × (new ≡ old)
 
--- What one step of the clients makes of them, besides what the line itself changed. Nobody crashes, and no call of a client that
--- has crashed ends.
+-- What one step of the clients makes of them, besides what the line itself changed. Nobody crashes, and of a client that has
+-- crashed no line posts anything, and no call ends.
 pub record Goes (posted : List Posting) (ended : List Ending) (old new : Sight) : Type 0 where
   pub crashed : new.crashed ≡ old.crashed
   pub count : length new.stands ≡ length old.stands
   pub lines : (n : ℕ) → LineGoes ended n (stand_at old.stands n) (stand_at new.stands n)
   pub live : All (λ (e : Ending). is_live old e.line ≡ true) ended
+  pub posting : All (λ (p : Posting). is_live old (ticket_in p).line ≡ true) posted
   pub numbers : ArePosted old.nexts posted new.nexts
 
 abbrev pub commits : Act → Bool
@@ -181,14 +185,20 @@ commits (acts.Lock ks) = false
 commits acts.Commit = true
 commits acts.Rollback = false
 
+-- no call ends but that of this line
+abbrev pub EndsAlone : ℕ → List Ending → Type 0
+EndsAlone line ended = All (λ (e : Ending). e.line ≡ line) ended
+
 -- the newest line has begun a call for a timestamp of a line's client
 abbrev pub Asks : Bool → ℕ → Sight → Sight → Option Turn → Type 0
 Asks begins client old new None = (is_live old client ≡ false) × (new ≡ old)
 Asks begins client old new (Some turn) = (c : ℕ) × (client_at (stand_at old.stands client) ≡ Some c) × (is_live old client ≡ true)
     × Goes turn.posted.items turn.ended.items (with_stand (line_count old) (Asking c begins) old) new
+    × EndsAlone (line_count old) turn.ended.items
 
 -- the newest line has begun a call of the transaction of line x
 abbrev pub Acts : Act → ℕ → Sight → Sight → Option Turn → Type 0
 Acts act x old new None = (is_free old x ≡ false) × (new ≡ old)
 Acts act x old new (Some turn) = (c : ℕ) × (stand_at old.stands x ≡ HasBegun c 0) × (is_free old x ≡ true)
     × Goes turn.posted.items turn.ended.items (with_stand (line_count old) (Calling c x (commits act)) (with_stand x (HasBegun c (line_count old)) old)) new
+    × EndsAlone (line_count old) turn.ended.items

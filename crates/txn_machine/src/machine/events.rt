@@ -4,6 +4,7 @@ ghost use Rattle.txn_post.specs.Mail.{IsSentAt, IsSleptAt};
 ghost use Rattle.txn_machine.specs.Lists.{Lists, handled, newest, outright, reply_at};
 ghost use Rattle.txn_machine.specs.Running.{CanClose, IsEven, IsOrdered, closed, lists_of};
 ghost use Rattle.txn_machine.specs.Steps.{Does, Hears, done_if, found_asleep, found_out};
+ghost use Rattle.txn_machine.specs.Told.{CanTell, OwnEnds};
 
 use crate::busy::busy_reply;
 use crate::done::Done;
@@ -18,6 +19,8 @@ impl<S: ClientSide> Machine<S> {
     fn happened(&self, done: bool) -> Done
         ensures closed { (l : Lists) → closed result l ≡ outright (done_if done) l }
         ensures nothing { result.turn.posted.items ≡ [] }
+        ensures own { OwnEnds result.outcome }
+        ensures ended { result.turn.ended.items ≡ [] }
     {
         if done {
             self.outright(Outcome::Done)
@@ -80,6 +83,7 @@ impl<S: ClientSide> Machine<S> {
         requires some { 1 ≤ newest (lists_of S.sight self.old) }
         ensures does { IfOk result (λ done. Does (Line.Serve ticket) (lists_of S.sight self.old) (closed done (lists_of S.sight self.new))) }
         ensures can { IfOk result (λ done. CanClose done (lists_of S.sight self.new)) }
+        ensures tells { IfOk result (λ done. CanTell (lists_of S.sight self.old) done (lists_of S.sight self.new)) }
         ensures ready { OnOk result (S.ready self.new.clients) }
     {
         let Some(place) = self.post.find_unserved(&ticket) else {
@@ -97,6 +101,7 @@ impl<S: ClientSide> Machine<S> {
         requires some { 1 ≤ newest (lists_of S.sight self.old) }
         ensures does { IfOk result (λ done. Does (Line.Answer ticket) (lists_of S.sight self.old) (closed done (lists_of S.sight self.new))) }
         ensures can { IfOk result (λ done. CanClose done (lists_of S.sight self.new)) }
+        ensures tells { IfOk result (λ done. CanTell (lists_of S.sight self.old) done (lists_of S.sight self.new)) }
         ensures ready { OnOk result (S.ready self.new.clients) }
     {
         let Some(place) = self.find_out(&ticket) else {
@@ -115,6 +120,7 @@ impl<S: ClientSide> Machine<S> {
         requires some { 1 ≤ newest (lists_of S.sight self.old) }
         ensures does { IfOk result (λ done. Does (Line.Deliver ticket) (lists_of S.sight self.old) (closed done (lists_of S.sight self.new))) }
         ensures can { IfOk result (λ done. CanClose done (lists_of S.sight self.new)) }
+        ensures tells { IfOk result (λ done. CanTell (lists_of S.sight self.old) done (lists_of S.sight self.new)) }
         ensures ready { OnOk result (S.ready self.new.clients) }
     {
         let Some(place) = self.find_out(&ticket) else {
@@ -135,6 +141,7 @@ impl<S: ClientSide> Machine<S> {
         requires some { 1 ≤ newest (lists_of S.sight self.old) }
         ensures does { IfOk result (λ done. Does (Line.Busy ticket) (lists_of S.sight self.old) (closed done (lists_of S.sight self.new))) }
         ensures can { IfOk result (λ done. CanClose done (lists_of S.sight self.new)) }
+        ensures tells { IfOk result (λ done. CanTell (lists_of S.sight self.old) done (lists_of S.sight self.new)) }
         ensures ready { OnOk result (S.ready self.new.clients) }
     {
         let Some(place) = self.find_out(&ticket) else {
@@ -159,6 +166,7 @@ impl<S: ClientSide> Machine<S> {
         requires some { 1 ≤ newest (lists_of S.sight self.old) }
         ensures hears { IfOk result (λ done. Hears (lists_of S.sight self.old) (closed done (lists_of S.sight self.new))) }
         ensures can { IfOk result (λ done. CanClose done (lists_of S.sight self.new)) }
+        ensures tells { IfOk result (λ done. CanTell (lists_of S.sight self.old) done (lists_of S.sight self.new)) }
         ensures ready { OnOk result (S.ready self.new.clients) }
     {
         let now = self.store.clock();
@@ -173,6 +181,7 @@ impl<S: ClientSide> Machine<S> {
         requires some { 1 ≤ newest (lists_of S.sight self.old) }
         ensures does { IfOk result (λ done. Does (Line.Lose ticket) (lists_of S.sight self.old) (closed done (lists_of S.sight self.new))) }
         ensures can { IfOk result (λ done. CanClose done (lists_of S.sight self.new)) }
+        ensures tells { IfOk result (λ done. CanTell (lists_of S.sight self.old) done (lists_of S.sight self.new)) }
         ensures ready { OnOk result (S.ready self.new.clients) }
     {
         let Some(place) = self.find_out(&ticket) else {
@@ -192,6 +201,7 @@ impl<S: ClientSide> Machine<S> {
         requires some { 1 ≤ newest (lists_of S.sight self.old) }
         ensures does { IfOk result (λ done. Does (Line.Wake ticket) (lists_of S.sight self.old) (closed done (lists_of S.sight self.new))) }
         ensures can { IfOk result (λ done. CanClose done (lists_of S.sight self.new)) }
+        ensures tells { IfOk result (λ done. CanTell (lists_of S.sight self.old) done (lists_of S.sight self.new)) }
         ensures ready { OnOk result (S.ready self.new.clients) }
     {
         let Some(place) = self.find_asleep(&ticket) else {
@@ -208,6 +218,7 @@ impl<S: ClientSide> Machine<S> {
         requires some { 1 ≤ newest (lists_of S.sight self.old) }
         ensures does { IfOk result (λ done. Does (Line.Split key) (lists_of S.sight self.old) (closed done (lists_of S.sight self.new))) }
         ensures can { IfOk result (λ done. CanClose done (lists_of S.sight self.new)) }
+        ensures tells { IfOk result (λ done. CanTell (lists_of S.sight self.old) done (lists_of S.sight self.new)) }
         ensures ready { OnOk result (S.ready self.new.clients) }
     {
         let done = self.store.split(&key)?;
@@ -220,6 +231,7 @@ impl<S: ClientSide> Machine<S> {
         requires some { 1 ≤ newest (lists_of S.sight self.old) }
         ensures does { IfOk result (λ done. Does (Line.Lead region store) (lists_of S.sight self.old) (closed done (lists_of S.sight self.new))) }
         ensures can { IfOk result (λ done. CanClose done (lists_of S.sight self.new)) }
+        ensures tells { IfOk result (λ done. CanTell (lists_of S.sight self.old) done (lists_of S.sight self.new)) }
         ensures ready { OnOk result (S.ready self.new.clients) }
     {
         let done = self.store.lead(region, store);
@@ -233,6 +245,7 @@ impl<S: ClientSide> Machine<S> {
         requires fine { ms < 2 ^ 44 }
         ensures does { IfOk result (λ done. Does (Line.Clock ms) (lists_of S.sight self.old) (closed done (lists_of S.sight self.new))) }
         ensures can { IfOk result (λ done. CanClose done (lists_of S.sight self.new)) }
+        ensures tells { IfOk result (λ done. CanTell (lists_of S.sight self.old) done (lists_of S.sight self.new)) }
         ensures ready { OnOk result (S.ready self.new.clients) }
     {
         self.store.set_clock(ms);
@@ -245,6 +258,7 @@ impl<S: ClientSide> Machine<S> {
         requires some { 1 ≤ newest (lists_of S.sight self.old) }
         ensures does { IfOk result (λ done. Does (Line.Crash client) (lists_of S.sight self.old) (closed done (lists_of S.sight self.new))) }
         ensures can { IfOk result (λ done. CanClose done (lists_of S.sight self.new)) }
+        ensures tells { IfOk result (λ done. CanTell (lists_of S.sight self.old) done (lists_of S.sight self.new)) }
         ensures ready { OnOk result (S.ready self.new.clients) }
     {
         let done = self.clients.crash(client);

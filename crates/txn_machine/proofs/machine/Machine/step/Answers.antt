@@ -1,5 +1,6 @@
 use Rattle.std.proofs.Common.{refl}
-use Rattle.txn_machine.proofs.Standings.{broken_stands, few_lines, good_fine, step_stands}
+use Rattle.txn_machine.specs.Running.{lists_of}
+use Rattle.txn_machine.proofs.Standings.{broken_stands, caused_past, few_lines, good_fine, step_stands}
 use Rattle.txn_machine.proofs.machine.Machine.step.Goals as goal
 
 pub try_step-requires-clause-ordered : goal.try_step-requires-clause-ordered
@@ -13,6 +14,9 @@ try_step-requires-clause-room g c = few_lines g.S.ClientSide.sight g.S.ClientSid
 
 pub try_step-requires-clause-fine : goal.try_step-requires-clause-fine
 try_step-requires-clause-fine g c = good_fine c.requires.lines c.args.line c.requires.good
+
+pub try_step-requires-clause-past : goal.try_step-requires-clause-past
+try_step-requires-clause-past g c = let s = c.requires.stands.stands (record { whole = c.if-self.false }) in caused_past (lists_of g.S.ClientSide.sight c.args.self.now) c.requires.lines s.caused s.told
 
 pub returns-then-self-clause-stands : goal.returns-then-self-clause-stands
 returns-then-self-clause-stands g c lines s good = broken_stands g.S.ClientSide.sight g.S.ClientSide.ready _ c.args.line lines c.if-self.true good

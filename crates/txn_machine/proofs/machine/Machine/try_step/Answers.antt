@@ -1,5 +1,6 @@
 use Rattle.txn_machine.specs.Running.{lists_of}
 use Rattle.txn_machine.proofs.Standings.{opened_ordered, opened_some, step_lists}
+use Rattle.txn_machine.proofs.Telling.{note_is}
 use Rattle.txn_machine.proofs.machine.Machine.try_step.Goals as goal
 
 pub run-requires-clause-ordered : goal.run-requires-clause-ordered
@@ -10,3 +11,6 @@ run-requires-clause-some g c = opened_some (lists_of g.S.ClientSide.sight c.args
 
 pub returns-clause-lists : goal.returns-clause-lists
 returns-clause-lists g c = step_lists c.args.line (lists_of g.S.ClientSide.sight c.args.self.now) _ _ _ c.in_ok-done.done c.in_ok-open.ensures.lists c.in_ok-done.ensures.does c.in_ok-note.ensures.lists
+
+pub returns-clause-note : goal.returns-clause-note
+returns-clause-note g c = note_is (lists_of g.S.ClientSide.sight c.args.self.now) _ _ _ c.in_ok-done.done c.in_ok-note.note c.in_ok-open.ensures.lists c.in_ok-note.ensures.lists c.requires.ordered c.requires.past c.in_ok-done.ensures.tells c.in_ok-note.ensures.note
