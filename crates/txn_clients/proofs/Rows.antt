@@ -1,0 +1,148 @@
+-- What the calls at the lines post and answer.
+use Rattle.std.proofs.Common.{◌≡◌, ℕ, Bool, true, false, List, [], Option, Some, None, refl, sym, ap, ◌∙◌, subst, append-nil}
+use Rattle.std.specs.Prelude.{IfSome, Result, Ok, Err}
+use Rattle.txn_kv.specs.declared.errors.Error.{Error}
+use Rattle.txn_kv.specs.declared.request.Request.{Request}
+use Rattle.txn_kv.specs.declared.ticket.Ticket.{Ticket}
+use Rattle.txn_kv.specs.declared.timestamp.Timestamp.{Timestamp}
+use Rattle.txn_history.specs.Event.{Event}
+use Rattle.txn_history.specs.Meaning.{Goes}
+use Rattle.txn_history.specs.Moves.{Moves}
+use Rattle.txn_history.specs.Phase.{Phase, unheard}
+use Rattle.txn_history.specs.Phase.Phase.{Fresh, GivenUp, Over, Running}
+use Rattle.txn_history.specs.Posted.{Posted}
+use Rattle.txn_history.specs.Turn.{IfEnds, IfKept, Turn}
+use Rattle.txn_history.specs.Turn.Turn.{Stopped, Waits, Ends}
+use Rattle.txn_buffer.specs.Contents.{Contents}
+use Rattle.txn_commit.specs.Committing.{Ways}
+use Rattle.txn_core.specs.Going.{TransactionReady, WorkReady}
+use Rattle.txn_core.specs.Transaction.{Standing, WriteEnds, is_open, is_waiting}
+use Rattle.txn_core.specs.Waiting.{HandsOut, work_phase}
+use Rattle.txn_core.specs.declared.transaction.Work.{Work}
+use Rattle.txn_core.specs.declared.transaction.Work.TheVariants.{Idle, Open, GaveUp}
+use Rattle.txn_core.specs.declared.txn_answer.TxnAnswer.{TxnAnswer}
+use Rattle.txn_plan.specs.declared.arrival.Arrival.{Arrival}
+use Rattle.txn_client.specs.Calls.{AnswerReady, IsMadeOf, made}
+use Rattle.txn_client.specs.declared.client_answer.ClientAnswer.{ClientAnswer}
+use Rattle.txn_client.specs.declared.client_answer.ClientAnswer.TheVariants.{Begun, Time}
+use Rattle.txn_client.specs.declared.client_call.Wanted.{Wanted}
+use Rattle.txn_client.specs.declared.client_call.Wanted.TheVariants as wanted
+use Rattle.txn_clients.specs.Rows.{AnswerFits, AskFits, IsTold, Pd, Posts, answer_in}
+use Rattle.txn_clients.specs.declared.answer.Answer.TheVariants as answers
+
+-- What is posted
+
+pub posts_none : (from to : Posted) → to ≡ from → Posts from to
+posts_none from to e = record {
+  sends = [];
+  pushed = rw e (sym (append-nil from.sends));
+  numbered = (ap (λ (o : Posted). o.next) e, ap (λ (o : Posted). o.next_ask) e);
+}
+
+pub posts_moves : {A : Type 0} {may : List Event → Request → Type 0} {was is : List Event → Type 0} {gives : List Event → A → Type 0} {hear : List Event → List Event} {from to : Posted} {turn : Turn A}
+    → Moves may was is gives hear from to turn → Posts from to
+posts_moves m = record { sends = m.sends; pushed = m.pushed; numbered = m.numbered }
+
+-- a commit, which may be refused
+pub posts_commit : {A R : Type 0} {may : List Event → Request → Type 0} {was is : List Event → Type 0} {gives : List Event → A → Type 0} {hear : List Event → List Event} {from to : Posted} {turn : Turn A}
+    → (b : Bool) → (b ≡ false → R × (to ≡ from)) → (b ≡ true → Moves may was is gives hear from to turn) → Posts from to
+posts_commit {from = from} {to = to} true refused moves = posts_moves (moves refl)
+posts_commit {from = from} {to = to} false refused moves = posts_none from to (refused refl).1
+
+-- and a rollback, which may be refused for two reasons
+pub posts_rollback : {A R : Type 0} {S U : Ticket → Type 0} {may : List Event → Request → Type 0} {was is : List Event → Type 0} {gives : List Event → A → Type 0} {hear : List Event → List Event} {from to : Posted} {turn : Turn A}
+    → (b : Bool) (u : Option Ticket) → (b ≡ false → R × (to ≡ from)) → ((t : Ticket) → b ≡ true → u ≡ Some t → S t × U t × (to ≡ from)) → (b ≡ true → u ≡ None → Moves may was is gives hear from to turn) → Posts from to
+posts_rollback {from = from} {to = to} false u refused undetermined moves = posts_none from to (refused refl).1
+posts_rollback {from = from} {to = to} true (Some t) refused undetermined moves = let k = undetermined t refl refl in posts_none from to k.2
+posts_rollback {from = from} {to = to} true None refused undetermined moves = posts_moves (moves refl refl)
+
+-- What a transaction is told
+
+module _ {P Q K A B D : Type 0} (w : Ways P Q K A B D) where
+  -- a write ends at once
+  pub told_write : (refusal : Option Error) (wrote : Contents → Contents → Type 0) (old new : Standing P Q K) (from to : Posted) (turn : Turn (Result (TxnAnswer Q) Error))
+      → WriteEnds refusal wrote old new turn → is_open old.work ≡ false → TransactionReady w old → to ≡ from → IfKept turn (IsTold w new from to turn)
+  told_write refusal wrote old new from to Stopped h idle ready quiet = tt
+  told_write refusal wrote old new from to Waits h idle ready quiet = absurd h
+  told_write None wrote old new from to (Ends v) h idle ready quiet = subst (λ (t : Standing P Q K). IsTold w t from to (Ends v)) (sym h.1) (record {
+    posts = posts_none from to quiet;
+    ready = record { start = ready.start; work = ready.work };
+    rests = idle;
+    hands = subst (HandsOut w.committing) (sym h.0) tt;
+  })
+  told_write (Some e) wrote old new from to (Ends v) h idle ready quiet = subst (λ (t : Standing P Q K). IsTold w t from to (Ends v)) (sym h.1) (record {
+    posts = posts_none from to quiet;
+    ready = ready;
+    rests = idle;
+    hands = subst (HandsOut w.committing) (sym h.0) tt;
+  })
+
+  -- a commit or a rollback begins
+  pub told_call : (new : Standing P Q K) (from to : Posted) (turn : Turn (Result (TxnAnswer Q) Error))
+      → TransactionReady w new → is_open new.work ≡ is_waiting turn → IfEnds turn (HandsOut w.committing) → Posts from to → IfKept turn (IsTold w new from to turn)
+  told_call new from to Stopped ready busy hands posts = tt
+  told_call new from to Waits ready busy hands posts = record { posts = posts; ready = ready; rests = tt; hands = tt }
+  told_call new from to (Ends v) ready busy hands posts = record { posts = posts; ready = ready; rests = busy; hands = hands }
+
+  -- a call that is open ends, or goes on
+  never : {X : Type 0} (p : Phase) (v : X) → Ends v ≡ unheard p → ⊥
+  never Fresh v e = cc
+  never Running v e = cc
+  never Over v e = cc
+  never GivenUp v e = cc
+
+  not_over : Running ≡ Over → ⊥
+  not_over e = cc
+
+  rests_after : {C : Type 0} (meant : Type 0) (old new : Standing P Q K) (from to : Posted) (pd pd' : C) (v : Result (TxnAnswer Q) Error)
+      → Goes (λ (t : Standing P Q K). work_phase w t.work) meant old new from to pd pd' (Ends v)
+      → (work : Work P Q K) → new.work ≡ work → WorkReady w new.start work → is_open work ≡ false
+  rests_after meant old new from to pd pd' v g Idle e r = refl
+  rests_after meant old new from to pd pd' v g (Open call) e r =
+      absurd (never (work_phase w old.work) v (g.deaf (λ this. not_over (sym r.2 ∙ (ap (work_phase w) (sym e) ∙ g.next this)))))
+  rests_after meant old new from to pd pd' v g GaveUp e r = refl
+
+  pub told_heard : {C : Type 0} (meant : Type 0) (old new : Standing P Q K) (from to : Posted) (pd pd' : C) (turn : Turn (Result (TxnAnswer Q) Error))
+      → Goes (λ (t : Standing P Q K). work_phase w t.work) meant old new from to pd pd' turn
+      → TransactionReady w new → IfEnds turn (HandsOut w.committing) → Posts from to → IfKept turn (IsTold w new from to turn)
+  told_heard meant old new from to pd pd' Stopped g ready hands posts = tt
+  told_heard meant old new from to pd pd' Waits g ready hands posts = record { posts = posts; ready = ready; rests = tt; hands = tt }
+  told_heard meant old new from to pd pd' (Ends v) g ready hands posts = record { posts = posts; ready = ready; rests = rests_after meant old new from to pd pd' v g new.work refl ready.work; hands = hands }
+
+  -- What is answered
+
+  abbrev work_in : ClientAnswer Pd P Q K → Work P Q K
+  work_in (Begun b) = b.work
+  work_in (Time t) = Idle
+
+  made_rests : (x : Wanted) (now : ℕ) (t : Timestamp) → is_open (work_in (made x now t)) ≡ false
+  made_rests wanted.Timestamp now t = refl
+  made_rests (wanted.Transaction options) now t = refl
+
+  ask_fits : (x : Wanted) (now : ℕ) (a : Arrival) (v : Result (ClientAnswer Pd P Q K) Error) → AnswerReady w v → IsMadeOf x now a v → AskFits w v
+  ask_fits x now a (Ok (Begun b)) ready made = (ready, ap (λ (y : ClientAnswer Pd P Q K). is_open (work_in y)) made.3 ∙ made_rests x now made.1)
+  ask_fits x now a (Ok (Time t)) ready made = ready
+  ask_fits x now a (Err e) ready made = tt
+
+  pub asked_fits : (x : Wanted) (now : ℕ) (a : Arrival) (turn : Turn (Result (ClientAnswer Pd P Q K) Error)) → IfEnds turn (AnswerReady w) → IfEnds turn (IsMadeOf x now a)
+      → IfSome (answer_in answers.Asked turn) (AnswerFits w)
+  asked_fits x now a Stopped ready made = tt
+  asked_fits x now a Waits ready made = tt
+  asked_fits x now a (Ends v) ready made = ask_fits x now a v ready made
+
+  -- a start does not answer
+  pub started_fits : (turn : Turn (Result (ClientAnswer Pd P Q K) Error)) → IfEnds turn (λ v. ⊥) → IfSome (answer_in answers.Asked turn) (AnswerFits w)
+  started_fits Stopped h = tt
+  started_fits Waits h = tt
+  started_fits (Ends v) h = absurd h
+
+  pub called_fits : (turn : Turn (Result (TxnAnswer Q) Error)) → IfEnds turn (HandsOut w.committing) → IfSome (answer_in answers.Called turn) (AnswerFits w)
+  called_fits Stopped h = tt
+  called_fits Waits h = tt
+  called_fits (Ends v) h = h
+
+-- where there is an answer, what holds of the end holds
+pub answered_so : {A X : Type 0} (R : Type 0) (make : A → X) (turn : Turn A) → IfEnds turn (λ v. R) → IfSome (answer_in make turn) (λ a. R)
+answered_so R make Stopped h = tt
+answered_so R make Waits h = tt
+answered_so R make (Ends v) h = h

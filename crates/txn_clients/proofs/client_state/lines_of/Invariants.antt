@@ -1,0 +1,5 @@
+use Rattle.std.proofs.Common.{◌≡◌, map, take}
+use Rattle.txn_clients.proofs.client_state.lines_of.Given as goal
+
+abbrev pub invariant-loop-asker : goal.invariant-loop-asker
+invariant-loop-asker l = l.lines ≡ map (λ a. a.line) (take l.asker-index l.askers)

@@ -1,0 +1,6 @@
+use Rattle.std.proofs.lemmas.Result.{on_ok_weaker}
+use Rattle.txn_clients.proofs.Places.{crashed_kept}
+use Rattle.txn_clients.proofs.clients.Clients.ask_oracle.Goals as goal
+
+pub returns-clause-crashed : goal.returns-clause-crashed
+returns-clause-crashed g c = on_ok_weaker c.ask.result (λ k. crashed_kept c.args.self.now.clients.items c.args.client c.ask.new.self c.index_mut.result.now c.requires c.index_mut.ensures.value k) c.ask.ensures

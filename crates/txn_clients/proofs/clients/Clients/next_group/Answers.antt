@@ -1,0 +1,9 @@
+use Rattle.std.proofs.Common.{◌≡◌}
+use Rattle.txn_clients.proofs.Places.{crashed_kept}
+use Rattle.txn_clients.proofs.Telling.{on_ok}
+use Rattle.txn_clients.proofs.clients.Clients.next_group.Goals as goal
+
+pub returns-clause-crashed : goal.returns-clause-crashed
+returns-clause-crashed g c = on_ok c.next_group.result
+    (λ (same : c.next_group.new.self.crashed ≡ c.index_mut.result.now.crashed). crashed_kept c.args.self.now.clients.items c.args.client c.next_group.new.self c.index_mut.result.now c.requires c.index_mut.ensures.value same)
+    c.next_group.ensures.crashed

@@ -1,0 +1,9 @@
+use Rattle.std.proofs.Common.{refl}
+use Rattle.txn_clients.proofs.Places.{nexts_kept, rows_kept}
+use Rattle.txn_clients.proofs.clients.Clients.set_next_ask.Goals as goal
+
+pub returns-clause-rows : goal.returns-clause-rows
+returns-clause-rows g c = rows_kept c.args.self.now c.args.line _ c.index_mut.result.now c.requires c.index_mut.ensures.value refl
+
+pub returns-clause-nexts : goal.returns-clause-nexts
+returns-clause-nexts g c = nexts_kept c.args.self.now c.args.line _ c.index_mut.result.now c.requires c.index_mut.ensures.value refl

@@ -1,0 +1,9 @@
+use Rattle.std.proofs.Common.{refl}
+use Rattle.txn_clients.proofs.Places.{nexts_kept, rows_wait}
+use Rattle.txn_clients.proofs.clients.Clients.set_waits.Goals as goal
+
+pub returns-clause-rows : goal.returns-clause-rows
+returns-clause-rows g c = rows_wait c.args.self.now c.args.transaction c.args.line _ c.index_mut.result.now c.requires c.index_mut.ensures.value c.wait_for.ensures
+
+pub returns-clause-nexts : goal.returns-clause-nexts
+returns-clause-nexts g c = nexts_kept c.args.self.now c.args.transaction _ c.index_mut.result.now c.requires c.index_mut.ensures.value refl

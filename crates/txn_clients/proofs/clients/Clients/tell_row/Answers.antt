@@ -1,0 +1,30 @@
+use Rattle.std.proofs.Common.{◌≡◌, refl, subst, sym}
+use Rattle.txn_commit.specs.Committing.{ways}
+use Rattle.txn_clients.specs.Rows.{Rests, RowReady, stand_of}
+use Rattle.txn_clients.proofs.Places.{both_ok, crashed_kept}
+use Rattle.txn_clients.proofs.Telling.{always_ok, if_answered, on_ok, put_nexts, put_ready, put_row, put_stands}
+use Rattle.txn_clients.proofs.clients.Clients.tell_row.Goals as goal
+
+pub returns-clause-stands : goal.returns-clause-stands
+returns-clause-stands g c = on_ok c.tell.result
+    (λ (same : stand_of c.tell.new.self ≡ stand_of c.index_mut-2.result.now.row). put_stands c.args.self.now c.args.listener.at c.index_mut-2.result.now (record c.index_mut-2.result.now { row = c.tell.new.self }) c.requires.place c.index_mut-2.ensures.value same)
+    c.tell.ensures.stand
+
+pub returns-clause-nexts : goal.returns-clause-nexts
+returns-clause-nexts g c = always_ok c.tell.result
+    (put_nexts c.args.self.now c.args.listener.at c.index_mut-2.result.now (record c.index_mut-2.result.now { row = c.tell.new.self }) c.requires.place c.index_mut-2.ensures.value refl)
+
+pub returns-clause-crashed : goal.returns-clause-crashed
+returns-clause-crashed g c = always_ok c.tell.result
+    (crashed_kept c.args.self.now.clients.items c.args.listener.client (record c.index_mut.result.now { client = record c.index_mut.result.now.client { pd = c.tell.new.pd } }) c.index_mut.result.now c.requires.client c.index_mut.ensures.value refl)
+
+pub returns-clause-ready : goal.returns-clause-ready
+returns-clause-ready g c = both_ok c.tell.result
+    (λ (same : stand_of c.tell.new.self ≡ stand_of c.index_mut-2.result.now.row) (may : RowReady (ways g.P.Plan.meaning g.Q.Plan.meaning g.K.Plan.meaning g.P.PlanFor.refuses g.Q.PlanFor.refuses g.K.PlanFor.refuses) c.tell.new.self).
+    put_ready _ c.args.self.now c.args.listener.at c.index_mut-2.result.now (record c.index_mut-2.result.now { row = c.tell.new.self }) c.requires.place c.index_mut-2.ensures.value same may c.requires.ready)
+    c.tell.ensures.stand c.tell.ensures.ready
+
+pub returns-clause-rests : goal.returns-clause-rests
+returns-clause-rests g c = if_answered c.tell.result
+    (λ (rests : Rests c.tell.new.self). subst Rests (sym (put_row c.args.self.now c.args.listener.at (record c.index_mut-2.result.now { row = c.tell.new.self }) c.requires.place)) rests)
+    c.tell.ensures.rests

@@ -1,0 +1,5 @@
+pub mod Matching
+pub mod Rows
+pub mod Clients
+pub mod Going
+pub mod Groups

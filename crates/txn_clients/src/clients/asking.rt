@@ -1,0 +1,327 @@
+//! What a machine asks of the clients.
+ghost use Rattle.std.specs.Prelude.{◌≡◌, ◌<◌, ◌≤◌, ◌^◌, IfOk, IfSome, IsTrue, OnOk, false, is_some, length, slice_index_or, true};
+ghost use Rattle.txn_client.specs.Calls.{CallReady};
+ghost use Rattle.txn_clients.specs.Clients.{AreReady, Listens, crashed_of, row_at, rows_of, sight_of};
+ghost use Rattle.txn_clients.specs.Rows.{MayHear, MayTell};
+ghost use Rattle.txn_commit.specs.Committing.{ways};
+ghost use Rattle.txn_plan.specs.Arrivals.{MayArrive};
+ghost use Rattle.txn_side.specs.Sight.{EndsAlone, Goes, commits, is_free, line_count, stand_at, with_stand};
+ghost use Rattle.txn_side.specs.Sight.Stand.{Asking, Calling, HasBegun, Idle};
+
+use crate::answer::Pd;
+use crate::client_state::ClientState;
+use crate::clients::{Clients, Listener};
+use crate::place::Place;
+use crate::row::{Row, is_commit};
+use crate::told::Told;
+use txn_client::ClientCall;
+use txn_commit::PlanFor;
+use txn_core::TransactionOptions;
+use txn_kv::{
+    BatchRollbackRequest, CommitRequest, NoMemory, PrewriteRequest, Reply, Request, Ticket,
+};
+use txn_lines::BeginOptions;
+use txn_plan::Arrival;
+use txn_side::{Act, ClientSide, Turn};
+
+/// The options of an optimistic transaction that begins so.
+fn options_of(options: BeginOptions) -> TransactionOptions {
+    let mut wanted = TransactionOptions::new_optimistic();
+    if options.no_locks {
+        wanted = wanted.no_resolve_locks();
+    }
+    if options.no_regions {
+        wanted = wanted.no_resolve_regions();
+    }
+    wanted
+}
+
+impl<P, Q, K> Clients<P, Q, K> {
+    /// Whether nothing stands at the newest line.
+    fn is_new(&self) -> bool
+        ensures { IsTrue result → stand_at (sight_of self.now).stands (line_count (sight_of self.now)) ≡ Idle }
+    {
+        let line = self.newest();
+        if line == 0 {
+            return true;
+        }
+        matches!(self.row(line), Row::Plain)
+    }
+
+    /// The client of a transaction that has begun and of which no call waits, if it has not crashed.
+    fn free_client(&self, transaction: u64) -> Option<usize>
+        ensures free { is_some result ≡ is_free (sight_of self.now) transaction }
+        ensures client { IfSome result (λ client. stand_at (sight_of self.now).stands transaction ≡ HasBegun client 0) }
+        ensures there { IfSome result (λ client. slice_index_or (crashed_of self.now) client true ≡ false) }
+    {
+        match self.live_client(transaction) {
+            None => None,
+            Some(client) => match self.row(transaction) {
+                Row::Begun { waits, .. } => { if *waits == 0 { Some(client) } else { None } }
+                _ => None,
+            },
+        }
+    }
+}
+
+impl<P, Q, K> Clients<P, Q, K>
+where
+    P: PlanFor<PrewriteRequest>,
+    Q: PlanFor<CommitRequest>,
+    K: PlanFor<BatchRollbackRequest>,
+{
+    /// The newest line calls for a timestamp of a client.
+    fn ask(
+        &mut self,
+        client: usize,
+        begins: bool,
+        call: ClientCall<Pd, P, Q, K>,
+        now: u64,
+    ) -> Result<Turn, NoMemory>
+        requires call { CallReady call.stage }
+        requires client { slice_index_or (crashed_of self.old) client true ≡ false }
+        requires line { 1 ≤ line_count (sight_of self.old) }
+        requires ready { AreReady (ways P.meaning Q.meaning K.meaning P.refuses Q.refuses K.refuses) (rows_of self.old) }
+        requires clock { now < 2 ^ 44 }
+        ensures turn { IfOk result (λ turn. Goes turn.posted.items turn.ended.items (with_stand (line_count (sight_of self.old)) (Asking client begins) (sight_of self.old)) (sight_of self.new)) }
+        ensures alone { IfOk result (λ turn. EndsAlone (line_count (sight_of self.old)) turn.ended.items) }
+        ensures ready { OnOk result (AreReady (ways P.meaning Q.meaning K.meaning P.refuses Q.refuses K.refuses) (rows_of self.new)) }
+    {
+        // A call begins where nothing stands.
+        if !self.is_new() {
+            return Err(NoMemory);
+        }
+        let line = self.newest();
+        self.set_row(
+            line,
+            Row::Asking {
+                client,
+                begins,
+                call,
+            },
+        );
+        let at = line as usize - 1;
+        self.step(line, Listener { at, client }, Told::Start, now)
+    }
+
+    /// A step: what waits for a line is told of something, and then the next group of its client goes out.
+    fn step(
+        &mut self,
+        line: u64,
+        listener: Listener,
+        told: Told,
+        now: u64,
+    ) -> Result<Turn, NoMemory>
+        requires listens { Listens (sight_of self.old) line listener.at listener.client }
+        requires ready { AreReady (ways P.meaning Q.meaning K.meaning P.refuses Q.refuses K.refuses) (rows_of self.old) }
+        requires told { MayTell told }
+        requires hears { MayHear told (row_at (rows_of self.old) listener.at) }
+        requires clock { now < 2 ^ 44 }
+        ensures turn { IfOk result (λ turn. Goes turn.posted.items turn.ended.items (sight_of self.old) (sight_of self.new)) }
+        ensures alone { IfOk result (λ turn. EndsAlone line turn.ended.items) }
+        ensures ready { OnOk result (AreReady (ways P.meaning Q.meaning K.meaning P.refuses Q.refuses K.refuses) (rows_of self.new)) }
+    {
+        let mut turn = Turn::new(self.alloc);
+        self.go(line, listener, told, now, &mut turn)?;
+        self.send_group(listener.client, &mut turn)?;
+        Ok(turn)
+    }
+
+    /// The newest line asks something of a transaction of which no call waits.
+    fn call(
+        &mut self,
+        client: usize,
+        transaction: u64,
+        act: Act,
+        now: u64,
+    ) -> Result<Turn, NoMemory>
+        requires transaction { stand_at (sight_of self.old).stands transaction ≡ HasBegun client 0 }
+        requires client { slice_index_or (crashed_of self.old) client true ≡ false }
+        requires line { 1 ≤ line_count (sight_of self.old) }
+        requires ready { AreReady (ways P.meaning Q.meaning K.meaning P.refuses Q.refuses K.refuses) (rows_of self.old) }
+        requires clock { now < 2 ^ 44 }
+        ensures turn { IfOk result (λ turn. Goes turn.posted.items turn.ended.items (with_stand (line_count (sight_of self.old)) (Calling client transaction (commits act)) (with_stand transaction (HasBegun client (line_count (sight_of self.old))) (sight_of self.old))) (sight_of self.new)) }
+        ensures alone { IfOk result (λ turn. EndsAlone (line_count (sight_of self.old)) turn.ended.items) }
+        ensures ready { OnOk result (AreReady (ways P.meaning Q.meaning K.meaning P.refuses Q.refuses K.refuses) (rows_of self.new)) }
+    {
+        // A call begins where nothing stands.
+        if !self.is_new() {
+            return Err(NoMemory);
+        }
+        let line = self.newest();
+        self.set_waits(transaction, line);
+        self.set_row(
+            line,
+            Row::Calling {
+                client,
+                transaction,
+                commits: is_commit(&act),
+            },
+        );
+        let at = transaction as usize - 1;
+        self.step(line, Listener { at, client }, Told::Act(act), now)
+    }
+
+    /// Something came for a line of this client, other than for its group.
+    fn hear(
+        &mut self,
+        line: u64,
+        client: usize,
+        arrival: Arrival,
+        now: u64,
+    ) -> Result<Turn, NoMemory>
+        requires client { client < length (crashed_of self.old) }
+        requires arrives { MayArrive arrival }
+        requires ready { AreReady (ways P.meaning Q.meaning K.meaning P.refuses Q.refuses K.refuses) (rows_of self.old) }
+        requires clock { now < 2 ^ 44 }
+        ensures turn { IfOk result (λ turn. Goes turn.posted.items turn.ended.items (sight_of self.old) (sight_of self.new)) }
+        ensures ready { OnOk result (AreReady (ways P.meaning Q.meaning K.meaning P.refuses Q.refuses K.refuses) (rows_of self.new)) }
+    {
+        let mut turn = Turn::new(self.alloc);
+        self.tell(line, arrival, now, &mut turn)?;
+        self.send_group(client, &mut turn)?;
+        Ok(turn)
+    }
+
+    /// The reply to the group of a client came.
+    fn hear_group(&mut self, client: usize, reply: Reply, now: u64) -> Result<Turn, NoMemory>
+        requires client { client < length (crashed_of self.old) }
+        requires ready { AreReady (ways P.meaning Q.meaning K.meaning P.refuses Q.refuses K.refuses) (rows_of self.old) }
+        requires clock { now < 2 ^ 44 }
+        ensures turn { IfOk result (λ turn. Goes turn.posted.items turn.ended.items (sight_of self.old) (sight_of self.new)) }
+        ensures ready { OnOk result (AreReady (ways P.meaning Q.meaning K.meaning P.refuses Q.refuses K.refuses) (rows_of self.new)) }
+    {
+        let mut turn = Turn::new(self.alloc);
+        self.take_group(client, reply, now, &mut turn)?;
+        self.send_group(client, &mut turn)?;
+        Ok(turn)
+    }
+
+    /// The group of a client was lost.
+    fn miss_group(&mut self, client: usize, now: u64) -> Result<Turn, NoMemory>
+        requires client { client < length (crashed_of self.old) }
+        requires ready { AreReady (ways P.meaning Q.meaning K.meaning P.refuses Q.refuses K.refuses) (rows_of self.old) }
+        requires clock { now < 2 ^ 44 }
+        ensures turn { IfOk result (λ turn. Goes turn.posted.items turn.ended.items (sight_of self.old) (sight_of self.new)) }
+        ensures ready { OnOk result (AreReady (ways P.meaning Q.meaning K.meaning P.refuses Q.refuses K.refuses) (rows_of self.new)) }
+    {
+        let mut turn = Turn::new(self.alloc);
+        self.lose_group(client, now, &mut turn)?;
+        self.send_group(client, &mut turn)?;
+        Ok(turn)
+    }
+}
+
+impl<P, Q, K> ClientSide for Clients<P, Q, K>
+where
+    P: PlanFor<PrewriteRequest> + Drop,
+    Q: PlanFor<CommitRequest> + Drop,
+    K: PlanFor<BatchRollbackRequest> + Drop,
+{
+    ghost use Rattle.txn_clients.specs.Clients.{AreReady, rows_of, sight_of};
+    ghost use Rattle.txn_commit.specs.Committing.{ways};
+
+    ghost sight = { sight_of };
+
+    ghost ready = { λ s. AreReady (ways P.meaning Q.meaning K.meaning P.refuses Q.refuses K.refuses) (rows_of s) };
+
+    fn open(&mut self) -> Result<(), NoMemory> {
+        self.places.push(Place::new())?;
+        Ok(())
+    }
+
+    fn is_live(&self, line: u64) -> bool {
+        self.live_client(line).is_some()
+    }
+
+    fn connect(&mut self, now: u64) -> Result<(), NoMemory> {
+        // A client is made where nothing stands.
+        if !self.is_new() {
+            return Err(NoMemory);
+        }
+        let client = self.clients.len();
+        self.clients.push(ClientState::new(self.alloc, now))?;
+        self.set_row(self.newest(), Row::Client { client });
+        Ok(())
+    }
+
+    fn crash(&mut self, line: u64) -> bool {
+        match self.live_client(line) {
+            None => false,
+            Some(client) => {
+                self.clients[client].crashed = true;
+                true
+            }
+        }
+    }
+
+    fn begin(
+        &mut self,
+        client: u64,
+        options: BeginOptions,
+        now: u64,
+    ) -> Result<Option<Turn>, NoMemory> {
+        match self.live_client(client) {
+            None => Ok(None),
+            Some(client) => {
+                let call = self.clients[client]
+                    .client
+                    .begin_with_options(options_of(options))?;
+                Ok(Some(self.ask(client, true, call, now)?))
+            }
+        }
+    }
+
+    fn timestamp(&mut self, client: u64, now: u64) -> Result<Option<Turn>, NoMemory> {
+        match self.live_client(client) {
+            None => Ok(None),
+            Some(client) => {
+                let call = self.clients[client].client.current_timestamp()?;
+                Ok(Some(self.ask(client, false, call, now)?))
+            }
+        }
+    }
+
+    fn act(&mut self, transaction: u64, act: Act, now: u64) -> Result<Option<Turn>, NoMemory> {
+        match self.free_client(transaction) {
+            None => Ok(None),
+            Some(client) => Ok(Some(self.call(client, transaction, act, now)?)),
+        }
+    }
+
+    fn take_reply(&mut self, ticket: Ticket, reply: Reply, now: u64) -> Result<Turn, NoMemory> {
+        match self.live_client(ticket.line) {
+            None => Ok(Turn::new(self.alloc)),
+            Some(client) => {
+                if self.is_group(client, ticket) {
+                    return self.hear_group(client, reply, now);
+                }
+                let number = ticket.number;
+                self.hear(ticket.line, client, Arrival::Reply { number, reply }, now)
+            }
+        }
+    }
+
+    fn lost(&mut self, ticket: Ticket, _request: &Request, now: u64) -> Result<Turn, NoMemory> {
+        match self.live_client(ticket.line) {
+            None => Ok(Turn::new(self.alloc)),
+            Some(client) => {
+                if self.is_group(client, ticket) {
+                    return self.miss_group(client, now);
+                }
+                let number = ticket.number;
+                self.hear(ticket.line, client, Arrival::Lost { number }, now)
+            }
+        }
+    }
+
+    fn slept(&mut self, ticket: Ticket, now: u64) -> Result<Turn, NoMemory> {
+        match self.live_client(ticket.line) {
+            None => Ok(Turn::new(self.alloc)),
+            Some(client) => {
+                let number = ticket.number;
+                self.hear(ticket.line, client, Arrival::Slept { number }, now)
+            }
+        }
+    }
+}

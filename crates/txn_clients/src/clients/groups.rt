@@ -1,0 +1,186 @@
+//! Timestamps: the groups of asks that go out, and what comes of them.
+ghost use Rattle.std.specs.Prelude.{◌≡◌, ◌<◌, ◌^◌, ℕ, length, true, IfOk, IfSome, OnOk};
+ghost use Rattle.std.specs.List.{All};
+ghost use Rattle.txn_clients.specs.Clients.{AreReady, IsLine, crashed_of, nexts_of, rows_of, sight_of};
+ghost use Rattle.txn_clients.specs.Going.{Advances};
+ghost use Rattle.txn_clients.specs.Groups.{IsTimeFor};
+ghost use Rattle.txn_commit.specs.Committing.{ways};
+ghost use Rattle.txn_kv.specs.declared.request.Request.TheVariants.{Tso};
+ghost use Rattle.txn_side.specs.Sight.{AskFor, IsNext, is_live};
+
+use crate::client_state::{Answers, Group};
+use crate::clients::Clients;
+use crate::clients::posting::ticket_of;
+use txn_commit::PlanFor;
+use txn_kv::{
+    BatchRollbackRequest, CommitRequest, NoMemory, PrewriteRequest, Reply, Request, Target, Ticket,
+};
+use txn_plan::Arrival;
+use txn_side::{Posting, Turn};
+
+impl<P, Q, K> Clients<P, Q, K> {
+    /// Whether this is the ticket of the group of a client that is out.
+    pub(crate) fn is_group(&self, client: usize, ticket: Ticket) -> bool {
+        match self.clients.get(client) {
+            None => false,
+            Some(state) => state.is_group(ticket),
+        }
+    }
+
+    /// The group of a client that goes out next, if one does.
+    fn next_group(&mut self, client: usize) -> Result<Option<Group>, NoMemory>
+        requires { client < length (crashed_of self.old) }
+        ensures rows { OnOk result (rows_of self.new ≡ rows_of self.old) }
+        ensures nexts { OnOk result (nexts_of self.new ≡ nexts_of self.old) }
+        ensures crashed { OnOk result (crashed_of self.new ≡ crashed_of self.old) }
+        ensures group { IfOk result (λ group. IfSome group (λ g. (line : ℕ) × AskFor line (Tso g.request) g.askers)) }
+    {
+        self.clients[client].next_group(self.alloc)
+    }
+
+    /// What the reply to the group of a client that is out gives its askers.
+    fn take_times(&mut self, client: usize, reply: Reply) -> Result<Answers, NoMemory>
+        requires { client < length (crashed_of self.old) }
+        ensures rows { OnOk result (rows_of self.new ≡ rows_of self.old) }
+        ensures nexts { OnOk result (nexts_of self.new ≡ nexts_of self.old) }
+        ensures crashed { OnOk result (crashed_of self.new ≡ crashed_of self.old) }
+        ensures times { IfOk result (λ given. All IsTimeFor given.items) }
+    {
+        self.clients[client].take_group(self.alloc, reply)
+    }
+
+    /// What the askers of the group of a client that was lost are told.
+    fn lose_times(&mut self, client: usize) -> Result<Answers, NoMemory>
+        requires { client < length (crashed_of self.old) }
+        ensures rows { OnOk result (rows_of self.new ≡ rows_of self.old) }
+        ensures nexts { OnOk result (nexts_of self.new ≡ nexts_of self.old) }
+        ensures crashed { OnOk result (crashed_of self.new ≡ crashed_of self.old) }
+        ensures times { IfOk result (λ given. All IsTimeFor given.items) }
+    {
+        self.clients[client].lose_group(self.alloc)
+    }
+
+    /// This is the ticket of the group of a client that is out.
+    fn set_group(&mut self, client: usize, ticket: Ticket)
+        requires { client < length (crashed_of self.old) }
+        ensures rows { rows_of self.new ≡ rows_of self.old }
+        ensures nexts { nexts_of self.new ≡ nexts_of self.old }
+        ensures crashed { crashed_of self.new ≡ crashed_of self.old }
+    {
+        self.clients[client].group = Some(ticket);
+    }
+
+    /// The next ticket of a line.
+    fn next_ticket(&self, line: u64) -> Result<Ticket, NoMemory>
+        ensures next { IfOk result (IsNext (nexts_of self.now)) }
+        ensures line { IfOk result (λ ticket. ticket.line ≡ line) }
+        ensures is { OnOk result (IsLine (sight_of self.now).stands line) }
+        ensures live { OnOk result (is_live (sight_of self.now) line ≡ true) }
+    {
+        // Only lines of clients that have not crashed ask.
+        if self.live_client(line).is_none() {
+            return Err(NoMemory);
+        }
+        Ok(ticket_of(line, self.places[line as usize - 1].next))
+    }
+
+    /// Sends the request of a group in the name of its first asker.
+    fn send_request(&mut self, client: usize, group: Group, turn: &mut Turn) -> Result<(), NoMemory>
+        requires client { client < length (crashed_of self.old) }
+        requires group { (line : ℕ) × AskFor line (Tso group.request) group.askers }
+        ensures advances { OnOk result (Advances turn.old turn.new (sight_of self.old) (sight_of self.new)) }
+        ensures ended { OnOk result (turn.new.ended ≡ turn.old.ended) }
+        ensures rows { OnOk result (rows_of self.new ≡ rows_of self.old) }
+        ensures crashed { OnOk result (crashed_of self.new ≡ crashed_of self.old) }
+    {
+        let line = match group.askers.as_slice().first() {
+            None => return Ok(()),
+            Some(line) => *line,
+        };
+        let ticket = self.next_ticket(line)?;
+        self.set_group(client, ticket);
+        let posting = Posting::Send {
+            ticket,
+            to: Target::Placement,
+            request: Request::Tso(group.request),
+            askers: group.askers,
+        };
+        self.post(line, posting, turn)
+    }
+
+    /// At the end of a step the next group of a client goes out, unless one is out already or nobody asks.
+    pub(crate) fn send_group(&mut self, client: usize, turn: &mut Turn) -> Result<(), NoMemory>
+        requires { client < length (crashed_of self.old) }
+        ensures advances { OnOk result (Advances turn.old turn.new (sight_of self.old) (sight_of self.new)) }
+        ensures ended { OnOk result (turn.new.ended ≡ turn.old.ended) }
+        ensures rows { OnOk result (rows_of self.new ≡ rows_of self.old) }
+    {
+        match self.next_group(client)? {
+            None => Ok(()),
+            Some(group) => self.send_request(client, group, turn),
+        }
+    }
+}
+
+impl<P, Q, K> Clients<P, Q, K>
+where
+    P: PlanFor<PrewriteRequest>,
+    Q: PlanFor<CommitRequest>,
+    K: PlanFor<BatchRollbackRequest>,
+{
+    /// The reply to the group of a client that is out.
+    pub(crate) fn take_group(
+        &mut self,
+        client: usize,
+        reply: Reply,
+        now: u64,
+        turn: &mut Turn,
+    ) -> Result<(), NoMemory>
+        requires client { client < length (crashed_of self.old) }
+        requires ready { AreReady (ways P.meaning Q.meaning K.meaning P.refuses Q.refuses K.refuses) (rows_of self.old) }
+        requires clock { now < 2 ^ 44 }
+        ensures advances { OnOk result (Advances turn.old turn.new (sight_of self.old) (sight_of self.new)) }
+        ensures ready { OnOk result (AreReady (ways P.meaning Q.meaning K.meaning P.refuses Q.refuses K.refuses) (rows_of self.new)) }
+        ensures crashed { OnOk result (crashed_of self.new ≡ crashed_of self.old) }
+    {
+        let given = self.take_times(client, reply)?;
+        self.give(given, now, turn)
+    }
+
+    /// No reply to the group of a client that is out will come.
+    pub(crate) fn lose_group(
+        &mut self,
+        client: usize,
+        now: u64,
+        turn: &mut Turn,
+    ) -> Result<(), NoMemory>
+        requires client { client < length (crashed_of self.old) }
+        requires ready { AreReady (ways P.meaning Q.meaning K.meaning P.refuses Q.refuses K.refuses) (rows_of self.old) }
+        requires clock { now < 2 ^ 44 }
+        ensures advances { OnOk result (Advances turn.old turn.new (sight_of self.old) (sight_of self.new)) }
+        ensures ready { OnOk result (AreReady (ways P.meaning Q.meaning K.meaning P.refuses Q.refuses K.refuses) (rows_of self.new)) }
+        ensures crashed { OnOk result (crashed_of self.new ≡ crashed_of self.old) }
+    {
+        let given = self.lose_times(client)?;
+        self.give(given, now, turn)
+    }
+
+    /// Each asker is told its answer, in their order.
+    fn give(&mut self, given: Answers, now: u64, turn: &mut Turn) -> Result<(), NoMemory>
+        requires times { All IsTimeFor given.items }
+        requires ready { AreReady (ways P.meaning Q.meaning K.meaning P.refuses Q.refuses K.refuses) (rows_of self.old) }
+        requires clock { now < 2 ^ 44 }
+        ensures advances { OnOk result (Advances turn.old turn.new (sight_of self.old) (sight_of self.new)) }
+        ensures ready { OnOk result (AreReady (ways P.meaning Q.meaning K.meaning P.refuses Q.refuses K.refuses) (rows_of self.new)) }
+        ensures crashed { OnOk result (crashed_of self.new ≡ crashed_of self.old) }
+    {
+        for (asker, answer) in given {
+            let arrival = Arrival::Time {
+                ask: asker.ask,
+                answer,
+            };
+            self.tell(asker.line, arrival, now, turn)?;
+        }
+        Ok(())
+    }
+}

@@ -1,0 +1,291 @@
+//! What stands at the lines is told of what came.
+ghost use Rattle.std.specs.Prelude.{◌≡◌, ◌<◌, ◌^◌, ◌-◌, ℕ, true, length, IfOk, IfSome, IsTrue, OnOk};
+ghost use Rattle.txn_clients.specs.Clients.{AreReady, HearsFor, IsLine, Listens, MayEnd, crashed_of, nexts_of, row_at, rows_of, sight_of};
+ghost use Rattle.txn_clients.specs.Going.{Advances, EndsIn};
+ghost use Rattle.txn_clients.specs.Rows.{AnswerFits, AskFits, MayHear, MayTell, Posts, Rests};
+ghost use Rattle.txn_clients.specs.declared.told.Told.TheVariants.{Start};
+ghost use Rattle.txn_commit.specs.Committing.{ways};
+ghost use Rattle.txn_core.specs.Waiting.{HandsOut};
+ghost use Rattle.txn_history.specs.Posted.{HasNumbers};
+ghost use Rattle.txn_plan.specs.Arrivals.{MayArrive};
+ghost use Rattle.txn_side.specs.Sight.{is_live, stand_at};
+ghost use Rattle.txn_side.specs.Sight.Stand.{HasBegun};
+
+use crate::answer::{Answer, Pd};
+use crate::clients::{Clients, Listener};
+use crate::endings::Ended;
+use crate::row::Row;
+use crate::told::Told;
+use std::mem;
+use txn_client::ClientAnswer;
+use txn_commit::PlanFor;
+use txn_core::TxnAnswer;
+use txn_kv::{BatchRollbackRequest, CommitRequest, NoMemory, Outbox, PrewriteRequest};
+use txn_plan::Arrival;
+use txn_side::{Ending, Turn};
+
+impl<P, Q, K> Clients<P, Q, K>
+where
+    P: PlanFor<PrewriteRequest>,
+    Q: PlanFor<CommitRequest>,
+    K: PlanFor<BatchRollbackRequest>,
+{
+    /// What stands at a place is told of something, with the outbox of a line.
+    fn tell_row(
+        &mut self,
+        listener: Listener,
+        told: Told,
+        now: u64,
+        out: &mut Outbox,
+    ) -> Result<Option<Answer<P, Q, K>>, NoMemory>
+        requires place { listener.at < length (rows_of self.old) }
+        requires client { listener.client < length (crashed_of self.old) }
+        requires ready { AreReady (ways P.meaning Q.meaning K.meaning P.refuses Q.refuses K.refuses) (rows_of self.old) }
+        requires told { MayTell told }
+        requires hears { MayHear told (row_at (rows_of self.old) listener.at) }
+        requires numbers { HasNumbers out.old }
+        requires clock { now < 2 ^ 44 }
+        ensures stands { OnOk result ((sight_of self.new).stands ≡ (sight_of self.old).stands) }
+        ensures nexts { OnOk result (nexts_of self.new ≡ nexts_of self.old) }
+        ensures crashed { OnOk result (crashed_of self.new ≡ crashed_of self.old) }
+        ensures ready { OnOk result (AreReady (ways P.meaning Q.meaning K.meaning P.refuses Q.refuses K.refuses) (rows_of self.new)) }
+        ensures posts { OnOk result (Posts out.old out.new) }
+        ensures rests { IfOk result (λ answer. IfSome answer (λ a. Rests (row_at (rows_of self.new) listener.at))) }
+        ensures fits { IfOk result (λ answer. IfSome answer (AnswerFits (ways P.meaning Q.meaning K.meaning P.refuses Q.refuses K.refuses))) }
+    {
+        let pd = self.clients[listener.client].client.pd();
+        self.places[listener.at].row.tell(told, pd, now, out)
+    }
+
+    /// What stands at a place is told of something, and what it wants done is posted for the line. Gives its answer, if it has
+    /// one now.
+    fn push(
+        &mut self,
+        line: u64,
+        listener: Listener,
+        told: Told,
+        now: u64,
+        turn: &mut Turn,
+    ) -> Result<Option<Answer<P, Q, K>>, NoMemory>
+        requires line { IsLine (sight_of self.old).stands line }
+        requires live { is_live (sight_of self.old) line ≡ true }
+        requires place { listener.at < length (rows_of self.old) }
+        requires client { listener.client < length (crashed_of self.old) }
+        requires ready { AreReady (ways P.meaning Q.meaning K.meaning P.refuses Q.refuses K.refuses) (rows_of self.old) }
+        requires told { MayTell told }
+        requires hears { MayHear told (row_at (rows_of self.old) listener.at) }
+        requires clock { now < 2 ^ 44 }
+        ensures advances { OnOk result (Advances turn.old turn.new (sight_of self.old) (sight_of self.new)) }
+        ensures ended { OnOk result (turn.new.ended ≡ turn.old.ended) }
+        ensures stands { OnOk result ((sight_of self.new).stands ≡ (sight_of self.old).stands) }
+        ensures crashed { OnOk result (crashed_of self.new ≡ crashed_of self.old) }
+        ensures ready { OnOk result (AreReady (ways P.meaning Q.meaning K.meaning P.refuses Q.refuses K.refuses) (rows_of self.new)) }
+        ensures rests { IfOk result (λ answer. IfSome answer (λ a. Rests (row_at (rows_of self.new) listener.at))) }
+        ensures fits { IfOk result (λ answer. IfSome answer (AnswerFits (ways P.meaning Q.meaning K.meaning P.refuses Q.refuses K.refuses))) }
+    {
+        let mut out = self.outbox(line)?;
+        let answer = self.tell_row(listener, told, now, &mut out)?;
+        let sends = mem::replace(&mut out.sends, Vec::new(self.alloc));
+        self.hand_out(line, listener.client, sends, turn)?;
+        self.set_next_ask(line, out.next_ask);
+        Ok(answer)
+    }
+
+    /// The call for a timestamp that stands at a line has ended.
+    fn end_ask(
+        &mut self,
+        line: u64,
+        answer: txn_kv::Result<ClientAnswer<Pd, P, Q, K>>,
+        turn: &mut Turn,
+    ) -> Result<(), NoMemory>
+        requires line { IsLine (sight_of self.old).stands line }
+        requires live { is_live (sight_of self.old) line ≡ true }
+        requires ready { AreReady (ways P.meaning Q.meaning K.meaning P.refuses Q.refuses K.refuses) (rows_of self.old) }
+        requires answer { AskFits (ways P.meaning Q.meaning K.meaning P.refuses Q.refuses K.refuses) answer }
+        ensures advances { OnOk result (Advances turn.old turn.new (sight_of self.old) (sight_of self.new)) }
+        ensures alone { OnOk result (EndsIn line turn.old turn.new) }
+        ensures ready { OnOk result (AreReady (ways P.meaning Q.meaning K.meaning P.refuses Q.refuses K.refuses) (rows_of self.new)) }
+        ensures crashed { OnOk result (crashed_of self.new ≡ crashed_of self.old) }
+    {
+        match self.row(line) {
+            Row::Asking { client, begins, .. } => {
+                let ended = Ended::asked(*client, *begins, answer);
+                self.set_row(line, ended.row);
+                turn.ended.push(Ending {
+                    line,
+                    outcome: ended.outcome,
+                })?;
+                Ok(())
+            }
+            _ => Ok(()),
+        }
+    }
+
+    /// The call of a transaction that stands at a line has ended, and the transaction waits no more.
+    fn end_call(
+        &mut self,
+        line: u64,
+        answer: txn_kv::Result<TxnAnswer<Q>>,
+        turn: &mut Turn,
+    ) -> Result<(), NoMemory>
+        requires line { IsLine (sight_of self.old).stands line }
+        requires live { is_live (sight_of self.old) line ≡ true }
+        requires may { MayEnd (rows_of self.old) line (stand_at (sight_of self.old).stands line) }
+        requires ready { AreReady (ways P.meaning Q.meaning K.meaning P.refuses Q.refuses K.refuses) (rows_of self.old) }
+        requires answer { HandsOut Q.meaning answer }
+        ensures advances { OnOk result (Advances turn.old turn.new (sight_of self.old) (sight_of self.new)) }
+        ensures alone { OnOk result (EndsIn line turn.old turn.new) }
+        ensures live { OnOk result (is_live (sight_of self.new) line ≡ true) }
+        ensures ready { OnOk result (AreReady (ways P.meaning Q.meaning K.meaning P.refuses Q.refuses K.refuses) (rows_of self.new)) }
+        ensures crashed { OnOk result (crashed_of self.new ≡ crashed_of self.old) }
+        ensures count { OnOk result (length (sight_of self.new).stands ≡ length (sight_of self.old).stands) }
+    {
+        match self.row(line) {
+            Row::Calling {
+                client,
+                transaction,
+                commits,
+            } => {
+                let transaction = *transaction;
+                let ended = Ended::called(*client, *commits, answer);
+                self.set_waits(transaction, 0);
+                self.set_row(line, ended.row);
+                turn.ended.push(Ending {
+                    line,
+                    outcome: ended.outcome,
+                })?;
+                Ok(())
+            }
+            _ => Ok(()),
+        }
+    }
+
+    /// Whether a job stands at a line.
+    fn has_job(&self, line: u64) -> bool
+        requires { IsLine (sight_of self.now).stands line }
+        ensures { IsTrue result → MayHear Start (row_at (rows_of self.now) (line - 1)) }
+    {
+        matches!(self.row(line), Row::Working { .. })
+    }
+
+    /// The job behind a commit begins, if there is one at the line.
+    fn start_job(
+        &mut self,
+        line: u64,
+        client: usize,
+        now: u64,
+        turn: &mut Turn,
+    ) -> Result<(), NoMemory>
+        requires line { IsLine (sight_of self.old).stands line }
+        requires live { is_live (sight_of self.old) line ≡ true }
+        requires client { client < length (crashed_of self.old) }
+        requires ready { AreReady (ways P.meaning Q.meaning K.meaning P.refuses Q.refuses K.refuses) (rows_of self.old) }
+        requires clock { now < 2 ^ 44 }
+        ensures advances { OnOk result (Advances turn.old turn.new (sight_of self.old) (sight_of self.new)) }
+        ensures ended { OnOk result (turn.new.ended ≡ turn.old.ended) }
+        ensures ready { OnOk result (AreReady (ways P.meaning Q.meaning K.meaning P.refuses Q.refuses K.refuses) (rows_of self.new)) }
+        ensures crashed { OnOk result (crashed_of self.new ≡ crashed_of self.old) }
+    {
+        if !self.has_job(line) {
+            return Ok(());
+        }
+        let at = line as usize - 1;
+        self.push(line, Listener { at, client }, Told::Start, now, turn)?;
+        Ok(())
+    }
+
+    /// What waits for a line is told of something, and the call of the line may end.
+    pub(crate) fn go(
+        &mut self,
+        line: u64,
+        listener: Listener,
+        told: Told,
+        now: u64,
+        turn: &mut Turn,
+    ) -> Result<(), NoMemory>
+        requires listens { Listens (sight_of self.old) line listener.at listener.client }
+        requires ready { AreReady (ways P.meaning Q.meaning K.meaning P.refuses Q.refuses K.refuses) (rows_of self.old) }
+        requires told { MayTell told }
+        requires hears { MayHear told (row_at (rows_of self.old) listener.at) }
+        requires clock { now < 2 ^ 44 }
+        ensures advances { OnOk result (Advances turn.old turn.new (sight_of self.old) (sight_of self.new)) }
+        ensures alone { OnOk result (EndsIn line turn.old turn.new) }
+        ensures ready { OnOk result (AreReady (ways P.meaning Q.meaning K.meaning P.refuses Q.refuses K.refuses) (rows_of self.new)) }
+        ensures crashed { OnOk result (crashed_of self.new ≡ crashed_of self.old) }
+    {
+        match self.push(line, listener, told, now, turn)? {
+            None => Ok(()),
+            Some(Answer::Asked(answer)) => self.end_ask(line, answer, turn),
+            Some(Answer::Called(answer)) => {
+                self.end_call(line, answer, turn)?;
+                self.start_job(line, listener.client, now, turn)
+            }
+        }
+    }
+
+    /// Whether the transaction of a line waits for another line.
+    fn waits_for(&self, transaction: u64, line: u64) -> bool
+        ensures { IsTrue result → (c : ℕ) × (stand_at (sight_of self.now).stands transaction ≡ HasBegun c line) }
+    {
+        if transaction == 0 || transaction > self.newest() {
+            return false;
+        }
+        match self.row(transaction) {
+            Row::Begun { waits, .. } => *waits == line,
+            _ => false,
+        }
+    }
+
+    /// Who hears what comes for a line of this client.
+    fn listener_of(&self, line: u64, client: usize) -> Option<Listener>
+        requires { IsLine (sight_of self.now).stands line }
+        ensures client { IfSome result (λ listener. listener.client ≡ client) }
+        ensures place { IfSome result (λ listener. listener.at < length (sight_of self.now).stands) }
+        ensures hears { IfSome result (λ listener. HearsFor (sight_of self.now).stands line listener.at (stand_at (sight_of self.now).stands line)) }
+    {
+        let own = line as usize - 1;
+        match self.row(line) {
+            Row::Asking { .. } => Some(Listener { at: own, client }),
+            Row::Working { .. } => Some(Listener { at: own, client }),
+            Row::Calling { transaction, .. } => {
+                if !self.waits_for(*transaction, line) {
+                    return None;
+                }
+                let at = *transaction as usize - 1;
+                Some(Listener { at, client })
+            }
+            _ => None,
+        }
+    }
+
+    /// Who hears what comes for a line: nobody, where its client has crashed.
+    fn listener(&self, line: u64) -> Option<Listener>
+        ensures { IfSome result (λ listener. Listens (sight_of self.now) line listener.at listener.client) }
+    {
+        match self.live_client(line) {
+            None => None,
+            Some(client) => self.listener_of(line, client),
+        }
+    }
+
+    /// Whoever waits for a line hears what came for it, if anybody does.
+    pub(crate) fn tell(
+        &mut self,
+        line: u64,
+        arrival: Arrival,
+        now: u64,
+        turn: &mut Turn,
+    ) -> Result<(), NoMemory>
+        requires ready { AreReady (ways P.meaning Q.meaning K.meaning P.refuses Q.refuses K.refuses) (rows_of self.old) }
+        requires arrives { MayArrive arrival }
+        requires clock { now < 2 ^ 44 }
+        ensures advances { OnOk result (Advances turn.old turn.new (sight_of self.old) (sight_of self.new)) }
+        ensures ready { OnOk result (AreReady (ways P.meaning Q.meaning K.meaning P.refuses Q.refuses K.refuses) (rows_of self.new)) }
+        ensures crashed { OnOk result (crashed_of self.new ≡ crashed_of self.old) }
+    {
+        match self.listener(line) {
+            None => Ok(()),
+            Some(listener) => self.go(line, listener, Told::Heard(arrival), now, turn),
+        }
+    }
+}

@@ -1,0 +1,237 @@
+ghost use Rattle.std.specs.Prelude.{◌≡◌, ◌<◌, ◌^◌, ℕ, false, IfOk, IfSome, OnOk};
+ghost use Rattle.txn_client.specs.Calls.{CallReady};
+ghost use Rattle.txn_clients.specs.Rows.{AnswerFits, IsFreeFor, MayHear, MayTell, Posts, RowReady, Rests, stand_of, with_waits};
+ghost use Rattle.txn_commit.specs.Committing.{ways};
+ghost use Rattle.txn_commit.specs.Jobs.{JobReady};
+ghost use Rattle.txn_core.specs.Going.{TransactionReady};
+ghost use Rattle.txn_core.specs.Transaction.{is_open};
+ghost use Rattle.txn_history.specs.Posted.{HasNumbers};
+ghost use Rattle.txn_side.specs.Sight.{client_at, commits};
+
+use crate::answer::{Answer, Pd};
+use crate::told::Told;
+use crate::transactions::{hear, perform};
+use txn_client::ClientCall;
+use txn_commit::{PlanFor, SecondaryJob};
+use txn_core::Transaction;
+use txn_kv::{BatchRollbackRequest, CommitRequest, NoMemory, Outbox, PrewriteRequest};
+use txn_side::Act;
+
+/// What stands at a line. Clients are counted from 0, and lines from 1.
+#[derive(Drop)]
+pub enum Row<P, Q, K> {
+    Plain,
+    Client {
+        client: usize,
+    },
+    /// A call for a timestamp, or for a transaction that begins at one.
+    Asking {
+        client: usize,
+        begins: bool,
+        call: ClientCall<Pd, P, Q, K>,
+    },
+    /// A transaction that has begun. `waits` is the line of its call that is open, or 0.
+    Begun {
+        client: usize,
+        transaction: Transaction<Pd, P, Q, K>,
+        waits: u64,
+    },
+    /// A call of the transaction of a line.
+    Calling {
+        client: usize,
+        transaction: u64,
+        commits: bool,
+    },
+    /// A call that is over.
+    Past {
+        client: usize,
+    },
+    /// A job goes on behind a commit, or is over.
+    Working {
+        client: usize,
+        job: SecondaryJob<Q>,
+    },
+}
+
+/// Whether it commits.
+pub fn is_commit(act: &Act) -> bool
+    ensures { result ≡ commits act.now }
+{
+    match act {
+        Act::Commit => true,
+        Act::Put(_, _) => false,
+        Act::Insert(_, _) => false,
+        Act::Delete(_) => false,
+        Act::Mutate(_) => false,
+        Act::Lock(_) => false,
+        Act::Rollback => false,
+    }
+}
+
+/// A call of a client is told of something.
+fn tell_call<P, Q, K>(
+    call: &mut ClientCall<Pd, P, Q, K>,
+    told: Told,
+    pd: &mut Pd,
+    now: u64,
+    out: &mut Outbox,
+) -> Result<Option<Answer<P, Q, K>>, NoMemory>
+where
+    P: PlanFor<PrewriteRequest>,
+    Q: PlanFor<CommitRequest>,
+    K: PlanFor<BatchRollbackRequest>,
+    requires ready { CallReady call.old.stage }
+    requires told { MayTell told }
+    requires numbers { HasNumbers out.old }
+    requires clock { now < 2 ^ 44 }
+    ensures ready { OnOk result (CallReady call.new.stage) }
+    ensures posts { OnOk result (Posts out.old out.new) }
+    ensures fits { IfOk result (λ answer. IfSome answer (AnswerFits (ways P.meaning Q.meaning K.meaning P.refuses Q.refuses K.refuses))) }
+{
+    match told {
+        Told::Start => {
+            let progress = call.start(pd, now, out)?;
+            Ok(Answer::asked(progress))
+        }
+        Told::Act(_) => Ok(None),
+        Told::Heard(arrival) => {
+            let progress = call.tell(arrival, pd, now, out)?;
+            Ok(Answer::asked(progress))
+        }
+    }
+}
+
+/// A transaction is told of something.
+fn tell_transaction<P, Q, K>(
+    transaction: &mut Transaction<Pd, P, Q, K>,
+    told: Told,
+    pd: &mut Pd,
+    now: u64,
+    out: &mut Outbox,
+) -> Result<Option<Answer<P, Q, K>>, NoMemory>
+where
+    P: PlanFor<PrewriteRequest>,
+    Q: PlanFor<CommitRequest>,
+    K: PlanFor<BatchRollbackRequest>,
+    requires ready { TransactionReady (ways P.meaning Q.meaning K.meaning P.refuses Q.refuses K.refuses) transaction.old }
+    requires told { MayTell told }
+    requires free { IsFreeFor told transaction.old.work }
+    requires numbers { HasNumbers out.old }
+    requires clock { now < 2 ^ 44 }
+    ensures ready { OnOk result (TransactionReady (ways P.meaning Q.meaning K.meaning P.refuses Q.refuses K.refuses) transaction.new) }
+    ensures posts { OnOk result (Posts out.old out.new) }
+    ensures rests { IfOk result (λ answer. IfSome answer (λ a. is_open transaction.new.work ≡ false)) }
+    ensures fits { IfOk result (λ answer. IfSome answer (AnswerFits (ways P.meaning Q.meaning K.meaning P.refuses Q.refuses K.refuses))) }
+{
+    match told {
+        Told::Start => Ok(None),
+        Told::Act(act) => {
+            let progress = perform(transaction, act, pd, now, out)?;
+            Ok(Answer::called(progress))
+        }
+        Told::Heard(arrival) => {
+            let progress = hear(transaction, arrival, pd, now, out)?;
+            Ok(Answer::called(progress))
+        }
+    }
+}
+
+/// A job is told of something. Nobody waits for its end.
+fn tell_job<Q: PlanFor<CommitRequest>>(
+    job: &mut SecondaryJob<Q>,
+    told: Told,
+    pd: &mut Pd,
+    now: u64,
+    out: &mut Outbox,
+) -> Result<(), NoMemory>
+    requires ready { JobReady Q.meaning job.old }
+    requires told { MayTell told }
+    requires numbers { HasNumbers out.old }
+    requires clock { now < 2 ^ 44 }
+    ensures ready { OnOk result (JobReady Q.meaning job.new) }
+    ensures posts { OnOk result (Posts out.old out.new) }
+{
+    match told {
+        Told::Start => {
+            job.start(pd, now, out)?;
+            Ok(())
+        }
+        Told::Act(_) => Ok(()),
+        Told::Heard(arrival) => {
+            job.tell(arrival, pd, now, out)?;
+            Ok(())
+        }
+    }
+}
+
+impl<P, Q, K> Row<P, Q, K> {
+    /// The client of the line, if it has one.
+    pub fn client(&self) -> Option<usize>
+        ensures { result ≡ client_at (stand_of self.now) }
+    {
+        match self {
+            Row::Plain => None,
+            Row::Client { client } => Some(*client),
+            Row::Asking { client, .. } => Some(*client),
+            Row::Begun { client, .. } => Some(*client),
+            Row::Calling { client, .. } => Some(*client),
+            Row::Past { client } => Some(*client),
+            Row::Working { client, .. } => Some(*client),
+        }
+    }
+
+    /// A transaction that stands here waits for this line, or for none where it is 0.
+    pub fn wait_for(&mut self, line: u64)
+        ensures { self.new ≡ with_waits line self.old }
+    {
+        match self {
+            Row::Begun { waits, .. } => *waits = line,
+            Row::Plain => {}
+            Row::Client { .. } => {}
+            Row::Asking { .. } => {}
+            Row::Calling { .. } => {}
+            Row::Past { .. } => {}
+            Row::Working { .. } => {}
+        }
+    }
+}
+
+impl<P, Q, K> Row<P, Q, K>
+where
+    P: PlanFor<PrewriteRequest>,
+    Q: PlanFor<CommitRequest>,
+    K: PlanFor<BatchRollbackRequest>,
+{
+    /// What stands here is told of something, and posts in `out` what it wants done. It stays what it is.
+    pub fn tell(
+        &mut self,
+        told: Told,
+        pd: &mut Pd,
+        now: u64,
+        out: &mut Outbox,
+    ) -> Result<Option<Answer<P, Q, K>>, NoMemory>
+        requires ready { RowReady (ways P.meaning Q.meaning K.meaning P.refuses Q.refuses K.refuses) self.old }
+        requires told { MayTell told }
+        requires hears { MayHear told self.old }
+        requires numbers { HasNumbers out.old }
+        requires clock { now < 2 ^ 44 }
+        ensures stand { OnOk result (stand_of self.new ≡ stand_of self.old) }
+        ensures ready { OnOk result (RowReady (ways P.meaning Q.meaning K.meaning P.refuses Q.refuses K.refuses) self.new) }
+        ensures posts { OnOk result (Posts out.old out.new) }
+        ensures rests { IfOk result (λ answer. IfSome answer (λ a. Rests self.new)) }
+        ensures fits { IfOk result (λ answer. IfSome answer (AnswerFits (ways P.meaning Q.meaning K.meaning P.refuses Q.refuses K.refuses))) }
+    {
+        match self {
+            Row::Asking { call, .. } => tell_call(call, told, pd, now, out),
+            Row::Begun { transaction, .. } => tell_transaction(transaction, told, pd, now, out),
+            Row::Working { job, .. } => {
+                tell_job(job, told, pd, now, out)?;
+                Ok(None)
+            }
+            Row::Plain => Ok(None),
+            Row::Client { .. } => Ok(None),
+            Row::Calling { .. } => Ok(None),
+            Row::Past { .. } => Ok(None),
+        }
+    }
+}

@@ -1,0 +1,71 @@
+//! What a transaction is told.
+ghost use Rattle.std.specs.Prelude.{◌≡◌, ◌<◌, ◌^◌, false};
+ghost use Rattle.txn_clients.specs.Rows.{IsTold};
+ghost use Rattle.txn_commit.specs.Committing.{ways};
+ghost use Rattle.txn_core.specs.Going.{TransactionReady};
+ghost use Rattle.txn_core.specs.Transaction.{is_open};
+ghost use Rattle.txn_history.specs.Posted.{HasNumbers};
+ghost use Rattle.txn_history.specs.Turn.{IfKept, turn_of};
+ghost use Rattle.txn_plan.specs.Arrivals.{MayArrive};
+
+use crate::answer::Pd;
+use txn_commit::PlanFor;
+use txn_core::{Transaction, TxnAnswer};
+use txn_kv::{BatchRollbackRequest, CommitRequest, NoMemory, Outbox, PrewriteRequest, Progress};
+use txn_plan::Arrival;
+use txn_side::Act;
+
+/// A transaction does what a line asks of it.
+pub fn perform<P, Q, K>(
+    transaction: &mut Transaction<Pd, P, Q, K>,
+    act: Act,
+    pd: &mut Pd,
+    now: u64,
+    out: &mut Outbox,
+) -> Result<Progress<TxnAnswer<Q>>, NoMemory>
+where
+    P: PlanFor<PrewriteRequest>,
+    Q: PlanFor<CommitRequest>,
+    K: PlanFor<BatchRollbackRequest>,
+    requires idle { is_open transaction.old.work ≡ false }
+    requires ready { TransactionReady (ways P.meaning Q.meaning K.meaning P.refuses Q.refuses K.refuses) transaction.old }
+    requires numbers { HasNumbers out.old }
+    requires clock { now < 2 ^ 44 }
+    ensures { IfKept (turn_of result) (IsTold (ways P.meaning Q.meaning K.meaning P.refuses Q.refuses K.refuses) transaction.new out.old out.new (turn_of result)) }
+{
+    match act {
+        Act::Put(key, value) => transaction.put(pd, key, value, now, out),
+        Act::Insert(key, value) => transaction.insert(pd, key, value, now, out),
+        Act::Delete(key) => transaction.delete(pd, key, now, out),
+        Act::Mutate(mutations) => transaction.batch_mutate(pd, mutations.into_vec(), now, out),
+        Act::Lock(keys) => transaction.lock_keys(pd, keys.into_vec(), now, out),
+        Act::Commit => transaction.commit(pd, now, out),
+        Act::Rollback => transaction.rollback(pd, now, out),
+    }
+}
+
+/// A transaction hears of something.
+pub fn hear<P, Q, K>(
+    transaction: &mut Transaction<Pd, P, Q, K>,
+    arrival: Arrival,
+    pd: &mut Pd,
+    now: u64,
+    out: &mut Outbox,
+) -> Result<Progress<TxnAnswer<Q>>, NoMemory>
+where
+    P: PlanFor<PrewriteRequest>,
+    Q: PlanFor<CommitRequest>,
+    K: PlanFor<BatchRollbackRequest>,
+    requires ready { TransactionReady (ways P.meaning Q.meaning K.meaning P.refuses Q.refuses K.refuses) transaction.old }
+    requires arrives { MayArrive arrival }
+    requires numbers { HasNumbers out.old }
+    requires clock { now < 2 ^ 44 }
+    ensures { IfKept (turn_of result) (IsTold (ways P.meaning Q.meaning K.meaning P.refuses Q.refuses K.refuses) transaction.new out.old out.new (turn_of result)) }
+{
+    match arrival {
+        Arrival::Reply { number, reply } => transaction.take_reply(pd, now, number, reply, out),
+        Arrival::Lost { number } => transaction.lost(pd, now, number, out),
+        Arrival::Slept { number } => transaction.slept(pd, now, number, out),
+        Arrival::Time { ask, answer } => transaction.take_time(pd, now, ask, answer, out),
+    }
+}
