@@ -1,15 +1,1 @@
-pub mod Commit
-pub mod Standing
-pub mod Posting
-pub mod Lists
-pub mod Script
-pub mod Causes
-pub mod Rowed
-pub mod Licensed
-pub mod Whole
-pub mod Clean
-pub mod Counted
-pub mod Stands
-pub mod StandsFor
-pub mod Lawful
 pub mod Program

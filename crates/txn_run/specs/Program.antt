@@ -1,18 +1,20 @@
 -- How a run of a script, and of the program, ends.
 use Rattle.std.specs.Prelude.{◌≡◌, ℕ, ◌<◌, List, [], ◌∷◌, length, Option, None, take}
 use Rattle.std.specs.Io.KnownBytes.{Consumes, IsAtEnd, Appends}
-use Rattle.txn_script.specs.Text.{IsScript, IsFirstBad}
-use Rattle.txn_script.specs.declared.line.Line.{Line}
-use Rattle.txn_script.specs.declared.script.Why.{Why}
+use Rattle.txn_script.specs.Text as first_path
+use Rattle.txn_script.specs.declared.line.Line as first
+use Rattle.txn_first.specs.Lawful as headline
+use Rattle.txn_lines.specs.Text.{IsScript, IsFirstBad}
+use Rattle.txn_lines.specs.declared.line.Line.{Line}
+use Rattle.txn_lines.specs.declared.script.Why.{Why}
+use Rattle.txn_machine.specs.Lawful.{Lawful}
 use Rattle.txn_report.specs.declared.report.Report.{Report}
 use Rattle.txn_report.specs.Text.{text_of_report}
 use Rattle.txn_stream.specs.Bytes.{Rose, ReadsAll}
 use Rattle.txn_run.specs.declared.program.End.{End}
 use Rattle.txn_run.specs.declared.program.End.TheVariants.{Done, BadWords, BadLine, ReadFault, WriteFault, OutOfMemory}
-use Rattle.txn_script.specs.Lines.{why_after}
 use Rattle.txn_run.specs.declared.program.ScriptStop.{ScriptStop}
 use Rattle.txn_run.specs.declared.program.ScriptStop.TheVariants.{Bad, Memory}
-use Rattle.txn_run.specs.Lawful.{Lawful}
 
 -- the exit status
 abbrev pub status_of_end : End → ℕ
@@ -24,28 +26,41 @@ status_of_end (WriteFault written) = 5
 status_of_end OutOfMemory = 6
 
 -- the bytes are a script, and the report is what it did
-pub record Ran (bytes : List ℕ) (report : Report) : Type 0 where
+pub record RanScript (bytes : List ℕ) (report : Report) : Type 0 where
   pub lines : List Line
   pub script : IsScript bytes lines
   pub lawful : Lawful lines report
+
+-- the bytes are no script of the first path
+abbrev pub IsOther : List ℕ → Type 0
+IsOther bytes = (lines : List first.Line) → first_path.IsScript bytes lines → ⊥
+
+-- Of a script of the first path the report says all that is promised of these, and of another what is promised of every script.
+pub record Ran (bytes : List ℕ) (report : Report) : Type 0 where
+  pub first : (lines : List first.Line) → first_path.IsScript bytes lines → headline.Lawful lines report
+  pub other : IsOther bytes → RanScript bytes report
+
+-- the first bad line of bytes that are no script
+pub record IsBadScript (bytes : List ℕ) (line : ℕ) (why : Why) : Type 0 where
+  pub bad : IsFirstBad bytes line why
+  pub other : IsOther bytes
 
 -- how the run of a script of these bytes ends
 abbrev pub EndOfScript : List ℕ → End → Type 0
 EndOfScript bytes (Done report) = Ran bytes report
 EndOfScript bytes BadWords = ⊥
-EndOfScript bytes (BadLine line why) = IsFirstBad bytes line why
+EndOfScript bytes (BadLine line why) = IsBadScript bytes line why
 EndOfScript bytes ReadFault = ⊥
 EndOfScript bytes (WriteFault written) = ⊥
 EndOfScript bytes OutOfMemory = Unit {0}
 
--- each line is not bad after these, the newest first, and the ones between
-abbrev pub AllGood : List Line → List Line → Type 0
-AllGood before [] = Unit {0}
-AllGood before (line ∷ lines) = (why_after before line ≡ None) × AllGood (line ∷ before) lines
-
 -- why the script of these bytes gives no report
+abbrev pub StopOfLines : List ℕ → ScriptStop → Type 0
+StopOfLines bytes (Bad bad) = IsFirstBad bytes bad.line bad.why
+StopOfLines bytes Memory = Unit {0}
+
 abbrev pub StopOfScript : List ℕ → ScriptStop → Type 0
-StopOfScript bytes (Bad bad) = IsFirstBad bytes bad.line bad.why
+StopOfScript bytes (Bad bad) = IsBadScript bytes bad.line bad.why
 StopOfScript bytes Memory = Unit {0}
 
 -- what became of the text of a report
@@ -82,7 +97,7 @@ pub record FoundBad (e : Edges) (line : ℕ) (why : Why) : Type 0 where
   pub unfailed : e.read_faults_after ≡ e.read_faults
   pub bytes : List ℕ
   pub read : ReadsAll e.left e.left_after bytes
-  pub bad : IsFirstBad bytes line why
+  pub bad : IsBadScript bytes line why
 
 -- no read failed, and the sink took the first bytes of the text of a report for the source's script, and then failed
 pub record CutShort (e : Edges) (taken : ℕ) : Type 0 where

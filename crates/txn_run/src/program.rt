@@ -1,13 +1,14 @@
 ghost use Rattle.std.specs.Prelude.{◌≡◌, ◌<◌, [], IfOk, MatchResult, vec_len};
-ghost use Rattle.txn_run.specs.Program.{status_of_end, Ran, EndOfScript, StopOfScript, AllGood, Edges, EndOfRun, WritesNothing, Wrote};
-ghost use Rattle.txn_run.specs.Lawful.{Lawful};
+ghost use Rattle.txn_run.specs.Program.{status_of_end, Ran, RanScript, EndOfScript, StopOfLines, StopOfScript, Edges, EndOfRun, WritesNothing, Wrote};
 ghost use Rattle.txn_run.specs.declared.program.ScriptStop.TheVariants.{Bad, Memory};
 
-use crate::machine::Machine;
 use std::alloc::Global;
+use txn_clients::Clients;
+use txn_commit_plans::{BatchRollbackPlan, CommitPlan, PrewritePlan};
 use txn_kv::NoMemory;
+use txn_lines::{BadAt, Why, parse_script};
+use txn_machine::run_lines;
 use txn_report::{Report, report_text};
-use txn_script::{BadAt, Line, Why, parse_script};
 use txn_stream::{ReadStop, Sink, Source, read_all, write_all};
 
 /// How a run ends.
@@ -62,25 +63,27 @@ impl End {
     }
 }
 
-/// Runs lines, none of which is bad after the earlier ones.
-fn run_lines(alloc: Global, lines: Vec<Line>) -> Result<Report, NoMemory>
-    requires { AllGood [] lines.items }
-    ensures { IfOk result (λ report. Lawful lines.items report) }
-{
-    let mut machine = Machine::new(alloc)?;
-    for line in lines {
-        machine.step(line)?;
-    }
-    Ok(machine.report())
-}
-
-/// Runs the script of these bytes.
-fn run_bytes(alloc: Global, bytes: &[u8]) -> Result<Report, ScriptStop>
-    ensures { MatchResult result (Ran bytes.now) (StopOfScript bytes.now) }
+/// Runs the script of these bytes over the clients of the library.
+fn run_lines_of(alloc: Global, bytes: &[u8]) -> Result<Report, ScriptStop>
+    ensures { MatchResult result (RanScript bytes.now) (StopOfLines bytes.now) }
 {
     match parse_script(alloc, bytes)? {
         Err(bad) => Err(ScriptStop::Bad(bad)),
-        Ok(script) => Ok(run_lines(alloc, script.lines.into_vec())?),
+        Ok(script) => {
+            let clients: Clients<PrewritePlan, CommitPlan, BatchRollbackPlan> = Clients::new(alloc);
+            Ok(run_lines(alloc, clients, script.lines.into_vec())?)
+        }
+    }
+}
+
+/// Runs the script of these bytes: one of the first path by the machine whose reports carry the headline, and every other over the
+/// clients of the library.
+fn run_bytes(alloc: Global, bytes: &[u8]) -> Result<Report, ScriptStop>
+    ensures { MatchResult result (Ran bytes.now) (StopOfScript bytes.now) }
+{
+    match txn_script::parse_script(alloc, bytes)? {
+        Ok(script) => Ok(txn_first::run_lines(alloc, script.lines.into_vec())?),
+        Err(_) => run_lines_of(alloc, bytes),
     }
 }
 

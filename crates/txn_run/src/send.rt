@@ -1,13 +1,8 @@
-//! A machine can move between threads, and so can the ends of a run.
+//! The ends of a run can move between threads.
 
-use crate::machine::Machine;
-use crate::note::Ending;
 use crate::program::End;
 use txn_kv::send::can_move;
 
-/// The types of this crate that a machine or its run holds do.
-pub fn machines_can_move() {
-    can_move::<Machine>();
-    can_move::<Ending>();
+pub fn ends_can_move() {
     can_move::<End>();
 }

@@ -2,7 +2,7 @@ use super::*;
 use std::alloc::Global;
 use std::process::Abort;
 use std::test::Fail;
-use txn_kv::{NoMemory, Ticket};
+use txn_kv::NoMemory;
 
 const FIRST_COMMIT: &[u8] =
     b"client\nbegin 1 opt\ndeliver 2.1\nput 2 k1 v1\ncommit 2\ndeliver 5.1\ndeliver 5.2\ndeliver 5.3\ndeliver 5.4\ndeliver 5.5\n";
@@ -75,6 +75,36 @@ fn what_is_skipped_and_what_stays_open(rt: HostRuntime) -> Result<(), Fail> {
 }
 
 #[test]
+fn an_insert_that_is_deleted_again(rt: HostRuntime) -> Result<(), Fail> {
+    let script =
+        b"client\nbegin 1 opt\ndeliver 2.1\ninsert 2 k1 v1\ndelete 2 k1\ncommit 2\ndeliver 6.1\ndeliver 6.2\ndeliver 6.3\n";
+    let printed =
+        b"1 ok\n2 ok 1\n3 done\n4 ok\n5 ok\n6 ok none\n7 done\n8 done\n9 done\nsent 4 served 4\n";
+    expect_printed(&rt, rt.alloc(), script, printed)?;
+    Ok(())
+}
+
+#[test]
+fn a_late_commit_after_a_refused_rollback(rt: HostRuntime) -> Result<(), Fail> {
+    let script =
+        b"client\nbegin 1 opt noregions\ndeliver 2.1\nput 2 a 1\nput 2 b 2\ncommit 2\ndeliver 6.1\ndeliver 6.2\ndeliver 6.3\ndeliver 6.4\nlose 6.5\nrollback 2\nserve 6.5\n";
+    let printed =
+        b"1 ok\n2 ok 1\n3 done\n4 ok\n5 ok\n6 err UndeterminedError [GrpcAPI 6.5]\n7 done\n8 done\n9 done\n10 done\n11 done\n12 err UndeterminedError [GrpcAPI 6.5]\n13 done\nkey a commit 1 2 put 1\nkey b lock put 1 a 2\nsent 6 served 6\n";
+    expect_printed(&rt, rt.alloc(), script, printed)?;
+    Ok(())
+}
+
+#[test]
+fn a_loss_a_sleep_a_timestamp_and_a_crash(rt: HostRuntime) -> Result<(), Fail> {
+    let script =
+        b"client\nbegin 1 opt\ndeliver 2.1\nput 2 k v\ncommit 2\ndeliver 5.1\ndeliver 5.2\nlose 5.3\nwake 5.4\ntimestamp 1\ndeliver 10.1\ncrash 1\n";
+    let printed =
+        b"1 ok\n2 ok 1\n3 done\n4 ok\n5 open\n6 done\n7 done\n8 done\n9 done\n10 ok 2\n11 done\n12 done\nsent 6 served 4\n";
+    expect_printed(&rt, rt.alloc(), script, printed)?;
+    Ok(())
+}
+
+#[test]
 fn each_reason_of_a_bad_line(rt: HostRuntime) -> Result<(), Fail> {
     let alloc = rt.alloc();
     let too_many = vec![in alloc; b'\n'; 65537]?;
@@ -90,6 +120,15 @@ fn each_reason_of_a_bad_line(rt: HostRuntime) -> Result<(), Fail> {
         bad_line(alloc, b"client\ncommit 1\n"),
         Some((2, Why::Kind))
     );
+    assert_eq!(rt; bad_line(alloc, b"split x:"), Some((1, Why::EmptySplit)));
+    assert_eq!(rt;
+        bad_line(alloc, b"clock 17592186044416"),
+        Some((1, Why::ClockHigh))
+    );
+    assert_eq!(rt;
+        bad_line(alloc, b"clock 5\nclock 4\n"),
+        Some((2, Why::ClockFalls))
+    );
     assert_eq!(rt; bad_line(alloc, b"client\n"), None);
     Ok(())
 }
@@ -97,7 +136,7 @@ fn each_reason_of_a_bad_line(rt: HostRuntime) -> Result<(), Fail> {
 #[test]
 fn a_bad_line_writes_nothing(rt: HostRuntime) -> Result<(), Fail> {
     let alloc = rt.alloc();
-    let mut source = SureSource::new(b"client\nclient\n");
+    let mut source = SureSource::new(b"client\nbegin 2 opt\n");
     let mut sink = MemorySink::new(alloc, 7, Vec::new(alloc));
     let run = run_program(alloc, &Vec::new(alloc), &mut source, &mut sink);
     assert_eq!(rt; run.status, 3);
@@ -139,35 +178,5 @@ fn words_are_bad(rt: HostRuntime) -> Result<(), Fail> {
     let run = run_program(alloc, &words, &mut source, &mut sink);
     assert_eq!(rt; run.status, 2);
     assert!(rt; sink.written().is_empty());
-    Ok(())
-}
-
-#[test]
-fn a_machine_runs_line_by_line(rt: HostRuntime) -> Result<(), Fail> {
-    let ticket = Ticket {
-        line: 2,
-        beat: false,
-        number: 1,
-    };
-    let mut machine = Machine::new(rt.alloc())?;
-    assert_eq!(rt; machine.check(&Line::Client), None);
-    let first = machine.step(Line::Client)?;
-    assert_eq!(rt; first.place, 1);
-    assert!(rt; matches!(first.outcome, Outcome::Ok(Payload::Unit)));
-    assert_eq!(rt; first.ended.len(), 1);
-    let second = machine.step(Line::Begin { client: 1 })?;
-    assert!(rt; matches!(second.outcome, Outcome::Unfinished));
-    assert_eq!(rt; second.ended.len(), 0);
-    assert_eq!(rt; second.sent.as_slice(), [ticket].as_slice());
-    assert_eq!(rt; machine.outs()?.as_slice(), [ticket].as_slice());
-    let third = machine.step(Line::Deliver { ticket })?;
-    assert!(rt; matches!(third.outcome, Outcome::Done));
-    let ended = third.ended.as_slice();
-    assert_eq!(rt; ended.len(), 1);
-    assert_eq!(rt; ended[0].line, 2);
-    assert!(rt; matches!(ended[0].outcome, Outcome::Ok(Payload::Number(_))));
-    assert_eq!(rt; machine.outs()?.len(), 0);
-    let report = machine.report();
-    assert_eq!(rt; report.outcomes.len(), 3);
     Ok(())
 }

@@ -1,0 +1,31 @@
+use Rattle.std.proofs.Common.{[], sym, subst, arith}
+use Rattle.txn_first.specs.Lawful.{AllGood}
+use Rattle.txn_first.proofs.Machines.{run_stepped, can_step, run_over}
+use Rattle.txn_first.proofs.runs.run_lines.Goals as goal
+
+pub loop-line-init : goal.loop-line-init
+loop-line-init c =
+    let same = c.into_iter-line-iterator.ensures.into_iter_gives.0 in
+    record {
+      done = [];
+      memory = c.in_ok-machine.ensures.memory;
+      stands = c.in_ok-machine.ensures.stands;
+      good = subst (λ ls. AllGood [] ls) (sym same) c.requires;
+      together = same;
+    }
+
+pub step-requires : goal.step-requires
+step-requires c = can_step c.loop-line.machine c.args.lines.items c.loop-line.line-iterator.rest.items c.next.new.self.rest.items c.in-Some.line c.loop-line.invariant c.in-Some.ensures.steps.0
+
+pub loop-line-preserved : goal.loop-line-preserved
+loop-line-preserved c =
+    run_stepped c.loop-line.machine c.step.new.self c.args.lines.items c.loop-line.line-iterator.rest.items c.next.new.self.rest.items c.in-Some.line c.loop-line.invariant c.in-Some.ensures.steps.0 c.in_ok-step.ensures.memory.1 c.in_ok-step.ensures.stands
+
+pub report-requires : goal.report-requires
+report-requires c = c.loop-line.invariant.memory
+
+pub returns : goal.returns
+returns c =
+    let counted = c.loop-line.line-iterator.rest.ok.0 in
+    let over = c.in-None.ensures.steps.0 in
+    run_over c.loop-line.machine c.args.lines.items c.loop-line.line-iterator.rest.items c.report.result c.loop-line.invariant (omega arith) c.report.ensures

@@ -1,0 +1,7 @@
+use Rattle.std.proofs.Common.{[], sym, subst}
+use Rattle.txn_machine.specs.Lawful.{AllGood}
+use Rattle.txn_machine.proofs.Scripts.{all_good}
+use Rattle.txn_run.proofs.program.run_lines_of.Goals as goal
+
+pub run_lines-requires-clause-good : goal.run_lines-requires-clause-good
+run_lines-requires-clause-good c = subst (λ ls. AllGood [] ls) (sym c.into_vec.ensures) (all_good c.args.bytes.now c.in-Ok.script.lines (rw c.in-Ok.is at c.in_ok-bad.ensures.read))
