@@ -8,8 +8,6 @@ pub mod plan_for;
 pub mod primary_commits;
 pub mod secondary_job;
 pub mod send;
-#[cfg(test)]
-mod tests;
 pub mod timestamp_call;
 
 pub use commit_parts::CommitParts;

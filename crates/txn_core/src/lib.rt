@@ -6,8 +6,6 @@ pub mod laws;
 pub mod options;
 pub mod send;
 pub mod status;
-#[cfg(test)]
-mod tests;
 pub mod transaction;
 pub mod ttl;
 pub mod txn_answer;

@@ -11,6 +11,3 @@ mod transaction;
 pub use machine::Machine;
 pub use note::{Ending, StepNote};
 pub use runs::run_lines;
-
-#[cfg(test)]
-mod tests;

@@ -12,6 +12,3 @@ pub use machine::Machine;
 pub use note::StepNote;
 pub use runs::run_lines;
 pub use txn_side::Ending;
-
-#[cfg(test)]
-mod tests;

@@ -8,6 +8,3 @@ pub mod send;
 
 pub use letter::Letter;
 pub use post::{Place, Post};
-
-#[cfg(test)]
-mod tests;

@@ -17,8 +17,6 @@ mod sorted;
 mod starts;
 pub mod store;
 pub mod stores;
-#[cfg(test)]
-mod tests;
 
 pub use as_key::AsKey;
 pub use codec::{ApiV1RawCodec, ApiV1TxnCodec, ApiV2TxnCodec, Codec, EncodedRequest};

@@ -11,6 +11,3 @@ mod words;
 pub use outcome::{Outcome, Payload};
 pub use report::{Report, SentNote, SleepNote};
 pub use text::report_text;
-
-#[cfg(test)]
-mod tests;

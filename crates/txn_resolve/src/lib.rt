@@ -4,7 +4,5 @@
 pub mod resolve_lock;
 pub mod send;
 mod shard;
-#[cfg(test)]
-mod tests;
 
 pub use resolve_lock::ResolveLock;

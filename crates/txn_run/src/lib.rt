@@ -11,6 +11,3 @@ pub use txn_report::{Outcome, Payload, Report, SentNote, SleepNote, report_text}
 pub use txn_stream::{
     Failed, MemorySink, MemorySource, Sink, Source, StdinSource, StdoutSink, SureSink, SureSource,
 };
-
-#[cfg(test)]
-mod tests;

@@ -17,6 +17,3 @@ pub use line_kinds::{LineKind, LineKinds};
 pub use parser::parse_line;
 pub use script::{BadAt, Script, Why};
 pub use script_parser::parse_script;
-
-#[cfg(test)]
-mod tests;

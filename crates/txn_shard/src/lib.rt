@@ -14,8 +14,6 @@ pub mod shardable;
 pub mod single_key;
 mod sorted;
 pub mod store_request;
-#[cfg(test)]
-mod tests;
 
 pub use batchable::{Batchable, TXN_COMMIT_BATCH_SIZE};
 pub use law::parts_are_licensed;

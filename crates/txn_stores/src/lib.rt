@@ -8,8 +8,6 @@ pub mod stage;
 pub mod store_plan;
 pub mod store_search;
 pub mod store_task;
-#[cfg(test)]
-mod tests;
 
 pub use all_stores::RetryableAllStores;
 pub use store_plan::StorePlan;

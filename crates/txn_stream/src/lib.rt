@@ -20,6 +20,3 @@ pub use std_sink::StdoutSink;
 pub use std_source::StdinSource;
 pub use sure::{SureSink, SureSource};
 pub use writing::write_all;
-
-#[cfg(test)]
-mod tests;

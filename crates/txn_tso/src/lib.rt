@@ -11,8 +11,6 @@ pub mod reading;
 pub mod retry_client;
 pub mod send;
 pub mod stage;
-#[cfg(test)]
-mod tests;
 
 pub use asker::Asker;
 pub use cluster::Cluster;

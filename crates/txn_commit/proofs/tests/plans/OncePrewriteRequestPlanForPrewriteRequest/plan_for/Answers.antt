@@ -1,6 +1,0 @@
-use Rattle.std.proofs.Common.{◌∙◌}
-use Rattle.txn_commit.proofs.Once.{once_prewrites}
-use Rattle.txn_commit.proofs.tests.plans.OncePrewriteRequestPlanForPrewriteRequest.plan_for.Goals as goal
-
-pub returns : goal.returns
-returns g c = once_prewrites c.args.request 1 c.new.result (c.new.ensures ∙ c.new-sent.ensures.value)

@@ -1,4 +1,0 @@
-mod calls;
-mod client;
-mod parts;
-mod plans;

@@ -1,0 +1,7 @@
+//! Tests of commits and of transactions.
+#![tactic(auto)]
+
+#[cfg(test)]
+mod commit;
+#[cfg(test)]
+mod core;

@@ -1,0 +1,7 @@
+//! Tests of the machines.
+#![tactic(auto)]
+
+#[cfg(test)]
+mod first;
+#[cfg(test)]
+mod machine;

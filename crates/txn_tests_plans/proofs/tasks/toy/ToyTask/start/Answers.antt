@@ -1,0 +1,19 @@
+use Rattle.std.proofs.Common.{◌≡◌, ℕ, Bool, refl, sym, arith}
+use Rattle.std.specs.Prelude.{⊤}
+use Rattle.txn_kv.specs.declared.ticket.Target.TheVariants.{Placement}
+use Rattle.txn_kv.specs.declared.request.Request.TheVariants as request
+use Rattle.txn_history.proofs.Telling.{Tells-idle}
+use Rattle.txn_tasks.specs.Single.{single-lawful}
+use Rattle.txn_tasks.specs.declared.stage.Stage.{Stage}
+use Rattle.txn_tests_plans.specs.declared.tasks.toy.Toy.{Toy}
+use Rattle.txn_tasks.proofs.Singles.{end_deaf, reply_deaf, time_deaf, zeros, single-done, single-sent, single-slept}
+use Rattle.txn_tests_plans.proofs.tasks.toy.ToyTask.start.Goals as goal
+
+pub returns-then-not-is_fresh-clause-tells : goal.returns-then-not-is_fresh-clause-tells
+returns-then-not-is_fresh-clause-tells g c = Tells-idle (single-lawful (λ (t : Toy). t.stage) (λ (t : Toy). t.sleeps) (λ (t : Toy). t.number)) (λ a e w. e) c.stay.ensures
+
+pub returns-in_err-self-clause-tells : goal.returns-in_err-self-clause-tells
+returns-in_err-self-clause-tells g c = single-done (λ (t : Toy). t.stage) (λ (t : Toy). t.sleeps) (λ (t : Toy). t.number) (λ e. cc) c.in_err-self.ensures.err
+
+pub returns-clause-tells : goal.returns-clause-tells
+returns-clause-tells g c = single-sent (λ (t : Toy). t.stage) (λ (t : Toy). t.sleeps) (λ (t : Toy). t.number) Placement _ c.in_ok-self.ensures.ok refl c.in_ok-self.ensures.number

@@ -1,0 +1,7 @@
+//! Tests of plans over all stores, and of what builds plans.
+#![tactic(auto)]
+
+#[cfg(test)]
+mod builder;
+#[cfg(test)]
+mod stores;

@@ -1,5 +1,0 @@
-use Rattle.txn_history.specs.Posted.{HasNumbers}
-use Rattle.txn_tso.proofs.tests.playing.tell_all.Given as goal
-
-abbrev pub invariant-loop-event : goal.invariant-loop-event
-invariant-loop-event l = HasNumbers l.out
