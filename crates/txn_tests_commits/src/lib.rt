@@ -4,4 +4,4 @@
 #[cfg(test)]
 mod commit;
 #[cfg(test)]
-mod core;
+mod transaction;

@@ -6,7 +6,7 @@ ghost use Rattle.txn_kv.specs.Timestamp.{HasVersion};
 ghost use Rattle.txn_plan.specs.Arrivals.{MayArrive};
 
 use super::client::NoClient;
-use crate::core::plans::Once;
+use crate::transaction::plans::Once;
 use std::alloc::Global;
 use std::test::Fail;
 use txn_buffer::Buffer;
