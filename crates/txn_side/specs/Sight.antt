@@ -1,12 +1,17 @@
 -- What a machine sees of the clients of a run.
-use Rattle.std.specs.Prelude.{◌≡◌, ◌⊎◌, ◌∷◌, ◌++◌, ◌+◌, ◌-◌, ◌≤◌, ℕ, Bool, true, false, not, ◌&&◌, List, [], length, map, filter, nat_eq, Option, Some, None, slice_set, slice_index_or}
-use Rattle.std.specs.List.{All}
+use Rattle.std.specs.Prelude.{◌≡◌, ◌⊎◌, ◌∷◌, ◌++◌, ◌+◌, ◌-◌, ◌<◌, ◌≤◌, ℕ, Bool, true, false, not, ◌&&◌, List, [], length, map, filter, nat_eq, Option, Some, None, slice_set, slice_index_or}
+use Rattle.std.specs.List.{All, Any}
 use Rattle.std.proofs.Common.{zero, suc}
+use Rattle.txn_kv.specs.Timestamp.{version_of}
+use Rattle.txn_kv.specs.declared.reply.Reply.{Reply}
+use Rattle.txn_kv.specs.declared.reply.Reply.TheVariants as replies
+use Rattle.txn_kv.specs.declared.reply.TsoResponse.{TsoResponse}
 use Rattle.txn_kv.specs.declared.request.Request.{Request}
 use Rattle.txn_kv.specs.declared.request.Request.TheVariants.{Tso}
 use Rattle.txn_kv.specs.declared.ticket.Ticket.{Ticket}
+use Rattle.txn_kv.specs.declared.timestamp.Timestamp.{Timestamp}
 use Rattle.txn_report.specs.declared.outcome.Outcome.{Outcome}
-use Rattle.txn_report.specs.declared.outcome.Outcome.TheVariants.{Ok, Err}
+use Rattle.txn_report.specs.declared.outcome.Outcome.TheVariants.{Ok, Err, Unfinished, Done, Skipped}
 use Rattle.txn_report.specs.declared.outcome.Payload.TheVariants.{Unit as Nothing, Number, Commit as Committed}
 use Rattle.txn_side.specs.declared.act.Act.{Act}
 use Rattle.txn_side.specs.declared.act.Act.TheVariants as acts
@@ -33,14 +38,21 @@ pub data Stand : Type 0 where
   -- a job goes on behind a commit, or is over
   Working : (client : ℕ) → Stand
 
--- which clients have crashed; what stands at each line; and the number of the next request or sleep of each
+-- a request for timestamps that is out, and the lines whose asks it carries, in their order
+pub record Group : Type 0 where
+  pub ticket : Ticket
+  pub askers : List ℕ
+
+-- which clients have crashed; the request for timestamps of each that is out; what stands at each line; and the number of the next
+-- request or sleep of each
 pub record Sight : Type 0 where
   pub crashed : List Bool
+  pub groups : List (Option Group)
   pub stands : List Stand
   pub nexts : List ℕ
 
 abbrev pub nobody : Sight
-nobody = record { crashed = []; stands = []; nexts = [] }
+nobody = record { crashed = []; groups = []; stands = []; nexts = [] }
 
 abbrev pub line_count : Sight → ℕ
 line_count s = length s.stands
@@ -85,7 +97,7 @@ with_stand line stand s = record s { stands = slice_set s.stands (line - 1) stan
 
 -- the newest line makes a client
 abbrev pub connected : Sight → Sight
-connected s = record (with_stand (line_count s) (IsClient (length s.crashed)) s) { crashed = s.crashed ++ false ∷ [] }
+connected s = record (with_stand (line_count s) (IsClient (length s.crashed)) s) { crashed = s.crashed ++ false ∷ []; groups = s.groups ++ None ∷ [] }
 
 abbrev pub without : Option ℕ → List Bool → List Bool
 without None crashed = crashed
@@ -129,7 +141,69 @@ abbrev pub ArePosted : List ℕ → List Posting → List ℕ → Type 0
 ArePosted from [] to = to ≡ from
 ArePosted from (p ∷ ps) to = IsNext from (ticket_in p) × HasAskers p × ArePosted (with_next from (ticket_in p).line) ps to
 
+-- each asker is one of so many lines
+abbrev pub AskersAre : ℕ → Posting → Type 0
+AskersAre count (Send t to r askers) = All (λ n. n ≤ count) askers
+AskersAre count (Sleep t) = Unit {0}
+
+-- Groups
+
+-- a client's request for timestamps is out
+abbrev pub IsOut : Sight → Group → Type 0
+IsOut s g = (c : ℕ) × (slice_index_or s.groups c None ≡ Some g)
+
+-- this is posted
+abbrev pub IsAsk : Group → Posting → Type 0
+IsAsk g (Send t to (Tso r) askers) = (t ≡ g.ticket) × (askers ≡ g.askers)
+IsAsk g _ = ⊥
+
+-- a group that is out was so before, or is one that was posted
+abbrev pub GroupsGo : List Posting → Sight → Sight → Type 0
+GroupsGo posted old new = (g : Group) → IsOut new g → IsOut old g ⊎ Any (IsAsk g) posted
+
+-- What is given
+
+-- The reply gives a line this timestamp. It names its last one, which is of the last asker, and each asker has the one before that of
+-- the next.
+pub record Gives (o : TsoResponse) (askers : List ℕ) (line version : ℕ) : Type 0 where
+  pub last : Timestamp
+  pub is_last : o.timestamp ≡ Some last
+  pub ahead : List ℕ
+  pub behind : List ℕ
+  pub lines : askers ≡ ahead ++ line ∷ behind
+  pub below : version + length behind ≡ version_of last
+  pub within : length behind < o.count
+
+abbrev pub GivesIn : Reply → List ℕ → ℕ → ℕ → Type 0
+GivesIn (replies.Tso o) askers line version = Gives o askers line version
+GivesIn _ askers line version = ⊥
+
+-- the request of the ticket is out, and its reply gives a line this timestamp
+pub record IsGiven (s : Sight) (t : Ticket) (o : Reply) (line version : ℕ) : Type 0 where
+  pub group : Group
+  pub out : IsOut s group
+  pub ticket : group.ticket ≡ t
+  pub gives : GivesIn o group.askers line version
+
+-- no line is given any
+abbrev pub NoneGiven : ℕ → ℕ → Type 0
+NoneGiven line version = ⊥
+
 -- What ends
+
+-- the timestamp that an outcome names
+abbrev pub number_of : Outcome → Option ℕ
+number_of (Ok Nothing) = None
+number_of (Ok (Number version)) = Some version
+number_of (Ok (Committed version)) = None
+number_of (Err e) = None
+number_of Unfinished = None
+number_of Done = None
+number_of Skipped = None
+
+-- an ending names no timestamp but one that its line was given
+abbrev pub Names : (ℕ → ℕ → Type 0) → Ending → Type 0
+Names IsGiven e = (version : ℕ) → number_of e.outcome ≡ Some version → IsGiven e.line version
 
 -- what a line's call answered
 abbrev pub outcomes_of : ℕ → List Ending → List Outcome
@@ -175,6 +249,8 @@ pub record Goes (posted : List Posting) (ended : List Ending) (old new : Sight) 
   pub live : All (λ (e : Ending). is_live old e.line ≡ true) ended
   pub posting : All (λ (p : Posting). is_live old (ticket_in p).line ≡ true) posted
   pub numbers : ArePosted old.nexts posted new.nexts
+  pub askers : All (AskersAre (line_count old)) posted
+  pub groups : GroupsGo posted old new
 
 abbrev pub commits : Act → Bool
 commits (acts.Put k v) = false
@@ -189,12 +265,13 @@ commits acts.Rollback = false
 abbrev pub EndsAlone : ℕ → List Ending → Type 0
 EndsAlone line ended = All (λ (e : Ending). e.line ≡ line) ended
 
--- the newest line has begun a call for a timestamp of a line's client
+-- the newest line has begun a call for a timestamp of a line's client, and is given none yet
 abbrev pub Asks : Bool → ℕ → Sight → Sight → Option Turn → Type 0
 Asks begins client old new None = (is_live old client ≡ false) × (new ≡ old)
 Asks begins client old new (Some turn) = (c : ℕ) × (client_at (stand_at old.stands client) ≡ Some c) × (is_live old client ≡ true)
     × Goes turn.posted.items turn.ended.items (with_stand (line_count old) (Asking c begins) old) new
     × EndsAlone (line_count old) turn.ended.items
+    × All (Names NoneGiven) turn.ended.items
 
 -- the newest line has begun a call of the transaction of line x
 abbrev pub Acts : Act → ℕ → Sight → Sight → Option Turn → Type 0
@@ -202,3 +279,4 @@ Acts act x old new None = (is_free old x ≡ false) × (new ≡ old)
 Acts act x old new (Some turn) = (c : ℕ) × (stand_at old.stands x ≡ HasBegun c 0) × (is_free old x ≡ true)
     × Goes turn.posted.items turn.ended.items (with_stand (line_count old) (Calling c x (commits act)) (with_stand x (HasBegun c (line_count old)) old)) new
     × EndsAlone (line_count old) turn.ended.items
+    × All (Names NoneGiven) turn.ended.items

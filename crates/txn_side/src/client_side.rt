@@ -1,5 +1,6 @@
+ghost use Rattle.std.specs.List.{All};
 ghost use Rattle.std.specs.Prelude.{◌≡◌, ◌<◌, ◌≤◌, ◌^◌, IfOk, OnOk, false, true};
-ghost use Rattle.txn_side.specs.Sight.{Acts, Asks, Goes, connected, crash, is_live, line_count, opened};
+ghost use Rattle.txn_side.specs.Sight.{Acts, Asks, Goes, IsGiven, Names, NoneGiven, connected, crash, is_live, line_count, opened};
 
 use crate::act::Act;
 use crate::turn::Turn;
@@ -73,12 +74,13 @@ pub trait ClientSide: Sized + Drop {
         ensures turn { IfOk result (Acts act transaction (sight self.old) (sight self.new)) }
         ensures ready { OnOk result (ready self.new) };
 
-    /// A reply comes: to the call of the ticket's line, or from the oracle to those who asked. Nothing is done where the line's
-    /// client has crashed.
+    /// A reply comes: to the call of the ticket's line, or from the oracle to those who asked, each of whom gets the timestamp of
+    /// its place. Nothing is done where the line's client has crashed.
     fn take_reply(&mut self, ticket: Ticket, reply: Reply, now: u64) -> Result<Turn, NoMemory>
         requires ready { ready self.old }
         requires clock { now < 2 ^ 44 }
         ensures turn { IfOk result (λ turn. Goes turn.posted.items turn.ended.items (sight self.old) (sight self.new)) }
+        ensures given { IfOk result (λ turn. All (Names (IsGiven (sight self.old) ticket reply)) turn.ended.items) }
         ensures ready { OnOk result (ready self.new) };
 
     /// No reply to the request of the ticket will come.
@@ -86,6 +88,7 @@ pub trait ClientSide: Sized + Drop {
         requires ready { ready self.old }
         requires clock { now < 2 ^ 44 }
         ensures turn { IfOk result (λ turn. Goes turn.posted.items turn.ended.items (sight self.old) (sight self.new)) }
+        ensures given { IfOk result (λ turn. All (Names NoneGiven) turn.ended.items) }
         ensures ready { OnOk result (ready self.new) };
 
     /// A sleep has ended.
@@ -93,5 +96,6 @@ pub trait ClientSide: Sized + Drop {
         requires ready { ready self.old }
         requires clock { now < 2 ^ 44 }
         ensures turn { IfOk result (λ turn. Goes turn.posted.items turn.ended.items (sight self.old) (sight self.new)) }
+        ensures given { IfOk result (λ turn. All (Names NoneGiven) turn.ended.items) }
         ensures ready { OnOk result (ready self.new) };
 }
