@@ -73,13 +73,13 @@ meets_same asleep sleeping seen know before es fs z x y a b c d m =
 
 module _ (line : Line) (ls : List Line) (old : Lists) (told : newest old ≡ length ls) (ordered : IsOrdered old) (good : why_after ls line ≡ None) (was : Caused ls old) (folded : Folded ls old)
     (new : Lists) (c : Course line old new) (stepped : Stepped (length ls) line old (followed c.posted c.ended c.mid)) where
-  abbrev all : Lists
+  abbrev pub all : Lists
   all = followed c.posted c.ended c.mid
 
-  abbrev es : List Event
+  abbrev pub es : List Event
   es = history old.mail.sent old.outcomes ls
 
-  keeps : Keeps (opened old) c.mid.mail
+  pub keeps : Keeps (opened old) c.mid.mail
   keeps = mail_keeps (opened old) c.mid.mail (opened_is_mail old.mail ordered.sound.mail) (own_done c.own) line c.mails
 
   all_mail : all.mail ≡ all_posted (newest c.mid) c.posted c.mid.mail
@@ -88,7 +88,7 @@ module _ (line : Line) (ls : List Line) (old : Lists) (told : newest old ≡ len
   count : newest c.mid ≡ suc (length ls)
   count = mid_count line ls old told ordered.even good was.rows new c
 
-  posted_mail : all.mail ≡ all_posted (suc (length ls)) c.posted c.mid.mail
+  pub posted_mail : all.mail ≡ all_posted (suc (length ls)) c.posted c.mid.mail
   posted_mail = all_mail ∙ ap (λ k. all_posted k c.posted c.mid.mail) count
 
   same_history : (zs : List Line) → length zs ≤ length ls → history old.mail.sent old.outcomes zs ≡ history all.mail.sent all.outcomes zs
@@ -144,13 +144,13 @@ module _ (line : Line) (ls : List Line) (old : Lists) (told : newest old ≡ len
   flag : own_done c.own ≡ is_done (outcome_of all.outcomes (suc (length ls)))
   flag = own_flag c.own refl ∙ done_stays (suc (length ls)) (outcome_of c.mid.outcomes (suc (length ls))) (outcome_of all.outcomes (suc (length ls))) (ended_of c.mid.ended (suc (length ls))) (ended_of all.ended (suc (length ls))) (changes line ls old told ordered.even good was.rows new c (suc (length ls)))
 
-  abbrev looks : Ticket → Option Request
+  abbrev pub looks : Ticket → Option Request
   looks t = find all.mail.sent (suc (length ls)) t
 
-  looked : (t : Ticket) → looks t ≡ looked_up old.mail t
+  pub looked : (t : Ticket) → looks t ≡ looked_up old.mail t
   looked t = stepped.finds (suc (length ls)) t (omega arith) ∙ found_by old.mail (suc (length ls)) t ordered.sound.mail folded.before
 
-  abbrev happened : List Event
+  abbrev pub happened : List Event
   happened = if own_done c.own then does looks line es else es
 
   mid_fates : Fates (with_sends c.mid.mail.sent (suc (length ls)) happened) c.mid.mail
@@ -163,7 +163,7 @@ module _ (line : Line) (ls : List Line) (old : Lists) (told : newest old ≡ len
   end_fates : Fates (with_sends all.mail.sent (suc (length ls)) happened) all.mail
   end_fates = subst (λ (x : Mail). Fates (with_sends x.sent (suc (length ls)) happened) x) (sym posted_mail) (fates_posted (suc (length ls)) c.posted c.mid.mail happened c.from.nexts c.mid.sight.nexts c.goes.numbers numbered keeps.is mid_fates)
 
-  history_now : with_sends all.mail.sent (suc (length ls)) happened ≡ history all.mail.sent all.outcomes (line ∷ ls)
+  pub history_now : with_sends all.mail.sent (suc (length ls)) happened ≡ history all.mail.sent all.outcomes (line ∷ ls)
   history_now = λ i. with_sends all.mail.sent (suc (length ls)) (if flag i then does looks line (same_history ls (omega arith) i) else same_history ls (omega arith) i)
 
   pub fates_now : AreFates (history all.mail.sent all.outcomes (line ∷ ls)) (suc (suc (length ls))) all.mail

@@ -1,5 +1,6 @@
 -- How each line begins, and what the clients do then.
-use Rattle.std.proofs.Common.{◌≡◌, ℕ, ◌⊎◌, inl, inr, Bool, true, false, ◌&&◌, if◌then◌else◌, List, [], Option, Some, None, is_some, refl, sym, ap, ◌∙◌, subst, arith}
+use Rattle.std.proofs.Common.{◌≡◌, ℕ, ◌⊎◌, inl, inr, Bool, true, false, ◌&&◌, if◌then◌else◌, List, [], Option, Some, None, get_or, is_some, refl, sym, ap, ◌∙◌, subst, arith}
+use Rattle.std.specs.List.{All}
 use Rattle.txn_kv.specs.declared.reply.Reply.{Reply}
 use Rattle.txn_kv.specs.declared.ticket.Ticket.{Ticket}
 use Rattle.txn_history.specs.Busy.{busy_reply}
@@ -11,7 +12,7 @@ use Rattle.txn_post.specs.declared.letter.Letter.{Letter}
 use Rattle.txn_report.specs.declared.outcome.Outcome.{Outcome}
 use Rattle.txn_report.specs.declared.outcome.Outcome.TheVariants.{Done, Ok, Skipped}
 use Rattle.txn_report.specs.declared.outcome.Payload.TheVariants.{Unit as Nothing}
-use Rattle.txn_side.specs.Sight.{Acts, Asks, EndsAlone, Goes, LineGoes, Sight, Stand, client_at, commits, connected, crash, is_free, is_live, line_count, stand_at, with_stand}
+use Rattle.txn_side.specs.Sight.{Acts, Asks, EndsAlone, Goes, IsGiven, LineGoes, Names, NoneGiven, Sight, Stand, client_at, commits, connected, crash, is_free, is_live, line_count, stand_at, with_stand}
 use Rattle.txn_side.specs.Sight.Stand.{Asking, Calling, HasBegun, Idle, IsClient, Past, Working}
 use Rattle.txn_side.specs.declared.act.Act.{Act}
 use Rattle.txn_side.specs.declared.act.Act.TheVariants as acts
@@ -23,7 +24,7 @@ use Rattle.txn_machine.specs.Causes.Role.{AsksTime, MakesClient, NoCall, UsesTra
 use Rattle.txn_machine.specs.Lists.{Lists, fated, followed, handled, opened, outright, reply_at, request_at, with_mail, with_sight, with_store}
 use Rattle.txn_machine.specs.Running.{with_own}
 use Rattle.txn_machine.specs.Script.{is_done}
-use Rattle.txn_machine.specs.Steps.{Answers, AtPlace, Delivers, Hears, IfServable, IsBusy, Refuses, Serves, Steps, Takes, called, done_if, found_asleep, found_out, skipped}
+use Rattle.txn_machine.specs.Steps.{Answers, AtPlace, Delivers, Hears, IfServable, IsBusy, Loses, Refuses, Serves, Steps, Takes, Wakes, called, done_if, found_asleep, found_out, skipped}
 
 -- it is skipped, and the clients stay as they were
 pub record IsIdle (can : Bool) (own : Option Outcome) (ended : List Ending) (s from : Sight) : Type 0 where
@@ -128,6 +129,22 @@ MailGoes true (lines.Busy t) l mail = Busied t l mail
 MailGoes true (lines.Wake t) l mail = Wakened t l mail
 MailGoes true line l mail = mail ≡ l.mail
 
+-- a reply to the request that the ticket names, of which the clients are told, gives a line a timestamp
+pub record IsTold (Replies : ℕ → Reply → Type 0) (t : Ticket) (l : Lists) (n version : ℕ) : Type 0 where
+  pub place : ℕ
+  pub sent : as_sent (place_of l.mail.tickets t) ≡ Some place
+  pub reply : Reply
+  pub is : Replies place reply
+  pub given : IsGiven l.sight t reply n version
+
+-- what a line that is done, or not, gives a line
+abbrev pub Given : Bool → Line → Lists → ℕ → ℕ → Type 0
+Given false line l n version = ⊥
+Given true (lines.Answer t) l n version = IsTold (λ k o. ((letter_at l.mail k).awaited ≡ true) × ((letter_at l.mail k).kept ≡ Some o)) t l n version
+Given true (lines.Deliver t) l n version = IsTold (λ k o. o ≡ reply_at l k) t l n version
+Given true (lines.Busy t) l n version = IsTold (λ k o. busy_reply (request_at l k) ≡ Some o) t l n version
+Given true line l n version = ⊥
+
 abbrev pub own_done : Option Outcome → Bool
 own_done None = false
 own_done (Some o) = is_done o
@@ -146,6 +163,7 @@ pub record Course (line : Line) (old new : Lists) : Type 0 where
   pub begins : Begins (role_of line) line own ended (opened old).sight from
   pub sure : role_of line ≡ NoCall → own ≡ Some (done_if (does_it line (opened old)))
   pub mails : MailGoes (own_done own) line (opened old) mid.mail
+  pub times : All (Names (Given (own_done own) line (opened old))) ended
 
 line_stays : (n : ℕ) (s : Stand) → LineGoes [] n s s
 line_stays n Idle = (refl, refl)
@@ -157,7 +175,7 @@ line_stays n (Past c) = (refl, refl)
 line_stays n (Working c) = (refl, refl)
 
 sight_stays : (s : Sight) → Goes [] [] s s
-sight_stays s = record { crashed = refl; count = refl; lines = λ n. line_stays n (stand_at s.stands n); live = λ k d h. absurd (omega arith); posting = λ k d h. absurd (omega arith); numbers = refl }
+sight_stays s = record { crashed = refl; count = refl; lines = λ n. line_stays n (stand_at s.stands n); live = λ k d h. absurd (omega arith); posting = λ k d h. absurd (omega arith); numbers = refl; askers = λ k d h. absurd (omega arith); groups = λ g out. inl out }
 
 only_there : (p : ℕ → Bool) (o : Option ℕ) (k : ℕ) → only p o ≡ Some k → (o ≡ Some k) × (p k ≡ true)
 only_there p None k e = absurd (cc)
@@ -184,6 +202,7 @@ module _ (old : Lists) where
     begins = begins;
     sure = sure;
     mails = mails;
+    times = λ k d h. absurd (omega arith);
   }
 
   -- an event that could do nothing
@@ -193,8 +212,8 @@ module _ (old : Lists) where
       (λ r. ap (λ b. Some (done_if b)) (sym cannot)) refl
 
   -- an event of which the clients hear
-  heard : (line : Line) (y new : Lists) → role_of line ≡ NoCall → ((s : Sight) → Falls line true s s) → tells line ≡ true → y.outcomes ≡ (opened old).outcomes → y.ended ≡ (opened old).ended → y.sight ≡ (opened old).sight → does_it line (opened old) ≡ true → MailGoes true line (opened old) y.mail → Hears y new → Course line old new
-  heard line y new role falls tell outs ends sight can mails c = record {
+  heard : (Gives : ℕ → ℕ → Type 0) (line : Line) (y new : Lists) → ((n version : ℕ) → Gives n version → Given true line (opened old) n version) → role_of line ≡ NoCall → ((s : Sight) → Falls line true s s) → tells line ≡ true → y.outcomes ≡ (opened old).outcomes → y.ended ≡ (opened old).ended → y.sight ≡ (opened old).sight → does_it line (opened old) ≡ true → MailGoes true line (opened old) y.mail → Hears Gives y new → Course line old new
+  heard Gives line y new gives role falls tell outs ends sight can mails c = record {
     own = Some Done;
     mid = outright Done (with_sight c.sight y);
     posted = c.posted;
@@ -208,6 +227,7 @@ module _ (old : Lists) where
         (record { done = true; is = refl; falls = subst (λ s. Falls line true (opened old).sight s) (sym sight) (falls (opened old).sight); ends = inr (refl, tell) });
     sure = λ r. ap (λ b. Some (done_if b)) (sym can);
     mails = mails;
+    times = λ k d low version e. gives (get_or c.ended k d).line version (c.times k d low version e);
   }
 
   asks : (line : Line) (b : Bool) (k : ℕ) (new : Lists) (s : Sight) (turn : Option Turn) → role_of line ≡ AsksTime b k → Asks b k (opened old).sight s turn → new ≡ called turn (with_sight s (opened old)) → Course line old new
@@ -228,6 +248,7 @@ module _ (old : Lists) where
         (inr (record { client = a.0; is = refl; there = a.1; can = a.2; begun = refl; alone = a.4 }));
     sure = λ r. absurd (let z = sym role ∙ r in cc);
     mails = refl;
+    times = a.5;
   }
 
   acts_so : (line : Line) (act : Act) (b : Bool) (x : ℕ) (new : Lists) (s : Sight) (turn : Option Turn) → role_of line ≡ UsesTransaction b x → commits act ≡ b → Acts act x (opened old).sight s turn → new ≡ called turn (with_sight s (opened old)) → Course line old new
@@ -248,6 +269,7 @@ module _ (old : Lists) where
         (inr (record { client = a.0; is = refl; free = a.1; can = a.2; begun = refl; alone = a.4 }));
     sure = λ r. absurd (let z = sym role ∙ r in cc);
     mails = refl;
+    times = a.5;
   }
     where
       calling : Sight
@@ -268,16 +290,17 @@ module _ (old : Lists) where
       by true f = (only_there (λ j. is_lasting (opened old).mail j) (as_slept (place_of (opened old).mail.tickets t)) k f).0
       by false f = absurd (cc)
 
-  answers : (t : Ticket) (o : Option ℕ) (new : Lists) → found_out (opened old) t ≡ o → AtPlace o Answers (opened old) new → Course (lines.Answer t) old new
+  answers : (t : Ticket) (o : Option ℕ) (new : Lists) → found_out (opened old) t ≡ o → AtPlace o (Answers t) (opened old) new → Course (lines.Answer t) old new
   answers t None new e h = missed (lines.Answer t) new refl (λ s. refl) (ap (λ z. test_at (λ k. is_some (letter_at (opened old).mail k).kept) z) e) h
   answers t (Some place) new e h = by (letter_at (opened old).mail place).kept refl h
     where
       can : does_it (lines.Answer t) (opened old) ≡ is_some (letter_at (opened old).mail place).kept
       can = ap (λ z. test_at (λ k. is_some (letter_at (opened old).mail k).kept) z) e
 
-      by : (kept : Option Reply) → (letter_at (opened old).mail place).kept ≡ kept → Takes place kept (opened old) new → Course (lines.Answer t) old new
+      by : (kept : Option Reply) → (letter_at (opened old).mail place).kept ≡ kept → Takes t place kept (opened old) new → Course (lines.Answer t) old new
       by None k g = missed (lines.Answer t) new refl (λ s. refl) (can ∙ ap is_some k) g
-      by (Some o) k g = heard (lines.Answer t) (fated taking place (opened old)) new refl (λ s. refl) refl refl refl refl (can ∙ ap is_some k)
+      by (Some o) k g = heard (IsGiven (opened old).sight t o) (lines.Answer t) (fated taking place (opened old)) new
+          (λ n version given. let there = out_there t place e in record { place = place; sent = there.0; reply = o; is = (there.1, k); given = given }) refl (λ s. refl) refl refl refl refl (can ∙ ap is_some k)
           (let there = out_there t place e in record { place = place; sent = there.0; awaited = there.1; reply = o; kept = k; is = refl }) g
 
   delivers : (t : Ticket) (o : Option ℕ) (new : Lists) → found_out (opened old) t ≡ o → AtPlace o (Delivers t) (opened old) new → Course (lines.Deliver t) old new
@@ -287,34 +310,36 @@ module _ (old : Lists) where
       can : does_it (lines.Deliver t) (opened old) ≡ can_be_served (opened old).mail place
       can = ap (λ z. test_at (λ k. can_be_served (opened old).mail k) z) e
 
-      by : (b : Bool) → can_be_served (opened old).mail place ≡ b → IfServable b (λ l x. Hears (fated delivering place (handled t place l)) x) (opened old) new → Course (lines.Deliver t) old new
+      by : (b : Bool) → can_be_served (opened old).mail place ≡ b → IfServable b (λ l x. Hears (IsGiven l.sight t (reply_at l place)) (fated delivering place (handled t place l)) x) (opened old) new → Course (lines.Deliver t) old new
       by false k g = missed (lines.Deliver t) new refl (λ s. refl) (can ∙ k) g
-      by true k g = heard (lines.Deliver t) (fated delivering place (handled t place (opened old))) new refl (λ s. refl) refl refl refl refl (can ∙ k)
+      by true k g = heard (IsGiven (opened old).sight t (reply_at (opened old) place)) (lines.Deliver t) (fated delivering place (handled t place (opened old))) new
+          (λ n version given. record { place = place; sent = (out_there t place e).0; reply = reply_at (opened old) place; is = refl; given = given }) refl (λ s. refl) refl refl refl refl (can ∙ k)
           (record { place = place; sent = (out_there t place e).0; is = refl }) g
 
-  busies : (t : Ticket) (o : Option ℕ) (new : Lists) → found_out (opened old) t ≡ o → AtPlace o IsBusy (opened old) new → Course (lines.Busy t) old new
+  busies : (t : Ticket) (o : Option ℕ) (new : Lists) → found_out (opened old) t ≡ o → AtPlace o (IsBusy t) (opened old) new → Course (lines.Busy t) old new
   busies t None new e h = missed (lines.Busy t) new refl (λ s. refl) (ap (λ z. test_at (λ k. can_be_served (opened old).mail k && is_some (busy_reply (request_at (opened old) k))) z) e) h
   busies t (Some place) new e h = by (can_be_served (opened old).mail place) refl h
     where
       can : does_it (lines.Busy t) (opened old) ≡ (can_be_served (opened old).mail place && is_some (busy_reply (request_at (opened old) place)))
       can = ap (λ z. test_at (λ k. can_be_served (opened old).mail k && is_some (busy_reply (request_at (opened old) k))) z) e
 
-      refuses : (reply : Option Reply) → can_be_served (opened old).mail place ≡ true → busy_reply (request_at (opened old) place) ≡ reply → Refuses place reply (opened old) new → Course (lines.Busy t) old new
+      refuses : (reply : Option Reply) → can_be_served (opened old).mail place ≡ true → busy_reply (request_at (opened old) place) ≡ reply → Refuses t place reply (opened old) new → Course (lines.Busy t) old new
       refuses None k r g = missed (lines.Busy t) new refl (λ s. refl) (can ∙ (λ i. k i && is_some (r i))) g
-      refuses (Some o) k r g = heard (lines.Busy t) (fated refusing place (opened old)) new refl (λ s. refl) refl refl refl refl (can ∙ (λ i. k i && is_some (r i)))
+      refuses (Some o) k r g = heard (IsGiven (opened old).sight t o) (lines.Busy t) (fated refusing place (opened old)) new
+          (λ n version given. record { place = place; sent = (out_there t place e).0; reply = o; is = r; given = given }) refl (λ s. refl) refl refl refl refl (can ∙ (λ i. k i && is_some (r i)))
           (record { place = place; sent = (out_there t place e).0; reply = o; busy = r; is = refl }) g
 
-      by : (b : Bool) → can_be_served (opened old).mail place ≡ b → IfServable b (λ l x. Refuses place (busy_reply (request_at l place)) l x) (opened old) new → Course (lines.Busy t) old new
+      by : (b : Bool) → can_be_served (opened old).mail place ≡ b → IfServable b (λ l x. Refuses t place (busy_reply (request_at l place)) l x) (opened old) new → Course (lines.Busy t) old new
       by false k g = missed (lines.Busy t) new refl (λ s. refl) (can ∙ ap (λ b. b && is_some (busy_reply (request_at (opened old) place))) k) g
       by true k g = refuses (busy_reply (request_at (opened old) place)) k refl g
 
-  loses : (t : Ticket) (o : Option ℕ) (new : Lists) → found_out (opened old) t ≡ o → AtPlace o (λ place l x. Hears (fated losing place l) x) (opened old) new → Course (lines.Lose t) old new
+  loses : (t : Ticket) (o : Option ℕ) (new : Lists) → found_out (opened old) t ≡ o → AtPlace o Loses (opened old) new → Course (lines.Lose t) old new
   loses t None new e h = missed (lines.Lose t) new refl (λ s. refl) (ap (λ z. test_at (λ k. true) z) e) h
-  loses t (Some place) new e h = heard (lines.Lose t) (fated losing place (opened old)) new refl (λ s. refl) refl refl refl refl (ap (λ z. test_at (λ k. true) z) e) (record { place = place; sent = (out_there t place e).0; is = refl }) h
+  loses t (Some place) new e h = heard NoneGiven (lines.Lose t) (fated losing place (opened old)) new (λ n version given. absurd given) refl (λ s. refl) refl refl refl refl (ap (λ z. test_at (λ k. true) z) e) (record { place = place; sent = (out_there t place e).0; is = refl }) h
 
-  wakes : (t : Ticket) (o : Option ℕ) (new : Lists) → found_asleep (opened old) t ≡ o → AtPlace o (λ place l x. Hears (with_mail (waking place l.mail) l) x) (opened old) new → Course (lines.Wake t) old new
+  wakes : (t : Ticket) (o : Option ℕ) (new : Lists) → found_asleep (opened old) t ≡ o → AtPlace o Wakes (opened old) new → Course (lines.Wake t) old new
   wakes t None new e h = missed (lines.Wake t) new refl (λ s. refl) (ap (λ z. test_at (λ k. true) z) e) h
-  wakes t (Some place) new e h = heard (lines.Wake t) (with_mail (waking place (opened old).mail) (opened old)) new refl (λ s. refl) refl refl refl refl (ap (λ z. test_at (λ k. true) z) e) (record { place = place; slept = asleep_there t place e; is = refl }) h
+  wakes t (Some place) new e h = heard NoneGiven (lines.Wake t) (with_mail (waking place (opened old).mail) (opened old)) new (λ n version given. absurd given) refl (λ s. refl) refl refl refl refl (ap (λ z. test_at (λ k. true) z) e) (record { place = place; slept = asleep_there t place e; is = refl }) h
 
   serves : (t : Ticket) (o : Option ℕ) (new : Lists) → found_unserved (opened old).mail t ≡ o → AtPlace o (Serves t) (opened old) new → Course (lines.Serve t) old new
   serves t None new e h = missed (lines.Serve t) new refl (λ s. refl) (ap (λ z. test_at (λ k. true) z) e) h

@@ -20,7 +20,7 @@ use Rattle.txn_report.specs.declared.outcome.Outcome.{Outcome}
 use Rattle.txn_report.specs.declared.outcome.Outcome.TheVariants.{Done, Ok, Skipped, Unfinished}
 use Rattle.txn_report.specs.declared.outcome.Payload.TheVariants.{Unit as Nothing}
 use Rattle.txn_report.specs.declared.report.SentNote.{SentNote}
-use Rattle.txn_side.specs.Sight.{Acts, Asks, Goes, Sight, connected, crash, is_live, line_count, stand_at}
+use Rattle.txn_side.specs.Sight.{Acts, Asks, Goes, IsGiven, NoneGiven, Sight, connected, crash, is_live, line_count, stand_at}
 use Rattle.txn_side.specs.Sight.Stand.{Asking, Calling, HasBegun, IsClient}
 use Rattle.txn_side.specs.declared.act.Act.{Act}
 use Rattle.txn_side.specs.declared.act.Act.TheVariants as acts
@@ -29,7 +29,7 @@ use Rattle.txn_side.specs.declared.turn.Posting.{Posting}
 use Rattle.txn_side.specs.declared.turn.Turn.{Turn}
 use Rattle.txn_machine.specs.Lists.{Lists, all_ended, all_posted, at_line, ended_at, fated, followed, handled, newest, opened, outright, reply_at, request_at, request_in, with_mail, with_sight, with_store}
 use Rattle.txn_machine.specs.Script.{AllBefore, AreCalm, Folded, IsFoldOf, does, find, history, is_done, loses, outcome_of, refuses, refuses_it, served_tickets, serves, takes, takes_it, waits, with_sends}
-use Rattle.txn_machine.specs.Steps.{Answers, AtPlace, Calls, Delivers, Hears, IfServable, IsBusy, Refuses, Serves, Steps, Takes, called, done_if, found_asleep, found_out, skipped}
+use Rattle.txn_machine.specs.Steps.{Answers, AtPlace, Calls, Delivers, Hears, IfServable, IsBusy, Loses, Refuses, Serves, Steps, Takes, Wakes, called, done_if, found_asleep, found_out, skipped}
 use Rattle.txn_machine.proofs.Calms.{begun_line, calm_opened, calm_set, calm_told, gone_calm, gone_flag, outcome_opened, outcome_other, outcome_past, outcome_same, stand_last, stands_opened}
 use Rattle.txn_machine.proofs.Finds.{all_more, found_by, looked_up, posted_before, posted_finds, posted_sends, request_by, sent_there}
 use Rattle.txn_machine.proofs.Orders.{line_length, opened_count}
@@ -263,8 +263,8 @@ module _ (n : ℕ) (old : Lists) (told : newest old ≡ n) (even : length old.si
       (subst (λ ss. AreCalm ss (at_line y.outcomes (newest y) o)) (sym stands) (subst (λ os. AreCalm (opened old).sight.stands (at_line os (length os) o)) (sym outs) (calm_outright o))))
 
   -- the clients hear of it
-  hears : (line : Line) (y new : Lists) → y.outcomes ≡ (opened old).outcomes → y.sight ≡ (opened old).sight → y.mail.sent ≡ old.mail.sent → Effect line old true y.store y.served → Hears y new → Stepped n line old new
-  hears line y new outs sight sent effect c = subst (λ x. Stepped n line old x) (sym c.is)
+  hears : (Gives : ℕ → ℕ → Type 0) (line : Line) (y new : Lists) → y.outcomes ≡ (opened old).outcomes → y.sight ≡ (opened old).sight → y.mail.sent ≡ old.mail.sent → Effect line old true y.store y.served → Hears Gives y new → Stepped n line old new
+  hears Gives line y new outs sight sent effect c = subst (λ x. Stepped n line old x) (sym c.is)
       (followed_stepped n line old (outright Done (with_sight c.sight y)) c.posted c.ended y.sight (ready_outright line (with_sight c.sight y) Done outs sent effect) c.goes
       (subst (λ (s : Sight). AreCalm s.stands (at_line y.outcomes (newest y) Done)) (sym sight) (subst (λ os. AreCalm (opened old).sight.stands (at_line os (length os) Done)) (sym outs) (calm_outright Done))))
 
@@ -296,42 +296,42 @@ module _ (n : ℕ) (old : Lists) (told : newest old ≡ n) (even : length old.si
 
   -- Events.
 
-  answer_at : (t : Ticket) (place : ℕ) (kept : Option Reply) (new : Lists) → Takes place kept (opened old) new → Stepped n (lines.Answer t) old new
+  answer_at : (t : Ticket) (place : ℕ) (kept : Option Reply) (new : Lists) → Takes t place kept (opened old) new → Stepped n (lines.Answer t) old new
   answer_at t place None new e = is_skipped (lines.Answer t) new e
-  answer_at t place (Some o) new c = hears (lines.Answer t) (fated taking place (opened old)) new refl refl refl (λ looks es same f. takes_folds old.store old.served t (looks t) es f) c
+  answer_at t place (Some o) new c = hears (IsGiven (opened old).sight t o) (lines.Answer t) (fated taking place (opened old)) new refl refl refl (λ looks es same f. takes_folds old.store old.served t (looks t) es f) c
 
-  answers : (t : Ticket) (o : Option ℕ) (new : Lists) → AtPlace o Answers (opened old) new → Stepped n (lines.Answer t) old new
+  answers : (t : Ticket) (o : Option ℕ) (new : Lists) → AtPlace o (Answers t) (opened old) new → Stepped n (lines.Answer t) old new
   answers t None new e = is_skipped (lines.Answer t) new e
   answers t (Some place) new c = answer_at t place (letter_at (opened old).mail place).kept new c
 
-  busy_at : (t : Ticket) (place : ℕ) (reply : Option Reply) (new : Lists) → Refuses place reply (opened old) new → Stepped n (lines.Busy t) old new
+  busy_at : (t : Ticket) (place : ℕ) (reply : Option Reply) (new : Lists) → Refuses t place reply (opened old) new → Stepped n (lines.Busy t) old new
   busy_at t place None new e = is_skipped (lines.Busy t) new e
-  busy_at t place (Some o) new c = hears (lines.Busy t) (fated refusing place (opened old)) new refl refl refl (λ looks es same f. refuses_folds old.store old.served t (looks t) es f) c
+  busy_at t place (Some o) new c = hears (IsGiven (opened old).sight t o) (lines.Busy t) (fated refusing place (opened old)) new refl refl refl (λ looks es same f. refuses_folds old.store old.served t (looks t) es f) c
 
-  busy_if : (t : Ticket) (b : Bool) (place : ℕ) (new : Lists) → IfServable b (λ l m. Refuses place (busy_reply (request_at l place)) l m) (opened old) new → Stepped n (lines.Busy t) old new
+  busy_if : (t : Ticket) (b : Bool) (place : ℕ) (new : Lists) → IfServable b (λ l m. Refuses t place (busy_reply (request_at l place)) l m) (opened old) new → Stepped n (lines.Busy t) old new
   busy_if t false place new e = is_skipped (lines.Busy t) new e
   busy_if t true place new c = busy_at t place (busy_reply (request_at (opened old) place)) new c
 
-  busies : (t : Ticket) (o : Option ℕ) (new : Lists) → AtPlace o IsBusy (opened old) new → Stepped n (lines.Busy t) old new
+  busies : (t : Ticket) (o : Option ℕ) (new : Lists) → AtPlace o (IsBusy t) (opened old) new → Stepped n (lines.Busy t) old new
   busies t None new e = is_skipped (lines.Busy t) new e
   busies t (Some place) new c = busy_if t (can_be_served (opened old).mail place) place new c
 
-  lost : (t : Ticket) (o : Option ℕ) (new : Lists) → AtPlace o (λ place l m. Hears (fated losing place l) m) (opened old) new → Stepped n (lines.Lose t) old new
+  lost : (t : Ticket) (o : Option ℕ) (new : Lists) → AtPlace o Loses (opened old) new → Stepped n (lines.Lose t) old new
   lost t None new e = is_skipped (lines.Lose t) new e
-  lost t (Some place) new c = hears (lines.Lose t) (fated losing place (opened old)) new refl refl refl (λ looks es same f. loses_folds old.store old.served t (looks t) es f) c
+  lost t (Some place) new c = hears NoneGiven (lines.Lose t) (fated losing place (opened old)) new refl refl refl (λ looks es same f. loses_folds old.store old.served t (looks t) es f) c
 
-  woken : (t : Ticket) (o : Option ℕ) (new : Lists) → AtPlace o (λ place l m. Hears (with_mail (waking place l.mail) l) m) (opened old) new → Stepped n (lines.Wake t) old new
+  woken : (t : Ticket) (o : Option ℕ) (new : Lists) → AtPlace o Wakes (opened old) new → Stepped n (lines.Wake t) old new
   woken t None new e = is_skipped (lines.Wake t) new e
-  woken t (Some place) new c = hears (lines.Wake t) (with_mail (waking place (opened old).mail) (opened old)) new refl refl refl (λ looks es same f. record { store = f.store; served = f.served }) c
+  woken t (Some place) new c = hears NoneGiven (lines.Wake t) (with_mail (waking place (opened old).mail) (opened old)) new refl refl refl (λ looks es same f. record { store = f.store; served = f.served }) c
 
   module _ (m : IsMail old.mail) where
     serves_at : (t : Ticket) (o : Option ℕ) (new : Lists) → found_unserved (opened old).mail t ≡ o → AtPlace o (Serves t) (opened old) new → Stepped n (lines.Serve t) old new
     serves_at t None new e skips = is_skipped (lines.Serve t) new skips
     serves_at t (Some place) new e does = tells (lines.Serve t) (fated (keeping (reply_at (opened old) place)) place (handled t place (opened old))) new Done does refl refl refl (serve_effect old t place m (unserved_named old t place e))
 
-    deliver_if : (t : Ticket) (b : Bool) (place : ℕ) (new : Lists) → found_out (opened old) t ≡ Some place → IfServable b (λ l x. Hears (fated delivering place (handled t place l)) x) (opened old) new → Stepped n (lines.Deliver t) old new
+    deliver_if : (t : Ticket) (b : Bool) (place : ℕ) (new : Lists) → found_out (opened old) t ≡ Some place → IfServable b (λ l x. Hears (IsGiven l.sight t (reply_at l place)) (fated delivering place (handled t place l)) x) (opened old) new → Stepped n (lines.Deliver t) old new
     deliver_if t false place new e skips = is_skipped (lines.Deliver t) new skips
-    deliver_if t true place new e c = hears (lines.Deliver t) (fated delivering place (handled t place (opened old))) new refl refl refl (deliver_effect old t place m (out_named old t place e)) c
+    deliver_if t true place new e c = hears (IsGiven (opened old).sight t (reply_at (opened old) place)) (lines.Deliver t) (fated delivering place (handled t place (opened old))) new refl refl refl (deliver_effect old t place m (out_named old t place e)) c
 
     delivers_at : (t : Ticket) (o : Option ℕ) (new : Lists) → found_out (opened old) t ≡ o → AtPlace o (Delivers t) (opened old) new → Stepped n (lines.Deliver t) old new
     delivers_at t None new e skips = is_skipped (lines.Deliver t) new skips

@@ -15,6 +15,8 @@ mod Events
 mod Happenings
 mod Carried
 mod Owners
+mod Timing
+mod Timestamps
 mod Alive
 mod Keepings
 mod Standings

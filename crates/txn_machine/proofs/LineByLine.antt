@@ -10,6 +10,7 @@ use Rattle.txn_machine.specs.Lawful.{AllGood, Lawful}
 use Rattle.txn_machine.specs.Notes.{AreNoted}
 use Rattle.txn_machine.specs.Running.{CanStep, HasMemory, StandsFor}
 use Rattle.txn_machine.specs.Script.{FoldsLines}
+use Rattle.txn_machine.specs.Times.{TimesLines}
 use Rattle.txn_machine.specs.declared.machine.Machine.{Machine}
 
 none_left : (ls : List Line) → length ls ≡ 0 → ls ≡ []
@@ -50,8 +51,9 @@ module _ {S : Type 0} (sight : S → Sight) (ready : S → Type 0) where
       → ((ls : List Line) → StandsFor sight ready m ls → LivesLines ls report)
       → ((ls : List Line) → StandsFor sight ready m ls → CallsMeetLines ls report)
       → ((ls : List Line) → StandsFor sight ready m ls → EventsMeetLines ls report)
+      → ((ls : List Line) → StandsFor sight ready m ls → TimesLines ls report)
       → Lawful all report
-  run_over m all rest report r e folded noted told ends lives calls events =
+  run_over m all rest report r e folded noted told ends lives calls events times =
       subst (λ ls. Lawful ls report) (sym (append-nil (reverse r.done)) ∙ ap (λ ls. reverse r.done ++ ls) (sym (none_left rest e)) ∙ r.together)
       (record {
         told = subst (λ ls. TellsLines ls report) (sym (reverse-reverse r.done)) (told r.done r.stands);
@@ -61,4 +63,5 @@ module _ {S : Type 0} (sight : S → Sight) (ready : S → Type 0) where
         lives = subst (λ ls. LivesLines ls report) (sym (reverse-reverse r.done)) (lives r.done r.stands);
         calls = subst (λ ls. CallsMeetLines ls report) (sym (reverse-reverse r.done)) (calls r.done r.stands);
         events = subst (λ ls. EventsMeetLines ls report) (sym (reverse-reverse r.done)) (events r.done r.stands);
+        times = subst (λ ls. TimesLines ls report) (sym (reverse-reverse r.done)) (times r.done r.stands);
       })

@@ -18,7 +18,7 @@ use Rattle.txn_machine.specs.declared.machine.Machine.{Machine}
 
 -- Elements by their places.
 
-among_at : {X : Type 0} (xs : List X) (x : X) → IsAmong xs x → (i : ℕ) × (slice_get xs i ≡ Some x)
+pub among_at : {X : Type 0} (xs : List X) (x : X) → IsAmong xs x → (i : ℕ) × (slice_get xs i ≡ Some x)
 among_at [] x h = absurd h
 among_at (y ∷ ys) x (inl e) = (0, ap (λ z. Some z) e)
 among_at (y ∷ ys) x (inr h) = let r = among_at ys x h in (suc r.0, r.1)

@@ -19,7 +19,7 @@ use Rattle.txn_report.specs.declared.outcome.Outcome.{Outcome}
 use Rattle.txn_report.specs.declared.outcome.Outcome.TheVariants.{Done, Ok, Skipped, Unfinished}
 use Rattle.txn_report.specs.declared.outcome.Payload.TheVariants.{Unit as Nothing}
 use Rattle.txn_report.specs.declared.report.SentNote.{SentNote}
-use Rattle.txn_side.specs.Sight.{Acts, AskFor, ArePosted, Asks, Sight, connected, crash, line_count}
+use Rattle.txn_side.specs.Sight.{Acts, AskFor, ArePosted, Asks, IsGiven, Sight, connected, crash, line_count}
 use Rattle.txn_side.specs.Sight.Stand.{Asking, HasBegun, Idle}
 use Rattle.txn_side.specs.declared.act.Act.{Act}
 use Rattle.txn_side.specs.declared.act.Act.TheVariants as acts
@@ -28,7 +28,7 @@ use Rattle.txn_side.specs.declared.turn.Posting.{Posting}
 use Rattle.txn_side.specs.declared.turn.Turn.{Turn}
 use Rattle.txn_machine.specs.Lists.{Lists, all_ended, all_posted, at_line, ended_at, fated, followed, handled, newest, opened, outright, reply_at, request_in, with_mail, with_sight, with_store}
 use Rattle.txn_machine.specs.Running.{AreNumbered, CameInOrder, IsEven, IsFine, IsOrdered, IsSound}
-use Rattle.txn_machine.specs.Steps.{Answers, AtPlace, Calls, Delivers, Hears, IfServable, IsBusy, Refuses, Serves, Steps, Takes, called, found_asleep, found_out, skipped}
+use Rattle.txn_machine.specs.Steps.{Answers, AtPlace, Calls, Delivers, Hears, IfServable, IsBusy, Loses, Refuses, Serves, Steps, Takes, Wakes, called, found_asleep, found_out, skipped}
 use Rattle.txn_machine.proofs.Coming.{order_all, order_opened}
 use Rattle.txn_machine.proofs.Numbers.{asks_all, lines_stay, mail_all, numbered_all, numbered_opened}
 use Rattle.txn_post.proofs.Mails.{changed_is_mail, opened_is_mail, waked_is_mail}
@@ -234,7 +234,7 @@ lead_stays st region store = by (can_lead st region store)
 
 -- The lines.
 
-hears_keeps : {n : ℕ} (l new : Lists) → Hears l new → Stays n l → Stays n new
+hears_keeps : {n : ℕ} {Gives : ℕ → ℕ → Type 0} (l new : Lists) → Hears Gives l new → Stays n l → Stays n new
 hears_keeps {n = k} l new c h = subst (λ m. Stays k m) (sym c.is) (followed_keeps c.sight c.posted c.ended (outright Done l)
     (c.goes.count ∙ h.ordered.even.stands ∙ sym (line_length l.outcomes (newest l) Done)) c.goes.numbers (outright_keeps Done l h))
 
@@ -258,31 +258,31 @@ is_keeps {n = k} l new e h = subst (λ m. Stays k m) (sym e) h
 skips_keeps : {n : ℕ} (l new : Lists) → new ≡ skipped l → Stays n l → Stays n new
 skips_keeps l new e h = is_keeps (skipped l) new e (outright_keeps Skipped l h)
 
-takes_keeps : {n : ℕ} (place : ℕ) (kept : Option Reply) (l new : Lists) → Takes place kept l new → Stays n l → Stays n new
-takes_keeps place None l new e h = skips_keeps l new e h
-takes_keeps place (Some o) l new c h = hears_keeps (fated taking place l) new c (fated_keeps taking place l h)
+takes_keeps : {n : ℕ} (t : Ticket) (place : ℕ) (kept : Option Reply) (l new : Lists) → Takes t place kept l new → Stays n l → Stays n new
+takes_keeps t place None l new e h = skips_keeps l new e h
+takes_keeps t place (Some o) l new c h = hears_keeps (fated taking place l) new c (fated_keeps taking place l h)
 
-answers_keeps : {n : ℕ} (o : Option ℕ) (l new : Lists) → AtPlace o Answers l new → Stays n l → Stays n new
-answers_keeps None l new e h = skips_keeps l new e h
-answers_keeps (Some place) l new c h = takes_keeps place (letter_at l.mail place).kept l new c h
+answers_keeps : {n : ℕ} (t : Ticket) (o : Option ℕ) (l new : Lists) → AtPlace o (Answers t) l new → Stays n l → Stays n new
+answers_keeps t None l new e h = skips_keeps l new e h
+answers_keeps t (Some place) l new c h = takes_keeps t place (letter_at l.mail place).kept l new c h
 
-refuses_keeps : {n : ℕ} (place : ℕ) (reply : Option Reply) (l new : Lists) → Refuses place reply l new → Stays n l → Stays n new
-refuses_keeps place None l new e h = skips_keeps l new e h
-refuses_keeps place (Some o) l new c h = hears_keeps (fated refusing place l) new c (fated_keeps refusing place l h)
+refuses_keeps : {n : ℕ} (t : Ticket) (place : ℕ) (reply : Option Reply) (l new : Lists) → Refuses t place reply l new → Stays n l → Stays n new
+refuses_keeps t place None l new e h = skips_keeps l new e h
+refuses_keeps t place (Some o) l new c h = hears_keeps (fated refusing place l) new c (fated_keeps refusing place l h)
 
-busy_if : {n : ℕ} (b : Bool) (place : ℕ) (l new : Lists) → IfServable b (λ m n. Refuses place (busy_reply (request_in (slice_get m.mail.sent place))) m n) l new → Stays n l → Stays n new
-busy_if false place l new e h = skips_keeps l new e h
-busy_if true place l new c h = refuses_keeps place (busy_reply (request_in (slice_get l.mail.sent place))) l new c h
+busy_if : {n : ℕ} (t : Ticket) (b : Bool) (place : ℕ) (l new : Lists) → IfServable b (λ m n. Refuses t place (busy_reply (request_in (slice_get m.mail.sent place))) m n) l new → Stays n l → Stays n new
+busy_if t false place l new e h = skips_keeps l new e h
+busy_if t true place l new c h = refuses_keeps t place (busy_reply (request_in (slice_get l.mail.sent place))) l new c h
 
-busy_keeps : {n : ℕ} (o : Option ℕ) (l new : Lists) → AtPlace o IsBusy l new → Stays n l → Stays n new
-busy_keeps None l new e h = skips_keeps l new e h
-busy_keeps (Some place) l new c h = busy_if (can_be_served l.mail place) place l new c h
+busy_keeps : {n : ℕ} (t : Ticket) (o : Option ℕ) (l new : Lists) → AtPlace o (IsBusy t) l new → Stays n l → Stays n new
+busy_keeps t None l new e h = skips_keeps l new e h
+busy_keeps t (Some place) l new c h = busy_if t (can_be_served l.mail place) place l new c h
 
-loses_keeps : {n : ℕ} (o : Option ℕ) (l new : Lists) → AtPlace o (λ place m n. Hears (fated losing place m) n) l new → Stays n l → Stays n new
+loses_keeps : {n : ℕ} (o : Option ℕ) (l new : Lists) → AtPlace o Loses l new → Stays n l → Stays n new
 loses_keeps None l new e h = skips_keeps l new e h
 loses_keeps (Some place) l new c h = hears_keeps (fated losing place l) new c (fated_keeps losing place l h)
 
-wakes_keeps : {n : ℕ} (o : Option ℕ) (l new : Lists) → AtPlace o (λ place m n. Hears (with_mail (waking place m.mail) m) n) l new → Stays n l → Stays n new
+wakes_keeps : {n : ℕ} (o : Option ℕ) (l new : Lists) → AtPlace o Wakes l new → Stays n l → Stays n new
 wakes_keeps None l new e h = skips_keeps l new e h
 wakes_keeps (Some place) l new c h = hears_keeps (with_mail (waking place l.mail) l) new c (waked_keeps place l h)
 
@@ -296,7 +296,7 @@ module _ (old : Lists) (room : newest old < max_lines) (was : IsOrdered old) whe
       is_keeps (outright Done (fated (keeping (reply_at (opened old) place)) place (handled t place (opened old)))) new e
       (outright_keeps Done (fated (keeping (reply_at (opened old) place)) place (handled t place (opened old))) (fated_keeps (keeping (reply_at (opened old) place)) place (handled t place (opened old)) (handled_keeps t place old room was)))
 
-  delivers_if : (t : Ticket) (b : Bool) (place : ℕ) (new : Lists) → IfServable b (λ m n. Hears (fated delivering place (handled t place m)) n) (opened old) new → Stays (newest old + 1) new
+  delivers_if : (t : Ticket) (b : Bool) (place : ℕ) (new : Lists) → IfServable b (λ m n. Hears (IsGiven m.sight t (reply_at m place)) (fated delivering place (handled t place m)) n) (opened old) new → Stays (newest old + 1) new
   delivers_if t false place new e = skips_keeps (opened old) new e now
   delivers_if t true place new c = hears_keeps (fated delivering place (handled t place (opened old))) new c (fated_keeps delivering place (handled t place (opened old)) (handled_keeps t place old room was))
 
@@ -317,10 +317,10 @@ module _ (old : Lists) (room : newest old < max_lines) (was : IsOrdered old) whe
   steps_keep (lines.Commit x) new fine s = calls_acts acts.Commit x (opened old) new s now
   steps_keep (lines.Rollback x) new fine s = calls_acts acts.Rollback x (opened old) new s now
   steps_keep (lines.Serve t) new fine s = serves_keeps t (found_unserved (opened old).mail t) new s
-  steps_keep (lines.Answer t) new fine s = answers_keeps (found_out (opened old) t) (opened old) new s now
+  steps_keep (lines.Answer t) new fine s = answers_keeps t (found_out (opened old) t) (opened old) new s now
   steps_keep (lines.Deliver t) new fine s = delivers_keeps t (found_out (opened old) t) new s
   steps_keep (lines.Lose t) new fine s = loses_keeps (found_out (opened old) t) (opened old) new s now
-  steps_keep (lines.Busy t) new fine s = busy_keeps (found_out (opened old) t) (opened old) new s now
+  steps_keep (lines.Busy t) new fine s = busy_keeps t (found_out (opened old) t) (opened old) new s now
   steps_keep (lines.Wake t) new fine s = wakes_keeps (found_asleep (opened old) t) (opened old) new s now
   steps_keep (lines.Split key) new fine s =
       let stays = split_stays old.store key in

@@ -12,7 +12,7 @@ use Rattle.txn_kv.specs.declared.ticket.Ticket.{Ticket}
 use Rattle.txn_post.specs.Mail.{no_mail, place_in, place_of, places_of}
 use Rattle.txn_post.proofs.Mails.{none_is_mail}
 use Rattle.txn_report.specs.declared.report.Report.{Report}
-use Rattle.txn_side.specs.Sight.{Sight, Stand, client_at, nobody, stand_at}
+use Rattle.txn_side.specs.Sight.{Sight, Stand, client_at, nobody, number_of, stand_at}
 use Rattle.txn_side.specs.Sight.Stand.{Calling, HasBegun, Idle, IsClient}
 use Rattle.txn_machine.specs.Causes.{AllCallsMeet, AllEnd, AllEventsMeet, AllLive, AreTold, CallsMeetLines, EndsLines, EventsMeetLines, LivesLines, TellsLines, answers, ended_of}
 use Rattle.txn_machine.specs.Lists.{Lists, newest, nothing, opened}
@@ -20,15 +20,17 @@ use Rattle.txn_machine.specs.Rows.{Caused, Fate, IsNoRow, Row, outcome_in, role_
 use Rattle.txn_machine.specs.Rows.Row.{Acted, AskFailed, AskSkipped, AskWaits, Begun, CallFailed, CallSkipped, CallWaits, Happened, Made, Over, Timed, Works}
 use Rattle.txn_machine.specs.Running.{HasMemory, IsFine, IsOrdered, IsReportOf, Standing, StandsFor, closed, lists_of}
 use Rattle.txn_machine.specs.Steps.{Does, Steps}
+use Rattle.txn_machine.specs.Times.{AllTimed, AreApart, Timely, TimesLines}
 use Rattle.txn_machine.specs.Told.{ArePast}
 use Rattle.txn_machine.specs.declared.machine.Machine.{Machine}
 use Rattle.txn_machine.specs.Script.{FoldsLines, Folded, history, outcome_of, served_tickets, waits}
 use Rattle.txn_law.specs.Run.{store_after}
-use Rattle.txn_machine.proofs.Keepings.{caused_step}
+use Rattle.txn_machine.proofs.Keepings.{caused_step, timely_step}
 use Rattle.txn_machine.proofs.Coming.{none_in_order}
 use Rattle.txn_machine.proofs.Folds.{folded_step}
 use Rattle.txn_machine.proofs.Numberings.{has_line}
 use Rattle.txn_machine.proofs.Orders.{Stays, opened_count, opened_keeps, steps_keep}
+use Rattle.txn_machine.proofs.Timestamps.{times_apart}
 use Rattle.txn_machine.specs.declared.done.Done.{Done as Course}
 
 -- A line that is not bad.
@@ -124,6 +126,12 @@ caused_nothing = record {
   owned = record { owner = λ t p h. absurd (let e = sym (nothing_named t) ∙ h in cc) };
 }
 
+timely_nothing : Timely [] nothing
+timely_nothing = record {
+  groups = λ g out. absurd (let e = out.1 in cc);
+  times = λ n version e. absurd (let f = sym (ap number_of (none_has_read n).outcome) ∙ e in cc);
+}
+
 pub new_stands : {S : Type 0} (sight : S → Sight) (ready : S → Type 0) (m : Machine S) → m.store ≡ opening → m.post ≡ no_mail → sight m.clients ≡ nobody → m.outcomes.items ≡ [] → m.ended.items ≡ [] → m.served.items ≡ [] → m.kinds ≡ kinds_of [] → ready m.clients → StandsFor sight ready m []
 new_stands sight ready m store post clients outcomes ended served kinds able = record {
   stands = λ h. record {
@@ -133,6 +141,7 @@ new_stands sight ready m store post clients outcomes ended served kinds able = r
     ordered = subst (λ l. IsOrdered l) (sym here) ordered_nothing;
     folded = subst (λ l. Folded [] l) (sym here) folded_nothing;
     caused = subst (λ l. Caused [] l) (sym here) caused_nothing;
+    timely = subst (λ l. Timely [] l) (sym here) timely_nothing;
     kinds = kinds;
   };
   few = omega arith;
@@ -154,6 +163,7 @@ step_stands sight ready old new line before steps able kinds good memory stood =
     told = let a = next.count in let b = was.told in omega arith;
     ordered = next.ordered;
     caused = caused_step line before (lists_of sight old) (lists_of sight new) was.told was.ordered good steps was.folded was.caused;
+    timely = timely_step line before (lists_of sight old) (lists_of sight new) was.told was.ordered good steps was.folded was.caused was.timely (let a = next.ordered.even.stands in let b = next.count in let d = was.told in omega arith);
     folded = folded_step line before (lists_of sight old) (lists_of sight new) was.told was.ordered.even.stands was.ordered.sound.mail steps was.folded;
     kinds = kinds was.kinds;
   };
@@ -240,3 +250,9 @@ report_events l report script r caused =
     (subst (λ sleeps. AllEventsMeet l.mail.sent sleeps report.outcomes report.ended script) (sym r.sleeps)
     (subst (λ outs. AllEventsMeet l.mail.sent l.mail.sleeps outs report.ended script) (sym r.outcomes)
     (subst (λ ends. AllEventsMeet l.mail.sent l.mail.sleeps l.outcomes ends script) (sym r.ended) caused.events)))
+
+pub report_times : (l : Lists) (report : Report) (script : List Line) → IsReportOf l report → IsOrdered l → Timely script l → TimesLines script report
+report_times l report script r ordered timely = record {
+  each = subst (λ outs. AllTimed report.sent (history report.sent outs script) outs) (sym r.outcomes) (subst (λ sent. AllTimed sent (history sent l.outcomes script) l.outcomes) (sym r.sent) timely.times);
+  once = subst (λ outs. AreApart outs) (sym r.outcomes) (times_apart l.mail l.outcomes script ordered.sound.mail timely.times);
+}

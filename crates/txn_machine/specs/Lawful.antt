@@ -6,6 +6,7 @@ use Rattle.txn_report.specs.declared.report.Report.{Report}
 use Rattle.txn_machine.specs.Causes.{CallsMeetLines, EndsLines, EventsMeetLines, LivesLines, TellsLines}
 use Rattle.txn_machine.specs.Notes.{AreNoted}
 use Rattle.txn_machine.specs.Script.{FoldsLines}
+use Rattle.txn_machine.specs.Times.{TimesLines}
 
 -- each line is not bad after these, the newest first, and the ones between
 abbrev pub AllGood : List Line → List Line → Type 0
@@ -25,3 +26,5 @@ pub record Lawful (script : List Line) (report : Report) : Type 0 where
   -- a call is skipped, and an event done, exactly where it may
   pub calls : CallsMeetLines (reverse script) report
   pub events : EventsMeetLines (reverse script) report
+  -- a timestamp that a call answers is that of its place in a reply that was asked for since its line, and no other call's
+  pub times : TimesLines (reverse script) report

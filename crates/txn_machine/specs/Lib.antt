@@ -6,4 +6,5 @@ pub mod Rows
 pub mod Running
 pub mod Script
 pub mod Steps
+pub mod Times
 pub mod Told

@@ -19,6 +19,7 @@ use Rattle.txn_machine.specs.Lists.{Lists, followed, newest, nothing, outright}
 use Rattle.txn_machine.specs.Rows.{Caused}
 use Rattle.txn_machine.specs.Script.{Folded}
 use Rattle.txn_machine.specs.Steps.{Steps}
+use Rattle.txn_machine.specs.Times.{Timely}
 use Rattle.txn_machine.specs.declared.done.Done.{Done as Course}
 use Rattle.txn_machine.specs.declared.machine.Machine.{Machine}
 
@@ -89,6 +90,7 @@ pub record Standing {S : Type 0} (sight : S → Sight) (ready : S → Type 0) (m
   pub ordered : IsOrdered (lists_of sight m)
   pub folded : Folded lines (lists_of sight m)
   pub caused : Caused lines (lists_of sight m)
+  pub timely : Timely lines (lists_of sight m)
   pub kinds : m.kinds ≡ kinds_of lines
 
 -- A machine stands for these lines. Where memory was wanting, nothing is said.

@@ -1,5 +1,6 @@
 -- What each line does.
 use Rattle.std.specs.Prelude.{◌≡◌, ℕ, Bool, true, false, if◌then◌else◌, List, [], Option, Some, None}
+use Rattle.std.specs.List.{All}
 use Rattle.txn_kv.specs.declared.reply.Reply.{Reply}
 use Rattle.txn_kv.specs.declared.ticket.Ticket.{Ticket}
 use Rattle.txn_history.specs.Busy.{busy_reply}
@@ -10,7 +11,7 @@ use Rattle.txn_post.specs.Mail.{can_be_served, delivering, found_awaited, found_
 use Rattle.txn_report.specs.declared.outcome.Outcome.{Outcome}
 use Rattle.txn_report.specs.declared.outcome.Outcome.TheVariants.{Done, Ok, Skipped}
 use Rattle.txn_report.specs.declared.outcome.Payload.TheVariants.{Unit as Nothing}
-use Rattle.txn_side.specs.Sight.{Acts, Asks, Goes, Sight, connected, crash, is_live}
+use Rattle.txn_side.specs.Sight.{Acts, Asks, Goes, IsGiven, Names, NoneGiven, Sight, connected, crash, is_live}
 use Rattle.txn_side.specs.declared.act.Act.TheVariants as acts
 use Rattle.txn_side.specs.declared.turn.Ending.{Ending}
 use Rattle.txn_side.specs.declared.turn.Posting.{Posting}
@@ -47,12 +48,13 @@ pub record Calls (Begins : Sight → Sight → Option Turn → Type 0) (l new : 
 
 -- Events
 
--- the event is done, and the clients are told of it
-pub record Hears (l new : Lists) : Type 0 where
+-- the event is done, and the clients are told of it: what gives lines these timestamps
+pub record Hears (Gives : ℕ → ℕ → Type 0) (l new : Lists) : Type 0 where
   pub sight : Sight
   pub posted : List Posting
   pub ended : List Ending
   pub goes : Goes posted ended l.sight sight
+  pub times : All (Names Gives) ended
   pub is : new ≡ followed posted ended (outright Done (with_sight sight l))
 
 -- where the request stands that a ticket names and whose client, which has not crashed, waits for a reply
@@ -67,32 +69,32 @@ AtPlace (Some place) Does l new = Does place l new
 abbrev pub Serves : Ticket → ℕ → Lists → Lists → Type 0
 Serves t place l new = new ≡ outright Done (fated (keeping (reply_at l place)) place (handled t place l))
 
-abbrev pub Takes : ℕ → Option Reply → Lists → Lists → Type 0
-Takes place None l new = new ≡ skipped l
-Takes place (Some o) l new = Hears (fated taking place l) new
+abbrev pub Takes : Ticket → ℕ → Option Reply → Lists → Lists → Type 0
+Takes t place None l new = new ≡ skipped l
+Takes t place (Some o) l new = Hears (IsGiven l.sight t o) (fated taking place l) new
 
-abbrev pub Answers : ℕ → Lists → Lists → Type 0
-Answers place l new = Takes place (letter_at l.mail place).kept l new
+abbrev pub Answers : Ticket → ℕ → Lists → Lists → Type 0
+Answers t place l new = Takes t place (letter_at l.mail place).kept l new
 
 abbrev pub IfServable : Bool → (Lists → Lists → Type 0) → Lists → Lists → Type 0
 IfServable true Does l new = Does l new
 IfServable false Does l new = new ≡ skipped l
 
 abbrev pub Delivers : Ticket → ℕ → Lists → Lists → Type 0
-Delivers t place l new = IfServable (can_be_served l.mail place) (λ l new. Hears (fated delivering place (handled t place l)) new) l new
+Delivers t place l new = IfServable (can_be_served l.mail place) (λ l new. Hears (IsGiven l.sight t (reply_at l place)) (fated delivering place (handled t place l)) new) l new
 
-abbrev pub Refuses : ℕ → Option Reply → Lists → Lists → Type 0
-Refuses place None l new = new ≡ skipped l
-Refuses place (Some o) l new = Hears (fated refusing place l) new
+abbrev pub Refuses : Ticket → ℕ → Option Reply → Lists → Lists → Type 0
+Refuses t place None l new = new ≡ skipped l
+Refuses t place (Some o) l new = Hears (IsGiven l.sight t o) (fated refusing place l) new
 
-abbrev pub IsBusy : ℕ → Lists → Lists → Type 0
-IsBusy place l new = IfServable (can_be_served l.mail place) (λ l new. Refuses place (busy_reply (request_at l place)) l new) l new
+abbrev pub IsBusy : Ticket → ℕ → Lists → Lists → Type 0
+IsBusy t place l new = IfServable (can_be_served l.mail place) (λ l new. Refuses t place (busy_reply (request_at l place)) l new) l new
 
 abbrev pub Loses : ℕ → Lists → Lists → Type 0
-Loses place l new = Hears (fated losing place l) new
+Loses place l new = Hears NoneGiven (fated losing place l) new
 
 abbrev pub Wakes : ℕ → Lists → Lists → Type 0
-Wakes place l new = Hears (with_mail (waking place l.mail) l) new
+Wakes place l new = Hears NoneGiven (with_mail (waking place l.mail) l) new
 
 -- where the sleep stands that a ticket names and that lasts, of a client that has not crashed
 abbrev pub found_asleep : Lists → Ticket → Option ℕ
@@ -114,10 +116,10 @@ Does (lines.Lock x keys) l new = Calls (Acts (acts.Lock keys) x) l new
 Does (lines.Commit x) l new = Calls (Acts acts.Commit x) l new
 Does (lines.Rollback x) l new = Calls (Acts acts.Rollback x) l new
 Does (lines.Serve t) l new = AtPlace (found_unserved l.mail t) (Serves t) l new
-Does (lines.Answer t) l new = AtPlace (found_out l t) Answers l new
+Does (lines.Answer t) l new = AtPlace (found_out l t) (Answers t) l new
 Does (lines.Deliver t) l new = AtPlace (found_out l t) (Delivers t) l new
 Does (lines.Lose t) l new = AtPlace (found_out l t) Loses l new
-Does (lines.Busy t) l new = AtPlace (found_out l t) IsBusy l new
+Does (lines.Busy t) l new = AtPlace (found_out l t) (IsBusy t) l new
 Does (lines.Wake t) l new = AtPlace (found_asleep l t) Wakes l new
 Does (lines.Split key) l new = new ≡ outright (done_if (can_split l.store key)) (with_store (split l.store key) l)
 Does (lines.Lead region store) l new = new ≡ outright (done_if (can_lead l.store region store)) (with_store (lead l.store region store) l)

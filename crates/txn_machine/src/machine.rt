@@ -8,6 +8,7 @@ ghost use Rattle.txn_machine.specs.Notes.{AreNoted};
 ghost use Rattle.txn_machine.specs.Running.{CanClose, CanPost, CanStep, HasMemory, IsEven, IsFine, IsOrdered, IsReportOf, LedTo, Stands, StandsFor, closed, lists_of, outs_at, outs_until, with_own};
 ghost use Rattle.txn_machine.specs.Script.{FoldsLines, outcome_of};
 ghost use Rattle.txn_machine.specs.Steps.{Calls, Does, Steps, called, ended_in, posted_in};
+ghost use Rattle.txn_machine.specs.Times.{TimesLines};
 ghost use Rattle.txn_machine.specs.Told.{ArePast, CanTell, IsNote, IsNoteOf, OwnEnds, ending_at, view_of_ending};
 ghost use Rattle.txn_post.specs.Mail.{IsNext};
 ghost use Rattle.txn_report.specs.OutcomeView.{view_of_outcome};
@@ -441,6 +442,7 @@ impl<S: ClientSide> Machine<S> {
         ensures lives { (lines : List Line) → StandsFor S.sight S.ready self lines → LivesLines lines result }
         ensures calls { (lines : List Line) → StandsFor S.sight S.ready self lines → CallsMeetLines lines result }
         ensures events { (lines : List Line) → StandsFor S.sight S.ready self lines → EventsMeetLines lines result }
+        ensures times { (lines : List Line) → StandsFor S.sight S.ready self lines → TimesLines lines result }
         ensures noted { (lines : List Line) → StandsFor S.sight S.ready self lines → AreNoted (length lines) result.sent result.sleeps }
     {
         let (sent, sleeps) = self.post.into_notes();

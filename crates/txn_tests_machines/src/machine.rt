@@ -18,7 +18,7 @@ struct Nobody {
 impl ClientSide for Nobody {
     ghost use Rattle.std.specs.Prelude.{⊤};
 
-    ghost sight = { λ s. record { crashed = []; stands = map (λ (n : ℕ). Idle) s.lines.items; nexts = map (λ (n : ℕ). 1) s.lines.items } };
+    ghost sight = { λ s. record { crashed = []; groups = []; stands = map (λ (n : ℕ). Idle) s.lines.items; nexts = map (λ (n : ℕ). 1) s.lines.items } };
 
     ghost ready = { λ s. ⊤ };
 

@@ -1,6 +1,7 @@
 //! Events: what becomes of requests and sleeps, and of the store and the clients.
 ghost use Rattle.std.specs.Prelude.{◌≡◌, ◌≤◌, ◌<◌, ◌^◌, [], IfOk, IfSome, OnOk, Some, length};
 ghost use Rattle.txn_post.specs.Mail.{IsSentAt, IsSleptAt};
+ghost use Rattle.txn_side.specs.Sight.{IsGiven};
 ghost use Rattle.txn_machine.specs.Lists.{Lists, handled, newest, outright, reply_at};
 ghost use Rattle.txn_machine.specs.Running.{CanClose, IsEven, IsOrdered, closed, lists_of};
 ghost use Rattle.txn_machine.specs.Steps.{Does, Hears, done_if, found_asleep, found_out};
@@ -164,7 +165,7 @@ impl<S: ClientSide> Machine<S> {
         requires ready { S.ready self.old.clients }
         requires even { IsEven (lists_of S.sight self.old) }
         requires some { 1 ≤ newest (lists_of S.sight self.old) }
-        ensures hears { IfOk result (λ done. Hears (lists_of S.sight self.old) (closed done (lists_of S.sight self.new))) }
+        ensures hears { IfOk result (λ done. Hears (IsGiven (S.sight self.old.clients) ticket reply) (lists_of S.sight self.old) (closed done (lists_of S.sight self.new))) }
         ensures can { IfOk result (λ done. CanClose done (lists_of S.sight self.new)) }
         ensures tells { IfOk result (λ done. CanTell (lists_of S.sight self.old) done (lists_of S.sight self.new)) }
         ensures ready { OnOk result (S.ready self.new.clients) }

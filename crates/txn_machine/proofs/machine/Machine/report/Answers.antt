@@ -1,7 +1,7 @@
 use Rattle.std.proofs.Common.{refl}
 use Rattle.txn_machine.specs.Running.{lists_of}
 use Rattle.txn_machine.proofs.Noting.{standing_notes}
-use Rattle.txn_machine.proofs.Standings.{report_calls, report_ends, report_events, report_lives, report_tells}
+use Rattle.txn_machine.proofs.Standings.{report_calls, report_ends, report_events, report_lives, report_tells, report_times}
 use Rattle.txn_machine.proofs.machine.Machine.report.Goals as goal
 
 pub returns-clause-told : goal.returns-clause-told
@@ -28,6 +28,11 @@ pub returns-clause-events : goal.returns-clause-events
 returns-clause-events g c lines s =
     let h = s.stands c.requires in
     report_events (lists_of g.S.ClientSide.sight c.args.self) _ lines (record { outcomes = c.from_vec.ensures; ended = c.from_vec-2.ensures; sent = c.into_notes-sent.ensures.sent; sleeps = c.into_notes-sent.ensures.sleeps; served = c.from_vec-3.ensures; store = refl }) h.caused
+
+pub returns-clause-times : goal.returns-clause-times
+returns-clause-times g c lines s =
+    let h = s.stands c.requires in
+    report_times (lists_of g.S.ClientSide.sight c.args.self) _ lines (record { outcomes = c.from_vec.ensures; ended = c.from_vec-2.ensures; sent = c.into_notes-sent.ensures.sent; sleeps = c.into_notes-sent.ensures.sleeps; served = c.from_vec-3.ensures; store = refl }) h.ordered h.timely
 
 pub returns-clause-noted : goal.returns-clause-noted
 returns-clause-noted g c lines s = standing_notes g.S.ClientSide.sight g.S.ClientSide.ready c.args.self _ _ lines c.into_notes-sent.ensures.sent c.into_notes-sent.ensures.sleeps c.requires s
