@@ -1,13 +1,13 @@
 -- Parts of a step, each of which adds to the turn.
-use Rattle.std.proofs.Common.{◌≡◌, ℕ, ◌+◌, true, List, [], ◌∷◌, ◌++◌, sym, ◌∙◌, subst, append-nil}
+use Rattle.std.proofs.Common.{◌≡◌, ℕ, ◌+◌, ◌<◌, true, List, [], ◌∷◌, ◌++◌, length, set, Some, sym, ◌∙◌, subst, append-nil}
 use Rattle.txn_kv.specs.declared.outbox.Errand.TheVariants.{Send, Sleep, Ask}
 use Rattle.txn_history.specs.Posted.{Errand}
-use Rattle.txn_side.specs.Sight.{Goes, HasAskers, IsNext, Sight, is_live, ticket_in, with_next}
+use Rattle.txn_side.specs.Sight.{AskersAre, Goes, Group, GroupsGo, HasAskers, IsAsk, IsNext, Sight, is_live, line_count, ticket_in, with_next}
 use Rattle.txn_side.specs.declared.turn.Ending.{Ending}
 use Rattle.txn_side.specs.declared.turn.Posting.{Posting}
 use Rattle.txn_side.specs.declared.turn.Turn.{Turn}
 use Rattle.txn_clients.specs.Going.{Advances, AreNext, HasNext, next_after}
-use Rattle.txn_clients.proofs.Sights.{goes_posted, goes_quiet, goes_then}
+use Rattle.txn_clients.proofs.Sights.{goes_left, goes_posted, goes_quiet, goes_sent, goes_then}
 
 -- nothing is done
 pub advances_quiet : (turn : Turn) (old new : Sight) → new ≡ old → Advances turn turn old new
@@ -24,10 +24,23 @@ advances_so from to ps es old new posted ended k first g =
 
 -- one is posted
 pub advances_posted : (from to : Turn) (p : Posting) (old new : Sight) → to.posted.items ≡ from.posted.items ++ p ∷ [] → to.ended.items ≡ from.ended.items
-    → is_live old (ticket_in p).line ≡ true → IsNext old.nexts (ticket_in p) → HasAskers p → new ≡ record old { nexts = with_next old.nexts (ticket_in p).line }
+    → is_live old (ticket_in p).line ≡ true → IsNext old.nexts (ticket_in p) → HasAskers p → AskersAre (line_count old) p → new ≡ record old { nexts = with_next old.nexts (ticket_in p).line }
     → Advances from to old new
-advances_posted from to p old new posted ended live next askers e =
-    advances_so from to (p ∷ []) [] old new posted (ended ∙ sym (append-nil from.ended.items)) (subst (λ s. Goes (p ∷ []) [] old s) (sym e) (goes_posted p old live next askers))
+advances_posted from to p old new posted ended live next askers lines e =
+    advances_so from to (p ∷ []) [] old new posted (ended ∙ sym (append-nil from.ended.items)) (subst (λ s. Goes (p ∷ []) [] old s) (sym e) (goes_posted p old live next askers lines))
+
+-- a client's request for timestamps goes out
+pub advances_sent : (from to : Turn) (p : Posting) (h : Group) (client : ℕ) (old new : Sight) → to.posted.items ≡ from.posted.items ++ p ∷ [] → to.ended.items ≡ from.ended.items
+    → is_live old (ticket_in p).line ≡ true → IsNext old.nexts (ticket_in p) → HasAskers p → AskersAre (line_count old) p → IsAsk h p → client < length old.groups
+    → new ≡ record old { groups = set old.groups client (Some h); nexts = with_next old.nexts (ticket_in p).line }
+    → Advances from to old new
+advances_sent from to p h client old new posted ended live next askers lines ask there e =
+    advances_so from to (p ∷ []) [] old new posted (ended ∙ sym (append-nil from.ended.items)) (subst (λ s. Goes (p ∷ []) [] old s) (sym e) (goes_sent p h client old live next askers lines ask there))
+
+-- or is out no more
+pub advances_left : (turn : Turn) (old new : Sight) → new.crashed ≡ old.crashed → new.stands ≡ old.stands → new.nexts ≡ old.nexts → GroupsGo [] old new → Advances turn turn old new
+advances_left turn old new crashed stands nexts groups =
+    advances_so turn turn [] [] old new (sym (append-nil turn.posted.items)) (sym (append-nil turn.ended.items)) (goes_left old new crashed stands nexts groups)
 
 -- one ends
 pub advances_ended : (from to : Turn) (e : Ending) (old new : Sight) → to.posted.items ≡ from.posted.items → to.ended.items ≡ from.ended.items ++ e ∷ [] → Goes [] (e ∷ []) old new → Advances from to old new

@@ -1,5 +1,5 @@
 -- What becomes of the sight as a machine asks something of the clients.
-use Rattle.std.proofs.Common.{◌≡◌, ◌≢◌, ℕ, zero, suc, ◌-◌, ◌<◌, ◌≤◌, Bool, true, false, ◌&&◌, List, [], ◌∷◌, ◌++◌, length, map, get_or, set, Some, refl, sym, ap, ◌∙◌, subst, arith}
+use Rattle.std.proofs.Common.{◌≡◌, ◌≢◌, ℕ, zero, suc, ◌-◌, ◌<◌, ◌≤◌, Bool, true, false, ◌&&◌, List, [], ◌∷◌, ◌++◌, length, map, get_or, set, Some, None, refl, sym, ap, ◌∙◌, subst, arith}
 use Rattle.std.proofs.lemmas.List.{length-map, map-append, map-set}
 use Rattle.std.proofs.lemmas.List.Elements.{All-append, All-cons, All-nil}
 use Rattle.std.specs.Prelude.{IfOk, Result}
@@ -11,8 +11,9 @@ use Rattle.txn_side.specs.Sight.{Goes, Sight, Stand, client_at, connected, crash
 use Rattle.txn_side.specs.Sight.Stand.{Asking, Calling, HasBegun, Idle, IsClient}
 use Rattle.txn_side.specs.declared.act.Act.{Act}
 use Rattle.txn_side.specs.declared.turn.Turn.{Turn}
-use Rattle.txn_clients.specs.Clients.{AreReady, IsLine, Listens, crashed_of, nexts_of, row_at, rows_of, sight_of, stands_of}
+use Rattle.txn_clients.specs.Clients.{AreReady, IsLine, Listens, crashed_of, groups_of, nexts_of, row_at, rows_of, sight_of, stands_of}
 use Rattle.txn_clients.specs.Going.{Advances}
+use Rattle.txn_clients.specs.Groups.{group_by, group_of, lines_out}
 use Rattle.txn_clients.specs.Matching.{AreMatched}
 use Rattle.txn_clients.specs.Rows.{MayHear, Pd, RowReady, stand_of, with_waits}
 use Rattle.txn_clients.specs.declared.client_state.ClientState.{ClientState}
@@ -25,7 +26,7 @@ use Rattle.txn_clients.proofs.Advances.{advances_all, advances_then}
 use Rattle.txn_clients.proofs.Listening.{asked_listens, called_listens}
 use Rattle.txn_clients.proofs.Stands.{matched_opened, or_other, or_same}
 use Rattle.txn_clients.proofs.Telling.{begun_line}
-use Rattle.txn_clients.proofs.Tables.{called_stands, ready_called, ready_set, sight_by, stand_of_line, stands_set}
+use Rattle.txn_clients.proofs.Tables.{called_stands, ready_called, ready_set, sight_at, sight_by, stand_of_line, stands_set}
 
 -- A whole step
 
@@ -92,10 +93,10 @@ module _ {P Q K : Type 0} where
 
   -- A client is made, or is gone
 
-  pub connected_sight : (s t : Clients P Q K) (line client : ℕ) → line ≡ line_count (sight_of s) → client ≡ length (crashed_of s) → crashed_of t ≡ crashed_of s ++ false ∷ [] → rows_of t ≡ set (rows_of s) (line - 1) (row.Client client) → nexts_of t ≡ nexts_of s
+  pub connected_sight : (s t : Clients P Q K) (line client : ℕ) → line ≡ line_count (sight_of s) → client ≡ length (crashed_of s) → crashed_of t ≡ crashed_of s ++ false ∷ [] → groups_of t ≡ groups_of s ++ None ∷ [] → rows_of t ≡ set (rows_of s) (line - 1) (row.Client client) → nexts_of t ≡ nexts_of s
       → sight_of t ≡ connected (sight_of s)
-  connected_sight s t line client at new crashed rows nexts =
-      sight_by (crashed_of t) (crashed_of s ++ false ∷ []) (stands_of (rows_of t)) (set (stands_of (rows_of s)) (line_count (sight_of s) - 1) (IsClient (length (crashed_of s)))) (nexts_of t) (nexts_of s) crashed stands nexts
+  connected_sight s t line client at new crashed groups rows nexts =
+      sight_by (crashed_of t) (crashed_of s ++ false ∷ []) (groups_of t) (groups_of s ++ None ∷ []) (stands_of (rows_of t)) (set (stands_of (rows_of s)) (line_count (sight_of s) - 1) (IsClient (length (crashed_of s)))) (nexts_of t) (nexts_of s) crashed groups stands nexts
     where
       stands : stands_of (rows_of t) ≡ set (stands_of (rows_of s)) (line_count (sight_of s) - 1) (IsClient (length (crashed_of s)))
       stands = ap stands_of rows ∙ stands_set (rows_of s) (line - 1) (row.Client client) ∙ ap (λ n. set (stands_of (rows_of s)) (n - 1) (IsClient client)) at ∙ ap (λ n. set (stands_of (rows_of s)) (line_count (sight_of s) - 1) (IsClient n)) new
@@ -103,21 +104,21 @@ module _ {P Q K : Type 0} where
   pub pushed_crashed : (s t : Clients P Q K) (c : ClientState) → t.clients.items ≡ s.clients.items ++ c ∷ [] → c.crashed ≡ false → crashed_of t ≡ crashed_of s ++ false ∷ []
   pushed_crashed s t c e new = ap (map (λ (d : ClientState). d.crashed)) e ∙ map-append (λ (d : ClientState). d.crashed) s.clients.items (c ∷ []) ∙ ap (λ b. crashed_of s ++ b ∷ []) new
 
+  pub pushed_groups : (s t : Clients P Q K) (c : ClientState) → t.clients.items ≡ s.clients.items ++ c ∷ [] → c.group ≡ None → groups_of t ≡ groups_of s ++ None ∷ []
+  pushed_groups s t c e new = ap (map group_of) e ∙ map-append group_of s.clients.items (c ∷ []) ∙ ap (λ g. groups_of s ++ group_by g (lines_out c) ∷ []) new
+
   pub crashed_put : (s : Clients P Q K) (i : ℕ) (c : ClientState) → map (λ (d : ClientState). d.crashed) (set s.clients.items i c) ≡ set (crashed_of s) i c.crashed
   crashed_put s i c = map-set (λ (d : ClientState). d.crashed) s.clients.items i c
 
-  pub crashed_sight : (s t : Clients P Q K) (line client : ℕ) → client_at (stand_at (sight_of s).stands line) ≡ Some client → crashed_of t ≡ set (crashed_of s) client true → rows_of t ≡ rows_of s → nexts_of t ≡ nexts_of s → sight_of t ≡ crash line (sight_of s)
-  crashed_sight s t line client e crashed rows nexts =
-      sight_by (crashed_of t) (set (crashed_of s) client true) (stands_of (rows_of t)) (stands_of (rows_of s)) (nexts_of t) (nexts_of s) crashed (ap stands_of rows) nexts ∙ sym (crash_there (sight_of s) line client e)
+  pub crashed_sight : (s t : Clients P Q K) (line client : ℕ) → client_at (stand_at (sight_of s).stands line) ≡ Some client → crashed_of t ≡ set (crashed_of s) client true → groups_of t ≡ groups_of s → rows_of t ≡ rows_of s → nexts_of t ≡ nexts_of s → sight_of t ≡ crash line (sight_of s)
+  crashed_sight s t line client e crashed groups rows nexts =
+      sight_by (crashed_of t) (set (crashed_of s) client true) (groups_of t) (groups_of s) (stands_of (rows_of t)) (stands_of (rows_of s)) (nexts_of t) (nexts_of s) crashed groups (ap stands_of rows) nexts ∙ sym (crash_there (sight_of s) line client e)
 
   -- A call begins
 
-  pub asked_sight : (s t : Clients P Q K) (line c : ℕ) (b : Bool) (call : ClientCall Pd P Q K) → rows_of t ≡ set (rows_of s) (line - 1) (row.Asking c b call) → nexts_of t ≡ nexts_of s → crashed_of t ≡ crashed_of s → sight_of t ≡ with_stand line (Asking c b) (sight_of s)
-  asked_sight s t line c b call rows nexts crashed =
-      sight_by (crashed_of t) (crashed_of s) (stands_of (rows_of t)) (set (stands_of (rows_of s)) (line - 1) (Asking c b)) (nexts_of t) (nexts_of s) crashed (ap stands_of rows ∙ stands_set (rows_of s) (line - 1) (row.Asking c b call)) nexts
-
-  pub asked_hears : (rows news : List (Row P Q K)) (line c : ℕ) (b : Bool) (call : ClientCall Pd P Q K) → IsLine (stands_of rows) line → news ≡ set rows (line - 1) (row.Asking c b call) → MayHear tells.Start (row_at news (line - 1))
-  asked_hears rows news line c b call is e = subst (MayHear tells.Start) (sym (ap (λ rs. row_at rs (line - 1)) e ∙ or_same rows (line - 1) (row.Asking c b call) row.Plain (let one = is.first in let last = is.last in let long = length-map rows stand_of in omega (arith, one, last, long)))) tt
+  pub asked_sight : (s t : Clients P Q K) (line c : ℕ) (b : Bool) (call : ClientCall Pd P Q K) → rows_of t ≡ set (rows_of s) (line - 1) (row.Asking c b call) → nexts_of t ≡ nexts_of s → t.clients ≡ s.clients → sight_of t ≡ with_stand line (Asking c b) (sight_of s)
+  asked_sight s t line c b call rows nexts clients =
+      sight_at s t (set (stands_of (rows_of s)) (line - 1) (Asking c b)) (nexts_of s) clients (ap stands_of rows ∙ stands_set (rows_of s) (line - 1) (row.Asking c b call)) nexts
 
   pub asked_listens_now : (s t : Clients P Q K) (line c : ℕ) (b : Bool) → IsLine (sight_of s).stands line → get_or (crashed_of s) c true ≡ false → sight_of t ≡ with_stand line (Asking c b) (sight_of s) → Listens (sight_of t) line (line - 1) c
   asked_listens_now s t line c b is there e = subst (λ v. Listens v line (line - 1) c) (sym e) (asked_listens (sight_of s) line c b is there)
@@ -126,10 +127,10 @@ module _ {P Q K : Type 0} where
       → sight_of t ≡ with_stand line (Calling c x b) (with_stand x (HasBegun c line) (sight_of s)) → Listens (sight_of t) line (x - 1) c
   called_listens_now s t line x c b is idle free there e = subst (λ v. Listens v line (x - 1) c) (sym e) (called_listens (sight_of s) line x c b is idle free there)
 
-  pub called_sight : (s t : Clients P Q K) (line x c : ℕ) (b : Bool) → stand_at (sight_of s).stands x ≡ HasBegun c 0 → rows_of t ≡ set (set (rows_of s) (x - 1) (with_waits line (row_at (rows_of s) (x - 1)))) (line - 1) (row.Calling c x b) → nexts_of t ≡ nexts_of s → crashed_of t ≡ crashed_of s
+  pub called_sight : (s t : Clients P Q K) (line x c : ℕ) (b : Bool) → stand_at (sight_of s).stands x ≡ HasBegun c 0 → rows_of t ≡ set (set (rows_of s) (x - 1) (with_waits line (row_at (rows_of s) (x - 1)))) (line - 1) (row.Calling c x b) → nexts_of t ≡ nexts_of s → t.clients ≡ s.clients
       → sight_of t ≡ with_stand line (Calling c x b) (with_stand x (HasBegun c line) (sight_of s))
-  called_sight s t line x c b free rows nexts crashed =
-      sight_by (crashed_of t) (crashed_of s) (stands_of (rows_of t)) (set (set (stands_of (rows_of s)) (x - 1) (HasBegun c line)) (line - 1) (Calling c x b)) (nexts_of t) (nexts_of s) crashed
+  called_sight s t line x c b free rows nexts clients =
+      sight_at s t (set (set (stands_of (rows_of s)) (x - 1) (HasBegun c line)) (line - 1) (Calling c x b)) (nexts_of s) clients
       (ap stands_of rows ∙ called_stands (rows_of s) line x c 0 (row.Calling c x b) (begun_line (stands_of (rows_of s)) x c 0 free) free) nexts
 
   module _ {A B D : Type 0} (w : Ways P Q K A B D) where

@@ -1,11 +1,13 @@
 pub mod Stands
+pub mod Groups
+pub mod Naming
 pub mod Sights
 pub mod Rows
 pub mod Tables
 pub mod Advances
-pub mod Posting
 pub mod Listening
 pub mod Telling
 pub mod Asking
 pub mod Places
 pub mod Timestamps
+pub mod Sending

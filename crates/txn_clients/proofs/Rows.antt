@@ -1,10 +1,9 @@
 -- What the calls at the lines post and answer.
-use Rattle.std.proofs.Common.{◌≡◌, ℕ, Bool, true, false, List, [], Option, Some, None, refl, sym, ap, ◌∙◌, subst, append-nil}
-use Rattle.std.specs.Prelude.{IfSome, Result, Ok, Err}
+use Rattle.std.proofs.Common.{◌≡◌, Bool, true, false, List, [], Option, Some, None, refl, sym, ap, ◌∙◌, subst, append-nil}
+use Rattle.std.specs.Prelude.{Result}
 use Rattle.txn_kv.specs.declared.errors.Error.{Error}
 use Rattle.txn_kv.specs.declared.request.Request.{Request}
 use Rattle.txn_kv.specs.declared.ticket.Ticket.{Ticket}
-use Rattle.txn_kv.specs.declared.timestamp.Timestamp.{Timestamp}
 use Rattle.txn_history.specs.Event.{Event}
 use Rattle.txn_history.specs.Meaning.{Goes}
 use Rattle.txn_history.specs.Moves.{Moves}
@@ -21,14 +20,7 @@ use Rattle.txn_core.specs.Waiting.{HandsOut, work_phase}
 use Rattle.txn_core.specs.declared.transaction.Work.{Work}
 use Rattle.txn_core.specs.declared.transaction.Work.TheVariants.{Idle, Open, GaveUp}
 use Rattle.txn_core.specs.declared.txn_answer.TxnAnswer.{TxnAnswer}
-use Rattle.txn_plan.specs.declared.arrival.Arrival.{Arrival}
-use Rattle.txn_client.specs.Calls.{AnswerReady, IsMadeOf, made}
-use Rattle.txn_client.specs.declared.client_answer.ClientAnswer.{ClientAnswer}
-use Rattle.txn_client.specs.declared.client_answer.ClientAnswer.TheVariants.{Begun, Time}
-use Rattle.txn_client.specs.declared.client_call.Wanted.{Wanted}
-use Rattle.txn_client.specs.declared.client_call.Wanted.TheVariants as wanted
-use Rattle.txn_clients.specs.Rows.{AnswerFits, AskFits, IsTold, Pd, Posts, answer_in}
-use Rattle.txn_clients.specs.declared.answer.Answer.TheVariants as answers
+use Rattle.txn_clients.specs.Rows.{IsTold, Posts}
 
 -- What is posted
 
@@ -108,41 +100,3 @@ module _ {P Q K A B D : Type 0} (w : Ways P Q K A B D) where
   told_heard meant old new from to pd pd' Stopped g ready hands posts = tt
   told_heard meant old new from to pd pd' Waits g ready hands posts = record { posts = posts; ready = ready; rests = tt; hands = tt }
   told_heard meant old new from to pd pd' (Ends v) g ready hands posts = record { posts = posts; ready = ready; rests = rests_after meant old new from to pd pd' v g new.work refl ready.work; hands = hands }
-
-  -- What is answered
-
-  abbrev work_in : ClientAnswer Pd P Q K → Work P Q K
-  work_in (Begun b) = b.work
-  work_in (Time t) = Idle
-
-  made_rests : (x : Wanted) (now : ℕ) (t : Timestamp) → is_open (work_in (made x now t)) ≡ false
-  made_rests wanted.Timestamp now t = refl
-  made_rests (wanted.Transaction options) now t = refl
-
-  ask_fits : (x : Wanted) (now : ℕ) (a : Arrival) (v : Result (ClientAnswer Pd P Q K) Error) → AnswerReady w v → IsMadeOf x now a v → AskFits w v
-  ask_fits x now a (Ok (Begun b)) ready made = (ready, ap (λ (y : ClientAnswer Pd P Q K). is_open (work_in y)) made.3 ∙ made_rests x now made.1)
-  ask_fits x now a (Ok (Time t)) ready made = ready
-  ask_fits x now a (Err e) ready made = tt
-
-  pub asked_fits : (x : Wanted) (now : ℕ) (a : Arrival) (turn : Turn (Result (ClientAnswer Pd P Q K) Error)) → IfEnds turn (AnswerReady w) → IfEnds turn (IsMadeOf x now a)
-      → IfSome (answer_in answers.Asked turn) (AnswerFits w)
-  asked_fits x now a Stopped ready made = tt
-  asked_fits x now a Waits ready made = tt
-  asked_fits x now a (Ends v) ready made = ask_fits x now a v ready made
-
-  -- a start does not answer
-  pub started_fits : (turn : Turn (Result (ClientAnswer Pd P Q K) Error)) → IfEnds turn (λ v. ⊥) → IfSome (answer_in answers.Asked turn) (AnswerFits w)
-  started_fits Stopped h = tt
-  started_fits Waits h = tt
-  started_fits (Ends v) h = absurd h
-
-  pub called_fits : (turn : Turn (Result (TxnAnswer Q) Error)) → IfEnds turn (HandsOut w.committing) → IfSome (answer_in answers.Called turn) (AnswerFits w)
-  called_fits Stopped h = tt
-  called_fits Waits h = tt
-  called_fits (Ends v) h = h
-
--- where there is an answer, what holds of the end holds
-pub answered_so : {A X : Type 0} (R : Type 0) (make : A → X) (turn : Turn A) → IfEnds turn (λ v. R) → IfSome (answer_in make turn) (λ a. R)
-answered_so R make Stopped h = tt
-answered_so R make Waits h = tt
-answered_so R make (Ends v) h = h

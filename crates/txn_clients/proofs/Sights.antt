@@ -1,17 +1,18 @@
 -- What the steps of clients make of a sight, one after another.
-use Rattle.std.proofs.Common.{◌≡◌, ◌≢◌, ◌⊎◌, inl, inr, ℕ, ◌-◌, ◌≤◌, Bool, true, false, List, [], ◌∷◌, ◌++◌, map, set, nat_eq, Some, refl, sym, ap, ◌∙◌, subst, arith, length-set}
+use Rattle.std.proofs.Common.{◌≡◌, ◌≢◌, ◌⊎◌, inl, inr, ℕ, ◌-◌, ◌<◌, ◌≤◌, Bool, true, false, List, [], ◌∷◌, ◌++◌, length, map, set, nat_eq, Some, refl, sym, ap, ◌∙◌, subst, arith, length-set}
 use Rattle.std.proofs.lemmas.Bool.Decides.{nat_tests}
 use Rattle.std.proofs.lemmas.List.{map-append}
 use Rattle.std.proofs.lemmas.List.Elements.{All-append, All-cons, All-nil, All-weaker, filter-append}
-use Rattle.std.specs.List.{All, filter}
+use Rattle.std.specs.List.{All, Any, filter}
 use Rattle.txn_report.specs.declared.outcome.Outcome.{Outcome}
 use Rattle.txn_report.specs.declared.outcome.Outcome.TheVariants.{Ok, Err, Unfinished, Done, Skipped}
 use Rattle.txn_report.specs.declared.outcome.Payload.TheVariants.{Unit as Nothing, Number, Commit as Committed}
-use Rattle.txn_side.specs.Sight.{AskEnds, ArePosted, CallEnds, Goes, HasAskers, IsNext, LineGoes, Sight, Stand, StaysOrEnds, client_at, is_live, lives, outcomes_of, stand_at, still_open, ticket_in, with_next, with_stand}
+use Rattle.txn_side.specs.Sight.{AskEnds, ArePosted, AskersAre, CallEnds, Goes, Group, GroupsGo, HasAskers, IsAsk, IsNext, IsOut, LineGoes, Sight, Stand, StaysOrEnds, client_at, is_live, line_count, lives, outcomes_of, stand_at, still_open, ticket_in, with_next, with_stand}
 use Rattle.txn_side.specs.Sight.Stand.{Asking, Calling, HasBegun, Idle, IsClient, Past, Working}
 use Rattle.txn_side.specs.declared.turn.Ending.{Ending}
 use Rattle.txn_side.specs.declared.turn.Posting.{Posting}
 use Rattle.txn_clients.specs.Matching.{AreMatched, IsCallOf, IsLine}
+use Rattle.txn_clients.proofs.Groups.{IsIn, groups_then, sent_in}
 use Rattle.txn_clients.proofs.Stands.{called, line_of, same_line, stand_other, stand_same}
 
 -- What ends, in two parts.
@@ -149,6 +150,8 @@ goes_then ps qs es fs old mid new g k = record {
   posting = All-append (λ (p : Posting). is_live old (ticket_in p).line ≡ true) ps qs g.posting
       (All-weaker (λ (p : Posting). is_live mid (ticket_in p).line ≡ true) (λ (p : Posting). is_live old (ticket_in p).line ≡ true) (λ p h. sym (lives_on old mid (ticket_in p).line g) ∙ h) qs k.posting);
   numbers = posted_then old.nexts mid.nexts new.nexts ps qs g.numbers k.numbers;
+  askers = All-append (AskersAre (line_count old)) ps qs g.askers (subst (λ n. All (AskersAre n) qs) g.count k.askers);
+  groups = groups_then ps qs old mid new g.groups k.groups;
 }
 
 -- Steps by themselves.
@@ -165,13 +168,62 @@ stand_quiet n (Working c) = (refl, refl)
 none_posted : (s : Sight) → All (λ (p : Posting). is_live s (ticket_in p).line ≡ true) []
 none_posted s = All-nil (λ (p : Posting). is_live s (ticket_in p).line ≡ true)
 
+none_ask : (s : Sight) → All (AskersAre (line_count s)) []
+none_ask s = All-nil (AskersAre (line_count s))
+
 -- nothing is done
 pub goes_quiet : (s : Sight) → Goes [] [] s s
-goes_quiet s = record { crashed = refl; count = refl; lines = λ n. stand_quiet n (stand_at s.stands n); live = All-nil (λ (e : Ending). is_live s e.line ≡ true); posting = none_posted s; numbers = refl }
+goes_quiet s = record {
+  crashed = refl;
+  count = refl;
+  lines = λ n. stand_quiet n (stand_at s.stands n);
+  live = All-nil (λ (e : Ending). is_live s e.line ≡ true);
+  posting = none_posted s;
+  numbers = refl;
+  askers = none_ask s;
+  groups = λ g out. inl out;
+}
+
+-- a request for timestamps is out no more
+pub goes_left : (old new : Sight) → new.crashed ≡ old.crashed → new.stands ≡ old.stands → new.nexts ≡ old.nexts → GroupsGo [] old new → Goes [] [] old new
+goes_left old new crashed stands nexts groups = record {
+  crashed = crashed;
+  count = ap length stands;
+  lines = λ n. subst (λ ss. LineGoes [] n (stand_at old.stands n) (stand_at ss n)) (sym stands) (stand_quiet n (stand_at old.stands n));
+  live = All-nil (λ (e : Ending). is_live old e.line ≡ true);
+  posting = none_posted old;
+  numbers = nexts;
+  askers = none_ask old;
+  groups = groups;
+}
+
+-- one is posted, and the request of its ticket may be out
+goes_one : (p : Posting) (old new : Sight) → is_live old (ticket_in p).line ≡ true → IsNext old.nexts (ticket_in p) → HasAskers p → AskersAre (line_count old) p
+    → new.crashed ≡ old.crashed → new.stands ≡ old.stands → new.nexts ≡ with_next old.nexts (ticket_in p).line → GroupsGo (p ∷ []) old new → Goes (p ∷ []) [] old new
+goes_one p old new live next askers lines crashed stands nexts groups = record {
+  crashed = crashed;
+  count = ap length stands;
+  lines = λ n. subst (λ ss. LineGoes [] n (stand_at old.stands n) (stand_at ss n)) (sym stands) (stand_quiet n (stand_at old.stands n));
+  live = All-nil (λ (e : Ending). is_live old e.line ≡ true);
+  posting = All-cons (λ (p : Posting). is_live old (ticket_in p).line ≡ true) p [] live (none_posted old);
+  numbers = (next, askers, nexts);
+  askers = All-cons (AskersAre (line_count old)) p [] lines (none_ask old);
+  groups = groups;
+}
 
 -- one is posted
-pub goes_posted : (p : Posting) (s : Sight) → is_live s (ticket_in p).line ≡ true → IsNext s.nexts (ticket_in p) → HasAskers p → Goes (p ∷ []) [] s (record s { nexts = with_next s.nexts (ticket_in p).line })
-goes_posted p s live next askers = record { crashed = refl; count = refl; lines = λ n. stand_quiet n (stand_at s.stands n); live = All-nil (λ (e : Ending). is_live s e.line ≡ true); posting = All-cons (λ (p : Posting). is_live s (ticket_in p).line ≡ true) p [] live (none_posted s); numbers = (next, askers, refl) }
+pub goes_posted : (p : Posting) (s : Sight) → is_live s (ticket_in p).line ≡ true → IsNext s.nexts (ticket_in p) → HasAskers p → AskersAre (line_count s) p → Goes (p ∷ []) [] s (record s { nexts = with_next s.nexts (ticket_in p).line })
+goes_posted p s live next askers lines = goes_one p s (record s { nexts = with_next s.nexts (ticket_in p).line }) live next askers lines refl refl refl (λ g out. inl out)
+
+-- a client's request for timestamps goes out
+pub goes_sent : (p : Posting) (h : Group) (client : ℕ) (s : Sight) → is_live s (ticket_in p).line ≡ true → IsNext s.nexts (ticket_in p) → HasAskers p → AskersAre (line_count s) p → IsAsk h p → client < length s.groups
+    → Goes (p ∷ []) [] s (record s { groups = set s.groups client (Some h); nexts = with_next s.nexts (ticket_in p).line })
+goes_sent p h client s live next askers lines ask there =
+    goes_one p s (record s { groups = set s.groups client (Some h); nexts = with_next s.nexts (ticket_in p).line }) live next askers lines refl refl refl (λ g out. by g (sent_in s.groups client h g there out))
+  where
+    by : (g : Group) → IsIn s.groups g ⊎ (h ≡ g) → IsOut s g ⊎ Any (IsAsk g) (p ∷ [])
+    by g (inl was) = inl was
+    by g (inr same) = inr (0, p, omega arith, refl, subst (λ x. IsAsk x p) same ask)
 
 abbrev ending : ℕ → Outcome → Ending
 ending line o = record { line = line; outcome = o }
@@ -205,6 +257,8 @@ goes_asked s line c b o new asks live matched ends = record {
   live = one_live s line o live;
   posting = none_posted s;
   numbers = refl;
+  askers = none_ask s;
+  groups = λ g out. inl out;
 }
   where
     own : IsLine s.stands line
@@ -240,6 +294,8 @@ goes_called s line x c d b o new calls waits live matched ends = record {
   live = one_live s line o live;
   posting = none_posted s;
   numbers = refl;
+  askers = none_ask s;
+  groups = λ g out. inl out;
 }
   where
     own : IsLine s.stands line

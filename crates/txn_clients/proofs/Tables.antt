@@ -1,19 +1,21 @@
 -- The lists that a machine sees, of what is kept in one place a line.
-use Rattle.std.proofs.Common.{◌≡◌, ◌≢◌, ℕ, zero, suc, ◌+◌, ◌-◌, ◌<◌, ◌≤◌, Bool, false, List, [], ◌∷◌, length, map, get_or, set, refl, sym, ap, ◌∙◌, subst, arith}
+use Rattle.std.proofs.Common.{◌≡◌, ◌≢◌, ℕ, zero, suc, ◌-◌, ◌<◌, ◌≤◌, Bool, false, List, [], ◌∷◌, length, map, get_or, set, Option, refl, sym, ap, ◌∙◌, subst, arith}
 use Rattle.std.proofs.lemmas.List.{length-map, map-set}
 use Rattle.std.proofs.lemmas.List.Elements.{All-set}
 use Rattle.std.specs.List.{All}
 use Rattle.txn_commit.specs.Committing.{Ways}
-use Rattle.txn_side.specs.Sight.{IsNext, Sight, Stand, line_count, next_at, stand_at, with_next}
+use Rattle.txn_side.specs.Sight.{Group, IsNext, Sight, Stand, line_count, next_at, stand_at}
 use Rattle.txn_side.specs.Sight.Stand.{Asking, Calling, HasBegun, Idle, IsClient, Past, Working}
-use Rattle.txn_clients.specs.Clients.{AreReady, IsLine, crashed_of, nexts_of, row_at, rows_of, sight_of, stands_of}
+use Rattle.txn_clients.specs.Clients.{AreReady, IsLine, crashed_of, groups_of, nexts_of, row_at, rows_of, sight_of, stands_of}
+use Rattle.txn_clients.specs.Groups.{group_of}
 use Rattle.txn_clients.specs.Matching.{AreMatched}
 use Rattle.txn_clients.specs.Rows.{Rests, RowReady, stand_of, with_waits}
+use Rattle.txn_clients.specs.declared.client_state.ClientState.{ClientState}
 use Rattle.txn_clients.specs.declared.clients.Clients.{Clients}
 use Rattle.txn_clients.specs.declared.place.Place.{Place}
 use Rattle.txn_clients.specs.declared.row.Row.{Row}
 use Rattle.txn_clients.specs.declared.row.Row.TheVariants as row
-use Rattle.txn_clients.proofs.Stands.{matched_called, matched_ended, matched_set, or_same}
+use Rattle.txn_clients.proofs.Stands.{matched_called, matched_ended, matched_set}
 
 -- what is read of an element
 pub read : {X Y : Type 0} (f : X → Y) (xs : List X) (i : ℕ) (d : X) → get_or (map f xs) i (f d) ≡ f (get_or xs i d)
@@ -36,15 +38,11 @@ abbrev begun_by : Stand → ℕ
 begun_by (HasBegun c m) = c
 begun_by _ = 0
 
-raised : (nexts : List ℕ) (line : ℕ) → 1 ≤ line → line ≤ length nexts → next_at (with_next nexts line) line ≡ next_at nexts line + 1
-raised nexts zero one most = absurd (omega arith)
-raised nexts (suc i) one most = let e : suc i - 1 ≡ i = omega arith in rw e (or_same nexts i (next_at nexts (suc i) + 1) 0 (omega arith))
+abbrev sight : List Bool → List (Option Group) → List Stand → List ℕ → Sight
+sight c g r n = record { crashed = c; groups = g; stands = r; nexts = n }
 
-abbrev sight : List Bool → List Stand → List ℕ → Sight
-sight c r n = record { crashed = c; stands = r; nexts = n }
-
-pub sight_by : (c d : List Bool) (r s : List Stand) (n m : List ℕ) → c ≡ d → r ≡ s → n ≡ m → sight c r n ≡ sight d s m
-sight_by c d r s n m e f g = rw (e, f, g) refl
+pub sight_by : (c d : List Bool) (g h : List (Option Group)) (r s : List Stand) (n m : List ℕ) → c ≡ d → g ≡ h → r ≡ s → n ≡ m → sight c g r n ≡ sight d h s m
+sight_by c d g h r s n m e f k l = rw (e, f, k, l) refl
 
 module _ {P Q K : Type 0} where
   pub count : (s : Clients P Q K) → line_count (sight_of s) ≡ length s.places.items
@@ -64,20 +62,19 @@ module _ {P Q K : Type 0} where
   nexts_count : (s : Clients P Q K) → length (nexts_of s) ≡ line_count (sight_of s)
   nexts_count s = length-map s.places.items (λ p. p.next) ∙ sym (count s)
 
-  -- the next number of a line is one greater
-  pub next_raised : (s : Clients P Q K) (line : ℕ) → IsLine (sight_of s).stands line → next_at (with_next (nexts_of s) line) line ≡ next_at (nexts_of s) line + 1
-  next_raised s line is = raised (nexts_of s) line is.first (subst (λ n. line ≤ n) (sym (nexts_count s)) is.last)
-
   -- what is next of a line
   pub is_next : (s : Clients P Q K) (line number : ℕ) → IsLine (sight_of s).stands line → number ≡ next_at (nexts_of s) line → IsNext (nexts_of s) (record { line = line; beat = false; number = number })
   is_next s line number is e = record { beat = refl; first = is.first; last = subst (λ n. line ≤ n) (sym (nexts_count s)) is.last; number = e }
 
-  -- the clients are the same but for what their lines post
-  pub sight_so : (s t : Clients P Q K) (ns : List ℕ) → crashed_of t ≡ crashed_of s → rows_of t ≡ rows_of s → nexts_of t ≡ ns → sight_of t ≡ record (sight_of s) { nexts = ns }
-  sight_so s t ns c r n = sight_by (crashed_of t) (crashed_of s) (stands_of (rows_of t)) (stands_of (rows_of s)) (nexts_of t) ns c (ap stands_of r) n
+  pub same_clients : (s t : Clients P Q K) → t.clients ≡ s.clients → crashed_of t ≡ crashed_of s
+  same_clients s t e = ap (λ v. map (λ (c : ClientState). c.crashed) v.items) e
 
-  pub same_sight : (s t : Clients P Q K) → crashed_of t ≡ crashed_of s → rows_of t ≡ rows_of s → nexts_of t ≡ nexts_of s → sight_of t ≡ sight_of s
-  same_sight s t c r n = sight_so s t (nexts_of s) c r n
+  pub same_groups : (s t : Clients P Q K) → t.clients ≡ s.clients → groups_of t ≡ groups_of s
+  same_groups s t e = ap (λ v. map group_of v.items) e
+
+  -- the clients are the same, but for what stands at their lines, and for what these post
+  pub sight_at : (s t : Clients P Q K) (ss : List Stand) (ns : List ℕ) → t.clients ≡ s.clients → stands_of (rows_of t) ≡ ss → nexts_of t ≡ ns → sight_of t ≡ record (sight_of s) { stands = ss; nexts = ns }
+  sight_at s t ss ns c r n = sight_by (crashed_of t) (crashed_of s) (groups_of t) (groups_of s) (stands_of (rows_of t)) ss (nexts_of t) ns (same_clients s t c) (same_groups s t c) r n
 
   pub line_kept : (s t : Clients P Q K) (line : ℕ) → rows_of t ≡ rows_of s → IsLine (sight_of s).stands line → IsLine (sight_of t).stands line
   line_kept s t line r is = subst (λ ss. IsLine ss line) (sym (ap stands_of r)) is
@@ -161,9 +158,6 @@ module _ {P Q K : Type 0} where
     -- what holds of each row holds of that of a line
     at_line : (rows : List (Row P Q K)) (line : ℕ) → IsLine (stands_of rows) line → All (RowReady w) rows → RowReady w (row_at rows (line - 1))
     at_line rows line is all = all (line - 1) row.Plain (let one = is.first in let last = subst (λ n. line ≤ n) (length-map rows stand_of) is.last in omega (arith, one, last))
-
-    stand_read_at : (rows : List (Row P Q K)) (line : ℕ) → IsLine (stands_of rows) line → stand_at (stands_of rows) line ≡ stand_of (row_at rows (line - 1))
-    stand_read_at rows line is = stand_of_line rows line is.first
 
     -- a transaction waits for a new call
     pub ready_called : (rows : List (Row P Q K)) (line x c : ℕ) (b : Bool) → IsLine (stands_of rows) line → IsLine (stands_of rows) x → stand_at (stands_of rows) line ≡ Idle → stand_at (stands_of rows) x ≡ HasBegun c 0 → AreReady w rows

@@ -12,11 +12,10 @@ use Rattle.txn_side.specs.Sight.{AskEnds, CallEnds, EndsAlone, Goes, IsNext, Sig
 use Rattle.txn_side.specs.Sight.Stand.{Asking, Calling, HasBegun, Idle, Past, Working}
 use Rattle.txn_side.specs.declared.turn.Ending.{Ending}
 use Rattle.txn_side.specs.declared.turn.Turn.{Turn}
-use Rattle.txn_clients.specs.Clients.{AreReady, HearsFor, IsLine, MayEnd, crashed_of, nexts_of, row_at, rows_of, sight_of, stands_of}
+use Rattle.txn_clients.specs.Clients.{AreReady, HearsFor, IsLine, MayEnd, nexts_of, row_at, rows_of, sight_of, stands_of}
 use Rattle.txn_clients.specs.Going.{Advances, EndsIn}
 use Rattle.txn_clients.specs.Matching.{AreMatched}
 use Rattle.txn_clients.specs.Rows.{Pd, RowReady, stand_of, with_waits}
-use Rattle.txn_clients.specs.declared.client_state.ClientState.{ClientState}
 use Rattle.txn_clients.specs.declared.clients.Clients.{Clients}
 use Rattle.txn_clients.specs.declared.place.Place.{Place}
 use Rattle.txn_clients.specs.declared.row.Row.{Row}
@@ -25,7 +24,7 @@ use Rattle.txn_clients.proofs.Advances.{advances_ended}
 use Rattle.txn_clients.proofs.Places.{rows_set}
 use Rattle.txn_clients.proofs.Sights.{HasSettled, ask_settles, call_settles, goes_asked, goes_called, lives_on}
 use Rattle.txn_clients.proofs.Stands.{line_of, or_same}
-use Rattle.txn_clients.proofs.Tables.{count, ended_stands, is_next, map_kept, next_of_line, read_in, ready_ended, ready_set, sight_by, stand_of_line, stands_set}
+use Rattle.txn_clients.proofs.Tables.{count, ended_stands, is_next, map_kept, next_of_line, read_in, ready_ended, ready_set, sight_at, stand_of_line, stands_set}
 
 -- Parts of a turn.
 
@@ -34,6 +33,10 @@ pub one_ends : (line : ℕ) (o : Outcome) (from to : Turn) → to.ended.items �
 one_ends line o from to e h = subst (λ es. EndsAlone line es) (sym e)
     (All-append (λ (x : Ending). x.line ≡ line) from.ended.items (record { line = line; outcome = o } ∷ []) h
     (All-cons (λ (x : Ending). x.line ≡ line) (record { line = line; outcome = o }) [] refl (All-nil (λ (x : Ending). x.line ≡ line))))
+
+-- between parts in which none ends
+pub ends_within : (line : ℕ) (from via on to : Turn) → via.ended ≡ from.ended → EndsIn line via on → to.ended ≡ on.ended → EndsIn line from to
+ends_within line from via on to e f k alone = subst (λ v. EndsAlone line v.items) (sym k) (f (subst (λ v. EndsAlone line v.items) (sym e) alone))
 
 -- Where there is an answer.
 
@@ -52,6 +55,9 @@ if_some (Some x) f h = f h
 pub if_answered : {X E A B : Type 0} (r : Result (Option X) E) → (A → B) → IfOk r (λ o. IfSome o (λ x. A)) → IfOk r (λ o. IfSome o (λ x. B))
 if_answered (Ok o) f h = if_some o f h
 if_answered (Err e) f h = tt
+
+pub some_at : {X : Type 0} (o : Option X) (x : X) (P : X → Type 0) → o ≡ Some x → IfSome o P → P x
+some_at o x P e h = subst (λ p. IfSome p P) e h
 
 pub some_so : {X : Type 0} (o : Option X) (x : X) (A : Type 0) → o ≡ Some x → IfSome o (λ y. A) → A
 some_so o x A e h = subst (λ p. IfSome p (λ y. A)) e h
@@ -102,9 +108,6 @@ module _ {P Q K : Type 0} where
   stands_at rows line r is e = stand_of_line rows line is.first ∙ ap stand_of e
 
   -- What stands at a place is told, which stays what it is.
-
-  pub same_clients : (s t : Clients P Q K) → t.clients ≡ s.clients → crashed_of t ≡ crashed_of s
-  same_clients s t e = ap (λ v. map (λ (c : ClientState). c.crashed) v.items) e
 
   places_of : (s : Clients P Q K) → length (rows_of s) ≡ length s.places.items
   places_of s = length-map s.places.items (λ (p : Place P Q K). p.row)
@@ -176,16 +179,16 @@ module _ {P Q K : Type 0} where
 
     pub asked_advances : (s t : Clients P Q K) (from to : Turn) (line c : ℕ) (b : Bool) (call : ClientCall Pd P Q K) (r : Row P Q K) (o : Outcome) → IsLine (sight_of s).stands line → is_live (sight_of s) line ≡ true
         → row_at (rows_of s) (line - 1) ≡ row.Asking c b call → AreReady w (rows_of s) → AskEnds c b o (stand_of r)
-        → rows_of t ≡ set (rows_of s) (line - 1) r → nexts_of t ≡ nexts_of s → crashed_of t ≡ crashed_of s
+        → rows_of t ≡ set (rows_of s) (line - 1) r → nexts_of t ≡ nexts_of s → t.clients ≡ s.clients
         → to.posted.items ≡ from.posted.items → to.ended.items ≡ from.ended.items ++ record { line = line; outcome = o } ∷ []
         → Advances from to (sight_of s) (sight_of t)
-    asked_advances s t from to line c b call r o is live there ready ends rows nexts crashed posted ended =
+    asked_advances s t from to line c b call r o is live there ready ends rows nexts clients posted ended =
         advances_ended from to (record { line = line; outcome = o }) (sight_of s) (sight_of t) posted ended
         (subst (λ v. Goes [] (record { line = line; outcome = o } ∷ []) (sight_of s) v) (sym seen)
         (goes_asked (sight_of s) line c b o (stand_of r) (stands_at (rows_of s) line (row.Asking c b call) is there) live ready.matched ends))
       where
         seen : sight_of t ≡ with_stand line (stand_of r) (sight_of s)
-        seen = sight_by (crashed_of t) (crashed_of s) (stands_of (rows_of t)) (set (stands_of (rows_of s)) (line - 1) (stand_of r)) (nexts_of t) (nexts_of s) crashed (ap stands_of rows ∙ stands_set (rows_of s) (line - 1) r) nexts
+        seen = sight_at s t (set (stands_of (rows_of s)) (line - 1) (stand_of r)) (nexts_of s) clients (ap stands_of rows ∙ stands_set (rows_of s) (line - 1) r) nexts
 
     -- A call of a transaction has ended, which waits no more.
 
@@ -201,9 +204,9 @@ module _ {P Q K : Type 0} where
 
     pub called_goes : (s t : Clients P Q K) (line x c : ℕ) (b : Bool) (r : Row P Q K) (o : Outcome) → IsLine (sight_of s).stands line → is_live (sight_of s) line ≡ true
         → row_at (rows_of s) (line - 1) ≡ row.Calling c x b → MayEnd (rows_of s) line (stand_at (sight_of s).stands line) → AreReady w (rows_of s) → CallEnds c b o (stand_of r)
-        → rows_of t ≡ set (set (rows_of s) (x - 1) (with_waits 0 (row_at (rows_of s) (x - 1)))) (line - 1) r → nexts_of t ≡ nexts_of s → crashed_of t ≡ crashed_of s
+        → rows_of t ≡ set (set (rows_of s) (x - 1) (with_waits 0 (row_at (rows_of s) (x - 1)))) (line - 1) r → nexts_of t ≡ nexts_of s → t.clients ≡ s.clients
         → Goes [] (record { line = line; outcome = o } ∷ []) (sight_of s) (sight_of t)
-    called_goes s t line x c b r o is live there may ready ends rows nexts crashed = by (subst (λ v. MayEnd (rows_of s) line v) calls may)
+    called_goes s t line x c b r o is live there may ready ends rows nexts clients = by (subst (λ v. MayEnd (rows_of s) line v) calls may)
       where
         calls : stand_at (stands_of (rows_of s)) line ≡ Calling c x b
         calls = stands_at (rows_of s) line (row.Calling c x b) is there
@@ -218,20 +221,20 @@ module _ {P Q K : Type 0} where
                 no q = cc
 
             seen : sight_of t ≡ with_stand line (stand_of r) (with_stand x (HasBegun d 0) (sight_of s))
-            seen = sight_by (crashed_of t) (crashed_of s) (stands_of (rows_of t)) (set (set (stands_of (rows_of s)) (x - 1) (HasBegun d 0)) (line - 1) (stand_of r)) (nexts_of t) (nexts_of s) crashed (ap stands_of rows ∙ ended_stands (rows_of s) line x d line r begun waits) nexts
+            seen = sight_at s t (set (set (stands_of (rows_of s)) (x - 1) (HasBegun d 0)) (line - 1) (stand_of r)) (nexts_of s) clients (ap stands_of rows ∙ ended_stands (rows_of s) line x d line r begun waits) nexts
 
     pub called_advances : (s t : Clients P Q K) (from to : Turn) (line x c : ℕ) (b : Bool) (r : Row P Q K) (o : Outcome) → IsLine (sight_of s).stands line → is_live (sight_of s) line ≡ true
         → row_at (rows_of s) (line - 1) ≡ row.Calling c x b → MayEnd (rows_of s) line (stand_at (sight_of s).stands line) → AreReady w (rows_of s) → CallEnds c b o (stand_of r)
-        → rows_of t ≡ set (set (rows_of s) (x - 1) (with_waits 0 (row_at (rows_of s) (x - 1)))) (line - 1) r → nexts_of t ≡ nexts_of s → crashed_of t ≡ crashed_of s
+        → rows_of t ≡ set (set (rows_of s) (x - 1) (with_waits 0 (row_at (rows_of s) (x - 1)))) (line - 1) r → nexts_of t ≡ nexts_of s → t.clients ≡ s.clients
         → to.posted.items ≡ from.posted.items → to.ended.items ≡ from.ended.items ++ record { line = line; outcome = o } ∷ []
         → Advances from to (sight_of s) (sight_of t)
-    called_advances s t from to line x c b r o is live there may ready ends rows nexts crashed posted ended =
-        advances_ended from to (record { line = line; outcome = o }) (sight_of s) (sight_of t) posted ended (called_goes s t line x c b r o is live there may ready ends rows nexts crashed)
+    called_advances s t from to line x c b r o is live there may ready ends rows nexts clients posted ended =
+        advances_ended from to (record { line = line; outcome = o }) (sight_of s) (sight_of t) posted ended (called_goes s t line x c b r o is live there may ready ends rows nexts clients)
 
     -- and its line is as live as it was
     pub called_live : (s t : Clients P Q K) (line x c : ℕ) (b : Bool) (r : Row P Q K) (o : Outcome) → IsLine (sight_of s).stands line → is_live (sight_of s) line ≡ true
         → row_at (rows_of s) (line - 1) ≡ row.Calling c x b → MayEnd (rows_of s) line (stand_at (sight_of s).stands line) → AreReady w (rows_of s) → CallEnds c b o (stand_of r)
-        → rows_of t ≡ set (set (rows_of s) (x - 1) (with_waits 0 (row_at (rows_of s) (x - 1)))) (line - 1) r → nexts_of t ≡ nexts_of s → crashed_of t ≡ crashed_of s
+        → rows_of t ≡ set (set (rows_of s) (x - 1) (with_waits 0 (row_at (rows_of s) (x - 1)))) (line - 1) r → nexts_of t ≡ nexts_of s → t.clients ≡ s.clients
         → is_live (sight_of t) line ≡ true
-    called_live s t line x c b r o is live there may ready ends rows nexts crashed =
-        lives_on (sight_of s) (sight_of t) line (called_goes s t line x c b r o is live there may ready ends rows nexts crashed) ∙ live
+    called_live s t line x c b r o is live there may ready ends rows nexts clients =
+        lives_on (sight_of s) (sight_of t) line (called_goes s t line x c b r o is live there may ready ends rows nexts clients) ∙ live

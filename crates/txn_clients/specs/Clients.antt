@@ -1,10 +1,14 @@
 -- What a machine sees of the clients, and what their code rests on.
-use Rattle.std.specs.Prelude.{◌≡◌, ◌<◌, ◌-◌, ⊤, ℕ, Bool, true, List, length, map, slice_index_or}
+use Rattle.std.specs.Prelude.{◌≡◌, ◌<◌, ◌-◌, ⊤, ℕ, Bool, true, List, [], length, map, Option, Some, None, slice_index_or}
 use Rattle.std.specs.List.{All}
 use Rattle.std.proofs.Common.{suc}
 use Rattle.txn_commit.specs.Committing.{Ways}
-use Rattle.txn_side.specs.Sight.{Sight, Stand, is_live, stand_at}
+use Rattle.txn_kv.specs.declared.reply.Reply.{Reply}
+use Rattle.txn_kv.specs.declared.ticket.Ticket.{Ticket}
+use Rattle.txn_side.specs.Sight.{Group, IsGiven, Sight, Stand, is_live, stand_at}
 use Rattle.txn_side.specs.Sight.Stand.{Asking, Calling, HasBegun, Idle, IsClient, Past, Working}
+use Rattle.txn_tso.specs.Oracle.{Answer}
+use Rattle.txn_clients.specs.Groups.{IsTimed, group_of, lines_out}
 use Rattle.txn_clients.specs.Matching.{AreMatched}
 pub use Rattle.txn_clients.specs.Matching.{IsLine}
 use Rattle.txn_clients.specs.Rows.{Rests, RowReady, stand_of}
@@ -24,11 +28,18 @@ stands_of rows = map stand_of rows
 abbrev pub crashed_of : {P Q K : Type 0} → Clients P Q K → List Bool
 crashed_of s = map (λ c. c.crashed) s.clients.items
 
+abbrev pub groups_of : {P Q K : Type 0} → Clients P Q K → List (Option Group)
+groups_of s = map group_of s.clients.items
+
+-- the lines whose asks the oracle of a client has sent
+abbrev pub asks_at : {P Q K : Type 0} → Clients P Q K → ℕ → List ℕ
+asks_at s client = slice_index_or (map lines_out s.clients.items) client []
+
 abbrev pub nexts_of : {P Q K : Type 0} → Clients P Q K → List ℕ
 nexts_of s = map (λ p. p.next) s.places.items
 
 abbrev pub sight_of : {P Q K : Type 0} → Clients P Q K → Sight
-sight_of s = record { crashed = crashed_of s; stands = stands_of (rows_of s); nexts = nexts_of s }
+sight_of s = record { crashed = crashed_of s; groups = groups_of s; stands = stands_of (rows_of s); nexts = nexts_of s }
 
 -- each row may be called, and each transaction that waits has a call that does
 pub record AreReady {P Q K A B D : Type 0} (w : Ways P Q K A B D) (rows : List (Row P Q K)) : Type 0 where
@@ -58,3 +69,11 @@ pub record Listens (s : Sight) (line at client : ℕ) : Type 0 where
 abbrev pub MayEnd : {P Q K : Type 0} → List (Row P Q K) → ℕ → Stand → Type 0
 MayEnd rows line (Calling c x b) = (d : ℕ) × (stand_at (stands_of rows) x ≡ HasBegun d line) × Rests (row_at rows (x - 1))
 MayEnd rows line _ = ⊤
+
+-- the client's request of this ticket is out
+abbrev pub HasOut : Sight → ℕ → Ticket → Type 0
+HasOut s client t = (askers : List ℕ) × (slice_index_or s.groups client None ≡ Some (record { ticket = t; askers = askers }))
+
+-- what is given is what this reply to the client's request gives
+abbrev pub AreGiven : Sight → ℕ → Reply → List Answer → Type 0
+AreGiven s client o given = (t : Ticket) → HasOut s client t → (line version : ℕ) → IsTimed given line version → IsGiven s t o line version

@@ -1,11 +1,14 @@
 -- What stands at a line: as a machine sees it, what its code rests on, and what it may be told.
 use Rattle.std.specs.Prelude.{◌≡◌, ◌≢◌, ⊤, ℕ, false, List, ◌++◌, Option, Some, None, Result, Ok, Err}
-use Rattle.txn_kv.specs.Timestamp.{HasVersion}
+use Rattle.txn_kv.specs.Timestamp.{HasVersion, version_of}
 use Rattle.txn_kv.specs.declared.errors.Error.{Error}
+use Rattle.txn_kv.specs.declared.timestamp.Timestamp.{Timestamp}
 use Rattle.txn_history.specs.Posted.{AreNumbered, Errand, Posted}
 use Rattle.txn_history.specs.Turn.{IfEnds, Turn}
 use Rattle.txn_history.specs.Turn.Turn.{Stopped, Waits, Ends}
 use Rattle.txn_plan.specs.Arrivals.{MayArrive}
+use Rattle.txn_plan.specs.declared.arrival.Arrival.{Arrival}
+use Rattle.txn_plan.specs.declared.arrival.Arrival.TheVariants as arrivals
 use Rattle.txn_region.specs.declared.codec.ApiV1TxnCodec.{ApiV1TxnCodec}
 use Rattle.txn_region.specs.declared.pd_rpc_client.PdRpcClient.{PdRpcClient}
 use Rattle.txn_commit.specs.Committing.{Ways}
@@ -72,6 +75,21 @@ abbrev pub MayHear : {P Q K : Type 0} → Told → Row P Q K → Type 0
 MayHear told (row.Begun c t m) = (m ≢ 0) × IsFreeFor told t.work
 MayHear told _ = ⊤
 
+-- What brings a timestamp
+
+abbrev pub IsTime : Result Timestamp Error → ℕ → Type 0
+IsTime (Ok t) version = version_of t ≡ version
+IsTime (Err e) version = ⊥
+
+-- an ask was answered with this timestamp
+abbrev pub Brings : Arrival → ℕ → Type 0
+Brings (arrivals.Time ask answer) version = IsTime answer version
+Brings arrival version = ⊥
+
+abbrev pub Tells : Told → ℕ → Type 0
+Tells (tells.Heard a) version = Brings a version
+Tells told version = ⊥
+
 -- What a call posts: behind what there was, under numbers that rise by one.
 pub record Posts (from to : Posted) : Type 0 where
   pub sends : List Errand
@@ -92,6 +110,17 @@ AskFits w (Err e) = ⊤
 abbrev pub AnswerFits : {P Q K A B D : Type 0} → Ways P Q K A B D → Answer P Q K → Type 0
 AnswerFits w (answers.Asked v) = AskFits w v
 AnswerFits w (answers.Called v) = HandsOut w.committing v
+
+-- a timestamp that is answered, or at which a transaction begins
+abbrev pub IsStamped : {P Q K : Type 0} → Result (ClientAnswer Pd P Q K) Error → ℕ → Type 0
+IsStamped (Ok (Begun b)) version = version_of b.start ≡ version
+IsStamped (Ok (Time t)) version = version_of t ≡ version
+IsStamped (Err e) version = ⊥
+
+-- no timestamp is answered but one that was told
+abbrev pub IsToldIn : {P Q K : Type 0} → Told → Answer P Q K → Type 0
+IsToldIn told (answers.Asked v) = (version : ℕ) → IsStamped v version → Tells told version
+IsToldIn told (answers.Called v) = ⊤
 
 -- the answer that there is, if there is one
 abbrev pub answer_in : {A X : Type 0} → (A → X) → Turn A → Option X

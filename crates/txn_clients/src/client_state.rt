@@ -1,8 +1,11 @@
-ghost use Rattle.std.specs.Prelude.{◌≡◌, ℕ, IfOk, IfSome, OnOk, false, map};
+ghost use Rattle.std.specs.Prelude.{◌≡◌, ◌≤◌, ℕ, IfOk, IfSome, IsTrue, OnOk, false};
 ghost use Rattle.std.specs.List.{All};
-ghost use Rattle.txn_clients.specs.Groups.{IsTimeFor};
+ghost use Rattle.txn_clients.specs.Groups.{IsLeft, IsRefused, IsTimeFor, group_of, lines_in, lines_out};
 ghost use Rattle.txn_side.specs.Sight.{AskFor};
+ghost use Rattle.txn_kv.specs.declared.reply.Reply.TheVariants as replies;
+ghost use Rattle.txn_kv.specs.declared.reply.TsoResponse.{TsoResponse as Times};
 ghost use Rattle.txn_kv.specs.declared.request.Request.TheVariants.{Tso};
+ghost use Rattle.txn_tso.specs.Oracle.{answered};
 
 use std::alloc::Global;
 use txn_client::Client;
@@ -31,11 +34,16 @@ pub struct Group {
 }
 
 /// The lines of askers, in their order.
-fn lines_of(alloc: Global, askers: &[Asker]) -> Result<Items<u64>, NoMemory>
-    ensures { IfOk result (λ lines. lines ≡ map (λ a. a.line) askers.now) }
+fn lines_of(alloc: Global, askers: &[Asker], newest: u64) -> Result<Items<u64>, NoMemory>
+    ensures lines { IfOk result (λ lines. lines ≡ lines_in askers.now) }
+    ensures most { IfOk result (λ lines. All (λ n. n ≤ newest) lines) }
 {
     let mut lines = Items::new(alloc);
     for asker in askers {
+        // Only lines that are there ask.
+        if asker.line > newest {
+            return Err(NoMemory);
+        }
         lines.push(asker.line)?;
     }
     Ok(lines)
@@ -43,7 +51,8 @@ fn lines_of(alloc: Global, askers: &[Asker]) -> Result<Items<u64>, NoMemory>
 
 /// Each of these is told that there is no timestamp.
 fn refusals(alloc: Global, askers: Vec<Asker>, lost: bool) -> Result<Answers, NoMemory>
-    ensures { IfOk result (λ given. All IsTimeFor given.items) }
+    ensures times { IfOk result (λ given. All IsTimeFor given.items) }
+    ensures refused { IfOk result (λ given. All IsRefused given.items) }
 {
     let mut given = Vec::new(alloc);
     for asker in askers {
@@ -60,7 +69,8 @@ fn refusals(alloc: Global, askers: Vec<Asker>, lost: bool) -> Result<Answers, No
 impl ClientState {
     /// A client that has just connected.
     pub fn new(alloc: Global, now: u64) -> ClientState
-        ensures { result.crashed ≡ false }
+        ensures crashed { result.crashed ≡ false }
+        ensures group { result.group ≡ None }
     {
         ClientState {
             client: Client::new(alloc, now),
@@ -71,7 +81,9 @@ impl ClientState {
     }
 
     /// Whether this ticket is that of the group that is out.
-    pub fn is_group(&self, ticket: Ticket) -> bool {
+    pub fn is_group(&self, ticket: Ticket) -> bool
+        ensures { IsTrue result → self.now.group ≡ Some ticket }
+    {
         match self.group {
             None => false,
             Some(group) => group == ticket,
@@ -80,7 +92,8 @@ impl ClientState {
 
     /// A line asks for a timestamp.
     pub fn ask(&mut self, line: u64, ask: u64) -> Result<(), NoMemory>
-        ensures { OnOk result (self.new.crashed ≡ self.old.crashed) }
+        ensures crashed { OnOk result (self.new.crashed ≡ self.old.crashed) }
+        ensures group { OnOk result (group_of self.new ≡ group_of self.old) }
     {
         self.oracle.ask(Asker {
             line,
@@ -92,7 +105,10 @@ impl ClientState {
     /// What the reply to the group that is out gives each of its askers. A reply of another kind gives none of them a timestamp.
     pub fn take_group(&mut self, alloc: Global, reply: Reply) -> Result<Answers, NoMemory>
         ensures crashed { OnOk result (self.new.crashed ≡ self.old.crashed) }
+        ensures group { OnOk result (group_of self.new ≡ None) }
         ensures times { IfOk result (λ given. All IsTimeFor given.items) }
+        ensures granted { IfOk result (λ given. (times : Times) → reply ≡ replies.Tso times → given.items ≡ answered times self.old.oracle) }
+        ensures refused { IfOk result (λ given. ((times : Times) → reply ≡ replies.Tso times → ⊥) → All IsRefused given.items) }
     {
         self.group = None;
         match &reply {
@@ -103,7 +119,9 @@ impl ClientState {
 
     fn take_times(&mut self, reply: &TsoResponse) -> Result<Answers, NoMemory>
         ensures crashed { OnOk result (self.new.crashed ≡ self.old.crashed) }
+        ensures group { OnOk result (self.new.group ≡ self.old.group) }
         ensures times { IfOk result (λ given. All IsTimeFor given.items) }
+        ensures granted { IfOk result (λ given. given.items ≡ answered reply.now self.old.oracle) }
     {
         self.oracle.take_reply(reply)
     }
@@ -111,21 +129,28 @@ impl ClientState {
     /// The group that is out was lost: none of its askers gets a timestamp.
     pub fn lose_group(&mut self, alloc: Global) -> Result<Answers, NoMemory>
         ensures crashed { OnOk result (self.new.crashed ≡ self.old.crashed) }
+        ensures group { OnOk result (group_of self.new ≡ None) }
         ensures times { IfOk result (λ given. All IsTimeFor given.items) }
+        ensures refused { IfOk result (λ given. All IsRefused given.items) }
     {
         self.group = None;
         refusals(alloc, self.oracle.lost(), true)
     }
 
-    /// The group that goes out next, unless one is out already or nobody asks.
-    pub fn next_group(&mut self, alloc: Global) -> Result<Option<Group>, NoMemory>
+    /// The group that goes out next, unless one is out already or nobody asks. Whoever sends it sets its ticket. No line is greater
+    /// than the newest.
+    pub fn next_group(&mut self, alloc: Global, newest: u64) -> Result<Option<Group>, NoMemory>
         ensures crashed { OnOk result (self.new.crashed ≡ self.old.crashed) }
+        ensures left { OnOk result (IsLeft (group_of self.old) (group_of self.new)) }
         ensures group { IfOk result (λ group. IfSome group (λ g. (line : ℕ) × AskFor line (Tso g.request) g.askers)) }
+        ensures askers { IfOk result (λ group. IfSome group (λ g. g.askers ≡ lines_out self.new)) }
+        ensures most { IfOk result (λ group. IfSome group (λ g. All (λ n. n ≤ newest) g.askers)) }
     {
         match self.oracle.next_group()? {
             None => Ok(None),
             Some(request) => {
-                let askers = lines_of(alloc, self.oracle.askers())?;
+                self.group = None;
+                let askers = lines_of(alloc, self.oracle.askers(), newest)?;
                 Ok(Some(Group { request, askers }))
             }
         }

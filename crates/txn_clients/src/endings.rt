@@ -1,13 +1,13 @@
 //! What a line comes to, as its call ends.
-ghost use Rattle.std.specs.Prelude.{◌≡◌, IfSome, false};
-ghost use Rattle.txn_clients.specs.Rows.{AskFits, RowReady, stand_of};
+ghost use Rattle.std.specs.Prelude.{◌≡◌, ℕ, IfSome, false};
+ghost use Rattle.txn_clients.specs.Rows.{AskFits, IsStamped, RowReady, stand_of};
 ghost use Rattle.txn_commit.specs.Committing.{ways};
 ghost use Rattle.txn_commit.specs.Jobs.{JobReady};
 ghost use Rattle.txn_core.specs.Going.{TransactionReady};
 ghost use Rattle.txn_core.specs.Transaction.{is_open};
 ghost use Rattle.txn_core.specs.Waiting.{HandsOut};
-ghost use Rattle.txn_kv.specs.Timestamp.{HasVersion};
-ghost use Rattle.txn_side.specs.Sight.{AskEnds, CallEnds};
+ghost use Rattle.txn_kv.specs.Timestamp.{HasVersion, version_of};
+ghost use Rattle.txn_side.specs.Sight.{AskEnds, CallEnds, number_of};
 ghost use Rattle.txn_clients.specs.declared.row.Row.TheVariants.{Past};
 ghost use Rattle.txn_report.specs.declared.outcome.Outcome.TheVariants.{Err as Failed};
 ghost use Rattle.txn_kv.specs.declared.errors.Error.{Error as Fault};
@@ -61,6 +61,7 @@ where
     ) -> Ended<P, Q, K>
         requires { AskFits (ways P.meaning Q.meaning K.meaning P.refuses Q.refuses K.refuses) answer }
         ensures ends { AskEnds client begins result.outcome (stand_of result.row) }
+        ensures stamped { (version : ℕ) → number_of result.outcome ≡ Some version → IsStamped answer version }
         ensures ready { RowReady (ways P.meaning Q.meaning K.meaning P.refuses Q.refuses K.refuses) result.row }
     {
         match answer {
@@ -74,6 +75,7 @@ where
         requires ready { TransactionReady (ways P.meaning Q.meaning K.meaning P.refuses Q.refuses K.refuses) transaction }
         requires rests { is_open transaction.work ≡ false }
         ensures ends { AskEnds client begins result.outcome (stand_of result.row) }
+        ensures stamped { (version : ℕ) → number_of result.outcome ≡ Some version → version_of transaction.start ≡ version }
         ensures ready { RowReady (ways P.meaning Q.meaning K.meaning P.refuses Q.refuses K.refuses) result.row }
     {
         if !begins {
@@ -93,6 +95,7 @@ where
     fn timed(client: usize, begins: bool, timestamp: Timestamp) -> Ended<P, Q, K>
         requires { HasVersion timestamp }
         ensures ends { AskEnds client begins result.outcome (stand_of result.row) }
+        ensures stamped { (version : ℕ) → number_of result.outcome ≡ Some version → version_of timestamp ≡ version }
         ensures ready { RowReady (ways P.meaning Q.meaning K.meaning P.refuses Q.refuses K.refuses) result.row }
     {
         if begins {
@@ -112,6 +115,7 @@ where
     ) -> Ended<P, Q, K>
         requires { HandsOut Q.meaning answer }
         ensures ends { CallEnds client commits result.outcome (stand_of result.row) }
+        ensures number { number_of result.outcome ≡ None }
         ensures ready { RowReady (ways P.meaning Q.meaning K.meaning P.refuses Q.refuses K.refuses) result.row }
     {
         match answer {
@@ -126,6 +130,7 @@ where
 
     fn done(client: usize, commits: bool) -> Ended<P, Q, K>
         ensures ends { CallEnds client commits result.outcome (stand_of result.row) }
+        ensures number { number_of result.outcome ≡ None }
         ensures ready { RowReady (ways P.meaning Q.meaning K.meaning P.refuses Q.refuses K.refuses) result.row }
     {
         if commits {
@@ -146,6 +151,7 @@ where
         requires time { IfSome timestamp HasVersion }
         requires job { IfSome job (JobReady Q.meaning) }
         ensures ends { CallEnds client commits result.outcome (stand_of result.row) }
+        ensures number { number_of result.outcome ≡ None }
         ensures ready { RowReady (ways P.meaning Q.meaning K.meaning P.refuses Q.refuses K.refuses) result.row }
     {
         if !commits {

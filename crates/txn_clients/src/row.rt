@@ -1,6 +1,6 @@
 ghost use Rattle.std.specs.Prelude.{◌≡◌, ◌<◌, ◌^◌, ℕ, false, IfOk, IfSome, OnOk};
 ghost use Rattle.txn_client.specs.Calls.{CallReady};
-ghost use Rattle.txn_clients.specs.Rows.{AnswerFits, IsFreeFor, MayHear, MayTell, Posts, RowReady, Rests, stand_of, with_waits};
+ghost use Rattle.txn_clients.specs.Rows.{AnswerFits, IsFreeFor, IsToldIn, MayHear, MayTell, Posts, RowReady, Rests, stand_of, with_waits};
 ghost use Rattle.txn_commit.specs.Committing.{ways};
 ghost use Rattle.txn_commit.specs.Jobs.{JobReady};
 ghost use Rattle.txn_core.specs.Going.{TransactionReady};
@@ -87,6 +87,7 @@ where
     ensures ready { OnOk result (CallReady call.new.stage) }
     ensures posts { OnOk result (Posts out.old out.new) }
     ensures fits { IfOk result (λ answer. IfSome answer (AnswerFits (ways P.meaning Q.meaning K.meaning P.refuses Q.refuses K.refuses))) }
+    ensures stamped { IfOk result (λ answer. IfSome answer (IsToldIn told)) }
 {
     match told {
         Told::Start => {
@@ -122,6 +123,7 @@ where
     ensures posts { OnOk result (Posts out.old out.new) }
     ensures rests { IfOk result (λ answer. IfSome answer (λ a. is_open transaction.new.work ≡ false)) }
     ensures fits { IfOk result (λ answer. IfSome answer (AnswerFits (ways P.meaning Q.meaning K.meaning P.refuses Q.refuses K.refuses))) }
+    ensures stamped { IfOk result (λ answer. IfSome answer (IsToldIn told)) }
 {
     match told {
         Told::Start => Ok(None),
@@ -220,6 +222,7 @@ where
         ensures posts { OnOk result (Posts out.old out.new) }
         ensures rests { IfOk result (λ answer. IfSome answer (λ a. Rests self.new)) }
         ensures fits { IfOk result (λ answer. IfSome answer (AnswerFits (ways P.meaning Q.meaning K.meaning P.refuses Q.refuses K.refuses))) }
+        ensures stamped { IfOk result (λ answer. IfSome answer (IsToldIn told)) }
     {
         match self {
             Row::Asking { call, .. } => tell_call(call, told, pd, now, out),

@@ -1,11 +1,14 @@
 //! What a machine asks of the clients.
+ghost use Rattle.std.specs.List.{All};
 ghost use Rattle.std.specs.Prelude.{◌≡◌, ◌<◌, ◌≤◌, ◌^◌, IfOk, IfSome, IsTrue, OnOk, false, is_some, length, slice_index_or, true};
 ghost use Rattle.txn_client.specs.Calls.{CallReady};
-ghost use Rattle.txn_clients.specs.Clients.{AreReady, Listens, crashed_of, row_at, rows_of, sight_of};
-ghost use Rattle.txn_clients.specs.Rows.{MayHear, MayTell};
+ghost use Rattle.txn_clients.specs.Clients.{AreReady, HasOut, Listens, crashed_of, row_at, rows_of, sight_of};
+ghost use Rattle.txn_clients.specs.Going.{OfLine};
+ghost use Rattle.txn_clients.specs.Rows.{Brings, MayHear, MayTell, Tells};
 ghost use Rattle.txn_commit.specs.Committing.{ways};
+ghost use Rattle.txn_kv.specs.declared.ticket.Ticket.{Ticket as Name};
 ghost use Rattle.txn_plan.specs.Arrivals.{MayArrive};
-ghost use Rattle.txn_side.specs.Sight.{EndsAlone, Goes, commits, is_free, line_count, stand_at, with_stand};
+ghost use Rattle.txn_side.specs.Sight.{EndsAlone, Goes, IsGiven, Names, NoneGiven, commits, is_free, line_count, stand_at, with_stand};
 ghost use Rattle.txn_side.specs.Sight.Stand.{Asking, Calling, HasBegun, Idle};
 
 use crate::answer::Pd;
@@ -85,6 +88,7 @@ where
         requires clock { now < 2 ^ 44 }
         ensures turn { IfOk result (λ turn. Goes turn.posted.items turn.ended.items (with_stand (line_count (sight_of self.old)) (Asking client begins) (sight_of self.old)) (sight_of self.new)) }
         ensures alone { IfOk result (λ turn. EndsAlone (line_count (sight_of self.old)) turn.ended.items) }
+        ensures names { IfOk result (λ turn. All (Names NoneGiven) turn.ended.items) }
         ensures ready { OnOk result (AreReady (ways P.meaning Q.meaning K.meaning P.refuses Q.refuses K.refuses) (rows_of self.new)) }
     {
         // A call begins where nothing stands.
@@ -119,6 +123,7 @@ where
         requires clock { now < 2 ^ 44 }
         ensures turn { IfOk result (λ turn. Goes turn.posted.items turn.ended.items (sight_of self.old) (sight_of self.new)) }
         ensures alone { IfOk result (λ turn. EndsAlone line turn.ended.items) }
+        ensures names { IfOk result (λ turn. All (Names (OfLine line (Tells told))) turn.ended.items) }
         ensures ready { OnOk result (AreReady (ways P.meaning Q.meaning K.meaning P.refuses Q.refuses K.refuses) (rows_of self.new)) }
     {
         let mut turn = Turn::new(self.alloc);
@@ -142,6 +147,7 @@ where
         requires clock { now < 2 ^ 44 }
         ensures turn { IfOk result (λ turn. Goes turn.posted.items turn.ended.items (with_stand (line_count (sight_of self.old)) (Calling client transaction (commits act)) (with_stand transaction (HasBegun client (line_count (sight_of self.old))) (sight_of self.old))) (sight_of self.new)) }
         ensures alone { IfOk result (λ turn. EndsAlone (line_count (sight_of self.old)) turn.ended.items) }
+        ensures names { IfOk result (λ turn. All (Names NoneGiven) turn.ended.items) }
         ensures ready { OnOk result (AreReady (ways P.meaning Q.meaning K.meaning P.refuses Q.refuses K.refuses) (rows_of self.new)) }
     {
         // A call begins where nothing stands.
@@ -175,6 +181,7 @@ where
         requires ready { AreReady (ways P.meaning Q.meaning K.meaning P.refuses Q.refuses K.refuses) (rows_of self.old) }
         requires clock { now < 2 ^ 44 }
         ensures turn { IfOk result (λ turn. Goes turn.posted.items turn.ended.items (sight_of self.old) (sight_of self.new)) }
+        ensures names { IfOk result (λ turn. All (Names (OfLine line (Brings arrival))) turn.ended.items) }
         ensures ready { OnOk result (AreReady (ways P.meaning Q.meaning K.meaning P.refuses Q.refuses K.refuses) (rows_of self.new)) }
     {
         let mut turn = Turn::new(self.alloc);
@@ -189,6 +196,7 @@ where
         requires ready { AreReady (ways P.meaning Q.meaning K.meaning P.refuses Q.refuses K.refuses) (rows_of self.old) }
         requires clock { now < 2 ^ 44 }
         ensures turn { IfOk result (λ turn. Goes turn.posted.items turn.ended.items (sight_of self.old) (sight_of self.new)) }
+        ensures given { IfOk result (λ turn. (t : Name) → HasOut (sight_of self.old) client t → All (Names (IsGiven (sight_of self.old) t reply)) turn.ended.items) }
         ensures ready { OnOk result (AreReady (ways P.meaning Q.meaning K.meaning P.refuses Q.refuses K.refuses) (rows_of self.new)) }
     {
         let mut turn = Turn::new(self.alloc);
@@ -203,6 +211,7 @@ where
         requires ready { AreReady (ways P.meaning Q.meaning K.meaning P.refuses Q.refuses K.refuses) (rows_of self.old) }
         requires clock { now < 2 ^ 44 }
         ensures turn { IfOk result (λ turn. Goes turn.posted.items turn.ended.items (sight_of self.old) (sight_of self.new)) }
+        ensures given { IfOk result (λ turn. All (Names NoneGiven) turn.ended.items) }
         ensures ready { OnOk result (AreReady (ways P.meaning Q.meaning K.meaning P.refuses Q.refuses K.refuses) (rows_of self.new)) }
     {
         let mut turn = Turn::new(self.alloc);

@@ -1,12 +1,13 @@
 //! Timestamps: the groups of asks that go out, and what comes of them.
-ghost use Rattle.std.specs.Prelude.{◌≡◌, ◌<◌, ◌^◌, ℕ, length, true, IfOk, IfSome, OnOk};
+ghost use Rattle.std.specs.Prelude.{◌≡◌, ◌<◌, ◌≤◌, ◌^◌, ℕ, [], length, slice_set, true, IfOk, IfSome, IsTrue, OnOk};
 ghost use Rattle.std.specs.List.{All};
-ghost use Rattle.txn_clients.specs.Clients.{AreReady, IsLine, crashed_of, nexts_of, rows_of, sight_of};
-ghost use Rattle.txn_clients.specs.Going.{Advances};
-ghost use Rattle.txn_clients.specs.Groups.{IsTimeFor};
+ghost use Rattle.txn_clients.specs.Clients.{AreGiven, AreReady, HasOut, IsLine, asks_at, crashed_of, groups_of, nexts_of, rows_of, sight_of};
+ghost use Rattle.txn_clients.specs.Going.{Advances, NamesIn};
+ghost use Rattle.txn_clients.specs.Groups.{IsRefused, IsTimeFor, IsTimed};
 ghost use Rattle.txn_commit.specs.Committing.{ways};
 ghost use Rattle.txn_kv.specs.declared.request.Request.TheVariants.{Tso};
-ghost use Rattle.txn_side.specs.Sight.{AskFor, IsNext, is_live};
+ghost use Rattle.txn_kv.specs.declared.ticket.Ticket.{Ticket as Name};
+ghost use Rattle.txn_side.specs.Sight.{AskFor, GroupsGo, IsGiven, IsNext, NoneGiven, is_live, line_count};
 
 use crate::client_state::{Answers, Group};
 use crate::clients::Clients;
@@ -20,7 +21,9 @@ use txn_side::{Posting, Turn};
 
 impl<P, Q, K> Clients<P, Q, K> {
     /// Whether this is the ticket of the group of a client that is out.
-    pub(crate) fn is_group(&self, client: usize, ticket: Ticket) -> bool {
+    pub(crate) fn is_group(&self, client: usize, ticket: Ticket) -> bool
+        ensures { IsTrue result → HasOut (sight_of self.now) client ticket }
+    {
         match self.clients.get(client) {
             None => false,
             Some(state) => state.is_group(ticket),
@@ -33,9 +36,13 @@ impl<P, Q, K> Clients<P, Q, K> {
         ensures rows { OnOk result (rows_of self.new ≡ rows_of self.old) }
         ensures nexts { OnOk result (nexts_of self.new ≡ nexts_of self.old) }
         ensures crashed { OnOk result (crashed_of self.new ≡ crashed_of self.old) }
+        ensures groups { OnOk result (GroupsGo [] (sight_of self.old) (sight_of self.new)) }
         ensures group { IfOk result (λ group. IfSome group (λ g. (line : ℕ) × AskFor line (Tso g.request) g.askers)) }
+        ensures askers { IfOk result (λ group. IfSome group (λ g. g.askers ≡ asks_at self.new client)) }
+        ensures lines { IfOk result (λ group. IfSome group (λ g. All (λ n. n ≤ line_count (sight_of self.new)) g.askers)) }
     {
-        self.clients[client].next_group(self.alloc)
+        let newest = self.newest();
+        self.clients[client].next_group(self.alloc, newest)
     }
 
     /// What the reply to the group of a client that is out gives its askers.
@@ -44,7 +51,9 @@ impl<P, Q, K> Clients<P, Q, K> {
         ensures rows { OnOk result (rows_of self.new ≡ rows_of self.old) }
         ensures nexts { OnOk result (nexts_of self.new ≡ nexts_of self.old) }
         ensures crashed { OnOk result (crashed_of self.new ≡ crashed_of self.old) }
+        ensures groups { OnOk result (GroupsGo [] (sight_of self.old) (sight_of self.new)) }
         ensures times { IfOk result (λ given. All IsTimeFor given.items) }
+        ensures given { IfOk result (λ given. AreGiven (sight_of self.old) client reply given.items) }
     {
         self.clients[client].take_group(self.alloc, reply)
     }
@@ -55,7 +64,9 @@ impl<P, Q, K> Clients<P, Q, K> {
         ensures rows { OnOk result (rows_of self.new ≡ rows_of self.old) }
         ensures nexts { OnOk result (nexts_of self.new ≡ nexts_of self.old) }
         ensures crashed { OnOk result (crashed_of self.new ≡ crashed_of self.old) }
+        ensures groups { OnOk result (GroupsGo [] (sight_of self.old) (sight_of self.new)) }
         ensures times { IfOk result (λ given. All IsTimeFor given.items) }
+        ensures refused { IfOk result (λ given. All IsRefused given.items) }
     {
         self.clients[client].lose_group(self.alloc)
     }
@@ -66,6 +77,7 @@ impl<P, Q, K> Clients<P, Q, K> {
         ensures rows { rows_of self.new ≡ rows_of self.old }
         ensures nexts { nexts_of self.new ≡ nexts_of self.old }
         ensures crashed { crashed_of self.new ≡ crashed_of self.old }
+        ensures groups { groups_of self.new ≡ slice_set (groups_of self.old) client (Some (record { ticket = ticket; askers = asks_at self.old client })) }
     {
         self.clients[client].group = Some(ticket);
     }
@@ -88,6 +100,8 @@ impl<P, Q, K> Clients<P, Q, K> {
     fn send_request(&mut self, client: usize, group: Group, turn: &mut Turn) -> Result<(), NoMemory>
         requires client { client < length (crashed_of self.old) }
         requires group { (line : ℕ) × AskFor line (Tso group.request) group.askers }
+        requires askers { group.askers ≡ asks_at self.old client }
+        requires lines { All (λ n. n ≤ line_count (sight_of self.old)) group.askers }
         ensures advances { OnOk result (Advances turn.old turn.new (sight_of self.old) (sight_of self.new)) }
         ensures ended { OnOk result (turn.new.ended ≡ turn.old.ended) }
         ensures rows { OnOk result (rows_of self.new ≡ rows_of self.old) }
@@ -98,14 +112,15 @@ impl<P, Q, K> Clients<P, Q, K> {
             Some(line) => *line,
         };
         let ticket = self.next_ticket(line)?;
-        self.set_group(client, ticket);
         let posting = Posting::Send {
             ticket,
             to: Target::Placement,
             request: Request::Tso(group.request),
             askers: group.askers,
         };
-        self.post(line, posting, turn)
+        self.post(line, posting, turn)?;
+        self.set_group(client, ticket);
+        Ok(())
     }
 
     /// At the end of a step the next group of a client goes out, unless one is out already or nobody asks.
@@ -140,6 +155,7 @@ where
         requires ready { AreReady (ways P.meaning Q.meaning K.meaning P.refuses Q.refuses K.refuses) (rows_of self.old) }
         requires clock { now < 2 ^ 44 }
         ensures advances { OnOk result (Advances turn.old turn.new (sight_of self.old) (sight_of self.new)) }
+        ensures names { OnOk result ((t : Name) → HasOut (sight_of self.old) client t → NamesIn (IsGiven (sight_of self.old) t reply) turn.old turn.new) }
         ensures ready { OnOk result (AreReady (ways P.meaning Q.meaning K.meaning P.refuses Q.refuses K.refuses) (rows_of self.new)) }
         ensures crashed { OnOk result (crashed_of self.new ≡ crashed_of self.old) }
     {
@@ -158,6 +174,7 @@ where
         requires ready { AreReady (ways P.meaning Q.meaning K.meaning P.refuses Q.refuses K.refuses) (rows_of self.old) }
         requires clock { now < 2 ^ 44 }
         ensures advances { OnOk result (Advances turn.old turn.new (sight_of self.old) (sight_of self.new)) }
+        ensures names { OnOk result (NamesIn NoneGiven turn.old turn.new) }
         ensures ready { OnOk result (AreReady (ways P.meaning Q.meaning K.meaning P.refuses Q.refuses K.refuses) (rows_of self.new)) }
         ensures crashed { OnOk result (crashed_of self.new ≡ crashed_of self.old) }
     {
@@ -171,6 +188,7 @@ where
         requires ready { AreReady (ways P.meaning Q.meaning K.meaning P.refuses Q.refuses K.refuses) (rows_of self.old) }
         requires clock { now < 2 ^ 44 }
         ensures advances { OnOk result (Advances turn.old turn.new (sight_of self.old) (sight_of self.new)) }
+        ensures names { OnOk result (NamesIn (IsTimed given.items) turn.old turn.new) }
         ensures ready { OnOk result (AreReady (ways P.meaning Q.meaning K.meaning P.refuses Q.refuses K.refuses) (rows_of self.new)) }
         ensures crashed { OnOk result (crashed_of self.new ≡ crashed_of self.old) }
     {

@@ -1,12 +1,12 @@
 //! What the calls of the lines want done is posted.
 ghost use Rattle.std.specs.Bool.{MatchBool};
-ghost use Rattle.std.specs.Prelude.{◌≡◌, ◌<◌, ⊤, [], false, length, true, IfOk, OnOk};
-ghost use Rattle.txn_clients.specs.Clients.{IsLine, crashed_of, nexts_of, rows_of, sight_of};
+ghost use Rattle.std.specs.Prelude.{◌≡◌, ◌<◌, ◌++◌, ◌∷◌, ⊤, [], false, length, true, IfOk, OnOk};
+ghost use Rattle.txn_clients.specs.Clients.{IsLine, crashed_of, groups_of, nexts_of, rows_of, sight_of};
 ghost use Rattle.txn_clients.specs.Going.{Advances, AreNext, HasNext, next_after};
 ghost use Rattle.txn_history.specs.Posted.{HasNumbers};
 ghost use Rattle.txn_kv.specs.declared.request.Request.TheVariants.{Tso};
 ghost use Rattle.txn_kv.specs.declared.request.TsoRequest.{TsoRequest as Asks};
-ghost use Rattle.txn_side.specs.Sight.{HasAskers, IsNext, is_live, next_at, ticket_in, with_next};
+ghost use Rattle.txn_side.specs.Sight.{AskersAre, HasAskers, IsNext, is_live, line_count, next_at, ticket_in, with_next};
 
 use crate::clients::Clients;
 use crate::place::NUMBERS_END;
@@ -67,6 +67,8 @@ impl<P, Q, K> Clients<P, Q, K> {
         requires own { (ticket_in posting).line ≡ line }
         requires next { IsNext (nexts_of self.old) (ticket_in posting) }
         requires askers { HasAskers posting }
+        requires lines { AskersAre (line_count (sight_of self.old)) posting }
+        ensures posted { OnOk result (turn.new.posted.items ≡ turn.old.posted.items ++ posting ∷ []) }
         ensures advances { OnOk result (Advances turn.old turn.new (sight_of self.old) (sight_of self.new)) }
         ensures ended { OnOk result (turn.new.ended ≡ turn.old.ended) }
         ensures rows { OnOk result (rows_of self.new ≡ rows_of self.old) }
@@ -114,6 +116,7 @@ impl<P, Q, K> Clients<P, Q, K> {
         ensures rows { OnOk result (rows_of self.new ≡ rows_of self.old) }
         ensures nexts { OnOk result (nexts_of self.new ≡ nexts_of self.old) }
         ensures crashed { OnOk result (crashed_of self.new ≡ crashed_of self.old) }
+        ensures groups { OnOk result (groups_of self.new ≡ groups_of self.old) }
     {
         self.clients[client].ask(line, ask)
     }

@@ -1,14 +1,14 @@
 //! What stands at the lines is told of what came.
 ghost use Rattle.std.specs.Prelude.{◌≡◌, ◌<◌, ◌^◌, ◌-◌, ℕ, true, length, IfOk, IfSome, IsTrue, OnOk};
-ghost use Rattle.txn_clients.specs.Clients.{AreReady, HearsFor, IsLine, Listens, MayEnd, crashed_of, nexts_of, row_at, rows_of, sight_of};
-ghost use Rattle.txn_clients.specs.Going.{Advances, EndsIn};
-ghost use Rattle.txn_clients.specs.Rows.{AnswerFits, AskFits, MayHear, MayTell, Posts, Rests};
+ghost use Rattle.txn_clients.specs.Clients.{AreReady, HearsFor, IsLine, Listens, MayEnd, crashed_of, groups_of, nexts_of, row_at, rows_of, sight_of};
+ghost use Rattle.txn_clients.specs.Going.{Advances, EndsIn, NamesIn, OfLine};
+ghost use Rattle.txn_clients.specs.Rows.{AnswerFits, AskFits, Brings, IsStamped, IsToldIn, MayHear, MayTell, Posts, Rests, Tells};
 ghost use Rattle.txn_clients.specs.declared.told.Told.TheVariants.{Start};
 ghost use Rattle.txn_commit.specs.Committing.{ways};
 ghost use Rattle.txn_core.specs.Waiting.{HandsOut};
 ghost use Rattle.txn_history.specs.Posted.{HasNumbers};
 ghost use Rattle.txn_plan.specs.Arrivals.{MayArrive};
-ghost use Rattle.txn_side.specs.Sight.{is_live, stand_at};
+ghost use Rattle.txn_side.specs.Sight.{NoneGiven, is_live, stand_at};
 ghost use Rattle.txn_side.specs.Sight.Stand.{HasBegun};
 
 use crate::answer::{Answer, Pd};
@@ -48,10 +48,12 @@ where
         ensures stands { OnOk result ((sight_of self.new).stands ≡ (sight_of self.old).stands) }
         ensures nexts { OnOk result (nexts_of self.new ≡ nexts_of self.old) }
         ensures crashed { OnOk result (crashed_of self.new ≡ crashed_of self.old) }
+        ensures groups { OnOk result (groups_of self.new ≡ groups_of self.old) }
         ensures ready { OnOk result (AreReady (ways P.meaning Q.meaning K.meaning P.refuses Q.refuses K.refuses) (rows_of self.new)) }
         ensures posts { OnOk result (Posts out.old out.new) }
         ensures rests { IfOk result (λ answer. IfSome answer (λ a. Rests (row_at (rows_of self.new) listener.at))) }
         ensures fits { IfOk result (λ answer. IfSome answer (AnswerFits (ways P.meaning Q.meaning K.meaning P.refuses Q.refuses K.refuses))) }
+        ensures stamped { IfOk result (λ answer. IfSome answer (IsToldIn told)) }
     {
         let pd = self.clients[listener.client].client.pd();
         self.places[listener.at].row.tell(told, pd, now, out)
@@ -82,6 +84,7 @@ where
         ensures ready { OnOk result (AreReady (ways P.meaning Q.meaning K.meaning P.refuses Q.refuses K.refuses) (rows_of self.new)) }
         ensures rests { IfOk result (λ answer. IfSome answer (λ a. Rests (row_at (rows_of self.new) listener.at))) }
         ensures fits { IfOk result (λ answer. IfSome answer (AnswerFits (ways P.meaning Q.meaning K.meaning P.refuses Q.refuses K.refuses))) }
+        ensures stamped { IfOk result (λ answer. IfSome answer (IsToldIn told)) }
     {
         let mut out = self.outbox(line)?;
         let answer = self.tell_row(listener, told, now, &mut out)?;
@@ -104,6 +107,7 @@ where
         requires answer { AskFits (ways P.meaning Q.meaning K.meaning P.refuses Q.refuses K.refuses) answer }
         ensures advances { OnOk result (Advances turn.old turn.new (sight_of self.old) (sight_of self.new)) }
         ensures alone { OnOk result (EndsIn line turn.old turn.new) }
+        ensures names { OnOk result (NamesIn (OfLine line (IsStamped answer)) turn.old turn.new) }
         ensures ready { OnOk result (AreReady (ways P.meaning Q.meaning K.meaning P.refuses Q.refuses K.refuses) (rows_of self.new)) }
         ensures crashed { OnOk result (crashed_of self.new ≡ crashed_of self.old) }
     {
@@ -135,6 +139,7 @@ where
         requires answer { HandsOut Q.meaning answer }
         ensures advances { OnOk result (Advances turn.old turn.new (sight_of self.old) (sight_of self.new)) }
         ensures alone { OnOk result (EndsIn line turn.old turn.new) }
+        ensures names { OnOk result (NamesIn NoneGiven turn.old turn.new) }
         ensures live { OnOk result (is_live (sight_of self.new) line ≡ true) }
         ensures ready { OnOk result (AreReady (ways P.meaning Q.meaning K.meaning P.refuses Q.refuses K.refuses) (rows_of self.new)) }
         ensures crashed { OnOk result (crashed_of self.new ≡ crashed_of self.old) }
@@ -210,6 +215,7 @@ where
         requires clock { now < 2 ^ 44 }
         ensures advances { OnOk result (Advances turn.old turn.new (sight_of self.old) (sight_of self.new)) }
         ensures alone { OnOk result (EndsIn line turn.old turn.new) }
+        ensures names { OnOk result (NamesIn (OfLine line (Tells told)) turn.old turn.new) }
         ensures ready { OnOk result (AreReady (ways P.meaning Q.meaning K.meaning P.refuses Q.refuses K.refuses) (rows_of self.new)) }
         ensures crashed { OnOk result (crashed_of self.new ≡ crashed_of self.old) }
     {
@@ -280,6 +286,7 @@ where
         requires arrives { MayArrive arrival }
         requires clock { now < 2 ^ 44 }
         ensures advances { OnOk result (Advances turn.old turn.new (sight_of self.old) (sight_of self.new)) }
+        ensures names { OnOk result (NamesIn (OfLine line (Brings arrival)) turn.old turn.new) }
         ensures ready { OnOk result (AreReady (ways P.meaning Q.meaning K.meaning P.refuses Q.refuses K.refuses) (rows_of self.new)) }
         ensures crashed { OnOk result (crashed_of self.new ≡ crashed_of self.old) }
     {

@@ -1,6 +1,9 @@
 use Rattle.std.specs.List.{All}
-use Rattle.txn_clients.specs.Groups.{IsTimeFor}
+use Rattle.txn_clients.specs.Groups.{IsRefused, IsTimeFor}
 use Rattle.txn_clients.proofs.client_state.refusals.Given as goal
 
 abbrev pub invariant-loop-asker : goal.invariant-loop-asker
-invariant-loop-asker l = All IsTimeFor l.given.items
+invariant-loop-asker l = record {
+  times : All IsTimeFor l.given.items;
+  refused : All IsRefused l.given.items;
+}

@@ -3,4 +3,4 @@ use Rattle.txn_clients.proofs.client_state.ClientState.next_group.Goals as goal
 
 pub returns-in_ok-askers-in-Some-clause-group : goal.returns-in_ok-askers-in-Some-clause-group
 returns-in_ok-askers-in-Some-clause-group c = group_asks c.args.self.now.oracle c.next_group.new.self c.in_ok-next_group.field-0 c.in-Some.request c.askers.result.now c.in_ok-askers-in-Some.askers
-    c.in_ok-next_group.ensures.request c.in-Some.is c.in_ok-next_group.ensures.ok c.askers.ensures c.in_ok-askers-in-Some.ensures
+    c.in_ok-next_group.ensures.request c.in-Some.is c.in_ok-next_group.ensures.ok c.askers.ensures c.in_ok-askers-in-Some.ensures.lines

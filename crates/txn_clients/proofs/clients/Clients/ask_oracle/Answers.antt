@@ -1,6 +1,10 @@
 use Rattle.std.proofs.lemmas.Result.{on_ok_weaker}
 use Rattle.txn_clients.proofs.Places.{crashed_kept}
+use Rattle.txn_clients.proofs.Sending.{groups_kept}
 use Rattle.txn_clients.proofs.clients.Clients.ask_oracle.Goals as goal
 
 pub returns-clause-crashed : goal.returns-clause-crashed
-returns-clause-crashed g c = on_ok_weaker c.ask.result (λ k. crashed_kept c.args.self.now.clients.items c.args.client c.ask.new.self c.index_mut.result.now c.requires c.index_mut.ensures.value k) c.ask.ensures
+returns-clause-crashed g c = on_ok_weaker c.ask.result (λ k. crashed_kept c.args.self.now.clients.items c.args.client c.ask.new.self c.index_mut.result.now c.requires c.index_mut.ensures.value k) c.ask.ensures.crashed
+
+pub returns-clause-groups : goal.returns-clause-groups
+returns-clause-groups g c = on_ok_weaker c.ask.result (λ k. groups_kept c.args.self.now.clients.items c.args.client c.ask.new.self c.index_mut.result.now c.requires c.index_mut.ensures.value k) c.ask.ensures.group

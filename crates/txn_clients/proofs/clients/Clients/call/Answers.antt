@@ -1,16 +1,19 @@
 use Rattle.std.proofs.Common.{◌∙◌, ◌-◌, ap, refl, set}
-use Rattle.txn_side.specs.Sight.{commits, line_count, with_stand}
+use Rattle.txn_side.specs.Sight.{NoneGiven, commits, line_count, with_stand}
 use Rattle.txn_side.specs.Sight.Stand.{Calling, HasBegun}
 use Rattle.txn_clients.specs.Clients.{rows_of, sight_of}
 use Rattle.txn_clients.specs.declared.row.Row.TheVariants as row
+use Rattle.txn_clients.specs.Going.{OfLine}
+use Rattle.txn_clients.specs.Rows.{Tells}
+use Rattle.txn_clients.specs.declared.told.Told.TheVariants as tells
 use Rattle.txn_clients.proofs.Asking.{act_hears, called_listens_now, called_sight, calling_ready, newest_idle, newest_is, turn_from}
-use Rattle.txn_clients.proofs.Telling.{same_clients}
+use Rattle.txn_clients.proofs.Naming.{named_so}
 use Rattle.txn_clients.proofs.clients.Clients.call.Goals as goal
 
 pub step-requires-clause-listens : goal.step-requires-clause-listens
 step-requires-clause-listens g c = called_listens_now c.args.self.now c.set_row.new.self c.newest-line.result c.args.transaction c.args.client c.is_commit.result (newest_is c.args.self.now c.newest-line.result c.requires.line c.newest-line.ensures)
     (newest_idle c.args.self.now c.newest-line.result c.newest-line.ensures (c.if-not-is_new.ensures refl)) c.requires.transaction c.requires.client
-    (called_sight c.args.self.now c.set_row.new.self c.newest-line.result c.args.transaction c.args.client c.is_commit.result c.requires.transaction (c.set_row.ensures.rows ∙ ap (λ rs. set rs (c.newest-line.result - 1) (row.Calling c.args.client c.args.transaction c.is_commit.result)) c.set_waits.ensures.rows) (c.set_row.ensures.nexts ∙ c.set_waits.ensures.nexts) (same_clients c.args.self.now c.set_row.new.self (c.set_row.ensures.clients ∙ c.set_waits.ensures.clients)))
+    (called_sight c.args.self.now c.set_row.new.self c.newest-line.result c.args.transaction c.args.client c.is_commit.result c.requires.transaction (c.set_row.ensures.rows ∙ ap (λ rs. set rs (c.newest-line.result - 1) (row.Calling c.args.client c.args.transaction c.is_commit.result)) c.set_waits.ensures.rows) (c.set_row.ensures.nexts ∙ c.set_waits.ensures.nexts) (c.set_row.ensures.clients ∙ c.set_waits.ensures.clients))
 
 pub step-requires-clause-ready : goal.step-requires-clause-ready
 step-requires-clause-ready g c = calling_ready _ (rows_of c.args.self.now) (rows_of c.set_row.new.self) c.newest-line.result c.args.transaction c.args.client c.is_commit.result (newest_is c.args.self.now c.newest-line.result c.requires.line c.newest-line.ensures)
@@ -25,7 +28,10 @@ returns-clause-turn g c =
     turn_from c.step.result (sight_of c.set_row.new.self)
     (with_stand (line_count (sight_of c.args.self.now)) (Calling c.args.client c.args.transaction (commits c.args.act)) (with_stand c.args.transaction (HasBegun c.args.client (line_count (sight_of c.args.self.now))) (sight_of c.args.self.now)))
     (sight_of c.step.new.self)
-    ((called_sight c.args.self.now c.set_row.new.self c.newest-line.result c.args.transaction c.args.client c.is_commit.result c.requires.transaction (c.set_row.ensures.rows ∙ ap (λ rs. set rs (c.newest-line.result - 1) (row.Calling c.args.client c.args.transaction c.is_commit.result)) c.set_waits.ensures.rows) (c.set_row.ensures.nexts ∙ c.set_waits.ensures.nexts) (same_clients c.args.self.now c.set_row.new.self (c.set_row.ensures.clients ∙ c.set_waits.ensures.clients)))
+    ((called_sight c.args.self.now c.set_row.new.self c.newest-line.result c.args.transaction c.args.client c.is_commit.result c.requires.transaction (c.set_row.ensures.rows ∙ ap (λ rs. set rs (c.newest-line.result - 1) (row.Calling c.args.client c.args.transaction c.is_commit.result)) c.set_waits.ensures.rows) (c.set_row.ensures.nexts ∙ c.set_waits.ensures.nexts) (c.set_row.ensures.clients ∙ c.set_waits.ensures.clients))
     ∙ ap (λ b. with_stand c.newest-line.result (Calling c.args.client c.args.transaction b) (with_stand c.args.transaction (HasBegun c.args.client c.newest-line.result) (sight_of c.args.self.now))) c.is_commit.ensures
     ∙ ap (λ n. with_stand n (Calling c.args.client c.args.transaction (commits c.args.act)) (with_stand c.args.transaction (HasBegun c.args.client n) (sight_of c.args.self.now))) c.newest-line.ensures)
     c.step.ensures.turn
+
+pub returns-clause-names : goal.returns-clause-names
+returns-clause-names g c = named_so c.step.result (OfLine c.newest-line.result (Tells (tells.Act c.args.act))) NoneGiven (λ n v q. q.1) c.step.ensures.names

@@ -2,6 +2,7 @@ use Rattle.std.proofs.Common.{◌≡◌, refl, subst, sym}
 use Rattle.txn_commit.specs.Committing.{ways}
 use Rattle.txn_clients.specs.Rows.{Rests, RowReady, stand_of}
 use Rattle.txn_clients.proofs.Places.{both_ok, crashed_kept}
+use Rattle.txn_clients.proofs.Sending.{groups_kept}
 use Rattle.txn_clients.proofs.Telling.{always_ok, if_answered, on_ok, put_nexts, put_ready, put_row, put_stands}
 use Rattle.txn_clients.proofs.clients.Clients.tell_row.Goals as goal
 
@@ -17,6 +18,10 @@ returns-clause-nexts g c = always_ok c.tell.result
 pub returns-clause-crashed : goal.returns-clause-crashed
 returns-clause-crashed g c = always_ok c.tell.result
     (crashed_kept c.args.self.now.clients.items c.args.listener.client (record c.index_mut.result.now { client = record c.index_mut.result.now.client { pd = c.tell.new.pd } }) c.index_mut.result.now c.requires.client c.index_mut.ensures.value refl)
+
+pub returns-clause-groups : goal.returns-clause-groups
+returns-clause-groups g c = always_ok c.tell.result
+    (groups_kept c.args.self.now.clients.items c.args.listener.client (record c.index_mut.result.now { client = record c.index_mut.result.now.client { pd = c.tell.new.pd } }) c.index_mut.result.now c.requires.client c.index_mut.ensures.value refl)
 
 pub returns-clause-ready : goal.returns-clause-ready
 returns-clause-ready g c = both_ok c.tell.result

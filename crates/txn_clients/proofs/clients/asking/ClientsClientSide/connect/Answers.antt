@@ -2,8 +2,8 @@ use Rattle.std.proofs.Common.{◌≡◌, ◌∙◌, arith, length, refl}
 use Rattle.std.proofs.lemmas.List.{length-map}
 use Rattle.txn_clients.specs.Clients.{crashed_of, rows_of}
 use Rattle.txn_clients.specs.declared.client_state.ClientState.{ClientState}
-use Rattle.txn_clients.proofs.Asking.{connected_ready, connected_sight, newest_idle, newest_is, pushed_crashed}
-use Rattle.txn_clients.proofs.Telling.{same_clients}
+use Rattle.txn_clients.proofs.Asking.{connected_ready, connected_sight, newest_idle, newest_is, pushed_crashed, pushed_groups}
+use Rattle.txn_clients.proofs.Tables.{same_clients, same_groups}
 use Rattle.txn_clients.proofs.clients.asking.ClientsClientSide.connect.Goals as goal
 
 pub returns-clause-sight : goal.returns-clause-sight
@@ -12,7 +12,8 @@ returns-clause-sight g c =
     let long = length-map c.args.self.now.clients.items (λ (d : ClientState). d.crashed) in
     let new : c.len-client.result ≡ length (crashed_of c.args.self.now) = omega arith in
     connected_sight c.args.self.now c.set_row.new.self c.newest.result c.len-client.result c.newest.ensures new
-    (same_clients pushed c.set_row.new.self c.set_row.ensures.clients ∙ pushed_crashed c.args.self.now pushed c.new.result c.in_ok-push.ensures.items c.new.ensures) c.set_row.ensures.rows c.set_row.ensures.nexts
+    (same_clients pushed c.set_row.new.self c.set_row.ensures.clients ∙ pushed_crashed c.args.self.now pushed c.new.result c.in_ok-push.ensures.items c.new.ensures.crashed)
+    (same_groups pushed c.set_row.new.self c.set_row.ensures.clients ∙ pushed_groups c.args.self.now pushed c.new.result c.in_ok-push.ensures.items c.new.ensures.group) c.set_row.ensures.rows c.set_row.ensures.nexts
 
 pub returns-clause-ready : goal.returns-clause-ready
 returns-clause-ready g c =
