@@ -1,7 +1,6 @@
 ghost use Rattle.std.specs.Prelude.{◌≡◌, ◌<◌, IfOk, length, false};
 
 use std::alloc::Global;
-use std::test::Fail;
 use txn_kv::{Items, NoMemory, Reply, Request, Target, Ticket, TsoRequest, TsoResponse};
 use txn_post::*;
 
@@ -138,9 +137,9 @@ fn outs_of_first(alloc: Global, post: &Post) -> Result<Vec<Ticket>, NoMemory>
 }
 
 #[test]
-fn what_was_sent(rt: HostRuntime) -> Result<(), Fail> {
+fn what_was_sent(rt: HostRuntime) {
     let alloc = rt.alloc();
-    let post = small_run(alloc)?;
+    let post = small_run(alloc).expect(&rt, "memory");
     for (name, place) in [(ticket(1, 1), 0), (ticket(1, 3), 1), (ticket(2, 1), 2)] {
         assert_eq!(rt; post.find_awaited(&name), Some(place));
         assert_eq!(rt; post.find_unserved(&name), Some(place));
@@ -152,12 +151,11 @@ fn what_was_sent(rt: HostRuntime) -> Result<(), Fail> {
     assert!(rt; matches!(second, Some(note) if note.ticket == ticket(1, 3) && note.at == 2));
     let slept = sleeps.as_slice().first();
     assert!(rt; matches!(slept, Some(note) if note.ticket == ticket(1, 2) && note.at == 1));
-    Ok(())
 }
 
 #[test]
-fn tickets_that_name_nothing(rt: HostRuntime) -> Result<(), Fail> {
-    let post = small_run(rt.alloc())?;
+fn tickets_that_name_nothing(rt: HostRuntime) {
+    let post = small_run(rt.alloc()).expect(&rt, "memory");
     let heartbeat = Ticket {
         line: 1,
         beat: true,
@@ -176,13 +174,12 @@ fn tickets_that_name_nothing(rt: HostRuntime) -> Result<(), Fail> {
         assert_eq!(rt; post.find_unserved(&name), None);
         assert_eq!(rt; post.find_lasting(&name), None);
     }
-    Ok(())
 }
 
 #[test]
-fn a_request_is_served_and_answered_once(rt: HostRuntime) -> Result<(), Fail> {
+fn a_request_is_served_and_answered_once(rt: HostRuntime) {
     let alloc = rt.alloc();
-    let mut post = small_run(alloc)?;
+    let mut post = small_run(alloc).expect(&rt, "memory");
     assert!(rt; !answer(&mut post, ticket(1, 1)));
     assert!(rt; serve(&mut post, ticket(1, 1)));
     assert!(rt; !serve(&mut post, ticket(1, 1)));
@@ -190,15 +187,14 @@ fn a_request_is_served_and_answered_once(rt: HostRuntime) -> Result<(), Fail> {
     assert!(rt; !answer(&mut post, ticket(1, 1)));
     assert!(rt; deliver(&mut post, ticket(1, 3)));
     assert!(rt; !deliver(&mut post, ticket(1, 3)));
-    let outs = outs_of_first(alloc, &post)?;
+    let outs = outs_of_first(alloc, &post).expect(&rt, "memory");
     assert_eq!(rt; outs.as_slice(), [ticket(1, 2)].as_slice());
-    Ok(())
 }
 
 #[test]
-fn refused_and_lost(rt: HostRuntime) -> Result<(), Fail> {
+fn refused_and_lost(rt: HostRuntime) {
     let alloc = rt.alloc();
-    let mut post = small_run(alloc)?;
+    let mut post = small_run(alloc).expect(&rt, "memory");
     assert!(rt; busy(&mut post, ticket(1, 1)));
     assert!(rt; !serve(&mut post, ticket(1, 1)));
     assert!(rt; lose(&mut post, ticket(1, 3)));
@@ -208,20 +204,18 @@ fn refused_and_lost(rt: HostRuntime) -> Result<(), Fail> {
     assert!(rt; serve(&mut post, ticket(2, 1)));
     assert!(rt; lose(&mut post, ticket(2, 1)));
     assert!(rt; !answer(&mut post, ticket(2, 1)));
-    Ok(())
 }
 
 #[test]
-fn a_sleep_ends(rt: HostRuntime) -> Result<(), Fail> {
+fn a_sleep_ends(rt: HostRuntime) {
     let alloc = rt.alloc();
-    let mut post = small_run(alloc)?;
-    let outs = outs_of_first(alloc, &post)?;
+    let mut post = small_run(alloc).expect(&rt, "memory");
+    let outs = outs_of_first(alloc, &post).expect(&rt, "memory");
     let all = [ticket(1, 1), ticket(1, 2), ticket(1, 3)];
     assert_eq!(rt; outs.as_slice(), all.as_slice());
     assert_eq!(rt; post.find_awaited(&ticket(1, 2)), None);
     assert!(rt; wake(&mut post, ticket(1, 2)));
     assert!(rt; !wake(&mut post, ticket(1, 2)));
-    let outs = outs_of_first(alloc, &post)?;
+    let outs = outs_of_first(alloc, &post).expect(&rt, "memory");
     assert_eq!(rt; outs.as_slice(), [ticket(1, 1), ticket(1, 3)].as_slice());
-    Ok(())
 }

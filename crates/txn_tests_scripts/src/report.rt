@@ -1,5 +1,5 @@
 use std::alloc::Global;
-use std::test::Fail;
+use std::process::Abort;
 use txn_kv::{Error, Internal, Items, Key, KeyError, LockInfo, NoMemory, Op, RegionErr, Ticket};
 use txn_model::ModelStore;
 use txn_report::*;
@@ -22,7 +22,7 @@ fn report_of(alloc: Global, outcomes: Vec<Outcome>) -> Result<Report, NoMemory> 
 }
 
 #[test]
-fn one_line_for_each_outcome(rt: HostRuntime) -> Result<(), Fail> {
+fn one_line_for_each_outcome(rt: HostRuntime) {
     let alloc = rt.alloc();
     let outcomes = vec![in alloc;
         Outcome::Ok(Payload::Unit),
@@ -33,20 +33,24 @@ fn one_line_for_each_outcome(rt: HostRuntime) -> Result<(), Fail> {
         Outcome::Unfinished,
         Outcome::Done,
         Outcome::Skipped,
-    ]?;
-    let report = report_of(alloc, outcomes)?;
-    let text = report_text(alloc, &report)?;
+    ]
+    .expect(&rt, "memory");
+    let report = report_of(alloc, outcomes).expect(&rt, "memory");
+    let text = report_text(alloc, &report).expect(&rt, "memory");
     let wanted =
         b"1 ok\n2 ok 786432000\n3 ok none\n4 ok 2\n5 err OperationAfterCommitError\n6 open\n7 done\n8 skipped\nsent 0 served 1\n";
     assert_eq!(rt; text.as_slice(), wanted.as_slice());
-    Ok(())
 }
 
 #[test]
-fn copies(rt: HostRuntime) -> Result<(), Fail> {
+fn copies(rt: HostRuntime) {
     let outcome = Outcome::Ok(Payload::Commit(Some(2)));
-    assert!(rt; matches!(outcome.try_clone()?, Outcome::Ok(Payload::Commit(Some(2)))));
-    Ok(())
+    assert!(rt;
+        matches!(
+            outcome.try_clone().expect(&rt, "memory"),
+            Outcome::Ok(Payload::Commit(Some(2)))
+        )
+    );
 }
 
 fn text_of(alloc: Global, error: Error) -> Result<Vec<u8>, NoMemory> {
@@ -54,36 +58,38 @@ fn text_of(alloc: Global, error: Error) -> Result<Vec<u8>, NoMemory> {
     report_text(alloc, &report_of(alloc, outcomes)?)
 }
 
-fn key(alloc: Global, bytes: &[u8]) -> Result<Key, NoMemory> {
-    Ok(Key::from(bytes.to_vec(alloc)?))
+fn key(rt: &impl Abort, alloc: Global, bytes: &[u8]) -> Key {
+    Key::from(bytes.to_vec(alloc).expect(rt, "memory"))
 }
 
-fn exists_at(alloc: Global, bytes: &[u8]) -> Result<Error, NoMemory> {
+fn exists_at(rt: &impl Abort, alloc: Global, bytes: &[u8]) -> Error {
     Error::key(
         alloc,
         KeyError::AlreadyExist {
-            key: key(alloc, bytes)?,
+            key: key(rt, alloc, bytes),
         },
     )
+    .expect(rt, "memory")
 }
 
 #[test]
-fn errors_at_keys(rt: HostRuntime) -> Result<(), Fail> {
+fn errors_at_keys(rt: HostRuntime) {
     let alloc = rt.alloc();
-    let errors = vec![in alloc; exists_at(alloc, b"a")?, exists_at(alloc, b"")?]?;
-    let text = text_of(alloc, Error::MultipleKeyErrors(errors))?;
+    let errors = vec![in alloc; exists_at(&rt, alloc, b"a"), exists_at(&rt, alloc, b"")].expect(
+        &rt, "memory",
+    );
+    let text = text_of(alloc, Error::MultipleKeyErrors(errors)).expect(&rt, "memory");
     let wanted =
         b"1 err MultipleKeyErrors [KeyError AlreadyExist a; KeyError AlreadyExist x:]\nsent 0 served 1\n";
     assert_eq!(rt; text.as_slice(), wanted.as_slice());
-    Ok(())
 }
 
 #[test]
-fn unresolved_locks(rt: HostRuntime) -> Result<(), Fail> {
+fn unresolved_locks(rt: HostRuntime) {
     let alloc = rt.alloc();
     let lock = LockInfo {
-        key: key(alloc, b"a")?,
-        primary_lock: key(alloc, b"b")?,
+        key: key(&rt, alloc, b"a"),
+        primary_lock: key(&rt, alloc, b"b"),
         lock_version: 7,
         lock_ttl: 3000,
         lock_type: Op::Put,
@@ -92,21 +98,24 @@ fn unresolved_locks(rt: HostRuntime) -> Result<(), Fail> {
         min_commit_ts: 0,
         secondaries: Items::new(alloc),
     };
-    let text = text_of(alloc, Error::ResolveLockError(vec![in alloc; lock]?))?;
+    let text = text_of(
+        alloc,
+        Error::ResolveLockError(vec![in alloc; lock].expect(&rt, "memory")),
+    )
+    .expect(&rt, "memory");
     let wanted = b"1 err ResolveLockError 1 a 7\nsent 0 served 1\n";
     assert_eq!(rt; text.as_slice(), wanted.as_slice());
-    Ok(())
 }
 
 #[test]
-fn errors_of_parts(rt: HostRuntime) -> Result<(), Fail> {
+fn errors_of_parts(rt: HostRuntime) {
     let alloc = rt.alloc();
     let ticket = Ticket {
         line: 5,
         beat: true,
         number: 2,
     };
-    let text = text_of(alloc, Error::GrpcAPI(ticket))?;
+    let text = text_of(alloc, Error::GrpcAPI(ticket)).expect(&rt, "memory");
     assert_eq!(rt;
         text.as_slice(),
         b"1 err GrpcAPI 5.h2\nsent 0 served 1\n".as_slice()
@@ -119,27 +128,27 @@ fn errors_of_parts(rt: HostRuntime) -> Result<(), Fail> {
                 region_id: 1,
                 leader: None,
             },
-        )?,
-    )?;
+        )
+        .expect(&rt, "memory"),
+    )
+    .expect(&rt, "memory");
     assert_eq!(rt;
         text.as_slice(),
         b"1 err RegionError NotLeader\nsent 0 served 1\n".as_slice()
     );
     let what = Internal::NoEpoch { id: 3 };
-    let text = text_of(alloc, Error::InternalError { what })?;
+    let text = text_of(alloc, Error::InternalError { what }).expect(&rt, "memory");
     assert_eq!(rt;
         text.as_slice(),
         b"1 err InternalError NoEpoch\nsent 0 served 1\n".as_slice()
     );
-    Ok(())
 }
 
 #[test]
-fn errors_within(rt: HostRuntime) -> Result<(), Fail> {
+fn errors_within(rt: HostRuntime) {
     let alloc = rt.alloc();
-    let inner = Box::new(alloc, Error::LeaderNotFound { region_id: 9 })?;
-    let text = text_of(alloc, Error::UndeterminedError(inner))?;
+    let inner = Box::new(alloc, Error::LeaderNotFound { region_id: 9 }).expect(&rt, "memory");
+    let text = text_of(alloc, Error::UndeterminedError(inner)).expect(&rt, "memory");
     let wanted = b"1 err UndeterminedError [LeaderNotFound 9]\nsent 0 served 1\n";
     assert_eq!(rt; text.as_slice(), wanted.as_slice());
-    Ok(())
 }

@@ -1,49 +1,44 @@
-use std::test::Fail;
 use txn_stream::*;
 
 #[test]
-fn a_source_is_read_to_its_end(rt: HostRuntime) -> Result<(), Fail> {
+fn a_source_is_read_to_its_end(rt: HostRuntime) {
     let mut source = SureSource::new(b"client\n");
-    let bytes = read_all(rt.alloc(), &mut source)?;
+    let bytes = read_all(rt.alloc(), &mut source).expect(&rt, "memory");
     assert_eq!(rt; bytes.as_slice(), b"client\n".as_slice());
-    Ok(())
 }
 
 #[test]
-fn a_source_gives_one_byte_after_the_other(rt: HostRuntime) -> Result<(), Fail> {
-    let bytes = b"begin".to_vec(rt.alloc())?;
+fn a_source_gives_one_byte_after_the_other(rt: HostRuntime) {
+    let bytes = b"begin".to_vec(rt.alloc()).expect(&rt, "memory");
     let mut source = MemorySource::new(bytes, 1, Vec::new(rt.alloc()));
-    let read = read_all(rt.alloc(), &mut source)?;
+    let read = read_all(rt.alloc(), &mut source).expect(&rt, "memory");
     assert_eq!(rt; read.as_slice(), b"begin".as_slice());
     assert_eq!(rt; source.faults(), 0);
-    Ok(())
 }
 
 #[test]
-fn the_second_read_fails(rt: HostRuntime) -> Result<(), Fail> {
-    let bytes = b"begin 1 opt".to_vec(rt.alloc())?;
-    let failing = vec![in rt.alloc(); 2]?;
+fn the_second_read_fails(rt: HostRuntime) {
+    let bytes = b"begin 1 opt".to_vec(rt.alloc()).expect(&rt, "memory");
+    let failing = vec![in rt.alloc(); 2].expect(&rt, "memory");
     let mut source = MemorySource::new(bytes, 5, failing);
     assert_eq!(rt;
         read_all(rt.alloc(), &mut source).err(),
         Some(ReadStop::Fault)
     );
     assert_eq!(rt; source.faults(), 1);
-    Ok(())
 }
 
 #[test]
-fn ten_bytes_are_taken_and_then_a_write_fails(rt: HostRuntime) -> Result<(), Fail> {
-    let failing = vec![in rt.alloc(); 2]?;
+fn ten_bytes_are_taken_and_then_a_write_fails(rt: HostRuntime) {
+    let failing = vec![in rt.alloc(); 2].expect(&rt, "memory");
     let mut sink = MemorySink::new(rt.alloc(), 10, failing);
     assert_eq!(rt; write_all(&mut sink, b"1 ok\n2 ok 1\n"), Err(10));
     assert_eq!(rt; sink.written(), b"1 ok\n2 ok ".as_slice());
     assert_eq!(rt; sink.faults(), 1);
-    Ok(())
 }
 
 #[test]
-fn all_is_taken(rt: HostRuntime) -> Result<(), Fail> {
+fn all_is_taken(rt: HostRuntime) {
     let mut kept = MemorySink::new(rt.alloc(), 2, Vec::new(rt.alloc()));
     let mut sure = SureSink::new();
     let mut out = StdoutSink::new(rt.stdout());
@@ -51,5 +46,4 @@ fn all_is_taken(rt: HostRuntime) -> Result<(), Fail> {
     assert_eq!(rt; kept.written(), b"done\n".as_slice());
     assert_eq!(rt; write_all(&mut sure, b"done\n"), Ok(()));
     assert_eq!(rt; write_all(&mut out, b"done\n"), Ok(()));
-    Ok(())
 }
