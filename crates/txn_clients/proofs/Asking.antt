@@ -1,5 +1,5 @@
 -- What becomes of the sight as a machine asks something of the clients.
-use Rattle.std.proofs.Common.{◌≡◌, ◌≢◌, ℕ, zero, suc, ◌-◌, ◌<◌, ◌≤◌, Bool, true, false, ◌&&◌, List, [], ◌∷◌, ◌++◌, length, map, get_or, set, Some, None, refl, sym, ap, ◌∙◌, subst, arith}
+use Rattle.std.proofs.Common.{◌≡◌, ◌≢◌, ℕ, zero, suc, ◌-◌, ◌<◌, ◌≤◌, Bool, true, false, ◌&&◌, List, [], ◌∷◌, ◌++◌, length, map, get_or, set, Some, None, refl, sym, ap, ◌∙◌, subst, arith, length-set}
 use Rattle.std.proofs.lemmas.List.{length-map, map-append, map-set}
 use Rattle.std.proofs.lemmas.List.Elements.{All-append, All-cons, All-nil}
 use Rattle.std.specs.Prelude.{IfOk, Result}
@@ -11,6 +11,7 @@ use Rattle.txn_side.specs.Sight.{Goes, Sight, Stand, client_at, connected, crash
 use Rattle.txn_side.specs.Sight.Stand.{Asking, Calling, HasBegun, Idle, IsClient}
 use Rattle.txn_side.specs.declared.act.Act.{Act}
 use Rattle.txn_side.specs.declared.turn.Turn.{Turn}
+use Rattle.txn_clients.specs.Accounts.{WantsNew}
 use Rattle.txn_clients.specs.Clients.{AreReady, IsLine, Listens, crashed_of, groups_of, nexts_of, row_at, rows_of, sight_of, stands_of}
 use Rattle.txn_clients.specs.Going.{Advances}
 use Rattle.txn_clients.specs.Groups.{group_by, group_of, lines_out}
@@ -24,7 +25,7 @@ use Rattle.txn_clients.specs.declared.row.Row.TheVariants as row
 use Rattle.txn_clients.specs.declared.told.Told.TheVariants as tells
 use Rattle.txn_clients.proofs.Advances.{advances_all, advances_then}
 use Rattle.txn_clients.proofs.Listening.{asked_listens, called_listens}
-use Rattle.txn_clients.proofs.Stands.{matched_opened, or_other, or_same}
+use Rattle.txn_clients.proofs.Stands.{matched_opened, or_other, or_same, stand_same}
 use Rattle.txn_clients.proofs.Telling.{begun_line}
 use Rattle.txn_clients.proofs.Tables.{called_stands, ready_called, ready_set, sight_at, sight_by, stand_of_line, stands_set}
 
@@ -153,8 +154,8 @@ module _ {P Q K : Type 0} where
         no : (c m : ℕ) → IsClient client ≢ HasBegun c m
         no c m q = cc
 
-    pub asking_ready : (rows news : List (Row P Q K)) (line c : ℕ) (b : Bool) (call : ClientCall Pd P Q K) → IsLine (stands_of rows) line → stand_at (stands_of rows) line ≡ Idle → AreReady w rows → CallReady call.stage → news ≡ set rows (line - 1) (row.Asking c b call) → AreReady w news
-    asking_ready rows news line c b call is idle ready may e = subst (AreReady w) (sym e) (ready_new rows line (row.Asking c b call) is idle ready may no)
+    pub asking_ready : (rows news : List (Row P Q K)) (line c : ℕ) (b : Bool) (call : ClientCall Pd P Q K) → IsLine (stands_of rows) line → stand_at (stands_of rows) line ≡ Idle → AreReady w rows → CallReady call.stage → WantsNew call → news ≡ set rows (line - 1) (row.Asking c b call) → AreReady w news
+    asking_ready rows news line c b call is idle ready may wants e = subst (AreReady w) (sym e) (ready_new rows line (row.Asking c b call) is idle ready (may, wants) no)
       where
         no : (d m : ℕ) → Asking c b ≢ HasBegun d m
         no d m q = cc
@@ -200,3 +201,15 @@ module _ {P Q K : Type 0} where
         hears (row.Calling d y a) e may = tt
         hears (row.Past d) e may = tt
         hears (row.Working d job) e may = tt
+
+  -- the call stands at its line
+  pub called_stand : (rows mid : List (Row P Q K)) (line x c : ℕ) (b : Bool) → IsLine (stands_of rows) line → mid ≡ set (set rows (x - 1) (with_waits line (row_at rows (x - 1)))) (line - 1) (row.Calling c x b) → stand_at (stands_of mid) line ≡ Calling c x b
+  called_stand rows mid line x c b is e =
+      ap (λ (rs : List (Row P Q K)). stand_at (stands_of rs) line) e ∙ ap (λ ss. stand_at ss line) (stands_set first (line - 1) (row.Calling c x b))
+      ∙ stand_same (stands_of first) line (Calling c x b) (record { first = is.first; last = subst (λ n. line ≤ n) (sym long) is.last })
+    where
+      first : List (Row P Q K)
+      first = set rows (x - 1) (with_waits line (row_at rows (x - 1)))
+
+      long : length (stands_of first) ≡ length (stands_of rows)
+      long = length-map first stand_of ∙ length-set rows (x - 1) (with_waits line (row_at rows (x - 1))) ∙ sym (length-map rows stand_of)

@@ -1,5 +1,5 @@
 -- Which requests for timestamps are out as the clients go on.
-use Rattle.std.proofs.Common.{◌≡◌, ◌≢◌, ◌⊎◌, inl, inr, ℕ, ◌+◌, ◌<◌, List, ◌++◌, length, get_or, set, Option, Some, None, sym, ap, ◌∙◌, arith}
+use Rattle.std.proofs.Common.{[], ◌≡◌, ◌≢◌, ◌⊎◌, inl, inr, ℕ, ◌+◌, ◌<◌, List, ◌++◌, length, get_or, set, Option, Some, None, sym, ap, ◌∙◌, arith}
 use Rattle.std.proofs.lemmas.List.{get_or-append-add, get_or_append_left, length-append}
 use Rattle.std.specs.List.{Any}
 use Rattle.txn_side.specs.Sight.{Group, GroupsGo, IsAsk, IsOut, Sight}
@@ -7,13 +7,13 @@ use Rattle.txn_side.specs.declared.turn.Posting.{Posting}
 use Rattle.txn_clients.specs.Groups.{IsLeft}
 use Rattle.txn_clients.proofs.Stands.{or_other, or_same, same_line}
 
-any_ahead : {X : Type 0} (P : X → Type 0) (xs ys : List X) → Any P xs → Any P (xs ++ ys)
+pub any_ahead : {X : Type 0} (P : X → Type 0) (xs ys : List X) → Any P xs → Any P (xs ++ ys)
 any_ahead P xs ys a =
     let within = a.2 in
     let long = length-append xs ys in
     (a.0, a.1, omega (arith, within, long), get_or_append_left xs ys a.1 a.0 within ∙ a.3, a.4)
 
-any_behind : {X : Type 0} (P : X → Type 0) (xs ys : List X) → Any P ys → Any P (xs ++ ys)
+pub any_behind : {X : Type 0} (P : X → Type 0) (xs ys : List X) → Any P ys → Any P (xs ++ ys)
 any_behind P xs ys a =
     let within = a.2 in
     let long = length-append xs ys in
@@ -30,6 +30,18 @@ groups_then ps qs old mid new f k g out = by (k g out)
     by : IsOut mid g ⊎ Any (IsAsk g) qs → IsOut old g ⊎ Any (IsAsk g) (ps ++ qs)
     by (inl o) = before (f g o)
     by (inr a) = inr (any_behind (IsAsk g) ps qs a)
+
+-- what was so before is so now, where more is posted
+pub groups_more : (old new : Sight) (g : Group) (posted : List Posting) → IsOut old g ⊎ Any (IsAsk g) [] → IsOut old g ⊎ Any (IsAsk g) posted
+groups_more old new g posted (inl o) = inl o
+groups_more old new g posted (inr a) = absurd (none a)
+  where
+    none : Any (IsAsk g) [] → ⊥
+    none b = let within = b.2 in omega (arith, within)
+
+pub groups_between : (old mid : Sight) (g : Group) (posted : List Posting) → GroupsGo [] old mid → IsOut mid g ⊎ Any (IsAsk g) posted → IsOut old g ⊎ Any (IsAsk g) posted
+groups_between old mid g posted f (inl o) = groups_more old mid g posted (f g o)
+groups_between old mid g posted f (inr a) = inr a
 
 -- it is out at some client
 abbrev pub IsIn : List (Option Group) → Group → Type 0

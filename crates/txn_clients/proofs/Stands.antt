@@ -22,7 +22,7 @@ or_other (w ∷ xs) zero (suc j) y d h = refl
 or_other (w ∷ xs) (suc i) zero y d h = refl
 or_other (w ∷ xs) (suc i) (suc j) y d h = or_other xs i j y d (suc_apart i j h)
 
-or_ended : {X : Type 0} (xs : List X) (d : X) (i : ℕ) → get_or (xs ++ d ∷ []) i d ≡ get_or xs i d
+pub or_ended : {X : Type 0} (xs : List X) (d : X) (i : ℕ) → get_or (xs ++ d ∷ []) i d ≡ get_or xs i d
 or_ended [] d zero = refl
 or_ended [] d (suc i) = refl
 or_ended (z ∷ xs) d zero = refl

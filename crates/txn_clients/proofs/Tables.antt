@@ -141,7 +141,7 @@ module _ {P Q K : Type 0} where
     waits_ready n row.Plain some ready = tt
     waits_ready n (row.Client c) some ready = tt
     waits_ready n (row.Asking c b call) some ready = ready
-    waits_ready n (row.Begun c t m) some ready = (ready.0, λ z. absurd (some z))
+    waits_ready n (row.Begun c t m) some ready = (ready.0, λ z. absurd (some z), ready.2)
     waits_ready n (row.Calling c x b) some ready = tt
     waits_ready n (row.Past c) some ready = tt
     waits_ready n (row.Working c job) some ready = ready
@@ -150,7 +150,7 @@ module _ {P Q K : Type 0} where
     rests_ready row.Plain rests ready = tt
     rests_ready (row.Client c) rests ready = tt
     rests_ready (row.Asking c b call) rests ready = ready
-    rests_ready (row.Begun c t m) rests ready = (ready.0, λ z. rests)
+    rests_ready (row.Begun c t m) rests ready = (ready.0, λ z. rests, ready.2)
     rests_ready (row.Calling c x b) rests ready = tt
     rests_ready (row.Past c) rests ready = tt
     rests_ready (row.Working c job) rests ready = ready

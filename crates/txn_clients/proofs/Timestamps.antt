@@ -33,7 +33,7 @@ abbrev count_in : Option TsoRequest → ℕ
 count_in None = 0
 count_in (Some r) = r.count
 
-waiting : (a : Asker) (rest : List Asker) → not (nat_eq (length (a ∷ rest)) 0) ≡ true
+pub waiting : (a : Asker) (rest : List Asker) → not (nat_eq (length (a ∷ rest)) 0) ≡ true
 waiting a rest = let e : nat_eq (length (a ∷ rest)) 0 ≡ false = grind (arith, nat_tests) in ap not e
 
 some_group : (queue : List Asker) (out : Option (List Asker)) (r : TsoRequest) (lines : List ℕ)

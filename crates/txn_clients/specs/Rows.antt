@@ -23,6 +23,7 @@ use Rattle.txn_client.specs.declared.client_answer.ClientAnswer.{ClientAnswer}
 use Rattle.txn_client.specs.declared.client_answer.ClientAnswer.TheVariants.{Begun, Time}
 use Rattle.txn_side.specs.Sight.{Stand}
 use Rattle.txn_side.specs.Sight.Stand.{Asking, Calling, HasBegun, Idle, IsClient, Past, Working}
+use Rattle.txn_clients.specs.Accounts.{IsQuiet, WantsNew}
 use Rattle.txn_clients.specs.declared.answer.Answer.{Answer}
 use Rattle.txn_clients.specs.declared.answer.Answer.TheVariants as answers
 use Rattle.txn_clients.specs.declared.row.Row.{Row}
@@ -40,12 +41,13 @@ stand_of (row.Calling c x b) = Calling c x b
 stand_of (row.Past c) = Past c
 stand_of (row.Working c job) = Working c
 
--- It may be called. No call is open of a transaction that waits for none.
+-- It may be called. No call is open of a transaction that waits for none, and none of it commits while it may be written. A call
+-- begins a transaction that has taken in nothing.
 abbrev pub RowReady : {P Q K A B D : Type 0} → Ways P Q K A B D → Row P Q K → Type 0
 RowReady w row.Plain = ⊤
 RowReady w (row.Client c) = ⊤
-RowReady w (row.Asking c b call) = CallReady call.stage
-RowReady w (row.Begun c t m) = TransactionReady w t × (m ≡ 0 → is_open t.work ≡ false)
+RowReady w (row.Asking c b call) = CallReady call.stage × WantsNew call
+RowReady w (row.Begun c t m) = TransactionReady w t × (m ≡ 0 → is_open t.work ≡ false) × IsQuiet t
 RowReady w (row.Calling c x b) = ⊤
 RowReady w (row.Past c) = ⊤
 RowReady w (row.Working c job) = JobReady w.committing job

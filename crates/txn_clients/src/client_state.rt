@@ -1,11 +1,12 @@
-ghost use Rattle.std.specs.Prelude.{◌≡◌, ◌≤◌, ℕ, IfOk, IfSome, IsTrue, OnOk, false};
+ghost use Rattle.std.specs.Prelude.{◌≡◌, ◌≤◌, ◌++◌, ◌∷◌, ℕ, [], IfOk, IfSome, IsTrue, OnOk, false, map};
 ghost use Rattle.std.specs.List.{All};
 ghost use Rattle.txn_clients.specs.Groups.{IsLeft, IsRefused, IsTimeFor, group_of, lines_in, lines_out};
+ghost use Rattle.txn_clients.specs.Waiting.{Regroups, blank, book_of};
 ghost use Rattle.txn_side.specs.Sight.{AskFor};
 ghost use Rattle.txn_kv.specs.declared.reply.Reply.TheVariants as replies;
 ghost use Rattle.txn_kv.specs.declared.reply.TsoResponse.{TsoResponse as Times};
 ghost use Rattle.txn_kv.specs.declared.request.Request.TheVariants.{Tso};
-ghost use Rattle.txn_tso.specs.Oracle.{answered};
+ghost use Rattle.txn_tso.specs.Oracle.{answered, group_or_none};
 
 use std::alloc::Global;
 use txn_client::Client;
@@ -53,6 +54,7 @@ fn lines_of(alloc: Global, askers: &[Asker], newest: u64) -> Result<Items<u64>, 
 fn refusals(alloc: Global, askers: Vec<Asker>, lost: bool) -> Result<Answers, NoMemory>
     ensures times { IfOk result (λ given. All IsTimeFor given.items) }
     ensures refused { IfOk result (λ given. All IsRefused given.items) }
+    ensures askers { IfOk result (λ given. map (λ a. a.0) given.items ≡ askers.items) }
 {
     let mut given = Vec::new(alloc);
     for asker in askers {
@@ -71,6 +73,7 @@ impl ClientState {
     pub fn new(alloc: Global, now: u64) -> ClientState
         ensures crashed { result.crashed ≡ false }
         ensures group { result.group ≡ None }
+        ensures book { book_of result ≡ blank }
     {
         ClientState {
             client: Client::new(alloc, now),
@@ -82,7 +85,8 @@ impl ClientState {
 
     /// Whether this ticket is that of the group that is out.
     pub fn is_group(&self, ticket: Ticket) -> bool
-        ensures { IsTrue result → self.now.group ≡ Some ticket }
+        ensures is { IsTrue result → self.now.group ≡ Some ticket }
+        ensures not { result ≡ false → self.now.group ≡ Some ticket → ⊥ }
     {
         match self.group {
             None => false,
@@ -94,6 +98,7 @@ impl ClientState {
     pub fn ask(&mut self, line: u64, ask: u64) -> Result<(), NoMemory>
         ensures crashed { OnOk result (self.new.crashed ≡ self.old.crashed) }
         ensures group { OnOk result (group_of self.new ≡ group_of self.old) }
+        ensures book { OnOk result (book_of self.new ≡ record (book_of self.old) { queue = (book_of self.old).queue ++ record { line = line; beat = false; ask = ask } ∷ [] }) }
     {
         self.oracle.ask(Asker {
             line,
@@ -109,6 +114,8 @@ impl ClientState {
         ensures times { IfOk result (λ given. All IsTimeFor given.items) }
         ensures granted { IfOk result (λ given. (times : Times) → reply ≡ replies.Tso times → given.items ≡ answered times self.old.oracle) }
         ensures refused { IfOk result (λ given. ((times : Times) → reply ≡ replies.Tso times → ⊥) → All IsRefused given.items) }
+        ensures book { OnOk result (book_of self.new ≡ record (book_of self.old) { out = None; ticket = None }) }
+        ensures askers { IfOk result (λ given. map (λ a. a.0) given.items ≡ group_or_none (book_of self.old).out) }
     {
         self.group = None;
         match &reply {
@@ -122,6 +129,8 @@ impl ClientState {
         ensures group { OnOk result (self.new.group ≡ self.old.group) }
         ensures times { IfOk result (λ given. All IsTimeFor given.items) }
         ensures granted { IfOk result (λ given. given.items ≡ answered reply.now self.old.oracle) }
+        ensures book { OnOk result (book_of self.new ≡ record (book_of self.old) { out = None }) }
+        ensures askers { IfOk result (λ given. map (λ a. a.0) given.items ≡ group_or_none (book_of self.old).out) }
     {
         self.oracle.take_reply(reply)
     }
@@ -132,6 +141,8 @@ impl ClientState {
         ensures group { OnOk result (group_of self.new ≡ None) }
         ensures times { IfOk result (λ given. All IsTimeFor given.items) }
         ensures refused { IfOk result (λ given. All IsRefused given.items) }
+        ensures book { OnOk result (book_of self.new ≡ record (book_of self.old) { out = None; ticket = None }) }
+        ensures askers { IfOk result (λ given. map (λ a. a.0) given.items ≡ group_or_none (book_of self.old).out) }
     {
         self.group = None;
         refusals(alloc, self.oracle.lost(), true)
@@ -145,6 +156,7 @@ impl ClientState {
         ensures group { IfOk result (λ group. IfSome group (λ g. (line : ℕ) × AskFor line (Tso g.request) g.askers)) }
         ensures askers { IfOk result (λ group. IfSome group (λ g. g.askers ≡ lines_out self.new)) }
         ensures most { IfOk result (λ group. IfSome group (λ g. All (λ n. n ≤ newest) g.askers)) }
+        ensures regroups { IfOk result (λ group. Regroups group (book_of self.old) (book_of self.new)) }
     {
         match self.oracle.next_group()? {
             None => Ok(None),

@@ -1,6 +1,10 @@
 ghost use Rattle.std.specs.Prelude.{◌≡◌, ◌-◌, [], IfSome, Some, false, is_some, not, slice_index_or, slice_set, true};
+ghost use Rattle.txn_clients.specs.Accounts.{account_at};
 ghost use Rattle.txn_clients.specs.Clients.{IsLine, crashed_of, nexts_of, row_at, rows_of, sight_of};
 ghost use Rattle.txn_clients.specs.Rows.{with_waits};
+ghost use Rattle.txn_side.specs.Account.{AreNew};
+ghost use Rattle.txn_clients.specs.Waiting.{IsReady, asks_of};
+ghost use Rattle.txn_commit.specs.Committing.{ways};
 ghost use Rattle.txn_side.specs.Sight.{client_at, is_live, line_count, nobody, stand_at};
 
 mod asking;
@@ -12,6 +16,8 @@ use crate::client_state::ClientState;
 use crate::place::Place;
 use crate::row::Row;
 use std::alloc::Global;
+use txn_commit::PlanFor;
+use txn_kv::{BatchRollbackRequest, CommitRequest, PrewriteRequest};
 
 /// The clients of a run, and what stands at each of its lines.
 #[derive(Drop)]
@@ -28,11 +34,18 @@ pub struct Listener {
     pub client: usize,
 }
 
-impl<P, Q, K> Clients<P, Q, K> {
+impl<P, Q, K> Clients<P, Q, K>
+where
+    P: PlanFor<PrewriteRequest>,
+    Q: PlanFor<CommitRequest>,
+    K: PlanFor<BatchRollbackRequest>,
+{
     /// No lines, and no clients. Takes no memory.
     pub fn new(alloc: Global) -> Clients<P, Q, K>
         ensures sight { sight_of result ≡ nobody }
         ensures rows { rows_of result ≡ [] }
+        ensures accounts { AreNew (account_at (rows_of result)) }
+        ensures ready { IsReady (ways P.meaning Q.meaning K.meaning P.refuses Q.refuses K.refuses) result }
     {
         Clients {
             places: Vec::new(alloc),
@@ -40,7 +53,9 @@ impl<P, Q, K> Clients<P, Q, K> {
             alloc,
         }
     }
+}
 
+impl<P, Q, K> Clients<P, Q, K> {
     /// The number of the newest line.
     fn newest(&self) -> u64
         ensures { result ≡ line_count (sight_of self.now) }
@@ -100,6 +115,7 @@ impl<P: Drop, Q: Drop, K: Drop> Clients<P, Q, K> {
     fn set_row(&mut self, line: u64, row: Row<P, Q, K>)
         requires { IsLine (sight_of self.old).stands line }
         ensures rows { rows_of self.new ≡ slice_set (rows_of self.old) (line - 1) row }
+        ensures asks { asks_of self.new ≡ asks_of self.old }
         ensures nexts { nexts_of self.new ≡ nexts_of self.old }
         ensures clients { self.new.clients ≡ self.old.clients }
     {
@@ -110,6 +126,7 @@ impl<P: Drop, Q: Drop, K: Drop> Clients<P, Q, K> {
     fn set_waits(&mut self, transaction: u64, line: u64)
         requires { IsLine (sight_of self.old).stands transaction }
         ensures rows { rows_of self.new ≡ slice_set (rows_of self.old) (transaction - 1) (with_waits line (row_at (rows_of self.old) (transaction - 1))) }
+        ensures asks { asks_of self.new ≡ asks_of self.old }
         ensures nexts { nexts_of self.new ≡ nexts_of self.old }
         ensures clients { self.new.clients ≡ self.old.clients }
     {

@@ -1,12 +1,18 @@
 //! What a line comes to, as its call ends.
-ghost use Rattle.std.specs.Prelude.{◌≡◌, ℕ, IfSome, false};
+ghost use Rattle.std.specs.Prelude.{◌≡◌, ℕ, IfSome, None, Option, false, List, Ok};
+ghost use Rattle.txn_clients.specs.Accounts.{BeginsNew, IsNew, account_in, result_by};
 ghost use Rattle.txn_clients.specs.Rows.{AskFits, IsStamped, RowReady, stand_of};
+ghost use Rattle.txn_clients.specs.Waiting.{IsNewAnswer, RowArises};
+ghost use Rattle.txn_clients.specs.declared.answer.Answer.TheVariants.{Asked};
 ghost use Rattle.txn_commit.specs.Committing.{ways};
 ghost use Rattle.txn_commit.specs.Jobs.{JobReady};
 ghost use Rattle.txn_core.specs.Going.{TransactionReady};
 ghost use Rattle.txn_core.specs.Transaction.{is_open};
+ghost use Rattle.txn_client.specs.declared.client_answer.ClientAnswer.TheVariants.{Begun};
 ghost use Rattle.txn_core.specs.Waiting.{HandsOut};
+ghost use Rattle.txn_history.specs.Posted.{Posted};
 ghost use Rattle.txn_kv.specs.Timestamp.{HasVersion, version_of};
+ghost use Rattle.txn_side.specs.Account.{answer_by, new_account};
 ghost use Rattle.txn_side.specs.Sight.{AskEnds, CallEnds, number_of};
 ghost use Rattle.txn_clients.specs.declared.row.Row.TheVariants.{Past};
 ghost use Rattle.txn_report.specs.declared.outcome.Outcome.TheVariants.{Err as Failed};
@@ -59,10 +65,13 @@ where
         begins: bool,
         answer: txn_kv::Result<ClientAnswer<Pd, P, Q, K>>,
     ) -> Ended<P, Q, K>
-        requires { AskFits (ways P.meaning Q.meaning K.meaning P.refuses Q.refuses K.refuses) answer }
+        requires fits { AskFits (ways P.meaning Q.meaning K.meaning P.refuses Q.refuses K.refuses) answer }
+        requires begins { BeginsNew answer }
         ensures ends { AskEnds client begins result.outcome (stand_of result.row) }
         ensures stamped { (version : ℕ) → number_of result.outcome ≡ Some version → IsStamped answer version }
+        ensures arises { IsNewAnswer (Asked answer) → (o : Posted) (nexts : List ℕ) → RowArises (ways P.meaning Q.meaning K.meaning P.refuses Q.refuses K.refuses) o nexts result.row }
         ensures ready { RowReady (ways P.meaning Q.meaning K.meaning P.refuses Q.refuses K.refuses) result.row }
+        ensures account { account_in result.row ≡ new_account }
     {
         match answer {
             Err(error) => Ended::failed(client, error),
@@ -74,9 +83,12 @@ where
     fn begun(client: usize, begins: bool, transaction: Transaction<Pd, P, Q, K>) -> Ended<P, Q, K>
         requires ready { TransactionReady (ways P.meaning Q.meaning K.meaning P.refuses Q.refuses K.refuses) transaction }
         requires rests { is_open transaction.work ≡ false }
+        requires new { IsNew transaction }
         ensures ends { AskEnds client begins result.outcome (stand_of result.row) }
         ensures stamped { (version : ℕ) → number_of result.outcome ≡ Some version → version_of transaction.start ≡ version }
+        ensures arises { IsNewAnswer {P = P} {Q = Q} {K = K} (Asked (Ok (Begun transaction))) → (o : Posted) (nexts : List ℕ) → RowArises (ways P.meaning Q.meaning K.meaning P.refuses Q.refuses K.refuses) o nexts result.row }
         ensures ready { RowReady (ways P.meaning Q.meaning K.meaning P.refuses Q.refuses K.refuses) result.row }
+        ensures account { account_in result.row ≡ new_account }
     {
         if !begins {
             return Ended::unlike(client);
@@ -96,7 +108,9 @@ where
         requires { HasVersion timestamp }
         ensures ends { AskEnds client begins result.outcome (stand_of result.row) }
         ensures stamped { (version : ℕ) → number_of result.outcome ≡ Some version → version_of timestamp ≡ version }
+        ensures arises { (o : Posted) (nexts : List ℕ) → RowArises (ways P.meaning Q.meaning K.meaning P.refuses Q.refuses K.refuses) o nexts result.row }
         ensures ready { RowReady (ways P.meaning Q.meaning K.meaning P.refuses Q.refuses K.refuses) result.row }
+        ensures account { account_in result.row ≡ new_account }
     {
         if begins {
             return Ended::unlike(client);
@@ -117,6 +131,8 @@ where
         ensures ends { CallEnds client commits result.outcome (stand_of result.row) }
         ensures number { number_of result.outcome ≡ None }
         ensures ready { RowReady (ways P.meaning Q.meaning K.meaning P.refuses Q.refuses K.refuses) result.row }
+        ensures account { account_in result.row ≡ new_account }
+        ensures answers { commits ≡ false → (refused : Option Fault) → answer ≡ result_by refused → result.outcome ≡ answer_by refused }
     {
         match answer {
             Err(error) => Ended::failed(client, error),
@@ -132,6 +148,8 @@ where
         ensures ends { CallEnds client commits result.outcome (stand_of result.row) }
         ensures number { number_of result.outcome ≡ None }
         ensures ready { RowReady (ways P.meaning Q.meaning K.meaning P.refuses Q.refuses K.refuses) result.row }
+        ensures account { account_in result.row ≡ new_account }
+        ensures answers { commits ≡ false → result.outcome ≡ answer_by None }
     {
         if commits {
             return Ended::unlike(client);
@@ -153,6 +171,7 @@ where
         ensures ends { CallEnds client commits result.outcome (stand_of result.row) }
         ensures number { number_of result.outcome ≡ None }
         ensures ready { RowReady (ways P.meaning Q.meaning K.meaning P.refuses Q.refuses K.refuses) result.row }
+        ensures account { account_in result.row ≡ new_account }
     {
         if !commits {
             return Ended::unlike(client);

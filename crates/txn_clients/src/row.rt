@@ -1,6 +1,9 @@
-ghost use Rattle.std.specs.Prelude.{◌≡◌, ◌<◌, ◌^◌, ℕ, false, IfOk, IfSome, OnOk};
+ghost use Rattle.std.specs.Prelude.{◌≡◌, ◌<◌, ◌^◌, ℕ, Bool, false, IfOk, IfSome, OnOk};
 ghost use Rattle.txn_client.specs.Calls.{CallReady};
+ghost use Rattle.txn_clients.specs.Accounts.{AnswersAsk, AnswersNew, AnswersTold, IsQuiet, WantsNew, account_in, account_of, after_told, told_account};
 ghost use Rattle.txn_clients.specs.Rows.{AnswerFits, IsFreeFor, IsToldIn, MayHear, MayTell, Posts, RowReady, Rests, stand_of, with_waits};
+ghost use Rattle.txn_clients.specs.Waiting.{IsAnswerOf, IsNewAnswer, RowGoes};
+ghost use Rattle.txn_clients.specs.declared.row.Row.TheVariants.{Asking, Begun};
 ghost use Rattle.txn_commit.specs.Committing.{ways};
 ghost use Rattle.txn_commit.specs.Jobs.{JobReady};
 ghost use Rattle.txn_core.specs.Going.{TransactionReady};
@@ -81,10 +84,16 @@ where
     Q: PlanFor<CommitRequest>,
     K: PlanFor<BatchRollbackRequest>,
     requires ready { CallReady call.old.stage }
+    requires wants { WantsNew call.old }
     requires told { MayTell told }
     requires numbers { HasNumbers out.old }
     requires clock { now < 2 ^ 44 }
     ensures ready { OnOk result (CallReady call.new.stage) }
+    ensures wants { OnOk result (WantsNew call.new) }
+    ensures begins { IfOk result (λ answer. IfSome answer AnswersNew) }
+    ensures goes { IfOk result (λ answer. (c : ℕ) (b : Bool) → RowGoes (ways P.meaning Q.meaning K.meaning P.refuses Q.refuses K.refuses) told (Asking c b call.old) (Asking c b call.new) out.old out.new answer) }
+    ensures new { IfOk result (λ answer. IfSome answer IsNewAnswer) }
+    ensures kind { IfOk result (λ answer. (c : ℕ) (b : Bool) → IfSome answer (IsAnswerOf (stand_of (Asking c b call.old)))) }
     ensures posts { OnOk result (Posts out.old out.new) }
     ensures fits { IfOk result (λ answer. IfSome answer (AnswerFits (ways P.meaning Q.meaning K.meaning P.refuses Q.refuses K.refuses))) }
     ensures stamped { IfOk result (λ answer. IfSome answer (IsToldIn told)) }
@@ -116,10 +125,18 @@ where
     K: PlanFor<BatchRollbackRequest>,
     requires ready { TransactionReady (ways P.meaning Q.meaning K.meaning P.refuses Q.refuses K.refuses) transaction.old }
     requires told { MayTell told }
+    requires quiet { IsQuiet transaction.old }
     requires free { IsFreeFor told transaction.old.work }
     requires numbers { HasNumbers out.old }
     requires clock { now < 2 ^ 44 }
+    ensures goes { IfOk result (λ answer. (c m : ℕ) → RowGoes (ways P.meaning Q.meaning K.meaning P.refuses Q.refuses K.refuses) told (Begun c transaction.old m) (Begun c transaction.new m) out.old out.new answer) }
+    ensures new { IfOk result (λ answer. IfSome answer IsNewAnswer) }
+    ensures kind { IfOk result (λ answer. (c m : ℕ) → IfSome answer (IsAnswerOf (stand_of (Begun c transaction.old m)))) }
     ensures ready { OnOk result (TransactionReady (ways P.meaning Q.meaning K.meaning P.refuses Q.refuses K.refuses) transaction.new) }
+    ensures quiet { OnOk result (IsQuiet transaction.new) }
+    ensures account { OnOk result (account_of transaction.new ≡ told_account told (account_of transaction.old)) }
+    ensures answers { IfOk result (AnswersAsk told (account_of transaction.old)) }
+    ensures begins { IfOk result (λ answer. IfSome answer AnswersNew) }
     ensures posts { OnOk result (Posts out.old out.new) }
     ensures rests { IfOk result (λ answer. IfSome answer (λ a. is_open transaction.new.work ≡ false)) }
     ensures fits { IfOk result (λ answer. IfSome answer (AnswerFits (ways P.meaning Q.meaning K.meaning P.refuses Q.refuses K.refuses))) }
@@ -217,8 +234,14 @@ where
         requires hears { MayHear told self.old }
         requires numbers { HasNumbers out.old }
         requires clock { now < 2 ^ 44 }
+        ensures goes { IfOk result (λ answer. RowGoes (ways P.meaning Q.meaning K.meaning P.refuses Q.refuses K.refuses) told self.old self.new out.old out.new answer) }
+        ensures new { IfOk result (λ answer. IfSome answer IsNewAnswer) }
+        ensures kind { IfOk result (λ answer. IfSome answer (IsAnswerOf (stand_of self.old))) }
         ensures stand { OnOk result (stand_of self.new ≡ stand_of self.old) }
         ensures ready { OnOk result (RowReady (ways P.meaning Q.meaning K.meaning P.refuses Q.refuses K.refuses) self.new) }
+        ensures account { OnOk result (account_in self.new ≡ after_told told self.old) }
+        ensures answers { IfOk result (AnswersTold told self.old) }
+        ensures begins { IfOk result (λ answer. IfSome answer AnswersNew) }
         ensures posts { OnOk result (Posts out.old out.new) }
         ensures rests { IfOk result (λ answer. IfSome answer (λ a. Rests self.new)) }
         ensures fits { IfOk result (λ answer. IfSome answer (AnswerFits (ways P.meaning Q.meaning K.meaning P.refuses Q.refuses K.refuses))) }

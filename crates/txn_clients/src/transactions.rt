@@ -1,12 +1,14 @@
 //! What a transaction is told.
-ghost use Rattle.std.specs.Prelude.{◌≡◌, ◌<◌, ◌^◌, false};
+ghost use Rattle.std.specs.Prelude.{◌≡◌, ◌<◌, ◌^◌, false, ⊤, true};
+ghost use Rattle.txn_clients.specs.Accounts.{HasStayed, HasTaken, IsQuiet};
 ghost use Rattle.txn_clients.specs.Rows.{IsTold};
+ghost use Rattle.txn_clients.specs.Waiting.{StandGoes};
 ghost use Rattle.txn_commit.specs.Committing.{ways};
 ghost use Rattle.txn_core.specs.Going.{TransactionReady};
 ghost use Rattle.txn_core.specs.Transaction.{is_open};
 ghost use Rattle.txn_history.specs.Posted.{HasNumbers};
 ghost use Rattle.txn_history.specs.Turn.{IfKept, turn_of};
-ghost use Rattle.txn_plan.specs.Arrivals.{MayArrive};
+ghost use Rattle.txn_plan.specs.Arrivals.{MayArrive, awaited_as};
 
 use crate::answer::Pd;
 use txn_commit::PlanFor;
@@ -31,7 +33,10 @@ where
     requires ready { TransactionReady (ways P.meaning Q.meaning K.meaning P.refuses Q.refuses K.refuses) transaction.old }
     requires numbers { HasNumbers out.old }
     requires clock { now < 2 ^ 44 }
-    ensures { IfKept (turn_of result) (IsTold (ways P.meaning Q.meaning K.meaning P.refuses Q.refuses K.refuses) transaction.new out.old out.new (turn_of result)) }
+    requires quiet { IsQuiet transaction.old }
+    ensures told { IfKept (turn_of result) (IsTold (ways P.meaning Q.meaning K.meaning P.refuses Q.refuses K.refuses) transaction.new out.old out.new (turn_of result)) }
+    ensures taken { IfKept (turn_of result) (HasTaken act transaction.old transaction.new (turn_of result)) }
+    ensures goes { IfKept (turn_of result) (StandGoes (ways P.meaning Q.meaning K.meaning P.refuses Q.refuses K.refuses) (λ a. ⊥) ⊤ transaction.old transaction.new out.old out.new (turn_of result)) }
 {
     match act {
         Act::Put(key, value) => transaction.put(pd, key, value, now, out),
@@ -60,7 +65,10 @@ where
     requires arrives { MayArrive arrival }
     requires numbers { HasNumbers out.old }
     requires clock { now < 2 ^ 44 }
-    ensures { IfKept (turn_of result) (IsTold (ways P.meaning Q.meaning K.meaning P.refuses Q.refuses K.refuses) transaction.new out.old out.new (turn_of result)) }
+    requires quiet { IsQuiet transaction.old }
+    ensures told { IfKept (turn_of result) (IsTold (ways P.meaning Q.meaning K.meaning P.refuses Q.refuses K.refuses) transaction.new out.old out.new (turn_of result)) }
+    ensures stayed { IfKept (turn_of result) (HasStayed transaction.old transaction.new) }
+    ensures goes { IfKept (turn_of result) (StandGoes (ways P.meaning Q.meaning K.meaning P.refuses Q.refuses K.refuses) (λ a. a ≡ awaited_as arrival) (is_open transaction.old.work ≡ true) transaction.old transaction.new out.old out.new (turn_of result)) }
 {
     match arrival {
         Arrival::Reply { number, reply } => transaction.take_reply(pd, now, number, reply, out),

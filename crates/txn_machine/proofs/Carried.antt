@@ -91,13 +91,13 @@ module _ (line : Line) (ls : List Line) (old : Lists) (told : newest old ≡ len
   pub posted_mail : all.mail ≡ all_posted (suc (length ls)) c.posted c.mid.mail
   posted_mail = all_mail ∙ ap (λ k. all_posted k c.posted c.mid.mail) count
 
-  same_history : (zs : List Line) → length zs ≤ length ls → history old.mail.sent old.outcomes zs ≡ history all.mail.sent all.outcomes zs
+  pub same_history : (zs : List Line) → length zs ≤ length ls → history old.mail.sent old.outcomes zs ≡ history all.mail.sent all.outcomes zs
   same_history zs low = sym (history_same all.mail.sent old.mail.sent all.outcomes old.outcomes zs (λ j h. stepped.flags j (omega arith)) (λ j h t. stepped.finds j t (omega arith)) (λ j h fs. stepped.sends j fs (omega arith)))
 
-  same_began : (k : ℕ) → k ≤ suc (length ls) → ◌≡◌ {A = Ticket → Bool} (λ t. began old.mail.sleeps k t) (λ t. began all.mail.sleeps k t)
+  pub same_began : (k : ℕ) → k ≤ suc (length ls) → ◌≡◌ {A = Ticket → Bool} (λ t. began old.mail.sleeps k t) (λ t. began all.mail.sleeps k t)
   same_began k low = λ i t. sym (ap (λ (x : Mail). began x.sleeps k t) posted_mail ∙ posted_began (suc (length ls)) c.posted c.mid.mail k t low ∙ ap (λ ss. began ss k t) keeps.sleeps) i
 
-  same_known : (k : ℕ) → k ≤ suc (length ls) → known old.outcomes old.ended k ≡ known all.outcomes all.ended k
+  pub same_known : (k : ℕ) → k ≤ suc (length ls) → known old.outcomes old.ended k ≡ known all.outcomes all.ended k
   same_known k low = λ i j. sym (known_same line ls old told ordered.even good was.rows new c k low j) i
 
   same_outcome : (k : ℕ) (l : Line) → line_at ls k ≡ Some l → role_of l ≡ NoCall → outcome_of old.outcomes k ≡ outcome_of all.outcomes k

@@ -51,7 +51,7 @@ known_none e k o h = by (nat_lt 0 e) (nat_lt e k) refl refl
     by true false x y = refl
     by false b x y = refl
 
-known_past : (e n : ℕ) (o : Outcome) → e ≤ n → is_unfinished o ≡ nat_eq e 0 → known_of e (suc n) o ≡ o
+pub known_past : (e n : ℕ) (o : Outcome) → e ≤ n → is_unfinished o ≡ nat_eq e 0 → known_of e (suc n) o ≡ o
 known_past e n o most h = by (nat_eq e 0) refl
   where
     by : (b : Bool) → nat_eq e 0 ≡ b → known_of e (suc n) o ≡ o

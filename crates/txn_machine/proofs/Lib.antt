@@ -19,9 +19,14 @@ mod Timing
 mod Timestamps
 mod Alive
 mod Keepings
+mod Outs
+mod Staying
+mod Due
 mod Standings
+mod Credits
 mod Noting
 mod LineByLine
+mod Takings
 pub mod Scripts
 mod Ranking
 mod Telling

@@ -9,6 +9,7 @@ use Rattle.txn_post.specs.declared.post.Place.{Place}
 use Rattle.txn_post.specs.declared.post.Place.TheVariants.{Sent, Slept}
 use Rattle.txn_report.specs.declared.report.SentNote.{SentNote}
 use Rattle.txn_report.specs.declared.report.SleepNote.{SleepNote}
+use Rattle.txn_side.specs.Waiting.{Awaited}
 use Rattle.txn_machine.specs.Lists.{newest}
 use Rattle.txn_machine.specs.Notes.{AreNoted, HasSlept, IsNoted, WasSent}
 use Rattle.txn_lines.specs.declared.line.Line.{Line}
@@ -212,8 +213,8 @@ module _ (mail : Mail) (n : ℕ) (m : IsMail mail) (o : CameInOrder n mail) wher
   }
 
 -- the report of a machine that stands for lines
-pub standing_notes : {S : Type 0} (sight : S → Sight) (ready : S → Type 0) (m : Machine S) (sent : List SentNote) (sleeps : List SleepNote) (script : List Line) → sent ≡ m.post.sent → sleeps ≡ m.post.sleeps → HasMemory m → StandsFor sight ready m script → AreNoted (length script) sent sleeps
-standing_notes sight ready m sent sleeps script a b memory stands =
+pub standing_notes : {S : Type 0} (sight : S → Sight) (ready : S → Type 0) (waits : S → ℕ → Awaited → Type 0) (m : Machine S) (sent : List SentNote) (sleeps : List SleepNote) (script : List Line) → sent ≡ m.post.sent → sleeps ≡ m.post.sleeps → HasMemory m → StandsFor sight ready waits m script → AreNoted (length script) sent sleeps
+standing_notes sight ready waits m sent sleeps script a b memory stands =
     let s = stands.stands memory in
     let h = s.ordered.sound in
     subst (λ k. AreNoted k sent sleeps) s.told (rw (a, b) (mail_noted m.post (newest (lists_of sight m)) h.mail h.order h.askers))

@@ -14,7 +14,9 @@ use Rattle.txn_post.proofs.Mails.{none_is_mail}
 use Rattle.txn_report.specs.declared.report.Report.{Report}
 use Rattle.txn_side.specs.Sight.{Sight, Stand, client_at, nobody, number_of, stand_at}
 use Rattle.txn_side.specs.Sight.Stand.{Calling, HasBegun, Idle, IsClient}
+use Rattle.txn_side.specs.Waiting.{Awaited, IsDue, NoneWaits}
 use Rattle.txn_machine.specs.Causes.{AllCallsMeet, AllEnd, AllEventsMeet, AllLive, AreTold, CallsMeetLines, EndsLines, EventsMeetLines, LivesLines, TellsLines, answers, ended_of}
+use Rattle.txn_machine.specs.Dues.{AreDue, AreOut, Dues, DuesLines, StayOut}
 use Rattle.txn_machine.specs.Lists.{Lists, newest, nothing, opened}
 use Rattle.txn_machine.specs.Rows.{Caused, Fate, IsNoRow, Row, outcome_in, role_in}
 use Rattle.txn_machine.specs.Rows.Row.{Acted, AskFailed, AskSkipped, AskWaits, Begun, CallFailed, CallSkipped, CallWaits, Happened, Made, Over, Timed, Works}
@@ -27,9 +29,11 @@ use Rattle.txn_machine.specs.Script.{FoldsLines, Folded, history, outcome_of, se
 use Rattle.txn_law.specs.Run.{store_after}
 use Rattle.txn_machine.proofs.Keepings.{caused_step, timely_step}
 use Rattle.txn_machine.proofs.Coming.{none_in_order}
+use Rattle.txn_machine.proofs.Due.{due_step}
 use Rattle.txn_machine.proofs.Folds.{folded_step}
 use Rattle.txn_machine.proofs.Numberings.{has_line}
 use Rattle.txn_machine.proofs.Orders.{Stays, opened_count, opened_keeps, steps_keep}
+use Rattle.txn_machine.proofs.Staying.{nothing_out}
 use Rattle.txn_machine.proofs.Timestamps.{times_apart}
 use Rattle.txn_machine.specs.declared.done.Done.{Done as Course}
 
@@ -132,8 +136,8 @@ timely_nothing = record {
   times = λ n version e. absurd (let f = sym (ap number_of (none_has_read n).outcome) ∙ e in cc);
 }
 
-pub new_stands : {S : Type 0} (sight : S → Sight) (ready : S → Type 0) (m : Machine S) → m.store ≡ opening → m.post ≡ no_mail → sight m.clients ≡ nobody → m.outcomes.items ≡ [] → m.ended.items ≡ [] → m.served.items ≡ [] → m.kinds ≡ kinds_of [] → ready m.clients → StandsFor sight ready m []
-new_stands sight ready m store post clients outcomes ended served kinds able = record {
+pub new_stands : {S : Type 0} (sight : S → Sight) (ready : S → Type 0) (waits : S → ℕ → Awaited → Type 0) (m : Machine S) → m.store ≡ opening → m.post ≡ no_mail → sight m.clients ≡ nobody → m.outcomes.items ≡ [] → m.ended.items ≡ [] → m.served.items ≡ [] → m.kinds ≡ kinds_of [] → ready m.clients → NoneWaits (waits m.clients) → StandsFor sight ready waits m []
+new_stands sight ready waits m store post clients outcomes ended served kinds able none = record {
   stands = λ h. record {
     led = here;
     able = able;
@@ -142,6 +146,7 @@ new_stands sight ready m store post clients outcomes ended served kinds able = r
     folded = subst (λ l. Folded [] l) (sym here) folded_nothing;
     caused = subst (λ l. Caused [] l) (sym here) caused_nothing;
     timely = subst (λ l. Timely [] l) (sym here) timely_nothing;
+    due = subst (λ l. AreDue (waits m.clients) [] l) (sym here) (record { out = nothing_out (waits m.clients) none; dues = tt });
     kinds = kinds;
   };
   few = omega arith;
@@ -152,33 +157,41 @@ new_stands sight ready m store post clients outcomes ended served kinds able = r
 
 -- A line more.
 
-pub few_lines : {S : Type 0} (sight : S → Sight) (ready : S → Type 0) (m : Machine S) (before : List Line) (line : Line) → why_after before line ≡ None → Standing sight ready m before → newest (lists_of sight m) < max_lines
-few_lines sight ready m before line good s = subst (λ n. n < max_lines) (sym s.told) (good_few before line good)
+pub few_lines : {S : Type 0} (sight : S → Sight) (ready : S → Type 0) (waits : S → ℕ → Awaited → Type 0) (m : Machine S) (before : List Line) (line : Line) → why_after before line ≡ None → Standing sight ready waits m before → newest (lists_of sight m) < max_lines
+few_lines sight ready waits m before line good s = subst (λ n. n < max_lines) (sym s.told) (good_few before line good)
 
-pub step_stands : {S : Type 0} (sight : S → Sight) (ready : S → Type 0) (old new : Machine S) (line : Line) (before : List Line) → Steps line (lists_of sight old) (lists_of sight new) → ready new.clients → (old.kinds ≡ kinds_of before → new.kinds ≡ kinds_of (line ∷ before)) → why_after before line ≡ None → HasMemory old → StandsFor sight ready old before → StandsFor sight ready new (line ∷ before)
-step_stands sight ready old new line before steps able kinds good memory stood = record {
+pub step_stands : {S : Type 0} (sight : S → Sight) (ready : S → Type 0) (waits : S → ℕ → Awaited → Type 0) (old new : Machine S) (line : Line) (before : List Line) → Steps line (lists_of sight old) (lists_of sight new) → ready new.clients → (old.kinds ≡ kinds_of before → new.kinds ≡ kinds_of (line ∷ before)) → why_after before line ≡ None
+    → StayOut (waits old.clients) (waits new.clients) (lists_of sight old) (lists_of sight new) → IsDue (waits new.clients) (sight new.clients) → HasMemory old → StandsFor sight ready waits old before → StandsFor sight ready waits new (line ∷ before)
+step_stands sight ready waits old new line before steps able kinds good stays due memory stood = record {
   stands = λ h. record {
     led = (lists_of sight old, was.led, steps);
     able = able;
     told = let a = next.count in let b = was.told in omega arith;
     ordered = next.ordered;
-    caused = caused_step line before (lists_of sight old) (lists_of sight new) was.told was.ordered good steps was.folded was.caused;
-    timely = timely_step line before (lists_of sight old) (lists_of sight new) was.told was.ordered good steps was.folded was.caused was.timely (let a = next.ordered.even.stands in let b = next.count in let d = was.told in omega arith);
+    caused = caused;
+    timely = timely;
+    due = due_step line before (lists_of sight old) (lists_of sight new) (waits new.clients) was.told was.ordered good steps was.folded was.caused was.due.dues next.ordered.sound.mail caused timely (stays was.due.out) due;
     folded = folded_step line before (lists_of sight old) (lists_of sight new) was.told was.ordered.even.stands was.ordered.sound.mail steps was.folded;
     kinds = kinds was.kinds;
   };
   few = let a = good_few before line good in omega arith;
 }
   where
-    was : Standing sight ready old before
+    was : Standing sight ready waits old before
     was = stood.stands memory
 
     next : Stays (newest (lists_of sight old) + 1) (lists_of sight new)
-    next = steps_keep (lists_of sight old) (few_lines sight ready old before line good was) was.ordered line (lists_of sight new) (good_fine before line good) steps
+    next = steps_keep (lists_of sight old) (few_lines sight ready waits old before line good was) was.ordered line (lists_of sight new) (good_fine before line good) steps
+
+    caused : Caused (line ∷ before) (lists_of sight new)
+    caused = caused_step line before (lists_of sight old) (lists_of sight new) was.told was.ordered good steps was.folded was.caused
+
+    timely : Timely (line ∷ before) (lists_of sight new)
+    timely = timely_step line before (lists_of sight old) (lists_of sight new) was.told was.ordered good steps was.folded was.caused was.timely (let a = next.ordered.even.stands in let b = next.count in let d = was.told in omega arith)
 
 -- where memory was wanting nothing is said
-pub broken_stands : {S : Type 0} (sight : S → Sight) (ready : S → Type 0) (m : Machine S) (line : Line) (before : List Line) → m.broken ≡ true → why_after before line ≡ None → StandsFor sight ready m (line ∷ before)
-broken_stands sight ready m line before broken good = record {
+pub broken_stands : {S : Type 0} (sight : S → Sight) (ready : S → Type 0) (waits : S → ℕ → Awaited → Type 0) (m : Machine S) (line : Line) (before : List Line) → m.broken ≡ true → why_after before line ≡ None → StandsFor sight ready waits m (line ∷ before)
+broken_stands sight ready waits m line before broken good = record {
   stands = λ h. absurd (let e = h.whole in cc);
   few = let a = good_few before line good in omega arith;
 }
@@ -256,3 +269,15 @@ report_times l report script r ordered timely = record {
   each = subst (λ outs. AllTimed report.sent (history report.sent outs script) outs) (sym r.outcomes) (subst (λ sent. AllTimed sent (history sent l.outcomes script) l.outcomes) (sym r.sent) timely.times);
   once = subst (λ outs. AreApart outs) (sym r.outcomes) (times_apart l.mail l.outcomes script ordered.sound.mail timely.times);
 }
+
+pub report_dues : (l : Lists) (report : Report) (script : List Line) → IsReportOf l report → Dues l.mail.sent l.mail.sleeps l.outcomes l.ended script → DuesLines script report
+report_dues l report script r dues =
+    subst (λ sent. Dues sent report.sleeps report.outcomes report.ended script) (sym r.sent)
+    (subst (λ sleeps. Dues l.mail.sent sleeps report.outcomes report.ended script) (sym r.sleeps)
+    (subst (λ outs. Dues l.mail.sent l.mail.sleeps outs report.ended script) (sym r.outcomes)
+    (subst (λ ends. Dues l.mail.sent l.mail.sleeps l.outcomes ends script) (sym r.ended) dues)))
+
+-- The parts of a step.
+
+pub stays_through : (a b c d : ℕ → Awaited → Type 0) (first start over last : Lists) → StayOut a b first start → StayOut b c start over → last ≡ over → c ≡ d → StayOut a d first last
+stays_through a b c d first start over last x y e f o = subst (λ w. AreOut w last) f (subst (λ l. AreOut c l) (sym e) (y (x o)))

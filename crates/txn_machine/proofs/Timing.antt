@@ -225,7 +225,7 @@ gives_time (replies.Tso x) askers n version g = (x, refl, g)
 gives_time _ askers n version g = absurd g
 
 -- a note stands where its ticket leads
-noted_there : (mail : Mail) (note : SentNote) (k : ℕ) → IsMail mail → IsAmong mail.sent note → as_sent (place_of mail.tickets note.ticket) ≡ Some k → slice_get mail.sent k ≡ Some note
+pub noted_there : (mail : Mail) (note : SentNote) (k : ℕ) → IsMail mail → IsAmong mail.sent note → as_sent (place_of mail.tickets note.ticket) ≡ Some k → slice_get mail.sent k ≡ Some note
 noted_there mail note k m among named =
     let r = among_at mail.sent note among in
     let there = m.found note.ticket (Sent r.0) (ap (λ x. option_map (λ (s : SentNote). s.ticket) x) r.1) in

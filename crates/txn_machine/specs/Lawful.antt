@@ -4,9 +4,11 @@ use Rattle.txn_lines.specs.Lines.{why_after}
 use Rattle.txn_lines.specs.declared.line.Line.{Line}
 use Rattle.txn_report.specs.declared.report.Report.{Report}
 use Rattle.txn_machine.specs.Causes.{CallsMeetLines, EndsLines, EventsMeetLines, LivesLines, TellsLines}
+use Rattle.txn_machine.specs.Dues.{DuesLines}
 use Rattle.txn_machine.specs.Notes.{AreNoted}
 use Rattle.txn_machine.specs.Script.{FoldsLines}
 use Rattle.txn_machine.specs.Times.{TimesLines}
+use Rattle.txn_machine.specs.Writes.{WritesMeetLines}
 
 -- each line is not bad after these, the newest first, and the ones between
 abbrev pub AllGood : List Line → List Line → Type 0
@@ -28,3 +30,8 @@ pub record Lawful (script : List Line) (report : Report) : Type 0 where
   pub events : EventsMeetLines (reverse script) report
   -- a timestamp that a call answers is that of its place in a reply that was asked for since its line, and no other call's
   pub times : TimesLines (reverse script) report
+  -- after each line something is out for each call that is open, and whose client has not crashed: a request or a sleep of its own line, or a request for
+  -- timestamps of its client
+  pub dues : DuesLines (reverse script) report
+  -- a write that is not skipped answers in its own line, by what its transaction has taken in: with an error where it is refused, and else Ok
+  pub writes : WritesMeetLines (reverse script) report

@@ -1,4 +1,5 @@
 pub mod Causes
+pub mod Dues
 pub mod Lawful
 pub mod Lists
 pub mod Notes
@@ -8,3 +9,4 @@ pub mod Script
 pub mod Steps
 pub mod Times
 pub mod Told
+pub mod Writes

@@ -14,7 +14,9 @@ use Rattle.txn_report.specs.declared.outcome.Outcome.{Outcome}
 use Rattle.txn_report.specs.declared.report.Report.{Report}
 use Rattle.txn_report.specs.declared.report.SentNote.{SentNote}
 use Rattle.txn_side.specs.Sight.{AskFor, ArePosted, Sight, is_live, next_at}
+use Rattle.txn_side.specs.Waiting.{Awaited}
 use Rattle.txn_side.specs.declared.turn.Posting.{Posting}
+use Rattle.txn_machine.specs.Dues.{AreDue, StayOut}
 use Rattle.txn_machine.specs.Lists.{Lists, followed, newest, nothing, outright}
 use Rattle.txn_machine.specs.Rows.{Caused}
 use Rattle.txn_machine.specs.Script.{Folded}
@@ -83,7 +85,7 @@ pub record IsOrdered (l : Lists) : Type 0 where
 pub record HasMemory {S : Type 0} (m : Machine S) : Type 0 where
   pub whole : m.broken ≡ false
 
-pub record Standing {S : Type 0} (sight : S → Sight) (ready : S → Type 0) (m : Machine S) (lines : List Line) : Type 0 where
+pub record Standing {S : Type 0} (sight : S → Sight) (ready : S → Type 0) (waits : S → ℕ → Awaited → Type 0) (m : Machine S) (lines : List Line) : Type 0 where
   pub led : LedTo lines (lists_of sight m)
   pub able : ready m.clients
   pub told : newest (lists_of sight m) ≡ length lines
@@ -91,23 +93,24 @@ pub record Standing {S : Type 0} (sight : S → Sight) (ready : S → Type 0) (m
   pub folded : Folded lines (lists_of sight m)
   pub caused : Caused lines (lists_of sight m)
   pub timely : Timely lines (lists_of sight m)
+  pub due : AreDue (waits m.clients) lines (lists_of sight m)
   pub kinds : m.kinds ≡ kinds_of lines
 
 -- A machine stands for these lines. Where memory was wanting, nothing is said.
-pub record StandsFor {S : Type 0} (sight : S → Sight) (ready : S → Type 0) (m : Machine S) (lines : List Line) : Type 0 where
-  pub stands : HasMemory m → Standing sight ready m lines
+pub record StandsFor {S : Type 0} (sight : S → Sight) (ready : S → Type 0) (waits : S → ℕ → Awaited → Type 0) (m : Machine S) (lines : List Line) : Type 0 where
+  pub stands : HasMemory m → Standing sight ready waits m lines
   pub few : length lines ≤ max_lines
 
 -- the machine stands for some lines, and memory was never wanting
-pub record Stands {S : Type 0} (sight : S → Sight) (ready : S → Type 0) (m : Machine S) : Type 0 where
+pub record Stands {S : Type 0} (sight : S → Sight) (ready : S → Type 0) (waits : S → ℕ → Awaited → Type 0) (m : Machine S) : Type 0 where
   pub memory : HasMemory m
   pub lines : List Line
-  pub stands : StandsFor sight ready m lines
+  pub stands : StandsFor sight ready waits m lines
 
 -- the machine stands for some lines after which this line is not bad
-pub record CanStep {S : Type 0} (sight : S → Sight) (ready : S → Type 0) (m : Machine S) (line : Line) : Type 0 where
+pub record CanStep {S : Type 0} (sight : S → Sight) (ready : S → Type 0) (waits : S → ℕ → Awaited → Type 0) (m : Machine S) (line : Line) : Type 0 where
   pub lines : List Line
-  pub stands : StandsFor sight ready m lines
+  pub stands : StandsFor sight ready waits m lines
   pub good : why_after lines line ≡ None
 
 -- a report of lists
@@ -144,6 +147,10 @@ pub record CanPost (posted : List Posting) (mail : Mail) (nexts : List ℕ) : Ty
 pub record CanClose (done : Course) (l : Lists) : Type 0 where
   pub some : 1 ≤ newest l
   pub post : CanPost done.turn.posted.items l.mail l.sight.nexts
+
+-- what the clients waited for stays out, up to the end of the step
+pub record KeepOut (was is : ℕ → Awaited → Type 0) (old : Lists) (done : Course) (l : Lists) : Type 0 where
+  pub stays : StayOut was is old (closed done l)
 
 -- What is out
 

@@ -3,15 +3,18 @@ ghost use Rattle.std.specs.Prelude.{◌≡◌, ◌+◌, ◌++◌, ◌∷◌, ◌
 ghost use Rattle.txn_lines.specs.Kinds.{kinds_of};
 ghost use Rattle.txn_lines.specs.Lines.{max_lines, why_after};
 ghost use Rattle.txn_machine.specs.Causes.{CallsMeetLines, EndsLines, EventsMeetLines, LivesLines, TellsLines};
+ghost use Rattle.txn_machine.specs.Dues.{DuesLines, StayOut};
 ghost use Rattle.txn_machine.specs.Lists.{Lists, all_ended, all_posted, ended_at, newest, opened, outright, posted_at, with_mail};
 ghost use Rattle.txn_machine.specs.Notes.{AreNoted};
-ghost use Rattle.txn_machine.specs.Running.{CanClose, CanPost, CanStep, HasMemory, IsEven, IsFine, IsOrdered, IsReportOf, LedTo, Stands, StandsFor, closed, lists_of, outs_at, outs_until, with_own};
+ghost use Rattle.txn_machine.specs.Running.{CanClose, CanPost, CanStep, HasMemory, IsEven, IsFine, IsOrdered, IsReportOf, KeepOut, LedTo, Stands, StandsFor, closed, lists_of, outs_at, outs_until, with_own};
 ghost use Rattle.txn_machine.specs.Script.{FoldsLines, outcome_of};
 ghost use Rattle.txn_machine.specs.Steps.{Calls, Does, Steps, called, ended_in, posted_in};
 ghost use Rattle.txn_machine.specs.Times.{TimesLines};
 ghost use Rattle.txn_machine.specs.Told.{ArePast, CanTell, IsNote, IsNoteOf, OwnEnds, ending_at, view_of_ending};
+ghost use Rattle.txn_machine.specs.Writes.{AsksIt, Credited, Credits, TakenIn, WritesMeetLines, ask_of, own_by};
 ghost use Rattle.txn_post.specs.Mail.{IsNext};
 ghost use Rattle.txn_report.specs.OutcomeView.{view_of_outcome};
+ghost use Rattle.txn_side.specs.Account.{AreKept, AreNew};
 ghost use Rattle.txn_side.specs.Sight.{Acts, nobody, ticket_in};
 
 mod events;
@@ -72,7 +75,9 @@ impl<S: ClientSide> Machine<S> {
     pub fn new(alloc: Global, clients: S) -> Result<Machine<S>, NoMemory>
         requires nobody { S.sight clients ≡ nobody }
         requires ready { S.ready clients }
-        ensures stands { IfOk result (λ machine. StandsFor S.sight S.ready machine []) }
+        requires accounts { AreNew (S.account clients) }
+        ensures stands { IfOk result (λ machine. StandsFor S.sight S.ready S.waits machine []) }
+        ensures taken { IfOk result (λ machine. TakenIn S.account machine []) }
         ensures memory { IfOk result HasMemory }
     {
         Ok(Machine {
@@ -90,15 +95,16 @@ impl<S: ClientSide> Machine<S> {
 
     /// Why a line is bad after the lines that the machine stands for.
     pub fn check(&self, line: &Line) -> Option<Why>
-        ensures { HasMemory self.now → (lines : List Line) → StandsFor S.sight S.ready self.now lines → result ≡ why_after lines line.now }
+        ensures { HasMemory self.now → (lines : List Line) → StandsFor S.sight S.ready S.waits self.now lines → result ≡ why_after lines line.now }
     {
         self.kinds.why(line)
     }
 
     /// Runs one line more, which is not bad. Once a step has answered `NoMemory`, every later one does.
     pub fn step(&mut self, line: Line) -> Result<StepNote, NoMemory>
-        requires { CanStep S.sight S.ready self.old line }
-        ensures stands { (lines : List Line) → StandsFor S.sight S.ready self.old lines → why_after lines line ≡ None → StandsFor S.sight S.ready self.new (line ∷ lines) }
+        requires { CanStep S.sight S.ready S.waits self.old line }
+        ensures stands { (lines : List Line) → StandsFor S.sight S.ready S.waits self.old lines → why_after lines line ≡ None → StandsFor S.sight S.ready S.waits self.new (line ∷ lines) }
+        ensures taken { (lines : List Line) → StandsFor S.sight S.ready S.waits self.old lines → why_after lines line ≡ None → TakenIn S.account self.old lines → TakenIn S.account self.new (line ∷ lines) }
         ensures memory { OnOk result (HasMemory self.old × HasMemory self.new) }
         ensures broken { OnErr result (HasMemory self.new → ⊥) }
         ensures note { IfOk result (λ note. IsNote (lists_of S.sight self.new) note) }
@@ -126,7 +132,9 @@ impl<S: ClientSide> Machine<S> {
         requires fine { IsFine line }
         requires past { ArePast (lists_of S.sight self.old) }
         ensures lists { OnOk result (Steps line (lists_of S.sight self.old) (lists_of S.sight self.new)) }
+        ensures out { OnOk result (StayOut (S.waits self.old.clients) (S.waits self.new.clients) (lists_of S.sight self.old) (lists_of S.sight self.new)) }
         ensures ready { OnOk result (S.ready self.new.clients) }
+        ensures credited { OnOk result (Credited (ask_of line) (S.account self.old.clients) (S.account self.new.clients) (lists_of S.sight self.new)) }
         ensures kinds { OnOk result ((lines : List Line) → self.old.kinds ≡ kinds_of lines → self.new.kinds ≡ kinds_of (line ∷ lines)) }
         ensures note { IfOk result (λ note. IsNote (lists_of S.sight self.new) note) }
     {
@@ -151,7 +159,9 @@ impl<S: ClientSide> Machine<S> {
     fn open(&mut self) -> Result<(), NoMemory>
         requires { S.ready self.old.clients }
         ensures lists { OnOk result (lists_of S.sight self.new ≡ opened (lists_of S.sight self.old)) }
+        ensures out { OnOk result (StayOut (S.waits self.old.clients) (S.waits self.new.clients) (lists_of S.sight self.old) (lists_of S.sight self.new)) }
         ensures ready { OnOk result (S.ready self.new.clients) }
+        ensures accounts { OnOk result (AreKept (S.account self.old.clients) (S.account self.new.clients)) }
     {
         self.post.open()?;
         self.clients.open()?;
@@ -169,7 +179,9 @@ impl<S: ClientSide> Machine<S> {
         ensures does { IfOk result (λ done. Does line (lists_of S.sight self.old) (closed done (lists_of S.sight self.new))) }
         ensures can { IfOk result (λ done. CanClose done (lists_of S.sight self.new)) }
         ensures tells { IfOk result (λ done. CanTell (lists_of S.sight self.old) done (lists_of S.sight self.new)) }
+        ensures out { IfOk result (λ done. KeepOut (S.waits self.old.clients) (S.waits self.new.clients) (lists_of S.sight self.old) done (lists_of S.sight self.new)) }
         ensures ready { OnOk result (S.ready self.new.clients) }
+        ensures credits { IfOk result (Credits (ask_of line) (newest (lists_of S.sight self.old)) (S.account self.old.clients) (S.account self.new.clients)) }
     {
         match line {
             Line::Blank => Ok(self.outright(Outcome::Done)),
@@ -226,6 +238,7 @@ impl<S: ClientSide> Machine<S> {
         ensures posted { result.turn.posted.items ≡ posted_in turn }
         ensures own { OwnEnds result.outcome }
         ensures ended { result.turn.ended.items ≡ ended_in turn }
+        ensures outcome { result.outcome ≡ own_by turn }
     {
         match turn {
             None => self.outright(Outcome::Skipped),
@@ -244,7 +257,9 @@ impl<S: ClientSide> Machine<S> {
         ensures does { IfOk result (λ done. Does Line.Client (lists_of S.sight self.old) (closed done (lists_of S.sight self.new))) }
         ensures can { IfOk result (λ done. CanClose done (lists_of S.sight self.new)) }
         ensures tells { IfOk result (λ done. CanTell (lists_of S.sight self.old) done (lists_of S.sight self.new)) }
+        ensures out { IfOk result (λ done. KeepOut (S.waits self.old.clients) (S.waits self.new.clients) (lists_of S.sight self.old) done (lists_of S.sight self.new)) }
         ensures ready { OnOk result (S.ready self.new.clients) }
+        ensures accounts { OnOk result (AreKept (S.account self.old.clients) (S.account self.new.clients)) }
     {
         self.clients.connect(self.store.clock())?;
         let mut turn = Turn::new(self.alloc);
@@ -262,7 +277,9 @@ impl<S: ClientSide> Machine<S> {
         ensures does { IfOk result (λ done. Does (Line.Begin client options) (lists_of S.sight self.old) (closed done (lists_of S.sight self.new))) }
         ensures can { IfOk result (λ done. CanClose done (lists_of S.sight self.new)) }
         ensures tells { IfOk result (λ done. CanTell (lists_of S.sight self.old) done (lists_of S.sight self.new)) }
+        ensures out { IfOk result (λ done. KeepOut (S.waits self.old.clients) (S.waits self.new.clients) (lists_of S.sight self.old) done (lists_of S.sight self.new)) }
         ensures ready { OnOk result (S.ready self.new.clients) }
+        ensures accounts { OnOk result (AreKept (S.account self.old.clients) (S.account self.new.clients)) }
     {
         let now = self.store.clock();
         let turn = self.clients.begin(client, options, now)?;
@@ -276,7 +293,9 @@ impl<S: ClientSide> Machine<S> {
         ensures does { IfOk result (λ done. Does (Line.Timestamp client) (lists_of S.sight self.old) (closed done (lists_of S.sight self.new))) }
         ensures can { IfOk result (λ done. CanClose done (lists_of S.sight self.new)) }
         ensures tells { IfOk result (λ done. CanTell (lists_of S.sight self.old) done (lists_of S.sight self.new)) }
+        ensures out { IfOk result (λ done. KeepOut (S.waits self.old.clients) (S.waits self.new.clients) (lists_of S.sight self.old) done (lists_of S.sight self.new)) }
         ensures ready { OnOk result (S.ready self.new.clients) }
+        ensures accounts { OnOk result (AreKept (S.account self.old.clients) (S.account self.new.clients)) }
     {
         let turn = self.clients.timestamp(client, self.store.clock())?;
         Ok(self.called(turn))
@@ -290,7 +309,9 @@ impl<S: ClientSide> Machine<S> {
         ensures does { IfOk result (λ done. Calls (Acts act transaction) (lists_of S.sight self.old) (closed done (lists_of S.sight self.new))) }
         ensures can { IfOk result (λ done. CanClose done (lists_of S.sight self.new)) }
         ensures tells { IfOk result (λ done. CanTell (lists_of S.sight self.old) done (lists_of S.sight self.new)) }
+        ensures out { IfOk result (λ done. KeepOut (S.waits self.old.clients) (S.waits self.new.clients) (lists_of S.sight self.old) done (lists_of S.sight self.new)) }
         ensures ready { OnOk result (S.ready self.new.clients) }
+        ensures takes { IfOk result (AsksIt (record { transaction = transaction; act = act }) (newest (lists_of S.sight self.old)) (S.account self.old.clients) (S.account self.new.clients)) }
     {
         let turn = self.clients.act(transaction, act, self.store.clock())?;
         Ok(self.called(turn))
@@ -421,7 +442,7 @@ impl<S: ClientSide> Machine<S> {
 
     /// Every ticket that is out, by line and number.
     pub fn outs(&self) -> Result<Vec<Ticket>, NoMemory>
-        requires { Stands S.sight S.ready self.now }
+        requires { Stands S.sight S.ready S.waits self.now }
         ensures { IfOk result (λ outs. outs.items ≡ outs_until (lists_of S.sight self.now) (newest (lists_of S.sight self.now))) }
     {
         let mut outs = Vec::new(self.alloc);
@@ -435,15 +456,17 @@ impl<S: ClientSide> Machine<S> {
     pub fn report(self) -> Report
         requires { HasMemory self }
         ensures own { IsReportOf (lists_of S.sight self) result }
-        ensures lists { (lines : List Line) → StandsFor S.sight S.ready self lines → (l : Lists) × LedTo lines l × IsReportOf l result }
-        ensures folded { (lines : List Line) → StandsFor S.sight S.ready self lines → FoldsLines lines result }
-        ensures told { (lines : List Line) → StandsFor S.sight S.ready self lines → TellsLines lines result }
-        ensures ends { (lines : List Line) → StandsFor S.sight S.ready self lines → EndsLines lines result }
-        ensures lives { (lines : List Line) → StandsFor S.sight S.ready self lines → LivesLines lines result }
-        ensures calls { (lines : List Line) → StandsFor S.sight S.ready self lines → CallsMeetLines lines result }
-        ensures events { (lines : List Line) → StandsFor S.sight S.ready self lines → EventsMeetLines lines result }
-        ensures times { (lines : List Line) → StandsFor S.sight S.ready self lines → TimesLines lines result }
-        ensures noted { (lines : List Line) → StandsFor S.sight S.ready self lines → AreNoted (length lines) result.sent result.sleeps }
+        ensures lists { (lines : List Line) → StandsFor S.sight S.ready S.waits self lines → (l : Lists) × LedTo lines l × IsReportOf l result }
+        ensures folded { (lines : List Line) → StandsFor S.sight S.ready S.waits self lines → FoldsLines lines result }
+        ensures told { (lines : List Line) → StandsFor S.sight S.ready S.waits self lines → TellsLines lines result }
+        ensures ends { (lines : List Line) → StandsFor S.sight S.ready S.waits self lines → EndsLines lines result }
+        ensures lives { (lines : List Line) → StandsFor S.sight S.ready S.waits self lines → LivesLines lines result }
+        ensures calls { (lines : List Line) → StandsFor S.sight S.ready S.waits self lines → CallsMeetLines lines result }
+        ensures events { (lines : List Line) → StandsFor S.sight S.ready S.waits self lines → EventsMeetLines lines result }
+        ensures times { (lines : List Line) → StandsFor S.sight S.ready S.waits self lines → TimesLines lines result }
+        ensures dues { (lines : List Line) → StandsFor S.sight S.ready S.waits self lines → DuesLines lines result }
+        ensures noted { (lines : List Line) → StandsFor S.sight S.ready S.waits self lines → AreNoted (length lines) result.sent result.sleeps }
+        ensures writes { (lines : List Line) → TakenIn S.account self lines → WritesMeetLines lines result }
     {
         let (sent, sleeps) = self.post.into_notes();
         Report {

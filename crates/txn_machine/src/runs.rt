@@ -1,6 +1,7 @@
 //! Whole scripts.
 ghost use Rattle.std.specs.Prelude.{◌≡◌, [], IfOk};
 ghost use Rattle.txn_machine.specs.Lawful.{AllGood, Lawful};
+ghost use Rattle.txn_side.specs.Account.{AreNew};
 ghost use Rattle.txn_side.specs.Sight.{nobody};
 
 use crate::machine::Machine;
@@ -18,6 +19,7 @@ pub fn run_lines<S: ClientSide>(
 ) -> Result<Report, NoMemory>
     requires nobody { S.sight clients ≡ nobody }
     requires ready { S.ready clients }
+    requires accounts { AreNew (S.account clients) }
     requires good { AllGood [] lines.items }
     ensures { IfOk result (λ report. Lawful lines.items report) }
 {

@@ -1,1 +1,3 @@
+pub mod Account
 pub mod Sight
+pub mod Waiting

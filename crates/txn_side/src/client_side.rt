@@ -1,6 +1,8 @@
 ghost use Rattle.std.specs.List.{All};
-ghost use Rattle.std.specs.Prelude.{◌≡◌, ◌<◌, ◌≤◌, ◌^◌, IfOk, OnOk, false, true};
+ghost use Rattle.std.specs.Prelude.{◌≡◌, ◌<◌, ◌≤◌, ◌^◌, ℕ, [], IfOk, OnOk, false, true};
+ghost use Rattle.txn_side.specs.Account.{AreKept, MayTakeIn};
 ghost use Rattle.txn_side.specs.Sight.{Acts, Asks, Goes, IsGiven, Names, NoneGiven, connected, crash, is_live, line_count, opened};
+ghost use Rattle.txn_side.specs.Waiting.{HearsEnd, HearsReply, NoneHeard, WaitsOn, posted_in};
 
 use crate::act::Act;
 use crate::turn::Turn;
@@ -11,7 +13,10 @@ use txn_lines::BeginOptions;
 ///
 /// After a call has answered `NoMemory` nothing more is said of them.
 pub trait ClientSide: Sized + Drop {
-    ghost use Rattle.txn_side.specs.Sight.{Sight};
+    ghost use Rattle.std.specs.Prelude.{◌≡◌, ℕ};
+    ghost use Rattle.txn_side.specs.Sight.{Sight, nobody};
+    ghost use Rattle.txn_side.specs.Waiting.{Awaited, IsDue, NoneWaits};
+    ghost use Rattle.txn_side.specs.Account.{Account};
 
     // What stands at each line, which clients have crashed, and how far the numbers of each line have come.
     ghost sight: { Self → Sight };
@@ -19,11 +24,25 @@ pub trait ClientSide: Sized + Drop {
     // They may be called: what their code rests on.
     ghost ready: { Self → Type 0 };
 
+    // What the call of a line waits for.
+    ghost waits: { Self → ℕ → Awaited → Type 0 };
+
+    // Clients of no line wait for nothing.
+    ghost nobody_waits: { (s : Self) → sight s ≡ nobody → NoneWaits (waits s) };
+
+    // Something is out for each call that waits.
+    ghost due: { (s : Self) → ready s → IsDue (waits s) (sight s) };
+
+    // What the transaction of a line has taken in: nothing, where none has begun there.
+    ghost account: { Self → ℕ → Account };
+
     /// One line more, at which nothing stands.
     fn open(&mut self) -> Result<(), NoMemory>
         requires ready { ready self.old }
         ensures sight { OnOk result (sight self.new ≡ opened (sight self.old)) }
-        ensures ready { OnOk result (ready self.new) };
+        ensures waits { OnOk result (WaitsOn NoneHeard [] (waits self.old) (waits self.new) (sight self.old) (sight self.new)) }
+        ensures ready { OnOk result (ready self.new) }
+        ensures accounts { OnOk result (AreKept (account self.old) (account self.new)) };
 
     /// Whether a line has a client that has not crashed.
     fn is_live(&self, line: u64) -> bool
@@ -35,14 +54,18 @@ pub trait ClientSide: Sized + Drop {
         requires line { 1 ≤ line_count (sight self.old) }
         requires clock { now < 2 ^ 44 }
         ensures sight { OnOk result (sight self.new ≡ connected (sight self.old)) }
-        ensures ready { OnOk result (ready self.new) };
+        ensures waits { OnOk result (WaitsOn NoneHeard [] (waits self.old) (waits self.new) (sight self.old) (sight self.new)) }
+        ensures ready { OnOk result (ready self.new) }
+        ensures accounts { OnOk result (AreKept (account self.old) (account self.new)) };
 
     /// The client of a line is gone, and its open calls and jobs with it. Whether it was there.
     fn crash(&mut self, line: u64) -> bool
         requires ready { ready self.old }
         ensures there { result ≡ is_live (sight self.old) line }
         ensures gone { sight self.new ≡ crash line (sight self.old) }
-        ensures ready { ready self.new };
+        ensures waits { WaitsOn NoneHeard [] (waits self.old) (waits self.new) (sight self.old) (sight self.new) }
+        ensures ready { ready self.new }
+        ensures accounts { AreKept (account self.old) (account self.new) };
 
     /// The newest line begins a transaction of a line's client; none where that has crashed.
     fn begin(
@@ -55,7 +78,9 @@ pub trait ClientSide: Sized + Drop {
         requires line { 1 ≤ line_count (sight self.old) }
         requires clock { now < 2 ^ 44 }
         ensures turn { IfOk result (Asks true client (sight self.old) (sight self.new)) }
-        ensures ready { OnOk result (ready self.new) };
+        ensures waits { IfOk result (λ turn. WaitsOn NoneHeard (posted_in turn) (waits self.old) (waits self.new) (sight self.old) (sight self.new)) }
+        ensures ready { OnOk result (ready self.new) }
+        ensures accounts { OnOk result (AreKept (account self.old) (account self.new)) };
 
     /// The newest line asks for a timestamp; none where the client has crashed.
     fn timestamp(&mut self, client: u64, now: u64) -> Result<Option<Turn>, NoMemory>
@@ -63,7 +88,9 @@ pub trait ClientSide: Sized + Drop {
         requires line { 1 ≤ line_count (sight self.old) }
         requires clock { now < 2 ^ 44 }
         ensures turn { IfOk result (Asks false client (sight self.old) (sight self.new)) }
-        ensures ready { OnOk result (ready self.new) };
+        ensures waits { IfOk result (λ turn. WaitsOn NoneHeard (posted_in turn) (waits self.old) (waits self.new) (sight self.old) (sight self.new)) }
+        ensures ready { OnOk result (ready self.new) }
+        ensures accounts { OnOk result (AreKept (account self.old) (account self.new)) };
 
     /// The newest line asks something of a transaction; none where its client has crashed, it has not begun, or a call of it is
     /// open.
@@ -72,16 +99,20 @@ pub trait ClientSide: Sized + Drop {
         requires line { 1 ≤ line_count (sight self.old) }
         requires clock { now < 2 ^ 44 }
         ensures turn { IfOk result (Acts act transaction (sight self.old) (sight self.new)) }
-        ensures ready { OnOk result (ready self.new) };
+        ensures waits { IfOk result (λ turn. WaitsOn NoneHeard (posted_in turn) (waits self.old) (waits self.new) (sight self.old) (sight self.new)) }
+        ensures ready { OnOk result (ready self.new) }
+        ensures accounts { IfOk result (MayTakeIn act transaction (line_count (sight self.old)) (account self.old) (account self.new)) };
 
-    /// A reply comes: to the call of the ticket's line, or from the oracle to those who asked, each of whom gets the timestamp of
-    /// its place. Nothing is done where the line's client has crashed.
+    /// A reply comes: to the call of the ticket's line, or from the oracle to those who asked, none of whom gets a timestamp but that
+    /// of its place. Nothing is done where the line's client has crashed.
     fn take_reply(&mut self, ticket: Ticket, reply: Reply, now: u64) -> Result<Turn, NoMemory>
         requires ready { ready self.old }
         requires clock { now < 2 ^ 44 }
         ensures turn { IfOk result (λ turn. Goes turn.posted.items turn.ended.items (sight self.old) (sight self.new)) }
         ensures given { IfOk result (λ turn. All (Names (IsGiven (sight self.old) ticket reply)) turn.ended.items) }
-        ensures ready { OnOk result (ready self.new) };
+        ensures waits { is_live (sight self.old) ticket.line ≡ true → IfOk result (λ turn. WaitsOn (HearsReply ticket) turn.posted.items (waits self.old) (waits self.new) (sight self.old) (sight self.new)) }
+        ensures ready { OnOk result (ready self.new) }
+        ensures accounts { OnOk result (AreKept (account self.old) (account self.new)) };
 
     /// No reply to the request of the ticket will come.
     fn lost(&mut self, ticket: Ticket, request: &Request, now: u64) -> Result<Turn, NoMemory>
@@ -89,7 +120,9 @@ pub trait ClientSide: Sized + Drop {
         requires clock { now < 2 ^ 44 }
         ensures turn { IfOk result (λ turn. Goes turn.posted.items turn.ended.items (sight self.old) (sight self.new)) }
         ensures given { IfOk result (λ turn. All (Names NoneGiven) turn.ended.items) }
-        ensures ready { OnOk result (ready self.new) };
+        ensures waits { is_live (sight self.old) ticket.line ≡ true → IfOk result (λ turn. WaitsOn (HearsReply ticket) turn.posted.items (waits self.old) (waits self.new) (sight self.old) (sight self.new)) }
+        ensures ready { OnOk result (ready self.new) }
+        ensures accounts { OnOk result (AreKept (account self.old) (account self.new)) };
 
     /// A sleep has ended.
     fn slept(&mut self, ticket: Ticket, now: u64) -> Result<Turn, NoMemory>
@@ -97,5 +130,7 @@ pub trait ClientSide: Sized + Drop {
         requires clock { now < 2 ^ 44 }
         ensures turn { IfOk result (λ turn. Goes turn.posted.items turn.ended.items (sight self.old) (sight self.new)) }
         ensures given { IfOk result (λ turn. All (Names NoneGiven) turn.ended.items) }
-        ensures ready { OnOk result (ready self.new) };
+        ensures waits { is_live (sight self.old) ticket.line ≡ true → IfOk result (λ turn. WaitsOn (HearsEnd ticket) turn.posted.items (waits self.old) (waits self.new) (sight self.old) (sight self.new)) }
+        ensures ready { OnOk result (ready self.new) }
+        ensures accounts { OnOk result (AreKept (account self.old) (account self.new)) };
 }

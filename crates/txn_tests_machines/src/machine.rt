@@ -1,5 +1,5 @@
-ghost use Rattle.std.specs.Prelude.{◌≡◌, [], map, ℕ};
-ghost use Rattle.txn_side.specs.Sight.Stand.{Idle};
+ghost use Rattle.std.specs.Prelude.{◌≡◌, []};
+ghost use Rattle.txn_tests_machines.specs.Nobody.{nobody_at, none, none_due};
 
 use std::alloc::Global;
 use std::test::Fail;
@@ -17,10 +17,19 @@ struct Nobody {
 
 impl ClientSide for Nobody {
     ghost use Rattle.std.specs.Prelude.{⊤};
+    ghost use Rattle.txn_side.specs.Account.{new_account};
 
-    ghost sight = { λ s. record { crashed = []; groups = []; stands = map (λ (n : ℕ). Idle) s.lines.items; nexts = map (λ (n : ℕ). 1) s.lines.items } };
+    ghost sight = { λ s. nobody_at s.lines.items };
 
     ghost ready = { λ s. ⊤ };
+
+    ghost waits = { λ s. none };
+
+    ghost nobody_waits = { λ s is_nobody line a h. h };
+
+    ghost due = { λ s is_ready. none_due s.lines.items };
+
+    ghost account = { λ s n. new_account };
 
     fn open(&mut self) -> Result<(), NoMemory> {
         self.lines.push(0)?;

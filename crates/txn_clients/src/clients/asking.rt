@@ -1,14 +1,21 @@
 //! What a machine asks of the clients.
 ghost use Rattle.std.specs.List.{All};
-ghost use Rattle.std.specs.Prelude.{◌≡◌, ◌<◌, ◌≤◌, ◌^◌, IfOk, IfSome, IsTrue, OnOk, false, is_some, length, slice_index_or, true};
-ghost use Rattle.txn_client.specs.Calls.{CallReady};
+ghost use Rattle.std.specs.Prelude.{◌≡◌, ◌<◌, ◌≤◌, ◌^◌, [], IfOk, IfSome, IsTrue, OnOk, false, is_some, length, slice_index_or, true, ◌≢◌, ℕ, Some};
+ghost use Rattle.txn_client.specs.Calls.{CallReady, called};
+ghost use Rattle.txn_clients.specs.Accounts.{AccountsTold, EndsTold, WantsNew, account_at};
+ghost use Rattle.txn_client.specs.declared.client_call.Stage.TheVariants.{Fresh};
 ghost use Rattle.txn_clients.specs.Clients.{AreReady, HasOut, Listens, crashed_of, row_at, rows_of, sight_of};
 ghost use Rattle.txn_clients.specs.Going.{OfLine};
 ghost use Rattle.txn_clients.specs.Rows.{Brings, MayHear, MayTell, Tells};
+ghost use Rattle.txn_clients.specs.Waiting.{AreRunningBut, GroupsBeside, HearsAt, IsPrepared, IsQuiet, IsReady, IsSound, Steps, book_at, pends};
+ghost use Rattle.txn_clients.specs.declared.told.Told.TheVariants.{Heard};
 ghost use Rattle.txn_commit.specs.Committing.{ways};
+ghost use Rattle.txn_history.specs.Meaning.{IsUnbegun};
 ghost use Rattle.txn_kv.specs.declared.ticket.Ticket.{Ticket as Name};
 ghost use Rattle.txn_plan.specs.Arrivals.{MayArrive};
-ghost use Rattle.txn_side.specs.Sight.{EndsAlone, Goes, IsGiven, Names, NoneGiven, commits, is_free, line_count, stand_at, with_stand};
+ghost use Rattle.txn_core.specs.declared.options.TransactionKind.TheVariants.{Optimistic};
+ghost use Rattle.txn_side.specs.Account.{AreKept, TakesIn};
+ghost use Rattle.txn_side.specs.Sight.{EndsAlone, Goes, IsGiven, Names, NoneGiven, commits, is_free, line_count, stand_at, with_stand, client_at, is_live};
 ghost use Rattle.txn_side.specs.Sight.Stand.{Asking, Calling, HasBegun, Idle};
 
 use crate::answer::Pd;
@@ -28,7 +35,10 @@ use txn_plan::Arrival;
 use txn_side::{Act, ClientSide, Turn};
 
 /// The options of an optimistic transaction that begins so.
-fn options_of(options: BeginOptions) -> TransactionOptions {
+fn options_of(options: BeginOptions) -> TransactionOptions
+    ensures kind { result.kind ≡ Optimistic }
+    ensures writes { result.read_only ≡ false }
+{
     let mut wanted = TransactionOptions::new_optimistic();
     if options.no_locks {
         wanted = wanted.no_resolve_locks();
@@ -82,6 +92,9 @@ where
         now: u64,
     ) -> Result<Turn, NoMemory>
         requires call { CallReady call.stage }
+        requires wants { WantsNew call }
+        requires fresh { call.stage ≡ Fresh }
+        requires unbegun { IsUnbegun called call }
         requires client { slice_index_or (crashed_of self.old) client true ≡ false }
         requires line { 1 ≤ line_count (sight_of self.old) }
         requires ready { AreReady (ways P.meaning Q.meaning K.meaning P.refuses Q.refuses K.refuses) (rows_of self.old) }
@@ -89,7 +102,9 @@ where
         ensures turn { IfOk result (λ turn. Goes turn.posted.items turn.ended.items (with_stand (line_count (sight_of self.old)) (Asking client begins) (sight_of self.old)) (sight_of self.new)) }
         ensures alone { IfOk result (λ turn. EndsAlone (line_count (sight_of self.old)) turn.ended.items) }
         ensures names { IfOk result (λ turn. All (Names NoneGiven) turn.ended.items) }
+        ensures steps { IfOk result (λ turn. IsReady (ways P.meaning Q.meaning K.meaning P.refuses Q.refuses K.refuses) self.old → Steps (ways P.meaning Q.meaning K.meaning P.refuses Q.refuses K.refuses) (λ n a. ⊥) turn.posted.items self.old self.new) }
         ensures ready { OnOk result (AreReady (ways P.meaning Q.meaning K.meaning P.refuses Q.refuses K.refuses) (rows_of self.new)) }
+        ensures accounts { OnOk result (AreKept (account_at (rows_of self.old)) (account_at (rows_of self.new))) }
     {
         // A call begins where nothing stands.
         if !self.is_new() {
@@ -124,7 +139,10 @@ where
         ensures turn { IfOk result (λ turn. Goes turn.posted.items turn.ended.items (sight_of self.old) (sight_of self.new)) }
         ensures alone { IfOk result (λ turn. EndsAlone line turn.ended.items) }
         ensures names { IfOk result (λ turn. All (Names (OfLine line (Tells told))) turn.ended.items) }
+        ensures steps { IfOk result (λ turn. client_at (stand_at (sight_of self.old).stands line) ≡ Some listener.client → IsSound (ways P.meaning Q.meaning K.meaning P.refuses Q.refuses K.refuses) (pends line told []) self.old → ((c : ℕ) → c ≢ listener.client → IsQuiet (book_at self.old c)) → AreRunningBut listener.at (rows_of self.old) → IsPrepared told (row_at (rows_of self.old) listener.at) → Steps (ways P.meaning Q.meaning K.meaning P.refuses Q.refuses K.refuses) (HearsAt line told) turn.posted.items self.old self.new) }
         ensures ready { OnOk result (AreReady (ways P.meaning Q.meaning K.meaning P.refuses Q.refuses K.refuses) (rows_of self.new)) }
+        ensures accounts { OnOk result (AccountsTold told listener.at (rows_of self.old) (rows_of self.new)) }
+        ensures ends { IfOk result (λ turn. EndsTold told (row_at (rows_of self.old) listener.at) line (stand_at (sight_of self.old).stands line) [] turn.ended.items) }
     {
         let mut turn = Turn::new(self.alloc);
         self.go(line, listener, told, now, &mut turn)?;
@@ -148,7 +166,9 @@ where
         ensures turn { IfOk result (λ turn. Goes turn.posted.items turn.ended.items (with_stand (line_count (sight_of self.old)) (Calling client transaction (commits act)) (with_stand transaction (HasBegun client (line_count (sight_of self.old))) (sight_of self.old))) (sight_of self.new)) }
         ensures alone { IfOk result (λ turn. EndsAlone (line_count (sight_of self.old)) turn.ended.items) }
         ensures names { IfOk result (λ turn. All (Names NoneGiven) turn.ended.items) }
+        ensures steps { IfOk result (λ turn. IsReady (ways P.meaning Q.meaning K.meaning P.refuses Q.refuses K.refuses) self.old → Steps (ways P.meaning Q.meaning K.meaning P.refuses Q.refuses K.refuses) (λ n a. ⊥) turn.posted.items self.old self.new) }
         ensures ready { OnOk result (AreReady (ways P.meaning Q.meaning K.meaning P.refuses Q.refuses K.refuses) (rows_of self.new)) }
+        ensures takes { IfOk result (λ turn. TakesIn act transaction (line_count (sight_of self.old)) (account_at (rows_of self.old)) (account_at (rows_of self.new)) turn.ended.items) }
     {
         // A call begins where nothing stands.
         if !self.is_new() {
@@ -182,7 +202,9 @@ where
         requires clock { now < 2 ^ 44 }
         ensures turn { IfOk result (λ turn. Goes turn.posted.items turn.ended.items (sight_of self.old) (sight_of self.new)) }
         ensures names { IfOk result (λ turn. All (Names (OfLine line (Brings arrival))) turn.ended.items) }
+        ensures steps { IfOk result (λ turn. is_live (sight_of self.old) line ≡ true → client_at (stand_at (sight_of self.old).stands line) ≡ Some client → IsReady (ways P.meaning Q.meaning K.meaning P.refuses Q.refuses K.refuses) self.old → Steps (ways P.meaning Q.meaning K.meaning P.refuses Q.refuses K.refuses) (HearsAt line (Heard arrival)) turn.posted.items self.old self.new) }
         ensures ready { OnOk result (AreReady (ways P.meaning Q.meaning K.meaning P.refuses Q.refuses K.refuses) (rows_of self.new)) }
+        ensures accounts { OnOk result (AreKept (account_at (rows_of self.old)) (account_at (rows_of self.new))) }
     {
         let mut turn = Turn::new(self.alloc);
         self.tell(line, arrival, now, &mut turn)?;
@@ -197,7 +219,10 @@ where
         requires clock { now < 2 ^ 44 }
         ensures turn { IfOk result (λ turn. Goes turn.posted.items turn.ended.items (sight_of self.old) (sight_of self.new)) }
         ensures given { IfOk result (λ turn. (t : Name) → HasOut (sight_of self.old) client t → All (Names (IsGiven (sight_of self.old) t reply)) turn.ended.items) }
+        ensures steps { IfOk result (λ turn. IsReady (ways P.meaning Q.meaning K.meaning P.refuses Q.refuses K.refuses) self.old → Steps (ways P.meaning Q.meaning K.meaning P.refuses Q.refuses K.refuses) (λ n a. ⊥) turn.posted.items self.old self.new) }
+        ensures groups { IfOk result (λ turn. IsReady (ways P.meaning Q.meaning K.meaning P.refuses Q.refuses K.refuses) self.old → GroupsBeside client turn.posted.items (sight_of self.old) (sight_of self.new)) }
         ensures ready { OnOk result (AreReady (ways P.meaning Q.meaning K.meaning P.refuses Q.refuses K.refuses) (rows_of self.new)) }
+        ensures accounts { OnOk result (AreKept (account_at (rows_of self.old)) (account_at (rows_of self.new))) }
     {
         let mut turn = Turn::new(self.alloc);
         self.take_group(client, reply, now, &mut turn)?;
@@ -212,7 +237,10 @@ where
         requires clock { now < 2 ^ 44 }
         ensures turn { IfOk result (λ turn. Goes turn.posted.items turn.ended.items (sight_of self.old) (sight_of self.new)) }
         ensures given { IfOk result (λ turn. All (Names NoneGiven) turn.ended.items) }
+        ensures steps { IfOk result (λ turn. IsReady (ways P.meaning Q.meaning K.meaning P.refuses Q.refuses K.refuses) self.old → Steps (ways P.meaning Q.meaning K.meaning P.refuses Q.refuses K.refuses) (λ n a. ⊥) turn.posted.items self.old self.new) }
+        ensures groups { IfOk result (λ turn. IsReady (ways P.meaning Q.meaning K.meaning P.refuses Q.refuses K.refuses) self.old → GroupsBeside client turn.posted.items (sight_of self.old) (sight_of self.new)) }
         ensures ready { OnOk result (AreReady (ways P.meaning Q.meaning K.meaning P.refuses Q.refuses K.refuses) (rows_of self.new)) }
+        ensures accounts { OnOk result (AreKept (account_at (rows_of self.old)) (account_at (rows_of self.new))) }
     {
         let mut turn = Turn::new(self.alloc);
         self.lose_group(client, now, &mut turn)?;
@@ -227,12 +255,23 @@ where
     Q: PlanFor<CommitRequest> + Drop,
     K: PlanFor<BatchRollbackRequest> + Drop,
 {
-    ghost use Rattle.txn_clients.specs.Clients.{AreReady, rows_of, sight_of};
+    ghost use Rattle.txn_clients.specs.Accounts.{account_at};
+    ghost use Rattle.txn_clients.specs.Clients.{rows_of, sight_of};
+    ghost use Rattle.txn_clients.specs.Due.{due_when_ready, nobody_waits_so};
+    ghost use Rattle.txn_clients.specs.Waiting.{IsReady, waits_of};
     ghost use Rattle.txn_commit.specs.Committing.{ways};
 
     ghost sight = { sight_of };
 
-    ghost ready = { λ s. AreReady (ways P.meaning Q.meaning K.meaning P.refuses Q.refuses K.refuses) (rows_of s) };
+    ghost ready = { IsReady (ways P.meaning Q.meaning K.meaning P.refuses Q.refuses K.refuses) };
+
+    ghost waits = { waits_of (ways P.meaning Q.meaning K.meaning P.refuses Q.refuses K.refuses) };
+
+    ghost nobody_waits = { nobody_waits_so (ways P.meaning Q.meaning K.meaning P.refuses Q.refuses K.refuses) };
+
+    ghost due = { due_when_ready (ways P.meaning Q.meaning K.meaning P.refuses Q.refuses K.refuses) };
+
+    ghost account = { λ s. account_at (rows_of s) };
 
     fn open(&mut self) -> Result<(), NoMemory> {
         self.places.push(Place::new())?;

@@ -1,13 +1,17 @@
 //! Timestamps: the groups of asks that go out, and what comes of them.
-ghost use Rattle.std.specs.Prelude.{◌≡◌, ◌<◌, ◌≤◌, ◌^◌, ℕ, [], length, slice_set, true, IfOk, IfSome, IsTrue, OnOk};
+ghost use Rattle.std.specs.Prelude.{◌≡◌, ◌<◌, ◌≤◌, ◌^◌, ℕ, [], List, Some, false, length, map, slice_set, true, IfOk, IfSome, IsTrue, OnOk};
 ghost use Rattle.std.specs.List.{All};
+ghost use Rattle.txn_clients.specs.Accounts.{account_at};
 ghost use Rattle.txn_clients.specs.Clients.{AreGiven, AreReady, HasOut, IsLine, asks_at, crashed_of, groups_of, nexts_of, rows_of, sight_of};
 ghost use Rattle.txn_clients.specs.Going.{Advances, NamesIn};
 ghost use Rattle.txn_clients.specs.Groups.{IsRefused, IsTimeFor, IsTimed};
+ghost use Rattle.txn_clients.specs.Waiting.{AreRunning, EndsGroup, GoesOn, IsSound, RegroupsAt, SendsGroup, SendsOn, SetsTicket, Takes, book_at};
 ghost use Rattle.txn_commit.specs.Committing.{ways};
 ghost use Rattle.txn_kv.specs.declared.request.Request.TheVariants.{Tso};
 ghost use Rattle.txn_kv.specs.declared.ticket.Ticket.{Ticket as Name};
-ghost use Rattle.txn_side.specs.Sight.{AskFor, GroupsGo, IsGiven, IsNext, NoneGiven, is_live, line_count};
+ghost use Rattle.txn_side.specs.Account.{AreKept};
+ghost use Rattle.txn_side.specs.Sight.{AskFor, GroupsGo, IsGiven, IsNext, NoneGiven, is_live, line_count, client_at, stand_at};
+ghost use Rattle.txn_tso.specs.declared.asker.Asker.{Asker};
 
 use crate::client_state::{Answers, Group};
 use crate::clients::Clients;
@@ -22,7 +26,8 @@ use txn_side::{Posting, Turn};
 impl<P, Q, K> Clients<P, Q, K> {
     /// Whether this is the ticket of the group of a client that is out.
     pub(crate) fn is_group(&self, client: usize, ticket: Ticket) -> bool
-        ensures { IsTrue result → HasOut (sight_of self.now) client ticket }
+        ensures is { IsTrue result → HasOut (sight_of self.now) client ticket }
+        ensures not { result ≡ false → (book_at self.now client).ticket ≡ Some ticket → ⊥ }
     {
         match self.clients.get(client) {
             None => false,
@@ -40,6 +45,7 @@ impl<P, Q, K> Clients<P, Q, K> {
         ensures group { IfOk result (λ group. IfSome group (λ g. (line : ℕ) × AskFor line (Tso g.request) g.askers)) }
         ensures askers { IfOk result (λ group. IfSome group (λ g. g.askers ≡ asks_at self.new client)) }
         ensures lines { IfOk result (λ group. IfSome group (λ g. All (λ n. n ≤ line_count (sight_of self.new)) g.askers)) }
+        ensures regroups { IfOk result (λ group. RegroupsAt client group self.old self.new) }
     {
         let newest = self.newest();
         self.clients[client].next_group(self.alloc, newest)
@@ -54,6 +60,7 @@ impl<P, Q, K> Clients<P, Q, K> {
         ensures groups { OnOk result (GroupsGo [] (sight_of self.old) (sight_of self.new)) }
         ensures times { IfOk result (λ given. All IsTimeFor given.items) }
         ensures given { IfOk result (λ given. AreGiven (sight_of self.old) client reply given.items) }
+        ensures takes { IfOk result (λ given. Takes client given.items self.old self.new) }
     {
         self.clients[client].take_group(self.alloc, reply)
     }
@@ -67,6 +74,7 @@ impl<P, Q, K> Clients<P, Q, K> {
         ensures groups { OnOk result (GroupsGo [] (sight_of self.old) (sight_of self.new)) }
         ensures times { IfOk result (λ given. All IsTimeFor given.items) }
         ensures refused { IfOk result (λ given. All IsRefused given.items) }
+        ensures takes { IfOk result (λ given. Takes client given.items self.old self.new) }
     {
         self.clients[client].lose_group(self.alloc)
     }
@@ -78,19 +86,32 @@ impl<P, Q, K> Clients<P, Q, K> {
         ensures nexts { nexts_of self.new ≡ nexts_of self.old }
         ensures crashed { crashed_of self.new ≡ crashed_of self.old }
         ensures groups { groups_of self.new ≡ slice_set (groups_of self.old) client (Some (record { ticket = ticket; askers = asks_at self.old client })) }
+        ensures ticket { SetsTicket client ticket self.old self.new }
     {
         self.clients[client].group = Some(ticket);
     }
 
-    /// The next ticket of a line.
-    fn next_ticket(&self, line: u64) -> Result<Ticket, NoMemory>
+    /// Whether a line is of this client, which has not crashed.
+    fn is_of(&self, line: u64, client: usize) -> bool
+        ensures live { IsTrue result → is_live (sight_of self.now) line ≡ true }
+        ensures own { IsTrue result → client_at (stand_at (sight_of self.now).stands line) ≡ Some client }
+    {
+        match self.live_client(line) {
+            None => false,
+            Some(own) => own == client,
+        }
+    }
+
+    /// The next ticket of a line of a client.
+    fn next_ticket(&self, client: usize, line: u64) -> Result<Ticket, NoMemory>
         ensures next { IfOk result (IsNext (nexts_of self.now)) }
         ensures line { IfOk result (λ ticket. ticket.line ≡ line) }
         ensures is { OnOk result (IsLine (sight_of self.now).stands line) }
         ensures live { OnOk result (is_live (sight_of self.now) line ≡ true) }
+        ensures own { OnOk result (client_at (stand_at (sight_of self.now).stands line) ≡ Some client) }
     {
-        // Only lines of clients that have not crashed ask.
-        if self.live_client(line).is_none() {
+        // Only lines of a client that has not crashed ask its oracle.
+        if !self.is_of(line, client) {
             return Err(NoMemory);
         }
         Ok(ticket_of(line, self.places[line as usize - 1].next))
@@ -106,12 +127,14 @@ impl<P, Q, K> Clients<P, Q, K> {
         ensures ended { OnOk result (turn.new.ended ≡ turn.old.ended) }
         ensures rows { OnOk result (rows_of self.new ≡ rows_of self.old) }
         ensures crashed { OnOk result (crashed_of self.new ≡ crashed_of self.old) }
+        ensures sends { OnOk result (SendsGroup client turn.old.posted.items turn.new.posted.items self.old self.new) }
+        ensures groups { OnOk result (GroupsGo turn.new.posted.items (sight_of self.old) (sight_of self.new)) }
     {
         let line = match group.askers.as_slice().first() {
             None => return Ok(()),
             Some(line) => *line,
         };
-        let ticket = self.next_ticket(line)?;
+        let ticket = self.next_ticket(client, line)?;
         let posting = Posting::Send {
             ticket,
             to: Target::Placement,
@@ -122,19 +145,6 @@ impl<P, Q, K> Clients<P, Q, K> {
         self.set_group(client, ticket);
         Ok(())
     }
-
-    /// At the end of a step the next group of a client goes out, unless one is out already or nobody asks.
-    pub(crate) fn send_group(&mut self, client: usize, turn: &mut Turn) -> Result<(), NoMemory>
-        requires { client < length (crashed_of self.old) }
-        ensures advances { OnOk result (Advances turn.old turn.new (sight_of self.old) (sight_of self.new)) }
-        ensures ended { OnOk result (turn.new.ended ≡ turn.old.ended) }
-        ensures rows { OnOk result (rows_of self.new ≡ rows_of self.old) }
-    {
-        match self.next_group(client)? {
-            None => Ok(()),
-            Some(group) => self.send_request(client, group, turn),
-        }
-    }
 }
 
 impl<P, Q, K> Clients<P, Q, K>
@@ -143,6 +153,21 @@ where
     Q: PlanFor<CommitRequest>,
     K: PlanFor<BatchRollbackRequest>,
 {
+    /// At the end of a step the next group of a client goes out, unless one is out already or nobody asks.
+    pub(crate) fn send_group(&mut self, client: usize, turn: &mut Turn) -> Result<(), NoMemory>
+        requires { client < length (crashed_of self.old) }
+        ensures advances { OnOk result (Advances turn.old turn.new (sight_of self.old) (sight_of self.new)) }
+        ensures ended { OnOk result (turn.new.ended ≡ turn.old.ended) }
+        ensures rows { OnOk result (rows_of self.new ≡ rows_of self.old) }
+        ensures waits { OnOk result ((rest : List Asker) → IsSound (ways P.meaning Q.meaning K.meaning P.refuses Q.refuses K.refuses) rest self.old → SendsOn (ways P.meaning Q.meaning K.meaning P.refuses Q.refuses K.refuses) client rest turn.old.posted.items turn.new.posted.items self.old self.new) }
+        ensures groups { OnOk result (GroupsGo turn.new.posted.items (sight_of self.old) (sight_of self.new)) }
+    {
+        match self.next_group(client)? {
+            None => Ok(()),
+            Some(group) => self.send_request(client, group, turn),
+        }
+    }
+
     /// The reply to the group of a client that is out.
     pub(crate) fn take_group(
         &mut self,
@@ -157,10 +182,13 @@ where
         ensures advances { OnOk result (Advances turn.old turn.new (sight_of self.old) (sight_of self.new)) }
         ensures names { OnOk result ((t : Name) → HasOut (sight_of self.old) client t → NamesIn (IsGiven (sight_of self.old) t reply) turn.old turn.new) }
         ensures ready { OnOk result (AreReady (ways P.meaning Q.meaning K.meaning P.refuses Q.refuses K.refuses) (rows_of self.new)) }
+        ensures accounts { OnOk result (AreKept (account_at (rows_of self.old)) (account_at (rows_of self.new))) }
         ensures crashed { OnOk result (crashed_of self.new ≡ crashed_of self.old) }
+        ensures waits { OnOk result (IsSound (ways P.meaning Q.meaning K.meaning P.refuses Q.refuses K.refuses) [] self.old → EndsGroup (ways P.meaning Q.meaning K.meaning P.refuses Q.refuses K.refuses) client turn.old.posted.items turn.new.posted.items self.old self.new) }
+        ensures runs { OnOk result (AreRunning (rows_of self.old) → AreRunning (rows_of self.new)) }
     {
         let given = self.take_times(client, reply)?;
-        self.give(given, now, turn)
+        self.give(client, given, now, turn)
     }
 
     /// No reply to the group of a client that is out will come.
@@ -176,23 +204,39 @@ where
         ensures advances { OnOk result (Advances turn.old turn.new (sight_of self.old) (sight_of self.new)) }
         ensures names { OnOk result (NamesIn NoneGiven turn.old turn.new) }
         ensures ready { OnOk result (AreReady (ways P.meaning Q.meaning K.meaning P.refuses Q.refuses K.refuses) (rows_of self.new)) }
+        ensures accounts { OnOk result (AreKept (account_at (rows_of self.old)) (account_at (rows_of self.new))) }
         ensures crashed { OnOk result (crashed_of self.new ≡ crashed_of self.old) }
+        ensures waits { OnOk result (IsSound (ways P.meaning Q.meaning K.meaning P.refuses Q.refuses K.refuses) [] self.old → EndsGroup (ways P.meaning Q.meaning K.meaning P.refuses Q.refuses K.refuses) client turn.old.posted.items turn.new.posted.items self.old self.new) }
+        ensures runs { OnOk result (AreRunning (rows_of self.old) → AreRunning (rows_of self.new)) }
     {
         let given = self.lose_times(client)?;
-        self.give(given, now, turn)
+        self.give(client, given, now, turn)
     }
 
     /// Each asker is told its answer, in their order.
-    fn give(&mut self, given: Answers, now: u64, turn: &mut Turn) -> Result<(), NoMemory>
+    fn give(
+        &mut self,
+        client: usize,
+        given: Answers,
+        now: u64,
+        turn: &mut Turn,
+    ) -> Result<(), NoMemory>
         requires times { All IsTimeFor given.items }
         requires ready { AreReady (ways P.meaning Q.meaning K.meaning P.refuses Q.refuses K.refuses) (rows_of self.old) }
         requires clock { now < 2 ^ 44 }
         ensures advances { OnOk result (Advances turn.old turn.new (sight_of self.old) (sight_of self.new)) }
         ensures names { OnOk result (NamesIn (IsTimed given.items) turn.old turn.new) }
         ensures ready { OnOk result (AreReady (ways P.meaning Q.meaning K.meaning P.refuses Q.refuses K.refuses) (rows_of self.new)) }
+        ensures accounts { OnOk result (AreKept (account_at (rows_of self.old)) (account_at (rows_of self.new))) }
         ensures crashed { OnOk result (crashed_of self.new ≡ crashed_of self.old) }
+        ensures waits { OnOk result (IsSound (ways P.meaning Q.meaning K.meaning P.refuses Q.refuses K.refuses) (map (λ a. a.0) given.items) self.old → GoesOn (ways P.meaning Q.meaning K.meaning P.refuses Q.refuses K.refuses) client (λ n a. ⊥) [] turn.old.posted.items turn.new.posted.items self.old self.new) }
+        ensures runs { OnOk result (AreRunning (rows_of self.old) → AreRunning (rows_of self.new)) }
     {
         for (asker, answer) in given {
+            // Only lines of a client that has not crashed ask its oracle.
+            if !self.is_of(asker.line, client) {
+                return Err(NoMemory);
+            }
             let arrival = Arrival::Time {
                 ask: asker.ask,
                 answer,

@@ -1,12 +1,15 @@
 //! What the calls of the lines want done is posted.
 ghost use Rattle.std.specs.Bool.{MatchBool};
-ghost use Rattle.std.specs.Prelude.{◌≡◌, ◌<◌, ◌++◌, ◌∷◌, ⊤, [], false, length, true, IfOk, OnOk};
+ghost use Rattle.std.specs.Prelude.{◌≡◌, ◌-◌, ◌<◌, ◌++◌, ◌∷◌, ⊤, [], List, false, length, slice_set, true, IfOk, OnOk};
 ghost use Rattle.txn_clients.specs.Clients.{IsLine, crashed_of, groups_of, nexts_of, rows_of, sight_of};
 ghost use Rattle.txn_clients.specs.Going.{Advances, AreNext, HasNext, next_after};
+ghost use Rattle.txn_clients.specs.Waiting.{AsksOne, HandsOn, PostsOne, asks_of, posted_at};
 ghost use Rattle.txn_history.specs.Posted.{HasNumbers};
+ghost use Rattle.txn_history.specs.Posted.{Errand as Wanted};
 ghost use Rattle.txn_kv.specs.declared.request.Request.TheVariants.{Tso};
 ghost use Rattle.txn_kv.specs.declared.request.TsoRequest.{TsoRequest as Asks};
 ghost use Rattle.txn_side.specs.Sight.{AskersAre, HasAskers, IsNext, is_live, line_count, next_at, ticket_in, with_next};
+ghost use Rattle.txn_side.specs.Waiting.Awaited.{ReplyTo};
 
 use crate::clients::Clients;
 use crate::place::NUMBERS_END;
@@ -25,6 +28,7 @@ impl<P, Q, K> Clients<P, Q, K> {
         requires { IsLine (sight_of self.now).stands line }
         ensures next { IfOk result (λ out. out.next ≡ next_at (nexts_of self.now) line) }
         ensures sends { IfOk result (λ out. out.sends ≡ []) }
+        ensures is { IfOk result (λ out. out ≡ posted_at (nexts_of self.now) (asks_of self.now) line) }
         ensures numbers { IfOk result HasNumbers }
     {
         self.places[line as usize - 1].outbox(self.alloc, line)
@@ -35,6 +39,7 @@ impl<P, Q, K> Clients<P, Q, K> {
         requires { IsLine (sight_of self.old).stands line }
         ensures rows { rows_of self.new ≡ rows_of self.old }
         ensures nexts { nexts_of self.new ≡ nexts_of self.old }
+        ensures asks { asks_of self.new ≡ slice_set (asks_of self.old) (line - 1) next_ask }
         ensures clients { self.new.clients ≡ self.old.clients }
     {
         self.places[line as usize - 1].next_ask = next_ask;
@@ -45,6 +50,7 @@ impl<P, Q, K> Clients<P, Q, K> {
         requires { IsLine (sight_of self.old).stands line }
         ensures rows { OnOk result (rows_of self.new ≡ rows_of self.old) }
         ensures nexts { OnOk result (nexts_of self.new ≡ with_next (nexts_of self.old) line) }
+        ensures asks { OnOk result (asks_of self.new ≡ asks_of self.old) }
         ensures clients { self.new.clients ≡ self.old.clients }
     {
         let next = self.places[line as usize - 1].next;
@@ -73,6 +79,7 @@ impl<P, Q, K> Clients<P, Q, K> {
         ensures ended { OnOk result (turn.new.ended ≡ turn.old.ended) }
         ensures rows { OnOk result (rows_of self.new ≡ rows_of self.old) }
         ensures nexts { OnOk result (nexts_of self.new ≡ with_next (nexts_of self.old) line) }
+        ensures asks { OnOk result (asks_of self.new ≡ asks_of self.old) }
         ensures clients { OnOk result (self.new.clients ≡ self.old.clients) }
     {
         turn.posted.push(posting)?;
@@ -95,7 +102,9 @@ impl<P, Q, K> Clients<P, Q, K> {
         ensures ended { OnOk result (turn.new.ended ≡ turn.old.ended) }
         ensures rows { OnOk result (rows_of self.new ≡ rows_of self.old) }
         ensures nexts { OnOk result (nexts_of self.new ≡ with_next (nexts_of self.old) line) }
+        ensures asks { OnOk result (asks_of self.new ≡ asks_of self.old) }
         ensures clients { OnOk result (self.new.clients ≡ self.old.clients) }
+        ensures posts { OnOk result (PostsOne line (ReplyTo number) turn.old.posted.items turn.new.posted.items) }
     {
         // Timestamps are asked for by the oracle, and by nobody else.
         if is_tso(&request) {
@@ -117,6 +126,7 @@ impl<P, Q, K> Clients<P, Q, K> {
         ensures nexts { OnOk result (nexts_of self.new ≡ nexts_of self.old) }
         ensures crashed { OnOk result (crashed_of self.new ≡ crashed_of self.old) }
         ensures groups { OnOk result (groups_of self.new ≡ groups_of self.old) }
+        ensures asks { OnOk result (AsksOne client (record { line = line; beat = false; ask = ask }) self.old self.new) }
     {
         self.clients[client].ask(line, ask)
     }
@@ -138,6 +148,7 @@ impl<P, Q, K> Clients<P, Q, K> {
         ensures rows { OnOk result (rows_of self.new ≡ rows_of self.old) }
         ensures crashed { OnOk result (crashed_of self.new ≡ crashed_of self.old) }
         ensures next { OnOk result (next_at (nexts_of self.new) line ≡ next_after errand (next_at (nexts_of self.old) line)) }
+        ensures hands { OnOk result ((rest : List Wanted) → HandsOn line client (errand ∷ rest) rest turn.old.posted.items turn.new.posted.items self.old self.new) }
     {
         match errand {
             Errand::Send {
@@ -167,6 +178,7 @@ impl<P, Q, K> Clients<P, Q, K> {
         requires live { is_live (sight_of self.old) line ≡ true }
         requires client { client < length (crashed_of self.old) }
         requires next { AreNext (next_at (nexts_of self.old) line) sends.items }
+        ensures hands { OnOk result (HandsOn line client sends.items [] turn.old.posted.items turn.new.posted.items self.old self.new) }
         ensures advances { OnOk result (Advances turn.old turn.new (sight_of self.old) (sight_of self.new)) }
         ensures ended { OnOk result (turn.new.ended ≡ turn.old.ended) }
         ensures rows { OnOk result (rows_of self.new ≡ rows_of self.old) }

@@ -1,15 +1,20 @@
 //! What stands at the lines is told of what came.
-ghost use Rattle.std.specs.Prelude.{◌≡◌, ◌<◌, ◌^◌, ◌-◌, ℕ, true, length, IfOk, IfSome, IsTrue, OnOk};
+ghost use Rattle.std.specs.Prelude.{◌≡◌, ◌<◌, ◌^◌, ◌-◌, ℕ, true, length, IfOk, IfSome, IsTrue, OnOk, Bool, List, None, Some, false};
+ghost use Rattle.txn_clients.specs.Accounts.{AccountsTold, AnswersNew, AnswersTold, BeginsNew, EndsCall, EndsTold, account_at};
 ghost use Rattle.txn_clients.specs.Clients.{AreReady, HearsFor, IsLine, Listens, MayEnd, crashed_of, groups_of, nexts_of, row_at, rows_of, sight_of};
 ghost use Rattle.txn_clients.specs.Going.{Advances, EndsIn, NamesIn, OfLine};
-ghost use Rattle.txn_clients.specs.Rows.{AnswerFits, AskFits, Brings, IsStamped, IsToldIn, MayHear, MayTell, Posts, Rests, Tells};
-ghost use Rattle.txn_clients.specs.declared.told.Told.TheVariants.{Start};
+ghost use Rattle.txn_clients.specs.Rows.{AnswerFits, AskFits, Brings, IsStamped, IsToldIn, MayHear, MayTell, Posts, Rests, Tells, stand_of};
+ghost use Rattle.txn_clients.specs.Waiting.{AreRunning, AreRunningBut, GoesOn, HearsAt, IsAnswerOf, IsHeard, IsNewAnswer, IsPrepared, IsSound, NoneHears, RunsOn, TellsRow, pends};
+ghost use Rattle.txn_clients.specs.declared.answer.Answer.TheVariants.{Asked};
+ghost use Rattle.txn_clients.specs.declared.told.Told.TheVariants.{Heard, Start};
 ghost use Rattle.txn_commit.specs.Committing.{ways};
 ghost use Rattle.txn_core.specs.Waiting.{HandsOut};
 ghost use Rattle.txn_history.specs.Posted.{HasNumbers};
 ghost use Rattle.txn_plan.specs.Arrivals.{MayArrive};
-ghost use Rattle.txn_side.specs.Sight.{NoneGiven, is_live, stand_at};
-ghost use Rattle.txn_side.specs.Sight.Stand.{HasBegun};
+ghost use Rattle.txn_side.specs.Account.{AreKept};
+ghost use Rattle.txn_side.specs.Sight.{NoneGiven, is_live, stand_at, client_at};
+ghost use Rattle.txn_side.specs.Sight.Stand.{HasBegun, Asking, Calling, Working};
+ghost use Rattle.txn_tso.specs.declared.asker.Asker.{Asker};
 
 use crate::answer::{Answer, Pd};
 use crate::clients::{Clients, Listener};
@@ -50,10 +55,16 @@ where
         ensures crashed { OnOk result (crashed_of self.new ≡ crashed_of self.old) }
         ensures groups { OnOk result (groups_of self.new ≡ groups_of self.old) }
         ensures ready { OnOk result (AreReady (ways P.meaning Q.meaning K.meaning P.refuses Q.refuses K.refuses) (rows_of self.new)) }
+        ensures accounts { OnOk result (AccountsTold told listener.at (rows_of self.old) (rows_of self.new)) }
+        ensures answers { IfOk result (AnswersTold told (row_at (rows_of self.old) listener.at)) }
+        ensures begins { IfOk result (λ answer. IfSome answer AnswersNew) }
         ensures posts { OnOk result (Posts out.old out.new) }
         ensures rests { IfOk result (λ answer. IfSome answer (λ a. Rests (row_at (rows_of self.new) listener.at))) }
         ensures fits { IfOk result (λ answer. IfSome answer (AnswerFits (ways P.meaning Q.meaning K.meaning P.refuses Q.refuses K.refuses))) }
         ensures stamped { IfOk result (λ answer. IfSome answer (IsToldIn told)) }
+        ensures tells { IfOk result (λ answer. TellsRow (ways P.meaning Q.meaning K.meaning P.refuses Q.refuses K.refuses) told listener.at self.old self.new out.old out.new answer) }
+        ensures new { IfOk result (λ answer. IfSome answer IsNewAnswer) }
+        ensures kind { IfOk result (λ answer. IfSome answer (IsAnswerOf (stand_of (row_at (rows_of self.old) listener.at)))) }
     {
         let pd = self.clients[listener.client].client.pd();
         self.places[listener.at].row.tell(told, pd, now, out)
@@ -82,9 +93,16 @@ where
         ensures stands { OnOk result ((sight_of self.new).stands ≡ (sight_of self.old).stands) }
         ensures crashed { OnOk result (crashed_of self.new ≡ crashed_of self.old) }
         ensures ready { OnOk result (AreReady (ways P.meaning Q.meaning K.meaning P.refuses Q.refuses K.refuses) (rows_of self.new)) }
+        ensures accounts { OnOk result (AccountsTold told listener.at (rows_of self.old) (rows_of self.new)) }
+        ensures answers { IfOk result (AnswersTold told (row_at (rows_of self.old) listener.at)) }
+        ensures begins { IfOk result (λ answer. IfSome answer AnswersNew) }
         ensures rests { IfOk result (λ answer. IfSome answer (λ a. Rests (row_at (rows_of self.new) listener.at))) }
         ensures fits { IfOk result (λ answer. IfSome answer (AnswerFits (ways P.meaning Q.meaning K.meaning P.refuses Q.refuses K.refuses))) }
         ensures stamped { IfOk result (λ answer. IfSome answer (IsToldIn told)) }
+        ensures waits { OnOk result ((rest : List Asker) → IsHeard (sight_of self.old).stands line listener.at listener.client → IsSound (ways P.meaning Q.meaning K.meaning P.refuses Q.refuses K.refuses) (pends line told rest) self.old → GoesOn (ways P.meaning Q.meaning K.meaning P.refuses Q.refuses K.refuses) listener.client (HearsAt line told) rest turn.old.posted.items turn.new.posted.items self.old self.new) }
+        ensures runs { IfOk result (λ answer. RunsOn told listener.at answer (rows_of self.old) (rows_of self.new)) }
+        ensures new { IfOk result (λ answer. IfSome answer IsNewAnswer) }
+        ensures kind { IfOk result (λ answer. IfSome answer (IsAnswerOf (stand_of (row_at (rows_of self.old) listener.at)))) }
     {
         let mut out = self.outbox(line)?;
         let answer = self.tell_row(listener, told, now, &mut out)?;
@@ -105,10 +123,14 @@ where
         requires live { is_live (sight_of self.old) line ≡ true }
         requires ready { AreReady (ways P.meaning Q.meaning K.meaning P.refuses Q.refuses K.refuses) (rows_of self.old) }
         requires answer { AskFits (ways P.meaning Q.meaning K.meaning P.refuses Q.refuses K.refuses) answer }
+        requires begins { BeginsNew answer }
         ensures advances { OnOk result (Advances turn.old turn.new (sight_of self.old) (sight_of self.new)) }
         ensures alone { OnOk result (EndsIn line turn.old turn.new) }
         ensures names { OnOk result (NamesIn (OfLine line (IsStamped answer)) turn.old turn.new) }
+        ensures waits { OnOk result (IsNewAnswer {P = P} {Q = Q} {K = K} (Asked answer) → (client : ℕ) (rest : List Asker) → IsSound (ways P.meaning Q.meaning K.meaning P.refuses Q.refuses K.refuses) rest self.old → GoesOn (ways P.meaning Q.meaning K.meaning P.refuses Q.refuses K.refuses) client (λ n a. ⊥) rest turn.old.posted.items turn.new.posted.items self.old self.new) }
+        ensures runs { OnOk result ((c : ℕ) (b : Bool) → stand_at (sight_of self.old).stands line ≡ Asking c b → AreRunningBut (line - 1) (rows_of self.old) → AreRunning (rows_of self.new)) }
         ensures ready { OnOk result (AreReady (ways P.meaning Q.meaning K.meaning P.refuses Q.refuses K.refuses) (rows_of self.new)) }
+        ensures accounts { OnOk result (AreKept (account_at (rows_of self.old)) (account_at (rows_of self.new))) }
         ensures crashed { OnOk result (crashed_of self.new ≡ crashed_of self.old) }
     {
         match self.row(line) {
@@ -140,8 +162,13 @@ where
         ensures advances { OnOk result (Advances turn.old turn.new (sight_of self.old) (sight_of self.new)) }
         ensures alone { OnOk result (EndsIn line turn.old turn.new) }
         ensures names { OnOk result (NamesIn NoneGiven turn.old turn.new) }
+        ensures waits { OnOk result ((client : ℕ) (rest : List Asker) → IsSound (ways P.meaning Q.meaning K.meaning P.refuses Q.refuses K.refuses) rest self.old → GoesOn (ways P.meaning Q.meaning K.meaning P.refuses Q.refuses K.refuses) client (λ n a. ⊥) rest turn.old.posted.items turn.new.posted.items self.old self.new) }
+        ensures runs { OnOk result ((c x : ℕ) (b : Bool) → stand_at (sight_of self.old).stands line ≡ Calling c x b → AreRunningBut (x - 1) (rows_of self.old) → AreRunning (rows_of self.new)) }
+        ensures clients { OnOk result ((c : ℕ) → client_at (stand_at (sight_of self.old).stands line) ≡ Some c → client_at (stand_at (sight_of self.new).stands line) ≡ Some c) }
         ensures live { OnOk result (is_live (sight_of self.new) line ≡ true) }
         ensures ready { OnOk result (AreReady (ways P.meaning Q.meaning K.meaning P.refuses Q.refuses K.refuses) (rows_of self.new)) }
+        ensures accounts { OnOk result (AreKept (account_at (rows_of self.old)) (account_at (rows_of self.new))) }
+        ensures ends { OnOk result (EndsCall line (stand_at (sight_of self.old).stands line) answer turn.old.ended.items turn.new.ended.items) }
         ensures crashed { OnOk result (crashed_of self.new ≡ crashed_of self.old) }
         ensures count { OnOk result (length (sight_of self.new).stands ≡ length (sight_of self.old).stands) }
     {
@@ -168,7 +195,8 @@ where
     /// Whether a job stands at a line.
     fn has_job(&self, line: u64) -> bool
         requires { IsLine (sight_of self.now).stands line }
-        ensures { IsTrue result → MayHear Start (row_at (rows_of self.now) (line - 1)) }
+        ensures hears { IsTrue result → MayHear Start (row_at (rows_of self.now) (line - 1)) }
+        ensures job { IsTrue result → (c : ℕ) × (stand_of (row_at (rows_of self.now) (line - 1)) ≡ Working c) }
     {
         matches!(self.row(line), Row::Working { .. })
     }
@@ -189,7 +217,10 @@ where
         ensures advances { OnOk result (Advances turn.old turn.new (sight_of self.old) (sight_of self.new)) }
         ensures ended { OnOk result (turn.new.ended ≡ turn.old.ended) }
         ensures ready { OnOk result (AreReady (ways P.meaning Q.meaning K.meaning P.refuses Q.refuses K.refuses) (rows_of self.new)) }
+        ensures accounts { OnOk result (AreKept (account_at (rows_of self.old)) (account_at (rows_of self.new))) }
         ensures crashed { OnOk result (crashed_of self.new ≡ crashed_of self.old) }
+        ensures waits { OnOk result ((rest : List Asker) → client_at (stand_at (sight_of self.old).stands line) ≡ Some client → IsSound (ways P.meaning Q.meaning K.meaning P.refuses Q.refuses K.refuses) rest self.old → GoesOn (ways P.meaning Q.meaning K.meaning P.refuses Q.refuses K.refuses) client (λ n a. ⊥) rest turn.old.posted.items turn.new.posted.items self.old self.new) }
+        ensures runs { OnOk result (AreRunning (rows_of self.old) → AreRunning (rows_of self.new)) }
     {
         if !self.has_job(line) {
             return Ok(());
@@ -217,7 +248,11 @@ where
         ensures alone { OnOk result (EndsIn line turn.old turn.new) }
         ensures names { OnOk result (NamesIn (OfLine line (Tells told)) turn.old turn.new) }
         ensures ready { OnOk result (AreReady (ways P.meaning Q.meaning K.meaning P.refuses Q.refuses K.refuses) (rows_of self.new)) }
+        ensures accounts { OnOk result (AccountsTold told listener.at (rows_of self.old) (rows_of self.new)) }
+        ensures ends { OnOk result (EndsTold told (row_at (rows_of self.old) listener.at) line (stand_at (sight_of self.old).stands line) turn.old.ended.items turn.new.ended.items) }
         ensures crashed { OnOk result (crashed_of self.new ≡ crashed_of self.old) }
+        ensures waits { OnOk result ((rest : List Asker) → client_at (stand_at (sight_of self.old).stands line) ≡ Some listener.client → IsSound (ways P.meaning Q.meaning K.meaning P.refuses Q.refuses K.refuses) (pends line told rest) self.old → GoesOn (ways P.meaning Q.meaning K.meaning P.refuses Q.refuses K.refuses) listener.client (HearsAt line told) rest turn.old.posted.items turn.new.posted.items self.old self.new) }
+        ensures runs { OnOk result (AreRunningBut listener.at (rows_of self.old) → IsPrepared told (row_at (rows_of self.old) listener.at) → AreRunning (rows_of self.new)) }
     {
         match self.push(line, listener, told, now, turn)? {
             None => Ok(()),
@@ -231,7 +266,8 @@ where
 
     /// Whether the transaction of a line waits for another line.
     fn waits_for(&self, transaction: u64, line: u64) -> bool
-        ensures { IsTrue result → (c : ℕ) × (stand_at (sight_of self.now).stands transaction ≡ HasBegun c line) }
+        ensures is { IsTrue result → (c : ℕ) × (stand_at (sight_of self.now).stands transaction ≡ HasBegun c line) }
+        ensures not { result ≡ false → (c : ℕ) → stand_at (sight_of self.now).stands transaction ≡ HasBegun c line → ⊥ }
     {
         if transaction == 0 || transaction > self.newest() {
             return false;
@@ -248,6 +284,7 @@ where
         ensures client { IfSome result (λ listener. listener.client ≡ client) }
         ensures place { IfSome result (λ listener. listener.at < length (sight_of self.now).stands) }
         ensures hears { IfSome result (λ listener. HearsFor (sight_of self.now).stands line listener.at (stand_at (sight_of self.now).stands line)) }
+        ensures none { result ≡ None → NoneHears (sight_of self.now).stands line (stand_at (sight_of self.now).stands line) }
     {
         let own = line as usize - 1;
         match self.row(line) {
@@ -266,7 +303,9 @@ where
 
     /// Who hears what comes for a line: nobody, where its client has crashed.
     fn listener(&self, line: u64) -> Option<Listener>
-        ensures { IfSome result (λ listener. Listens (sight_of self.now) line listener.at listener.client) }
+        ensures listens { IfSome result (λ listener. Listens (sight_of self.now) line listener.at listener.client) }
+        ensures own { IfSome result (λ listener. client_at (stand_at (sight_of self.now).stands line) ≡ Some listener.client) }
+        ensures none { result ≡ None → is_live (sight_of self.now) line ≡ true → NoneHears (sight_of self.now).stands line (stand_at (sight_of self.now).stands line) }
     {
         match self.live_client(line) {
             None => None,
@@ -288,7 +327,10 @@ where
         ensures advances { OnOk result (Advances turn.old turn.new (sight_of self.old) (sight_of self.new)) }
         ensures names { OnOk result (NamesIn (OfLine line (Brings arrival)) turn.old turn.new) }
         ensures ready { OnOk result (AreReady (ways P.meaning Q.meaning K.meaning P.refuses Q.refuses K.refuses) (rows_of self.new)) }
+        ensures accounts { OnOk result (AreKept (account_at (rows_of self.old)) (account_at (rows_of self.new))) }
         ensures crashed { OnOk result (crashed_of self.new ≡ crashed_of self.old) }
+        ensures waits { OnOk result ((client : ℕ) (rest : List Asker) → is_live (sight_of self.old) line ≡ true → client_at (stand_at (sight_of self.old).stands line) ≡ Some client → IsSound (ways P.meaning Q.meaning K.meaning P.refuses Q.refuses K.refuses) (pends line (Heard arrival) rest) self.old → GoesOn (ways P.meaning Q.meaning K.meaning P.refuses Q.refuses K.refuses) client (HearsAt line (Heard arrival)) rest turn.old.posted.items turn.new.posted.items self.old self.new) }
+        ensures runs { OnOk result (AreRunning (rows_of self.old) → AreRunning (rows_of self.new)) }
     {
         match self.listener(line) {
             None => Ok(()),

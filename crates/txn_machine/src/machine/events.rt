@@ -1,9 +1,11 @@
 //! Events: what becomes of requests and sleeps, and of the store and the clients.
-ghost use Rattle.std.specs.Prelude.{◌≡◌, ◌≤◌, ◌<◌, ◌^◌, [], IfOk, IfSome, OnOk, Some, length};
+ghost use Rattle.std.specs.Prelude.{◌≡◌, ◌≤◌, ◌<◌, ◌^◌, [], IfOk, IfSome, OnOk, Some, length, true};
 ghost use Rattle.txn_post.specs.Mail.{IsSentAt, IsSleptAt};
-ghost use Rattle.txn_side.specs.Sight.{IsGiven};
+ghost use Rattle.txn_side.specs.Account.{AreKept};
+ghost use Rattle.txn_side.specs.Sight.{IsGiven, is_live};
+ghost use Rattle.txn_side.specs.Waiting.{HearsReply, WaitsOn};
 ghost use Rattle.txn_machine.specs.Lists.{Lists, handled, newest, outright, reply_at};
-ghost use Rattle.txn_machine.specs.Running.{CanClose, IsEven, IsOrdered, closed, lists_of};
+ghost use Rattle.txn_machine.specs.Running.{CanClose, IsEven, IsOrdered, KeepOut, closed, lists_of};
 ghost use Rattle.txn_machine.specs.Steps.{Does, Hears, done_if, found_asleep, found_out};
 ghost use Rattle.txn_machine.specs.Told.{CanTell, OwnEnds};
 
@@ -85,7 +87,9 @@ impl<S: ClientSide> Machine<S> {
         ensures does { IfOk result (λ done. Does (Line.Serve ticket) (lists_of S.sight self.old) (closed done (lists_of S.sight self.new))) }
         ensures can { IfOk result (λ done. CanClose done (lists_of S.sight self.new)) }
         ensures tells { IfOk result (λ done. CanTell (lists_of S.sight self.old) done (lists_of S.sight self.new)) }
+        ensures out { IfOk result (λ done. KeepOut (S.waits self.old.clients) (S.waits self.new.clients) (lists_of S.sight self.old) done (lists_of S.sight self.new)) }
         ensures ready { OnOk result (S.ready self.new.clients) }
+        ensures accounts { OnOk result (AreKept (S.account self.old.clients) (S.account self.new.clients)) }
     {
         let Some(place) = self.post.find_unserved(&ticket) else {
             return Ok(self.happened(false));
@@ -103,7 +107,9 @@ impl<S: ClientSide> Machine<S> {
         ensures does { IfOk result (λ done. Does (Line.Answer ticket) (lists_of S.sight self.old) (closed done (lists_of S.sight self.new))) }
         ensures can { IfOk result (λ done. CanClose done (lists_of S.sight self.new)) }
         ensures tells { IfOk result (λ done. CanTell (lists_of S.sight self.old) done (lists_of S.sight self.new)) }
+        ensures out { IfOk result (λ done. KeepOut (S.waits self.old.clients) (S.waits self.new.clients) (lists_of S.sight self.old) done (lists_of S.sight self.new)) }
         ensures ready { OnOk result (S.ready self.new.clients) }
+        ensures accounts { OnOk result (AreKept (S.account self.old.clients) (S.account self.new.clients)) }
     {
         let Some(place) = self.find_out(&ticket) else {
             return Ok(self.happened(false));
@@ -122,7 +128,9 @@ impl<S: ClientSide> Machine<S> {
         ensures does { IfOk result (λ done. Does (Line.Deliver ticket) (lists_of S.sight self.old) (closed done (lists_of S.sight self.new))) }
         ensures can { IfOk result (λ done. CanClose done (lists_of S.sight self.new)) }
         ensures tells { IfOk result (λ done. CanTell (lists_of S.sight self.old) done (lists_of S.sight self.new)) }
+        ensures out { IfOk result (λ done. KeepOut (S.waits self.old.clients) (S.waits self.new.clients) (lists_of S.sight self.old) done (lists_of S.sight self.new)) }
         ensures ready { OnOk result (S.ready self.new.clients) }
+        ensures accounts { OnOk result (AreKept (S.account self.old.clients) (S.account self.new.clients)) }
     {
         let Some(place) = self.find_out(&ticket) else {
             return Ok(self.happened(false));
@@ -143,7 +151,9 @@ impl<S: ClientSide> Machine<S> {
         ensures does { IfOk result (λ done. Does (Line.Busy ticket) (lists_of S.sight self.old) (closed done (lists_of S.sight self.new))) }
         ensures can { IfOk result (λ done. CanClose done (lists_of S.sight self.new)) }
         ensures tells { IfOk result (λ done. CanTell (lists_of S.sight self.old) done (lists_of S.sight self.new)) }
+        ensures out { IfOk result (λ done. KeepOut (S.waits self.old.clients) (S.waits self.new.clients) (lists_of S.sight self.old) done (lists_of S.sight self.new)) }
         ensures ready { OnOk result (S.ready self.new.clients) }
+        ensures accounts { OnOk result (AreKept (S.account self.old.clients) (S.account self.new.clients)) }
     {
         let Some(place) = self.find_out(&ticket) else {
             return Ok(self.happened(false));
@@ -168,7 +178,10 @@ impl<S: ClientSide> Machine<S> {
         ensures hears { IfOk result (λ done. Hears (IsGiven (S.sight self.old.clients) ticket reply) (lists_of S.sight self.old) (closed done (lists_of S.sight self.new))) }
         ensures can { IfOk result (λ done. CanClose done (lists_of S.sight self.new)) }
         ensures tells { IfOk result (λ done. CanTell (lists_of S.sight self.old) done (lists_of S.sight self.new)) }
+        ensures waits { is_live (S.sight self.old.clients) ticket.line ≡ true → IfOk result (λ done. WaitsOn (HearsReply ticket) done.turn.posted.items (S.waits self.old.clients) (S.waits self.new.clients) (S.sight self.old.clients) (S.sight self.new.clients)) }
         ensures ready { OnOk result (S.ready self.new.clients) }
+        ensures post { OnOk result (self.new.post ≡ self.old.post) }
+        ensures accounts { OnOk result (AreKept (S.account self.old.clients) (S.account self.new.clients)) }
     {
         let now = self.store.clock();
         let turn = self.clients.take_reply(ticket, reply, now)?;
@@ -183,7 +196,9 @@ impl<S: ClientSide> Machine<S> {
         ensures does { IfOk result (λ done. Does (Line.Lose ticket) (lists_of S.sight self.old) (closed done (lists_of S.sight self.new))) }
         ensures can { IfOk result (λ done. CanClose done (lists_of S.sight self.new)) }
         ensures tells { IfOk result (λ done. CanTell (lists_of S.sight self.old) done (lists_of S.sight self.new)) }
+        ensures out { IfOk result (λ done. KeepOut (S.waits self.old.clients) (S.waits self.new.clients) (lists_of S.sight self.old) done (lists_of S.sight self.new)) }
         ensures ready { OnOk result (S.ready self.new.clients) }
+        ensures accounts { OnOk result (AreKept (S.account self.old.clients) (S.account self.new.clients)) }
     {
         let Some(place) = self.find_out(&ticket) else {
             return Ok(self.happened(false));
@@ -203,7 +218,9 @@ impl<S: ClientSide> Machine<S> {
         ensures does { IfOk result (λ done. Does (Line.Wake ticket) (lists_of S.sight self.old) (closed done (lists_of S.sight self.new))) }
         ensures can { IfOk result (λ done. CanClose done (lists_of S.sight self.new)) }
         ensures tells { IfOk result (λ done. CanTell (lists_of S.sight self.old) done (lists_of S.sight self.new)) }
+        ensures out { IfOk result (λ done. KeepOut (S.waits self.old.clients) (S.waits self.new.clients) (lists_of S.sight self.old) done (lists_of S.sight self.new)) }
         ensures ready { OnOk result (S.ready self.new.clients) }
+        ensures accounts { OnOk result (AreKept (S.account self.old.clients) (S.account self.new.clients)) }
     {
         let Some(place) = self.find_asleep(&ticket) else {
             return Ok(self.happened(false));
@@ -220,7 +237,9 @@ impl<S: ClientSide> Machine<S> {
         ensures does { IfOk result (λ done. Does (Line.Split key) (lists_of S.sight self.old) (closed done (lists_of S.sight self.new))) }
         ensures can { IfOk result (λ done. CanClose done (lists_of S.sight self.new)) }
         ensures tells { IfOk result (λ done. CanTell (lists_of S.sight self.old) done (lists_of S.sight self.new)) }
+        ensures out { IfOk result (λ done. KeepOut (S.waits self.old.clients) (S.waits self.new.clients) (lists_of S.sight self.old) done (lists_of S.sight self.new)) }
         ensures ready { OnOk result (S.ready self.new.clients) }
+        ensures accounts { OnOk result (AreKept (S.account self.old.clients) (S.account self.new.clients)) }
     {
         let done = self.store.split(&key)?;
         Ok(self.happened(done))
@@ -233,7 +252,9 @@ impl<S: ClientSide> Machine<S> {
         ensures does { IfOk result (λ done. Does (Line.Lead region store) (lists_of S.sight self.old) (closed done (lists_of S.sight self.new))) }
         ensures can { IfOk result (λ done. CanClose done (lists_of S.sight self.new)) }
         ensures tells { IfOk result (λ done. CanTell (lists_of S.sight self.old) done (lists_of S.sight self.new)) }
+        ensures out { IfOk result (λ done. KeepOut (S.waits self.old.clients) (S.waits self.new.clients) (lists_of S.sight self.old) done (lists_of S.sight self.new)) }
         ensures ready { OnOk result (S.ready self.new.clients) }
+        ensures accounts { OnOk result (AreKept (S.account self.old.clients) (S.account self.new.clients)) }
     {
         let done = self.store.lead(region, store);
         Ok(self.happened(done))
@@ -247,7 +268,9 @@ impl<S: ClientSide> Machine<S> {
         ensures does { IfOk result (λ done. Does (Line.Clock ms) (lists_of S.sight self.old) (closed done (lists_of S.sight self.new))) }
         ensures can { IfOk result (λ done. CanClose done (lists_of S.sight self.new)) }
         ensures tells { IfOk result (λ done. CanTell (lists_of S.sight self.old) done (lists_of S.sight self.new)) }
+        ensures out { IfOk result (λ done. KeepOut (S.waits self.old.clients) (S.waits self.new.clients) (lists_of S.sight self.old) done (lists_of S.sight self.new)) }
         ensures ready { OnOk result (S.ready self.new.clients) }
+        ensures accounts { OnOk result (AreKept (S.account self.old.clients) (S.account self.new.clients)) }
     {
         self.store.set_clock(ms);
         Ok(self.happened(true))
@@ -260,7 +283,9 @@ impl<S: ClientSide> Machine<S> {
         ensures does { IfOk result (λ done. Does (Line.Crash client) (lists_of S.sight self.old) (closed done (lists_of S.sight self.new))) }
         ensures can { IfOk result (λ done. CanClose done (lists_of S.sight self.new)) }
         ensures tells { IfOk result (λ done. CanTell (lists_of S.sight self.old) done (lists_of S.sight self.new)) }
+        ensures out { IfOk result (λ done. KeepOut (S.waits self.old.clients) (S.waits self.new.clients) (lists_of S.sight self.old) done (lists_of S.sight self.new)) }
         ensures ready { OnOk result (S.ready self.new.clients) }
+        ensures accounts { OnOk result (AreKept (S.account self.old.clients) (S.account self.new.clients)) }
     {
         let done = self.clients.crash(client);
         Ok(self.happened(done))

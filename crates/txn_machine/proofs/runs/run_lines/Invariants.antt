@@ -1,5 +1,9 @@
 use Rattle.txn_machine.proofs.LineByLine.{RunsOn}
+use Rattle.txn_machine.proofs.Takings.{TakesOn}
 use Rattle.txn_machine.proofs.runs.run_lines.Given as goal
 
 abbrev pub invariant-loop-line : goal.invariant-loop-line
-invariant-loop-line g l = RunsOn g.S.ClientSide.sight g.S.ClientSide.ready l.machine l.fn.lines.items l.line-iterator.rest.items
+invariant-loop-line g l = record {
+  runs : RunsOn g.S.ClientSide.sight g.S.ClientSide.ready g.S.ClientSide.waits l.machine l.fn.lines.items l.line-iterator.rest.items;
+  takes : TakesOn g.S.ClientSide.sight g.S.ClientSide.ready g.S.ClientSide.waits g.S.ClientSide.account l.machine l.fn.lines.items l.line-iterator.rest.items;
+}

@@ -1,4 +1,4 @@
-use Rattle.std.proofs.Common.{◌∙◌, ap, refl}
+use Rattle.std.proofs.Common.{◌∙◌, ap, refl, ◌-◌, sym}
 use Rattle.txn_side.specs.Sight.{NoneGiven, line_count, with_stand}
 use Rattle.txn_side.specs.Sight.Stand.{Asking}
 use Rattle.txn_clients.specs.Clients.{rows_of, sight_of}
@@ -7,6 +7,12 @@ use Rattle.txn_clients.specs.Rows.{Tells}
 use Rattle.txn_clients.specs.declared.told.Told.TheVariants as tells
 use Rattle.txn_clients.proofs.Asking.{asked_listens_now, asked_sight, asking_ready, newest_idle, newest_is, turn_from}
 use Rattle.txn_clients.proofs.Naming.{named_so}
+use Rattle.txn_clients.specs.Accounts.{AccountsTold, account_at}
+use Rattle.txn_clients.specs.declared.row.Row.TheVariants as row
+use Rattle.txn_clients.proofs.Accounting.{idle_line, kept_at, kept_then, started}
+use Rattle.txn_clients.proofs.Telling.{on_ok}
+use Rattle.txn_clients.proofs.Beginning.{ask_steps}
+use Rattle.std.proofs.lemmas.Result.{IfOk-weaker}
 use Rattle.txn_clients.proofs.clients.Clients.ask.Goals as goal
 
 pub step-requires-clause-listens : goal.step-requires-clause-listens
@@ -15,7 +21,7 @@ step-requires-clause-listens g c = asked_listens_now c.args.self.now c.set_row.n
 
 pub step-requires-clause-ready : goal.step-requires-clause-ready
 step-requires-clause-ready g c = asking_ready _ (rows_of c.args.self.now) (rows_of c.set_row.new.self) c.newest-line.result c.args.client c.args.begins c.args.call (newest_is c.args.self.now c.newest-line.result c.requires.line c.newest-line.ensures)
-    (newest_idle c.args.self.now c.newest-line.result c.newest-line.ensures (c.if-not-is_new.ensures refl)) c.requires.ready c.requires.call c.set_row.ensures.rows
+    (newest_idle c.args.self.now c.newest-line.result c.newest-line.ensures (c.if-not-is_new.ensures refl)) c.requires.ready c.requires.call c.requires.wants c.set_row.ensures.rows
 
 pub returns-clause-turn : goal.returns-clause-turn
 returns-clause-turn g c =
@@ -26,3 +32,22 @@ returns-clause-turn g c =
 
 pub returns-clause-names : goal.returns-clause-names
 returns-clause-names g c = named_so c.step.result (OfLine c.newest-line.result (Tells tells.Start)) NoneGiven (λ n v q. q.1) c.step.ensures.names
+
+pub returns-clause-accounts : goal.returns-clause-accounts
+returns-clause-accounts g c =
+    let old = rows_of c.args.self.now in
+    let mid = rows_of c.set_row.new.self in
+    let new = rows_of c.step.new.self in
+    on_ok c.step.result
+    (λ (h : AccountsTold tells.Start (c.newest-line.result - 1) mid new).
+    kept_then (account_at old) (account_at mid) (account_at new)
+    (kept_at old mid (c.newest-line.result - 1) (row.Asking c.args.client c.args.begins c.args.call) c.set_row.ensures.rows
+    (sym (idle_line old c.newest-line.result (newest_is c.args.self.now c.newest-line.result c.requires.line c.newest-line.ensures) (newest_idle c.args.self.now c.newest-line.result c.newest-line.ensures (c.if-not-is_new.ensures refl)))))
+    (started (c.newest-line.result - 1) mid new h))
+    c.step.ensures.accounts
+
+pub returns-clause-steps : goal.returns-clause-steps
+returns-clause-steps g c = IfOk-weaker c.step.result _ _
+    (λ turn f ready. ask_steps _ g.met.P.Plan.lawful g.met.Q.Plan.lawful g.met.K.Plan.lawful c.args.self.now c.set_row.new.self c.step.new.self c.newest-line.result c.args.client c.args.begins c.args.call _ turn.posted.items (newest_is c.args.self.now c.newest-line.result c.requires.line c.newest-line.ensures)
+    (newest_idle c.args.self.now c.newest-line.result c.newest-line.ensures (c.if-not-is_new.ensures refl)) c.requires.client c.requires.fresh c.requires.unbegun c.set_row.ensures.rows c.set_row.ensures.nexts c.set_row.ensures.asks c.set_row.ensures.clients ready f)
+    c.step.ensures.steps

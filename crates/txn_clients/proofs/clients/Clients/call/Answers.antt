@@ -1,13 +1,17 @@
-use Rattle.std.proofs.Common.{◌∙◌, ◌-◌, ap, refl, set}
-use Rattle.txn_side.specs.Sight.{NoneGiven, commits, line_count, with_stand}
+use Rattle.std.proofs.Common.{◌∙◌, ◌-◌, ap, refl, set, []}
+use Rattle.txn_side.specs.Sight.{NoneGiven, commits, line_count, with_stand, stand_at}
 use Rattle.txn_side.specs.Sight.Stand.{Calling, HasBegun}
-use Rattle.txn_clients.specs.Clients.{rows_of, sight_of}
+use Rattle.txn_clients.specs.Clients.{rows_of, sight_of, row_at, stands_of}
 use Rattle.txn_clients.specs.declared.row.Row.TheVariants as row
 use Rattle.txn_clients.specs.Going.{OfLine}
 use Rattle.txn_clients.specs.Rows.{Tells}
 use Rattle.txn_clients.specs.declared.told.Told.TheVariants as tells
-use Rattle.txn_clients.proofs.Asking.{act_hears, called_listens_now, called_sight, calling_ready, newest_idle, newest_is, turn_from}
+use Rattle.txn_clients.proofs.Asking.{act_hears, called_listens_now, called_sight, calling_ready, newest_idle, newest_is, turn_from, called_stand}
 use Rattle.txn_clients.proofs.Naming.{named_so}
+use Rattle.txn_clients.specs.Accounts.{AccountsTold, EndsTold}
+use Rattle.txn_clients.proofs.Accounting.{both_if_ok, takes_in}
+use Rattle.txn_clients.proofs.Beginning.{call_steps}
+use Rattle.std.proofs.lemmas.Result.{IfOk-weaker}
 use Rattle.txn_clients.proofs.clients.Clients.call.Goals as goal
 
 pub step-requires-clause-listens : goal.step-requires-clause-listens
@@ -35,3 +39,23 @@ returns-clause-turn g c =
 
 pub returns-clause-names : goal.returns-clause-names
 returns-clause-names g c = named_so c.step.result (OfLine c.newest-line.result (Tells (tells.Act c.args.act))) NoneGiven (λ n v q. q.1) c.step.ensures.names
+
+pub returns-clause-takes : goal.returns-clause-takes
+returns-clause-takes g c =
+    let old = rows_of c.args.self.now in
+    let mid = rows_of c.set_row.new.self in
+    let new = rows_of c.step.new.self in
+    let is = newest_is c.args.self.now c.newest-line.result c.requires.line c.newest-line.ensures in
+    let idle = newest_idle c.args.self.now c.newest-line.result c.newest-line.ensures (c.if-not-is_new.ensures refl) in
+    let rows = c.set_row.ensures.rows ∙ ap (λ rs. set rs (c.newest-line.result - 1) (row.Calling c.args.client c.args.transaction c.is_commit.result)) c.set_waits.ensures.rows in
+    both_if_ok c.step.result _ _
+    (λ turn told ends. takes_in old mid c.newest-line.result c.args.transaction c.args.client c.is_commit.result is idle c.requires.transaction rows new c.args.act (line_count (sight_of c.args.self.now)) turn.ended.items c.newest-line.ensures c.is_commit.ensures told
+    (called_stand old mid c.newest-line.result c.args.transaction c.args.client c.is_commit.result is rows) ends)
+    c.step.ensures.accounts c.step.ensures.ends
+
+pub returns-clause-steps : goal.returns-clause-steps
+returns-clause-steps g c = IfOk-weaker c.step.result _ _
+    (λ turn f ready. call_steps _ g.met.P.Plan.lawful g.met.Q.Plan.lawful g.met.K.Plan.lawful c.args.self.now c.set_row.new.self c.step.new.self c.newest-line.result c.args.transaction c.args.client c.is_commit.result c.args.act _ turn.posted.items (newest_is c.args.self.now c.newest-line.result c.requires.line c.newest-line.ensures)
+    (newest_idle c.args.self.now c.newest-line.result c.newest-line.ensures (c.if-not-is_new.ensures refl)) c.requires.transaction
+    (c.set_row.ensures.rows ∙ ap (λ rs. set rs (c.newest-line.result - 1) (row.Calling c.args.client c.args.transaction c.is_commit.result)) c.set_waits.ensures.rows) (c.set_row.ensures.nexts ∙ c.set_waits.ensures.nexts) (c.set_row.ensures.asks ∙ c.set_waits.ensures.asks) (c.set_row.ensures.clients ∙ c.set_waits.ensures.clients) ready f)
+    c.step.ensures.steps

@@ -1,9 +1,16 @@
-use Rattle.std.proofs.Common.{◌∙◌, refl, sym}
-use Rattle.txn_clients.specs.Clients.{rows_of}
+use Rattle.std.proofs.Common.{◌-◌, ◌∙◌, refl, sym, ap, subst}
+use Rattle.txn_clients.specs.Clients.{rows_of, stands_of}
 use Rattle.txn_clients.specs.Going.{OfLine}
-use Rattle.txn_clients.specs.Rows.{IsStamped}
+use Rattle.txn_clients.specs.Rows.{IsStamped, stand_of}
 use Rattle.txn_clients.proofs.Naming.{names_one, names_quiet}
-use Rattle.txn_clients.proofs.Telling.{asked_advances, asked_ready, one_ends}
+use Rattle.txn_clients.proofs.Telling.{asked_advances, asked_ready, one_ends, stands_at}
+use Rattle.txn_clients.proofs.Accounting.{asked_kept}
+use Rattle.txn_clients.specs.Waiting.{AreRunning}
+use Rattle.txn_clients.specs.declared.row.Row.TheVariants as row
+use Rattle.txn_clients.proofs.Settling.{asked_goes, asking_row, quiet_goes, row_within, settled_runs}
+use Rattle.txn_clients.proofs.Sights.{ask_settles}
+use Rattle.txn_clients.proofs.Sounding.{running_set}
+use Rattle.txn_clients.proofs.Tables.{stand_of_line}
 use Rattle.txn_clients.proofs.clients.Clients.end_ask.Goals as goal
 
 pub returns-in_ok-push-in-Asking-clause-advances : goal.returns-in_ok-push-in-Asking-clause-advances
@@ -26,3 +33,29 @@ returns-in_ok-push-in-Asking-clause-names g c =
 
 pub returns-in_default-clause-names : goal.returns-in_default-clause-names
 returns-in_default-clause-names g c = names_quiet (OfLine c.args.line (IsStamped c.args.answer)) c.args.turn.now c.args.turn.now refl
+
+pub returns-in_ok-push-in-Asking-clause-accounts : goal.returns-in_ok-push-in-Asking-clause-accounts
+returns-in_ok-push-in-Asking-clause-accounts g c = asked_kept (rows_of c.args.self.now) (rows_of c.set_row.new.self) c.args.line c.in-Asking.client c.in-Asking.begins c.in-Asking.call c.asked-ended.result.row (sym c.row.ensures ∙ c.in-Asking.is) c.asked-ended.ensures.account c.set_row.ensures.rows
+
+pub returns-in_default-clause-accounts : goal.returns-in_default-clause-accounts
+returns-in_default-clause-accounts g c n = refl
+
+pub returns-in_ok-push-in-Asking-clause-waits : goal.returns-in_ok-push-in-Asking-clause-waits
+returns-in_ok-push-in-Asking-clause-waits g c new client rest sound =
+    asked_goes _ g.met.P.Plan.lawful g.met.Q.Plan.lawful g.met.K.Plan.lawful c.args.self.now c.set_row.new.self c.args.line client c.in-Asking.client c.in-Asking.begins c.asked-ended.result.row rest c.args.turn.now.posted.items
+    c.requires.line (stands_at (rows_of c.args.self.now) c.args.line (row.Asking c.in-Asking.client c.in-Asking.begins c.in-Asking.call) c.requires.line (sym c.row.ensures ∙ c.in-Asking.is))
+    (ask_settles c.in-Asking.client c.in-Asking.begins c.asked-ended.result.outcome (stand_of c.asked-ended.result.row) c.asked-ended.ensures.ends) c.asked-ended.ensures.ready (c.asked-ended.ensures.arises new)
+    c.set_row.ensures.rows c.set_row.ensures.nexts c.set_row.ensures.asks c.set_row.ensures.clients sound
+
+pub returns-in_ok-push-in-Asking-clause-runs : goal.returns-in_ok-push-in-Asking-clause-runs
+returns-in_ok-push-in-Asking-clause-runs g c d b e but =
+    subst AreRunning (sym c.set_row.ensures.rows) (running_set (rows_of c.args.self.now) (c.args.line - 1) c.asked-ended.result.row (row_within (rows_of c.args.self.now) c.args.line c.requires.line) but
+    (settled_runs c.in-Asking.client c.asked-ended.result.row (ask_settles c.in-Asking.client c.in-Asking.begins c.asked-ended.result.outcome (stand_of c.asked-ended.result.row) c.asked-ended.ensures.ends)))
+
+pub returns-in_default-clause-waits : goal.returns-in_default-clause-waits
+returns-in_default-clause-waits g c new client rest sound = quiet_goes _ c.args.self.now c.args.self.now client rest c.args.turn.now.posted.items sound (λ n a x. x) (λ n. refl)
+
+pub returns-in_default-clause-runs : goal.returns-in_default-clause-runs
+returns-in_default-clause-runs g c d b e but =
+    let r = asking_row c.row.result.now d b (ap stand_of c.row.ensures ∙ sym (stand_of_line (rows_of c.args.self.now) c.args.line c.requires.line.first) ∙ e) in
+    absurd (c.in_default.not-Asking d b r.0 r.1)

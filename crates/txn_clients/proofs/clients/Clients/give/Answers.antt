@@ -1,15 +1,23 @@
-use Rattle.std.proofs.Common.{◌∙◌, inl, inr, refl, subst, sym}
+use Rattle.std.proofs.Common.{arith, ◌∙◌, inl, inr, refl, subst, sym, map}
 use Rattle.std.proofs.lemmas.List.Elements.{All-tail}
 use Rattle.std.specs.List.{All}
 use Rattle.txn_history.specs.Among.{IsAmong}
 use Rattle.txn_plan.specs.declared.arrival.Arrival.TheVariants.{Time}
-use Rattle.txn_clients.specs.Clients.{sight_of}
+use Rattle.txn_clients.specs.Accounts.{account_at}
+use Rattle.txn_clients.specs.Clients.{rows_of, sight_of}
 use Rattle.txn_clients.specs.Going.{OfLine}
 use Rattle.txn_clients.specs.Groups.{IsTimeFor, IsTimed}
 use Rattle.txn_clients.specs.Rows.{Brings}
+use Rattle.txn_clients.proofs.Accounting.{kept_then}
 use Rattle.txn_clients.proofs.Advances.{advances_quiet, advances_then}
 use Rattle.txn_clients.proofs.Naming.{names_quiet, names_then, names_weaker}
 use Rattle.txn_clients.proofs.Timestamps.{timed_by}
+use Rattle.txn_clients.specs.Waiting.{HearsAt, IsSound, GoesOn}
+use Rattle.txn_clients.specs.declared.told.Told.TheVariants.{Heard}
+use Rattle.txn_clients.proofs.Settling.{goes_on, head_sound, quiet_goes}
+use Rattle.txn_tso.specs.Oracle.{Answer}
+use Rattle.txn_clients.proofs.Kept.{nil_so}
+use Rattle.txn_commit.specs.Committing.{ways}
 use Rattle.txn_clients.proofs.clients.Clients.give.Goals as goal
 
 pub loop-asker-init : goal.loop-asker-init
@@ -17,7 +25,10 @@ loop-asker-init g c = record {
   advances = advances_quiet c.args.turn.now (sight_of c.args.self.now) (sight_of c.args.self.now) refl;
   names = names_quiet (IsTimed c.args.given.items) c.args.turn.now c.args.turn.now refl;
   ready = c.requires.ready;
+  accounts = λ n. refl;
   crashed = refl;
+  waits = λ sound. quiet_goes _ c.args.self.now c.args.self.now c.args.client _ c.args.turn.now.posted.items (subst (λ xs. IsSound (ways g.P.Plan.meaning g.Q.Plan.meaning g.K.Plan.meaning g.P.PlanFor.refuses g.Q.PlanFor.refuses g.K.PlanFor.refuses) (map (λ (a : Answer). a.0) xs) c.args.self.now) (sym c.into_iter-asker-iterator.ensures.into_iter_gives.0) sound) (λ n a x. x) (λ n. refl);
+  runs = λ running. running;
   times = subst (All IsTimeFor) (sym c.into_iter-asker-iterator.ensures.into_iter_gives.0) c.requires.times;
   rest = λ a among. subst (λ xs. IsAmong xs a) c.into_iter-asker-iterator.ensures.into_iter_gives.0 among;
 }
@@ -31,7 +42,21 @@ loop-asker-preserved g c =
           (names_weaker (OfLine c.in-Some.asker.line (Brings (Time c.in-Some.asker.ask c.in-Some.answer))) (IsTimed c.args.given.items) c.loop-asker.turn c.tell.new.turn
           (λ n v q. timed_by c.args.given.items c.in-Some.asker c.in-Some.answer n v here q.0 q.1) c.in_ok-tell.ensures.names);
       ready = c.in_ok-tell.ensures.ready;
+      accounts = kept_then (account_at (rows_of c.args.self.now)) (account_at (rows_of c.loop-asker.self)) (account_at (rows_of c.tell.new.self)) c.loop-asker.invariant.accounts c.in_ok-tell.ensures.accounts;
       crashed = c.in_ok-tell.ensures.crashed ∙ c.loop-asker.invariant.crashed;
+      waits = λ sound.
+          let first = c.loop-asker.invariant.waits sound in
+          let here = head_sound _ c.loop-asker.self c.in-Some.asker (map (λ (a : Answer). a.0) c.next.new.self.rest.items) (subst (λ xs. IsSound (ways g.P.Plan.meaning g.Q.Plan.meaning g.K.Plan.meaning g.P.PlanFor.refuses g.Q.PlanFor.refuses g.K.PlanFor.refuses) (map (λ (a : Answer). a.0) xs) c.loop-asker.self) c.in-Some.ensures.steps.0 first.sound) in
+          goes_on _ c.args.self.now c.loop-asker.self c.tell.new.self c.args.client (λ n a. ⊥) (HearsAt c.in-Some.asker.line (Heard (Time c.in-Some.asker.ask c.in-Some.answer))) _ (map (λ (a : Answer). a.0) c.next.new.self.rest.items) c.args.turn.now.posted.items c.loop-asker.turn.posted.items c.tell.new.turn.posted.items first
+          (c.in_ok-tell.ensures.waits c.args.client (map (λ (a : Answer). a.0) c.next.new.self.rest.items) (c.if-not-is_of.ensures.live refl) (c.if-not-is_of.ensures.own refl) here);
+      runs = λ running. c.in_ok-tell.ensures.runs (c.loop-asker.invariant.runs running);
       times = All-tail IsTimeFor (c.in-Some.asker, c.in-Some.answer) c.next.new.self.rest.items (subst (All IsTimeFor) c.in-Some.ensures.steps.0 c.loop-asker.invariant.times);
       rest = λ a among. c.loop-asker.invariant.rest a (subst (λ xs. IsAmong xs a) (sym c.in-Some.ensures.steps.0) (inr among));
     }
+
+pub returns-clause-waits : goal.returns-clause-waits
+returns-clause-waits g c sound =
+    let rest = c.loop-asker.asker-iterator.rest in
+    let none = c.in-None.ensures.steps.0 in
+    let none_left = nil_so rest.items (let ok = rest.ok in omega (arith, ok, none)) in
+    subst (λ xs. GoesOn (ways g.P.Plan.meaning g.Q.Plan.meaning g.K.Plan.meaning g.P.PlanFor.refuses g.Q.PlanFor.refuses g.K.PlanFor.refuses) c.args.client (λ n a. ⊥) (map (λ (a : Answer). a.0) xs) c.args.turn.now.posted.items c.loop-asker.turn.posted.items c.args.self.now c.loop-asker.self) none_left (c.loop-asker.invariant.waits sound)

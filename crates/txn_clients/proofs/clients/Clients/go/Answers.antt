@@ -1,12 +1,18 @@
-use Rattle.std.proofs.Common.{◌≡◌, subst, sym}
+use Rattle.std.proofs.Common.{◌≡◌, subst, sym, ◌∙◌, ap, Some, refl}
 use Rattle.std.specs.Prelude.{OnOk}
-use Rattle.txn_side.specs.Sight.{EndsAlone, NoneGiven, stand_at}
+use Rattle.txn_side.specs.Sight.{EndsAlone, NoneGiven, client_at, stand_at}
 use Rattle.txn_clients.specs.Clients.{HearsFor, row_at, rows_of, stands_of}
 use Rattle.txn_clients.specs.Going.{NamesIn, OfLine}
-use Rattle.txn_clients.specs.Rows.{IsStamped, IsToldIn, Rests, Tells}
+use Rattle.txn_clients.specs.Rows.{IsStamped, IsToldIn, Rests, Tells, stand_of}
 use Rattle.txn_clients.proofs.Listening.{may_end}
 use Rattle.txn_clients.proofs.Naming.{names_after, names_before, names_quiet, names_weaker}
-use Rattle.txn_clients.proofs.Telling.{ends_within, on_ok, some_at, some_so}
+use Rattle.txn_clients.proofs.Telling.{ends_within, on_ok, some_at, some_so, always_ok}
+use Rattle.txn_side.specs.Account.{AreKept}
+use Rattle.txn_clients.specs.Accounts.{AnswersTold, EndsCall, EndsTold, account_at}
+use Rattle.txn_clients.proofs.Accounting.{ends_asked, ends_called, ends_none, kept_then, told_then}
+use Rattle.txn_clients.specs.Waiting.{AreRunningBut, GoesOn, IsAnswerOf, IsHeard, IsNewAnswer, IsSound}
+use Rattle.txn_clients.proofs.Settling.{asked_at, called_at, goes_on}
+use Rattle.txn_clients.proofs.Voices.{hears_voice}
 use Rattle.txn_clients.proofs.clients.Clients.go.Goals as goal
 
 pub end_call-requires-clause-may : goal.end_call-requires-clause-may
@@ -45,3 +51,85 @@ returns-in_ok-end_call-in-Some-Called-clause-names g c = on_ok c.start_job.resul
     (names_weaker NoneGiven (OfLine c.args.line (Tells c.args.told)) c.push.new.turn c.end_call.new.turn (λ n v q. absurd q) c.in_ok-end_call-in-Some-Called.ensures.names))
     same)
     c.start_job.ensures.ended
+
+pub returns-in-Some-Asked-clause-accounts : goal.returns-in-Some-Asked-clause-accounts
+returns-in-Some-Asked-clause-accounts g c = on_ok c.end_ask.result
+    (λ (k : AreKept (account_at (rows_of c.push.new.self)) (account_at (rows_of c.end_ask.new.self))).
+    told_then c.args.told c.args.listener.at (rows_of c.args.self.now) (rows_of c.push.new.self) (rows_of c.end_ask.new.self) c.in_ok-push.ensures.accounts k)
+    c.end_ask.ensures.accounts
+
+pub returns-in_ok-end_call-in-Some-Called-clause-accounts : goal.returns-in_ok-end_call-in-Some-Called-clause-accounts
+returns-in_ok-end_call-in-Some-Called-clause-accounts g c = on_ok c.start_job.result
+    (λ (k : AreKept (account_at (rows_of c.end_call.new.self)) (account_at (rows_of c.start_job.new.self))).
+    told_then c.args.told c.args.listener.at (rows_of c.args.self.now) (rows_of c.push.new.self) (rows_of c.start_job.new.self) c.in_ok-push.ensures.accounts
+    (kept_then (account_at (rows_of c.push.new.self)) (account_at (rows_of c.end_call.new.self)) (account_at (rows_of c.start_job.new.self)) c.in_ok-end_call-in-Some-Called.ensures.accounts k))
+    c.start_job.ensures.accounts
+
+pub returns-in-None-clause-ends : goal.returns-in-None-clause-ends
+returns-in-None-clause-ends g c =
+    let row = row_at (rows_of c.args.self.now) c.args.listener.at in
+    ends_none c.args.told row c.args.line (stand_at (stands_of (rows_of c.args.self.now)) c.args.line) c.args.turn.now.ended.items c.push.new.turn.ended.items (subst (λ o. AnswersTold c.args.told row o) c.in-None.is c.in_ok-push.ensures.answers)
+
+pub returns-in-Some-Asked-clause-ends : goal.returns-in-Some-Asked-clause-ends
+returns-in-Some-Asked-clause-ends g c =
+    let row = row_at (rows_of c.args.self.now) c.args.listener.at in
+    always_ok c.end_ask.result
+    (ends_asked c.args.told row c.args.line (stand_at (stands_of (rows_of c.args.self.now)) c.args.line) c.args.turn.now.ended.items c.end_ask.new.turn.ended.items c.in-Some-Asked.answer
+    (subst (λ o. AnswersTold c.args.told row o) (c.in-Some-Asked.is ∙ ap (λ x. Some x) c.in-Some-Asked.field-0-is) c.in_ok-push.ensures.answers))
+
+pub returns-in_ok-end_call-in-Some-Called-clause-ends : goal.returns-in_ok-end_call-in-Some-Called-clause-ends
+returns-in_ok-end_call-in-Some-Called-clause-ends g c =
+    let row = row_at (rows_of c.args.self.now) c.args.listener.at in
+    let stand = stand_at (stands_of (rows_of c.args.self.now)) c.args.line in
+    on_ok c.start_job.result
+    (λ (same : c.start_job.new.turn.ended ≡ c.end_call.new.turn.ended).
+    ends_called c.args.told row c.args.line stand c.args.turn.now.ended.items c.start_job.new.turn.ended.items c.in-Some-Called.answer
+    (subst (λ o. AnswersTold c.args.told row o) (c.in-Some-Called.is ∙ ap (λ x. Some x) c.in-Some-Called.field-0-is) c.in_ok-push.ensures.answers)
+    (subst (λ v. EndsCall c.args.line stand c.in-Some-Called.answer c.args.turn.now.ended.items v.items) (sym same)
+    (subst (λ v. EndsCall c.args.line stand c.in-Some-Called.answer v.items c.end_call.new.turn.ended.items) c.in_ok-push.ensures.ended
+    (subst (λ ss. EndsCall c.args.line (stand_at ss c.args.line) c.in-Some-Called.answer c.push.new.turn.ended.items c.end_call.new.turn.ended.items) c.in_ok-push.ensures.stands c.in_ok-end_call-in-Some-Called.ensures.ends))))
+    c.start_job.ensures.ended
+
+pub returns-in-None-clause-waits : goal.returns-in-None-clause-waits
+returns-in-None-clause-waits g c rest own sound =
+    c.in_ok-push.ensures.waits rest (record { own = own; voiced = hears_voice (stands_of (rows_of c.args.self.now)) c.args.line c.args.listener.at c.requires.listens.hears }) sound
+
+pub returns-in-None-clause-runs : goal.returns-in-None-clause-runs
+returns-in-None-clause-runs g c but prepared = let r = c.in_ok-push.ensures.runs but prepared in r.1 c.in-None.is
+
+pub returns-in-Some-Asked-clause-waits : goal.returns-in-Some-Asked-clause-waits
+returns-in-Some-Asked-clause-waits g c = on_ok c.end_ask.result
+    (λ f rest own sound.
+    let first = c.in_ok-push.ensures.waits rest (record { own = own; voiced = hears_voice (stands_of (rows_of c.args.self.now)) c.args.line c.args.listener.at c.requires.listens.hears }) sound in
+    let new = some_at c.in_ok-push.field-0 c.in-Some-Asked.field-0 IsNewAnswer c.in-Some-Asked.is c.in_ok-push.ensures.new in
+    goes_on _ c.args.self.now c.push.new.self c.end_ask.new.self c.args.listener.client _ _ rest rest c.args.turn.now.posted.items c.push.new.turn.posted.items c.end_ask.new.turn.posted.items first
+    (f (subst IsNewAnswer c.in-Some-Asked.field-0-is new) c.args.listener.client rest first.sound))
+    c.end_ask.ensures.waits
+
+pub returns-in-Some-Asked-clause-runs : goal.returns-in-Some-Asked-clause-runs
+returns-in-Some-Asked-clause-runs g c = on_ok c.end_ask.result
+    (λ f but prepared.
+    let kind = subst (IsAnswerOf (stand_of (row_at (rows_of c.args.self.now) c.args.listener.at))) c.in-Some-Asked.field-0-is (some_at c.in_ok-push.field-0 c.in-Some-Asked.field-0 (IsAnswerOf (stand_of (row_at (rows_of c.args.self.now) c.args.listener.at))) c.in-Some-Asked.is c.in_ok-push.ensures.kind) in
+    let at = asked_at (rows_of c.args.self.now) c.args.line c.args.listener.at c.in-Some-Asked.answer c.requires.listens.hears kind in
+    let r = c.in_ok-push.ensures.runs but prepared in
+    f at.c at.b (ap (λ ss. stand_at ss c.args.line) c.in_ok-push.ensures.stands ∙ at.stand) (subst (λ i. AreRunningBut i (rows_of c.push.new.self)) at.place r.0))
+    c.end_ask.ensures.runs
+
+pub returns-in_ok-end_call-in-Some-Called-clause-waits : goal.returns-in_ok-end_call-in-Some-Called-clause-waits
+returns-in_ok-end_call-in-Some-Called-clause-waits g c = on_ok c.start_job.result
+    (λ f rest own sound.
+    let first = c.in_ok-push.ensures.waits rest (record { own = own; voiced = hears_voice (stands_of (rows_of c.args.self.now)) c.args.line c.args.listener.at c.requires.listens.hears }) sound in
+    let ended = c.in_ok-end_call-in-Some-Called.ensures.waits c.args.listener.client rest first.sound in
+    let mine = c.in_ok-end_call-in-Some-Called.ensures.clients c.args.listener.client (ap (λ ss. client_at (stand_at ss c.args.line)) c.in_ok-push.ensures.stands ∙ own) in
+    goes_on _ c.args.self.now c.push.new.self c.start_job.new.self c.args.listener.client _ _ rest rest c.args.turn.now.posted.items c.push.new.turn.posted.items c.start_job.new.turn.posted.items first
+    (goes_on _ c.push.new.self c.end_call.new.self c.start_job.new.self c.args.listener.client _ _ rest rest c.push.new.turn.posted.items c.end_call.new.turn.posted.items c.start_job.new.turn.posted.items ended (f rest mine ended.sound)))
+    c.start_job.ensures.waits
+
+pub returns-in_ok-end_call-in-Some-Called-clause-runs : goal.returns-in_ok-end_call-in-Some-Called-clause-runs
+returns-in_ok-end_call-in-Some-Called-clause-runs g c = on_ok c.start_job.result
+    (λ f but prepared.
+    let kind = subst (IsAnswerOf (stand_of (row_at (rows_of c.args.self.now) c.args.listener.at))) c.in-Some-Called.field-0-is (some_at c.in_ok-push.field-0 c.in-Some-Called.field-0 (IsAnswerOf (stand_of (row_at (rows_of c.args.self.now) c.args.listener.at))) c.in-Some-Called.is c.in_ok-push.ensures.kind) in
+    let at = called_at (rows_of c.args.self.now) c.args.line c.args.listener.at c.in-Some-Called.answer c.requires.listens.hears kind in
+    let r = c.in_ok-push.ensures.runs but prepared in
+    f (c.in_ok-end_call-in-Some-Called.ensures.runs at.c at.x at.b (ap (λ ss. stand_at ss c.args.line) c.in_ok-push.ensures.stands ∙ at.stand) (subst (λ i. AreRunningBut i (rows_of c.push.new.self)) at.place r.0)))
+    c.start_job.ensures.runs

@@ -1,10 +1,13 @@
-use Rattle.std.proofs.Common.{◌<◌, length, refl, sym, ap, ◌∙◌, subst}
+use Rattle.std.proofs.Common.{arith, ◌∷◌, ◌<◌, length, refl, sym, ap, ◌∙◌, subst}
 use Rattle.txn_side.specs.Sight.{next_at}
 use Rattle.txn_clients.specs.Clients.{nexts_of, sight_of, stands_of}
 use Rattle.txn_clients.specs.Going.{AreNext}
 use Rattle.txn_clients.proofs.Advances.{advances_quiet, advances_then, next_done, next_first, next_left}
 use Rattle.txn_clients.proofs.Listening.{live_after}
 use Rattle.txn_clients.proofs.Tables.{line_kept}
+use Rattle.txn_clients.specs.Waiting.{HandsOn}
+use Rattle.txn_clients.proofs.Grouping.{hands_nothing, hands_then}
+use Rattle.txn_clients.proofs.Kept.{nil_so}
 use Rattle.txn_clients.proofs.clients.Clients.hand_out.Goals as goal
 
 pub loop-errand-init : goal.loop-errand-init
@@ -13,6 +16,7 @@ loop-errand-init g c = record {
   ended = refl;
   rows = refl;
   crashed = refl;
+  hands = subst (λ es. HandsOn c.args.line c.args.client c.args.sends.items es c.args.turn.now.posted.items c.args.turn.now.posted.items c.args.self.now c.args.self.now) (sym c.into_iter-errand-iterator.ensures.into_iter_gives.0) (hands_nothing c.args.line c.args.client c.args.sends.items c.args.turn.now.posted.items c.args.self.now);
   next = subst (AreNext (next_at (nexts_of c.args.self.now) c.args.line)) (sym c.into_iter-errand-iterator.ensures.into_iter_gives.0) c.requires.next;
 }
 
@@ -38,5 +42,14 @@ loop-errand-preserved g c =
       ended = done.ended ∙ c.loop-errand.invariant.ended;
       rows = done.rows ∙ c.loop-errand.invariant.rows;
       crashed = done.crashed ∙ c.loop-errand.invariant.crashed;
+      hands = hands_then c.args.line c.args.client c.args.sends.items (c.in-Some.errand ∷ c.next.new.self.rest.items) c.next.new.self.rest.items c.args.turn.now.posted.items c.loop-errand.turn.posted.items c.hand_on.new.turn.posted.items c.args.self.now c.loop-errand.self c.hand_on.new.self
+          (subst (λ es. HandsOn c.args.line c.args.client c.args.sends.items es c.args.turn.now.posted.items c.loop-errand.turn.posted.items c.args.self.now c.loop-errand.self) c.in-Some.ensures.steps.0 c.loop-errand.invariant.hands) (done.hands c.next.new.self.rest.items);
       next = next_done _ _ c.loop-errand.errand-iterator.rest.items c.in-Some.errand c.next.new.self.rest.items c.in-Some.ensures.steps.0 done.next c.loop-errand.invariant.next;
     }
+
+pub returns-clause-hands : goal.returns-clause-hands
+returns-clause-hands g c =
+    let rest = c.loop-errand.errand-iterator.rest in
+    let none = c.in-None.ensures.steps.0 in
+    let none_left = nil_so rest.items (let ok = rest.ok in omega (arith, ok, none)) in
+    subst (λ es. HandsOn c.args.line c.args.client c.args.sends.items es c.args.turn.now.posted.items c.loop-errand.turn.posted.items c.args.self.now c.loop-errand.self) none_left c.loop-errand.invariant.hands

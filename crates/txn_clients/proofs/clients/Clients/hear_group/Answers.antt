@@ -1,7 +1,11 @@
 use Rattle.txn_side.specs.Sight.{IsGiven}
-use Rattle.txn_clients.specs.Clients.{sight_of}
+use Rattle.txn_clients.specs.Clients.{sight_of, rows_of}
 use Rattle.txn_clients.proofs.Asking.{goes_whole}
 use Rattle.txn_clients.proofs.Naming.{named_all}
+use Rattle.txn_clients.specs.Accounts.{account_at}
+use Rattle.txn_clients.proofs.Accounting.{kept_rows, kept_then}
+use Rattle.txn_clients.proofs.Stepping.{group_steps, groups_beside}
+use Rattle.std.specs.Prelude.{[]}
 use Rattle.txn_clients.proofs.clients.Clients.hear_group.Goals as goal
 
 pub returns-clause-turn : goal.returns-clause-turn
@@ -11,3 +15,16 @@ returns-clause-turn g c =
 
 pub returns-clause-given : goal.returns-clause-given
 returns-clause-given g c t out = named_all (IsGiven (sight_of c.args.self.now) t c.args.reply) c.new-turn.result c.take_group.new.turn c.send_group.new.turn c.new-turn.ensures.ended (c.in_ok-take_group.ensures.names t out) c.in_ok-send_group.ensures.ended
+
+pub returns-clause-accounts : goal.returns-clause-accounts
+returns-clause-accounts g c = kept_then (account_at (rows_of c.args.self.now)) (account_at (rows_of c.take_group.new.self)) (account_at (rows_of c.send_group.new.self)) c.in_ok-take_group.ensures.accounts (kept_rows (rows_of c.take_group.new.self) (rows_of c.send_group.new.self) c.in_ok-send_group.ensures.rows)
+
+pub returns-clause-steps : goal.returns-clause-steps
+returns-clause-steps g c ready =
+    let ended = c.in_ok-take_group.ensures.waits ready.sound in
+    group_steps _ c.args.self.now c.take_group.new.self c.send_group.new.self c.args.client _ c.take_group.new.turn.posted.items c.send_group.new.turn.posted.items ended (c.in_ok-send_group.ensures.waits [] ended.sound) c.in_ok-send_group.ensures.rows (c.in_ok-take_group.ensures.runs ready.running) ready.quiet
+
+pub returns-clause-groups : goal.returns-clause-groups
+returns-clause-groups g c ready =
+    let ended = c.in_ok-take_group.ensures.waits ready.sound in
+    groups_beside _ c.args.self.now c.take_group.new.self c.send_group.new.self c.args.client _ c.take_group.new.turn.posted.items c.send_group.new.turn.posted.items ended c.in_ok-send_group.ensures.groups

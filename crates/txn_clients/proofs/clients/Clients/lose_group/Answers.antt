@@ -1,12 +1,18 @@
-use Rattle.std.proofs.Common.{ap}
+use Rattle.std.proofs.Common.{sym, ap, subst}
 use Rattle.txn_side.specs.Sight.{NoneGiven}
-use Rattle.txn_clients.specs.Clients.{sight_of, stands_of}
+use Rattle.txn_clients.specs.Clients.{sight_of, stands_of, rows_of}
 use Rattle.txn_clients.specs.Going.{Advances, NamesIn}
 use Rattle.txn_clients.specs.Groups.{IsTimed}
 use Rattle.txn_clients.proofs.Advances.{advances_left, advances_then}
 use Rattle.txn_clients.proofs.Naming.{names_weaker}
 use Rattle.txn_clients.proofs.Telling.{on_ok}
 use Rattle.txn_clients.proofs.Timestamps.{refused_none}
+use Rattle.txn_side.specs.Account.{AreKept}
+use Rattle.txn_clients.specs.Accounts.{account_at}
+use Rattle.txn_clients.proofs.Accounting.{kept_rows, kept_then}
+use Rattle.txn_clients.proofs.Grouping.{take_sound}
+use Rattle.txn_clients.proofs.Stepping.{group_ends}
+use Rattle.txn_clients.specs.Waiting.{AreRunning}
 use Rattle.txn_clients.proofs.clients.Clients.lose_group.Goals as goal
 
 pub returns-clause-advances : goal.returns-clause-advances
@@ -25,3 +31,20 @@ returns-clause-names g c = on_ok c.give.result
     (λ (f : NamesIn (IsTimed c.in_ok-given.given.items) c.args.turn.now c.give.new.turn).
     names_weaker (IsTimed c.in_ok-given.given.items) NoneGiven c.args.turn.now c.give.new.turn (refused_none c.in_ok-given.given.items c.in_ok-given.ensures.refused) f)
     c.give.ensures.names
+
+pub returns-clause-accounts : goal.returns-clause-accounts
+returns-clause-accounts g c = on_ok c.give.result
+    (λ (k : AreKept (account_at (rows_of c.lose_times.new.self)) (account_at (rows_of c.give.new.self))).
+    kept_then (account_at (rows_of c.args.self.now)) (account_at (rows_of c.lose_times.new.self)) (account_at (rows_of c.give.new.self)) (kept_rows (rows_of c.args.self.now) (rows_of c.lose_times.new.self) c.in_ok-given.ensures.rows) k)
+    c.give.ensures.accounts
+
+pub returns-clause-waits : goal.returns-clause-waits
+returns-clause-waits g c = on_ok c.give.result
+    (λ f sound.
+    let done = c.in_ok-given.ensures in
+    group_ends _ c.args.self.now c.lose_times.new.self c.give.new.self c.args.client c.in_ok-given.given.items c.args.turn.now.posted.items c.give.new.turn.posted.items done.takes done.rows
+    (f (take_sound _ g.met.P.Plan.lawful g.met.Q.Plan.lawful g.met.K.Plan.lawful c.args.self.now c.lose_times.new.self c.args.client c.in_ok-given.given.items done.takes done.rows done.nexts done.crashed sound)))
+    c.give.ensures.waits
+
+pub returns-clause-runs : goal.returns-clause-runs
+returns-clause-runs g c = on_ok c.give.result (λ f running. f (subst AreRunning (sym c.in_ok-given.ensures.rows) running)) c.give.ensures.runs

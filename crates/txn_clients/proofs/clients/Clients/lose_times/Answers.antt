@@ -1,8 +1,10 @@
-use Rattle.std.proofs.Common.{◌≡◌, None, inl}
+use Rattle.std.proofs.Common.{◌≡◌, None, inl, refl}
 use Rattle.txn_clients.specs.Groups.{group_of}
 use Rattle.txn_clients.proofs.Places.{crashed_kept}
 use Rattle.txn_clients.proofs.Sending.{groups_left}
 use Rattle.txn_clients.proofs.Telling.{on_ok}
+use Rattle.txn_clients.proofs.Grouping.{taken}
+use Rattle.txn_clients.proofs.Pushing.{if_ok_with}
 use Rattle.txn_clients.proofs.clients.Clients.lose_times.Goals as goal
 
 pub returns-clause-crashed : goal.returns-clause-crashed
@@ -14,3 +16,6 @@ pub returns-clause-groups : goal.returns-clause-groups
 returns-clause-groups g c = on_ok c.lose_group.result
     (λ (none : group_of c.lose_group.new.self ≡ None). groups_left c.args.self.now.clients.items c.args.client c.lose_group.new.self c.index_mut.result.now c.requires c.index_mut.ensures.value (inl none))
     c.lose_group.ensures.group
+
+pub returns-clause-takes : goal.returns-clause-takes
+returns-clause-takes g c = if_ok_with c.lose_group.result (λ given book askers. taken c.args.self.now _ c.args.client given.items c.lose_group.new.self c.index_mut.result.now refl refl c.requires c.index_mut.ensures.value book askers) c.lose_group.ensures.book c.lose_group.ensures.askers

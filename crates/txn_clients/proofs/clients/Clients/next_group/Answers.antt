@@ -1,8 +1,10 @@
-use Rattle.std.proofs.Common.{◌≡◌, sym}
+use Rattle.std.proofs.Common.{◌≡◌, sym, refl}
 use Rattle.txn_clients.specs.Groups.{IsLeft, group_of, lines_out}
 use Rattle.txn_clients.proofs.Places.{crashed_kept}
 use Rattle.txn_clients.proofs.Sending.{asked_so, asks_put, groups_left, lines_so}
 use Rattle.txn_clients.proofs.Telling.{on_ok}
+use Rattle.txn_clients.proofs.Grouping.{regrouped}
+use Rattle.std.proofs.lemmas.Result.{IfOk-weaker}
 use Rattle.txn_clients.proofs.clients.Clients.next_group.Goals as goal
 
 pub returns-clause-crashed : goal.returns-clause-crashed
@@ -20,3 +22,6 @@ returns-clause-askers g c = asked_so c.next_group.result (lines_out c.next_group
 
 pub returns-clause-lines : goal.returns-clause-lines
 returns-clause-lines g c = lines_so c.next_group.result c.newest-newest.result _ c.newest-newest.ensures c.next_group.ensures.most
+
+pub returns-clause-regroups : goal.returns-clause-regroups
+returns-clause-regroups g c = IfOk-weaker c.next_group.result _ _ (λ group book. regrouped c.args.self.now _ c.args.client group c.next_group.new.self c.index_mut.result.now refl refl c.requires c.index_mut.ensures.value book) c.next_group.ensures.regroups

@@ -1,5 +1,6 @@
 use Rattle.std.proofs.Common.{refl}
 use Rattle.txn_clients.proofs.Places.{nexts_raised, rows_kept}
+use Rattle.txn_clients.proofs.Numbers.{asks_kept}
 use Rattle.txn_clients.proofs.clients.Clients.raise.Goals as goal
 
 pub returns-clause-rows : goal.returns-clause-rows
@@ -7,3 +8,6 @@ returns-clause-rows g c = rows_kept c.args.self.now c.args.line _ c.index_mut.re
 
 pub returns-clause-nexts : goal.returns-clause-nexts
 returns-clause-nexts g c = nexts_raised c.args.self.now c.args.line _ c.index.result.now c.requires c.index.ensures refl
+
+pub returns-clause-asks : goal.returns-clause-asks
+returns-clause-asks g c = asks_kept c.args.self.now c.args.line _ c.index_mut.result.now c.requires c.index_mut.ensures.value refl

@@ -3,6 +3,9 @@ use Rattle.txn_clients.specs.Clients.{sight_of, stands_of}
 use Rattle.txn_clients.specs.Going.{Advances}
 use Rattle.txn_clients.proofs.Advances.{advances_left, advances_then}
 use Rattle.txn_clients.proofs.Telling.{on_ok}
+use Rattle.txn_clients.proofs.Grouping.{group_goes, none_goes}
+use Rattle.txn_clients.proofs.Numbers.{ok_three}
+use Rattle.txn_clients.proofs.Groups.{groups_between, groups_more}
 use Rattle.txn_clients.proofs.clients.Clients.send_group.Goals as goal
 
 pub returns-in-None-clause-advances : goal.returns-in-None-clause-advances
@@ -20,3 +23,21 @@ returns-in-Some-clause-advances g c =
     advances_then c.args.turn.now c.args.turn.now c.send_request.new.turn old mid (sight_of c.send_request.new.self)
     (advances_left c.args.turn.now old mid done.crashed (ap stands_of done.rows) done.nexts done.groups) a)
     c.send_request.ensures.advances
+
+pub returns-in-None-clause-waits : goal.returns-in-None-clause-waits
+returns-in-None-clause-waits g c rest sound =
+    let done = c.in_ok-next_group.ensures in
+    none_goes _ g.met.P.Plan.lawful g.met.Q.Plan.lawful g.met.K.Plan.lawful c.args.self.now c.next_group.new.self c.args.client rest c.args.turn.now.posted.items _ done.regroups c.in-None.is done.rows done.nexts done.crashed sound
+
+pub returns-in-Some-clause-waits : goal.returns-in-Some-clause-waits
+returns-in-Some-clause-waits g c = ok_three c.send_request.result
+    (λ sent rows crashed rest sound.
+    let done = c.in_ok-next_group.ensures in
+    group_goes _ g.met.P.Plan.lawful g.met.Q.Plan.lawful g.met.K.Plan.lawful c.args.self.now c.next_group.new.self c.send_request.new.self c.args.client rest c.args.turn.now.posted.items c.send_request.new.turn.posted.items _ done.regroups done.rows done.nexts done.crashed sent rows crashed sound)
+    c.send_request.ensures.sends c.send_request.ensures.rows c.send_request.ensures.crashed
+
+pub returns-in-None-clause-groups : goal.returns-in-None-clause-groups
+returns-in-None-clause-groups g c group out = groups_more (sight_of c.args.self.now) (sight_of c.next_group.new.self) group c.args.turn.now.posted.items (c.in_ok-next_group.ensures.groups group out)
+
+pub returns-in-Some-clause-groups : goal.returns-in-Some-clause-groups
+returns-in-Some-clause-groups g c = on_ok c.send_request.result (λ f group out. groups_between (sight_of c.args.self.now) (sight_of c.next_group.new.self) group c.send_request.new.turn.posted.items c.in_ok-next_group.ensures.groups (f group out)) c.send_request.ensures.groups

@@ -1,13 +1,46 @@
-use Rattle.std.proofs.Common.{refl}
-use Rattle.txn_clients.specs.Clients.{rows_of}
+use Rattle.std.proofs.Common.{refl, ap, sym, ◌∙◌, subst}
+use Rattle.txn_clients.specs.Clients.{rows_of, sight_of}
 use Rattle.txn_clients.specs.Going.{OfLine}
 use Rattle.txn_clients.specs.Rows.{Brings}
 use Rattle.txn_clients.proofs.Listening.{heard_there}
 use Rattle.txn_clients.proofs.Naming.{names_quiet}
+use Rattle.txn_clients.specs.Accounts.{AccountsTold}
+use Rattle.txn_clients.specs.declared.told.Told.TheVariants.{Heard}
+use Rattle.txn_clients.proofs.Accounting.{heard}
+use Rattle.txn_clients.proofs.Telling.{on_ok, live_line}
+use Rattle.txn_clients.specs.Waiting.{AreRunning, GoesOn, HearsAt}
+use Rattle.txn_clients.proofs.Settling.{client_same, unheard_goes}
+use Rattle.txn_clients.proofs.Telling.{live_line, on_ok}
+use Rattle.txn_clients.specs.declared.told.Told.TheVariants.{Heard}
+use Rattle.txn_commit.specs.Committing.{ways}
 use Rattle.txn_clients.proofs.clients.Clients.tell.Goals as goal
 
 pub go-requires-clause-hears : goal.go-requires-clause-hears
-go-requires-clause-hears g c = heard_there (rows_of c.args.self.now) c.args.line c.in-Some.listener.at c.args.arrival c.in-Some.ensures.own c.in-Some.ensures.hears
+go-requires-clause-hears g c = heard_there (rows_of c.args.self.now) c.args.line c.in-Some.listener.at c.args.arrival c.in-Some.ensures.listens.own c.in-Some.ensures.listens.hears
 
 pub returns-in-None-clause-names : goal.returns-in-None-clause-names
 returns-in-None-clause-names g c = names_quiet (OfLine c.args.line (Brings c.args.arrival)) c.args.turn.now c.args.turn.now refl
+
+pub returns-in-Some-clause-accounts : goal.returns-in-Some-clause-accounts
+returns-in-Some-clause-accounts g c = on_ok c.go.result
+    (λ (h : AccountsTold (Heard c.args.arrival) c.in-Some.listener.at (rows_of c.args.self.now) (rows_of c.go.new.self)). heard c.args.arrival c.in-Some.listener.at (rows_of c.args.self.now) (rows_of c.go.new.self) h)
+    c.go.ensures.accounts
+
+pub returns-in-None-clause-accounts : goal.returns-in-None-clause-accounts
+returns-in-None-clause-accounts g c n = refl
+
+pub returns-in-None-clause-waits : goal.returns-in-None-clause-waits
+returns-in-None-clause-waits g c client rest live own sound =
+    unheard_goes _ c.args.self.now c.args.line client (Heard c.args.arrival) rest c.args.turn.now.posted.items (live_line (sight_of c.args.self.now) c.args.line live) c.requires.ready.matched (c.listener.ensures.none c.in-None.is live) sound
+
+pub returns-in-Some-clause-waits : goal.returns-in-Some-clause-waits
+returns-in-Some-clause-waits g c = on_ok c.go.result
+    (λ f client rest live own sound.
+    subst (λ i. GoesOn (ways g.P.Plan.meaning g.Q.Plan.meaning g.K.Plan.meaning g.P.PlanFor.refuses g.Q.PlanFor.refuses g.K.PlanFor.refuses) i (HearsAt c.args.line (Heard c.args.arrival)) rest c.args.turn.now.posted.items c.go.new.turn.posted.items c.args.self.now c.go.new.self) (client_same c.in-Some.listener.client client (sym c.in-Some.ensures.own ∙ own)) (f rest c.in-Some.ensures.own sound))
+    c.go.ensures.waits
+
+pub returns-in-None-clause-runs : goal.returns-in-None-clause-runs
+returns-in-None-clause-runs g c running = running
+
+pub returns-in-Some-clause-runs : goal.returns-in-Some-clause-runs
+returns-in-Some-clause-runs g c = on_ok c.go.result (λ f running. f (λ i apart. running i) (running c.in-Some.listener.at)) c.go.ensures.runs

@@ -1,7 +1,20 @@
-use Rattle.std.proofs.Common.{refl}
+use Rattle.std.proofs.Common.{refl, subst}
 use Rattle.txn_machine.specs.Running.{lists_of}
+use Rattle.txn_machine.proofs.Staying.{acts_out}
 use Rattle.txn_machine.proofs.Telling.{leaves_same, tell_acts}
+use Rattle.txn_side.specs.Account.{MayTakeIn}
 use Rattle.txn_machine.proofs.machine.Machine.act.Goals as goal
 
 pub returns-clause-tells : goal.returns-clause-tells
 returns-clause-tells g c = tell_acts (lists_of g.S.ClientSide.sight c.args.self.now) _ _ (leaves_same _ _ refl refl refl) c.args.act c.args.transaction c.in_ok-turn.turn c.in_ok-turn.ensures.turn c.requires.ordered.even c.called.ensures.own c.called.ensures.ended
+
+pub returns-clause-out : goal.returns-clause-out
+returns-clause-out g c = acts_out (g.S.ClientSide.waits c.args.self.now.clients) _ (lists_of g.S.ClientSide.sight c.args.self.now) _ _ c.args.act c.args.transaction c.in_ok-turn.turn c.in_ok-turn.ensures.turn c.in_ok-turn.ensures.waits c.called.ensures.posted refl c.requires.ordered
+
+pub returns-clause-takes : goal.returns-clause-takes
+returns-clause-takes g c = record {
+  turn = c.in_ok-turn.turn;
+  takes = subst (λ k. MayTakeIn c.args.act c.args.transaction k (g.S.ClientSide.account c.args.self.now.clients) (g.S.ClientSide.account c.act.new.self) c.in_ok-turn.turn) c.requires.ordered.even.stands c.in_ok-turn.ensures.accounts;
+  own = c.called.ensures.outcome;
+  ended = c.called.ensures.ended;
+}

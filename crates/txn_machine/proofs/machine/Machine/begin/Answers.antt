@@ -1,7 +1,11 @@
 use Rattle.std.proofs.Common.{true, refl}
 use Rattle.txn_machine.specs.Running.{lists_of}
+use Rattle.txn_machine.proofs.Staying.{asks_out}
 use Rattle.txn_machine.proofs.Telling.{leaves_same, tell_asks}
 use Rattle.txn_machine.proofs.machine.Machine.begin.Goals as goal
 
 pub returns-clause-tells : goal.returns-clause-tells
 returns-clause-tells g c = tell_asks (lists_of g.S.ClientSide.sight c.args.self.now) _ _ (leaves_same _ _ refl refl refl) true c.args.client c.in_ok-turn.turn c.in_ok-turn.ensures.turn c.requires.ordered.even c.called.ensures.own c.called.ensures.ended
+
+pub returns-clause-out : goal.returns-clause-out
+returns-clause-out g c = asks_out (g.S.ClientSide.waits c.args.self.now.clients) _ (lists_of g.S.ClientSide.sight c.args.self.now) _ _ true c.args.client c.in_ok-turn.turn c.in_ok-turn.ensures.turn c.in_ok-turn.ensures.waits c.called.ensures.posted refl c.requires.ordered

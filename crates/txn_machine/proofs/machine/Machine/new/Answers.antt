@@ -1,5 +1,9 @@
 use Rattle.txn_machine.proofs.Standings.{new_stands}
+use Rattle.txn_machine.proofs.Takings.{new_taken}
 use Rattle.txn_machine.proofs.machine.Machine.new.Goals as goal
 
 pub returns-clause-stands : goal.returns-clause-stands
-returns-clause-stands g c = new_stands g.S.ClientSide.sight g.S.ClientSide.ready _ c.in_ok-new.ensures c.new-2.ensures c.requires.nobody c.new-3.ensures.items c.new-4.ensures.items c.new-5.ensures.items c.new-6.ensures c.requires.ready
+returns-clause-stands g c = new_stands g.S.ClientSide.sight g.S.ClientSide.ready g.S.ClientSide.waits _ c.in_ok-new.ensures c.new-2.ensures c.requires.nobody c.new-3.ensures.items c.new-4.ensures.items c.new-5.ensures.items c.new-6.ensures c.requires.ready (g.S.ClientSide.nobody_waits c.args.clients c.requires.nobody)
+
+pub returns-clause-taken : goal.returns-clause-taken
+returns-clause-taken g c = new_taken g.S.ClientSide.account _ c.new-3.ensures.items c.new-4.ensures.items c.requires.accounts

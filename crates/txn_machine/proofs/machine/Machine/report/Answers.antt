@@ -1,7 +1,8 @@
 use Rattle.std.proofs.Common.{refl}
 use Rattle.txn_machine.specs.Running.{lists_of}
 use Rattle.txn_machine.proofs.Noting.{standing_notes}
-use Rattle.txn_machine.proofs.Standings.{report_calls, report_ends, report_events, report_lives, report_tells, report_times}
+use Rattle.txn_machine.proofs.Standings.{report_calls, report_ends, report_dues, report_events, report_lives, report_tells, report_times}
+use Rattle.txn_machine.proofs.Takings.{report_writes}
 use Rattle.txn_machine.proofs.machine.Machine.report.Goals as goal
 
 pub returns-clause-told : goal.returns-clause-told
@@ -35,4 +36,12 @@ returns-clause-times g c lines s =
     report_times (lists_of g.S.ClientSide.sight c.args.self) _ lines (record { outcomes = c.from_vec.ensures; ended = c.from_vec-2.ensures; sent = c.into_notes-sent.ensures.sent; sleeps = c.into_notes-sent.ensures.sleeps; served = c.from_vec-3.ensures; store = refl }) h.ordered h.timely
 
 pub returns-clause-noted : goal.returns-clause-noted
-returns-clause-noted g c lines s = standing_notes g.S.ClientSide.sight g.S.ClientSide.ready c.args.self _ _ lines c.into_notes-sent.ensures.sent c.into_notes-sent.ensures.sleeps c.requires s
+returns-clause-noted g c lines s = standing_notes g.S.ClientSide.sight g.S.ClientSide.ready g.S.ClientSide.waits c.args.self _ _ lines c.into_notes-sent.ensures.sent c.into_notes-sent.ensures.sleeps c.requires s
+
+pub returns-clause-dues : goal.returns-clause-dues
+returns-clause-dues g c lines s =
+    let h = s.stands c.requires in
+    report_dues (lists_of g.S.ClientSide.sight c.args.self) _ lines (record { outcomes = c.from_vec.ensures; ended = c.from_vec-2.ensures; sent = c.into_notes-sent.ensures.sent; sleeps = c.into_notes-sent.ensures.sleeps; served = c.from_vec-3.ensures; store = refl }) h.due.dues
+
+pub returns-clause-writes : goal.returns-clause-writes
+returns-clause-writes g c lines taken = report_writes g.S.ClientSide.account c.args.self _ _ lines c.from_vec.ensures c.from_vec-2.ensures c.requires taken

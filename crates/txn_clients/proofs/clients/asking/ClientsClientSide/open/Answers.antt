@@ -1,8 +1,22 @@
+use Rattle.txn_commit.specs.Committing.{ways}
 use Rattle.txn_clients.specs.Clients.{rows_of}
 use Rattle.txn_clients.proofs.Asking.{opened_ready, opened_rows}
+use Rattle.txn_clients.proofs.Accounting.{kept_opened}
+use Rattle.std.proofs.Common.{ap, refl}
+use Rattle.txn_clients.specs.declared.place.Place.{Place}
+use Rattle.txn_clients.proofs.Sides.{opened_ready_all, opened_waits_all}
 use Rattle.txn_clients.proofs.clients.asking.ClientsClientSide.open.Goals as goal
 
 pub returns-clause-ready : goal.returns-clause-ready
 returns-clause-ready g c =
     let t = record c.args.self.now { places = c.push.new.self } in
-    opened_ready _ (rows_of c.args.self.now) (rows_of t) c.new.result c.new.ensures (opened_rows c.args.self.now t c.new.result c.in_ok-push.ensures.items) c.requires.ready
+    opened_ready_all _ g.met.P.Plan.lawful g.met.Q.Plan.lawful g.met.K.Plan.lawful c.args.self.now t c.new.result c.new.ensures c.in_ok-push.ensures.items refl
+    (opened_ready _ (rows_of c.args.self.now) (rows_of t) c.new.result c.new.ensures (opened_rows c.args.self.now t c.new.result c.in_ok-push.ensures.items) c.requires.ready.rows) c.requires.ready
+
+pub returns-clause-accounts : goal.returns-clause-accounts
+returns-clause-accounts g c =
+    let t = record c.args.self.now { places = c.push.new.self } in
+    kept_opened (rows_of c.args.self.now) (rows_of t) c.new.result.row (ap (λ p. p.row) c.new.ensures) (opened_rows c.args.self.now t c.new.result c.in_ok-push.ensures.items)
+
+pub returns-clause-waits : goal.returns-clause-waits
+returns-clause-waits g c = opened_waits_all (ways g.P.Plan.meaning g.Q.Plan.meaning g.K.Plan.meaning g.P.PlanFor.refuses g.Q.PlanFor.refuses g.K.PlanFor.refuses) g.met.P.Plan.lawful g.met.Q.Plan.lawful g.met.K.Plan.lawful c.args.self.now (record c.args.self.now { places = c.push.new.self }) c.new.result c.new.ensures c.in_ok-push.ensures.items refl

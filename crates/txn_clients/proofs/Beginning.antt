@@ -1,0 +1,88 @@
+-- Steps in which calls begin.
+use Rattle.std.proofs.Common.{◌≡◌, ◌≢◌, ◌⊎◌, inl, inr, ℕ, ◌-◌, ◌<◌, ◌≤◌, Bool, true, false, List, [], length, get_or, set, Option, Some, refl, sym, ap, ◌∙◌, subst, length-set}
+use Rattle.txn_history.specs.Meaning.{IsLawful, IsUnbegun}
+use Rattle.txn_history.specs.Phase.{Awaited}
+use Rattle.txn_commit.specs.Committing.{Ways}
+use Rattle.txn_client.specs.Calls.{called, stage_phase}
+use Rattle.txn_client.specs.declared.client_call.ClientCall.{ClientCall}
+use Rattle.txn_client.specs.declared.client_call.Stage.TheVariants as stages
+use Rattle.txn_side.specs.Sight.{client_at, stand_at}
+use Rattle.txn_side.specs.Sight.Stand.{Asking, Calling, HasBegun, Idle}
+use Rattle.txn_side.specs.declared.act.Act.{Act}
+use Rattle.txn_side.specs.declared.turn.Posting.{Posting}
+use Rattle.txn_clients.specs.Clients.{crashed_of, nexts_of, row_at, rows_of, stands_of}
+use Rattle.txn_clients.specs.Matching.{IsLine}
+use Rattle.txn_clients.specs.Rows.{Pd, stand_of, with_waits}
+use Rattle.txn_clients.specs.Waiting.{AreRunningBut, IsPrepared, IsQuiet, IsReady, IsSound, RowRuns, Steps, asks_of, book_at}
+use Rattle.txn_clients.specs.declared.clients.Clients.{Clients}
+use Rattle.txn_clients.specs.declared.row.Row.{Row}
+use Rattle.txn_clients.specs.declared.row.Row.TheVariants as row
+use Rattle.txn_clients.specs.declared.told.Told.{Told}
+use Rattle.txn_clients.specs.declared.told.Told.TheVariants as tells
+use Rattle.txn_clients.proofs.Opening.{asking_sound, calling_fewer, calling_sound, fresh_silent, idle_fewer}
+use Rattle.txn_clients.proofs.Settling.{books_same, prepared_act, row_within}
+use Rattle.txn_clients.proofs.Sounding.{running_but}
+use Rattle.txn_clients.proofs.Stands.{or_other, or_same, same_line, stand_other, stand_same}
+use Rattle.txn_clients.proofs.Stepping.{steps_from}
+use Rattle.txn_clients.proofs.Tables.{called_stands, stand_read, stands_set}
+use Rattle.txn_clients.proofs.Telling.{begun_line, hears_begun}
+
+module _ {P Q K A B D : Type 0} (w : Ways P Q K A B D) (p : IsLawful w.prewriting) (q : IsLawful w.committing) (k : IsLawful w.rolling) where
+  -- what is left to show of a step of a line of this client that is told something
+  abbrev pub StepsAt : Clients P Q K → Clients P Q K → ℕ → ℕ → ℕ → Told → (ℕ → Awaited → Type 0) → List Posting → Type 0
+  StepsAt m t line client at told Heard ps = client_at (stand_at (stands_of (rows_of m)) line) ≡ Some client → IsSound w [] m → ((d : ℕ) → d ≢ client → IsQuiet (book_at m d)) → AreRunningBut at (rows_of m) → IsPrepared told (row_at (rows_of m) at) → Steps w Heard ps m t
+
+  -- a call for a timestamp begins
+  pub ask_steps : (s m t : Clients P Q K) (line c : ℕ) (b : Bool) (call : ClientCall Pd P Q K) (Heard : ℕ → Awaited → Type 0) (ps : List Posting) → IsLine (stands_of (rows_of s)) line → stand_at (stands_of (rows_of s)) line ≡ Idle
+      → get_or (crashed_of s) c true ≡ false → call.stage ≡ stages.Fresh → IsUnbegun called call
+      → rows_of m ≡ set (rows_of s) (line - 1) (row.Asking c b call) → nexts_of m ≡ nexts_of s → asks_of m ≡ asks_of s → m.clients ≡ s.clients → IsReady w s → StepsAt m t line c (line - 1) tells.Start Heard ps → Steps w (λ n a. ⊥) ps s t
+  ask_steps s m t line c b call Heard ps is idle there fresh unbegun rows nexts asks clients ready step =
+      steps_from w s m t Heard ps (idle_fewer w p q k s m line (row.Asking c b call) is (fresh_silent w p q k c b call fresh) rows)
+      (step (ap (λ rs. client_at (stand_at (stands_of rs) line)) rows ∙ ap (λ ss. client_at (stand_at ss line)) (stands_set (rows_of s) (line - 1) (row.Asking c b call)) ∙ ap client_at (stand_same (stands_of (rows_of s)) line (Asking c b) is))
+      (asking_sound w p q k s m line c b call [] is idle ready.rows.matched there fresh unbegun rows nexts asks clients ready.sound)
+      (λ d apart. subst IsQuiet (sym (books_same s m clients d)) (ready.quiet d))
+      (subst (AreRunningBut (line - 1)) (sym rows) (running_but (rows_of s) (line - 1) (row.Asking c b call) (λ i apart. ready.running i)))
+      (subst (IsPrepared tells.Start) (sym (ap (λ rs. row_at rs (line - 1)) rows ∙ or_same (rows_of s) (line - 1) (row.Asking c b call) row.Plain (row_within (rows_of s) line is))) (ap stage_phase fresh)))
+
+  -- a call of a transaction begins
+  pub call_steps : (s m t : Clients P Q K) (line x c : ℕ) (b : Bool) (act : Act) (Heard : ℕ → Awaited → Type 0) (ps : List Posting) → IsLine (stands_of (rows_of s)) line → stand_at (stands_of (rows_of s)) line ≡ Idle → stand_at (stands_of (rows_of s)) x ≡ HasBegun c 0
+      → rows_of m ≡ set (set (rows_of s) (x - 1) (with_waits line (row_at (rows_of s) (x - 1)))) (line - 1) (row.Calling c x b) → nexts_of m ≡ nexts_of s → asks_of m ≡ asks_of s → m.clients ≡ s.clients → IsReady w s → StepsAt m t line c (x - 1) (tells.Act act) Heard ps → Steps w (λ n a. ⊥) ps s t
+  call_steps s m t line x c b act Heard ps is idle free rows nexts asks clients ready step =
+      steps_from w s m t Heard ps (calling_fewer w p q k s m line x c b is free ready.rows rows)
+      (step own
+      (calling_sound w p q k s m line x c b [] is idle free ready.rows rows nexts asks clients ready.sound)
+      (λ d apart. subst IsQuiet (sym (books_same s m clients d)) (ready.quiet d))
+      but
+      (prepared_act act c line (row_at (rows_of m) (x - 1)) begun))
+    where
+      at : IsLine (stands_of (rows_of s)) x
+      at = begun_line (stands_of (rows_of s)) x c 0 free
+
+      mid : List (Row P Q K)
+      mid = set (rows_of s) (x - 1) (with_waits line (row_at (rows_of s) (x - 1)))
+
+      stands : stands_of (rows_of m) ≡ set (set (stands_of (rows_of s)) (x - 1) (HasBegun c line)) (line - 1) (Calling c x b)
+      stands = ap stands_of rows ∙ called_stands (rows_of s) line x c 0 (row.Calling c x b) at free
+
+      is_mid : IsLine (set (stands_of (rows_of s)) (x - 1) (HasBegun c line)) line
+      is_mid = record { first = is.first; last = subst (λ n. line ≤ n) (sym (length-set (stands_of (rows_of s)) (x - 1) (HasBegun c line))) is.last }
+
+      own : client_at (stand_at (stands_of (rows_of m)) line) ≡ Some c
+      own = ap (λ zs. client_at (stand_at zs line)) stands ∙ ap client_at (stand_same (set (stands_of (rows_of s)) (x - 1) (HasBegun c line)) line (Calling c x b) is_mid)
+
+      far : x ≢ line
+      far e = two (sym idle ∙ ap (stand_at (stands_of (rows_of s))) (sym e) ∙ free)
+        where
+          two : Idle ≡ HasBegun c 0 → ⊥
+          two q = cc
+
+      begun : stand_of (row_at (rows_of m) (x - 1)) ≡ HasBegun c line
+      begun = sym (stand_read (rows_of m) (x - 1)) ∙ ap (stand_at (stands_of (rows_of m))) (hears_begun (stands_of (rows_of s)) x c 0 free)
+          ∙ ap (λ zs. stand_at zs x) stands ∙ stand_other (set (stands_of (rows_of s)) (x - 1) (HasBegun c line)) line x (Calling c x b) is.first far ∙ stand_same (stands_of (rows_of s)) x (HasBegun c line) at
+
+      but : AreRunningBut (x - 1) (rows_of m)
+      but i apart = subst (λ rs. RowRuns (row_at rs i)) (sym rows) (by (same_line (line - 1) i))
+        where
+          by : (i ≡ line - 1) ⊎ (i ≢ line - 1) → RowRuns (row_at (set mid (line - 1) (row.Calling c x b)) i)
+          by (inl same) = subst RowRuns (sym (ap (row_at (set mid (line - 1) (row.Calling c x b))) same ∙ or_same mid (line - 1) (row.Calling c x b) row.Plain (subst (λ n. line - 1 < n) (sym (length-set (rows_of s) (x - 1) (with_waits line (row_at (rows_of s) (x - 1))))) (row_within (rows_of s) line is)))) tt
+          by (inr off) = subst RowRuns (sym (or_other mid (line - 1) i (row.Calling c x b) row.Plain off ∙ or_other (rows_of s) (x - 1) i (with_waits line (row_at (rows_of s) (x - 1))) row.Plain apart)) (ready.running i)

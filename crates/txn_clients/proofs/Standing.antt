@@ -1,0 +1,363 @@
+-- A transaction goes on, and can have arisen from a history of its own.
+use Rattle.std.proofs.Common.{◌≡◌, ◌≢◌, ◌⊎◌, inl, inr, ℕ, ◌<◌, ◌≤◌, Bool, true, false, List, [], ◌∷◌, ◌++◌, Option, Some, None, refl, sym, ap, ◌∙◌, subst, arith}
+use Rattle.std.specs.Prelude.{⊤, Result, Ok, Err}
+use Rattle.txn_kv.specs.Timestamp.{version_of}
+use Rattle.txn_kv.specs.declared.errors.Error.{Error}
+use Rattle.txn_kv.specs.declared.message.Mutation.{Mutation}
+use Rattle.txn_kv.specs.declared.message.Op.{Op}
+use Rattle.txn_kv.specs.declared.message.Op.TheVariants as op
+use Rattle.txn_kv.specs.declared.reply.Reply as reply
+use Rattle.txn_kv.specs.declared.reply.Reply.TheVariants as replies
+use Rattle.txn_kv.specs.declared.request.Request.{Request}
+use Rattle.txn_kv.specs.declared.ticket.Ticket.{Ticket}
+use Rattle.txn_kv.specs.declared.timestamp.Timestamp.{Timestamp}
+use Rattle.txn_history.specs.Event.{Event, Has}
+use Rattle.txn_history.specs.Event.Event.{Sent}
+use Rattle.txn_history.specs.Later.{IsLater}
+use Rattle.txn_history.specs.Meaning.{Expects, IsLawful, WasPosted}
+use Rattle.txn_history.specs.Moves.{Moves}
+use Rattle.txn_history.specs.Phase.{Awaited, IsRunning}
+use Rattle.txn_history.specs.Phase.Awaited.{ReplyTo}
+use Rattle.txn_history.specs.Phase.Phase.{Running}
+use Rattle.txn_history.specs.Posted.{Posted, after, ticket_of}
+use Rattle.txn_history.specs.Turn.{IfKept, IfKept-out, Turn}
+use Rattle.txn_history.specs.Turn.Turn.{Stopped, Waits, Ends}
+use Rattle.txn_history.proofs.Telling.{Expects-quiet}
+use Rattle.txn_plan.specs.Arrivals.{awaited_as, told_by}
+use Rattle.txn_plan.specs.declared.arrival.Arrival.{Arrival}
+use Rattle.txn_plan.specs.declared.arrival.Arrival.TheVariants as arrivals
+use Rattle.txn_tso.specs.Calling.{members}
+use Rattle.txn_buffer.specs.Contents.{Contents, locked, mutated_by, with_write, write_at}
+use Rattle.txn_buffer.specs.Writes.{Write, WriteCall, after_delete, after_put}
+use Rattle.txn_commit.specs.Committing.{Ways}
+use Rattle.txn_commit.specs.Following.{Commits, awaits, is_out, undetermined}
+use Rattle.txn_commit.specs.Sending.{plan_of}
+use Rattle.txn_core.specs.Going.{IsAtWork, IsUndetermined, MaySendFor, TransactionFits, TransactionGives, TransactionMoves, TransactionReady}
+use Rattle.txn_core.specs.Status.{allows_data}
+use Rattle.txn_core.specs.Transaction.{AreLocked, AreSteps, GivesUp, IsOrdered, IsRefused, IsStep, Standing, WriteEnds, and_mutated, begun, is_open, is_waiting, locked_all, mutated_all, or_refused, refused_unless}
+use Rattle.txn_core.specs.Waiting.{Opens, TransactionGoes, work_phase, work_waits}
+use Rattle.txn_core.specs.declared.transaction.Work.{Work}
+use Rattle.txn_core.specs.declared.transaction.Work.TheVariants.{Idle, Open, GaveUp}
+use Rattle.txn_core.specs.declared.txn_answer.TxnAnswer.{TxnAnswer}
+use Rattle.txn_core.proofs.Ordered.{locked_ordered, written_fits, written_ordered}
+use Rattle.txn_core.proofs.Others.{adds_same, idle_fits, others_fit}
+use Rattle.txn_core.proofs.Waiting.{busy_runs, runs_still, standing_posted}
+use Rattle.txn_side.specs.Sight.{next_at}
+use Rattle.txn_clients.specs.Waiting.{HasArisen, IsKept, IsReached, IsRisen, StandArises, StandGoes}
+use Rattle.txn_clients.proofs.Kept.{kept_heard, kept_posted, kept_risen, none_out, sent_or_not}
+
+-- where it has not given up
+pub if_kept : {A P : Type 0} (t : Turn A) → (t ≢ Stopped → P) → IfKept t P
+if_kept Stopped f = tt
+if_kept Waits f = f (λ e. cc)
+if_kept (Ends v) f = f (λ e. cc)
+
+open_so : {P Q K : Type 0} (g : Work P Q K) → is_open g ≡ false → (g ≡ Idle) ⊎ (g ≡ GaveUp)
+open_so Idle e = inl refl
+open_so (Open call) e = absurd (no e)
+  where
+    no : true ≡ false → ⊥
+    no q = cc
+open_so GaveUp e = inr refl
+
+-- Buffers stay in order.
+
+step_ordered : (contents next : Contents) → IsOrdered next → contents ≡ next → IsOrdered contents
+step_ordered contents next o e = subst IsOrdered (sym e) o
+
+pub written_step : (key : List ℕ) (write : Contents → Write) (call : WriteCall) (c d : Contents) → IsStep (with_write c key (write c)) call c d → IsOrdered c → IsOrdered d
+written_step key write call c d s o = subst IsOrdered (sym s.contents) (written_ordered c key (write c) o)
+
+pub locked_steps : (keys : List (List ℕ)) (c d : Contents) → AreLocked keys c d → IsOrdered c → IsOrdered d
+locked_steps keys c d s o = subst IsOrdered (sym s.contents) (all keys c o)
+  where
+    all : (ks : List (List ℕ)) (e : Contents) → IsOrdered e → IsOrdered (locked_all e ks)
+    all [] e r = r
+    all (k ∷ ks) e r = all ks (locked e k) (locked_ordered e k r)
+
+mutated_ordered : (o : Op) (c d : Contents) (key value : List ℕ) → mutated_by o c key value ≡ Some d → IsOrdered c → IsOrdered d
+mutated_ordered op.Put c d key value e r = subst IsOrdered same (written_ordered c key (after_put (write_at c key) value) r)
+  where
+    same : with_write c key (after_put (write_at c key) value) ≡ d
+    same = cc
+mutated_ordered op.Del c d key value e r = subst IsOrdered same (written_ordered c key (after_delete c.is_pessimistic (write_at c key)) r)
+  where
+    same : with_write c key (after_delete c.is_pessimistic (write_at c key)) ≡ d
+    same = cc
+mutated_ordered op.Lock c d key value e r = absurd (cc)
+mutated_ordered op.Rollback c d key value e r = absurd (cc)
+mutated_ordered op.Insert c d key value e r = absurd (cc)
+mutated_ordered op.PessimisticLock c d key value e r = absurd (cc)
+mutated_ordered op.CheckNotExists c d key value e r = absurd (cc)
+
+pub mutated_steps : (ms : List Mutation) (c d : Contents) → AreSteps ms c d → IsOrdered c → IsOrdered d
+mutated_steps ms c d s o = all ms c s.contents o
+  where
+    all : (ns : List Mutation) (e : Contents) → mutated_all e ns ≡ Some d → IsOrdered e → IsOrdered d
+    all [] e q r = subst IsOrdered same r
+      where
+        same : e ≡ d
+        same = cc
+    all (n ∷ ns) e q r = by (mutated_by n.op e n.key n.value) refl q (all ns)
+      where
+        by : (found : Option Contents) → mutated_by n.op e n.key n.value ≡ found → and_mutated found (λ next. mutated_all next ns) ≡ Some d → ((f : Contents) → mutated_all f ns ≡ Some d → IsOrdered f → IsOrdered d) → IsOrdered d
+        by None f g later = absurd (cc)
+        by (Some next) f g later = later next g (mutated_ordered n.op e next n.key n.value f r)
+
+-- it may be written where a write is not refused
+pub may_write : (b : Bool) (e : Error) (later : Option Error) → or_refused (refused_unless b e) later ≡ None → b ≡ true
+may_write true e later h = refl
+may_write false e later h = absurd (no h)
+  where
+    no : Some e ≡ None → ⊥
+    no q = cc
+
+pub may_write_so : (b : Bool) (e : Error) → refused_unless b e ≡ None → b ≡ true
+may_write_so true e h = refl
+may_write_so false e h = absurd (no h)
+  where
+    no : Some e ≡ None → ⊥
+    no q = cc
+
+pub reached_later : (from to o : Posted) → to.line ≡ from.line → to.beat ≡ from.beat → IsReached from to o → IsLater to o
+reached_later from to o line beat r = record { line = r.line ∙ sym line; beat = r.beat ∙ sym beat; next = r.next; next_ask = r.next_ask }
+
+-- between calls it waits for nothing
+module _ {P Q K A B D : Type 0} (w : Ways P Q K A B D) where
+  pub rest_silent : (g : Work P Q K) (a : Awaited) → is_open g ≡ false → work_waits w g a → ⊥
+  rest_silent g a e x = by (open_so g e)
+    where
+      by : (g ≡ Idle) ⊎ (g ≡ GaveUp) → ⊥
+      by (inl i) = subst (λ y. work_waits w y a) i x
+      by (inr i) = subst (λ y. work_waits w y a) i x
+
+module _ {P Q K A B D : Type 0} (w : Ways P Q K A B D) (p : IsLawful w.prewriting) (q : IsLawful w.committing) (k : IsLawful w.rolling) where
+  -- nothing else of its start is in a later outbox
+  later_fits : (t : Standing P Q K) (o later : Posted) (h : List Event) → IsLater o later → TransactionFits w t o h → TransactionFits w t later h
+  later_fits t o later h l f = others_fit w p q k t o later h h l (adds_same (λ r. r.start_version ≡ version_of t.start) h) f
+
+  pub stand_later : (t : Standing P Q K) (o later : Posted) (nexts news : List ℕ) → IsLater o later → IsRisen nexts news → StandArises w o nexts t → StandArises w later news t
+  stand_later t o later nexts news l risen a = record {
+    ordered = a.ordered;
+    arisen = record { history = a.arisen.history; fits = later_fits t o later a.arisen.history l a.arisen.fits; kept = kept_risen nexts news a.arisen.history risen a.arisen.kept };
+  }
+
+  -- between calls, in any outbox
+  rest_fits : (t : Standing P Q K) (o later : Posted) (h : List Event) → is_open t.work ≡ false → TransactionFits w t o h → TransactionFits w t later h
+  rest_fits t o later h e f = by (open_so t.work e)
+    where
+      by : (t.work ≡ Idle) ⊎ (t.work ≡ GaveUp) → TransactionFits w t later h
+      by (inl i) = idle_fits w t o later h i f
+      by (inr g) = record { given = f.given; unsent = f.unsent; at = subst (λ x. IsAtWork w t.start t.status t.contents t.commits x later h) (sym g) tt }
+
+  pub stand_rests : (t : Standing P Q K) (o later : Posted) (nexts news : List ℕ) → is_open t.work ≡ false → IsRisen nexts news → StandArises w o nexts t → StandArises w later news t
+  stand_rests t o later nexts news e risen a = record {
+    ordered = a.ordered;
+    arisen = record { history = a.arisen.history; fits = rest_fits t o later a.arisen.history e a.arisen.fits; kept = kept_risen nexts news a.arisen.history risen a.arisen.kept };
+  }
+
+  -- It is told of something.
+
+  moved : (known : List Event → Type 0) (hear : List Event → List Event) (old new : Standing P Q K) (from to o : Posted) (turn : Turn (Result (TxnAnswer Q) Error)) (nexts news : List ℕ)
+      → TransactionMoves w known hear old new from to turn → turn ≢ Stopped → new.contents ≡ old.contents
+      → ((h : List Event) → IsKept nexts h → IsKept nexts (hear h))
+      → next_at nexts from.line ≤ from.next → IsRisen nexts news → to.next ≤ next_at news from.line → IsReached from to o
+      → (a : StandArises w from nexts old) → known a.arisen.history → StandArises w o news new
+  moved known hear old new from to o turn nexts news m kept same keeps low risen up reached a knows =
+      let h = a.arisen.history in
+      let longer = after from.line from.beat (hear h) m.sends in
+      record {
+        ordered = subst IsOrdered (sym same) a.ordered;
+        arisen = record {
+          history = longer;
+          fits = later_fits new to o longer (reached_later from to o m.line m.beat reached) (IfKept-out turn kept m.still h (a.arisen.fits, knows));
+          kept = kept_posted nexts news from.line from.beat from.next from.next_ask to.next to.next_ask m.sends (hear h) low m.numbered risen up (keeps h a.arisen.kept);
+        };
+      }
+
+  -- nothing changes
+  stays : (old new : Standing P Q K) (from to o : Posted) (nexts news : List ℕ) → new ≡ old → to ≡ from → IsRisen nexts news → IsReached from to o → StandArises w from nexts old → StandArises w o news new
+  stays old new from to o nexts news e f risen reached a =
+      subst (StandArises w o news) (sym e) (stand_later old from o nexts news (record { line = reached.line; beat = reached.beat; next = subst (λ (x : Posted). x.next ≤ o.next) f reached.next; next_ask = subst (λ (x : Posted). x.next_ask ≤ o.next_ask) f reached.next_ask }) risen a)
+
+  -- of a request of which its own history knows nothing
+  unknown : {C : Type 0} (a : Arrival) (n : ℕ) (old new : Standing P Q K) (from to o : Posted) (pd pd' : C) (turn : Turn (Result (TxnAnswer Q) Error)) (nexts news : List ℕ)
+      → awaited_as a ≡ ReplyTo n → awaits a from old.commits ≡ is_out (ticket_of from n) old.commits
+      → TransactionGoes w (work_waits w old.work (awaited_as a)) (record old { commits = new.commits }) new from to pd pd' turn
+      → ((work_waits w old.work (awaited_as a) → ⊥) → awaits a from old.commits ≡ false → new.commits ≡ old.commits)
+      → (old.work ≡ Idle → (turn ≡ Waits) × (new ≡ old) × (to ≡ from)) → GivesUp old new turn → turn ≢ Stopped
+      → IsRisen nexts news → IsReached from to o → (x : StandArises w from nexts old) → ((r : Request) → Has x.arisen.history (Sent (ticket_of from n) r) → ⊥) → StandArises w o news new
+  unknown a n old new from to o pd pd' turn nexts news is out goes commits deaf gone kept risen reached x never =
+      stays old new from to o nexts news (same old.work refl) (goes.outbox other) risen reached x
+    where
+      h : List Event
+      h = x.arisen.history
+
+      other : work_waits w old.work (awaited_as a) → ⊥
+      other y = let s = standing_posted w p q k old from h (ReplyTo n) x.arisen.fits (subst (work_waits w old.work) is y) in never s.0 s.1
+
+      same : (g : Work P Q K) → old.work ≡ g → new ≡ old
+      same Idle e = let d = deaf e in d.1
+      same (Open call) e =
+          let at : IsAtWork w old.start old.status old.contents old.commits (Open call) from h = subst (λ y. IsAtWork w old.start old.status old.contents old.commits y from h) e x.arisen.fits.at in
+          goes.state other ∙ ap (λ (c : Commits). record old { commits = c }) (commits other (out ∙ none_out (plan_of call.parts) (version_of call.start) old.commits h (ticket_of from n) at.fits.knows never))
+      same GaveUp e = let g = gone.after e in absurd (kept g.0)
+
+  runs_open : (g : Work P Q K) → work_phase w g ≡ Running → is_open g ≡ true
+  runs_open Idle e = absurd (subst IsRunning (sym e) tt)
+  runs_open (Open call) e = refl
+  runs_open GaveUp e = absurd (subst IsRunning (sym e) tt)
+
+  pub hears_goes : {C : Type 0} (a : Arrival) (old new : Standing P Q K) (from to : Posted) (pd pd' : C) (turn : Turn (Result (TxnAnswer Q) Error))
+      → ((r : Request) → TransactionMoves w (told_by a from r).known (told_by a from r).hear old new from to turn)
+      → new.contents ≡ old.contents
+      → TransactionGoes w (work_waits w old.work (awaited_as a)) (record old { commits = new.commits }) new from to pd pd' turn
+      → Expects (work_waits w old.work) (work_waits w new.work) (λ x. x ≡ awaited_as a) from to
+      → ((work_waits w old.work (awaited_as a) → ⊥) → awaits a from old.commits ≡ false → new.commits ≡ old.commits)
+      → (old.work ≡ Idle → (turn ≡ Waits) × (new ≡ old) × (to ≡ from)) → GivesUp old new turn → TransactionReady w old
+      → IfKept turn (StandGoes w (λ x. x ≡ awaited_as a) (is_open old.work ≡ true) old new from to turn)
+  hears_goes a old new from to pd pd' turn tells same goes expects commits deaf gone ready = if_kept turn (λ kept. record {
+    arises = λ nexts news o low risen up reached x. by kept a refl nexts news o low risen up reached x;
+    expects = expects;
+    runs = λ busy waits. runs_open new.work (runs_still (λ (t : Standing P Q K). work_phase w t.work) (busy_runs w old ready busy) goes waits);
+  })
+    where
+      by_reply : turn ≢ Stopped → (n : ℕ) → awaited_as a ≡ ReplyTo n → awaits a from old.commits ≡ is_out (ticket_of from n) old.commits
+          → ((r : Request) (h : List Event) → Has h (Sent (ticket_of from n) r) → ((s : Request) → Has h (Sent (ticket_of from n) s) → s ≡ r) → (told_by a from r).known h)
+          → (nexts news : List ℕ) (o : Posted) → next_at nexts from.line ≤ from.next → IsRisen nexts news → to.next ≤ next_at news from.line → IsReached from to o → StandArises w from nexts old → StandArises w o news new
+      by_reply kept n is out knows nexts news o low risen up reached x = elim (sent_or_not x.arisen.history (ticket_of from n)) [
+        | inl (r, i) ↦ moved _ _ old new from to o turn nexts news (tells r) kept same (kept_heard a from r nexts) low risen up reached x (knows r x.arisen.history i (λ s j. x.arisen.kept.alone (ticket_of from n) r s i j))
+        | inr never ↦ unknown a n old new from to o pd pd' turn nexts news is out goes commits deaf gone kept risen reached x never
+      ]
+
+      by : turn ≢ Stopped → (b : Arrival) → a ≡ b → (nexts news : List ℕ) (o : Posted) → next_at nexts from.line ≤ from.next → IsRisen nexts news → to.next ≤ next_at news from.line → IsReached from to o → StandArises w from nexts old → StandArises w o news new
+      by kept (arrivals.Reply n x) e = by_reply kept n (ap awaited_as e) (ap (λ b. awaits b from old.commits) e) (λ r h i alone. subst (λ b. (told_by b from r).known h) (sym e) (record { sent = i; alone = alone }))
+      by kept (arrivals.Lost n) e = by_reply kept n (ap awaited_as e) (ap (λ b. awaits b from old.commits) e) (λ r h i alone. subst (λ b. (told_by b from r).known h) (sym e) (record { sent = i; alone = alone }))
+      by kept (arrivals.Slept n) e = λ nexts news o low risen up reached x. moved _ _ old new from to o turn nexts news (tells members) kept same (kept_heard a from members nexts) low risen up reached x (subst (λ b. (told_by b from members).known x.arisen.history) (sym e) tt)
+      by kept (arrivals.Time n y) e = λ nexts news o low risen up reached x. moved _ _ old new from to o turn nexts news (tells members) kept same (kept_heard a from members nexts) low risen up reached x (subst (λ b. (told_by b from members).known x.arisen.history) (sym e) tt)
+
+  -- told of what came
+  pub heard_goes : {C : Type 0} (b a : Arrival) (old new : Standing P Q K) (from to : Posted) (pd pd' : C) (turn : Turn (Result (TxnAnswer Q) Error)) → b ≡ a
+      → ((r : Request) → TransactionMoves w (told_by a from r).known (told_by a from r).hear old new from to turn)
+      → new.contents ≡ old.contents
+      → TransactionGoes w (work_waits w old.work (awaited_as a)) (record old { commits = new.commits }) new from to pd pd' turn
+      → Expects (work_waits w old.work) (work_waits w new.work) (λ x. x ≡ awaited_as a) from to
+      → ((work_waits w old.work (awaited_as a) → ⊥) → awaits a from old.commits ≡ false → new.commits ≡ old.commits)
+      → (old.work ≡ Idle → (turn ≡ Waits) × (new ≡ old) × (to ≡ from)) → GivesUp old new turn → TransactionReady w old
+      → IfKept turn (StandGoes w (λ x. x ≡ awaited_as b) (is_open old.work ≡ true) old new from to turn)
+  heard_goes b a old new from to pd pd' turn e tells same goes expects commits deaf gone ready =
+      subst (λ d. IfKept turn (StandGoes w (λ x. x ≡ awaited_as d) (is_open old.work ≡ true) old new from to turn)) (sym e) (hears_goes a old new from to pd pd' turn tells same goes expects commits deaf gone ready)
+
+  -- It is asked for something.
+
+  expects_none : (old new : Standing P Q K) (o : Posted) → is_open new.work ≡ false → Expects (work_waits w old.work) (work_waits w new.work) (λ a. ⊥) o o
+  expects_none old new o e = Expects-quiet (λ a x. absurd (rest_silent w new.work a e x))
+
+  writes_idle : (refusal : Option Error) (wrote : Contents → Contents → Type 0) (old new : Standing P Q K) (o : Posted) (turn : Turn (Result (TxnAnswer Q) Error))
+      → (refusal ≡ None → allows_data old.status ≡ true) → ((c d : Contents) → wrote c d → IsOrdered c → IsOrdered d) → WriteEnds refusal wrote old new turn → old.work ≡ Idle
+      → IfKept turn (StandGoes w (λ a. ⊥) ⊤ old new o o turn)
+  writes_idle refusal wrote old new o Stopped may keeps ends idle = tt
+  writes_idle refusal wrote old new o Waits may keeps ends idle = absurd ends
+  writes_idle (Some e) wrote old new o (Ends v) may keeps ends idle = record {
+    arises = λ nexts news later low risen up reached x. stays old new o o later nexts news ends.1 refl risen reached x;
+    expects = expects_none old new o (ap (λ (t : Standing P Q K). is_open t.work) ends.1 ∙ ap is_open idle);
+    runs = λ any f. absurd (cc);
+  }
+  writes_idle None wrote old new o (Ends v) may keeps ends idle = record {
+    arises = λ nexts news later low risen up reached x. stand_later new o later nexts news (record { line = reached.line; beat = reached.beat; next = reached.next; next_ask = reached.next_ask }) risen (written nexts x);
+    expects = expects_none old new o (ap (λ (t : Standing P Q K). is_open t.work) ends.1 ∙ ap is_open idle);
+    runs = λ any f. absurd (cc);
+  }
+    where
+      written : (nexts : List ℕ) → StandArises w o nexts old → StandArises w o nexts new
+      written nexts x =
+          let now = keeps old.contents new.contents ends.2 x.ordered in
+          record {
+            ordered = now;
+            arisen = record {
+              history = x.arisen.history;
+              fits = subst (λ (t : Standing P Q K). TransactionFits w t o x.arisen.history) (sym ends.1) (written_fits w old new.contents o x.arisen.history (may refl) idle now x.arisen.fits);
+              kept = x.arisen.kept;
+            };
+          }
+
+  gone_kept : (E : Type 0) (old new : Standing P Q K) (turn : Turn (Result (TxnAnswer Q) Error)) → old.work ≡ GaveUp → GivesUp old new turn → IfKept turn E
+  gone_kept E old new turn e gone = let g = gone.after e in subst (λ t. IfKept t E) (sym g.0) tt
+
+  pub writes_goes : (refusal : Option Error) (wrote : Contents → Contents → Type 0) (old new : Standing P Q K) (from to : Posted) (turn : Turn (Result (TxnAnswer Q) Error))
+      → (refusal ≡ None → allows_data old.status ≡ true) → ((c d : Contents) → wrote c d → IsOrdered c → IsOrdered d) → WriteEnds refusal wrote old new turn → is_open old.work ≡ false → GivesUp old new turn → to ≡ from
+      → IfKept turn (StandGoes w (λ a. ⊥) ⊤ old new from to turn)
+  writes_goes refusal wrote old new from to turn may keeps ends rests gone quiet = by (open_so old.work rests)
+    where
+      by : (old.work ≡ Idle) ⊎ (old.work ≡ GaveUp) → IfKept turn (StandGoes w (λ a. ⊥) ⊤ old new from to turn)
+      by (inl idle) = subst (λ o. IfKept turn (StandGoes w (λ a. ⊥) ⊤ old new from o turn)) (sym quiet) (writes_idle refusal wrote old new from turn may keeps ends idle)
+      by (inr e) = gone_kept (StandGoes w (λ a. ⊥) ⊤ old new from to turn) old new turn e gone
+
+  opened : (old new : Standing P Q K) (from to : Posted) (turn : Turn (Result (TxnAnswer Q) Error)) → Opens w new from to turn → Expects (work_waits w old.work) (work_waits w new.work) (λ a. ⊥) from to
+  opened old new from to turn opens = let x = opens.expects in record {
+    sends = x.sends;
+    pushed = x.pushed;
+    only = λ a y. elim (x.only a y) [ inl b ↦ absurd b.0 | inr s ↦ inr s ];
+  }
+
+  waiting_open : (turn : Turn (Result (TxnAnswer Q) Error)) (g : Work P Q K) → is_open g ≡ is_waiting turn → turn ≡ Waits → is_open g ≡ true
+  waiting_open turn g e f = e ∙ ap is_waiting f
+
+  refused_stays : (e : Error) (old new : Standing P Q K) (turn : Turn (Result (TxnAnswer Q) Error)) → IsRefused e old new turn → new ≡ old
+  refused_stays e old new Stopped r = r
+  refused_stays e old new Waits r = absurd r
+  refused_stays e old new (Ends v) r = r.1
+
+  -- it begins a commit, or is refused
+  pub commits_goes : (e : Error) (b : Bool) (old new : Standing P Q K) (from to : Posted) (turn : Turn (Result (TxnAnswer Q) Error))
+      → (b ≡ false → IsRefused e old new turn × (to ≡ from)) → (b ≡ true → TransactionMoves w (λ h. ⊤) (λ h. h) old new from to turn) → new.contents ≡ old.contents
+      → Opens w new from to turn → is_open new.work ≡ is_waiting turn
+      → IfKept turn (StandGoes w (λ a. ⊥) ⊤ old new from to turn)
+  commits_goes e true old new from to turn refused moves same opens busy = if_kept turn (λ kept. record {
+    arises = λ nexts news o low risen up reached x. moved _ _ old new from to o turn nexts news (moves refl) kept same (λ h y. y) low risen up reached x tt;
+    expects = opened old new from to turn opens;
+    runs = λ any f. waiting_open turn new.work busy f;
+  })
+  commits_goes e false old new from to turn refused moves same opens busy = let r = refused refl in if_kept turn (λ kept. record {
+    arises = λ nexts news o low risen up reached x. stays old new from to o nexts news (refused_stays e old new turn r.0) r.1 risen reached x;
+    expects = opened old new from to turn opens;
+    runs = λ any f. waiting_open turn new.work busy f;
+  })
+
+  ends_shut : (t : Ticket) (turn : Turn (Result (TxnAnswer Q) Error)) → IsUndetermined t turn → is_waiting turn ≡ false
+  ends_shut t Stopped u = refl
+  ends_shut t Waits u = absurd u
+  ends_shut t (Ends v) u = refl
+
+  -- a commit of it was lost, so that it is not known what became of it
+  left_alone : (t : Ticket) (old new : Standing P Q K) (from to o : Posted) (turn : Turn (Result (TxnAnswer Q) Error)) (nexts news : List ℕ) → turn ≢ Stopped → is_open old.work ≡ false → is_open new.work ≡ false → GivesUp old new turn
+      → new ≡ record old { work = new.work } → to ≡ from → IsRisen nexts news → IsReached from to o → StandArises w from nexts old → StandArises w o news new
+  left_alone t old new from to o turn nexts news kept rests shut gone e f risen reached x = by (open_so old.work rests) (open_so new.work shut)
+    where
+      by : (old.work ≡ Idle) ⊎ (old.work ≡ GaveUp) → (new.work ≡ Idle) ⊎ (new.work ≡ GaveUp) → StandArises w o news new
+      by (inr g) later = let d = gone.after g in absurd (kept d.0)
+      by (inl i) (inl j) = stays old new from to o nexts news (e ∙ ap (λ (y : Work P Q K). record old { work = y }) (j ∙ sym i)) f risen reached x
+      by (inl i) (inr g) = subst (StandArises w o news) (sym (e ∙ ap (λ (y : Work P Q K). record old { work = y }) g)) (record {
+        ordered = x.ordered;
+        arisen = record {
+          history = x.arisen.history;
+          fits = record { given = x.arisen.fits.given; unsent = x.arisen.fits.unsent; at = tt };
+          kept = kept_risen nexts news x.arisen.history risen x.arisen.kept;
+        };
+      })
+
+  pub rollbacks_goes : (e : Error) (b : Bool) (lost : Option Ticket) (old new : Standing P Q K) (from to : Posted) (turn : Turn (Result (TxnAnswer Q) Error))
+      → (b ≡ false → IsRefused e old new turn × (to ≡ from))
+      → ((t : Ticket) → b ≡ true → lost ≡ Some t → IsUndetermined t turn × (new ≡ record old { work = new.work }) × (to ≡ from))
+      → (b ≡ true → lost ≡ None → TransactionMoves w (λ h. ⊤) (λ h. h) old new from to turn) → new.contents ≡ old.contents
+      → Opens w new from to turn → is_open new.work ≡ is_waiting turn → is_open old.work ≡ false → GivesUp old new turn
+      → IfKept turn (StandGoes w (λ a. ⊥) ⊤ old new from to turn)
+  rollbacks_goes e true None old new from to turn refused undetermined moves same opens busy rests gone =
+      commits_goes e true old new from to turn (λ f. absurd (cc)) (λ f. moves refl refl) same opens busy
+  rollbacks_goes e true (Some t) old new from to turn refused undetermined moves same opens busy rests gone = let u = undetermined t refl refl in if_kept turn (λ kept. record {
+    arises = λ nexts news o low risen up reached x. left_alone t old new from to o turn nexts news kept rests (busy ∙ ends_shut t turn u.0) gone u.1 u.2 risen reached x;
+    expects = opened old new from to turn opens;
+    runs = λ any f. waiting_open turn new.work busy f;
+  })
+  rollbacks_goes e false lost old new from to turn refused undetermined moves same opens busy rests gone =
+      commits_goes e false old new from to turn refused (λ f. absurd (cc)) same opens busy

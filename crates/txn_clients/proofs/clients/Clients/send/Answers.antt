@@ -1,0 +1,8 @@
+use Rattle.std.proofs.Common.{refl, ap}
+use Rattle.txn_clients.proofs.Telling.{on_ok}
+use Rattle.txn_kv.specs.declared.ticket.Ticket.{Ticket}
+use Rattle.txn_side.specs.Waiting.Awaited.{ReplyTo}
+use Rattle.txn_clients.proofs.clients.Clients.send.Goals as goal
+
+pub returns-clause-posts : goal.returns-clause-posts
+returns-clause-posts g c = on_ok c.post.result (λ e. record { posting = _; pushed = e; line_is = ap (λ (t : Ticket). t.line) c.ticket_of.ensures; awaited = ap (λ (t : Ticket). ReplyTo t.number) c.ticket_of.ensures }) c.post.ensures.posted

@@ -1,0 +1,24 @@
+use Rattle.std.proofs.Common.{◌-◌, refl, sym, ap, ◌∙◌}
+use Rattle.txn_clients.specs.Rows.{stand_of}
+use Rattle.txn_clients.specs.Clients.{rows_of, row_at}
+use Rattle.txn_clients.proofs.Accounting.{started}
+use Rattle.txn_clients.specs.Rows.{stand_of}
+use Rattle.txn_clients.proofs.Settling.{goes_weaker, job_heard, job_runs, quiet_goes}
+use Rattle.txn_clients.proofs.clients.Clients.start_job.Goals as goal
+
+pub returns-clause-accounts : goal.returns-clause-accounts
+returns-clause-accounts g c = started (c.args.line - 1) (rows_of c.args.self.now) (rows_of c.push.new.self) c.in_ok-push.ensures.accounts
+
+pub returns-then-not-has_job-clause-waits : goal.returns-then-not-has_job-clause-waits
+returns-then-not-has_job-clause-waits g c rest own sound = quiet_goes _ c.args.self.now c.args.self.now c.args.client rest c.args.turn.now.posted.items sound (λ n a x. x) (λ n. refl)
+
+pub returns-clause-waits : goal.returns-clause-waits
+returns-clause-waits g c rest own sound =
+    let job = c.if-not-has_job.ensures.job refl in
+    goes_weaker _ c.args.self.now c.push.new.self c.args.client _ (λ n a. ⊥) rest c.args.turn.now.posted.items c.push.new.turn.posted.items (λ n a x. absurd x)
+    (c.in_ok-push.ensures.waits rest (job_heard (rows_of c.args.self.now) c.args.line c.args.client job.0 c.requires.line own job.1) sound)
+
+pub returns-clause-runs : goal.returns-clause-runs
+returns-clause-runs g c running =
+    let job = c.if-not-has_job.ensures.job refl in
+    job_runs (rows_of c.args.self.now) (rows_of c.push.new.self) (c.args.line - 1) job.0 c.in_ok-push.field-0 job.1 c.in_ok-push.ensures.kind c.in_ok-push.ensures.runs running

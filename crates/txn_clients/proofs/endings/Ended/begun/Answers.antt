@@ -1,0 +1,5 @@
+use Rattle.txn_clients.proofs.Going.{begun_arises}
+use Rattle.txn_clients.proofs.endings.Ended.begun.Goals as goal
+
+pub returns-clause-arises : goal.returns-clause-arises
+returns-clause-arises g c (options, now, e) o nexts = begun_arises _ c.args.transaction options now o nexts e

@@ -1,0 +1,11 @@
+use Rattle.txn_clients.proofs.Going.{stand_acted, stand_heard, stand_unmoved}
+use Rattle.txn_clients.proofs.row.tell_transaction.Goals as goal
+
+pub returns-in-Start-clause-goes : goal.returns-in-Start-clause-goes
+returns-in-Start-clause-goes g c d m = stand_unmoved _ g.met.P.Plan.lawful g.met.Q.Plan.lawful g.met.K.Plan.lawful c.args.told d m c.args.transaction.now c.args.out.now c.in-Start.is
+
+pub returns-in_ok-progress-in-Act-clause-goes : goal.returns-in_ok-progress-in-Act-clause-goes
+returns-in_ok-progress-in-Act-clause-goes g c d m = stand_acted _ c.args.told c.in-Act.act d m c.args.transaction.now c.perform.new.transaction c.args.out.now c.perform.new.out c.in_ok-progress-in-Act.progress c.called.result c.in-Act.is c.called.ensures c.in_ok-progress-in-Act.ensures.goes
+
+pub returns-in_ok-progress-in-Heard-clause-goes : goal.returns-in_ok-progress-in-Heard-clause-goes
+returns-in_ok-progress-in-Heard-clause-goes g c d m = stand_heard _ c.args.told c.in-Heard.arrival d m c.args.transaction.now c.hear.new.transaction c.args.out.now c.hear.new.out c.in_ok-progress-in-Heard.progress c.called-in-Heard.result c.in-Heard.is c.called-in-Heard.ensures c.in_ok-progress-in-Heard.ensures.goes

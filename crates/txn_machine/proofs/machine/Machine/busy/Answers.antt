@@ -1,0 +1,19 @@
+use Rattle.std.proofs.Common.{refl, sym, ◌∙◌}
+use Rattle.txn_machine.specs.Running.{lists_of}
+use Rattle.txn_post.specs.Mail.{refusing}
+use Rattle.txn_machine.proofs.Staying.{heard_out, live_out, rest_out}
+use Rattle.txn_machine.proofs.machine.Machine.busy.Goals as goal
+
+pub returns-in_default-clause-out : goal.returns-in_default-clause-out
+returns-in_default-clause-out g c = rest_out (g.S.ClientSide.waits c.args.self.now.clients) (lists_of g.S.ClientSide.sight c.args.self.now) _ c.happened.result refl refl c.happened.ensures.nothing
+
+pub returns-then-not-can_be_served-clause-out : goal.returns-then-not-can_be_served-clause-out
+returns-then-not-can_be_served-clause-out g c = rest_out (g.S.ClientSide.waits c.args.self.now.clients) (lists_of g.S.ClientSide.sight c.args.self.now) _ c.happened-then-not-can_be_served.result refl refl c.happened-then-not-can_be_served.ensures.nothing
+
+pub returns-in-None-clause-out : goal.returns-in-None-clause-out
+returns-in-None-clause-out g c = rest_out (g.S.ClientSide.waits c.args.self.now.clients) (lists_of g.S.ClientSide.sight c.args.self.now) _ c.happened-in-None.result refl refl c.happened-in-None.ensures.nothing
+
+pub returns-in-Some-busy_reply-clause-out : goal.returns-in-Some-busy_reply-clause-out
+returns-in-Some-busy_reply-clause-out g c =
+    heard_out (g.S.ClientSide.waits c.args.self.now.clients) (g.S.ClientSide.waits c.args.self.now.clients) (g.S.ClientSide.waits c.hear.new.self.clients) (lists_of g.S.ClientSide.sight c.args.self.now) (lists_of g.S.ClientSide.sight (record c.args.self.now { post = c.refuse.new.self })) (lists_of g.S.ClientSide.sight c.hear.new.self) c.args.ticket c.in-Some.place refusing c.hear.result refl
+    (c.hear.ensures.waits (live_out (lists_of g.S.ClientSide.sight c.args.self.now) c.args.ticket c.in-Some.place (sym c.find_out.ensures.exact ∙ c.in-Some.is))) c.hear.ensures.can c.hear.ensures.post refl c.in-Some.ensures.found.ticket c.refuse.ensures c.requires.ordered.sound.mail

@@ -1,0 +1,21 @@
+use Rattle.std.proofs.Common.{true, refl, sym, ap, ◌∙◌, ◌≡◌, subst}
+use Rattle.txn_machine.specs.Running.{lists_of}
+use Rattle.txn_post.specs.Mail.{changing, delivering}
+use Rattle.txn_side.specs.Sight.{is_live}
+use Rattle.txn_machine.specs.Lists.{Lists}
+use Rattle.txn_machine.proofs.Staying.{heard_out, live_out, rest_out}
+use Rattle.txn_machine.proofs.machine.Machine.deliver.Goals as goal
+
+pub returns-in_default-clause-out : goal.returns-in_default-clause-out
+returns-in_default-clause-out g c = rest_out (g.S.ClientSide.waits c.args.self.now.clients) (lists_of g.S.ClientSide.sight c.args.self.now) _ c.happened.result refl refl c.happened.ensures.nothing
+
+pub returns-then-not-can_be_served-clause-out : goal.returns-then-not-can_be_served-clause-out
+returns-then-not-can_be_served-clause-out g c = rest_out (g.S.ClientSide.waits c.args.self.now.clients) (lists_of g.S.ClientSide.sight c.args.self.now) _ c.happened-then-not-can_be_served.result refl refl c.happened-then-not-can_be_served.ensures.nothing
+
+pub returns-clause-out : goal.returns-clause-out
+returns-clause-out g c =
+    heard_out (g.S.ClientSide.waits c.args.self.now.clients) (g.S.ClientSide.waits c.handle.new.self.clients) (g.S.ClientSide.waits c.hear.new.self.clients) (lists_of g.S.ClientSide.sight c.args.self.now) (lists_of g.S.ClientSide.sight (record c.handle.new.self { post = c.deliver.new.self })) (lists_of g.S.ClientSide.sight c.hear.new.self) c.args.ticket c.in-Some.place delivering c.hear.result
+    (ap (λ s. g.S.ClientSide.waits s) c.in_ok-reply.ensures.clients)
+    (c.hear.ensures.waits (subst (λ s. is_live (g.S.ClientSide.sight s) c.args.ticket.line ≡ true) (sym c.in_ok-reply.ensures.clients) (live_out (lists_of g.S.ClientSide.sight c.args.self.now) c.args.ticket c.in-Some.place (sym c.find_out.ensures.exact ∙ c.in-Some.is)))) c.hear.ensures.can c.hear.ensures.post
+    (ap (λ s. g.S.ClientSide.sight s) c.in_ok-reply.ensures.clients) c.in-Some.ensures.found.ticket
+    (c.deliver.ensures ∙ ap (λ (x : Lists). changing delivering c.in-Some.place x.mail) c.in_ok-reply.ensures.lists) c.requires.ordered.sound.mail
