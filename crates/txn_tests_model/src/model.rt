@@ -1,19 +1,19 @@
 //! The calls of the crate, each once. The rows of the request table are tried by the cases of the program `store_cases`.
 use std::alloc::Global;
-use std::test::Fail;
+use std::process::Abort;
 use txn_kv::{
-    ApiVersion, Assertion, CommitRequest, Context, Items, Key, LockInfo, Mutation, NoMemory, Op,
-    Peer, PrewriteRequest, RegionEpoch, Reply, Request, Timestamp, TsoRequest, TsoResponse, Value,
+    ApiVersion, Assertion, CommitRequest, Context, Items, Key, LockInfo, Mutation, Op, Peer,
+    PrewriteRequest, RegionEpoch, Reply, Request, Timestamp, TsoRequest, TsoResponse, Value,
 };
 use txn_model::cell::{Cell, Kind, Lock, Write};
 use txn_model::store::ModelStore;
 
-fn key(alloc: Global) -> Result<Key, NoMemory> {
-    Ok(Key::from([97].to_vec(alloc)?))
+fn key(rt: &impl Abort, alloc: Global) -> Key {
+    Key::from([97].to_vec(alloc).expect(rt, "memory"))
 }
 
-fn value(alloc: Global) -> Result<Value, NoMemory> {
-    Ok(Items::from_vec([118].to_vec(alloc)?))
+fn value(rt: &impl Abort, alloc: Global) -> Value {
+    Items::from_vec([118].to_vec(alloc).expect(rt, "memory"))
 }
 
 /// To the store that leads the only region.
@@ -29,25 +29,21 @@ fn here() -> Option<Context> {
     })
 }
 
-fn mutations(alloc: Global) -> Result<Items<Mutation>, NoMemory> {
-    let key = key(alloc)?;
-    let value = value(alloc)?;
-    let mut mutations = Items::new(alloc);
-    mutations.push(Mutation {
+fn put(rt: &impl Abort, alloc: Global) -> Mutation {
+    Mutation {
         op: Op::Put,
-        key,
-        value,
+        key: key(rt, alloc),
+        value: value(rt, alloc),
         assertion: Assertion::None,
-    })?;
-    Ok(mutations)
+    }
 }
 
-fn prewrite(alloc: Global) -> Result<PrewriteRequest, NoMemory> {
-    let mutations = mutations(alloc)?;
-    Ok(PrewriteRequest {
+fn prewrite(rt: &impl Abort, alloc: Global) -> PrewriteRequest {
+    let mutations = vec![in alloc; put(rt, alloc)].expect(rt, "memory");
+    PrewriteRequest {
         context: here(),
-        mutations,
-        primary_lock: key(alloc)?,
+        mutations: Items::from_vec(mutations),
+        primary_lock: key(rt, alloc),
         start_version: 1,
         lock_ttl: 3000,
         txn_size: 1,
@@ -56,64 +52,65 @@ fn prewrite(alloc: Global) -> Result<PrewriteRequest, NoMemory> {
         use_async_commit: false,
         try_one_pc: false,
         secondaries: Items::new(alloc),
-    })
+    }
 }
 
-fn commit(alloc: Global) -> Result<CommitRequest, NoMemory> {
-    let mut keys = Items::new(alloc);
-    keys.push(key(alloc)?)?;
-    Ok(CommitRequest {
+fn commit(rt: &impl Abort, alloc: Global) -> CommitRequest {
+    let keys = vec![in alloc; key(rt, alloc)].expect(rt, "memory");
+    CommitRequest {
         context: here(),
-        keys,
+        keys: Items::from_vec(keys),
         start_version: 1,
         commit_version: 5,
-    })
+    }
 }
 
-fn lock(alloc: Global) -> Result<Lock, NoMemory> {
-    Ok(Lock {
+fn lock(rt: &impl Abort, alloc: Global) -> Lock {
+    Lock {
         start: 1,
-        primary: key(alloc)?,
+        primary: key(rt, alloc),
         kind: Kind::Put,
-        value: value(alloc)?,
+        value: value(rt, alloc),
         ttl: 3000,
         for_update: 0,
         min_commit: 0,
         use_async: false,
         secondaries: Items::new(alloc),
-    })
+    }
 }
 
-fn committed_cell(alloc: Global) -> Result<Cell, NoMemory> {
-    let mut cell = Cell::empty(alloc, key(alloc)?);
-    cell.commits.push(Write {
+fn committed_cell(rt: &impl Abort, alloc: Global) -> Cell {
+    let write = Write {
         start: 1,
         commit: 5,
         kind: Kind::Put,
-        value: value(alloc)?,
-    })?;
-    Ok(cell)
-}
-
-/// The opening store with a commit.
-fn with_commit(alloc: Global) -> Result<ModelStore, NoMemory> {
-    let mut store = ModelStore::new(alloc)?;
-    store.serve(&Request::Prewrite(prewrite(alloc)?))?;
-    store.serve(&Request::Commit(commit(alloc)?))?;
-    Ok(store)
+        value: value(rt, alloc),
+    };
+    Cell {
+        key: key(rt, alloc),
+        lock: None,
+        commits: Items::from_vec(vec![in alloc; write].expect(rt, "memory")),
+        rolled: Items::new(alloc),
+    }
 }
 
 #[test]
-fn commits_a_key(rt: HostRuntime) -> Result<(), Fail> {
-    let store = with_commit(rt.alloc())?;
-    assert_eq!(rt; store.cells(), [committed_cell(rt.alloc())?].as_slice());
-    Ok(())
+fn commits_a_key(rt: HostRuntime) {
+    let alloc = rt.alloc();
+    let mut store = ModelStore::new(alloc).expect(&rt, "memory");
+    let prewrite = Request::Prewrite(prewrite(&rt, alloc));
+    store.serve(&prewrite).expect(&rt, "memory");
+    let commit = Request::Commit(commit(&rt, alloc));
+    store.serve(&commit).expect(&rt, "memory");
+    let cells = [committed_cell(&rt, alloc)];
+    assert_eq!(rt; store.cells(), cells.as_slice());
 }
 
 #[test]
-fn counts_on(rt: HostRuntime) -> Result<(), Fail> {
-    let mut store = ModelStore::new(rt.alloc())?;
-    let told = store.serve(&Request::Tso(TsoRequest { count: 3 }))?;
+fn counts_on(rt: HostRuntime) {
+    let mut store = ModelStore::new(rt.alloc()).expect(&rt, "memory");
+    let three = Request::Tso(TsoRequest { count: 3 });
+    let told = store.serve(&three).expect(&rt, "memory");
     let third = Timestamp {
         physical: 0,
         logical: 3,
@@ -125,38 +122,36 @@ fn counts_on(rt: HostRuntime) -> Result<(), Fail> {
     };
     assert_eq!(rt; told, Reply::Tso(last));
     assert_eq!(rt; store.last(), 3);
-    Ok(())
 }
 
 #[test]
-fn opens_with_zeros(rt: HostRuntime) -> Result<(), Fail> {
-    let store = ModelStore::new(rt.alloc())?;
+fn opens_with_zeros(rt: HostRuntime) {
+    let store = ModelStore::new(rt.alloc()).expect(&rt, "memory");
     assert_eq!(rt; store.clock(), 0);
     assert_eq!(rt; store.max_read(), 0);
     assert_eq!(rt; store.safepoint(), 0);
-    Ok(())
 }
 
 #[test]
-fn splits_once_and_leads(rt: HostRuntime) -> Result<(), Fail> {
-    let mut store = ModelStore::new(rt.alloc())?;
-    let key = key(rt.alloc())?;
-    let first = store.split(&key)?;
-    let again = store.split(&key)?;
-    assert!(rt; first && !again);
+fn splits_once_and_leads(rt: HostRuntime) {
+    let alloc = rt.alloc();
+    let mut store = ModelStore::new(alloc).expect(&rt, "memory");
+    let key = key(&rt, alloc);
+    assert!(rt; store.split(&key).expect(&rt, "memory"));
+    assert!(rt; !store.split(&key).expect(&rt, "memory"));
     assert!(rt; store.lead(2, 3));
     store.set_clock(7);
     assert_eq!(rt; store.clock(), 7);
-    Ok(())
 }
 
 #[test]
-fn shows_a_lock(rt: HostRuntime) -> Result<(), Fail> {
+fn shows_a_lock(rt: HostRuntime) {
     let alloc = rt.alloc();
-    let info = lock(alloc)?.info(alloc, &key(alloc)?)?;
+    let key = key(&rt, alloc);
+    let info = lock(&rt, alloc).info(alloc, &key).expect(&rt, "memory");
     let shown = LockInfo {
-        key: key(alloc)?,
-        primary_lock: key(alloc)?,
+        primary_lock: key.try_clone().expect(&rt, "memory"),
+        key,
         lock_version: 1,
         lock_ttl: 3000,
         lock_type: Op::Put,
@@ -165,17 +160,19 @@ fn shows_a_lock(rt: HostRuntime) -> Result<(), Fail> {
         min_commit_ts: 0,
         secondaries: Items::new(alloc),
     };
-    assert_eq!(rt; info, shown);
-    Ok(())
+    assert!(rt; info == shown);
 }
 
 #[test]
-fn tells_cells_and_kinds_apart(rt: HostRuntime) -> Result<(), Fail> {
+fn tells_empty_cells_apart(rt: HostRuntime) {
     let alloc = rt.alloc();
-    let empty = Cell::empty(alloc, key(alloc)?);
-    let full = committed_cell(alloc)?;
-    assert!(rt; empty.is_empty() && !full.is_empty());
+    let empty = Cell::empty(alloc, key(&rt, alloc));
+    assert!(rt; empty.is_empty());
+    assert!(rt; !committed_cell(&rt, alloc).is_empty());
+}
+
+#[test]
+fn tells_kinds_apart(rt: HostRuntime) {
     assert!(rt; Kind::Lock.is_prewrite() && !Kind::Pessimistic.is_prewrite());
     assert!(rt; Kind::Del.is_written() && !Kind::Lock.is_written());
-    Ok(())
 }
