@@ -1,5 +1,5 @@
 -- A call of a client: for a timestamp, or for a transaction that begins at one.
-use Rattle.std.specs.Prelude.{◌≡◌, ⊤, ℕ, List, Some, false, Result, Ok, Err, refl}
+use Rattle.std.specs.Prelude.{◌≡◌, ⊤, ℕ, List, false, Result, Ok, Err, refl}
 use Rattle.std.proofs.Common.{subst, sym}
 use Rattle.std.proofs.Math.Nat.{le_refl}
 use Rattle.txn_kv.specs.Timestamp.{HasVersion, version_of}
@@ -39,7 +39,7 @@ use Rattle.txn_client.specs.declared.client_call.Wanted.TheVariants as wanted
 
 -- an ask was answered with this timestamp
 abbrev pub WasTold : List Event → Timestamp → Type 0
-WasTold h t = (ask : Ticket) × Has h (Answered ask (Some t))
+WasTold h t = (ask : Ticket) × Has h (Answered ask (Ok t))
 
 -- A timestamp is one that an ask was answered with. A transaction has just begun at such a one, with the options that it was
 -- wanted with.
@@ -152,7 +152,7 @@ Follows now (Ends v) old new turn = IsEnded (IsMade old.wanted now v) old new tu
 
 -- each timestamp that an ask was answered with was given after the ask
 abbrev pub AnswersAreGiven : List Event → Type 0
-AnswersAreGiven h = (ask : Ticket) (t : Timestamp) → Has h (Answered ask (Some t)) → WasTimed h ask (version_of t)
+AnswersAreGiven h = (ask : Ticket) (t : Timestamp) → Has h (Answered ask (Ok t)) → WasTimed h ask (version_of t)
 
 -- lemmas
 

@@ -1,6 +1,5 @@
 ghost use Rattle.std.specs.Prelude.{◌≡◌, ◌<◌, ◌^◌, IfOk, false, is_err, true};
 ghost use Rattle.std.specs.Bool.{MatchBool};
-ghost use Rattle.std.specs.Result.{result_ok};
 ghost use Rattle.txn_history.specs.Faults.{has_error, has_region_error};
 ghost use Rattle.txn_history.specs.Meaning.{missed, replied, started, timed, woken, Counts, Goes, IsUnbegun, Tells};
 ghost use Rattle.txn_history.specs.Phase.{unheard};
@@ -191,7 +190,7 @@ where
         requires answer { IsTimeAnswer answer }
         requires numbers { HasNumbers out.old }
         requires clock { now < 2 ^ 44 }
-        ensures tells { Tells called (timed (ticket_of out.old ask) (result_ok answer)) self.old self.new out.old out.new (turn_of result) }
+        ensures tells { Tells called (timed (ticket_of out.old ask) answer) self.old self.new out.old out.new (turn_of result) }
         ensures goes { Goes called.phase (stage_waits self.old.stage (TimeOf ask)) self.old self.new out.old out.new pd.old pd.new (turn_of result) }
         ensures counts { Counts called (is_err answer) false 0 0 self.old self.new out.old out.new (turn_of result) }
         ensures made { IfEnds (turn_of result) (IsMadeOf self.old.wanted now (arrivals.Time ask answer)) }

@@ -1,7 +1,8 @@
--- What becomes of what the transactions at the lines have taken in, as what stands there is told of something.
-use Rattle.std.proofs.Common.{◌≡◌, ◌≢◌, inl, inr, ℕ, zero, suc, ◌-◌, ◌<◌, ◌≤◌, Bool, true, false, List, [], ◌∷◌, ◌++◌, length, map, get_or, set, nat_eq, Option, Some, None, refl, sym, ap, ◌∙◌, subst, arith}
+-- How far the transactions at the lines come, and what they take in, as what stands there is told of something.
+use Rattle.std.proofs.Common.{◌≡◌, ◌≢◌, inl, inr, ℕ, zero, suc, ◌-◌, ◌<◌, ◌≤◌, Bool, true, false, List, [], ◌∷◌, ◌++◌, length, map, get_or, set, nat_eq, Option, Some, None, refl, sym, ap, ◌∙◌, subst, arith, append-nil}
 use Rattle.std.proofs.lemmas.Bool.Decides.{nat_tests}
 use Rattle.std.proofs.lemmas.List.{length-map}
+use Rattle.std.proofs.lemmas.List.Elements.{All-cons, All-head, All-nil, All-tail}
 use Rattle.std.specs.Prelude.{IfOk, IfSome, OnOk, Result, Ok, Err}
 use Rattle.txn_kv.specs.declared.errors.Error.{Error}
 use Rattle.txn_history.specs.Moves.{SameJob}
@@ -12,20 +13,27 @@ use Rattle.txn_history.specs.Turn.Turn.{Stopped, Waits, Ends}
 use Rattle.txn_plan.specs.declared.arrival.Arrival.{Arrival}
 use Rattle.txn_core.specs.Transaction.{Standing}
 use Rattle.txn_core.specs.declared.txn_answer.TxnAnswer.{TxnAnswer}
+use Rattle.txn_core.specs.declared.txn_answer.TxnAnswer.TheVariants as answer
 use Rattle.txn_client.specs.Calls.{IsMadeOf, called}
 use Rattle.txn_client.specs.declared.client_answer.ClientAnswer.{ClientAnswer}
 use Rattle.txn_client.specs.declared.client_answer.ClientAnswer.TheVariants.{Begun}
 use Rattle.txn_client.specs.declared.client_call.ClientCall.{ClientCall}
 use Rattle.txn_report.specs.declared.outcome.Outcome.{Outcome}
-use Rattle.txn_side.specs.Account.{Account, AreKept, AreNew, TakesIn, answer_by, answer_to, asked, is_write, new_account, refusal}
-use Rattle.txn_side.specs.Sight.{Stand, commits, outcomes_of, stand_at}
+use Rattle.txn_report.specs.declared.outcome.Outcome.TheVariants as outcomes
+use Rattle.txn_report.specs.declared.outcome.Payload.TheVariants as payloads
+use Rattle.txn_side.specs.Account.{Account, AnswersAtOnce, AreClosed, AreKept, AreNew, TakesIn, after_act, after_endings, awaited_line, closed, closed_by, is_write, new_account, refusal}
+use Rattle.txn_side.specs.Account as side
+use Rattle.txn_side.specs.Sight.{AskEnds, CallEnds, EndsAlone, Goes, LineGoes, Sight, Stand, StaysOrEnds, commits, outcomes_of, stand_at, still_open}
+use Rattle.txn_side.specs.declared.turn.Posting.{Posting}
 use Rattle.txn_side.specs.Sight.Stand.{Asking, Calling, HasBegun, Idle, IsClient, Past, Working}
 use Rattle.txn_side.specs.declared.act.Act.{Act}
 use Rattle.txn_side.specs.declared.act.Act.TheVariants as acts
 use Rattle.txn_side.specs.declared.turn.Ending.{Ending}
-use Rattle.txn_clients.specs.Accounts.{AccountsTold, AnswersNew, AnswersTold, EndsCall, EndsTold, WantsNew, account_at, account_in, account_of, after_told, ends_so, result_by}
-use Rattle.txn_clients.specs.Clients.{row_at, rows_of, stands_of}
-use Rattle.txn_clients.specs.Matching.{IsLine}
+use Rattle.txn_clients.specs.Accounts.{AccountTold, AccountsTold, AnswersAsk, AnswersNew, AnswersSo, AnswersTold, EndsAtOnce, HasHeard, HasTaken, RowTold, WantsNew, account_at, account_in, account_of, come_to, is_heard, outcome_by, outcome_in, status_of}
+use Rattle.txn_clients.specs.Closing.{Closes, ClosesIn, ComesTo, EndsBy, EndsCall, EndsOwn, GoesTold, HasComeTo, StandsAt, ends_so, status_by}
+use Rattle.txn_clients.specs.Clients.{HearsFor, row_at, rows_of, stands_of}
+use Rattle.txn_clients.specs.Matching.{AreMatched, IsLine}
+use Rattle.txn_clients.specs.Waiting.{IsAnswerOf}
 use Rattle.txn_clients.specs.Rows.{Pd, answer_in, stand_of, with_waits}
 use Rattle.txn_clients.specs.declared.answer.Answer.{Answer}
 use Rattle.txn_clients.specs.declared.answer.Answer.TheVariants as answers
@@ -36,8 +44,9 @@ use Rattle.txn_clients.specs.declared.row.Row.TheVariants as row
 use Rattle.txn_clients.specs.declared.told.Told.{Told}
 use Rattle.txn_clients.specs.declared.told.Told.TheVariants as tells
 use Rattle.txn_clients.proofs.Places.{rows_set}
+use Rattle.txn_clients.proofs.Sights.{HasSettled, ask_settles, call_settles}
 use Rattle.txn_clients.proofs.Stands.{or_other, or_same, same_line}
-use Rattle.txn_clients.proofs.Tables.{stand_of_line, waits_stand}
+use Rattle.txn_clients.proofs.Tables.{stand_of_line, stand_read, waits_stand}
 use Rattle.txn_clients.proofs.Taking.{begins_new}
 use Rattle.txn_clients.proofs.Telling.{begun_line, place_row}
 
@@ -63,30 +72,76 @@ kept_same accounts n = refl
 pub kept_then : (a b c : ℕ → Account) → AreKept a b → AreKept b c → AreKept a c
 kept_then a b c h k n = k n ∙ h n
 
+pub if_on_ok : {T E A : Type 0} (r : Result T E) (B : T → Type 0) → ((x : T) → B x → A) → IfOk r B → OnOk r A
+if_on_ok (Ok x) B f b = f x b
+if_on_ok (Err e) B f b = tt
+
+pub both_on_ok : {T E A B C : Type 0} (r : Result T E) → (A → B → C) → OnOk r A → OnOk r B → OnOk r C
+both_on_ok (Ok x) f a b = f a b
+both_on_ok (Err e) f a b = tt
+
 pub both_if_ok : {T E A : Type 0} (r : Result T E) (B C : T → Type 0) → ((x : T) → A → B x → C x) → OnOk r A → IfOk r B → IfOk r C
 both_if_ok (Ok x) B C f a b = f x a b
 both_if_ok (Err e) B C f a b = tt
 
-write_only : (act : Act) → is_write act ≡ true → commits act ≡ false
-write_only (acts.Put k v) w = refl
-write_only (acts.Insert k v) w = refl
-write_only (acts.Delete k) w = refl
-write_only (acts.Mutate ms) w = refl
-write_only (acts.Lock ks) w = refl
-write_only acts.Commit w = absurd (cc)
-write_only acts.Rollback w = absurd (cc)
-
 ends_one : (line : ℕ) (o : Outcome) → outcomes_of line (ends_so line o) ≡ o ∷ []
 ends_one line o = let e : nat_eq line line ≡ true = grind (arith, nat_tests) in rw e refl
 
--- how the call at a line ends
-pub ends_call : {Q : Type 0} (line c x : ℕ) (b : Bool) (stand : Stand) (v : Result (TxnAnswer Q) Error) (o : Outcome) (from to : List Ending) → stand ≡ Calling c x b → to ≡ from ++ ends_so line o
-    → (b ≡ false → (refused : Option Error) → v ≡ result_by refused → o ≡ answer_by refused) → EndsCall line stand v from to
-ends_call line c x b stand v o from to e items says = subst (λ s. EndsCall line s v from to) (sym e) (by b says)
+pub alone_so : (line : ℕ) (o : Outcome) → EndsAlone line (ends_so line o)
+alone_so line o = All-cons (λ (x : Ending). x.line ≡ line) (record { line = line; outcome = o }) [] refl (All-nil (λ (x : Ending). x.line ≡ line))
+
+-- none ends
+pub ends_nothing : (line : ℕ) (from : List Ending) → EndsOwn line from from
+ends_nothing line from = ([], sym (append-nil from), All-nil (λ (x : Ending). x.line ≡ line))
+
+-- no call of another line ends
+ends_none : (line m : ℕ) (more : List Ending) → EndsAlone line more → (m ≡ line → ⊥) → outcomes_of m more ≡ []
+ends_none line m [] all far = refl
+ends_none line m (e ∷ es) all far =
+    let other : nat_eq e.line m ≡ false = (let is = All-head (λ (x : Ending). x.line ≡ line) e es all in grind (arith, nat_tests, is, far)) in
+    rw other (ends_none line m es (All-tail (λ (x : Ending). x.line ≡ line) e es all) far)
+
+outcomes_after : (m : ℕ) (xs ys : List Ending) → outcomes_of m (xs ++ ys) ≡ outcomes_of m xs ++ outcomes_of m ys
+outcomes_after m [] ys = refl
+outcomes_after m (x ∷ xs) ys = by (nat_eq x.line m) refl (outcomes_after m xs ys)
   where
-    by : (b : Bool) → (b ≡ false → (refused : Option Error) → v ≡ result_by refused → o ≡ answer_by refused) → EndsCall line (Calling c x b) v from to
-    by true h = tt
-    by false h = λ refused is. items ∙ ap (λ z. from ++ ends_so line z) (h refl refused is)
+    by : (b : Bool) → nat_eq x.line m ≡ b → outcomes_of m (xs ++ ys) ≡ outcomes_of m xs ++ outcomes_of m ys → outcomes_of m ((x ∷ xs) ++ ys) ≡ outcomes_of m (x ∷ xs) ++ outcomes_of m ys
+    by true e rest = rw e (ap (λ (os : List Outcome). x.outcome ∷ os) rest)
+    by false e rest = rw e rest
+
+closed_none : (stand : Stand) (account : Account) → closed stand [] account ≡ account
+closed_none Idle account = refl
+closed_none (IsClient c) account = refl
+closed_none (Asking c b) account = refl
+closed_none (HasBegun c m) account = refl
+closed_none (Calling c x b) account = refl
+closed_none (Past c) account = refl
+closed_none (Working c) account = refl
+
+-- what is no call of a transaction closes none
+closed_other : (stand : Stand) (outs : List Outcome) (account : Account) → ((c x : ℕ) (b : Bool) → stand ≡ Calling c x b → ⊥) → closed stand outs account ≡ account
+closed_other Idle outs account other = refl
+closed_other (IsClient c) outs account other = refl
+closed_other (Asking c b) outs account other = refl
+closed_other (HasBegun c m) outs account other = refl
+closed_other (Calling c x b) outs account other = absurd (other c x b refl)
+closed_other (Past c) outs account other = refl
+closed_other (Working c) outs account other = refl
+
+-- where no call ended, no transaction came further
+pub nothing_closed : (s : Sight) (old new : ℕ → Account) → AreKept old new → AreClosed s [] old new
+nothing_closed s old new kept x = kept x ∙ sym (closed_none (stand_at s.stands (awaited_line (stand_at s.stands x))) (old x))
+
+pub closed_so : (s : Sight) (more these : List Ending) (old new : ℕ → Account) → these ≡ more → AreClosed s more old new → AreClosed s these old new
+closed_so s more these old new e h = subst (λ es. AreClosed s es old new) (sym e) h
+
+-- and then all stay
+pub closed_kept : (s : Sight) (ended : List Ending) (old mid new : ℕ → Account) → AreClosed s ended old mid → AreKept mid new → AreClosed s ended old new
+closed_kept s ended old mid new h k x = k x ∙ h x
+
+-- how the call at a line ends
+pub ends_call : {Q : Type 0} (line c x : ℕ) (b : Bool) (stand : Stand) (v : Result (TxnAnswer Q) Error) (o : Outcome) (from to : List Ending) → stand ≡ Calling c x b → to ≡ from ++ ends_so line o → o ≡ outcome_by b v → EndsCall line stand v from to
+ends_call line c x b stand v o from to e items says = subst (λ s. EndsCall line s v from to) (sym e) (items ∙ ap (λ z. from ++ ends_so line z) says)
 
 -- what holds where it did not give up
 pub progress_kept : {Q A : Type 0} (p : Progress (TxnAnswer Q)) → IfKept (turn_of (Ok p)) A → A
@@ -97,6 +152,61 @@ pub called_new : (P Q K : Type 0) (turn : Course (Result (TxnAnswer Q) Error)) �
 called_new P Q K Stopped = tt
 called_new P Q K Waits = tt
 called_new P Q K (Ends v) = tt
+
+-- What a status comes to by an answer
+
+status_committed : {Q : Type 0} (v : Result (TxnAnswer Q) Error) → status_of (status_by true v) ≡ side.committed_by true (outcome_by true v)
+status_committed (Err e) = refl
+status_committed (Ok (answer.Committed (Some t) job)) = refl
+status_committed (Ok (answer.Committed None job)) = refl
+status_committed (Ok answer.Unit) = refl
+status_committed (Ok (answer.Value x)) = refl
+status_committed (Ok (answer.Exists b)) = refl
+status_committed (Ok (answer.Pairs ps)) = refl
+status_committed (Ok (answer.Keys ks)) = refl
+status_committed (Ok (answer.Ttl n)) = refl
+
+status_rolled : {Q : Type 0} (v : Result (TxnAnswer Q) Error) (s : side.Status) → status_of (status_by false v) ≡ side.rolled_by false s (outcome_by false v)
+status_rolled (Err e) s = refl
+status_rolled (Ok (answer.Committed t job)) s = refl
+status_rolled (Ok answer.Unit) s = refl
+status_rolled (Ok (answer.Value x)) s = refl
+status_rolled (Ok (answer.Exists b)) s = refl
+status_rolled (Ok (answer.Pairs ps)) s = refl
+status_rolled (Ok (answer.Keys ks)) s = refl
+status_rolled (Ok (answer.Ttl n)) s = refl
+
+account_closed : {Q : Type 0} (b : Bool) (v : Result (TxnAnswer Q) Error) (old new : Account) → new.contents ≡ old.contents → new.status ≡ status_of (status_by b v) → new ≡ closed_by b (outcome_by b v) old
+account_closed true v old new c s = λ i. record { status = (s ∙ status_committed v) i; contents = c i }
+account_closed false v old new c s = λ i. record { status = (s ∙ status_rolled v old.status) i; contents = c i }
+
+awaited_begun : (stand : Stand) (m : ℕ) → awaited_line stand ≡ m → (m ≡ 0 → ⊥) → (c : ℕ) × (stand ≡ HasBegun c m)
+awaited_begun Idle m e far = absurd (far (sym e))
+awaited_begun (IsClient c) m e far = absurd (far (sym e))
+awaited_begun (Asking c b) m e far = absurd (far (sym e))
+awaited_begun (HasBegun c k) m e far = (c, ap (HasBegun c) e)
+awaited_begun (Calling c x b) m e far = absurd (far (sym e))
+awaited_begun (Past c) m e far = absurd (far (sym e))
+awaited_begun (Working c) m e far = absurd (far (sym e))
+
+same_call : (c d x y : ℕ) (b e : Bool) → Calling c x b ≡ Calling d y e → y ≡ x
+same_call c d x y b e q = cc
+
+no_idle : (c m : ℕ) → Idle ≡ HasBegun c m → ⊥
+no_idle c m q = cc
+
+write_done : (Q : Type 0) (act : Act) → is_write act ≡ true → outcome_by {Q = Q} (commits act) (Ok answer.Unit) ≡ outcomes.Ok payloads.Unit
+write_done Q (acts.Put k v) w = refl
+write_done Q (acts.Insert k v) w = refl
+write_done Q (acts.Delete k) w = refl
+write_done Q (acts.Mutate ms) w = refl
+write_done Q (acts.Lock ks) w = refl
+write_done Q acts.Commit w = absurd (cc)
+write_done Q acts.Rollback w = absurd (cc)
+
+failed_so : (Q : Type 0) (b : Bool) (e : Error) → outcome_by {Q = Q} b (Err e) ≡ outcomes.Err e
+failed_so Q true e = refl
+failed_so Q false e = refl
 
 module _ {P Q K : Type 0} where
   abbrev accounts : List (Row P Q K) → ℕ → Account
@@ -149,46 +259,54 @@ module _ {P Q K : Type 0} where
 
   -- What is told.
 
-  start_same : (r : Row P Q K) → after_told tells.Start r ≡ account_in r
-  start_same row.Plain = refl
-  start_same (row.Client c) = refl
-  start_same (row.Asking c b call) = refl
-  start_same (row.Begun c t m) = refl
-  start_same (row.Calling c x b) = refl
-  start_same (row.Past c) = refl
-  start_same (row.Working c job) = refl
+  start_same : (r : Row P Q K) (answer : Option (Answer P Q K)) (new : Account) → RowTold tells.Start answer r new → new ≡ account_in r
+  start_same row.Plain answer new h = h
+  start_same (row.Client c) answer new h = h
+  start_same (row.Asking c b call) answer new h = h
+  start_same (row.Begun c t m) answer new h = h
+  start_same (row.Calling c x b) answer new h = h
+  start_same (row.Past c) answer new h = h
+  start_same (row.Working c job) answer new h = h
 
-  heard_same : (a : Arrival) (r : Row P Q K) → after_told (tells.Heard a) r ≡ account_in r
-  heard_same a row.Plain = refl
-  heard_same a (row.Client c) = refl
-  heard_same a (row.Asking c b call) = refl
-  heard_same a (row.Begun c t m) = refl
-  heard_same a (row.Calling c x b) = refl
-  heard_same a (row.Past c) = refl
-  heard_same a (row.Working c job) = refl
+  -- where nothing is answered, nothing comes further
+  unanswered_same : (a : Arrival) (r : Row P Q K) (new : Account) → RowTold (tells.Heard a) None r new → new ≡ account_in r
+  unanswered_same a row.Plain new h = h
+  unanswered_same a (row.Client c) new h = h
+  unanswered_same a (row.Asking c b call) new h = h
+  unanswered_same a (row.Begun c t m) new h = h
+  unanswered_same a (row.Calling c x b) new h = h
+  unanswered_same a (row.Past c) new h = h
+  unanswered_same a (row.Working c job) new h = h
 
-  told_same : (told : Told) (at : ℕ) (old new : List (Row P Q K)) → after_told told (row_at old at) ≡ account_in (row_at old at) → AccountsTold told at old new → AreKept (accounts old) (accounts new)
-  told_same told at old new same h n = elim (same_line (suc at) n) [
-    | inl e ↦ subst (λ k. account_at new k ≡ account_at old k) (sym e) (h.own ∙ same)
+  -- nor where a call for a timestamp is
+  asked_same : (a : Arrival) (v : Result (ClientAnswer Pd P Q K) Error) (r : Row P Q K) (new : Account) → IsAnswerOf (stand_of r) (answers.Asked v) → RowTold (tells.Heard a) (Some (answers.Asked v)) r new → new ≡ account_in r
+  asked_same a v row.Plain new k h = h
+  asked_same a v (row.Client c) new k h = h
+  asked_same a v (row.Asking c b call) new k h = h
+  asked_same a v (row.Begun c t m) new k h = absurd k
+  asked_same a v (row.Calling c x b) new k h = h
+  asked_same a v (row.Past c) new k h = h
+  asked_same a v (row.Working c job) new k h = h
+
+  told_same : (told : Told) (at : ℕ) (answer : Option (Answer P Q K)) (old new : List (Row P Q K)) → (RowTold told answer (row_at old at) (account_at new (suc at)) → account_at new (suc at) ≡ account_in (row_at old at)) → AccountsTold told at answer old new → AreKept (accounts old) (accounts new)
+  told_same told at answer old new same h n = elim (same_line (suc at) n) [
+    | inl e ↦ subst (λ k. account_at new k ≡ account_at old k) (sym e) (same h.own)
     | inr far ↦ h.others n far
   ]
 
-  pub started : (at : ℕ) (old new : List (Row P Q K)) → AccountsTold tells.Start at old new → AreKept (accounts old) (accounts new)
-  started at old new h = told_same tells.Start at old new (start_same (row_at old at)) h
+  pub started : (at : ℕ) (answer : Option (Answer P Q K)) (old new : List (Row P Q K)) → AccountsTold tells.Start at answer old new → AreKept (accounts old) (accounts new)
+  started at answer old new h = told_same tells.Start at answer old new (start_same (row_at old at) answer (account_at new (suc at))) h
 
-  pub heard : (a : Arrival) (at : ℕ) (old new : List (Row P Q K)) → AccountsTold (tells.Heard a) at old new → AreKept (accounts old) (accounts new)
-  heard a at old new h = told_same (tells.Heard a) at old new (heard_same a (row_at old at)) h
+  pub told_then : (told : Told) (at : ℕ) (answer : Option (Answer P Q K)) (old mid new : List (Row P Q K)) → AccountsTold told at answer old mid → AreKept (accounts mid) (accounts new) → AccountsTold told at answer old new
+  told_then told at answer old mid new h k = record { own = subst (RowTold told answer (row_at old at)) (sym (k (suc at))) h.own; others = λ n far. k n ∙ h.others n far }
 
-  pub told_then : (told : Told) (at : ℕ) (old mid new : List (Row P Q K)) → AccountsTold told at old mid → AreKept (accounts mid) (accounts new) → AccountsTold told at old new
-  told_then told at old mid new h k = record { own = k (suc at) ∙ h.own; others = λ n far. k n ∙ h.others n far }
+  pub told_rows : (told : Told) (at : ℕ) (answer : Option (Answer P Q K)) (old mid new : List (Row P Q K)) → new ≡ mid → AccountsTold told at answer old mid → AccountsTold told at answer old new
+  told_rows told at answer old mid new e h = subst (λ (rs : List (Row P Q K)). AccountsTold told at answer old rs) (sym e) h
 
-  pub told_rows : (told : Told) (at : ℕ) (old mid new : List (Row P Q K)) → new ≡ mid → AccountsTold told at old mid → AccountsTold told at old new
-  told_rows told at old mid new e h = subst (λ (rs : List (Row P Q K)). AccountsTold told at old rs) (sym e) h
-
-  pub put_accounts : (s : Clients P Q K) (at : ℕ) (p q : Place P Q K) (told : Told) → at < length (rows_of s) → p ≡ get_or s.places.items at p → account_in q.row ≡ after_told told p.row
-      → AccountsTold told at (rows_of s) (map (λ (x : Place P Q K). x.row) (set s.places.items at q))
-  put_accounts s at p q told low e h = told_rows told at (rows_of s) (set (rows_of s) at q.row) (map (λ (x : Place P Q K). x.row) (set s.places.items at q)) (rows_set s.places.items at q) (record {
-    own = ap account_in (or_same (rows_of s) at q.row row.Plain low) ∙ h ∙ ap (λ (r : Row P Q K). after_told told r) (sym (place_row s at p low e));
+  pub put_accounts : (s : Clients P Q K) (at : ℕ) (p q : Place P Q K) (told : Told) (answer : Option (Answer P Q K)) → at < length (rows_of s) → p ≡ get_or s.places.items at p → RowTold told answer p.row (account_in q.row)
+      → AccountsTold told at answer (rows_of s) (map (λ (x : Place P Q K). x.row) (set s.places.items at q))
+  put_accounts s at p q told answer low e h = told_rows told at answer (rows_of s) (set (rows_of s) at q.row) (map (λ (x : Place P Q K). x.row) (set s.places.items at q)) (rows_set s.places.items at q) (record {
+    own = subst (λ (r : Row P Q K). RowTold told answer r (account_in (row_at (set (rows_of s) at q.row) at))) (sym (place_row s at p low e)) (subst (RowTold told answer p.row) (sym (ap account_in (or_same (rows_of s) at q.row row.Plain low))) h);
     others = λ n far. others n far;
   })
     where
@@ -198,6 +316,28 @@ module _ {P Q K : Type 0} where
 
   pub put_answers : (s : Clients P Q K) (at : ℕ) (p : Place P Q K) (told : Told) (o : Option (Answer P Q K)) → at < length (rows_of s) → p ≡ get_or s.places.items at p → AnswersTold told p.row o → AnswersTold told (row_at (rows_of s) at) o
   put_answers s at p told o low e h = subst (λ (r : Row P Q K). AnswersTold told r o) (sym (place_row s at p low e)) h
+
+  -- what a transaction did, by what it answered
+  pub acted_account : (told : Told) (act : Act) (old new : Standing P Q K) (p : Progress (TxnAnswer Q)) (o : Option (Answer P Q K)) → told ≡ tells.Act act → o ≡ answer_in answers.Called (turn_of (Ok p)) → IfKept (turn_of (Ok p)) (HasTaken act old new (turn_of (Ok p))) → AccountTold told o (account_of old) (account_of new)
+  acted_account told act old new p o is e h = subst (λ t. AccountTold t o (account_of old) (account_of new)) (sym is) (subst (λ (x : Option (Answer P Q K)). AccountTold (tells.Act act) x (account_of old) (account_of new)) (sym e) (by p h))
+    where
+      by : (p : Progress (TxnAnswer Q)) → IfKept (turn_of (Ok p)) (HasTaken act old new (turn_of (Ok p))) → AccountTold {P = P} {Q = Q} {K = K} (tells.Act act) (answer_in answers.Called (turn_of (Ok p))) (account_of old) (account_of new)
+      by Waiting h = h.account
+      by (Done v) h = h.account
+
+  pub acted_answers : (told : Told) (act : Act) (old new : Standing P Q K) (p : Progress (TxnAnswer Q)) (o : Option (Answer P Q K)) → told ≡ tells.Act act → o ≡ answer_in answers.Called (turn_of (Ok p)) → IfKept (turn_of (Ok p)) (HasTaken act old new (turn_of (Ok p))) → AnswersAsk told (account_of old) o
+  acted_answers told act old new p o is e h = subst (λ t. AnswersAsk t (account_of old) o) (sym is) (subst (λ (x : Option (Answer P Q K)). AnswersSo act (refusal act (account_of old)) x) (sym e) (by p (refusal act (account_of old)) (progress_kept p h).answer))
+    where
+      by : (p : Progress (TxnAnswer Q)) (why : Option Error) → EndsAtOnce act why (turn_of (Ok p)) → AnswersSo {P = P} {Q = Q} {K = K} act why (answer_in answers.Called (turn_of (Ok p)))
+      by p None h = λ w. ap (λ (t : Course (Result (TxnAnswer Q) Error)). answer_in {X = Answer P Q K} answers.Called t) (h w)
+      by p (Some why) h = ap (λ (t : Course (Result (TxnAnswer Q) Error)). answer_in {X = Answer P Q K} answers.Called t) h
+
+  pub heard_account : (told : Told) (a : Arrival) (old new : Standing P Q K) (p : Progress (TxnAnswer Q)) (o : Option (Answer P Q K)) → told ≡ tells.Heard a → o ≡ answer_in answers.Called (turn_of (Ok p)) → IfKept (turn_of (Ok p)) (HasHeard old new (turn_of (Ok p))) → AccountTold told o (account_of old) (account_of new)
+  heard_account told a old new p o is e h = subst (λ t. AccountTold t o (account_of old) (account_of new)) (sym is) (subst (λ (x : Option (Answer P Q K)). AccountTold (tells.Heard a) x (account_of old) (account_of new)) (sym e) (by p h))
+    where
+      by : (p : Progress (TxnAnswer Q)) → IfKept (turn_of (Ok p)) (HasHeard old new (turn_of (Ok p))) → AccountTold {P = P} {Q = Q} {K = K} (tells.Heard a) (answer_in answers.Called (turn_of (Ok p))) (account_of old) (account_of new)
+      by Waiting h = λ i. record { status = status_of (h.waits refl i); contents = h.contents i }
+      by (Done v) h = h.contents
 
   -- How calls end.
 
@@ -216,127 +356,258 @@ module _ {P Q K : Type 0} where
       first : AreKept (accounts rows) (accounts mid)
       first = kept_set rows (x - 1) (with_waits 0 (row_at rows (x - 1))) (waits_same 0 (row_at rows (x - 1)))
 
-  none_some : (v : Answer P Q K) → ◌≡◌ {A = Option (Answer P Q K)} None (Some v) → ⊥
-  none_some v e = cc
+  pub started_goes : (line at : ℕ) (stand : Stand) (old new : List (Row P Q K)) (from to : List Ending) → GoesTold tells.Start line at stand old new from to → AreKept (accounts old) (accounts new)
+  started_goes line at stand old new from to g = started at g.answer old new g.accounts
 
-  asked_called : (v : Result (ClientAnswer Pd P Q K) Error) (u : Result (TxnAnswer Q) Error) → ◌≡◌ {A = Option (Answer P Q K)} (Some (answers.Asked v)) (Some (answers.Called u)) → ⊥
-  asked_called v u e = cc
+  -- What waits for a line was told of something.
 
-  called_same : (v u : Result (TxnAnswer Q) Error) → ◌≡◌ {A = Option (Answer P Q K)} (Some (answers.Called v)) (Some (answers.Called u)) → v ≡ u
-  called_same v u e = cc
-
-  -- a write has an answer
-  pub ends_none : (told : Told) (r : Row P Q K) (line : ℕ) (stand : Stand) (from to : List Ending) → AnswersTold told r None → EndsTold told r line stand from to
-  ends_none (tells.Act act) (row.Begun d t m) line (Calling c x false) from to h = λ w. absurd (none_some (answers.Called (result_by (refusal act (account_of t)))) (h w))
-  ends_none tells.Start (row.Begun d t m) line (Calling c x false) from to h = tt
-  ends_none (tells.Heard a) (row.Begun d t m) line (Calling c x false) from to h = tt
-  ends_none told (row.Begun d t m) line (Calling c x true) from to h = tt
-  ends_none told (row.Begun d t m) line Idle from to h = tt
-  ends_none told (row.Begun d t m) line (IsClient c) from to h = tt
-  ends_none told (row.Begun d t m) line (Asking c b) from to h = tt
-  ends_none told (row.Begun d t m) line (HasBegun c k) from to h = tt
-  ends_none told (row.Begun d t m) line (Past c) from to h = tt
-  ends_none told (row.Begun d t m) line (Working c) from to h = tt
-  ends_none told row.Plain line stand from to h = tt
-  ends_none told (row.Client c) line stand from to h = tt
-  ends_none told (row.Asking c b call) line stand from to h = tt
-  ends_none told (row.Calling c x b) line stand from to h = tt
-  ends_none told (row.Past c) line stand from to h = tt
-  ends_none told (row.Working c job) line stand from to h = tt
-
-  -- which is no timestamp
-  pub ends_asked : (told : Told) (r : Row P Q K) (line : ℕ) (stand : Stand) (from to : List Ending) (v : Result (ClientAnswer Pd P Q K) Error) → AnswersTold told r (Some (answers.Asked v)) → EndsTold told r line stand from to
-  ends_asked (tells.Act act) (row.Begun d t m) line (Calling c x false) from to v h = λ w. absurd (asked_called v (result_by (refusal act (account_of t))) (h w))
-  ends_asked tells.Start (row.Begun d t m) line (Calling c x false) from to v h = tt
-  ends_asked (tells.Heard a) (row.Begun d t m) line (Calling c x false) from to v h = tt
-  ends_asked told (row.Begun d t m) line (Calling c x true) from to v h = tt
-  ends_asked told (row.Begun d t m) line Idle from to v h = tt
-  ends_asked told (row.Begun d t m) line (IsClient c) from to v h = tt
-  ends_asked told (row.Begun d t m) line (Asking c b) from to v h = tt
-  ends_asked told (row.Begun d t m) line (HasBegun c k) from to v h = tt
-  ends_asked told (row.Begun d t m) line (Past c) from to v h = tt
-  ends_asked told (row.Begun d t m) line (Working c) from to v h = tt
-  ends_asked told row.Plain line stand from to v h = tt
-  ends_asked told (row.Client c) line stand from to v h = tt
-  ends_asked told (row.Asking c b call) line stand from to v h = tt
-  ends_asked told (row.Calling c x b) line stand from to v h = tt
-  ends_asked told (row.Past c) line stand from to v h = tt
-  ends_asked told (row.Working c job) line stand from to v h = tt
-
-  -- and with which its call ends
-  pub ends_called : (told : Told) (r : Row P Q K) (line : ℕ) (stand : Stand) (from to : List Ending) (v : Result (TxnAnswer Q) Error) → AnswersTold told r (Some (answers.Called v)) → EndsCall line stand v from to → EndsTold told r line stand from to
-  ends_called (tells.Act act) (row.Begun d t m) line (Calling c x false) from to v h e = λ w. e (refusal act (account_of t)) (called_same v (result_by (refusal act (account_of t))) (h w))
-  ends_called tells.Start (row.Begun d t m) line (Calling c x false) from to v h e = tt
-  ends_called (tells.Heard a) (row.Begun d t m) line (Calling c x false) from to v h e = tt
-  ends_called told (row.Begun d t m) line (Calling c x true) from to v h e = tt
-  ends_called told (row.Begun d t m) line Idle from to v h e = tt
-  ends_called told (row.Begun d t m) line (IsClient c) from to v h e = tt
-  ends_called told (row.Begun d t m) line (Asking c b) from to v h e = tt
-  ends_called told (row.Begun d t m) line (HasBegun c k) from to v h e = tt
-  ends_called told (row.Begun d t m) line (Past c) from to v h e = tt
-  ends_called told (row.Begun d t m) line (Working c) from to v h e = tt
-  ends_called told row.Plain line stand from to v h e = tt
-  ends_called told (row.Client c) line stand from to v h e = tt
-  ends_called told (row.Asking c b call) line stand from to v h e = tt
-  ends_called told (row.Calling c x b) line stand from to v h e = tt
-  ends_called told (row.Past c) line stand from to v h e = tt
-  ends_called told (row.Working c job) line stand from to v h e = tt
-
-  -- A call of a transaction begins.
-
-  begun_told : (act : Act) (r : Row P Q K) (c m : ℕ) → stand_of r ≡ HasBegun c m → after_told (tells.Act act) r ≡ asked act (account_in r)
-  begun_told act (row.Begun d t k) c m e = refl
-  begun_told act row.Plain c m e = absurd (no e)
+  pub goes_none : (told : Told) (line at : ℕ) (stand : Stand) (old new : List (Row P Q K)) (from to : List Ending) (o : Option (Answer P Q K)) → o ≡ None → AccountsTold told at o old new → AnswersTold told (row_at old at) o → to ≡ from → GoesTold told line at stand old new from to
+  goes_none told line at stand old new from to o e h a same = record {
+    answer = None;
+    accounts = subst (λ (x : Option (Answer P Q K)). AccountsTold told at x old new) e h;
+    answers = subst (λ (x : Option (Answer P Q K)). AnswersTold told (row_at old at) x) e a;
+    kind = tt;
+    ends = same;
+    closes = closes_none told (row_at old at) (account_at new (suc at));
+  }
     where
-      no : Idle ≡ HasBegun c m → ⊥
-      no q = cc
-  begun_told act (row.Client d) c m e = absurd (no e)
+      closes_none : (told : Told) (r : Row P Q K) (new : Account) → Closes told stand None r new
+      closes_none tells.Start r new = tt
+      closes_none (tells.Act act) r new = tt
+      closes_none (tells.Heard a) r new = tt
+
+  pub goes_asked : (told : Told) (line at : ℕ) (stand : Stand) (old new : List (Row P Q K)) (from to : List Ending) (o : Option (Answer P Q K)) (v : Result (ClientAnswer Pd P Q K) Error) → o ≡ Some (answers.Asked v) → AccountsTold told at o old new → AnswersTold told (row_at old at) o → IfSome o (IsAnswerOf (stand_of (row_at old at))) → EndsOwn line from to → GoesTold told line at stand old new from to
+  goes_asked told line at stand old new from to o v e h a k ends = record {
+    answer = Some (answers.Asked v);
+    accounts = subst (λ (x : Option (Answer P Q K)). AccountsTold told at x old new) e h;
+    answers = subst (λ (x : Option (Answer P Q K)). AnswersTold told (row_at old at) x) e a;
+    kind = subst (λ (x : Option (Answer P Q K)). IfSome x (IsAnswerOf (stand_of (row_at old at)))) e k;
+    ends = ends;
+    closes = closes_asked told (row_at old at) (account_at new (suc at));
+  }
+    where
+      closes_asked : (told : Told) (r : Row P Q K) (new : Account) → Closes told stand (Some (answers.Asked v)) r new
+      closes_asked tells.Start r new = tt
+      closes_asked (tells.Act act) r new = tt
+      closes_asked (tells.Heard a) r new = tt
+
+  pub goes_called : (told : Told) (line at : ℕ) (stand : Stand) (old new : List (Row P Q K)) (from to : List Ending) (o : Option (Answer P Q K)) (v : Result (TxnAnswer Q) Error) → o ≡ Some (answers.Called v) → AccountsTold told at o old new → AnswersTold told (row_at old at) o → IfSome o (IsAnswerOf (stand_of (row_at old at))) → EndsCall line stand v from to
+      → Closes told stand (Some (answers.Called v)) (row_at old at) (account_at new (suc at)) → GoesTold told line at stand old new from to
+  goes_called told line at stand old new from to o v e h a k ends closes = record {
+    answer = Some (answers.Called v);
+    accounts = subst (λ (x : Option (Answer P Q K)). AccountsTold told at x old new) e h;
+    answers = subst (λ (x : Option (Answer P Q K)). AnswersTold told (row_at old at) x) e a;
+    kind = subst (λ (x : Option (Answer P Q K)). IfSome x (IsAnswerOf (stand_of (row_at old at)))) e k;
+    ends = ends;
+    closes = closes;
+  }
+
+  -- a transaction that has come as far as its answer says, once it was told
+  pub closes_so : (told : Told) (stand : Stand) (v : Result (TxnAnswer Q) Error) (old mid : Row P Q K) (new : Account) → stand_of mid ≡ stand_of old → account_in mid ≡ new → RowTold told (Some (answers.Called v)) old new → (is_heard told ≡ true → HasComeTo stand v mid) → Closes told stand (Some (answers.Called v)) old new
+  closes_so tells.Start stand v old mid new e m h come = tt
+  closes_so (tells.Act act) stand v old mid new e m h come = tt
+  closes_so (tells.Heard a) stand v row.Plain mid new e m h come = tt
+  closes_so (tells.Heard a) stand v (row.Client c) mid new e m h come = tt
+  closes_so (tells.Heard a) stand v (row.Asking c b call) mid new e m h come = tt
+  closes_so (tells.Heard a) stand v (row.Calling c x b) mid new e m h come = tt
+  closes_so (tells.Heard a) stand v (row.Past c) mid new e m h come = tt
+  closes_so (tells.Heard a) stand v (row.Working c job) mid new e m h come = tt
+  closes_so (tells.Heard a) stand v (row.Begun c t k) mid new e m h come = by stand mid e m (come refl)
+    where
+      there : (b : Bool) (mid : Row P Q K) → stand_of mid ≡ HasBegun c k → account_in mid ≡ new → StandsAt (status_by b v) mid → new.status ≡ status_of (status_by b v)
+      there b (row.Begun d u n) e m s = ap (λ (a : Account). a.status) (sym m) ∙ ap status_of s
+      there b row.Plain e m s = absurd (no e)
+        where
+          no : Idle ≡ HasBegun c k → ⊥
+          no q = cc
+      there b (row.Client d) e m s = absurd (no e)
+        where
+          no : IsClient d ≡ HasBegun c k → ⊥
+          no q = cc
+      there b (row.Asking d f call) e m s = absurd (no e)
+        where
+          no : Asking d f ≡ HasBegun c k → ⊥
+          no q = cc
+      there b (row.Calling d x f) e m s = absurd (no e)
+        where
+          no : Calling d x f ≡ HasBegun c k → ⊥
+          no q = cc
+      there b (row.Past d) e m s = absurd (no e)
+        where
+          no : Past d ≡ HasBegun c k → ⊥
+          no q = cc
+      there b (row.Working d job) e m s = absurd (no e)
+        where
+          no : Working d ≡ HasBegun c k → ⊥
+          no q = cc
+
+      by : (stand : Stand) (mid : Row P Q K) → stand_of mid ≡ HasBegun c k → account_in mid ≡ new → HasComeTo stand v mid → ComesTo stand v (account_of t) new
+      by (Calling d x b) mid e m s = account_closed b v (account_of t) new h (there b mid e m s)
+      by Idle mid e m s = tt
+      by (IsClient d) mid e m s = tt
+      by (Asking d b) mid e m s = tt
+      by (HasBegun d n) mid e m s = tt
+      by (Past d) mid e m s = tt
+      by (Working d) mid e m s = tt
+
+  -- Calls that end later than in their own line.
+
+  -- of this sight, of which each transaction that waits has a call that does
+  module _ (s : Sight) (old : List (Row P Q K)) (line at : ℕ) (is : s.stands ≡ stands_of old) (matched : AreMatched s.stands) (own : 1 ≤ line) where
+    -- none came further where all ended at a line that stands as no call of a transaction
+    closed_alone : (more : List Ending) (a : ℕ → Account) → EndsAlone line more → ((c x : ℕ) (b : Bool) → stand_at s.stands line ≡ Calling c x b → ⊥) → (y : ℕ) → after_endings s more y (a y) ≡ a y
+    closed_alone more a alone other y = elim (same_line line (awaited_line (stand_at s.stands y))) [
+      | inl e ↦ closed_other (stand_at s.stands (awaited_line (stand_at s.stands y))) (outcomes_of (awaited_line (stand_at s.stands y)) more) (a y) (λ c x b q. other c x b (ap (stand_at s.stands) (sym e) ∙ q))
+      | inr far ↦ ap (λ os. closed (stand_at s.stands (awaited_line (stand_at s.stands y))) os (a y)) (ends_none line (awaited_line (stand_at s.stands y)) more alone far) ∙ closed_none (stand_at s.stands (awaited_line (stand_at s.stands y))) (a y)
+    ]
+
+    -- the transaction of the call came further, and no other
+    closed_call : (c x d : ℕ) (b : Bool) (o : Outcome) (a new : ℕ → Account) → stand_at s.stands line ≡ Calling c x b → stand_at s.stands x ≡ HasBegun d line → new x ≡ closed_by b o (a x) → ((y : ℕ) → y ≢ x → new y ≡ a y) → AreClosed s (ends_so line o) a new
+    closed_call c x d b o a new calls begun here others y = elim (same_line x y) [
+      | inl e ↦ subst (λ k. new k ≡ after_endings s (ends_so line o) k (a k)) (sym e) (here ∙ sym (at_x))
+      | inr far ↦ others y far ∙ sym (elsewhere far)
+    ]
+      where
+        at_x : after_endings s (ends_so line o) x (a x) ≡ closed_by b o (a x)
+        at_x = ap (λ st. closed (stand_at s.stands (awaited_line st)) (outcomes_of (awaited_line st) (ends_so line o)) (a x)) begun
+            ∙ ap (λ st. closed st (outcomes_of line (ends_so line o)) (a x)) calls ∙ ap (λ os. closed (Calling c x b) os (a x)) (ends_one line o)
+
+        elsewhere : y ≢ x → after_endings s (ends_so line o) y (a y) ≡ a y
+        elsewhere far = elim (same_line line (awaited_line (stand_at s.stands y))) [
+          | inl e ↦ absurd (let w = awaited_begun (stand_at s.stands y) line e (λ z. let one = own in omega (arith, one, z)) in elim (matched y w.0 line w.1) [
+            | inl z ↦ (let one = own in omega (arith, one, z))
+            | inr q ↦ far (same_call c q.0 x y b q.1 (sym calls ∙ q.2))
+          ])
+          | inr off ↦ ap (λ os. closed (stand_at s.stands (awaited_line (stand_at s.stands y))) os (a y)) (ends_none line (awaited_line (stand_at s.stands y)) (ends_so line o) (alone_so line o) off) ∙ closed_none (stand_at s.stands (awaited_line (stand_at s.stands y))) (a y)
+        ]
+
+  -- what was told to what stands at this place, for this line
+  row_stand : (rows : List (Row P Q K)) (at : ℕ) → stand_of (row_at rows at) ≡ stand_at (stands_of rows) (suc at)
+  row_stand rows at = sym (stand_read rows at)
+
+  pub row_same : (old mid : List (Row P Q K)) (at : ℕ) → stands_of mid ≡ stands_of old → stand_of (row_at mid at) ≡ stand_of (row_at old at)
+  row_same old mid at e = row_stand mid at ∙ ap (λ ss. stand_at ss (suc at)) e ∙ sym (row_stand old at)
+
+  -- the row of a transaction
+  begun_row : (r : Row P Q K) (c m : ℕ) → stand_of r ≡ HasBegun c m → (t : Standing P Q K) × (r ≡ row.Begun c t m)
+  begun_row row.Plain c m e = absurd (no_idle c m e)
+  begun_row (row.Client d) c m e = absurd (no e)
     where
       no : IsClient d ≡ HasBegun c m → ⊥
       no q = cc
-  begun_told act (row.Asking d b call) c m e = absurd (no e)
+  begun_row (row.Asking d b call) c m e = absurd (no e)
     where
       no : Asking d b ≡ HasBegun c m → ⊥
       no q = cc
-  begun_told act (row.Calling d x b) c m e = absurd (no e)
+  begun_row (row.Begun d t n) c m e = (t, λ i. row.Begun (client e i) t (waits e i))
+    where
+      client : HasBegun d n ≡ HasBegun c m → d ≡ c
+      client q = cc
+
+      waits : HasBegun d n ≡ HasBegun c m → n ≡ m
+      waits q = cc
+  begun_row (row.Calling d x b) c m e = absurd (no e)
     where
       no : Calling d x b ≡ HasBegun c m → ⊥
       no q = cc
-  begun_told act (row.Past d) c m e = absurd (no e)
+  begun_row (row.Past d) c m e = absurd (no e)
     where
       no : Past d ≡ HasBegun c m → ⊥
       no q = cc
-  begun_told act (row.Working d job) c m e = absurd (no e)
+  begun_row (row.Working d job) c m e = absurd (no e)
     where
       no : Working d ≡ HasBegun c m → ⊥
       no q = cc
 
-  begun_ends : (act : Act) (r : Row P Q K) (c m d x line : ℕ) (from to : List Ending) → stand_of r ≡ HasBegun c m → is_write act ≡ true → EndsTold (tells.Act act) r line (Calling d x false) from to → to ≡ from ++ ends_so line (answer_to act (account_in r))
-  begun_ends act (row.Begun f t k) c m d x line from to e w h = h w
-  begun_ends act row.Plain c m d x line from to e w h = absurd (no e)
+  closes_begun : (a : Arrival) (stand : Stand) (c x : ℕ) (b : Bool) (v : Result (TxnAnswer Q) Error) (r : Row P Q K) (d m : ℕ) (new : Account) → stand ≡ Calling c x b → stand_of r ≡ HasBegun d m → Closes (tells.Heard a) stand (Some (answers.Called v)) r new → new ≡ closed_by b (outcome_by b v) (account_in r)
+  closes_begun a stand c x b v r d m new calls begun h =
+      let k = begun_row r d m begun in
+      subst (λ (z : Row P Q K). Closes (tells.Heard a) stand (Some (answers.Called v)) z new → new ≡ closed_by b (outcome_by b v) (account_in z)) (sym k.1)
+      (λ q. subst (λ st. ComesTo st v (account_of k.0) new) calls q) h
+
+  asked_stand : (r : Row P Q K) (v : Result (ClientAnswer Pd P Q K) Error) (d m : ℕ) → stand_of r ≡ HasBegun d m → IsAnswerOf (stand_of r) (answers.Asked v) → ⊥
+  asked_stand r v d m e k = subst (λ st. IsAnswerOf {P = P} {Q = Q} {K = K} st (answers.Asked v)) e k
+
+  -- Something came for a line: its call may have ended, and then its transaction came further by that.
+  pub heard_closes : (s : Sight) (a : Arrival) (line at : ℕ) (old new : List (Row P Q K)) (from to : List Ending) → s.stands ≡ stands_of old → AreMatched s.stands → 1 ≤ line → HearsFor s.stands line at (stand_at s.stands line)
+      → GoesTold (tells.Heard a) line at (stand_at s.stands line) old new from to → ClosesIn s old new from to
+  heard_closes s a line at old new from to is matched own hears g = by g.answer g.accounts g.kind g.ends g.closes
     where
-      no : Idle ≡ HasBegun c m → ⊥
-      no q = cc
-  begun_ends act (row.Client f) c m d x line from to e w h = absurd (no e)
+      there : stand_of (row_at old at) ≡ stand_at s.stands (suc at)
+      there = row_stand old at ∙ ap (λ ss. stand_at ss (suc at)) (sym is)
+
+      -- where the line is a call's, its transaction stands at the place
+      begun_there : (c x : ℕ) (b : Bool) → stand_at s.stands line ≡ Calling c x b → (suc at ≡ x) × ((d : ℕ) × (stand_at s.stands x ≡ HasBegun d line))
+      begun_there c x b e = subst (HearsFor s.stands line at) e hears
+
+      kept : (answer : Option (Answer P Q K)) → AccountsTold (tells.Heard a) at answer old new → (RowTold (tells.Heard a) answer (row_at old at) (account_at new (suc at)) → account_at new (suc at) ≡ account_in (row_at old at)) → AreKept (accounts old) (accounts new)
+      kept answer h same = told_same (tells.Heard a) at answer old new same h
+
+      by : (answer : Option (Answer P Q K)) → AccountsTold (tells.Heard a) at answer old new → IfSome answer (IsAnswerOf (stand_of (row_at old at))) → EndsBy line (stand_at s.stands line) answer from to
+          → Closes (tells.Heard a) (stand_at s.stands line) answer (row_at old at) (account_at new (suc at)) → ClosesIn s old new from to
+      by None h k ends closes = record {
+        more = [];
+        ended = ends ∙ sym (append-nil from);
+        closed = nothing_closed s (accounts old) (accounts new) (kept None h (unanswered_same a (row_at old at) (account_at new (suc at))));
+      }
+      by (Some (answers.Asked v)) h k ends closes = record {
+        more = ends.0;
+        ended = ends.1;
+        closed = λ y. kept (Some (answers.Asked v)) h (asked_same a v (row_at old at) (account_at new (suc at)) k) y
+            ∙ sym (closed_alone s old line at is matched own ends.0 (accounts old) ends.2
+            (λ c x b e. let z = begun_there c x b e in asked_stand (row_at old at) v z.1.0 line (there ∙ ap (stand_at s.stands) z.0 ∙ z.1.1) k) y);
+      }
+      by (Some (answers.Called v)) h k ends closes = called (stand_at s.stands line) refl
+        where
+          called : (stand : Stand) → stand_at s.stands line ≡ stand → ClosesIn s old new from to
+          called (Calling c x b) e = let z = begun_there c x b e in
+              let begun : stand_of (row_at old at) ≡ HasBegun z.1.0 line = there ∙ ap (stand_at s.stands) z.0 ∙ z.1.1 in
+              record {
+                more = ends_so line (outcome_by b v);
+                ended = subst (λ st. EndsCall line st v from to) e ends;
+                closed = closed_call s old line at is matched own c x z.1.0 b (outcome_by b v) (accounts old) (accounts new) e z.1.1
+                    (subst (λ n. account_at new n ≡ closed_by b (outcome_by b v) (account_at old n)) z.0 (closes_begun a (stand_at s.stands line) c x b v (row_at old at) z.1.0 line (account_at new (suc at)) e begun closes))
+                    (λ y far. h.others y (λ w. far (w ∙ z.0)));
+              }
+          called Idle e = absurd (subst (HearsFor s.stands line at) e hears)
+          called (IsClient c) e = absurd (subst (HearsFor s.stands line at) e hears)
+          called (HasBegun c m) e = absurd (subst (HearsFor s.stands line at) e hears)
+          called (Past c) e = absurd (subst (HearsFor s.stands line at) e hears)
+          called (Asking c b) e = absurd (subst (λ st. IsAnswerOf {P = P} {Q = Q} {K = K} st (answers.Called v)) (there ∙ ap (stand_at s.stands) (subst (HearsFor s.stands line at) e hears) ∙ e) k)
+          called (Working c) e = absurd (subst (λ st. IsAnswerOf {P = P} {Q = Q} {K = K} st (answers.Called v)) (there ∙ ap (stand_at s.stands) (subst (HearsFor s.stands line at) e hears) ∙ e) k)
+
+  -- nothing came for anybody
+  pub closes_nothing : (s : Sight) (rows : List (Row P Q K)) (from : List Ending) → ClosesIn s rows rows from from
+  closes_nothing s rows from = record { more = []; ended = sym (append-nil from); closed = nothing_closed s (accounts rows) (accounts rows) (kept_same (accounts rows)) }
+
+  -- of a turn in which nothing has ended before
+  pub closes_first : (s : Sight) (old new : List (Row P Q K)) (from to : List Ending) → from ≡ [] → ClosesIn s old new from to → AreClosed s to (accounts old) (accounts new)
+  closes_first s old new from to e h = closed_so s h.more to (accounts old) (accounts new) (h.ended ∙ ap (λ es. es ++ h.more) e) h.closed
+
+  -- where the same stood before
+  pub closed_rows : (s t : Sight) (old mid new : List (Row P Q K)) (ended : List Ending) → t.stands ≡ s.stands → mid ≡ old → AreClosed t ended (accounts mid) (accounts new) → AreClosed s ended (accounts old) (accounts new)
+  closed_rows s t old mid new ended stands e h x = subst (λ (rs : List (Row P Q K)). accounts new x ≡ after_endings t ended x (accounts rs x)) e (h x)
+      ∙ ap (λ ss. closed (stand_at ss (awaited_line (stand_at ss x))) (outcomes_of (awaited_line (stand_at ss x)) ended) (accounts old x)) stands
+
+  -- A call of a transaction begins.
+
+  -- what the newest line comes to by an answer
+  abbrev outs_in : Act → Option (Answer P Q K) → List Outcome
+  outs_in act None = []
+  outs_in act (Some (answers.Asked v)) = []
+  outs_in act (Some (answers.Called v)) = outcome_by (commits act) v ∷ []
+
+  come_so : (act : Act) (answer : Option (Answer P Q K)) (outs : List Outcome) → outs ≡ outs_in act answer → side.come_to outs ≡ outcome_in (commits act) answer
+  come_so act answer outs e = ap side.come_to e ∙ by answer
     where
-      no : IsClient f ≡ HasBegun c m → ⊥
-      no q = cc
-  begun_ends act (row.Asking f b call) c m d x line from to e w h = absurd (no e)
-    where
-      no : Asking f b ≡ HasBegun c m → ⊥
-      no q = cc
-  begun_ends act (row.Calling f y b) c m d x line from to e w h = absurd (no e)
-    where
-      no : Calling f y b ≡ HasBegun c m → ⊥
-      no q = cc
-  begun_ends act (row.Past f) c m d x line from to e w h = absurd (no e)
-    where
-      no : Past f ≡ HasBegun c m → ⊥
-      no q = cc
-  begun_ends act (row.Working f job) c m d x line from to e w h = absurd (no e)
-    where
-      no : Working f ≡ HasBegun c m → ⊥
-      no q = cc
+      by : (answer : Option (Answer P Q K)) → side.come_to (outs_in act answer) ≡ outcome_in (commits act) answer
+      by None = refl
+      by (Some (answers.Asked v)) = refl
+      by (Some (answers.Called v)) = refl
+
+  at_once : (act : Act) (why : Option Error) (answer : Option (Answer P Q K)) (outs : List Outcome) → AnswersSo act why answer → outs ≡ outs_in act answer → AnswersAtOnce act why outs
+  at_once act None answer outs h e = λ w. e ∙ ap (outs_in act) (h w) ∙ ap (λ (o : Outcome). o ∷ []) (write_done Q act w)
+  at_once act (Some why) answer outs h e = e ∙ ap (outs_in act) h ∙ ap (λ (o : Outcome). o ∷ []) (failed_so Q (commits act) why)
 
   module _ (rows mid : List (Row P Q K)) (line x c : ℕ) (b : Bool) (is : IsLine (stands_of rows) line) (idle : stand_at (stands_of rows) line ≡ Idle) (free : stand_at (stands_of rows) x ≡ HasBegun c 0)
       (e : mid ≡ set (set rows (x - 1) (with_waits line (row_at rows (x - 1)))) (line - 1) (row.Calling c x b)) where
@@ -378,16 +649,35 @@ module _ {P Q K : Type 0} where
     same_x = calling_kept (suc (x - 1)) ∙ ap (λ k. account_at rows k) is_x
 
     -- and does what it is asked
-    pub takes_in : (new : List (Row P Q K)) (act : Act) (newest : ℕ) (ended : List Ending) → line ≡ newest → b ≡ commits act → AccountsTold (tells.Act act) (x - 1) mid new → stand_at (stands_of mid) line ≡ Calling c x b
-        → EndsTold (tells.Act act) (row_at mid (x - 1)) line (stand_at (stands_of mid) line) [] ended → TakesIn act x newest (accounts rows) (accounts new) ended
-    takes_in new act newest ended last kind told calls ends = record {
-      own = subst (λ k. account_at new k ≡ asked act (account_at rows x)) is_x (told.own ∙ begun_told act (row_at mid (x - 1)) c line stands_x ∙ ap (asked act) same_x);
-      others = λ n off. told.others n (λ z. off (z ∙ is_x)) ∙ calling_kept n;
-      answer = λ w.
-          let stand : stand_at (stands_of mid) line ≡ Calling c x false = calls ∙ ap (Calling c x) (kind ∙ write_only act w) in
-          let all = begun_ends act (row_at mid (x - 1)) c line c x line [] ended stands_x w (subst (λ s. EndsTold (tells.Act act) (row_at mid (x - 1)) line s [] ended) stand ends) in
-          ap (outcomes_of newest) all ∙ ap (λ k. outcomes_of k (ends_so line (answer_to act (account_in (row_at mid (x - 1)))))) (sym last) ∙ ends_one line (answer_to act (account_in (row_at mid (x - 1)))) ∙ ap (λ a. answer_to act a ∷ []) same_x;
-    }
+    pub takes_in : (new : List (Row P Q K)) (act : Act) (newest : ℕ) (ended : List Ending) → line ≡ newest → b ≡ commits act → stand_at (stands_of mid) line ≡ Calling c x b
+        → GoesTold (tells.Act act) line (x - 1) (stand_at (stands_of mid) line) mid new [] ended → TakesIn act x newest (accounts rows) (accounts new) ended
+    takes_in new act newest ended last kind calls g = by g.answer g.accounts g.answers g.kind g.ends
+      where
+        begun_at : (t : Standing P Q K) × (row_at mid (x - 1) ≡ row.Begun c t line)
+        begun_at = begun_row (row_at mid (x - 1)) c line stands_x
+
+        own_told : (answer : Option (Answer P Q K)) → RowTold (tells.Act act) answer (row_at mid (x - 1)) (account_at new (suc (x - 1))) → account_at new x ≡ after_act act true (outcome_in (commits act) answer) (account_at rows x)
+        own_told answer h = subst (λ k. account_at new k ≡ after_act act true (outcome_in (commits act) answer) (account_at rows x)) is_x
+            (subst (λ (r : Row P Q K). RowTold (tells.Act act) answer r (account_at new (suc (x - 1))) → account_at new (suc (x - 1)) ≡ after_act act true (outcome_in (commits act) answer) (account_in r)) (sym begun_at.1) (λ q. q) h
+            ∙ ap (after_act act true (outcome_in (commits act) answer)) same_x)
+
+        answered : (answer : Option (Answer P Q K)) → AnswersTold (tells.Act act) (row_at mid (x - 1)) answer → AnswersSo act (refusal act (account_at rows x)) answer
+        answered answer h = subst (λ z. AnswersSo act (refusal act z) answer) same_x
+            (subst (λ (r : Row P Q K). AnswersTold (tells.Act act) r answer → AnswersSo act (refusal act (account_in r)) answer) (sym begun_at.1) (λ q. q) h)
+
+        -- what comes of the line so far
+        comes : (answer : Option (Answer P Q K)) → IfSome answer (IsAnswerOf (stand_of (row_at mid (x - 1)))) → EndsBy line (stand_at (stands_of mid) line) answer [] ended → outcomes_of newest ended ≡ outs_in act answer
+        comes None k ends = ap (outcomes_of newest) ends
+        comes (Some (answers.Asked v)) k ends = absurd (asked_stand (row_at mid (x - 1)) v c line stands_x k)
+        comes (Some (answers.Called v)) k ends = ap (outcomes_of newest) (subst (λ st. EndsCall line st v [] ended) calls ends) ∙ ap (λ n. outcomes_of n (ends_so line (outcome_by b v))) (sym last) ∙ ends_one line (outcome_by b v) ∙ ap (λ (f : Bool). outcome_by f v ∷ []) kind
+
+        by : (answer : Option (Answer P Q K)) → AccountsTold (tells.Act act) (x - 1) answer mid new → AnswersTold (tells.Act act) (row_at mid (x - 1)) answer → IfSome answer (IsAnswerOf (stand_of (row_at mid (x - 1)))) → EndsBy line (stand_at (stands_of mid) line) answer [] ended
+            → TakesIn act x newest (accounts rows) (accounts new) ended
+        by answer told says k ends = record {
+          own = own_told answer told.own ∙ ap (λ o. after_act act true o (account_at rows x)) (sym (come_so act answer (outcomes_of newest ended) (comes answer k ends)));
+          others = λ n off. told.others n (λ z. off (z ∙ is_x)) ∙ calling_kept n;
+          answer = at_once act (refusal act (account_at rows x)) answer (outcomes_of newest ended) (answered answer says) (comes answer k ends);
+        }
 
   -- What a call that is told of something begins.
 
@@ -408,6 +698,19 @@ module _ {P Q K : Type 0} where
   pub asked_answer : (o : Option (Answer P Q K)) (turn : Course (Result (TxnAnswer Q) Error)) (r : Result (TxnAnswer Q) Error) → o ≡ answer_in answers.Called turn → turn ≡ Ends r → o ≡ Some (answers.Called r)
   asked_answer o turn r e k = e ∙ ap (λ (t : Course (Result (TxnAnswer Q) Error)). answer_in {X = Answer P Q K} answers.Called t) k
 
+  -- what stands there is no call of a transaction, which would have come anywhere
+  pub come_other : (r mid : Row P Q K) (stand : Stand) (v : Result (TxnAnswer Q) Error) → stand ≡ stand_of r → ((c x : ℕ) (b : Bool) → r ≡ row.Calling c x b → ⊥) → HasComeTo stand v mid
+  come_other r mid stand v e other = subst (λ s. HasComeTo s v mid) (sym e) (by r other)
+    where
+      by : (r : Row P Q K) → ((c x : ℕ) (b : Bool) → r ≡ row.Calling c x b → ⊥) → HasComeTo (stand_of r) v mid
+      by row.Plain other = tt
+      by (row.Client c) other = tt
+      by (row.Asking c b call) other = tt
+      by (row.Begun c t m) other = tt
+      by (row.Calling c x b) other = absurd (other c x b refl)
+      by (row.Past c) other = tt
+      by (row.Working c job) other = tt
+
   -- what is no call of a transaction ends so too
   pub ends_other : (r : Row P Q K) (line : ℕ) (stand : Stand) (v : Result (TxnAnswer Q) Error) (from to : List Ending) → stand ≡ stand_of r → ((c x : ℕ) (b : Bool) → r ≡ row.Calling c x b → ⊥) → EndsCall line stand v from to
   ends_other r line stand v from to e other = subst (λ s. EndsCall line s v from to) (sym e) (by r other)
@@ -420,3 +723,72 @@ module _ {P Q K : Type 0} where
       by (row.Calling c x b) other = absurd (other c x b refl)
       by (row.Past c) other = tt
       by (row.Working c job) other = tt
+
+-- One part after another
+
+-- no call is waited for where one has ended
+settled_waits : (c : ℕ) (s : Stand) → HasSettled c s → awaited_line s ≡ 0
+settled_waits c s (inl e) = ap awaited_line e
+settled_waits c s (inr (inl e)) = ap awaited_line e
+settled_waits c s (inr (inr e)) = ap awaited_line e
+
+stays_quiet : (old new : Stand) (IsEnd : Outcome → Stand → Type 0) (c : ℕ) (outs : List Outcome) → awaited_line old ≡ 0 → ((o : Outcome) → IsEnd o new → HasSettled c new) → StaysOrEnds old IsEnd outs new → awaited_line new ≡ 0
+stays_quiet old new IsEnd c [] quiet settles h = ap awaited_line h ∙ quiet
+stays_quiet old new IsEnd c (o ∷ []) quiet settles h = settled_waits c new (settles o h)
+stays_quiet old new IsEnd c (o ∷ p ∷ os) quiet settles h = absurd h
+
+head_closes : (stand : Stand) (o : Outcome) (os zs : List Outcome) (account : Account) → closed stand (o ∷ zs) account ≡ closed stand (o ∷ os) account
+head_closes Idle o os zs account = refl
+head_closes (IsClient c) o os zs account = refl
+head_closes (Asking c b) o os zs account = refl
+head_closes (HasBegun c m) o os zs account = refl
+head_closes (Calling c x b) o os zs account = refl
+head_closes (Past c) o os zs account = refl
+head_closes (Working c) o os zs account = refl
+
+-- a call that did not end yet ends later as it would have
+still_closes : (ended : List Ending) (m : ℕ) (old new : Stand) (outs : List Outcome) (account : Account) → outcomes_of m ended ≡ [] → LineGoes ended m old new → closed new outs account ≡ closed old outs account
+still_closes ended m Idle new outs account none g = ap (λ st. closed st outs account) g.1
+still_closes ended m (IsClient c) new outs account none g = ap (λ st. closed st outs account) g.1
+still_closes ended m (Past c) new outs account none g = ap (λ st. closed st outs account) g.1
+still_closes ended m (Working c) new outs account none g = ap (λ st. closed st outs account) g.1
+still_closes ended m (HasBegun c k) new outs account none g = ap (λ st. closed st outs account) g.1
+still_closes ended m (Asking c b) new outs account none g = ap (λ st. closed st outs account) (subst (λ os. StaysOrEnds (Asking c b) (AskEnds c b) os new) none g)
+still_closes ended m (Calling c x b) new outs account none g = ap (λ st. closed st outs account) (subst (λ os. StaysOrEnds (Calling c x b) (CallEnds c b) os new) none g)
+
+no_line : (s : Sight) (outs : List Outcome) (account : Account) (m : ℕ) → m ≡ 0 → closed (stand_at s.stands m) outs account ≡ account
+no_line s outs account m e = ap (λ k. closed (stand_at s.stands k) outs account) e
+
+pub closes_then : (posted : List Posting) (first more : List Ending) (old mid : Sight) (a b c : ℕ → Account) → Goes posted first old mid → AreClosed old first a b → AreClosed mid more b c → AreClosed old (first ++ more) a c
+closes_then posted first more old mid a b c g f h x = by (stand_at old.stands x) refl (g.lines x)
+  where
+    later : (m : ℕ) → outcomes_of m (first ++ more) ≡ outcomes_of m first ++ outcomes_of m more
+    later m = outcomes_after m first more
+
+    -- it waits for no call, before and after
+    quiet : awaited_line (stand_at old.stands x) ≡ 0 → awaited_line (stand_at mid.stands x) ≡ 0 → c x ≡ after_endings old (first ++ more) x (a x)
+    quiet was is = h x ∙ no_line mid (outcomes_of (awaited_line (stand_at mid.stands x)) more) (b x) (awaited_line (stand_at mid.stands x)) is
+        ∙ f x ∙ no_line old (outcomes_of (awaited_line (stand_at old.stands x)) first) (a x) (awaited_line (stand_at old.stands x)) was
+        ∙ sym (no_line old (outcomes_of (awaited_line (stand_at old.stands x)) (first ++ more)) (a x) (awaited_line (stand_at old.stands x)) was)
+
+    begun : (d m : ℕ) (outs : List Outcome) → stand_at old.stands x ≡ HasBegun d m → outcomes_of m first ≡ outs → stand_at mid.stands x ≡ HasBegun d (still_open m outs) → c x ≡ after_endings old (first ++ more) x (a x)
+    begun d m [] e none now =
+        h x ∙ ap (λ st. closed (stand_at mid.stands (awaited_line st)) (outcomes_of (awaited_line st) more) (b x)) now
+        ∙ ap (closed (stand_at mid.stands m) (outcomes_of m more)) (f x ∙ ap (λ st. closed (stand_at old.stands (awaited_line st)) (outcomes_of (awaited_line st) first) (a x)) e ∙ ap (λ os. closed (stand_at old.stands m) os (a x)) none ∙ closed_none (stand_at old.stands m) (a x))
+        ∙ still_closes first m (stand_at old.stands m) (stand_at mid.stands m) (outcomes_of m more) (a x) none (g.lines m)
+        ∙ sym (ap (λ st. closed (stand_at old.stands (awaited_line st)) (outcomes_of (awaited_line st) (first ++ more)) (a x)) e ∙ ap (λ os. closed (stand_at old.stands m) os (a x)) (later m ∙ ap (λ os. os ++ outcomes_of m more) none))
+    begun d m (o ∷ outs) e some now =
+        h x ∙ ap (λ st. closed (stand_at mid.stands (awaited_line st)) (outcomes_of (awaited_line st) more) (b x)) now
+        ∙ f x ∙ ap (λ st. closed (stand_at old.stands (awaited_line st)) (outcomes_of (awaited_line st) first) (a x)) e ∙ ap (λ os. closed (stand_at old.stands m) os (a x)) some
+        ∙ sym (ap (λ st. closed (stand_at old.stands (awaited_line st)) (outcomes_of (awaited_line st) (first ++ more)) (a x)) e ∙ ap (λ os. closed (stand_at old.stands m) os (a x)) (later m ∙ ap (λ os. os ++ outcomes_of m more) some) ∙ head_closes (stand_at old.stands m) o outs (outs ++ outcomes_of m more) (a x))
+
+    by : (stand : Stand) → stand_at old.stands x ≡ stand → LineGoes first x (stand_at old.stands x) (stand_at mid.stands x) → c x ≡ after_endings old (first ++ more) x (a x)
+    by Idle e k = let same = subst (λ st. LineGoes first x st (stand_at mid.stands x)) e k in quiet (ap awaited_line e) (ap awaited_line same.1)
+    by (IsClient d) e k = let same = subst (λ st. LineGoes first x st (stand_at mid.stands x)) e k in quiet (ap awaited_line e) (ap awaited_line same.1)
+    by (Past d) e k = let same = subst (λ st. LineGoes first x st (stand_at mid.stands x)) e k in quiet (ap awaited_line e) (ap awaited_line same.1)
+    by (Working d) e k = let same = subst (λ st. LineGoes first x st (stand_at mid.stands x)) e k in quiet (ap awaited_line e) (ap awaited_line same.1)
+    by (Asking d f) e k = let goes = subst (λ st. LineGoes first x st (stand_at mid.stands x)) e k in
+        quiet (ap awaited_line e) (stays_quiet (Asking d f) (stand_at mid.stands x) (AskEnds d f) d (outcomes_of x first) refl (λ o w. ask_settles d f o (stand_at mid.stands x) w) goes)
+    by (Calling d y f) e k = let goes = subst (λ st. LineGoes first x st (stand_at mid.stands x)) e k in
+        quiet (ap awaited_line e) (stays_quiet (Calling d y f) (stand_at mid.stands x) (CallEnds d f) d (outcomes_of x first) refl (λ o w. call_settles d f o (stand_at mid.stands x) w) goes)
+    by (HasBegun d m) e k = let goes = subst (λ st. LineGoes first x st (stand_at mid.stands x)) e k in begun d m (outcomes_of m first) e refl goes.1

@@ -1,8 +1,14 @@
 -- What a transaction makes of what it is told.
 use Rattle.std.proofs.Common.{◌≡◌, ◌⊎◌, inl, inr, ℕ, Bool, true, false, if◌then◌else◌, List, [], ◌∷◌, Option, Some, None, is_some, refl, sym, ap, ◌∙◌, subst}
-use Rattle.std.specs.Prelude.{IfSome, Result, Ok, Err, unwrap_or}
+use Rattle.std.specs.Prelude.{IfSome, Result, Ok, Err, option_map, unwrap_or}
 use Rattle.txn_kv.specs.declared.errors.Error.{Error}
-use Rattle.txn_kv.specs.declared.errors.Error.TheVariants.{OperationAfterCommitError}
+use Rattle.txn_kv.specs.ErrorView.{ErrorView, view_of, view_step}
+use Rattle.txn_kv.specs.ErrorView.ErrorView.{undetermined as not_known}
+use Rattle.txn_kv.specs.declared.errors.Error.TheFolds.{fold-roll-Error}
+use Rattle.txn_kv.specs.declared.errors.Error.TheOpen as layer
+use Rattle.txn_kv.specs.declared.errors.Error.TheVariants.{GrpcAPI, OperationAfterCommitError}
+use Rattle.txn_kv.specs.declared.errors.Error.TheVariants as errors
+use Rattle.txn_kv.specs.declared.errors.Internal.TheVariants.{WrongReply}
 use Rattle.txn_kv.specs.declared.message.Mutation.{Mutation}
 use Rattle.txn_kv.specs.declared.message.Op.{Op}
 use Rattle.txn_kv.specs.declared.message.Op.TheVariants as op
@@ -12,11 +18,13 @@ use Rattle.txn_history.specs.Event.{Event}
 use Rattle.txn_history.specs.Event.Event.{Answered}
 use Rattle.txn_history.specs.Turn.{IfEnds, IfKept, IfKept-all, IfKept-stopped, Turn}
 use Rattle.txn_history.specs.Turn.Turn.{Stopped, Waits, Ends}
-use Rattle.txn_buffer.specs.Contents.{Contents, mutated}
+use Rattle.txn_buffer.specs.Contents.{Contents, mutated, mutations}
+use Rattle.txn_commit.specs.Parts.{named_primary, parts_of, parts_under}
 use Rattle.txn_commit.specs.Following.{undetermined}
 use Rattle.txn_plan.specs.declared.arrival.Arrival.{Arrival}
 use Rattle.txn_core.specs.Options.{is_pessimistic}
 use Rattle.txn_core.specs.Status.{after_commit, allows_commit, allows_data, allows_rollback, may_move, status_step}
+use Rattle.txn_core.specs.Going.{IsUndetermined}
 use Rattle.txn_core.specs.Status.Became.{commits}
 use Rattle.txn_core.specs.Transaction.{GivesUp, IsRefused, Standing, WriteEnds, begun, commit_outcome, is_open, moved, moved_by, rolled_status}
 use Rattle.txn_core.specs.Transaction as core
@@ -32,24 +40,91 @@ use Rattle.txn_client.specs.declared.client_answer.ClientAnswer.TheVariants.{Beg
 use Rattle.txn_client.specs.declared.client_call.ClientCall.{ClientCall}
 use Rattle.txn_client.specs.declared.client_call.Wanted.{Wanted}
 use Rattle.txn_client.specs.declared.client_call.Wanted.TheVariants as wanted
-use Rattle.txn_side.specs.Account.{Account, all_put_or_delete, asked, is_put_or_delete, is_write, locked_all, mutated_all, new_account, or_refused, refusal, refused_unless, taken, unless_refused, written}
+use Rattle.txn_side.specs.Account.{Account, Status as Stage, after_act, all_put_or_delete, committed_by, has_mutations, is_put_or_delete, is_undetermined, is_undetermined_view, is_write, locked_all, made_by, mutated_all, new_account, or_refused, refusal, refused_unless, rolled_by, unless_refused, written}
+use Rattle.txn_side.specs.Account as side
+use Rattle.txn_report.specs.declared.outcome.Outcome.{Outcome}
+use Rattle.txn_report.specs.declared.outcome.Outcome.TheVariants as outcomes
+use Rattle.txn_side.specs.Sight as sights
 use Rattle.txn_side.specs.declared.act.Act.{Act}
 use Rattle.txn_side.specs.declared.act.Act.TheVariants as acts
 use Rattle.txn_core.specs.declared.options.TransactionOptions.{TransactionOptions}
 use Rattle.txn_core.specs.declared.options.TransactionKind.TheVariants.{Optimistic}
-use Rattle.txn_clients.specs.Accounts.{BeginsNew, HasStayed, HasTaken, IsActive, IsNew, IsQuiet, WantsNew, account_of, result_by}
+use Rattle.txn_clients.specs.Accounts.{BeginsNew, EndsAtOnce, HasHeard, HasTaken, IsActive, IsNew, IsQuiet, WantsNew, account_of, come_to, says_undetermined, status_of}
+
+-- which of the two a flag is
+pub is_flag : (b : Bool) → (b ≡ true) ⊎ (b ≡ false)
+is_flag true = inl refl
+is_flag false = inr refl
+
+no_flag : (b : Bool) → b ≡ true → b ≡ false → ⊥
+no_flag b p q = cc
+
+-- an error whose view says so
+undetermined_is : (e : Error) (v : ErrorView) → view_of e ≡ not_known v → is_undetermined e ≡ true
+undetermined_is e v h = ap is_undetermined_view h
 
 -- What is refused.
 
-pub write_refused : (b : Bool) (e : Error) → core.refused_unless b e ≡ or_refused (refused_unless b e) None
-write_refused true e = refl
-write_refused false e = refl
+pub write_refused : (s : Status) (e : Error) → core.refused_unless (allows_data s) e ≡ or_refused (refused_unless (side.allows_write (status_of s)) e) None
+write_refused statuses.ReadOnly e = refl
+write_refused statuses.Active e = refl
+write_refused statuses.Committed e = refl
+write_refused statuses.StartedCommit e = refl
+write_refused statuses.Rolledback e = refl
+write_refused statuses.StartedRollback e = refl
+write_refused statuses.Dropped e = refl
 
-pub insert_refused : (b d : Bool) (e f : Error) → core.or_refused (core.refused_unless b e) (core.refused_unless d f) ≡ or_refused (refused_unless b e) (refused_unless d f)
-insert_refused true true e f = refl
-insert_refused true false e f = refl
-insert_refused false true e f = refl
-insert_refused false false e f = refl
+same_unless : (b d : Bool) (e : Error) → b ≡ d → core.refused_unless b e ≡ refused_unless d e
+same_unless true d e h = ap (λ x. refused_unless x e) h
+same_unless false d e h = ap (λ x. refused_unless x e) h
+
+same_or : (o : Option Error) (b : Bool) (f : Error) → core.or_refused o (core.refused_unless b f) ≡ or_refused o (refused_unless b f)
+same_or None true f = refl
+same_or None false f = refl
+same_or (Some e) b f = refl
+
+same_write : (s : Status) → allows_data s ≡ side.allows_write (status_of s)
+same_write statuses.ReadOnly = refl
+same_write statuses.Active = refl
+same_write statuses.Committed = refl
+same_write statuses.StartedCommit = refl
+same_write statuses.Rolledback = refl
+same_write statuses.StartedRollback = refl
+same_write statuses.Dropped = refl
+
+pub insert_refused : (s : Status) (d : Bool) (e f : Error) → core.or_refused (core.refused_unless (allows_data s) e) (core.refused_unless d f) ≡ or_refused (refused_unless (side.allows_write (status_of s)) e) (refused_unless d f)
+insert_refused s d e f = same_or (core.refused_unless (allows_data s) e) d f ∙ ap (λ o. or_refused o (refused_unless d f)) (same_unless (allows_data s) (side.allows_write (status_of s)) e (same_write s))
+
+-- one that was not begun to read alone allows what a machine sees it allow
+quiet_commit : (s : Status) → (allows_data s ≡ true → s ≡ statuses.Active) → allows_commit s ≡ side.allows_commit (status_of s)
+quiet_commit statuses.ReadOnly h = absurd (let e = h refl in no e)
+  where
+    no : statuses.ReadOnly ≡ statuses.Active → ⊥
+    no q = cc
+quiet_commit statuses.Active h = refl
+quiet_commit statuses.Committed h = refl
+quiet_commit statuses.StartedCommit h = refl
+quiet_commit statuses.Rolledback h = refl
+quiet_commit statuses.StartedRollback h = refl
+quiet_commit statuses.Dropped h = refl
+
+quiet_rollback : (s : Status) → (allows_data s ≡ true → s ≡ statuses.Active) → allows_rollback s ≡ side.allows_rollback (status_of s)
+quiet_rollback statuses.ReadOnly h = absurd (let e = h refl in no e)
+  where
+    no : statuses.ReadOnly ≡ statuses.Active → ⊥
+    no q = cc
+quiet_rollback statuses.Active h = refl
+quiet_rollback statuses.Committed h = refl
+quiet_rollback statuses.StartedCommit h = refl
+quiet_rollback statuses.Rolledback h = refl
+quiet_rollback statuses.StartedRollback h = refl
+quiet_rollback statuses.Dropped h = refl
+
+unless_true : (b : Bool) (e : Error) → b ≡ true → or_refused (refused_unless b e) None ≡ None
+unless_true b e h = ap (λ x. or_refused (refused_unless x e) None) h
+
+unless_false : (b : Bool) (e : Error) → b ≡ false → or_refused (refused_unless b e) None ≡ Some e
+unless_false b e h = ap (λ x. or_refused (refused_unless x e) None) h
 
 same_op : (o : Op) → core.is_put_or_delete o ≡ is_put_or_delete o
 same_op op.Put = refl
@@ -64,8 +139,8 @@ same_all : (ms : List Mutation) → core.all_put_or_delete ms ≡ all_put_or_del
 same_all [] = refl
 same_all (m ∷ ms) = let rest = same_all ms in λ i. if same_op m.op i then rest i else false
 
-pub mutate_refused : (b : Bool) (ms : List Mutation) (e f : Error) → core.or_refused (core.refused_unless b e) (core.refused_unless (core.all_put_or_delete ms) f) ≡ or_refused (refused_unless b e) (refused_unless (all_put_or_delete ms) f)
-mutate_refused b ms e f = ap (λ d. core.or_refused (core.refused_unless b e) (core.refused_unless d f)) (same_all ms) ∙ insert_refused b (all_put_or_delete ms) e f
+pub mutate_refused : (s : Status) (ms : List Mutation) (e f : Error) → core.or_refused (core.refused_unless (allows_data s) e) (core.refused_unless (core.all_put_or_delete ms) f) ≡ or_refused (refused_unless (side.allows_write (status_of s)) e) (refused_unless (all_put_or_delete ms) f)
+mutate_refused s ms e f = ap (λ d. core.or_refused (core.refused_unless (allows_data s) e) (core.refused_unless d f)) (same_all ms) ∙ insert_refused s (all_put_or_delete ms) e f
 
 -- What is written.
 
@@ -84,13 +159,79 @@ pub all_locked : (keys : List (List ℕ)) (c : Contents) → core.locked_all c k
 all_locked [] c = refl
 all_locked (key ∷ keys) c = all_locked keys _
 
-refused_is : (act : Act) (account : Account) (e : Error) → is_write act ≡ true → Some e ≡ refusal act account → asked act account ≡ account
-refused_is act account e w is = (λ i. if w i then unless_refused (sym is i) account (taken act account) else taken act account)
+refused_is : (act : Act) (at_once : Bool) (o : Outcome) (account : Account) (e : Error) → Some e ≡ refusal act account → after_act act at_once o account ≡ account
+refused_is act at_once o account e is = λ i. unless_refused (sym is i) account (made_by act at_once o account)
 
-written_is : (act : Act) (account : Account) → is_write act ≡ true → None ≡ refusal act account → asked act account ≡ record { is_active = account.is_active; contents = written act account.contents }
-written_is act account w is =
-    (λ i. if w i then unless_refused (sym is i) account (taken act account) else taken act account)
-    ∙ ap (λ (b : Bool). record { is_active = if b then account.is_active else false; contents = written act account.contents }) w
+taken_is : (act : Act) (at_once : Bool) (o : Outcome) (account : Account) → None ≡ refusal act account → after_act act at_once o account ≡ made_by act at_once o account
+taken_is act at_once o account is = λ i. unless_refused (sym is i) account (made_by act at_once o account)
+
+made_write : (act : Act) (at_once : Bool) (o : Outcome) (account : Account) → is_write act ≡ true → made_by act at_once o account ≡ record account { contents = written act account.contents }
+made_write (acts.Put k v) at_once o account w = refl
+made_write (acts.Insert k v) at_once o account w = refl
+made_write (acts.Delete k) at_once o account w = refl
+made_write (acts.Mutate ms) at_once o account w = refl
+made_write (acts.Lock ks) at_once o account w = refl
+made_write acts.Commit at_once o account w = absurd (cc)
+made_write acts.Rollback at_once o account w = absurd (cc)
+
+written_is : (act : Act) (at_once : Bool) (o : Outcome) (account : Account) → is_write act ≡ true → None ≡ refusal act account → after_act act at_once o account ≡ record account { contents = written act account.contents }
+written_is act at_once o account w is = taken_is act at_once o account is ∙ made_write act at_once o account w
+
+-- What calls come to.
+
+either_same : (b : Bool) → status_of (if b then statuses.Committed else statuses.StartedCommit) ≡ (if b then Stage.Committed else Stage.StartedCommit)
+either_same true = refl
+either_same false = refl
+
+commits_so : {Q : Type 0} (turn : Turn (Result (TxnAnswer Q) Error)) (has : Bool) → status_of (after_commit (commit_outcome turn) has) ≡ committed_by has (come_to true turn)
+commits_so Stopped has = refl
+commits_so Waits has = refl
+commits_so (Ends (Err e)) has = refl
+commits_so (Ends (Ok (answer.Committed (Some t) job))) has = refl
+commits_so (Ends (Ok (answer.Committed None job))) has = either_same has
+commits_so (Ends (Ok answer.Unit)) has = refl
+commits_so (Ends (Ok (answer.Value v))) has = refl
+commits_so (Ends (Ok (answer.Exists b))) has = refl
+commits_so (Ends (Ok (answer.Pairs ps))) has = refl
+commits_so (Ends (Ok (answer.Keys ks))) has = refl
+commits_so (Ends (Ok (answer.Ttl n))) has = refl
+
+has_parts : (c : Contents) → is_some (parts_of c) ≡ has_mutations c
+has_parts c = by (mutations c.entries)
+  where
+    by : (ms : List Mutation) → is_some (option_map (parts_under c) (named_primary c ms)) ≡ side.is_not_empty ms
+    by [] = refl
+    by (m ∷ ms) = refl
+
+-- an answer of another kind says nothing of a commit's end
+wrong_known : is_undetermined (errors.InternalError WrongReply) ≡ false
+wrong_known = ap is_undetermined_view (ap view_of (sym (errors.rolls-InternalError WrongReply)) ∙ fold-roll-Error ErrorView view_step (layer.InternalError WrongReply))
+
+unlike_rolls : (s : Stage) → rolled_by true s (outcomes.Err (errors.InternalError WrongReply)) ≡ Stage.StartedRollback
+unlike_rolls s = ap (λ (b : Bool). if b then s else Stage.StartedRollback) wrong_known
+
+-- a rollback that is begun leaves the status only where it was begun before
+rolls_so : {Q : Type 0} (s new : Status) (turn : Turn (Result (TxnAnswer Q) Error)) → new ≡ moved_by statuses.StartedRollback turn → (says_undetermined turn ≡ true → new ≡ s) → status_of new ≡ rolled_by true (status_of s) (come_to false turn)
+rolls_so s new Stopped e h = ap status_of e
+rolls_so s new Waits e h = ap status_of e
+rolls_so s new (Ends (Ok answer.Unit)) e h = ap status_of e
+rolls_so s new (Ends (Ok (answer.Committed t job))) e h = ap status_of e ∙ sym (unlike_rolls (status_of s))
+rolls_so s new (Ends (Ok (answer.Value v))) e h = ap status_of e ∙ sym (unlike_rolls (status_of s))
+rolls_so s new (Ends (Ok (answer.Exists b))) e h = ap status_of e ∙ sym (unlike_rolls (status_of s))
+rolls_so s new (Ends (Ok (answer.Pairs ps))) e h = ap status_of e ∙ sym (unlike_rolls (status_of s))
+rolls_so s new (Ends (Ok (answer.Keys ks))) e h = ap status_of e ∙ sym (unlike_rolls (status_of s))
+rolls_so s new (Ends (Ok (answer.Ttl n))) e h = ap status_of e ∙ sym (unlike_rolls (status_of s))
+rolls_so s new (Ends (Err why)) e h = elim (is_flag (is_undetermined why)) [
+  | inl on ↦ ap status_of (h on) ∙ sym (ap (λ (b : Bool). if b then status_of s else Stage.StartedRollback) on)
+  | inr off ↦ ap status_of e ∙ sym (ap (λ (b : Bool). if b then status_of s else Stage.StartedRollback) off)
+]
+
+-- one that is refused since it is not known leaves it
+known_so : {Q : Type 0} (s new : Status) (t : Ticket) (turn : Turn (Result (TxnAnswer Q) Error)) → new ≡ s → IsUndetermined t turn → IfKept turn (status_of new ≡ rolled_by true (status_of s) (come_to false turn))
+known_so s new t Stopped e u = tt
+known_so s new t Waits e u = absurd u
+known_so s new t (Ends (Ok v)) e u = absurd u
+known_so s new t (Ends (Err why)) e u = ap status_of e ∙ sym (ap (λ (b : Bool). if b then status_of s else Stage.StartedRollback) (undetermined_is why (view_of (GrpcAPI t)) u))
 
 -- How the status moves.
 
@@ -117,14 +258,6 @@ commit_off (Some (Ok (Some t))) b = refl
 commit_off (Some (Ok None)) true = refl
 commit_off (Some (Ok None)) false = refl
 
--- which of the two a flag is
-pub is_flag : (b : Bool) → (b ≡ true) ⊎ (b ≡ false)
-is_flag true = inl refl
-is_flag false = inr refl
-
-no_flag : (b : Bool) → b ≡ true → b ≡ false → ⊥
-no_flag b p q = cc
-
 some_ask : Ticket
 some_ask = record { line = 0; beat = false; number = 0 }
 
@@ -141,14 +274,14 @@ module _ {P Q K : Type 0} where
   taken_write act refused wrote old new Stopped w is does quiet h = tt
   taken_write act refused wrote old new Waits w is does quiet h = absurd h
   taken_write act None wrote old new (Ends v) w is does quiet h = record {
-    account = ap (λ (t : Standing P Q K). account_of t) h.1 ∙ ap (λ (c : Contents). record { is_active = allows_data old.status; contents = c }) (does old.contents new.contents h.2) ∙ sym (written_is act (account_of old) w is);
+    account = ap (λ (t : Standing P Q K). account_of t) h.1 ∙ ap (λ (c : Contents). record { status = status_of old.status; contents = c }) (does old.contents new.contents h.2) ∙ sym (written_is act true (come_to (sights.commits act) (Ends v)) (account_of old) w is);
     quiet = subst (λ (t : Standing P Q K). IsQuiet t) (sym h.1) (λ s. let a = quiet s in record { status = a.status; commits = a.commits; rests = a.rests });
-    answer = λ u. ap (λ (r : Result (TxnAnswer Q) Error). Ends r) h.0 ∙ ap (λ (r : Option Error). Ends (result_by {Q = Q} r)) is;
+    answer = subst (λ (r : Option Error). EndsAtOnce {Q = Q} act r (Ends v)) is (λ u. ap (λ (r : Result (TxnAnswer Q) Error). Ends r) h.0);
   }
   taken_write act (Some e) wrote old new (Ends v) w is does quiet h = record {
-    account = ap (λ (t : Standing P Q K). account_of t) h.1 ∙ sym (refused_is act (account_of old) e w is);
+    account = ap (λ (t : Standing P Q K). account_of t) h.1 ∙ sym (refused_is act true (come_to (sights.commits act) (Ends v)) (account_of old) e is);
     quiet = subst (λ (t : Standing P Q K). IsQuiet t) (sym h.1) quiet;
-    answer = λ u. ap (λ (r : Result (TxnAnswer Q) Error). Ends r) h.0 ∙ ap (λ (r : Option Error). Ends (result_by {Q = Q} r)) is;
+    answer = subst (λ (r : Option Error). EndsAtOnce {Q = Q} act r (Ends v)) is (ap (λ (r : Result (TxnAnswer Q) Error). Ends r) h.0);
   }
 
   -- what was asked is this
@@ -157,81 +290,112 @@ module _ {P Q K : Type 0} where
 
   -- Commits and rollbacks.
 
-  begun_off : (act : Act) (old new : Standing P Q K) (turn : Turn (Result (TxnAnswer Q) Error)) → is_write act ≡ false → written act old.contents ≡ old.contents → new.contents ≡ old.contents → allows_data new.status ≡ false → HasTaken act old new turn
-  begun_off act old new turn w stays same off = record {
-    account = (λ i. record { is_active = off i; contents = (same ∙ sym stays) i })
-        ∙ sym ((λ i. if w i then unless_refused (refusal act (account_of old)) (account_of old) (taken act (account_of old)) else taken act (account_of old))
-        ∙ ap (λ (b : Bool). record { is_active = if b then allows_data old.status else false; contents = written act old.contents }) w);
-    quiet = λ s. absurd (no_flag (allows_data new.status) s off);
-    answer = λ u. absurd (no_flag (is_write act) u w);
+  -- one that may be written has not begun any before
+  stands_active : (t : Standing P Q K) → IsQuiet t → allows_data t.status ≡ true → t.status ≡ statuses.Active
+  stands_active t quiet on = let a = quiet on in a.status
+
+  -- it is refused, and nothing changes
+  refused_taken : (act : Act) (old new : Standing P Q K) (turn : Turn (Result (TxnAnswer Q) Error)) → Some OperationAfterCommitError ≡ refusal act (account_of old) → IsQuiet old → IsRefused OperationAfterCommitError old new turn → IfKept turn (HasTaken act old new turn)
+  refused_taken act old new Stopped is quiet h = tt
+  refused_taken act old new Waits is quiet h = absurd h
+  refused_taken act old new (Ends v) is quiet h = record {
+    account = ap (λ (t : Standing P Q K). account_of t) h.1 ∙ sym (refused_is act true (come_to (sights.commits act) (Ends v)) (account_of old) OperationAfterCommitError is);
+    quiet = subst (λ (t : Standing P Q K). IsQuiet t) (sym h.1) quiet;
+    answer = subst (λ (r : Option Error). EndsAtOnce {Q = Q} act r (Ends v)) is (ap (λ (r : Result (TxnAnswer Q) Error). Ends r) h.0);
   }
 
-  -- what allows neither has begun one before
-  refused_off : (allows : Status → Bool) → allows statuses.Active ≡ true → (old new : Standing P Q K) (turn : Turn (Result (TxnAnswer Q) Error)) → allows old.status ≡ false → IsQuiet old → IsRefused OperationAfterCommitError old new turn → IfKept turn (allows_data new.status ≡ false)
-  refused_off allows may old new Stopped bars quiet h = tt
-  refused_off allows may old new Waits bars quiet h = absurd h
-  refused_off allows may old new (Ends v) bars quiet h = ap (λ (t : Standing P Q K). allows_data t.status) h.1 ∙ elim (is_flag (allows_data old.status)) [
-    | inl on ↦ absurd (no_flag (allows old.status) (ap allows (quiet on).status ∙ may) bars)
-    | inr off ↦ off
-  ]
+  -- it is begun, and comes as far as this
+  begun_taken : (act : Act) (old new : Standing P Q K) (turn : Turn (Result (TxnAnswer Q) Error)) → is_write act ≡ false → None ≡ refusal act (account_of old)
+      → account_of new ≡ made_by act true (come_to (sights.commits act) turn) (account_of old) → allows_data new.status ≡ false → HasTaken act old new turn
+  begun_taken act old new turn w is made off = record {
+    account = made ∙ sym (taken_is act true (come_to (sights.commits act) turn) (account_of old) is);
+    quiet = λ s. absurd (no_flag (allows_data new.status) s off);
+    answer = subst (λ (r : Option Error). EndsAtOnce {Q = Q} act r turn) is (λ u. absurd (no_flag (is_write act) u w));
+  }
 
   -- a call that is begun where none is open
-  begins_off : (old new : Standing P Q K) (turn : Turn (Result (TxnAnswer Q) Error)) → is_open old.work ≡ false → GivesUp old new turn → (old.work ≡ Idle → allows_data new.status ≡ false) → IfKept turn (allows_data new.status ≡ false)
-  begins_off old new turn idle gives off = by old.work refl
+  begins : {A : Type 0} (old new : Standing P Q K) (turn : Turn (Result (TxnAnswer Q) Error)) → is_open old.work ≡ false → GivesUp old new turn → (old.work ≡ Idle → A) → IfKept turn A
+  begins {A} old new turn idle gives off = by old.work refl
     where
-      by : (work : Work P Q K) → old.work ≡ work → IfKept turn (allows_data new.status ≡ false)
+      by : (work : Work P Q K) → old.work ≡ work → IfKept turn A
       by Idle e = IfKept-all turn (off e)
       by (Open call) e = absurd (no_flag (is_open old.work) (ap (λ (w : Work P Q K). is_open w) e) idle)
-      by GaveUp e = IfKept-stopped turn (allows_data new.status ≡ false) (gives.after e).0
+      by GaveUp e = IfKept-stopped turn A (gives.after e).0
 
-  pub taken_commit : {R : Type 0} (old new : Standing P Q K) (turn : Turn (Result (TxnAnswer Q) Error)) (has : Bool) → is_open old.work ≡ false → IsQuiet old
+  account_with : (old new : Standing P Q K) → new.contents ≡ old.contents → (s : Stage) → status_of new.status ≡ s → account_of new ≡ record (account_of old) { status = s }
+  account_with old new same s e = λ i. record { status = e i; contents = same i }
+
+  pub taken_commit : {R : Type 0} (old new : Standing P Q K) (turn : Turn (Result (TxnAnswer Q) Error)) → is_open old.work ≡ false → IsQuiet old
       → (allows_commit old.status ≡ false → IsRefused OperationAfterCommitError old new turn × R)
-      → (old.work ≡ Idle → new.status ≡ status_step old.status (commits (commit_outcome turn) has))
+      → (old.work ≡ Idle → new.status ≡ status_step old.status (commits (commit_outcome turn) (is_some (parts_of old.contents))))
       → new ≡ record old { status = new.status; commits = new.commits; work = new.work; width = new.width } → GivesUp old new turn → IfKept turn (HasTaken acts.Commit old new turn)
-  taken_commit old new turn has idle quiet refused status kept gives = kept_then turn (λ (off : allows_data new.status ≡ false). begun_off acts.Commit old new turn refl refl (ap (λ (t : Standing P Q K). t.contents) kept) off) (elim (is_flag (allows_commit old.status)) [
-    | inl may ↦ begins_off old new turn idle gives (λ e. ap allows_data (status e ∙ ap (λ (b : Bool). if b then after_commit (commit_outcome turn) has else old.status) may) ∙ commit_off (commit_outcome turn) has)
-    | inr bars ↦ refused_off allows_commit refl old new turn bars quiet (refused bars).0
-  ])
+  taken_commit old new turn idle quiet refused status kept gives = elim (is_flag (allows_commit old.status)) [
+    | inl may ↦ begins old new turn idle gives (λ e.
+        let has = is_some (parts_of old.contents) in
+        let is : new.status ≡ after_commit (commit_outcome turn) has = status e ∙ ap (λ (b : Bool). if b then after_commit (commit_outcome turn) has else old.status) may in
+        begun_taken acts.Commit old new turn refl (sym (unless_true (side.allows_commit (status_of old.status)) OperationAfterCommitError (sym (quiet_commit old.status (stands_active old quiet)) ∙ may)))
+        (account_with old new (ap (λ (t : Standing P Q K). t.contents) kept) (committed_by (has_mutations old.contents) (come_to true turn)) (ap status_of is ∙ commits_so turn has ∙ ap (λ b. committed_by b (come_to true turn)) (has_parts old.contents)))
+        (ap allows_data is ∙ commit_off (commit_outcome turn) has))
+    | inr bars ↦ refused_taken acts.Commit old new turn (sym (unless_false (side.allows_commit (status_of old.status)) OperationAfterCommitError (sym (quiet_commit old.status (stands_active old quiet)) ∙ bars))) quiet (refused bars).0
+  ]
 
-  pub taken_rollback : {R : Type 0} (old new : Standing P Q K) (turn : Turn (Result (TxnAnswer Q) Error)) → is_open old.work ≡ false → IsQuiet old
+  pub taken_rollback : {R S : Type 0} (old new : Standing P Q K) (turn : Turn (Result (TxnAnswer Q) Error)) → is_open old.work ≡ false → IsQuiet old
       → (allows_rollback old.status ≡ false → IsRefused OperationAfterCommitError old new turn × R)
+      → ((t : Ticket) → allows_rollback old.status ≡ true → undetermined old.commits ≡ Some t → IsUndetermined t turn × (new ≡ record old { work = new.work }) × S)
       → (old.work ≡ Idle → new.status ≡ rolled_status old.status (is_some (undetermined old.commits)) turn)
-      → new ≡ record old { status = new.status; commits = new.commits; work = new.work; width = new.width } → GivesUp old new turn → IfKept turn (HasTaken acts.Rollback old new turn)
-  taken_rollback old new turn idle quiet refused status kept gives = kept_then turn (λ (off : allows_data new.status ≡ false). begun_off acts.Rollback old new turn refl refl (ap (λ (t : Standing P Q K). t.contents) kept) off) (elim (is_flag (allows_rollback old.status)) [
-    | inl may ↦ begins_off old new turn idle gives (λ e. ap allows_data (status e) ∙ rolled may (is_some (undetermined old.commits)) refl)
-    | inr bars ↦ refused_off allows_rollback refl old new turn bars quiet (refused bars).0
-  ])
+      → new ≡ record old { status = new.status; commits = new.commits; work = new.work; width = new.width } → GivesUp old new turn → (says_undetermined turn ≡ true → new.status ≡ old.status) → IfKept turn (HasTaken acts.Rollback old new turn)
+  taken_rollback {R} {S} old new turn idle quiet refused unknown status kept gives known = elim (is_flag (allows_rollback old.status)) [
+    | inl may ↦ by may (undetermined old.commits) refl
+    | inr bars ↦ refused_taken acts.Rollback old new turn (sym (unless_false (side.allows_rollback (status_of old.status)) OperationAfterCommitError (sym (quiet_rollback old.status (stands_active old quiet)) ∙ bars))) quiet (refused bars).0
+  ]
     where
-      rolled : allows_rollback old.status ≡ true → (b : Bool) → is_some (undetermined old.commits) ≡ b → allows_data (rolled_status old.status b turn) ≡ false
-      rolled may true e = elim (is_flag (allows_data old.status)) [
-        | inl on ↦ absurd (no_flag (is_some (undetermined old.commits)) e (ap (λ c. is_some (undetermined c)) (quiet on).commits))
+      allowed : allows_rollback old.status ≡ true → None ≡ refusal acts.Rollback (account_of old)
+      allowed may = sym (unless_true (side.allows_rollback (status_of old.status)) OperationAfterCommitError (sym (quiet_rollback old.status (stands_active old quiet)) ∙ may))
+
+      made : status_of new.status ≡ rolled_by true (status_of old.status) (come_to false turn) → account_of new ≡ made_by acts.Rollback true (come_to false turn) (account_of old)
+      made e = account_with old new (ap (λ (t : Standing P Q K). t.contents) kept) (rolled_by true (status_of old.status) (come_to false turn)) e
+
+      begun_before : (t : Ticket) → undetermined old.commits ≡ Some t → allows_data old.status ≡ false
+      begun_before t e = elim (is_flag (allows_data old.status)) [
+        | inl on ↦ absurd (no (sym (ap undetermined (quiet on).commits) ∙ e))
         | inr off ↦ off
       ]
-      rolled may false e = ap (λ (b : Bool). allows_data (if b then moved_by statuses.StartedRollback turn else old.status)) may ∙ moved_off statuses.StartedRollback turn refl
+        where
+          no : ◌≡◌ {A = Option Ticket} None (Some t) → ⊥
+          no q = cc
+
+      by : allows_rollback old.status ≡ true → (o : Option Ticket) → undetermined old.commits ≡ o → IfKept turn (HasTaken acts.Rollback old new turn)
+      by may (Some t) e = let u = unknown t may e in let same : new.status ≡ old.status = ap (λ (x : Standing P Q K). x.status) u.1 in
+          kept_then turn (λ (is : status_of new.status ≡ rolled_by true (status_of old.status) (come_to false turn)). begun_taken acts.Rollback old new turn refl (allowed may) (made is) (ap allows_data same ∙ begun_before t e))
+          (known_so old.status new.status t turn same u.0)
+      by may None e = begins old new turn idle gives (λ i.
+          let is : new.status ≡ moved_by statuses.StartedRollback turn = status i ∙ ap (λ (u : Option Ticket). rolled_status old.status (is_some u) turn) e ∙ ap (λ (b : Bool). if b then moved_by statuses.StartedRollback turn else old.status) may in
+          begun_taken acts.Rollback old new turn refl (allowed may) (made (rolls_so old.status new.status turn is known)) (ap allows_data is ∙ moved_off statuses.StartedRollback turn refl))
 
   -- It hears of something.
 
-  pub stayed : {R : Type 0} (old new : Standing P Q K) (turn : Turn (Result (TxnAnswer Q) Error)) → IsQuiet old → new.status ≡ moved_by old.status turn
-      → new ≡ record old { status = new.status; commits = new.commits; work = new.work; width = new.width } → GivesUp old new turn → (old.work ≡ Idle → (turn ≡ Waits) × (new ≡ old) × R) → IfKept turn (HasStayed old new)
-  stayed old new turn quiet status kept gives deaf = elim (is_flag (allows_data old.status)) [
+  pub heard_so : {R : Type 0} (old new : Standing P Q K) (turn : Turn (Result (TxnAnswer Q) Error)) → IsQuiet old → new.status ≡ moved_by old.status turn
+      → new ≡ record old { status = new.status; commits = new.commits; work = new.work; width = new.width } → GivesUp old new turn → (old.work ≡ Idle → (turn ≡ Waits) × (new ≡ old) × R) → IfKept turn (HasHeard old new turn)
+  heard_so old new turn quiet status kept gives deaf = elim (is_flag (allows_data old.status)) [
     | inl on ↦ by (quiet on).rests old.work refl
     | inr off ↦ IfKept-all turn (let still = ap allows_data status ∙ moved_off old.status turn off in record {
-      account = λ i. record { is_active = (still ∙ sym off) i; contents = ap (λ (t : Standing P Q K). t.contents) kept i };
+      contents = ap (λ (t : Standing P Q K). t.contents) kept;
+      waits = λ w. status ∙ ap (λ (x : Turn (Result (TxnAnswer Q) Error)). moved_by old.status x) w;
       quiet = λ s. absurd (no_flag (allows_data new.status) s still);
     })
   ]
     where
-      by : is_open old.work ≡ false → (work : Work P Q K) → old.work ≡ work → IfKept turn (HasStayed old new)
-      by rests Idle e = IfKept-all turn (let same = (deaf e).1 in record { account = ap (λ (t : Standing P Q K). account_of t) same; quiet = subst (λ (t : Standing P Q K). IsQuiet t) (sym same) quiet })
+      by : is_open old.work ≡ false → (work : Work P Q K) → old.work ≡ work → IfKept turn (HasHeard old new turn)
+      by rests Idle e = IfKept-all turn (let same = (deaf e).1 in record { contents = ap (λ (t : Standing P Q K). t.contents) same; waits = λ w. ap (λ (t : Standing P Q K). t.status) same; quiet = subst (λ (t : Standing P Q K). IsQuiet t) (sym same) quiet })
       by rests (Open call) e = absurd (no_flag (is_open old.work) (ap (λ (w : Work P Q K). is_open w) e) rests)
-      by rests GaveUp e = IfKept-stopped turn (HasStayed old new) (gives.after e).0
+      by rests GaveUp e = IfKept-stopped turn (HasHeard old new turn) (gives.after e).0
 
   -- What a call begins.
 
   -- one that begins now, with these options
   pub new_begun : (options : TransactionOptions) → options.kind ≡ Optimistic → options.read_only ≡ false → (b : Standing P Q K) → b ≡ begun b.start options b.began → IsNew b
   new_begun options kind writes b e = subst (λ (t : Standing P Q K). IsNew t) (sym e) (record {
-    account = λ i. record { is_active = allows_data (if writes i then statuses.ReadOnly else statuses.Active); contents = record { entries = []; primary = None; is_pessimistic = is_pessimistic (kind i) } };
+    account = λ i. record { status = status_of (if writes i then statuses.ReadOnly else statuses.Active); contents = record { entries = []; primary = None; is_pessimistic = is_pessimistic (kind i) } };
     quiet = λ s. record { status = ap (λ (r : Bool). if r then statuses.ReadOnly else statuses.Active) writes; commits = refl; rests = refl };
   })
 
@@ -242,7 +406,7 @@ module _ {P Q K : Type 0} where
   wants_time {C} call e h b gives = absurd (subst (λ w. CallGives {C = C} w h (Ok (Begun b))) e gives)
 
   -- what is made of a timestamp is what the call may answer
-  made_gives : {C : Type 0} (w : Wanted) (now : ℕ) (t : Timestamp) (b : Standing P Q K) → ◌≡◌ {A = ClientAnswer C P Q K} (Begun b) (made w now t) → CallGives {C = C} w (Answered some_ask (Some b.start) ∷ []) (Ok (Begun b))
+  made_gives : {C : Type 0} (w : Wanted) (now : ℕ) (t : Timestamp) (b : Standing P Q K) → ◌≡◌ {A = ClientAnswer C P Q K} (Begun b) (made w now t) → CallGives {C = C} w (Answered some_ask (Ok b.start) ∷ []) (Ok (Begun b))
   made_gives wanted.Timestamp now t b e = absurd (cc)
   made_gives (wanted.Transaction options) now t b e =
       let is : b ≡ begun t options now = cc in
@@ -251,4 +415,4 @@ module _ {P Q K : Type 0} where
   pub begins_new : {C : Type 0} (call : ClientCall C P Q K) (now : ℕ) (a : Arrival) → WantsNew call → (v : Result (ClientAnswer C P Q K) Error) → IsMadeOf call.wanted now a v → BeginsNew v
   begins_new call now a wants (Err e) m = tt
   begins_new call now a wants (Ok (Time t)) m = tt
-  begins_new call now a wants (Ok (Begun b)) m = wants (Answered some_ask (Some b.start) ∷ []) b (made_gives call.wanted now m.1 b m.3)
+  begins_new call now a wants (Ok (Begun b)) m = wants (Answered some_ask (Ok b.start) ∷ []) b (made_gives call.wanted now m.1 b m.3)

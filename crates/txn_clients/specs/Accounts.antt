@@ -1,26 +1,31 @@
--- What the transactions that stand at the lines have taken in.
-use Rattle.std.specs.Prelude.{◌≡◌, ◌≢◌, ⊤, ℕ, true, false, List, [], ◌∷◌, ◌++◌, Option, Some, None, Result, Ok, Err, slice_index_or}
+-- How far the transactions that stand at the lines have come, and what they have taken in.
+use Rattle.std.specs.Prelude.{◌≡◌, ◌≢◌, ⊤, ℕ, Bool, true, false, List, Option, Some, None, Result, Ok, Err, option_map, slice_index_or}
 use Rattle.std.proofs.Common.{zero, suc}
+use Rattle.txn_kv.specs.Timestamp.{version_of}
 use Rattle.txn_kv.specs.declared.errors.Error.{Error}
+use Rattle.txn_kv.specs.declared.errors.Error.TheVariants.{InternalError}
+use Rattle.txn_kv.specs.declared.errors.Internal.TheVariants.{WrongReply}
 use Rattle.txn_history.specs.Event.{Event}
 use Rattle.txn_history.specs.Turn.{Turn}
-use Rattle.txn_history.specs.Turn.Turn.{Ends}
+use Rattle.txn_history.specs.Turn.Turn.{Stopped, Waits, Ends}
 use Rattle.txn_commit.specs.Following.{none_sent}
 use Rattle.txn_core.specs.Status.{allows_data}
 use Rattle.txn_core.specs.Transaction.{Standing, is_open}
-use Rattle.txn_core.specs.declared.status.Status.TheVariants.{Active}
+use Rattle.txn_core.specs.declared.status.Status.{Status}
+use Rattle.txn_core.specs.declared.status.Status.TheVariants.{ReadOnly, Active, Committed, StartedCommit, Rolledback, StartedRollback, Dropped}
 use Rattle.txn_core.specs.declared.txn_answer.TxnAnswer.{TxnAnswer}
 use Rattle.txn_core.specs.declared.txn_answer.TxnAnswer.TheVariants.{Unit as Nothing}
+use Rattle.txn_core.specs.declared.txn_answer.TxnAnswer.TheVariants as answer
 use Rattle.txn_client.specs.Calls.{CallGives}
 use Rattle.txn_client.specs.declared.client_answer.ClientAnswer.{ClientAnswer}
 use Rattle.txn_client.specs.declared.client_answer.ClientAnswer.TheVariants.{Begun, Time}
 use Rattle.txn_client.specs.declared.client_call.ClientCall.{ClientCall}
 use Rattle.txn_report.specs.declared.outcome.Outcome.{Outcome}
-use Rattle.txn_side.specs.Account.{Account, answer_by, answer_to, asked, is_write, new_account, refusal}
-use Rattle.txn_side.specs.Sight.{Stand}
-use Rattle.txn_side.specs.Sight.Stand.{Calling}
+use Rattle.txn_report.specs.declared.outcome.Outcome.TheVariants as outcomes
+use Rattle.txn_report.specs.declared.outcome.Payload.TheVariants as payloads
+use Rattle.txn_side.specs.Account.{Account, Status as Stage, after_act, is_undetermined, is_write, new_account, refusal}
+use Rattle.txn_side.specs.Sight.{commits}
 use Rattle.txn_side.specs.declared.act.Act.{Act}
-use Rattle.txn_side.specs.declared.turn.Ending.{Ending}
 use Rattle.txn_clients.specs.declared.answer.Answer.{Answer}
 use Rattle.txn_clients.specs.declared.answer.Answer.TheVariants as answers
 use Rattle.txn_clients.specs.declared.row.Row.{Row}
@@ -30,8 +35,18 @@ use Rattle.txn_clients.specs.declared.told.Told.TheVariants as tells
 
 -- A transaction
 
+-- as a machine sees it. None of these was begun to read alone, or is let go while a line may ask it something.
+abbrev pub status_of : Status → Stage
+status_of ReadOnly = Stage.Active
+status_of Active = Stage.Active
+status_of Committed = Stage.Committed
+status_of StartedCommit = Stage.StartedCommit
+status_of Rolledback = Stage.RolledBack
+status_of StartedRollback = Stage.StartedRollback
+status_of Dropped = Stage.Committed
+
 abbrev pub account_of : {P Q K : Type 0} → Standing P Q K → Account
-account_of t = record { is_active = allows_data t.status; contents = t.contents }
+account_of t = record { status = status_of t.status; contents = t.contents }
 
 -- no Commit of it was sent, and no call of it is open
 pub record IsActive {P Q K : Type 0} (t : Standing P Q K) : Type 0 where
@@ -48,20 +63,34 @@ pub record IsNew {P Q K : Type 0} (t : Standing P Q K) : Type 0 where
   pub account : account_of t ≡ new_account
   pub quiet : IsQuiet t
 
--- a write that is refused answers so, or that it is done
-abbrev pub result_by : {Q : Type 0} → Option Error → Result (TxnAnswer Q) Error
-result_by None = Ok Nothing
-result_by (Some e) = Err e
+-- What the call of a line comes to by its answer, where it commits or not. No call has an answer of another kind.
+abbrev pub outcome_by : {Q : Type 0} → Bool → Result (TxnAnswer Q) Error → Outcome
+outcome_by commits (Err e) = outcomes.Err e
+outcome_by true (Ok (answer.Committed t job)) = outcomes.Ok (payloads.Commit (option_map version_of t))
+outcome_by false (Ok answer.Unit) = outcomes.Ok payloads.Unit
+outcome_by commits (Ok _) = outcomes.Err (InternalError WrongReply)
+
+-- so far
+abbrev pub come_to : {Q : Type 0} → Bool → Turn (Result (TxnAnswer Q) Error) → Outcome
+come_to commits Stopped = outcomes.Unfinished
+come_to commits Waits = outcomes.Unfinished
+come_to commits (Ends v) = outcome_by commits v
+
+-- what has to be answered at once: that it is refused, and to each write
+abbrev pub EndsAtOnce : {Q : Type 0} → Act → Option Error → Turn (Result (TxnAnswer Q) Error) → Type 0
+EndsAtOnce act None turn = is_write act ≡ true → turn ≡ Ends (Ok Nothing)
+EndsAtOnce act (Some e) turn = turn ≡ Ends (Err e)
 
 -- it did what was asked of it
 pub record HasTaken {P Q K : Type 0} (act : Act) (old new : Standing P Q K) (turn : Turn (Result (TxnAnswer Q) Error)) : Type 0 where
-  pub account : account_of new ≡ asked act (account_of old)
+  pub account : account_of new ≡ after_act act true (come_to (commits act) turn) (account_of old)
   pub quiet : IsQuiet new
-  pub answer : is_write act ≡ true → turn ≡ Ends (result_by (refusal act (account_of old)))
+  pub answer : EndsAtOnce act (refusal act (account_of old)) turn
 
 -- it heard of something
-pub record HasStayed {P Q K : Type 0} (old new : Standing P Q K) : Type 0 where
-  pub account : account_of new ≡ account_of old
+pub record HasHeard {P Q K : Type 0} (old new : Standing P Q K) (turn : Turn (Result (TxnAnswer Q) Error)) : Type 0 where
+  pub contents : new.contents ≡ old.contents
+  pub waits : turn ≡ Waits → new.status ≡ old.status
   pub quiet : IsQuiet new
 
 -- A call that begins one
@@ -91,46 +120,52 @@ abbrev pub account_at : {P Q K : Type 0} → List (Row P Q K) → ℕ → Accoun
 account_at rows zero = new_account
 account_at rows (suc i) = account_in (slice_index_or rows i row.Plain)
 
+-- the answer says that it is not known whether it is committed
+abbrev pub says_undetermined : {Q : Type 0} → Turn (Result (TxnAnswer Q) Error) → Bool
+says_undetermined Stopped = false
+says_undetermined Waits = false
+says_undetermined (Ends (Ok v)) = false
+says_undetermined (Ends (Err e)) = is_undetermined e
+
 -- What it is told
 
-abbrev pub told_account : Told → Account → Account
-told_account (tells.Act act) account = asked act account
-told_account told account = account
+abbrev pub is_heard : Told → Bool
+is_heard tells.Start = false
+is_heard (tells.Act act) = false
+is_heard (tells.Heard a) = true
 
--- only a transaction is asked anything
-abbrev pub after_told : {P Q K : Type 0} → Told → Row P Q K → Account
-after_told told (row.Begun c t m) = told_account told (account_of t)
-after_told told _ = new_account
+-- what a call of a transaction comes to by what is answered now
+abbrev pub outcome_in : {P Q K : Type 0} → Bool → Option (Answer P Q K) → Outcome
+outcome_in commits None = outcomes.Unfinished
+outcome_in commits (Some (answers.Asked v)) = outcomes.Unfinished
+outcome_in commits (Some (answers.Called v)) = outcome_by commits v
 
--- a write is answered at once
+-- What becomes of an account as its transaction is told of something. How far it comes by an answer that it gives later is not said.
+abbrev pub AccountTold : {P Q K : Type 0} → Told → Option (Answer P Q K) → Account → Account → Type 0
+AccountTold tells.Start answer old new = new ≡ old
+AccountTold (tells.Act act) answer old new = new ≡ after_act act true (outcome_in (commits act) answer) old
+AccountTold (tells.Heard a) None old new = new ≡ old
+AccountTold (tells.Heard a) (Some v) old new = new.contents ≡ old.contents
+
+-- only a transaction has taken in anything
+abbrev pub RowTold : {P Q K : Type 0} → Told → Option (Answer P Q K) → Row P Q K → Account → Type 0
+RowTold told answer (row.Begun c t m) new = AccountTold told answer (account_of t) new
+RowTold told answer _ new = new ≡ new_account
+
+-- a refusal is answered at once, and so is a write
+abbrev pub AnswersSo : {P Q K : Type 0} → Act → Option Error → Option (Answer P Q K) → Type 0
+AnswersSo act None answer = is_write act ≡ true → answer ≡ Some (answers.Called (Ok Nothing))
+AnswersSo act (Some e) answer = answer ≡ Some (answers.Called (Err e))
+
 abbrev pub AnswersAsk : {P Q K : Type 0} → Told → Account → Option (Answer P Q K) → Type 0
-AnswersAsk (tells.Act act) account answer = is_write act ≡ true → answer ≡ Some (answers.Called (result_by (refusal act account)))
+AnswersAsk (tells.Act act) account answer = AnswersSo act (refusal act account) answer
 AnswersAsk told account answer = ⊤
 
 abbrev pub AnswersTold : {P Q K : Type 0} → Told → Row P Q K → Option (Answer P Q K) → Type 0
 AnswersTold told (row.Begun c t m) answer = AnswersAsk told (account_of t) answer
 AnswersTold told _ answer = ⊤
 
--- What stands at this place was told of something. The others stay.
-pub record AccountsTold {P Q K : Type 0} (told : Told) (at : ℕ) (old new : List (Row P Q K)) : Type 0 where
-  pub own : account_at new (suc at) ≡ after_told told (slice_index_or old at row.Plain)
+-- What stands at this place was told of something, and answered. The others stay.
+pub record AccountsTold {P Q K : Type 0} (told : Told) (at : ℕ) (answer : Option (Answer P Q K)) (old new : List (Row P Q K)) : Type 0 where
+  pub own : RowTold told answer (slice_index_or old at row.Plain) (account_at new (suc at))
   pub others : (n : ℕ) → n ≢ suc at → account_at new n ≡ account_at old n
-
--- How the call of a write ends
-
-abbrev pub ends_so : ℕ → Outcome → List Ending
-ends_so line o = record { line = line; outcome = o } ∷ []
-
--- the call of a line ends with an error, or is done, where it commits nothing
-abbrev pub EndsCall : {Q : Type 0} → ℕ → Stand → Result (TxnAnswer Q) Error → List Ending → List Ending → Type 0
-EndsCall line (Calling c x false) answer from to = (refused : Option Error) → answer ≡ result_by refused → to ≡ from ++ ends_so line (answer_by refused)
-EndsCall line _ answer from to = ⊤
-
-abbrev pub EndsAsk : Told → Account → ℕ → List Ending → List Ending → Type 0
-EndsAsk (tells.Act act) account line from to = is_write act ≡ true → to ≡ from ++ ends_so line (answer_to act account)
-EndsAsk told account line from to = ⊤
-
--- a write ends in its own line
-abbrev pub EndsTold : {P Q K : Type 0} → Told → Row P Q K → ℕ → Stand → List Ending → List Ending → Type 0
-EndsTold told (row.Begun d t m) line (Calling c x false) from to = EndsAsk told (account_of t) line from to
-EndsTold told _ line stand from to = ⊤

@@ -2,6 +2,7 @@ pub mod Accounts
 pub mod Matching
 pub mod Rows
 pub mod Clients
+pub mod Closing
 pub mod Going
 pub mod Groups
 pub mod Waiting

@@ -1,6 +1,6 @@
 //! What a line comes to, as its call ends.
-ghost use Rattle.std.specs.Prelude.{◌≡◌, ℕ, IfSome, None, Option, false, List, Ok};
-ghost use Rattle.txn_clients.specs.Accounts.{BeginsNew, IsNew, account_in, result_by};
+ghost use Rattle.std.specs.Prelude.{◌≡◌, ℕ, IfSome, None, List, Ok, false, option_map};
+ghost use Rattle.txn_clients.specs.Accounts.{BeginsNew, IsNew, account_in, outcome_by};
 ghost use Rattle.txn_clients.specs.Rows.{AskFits, IsStamped, RowReady, stand_of};
 ghost use Rattle.txn_clients.specs.Waiting.{IsNewAnswer, RowArises};
 ghost use Rattle.txn_clients.specs.declared.answer.Answer.TheVariants.{Asked};
@@ -12,11 +12,13 @@ ghost use Rattle.txn_client.specs.declared.client_answer.ClientAnswer.TheVariant
 ghost use Rattle.txn_core.specs.Waiting.{HandsOut};
 ghost use Rattle.txn_history.specs.Posted.{Posted};
 ghost use Rattle.txn_kv.specs.Timestamp.{HasVersion, version_of};
-ghost use Rattle.txn_side.specs.Account.{answer_by, new_account};
+ghost use Rattle.txn_side.specs.Account.{new_account};
 ghost use Rattle.txn_side.specs.Sight.{AskEnds, CallEnds, number_of};
 ghost use Rattle.txn_clients.specs.declared.row.Row.TheVariants.{Past};
 ghost use Rattle.txn_report.specs.declared.outcome.Outcome.TheVariants.{Err as Failed};
-ghost use Rattle.txn_kv.specs.declared.errors.Error.{Error as Fault};
+ghost use Rattle.txn_kv.specs.declared.errors.Error.TheVariants.{InternalError};
+ghost use Rattle.txn_kv.specs.declared.errors.Internal.TheVariants.{WrongReply};
+ghost use Rattle.txn_core.specs.declared.txn_answer.TxnAnswer.TheVariants as answers;
 
 use crate::answer::Pd;
 use crate::row::Row;
@@ -53,7 +55,7 @@ where
 
     /// The answer is of another kind than the call. No call gives such a one.
     fn unlike(client: usize) -> Ended<P, Q, K>
-        ensures { (error : Fault) × (result ≡ record { row = Past client; outcome = Failed error }) }
+        ensures { result ≡ record { row = Past client; outcome = Failed (InternalError WrongReply) } }
     {
         let what = Internal::WrongReply;
         Ended::failed(client, Error::InternalError { what })
@@ -132,7 +134,7 @@ where
         ensures number { number_of result.outcome ≡ None }
         ensures ready { RowReady (ways P.meaning Q.meaning K.meaning P.refuses Q.refuses K.refuses) result.row }
         ensures account { account_in result.row ≡ new_account }
-        ensures answers { commits ≡ false → (refused : Option Fault) → answer ≡ result_by refused → result.outcome ≡ answer_by refused }
+        ensures outcome { result.outcome ≡ outcome_by commits answer }
     {
         match answer {
             Err(error) => Ended::failed(client, error),
@@ -149,7 +151,7 @@ where
         ensures number { number_of result.outcome ≡ None }
         ensures ready { RowReady (ways P.meaning Q.meaning K.meaning P.refuses Q.refuses K.refuses) result.row }
         ensures account { account_in result.row ≡ new_account }
-        ensures answers { commits ≡ false → result.outcome ≡ answer_by None }
+        ensures outcome { result.outcome ≡ outcome_by {Q = Q} commits (Ok answers.Unit) }
     {
         if commits {
             return Ended::unlike(client);
@@ -172,6 +174,7 @@ where
         ensures number { number_of result.outcome ≡ None }
         ensures ready { RowReady (ways P.meaning Q.meaning K.meaning P.refuses Q.refuses K.refuses) result.row }
         ensures account { account_in result.row ≡ new_account }
+        ensures outcome { result.outcome ≡ outcome_by commits (Ok (answers.Committed timestamp job)) }
     {
         if !commits {
             return Ended::unlike(client);
@@ -193,6 +196,7 @@ where
 
 fn version_of(timestamp: Option<Timestamp>) -> Option<u64>
     requires { IfSome timestamp HasVersion }
+    ensures { result ≡ option_map version_of timestamp }
 {
     match timestamp {
         None => None,

@@ -1,6 +1,6 @@
 ghost use Rattle.std.specs.Prelude.{◌≡◌, ◌<◌, ◌^◌, ℕ, Bool, false, IfOk, IfSome, OnOk};
 ghost use Rattle.txn_client.specs.Calls.{CallReady};
-ghost use Rattle.txn_clients.specs.Accounts.{AnswersAsk, AnswersNew, AnswersTold, IsQuiet, WantsNew, account_in, account_of, after_told, told_account};
+ghost use Rattle.txn_clients.specs.Accounts.{AccountTold, AnswersAsk, AnswersNew, AnswersTold, IsQuiet, RowTold, WantsNew, account_in, account_of};
 ghost use Rattle.txn_clients.specs.Rows.{AnswerFits, IsFreeFor, IsToldIn, MayHear, MayTell, Posts, RowReady, Rests, stand_of, with_waits};
 ghost use Rattle.txn_clients.specs.Waiting.{IsAnswerOf, IsNewAnswer, RowGoes};
 ghost use Rattle.txn_clients.specs.declared.row.Row.TheVariants.{Asking, Begun};
@@ -134,7 +134,7 @@ where
     ensures kind { IfOk result (λ answer. (c m : ℕ) → IfSome answer (IsAnswerOf (stand_of (Begun c transaction.old m)))) }
     ensures ready { OnOk result (TransactionReady (ways P.meaning Q.meaning K.meaning P.refuses Q.refuses K.refuses) transaction.new) }
     ensures quiet { OnOk result (IsQuiet transaction.new) }
-    ensures account { OnOk result (account_of transaction.new ≡ told_account told (account_of transaction.old)) }
+    ensures account { IfOk result (λ answer. AccountTold told answer (account_of transaction.old) (account_of transaction.new)) }
     ensures answers { IfOk result (AnswersAsk told (account_of transaction.old)) }
     ensures begins { IfOk result (λ answer. IfSome answer AnswersNew) }
     ensures posts { OnOk result (Posts out.old out.new) }
@@ -239,7 +239,7 @@ where
         ensures kind { IfOk result (λ answer. IfSome answer (IsAnswerOf (stand_of self.old))) }
         ensures stand { OnOk result (stand_of self.new ≡ stand_of self.old) }
         ensures ready { OnOk result (RowReady (ways P.meaning Q.meaning K.meaning P.refuses Q.refuses K.refuses) self.new) }
-        ensures account { OnOk result (account_in self.new ≡ after_told told self.old) }
+        ensures account { IfOk result (λ answer. RowTold told answer self.old (account_in self.new)) }
         ensures answers { IfOk result (AnswersTold told self.old) }
         ensures begins { IfOk result (λ answer. IfSome answer AnswersNew) }
         ensures posts { OnOk result (Posts out.old out.new) }

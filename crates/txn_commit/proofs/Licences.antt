@@ -1,5 +1,6 @@
 -- What a transaction may send has its licence.
-use Rattle.std.proofs.Common.{◌≡◌, inl, inr, ℕ, List, Some, sym, subst}
+use Rattle.std.proofs.Common.{◌≡◌, inl, inr, ℕ, List, sym, subst}
+use Rattle.std.specs.Prelude.{Ok}
 use Rattle.txn_kv.specs.Timestamp.{version_of}
 use Rattle.txn_kv.specs.declared.request.Request.{Request}
 use Rattle.txn_kv.specs.declared.request.Request.TheVariants.{Get, BatchGet, Scan, Prewrite, Commit, Cleanup, BatchRollback, PessimisticRollback, PessimisticLock, ResolveLock, ScanLock, TxnHeartBeat, CheckTxnStatus, CheckSecondaryLocks, UnsafeDestroyRange, GetRegion, GetRegionById, GetStore, GetAllStores, UpdateGcSafePoint, Tso, Members}
@@ -13,7 +14,7 @@ use Rattle.txn_commit.specs.Sending.{MaySend, PrimaryMayGo}
 
 -- a timestamp that an ask was answered with was asked for
 abbrev pub AnswersAreAsked : Plan → ℕ → List Event → Type 0
-AnswersAreAsked plan s h = (a : Ticket) (time : Timestamp) → WantedAfter plan h s a → Has h (Answered a (Some time)) → WasAskedFor plan h s (version_of time)
+AnswersAreAsked plan s h = (a : Ticket) (time : Timestamp) → WantedAfter plan h s a → Has h (Answered a (Ok time)) → WasAskedFor plan h s (version_of time)
 
 primary_licensed : (plan : Plan) (s c : ℕ) (h : List Event) → AnswersAreAsked plan s h → PrimaryMayGo plan h s c → PrimaryCommitLicence plan h s c
 primary_licensed plan s c h asked g = record {

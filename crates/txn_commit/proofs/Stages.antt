@@ -1,5 +1,5 @@
 -- A commit or a rollback from one stage to the next.
-use Rattle.std.proofs.Common.{◌≡◌, inl, inr, ℕ, Bool, true, List, [], ◌∷◌, Some, None, refl, sym, ap, subst, ◌∙◌, length, drop, arith}
+use Rattle.std.proofs.Common.{◌≡◌, inl, inr, ℕ, Bool, true, List, [], ◌∷◌, None, refl, sym, ap, subst, ◌∙◌, length, drop, arith}
 use Rattle.std.specs.Prelude.{IsErr, Result, Ok, Err}
 use Rattle.std.proofs.Math.Seq.{drop-append_seam}
 use Rattle.std.proofs.lemmas.Bool.{eqb-true}
@@ -260,7 +260,7 @@ module _ {P Q K A B D : Type 0} where
         ask = ticket_of o b.0;
         given = time;
         wanted = wanted_after plan s o.line o.beat ((told_by a o r).hear h) x.moves.sends (ticket_of o b.0) (wanted_heard plan s (ticket_of o b.0) h ((told_by a o r).hear h) (hears_told a o r h) ((at h u).asked b.0 b.1));
-        answered = Within-after o.line o.beat ((told_by a o r).hear h) x.moves.sends (Answered (ticket_of o b.0) (Some time)) (rw b.2 (inl refl));
+        answered = Within-after o.line o.beat ((told_by a o r).hear h) x.moves.sends (Answered (ticket_of o b.0) (Ok time)) (rw b.2 (inl refl));
         at = refl;
       }
       says h u (Err why) g b = g

@@ -4,7 +4,6 @@ use Rattle.std.proofs.lemmas.Bool.{eqb-true}
 use Rattle.std.proofs.lemmas.List.{append_cancel_left}
 use Rattle.std.specs.Bool.{MatchBool}
 use Rattle.std.specs.Prelude.{⊤, nat_eq, nat_lt, Result, Ok, Err}
-use Rattle.std.specs.Result.{result_ok}
 use Rattle.txn_history.specs.Event.{Event}
 use Rattle.txn_history.specs.Event.Event.{Took, Lost, Slept, Answered}
 use Rattle.txn_history.specs.Meaning.{missed, replied, timed, woken, Goes, Tells, Told}
@@ -63,9 +62,9 @@ module _ (s s' : PdCall) (k k' : RetryClient) (o o' : Posted) (now : ℕ) (turn 
 
   pub tells_time : (n : ℕ) (x : Result Timestamp Error)
       → Stands s.query o (on_answer s.stage n x now (standing s k o)) turn (standing s' k' o')
-      → Moves (MayAsk s) (CallFits s o) (CallFits s' o') (Gives s o) (λ h. Answered (ticket_of o n) (result_ok x) ∷ h) o o' turn
-      → Tells looked_up (timed (ticket_of o n) (result_ok x)) s s' o o' turn
-  tells_time n x st m = tells (timed (ticket_of o n) (result_ok x)) (hears_answer s.stage n) (standing s k o) (standing s' k' o') turn same (λ e a b w. deaf_answer s.stage n e a b w)
+      → Moves (MayAsk s) (CallFits s o) (CallFits s' o') (Gives s o) (λ h. Answered (ticket_of o n) x ∷ h) o o' turn
+      → Tells looked_up (timed (ticket_of o n) x) s s' o o' turn
+  tells_time n x st m = tells (timed (ticket_of o n) x) (hears_answer s.stage n) (standing s k o) (standing s' k' o') turn same (λ e a b w. deaf_answer s.stage n e a b w)
       (went (hears_answer s.stage n) s.query (on_answer s.stage n x now (standing s k o)) turn (standing s k o) (standing s' k' o') st (went_answer s.stage n x now (standing s k o))) m
 
 -- what is heard was waited for

@@ -49,7 +49,7 @@ pub record IsReady (plan : Plan) (s c : ℕ) (h : List Event) : Type 0 where
   pub ask : Ticket
   pub given : Timestamp
   pub wanted : WantedAfter plan h s ask
-  pub answered : Has h (Answered ask (Some given))
+  pub answered : Has h (Answered ask (Ok given))
   pub at : version_of given ≡ c
 
 -- What has happened at each stage, for a transaction with this start and these parts.

@@ -1,5 +1,5 @@
 -- What a transaction may send while it commits or rolls back.
-use Rattle.std.specs.Prelude.{◌≡◌, ◌≢◌, ◌⊎◌, ℕ, true, if◌then◌else◌, List, [], ◌∷◌, Option, Some, None}
+use Rattle.std.specs.Prelude.{◌≡◌, ◌≢◌, ◌⊎◌, ℕ, true, if◌then◌else◌, List, [], ◌∷◌, Option, Some, None, Ok}
 use Rattle.txn_kv.specs.Timestamp.{version_of}
 use Rattle.txn_kv.specs.declared.message.Mutation.{Mutation}
 use Rattle.txn_kv.specs.declared.request.CommitRequest.{CommitRequest}
@@ -32,7 +32,7 @@ pub record PrimaryMayGo (plan : Plan) (h : List Event) (s c : ℕ) : Type 0 wher
   pub ask : Ticket
   pub time : Timestamp
   pub wanted : WantedAfter plan h s ask
-  pub answered : Has h (Answered ask (Some time))
+  pub answered : Has h (Answered ask (Ok time))
   pub at : version_of time ≡ c
   pub same : (d : ℕ) → WasNamed plan h s d → d ≡ c
 

@@ -1,5 +1,5 @@
 //! Laws of the definitions, as contracts of functions that do nothing.
-ghost use Rattle.std.specs.Prelude.{ℕ, ◌+◌, ◌≡◌, ◌≢◌, ◌≤◌, ◌∷◌, List, Option, Some, false, length, true};
+ghost use Rattle.std.specs.Prelude.{ℕ, ◌+◌, ◌≡◌, ◌≢◌, ◌≤◌, ◌∷◌, List, Ok, Option, Some, false, length, true};
 ghost use Rattle.txn_buffer.specs.Contents.{Contents};
 ghost use Rattle.txn_history.specs.Event.{Event, Has};
 ghost use Rattle.txn_history.specs.Event.Event.{Answered, Took, Lost};
@@ -40,7 +40,7 @@ pub fn commits_are_followed()
 /// What a transaction may send has its licence, where a timestamp that an ask was answered with was asked for.
 pub fn sending_is_licensed()
     ensures { (plans : ℕ → Plan) (s : ℕ) (h : List Event) (r : Request)
-        → ((a : Ticket) (time : Timestamp) → WantedAfter (plans s) h s a → Has h (Answered a (Some time)) → WasAskedFor (plans s) h s (version_of time))
+        → ((a : Ticket) (time : Timestamp) → WantedAfter (plans s) h s a → Has h (Answered a (Ok time)) → WasAskedFor (plans s) h s (version_of time))
         → MaySend (plans s) s h r → IsLicensed plans h r }
 {}
 

@@ -1,7 +1,6 @@
 ghost use Rattle.std.specs.Prelude.{◌≡◌, ◌<◌, ◌^◌, List, OnErr, OnOk, false, is_err, true};
 ghost use Rattle.std.specs.Bool.{MatchBool};
 ghost use Rattle.txn_history.specs.Around.{IsRead};
-ghost use Rattle.std.specs.Result.{result_ok};
 ghost use Rattle.txn_history.specs.Faults.{has_error, has_region_error};
 ghost use Rattle.txn_history.specs.Meaning.{missed, replied, started, timed, woken, Counts, Goes, Tells};
 ghost use Rattle.txn_history.specs.Phase.Awaited.{EndOf, ReplyTo, TimeOf};
@@ -168,7 +167,7 @@ impl<Q: PlanFor<CommitRequest>> SecondaryJob<Q> {
         requires answer { IsTimeAnswer answer }
         requires numbers { HasNumbers out.old }
         requires clock { now < 2 ^ 44 }
-        ensures tells { (plan : Writing) (keys : List Name) → Tells (others Q.meaning Q.refuses Q.costs plan keys) (timed (ticket_of out.old ask) (result_ok answer)) self.old self.new out.old out.new (turn_of result) }
+        ensures tells { (plan : Writing) (keys : List Name) → Tells (others Q.meaning Q.refuses Q.costs plan keys) (timed (ticket_of out.old ask) answer) self.old self.new out.old out.new (turn_of result) }
         ensures goes { Goes (λ (s : SecondaryJob Q). job_phase Q.meaning s.stage) (job_waits Q.meaning self.old.stage (TimeOf ask)) self.old self.new out.old out.new pd.old pd.new (turn_of result) }
         ensures counts { (plan : Writing) (keys : List Name) → Counts (others Q.meaning Q.refuses Q.costs plan keys) (is_err answer) false 0 0 self.old self.new out.old out.new (turn_of result) }
         ensures ready { JobReady Q.meaning self.new }

@@ -1,12 +1,14 @@
 ghost use Rattle.std.specs.Prelude.{◌≡◌, Err};
-ghost use Rattle.txn_commit_plans.specs.Failing.{HasGiven, has_given_longer};
-ghost use Rattle.txn_commit_plans.specs.Kinds.{rollback_plan-lawful};
+ghost use Rattle.txn_commit_plans.specs.CausesOfPlans.{rollbacks_caused};
+ghost use Rattle.txn_commit_plans.specs.Failing.{HasGiven, given_caused, has_given_longer};
+ghost use Rattle.txn_commit_plans.specs.Kinds.{rollback_plan, rollback_plan-lawful};
 ghost use Rattle.txn_kv.specs.declared.request.BatchRollbackRequest.{BatchRollbackRequest as Sent};
 ghost use Rattle.txn_kv.specs.declared.request.Request.TheVariants.{BatchRollback};
 ghost use Rattle.txn_commit_plans.specs.OneEach.{few_by_items};
 ghost use Rattle.txn_multi.specs.Few.{by_items};
 ghost use Rattle.txn_request.specs.Defaults.{default_batch_rollback};
 
+use crate::has_causes::Caused;
 use crate::one_each::OneEach;
 use crate::over_regions::{OverRegions, plan_over_regions};
 use crate::transaction_plan::TransactionPlan;
@@ -63,4 +65,8 @@ impl PlanFor<BatchRollbackRequest> for BatchRollbackPlan {
 
 impl OneEach<BatchRollbackRequest> for BatchRollbackPlan {
     ghost one_each = { few_by_items };
+}
+
+impl Caused<BatchRollbackRequest> for BatchRollbackPlan {
+    ghost caused = { given_caused rollback_plan rollbacks_caused };
 }

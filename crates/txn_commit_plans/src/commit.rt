@@ -1,12 +1,14 @@
 ghost use Rattle.std.specs.Prelude.{◌≡◌, Err};
-ghost use Rattle.txn_commit_plans.specs.Failing.{HasGiven, has_given_longer};
-ghost use Rattle.txn_commit_plans.specs.Kinds.{commit_plan-lawful};
+ghost use Rattle.txn_commit_plans.specs.CausesOfPlans.{commits_caused};
+ghost use Rattle.txn_commit_plans.specs.Failing.{HasGiven, given_caused, has_given_longer};
+ghost use Rattle.txn_commit_plans.specs.Kinds.{commit_plan, commit_plan-lawful};
 ghost use Rattle.txn_kv.specs.declared.request.CommitRequest.{CommitRequest as Sent};
 ghost use Rattle.txn_kv.specs.declared.request.Request.TheVariants.{Commit};
 ghost use Rattle.txn_commit_plans.specs.OneEach.{few_by_items};
 ghost use Rattle.txn_multi.specs.Few.{by_items};
 ghost use Rattle.txn_request.specs.Defaults.{default_commit};
 
+use crate::has_causes::Caused;
 use crate::one_each::OneEach;
 use crate::over_regions::{OverRegions, plan_over_regions};
 use crate::transaction_plan::TransactionPlan;
@@ -59,4 +61,8 @@ impl PlanFor<CommitRequest> for CommitPlan {
 
 impl OneEach<CommitRequest> for CommitPlan {
     ghost one_each = { few_by_items };
+}
+
+impl Caused<CommitRequest> for CommitPlan {
+    ghost caused = { given_caused commit_plan commits_caused };
 }

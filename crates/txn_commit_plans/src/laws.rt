@@ -1,27 +1,41 @@
 //! What the plans of requests are, as contracts of functions that do nothing.
-ghost use Rattle.std.specs.Prelude.{◌≡◌, ◌≤◌, ◌+◌, ◌*◌, ◌∷◌, ℕ, List, Option, false, length};
-ghost use Rattle.txn_buffer.specs.Contents.{mutations};
+ghost use Rattle.std.specs.Prelude.{◌≡◌, ◌≤◌, ◌+◌, ◌*◌, ◌∷◌, ℕ, List, Option, Some, Err, false, length};
+ghost use Rattle.txn_buffer.specs.Contents.{Contents, mutations};
+ghost use Rattle.txn_causes.specs.Causes.{HasCause};
+ghost use Rattle.txn_causes.specs.Heard.{heard_in};
 ghost use Rattle.txn_commit.specs.Committing.{ways};
 ghost use Rattle.txn_commit.specs.Counting.{costs_of, IsOneEach};
+ghost use Rattle.txn_commit.specs.Following.{Commits as Followed, KnowsCommits, undetermined};
 ghost use Rattle.txn_commit.specs.Jobs.{others};
 ghost use Rattle.txn_commit.specs.Parts.{parts_of};
 ghost use Rattle.txn_commit.specs.Plans.{IsPlanFor};
+ghost use Rattle.txn_commit.specs.Timing.{WasUntimed};
 ghost use Rattle.txn_commit.specs.declared.secondary_job.SecondaryJob.{SecondaryJob};
 ghost use Rattle.txn_commit.specs.declared.secondary_job.Stage.TheVariants.{Fresh};
-ghost use Rattle.txn_commit_plans.specs.Failing.{HasGiven};
+ghost use Rattle.txn_commit_plans.specs.CausesOfCalls.{IsCallExplained, IsExplained, IsRefusalExplained};
+ghost use Rattle.txn_commit_plans.specs.Failing.{FailsForCauses, HasGiven};
 ghost use Rattle.txn_commit_plans.specs.Kinds.{commit_plan, prewrite_plan, rollback_plan, CommitPlan as Committing, PrewritePlan as Prewriting, RollbackPlan as Rolling};
 ghost use Rattle.txn_core.specs.Counting.{commit_price, errors, posted, rollback_price, weighed, Runs, Step};
+ghost use Rattle.txn_core.specs.Going.{TransactionGives};
+ghost use Rattle.txn_history.specs.Event.{Event};
 ghost use Rattle.txn_history.specs.Meaning.{IsUnbegun};
-ghost use Rattle.txn_history.specs.Plan.{Plan};
+ghost use Rattle.txn_history.specs.Plan.{Key, Plan};
 ghost use Rattle.txn_multi.specs.Few.{by_items};
+ghost use Rattle.txn_kv.specs.ErrorView.{view_of};
+ghost use Rattle.txn_kv.specs.ErrorView.ErrorView.{undetermined as not_known};
+ghost use Rattle.txn_kv.specs.declared.errors.Error.{Error};
+ghost use Rattle.txn_kv.specs.declared.errors.Error.TheVariants.{GrpcAPI};
 ghost use Rattle.txn_kv.specs.declared.message.Context.{Context as Place};
 ghost use Rattle.txn_kv.specs.declared.request.BatchRollbackRequest.{BatchRollbackRequest as RolledBack};
 ghost use Rattle.txn_kv.specs.declared.request.CommitRequest.{CommitRequest as Committed};
 ghost use Rattle.txn_kv.specs.declared.request.PrewriteRequest.{PrewriteRequest as Prewritten};
 ghost use Rattle.txn_kv.specs.declared.request.Request.TheVariants.{BatchRollback, Commit, Prewrite};
+ghost use Rattle.txn_kv.specs.declared.ticket.Ticket.{Ticket};
+ghost use Rattle.txn_kv.specs.declared.timestamp.Timestamp.{Timestamp};
 
 use crate::batch_rollback::BatchRollbackPlan;
 use crate::commit::CommitPlan;
+use crate::has_causes::Caused;
 use crate::one_each::OneEach;
 use crate::prewrite::PrewritePlan;
 use txn_commit::PlanFor;
@@ -73,4 +87,30 @@ pub fn commits_by_plans_are_bounded()
 /// The job of k other keys, which is not started, posts no more than k requests.
 pub fn jobs_by_plans_are_bounded()
     ensures { (job : SecondaryJob Committing) (plan : Plan) (n : ℕ) → job.stage ≡ Fresh → (others commit_plan (HasGiven commit_plan) by_items plan job.keys).round job n ≤ length job.keys }
+{}
+
+/// Each error of a plan has its cause in what was heard, whatever its stage: where it says that a request was lost, that was; what
+/// it says of a region, a key or a lock stands in a reply that was taken.
+pub fn plans_fail_for_causes()
+    ensures prewrite { FailsForCauses prewrite_plan }
+    ensures commit { FailsForCauses commit_plan }
+    ensures batch_rollback { FailsForCauses rollback_plan }
+{}
+
+/// Where a commit or a rollback fails that goes by such plans, its error has its cause in what was heard; or there was no timestamp,
+/// and it is the error with which the oracle refused an ask. Where a Commit of the primary was lost or is out, the answer says
+/// that the end is not known, and holds such an error. So does a rollback that is refused for that, and it names the Commit.
+pub fn failed_calls_have_causes<P, Q, K>()
+where
+    P: Caused<PrewriteRequest>,
+    Q: Caused<CommitRequest>,
+    K: Caused<BatchRollbackRequest>,
+    ensures failed { (start : Timestamp) (contents : Contents) (c : Followed) (h : List Event) (e : Error)
+        → TransactionGives (ways P.meaning Q.meaning K.meaning P.refuses Q.refuses K.refuses) start contents c h (Err e) → IsCallExplained (undetermined c) h e }
+    ensures refused { (plan : Plan) (s : ℕ) (c : Followed) (h : List Event) (t : Ticket) (e : Error)
+        → KnowsCommits plan s c h → undetermined c ≡ Some t → view_of e ≡ not_known (view_of (GrpcAPI t)) → IsRefusalExplained plan s c t h e }
+    // A call for a timestamp alone fails so, too, and so does the job of the other keys.
+    ensures untimed { (h : List Event) (e : Error) → WasUntimed h e → IsExplained h e }
+    ensures jobs { (plan : Plan) (keys : List Key) (job : SecondaryJob Q) (h : List Event) (e : Error)
+        → (others Q.meaning Q.refuses Q.costs plan keys).gives job h (Err e) → HasCause (heard_in h) (view_of e) }
 {}

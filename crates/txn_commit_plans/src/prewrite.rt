@@ -1,12 +1,14 @@
 ghost use Rattle.std.specs.Prelude.{◌≡◌, ◌^◌, ◌-◌, Err};
-ghost use Rattle.txn_commit_plans.specs.Failing.{HasGiven, has_given_longer};
-ghost use Rattle.txn_commit_plans.specs.Kinds.{prewrite_plan-lawful};
+ghost use Rattle.txn_commit_plans.specs.CausesOfPlans.{prewrites_caused};
+ghost use Rattle.txn_commit_plans.specs.Failing.{HasGiven, given_caused, has_given_longer};
+ghost use Rattle.txn_commit_plans.specs.Kinds.{prewrite_plan, prewrite_plan-lawful};
 ghost use Rattle.txn_kv.specs.declared.request.PrewriteRequest.{PrewriteRequest as Sent};
 ghost use Rattle.txn_kv.specs.declared.request.Request.TheVariants.{Prewrite};
 ghost use Rattle.txn_commit_plans.specs.OneEach.{few_by_items};
 ghost use Rattle.txn_multi.specs.Few.{by_items};
 ghost use Rattle.txn_request.specs.Defaults.{default_prewrite};
 
+use crate::has_causes::Caused;
 use crate::one_each::OneEach;
 use crate::over_regions::{OverRegions, plan_over_regions};
 use crate::transaction_plan::TransactionPlan;
@@ -63,4 +65,8 @@ impl PlanFor<PrewriteRequest> for PrewritePlan {
 
 impl OneEach<PrewriteRequest> for PrewritePlan {
     ghost one_each = { few_by_items };
+}
+
+impl Caused<PrewriteRequest> for PrewritePlan {
+    ghost caused = { given_caused prewrite_plan prewrites_caused };
 }

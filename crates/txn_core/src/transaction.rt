@@ -53,7 +53,7 @@ use txn_kv::{
 use txn_merge::RetryOptions;
 use txn_plan::Arrival;
 use txn_region::PdClient;
-use writes::done;
+use writes::{done, refused};
 
 type Turn<Q> = Result<Progress<TxnAnswer<Q>>, NoMemory>;
 
@@ -127,6 +127,13 @@ where
         ensures { result ≡ self.now.start }
     {
         self.timestamp
+    }
+
+    /// How far it has come.
+    pub fn status(&self) -> Status
+        ensures { result ≡ self.now.status }
+    {
+        self.status
     }
 
     /// Whether a call is open.
@@ -787,10 +794,4 @@ where
         self.set_work(Work::GaveUp);
         Err(NoMemory)
     }
-}
-
-pub(crate) fn refused<Q>(error: Error) -> Progress<TxnAnswer<Q>>
-    ensures { turn_of (Ok result) ≡ Ends (Err error) }
-{
-    Progress::Done(Err(error))
 }

@@ -1,5 +1,6 @@
 -- The events of a run, the newest first.
-use Rattle.std.specs.Prelude.{◌≡◌, ◌⊎◌, ℕ, Bool, true, false, not, ◌&&◌, ◌||◌, if◌then◌else◌, List, [], ◌∷◌, Option, Some, None, nat_eq, is_some}
+use Rattle.std.specs.Prelude.{◌≡◌, ◌⊎◌, ℕ, Bool, true, false, not, ◌&&◌, ◌||◌, if◌then◌else◌, List, [], ◌∷◌, Option, Some, None, Result, nat_eq, is_some}
+use Rattle.txn_kv.specs.declared.errors.Error.{Error}
 use Rattle.txn_kv.specs.declared.ticket.Ticket.{Ticket}
 use Rattle.txn_kv.specs.declared.timestamp.Timestamp.{Timestamp}
 use Rattle.txn_kv.specs.declared.request.Request.{Request}
@@ -20,10 +21,10 @@ pub data Event : Type 0 where
   -- a sleep was begun, and ended; it has a ticket as a request has
   Began : (ticket : Ticket) (ms : ℕ) → Event
   Slept : (ticket : Ticket) → Event
-  -- a line asked its client's oracle for a timestamp, and was answered with it, or that none will come; the asks of a line
+  -- a line asked its client's oracle for a timestamp, and was answered with it, or why none will come; the asks of a line
   -- are numbered by themselves
   Asked : (ask : Ticket) → Event
-  Answered : (ask : Ticket) (answer : Option Timestamp) → Event
+  Answered : (ask : Ticket) (answer : Result Timestamp Error) → Event
   -- a client is gone, with all its calls
   Crashed : (client : ℕ) → Event
   -- a region was split at the key, or is led by this store; the oracle's clock was set

@@ -1,5 +1,6 @@
 -- What a contract sees of a call state, whatever the state is made of, and what each event call of every state keeps to.
-use Rattle.std.specs.Prelude.{◌≡◌, ◌⊎◌, ⊤, ℕ, ◌<◌, ◌≤◌, ◌++◌, Bool, List, ◌∷◌, Option}
+use Rattle.std.specs.Prelude.{◌≡◌, ◌⊎◌, ⊤, ℕ, ◌<◌, ◌≤◌, ◌++◌, Bool, List, ◌∷◌, Result}
+use Rattle.txn_kv.specs.declared.errors.Error.{Error}
 use Rattle.txn_kv.specs.declared.request.Request.{Request}
 use Rattle.std.proofs.Math.Nat.{le_trans}
 use Rattle.txn_kv.specs.declared.reply.Reply.{Reply}
@@ -96,8 +97,8 @@ missed t r = record { known = IsSent t r; hear = λ h. Lost t r ∷ h; within = 
 abbrev pub woken : Ticket → Told
 woken t = record { known = λ h. ⊤; hear = λ h. Slept t ∷ h; within = Within-one (Slept t); heard = λ a. a ≡ EndOf t.number }
 
--- an ask was answered, with a timestamp or with none
-abbrev pub timed : Ticket → Option Timestamp → Told
+-- an ask was answered, with a timestamp or with why there is none
+abbrev pub timed : Ticket → Result Timestamp Error → Told
 timed t x = record { known = λ h. ⊤; hear = λ h. Answered t x ∷ h; within = Within-one (Answered t x); heard = λ a. a ≡ TimeOf t.number }
 
 -- A state waits for what it waited for, without what it heard, and for what it posts.

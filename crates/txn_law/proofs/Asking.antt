@@ -1,5 +1,6 @@
 -- A timestamp that an ask was answered comes of a Tso that was sent after the ask.
-use Rattle.std.proofs.Common.{◌≡◌, ℕ, inl, inr, List, [], ◌∷◌, Some, subst, arith}
+use Rattle.std.proofs.Common.{◌≡◌, ℕ, inl, inr, List, [], ◌∷◌, subst, arith}
+use Rattle.std.specs.Prelude.{Ok}
 use Rattle.txn_kv.specs.Timestamp.{version_of}
 use Rattle.txn_kv.specs.declared.ticket.Ticket.{Ticket}
 use Rattle.txn_kv.specs.declared.timestamp.Timestamp.{Timestamp}
@@ -13,10 +14,10 @@ use Rattle.txn_law.proofs.Kept.{acknowledged_more, given_more}
 timed_more : (es : List Event) (e : Event) (a : Ticket) (c : ℕ) → WasTimed es a c → WasTimed (e ∷ es) a c
 timed_more es e a c w = (w.0, w.1, w.2, inr w.3, inr w.4, w.5)
 
-answered_so : (es : List Event) (x : Event) (a : Ticket) (time : Timestamp) → x ≡ Answered a (Some time) → IsPossible es x → WasTimed es a (version_of time)
+answered_so : (es : List Event) (x : Event) (a : Ticket) (time : Timestamp) → x ≡ Answered a (Ok time) → IsPossible es x → WasTimed es a (version_of time)
 answered_so es x a time e h = subst (IsPossible es) e h
 
-was_timed : (plans : ℕ → Plan) (es : List Event) → IsRun plans es → (a : Ticket) (time : Timestamp) → Has es (Answered a (Some time)) → WasTimed es a (version_of time)
+was_timed : (plans : ℕ → Plan) (es : List Event) → IsRun plans es → (a : Ticket) (time : Timestamp) → Has es (Answered a (Ok time)) → WasTimed es a (version_of time)
 was_timed plans [] run a time h = absurd h
 was_timed plans (e ∷ es) run a time (inl h) = timed_more es e a (version_of time) (answered_so es e a time h run.0)
 was_timed plans (e ∷ es) run a time (inr h) = timed_more es e a (version_of time) (was_timed plans es run.2 a time h)
@@ -42,8 +43,8 @@ asked_after plans plan (e ∷ es) run s a t (inl w) (inr h) = absurd (asked_once
 asked_after plans plan (e ∷ es) run s a t (inr w) (inl h) = (let ready = wanted_ready plan es s a w in inl (h.0, h.1, ready.0, ready.1))
 asked_after plans plan (e ∷ es) run s a t (inr w) (inr h) = inr (asked_after plans plan es run.2 s a t w h)
 
-pub law_asked : (plans : ℕ → Plan) (es : List Event) → IsRun plans es → (s : ℕ) (a : Ticket) (time : Timestamp) → WantedAfter (plans s) es s a → Has es (Answered a (Some time)) → WasAskedFor (plans s) es s (version_of time)
+pub law_asked : (plans : ℕ → Plan) (es : List Event) → IsRun plans es → (s : ℕ) (a : Ticket) (time : Timestamp) → WantedAfter (plans s) es s a → Has es (Answered a (Ok time)) → WasAskedFor (plans s) es s (version_of time)
 law_asked plans es run s a time w h = let g = was_timed plans es run a time h in (g.0, g.1, g.2, asked_after plans (plans s) es run s a g.0 w g.3, g.4, g.5)
 
-pub law_given : (plans : ℕ → Plan) (es : List Event) → IsRun plans es → (a : Ticket) (time : Timestamp) → Has es (Answered a (Some time)) → WasGiven es (version_of time)
+pub law_given : (plans : ℕ → Plan) (es : List Event) → IsRun plans es → (a : Ticket) (time : Timestamp) → Has es (Answered a (Ok time)) → WasGiven es (version_of time)
 law_given plans es run a time h = let g = was_timed plans es run a time h in (g.0, g.1, g.2, version_of time, g.4, g.5, omega arith)

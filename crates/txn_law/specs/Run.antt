@@ -1,6 +1,6 @@
 -- A run: what happened may happen, and every request is licensed when it is sent.
 use Rattle.txn_kv.specs.declared.request.PessimisticLockRequest.{PessimisticLockRequest}
-use Rattle.std.specs.Prelude.{◌≡◌, ◌⊎◌, ℕ, List, [], ◌∷◌, Some, None}
+use Rattle.std.specs.Prelude.{◌≡◌, ◌⊎◌, ℕ, List, [], ◌∷◌, Some, None, Ok, Err}
 use Rattle.txn_kv.specs.Timestamp.{version_of}
 use Rattle.txn_kv.specs.declared.request.Request.{Request}
 use Rattle.txn_kv.specs.declared.request.Request.TheVariants.{UnsafeDestroyRange, PessimisticLock}
@@ -41,8 +41,8 @@ IsPossible es (Lost t r) = Has es (Sent t r)
 IsPossible es (Began t ms) = Unit {0}
 IsPossible es (Slept t) = Unit {0}
 IsPossible es (Asked a) = Has es (Asked a) → ⊥
-IsPossible es (Answered a None) = Has es (Asked a)
-IsPossible es (Answered a (Some time)) = WasTimed es a (version_of time)
+IsPossible es (Answered a (Err why)) = Has es (Asked a)
+IsPossible es (Answered a (Ok time)) = WasTimed es a (version_of time)
 IsPossible es (Crashed client) = Unit {0}
 IsPossible es (Split k) = Unit {0}
 IsPossible es (Led region store) = Unit {0}

@@ -1,7 +1,7 @@
 -- A run of one transaction that commits two keys: its second Commit is lost and comes late, after a reader found the lock,
 -- asked about the primary, and resolved it. Then a read is refused, a region is split and led elsewhere, the clock goes on and
 -- a client is gone.
-use Rattle.std.specs.Prelude.{ℕ, false, pos, List, [], ◌∷◌, Option, Some, None, if◌then◌else◌}
+use Rattle.std.specs.Prelude.{ℕ, false, pos, List, [], ◌∷◌, Option, Some, None, Ok, if◌then◌else◌}
 use Rattle.txn_kv.specs.declared.message.ApiVersion.TheVariants.{V1}
 use Rattle.txn_kv.specs.declared.message.Assertion.TheVariants.{None as NoAssertion}
 use Rattle.txn_kv.specs.declared.message.Context.{Context}
@@ -130,7 +130,7 @@ abbrev pub after_9 : List Event
 after_9 = Took (ticket 3) tso gave_2 ∷ after_8
 
 abbrev pub answered_9 : List Event
-answered_9 = Answered (ticket 4) (Some time_2) ∷ after_9
+answered_9 = Answered (ticket 4) (Ok time_2) ∷ after_9
 
 abbrev pub after_10 : List Event
 after_10 = Sent (ticket 4) commit_first ∷ answered_9

@@ -36,7 +36,7 @@ over_is false = refl
 
 -- What was known.
 
-unfinished_is : (o : Outcome) → is_unfinished o ≡ true → o ≡ Unfinished
+pub unfinished_is : (o : Outcome) → is_unfinished o ≡ true → o ≡ Unfinished
 unfinished_is (Ok p) h = absurd (cc)
 unfinished_is (Err e) h = absurd (cc)
 unfinished_is Unfinished h = refl

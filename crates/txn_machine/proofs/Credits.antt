@@ -1,50 +1,53 @@
--- Each line keeps what is said of what writes answer.
-use Rattle.std.proofs.Common.{◌≡◌, ◌≢◌, ℕ, suc, ◌+◌, ◌≤◌, ◌⊎◌, inl, inr, Bool, true, false, not, if◌then◌else◌, List, [], ◌∷◌, Option, Some, None, length, nat_eq, refl, sym, ap, ◌∙◌, subst, arith, length-append}
+-- What a step makes of the accounts, by the lists that it leaves.
+use Rattle.std.proofs.Common.{◌≡◌, ◌≢◌, ℕ, suc, ◌+◌, ◌≤◌, ◌<◌, Bool, true, false, not, List, [], ◌∷◌, Option, Some, None, length, nat_eq, refl, sym, ap, ◌∙◌, subst, arith, length-append}
 use Rattle.std.proofs.lemmas.Bool.Decides.{nat_tests}
 use Rattle.txn_kv.specs.declared.errors.Error.{Error}
-use Rattle.txn_lines.specs.Lines.{why_after}
 use Rattle.txn_lines.specs.declared.line.Line.{Line}
 use Rattle.txn_report.specs.declared.outcome.Outcome.{Outcome}
 use Rattle.txn_report.specs.declared.outcome.Outcome.TheVariants.{Done, Err, Ok, Skipped, Unfinished}
-use Rattle.txn_report.specs.declared.report.Report.{Report}
-use Rattle.txn_side.specs.Account.{Account, AreKept, AreNew, MayTakeIn, TakesIn, answer_by, answer_to, asked, is_write, new_account, refusal, taken, unless_refused}
-use Rattle.txn_side.specs.Sight.{outcomes_of}
+use Rattle.txn_report.specs.declared.outcome.Payload.TheVariants.{Unit as Nothing}
+use Rattle.txn_side.specs.Account.{Account, AnswersAtOnce, AreKept, MayTakeIn, TakesIn, after_act, after_endings, awaited_line, come_to, made_by, refusal, unless_refused}
+use Rattle.txn_side.specs.Account as sides
+use Rattle.txn_side.specs.Sight.{Sight, Stand, outcomes_of, stand_at}
+use Rattle.txn_side.specs.Sight.Stand.{Asking, Calling, HasBegun, Idle, IsClient, Past, Working}
 use Rattle.txn_side.specs.declared.act.Act.{Act}
+use Rattle.txn_side.specs.declared.act.Act.TheVariants as acts
 use Rattle.txn_side.specs.declared.turn.Ending.{Ending}
 use Rattle.txn_side.specs.declared.turn.Posting.{Posting}
 use Rattle.txn_side.specs.declared.turn.Turn.{Turn}
-use Rattle.txn_machine.specs.Causes.{ended_of, is_ok, is_skipped, is_unfinished}
+use Rattle.txn_machine.specs.Accounts.{AnswersIn, Ask, ClosesIf, Credited, CreditedBy, Credits, CreditsBy, WasAskedIf, WereClosedIf, ask_of, closed_if, own_by}
+use Rattle.txn_machine.specs.Causes.{ended_of, is_skipped, tells}
 use Rattle.txn_machine.specs.Lists.{Lists, all_ended, all_posted, ended_at, followed, newest, opened, outright, with_mail}
-use Rattle.txn_machine.specs.Rows.{Caused}
 use Rattle.txn_machine.specs.Running.{IsOrdered, closed, with_own}
-use Rattle.txn_machine.specs.Script.{Folded, outcome_of}
-use Rattle.txn_machine.specs.Steps.{Steps, ended_in}
-use Rattle.txn_machine.specs.Told.{CanTell, EndOnce, EndsOnce, is_answer}
-use Rattle.txn_machine.specs.Writes.{AllWritesMeet, AreTakenIn, Ask, AsksIt, Credited, Credits, WasAsked, WasAskedIf, WriteMeets, account_of, after_ask, after_line, ask_of, own_by, was_taken}
+use Rattle.txn_machine.specs.Script.{outcome_of}
+use Rattle.txn_machine.specs.Steps.{ended_in}
+use Rattle.txn_machine.specs.Told.{ArePast, CanTell, EndOnce, EndsOnce, is_answer}
 use Rattle.txn_machine.specs.declared.done.Done.{Done as Course}
-use Rattle.txn_machine.proofs.Calms.{outcome_opened, outcome_past, outcome_same, same_line}
-use Rattle.txn_machine.proofs.Caused.{apart, changes}
-use Rattle.txn_machine.proofs.Courses.{course}
-use Rattle.txn_machine.proofs.Courses as courses
-use Rattle.txn_machine.proofs.Goings.{Change, Written, skipped_stays, written}
+use Rattle.txn_machine.proofs.Calms.{or_past, outcome_opened, outcome_past, outcome_same, stand_opened}
+use Rattle.txn_machine.proofs.Goings.{Written, written}
+use Rattle.txn_machine.proofs.Numberings.{ended_opened, ended_other}
 use Rattle.txn_machine.proofs.Orders.{line_length, opened_count}
 
--- Accounts that stay before something is asked.
+-- Accounts that stay before something is asked, or calls end.
 
 takes_after : (act : Act) (x n : ℕ) (a b c : ℕ → Account) (ended : List Ending) → AreKept a b → TakesIn act x n b c ended → TakesIn act x n a c ended
 takes_after act x n a b c ended kept h = record {
-  own = h.own ∙ ap (asked act) (kept x);
+  own = h.own ∙ ap (after_act act true (come_to (outcomes_of n ended))) (kept x);
   others = λ k far. h.others k far ∙ kept k;
-  answer = λ w. h.answer w ∙ ap (λ z. answer_to act z ∷ []) (kept x);
+  answer = subst (λ z. AnswersAtOnce act (refusal act z) (outcomes_of n ended)) (kept x) h.answer;
 }
 
 may_after : (act : Act) (x n : ℕ) (a b c : ℕ → Account) (turn : Option Turn) → AreKept a b → MayTakeIn act x n b c turn → MayTakeIn act x n a c turn
 may_after act x n a b c None kept h = λ k. h k ∙ kept k
 may_after act x n a b c (Some turn) kept h = takes_after act x n a b c turn.ended.items kept h
 
-credits_after : (ask : Option Ask) (n : ℕ) (a b c : ℕ → Account) (done : Course) → AreKept a b → Credits ask n b c done → Credits ask n a c done
-credits_after None n a b c done kept h = λ k. h k ∙ kept k
-credits_after (Some ask) n a b c done kept h = record { turn = h.turn; takes = may_after ask.act ask.transaction n a b c h.turn kept h.takes; own = h.own; ended = h.ended }
+closes_after : (told : Bool) (s : Sight) (a b c : ℕ → Account) (done : Course) → AreKept a b → ClosesIf told s b c done → ClosesIf told s a c done
+closes_after true s a b c done kept h = λ x. h x ∙ ap (after_endings s done.turn.ended.items x) (kept x)
+closes_after false s a b c done kept h = λ x. h x ∙ kept x
+
+credits_after : (ask : Option Ask) (told : Bool) (l : Lists) (a b c : ℕ → Account) (done : Course) → AreKept a b → CreditsBy ask told l b c done → CreditsBy ask told l a c done
+credits_after None told l a b c done kept h = closes_after told l.sight a b c done kept h
+credits_after (Some ask) told l a b c done kept h = record { turn = h.turn; takes = may_after ask.act ask.transaction (newest l) a b c h.turn kept h.takes; own = h.own; ended = h.ended }
 
 -- What the step of the newest line leaves.
 
@@ -59,21 +62,33 @@ answer_unskipped Unfinished h = refl
 answer_unskipped Done h = refl
 answer_unskipped Skipped h = absurd (cc)
 
-module _ (l : Lists) (some : 1 ≤ newest l) (even : length l.ended ≡ newest l) (unfinished : outcome_of l.outcomes (newest l) ≡ Unfinished) (ask : Ask) (a b : ℕ → Account) (posted : List Posting) where
-  skips : (o : Outcome) (ended : List Ending) → ◌≡◌ {A = Option Outcome} (Some o) (Some Skipped) → ended ≡ [] → AreKept a b → Credited (Some ask) a b (followed posted ended (with_own (Some o) l))
-  skips o ended is none kept =
+-- what is open yet is as if it had begun in an earlier line
+still_open : (act : Act) (account : Account) → after_act act true Unfinished account ≡ after_act act false Unfinished account
+still_open act account = ap (λ new. unless_refused (refusal act account) account new) (by act)
+  where
+    by : (act : Act) → made_by act true Unfinished account ≡ made_by act false Unfinished account
+    by (acts.Put key value) = refl
+    by (acts.Insert key value) = refl
+    by (acts.Delete key) = refl
+    by (acts.Mutate mutations) = refl
+    by (acts.Lock keys) = refl
+    by acts.Commit = refl
+    by acts.Rollback = refl
+
+module _ (l : Lists) (some : 1 ≤ newest l) (even : length l.ended ≡ newest l) (unfinished : outcome_of l.outcomes (newest l) ≡ Unfinished) (none : ended_of l.ended (newest l) ≡ 0) (ask : Ask) (a b : ℕ → Account) (posted : List Posting) where
+  skips : (o : Outcome) (ended : List Ending) → ◌≡◌ {A = Option Outcome} (Some o) (Some Skipped) → ended ≡ [] → AreKept a b → CreditedBy (Some ask) false l.sight a b (followed posted ended (with_own (Some o) l))
+  skips o ended is empty kept =
       let same : o ≡ Skipped = cc in
       let long : newest (outright o l) ≡ newest l = line_length l.outcomes (newest l) o in
       let here : outcome_of (outright o l).outcomes (newest (outright o l)) ≡ o = ap (λ k. outcome_of (outright o l).outcomes k) long ∙ outcome_same l.outcomes (newest l) o some (omega arith) in
-      subst (λ es. Credited (Some ask) a b (followed posted es (with_own (Some o) l))) (sym none)
+      subst (λ es. CreditedBy (Some ask) false l.sight a b (followed posted es (with_own (Some o) l))) (sym empty)
       (subst (λ z. WasAskedIf (not (is_skipped z)) ask a b (followed posted [] (outright o l))) (sym (here ∙ same)) kept)
 
-  goes : (turn : Turn) (ended : List Ending) → ended ≡ turn.ended.items → EndsOnce (newest l) ended → TakesIn ask.act ask.transaction (newest l) a b turn.ended.items → Credited (Some ask) a b (followed posted ended l)
-  goes turn ended is once h = subst (λ z. WasAskedIf (not z) ask a b over) (sym unskipped) (record {
-    own = h.own;
+  goes : (ended : List Ending) → EndsOnce (newest l) ended → TakesIn ask.act ask.transaction (newest l) a b ended → CreditedBy (Some ask) false l.sight a b (followed posted ended l)
+  goes ended once h = subst (λ z. WasAskedIf (not z) ask a b over) (sym unskipped) (record {
+    own = h.own ∙ subst (λ k. after_act ask.act true (come_to outs) account ≡ after_act ask.act (nat_eq (ended_of over.ended k) k) (outcome_of over.outcomes k) account) (sym long) (own_is outs (once (newest l)) came);
     others = h.others;
-    outcome = λ w. ap (λ k. outcome_of over.outcomes k) long ∙ (answers w).0;
-    ended = λ w. ap (λ k. ended_of over.ended k) long ∙ (answers w).1 ∙ sym long;
+    answer = subst (λ k. AnswersIn k ask.act (refusal ask.act account) (outcome_of over.outcomes k) (ended_of over.ended k)) (sym long) (answer_is (refusal ask.act account) h.answer);
   })
     where
       mid : Lists
@@ -82,221 +97,160 @@ module _ (l : Lists) (some : 1 ≤ newest l) (even : length l.ended ≡ newest l
       over : Lists
       over = followed posted ended l
 
+      account : Account
+      account = a ask.transaction
+
+      outs : List Outcome
+      outs = outcomes_of (newest l) ended
+
       long : newest over ≡ newest l
       long = all_count ended mid
 
-      came : Written (newest l) (newest l) (outcomes_of (newest l) ended) (outcome_of l.outcomes (newest l)) (ended_of l.ended (newest l)) (outcome_of over.outcomes (newest l)) (ended_of over.ended (newest l))
+      o2 : Outcome
+      o2 = outcome_of over.outcomes (newest l)
+
+      e2 : ℕ
+      e2 = ended_of over.ended (newest l)
+
+      Came : List Outcome → Type 0
+      Came os = Written (newest l) (newest l) os (outcome_of l.outcomes (newest l)) (ended_of l.ended (newest l)) o2 e2
+
+      came : Came outs
       came = written ended mid (newest l) even
 
-      answers : is_write ask.act ≡ true → (outcome_of over.outcomes (newest l) ≡ answer_to ask.act (a ask.transaction)) × (ended_of over.ended (newest l) ≡ newest l)
-      answers w =
-          let only : outcomes_of (newest l) ended ≡ answer_to ask.act (a ask.transaction) ∷ [] = ap (λ es. outcomes_of (newest l) es) is ∙ h.answer w in
-          let one : Written (newest l) (newest l) (answer_to ask.act (a ask.transaction) ∷ []) (outcome_of l.outcomes (newest l)) (ended_of l.ended (newest l)) (outcome_of over.outcomes (newest l)) (ended_of over.ended (newest l))
-          = subst (λ os. Written (newest l) (newest l) os (outcome_of l.outcomes (newest l)) (ended_of l.ended (newest l)) (outcome_of over.outcomes (newest l)) (ended_of over.ended (newest l))) only came in
-          one some (omega arith)
+      own_is : (os : List Outcome) → EndOnce (newest l) (newest l) os → Came os → after_act ask.act true (come_to os) account ≡ after_act ask.act (nat_eq e2 (newest l)) o2 account
+      own_is [] once w =
+          let open_yet : o2 ≡ Unfinished = w.0 ∙ unfinished in
+          let nowhere : e2 ≡ 0 = w.1 ∙ none in
+          let later : nat_eq e2 (newest l) ≡ false = grind (arith, nat_tests) in
+          still_open ask.act account ∙ sym (λ i. after_act ask.act (later i) (open_yet i) account)
+      own_is (o ∷ []) once w =
+          let z = w once.0 once.1 in
+          let here = z.1 in
+          let now : nat_eq e2 (newest l) ≡ true = grind (arith, nat_tests) in
+          sym (λ i. after_act ask.act (now i) (z.0 i) account)
+      own_is (o ∷ p ∷ os) once w = absurd once
 
-      at_newest : (os : List Outcome) → EndOnce (newest l) (newest l) os → Written (newest l) (newest l) os (outcome_of l.outcomes (newest l)) (ended_of l.ended (newest l)) (outcome_of over.outcomes (newest l)) (ended_of over.ended (newest l)) → is_skipped (outcome_of over.outcomes (newest l)) ≡ false
-      at_newest [] e w = ap is_skipped (w.0 ∙ unfinished)
-      at_newest (o ∷ []) e w = ap is_skipped (w e.0 e.1).0 ∙ answer_unskipped o e.2
-      at_newest (o ∷ p ∷ os) e w = absurd e
+      only : (o : Outcome) → outs ≡ o ∷ [] → (o2 ≡ o) × (e2 ≡ newest l)
+      only o is = let one : Came (o ∷ []) = subst Came is came in one some (omega arith)
+
+      answer_is : (why : Option Error) → AnswersAtOnce ask.act why outs → AnswersIn (newest l) ask.act why o2 e2
+      answer_is None answers = λ write. only (Ok Nothing) (answers write)
+      answer_is (Some why) answers = only (Err why) answers
+
+      at_newest : (os : List Outcome) → EndOnce (newest l) (newest l) os → Came os → is_skipped o2 ≡ false
+      at_newest [] once w = ap is_skipped (w.0 ∙ unfinished)
+      at_newest (o ∷ []) once w = ap is_skipped (w once.0 once.1).0 ∙ answer_unskipped o once.2
+      at_newest (o ∷ p ∷ os) once w = absurd once
 
       unskipped : is_skipped (outcome_of over.outcomes (newest over)) ≡ false
-      unskipped = ap (λ k. is_skipped (outcome_of over.outcomes k)) long ∙ at_newest (outcomes_of (newest l) ended) (once (newest l)) came
+      unskipped = ap (λ k. is_skipped (outcome_of over.outcomes k)) long ∙ at_newest outs (once (newest l)) came
 
-  pub ask_credited : (own : Option Outcome) (ended : List Ending) (turn : Option Turn) → own ≡ own_by turn → ended ≡ ended_in turn → EndsOnce (newest l) ended → MayTakeIn ask.act ask.transaction (newest l) a b turn → Credited (Some ask) a b (followed posted ended (with_own own l))
-  ask_credited None ended (Some turn) e f once h = goes turn ended f once h
+  ask_credited : (own : Option Outcome) (ended : List Ending) (turn : Option Turn) → own ≡ own_by turn → ended ≡ ended_in turn → EndsOnce (newest l) ended → MayTakeIn ask.act ask.transaction (newest l) a b turn → CreditedBy (Some ask) false l.sight a b (followed posted ended (with_own own l))
+  ask_credited None ended (Some turn) e f once h = goes ended once (subst (λ es. TakesIn ask.act ask.transaction (newest l) a b es) (sym f) h)
   ask_credited (Some o) ended None e f once h = skips o ended e f h
   ask_credited None ended None e f once h = absurd (cc)
   ask_credited (Some o) ended (Some turn) e f once h = absurd (cc)
 
-pub credited_closed : (older l : Lists) (done : Course) → IsOrdered older → CanTell (opened older) done l → (ask : Option Ask) (a b : ℕ → Account) → Credits ask (newest l) a b done → Credited ask a b (closed done l)
-credited_closed older l done ordered can None a b h = h
-credited_closed older l done ordered can (Some ask) a b h = ask_credited l (omega (arith, count)) even unfinished ask a b done.turn.posted.items done.outcome done.turn.ended.items h.turn h.own h.ended can.once h.takes
-  where
-    count : newest l ≡ newest older + 1
-    count = ap (λ os. length os) can.outcomes ∙ opened_count older
+module _ (older l : Lists) (done : Course) (ordered : IsOrdered older) (past : ArePast older) (can : CanTell (opened older) done l) where
+  abbrev ended : List Ending
+  ended = done.turn.ended.items
 
-    even : length l.ended ≡ newest l
-    even = ap (λ es. length es) can.ended ∙ length-append older.ended (0 ∷ []) ∙ (let x = ordered.even.ended in let y = count in omega arith)
+  abbrev own : Lists
+  own = with_own done.outcome l
 
-    unfinished : outcome_of l.outcomes (newest l) ≡ Unfinished
-    unfinished =
-        let long : newest l ≡ suc (newest older) = omega (arith, count) in
-        ap (λ k. outcome_of l.outcomes k) long ∙ ap (λ os. outcome_of os (suc (newest older))) can.outcomes ∙ outcome_opened older.outcomes (suc (newest older)) ∙ outcome_past older.outcomes (newest older) refl
+  abbrev mid : Lists
+  mid = with_mail (all_posted (newest own) done.turn.posted.items own.mail) own
+
+  abbrev over : Lists
+  over = closed done l
+
+  count : newest l ≡ newest older + 1
+  count = ap (λ os. length os) can.outcomes ∙ opened_count older
+
+  even : length l.ended ≡ newest l
+  even = ap (λ es. length es) can.ended ∙ length-append older.ended (0 ∷ []) ∙ (let x = ordered.even.ended in let y = count in omega arith)
+
+  unfinished : outcome_of l.outcomes (newest l) ≡ Unfinished
+  unfinished =
+      let long : newest l ≡ suc (newest older) = omega (arith, count) in
+      ap (λ k. outcome_of l.outcomes k) long ∙ ap (λ os. outcome_of os (suc (newest older))) can.outcomes ∙ outcome_opened older.outcomes (suc (newest older)) ∙ outcome_past older.outcomes (newest older) refl
+
+  ended_was : (k : ℕ) → ended_of l.ended k ≡ ended_of older.ended k
+  ended_was k = ap (λ es. ended_of es k) can.ended ∙ ended_opened older.ended k
+
+  nowhere : ended_of l.ended (newest l) ≡ 0
+  nowhere =
+      let long : newest l ≡ suc (newest older) = omega (arith, count) in
+      ended_was (newest l) ∙ ap (λ k. ended_of older.ended k) long ∙ or_past older.ended 0 (newest older) (let x = ordered.even.ended in omega arith)
+
+  own_count : (o : Option Outcome) → newest (with_own o l) ≡ newest l
+  own_count None = refl
+  own_count (Some o) = line_length l.outcomes (newest l) o
+
+  own_even : (o : Option Outcome) → length (with_own o l).ended ≡ newest (with_own o l)
+  own_even None = even
+  own_even (Some o) = line_length l.ended (newest l) (newest l) ∙ even ∙ sym (line_length l.outcomes (newest l) o)
+
+  own_was : (o : Option Outcome) (k : ℕ) → k ≢ newest l → ended_of (with_own o l).ended k ≡ ended_of older.ended k
+  own_was None k far = ended_was k
+  own_was (Some o) k far = ended_other l.ended (newest l) k (newest l) far ∙ ended_was k
+
+  long : newest over ≡ newest l
+  long = all_count ended mid ∙ own_count done.outcome
+
+  -- nothing stood at the newest line
+  stands_earlier : (k : ℕ) → stand_at older.sight.stands k ≢ Idle → k ≢ newest l
+  stands_earlier k there here =
+      let last : newest l ≡ suc (newest older) = omega (arith, count) in
+      there (ap (λ j. stand_at older.sight.stands j) (here ∙ last) ∙ or_past older.sight.stands Idle (newest older) (let x = ordered.even.stands in omega arith))
+
+  came : (k : ℕ) → Written k (newest own) (outcomes_of k ended) (outcome_of own.outcomes k) (ended_of own.ended k) (outcome_of over.outcomes k) (ended_of over.ended k)
+  came k = written ended mid k (own_even done.outcome)
+
+  by_lists : (k : ℕ) (stand : Stand) → stand_at older.sight.stands k ≡ stand → (account : Account) → sides.closed stand (outcomes_of k ended) account ≡ closed_if stand (nat_eq (ended_of over.ended k) (newest over)) (outcome_of over.outcomes k) account
+  by_lists k Idle at account = refl
+  by_lists k (IsClient c) at account = refl
+  by_lists k (Asking c b) at account = refl
+  by_lists k (HasBegun c m) at account = refl
+  by_lists k (Past c) at account = refl
+  by_lists k (Working c) at account = refl
+  by_lists k (Calling c x b) at account = by (outcomes_of k ended) (can.once k) (came k)
+    where
+      far : k ≢ newest l
+      far = stands_earlier k (λ idle. let e = sym at ∙ idle in cc)
+
+      by : (os : List Outcome) → EndOnce (newest l) k os → Written k (newest own) os (outcome_of own.outcomes k) (ended_of own.ended k) (outcome_of over.outcomes k) (ended_of over.ended k) → sides.closed (Calling c x b) os account ≡ closed_if (Calling c x b) (nat_eq (ended_of over.ended k) (newest over)) (outcome_of over.outcomes k) account
+      by [] once w =
+          let was : ended_of over.ended k ≡ ended_of older.ended k = w.1 ∙ own_was done.outcome k far in
+          let low : ended_of over.ended k < newest over = let x = past k in let y = count in let z = long in omega arith in
+          let q : nat_eq (ended_of over.ended k) (newest over) ≡ false = grind (arith, nat_tests) in
+          sym (ap (λ z. closed_if (Calling c x b) z (outcome_of over.outcomes k) account) q)
+      by (o ∷ []) once w =
+          let same = own_count done.outcome in
+          let z = w once.0 (let h = once.1 in omega arith) in
+          let here : ended_of over.ended k ≡ newest over = z.1 ∙ same ∙ sym long in
+          let q : nat_eq (ended_of over.ended k) (newest over) ≡ true = grind (arith, nat_tests) in
+          sym (λ i. closed_if (Calling c x b) (q i) (z.0 i) account)
+      by (o ∷ p ∷ os) once w = absurd once
+
+  closed_credited : (told : Bool) (a b : ℕ → Account) → ClosesIf told (opened older).sight a b done → WereClosedIf told older.sight a b over
+  closed_credited false a b h = h
+  closed_credited true a b h = λ x.
+      let stand = λ (n : ℕ). stand_opened older.sight.stands n in
+      let m = awaited_line (stand_at older.sight.stands x) in
+      h x ∙ (λ i. sides.closed (stand (awaited_line (stand x i)) i) (outcomes_of (awaited_line (stand x i)) ended) (a x)) ∙ by_lists m (stand_at older.sight.stands m) refl (a x)
+
+  credited_closed : (ask : Option Ask) (told : Bool) (a b : ℕ → Account) → CreditsBy ask told (opened older) a b done → CreditedBy ask told older.sight a b over
+  credited_closed None told a b h = closed_credited told a b h
+  credited_closed (Some ask) told a b h =
+      ask_credited l (omega (arith, count)) even unfinished nowhere ask a b done.turn.posted.items done.outcome ended h.turn h.own h.ended can.once
+      (subst (λ k. MayTakeIn ask.act ask.transaction k a b h.turn) (sym (ap (λ os. length os) can.outcomes)) h.takes)
 
 -- the parts of a step together
-pub credited_step : {S : Type 0} (account : S → ℕ → Account) (older start l new : Lists) (done : Course) (ask : Option Ask) (from mid last to : S) → start ≡ opened older → new ≡ closed done l → IsOrdered older → CanTell start done l
-    → AreKept (account from) (account mid) → Credits ask (newest start) (account mid) (account last) done → to ≡ last → Credited ask (account from) (account to) new
-credited_step account older start l new done ask from mid last to a b ordered can kept credits same =
-    subst (λ x. Credited ask (account from) (account to) x) (sym b) (subst (λ s. Credited ask (account from) (account s) (closed done l)) (sym same)
-    (credited_closed older l done ordered (subst (λ x. CanTell x done l) a can) ask (account from) (account last)
-    (subst (λ k. Credits ask k (account from) (account last) done) (sym (ap (λ os. length os) can.outcomes)) (credits_after ask (newest start) (account from) (account mid) (account last) done kept credits))))
-
--- What was said of the lines before stays.
-
-unfinished_unskipped : (o : Outcome) → is_unfinished o ≡ true → is_skipped o ≡ false
-unfinished_unskipped (Ok p) h = refl
-unfinished_unskipped (Err e) h = refl
-unfinished_unskipped Unfinished h = refl
-unfinished_unskipped Done h = refl
-unfinished_unskipped Skipped h = absurd (cc)
-
-answer_over : (refused : Option Error) → is_unfinished (answer_by refused) ≡ false
-answer_over None = refl
-answer_over (Some e) = refl
-
-module _ (outs outs2 : List Outcome) (ended ended2 : List ℕ) (most : ℕ) (change : (j : ℕ) → j ≤ most → Change (suc most) (outcome_of outs j) (ended_of ended j) (outcome_of outs2 j) (ended_of ended2 j)) where
-  abbrev before : List Line → ℕ → Account
-  before zs x = account_of (λ n. outcome_of outs n) zs x
-
-  abbrev after : List Line → ℕ → Account
-  after zs x = account_of (λ n. outcome_of outs2 n) zs x
-
-  module _ (k : ℕ) (low : k ≤ most) where
-    abbrev o : Outcome
-    o = outcome_of outs k
-
-    abbrev o2 : Outcome
-    o2 = outcome_of outs2 k
-
-    -- a write's outcome is there to stay
-    write_stays : (ask : Ask) (accounts : ℕ → Account) → is_write ask.act ≡ true → WriteMeets accounts k (Some ask) o (ended_of ended k) → (o2 ≡ o) × (ended_of ended2 k ≡ ended_of ended k)
-    write_stays ask accounts w meets = elim (change k low) [
-      | inl h ↦ h
-      | inr h ↦ absurd (let a = ap is_unfinished (meets w (unfinished_unskipped o h.0)).0 in let b = answer_over (refusal ask.act (accounts ask.transaction)) in let d = h.0 in cc)
-    ]
-
-    meets_still : (ask : Option Ask) (accounts accounts2 : ℕ → Account) → accounts2 ≡ accounts → WriteMeets accounts k ask o (ended_of ended k) → WriteMeets accounts2 k ask o2 (ended_of ended2 k)
-    meets_still None accounts accounts2 same meets = tt
-    meets_still (Some ask) accounts accounts2 same meets = λ w s.
-        let is = write_stays ask accounts w meets in
-        let h = meets w (ap is_skipped (sym is.0) ∙ s) in
-        (is.0 ∙ h.0 ∙ ap (λ (f : ℕ → Account). answer_to ask.act (f ask.transaction)) (sym same), is.1 ∙ h.1)
-
-    taken_same : (ask : Ask) (accounts : ℕ → Account) → WriteMeets accounts k (Some ask) o (ended_of ended k) → was_taken ask.act o2 ≡ was_taken ask.act o
-    taken_same ask accounts meets = by (is_write ask.act) refl
-      where
-        by : (b : Bool) → is_write ask.act ≡ b → was_taken ask.act o2 ≡ was_taken ask.act o
-        by true q = ap (λ z. was_taken ask.act z) (write_stays ask accounts q meets).0
-        by false q =
-            ap (λ (b : Bool). if b then is_ok o2 else not (is_skipped o2)) q ∙ ap not (sym (skipped_stays (suc most) o o2 (ended_of ended k) (ended_of ended2 k) (change k low)))
-            ∙ sym (ap (λ (b : Bool). if b then is_ok o else not (is_skipped o)) q)
-
-    line_same : (ask : Option Ask) (accounts : ℕ → Account) → WriteMeets accounts k ask o (ended_of ended k) → (x : ℕ) (account : Account) → after_line ask x o2 account ≡ after_line ask x o account
-    line_same None accounts meets x account = refl
-    line_same (Some ask) accounts meets x account = ap (λ (b : Bool). if nat_eq ask.transaction x then (if b then taken ask.act account else account) else account) (taken_same ask accounts meets)
-
-  accounts_still : (zs : List Line) → length zs ≤ most → AllWritesMeet outs ended zs → (x : ℕ) → after zs x ≡ before zs x
-  accounts_still [] low h x = refl
-  accounts_still (z ∷ zs) low h x =
-      line_same (suc (length zs)) low (ask_of z) (λ y. before zs y) h.0 x (after zs x)
-      ∙ ap (λ account. after_line (ask_of z) x (outcome_of outs (suc (length zs))) account) (accounts_still zs (omega arith) h.1 x)
-
-  writes_still : (zs : List Line) → length zs ≤ most → AllWritesMeet outs ended zs → AllWritesMeet outs2 ended2 zs
-  writes_still [] low h = tt
-  writes_still (z ∷ zs) low h = (
-    meets_still (suc (length zs)) low (ask_of z) (λ y. before zs y) (λ y. after zs y) (λ i y. accounts_still zs (omega arith) h.1 y i) h.0,
-    writes_still zs (omega arith) h.1,
-  )
-
--- The newest line.
-
-skipped_not_ok : (o : Outcome) → is_skipped o ≡ true → is_ok o ≡ false
-skipped_not_ok (Ok p) h = absurd (cc)
-skipped_not_ok (Err e) h = refl
-skipped_not_ok Unfinished h = refl
-skipped_not_ok Done h = refl
-skipped_not_ok Skipped h = refl
-
-skipped_untaken : (act : Act) (o : Outcome) → is_skipped o ≡ true → was_taken act o ≡ false
-skipped_untaken act o h = by (is_write act)
-  where
-    by : (b : Bool) → (if b then is_ok o else not (is_skipped o)) ≡ false
-    by true = skipped_not_ok o h
-    by false = ap not h
-
-same_both : (b : Bool) (account : Account) → (if b then account else account) ≡ account
-same_both true account = refl
-same_both false account = refl
-
-module _ (ask : Ask) (o : Outcome) (account : Account) where
-  skipped_same : (x : ℕ) → is_skipped o ≡ true → after_ask ask x o account ≡ account
-  skipped_same x h = ap (λ (b : Bool). if nat_eq ask.transaction x then (if b then taken ask.act account else account) else account) (skipped_untaken ask.act o h) ∙ same_both (nat_eq ask.transaction x) account
-
-  other_same : (x : ℕ) → x ≢ ask.transaction → after_ask ask x o account ≡ account
-  other_same x far =
-      let q : nat_eq ask.transaction x ≡ false = grind (arith, nat_tests) in
-      ap (λ (b : Bool). if b then (if was_taken ask.act o then taken ask.act account else account) else account) q
-
-  -- what was asked is taken in just where the outcome tells so
-  asked_is : is_skipped o ≡ false → (is_write ask.act ≡ true → o ≡ answer_to ask.act account) → (if was_taken ask.act o then taken ask.act account else account) ≡ asked ask.act account
-  asked_is unskipped answer = by (is_write ask.act) refl
-    where
-      refused : (r : Option Error) → o ≡ answer_by r → (if is_ok o then taken ask.act account else account) ≡ unless_refused r account (taken ask.act account)
-      refused None e = ap (λ z. if is_ok z then taken ask.act account else account) e
-      refused (Some x) e = ap (λ z. if is_ok z then taken ask.act account else account) e
-
-      by : (b : Bool) → is_write ask.act ≡ b → (if was_taken ask.act o then taken ask.act account else account) ≡ asked ask.act account
-      by true q =
-          ap (λ (b : Bool). if (if b then is_ok o else not (is_skipped o)) then taken ask.act account else account) q
-          ∙ refused (refusal ask.act account) (answer q)
-          ∙ sym (ap (λ (b : Bool). if b then unless_refused (refusal ask.act account) account (taken ask.act account) else taken ask.act account) q)
-      by false q =
-          ap (λ (b : Bool). if (if b then is_ok o else not (is_skipped o)) then taken ask.act account else account) q
-          ∙ ap (λ (b : Bool). if not b then taken ask.act account else account) unskipped
-          ∙ sym (ap (λ (b : Bool). if b then unless_refused (refusal ask.act account) account (taken ask.act account) else taken ask.act account) q)
-
-  own_same : is_skipped o ≡ false → (is_write ask.act ≡ true → o ≡ answer_to ask.act account) → after_ask ask ask.transaction o account ≡ asked ask.act account
-  own_same unskipped answer =
-      let q : nat_eq ask.transaction ask.transaction ≡ true = grind (arith, nat_tests) in
-      ap (λ (b : Bool). if b then (if was_taken ask.act o then taken ask.act account else account) else account) q ∙ asked_is unskipped answer
-
--- what is said of the newest line, of which so much is known
-module _ (n : ℕ) (l : Lists) (count : newest l ≡ n) (a b account : ℕ → Account) (was : (x : ℕ) → a x ≡ account x) where
-  abbrev now : Outcome
-  now = outcome_of l.outcomes n
-
-  line_now : (ask : Option Ask) → Credited ask a b l → ((x : ℕ) → b x ≡ after_line ask x now (account x)) × WriteMeets account n ask now (ended_of l.ended n)
-  line_now None h = (λ x. h x ∙ was x, tt)
-  line_now (Some ask) h = by (is_skipped now) refl (subst (λ k. WasAskedIf (not (is_skipped (outcome_of l.outcomes k))) ask a b l) count h)
-    where
-      by : (z : Bool) → is_skipped now ≡ z → WasAskedIf (not z) ask a b l → ((x : ℕ) → b x ≡ after_ask ask x now (account x)) × WriteMeets account n (Some ask) now (ended_of l.ended n)
-      by true q kept = (λ x. kept x ∙ was x ∙ sym (skipped_same ask now (account x) x q), λ w s. absurd (cc))
-      by false q h = (λ x. at x (same_line ask.transaction x), λ w s. (answer w, ap (λ k. ended_of l.ended k) (sym count) ∙ h.ended w ∙ count))
-        where
-          answer : is_write ask.act ≡ true → now ≡ answer_to ask.act (account ask.transaction)
-          answer w = ap (λ k. outcome_of l.outcomes k) (sym count) ∙ h.outcome w ∙ ap (answer_to ask.act) (was ask.transaction)
-
-          at : (x : ℕ) → (x ≡ ask.transaction) ⊎ (x ≢ ask.transaction) → b x ≡ after_ask ask x now (account x)
-          at x (inl e) = subst (λ y. b y ≡ after_ask ask y now (account y)) (sym e) (h.own ∙ ap (asked ask.act) (was ask.transaction) ∙ sym (own_same ask now (account ask.transaction) q answer))
-          at x (inr far) = h.others x far ∙ was x ∙ sym (other_same ask now (account x) x far)
-
--- A step.
-
-pub taken_nothing : (accounts : ℕ → Account) → AreNew accounts → AreTakenIn [] [] [] accounts
-taken_nothing accounts new = record { accounts_are = new; writes = tt }
-
-pub taken_step : (line : Line) (ls : List Line) (old new : Lists) (a b : ℕ → Account) → newest old ≡ length ls → newest new ≡ suc (length ls) → IsOrdered old → why_after ls line ≡ None → Steps line old new → Caused ls old → Credited (ask_of line) a b new
-    → AreTakenIn ls old.outcomes old.ended a → AreTakenIn (line ∷ ls) new.outcomes new.ended b
-taken_step line ls old new a b told count ordered good steps caused credited was = record {
-  accounts_are = here.0;
-  writes = (here.1, writes_still old.outcomes new.outcomes old.ended new.ended (length ls) change ls (omega arith) was.writes);
-}
-  where
-    c : courses.Course line old new
-    c = course old line new steps
-
-    changed : (j : ℕ) → j ≢ suc (length ls) → Change (suc (length ls)) (outcome_of old.outcomes j) (ended_of old.ended j) (outcome_of (followed c.posted c.ended c.mid).outcomes j) (ended_of (followed c.posted c.ended c.mid).ended j)
-    changed j far =
-        let k = apart line ls old told ordered.even good caused.rows new c j far in
-        subst (λ o. Change (suc (length ls)) o (ended_of old.ended j) (outcome_of (followed c.posted c.ended c.mid).outcomes j) (ended_of (followed c.posted c.ended c.mid).ended j)) k.0
-        (subst (λ e. Change (suc (length ls)) (outcome_of c.mid.outcomes j) e (outcome_of (followed c.posted c.ended c.mid).outcomes j) (ended_of (followed c.posted c.ended c.mid).ended j)) k.1
-        (changes line ls old told ordered.even good caused.rows new c j))
-
-    change : (j : ℕ) → j ≤ length ls → Change (suc (length ls)) (outcome_of old.outcomes j) (ended_of old.ended j) (outcome_of new.outcomes j) (ended_of new.ended j)
-    change j low = subst (λ (l : Lists). Change (suc (length ls)) (outcome_of old.outcomes j) (ended_of old.ended j) (outcome_of l.outcomes j) (ended_of l.ended j)) (sym c.is) (changed j (λ e. absurd (omega arith)))
-
-    here : ((x : ℕ) → b x ≡ after_line (ask_of line) x (outcome_of new.outcomes (suc (length ls))) (account_of (λ n. outcome_of new.outcomes n) ls x))
-        × WriteMeets (λ x. account_of (λ n. outcome_of new.outcomes n) ls x) (suc (length ls)) (ask_of line) (outcome_of new.outcomes (suc (length ls))) (ended_of new.ended (suc (length ls)))
-    here = line_now (suc (length ls)) new count a b (λ x. account_of (λ n. outcome_of new.outcomes n) ls x)
-        (λ x. was.accounts_are x ∙ sym (accounts_still old.outcomes new.outcomes old.ended new.ended (length ls) change ls (omega arith) was.writes x)) (ask_of line) credited
+pub credited_step : {S : Type 0} (account : S → ℕ → Account) (line : Line) (older start l new : Lists) (done : Course) (from mid last to : S) → start ≡ opened older → new ≡ closed done l → IsOrdered older → ArePast older → CanTell start done l
+    → AreKept (account from) (account mid) → Credits line start (account mid) (account last) done → to ≡ last → Credited line older.sight (account from) (account to) new
+credited_step account line older start l new done from mid last to a b ordered past can kept credits same =
+    subst (λ x. Credited line older.sight (account from) (account to) x) (sym b) (subst (λ s. Credited line older.sight (account from) (account s) (closed done l)) (sym same)
+    (credited_closed older l done ordered past (subst (λ x. CanTell x done l) a can) (ask_of line) (tells line) (account from) (account last)
+    (credits_after (ask_of line) (tells line) (opened older) (account from) (account mid) (account last) done kept (subst (λ x. Credits line x (account mid) (account last) done) a credits))))

@@ -120,7 +120,7 @@ made_row (CallSkipped b x) e = absurd (cc)
 made_row (Happened d) e = absurd (cc)
 
 -- a call of a transaction that waits
-waiting_row : (r : Row) (b : Bool) (x : ℕ) → role_in r ≡ UsesTransaction b x → is_unfinished (outcome_in r) ≡ true → (c : ℕ) × (stand_in r ≡ Calling c x b)
+pub waiting_row : (r : Row) (b : Bool) (x : ℕ) → role_in r ≡ UsesTransaction b x → is_unfinished (outcome_in r) ≡ true → (c : ℕ) × (stand_in r ≡ Calling c x b)
 waiting_row (CallWaits a y c) b x e u = (c, let p : y ≡ x = cc in let q : a ≡ b = cc in λ i. Calling c (p i) (q i))
 waiting_row (Made c) b x e u = absurd (cc)
 waiting_row (AskWaits a k c) b x e u = absurd (cc)
@@ -197,7 +197,7 @@ module _ (ls : List Line) (seen : ℕ → Outcome) (e : ℕ → ℕ) (st : ℕ �
   pub live_of : (n c : ℕ) → client_at (st n) ≡ Some c → lives crashed (client_at (st n)) ≡ not (is_crashed seen ls (client_of ls n))
   live_of n c h = ap (λ o. lives crashed o) h ∙ lives_is (client_of ls n) c (was.woven.clients n c h)
 
-  busy_is : (x c m : ℕ) → st x ≡ HasBegun c m → is_busy seen ls x ≡ waits_for m
+  pub busy_is : (x c m : ℕ) → st x ≡ HasBegun c m → is_busy seen ls x ≡ waits_for m
   busy_is x c m h = to_bool (is_busy seen ls x) (waits_for m) (λ b. opened_call (busy_waits seen ls x b)) (λ w. waits_busy seen ls x (shut (has_waits m w)))
     where
       opened_call : Waiting seen ls x → waits_for m ≡ true

@@ -24,6 +24,8 @@ mod Staying
 mod Due
 mod Standings
 mod Credits
+mod Closings
+mod Accounting
 mod Noting
 mod LineByLine
 mod Takings

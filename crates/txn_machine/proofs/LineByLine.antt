@@ -6,6 +6,7 @@ use Rattle.txn_lines.specs.declared.line.Line.{Line}
 use Rattle.txn_report.specs.declared.report.Report.{Report}
 use Rattle.txn_side.specs.Sight.{Sight}
 use Rattle.txn_side.specs.Waiting.{Awaited}
+use Rattle.txn_machine.specs.Accounts.{AccountsMeetLines}
 use Rattle.txn_machine.specs.Causes.{CallsMeetLines, EndsLines, EventsMeetLines, LivesLines, TellsLines}
 use Rattle.txn_machine.specs.Dues.{DuesLines}
 use Rattle.txn_machine.specs.Lawful.{AllGood, Lawful}
@@ -13,7 +14,6 @@ use Rattle.txn_machine.specs.Notes.{AreNoted}
 use Rattle.txn_machine.specs.Running.{CanStep, HasMemory, StandsFor}
 use Rattle.txn_machine.specs.Script.{FoldsLines}
 use Rattle.txn_machine.specs.Times.{TimesLines}
-use Rattle.txn_machine.specs.Writes.{WritesMeetLines}
 use Rattle.txn_machine.specs.declared.machine.Machine.{Machine}
 
 pub none_left : (ls : List Line) → length ls ≡ 0 → ls ≡ []
@@ -56,9 +56,9 @@ module _ {S : Type 0} (sight : S → Sight) (ready : S → Type 0) (waits : S �
       → ((ls : List Line) → StandsFor sight ready waits m ls → EventsMeetLines ls report)
       → ((ls : List Line) → StandsFor sight ready waits m ls → TimesLines ls report)
       → ((ls : List Line) → StandsFor sight ready waits m ls → DuesLines ls report)
-      → WritesMeetLines (reverse all) report
+      → AccountsMeetLines (reverse all) report
       → Lawful all report
-  run_over m all rest report r e folded noted told ends lives calls events times dues writes =
+  run_over m all rest report r e folded noted told ends lives calls events times dues accounts =
       subst (λ ls. Lawful ls report) (sym (append-nil (reverse r.done)) ∙ ap (λ ls. reverse r.done ++ ls) (sym (none_left rest e)) ∙ r.together)
       (record {
         told = subst (λ ls. TellsLines ls report) (sym (reverse-reverse r.done)) (told r.done r.stands);
@@ -70,5 +70,5 @@ module _ {S : Type 0} (sight : S → Sight) (ready : S → Type 0) (waits : S �
         events = subst (λ ls. EventsMeetLines ls report) (sym (reverse-reverse r.done)) (events r.done r.stands);
         times = subst (λ ls. TimesLines ls report) (sym (reverse-reverse r.done)) (times r.done r.stands);
         dues = subst (λ ls. DuesLines ls report) (sym (reverse-reverse r.done)) (dues r.done r.stands);
-        writes = subst (λ ls. WritesMeetLines (reverse ls) report) (sym r.together ∙ ap (λ ls. reverse r.done ++ ls) (none_left rest e) ∙ append-nil (reverse r.done)) writes;
+        accounts = subst (λ ls. AccountsMeetLines (reverse ls) report) (sym r.together ∙ ap (λ ls. reverse r.done ++ ls) (none_left rest e) ∙ append-nil (reverse r.done)) accounts;
       })

@@ -1,5 +1,5 @@
 -- What a machine has taken in stands for its lines, and for one more after each step.
-use Rattle.std.proofs.Common.{◌≡◌, ℕ, suc, ◌+◌, Bool, true, List, [], ◌∷◌, ◌++◌, None, length, reverse, sym, ap, ◌∙◌, subst, arith, append-nil}
+use Rattle.std.proofs.Common.{◌≡◌, ℕ, ◌+◌, true, List, [], ◌∷◌, ◌++◌, None, length, reverse, sym, ap, ◌∙◌, subst, arith, append-nil}
 use Rattle.std.proofs.lemmas.List.{reverse-reverse}
 use Rattle.txn_lines.specs.Lines.{why_after}
 use Rattle.txn_lines.specs.declared.line.Line.{Line}
@@ -8,13 +8,13 @@ use Rattle.txn_report.specs.declared.report.Report.{Report}
 use Rattle.txn_side.specs.Account.{Account, AreNew}
 use Rattle.txn_side.specs.Sight.{Sight}
 use Rattle.txn_side.specs.Waiting.{Awaited}
+use Rattle.txn_machine.specs.Accounts.{AccountsMeetLines, AllAccountsMeet, AreTakenIn, Credited, TakenIn}
 use Rattle.txn_machine.specs.Lawful.{AllGood}
 use Rattle.txn_machine.specs.Lists.{newest}
 use Rattle.txn_machine.specs.Running.{HasMemory, Standing, StandsFor, lists_of}
 use Rattle.txn_machine.specs.Steps.{Steps}
-use Rattle.txn_machine.specs.Writes.{AllWritesMeet, AreTakenIn, Credited, TakenIn, WritesMeetLines, ask_of}
 use Rattle.txn_machine.specs.declared.machine.Machine.{Machine}
-use Rattle.txn_machine.proofs.Credits.{taken_nothing, taken_step}
+use Rattle.txn_machine.proofs.Accounting.{taken_nothing, taken_step}
 use Rattle.txn_machine.proofs.LineByLine.{none_left, turned_over}
 use Rattle.txn_machine.proofs.Orders.{Stays, steps_keep}
 use Rattle.txn_machine.proofs.Standings.{few_lines, good_fine}
@@ -25,10 +25,10 @@ new_taken account m outcomes ended new memory = subst (λ outs. AreTakenIn [] ou
 pub broken_taken : {S : Type 0} (account : S → ℕ → Account) (m : Machine S) (lines : List Line) → m.broken ≡ true → TakenIn account m lines
 broken_taken account m lines broken h = absurd (let e = h.whole in cc)
 
-pub step_taken : {S : Type 0} (sight : S → Sight) (ready : S → Type 0) (waits : S → ℕ → Awaited → Type 0) (account : S → ℕ → Account) (old new : Machine S) (line : Line) (before : List Line) → Steps line (lists_of sight old) (lists_of sight new) → Credited (ask_of line) (account old.clients) (account new.clients) (lists_of sight new)
+pub step_taken : {S : Type 0} (sight : S → Sight) (ready : S → Type 0) (waits : S → ℕ → Awaited → Type 0) (account : S → ℕ → Account) (old new : Machine S) (line : Line) (before : List Line) → Steps line (lists_of sight old) (lists_of sight new) → Credited line (sight old.clients) (account old.clients) (account new.clients) (lists_of sight new)
     → why_after before line ≡ None → HasMemory old → StandsFor sight ready waits old before → TakenIn account old before → TakenIn account new (line ∷ before)
 step_taken sight ready waits account old new line before steps credited good memory stood taken h =
-    taken_step line before (lists_of sight old) (lists_of sight new) (account old.clients) (account new.clients) was.told (let a = next.count in let b = was.told in omega arith) was.ordered good steps was.caused credited (taken memory)
+    taken_step line before (lists_of sight old) (lists_of sight new) was.told (let a = next.count in let b = was.told in omega arith) was.ordered good steps was.caused (account old.clients) (account new.clients) (taken memory) credited
   where
     was : Standing sight ready waits old before
     was = stood.stands memory
@@ -36,9 +36,9 @@ step_taken sight ready waits account old new line before steps credited good mem
     next : Stays (newest (lists_of sight old) + 1) (lists_of sight new)
     next = steps_keep (lists_of sight old) (few_lines sight ready waits old before line good was) was.ordered line (lists_of sight new) (good_fine before line good) steps
 
-pub report_writes : {S : Type 0} (account : S → ℕ → Account) (m : Machine S) (outs : List Outcome) (ended : List ℕ) (lines : List Line) → outs ≡ m.outcomes.items → ended ≡ m.ended.items → HasMemory m → TakenIn account m lines → AllWritesMeet outs ended lines
-report_writes account m outs ended lines outcomes ends memory taken =
-    subst (λ os. AllWritesMeet os ended lines) (sym outcomes) (subst (λ es. AllWritesMeet m.outcomes.items es lines) (sym ends) (taken memory).writes)
+pub report_accounts : {S : Type 0} (account : S → ℕ → Account) (m : Machine S) (outs : List Outcome) (ended : List ℕ) (lines : List Line) → outs ≡ m.outcomes.items → ended ≡ m.ended.items → HasMemory m → TakenIn account m lines → AllAccountsMeet outs ended lines
+report_accounts account m outs ended lines outcomes ends memory taken =
+    subst (λ os. AllAccountsMeet os ended lines) (sym outcomes) (subst (λ es. AllAccountsMeet m.outcomes.items es lines) (sym ends) (taken memory).meets)
 
 -- A run of lines.
 
@@ -65,8 +65,8 @@ module _ {S : Type 0} (sight : S → Sight) (ready : S → Type 0) (waits : S �
       }
 
   pub takes_over : (m : Machine S) (all rest : List Line) (report : Report) → TakesOn sight ready waits account m all rest → length rest ≡ 0
-      → ((ls : List Line) → TakenIn account m ls → WritesMeetLines ls report) → WritesMeetLines (reverse all) report
-  takes_over m all rest report r e writes =
-      subst (λ ls. WritesMeetLines ls report)
+      → ((ls : List Line) → TakenIn account m ls → AccountsMeetLines ls report) → AccountsMeetLines (reverse all) report
+  takes_over m all rest report r e accounts =
+      subst (λ ls. AccountsMeetLines ls report)
       (sym (reverse-reverse r.done) ∙ ap (λ ls. reverse ls) (sym (append-nil (reverse r.done)) ∙ ap (λ ls. reverse r.done ++ ls) (sym (none_left rest e)) ∙ r.together))
-      (writes r.done r.taken)
+      (accounts r.done r.taken)

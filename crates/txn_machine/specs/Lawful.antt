@@ -3,12 +3,12 @@ use Rattle.std.specs.Prelude.{◌≡◌, List, [], ◌∷◌, length, reverse, N
 use Rattle.txn_lines.specs.Lines.{why_after}
 use Rattle.txn_lines.specs.declared.line.Line.{Line}
 use Rattle.txn_report.specs.declared.report.Report.{Report}
+use Rattle.txn_machine.specs.Accounts.{AccountsMeetLines}
 use Rattle.txn_machine.specs.Causes.{CallsMeetLines, EndsLines, EventsMeetLines, LivesLines, TellsLines}
 use Rattle.txn_machine.specs.Dues.{DuesLines}
 use Rattle.txn_machine.specs.Notes.{AreNoted}
 use Rattle.txn_machine.specs.Script.{FoldsLines}
 use Rattle.txn_machine.specs.Times.{TimesLines}
-use Rattle.txn_machine.specs.Writes.{WritesMeetLines}
 
 -- each line is not bad after these, the newest first, and the ones between
 abbrev pub AllGood : List Line → List Line → Type 0
@@ -33,5 +33,6 @@ pub record Lawful (script : List Line) (report : Report) : Type 0 where
   -- after each line something is out for each call that is open, and whose client has not crashed: a request or a sleep of its own line, or a request for
   -- timestamps of its client
   pub dues : DuesLines (reverse script) report
-  -- a write that is not skipped answers in its own line, by what its transaction has taken in: with an error where it is refused, and else Ok
-  pub writes : WritesMeetLines (reverse script) report
+  -- of lines that are not skipped: what a transaction refuses, by how far it has come and what it has taken in, answers with that error in its own line, and any other
+  -- write answers Ok there
+  pub accounts : AccountsMeetLines (reverse script) report

@@ -1,3 +1,4 @@
+pub mod Accounts
 pub mod Causes
 pub mod Dues
 pub mod Lawful
@@ -9,4 +10,3 @@ pub mod Script
 pub mod Steps
 pub mod Times
 pub mod Told
-pub mod Writes

@@ -2,6 +2,7 @@ ghost use Rattle.std.specs.List.Sorted.{IsNonDecreasing, IsPermutation};
 ghost use Rattle.std.specs.Prelude.{◌≡◌, ◌+◌, ◌++◌, ◌∷◌, ◌<◌, ◌≤◌, [], IfOk, List, OnErr, OnOk, None, Some, length, map};
 ghost use Rattle.txn_lines.specs.Kinds.{kinds_of};
 ghost use Rattle.txn_lines.specs.Lines.{max_lines, why_after};
+ghost use Rattle.txn_machine.specs.Accounts.{AccountsMeetLines, AsksIt, Credited, Credits, TakenIn, own_by};
 ghost use Rattle.txn_machine.specs.Causes.{CallsMeetLines, EndsLines, EventsMeetLines, LivesLines, TellsLines};
 ghost use Rattle.txn_machine.specs.Dues.{DuesLines, StayOut};
 ghost use Rattle.txn_machine.specs.Lists.{Lists, all_ended, all_posted, ended_at, newest, opened, outright, posted_at, with_mail};
@@ -11,7 +12,6 @@ ghost use Rattle.txn_machine.specs.Script.{FoldsLines, outcome_of};
 ghost use Rattle.txn_machine.specs.Steps.{Calls, Does, Steps, called, ended_in, posted_in};
 ghost use Rattle.txn_machine.specs.Times.{TimesLines};
 ghost use Rattle.txn_machine.specs.Told.{ArePast, CanTell, IsNote, IsNoteOf, OwnEnds, ending_at, view_of_ending};
-ghost use Rattle.txn_machine.specs.Writes.{AsksIt, Credited, Credits, TakenIn, WritesMeetLines, ask_of, own_by};
 ghost use Rattle.txn_post.specs.Mail.{IsNext};
 ghost use Rattle.txn_report.specs.OutcomeView.{view_of_outcome};
 ghost use Rattle.txn_side.specs.Account.{AreKept, AreNew};
@@ -134,7 +134,7 @@ impl<S: ClientSide> Machine<S> {
         ensures lists { OnOk result (Steps line (lists_of S.sight self.old) (lists_of S.sight self.new)) }
         ensures out { OnOk result (StayOut (S.waits self.old.clients) (S.waits self.new.clients) (lists_of S.sight self.old) (lists_of S.sight self.new)) }
         ensures ready { OnOk result (S.ready self.new.clients) }
-        ensures credited { OnOk result (Credited (ask_of line) (S.account self.old.clients) (S.account self.new.clients) (lists_of S.sight self.new)) }
+        ensures credited { OnOk result (Credited line (S.sight self.old.clients) (S.account self.old.clients) (S.account self.new.clients) (lists_of S.sight self.new)) }
         ensures kinds { OnOk result ((lines : List Line) → self.old.kinds ≡ kinds_of lines → self.new.kinds ≡ kinds_of (line ∷ lines)) }
         ensures note { IfOk result (λ note. IsNote (lists_of S.sight self.new) note) }
     {
@@ -181,7 +181,7 @@ impl<S: ClientSide> Machine<S> {
         ensures tells { IfOk result (λ done. CanTell (lists_of S.sight self.old) done (lists_of S.sight self.new)) }
         ensures out { IfOk result (λ done. KeepOut (S.waits self.old.clients) (S.waits self.new.clients) (lists_of S.sight self.old) done (lists_of S.sight self.new)) }
         ensures ready { OnOk result (S.ready self.new.clients) }
-        ensures credits { IfOk result (Credits (ask_of line) (newest (lists_of S.sight self.old)) (S.account self.old.clients) (S.account self.new.clients)) }
+        ensures credits { IfOk result (Credits line (lists_of S.sight self.old) (S.account self.old.clients) (S.account self.new.clients)) }
     {
         match line {
             Line::Blank => Ok(self.outright(Outcome::Done)),
@@ -466,7 +466,7 @@ impl<S: ClientSide> Machine<S> {
         ensures times { (lines : List Line) → StandsFor S.sight S.ready S.waits self lines → TimesLines lines result }
         ensures dues { (lines : List Line) → StandsFor S.sight S.ready S.waits self lines → DuesLines lines result }
         ensures noted { (lines : List Line) → StandsFor S.sight S.ready S.waits self lines → AreNoted (length lines) result.sent result.sleeps }
-        ensures writes { (lines : List Line) → TakenIn S.account self lines → WritesMeetLines lines result }
+        ensures accounts { (lines : List Line) → TakenIn S.account self lines → AccountsMeetLines lines result }
     {
         let (sent, sleeps) = self.post.into_notes();
         Report {

@@ -1,6 +1,5 @@
 -- What a state may be told of.
 use Rattle.std.specs.Prelude.{ℕ, ⊤, Bool, true, false, is_err}
-use Rattle.std.specs.Result.{result_ok}
 use Rattle.txn_kv.specs.declared.request.Request.{Request}
 use Rattle.txn_history.specs.Faults.{has_error, has_region_error}
 use Rattle.txn_history.specs.Meaning.{missed, replied, timed, woken, Told}
@@ -18,7 +17,7 @@ abbrev pub told_by : Arrival → Posted → Request → Told
 told_by (Reply n x) o r = replied (ticket_of o n) r x
 told_by (Lost n) o r = missed (ticket_of o n) r
 told_by (Slept n) o r = woken (ticket_of o n)
-told_by (Time n x) o r = timed (ticket_of o n) (result_ok x)
+told_by (Time n x) o r = timed (ticket_of o n) x
 
 -- what waits for it
 abbrev pub awaited_as : Arrival → Awaited

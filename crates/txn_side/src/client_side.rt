@@ -1,6 +1,6 @@
 ghost use Rattle.std.specs.List.{All};
 ghost use Rattle.std.specs.Prelude.{◌≡◌, ◌<◌, ◌≤◌, ◌^◌, ℕ, [], IfOk, OnOk, false, true};
-ghost use Rattle.txn_side.specs.Account.{AreKept, MayTakeIn};
+ghost use Rattle.txn_side.specs.Account.{AreClosed, AreKept, MayTakeIn};
 ghost use Rattle.txn_side.specs.Sight.{Acts, Asks, Goes, IsGiven, Names, NoneGiven, connected, crash, is_live, line_count, opened};
 ghost use Rattle.txn_side.specs.Waiting.{HearsEnd, HearsReply, NoneHeard, WaitsOn, posted_in};
 
@@ -33,7 +33,7 @@ pub trait ClientSide: Sized + Drop {
     // Something is out for each call that waits.
     ghost due: { (s : Self) → ready s → IsDue (waits s) (sight s) };
 
-    // What the transaction of a line has taken in: nothing, where none has begun there.
+    // How far the transaction of a line has come, and what it has taken in: nothing, where none has begun there.
     ghost account: { Self → ℕ → Account };
 
     /// One line more, at which nothing stands.
@@ -112,7 +112,7 @@ pub trait ClientSide: Sized + Drop {
         ensures given { IfOk result (λ turn. All (Names (IsGiven (sight self.old) ticket reply)) turn.ended.items) }
         ensures waits { is_live (sight self.old) ticket.line ≡ true → IfOk result (λ turn. WaitsOn (HearsReply ticket) turn.posted.items (waits self.old) (waits self.new) (sight self.old) (sight self.new)) }
         ensures ready { OnOk result (ready self.new) }
-        ensures accounts { OnOk result (AreKept (account self.old) (account self.new)) };
+        ensures accounts { IfOk result (λ turn. AreClosed (sight self.old) turn.ended.items (account self.old) (account self.new)) };
 
     /// No reply to the request of the ticket will come.
     fn lost(&mut self, ticket: Ticket, request: &Request, now: u64) -> Result<Turn, NoMemory>
@@ -122,7 +122,7 @@ pub trait ClientSide: Sized + Drop {
         ensures given { IfOk result (λ turn. All (Names NoneGiven) turn.ended.items) }
         ensures waits { is_live (sight self.old) ticket.line ≡ true → IfOk result (λ turn. WaitsOn (HearsReply ticket) turn.posted.items (waits self.old) (waits self.new) (sight self.old) (sight self.new)) }
         ensures ready { OnOk result (ready self.new) }
-        ensures accounts { OnOk result (AreKept (account self.old) (account self.new)) };
+        ensures accounts { IfOk result (λ turn. AreClosed (sight self.old) turn.ended.items (account self.old) (account self.new)) };
 
     /// A sleep has ended.
     fn slept(&mut self, ticket: Ticket, now: u64) -> Result<Turn, NoMemory>
@@ -132,5 +132,5 @@ pub trait ClientSide: Sized + Drop {
         ensures given { IfOk result (λ turn. All (Names NoneGiven) turn.ended.items) }
         ensures waits { is_live (sight self.old) ticket.line ≡ true → IfOk result (λ turn. WaitsOn (HearsEnd ticket) turn.posted.items (waits self.old) (waits self.new) (sight self.old) (sight self.new)) }
         ensures ready { OnOk result (ready self.new) }
-        ensures accounts { OnOk result (AreKept (account self.old) (account self.new)) };
+        ensures accounts { IfOk result (λ turn. AreClosed (sight self.old) turn.ended.items (account self.old) (account self.new)) };
 }

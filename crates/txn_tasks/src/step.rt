@@ -1,6 +1,5 @@
 //! What the tasks of a plan have in common.
 ghost use Rattle.std.specs.Prelude.{◌≡◌, ◌≤◌, ◌<◌, ◌^◌, ◌++◌, ◌∷◌, [], List, ℕ, true, false, is_err};
-ghost use Rattle.std.specs.Result.{result_ok};
 ghost use Rattle.txn_history.specs.Faults.{has_error, has_region_error};
 ghost use Rattle.txn_history.specs.Meaning.{missed, replied, started, timed, woken, Counts, Goes, IsLawful, Meaning, Tells};
 ghost use Rattle.txn_history.specs.Phase.Awaited.{EndOf, ReplyTo, TimeOf};
@@ -153,10 +152,10 @@ pub trait Task: Sized + Drop {
         requires answer { IsTimeAnswer answer }
         requires numbers { HasNumbers out.old }
         requires clock { now < 2 ^ 44 }
-        ensures tells { Tells meaning (timed (ticket_of out.old ask) (result_ok answer)) self.old self.new out.old out.new (step_turn result) }
+        ensures tells { Tells meaning (timed (ticket_of out.old ask) answer) self.old self.new out.old out.new (step_turn result) }
         ensures goes { Goes meaning.phase (meaning.waits self.old (TimeOf ask)) self.old self.new out.old out.new pd.old pd.new (step_turn result) }
         ensures counts { Counts meaning (is_err answer) false 0 0 self.old self.new out.old out.new (step_turn result) }
-        ensures client { touches (touch C.looked C.learns C.leads C.drops) (timed (ticket_of out.old ask) (result_ok answer)) out.old self.old self.new pd.old pd.new }
+        ensures client { touches (touch C.looked C.learns C.leads C.drops) (timed (ticket_of out.old ask) answer) out.old self.old self.new pd.old pd.new }
         ensures keeps { Keeps meaning load AreCut IsOf runs self.old self.new (step_turn result) }
         ensures off { runs self.old ≡ false → runs self.new ≡ false }
         ensures ready { meaning.ready self.new }

@@ -3,7 +3,6 @@ ghost use Rattle.std.specs.Prelude.{◌≡◌, ◌≢◌, ◌≤◌, ◌<◌, �
 ghost use Rattle.std.specs.Bool.{MatchBool};
 ghost use Rattle.std.proofs.Math.ListN.{get_or};
 ghost use Rattle.std.specs.List.{count_by, sum_by, All};
-ghost use Rattle.std.specs.Result.{result_ok};
 ghost use Rattle.txn_history.specs.Event.{Event};
 ghost use Rattle.txn_history.specs.Faults.{has_error, has_region_error};
 ghost use Rattle.txn_history.specs.Meaning.{missed, replied, started, timed, woken, Counts, Goes, Tells};
@@ -260,10 +259,10 @@ impl<T: Task> Tasks<T> {
         requires numbers { HasNumbers out.old }
         requires clock { now < 2 ^ 44 }
         requires answer { IsTimeAnswer answer }
-        ensures tells { (whole : T.Whole) (first : T.Load) → Tells (tasks_of T.meaning T.load T.AreCut T.IsOf T.cost T.runs whole first) (timed (ticket_of out.old ask) (result_ok answer)) self.old self.new out.old out.new (tasks_turn result) }
+        ensures tells { (whole : T.Whole) (first : T.Load) → Tells (tasks_of T.meaning T.load T.AreCut T.IsOf T.cost T.runs whole first) (timed (ticket_of out.old ask) answer) self.old self.new out.old out.new (tasks_turn result) }
         ensures goes { Goes (λ (s : Tasks T T.Answer). tasks_phase s.stage) (LeadsSomewhere self.old (TimeOf ask)) self.old self.new out.old out.new pd.old pd.new (tasks_turn result) }
         ensures counts { (whole : T.Whole) (first : T.Load) → Counts (tasks_of T.meaning T.load T.AreCut T.IsOf T.cost T.runs whole first) (is_err answer) false 0 0 self.old self.new out.old out.new (tasks_turn result) }
-        ensures client { IfKept (tasks_turn result) (Turns (T.touches (touch C.looked C.learns C.leads C.drops)) (timed (ticket_of out.old ask) (result_ok answer)) out.old self.old.tasks.items self.new.tasks.items pd.old pd.new) }
+        ensures client { IfKept (tasks_turn result) (Turns (T.touches (touch C.looked C.learns C.leads C.drops)) (timed (ticket_of out.old ask) answer) out.old self.old.tasks.items self.new.tasks.items pd.old pd.new) }
         ensures few { count_by T.runs self.new.tasks.items ≤ 16 }
         ensures ready { AreReady T.meaning T.runs self.new }
         ensures numbers { HasNumbers out.new }

@@ -19,7 +19,7 @@ use Rattle.txn_law.specs.Part.{IsPart}
 use Rattle.txn_law.specs.Run.{IsPossible, IsRun}
 use Rattle.txn_tso.specs.Oracle.{Answer, Oracle, answered, answers, askers_out, group_or_none}
 use Rattle.txn_tso.specs.declared.asker.Asker.{Asker}
-use Rattle.txn_trace.specs.Answering.{AreAnswerable, GroupFits, OracleFits, answering, ask_of, told}
+use Rattle.txn_trace.specs.Answering.{AreAnswerable, GroupFits, OracleFits, answering, ask_of}
 use Rattle.txn_trace.proofs.Fitting.{out_asked}
 use Rattle.txn_trace.proofs.Granting.{answer_among, answer_of, behind_small, grant_gives, grant_is}
 use Rattle.txn_trace.proofs.Parts.{part_after, part_carries}
@@ -44,7 +44,7 @@ all_answerable h (a ∷ bs) f = (f a (inl refl), all_answerable h bs (λ b m. f 
 pub taken_answerable : (o : Oracle) (t : Ticket) (h : List Event) (r : TsoRequest) (x : TsoResponse) → OracleFits o t h → Has h (Took t (Tso r) (reply.Tso x)) → AreAnswerable (answered x o) h
 taken_answerable o t h r x f k = all_answerable h (answered x o) (λ a m. by a.0 a.1 m)
   where
-    by : (a : Asker) (told_it : Result Timestamp Error) → IsAmong (answered x o) (a, told_it) → IsPossible h (Answered (ask_of a) (told told_it))
+    by : (a : Asker) (told_it : Result Timestamp Error) → IsAmong (answered x o) (a, told_it) → IsPossible h (Answered (ask_of a) told_it)
     by a (Ok time) m = timed o t h r x f k a time m
     by a (Err why) m = out_asked o t h f a (answer_among x (length (askers_out o)) (askers_out o) a (Err why) (answer_of x (length (askers_out o)) (askers_out o) a (Err why) m))
 
@@ -57,13 +57,13 @@ lost_answerable o t h why f = each (askers_out o) (out_asked o t h f)
 
 -- They stay so.
 
-possible_more : (h : List Event) (e : Event) (a : Ticket) (answer : Option Timestamp) → IsPossible h (Answered a answer) → IsPossible (e ∷ h) (Answered a answer)
-possible_more h e a None p = inr p
-possible_more h e a (Some time) p = (p.0, p.1, p.2, inr p.3, inr p.4, p.5)
+possible_more : (h : List Event) (e : Event) (a : Ticket) (answer : Result Timestamp Error) → IsPossible h (Answered a answer) → IsPossible (e ∷ h) (Answered a answer)
+possible_more h e a (Err why) p = inr p
+possible_more h e a (Ok time) p = (p.0, p.1, p.2, inr p.3, inr p.4, p.5)
 
 pub answerable_more : (bs : List Answer) (h : List Event) (e : Event) → AreAnswerable bs h → AreAnswerable bs (e ∷ h)
 answerable_more [] h e w = tt
-answerable_more (a ∷ bs) h e w = (possible_more h e (ask_of a.0) (told a.1) w.0, answerable_more bs h e w.1)
+answerable_more (a ∷ bs) h e w = (possible_more h e (ask_of a.0) a.1 w.0, answerable_more bs h e w.1)
 
 pub answerable_longer : (bs : List Answer) (h longer : List Event) → IsPart longer h → AreAnswerable bs h → AreAnswerable bs longer
 answerable_longer bs h longer part w = part_carries (AreAnswerable bs) (λ e k v. answerable_more bs k e v) longer h part w

@@ -27,13 +27,9 @@ pub record OracleFits (o : Oracle) (t : Ticket) (h : List Event) : Type 0 where
   pub queue : (a : Asker) → IsAmong o.queue a → Has h (Asked (ask_of a))
   pub out : GroupFits o.out t h
 
--- an ask is told the timestamp, or that none will come
-abbrev pub told : Result Timestamp Error → Option Timestamp
-told (Ok time) = Some time
-told (Err why) = None
-
+-- an ask is told the timestamp, or why none will come
 abbrev pub answering : Answer → Event
-answering a = Answered (ask_of a.0) (told a.1)
+answering a = Answered (ask_of a.0) a.1
 
 -- each of these may be told now
 abbrev pub AreAnswerable : List Answer → List Event → Type 0

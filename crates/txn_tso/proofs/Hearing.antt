@@ -4,7 +4,6 @@ use Rattle.std.proofs.Math.Nat.{le_refl}
 use Rattle.std.proofs.lemmas.Bool.{eqb-true}
 use Rattle.std.specs.Bool.{MatchBool}
 use Rattle.std.specs.Prelude.{if◌then◌else◌, nat_eq, Result, Ok, Err}
-use Rattle.std.specs.Result.{result_ok}
 use Rattle.txn_kv.specs.declared.errors.Error.{Error}
 use Rattle.txn_kv.specs.declared.errors.Error.TheVariants.{GrpcAPI, InternalError}
 use Rattle.txn_kv.specs.declared.errors.Internal.TheVariants.{WrongReply}
@@ -118,30 +117,30 @@ waking_safe s c o n now stage.Over e = quiet_one s c o (Slept (ticket_of o n))
 waking_safe s c o n now stage.Stopped e = quiet_one s c o (Slept (ticket_of o n))
 
 timestamp_safe : (told : Result Timestamp Error) (s : PdCall) (c : RetryClient) (o : Posted) (n now : ℕ) → s.stage ≡ stage.Asked n
-    → Safe s o (λ h. Answered (ticket_of o n) (result_ok told) ∷ h) (on_timestamp told now (standing s c o))
-timestamp_safe (Ok t) s c o n now e = ends_safe s c o (λ h. Answered (ticket_of o n) (Some t) ∷ h) (Ok (answer.Time t)) (λ h f. let a = fits_at s (stage.Asked n) o h e f in
+    → Safe s o (λ h. Answered (ticket_of o n) told ∷ h) (on_timestamp told now (standing s c o))
+timestamp_safe (Ok t) s c o n now e = ends_safe s c o (λ h. Answered (ticket_of o n) (Ok t) ∷ h) (Ok (answer.Time t)) (λ h f. let a = fits_at s (stage.Asked n) o h e f in
     inr (n, t, a.0, inl refl, refl))
-timestamp_safe (Err why) s c o n now e = failing_try_safe s c o (λ h. Answered (ticket_of o n) None ∷ h) now why (λ h f. let a = fits_at s (stage.Asked n) o h e f in (
+timestamp_safe (Err why) s c o n now e = failing_try_safe s c o (λ h. Answered (ticket_of o n) (Err why) ∷ h) now why (λ h f. let a = fits_at s (stage.Asked n) o h e f in (
   n,
   (let t = ap (λ q. next_try q o) a.0 in let below : n < o.next_ask = a.2 in omega arith),
   inr (inr (a.0, inl refl)),
-  failed_still s.query o (Answered (ticket_of o n) None) h s.failed n a.3,
+  failed_still s.query o (Answered (ticket_of o n) (Err why)) h s.failed n a.3,
 ))
 
 answer_if : (b : Bool) (s : PdCall) (c : RetryClient) (o : Posted) (k n now : ℕ) (told : Result Timestamp Error) → nat_eq k n ≡ b → s.stage ≡ stage.Asked k
-    → Safe s o (λ h. Answered (ticket_of o n) (result_ok told) ∷ h) (if b then on_timestamp told now (standing s c o) else waits (standing s c o))
+    → Safe s o (λ h. Answered (ticket_of o n) told ∷ h) (if b then on_timestamp told now (standing s c o) else waits (standing s c o))
 answer_if true s c o k n now told t e = timestamp_safe told s c o n now (e ∙ ap (λ x. stage.Asked x) (eqb-true k n t))
-answer_if false s c o k n now told t e = quiet_one s c o (Answered (ticket_of o n) (result_ok told))
+answer_if false s c o k n now told t e = quiet_one s c o (Answered (ticket_of o n) told)
 
 pub answer_safe : (s : PdCall) (c : RetryClient) (o : Posted) (n now : ℕ) (told : Result Timestamp Error) (g : Stage) → s.stage ≡ g
-    → Safe s o (λ h. Answered (ticket_of o n) (result_ok told) ∷ h) (on_answer g n told now (standing s c o))
-answer_safe s c o n now told stage.Fresh e = quiet_one s c o (Answered (ticket_of o n) (result_ok told))
-answer_safe s c o n now told (stage.Sent k) e = quiet_one s c o (Answered (ticket_of o n) (result_ok told))
+    → Safe s o (λ h. Answered (ticket_of o n) told ∷ h) (on_answer g n told now (standing s c o))
+answer_safe s c o n now told stage.Fresh e = quiet_one s c o (Answered (ticket_of o n) told)
+answer_safe s c o n now told (stage.Sent k) e = quiet_one s c o (Answered (ticket_of o n) told)
 answer_safe s c o n now told (stage.Asked k) e = answer_if (nat_eq k n) s c o k n now told refl e
-answer_safe s c o n now told (stage.Reconnecting k lost) e = quiet_one s c o (Answered (ticket_of o n) (result_ok told))
-answer_safe s c o n now told (stage.Resting k lost) e = quiet_one s c o (Answered (ticket_of o n) (result_ok told))
-answer_safe s c o n now told stage.Over e = quiet_one s c o (Answered (ticket_of o n) (result_ok told))
-answer_safe s c o n now told stage.Stopped e = quiet_one s c o (Answered (ticket_of o n) (result_ok told))
+answer_safe s c o n now told (stage.Reconnecting k lost) e = quiet_one s c o (Answered (ticket_of o n) told)
+answer_safe s c o n now told (stage.Resting k lost) e = quiet_one s c o (Answered (ticket_of o n) told)
+answer_safe s c o n now told stage.Over e = quiet_one s c o (Answered (ticket_of o n) told)
+answer_safe s c o n now told stage.Stopped e = quiet_one s c o (Answered (ticket_of o n) told)
 
 -- the reply to the query came
 query_reply_safe : (s : PdCall) (c : RetryClient) (o : Posted) (n now : ℕ) (r : Request) (x : Reply) (st : Stood) → s.stage ≡ stage.Sent n → request_of s.query ≡ Some r

@@ -26,12 +26,12 @@ abbrev pub members : Request
 members = Members (record {})
 
 -- The try of this ticket failed, and this is the error that names it: the request was lost, or its reply holds no region, or
--- the ask was refused. What the oracle refused an ask with is not in the history.
+-- the ask was refused with it.
 abbrev pub IsFailure : PdQuery → Ticket → List Event → Error → Type 0
 IsFailure q t h why =
     ((r : Request) × (request_of q ≡ Some r) × Has h (Lost t r) × (why ≡ GrpcAPI t))
     ⊎ (((r : Request) × (x : Reply) × (request_of q ≡ Some r) × Has h (Took t r x) × HasNoRegion q x × (why ≡ not_found q))
-    ⊎ ((q ≡ Time) × Has h (Answered t None)))
+    ⊎ ((q ≡ Time) × Has h (Answered t (Err why))))
 
 -- So many tries of the query failed, under numbers of this line that are below the given one. No two have one number.
 abbrev pub HaveFailed : PdQuery → Posted → ℕ → ℕ → List Event → Type 0
@@ -74,7 +74,7 @@ MayAsk s h r = (request_of s.query ≡ Some r) ⊎ (r ≡ members)
 abbrev pub IsTold : PdQuery → Posted → List Event → PdAnswer → Type 0
 IsTold q o h a =
     ((k : ℕ) × (r : Request) × (x : Reply) × (request_of q ≡ Some r) × Has h (Took (ticket_of o k) r x) × Answers q x a)
-    ⊎ ((k : ℕ) × (t : Timestamp) × (q ≡ Time) × Has h (Answered (ticket_of o k) (Some t)) × (a ≡ answer.Time t))
+    ⊎ ((k : ℕ) × (t : Timestamp) × (q ≡ Time) × Has h (Answered (ticket_of o k) (Ok t)) × (a ≡ answer.Time t))
 
 -- a reply that is of another kind than its request
 abbrev pub IsUnlikeReply : PdQuery → Request → Reply → Type 0

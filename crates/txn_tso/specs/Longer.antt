@@ -1,7 +1,7 @@
 -- What is known of a call to the placement driver stays true as the run goes on, and as its line posts more.
 use Rattle.std.proofs.Common.{inl, inr, subst, sym}
 use Rattle.std.proofs.Math.Nat.{le_refl, lt_of_lt_of_le}
-use Rattle.std.specs.Prelude.{◌≡◌, ◌≤◌, ℕ, zero, suc, List, Some, Result, Ok, Err}
+use Rattle.std.specs.Prelude.{◌≡◌, ◌≤◌, ℕ, zero, suc, List, Result, Ok, Err}
 use Rattle.txn_kv.specs.declared.errors.Error.{Error}
 use Rattle.txn_kv.specs.declared.errors.Error.TheVariants.{GrpcAPI}
 use Rattle.txn_kv.specs.declared.query.PdAnswer.{PdAnswer}
@@ -94,7 +94,7 @@ fits_longer s h longer p w f = record { few = f.few; at = at_longer s.query s.fa
 
 told_longer : (q : PdQuery) (a : PdAnswer) {o later : Posted} (h longer : List Event) → IsLater o later → Within h longer → IsTold q o h a → IsTold q later longer a
 told_longer q a h longer p w (inl f) = inl (f.0, f.1, f.2, f.3, at_ticket p (λ t. Has longer (Took t f.1 f.2)) f.0 (w _ f.4), f.5)
-told_longer q a h longer p w (inr f) = inr (f.0, f.1, f.2, at_ticket p (λ t. Has longer (Answered t (Some f.1))) f.0 (w _ f.3), f.4)
+told_longer q a h longer p w (inr f) = inr (f.0, f.1, f.2, at_ticket p (λ t. Has longer (Answered t (Ok f.1))) f.0 (w _ f.3), f.4)
 
 refused_longer : (q : PdQuery) (why : Error) {o later : Posted} (h longer : List Event) → IsLater o later → Within h longer → IsRefused q o h why → IsRefused q later longer why
 refused_longer q why {o} h longer p w (inl f) = inl (

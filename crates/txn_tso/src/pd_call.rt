@@ -1,6 +1,5 @@
 ghost use Rattle.std.specs.Prelude.{◌≡◌, ◌≢◌, ◌∷◌, None, Some, IfOk, is_err, true, false};
 ghost use Rattle.std.specs.Bool.{MatchBool};
-ghost use Rattle.std.specs.Result.{result_ok};
 ghost use Rattle.txn_kv.specs.declared.reply.MembersResponse.{MembersResponse};
 ghost use Rattle.txn_kv.specs.declared.errors.Error.TheVariants.{GrpcAPI};
 ghost use Rattle.txn_kv.specs.declared.request.Request.{Request as Asked};
@@ -175,7 +174,7 @@ impl PdCall {
     ) -> Turn
         requires { HasNumbers out.old }
         ensures step { Stands self.old.query out.old (on_answer self.old.stage ask answer now (standing self.old client.old out.old)) (turn_of result) (standing self.new client.new out.new) }
-        ensures moves { Moves (MayAsk self.old) (CallFits self.old out.old) (CallFits self.new out.new) (Gives self.old out.old) (λ h. Answered (ticket_of out.old ask) (result_ok answer) ∷ h) out.old out.new (turn_of result) }
+        ensures moves { Moves (MayAsk self.old) (CallFits self.old out.old) (CallFits self.new out.new) (Gives self.old out.old) (λ h. Answered (ticket_of out.old ask) answer ∷ h) out.old out.new (turn_of result) }
         ensures spends { CallSpends self.old self.new (is_err answer) out.old out.new (turn_of result) }
         ensures awake { sleeps out.new ≡ sleeps out.old }
         ensures job { self.new.query ≡ self.old.query }

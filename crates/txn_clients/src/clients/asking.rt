@@ -2,7 +2,8 @@
 ghost use Rattle.std.specs.List.{All};
 ghost use Rattle.std.specs.Prelude.{◌≡◌, ◌<◌, ◌≤◌, ◌^◌, [], IfOk, IfSome, IsTrue, OnOk, false, is_some, length, slice_index_or, true, ◌≢◌, ℕ, Some};
 ghost use Rattle.txn_client.specs.Calls.{CallReady, called};
-ghost use Rattle.txn_clients.specs.Accounts.{AccountsTold, EndsTold, WantsNew, account_at};
+ghost use Rattle.txn_clients.specs.Accounts.{WantsNew, account_at};
+ghost use Rattle.txn_clients.specs.Closing.{GoesTold};
 ghost use Rattle.txn_client.specs.declared.client_call.Stage.TheVariants.{Fresh};
 ghost use Rattle.txn_clients.specs.Clients.{AreReady, HasOut, Listens, crashed_of, row_at, rows_of, sight_of};
 ghost use Rattle.txn_clients.specs.Going.{OfLine};
@@ -14,7 +15,7 @@ ghost use Rattle.txn_history.specs.Meaning.{IsUnbegun};
 ghost use Rattle.txn_kv.specs.declared.ticket.Ticket.{Ticket as Name};
 ghost use Rattle.txn_plan.specs.Arrivals.{MayArrive};
 ghost use Rattle.txn_core.specs.declared.options.TransactionKind.TheVariants.{Optimistic};
-ghost use Rattle.txn_side.specs.Account.{AreKept, TakesIn};
+ghost use Rattle.txn_side.specs.Account.{AreClosed, AreKept, TakesIn};
 ghost use Rattle.txn_side.specs.Sight.{EndsAlone, Goes, IsGiven, Names, NoneGiven, commits, is_free, line_count, stand_at, with_stand, client_at, is_live};
 ghost use Rattle.txn_side.specs.Sight.Stand.{Asking, Calling, HasBegun, Idle};
 
@@ -141,8 +142,7 @@ where
         ensures names { IfOk result (λ turn. All (Names (OfLine line (Tells told))) turn.ended.items) }
         ensures steps { IfOk result (λ turn. client_at (stand_at (sight_of self.old).stands line) ≡ Some listener.client → IsSound (ways P.meaning Q.meaning K.meaning P.refuses Q.refuses K.refuses) (pends line told []) self.old → ((c : ℕ) → c ≢ listener.client → IsQuiet (book_at self.old c)) → AreRunningBut listener.at (rows_of self.old) → IsPrepared told (row_at (rows_of self.old) listener.at) → Steps (ways P.meaning Q.meaning K.meaning P.refuses Q.refuses K.refuses) (HearsAt line told) turn.posted.items self.old self.new) }
         ensures ready { OnOk result (AreReady (ways P.meaning Q.meaning K.meaning P.refuses Q.refuses K.refuses) (rows_of self.new)) }
-        ensures accounts { OnOk result (AccountsTold told listener.at (rows_of self.old) (rows_of self.new)) }
-        ensures ends { IfOk result (λ turn. EndsTold told (row_at (rows_of self.old) listener.at) line (stand_at (sight_of self.old).stands line) [] turn.ended.items) }
+        ensures accounts { IfOk result (λ turn. GoesTold told line listener.at (stand_at (sight_of self.old).stands line) (rows_of self.old) (rows_of self.new) [] turn.ended.items) }
     {
         let mut turn = Turn::new(self.alloc);
         self.go(line, listener, told, now, &mut turn)?;
@@ -204,7 +204,7 @@ where
         ensures names { IfOk result (λ turn. All (Names (OfLine line (Brings arrival))) turn.ended.items) }
         ensures steps { IfOk result (λ turn. is_live (sight_of self.old) line ≡ true → client_at (stand_at (sight_of self.old).stands line) ≡ Some client → IsReady (ways P.meaning Q.meaning K.meaning P.refuses Q.refuses K.refuses) self.old → Steps (ways P.meaning Q.meaning K.meaning P.refuses Q.refuses K.refuses) (HearsAt line (Heard arrival)) turn.posted.items self.old self.new) }
         ensures ready { OnOk result (AreReady (ways P.meaning Q.meaning K.meaning P.refuses Q.refuses K.refuses) (rows_of self.new)) }
-        ensures accounts { OnOk result (AreKept (account_at (rows_of self.old)) (account_at (rows_of self.new))) }
+        ensures accounts { IfOk result (λ turn. AreClosed (sight_of self.old) turn.ended.items (account_at (rows_of self.old)) (account_at (rows_of self.new))) }
     {
         let mut turn = Turn::new(self.alloc);
         self.tell(line, arrival, now, &mut turn)?;
@@ -222,7 +222,7 @@ where
         ensures steps { IfOk result (λ turn. IsReady (ways P.meaning Q.meaning K.meaning P.refuses Q.refuses K.refuses) self.old → Steps (ways P.meaning Q.meaning K.meaning P.refuses Q.refuses K.refuses) (λ n a. ⊥) turn.posted.items self.old self.new) }
         ensures groups { IfOk result (λ turn. IsReady (ways P.meaning Q.meaning K.meaning P.refuses Q.refuses K.refuses) self.old → GroupsBeside client turn.posted.items (sight_of self.old) (sight_of self.new)) }
         ensures ready { OnOk result (AreReady (ways P.meaning Q.meaning K.meaning P.refuses Q.refuses K.refuses) (rows_of self.new)) }
-        ensures accounts { OnOk result (AreKept (account_at (rows_of self.old)) (account_at (rows_of self.new))) }
+        ensures accounts { IfOk result (λ turn. AreClosed (sight_of self.old) turn.ended.items (account_at (rows_of self.old)) (account_at (rows_of self.new))) }
     {
         let mut turn = Turn::new(self.alloc);
         self.take_group(client, reply, now, &mut turn)?;
@@ -240,7 +240,7 @@ where
         ensures steps { IfOk result (λ turn. IsReady (ways P.meaning Q.meaning K.meaning P.refuses Q.refuses K.refuses) self.old → Steps (ways P.meaning Q.meaning K.meaning P.refuses Q.refuses K.refuses) (λ n a. ⊥) turn.posted.items self.old self.new) }
         ensures groups { IfOk result (λ turn. IsReady (ways P.meaning Q.meaning K.meaning P.refuses Q.refuses K.refuses) self.old → GroupsBeside client turn.posted.items (sight_of self.old) (sight_of self.new)) }
         ensures ready { OnOk result (AreReady (ways P.meaning Q.meaning K.meaning P.refuses Q.refuses K.refuses) (rows_of self.new)) }
-        ensures accounts { OnOk result (AreKept (account_at (rows_of self.old)) (account_at (rows_of self.new))) }
+        ensures accounts { IfOk result (λ turn. AreClosed (sight_of self.old) turn.ended.items (account_at (rows_of self.old)) (account_at (rows_of self.new))) }
     {
         let mut turn = Turn::new(self.alloc);
         self.lose_group(client, now, &mut turn)?;

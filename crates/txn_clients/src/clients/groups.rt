@@ -9,7 +9,7 @@ ghost use Rattle.txn_clients.specs.Waiting.{AreRunning, EndsGroup, GoesOn, IsSou
 ghost use Rattle.txn_commit.specs.Committing.{ways};
 ghost use Rattle.txn_kv.specs.declared.request.Request.TheVariants.{Tso};
 ghost use Rattle.txn_kv.specs.declared.ticket.Ticket.{Ticket as Name};
-ghost use Rattle.txn_side.specs.Account.{AreKept};
+ghost use Rattle.txn_side.specs.Account.{AreClosed};
 ghost use Rattle.txn_side.specs.Sight.{AskFor, GroupsGo, IsGiven, IsNext, NoneGiven, is_live, line_count, client_at, stand_at};
 ghost use Rattle.txn_tso.specs.declared.asker.Asker.{Asker};
 
@@ -182,7 +182,7 @@ where
         ensures advances { OnOk result (Advances turn.old turn.new (sight_of self.old) (sight_of self.new)) }
         ensures names { OnOk result ((t : Name) → HasOut (sight_of self.old) client t → NamesIn (IsGiven (sight_of self.old) t reply) turn.old turn.new) }
         ensures ready { OnOk result (AreReady (ways P.meaning Q.meaning K.meaning P.refuses Q.refuses K.refuses) (rows_of self.new)) }
-        ensures accounts { OnOk result (AreKept (account_at (rows_of self.old)) (account_at (rows_of self.new))) }
+        ensures accounts { OnOk result (turn.old.posted.items ≡ [] → turn.old.ended.items ≡ [] → AreClosed (sight_of self.old) turn.new.ended.items (account_at (rows_of self.old)) (account_at (rows_of self.new))) }
         ensures crashed { OnOk result (crashed_of self.new ≡ crashed_of self.old) }
         ensures waits { OnOk result (IsSound (ways P.meaning Q.meaning K.meaning P.refuses Q.refuses K.refuses) [] self.old → EndsGroup (ways P.meaning Q.meaning K.meaning P.refuses Q.refuses K.refuses) client turn.old.posted.items turn.new.posted.items self.old self.new) }
         ensures runs { OnOk result (AreRunning (rows_of self.old) → AreRunning (rows_of self.new)) }
@@ -204,7 +204,7 @@ where
         ensures advances { OnOk result (Advances turn.old turn.new (sight_of self.old) (sight_of self.new)) }
         ensures names { OnOk result (NamesIn NoneGiven turn.old turn.new) }
         ensures ready { OnOk result (AreReady (ways P.meaning Q.meaning K.meaning P.refuses Q.refuses K.refuses) (rows_of self.new)) }
-        ensures accounts { OnOk result (AreKept (account_at (rows_of self.old)) (account_at (rows_of self.new))) }
+        ensures accounts { OnOk result (turn.old.posted.items ≡ [] → turn.old.ended.items ≡ [] → AreClosed (sight_of self.old) turn.new.ended.items (account_at (rows_of self.old)) (account_at (rows_of self.new))) }
         ensures crashed { OnOk result (crashed_of self.new ≡ crashed_of self.old) }
         ensures waits { OnOk result (IsSound (ways P.meaning Q.meaning K.meaning P.refuses Q.refuses K.refuses) [] self.old → EndsGroup (ways P.meaning Q.meaning K.meaning P.refuses Q.refuses K.refuses) client turn.old.posted.items turn.new.posted.items self.old self.new) }
         ensures runs { OnOk result (AreRunning (rows_of self.old) → AreRunning (rows_of self.new)) }
@@ -227,7 +227,7 @@ where
         ensures advances { OnOk result (Advances turn.old turn.new (sight_of self.old) (sight_of self.new)) }
         ensures names { OnOk result (NamesIn (IsTimed given.items) turn.old turn.new) }
         ensures ready { OnOk result (AreReady (ways P.meaning Q.meaning K.meaning P.refuses Q.refuses K.refuses) (rows_of self.new)) }
-        ensures accounts { OnOk result (AreKept (account_at (rows_of self.old)) (account_at (rows_of self.new))) }
+        ensures accounts { OnOk result (turn.old.posted.items ≡ [] → turn.old.ended.items ≡ [] → AreClosed (sight_of self.old) turn.new.ended.items (account_at (rows_of self.old)) (account_at (rows_of self.new))) }
         ensures crashed { OnOk result (crashed_of self.new ≡ crashed_of self.old) }
         ensures waits { OnOk result (IsSound (ways P.meaning Q.meaning K.meaning P.refuses Q.refuses K.refuses) (map (λ a. a.0) given.items) self.old → GoesOn (ways P.meaning Q.meaning K.meaning P.refuses Q.refuses K.refuses) client (λ n a. ⊥) [] turn.old.posted.items turn.new.posted.items self.old self.new) }
         ensures runs { OnOk result (AreRunning (rows_of self.old) → AreRunning (rows_of self.new)) }

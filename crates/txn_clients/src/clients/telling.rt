@@ -1,6 +1,7 @@
 //! What stands at the lines is told of what came.
 ghost use Rattle.std.specs.Prelude.{◌≡◌, ◌<◌, ◌^◌, ◌-◌, ℕ, true, length, IfOk, IfSome, IsTrue, OnOk, Bool, List, None, Some, false};
-ghost use Rattle.txn_clients.specs.Accounts.{AccountsTold, AnswersNew, AnswersTold, BeginsNew, EndsCall, EndsTold, account_at};
+ghost use Rattle.txn_clients.specs.Accounts.{AccountsTold, AnswersNew, AnswersTold, BeginsNew, account_at, is_heard};
+ghost use Rattle.txn_clients.specs.Closing.{ClosesIn, EndsCall, EndsOwn, GoesTold, HasComeTo, StandsAt, status_by};
 ghost use Rattle.txn_clients.specs.Clients.{AreReady, HearsFor, IsLine, Listens, MayEnd, crashed_of, groups_of, nexts_of, row_at, rows_of, sight_of};
 ghost use Rattle.txn_clients.specs.Going.{Advances, EndsIn, NamesIn, OfLine};
 ghost use Rattle.txn_clients.specs.Rows.{AnswerFits, AskFits, Brings, IsStamped, IsToldIn, MayHear, MayTell, Posts, Rests, Tells, stand_of};
@@ -24,10 +25,27 @@ use crate::told::Told;
 use std::mem;
 use txn_client::ClientAnswer;
 use txn_commit::PlanFor;
-use txn_core::TxnAnswer;
+use txn_core::{Status, TxnAnswer};
 use txn_kv::{BatchRollbackRequest, CommitRequest, NoMemory, Outbox, PrewriteRequest};
 use txn_plan::Arrival;
 use txn_side::{Ending, Turn};
+
+/// How far a transaction has come whose call, which commits or rolls back, has answered later than in its own line.
+fn status_by<Q>(commits: bool, answer: &txn_kv::Result<TxnAnswer<Q>>) -> Status
+    ensures { result ≡ status_by commits answer.now }
+{
+    if commits {
+        match answer {
+            Ok(TxnAnswer::Committed(_, _)) => Status::Committed,
+            _ => Status::StartedCommit,
+        }
+    } else {
+        match answer {
+            Ok(TxnAnswer::Unit) => Status::Rolledback,
+            _ => Status::StartedRollback,
+        }
+    }
+}
 
 impl<P, Q, K> Clients<P, Q, K>
 where
@@ -55,7 +73,7 @@ where
         ensures crashed { OnOk result (crashed_of self.new ≡ crashed_of self.old) }
         ensures groups { OnOk result (groups_of self.new ≡ groups_of self.old) }
         ensures ready { OnOk result (AreReady (ways P.meaning Q.meaning K.meaning P.refuses Q.refuses K.refuses) (rows_of self.new)) }
-        ensures accounts { OnOk result (AccountsTold told listener.at (rows_of self.old) (rows_of self.new)) }
+        ensures accounts { IfOk result (λ answer. AccountsTold told listener.at answer (rows_of self.old) (rows_of self.new)) }
         ensures answers { IfOk result (AnswersTold told (row_at (rows_of self.old) listener.at)) }
         ensures begins { IfOk result (λ answer. IfSome answer AnswersNew) }
         ensures posts { OnOk result (Posts out.old out.new) }
@@ -93,7 +111,7 @@ where
         ensures stands { OnOk result ((sight_of self.new).stands ≡ (sight_of self.old).stands) }
         ensures crashed { OnOk result (crashed_of self.new ≡ crashed_of self.old) }
         ensures ready { OnOk result (AreReady (ways P.meaning Q.meaning K.meaning P.refuses Q.refuses K.refuses) (rows_of self.new)) }
-        ensures accounts { OnOk result (AccountsTold told listener.at (rows_of self.old) (rows_of self.new)) }
+        ensures accounts { IfOk result (λ answer. AccountsTold told listener.at answer (rows_of self.old) (rows_of self.new)) }
         ensures answers { IfOk result (AnswersTold told (row_at (rows_of self.old) listener.at)) }
         ensures begins { IfOk result (λ answer. IfSome answer AnswersNew) }
         ensures rests { IfOk result (λ answer. IfSome answer (λ a. Rests (row_at (rows_of self.new) listener.at))) }
@@ -127,6 +145,7 @@ where
         ensures advances { OnOk result (Advances turn.old turn.new (sight_of self.old) (sight_of self.new)) }
         ensures alone { OnOk result (EndsIn line turn.old turn.new) }
         ensures names { OnOk result (NamesIn (OfLine line (IsStamped answer)) turn.old turn.new) }
+        ensures ends { OnOk result (EndsOwn line turn.old.ended.items turn.new.ended.items) }
         ensures waits { OnOk result (IsNewAnswer {P = P} {Q = Q} {K = K} (Asked answer) → (client : ℕ) (rest : List Asker) → IsSound (ways P.meaning Q.meaning K.meaning P.refuses Q.refuses K.refuses) rest self.old → GoesOn (ways P.meaning Q.meaning K.meaning P.refuses Q.refuses K.refuses) client (λ n a. ⊥) rest turn.old.posted.items turn.new.posted.items self.old self.new) }
         ensures runs { OnOk result ((c : ℕ) (b : Bool) → stand_at (sight_of self.old).stands line ≡ Asking c b → AreRunningBut (line - 1) (rows_of self.old) → AreRunning (rows_of self.new)) }
         ensures ready { OnOk result (AreReady (ways P.meaning Q.meaning K.meaning P.refuses Q.refuses K.refuses) (rows_of self.new)) }
@@ -192,6 +211,47 @@ where
         }
     }
 
+    /// Whether a transaction that stands at a place has this status.
+    fn stands_at(&self, at: usize, status: Status) -> bool
+        requires { at < length (rows_of self.now) }
+        ensures { IsTrue result → StandsAt status (row_at (rows_of self.now) at) }
+    {
+        match &self.places[at].row {
+            Row::Begun { transaction, .. } => transaction.status() == status,
+            _ => true,
+        }
+    }
+
+    /// Whether a transaction has come as far as the answer says that the call of a line has.
+    fn has_come_to(&self, line: u64, at: usize, answer: &txn_kv::Result<TxnAnswer<Q>>) -> bool
+        requires line { IsLine (sight_of self.now).stands line }
+        requires place { at < length (rows_of self.now) }
+        ensures { IsTrue result → HasComeTo (stand_at (sight_of self.now).stands line) answer.now (row_at (rows_of self.now) at) }
+    {
+        match self.row(line) {
+            Row::Calling { commits, .. } => self.stands_at(at, status_by(*commits, answer)),
+            _ => true,
+        }
+    }
+
+    /// Where something that came brought the answer, the transaction has come as far as that says: none does otherwise.
+    fn come_to(
+        &self,
+        heard: bool,
+        line: u64,
+        at: usize,
+        answer: &txn_kv::Result<TxnAnswer<Q>>,
+    ) -> Result<(), NoMemory>
+        requires line { IsLine (sight_of self.now).stands line }
+        requires place { at < length (rows_of self.now) }
+        ensures { OnOk result (heard ≡ true → HasComeTo (stand_at (sight_of self.now).stands line) answer.now (row_at (rows_of self.now) at)) }
+    {
+        if heard && !self.has_come_to(line, at, answer) {
+            return Err(NoMemory);
+        }
+        Ok(())
+    }
+
     /// Whether a job stands at a line.
     fn has_job(&self, line: u64) -> bool
         requires { IsLine (sight_of self.now).stands line }
@@ -248,16 +308,17 @@ where
         ensures alone { OnOk result (EndsIn line turn.old turn.new) }
         ensures names { OnOk result (NamesIn (OfLine line (Tells told)) turn.old turn.new) }
         ensures ready { OnOk result (AreReady (ways P.meaning Q.meaning K.meaning P.refuses Q.refuses K.refuses) (rows_of self.new)) }
-        ensures accounts { OnOk result (AccountsTold told listener.at (rows_of self.old) (rows_of self.new)) }
-        ensures ends { OnOk result (EndsTold told (row_at (rows_of self.old) listener.at) line (stand_at (sight_of self.old).stands line) turn.old.ended.items turn.new.ended.items) }
+        ensures accounts { OnOk result (GoesTold told line listener.at (stand_at (sight_of self.old).stands line) (rows_of self.old) (rows_of self.new) turn.old.ended.items turn.new.ended.items) }
         ensures crashed { OnOk result (crashed_of self.new ≡ crashed_of self.old) }
         ensures waits { OnOk result ((rest : List Asker) → client_at (stand_at (sight_of self.old).stands line) ≡ Some listener.client → IsSound (ways P.meaning Q.meaning K.meaning P.refuses Q.refuses K.refuses) (pends line told rest) self.old → GoesOn (ways P.meaning Q.meaning K.meaning P.refuses Q.refuses K.refuses) listener.client (HearsAt line told) rest turn.old.posted.items turn.new.posted.items self.old self.new) }
         ensures runs { OnOk result (AreRunningBut listener.at (rows_of self.old) → IsPrepared told (row_at (rows_of self.old) listener.at) → AreRunning (rows_of self.new)) }
     {
+        let heard = told.is_heard();
         match self.push(line, listener, told, now, turn)? {
             None => Ok(()),
             Some(Answer::Asked(answer)) => self.end_ask(line, answer, turn),
             Some(Answer::Called(answer)) => {
+                self.come_to(heard, line, listener.at, &answer)?;
                 self.end_call(line, answer, turn)?;
                 self.start_job(line, listener.client, now, turn)
             }
@@ -327,7 +388,7 @@ where
         ensures advances { OnOk result (Advances turn.old turn.new (sight_of self.old) (sight_of self.new)) }
         ensures names { OnOk result (NamesIn (OfLine line (Brings arrival)) turn.old turn.new) }
         ensures ready { OnOk result (AreReady (ways P.meaning Q.meaning K.meaning P.refuses Q.refuses K.refuses) (rows_of self.new)) }
-        ensures accounts { OnOk result (AreKept (account_at (rows_of self.old)) (account_at (rows_of self.new))) }
+        ensures accounts { OnOk result (ClosesIn (sight_of self.old) (rows_of self.old) (rows_of self.new) turn.old.ended.items turn.new.ended.items) }
         ensures crashed { OnOk result (crashed_of self.new ≡ crashed_of self.old) }
         ensures waits { OnOk result ((client : ℕ) (rest : List Asker) → is_live (sight_of self.old) line ≡ true → client_at (stand_at (sight_of self.old).stands line) ≡ Some client → IsSound (ways P.meaning Q.meaning K.meaning P.refuses Q.refuses K.refuses) (pends line (Heard arrival) rest) self.old → GoesOn (ways P.meaning Q.meaning K.meaning P.refuses Q.refuses K.refuses) client (HearsAt line (Heard arrival)) rest turn.old.posted.items turn.new.posted.items self.old self.new) }
         ensures runs { OnOk result (AreRunning (rows_of self.old) → AreRunning (rows_of self.new)) }

@@ -1,5 +1,5 @@
 //! What a transaction writes and locks, in its buffer alone.
-ghost use Rattle.std.specs.Prelude.{◌≡◌, Ok, OnOk, None, Some, false, true};
+ghost use Rattle.std.specs.Prelude.{◌≡◌, Err, Ok, OnOk, None, Some, false, true};
 ghost use Rattle.txn_buffer.specs.Contents.{mutated, with_write, write_at};
 ghost use Rattle.txn_buffer.specs.Reads.{writes};
 ghost use Rattle.txn_buffer.specs.Writes.{after_call, after_delete, after_insert, after_put, delete_call, insert_call, put_call};
@@ -8,7 +8,7 @@ ghost use Rattle.txn_history.specs.Turn.Turn.{Ends};
 ghost use Rattle.txn_core.specs.Transaction.{AreLocked, AreSteps, GivesUp, IsStep, WriteEnds, all_put_or_delete, call_by, insert_refusal, is_open, is_put_or_delete, mutate_refusal, write_refusal};
 ghost use Rattle.txn_core.specs.declared.txn_answer.TxnAnswer.TheVariants as answers;
 
-use crate::transaction::{Transaction, Turn, refused};
+use crate::transaction::{Transaction, Turn};
 use crate::txn_answer::TxnAnswer;
 use txn_buffer::Buffer;
 use txn_commit::PlanFor;
@@ -209,4 +209,10 @@ pub(super) fn done<Q>() -> Progress<TxnAnswer<Q>>
     ensures { turn_of (Ok result) ≡ Ends (Ok answers.Unit) }
 {
     Progress::Done(Ok(TxnAnswer::Unit))
+}
+
+pub(super) fn refused<Q>(error: Error) -> Progress<TxnAnswer<Q>>
+    ensures { turn_of (Ok result) ≡ Ends (Err error) }
+{
+    Progress::Done(Err(error))
 }

@@ -1,7 +1,7 @@
 //! Events: what becomes of requests and sleeps, and of the store and the clients.
 ghost use Rattle.std.specs.Prelude.{◌≡◌, ◌≤◌, ◌<◌, ◌^◌, [], IfOk, IfSome, OnOk, Some, length, true};
 ghost use Rattle.txn_post.specs.Mail.{IsSentAt, IsSleptAt};
-ghost use Rattle.txn_side.specs.Account.{AreKept};
+ghost use Rattle.txn_side.specs.Account.{AreClosed, AreKept};
 ghost use Rattle.txn_side.specs.Sight.{IsGiven, is_live};
 ghost use Rattle.txn_side.specs.Waiting.{HearsReply, WaitsOn};
 ghost use Rattle.txn_machine.specs.Lists.{Lists, handled, newest, outright, reply_at};
@@ -109,7 +109,7 @@ impl<S: ClientSide> Machine<S> {
         ensures tells { IfOk result (λ done. CanTell (lists_of S.sight self.old) done (lists_of S.sight self.new)) }
         ensures out { IfOk result (λ done. KeepOut (S.waits self.old.clients) (S.waits self.new.clients) (lists_of S.sight self.old) done (lists_of S.sight self.new)) }
         ensures ready { OnOk result (S.ready self.new.clients) }
-        ensures accounts { OnOk result (AreKept (S.account self.old.clients) (S.account self.new.clients)) }
+        ensures accounts { IfOk result (λ done. AreClosed (S.sight self.old.clients) done.turn.ended.items (S.account self.old.clients) (S.account self.new.clients)) }
     {
         let Some(place) = self.find_out(&ticket) else {
             return Ok(self.happened(false));
@@ -130,7 +130,7 @@ impl<S: ClientSide> Machine<S> {
         ensures tells { IfOk result (λ done. CanTell (lists_of S.sight self.old) done (lists_of S.sight self.new)) }
         ensures out { IfOk result (λ done. KeepOut (S.waits self.old.clients) (S.waits self.new.clients) (lists_of S.sight self.old) done (lists_of S.sight self.new)) }
         ensures ready { OnOk result (S.ready self.new.clients) }
-        ensures accounts { OnOk result (AreKept (S.account self.old.clients) (S.account self.new.clients)) }
+        ensures accounts { IfOk result (λ done. AreClosed (S.sight self.old.clients) done.turn.ended.items (S.account self.old.clients) (S.account self.new.clients)) }
     {
         let Some(place) = self.find_out(&ticket) else {
             return Ok(self.happened(false));
@@ -153,7 +153,7 @@ impl<S: ClientSide> Machine<S> {
         ensures tells { IfOk result (λ done. CanTell (lists_of S.sight self.old) done (lists_of S.sight self.new)) }
         ensures out { IfOk result (λ done. KeepOut (S.waits self.old.clients) (S.waits self.new.clients) (lists_of S.sight self.old) done (lists_of S.sight self.new)) }
         ensures ready { OnOk result (S.ready self.new.clients) }
-        ensures accounts { OnOk result (AreKept (S.account self.old.clients) (S.account self.new.clients)) }
+        ensures accounts { IfOk result (λ done. AreClosed (S.sight self.old.clients) done.turn.ended.items (S.account self.old.clients) (S.account self.new.clients)) }
     {
         let Some(place) = self.find_out(&ticket) else {
             return Ok(self.happened(false));
@@ -181,7 +181,7 @@ impl<S: ClientSide> Machine<S> {
         ensures waits { is_live (S.sight self.old.clients) ticket.line ≡ true → IfOk result (λ done. WaitsOn (HearsReply ticket) done.turn.posted.items (S.waits self.old.clients) (S.waits self.new.clients) (S.sight self.old.clients) (S.sight self.new.clients)) }
         ensures ready { OnOk result (S.ready self.new.clients) }
         ensures post { OnOk result (self.new.post ≡ self.old.post) }
-        ensures accounts { OnOk result (AreKept (S.account self.old.clients) (S.account self.new.clients)) }
+        ensures accounts { IfOk result (λ done. AreClosed (S.sight self.old.clients) done.turn.ended.items (S.account self.old.clients) (S.account self.new.clients)) }
     {
         let now = self.store.clock();
         let turn = self.clients.take_reply(ticket, reply, now)?;
@@ -198,7 +198,7 @@ impl<S: ClientSide> Machine<S> {
         ensures tells { IfOk result (λ done. CanTell (lists_of S.sight self.old) done (lists_of S.sight self.new)) }
         ensures out { IfOk result (λ done. KeepOut (S.waits self.old.clients) (S.waits self.new.clients) (lists_of S.sight self.old) done (lists_of S.sight self.new)) }
         ensures ready { OnOk result (S.ready self.new.clients) }
-        ensures accounts { OnOk result (AreKept (S.account self.old.clients) (S.account self.new.clients)) }
+        ensures accounts { IfOk result (λ done. AreClosed (S.sight self.old.clients) done.turn.ended.items (S.account self.old.clients) (S.account self.new.clients)) }
     {
         let Some(place) = self.find_out(&ticket) else {
             return Ok(self.happened(false));
@@ -220,7 +220,7 @@ impl<S: ClientSide> Machine<S> {
         ensures tells { IfOk result (λ done. CanTell (lists_of S.sight self.old) done (lists_of S.sight self.new)) }
         ensures out { IfOk result (λ done. KeepOut (S.waits self.old.clients) (S.waits self.new.clients) (lists_of S.sight self.old) done (lists_of S.sight self.new)) }
         ensures ready { OnOk result (S.ready self.new.clients) }
-        ensures accounts { OnOk result (AreKept (S.account self.old.clients) (S.account self.new.clients)) }
+        ensures accounts { IfOk result (λ done. AreClosed (S.sight self.old.clients) done.turn.ended.items (S.account self.old.clients) (S.account self.new.clients)) }
     {
         let Some(place) = self.find_asleep(&ticket) else {
             return Ok(self.happened(false));

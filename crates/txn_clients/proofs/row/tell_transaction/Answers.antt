@@ -1,3 +1,4 @@
+use Rattle.txn_clients.proofs.Accounting.{acted_account, acted_answers, heard_account}
 use Rattle.txn_clients.proofs.Going.{stand_acted, stand_heard, stand_unmoved}
 use Rattle.txn_clients.proofs.row.tell_transaction.Goals as goal
 
@@ -9,3 +10,12 @@ returns-in_ok-progress-in-Act-clause-goes g c d m = stand_acted _ c.args.told c.
 
 pub returns-in_ok-progress-in-Heard-clause-goes : goal.returns-in_ok-progress-in-Heard-clause-goes
 returns-in_ok-progress-in-Heard-clause-goes g c d m = stand_heard _ c.args.told c.in-Heard.arrival d m c.args.transaction.now c.hear.new.transaction c.args.out.now c.hear.new.out c.in_ok-progress-in-Heard.progress c.called-in-Heard.result c.in-Heard.is c.called-in-Heard.ensures c.in_ok-progress-in-Heard.ensures.goes
+
+pub returns-in_ok-progress-in-Act-clause-account : goal.returns-in_ok-progress-in-Act-clause-account
+returns-in_ok-progress-in-Act-clause-account g c = acted_account c.args.told c.in-Act.act c.args.transaction.now c.perform.new.transaction c.in_ok-progress-in-Act.progress c.called.result c.in-Act.is c.called.ensures c.in_ok-progress-in-Act.ensures.taken
+
+pub returns-in_ok-progress-in-Act-clause-answers : goal.returns-in_ok-progress-in-Act-clause-answers
+returns-in_ok-progress-in-Act-clause-answers g c = acted_answers c.args.told c.in-Act.act c.args.transaction.now c.perform.new.transaction c.in_ok-progress-in-Act.progress c.called.result c.in-Act.is c.called.ensures c.in_ok-progress-in-Act.ensures.taken
+
+pub returns-in_ok-progress-in-Heard-clause-account : goal.returns-in_ok-progress-in-Heard-clause-account
+returns-in_ok-progress-in-Heard-clause-account g c = heard_account c.args.told c.in-Heard.arrival c.args.transaction.now c.hear.new.transaction c.in_ok-progress-in-Heard.progress c.called-in-Heard.result c.in-Heard.is c.called-in-Heard.ensures c.in_ok-progress-in-Heard.ensures.heard

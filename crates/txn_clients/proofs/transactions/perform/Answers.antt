@@ -1,17 +1,15 @@
-use Rattle.txn_core.specs.Status.{allows_commit, allows_rollback, allows_data}
-use Rattle.txn_commit.specs.Following.{undetermined}
-use Rattle.txn_clients.proofs.Rows.{posts_commit, posts_rollback, told_call, told_write}
-use Rattle.std.proofs.Common.{◌∙◌, ap, is_none, is_some, refl}
+use Rattle.txn_core.specs.Status.{allows_commit, allows_data}
+use Rattle.txn_clients.proofs.Rows.{posts_commit, told_call, told_write}
+use Rattle.std.proofs.Common.{◌∙◌, ap, is_none, refl}
 use Rattle.txn_kv.specs.declared.errors.Error.TheVariants.{DuplicateKeyInsertion, OperationAfterCommitError, Unimplemented}
 use Rattle.txn_history.specs.Turn.{turn_of}
 use Rattle.txn_buffer.specs.Contents.{known_at, known_value, write_at}
-use Rattle.txn_commit.specs.Parts.{parts_of}
 use Rattle.txn_core.specs.Transaction.{insert_refusal, mutate_refusal, write_refusal}
 use Rattle.txn_side.specs.Account.{locked_all, mutated_all}
 use Rattle.txn_side.specs.declared.act.Act.TheVariants as acts
-use Rattle.txn_clients.proofs.Taking.{all_locked, all_mutated, as_act, insert_refused, mutate_refused, taken_commit, taken_rollback, taken_write, write_refused}
+use Rattle.txn_clients.proofs.Taking.{all_locked, all_mutated, as_act, insert_refused, mutate_refused, taken_commit, taken_write, write_refused}
 use Rattle.txn_buffer.specs.Writes.{after_delete, after_insert, after_put, delete_call, insert_call, put_call}
-use Rattle.txn_clients.proofs.Standing.{commits_goes, locked_steps, may_write, may_write_so, mutated_steps, rollbacks_goes, writes_goes, written_step}
+use Rattle.txn_clients.proofs.Standing.{commits_goes, locked_steps, may_write, may_write_so, mutated_steps, writes_goes, written_step}
 use Rattle.txn_clients.proofs.transactions.perform.Goals as goal
 
 pub returns-in-Put-clause-told : goal.returns-in-Put-clause-told
@@ -33,37 +31,29 @@ pub returns-in-Commit-clause-told : goal.returns-in-Commit-clause-told
 returns-in-Commit-clause-told g c = told_call _ c.commit.new.self c.args.out.now c.commit.new.out _ c.commit.ensures.ready c.commit.ensures.busy c.commit.ensures.job
     (posts_commit (allows_commit c.args.transaction.now.status) c.commit.ensures.refused c.commit.ensures.moves)
 
-pub returns-in-Rollback-clause-told : goal.returns-in-Rollback-clause-told
-returns-in-Rollback-clause-told g c = told_call _ c.rollback.new.self c.args.out.now c.rollback.new.out _ c.rollback.ensures.ready c.rollback.ensures.busy c.rollback.ensures.job
-    (posts_rollback (allows_rollback c.args.transaction.now.status) (undetermined c.args.transaction.now.commits) c.rollback.ensures.refused c.rollback.ensures.undetermined c.rollback.ensures.moves)
-
 pub returns-in-Put-clause-taken : goal.returns-in-Put-clause-taken
 returns-in-Put-clause-taken g c = as_act c.args.transaction.now c.put.new.self (turn_of c.put.result) (acts.Put c.in-Put.key c.in-Put.value) c.args.act c.in-Put.is
-    (taken_write (acts.Put c.in-Put.key c.in-Put.value) (write_refusal c.args.transaction.now.status) _ c.args.transaction.now c.put.new.self (turn_of c.put.result) refl (write_refused (allows_data c.args.transaction.now.status) OperationAfterCommitError) (λ a d h. h.contents) c.requires.quiet c.put.ensures.ends)
+    (taken_write (acts.Put c.in-Put.key c.in-Put.value) (write_refusal c.args.transaction.now.status) _ c.args.transaction.now c.put.new.self (turn_of c.put.result) refl (write_refused c.args.transaction.now.status OperationAfterCommitError) (λ a d h. h.contents) c.requires.quiet c.put.ensures.ends)
 
 pub returns-in-Insert-clause-taken : goal.returns-in-Insert-clause-taken
 returns-in-Insert-clause-taken g c = as_act c.args.transaction.now c.insert.new.self (turn_of c.insert.result) (acts.Insert c.in-Insert.key c.in-Insert.value) c.args.act c.in-Insert.is
-    (taken_write (acts.Insert c.in-Insert.key c.in-Insert.value) (insert_refusal c.args.transaction.now.status c.args.transaction.now.contents c.in-Insert.key) _ c.args.transaction.now c.insert.new.self (turn_of c.insert.result) refl (insert_refused (allows_data c.args.transaction.now.status) (is_none (known_value (known_at c.args.transaction.now.contents c.in-Insert.key))) OperationAfterCommitError DuplicateKeyInsertion) (λ a d h. h.contents) c.requires.quiet c.insert.ensures.ends)
+    (taken_write (acts.Insert c.in-Insert.key c.in-Insert.value) (insert_refusal c.args.transaction.now.status c.args.transaction.now.contents c.in-Insert.key) _ c.args.transaction.now c.insert.new.self (turn_of c.insert.result) refl (insert_refused c.args.transaction.now.status (is_none (known_value (known_at c.args.transaction.now.contents c.in-Insert.key))) OperationAfterCommitError DuplicateKeyInsertion) (λ a d h. h.contents) c.requires.quiet c.insert.ensures.ends)
 
 pub returns-in-Delete-clause-taken : goal.returns-in-Delete-clause-taken
 returns-in-Delete-clause-taken g c = as_act c.args.transaction.now c.delete.new.self (turn_of c.delete.result) (acts.Delete c.in-Delete.key) c.args.act c.in-Delete.is
-    (taken_write (acts.Delete c.in-Delete.key) (write_refusal c.args.transaction.now.status) _ c.args.transaction.now c.delete.new.self (turn_of c.delete.result) refl (write_refused (allows_data c.args.transaction.now.status) OperationAfterCommitError) (λ a d h. h.contents) c.requires.quiet c.delete.ensures.ends)
+    (taken_write (acts.Delete c.in-Delete.key) (write_refusal c.args.transaction.now.status) _ c.args.transaction.now c.delete.new.self (turn_of c.delete.result) refl (write_refused c.args.transaction.now.status OperationAfterCommitError) (λ a d h. h.contents) c.requires.quiet c.delete.ensures.ends)
 
 pub returns-in-Mutate-clause-taken : goal.returns-in-Mutate-clause-taken
 returns-in-Mutate-clause-taken g c = as_act c.args.transaction.now c.batch_mutate.new.self (turn_of c.batch_mutate.result) (acts.Mutate c.in-Mutate.mutations) c.args.act c.in-Mutate.is
-    (taken_write (acts.Mutate c.in-Mutate.mutations) (mutate_refusal c.args.transaction.now.status c.into_vec.result.items) _ c.args.transaction.now c.batch_mutate.new.self (turn_of c.batch_mutate.result) refl (ap (mutate_refusal c.args.transaction.now.status) c.into_vec.ensures ∙ mutate_refused (allows_data c.args.transaction.now.status) c.in-Mutate.mutations OperationAfterCommitError Unimplemented) (λ a d h. all_mutated c.into_vec.result.items a d h.contents ∙ ap (mutated_all a) c.into_vec.ensures) c.requires.quiet c.batch_mutate.ensures.ends)
+    (taken_write (acts.Mutate c.in-Mutate.mutations) (mutate_refusal c.args.transaction.now.status c.into_vec.result.items) _ c.args.transaction.now c.batch_mutate.new.self (turn_of c.batch_mutate.result) refl (ap (mutate_refusal c.args.transaction.now.status) c.into_vec.ensures ∙ mutate_refused c.args.transaction.now.status c.in-Mutate.mutations OperationAfterCommitError Unimplemented) (λ a d h. all_mutated c.into_vec.result.items a d h.contents ∙ ap (mutated_all a) c.into_vec.ensures) c.requires.quiet c.batch_mutate.ensures.ends)
 
 pub returns-in-Lock-clause-taken : goal.returns-in-Lock-clause-taken
 returns-in-Lock-clause-taken g c = as_act c.args.transaction.now c.lock_keys.new.self (turn_of c.lock_keys.result) (acts.Lock c.in-Lock.keys) c.args.act c.in-Lock.is
-    (taken_write (acts.Lock c.in-Lock.keys) (write_refusal c.args.transaction.now.status) _ c.args.transaction.now c.lock_keys.new.self (turn_of c.lock_keys.result) refl (write_refused (allows_data c.args.transaction.now.status) OperationAfterCommitError) (λ a d h. h.contents ∙ all_locked c.into_vec-in-Lock.result.items a ∙ ap (locked_all a) c.into_vec-in-Lock.ensures) c.requires.quiet c.lock_keys.ensures.ends)
+    (taken_write (acts.Lock c.in-Lock.keys) (write_refusal c.args.transaction.now.status) _ c.args.transaction.now c.lock_keys.new.self (turn_of c.lock_keys.result) refl (write_refused c.args.transaction.now.status OperationAfterCommitError) (λ a d h. h.contents ∙ all_locked c.into_vec-in-Lock.result.items a ∙ ap (locked_all a) c.into_vec-in-Lock.ensures) c.requires.quiet c.lock_keys.ensures.ends)
 
 pub returns-in-Commit-clause-taken : goal.returns-in-Commit-clause-taken
 returns-in-Commit-clause-taken g c = as_act c.args.transaction.now c.commit.new.self (turn_of c.commit.result) acts.Commit c.args.act c.in-Commit.is
-    (taken_commit c.args.transaction.now c.commit.new.self (turn_of c.commit.result) (is_some (parts_of c.args.transaction.now.contents)) c.requires.idle c.requires.quiet c.commit.ensures.refused c.commit.ensures.status c.commit.ensures.kept c.commit.ensures.gives_up)
-
-pub returns-in-Rollback-clause-taken : goal.returns-in-Rollback-clause-taken
-returns-in-Rollback-clause-taken g c = as_act c.args.transaction.now c.rollback.new.self (turn_of c.rollback.result) acts.Rollback c.args.act c.in-Rollback.is
-    (taken_rollback c.args.transaction.now c.rollback.new.self (turn_of c.rollback.result) c.requires.idle c.requires.quiet c.rollback.ensures.refused c.rollback.ensures.status c.rollback.ensures.kept c.rollback.ensures.gives_up)
+    (taken_commit c.args.transaction.now c.commit.new.self (turn_of c.commit.result) c.requires.idle c.requires.quiet c.commit.ensures.refused c.commit.ensures.status c.commit.ensures.kept c.commit.ensures.gives_up)
 
 pub returns-in-Put-clause-goes : goal.returns-in-Put-clause-goes
 returns-in-Put-clause-goes g c = writes_goes _ g.met.P.Plan.lawful g.met.Q.Plan.lawful g.met.K.Plan.lawful _ _ c.args.transaction.now c.put.new.self c.args.out.now c.put.new._out _ (λ e. may_write_so (allows_data c.args.transaction.now.status) OperationAfterCommitError e) (λ d f. written_step c.in-Put.key (λ d. after_put (write_at d c.in-Put.key) c.in-Put.value) (put_call c.in-Put.key c.in-Put.value) d f)
@@ -89,6 +79,5 @@ pub returns-in-Commit-clause-goes : goal.returns-in-Commit-clause-goes
 returns-in-Commit-clause-goes g c = commits_goes _ g.met.P.Plan.lawful g.met.Q.Plan.lawful g.met.K.Plan.lawful OperationAfterCommitError (allows_commit c.args.transaction.now.status) c.args.transaction.now c.commit.new.self c.args.out.now c.commit.new.out _
     c.commit.ensures.refused c.commit.ensures.moves (ap (λ t. t.contents) c.commit.ensures.kept) c.commit.ensures.opens c.commit.ensures.busy
 
-pub returns-in-Rollback-clause-goes : goal.returns-in-Rollback-clause-goes
-returns-in-Rollback-clause-goes g c = rollbacks_goes _ g.met.P.Plan.lawful g.met.Q.Plan.lawful g.met.K.Plan.lawful OperationAfterCommitError (allows_rollback c.args.transaction.now.status) (undetermined c.args.transaction.now.commits) c.args.transaction.now c.rollback.new.self c.args.out.now c.rollback.new.out _
-    c.rollback.ensures.refused c.rollback.ensures.undetermined c.rollback.ensures.moves (ap (λ t. t.contents) c.rollback.ensures.kept) c.rollback.ensures.opens c.rollback.ensures.busy c.requires.idle c.rollback.ensures.gives_up
+pub returns-in-Rollback-clause-taken : goal.returns-in-Rollback-clause-taken
+returns-in-Rollback-clause-taken g c = as_act c.args.transaction.now c.roll_back.new.transaction (turn_of c.roll_back.result) acts.Rollback c.args.act c.in-Rollback.is c.roll_back.ensures.taken

@@ -41,4 +41,4 @@ returns g c =
     let counted = c.loop-line.line-iterator.rest.ok.0 in
     let over = c.in-None.ensures.steps.0 in
     run_over g.S.ClientSide.sight g.S.ClientSide.ready g.S.ClientSide.waits c.loop-line.machine c.args.lines.items c.loop-line.line-iterator.rest.items c.report.result c.loop-line.invariant.runs (omega arith) c.report.ensures.folded c.report.ensures.noted c.report.ensures.told c.report.ensures.ends c.report.ensures.lives c.report.ensures.calls c.report.ensures.events c.report.ensures.times c.report.ensures.dues
-    (takes_over g.S.ClientSide.sight g.S.ClientSide.ready g.S.ClientSide.waits g.S.ClientSide.account c.loop-line.machine c.args.lines.items c.loop-line.line-iterator.rest.items c.report.result c.loop-line.invariant.takes (omega arith) c.report.ensures.writes)
+    (takes_over g.S.ClientSide.sight g.S.ClientSide.ready g.S.ClientSide.waits g.S.ClientSide.account c.loop-line.machine c.args.lines.items c.loop-line.line-iterator.rest.items c.report.result c.loop-line.invariant.takes (omega arith) c.report.ensures.accounts)

@@ -1,4 +1,4 @@
-use Rattle.std.proofs.Common.{◌∙◌, ap, refl, ◌-◌, sym}
+use Rattle.std.proofs.Common.{◌∙◌, [], ap, refl, ◌-◌, sym}
 use Rattle.txn_side.specs.Sight.{NoneGiven, line_count, with_stand}
 use Rattle.txn_side.specs.Sight.Stand.{Asking}
 use Rattle.txn_clients.specs.Clients.{rows_of, sight_of}
@@ -7,10 +7,9 @@ use Rattle.txn_clients.specs.Rows.{Tells}
 use Rattle.txn_clients.specs.declared.told.Told.TheVariants as tells
 use Rattle.txn_clients.proofs.Asking.{asked_listens_now, asked_sight, asking_ready, newest_idle, newest_is, turn_from}
 use Rattle.txn_clients.proofs.Naming.{named_so}
-use Rattle.txn_clients.specs.Accounts.{AccountsTold, account_at}
+use Rattle.txn_clients.specs.Accounts.{account_at}
 use Rattle.txn_clients.specs.declared.row.Row.TheVariants as row
-use Rattle.txn_clients.proofs.Accounting.{idle_line, kept_at, kept_then, started}
-use Rattle.txn_clients.proofs.Telling.{on_ok}
+use Rattle.txn_clients.proofs.Accounting.{idle_line, if_on_ok, kept_at, kept_then, started_goes}
 use Rattle.txn_clients.proofs.Beginning.{ask_steps}
 use Rattle.std.proofs.lemmas.Result.{IfOk-weaker}
 use Rattle.txn_clients.proofs.clients.Clients.ask.Goals as goal
@@ -38,12 +37,11 @@ returns-clause-accounts g c =
     let old = rows_of c.args.self.now in
     let mid = rows_of c.set_row.new.self in
     let new = rows_of c.step.new.self in
-    on_ok c.step.result
-    (λ (h : AccountsTold tells.Start (c.newest-line.result - 1) mid new).
-    kept_then (account_at old) (account_at mid) (account_at new)
+    if_on_ok c.step.result _
+    (λ turn h. kept_then (account_at old) (account_at mid) (account_at new)
     (kept_at old mid (c.newest-line.result - 1) (row.Asking c.args.client c.args.begins c.args.call) c.set_row.ensures.rows
     (sym (idle_line old c.newest-line.result (newest_is c.args.self.now c.newest-line.result c.requires.line c.newest-line.ensures) (newest_idle c.args.self.now c.newest-line.result c.newest-line.ensures (c.if-not-is_new.ensures refl)))))
-    (started (c.newest-line.result - 1) mid new h))
+    (started_goes c.newest-line.result (c.newest-line.result - 1) _ mid new [] turn.ended.items h))
     c.step.ensures.accounts
 
 pub returns-clause-steps : goal.returns-clause-steps

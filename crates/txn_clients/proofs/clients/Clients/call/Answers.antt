@@ -8,8 +8,7 @@ use Rattle.txn_clients.specs.Rows.{Tells}
 use Rattle.txn_clients.specs.declared.told.Told.TheVariants as tells
 use Rattle.txn_clients.proofs.Asking.{act_hears, called_listens_now, called_sight, calling_ready, newest_idle, newest_is, turn_from, called_stand}
 use Rattle.txn_clients.proofs.Naming.{named_so}
-use Rattle.txn_clients.specs.Accounts.{AccountsTold, EndsTold}
-use Rattle.txn_clients.proofs.Accounting.{both_if_ok, takes_in}
+use Rattle.txn_clients.proofs.Accounting.{takes_in}
 use Rattle.txn_clients.proofs.Beginning.{call_steps}
 use Rattle.std.proofs.lemmas.Result.{IfOk-weaker}
 use Rattle.txn_clients.proofs.clients.Clients.call.Goals as goal
@@ -48,10 +47,10 @@ returns-clause-takes g c =
     let is = newest_is c.args.self.now c.newest-line.result c.requires.line c.newest-line.ensures in
     let idle = newest_idle c.args.self.now c.newest-line.result c.newest-line.ensures (c.if-not-is_new.ensures refl) in
     let rows = c.set_row.ensures.rows ∙ ap (λ rs. set rs (c.newest-line.result - 1) (row.Calling c.args.client c.args.transaction c.is_commit.result)) c.set_waits.ensures.rows in
-    both_if_ok c.step.result _ _
-    (λ turn told ends. takes_in old mid c.newest-line.result c.args.transaction c.args.client c.is_commit.result is idle c.requires.transaction rows new c.args.act (line_count (sight_of c.args.self.now)) turn.ended.items c.newest-line.ensures c.is_commit.ensures told
-    (called_stand old mid c.newest-line.result c.args.transaction c.args.client c.is_commit.result is rows) ends)
-    c.step.ensures.accounts c.step.ensures.ends
+    IfOk-weaker c.step.result _ _
+    (λ turn told. takes_in old mid c.newest-line.result c.args.transaction c.args.client c.is_commit.result is idle c.requires.transaction rows new c.args.act (line_count (sight_of c.args.self.now)) turn.ended.items c.newest-line.ensures c.is_commit.ensures
+    (called_stand old mid c.newest-line.result c.args.transaction c.args.client c.is_commit.result is rows) told)
+    c.step.ensures.accounts
 
 pub returns-clause-steps : goal.returns-clause-steps
 returns-clause-steps g c = IfOk-weaker c.step.result _ _

@@ -1,10 +1,11 @@
 use Rattle.std.proofs.Common.{◌-◌, ◌∙◌, refl, sym, ap, subst}
 use Rattle.txn_clients.specs.Clients.{rows_of, stands_of}
+use Rattle.txn_clients.specs.Closing.{ends_so}
 use Rattle.txn_clients.specs.Going.{OfLine}
 use Rattle.txn_clients.specs.Rows.{IsStamped, stand_of}
 use Rattle.txn_clients.proofs.Naming.{names_one, names_quiet}
 use Rattle.txn_clients.proofs.Telling.{asked_advances, asked_ready, one_ends, stands_at}
-use Rattle.txn_clients.proofs.Accounting.{asked_kept}
+use Rattle.txn_clients.proofs.Accounting.{alone_so, asked_kept, ends_nothing}
 use Rattle.txn_clients.specs.Waiting.{AreRunning}
 use Rattle.txn_clients.specs.declared.row.Row.TheVariants as row
 use Rattle.txn_clients.proofs.Settling.{asked_goes, asking_row, quiet_goes, row_within, settled_runs}
@@ -59,3 +60,9 @@ pub returns-in_default-clause-runs : goal.returns-in_default-clause-runs
 returns-in_default-clause-runs g c d b e but =
     let r = asking_row c.row.result.now d b (ap stand_of c.row.ensures ∙ sym (stand_of_line (rows_of c.args.self.now) c.args.line c.requires.line.first) ∙ e) in
     absurd (c.in_default.not-Asking d b r.0 r.1)
+
+pub returns-in_ok-push-in-Asking-clause-ends : goal.returns-in_ok-push-in-Asking-clause-ends
+returns-in_ok-push-in-Asking-clause-ends g c = (ends_so c.args.line c.asked-ended.result.outcome, c.in_ok-push-in-Asking.ensures.items, alone_so c.args.line c.asked-ended.result.outcome)
+
+pub returns-in_default-clause-ends : goal.returns-in_default-clause-ends
+returns-in_default-clause-ends g c = ends_nothing c.args.line c.args.turn.now.ended.items

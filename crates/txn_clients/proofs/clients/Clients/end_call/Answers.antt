@@ -51,7 +51,7 @@ returns-in_default-clause-accounts g c n = refl
 
 pub returns-in_ok-push-in-Calling-clause-ends : goal.returns-in_ok-push-in-Calling-clause-ends
 returns-in_ok-push-in-Calling-clause-ends g c = ends_call c.args.line c.in-Calling.client c.in-Calling.transaction c.in-Calling.commits (stand_at (stands_of (rows_of c.args.self.now)) c.args.line) c.args.answer c.called-ended.result.outcome c.args.turn.now.ended.items c.push.new.self.items
-    (stands_at (rows_of c.args.self.now) c.args.line _ c.requires.line (sym c.row.ensures ∙ c.in-Calling.is)) c.in_ok-push-in-Calling.ensures.items c.called-ended.ensures.answers
+    (stands_at (rows_of c.args.self.now) c.args.line _ c.requires.line (sym c.row.ensures ∙ c.in-Calling.is)) c.in_ok-push-in-Calling.ensures.items c.called-ended.ensures.outcome
 
 pub returns-in_default-clause-ends : goal.returns-in_default-clause-ends
 returns-in_default-clause-ends g c = ends_other c.row.result.now c.args.line (stand_at (stands_of (rows_of c.args.self.now)) c.args.line) c.args.answer c.args.turn.now.ended.items c.args.turn.now.ended.items

@@ -1,4 +1,4 @@
-use Rattle.std.proofs.Common.{arith, ◌∙◌, inl, inr, refl, subst, sym, map}
+use Rattle.std.proofs.Common.{arith, ◌∙◌, ◌++◌, [], inl, inr, refl, subst, sym, map}
 use Rattle.std.proofs.lemmas.List.Elements.{All-tail}
 use Rattle.std.specs.List.{All}
 use Rattle.txn_history.specs.Among.{IsAmong}
@@ -8,8 +8,8 @@ use Rattle.txn_clients.specs.Clients.{rows_of, sight_of}
 use Rattle.txn_clients.specs.Going.{OfLine}
 use Rattle.txn_clients.specs.Groups.{IsTimeFor, IsTimed}
 use Rattle.txn_clients.specs.Rows.{Brings}
-use Rattle.txn_clients.proofs.Accounting.{kept_then}
-use Rattle.txn_clients.proofs.Advances.{advances_quiet, advances_then}
+use Rattle.txn_clients.proofs.Accounting.{closed_so, closes_then, nothing_closed}
+use Rattle.txn_clients.proofs.Advances.{advances_all, advances_quiet, advances_then}
 use Rattle.txn_clients.proofs.Naming.{names_quiet, names_then, names_weaker}
 use Rattle.txn_clients.proofs.Timestamps.{timed_by}
 use Rattle.txn_clients.specs.Waiting.{HearsAt, IsSound, GoesOn}
@@ -25,7 +25,7 @@ loop-asker-init g c = record {
   advances = advances_quiet c.args.turn.now (sight_of c.args.self.now) (sight_of c.args.self.now) refl;
   names = names_quiet (IsTimed c.args.given.items) c.args.turn.now c.args.turn.now refl;
   ready = c.requires.ready;
-  accounts = λ n. refl;
+  accounts = λ posted ended. closed_so (sight_of c.args.self.now) [] c.args.turn.now.ended.items (account_at (rows_of c.args.self.now)) (account_at (rows_of c.args.self.now)) ended (nothing_closed (sight_of c.args.self.now) (account_at (rows_of c.args.self.now)) (account_at (rows_of c.args.self.now)) (λ n. refl));
   crashed = refl;
   waits = λ sound. quiet_goes _ c.args.self.now c.args.self.now c.args.client _ c.args.turn.now.posted.items (subst (λ xs. IsSound (ways g.P.Plan.meaning g.Q.Plan.meaning g.K.Plan.meaning g.P.PlanFor.refuses g.Q.PlanFor.refuses g.K.PlanFor.refuses) (map (λ (a : Answer). a.0) xs) c.args.self.now) (sym c.into_iter-asker-iterator.ensures.into_iter_gives.0) sound) (λ n a x. x) (λ n. refl);
   runs = λ running. running;
@@ -42,7 +42,11 @@ loop-asker-preserved g c =
           (names_weaker (OfLine c.in-Some.asker.line (Brings (Time c.in-Some.asker.ask c.in-Some.answer))) (IsTimed c.args.given.items) c.loop-asker.turn c.tell.new.turn
           (λ n v q. timed_by c.args.given.items c.in-Some.asker c.in-Some.answer n v here q.0 q.1) c.in_ok-tell.ensures.names);
       ready = c.in_ok-tell.ensures.ready;
-      accounts = kept_then (account_at (rows_of c.args.self.now)) (account_at (rows_of c.loop-asker.self)) (account_at (rows_of c.tell.new.self)) c.loop-asker.invariant.accounts c.in_ok-tell.ensures.accounts;
+      accounts = λ posted ended.
+          let part = c.in_ok-tell.ensures.accounts in
+          closed_so (sight_of c.args.self.now) (c.loop-asker.turn.ended.items ++ part.more) c.tell.new.turn.ended.items (account_at (rows_of c.args.self.now)) (account_at (rows_of c.tell.new.self)) part.ended
+          (closes_then c.loop-asker.turn.posted.items c.loop-asker.turn.ended.items part.more (sight_of c.args.self.now) (sight_of c.loop-asker.self) (account_at (rows_of c.args.self.now)) (account_at (rows_of c.loop-asker.self)) (account_at (rows_of c.tell.new.self))
+          (advances_all c.args.turn.now c.loop-asker.turn (sight_of c.args.self.now) (sight_of c.loop-asker.self) posted ended c.loop-asker.invariant.advances) (c.loop-asker.invariant.accounts posted ended) part.closed);
       crashed = c.in_ok-tell.ensures.crashed ∙ c.loop-asker.invariant.crashed;
       waits = λ sound.
           let first = c.loop-asker.invariant.waits sound in

@@ -1,9 +1,9 @@
-use Rattle.std.proofs.Common.{◌≡◌}
+use Rattle.std.proofs.Common.{◌≡◌, []}
 use Rattle.std.specs.List.{All}
 use Rattle.txn_commit.specs.Committing.{ways}
 use Rattle.txn_history.specs.Among.{IsAmong}
 use Rattle.txn_tso.specs.Oracle.{Answer}
-use Rattle.txn_side.specs.Account.{AreKept}
+use Rattle.txn_side.specs.Account.{AreClosed}
 use Rattle.txn_clients.specs.Accounts.{account_at}
 use Rattle.txn_clients.specs.Clients.{AreReady, crashed_of, rows_of, sight_of}
 use Rattle.txn_clients.specs.Going.{Advances, NamesIn}
@@ -17,7 +17,7 @@ invariant-loop-asker g l = record {
   advances : Advances l.initial.turn l.turn (sight_of l.initial.self) (sight_of l.self);
   names : NamesIn (IsTimed l.fn.given.items) l.initial.turn l.turn;
   ready : AreReady (ways g.P.Plan.meaning g.Q.Plan.meaning g.K.Plan.meaning g.P.PlanFor.refuses g.Q.PlanFor.refuses g.K.PlanFor.refuses) (rows_of l.self);
-  accounts : AreKept (account_at (rows_of l.initial.self)) (account_at (rows_of l.self));
+  accounts : l.initial.turn.posted.items ≡ [] → l.initial.turn.ended.items ≡ [] → AreClosed (sight_of l.initial.self) l.turn.ended.items (account_at (rows_of l.initial.self)) (account_at (rows_of l.self));
   crashed : crashed_of l.self ≡ crashed_of l.initial.self;
   waits : IsSound (ways g.P.Plan.meaning g.Q.Plan.meaning g.K.Plan.meaning g.P.PlanFor.refuses g.Q.PlanFor.refuses g.K.PlanFor.refuses) (map (λ (a : Answer). a.0) l.fn.given.items) l.initial.self → GoesOn (ways g.P.Plan.meaning g.Q.Plan.meaning g.K.Plan.meaning g.P.PlanFor.refuses g.Q.PlanFor.refuses g.K.PlanFor.refuses) l.client (λ n a. ⊥) (map (λ (a : Answer). a.0) l.asker-iterator.rest.items) l.initial.turn.posted.items l.turn.posted.items l.initial.self l.self;
   runs : AreRunning (rows_of l.initial.self) → AreRunning (rows_of l.self);

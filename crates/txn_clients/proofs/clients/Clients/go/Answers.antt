@@ -1,4 +1,4 @@
-use Rattle.std.proofs.Common.{◌≡◌, subst, sym, ◌∙◌, ap, Some, refl}
+use Rattle.std.proofs.Common.{◌≡◌, subst, suc, sym, ◌∙◌, ap, Some, refl}
 use Rattle.std.specs.Prelude.{OnOk}
 use Rattle.txn_side.specs.Sight.{EndsAlone, NoneGiven, client_at, stand_at}
 use Rattle.txn_clients.specs.Clients.{HearsFor, row_at, rows_of, stands_of}
@@ -8,8 +8,9 @@ use Rattle.txn_clients.proofs.Listening.{may_end}
 use Rattle.txn_clients.proofs.Naming.{names_after, names_before, names_quiet, names_weaker}
 use Rattle.txn_clients.proofs.Telling.{ends_within, on_ok, some_at, some_so, always_ok}
 use Rattle.txn_side.specs.Account.{AreKept}
-use Rattle.txn_clients.specs.Accounts.{AnswersTold, EndsCall, EndsTold, account_at}
-use Rattle.txn_clients.proofs.Accounting.{ends_asked, ends_called, ends_none, kept_then, told_then}
+use Rattle.txn_clients.specs.Accounts.{AccountsTold, account_at}
+use Rattle.txn_clients.specs.Closing.{EndsCall, EndsOwn, HasComeTo}
+use Rattle.txn_clients.proofs.Accounting.{both_on_ok, closes_so, goes_asked, goes_called, goes_none, kept_then, row_same, told_then}
 use Rattle.txn_clients.specs.Waiting.{AreRunningBut, GoesOn, IsAnswerOf, IsHeard, IsNewAnswer, IsSound}
 use Rattle.txn_clients.proofs.Settling.{asked_at, called_at, goes_on}
 use Rattle.txn_clients.proofs.Voices.{hears_voice}
@@ -52,43 +53,40 @@ returns-in_ok-end_call-in-Some-Called-clause-names g c = on_ok c.start_job.resul
     same)
     c.start_job.ensures.ended
 
+pub returns-in-None-clause-accounts : goal.returns-in-None-clause-accounts
+returns-in-None-clause-accounts g c =
+    goes_none c.args.told c.args.line c.args.listener.at (stand_at (stands_of (rows_of c.args.self.now)) c.args.line) (rows_of c.args.self.now) (rows_of c.push.new.self) c.args.turn.now.ended.items c.push.new.turn.ended.items c.in_ok-push.field-0
+    c.in-None.is c.in_ok-push.ensures.accounts c.in_ok-push.ensures.answers (ap (λ v. v.items) c.in_ok-push.ensures.ended)
+
 pub returns-in-Some-Asked-clause-accounts : goal.returns-in-Some-Asked-clause-accounts
-returns-in-Some-Asked-clause-accounts g c = on_ok c.end_ask.result
-    (λ (k : AreKept (account_at (rows_of c.push.new.self)) (account_at (rows_of c.end_ask.new.self))).
-    told_then c.args.told c.args.listener.at (rows_of c.args.self.now) (rows_of c.push.new.self) (rows_of c.end_ask.new.self) c.in_ok-push.ensures.accounts k)
-    c.end_ask.ensures.accounts
+returns-in-Some-Asked-clause-accounts g c = both_on_ok c.end_ask.result
+    (λ (k : AreKept (account_at (rows_of c.push.new.self)) (account_at (rows_of c.end_ask.new.self))) ends.
+    goes_asked c.args.told c.args.line c.args.listener.at (stand_at (stands_of (rows_of c.args.self.now)) c.args.line) (rows_of c.args.self.now) (rows_of c.end_ask.new.self) c.args.turn.now.ended.items c.end_ask.new.turn.ended.items c.in_ok-push.field-0 c.in-Some-Asked.answer
+    (c.in-Some-Asked.is ∙ ap (λ x. Some x) c.in-Some-Asked.field-0-is)
+    (told_then c.args.told c.args.listener.at c.in_ok-push.field-0 (rows_of c.args.self.now) (rows_of c.push.new.self) (rows_of c.end_ask.new.self) c.in_ok-push.ensures.accounts k) c.in_ok-push.ensures.answers c.in_ok-push.ensures.kind
+    (subst (λ v. EndsOwn c.args.line v.items c.end_ask.new.turn.ended.items) c.in_ok-push.ensures.ended ends))
+    c.end_ask.ensures.accounts c.end_ask.ensures.ends
 
 pub returns-in_ok-end_call-in-Some-Called-clause-accounts : goal.returns-in_ok-end_call-in-Some-Called-clause-accounts
-returns-in_ok-end_call-in-Some-Called-clause-accounts g c = on_ok c.start_job.result
-    (λ (k : AreKept (account_at (rows_of c.end_call.new.self)) (account_at (rows_of c.start_job.new.self))).
-    told_then c.args.told c.args.listener.at (rows_of c.args.self.now) (rows_of c.push.new.self) (rows_of c.start_job.new.self) c.in_ok-push.ensures.accounts
-    (kept_then (account_at (rows_of c.push.new.self)) (account_at (rows_of c.end_call.new.self)) (account_at (rows_of c.start_job.new.self)) c.in_ok-end_call-in-Some-Called.ensures.accounts k))
-    c.start_job.ensures.accounts
-
-pub returns-in-None-clause-ends : goal.returns-in-None-clause-ends
-returns-in-None-clause-ends g c =
-    let row = row_at (rows_of c.args.self.now) c.args.listener.at in
-    ends_none c.args.told row c.args.line (stand_at (stands_of (rows_of c.args.self.now)) c.args.line) c.args.turn.now.ended.items c.push.new.turn.ended.items (subst (λ o. AnswersTold c.args.told row o) c.in-None.is c.in_ok-push.ensures.answers)
-
-pub returns-in-Some-Asked-clause-ends : goal.returns-in-Some-Asked-clause-ends
-returns-in-Some-Asked-clause-ends g c =
-    let row = row_at (rows_of c.args.self.now) c.args.listener.at in
-    always_ok c.end_ask.result
-    (ends_asked c.args.told row c.args.line (stand_at (stands_of (rows_of c.args.self.now)) c.args.line) c.args.turn.now.ended.items c.end_ask.new.turn.ended.items c.in-Some-Asked.answer
-    (subst (λ o. AnswersTold c.args.told row o) (c.in-Some-Asked.is ∙ ap (λ x. Some x) c.in-Some-Asked.field-0-is) c.in_ok-push.ensures.answers))
-
-pub returns-in_ok-end_call-in-Some-Called-clause-ends : goal.returns-in_ok-end_call-in-Some-Called-clause-ends
-returns-in_ok-end_call-in-Some-Called-clause-ends g c =
-    let row = row_at (rows_of c.args.self.now) c.args.listener.at in
-    let stand = stand_at (stands_of (rows_of c.args.self.now)) c.args.line in
-    on_ok c.start_job.result
-    (λ (same : c.start_job.new.turn.ended ≡ c.end_call.new.turn.ended).
-    ends_called c.args.told row c.args.line stand c.args.turn.now.ended.items c.start_job.new.turn.ended.items c.in-Some-Called.answer
-    (subst (λ o. AnswersTold c.args.told row o) (c.in-Some-Called.is ∙ ap (λ x. Some x) c.in-Some-Called.field-0-is) c.in_ok-push.ensures.answers)
+returns-in_ok-end_call-in-Some-Called-clause-accounts g c =
+    let old = rows_of c.args.self.now in
+    let mid = rows_of c.push.new.self in
+    let new = rows_of c.start_job.new.self in
+    let at = c.args.listener.at in
+    let stand = stand_at (stands_of old) c.args.line in
+    let some = c.in-Some-Called.is ∙ ap (λ x. Some x) c.in-Some-Called.field-0-is in
+    both_on_ok c.start_job.result
+    (λ (k : AreKept (account_at (rows_of c.end_call.new.self)) (account_at new)) (same : c.start_job.new.turn.ended ≡ c.end_call.new.turn.ended).
+    let kept = kept_then (account_at mid) (account_at (rows_of c.end_call.new.self)) (account_at new) c.in_ok-end_call-in-Some-Called.ensures.accounts k in
+    let told = told_then c.args.told at c.in_ok-push.field-0 old mid new c.in_ok-push.ensures.accounts kept in
+    let called = subst (λ o. AccountsTold c.args.told at o old new) some told in
+    goes_called c.args.told c.args.line at stand old new c.args.turn.now.ended.items c.start_job.new.turn.ended.items c.in_ok-push.field-0 c.in-Some-Called.answer some told c.in_ok-push.ensures.answers c.in_ok-push.ensures.kind
     (subst (λ v. EndsCall c.args.line stand c.in-Some-Called.answer c.args.turn.now.ended.items v.items) (sym same)
     (subst (λ v. EndsCall c.args.line stand c.in-Some-Called.answer v.items c.end_call.new.turn.ended.items) c.in_ok-push.ensures.ended
-    (subst (λ ss. EndsCall c.args.line (stand_at ss c.args.line) c.in-Some-Called.answer c.push.new.turn.ended.items c.end_call.new.turn.ended.items) c.in_ok-push.ensures.stands c.in_ok-end_call-in-Some-Called.ensures.ends))))
-    c.start_job.ensures.ended
+    (subst (λ ss. EndsCall c.args.line (stand_at ss c.args.line) c.in-Some-Called.answer c.push.new.turn.ended.items c.end_call.new.turn.ended.items) c.in_ok-push.ensures.stands c.in_ok-end_call-in-Some-Called.ensures.ends)))
+    (closes_so c.args.told stand c.in-Some-Called.answer (row_at old at) (row_at mid at) (account_at new (suc at)) (row_same old mid at c.in_ok-push.ensures.stands) (sym (kept (suc at))) called.own
+    (λ heard. subst (λ ss. HasComeTo (stand_at ss c.args.line) c.in-Some-Called.answer (row_at mid at)) c.in_ok-push.ensures.stands (c.in_ok-come_to-in-Some-Called.ensures (c.is_heard-heard.ensures ∙ heard)))))
+    c.start_job.ensures.accounts c.start_job.ensures.ended
 
 pub returns-in-None-clause-waits : goal.returns-in-None-clause-waits
 returns-in-None-clause-waits g c rest own sound =

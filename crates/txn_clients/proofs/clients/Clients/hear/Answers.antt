@@ -4,7 +4,8 @@ use Rattle.txn_clients.specs.Rows.{Brings}
 use Rattle.txn_clients.proofs.Asking.{goes_whole}
 use Rattle.txn_clients.proofs.Naming.{named_all}
 use Rattle.txn_clients.specs.Accounts.{account_at}
-use Rattle.txn_clients.proofs.Accounting.{kept_rows, kept_then}
+use Rattle.std.proofs.Common.{ap}
+use Rattle.txn_clients.proofs.Accounting.{closed_kept, closed_so, closes_first, kept_rows}
 use Rattle.txn_clients.proofs.Stepping.{whole_steps}
 use Rattle.std.specs.Prelude.{[]}
 use Rattle.txn_clients.proofs.Settling.{pends_none}
@@ -19,7 +20,14 @@ pub returns-clause-names : goal.returns-clause-names
 returns-clause-names g c = named_all (OfLine c.args.line (Brings c.args.arrival)) c.new-turn.result c.tell.new.turn c.send_group.new.turn c.new-turn.ensures.ended c.in_ok-tell.ensures.names c.in_ok-send_group.ensures.ended
 
 pub returns-clause-accounts : goal.returns-clause-accounts
-returns-clause-accounts g c = kept_then (account_at (rows_of c.args.self.now)) (account_at (rows_of c.tell.new.self)) (account_at (rows_of c.send_group.new.self)) c.in_ok-tell.ensures.accounts (kept_rows (rows_of c.tell.new.self) (rows_of c.send_group.new.self) c.in_ok-send_group.ensures.rows)
+returns-clause-accounts g c =
+    let s = sight_of c.args.self.now in
+    let old = account_at (rows_of c.args.self.now) in
+    let mid = account_at (rows_of c.tell.new.self) in
+    closed_so s c.tell.new.turn.ended.items c.send_group.new.turn.ended.items old (account_at (rows_of c.send_group.new.self)) (ap (λ v. v.items) c.in_ok-send_group.ensures.ended)
+    (closed_kept s c.tell.new.turn.ended.items old mid (account_at (rows_of c.send_group.new.self))
+    (closes_first s (rows_of c.args.self.now) (rows_of c.tell.new.self) c.new-turn.result.ended.items c.tell.new.turn.ended.items c.new-turn.ensures.ended c.in_ok-tell.ensures.accounts)
+    (kept_rows (rows_of c.tell.new.self) (rows_of c.send_group.new.self) c.in_ok-send_group.ensures.rows))
 
 pub returns-clause-steps : goal.returns-clause-steps
 returns-clause-steps g c live own ready =

@@ -3,7 +3,8 @@ use Rattle.txn_clients.specs.Clients.{sight_of, rows_of}
 use Rattle.txn_clients.proofs.Asking.{goes_whole}
 use Rattle.txn_clients.proofs.Naming.{named_all}
 use Rattle.txn_clients.specs.Accounts.{account_at}
-use Rattle.txn_clients.proofs.Accounting.{kept_rows, kept_then}
+use Rattle.std.proofs.Common.{ap}
+use Rattle.txn_clients.proofs.Accounting.{closed_kept, closed_so, kept_rows}
 use Rattle.txn_clients.proofs.Stepping.{group_steps, groups_beside}
 use Rattle.std.specs.Prelude.{[]}
 use Rattle.txn_clients.proofs.clients.Clients.miss_group.Goals as goal
@@ -17,7 +18,13 @@ pub returns-clause-given : goal.returns-clause-given
 returns-clause-given g c = named_all NoneGiven c.new-turn.result c.lose_group.new.turn c.send_group.new.turn c.new-turn.ensures.ended c.in_ok-lose_group.ensures.names c.in_ok-send_group.ensures.ended
 
 pub returns-clause-accounts : goal.returns-clause-accounts
-returns-clause-accounts g c = kept_then (account_at (rows_of c.args.self.now)) (account_at (rows_of c.lose_group.new.self)) (account_at (rows_of c.send_group.new.self)) c.in_ok-lose_group.ensures.accounts (kept_rows (rows_of c.lose_group.new.self) (rows_of c.send_group.new.self) c.in_ok-send_group.ensures.rows)
+returns-clause-accounts g c =
+    let s = sight_of c.args.self.now in
+    let old = account_at (rows_of c.args.self.now) in
+    let mid = account_at (rows_of c.lose_group.new.self) in
+    closed_so s c.lose_group.new.turn.ended.items c.send_group.new.turn.ended.items old (account_at (rows_of c.send_group.new.self)) (ap (λ v. v.items) c.in_ok-send_group.ensures.ended)
+    (closed_kept s c.lose_group.new.turn.ended.items old mid (account_at (rows_of c.send_group.new.self)) (c.in_ok-lose_group.ensures.accounts c.new-turn.ensures.posted c.new-turn.ensures.ended)
+    (kept_rows (rows_of c.lose_group.new.self) (rows_of c.send_group.new.self) c.in_ok-send_group.ensures.rows))
 
 pub returns-clause-steps : goal.returns-clause-steps
 returns-clause-steps g c ready =

@@ -8,7 +8,7 @@ use Rattle.txn_history.specs.Posted.{Posted}
 use Rattle.txn_clients.proofs.clients.Clients.push.Goals as goal
 
 pub returns-clause-accounts : goal.returns-clause-accounts
-returns-clause-accounts g c = told_rows c.args.told c.args.listener.at (rows_of c.args.self.now) (rows_of c.tell_row.new.self) (rows_of c.set_next_ask.new.self) (c.set_next_ask.ensures.rows ∙ c.in_ok-hand_out.ensures.rows) c.in_ok-answer.ensures.accounts
+returns-clause-accounts g c = told_rows c.args.told c.args.listener.at c.in_ok-answer.answer (rows_of c.args.self.now) (rows_of c.tell_row.new.self) (rows_of c.set_next_ask.new.self) (c.set_next_ask.ensures.rows ∙ c.in_ok-hand_out.ensures.rows) c.in_ok-answer.ensures.accounts
 
 pub returns-clause-waits : goal.returns-clause-waits
 returns-clause-waits g c rest heard sound =

@@ -7,7 +7,7 @@ use Rattle.txn_clients.proofs.Settling.{goes_weaker, job_heard, job_runs, quiet_
 use Rattle.txn_clients.proofs.clients.Clients.start_job.Goals as goal
 
 pub returns-clause-accounts : goal.returns-clause-accounts
-returns-clause-accounts g c = started (c.args.line - 1) (rows_of c.args.self.now) (rows_of c.push.new.self) c.in_ok-push.ensures.accounts
+returns-clause-accounts g c = started (c.args.line - 1) c.in_ok-push.field-0 (rows_of c.args.self.now) (rows_of c.push.new.self) c.in_ok-push.ensures.accounts
 
 pub returns-then-not-has_job-clause-waits : goal.returns-then-not-has_job-clause-waits
 returns-then-not-has_job-clause-waits g c rest own sound = quiet_goes _ c.args.self.now c.args.self.now c.args.client rest c.args.turn.now.posted.items sound (λ n a x. x) (λ n. refl)

@@ -1,12 +1,11 @@
-use Rattle.txn_clients.specs.Clients.{sight_of, row_at, rows_of, stands_of}
+use Rattle.txn_clients.specs.Clients.{sight_of, rows_of, stands_of}
 use Rattle.txn_clients.specs.Going.{OfLine}
 use Rattle.txn_clients.specs.Rows.{Tells}
 use Rattle.txn_clients.proofs.Asking.{goes_whole}
 use Rattle.txn_clients.proofs.Naming.{named_all}
 use Rattle.std.proofs.Common.{[], subst, sym}
 use Rattle.txn_side.specs.Sight.{stand_at}
-use Rattle.txn_clients.specs.Accounts.{EndsTold}
-use Rattle.txn_clients.proofs.Accounting.{told_rows}
+use Rattle.txn_clients.specs.Closing.{GoesTold}
 use Rattle.txn_clients.proofs.Stepping.{whole_steps}
 use Rattle.std.specs.Prelude.{[]}
 use Rattle.txn_clients.proofs.clients.Clients.step.Goals as goal
@@ -20,14 +19,12 @@ pub returns-clause-names : goal.returns-clause-names
 returns-clause-names g c = named_all (OfLine c.args.line (Tells c.args.told)) c.new-turn.result c.go.new.turn c.send_group.new.turn c.new-turn.ensures.ended c.in_ok-go.ensures.names c.in_ok-send_group.ensures.ended
 
 pub returns-clause-accounts : goal.returns-clause-accounts
-returns-clause-accounts g c = told_rows c.args.told c.args.listener.at (rows_of c.args.self.now) (rows_of c.go.new.self) (rows_of c.send_group.new.self) c.in_ok-send_group.ensures.rows c.in_ok-go.ensures.accounts
-
-pub returns-clause-ends : goal.returns-clause-ends
-returns-clause-ends g c =
-    let row = row_at (rows_of c.args.self.now) c.args.listener.at in
-    let stand = stand_at (stands_of (rows_of c.args.self.now)) c.args.line in
-    subst (λ v. EndsTold c.args.told row c.args.line stand [] v.items) (sym c.in_ok-send_group.ensures.ended)
-    (subst (λ es. EndsTold c.args.told row c.args.line stand es c.go.new.turn.ended.items) c.new-turn.ensures.ended c.in_ok-go.ensures.ends)
+returns-clause-accounts g c =
+    let old = rows_of c.args.self.now in
+    let stand = stand_at (stands_of old) c.args.line in
+    subst (λ v. GoesTold c.args.told c.args.line c.args.listener.at stand old (rows_of c.send_group.new.self) [] v.items) (sym c.in_ok-send_group.ensures.ended)
+    (subst (λ rs. GoesTold c.args.told c.args.line c.args.listener.at stand old rs [] c.go.new.turn.ended.items) (sym c.in_ok-send_group.ensures.rows)
+    (subst (λ es. GoesTold c.args.told c.args.line c.args.listener.at stand old (rows_of c.go.new.self) es c.go.new.turn.ended.items) c.new-turn.ensures.ended c.in_ok-go.ensures.accounts))
 
 pub returns-clause-steps : goal.returns-clause-steps
 returns-clause-steps g c own sound quiet but prepared =

@@ -6,9 +6,7 @@ use Rattle.txn_clients.specs.Groups.{IsTimed}
 use Rattle.txn_clients.proofs.Advances.{advances_left, advances_then}
 use Rattle.txn_clients.proofs.Naming.{names_weaker}
 use Rattle.txn_clients.proofs.Telling.{on_ok}
-use Rattle.txn_side.specs.Account.{AreKept}
-use Rattle.txn_clients.specs.Accounts.{account_at}
-use Rattle.txn_clients.proofs.Accounting.{kept_rows, kept_then}
+use Rattle.txn_clients.proofs.Accounting.{closed_rows}
 use Rattle.txn_clients.proofs.Grouping.{take_sound}
 use Rattle.txn_clients.proofs.Stepping.{group_ends}
 use Rattle.txn_clients.specs.Waiting.{AreRunning}
@@ -33,8 +31,7 @@ returns-clause-names g c = on_ok c.give.result
 
 pub returns-clause-accounts : goal.returns-clause-accounts
 returns-clause-accounts g c = on_ok c.give.result
-    (λ (k : AreKept (account_at (rows_of c.take_times.new.self)) (account_at (rows_of c.give.new.self))).
-    kept_then (account_at (rows_of c.args.self.now)) (account_at (rows_of c.take_times.new.self)) (account_at (rows_of c.give.new.self)) (kept_rows (rows_of c.args.self.now) (rows_of c.take_times.new.self) c.in_ok-given.ensures.rows) k)
+    (λ k posted ended. closed_rows (sight_of c.args.self.now) (sight_of c.take_times.new.self) (rows_of c.args.self.now) (rows_of c.take_times.new.self) (rows_of c.give.new.self) c.give.new.turn.ended.items (ap stands_of c.in_ok-given.ensures.rows) c.in_ok-given.ensures.rows (k posted ended))
     c.give.ensures.accounts
 
 pub returns-clause-waits : goal.returns-clause-waits

@@ -4,9 +4,8 @@ use Rattle.txn_clients.specs.Going.{OfLine}
 use Rattle.txn_clients.specs.Rows.{Brings}
 use Rattle.txn_clients.proofs.Listening.{heard_there}
 use Rattle.txn_clients.proofs.Naming.{names_quiet}
-use Rattle.txn_clients.specs.Accounts.{AccountsTold}
 use Rattle.txn_clients.specs.declared.told.Told.TheVariants.{Heard}
-use Rattle.txn_clients.proofs.Accounting.{heard}
+use Rattle.txn_clients.proofs.Accounting.{closes_nothing, heard_closes}
 use Rattle.txn_clients.proofs.Telling.{on_ok, live_line}
 use Rattle.txn_clients.specs.Waiting.{AreRunning, GoesOn, HearsAt}
 use Rattle.txn_clients.proofs.Settling.{client_same, unheard_goes}
@@ -23,11 +22,11 @@ returns-in-None-clause-names g c = names_quiet (OfLine c.args.line (Brings c.arg
 
 pub returns-in-Some-clause-accounts : goal.returns-in-Some-clause-accounts
 returns-in-Some-clause-accounts g c = on_ok c.go.result
-    (λ (h : AccountsTold (Heard c.args.arrival) c.in-Some.listener.at (rows_of c.args.self.now) (rows_of c.go.new.self)). heard c.args.arrival c.in-Some.listener.at (rows_of c.args.self.now) (rows_of c.go.new.self) h)
+    (λ h. heard_closes (sight_of c.args.self.now) c.args.arrival c.args.line c.in-Some.listener.at (rows_of c.args.self.now) (rows_of c.go.new.self) c.args.turn.now.ended.items c.go.new.turn.ended.items refl c.requires.ready.matched c.in-Some.ensures.listens.own.first c.in-Some.ensures.listens.hears h)
     c.go.ensures.accounts
 
 pub returns-in-None-clause-accounts : goal.returns-in-None-clause-accounts
-returns-in-None-clause-accounts g c n = refl
+returns-in-None-clause-accounts g c = closes_nothing (sight_of c.args.self.now) (rows_of c.args.self.now) c.args.turn.now.ended.items
 
 pub returns-in-None-clause-waits : goal.returns-in-None-clause-waits
 returns-in-None-clause-waits g c client rest live own sound =

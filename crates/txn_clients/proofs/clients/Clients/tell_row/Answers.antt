@@ -5,7 +5,6 @@ use Rattle.txn_clients.proofs.Places.{both_ok, crashed_kept}
 use Rattle.txn_clients.proofs.Sending.{groups_kept}
 use Rattle.txn_clients.proofs.Telling.{always_ok, if_answered, on_ok, put_nexts, put_ready, put_row, put_stands, place_row}
 use Rattle.std.proofs.lemmas.Result.{IfOk-weaker}
-use Rattle.txn_clients.specs.Accounts.{account_in, after_told}
 use Rattle.txn_clients.proofs.Accounting.{put_accounts, put_answers}
 use Rattle.txn_clients.proofs.Pushing.{if_ok_with, row_told}
 use Rattle.txn_clients.specs.Waiting.{IsAnswerOf}
@@ -41,8 +40,8 @@ returns-clause-rests g c = if_answered c.tell.result
     c.tell.ensures.rests
 
 pub returns-clause-accounts : goal.returns-clause-accounts
-returns-clause-accounts g c = on_ok c.tell.result
-    (λ (same : account_in c.tell.new.self ≡ after_told c.args.told c.index_mut-2.result.now.row). put_accounts c.args.self.now c.args.listener.at c.index_mut-2.result.now (record c.index_mut-2.result.now { row = c.tell.new.self }) c.args.told c.requires.place c.index_mut-2.ensures.value same)
+returns-clause-accounts g c = IfOk-weaker c.tell.result _ _
+    (λ answer h. put_accounts c.args.self.now c.args.listener.at c.index_mut-2.result.now (record c.index_mut-2.result.now { row = c.tell.new.self }) c.args.told answer c.requires.place c.index_mut-2.ensures.value h)
     c.tell.ensures.account
 
 pub returns-clause-answers : goal.returns-clause-answers

@@ -2,7 +2,7 @@ use Rattle.std.proofs.Common.{refl}
 use Rattle.txn_machine.specs.Running.{lists_of}
 use Rattle.txn_machine.proofs.Noting.{standing_notes}
 use Rattle.txn_machine.proofs.Standings.{report_calls, report_ends, report_dues, report_events, report_lives, report_tells, report_times}
-use Rattle.txn_machine.proofs.Takings.{report_writes}
+use Rattle.txn_machine.proofs.Takings.{report_accounts}
 use Rattle.txn_machine.proofs.machine.Machine.report.Goals as goal
 
 pub returns-clause-told : goal.returns-clause-told
@@ -43,5 +43,5 @@ returns-clause-dues g c lines s =
     let h = s.stands c.requires in
     report_dues (lists_of g.S.ClientSide.sight c.args.self) _ lines (record { outcomes = c.from_vec.ensures; ended = c.from_vec-2.ensures; sent = c.into_notes-sent.ensures.sent; sleeps = c.into_notes-sent.ensures.sleeps; served = c.from_vec-3.ensures; store = refl }) h.due.dues
 
-pub returns-clause-writes : goal.returns-clause-writes
-returns-clause-writes g c lines taken = report_writes g.S.ClientSide.account c.args.self _ _ lines c.from_vec.ensures c.from_vec-2.ensures c.requires taken
+pub returns-clause-accounts : goal.returns-clause-accounts
+returns-clause-accounts g c lines taken = report_accounts g.S.ClientSide.account c.args.self _ _ lines c.from_vec.ensures c.from_vec-2.ensures c.requires taken

@@ -2,7 +2,6 @@ use Rattle.std.proofs.Common.{sym, ap}
 use Rattle.txn_machine.specs.Running.{lists_of}
 use Rattle.txn_machine.proofs.Standings.{opened_ordered, opened_some, stays_through, step_lists}
 use Rattle.txn_machine.proofs.Telling.{note_is}
-use Rattle.txn_machine.specs.Writes.{ask_of}
 use Rattle.txn_machine.proofs.Credits.{credited_step}
 use Rattle.txn_machine.proofs.machine.Machine.try_step.Goals as goal
 
@@ -22,4 +21,4 @@ pub returns-clause-out : goal.returns-clause-out
 returns-clause-out g c = stays_through (g.S.ClientSide.waits c.args.self.now.clients) _ _ _ (lists_of g.S.ClientSide.sight c.args.self.now) _ _ _ c.in_ok-open.ensures.out c.in_ok-done.ensures.out.stays c.in_ok-note.ensures.lists (ap (λ s. g.S.ClientSide.waits s) (sym c.in_ok-note.ensures.clients))
 
 pub returns-clause-credited : goal.returns-clause-credited
-returns-clause-credited g c = credited_step g.S.ClientSide.account (lists_of g.S.ClientSide.sight c.args.self.now) _ _ _ c.in_ok-done.done (ask_of c.args.line) c.args.self.now.clients _ _ _ c.in_ok-open.ensures.lists c.in_ok-note.ensures.lists c.requires.ordered c.in_ok-done.ensures.tells c.in_ok-open.ensures.accounts c.in_ok-done.ensures.credits c.in_ok-note.ensures.clients
+returns-clause-credited g c = credited_step g.S.ClientSide.account c.args.line (lists_of g.S.ClientSide.sight c.args.self.now) _ _ _ c.in_ok-done.done c.args.self.now.clients _ _ _ c.in_ok-open.ensures.lists c.in_ok-note.ensures.lists c.requires.ordered c.requires.past c.in_ok-done.ensures.tells c.in_ok-open.ensures.accounts c.in_ok-done.ensures.credits c.in_ok-note.ensures.clients

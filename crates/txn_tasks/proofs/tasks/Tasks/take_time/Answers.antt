@@ -2,7 +2,6 @@ use Rattle.std.proofs.Common.{◌≡◌, ◌<◌, length, set, arith, ap, sym, s
 use Rattle.std.specs.Prelude.{Some, drop, is_err}
 use Rattle.std.proofs.Common.{false}
 use Rattle.std.proofs.lemmas.Bool.{false≢true}
-use Rattle.std.specs.Result.{result_ok}
 use Rattle.std.specs.Vec.{with_item}
 use Rattle.std.proofs.lemmas.List.{get_or-set_same, length-set}
 use Rattle.std.proofs.lemmas.List.Elements.{All-get_or}
@@ -80,7 +79,7 @@ returns-clause-tells g c whole first =
       costs = g.met.T.Task.costs;
       cut_again = g.met.T.Task.cut_again;
     } in
-    let k : Taking g.T.Task.meaning g.T.Task.load g.T.Task.AreCut g.T.Task.IsOf g.T.Task.runs (timed (ticket_of c.args.out.now c.args.ask) (result_ok c.args.answer)) (g.T.Task.meaning.waits c.index_mut.result.now (TimeOf c.args.ask)) (is_err c.args.answer) false 0 0 old via at c.index_mut.result.now is c.args.out.now c.take_time-step.new.out c.args.pd.now c.take_time-step.new.pd c.take_time-step.result = record {
+    let k : Taking g.T.Task.meaning g.T.Task.load g.T.Task.AreCut g.T.Task.IsOf g.T.Task.runs (timed (ticket_of c.args.out.now c.args.ask) c.args.answer) (g.T.Task.meaning.waits c.index_mut.result.now (TimeOf c.args.ask)) (is_err c.args.answer) false 0 0 old via at c.index_mut.result.now is c.args.out.now c.take_time-step.new.out c.args.pd.now c.take_time-step.new.pd c.take_time-step.result = record {
       running = finds.0;
       led = λ a e. subst (λ x. route old.routes x ≡ Some at) (sym e) finds.1;
       taken = finds.3;
@@ -119,7 +118,7 @@ returns-clause-counts g c whole first =
       costs = g.met.T.Task.costs;
       cut_again = g.met.T.Task.cut_again;
     } in
-    let k : Taking g.T.Task.meaning g.T.Task.load g.T.Task.AreCut g.T.Task.IsOf g.T.Task.runs (timed (ticket_of c.args.out.now c.args.ask) (result_ok c.args.answer)) (g.T.Task.meaning.waits c.index_mut.result.now (TimeOf c.args.ask)) (is_err c.args.answer) false 0 0 old via at c.index_mut.result.now is c.args.out.now c.take_time-step.new.out c.args.pd.now c.take_time-step.new.pd c.take_time-step.result = record {
+    let k : Taking g.T.Task.meaning g.T.Task.load g.T.Task.AreCut g.T.Task.IsOf g.T.Task.runs (timed (ticket_of c.args.out.now c.args.ask) c.args.answer) (g.T.Task.meaning.waits c.index_mut.result.now (TimeOf c.args.ask)) (is_err c.args.answer) false 0 0 old via at c.index_mut.result.now is c.args.out.now c.take_time-step.new.out c.args.pd.now c.take_time-step.new.pd c.take_time-step.result = record {
       running = finds.0;
       led = λ a e. subst (λ x. route old.routes x ≡ Some at) (sym e) finds.1;
       taken = finds.3;

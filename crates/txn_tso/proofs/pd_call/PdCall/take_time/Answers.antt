@@ -1,6 +1,5 @@
 use Rattle.std.proofs.Common.{◌∷◌, refl, ap, arith}
 use Rattle.std.specs.Prelude.{is_err}
-use Rattle.std.specs.Result.{result_ok}
 use Rattle.txn_history.proofs.Counting.{Spends-failed}
 use Rattle.txn_history.specs.Event.Event.{Answered}
 use Rattle.txn_history.specs.Moves.{Moves-stopped}
@@ -26,7 +25,7 @@ returns-then-has_given_up-clause-heeds c = gone_heeds (hears_answer c.args.self.
 
 pub returns-clause-moves : goal.returns-clause-moves
 returns-clause-moves c = stood_moves
-    c.args.self.now c.args.out.now (λ h. Answered (ticket_of c.args.out.now c.args.ask) (result_ok c.args.answer) ∷ h)
+    c.args.self.now c.args.out.now (λ h. Answered (ticket_of c.args.out.now c.args.ask) c.args.answer ∷ h)
     (on_answer c.args.self.now.stage c.args.ask c.args.answer c.args.now (standing c.args.self.now c.args.client.now c.args.out.now))
     (turn_of c.hear_answer.result)
     (standing c.hear_answer.new.self c.hear_answer.new.client c.hear_answer.new.out)

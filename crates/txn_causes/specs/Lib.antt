@@ -1,0 +1,5 @@
+pub mod Carried
+pub mod Causes
+pub mod Heard
+pub mod Kinds
+pub mod Making

@@ -1,0 +1,17 @@
+//! What causes come to, as contracts of functions that do nothing.
+ghost use Rattle.std.specs.Prelude.{List};
+ghost use Rattle.txn_causes.specs.Causes.{HasCause, IsStarved};
+ghost use Rattle.txn_causes.specs.Heard.{heard_in};
+ghost use Rattle.txn_history.specs.Event.{Event};
+ghost use Rattle.txn_history.specs.Posted.{Within};
+ghost use Rattle.txn_kv.specs.ErrorView.{ErrorView};
+
+/// An error that has its cause in a history has it in each longer one.
+pub fn causes_stay()
+    ensures { (h longer : List Event) (error : ErrorView) → Within h longer → HasCause (heard_in h) error → HasCause (heard_in longer) error }
+{}
+
+/// Where nothing was heard, and the client had a place for each request, an error is want of memory.
+pub fn nothing_causes_nothing()
+    ensures { (error : ErrorView) → HasCause (λ heard. ⊥) error → IsStarved error }
+{}

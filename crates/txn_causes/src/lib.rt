@@ -1,0 +1,11 @@
+//! What an error of a commit or a rollback has its cause in: definitions, and what they come to.
+//!
+//! `Heard` says what an error may rest on: a reply that was taken, a request that was lost. `HasCause` goes through an error by its
+//! view, with one row for each kind: an error of a region or of a key stands in a taken reply, a lost request is named by its
+//! ticket, an error that holds others has their causes. What was heard is a parameter, so that a history (`heard_in`) and
+//! whatever else tells of replies and losses can be cited alike.
+#![tactic(auto)]
+
+mod laws;
+
+pub use laws::{causes_stay, nothing_causes_nothing};

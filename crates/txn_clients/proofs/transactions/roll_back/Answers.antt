@@ -1,0 +1,22 @@
+use Rattle.std.proofs.Common.{◌≡◌, ◌∙◌, ap, refl, sym, true}
+use Rattle.std.specs.Prelude.{Ok}
+use Rattle.txn_commit.specs.Following.{undetermined}
+use Rattle.txn_core.specs.Status.{allows_rollback}
+use Rattle.txn_history.specs.Turn.{turn_of}
+use Rattle.txn_kv.specs.declared.errors.Error.TheVariants.{OperationAfterCommitError}
+use Rattle.txn_clients.proofs.Rows.{posts_rollback, told_call}
+use Rattle.txn_clients.proofs.Standing.{rollbacks_goes}
+use Rattle.txn_clients.proofs.Taking.{taken_rollback}
+use Rattle.txn_clients.proofs.transactions.roll_back.Goals as goal
+
+pub returns-clause-told : goal.returns-clause-told
+returns-clause-told g c = told_call _ c.rollback.new.self c.args.out.now c.rollback.new.out _ c.in_ok-progress.ensures.ready c.in_ok-progress.ensures.busy c.in_ok-progress.ensures.job
+    (posts_rollback (allows_rollback c.args.transaction.now.status) (undetermined c.args.transaction.now.commits) c.in_ok-progress.ensures.refused c.in_ok-progress.ensures.undetermined c.in_ok-progress.ensures.moves)
+
+pub returns-clause-taken : goal.returns-clause-taken
+returns-clause-taken g c = taken_rollback c.args.transaction.now c.rollback.new.self (turn_of (Ok c.in_ok-progress.progress)) c.requires.idle c.requires.quiet c.in_ok-progress.ensures.refused c.in_ok-progress.ensures.undetermined c.in_ok-progress.ensures.status c.in_ok-progress.ensures.kept c.in_ok-progress.ensures.gives_up
+    (λ says. sym c.status.ensures ∙ c.if-not-fits_status.ensures refl says ∙ c.status-before.ensures)
+
+pub returns-clause-goes : goal.returns-clause-goes
+returns-clause-goes g c = rollbacks_goes _ g.met.P.Plan.lawful g.met.Q.Plan.lawful g.met.K.Plan.lawful OperationAfterCommitError (allows_rollback c.args.transaction.now.status) (undetermined c.args.transaction.now.commits) c.args.transaction.now c.rollback.new.self c.args.out.now c.rollback.new.out _
+    c.in_ok-progress.ensures.refused c.in_ok-progress.ensures.undetermined c.in_ok-progress.ensures.moves (ap (λ t. t.contents) c.in_ok-progress.ensures.kept) c.in_ok-progress.ensures.opens c.in_ok-progress.ensures.busy c.requires.idle c.in_ok-progress.ensures.gives_up

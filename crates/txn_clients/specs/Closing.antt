@@ -1,0 +1,81 @@
+-- How calls end, and how far their transactions come by that.
+use Rattle.std.specs.Prelude.{◌≡◌, ⊤, ℕ, Bool, true, false, List, [], ◌∷◌, ◌++◌, Option, Some, None, IfSome, Result, Ok, Err, slice_index_or}
+use Rattle.std.proofs.Common.{suc}
+use Rattle.txn_kv.specs.declared.errors.Error.{Error}
+use Rattle.txn_core.specs.declared.status.Status.{Status}
+use Rattle.txn_core.specs.declared.status.Status.TheVariants.{Committed, StartedCommit, Rolledback, StartedRollback}
+use Rattle.txn_core.specs.declared.txn_answer.TxnAnswer.{TxnAnswer}
+use Rattle.txn_core.specs.declared.txn_answer.TxnAnswer.TheVariants as answer
+use Rattle.txn_report.specs.declared.outcome.Outcome.{Outcome}
+use Rattle.txn_side.specs.Account.{Account, AreClosed, closed_by}
+use Rattle.txn_side.specs.Sight.{EndsAlone, Sight, Stand}
+use Rattle.txn_side.specs.Sight.Stand.{Calling}
+use Rattle.txn_side.specs.declared.turn.Ending.{Ending}
+use Rattle.txn_clients.specs.Accounts.{AccountsTold, AnswersTold, account_at, account_of, outcome_by}
+use Rattle.txn_clients.specs.Rows.{stand_of}
+use Rattle.txn_clients.specs.Waiting.{IsAnswerOf}
+use Rattle.txn_clients.specs.declared.answer.Answer.{Answer}
+use Rattle.txn_clients.specs.declared.answer.Answer.TheVariants as answers
+use Rattle.txn_clients.specs.declared.row.Row.{Row}
+use Rattle.txn_clients.specs.declared.row.Row.TheVariants as row
+use Rattle.txn_clients.specs.declared.told.Told.{Told}
+use Rattle.txn_clients.specs.declared.told.Told.TheVariants as tells
+
+abbrev pub ends_so : ℕ → Outcome → List Ending
+ends_so line o = record { line = line; outcome = o } ∷ []
+
+-- the call of a transaction ends by its answer
+abbrev pub EndsCall : {Q : Type 0} → ℕ → Stand → Result (TxnAnswer Q) Error → List Ending → List Ending → Type 0
+EndsCall line (Calling c x commits) answer from to = to ≡ from ++ ends_so line (outcome_by commits answer)
+EndsCall line _ answer from to = ⊤
+
+-- no call ends in this part but that of the line
+abbrev pub EndsOwn : ℕ → List Ending → List Ending → Type 0
+EndsOwn line from to = (more : List Ending) × (to ≡ from ++ more) × EndsAlone line more
+
+-- and whatever stands at a line ends by its answer, if it has one
+abbrev pub EndsBy : {P Q K : Type 0} → ℕ → Stand → Option (Answer P Q K) → List Ending → List Ending → Type 0
+EndsBy line stand None from to = to ≡ from
+EndsBy line stand (Some (answers.Asked v)) from to = EndsOwn line from to
+EndsBy line stand (Some (answers.Called v)) from to = EndsCall line stand v from to
+
+-- Where it stands once its call has answered later than in its own line.
+abbrev pub status_by : {Q : Type 0} → Bool → Result (TxnAnswer Q) Error → Status
+status_by true (Ok (answer.Committed t job)) = Committed
+status_by true _ = StartedCommit
+status_by false (Ok answer.Unit) = Rolledback
+status_by false _ = StartedRollback
+
+-- a transaction that stands there has this status
+abbrev pub StandsAt : {P Q K : Type 0} → Status → Row P Q K → Type 0
+StandsAt status (row.Begun d t m) = t.status ≡ status
+StandsAt status r = ⊤
+
+-- it has come as far as the answer of its call says
+abbrev pub HasComeTo : {P Q K : Type 0} → Stand → Result (TxnAnswer Q) Error → Row P Q K → Type 0
+HasComeTo (Calling c x commits) v r = StandsAt (status_by commits v) r
+HasComeTo stand v r = ⊤
+
+-- a transaction that answers later comes as far as its line's outcome says
+abbrev pub ComesTo : {Q : Type 0} → Stand → Result (TxnAnswer Q) Error → Account → Account → Type 0
+ComesTo (Calling c x commits) v old new = new ≡ closed_by commits (outcome_by commits v) old
+ComesTo stand v old new = ⊤
+
+abbrev pub Closes : {P Q K : Type 0} → Told → Stand → Option (Answer P Q K) → Row P Q K → Account → Type 0
+Closes (tells.Heard a) stand (Some (answers.Called v)) (row.Begun c t m) new = ComesTo stand v (account_of t) new
+Closes told stand answer r new = ⊤
+
+-- What waits for a line was told of something, and the call of the line may have ended.
+pub record GoesTold {P Q K : Type 0} (told : Told) (line at : ℕ) (stand : Stand) (old new : List (Row P Q K)) (from to : List Ending) : Type 0 where
+  pub answer : Option (Answer P Q K)
+  pub accounts : AccountsTold told at answer old new
+  pub answers : AnswersTold told (slice_index_or old at row.Plain) answer
+  pub kind : IfSome answer (IsAnswerOf (stand_of (slice_index_or old at row.Plain)))
+  pub ends : EndsBy line stand answer from to
+  pub closes : Closes told stand answer (slice_index_or old at row.Plain) (account_at new (suc at))
+
+-- calls ended in this part, and with each its transaction came further
+pub record ClosesIn {P Q K : Type 0} (s : Sight) (old new : List (Row P Q K)) (from to : List Ending) : Type 0 where
+  pub more : List Ending
+  pub ended : to ≡ from ++ more
+  pub closed : AreClosed s more (account_at old) (account_at new)

@@ -1,0 +1,88 @@
+-- The errors of a transaction's calls have their causes in what was heard, where those of its plans have.
+use Rattle.std.specs.Prelude.{◌≡◌, ◌⊎◌, ℕ, List, [], ◌∷◌, Option, Some, None, Err, refl}
+use Rattle.std.proofs.Common.{inl, inr, subst, sym}
+use Rattle.txn_buffer.specs.Contents.{Contents}
+use Rattle.txn_causes.specs.Causes.{HasCause}
+use Rattle.txn_causes.specs.Heard.{heard_in}
+use Rattle.txn_causes.specs.Making.{of_loss}
+use Rattle.txn_commit.specs.Committing.{CommitterGives, Ways}
+use Rattle.txn_commit.specs.Following.{first_of, or_first, undetermined, Commits, KnowsCommits, PrimarySent}
+use Rattle.txn_commit.specs.Timing.{WasUntimed}
+use Rattle.txn_commit.specs.declared.commit_parts.CommitParts.{CommitParts}
+use Rattle.txn_core.specs.Going.{FailsWith, IsNothing, TransactionGives}
+use Rattle.txn_history.specs.Among.{IsAmong}
+use Rattle.txn_history.specs.Event.{Event, Has}
+use Rattle.txn_history.specs.Event.Event.{Answered, Lost}
+use Rattle.txn_history.specs.Plan.{Plan}
+use Rattle.txn_kv.specs.ErrorView.{view_of}
+use Rattle.txn_kv.specs.ErrorView.ErrorView.{undetermined as not_known}
+use Rattle.txn_kv.specs.Timestamp.{version_of}
+use Rattle.txn_kv.specs.declared.errors.Error.{Error}
+use Rattle.txn_kv.specs.declared.errors.Error.TheVariants.{GrpcAPI}
+use Rattle.txn_kv.specs.declared.query.PdQuery.TheVariants.{Time}
+use Rattle.txn_kv.specs.declared.request.Request.TheVariants.{Commit}
+use Rattle.txn_kv.specs.declared.ticket.Ticket.{Ticket}
+use Rattle.txn_kv.specs.declared.timestamp.Timestamp.{Timestamp}
+use Rattle.txn_commit_plans.specs.CausesOfLookUps.{query_failed}
+
+-- an error has its cause in what was heard, or is that with which the oracle refused an ask for a timestamp
+abbrev pub IsExplained : List Event → Error → Type 0
+IsExplained h e = HasCause (heard_in h) (view_of e) ⊎ ((ask : Ticket) × Has h (Answered ask (Err e)))
+
+-- What a commit or a rollback answers that failed: such an error. Where this Commit of the primary was lost or is out it is
+-- not known whether the transaction is committed, and the answer says so and holds such an error.
+abbrev pub IsCallExplained : Option Ticket → List Event → Error → Type 0
+IsCallExplained None h e = IsExplained h e
+IsCallExplained (Some t) h e = (inner : Error) × (view_of e ≡ not_known (view_of inner)) × IsExplained h inner
+
+-- What a rollback answers that is refused for this Commit of the primary: that was lost, and is named; or it is out.
+abbrev pub IsRefusalExplained : Plan → ℕ → Commits → Ticket → List Event → Error → Type 0
+IsRefusalExplained plan s c t h e = HasCause (heard_in h) (view_of e) ⊎ ((c.lost ≡ None) × PrimarySent plan s h t)
+
+-- lemmas
+
+-- what a call for a timestamp answers that failed
+pub untimed_explained : (h : List Event) (e : Error) → WasUntimed h e → IsExplained h e
+untimed_explained h e w = by (query_failed h Time w.0 e w.1)
+  where
+    by : HasCause (heard_in h) (view_of e) ⊎ ((Time ≡ Time) × ((ask : Ticket) × Has h (Answered ask (Err e)))) → IsExplained h e
+    by (inl k) = inl k
+    by (inr k) = inr k.1
+
+module _ {P Q K A B D : Type 0} (w : Ways P Q K A B D)
+    (unwritten : (h : List Event) (e : Error) → w.unwritten h e → HasCause (heard_in h) (view_of e))
+    (uncommitted : (h : List Event) (e : Error) → w.uncommitted h e → HasCause (heard_in h) (view_of e))
+    (unrolled : (h : List Event) (e : Error) → w.unrolled h e → HasCause (heard_in h) (view_of e)) where
+  committer_explained : (s : ℕ) (parts : CommitParts) (h : List Event) (e : Error) → CommitterGives w s parts h (Err e) → IsExplained h e
+  committer_explained s parts h e (inl (inl g)) = inl (unwritten h e g)
+  committer_explained s parts h e (inl (inr g)) = inl (uncommitted h e g)
+  committer_explained s parts h e (inr (inl g)) = inl (unrolled h e g)
+  committer_explained s parts h e (inr (inr g)) = untimed_explained h e g
+
+  named_explained : (s : ℕ) (parts : CommitParts) (lost : Option Ticket) (h : List Event) (e : Error) → FailsWith w s parts lost h e → IsCallExplained lost h e
+  named_explained s parts None h e g = committer_explained s parts h e g
+  named_explained s parts (Some t) h e g = (g.0, g.1, committer_explained s parts h g.0 g.2)
+
+  never_nothing : (e : Error) → IsNothing {Q = Q} (Err e) → ⊥
+  never_nothing e (inl n) = cc
+  never_nothing e (inr n) = cc
+
+  pub call_explained : (start : Timestamp) (contents : Contents) (c : Commits) (h : List Event) (e : Error) → TransactionGives w start contents c h (Err e) → IsCallExplained (undetermined c) h e
+  call_explained start contents c h e (inl g) = named_explained (version_of start) g.0 (undetermined c) h e g.2
+  call_explained start contents c h e (inr g) = absurd (never_nothing e g.1)
+
+-- of the first of these it is known that it was sent
+first_sent : (plan : Plan) (s : ℕ) (h : List Event) (t : Ticket) (out : List Ticket) → ((u : Ticket) → IsAmong out u → PrimarySent plan s h u) → first_of out ≡ Some t → PrimarySent plan s h t
+first_sent plan s h t [] sent e = cc
+first_sent plan s h t (u ∷ out) sent e = let same : u ≡ t = cc in subst (PrimarySent plan s h) same (sent u (inl refl))
+
+pub refusal_explained : (plan : Plan) (s : ℕ) (c : Commits) (h : List Event) (t : Ticket) (e : Error) → KnowsCommits plan s c h → undetermined c ≡ Some t → view_of e ≡ not_known (view_of (GrpcAPI t)) → IsRefusalExplained plan s c t h e
+refusal_explained plan s c h t e k u v = by c.lost refl u
+  where
+    by : (lost : Option Ticket) → c.lost ≡ lost → or_first lost c.out ≡ Some t → IsRefusalExplained plan s c t h e
+    by None l f = inr (l, first_sent plan s h t c.out k.waiting f)
+    by (Some first) l f =
+        let same : first ≡ t = cc in
+        let p = k.losing first l in
+        let gone = subst (λ x. Has h (Lost x (Commit p.0))) same p.1 in
+        inl (subst (HasCause (heard_in h)) (sym v) (of_loss (heard_in h) t (Commit p.0, gone)))
