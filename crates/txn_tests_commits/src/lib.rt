@@ -1,6 +1,8 @@
-//! Tests of commits and of transactions.
+//! Tests of commits, of transactions and of clients.
 #![tactic(auto)]
 
+#[cfg(test)]
+mod client;
 #[cfg(test)]
 mod commit;
 #[cfg(test)]

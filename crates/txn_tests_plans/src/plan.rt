@@ -1,3 +1,2 @@
-mod client;
 mod dispatch;
 mod wrappers;

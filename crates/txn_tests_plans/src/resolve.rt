@@ -1,3 +1,2 @@
-mod client;
 mod fixtures;
 mod resolve_lock;

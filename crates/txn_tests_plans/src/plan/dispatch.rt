@@ -1,6 +1,6 @@
-use super::client::NoClient;
 use std::alloc::Global;
 use std::test::Fail;
+use txn_fakes::NoClient;
 use txn_kv::{
     CleanupResponse, Errand, Error, GetRequest, GetResponse, Internal, Items, Key, NoMemory,
     Outbox, Progress, Reply, Request, Target, Ticket, Value,

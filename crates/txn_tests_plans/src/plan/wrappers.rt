@@ -1,6 +1,6 @@
-use super::client::NoClient;
 use std::alloc::Global;
 use std::test::Fail;
+use txn_fakes::NoClient;
 use txn_kv::{CommitRequest, CommitResponse, Error, Items, Key, KeyError, Outbox, Progress, Reply};
 use txn_plan::{Dispatch, ExtractError, Plan};
 

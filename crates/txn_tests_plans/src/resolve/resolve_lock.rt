@@ -1,7 +1,7 @@
-use super::client::NoClient;
 use super::fixtures::{Made, get, got, lock, locks, prewrite, twice_locked};
 use std::alloc::Global;
 use std::test::Fail;
+use txn_fakes::NoClient;
 use txn_kv::{
     Backoff, Error, GetRequest, GetResponse, KeyError, LockInfo, OPTIMISTIC_BACKOFF, Outbox,
     PrewriteRequest, Progress, RegionErr, Reply, Ticket,

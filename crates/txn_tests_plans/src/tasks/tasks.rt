@@ -2,10 +2,10 @@ ghost use Rattle.std.specs.Prelude.{IfOk};
 ghost use Rattle.std.specs.List.{All};
 ghost use Rattle.txn_tasks.specs.Step.{IsNew};
 
-use super::client::NoClient;
 use super::toy::Toy;
 use std::alloc::Global;
 use std::test::Fail;
+use txn_fakes::NoClient;
 use txn_kv::{MembersResponse, NoMemory, Outbox, Reply, Result};
 use txn_tasks::{Task, Tasks};
 
