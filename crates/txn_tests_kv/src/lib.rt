@@ -2,14 +2,20 @@
 #![tactic(auto)]
 
 #[cfg(test)]
+mod backoff;
+#[cfg(test)]
 mod codec;
 #[cfg(test)]
-mod errors_and_keys;
+mod errors;
+#[cfg(test)]
+mod fixtures;
+#[cfg(test)]
+mod keys;
+#[cfg(test)]
+mod ranges;
 #[cfg(test)]
 mod replies;
 #[cfg(test)]
 mod requests;
-#[cfg(test)]
-mod timestamp;
 #[cfg(test)]
 mod values;

@@ -1,207 +1,187 @@
-use crate::values::is_copy;
+use crate::fixtures::{key, value};
 use std::alloc::Global;
+use std::process::Abort;
 use txn_kv::*;
 
-fn copies_get(alloc: Global) -> bool {
-    let reply = GetResponse {
-        region_error: None,
-        error: None,
+/// Asserts that a copy of the reply is made, and equals it.
+fn assert_copied(rt: &impl Abort, reply: Reply) {
+    let copy = reply.try_clone().expect(rt, "memory");
+    assert!(rt; copy == reply, "{reply:?}");
+}
+
+fn lock(rt: &impl Abort, alloc: Global) -> LockInfo {
+    let secondaries = vec![in alloc; key(rt, alloc, b"b")];
+    LockInfo {
+        key: key(rt, alloc, b"a"),
+        primary_lock: key(rt, alloc, b"a"),
+        lock_version: 5,
+        lock_ttl: 3000,
+        lock_type: Op::Put,
+        lock_for_update_ts: 0,
+        use_async_commit: true,
+        min_commit_ts: 6,
+        secondaries: Items::from_vec(secondaries.expect(rt, "memory")),
+    }
+}
+
+fn locked_pair(rt: &impl Abort, alloc: Global) -> PbPair {
+    PbPair {
+        error: Some(KeyError::Locked(lock(rt, alloc))),
+        key: key(rt, alloc, b"a"),
         value: Value::new(alloc),
-        not_found: true,
-    };
-    is_copy(reply.try_clone(), &reply)
+    }
 }
 
-fn copies_batch_get(alloc: Global) -> bool {
-    let reply = BatchGetResponse {
-        region_error: None,
-        error: None,
-        pairs: Items::new(alloc),
-    };
-    is_copy(reply.try_clone(), &reply)
+fn text(rt: &impl Abort, alloc: Global) -> Text {
+    Text::from_string("t".to_string(alloc).expect(rt, "memory"))
 }
 
-fn copies_scan(alloc: Global) -> bool {
-    let reply = ScanResponse {
-        region_error: None,
-        error: None,
-        pairs: Items::new(alloc),
+fn store(rt: &impl Abort, alloc: Global) -> StoreMeta {
+    let label = StoreLabel {
+        key: text(rt, alloc),
+        value: text(rt, alloc),
     };
-    is_copy(reply.try_clone(), &reply)
-}
-
-fn copies_scan_lock(alloc: Global) -> bool {
-    let reply = ScanLockResponse {
-        region_error: None,
-        error: None,
-        locks: Items::new(alloc),
-    };
-    is_copy(reply.try_clone(), &reply)
+    StoreMeta {
+        id: 1,
+        address: text(rt, alloc),
+        state: StoreState::Up,
+        labels: Items::from_vec(vec![in alloc; label].expect(rt, "memory")),
+    }
 }
 
 #[test]
 fn copies_answers_to_reads(rt: HostRuntime) {
     let alloc = rt.alloc();
-    assert!(rt; copies_get(alloc));
-    assert!(rt; copies_batch_get(alloc));
-    assert!(rt; copies_scan(alloc));
-    assert!(rt; copies_scan_lock(alloc));
-}
-
-fn copies_prewrite(alloc: Global) -> bool {
-    let reply = PrewriteResponse {
-        region_error: None,
-        errors: Items::new(alloc),
-        min_commit_ts: 0,
-        one_pc_commit_ts: 0,
-    };
-    is_copy(reply.try_clone(), &reply)
-}
-
-fn copies_commit() -> bool {
-    let reply = CommitResponse {
+    let get = GetResponse {
         region_error: None,
         error: None,
-        commit_version: 6,
+        value: value(&rt, alloc, b"v"),
+        not_found: false,
     };
-    is_copy(reply.try_clone(), &reply)
-}
-
-fn copies_cleanup() -> bool {
-    let reply = CleanupResponse {
+    assert_copied(&rt, Reply::Get(get));
+    let pairs = vec![in alloc; locked_pair(&rt, alloc)].expect(&rt, "memory");
+    let batch_get = BatchGetResponse {
         region_error: None,
         error: None,
-        commit_version: 6,
+        pairs: Items::from_vec(pairs),
     };
-    is_copy(reply.try_clone(), &reply)
-}
-
-fn copies_batch_rollback() -> bool {
-    let reply = BatchRollbackResponse {
+    assert_copied(&rt, Reply::BatchGet(batch_get));
+    let scan = ScanResponse {
+        region_error: Some(RegionErr::StaleCommand),
+        error: None,
+        pairs: Items::new(alloc),
+    };
+    assert_copied(&rt, Reply::Scan(scan));
+    let scan_lock = ScanLockResponse {
         region_error: None,
         error: None,
+        locks: Items::new(alloc),
     };
-    is_copy(reply.try_clone(), &reply)
-}
-
-fn copies_destroy(alloc: Global) -> bool {
-    let reply = UnsafeDestroyRangeResponse {
-        region_error: None,
-        error: Text::from_string(String::new(alloc)),
-    };
-    is_copy(reply.try_clone(), &reply)
+    assert_copied(&rt, Reply::ScanLock(scan_lock));
 }
 
 #[test]
 fn copies_answers_to_writes(rt: HostRuntime) {
     let alloc = rt.alloc();
-    assert!(rt; copies_prewrite(alloc));
-    assert!(rt; copies_commit());
-    assert!(rt; copies_cleanup());
-    assert!(rt; copies_batch_rollback());
-    assert!(rt; copies_destroy(alloc));
-}
-
-fn copies_pessimistic_lock(alloc: Global) -> bool {
-    let reply = PessimisticLockResponse {
+    let prewrite = PrewriteResponse {
         region_error: None,
         errors: Items::new(alloc),
-        values: Items::new(alloc),
-        not_founds: Items::new(alloc),
+        min_commit_ts: 0,
+        one_pc_commit_ts: 0,
     };
-    is_copy(reply.try_clone(), &reply)
-}
-
-fn copies_pessimistic_rollback(alloc: Global) -> bool {
-    let reply = PessimisticRollbackResponse {
+    assert_copied(&rt, Reply::Prewrite(prewrite));
+    let commit = CommitResponse {
         region_error: None,
-        errors: Items::new(alloc),
+        error: None,
+        commit_version: 6,
     };
-    is_copy(reply.try_clone(), &reply)
-}
-
-fn copies_resolve_lock() -> bool {
-    let reply = ResolveLockResponse {
+    assert_copied(&rt, Reply::Commit(commit));
+    let cleanup = CleanupResponse {
+        region_error: None,
+        error: None,
+        commit_version: 6,
+    };
+    assert_copied(&rt, Reply::Cleanup(cleanup));
+    let rollback = BatchRollbackResponse {
         region_error: None,
         error: None,
     };
-    is_copy(reply.try_clone(), &reply)
+    assert_copied(&rt, Reply::BatchRollback(rollback));
+    let destroy = UnsafeDestroyRangeResponse {
+        region_error: None,
+        error: text(&rt, alloc),
+    };
+    assert_copied(&rt, Reply::UnsafeDestroyRange(destroy));
 }
 
-fn copies_heart_beat() -> bool {
-    let reply = TxnHeartBeatResponse {
+#[test]
+fn copies_answers_of_pessimistic_locks(rt: HostRuntime) {
+    let alloc = rt.alloc();
+    let values = vec![in alloc; value(&rt, alloc, b"v")];
+    let flags = vec![in alloc; false];
+    let lock = PessimisticLockResponse {
+        region_error: None,
+        errors: Items::new(alloc),
+        values: Items::from_vec(values.expect(&rt, "memory")),
+        not_founds: Items::from_vec(flags.expect(&rt, "memory")),
+    };
+    assert_copied(&rt, Reply::PessimisticLock(lock));
+    let rollback = PessimisticRollbackResponse {
+        region_error: None,
+        errors: Items::new(alloc),
+    };
+    assert_copied(&rt, Reply::PessimisticRollback(rollback));
+}
+
+#[test]
+fn copies_answers_of_settling(rt: HostRuntime) {
+    let alloc = rt.alloc();
+    let resolve = ResolveLockResponse {
+        region_error: None,
+        error: None,
+    };
+    assert_copied(&rt, Reply::ResolveLock(resolve));
+    let heart_beat = TxnHeartBeatResponse {
         region_error: None,
         error: None,
         lock_ttl: 3000,
     };
-    is_copy(reply.try_clone(), &reply)
-}
-
-fn copies_status() -> bool {
-    let reply = CheckTxnStatusResponse {
+    assert_copied(&rt, Reply::TxnHeartBeat(heart_beat));
+    let status = CheckTxnStatusResponse {
         region_error: None,
         error: None,
         lock_ttl: 3000,
         commit_version: 0,
         action: Action::NoAction,
-        lock_info: None,
+        lock_info: Some(lock(&rt, alloc)),
     };
-    is_copy(reply.try_clone(), &reply)
-}
-
-fn copies_secondary_locks(alloc: Global) -> bool {
-    let reply = CheckSecondaryLocksResponse {
+    assert_copied(&rt, Reply::CheckTxnStatus(status));
+    let secondaries = CheckSecondaryLocksResponse {
         region_error: None,
         error: None,
         locks: Items::new(alloc),
         commit_ts: 0,
         missing: false,
     };
-    is_copy(reply.try_clone(), &reply)
-}
-
-#[test]
-fn copies_answers_of_locks(rt: HostRuntime) {
-    let alloc = rt.alloc();
-    assert!(rt; copies_pessimistic_lock(alloc));
-    assert!(rt; copies_pessimistic_rollback(alloc));
-    assert!(rt; copies_resolve_lock());
-    assert!(rt; copies_heart_beat());
-    assert!(rt; copies_status());
-    assert!(rt; copies_secondary_locks(alloc));
-}
-
-fn copies_region() -> bool {
-    let reply = GetRegionResponse {
-        region: None,
-        leader: Some(Peer { id: 1, store_id: 4 }),
-    };
-    is_copy(reply.try_clone(), &reply)
-}
-
-fn copies_store(alloc: Global) -> bool {
-    let reply = GetStoreResponse {
-        store: StoreMeta {
-            id: 1,
-            address: Text::from_string(String::new(alloc)),
-            state: StoreState::Up,
-            labels: Items::new(alloc),
-        },
-    };
-    is_copy(reply.try_clone(), &reply)
-}
-
-fn copies_stores(alloc: Global) -> bool {
-    let reply = GetAllStoresResponse {
-        stores: Items::new(alloc),
-    };
-    is_copy(reply.try_clone(), &reply)
+    assert_copied(&rt, Reply::CheckSecondaryLocks(secondaries));
 }
 
 #[test]
 fn copies_answers_of_placement(rt: HostRuntime) {
     let alloc = rt.alloc();
-    assert!(rt; copies_region());
-    assert!(rt; copies_store(alloc));
-    assert!(rt; copies_stores(alloc));
+    let region = Region {
+        id: 2,
+        start_key: key(&rt, alloc, b"a"),
+        end_key: key(&rt, alloc, b"b"),
+        region_epoch: None,
+    };
+    let region = GetRegionResponse {
+        region: Some(region),
+        leader: Some(Peer { id: 1, store_id: 4 }),
+    };
+    assert_copied(&rt, Reply::GetRegion(region));
+    let store = store(&rt, alloc);
+    assert_copied(&rt, Reply::GetStore(GetStoreResponse { store }));
+    let stores = Items::new(alloc);
+    assert_copied(&rt, Reply::GetAllStores(GetAllStoresResponse { stores }));
 }

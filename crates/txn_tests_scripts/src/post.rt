@@ -1,8 +1,11 @@
-ghost use Rattle.std.specs.Prelude.{◌≡◌, ◌<◌, IfOk, length, false};
+ghost use Rattle.std.specs.Prelude.{◌≡◌, ◌<◌, length, false};
 
+use crate::fixtures::assert_text;
 use std::alloc::Global;
-use txn_kv::{Items, NoMemory, Reply, Request, Target, Ticket, TsoRequest, TsoResponse};
-use txn_post::*;
+use std::process::Abort;
+use txn_kv::{Items, Reply, Request, Target, Ticket, TsoRequest, TsoResponse};
+use txn_post::Post;
+use txn_report::SentNote;
 
 fn ticket(line: u64, number: u64) -> Ticket
     ensures { result ≡ record { line = line; beat = false; number = number } }
@@ -26,35 +29,22 @@ fn reply() -> Reply {
 }
 
 /// The first line sent 1.1, slept under 1.2 and sent 1.3 in the step of the second, which sent 2.1.
-fn small_run(alloc: Global) -> Result<Post, NoMemory>
-    ensures { IfOk result (λ post. length post.tickets ≡ 2) }
+fn small_run(rt: &impl Abort, alloc: Global) -> Post
+    ensures { length result.tickets ≡ 2 }
 {
     let mut post = Post::new(alloc);
-    post.open()?;
-    post.send(
-        ticket(1, 1),
-        1,
-        Target::Placement,
-        request(),
-        Items::new(alloc),
-    )?;
-    post.sleep(ticket(1, 2), 1)?;
-    post.open()?;
-    post.send(
-        ticket(1, 3),
-        2,
-        Target::Store(4),
-        request(),
-        Items::new(alloc),
-    )?;
-    post.send(
-        ticket(2, 1),
-        2,
-        Target::Store(5),
-        request(),
-        Items::new(alloc),
-    )?;
-    Ok(post)
+    post.open().expect(rt, "memory");
+    let to = Target::Placement;
+    post.send(ticket(1, 1), 1, to, request(), Items::new(alloc))
+        .expect(rt, "memory");
+    post.sleep(ticket(1, 2), 1).expect(rt, "memory");
+    post.open().expect(rt, "memory");
+    let to = Target::Store(4);
+    post.send(ticket(1, 3), 2, to, request(), Items::new(alloc))
+        .expect(rt, "memory");
+    post.send(ticket(2, 1), 2, to, request(), Items::new(alloc))
+        .expect(rt, "memory");
+    post
 }
 
 // Events, each with whether it could be.
@@ -128,94 +118,103 @@ fn wake(post: &mut Post, ticket: Ticket) -> bool
     }
 }
 
-fn outs_of_first(alloc: Global, post: &Post) -> Result<Vec<Ticket>, NoMemory>
+/// The tickets of the first line that are out.
+fn outs_of_first(rt: &impl Abort, alloc: Global, post: &Post) -> Vec<Ticket>
     requires { 0 < length post.now.tickets }
 {
     let mut outs = Vec::new(alloc);
-    post.push_outs(0, &mut outs)?;
-    Ok(outs)
+    post.push_outs(0, &mut outs).expect(rt, "memory");
+    outs
+}
+
+#[test]
+fn tickets_name_what_was_sent(rt: HostRuntime) {
+    let post = small_run(&rt, rt.alloc());
+    let heartbeat = Ticket {
+        beat: true,
+        ..ticket(1, 1)
+    };
+    let rows = [
+        (ticket(1, 1), Some(0)),
+        (ticket(1, 3), Some(1)),
+        (ticket(2, 1), Some(2)),
+        (ticket(1, 2), None),
+        (ticket(0, 1), None),
+        (ticket(1, 0), None),
+        (ticket(2, 2), None),
+        (ticket(3, 1), None),
+        (heartbeat, None),
+    ];
+    for (name, place) in rows {
+        assert!(rt; post.find_awaited(&name) == place, "{name}");
+        assert!(rt; post.find_unserved(&name) == place, "{name}");
+    }
 }
 
 #[test]
 fn what_was_sent(rt: HostRuntime) {
     let alloc = rt.alloc();
-    let post = small_run(alloc).expect(&rt, "memory");
-    for (name, place) in [(ticket(1, 1), 0), (ticket(1, 3), 1), (ticket(2, 1), 2)] {
-        assert_eq!(rt; post.find_awaited(&name), Some(place));
-        assert_eq!(rt; post.find_unserved(&name), Some(place));
-        assert_eq!(rt; post.find_lasting(&name), None);
-    }
-    assert_eq!(rt; post.sent().len(), 3);
+    let post = small_run(&rt, alloc);
+    assert!(rt; post.sent().len() == 3);
     let (sent, sleeps) = post.into_notes();
-    let second = sent.as_slice().get(1);
-    assert!(rt; matches!(second, Some(note) if note.ticket == ticket(1, 3) && note.at == 2));
-    let slept = sleeps.as_slice().first();
-    assert!(rt; matches!(slept, Some(note) if note.ticket == ticket(1, 2) && note.at == 1));
-}
-
-#[test]
-fn tickets_that_name_nothing(rt: HostRuntime) {
-    let post = small_run(rt.alloc()).expect(&rt, "memory");
-    let heartbeat = Ticket {
-        line: 1,
-        beat: true,
-        number: 1,
-    };
-    let names = [
-        ticket(0, 1),
-        ticket(1, 0),
-        ticket(1, 4),
-        ticket(2, 2),
-        ticket(3, 1),
-        heartbeat,
-    ];
-    for name in names {
-        assert_eq!(rt; post.find_awaited(&name), None);
-        assert_eq!(rt; post.find_unserved(&name), None);
-        assert_eq!(rt; post.find_lasting(&name), None);
+    let mut text = String::new(alloc);
+    for note in sent.as_slice() {
+        let SentNote { ticket, at, .. } = note;
+        write!(text, "{ticket} in {at}, ").expect(&rt, "memory");
     }
+    let sleeps = sleeps.as_slice();
+    write!(text, "{sleeps:?}").expect(&rt, "memory");
+    let notes = "1.1 in 1, 1.3 in 2, 2.1 in 2, \
+        [SleepNote { ticket: Ticket { line: 1, beat: false, number: 2 }, at: 1 }]";
+    assert_text(&rt, &text, notes);
 }
 
 #[test]
 fn a_request_is_served_and_answered_once(rt: HostRuntime) {
     let alloc = rt.alloc();
-    let mut post = small_run(alloc).expect(&rt, "memory");
-    assert!(rt; !answer(&mut post, ticket(1, 1)));
-    assert!(rt; serve(&mut post, ticket(1, 1)));
-    assert!(rt; !serve(&mut post, ticket(1, 1)));
-    assert!(rt; answer(&mut post, ticket(1, 1)));
-    assert!(rt; !answer(&mut post, ticket(1, 1)));
-    assert!(rt; deliver(&mut post, ticket(1, 3)));
-    assert!(rt; !deliver(&mut post, ticket(1, 3)));
-    let outs = outs_of_first(alloc, &post).expect(&rt, "memory");
-    assert_eq!(rt; outs.as_slice(), [ticket(1, 2)].as_slice());
+    let mut post = small_run(&rt, alloc);
+    let seen = [
+        answer(&mut post, ticket(1, 1)),
+        serve(&mut post, ticket(1, 1)),
+        serve(&mut post, ticket(1, 1)),
+        answer(&mut post, ticket(1, 1)),
+        answer(&mut post, ticket(1, 1)),
+        deliver(&mut post, ticket(1, 3)),
+        deliver(&mut post, ticket(1, 3)),
+    ];
+    assert_eq!(rt; seen, [false, true, false, true, false, true, false]);
+    let outs = outs_of_first(&rt, alloc, &post);
+    assert!(rt; outs.as_slice() == [ticket(1, 2)].as_slice());
 }
 
 #[test]
 fn refused_and_lost(rt: HostRuntime) {
-    let alloc = rt.alloc();
-    let mut post = small_run(alloc).expect(&rt, "memory");
-    assert!(rt; busy(&mut post, ticket(1, 1)));
-    assert!(rt; !serve(&mut post, ticket(1, 1)));
-    assert!(rt; lose(&mut post, ticket(1, 3)));
-    assert!(rt; !lose(&mut post, ticket(1, 3)));
-    assert!(rt; serve(&mut post, ticket(1, 3)));
-    assert!(rt; !answer(&mut post, ticket(1, 3)));
-    assert!(rt; serve(&mut post, ticket(2, 1)));
-    assert!(rt; lose(&mut post, ticket(2, 1)));
-    assert!(rt; !answer(&mut post, ticket(2, 1)));
+    let mut post = small_run(&rt, rt.alloc());
+    let seen = [
+        busy(&mut post, ticket(1, 1)),
+        serve(&mut post, ticket(1, 1)),
+        lose(&mut post, ticket(1, 3)),
+        lose(&mut post, ticket(1, 3)),
+        serve(&mut post, ticket(1, 3)),
+        answer(&mut post, ticket(1, 3)),
+        serve(&mut post, ticket(2, 1)),
+        lose(&mut post, ticket(2, 1)),
+        answer(&mut post, ticket(2, 1)),
+    ];
+    assert_eq!(rt;
+        seen,
+        [true, false, true, false, true, false, true, true, false]
+    );
 }
 
 #[test]
 fn a_sleep_ends(rt: HostRuntime) {
     let alloc = rt.alloc();
-    let mut post = small_run(alloc).expect(&rt, "memory");
-    let outs = outs_of_first(alloc, &post).expect(&rt, "memory");
-    let all = [ticket(1, 1), ticket(1, 2), ticket(1, 3)];
-    assert_eq!(rt; outs.as_slice(), all.as_slice());
-    assert_eq!(rt; post.find_awaited(&ticket(1, 2)), None);
-    assert!(rt; wake(&mut post, ticket(1, 2)));
-    assert!(rt; !wake(&mut post, ticket(1, 2)));
-    let outs = outs_of_first(alloc, &post).expect(&rt, "memory");
-    assert_eq!(rt; outs.as_slice(), [ticket(1, 1), ticket(1, 3)].as_slice());
+    let mut post = small_run(&rt, alloc);
+    let outs = outs_of_first(&rt, alloc, &post);
+    assert!(rt; outs.as_slice() == [ticket(1, 1), ticket(1, 2), ticket(1, 3)].as_slice());
+    let seen = [wake(&mut post, ticket(1, 2)), wake(&mut post, ticket(1, 2))];
+    assert_eq!(rt; seen, [true, false]);
+    let outs = outs_of_first(&rt, alloc, &post);
+    assert!(rt; outs.as_slice() == [ticket(1, 1), ticket(1, 3)].as_slice());
 }

@@ -1,30 +1,34 @@
+use crate::fixtures::assert_text;
 use std::alloc::Global;
 use std::process::Abort;
-use txn_kv::{Error, Internal, Items, Key, KeyError, LockInfo, NoMemory, Op, RegionErr, Ticket};
+use txn_kv::{Error, Internal, Items, Key, KeyError, LockInfo, Op, RegionErr, Ticket};
 use txn_model::ModelStore;
 use txn_report::*;
 
-fn report_of(alloc: Global, outcomes: Vec<Outcome>) -> Result<Report, NoMemory> {
-    let mut served = Items::new(alloc);
-    served.push(Ticket {
+/// Asserts the text of a report over a store that is empty.
+fn assert_report(rt: &impl Abort, alloc: Global, outcomes: Vec<Outcome>, lines: &str) {
+    let ticket = Ticket {
         line: 2,
         beat: false,
         number: 1,
-    })?;
-    Ok(Report {
+    };
+    let served = vec![in alloc; ticket].expect(rt, "memory");
+    let report = Report {
         outcomes: Items::from_vec(outcomes),
         ended: Items::new(alloc),
         sent: Items::new(alloc),
         sleeps: Items::new(alloc),
-        served,
-        store: ModelStore::new(alloc)?,
-    })
+        served: Items::from_vec(served),
+        store: ModelStore::new(alloc).expect(rt, "memory"),
+    };
+    let text = report_text(alloc, &report).expect(rt, "memory");
+    let text = String::from_utf8(text).expect(rt, "a text");
+    assert_text(rt, &text, lines);
 }
 
 #[test]
 fn one_line_for_each_outcome(rt: HostRuntime) {
-    let alloc = rt.alloc();
-    let outcomes = vec![in alloc;
+    let outcomes = vec![in rt.alloc();
         Outcome::Ok(Payload::Unit),
         Outcome::Ok(Payload::Number(786432000)),
         Outcome::Ok(Payload::Commit(None)),
@@ -33,63 +37,61 @@ fn one_line_for_each_outcome(rt: HostRuntime) {
         Outcome::Unfinished,
         Outcome::Done,
         Outcome::Skipped,
-    ]
-    .expect(&rt, "memory");
-    let report = report_of(alloc, outcomes).expect(&rt, "memory");
-    let text = report_text(alloc, &report).expect(&rt, "memory");
-    let wanted =
-        b"1 ok\n2 ok 786432000\n3 ok none\n4 ok 2\n5 err OperationAfterCommitError\n6 open\n7 done\n8 skipped\nsent 0 served 1\n";
-    assert_eq!(rt; text.as_slice(), wanted.as_slice());
+    ];
+    let lines = "1 ok
+2 ok 786432000
+3 ok none
+4 ok 2
+5 err OperationAfterCommitError
+6 open
+7 done
+8 skipped
+sent 0 served 1
+";
+    assert_report(&rt, rt.alloc(), outcomes.expect(&rt, "memory"), lines);
+}
+
+/// Adds a copy of an error to the outcomes.
+fn fail(rt: &impl Abort, outcomes: &mut Vec<Outcome>, error: Error) {
+    let outcome = Outcome::Err(error).try_clone().expect(rt, "memory");
+    outcomes.push(outcome).expect(rt, "memory");
 }
 
 #[test]
-fn copies(rt: HostRuntime) {
-    let outcome = Outcome::Ok(Payload::Commit(Some(2)));
-    assert!(rt;
-        matches!(
-            outcome.try_clone().expect(&rt, "memory"),
-            Outcome::Ok(Payload::Commit(Some(2)))
-        )
-    );
-}
-
-fn text_of(alloc: Global, error: Error) -> Result<Vec<u8>, NoMemory> {
-    let outcomes = vec![in alloc; Outcome::Err(error)]?;
-    report_text(alloc, &report_of(alloc, outcomes)?)
-}
-
-fn key(rt: &impl Abort, alloc: Global, bytes: &[u8]) -> Key {
-    Key::from(bytes.to_vec(alloc).expect(rt, "memory"))
-}
-
-fn exists_at(rt: &impl Abort, alloc: Global, bytes: &[u8]) -> Error {
-    Error::key(
-        alloc,
-        KeyError::AlreadyExist {
-            key: key(rt, alloc, bytes),
-        },
-    )
-    .expect(rt, "memory")
-}
-
-#[test]
-fn errors_at_keys(rt: HostRuntime) {
+fn errors_of_parts(rt: HostRuntime) {
     let alloc = rt.alloc();
-    let errors = vec![in alloc; exists_at(&rt, alloc, b"a"), exists_at(&rt, alloc, b"")].expect(
-        &rt, "memory",
-    );
-    let text = text_of(alloc, Error::MultipleKeyErrors(errors)).expect(&rt, "memory");
-    let wanted =
-        b"1 err MultipleKeyErrors [KeyError AlreadyExist a; KeyError AlreadyExist x:]\nsent 0 served 1\n";
-    assert_eq!(rt; text.as_slice(), wanted.as_slice());
+    let mut outcomes = Vec::new(alloc);
+    let ticket = Ticket {
+        line: 5,
+        beat: true,
+        number: 2,
+    };
+    fail(&rt, &mut outcomes, Error::GrpcAPI(ticket));
+    let region = Error::region(alloc, RegionErr::StaleCommand);
+    fail(&rt, &mut outcomes, region.expect(&rt, "memory"));
+    let what = Internal::NoEpoch { id: 3 };
+    fail(&rt, &mut outcomes, Error::InternalError { what });
+    let inner = Box::new(alloc, Error::LeaderNotFound { region_id: 9 });
+    let inner = inner.expect(&rt, "memory");
+    fail(&rt, &mut outcomes, Error::UndeterminedError(inner));
+    let lines = "1 err GrpcAPI 5.h2
+2 err RegionError StaleCommand
+3 err InternalError NoEpoch
+4 err UndeterminedError [LeaderNotFound 9]
+sent 0 served 1
+";
+    assert_report(&rt, alloc, outcomes, lines);
 }
 
-#[test]
-fn unresolved_locks(rt: HostRuntime) {
-    let alloc = rt.alloc();
-    let lock = LockInfo {
-        key: key(&rt, alloc, b"a"),
-        primary_lock: key(&rt, alloc, b"b"),
+fn exists_at(rt: &impl Abort, alloc: Global, key: &[u8]) -> Error {
+    let key = Key::from(key.to_vec(alloc).expect(rt, "memory"));
+    Error::key(alloc, KeyError::AlreadyExist { key }).expect(rt, "memory")
+}
+
+fn lock(rt: &impl Abort, alloc: Global) -> LockInfo {
+    LockInfo {
+        key: Key::from(b"a".to_vec(alloc).expect(rt, "memory")),
+        primary_lock: Key::empty(alloc),
         lock_version: 7,
         lock_ttl: 3000,
         lock_type: Op::Put,
@@ -97,58 +99,21 @@ fn unresolved_locks(rt: HostRuntime) {
         use_async_commit: false,
         min_commit_ts: 0,
         secondaries: Items::new(alloc),
-    };
-    let text = text_of(
-        alloc,
-        Error::ResolveLockError(vec![in alloc; lock].expect(&rt, "memory")),
-    )
-    .expect(&rt, "memory");
-    let wanted = b"1 err ResolveLockError 1 a 7\nsent 0 served 1\n";
-    assert_eq!(rt; text.as_slice(), wanted.as_slice());
+    }
 }
 
 #[test]
-fn errors_of_parts(rt: HostRuntime) {
+fn errors_at_keys(rt: HostRuntime) {
     let alloc = rt.alloc();
-    let ticket = Ticket {
-        line: 5,
-        beat: true,
-        number: 2,
-    };
-    let text = text_of(alloc, Error::GrpcAPI(ticket)).expect(&rt, "memory");
-    assert_eq!(rt;
-        text.as_slice(),
-        b"1 err GrpcAPI 5.h2\nsent 0 served 1\n".as_slice()
-    );
-    let text = text_of(
-        alloc,
-        Error::region(
-            alloc,
-            RegionErr::NotLeader {
-                region_id: 1,
-                leader: None,
-            },
-        )
-        .expect(&rt, "memory"),
-    )
-    .expect(&rt, "memory");
-    assert_eq!(rt;
-        text.as_slice(),
-        b"1 err RegionError NotLeader\nsent 0 served 1\n".as_slice()
-    );
-    let what = Internal::NoEpoch { id: 3 };
-    let text = text_of(alloc, Error::InternalError { what }).expect(&rt, "memory");
-    assert_eq!(rt;
-        text.as_slice(),
-        b"1 err InternalError NoEpoch\nsent 0 served 1\n".as_slice()
-    );
-}
-
-#[test]
-fn errors_within(rt: HostRuntime) {
-    let alloc = rt.alloc();
-    let inner = Box::new(alloc, Error::LeaderNotFound { region_id: 9 }).expect(&rt, "memory");
-    let text = text_of(alloc, Error::UndeterminedError(inner)).expect(&rt, "memory");
-    let wanted = b"1 err UndeterminedError [LeaderNotFound 9]\nsent 0 served 1\n";
-    assert_eq!(rt; text.as_slice(), wanted.as_slice());
+    let mut outcomes = Vec::new(alloc);
+    let errors = vec![in alloc; exists_at(&rt, alloc, b"a"), exists_at(&rt, alloc, b"")];
+    let errors = errors.expect(&rt, "memory");
+    fail(&rt, &mut outcomes, Error::MultipleKeyErrors(errors));
+    let locks = vec![in alloc; lock(&rt, alloc)].expect(&rt, "memory");
+    fail(&rt, &mut outcomes, Error::ResolveLockError(locks));
+    let lines = "1 err MultipleKeyErrors [KeyError AlreadyExist a; KeyError AlreadyExist x:]
+2 err ResolveLockError 1 a 7
+sent 0 served 1
+";
+    assert_report(&rt, alloc, outcomes, lines);
 }
