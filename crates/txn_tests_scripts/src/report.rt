@@ -51,14 +51,19 @@ sent 0 served 1
     assert_report(&rt, rt.alloc(), outcomes.expect(&rt, "memory"), lines);
 }
 
-/// Adds a copy of an error to the outcomes.
+/// Adds a copy of an outcome.
+fn add(rt: &impl Abort, outcomes: &mut Vec<Outcome>, outcome: Outcome) {
+    let copy = outcome.try_clone().expect(rt, "memory");
+    outcomes.push(copy).expect(rt, "memory");
+}
+
+/// Adds an error.
 fn fail(rt: &impl Abort, outcomes: &mut Vec<Outcome>, error: Error) {
-    let outcome = Outcome::Err(error).try_clone().expect(rt, "memory");
-    outcomes.push(outcome).expect(rt, "memory");
+    add(rt, outcomes, Outcome::Err(error));
 }
 
 #[test]
-fn errors_of_parts(rt: HostRuntime) {
+fn copied_outcomes_and_errors_of_parts(rt: HostRuntime) {
     let alloc = rt.alloc();
     let mut outcomes = Vec::new(alloc);
     let ticket = Ticket {
@@ -66,6 +71,8 @@ fn errors_of_parts(rt: HostRuntime) {
         beat: true,
         number: 2,
     };
+    let committed = Payload::Commit(Some(7));
+    add(&rt, &mut outcomes, Outcome::Ok(committed));
     fail(&rt, &mut outcomes, Error::GrpcAPI(ticket));
     let region = Error::region(alloc, RegionErr::StaleCommand);
     fail(&rt, &mut outcomes, region.expect(&rt, "memory"));
@@ -74,10 +81,11 @@ fn errors_of_parts(rt: HostRuntime) {
     let inner = Box::new(alloc, Error::LeaderNotFound { region_id: 9 });
     let inner = inner.expect(&rt, "memory");
     fail(&rt, &mut outcomes, Error::UndeterminedError(inner));
-    let lines = "1 err GrpcAPI 5.h2
-2 err RegionError StaleCommand
-3 err InternalError NoEpoch
-4 err UndeterminedError [LeaderNotFound 9]
+    let lines = "1 ok 7
+2 err GrpcAPI 5.h2
+3 err RegionError StaleCommand
+4 err InternalError NoEpoch
+5 err UndeterminedError [LeaderNotFound 9]
 sent 0 served 1
 ";
     assert_report(&rt, alloc, outcomes, lines);
