@@ -1,325 +1,263 @@
+use crate::fixtures::{assert_shown, key, value};
 use std::alloc::Global;
 use std::ops::Bound;
-use std::test::Fail;
-use txn_buffer::*;
-use txn_kv::{
-    Assertion, BoundRange, Error, Internal, Items, Key, KvPair, Mutation, NoMemory, Op, Value,
-};
+use std::process::Abort;
+use txn_buffer::Buffer;
+use txn_kv::{Assertion, BoundRange, Key, KvPair, Mutation, Op};
 
-fn key(alloc: Global, name: &str) -> Result<Key, NoMemory> {
-    Ok(Key::from(name.as_bytes().to_vec(alloc)?))
+/// A call that writes or locks a key, with the text of its value.
+#[derive(Clone, Copy)]
+enum Call {
+    Put(&'static str, &'static str),
+    Insert(&'static str, &'static str),
+    Delete(&'static str),
+    Lock(&'static str),
+    Unlock(&'static str),
 }
 
-fn value(alloc: Global, text: &str) -> Result<Value, NoMemory> {
-    Ok(Items::from_vec(text.as_bytes().to_vec(alloc)?))
+fn apply(rt: &impl Abort, alloc: Global, buffer: &mut Buffer, call: Call) {
+    let done = match call {
+        Call::Put(name, text) => buffer.put(key(rt, alloc, name), value(rt, alloc, text)),
+        Call::Insert(name, text) => buffer.insert(key(rt, alloc, name), value(rt, alloc, text)),
+        Call::Delete(name) => buffer.delete(key(rt, alloc, name)),
+        Call::Lock(name) => buffer.lock(key(rt, alloc, name)),
+        Call::Unlock(name) => {
+            buffer.unlock(&key(rt, alloc, name));
+            Ok(())
+        }
+    };
+    done.expect(rt, "memory");
 }
 
-fn mutation(alloc: Global, op: Op, name: &str, text: &str) -> Result<Mutation, NoMemory> {
-    Ok(Mutation {
-        op,
-        key: key(alloc, name)?,
-        value: value(alloc, text)?,
-        assertion: Assertion::None,
-    })
-}
-
-#[test]
-fn insert_then_delete_is_a_check(rt: HostRuntime) -> Result<(), Fail> {
-    let alloc = rt.alloc();
+fn after(rt: &impl Abort, alloc: Global, calls: &[Call]) -> Buffer {
     let mut buffer = Buffer::new(alloc, false);
-    buffer.insert(key(alloc, "a")?, value(alloc, "1")?)?;
-    buffer.delete(key(alloc, "a")?)?;
-    buffer.delete(key(alloc, "a")?)?;
-    let check = mutation(alloc, Op::CheckNotExists, "a", "")?;
-    assert_eq!(rt; buffer.to_proto_mutations()?.as_slice(), [check].as_slice());
-    assert_eq!(rt; buffer.get(&key(alloc, "a")?)?, None);
-    assert_eq!(rt; buffer.primary_for_commit(), None);
-    buffer.put(key(alloc, "a")?, value(alloc, "2")?)?;
-    let insert = mutation(alloc, Op::Insert, "a", "2")?;
-    assert_eq!(rt;
-        buffer.to_proto_mutations()?.as_slice(),
-        [insert].as_slice()
-    );
-    Ok(())
-}
-
-#[test]
-fn delete_then_insert_is_a_put(rt: HostRuntime) -> Result<(), Fail> {
-    let alloc = rt.alloc();
-    let mut buffer = Buffer::new(alloc, false);
-    buffer.delete(key(alloc, "a")?)?;
-    buffer.insert(key(alloc, "a")?, value(alloc, "1")?)?;
-    buffer.insert(key(alloc, "b")?, value(alloc, "2")?)?;
-    buffer.put(key(alloc, "b")?, value(alloc, "34")?)?;
-    let put = mutation(alloc, Op::Put, "a", "1")?;
-    let insert = mutation(alloc, Op::Insert, "b", "34")?;
-    assert_eq!(rt;
-        buffer.to_proto_mutations()?.as_slice(),
-        [put, insert].as_slice()
-    );
-    assert_eq!(rt; buffer.get_write_size(), 5);
-    assert_eq!(rt; buffer.get_primary_key().is_some(), true);
-    Ok(())
-}
-
-#[test]
-fn locks_come_and_go(rt: HostRuntime) -> Result<(), Fail> {
-    let alloc = rt.alloc();
-    let mut buffer = Buffer::new(alloc, false);
-    let a = key(alloc, "a")?;
-    buffer.lock(a.try_clone()?)?;
-    let lock = mutation(alloc, Op::Lock, "a", "")?;
-    assert_eq!(rt; buffer.to_proto_mutations()?.as_slice(), [lock].as_slice());
-    assert_eq!(rt; buffer.missing(&a), true);
-    assert_eq!(rt; buffer.primary_for_commit().is_some(), true);
-    buffer.unlock(&a);
-    assert_eq!(rt; buffer.to_proto_mutations()?.len(), 0);
-    assert_eq!(rt; buffer.primary_for_commit(), None);
+    for call in calls {
+        apply(rt, alloc, &mut buffer, *call);
+    }
     buffer
-        .fill(a.try_clone()?, Some(value(alloc, "1")?))
-        .map_err(|_| NoMemory)?;
-    buffer.lock(a.try_clone()?)?;
-    buffer.unlock(&a);
-    assert_eq!(rt; buffer.get(&a)?, Some(value(alloc, "1")?));
-    Ok(())
+}
+
+/// The mutations as pairs behind their kinds, the key that leads the commit, and the size.
+fn written(rt: &impl Abort, alloc: Global, calls: &[Call]) -> String {
+    let buffer = after(rt, alloc, calls);
+    let mut text = String::new(alloc);
+    for Mutation { op, key, value, .. } in buffer.to_proto_mutations().expect(rt, "memory") {
+        let pair = KvPair(key, value);
+        write!(text, "{op:?} {pair:?}, ").expect(rt, "memory");
+    }
+    let first = buffer.primary_for_commit();
+    let size = buffer.get_write_size();
+    write!(text, "{first:?}, {size}").expect(rt, "memory");
+    text
 }
 
 #[test]
-fn a_filled_key_is_not_missing(rt: HostRuntime) -> Result<(), Fail> {
-    let alloc = rt.alloc();
-    let mut buffer = Buffer::new(alloc, true);
-    let asked = [key(alloc, "b")?, key(alloc, "a")?];
-    buffer.primary_key_or(&asked[0])?;
-    assert_eq!(rt; buffer.batch_missing(&asked)?.len(), 2);
-    assert_eq!(rt; buffer.fill(asked[1].try_clone()?, None).is_ok(), true);
-    assert_eq!(rt; buffer.missing(&asked[1]), false);
-    let missing = buffer.batch_missing(&asked)?;
-    assert_eq!(rt; missing.as_slice(), [key(alloc, "b")?].as_slice());
-    let unlike = buffer.fill(asked[1].try_clone()?, Some(value(alloc, "1")?));
-    let is_unlike = matches!(
-        unlike,
-        Err(Error::InternalError {
-            what: Internal::UnlikeCache { .. }
-        })
-    );
-    assert_eq!(rt; is_unlike, true);
-    Ok(())
+fn writes_add_up(rt: HostRuntime) {
+    let rows: [(&[Call], &str); 5] = [
+        (
+            &[Call::Insert("a", "1"), Call::Delete("a"), Call::Delete("a")],
+            "CheckNotExists KvPair(61, \"\"), None, 0",
+        ),
+        (
+            &[
+                Call::Insert("a", "1"),
+                Call::Delete("a"),
+                Call::Put("a", "2"),
+            ],
+            "Insert KvPair(61, \"2\"), Some(Key(61)), 2",
+        ),
+        (
+            &[
+                Call::Delete("a"),
+                Call::Insert("a", "1"),
+                Call::Insert("b", "2"),
+                Call::Put("b", "34"),
+            ],
+            "Put KvPair(61, \"1\"), Insert KvPair(62, \"34\"), Some(Key(61)), 5",
+        ),
+        (
+            &[Call::Lock("a")],
+            "Lock KvPair(61, \"\"), Some(Key(61)), 0",
+        ),
+        (&[Call::Lock("a"), Call::Unlock("a")], "None, 0"),
+    ];
+    for (calls, expected) in rows {
+        assert_eq!(rt; written(&rt, rt.alloc(), calls).as_str(), expected);
+    }
+}
+
+/// Pairs, each by the texts of its key and its value.
+type Rows = &'static [(&'static str, &'static str)];
+
+fn pairs(rt: &impl Abort, alloc: Global, rows: Rows) -> Vec<KvPair> {
+    let mut pairs = Vec::new(alloc);
+    for (name, text) in rows {
+        let pair = KvPair(key(rt, alloc, name), value(rt, alloc, text));
+        pairs.push(pair).expect(rt, "memory");
+    }
+    pairs
+}
+
+fn keys(rt: &impl Abort, alloc: Global, names: &[&str]) -> Vec<Key> {
+    let mut keys = Vec::new(alloc);
+    for name in names {
+        keys.push(key(rt, alloc, name)).expect(rt, "memory");
+    }
+    keys
+}
+
+/// A buffer in which `a` is deleted and `b` inserted.
+fn two_writes(rt: &impl Abort, alloc: Global) -> Buffer {
+    after(rt, alloc, &[Call::Delete("a"), Call::Insert("b", "2")])
+}
+
+/// What is read of `d`, `b`, `a` and `d` where these pairs were fetched, and whether `d` is missing after it.
+fn batch(rt: &impl Abort, alloc: Global, fetched: Rows) -> String {
+    let mut buffer = two_writes(rt, alloc);
+    let asked = keys(rt, alloc, &["d", "b", "a", "d"]);
+    let read = buffer.batch_fill(&asked, pairs(rt, alloc, fetched));
+    let is_missing = buffer.missing(&key(rt, alloc, "d"));
+    format!(in alloc; "{read:?} {is_missing}").expect(rt, "memory")
 }
 
 #[test]
-fn mutates(rt: HostRuntime) -> Result<(), Fail> {
-    let alloc = rt.alloc();
-    let mut buffer = Buffer::new(alloc, false);
-    assert_eq!(rt;
-        buffer.mutate(mutation(alloc, Op::Put, "a", "1")?).is_ok(),
-        true
-    );
-    assert_eq!(rt;
-        buffer.mutate(mutation(alloc, Op::Del, "b", "")?).is_ok(),
-        true
-    );
-    let refused = buffer.mutate(mutation(alloc, Op::Lock, "c", "")?);
-    assert_eq!(rt; matches!(refused, Err(Error::Unimplemented)), true);
-    assert_eq!(rt; buffer.to_proto_mutations()?.len(), 2);
-    Ok(())
+fn batches_read_through_the_writes(rt: HostRuntime) {
+    let rows: [(Rows, &str); 3] = [
+        (&[], "Ok([KvPair(62, \"2\")]) true"),
+        (
+            &[("d", "4")],
+            "Ok([KvPair(62, \"2\"), KvPair(64, \"4\"), KvPair(64, \"4\")]) false",
+        ),
+        (
+            &[("d", "4"), ("b", "3")],
+            "Err(InternalError { what: UnlikeCache { kept: Some(Items { vec: [50] }), read: Some(Items { vec: [51] }) } }) true",
+        ),
+    ];
+    for (fetched, expected) in rows {
+        assert_eq!(rt; batch(&rt, rt.alloc(), fetched).as_str(), expected);
+    }
 }
 
-fn pair(alloc: Global, name: &str, text: &str) -> Result<KvPair, NoMemory> {
-    Ok(KvPair(key(alloc, name)?, value(alloc, text)?))
+/// A scan from `a`.
+#[derive(Clone, Copy)]
+struct Scan {
+    limit: u32,
+    update_cache: bool,
+    reverse: bool,
+    fetched: Rows,
 }
 
-fn taken<T>(answer: txn_kv::Result<T>) -> Result<T, NoMemory> {
-    match answer {
-        Ok(value) => Ok(value),
-        Err(_) => Err(NoMemory),
+/// What a scan reads, and whether `e` is missing after it.
+fn scanned(rt: &impl Abort, alloc: Global, scan: Scan) -> String {
+    let mut buffer = two_writes(rt, alloc);
+    let range = BoundRange::range_from(key(rt, alloc, "a"));
+    let fetched = pairs(rt, alloc, scan.fetched);
+    let read = buffer.scan_fill(&range, scan.limit, scan.update_cache, scan.reverse, fetched);
+    let is_missing = buffer.missing(&key(rt, alloc, "e"));
+    format!(in alloc; "{read:?} {is_missing}").expect(rt, "memory")
+}
+
+#[test]
+fn scans_go_through_the_writes(rt: HostRuntime) {
+    let forward = Scan {
+        limit: 2,
+        update_cache: true,
+        reverse: false,
+        fetched: &[("a", "1"), ("c", "3"), ("e", "5")],
+    };
+    let unsorted = Scan {
+        limit: 9,
+        update_cache: false,
+        reverse: false,
+        fetched: &[("c", "0"), ("a", "1"), ("c", "3"), ("e", "5")],
+    };
+    let back = Scan {
+        limit: 9,
+        update_cache: true,
+        reverse: true,
+        fetched: &[("c", "3"), ("a", "1")],
+    };
+    let rows = [
+        (forward, "Ok([KvPair(62, \"2\"), KvPair(63, \"3\")]) false"),
+        (
+            unsorted,
+            "Ok([KvPair(62, \"2\"), KvPair(63, \"3\"), KvPair(65, \"5\")]) true",
+        ),
+        (back, "Ok([KvPair(63, \"3\"), KvPair(62, \"2\")]) true"),
+    ];
+    for (scan, expected) in rows {
+        assert_eq!(rt; scanned(&rt, rt.alloc(), scan).as_str(), expected);
     }
 }
 
 #[test]
-fn reads_what_was_put(rt: HostRuntime) -> Result<(), Fail> {
+fn deleted_keys_widen_a_scan(rt: HostRuntime) {
     let alloc = rt.alloc();
-    let mut buffer = Buffer::new(alloc, false);
-    buffer.put(key(alloc, "key1")?, value(alloc, "value1")?)?;
-    buffer.put(key(alloc, "key2")?, value(alloc, "value2")?)?;
-    assert_eq!(rt;
-        buffer.get(&key(alloc, "key1")?)?,
-        Some(value(alloc, "value1")?)
-    );
-    buffer.delete(key(alloc, "key2")?)?;
-    buffer.put(key(alloc, "key1")?, value(alloc, "value")?)?;
-    let asked = [key(alloc, "key2")?, key(alloc, "key1")?];
-    let pairs = taken(buffer.batch_fill(&asked, Vec::new(alloc)))?;
-    assert_eq!(rt;
-        pairs.as_slice(),
-        [pair(alloc, "key1", "value")?].as_slice()
-    );
-    Ok(())
+    let buffer = two_writes(&rt, alloc);
+    let all = BoundRange::range_from(key(&rt, alloc, "a"));
+    assert_eq!(rt; buffer.scan_limit(&all, 2), Ok(3));
+    let b = Bound::Excluded(key(&rt, alloc, "b"));
+    let empty = BoundRange::new(b, Bound::Excluded(key(&rt, alloc, "a")));
+    assert_eq!(rt; buffer.scan_limit(&empty, 2), Ok(2));
+}
+
+/// A buffer that has read `a`.
+fn read_once(rt: &impl Abort, alloc: Global) -> Buffer {
+    let mut buffer = Buffer::new(alloc, true);
+    let read = buffer.fill(key(rt, alloc, "a"), Some(value(rt, alloc, "1")));
+    read.expect(rt, "a new value");
+    buffer
 }
 
 #[test]
-fn reads_what_was_inserted(rt: HostRuntime) -> Result<(), Fail> {
-    let alloc = rt.alloc();
-    let mut buffer = Buffer::new(alloc, false);
-    buffer.insert(key(alloc, "key1")?, value(alloc, "value1")?)?;
-    buffer.insert(key(alloc, "key2")?, value(alloc, "value2")?)?;
-    assert_eq!(rt;
-        buffer.get(&key(alloc, "key1")?)?,
-        Some(value(alloc, "value1")?)
-    );
-    buffer.delete(key(alloc, "key2")?)?;
-    buffer.insert(key(alloc, "key1")?, value(alloc, "value")?)?;
-    let asked = [key(alloc, "key2")?, key(alloc, "key1")?];
-    let pairs = taken(buffer.batch_fill(&asked, Vec::new(alloc)))?;
-    assert_eq!(rt;
-        pairs.as_slice(),
-        [pair(alloc, "key1", "value")?].as_slice()
-    );
-    Ok(())
+fn what_is_read_is_not_missing(rt: HostRuntime) {
+    let buffer = read_once(&rt, rt.alloc());
+    let missing = buffer.batch_missing(&keys(&rt, rt.alloc(), &["b", "a"]));
+    assert_shown(&rt, rt.alloc(), &missing, "Ok([Key(62)])");
 }
 
 #[test]
-fn repeated_reads_are_known(rt: HostRuntime) -> Result<(), Fail> {
+fn what_is_read_outlives_a_lock(rt: HostRuntime) {
+    let mut buffer = read_once(&rt, rt.alloc());
+    for call in [Call::Lock("a"), Call::Unlock("a")] {
+        apply(&rt, rt.alloc(), &mut buffer, call);
+    }
+    let known = buffer.get(&key(&rt, rt.alloc(), "a"));
+    assert_shown(&rt, rt.alloc(), &known, "Ok(Some(Items { vec: [49] }))");
+}
+
+#[test]
+fn the_first_primary_key_stays(rt: HostRuntime) {
+    let alloc = rt.alloc();
+    let mut buffer = Buffer::new(alloc, true);
+    for name in ["b", "a"] {
+        buffer
+            .primary_key_or(&key(&rt, alloc, name))
+            .expect(&rt, "memory");
+    }
+    assert_shown(&rt, alloc, &buffer.get_primary_key(), "Some(Key(62))");
+}
+
+fn mutation(rt: &impl Abort, alloc: Global, op: Op) -> Mutation {
+    Mutation {
+        op,
+        key: key(rt, alloc, "a"),
+        value: value(rt, alloc, "1"),
+        assertion: Assertion::None,
+    }
+}
+
+#[test]
+fn puts_and_deletes_are_mutations(rt: HostRuntime) {
     let alloc = rt.alloc();
     let mut buffer = Buffer::new(alloc, false);
-    let asked = [
-        key(alloc, "key2")?,
-        key(alloc, "key1")?,
-        key(alloc, "key2")?,
+    let rows = [
+        (Op::Put, "Ok(())"),
+        (Op::Del, "Ok(())"),
+        (Op::Lock, "Err(Unimplemented)"),
     ];
-    let mut fetched = Vec::new(alloc);
-    fetched.push(pair(alloc, "key1", "value1")?)?;
-    fetched.push(pair(alloc, "key2", "value2")?)?;
-    let pairs = taken(buffer.batch_fill(&asked, fetched))?;
-    let first = pair(alloc, "key1", "value1")?;
-    let second = pair(alloc, "key2", "value2")?;
-    let again = pair(alloc, "key2", "value2")?;
-    assert_eq!(rt; pairs.as_slice(), [first, second, again].as_slice());
-    assert_eq!(rt; buffer.batch_missing(&asked)?.len(), 0);
-    let mut unlike = Vec::new(alloc);
-    unlike.push(pair(alloc, "key3", "value3")?)?;
-    unlike.push(pair(alloc, "key1", "value2")?)?;
-    let is_unlike = matches!(
-        buffer.batch_fill(&asked, unlike),
-        Err(Error::InternalError {
-            what: Internal::UnlikeCache { .. }
-        })
-    );
-    assert_eq!(rt; is_unlike, true);
-    assert_eq!(rt; buffer.missing(&key(alloc, "key3")?), true);
-    Ok(())
-}
-
-/// A buffer in which `a` is deleted and `b` inserted.
-fn written(alloc: Global) -> Result<Buffer, NoMemory> {
-    let mut buffer = Buffer::new(alloc, false);
-    buffer.delete(key(alloc, "a")?)?;
-    buffer.insert(key(alloc, "b")?, value(alloc, "2")?)?;
-    Ok(buffer)
-}
-
-/// What a scan from `a` fetched.
-fn fetched(alloc: Global) -> Result<Vec<KvPair>, NoMemory> {
-    let mut pairs = Vec::new(alloc);
-    pairs.push(pair(alloc, "a", "1")?)?;
-    pairs.push(pair(alloc, "c", "3")?)?;
-    pairs.push(pair(alloc, "e", "5")?)?;
-    Ok(pairs)
-}
-
-fn from_a(alloc: Global) -> Result<BoundRange, NoMemory> {
-    Ok(BoundRange::range_from(key(alloc, "a")?))
-}
-
-#[test]
-fn scans_for_more_where_keys_are_deleted(rt: HostRuntime) -> Result<(), Fail> {
-    let buffer = written(rt.alloc())?;
-    assert_eq!(rt; buffer.scan_limit(&from_a(rt.alloc())?, 2)?, 3);
-    Ok(())
-}
-
-#[test]
-fn scans_for_the_limit_where_the_range_is_empty(rt: HostRuntime) -> Result<(), Fail> {
-    let alloc = rt.alloc();
-    let buffer = written(alloc)?;
-    let b = Bound::Excluded(key(alloc, "b")?);
-    let a = Bound::Excluded(key(alloc, "a")?);
-    assert_eq!(rt; buffer.scan_limit(&BoundRange::new(b, a), 2)?, 2);
-    Ok(())
-}
-
-#[test]
-fn scans_through_the_writes(rt: HostRuntime) -> Result<(), Fail> {
-    let alloc = rt.alloc();
-    let mut buffer = written(alloc)?;
-    let range = from_a(alloc)?;
-    let pairs = taken(buffer.scan_fill(&range, 2, true, false, fetched(alloc)?))?;
-    let first = pair(alloc, "b", "2")?;
-    let second = pair(alloc, "c", "3")?;
-    assert_eq!(rt; pairs.as_slice(), [first, second].as_slice());
-    Ok(())
-}
-
-#[test]
-fn scans_fill_what_they_read(rt: HostRuntime) -> Result<(), Fail> {
-    let alloc = rt.alloc();
-    let mut buffer = written(alloc)?;
-    let range = from_a(alloc)?;
-    let pairs = taken(buffer.scan_fill(&range, 2, true, false, fetched(alloc)?))?;
-    assert_eq!(rt; pairs.len(), 2);
-    assert_eq!(rt; buffer.missing(&key(alloc, "e")?), false);
-    Ok(())
-}
-
-#[test]
-fn scans_merge_pairs_that_ascend(rt: HostRuntime) -> Result<(), Fail> {
-    let alloc = rt.alloc();
-    let mut buffer = written(alloc)?;
-    let range = from_a(alloc)?;
-    let pairs = taken(buffer.scan_fill(&range, 9, true, false, fetched(alloc)?))?;
-    let first = pair(alloc, "b", "2")?;
-    let second = pair(alloc, "c", "3")?;
-    let third = pair(alloc, "e", "5")?;
-    assert_eq!(rt; pairs.as_slice(), [first, second, third].as_slice());
-    Ok(())
-}
-
-#[test]
-fn scans_sort_pairs_that_do_not_ascend(rt: HostRuntime) -> Result<(), Fail> {
-    let alloc = rt.alloc();
-    let mut buffer = written(alloc)?;
-    let mut mixed = Vec::new(alloc);
-    mixed.push(pair(alloc, "c", "0")?)?;
-    mixed.push(pair(alloc, "a", "1")?)?;
-    mixed.push(pair(alloc, "c", "3")?)?;
-    let range = from_a(alloc)?;
-    let pairs = taken(buffer.scan_fill(&range, 9, false, false, mixed))?;
-    let first = pair(alloc, "b", "2")?;
-    let second = pair(alloc, "c", "3")?;
-    assert_eq!(rt; pairs.as_slice(), [first, second].as_slice());
-    Ok(())
-}
-
-#[test]
-fn reverse_scans_merge_pairs_that_descend(rt: HostRuntime) -> Result<(), Fail> {
-    let alloc = rt.alloc();
-    let mut buffer = written(alloc)?;
-    let mut falling = Vec::new(alloc);
-    falling.push(pair(alloc, "c", "3")?)?;
-    falling.push(pair(alloc, "a", "1")?)?;
-    let range = from_a(alloc)?;
-    let pairs = taken(buffer.scan_fill(&range, 9, true, true, falling))?;
-    let first = pair(alloc, "c", "3")?;
-    let second = pair(alloc, "b", "2")?;
-    assert_eq!(rt; pairs.as_slice(), [first, second].as_slice());
-    Ok(())
-}
-
-#[test]
-fn scans_stop_at_the_limit(rt: HostRuntime) -> Result<(), Fail> {
-    let alloc = rt.alloc();
-    let mut buffer = written(alloc)?;
-    let range = from_a(alloc)?;
-    let pairs = taken(buffer.scan_fill(&range, 1, true, false, fetched(alloc)?))?;
-    assert_eq!(rt; pairs.as_slice(), [pair(alloc, "b", "2")?].as_slice());
-    Ok(())
+    for (op, expected) in rows {
+        let done = buffer.mutate(mutation(&rt, alloc, op));
+        assert_shown(&rt, alloc, &done, expected);
+    }
 }

@@ -4,6 +4,8 @@
 #[cfg(test)]
 mod buffer;
 #[cfg(test)]
+mod fixtures;
+#[cfg(test)]
 mod merge;
 #[cfg(test)]
 mod request;

@@ -1,3 +1,4 @@
+mod fixtures;
 mod lowered;
 mod made;
 mod responses;

@@ -1,232 +1,269 @@
-use super::fixtures::{Locked, commit, key, lock, locked_one, locked_two, secondaries, value};
+use super::fixtures::{commit, lock};
+use crate::fixtures::{assert_shown, key, value};
 use std::alloc::Global;
-use std::test::Fail;
+use std::process::Abort;
 use txn_kv::{
-    BatchGetResponse, CheckSecondaryLocksResponse, CommitResponse, Error, Internal, Items, KvPair,
-    NoMemory, PbPair, Result, ScanLockResponse, ScanResponse, Text, Timestamp, TimestampExt,
-    UnsafeDestroyRangeResponse,
+    Assertion, BatchGetResponse, CheckSecondaryLocksResponse, CommitResponse, Error, Items, KvPair,
+    Mutation, Op, PbPair, PessimisticLockResponse, Result, ScanLockResponse, ScanResponse, Text,
+    UnsafeDestroyRangeResponse, Value,
 };
 use txn_merge::{
     CleanupLocksResult, Collect, CollectError, CollectSingle, CollectWithShard, Merge,
-    SecondaryLocksStatus,
+    ResponseWithShard,
 };
 
-fn add(shards: &mut Vec<Result<Locked>>, shard: Locked) -> std::result::Result<(), NoMemory> {
-    shards.push(Ok(shard))?;
-    Ok(())
+type Locked = ResponseWithShard<PessimisticLockResponse, Items<Mutation>>;
+
+/// The keys of a shard, the values that its reply has for them, and its flags of those that are absent.
+#[derive(Clone, Copy)]
+struct Shard {
+    keys: &'static [&'static str],
+    values: &'static [&'static str],
+    not_founds: &'static [bool],
 }
 
-fn add_one(
-    alloc: Global,
-    shards: &mut Vec<Result<Locked>>,
-    bytes: &[u8],
-    found: &[u8],
-) -> std::result::Result<(), NoMemory> {
-    let shard = locked_one(alloc, bytes, found)?;
-    add(shards, shard)
-}
+const SHARDS: [Shard; 3] = [
+    Shard {
+        keys: &["key1"],
+        values: &["value1"],
+        not_founds: &[],
+    },
+    Shard {
+        keys: &["key2"],
+        values: &[""],
+        not_founds: &[],
+    },
+    Shard {
+        keys: &["key3", "key4"],
+        values: &["", ""],
+        not_founds: &[true, false],
+    },
+];
 
-fn add_two(alloc: Global, shards: &mut Vec<Result<Locked>>) -> std::result::Result<(), NoMemory> {
-    let shard = locked_two(alloc)?;
-    add(shards, shard)
-}
-
-fn shards(alloc: Global) -> std::result::Result<Vec<Result<Locked>>, NoMemory> {
-    let mut shards = Vec::new(alloc);
-    add_one(alloc, &mut shards, b"key1", b"value1")?;
-    add_one(alloc, &mut shards, b"key2", b"")?;
-    add_two(alloc, &mut shards)?;
-    Ok(shards)
-}
-
-/// The pairs that the shards collect to, as a text.
-fn collected(alloc: Global) -> Result<String> {
-    let all = shards(alloc)?;
-    let pairs = CollectWithShard.merge(alloc, all)?;
-    match format!(in alloc; "{pairs:?}") {
-        Ok(text) => Ok(text),
-        Err(_) => Err(Error::OutOfMemory),
+fn mutations(rt: &impl Abort, alloc: Global, keys: &[&str]) -> Items<Mutation> {
+    let mut mutations = Items::new(alloc);
+    for name in keys {
+        let mutation = Mutation {
+            op: Op::PessimisticLock,
+            key: key(rt, alloc, name),
+            value: Value::new(alloc),
+            assertion: Assertion::None,
+        };
+        mutations.push(mutation).expect(rt, "memory");
     }
+    mutations
 }
 
-/// What a failed shard makes of them.
-fn failed(alloc: Global) -> std::result::Result<Option<usize>, NoMemory> {
-    let mut all = shards(alloc)?;
-    all.push(Err(Error::ResolveLockError(Vec::new(alloc))))?;
-    let answer = CollectWithShard.merge(alloc, all);
-    Ok(named_keys(&answer))
-}
-
-#[test]
-fn locks_of_shards(rt: HostRuntime) -> std::result::Result<(), Fail> {
-    let text = collected(rt.alloc())?;
-    assert_eq!(rt;
-        text.as_str(),
-        "[KvPair(6B657931, \"value1\"), KvPair(6B657934, \"\")]"
-    );
-    Ok(())
-}
-
-/// How many keys a failed lock names, where its error is one of no locks.
-fn named_keys(answer: &Result<Vec<KvPair>>) -> Option<usize> {
-    match answer {
-        Err(
-            Error::PessimisticLockError {
-                inner,
-                success_keys,
-            },
-        ) => match &**inner {
-            Error::ResolveLockError(locks) if locks.is_empty() => Some(success_keys.len()),
-            _ => None,
-        },
-        _ => None,
+fn values(rt: &impl Abort, alloc: Global, texts: &[&str]) -> Items<Value> {
+    let mut values = Items::new(alloc);
+    for text in texts {
+        values.push(value(rt, alloc, text)).expect(rt, "memory");
     }
+    values
 }
 
-#[test]
-fn a_shard_fails(rt: HostRuntime) -> std::result::Result<(), Fail> {
-    assert_eq!(rt; failed(rt.alloc())?, Some(4));
-    Ok(())
-}
-
-/// The two numbers of a refusal.
-fn shape<T>(answer: &Result<T>) -> Option<(u64, u64)> {
-    match answer {
-        Err(
-            Error::InternalError {
-                what: Internal::Shape { expected, given },
-            },
-        ) => Some((*expected, *given)),
-        _ => None,
-    }
-}
-
-fn states(
-    alloc: Global,
-    first: CheckSecondaryLocksResponse,
-    second: CheckSecondaryLocksResponse,
-) -> Result<SecondaryLocksStatus> {
-    let mut all = Vec::new(alloc);
-    if all.push(Ok(first)).is_err() || all.push(Ok(second)).is_err() {
-        return Err(Error::OutOfMemory);
-    }
-    Collect.merge(alloc, all)
-}
-
-#[test]
-fn unlike_commits(rt: HostRuntime) -> std::result::Result<(), Fail> {
-    let alloc = rt.alloc();
-    let first = secondaries(alloc, None, 7, false)?;
-    let second = secondaries(alloc, None, 8, false)?;
-    let answer = states(alloc, first, second);
-    assert_eq!(rt; shape(&answer), Some((7, 8)));
-    Ok(())
-}
-
-#[test]
-fn secondary_states(rt: HostRuntime) -> std::result::Result<(), Fail> {
-    let alloc = rt.alloc();
-    let first = secondaries(alloc, Some(lock(alloc, false, 4)?), 0, false)?;
-    let second = secondaries(alloc, Some(lock(alloc, true, 6)?), 7, true)?;
-    let expected = SecondaryLocksStatus {
-        commit_ts: Some(Timestamp::from_version(7)),
-        min_commit_ts: 6,
-        fallback_2pc: true,
-        missing: true,
+fn locked(rt: &impl Abort, alloc: Global, shard: Shard) -> Locked {
+    let reply = PessimisticLockResponse {
+        region_error: None,
+        errors: Items::new(alloc),
+        values: values(rt, alloc, shard.values),
+        not_founds: Items::from_vec(shard.not_founds.to_vec(alloc).expect(rt, "memory")),
     };
-    assert_eq!(rt; states(alloc, first, second)?, expected);
-    Ok(())
+    ResponseWithShard(reply, mutations(rt, alloc, shard.keys))
+}
+
+/// What the shards collect to, and one more that fails where one does.
+fn collected(rt: &impl Abort, alloc: Global, fails: bool) -> Result<Vec<KvPair>> {
+    let mut shards = Vec::new(alloc);
+    for shard in SHARDS {
+        shards
+            .push(Ok(locked(rt, alloc, shard)))
+            .expect(rt, "memory");
+    }
+    if fails {
+        shards.push(Err(Error::OnePcFailure)).expect(rt, "memory");
+    }
+    CollectWithShard.merge(alloc, shards)
 }
 
 #[test]
-fn one_answer(rt: HostRuntime) -> std::result::Result<(), Fail> {
-    let alloc = rt.alloc();
-    let mut one = Vec::new(alloc);
-    one.push(Ok(commit(None, None)))?;
-    let reply = CollectSingle.merge(alloc, one)?;
-    assert_eq!(rt; reply, commit(None, None));
-    let none: Vec<Result<CommitResponse>> = Vec::new(alloc);
-    let answer = CollectSingle.merge(alloc, none);
-    assert_eq!(rt; shape(&answer), Some((1, 0)));
-    Ok(())
+fn locks_of_shards(rt: HostRuntime) {
+    let rows = [
+        (
+            false,
+            "Ok([KvPair(6B657931, \"value1\"), KvPair(6B657934, \"\")])",
+        ),
+        (
+            true,
+            "Err(PessimisticLockError { inner: OnePcFailure, success_keys: [Key(6B657931), Key(6B657932), Key(6B657933), Key(6B657934)] })",
+        ),
+    ];
+    for (fails, expected) in rows {
+        assert_shown(
+            &rt,
+            rt.alloc(),
+            &collected(&rt, rt.alloc(), fails),
+            expected,
+        );
+    }
 }
 
-#[test]
-fn all_answers(rt: HostRuntime) -> std::result::Result<(), Fail> {
-    let alloc = rt.alloc();
-    let mut two = Vec::new(alloc);
-    two.push(Ok(commit(None, None)))?;
-    two.push(Ok(commit(None, None)))?;
-    let replies = CollectError.merge(alloc, two)?;
-    assert_eq!(rt; replies.len(), 2);
-    Ok(())
+/// What a store says of the secondary keys: the least commit version of its lock of an asynchronous commit or another.
+#[derive(Clone, Copy)]
+struct State {
+    held: Option<(bool, u64)>,
+    commit_ts: u64,
+    missing: bool,
 }
 
-fn pairs(alloc: Global) -> std::result::Result<Items<PbPair>, NoMemory> {
-    let mut pairs = Items::new(alloc);
-    pairs.push(PbPair {
-        error: None,
-        key: key(alloc, b"a")?,
-        value: value(alloc, b"1")?,
-    })?;
-    Ok(pairs)
-}
-
-#[test]
-fn pairs_of_gets(rt: HostRuntime) -> std::result::Result<(), Fail> {
-    let alloc = rt.alloc();
-    let mut replies = Vec::new(alloc);
-    replies.push(Ok(BatchGetResponse {
-        region_error: None,
-        error: None,
-        pairs: pairs(alloc)?,
-    }))?;
-    let joined = Collect.merge(alloc, replies)?;
-    let text = format!(in alloc; "{joined:?}")?;
-    assert_eq!(rt; text.as_str(), "[KvPair(61, \"1\")]");
-    Ok(())
-}
-
-#[test]
-fn pairs_of_scans(rt: HostRuntime) -> std::result::Result<(), Fail> {
-    let alloc = rt.alloc();
-    let mut replies = Vec::new(alloc);
-    replies.push(Ok(ScanResponse {
-        region_error: None,
-        error: None,
-        pairs: pairs(alloc)?,
-    }))?;
-    let joined = Collect.merge(alloc, replies)?;
-    assert_eq!(rt; joined.len(), 1);
-    Ok(())
-}
-
-#[test]
-fn locks_of_scans(rt: HostRuntime) -> std::result::Result<(), Fail> {
-    let alloc = rt.alloc();
+fn secondaries(rt: &impl Abort, alloc: Global, state: State) -> CheckSecondaryLocksResponse {
     let mut locks = Items::new(alloc);
-    locks.push(lock(alloc, false, 0)?)?;
-    let mut replies = Vec::new(alloc);
-    replies.push(Ok(ScanLockResponse {
+    if let Some((use_async_commit, min_commit_ts)) = state.held {
+        let held = lock(rt, alloc, use_async_commit, min_commit_ts);
+        locks.push(held).expect(rt, "memory");
+    }
+    CheckSecondaryLocksResponse {
         region_error: None,
         error: None,
         locks,
-    }))?;
-    let joined = Collect.merge(alloc, replies)?;
-    assert_eq!(rt; joined.len(), 1);
-    Ok(())
+        commit_ts: state.commit_ts,
+        missing: state.missing,
+    }
+}
+
+fn assert_joined(rt: &impl Abort, alloc: Global, states: [State; 2], expected: &str) {
+    let mut replies = Vec::new(alloc);
+    for state in states {
+        let reply = secondaries(rt, alloc, state);
+        replies.push(Ok(reply)).expect(rt, "memory");
+    }
+    assert_shown(rt, alloc, &Collect.merge(alloc, replies), expected);
+}
+
+fn committed(commit_ts: u64) -> State {
+    State {
+        held: None,
+        commit_ts,
+        missing: false,
+    }
 }
 
 #[test]
-fn destroyed_ranges(rt: HostRuntime) -> std::result::Result<(), Fail> {
-    let alloc = rt.alloc();
+fn secondary_states(rt: HostRuntime) {
+    assert_joined(
+        &rt,
+        rt.alloc(),
+        [committed(7), committed(8)],
+        "Err(InternalError { what: Shape { expected: 7, given: 8 } })",
+    );
+    let plain = State {
+        held: Some((false, 4)),
+        commit_ts: 0,
+        missing: false,
+    };
+    let missing = State {
+        held: Some((true, 6)),
+        commit_ts: 7,
+        missing: true,
+    };
+    assert_joined(
+        &rt,
+        rt.alloc(),
+        [plain, missing],
+        "Ok(SecondaryLocksStatus { commit_ts: Some(Timestamp { physical: 0, logical: 7, suffix_bits: 0 }), min_commit_ts: 6, fallback_2pc: true, missing: true })",
+    );
+}
+
+fn commits(rt: &impl Abort, alloc: Global, count: usize) -> Vec<Result<CommitResponse>> {
     let mut replies = Vec::new(alloc);
-    replies.push(Ok(UnsafeDestroyRangeResponse {
+    for _ in 0..count {
+        replies.push(Ok(commit(None, None))).expect(rt, "memory");
+    }
+    replies
+}
+
+#[test]
+fn one_answer(rt: HostRuntime) {
+    let rows = [
+        (
+            0,
+            "Err(InternalError { what: Shape { expected: 1, given: 0 } })",
+        ),
+        (
+            1,
+            "Ok(CommitResponse { region_error: None, error: None, commit_version: 0 })",
+        ),
+    ];
+    for (count, expected) in rows {
+        let answer = CollectSingle.merge(rt.alloc(), commits(&rt, rt.alloc(), count));
+        assert_shown(&rt, rt.alloc(), &answer, expected);
+    }
+}
+
+#[test]
+fn all_answers(rt: HostRuntime) {
+    let answer = CollectError.merge(rt.alloc(), commits(&rt, rt.alloc(), 2));
+    assert_eq!(rt; answer.map_or(0, |replies| replies.len()), 2);
+}
+
+fn pairs(rt: &impl Abort, alloc: Global) -> Items<PbPair> {
+    let pair = PbPair {
+        error: None,
+        key: key(rt, alloc, "a"),
+        value: value(rt, alloc, "1"),
+    };
+    Items::from_vec(vec![in alloc; pair].expect(rt, "memory"))
+}
+
+#[test]
+fn pairs_of_gets(rt: HostRuntime) {
+    let alloc = rt.alloc();
+    let reply = BatchGetResponse {
+        region_error: None,
+        error: None,
+        pairs: pairs(&rt, alloc),
+    };
+    let replies = vec![in alloc; Ok(reply)].expect(&rt, "memory");
+    let joined = Collect.merge(alloc, replies);
+    assert_shown(&rt, alloc, &joined, "Ok([KvPair(61, \"1\")])");
+}
+
+#[test]
+fn pairs_of_scans(rt: HostRuntime) {
+    let alloc = rt.alloc();
+    let reply = ScanResponse {
+        region_error: None,
+        error: None,
+        pairs: pairs(&rt, alloc),
+    };
+    let replies = vec![in alloc; Ok(reply)].expect(&rt, "memory");
+    let joined = Collect.merge(alloc, replies);
+    assert_shown(&rt, alloc, &joined, "Ok([KvPair(61, \"1\")])");
+}
+
+#[test]
+fn locks_of_scans(rt: HostRuntime) {
+    let alloc = rt.alloc();
+    let locks = vec![in alloc; lock(&rt, alloc, false, 0)].expect(&rt, "memory");
+    let reply = ScanLockResponse {
+        region_error: None,
+        error: None,
+        locks: Items::from_vec(locks),
+    };
+    let replies = vec![in alloc; Ok(reply)].expect(&rt, "memory");
+    let joined = Collect.merge(alloc, replies).expect(&rt, "locks");
+    assert_eq!(rt; joined.len(), 1);
+}
+
+#[test]
+fn destroyed_ranges(rt: HostRuntime) {
+    let alloc = rt.alloc();
+    let reply = UnsafeDestroyRangeResponse {
         region_error: None,
         error: Text::from_string(String::new(alloc)),
-    }))?;
-    assert!(rt; Collect.merge(alloc, replies).is_ok());
-    Ok(())
+    };
+    let replies = vec![in alloc; Ok(reply)].expect(&rt, "memory");
+    assert_shown(&rt, alloc, &Collect.merge(alloc, replies), "Ok(())");
 }
 
 fn cleaned(resolved_locks: u64) -> CleanupLocksResult {
@@ -238,22 +275,20 @@ fn cleaned(resolved_locks: u64) -> CleanupLocksResult {
 }
 
 #[test]
-fn resolved_locks(rt: HostRuntime) -> std::result::Result<(), Fail> {
+fn resolved_locks(rt: HostRuntime) {
     let alloc = rt.alloc();
-    let mut results = Vec::new(alloc);
-    results.push(Ok(cleaned(u64::MAX - 1)))?;
-    results.push(Ok(cleaned(3)))?;
-    let total = Collect.merge(alloc, results)?;
+    let results = vec![in alloc; Ok(cleaned(u64::MAX - 1)), Ok(cleaned(3))].expect(&rt, "memory");
+    let total = Collect.merge(alloc, results).expect(&rt, "a sum");
     assert_eq!(rt; total.resolved_locks, u64::MAX);
-    Ok(())
 }
 
 #[test]
-fn names_of_ways(rt: HostRuntime) -> std::result::Result<(), Fail> {
-    let all = Collect;
-    let single = CollectSingle;
-    let shards = CollectWithShard;
-    let text = format!(in rt.alloc(); "{all:?} {single:?} {shards:?}")?;
-    assert_eq!(rt; text.as_str(), "Collect CollectSingle CollectWithShard");
-    Ok(())
+fn names_of_ways(rt: HostRuntime) {
+    let ways = (Collect, CollectSingle, CollectWithShard);
+    assert_shown(
+        &rt,
+        rt.alloc(),
+        &ways,
+        "(Collect, CollectSingle, CollectWithShard)",
+    );
 }

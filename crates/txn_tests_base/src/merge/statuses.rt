@@ -1,22 +1,41 @@
-use super::fixtures::{lock, status, value};
-use std::test::Fail;
+use super::fixtures::lock;
+use crate::fixtures::{assert_shown, value};
+use std::alloc::Global;
+use std::process::Abort;
 use txn_kv::{
-    Backoff, CheckTxnStatusResponse, CleanupResponse, Error, GetResponse, Internal, MembersRequest,
-    Reply, Request, Result, StoreId, Timestamp, TimestampExt, TryClone, TsoResponse,
-    TxnHeartBeatResponse,
+    Action, Backoff, CheckTxnStatusResponse, CleanupResponse, Error, GetResponse, Internal,
+    MembersRequest, MembersResponse, Reply, Request, Result, StoreId, Timestamp, TimestampExt,
+    TryClone, TxnHeartBeatResponse,
 };
 use txn_merge::{
     DefaultProcessor, KvClient, KvConnect, Process, RetryOptions, TransactionStatus,
     TransactionStatusKind,
 };
 
-/// A word for what a reply tells.
-fn word(reply: CheckTxnStatusResponse) -> &'static str {
-    let told = DefaultProcessor.process(Ok(reply));
-    word_of(&told)
+/// What a reply with these numbers, and a lock or not, tells of its transaction.
+fn told(
+    rt: &impl Abort,
+    alloc: Global,
+    commit_version: u64,
+    lock_ttl: u64,
+    is_locked: bool,
+) -> Result<TransactionStatus> {
+    let lock_info = if is_locked {
+        Some(lock(rt, alloc, false, 0))
+    } else {
+        None
+    };
+    DefaultProcessor.process(Ok(CheckTxnStatusResponse {
+        region_error: None,
+        error: None,
+        lock_ttl,
+        commit_version,
+        action: Action::NoAction,
+        lock_info,
+    }))
 }
 
-fn word_of(told: &Result<TransactionStatus>) -> &'static str {
+fn word(told: &Result<TransactionStatus>) -> &'static str {
     match told {
         Ok(status) => match &status.kind {
             TransactionStatusKind::Committed(_) => "committed",
@@ -33,127 +52,115 @@ fn word_of(told: &Result<TransactionStatus>) -> &'static str {
 }
 
 #[test]
-fn status_words(rt: HostRuntime) -> std::result::Result<(), Fail> {
-    let alloc = rt.alloc();
-    assert_eq!(rt; word(status(0, 0, None)), "rolled back");
-    assert_eq!(rt; word(status(7, 0, None)), "committed");
-    assert_eq!(rt; word(status(0, 0, Some(lock(alloc, false, 0)?))), "locked");
-    Ok(())
+fn status_words(rt: HostRuntime) {
+    let rows = [
+        (0, 0, false, "rolled back"),
+        (7, 0, false, "committed"),
+        (0, 0, true, "locked"),
+        (0, 3, false, "odd"),
+        (7, 3, false, "odd"),
+        (7, 0, true, "odd"),
+    ];
+    for (commit_version, lock_ttl, is_locked, expected) in rows {
+        let told = told(&rt, rt.alloc(), commit_version, lock_ttl, is_locked);
+        assert_eq!(rt;
+            word(&told),
+            expected,
+            "of {commit_version}, {lock_ttl}, {is_locked}"
+        );
+    }
 }
 
 #[test]
-fn odd_statuses(rt: HostRuntime) -> std::result::Result<(), Fail> {
-    assert_eq!(rt; word(status(0, 3, None)), "odd");
-    assert_eq!(rt; word(status(7, 3, None)), "odd");
-    assert_eq!(rt;
-        word(status(7, 0, Some(lock(rt.alloc(), false, 0)?))),
-        "odd"
+fn locks_expire(rt: HostRuntime) {
+    for (ms, is_expired) in [(24, false), (25, true)] {
+        let told = told(&rt, rt.alloc(), 0, 20, true);
+        let mut status = told.expect(&rt, "a status");
+        status.check_ttl(Timestamp::from_version(ms * 262_144));
+        assert_eq!(rt; status.is_expired, is_expired, "after {ms} ms");
+        assert_eq!(rt; status.is_cacheable(), is_expired, "after {ms} ms");
+    }
+}
+
+#[test]
+fn a_status_is_copied(rt: HostRuntime) {
+    let status = told(&rt, rt.alloc(), 7, 0, false).expect(&rt, "a status");
+    assert_shown(
+        &rt,
+        rt.alloc(),
+        &status.try_clone(),
+        "Ok(TransactionStatus { kind: Committed(Timestamp { physical: 0, logical: 7, suffix_bits: 0 }), action: NoAction, is_expired: false })",
     );
-    Ok(())
-}
-
-/// Whether a lock with 20 ms to live since 5 ms is expired at a version, and then may be kept.
-fn expires(alloc: std::alloc::Global, version: u64) -> std::result::Result<(bool, bool), Error> {
-    let mut told = TransactionStatus::from_response(status(0, 20, Some(lock(alloc, false, 0)?)))?;
-    told.check_ttl(Timestamp::from_version(version));
-    Ok((told.is_expired, told.is_cacheable()))
 }
 
 #[test]
-fn locks_expire(rt: HostRuntime) -> std::result::Result<(), Fail> {
-    let alloc = rt.alloc();
-    assert_eq!(rt; expires(alloc, 24 * 262_144)?, (false, false));
-    assert_eq!(rt; expires(alloc, 25 * 262_144)?, (true, true));
-    Ok(())
-}
-
-#[test]
-fn copies(rt: HostRuntime) -> std::result::Result<(), Fail> {
-    let told = TransactionStatus::from_response(status(7, 0, None))?;
-    let copy = told.try_clone()?;
-    assert!(rt; copy.is_cacheable());
-    let text = format!(in rt.alloc(); "{copy:?}")?;
-    assert_eq!(rt;
-        text.as_str(),
-        "TransactionStatus { kind: Committed(Timestamp { physical: 0, logical: 7, suffix_bits: 0 }), action: NoAction, is_expired: false }"
-    );
-    Ok(())
-}
-
-#[test]
-fn values_of_gets(rt: HostRuntime) -> std::result::Result<(), Fail> {
+fn values_of_gets(rt: HostRuntime) {
     let alloc = rt.alloc();
     let found = GetResponse {
         region_error: None,
         error: None,
-        value: value(alloc, b"v")?,
+        value: value(&rt, alloc, "v"),
         not_found: false,
     };
-    assert!(rt; DefaultProcessor.process(Ok(found))? == Some(value(alloc, b"v")?));
-    Ok(())
+    let processed = DefaultProcessor.process(Ok(found));
+    assert_shown(&rt, alloc, &processed, "Ok(Some(Items { vec: [118] }))");
 }
 
 #[test]
-fn numbers_of_replies(rt: HostRuntime) -> std::result::Result<(), Fail> {
+fn numbers_of_replies(rt: HostRuntime) {
     let cleaned = CleanupResponse {
         region_error: None,
         error: None,
         commit_version: 8,
     };
-    assert_eq!(rt; DefaultProcessor.process(Ok(cleaned))?, 8);
+    let processed = DefaultProcessor.process(Ok(cleaned));
+    assert_shown(&rt, rt.alloc(), &processed, "Ok(8)");
     let beaten = TxnHeartBeatResponse {
         region_error: None,
         error: None,
         lock_ttl: 9,
     };
-    assert_eq!(rt; DefaultProcessor.process(Ok(beaten))?, 9);
-    Ok(())
+    let processed = DefaultProcessor.process(Ok(beaten));
+    assert_shown(&rt, rt.alloc(), &processed, "Ok(9)");
 }
 
 #[test]
-fn retry_options(rt: HostRuntime) -> std::result::Result<(), Fail> {
+fn retry_options(rt: HostRuntime) {
     let both = Backoff::no_jitter_backoff(2, 500, 10);
-    assert!(rt; RetryOptions::default_optimistic() == RetryOptions::new(both, both));
-    assert!(rt; RetryOptions::default_pessimistic() == RetryOptions::default_optimistic());
-    assert!(rt; RetryOptions::none().clone()? != RetryOptions::default_optimistic());
-    assert!(rt; RetryOptions::none().lock_backoff.is_none());
-    Ok(())
+    let options = RetryOptions::new(both, both);
+    assert!(rt; RetryOptions::default_optimistic() == options);
+    assert!(rt; RetryOptions::default_pessimistic() == options);
+    let none = RetryOptions::none().clone().expect(&rt, "memory");
+    assert!(rt; none.region_backoff.is_none() && none.lock_backoff.is_none());
 }
 
-/// Answers every request with a timestamp.
+/// Answers every request with no members.
 #[derive(Drop)]
-struct Clock;
+struct Silent;
 
-impl KvClient for Clock {
+impl KvClient for Silent {
     ghost can_dispatch = { λ _ _. Unit {0} };
 
     ghost answers = { λ _ _ _. Unit {0} };
 
     fn dispatch(&self, _request: &Request) -> Result<Reply> {
-        Ok(Reply::Tso(TsoResponse {
-            count: 1,
-            timestamp: None,
-        }))
+        Ok(Reply::Members(MembersResponse))
     }
 }
 
-#[derive(Drop)]
-struct Clocks;
-
-impl KvConnect for Clocks {
-    type KvClient = Clock;
+impl KvConnect for Silent {
+    type KvClient = Silent;
 
     ghost connects = { λ _ _ _. Unit {0} };
 
-    fn connect(&self, _store: StoreId) -> Result<Clock> {
-        Ok(Clock)
+    fn connect(&self, _store: StoreId) -> Result<Silent> {
+        Ok(Silent)
     }
 }
 
 #[test]
-fn clients(rt: HostRuntime) -> std::result::Result<(), Fail> {
-    let client = Clocks.connect(1)?;
-    let reply = client.dispatch(&Request::Members(MembersRequest))?;
-    assert!(rt; matches!(&reply, Reply::Tso(_)));
-    Ok(())
+fn clients(rt: HostRuntime) {
+    let client = Silent.connect(1).expect(&rt, "a client");
+    let reply = client.dispatch(&Request::Members(MembersRequest));
+    assert_shown(&rt, rt.alloc(), &reply, "Ok(Members(MembersResponse))");
 }

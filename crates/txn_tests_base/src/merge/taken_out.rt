@@ -1,78 +1,65 @@
-use super::fixtures::{commit, key, lock};
+use super::fixtures::{commit, lock};
+use crate::fixtures::{assert_shown, key};
 use std::alloc::Global;
-use std::test::Fail;
-use txn_kv::{CommitResponse, Error, KeyError, NoMemory, RegionErr, Result};
+use std::process::Abort;
+use txn_kv::{CommitResponse, Error, KeyError, RegionErr, Result};
 use txn_merge::{HasKeyErrors, HasLocks, HasRegionError, HasRegionErrors, extract_error};
 
-fn not_found(alloc: Global) -> std::result::Result<KeyError, NoMemory> {
-    Ok(KeyError::TxnLockNotFound {
-        key: key(alloc, b"k")?,
-    })
-}
-
-/// How many errors were extracted, if some were.
-fn extracted(answer: &Result<CommitResponse>) -> Option<usize> {
-    match answer {
-        Ok(_) => None,
-        Err(Error::ExtractedErrors(errors)) => Some(errors.len()),
-        Err(_) => Some(0),
-    }
+fn assert_extracted(rt: &impl Abort, alloc: Global, reply: CommitResponse, expected: &str) {
+    let result = extract_error(alloc, Ok(reply)).expect(rt, "memory");
+    assert_shown(rt, alloc, &result, expected);
 }
 
 #[test]
-fn a_commit_with_an_error(rt: HostRuntime) -> std::result::Result<(), Fail> {
+fn errors_take_the_place_of_their_reply(rt: HostRuntime) {
     let alloc = rt.alloc();
-    let reply = commit(Some(not_found(alloc)?), None);
-    let result = extract_error(alloc, Ok(reply))?;
-    assert_eq!(rt; extracted(&result), Some(1));
-    Ok(())
+    let at_key = KeyError::TxnLockNotFound {
+        key: key(&rt, alloc, "k"),
+    };
+    assert_extracted(
+        &rt,
+        alloc,
+        commit(Some(at_key), None),
+        "Err(ExtractedErrors([KeyError(TxnLockNotFound { key: Key(6B) })]))",
+    );
+    assert_extracted(
+        &rt,
+        alloc,
+        commit(None, Some(RegionErr::StaleCommand)),
+        "Err(ExtractedErrors([RegionError(StaleCommand)]))",
+    );
+    assert_extracted(
+        &rt,
+        alloc,
+        commit(None, None),
+        "Ok(CommitResponse { region_error: None, error: None, commit_version: 0 })",
+    );
 }
 
 #[test]
-fn a_commit_with_a_region_error(rt: HostRuntime) -> std::result::Result<(), Fail> {
-    let reply = commit(None, Some(RegionErr::StaleCommand));
-    let result = extract_error(rt.alloc(), Ok(reply))?;
-    assert_eq!(rt; extracted(&result), Some(1));
-    Ok(())
-}
-
-#[test]
-fn a_commit_without(rt: HostRuntime) -> std::result::Result<(), Fail> {
-    let result = extract_error(rt.alloc(), Ok(commit(None, None)))?;
-    assert_eq!(rt; extracted(&result), None);
-    Ok(())
-}
-
-#[test]
-fn errors_of_an_err(rt: HostRuntime) -> std::result::Result<(), Fail> {
+fn errors_of_an_err(rt: HostRuntime) {
     let mut result: Result<CommitResponse> = Err(Error::OnePcFailure);
-    let errors = result.key_errors(rt.alloc())?;
-    assert_eq!(rt; errors.map_or(0, |found| found.len()), 1);
     assert!(rt; result.region_error().is_none());
-    Ok(())
+    let errors = result.key_errors(rt.alloc());
+    assert_shown(&rt, rt.alloc(), &errors, "Ok(Some([OnePcFailure]))");
 }
 
 #[test]
-fn locks_of_a_commit(rt: HostRuntime) -> std::result::Result<(), Fail> {
+fn locks_of_a_commit(rt: HostRuntime) {
     let alloc = rt.alloc();
-    let mut reply = commit(Some(KeyError::Locked(lock(alloc, false, 0)?)), None);
-    let locks = reply.take_locks(alloc)?;
+    let locked = KeyError::Locked(lock(&rt, alloc, false, 0));
+    let mut reply = commit(Some(locked), None);
+    let locks = reply.take_locks(alloc).expect(&rt, "memory");
     assert_eq!(rt; locks.len(), 1);
     assert_eq!(rt; reply, commit(None, None));
-    Ok(())
-}
-
-/// How many errors of regions two replies have.
-fn region_errors(alloc: Global) -> std::result::Result<usize, NoMemory> {
-    let mut replies = Vec::new(alloc);
-    replies.push(commit(None, Some(RegionErr::StaleCommand)))?;
-    replies.push(commit(None, Some(RegionErr::Unknown)))?;
-    let errors = replies.region_errors(alloc)?;
-    Ok(errors.map_or(0, |found| found.len()))
 }
 
 #[test]
-fn errors_of_regions(rt: HostRuntime) -> std::result::Result<(), Fail> {
-    assert_eq!(rt; region_errors(rt.alloc())?, 2);
-    Ok(())
+fn errors_of_regions(rt: HostRuntime) {
+    let alloc = rt.alloc();
+    let stale = commit(None, Some(RegionErr::StaleCommand));
+    let unknown = commit(None, Some(RegionErr::Unknown));
+    let mut replies = vec![in alloc; stale, unknown].expect(&rt, "memory");
+    let errors = replies.region_errors(alloc);
+    assert_shown(&rt, alloc, &errors, "Ok(Some([StaleCommand, Unknown]))");
 }

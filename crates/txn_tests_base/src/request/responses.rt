@@ -1,28 +1,24 @@
+use crate::fixtures::assert_shown;
 use txn_kv::*;
 use txn_request::KvRequest;
 
-/// Whether a reply of the request's kind is taken, and one of another kind refused.
-fn takes_own<R: KvRequest>(own: Reply, other: Reply) -> bool
+/// Whether a reply is taken for the answer of a request of this kind.
+fn takes<R: KvRequest>(reply: Reply) -> bool
 where
     R::Response: Drop,
 {
-    let is_refused = match R::response(other) {
-        Ok(_) => false,
-        Err(error) => matches!(
-            error,
-            Error::InternalError {
-                what: Internal::WrongReply
-            }
-        ),
-    };
-    is_refused && R::response(own).is_ok()
+    R::response(reply).is_ok()
 }
 
-fn tso() -> Reply {
-    Reply::Tso(TsoResponse {
-        count: 1,
-        timestamp: None,
-    })
+#[test]
+fn another_reply_is_refused(rt: HostRuntime) {
+    let answer = TsoRequest::response(Reply::Members(MembersResponse));
+    assert_shown(
+        &rt,
+        rt.alloc(),
+        &answer,
+        "Err(InternalError { what: WrongReply })",
+    );
 }
 
 #[test]
@@ -34,25 +30,25 @@ fn answers_reads(rt: HostRuntime) {
         value: Value::new(alloc),
         not_found: true,
     });
-    assert!(rt; takes_own::<GetRequest>(get, tso()));
+    assert!(rt; takes::<GetRequest>(get));
     let batch_get = Reply::BatchGet(BatchGetResponse {
         region_error: None,
         error: None,
         pairs: Items::new(alloc),
     });
-    assert!(rt; takes_own::<BatchGetRequest>(batch_get, tso()));
+    assert!(rt; takes::<BatchGetRequest>(batch_get));
     let scan = Reply::Scan(ScanResponse {
         region_error: None,
         error: None,
         pairs: Items::new(alloc),
     });
-    assert!(rt; takes_own::<ScanRequest>(scan, tso()));
+    assert!(rt; takes::<ScanRequest>(scan));
     let scan_lock = Reply::ScanLock(ScanLockResponse {
         region_error: None,
         error: None,
         locks: Items::new(alloc),
     });
-    assert!(rt; takes_own::<ScanLockRequest>(scan_lock, tso()));
+    assert!(rt; takes::<ScanLockRequest>(scan_lock));
 }
 
 #[test]
@@ -64,29 +60,29 @@ fn answers_writes(rt: HostRuntime) {
         min_commit_ts: 0,
         one_pc_commit_ts: 0,
     });
-    assert!(rt; takes_own::<PrewriteRequest>(prewrite, tso()));
+    assert!(rt; takes::<PrewriteRequest>(prewrite));
     let commit = Reply::Commit(CommitResponse {
         region_error: None,
         error: None,
         commit_version: 0,
     });
-    assert!(rt; takes_own::<CommitRequest>(commit, tso()));
+    assert!(rt; takes::<CommitRequest>(commit));
     let cleanup = Reply::Cleanup(CleanupResponse {
         region_error: None,
         error: None,
         commit_version: 0,
     });
-    assert!(rt; takes_own::<CleanupRequest>(cleanup, tso()));
+    assert!(rt; takes::<CleanupRequest>(cleanup));
     let rollback = Reply::BatchRollback(BatchRollbackResponse {
         region_error: None,
         error: None,
     });
-    assert!(rt; takes_own::<BatchRollbackRequest>(rollback, tso()));
+    assert!(rt; takes::<BatchRollbackRequest>(rollback));
     let destroy = Reply::UnsafeDestroyRange(UnsafeDestroyRangeResponse {
         region_error: None,
         error: Text::from_string(String::new(alloc)),
     });
-    assert!(rt; takes_own::<UnsafeDestroyRangeRequest>(destroy, tso()));
+    assert!(rt; takes::<UnsafeDestroyRangeRequest>(destroy));
 }
 
 #[test]
@@ -98,23 +94,23 @@ fn answers_locks(rt: HostRuntime) {
         values: Items::new(alloc),
         not_founds: Items::new(alloc),
     });
-    assert!(rt; takes_own::<PessimisticLockRequest>(lock, tso()));
+    assert!(rt; takes::<PessimisticLockRequest>(lock));
     let rollback = Reply::PessimisticRollback(PessimisticRollbackResponse {
         region_error: None,
         errors: Items::new(alloc),
     });
-    assert!(rt; takes_own::<PessimisticRollbackRequest>(rollback, tso()));
+    assert!(rt; takes::<PessimisticRollbackRequest>(rollback));
     let resolve = Reply::ResolveLock(ResolveLockResponse {
         region_error: None,
         error: None,
     });
-    assert!(rt; takes_own::<ResolveLockRequest>(resolve, tso()));
+    assert!(rt; takes::<ResolveLockRequest>(resolve));
     let heart_beat = Reply::TxnHeartBeat(TxnHeartBeatResponse {
         region_error: None,
         error: None,
         lock_ttl: 0,
     });
-    assert!(rt; takes_own::<TxnHeartBeatRequest>(heart_beat, tso()));
+    assert!(rt; takes::<TxnHeartBeatRequest>(heart_beat));
     let status = Reply::CheckTxnStatus(CheckTxnStatusResponse {
         region_error: None,
         error: None,
@@ -123,7 +119,7 @@ fn answers_locks(rt: HostRuntime) {
         action: Action::NoAction,
         lock_info: None,
     });
-    assert!(rt; takes_own::<CheckTxnStatusRequest>(status, tso()));
+    assert!(rt; takes::<CheckTxnStatusRequest>(status));
     let secondaries = Reply::CheckSecondaryLocks(CheckSecondaryLocksResponse {
         region_error: None,
         error: None,
@@ -131,7 +127,7 @@ fn answers_locks(rt: HostRuntime) {
         commit_ts: 0,
         missing: false,
     });
-    assert!(rt; takes_own::<CheckSecondaryLocksRequest>(secondaries, tso()));
+    assert!(rt; takes::<CheckSecondaryLocksRequest>(secondaries));
 }
 
 #[test]
@@ -141,12 +137,12 @@ fn answers_placement(rt: HostRuntime) {
         region: None,
         leader: None,
     });
-    assert!(rt; takes_own::<GetRegionRequest>(region, tso()));
+    assert!(rt; takes::<GetRegionRequest>(region));
     let region = Reply::GetRegionById(GetRegionResponse {
         region: None,
         leader: None,
     });
-    assert!(rt; takes_own::<GetRegionByIdRequest>(region, tso()));
+    assert!(rt; takes::<GetRegionByIdRequest>(region));
     let store = Reply::GetStore(GetStoreResponse {
         store: StoreMeta {
             id: 1,
@@ -155,39 +151,18 @@ fn answers_placement(rt: HostRuntime) {
             labels: Items::new(alloc),
         },
     });
-    assert!(rt; takes_own::<GetStoreRequest>(store, tso()));
+    assert!(rt; takes::<GetStoreRequest>(store));
     let stores = Reply::GetAllStores(GetAllStoresResponse {
         stores: Items::new(alloc),
     });
-    assert!(rt; takes_own::<GetAllStoresRequest>(stores, tso()));
+    assert!(rt; takes::<GetAllStoresRequest>(stores));
     let safe_point = Reply::UpdateGcSafePoint(UpdateGcSafePointResponse { new_safe_point: 1 });
-    assert!(rt; takes_own::<UpdateGcSafePointRequest>(safe_point, tso()));
+    assert!(rt; takes::<UpdateGcSafePointRequest>(safe_point));
+    let tso = Reply::Tso(TsoResponse {
+        count: 1,
+        timestamp: None,
+    });
+    assert!(rt; takes::<TsoRequest>(tso));
     let members = Reply::Members(MembersResponse);
-    assert!(rt; takes_own::<TsoRequest>(tso(), members));
-    let members = Reply::Members(MembersResponse);
-    assert!(rt; takes_own::<MembersRequest>(members, tso()));
-}
-
-#[test]
-fn gets_a_context(rt: HostRuntime) {
-    let alloc = rt.alloc();
-    let mut request = GetRequest {
-        context: None,
-        key: Key::empty(alloc),
-        version: 7,
-    };
-    KvRequest::set_api_version(&mut request, ApiVersion::V2);
-    let context = Context {
-        region_id: 2,
-        region_epoch: None,
-        peer: None,
-        api_version: ApiVersion::V1,
-    };
-    KvRequest::set_context(&mut request, context);
-    let kept = Context {
-        api_version: ApiVersion::V2,
-        ..context
-    };
-    assert!(rt; request.context == Some(kept));
-    assert!(rt; request.into_request().label() == "kv_get");
+    assert!(rt; takes::<MembersRequest>(members));
 }

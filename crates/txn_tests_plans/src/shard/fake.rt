@@ -1,20 +1,22 @@
 //! A client of three regions, below [10], below [250, 250] and from there on, led by stores 41, 42 and 43.
-ghost use Rattle.std.specs.Prelude.{◌≡◌, false, is_none, IfErr, IfOk, refl};
+ghost use Rattle.std.specs.Prelude.{◌≡◌, true, IfErr, IfOk, refl};
 ghost use Rattle.txn_region.specs.Clients.{IsFoundAt, OrStarved};
 ghost use Rattle.txn_region.specs.Regions.{is_below};
 ghost use Rattle.txn_region.specs.Refusals.{IsPlacementError};
 
+use crate::fixtures::key;
 use std::alloc::Global;
+use std::process::Abort;
 use txn_kv::{
-    Error, Key, Look, NoMemory, PdAnswer, PdQuery, Peer, Region, RegionEpoch, RegionId,
-    RegionVerId, RegionWithLeader, Result, Timestamp,
+    Error, Key, Look, PdAnswer, PdQuery, Peer, Region, RegionEpoch, RegionId, RegionVerId,
+    RegionWithLeader, Result, Timestamp,
 };
 use txn_region::{ApiV1TxnCodec, PdClient, RegionStore, Store};
 use txn_tso::{Cluster, PdCall, RetryClient};
 
 #[derive(Drop)]
 pub struct ThreeRegions {
-    pub alloc: Global,
+    regions: Vec<RegionWithLeader>,
     /// How many regions are still found before one has to be asked for.
     pub left: u32,
     retry: RetryClient,
@@ -22,9 +24,14 @@ pub struct ThreeRegions {
 }
 
 impl ThreeRegions {
-    pub fn new(alloc: Global, left: u32) -> ThreeRegions {
+    pub fn new(rt: &impl Abort, alloc: Global, left: u32) -> ThreeRegions {
+        let regions = vec![in alloc;
+            region(rt, alloc, 1, &[], &[10]),
+            region(rt, alloc, 2, &[10], &[250, 250]),
+            region(rt, alloc, 3, &[250, 250], &[]),
+        ];
         ThreeRegions {
-            alloc,
+            regions: regions.expect(rt, "memory"),
             left,
             retry: RetryClient::new(Cluster { id: 0 }, 0),
             codec: ApiV1TxnCodec {},
@@ -32,61 +39,53 @@ impl ThreeRegions {
     }
 }
 
-pub fn key(alloc: Global, bytes: &[u8]) -> std::result::Result<Key, NoMemory> {
-    Ok(Key::from(bytes.to_vec(alloc)?))
-}
-
-fn region(
-    alloc: Global,
-    id: u64,
-    start: &[u8],
-    end: &[u8],
-) -> std::result::Result<RegionWithLeader, NoMemory>
-    ensures epoch { IfOk result (λ r. is_none r.region.region_epoch ≡ false) }
-    ensures leader { IfOk result (λ r. is_none r.leader ≡ false) }
-{
-    Ok(RegionWithLeader {
-        region: Region {
-            id,
-            start_key: key(alloc, start)?,
-            end_key: key(alloc, end)?,
-            region_epoch: Some(RegionEpoch {
-                conf_ver: 0,
-                version: 0,
-            }),
-        },
-        leader: Some(Peer {
-            id: 40u64.wrapping_add(id),
-            store_id: 40u64.wrapping_add(id),
+fn region(rt: &impl Abort, alloc: Global, id: u64, start: &[u8], end: &[u8]) -> RegionWithLeader {
+    let store_id = 40u64.wrapping_add(id);
+    let epoch = RegionEpoch {
+        conf_ver: 0,
+        version: 0,
+    };
+    let region = Region {
+        id,
+        start_key: key(rt, alloc, start),
+        end_key: key(rt, alloc, end),
+        region_epoch: Some(epoch),
+    };
+    RegionWithLeader::new(
+        region,
+        Some(Peer {
+            id: store_id,
+            store_id,
         }),
-    })
+    )
 }
 
-/// Whether a range holds any key.
 fn begins_below(start: &Key, end: &Key) -> bool
     ensures { result ≡ is_below start.now end.now }
 {
     *start < *end || end.is_empty()
 }
 
-fn region_at(alloc: Global, key: &Key) -> Result<RegionWithLeader>
+/// Whether requests for the key can be made for the region.
+fn holds(region: &RegionWithLeader, key: &Key) -> bool
+    ensures { result ≡ true → IsFoundAt key.now region.now }
+{
+    region.contains(key)
+        && begins_below(&region.region.start_key, &region.region.end_key)
+        && region.region.region_epoch.is_some()
+        && region.leader.is_some()
+}
+
+fn region_at(regions: &[RegionWithLeader], key: &Key) -> Result<RegionWithLeader>
     ensures ok { IfOk result (IsFoundAt key.now) }
     ensures why { IfErr result (OrStarved IsPlacementError) }
 {
-    let rows: [(u64, &[u8], &[u8]); 3] = [
-        (1, &[], &[10]),
-        (2, &[10], &[250, 250]),
-        (3, &[250, 250], &[]),
-    ];
-    for row in rows.iter() {
-        let region = region(alloc, row.0, row.1, row.2)?;
-        if region.contains(key) && begins_below(region.start_key(), region.end_key()) {
-            return Ok(region);
+    for region in regions {
+        if holds(region, key) {
+            return Ok(region.try_clone()?);
         }
     }
-    Err(Error::RegionForKeyNotFound {
-        key: key.try_clone()?,
-    })
+    Err(Error::RegionNotFoundInResponse { region_id: 0 })
 }
 
 impl PdClient for ThreeRegions {
@@ -117,7 +116,7 @@ impl PdClient for ThreeRegions {
             return Ok(Look::Query(PdQuery::Region(key.try_clone()?)));
         }
         self.left -= 1;
-        Ok(Look::Found(region_at(self.alloc, key)?))
+        Ok(Look::Found(region_at(self.regions.as_slice(), key)?))
     }
 
     fn region_for_id(&mut self, id: RegionId, _waited: u32) -> Result<Look<RegionWithLeader>> {

@@ -1,198 +1,142 @@
-use super::fake::{ThreeRegions, key};
+use super::fake::ThreeRegions;
+use crate::fixtures::key;
 use std::alloc::Global;
-use std::test::Fail;
-use txn_kv::{
-    BatchGetRequest, GetRequest, Items, Key, NoMemory, Result, ScanLockRequest, ScanRequest,
-};
-use txn_shard::*;
+use std::fmt::Debug;
+use std::process::Abort;
+use txn_kv::{BatchGetRequest, GetRequest, Items, Key, PdQuery, ScanLockRequest, ScanRequest};
+use txn_shard::{ShardList, Shardable, SingleKey};
 
-fn keys(alloc: Global, rows: &[&[u8]]) -> std::result::Result<Items<Key>, NoMemory> {
-    let mut keys = Items::new(alloc);
-    for row in rows {
-        keys.push(key(alloc, row)?)?;
-    }
-    Ok(keys)
-}
-
-/// All shards of a request, and how often a query had to be asked. So many regions are found before the first query.
-fn all_found<R: Shardable>(
+/// Goes on finding shards.
+fn look<R: Shardable>(
+    rt: &impl Abort,
     alloc: Global,
     request: &R,
-    left: u32,
-) -> Result<(ShardList<R::Shard>, u32)> {
-    let mut pd = ThreeRegions::new(alloc, left);
+    pd: &mut ThreeRegions,
+    found: &mut ShardList<R::Shard>,
+) -> Option<PdQuery>
+    requires { R.IsFound request.now found.old }
+    ensures { R.IsFound request.now found.new }
+{
+    request.shards(alloc, pd, found).expect(rt, "shards")
+}
+
+/// Each shard with its store.
+fn shown<S: Debug + Drop>(rt: &impl Abort, alloc: Global, found: &ShardList<S>) -> String {
+    let mut text = String::new(alloc);
+    for (shard, store) in &found.shards {
+        let store = store.store;
+        write!(text, " {store}: {shard:?}").expect(rt, "memory");
+    }
+    text
+}
+
+/// What has to be asked once so many regions were found, and then all shards with their stores.
+fn found<R: Shardable>(rt: &impl Abort, alloc: Global, request: &R, left: u32) -> String
+where
+    R::Shard: Debug,
+{
+    let mut pd = ThreeRegions::new(rt, alloc, left);
     let mut found = ShardList::new(alloc);
-    if request.shards(alloc, &mut pd, &mut found)?.is_none() {
-        return Ok((found, 0));
-    }
+    let query = look(rt, alloc, request, &mut pd, &mut found);
     pd.left = 10;
-    if request.shards(alloc, &mut pd, &mut found)?.is_none() {
-        return Ok((found, 1));
-    }
-    Ok((found, 2))
+    let rest = look(rt, alloc, request, &mut pd, &mut found);
+    assert!(rt; rest.is_none());
+    let shards = shown(rt, alloc, &found);
+    format!(in alloc; "{query:?}{shards}").expect(rt, "memory")
 }
 
-/// The store of each shard.
-fn stores<S: Drop>(alloc: Global, found: &ShardList<S>) -> std::result::Result<Vec<u64>, NoMemory> {
-    let mut stores = Vec::new(alloc);
-    for shard in &found.shards {
-        stores.push(shard.1.store)?;
+fn six_keys(rt: &impl Abort, alloc: Global) -> BatchGetRequest {
+    let rows: [&[u8]; 6] = [b"\x01", b"\x0c", b"\x03", b"\x02", b"\x05\x02", b"\x0b\x04"];
+    let mut keys = Items::new(alloc);
+    for bytes in rows {
+        keys.push(key(rt, alloc, bytes)).expect(rt, "memory");
     }
-    Ok(stores)
-}
-
-/// How many keys each shard has.
-fn lens(alloc: Global, found: &ShardList<Items<Key>>) -> std::result::Result<Vec<usize>, NoMemory> {
-    let mut lens = Vec::new(alloc);
-    for shard in &found.shards {
-        lens.push(shard.0.len())?;
-    }
-    Ok(lens)
-}
-
-/// The first byte of each key, shard by shard.
-fn first_bytes(
-    alloc: Global,
-    found: &ShardList<Items<Key>>,
-) -> std::result::Result<Vec<u8>, NoMemory> {
-    let mut bytes = Vec::new(alloc);
-    for shard in &found.shards {
-        for key in shard.0.as_slice() {
-            bytes.extend_from_slice(key.as_slice().get(..1).unwrap_or(b"-"))?;
-        }
-    }
-    Ok(bytes)
-}
-
-/// The first byte of each bound, or a dash where it is empty.
-fn bounds(alloc: Global, found: &ShardList<(Key, Key)>) -> std::result::Result<Vec<u8>, NoMemory> {
-    let mut bytes = Vec::new(alloc);
-    for shard in &found.shards {
-        bytes.extend_from_slice(shard.0.0.as_slice().get(..1).unwrap_or(b"-"))?;
-        bytes.extend_from_slice(shard.0.1.as_slice().get(..1).unwrap_or(b"-"))?;
-    }
-    Ok(bytes)
-}
-
-fn six_keys(alloc: Global) -> std::result::Result<BatchGetRequest, NoMemory> {
-    Ok(BatchGetRequest {
+    BatchGetRequest {
         context: None,
-        keys: keys(
-            alloc,
-            [
-                b"\x01".as_slice(),
-                b"\x0c",
-                b"\x03",
-                b"\x02",
-                b"\x05\x02",
-                b"\x0b\x04",
-            ]
-            .as_slice(),
-        )?,
+        keys,
         version: 7,
-    })
+    }
 }
 
 #[test]
-fn keys_are_grouped_in_order(rt: HostRuntime) -> std::result::Result<(), Fail> {
+fn keys_are_grouped_in_order(rt: HostRuntime) {
     let alloc = rt.alloc();
-    let found = all_found(alloc, &six_keys(alloc)?, 10)?;
-    assert!(rt; found.1 == 0);
-    assert_eq!(rt; lens(alloc, &found.0)?.as_slice(), [4, 2].as_slice());
-    assert_eq!(rt; stores(alloc, &found.0)?.as_slice(), [41, 42].as_slice());
-    assert_eq!(rt;
-        first_bytes(alloc, &found.0)?.as_slice(),
-        [1, 2, 3, 5, 11, 12].as_slice()
-    );
-    Ok(())
+    let request = six_keys(&rt, alloc);
+    for (left, query) in [(10, "None"), (1, "Some(Region(Key(0B04)))")] {
+        let shards =
+            "41: Items { vec: [Key(01), Key(02), Key(03), Key(0502)] } 42: Items { vec: [Key(0B04), Key(0C)] }";
+        let want = format!(in alloc; "{query} {shards}").expect(&rt, "memory");
+        assert_eq!(rt; found(&rt, alloc, &request, left), want, "{left} found");
+    }
 }
 
 #[test]
-fn goes_on_after_a_query(rt: HostRuntime) -> std::result::Result<(), Fail> {
-    let alloc = rt.alloc();
-    let found = all_found(alloc, &six_keys(alloc)?, 1)?;
-    assert!(rt; found.1 == 1);
-    assert_eq!(rt; lens(alloc, &found.0)?.as_slice(), [4, 2].as_slice());
-    Ok(())
-}
-
-#[test]
-fn one_key_is_one_shard(rt: HostRuntime) -> std::result::Result<(), Fail> {
+fn one_key_is_one_shard(rt: HostRuntime) {
     let alloc = rt.alloc();
     let request = GetRequest {
         context: None,
-        key: key(alloc, b"\xfb")?,
+        key: key(&rt, alloc, b"\xfb"),
         version: 7,
     };
-    let found = all_found(alloc, &request, 0)?;
-    assert!(rt; found.1 == 1);
-    assert_eq!(rt; stores(alloc, &found.0)?.as_slice(), [43].as_slice());
-    Ok(())
+    assert_eq!(rt; request.key().as_slice(), b"\xfb".as_slice());
+    assert_eq!(rt;
+        found(&rt, alloc, &request, 0).as_str(),
+        "Some(Region(Key(FB))) 43: Key(FB)"
+    );
 }
 
-fn scan(
-    alloc: Global,
-    start: &[u8],
-    end: &[u8],
-    reverse: bool,
-) -> std::result::Result<ScanRequest, NoMemory> {
-    Ok(ScanRequest {
+fn scan(rt: &impl Abort, alloc: Global, start: &[u8], end: &[u8], reverse: bool) -> ScanRequest {
+    ScanRequest {
         context: None,
-        start_key: key(alloc, start)?,
-        end_key: key(alloc, end)?,
+        start_key: key(rt, alloc, start),
+        end_key: key(rt, alloc, end),
         limit: 3,
         key_only: false,
         version: 7,
         reverse,
-    })
+    }
 }
 
 #[test]
-fn ranges_are_cut_upwards(rt: HostRuntime) -> std::result::Result<(), Fail> {
-    let alloc = rt.alloc();
-    let found = all_found(alloc, &scan(alloc, b"\x05\x02", b"\x10\x04", false)?, 1)?;
-    assert_eq!(rt;
-        bounds(alloc, &found.0)?.as_slice(),
-        [5, 10, 10, 16].as_slice()
-    );
-    assert_eq!(rt; stores(alloc, &found.0)?.as_slice(), [41, 42].as_slice());
-    Ok(())
+fn ranges_are_cut_upwards(rt: HostRuntime) {
+    let rows: [(&str, &[u8], &[u8], bool, u32, &str); 3] = [
+        (
+            "upwards",
+            b"\x05\x02",
+            b"\x10\x04",
+            false,
+            1,
+            "Some(Region(Key(0A))) 41: (Key(0502), Key(0A)) 42: (Key(0A), Key(1004))",
+        ),
+        (
+            "in reverse",
+            b"\x10\x04",
+            b"\x05\x02",
+            true,
+            10,
+            "None 41: (Key(0502), Key(0A)) 42: (Key(0A), Key(1004))",
+        ),
+        ("empty", b"\x05", b"\x05", false, 0, "None"),
+    ];
+    for (name, start, end, reverse, left, want) in rows {
+        let request = scan(&rt, rt.alloc(), start, end, reverse);
+        let seen = found(&rt, rt.alloc(), &request, left);
+        assert_eq!(rt; seen.as_str(), want, "{name}");
+    }
 }
 
 #[test]
-fn reverse_scans_are_cut_upwards(rt: HostRuntime) -> std::result::Result<(), Fail> {
-    let alloc = rt.alloc();
-    let found = all_found(alloc, &scan(alloc, b"\x10\x04", b"\x05\x02", true)?, 10)?;
-    assert_eq!(rt;
-        bounds(alloc, &found.0)?.as_slice(),
-        [5, 10, 10, 16].as_slice()
-    );
-    Ok(())
-}
-
-#[test]
-fn an_empty_range_has_no_shard(rt: HostRuntime) -> std::result::Result<(), Fail> {
-    let alloc = rt.alloc();
-    let found = all_found(alloc, &scan(alloc, b"\x05", b"\x05", false)?, 0)?;
-    assert!(rt; found.1 == 0 && found.0.shards.is_empty());
-    Ok(())
-}
-
-#[test]
-fn an_empty_end_is_unbounded(rt: HostRuntime) -> std::result::Result<(), Fail> {
+fn an_empty_end_is_unbounded(rt: HostRuntime) {
     let alloc = rt.alloc();
     let request = ScanLockRequest {
         context: None,
-        start_key: key(alloc, b"\x0b")?,
+        start_key: key(&rt, alloc, b"\x0b"),
         end_key: Key::empty(alloc),
         max_version: 7,
         limit: 3,
     };
-    let found = all_found(alloc, &request, 1)?;
     assert_eq!(rt;
-        bounds(alloc, &found.0)?.as_slice(),
-        [11, 250, 250, 45].as_slice()
+        found(&rt, alloc, &request, 1).as_str(),
+        "Some(Region(Key(FAFA))) 42: (Key(0B), Key(FAFA)) 43: (Key(FAFA), Key())"
     );
-    assert_eq!(rt; stores(alloc, &found.0)?.as_slice(), [42, 43].as_slice());
-    Ok(())
 }

@@ -1,24 +1,15 @@
-use super::fake::key;
+use crate::fixtures::{get, key, lock};
 use std::alloc::Global;
-use std::test::Fail;
+use std::process::Abort;
 use txn_kv::{
-    ApiVersion, Assertion, Context, Error, GetRequest, Internal, Items, Key, LockInfo, Mutation,
-    NoMemory, Op, Peer, Region, RegionEpoch, RegionWithLeader, Result, ScanLockRequest,
-    ScanLockResponse, ScanRequest, UnsafeDestroyRangeRequest, Value,
+    Items, Key, Peer, Region, RegionEpoch, RegionWithLeader, ScanLockRequest, ScanLockResponse,
+    ScanRequest, UnsafeDestroyRangeRequest,
 };
 use txn_region::{RegionStore, Store};
-use txn_shard::*;
+use txn_shard::{HasNextBatch, NextBatch, Shardable, StoreRequest};
 
-pub fn put(alloc: Global, bytes: &[u8], value: &[u8]) -> std::result::Result<Mutation, NoMemory> {
-    Ok(Mutation {
-        op: Op::Put,
-        key: key(alloc, bytes)?,
-        value: Value::from_vec(value.to_vec(alloc)?),
-        assertion: Assertion::None,
-    })
-}
-
-fn at(alloc: Global, region_epoch: Option<RegionEpoch>, leader: Option<Peer>) -> RegionStore {
+/// Region 9 at store 4.
+fn region(alloc: Global, region_epoch: Option<RegionEpoch>, leader: Option<Peer>) -> RegionStore {
     let region = Region {
         id: 9,
         start_key: Key::empty(alloc),
@@ -28,157 +19,118 @@ fn at(alloc: Global, region_epoch: Option<RegionEpoch>, leader: Option<Peer>) ->
     RegionStore::new(RegionWithLeader::new(region, leader), 4)
 }
 
-fn usable(alloc: Global) -> RegionStore {
-    let epoch = RegionEpoch {
-        conf_ver: 1,
-        version: 2,
-    };
-    at(alloc, Some(epoch), Some(Peer { id: 4, store_id: 4 }))
-}
+const EPOCH: Option<RegionEpoch> = Some(RegionEpoch {
+    conf_ver: 1,
+    version: 2,
+});
 
-fn get(alloc: Global) -> std::result::Result<GetRequest, NoMemory> {
-    Ok(GetRequest {
-        context: None,
-        key: key(alloc, b"a")?,
-        version: 7,
-    })
-}
+const LEADER: Option<Peer> = Some(Peer { id: 4, store_id: 4 });
 
-#[test]
-fn a_shard_has_its_regions_context(rt: HostRuntime) -> std::result::Result<(), Fail> {
-    let alloc = rt.alloc();
-    let mut request = get(alloc)?;
-    request.apply_shard(key(alloc, b"b")?, &usable(alloc))?;
-    let context = request.context.ok_or("no context")?;
-    assert!(rt; context.region_id == 9 && context.api_version == ApiVersion::V1);
-    assert!(rt; request.key().as_slice() == b"b".as_slice() && request.version == 7);
-    Ok(())
+/// How a shard is asked for at such a region, and the request then.
+fn asked(
+    rt: &impl Abort,
+    alloc: Global,
+    region_epoch: Option<RegionEpoch>,
+    leader: Option<Peer>,
+) -> String {
+    let store = region(alloc, region_epoch, leader);
+    let mut request = get(rt, alloc);
+    let applied = request.apply_shard(key(rt, alloc, b"b"), &store);
+    format!(in alloc; "{applied:?} {request:?}").expect(rt, "memory")
 }
 
 #[test]
-fn keeps_the_api_version(rt: HostRuntime) -> std::result::Result<(), Fail> {
-    let alloc = rt.alloc();
-    let mut request = get(alloc)?;
-    request.context = Some(Context {
-        region_id: 1,
-        region_epoch: None,
-        peer: None,
-        api_version: ApiVersion::V2,
-    });
-    request.apply_shard(key(alloc, b"b")?, &usable(alloc))?;
-    let context = request.context.ok_or("no context")?;
-    assert!(rt; context.region_id == 9 && context.api_version == ApiVersion::V2);
-    Ok(())
-}
-
-fn is_leaderless(applied: Result<()>) -> bool {
-    match applied {
-        Err(Error::LeaderNotFound { region_id }) => region_id == 9,
-        _ => false,
+fn a_region_needs_an_epoch_and_a_leader(rt: HostRuntime) {
+    let rows = [
+        (
+            "an epoch and a leader",
+            EPOCH,
+            LEADER,
+            "Ok(()) GetRequest { context: Some(Context { region_id: 9, region_epoch: Some(RegionEpoch { conf_ver: 1, version: 2 }), peer: Some(Peer { id: 4, store_id: 4 }), api_version: V1 }), key: Key(62), version: 5 }",
+        ),
+        (
+            "neither",
+            None,
+            None,
+            "Err(LeaderNotFound { region_id: 9 }) GetRequest { context: None, key: Key(61), version: 5 }",
+        ),
+        (
+            "no epoch",
+            None,
+            LEADER,
+            "Err(InternalError { what: NoEpoch { id: 9 } }) GetRequest { context: None, key: Key(61), version: 5 }",
+        ),
+    ];
+    for (name, epoch, leader, want) in rows {
+        let seen = asked(&rt, rt.alloc(), epoch, leader);
+        assert_eq!(rt; seen.as_str(), want, "{name}");
     }
 }
 
-fn has_no_epoch(applied: Result<()>) -> bool {
-    match applied {
-        Err(
-            Error::InternalError {
-                what: Internal::NoEpoch { id },
-            },
-        ) => id == 9,
-        _ => false,
-    }
+/// Asks for a piece of a range from c to d.
+fn apply<R: Shardable<Shard = (Key, Key)>>(rt: &impl Abort, alloc: Global, request: &mut R) {
+    let store = region(alloc, EPOCH, LEADER);
+    let piece = (key(rt, alloc, b"c"), key(rt, alloc, b"d"));
+    let applied = request.apply_shard(piece, &store);
+    applied.expect(rt, "an epoch and a leader");
 }
 
 #[test]
-fn regions_without_leader_or_epoch_are_refused(rt: HostRuntime) -> std::result::Result<(), Fail> {
-    let alloc = rt.alloc();
-    let mut request = get(alloc)?;
-    assert!(rt; is_leaderless(request.apply_shard(key(alloc, b"b")?, &at(alloc, None, None))));
-    let leader = Some(Peer { id: 4, store_id: 4 });
-    assert!(rt; has_no_epoch(request.apply_shard(key(alloc, b"b")?, &at(alloc, None, leader))));
-    assert!(rt; request.context.is_none() && request.key().as_slice() == b"a".as_slice());
-    Ok(())
-}
-
-#[test]
-fn a_reverse_scan_of_a_piece(rt: HostRuntime) -> std::result::Result<(), Fail> {
+fn a_reverse_scan_of_a_piece(rt: HostRuntime) {
     let alloc = rt.alloc();
     let mut request = ScanRequest {
         context: None,
-        start_key: key(alloc, b"z")?,
-        end_key: key(alloc, b"a")?,
+        start_key: key(&rt, alloc, b"z"),
+        end_key: key(&rt, alloc, b"a"),
         limit: 3,
         key_only: true,
         version: 7,
         reverse: true,
     };
-    request.apply_shard((key(alloc, b"c")?, key(alloc, b"d")?), &usable(alloc))?;
-    assert!(rt; request.start_key.as_slice() == b"d".as_slice());
-    assert!(rt; request.end_key.as_slice() == b"c".as_slice());
-    Ok(())
+    apply(&rt, alloc, &mut request);
+    assert_eq!(rt; request.start_key.as_slice(), b"d".as_slice());
+    assert_eq!(rt; request.end_key.as_slice(), b"c".as_slice());
 }
 
 #[test]
-fn a_scan_of_locks_keeps_its_end(rt: HostRuntime) -> std::result::Result<(), Fail> {
+fn a_scan_of_locks_goes_on_in_its_piece(rt: HostRuntime) {
     let alloc = rt.alloc();
     let mut request = ScanLockRequest {
         context: None,
-        start_key: key(alloc, b"a")?,
-        end_key: key(alloc, b"z")?,
+        start_key: key(&rt, alloc, b"a"),
+        end_key: key(&rt, alloc, b"z"),
         max_version: 7,
         limit: 3,
     };
-    request.apply_shard((key(alloc, b"c")?, key(alloc, b"d")?), &usable(alloc))?;
-    assert!(rt; request.start_key.as_slice() == b"c".as_slice());
-    assert!(rt; request.end_key.as_slice() == b"d".as_slice());
-    request.next_batch((key(alloc, b"cc")?, Key::empty(alloc)));
-    assert!(rt; request.start_key.as_slice() == b"cc".as_slice());
-    assert!(rt; request.end_key.as_slice() == b"d".as_slice());
-    Ok(())
+    apply(&rt, alloc, &mut request);
+    request.next_batch((key(&rt, alloc, b"cc"), Key::empty(alloc)));
+    assert_eq!(rt; request.start_key.as_slice(), b"cc".as_slice());
+    assert_eq!(rt; request.end_key.as_slice(), b"d".as_slice());
 }
 
-fn locked(alloc: Global, bytes: &[u8]) -> std::result::Result<LockInfo, NoMemory> {
-    Ok(LockInfo {
-        key: key(alloc, bytes)?,
-        primary_lock: key(alloc, bytes)?,
-        lock_version: 5,
-        lock_ttl: 3000,
-        lock_type: Op::Put,
-        lock_for_update_ts: 0,
-        use_async_commit: false,
-        min_commit_ts: 0,
-        secondaries: Items::new(alloc),
-    })
-}
-
-fn two_locks(alloc: Global) -> std::result::Result<Items<LockInfo>, NoMemory> {
+/// Where a scan goes on after a reply with locks of these keys.
+fn next(rt: &impl Abort, alloc: Global, keys: &[&[u8]]) -> String {
     let mut locks = Items::new(alloc);
-    locks.push(locked(alloc, b"a")?)?;
-    locks.push(locked(alloc, b"b")?)?;
-    Ok(locks)
-}
-
-/// What follows a reply with these locks.
-fn next_of(locks: Items<LockInfo>) -> std::result::Result<Option<(Key, Key)>, NoMemory> {
+    for bytes in keys {
+        locks.push(lock(rt, alloc, bytes, 5)).expect(rt, "memory");
+    }
     let response = ScanLockResponse {
         region_error: None,
         error: None,
         locks,
     };
-    response.has_next_batch()
+    let range = response.has_next_batch().expect(rt, "memory");
+    format!(in alloc; "{range:?}").expect(rt, "memory")
 }
 
 #[test]
-fn goes_on_behind_the_last_lock(rt: HostRuntime) -> std::result::Result<(), Fail> {
-    let next = next_of(two_locks(rt.alloc())?)?.ok_or("none")?;
-    assert!(rt; next.0.as_slice() == b"b\0".as_slice() && next.1.is_empty());
-    Ok(())
-}
-
-#[test]
-fn nothing_follows_no_locks(rt: HostRuntime) -> std::result::Result<(), Fail> {
-    assert!(rt; next_of(Items::new(rt.alloc()))?.is_none());
-    Ok(())
+fn a_scan_goes_on_behind_the_last_lock(rt: HostRuntime) {
+    let alloc = rt.alloc();
+    assert_eq!(rt; next(&rt, alloc, &[]).as_str(), "None");
+    assert_eq!(rt;
+        next(&rt, alloc, &[b"a", b"b"]).as_str(),
+        "Some((Key(6200), Key()))"
+    );
 }
 
 #[test]

@@ -1,2 +1,0 @@
-mod tasks;
-mod toy;
