@@ -2,4 +2,20 @@
 #![tactic(auto)]
 
 #[cfg(test)]
-mod multi;
+mod client;
+#[cfg(test)]
+mod gets;
+#[cfg(test)]
+mod late;
+#[cfg(test)]
+mod line;
+#[cfg(test)]
+mod losses;
+#[cfg(test)]
+mod many;
+#[cfg(test)]
+mod refusals;
+#[cfg(test)]
+mod replies;
+#[cfg(test)]
+mod run;

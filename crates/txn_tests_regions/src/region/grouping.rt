@@ -1,229 +1,234 @@
-//! Keys and ranges over the three regions of the fake client.
-ghost use Rattle.std.specs.Prelude.{◌<◌, length};
-
-use super::fake::{ThreeRegions, key};
+//! Keys and ranges over three regions, with leaders on the stores 41, 42 and 43.
+use crate::fixtures::{assert_shown, key, region, store};
 use std::alloc::Global;
-use std::test::Fail;
-use txn_kv::{Key, KeyRange, Look, NoMemory};
+use std::process::Abort;
+use txn_kv::{Key, KeyRange, Look, PdAnswer, PdQuery, StoreState};
+use txn_region::codec::ApiV1TxnCodec;
 use txn_region::pd_client::PdClient;
-use txn_region::store::{store_stream_for_keys, store_stream_for_range, store_stream_for_ranges};
+use txn_region::pd_rpc_client::PdRpcClient;
+use txn_region::store::{
+    RegionStore, store_stream_for_keys, store_stream_for_range, store_stream_for_ranges,
+};
 
-fn keys(alloc: Global, rows: &[&[u8]]) -> Result<Vec<Key>, NoMemory> {
+type Client = PdRpcClient<ApiV1TxnCodec>;
+
+/// Of each the id, the start, the end and the leader's store.
+const REGIONS: [(u64, &'static [u8], &'static [u8], u64); 3] = [
+    (1, &[], &[10], 41),
+    (2, &[10], &[250, 250], 42),
+    (3, &[250, 250], &[], 43),
+];
+
+/// A client that has learnt of the regions and their stores.
+fn client(rt: &impl Abort, alloc: Global) -> Client {
+    let mut pd = PdRpcClient::new(alloc, 0, 0, false, ApiV1TxnCodec {});
+    for (id, start, end, store_id) in REGIONS {
+        let answer = Ok(PdAnswer::Region(region(rt, alloc, id, start, end, store_id)));
+        pd.learn(&PdQuery::RegionId(id), &answer)
+            .expect(rt, "a region");
+        let answer = Ok(PdAnswer::Store(store(alloc, store_id, StoreState::Up)));
+        pd.learn(&PdQuery::Store(store_id), &answer)
+            .expect(rt, "a store");
+    }
+    pd
+}
+
+fn store_in(look: Look<RegionStore>) -> u64 {
+    match look {
+        Look::Found(found) => found.store,
+        _ => 0,
+    }
+}
+
+#[test]
+fn stores_of_keys_and_regions(rt: HostRuntime) {
+    let mut pd = client(&rt, rt.alloc());
+    for (byte, store) in [(9, 41), (10, 42)] {
+        let look = pd.store_for_key(&key(&rt, rt.alloc(), &[byte]));
+        assert_eq!(rt; store_in(look.expect(&rt, "memory")), store, "of {byte}");
+    }
+    let look = pd.store_for_id(3, 0).expect(&rt, "memory");
+    assert_eq!(rt; store_in(look), 43);
+}
+
+fn keys(rt: &impl Abort, alloc: Global, rows: &[&[u8]]) -> Vec<Key> {
     let mut keys = Vec::new(alloc);
     for row in rows {
-        keys.push(key(alloc, row)?)?;
+        keys.push(key(rt, alloc, row)).expect(rt, "memory");
     }
-    Ok(keys)
+    keys
 }
 
-/// Ranges, each by its start and its end.
-fn ranges(alloc: Global, rows: &[(&[u8], &[u8])]) -> Result<Vec<KeyRange>, NoMemory> {
-    let mut ranges = Vec::new(alloc);
-    for row in rows {
-        ranges.push(KeyRange {
-            start_key: key(alloc, row.0)?,
-            end_key: key(alloc, row.1)?,
-        })?;
+/// The id of the region of the key at a place, its store, and the places behind their groups.
+fn group_of_keys(rt: &impl Abort, pd: &mut Client, keys: &[Key], first: usize) -> (u64, usize) {
+    assert!(rt; first < keys.len());
+    match pd.group_keys_by_region(keys, first).expect(rt, "memory") {
+        Look::Found((region, next)) => (region.id(), next),
+        _ => (0, 0),
     }
-    Ok(ranges)
 }
 
-/// The id of the region of the key at a place, and the place behind its group.
-fn key_group(pd: &mut ThreeRegions, keys: &[Key], first: usize) -> txn_kv::Result<(u64, usize)>
-    requires { first < length keys.now }
-{
-    match pd.group_keys_by_region(keys, first)? {
-        Look::Found((region, next)) => Ok((region.id(), next)),
-        _ => Ok((0, 0)),
+fn store_of_keys(rt: &impl Abort, pd: &mut Client, keys: &[Key], first: usize) -> (u64, usize) {
+    assert!(rt; first < keys.len());
+    match store_stream_for_keys(keys, first, pd).expect(rt, "memory") {
+        Look::Found((store, next)) => (store.store, next),
+        _ => (0, 0),
     }
 }
 
 #[test]
-fn keys_fall_into_groups(rt: HostRuntime) -> Result<(), Fail> {
-    let mut pd = ThreeRegions::new(rt.alloc());
-    let keys = keys(rt.alloc(), &[&[1], &[2], &[3], &[5, 2], &[12], &[11, 4]])?;
-    assert_eq!(rt; keys.len(), 6);
-    assert_eq!(rt; key_group(&mut pd, keys.as_slice(), 0)?, (1, 4));
-    assert_eq!(rt; key_group(&mut pd, keys.as_slice(), 4)?, (2, 6));
-    Ok(())
+fn keys_fall_into_groups(rt: HostRuntime) {
+    let mut pd = client(&rt, rt.alloc());
+    let keys = keys(
+        &rt,
+        rt.alloc(),
+        &[&[1], &[5, 2], &[12], &[11, 4], &[10], &[250, 251]],
+    );
+    for (first, id, store, next) in [(0, 1, 41, 2), (2, 2, 42, 5), (5, 3, 43, 6)] {
+        let group = group_of_keys(&rt, &mut pd, keys.as_slice(), first);
+        assert_eq!(rt; group, (id, next), "from {first}");
+        let group = store_of_keys(&rt, &mut pd, keys.as_slice(), first);
+        assert_eq!(rt; group, (store, next), "from {first}");
+    }
 }
 
-/// The store of a key, and where the rest of the range begins.
+/// The store of a key, and where the rest of the range up to an end begins.
 fn next_store(
-    pd: &mut ThreeRegions,
-    end: &Option<Key>,
-    first: &Key,
-) -> txn_kv::Result<(u64, Option<Key>)> {
-    match pd.stores_for_range(end, first)? {
-        Look::Found((store, next)) => Ok((store.store, next)),
-        _ => Ok((0, None)),
-    }
-}
-
-#[test]
-fn a_range_in_one_region(rt: HostRuntime) -> Result<(), Fail> {
-    let alloc = rt.alloc();
-    let mut pd = ThreeRegions::new(alloc);
-    let end = Some(key(alloc, &[5, 2])?);
-    assert_eq!(rt; next_store(&mut pd, &end, &key(alloc, &[1])?)?, (41, None));
-    let end = Some(key(alloc, &[10])?);
-    assert_eq!(rt; next_store(&mut pd, &end, &key(alloc, &[1])?)?, (41, None));
-    Ok(())
-}
-
-#[test]
-fn a_range_over_two_regions(rt: HostRuntime) -> Result<(), Fail> {
-    let alloc = rt.alloc();
-    let mut pd = ThreeRegions::new(alloc);
-    let end = Some(key(alloc, &[11, 4])?);
-    let border = key(alloc, &[10])?;
-    let rest = Some(key(alloc, &[10])?);
-    assert_eq!(rt;
-        next_store(&mut pd, &end, &key(alloc, &[5, 2])?)?,
-        (41, rest)
-    );
-    assert_eq!(rt; next_store(&mut pd, &end, &border)?, (42, None));
-    Ok(())
-}
-
-#[test]
-fn a_range_without_end(rt: HostRuntime) -> Result<(), Fail> {
-    let alloc = rt.alloc();
-    let mut pd = ThreeRegions::new(alloc);
-    let border = key(alloc, &[250, 250])?;
-    let rest = Some(key(alloc, &[250, 250])?);
-    assert_eq!(rt;
-        next_store(&mut pd, &None, &key(alloc, &[16, 4])?)?,
-        (42, rest)
-    );
-    assert_eq!(rt; next_store(&mut pd, &None, &border)?, (43, None));
-    let open = Some(Key::empty(alloc));
-    assert_eq!(rt; next_store(&mut pd, &open, &border)?, (43, None));
-    Ok(())
-}
-
-/// The id of the region of the next group and the group, or 0 and nothing.
-fn next_group(
+    rt: &impl Abort,
     alloc: Global,
-    pd: &mut ThreeRegions,
-    left: &mut Vec<KeyRange>,
-) -> txn_kv::Result<(u64, Vec<KeyRange>)> {
-    match pd.group_ranges_by_region(left)? {
-        Look::Found(Some((region, group))) => Ok((region.id(), group)),
-        _ => Ok((0, Vec::new(alloc))),
-    }
-}
-
-/// Whether the next group is in this region and has these ranges.
-fn is_next(
-    alloc: Global,
-    pd: &mut ThreeRegions,
-    left: &mut Vec<KeyRange>,
-    id: u64,
-    rows: &[(&[u8], &[u8])],
-) -> txn_kv::Result<bool> {
-    let (region, group) = next_group(alloc, pd, left)?;
-    let expected = ranges(alloc, rows)?;
-    Ok(region == id && group == expected)
-}
-
-#[test]
-fn ranges_fall_into_groups(rt: HostRuntime) -> Result<(), Fail> {
-    let alloc = rt.alloc();
-    let mut pd = ThreeRegions::new(alloc);
-    let mut left = ranges(
-        alloc,
-        &[(&[5, 2], &[16, 4]), (&[1], &[11, 4]), (&[1], &[5, 2])],
-    )?;
-    assert!(rt;
-        is_next(
-            alloc,
-            &mut pd,
-            &mut left,
-            1,
-            &[(&[1], &[5, 2]), (&[1], &[10])]
-        )?
-    );
-    assert!(rt; is_next(alloc, &mut pd, &mut left, 2, &[(&[10], &[11, 4])])?);
-    assert!(rt; is_next(alloc, &mut pd, &mut left, 1, &[(&[5, 2], &[10])])?);
-    assert!(rt; is_next(alloc, &mut pd, &mut left, 2, &[(&[10], &[16, 4])])?);
-    assert!(rt; is_next(alloc, &mut pd, &mut left, 0, &[])?);
-    Ok(())
-}
-
-#[test]
-fn a_range_that_begins_at_the_border_is_no_part_of_the_group(rt: HostRuntime) -> Result<(), Fail> {
-    let alloc = rt.alloc();
-    let mut pd = ThreeRegions::new(alloc);
-    let mut left = ranges(alloc, &[(&[10], &[]), (&[1], &[10])])?;
-    assert!(rt; is_next(alloc, &mut pd, &mut left, 1, &[(&[1], &[10])])?);
-    assert!(rt; is_next(alloc, &mut pd, &mut left, 2, &[(&[10], &[250, 250])])?);
-    assert!(rt; is_next(alloc, &mut pd, &mut left, 3, &[(&[250, 250], &[])])?);
-    Ok(())
-}
-
-/// The store of the key at a place, and the place behind its group.
-fn key_store(pd: &mut ThreeRegions, keys: &[Key], first: usize) -> txn_kv::Result<(u64, usize)>
-    requires { first < length keys.now }
-{
-    match store_stream_for_keys(keys, first, pd)? {
-        Look::Found((store, next)) => Ok((store.store, next)),
-        _ => Ok((0, 0)),
+    pd: &mut Client,
+    first: &[u8],
+    end: Option<&[u8]>,
+) -> (u64, Option<Key>) {
+    let end = end.map(|end| key(rt, alloc, end));
+    let look = pd.stores_for_range(&end, &key(rt, alloc, first));
+    match look.expect(rt, "memory") {
+        Look::Found((store, next)) => (store.store, next),
+        _ => (0, None),
     }
 }
 
 #[test]
-fn stores_of_keys(rt: HostRuntime) -> Result<(), Fail> {
-    let mut pd = ThreeRegions::new(rt.alloc());
-    let keys = keys(rt.alloc(), &[&[1], &[9], &[10], &[250, 251]])?;
-    assert_eq!(rt; keys.len(), 4);
-    assert_eq!(rt; key_store(&mut pd, keys.as_slice(), 0)?, (41, 2));
-    assert_eq!(rt; key_store(&mut pd, keys.as_slice(), 2)?, (42, 3));
-    assert_eq!(rt; key_store(&mut pd, keys.as_slice(), 3)?, (43, 4));
-    Ok(())
+fn a_range_goes_on_in_the_next_region(rt: HostRuntime) {
+    let mut pd = client(&rt, rt.alloc());
+    let rows: [(&[u8], Option<&[u8]>, &str); 7] = [
+        (&[1], Some(&[5, 2]), "(41, None)"),
+        (&[1], Some(&[10]), "(41, None)"),
+        (&[5, 2], Some(&[11, 4]), "(41, Some(Key(0A)))"),
+        (&[10], Some(&[11, 4]), "(42, None)"),
+        (&[16, 4], None, "(42, Some(Key(FAFA)))"),
+        (&[250, 250], None, "(43, None)"),
+        (&[250, 250], Some(&[]), "(43, None)"),
+    ];
+    for (first, end, expected) in rows {
+        let next = next_store(&rt, rt.alloc(), &mut pd, first, end);
+        assert_shown(&rt, rt.alloc(), &next, expected);
+    }
 }
 
-/// The end of a piece, its store, and where the rest begins.
+/// The end of the piece of a range from a key on, its store, and where the rest begins.
 fn piece(
-    alloc: Global,
-    pd: &mut ThreeRegions,
+    rt: &impl Abort,
+    pd: &mut Client,
     range: &(Key, Key),
     first: &Key,
-) -> txn_kv::Result<(Key, u64, Option<Key>)> {
-    match store_stream_for_range(range, first, pd)? {
-        Look::Found((piece, store, next)) => Ok((piece.1, store.store, next)),
-        _ => Ok((Key::empty(alloc), 0, None)),
+) -> Option<(Key, u64, Option<Key>)> {
+    match store_stream_for_range(range, first, pd).expect(rt, "memory") {
+        Look::Found((piece, store, next)) => Some((piece.1, store.store, next)),
+        _ => None,
     }
 }
 
 #[test]
-fn pieces_of_a_range(rt: HostRuntime) -> Result<(), Fail> {
+fn pieces_of_a_range(rt: HostRuntime) {
     let alloc = rt.alloc();
-    let mut pd = ThreeRegions::new(alloc);
-    let range = (key(alloc, &[5])?, key(alloc, &[11, 4])?);
-    let border = key(alloc, &[10])?;
-    let first = (key(alloc, &[10])?, 41, Some(key(alloc, &[10])?));
-    assert_eq!(rt; piece(alloc, &mut pd, &range, &range.0)?, first);
-    let second = (key(alloc, &[11, 4])?, 42, None);
-    assert_eq!(rt; piece(alloc, &mut pd, &range, &border)?, second);
-    Ok(())
+    let mut pd = client(&rt, alloc);
+    let range = (key(&rt, alloc, &[5]), key(&rt, alloc, &[11, 4]));
+    let rows = [
+        (5, "Some((Key(0A), 41, Some(Key(0A))))"),
+        (10, "Some((Key(0B04), 42, None))"),
+    ];
+    for (byte, expected) in rows {
+        let piece = piece(&rt, &mut pd, &range, &key(&rt, alloc, &[byte]));
+        assert_shown(&rt, alloc, &piece, expected);
+    }
+}
+
+/// Ranges, each by its start and its end, the last first.
+type Ranges = &'static [(&'static [u8], &'static [u8])];
+
+fn ranges(rt: &impl Abort, alloc: Global, rows: Ranges) -> Vec<KeyRange> {
+    let mut ranges = Vec::new(alloc);
+    for (start, end) in rows {
+        let range = KeyRange {
+            start_key: key(rt, alloc, start),
+            end_key: key(rt, alloc, end),
+        };
+        ranges.push(range).expect(rt, "memory");
+    }
+    ranges
+}
+
+/// The region of the next group, or 0, and the group as a text.
+fn next_group(
+    rt: &impl Abort,
+    alloc: Global,
+    pd: &mut Client,
+    left: &mut Vec<KeyRange>,
+) -> (u64, Vec<KeyRange>) {
+    match pd.group_ranges_by_region(left).expect(rt, "memory") {
+        Look::Found(Some((region, group))) => (region.id(), group),
+        _ => (0, Vec::new(alloc)),
+    }
+}
+
+/// The regions of the groups, each with the group's ranges.
+fn groups(rt: &impl Abort, alloc: Global, rows: Ranges) -> String {
+    let mut pd = client(rt, alloc);
+    let mut left = ranges(rt, alloc, rows);
+    let mut text = String::new(alloc);
+    for _ in 0..5 {
+        let (id, group) = next_group(rt, alloc, &mut pd, &mut left);
+        write!(text, "{id}").expect(rt, "memory");
+        for range in group {
+            let KeyRange { start_key, end_key } = range;
+            write!(text, " {start_key:?}-{end_key:?}").expect(rt, "memory");
+        }
+        text.push('\n').expect(rt, "memory");
+    }
+    text
 }
 
 #[test]
-fn stores_of_ranges(rt: HostRuntime) -> Result<(), Fail> {
-    let alloc = rt.alloc();
-    let mut pd = ThreeRegions::new(alloc);
-    let mut left = ranges(alloc, &[(&[5], &[12])])?;
-    assert_eq!(rt; group_store(&mut pd, &mut left)?, (41, 1));
-    assert_eq!(rt; group_store(&mut pd, &mut left)?, (42, 1));
-    assert_eq!(rt; group_store(&mut pd, &mut left)?, (0, 0));
-    Ok(())
+fn ranges_fall_into_groups(rt: HostRuntime) {
+    let rows: [(Ranges, &str); 2] = [
+        (
+            &[(&[5, 2], &[16, 4]), (&[1], &[11, 4]), (&[1], &[5, 2])],
+            "1 Key(01)-Key(0502) Key(01)-Key(0A)\n2 Key(0A)-Key(0B04)\n1 Key(0502)-Key(0A)\n2 Key(0A)-Key(1004)\n0\n",
+        ),
+        (
+            &[(&[10], &[]), (&[1], &[10])],
+            "1 Key(01)-Key(0A)\n2 Key(0A)-Key(FAFA)\n3 Key(FAFA)-Key()\n0\n0\n",
+        ),
+    ];
+    for (ranges, expected) in rows {
+        assert_eq!(rt; groups(&rt, rt.alloc(), ranges).as_str(), expected);
+    }
 }
 
 /// The store of the next group, and how many ranges it has.
-fn group_store(pd: &mut ThreeRegions, left: &mut Vec<KeyRange>) -> txn_kv::Result<(u64, usize)> {
-    match store_stream_for_ranges(left, pd)? {
-        Look::Found(Some((group, store))) => Ok((store.store, group.len())),
-        _ => Ok((0, 0)),
+fn group_store(rt: &impl Abort, pd: &mut Client, left: &mut Vec<KeyRange>) -> (u64, usize) {
+    match store_stream_for_ranges(left, pd).expect(rt, "memory") {
+        Look::Found(Some((group, store))) => (store.store, group.len()),
+        _ => (0, 0),
+    }
+}
+
+#[test]
+fn stores_of_ranges(rt: HostRuntime) {
+    let mut pd = client(&rt, rt.alloc());
+    let mut left = ranges(&rt, rt.alloc(), &[(&[5], &[12])]);
+    for expected in [(41, 1), (42, 1), (0, 0)] {
+        assert_eq!(rt; group_store(&rt, &mut pd, &mut left), expected);
     }
 }

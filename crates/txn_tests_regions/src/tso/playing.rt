@@ -1,11 +1,13 @@
 //! Plays what a query is told, one event after another.
 ghost use Rattle.txn_history.specs.Posted.{HasNumbers};
 
+use crate::fixtures::store;
 use std::alloc::Global;
+use std::process::Abort;
 use txn_kv::{
     Errand, Error, GetAllStoresResponse, GetRegionResponse, GetStoreResponse, Internal, Items, Key,
-    MembersResponse, NoMemory, Outbox, PdAnswer, PdQuery, Progress, Region, Reply, Request,
-    StoreMeta, StoreState, Text, Timestamp, UpdateGcSafePointResponse,
+    MembersResponse, Outbox, PdQuery, Region, Reply, Request, StoreState, Timestamp,
+    UpdateGcSafePointResponse,
 };
 use txn_tso::{Cluster, PdCall, RetryClient};
 
@@ -22,90 +24,43 @@ pub enum Said {
     Members,
 }
 
-/// What a query is told.
+/// What a query is told. A time is a timestamp with this logical part, or none where the oracle was lost.
 #[derive(Clone, Copy)]
 pub enum Told {
     Lost,
     Slept,
     Said(Said),
-    Time(i64),
-    Refused,
+    Time(Option<i64>),
 }
 
-/// One event: at this time, under this number.
+/// At this time, what was posted last is told this.
 #[derive(Clone, Copy)]
-pub struct Event {
-    pub now: u64,
-    pub number: u64,
-    pub told: Told,
-}
+pub struct Event(pub u64, pub Told);
 
-pub fn at(now: u64, number: u64, told: Told) -> Event {
-    Event { now, number, told }
-}
-
-/// What an event was answered.
-#[derive(Clone, Copy, Debug, PartialEq, Eq)]
-pub enum Answer {
-    Waiting,
-    Region(u64),
-    Store(u64),
-    Stores,
-    Time(i64),
-    Safepoint(u64),
-    Lost(u64),
-    NoKey,
-    NoRegion(u64),
-    OracleLost,
-    WrongReply,
-    Other,
-}
-
-/// What was posted, as letters, and what the last event was answered.
-#[derive(Drop)]
-pub struct Played {
-    pub posted: String,
-    pub answer: Answer,
-}
-
-fn region(alloc: Global, id: u64) -> Region {
-    Region {
+fn region(alloc: Global, id: u64) -> Option<Region> {
+    Some(Region {
         id,
         start_key: Key::empty(alloc),
         end_key: Key::empty(alloc),
         region_epoch: None,
-    }
+    })
 }
 
-fn store(alloc: Global, id: u64) -> StoreMeta {
-    StoreMeta {
-        id,
-        address: Text::from_string(String::new(alloc)),
-        state: StoreState::Up,
-        labels: Items::new(alloc),
+fn get_region(region: Option<Region>) -> GetRegionResponse {
+    GetRegionResponse {
+        region,
+        leader: None,
     }
 }
 
 fn reply(alloc: Global, said: Said) -> Reply {
     match said {
-        Said::Region(id) => Reply::GetRegion(GetRegionResponse {
-            region: Some(region(alloc, id)),
-            leader: None,
-        }),
-        Said::RegionById(id) => Reply::GetRegionById(GetRegionResponse {
-            region: Some(region(alloc, id)),
-            leader: None,
-        }),
-        Said::NoRegion => Reply::GetRegion(GetRegionResponse {
-            region: None,
-            leader: None,
-        }),
-        Said::NoRegionById => Reply::GetRegionById(GetRegionResponse {
-            region: None,
-            leader: None,
-        }),
+        Said::Region(id) => Reply::GetRegion(get_region(region(alloc, id))),
+        Said::RegionById(id) => Reply::GetRegionById(get_region(region(alloc, id))),
+        Said::NoRegion => Reply::GetRegion(get_region(None)),
+        Said::NoRegionById => Reply::GetRegionById(get_region(None)),
         Said::Store(id) => Reply::GetStore(GetStoreResponse {
-            store: store(alloc, id),
+            store: store(alloc, id, StoreState::Up),
         }),
         Said::Stores => Reply::GetAllStores(GetAllStoresResponse {
             stores: Items::new(alloc),
@@ -117,76 +72,41 @@ fn reply(alloc: Global, said: Said) -> Reply {
     }
 }
 
-fn internal(what: &Internal) -> Answer {
-    match what {
-        Internal::OracleLost => Answer::OracleLost,
-        Internal::WrongReply => Answer::WrongReply,
-        _ => Answer::Other,
+fn time(logical: Option<i64>) -> txn_kv::Result<Timestamp> {
+    match logical {
+        Some(logical) => Ok(Timestamp {
+            physical: 5,
+            logical,
+            suffix_bits: 0,
+        }),
+        None => Err(Error::InternalError {
+            what: Internal::OracleLost,
+        }),
     }
 }
 
-fn refusal(why: &Error) -> Answer {
-    match why {
-        Error::GrpcAPI(ticket) => Answer::Lost(ticket.number),
-        Error::RegionForKeyNotFound { .. } => Answer::NoKey,
-        Error::RegionNotFoundInResponse { region_id } => Answer::NoRegion(*region_id),
-        Error::InternalError { what } => internal(what),
-        _ => Answer::Other,
-    }
-}
-
-fn content(answer: &PdAnswer) -> Answer {
-    match answer {
-        PdAnswer::Region(region) => Answer::Region(region.id()),
-        PdAnswer::Store(store) => Answer::Store(store.id),
-        PdAnswer::Stores(_) => Answer::Stores,
-        PdAnswer::Time(timestamp) => Answer::Time(timestamp.logical),
-        PdAnswer::Safepoint(safe_point) => Answer::Safepoint(*safe_point),
-    }
-}
-
-fn answer_of(progress: &Progress<PdAnswer>) -> Answer {
-    match progress {
-        Progress::Waiting => Answer::Waiting,
-        Progress::Done(Ok(told)) => content(told),
-        Progress::Done(Err(why)) => refusal(why),
-    }
-}
-
-fn timestamp(logical: i64) -> Timestamp {
-    Timestamp {
-        physical: 5,
-        logical,
-        suffix_bits: 0,
-    }
-}
-
-fn oracle_lost() -> Error {
-    Error::InternalError {
-        what: Internal::OracleLost,
-    }
-}
-
-/// Tells a call one event.
+/// Tells a call one event about what was posted under a number, and shows what it answers.
 pub fn tell(
+    rt: &impl Abort,
     alloc: Global,
     call: &mut PdCall,
     client: &mut RetryClient,
+    number: u64,
     event: Event,
     out: &mut Outbox,
-) -> Result<Answer, NoMemory>
+) -> String
     requires { HasNumbers out.old }
     ensures { HasNumbers out.new }
 {
-    let Event { now, number, told } = event;
+    let Event(now, told) = event;
     let progress = match told {
         Told::Lost => call.lost(client, now, number, out),
         Told::Slept => call.slept(client, now, number, out),
         Told::Said(said) => call.take_reply(client, now, number, reply(alloc, said), out),
-        Told::Time(logical) => call.take_time(client, now, number, Ok(timestamp(logical)), out),
-        Told::Refused => call.take_time(client, now, number, Err(oracle_lost()), out),
+        Told::Time(logical) => call.take_time(client, now, number, time(logical), out),
     };
-    Ok(answer_of(&progress?))
+    let progress = progress.expect(rt, "memory");
+    format!(in alloc; "{progress:?}").expect(rt, "memory")
 }
 
 fn letter(errand: &Errand) -> char {
@@ -201,12 +121,12 @@ fn letter(errand: &Errand) -> char {
 }
 
 /// What is posted under each number, as a letter: a query, the members, a sleep, an ask.
-pub fn posted(alloc: Global, out: &Outbox) -> Result<String, NoMemory> {
+pub fn posted(rt: &impl Abort, alloc: Global, out: &Outbox) -> String {
     let mut letters = String::new(alloc);
     for errand in out.sends.as_slice() {
-        letters.push(letter(errand))?;
+        letters.push(letter(errand)).expect(rt, "memory");
     }
-    Ok(letters)
+    letters
 }
 
 /// A line's outbox in which nothing is posted yet.
@@ -221,47 +141,32 @@ pub fn client() -> RetryClient {
     RetryClient::new(Cluster { id: 0 }, 0)
 }
 
-/// Tells a call these events, the first of them first.
+/// Tells a call these events, each about what was posted last, and shows the last answer.
 fn tell_all(
+    rt: &impl Abort,
     alloc: Global,
     call: &mut PdCall,
     client: &mut RetryClient,
     events: &[Event],
     out: &mut Outbox,
-) -> Result<Answer, NoMemory>
+) -> String
     requires { HasNumbers out.old }
 {
-    let mut last = Answer::Waiting;
+    let mut last = String::new(alloc);
     for event in events {
-        last = tell(alloc, call, client, *event, out)?;
+        let number = out.sends.len() as u64;
+        last = tell(rt, alloc, call, client, number, *event, out);
     }
-    Ok(last)
+    last
 }
 
-/// Starts a query and tells it these events.
-pub fn play(alloc: Global, query: PdQuery, events: &[Event]) -> Result<Played, NoMemory> {
+/// Starts a query and tells it these events: what is posted, and the last answer.
+pub fn play(rt: &impl Abort, alloc: Global, query: PdQuery, events: &[Event]) -> String {
     let mut client = client();
     let mut out = outbox(alloc);
     let mut call = PdCall::new(query);
-    call.start(&mut client, 0, &mut out)?;
-    let answer = tell_all(alloc, &mut call, &mut client, events, &mut out)?;
-    Ok(Played {
-        posted: posted(alloc, &out)?,
-        answer,
-    })
-}
-
-/// What the last of these events was answered.
-pub fn last_answer(alloc: Global, query: PdQuery, events: &[Event]) -> Result<Answer, NoMemory> {
-    let played = play(alloc, query, events)?;
-    Ok(played.answer)
-}
-
-/// The same event under each of the first so many numbers.
-pub fn repeated(alloc: Global, now: u64, told: Told, times: u64) -> Result<Vec<Event>, NoMemory> {
-    let mut events = Vec::new(alloc);
-    for others in 0..times {
-        events.push(at(now, others + 1, told))?;
-    }
-    Ok(events)
+    call.start(&mut client, 0, &mut out).expect(rt, "memory");
+    let answer = tell_all(rt, alloc, &mut call, &mut client, events, &mut out);
+    let posted = posted(rt, alloc, &out);
+    format!(in alloc; "{posted} {answer}").expect(rt, "memory")
 }

@@ -3,30 +3,29 @@ ghost use Rattle.txn_region.specs.Clients.{IsFoundAt};
 ghost use Rattle.txn_region.specs.Refusals.{IsPlacementError};
 
 use std::alloc::Global;
+use std::process::Abort;
 use txn_kv::{
-    Error, Key, Look, NoMemory, PdAnswer, PdQuery, Peer, Region, RegionEpoch, RegionId,
-    RegionVerId, RegionWithLeader, Result, Timestamp,
+    Error, Key, Look, PdAnswer, PdQuery, Peer, Region, RegionEpoch, RegionId, RegionVerId,
+    RegionWithLeader, Result, Timestamp,
 };
 use txn_region::{ApiV1TxnCodec, PdClient, RegionStore, Store};
 use txn_retry::CacheChange;
 use txn_tso::{Cluster, PdCall, RetryClient};
 
 /// The key of this byte.
-pub fn key(alloc: Global, byte: u8) -> std::result::Result<Key, NoMemory> {
-    let mut bytes = Vec::new(alloc);
-    bytes.push(byte)?;
-    Ok(Key::from(bytes))
+pub fn key(rt: &impl Abort, alloc: Global, byte: u8) -> Key {
+    Key::from([byte].to_vec(alloc).expect(rt, "memory"))
 }
 
-/// A client that believes in the regions that some keys divide, and keeps what it was last told of a region. It may forget each
-/// region and store once it has found it, and asks the placement driver for what it does not know.
+/// A client that believes in the regions that some keys divide. One that forgets knows each region and store only once it was asked
+/// for, and for one use.
 #[derive(Drop)]
 pub struct Regions {
     regions: Vec<RegionWithLeader>,
     forgets: bool,
     knows_region: bool,
     knows_store: bool,
-    told: CacheChange,
+    told: Option<CacheChange>,
     connection: RetryClient,
     codec: ApiV1TxnCodec,
 }
@@ -50,18 +49,19 @@ fn led(region: Region) -> RegionWithLeader {
 }
 
 /// The regions that begin at the start and at these bytes, which ascend. Their ids count from 1.
-fn divided(alloc: Global, splits: &[u8]) -> std::result::Result<Vec<RegionWithLeader>, NoMemory> {
+fn divided(rt: &impl Abort, alloc: Global, splits: &[u8]) -> Vec<RegionWithLeader> {
     let mut regions = Vec::new(alloc);
     let mut start = Key::empty(alloc);
     let mut id = 1_u64;
     for split in splits {
-        let end = key(alloc, *split)?;
-        regions.push(led(region(id, start, end.try_clone()?)))?;
-        start = end;
+        let region = led(region(id, start, key(rt, alloc, *split)));
+        regions.push(region).expect(rt, "memory");
+        start = key(rt, alloc, *split);
         id = id.saturating_add(1);
     }
-    regions.push(led(region(id, start, Key::empty(alloc))))?;
-    Ok(regions)
+    let last = led(region(id, start, Key::empty(alloc)));
+    regions.push(last).expect(rt, "memory");
+    regions
 }
 
 /// Whether requests for the key can be made for the region.
@@ -76,23 +76,16 @@ fn holds(region: &RegionWithLeader, key: &Key) -> bool
 }
 
 impl Regions {
-    /// It knows all regions.
-    pub fn new(alloc: Global, splits: &[u8]) -> std::result::Result<Regions, NoMemory> {
-        Ok(Regions {
-            regions: divided(alloc, splits)?,
-            forgets: false,
-            knows_region: true,
-            knows_store: true,
-            told: CacheChange::Keep,
+    pub fn new(rt: &impl Abort, alloc: Global, splits: &[u8], forgets: bool) -> Regions {
+        Regions {
+            regions: divided(rt, alloc, splits),
+            forgets,
+            knows_region: !forgets,
+            knows_store: !forgets,
+            told: None,
             connection: RetryClient::new(Cluster { id: 0 }, 0),
             codec: ApiV1TxnCodec {},
-        })
-    }
-
-    /// It knows nothing from now on, but what it asks for the next time.
-    pub fn forget(&mut self) {
-        self.forgets = true;
-        self.forget_found();
+        }
     }
 
     fn forget_found(&mut self) {
@@ -103,14 +96,13 @@ impl Regions {
     }
 
     /// Other bytes divide the regions from now on.
-    pub fn divide(&mut self, alloc: Global, splits: &[u8]) -> std::result::Result<(), NoMemory> {
-        self.regions = divided(alloc, splits)?;
-        Ok(())
+    pub fn divide(&mut self, rt: &impl Abort, alloc: Global, splits: &[u8]) {
+        self.regions = divided(rt, alloc, splits);
     }
 
-    /// What it was last told of a region.
-    pub fn told(&self) -> CacheChange {
-        self.told
+    /// Takes what it was last told of a region.
+    pub fn take_told(&mut self) -> Option<CacheChange> {
+        self.told.take()
     }
 
     fn keep(&mut self, query: &PdQuery) {
@@ -207,12 +199,12 @@ impl PdClient for Regions {
                 region.leader = Some(leader);
             }
         }
-        self.told = CacheChange::UpdateLeader(leader);
+        self.told = Some(CacheChange::UpdateLeader(leader));
         Ok(())
     }
 
     fn invalidate_region_cache(&mut self, _ver_id: &RegionVerId) {
-        self.told = CacheChange::Invalidate;
+        self.told = Some(CacheChange::Invalidate);
     }
 
     fn get_codec(&self) -> &ApiV1TxnCodec {

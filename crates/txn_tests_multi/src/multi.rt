@@ -1,9 +1,0 @@
-mod client;
-mod late;
-mod line;
-mod losses;
-mod many;
-mod retries;
-mod run;
-mod splits;
-mod table;
