@@ -5,7 +5,7 @@ use std::fmt::Debug;
 use std::marker::Model;
 use std::process::Abort;
 use txn_fakes::NoClient;
-use txn_kv::{Errand, Error, LockInfo, Outbox, Progress};
+use txn_kv::{Errand, Error, LockInfo, Outbox, Progress, Result};
 use txn_plan::Plan;
 
 /// What a plan is told of, by the number of a request, a sleep or an ask.
@@ -89,14 +89,11 @@ fn locked(rt: &impl Abort, alloc: Global, locks: &[LockInfo]) -> String {
     text
 }
 
-fn answered<A: Debug + Drop>(rt: &impl Abort, alloc: Global, progress: &Progress<A>) -> String {
-    match progress {
-        Progress::Waiting => String::from_str(alloc, "waits").expect(rt, "memory"),
-        Progress::Done(Err(Error::ResolveLockError(locks))) => {
-            locked(rt, alloc, locks.as_slice())
-        }
-        Progress::Done(Err(error)) => format!(in alloc; "{error:?}").expect(rt, "memory"),
-        Progress::Done(Ok(reply)) => format!(in alloc; "{reply:?}").expect(rt, "memory"),
+fn answered<A: Debug + Drop>(rt: &impl Abort, alloc: Global, answer: &Result<A>) -> String {
+    match answer {
+        Ok(reply) => format!(in alloc; "{reply:?}").expect(rt, "memory"),
+        Err(Error::ResolveLockError(locks)) => locked(rt, alloc, locks.as_slice()),
+        Err(error) => format!(in alloc; "{error:?}").expect(rt, "memory"),
     }
 }
 
@@ -134,9 +131,13 @@ where
     let mut line = Line::new(alloc, plan);
     let mut text = String::new(alloc);
     for event in events {
-        let progress = line.tell(rt, alloc, *event);
-        let answer = answered(rt, alloc, &progress);
-        write!(text, "{answer}, ").expect(rt, "memory");
+        match line.tell(rt, alloc, *event) {
+            Progress::Waiting => text.push_str("waits, ").expect(rt, "memory"),
+            Progress::Done(answer) => {
+                let answer = answered(rt, alloc, &answer);
+                write!(text, "{answer}, ").expect(rt, "memory");
+            }
+        }
     }
     let count = line.errands().len();
     write!(text, "{count} posted").expect(rt, "memory");

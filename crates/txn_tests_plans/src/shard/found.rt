@@ -99,30 +99,19 @@ fn scan(rt: &impl Abort, alloc: Global, start: &[u8], end: &[u8], reverse: bool)
 
 #[test]
 fn ranges_are_cut_upwards(rt: HostRuntime) {
-    let rows: [(&str, &[u8], &[u8], bool, u32, &str); 3] = [
-        (
-            "upwards",
-            b"\x05\x02",
-            b"\x10\x04",
-            false,
-            1,
-            "Some(Region(Key(0A))) 41: (Key(0502), Key(0A)) 42: (Key(0A), Key(1004))",
-        ),
-        (
-            "in reverse",
-            b"\x10\x04",
-            b"\x05\x02",
-            true,
-            10,
-            "None 41: (Key(0502), Key(0A)) 42: (Key(0A), Key(1004))",
-        ),
-        ("empty", b"\x05", b"\x05", false, 0, "None"),
-    ];
-    for (name, start, end, reverse, left, want) in rows {
-        let request = scan(&rt, rt.alloc(), start, end, reverse);
-        let seen = found(&rt, rt.alloc(), &request, left);
-        assert_eq!(rt; seen.as_str(), want, "{name}");
-    }
+    let alloc = rt.alloc();
+    let upwards = scan(&rt, alloc, b"\x05\x02", b"\x10\x04", false);
+    assert_eq!(rt;
+        found(&rt, alloc, &upwards, 1).as_str(),
+        "Some(Region(Key(0A))) 41: (Key(0502), Key(0A)) 42: (Key(0A), Key(1004))"
+    );
+    let reverse = scan(&rt, alloc, b"\x10\x04", b"\x05\x02", true);
+    assert_eq!(rt;
+        found(&rt, alloc, &reverse, 10).as_str(),
+        "None 41: (Key(0502), Key(0A)) 42: (Key(0A), Key(1004))"
+    );
+    let empty = scan(&rt, alloc, b"\x05", b"\x05", false);
+    assert_eq!(rt; found(&rt, alloc, &empty, 0).as_str(), "None");
 }
 
 #[test]

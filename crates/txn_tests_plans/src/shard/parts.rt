@@ -26,21 +26,9 @@ const EPOCH: Option<RegionEpoch> = Some(RegionEpoch {
 
 const LEADER: Option<Peer> = Some(Peer { id: 4, store_id: 4 });
 
-/// How a shard is asked for at such a region, and the request then.
-fn asked(
-    rt: &impl Abort,
-    alloc: Global,
-    region_epoch: Option<RegionEpoch>,
-    leader: Option<Peer>,
-) -> String {
-    let store = region(alloc, region_epoch, leader);
-    let mut request = get(rt, alloc);
-    let applied = request.apply_shard(key(rt, alloc, b"b"), &store);
-    format!(in alloc; "{applied:?} {request:?}").expect(rt, "memory")
-}
-
 #[test]
 fn a_region_needs_an_epoch_and_a_leader(rt: HostRuntime) {
+    let alloc = rt.alloc();
     let rows = [
         (
             "an epoch and a leader",
@@ -62,17 +50,11 @@ fn a_region_needs_an_epoch_and_a_leader(rt: HostRuntime) {
         ),
     ];
     for (name, epoch, leader, want) in rows {
-        let seen = asked(&rt, rt.alloc(), epoch, leader);
+        let mut request = get(&rt, alloc);
+        let applied = request.apply_shard(key(&rt, alloc, b"b"), &region(alloc, epoch, leader));
+        let seen = format!(in alloc; "{applied:?} {request:?}").expect(&rt, "memory");
         assert_eq!(rt; seen.as_str(), want, "{name}");
     }
-}
-
-/// Asks for a piece of a range from c to d.
-fn apply<R: Shardable<Shard = (Key, Key)>>(rt: &impl Abort, alloc: Global, request: &mut R) {
-    let store = region(alloc, EPOCH, LEADER);
-    let piece = (key(rt, alloc, b"c"), key(rt, alloc, b"d"));
-    let applied = request.apply_shard(piece, &store);
-    applied.expect(rt, "an epoch and a leader");
 }
 
 #[test]
@@ -87,7 +69,9 @@ fn a_reverse_scan_of_a_piece(rt: HostRuntime) {
         version: 7,
         reverse: true,
     };
-    apply(&rt, alloc, &mut request);
+    let piece = (key(&rt, alloc, b"c"), key(&rt, alloc, b"d"));
+    let applied = request.apply_shard(piece, &region(alloc, EPOCH, LEADER));
+    applied.expect(&rt, "an epoch and a leader");
     assert_eq!(rt; request.start_key.as_slice(), b"d".as_slice());
     assert_eq!(rt; request.end_key.as_slice(), b"c".as_slice());
 }
@@ -102,7 +86,9 @@ fn a_scan_of_locks_goes_on_in_its_piece(rt: HostRuntime) {
         max_version: 7,
         limit: 3,
     };
-    apply(&rt, alloc, &mut request);
+    let piece = (key(&rt, alloc, b"c"), key(&rt, alloc, b"d"));
+    let applied = request.apply_shard(piece, &region(alloc, EPOCH, LEADER));
+    applied.expect(&rt, "an epoch and a leader");
     request.next_batch((key(&rt, alloc, b"cc"), Key::empty(alloc)));
     assert_eq!(rt; request.start_key.as_slice(), b"cc".as_slice());
     assert_eq!(rt; request.end_key.as_slice(), b"d".as_slice());
