@@ -4,4 +4,8 @@
 #[cfg(test)]
 mod builder;
 #[cfg(test)]
+mod client;
+#[cfg(test)]
+mod line;
+#[cfg(test)]
 mod stores;

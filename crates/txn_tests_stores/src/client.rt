@@ -9,7 +9,7 @@ use txn_kv::{
 use txn_region::{ApiV1TxnCodec, PdClient, RegionStore, Store};
 use txn_tso::{Cluster, PdCall, RetryClient};
 
-/// A client that knows one region or none, and refuses each other look-up.
+/// A client that knows one region or none, refuses each other look-up, and believes each answer.
 #[derive(Drop)]
 pub struct FewRegions {
     known: Option<RegionStore>,
@@ -102,8 +102,11 @@ impl PdClient for FewRegions {
         &mut self.connection
     }
 
-    fn learn(&mut self, _query: &PdQuery, _answer: &Result<PdAnswer>) -> Result<()> {
-        Err(Error::OutOfMemory)
+    fn learn(&mut self, _query: &PdQuery, answer: &Result<PdAnswer>) -> Result<()> {
+        match answer {
+            Ok(_) => Ok(()),
+            Err(error) => Err(error.try_clone()?),
+        }
     }
 
     fn update_leader(&mut self, _ver_id: &RegionVerId, _leader: Peer) -> Result<()> {
