@@ -1,8 +1,6 @@
-//! Tests of commits, of transactions and of clients.
+//! Tests of commits and of transactions.
 #![tactic(auto)]
 
-#[cfg(test)]
-mod client;
 #[cfg(test)]
 mod commit;
 #[cfg(test)]

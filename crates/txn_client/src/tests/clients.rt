@@ -1,17 +1,12 @@
 //! New clients, and the calls that they make.
-use crate::transaction::plans::Once;
+use super::plans::NoPlan;
+use crate::{Client, ClientCall};
 use std::test::Fail;
-use txn_client::{Client, ClientCall};
 use txn_core::TransactionOptions;
-use txn_kv::{BatchRollbackRequest, CommitRequest, NoMemory, PrewriteRequest};
+use txn_kv::NoMemory;
 use txn_region::{ApiV1TxnCodec, ApiV2TxnCodec, PdClient, PdRpcClient};
 
-type Call = ClientCall<
-    PdRpcClient<ApiV1TxnCodec>,
-    Once<PrewriteRequest>,
-    Once<CommitRequest>,
-    Once<BatchRollbackRequest>,
->;
+type Call = ClientCall<PdRpcClient<ApiV1TxnCodec>, NoPlan, NoPlan, NoPlan>;
 
 #[test]
 fn a_client_is_of_cluster_0(rt: HostRuntime) {

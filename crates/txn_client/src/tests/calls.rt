@@ -1,37 +1,22 @@
-//! Calls for a timestamp and for a transaction, of a new client.
+//! Calls for a timestamp and for a transaction, over a client that knows nothing.
 ghost use Rattle.txn_client.specs.Calls.{CallReady};
 ghost use Rattle.txn_plan.specs.Arrivals.{MayArrive};
 ghost use Rattle.txn_history.specs.Posted.{HasNumbers};
 ghost use Rattle.txn_kv.specs.Timestamp.{HasVersion};
 
-use crate::transaction::plans::Once;
+use super::no_client::NoClient;
+use super::plans::NoPlan;
+use crate::{ClientAnswer, ClientCall};
 use std::test::Fail;
-use txn_client::{Client, ClientAnswer, ClientCall};
 use txn_core::{CheckLevel, CloseAnswer, Transaction, TransactionOptions};
-use txn_kv::{
-    BatchRollbackRequest, CommitRequest, Errand, Error, Internal, NoMemory, Outbox,
-    PrewriteRequest, Progress, Timestamp,
-};
+use txn_kv::{Errand, Error, Internal, NoMemory, Outbox, Progress, Timestamp};
 use txn_plan::Arrival;
-use txn_region::{ApiV1TxnCodec, PdRpcClient};
 
-type Pd = PdRpcClient<ApiV1TxnCodec>;
+type Call = ClientCall<NoClient, NoPlan, NoPlan, NoPlan>;
 
-type Call = ClientCall<Pd, Once<PrewriteRequest>, Once<CommitRequest>, Once<BatchRollbackRequest>>;
+type Answer = ClientAnswer<NoClient, NoPlan, NoPlan, NoPlan>;
 
-type Answer = ClientAnswer<
-    Pd,
-    Once<PrewriteRequest>,
-    Once<CommitRequest>,
-    Once<BatchRollbackRequest>,
->;
-
-type Begun = Transaction<
-    Pd,
-    Once<PrewriteRequest>,
-    Once<CommitRequest>,
-    Once<BatchRollbackRequest>,
->;
+type Begun = Transaction<NoClient, NoPlan, NoPlan, NoPlan>;
 
 fn seven() -> Timestamp
     ensures { HasVersion result }
@@ -64,7 +49,7 @@ fn refused(ask: u64) -> Arrival
     }
 }
 
-fn start(call: &mut Call, pd: &mut Pd, out: &mut Outbox) -> Result<Progress<Answer>, NoMemory>
+fn start(call: &mut Call, pd: &mut NoClient, out: &mut Outbox) -> Result<Progress<Answer>, NoMemory>
     requires ready { CallReady call.old.stage }
     requires numbers { HasNumbers out.old }
     ensures ready { CallReady call.new.stage }
@@ -76,7 +61,7 @@ fn start(call: &mut Call, pd: &mut Pd, out: &mut Outbox) -> Result<Progress<Answ
 fn tell(
     call: &mut Call,
     arrival: Arrival,
-    pd: &mut Pd,
+    pd: &mut NoClient,
     out: &mut Outbox,
 ) -> Result<Progress<Answer>, NoMemory>
     requires ready { CallReady call.old.stage }
@@ -91,7 +76,7 @@ fn tell(
 fn refuse_three(
     call: &mut Call,
     asks: [u64; 3],
-    pd: &mut Pd,
+    pd: &mut NoClient,
     out: &mut Outbox,
 ) -> Result<(), NoMemory>
     requires ready { CallReady call.old.stage }
@@ -122,13 +107,13 @@ fn asked(out: &Outbox) -> Option<u64> {
 
 #[test]
 fn a_transaction_begins_at_the_timestamp_that_came(rt: HostRuntime) -> Result<(), Fail> {
-    let mut client = Client::new(rt.alloc(), 0);
+    let mut pd = NoClient::new();
     let mut out = Outbox::new(rt.alloc(), 3, false);
     let options = TransactionOptions::new_optimistic().drop_check(CheckLevel::Warn);
-    let mut call: Call = client.begin_with_options(options)?;
-    start(&mut call, client.pd(), &mut out)?;
+    let mut call: Call = ClientCall::begin(rt.alloc(), options);
+    start(&mut call, &mut pd, &mut out)?;
     assert_eq!(rt; asked(&out), Some(1));
-    let end = tell(&mut call, given(1), client.pd(), &mut out)?;
+    let end = tell(&mut call, given(1), &mut pd, &mut out)?;
     let mut transaction = begun(end).ok_or("no transaction")?;
     assert_eq!(rt; transaction.start_timestamp(), seven());
     assert!(rt; !transaction.is_busy());
@@ -138,17 +123,17 @@ fn a_transaction_begins_at_the_timestamp_that_came(rt: HostRuntime) -> Result<()
 
 #[test]
 fn a_timestamp_is_told_once(rt: HostRuntime) -> Result<(), Fail> {
-    let mut client = Client::new(rt.alloc(), 0);
+    let mut pd = NoClient::new();
     let mut out = Outbox::new(rt.alloc(), 3, false);
-    let mut call: Call = client.current_timestamp()?;
-    start(&mut call, client.pd(), &mut out)?;
-    let early = tell(&mut call, given(2), client.pd(), &mut out)?;
+    let mut call: Call = ClientCall::timestamp(rt.alloc());
+    start(&mut call, &mut pd, &mut out)?;
+    let early = tell(&mut call, given(2), &mut pd, &mut out)?;
     assert!(rt; matches!(early, Progress::Waiting));
-    let end = tell(&mut call, given(1), client.pd(), &mut out)?;
+    let end = tell(&mut call, given(1), &mut pd, &mut out)?;
     assert!(rt; matches!(end, Progress::Done(Ok(ClientAnswer::Time(_)))));
-    let late = tell(&mut call, given(1), client.pd(), &mut out)?;
+    let late = tell(&mut call, given(1), &mut pd, &mut out)?;
     assert!(rt; matches!(late, Progress::Waiting));
-    let again = start(&mut call, client.pd(), &mut out)?;
+    let again = start(&mut call, &mut pd, &mut out)?;
     assert!(rt; matches!(again, Progress::Waiting));
     assert_eq!(rt; asked(&out), Some(1));
     Ok(())
@@ -156,15 +141,15 @@ fn a_timestamp_is_told_once(rt: HostRuntime) -> Result<(), Fail> {
 
 #[test]
 fn an_ask_is_refused_ten_times(rt: HostRuntime) -> Result<(), Fail> {
-    let mut client = Client::new(rt.alloc(), 0);
+    let mut pd = NoClient::new();
     let mut out = Outbox::new(rt.alloc(), 3, false);
-    let mut call: Call = client.current_timestamp()?;
-    start(&mut call, client.pd(), &mut out)?;
-    refuse_three(&mut call, [1, 2, 3], client.pd(), &mut out)?;
-    refuse_three(&mut call, [4, 5, 6], client.pd(), &mut out)?;
-    refuse_three(&mut call, [7, 8, 9], client.pd(), &mut out)?;
+    let mut call: Call = ClientCall::timestamp(rt.alloc());
+    start(&mut call, &mut pd, &mut out)?;
+    refuse_three(&mut call, [1, 2, 3], &mut pd, &mut out)?;
+    refuse_three(&mut call, [4, 5, 6], &mut pd, &mut out)?;
+    refuse_three(&mut call, [7, 8, 9], &mut pd, &mut out)?;
     assert_eq!(rt; asked(&out), Some(10));
-    let end = tell(&mut call, refused(10), client.pd(), &mut out)?;
+    let end = tell(&mut call, refused(10), &mut pd, &mut out)?;
     assert!(rt; matches!(end, Progress::Done(Err(Error::InternalError { .. }))));
     Ok(())
 }

@@ -1,0 +1,4 @@
+mod calls;
+mod clients;
+mod no_client;
+mod plans;
