@@ -1,3 +1,4 @@
 pub mod Account
 pub mod Sight
+pub mod Trace
 pub mod Waiting

@@ -2,6 +2,8 @@ ghost use Rattle.std.specs.List.{All};
 ghost use Rattle.std.specs.Prelude.{◌≡◌, ◌<◌, ◌≤◌, ◌^◌, ℕ, [], IfOk, OnOk, false, true};
 ghost use Rattle.txn_side.specs.Account.{AreClosed, AreKept, MayTakeIn};
 ghost use Rattle.txn_side.specs.Sight.{Acts, Asks, Goes, IsGiven, Names, NoneGiven, connected, crash, is_live, line_count, opened};
+ghost use Rattle.txn_history.specs.Event.Event.{Lost, Took};
+ghost use Rattle.txn_side.specs.Trace.{ActsOn, AsksOn, HearsOn, StillRests, WakesOn};
 ghost use Rattle.txn_side.specs.Waiting.{HearsEnd, HearsReply, NoneHeard, WaitsOn, posted_in};
 
 use crate::act::Act;
@@ -17,6 +19,10 @@ pub trait ClientSide: Sized + Drop {
     ghost use Rattle.txn_side.specs.Sight.{Sight, nobody};
     ghost use Rattle.txn_side.specs.Waiting.{Awaited, IsDue, NoneWaits};
     ghost use Rattle.txn_side.specs.Account.{Account};
+    ghost use Rattle.std.specs.Prelude.{List};
+    ghost use Rattle.txn_history.specs.Event.{Event};
+    ghost use Rattle.txn_kv.specs.declared.errors.Error.{Error};
+    ghost use Rattle.txn_side.specs.Trace.{IsLonger, Trace};
 
     // What stands at each line, which clients have crashed, and how far the numbers of each line have come.
     ghost sight: { Self → Sight };
@@ -36,13 +42,26 @@ pub trait ClientSide: Sized + Drop {
     // How far the transaction of a line has come, and what it has taken in: nothing, where none has begun there.
     ghost account: { Self → ℕ → Account };
 
+    // With which errors a call may fail after what it has heard.
+    ghost fails: { List Event → Error → Type 0 };
+
+    // What the calls have heard has happened.
+    ghost rests: { Self → Trace → Type 0 };
+
+    // It has, whatever happens later.
+    ghost rests_longer: { (s : Self) (t longer : Trace) → IsLonger t longer → rests s t → rests s longer };
+
+    // Calls of no line have heard nothing.
+    ghost nobody_rests: { (s : Self) → sight s ≡ nobody → (t : Trace) → rests s t };
+
     /// One line more, at which nothing stands.
     fn open(&mut self) -> Result<(), NoMemory>
         requires ready { ready self.old }
         ensures sight { OnOk result (sight self.new ≡ opened (sight self.old)) }
         ensures waits { OnOk result (WaitsOn NoneHeard [] (waits self.old) (waits self.new) (sight self.old) (sight self.new)) }
         ensures ready { OnOk result (ready self.new) }
-        ensures accounts { OnOk result (AreKept (account self.old) (account self.new)) };
+        ensures accounts { OnOk result (AreKept (account self.old) (account self.new)) }
+        ensures rests { OnOk result (StillRests (rests self.old) (rests self.new)) };
 
     /// Whether a line has a client that has not crashed.
     fn is_live(&self, line: u64) -> bool
@@ -56,7 +75,8 @@ pub trait ClientSide: Sized + Drop {
         ensures sight { OnOk result (sight self.new ≡ connected (sight self.old)) }
         ensures waits { OnOk result (WaitsOn NoneHeard [] (waits self.old) (waits self.new) (sight self.old) (sight self.new)) }
         ensures ready { OnOk result (ready self.new) }
-        ensures accounts { OnOk result (AreKept (account self.old) (account self.new)) };
+        ensures accounts { OnOk result (AreKept (account self.old) (account self.new)) }
+        ensures rests { OnOk result (StillRests (rests self.old) (rests self.new)) };
 
     /// The client of a line is gone, and its open calls and jobs with it. Whether it was there.
     fn crash(&mut self, line: u64) -> bool
@@ -65,7 +85,8 @@ pub trait ClientSide: Sized + Drop {
         ensures gone { sight self.new ≡ crash line (sight self.old) }
         ensures waits { WaitsOn NoneHeard [] (waits self.old) (waits self.new) (sight self.old) (sight self.new) }
         ensures ready { ready self.new }
-        ensures accounts { AreKept (account self.old) (account self.new) };
+        ensures accounts { AreKept (account self.old) (account self.new) }
+        ensures rests { StillRests (rests self.old) (rests self.new) };
 
     /// The newest line begins a transaction of a line's client; none where that has crashed.
     fn begin(
@@ -80,7 +101,8 @@ pub trait ClientSide: Sized + Drop {
         ensures turn { IfOk result (Asks true client (sight self.old) (sight self.new)) }
         ensures waits { IfOk result (λ turn. WaitsOn NoneHeard (posted_in turn) (waits self.old) (waits self.new) (sight self.old) (sight self.new)) }
         ensures ready { OnOk result (ready self.new) }
-        ensures accounts { OnOk result (AreKept (account self.old) (account self.new)) };
+        ensures accounts { OnOk result (AreKept (account self.old) (account self.new)) }
+        ensures rests { IfOk result (AsksOn fails (rests self.old) (rests self.new) (line_count (sight self.old))) };
 
     /// The newest line asks for a timestamp; none where the client has crashed.
     fn timestamp(&mut self, client: u64, now: u64) -> Result<Option<Turn>, NoMemory>
@@ -90,7 +112,8 @@ pub trait ClientSide: Sized + Drop {
         ensures turn { IfOk result (Asks false client (sight self.old) (sight self.new)) }
         ensures waits { IfOk result (λ turn. WaitsOn NoneHeard (posted_in turn) (waits self.old) (waits self.new) (sight self.old) (sight self.new)) }
         ensures ready { OnOk result (ready self.new) }
-        ensures accounts { OnOk result (AreKept (account self.old) (account self.new)) };
+        ensures accounts { OnOk result (AreKept (account self.old) (account self.new)) }
+        ensures rests { IfOk result (AsksOn fails (rests self.old) (rests self.new) (line_count (sight self.old))) };
 
     /// The newest line asks something of a transaction; none where its client has crashed, it has not begun, or a call of it is
     /// open.
@@ -101,7 +124,8 @@ pub trait ClientSide: Sized + Drop {
         ensures turn { IfOk result (Acts act transaction (sight self.old) (sight self.new)) }
         ensures waits { IfOk result (λ turn. WaitsOn NoneHeard (posted_in turn) (waits self.old) (waits self.new) (sight self.old) (sight self.new)) }
         ensures ready { OnOk result (ready self.new) }
-        ensures accounts { IfOk result (MayTakeIn act transaction (line_count (sight self.old)) (account self.old) (account self.new)) };
+        ensures accounts { IfOk result (MayTakeIn act transaction (line_count (sight self.old)) (account self.old) (account self.new)) }
+        ensures rests { IfOk result (ActsOn fails (rests self.old) (rests self.new) act transaction (line_count (sight self.old)) (account self.old transaction)) };
 
     /// A reply comes: to the call of the ticket's line, or from the oracle to those who asked, none of whom gets a timestamp but that
     /// of its place. Nothing is done where the line's client has crashed.
@@ -112,7 +136,8 @@ pub trait ClientSide: Sized + Drop {
         ensures given { IfOk result (λ turn. All (Names (IsGiven (sight self.old) ticket reply)) turn.ended.items) }
         ensures waits { is_live (sight self.old) ticket.line ≡ true → IfOk result (λ turn. WaitsOn (HearsReply ticket) turn.posted.items (waits self.old) (waits self.new) (sight self.old) (sight self.new)) }
         ensures ready { OnOk result (ready self.new) }
-        ensures accounts { IfOk result (λ turn. AreClosed (sight self.old) turn.ended.items (account self.old) (account self.new)) };
+        ensures accounts { IfOk result (λ turn. AreClosed (sight self.old) turn.ended.items (account self.old) (account self.new)) }
+        ensures rests { IfOk result (HearsOn fails (rests self.old) (rests self.new) (sight self.old) ticket (λ r. Took ticket r reply)) };
 
     /// No reply to the request of the ticket will come.
     fn lost(&mut self, ticket: Ticket, request: &Request, now: u64) -> Result<Turn, NoMemory>
@@ -122,7 +147,8 @@ pub trait ClientSide: Sized + Drop {
         ensures given { IfOk result (λ turn. All (Names NoneGiven) turn.ended.items) }
         ensures waits { is_live (sight self.old) ticket.line ≡ true → IfOk result (λ turn. WaitsOn (HearsReply ticket) turn.posted.items (waits self.old) (waits self.new) (sight self.old) (sight self.new)) }
         ensures ready { OnOk result (ready self.new) }
-        ensures accounts { IfOk result (λ turn. AreClosed (sight self.old) turn.ended.items (account self.old) (account self.new)) };
+        ensures accounts { IfOk result (λ turn. AreClosed (sight self.old) turn.ended.items (account self.old) (account self.new)) }
+        ensures rests { IfOk result (HearsOn fails (rests self.old) (rests self.new) (sight self.old) ticket (λ r. Lost ticket r)) };
 
     /// A sleep has ended.
     fn slept(&mut self, ticket: Ticket, now: u64) -> Result<Turn, NoMemory>
@@ -132,5 +158,6 @@ pub trait ClientSide: Sized + Drop {
         ensures given { IfOk result (λ turn. All (Names NoneGiven) turn.ended.items) }
         ensures waits { is_live (sight self.old) ticket.line ≡ true → IfOk result (λ turn. WaitsOn (HearsEnd ticket) turn.posted.items (waits self.old) (waits self.new) (sight self.old) (sight self.new)) }
         ensures ready { OnOk result (ready self.new) }
-        ensures accounts { IfOk result (λ turn. AreClosed (sight self.old) turn.ended.items (account self.old) (account self.new)) };
+        ensures accounts { IfOk result (λ turn. AreClosed (sight self.old) turn.ended.items (account self.old) (account self.new)) }
+        ensures rests { IfOk result (WakesOn fails (rests self.old) (rests self.new)) };
 }

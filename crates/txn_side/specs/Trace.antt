@@ -1,0 +1,194 @@
+-- What has happened in a run so far, what the calls of clients have heard of it, and what a call that fails rests on.
+use Rattle.std.specs.Prelude.{◌≡◌, ◌⊎◌, ⊤, ℕ, List, [], Option, Some, None, Result, Ok, Err}
+use Rattle.std.proofs.Common.{inl, inr}
+use Rattle.std.specs.List.{All, Any}
+use Rattle.txn_kv.specs.declared.errors.Error.{Error}
+use Rattle.txn_kv.specs.declared.errors.Error.TheVariants.{InternalError}
+use Rattle.txn_kv.specs.declared.errors.Internal.TheVariants.{OracleCount, OracleEmpty, OracleLost, WrongReply}
+use Rattle.txn_kv.specs.declared.reply.Reply.{Reply}
+use Rattle.txn_kv.specs.declared.reply.Reply.TheVariants as replies
+use Rattle.txn_kv.specs.declared.request.Request.{Request}
+use Rattle.txn_kv.specs.declared.request.Request.TheVariants.{Tso}
+use Rattle.txn_kv.specs.declared.request.TsoRequest.{TsoRequest}
+use Rattle.txn_kv.specs.declared.ticket.Ticket.{Ticket}
+use Rattle.txn_kv.specs.declared.timestamp.Timestamp.{Timestamp}
+use Rattle.txn_history.specs.Among.{IsAmong}
+use Rattle.txn_history.specs.Event.{Event, Has}
+use Rattle.txn_history.specs.Event.Event.{Sent, Took, Lost, Answered}
+use Rattle.txn_report.specs.declared.outcome.Outcome.TheVariants as outcomes
+use Rattle.txn_side.specs.Account.{Account, refusal}
+use Rattle.txn_side.specs.Sight.{Group, IsOut, Sight}
+use Rattle.txn_side.specs.Waiting.{posted_in}
+use Rattle.txn_side.specs.declared.act.Act.{Act}
+use Rattle.txn_side.specs.declared.turn.Ending.{Ending}
+use Rattle.txn_side.specs.declared.turn.Posting.{Posting}
+use Rattle.txn_side.specs.declared.turn.Posting.TheVariants.{Send, Sleep}
+use Rattle.txn_side.specs.declared.turn.Turn.{Turn}
+
+-- What has happened
+
+-- What comes for a line is told to what stands at this line: its own, or that of the transaction of which it asks something.
+pub record Call : Type 0 where
+  pub line : ℕ
+  pub at : ℕ
+
+-- a line was refused at once what it asked of a transaction, with this error
+pub record Refusal : Type 0 where
+  pub line : ℕ
+  pub error : Error
+
+-- The events that a run shows; whom what comes for a line is told; the requests for timestamps and whose asks they carry; what was
+-- posted since; and what was refused.
+pub record Trace : Type 0 where
+  pub events : List Event
+  pub calls : List Call
+  pub groups : List Group
+  pub posted : List Posting
+  pub refused : List Refusal
+
+abbrev pub with_posted : List Posting → Trace → Trace
+with_posted posted t = record t { posted = posted }
+
+abbrev pub IsSend : Ticket → Request → Posting → Type 0
+IsSend u r (Send ticket to request askers) = (ticket ≡ u) × (request ≡ r)
+IsSend u r (Sleep ticket) = ⊥
+
+-- the request was sent with the ticket
+abbrev pub IsSentIn : Trace → Ticket → Request → Type 0
+IsSentIn t u r = Has t.events (Sent u r) ⊎ Any (IsSend u r) t.posted
+
+-- what comes for the line is told to what stands at this one
+abbrev pub IsCalled : Trace → ℕ → ℕ → Type 0
+IsCalled t line at = IsAmong t.calls (record { line = line; at = at })
+
+-- with what the reply to a request for timestamps refuses those whose asks it carries
+abbrev pub Refuses : Reply → Error → Type 0
+Refuses (replies.Tso o) e = ((asked : ℕ) × (e ≡ InternalError (OracleCount asked o.count))) ⊎ (e ≡ InternalError OracleEmpty)
+Refuses o e = e ≡ InternalError WrongReply
+
+-- A request for timestamps was lost, or its reply refuses those whose asks it carries: this is the error.
+abbrev pub HasFailed : List Event → Ticket → TsoRequest → Error → Type 0
+HasFailed events u r e = (Has events (Lost u (Tso r)) × (e ≡ InternalError OracleLost)) ⊎ ((o : Reply) × Has events (Took u (Tso r) o) × Refuses o e)
+
+-- an ask of the line was refused with this error: the request that carried it failed so
+pub record IsRefusedIn (t : Trace) (line : ℕ) (e : Error) : Type 0 where
+  pub group : Group
+  pub among : IsAmong t.groups group
+  pub asker : IsAmong group.askers line
+  pub request : TsoRequest
+  pub failed : HasFailed t.events group.ticket request e
+
+-- What a call has heard
+
+-- a reply with timestamps, to a request for them, which is no call's own and no cause of anything
+abbrev pub AreTimes : Request → Reply → Type 0
+AreTimes (Tso r) (replies.Tso o) = ⊤
+AreTimes r o = ⊥
+
+-- a reply was taken
+abbrev pub IsTakenIn : Trace → ℕ → Ticket → Request → Reply → Type 0
+IsTakenIn t at u r o = (IsCalled t u.line at × Has t.events (Took u r o)) ⊎ AreTimes r o
+
+abbrev pub IsAnsweredIn : Trace → ℕ → Ticket → Result Timestamp Error → Type 0
+IsAnsweredIn t at ask (Ok x) = ⊤
+IsAnsweredIn t at ask (Err e) = IsCalled t ask.line at × IsRefusedIn t ask.line e
+
+-- what stands at this line knows of the event, which happened; of the other events nothing is said
+abbrev pub IsShown : Trace → ℕ → Event → Type 0
+IsShown t at (Sent u r) = IsCalled t u.line at × IsSentIn t u r
+IsShown t at (Took u r o) = IsTakenIn t at u r o
+IsShown t at (Lost u r) = IsCalled t u.line at × Has t.events (Lost u r)
+IsShown t at (Answered ask x) = IsAnsweredIn t at ask x
+IsShown t at e = ⊤
+
+abbrev pub AreShown : Trace → ℕ → List Event → Type 0
+AreShown t at h = (e : Event) → Has h e → IsShown t at e
+
+-- What comes for a ticket has happened, whatever its request was. Where it is a request for timestamps that is out, the trace has it
+-- with those whose asks it carries.
+pub record HasCome (t : Trace) (s : Sight) (u : Ticket) (event : Request → Event) : Type 0 where
+  pub own : (r : Request) → IsSentIn t u r → Has t.events (event r)
+  pub group : (g : Group) → IsOut s g → g.ticket ≡ u → IsAmong t.groups g × ((r : TsoRequest) × Has t.events (event (Tso r)))
+
+-- all that was so still is
+pub record IsLonger (t longer : Trace) : Type 0 where
+  pub events : (e : Event) → Has t.events e → Has longer.events e
+  pub calls : (c : Call) → IsAmong t.calls c → IsAmong longer.calls c
+  pub groups : (g : Group) → IsAmong t.groups g → IsAmong longer.groups g
+  pub sent : (u : Ticket) (r : Request) → IsSentIn t u r → IsSentIn longer u r
+
+-- How a call fails
+
+-- The call of the line failed with this error after what it had heard, which has happened.
+pub record FailsIn (fails : List Event → Error → Type 0) (t : Trace) (line : ℕ) (e : Error) : Type 0 where
+  pub at : ℕ
+  pub called : IsCalled t line at
+  pub history : List Event
+  pub shown : AreShown t at history
+  pub fails_so : fails history e
+
+-- or it was refused
+abbrev pub EndsFor : (List Event → Error → Type 0) → Trace → Ending → Type 0
+EndsFor fails t ending = (e : Error) → ending.outcome ≡ outcomes.Err e → FailsIn fails t ending.line e ⊎ IsAmong t.refused (record { line = ending.line; error = e })
+
+abbrev pub ended_in : Option Turn → List Ending
+ended_in None = []
+ended_in (Some turn) = turn.ended.items
+
+-- What a step makes of it, where nothing was posted before: the calls rest on what happened and what is posted, and each that fails has its reason there.
+abbrev pub RestsOn : (List Event → Error → Type 0) → (Trace → Type 0) → (Trace → Type 0) → Trace → List Posting → List Ending → Type 0
+RestsOn fails was is t posted ended = was t → is (with_posted posted t) × All (EndsFor fails (with_posted posted t)) ended
+
+-- the newest line calls for a timestamp
+abbrev pub AsksOn : (List Event → Error → Type 0) → (Trace → Type 0) → (Trace → Type 0) → ℕ → Option Turn → Type 0
+AsksOn fails was is newest turn = (t : Trace) → t.posted ≡ [] → IsCalled t newest newest → RestsOn fails was is t (posted_in turn) (ended_in turn)
+
+-- the newest line asks something of the transaction of line x, whose account is this
+abbrev pub ActsOn : (List Event → Error → Type 0) → (Trace → Type 0) → (Trace → Type 0) → Act → ℕ → ℕ → Account → Option Turn → Type 0
+ActsOn fails was is act x newest account turn =
+    (t : Trace) → t.posted ≡ [] → IsCalled t newest x → ((e : Error) → refusal act account ≡ Some e → IsAmong t.refused (record { line = newest; error = e })) → RestsOn fails was is t (posted_in turn) (ended_in turn)
+
+-- clients hear of what came for a ticket
+abbrev pub HearsOn : (List Event → Error → Type 0) → (Trace → Type 0) → (Trace → Type 0) → Sight → Ticket → (Request → Event) → Turn → Type 0
+HearsOn fails was is s u event turn = (t : Trace) → t.posted ≡ [] → HasCome t s u event → RestsOn fails was is t turn.posted.items turn.ended.items
+
+-- or that a sleep has ended
+abbrev pub WakesOn : (List Event → Error → Type 0) → (Trace → Type 0) → (Trace → Type 0) → Turn → Type 0
+WakesOn fails was is turn = (t : Trace) → t.posted ≡ [] → RestsOn fails was is t turn.posted.items turn.ended.items
+
+-- the calls rest on what they rested on
+abbrev pub StillRests : (Trace → Type 0) → (Trace → Type 0) → Type 0
+StillRests was is = (t : Trace) → was t → is t
+
+-- lemmas
+
+-- what was so still is
+module _ (t longer : Trace) (l : IsLonger t longer) where
+  pub refused_longer : (line : ℕ) (e : Error) → IsRefusedIn t line e → IsRefusedIn longer line e
+  refused_longer line e r = record {
+    group = r.group;
+    among = l.groups r.group r.among;
+    asker = r.asker;
+    request = r.request;
+    failed = elim r.failed [ inl h ↦ inl (l.events _ h.0, h.1) | inr h ↦ inr (h.0, l.events _ h.1, h.2) ];
+  }
+
+  pub called_longer : (line at : ℕ) → IsCalled t line at → IsCalled longer line at
+  called_longer line at c = l.calls (record { line = line; at = at }) c
+
+  pub shown_longer : (at : ℕ) (e : Event) → IsShown t at e → IsShown longer at e
+  shown_longer at (Sent u r) k = (called_longer u.line at k.0, l.sent u r k.1)
+  shown_longer at (Took u r o) k = elim k [ inl h ↦ inl (called_longer u.line at h.0, l.events _ h.1) | inr h ↦ inr h ]
+  shown_longer at (Lost u r) k = (called_longer u.line at k.0, l.events _ k.1)
+  shown_longer at (Answered ask (Ok x)) k = tt
+  shown_longer at (Answered ask (Err e)) k = (called_longer ask.line at k.0, refused_longer ask.line e k.1)
+  shown_longer at e k = tt
+
+  pub fails_longer : (fails : List Event → Error → Type 0) (line : ℕ) (e : Error) → FailsIn fails t line e → FailsIn fails longer line e
+  fails_longer fails line e f = record {
+    at = f.at;
+    called = called_longer line f.at f.called;
+    history = f.history;
+    shown = λ x h. shown_longer f.at x (f.shown x h);
+    fails_so = f.fails_so;
+  }
