@@ -53,11 +53,11 @@ module _ (n : ℕ) (l : Lists) (count : newest l ≡ n) (a b account : ℕ → A
           at x (inr far) = let q2 : nat_eq ask.transaction x ≡ false = grind (arith, nat_tests) in h.others x far ∙ was x ∙ sym (line_apart ask n x now here (account x) q2)
 
 -- a line that asks something tells the clients nothing
-abbrev QuietBy : Option Ask → Bool → Type 0
+abbrev pub QuietBy : Option Ask → Bool → Type 0
 QuietBy None told = Unit {0}
 QuietBy (Some ask) told = told ≡ false
 
-quiet_by : (line : Line) → QuietBy (ask_of line) (tells line)
+pub quiet_by : (line : Line) → QuietBy (ask_of line) (tells line)
 quiet_by (lines.Put x key value) = refl
 quiet_by (lines.Insert x key value) = refl
 quiet_by (lines.Delete x key) = refl
@@ -86,7 +86,7 @@ module _ (line : Line) (ls : List Line) (old new : Lists) (told : newest old ≡
       (subst (λ e. Change (suc (length ls)) (outcome_of c.mid.outcomes j) e (outcome_of all.outcomes j) (ended_of all.ended j)) k.1
       (changes line ls old told ordered.even good caused.rows new c j))
 
-  change : (j : ℕ) → j ≤ length ls → Change (suc (length ls)) (outcome_of old.outcomes j) (ended_of old.ended j) (outcome_of new.outcomes j) (ended_of new.ended j)
+  pub change : (j : ℕ) → j ≤ length ls → Change (suc (length ls)) (outcome_of old.outcomes j) (ended_of old.ended j) (outcome_of new.outcomes j) (ended_of new.ended j)
   change j low = subst (λ (l : Lists). Change (suc (length ls)) (outcome_of old.outcomes j) (ended_of old.ended j) (outcome_of l.outcomes j) (ended_of l.ended j)) (sym c.is) (changed j (λ e. absurd (omega arith)))
 
   -- no call of an earlier line ends where the clients hear of nothing
@@ -121,7 +121,7 @@ module _ (line : Line) (ls : List Line) (old new : Lists) (told : newest old ≡
 
   module _ (a b : ℕ → Account) (was : AreTakenIn ls old.outcomes old.ended a) where
     -- where no call of an earlier line ends
-    calm_was : tells line ≡ false → (x : ℕ) → a x ≡ after x
+    pub calm_was : tells line ≡ false → (x : ℕ) → a x ≡ after x
     calm_was quiet x = was.accounts_are x ∙ sym (all_same ls old.outcomes new.outcomes old.ended new.ended (λ n. stand_at old.sight.stands n) old.sight.crashed caused.rows change (stays quiet) ls (omega arith) x)
 
     gone_now : (x : ℕ) → after_step old.sight new x (a x) ≡ after x

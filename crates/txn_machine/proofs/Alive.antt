@@ -22,21 +22,19 @@ use Rattle.txn_machine.proofs.Numberings.{client_old, line_old}
 
 -- The lines before a line.
 
-before_new : (line : Line) (ls : List Line) → lines_before (line ∷ ls) (suc (length ls)) ≡ ls
-before_new line ls =
-    let off : nat_lt (suc (length ls)) (suc (length ls)) ≡ false = grind (arith, nat_tests) in
-    ap (λ (b : Bool). if b then line ∷ ls else lines_before ls (suc (length ls))) off ∙ all ls
-  where
-    all : (ls : List Line) → lines_before ls (suc (length ls)) ≡ ls
-    all [] = refl
-    all (z ∷ zs) =
-        let on : nat_lt (suc (length zs)) (suc (suc (length zs))) ≡ true = grind (arith, nat_tests) in
-        ap (λ (b : Bool). if b then z ∷ zs else lines_before zs (suc (suc (length zs)))) on
+pub before_next : (ls : List Line) → lines_before ls (suc (length ls)) ≡ ls
+before_next [] = refl
+before_next (z ∷ zs) =
+    let on : nat_lt (suc (length zs)) (suc (suc (length zs))) ≡ true = grind (arith, nat_tests) in
+    ap (λ (b : Bool). if b then z ∷ zs else lines_before zs (suc (suc (length zs)))) on
 
-before_old : (line : Line) (ls : List Line) (n : ℕ) → n ≤ length ls → lines_before (line ∷ ls) n ≡ lines_before ls n
+pub before_old : (line : Line) (ls : List Line) (n : ℕ) → n ≤ suc (length ls) → lines_before (line ∷ ls) n ≡ lines_before ls n
 before_old line ls n low =
     let off : nat_lt (suc (length ls)) n ≡ false = grind (arith, nat_tests) in
     ap (λ (b : Bool). if b then line ∷ ls else lines_before ls n) off
+
+before_new : (line : Line) (ls : List Line) → lines_before (line ∷ ls) (suc (length ls)) ≡ ls
+before_new line ls = before_old line ls (suc (length ls)) (omega arith) ∙ before_next ls
 
 -- Who ended.
 
@@ -134,9 +132,10 @@ module _ (line : Line) (ls : List Line) (old : Lists) (told : newest old ≡ len
       stays far same =
           let at = sym (line_old line ls n far) ∙ there in
           let low : e n ≤ length ls = (was.ended n l at).within in
+          let near : e n ≤ suc (length ls) = omega (arith, low) in
           let seen : (λ (j : ℕ). known_of (e3 j) (e n) (o3 j)) ≡ (λ (j : ℕ). known_of (e j) (e n) (o j)) = λ i j. known_same line ls old told even good was new c (e n) (omega arith) j i in
           (λ i. is_crashed (λ j. known_of (e3 j) (same i) (o3 j)) (lines_before (line ∷ ls) (same i)) (client_old line ls n far i))
-          ∙ (λ i. is_crashed (seen i) (before_old line ls (e n) low i) (client_of ls n))
+          ∙ (λ i. is_crashed (seen i) (before_old line ls (e n) near i) (client_of ls n))
           ∙ live n l at (subst (λ k. n < k) same after)
 
       comes : n ≢ suc (length ls) → e3 n ≡ suc (length ls) → is_crashed o ls (client_of ls n) ≡ false → is_crashed (λ j. known_of (e3 j) (e3 n) (o3 j)) (lines_before (line ∷ ls) (e3 n)) (client_of (line ∷ ls) n) ≡ false

@@ -26,7 +26,7 @@ use Rattle.txn_machine.proofs.Idles.{IsBegin, Names, client_there, crash_names, 
 use Rattle.txn_machine.proofs.Numberings.{has_line, ended_opened, ended_other, ended_same, line_range, stand_set}
 use Rattle.txn_machine.proofs.Orders.{line_length, opened_count}
 
-done_is : (d : Bool) → is_done (done_if d) ≡ d
+pub done_is : (d : Bool) → is_done (done_if d) ≡ d
 done_is true = refl
 done_is false = refl
 

@@ -27,11 +27,11 @@ use Rattle.txn_machine.proofs.Numberings.{has_line, line_new, line_old, line_ran
 -- What a line asks.
 
 -- the role of a line that asks this, or nothing
-abbrev RoleBy : Option Ask → Role → Type 0
+abbrev pub RoleBy : Option Ask → Role → Type 0
 RoleBy None role = (x : ℕ) → uses role x ≡ false
 RoleBy (Some ask) role = role ≡ UsesTransaction (commits ask.act) ask.transaction
 
-role_by : (line : Line) → RoleBy (ask_of line) (role_of line)
+pub role_by : (line : Line) → RoleBy (ask_of line) (role_of line)
 role_by (lines.Put x key value) = refl
 role_by (lines.Insert x key value) = refl
 role_by (lines.Delete x key) = refl
@@ -226,6 +226,15 @@ module _ (ls : List Line) (outs outs2 : List Outcome) (ended ended2 : List ℕ) 
     low_skips : (n : ℕ) → n ≤ length ls → is_skipped (o2 n) ≡ is_skipped (o n)
     low_skips n low = sym (skipped_stays (suc (length ls)) (o n) (o2 n) (e n) (e2 n) (change n low))
 
+    -- what is asked, and not skipped, finds the account that it found
+    pub asked_same : (z : Line) (zs : List Line) → length (z ∷ zs) ≤ length ls → (ask : Ask) → RoleBy (Some ask) (role_of z) → CallMeets (known outs ended (suc (length zs))) zs (role_of z) (o (suc (length zs))) → is_skipped (o (suc (length zs))) ≡ false
+        → after zs ask.transaction ≡ before zs ask.transaction
+    asked_same z zs low ask role calls unskipped = calm_same zs (omega arith) ask.transaction (at (is_busy (λ k. o k) zs ask.transaction) refl)
+      where
+        at : (b : Bool) → is_busy (λ k. o k) zs ask.transaction ≡ b → b ≡ false
+        at true q = absurd (let a = busy_skips zs (role_of z) (commits ask.act) ask.transaction (o (suc (length zs))) role calls q in cc)
+        at false q = refl
+
     -- What is said of the lines before stays.
 
     pub accounts_still : (zs : List Line) → length zs ≤ length ls → AllCallsMeet outs ended zs → AllAccountsMeet outs ended zs → AllAccountsMeet outs2 ended2 zs
@@ -239,13 +248,8 @@ module _ (ls : List Line) (outs outs2 : List Outcome) (ended ended2 : List ℕ) 
         by None role h = tt
         by (Some ask) role h = λ unskipped.
             let was_unskipped : is_skipped (o n) ≡ false = sym (low_skips n low) ∙ unskipped in
-            let calm : is_busy (λ k. o k) zs ask.transaction ≡ false = at (is_busy (λ k. o k) zs ask.transaction) was_unskipped refl in
             answers_stay (suc (length ls)) n ask.act (refusal ask.act (after zs ask.transaction)) (o n) (o2 n) (e n) (e2 n) (change n low)
-            (subst (λ account. AnswersIn n ask.act (refusal ask.act account) (o n) (e n)) (sym (calm_same zs (omega arith) ask.transaction calm)) (h was_unskipped))
-          where
-            at : (b : Bool) → is_skipped (o n) ≡ false → is_busy (λ k. o k) zs ask.transaction ≡ b → b ≡ false
-            at true unskipped q = absurd (let a = busy_skips zs (role_of z) (commits ask.act) ask.transaction (o n) role calls.0 q in cc)
-            at false unskipped q = refl
+            (subst (λ account. AnswersIn n ask.act (refusal ask.act account) (o n) (e n)) (sym (asked_same z zs low ask role calls.0 was_unskipped)) (h was_unskipped))
 
     -- Where a call ends.
 

@@ -276,7 +276,7 @@ module _ (old : Lists) where
       calling = with_stand (line_count (opened old).sight) (Calling a.0 x b) (with_stand x (HasBegun a.0 (line_count (opened old).sight)) (opened old).sight)
 
   -- where a ticket was found
-  out_there : (t : Ticket) (k : ℕ) → found_out (opened old) t ≡ Some k → (as_sent (place_of (opened old).mail.tickets t) ≡ Some k) × ((letter_at (opened old).mail k).awaited ≡ true)
+  pub out_there : (t : Ticket) (k : ℕ) → found_out (opened old) t ≡ Some k → (as_sent (place_of (opened old).mail.tickets t) ≡ Some k) × ((letter_at (opened old).mail k).awaited ≡ true)
   out_there t k e = by (is_live (opened old).sight t.line) e
     where
       by : (b : Bool) → (if b then found_awaited (opened old).mail t else None) ≡ Some k → (as_sent (place_of (opened old).mail.tickets t) ≡ Some k) × ((letter_at (opened old).mail k).awaited ≡ true)

@@ -51,7 +51,7 @@ credits_after (Some ask) told l a b c done kept h = record { turn = h.turn; take
 
 -- What the step of the newest line leaves.
 
-all_count : (es : List Ending) (l : Lists) → newest (all_ended es l) ≡ newest l
+pub all_count : (es : List Ending) (l : Lists) → newest (all_ended es l) ≡ newest l
 all_count [] l = refl
 all_count (e ∷ es) l = all_count es (ended_at e.line e.outcome l) ∙ line_length l.outcomes e.line e.outcome
 

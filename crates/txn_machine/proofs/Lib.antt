@@ -29,6 +29,10 @@ mod Accounting
 mod Noting
 mod LineByLine
 mod Takings
+mod Hearing
+mod Resting
+mod Failures
+mod HeardLines
 pub mod Scripts
 mod Ranking
 mod Telling

@@ -38,7 +38,7 @@ or_told f [] i d x h = absurd (cc)
 or_told f (y ∷ ys) zero d x h = ap (λ z. f z) (let e : y ≡ x = cc in e)
 or_told f (y ∷ ys) (suc i) d x h = or_told f ys i d x h
 
-there_is : {X : Type 0} (xs : List X) (i : ℕ) (d : X) → i < length xs → slice_get xs i ≡ Some (get_or xs i d)
+pub there_is : {X : Type 0} (xs : List X) (i : ℕ) (d : X) → i < length xs → slice_get xs i ≡ Some (get_or xs i d)
 there_is [] i d h = absurd (omega arith)
 there_is (y ∷ ys) zero d h = refl
 there_is (y ∷ ys) (suc i) d h = there_is ys i d (omega arith)

@@ -34,7 +34,7 @@ use Rattle.txn_machine.proofs.Noting.{among_at}
 -- What a history is made of.
 
 -- this request was sent with the ticket
-abbrev WasAsked : List SentNote → Ticket → Request → Type 0
+abbrev pub WasAsked : List SentNote → Ticket → Request → Type 0
 WasAsked sent t r = (s : SentNote) × IsAmong sent s × (s.ticket ≡ t) × (s.request ≡ r)
 
 -- what is served is the table's reply to a request that was sent, and what is taken was served, or comes of a store that is too busy

@@ -55,11 +55,11 @@ among_first [] ys x h = absurd h
 among_first (z ∷ xs) ys x (inl e) = inl e
 among_first (z ∷ xs) ys x (inr h) = inr (among_first xs ys x h)
 
-among_last : {X : Type 0} (xs : List X) (x : X) → IsAmong (xs ++ x ∷ []) x
+pub among_last : {X : Type 0} (xs : List X) (x : X) → IsAmong (xs ++ x ∷ []) x
 among_last [] x = inl refl
 among_last (z ∷ xs) x = inr (among_last xs x)
 
-posted_among : (at : ℕ) (ps : List Posting) (mail : Mail) (note : SentNote) → IsAmong mail.sent note → IsAmong (all_posted at ps mail).sent note
+pub posted_among : (at : ℕ) (ps : List Posting) (mail : Mail) (note : SentNote) → IsAmong mail.sent note → IsAmong (all_posted at ps mail).sent note
 posted_among at [] mail note h = h
 posted_among at (p ∷ ps) mail note h = posted_among at ps (posted_at at p mail) note (one p)
   where
@@ -127,11 +127,11 @@ does_more looks (lines.Clock ms) es e h = inr h
 does_more looks (lines.Crash k) es e h = inr h
 does_more looks line es e h = h
 
-done_more : (d : Bool) (looks : Ticket → Option Request) (line : Line) (es : List Event) (e : Event) → Has es e → Has (if d then does looks line es else es) e
+pub done_more : (d : Bool) (looks : Ticket → Option Request) (line : Line) (es : List Event) (e : Event) → Has es e → Has (if d then does looks line es else es) e
 done_more true looks line es e h = does_more looks line es e h
 done_more false looks line es e h = h
 
-sends_more : (ss : List SentNote) (n : ℕ) (es : List Event) (e : Event) → Has es e → Has (with_sends ss n es) e
+pub sends_more : (ss : List SentNote) (n : ℕ) (es : List Event) (e : Event) → Has es e → Has (with_sends ss n es) e
 sends_more [] n es e h = h
 sends_more (s ∷ ss) n es e h = sends_more ss n (if nat_eq s.at n then SentEvent s.ticket s.request ∷ es else es) e (one (nat_eq s.at n))
   where
@@ -163,7 +163,7 @@ told_here outs zero o = inl refl
 told_here outs (suc i) o = told_or_was outs i o
 
 -- what stands at a line stays where another is told, or is what it is told
-told_either : (outs : List Outcome) (line n : ℕ) (o : Outcome) → (outcome_of (at_line outs line o) n ≡ outcome_of outs n) ⊎ ((line ≡ n) × (outcome_of (at_line outs line o) n ≡ o))
+pub told_either : (outs : List Outcome) (line n : ℕ) (o : Outcome) → (outcome_of (at_line outs line o) n ≡ outcome_of outs n) ⊎ ((line ≡ n) × (outcome_of (at_line outs line o) n ≡ o))
 told_either outs line n o = elim (same_line line n) [
   | inl e ↦ elim (told_here outs line o) [
     | inl was ↦ inl (subst (λ k. outcome_of (at_line outs line o) k ≡ outcome_of outs k) (sym e) was)
@@ -256,32 +256,32 @@ module _ (old : Lists) (es : List Event) (m : IsMail old.mail) (was : Fates es o
         gives = subst (λ ns. Gives time.0 ns n version) (sym w.askers) time.2;
       }
 
-  answer_took : (t : Ticket) (o : Reply) (k : ℕ) → as_sent (place_of (opened old).mail.tickets t) ≡ Some k → (letter_at (opened old).mail k).awaited ≡ true → (letter_at (opened old).mail k).kept ≡ Some o
-      → (r : TsoRequest) → looks t ≡ Some (Tso r) → Has (takes t (looks t) es) (Took t (Tso r) o)
+  pub answer_took : (t : Ticket) (o : Reply) (k : ℕ) → as_sent (place_of (opened old).mail.tickets t) ≡ Some k → (letter_at (opened old).mail k).awaited ≡ true → (letter_at (opened old).mail k).kept ≡ Some o
+      → (r : Request) → looks t ≡ Some r → Has (takes t (looks t) es) (Took t r o)
   answer_took t o k named waits kept r is =
       let fate = fate_of es (opened old).mail (opened_is_mail old.mail m) (fates_opened es old.mail was) t k named in
-      subst (λ q. Has (takes t q es) (Took t (Tso r) o)) (sym is) (subst (λ q. Has (takes_it t (Tso r) q es) (Took t (Tso r) o)) (sym (fate.kept waits ∙ kept)) (inl refl))
+      subst (λ q. Has (takes t q es) (Took t r o)) (sym is) (subst (λ q. Has (takes_it t r q es) (Took t r o)) (sym (fate.kept waits ∙ kept)) (inl refl))
 
-  deliver_took : (t : Ticket) (o : Reply) (k : ℕ) → o ≡ reply_at (opened old) k → (r : TsoRequest) → looks t ≡ Some (Tso r) → request_at (opened old) k ≡ Tso r → Has (takes t (looks t) (serves t (looks t) es)) (Took t (Tso r) o)
+  pub deliver_took : (t : Ticket) (o : Reply) (k : ℕ) → o ≡ reply_at (opened old) k → (r : Request) → looks t ≡ Some r → request_at (opened old) k ≡ r → Has (takes t (looks t) (serves t (looks t) es)) (Took t r o)
   deliver_took t o k reply r is asks =
-      let told : o ≡ (table (store_after es) (Tso r)).reply = reply ∙ ap (λ q. (table old.store q).reply) asks ∙ ap (λ (s : Store). (table s (Tso r)).reply) store in
-      let here : kept_reply (serves t (Some (Tso r)) es) t ≡ Some o = ap (λ (b : Bool). if b then Some (table (store_after es) (Tso r)).reply else kept_reply es t) (same_itself t) ∙ ap (λ x. Some x) (sym told) in
-      subst (λ q. Has (takes t q (serves t q es)) (Took t (Tso r) o)) (sym is) (subst (λ q. Has (takes_it t (Tso r) q (serves t (Some (Tso r)) es)) (Took t (Tso r) o)) (sym here) (inl refl))
+      let told : o ≡ (table (store_after es) r).reply = reply ∙ ap (λ q. (table old.store q).reply) asks ∙ ap (λ (s : Store). (table s r).reply) store in
+      let here : kept_reply (serves t (Some r) es) t ≡ Some o = ap (λ (b : Bool). if b then Some (table (store_after es) r).reply else kept_reply es t) (same_itself t) ∙ ap (λ x. Some x) (sym told) in
+      subst (λ q. Has (takes t q (serves t q es)) (Took t r o)) (sym is) (subst (λ q. Has (takes_it t r q (serves t (Some r) es)) (Took t r o)) (sym here) (inl refl))
 
   none_busy : (r : Request) (q : TsoRequest) (o : Reply) → busy_reply r ≡ Some o → r ≡ Tso q → ⊥
   none_busy r q o busy asks = let a : Some o ≡ None = sym busy ∙ ap busy_reply asks in cc
 
   given_timed : (d : Bool) (line : Line) (n version : ℕ) → Given d line (opened old) n version → IsTimed old.mail.sent (if d then does looks line es else es) n version
   given_timed false line n version g = absurd g
-  given_timed true (lines.Answer t) n version g = timed_by t g.reply g.place (takes t (looks t) es) n version g.sent g.given (λ r is asks. answer_took t g.reply g.place g.sent g.is.0 g.is.1 r is)
-  given_timed true (lines.Deliver t) n version g = timed_by t g.reply g.place (takes t (looks t) (serves t (looks t) es)) n version g.sent g.given (λ r is asks. deliver_took t g.reply g.place g.is r is asks)
+  given_timed true (lines.Answer t) n version g = timed_by t g.reply g.place (takes t (looks t) es) n version g.sent g.given (λ r is asks. answer_took t g.reply g.place g.sent g.is.0 g.is.1 (Tso r) is)
+  given_timed true (lines.Deliver t) n version g = timed_by t g.reply g.place (takes t (looks t) (serves t (looks t) es)) n version g.sent g.given (λ r is asks. deliver_took t g.reply g.place g.is (Tso r) is asks)
   given_timed true (lines.Busy t) n version g = timed_by t g.reply g.place (refuses t (looks t) es) n version g.sent g.given (λ r is asks. absurd (none_busy (request_at (opened old) g.place) r g.reply g.is asks))
   given_timed true line n version g = absurd g
 
 -- The step.
 
 module _ (line : Line) (ls : List Line) (old : Lists) (told : newest old ≡ length ls) (ordered : IsOrdered old) (good : why_after ls line ≡ None) (was : Caused ls old) (folded : Folded ls old)
-    (new : Lists) (c : Course line old new) (stepped : Stepped (length ls) line old (followed c.posted c.ended c.mid)) (timely : Timely ls old) (stood : length (followed c.posted c.ended c.mid).sight.stands ≡ suc (length ls)) where
+    (new : Lists) (c : Course line old new) (stepped : Stepped (length ls) line old (followed c.posted c.ended c.mid)) where
   abbrev all : Lists
   all = followed c.posted c.ended c.mid
 
@@ -300,36 +300,38 @@ module _ (line : Line) (ls : List Line) (old : Lists) (told : newest old ≡ len
   posted_mail : all.mail ≡ all_posted (suc (length ls)) c.posted c.mid.mail
   posted_mail = carried_mail line ls old told ordered good was folded new c stepped
 
-  among : (note : SentNote) → IsAmong old.mail.sent note → IsAmong all.mail.sent note
-  among note h = subst (λ (x : Mail). IsAmong x.sent note) (sym posted_mail) (posted_among (suc (length ls)) c.posted c.mid.mail note (subst (λ ss. IsAmong ss note) (sym (keeps line ls old told ordered good was folded new c stepped).sent) h))
+  pub noted_still : (note : SentNote) → IsAmong old.mail.sent note → IsAmong all.mail.sent note
+  noted_still note h = subst (λ (x : Mail). IsAmong x.sent note) (sym posted_mail) (posted_among (suc (length ls)) c.posted c.mid.mail note (subst (λ ss. IsAmong ss note) (sym (keeps line ls old told ordered good was folded new c stepped).sent) h))
 
-  has : (e : Event) → Has happened e → Has fs e
-  has e h = subst (λ es. Has es e) (history_now line ls old told ordered good was folded new c stepped) (sends_more all.mail.sent (suc (length ls)) happened e h)
+  -- what had happened, and the line did, is in the history
+  pub happened_still : (e : Event) → Has happened e → Has fs e
+  happened_still e h = subst (λ es. Has es e) (history_now line ls old told ordered good was folded new c stepped) (sends_more all.mail.sent (suc (length ls)) happened e h)
 
-  sight_is : all.sight ≡ c.mid.sight
-  sight_is = ended_sight c.ended (with_mail (all_posted (newest c.mid) c.posted c.mid.mail) c.mid)
+  module _ (timely : Timely ls old) (stood : length all.sight.stands ≡ suc (length ls)) where
+    sight_is : all.sight ≡ c.mid.sight
+    sight_is = ended_sight c.ended (with_mail (all_posted (newest c.mid) c.posted c.mid.mail) c.mid)
 
-  -- the clients' lines are those so far
-  many : line_count c.from ≤ suc (length ls)
-  many = let a = c.goes.count in let b = ap (λ (x : Sight). length x.stands) sight_is in omega arith
+    -- the clients' lines are those so far
+    many : line_count c.from ≤ suc (length ls)
+    many = let a = c.goes.count in let b = ap (λ (x : Sight). length x.stands) sight_is in omega arith
 
-  group_now : (g : Group) → IsOut all.sight g → IsGrouped all.mail.sent g
-  group_now g out = elim (c.goes.groups g (subst (λ x. IsOut x g) sight_is out)) [
-    | inl o ↦ grouped_more old.mail.sent all.mail.sent g among (timely.groups g (from_out g (role_of line) line c.own c.ended (opened old).sight c.from c.begins o))
-    | inr a ↦ subst (λ (x : Mail). IsGrouped x.sent g) (sym posted_mail) (posted_group (suc (length ls)) (line_count c.from) c.posted c.mid.mail g a.0 a.1 many c.goes.askers a.2 a.3 a.4)
-  ]
+    group_now : (g : Group) → IsOut all.sight g → IsGrouped all.mail.sent g
+    group_now g out = elim (c.goes.groups g (subst (λ x. IsOut x g) sight_is out)) [
+      | inl o ↦ grouped_more old.mail.sent all.mail.sent g noted_still (timely.groups g (from_out g (role_of line) line c.own c.ended (opened old).sight c.from c.begins o))
+      | inr a ↦ subst (λ (x : Mail). IsGrouped x.sent g) (sym posted_mail) (posted_group (suc (length ls)) (line_count c.from) c.posted c.mid.mail g a.0 a.1 many c.goes.askers a.2 a.3 a.4)
+    ]
 
-  number_before : (n version : ℕ) → number_of (outcome_of c.mid.outcomes n) ≡ Some version → number_of (outcome_of old.outcomes n) ≡ Some version
-  number_before n version e =
-      sym (ap number_of (outcome_opened old.outcomes n))
-      ∙ own_number c.own (opened old) n version (no_number (role_of line) line c.own c.ended (opened old).sight c.from c.begins) (sym (ap (λ os. number_of (outcome_of os n)) c.outcomes) ∙ e)
+    number_before : (n version : ℕ) → number_of (outcome_of c.mid.outcomes n) ≡ Some version → number_of (outcome_of old.outcomes n) ≡ Some version
+    number_before n version e =
+        sym (ap number_of (outcome_opened old.outcomes n))
+        ∙ own_number c.own (opened old) n version (no_number (role_of line) line c.own c.ended (opened old).sight c.from c.begins) (sym (ap (λ os. number_of (outcome_of os n)) c.outcomes) ∙ e)
 
-  time_now : (n version : ℕ) → number_of (outcome_of all.outcomes n) ≡ Some version → IsTimed all.mail.sent fs n version
-  time_now n version e = elim (ended_number (Given (own_done c.own) line (opened old)) c.ended (with_mail (all_posted (newest c.mid) c.posted c.mid.mail) c.mid) n version c.times e) [
-    | inl f ↦ timed_more old.mail.sent all.mail.sent es fs n version among (λ x h. has x (done_more (own_done c.own) looks line es x h)) (timely.times n version (number_before n version f))
-    | inr g ↦ timed_more old.mail.sent all.mail.sent happened fs n version among has
-        (given_timed old es ordered.sound.mail was.fates.fates folded.folds.store looks (looked line ls old told ordered good was folded new c stepped) timely.groups (own_done c.own) line n version g)
-  ]
+    time_now : (n version : ℕ) → number_of (outcome_of all.outcomes n) ≡ Some version → IsTimed all.mail.sent fs n version
+    time_now n version e = elim (ended_number (Given (own_done c.own) line (opened old)) c.ended (with_mail (all_posted (newest c.mid) c.posted c.mid.mail) c.mid) n version c.times e) [
+      | inl f ↦ timed_more old.mail.sent all.mail.sent es fs n version noted_still (λ x h. happened_still x (done_more (own_done c.own) looks line es x h)) (timely.times n version (number_before n version f))
+      | inr g ↦ timed_more old.mail.sent all.mail.sent happened fs n version noted_still happened_still
+          (given_timed old es ordered.sound.mail was.fates.fates folded.folds.store looks (looked line ls old told ordered good was folded new c stepped) timely.groups (own_done c.own) line n version g)
+    ]
 
-  pub timely_now : Timely (line ∷ ls) all
-  timely_now = record { groups = group_now; times = time_now }
+    pub timely_now : Timely (line ∷ ls) all
+    timely_now = record { groups = group_now; times = time_now }

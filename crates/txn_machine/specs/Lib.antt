@@ -1,6 +1,7 @@
 pub mod Accounts
 pub mod Causes
 pub mod Dues
+pub mod Failing
 pub mod Lawful
 pub mod Lists
 pub mod Notes

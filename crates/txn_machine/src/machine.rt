@@ -5,6 +5,7 @@ ghost use Rattle.txn_lines.specs.Lines.{max_lines, why_after};
 ghost use Rattle.txn_machine.specs.Accounts.{AccountsMeetLines, AsksIt, Credited, Credits, TakenIn, own_by};
 ghost use Rattle.txn_machine.specs.Causes.{CallsMeetLines, EndsLines, EventsMeetLines, LivesLines, TellsLines};
 ghost use Rattle.txn_machine.specs.Dues.{DuesLines, StayOut};
+ghost use Rattle.txn_machine.specs.Failing.{CausesMeetLines, HeardIn, Rested, RunsAsk, RunsOn};
 ghost use Rattle.txn_machine.specs.Lists.{Lists, all_ended, all_posted, ended_at, newest, opened, outright, posted_at, with_mail};
 ghost use Rattle.txn_machine.specs.Notes.{AreNoted};
 ghost use Rattle.txn_machine.specs.Running.{CanClose, CanPost, CanStep, HasMemory, IsEven, IsFine, IsOrdered, IsReportOf, KeepOut, LedTo, Stands, StandsFor, closed, lists_of, outs_at, outs_until, with_own};
@@ -16,6 +17,7 @@ ghost use Rattle.txn_post.specs.Mail.{IsNext};
 ghost use Rattle.txn_report.specs.OutcomeView.{view_of_outcome};
 ghost use Rattle.txn_side.specs.Account.{AreKept, AreNew};
 ghost use Rattle.txn_side.specs.Sight.{Acts, nobody, ticket_in};
+ghost use Rattle.txn_side.specs.Trace.{StillRests};
 
 mod events;
 
@@ -78,6 +80,7 @@ impl<S: ClientSide> Machine<S> {
         requires accounts { AreNew (S.account clients) }
         ensures stands { IfOk result (λ machine. StandsFor S.sight S.ready S.waits machine []) }
         ensures taken { IfOk result (λ machine. TakenIn S.account machine []) }
+        ensures heard { IfOk result (λ machine. HeardIn S.rests S.fails machine []) }
         ensures memory { IfOk result HasMemory }
     {
         Ok(Machine {
@@ -105,6 +108,7 @@ impl<S: ClientSide> Machine<S> {
         requires { CanStep S.sight S.ready S.waits self.old line }
         ensures stands { (lines : List Line) → StandsFor S.sight S.ready S.waits self.old lines → why_after lines line ≡ None → StandsFor S.sight S.ready S.waits self.new (line ∷ lines) }
         ensures taken { (lines : List Line) → StandsFor S.sight S.ready S.waits self.old lines → why_after lines line ≡ None → TakenIn S.account self.old lines → TakenIn S.account self.new (line ∷ lines) }
+        ensures heard { (lines : List Line) → StandsFor S.sight S.ready S.waits self.old lines → why_after lines line ≡ None → TakenIn S.account self.old lines → HeardIn S.rests S.fails self.old lines → HeardIn S.rests S.fails self.new (line ∷ lines) }
         ensures memory { OnOk result (HasMemory self.old × HasMemory self.new) }
         ensures broken { OnErr result (HasMemory self.new → ⊥) }
         ensures note { IfOk result (λ note. IsNote (lists_of S.sight self.new) note) }
@@ -135,6 +139,7 @@ impl<S: ClientSide> Machine<S> {
         ensures out { OnOk result (StayOut (S.waits self.old.clients) (S.waits self.new.clients) (lists_of S.sight self.old) (lists_of S.sight self.new)) }
         ensures ready { OnOk result (S.ready self.new.clients) }
         ensures credited { OnOk result (Credited line (S.sight self.old.clients) (S.account self.old.clients) (S.account self.new.clients) (lists_of S.sight self.new)) }
+        ensures rests { OnOk result (Rested S.fails (S.rests self.old.clients) (S.rests self.new.clients) line (lists_of S.sight self.old) (S.account self.old.clients) (lists_of S.sight self.new)) }
         ensures kinds { OnOk result ((lines : List Line) → self.old.kinds ≡ kinds_of lines → self.new.kinds ≡ kinds_of (line ∷ lines)) }
         ensures note { IfOk result (λ note. IsNote (lists_of S.sight self.new) note) }
     {
@@ -162,6 +167,7 @@ impl<S: ClientSide> Machine<S> {
         ensures out { OnOk result (StayOut (S.waits self.old.clients) (S.waits self.new.clients) (lists_of S.sight self.old) (lists_of S.sight self.new)) }
         ensures ready { OnOk result (S.ready self.new.clients) }
         ensures accounts { OnOk result (AreKept (S.account self.old.clients) (S.account self.new.clients)) }
+        ensures rests { OnOk result (StillRests (S.rests self.old.clients) (S.rests self.new.clients)) }
     {
         self.post.open()?;
         self.clients.open()?;
@@ -182,6 +188,7 @@ impl<S: ClientSide> Machine<S> {
         ensures out { IfOk result (λ done. KeepOut (S.waits self.old.clients) (S.waits self.new.clients) (lists_of S.sight self.old) done (lists_of S.sight self.new)) }
         ensures ready { OnOk result (S.ready self.new.clients) }
         ensures credits { IfOk result (Credits line (lists_of S.sight self.old) (S.account self.old.clients) (S.account self.new.clients)) }
+        ensures rests { IfOk result (RunsOn S.fails (S.rests self.old.clients) (S.rests self.new.clients) line (lists_of S.sight self.old) (S.account self.old.clients)) }
     {
         match line {
             Line::Blank => Ok(self.outright(Outcome::Done)),
@@ -260,6 +267,7 @@ impl<S: ClientSide> Machine<S> {
         ensures out { IfOk result (λ done. KeepOut (S.waits self.old.clients) (S.waits self.new.clients) (lists_of S.sight self.old) done (lists_of S.sight self.new)) }
         ensures ready { OnOk result (S.ready self.new.clients) }
         ensures accounts { OnOk result (AreKept (S.account self.old.clients) (S.account self.new.clients)) }
+        ensures rests { IfOk result (RunsOn S.fails (S.rests self.old.clients) (S.rests self.new.clients) Line.Client (lists_of S.sight self.old) (S.account self.old.clients)) }
     {
         self.clients.connect(self.store.clock())?;
         let mut turn = Turn::new(self.alloc);
@@ -280,6 +288,7 @@ impl<S: ClientSide> Machine<S> {
         ensures out { IfOk result (λ done. KeepOut (S.waits self.old.clients) (S.waits self.new.clients) (lists_of S.sight self.old) done (lists_of S.sight self.new)) }
         ensures ready { OnOk result (S.ready self.new.clients) }
         ensures accounts { OnOk result (AreKept (S.account self.old.clients) (S.account self.new.clients)) }
+        ensures rests { IfOk result (RunsOn S.fails (S.rests self.old.clients) (S.rests self.new.clients) (Line.Begin client options) (lists_of S.sight self.old) (S.account self.old.clients)) }
     {
         let now = self.store.clock();
         let turn = self.clients.begin(client, options, now)?;
@@ -296,6 +305,7 @@ impl<S: ClientSide> Machine<S> {
         ensures out { IfOk result (λ done. KeepOut (S.waits self.old.clients) (S.waits self.new.clients) (lists_of S.sight self.old) done (lists_of S.sight self.new)) }
         ensures ready { OnOk result (S.ready self.new.clients) }
         ensures accounts { OnOk result (AreKept (S.account self.old.clients) (S.account self.new.clients)) }
+        ensures rests { IfOk result (RunsOn S.fails (S.rests self.old.clients) (S.rests self.new.clients) (Line.Timestamp client) (lists_of S.sight self.old) (S.account self.old.clients)) }
     {
         let turn = self.clients.timestamp(client, self.store.clock())?;
         Ok(self.called(turn))
@@ -312,6 +322,7 @@ impl<S: ClientSide> Machine<S> {
         ensures out { IfOk result (λ done. KeepOut (S.waits self.old.clients) (S.waits self.new.clients) (lists_of S.sight self.old) done (lists_of S.sight self.new)) }
         ensures ready { OnOk result (S.ready self.new.clients) }
         ensures takes { IfOk result (AsksIt (record { transaction = transaction; act = act }) (newest (lists_of S.sight self.old)) (S.account self.old.clients) (S.account self.new.clients)) }
+        ensures rests { IfOk result (RunsAsk S.fails (S.rests self.old.clients) (S.rests self.new.clients) (record { transaction = transaction; act = act }) (newest (lists_of S.sight self.old)) (S.account self.old.clients)) }
     {
         let turn = self.clients.act(transaction, act, self.store.clock())?;
         Ok(self.called(turn))
@@ -467,6 +478,7 @@ impl<S: ClientSide> Machine<S> {
         ensures dues { (lines : List Line) → StandsFor S.sight S.ready S.waits self lines → DuesLines lines result }
         ensures noted { (lines : List Line) → StandsFor S.sight S.ready S.waits self lines → AreNoted (length lines) result.sent result.sleeps }
         ensures accounts { (lines : List Line) → TakenIn S.account self lines → AccountsMeetLines lines result }
+        ensures causes { (lines : List Line) → HeardIn S.rests S.fails self lines → CausesMeetLines S.fails lines result }
     {
         let (sent, sleeps) = self.post.into_notes();
         Report {

@@ -1,5 +1,6 @@
 //! Whole scripts.
-ghost use Rattle.std.specs.Prelude.{◌≡◌, [], IfOk};
+ghost use Rattle.std.specs.Prelude.{◌≡◌, [], IfOk, reverse};
+ghost use Rattle.txn_machine.specs.Failing.{CausesMeetLines};
 ghost use Rattle.txn_machine.specs.Lawful.{AllGood, Lawful};
 ghost use Rattle.txn_side.specs.Account.{AreNew};
 ghost use Rattle.txn_side.specs.Sight.{nobody};
@@ -21,7 +22,8 @@ pub fn run_lines<S: ClientSide>(
     requires ready { S.ready clients }
     requires accounts { AreNew (S.account clients) }
     requires good { AllGood [] lines.items }
-    ensures { IfOk result (λ report. Lawful lines.items report) }
+    ensures lawful { IfOk result (λ report. Lawful lines.items report) }
+    ensures causes { IfOk result (λ report. CausesMeetLines S.fails (reverse lines.items) report) }
 {
     let mut machine = Machine::new(alloc, clients)?;
     for line in lines {

@@ -31,6 +31,14 @@ impl ClientSide for Nobody {
 
     ghost account = { λ s n. new_account };
 
+    ghost fails = { λ heard error. ⊥ };
+
+    ghost rests = { λ s trace. ⊤ };
+
+    ghost rests_longer = { λ s trace longer is_longer rest. rest };
+
+    ghost nobody_rests = { λ s is_nobody trace. tt };
+
     fn open(&mut self) -> Result<(), NoMemory> {
         self.lines.push(0)?;
         Ok(())

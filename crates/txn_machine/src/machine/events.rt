@@ -1,9 +1,12 @@
 //! Events: what becomes of requests and sleeps, and of the store and the clients.
 ghost use Rattle.std.specs.Prelude.{◌≡◌, ◌≤◌, ◌<◌, ◌^◌, [], IfOk, IfSome, OnOk, Some, length, true};
+ghost use Rattle.txn_history.specs.Event.Event.{Took};
 ghost use Rattle.txn_post.specs.Mail.{IsSentAt, IsSleptAt};
 ghost use Rattle.txn_side.specs.Account.{AreClosed, AreKept};
 ghost use Rattle.txn_side.specs.Sight.{IsGiven, is_live};
+ghost use Rattle.txn_side.specs.Trace.{HearsOn};
 ghost use Rattle.txn_side.specs.Waiting.{HearsReply, WaitsOn};
+ghost use Rattle.txn_machine.specs.Failing.{RunsOn};
 ghost use Rattle.txn_machine.specs.Lists.{Lists, handled, newest, outright, reply_at};
 ghost use Rattle.txn_machine.specs.Running.{CanClose, IsEven, IsOrdered, KeepOut, closed, lists_of};
 ghost use Rattle.txn_machine.specs.Steps.{Does, Hears, done_if, found_asleep, found_out};
@@ -90,6 +93,7 @@ impl<S: ClientSide> Machine<S> {
         ensures out { IfOk result (λ done. KeepOut (S.waits self.old.clients) (S.waits self.new.clients) (lists_of S.sight self.old) done (lists_of S.sight self.new)) }
         ensures ready { OnOk result (S.ready self.new.clients) }
         ensures accounts { OnOk result (AreKept (S.account self.old.clients) (S.account self.new.clients)) }
+        ensures rests { IfOk result (RunsOn S.fails (S.rests self.old.clients) (S.rests self.new.clients) (Line.Serve ticket) (lists_of S.sight self.old) (S.account self.old.clients)) }
     {
         let Some(place) = self.post.find_unserved(&ticket) else {
             return Ok(self.happened(false));
@@ -110,6 +114,7 @@ impl<S: ClientSide> Machine<S> {
         ensures out { IfOk result (λ done. KeepOut (S.waits self.old.clients) (S.waits self.new.clients) (lists_of S.sight self.old) done (lists_of S.sight self.new)) }
         ensures ready { OnOk result (S.ready self.new.clients) }
         ensures accounts { IfOk result (λ done. AreClosed (S.sight self.old.clients) done.turn.ended.items (S.account self.old.clients) (S.account self.new.clients)) }
+        ensures rests { IfOk result (RunsOn S.fails (S.rests self.old.clients) (S.rests self.new.clients) (Line.Answer ticket) (lists_of S.sight self.old) (S.account self.old.clients)) }
     {
         let Some(place) = self.find_out(&ticket) else {
             return Ok(self.happened(false));
@@ -131,6 +136,7 @@ impl<S: ClientSide> Machine<S> {
         ensures out { IfOk result (λ done. KeepOut (S.waits self.old.clients) (S.waits self.new.clients) (lists_of S.sight self.old) done (lists_of S.sight self.new)) }
         ensures ready { OnOk result (S.ready self.new.clients) }
         ensures accounts { IfOk result (λ done. AreClosed (S.sight self.old.clients) done.turn.ended.items (S.account self.old.clients) (S.account self.new.clients)) }
+        ensures rests { IfOk result (RunsOn S.fails (S.rests self.old.clients) (S.rests self.new.clients) (Line.Deliver ticket) (lists_of S.sight self.old) (S.account self.old.clients)) }
     {
         let Some(place) = self.find_out(&ticket) else {
             return Ok(self.happened(false));
@@ -154,6 +160,7 @@ impl<S: ClientSide> Machine<S> {
         ensures out { IfOk result (λ done. KeepOut (S.waits self.old.clients) (S.waits self.new.clients) (lists_of S.sight self.old) done (lists_of S.sight self.new)) }
         ensures ready { OnOk result (S.ready self.new.clients) }
         ensures accounts { IfOk result (λ done. AreClosed (S.sight self.old.clients) done.turn.ended.items (S.account self.old.clients) (S.account self.new.clients)) }
+        ensures rests { IfOk result (RunsOn S.fails (S.rests self.old.clients) (S.rests self.new.clients) (Line.Busy ticket) (lists_of S.sight self.old) (S.account self.old.clients)) }
     {
         let Some(place) = self.find_out(&ticket) else {
             return Ok(self.happened(false));
@@ -182,6 +189,7 @@ impl<S: ClientSide> Machine<S> {
         ensures ready { OnOk result (S.ready self.new.clients) }
         ensures post { OnOk result (self.new.post ≡ self.old.post) }
         ensures accounts { IfOk result (λ done. AreClosed (S.sight self.old.clients) done.turn.ended.items (S.account self.old.clients) (S.account self.new.clients)) }
+        ensures rests { IfOk result (λ done. HearsOn S.fails (S.rests self.old.clients) (S.rests self.new.clients) (S.sight self.old.clients) ticket (λ r. Took ticket r reply) done.turn) }
     {
         let now = self.store.clock();
         let turn = self.clients.take_reply(ticket, reply, now)?;
@@ -199,6 +207,7 @@ impl<S: ClientSide> Machine<S> {
         ensures out { IfOk result (λ done. KeepOut (S.waits self.old.clients) (S.waits self.new.clients) (lists_of S.sight self.old) done (lists_of S.sight self.new)) }
         ensures ready { OnOk result (S.ready self.new.clients) }
         ensures accounts { IfOk result (λ done. AreClosed (S.sight self.old.clients) done.turn.ended.items (S.account self.old.clients) (S.account self.new.clients)) }
+        ensures rests { IfOk result (RunsOn S.fails (S.rests self.old.clients) (S.rests self.new.clients) (Line.Lose ticket) (lists_of S.sight self.old) (S.account self.old.clients)) }
     {
         let Some(place) = self.find_out(&ticket) else {
             return Ok(self.happened(false));
@@ -221,6 +230,7 @@ impl<S: ClientSide> Machine<S> {
         ensures out { IfOk result (λ done. KeepOut (S.waits self.old.clients) (S.waits self.new.clients) (lists_of S.sight self.old) done (lists_of S.sight self.new)) }
         ensures ready { OnOk result (S.ready self.new.clients) }
         ensures accounts { IfOk result (λ done. AreClosed (S.sight self.old.clients) done.turn.ended.items (S.account self.old.clients) (S.account self.new.clients)) }
+        ensures rests { IfOk result (RunsOn S.fails (S.rests self.old.clients) (S.rests self.new.clients) (Line.Wake ticket) (lists_of S.sight self.old) (S.account self.old.clients)) }
     {
         let Some(place) = self.find_asleep(&ticket) else {
             return Ok(self.happened(false));
@@ -240,6 +250,7 @@ impl<S: ClientSide> Machine<S> {
         ensures out { IfOk result (λ done. KeepOut (S.waits self.old.clients) (S.waits self.new.clients) (lists_of S.sight self.old) done (lists_of S.sight self.new)) }
         ensures ready { OnOk result (S.ready self.new.clients) }
         ensures accounts { OnOk result (AreKept (S.account self.old.clients) (S.account self.new.clients)) }
+        ensures rests { IfOk result (RunsOn S.fails (S.rests self.old.clients) (S.rests self.new.clients) (Line.Split key) (lists_of S.sight self.old) (S.account self.old.clients)) }
     {
         let done = self.store.split(&key)?;
         Ok(self.happened(done))
@@ -255,6 +266,7 @@ impl<S: ClientSide> Machine<S> {
         ensures out { IfOk result (λ done. KeepOut (S.waits self.old.clients) (S.waits self.new.clients) (lists_of S.sight self.old) done (lists_of S.sight self.new)) }
         ensures ready { OnOk result (S.ready self.new.clients) }
         ensures accounts { OnOk result (AreKept (S.account self.old.clients) (S.account self.new.clients)) }
+        ensures rests { IfOk result (RunsOn S.fails (S.rests self.old.clients) (S.rests self.new.clients) (Line.Lead region store) (lists_of S.sight self.old) (S.account self.old.clients)) }
     {
         let done = self.store.lead(region, store);
         Ok(self.happened(done))
@@ -271,6 +283,7 @@ impl<S: ClientSide> Machine<S> {
         ensures out { IfOk result (λ done. KeepOut (S.waits self.old.clients) (S.waits self.new.clients) (lists_of S.sight self.old) done (lists_of S.sight self.new)) }
         ensures ready { OnOk result (S.ready self.new.clients) }
         ensures accounts { OnOk result (AreKept (S.account self.old.clients) (S.account self.new.clients)) }
+        ensures rests { IfOk result (RunsOn S.fails (S.rests self.old.clients) (S.rests self.new.clients) (Line.Clock ms) (lists_of S.sight self.old) (S.account self.old.clients)) }
     {
         self.store.set_clock(ms);
         Ok(self.happened(true))
@@ -286,6 +299,7 @@ impl<S: ClientSide> Machine<S> {
         ensures out { IfOk result (λ done. KeepOut (S.waits self.old.clients) (S.waits self.new.clients) (lists_of S.sight self.old) done (lists_of S.sight self.new)) }
         ensures ready { OnOk result (S.ready self.new.clients) }
         ensures accounts { OnOk result (AreKept (S.account self.old.clients) (S.account self.new.clients)) }
+        ensures rests { IfOk result (RunsOn S.fails (S.rests self.old.clients) (S.rests self.new.clients) (Line.Crash client) (lists_of S.sight self.old) (S.account self.old.clients)) }
     {
         let done = self.clients.crash(client);
         Ok(self.happened(done))

@@ -1,5 +1,6 @@
 use Rattle.std.proofs.Common.{[], sym, subst, arith}
 use Rattle.txn_machine.specs.Lawful.{AllGood}
+use Rattle.txn_machine.proofs.HeardLines.{hears_over, hears_stepped}
 use Rattle.txn_machine.proofs.LineByLine.{can_step, run_over, run_stepped}
 use Rattle.txn_machine.proofs.Takings.{takes_over, takes_stepped}
 use Rattle.txn_machine.proofs.runs.run_lines.Goals as goal
@@ -22,6 +23,14 @@ loop-line-init g c =
         good = subst (λ ls. AllGood [] ls) (sym same) c.requires.good;
         together = same;
       };
+      hears = record {
+        done = [];
+        stands = c.in_ok-machine.ensures.stands;
+        taken = c.in_ok-machine.ensures.taken;
+        heard = c.in_ok-machine.ensures.heard;
+        good = subst (λ ls. AllGood [] ls) (sym same) c.requires.good;
+        together = same;
+      };
     }
 
 pub step-requires : goal.step-requires
@@ -31,14 +40,22 @@ pub loop-line-preserved : goal.loop-line-preserved
 loop-line-preserved g c = record {
   runs = run_stepped g.S.ClientSide.sight g.S.ClientSide.ready g.S.ClientSide.waits c.loop-line.machine c.step.new.self c.args.lines.items c.loop-line.line-iterator.rest.items c.next.new.self.rest.items c.in-Some.line c.loop-line.invariant.runs c.in-Some.ensures.steps.0 c.in_ok-step.ensures.memory.1 c.in_ok-step.ensures.stands;
   takes = takes_stepped g.S.ClientSide.sight g.S.ClientSide.ready g.S.ClientSide.waits g.S.ClientSide.account c.loop-line.machine c.step.new.self c.args.lines.items c.loop-line.line-iterator.rest.items c.next.new.self.rest.items c.in-Some.line c.loop-line.invariant.takes c.in-Some.ensures.steps.0 c.in_ok-step.ensures.stands c.in_ok-step.ensures.taken;
+  hears = hears_stepped g.S.ClientSide.sight g.S.ClientSide.ready g.S.ClientSide.waits g.S.ClientSide.account g.S.ClientSide.fails g.S.ClientSide.rests c.loop-line.machine c.step.new.self c.args.lines.items c.loop-line.line-iterator.rest.items c.next.new.self.rest.items c.in-Some.line c.loop-line.invariant.hears
+      c.in-Some.ensures.steps.0 c.in_ok-step.ensures.stands c.in_ok-step.ensures.taken c.in_ok-step.ensures.heard;
 }
 
 pub report-requires : goal.report-requires
 report-requires g c = c.loop-line.invariant.runs.memory
 
-pub returns : goal.returns
-returns g c =
+pub returns-clause-lawful : goal.returns-clause-lawful
+returns-clause-lawful g c =
     let counted = c.loop-line.line-iterator.rest.ok.0 in
     let over = c.in-None.ensures.steps.0 in
     run_over g.S.ClientSide.sight g.S.ClientSide.ready g.S.ClientSide.waits c.loop-line.machine c.args.lines.items c.loop-line.line-iterator.rest.items c.report.result c.loop-line.invariant.runs (omega arith) c.report.ensures.folded c.report.ensures.noted c.report.ensures.told c.report.ensures.ends c.report.ensures.lives c.report.ensures.calls c.report.ensures.events c.report.ensures.times c.report.ensures.dues
     (takes_over g.S.ClientSide.sight g.S.ClientSide.ready g.S.ClientSide.waits g.S.ClientSide.account c.loop-line.machine c.args.lines.items c.loop-line.line-iterator.rest.items c.report.result c.loop-line.invariant.takes (omega arith) c.report.ensures.accounts)
+
+pub returns-clause-causes : goal.returns-clause-causes
+returns-clause-causes g c =
+    let counted = c.loop-line.line-iterator.rest.ok.0 in
+    let over = c.in-None.ensures.steps.0 in
+    hears_over g.S.ClientSide.sight g.S.ClientSide.ready g.S.ClientSide.waits g.S.ClientSide.account g.S.ClientSide.fails g.S.ClientSide.rests c.loop-line.machine c.args.lines.items c.loop-line.line-iterator.rest.items c.report.result c.loop-line.invariant.hears (omega arith) c.report.ensures.causes

@@ -2,6 +2,9 @@ use Rattle.std.proofs.Common.{refl, sym, ◌∙◌}
 use Rattle.txn_machine.specs.Running.{lists_of}
 use Rattle.txn_post.specs.Mail.{taking}
 use Rattle.txn_machine.proofs.Staying.{heard_out, live_out, rest_out, untaken_out}
+use Rattle.txn_history.specs.Event.Event.{Took}
+use Rattle.txn_lines.specs.declared.line.Line.TheVariants.{Answer}
+use Rattle.txn_machine.proofs.Resting.{heard_on}
 use Rattle.txn_machine.proofs.machine.Machine.answer.Goals as goal
 
 pub returns-in_default-clause-out : goal.returns-in_default-clause-out
@@ -15,3 +18,8 @@ pub returns-in-Some-take_kept-clause-out : goal.returns-in-Some-take_kept-clause
 returns-in-Some-take_kept-clause-out g c =
     heard_out (g.S.ClientSide.waits c.args.self.now.clients) (g.S.ClientSide.waits c.args.self.now.clients) (g.S.ClientSide.waits c.hear.new.self.clients) (lists_of g.S.ClientSide.sight c.args.self.now) (lists_of g.S.ClientSide.sight (record c.args.self.now { post = c.take_kept.new.self })) (lists_of g.S.ClientSide.sight c.hear.new.self) c.args.ticket c.in-Some.place taking c.hear.result refl
     (c.hear.ensures.waits (live_out (lists_of g.S.ClientSide.sight c.args.self.now) c.args.ticket c.in-Some.place (sym c.find_out.ensures.exact ∙ c.in-Some.is))) c.hear.ensures.can c.hear.ensures.post refl c.in-Some.ensures.found.ticket c.take_kept.ensures.taken c.requires.ordered.sound.mail
+
+pub returns-in-Some-take_kept-clause-rests : goal.returns-in-Some-take_kept-clause-rests
+returns-in-Some-take_kept-clause-rests g c =
+    heard_on g.S.ClientSide.fails (g.S.ClientSide.rests c.args.self.now.clients) (g.S.ClientSide.rests c.hear.new.self.clients) (lists_of g.S.ClientSide.sight c.args.self.now) (g.S.ClientSide.account c.args.self.now.clients) (Answer c.args.ticket) c.args.ticket (λ r. Took c.args.ticket r c.in-Some-take_kept.reply) c.hear.result
+    (λ t can. can.hear c.in-Some.place c.in-Some-take_kept.reply (sym c.find_out.ensures.exact ∙ c.in-Some.is) (sym c.take_kept.ensures.reply ∙ c.in-Some-take_kept.is)) c.hear.ensures.rests

@@ -1,7 +1,14 @@
-use Rattle.std.proofs.Common.{refl, sym, ◌∙◌}
+use Rattle.std.proofs.Common.{List, get_or, refl, sym, ap, ◌∙◌}
+use Rattle.txn_history.specs.Busy.{busy_reply}
+use Rattle.txn_machine.specs.Lists.{request_in}
 use Rattle.txn_machine.specs.Running.{lists_of}
 use Rattle.txn_post.specs.Mail.{refusing}
 use Rattle.txn_machine.proofs.Staying.{heard_out, live_out, rest_out}
+use Rattle.txn_history.specs.Event.Event.{Took}
+use Rattle.txn_lines.specs.declared.line.Line.TheVariants.{Busy}
+use Rattle.txn_report.specs.declared.report.SentNote.{SentNote}
+use Rattle.txn_machine.proofs.Noting.{there_is}
+use Rattle.txn_machine.proofs.Resting.{heard_on}
 use Rattle.txn_machine.proofs.machine.Machine.busy.Goals as goal
 
 pub returns-in_default-clause-out : goal.returns-in_default-clause-out
@@ -17,3 +24,11 @@ pub returns-in-Some-busy_reply-clause-out : goal.returns-in-Some-busy_reply-clau
 returns-in-Some-busy_reply-clause-out g c =
     heard_out (g.S.ClientSide.waits c.args.self.now.clients) (g.S.ClientSide.waits c.args.self.now.clients) (g.S.ClientSide.waits c.hear.new.self.clients) (lists_of g.S.ClientSide.sight c.args.self.now) (lists_of g.S.ClientSide.sight (record c.args.self.now { post = c.refuse.new.self })) (lists_of g.S.ClientSide.sight c.hear.new.self) c.args.ticket c.in-Some.place refusing c.hear.result refl
     (c.hear.ensures.waits (live_out (lists_of g.S.ClientSide.sight c.args.self.now) c.args.ticket c.in-Some.place (sym c.find_out.ensures.exact ∙ c.in-Some.is))) c.hear.ensures.can c.hear.ensures.post refl c.in-Some.ensures.found.ticket c.refuse.ensures c.requires.ordered.sound.mail
+
+pub returns-in-Some-busy_reply-clause-rests : goal.returns-in-Some-busy_reply-clause-rests
+returns-in-Some-busy_reply-clause-rests g c =
+    heard_on g.S.ClientSide.fails (g.S.ClientSide.rests c.args.self.now.clients) (g.S.ClientSide.rests c.hear.new.self.clients) (lists_of g.S.ClientSide.sight c.args.self.now) (g.S.ClientSide.account c.args.self.now.clients) (Busy c.args.ticket) c.args.ticket (λ r. Took c.args.ticket r c.in-Some-busy_reply.reply) c.hear.result
+    (λ t can. can.hear c.in-Some.place c.in-Some-busy_reply.reply (sym c.find_out.ensures.exact ∙ c.in-Some.is) (sym c.can_be_served.ensures ∙ c.if-not-can_be_served.false)
+    (ap (λ o. busy_reply (request_in o)) (there_is c.args.self.now.post.sent c.in-Some.place c.index-sent-place.result c.in-Some.ensures.found.below)
+    ∙ ap (λ (ss : List SentNote). busy_reply (get_or ss c.in-Some.place c.index-sent-place.result).request) (sym c.sent.ensures.value) ∙ sym c.busy_reply.ensures ∙ c.in-Some-busy_reply.is))
+    c.hear.ensures.rests

@@ -2,8 +2,11 @@ use Rattle.std.proofs.Common.{true, refl, sym, ap, ◌∙◌, ◌≡◌, subst}
 use Rattle.txn_machine.specs.Running.{lists_of}
 use Rattle.txn_post.specs.Mail.{changing, delivering}
 use Rattle.txn_side.specs.Sight.{is_live}
-use Rattle.txn_machine.specs.Lists.{Lists}
+use Rattle.txn_machine.specs.Lists.{Lists, reply_at}
 use Rattle.txn_machine.proofs.Staying.{heard_out, live_out, rest_out}
+use Rattle.txn_history.specs.Event.Event.{Took}
+use Rattle.txn_lines.specs.declared.line.Line.TheVariants.{Deliver}
+use Rattle.txn_machine.proofs.Resting.{handled_heard, heard_on}
 use Rattle.txn_machine.proofs.machine.Machine.deliver.Goals as goal
 
 pub returns-in_default-clause-out : goal.returns-in_default-clause-out
@@ -19,3 +22,10 @@ returns-clause-out g c =
     (c.hear.ensures.waits (subst (λ s. is_live (g.S.ClientSide.sight s) c.args.ticket.line ≡ true) (sym c.in_ok-reply.ensures.clients) (live_out (lists_of g.S.ClientSide.sight c.args.self.now) c.args.ticket c.in-Some.place (sym c.find_out.ensures.exact ∙ c.in-Some.is)))) c.hear.ensures.can c.hear.ensures.post
     (ap (λ s. g.S.ClientSide.sight s) c.in_ok-reply.ensures.clients) c.in-Some.ensures.found.ticket
     (c.deliver.ensures ∙ ap (λ (x : Lists). changing delivering c.in-Some.place x.mail) c.in_ok-reply.ensures.lists) c.requires.ordered.sound.mail
+
+pub returns-clause-rests : goal.returns-clause-rests
+returns-clause-rests g c =
+    heard_on g.S.ClientSide.fails (g.S.ClientSide.rests c.args.self.now.clients) (g.S.ClientSide.rests c.hear.new.self.clients) (lists_of g.S.ClientSide.sight c.args.self.now) (g.S.ClientSide.account c.args.self.now.clients) (Deliver c.args.ticket) c.args.ticket
+    (λ r. Took c.args.ticket r (reply_at (lists_of g.S.ClientSide.sight c.args.self.now) c.in-Some.place)) c.hear.result
+    (λ t can. can.hear c.in-Some.place (sym c.find_out.ensures.exact ∙ c.in-Some.is) (sym c.can_be_served.ensures ∙ c.if-not-can_be_served.false))
+    (handled_heard g.S.ClientSide.sight g.S.ClientSide.fails g.S.ClientSide.rests c.args.self.now.clients c.handle.new.self.clients c.hear.new.self.clients c.args.ticket c.in_ok-reply.reply _ c.hear.result c.in_ok-reply.ensures.clients c.in_ok-reply.ensures.reply c.hear.ensures.rests)

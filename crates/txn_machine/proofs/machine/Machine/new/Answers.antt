@@ -1,5 +1,6 @@
 use Rattle.txn_machine.proofs.Standings.{new_stands}
 use Rattle.txn_machine.proofs.Takings.{new_taken}
+use Rattle.txn_machine.proofs.HeardLines.{new_heard}
 use Rattle.txn_machine.proofs.machine.Machine.new.Goals as goal
 
 pub returns-clause-stands : goal.returns-clause-stands
@@ -7,3 +8,6 @@ returns-clause-stands g c = new_stands g.S.ClientSide.sight g.S.ClientSide.ready
 
 pub returns-clause-taken : goal.returns-clause-taken
 returns-clause-taken g c = new_taken g.S.ClientSide.account _ c.new-3.ensures.items c.new-4.ensures.items c.requires.accounts
+
+pub returns-clause-heard : goal.returns-clause-heard
+returns-clause-heard g c = new_heard g.S.ClientSide.rests g.S.ClientSide.fails _ (λ t. g.S.ClientSide.nobody_rests c.args.clients c.requires.nobody t)

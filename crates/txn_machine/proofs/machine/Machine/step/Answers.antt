@@ -2,6 +2,7 @@ use Rattle.std.proofs.Common.{refl}
 use Rattle.txn_machine.specs.Running.{lists_of}
 use Rattle.txn_machine.proofs.Standings.{broken_stands, caused_past, few_lines, good_fine, step_stands}
 use Rattle.txn_machine.proofs.Takings.{broken_taken, step_taken}
+use Rattle.txn_machine.proofs.HeardLines.{broken_heard, step_heard}
 use Rattle.txn_machine.proofs.machine.Machine.step.Goals as goal
 
 pub try_step-requires-clause-ordered : goal.try_step-requires-clause-ordered
@@ -36,3 +37,12 @@ returns-in-Ok-clause-taken g c lines s good taken = step_taken g.S.ClientSide.si
 
 pub returns-in-Err-clause-taken : goal.returns-in-Err-clause-taken
 returns-in-Err-clause-taken g c lines s good taken = broken_taken g.S.ClientSide.account _ _ refl
+
+pub returns-then-self-clause-heard : goal.returns-then-self-clause-heard
+returns-then-self-clause-heard g c lines s good taken heard = broken_heard g.S.ClientSide.rests g.S.ClientSide.fails _ _ c.if-self.true
+
+pub returns-in-Ok-clause-heard : goal.returns-in-Ok-clause-heard
+returns-in-Ok-clause-heard g c lines s good taken heard = step_heard g.S.ClientSide.sight g.S.ClientSide.ready g.S.ClientSide.waits g.S.ClientSide.account g.S.ClientSide.fails g.S.ClientSide.rests c.args.self.now _ c.args.line lines c.in-Ok.ensures.lists c.in-Ok.ensures.rests g.S.ClientSide.rests_longer good (record { whole = c.if-self.false }) s taken heard
+
+pub returns-in-Err-clause-heard : goal.returns-in-Err-clause-heard
+returns-in-Err-clause-heard g c lines s good taken heard = broken_heard g.S.ClientSide.rests g.S.ClientSide.fails _ _ refl

@@ -3,6 +3,7 @@ use Rattle.txn_machine.specs.Running.{lists_of}
 use Rattle.txn_machine.proofs.Standings.{opened_ordered, opened_some, stays_through, step_lists}
 use Rattle.txn_machine.proofs.Telling.{note_is}
 use Rattle.txn_machine.proofs.Credits.{credited_step}
+use Rattle.txn_machine.proofs.Resting.{rested_step}
 use Rattle.txn_machine.proofs.machine.Machine.try_step.Goals as goal
 
 pub run-requires-clause-ordered : goal.run-requires-clause-ordered
@@ -22,3 +23,6 @@ returns-clause-out g c = stays_through (g.S.ClientSide.waits c.args.self.now.cli
 
 pub returns-clause-credited : goal.returns-clause-credited
 returns-clause-credited g c = credited_step g.S.ClientSide.account c.args.line (lists_of g.S.ClientSide.sight c.args.self.now) _ _ _ c.in_ok-done.done c.args.self.now.clients _ _ _ c.in_ok-open.ensures.lists c.in_ok-note.ensures.lists c.requires.ordered c.requires.past c.in_ok-done.ensures.tells c.in_ok-open.ensures.accounts c.in_ok-done.ensures.credits c.in_ok-note.ensures.clients
+
+pub returns-clause-rests : goal.returns-clause-rests
+returns-clause-rests g c = rested_step g.S.ClientSide.fails g.S.ClientSide.rests g.S.ClientSide.account c.args.line (lists_of g.S.ClientSide.sight c.args.self.now) _ _ _ c.in_ok-done.done c.args.self.now.clients _ _ _ c.in_ok-open.ensures.lists c.in_ok-note.ensures.lists c.in_ok-done.ensures.tells c.in_ok-open.ensures.accounts c.in_ok-open.ensures.rests c.in_ok-done.ensures.rests c.in_ok-note.ensures.clients

@@ -1,7 +1,10 @@
 use Rattle.std.specs.Prelude.{[]}
 use Rattle.txn_side.specs.Waiting.{NoneHeard}
-use Rattle.txn_tests_machines.proofs.Waits.{none_waits_on}
+use Rattle.txn_tests_machines.proofs.Waits.{none_rests, none_waits_on}
 use Rattle.txn_tests_machines.proofs.machine.NobodyClientSide.act.Goals as goal
 
 pub returns-clause-waits : goal.returns-clause-waits
 returns-clause-waits c = none_waits_on NoneHeard [] _ _
+
+pub returns-clause-rests : goal.returns-clause-rests
+returns-clause-rests c t posted called refused was = none_rests t
