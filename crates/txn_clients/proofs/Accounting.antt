@@ -29,7 +29,7 @@ use Rattle.txn_side.specs.Sight.Stand.{Asking, Calling, HasBegun, Idle, IsClient
 use Rattle.txn_side.specs.declared.act.Act.{Act}
 use Rattle.txn_side.specs.declared.act.Act.TheVariants as acts
 use Rattle.txn_side.specs.declared.turn.Ending.{Ending}
-use Rattle.txn_clients.specs.Accounts.{AccountTold, AccountsTold, AnswersAsk, AnswersNew, AnswersSo, AnswersTold, EndsAtOnce, HasHeard, HasTaken, RowTold, WantsNew, account_at, account_in, account_of, come_to, is_heard, outcome_by, outcome_in, status_of}
+use Rattle.txn_clients.specs.Accounts.{AccountTold, AccountsTold, AnswersAsk, AnswersNew, AnswersSo, AnswersTold, EndsAtOnce, HasHeard, HasTaken, RowTold, WantsNew, account_at, account_in, account_of, is_heard, outcome_by, outcome_in, status_of}
 use Rattle.txn_clients.specs.Closing.{Closes, ClosesIn, ComesTo, EndsBy, EndsCall, EndsOwn, GoesTold, HasComeTo, StandsAt, ends_so, status_by}
 use Rattle.txn_clients.specs.Clients.{HearsFor, row_at, rows_of, stands_of}
 use Rattle.txn_clients.specs.Matching.{AreMatched, IsLine}

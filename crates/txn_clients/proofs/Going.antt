@@ -1,18 +1,17 @@
 -- What stands at a line is told of something.
-use Rattle.std.proofs.Common.{◌≡◌, ◌≢◌, ◌⊎◌, inl, inr, ℕ, ◌≤◌, Bool, true, false, List, [], ◌∷◌, Option, Some, None, refl, sym, ap, ◌∙◌, subst}
-use Rattle.std.specs.Prelude.{⊤, IfOk, Result, Ok, Err}
+use Rattle.std.proofs.Common.{◌≡◌, ◌≢◌, inl, inr, ℕ, Bool, true, false, List, [], ◌∷◌, Option, Some, None, refl, sym, subst}
+use Rattle.std.specs.Prelude.{⊤, Result, Ok, Err}
 use Rattle.txn_kv.specs.Timestamp.{version_of}
 use Rattle.txn_kv.specs.declared.errors.Error.{Error}
-use Rattle.txn_kv.specs.declared.memory.NoMemory.{NoMemory}
 use Rattle.txn_kv.specs.declared.progress.Progress.{Progress}
 use Rattle.txn_kv.specs.declared.progress.Progress.TheVariants.{Waiting, Done}
 use Rattle.txn_history.specs.Later.{IsLater}
-use Rattle.txn_history.specs.Meaning.{Expects, IsLawful}
+use Rattle.txn_history.specs.Meaning.{IsLawful}
 use Rattle.txn_history.specs.Phase.{Awaited}
-use Rattle.txn_history.specs.Phase.Phase.{Fresh, Running}
+use Rattle.txn_history.specs.Phase.Phase.{Fresh}
 use Rattle.txn_history.specs.Posted.{Posted}
 use Rattle.txn_history.specs.Turn.{IfKept, Turn, turn_of}
-use Rattle.txn_history.specs.Turn.Turn.{Stopped, Waits, Ends}
+use Rattle.txn_history.specs.Turn.Turn.{Stopped}
 use Rattle.txn_history.proofs.Telling.{Expects-quiet}
 use Rattle.txn_plan.specs.Arrivals.{awaited_as}
 use Rattle.txn_plan.specs.declared.arrival.Arrival.{Arrival}
@@ -22,20 +21,25 @@ use Rattle.txn_core.specs.Transaction.{Standing, is_open}
 use Rattle.txn_core.specs.declared.txn_answer.TxnAnswer.{TxnAnswer}
 use Rattle.txn_client.specs.declared.client_call.ClientCall.{ClientCall}
 use Rattle.txn_side.specs.declared.act.Act.{Act}
-use Rattle.txn_side.specs.Sight.{next_at}
 use Rattle.txn_clients.specs.Rows.{Pd, Posts, answer_in}
-use Rattle.txn_clients.specs.Waiting.{HasArisen, IsPrepared, IsReached, IsRisen, RowArises, RowGoes, RowRuns, StandGoes, hears, wants}
+use Rattle.txn_clients.specs.Waiting.{IsPrepared, IsReached, IsRisen, RowArises, RowGoes, RowRuns, StandGoes, hears, wants}
 use Rattle.txn_clients.specs.declared.answer.Answer.{Answer}
 use Rattle.txn_clients.specs.declared.answer.Answer.TheVariants as answers
 use Rattle.txn_clients.specs.declared.row.Row.{Row}
 use Rattle.txn_clients.specs.declared.row.Row.TheVariants as row
 use Rattle.txn_clients.specs.declared.told.Told.{Told}
 use Rattle.txn_clients.specs.declared.told.Told.TheVariants as tells
-use Rattle.txn_clients.proofs.Calls.{call_later, no_answer}
+use Rattle.txn_side.specs.Account.{refusal}
+use Rattle.txn_side.specs.Trace.{Trace}
+use Rattle.txn_clients.specs.Accounts.{account_of}
+use Rattle.txn_clients.specs.Failing.{CameIn, RefusedIn}
+use Rattle.txn_clients.specs.Resting.{row_longer}
+use Rattle.txn_clients.proofs.Calls.{call_later, call_rests, no_answer}
+use Rattle.txn_clients.proofs.Showing.{shown_times}
 use Rattle.txn_clients.proofs.Standing.{stand_later}
 use Rattle.std.specs.List.Sorted.{IsStrictlySortedBy}
 use Rattle.std.specs.Prelude.{IfSome}
-use Rattle.std.proofs.Common.{Ordering, ◌+◌, ◌<◌, arith}
+use Rattle.std.proofs.Common.{Ordering, arith}
 use Rattle.txn_kv.specs.declared.reply.Reply.TheVariants as replies
 use Rattle.txn_kv.specs.declared.reply.TsoResponse.{TsoResponse}
 use Rattle.txn_kv.specs.declared.request.Request.{Request}
@@ -63,18 +67,18 @@ reached_same : (from o : Posted) → IsReached from from o → IsLater from o
 reached_same from o r = record { line = r.line; beat = r.beat; next = r.next; next_ask = r.next_ask }
 
 module _ {P Q K A B D : Type 0} (w : Ways P Q K A B D) where
-  pub stand_acts : (x : Act) (c m : ℕ) (old new : Standing P Q K) (from to : Posted) (turn : Turn (Result (TxnAnswer Q) Error)) → turn ≢ Stopped → StandGoes w (λ a. ⊥) ⊤ old new from to turn
+  pub stand_acts : (x : Act) (c m : ℕ) (old new : Standing P Q K) (from to : Posted) (turn : Turn (Result (TxnAnswer Q) Error)) → turn ≢ Stopped → StandGoes w (λ a. ⊥) ⊤ (λ trace. RefusedIn trace from.line (refusal x (account_of old))) old new from to turn
       → RowGoes w (tells.Act x) (row.Begun c old m) (row.Begun c new m) from to (answer_in answers.Called turn)
   stand_acts x c m old new from to turn kept g = record {
-    arises = g.arises;
+    arises = λ trace longer at met called_so known nexts news o low risen up reached x. let r = g.arises trace longer at met called_so known nexts news o low risen up reached x in (r.0, call_rests w longer at from.line turn r.1);
     expects = g.expects;
     runs = λ any none some. g.runs tt (no_answer answers.Called turn kept none);
   }
 
-  pub stand_hears : (x : Arrival) (c m : ℕ) (old new : Standing P Q K) (from to : Posted) (turn : Turn (Result (TxnAnswer Q) Error)) → turn ≢ Stopped → StandGoes w (λ a. a ≡ awaited_as x) (is_open old.work ≡ true) old new from to turn
+  pub stand_hears : (x : Arrival) (c m : ℕ) (old new : Standing P Q K) (from to : Posted) (turn : Turn (Result (TxnAnswer Q) Error)) → turn ≢ Stopped → StandGoes w (λ a. a ≡ awaited_as x) (is_open old.work ≡ true) (λ trace. CameIn trace from x) old new from to turn
       → RowGoes w (tells.Heard x) (row.Begun c old m) (row.Begun c new m) from to (answer_in answers.Called turn)
   stand_hears x c m old new from to turn kept g = record {
-    arises = g.arises;
+    arises = λ trace longer at met called_so came nexts news o low risen up reached x. let r = g.arises trace longer at met called_so came nexts news o low risen up reached x in (r.0, call_rests w longer at from.line turn r.1);
     expects = g.expects;
     runs = λ run none some. g.runs (run some) (no_answer answers.Called turn kept none);
   }
@@ -82,25 +86,25 @@ module _ {P Q K A B D : Type 0} (w : Ways P Q K A B D) where
   -- a job is nobody's call
   pub job_goes : (told : Told) (c : ℕ) (old new : SecondaryJob Q) (from to : Posted) → Posts from to → RowGoes w told (row.Working c old) (row.Working c new) from to None
   job_goes told c old new from to posts = record {
-    arises = λ nexts news o low risen up reached x. tt;
+    arises = λ trace longer at met called_so known nexts news o low risen up reached x. (tt, tt);
     expects = record { sends = posts.sends; pushed = posts.pushed; only = λ a x. absurd x };
     runs = λ prepared none. tt;
   }
 
   module _ (p : IsLawful w.prewriting) (q : IsLawful w.committing) (k : IsLawful w.rolling) where
-    pub row_later : (r : Row P Q K) (o later : Posted) (nexts news : List ℕ) → IsLater o later → IsRisen nexts news → RowArises w o nexts r → RowArises w later news r
-    row_later row.Plain o later nexts news l risen x = tt
-    row_later (row.Client c) o later nexts news l risen x = tt
-    row_later (row.Asking c b call) o later nexts news l risen x = call_later call o later nexts news l risen x
-    row_later (row.Begun c t m) o later nexts news l risen x = stand_later w p q k t o later nexts news l risen x
-    row_later (row.Calling c y b) o later nexts news l risen x = tt
-    row_later (row.Past c) o later nexts news l risen x = tt
-    row_later (row.Working c job) o later nexts news l risen x = tt
+    pub row_later : (trace : Option Trace) (at : ℕ) (r : Row P Q K) (o later : Posted) (nexts news : List ℕ) → IsLater o later → IsRisen nexts news → RowArises w trace at o nexts r → RowArises w trace at later news r
+    row_later trace at row.Plain o later nexts news l risen x = tt
+    row_later trace at (row.Client c) o later nexts news l risen x = tt
+    row_later trace at (row.Asking c b call) o later nexts news l risen x = call_later call o later nexts news l risen x
+    row_later trace at (row.Begun c t m) o later nexts news l risen x = stand_later w p q k t o later nexts news l risen x
+    row_later trace at (row.Calling c y b) o later nexts news l risen x = tt
+    row_later trace at (row.Past c) o later nexts news l risen x = tt
+    row_later trace at (row.Working c job) o later nexts news l risen x = tt
 
     -- nothing is done
     pub row_quiet : (told : Told) (r : Row P Q K) (o : Posted) → (IsPrepared told r → RowRuns r) → ((a : Awaited) → wants w r a → hears told a → ⊥) → RowGoes w told r r o o None
     row_quiet told r o runs deaf = record {
-      arises = λ nexts news later low risen up reached x. row_later r o later nexts news (reached_same o later reached) risen x;
+      arises = λ trace longer at met called_so known nexts news later low risen up reached x. (row_longer w trace longer at later news r met.longer (row_later trace at r o later nexts news (reached_same o later reached) risen x), tt);
       expects = Expects-quiet (λ a x. (x, deaf a x));
       runs = λ prepared none. runs prepared;
     }
@@ -136,12 +140,12 @@ module _ {P Q K A B D : Type 0} (w : Ways P Q K A B D) where
       subst (λ d. RowGoes w d (row.Asking c b old) (row.Asking c b new) from to answer) (sym e) (subst (λ o. RowGoes w (tells.Heard a) (row.Asking c b old) (row.Asking c b new) from to o) (sym f) (ok_kept progress (call_hears w c b a old new from to pd pd' (turn_of (Ok progress)) t goes)))
 
   pub stand_acted : (told : Told) (x : Act) (c m : ℕ) (old new : Standing P Q K) (from to : Posted) (progress : Progress (TxnAnswer Q)) (answer : Option (Answer P Q K)) → told ≡ tells.Act x → answer ≡ answer_in answers.Called (turn_of (Ok progress))
-      → IfKept (turn_of (Ok progress)) (StandGoes w (λ a. ⊥) ⊤ old new from to (turn_of (Ok progress))) → RowGoes w told (row.Begun c old m) (row.Begun c new m) from to answer
+      → IfKept (turn_of (Ok progress)) (StandGoes w (λ a. ⊥) ⊤ (λ trace. RefusedIn trace from.line (refusal x (account_of old))) old new from to (turn_of (Ok progress))) → RowGoes w told (row.Begun c old m) (row.Begun c new m) from to answer
   stand_acted told x c m old new from to progress answer e f g =
       subst (λ d. RowGoes w d (row.Begun c old m) (row.Begun c new m) from to answer) (sym e) (subst (λ o. RowGoes w (tells.Act x) (row.Begun c old m) (row.Begun c new m) from to o) (sym f) (stand_acts w x c m old new from to (turn_of (Ok progress)) (ok_goes progress) (ok_kept progress g)))
 
   pub stand_heard : (told : Told) (x : Arrival) (c m : ℕ) (old new : Standing P Q K) (from to : Posted) (progress : Progress (TxnAnswer Q)) (answer : Option (Answer P Q K)) → told ≡ tells.Heard x → answer ≡ answer_in answers.Called (turn_of (Ok progress))
-      → IfKept (turn_of (Ok progress)) (StandGoes w (λ a. a ≡ awaited_as x) (is_open old.work ≡ true) old new from to (turn_of (Ok progress))) → RowGoes w told (row.Begun c old m) (row.Begun c new m) from to answer
+      → IfKept (turn_of (Ok progress)) (StandGoes w (λ a. a ≡ awaited_as x) (is_open old.work ≡ true) (λ trace. CameIn trace from x) old new from to (turn_of (Ok progress))) → RowGoes w told (row.Begun c old m) (row.Begun c new m) from to answer
   stand_heard told x c m old new from to progress answer e f g =
       subst (λ d. RowGoes w d (row.Begun c old m) (row.Begun c new m) from to answer) (sym e) (subst (λ o. RowGoes w (tells.Heard x) (row.Begun c old m) (row.Begun c new m) from to o) (sym f) (stand_hears w x c m old new from to (turn_of (Ok progress)) (ok_goes progress) (ok_kept progress g)))
 
@@ -158,13 +162,14 @@ none_ordered : {X : Type 0} (key : X → X → Ordering) → IsStrictlySortedBy 
 unfolding IsStrictlySortedBy
 none_ordered key = tt
 
-pub begun_arises : {P Q K A B D : Type 0} (w : Ways P Q K A B D) (b : Standing P Q K) (options : TransactionOptions) (now : ℕ) (o : Posted) (nexts : List ℕ) → b ≡ begun b.start options now → StandArises w o nexts b
-begun_arises w b options now o nexts e = subst (StandArises w o nexts) (sym e) (record {
+pub begun_arises : {P Q K A B D : Type 0} (w : Ways P Q K A B D) (b : Standing P Q K) (options : TransactionOptions) (now : ℕ) (trace : Option Trace) (at : ℕ) (o : Posted) (nexts : List ℕ) → b ≡ begun b.start options now → StandArises w trace at o nexts b
+begun_arises w b options now trace at o nexts e = subst (StandArises w trace at o nexts) (sym e) (record {
   ordered = none_ordered _;
   arisen = record {
     history = given;
     fits = begun_fits w b.start options now o given was never;
     kept = kept_took nexts _ _ _;
+    shown = shown_times trace at ticket (record { count = 1 }) reply;
   };
 })
   where

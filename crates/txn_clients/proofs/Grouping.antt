@@ -1,10 +1,9 @@
 -- The requests for timestamps that go out, and those that are over.
-use Rattle.std.proofs.Common.{◌≡◌, ◌≢◌, ◌⊎◌, inl, inr, ℕ, zero, suc, ◌+◌, ◌-◌, ◌<◌, ◌≤◌, Bool, true, false, not, List, [], ◌∷◌, ◌++◌, length, map, get_or, set, take, drop, Option, Some, None, refl, sym, ap, ◌∙◌, subst, arith}
+use Rattle.std.proofs.Common.{◌≡◌, ◌≢◌, ◌⊎◌, inl, inr, ℕ, zero, suc, ◌+◌, ◌<◌, ◌≤◌, false, List, [], ◌∷◌, ◌++◌, length, map, get_or, set, take, drop, Option, Some, None, refl, sym, ap, ◌∙◌, subst, arith}
 use Rattle.std.proofs.lemmas.List.{length-map, map-set}
 use Rattle.std.specs.List.{Any}
-use Rattle.std.specs.Prelude.{⊤, if◌then◌else◌, OnOk, Result, Ok, Err}
+use Rattle.std.specs.Prelude.{if◌then◌else◌}
 use Rattle.txn_history.specs.Among.{IsAmong}
-use Rattle.txn_history.specs.Later.{IsLater}
 use Rattle.txn_history.specs.Meaning.{IsLawful}
 use Rattle.txn_history.specs.Phase.{Awaited}
 use Rattle.txn_history.specs.Phase.Awaited.{ReplyTo, EndOf, TimeOf}
@@ -16,29 +15,31 @@ use Rattle.txn_kv.specs.declared.outbox.Errand.TheVariants.{Send, Sleep, Ask}
 use Rattle.txn_kv.specs.declared.request.Request.{Request}
 use Rattle.txn_kv.specs.declared.ticket.Target.{Target}
 use Rattle.txn_kv.specs.declared.ticket.Ticket.{Ticket}
-use Rattle.txn_side.specs.Sight.{Group, IsAsk, IsOut, IsNext, client_at, lives, next_at, stand_at, ticket_in, with_next}
+use Rattle.txn_side.specs.Sight.{IsNext, client_at, lives, next_at, stand_at, ticket_in, with_next}
 use Rattle.txn_side.specs.Waiting.{IsPosted}
 use Rattle.txn_side.specs.Waiting as side
 use Rattle.txn_side.specs.Waiting.Awaited.{EndOf as SideEnd, ReplyTo as SideReply}
 use Rattle.txn_side.specs.declared.turn.Posting.{Posting}
-use Rattle.txn_tso.specs.Oracle.{Answer, Oracle, askers_out, group_or_none, is_ready, next_request, with_next_group}
+use Rattle.txn_tso.specs.Oracle.{Answer, Oracle, group_or_none, next_request, with_next_group}
 use Rattle.txn_tso.specs.declared.asker.Asker.{Asker}
 use Rattle.txn_kv.specs.declared.request.TsoRequest.{TsoRequest}
 use Rattle.txn_clients.specs.Clients.{crashed_of, nexts_of, row_at, rows_of, sight_of, stands_of}
 use Rattle.txn_clients.specs.Matching.{IsLine}
-use Rattle.txn_clients.specs.Rows.{stand_of}
-use Rattle.txn_clients.specs.Going.{HasNext, next_after}
-use Rattle.txn_clients.specs.Waiting.{AreCalled, AsksOne, Book, HandsOn, HasAsk, HasAskOut, IsAskedIn, IsDone, IsMet, IsNumberedTo, IsOwned, IsPaired, IsQuiet, IsRisen, IsSound, IsThere, Keeps, PostsOne, Regroups, RegroupsAt, RowArises, SendsGroup, SendsOn, SetsTicket, Takes, Wants, asks_of, blank, book_at, book_of, books_of, posted_at, voice_at}
+use Rattle.txn_clients.specs.Going.{next_after}
+use Rattle.txn_clients.specs.Waiting.{AreCalled, AsksOne, Book, HandsOn, HasAsk, HasAskOut, IsAskedIn, IsDone, IsNumberedTo, IsOwned, IsPaired, IsQuiet, IsRisen, IsSound, IsThere, Keeps, PostsOne, Regroups, RegroupsAt, RowArises, SendsGroup, SendsOn, SetsTicket, Takes, Wants, asks_of, blank, book_at, book_of, posted_at, voice_at}
 use Rattle.txn_clients.specs.declared.client_state.ClientState.{ClientState}
 use Rattle.txn_clients.specs.declared.clients.Clients.{Clients}
 use Rattle.txn_clients.specs.declared.place.Place.{Place}
-use Rattle.txn_clients.specs.declared.row.Row.{Row}
-use Rattle.txn_clients.proofs.Groups.{any_ahead, any_behind}
+use Rattle.txn_clients.proofs.Groups.{any_behind}
 use Rattle.txn_clients.proofs.Settling.{books_same}
 use Rattle.txn_clients.proofs.Sounding.{le_of, next_other, next_same, wants_below}
 use Rattle.txn_clients.proofs.Stands.{or_other, or_same, same_line}
 use Rattle.txn_clients.proofs.Tables.{count, map_kept, read_in}
 use Rattle.txn_clients.proofs.Timestamps.{waiting}
+use Rattle.txn_side.specs.Trace.{IsSend, Trace}
+use Rattle.txn_clients.specs.Failing.{AreToldIn, posting_in}
+use Rattle.txn_clients.specs.Resting.{sound_longer}
+use Rattle.txn_clients.proofs.Showing.{keeps_any, keeps_none, keeps_then, posting_longer}
 use Rattle.txn_clients.proofs.Going.{row_later}
 
 -- Askers
@@ -135,10 +136,14 @@ books_kept cs i new d h e k = let long = length-map cs (λ (c : ClientState). c.
 -- What a line posts
 
 keeps_one : (from to : List Posting) (p : Posting) → to ≡ from ++ p ∷ [] → Keeps from to
-keeps_one from to p e n a h = subst (λ ps. IsPosted ps n a) (sym e) (any_ahead _ from (p ∷ []) h)
+keeps_one from to p e = (p ∷ [], e)
 
 one_posted : (from to : List Posting) (p : Posting) (line : ℕ) (a : side.Awaited) → to ≡ from ++ p ∷ [] → (ticket_in p).line ≡ line → side.awaited_as p ≡ a → IsPosted to line a
 one_posted from to p line a e own is = subst (λ ps. IsPosted ps line a) (sym e) (any_behind _ from (p ∷ []) (0, p, omega arith, refl, (own, is)))
+
+-- a request was posted with a ticket
+pub mailed_one : (from to : List Posting) (p : Posting) (u : Ticket) (x : Request) → IsSend u x p → to ≡ from ++ p ∷ [] → Any (IsSend u x) to
+mailed_one from to p u x is e = subst (Any (IsSend u x)) (sym e) (any_behind (IsSend u x) from (p ∷ []) (0, p, omega arith, refl, is))
 
 first_among : (r : Errand) (rest : List Errand) (a : Awaited) → IsErrand (r ∷ rest) a → (awaited r ≡ a) ⊎ IsErrand rest a
 first_among r rest a (x, inl e, f) = inl (ap awaited e ∙ f)
@@ -166,8 +171,9 @@ numbered_end next end h = h.numbered.0
 module _ {P Q K : Type 0} where
   pub hands_nothing : (line client : ℕ) (all : List Errand) (ps : List Posting) (s : Clients P Q K) → HandsOn line client all all ps ps s s
   hands_nothing line client all ps s = record {
-    posted = λ n a h. h;
+    posted = keeps_none ps;
     done = λ a h. inr h;
+    sent = λ n store r i. inr i;
     numbers = λ end h. h;
     nexts = λ n. le_of (next_at (nexts_of s) n) (next_at (nexts_of s) n) refl;
     asks = refl;
@@ -178,13 +184,14 @@ module _ {P Q K : Type 0} where
   }
 
   done_more : (s t : Clients P Q K) (ps qs : List Posting) (line client : ℕ) (a : Awaited) → Keeps ps qs → ((n k : ℕ) → HasAsk (book_at s client).queue n k → HasAsk (book_at t client).queue n k) → IsDone s ps line client a → IsDone t qs line client a
-  done_more s t ps qs line client (ReplyTo n) keeps queued h = keeps line (SideReply n) h
-  done_more s t ps qs line client (EndOf n) keeps queued h = keeps line (SideEnd n) h
+  done_more s t ps qs line client (ReplyTo n) keeps queued h = keeps_any _ ps qs keeps h
+  done_more s t ps qs line client (EndOf n) keeps queued h = keeps_any _ ps qs keeps h
   done_more s t ps qs line client (TimeOf k) keeps queued h = queued line k h
 
   pub hands_then : (line client : ℕ) (all mid left : List Errand) (ps qs rs : List Posting) (s m t : Clients P Q K) → HandsOn line client all mid ps qs s m → HandsOn line client mid left qs rs m t → HandsOn line client all left ps rs s t
   hands_then line client all mid left ps qs rs s m t f g = record {
-    posted = λ n a h. g.posted n a (f.posted n a h);
+    posted = keeps_then ps qs rs f.posted g.posted;
+    sent = λ n store r i. elim (f.sent n store r i) [ inl a ↦ inl (keeps_any _ qs rs g.posted a) | inr j ↦ g.sent n store r j ];
     done = λ a h. elim (f.done a h) [ inl d ↦ inl (done_more m t qs rs line client a g.posted g.queued d) | inr i ↦ g.done a i ];
     numbers = λ end h. g.numbers end (f.numbers end h);
     nexts = λ n. let x = f.nexts n in let y = g.nexts n in omega (arith, x, y);
@@ -200,11 +207,12 @@ module _ {P Q K : Type 0} where
 
   -- one is posted that is waited for so
   pub hands_posted : (line client : ℕ) (r : Errand) (a : side.Awaited) (rest : List Errand) (ps qs : List Posting) (s t : Clients P Q K) → IsLine (sight_of s).stands line
-      → ((b : Awaited) → awaited r ≡ b → IsPosted qs line a → IsDone t qs line client b)
+      → ((b : Awaited) → awaited r ≡ b → IsPosted qs line a → IsDone t qs line client b) → ((n : ℕ) (store : Target) (x : Request) → r ≡ Send n store x → Any (IsSend (record { line = line; beat = false; number = n }) x) qs)
       → PostsOne line a ps qs → nexts_of t ≡ with_next (nexts_of s) line → next_after r (next_at (nexts_of s) line) ≡ next_at (nexts_of s) line + 1 → asks_of t ≡ asks_of s → t.clients ≡ s.clients
       → HandsOn line client (r ∷ rest) rest ps qs s t
-  hands_posted line client r a rest ps qs s t is how posts nexts raised asks clients = record {
+  hands_posted line client r a rest ps qs s t is how mails posts nexts raised asks clients = record {
     posted = keeps_one ps qs posts.posting posts.pushed;
+    sent = λ n store x i. elim i [ inl e ↦ inl (mails n store x e) | inr j ↦ inr j ];
     done = λ b h. elim (first_among r rest b h) [ inl e ↦ inl (how b e (one_posted ps qs posts.posting line a posts.pushed posts.line_is posts.awaited)) | inr i ↦ inr i ];
     numbers = λ end h. numbered_more line end (nexts_of s) (nexts_of t) r rest (ap (λ ns. next_at ns line) nexts ∙ with_next_at (nexts_of s) line is.first (nexts_there s line is) ∙ sym raised) h;
     nexts = λ n. subst (λ ns. next_at (nexts_of s) n ≤ next_at ns n) (sym nexts) (with_next_risen (nexts_of s) line is.first (nexts_there s line is) n);
@@ -218,18 +226,20 @@ module _ {P Q K : Type 0} where
       same : (c : ℕ) → book_at t c ≡ book_at s c
       same = books_same s t clients
 
-  pub hands_sent : (line client n : ℕ) (whom : Target) (x : Request) (rest : List Errand) (ps qs : List Posting) (s t : Clients P Q K) → IsLine (sight_of s).stands line → PostsOne line (SideReply n) ps qs → nexts_of t ≡ with_next (nexts_of s) line → asks_of t ≡ asks_of s → t.clients ≡ s.clients
+  pub hands_sent : (line client n : ℕ) (whom : Target) (x : Request) (rest : List Errand) (ps qs : List Posting) (s t : Clients P Q K) → IsLine (sight_of s).stands line → Any (IsSend (record { line = line; beat = false; number = n }) x) qs → PostsOne line (SideReply n) ps qs → nexts_of t ≡ with_next (nexts_of s) line → asks_of t ≡ asks_of s → t.clients ≡ s.clients
       → HandsOn line client (Send n whom x ∷ rest) rest ps qs s t
-  hands_sent line client n whom x rest ps qs s t is posts nexts asks clients = hands_posted line client (Send n whom x) (SideReply n) rest ps qs s t is (λ b e h. subst (IsDone t qs line client) e h) posts nexts refl asks clients
+  hands_sent line client n whom x rest ps qs s t is mail posts nexts asks clients = hands_posted line client (Send n whom x) (SideReply n) rest ps qs s t is (λ b e h. subst (IsDone t qs line client) e h)
+      (λ m store y e. let number : n ≡ m = cc in let same : x ≡ y = cc in subst (λ k. Any (IsSend (record { line = line; beat = false; number = k }) y) qs) number (subst (λ z. Any (IsSend (record { line = line; beat = false; number = n }) z) qs) same mail)) posts nexts refl asks clients
 
   pub hands_slept : (line client n ms : ℕ) (rest : List Errand) (ps qs : List Posting) (s t : Clients P Q K) → IsLine (sight_of s).stands line → PostsOne line (SideEnd n) ps qs → nexts_of t ≡ with_next (nexts_of s) line → asks_of t ≡ asks_of s → t.clients ≡ s.clients
       → HandsOn line client (Sleep n ms ∷ rest) rest ps qs s t
-  hands_slept line client n ms rest ps qs s t is posts nexts asks clients = hands_posted line client (Sleep n ms) (SideEnd n) rest ps qs s t is (λ b e h. subst (IsDone t qs line client) e h) posts nexts refl asks clients
+  hands_slept line client n ms rest ps qs s t is posts nexts asks clients = hands_posted line client (Sleep n ms) (SideEnd n) rest ps qs s t is (λ b e h. subst (IsDone t qs line client) e h) (λ m store y e. absurd (cc)) posts nexts refl asks clients
 
   -- one is asked of the oracle
   pub hands_asked : (line client k : ℕ) (rest : List Errand) (ps : List Posting) (s t : Clients P Q K) → AsksOne client (record { line = line; beat = false; ask = k }) s t → nexts_of t ≡ nexts_of s → HandsOn line client (Ask k ∷ rest) rest ps ps s t
   hands_asked line client k rest ps s t asks nexts = record {
-    posted = λ n a h. h;
+    posted = keeps_none ps;
+    sent = λ m store y i. elim i [ inl e ↦ absurd (cc) | inr j ↦ inr j ];
     done = λ b h. elim (first_among (Ask k) rest b h) [ inl e ↦ inl (subst (IsDone t ps line client) e asked) | inr i ↦ inr i ];
     numbers = λ end h. numbered_more line end (nexts_of s) (nexts_of t) (Ask k) rest (ap (λ ns. next_at ns line) nexts) h;
     nexts = λ n. le_of (next_at (nexts_of s) n) (next_at (nexts_of t) n) (ap (λ ns. next_at ns n) (sym nexts));
@@ -258,13 +268,14 @@ quiet_so b (inr t) (inr there) = inr t
 
 module _ {P Q K A B D : Type 0} (w : Ways P Q K A B D) (p : IsLawful w.prewriting) (q : IsLawful w.committing) (k : IsLawful w.rolling) where
   -- What holds where rows are the same, and numbers have risen.
-  grown_sound : (s t : Clients P Q K) (rest left : List Asker) → rows_of t ≡ rows_of s → crashed_of t ≡ crashed_of s → IsRisen (nexts_of s) (nexts_of t) → asks_of t ≡ asks_of s
+  grown_sound : (trace : Option Trace) (s t : Clients P Q K) (rest left : List Asker) → rows_of t ≡ rows_of s → crashed_of t ≡ crashed_of s → IsRisen (nexts_of s) (nexts_of t) → asks_of t ≡ asks_of s
       → ((c n i : ℕ) → IsAskedIn (book_at s c) n i ⊎ HasAsk rest n i → IsAskedIn (book_at t c) n i ⊎ HasAsk left n i) → ((c : ℕ) → IsPaired (book_at t c)) → ((c : ℕ) (u : Ticket) → (book_at t c).ticket ≡ Some u → IsOwned (stands_of (rows_of s)) c u)
       → ((c : ℕ) (u : Ticket) → (book_at t c).ticket ≡ Some u → ((book_at s c).ticket ≡ Some u) ⊎ ((u.number < next_at (nexts_of t) u.line) × (Wants w (rows_of s) u.line (ReplyTo u.number) → ⊥)))
-      → IsSound w rest s → IsSound w left t
-  grown_sound s t rest left rows crashed risen asks asked paired owned named sound = record {
-    arisen = λ i. subst (λ rs. RowArises w (posted_at (nexts_of t) (asks_of t) (voice_at rs i)) (nexts_of t) (row_at rs i)) (sym rows)
-        (row_later w p q k (row_at (rows_of s) i) _ _ (nexts_of s) (nexts_of t) (record { line = refl; beat = refl; next = risen (voice_at (rows_of s) i); next_ask = le_of _ _ (ap (λ ns. next_at ns (voice_at (rows_of s) i)) (sym asks)) }) risen (sound.arisen i));
+      → IsSound w trace rest s → IsSound w trace left t
+  grown_sound trace s t rest left rows crashed risen asks asked paired owned named sound = record {
+    told = subst (AreToldIn trace) (sym stands) sound.told;
+    arisen = λ i. subst (λ rs. RowArises w trace (suc i) (posted_at (nexts_of t) (asks_of t) (voice_at rs i)) (nexts_of t) (row_at rs i)) (sym rows)
+        (row_later w p q k trace (suc i) (row_at (rows_of s) i) _ _ (nexts_of s) (nexts_of t) (record { line = refl; beat = refl; next = risen (voice_at (rows_of s) i); next_ask = le_of _ _ (ap (λ ns. next_at ns (voice_at (rows_of s) i)) (sym asks)) }) risen (sound.arisen i));
     called = subst AreCalled (sym stands) sound.called;
     known = λ n c e. subst (λ cs. c < length cs) (sym crashed) (sound.known n c (ap (λ ss. client_at (stand_at ss n)) (sym stands) ∙ e));
     asked = λ n c i e l x. asked c n i (sound.asked n c i (ap (λ ss. client_at (stand_at ss n)) (sym stands) ∙ e) (ap (λ cs. lives cs (Some c)) (sym crashed) ∙ l) (subst (λ rs. Wants w rs n (TimeOf i)) rows x));
@@ -278,12 +289,12 @@ module _ {P Q K A B D : Type 0} (w : Ways P Q K A B D) (p : IsLawful w.prewritin
       stands = ap stands_of rows
 
   -- no group goes out
-  pub none_goes : {X : Type 0} (s t : Clients P Q K) (client : ℕ) (rest : List Asker) (ps : List Posting) (group : Option X) → RegroupsAt client group s t → group ≡ None → rows_of t ≡ rows_of s → nexts_of t ≡ nexts_of s → crashed_of t ≡ crashed_of s
-      → IsSound w rest s → SendsOn w client rest ps ps s t
-  none_goes s t client rest ps group g none rows nexts crashed sound = record {
-    sound = grown_sound s t rest rest rows crashed (λ n. le_of _ _ (ap (λ ns. next_at ns n) (sym nexts))) g.asks (λ c n i h. subst (λ b. IsAskedIn b n i ⊎ HasAsk rest n i) (sym (same c)) h) (λ c. subst IsPaired (sym (same c)) (sound.paired c))
+  pub none_goes : {X : Type 0} (trace : Option Trace) (s t : Clients P Q K) (client : ℕ) (rest : List Asker) (ps : List Posting) (group : Option X) → RegroupsAt client group s t → group ≡ None → rows_of t ≡ rows_of s → nexts_of t ≡ nexts_of s → crashed_of t ≡ crashed_of s
+      → IsSound w (posting_in ps trace) rest s → SendsOn w trace client rest ps ps s t
+  none_goes trace s t client rest ps group g none rows nexts crashed sound = record {
+    sound = grown_sound (posting_in ps trace) s t rest rest rows crashed (λ n. le_of _ _ (ap (λ ns. next_at ns n) (sym nexts))) g.asks (λ c n i h. subst (λ b. IsAskedIn b n i ⊎ HasAsk rest n i) (sym (same c)) h) (λ c. subst IsPaired (sym (same c)) (sound.paired c))
         (λ c u e. sound.owned c u (ap (λ (b : Book). b.ticket) (sym (same c)) ∙ e)) (λ c u e. inl (ap (λ (b : Book). b.ticket) (sym (same c)) ∙ e)) sound;
-    posted = λ n a h. h;
+    posted = keeps_none ps;
     quiet = quiet_so (book_at t client) (subst IsPaired (sym (same client)) (sound.paired client)) kept.1;
     books = g.books;
   }
@@ -295,11 +306,11 @@ module _ {P Q K A B D : Type 0} (w : Ways P Q K A B D) (p : IsLawful w.prewritin
       same c = elim (same_line client c) [ inl e ↦ ap (book_at t) e ∙ kept.0 ∙ ap (book_at s) (sym e) | inr apart ↦ g.books c apart ]
 
   -- or one does
-  pub group_goes : {X : Type 0} (s m t : Clients P Q K) (client : ℕ) (rest : List Asker) (ps qs : List Posting) (group : Option X) → RegroupsAt client group s m → rows_of m ≡ rows_of s → nexts_of m ≡ nexts_of s → crashed_of m ≡ crashed_of s
+  pub group_goes : {X : Type 0} (trace : Option Trace) (s m t : Clients P Q K) (client : ℕ) (rest : List Asker) (ps qs : List Posting) (group : Option X) → RegroupsAt client group s m → rows_of m ≡ rows_of s → nexts_of m ≡ nexts_of s → crashed_of m ≡ crashed_of s
       → SendsGroup client ps qs m t → rows_of t ≡ rows_of m → crashed_of t ≡ crashed_of m
-      → IsSound w rest s → SendsOn w client rest ps qs s t
-  group_goes s m t client rest ps qs group g rows nexts crashed sent rows_too crashed_too sound = record {
-    sound = grown_sound s t rest rest (rows_too ∙ rows) (crashed_too ∙ crashed) (λ n. subst (λ ns. next_at ns n ≤ next_at (nexts_of t) n) nexts (sent.nexts n)) (sent.asks ∙ g.asks) asked paired owned named sound;
+      → IsSound w (posting_in ps trace) rest s → SendsOn w trace client rest ps qs s t
+  group_goes trace s m t client rest ps qs group g rows nexts crashed sent rows_too crashed_too sound = record {
+    sound = sound_longer w (posting_in ps trace) (posting_in qs trace) rest t (posting_longer trace ps qs sent.posted) (grown_sound (posting_in ps trace) s t rest rest (rows_too ∙ rows) (crashed_too ∙ crashed) (λ n. subst (λ ns. next_at ns n ≤ next_at (nexts_of t) n) nexts (sent.nexts n)) (sent.asks ∙ g.asks) asked paired owned named sound);
     posted = sent.posted;
     quiet = inr (sent.ticket, ap (λ (b : Book). b.ticket) sent.book);
     books = λ c apart. sent.books c apart ∙ g.books c apart;
@@ -337,16 +348,16 @@ module _ {P Q K A B D : Type 0} (w : Ways P Q K A B D) (p : IsLawful w.prewritin
           one h = cc
 
           fresh : Wants w (rows_of s) sent.ticket.line (ReplyTo sent.ticket.number) → ⊥
-          fresh x = let l = wants_below w p q k s rest sent.ticket.line sent.ticket.number sound x in let own = sent.number in let f : next_at (nexts_of m) sent.ticket.line ≡ next_at (nexts_of s) sent.ticket.line = ap (λ ns. next_at ns sent.ticket.line) nexts in omega (arith, l, own, f)
+          fresh x = let l = wants_below w p q k (posting_in ps trace) s rest sent.ticket.line sent.ticket.number sound x in let own = sent.number in let f : next_at (nexts_of m) sent.ticket.line ≡ next_at (nexts_of s) sent.ticket.line = ap (λ ns. next_at ns sent.ticket.line) nexts in omega (arith, l, own, f)
 
           by : (c ≡ client) ⊎ (c ≢ client) → ((book_at s c).ticket ≡ Some u) ⊎ ((u.number < next_at (nexts_of t) u.line) × (Wants w (rows_of s) u.line (ReplyTo u.number) → ⊥))
           by (inl f) = inr (subst (λ v. (v.number < next_at (nexts_of t) v.line) × (Wants w (rows_of s) v.line (ReplyTo v.number) → ⊥)) (one (sym (ap (λ (b : Book). b.ticket) sent.book) ∙ ap (λ j. (book_at t j).ticket) (sym f) ∙ e)) (sent.past, fresh))
           by (inr apart) = inl (ap (λ (b : Book). b.ticket) (sym (sent.books c apart ∙ g.books c apart)) ∙ e)
 
   -- a request is over
-  pub take_sound : (s t : Clients P Q K) (client : ℕ) (given : List Answer) → Takes client given s t → rows_of t ≡ rows_of s → nexts_of t ≡ nexts_of s → crashed_of t ≡ crashed_of s → IsSound w [] s → IsSound w (map (λ (a : Answer). a.0) given) t
-  take_sound s t client given takes rows nexts crashed sound =
-      grown_sound s t [] (map (λ (a : Answer). a.0) given) rows crashed (λ n. le_of _ _ (ap (λ ns. next_at ns n) (sym nexts))) takes.asks asked paired owned named sound
+  pub take_sound : (trace : Option Trace) (s t : Clients P Q K) (client : ℕ) (given : List Answer) → Takes client given s t → rows_of t ≡ rows_of s → nexts_of t ≡ nexts_of s → crashed_of t ≡ crashed_of s → IsSound w trace [] s → IsSound w trace (map (λ (a : Answer). a.0) given) t
+  take_sound trace s t client given takes rows nexts crashed sound =
+      grown_sound trace s t [] (map (λ (a : Answer). a.0) given) rows crashed (λ n. le_of _ _ (ap (λ ns. next_at ns n) (sym nexts))) takes.asks asked paired owned named sound
     where
       out_of : (o : Option (List Asker)) (n i : ℕ) → HasAskOut o n i → HasAsk (group_or_none o) n i
       out_of None n i h = absurd h

@@ -1,16 +1,15 @@
 -- Who hears, and that nobody does.
-use Rattle.std.proofs.Common.{◌≡◌, ◌≢◌, ◌⊎◌, inl, inr, ℕ, ◌+◌, ◌-◌, ◌<◌, ◌≤◌, Bool, true, false, nat_eq, List, [], ◌∷◌, ◌++◌, length, map, get_or, set, Option, Some, None, refl, sym, ap, ◌∙◌, subst, arith}
+use Rattle.std.proofs.Common.{◌≡◌, ◌⊎◌, inl, inr, ℕ, ◌-◌, ◌<◌, ◌≤◌, Bool, true, false, nat_eq, List, [], ◌∷◌, ◌++◌, length, get_or, set, Some, None, refl, sym, ap, ◌∙◌, subst, arith}
 use Rattle.std.proofs.lemmas.Bool.Decides.{nat_tests}
 use Rattle.std.proofs.lemmas.List.{length-map}
 use Rattle.std.specs.List.{Any}
-use Rattle.std.specs.Prelude.{⊤}
 use Rattle.txn_core.specs.Transaction.{Standing}
 use Rattle.txn_client.specs.declared.client_call.ClientCall.{ClientCall}
 use Rattle.txn_commit.specs.declared.secondary_job.SecondaryJob.{SecondaryJob}
-use Rattle.txn_side.specs.Sight.{Group, GroupsGo, IsAsk, IsOut, Stand, stand_at}
-use Rattle.txn_side.specs.Sight.Stand.{Asking, Calling, HasBegun, Idle, IsClient, Past, Working}
+use Rattle.txn_side.specs.Sight.{Group, GroupsGo, IsAsk, Stand, stand_at}
+use Rattle.txn_side.specs.Sight.Stand.{HasBegun}
 use Rattle.txn_side.specs.declared.turn.Posting.{Posting}
-use Rattle.txn_clients.specs.Clients.{crashed_of, groups_of, row_at, rows_of, sight_of, stands_of}
+use Rattle.txn_clients.specs.Clients.{crashed_of, groups_of, row_at, sight_of, stands_of}
 use Rattle.txn_clients.specs.Groups.{group_of}
 use Rattle.txn_clients.specs.Matching.{IsLine}
 use Rattle.txn_clients.specs.Rows.{Pd, stand_of}

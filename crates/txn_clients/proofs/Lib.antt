@@ -25,6 +25,9 @@ pub mod Grouping
 pub mod Numbers
 pub mod Pushing
 pub mod Stepping
+pub mod Giving
+pub mod Coming
 pub mod Beginning
 pub mod Sides
+pub mod Showing
 pub mod Hearing

@@ -1,8 +1,7 @@
 -- The numbers of the next asks of lines, and what a line has posted so far.
-use Rattle.std.proofs.Common.{◌≡◌, ℕ, zero, suc, ◌-◌, ◌<◌, ◌≤◌, false, List, [], ◌∷◌, ◌++◌, length, map, get_or, set, refl, sym, ap, ◌∙◌, arith}
-use Rattle.std.proofs.lemmas.List.{length-map, map-append, map-set}
+use Rattle.std.proofs.Common.{◌≡◌, ℕ, zero, suc, ◌-◌, ◌<◌, ◌≤◌, false, List, [], length, map, get_or, set, refl, sym, ap, ◌∙◌, arith}
+use Rattle.std.proofs.lemmas.List.{length-map, map-set}
 use Rattle.std.specs.Prelude.{OnOk, Result, Ok, Err}
-use Rattle.txn_history.specs.Posted.{Posted}
 use Rattle.txn_side.specs.Sight.{next_at}
 use Rattle.txn_clients.specs.Clients.{IsLine, nexts_of, rows_of, sight_of}
 use Rattle.txn_clients.specs.Waiting.{asks_of, posted_at}
@@ -19,6 +18,10 @@ ok_three (Err e) f a b c = tt
 pub ok_four : {T E A B C D F : Type 0} (r : Result T E) → (A → B → C → D → F) → OnOk r A → OnOk r B → OnOk r C → OnOk r D → OnOk r F
 ok_four (Ok x) f a b c d = f a b c d
 ok_four (Err e) f a b c d = tt
+
+pub ok_five : {T E A B C D F G : Type 0} (r : Result T E) → (A → B → C → D → F → G) → OnOk r A → OnOk r B → OnOk r C → OnOk r D → OnOk r F → OnOk r G
+ok_five (Ok x) f a b c d e = f a b c d e
+ok_five (Err x) f a b c d e = tt
 
 next_ask_at : (asks : List ℕ) (line : ℕ) → 1 ≤ line → next_at asks line ≡ get_or asks (line - 1) 0
 next_ask_at asks zero one = absurd (omega (arith, one))

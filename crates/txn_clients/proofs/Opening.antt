@@ -1,7 +1,6 @@
 -- What holds of clients as lines and clients come, calls begin, and clients crash.
-use Rattle.std.proofs.Common.{◌≡◌, ◌≢◌, ◌⊎◌, inl, inr, ℕ, zero, suc, ◌+◌, ◌-◌, ◌<◌, ◌≤◌, Bool, true, false, not, List, [], ◌∷◌, ◌++◌, length, map, get_or, set, Option, Some, None, refl, sym, ap, ◌∙◌, subst, arith, length-set, length-append}
-use Rattle.std.proofs.lemmas.List.{length-map, map-append}
-use Rattle.std.specs.Prelude.{⊤}
+use Rattle.std.proofs.Common.{◌≡◌, ◌≢◌, ◌⊎◌, inl, inr, ℕ, zero, suc, ◌-◌, ◌<◌, ◌≤◌, Bool, true, false, List, [], ◌∷◌, ◌++◌, length, map, get_or, set, Option, Some, None, refl, sym, ap, ◌∙◌, subst, arith, length-set}
+use Rattle.std.proofs.lemmas.List.{map-append}
 use Rattle.txn_history.specs.Meaning.{IsLawful, IsUnbegun}
 use Rattle.txn_history.specs.Phase.{Awaited}
 use Rattle.txn_history.specs.Phase.Awaited.{TimeOf}
@@ -11,19 +10,22 @@ use Rattle.txn_client.specs.Calls.{called, stage_waits}
 use Rattle.txn_client.specs.declared.client_call.ClientCall.{ClientCall}
 use Rattle.txn_client.specs.declared.client_call.Stage.TheVariants as stages
 use Rattle.txn_side.specs.Sight.{Stand, client_at, lives, next_at, stand_at}
-use Rattle.txn_side.specs.Sight.Stand.{Asking, Calling, HasBegun, Idle, IsClient}
+use Rattle.txn_side.specs.Sight.Stand.{Asking, Calling, HasBegun, Idle}
 use Rattle.txn_tso.specs.declared.asker.Asker.{Asker}
 use Rattle.txn_clients.specs.Clients.{AreReady, crashed_of, nexts_of, row_at, rows_of, stands_of}
 use Rattle.txn_clients.specs.Matching.{AreMatched, IsLine}
-use Rattle.txn_clients.specs.Rows.{Pd, Rests, RowReady, stand_of, with_waits}
-use Rattle.txn_clients.specs.Waiting.{AreCalled, AreRunning, AreRunningBut, HasArisen, IsRisen, IsSound, NoneHears, RowArises, RowRuns, Wants, asks_of, book_at, posted_at, voice, voice_at, wants}
+use Rattle.txn_clients.specs.Rows.{Pd, Rests, stand_of, with_waits}
+use Rattle.txn_clients.specs.Waiting.{AreCalled, IsRisen, IsSound, NoneHears, RowArises, Wants, asks_of, book_at, posted_at, voice, voice_at, wants}
 use Rattle.txn_clients.specs.declared.clients.Clients.{Clients}
 use Rattle.txn_clients.specs.declared.place.Place.{Place}
 use Rattle.txn_clients.specs.declared.row.Row.{Row}
 use Rattle.txn_clients.specs.declared.row.Row.TheVariants as row
 use Rattle.txn_clients.proofs.Kept.{kept_nothing}
 use Rattle.txn_clients.proofs.Listening.{within}
-use Rattle.txn_clients.proofs.Settling.{books_same, called_set, clients_set, crashed_same, one_set, rests_arises, rests_silent, rests_when_free, row_within, two_arisen, two_fewer}
+use Rattle.txn_side.specs.Trace.{Trace}
+use Rattle.txn_clients.specs.Failing.{AreToldIn, CalledIn}
+use Rattle.txn_clients.proofs.Showing.{shown_nothing}
+use Rattle.txn_clients.proofs.Settling.{begun_asks, begun_calls, told_set, books_same, called_set, clients_set, crashed_same, one_set, rests_arises, rests_silent, rests_when_free, row_within, two_arisen, two_fewer}
 use Rattle.txn_clients.proofs.Sounding.{le_of, sound_from, wants_fewer}
 use Rattle.txn_clients.proofs.Stands.{line_of, or_ended, same_line, stand_opened, stand_other, stand_same, waited}
 use Rattle.txn_clients.proofs.Tables.{called_stands, stand_of_line, stand_read, stands_set}
@@ -67,13 +69,13 @@ module _ {P Q K : Type 0} where
     pub idle_fewer : (s t : Clients P Q K) (line : ℕ) (r : Row P Q K) → IsLine (stands_of (rows_of s)) line → ((a : Awaited) → wants w r a → ⊥) → rows_of t ≡ set (rows_of s) (line - 1) r → (n : ℕ) (a : Awaited) → Wants w (rows_of t) n a → Wants w (rows_of s) n a
     idle_fewer s t line r is silent rows n a x = wants_fewer w (rows_of s) (line - 1) r (row_within (rows_of s) line is) silent n a (subst (λ rs. Wants w rs n a) rows x)
 
-    pub idle_sound : (s t : Clients P Q K) (line c : ℕ) (r : Row P Q K) (rest : List Asker) → IsLine (stands_of (rows_of s)) line → stand_at (stands_of (rows_of s)) line ≡ Idle → AreMatched (stands_of (rows_of s))
-        → ((a : Awaited) → wants w r a → ⊥) → ((o : Posted) (nexts : List ℕ) → RowArises w o nexts r) → client_at (stand_of r) ≡ Some c → c < length (crashed_of t) → ((d x : ℕ) (a : Bool) → stand_of r ≡ Calling d x a → ⊥)
+    pub idle_sound : (trace : Option Trace) (s t : Clients P Q K) (line c : ℕ) (r : Row P Q K) (rest : List Asker) → IsLine (stands_of (rows_of s)) line → stand_at (stands_of (rows_of s)) line ≡ Idle → AreMatched (stands_of (rows_of s))
+        → ((a : Awaited) → wants w r a → ⊥) → ((at : ℕ) (o : Posted) (nexts : List ℕ) → RowArises w trace at o nexts r) → client_at (stand_of r) ≡ Some c → c < length (crashed_of t) → ((d x : ℕ) (a : Bool) → stand_of r ≡ Calling d x a → ⊥) → ((d : ℕ) (a : Bool) → stand_of r ≡ Asking d a → CalledIn trace line line)
         → rows_of t ≡ set (rows_of s) (line - 1) r → nexts_of t ≡ nexts_of s → asks_of t ≡ asks_of s
         → length (crashed_of s) ≤ length (crashed_of t) → ((d : ℕ) → d < length (crashed_of s) → lives (crashed_of t) (Some d) ≡ true → lives (crashed_of s) (Some d) ≡ true) → ((d : ℕ) → book_at t d ≡ book_at s d)
-        → IsSound w rest s → IsSound w rest t
-    idle_sound s t line c r rest is idle matched silent here own there free rows nexts asks more live books sound =
-        sound_from w s t rest (one_set w p q k s t line r is rows nexts asks here sound.arisen)
+        → IsSound w trace rest s → IsSound w trace rest t
+    idle_sound trace s t line c r rest is idle matched silent here own there free told rows nexts asks more live books sound =
+        sound_from w trace s t rest (subst (AreToldIn trace) (sym stands) (told_set trace ss line (stand_of r) is told (λ d x a e. absurd (free d x a e)) sound.told)) (one_set w p q k trace s t line r is rows nexts asks here sound.arisen)
         (subst AreCalled (sym stands) (called_set ss line (stand_of r) is free (λ d m e. never d m (sym idle ∙ e)) sound.called)) known wanted kept books (λ n. le_of (next_at (nexts_of s) n) (next_at (nexts_of t) n) (ap (λ ns. next_at ns n) (sym nexts))) (idle_fewer s t line r is silent rows) sound
       where
         ss : List Stand
@@ -122,15 +124,15 @@ module _ {P Q K : Type 0} where
     pub fresh_silent : (c : ℕ) (b : Bool) (call : ClientCall Pd P Q K) → call.stage ≡ stages.Fresh → (a : Awaited) → wants w (row.Asking c b call) a → ⊥
     fresh_silent c b call e a x = subst (λ g. stage_waits g a) e x
 
-    pub fresh_arises : (c : ℕ) (b : Bool) (call : ClientCall Pd P Q K) → IsUnbegun called call → (o : Posted) (nexts : List ℕ) → RowArises w o nexts (row.Asking c b call)
-    fresh_arises c b call u o nexts = record { history = []; fits = u.fits o []; kept = kept_nothing nexts }
+    pub fresh_arises : (c : ℕ) (b : Bool) (call : ClientCall Pd P Q K) → IsUnbegun called call → (trace : Option Trace) (at : ℕ) (o : Posted) (nexts : List ℕ) → RowArises w trace at o nexts (row.Asking c b call)
+    fresh_arises c b call u trace at o nexts = record { history = []; fits = u.fits o []; kept = kept_nothing nexts; shown = shown_nothing trace at }
 
-    pub asking_sound : (s t : Clients P Q K) (line c : ℕ) (b : Bool) (call : ClientCall Pd P Q K) (rest : List Asker) → IsLine (stands_of (rows_of s)) line → stand_at (stands_of (rows_of s)) line ≡ Idle → AreMatched (stands_of (rows_of s))
+    pub asking_sound : (trace : Option Trace) (s t : Clients P Q K) (line c : ℕ) (b : Bool) (call : ClientCall Pd P Q K) (rest : List Asker) → IsLine (stands_of (rows_of s)) line → stand_at (stands_of (rows_of s)) line ≡ Idle → AreMatched (stands_of (rows_of s))
         → get_or (crashed_of s) c true ≡ false → call.stage ≡ stages.Fresh → IsUnbegun called call
-        → rows_of t ≡ set (rows_of s) (line - 1) (row.Asking c b call) → nexts_of t ≡ nexts_of s → asks_of t ≡ asks_of s → t.clients ≡ s.clients → IsSound w rest s → IsSound w rest t
-    asking_sound s t line c b call rest is idle matched there fresh unbegun rows nexts asks clients sound =
+        → rows_of t ≡ set (rows_of s) (line - 1) (row.Asking c b call) → nexts_of t ≡ nexts_of s → asks_of t ≡ asks_of s → t.clients ≡ s.clients → CalledIn trace line line → IsSound w trace rest s → IsSound w trace rest t
+    asking_sound trace s t line c b call rest is idle matched there fresh unbegun rows nexts asks clients is_called sound =
         let same = crashed_same s t clients in
-        idle_sound s t line c (row.Asking c b call) rest is idle matched (fresh_silent c b call fresh) (fresh_arises c b call unbegun) refl (subst (λ cs. c < length cs) (sym same) (within (crashed_of s) c there)) (λ d x a e. cc)
+        idle_sound trace s t line c (row.Asking c b call) rest is idle matched (fresh_silent c b call fresh) (fresh_arises c b call unbegun trace) refl (subst (λ cs. c < length cs) (sym same) (within (crashed_of s) c there)) (λ d x a e. cc) (λ d a e. is_called)
         rows nexts asks (le_of (length (crashed_of s)) (length (crashed_of t)) (sym (ap length same))) (λ d h l. ap (λ cs. lives cs (Some d)) (sym same) ∙ l) (books_same s t clients) sound
 
     -- A call of a transaction begins.
@@ -150,11 +152,11 @@ module _ {P Q K : Type 0} where
         begun : stand_of (row_at (rows_of s) (x - 1)) ≡ HasBegun c 0
         begun = sym (stand_of_line (rows_of s) x at.first) ∙ free
 
-    pub calling_sound : (s t : Clients P Q K) (line x c : ℕ) (b : Bool) (rest : List Asker) → IsLine (stands_of (rows_of s)) line → stand_at (stands_of (rows_of s)) line ≡ Idle → stand_at (stands_of (rows_of s)) x ≡ HasBegun c 0 → AreReady w (rows_of s)
-        → rows_of t ≡ set (set (rows_of s) (x - 1) (with_waits line (row_at (rows_of s) (x - 1)))) (line - 1) (row.Calling c x b) → nexts_of t ≡ nexts_of s → asks_of t ≡ asks_of s → t.clients ≡ s.clients → IsSound w rest s → IsSound w rest t
-    calling_sound s t line x c b rest is idle free ready rows nexts asks clients sound =
-        sound_from w s t rest
-        (two_arisen w p q k s t line x (row.Calling c x b) (with_waits line mine) is at rows nexts asks (λ o. tt) (λ o. rests_arises w p q k line c 0 mine begun rests _ o (nexts_of s) (sound.arisen (x - 1))) sound.arisen)
+    pub calling_sound : (trace : Option Trace) (s t : Clients P Q K) (line x c : ℕ) (b : Bool) (rest : List Asker) → IsLine (stands_of (rows_of s)) line → stand_at (stands_of (rows_of s)) line ≡ Idle → stand_at (stands_of (rows_of s)) x ≡ HasBegun c 0 → AreReady w (rows_of s)
+        → rows_of t ≡ set (set (rows_of s) (x - 1) (with_waits line (row_at (rows_of s) (x - 1)))) (line - 1) (row.Calling c x b) → nexts_of t ≡ nexts_of s → asks_of t ≡ asks_of s → t.clients ≡ s.clients → CalledIn trace line x → IsSound w trace rest s → IsSound w trace rest t
+    calling_sound trace s t line x c b rest is idle free ready rows nexts asks clients is_called sound =
+        sound_from w trace s t rest told
+        (two_arisen w p q k trace s t line x (row.Calling c x b) (with_waits line mine) is at rows nexts asks (λ o. tt) (λ o. rests_arises w p q k trace (suc (x - 1)) line c 0 mine begun rests _ o (nexts_of s) (sound.arisen (x - 1))) sound.arisen)
         (subst AreCalled (sym stands) all_called) known wanted kept (books_same s t clients) (λ n. le_of (next_at (nexts_of s) n) (next_at (nexts_of t) n) (ap (λ ns. next_at ns n) (sym nexts))) (calling_fewer s t line x c b is free ready rows) sound
       where
         ss : List Stand
@@ -195,6 +197,13 @@ module _ {P Q K : Type 0} where
           where
             two : Idle ≡ HasBegun c 0 → ⊥
             two g = cc
+
+        told : AreToldIn trace (stands_of (rows_of t))
+        told = subst (AreToldIn trace) (sym stands) (told_set trace mid line (Calling c x b) is_mid (λ e a f. absurd (cc)) (λ e y a f. subst (CalledIn trace line) (call_of e y a f) is_called)
+            (told_set trace ss x (HasBegun c line) at (λ e a f. absurd (begun_asks c line e a f)) (λ e y a f. absurd (begun_calls c line e y a f)) sound.told))
+          where
+            call_of : (e y : ℕ) (a : Bool) → Calling c x b ≡ Calling e y a → x ≡ y
+            call_of e y a f = cc
 
         begun_both : stand_at both x ≡ HasBegun c line
         begun_both = stand_other mid line x (Calling c x b) is.first far ∙ stand_same ss x (HasBegun c line) at
@@ -277,9 +286,9 @@ module _ {P Q K : Type 0} where
     pub opened_fewer : (s t : Clients P Q K) → rows_of t ≡ rows_of s ++ row.Plain ∷ [] → (n : ℕ) (a : Awaited) → Wants w (rows_of t) n a → Wants w (rows_of s) n a
     opened_fewer s t rows n a (i, v, x) = (i, ap (λ (y : Row P Q K). voice i (stand_of y)) (sym (opened_row s t rows i)) ∙ v, subst (λ (y : Row P Q K). wants w y a) (opened_row s t rows i) x)
 
-    pub opened_sound : (s t : Clients P Q K) (rest : List Asker) → rows_of t ≡ rows_of s ++ row.Plain ∷ [] → nexts_of t ≡ nexts_of s ++ 1 ∷ [] → asks_of t ≡ asks_of s ++ 1 ∷ [] → t.clients ≡ s.clients → IsSound w rest s → IsSound w rest t
-    opened_sound s t rest rows nexts asks clients sound =
-        sound_from w s t rest arisen called
+    pub opened_sound : (trace : Option Trace) (s t : Clients P Q K) (rest : List Asker) → rows_of t ≡ rows_of s ++ row.Plain ∷ [] → nexts_of t ≡ nexts_of s ++ 1 ∷ [] → asks_of t ≡ asks_of s ++ 1 ∷ [] → t.clients ≡ s.clients → IsSound w trace rest s → IsSound w trace rest t
+    opened_sound trace s t rest rows nexts asks clients sound =
+        sound_from w trace s t rest (record { asks = λ n c b e. sound.told.asks n c b (sym (stand n) ∙ e); calls = λ n c x b e. sound.told.calls n c x b (sym (stand n) ∙ e) }) arisen called
         (λ n d e. subst (λ cs. d < length cs) (sym crashed) (sound.known n d (ap client_at (sym (stand n)) ∙ e)))
         (λ n d i e l x. (ap client_at (sym (stand n)) ∙ e, ap (λ cs. lives cs (Some d)) (sym crashed) ∙ l, opened_fewer s t rows n (TimeOf i) x))
         (λ n d e. ap client_at (stand n) ∙ e) (books_same s t clients) risen (opened_fewer s t rows) sound
@@ -299,15 +308,15 @@ module _ {P Q K : Type 0} where
         asked : IsRisen (asks_of s) (asks_of t)
         asked n = subst (λ ns. next_at (asks_of s) n ≤ next_at ns n) (sym asks) (next_opened (asks_of s) n)
 
-        arisen : (i : ℕ) → RowArises w (posted_at (nexts_of t) (asks_of t) (voice_at (rows_of t) i)) (nexts_of t) (row_at (rows_of t) i)
-        arisen i = subst (λ (y : Row P Q K). RowArises w (posted_at (nexts_of t) (asks_of t) (voice i (stand_of y))) (nexts_of t) y) (sym (opened_row s t rows i))
-            (row_later w p q k (row_at (rows_of s) i) _ _ (nexts_of s) (nexts_of t) (record { line = refl; beat = refl; next = risen (voice_at (rows_of s) i); next_ask = asked (voice_at (rows_of s) i) }) risen (sound.arisen i))
+        arisen : (i : ℕ) → RowArises w trace (suc i) (posted_at (nexts_of t) (asks_of t) (voice_at (rows_of t) i)) (nexts_of t) (row_at (rows_of t) i)
+        arisen i = subst (λ (y : Row P Q K). RowArises w trace (suc i) (posted_at (nexts_of t) (asks_of t) (voice i (stand_of y))) (nexts_of t) y) (sym (opened_row s t rows i))
+            (row_later w p q k trace (suc i) (row_at (rows_of s) i) _ _ (nexts_of s) (nexts_of t) (record { line = refl; beat = refl; next = risen (voice_at (rows_of s) i); next_ask = asked (voice_at (rows_of s) i) }) risen (sound.arisen i))
 
     -- A client is gone.
 
-    pub crashed_sound : (s t : Clients P Q K) (client : ℕ) (rest : List Asker) → t.places ≡ s.places → crashed_of t ≡ set (crashed_of s) client true → ((c : ℕ) → book_at t c ≡ book_at s c) → IsSound w rest s → IsSound w rest t
-    crashed_sound s t client rest places crashed books sound = sound_from w s t rest
-        (λ i. subst (λ v. RowArises w (posted_at (map (λ (x : Place P Q K). x.next) v.items) (map (λ (x : Place P Q K). x.next_ask) v.items) (voice_at (map (λ (x : Place P Q K). x.row) v.items) i)) (map (λ (x : Place P Q K). x.next) v.items) (row_at (map (λ (x : Place P Q K). x.row) v.items) i)) (sym places) (sound.arisen i))
+    pub crashed_sound : (trace : Option Trace) (s t : Clients P Q K) (client : ℕ) (rest : List Asker) → t.places ≡ s.places → crashed_of t ≡ set (crashed_of s) client true → ((c : ℕ) → book_at t c ≡ book_at s c) → IsSound w trace rest s → IsSound w trace rest t
+    crashed_sound trace s t client rest places crashed books sound = sound_from w trace s t rest (subst (AreToldIn trace) (sym stands) sound.told)
+        (λ i. subst (λ v. RowArises w trace (suc i) (posted_at (map (λ (x : Place P Q K). x.next) v.items) (map (λ (x : Place P Q K). x.next_ask) v.items) (voice_at (map (λ (x : Place P Q K). x.row) v.items) i)) (map (λ (x : Place P Q K). x.next) v.items) (row_at (map (λ (x : Place P Q K). x.row) v.items) i)) (sym places) (sound.arisen i))
         (subst AreCalled (sym stands) sound.called)
         (λ n d e. let l = sound.known n d (ap (λ ss. client_at (stand_at ss n)) (sym stands) ∙ e) in let long = ap length crashed ∙ length-set (crashed_of s) client true in omega (arith, l, long))
         (λ n d i e l x. (ap (λ ss. client_at (stand_at ss n)) (sym stands) ∙ e, lives_fewer (crashed_of s) client d (ap (λ cs. lives cs (Some d)) (sym crashed) ∙ l), subst (λ rs. Wants w rs n (TimeOf i)) rows x))

@@ -1,6 +1,13 @@
 -- What stands at a place is told of something, and what it wants is done.
-use Rattle.std.proofs.Common.{◌≡◌, ◌≢◌, ◌⊎◌, inl, inr, ℕ, suc, ◌+◌, ◌-◌, ◌<◌, ◌≤◌, Bool, List, [], ◌∷◌, ◌++◌, length, map, get_or, set, Option, Some, None, refl, sym, ap, ◌∙◌, subst, arith}
-use Rattle.std.specs.Prelude.{OnOk, IfOk, Result, Ok, Err}
+use Rattle.std.proofs.Common.{◌≡◌, inl, inr, ℕ, suc, ◌+◌, ◌-◌, ◌<◌, ◌≤◌, false, List, [], ◌∷◌, ◌++◌, length, map, get_or, set, Option, sym, ap, ◌∙◌, subst, arith}
+use Rattle.std.specs.List.{Any}
+use Rattle.std.specs.Prelude.{OnOk, IfOk, IfSome, Result, Ok, Err}
+use Rattle.txn_history.specs.Among.{IsAmong}
+use Rattle.txn_kv.specs.declared.request.Request.{Request}
+use Rattle.txn_kv.specs.declared.ticket.Target.{Target}
+use Rattle.txn_side.specs.Trace.{IsSend, Trace}
+use Rattle.txn_side.specs.declared.turn.Ending.{Ending}
+use Rattle.txn_clients.specs.Failing.{AnswerRests, MayKnow, outbox_of, posting_in}
 use Rattle.txn_history.specs.Meaning.{IsLawful}
 use Rattle.txn_history.specs.Phase.{Awaited, awaited}
 use Rattle.txn_kv.specs.declared.outbox.Errand.TheVariants.{Ask, Send, Sleep}
@@ -8,13 +15,13 @@ use Rattle.txn_history.specs.Phase.{IsPosted as IsErrand}
 use Rattle.txn_history.specs.Phase.Awaited.{ReplyTo, EndOf, TimeOf}
 use Rattle.txn_history.specs.Posted.{AreNumbered, Errand, Posted}
 use Rattle.txn_commit.specs.Committing.{Ways}
-use Rattle.txn_side.specs.Sight.{next_at, stand_at}
+use Rattle.txn_side.specs.Sight.{next_at}
 use Rattle.txn_side.specs.declared.turn.Posting.{Posting}
 use Rattle.txn_tso.specs.declared.asker.Asker.{Asker}
 use Rattle.txn_clients.specs.Clients.{crashed_of, nexts_of, row_at, rows_of, stands_of}
 use Rattle.txn_clients.specs.Matching.{AreMatched, IsLine}
 use Rattle.txn_clients.specs.Rows.{Posts, stand_of}
-use Rattle.txn_clients.specs.Waiting.{Book, GoesOn, HandsOn, HasAsk, HearsAt, IsDone, IsHeard, IsNumberedTo, IsSound, RowGoes, TellsRow, asks_of, blank, book_at, book_of, books_of, pends, posted_at}
+use Rattle.txn_clients.specs.Waiting.{Book, GoesOn, HandsOn, HasAsk, HearsAt, IsDone, IsHeard, IsNumberedTo, IsSound, RowGoes, TellsRow, asks_of, blank, book_at, book_of, pends, posted_at}
 use Rattle.txn_clients.specs.declared.answer.Answer.{Answer}
 use Rattle.txn_clients.specs.declared.client_state.ClientState.{ClientState}
 use Rattle.txn_clients.specs.declared.clients.Clients.{Clients}
@@ -66,18 +73,20 @@ module _ {P Q K A B D : Type 0} (w : Ways P Q K A B D) where
   }
 
   module _ (p : IsLawful w.prewriting) (q : IsLawful w.committing) (k : IsLawful w.rolling) where
-    pub pushed : (s m u t : Clients P Q K) (told : Told) (line client at : ℕ) (rest : List Asker) (from to : Posted) (answer : Option (Answer P Q K)) (sends : List Errand) (ps qs : List Posting)
+    pub pushed : (trace : Option Trace) (s m u t : Clients P Q K) (told : Told) (line client at : ℕ) (rest : List Asker) (from to : Posted) (answer : Option (Answer P Q K)) (sends : List Errand) (ps qs : List Posting) (es fs : List Ending)
         → IsLine (stands_of (rows_of s)) line → at < length (rows_of s) → AreMatched (stands_of (rows_of s))
         → from ≡ posted_at (nexts_of s) (asks_of s) line → sends ≡ to.sends → Posts from to
         → TellsRow w told at s m from to answer → nexts_of m ≡ nexts_of s → crashed_of m ≡ crashed_of s
         → HandsOn line client sends [] ps qs m u → rows_of u ≡ rows_of m → crashed_of u ≡ crashed_of m
         → rows_of t ≡ rows_of u → nexts_of t ≡ nexts_of u → asks_of t ≡ set (asks_of u) (line - 1) to.next_ask → t.clients ≡ u.clients
-        → IsHeard (stands_of (rows_of s)) line at client → IsSound w (pends line told rest) s → GoesOn w client (HearsAt line told) rest ps qs s t
-    pushed s m u t told line client at rest from to answer sends ps qs is inside matched begins sent posts told_row nexts crashed hands rows_u crashed_u rows_t nexts_t asks_t clients_t heard sound =
-        push_goes w p q k s t told line client at told_row.row rest from to answer sends ps qs is inside heard.own heard.voiced matched begins sent
+        → fs ≡ es → IsHeard (stands_of (rows_of s)) line at client → MayKnow (posting_in ps trace) (outbox_of line) told (row_at (rows_of s) at) → IsSound w (posting_in ps trace) (pends line told rest) s
+        → GoesOn w trace client (HearsAt line told) rest ps qs es fs s t × IfSome answer (AnswerRests w (posting_in qs trace) (suc at) line)
+    pushed trace s m u t told line client at rest from to answer sends ps qs es fs is inside matched begins sent posts told_row nexts crashed hands rows_u crashed_u rows_t nexts_t asks_t clients_t unended heard knows sound =
+        subst (λ xs. GoesOn w trace client (HearsAt line told) rest ps qs es xs s t × IfSome answer (AnswerRests w (posting_in qs trace) (suc at) line)) (sym unended)
+        (push_goes w p q k trace s t told line client at told_row.row rest from to answer sends ps qs es is inside heard.own heard.voiced matched begins sent
         (rows_t ∙ rows_u ∙ told_row.rows) told_row.stand told_row.goes risen up (asks_t ∙ ap (λ ns. set ns (line - 1) to.next_ask) (hands.asks ∙ told_row.asks)) (crashed_t ∙ crashed_u ∙ crashed) above
-        hands.posted done (λ c. ap (λ (b : Book). b.out) (books_same u t clients_t c) ∙ hands.outs c ∙ ap (λ (b : Book). b.out) (before c)) (λ c. ap (λ (b : Book). b.ticket) (books_same u t clients_t c) ∙ hands.tickets c ∙ ap (λ (b : Book). b.ticket) (before c))
-        queued (λ c apart. books_same u t clients_t c ∙ hands.books c apart ∙ before c) sound
+        hands.posted done mailed (λ c. ap (λ (b : Book). b.out) (books_same u t clients_t c) ∙ hands.outs c ∙ ap (λ (b : Book). b.out) (before c)) (λ c. ap (λ (b : Book). b.ticket) (books_same u t clients_t c) ∙ hands.tickets c ∙ ap (λ (b : Book). b.ticket) (before c))
+        queued (λ c apart. books_same u t clients_t c ∙ hands.books c apart ∙ before c) knows sound)
       where
         crashed_t : crashed_of t ≡ crashed_of u
         crashed_t = ap (λ v. map (λ (c : ClientState). c.crashed) v.items) clients_t
@@ -111,6 +120,9 @@ module _ {P Q K A B D : Type 0} (w : Ways P Q K A B D) where
 
         done : (a : Awaited) → IsErrand sends a → IsDone t qs line client a
         done a x = elim (hands.done a x) [ inl d ↦ is_done a d | inr e ↦ absurd e.1 ]
+
+        mailed : (n : ℕ) (store : Target) (x : Request) → IsAmong sends (Send n store x) → Any (IsSend (record { line = line; beat = false; number = n }) x) qs
+        mailed n store x i = elim (hands.sent n store x i) [ inl a ↦ a | inr j ↦ absurd j ]
 
         queued : (n i : ℕ) → HasAsk (book_at s client).queue n i → HasAsk (book_at t client).queue n i
         queued n i h = subst (λ (b : Book). HasAsk b.queue n i) (sym (books_same u t clients_t client)) (hands.queued n i (subst (λ (b : Book). HasAsk b.queue n i) (sym (before client)) h))

@@ -1,35 +1,31 @@
 -- What holds of clients as calls begin and end.
-use Rattle.std.proofs.Common.{◌≡◌, ◌≢◌, ◌⊎◌, inl, inr, ℕ, zero, suc, ◌-◌, ◌<◌, ◌≤◌, Bool, true, false, List, [], ◌∷◌, length, map, get_or, set, Option, Some, None, refl, sym, ap, ◌∙◌, subst, arith, length-set}
+use Rattle.std.proofs.Common.{◌≡◌, ◌≢◌, ◌⊎◌, inl, inr, ℕ, suc, ◌-◌, ◌<◌, ◌≤◌, Bool, true, false, List, [], ◌∷◌, length, map, get_or, set, Option, Some, None, refl, sym, ap, ◌∙◌, subst, arith, length-set}
 use Rattle.std.proofs.lemmas.List.{length-map}
-use Rattle.std.specs.Prelude.{⊤, IfSome, Result}
+use Rattle.std.specs.Prelude.{IfOk, IfSome, Result}
+use Rattle.std.specs.declared.result.Result.TheVariants as result
 use Rattle.txn_kv.specs.declared.errors.Error.{Error}
 use Rattle.txn_core.specs.declared.txn_answer.TxnAnswer.{TxnAnswer}
 use Rattle.txn_client.specs.declared.client_answer.ClientAnswer.{ClientAnswer}
-use Rattle.txn_history.specs.Meaning.{IsLawful, IsUnbegun}
+use Rattle.txn_history.specs.Meaning.{IsLawful}
 use Rattle.txn_history.specs.Phase.{Awaited}
 use Rattle.txn_history.specs.Phase.Awaited.{ReplyTo, EndOf, TimeOf}
-use Rattle.txn_history.specs.Phase.Phase.{Fresh}
 use Rattle.txn_history.specs.Posted.{Posted}
 use Rattle.txn_plan.specs.declared.arrival.Arrival.{Arrival}
 use Rattle.txn_plan.specs.declared.arrival.Arrival.TheVariants as arrivals
 use Rattle.txn_commit.specs.Committing.{Ways}
-use Rattle.txn_core.specs.Transaction.{Standing, is_open}
-use Rattle.txn_client.specs.Calls.{called, stage_waits}
 use Rattle.txn_client.specs.declared.client_call.ClientCall.{ClientCall}
-use Rattle.txn_client.specs.declared.client_call.Stage.TheVariants as stages
 use Rattle.txn_report.specs.declared.outcome.Outcome.{Outcome}
 use Rattle.txn_report.specs.declared.outcome.Outcome.TheVariants.{Done, Err, Ok, Skipped, Unfinished}
 use Rattle.txn_report.specs.declared.outcome.Payload.TheVariants.{Commit as Committed, Number, Unit as Nothing}
 use Rattle.txn_side.specs.Sight.{CallEnds, Stand, client_at, lives, next_at, stand_at}
 use Rattle.txn_side.specs.Sight.Stand.{Asking, Calling, HasBegun, Idle, IsClient, Past, Working}
-use Rattle.txn_side.specs.Waiting.Awaited.{EndOf as SideEnd, ReplyTo as SideReply}
 use Rattle.txn_side.specs.declared.act.Act.{Act}
 use Rattle.txn_side.specs.declared.turn.Posting.{Posting}
 use Rattle.txn_tso.specs.declared.asker.Asker.{Asker}
-use Rattle.txn_clients.specs.Clients.{AreReady, HearsFor, crashed_of, nexts_of, row_at, rows_of, stands_of}
+use Rattle.txn_clients.specs.Clients.{HearsFor, crashed_of, nexts_of, row_at, rows_of, stands_of}
 use Rattle.txn_clients.specs.Matching.{AreMatched, IsLine}
 use Rattle.txn_clients.specs.Rows.{Pd, Rests, RowReady, stand_of, with_waits}
-use Rattle.txn_clients.specs.Waiting.{AreCalled, AreRunning, AreRunningBut, Book, GoesOn, HasArisen, HasAsk, HearsAt, IsAnswerOf, IsHeard, IsMet, IsPrepared, IsSound, Keeps, NoneHears, RowArises, RowRuns, RunsOn, Wants, asks_of, blank, book_at, book_of, pends, posted_at, voice, voice_at, wants}
+use Rattle.txn_clients.specs.Waiting.{AreCalled, AreRunning, AreRunningBut, Book, GoesOn, HasAsk, HearsAt, IsAnswerOf, IsHeard, IsMet, IsPrepared, IsSound, Keeps, NoneHears, RowArises, RowRuns, RunsOn, Wants, asks_of, blank, book_at, book_of, pends, posted_at, voice, voice_at, wants}
 use Rattle.txn_clients.specs.declared.answer.Answer.{Answer}
 use Rattle.txn_clients.specs.declared.answer.Answer.TheVariants as answers
 use Rattle.txn_clients.specs.declared.client_state.ClientState.{ClientState}
@@ -38,12 +34,15 @@ use Rattle.txn_clients.specs.declared.row.Row.{Row}
 use Rattle.txn_clients.specs.declared.row.Row.TheVariants as row
 use Rattle.txn_clients.specs.declared.told.Told.{Told}
 use Rattle.txn_clients.specs.declared.told.Told.TheVariants as tells
-use Rattle.txn_clients.proofs.Kept.{kept_nothing}
 use Rattle.txn_clients.proofs.Sights.{HasSettled}
-use Rattle.txn_clients.proofs.Sounding.{arisen_set, le_of, pends_split, running_but, running_set, sound_from, wants_fewer}
+use Rattle.txn_side.specs.Trace.{Trace}
+use Rattle.txn_side.specs.declared.turn.Ending.{Ending}
+use Rattle.txn_clients.specs.Failing.{AnswerRests, AreToldIn, CalledIn, EndsMore, FailsAt, IfFails, posting_in}
+use Rattle.txn_clients.proofs.Showing.{ends_then, keeps_any, keeps_none, keeps_then}
+use Rattle.txn_clients.proofs.Sounding.{arisen_set, le_of, no_more, pends_split, running_set, sound_from, wants_fewer}
 use Rattle.txn_clients.proofs.Standing.{rest_silent, stand_rests}
-use Rattle.txn_clients.proofs.Stands.{line_of, or_other, or_same, same_line, stand_other, stand_same, waited}
-use Rattle.txn_clients.proofs.Tables.{called_stands, ended_stands, stand_of_line, stand_read, stands_set}
+use Rattle.txn_clients.proofs.Stands.{line_of, same_line, stand_other, stand_same, waited}
+use Rattle.txn_clients.proofs.Tables.{ended_stands, stand_of_line, stand_read, stands_set}
 use Rattle.txn_clients.proofs.Voices.{unheard_voice}
 
 -- What stands where a call has ended
@@ -66,6 +65,15 @@ settled_call c s h d x b e = by (subst (HasSettled c) e h)
     by (inr (inl f)) = cc
     by (inr (inr f)) = cc
 
+settled_asking : (c : ℕ) (s : Stand) → HasSettled c s → (d : ℕ) (b : Bool) → s ≡ Asking d b → ⊥
+settled_asking c s h d b e = settled_ask c d b (subst (HasSettled c) e h)
+
+pub begun_asks : (c m d : ℕ) (b : Bool) → HasBegun c m ≡ Asking d b → ⊥
+begun_asks c m d b e = cc
+
+pub begun_calls : (c m d x : ℕ) (b : Bool) → HasBegun c m ≡ Calling d x b → ⊥
+begun_calls c m d x b e = cc
+
 settled_client : (c : ℕ) (s : Stand) → HasSettled c s → client_at s ≡ Some c
 settled_client c s (inl e) = ap client_at e
 settled_client c s (inr (inl e)) = ap client_at e
@@ -87,6 +95,27 @@ clients_set stands line new is e n = by (same_line line n)
     by : (n ≡ line) ⊎ (n ≢ line) → client_at (stand_at (set stands (line - 1) new) n) ≡ client_at (stand_at stands n)
     by (inl same) = subst (λ k. client_at (stand_at (set stands (line - 1) new) k) ≡ client_at (stand_at stands k)) (sym same) (ap client_at (stand_same stands line new is) ∙ e)
     by (inr apart) = ap client_at (stand_other stands line n new is.first apart)
+
+-- whom is told what comes for a line, where something else stands there
+pub told_set : (trace : Option Trace) (stands : List Stand) (line : ℕ) (new : Stand) → IsLine stands line → ((c : ℕ) (b : Bool) → new ≡ Asking c b → CalledIn trace line line) → ((c x : ℕ) (b : Bool) → new ≡ Calling c x b → CalledIn trace line x)
+    → AreToldIn trace stands → AreToldIn trace (set stands (line - 1) new)
+told_set trace stands line new is asks calls told = record { asks = λ n c b e. by_ask n c b e (same_line line n); calls = λ n c x b e. by_call n c x b e (same_line line n) }
+  where
+    here : (n : ℕ) (s : Stand) → n ≡ line → stand_at (set stands (line - 1) new) n ≡ s → new ≡ s
+    here n s same e = sym (stand_same stands line new is) ∙ ap (stand_at (set stands (line - 1) new)) (sym same) ∙ e
+
+    by_ask : (n c : ℕ) (b : Bool) → stand_at (set stands (line - 1) new) n ≡ Asking c b → (n ≡ line) ⊎ (n ≢ line) → CalledIn trace n n
+    by_ask n c b e (inl same) = subst (λ m. CalledIn trace m m) (sym same) (asks c b (here n (Asking c b) same e))
+    by_ask n c b e (inr apart) = told.asks n c b (sym (stand_other stands line n new is.first apart) ∙ e)
+
+    by_call : (n c x : ℕ) (b : Bool) → stand_at (set stands (line - 1) new) n ≡ Calling c x b → (n ≡ line) ⊎ (n ≢ line) → CalledIn trace n x
+    by_call n c x b e (inl same) = subst (λ m. CalledIn trace m x) (sym same) (calls c x b (here n (Calling c x b) same e))
+    by_call n c x b e (inr apart) = told.calls n c x b (sym (stand_other stands line n new is.first apart) ∙ e)
+
+-- a fact of what a call gave, where it gave something
+pub if_ok_so : {T E : Type 0} {B C : T → Type 0} (r : Result T E) → ((x : T) → B x → C x) → IfOk r B → IfOk r C
+if_ok_so (result.Ok x) f b = f x b
+if_ok_so (result.Err e) f b = tt
 
 -- no call begins or ends of a transaction
 pub called_set : (stands : List Stand) (line : ℕ) (new : Stand) → IsLine stands line → ((c x : ℕ) (b : Bool) → new ≡ Calling c x b → ⊥) → ((c m : ℕ) → stand_at stands line ≡ HasBegun c m → ⊥) → AreCalled stands → AreCalled (set stands (line - 1) new)
@@ -129,14 +158,14 @@ module _ {P Q K : Type 0} where
     settled_silent c (row.Working d job) h may a x = x
 
     -- no transaction stands here
-    pub past_arises : (c : ℕ) (r : Row P Q K) → (stand_of r ≡ Past c) ⊎ (stand_of r ≡ Working c) → (o : Posted) (nexts : List ℕ) → RowArises w o nexts r
-    past_arises c row.Plain h o nexts = tt
-    past_arises c (row.Client d) h o nexts = tt
-    past_arises c (row.Asking d b call) h o nexts = absurd (elim h [ inl e ↦ cc | inr e ↦ cc ])
-    past_arises c (row.Begun d t m) h o nexts = absurd (elim h [ inl e ↦ cc | inr e ↦ cc ])
-    past_arises c (row.Calling d x b) h o nexts = tt
-    past_arises c (row.Past d) h o nexts = tt
-    past_arises c (row.Working d job) h o nexts = tt
+    pub past_arises : (c : ℕ) (r : Row P Q K) → (stand_of r ≡ Past c) ⊎ (stand_of r ≡ Working c) → (trace : Option Trace) (at : ℕ) (o : Posted) (nexts : List ℕ) → RowArises w trace at o nexts r
+    past_arises c row.Plain h trace at o nexts = tt
+    past_arises c (row.Client d) h trace at o nexts = tt
+    past_arises c (row.Asking d b call) h trace at o nexts = absurd (elim h [ inl e ↦ cc | inr e ↦ cc ])
+    past_arises c (row.Begun d t m) h trace at o nexts = absurd (elim h [ inl e ↦ cc | inr e ↦ cc ])
+    past_arises c (row.Calling d x b) h trace at o nexts = tt
+    past_arises c (row.Past d) h trace at o nexts = tt
+    past_arises c (row.Working d job) h trace at o nexts = tt
 
     pub rests_silent : (n c m : ℕ) (r : Row P Q K) → stand_of r ≡ HasBegun c m → Rests r → (a : Awaited) → wants w (with_waits n r) a → ⊥
     rests_silent n c m row.Plain e rests a x = x
@@ -161,11 +190,12 @@ module _ {P Q K : Type 0} where
 
     -- Where no other client and no ask changes.
 
-    pub quiet_goes : (s t : Clients P Q K) (client : ℕ) (rest : List Asker) (ps : List Posting) → IsSound w rest t → ((n : ℕ) (a : Awaited) → Wants w (rows_of t) n a → Wants w (rows_of s) n a) → ((c : ℕ) → book_at t c ≡ book_at s c)
-        → GoesOn w client (λ n a. ⊥) rest ps ps s t
-    quiet_goes s t client rest ps sound fewer books = record {
+    pub quiet_goes : (trace : Option Trace) (s t : Clients P Q K) (client : ℕ) (rest : List Asker) (ps : List Posting) (es fs : List Ending) → IsSound w (posting_in ps trace) rest t → EndsMore w (posting_in ps trace) es fs → ((n : ℕ) (a : Awaited) → Wants w (rows_of t) n a → Wants w (rows_of s) n a) → ((c : ℕ) → book_at t c ≡ book_at s c)
+        → GoesOn w trace client (λ n a. ⊥) rest ps ps es fs s t
+    quiet_goes trace s t client rest ps es fs sound ends fewer books = record {
       sound = sound;
-      posted = λ n a x. x;
+      ends = ends;
+      posted = keeps_none ps;
       lines = λ n a x. inl (fewer n a x, λ h. h);
       outs = λ c. ap (λ (b : Book). b.out) (books c);
       tickets = λ c. ap (λ (b : Book). b.ticket) (books c);
@@ -173,15 +203,16 @@ module _ {P Q K : Type 0} where
     }
 
     pub met_more : (ps qs : List Posting) (n : ℕ) (a : Awaited) → Keeps ps qs → IsMet ps n a → IsMet qs n a
-    met_more ps qs n (ReplyTo k) keeps h = keeps n (SideReply k) h
-    met_more ps qs n (EndOf k) keeps h = keeps n (SideEnd k) h
+    met_more ps qs n (ReplyTo k) keeps h = keeps_any _ ps qs keeps h
+    met_more ps qs n (EndOf k) keeps h = keeps_any _ ps qs keeps h
     met_more ps qs n (TimeOf k) keeps h = tt
 
     -- one part after another
-    pub goes_on : (s m t : Clients P Q K) (client : ℕ) (Heard More : ℕ → Awaited → Type 0) (rest left : List Asker) (ps qs rs : List Posting) → GoesOn w client Heard rest ps qs s m → GoesOn w client More left qs rs m t → GoesOn w client Heard left ps rs s t
-    goes_on s m t client Heard More rest left ps qs rs f g = record {
+    pub goes_on : (trace : Option Trace) (s m t : Clients P Q K) (client : ℕ) (Heard More : ℕ → Awaited → Type 0) (rest left : List Asker) (ps qs rs : List Posting) (es fs gs : List Ending) → GoesOn w trace client Heard rest ps qs es fs s m → GoesOn w trace client More left qs rs fs gs m t → GoesOn w trace client Heard left ps rs es gs s t
+    goes_on trace s m t client Heard More rest left ps qs rs es fs gs f g = record {
       sound = g.sound;
-      posted = λ n a x. g.posted n a (f.posted n a x);
+      ends = ends_then w trace qs rs es fs gs g.posted f.ends g.ends;
+      posted = keeps_then ps qs rs f.posted g.posted;
       lines = λ n a x. elim (g.lines n a x) [
         | inl y ↦ elim (f.lines n a y.0) [ inl z ↦ inl z | inr z ↦ inr (met_more qs rs n a g.posted z) ]
         | inr y ↦ inr y
@@ -192,35 +223,35 @@ module _ {P Q K : Type 0} where
     }
 
     module _ (p : IsLawful w.prewriting) (q : IsLawful w.committing) (k : IsLawful w.rolling) where
-      pub rests_arises : (n c m : ℕ) (r : Row P Q K) → stand_of r ≡ HasBegun c m → Rests r → (o later : Posted) (nexts : List ℕ) → RowArises w o nexts r → RowArises w later nexts (with_waits n r)
-      rests_arises n c m row.Plain e rests o later nexts x = tt
-      rests_arises n c m (row.Client d) e rests o later nexts x = tt
-      rests_arises n c m (row.Asking d b call) e rests o later nexts x = absurd (no e)
+      pub rests_arises : (trace : Option Trace) (at : ℕ) (n c m : ℕ) (r : Row P Q K) → stand_of r ≡ HasBegun c m → Rests r → (o later : Posted) (nexts : List ℕ) → RowArises w trace at o nexts r → RowArises w trace at later nexts (with_waits n r)
+      rests_arises trace at n c m row.Plain e rests o later nexts x = tt
+      rests_arises trace at n c m (row.Client d) e rests o later nexts x = tt
+      rests_arises trace at n c m (row.Asking d b call) e rests o later nexts x = absurd (no e)
         where
           no : Asking d b ≡ HasBegun c m → ⊥
           no f = cc
-      rests_arises n c m (row.Begun d t i) e rests o later nexts x = stand_rests w p q k t o later nexts nexts rests (λ j. le_of (next_at nexts j) (next_at nexts j) refl) x
-      rests_arises n c m (row.Calling d y b) e rests o later nexts x = tt
-      rests_arises n c m (row.Past d) e rests o later nexts x = tt
-      rests_arises n c m (row.Working d job) e rests o later nexts x = tt
+      rests_arises trace at n c m (row.Begun d t i) e rests o later nexts x = stand_rests w p q k t o later nexts nexts rests (λ j. le_of (next_at nexts j) (next_at nexts j) refl) x
+      rests_arises trace at n c m (row.Calling d y b) e rests o later nexts x = tt
+      rests_arises trace at n c m (row.Past d) e rests o later nexts x = tt
+      rests_arises trace at n c m (row.Working d job) e rests o later nexts x = tt
 
       -- a row is set that waits for nothing
-      pub one_set : (s t : Clients P Q K) (line : ℕ) (r : Row P Q K) → IsLine (stands_of (rows_of s)) line → rows_of t ≡ set (rows_of s) (line - 1) r → nexts_of t ≡ nexts_of s → asks_of t ≡ asks_of s
-          → ((o : Posted) (nexts : List ℕ) → RowArises w o nexts r)
-          → ((i : ℕ) → RowArises w (posted_at (nexts_of s) (asks_of s) (voice_at (rows_of s) i)) (nexts_of s) (row_at (rows_of s) i))
-          → (i : ℕ) → RowArises w (posted_at (nexts_of t) (asks_of t) (voice_at (rows_of t) i)) (nexts_of t) (row_at (rows_of t) i)
-      one_set s t line r is rows nexts asks here there i =
-          subst (λ ns. RowArises w (posted_at ns (asks_of t) (voice_at (rows_of t) i)) ns (row_at (rows_of t) i)) (sym nexts)
-          (subst (λ ns. RowArises w (posted_at (nexts_of s) ns (voice_at (rows_of t) i)) (nexts_of s) (row_at (rows_of t) i)) (sym asks)
-          (subst (λ rs. RowArises w (posted_at (nexts_of s) (asks_of s) (voice_at rs i)) (nexts_of s) (row_at rs i)) (sym rows)
-          (arisen_set w (rows_of s) (line - 1) r (nexts_of s) (asks_of s) (row_within (rows_of s) line is) (here _ _) (λ j apart. there j) i)))
+      pub one_set : (trace : Option Trace) (s t : Clients P Q K) (line : ℕ) (r : Row P Q K) → IsLine (stands_of (rows_of s)) line → rows_of t ≡ set (rows_of s) (line - 1) r → nexts_of t ≡ nexts_of s → asks_of t ≡ asks_of s
+          → ((at : ℕ) (o : Posted) (nexts : List ℕ) → RowArises w trace at o nexts r)
+          → ((i : ℕ) → RowArises w trace (suc i) (posted_at (nexts_of s) (asks_of s) (voice_at (rows_of s) i)) (nexts_of s) (row_at (rows_of s) i))
+          → (i : ℕ) → RowArises w trace (suc i) (posted_at (nexts_of t) (asks_of t) (voice_at (rows_of t) i)) (nexts_of t) (row_at (rows_of t) i)
+      one_set trace s t line r is rows nexts asks here there i =
+          subst (λ ns. RowArises w trace (suc i) (posted_at ns (asks_of t) (voice_at (rows_of t) i)) ns (row_at (rows_of t) i)) (sym nexts)
+          (subst (λ ns. RowArises w trace (suc i) (posted_at (nexts_of s) ns (voice_at (rows_of t) i)) (nexts_of s) (row_at (rows_of t) i)) (sym asks)
+          (subst (λ rs. RowArises w trace (suc i) (posted_at (nexts_of s) (asks_of s) (voice_at rs i)) (nexts_of s) (row_at rs i)) (sym rows)
+          (arisen_set w trace (rows_of s) (line - 1) r (nexts_of s) (asks_of s) (row_within (rows_of s) line is) (here _ _ _) (λ j apart. there j) i)))
 
       -- the call for a timestamp that stands at a line ends
-      pub asked_goes : (s t : Clients P Q K) (line client c : ℕ) (b : Bool) (r : Row P Q K) (rest : List Asker) (ps : List Posting) → IsLine (stands_of (rows_of s)) line → stand_at (stands_of (rows_of s)) line ≡ Asking c b
-          → HasSettled c (stand_of r) → RowReady w r → ((o : Posted) (nexts : List ℕ) → RowArises w o nexts r)
-          → rows_of t ≡ set (rows_of s) (line - 1) r → nexts_of t ≡ nexts_of s → asks_of t ≡ asks_of s → t.clients ≡ s.clients
-          → IsSound w rest s → GoesOn w client (λ n a. ⊥) rest ps ps s t
-      asked_goes s t line client c b r rest ps is asks settled may here rows nexts same_asks clients sound = quiet_goes s t client rest ps whole fewer (books_same s t clients)
+      pub asked_goes : (trace : Option Trace) (s t : Clients P Q K) (line client c : ℕ) (b : Bool) (r : Row P Q K) (rest : List Asker) (ps : List Posting) (es fs : List Ending) → IsLine (stands_of (rows_of s)) line → stand_at (stands_of (rows_of s)) line ≡ Asking c b
+          → HasSettled c (stand_of r) → RowReady w r → ((at : ℕ) (o : Posted) (nexts : List ℕ) → RowArises w (posting_in ps trace) at o nexts r)
+          → rows_of t ≡ set (rows_of s) (line - 1) r → nexts_of t ≡ nexts_of s → asks_of t ≡ asks_of s → t.clients ≡ s.clients → EndsMore w (posting_in ps trace) es fs
+          → IsSound w (posting_in ps trace) rest s → GoesOn w trace client (λ n a. ⊥) rest ps ps es fs s t
+      asked_goes trace s t line client c b r rest ps es fs is asks settled may here rows nexts same_asks clients ends sound = quiet_goes trace s t client rest ps es fs whole ends fewer (books_same s t clients)
         where
           stands : stands_of (rows_of t) ≡ set (stands_of (rows_of s)) (line - 1) (stand_of r)
           stands = ap stands_of rows ∙ stands_set (rows_of s) (line - 1) r
@@ -234,8 +265,11 @@ module _ {P Q K : Type 0} where
           crashed : crashed_of t ≡ crashed_of s
           crashed = crashed_same s t clients
 
-          whole : IsSound w rest t
-          whole = sound_from w s t rest (one_set s t line r is rows nexts same_asks here sound.arisen)
+          told : AreToldIn (posting_in ps trace) (stands_of (rows_of t))
+          told = subst (AreToldIn (posting_in ps trace)) (sym stands) (told_set (posting_in ps trace) (stands_of (rows_of s)) line (stand_of r) is (λ d a e. absurd (settled_asking c (stand_of r) settled d a e)) (λ d x a e. absurd (settled_call c (stand_of r) settled d x a e)) sound.told)
+
+          whole : IsSound w (posting_in ps trace) rest t
+          whole = sound_from w (posting_in ps trace) s t rest told (one_set (posting_in ps trace) s t line r is rows nexts same_asks here sound.arisen)
               (subst AreCalled (sym stands) (called_set (stands_of (rows_of s)) line (stand_of r) is (λ d x a e. settled_call c (stand_of r) settled d x a e) (λ d m e. other d m (sym asks ∙ e)) sound.called))
               (λ n d e. subst (λ cs. d < length cs) (sym crashed) (sound.known n d (sym (of n) ∙ e)))
               (λ n d i e l x. (sym (of n) ∙ e, ap (λ cs. lives cs (Some d)) (sym crashed) ∙ l, fewer n (TimeOf i) x))
@@ -245,16 +279,16 @@ module _ {P Q K : Type 0} where
               other d m q = cc
 
       -- two rows are set that wait for nothing
-      pub two_arisen : (s t : Clients P Q K) (line x : ℕ) (r y : Row P Q K) → IsLine (stands_of (rows_of s)) line → IsLine (stands_of (rows_of s)) x → rows_of t ≡ set (set (rows_of s) (x - 1) y) (line - 1) r → nexts_of t ≡ nexts_of s → asks_of t ≡ asks_of s
-          → ((o : Posted) → RowArises w o (nexts_of s) r) → ((o : Posted) → RowArises w o (nexts_of s) y)
-          → ((i : ℕ) → RowArises w (posted_at (nexts_of s) (asks_of s) (voice_at (rows_of s) i)) (nexts_of s) (row_at (rows_of s) i))
-          → (i : ℕ) → RowArises w (posted_at (nexts_of t) (asks_of t) (voice_at (rows_of t) i)) (nexts_of t) (row_at (rows_of t) i)
-      two_arisen s t line x r y is at rows nexts asks here mine there i =
-          subst (λ ns. RowArises w (posted_at ns (asks_of t) (voice_at (rows_of t) i)) ns (row_at (rows_of t) i)) (sym nexts)
-          (subst (λ ns. RowArises w (posted_at (nexts_of s) ns (voice_at (rows_of t) i)) (nexts_of s) (row_at (rows_of t) i)) (sym asks)
-          (subst (λ rs. RowArises w (posted_at (nexts_of s) (asks_of s) (voice_at rs i)) (nexts_of s) (row_at rs i)) (sym rows)
-          (arisen_set w (set (rows_of s) (x - 1) y) (line - 1) r (nexts_of s) (asks_of s) within (here _)
-          (λ j apart. arisen_set w (rows_of s) (x - 1) y (nexts_of s) (asks_of s) (row_within (rows_of s) x at) (mine _) (λ m far. there m) j) i)))
+      pub two_arisen : (trace : Option Trace) (s t : Clients P Q K) (line x : ℕ) (r y : Row P Q K) → IsLine (stands_of (rows_of s)) line → IsLine (stands_of (rows_of s)) x → rows_of t ≡ set (set (rows_of s) (x - 1) y) (line - 1) r → nexts_of t ≡ nexts_of s → asks_of t ≡ asks_of s
+          → ((o : Posted) → RowArises w trace (suc (line - 1)) o (nexts_of s) r) → ((o : Posted) → RowArises w trace (suc (x - 1)) o (nexts_of s) y)
+          → ((i : ℕ) → RowArises w trace (suc i) (posted_at (nexts_of s) (asks_of s) (voice_at (rows_of s) i)) (nexts_of s) (row_at (rows_of s) i))
+          → (i : ℕ) → RowArises w trace (suc i) (posted_at (nexts_of t) (asks_of t) (voice_at (rows_of t) i)) (nexts_of t) (row_at (rows_of t) i)
+      two_arisen trace s t line x r y is at rows nexts asks here mine there i =
+          subst (λ ns. RowArises w trace (suc i) (posted_at ns (asks_of t) (voice_at (rows_of t) i)) ns (row_at (rows_of t) i)) (sym nexts)
+          (subst (λ ns. RowArises w trace (suc i) (posted_at (nexts_of s) ns (voice_at (rows_of t) i)) (nexts_of s) (row_at (rows_of t) i)) (sym asks)
+          (subst (λ rs. RowArises w trace (suc i) (posted_at (nexts_of s) (asks_of s) (voice_at rs i)) (nexts_of s) (row_at rs i)) (sym rows)
+          (arisen_set w trace (set (rows_of s) (x - 1) y) (line - 1) r (nexts_of s) (asks_of s) within (here _)
+          (λ j apart. arisen_set w trace (rows_of s) (x - 1) y (nexts_of s) (asks_of s) (row_within (rows_of s) x at) (mine _) (λ m far. there m) j) i)))
         where
           within : line - 1 < length (set (rows_of s) (x - 1) y)
           within = subst (λ n. line - 1 < n) (sym (length-set (rows_of s) (x - 1) y)) (row_within (rows_of s) line is)
@@ -266,11 +300,11 @@ module _ {P Q K : Type 0} where
           (wants_fewer w (set rows (x - 1) y) (line - 1) r (subst (λ i. line - 1 < i) (sym (length-set rows (x - 1) y)) (row_within rows line is)) here n a (subst (λ rs. Wants w rs n a) e z))
 
       -- a call of a transaction ends, which waits no more
-      pub called_goes_on : (s t : Clients P Q K) (line x client c d : ℕ) (b : Bool) (r : Row P Q K) (rest : List Asker) (ps : List Posting) → IsLine (stands_of (rows_of s)) line → stand_at (stands_of (rows_of s)) line ≡ Calling c x b → stand_at (stands_of (rows_of s)) x ≡ HasBegun d line
-          → Rests (row_at (rows_of s) (x - 1)) → HasSettled c (stand_of r) → RowReady w r → ((o : Posted) (nexts : List ℕ) → RowArises w o nexts r)
-          → rows_of t ≡ set (set (rows_of s) (x - 1) (with_waits 0 (row_at (rows_of s) (x - 1)))) (line - 1) r → nexts_of t ≡ nexts_of s → asks_of t ≡ asks_of s → t.clients ≡ s.clients
-          → IsSound w rest s → GoesOn w client (λ n a. ⊥) rest ps ps s t
-      called_goes_on s t line x client c d b r rest ps is calls waits rests settled may here rows nexts same_asks clients sound = quiet_goes s t client rest ps whole fewer (books_same s t clients)
+      pub called_goes_on : (trace : Option Trace) (s t : Clients P Q K) (line x client c d : ℕ) (b : Bool) (r : Row P Q K) (rest : List Asker) (ps : List Posting) (es fs : List Ending) → IsLine (stands_of (rows_of s)) line → stand_at (stands_of (rows_of s)) line ≡ Calling c x b → stand_at (stands_of (rows_of s)) x ≡ HasBegun d line
+          → Rests (row_at (rows_of s) (x - 1)) → HasSettled c (stand_of r) → RowReady w r → ((at : ℕ) (o : Posted) (nexts : List ℕ) → RowArises w (posting_in ps trace) at o nexts r)
+          → rows_of t ≡ set (set (rows_of s) (x - 1) (with_waits 0 (row_at (rows_of s) (x - 1)))) (line - 1) r → nexts_of t ≡ nexts_of s → asks_of t ≡ asks_of s → t.clients ≡ s.clients → EndsMore w (posting_in ps trace) es fs
+          → IsSound w (posting_in ps trace) rest s → GoesOn w trace client (λ n a. ⊥) rest ps ps es fs s t
+      called_goes_on trace s t line x client c d b r rest ps es fs is calls waits rests settled may here rows nexts same_asks clients ends sound = quiet_goes trace s t client rest ps es fs whole ends fewer (books_same s t clients)
         where
           ss : List Stand
           ss = stands_of (rows_of s)
@@ -337,9 +371,13 @@ module _ {P Q K : Type 0} where
                   not_x : y ≢ x
                   not_x z = apart (sym (waited d e line n (sym waits ∙ ap (stand_at ss) (sym z) ∙ there)))
 
-          whole : IsSound w rest t
-          whole = sound_from w s t rest
-              (two_arisen s t line x r (with_waits 0 mine) is at rows nexts same_asks (λ o. here o (nexts_of s)) (λ o. rests_arises 0 d line mine begun rests _ o (nexts_of s) (sound.arisen (x - 1))) sound.arisen)
+          told : AreToldIn (posting_in ps trace) (stands_of (rows_of t))
+          told = subst (AreToldIn (posting_in ps trace)) (sym stands) (told_set (posting_in ps trace) mid line (stand_of r) is_mid (λ e a f. absurd (settled_asking c (stand_of r) settled e a f)) (λ e y a f. absurd (settled_call c (stand_of r) settled e y a f))
+              (told_set (posting_in ps trace) ss x (HasBegun d 0) at (λ e a f. absurd (begun_asks d 0 e a f)) (λ e y a f. absurd (begun_calls d 0 e y a f)) sound.told))
+
+          whole : IsSound w (posting_in ps trace) rest t
+          whole = sound_from w (posting_in ps trace) s t rest told
+              (two_arisen (posting_in ps trace) s t line x r (with_waits 0 mine) is at rows nexts same_asks (λ o. here _ o (nexts_of s)) (λ o. rests_arises (posting_in ps trace) (suc (x - 1)) 0 d line mine begun rests _ o (nexts_of s) (sound.arisen (x - 1))) sound.arisen)
               (subst AreCalled (sym stands) all_called)
               (λ n e f. subst (λ cs. e < length cs) (sym crashed) (sound.known n e (sym (of n) ∙ f)))
               (λ n e i f l z. (sym (of n) ∙ f, ap (λ cs. lives cs (Some e)) (sym crashed) ∙ l, fewer n (TimeOf i) z))
@@ -520,6 +558,21 @@ module _ {P Q K : Type 0} where
   pub called_at : (rows : List (Row P Q K)) (line at : ℕ) (v : Result (TxnAnswer Q) Error) → HearsFor (stands_of rows) line at (stand_at (stands_of rows) line) → IsAnswerOf {P = P} {Q = Q} {K = K} (stand_of (row_at rows at)) (answers.Called v) → IsCalledAt (stands_of rows) line at
   called_at rows line at v h k = let a = answers_call P Q K (stand_of (row_at rows at)) v k in call_place (stands_of rows) line at a.0 a.1 (stand_read rows at ∙ a.2) h
 
+  -- what it answers rests on what stands there
+
+  module _ {A B D : Type 0} (w : Ways P Q K A B D) where
+    pub asked_rests : (trace : Option Trace) (rows : List (Row P Q K)) (line at : ℕ) (v : Result (ClientAnswer Pd P Q K) Error) (answer : Option (Answer P Q K)) → HearsFor (stands_of rows) line at (stand_at (stands_of rows) line) → IsAnswerOf {P = P} {Q = Q} {K = K} (stand_of (row_at rows at)) (answers.Asked v)
+        → answer ≡ Some (answers.Asked v) → IfSome answer (AnswerRests w trace (suc at) line) → IfFails (FailsAt w trace line line) v
+    asked_rests trace rows line at v answer hears kind is rests =
+        let a = asked_at rows line at v hears kind in
+        subst (λ n. IfFails (FailsAt w trace n line) v) (subst (HearsFor (stands_of rows) line at) a.stand hears) (subst (λ x. IfSome x (AnswerRests w trace (suc at) line)) is rests)
+
+    pub called_rests : (trace : Option Trace) (rows news : List (Row P Q K)) (line at : ℕ) (v : Result (TxnAnswer Q) Error) (answer : Option (Answer P Q K)) → stands_of news ≡ stands_of rows → HearsFor (stands_of rows) line at (stand_at (stands_of rows) line)
+        → answer ≡ Some (answers.Called v) → IfSome answer (AnswerRests w trace (suc at) line) → (c x : ℕ) (b : Bool) → stand_at (stands_of news) line ≡ Calling c x b → IfFails (FailsAt w trace x line) v
+    called_rests trace rows news line at v answer same hears is rests c x b calls =
+        let h = subst (HearsFor (stands_of rows) line at) (ap (λ ss. stand_at ss line) (sym same) ∙ calls) hears in
+        subst (λ n. IfFails (FailsAt w trace n line) v) h.0 (subst (λ y. IfSome y (AnswerRests w trace (suc at) line)) is rests)
+
 -- Who hears, and runs on
 
 pub client_same : (c d : ℕ) → Some c ≡ Some d → c ≡ d
@@ -546,9 +599,10 @@ module _ {P Q K : Type 0} where
   job_runs rows news at c (Some v) e kind runs running = absurd (subst (λ s. IsAnswerOf s v) e kind)
 
   module _ {A B D : Type 0} (w : Ways P Q K A B D) where
-    pub goes_weaker : (s t : Clients P Q K) (client : ℕ) (Heard Less : ℕ → Awaited → Type 0) (rest : List Asker) (ps qs : List Posting) → ((n : ℕ) (a : Awaited) → Less n a → Heard n a) → GoesOn w client Heard rest ps qs s t → GoesOn w client Less rest ps qs s t
-    goes_weaker s t client Heard Less rest ps qs f g = record {
+    pub goes_weaker : (trace : Option Trace) (s t : Clients P Q K) (client : ℕ) (Heard Less : ℕ → Awaited → Type 0) (rest : List Asker) (ps qs : List Posting) (es fs : List Ending) → ((n : ℕ) (a : Awaited) → Less n a → Heard n a) → GoesOn w trace client Heard rest ps qs es fs s t → GoesOn w trace client Less rest ps qs es fs s t
+    goes_weaker trace s t client Heard Less rest ps qs es fs f g = record {
       sound = g.sound;
+      ends = g.ends;
       posted = g.posted;
       lines = λ n a x. elim (g.lines n a x) [ inl y ↦ inl (y.0, λ h. y.1 (f n a h)) | inr y ↦ inr y ];
       outs = g.outs;
@@ -557,10 +611,12 @@ module _ {P Q K : Type 0} where
     }
 
     -- nobody hears what is told
-    pub unheard_goes : (s : Clients P Q K) (line client : ℕ) (told : Told) (rest : List Asker) (ps : List Posting) → IsLine (stands_of (rows_of s)) line → AreMatched (stands_of (rows_of s)) → NoneHears (stands_of (rows_of s)) line (stand_at (stands_of (rows_of s)) line)
-        → IsSound w (pends line told rest) s → GoesOn w client (HearsAt line told) rest ps ps s s
-    unheard_goes s line client told rest ps is matched none sound = record {
+    pub unheard_goes : (trace : Option Trace) (s : Clients P Q K) (line client : ℕ) (told : Told) (rest : List Asker) (ps : List Posting) (es : List Ending) → IsLine (stands_of (rows_of s)) line → AreMatched (stands_of (rows_of s)) → NoneHears (stands_of (rows_of s)) line (stand_at (stands_of (rows_of s)) line)
+        → IsSound w (posting_in ps trace) (pends line told rest) s → GoesOn w trace client (HearsAt line told) rest ps ps es es s s
+    unheard_goes trace s line client told rest ps es is matched none sound = record {
+      ends = no_more w (posting_in ps trace) es;
       sound = record {
+        told = sound.told;
         arisen = sound.arisen;
         called = sound.called;
         known = sound.known;
@@ -573,7 +629,7 @@ module _ {P Q K : Type 0} where
         numbered = sound.numbered;
         unwanted = sound.unwanted;
       };
-      posted = λ n a x. x;
+      posted = keeps_none ps;
       lines = λ n a x. inl (x, λ h. deaf n a h.0 x);
       outs = λ c. refl;
       tickets = λ c. refl;
@@ -584,8 +640,9 @@ module _ {P Q K : Type 0} where
         deaf n a e (i, v, x) = unheard_voice (stands_of (rows_of s)) line i matched (λ z. let one = is.first in omega (arith, one, z)) none (ap (voice i) (stand_read (rows_of s) i) ∙ v ∙ e)
 
     -- whether it beats does not matter
-    pub head_sound : (s : Clients P Q K) (a : Asker) (rest : List Asker) → IsSound w (a ∷ rest) s → IsSound w (record { line = a.line; beat = false; ask = a.ask } ∷ rest) s
-    head_sound s a rest sound = record {
+    pub head_sound : (trace : Option Trace) (s : Clients P Q K) (a : Asker) (rest : List Asker) → IsSound w trace (a ∷ rest) s → IsSound w trace (record { line = a.line; beat = false; ask = a.ask } ∷ rest) s
+    head_sound trace s a rest sound = record {
+      told = sound.told;
       arisen = sound.arisen;
       called = sound.called;
       known = sound.known;
@@ -603,11 +660,12 @@ module _ {P Q K : Type 0} where
         ]
 
     -- what comes that is no timestamp
-    pub pends_none : (s : Clients P Q K) (line : ℕ) (a : Arrival) → IsSound w [] s → IsSound w (pends line (tells.Heard a) []) s
-    pends_none s line (arrivals.Reply n x) sound = sound
-    pends_none s line (arrivals.Lost n) sound = sound
-    pends_none s line (arrivals.Slept n) sound = sound
-    pends_none s line (arrivals.Time n x) sound = record {
+    pub pends_none : (trace : Option Trace) (s : Clients P Q K) (line : ℕ) (a : Arrival) → IsSound w trace [] s → IsSound w trace (pends line (tells.Heard a) []) s
+    pends_none trace s line (arrivals.Reply n x) sound = sound
+    pends_none trace s line (arrivals.Lost n) sound = sound
+    pends_none trace s line (arrivals.Slept n) sound = sound
+    pends_none trace s line (arrivals.Time n x) sound = record {
+      told = sound.told;
       arisen = sound.arisen;
       called = sound.called;
       known = sound.known;

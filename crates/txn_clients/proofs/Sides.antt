@@ -1,18 +1,21 @@
 -- Steps of clients as a machine sees them.
-use Rattle.std.proofs.Common.{◌≡◌, ◌≢◌, ◌⊎◌, inl, inr, ℕ, zero, suc, ◌+◌, ◌-◌, ◌<◌, ◌≤◌, Bool, true, false, List, [], ◌∷◌, ◌++◌, length, map, get_or, set, Option, Some, None, refl, sym, ap, ◌∙◌, subst, arith, length-append}
+use Rattle.std.proofs.Common.{◌≡◌, ◌≢◌, inl, inr, ℕ, zero, suc, ◌+◌, ◌-◌, ◌<◌, ◌≤◌, Bool, true, false, List, [], ◌∷◌, ◌++◌, length, map, get_or, set, Option, Some, None, refl, sym, ap, ◌∙◌, subst, arith, length-append}
 use Rattle.std.proofs.lemmas.List.{map-append}
 use Rattle.std.proofs.lemmas.List.Elements.{All-nil}
-use Rattle.std.specs.List.{Any}
 use Rattle.std.specs.Prelude.{IfOk, OnOk, Result, Ok, Err}
 use Rattle.txn_kv.specs.declared.ticket.Ticket.{Ticket}
 use Rattle.txn_history.specs.Meaning.{IsLawful}
 use Rattle.txn_history.specs.Phase.{Awaited}
-use Rattle.txn_history.specs.Phase.Awaited.{ReplyTo, EndOf, TimeOf}
+use Rattle.txn_history.specs.Phase.Awaited.{ReplyTo, EndOf}
 use Rattle.txn_plan.specs.Arrivals.{awaited_as}
 use Rattle.txn_plan.specs.declared.arrival.Arrival.{Arrival}
 use Rattle.txn_commit.specs.Committing.{Ways}
-use Rattle.txn_side.specs.Sight.{Group, GroupsGo, IsAsk, IsOut, Sight, client_at, lives, stand_at}
-use Rattle.txn_side.specs.Sight.Stand.{Calling, HasBegun, Idle, IsClient}
+use Rattle.txn_side.specs.Sight.{Group, GroupsGo, IsOut, client_at, lives, stand_at}
+use Rattle.txn_side.specs.Sight.Stand.{Asking, Calling, HasBegun, Idle, IsClient}
+use Rattle.txn_side.specs.Trace.{Trace}
+use Rattle.txn_side.specs.declared.turn.Ending.{Ending}
+use Rattle.txn_clients.specs.Matching.{AreMatched}
+use Rattle.txn_clients.specs.Resting.{RestsIn, nothing_rests}
 use Rattle.txn_side.specs.Waiting.{HearsEnd, HearsReply, NoneHeard, WaitsOn}
 use Rattle.txn_side.specs.Waiting as side
 use Rattle.txn_side.specs.Waiting.Awaited.{EndOf as SideEnd, ReplyTo as SideReply}
@@ -22,16 +25,15 @@ use Rattle.txn_clients.specs.Clients.{AreReady, HasOut, crashed_of, nexts_of, ro
 use Rattle.txn_clients.specs.Groups.{group_by, lines_in}
 use Rattle.txn_clients.specs.Matching.{IsLine}
 use Rattle.txn_clients.specs.Rows.{RowReady}
-use Rattle.txn_clients.specs.Waiting.{AreRunning, Book, GroupsBeside, HearsAt, IsMet, IsOwned, IsQuiet, IsReady, IsSound, RowArises, RowRuns, Steps, Wants, asks_of, blank, book_at, book_of, kind, posted_at, voice_at, waits_of}
+use Rattle.txn_clients.specs.Waiting.{AreRunning, Book, GroupsBeside, HearsAt, IsOwned, IsQuiet, IsReady, IsSound, RowRuns, Steps, Wants, asks_of, blank, book_at, book_of, kind, waits_of}
 use Rattle.txn_clients.specs.declared.client_state.ClientState.{ClientState}
 use Rattle.txn_clients.specs.declared.clients.Clients.{Clients}
 use Rattle.txn_clients.specs.declared.place.Place.{Place}
-use Rattle.txn_clients.specs.declared.row.Row.{Row}
 use Rattle.txn_clients.specs.declared.row.Row.TheVariants as row
 use Rattle.txn_clients.specs.declared.told.Told.TheVariants as tells
 use Rattle.txn_clients.proofs.Opening.{crashed_sound, idle_fewer, idle_sound, lives_more, opened_fewer, opened_sound}
 use Rattle.txn_clients.proofs.Settling.{books_same, client_same, row_within}
-use Rattle.txn_clients.proofs.Sounding.{le_of, running_set}
+use Rattle.txn_clients.proofs.Sounding.{running_set}
 use Rattle.txn_clients.proofs.Stands.{or_ended}
 use Rattle.txn_clients.proofs.Stepping.{group_there, met_as, waits_on}
 use Rattle.txn_clients.proofs.Tables.{same_groups}
@@ -58,14 +60,21 @@ module _ {P Q K A B D : Type 0} (w : Ways P Q K A B D) where
   waits_fewer s t fewer out = record { lines = λ n a x. inl (fewer n (kind a) x, λ h. h); groups = λ g o. inl (out g o, λ h. h) }
 
   -- nothing was heard
-  pub waits_none : (s t : Clients P Q K) (ps : List Posting) → Steps w (λ n a. ⊥) ps s t → GroupsGo ps (sight_of s) (sight_of t) → WaitsOn NoneHeard ps (waits_of w s) (waits_of w t) (sight_of s) (sight_of t)
-  waits_none s t ps g gone = waits_on w s t (λ n a. ⊥) NoneHeard ps g (λ n a h. h) (λ group out. elim (gone group out) [ inl o ↦ inl (o, λ h. h) | inr a ↦ inr a ])
+  pub waits_none : (s t : Clients P Q K) (ps : List Posting) (es : List Ending) → Steps w None (λ n a. ⊥) ps es s t → GroupsGo ps (sight_of s) (sight_of t) → WaitsOn NoneHeard ps (waits_of w s) (waits_of w t) (sight_of s) (sight_of t)
+  waits_none s t ps es g gone = waits_on w s t (λ n a. ⊥) NoneHeard ps es g (λ n a h. h) (λ group out. elim (gone group out) [ inl o ↦ inl (o, λ h. h) | inr a ↦ inr a ])
+
+  -- nobody waits for the reply to a beat
+  pub waits_deaf : (s : Clients P Q K) (ticket : Ticket) (ps : List Posting) → ticket.beat ≡ true → WaitsOn (HearsReply ticket) ps (waits_of w s) (waits_of w s) (sight_of s) (sight_of s)
+  waits_deaf s ticket ps beat = record { lines = λ n a x. inl (x, λ h. two (sym beat ∙ h.0)); groups = λ g o. inl (o, λ h. two (sym beat ∙ h.0)) }
+    where
+      two : true ≡ false → ⊥
+      two q = cc
 
   -- the reply to a request of a line, which is not its client's request for timestamps
-  pub waits_reply : (s t : Clients P Q K) (ticket : Ticket) (client : ℕ) (x : Arrival) (ps : List Posting) → awaited_as x ≡ ReplyTo ticket.number → client_at (stand_at (sight_of s).stands ticket.line) ≡ Some client → ((book_at s client).ticket ≡ Some ticket → ⊥) → IsReady w s
-      → Steps w (HearsAt ticket.line (tells.Heard x)) ps s t → GroupsGo ps (sight_of s) (sight_of t) → WaitsOn (HearsReply ticket) ps (waits_of w s) (waits_of w t) (sight_of s) (sight_of t)
-  waits_reply s t ticket client x ps as_reply own other ready g gone =
-      waits_on w s t (HearsAt ticket.line (tells.Heard x)) (HearsReply ticket) ps g (λ n a h. (h.1, ap kind h.2 ∙ sym as_reply))
+  pub waits_reply : (s t : Clients P Q K) (ticket : Ticket) (client : ℕ) (x : Arrival) (ps : List Posting) (es : List Ending) → awaited_as x ≡ ReplyTo ticket.number → client_at (stand_at (sight_of s).stands ticket.line) ≡ Some client → ((book_at s client).ticket ≡ Some ticket → ⊥) → IsReady w s
+      → Steps w None (HearsAt ticket.line (tells.Heard x)) ps es s t → GroupsGo ps (sight_of s) (sight_of t) → WaitsOn (HearsReply ticket) ps (waits_of w s) (waits_of w t) (sight_of s) (sight_of t)
+  waits_reply s t ticket client x ps es as_reply own other ready g gone =
+      waits_on w s t (HearsAt ticket.line (tells.Heard x)) (HearsReply ticket) ps es g (λ n a h. (h.1, ap kind h.2 ∙ sym as_reply))
       (λ group out. elim (gone group out) [ inl o ↦ inl (o, λ h. deaf group o h) | inr a ↦ inr a ])
     where
       deaf : (group : Group) → IsOut (sight_of s) group → HearsReply ticket group.ticket.line (SideReply group.ticket.number) → ⊥
@@ -88,9 +97,9 @@ module _ {P Q K A B D : Type 0} (w : Ways P Q K A B D) where
           mine = client_same c client (sym owned.own ∙ ap (λ n. client_at (stand_at (sight_of s).stands n)) h.1 ∙ own)
 
   -- the reply to its client's request for timestamps
-  pub waits_group : (s t : Clients P Q K) (ticket : Ticket) (client : ℕ) (ps : List Posting) → client_at (stand_at (sight_of s).stands ticket.line) ≡ Some client → (book_at s client).ticket ≡ Some ticket → IsReady w s
-      → Steps w (λ n a. ⊥) ps s t → GroupsBeside client ps (sight_of s) (sight_of t) → WaitsOn (HearsReply ticket) ps (waits_of w s) (waits_of w t) (sight_of s) (sight_of t)
-  waits_group s t ticket client ps own here ready g beside = record {
+  pub waits_group : (s t : Clients P Q K) (ticket : Ticket) (client : ℕ) (ps : List Posting) (es : List Ending) → client_at (stand_at (sight_of s).stands ticket.line) ≡ Some client → (book_at s client).ticket ≡ Some ticket → IsReady w s
+      → Steps w None (λ n a. ⊥) ps es s t → GroupsBeside client ps (sight_of s) (sight_of t) → WaitsOn (HearsReply ticket) ps (waits_of w s) (waits_of w t) (sight_of s) (sight_of t)
+  waits_group s t ticket client ps es own here ready g beside = record {
     lines = λ n a x. elim (g.lines n (kind a) x) [ inl y ↦ inl (y.0, λ h. unwanted n a h y.0) | inr y ↦ inr (met_as w ps n a y) ];
     groups = λ group out. elim (beside group out) [ inl o ↦ inl ((o.0, o.2), λ h. deaf group o.0 o.1 o.2 h) | inr a ↦ inr a ];
   }
@@ -105,9 +114,9 @@ module _ {P Q K A B D : Type 0} (w : Ways P Q K A B D) where
           apart (client_same c client (sym owned.own ∙ ap (λ n. client_at (stand_at (sight_of s).stands n)) h.1 ∙ own))
 
   -- a sleep has ended
-  pub waits_end : (s t : Clients P Q K) (ticket : Ticket) (x : Arrival) (ps : List Posting) → awaited_as x ≡ EndOf ticket.number → Steps w (HearsAt ticket.line (tells.Heard x)) ps s t → GroupsGo ps (sight_of s) (sight_of t) → WaitsOn (HearsEnd ticket) ps (waits_of w s) (waits_of w t) (sight_of s) (sight_of t)
-  waits_end s t ticket x ps as_end g gone =
-      waits_on w s t (HearsAt ticket.line (tells.Heard x)) (HearsEnd ticket) ps g (λ n a h. (h.0, ap kind h.1 ∙ sym as_end))
+  pub waits_end : (s t : Clients P Q K) (ticket : Ticket) (x : Arrival) (ps : List Posting) (es : List Ending) → awaited_as x ≡ EndOf ticket.number → Steps w None (HearsAt ticket.line (tells.Heard x)) ps es s t → GroupsGo ps (sight_of s) (sight_of t) → WaitsOn (HearsEnd ticket) ps (waits_of w s) (waits_of w t) (sight_of s) (sight_of t)
+  waits_end s t ticket x ps es as_end g gone =
+      waits_on w s t (HearsAt ticket.line (tells.Heard x)) (HearsEnd ticket) ps es g (λ n a h. (h.0, ap kind h.1 ∙ sym as_end))
       (λ group out. elim (gone group out) [ inl o ↦ inl (o, λ h. other group.ticket.number h.1) | inr a ↦ inr a ])
     where
       other : (m : ℕ) → SideReply m ≡ SideEnd ticket.number → ⊥
@@ -125,7 +134,7 @@ module _ {P Q K A B D : Type 0} (w : Ways P Q K A B D) where
       committing = q;
       rolling = k;
       rows = ready;
-      sound = opened_sound w p q k s t [] rows nexts asks clients old.sound;
+      sound = opened_sound w p q k None s t [] rows nexts asks clients old.sound;
       running = opened_runs s t rows old.running;
       quiet = λ c. subst IsQuiet (sym (books_same s t clients c)) (old.quiet c);
     }
@@ -138,20 +147,16 @@ module _ {P Q K A B D : Type 0} (w : Ways P Q K A B D) where
     book_more : (s t : Clients P Q K) (c : ClientState) → t.clients.items ≡ s.clients.items ++ c ∷ [] → book_of c ≡ blank → (d : ℕ) → book_at t d ≡ book_at s d
     book_more s t c clients new d = ap (λ cs. get_or (map book_of cs) d blank) clients ∙ ap (λ bs. get_or bs d blank) (map-append book_of s.clients.items (c ∷ []) ∙ ap (λ b. map book_of s.clients.items ++ b ∷ []) new) ∙ or_ended (map book_of s.clients.items) blank d
 
-    pub connected_all : (s t : Clients P Q K) (line client : ℕ) (c : ClientState) → IsLine (stands_of (rows_of s)) line → stand_at (stands_of (rows_of s)) line ≡ Idle → client ≡ length (crashed_of s) → t.clients.items ≡ s.clients.items ++ c ∷ [] → book_of c ≡ blank → crashed_of t ≡ crashed_of s ++ false ∷ []
-        → rows_of t ≡ set (rows_of s) (line - 1) (row.Client client) → nexts_of t ≡ nexts_of s → asks_of t ≡ asks_of s → AreReady w (rows_of t) → IsReady w s → IsReady w t
-    connected_all s t line client c is idle number clients new crashed rows nexts asks ready old = record {
-      prewriting = p;
-      committing = q;
-      rolling = k;
-      rows = ready;
-      sound = idle_sound w p q k s t line client (row.Client client) [] is idle old.rows.matched (λ a x. x) (λ o ns. tt) refl there (λ d x a e. never d x a e) rows nexts asks (le_of_more long) (λ d h l. lives_more (crashed_of s) d h (subst (λ cs. lives cs (Some d) ≡ true) crashed l)) (book_more s t c clients new) old.sound;
-      running = subst AreRunning (sym rows) (running_set (rows_of s) (line - 1) (row.Client client) (row_within (rows_of s) line is) (λ i apart. old.running i) tt);
-      quiet = λ d. subst IsQuiet (sym (book_more s t c clients new d)) (old.quiet d);
-    }
+    connected_sound : (trace : Option Trace) (s t : Clients P Q K) (line client : ℕ) (c : ClientState) → IsLine (stands_of (rows_of s)) line → stand_at (stands_of (rows_of s)) line ≡ Idle → client ≡ length (crashed_of s) → t.clients.items ≡ s.clients.items ++ c ∷ [] → book_of c ≡ blank → crashed_of t ≡ crashed_of s ++ false ∷ []
+        → rows_of t ≡ set (rows_of s) (line - 1) (row.Client client) → nexts_of t ≡ nexts_of s → asks_of t ≡ asks_of s → AreMatched (stands_of (rows_of s)) → IsSound w trace [] s → IsSound w trace [] t
+    connected_sound trace s t line client c is idle number clients new crashed rows nexts asks matched sound =
+        idle_sound w p q k trace s t line client (row.Client client) [] is idle matched (λ a x. x) (λ at o ns. tt) refl there (λ d x a e. never d x a e) (λ d a e. absurd (unasked d a e)) rows nexts asks (le_of_more long) (λ d h l. lives_more (crashed_of s) d h (subst (λ cs. lives cs (Some d) ≡ true) crashed l)) (book_more s t c clients new) sound
       where
         never : (d x : ℕ) (a : Bool) → IsClient client ≡ Calling d x a → ⊥
         never d x a e = cc
+
+        unasked : (d : ℕ) (a : Bool) → IsClient client ≡ Asking d a → ⊥
+        unasked d a e = cc
 
         long : length (crashed_of t) ≡ length (crashed_of s) + 1
         long = ap length crashed ∙ length-append (crashed_of s) (false ∷ [])
@@ -161,6 +166,22 @@ module _ {P Q K A B D : Type 0} (w : Ways P Q K A B D) where
 
         le_of_more : length (crashed_of t) ≡ length (crashed_of s) + 1 → length (crashed_of s) ≤ length (crashed_of t)
         le_of_more l = omega (arith, l)
+
+    pub connected_all : (s t : Clients P Q K) (line client : ℕ) (c : ClientState) → IsLine (stands_of (rows_of s)) line → stand_at (stands_of (rows_of s)) line ≡ Idle → client ≡ length (crashed_of s) → t.clients.items ≡ s.clients.items ++ c ∷ [] → book_of c ≡ blank → crashed_of t ≡ crashed_of s ++ false ∷ []
+        → rows_of t ≡ set (rows_of s) (line - 1) (row.Client client) → nexts_of t ≡ nexts_of s → asks_of t ≡ asks_of s → AreReady w (rows_of t) → IsReady w s → IsReady w t
+    connected_all s t line client c is idle number clients new crashed rows nexts asks ready old = record {
+      prewriting = p;
+      committing = q;
+      rolling = k;
+      rows = ready;
+      sound = connected_sound None s t line client c is idle number clients new crashed rows nexts asks old.rows.matched old.sound;
+      running = subst AreRunning (sym rows) (running_set (rows_of s) (line - 1) (row.Client client) (row_within (rows_of s) line is) (λ i apart. old.running i) tt);
+      quiet = λ d. subst IsQuiet (sym (book_more s t c clients new d)) (old.quiet d);
+    }
+
+    pub connected_rests : (trace : Trace) (s t : Clients P Q K) (line client : ℕ) (c : ClientState) → IsLine (stands_of (rows_of s)) line → stand_at (stands_of (rows_of s)) line ≡ Idle → client ≡ length (crashed_of s) → t.clients.items ≡ s.clients.items ++ c ∷ [] → book_of c ≡ blank → crashed_of t ≡ crashed_of s ++ false ∷ []
+        → rows_of t ≡ set (rows_of s) (line - 1) (row.Client client) → nexts_of t ≡ nexts_of s → asks_of t ≡ asks_of s → AreMatched (stands_of (rows_of s)) → RestsIn w s trace → RestsIn w t trace
+    connected_rests trace s t line client c is idle number clients new crashed rows nexts asks matched rests = connected_sound (Some trace) s t line client c is idle number clients new crashed rows nexts asks matched rests
 
     pub connected_waits : (s t : Clients P Q K) (line client : ℕ) (c : ClientState) → IsLine (stands_of (rows_of s)) line → t.clients.items ≡ s.clients.items ++ c ∷ [] → book_of c ≡ blank → rows_of t ≡ set (rows_of s) (line - 1) (row.Client client)
         → WaitsOn NoneHeard [] (waits_of w s) (waits_of w t) (sight_of s) (sight_of t)
@@ -175,7 +196,7 @@ module _ {P Q K A B D : Type 0} (w : Ways P Q K A B D) where
       committing = q;
       rolling = k;
       rows = ready;
-      sound = crashed_sound w p q k s t client [] places crashed books old.sound;
+      sound = crashed_sound w p q k None s t client [] places crashed books old.sound;
       running = subst (λ v. AreRunning (map (λ (x : Place P Q K). x.row) v.items)) (sym places) old.running;
       quiet = λ c. subst IsQuiet (sym (books c)) (old.quiet c);
     }
@@ -191,16 +212,7 @@ new_ready {P} {Q} {K} w p q k s places clients ready = record {
   committing = q;
   rolling = k;
   rows = ready;
-  sound = record {
-    arisen = λ i. subst (λ rs. RowArises w (posted_at (nexts_of s) (asks_of s) (voice_at rs i)) (nexts_of s) (row_at rs i)) (sym rows) tt;
-    called = λ n c x b e. absurd (never n (subst (λ rs. stand_at (stands_of rs) n ≡ Calling c x b) rows e));
-    known = λ n c e. absurd (nobody_at n (subst (λ rs. client_at (stand_at (stands_of rs) n) ≡ Some c) rows e));
-    asked = λ n c i e l x. absurd (nobody_at n (subst (λ rs. client_at (stand_at (stands_of rs) n) ≡ Some c) rows e));
-    paired = λ c. inl (ap (λ (b : Book). b.out) (book c));
-    owned = λ c t e. absurd (none (sym (ap (λ (b : Book). b.ticket) (book c)) ∙ e));
-    numbered = λ c t e. absurd (none (sym (ap (λ (b : Book). b.ticket) (book c)) ∙ e));
-    unwanted = λ c t e. absurd (none (sym (ap (λ (b : Book). b.ticket) (book c)) ∙ e));
-  };
+  sound = nothing_rests w None s rows clients;
   running = λ i. subst (λ rs. RowRuns (row_at rs i)) (sym rows) tt;
   quiet = λ c. inl (ap (λ (b : Book). b.queue) (book c));
 }
@@ -211,17 +223,6 @@ new_ready {P} {Q} {K} w p q k s places clients ready = record {
     book : (c : ℕ) → book_at s c ≡ blank
     book c = ap (λ cs. get_or (map book_of cs) c blank) clients
 
-    none : {t : Ticket} → None ≡ Some t → ⊥
-    none q = cc
-
-    never : (n : ℕ) {c x : ℕ} {b : Bool} → stand_at [] n ≡ Calling c x b → ⊥
-    never zero q = cc
-    never (suc n) q = cc
-
-    nobody_at : (n : ℕ) {c : ℕ} → client_at (stand_at [] n) ≡ Some c → ⊥
-    nobody_at zero q = cc
-    nobody_at (suc n) q = cc
-
 module _ {P Q K A B D : Type 0} (w : Ways P Q K A B D) where
   module _ (p : IsLawful w.prewriting) (q : IsLawful w.committing) (k : IsLawful w.rolling) where
     opened_lists : (s t : Clients P Q K) (d : Place P Q K) → d ≡ record { row = row.Plain; next = 1; next_ask = 1 } → t.places.items ≡ s.places.items ++ d ∷ []
@@ -231,6 +232,9 @@ module _ {P Q K A B D : Type 0} (w : Ways P Q K A B D) where
       ap (map (λ (x : Place P Q K). x.next)) items ∙ map-append (λ (x : Place P Q K). x.next) s.places.items (d ∷ []) ∙ ap (λ (x : Place P Q K). nexts_of s ++ x.next ∷ []) new,
       ap (map (λ (x : Place P Q K). x.next_ask)) items ∙ map-append (λ (x : Place P Q K). x.next_ask) s.places.items (d ∷ []) ∙ ap (λ (x : Place P Q K). asks_of s ++ x.next_ask ∷ []) new,
     )
+
+    pub opened_rests : (trace : Trace) (s t : Clients P Q K) (d : Place P Q K) → d ≡ record { row = row.Plain; next = 1; next_ask = 1 } → t.places.items ≡ s.places.items ++ d ∷ [] → t.clients ≡ s.clients → RestsIn w s trace → RestsIn w t trace
+    opened_rests trace s t d new items clients sound = let l = opened_lists s t d new items in opened_sound w p q k (Some trace) s t [] l.0 l.1 l.2 clients sound
 
     pub opened_ready_all : (s t : Clients P Q K) (d : Place P Q K) → d ≡ record { row = row.Plain; next = 1; next_ask = 1 } → t.places.items ≡ s.places.items ++ d ∷ [] → t.clients ≡ s.clients → AreReady w (rows_of t) → IsReady w s → IsReady w t
     opened_ready_all s t d new items clients ready old = let l = opened_lists s t d new items in opened_all w p q k s t l.0 l.1 l.2 clients ready old

@@ -1,26 +1,22 @@
 -- A transaction goes on, and can have arisen from a history of its own.
-use Rattle.std.proofs.Common.{◌≡◌, ◌≢◌, ◌⊎◌, inl, inr, ℕ, ◌<◌, ◌≤◌, Bool, true, false, List, [], ◌∷◌, ◌++◌, Option, Some, None, refl, sym, ap, ◌∙◌, subst, arith}
+use Rattle.std.proofs.Common.{◌≡◌, ◌≢◌, ◌⊎◌, inl, inr, ℕ, ◌≤◌, Bool, true, false, List, [], ◌∷◌, Option, Some, None, refl, sym, ap, ◌∙◌, subst}
 use Rattle.std.specs.Prelude.{⊤, Result, Ok, Err}
 use Rattle.txn_kv.specs.Timestamp.{version_of}
 use Rattle.txn_kv.specs.declared.errors.Error.{Error}
 use Rattle.txn_kv.specs.declared.message.Mutation.{Mutation}
 use Rattle.txn_kv.specs.declared.message.Op.{Op}
 use Rattle.txn_kv.specs.declared.message.Op.TheVariants as op
-use Rattle.txn_kv.specs.declared.reply.Reply as reply
-use Rattle.txn_kv.specs.declared.reply.Reply.TheVariants as replies
 use Rattle.txn_kv.specs.declared.request.Request.{Request}
 use Rattle.txn_kv.specs.declared.ticket.Ticket.{Ticket}
-use Rattle.txn_kv.specs.declared.timestamp.Timestamp.{Timestamp}
 use Rattle.txn_history.specs.Event.{Event, Has}
 use Rattle.txn_history.specs.Event.Event.{Sent}
 use Rattle.txn_history.specs.Later.{IsLater}
-use Rattle.txn_history.specs.Meaning.{Expects, IsLawful, WasPosted}
-use Rattle.txn_history.specs.Moves.{Moves}
-use Rattle.txn_history.specs.Phase.{Awaited, IsRunning}
-use Rattle.txn_history.specs.Phase.Awaited.{ReplyTo}
-use Rattle.txn_history.specs.Phase.Phase.{Running}
+use Rattle.txn_history.specs.Meaning.{Expects, IsLawful}
+use Rattle.txn_history.specs.Phase.{Awaited, IsRunning, Phase, phase_after, unheard}
+use Rattle.txn_history.specs.Phase.Awaited.{ReplyTo, EndOf, TimeOf}
+use Rattle.txn_history.specs.Phase.Phase.{Fresh, GivenUp, Over, Running}
 use Rattle.txn_history.specs.Posted.{Posted, after, ticket_of}
-use Rattle.txn_history.specs.Turn.{IfKept, IfKept-out, Turn}
+use Rattle.txn_history.specs.Turn.{IfEnds, IfEnds-weaker, IfKept, IfKept-out, Turn}
 use Rattle.txn_history.specs.Turn.Turn.{Stopped, Waits, Ends}
 use Rattle.txn_history.proofs.Telling.{Expects-quiet}
 use Rattle.txn_plan.specs.Arrivals.{awaited_as, told_by}
@@ -32,18 +28,27 @@ use Rattle.txn_buffer.specs.Writes.{Write, WriteCall, after_delete, after_put}
 use Rattle.txn_commit.specs.Committing.{Ways}
 use Rattle.txn_commit.specs.Following.{Commits, awaits, is_out, undetermined}
 use Rattle.txn_commit.specs.Sending.{plan_of}
-use Rattle.txn_core.specs.Going.{IsAtWork, IsUndetermined, MaySendFor, TransactionFits, TransactionGives, TransactionMoves, TransactionReady}
+use Rattle.txn_core.specs.Going.{IsAtWork, IsUndetermined, TransactionFits, TransactionMoves, TransactionReady}
 use Rattle.txn_core.specs.Status.{allows_data}
-use Rattle.txn_core.specs.Transaction.{AreLocked, AreSteps, GivesUp, IsOrdered, IsRefused, IsStep, Standing, WriteEnds, and_mutated, begun, is_open, is_waiting, locked_all, mutated_all, or_refused, refused_unless}
+use Rattle.txn_core.specs.Transaction.{AreLocked, AreSteps, GivesUp, IsOrdered, IsRefused, IsStep, Standing, WriteEnds, and_mutated, is_open, is_waiting, locked_all, mutated_all, or_refused, refused_unless}
 use Rattle.txn_core.specs.Waiting.{Opens, TransactionGoes, work_phase, work_waits}
 use Rattle.txn_core.specs.declared.transaction.Work.{Work}
 use Rattle.txn_core.specs.declared.transaction.Work.TheVariants.{Idle, Open, GaveUp}
 use Rattle.txn_core.specs.declared.txn_answer.TxnAnswer.{TxnAnswer}
+use Rattle.txn_core.specs.declared.txn_answer.TxnAnswer.TheVariants as answer
 use Rattle.txn_core.proofs.Ordered.{locked_ordered, written_fits, written_ordered}
 use Rattle.txn_core.proofs.Others.{adds_same, idle_fits, others_fit}
 use Rattle.txn_core.proofs.Waiting.{busy_runs, runs_still, standing_posted}
 use Rattle.txn_side.specs.Sight.{next_at}
-use Rattle.txn_clients.specs.Waiting.{HasArisen, IsKept, IsReached, IsRisen, StandArises, StandGoes}
+use Rattle.txn_clients.specs.Failing.{CalledIn, CameIn, FailsAt, HasMet, IfFails, LongerIn, RefusedIn, SentIn, ShownIn}
+use Rattle.txn_clients.specs.Resting.{called_in_longer, shown_longer}
+use Rattle.txn_clients.specs.Waiting.{IsKept, IsReached, IsRisen, StandArises, StandGoes}
+use Rattle.txn_clients.proofs.Showing.{among_behind, fails_by, known_so, fails_done, fits_known, refused_by, refused_longer_in, sent_shown, shown_after, shown_heard, unheard_ends}
+use Rattle.txn_side.specs.Account.{Account, refusal}
+use Rattle.txn_side.specs.Trace.{Trace}
+use Rattle.txn_side.specs.declared.act.Act.{Act}
+use Rattle.txn_kv.specs.declared.outbox.Errand.TheVariants.{Send}
+use Rattle.txn_history.specs.Among.{IsAmong}
 use Rattle.txn_clients.proofs.Kept.{kept_heard, kept_posted, kept_risen, none_out, sent_or_not}
 
 -- where it has not given up
@@ -136,10 +141,17 @@ module _ {P Q K A B D : Type 0} (w : Ways P Q K A B D) (p : IsLawful w.prewritin
   later_fits : (t : Standing P Q K) (o later : Posted) (h : List Event) → IsLater o later → TransactionFits w t o h → TransactionFits w t later h
   later_fits t o later h l f = others_fit w p q k t o later h h l (adds_same (λ r. r.start_version ≡ version_of t.start) h) f
 
-  pub stand_later : (t : Standing P Q K) (o later : Posted) (nexts news : List ℕ) → IsLater o later → IsRisen nexts news → StandArises w o nexts t → StandArises w later news t
+  pub stand_later : {trace : Option Trace} {at : ℕ} (t : Standing P Q K) (o later : Posted) (nexts news : List ℕ) → IsLater o later → IsRisen nexts news → StandArises w trace at o nexts t → StandArises w trace at later news t
   stand_later t o later nexts news l risen a = record {
     ordered = a.ordered;
-    arisen = record { history = a.arisen.history; fits = later_fits t o later a.arisen.history l a.arisen.fits; kept = kept_risen nexts news a.arisen.history risen a.arisen.kept };
+    arisen = record { history = a.arisen.history; fits = later_fits t o later a.arisen.history l a.arisen.fits; kept = kept_risen nexts news a.arisen.history risen a.arisen.kept; shown = a.arisen.shown };
+  }
+
+  -- and in a longer trace
+  stand_shown : (trace longer : Option Trace) (at : ℕ) (t : Standing P Q K) (o : Posted) (nexts : List ℕ) → LongerIn trace longer → StandArises w trace at o nexts t → StandArises w longer at o nexts t
+  stand_shown trace longer at t o nexts l a = record {
+    ordered = a.ordered;
+    arisen = record { history = a.arisen.history; fits = a.arisen.fits; kept = a.arisen.kept; shown = shown_longer trace longer at a.arisen.history l a.arisen.shown };
   }
 
   -- between calls, in any outbox
@@ -150,45 +162,74 @@ module _ {P Q K A B D : Type 0} (w : Ways P Q K A B D) (p : IsLawful w.prewritin
       by (inl i) = idle_fits w t o later h i f
       by (inr g) = record { given = f.given; unsent = f.unsent; at = subst (λ x. IsAtWork w t.start t.status t.contents t.commits x later h) (sym g) tt }
 
-  pub stand_rests : (t : Standing P Q K) (o later : Posted) (nexts news : List ℕ) → is_open t.work ≡ false → IsRisen nexts news → StandArises w o nexts t → StandArises w later news t
+  pub stand_rests : {trace : Option Trace} {at : ℕ} (t : Standing P Q K) (o later : Posted) (nexts news : List ℕ) → is_open t.work ≡ false → IsRisen nexts news → StandArises w trace at o nexts t → StandArises w trace at later news t
   stand_rests t o later nexts news e risen a = record {
     ordered = a.ordered;
-    arisen = record { history = a.arisen.history; fits = rest_fits t o later a.arisen.history e a.arisen.fits; kept = kept_risen nexts news a.arisen.history risen a.arisen.kept };
+    arisen = record { history = a.arisen.history; fits = rest_fits t o later a.arisen.history e a.arisen.fits; kept = kept_risen nexts news a.arisen.history risen a.arisen.kept; shown = a.arisen.shown };
   }
 
   -- It is told of something.
 
-  moved : (known : List Event → Type 0) (hear : List Event → List Event) (old new : Standing P Q K) (from to o : Posted) (turn : Turn (Result (TxnAnswer Q) Error)) (nexts news : List ℕ)
-      → TransactionMoves w known hear old new from to turn → turn ≢ Stopped → new.contents ≡ old.contents
+  -- What it comes to: it can have arisen from a longer history, and an error that it answers rests on that.
+  abbrev Arises : Option Trace → ℕ → ℕ → Posted → List ℕ → Standing P Q K → Turn (Result (TxnAnswer Q) Error) → Type 0
+  Arises longer at line o news new turn = StandArises w longer at o news new × IfEnds turn (IfFails (FailsAt w longer at line))
+
+  -- where it has answered it has not given up
+  abbrev Outlives : Standing P Q K → Turn (Result (TxnAnswer Q) Error) → Type 0
+  Outlives new turn = (v : Result (TxnAnswer Q) Error) → turn ≡ Ends v → new.work ≡ GaveUp → ⊥
+
+  given_up : GivenUp ≡ Over → ⊥
+  given_up e = cc
+
+  opened_alive : (new : Standing P Q K) (turn : Turn (Result (TxnAnswer Q) Error)) → work_phase w new.work ≡ phase_after turn → Outlives new turn
+  opened_alive new turn next v e g = given_up (sym (ap (work_phase w) g) ∙ next ∙ ap phase_after e)
+
+  unheard_answers : {A : Type 0} (phase : Phase) (v : A) → Ends v ≡ unheard phase → ⊥
+  unheard_answers Fresh v e = cc
+  unheard_answers Running v e = cc
+  unheard_answers Over v e = cc
+  unheard_answers GivenUp v e = cc
+
+  heard_alive : {C : Type 0} (meant : Type 0) (old new : Standing P Q K) (from to : Posted) (pd pd' : C) (turn : Turn (Result (TxnAnswer Q) Error)) → TransactionGoes w meant old new from to pd pd' turn → Outlives new turn
+  heard_alive meant old new from to pd pd' turn goes v e g = unheard_answers _ v (sym e ∙ goes.deaf (λ m. given_up (sym (ap (work_phase w) g) ∙ goes.next m ∙ ap phase_after e)))
+
+  moved : (trace longer : Option Trace) (at : ℕ) (known : List Event → Type 0) (hear : List Event → List Event) (old new : Standing P Q K) (from to o : Posted) (turn : Turn (Result (TxnAnswer Q) Error)) (nexts news : List ℕ)
+      → HasMet trace longer from to → CalledIn trace from.line at
+      → TransactionMoves w known hear old new from to turn → turn ≢ Stopped → Outlives new turn → new.start ≡ old.start → new.contents ≡ old.contents
       → ((h : List Event) → IsKept nexts h → IsKept nexts (hear h))
       → next_at nexts from.line ≤ from.next → IsRisen nexts news → to.next ≤ next_at news from.line → IsReached from to o
-      → (a : StandArises w from nexts old) → known a.arisen.history → StandArises w o news new
-  moved known hear old new from to o turn nexts news m kept same keeps low risen up reached a knows =
+      → (a : StandArises w trace at from nexts old) → known a.arisen.history → ShownIn trace at (hear a.arisen.history) → Arises longer at from.line o news new turn
+  moved trace longer at known hear old new from to o turn nexts news met called m kept alive start same keeps low risen up reached a knows hears =
       let h = a.arisen.history in
-      let longer = after from.line from.beat (hear h) m.sends in
-      record {
-        ordered = subst IsOrdered (sym same) a.ordered;
-        arisen = record {
-          history = longer;
-          fits = later_fits new to o longer (reached_later from to o m.line m.beat reached) (IfKept-out turn kept m.still h (a.arisen.fits, knows));
-          kept = kept_posted nexts news from.line from.beat from.next from.next_ask to.next to.next_ask m.sends (hear h) low m.numbered risen up (keeps h a.arisen.kept);
-        };
-      }
+      let after_all = after from.line from.beat (hear h) m.sends in
+      let fits = IfKept-out turn kept m.still h (a.arisen.fits, knows) in
+      let shown = shown_after longer at from.line from.beat (hear h) m.sends (called_in_longer trace longer from.line at met.longer called) (λ n store r i. met.sent n store r (subst (λ es. IsAmong es (Send n store r)) (sym m.pushed) (among_behind from.sends m.sends (Send n store r) i))) (shown_longer trace longer at (hear h) met.longer hears) in (
+        record {
+          ordered = subst IsOrdered (sym same) a.ordered;
+          arisen = record {
+            history = after_all;
+            fits = later_fits new to o after_all (reached_later from to o m.line m.beat reached) fits;
+            kept = kept_posted nexts news from.line from.beat from.next from.next_ask to.next to.next_ask m.sends (hear h) low m.numbered risen up (keeps h a.arisen.kept);
+            shown = shown;
+          };
+        },
+        fails_done w longer at from.line old new to after_all turn shown alive fits start same (IfEnds-weaker turn (λ v gives. gives h (a.arisen.fits, knows)) m.done),
+      )
 
   -- nothing changes
-  stays : (old new : Standing P Q K) (from to o : Posted) (nexts news : List ℕ) → new ≡ old → to ≡ from → IsRisen nexts news → IsReached from to o → StandArises w from nexts old → StandArises w o news new
-  stays old new from to o nexts news e f risen reached a =
-      subst (StandArises w o news) (sym e) (stand_later old from o nexts news (record { line = reached.line; beat = reached.beat; next = subst (λ (x : Posted). x.next ≤ o.next) f reached.next; next_ask = subst (λ (x : Posted). x.next_ask ≤ o.next_ask) f reached.next_ask }) risen a)
+  stays : (trace longer : Option Trace) (at : ℕ) (old new : Standing P Q K) (from to o : Posted) (nexts news : List ℕ) → LongerIn trace longer → new ≡ old → to ≡ from → IsRisen nexts news → IsReached from to o → StandArises w trace at from nexts old → StandArises w longer at o news new
+  stays trace longer at old new from to o nexts news l e f risen reached a =
+      subst (StandArises w longer at o news) (sym e) (stand_shown trace longer at old o news l (stand_later old from o nexts news (record { line = reached.line; beat = reached.beat; next = subst (λ (x : Posted). x.next ≤ o.next) f reached.next; next_ask = subst (λ (x : Posted). x.next_ask ≤ o.next_ask) f reached.next_ask }) risen a))
 
   -- of a request of which its own history knows nothing
-  unknown : {C : Type 0} (a : Arrival) (n : ℕ) (old new : Standing P Q K) (from to o : Posted) (pd pd' : C) (turn : Turn (Result (TxnAnswer Q) Error)) (nexts news : List ℕ)
+  unknown : {C : Type 0} (trace longer : Option Trace) (at : ℕ) (a : Arrival) (n : ℕ) (old new : Standing P Q K) (from to o : Posted) (pd pd' : C) (turn : Turn (Result (TxnAnswer Q) Error)) (nexts news : List ℕ) → LongerIn trace longer
       → awaited_as a ≡ ReplyTo n → awaits a from old.commits ≡ is_out (ticket_of from n) old.commits
       → TransactionGoes w (work_waits w old.work (awaited_as a)) (record old { commits = new.commits }) new from to pd pd' turn
       → ((work_waits w old.work (awaited_as a) → ⊥) → awaits a from old.commits ≡ false → new.commits ≡ old.commits)
       → (old.work ≡ Idle → (turn ≡ Waits) × (new ≡ old) × (to ≡ from)) → GivesUp old new turn → turn ≢ Stopped
-      → IsRisen nexts news → IsReached from to o → (x : StandArises w from nexts old) → ((r : Request) → Has x.arisen.history (Sent (ticket_of from n) r) → ⊥) → StandArises w o news new
-  unknown a n old new from to o pd pd' turn nexts news is out goes commits deaf gone kept risen reached x never =
-      stays old new from to o nexts news (same old.work refl) (goes.outbox other) risen reached x
+      → IsRisen nexts news → IsReached from to o → (x : StandArises w trace at from nexts old) → ((r : Request) → Has x.arisen.history (Sent (ticket_of from n) r) → ⊥) → Arises longer at from.line o news new turn
+  unknown trace longer at a n old new from to o pd pd' turn nexts news l is out goes commits deaf gone kept risen reached x never =
+      (stays trace longer at old new from to o nexts news l (same old.work refl) (goes.outbox other) risen reached x, unheard_ends turn _ (IfFails (FailsAt w longer at from.line)) (goes.deaf other))
     where
       h : List Event
       h = x.arisen.history
@@ -210,67 +251,103 @@ module _ {P Q K A B D : Type 0} (w : Ways P Q K A B D) (p : IsLawful w.prewritin
 
   pub hears_goes : {C : Type 0} (a : Arrival) (old new : Standing P Q K) (from to : Posted) (pd pd' : C) (turn : Turn (Result (TxnAnswer Q) Error))
       → ((r : Request) → TransactionMoves w (told_by a from r).known (told_by a from r).hear old new from to turn)
-      → new.contents ≡ old.contents
+      → new.start ≡ old.start → new.contents ≡ old.contents
       → TransactionGoes w (work_waits w old.work (awaited_as a)) (record old { commits = new.commits }) new from to pd pd' turn
       → Expects (work_waits w old.work) (work_waits w new.work) (λ x. x ≡ awaited_as a) from to
       → ((work_waits w old.work (awaited_as a) → ⊥) → awaits a from old.commits ≡ false → new.commits ≡ old.commits)
       → (old.work ≡ Idle → (turn ≡ Waits) × (new ≡ old) × (to ≡ from)) → GivesUp old new turn → TransactionReady w old
-      → IfKept turn (StandGoes w (λ x. x ≡ awaited_as a) (is_open old.work ≡ true) old new from to turn)
-  hears_goes a old new from to pd pd' turn tells same goes expects commits deaf gone ready = if_kept turn (λ kept. record {
-    arises = λ nexts news o low risen up reached x. by kept a refl nexts news o low risen up reached x;
+      → IfKept turn (StandGoes w (λ x. x ≡ awaited_as a) (is_open old.work ≡ true) (λ trace. CameIn trace from a) old new from to turn)
+  hears_goes a old new from to pd pd' turn tells start same goes expects commits deaf gone ready = if_kept turn (λ kept. record {
+    arises = λ trace longer at met called came nexts news o low risen up reached x. by kept a refl trace longer at met called came nexts news o low risen up reached x;
     expects = expects;
     runs = λ busy waits. runs_open new.work (runs_still (λ (t : Standing P Q K). work_phase w t.work) (busy_runs w old ready busy) goes waits);
   })
     where
+      Goal : Type 0
+      Goal = (trace longer : Option Trace) (at : ℕ) → HasMet trace longer from to → CalledIn trace from.line at → CameIn trace from a
+          → (nexts news : List ℕ) (o : Posted) → next_at nexts from.line ≤ from.next → IsRisen nexts news → to.next ≤ next_at news from.line → IsReached from to o → StandArises w trace at from nexts old → Arises longer at from.line o news new turn
+
       by_reply : turn ≢ Stopped → (n : ℕ) → awaited_as a ≡ ReplyTo n → awaits a from old.commits ≡ is_out (ticket_of from n) old.commits
           → ((r : Request) (h : List Event) → Has h (Sent (ticket_of from n) r) → ((s : Request) → Has h (Sent (ticket_of from n) s) → s ≡ r) → (told_by a from r).known h)
-          → (nexts news : List ℕ) (o : Posted) → next_at nexts from.line ≤ from.next → IsRisen nexts news → to.next ≤ next_at news from.line → IsReached from to o → StandArises w from nexts old → StandArises w o news new
-      by_reply kept n is out knows nexts news o low risen up reached x = elim (sent_or_not x.arisen.history (ticket_of from n)) [
-        | inl (r, i) ↦ moved _ _ old new from to o turn nexts news (tells r) kept same (kept_heard a from r nexts) low risen up reached x (knows r x.arisen.history i (λ s j. x.arisen.kept.alone (ticket_of from n) r s i j))
-        | inr never ↦ unknown a n old new from to o pd pd' turn nexts news is out goes commits deaf gone kept risen reached x never
+          → Goal
+      by_reply kept n is out knows trace longer at met called came nexts news o low risen up reached x = elim (sent_or_not x.arisen.history (ticket_of from n)) [
+        | inl (r, i) ↦ moved trace longer at _ _ old new from to o turn nexts news met called (tells r) kept (heard_alive _ _ new from to pd pd' turn goes) start same (kept_heard a from r nexts) low risen up reached x (knows r x.arisen.history i (λ s j. x.arisen.kept.alone (ticket_of from n) r s i j))
+            (shown_heard trace at a from r x.arisen.history called came (λ m e. subst (λ j. SentIn trace (ticket_of from j) r) (one m (sym is ∙ e)) (sent_shown trace at x.arisen.history (ticket_of from n) r x.arisen.shown i)) x.arisen.shown)
+        | inr never ↦ unknown trace longer at a n old new from to o pd pd' turn nexts news met.longer is out goes commits deaf gone kept risen reached x never
       ]
+        where
+          one : (m : ℕ) → ReplyTo n ≡ ReplyTo m → n ≡ m
+          one m q = cc
 
-      by : turn ≢ Stopped → (b : Arrival) → a ≡ b → (nexts news : List ℕ) (o : Posted) → next_at nexts from.line ≤ from.next → IsRisen nexts news → to.next ≤ next_at news from.line → IsReached from to o → StandArises w from nexts old → StandArises w o news new
+      -- where it is no reply and no loss
+      comes : turn ≢ Stopped → {b : Arrival} → ((m : ℕ) → awaited_as b ≡ ReplyTo m → ⊥) → a ≡ b → Goal
+      comes kept {b} other e trace longer at met called came nexts news o low risen up reached x = moved trace longer at _ _ old new from to o turn nexts news met called (tells members) kept (heard_alive _ _ new from to pd pd' turn goes) start same (kept_heard a from members nexts) low risen up reached x (known_so a from members x.arisen.history (λ m f. other m (sym (ap awaited_as e) ∙ f)))
+          (shown_heard trace at a from members x.arisen.history called came (λ m f. absurd (other m (sym (ap awaited_as e) ∙ f))) x.arisen.shown)
+
+      by : turn ≢ Stopped → (b : Arrival) → a ≡ b → Goal
       by kept (arrivals.Reply n x) e = by_reply kept n (ap awaited_as e) (ap (λ b. awaits b from old.commits) e) (λ r h i alone. subst (λ b. (told_by b from r).known h) (sym e) (record { sent = i; alone = alone }))
       by kept (arrivals.Lost n) e = by_reply kept n (ap awaited_as e) (ap (λ b. awaits b from old.commits) e) (λ r h i alone. subst (λ b. (told_by b from r).known h) (sym e) (record { sent = i; alone = alone }))
-      by kept (arrivals.Slept n) e = λ nexts news o low risen up reached x. moved _ _ old new from to o turn nexts news (tells members) kept same (kept_heard a from members nexts) low risen up reached x (subst (λ b. (told_by b from members).known x.arisen.history) (sym e) tt)
-      by kept (arrivals.Time n y) e = λ nexts news o low risen up reached x. moved _ _ old new from to o turn nexts news (tells members) kept same (kept_heard a from members nexts) low risen up reached x (subst (λ b. (told_by b from members).known x.arisen.history) (sym e) tt)
+      by kept (arrivals.Slept n) e = comes kept (λ m. other m) e
+        where
+          other : (m : ℕ) → EndOf n ≡ ReplyTo m → ⊥
+          other m q = cc
+      by kept (arrivals.Time n y) e = comes kept (λ m. other m) e
+        where
+          other : (m : ℕ) → TimeOf n ≡ ReplyTo m → ⊥
+          other m q = cc
 
   -- told of what came
   pub heard_goes : {C : Type 0} (b a : Arrival) (old new : Standing P Q K) (from to : Posted) (pd pd' : C) (turn : Turn (Result (TxnAnswer Q) Error)) → b ≡ a
       → ((r : Request) → TransactionMoves w (told_by a from r).known (told_by a from r).hear old new from to turn)
-      → new.contents ≡ old.contents
+      → new.start ≡ old.start → new.contents ≡ old.contents
       → TransactionGoes w (work_waits w old.work (awaited_as a)) (record old { commits = new.commits }) new from to pd pd' turn
       → Expects (work_waits w old.work) (work_waits w new.work) (λ x. x ≡ awaited_as a) from to
       → ((work_waits w old.work (awaited_as a) → ⊥) → awaits a from old.commits ≡ false → new.commits ≡ old.commits)
       → (old.work ≡ Idle → (turn ≡ Waits) × (new ≡ old) × (to ≡ from)) → GivesUp old new turn → TransactionReady w old
-      → IfKept turn (StandGoes w (λ x. x ≡ awaited_as b) (is_open old.work ≡ true) old new from to turn)
-  heard_goes b a old new from to pd pd' turn e tells same goes expects commits deaf gone ready =
-      subst (λ d. IfKept turn (StandGoes w (λ x. x ≡ awaited_as d) (is_open old.work ≡ true) old new from to turn)) (sym e) (hears_goes a old new from to pd pd' turn tells same goes expects commits deaf gone ready)
+      → IfKept turn (StandGoes w (λ x. x ≡ awaited_as b) (is_open old.work ≡ true) (λ trace. CameIn trace from b) old new from to turn)
+  heard_goes b a old new from to pd pd' turn e tells start same goes expects commits deaf gone ready =
+      subst (λ d. IfKept turn (StandGoes w (λ x. x ≡ awaited_as d) (is_open old.work ≡ true) (λ trace. CameIn trace from d) old new from to turn)) (sym e) (hears_goes a old new from to pd pd' turn tells start same goes expects commits deaf gone ready)
 
   -- It is asked for something.
 
   expects_none : (old new : Standing P Q K) (o : Posted) → is_open new.work ≡ false → Expects (work_waits w old.work) (work_waits w new.work) (λ a. ⊥) o o
   expects_none old new o e = Expects-quiet (λ a x. absurd (rest_silent w new.work a e x))
 
-  writes_idle : (refusal : Option Error) (wrote : Contents → Contents → Type 0) (old new : Standing P Q K) (o : Posted) (turn : Turn (Result (TxnAnswer Q) Error))
+  -- what a trace has to know of something that is asked: with what it is refused
+  abbrev Notes : (Option Trace → Type 0) → ℕ → Option Error → Type 0
+  Notes knows line refusal = (trace : Option Trace) → knows trace → RefusedIn trace line refusal
+
+  write_fails : (refusal : Option Error) (wrote : Contents → Contents → Type 0) (old new : Standing P Q K) (trace longer : Option Trace) (at line : ℕ) (v : Result (TxnAnswer Q) Error) → WriteEnds refusal wrote old new (Ends v) → LongerIn trace longer → RefusedIn trace line refusal → IfFails (FailsAt w longer at line) v
+  write_fails refusal wrote old new trace longer at line (Ok v) ends l r = tt
+  write_fails None wrote old new trace longer at line (Err e) ends l r = absurd (never ends.0)
+    where
+      never : ◌≡◌ {A = Result (TxnAnswer Q) Error} (Err e) (Ok answer.Unit) → ⊥
+      never q = cc
+  write_fails (Some why) wrote old new trace longer at line (Err e) ends l r = refused_by w longer at line e why (refused_longer_in trace longer line (Some why) l r) (one ends.0)
+    where
+      one : ◌≡◌ {A = Result (TxnAnswer Q) Error} (Err e) (Err why) → e ≡ why
+      one q = cc
+
+  writes_idle : (knows : Option Trace → Type 0) (refusal : Option Error) (wrote : Contents → Contents → Type 0) (old new : Standing P Q K) (o : Posted) (turn : Turn (Result (TxnAnswer Q) Error)) → Notes knows o.line refusal
       → (refusal ≡ None → allows_data old.status ≡ true) → ((c d : Contents) → wrote c d → IsOrdered c → IsOrdered d) → WriteEnds refusal wrote old new turn → old.work ≡ Idle
-      → IfKept turn (StandGoes w (λ a. ⊥) ⊤ old new o o turn)
-  writes_idle refusal wrote old new o Stopped may keeps ends idle = tt
-  writes_idle refusal wrote old new o Waits may keeps ends idle = absurd ends
-  writes_idle (Some e) wrote old new o (Ends v) may keeps ends idle = record {
-    arises = λ nexts news later low risen up reached x. stays old new o o later nexts news ends.1 refl risen reached x;
+      → IfKept turn (StandGoes w (λ a. ⊥) ⊤ knows old new o o turn)
+  writes_idle knows refusal wrote old new o Stopped notes may keeps ends idle = tt
+  writes_idle knows refusal wrote old new o Waits notes may keeps ends idle = absurd ends
+  writes_idle knows (Some e) wrote old new o (Ends v) notes may keeps ends idle = record {
+    arises = λ trace longer at met called known nexts news later low risen up reached x.
+        (stays trace longer at old new o o later nexts news met.longer ends.1 refl risen reached x, write_fails (Some e) wrote old new trace longer at o.line v ends met.longer (notes trace known));
     expects = expects_none old new o (ap (λ (t : Standing P Q K). is_open t.work) ends.1 ∙ ap is_open idle);
     runs = λ any f. absurd (cc);
   }
-  writes_idle None wrote old new o (Ends v) may keeps ends idle = record {
-    arises = λ nexts news later low risen up reached x. stand_later new o later nexts news (record { line = reached.line; beat = reached.beat; next = reached.next; next_ask = reached.next_ask }) risen (written nexts x);
+  writes_idle knows None wrote old new o (Ends v) notes may keeps ends idle = record {
+    arises = λ trace longer at met called known nexts news later low risen up reached x.
+        (stand_shown trace longer at new later news met.longer (stand_later new o later nexts news (record { line = reached.line; beat = reached.beat; next = reached.next; next_ask = reached.next_ask }) risen (written trace at nexts x)), write_fails None wrote old new trace longer at o.line v ends met.longer (notes trace known));
     expects = expects_none old new o (ap (λ (t : Standing P Q K). is_open t.work) ends.1 ∙ ap is_open idle);
     runs = λ any f. absurd (cc);
   }
     where
-      written : (nexts : List ℕ) → StandArises w o nexts old → StandArises w o nexts new
-      written nexts x =
+      written : (trace : Option Trace) (at : ℕ) (nexts : List ℕ) → StandArises w trace at o nexts old → StandArises w trace at o nexts new
+      written trace at nexts x =
           let now = keeps old.contents new.contents ends.2 x.ordered in
           record {
             ordered = now;
@@ -278,20 +355,21 @@ module _ {P Q K A B D : Type 0} (w : Ways P Q K A B D) (p : IsLawful w.prewritin
               history = x.arisen.history;
               fits = subst (λ (t : Standing P Q K). TransactionFits w t o x.arisen.history) (sym ends.1) (written_fits w old new.contents o x.arisen.history (may refl) idle now x.arisen.fits);
               kept = x.arisen.kept;
+              shown = x.arisen.shown;
             };
           }
 
   gone_kept : (E : Type 0) (old new : Standing P Q K) (turn : Turn (Result (TxnAnswer Q) Error)) → old.work ≡ GaveUp → GivesUp old new turn → IfKept turn E
   gone_kept E old new turn e gone = let g = gone.after e in subst (λ t. IfKept t E) (sym g.0) tt
 
-  pub writes_goes : (refusal : Option Error) (wrote : Contents → Contents → Type 0) (old new : Standing P Q K) (from to : Posted) (turn : Turn (Result (TxnAnswer Q) Error))
+  pub writes_goes : (knows : Option Trace → Type 0) (refusal : Option Error) (wrote : Contents → Contents → Type 0) (old new : Standing P Q K) (from to : Posted) (turn : Turn (Result (TxnAnswer Q) Error)) → Notes knows from.line refusal
       → (refusal ≡ None → allows_data old.status ≡ true) → ((c d : Contents) → wrote c d → IsOrdered c → IsOrdered d) → WriteEnds refusal wrote old new turn → is_open old.work ≡ false → GivesUp old new turn → to ≡ from
-      → IfKept turn (StandGoes w (λ a. ⊥) ⊤ old new from to turn)
-  writes_goes refusal wrote old new from to turn may keeps ends rests gone quiet = by (open_so old.work rests)
+      → IfKept turn (StandGoes w (λ a. ⊥) ⊤ knows old new from to turn)
+  writes_goes knows refusal wrote old new from to turn notes may keeps ends rests gone quiet = by (open_so old.work rests)
     where
-      by : (old.work ≡ Idle) ⊎ (old.work ≡ GaveUp) → IfKept turn (StandGoes w (λ a. ⊥) ⊤ old new from to turn)
-      by (inl idle) = subst (λ o. IfKept turn (StandGoes w (λ a. ⊥) ⊤ old new from o turn)) (sym quiet) (writes_idle refusal wrote old new from turn may keeps ends idle)
-      by (inr e) = gone_kept (StandGoes w (λ a. ⊥) ⊤ old new from to turn) old new turn e gone
+      by : (old.work ≡ Idle) ⊎ (old.work ≡ GaveUp) → IfKept turn (StandGoes w (λ a. ⊥) ⊤ knows old new from to turn)
+      by (inl idle) = subst (λ o. IfKept turn (StandGoes w (λ a. ⊥) ⊤ knows old new from o turn)) (sym quiet) (writes_idle knows refusal wrote old new from turn notes may keeps ends idle)
+      by (inr e) = gone_kept (StandGoes w (λ a. ⊥) ⊤ knows old new from to turn) old new turn e gone
 
   opened : (old new : Standing P Q K) (from to : Posted) (turn : Turn (Result (TxnAnswer Q) Error)) → Opens w new from to turn → Expects (work_waits w old.work) (work_waits w new.work) (λ a. ⊥) from to
   opened old new from to turn opens = let x = opens.expects in record {
@@ -308,18 +386,32 @@ module _ {P Q K A B D : Type 0} (w : Ways P Q K A B D) (p : IsLawful w.prewritin
   refused_stays e old new Waits r = absurd r
   refused_stays e old new (Ends v) r = r.1
 
+  -- what was asked is this
+  pub acts_as : (act is : Act) (heard : Awaited → Type 0) (busy : Type 0) (line : ℕ) (account : Account) (old new : Standing P Q K) (from to : Posted) (turn : Turn (Result (TxnAnswer Q) Error)) → act ≡ is
+      → IfKept turn (StandGoes w heard busy (λ trace. RefusedIn trace line (refusal is account)) old new from to turn) → IfKept turn (StandGoes w heard busy (λ trace. RefusedIn trace line (refusal act account)) old new from to turn)
+  acts_as act is heard busy line account old new from to turn e h = subst (λ a. IfKept turn (StandGoes w heard busy (λ trace. RefusedIn trace line (refusal a account)) old new from to turn)) (sym e) h
+
+  refused_fails : (e : Error) (old new : Standing P Q K) (trace longer : Option Trace) (at line : ℕ) (turn : Turn (Result (TxnAnswer Q) Error)) → IsRefused e old new turn → LongerIn trace longer → RefusedIn trace line (Some e) → IfEnds turn (IfFails (FailsAt w longer at line))
+  refused_fails e old new trace longer at line Stopped r l known = tt
+  refused_fails e old new trace longer at line Waits r l known = tt
+  refused_fails e old new trace longer at line (Ends (Ok v)) r l known = tt
+  refused_fails e old new trace longer at line (Ends (Err f)) r l known = refused_by w longer at line f e (refused_longer_in trace longer line (Some e) l known) (one r.0)
+    where
+      one : ◌≡◌ {A = Result (TxnAnswer Q) Error} (Err f) (Err e) → f ≡ e
+      one q = cc
+
   -- it begins a commit, or is refused
-  pub commits_goes : (e : Error) (b : Bool) (old new : Standing P Q K) (from to : Posted) (turn : Turn (Result (TxnAnswer Q) Error))
-      → (b ≡ false → IsRefused e old new turn × (to ≡ from)) → (b ≡ true → TransactionMoves w (λ h. ⊤) (λ h. h) old new from to turn) → new.contents ≡ old.contents
+  pub commits_goes : (knows : Option Trace → Type 0) (e : Error) (b : Bool) (old new : Standing P Q K) (from to : Posted) (turn : Turn (Result (TxnAnswer Q) Error)) → (b ≡ false → Notes knows from.line (Some e))
+      → (b ≡ false → IsRefused e old new turn × (to ≡ from)) → (b ≡ true → TransactionMoves w (λ h. ⊤) (λ h. h) old new from to turn) → new.start ≡ old.start → new.contents ≡ old.contents
       → Opens w new from to turn → is_open new.work ≡ is_waiting turn
-      → IfKept turn (StandGoes w (λ a. ⊥) ⊤ old new from to turn)
-  commits_goes e true old new from to turn refused moves same opens busy = if_kept turn (λ kept. record {
-    arises = λ nexts news o low risen up reached x. moved _ _ old new from to o turn nexts news (moves refl) kept same (λ h y. y) low risen up reached x tt;
+      → IfKept turn (StandGoes w (λ a. ⊥) ⊤ knows old new from to turn)
+  commits_goes knows e true old new from to turn notes refused moves start same opens busy = if_kept turn (λ kept. record {
+    arises = λ trace longer at met called known nexts news o low risen up reached x. moved trace longer at _ _ old new from to o turn nexts news met called (moves refl) kept (opened_alive new turn opens.next) start same (λ h y. y) low risen up reached x tt x.arisen.shown;
     expects = opened old new from to turn opens;
     runs = λ any f. waiting_open turn new.work busy f;
   })
-  commits_goes e false old new from to turn refused moves same opens busy = let r = refused refl in if_kept turn (λ kept. record {
-    arises = λ nexts news o low risen up reached x. stays old new from to o nexts news (refused_stays e old new turn r.0) r.1 risen reached x;
+  commits_goes knows e false old new from to turn notes refused moves start same opens busy = let r = refused refl in if_kept turn (λ kept. record {
+    arises = λ trace longer at met called known nexts news o low risen up reached x. (stays trace longer at old new from to o nexts news met.longer (refused_stays e old new turn r.0) r.1 risen reached x, refused_fails e old new trace longer at from.line turn r.0 met.longer (notes refl trace known));
     expects = opened old new from to turn opens;
     runs = λ any f. waiting_open turn new.work busy f;
   })
@@ -330,34 +422,43 @@ module _ {P Q K A B D : Type 0} (w : Ways P Q K A B D) (p : IsLawful w.prewritin
   ends_shut t (Ends v) u = refl
 
   -- a commit of it was lost, so that it is not known what became of it
-  left_alone : (t : Ticket) (old new : Standing P Q K) (from to o : Posted) (turn : Turn (Result (TxnAnswer Q) Error)) (nexts news : List ℕ) → turn ≢ Stopped → is_open old.work ≡ false → is_open new.work ≡ false → GivesUp old new turn
-      → new ≡ record old { work = new.work } → to ≡ from → IsRisen nexts news → IsReached from to o → StandArises w from nexts old → StandArises w o news new
-  left_alone t old new from to o turn nexts news kept rests shut gone e f risen reached x = by (open_so old.work rests) (open_so new.work shut)
+  left_alone : (trace longer : Option Trace) (at : ℕ) (t : Ticket) (old new : Standing P Q K) (from to o : Posted) (turn : Turn (Result (TxnAnswer Q) Error)) (nexts news : List ℕ) → LongerIn trace longer → turn ≢ Stopped → is_open old.work ≡ false → is_open new.work ≡ false → GivesUp old new turn
+      → new ≡ record old { work = new.work } → to ≡ from → IsRisen nexts news → IsReached from to o → StandArises w trace at from nexts old → StandArises w longer at o news new
+  left_alone trace longer at t old new from to o turn nexts news l kept rests shut gone e f risen reached x = by (open_so old.work rests) (open_so new.work shut)
     where
-      by : (old.work ≡ Idle) ⊎ (old.work ≡ GaveUp) → (new.work ≡ Idle) ⊎ (new.work ≡ GaveUp) → StandArises w o news new
+      by : (old.work ≡ Idle) ⊎ (old.work ≡ GaveUp) → (new.work ≡ Idle) ⊎ (new.work ≡ GaveUp) → StandArises w longer at o news new
       by (inr g) later = let d = gone.after g in absurd (kept d.0)
-      by (inl i) (inl j) = stays old new from to o nexts news (e ∙ ap (λ (y : Work P Q K). record old { work = y }) (j ∙ sym i)) f risen reached x
-      by (inl i) (inr g) = subst (StandArises w o news) (sym (e ∙ ap (λ (y : Work P Q K). record old { work = y }) g)) (record {
+      by (inl i) (inl j) = stays trace longer at old new from to o nexts news l (e ∙ ap (λ (y : Work P Q K). record old { work = y }) (j ∙ sym i)) f risen reached x
+      by (inl i) (inr g) = subst (StandArises w longer at o news) (sym (e ∙ ap (λ (y : Work P Q K). record old { work = y }) g)) (record {
         ordered = x.ordered;
         arisen = record {
           history = x.arisen.history;
           fits = record { given = x.arisen.fits.given; unsent = x.arisen.fits.unsent; at = tt };
           kept = kept_risen nexts news x.arisen.history risen x.arisen.kept;
+          shown = shown_longer trace longer at x.arisen.history l x.arisen.shown;
         };
       })
 
-  pub rollbacks_goes : (e : Error) (b : Bool) (lost : Option Ticket) (old new : Standing P Q K) (from to : Posted) (turn : Turn (Result (TxnAnswer Q) Error))
+  unknown_fails : (trace longer : Option Trace) (at : ℕ) (t : Ticket) (old : Standing P Q K) (o : Posted) (nexts : List ℕ) (turn : Turn (Result (TxnAnswer Q) Error)) → LongerIn trace longer → (old.work ≡ GaveUp → ⊥) → undetermined old.commits ≡ Some t → IsUndetermined t turn → StandArises w trace at o nexts old → IfEnds turn (IfFails (FailsAt w longer at o.line))
+  unknown_fails trace longer at t old o nexts Stopped l alive left u x = tt
+  unknown_fails trace longer at t old o nexts Waits l alive left u x = tt
+  unknown_fails trace longer at t old o nexts (Ends (Ok v)) l alive left u x = tt
+  unknown_fails trace longer at t old o nexts (Ends (Err e)) l alive left u x =
+      let h = x.arisen.history in
+      fails_by w longer at o.line e h (shown_longer trace longer at h l x.arisen.shown) (inr (inr (record { start = old.start; contents = old.contents; commits = old.commits; ticket = t; left = left; error = u; known = fits_known w old o h alive x.arisen.fits })))
+
+  pub rollbacks_goes : (knows : Option Trace → Type 0) (e : Error) (b : Bool) (lost : Option Ticket) (old new : Standing P Q K) (from to : Posted) (turn : Turn (Result (TxnAnswer Q) Error)) → (b ≡ false → Notes knows from.line (Some e)) → undetermined old.commits ≡ lost
       → (b ≡ false → IsRefused e old new turn × (to ≡ from))
       → ((t : Ticket) → b ≡ true → lost ≡ Some t → IsUndetermined t turn × (new ≡ record old { work = new.work }) × (to ≡ from))
-      → (b ≡ true → lost ≡ None → TransactionMoves w (λ h. ⊤) (λ h. h) old new from to turn) → new.contents ≡ old.contents
+      → (b ≡ true → lost ≡ None → TransactionMoves w (λ h. ⊤) (λ h. h) old new from to turn) → new.start ≡ old.start → new.contents ≡ old.contents
       → Opens w new from to turn → is_open new.work ≡ is_waiting turn → is_open old.work ≡ false → GivesUp old new turn
-      → IfKept turn (StandGoes w (λ a. ⊥) ⊤ old new from to turn)
-  rollbacks_goes e true None old new from to turn refused undetermined moves same opens busy rests gone =
-      commits_goes e true old new from to turn (λ f. absurd (cc)) (λ f. moves refl refl) same opens busy
-  rollbacks_goes e true (Some t) old new from to turn refused undetermined moves same opens busy rests gone = let u = undetermined t refl refl in if_kept turn (λ kept. record {
-    arises = λ nexts news o low risen up reached x. left_alone t old new from to o turn nexts news kept rests (busy ∙ ends_shut t turn u.0) gone u.1 u.2 risen reached x;
+      → IfKept turn (StandGoes w (λ a. ⊥) ⊤ knows old new from to turn)
+  rollbacks_goes knows e true None old new from to turn notes is_lost refused unsure moves start same opens busy rests gone =
+      commits_goes knows e true old new from to turn (λ f. absurd (cc)) (λ f. absurd (cc)) (λ f. moves refl refl) start same opens busy
+  rollbacks_goes knows e true (Some t) old new from to turn notes is_lost refused unsure moves start same opens busy rests gone = let u = unsure t refl refl in if_kept turn (λ kept. record {
+    arises = λ trace longer at met called known nexts news o low risen up reached x. (left_alone trace longer at t old new from to o turn nexts news met.longer kept rests (busy ∙ ends_shut t turn u.0) gone u.1 u.2 risen reached x, unknown_fails trace longer at t old from nexts turn met.longer (λ e. let d = gone.after e in kept d.0) is_lost u.0 x);
     expects = opened old new from to turn opens;
     runs = λ any f. waiting_open turn new.work busy f;
   })
-  rollbacks_goes e false lost old new from to turn refused undetermined moves same opens busy rests gone =
-      commits_goes e false old new from to turn refused (λ f. absurd (cc)) same opens busy
+  rollbacks_goes knows e false lost old new from to turn notes is_lost refused unsure moves start same opens busy rests gone =
+      commits_goes knows e false old new from to turn notes refused (λ f. absurd (cc)) start same opens busy

@@ -1,6 +1,6 @@
 -- What a transaction makes of what it is told.
 use Rattle.std.proofs.Common.{◌≡◌, ◌⊎◌, inl, inr, ℕ, Bool, true, false, if◌then◌else◌, List, [], ◌∷◌, Option, Some, None, is_some, refl, sym, ap, ◌∙◌, subst}
-use Rattle.std.specs.Prelude.{IfSome, Result, Ok, Err, option_map, unwrap_or}
+use Rattle.std.specs.Prelude.{Result, Ok, Err, option_map, unwrap_or}
 use Rattle.txn_kv.specs.declared.errors.Error.{Error}
 use Rattle.txn_kv.specs.ErrorView.{ErrorView, view_of, view_step}
 use Rattle.txn_kv.specs.ErrorView.ErrorView.{undetermined as not_known}
@@ -14,9 +14,8 @@ use Rattle.txn_kv.specs.declared.message.Op.{Op}
 use Rattle.txn_kv.specs.declared.message.Op.TheVariants as op
 use Rattle.txn_kv.specs.declared.ticket.Ticket.{Ticket}
 use Rattle.txn_kv.specs.declared.timestamp.Timestamp.{Timestamp}
-use Rattle.txn_history.specs.Event.{Event}
 use Rattle.txn_history.specs.Event.Event.{Answered}
-use Rattle.txn_history.specs.Turn.{IfEnds, IfKept, IfKept-all, IfKept-stopped, Turn}
+use Rattle.txn_history.specs.Turn.{IfKept, IfKept-all, IfKept-stopped, Turn}
 use Rattle.txn_history.specs.Turn.Turn.{Stopped, Waits, Ends}
 use Rattle.txn_buffer.specs.Contents.{Contents, mutated, mutations}
 use Rattle.txn_commit.specs.Parts.{named_primary, parts_of, parts_under}
@@ -49,7 +48,7 @@ use Rattle.txn_side.specs.declared.act.Act.{Act}
 use Rattle.txn_side.specs.declared.act.Act.TheVariants as acts
 use Rattle.txn_core.specs.declared.options.TransactionOptions.{TransactionOptions}
 use Rattle.txn_core.specs.declared.options.TransactionKind.TheVariants.{Optimistic}
-use Rattle.txn_clients.specs.Accounts.{BeginsNew, EndsAtOnce, HasHeard, HasTaken, IsActive, IsNew, IsQuiet, WantsNew, account_of, come_to, says_undetermined, status_of}
+use Rattle.txn_clients.specs.Accounts.{BeginsNew, EndsAtOnce, HasHeard, HasTaken, IsNew, IsQuiet, WantsNew, account_of, come_to, says_undetermined, status_of}
 
 -- which of the two a flag is
 pub is_flag : (b : Bool) → (b ≡ true) ⊎ (b ≡ false)
@@ -338,6 +337,13 @@ module _ {P Q K : Type 0} where
         (ap allows_data is ∙ commit_off (commit_outcome turn) has))
     | inr bars ↦ refused_taken acts.Commit old new turn (sym (unless_false (side.allows_commit (status_of old.status)) OperationAfterCommitError (sym (quiet_commit old.status (stands_active old quiet)) ∙ bars))) quiet (refused bars).0
   ]
+
+  -- with what a commit and a rollback are refused
+  pub commit_barred : (old : Standing P Q K) → IsQuiet old → allows_commit old.status ≡ false → refusal acts.Commit (account_of old) ≡ Some OperationAfterCommitError
+  commit_barred old quiet bars = unless_false (side.allows_commit (status_of old.status)) OperationAfterCommitError (sym (quiet_commit old.status (stands_active old quiet)) ∙ bars)
+
+  pub rollback_barred : (old : Standing P Q K) → IsQuiet old → allows_rollback old.status ≡ false → refusal acts.Rollback (account_of old) ≡ Some OperationAfterCommitError
+  rollback_barred old quiet bars = unless_false (side.allows_rollback (status_of old.status)) OperationAfterCommitError (sym (quiet_rollback old.status (stands_active old quiet)) ∙ bars)
 
   pub taken_rollback : {R S : Type 0} (old new : Standing P Q K) (turn : Turn (Result (TxnAnswer Q) Error)) → is_open old.work ≡ false → IsQuiet old
       → (allows_rollback old.status ≡ false → IsRefused OperationAfterCommitError old new turn × R)

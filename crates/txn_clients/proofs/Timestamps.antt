@@ -94,7 +94,7 @@ times_for reply o given e h k d l =
 
 -- What the reply gives
 
-among_so : {X : Type 0} (P : X → Type 0) (xs : List X) (x : X) → All P xs → IsAmong xs x → P x
+pub among_so : {X : Type 0} (P : X → Type 0) (xs : List X) (x : X) → All P xs → IsAmong xs x → P x
 among_so P [] x all among = absurd among
 among_so P (y ∷ ys) x all (inl e) = subst P e (All-head P y ys all)
 among_so P (y ∷ ys) x all (inr among) = among_so P ys x (All-tail P y ys all) among

@@ -1,5 +1,5 @@
 -- How calls end, and how far their transactions come by that.
-use Rattle.std.specs.Prelude.{◌≡◌, ⊤, ℕ, Bool, true, false, List, [], ◌∷◌, ◌++◌, Option, Some, None, IfSome, Result, Ok, Err, slice_index_or}
+use Rattle.std.specs.Prelude.{◌≡◌, ⊤, ℕ, Bool, true, false, List, [], ◌∷◌, ◌++◌, Option, Some, None, IfSome, Result, Ok, slice_index_or}
 use Rattle.std.proofs.Common.{suc}
 use Rattle.txn_kv.specs.declared.errors.Error.{Error}
 use Rattle.txn_core.specs.declared.status.Status.{Status}

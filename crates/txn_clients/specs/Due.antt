@@ -1,29 +1,26 @@
 -- Each call that waits, of a client that has not crashed, waits for something of its own line, or its client's request for timestamps is
 -- out.
-use Rattle.std.specs.Prelude.{◌≡◌, ◌≢◌, ◌⊎◌, ℕ, Bool, true, List, [], ◌∷◌, map, Option, Some, None, refl, slice_index_or}
+use Rattle.std.specs.Prelude.{◌≡◌, ◌⊎◌, ℕ, true, List, [], ◌∷◌, map, Option, Some, None, refl, slice_index_or}
 use Rattle.std.specs.List.{All}
 use Rattle.std.proofs.Common.{zero, suc, inl, inr, sym, ap, ◌∙◌, subst}
 use Rattle.std.proofs.lemmas.List.Elements.{All-head, All-tail}
-use Rattle.txn_kv.specs.declared.ticket.Ticket.{Ticket}
 use Rattle.txn_history.specs.Meaning.{IsLawful}
 use Rattle.txn_history.specs.Phase.{Awaited}
 use Rattle.txn_history.specs.Phase.Awaited.{ReplyTo, EndOf, TimeOf}
 use Rattle.txn_commit.specs.Committing.{Ways}
-use Rattle.txn_core.specs.Transaction.{Standing}
 use Rattle.txn_core.proofs.Waiting.{busy_runs, standing_waits}
 use Rattle.txn_client.specs.Calls.{called-lawful}
-use Rattle.txn_client.specs.declared.client_call.ClientCall.{ClientCall}
-use Rattle.txn_side.specs.Sight.{Group, Stand, client_at, lives, nobody, stand_at}
+use Rattle.txn_side.specs.Sight.{Stand, client_at, lives, nobody, stand_at}
 use Rattle.txn_side.specs.Sight.Stand.{Asking, Calling, HasBegun, Idle, IsClient, Past, Working}
 use Rattle.txn_side.specs.Waiting.{HasGroup, IsDue, NoneWaits, waiting_at}
 use Rattle.txn_side.specs.Waiting as side
 use Rattle.txn_side.specs.Waiting.Awaited.{EndOf as SideEnd, ReplyTo as SideReply}
 use Rattle.txn_tso.specs.Oracle.{group_or_none}
 use Rattle.txn_tso.specs.declared.asker.Asker.{Asker}
-use Rattle.txn_clients.specs.Clients.{groups_of, nexts_of, row_at, rows_of, sight_of, stands_of}
+use Rattle.txn_clients.specs.Clients.{nexts_of, row_at, rows_of, sight_of, stands_of}
 use Rattle.txn_clients.specs.Groups.{group_by, group_of, lines_in}
-use Rattle.txn_clients.specs.Rows.{Pd, RowReady, stand_of}
-use Rattle.txn_clients.specs.Waiting.{Book, HasAsk, HasAskOut, IsAskedIn, IsReady, IsThere, RowArises, RowRuns, Wants, asks_of, blank, book_at, book_of, posted_at, voice, voice_at, waits_of, wants}
+use Rattle.txn_clients.specs.Rows.{RowReady, stand_of}
+use Rattle.txn_clients.specs.Waiting.{HasAsk, HasAskOut, IsAskedIn, IsReady, IsThere, RowArises, RowRuns, Wants, asks_of, blank, book_at, book_of, posted_at, voice, voice_at, waits_of, wants}
 use Rattle.txn_clients.specs.declared.client_state.ClientState.{ClientState}
 use Rattle.txn_clients.specs.declared.clients.Clients.{Clients}
 use Rattle.txn_clients.specs.declared.row.Row.{Row}
@@ -124,7 +121,7 @@ module _ {P Q K : Type 0} where
           called d j (row.Client x) f g = absurd (cc)
           called d j (row.Asking x b call) f g = absurd (cc)
           called d j (row.Begun x t m) f g =
-              let arisen = subst (λ r. RowArises w (posted_at (nexts_of s) (asks_of s) (voice_at rows j)) (nexts_of s) r) f (ready.sound.arisen j) in
+              let arisen = subst (λ r. RowArises w None (suc j) (posted_at (nexts_of s) (asks_of s) (voice_at rows j)) (nexts_of s) r) f (ready.sound.arisen j) in
               let opens : RowRuns (row.Begun x t m) = subst RowRuns f (ready.running j) in
               let may = subst (RowReady w) f (all_at (RowReady w) rows row.Plain ready.rows.each tt j) in
               let some = standing_waits w p q k t _ arisen.arisen.history arisen.arisen.fits (busy_runs w t may.0 (opens (λ z. zero_not (sym (ap begun_for g) ∙ z)))) in
@@ -144,7 +141,7 @@ module _ {P Q K : Type 0} where
           by row.Plain f g = absurd (cc)
           by (row.Client d) f g = absurd (cc)
           by (row.Asking d b call) f g =
-              let arisen = subst (λ r. RowArises w (posted_at (nexts_of s) (asks_of s) (voice_at rows i)) (nexts_of s) r) f (ready.sound.arisen i) in
+              let arisen = subst (λ r. RowArises w None (suc i) (posted_at (nexts_of s) (asks_of s) (voice_at rows i)) (nexts_of s) r) f (ready.sound.arisen i) in
               let runs = subst RowRuns f (ready.running i) in
               let some = called-lawful.waits call _ arisen.history arisen.fits runs in
               waits_so s (suc i) c ready (ap client_at (at (row.Asking d b call) f) ∙ g) live some.0 (i, ap (λ r. voice i (stand_of r)) f, subst (λ r. wants w r some.0) (sym f) some.1)

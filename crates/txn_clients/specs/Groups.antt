@@ -1,8 +1,10 @@
 -- The asks for timestamps that a client has sent, and what those are told who asked.
-use Rattle.std.specs.Prelude.{◌≡◌, ◌⊎◌, ⊤, ℕ, List, map, Option, Some, None, Result, Ok, Err}
+use Rattle.std.specs.Prelude.{◌≡◌, ◌⊎◌, ⊤, ℕ, Bool, true, false, List, map, Option, Some, None, Result, Ok, Err}
 use Rattle.txn_history.specs.Among.{IsAmong}
 use Rattle.txn_kv.specs.Timestamp.{version_of}
 use Rattle.txn_kv.specs.declared.errors.Error.{Error}
+use Rattle.txn_kv.specs.declared.errors.Internal.{Internal}
+use Rattle.txn_kv.specs.declared.errors.Internal.TheVariants.{OracleLost, WrongReply}
 use Rattle.txn_kv.specs.declared.ticket.Ticket.{Ticket}
 use Rattle.txn_kv.specs.declared.timestamp.Timestamp.{Timestamp}
 use Rattle.txn_plan.specs.Answered.{IsTimeAnswer}
@@ -45,6 +47,11 @@ IsError (Err e) = ⊤
 -- there is no timestamp for an asker
 abbrev pub IsRefused : Answer → Type 0
 IsRefused a = IsError a.1
+
+-- why there is none for any: the group was lost, or its reply is of another kind
+abbrev pub why_none : Bool → Internal
+why_none true = OracleLost
+why_none false = WrongReply
 
 -- an asker at this line is given this timestamp
 pub record IsTimed (given : List Answer) (line version : ℕ) : Type 0 where

@@ -7,3 +7,5 @@ pub mod Going
 pub mod Groups
 pub mod Waiting
 pub mod Due
+pub mod Failing
+pub mod Resting

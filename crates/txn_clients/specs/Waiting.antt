@@ -1,7 +1,7 @@
 -- What the calls of the lines wait for, and what says that each that is open waits for something. A call waits for something where it
 -- can have arisen from a history, and so each row that has one keeps a history of its own.
-use Rattle.std.specs.Prelude.{◌≡◌, ◌≢◌, ◌⊎◌, ◌<◌, ◌≤◌, ⊤, ℕ, Bool, true, false, List, [], ◌∷◌, ◌++◌, length, map, Option, Some, None, Result, Ok, Err, slice_index_or, slice_set}
-use Rattle.std.specs.List.{Any}
+use Rattle.std.specs.Prelude.{IfSome, ◌≡◌, ◌≢◌, ◌⊎◌, ◌<◌, ◌≤◌, ⊤, ℕ, Bool, true, false, List, [], ◌∷◌, ◌++◌, length, map, Option, Some, None, Result, Ok, slice_index_or, slice_set}
+use Rattle.std.specs.List.{All, Any}
 use Rattle.std.proofs.Common.{suc}
 use Rattle.txn_kv.specs.declared.request.Request.{Request}
 use Rattle.txn_kv.specs.declared.ticket.Ticket.{Ticket}
@@ -17,7 +17,6 @@ use Rattle.txn_history.specs.Posted.{AreNumbered, Errand, Posted}
 use Rattle.txn_history.specs.Turn.{Turn as CallTurn}
 use Rattle.txn_history.specs.Turn.Turn.{Waits}
 use Rattle.txn_plan.specs.Arrivals.{awaited_as}
-use Rattle.txn_plan.specs.declared.arrival.Arrival.{Arrival}
 use Rattle.txn_plan.specs.declared.arrival.Arrival.TheVariants as arrivals
 use Rattle.txn_commit.specs.Committing.{Ways}
 use Rattle.txn_core.specs.Going.{TransactionFits}
@@ -25,7 +24,7 @@ use Rattle.txn_core.specs.Transaction.{IsOrdered, Standing, begun, is_open}
 use Rattle.txn_core.specs.Waiting.{work_waits}
 use Rattle.txn_core.specs.declared.options.TransactionOptions.{TransactionOptions}
 use Rattle.txn_client.specs.Calls.{IsAt, stage_phase, stage_waits}
-use Rattle.txn_client.specs.declared.client_answer.ClientAnswer.TheVariants.{Begun, Time}
+use Rattle.txn_client.specs.declared.client_answer.ClientAnswer.TheVariants.{Begun}
 use Rattle.txn_tso.specs.Oracle.{group_or_none}
 use Rattle.txn_tso.specs.Oracle.{Answer as Answered}
 use Rattle.txn_tso.specs.declared.asker.Asker.{Asker}
@@ -35,7 +34,14 @@ use Rattle.txn_side.specs.Waiting.{IsPosted}
 use Rattle.txn_side.specs.Waiting as side
 use Rattle.txn_side.specs.Waiting.Awaited.{EndOf as SideEnd, ReplyTo as SideReply}
 use Rattle.txn_side.specs.declared.turn.Posting.{Posting}
-use Rattle.txn_side.specs.declared.turn.Turn.{Turn}
+use Rattle.txn_side.specs.Trace.{IsSend, Trace}
+use Rattle.txn_side.specs.declared.turn.Ending.{Ending}
+use Rattle.txn_kv.specs.declared.errors.Error.{Error}
+use Rattle.txn_kv.specs.declared.outbox.Errand.TheVariants.{Send}
+use Rattle.txn_kv.specs.declared.ticket.Target.{Target}
+use Rattle.txn_core.specs.declared.txn_answer.TxnAnswer.{TxnAnswer}
+use Rattle.txn_history.specs.Turn.{IfEnds}
+use Rattle.txn_clients.specs.Failing.{AnswerRests, AreToldIn, CalledFor, CalledIn, HasReason, EndsMore, FailsAt, HasMet, IfFails, MayKnow, ShownIn, posting_in}
 use Rattle.txn_clients.specs.Clients.{AreReady, crashed_of, nexts_of, row_at, rows_of, stands_of}
 use Rattle.txn_clients.specs.Rows.{stand_of}
 use Rattle.txn_clients.specs.declared.answer.Answer.{Answer}
@@ -102,25 +108,26 @@ pub record IsKept (nexts : List ℕ) (h : List Event) : Type 0 where
   pub alone : (t : Ticket) (r q : Request) → Has h (Sent t r) → Has h (Sent t q) → q ≡ r
   pub below : (t : Ticket) (r : Request) → Has h (Sent t r) → t.number < next_at nexts t.line
 
--- it can have arisen from a history of its own
-pub record HasArisen (Fits : List Event → Type 0) (nexts : List ℕ) : Type 0 where
+-- it can have arisen from a history of its own, which a trace shows as that of what stands at this line
+pub record HasArisen (Fits : List Event → Type 0) (trace : Option Trace) (at : ℕ) (nexts : List ℕ) : Type 0 where
   pub history : List Event
   pub fits : Fits history
   pub kept : IsKept nexts history
+  pub shown : ShownIn trace at history
 
 -- a transaction whose buffer is in order
-pub record StandArises {P Q K A B D : Type 0} (w : Ways P Q K A B D) (o : Posted) (nexts : List ℕ) (t : Standing P Q K) : Type 0 where
+pub record StandArises {P Q K A B D : Type 0} (w : Ways P Q K A B D) (trace : Option Trace) (at : ℕ) (o : Posted) (nexts : List ℕ) (t : Standing P Q K) : Type 0 where
   pub ordered : IsOrdered t.contents
-  pub arisen : HasArisen (λ h. TransactionFits w t o h) nexts
+  pub arisen : HasArisen (λ h. TransactionFits w t o h) trace at nexts
 
-abbrev pub RowArises : {P Q K A B D : Type 0} → Ways P Q K A B D → Posted → List ℕ → Row P Q K → Type 0
-RowArises w o nexts row.Plain = ⊤
-RowArises w o nexts (row.Client c) = ⊤
-RowArises w o nexts (row.Asking c b call) = HasArisen (λ h. IsAt call.stage o h) nexts
-RowArises w o nexts (row.Begun c t m) = StandArises w o nexts t
-RowArises w o nexts (row.Calling c x b) = ⊤
-RowArises w o nexts (row.Past c) = ⊤
-RowArises w o nexts (row.Working c job) = ⊤
+abbrev pub RowArises : {P Q K A B D : Type 0} → Ways P Q K A B D → Option Trace → ℕ → Posted → List ℕ → Row P Q K → Type 0
+RowArises w trace at o nexts row.Plain = ⊤
+RowArises w trace at o nexts (row.Client c) = ⊤
+RowArises w trace at o nexts (row.Asking c b call) = HasArisen (λ h. IsAt call.stage o h) trace at nexts
+RowArises w trace at o nexts (row.Begun c t m) = StandArises w trace at o nexts t
+RowArises w trace at o nexts (row.Calling c x b) = ⊤
+RowArises w trace at o nexts (row.Past c) = ⊤
+RowArises w trace at o nexts (row.Working c job) = ⊤
 
 -- a call waits, and a transaction that waits for a line has a call open
 abbrev pub RowRuns : {P Q K : Type 0} → Row P Q K → Type 0
@@ -149,16 +156,18 @@ pub record IsReached (from to later : Posted) : Type 0 where
   pub next : to.next ≤ later.next
   pub next_ask : to.next_ask ≤ later.next_ask
 
--- What a row is told: it can have arisen from a longer history, waits for no more than it did and posts, and runs on where it does not
--- answer.
+-- What a row is told: it can have arisen from a longer history, on which an error rests that it answers; it waits for no more than it
+-- did and posts, and runs on where it does not answer.
 pub record RowGoes {P Q K A B D : Type 0} (w : Ways P Q K A B D) (told : Told) (old new : Row P Q K) (from to : Posted) (answer : Option (Answer P Q K)) : Type 0 where
-  pub arises : (nexts news : List ℕ) (o : Posted) → next_at nexts from.line ≤ from.next → IsRisen nexts news → to.next ≤ next_at news from.line → IsReached from to o → RowArises w from nexts old → RowArises w o news new
+  pub arises : (trace longer : Option Trace) (at : ℕ) → HasMet trace longer from to → CalledFor trace from.line at old → MayKnow trace from told old
+      → (nexts news : List ℕ) (o : Posted) → next_at nexts from.line ≤ from.next → IsRisen nexts news → to.next ≤ next_at news from.line → IsReached from to o → RowArises w trace at from nexts old → RowArises w longer at o news new × IfSome answer (AnswerRests w longer at from.line)
   pub expects : Expects (wants w old) (wants w new) (hears told) from to
   pub runs : IsPrepared told old → answer ≡ None → RowRuns new
 
 -- a transaction is told of something, or asked for something where it was not busy
-pub record StandGoes {P Q K A B D E : Type 0} (w : Ways P Q K A B D) (heard : Awaited → Type 0) (busy : Type 0) (old new : Standing P Q K) (from to : Posted) (turn : CallTurn E) : Type 0 where
-  pub arises : (nexts news : List ℕ) (o : Posted) → next_at nexts from.line ≤ from.next → IsRisen nexts news → to.next ≤ next_at news from.line → IsReached from to o → StandArises w from nexts old → StandArises w o news new
+pub record StandGoes {P Q K A B D : Type 0} (w : Ways P Q K A B D) (heard : Awaited → Type 0) (busy : Type 0) (knows : Option Trace → Type 0) (old new : Standing P Q K) (from to : Posted) (turn : CallTurn (Result (TxnAnswer Q) Error)) : Type 0 where
+  pub arises : (trace longer : Option Trace) (at : ℕ) → HasMet trace longer from to → CalledIn trace from.line at → knows trace
+      → (nexts news : List ℕ) (o : Posted) → next_at nexts from.line ≤ from.next → IsRisen nexts news → to.next ≤ next_at news from.line → IsReached from to o → StandArises w trace at from nexts old → StandArises w longer at o news new × IfEnds turn (IfFails (FailsAt w longer at from.line))
   pub expects : Expects (work_waits w old.work) (work_waits w new.work) heard from to
   pub runs : busy → turn ≡ Waits → is_open new.work ≡ true
 
@@ -244,8 +253,9 @@ AreCalled stands = (n c x : ℕ) (b : Bool) → stand_at stands n ≡ Calling c 
 
 -- Each row can have arisen from a history of its own. An ask that is waited for, of a client that has not crashed, is with its oracle, or
 -- among those that are told now. Nobody waits for the number of a client's request for timestamps.
-pub record IsSound {P Q K A B D : Type 0} (w : Ways P Q K A B D) (rest : List Asker) (s : Clients P Q K) : Type 0 where
-  pub arisen : (i : ℕ) → RowArises w (posted_at (nexts_of s) (asks_of s) (voice_at (rows_of s) i)) (nexts_of s) (row_at (rows_of s) i)
+pub record IsSound {P Q K A B D : Type 0} (w : Ways P Q K A B D) (trace : Option Trace) (rest : List Asker) (s : Clients P Q K) : Type 0 where
+  pub told : AreToldIn trace (stands_of (rows_of s))
+  pub arisen : (i : ℕ) → RowArises w trace (suc i) (posted_at (nexts_of s) (asks_of s) (voice_at (rows_of s) i)) (nexts_of s) (row_at (rows_of s) i)
   pub called : AreCalled (stands_of (rows_of s))
   pub known : (n c : ℕ) → client_at (stand_at (stands_of (rows_of s)) n) ≡ Some c → c < length (crashed_of s)
   pub asked : (n c k : ℕ) → client_at (stand_at (stands_of (rows_of s)) n) ≡ Some c → lives (crashed_of s) (Some c) ≡ true → Wants w (rows_of s) n (TimeOf k) → IsAskedIn (book_at s c) n k ⊎ HasAsk rest n k
@@ -267,7 +277,7 @@ pub record IsReady {P Q K A B D : Type 0} (w : Ways P Q K A B D) (s : Clients P 
   pub committing : IsLawful w.committing
   pub rolling : IsLawful w.rolling
   pub rows : AreReady w (rows_of s)
-  pub sound : IsSound w [] s
+  pub sound : IsSound w None [] s
   pub running : AreRunning (rows_of s)
   pub quiet : (c : ℕ) → IsQuiet (book_at s c)
 
@@ -298,13 +308,14 @@ IsMet posted n (ReplyTo k) = IsPosted posted n (SideReply k)
 IsMet posted n (EndOf k) = IsPosted posted n (SideEnd k)
 IsMet posted n (TimeOf k) = ⊤
 
--- what was posted stays so
+-- more was posted behind what was
 abbrev pub Keeps : List Posting → List Posting → Type 0
-Keeps from to = (n : ℕ) (a : side.Awaited) → IsPosted from n a → IsPosted to n a
+Keeps from to = (more : List Posting) × (to ≡ from ++ more)
 
 -- It goes on: what is waited for then was waited for before and was not heard, or was posted. Only this client asks.
-pub record GoesOn {P Q K A B D : Type 0} (w : Ways P Q K A B D) (client : ℕ) (Heard : ℕ → Awaited → Type 0) (rest : List Asker) (from to : List Posting) (s t : Clients P Q K) : Type 0 where
-  pub sound : IsSound w rest t
+pub record GoesOn {P Q K A B D : Type 0} (w : Ways P Q K A B D) (trace : Option Trace) (client : ℕ) (Heard : ℕ → Awaited → Type 0) (rest : List Asker) (from to : List Posting) (ended over : List Ending) (s t : Clients P Q K) : Type 0 where
+  pub sound : IsSound w (posting_in to trace) rest t
+  pub ends : EndsMore w (posting_in to trace) ended over
   pub posted : Keeps from to
   pub lines : (n : ℕ) (a : Awaited) → Wants w (rows_of t) n a → (Wants w (rows_of s) n a × (Heard n a → ⊥)) ⊎ IsMet to n a
   pub outs : (c : ℕ) → (book_at t c).out ≡ (book_at s c).out
@@ -349,6 +360,7 @@ pub record AsksOne {P Q K : Type 0} (client : ℕ) (asker : Asker) (s t : Client
 pub record HandsOn {P Q K : Type 0} (line client : ℕ) (all left : List Errand) (from to : List Posting) (s t : Clients P Q K) : Type 0 where
   pub posted : Keeps from to
   pub done : (a : Awaited) → IsErrand all a → IsDone t to line client a ⊎ IsErrand left a
+  pub sent : (n : ℕ) (store : Target) (r : Request) → IsAmong all (Send n store r) → Any (IsSend (record { line = line; beat = false; number = n }) r) to ⊎ IsAmong left (Send n store r)
   pub numbers : (end : ℕ) → IsNumberedTo (next_at (nexts_of s) line) all end → IsNumberedTo (next_at (nexts_of t) line) left end
   pub nexts : IsRisen (nexts_of s) (nexts_of t)
   pub asks : asks_of t ≡ asks_of s
@@ -389,8 +401,8 @@ pub record SendsGroup {P Q K : Type 0} (client : ℕ) (from to : List Posting) (
   pub books : (c : ℕ) → c ≢ client → book_at t c ≡ book_at s c
 
 -- The next group of a client went out, if anybody asked: what its lines wait for is out then.
-pub record SendsOn {P Q K A B D : Type 0} (w : Ways P Q K A B D) (client : ℕ) (rest : List Asker) (from to : List Posting) (s t : Clients P Q K) : Type 0 where
-  pub sound : IsSound w rest t
+pub record SendsOn {P Q K A B D : Type 0} (w : Ways P Q K A B D) (trace : Option Trace) (client : ℕ) (rest : List Asker) (from to : List Posting) (s t : Clients P Q K) : Type 0 where
+  pub sound : IsSound w (posting_in to trace) rest t
   pub posted : Keeps from to
   pub quiet : IsQuiet (book_at t client)
   pub books : (c : ℕ) → c ≢ client → book_at t c ≡ book_at s c
@@ -402,16 +414,18 @@ pub record SetsTicket {P Q K : Type 0} (client : ℕ) (ticket : Ticket) (s t : C
   pub asks : asks_of t ≡ asks_of s
 
 -- A request for timestamps is over, and all that asked were told.
-pub record EndsGroup {P Q K A B D : Type 0} (w : Ways P Q K A B D) (client : ℕ) (from to : List Posting) (s t : Clients P Q K) : Type 0 where
-  pub sound : IsSound w [] t
+pub record EndsGroup {P Q K A B D : Type 0} (w : Ways P Q K A B D) (trace : Option Trace) (client : ℕ) (from to : List Posting) (ended over : List Ending) (s t : Clients P Q K) : Type 0 where
+  pub sound : IsSound w (posting_in to trace) [] t
+  pub ends : EndsMore w (posting_in to trace) ended over
   pub posted : Keeps from to
   pub lines : (n : ℕ) (a : Awaited) → Wants w (rows_of t) n a → Wants w (rows_of s) n a ⊎ IsMet to n a
   pub ticket : (book_at t client).ticket ≡ None
   pub books : (c : ℕ) → c ≢ client → book_at t c ≡ book_at s c
 
 -- A whole step: what is waited for then was waited for before and was not heard, or was posted.
-pub record Steps {P Q K A B D : Type 0} (w : Ways P Q K A B D) (Heard : ℕ → Awaited → Type 0) (posted : List Posting) (s t : Clients P Q K) : Type 0 where
-  pub sound : IsSound w [] t
+pub record Steps {P Q K A B D : Type 0} (w : Ways P Q K A B D) (trace : Option Trace) (Heard : ℕ → Awaited → Type 0) (posted : List Posting) (ended : List Ending) (s t : Clients P Q K) : Type 0 where
+  pub sound : IsSound w (posting_in posted trace) [] t
+  pub ends : All (HasReason w (posting_in posted trace)) ended
   pub running : AreRunning (rows_of t)
   pub quiet : (c : ℕ) → IsQuiet (book_at t c)
   pub lines : (n : ℕ) (a : Awaited) → Wants w (rows_of t) n a → (Wants w (rows_of s) n a × (Heard n a → ⊥)) ⊎ IsMet posted n a

@@ -1,6 +1,10 @@
 ghost use Rattle.std.specs.Prelude.{◌≡◌, ◌≤◌, ◌++◌, ◌∷◌, ℕ, [], IfOk, IfSome, IsTrue, OnOk, false, map};
 ghost use Rattle.std.specs.List.{All};
-ghost use Rattle.txn_clients.specs.Groups.{IsLeft, IsRefused, IsTimeFor, group_of, lines_in, lines_out};
+ghost use Rattle.txn_clients.specs.Failing.{IfFails};
+ghost use Rattle.txn_clients.specs.Groups.{IsLeft, IsRefused, IsTimeFor, group_of, lines_in, lines_out, why_none};
+ghost use Rattle.txn_kv.specs.declared.errors.Error.TheVariants.{InternalError};
+ghost use Rattle.txn_kv.specs.declared.errors.Internal.TheVariants.{OracleLost};
+ghost use Rattle.txn_side.specs.Trace.{Refuses};
 ghost use Rattle.txn_clients.specs.Waiting.{Regroups, blank, book_of};
 ghost use Rattle.txn_side.specs.Sight.{AskFor};
 ghost use Rattle.txn_kv.specs.declared.reply.Reply.TheVariants as replies;
@@ -54,6 +58,7 @@ fn lines_of(alloc: Global, askers: &[Asker], newest: u64) -> Result<Items<u64>, 
 fn refusals(alloc: Global, askers: Vec<Asker>, lost: bool) -> Result<Answers, NoMemory>
     ensures times { IfOk result (λ given. All IsTimeFor given.items) }
     ensures refused { IfOk result (λ given. All IsRefused given.items) }
+    ensures errors { IfOk result (λ given. All (λ a. IfFails (λ e. e ≡ InternalError (why_none lost)) a.1) given.items) }
     ensures askers { IfOk result (λ given. map (λ a. a.0) given.items ≡ askers.items) }
 {
     let mut given = Vec::new(alloc);
@@ -114,6 +119,7 @@ impl ClientState {
         ensures times { IfOk result (λ given. All IsTimeFor given.items) }
         ensures granted { IfOk result (λ given. (times : Times) → reply ≡ replies.Tso times → given.items ≡ answered times self.old.oracle) }
         ensures refused { IfOk result (λ given. ((times : Times) → reply ≡ replies.Tso times → ⊥) → All IsRefused given.items) }
+        ensures errors { IfOk result (λ given. All (λ a. IfFails (Refuses reply) a.1) given.items) }
         ensures book { OnOk result (book_of self.new ≡ record (book_of self.old) { out = None; ticket = None }) }
         ensures askers { IfOk result (λ given. map (λ a. a.0) given.items ≡ group_or_none (book_of self.old).out) }
     {
@@ -129,6 +135,7 @@ impl ClientState {
         ensures group { OnOk result (self.new.group ≡ self.old.group) }
         ensures times { IfOk result (λ given. All IsTimeFor given.items) }
         ensures granted { IfOk result (λ given. given.items ≡ answered reply.now self.old.oracle) }
+        ensures errors { IfOk result (λ given. All (λ a. IfFails (Refuses (replies.Tso reply.now)) a.1) given.items) }
         ensures book { OnOk result (book_of self.new ≡ record (book_of self.old) { out = None }) }
         ensures askers { IfOk result (λ given. map (λ a. a.0) given.items ≡ group_or_none (book_of self.old).out) }
     {
@@ -141,6 +148,7 @@ impl ClientState {
         ensures group { OnOk result (group_of self.new ≡ None) }
         ensures times { IfOk result (λ given. All IsTimeFor given.items) }
         ensures refused { IfOk result (λ given. All IsRefused given.items) }
+        ensures errors { IfOk result (λ given. All (λ a. IfFails (λ e. e ≡ InternalError OracleLost) a.1) given.items) }
         ensures book { OnOk result (book_of self.new ≡ record (book_of self.old) { out = None; ticket = None }) }
         ensures askers { IfOk result (λ given. map (λ a. a.0) given.items ≡ group_or_none (book_of self.old).out) }
     {

@@ -1,5 +1,5 @@
 //! What a line comes to, as its call ends.
-ghost use Rattle.std.specs.Prelude.{◌≡◌, ℕ, IfSome, None, List, Ok, false, option_map};
+ghost use Rattle.std.specs.Prelude.{◌≡◌, ℕ, IfOk, IfSome, None, List, Ok, Err, Option, false, option_map};
 ghost use Rattle.txn_clients.specs.Accounts.{BeginsNew, IsNew, account_in, outcome_by};
 ghost use Rattle.txn_clients.specs.Rows.{AskFits, IsStamped, RowReady, stand_of};
 ghost use Rattle.txn_clients.specs.Waiting.{IsNewAnswer, RowArises};
@@ -16,8 +16,8 @@ ghost use Rattle.txn_side.specs.Account.{new_account};
 ghost use Rattle.txn_side.specs.Sight.{AskEnds, CallEnds, number_of};
 ghost use Rattle.txn_clients.specs.declared.row.Row.TheVariants.{Past};
 ghost use Rattle.txn_report.specs.declared.outcome.Outcome.TheVariants.{Err as Failed};
-ghost use Rattle.txn_kv.specs.declared.errors.Error.TheVariants.{InternalError};
-ghost use Rattle.txn_kv.specs.declared.errors.Internal.TheVariants.{WrongReply};
+ghost use Rattle.txn_kv.specs.declared.errors.Error.{Error as Failure};
+ghost use Rattle.txn_side.specs.Trace.{Trace};
 ghost use Rattle.txn_core.specs.declared.txn_answer.TxnAnswer.TheVariants as answers;
 
 use crate::answer::Pd;
@@ -26,7 +26,7 @@ use txn_client::ClientAnswer;
 use txn_commit::{PlanFor, SecondaryJob};
 use txn_core::{Transaction, TxnAnswer};
 use txn_kv::{
-    BatchRollbackRequest, CommitRequest, Error, Internal, PrewriteRequest, Timestamp, TimestampExt,
+    BatchRollbackRequest, CommitRequest, Error, NoMemory, PrewriteRequest, Timestamp, TimestampExt,
 };
 use txn_report::{Outcome, Payload};
 
@@ -53,74 +53,73 @@ where
         }
     }
 
-    /// The answer is of another kind than the call. No call gives such a one.
-    fn unlike(client: usize) -> Ended<P, Q, K>
-        ensures { result ≡ record { row = Past client; outcome = Failed (InternalError WrongReply) } }
-    {
-        let what = Internal::WrongReply;
-        Ended::failed(client, Error::InternalError { what })
-    }
-
     /// A call for a timestamp has ended.
     pub fn asked(
         client: usize,
         begins: bool,
         answer: txn_kv::Result<ClientAnswer<Pd, P, Q, K>>,
-    ) -> Ended<P, Q, K>
+    ) -> Result<Ended<P, Q, K>, NoMemory>
         requires fits { AskFits (ways P.meaning Q.meaning K.meaning P.refuses Q.refuses K.refuses) answer }
         requires begins { BeginsNew answer }
-        ensures ends { AskEnds client begins result.outcome (stand_of result.row) }
-        ensures stamped { (version : ℕ) → number_of result.outcome ≡ Some version → IsStamped answer version }
-        ensures arises { IsNewAnswer (Asked answer) → (o : Posted) (nexts : List ℕ) → RowArises (ways P.meaning Q.meaning K.meaning P.refuses Q.refuses K.refuses) o nexts result.row }
-        ensures ready { RowReady (ways P.meaning Q.meaning K.meaning P.refuses Q.refuses K.refuses) result.row }
-        ensures account { account_in result.row ≡ new_account }
+        ensures ends { IfOk result (λ ended. AskEnds client begins ended.outcome (stand_of ended.row)) }
+        ensures stamped { IfOk result (λ ended. (version : ℕ) → number_of ended.outcome ≡ Some version → IsStamped answer version) }
+        ensures arises { IfOk result (λ ended. IsNewAnswer (Asked answer) → (trace : Option Trace) (at : ℕ) (o : Posted) (nexts : List ℕ) → RowArises (ways P.meaning Q.meaning K.meaning P.refuses Q.refuses K.refuses) trace at o nexts ended.row) }
+        ensures ready { IfOk result (λ ended. RowReady (ways P.meaning Q.meaning K.meaning P.refuses Q.refuses K.refuses) ended.row) }
+        ensures account { IfOk result (λ ended. account_in ended.row ≡ new_account) }
+        ensures failed { IfOk result (λ ended. (e : Failure) → ended.outcome ≡ Failed e → answer ≡ Err e) }
     {
         match answer {
-            Err(error) => Ended::failed(client, error),
+            Err(error) => Ok(Ended::failed(client, error)),
             Ok(ClientAnswer::Begun(transaction)) => Ended::begun(client, begins, transaction),
             Ok(ClientAnswer::Time(timestamp)) => Ended::timed(client, begins, timestamp),
         }
     }
 
-    fn begun(client: usize, begins: bool, transaction: Transaction<Pd, P, Q, K>) -> Ended<P, Q, K>
+    fn begun(
+        client: usize,
+        begins: bool,
+        transaction: Transaction<Pd, P, Q, K>,
+    ) -> Result<Ended<P, Q, K>, NoMemory>
         requires ready { TransactionReady (ways P.meaning Q.meaning K.meaning P.refuses Q.refuses K.refuses) transaction }
         requires rests { is_open transaction.work ≡ false }
         requires new { IsNew transaction }
-        ensures ends { AskEnds client begins result.outcome (stand_of result.row) }
-        ensures stamped { (version : ℕ) → number_of result.outcome ≡ Some version → version_of transaction.start ≡ version }
-        ensures arises { IsNewAnswer {P = P} {Q = Q} {K = K} (Asked (Ok (Begun transaction))) → (o : Posted) (nexts : List ℕ) → RowArises (ways P.meaning Q.meaning K.meaning P.refuses Q.refuses K.refuses) o nexts result.row }
-        ensures ready { RowReady (ways P.meaning Q.meaning K.meaning P.refuses Q.refuses K.refuses) result.row }
-        ensures account { account_in result.row ≡ new_account }
+        ensures ends { IfOk result (λ ended. AskEnds client begins ended.outcome (stand_of ended.row)) }
+        ensures stamped { IfOk result (λ ended. (version : ℕ) → number_of ended.outcome ≡ Some version → version_of transaction.start ≡ version) }
+        ensures arises { IfOk result (λ ended. IsNewAnswer {P = P} {Q = Q} {K = K} (Asked (Ok (Begun transaction))) → (trace : Option Trace) (at : ℕ) (o : Posted) (nexts : List ℕ) → RowArises (ways P.meaning Q.meaning K.meaning P.refuses Q.refuses K.refuses) trace at o nexts ended.row) }
+        ensures ready { IfOk result (λ ended. RowReady (ways P.meaning Q.meaning K.meaning P.refuses Q.refuses K.refuses) ended.row) }
+        ensures account { IfOk result (λ ended. account_in ended.row ≡ new_account) }
+        ensures well { IfOk result (λ ended. (e : Failure) → ended.outcome ≡ Failed e → ⊥) }
     {
         if !begins {
-            return Ended::unlike(client);
+            return Err(NoMemory);
         }
         let version = transaction.start_timestamp().version();
-        Ended {
+        Ok(Ended {
             row: Row::Begun {
                 client,
                 transaction,
                 waits: 0,
             },
             outcome: Outcome::Ok(Payload::Number(version)),
-        }
+        })
     }
 
-    fn timed(client: usize, begins: bool, timestamp: Timestamp) -> Ended<P, Q, K>
+    fn timed(client: usize, begins: bool, timestamp: Timestamp) -> Result<Ended<P, Q, K>, NoMemory>
         requires { HasVersion timestamp }
-        ensures ends { AskEnds client begins result.outcome (stand_of result.row) }
-        ensures stamped { (version : ℕ) → number_of result.outcome ≡ Some version → version_of timestamp ≡ version }
-        ensures arises { (o : Posted) (nexts : List ℕ) → RowArises (ways P.meaning Q.meaning K.meaning P.refuses Q.refuses K.refuses) o nexts result.row }
-        ensures ready { RowReady (ways P.meaning Q.meaning K.meaning P.refuses Q.refuses K.refuses) result.row }
-        ensures account { account_in result.row ≡ new_account }
+        ensures ends { IfOk result (λ ended. AskEnds client begins ended.outcome (stand_of ended.row)) }
+        ensures stamped { IfOk result (λ ended. (version : ℕ) → number_of ended.outcome ≡ Some version → version_of timestamp ≡ version) }
+        ensures arises { IfOk result (λ ended. (trace : Option Trace) (at : ℕ) (o : Posted) (nexts : List ℕ) → RowArises (ways P.meaning Q.meaning K.meaning P.refuses Q.refuses K.refuses) trace at o nexts ended.row) }
+        ensures ready { IfOk result (λ ended. RowReady (ways P.meaning Q.meaning K.meaning P.refuses Q.refuses K.refuses) ended.row) }
+        ensures account { IfOk result (λ ended. account_in ended.row ≡ new_account) }
+        ensures well { IfOk result (λ ended. (e : Failure) → ended.outcome ≡ Failed e → ⊥) }
     {
         if begins {
-            return Ended::unlike(client);
+            return Err(NoMemory);
         }
-        Ended {
+        Ok(Ended {
             row: Row::Past { client },
             outcome: Outcome::Ok(Payload::Number(timestamp.version())),
-        }
+        })
     }
 
     /// A call of a transaction has ended.
@@ -128,38 +127,41 @@ where
         client: usize,
         commits: bool,
         answer: txn_kv::Result<TxnAnswer<Q>>,
-    ) -> Ended<P, Q, K>
+    ) -> Result<Ended<P, Q, K>, NoMemory>
         requires { HandsOut Q.meaning answer }
-        ensures ends { CallEnds client commits result.outcome (stand_of result.row) }
-        ensures number { number_of result.outcome ≡ None }
-        ensures ready { RowReady (ways P.meaning Q.meaning K.meaning P.refuses Q.refuses K.refuses) result.row }
-        ensures account { account_in result.row ≡ new_account }
-        ensures outcome { result.outcome ≡ outcome_by commits answer }
+        ensures ends { IfOk result (λ ended. CallEnds client commits ended.outcome (stand_of ended.row)) }
+        ensures number { IfOk result (λ ended. number_of ended.outcome ≡ None) }
+        ensures ready { IfOk result (λ ended. RowReady (ways P.meaning Q.meaning K.meaning P.refuses Q.refuses K.refuses) ended.row) }
+        ensures account { IfOk result (λ ended. account_in ended.row ≡ new_account) }
+        ensures outcome { IfOk result (λ ended. ended.outcome ≡ outcome_by commits answer) }
+        ensures failed { IfOk result (λ ended. (e : Failure) → ended.outcome ≡ Failed e → answer ≡ Err e) }
     {
         match answer {
-            Err(error) => Ended::failed(client, error),
+            Err(error) => Ok(Ended::failed(client, error)),
             Ok(TxnAnswer::Unit) => Ended::done(client, commits),
             Ok(TxnAnswer::Committed(timestamp, job)) => {
                 Ended::committed(client, commits, timestamp, job)
             }
-            Ok(_) => Ended::unlike(client),
+            // No call answers anything else.
+            Ok(_) => Err(NoMemory),
         }
     }
 
-    fn done(client: usize, commits: bool) -> Ended<P, Q, K>
-        ensures ends { CallEnds client commits result.outcome (stand_of result.row) }
-        ensures number { number_of result.outcome ≡ None }
-        ensures ready { RowReady (ways P.meaning Q.meaning K.meaning P.refuses Q.refuses K.refuses) result.row }
-        ensures account { account_in result.row ≡ new_account }
-        ensures outcome { result.outcome ≡ outcome_by {Q = Q} commits (Ok answers.Unit) }
+    fn done(client: usize, commits: bool) -> Result<Ended<P, Q, K>, NoMemory>
+        ensures ends { IfOk result (λ ended. CallEnds client commits ended.outcome (stand_of ended.row)) }
+        ensures number { IfOk result (λ ended. number_of ended.outcome ≡ None) }
+        ensures ready { IfOk result (λ ended. RowReady (ways P.meaning Q.meaning K.meaning P.refuses Q.refuses K.refuses) ended.row) }
+        ensures account { IfOk result (λ ended. account_in ended.row ≡ new_account) }
+        ensures well { IfOk result (λ ended. (e : Failure) → ended.outcome ≡ Failed e → ⊥) }
+        ensures outcome { IfOk result (λ ended. ended.outcome ≡ outcome_by {Q = Q} commits (Ok answers.Unit)) }
     {
         if commits {
-            return Ended::unlike(client);
+            return Err(NoMemory);
         }
-        Ended {
+        Ok(Ended {
             row: Row::Past { client },
             outcome: Outcome::Ok(Payload::Unit),
-        }
+        })
     }
 
     fn committed(
@@ -167,29 +169,30 @@ where
         commits: bool,
         timestamp: Option<Timestamp>,
         job: Option<SecondaryJob<Q>>,
-    ) -> Ended<P, Q, K>
+    ) -> Result<Ended<P, Q, K>, NoMemory>
         requires time { IfSome timestamp HasVersion }
         requires job { IfSome job (JobReady Q.meaning) }
-        ensures ends { CallEnds client commits result.outcome (stand_of result.row) }
-        ensures number { number_of result.outcome ≡ None }
-        ensures ready { RowReady (ways P.meaning Q.meaning K.meaning P.refuses Q.refuses K.refuses) result.row }
-        ensures account { account_in result.row ≡ new_account }
-        ensures outcome { result.outcome ≡ outcome_by commits (Ok (answers.Committed timestamp job)) }
+        ensures ends { IfOk result (λ ended. CallEnds client commits ended.outcome (stand_of ended.row)) }
+        ensures number { IfOk result (λ ended. number_of ended.outcome ≡ None) }
+        ensures ready { IfOk result (λ ended. RowReady (ways P.meaning Q.meaning K.meaning P.refuses Q.refuses K.refuses) ended.row) }
+        ensures account { IfOk result (λ ended. account_in ended.row ≡ new_account) }
+        ensures well { IfOk result (λ ended. (e : Failure) → ended.outcome ≡ Failed e → ⊥) }
+        ensures outcome { IfOk result (λ ended. ended.outcome ≡ outcome_by commits (Ok (answers.Committed timestamp job))) }
     {
         if !commits {
-            return Ended::unlike(client);
+            return Err(NoMemory);
         }
         let version = version_of(timestamp);
         let outcome = Outcome::Ok(Payload::Commit(version));
         match job {
-            None => Ended {
+            None => Ok(Ended {
                 row: Row::Past { client },
                 outcome,
-            },
-            Some(job) => Ended {
+            }),
+            Some(job) => Ok(Ended {
                 row: Row::Working { client, job },
                 outcome,
-            },
+            }),
         }
     }
 }

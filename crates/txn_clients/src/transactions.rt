@@ -1,6 +1,8 @@
 //! What a transaction is told.
 ghost use Rattle.std.specs.Prelude.{◌≡◌, ◌<◌, ◌^◌, IsTrue, Ok, false, ⊤, true};
-ghost use Rattle.txn_clients.specs.Accounts.{HasHeard, HasTaken, IsQuiet, says_undetermined};
+ghost use Rattle.txn_clients.specs.Accounts.{HasHeard, HasTaken, IsQuiet, account_of, says_undetermined};
+ghost use Rattle.txn_clients.specs.Failing.{CameIn, RefusedIn};
+ghost use Rattle.txn_side.specs.Account.{refusal};
 ghost use Rattle.txn_clients.specs.Rows.{IsTold};
 ghost use Rattle.txn_clients.specs.Waiting.{StandGoes};
 ghost use Rattle.txn_commit.specs.Committing.{ways};
@@ -52,7 +54,7 @@ where
     requires quiet { IsQuiet transaction.old }
     ensures told { IfKept (turn_of result) (IsTold (ways P.meaning Q.meaning K.meaning P.refuses Q.refuses K.refuses) transaction.new out.old out.new (turn_of result)) }
     ensures taken { IfKept (turn_of result) (HasTaken Rollback transaction.old transaction.new (turn_of result)) }
-    ensures goes { IfKept (turn_of result) (StandGoes (ways P.meaning Q.meaning K.meaning P.refuses Q.refuses K.refuses) (λ a. ⊥) ⊤ transaction.old transaction.new out.old out.new (turn_of result)) }
+    ensures goes { IfKept (turn_of result) (StandGoes (ways P.meaning Q.meaning K.meaning P.refuses Q.refuses K.refuses) (λ a. ⊥) ⊤ (λ trace. RefusedIn trace out.old.line (refusal Rollback (account_of transaction.old))) transaction.old transaction.new out.old out.new (turn_of result)) }
 {
     let before = transaction.status();
     let progress = transaction.rollback(pd, now, out)?;
@@ -82,7 +84,7 @@ where
     requires quiet { IsQuiet transaction.old }
     ensures told { IfKept (turn_of result) (IsTold (ways P.meaning Q.meaning K.meaning P.refuses Q.refuses K.refuses) transaction.new out.old out.new (turn_of result)) }
     ensures taken { IfKept (turn_of result) (HasTaken act transaction.old transaction.new (turn_of result)) }
-    ensures goes { IfKept (turn_of result) (StandGoes (ways P.meaning Q.meaning K.meaning P.refuses Q.refuses K.refuses) (λ a. ⊥) ⊤ transaction.old transaction.new out.old out.new (turn_of result)) }
+    ensures goes { IfKept (turn_of result) (StandGoes (ways P.meaning Q.meaning K.meaning P.refuses Q.refuses K.refuses) (λ a. ⊥) ⊤ (λ trace. RefusedIn trace out.old.line (refusal act (account_of transaction.old))) transaction.old transaction.new out.old out.new (turn_of result)) }
 {
     match act {
         Act::Put(key, value) => transaction.put(pd, key, value, now, out),
@@ -114,7 +116,7 @@ where
     requires quiet { IsQuiet transaction.old }
     ensures told { IfKept (turn_of result) (IsTold (ways P.meaning Q.meaning K.meaning P.refuses Q.refuses K.refuses) transaction.new out.old out.new (turn_of result)) }
     ensures heard { IfKept (turn_of result) (HasHeard transaction.old transaction.new (turn_of result)) }
-    ensures goes { IfKept (turn_of result) (StandGoes (ways P.meaning Q.meaning K.meaning P.refuses Q.refuses K.refuses) (λ a. a ≡ awaited_as arrival) (is_open transaction.old.work ≡ true) transaction.old transaction.new out.old out.new (turn_of result)) }
+    ensures goes { IfKept (turn_of result) (StandGoes (ways P.meaning Q.meaning K.meaning P.refuses Q.refuses K.refuses) (λ a. a ≡ awaited_as arrival) (is_open transaction.old.work ≡ true) (λ trace. CameIn trace out.old arrival) transaction.old transaction.new out.old out.new (turn_of result)) }
 {
     match arrival {
         Arrival::Reply { number, reply } => transaction.take_reply(pd, now, number, reply, out),

@@ -1,12 +1,15 @@
 //! What a machine asks of the clients.
 ghost use Rattle.std.specs.List.{All};
-ghost use Rattle.std.specs.Prelude.{◌≡◌, ◌<◌, ◌≤◌, ◌^◌, [], IfOk, IfSome, IsTrue, OnOk, false, is_some, length, slice_index_or, true, ◌≢◌, ℕ, Some};
+ghost use Rattle.std.specs.Prelude.{◌≡◌, ◌<◌, ◌≤◌, ◌^◌, [], None, Option, IfOk, IfSome, IsTrue, OnOk, false, is_some, length, slice_index_or, true, ◌≢◌, ℕ, Some};
 ghost use Rattle.txn_client.specs.Calls.{CallReady, called};
 ghost use Rattle.txn_clients.specs.Accounts.{WantsNew, account_at};
 ghost use Rattle.txn_clients.specs.Closing.{GoesTold};
 ghost use Rattle.txn_client.specs.declared.client_call.Stage.TheVariants.{Fresh};
-ghost use Rattle.txn_clients.specs.Clients.{AreReady, HasOut, Listens, crashed_of, row_at, rows_of, sight_of};
+ghost use Rattle.txn_clients.specs.Clients.{AreReady, HasOut, Listens, crashed_of, groups_of, row_at, rows_of, sight_of};
+ghost use Rattle.txn_clients.specs.Failing.{CalledIn, CameIn, GroupCameIn, MayKnow, RefusedIn, outbox_of, posting_in};
 ghost use Rattle.txn_clients.specs.Going.{OfLine};
+ghost use Rattle.txn_history.specs.Event.Event.{Lost as Gone, Took};
+ghost use Rattle.txn_side.specs.Trace.{Trace};
 ghost use Rattle.txn_clients.specs.Rows.{Brings, MayHear, MayTell, Tells};
 ghost use Rattle.txn_clients.specs.Waiting.{AreRunningBut, GroupsBeside, HearsAt, IsPrepared, IsQuiet, IsReady, IsSound, Steps, book_at, pends};
 ghost use Rattle.txn_clients.specs.declared.told.Told.TheVariants.{Heard};
@@ -15,7 +18,7 @@ ghost use Rattle.txn_history.specs.Meaning.{IsUnbegun};
 ghost use Rattle.txn_kv.specs.declared.ticket.Ticket.{Ticket as Name};
 ghost use Rattle.txn_plan.specs.Arrivals.{MayArrive};
 ghost use Rattle.txn_core.specs.declared.options.TransactionKind.TheVariants.{Optimistic};
-ghost use Rattle.txn_side.specs.Account.{AreClosed, AreKept, TakesIn};
+ghost use Rattle.txn_side.specs.Account.{AreClosed, AreKept, TakesIn, refusal};
 ghost use Rattle.txn_side.specs.Sight.{EndsAlone, Goes, IsGiven, Names, NoneGiven, commits, is_free, line_count, stand_at, with_stand, client_at, is_live};
 ghost use Rattle.txn_side.specs.Sight.Stand.{Asking, Calling, HasBegun, Idle};
 
@@ -103,7 +106,7 @@ where
         ensures turn { IfOk result (λ turn. Goes turn.posted.items turn.ended.items (with_stand (line_count (sight_of self.old)) (Asking client begins) (sight_of self.old)) (sight_of self.new)) }
         ensures alone { IfOk result (λ turn. EndsAlone (line_count (sight_of self.old)) turn.ended.items) }
         ensures names { IfOk result (λ turn. All (Names NoneGiven) turn.ended.items) }
-        ensures steps { IfOk result (λ turn. IsReady (ways P.meaning Q.meaning K.meaning P.refuses Q.refuses K.refuses) self.old → Steps (ways P.meaning Q.meaning K.meaning P.refuses Q.refuses K.refuses) (λ n a. ⊥) turn.posted.items self.old self.new) }
+        ensures steps { IfOk result (λ turn. (trace : Option Trace) → IsReady (ways P.meaning Q.meaning K.meaning P.refuses Q.refuses K.refuses) self.old → CalledIn trace (line_count (sight_of self.old)) (line_count (sight_of self.old)) → IsSound (ways P.meaning Q.meaning K.meaning P.refuses Q.refuses K.refuses) (posting_in [] trace) [] self.old → Steps (ways P.meaning Q.meaning K.meaning P.refuses Q.refuses K.refuses) trace (λ n a. ⊥) turn.posted.items turn.ended.items self.old self.new) }
         ensures ready { OnOk result (AreReady (ways P.meaning Q.meaning K.meaning P.refuses Q.refuses K.refuses) (rows_of self.new)) }
         ensures accounts { OnOk result (AreKept (account_at (rows_of self.old)) (account_at (rows_of self.new))) }
     {
@@ -140,7 +143,7 @@ where
         ensures turn { IfOk result (λ turn. Goes turn.posted.items turn.ended.items (sight_of self.old) (sight_of self.new)) }
         ensures alone { IfOk result (λ turn. EndsAlone line turn.ended.items) }
         ensures names { IfOk result (λ turn. All (Names (OfLine line (Tells told))) turn.ended.items) }
-        ensures steps { IfOk result (λ turn. client_at (stand_at (sight_of self.old).stands line) ≡ Some listener.client → IsSound (ways P.meaning Q.meaning K.meaning P.refuses Q.refuses K.refuses) (pends line told []) self.old → ((c : ℕ) → c ≢ listener.client → IsQuiet (book_at self.old c)) → AreRunningBut listener.at (rows_of self.old) → IsPrepared told (row_at (rows_of self.old) listener.at) → Steps (ways P.meaning Q.meaning K.meaning P.refuses Q.refuses K.refuses) (HearsAt line told) turn.posted.items self.old self.new) }
+        ensures steps { IfOk result (λ turn. (trace : Option Trace) → client_at (stand_at (sight_of self.old).stands line) ≡ Some listener.client → MayKnow (posting_in [] trace) (outbox_of line) told (row_at (rows_of self.old) listener.at) → IsSound (ways P.meaning Q.meaning K.meaning P.refuses Q.refuses K.refuses) (posting_in [] trace) (pends line told []) self.old → ((c : ℕ) → c ≢ listener.client → IsQuiet (book_at self.old c)) → AreRunningBut listener.at (rows_of self.old) → IsPrepared told (row_at (rows_of self.old) listener.at) → Steps (ways P.meaning Q.meaning K.meaning P.refuses Q.refuses K.refuses) trace (HearsAt line told) turn.posted.items turn.ended.items self.old self.new) }
         ensures ready { OnOk result (AreReady (ways P.meaning Q.meaning K.meaning P.refuses Q.refuses K.refuses) (rows_of self.new)) }
         ensures accounts { IfOk result (λ turn. GoesTold told line listener.at (stand_at (sight_of self.old).stands line) (rows_of self.old) (rows_of self.new) [] turn.ended.items) }
     {
@@ -166,7 +169,7 @@ where
         ensures turn { IfOk result (λ turn. Goes turn.posted.items turn.ended.items (with_stand (line_count (sight_of self.old)) (Calling client transaction (commits act)) (with_stand transaction (HasBegun client (line_count (sight_of self.old))) (sight_of self.old))) (sight_of self.new)) }
         ensures alone { IfOk result (λ turn. EndsAlone (line_count (sight_of self.old)) turn.ended.items) }
         ensures names { IfOk result (λ turn. All (Names NoneGiven) turn.ended.items) }
-        ensures steps { IfOk result (λ turn. IsReady (ways P.meaning Q.meaning K.meaning P.refuses Q.refuses K.refuses) self.old → Steps (ways P.meaning Q.meaning K.meaning P.refuses Q.refuses K.refuses) (λ n a. ⊥) turn.posted.items self.old self.new) }
+        ensures steps { IfOk result (λ turn. (trace : Option Trace) → IsReady (ways P.meaning Q.meaning K.meaning P.refuses Q.refuses K.refuses) self.old → CalledIn trace (line_count (sight_of self.old)) transaction → RefusedIn trace (line_count (sight_of self.old)) (refusal act (account_at (rows_of self.old) transaction)) → IsSound (ways P.meaning Q.meaning K.meaning P.refuses Q.refuses K.refuses) (posting_in [] trace) [] self.old → Steps (ways P.meaning Q.meaning K.meaning P.refuses Q.refuses K.refuses) trace (λ n a. ⊥) turn.posted.items turn.ended.items self.old self.new) }
         ensures ready { OnOk result (AreReady (ways P.meaning Q.meaning K.meaning P.refuses Q.refuses K.refuses) (rows_of self.new)) }
         ensures takes { IfOk result (λ turn. TakesIn act transaction (line_count (sight_of self.old)) (account_at (rows_of self.old)) (account_at (rows_of self.new)) turn.ended.items) }
     {
@@ -202,7 +205,7 @@ where
         requires clock { now < 2 ^ 44 }
         ensures turn { IfOk result (λ turn. Goes turn.posted.items turn.ended.items (sight_of self.old) (sight_of self.new)) }
         ensures names { IfOk result (λ turn. All (Names (OfLine line (Brings arrival))) turn.ended.items) }
-        ensures steps { IfOk result (λ turn. is_live (sight_of self.old) line ≡ true → client_at (stand_at (sight_of self.old).stands line) ≡ Some client → IsReady (ways P.meaning Q.meaning K.meaning P.refuses Q.refuses K.refuses) self.old → Steps (ways P.meaning Q.meaning K.meaning P.refuses Q.refuses K.refuses) (HearsAt line (Heard arrival)) turn.posted.items self.old self.new) }
+        ensures steps { IfOk result (λ turn. (trace : Option Trace) → is_live (sight_of self.old) line ≡ true → client_at (stand_at (sight_of self.old).stands line) ≡ Some client → IsReady (ways P.meaning Q.meaning K.meaning P.refuses Q.refuses K.refuses) self.old → CameIn (posting_in [] trace) (outbox_of line) arrival → IsSound (ways P.meaning Q.meaning K.meaning P.refuses Q.refuses K.refuses) (posting_in [] trace) [] self.old → Steps (ways P.meaning Q.meaning K.meaning P.refuses Q.refuses K.refuses) trace (HearsAt line (Heard arrival)) turn.posted.items turn.ended.items self.old self.new) }
         ensures ready { OnOk result (AreReady (ways P.meaning Q.meaning K.meaning P.refuses Q.refuses K.refuses) (rows_of self.new)) }
         ensures accounts { IfOk result (λ turn. AreClosed (sight_of self.old) turn.ended.items (account_at (rows_of self.old)) (account_at (rows_of self.new))) }
     {
@@ -219,7 +222,7 @@ where
         requires clock { now < 2 ^ 44 }
         ensures turn { IfOk result (λ turn. Goes turn.posted.items turn.ended.items (sight_of self.old) (sight_of self.new)) }
         ensures given { IfOk result (λ turn. (t : Name) → HasOut (sight_of self.old) client t → All (Names (IsGiven (sight_of self.old) t reply)) turn.ended.items) }
-        ensures steps { IfOk result (λ turn. IsReady (ways P.meaning Q.meaning K.meaning P.refuses Q.refuses K.refuses) self.old → Steps (ways P.meaning Q.meaning K.meaning P.refuses Q.refuses K.refuses) (λ n a. ⊥) turn.posted.items self.old self.new) }
+        ensures steps { IfOk result (λ turn. (trace : Option Trace) → IsReady (ways P.meaning Q.meaning K.meaning P.refuses Q.refuses K.refuses) self.old → GroupCameIn trace (slice_index_or (groups_of self.old) client None) (λ u r. Took u r reply) → IsSound (ways P.meaning Q.meaning K.meaning P.refuses Q.refuses K.refuses) (posting_in [] trace) [] self.old → Steps (ways P.meaning Q.meaning K.meaning P.refuses Q.refuses K.refuses) trace (λ n a. ⊥) turn.posted.items turn.ended.items self.old self.new) }
         ensures groups { IfOk result (λ turn. IsReady (ways P.meaning Q.meaning K.meaning P.refuses Q.refuses K.refuses) self.old → GroupsBeside client turn.posted.items (sight_of self.old) (sight_of self.new)) }
         ensures ready { OnOk result (AreReady (ways P.meaning Q.meaning K.meaning P.refuses Q.refuses K.refuses) (rows_of self.new)) }
         ensures accounts { IfOk result (λ turn. AreClosed (sight_of self.old) turn.ended.items (account_at (rows_of self.old)) (account_at (rows_of self.new))) }
@@ -237,7 +240,7 @@ where
         requires clock { now < 2 ^ 44 }
         ensures turn { IfOk result (λ turn. Goes turn.posted.items turn.ended.items (sight_of self.old) (sight_of self.new)) }
         ensures given { IfOk result (λ turn. All (Names NoneGiven) turn.ended.items) }
-        ensures steps { IfOk result (λ turn. IsReady (ways P.meaning Q.meaning K.meaning P.refuses Q.refuses K.refuses) self.old → Steps (ways P.meaning Q.meaning K.meaning P.refuses Q.refuses K.refuses) (λ n a. ⊥) turn.posted.items self.old self.new) }
+        ensures steps { IfOk result (λ turn. (trace : Option Trace) → IsReady (ways P.meaning Q.meaning K.meaning P.refuses Q.refuses K.refuses) self.old → GroupCameIn trace (slice_index_or (groups_of self.old) client None) (λ u r. Gone u r) → IsSound (ways P.meaning Q.meaning K.meaning P.refuses Q.refuses K.refuses) (posting_in [] trace) [] self.old → Steps (ways P.meaning Q.meaning K.meaning P.refuses Q.refuses K.refuses) trace (λ n a. ⊥) turn.posted.items turn.ended.items self.old self.new) }
         ensures groups { IfOk result (λ turn. IsReady (ways P.meaning Q.meaning K.meaning P.refuses Q.refuses K.refuses) self.old → GroupsBeside client turn.posted.items (sight_of self.old) (sight_of self.new)) }
         ensures ready { OnOk result (AreReady (ways P.meaning Q.meaning K.meaning P.refuses Q.refuses K.refuses) (rows_of self.new)) }
         ensures accounts { IfOk result (λ turn. AreClosed (sight_of self.old) turn.ended.items (account_at (rows_of self.old)) (account_at (rows_of self.new))) }
@@ -258,6 +261,8 @@ where
     ghost use Rattle.txn_clients.specs.Accounts.{account_at};
     ghost use Rattle.txn_clients.specs.Clients.{rows_of, sight_of};
     ghost use Rattle.txn_clients.specs.Due.{due_when_ready, nobody_waits_so};
+    ghost use Rattle.txn_clients.specs.Failing.{FailsFor};
+    ghost use Rattle.txn_clients.specs.Resting.{RestsIn, nobody_rests_so, rests_when_longer};
     ghost use Rattle.txn_clients.specs.Waiting.{IsReady, waits_of};
     ghost use Rattle.txn_commit.specs.Committing.{ways};
 
@@ -272,6 +277,14 @@ where
     ghost due = { due_when_ready (ways P.meaning Q.meaning K.meaning P.refuses Q.refuses K.refuses) };
 
     ghost account = { λ s. account_at (rows_of s) };
+
+    ghost fails = { FailsFor (ways P.meaning Q.meaning K.meaning P.refuses Q.refuses K.refuses) };
+
+    ghost rests = { RestsIn (ways P.meaning Q.meaning K.meaning P.refuses Q.refuses K.refuses) };
+
+    ghost rests_longer = { rests_when_longer (ways P.meaning Q.meaning K.meaning P.refuses Q.refuses K.refuses) };
+
+    ghost nobody_rests = { nobody_rests_so (ways P.meaning Q.meaning K.meaning P.refuses Q.refuses K.refuses) };
 
     fn open(&mut self) -> Result<(), NoMemory> {
         self.places.push(Place::new())?;
@@ -338,6 +351,10 @@ where
     }
 
     fn take_reply(&mut self, ticket: Ticket, reply: Reply, now: u64) -> Result<Turn, NoMemory> {
+        // No call waits for the reply to a beat.
+        if ticket.beat {
+            return Ok(Turn::new(self.alloc));
+        }
         match self.live_client(ticket.line) {
             None => Ok(Turn::new(self.alloc)),
             Some(client) => {
@@ -351,6 +368,10 @@ where
     }
 
     fn lost(&mut self, ticket: Ticket, _request: &Request, now: u64) -> Result<Turn, NoMemory> {
+        // No call waits for the reply to a beat.
+        if ticket.beat {
+            return Ok(Turn::new(self.alloc));
+        }
         match self.live_client(ticket.line) {
             None => Ok(Turn::new(self.alloc)),
             Some(client) => {

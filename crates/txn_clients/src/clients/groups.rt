@@ -1,9 +1,14 @@
 //! Timestamps: the groups of asks that go out, and what comes of them.
-ghost use Rattle.std.specs.Prelude.{◌≡◌, ◌<◌, ◌≤◌, ◌^◌, ℕ, [], List, Some, false, length, map, slice_set, true, IfOk, IfSome, IsTrue, OnOk};
+ghost use Rattle.std.specs.Prelude.{◌≡◌, ◌<◌, ◌≤◌, ◌^◌, ℕ, [], List, None, Option, Some, false, length, map, slice_index_or, slice_set, true, IfOk, IfSome, IsTrue, OnOk};
 ghost use Rattle.std.specs.List.{All};
 ghost use Rattle.txn_clients.specs.Accounts.{account_at};
 ghost use Rattle.txn_clients.specs.Clients.{AreGiven, AreReady, HasOut, IsLine, asks_at, crashed_of, groups_of, nexts_of, rows_of, sight_of};
+ghost use Rattle.txn_clients.specs.Failing.{AreGivenIn, GroupCameIn, IfFails, posting_in};
 ghost use Rattle.txn_clients.specs.Going.{Advances, NamesIn};
+ghost use Rattle.txn_history.specs.Event.Event.{Lost, Took};
+ghost use Rattle.txn_kv.specs.declared.errors.Error.TheVariants.{InternalError};
+ghost use Rattle.txn_kv.specs.declared.errors.Internal.TheVariants.{OracleLost};
+ghost use Rattle.txn_side.specs.Trace.{Refuses, Trace};
 ghost use Rattle.txn_clients.specs.Groups.{IsRefused, IsTimeFor, IsTimed};
 ghost use Rattle.txn_clients.specs.Waiting.{AreRunning, EndsGroup, GoesOn, IsSound, RegroupsAt, SendsGroup, SendsOn, SetsTicket, Takes, book_at};
 ghost use Rattle.txn_commit.specs.Committing.{ways};
@@ -60,6 +65,7 @@ impl<P, Q, K> Clients<P, Q, K> {
         ensures groups { OnOk result (GroupsGo [] (sight_of self.old) (sight_of self.new)) }
         ensures times { IfOk result (λ given. All IsTimeFor given.items) }
         ensures given { IfOk result (λ given. AreGiven (sight_of self.old) client reply given.items) }
+        ensures errors { IfOk result (λ given. All (λ a. IfFails (Refuses reply) a.1) given.items) }
         ensures takes { IfOk result (λ given. Takes client given.items self.old self.new) }
     {
         self.clients[client].take_group(self.alloc, reply)
@@ -74,6 +80,7 @@ impl<P, Q, K> Clients<P, Q, K> {
         ensures groups { OnOk result (GroupsGo [] (sight_of self.old) (sight_of self.new)) }
         ensures times { IfOk result (λ given. All IsTimeFor given.items) }
         ensures refused { IfOk result (λ given. All IsRefused given.items) }
+        ensures errors { IfOk result (λ given. All (λ a. IfFails (λ e. e ≡ InternalError OracleLost) a.1) given.items) }
         ensures takes { IfOk result (λ given. Takes client given.items self.old self.new) }
     {
         self.clients[client].lose_group(self.alloc)
@@ -159,7 +166,7 @@ where
         ensures advances { OnOk result (Advances turn.old turn.new (sight_of self.old) (sight_of self.new)) }
         ensures ended { OnOk result (turn.new.ended ≡ turn.old.ended) }
         ensures rows { OnOk result (rows_of self.new ≡ rows_of self.old) }
-        ensures waits { OnOk result ((rest : List Asker) → IsSound (ways P.meaning Q.meaning K.meaning P.refuses Q.refuses K.refuses) rest self.old → SendsOn (ways P.meaning Q.meaning K.meaning P.refuses Q.refuses K.refuses) client rest turn.old.posted.items turn.new.posted.items self.old self.new) }
+        ensures waits { OnOk result ((trace : Option Trace) (rest : List Asker) → IsSound (ways P.meaning Q.meaning K.meaning P.refuses Q.refuses K.refuses) (posting_in turn.old.posted.items trace) rest self.old → SendsOn (ways P.meaning Q.meaning K.meaning P.refuses Q.refuses K.refuses) trace client rest turn.old.posted.items turn.new.posted.items self.old self.new) }
         ensures groups { OnOk result (GroupsGo turn.new.posted.items (sight_of self.old) (sight_of self.new)) }
     {
         match self.next_group(client)? {
@@ -184,7 +191,7 @@ where
         ensures ready { OnOk result (AreReady (ways P.meaning Q.meaning K.meaning P.refuses Q.refuses K.refuses) (rows_of self.new)) }
         ensures accounts { OnOk result (turn.old.posted.items ≡ [] → turn.old.ended.items ≡ [] → AreClosed (sight_of self.old) turn.new.ended.items (account_at (rows_of self.old)) (account_at (rows_of self.new))) }
         ensures crashed { OnOk result (crashed_of self.new ≡ crashed_of self.old) }
-        ensures waits { OnOk result (IsSound (ways P.meaning Q.meaning K.meaning P.refuses Q.refuses K.refuses) [] self.old → EndsGroup (ways P.meaning Q.meaning K.meaning P.refuses Q.refuses K.refuses) client turn.old.posted.items turn.new.posted.items self.old self.new) }
+        ensures waits { OnOk result ((trace : Option Trace) → GroupCameIn trace (slice_index_or (groups_of self.old) client None) (λ u r. Took u r reply) → IsSound (ways P.meaning Q.meaning K.meaning P.refuses Q.refuses K.refuses) (posting_in turn.old.posted.items trace) [] self.old → EndsGroup (ways P.meaning Q.meaning K.meaning P.refuses Q.refuses K.refuses) trace client turn.old.posted.items turn.new.posted.items turn.old.ended.items turn.new.ended.items self.old self.new) }
         ensures runs { OnOk result (AreRunning (rows_of self.old) → AreRunning (rows_of self.new)) }
     {
         let given = self.take_times(client, reply)?;
@@ -206,7 +213,7 @@ where
         ensures ready { OnOk result (AreReady (ways P.meaning Q.meaning K.meaning P.refuses Q.refuses K.refuses) (rows_of self.new)) }
         ensures accounts { OnOk result (turn.old.posted.items ≡ [] → turn.old.ended.items ≡ [] → AreClosed (sight_of self.old) turn.new.ended.items (account_at (rows_of self.old)) (account_at (rows_of self.new))) }
         ensures crashed { OnOk result (crashed_of self.new ≡ crashed_of self.old) }
-        ensures waits { OnOk result (IsSound (ways P.meaning Q.meaning K.meaning P.refuses Q.refuses K.refuses) [] self.old → EndsGroup (ways P.meaning Q.meaning K.meaning P.refuses Q.refuses K.refuses) client turn.old.posted.items turn.new.posted.items self.old self.new) }
+        ensures waits { OnOk result ((trace : Option Trace) → GroupCameIn trace (slice_index_or (groups_of self.old) client None) (λ u r. Lost u r) → IsSound (ways P.meaning Q.meaning K.meaning P.refuses Q.refuses K.refuses) (posting_in turn.old.posted.items trace) [] self.old → EndsGroup (ways P.meaning Q.meaning K.meaning P.refuses Q.refuses K.refuses) trace client turn.old.posted.items turn.new.posted.items turn.old.ended.items turn.new.ended.items self.old self.new) }
         ensures runs { OnOk result (AreRunning (rows_of self.old) → AreRunning (rows_of self.new)) }
     {
         let given = self.lose_times(client)?;
@@ -229,7 +236,7 @@ where
         ensures ready { OnOk result (AreReady (ways P.meaning Q.meaning K.meaning P.refuses Q.refuses K.refuses) (rows_of self.new)) }
         ensures accounts { OnOk result (turn.old.posted.items ≡ [] → turn.old.ended.items ≡ [] → AreClosed (sight_of self.old) turn.new.ended.items (account_at (rows_of self.old)) (account_at (rows_of self.new))) }
         ensures crashed { OnOk result (crashed_of self.new ≡ crashed_of self.old) }
-        ensures waits { OnOk result (IsSound (ways P.meaning Q.meaning K.meaning P.refuses Q.refuses K.refuses) (map (λ a. a.0) given.items) self.old → GoesOn (ways P.meaning Q.meaning K.meaning P.refuses Q.refuses K.refuses) client (λ n a. ⊥) [] turn.old.posted.items turn.new.posted.items self.old self.new) }
+        ensures waits { OnOk result ((trace : Option Trace) → AreGivenIn trace given.items → IsSound (ways P.meaning Q.meaning K.meaning P.refuses Q.refuses K.refuses) (posting_in turn.old.posted.items trace) (map (λ a. a.0) given.items) self.old → GoesOn (ways P.meaning Q.meaning K.meaning P.refuses Q.refuses K.refuses) trace client (λ n a. ⊥) [] turn.old.posted.items turn.new.posted.items turn.old.ended.items turn.new.ended.items self.old self.new) }
         ensures runs { OnOk result (AreRunning (rows_of self.old) → AreRunning (rows_of self.new)) }
     {
         for (asker, answer) in given {

@@ -9,6 +9,8 @@ ghost use Rattle.txn_history.specs.Posted.{Errand as Wanted};
 ghost use Rattle.txn_kv.specs.declared.request.Request.TheVariants.{Tso};
 ghost use Rattle.txn_kv.specs.declared.request.TsoRequest.{TsoRequest as Asks};
 ghost use Rattle.txn_side.specs.Sight.{AskersAre, HasAskers, IsNext, is_live, line_count, next_at, ticket_in, with_next};
+ghost use Rattle.std.specs.List.{Any};
+ghost use Rattle.txn_side.specs.Trace.{IsSend};
 ghost use Rattle.txn_side.specs.Waiting.Awaited.{ReplyTo};
 
 use crate::clients::Clients;
@@ -105,6 +107,7 @@ impl<P, Q, K> Clients<P, Q, K> {
         ensures asks { OnOk result (asks_of self.new ≡ asks_of self.old) }
         ensures clients { OnOk result (self.new.clients ≡ self.old.clients) }
         ensures posts { OnOk result (PostsOne line (ReplyTo number) turn.old.posted.items turn.new.posted.items) }
+        ensures sent { OnOk result (Any (IsSend (record { line = line; beat = false; number = number }) request) turn.new.posted.items) }
     {
         // Timestamps are asked for by the oracle, and by nobody else.
         if is_tso(&request) {

@@ -1,9 +1,12 @@
 //! What stands at the lines is told of what came.
-ghost use Rattle.std.specs.Prelude.{◌≡◌, ◌<◌, ◌^◌, ◌-◌, ℕ, true, length, IfOk, IfSome, IsTrue, OnOk, Bool, List, None, Some, false};
+ghost use Rattle.std.specs.Prelude.{◌≡◌, ◌<◌, ◌^◌, ◌-◌, ℕ, Option, true, length, IfOk, IfSome, IsTrue, OnOk, Bool, List, None, Some, false};
 ghost use Rattle.txn_clients.specs.Accounts.{AccountsTold, AnswersNew, AnswersTold, BeginsNew, account_at, is_heard};
 ghost use Rattle.txn_clients.specs.Closing.{ClosesIn, EndsCall, EndsOwn, GoesTold, HasComeTo, StandsAt, status_by};
 ghost use Rattle.txn_clients.specs.Clients.{AreReady, HearsFor, IsLine, Listens, MayEnd, crashed_of, groups_of, nexts_of, row_at, rows_of, sight_of};
+ghost use Rattle.std.proofs.Common.{suc};
+ghost use Rattle.txn_clients.specs.Failing.{AnswerRests, CameIn, FailsAt, IfFails, MayKnow, outbox_of, posting_in};
 ghost use Rattle.txn_clients.specs.Going.{Advances, EndsIn, NamesIn, OfLine};
+ghost use Rattle.txn_side.specs.Trace.{Trace};
 ghost use Rattle.txn_clients.specs.Rows.{AnswerFits, AskFits, Brings, IsStamped, IsToldIn, MayHear, MayTell, Posts, Rests, Tells, stand_of};
 ghost use Rattle.txn_clients.specs.Waiting.{AreRunning, AreRunningBut, GoesOn, HearsAt, IsAnswerOf, IsHeard, IsNewAnswer, IsPrepared, IsSound, NoneHears, RunsOn, TellsRow, pends};
 ghost use Rattle.txn_clients.specs.declared.answer.Answer.TheVariants.{Asked};
@@ -117,7 +120,7 @@ where
         ensures rests { IfOk result (λ answer. IfSome answer (λ a. Rests (row_at (rows_of self.new) listener.at))) }
         ensures fits { IfOk result (λ answer. IfSome answer (AnswerFits (ways P.meaning Q.meaning K.meaning P.refuses Q.refuses K.refuses))) }
         ensures stamped { IfOk result (λ answer. IfSome answer (IsToldIn told)) }
-        ensures waits { OnOk result ((rest : List Asker) → IsHeard (sight_of self.old).stands line listener.at listener.client → IsSound (ways P.meaning Q.meaning K.meaning P.refuses Q.refuses K.refuses) (pends line told rest) self.old → GoesOn (ways P.meaning Q.meaning K.meaning P.refuses Q.refuses K.refuses) listener.client (HearsAt line told) rest turn.old.posted.items turn.new.posted.items self.old self.new) }
+        ensures waits { IfOk result (λ answer. (trace : Option Trace) (rest : List Asker) → IsHeard (sight_of self.old).stands line listener.at listener.client → MayKnow (posting_in turn.old.posted.items trace) (outbox_of line) told (row_at (rows_of self.old) listener.at) → IsSound (ways P.meaning Q.meaning K.meaning P.refuses Q.refuses K.refuses) (posting_in turn.old.posted.items trace) (pends line told rest) self.old → GoesOn (ways P.meaning Q.meaning K.meaning P.refuses Q.refuses K.refuses) trace listener.client (HearsAt line told) rest turn.old.posted.items turn.new.posted.items turn.old.ended.items turn.new.ended.items self.old self.new × IfSome answer (AnswerRests (ways P.meaning Q.meaning K.meaning P.refuses Q.refuses K.refuses) (posting_in turn.new.posted.items trace) (suc listener.at) line)) }
         ensures runs { IfOk result (λ answer. RunsOn told listener.at answer (rows_of self.old) (rows_of self.new)) }
         ensures new { IfOk result (λ answer. IfSome answer IsNewAnswer) }
         ensures kind { IfOk result (λ answer. IfSome answer (IsAnswerOf (stand_of (row_at (rows_of self.old) listener.at)))) }
@@ -146,7 +149,7 @@ where
         ensures alone { OnOk result (EndsIn line turn.old turn.new) }
         ensures names { OnOk result (NamesIn (OfLine line (IsStamped answer)) turn.old turn.new) }
         ensures ends { OnOk result (EndsOwn line turn.old.ended.items turn.new.ended.items) }
-        ensures waits { OnOk result (IsNewAnswer {P = P} {Q = Q} {K = K} (Asked answer) → (client : ℕ) (rest : List Asker) → IsSound (ways P.meaning Q.meaning K.meaning P.refuses Q.refuses K.refuses) rest self.old → GoesOn (ways P.meaning Q.meaning K.meaning P.refuses Q.refuses K.refuses) client (λ n a. ⊥) rest turn.old.posted.items turn.new.posted.items self.old self.new) }
+        ensures waits { OnOk result (IsNewAnswer {P = P} {Q = Q} {K = K} (Asked answer) → (trace : Option Trace) (client : ℕ) (rest : List Asker) → IfFails (FailsAt (ways P.meaning Q.meaning K.meaning P.refuses Q.refuses K.refuses) (posting_in turn.old.posted.items trace) line line) answer → IsSound (ways P.meaning Q.meaning K.meaning P.refuses Q.refuses K.refuses) (posting_in turn.old.posted.items trace) rest self.old → GoesOn (ways P.meaning Q.meaning K.meaning P.refuses Q.refuses K.refuses) trace client (λ n a. ⊥) rest turn.old.posted.items turn.new.posted.items turn.old.ended.items turn.new.ended.items self.old self.new) }
         ensures runs { OnOk result ((c : ℕ) (b : Bool) → stand_at (sight_of self.old).stands line ≡ Asking c b → AreRunningBut (line - 1) (rows_of self.old) → AreRunning (rows_of self.new)) }
         ensures ready { OnOk result (AreReady (ways P.meaning Q.meaning K.meaning P.refuses Q.refuses K.refuses) (rows_of self.new)) }
         ensures accounts { OnOk result (AreKept (account_at (rows_of self.old)) (account_at (rows_of self.new))) }
@@ -154,7 +157,7 @@ where
     {
         match self.row(line) {
             Row::Asking { client, begins, .. } => {
-                let ended = Ended::asked(*client, *begins, answer);
+                let ended = Ended::asked(*client, *begins, answer)?;
                 self.set_row(line, ended.row);
                 turn.ended.push(Ending {
                     line,
@@ -181,7 +184,7 @@ where
         ensures advances { OnOk result (Advances turn.old turn.new (sight_of self.old) (sight_of self.new)) }
         ensures alone { OnOk result (EndsIn line turn.old turn.new) }
         ensures names { OnOk result (NamesIn NoneGiven turn.old turn.new) }
-        ensures waits { OnOk result ((client : ℕ) (rest : List Asker) → IsSound (ways P.meaning Q.meaning K.meaning P.refuses Q.refuses K.refuses) rest self.old → GoesOn (ways P.meaning Q.meaning K.meaning P.refuses Q.refuses K.refuses) client (λ n a. ⊥) rest turn.old.posted.items turn.new.posted.items self.old self.new) }
+        ensures waits { OnOk result ((trace : Option Trace) (client : ℕ) (rest : List Asker) → ((c x : ℕ) (b : Bool) → stand_at (sight_of self.old).stands line ≡ Calling c x b → IfFails (FailsAt (ways P.meaning Q.meaning K.meaning P.refuses Q.refuses K.refuses) (posting_in turn.old.posted.items trace) x line) answer) → IsSound (ways P.meaning Q.meaning K.meaning P.refuses Q.refuses K.refuses) (posting_in turn.old.posted.items trace) rest self.old → GoesOn (ways P.meaning Q.meaning K.meaning P.refuses Q.refuses K.refuses) trace client (λ n a. ⊥) rest turn.old.posted.items turn.new.posted.items turn.old.ended.items turn.new.ended.items self.old self.new) }
         ensures runs { OnOk result ((c x : ℕ) (b : Bool) → stand_at (sight_of self.old).stands line ≡ Calling c x b → AreRunningBut (x - 1) (rows_of self.old) → AreRunning (rows_of self.new)) }
         ensures clients { OnOk result ((c : ℕ) → client_at (stand_at (sight_of self.old).stands line) ≡ Some c → client_at (stand_at (sight_of self.new).stands line) ≡ Some c) }
         ensures live { OnOk result (is_live (sight_of self.new) line ≡ true) }
@@ -198,7 +201,7 @@ where
                 commits,
             } => {
                 let transaction = *transaction;
-                let ended = Ended::called(*client, *commits, answer);
+                let ended = Ended::called(*client, *commits, answer)?;
                 self.set_waits(transaction, 0);
                 self.set_row(line, ended.row);
                 turn.ended.push(Ending {
@@ -279,7 +282,7 @@ where
         ensures ready { OnOk result (AreReady (ways P.meaning Q.meaning K.meaning P.refuses Q.refuses K.refuses) (rows_of self.new)) }
         ensures accounts { OnOk result (AreKept (account_at (rows_of self.old)) (account_at (rows_of self.new))) }
         ensures crashed { OnOk result (crashed_of self.new ≡ crashed_of self.old) }
-        ensures waits { OnOk result ((rest : List Asker) → client_at (stand_at (sight_of self.old).stands line) ≡ Some client → IsSound (ways P.meaning Q.meaning K.meaning P.refuses Q.refuses K.refuses) rest self.old → GoesOn (ways P.meaning Q.meaning K.meaning P.refuses Q.refuses K.refuses) client (λ n a. ⊥) rest turn.old.posted.items turn.new.posted.items self.old self.new) }
+        ensures waits { OnOk result ((trace : Option Trace) (rest : List Asker) → client_at (stand_at (sight_of self.old).stands line) ≡ Some client → IsSound (ways P.meaning Q.meaning K.meaning P.refuses Q.refuses K.refuses) (posting_in turn.old.posted.items trace) rest self.old → GoesOn (ways P.meaning Q.meaning K.meaning P.refuses Q.refuses K.refuses) trace client (λ n a. ⊥) rest turn.old.posted.items turn.new.posted.items turn.old.ended.items turn.new.ended.items self.old self.new) }
         ensures runs { OnOk result (AreRunning (rows_of self.old) → AreRunning (rows_of self.new)) }
     {
         if !self.has_job(line) {
@@ -310,7 +313,7 @@ where
         ensures ready { OnOk result (AreReady (ways P.meaning Q.meaning K.meaning P.refuses Q.refuses K.refuses) (rows_of self.new)) }
         ensures accounts { OnOk result (GoesTold told line listener.at (stand_at (sight_of self.old).stands line) (rows_of self.old) (rows_of self.new) turn.old.ended.items turn.new.ended.items) }
         ensures crashed { OnOk result (crashed_of self.new ≡ crashed_of self.old) }
-        ensures waits { OnOk result ((rest : List Asker) → client_at (stand_at (sight_of self.old).stands line) ≡ Some listener.client → IsSound (ways P.meaning Q.meaning K.meaning P.refuses Q.refuses K.refuses) (pends line told rest) self.old → GoesOn (ways P.meaning Q.meaning K.meaning P.refuses Q.refuses K.refuses) listener.client (HearsAt line told) rest turn.old.posted.items turn.new.posted.items self.old self.new) }
+        ensures waits { OnOk result ((trace : Option Trace) (rest : List Asker) → client_at (stand_at (sight_of self.old).stands line) ≡ Some listener.client → MayKnow (posting_in turn.old.posted.items trace) (outbox_of line) told (row_at (rows_of self.old) listener.at) → IsSound (ways P.meaning Q.meaning K.meaning P.refuses Q.refuses K.refuses) (posting_in turn.old.posted.items trace) (pends line told rest) self.old → GoesOn (ways P.meaning Q.meaning K.meaning P.refuses Q.refuses K.refuses) trace listener.client (HearsAt line told) rest turn.old.posted.items turn.new.posted.items turn.old.ended.items turn.new.ended.items self.old self.new) }
         ensures runs { OnOk result (AreRunningBut listener.at (rows_of self.old) → IsPrepared told (row_at (rows_of self.old) listener.at) → AreRunning (rows_of self.new)) }
     {
         let heard = told.is_heard();
@@ -390,7 +393,7 @@ where
         ensures ready { OnOk result (AreReady (ways P.meaning Q.meaning K.meaning P.refuses Q.refuses K.refuses) (rows_of self.new)) }
         ensures accounts { OnOk result (ClosesIn (sight_of self.old) (rows_of self.old) (rows_of self.new) turn.old.ended.items turn.new.ended.items) }
         ensures crashed { OnOk result (crashed_of self.new ≡ crashed_of self.old) }
-        ensures waits { OnOk result ((client : ℕ) (rest : List Asker) → is_live (sight_of self.old) line ≡ true → client_at (stand_at (sight_of self.old).stands line) ≡ Some client → IsSound (ways P.meaning Q.meaning K.meaning P.refuses Q.refuses K.refuses) (pends line (Heard arrival) rest) self.old → GoesOn (ways P.meaning Q.meaning K.meaning P.refuses Q.refuses K.refuses) client (HearsAt line (Heard arrival)) rest turn.old.posted.items turn.new.posted.items self.old self.new) }
+        ensures waits { OnOk result ((trace : Option Trace) (client : ℕ) (rest : List Asker) → is_live (sight_of self.old) line ≡ true → client_at (stand_at (sight_of self.old).stands line) ≡ Some client → CameIn (posting_in turn.old.posted.items trace) (outbox_of line) arrival → IsSound (ways P.meaning Q.meaning K.meaning P.refuses Q.refuses K.refuses) (posting_in turn.old.posted.items trace) (pends line (Heard arrival) rest) self.old → GoesOn (ways P.meaning Q.meaning K.meaning P.refuses Q.refuses K.refuses) trace client (HearsAt line (Heard arrival)) rest turn.old.posted.items turn.new.posted.items turn.old.ended.items turn.new.ended.items self.old self.new) }
         ensures runs { OnOk result (AreRunning (rows_of self.old) → AreRunning (rows_of self.new)) }
     {
         match self.listener(line) {

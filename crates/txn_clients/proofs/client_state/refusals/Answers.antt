@@ -1,5 +1,4 @@
-use Rattle.std.proofs.Common.{arith, ◌≡◌, ◌∷◌, ◌++◌, [], map, refl, sym, ap, ◌∙◌, append-nil, append_assoc}
-use Rattle.std.proofs.lemmas.List.{map-append}
+use Rattle.std.proofs.Common.{arith, ◌++◌, map, sym, ap, ◌∙◌, append-nil}
 use Rattle.txn_tso.specs.Oracle.{Answer}
 use Rattle.txn_clients.proofs.Kept.{nil_so}
 use Rattle.txn_clients.proofs.client_state.refusals.Goals as goal

@@ -1,7 +1,7 @@
-use Rattle.std.proofs.Common.{◌∙◌, ◌-◌, ap, refl, set, []}
-use Rattle.txn_side.specs.Sight.{NoneGiven, commits, line_count, with_stand, stand_at}
+use Rattle.std.proofs.Common.{◌∙◌, ◌-◌, ap, refl, set, subst, sym, []}
+use Rattle.txn_side.specs.Sight.{NoneGiven, commits, line_count, with_stand}
 use Rattle.txn_side.specs.Sight.Stand.{Calling, HasBegun}
-use Rattle.txn_clients.specs.Clients.{rows_of, sight_of, row_at, stands_of}
+use Rattle.txn_clients.specs.Clients.{rows_of, sight_of}
 use Rattle.txn_clients.specs.declared.row.Row.TheVariants as row
 use Rattle.txn_clients.specs.Going.{OfLine}
 use Rattle.txn_clients.specs.Rows.{Tells}
@@ -11,6 +11,10 @@ use Rattle.txn_clients.proofs.Naming.{named_so}
 use Rattle.txn_clients.proofs.Accounting.{takes_in}
 use Rattle.txn_clients.proofs.Beginning.{call_steps}
 use Rattle.std.proofs.lemmas.Result.{IfOk-weaker}
+use Rattle.txn_side.specs.Account.{refusal}
+use Rattle.txn_clients.specs.Accounts.{account_at}
+use Rattle.txn_clients.specs.Failing.{CalledIn, RefusedIn}
+use Rattle.txn_clients.proofs.Coming.{called_since, refused_since}
 use Rattle.txn_clients.proofs.clients.Clients.call.Goals as goal
 
 pub step-requires-clause-listens : goal.step-requires-clause-listens
@@ -54,7 +58,9 @@ returns-clause-takes g c =
 
 pub returns-clause-steps : goal.returns-clause-steps
 returns-clause-steps g c = IfOk-weaker c.step.result _ _
-    (λ turn f ready. call_steps _ g.met.P.Plan.lawful g.met.Q.Plan.lawful g.met.K.Plan.lawful c.args.self.now c.set_row.new.self c.step.new.self c.newest-line.result c.args.transaction c.args.client c.is_commit.result c.args.act _ turn.posted.items (newest_is c.args.self.now c.newest-line.result c.requires.line c.newest-line.ensures)
+    (λ turn f trace ready called refused sound. call_steps _ g.met.P.Plan.lawful g.met.Q.Plan.lawful g.met.K.Plan.lawful trace c.args.self.now c.set_row.new.self c.step.new.self c.newest-line.result c.args.transaction c.args.client c.is_commit.result c.args.act _ turn.posted.items turn.ended.items (newest_is c.args.self.now c.newest-line.result c.requires.line c.newest-line.ensures)
     (newest_idle c.args.self.now c.newest-line.result c.newest-line.ensures (c.if-not-is_new.ensures refl)) c.requires.transaction
-    (c.set_row.ensures.rows ∙ ap (λ rs. set rs (c.newest-line.result - 1) (row.Calling c.args.client c.args.transaction c.is_commit.result)) c.set_waits.ensures.rows) (c.set_row.ensures.nexts ∙ c.set_waits.ensures.nexts) (c.set_row.ensures.asks ∙ c.set_waits.ensures.asks) (c.set_row.ensures.clients ∙ c.set_waits.ensures.clients) ready f)
+    (c.set_row.ensures.rows ∙ ap (λ rs. set rs (c.newest-line.result - 1) (row.Calling c.args.client c.args.transaction c.is_commit.result)) c.set_waits.ensures.rows) (c.set_row.ensures.nexts ∙ c.set_waits.ensures.nexts) (c.set_row.ensures.asks ∙ c.set_waits.ensures.asks) (c.set_row.ensures.clients ∙ c.set_waits.ensures.clients) ready
+    (called_since trace [] c.newest-line.result c.args.transaction (subst (λ n. CalledIn trace n c.args.transaction) (sym c.newest-line.ensures) called))
+    (refused_since trace [] c.newest-line.result (refusal c.args.act (account_at (rows_of c.args.self.now) c.args.transaction)) (subst (λ n. RefusedIn trace n (refusal c.args.act (account_at (rows_of c.args.self.now) c.args.transaction))) (sym c.newest-line.ensures) refused)) sound (f trace))
     c.step.ensures.steps

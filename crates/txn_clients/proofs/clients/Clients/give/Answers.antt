@@ -18,6 +18,9 @@ use Rattle.txn_clients.proofs.Settling.{goes_on, head_sound, quiet_goes}
 use Rattle.txn_tso.specs.Oracle.{Answer}
 use Rattle.txn_clients.proofs.Kept.{nil_so}
 use Rattle.txn_commit.specs.Committing.{ways}
+use Rattle.txn_clients.specs.Failing.{posting_in}
+use Rattle.txn_clients.proofs.Giving.{given_came}
+use Rattle.txn_clients.proofs.Sounding.{no_more}
 use Rattle.txn_clients.proofs.clients.Clients.give.Goals as goal
 
 pub loop-asker-init : goal.loop-asker-init
@@ -27,7 +30,10 @@ loop-asker-init g c = record {
   ready = c.requires.ready;
   accounts = λ posted ended. closed_so (sight_of c.args.self.now) [] c.args.turn.now.ended.items (account_at (rows_of c.args.self.now)) (account_at (rows_of c.args.self.now)) ended (nothing_closed (sight_of c.args.self.now) (account_at (rows_of c.args.self.now)) (account_at (rows_of c.args.self.now)) (λ n. refl));
   crashed = refl;
-  waits = λ sound. quiet_goes _ c.args.self.now c.args.self.now c.args.client _ c.args.turn.now.posted.items (subst (λ xs. IsSound (ways g.P.Plan.meaning g.Q.Plan.meaning g.K.Plan.meaning g.P.PlanFor.refuses g.Q.PlanFor.refuses g.K.PlanFor.refuses) (map (λ (a : Answer). a.0) xs) c.args.self.now) (sym c.into_iter-asker-iterator.ensures.into_iter_gives.0) sound) (λ n a x. x) (λ n. refl);
+  waits = λ trace given sound.
+      let now = posting_in c.args.turn.now.posted.items trace in
+      quiet_goes _ trace c.args.self.now c.args.self.now c.args.client _ c.args.turn.now.posted.items c.args.turn.now.ended.items c.args.turn.now.ended.items (subst (λ xs. IsSound (ways g.P.Plan.meaning g.Q.Plan.meaning g.K.Plan.meaning g.P.PlanFor.refuses g.Q.PlanFor.refuses g.K.PlanFor.refuses) now (map (λ (a : Answer). a.0) xs) c.args.self.now) (sym c.into_iter-asker-iterator.ensures.into_iter_gives.0) sound)
+      (no_more _ now c.args.turn.now.ended.items) (λ n a x. x) (λ n. refl);
   runs = λ running. running;
   times = subst (All IsTimeFor) (sym c.into_iter-asker-iterator.ensures.into_iter_gives.0) c.requires.times;
   rest = λ a among. subst (λ xs. IsAmong xs a) c.into_iter-asker-iterator.ensures.into_iter_gives.0 among;
@@ -35,12 +41,12 @@ loop-asker-init g c = record {
 
 pub loop-asker-preserved : goal.loop-asker-preserved
 loop-asker-preserved g c =
-    let here = c.loop-asker.invariant.rest (c.in-Some.asker, c.in-Some.answer) (subst (λ xs. IsAmong xs (c.in-Some.asker, c.in-Some.answer)) (sym c.in-Some.ensures.steps.0) (inl refl)) in
+    let here_among = c.loop-asker.invariant.rest (c.in-Some.asker, c.in-Some.answer) (subst (λ xs. IsAmong xs (c.in-Some.asker, c.in-Some.answer)) (sym c.in-Some.ensures.steps.0) (inl refl)) in
     record {
       advances = advances_then c.args.turn.now c.loop-asker.turn c.tell.new.turn (sight_of c.args.self.now) (sight_of c.loop-asker.self) (sight_of c.tell.new.self) c.loop-asker.invariant.advances c.in_ok-tell.ensures.advances;
       names = names_then (IsTimed c.args.given.items) c.args.turn.now c.loop-asker.turn c.tell.new.turn c.loop-asker.invariant.names
           (names_weaker (OfLine c.in-Some.asker.line (Brings (Time c.in-Some.asker.ask c.in-Some.answer))) (IsTimed c.args.given.items) c.loop-asker.turn c.tell.new.turn
-          (λ n v q. timed_by c.args.given.items c.in-Some.asker c.in-Some.answer n v here q.0 q.1) c.in_ok-tell.ensures.names);
+          (λ n v q. timed_by c.args.given.items c.in-Some.asker c.in-Some.answer n v here_among q.0 q.1) c.in_ok-tell.ensures.names);
       ready = c.in_ok-tell.ensures.ready;
       accounts = λ posted ended.
           let part = c.in_ok-tell.ensures.accounts in
@@ -48,19 +54,22 @@ loop-asker-preserved g c =
           (closes_then c.loop-asker.turn.posted.items c.loop-asker.turn.ended.items part.more (sight_of c.args.self.now) (sight_of c.loop-asker.self) (account_at (rows_of c.args.self.now)) (account_at (rows_of c.loop-asker.self)) (account_at (rows_of c.tell.new.self))
           (advances_all c.args.turn.now c.loop-asker.turn (sight_of c.args.self.now) (sight_of c.loop-asker.self) posted ended c.loop-asker.invariant.advances) (c.loop-asker.invariant.accounts posted ended) part.closed);
       crashed = c.in_ok-tell.ensures.crashed ∙ c.loop-asker.invariant.crashed;
-      waits = λ sound.
-          let first = c.loop-asker.invariant.waits sound in
-          let here = head_sound _ c.loop-asker.self c.in-Some.asker (map (λ (a : Answer). a.0) c.next.new.self.rest.items) (subst (λ xs. IsSound (ways g.P.Plan.meaning g.Q.Plan.meaning g.K.Plan.meaning g.P.PlanFor.refuses g.Q.PlanFor.refuses g.K.PlanFor.refuses) (map (λ (a : Answer). a.0) xs) c.loop-asker.self) c.in-Some.ensures.steps.0 first.sound) in
-          goes_on _ c.args.self.now c.loop-asker.self c.tell.new.self c.args.client (λ n a. ⊥) (HearsAt c.in-Some.asker.line (Heard (Time c.in-Some.asker.ask c.in-Some.answer))) _ (map (λ (a : Answer). a.0) c.next.new.self.rest.items) c.args.turn.now.posted.items c.loop-asker.turn.posted.items c.tell.new.turn.posted.items first
-          (c.in_ok-tell.ensures.waits c.args.client (map (λ (a : Answer). a.0) c.next.new.self.rest.items) (c.if-not-is_of.ensures.live refl) (c.if-not-is_of.ensures.own refl) here);
+      waits = λ trace given sound.
+          let first = c.loop-asker.invariant.waits trace given sound in
+          let now = posting_in c.loop-asker.turn.posted.items trace in
+          let left = map (λ (a : Answer). a.0) c.next.new.self.rest.items in
+          let here = head_sound _ now c.loop-asker.self c.in-Some.asker left (subst (λ xs. IsSound (ways g.P.Plan.meaning g.Q.Plan.meaning g.K.Plan.meaning g.P.PlanFor.refuses g.Q.PlanFor.refuses g.K.PlanFor.refuses) now (map (λ (a : Answer). a.0) xs) c.loop-asker.self) c.in-Some.ensures.steps.0 first.sound) in
+          let came = given_came trace c.loop-asker.turn.posted.items c.args.given.items c.in-Some.asker c.in-Some.answer given here_among in
+          goes_on _ trace c.args.self.now c.loop-asker.self c.tell.new.self c.args.client (λ n a. ⊥) (HearsAt c.in-Some.asker.line (Heard (Time c.in-Some.asker.ask c.in-Some.answer))) _ left c.args.turn.now.posted.items c.loop-asker.turn.posted.items c.tell.new.turn.posted.items c.args.turn.now.ended.items c.loop-asker.turn.ended.items c.tell.new.turn.ended.items first
+          (c.in_ok-tell.ensures.waits trace c.args.client left (c.if-not-is_of.ensures.live refl) (c.if-not-is_of.ensures.own refl) came here);
       runs = λ running. c.in_ok-tell.ensures.runs (c.loop-asker.invariant.runs running);
       times = All-tail IsTimeFor (c.in-Some.asker, c.in-Some.answer) c.next.new.self.rest.items (subst (All IsTimeFor) c.in-Some.ensures.steps.0 c.loop-asker.invariant.times);
       rest = λ a among. c.loop-asker.invariant.rest a (subst (λ xs. IsAmong xs a) (sym c.in-Some.ensures.steps.0) (inr among));
     }
 
 pub returns-clause-waits : goal.returns-clause-waits
-returns-clause-waits g c sound =
+returns-clause-waits g c trace given sound =
     let rest = c.loop-asker.asker-iterator.rest in
     let none = c.in-None.ensures.steps.0 in
     let none_left = nil_so rest.items (let ok = rest.ok in omega (arith, ok, none)) in
-    subst (λ xs. GoesOn (ways g.P.Plan.meaning g.Q.Plan.meaning g.K.Plan.meaning g.P.PlanFor.refuses g.Q.PlanFor.refuses g.K.PlanFor.refuses) c.args.client (λ n a. ⊥) (map (λ (a : Answer). a.0) xs) c.args.turn.now.posted.items c.loop-asker.turn.posted.items c.args.self.now c.loop-asker.self) none_left (c.loop-asker.invariant.waits sound)
+    subst (λ xs. GoesOn (ways g.P.Plan.meaning g.Q.Plan.meaning g.K.Plan.meaning g.P.PlanFor.refuses g.Q.PlanFor.refuses g.K.PlanFor.refuses) trace c.args.client (λ n a. ⊥) (map (λ (a : Answer). a.0) xs) c.args.turn.now.posted.items c.loop-asker.turn.posted.items c.args.turn.now.ended.items c.loop-asker.turn.ended.items c.args.self.now c.loop-asker.self) none_left (c.loop-asker.invariant.waits trace given sound)

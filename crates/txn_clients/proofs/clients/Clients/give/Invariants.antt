@@ -10,6 +10,9 @@ use Rattle.txn_clients.specs.Going.{Advances, NamesIn}
 use Rattle.txn_clients.specs.Groups.{IsTimeFor, IsTimed}
 use Rattle.std.proofs.Common.{map}
 use Rattle.txn_clients.specs.Waiting.{AreRunning, GoesOn, IsSound}
+use Rattle.std.specs.Prelude.{Option}
+use Rattle.txn_side.specs.Trace.{Trace}
+use Rattle.txn_clients.specs.Failing.{AreGivenIn, posting_in}
 use Rattle.txn_clients.proofs.clients.Clients.give.Given as goal
 
 abbrev pub invariant-loop-asker : goal.invariant-loop-asker
@@ -19,7 +22,8 @@ invariant-loop-asker g l = record {
   ready : AreReady (ways g.P.Plan.meaning g.Q.Plan.meaning g.K.Plan.meaning g.P.PlanFor.refuses g.Q.PlanFor.refuses g.K.PlanFor.refuses) (rows_of l.self);
   accounts : l.initial.turn.posted.items ≡ [] → l.initial.turn.ended.items ≡ [] → AreClosed (sight_of l.initial.self) l.turn.ended.items (account_at (rows_of l.initial.self)) (account_at (rows_of l.self));
   crashed : crashed_of l.self ≡ crashed_of l.initial.self;
-  waits : IsSound (ways g.P.Plan.meaning g.Q.Plan.meaning g.K.Plan.meaning g.P.PlanFor.refuses g.Q.PlanFor.refuses g.K.PlanFor.refuses) (map (λ (a : Answer). a.0) l.fn.given.items) l.initial.self → GoesOn (ways g.P.Plan.meaning g.Q.Plan.meaning g.K.Plan.meaning g.P.PlanFor.refuses g.Q.PlanFor.refuses g.K.PlanFor.refuses) l.client (λ n a. ⊥) (map (λ (a : Answer). a.0) l.asker-iterator.rest.items) l.initial.turn.posted.items l.turn.posted.items l.initial.self l.self;
+  waits : (trace : Option Trace) → AreGivenIn trace l.fn.given.items → IsSound (ways g.P.Plan.meaning g.Q.Plan.meaning g.K.Plan.meaning g.P.PlanFor.refuses g.Q.PlanFor.refuses g.K.PlanFor.refuses) (posting_in l.initial.turn.posted.items trace) (map (λ (a : Answer). a.0) l.fn.given.items) l.initial.self
+      → GoesOn (ways g.P.Plan.meaning g.Q.Plan.meaning g.K.Plan.meaning g.P.PlanFor.refuses g.Q.PlanFor.refuses g.K.PlanFor.refuses) trace l.client (λ n a. ⊥) (map (λ (a : Answer). a.0) l.asker-iterator.rest.items) l.initial.turn.posted.items l.turn.posted.items l.initial.turn.ended.items l.turn.ended.items l.initial.self l.self;
   runs : AreRunning (rows_of l.initial.self) → AreRunning (rows_of l.self);
   times : All IsTimeFor l.asker-iterator.rest.items;
   rest : (a : Answer) → IsAmong l.asker-iterator.rest.items a → IsAmong l.fn.given.items a;

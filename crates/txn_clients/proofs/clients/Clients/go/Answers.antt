@@ -1,4 +1,4 @@
-use Rattle.std.proofs.Common.{◌≡◌, subst, suc, sym, ◌∙◌, ap, Some, refl}
+use Rattle.std.proofs.Common.{◌≡◌, subst, suc, sym, ◌∙◌, ap, Some}
 use Rattle.std.specs.Prelude.{OnOk}
 use Rattle.txn_side.specs.Sight.{EndsAlone, NoneGiven, client_at, stand_at}
 use Rattle.txn_clients.specs.Clients.{HearsFor, row_at, rows_of, stands_of}
@@ -6,13 +6,14 @@ use Rattle.txn_clients.specs.Going.{NamesIn, OfLine}
 use Rattle.txn_clients.specs.Rows.{IsStamped, IsToldIn, Rests, Tells, stand_of}
 use Rattle.txn_clients.proofs.Listening.{may_end}
 use Rattle.txn_clients.proofs.Naming.{names_after, names_before, names_quiet, names_weaker}
-use Rattle.txn_clients.proofs.Telling.{ends_within, on_ok, some_at, some_so, always_ok}
+use Rattle.txn_clients.proofs.Telling.{ends_within, on_ok, some_at, some_so}
 use Rattle.txn_side.specs.Account.{AreKept}
 use Rattle.txn_clients.specs.Accounts.{AccountsTold, account_at}
 use Rattle.txn_clients.specs.Closing.{EndsCall, EndsOwn, HasComeTo}
 use Rattle.txn_clients.proofs.Accounting.{both_on_ok, closes_so, goes_asked, goes_called, goes_none, kept_then, row_same, told_then}
-use Rattle.txn_clients.specs.Waiting.{AreRunningBut, GoesOn, IsAnswerOf, IsHeard, IsNewAnswer, IsSound}
-use Rattle.txn_clients.proofs.Settling.{asked_at, called_at, goes_on}
+use Rattle.txn_clients.specs.Waiting.{AreRunningBut, IsAnswerOf, IsNewAnswer}
+use Rattle.txn_clients.proofs.Settling.{asked_at, asked_rests, called_at, called_rests, goes_on}
+use Rattle.txn_clients.specs.Failing.{posting_in}
 use Rattle.txn_clients.proofs.Voices.{hears_voice}
 use Rattle.txn_clients.proofs.clients.Clients.go.Goals as goal
 
@@ -89,19 +90,22 @@ returns-in_ok-end_call-in-Some-Called-clause-accounts g c =
     c.start_job.ensures.accounts c.start_job.ensures.ended
 
 pub returns-in-None-clause-waits : goal.returns-in-None-clause-waits
-returns-in-None-clause-waits g c rest own sound =
-    c.in_ok-push.ensures.waits rest (record { own = own; voiced = hears_voice (stands_of (rows_of c.args.self.now)) c.args.line c.args.listener.at c.requires.listens.hears }) sound
+returns-in-None-clause-waits g c trace rest own knows sound =
+    let pushed = c.in_ok-push.ensures.waits trace rest (record { own = own; voiced = hears_voice (stands_of (rows_of c.args.self.now)) c.args.line c.args.listener.at c.requires.listens.hears }) knows sound in
+    pushed.0
 
 pub returns-in-None-clause-runs : goal.returns-in-None-clause-runs
 returns-in-None-clause-runs g c but prepared = let r = c.in_ok-push.ensures.runs but prepared in r.1 c.in-None.is
 
 pub returns-in-Some-Asked-clause-waits : goal.returns-in-Some-Asked-clause-waits
 returns-in-Some-Asked-clause-waits g c = on_ok c.end_ask.result
-    (λ f rest own sound.
-    let first = c.in_ok-push.ensures.waits rest (record { own = own; voiced = hears_voice (stands_of (rows_of c.args.self.now)) c.args.line c.args.listener.at c.requires.listens.hears }) sound in
+    (λ f trace rest own knows sound.
+    let pushed = c.in_ok-push.ensures.waits trace rest (record { own = own; voiced = hears_voice (stands_of (rows_of c.args.self.now)) c.args.line c.args.listener.at c.requires.listens.hears }) knows sound in
     let new = some_at c.in_ok-push.field-0 c.in-Some-Asked.field-0 IsNewAnswer c.in-Some-Asked.is c.in_ok-push.ensures.new in
-    goes_on _ c.args.self.now c.push.new.self c.end_ask.new.self c.args.listener.client _ _ rest rest c.args.turn.now.posted.items c.push.new.turn.posted.items c.end_ask.new.turn.posted.items first
-    (f (subst IsNewAnswer c.in-Some-Asked.field-0-is new) c.args.listener.client rest first.sound))
+    let kind = subst (IsAnswerOf (stand_of (row_at (rows_of c.args.self.now) c.args.listener.at))) c.in-Some-Asked.field-0-is (some_at c.in_ok-push.field-0 c.in-Some-Asked.field-0 (IsAnswerOf (stand_of (row_at (rows_of c.args.self.now) c.args.listener.at))) c.in-Some-Asked.is c.in_ok-push.ensures.kind) in
+    let why = asked_rests _ (posting_in c.push.new.turn.posted.items trace) (rows_of c.args.self.now) c.args.line c.args.listener.at c.in-Some-Asked.answer c.in_ok-push.field-0 c.requires.listens.hears kind (c.in-Some-Asked.is ∙ ap (λ x. Some x) c.in-Some-Asked.field-0-is) pushed.1 in
+    goes_on _ trace c.args.self.now c.push.new.self c.end_ask.new.self c.args.listener.client _ _ rest rest c.args.turn.now.posted.items c.push.new.turn.posted.items c.end_ask.new.turn.posted.items c.args.turn.now.ended.items c.push.new.turn.ended.items c.end_ask.new.turn.ended.items pushed.0
+    (f (subst IsNewAnswer c.in-Some-Asked.field-0-is new) trace c.args.listener.client rest why pushed.0.sound))
     c.end_ask.ensures.waits
 
 pub returns-in-Some-Asked-clause-runs : goal.returns-in-Some-Asked-clause-runs
@@ -115,12 +119,14 @@ returns-in-Some-Asked-clause-runs g c = on_ok c.end_ask.result
 
 pub returns-in_ok-end_call-in-Some-Called-clause-waits : goal.returns-in_ok-end_call-in-Some-Called-clause-waits
 returns-in_ok-end_call-in-Some-Called-clause-waits g c = on_ok c.start_job.result
-    (λ f rest own sound.
-    let first = c.in_ok-push.ensures.waits rest (record { own = own; voiced = hears_voice (stands_of (rows_of c.args.self.now)) c.args.line c.args.listener.at c.requires.listens.hears }) sound in
-    let ended = c.in_ok-end_call-in-Some-Called.ensures.waits c.args.listener.client rest first.sound in
+    (λ f trace rest own knows sound.
+    let pushed = c.in_ok-push.ensures.waits trace rest (record { own = own; voiced = hears_voice (stands_of (rows_of c.args.self.now)) c.args.line c.args.listener.at c.requires.listens.hears }) knows sound in
+    let first = pushed.0 in
+    let why = called_rests _ (posting_in c.push.new.turn.posted.items trace) (rows_of c.args.self.now) (rows_of c.push.new.self) c.args.line c.args.listener.at c.in-Some-Called.answer c.in_ok-push.field-0 c.in_ok-push.ensures.stands c.requires.listens.hears (c.in-Some-Called.is ∙ ap (λ x. Some x) c.in-Some-Called.field-0-is) pushed.1 in
+    let ended = c.in_ok-end_call-in-Some-Called.ensures.waits trace c.args.listener.client rest why first.sound in
     let mine = c.in_ok-end_call-in-Some-Called.ensures.clients c.args.listener.client (ap (λ ss. client_at (stand_at ss c.args.line)) c.in_ok-push.ensures.stands ∙ own) in
-    goes_on _ c.args.self.now c.push.new.self c.start_job.new.self c.args.listener.client _ _ rest rest c.args.turn.now.posted.items c.push.new.turn.posted.items c.start_job.new.turn.posted.items first
-    (goes_on _ c.push.new.self c.end_call.new.self c.start_job.new.self c.args.listener.client _ _ rest rest c.push.new.turn.posted.items c.end_call.new.turn.posted.items c.start_job.new.turn.posted.items ended (f rest mine ended.sound)))
+    goes_on _ trace c.args.self.now c.push.new.self c.start_job.new.self c.args.listener.client _ _ rest rest c.args.turn.now.posted.items c.push.new.turn.posted.items c.start_job.new.turn.posted.items c.args.turn.now.ended.items c.push.new.turn.ended.items c.start_job.new.turn.ended.items first
+    (goes_on _ trace c.push.new.self c.end_call.new.self c.start_job.new.self c.args.listener.client _ _ rest rest c.push.new.turn.posted.items c.end_call.new.turn.posted.items c.start_job.new.turn.posted.items c.push.new.turn.ended.items c.end_call.new.turn.ended.items c.start_job.new.turn.ended.items ended (f trace rest mine ended.sound)))
     c.start_job.ensures.waits
 
 pub returns-in_ok-end_call-in-Some-Called-clause-runs : goal.returns-in_ok-end_call-in-Some-Called-clause-runs

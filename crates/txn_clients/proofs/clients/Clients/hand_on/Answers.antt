@@ -1,17 +1,17 @@
-use Rattle.std.proofs.Common.{◌∷◌, subst, sym, ap, refl}
+use Rattle.std.proofs.Common.{◌∷◌, subst, sym, ap}
 use Rattle.txn_kv.specs.declared.ticket.Ticket.{Ticket}
 use Rattle.txn_side.specs.Waiting.Awaited.{EndOf}
 use Rattle.txn_clients.proofs.Grouping.{hands_asked, hands_sent, hands_slept}
-use Rattle.txn_clients.proofs.Numbers.{ok_four}
+use Rattle.txn_clients.proofs.Numbers.{ok_five, ok_four}
 use Rattle.txn_clients.proofs.Places.{both_ok}
 use Rattle.txn_history.specs.Posted.{Errand}
 use Rattle.txn_clients.specs.Waiting.{HandsOn}
 use Rattle.txn_clients.proofs.clients.Clients.hand_on.Goals as goal
 
 pub returns-in-Send-clause-hands : goal.returns-in-Send-clause-hands
-returns-in-Send-clause-hands g c = ok_four c.send.result
-    (λ posts nexts asks clients rest. subst (λ (r : Errand). HandsOn c.args.line c.args.client (r ∷ rest) rest c.args.turn.now.posted.items c.send.new.turn.posted.items c.args.self.now c.send.new.self) (sym c.in-Send.is) (hands_sent c.args.line c.args.client c.in-Send.number c.in-Send.to c.in-Send.request rest c.args.turn.now.posted.items c.send.new.turn.posted.items c.args.self.now c.send.new.self c.requires.line posts nexts asks clients))
-    c.send.ensures.posts c.send.ensures.nexts c.send.ensures.asks c.send.ensures.clients
+returns-in-Send-clause-hands g c = ok_five c.send.result
+    (λ mail posts nexts asks clients rest. subst (λ (r : Errand). HandsOn c.args.line c.args.client (r ∷ rest) rest c.args.turn.now.posted.items c.send.new.turn.posted.items c.args.self.now c.send.new.self) (sym c.in-Send.is) (hands_sent c.args.line c.args.client c.in-Send.number c.in-Send.to c.in-Send.request rest c.args.turn.now.posted.items c.send.new.turn.posted.items c.args.self.now c.send.new.self c.requires.line mail posts nexts asks clients))
+    c.send.ensures.sent c.send.ensures.posts c.send.ensures.nexts c.send.ensures.asks c.send.ensures.clients
 
 pub returns-in-Sleep-clause-hands : goal.returns-in-Sleep-clause-hands
 returns-in-Sleep-clause-hands g c = ok_four c.post.result

@@ -4,11 +4,15 @@ use Rattle.txn_clients.specs.Rows.{Brings}
 use Rattle.txn_clients.proofs.Asking.{goes_whole}
 use Rattle.txn_clients.proofs.Naming.{named_all}
 use Rattle.txn_clients.specs.Accounts.{account_at}
-use Rattle.std.proofs.Common.{ap}
+use Rattle.std.proofs.Common.{ap, subst, sym}
 use Rattle.txn_clients.proofs.Accounting.{closed_kept, closed_so, closes_first, kept_rows}
 use Rattle.txn_clients.proofs.Stepping.{whole_steps}
 use Rattle.std.specs.Prelude.{[]}
 use Rattle.txn_clients.proofs.Settling.{pends_none}
+use Rattle.txn_clients.specs.Failing.{CameIn, outbox_of, posting_in}
+use Rattle.txn_clients.specs.Waiting.{IsSound, pends}
+use Rattle.txn_clients.specs.declared.told.Told.TheVariants.{Heard}
+use Rattle.txn_commit.specs.Committing.{ways}
 use Rattle.txn_clients.proofs.clients.Clients.hear.Goals as goal
 
 pub returns-clause-turn : goal.returns-clause-turn
@@ -30,6 +34,9 @@ returns-clause-accounts g c =
     (kept_rows (rows_of c.tell.new.self) (rows_of c.send_group.new.self) c.in_ok-send_group.ensures.rows))
 
 pub returns-clause-steps : goal.returns-clause-steps
-returns-clause-steps g c live own ready =
-    let went = c.in_ok-tell.ensures.waits c.args.client [] live own (pends_none _ c.args.self.now c.args.line c.args.arrival ready.sound) in
-    whole_steps _ c.args.self.now c.tell.new.self c.send_group.new.self c.args.client _ _ c.tell.new.turn.posted.items c.send_group.new.turn.posted.items went (c.in_ok-send_group.ensures.waits [] went.sound) c.in_ok-send_group.ensures.rows (c.in_ok-tell.ensures.runs ready.running) (λ d apart. ready.quiet d)
+returns-clause-steps g c trace live own ready came sound =
+    let none = sym c.new-turn.ensures.posted in
+    let went = c.in_ok-tell.ensures.waits trace c.args.client [] live own (subst (λ ps. CameIn (posting_in ps trace) (outbox_of c.args.line) c.args.arrival) none came)
+    (subst (λ ps. IsSound (ways g.P.Plan.meaning g.Q.Plan.meaning g.K.Plan.meaning g.P.PlanFor.refuses g.Q.PlanFor.refuses g.K.PlanFor.refuses) (posting_in ps trace) (pends c.args.line (Heard c.args.arrival) []) c.args.self.now) none (pends_none _ (posting_in [] trace) c.args.self.now c.args.line c.args.arrival sound)) in
+    whole_steps _ trace c.args.self.now c.tell.new.self c.send_group.new.self c.args.client _ c.new-turn.result.posted.items c.tell.new.turn.posted.items c.send_group.new.turn.posted.items c.new-turn.result.ended.items c.tell.new.turn.ended.items c.send_group.new.turn.ended.items
+    c.new-turn.ensures.ended (ap (λ v. v.items) c.in_ok-send_group.ensures.ended) went (c.in_ok-send_group.ensures.waits trace [] went.sound) c.in_ok-send_group.ensures.rows (c.in_ok-tell.ensures.runs ready.running) (λ d apart. ready.quiet d)

@@ -3,10 +3,13 @@ use Rattle.txn_clients.specs.Clients.{sight_of, rows_of}
 use Rattle.txn_clients.proofs.Asking.{goes_whole}
 use Rattle.txn_clients.proofs.Naming.{named_all}
 use Rattle.txn_clients.specs.Accounts.{account_at}
-use Rattle.std.proofs.Common.{ap}
+use Rattle.std.proofs.Common.{None, ap, subst, sym}
 use Rattle.txn_clients.proofs.Accounting.{closed_kept, closed_so, kept_rows}
 use Rattle.txn_clients.proofs.Stepping.{group_steps, groups_beside}
 use Rattle.std.specs.Prelude.{[]}
+use Rattle.txn_clients.specs.Failing.{posting_in}
+use Rattle.txn_clients.specs.Waiting.{IsSound}
+use Rattle.txn_commit.specs.Committing.{ways}
 use Rattle.txn_clients.proofs.clients.Clients.hear_group.Goals as goal
 
 pub returns-clause-turn : goal.returns-clause-turn
@@ -27,11 +30,12 @@ returns-clause-accounts g c =
     (kept_rows (rows_of c.take_group.new.self) (rows_of c.send_group.new.self) c.in_ok-send_group.ensures.rows))
 
 pub returns-clause-steps : goal.returns-clause-steps
-returns-clause-steps g c ready =
-    let ended = c.in_ok-take_group.ensures.waits ready.sound in
-    group_steps _ c.args.self.now c.take_group.new.self c.send_group.new.self c.args.client _ c.take_group.new.turn.posted.items c.send_group.new.turn.posted.items ended (c.in_ok-send_group.ensures.waits [] ended.sound) c.in_ok-send_group.ensures.rows (c.in_ok-take_group.ensures.runs ready.running) ready.quiet
+returns-clause-steps g c trace ready came sound =
+    let ended = c.in_ok-take_group.ensures.waits trace came (subst (λ ps. IsSound (ways g.P.Plan.meaning g.Q.Plan.meaning g.K.Plan.meaning g.P.PlanFor.refuses g.Q.PlanFor.refuses g.K.PlanFor.refuses) (posting_in ps trace) [] c.args.self.now) (sym c.new-turn.ensures.posted) sound) in
+    group_steps _ trace c.args.self.now c.take_group.new.self c.send_group.new.self c.args.client c.new-turn.result.posted.items c.take_group.new.turn.posted.items c.send_group.new.turn.posted.items c.new-turn.result.ended.items c.take_group.new.turn.ended.items c.send_group.new.turn.ended.items
+    c.new-turn.ensures.ended (ap (λ v. v.items) c.in_ok-send_group.ensures.ended) ended (c.in_ok-send_group.ensures.waits trace [] ended.sound) c.in_ok-send_group.ensures.rows (c.in_ok-take_group.ensures.runs ready.running) ready.quiet
 
 pub returns-clause-groups : goal.returns-clause-groups
 returns-clause-groups g c ready =
-    let ended = c.in_ok-take_group.ensures.waits ready.sound in
-    groups_beside _ c.args.self.now c.take_group.new.self c.send_group.new.self c.args.client _ c.take_group.new.turn.posted.items c.send_group.new.turn.posted.items ended c.in_ok-send_group.ensures.groups
+    let ended = c.in_ok-take_group.ensures.waits None tt ready.sound in
+    groups_beside _ None c.args.self.now c.take_group.new.self c.send_group.new.self c.args.client c.new-turn.result.posted.items c.take_group.new.turn.posted.items c.send_group.new.turn.posted.items c.new-turn.result.ended.items c.take_group.new.turn.ended.items ended c.in_ok-send_group.ensures.groups

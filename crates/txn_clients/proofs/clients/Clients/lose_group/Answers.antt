@@ -11,6 +11,8 @@ use Rattle.txn_clients.proofs.Accounting.{closed_rows}
 use Rattle.txn_clients.proofs.Grouping.{take_sound}
 use Rattle.txn_clients.proofs.Stepping.{group_ends}
 use Rattle.txn_clients.specs.Waiting.{AreRunning}
+use Rattle.txn_clients.specs.Failing.{posting_in}
+use Rattle.txn_clients.proofs.Giving.{given_lost}
 use Rattle.txn_clients.proofs.clients.Clients.lose_group.Goals as goal
 
 pub returns-clause-advances : goal.returns-clause-advances
@@ -37,10 +39,11 @@ returns-clause-accounts g c = on_ok c.give.result
 
 pub returns-clause-waits : goal.returns-clause-waits
 returns-clause-waits g c = on_ok c.give.result
-    (λ f sound.
+    (λ f trace came sound.
     let done = c.in_ok-given.ensures in
-    group_ends _ c.args.self.now c.lose_times.new.self c.give.new.self c.args.client c.in_ok-given.given.items c.args.turn.now.posted.items c.give.new.turn.posted.items done.takes done.rows
-    (f (take_sound _ g.met.P.Plan.lawful g.met.Q.Plan.lawful g.met.K.Plan.lawful c.args.self.now c.lose_times.new.self c.args.client c.in_ok-given.given.items done.takes done.rows done.nexts done.crashed sound)))
+    let given = given_lost trace c.args.self.now c.lose_times.new.self c.args.client c.in_ok-given.given.items done.takes (sound.paired c.args.client) came done.errors in
+    group_ends _ trace c.args.self.now c.lose_times.new.self c.give.new.self c.args.client c.in_ok-given.given.items c.args.turn.now.posted.items c.give.new.turn.posted.items c.args.turn.now.ended.items c.give.new.turn.ended.items done.takes done.rows
+    (f trace given (take_sound _ g.met.P.Plan.lawful g.met.Q.Plan.lawful g.met.K.Plan.lawful (posting_in c.args.turn.now.posted.items trace) c.args.self.now c.lose_times.new.self c.args.client c.in_ok-given.given.items done.takes done.rows done.nexts done.crashed sound)))
     c.give.ensures.waits
 
 pub returns-clause-runs : goal.returns-clause-runs

@@ -1,4 +1,4 @@
-use Rattle.std.proofs.Common.{◌∙◌, refl, ◌≡◌, ◌-◌, ap, set}
+use Rattle.std.proofs.Common.{◌∙◌, ◌≡◌, ◌-◌, ap, set}
 use Rattle.txn_clients.specs.Clients.{rows_of}
 use Rattle.txn_clients.proofs.Accounting.{told_rows}
 use Rattle.txn_clients.proofs.Pushing.{pushed}
@@ -11,14 +11,14 @@ pub returns-clause-accounts : goal.returns-clause-accounts
 returns-clause-accounts g c = told_rows c.args.told c.args.listener.at c.in_ok-answer.answer (rows_of c.args.self.now) (rows_of c.tell_row.new.self) (rows_of c.set_next_ask.new.self) (c.set_next_ask.ensures.rows ∙ c.in_ok-hand_out.ensures.rows) c.in_ok-answer.ensures.accounts
 
 pub returns-clause-waits : goal.returns-clause-waits
-returns-clause-waits g c rest heard sound =
+returns-clause-waits g c trace rest heard knows sound =
     let sent : c.replace-sends.result.items ≡ c.tell_row.new.out.sends = ap (λ v. v.items) c.replace-sends.ensures.value ∙ ap (λ (o : Posted). o.sends) c.out.view_is in
     let ask : c.out.inside.next_ask ≡ c.tell_row.new.out.next_ask = ap (λ (o : Posted). o.next_ask) c.out.view_is in
-    pushed _ g.met.P.Plan.lawful g.met.Q.Plan.lawful g.met.K.Plan.lawful c.args.self.now c.tell_row.new.self c.hand_out.new.self c.set_next_ask.new.self c.args.told c.args.line c.args.listener.client c.args.listener.at rest c.in_ok-out.out c.tell_row.new.out c.in_ok-answer.answer c.replace-sends.result.items _ _
+    pushed _ g.met.P.Plan.lawful g.met.Q.Plan.lawful g.met.K.Plan.lawful trace c.args.self.now c.tell_row.new.self c.hand_out.new.self c.set_next_ask.new.self c.args.told c.args.line c.args.listener.client c.args.listener.at rest c.in_ok-out.out c.tell_row.new.out c.in_ok-answer.answer c.replace-sends.result.items c.args.turn.now.posted.items c.hand_out.new.turn.posted.items c.args.turn.now.ended.items c.hand_out.new.turn.ended.items
     c.requires.line c.requires.place c.requires.ready.matched c.in_ok-out.ensures.is sent c.in_ok-answer.ensures.posts
     c.in_ok-answer.ensures.tells c.in_ok-answer.ensures.nexts c.in_ok-answer.ensures.crashed
     c.in_ok-hand_out.ensures.hands c.in_ok-hand_out.ensures.rows c.in_ok-hand_out.ensures.crashed
-    c.set_next_ask.ensures.rows c.set_next_ask.ensures.nexts (c.set_next_ask.ensures.asks ∙ ap (λ n. set (asks_of c.hand_out.new.self) (c.args.line - 1) n) ask) c.set_next_ask.ensures.clients heard sound
+    c.set_next_ask.ensures.rows c.set_next_ask.ensures.nexts (c.set_next_ask.ensures.asks ∙ ap (λ n. set (asks_of c.hand_out.new.self) (c.args.line - 1) n) ask) c.set_next_ask.ensures.clients (ap (λ v. v.items) c.in_ok-hand_out.ensures.ended) heard knows sound
 
 pub returns-clause-runs : goal.returns-clause-runs
 returns-clause-runs g c = let told = c.in_ok-answer.ensures.tells in

@@ -25,15 +25,15 @@ returns-in-Some-clause-advances g c =
     c.send_request.ensures.advances
 
 pub returns-in-None-clause-waits : goal.returns-in-None-clause-waits
-returns-in-None-clause-waits g c rest sound =
+returns-in-None-clause-waits g c trace rest sound =
     let done = c.in_ok-next_group.ensures in
-    none_goes _ g.met.P.Plan.lawful g.met.Q.Plan.lawful g.met.K.Plan.lawful c.args.self.now c.next_group.new.self c.args.client rest c.args.turn.now.posted.items _ done.regroups c.in-None.is done.rows done.nexts done.crashed sound
+    none_goes _ g.met.P.Plan.lawful g.met.Q.Plan.lawful g.met.K.Plan.lawful trace c.args.self.now c.next_group.new.self c.args.client rest c.args.turn.now.posted.items _ done.regroups c.in-None.is done.rows done.nexts done.crashed sound
 
 pub returns-in-Some-clause-waits : goal.returns-in-Some-clause-waits
 returns-in-Some-clause-waits g c = ok_three c.send_request.result
-    (λ sent rows crashed rest sound.
+    (λ sent rows crashed trace rest sound.
     let done = c.in_ok-next_group.ensures in
-    group_goes _ g.met.P.Plan.lawful g.met.Q.Plan.lawful g.met.K.Plan.lawful c.args.self.now c.next_group.new.self c.send_request.new.self c.args.client rest c.args.turn.now.posted.items c.send_request.new.turn.posted.items _ done.regroups done.rows done.nexts done.crashed sent rows crashed sound)
+    group_goes _ g.met.P.Plan.lawful g.met.Q.Plan.lawful g.met.K.Plan.lawful trace c.args.self.now c.next_group.new.self c.send_request.new.self c.args.client rest c.args.turn.now.posted.items c.send_request.new.turn.posted.items _ done.regroups done.rows done.nexts done.crashed sent rows crashed sound)
     c.send_request.ensures.sends c.send_request.ensures.rows c.send_request.ensures.crashed
 
 pub returns-in-None-clause-groups : goal.returns-in-None-clause-groups

@@ -1,11 +1,10 @@
-use Rattle.std.proofs.Common.{◌∙◌, Some, ap, refl, set, sym, subst}
+use Rattle.std.proofs.Common.{◌∙◌, Some, ap, refl, set, sym}
 use Rattle.txn_clients.specs.Clients.{asks_at}
 use Rattle.txn_clients.proofs.Sending.{same_asks, sends_one}
 use Rattle.txn_clients.proofs.Tables.{same_clients, same_groups}
 use Rattle.txn_clients.proofs.Timestamps.{first_asks}
 use Rattle.txn_clients.proofs.Grouping.{group_sent}
 use Rattle.txn_clients.proofs.Hearing.{group_posted}
-use Rattle.txn_clients.proofs.Telling.{on_ok}
 use Rattle.txn_clients.proofs.clients.Clients.send_request.Goals as goal
 
 pub returns-clause-advances : goal.returns-clause-advances

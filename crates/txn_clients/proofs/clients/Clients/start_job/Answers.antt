@@ -1,22 +1,23 @@
-use Rattle.std.proofs.Common.{◌-◌, refl, sym, ap, ◌∙◌}
-use Rattle.txn_clients.specs.Rows.{stand_of}
-use Rattle.txn_clients.specs.Clients.{rows_of, row_at}
+use Rattle.std.proofs.Common.{◌-◌, refl}
+use Rattle.txn_clients.specs.Clients.{rows_of}
 use Rattle.txn_clients.proofs.Accounting.{started}
-use Rattle.txn_clients.specs.Rows.{stand_of}
 use Rattle.txn_clients.proofs.Settling.{goes_weaker, job_heard, job_runs, quiet_goes}
+use Rattle.txn_clients.proofs.Sounding.{no_more}
+use Rattle.txn_clients.specs.Failing.{posting_in}
 use Rattle.txn_clients.proofs.clients.Clients.start_job.Goals as goal
 
 pub returns-clause-accounts : goal.returns-clause-accounts
 returns-clause-accounts g c = started (c.args.line - 1) c.in_ok-push.field-0 (rows_of c.args.self.now) (rows_of c.push.new.self) c.in_ok-push.ensures.accounts
 
 pub returns-then-not-has_job-clause-waits : goal.returns-then-not-has_job-clause-waits
-returns-then-not-has_job-clause-waits g c rest own sound = quiet_goes _ c.args.self.now c.args.self.now c.args.client rest c.args.turn.now.posted.items sound (λ n a x. x) (λ n. refl)
+returns-then-not-has_job-clause-waits g c trace rest own sound =
+    quiet_goes _ trace c.args.self.now c.args.self.now c.args.client rest c.args.turn.now.posted.items c.args.turn.now.ended.items c.args.turn.now.ended.items sound (no_more _ (posting_in c.args.turn.now.posted.items trace) c.args.turn.now.ended.items) (λ n a x. x) (λ n. refl)
 
 pub returns-clause-waits : goal.returns-clause-waits
-returns-clause-waits g c rest own sound =
+returns-clause-waits g c trace rest own sound =
     let job = c.if-not-has_job.ensures.job refl in
-    goes_weaker _ c.args.self.now c.push.new.self c.args.client _ (λ n a. ⊥) rest c.args.turn.now.posted.items c.push.new.turn.posted.items (λ n a x. absurd x)
-    (c.in_ok-push.ensures.waits rest (job_heard (rows_of c.args.self.now) c.args.line c.args.client job.0 c.requires.line own job.1) sound)
+    let pushed = c.in_ok-push.ensures.waits trace rest (job_heard (rows_of c.args.self.now) c.args.line c.args.client job.0 c.requires.line own job.1) tt sound in
+    goes_weaker _ trace c.args.self.now c.push.new.self c.args.client _ (λ n a. ⊥) rest c.args.turn.now.posted.items c.push.new.turn.posted.items c.args.turn.now.ended.items c.push.new.turn.ended.items (λ n a x. absurd x) pushed.0
 
 pub returns-clause-runs : goal.returns-clause-runs
 returns-clause-runs g c running =

@@ -1,4 +1,4 @@
-use Rattle.std.proofs.Common.{refl, ap, sym, ◌∙◌, subst}
+use Rattle.std.proofs.Common.{refl, sym, ◌∙◌, subst}
 use Rattle.txn_clients.specs.Clients.{rows_of, sight_of}
 use Rattle.txn_clients.specs.Going.{OfLine}
 use Rattle.txn_clients.specs.Rows.{Brings}
@@ -7,7 +7,7 @@ use Rattle.txn_clients.proofs.Naming.{names_quiet}
 use Rattle.txn_clients.specs.declared.told.Told.TheVariants.{Heard}
 use Rattle.txn_clients.proofs.Accounting.{closes_nothing, heard_closes}
 use Rattle.txn_clients.proofs.Telling.{on_ok, live_line}
-use Rattle.txn_clients.specs.Waiting.{AreRunning, GoesOn, HearsAt}
+use Rattle.txn_clients.specs.Waiting.{GoesOn, HearsAt}
 use Rattle.txn_clients.proofs.Settling.{client_same, unheard_goes}
 use Rattle.txn_clients.proofs.Telling.{live_line, on_ok}
 use Rattle.txn_clients.specs.declared.told.Told.TheVariants.{Heard}
@@ -29,13 +29,13 @@ pub returns-in-None-clause-accounts : goal.returns-in-None-clause-accounts
 returns-in-None-clause-accounts g c = closes_nothing (sight_of c.args.self.now) (rows_of c.args.self.now) c.args.turn.now.ended.items
 
 pub returns-in-None-clause-waits : goal.returns-in-None-clause-waits
-returns-in-None-clause-waits g c client rest live own sound =
-    unheard_goes _ c.args.self.now c.args.line client (Heard c.args.arrival) rest c.args.turn.now.posted.items (live_line (sight_of c.args.self.now) c.args.line live) c.requires.ready.matched (c.listener.ensures.none c.in-None.is live) sound
+returns-in-None-clause-waits g c trace client rest live own came sound =
+    unheard_goes _ trace c.args.self.now c.args.line client (Heard c.args.arrival) rest c.args.turn.now.posted.items c.args.turn.now.ended.items (live_line (sight_of c.args.self.now) c.args.line live) c.requires.ready.matched (c.listener.ensures.none c.in-None.is live) sound
 
 pub returns-in-Some-clause-waits : goal.returns-in-Some-clause-waits
 returns-in-Some-clause-waits g c = on_ok c.go.result
-    (λ f client rest live own sound.
-    subst (λ i. GoesOn (ways g.P.Plan.meaning g.Q.Plan.meaning g.K.Plan.meaning g.P.PlanFor.refuses g.Q.PlanFor.refuses g.K.PlanFor.refuses) i (HearsAt c.args.line (Heard c.args.arrival)) rest c.args.turn.now.posted.items c.go.new.turn.posted.items c.args.self.now c.go.new.self) (client_same c.in-Some.listener.client client (sym c.in-Some.ensures.own ∙ own)) (f rest c.in-Some.ensures.own sound))
+    (λ f trace client rest live own came sound.
+    subst (λ i. GoesOn (ways g.P.Plan.meaning g.Q.Plan.meaning g.K.Plan.meaning g.P.PlanFor.refuses g.Q.PlanFor.refuses g.K.PlanFor.refuses) trace i (HearsAt c.args.line (Heard c.args.arrival)) rest c.args.turn.now.posted.items c.go.new.turn.posted.items c.args.turn.now.ended.items c.go.new.turn.ended.items c.args.self.now c.go.new.self) (client_same c.in-Some.listener.client client (sym c.in-Some.ensures.own ∙ own)) (f trace rest c.in-Some.ensures.own came sound))
     c.go.ensures.waits
 
 pub returns-in-None-clause-runs : goal.returns-in-None-clause-runs

@@ -5,7 +5,10 @@ use Rattle.txn_clients.specs.Rows.{Brings}
 use Rattle.txn_clients.proofs.Naming.{named_so}
 use Rattle.txn_clients.proofs.Timestamps.{both_if_ok}
 use Rattle.txn_clients.proofs.Sides.{on_ok_if, waits_end}
-use Rattle.txn_clients.proofs.Stepping.{ready_of}
+use Rattle.std.proofs.Common.{None, Some}
+use Rattle.std.proofs.lemmas.Result.{IfOk-weaker}
+use Rattle.txn_commit.specs.Committing.{ways}
+use Rattle.txn_clients.proofs.Stepping.{ready_of, rested, rests_on, rests_quiet}
 use Rattle.std.proofs.Common.{refl, sym}
 use Rattle.txn_clients.proofs.clients.asking.ClientsClientSide.slept.Goals as goal
 
@@ -14,8 +17,17 @@ returns-in-Some-clause-given g c = named_so c.hear.result (OfLine c.args.ticket.
 
 pub returns-in-Some-clause-waits : goal.returns-in-Some-clause-waits
 returns-in-Some-clause-waits g c live = both_if_ok c.hear.result _ _ _
-    (λ turn steps goes. waits_end _ c.args.self.now c.hear.new.self c.args.ticket (Slept c.args.ticket.number) turn.posted.items refl (steps live c.in-Some.ensures.client c.requires.ready) goes.groups)
+    (λ turn steps goes. waits_end _ c.args.self.now c.hear.new.self c.args.ticket (Slept c.args.ticket.number) turn.posted.items turn.ended.items refl (steps None live c.in-Some.ensures.client c.requires.ready tt c.requires.ready.sound) goes.groups)
     c.hear.ensures.steps c.hear.ensures.turn
 
 pub returns-in-Some-clause-ready : goal.returns-in-Some-clause-ready
-returns-in-Some-clause-ready g c = on_ok_if c.hear.result (λ turn rows steps. ready_of _ c.args.self.now c.hear.new.self _ turn.posted.items c.requires.ready rows (steps (sym c.in-Some.ensures.live) c.in-Some.ensures.client c.requires.ready)) c.hear.ensures.ready c.hear.ensures.steps
+returns-in-Some-clause-ready g c = on_ok_if c.hear.result (λ turn rows steps. ready_of _ c.args.self.now c.hear.new.self _ turn.posted.items turn.ended.items c.requires.ready rows (steps None (sym c.in-Some.ensures.live) c.in-Some.ensures.client c.requires.ready tt c.requires.ready.sound)) c.hear.ensures.ready c.hear.ensures.steps
+
+pub returns-in-Some-clause-rests : goal.returns-in-Some-clause-rests
+returns-in-Some-clause-rests g c = IfOk-weaker c.hear.result _ _
+    (λ turn steps t posted was. rests_on (ways g.P.Plan.meaning g.Q.Plan.meaning g.K.Plan.meaning g.P.PlanFor.refuses g.Q.PlanFor.refuses g.K.PlanFor.refuses) t c.args.self.now c.hear.new.self _ turn.posted.items turn.ended.items
+    (steps (Some t) (sym c.in-Some.ensures.live) c.in-Some.ensures.client c.requires.ready tt (rested _ c.args.self.now t posted was)))
+    c.hear.ensures.steps
+
+pub returns-in-None-clause-rests : goal.returns-in-None-clause-rests
+returns-in-None-clause-rests g c t posted was = rests_quiet (ways g.P.Plan.meaning g.Q.Plan.meaning g.K.Plan.meaning g.P.PlanFor.refuses g.Q.PlanFor.refuses g.K.PlanFor.refuses) t c.args.self.now c.new.result.posted.items c.new.result.ended.items c.new.ensures.posted c.new.ensures.ended posted was

@@ -1,4 +1,4 @@
-use Rattle.std.proofs.Common.{refl, ap, sym, ◌∙◌}
+use Rattle.std.proofs.Common.{refl, sym}
 use Rattle.std.proofs.lemmas.Result.{IfOk-weaker}
 use Rattle.txn_plan.specs.declared.arrival.Arrival.TheVariants.{Reply}
 use Rattle.txn_side.specs.Sight.{IsGiven}
@@ -7,8 +7,12 @@ use Rattle.txn_clients.specs.Going.{OfLine}
 use Rattle.txn_clients.specs.Rows.{Brings}
 use Rattle.txn_clients.proofs.Naming.{named_so}
 use Rattle.txn_clients.proofs.Timestamps.{both_if_ok}
-use Rattle.txn_clients.proofs.Sides.{on_ok_if, out_ticket, waits_group, waits_reply}
-use Rattle.txn_clients.proofs.Stepping.{ready_of}
+use Rattle.std.proofs.Common.{None, Some}
+use Rattle.txn_commit.specs.Committing.{ways}
+use Rattle.txn_history.specs.Event.Event.{Took}
+use Rattle.txn_clients.proofs.Coming.{group_came, reply_came}
+use Rattle.txn_clients.proofs.Sides.{on_ok_if, out_ticket, waits_deaf, waits_group, waits_reply}
+use Rattle.txn_clients.proofs.Stepping.{ready_of, rested, rests_on, rests_quiet}
 use Rattle.txn_clients.proofs.clients.asking.ClientsClientSide.take_reply.Goals as goal
 
 pub returns-then-is_group-clause-given : goal.returns-then-is_group-clause-given
@@ -20,16 +24,37 @@ returns-else-is_group-clause-given g c =
 
 pub returns-then-is_group-clause-waits : goal.returns-then-is_group-clause-waits
 returns-then-is_group-clause-waits g c live = both_if_ok c.hear_group.result _ _ _
-    (λ turn steps beside. waits_group _ c.args.self.now c.hear_group.new.self c.args.ticket c.in-Some.client turn.posted.items c.in-Some.ensures.client (out_ticket c.args.self.now c.in-Some.client c.args.ticket (c.if-is_group.ensures.is refl)) c.requires.ready (steps c.requires.ready) (beside c.requires.ready))
+    (λ turn steps beside. waits_group _ c.args.self.now c.hear_group.new.self c.args.ticket c.in-Some.client turn.posted.items turn.ended.items c.in-Some.ensures.client (out_ticket c.args.self.now c.in-Some.client c.args.ticket (c.if-is_group.ensures.is refl)) c.requires.ready (steps None c.requires.ready tt c.requires.ready.sound) (beside c.requires.ready))
     c.hear_group.ensures.steps c.hear_group.ensures.groups
 
 pub returns-then-is_group-clause-ready : goal.returns-then-is_group-clause-ready
-returns-then-is_group-clause-ready g c = on_ok_if c.hear_group.result (λ turn rows steps. ready_of _ c.args.self.now c.hear_group.new.self _ turn.posted.items c.requires.ready rows (steps c.requires.ready)) c.hear_group.ensures.ready c.hear_group.ensures.steps
+returns-then-is_group-clause-ready g c = on_ok_if c.hear_group.result (λ turn rows steps. ready_of _ c.args.self.now c.hear_group.new.self _ turn.posted.items turn.ended.items c.requires.ready rows (steps None c.requires.ready tt c.requires.ready.sound)) c.hear_group.ensures.ready c.hear_group.ensures.steps
 
 pub returns-else-is_group-clause-waits : goal.returns-else-is_group-clause-waits
 returns-else-is_group-clause-waits g c live = both_if_ok c.hear.result _ _ _
-    (λ turn steps goes. waits_reply _ c.args.self.now c.hear.new.self c.args.ticket c.in-Some.client (Reply c.args.ticket.number c.args.reply) turn.posted.items refl c.in-Some.ensures.client (c.if-is_group.ensures.not refl) c.requires.ready (steps live c.in-Some.ensures.client c.requires.ready) goes.groups)
+    (λ turn steps goes. waits_reply _ c.args.self.now c.hear.new.self c.args.ticket c.in-Some.client (Reply c.args.ticket.number c.args.reply) turn.posted.items turn.ended.items refl c.in-Some.ensures.client (c.if-is_group.ensures.not refl) c.requires.ready (steps None live c.in-Some.ensures.client c.requires.ready tt c.requires.ready.sound) goes.groups)
     c.hear.ensures.steps c.hear.ensures.turn
 
 pub returns-else-is_group-clause-ready : goal.returns-else-is_group-clause-ready
-returns-else-is_group-clause-ready g c = on_ok_if c.hear.result (λ turn rows steps. ready_of _ c.args.self.now c.hear.new.self _ turn.posted.items c.requires.ready rows (steps (sym c.in-Some.ensures.live) c.in-Some.ensures.client c.requires.ready)) c.hear.ensures.ready c.hear.ensures.steps
+returns-else-is_group-clause-ready g c = on_ok_if c.hear.result (λ turn rows steps. ready_of _ c.args.self.now c.hear.new.self _ turn.posted.items turn.ended.items c.requires.ready rows (steps None (sym c.in-Some.ensures.live) c.in-Some.ensures.client c.requires.ready tt c.requires.ready.sound)) c.hear.ensures.ready c.hear.ensures.steps
+
+pub returns-then-is_group-clause-rests : goal.returns-then-is_group-clause-rests
+returns-then-is_group-clause-rests g c = IfOk-weaker c.hear_group.result _ _
+    (λ turn steps t posted came was. rests_on (ways g.P.Plan.meaning g.Q.Plan.meaning g.K.Plan.meaning g.P.PlanFor.refuses g.Q.PlanFor.refuses g.K.PlanFor.refuses) t c.args.self.now c.hear_group.new.self _ turn.posted.items turn.ended.items
+    (steps (Some t) c.requires.ready (group_came t c.args.self.now c.in-Some.client c.args.ticket (λ u r. Took u r c.args.reply) (out_ticket c.args.self.now c.in-Some.client c.args.ticket (c.if-is_group.ensures.is refl)) came) (rested _ c.args.self.now t posted was)))
+    c.hear_group.ensures.steps
+
+pub returns-else-is_group-clause-rests : goal.returns-else-is_group-clause-rests
+returns-else-is_group-clause-rests g c = IfOk-weaker c.hear.result _ _
+    (λ turn steps t posted came was. rests_on (ways g.P.Plan.meaning g.Q.Plan.meaning g.K.Plan.meaning g.P.PlanFor.refuses g.Q.PlanFor.refuses g.K.PlanFor.refuses) t c.args.self.now c.hear.new.self _ turn.posted.items turn.ended.items
+    (steps (Some t) (sym c.in-Some.ensures.live) c.in-Some.ensures.client c.requires.ready (reply_came t c.args.self.now c.args.ticket c.args.reply c.if-ticket.false posted came) (rested _ c.args.self.now t posted was)))
+    c.hear.ensures.steps
+
+pub returns-in-None-clause-rests : goal.returns-in-None-clause-rests
+returns-in-None-clause-rests g c t posted came was = rests_quiet (ways g.P.Plan.meaning g.Q.Plan.meaning g.K.Plan.meaning g.P.PlanFor.refuses g.Q.PlanFor.refuses g.K.PlanFor.refuses) t c.args.self.now c.new-in-None.result.posted.items c.new-in-None.result.ended.items c.new-in-None.ensures.posted c.new-in-None.ensures.ended posted was
+
+pub returns-then-ticket-clause-rests : goal.returns-then-ticket-clause-rests
+returns-then-ticket-clause-rests g c t posted came was = rests_quiet (ways g.P.Plan.meaning g.Q.Plan.meaning g.K.Plan.meaning g.P.PlanFor.refuses g.Q.PlanFor.refuses g.K.PlanFor.refuses) t c.args.self.now c.new.result.posted.items c.new.result.ended.items c.new.ensures.posted c.new.ensures.ended posted was
+
+pub returns-then-ticket-clause-waits : goal.returns-then-ticket-clause-waits
+returns-then-ticket-clause-waits g c live = waits_deaf (ways g.P.Plan.meaning g.Q.Plan.meaning g.K.Plan.meaning g.P.PlanFor.refuses g.Q.PlanFor.refuses g.K.PlanFor.refuses) c.args.self.now c.args.ticket c.new.result.posted.items c.if-ticket.true

@@ -1,0 +1,63 @@
+-- What has come, as a trace has it.
+use Rattle.std.proofs.Common.{◌≡◌, ℕ, false, List, [], get_or, Option, Some, None, sym, ap, ◌∙◌, subst}
+use Rattle.txn_history.specs.Event.{Event, Has}
+use Rattle.txn_history.specs.Event.Event.{Lost, Took}
+use Rattle.txn_history.specs.Posted.{ticket_of}
+use Rattle.txn_kv.specs.declared.errors.Error.{Error}
+use Rattle.txn_kv.specs.declared.reply.Reply.{Reply}
+use Rattle.txn_kv.specs.declared.request.Request.{Request}
+use Rattle.txn_kv.specs.declared.request.Request.TheVariants.{Tso}
+use Rattle.txn_kv.specs.declared.ticket.Ticket.{Ticket}
+use Rattle.txn_plan.specs.declared.arrival.Arrival.TheVariants as arrivals
+use Rattle.txn_side.specs.Sight.{Group}
+use Rattle.txn_side.specs.Trace.{HasCome, IsSentIn, Trace, with_posted}
+use Rattle.txn_side.specs.declared.turn.Posting.{Posting}
+use Rattle.txn_clients.specs.Clients.{groups_of, sight_of}
+use Rattle.txn_clients.specs.Failing.{CalledIn, CameIn, GroupCameIn, RefusedIn, outbox_of, posting_in}
+use Rattle.txn_clients.specs.Groups.{group_by}
+use Rattle.txn_clients.specs.Waiting.{book_at}
+use Rattle.txn_clients.specs.declared.clients.Clients.{Clients}
+use Rattle.txn_clients.proofs.Stepping.{group_there}
+
+-- whatever was posted since
+
+pub called_since : (trace : Option Trace) (ps : List Posting) (line at : ℕ) → CalledIn trace line at → CalledIn (posting_in ps trace) line at
+called_since None ps line at c = tt
+called_since (Some t) ps line at c = c
+
+pub refused_since : (trace : Option Trace) (ps : List Posting) (line : ℕ) (why : Option Error) → RefusedIn trace line why → RefusedIn (posting_in ps trace) line why
+refused_since None ps line why r = tt
+refused_since (Some t) ps line why r = r
+
+-- for the request for timestamps of a client
+
+group_ticket : (ticket : Option Ticket) (lines : List ℕ) (g : Group) (v : Ticket) → ticket ≡ Some v → group_by ticket lines ≡ Some g → g.ticket ≡ v
+group_ticket None lines g v f h = absurd (cc)
+group_ticket (Some x) lines g v f h = ap (λ (y : Group). y.ticket) (sym one) ∙ two
+  where
+    one : record { ticket = x; askers = lines } ≡ g
+    one = cc
+
+    two : x ≡ v
+    two = cc
+
+pub group_came : {P Q K : Type 0} (t : Trace) (s : Clients P Q K) (client : ℕ) (u : Ticket) (event : Ticket → Request → Event) → (book_at s client).ticket ≡ Some u → HasCome t (sight_of s) u (event u) → GroupCameIn (Some t) (get_or (groups_of s) client None) event
+group_came t s client u event e came group out =
+    let same = group_ticket (book_at s client).ticket _ group u e (sym (group_there s.clients.items client) ∙ out) in
+    let fact = came.group group (client, out) same in
+    (fact.0, (fact.1.0, subst (λ v. Has t.events (event v (Tso fact.1.0))) (sym same) fact.1.1))
+
+-- for another ticket
+
+ticket_plain : (u : Ticket) → u.beat ≡ false → ticket_of (outbox_of u.line) u.number ≡ u
+ticket_plain u e = λ i. record { line = u.line; beat = sym e i; number = u.number }
+
+came_as : (t : Trace) (u : Ticket) (event : Ticket → Request → Event) (r : Request) → u.beat ≡ false → t.posted ≡ [] → (IsSentIn t u r → Has t.events (event u r)) → IsSentIn (with_posted [] t) (ticket_of (outbox_of u.line) u.number) r → Has t.events (event (ticket_of (outbox_of u.line) u.number) r)
+came_as t u event r beat none own sent =
+    subst (λ v. Has t.events (event v r)) (sym (ticket_plain u beat)) (own (subst (λ v. IsSentIn t v r) (ticket_plain u beat) (subst (λ ps. IsSentIn (with_posted ps t) (ticket_of (outbox_of u.line) u.number) r) (sym none) sent)))
+
+pub reply_came : {P Q K : Type 0} (t : Trace) (s : Clients P Q K) (u : Ticket) (o : Reply) → u.beat ≡ false → t.posted ≡ [] → HasCome t (sight_of s) u (λ r. Took u r o) → CameIn (posting_in [] (Some t)) (outbox_of u.line) (arrivals.Reply u.number o)
+reply_came t s u o beat none came = λ r sent. came_as t u (λ v q. Took v q o) r beat none (came.own r) sent
+
+pub loss_came : {P Q K : Type 0} (t : Trace) (s : Clients P Q K) (u : Ticket) → u.beat ≡ false → t.posted ≡ [] → HasCome t (sight_of s) u (λ r. Lost u r) → CameIn (posting_in [] (Some t)) (outbox_of u.line) (arrivals.Lost u.number)
+loss_came t s u beat none came = λ r sent. came_as t u (λ v q. Lost v q) r beat none (came.own r) sent

@@ -1,0 +1,242 @@
+-- What a trace shows of what calls hear and post, and on what the errors that they answer rest.
+use Rattle.std.proofs.Common.{◌≡◌, inl, inr, ℕ, Bool, List, [], ◌∷◌, ◌++◌, Option, Some, None, refl, sym, ap, ◌∙◌, subst, append-nil, append_assoc}
+use Rattle.std.specs.List.{All, Any}
+use Rattle.std.specs.Prelude.{⊤, Result, Ok, Err}
+use Rattle.txn_kv.specs.Timestamp.{version_of}
+use Rattle.txn_kv.specs.declared.errors.Error.{Error}
+use Rattle.txn_kv.specs.declared.outbox.Errand.TheVariants.{Ask, Send, Sleep}
+use Rattle.txn_kv.specs.declared.reply.Reply.TheVariants as replies
+use Rattle.txn_kv.specs.declared.reply.TsoResponse.{TsoResponse}
+use Rattle.txn_kv.specs.declared.request.Request.{Request}
+use Rattle.txn_kv.specs.declared.request.Request.TheVariants.{Tso}
+use Rattle.txn_kv.specs.declared.request.TsoRequest.{TsoRequest}
+use Rattle.txn_kv.specs.declared.ticket.Target.{Target}
+use Rattle.txn_kv.specs.declared.ticket.Ticket.{Ticket}
+use Rattle.txn_kv.specs.declared.timestamp.Timestamp.{Timestamp}
+use Rattle.txn_history.specs.Among.{IsAmong}
+use Rattle.txn_history.specs.Event.{Event, Has}
+use Rattle.txn_history.specs.Event.Event.{Answered, Asked, Began, Lost, Sent, Slept, Took}
+use Rattle.txn_history.specs.Phase.{Phase, unheard}
+use Rattle.txn_history.specs.Phase.Awaited.{ReplyTo}
+use Rattle.txn_history.specs.Phase.Phase.{Fresh, GivenUp, Over, Running}
+use Rattle.txn_history.specs.Posted.{Errand, Posted, after, posting, ticket_of}
+use Rattle.txn_history.specs.Turn.{IfEnds, Turn}
+use Rattle.txn_history.specs.Turn.Turn.{Stopped, Waits, Ends}
+use Rattle.txn_plan.specs.Arrivals.{awaited_as, told_by}
+use Rattle.txn_plan.specs.declared.arrival.Arrival.{Arrival}
+use Rattle.txn_plan.specs.declared.arrival.Arrival.TheVariants as arrivals
+use Rattle.txn_buffer.specs.Contents.{Contents}
+use Rattle.txn_commit.specs.Committing.{Ways}
+use Rattle.txn_commit.specs.Following.{Commits, KnowsCommits}
+use Rattle.txn_commit.specs.Parts.{parts_of}
+use Rattle.txn_commit.specs.Sending.{plan_of}
+use Rattle.txn_core.specs.Going.{IsAtWork, TransactionFits, TransactionGives}
+use Rattle.txn_core.specs.Transaction.{Standing}
+use Rattle.txn_core.specs.declared.transaction.Work.{Work}
+use Rattle.txn_core.specs.declared.transaction.Work.TheVariants.{Idle, Open, GaveUp}
+use Rattle.txn_core.specs.declared.txn_answer.TxnAnswer.{TxnAnswer}
+use Rattle.txn_side.specs.Trace.{fails_longer, EndsFor, IsLonger, IsSend, IsShown, Trace}
+use Rattle.txn_side.specs.declared.turn.Posting.{Posting}
+use Rattle.std.proofs.lemmas.List.Elements.{All-append, All-cons, All-head, All-nil, All-tail}
+use Rattle.txn_report.specs.declared.outcome.Outcome.{Outcome}
+use Rattle.txn_report.specs.declared.outcome.Outcome.TheVariants as outcomes
+use Rattle.txn_side.specs.declared.turn.Ending.{Ending}
+use Rattle.txn_clients.specs.Failing.{EndsMore, HasReason, CalledIn, CameIn, FailsAt, FailsFor, IfFails, KnowsAll, LongerIn, RefusedIn, SentIn, ShownIn, posting_in}
+use Rattle.txn_clients.specs.Waiting.{Keeps}
+use Rattle.txn_clients.proofs.Groups.{any_ahead}
+
+-- What was posted
+
+pub keeps_none : (ps : List Posting) → Keeps ps ps
+keeps_none ps = ([], sym (append-nil ps))
+
+pub keeps_then : (ps qs rs : List Posting) → Keeps ps qs → Keeps qs rs → Keeps ps rs
+keeps_then ps qs rs f g = (f.0 ++ g.0, g.1 ∙ ap (λ xs. xs ++ g.0) f.1 ∙ append_assoc ps f.0 g.0)
+
+pub keeps_any : (P : Posting → Type 0) (ps qs : List Posting) → Keeps ps qs → Any P ps → Any P qs
+keeps_any P ps qs k a = subst (Any P) (sym k.1) (any_ahead P ps k.0 a)
+
+pub posting_longer : (trace : Option Trace) (ps qs : List Posting) → Keeps ps qs → LongerIn (posting_in ps trace) (posting_in qs trace)
+posting_longer None ps qs k = tt
+posting_longer (Some t) ps qs k = (
+  record {
+    events = λ e i. i;
+    calls = λ c i. i;
+    groups = λ g i. i;
+    sent = λ u r h. elim h [ inl i ↦ inl i | inr a ↦ inr (keeps_any (IsSend u r) ps qs k a) ];
+  },
+  refl,
+)
+
+pub longer_same : (trace : Option Trace) → LongerIn trace trace
+longer_same None = tt
+longer_same (Some t) = (record { events = λ e i. i; calls = λ c i. i; groups = λ g i. i; sent = λ u r h. h }, refl)
+
+pub posted_sent : (trace : Option Trace) (ps : List Posting) (u : Ticket) (r : Request) → Any (IsSend u r) ps → SentIn (posting_in ps trace) u r
+posted_sent None ps u r a = tt
+posted_sent (Some t) ps u r a = inr a
+
+pub among_behind : {X : Type 0} (xs ys : List X) (x : X) → IsAmong ys x → IsAmong (xs ++ ys) x
+among_behind [] ys x h = h
+among_behind (z ∷ xs) ys x h = inr (among_behind xs ys x h)
+
+-- One event more
+
+abbrev EventIn : Option Trace → ℕ → Event → Type 0
+EventIn None at e = ⊤
+EventIn (Some t) at e = IsShown t at e
+
+shown_one : (trace : Option Trace) (at : ℕ) (e : Event) (h : List Event) → EventIn trace at e → ShownIn trace at h → ShownIn trace at (e ∷ h)
+shown_one None at e h v s = tt
+shown_one (Some t) at e h v s = λ x i. elim i [ inl same ↦ subst (IsShown t at) same v | inr j ↦ s x j ]
+
+event_sent : (trace : Option Trace) (at : ℕ) (u : Ticket) (r : Request) → CalledIn trace u.line at → SentIn trace u r → EventIn trace at (Sent u r)
+event_sent None at u r c s = tt
+event_sent (Some t) at u r c s = (c, s)
+
+event_began : (trace : Option Trace) (at : ℕ) (u : Ticket) (ms : ℕ) → EventIn trace at (Began u ms)
+event_began None at u ms = tt
+event_began (Some t) at u ms = tt
+
+event_asked : (trace : Option Trace) (at : ℕ) (u : Ticket) → EventIn trace at (Asked u)
+event_asked None at u = tt
+event_asked (Some t) at u = tt
+
+pub shown_nothing : (trace : Option Trace) (at : ℕ) → ShownIn trace at []
+shown_nothing None at = tt
+shown_nothing (Some t) at = λ e i. absurd i
+
+-- what was sent is sent in the trace
+pub sent_shown : (trace : Option Trace) (at : ℕ) (h : List Event) (u : Ticket) (r : Request) → ShownIn trace at h → Has h (Sent u r) → SentIn trace u r
+sent_shown None at h u r s i = tt
+sent_shown (Some t) at h u r s i = let x = s (Sent u r) i in x.1
+
+-- as errands are posted
+pub shown_after : (trace : Option Trace) (at line : ℕ) (beat : Bool) (h : List Event) (sends : List Errand) → CalledIn trace line at
+    → ((n : ℕ) (store : Target) (r : Request) → IsAmong sends (Send n store r) → SentIn trace (record { line = line; beat = beat; number = n }) r) → ShownIn trace at h → ShownIn trace at (after line beat h sends)
+shown_after trace at line beat h [] called sent s = s
+shown_after trace at line beat h (Send n to r ∷ rs) called sent s =
+    shown_after trace at line beat (posting line beat (Send n to r) ∷ h) rs called (λ m store q i. sent m store q (inr i))
+    (shown_one trace at (posting line beat (Send n to r)) h (event_sent trace at (record { line = line; beat = beat; number = n }) r called (sent n to r (inl refl))) s)
+shown_after trace at line beat h (Sleep n ms ∷ rs) called sent s =
+    shown_after trace at line beat (posting line beat (Sleep n ms) ∷ h) rs called (λ m store q i. sent m store q (inr i)) (shown_one trace at (posting line beat (Sleep n ms)) h (event_began trace at (record { line = line; beat = beat; number = n }) ms) s)
+shown_after trace at line beat h (Ask n ∷ rs) called sent s =
+    shown_after trace at line beat (posting line beat (Ask n) ∷ h) rs called (λ m store q i. sent m store q (inr i)) (shown_one trace at (posting line beat (Ask n)) h (event_asked trace at (record { line = line; beat = beat; number = n })) s)
+
+-- as something is heard
+
+event_heard : (trace : Option Trace) (at : ℕ) (o : Posted) (k : ℕ) (x : Result Timestamp Error) → CalledIn trace o.line at → CameIn trace o (arrivals.Time k x) → EventIn trace at (Answered (ticket_of o k) x)
+event_heard None at o k x c came = tt
+event_heard (Some t) at o k (Ok x) c came = tt
+event_heard (Some t) at o k (Err e) c came = (c, came)
+
+pub shown_heard : (trace : Option Trace) (at : ℕ) (a : Arrival) (o : Posted) (r : Request) (h : List Event) → CalledIn trace o.line at → CameIn trace o a
+    → ((n : ℕ) → awaited_as a ≡ ReplyTo n → SentIn trace (ticket_of o n) r) → ShownIn trace at h → ShownIn trace at ((told_by a o r).hear h)
+shown_heard None at a o r h c came sent s = tt
+shown_heard (Some t) at (arrivals.Reply n x) o r h c came sent s = shown_one (Some t) at (Took (ticket_of o n) r x) h (inl (c, came r (sent n refl))) s
+shown_heard (Some t) at (arrivals.Lost n) o r h c came sent s = shown_one (Some t) at (Lost (ticket_of o n) r) h (c, came r (sent n refl)) s
+shown_heard (Some t) at (arrivals.Slept n) o r h c came sent s = shown_one (Some t) at (Slept (ticket_of o n)) h tt s
+shown_heard (Some t) at (arrivals.Time k x) o r h c came sent s = shown_one (Some t) at (Answered (ticket_of o k) x) h (event_heard (Some t) at o k x c came) s
+
+-- nothing has to be known for it
+pub known_so : (a : Arrival) (o : Posted) (r : Request) (h : List Event) → ((m : ℕ) → awaited_as a ≡ ReplyTo m → ⊥) → (told_by a o r).known h
+known_so (arrivals.Reply n x) o r h other = absurd (other n refl)
+known_so (arrivals.Lost n) o r h other = absurd (other n refl)
+known_so (arrivals.Slept n) o r h other = tt
+known_so (arrivals.Time n x) o r h other = tt
+
+-- of timestamps that were given nothing is asked
+pub shown_times : (trace : Option Trace) (at : ℕ) (u : Ticket) (r : TsoRequest) (times : TsoResponse) → ShownIn trace at (Took u (Tso r) (replies.Tso times) ∷ [])
+shown_times None at u r times = tt
+shown_times (Some t) at u r times = shown_one (Some t) at (Took u (Tso r) (replies.Tso times)) [] (inr tt) (λ e i. absurd i)
+
+-- Errors
+
+-- a call that is not meant answers nothing
+pub unheard_ends : {A : Type 0} (turn : Turn A) (phase : Phase) (P : A → Type 0) → turn ≡ unheard phase → IfEnds turn P
+unheard_ends turn Fresh P e = subst (λ t. IfEnds t P) (sym e) tt
+unheard_ends turn Running P e = subst (λ t. IfEnds t P) (sym e) tt
+unheard_ends turn Over P e = subst (λ t. IfEnds t P) (sym e) tt
+unheard_ends turn GivenUp P e = subst (λ t. IfEnds t P) (sym e) tt
+
+pub refused_longer_in : (trace longer : Option Trace) (line : ℕ) (why : Option Error) → LongerIn trace longer → RefusedIn trace line why → RefusedIn longer line why
+refused_longer_in None None line why l r = tt
+refused_longer_in None (Some u) line why l r = absurd l
+refused_longer_in (Some t) None line why l r = absurd l
+refused_longer_in (Some t) (Some u) line why l r = λ e f. subst (λ xs. IsAmong xs (record { line = line; error = e })) (sym l.1) (r e f)
+
+pub notes_so : (line : ℕ) (why noted : Option Error) → why ≡ noted → (trace : Option Trace) → RefusedIn trace line why → RefusedIn trace line noted
+notes_so line why noted e trace r = subst (RefusedIn trace line) e r
+
+module _ {P Q K A B D : Type 0} (w : Ways P Q K A B D) where
+  -- what is known of the Commits of a transaction
+  pub fits_known : (t : Standing P Q K) (o : Posted) (h : List Event) → (t.work ≡ GaveUp → ⊥) → TransactionFits w t o h → KnowsAll t.start t.contents t.commits h
+  fits_known t o h alive f parts e = by t.work refl f.at
+    where
+      by : (g : Work P Q K) → t.work ≡ g → IsAtWork w t.start t.status t.contents t.commits g o h → KnowsCommits (plan_of parts) (version_of t.start) t.commits h
+      by Idle k at = let a = at parts e in a.knows
+      by (Open call) k at =
+          let same : call.parts ≡ parts = one (sym at.whole ∙ e) in
+          subst (λ p. KnowsCommits (plan_of p) (version_of t.start) t.commits h) same (subst (λ (s : Timestamp). KnowsCommits (plan_of call.parts) (version_of s) t.commits h) at.own at.fits.knows)
+        where
+          one : Some call.parts ≡ Some parts → call.parts ≡ parts
+          one q = cc
+      by GaveUp k at = absurd (alive k)
+
+  -- an error that a call answers rests on what it has heard
+  pub fails_by : (trace : Option Trace) (at line : ℕ) (e : Error) (h : List Event) → ShownIn trace at h → FailsFor w h e → FailsAt w trace at line e
+  fails_by None at line e h s f = tt
+  fails_by (Some t) at line e h s f = inl (h, s, f)
+
+  pub refused_by : (trace : Option Trace) (at line : ℕ) (e why : Error) → RefusedIn trace line (Some why) → e ≡ why → FailsAt w trace at line e
+  refused_by None at line e why r same = tt
+  refused_by (Some t) at line e why r same = inr (r e (ap Some (sym same)))
+
+  fails_gives : (trace : Option Trace) (at line : ℕ) (start : Timestamp) (contents : Contents) (c : Commits) (h : List Event) (v : Result (TxnAnswer Q) Error) → ShownIn trace at h → KnowsAll start contents c h → TransactionGives w start contents c h v → IfFails (FailsAt w trace at line) v
+  fails_gives trace at line start contents c h (Ok v) s known gives = tt
+  fails_gives trace at line start contents c h (Err e) s known gives = fails_by trace at line e h s (inr (inl (record { start = start; contents = contents; commits = c; gives = gives; known = known })))
+
+  pub fails_done : (trace : Option Trace) (at line : ℕ) (old new : Standing P Q K) (o : Posted) (h : List Event) (turn : Turn (Result (TxnAnswer Q) Error)) → ShownIn trace at h → ((v : Result (TxnAnswer Q) Error) → turn ≡ Ends v → new.work ≡ GaveUp → ⊥) → TransactionFits w new o h → new.start ≡ old.start → new.contents ≡ old.contents
+      → IfEnds turn (λ v. TransactionGives w old.start old.contents new.commits h v) → IfEnds turn (IfFails (FailsAt w trace at line))
+  fails_done trace at line old new o h Stopped s alive f start contents gives = tt
+  fails_done trace at line old new o h Waits s alive f start contents gives = tt
+  fails_done trace at line old new o h (Ends v) s alive f start contents gives =
+      fails_gives trace at line old.start old.contents new.commits h v s (λ parts e. subst (λ (x : Timestamp). KnowsCommits (plan_of parts) (version_of x) new.commits h) start (fits_known new o h (alive v refl) f parts (ap parts_of contents ∙ e))) gives
+
+-- Calls that ended
+
+all_map : {X : Type 0} {A B : X → Type 0} → ((x : X) → A x → B x) → (xs : List X) → All A xs → All B xs
+all_map {X} {A} {B} f [] h = All-nil B
+all_map {X} {A} {B} f (x ∷ xs) h = All-cons B x xs (f x (All-head A x xs h)) (all_map f xs (All-tail A x xs h))
+
+module _ {P Q K A B D : Type 0} (w : Ways P Q K A B D) where
+  reason_in : (t longer : Trace) (e : Ending) → IsLonger t longer → longer.refused ≡ t.refused → EndsFor (FailsFor w) t e → EndsFor (FailsFor w) longer e
+  reason_in t longer ending l same f e is = elim (f e is) [
+    | inl h ↦ inl (fails_longer t longer l (FailsFor w) ending.line e h)
+    | inr i ↦ inr (subst (λ xs. IsAmong xs (record { line = ending.line; error = e })) (sym same) i)
+  ]
+
+  pub reason_longer : (trace longer : Option Trace) (e : Ending) → LongerIn trace longer → HasReason w trace e → HasReason w longer e
+  reason_longer None None e l f = tt
+  reason_longer None (Some u) e l f = absurd l
+  reason_longer (Some t) None e l f = absurd l
+  reason_longer (Some t) (Some u) e l f = reason_in t u e l.0 l.1 f
+
+  pub ends_then : (trace : Option Trace) (qs rs : List Posting) (es fs gs : List Ending) → Keeps qs rs → EndsMore w (posting_in qs trace) es fs → EndsMore w (posting_in rs trace) fs gs → EndsMore w (posting_in rs trace) es gs
+  ends_then trace qs rs es fs gs keeps f g = record {
+    more = f.more ++ g.more;
+    ended = g.ended ∙ ap (λ xs. xs ++ g.more) f.ended ∙ append_assoc es f.more g.more;
+    each = All-append (HasReason w (posting_in rs trace)) f.more g.more (all_map (λ e h. reason_longer (posting_in qs trace) (posting_in rs trace) e (posting_longer trace qs rs keeps) h) f.more f.each) g.each;
+  }
+
+  -- a call ended with this
+  pub one_more : (trace : Option Trace) (es fs : List Ending) (e : Ending) → fs ≡ es ++ e ∷ [] → HasReason w trace e → EndsMore w trace es fs
+  one_more trace es fs e is h = record { more = e ∷ []; ended = is; each = All-cons (HasReason w trace) e [] h (All-nil (HasReason w trace)) }
+
+  -- the error of a call is the outcome of its line
+  pub reason_so : {X : Type 0} (trace : Option Trace) (line at : ℕ) (o : Outcome) (v : Result X Error) → CalledIn trace line at → ((e : Error) → o ≡ outcomes.Err e → v ≡ Err e) → IfFails (FailsAt w trace at line) v → HasReason w trace (record { line = line; outcome = o })
+  reason_so None line at o v called same f = tt
+  reason_so (Some t) line at o v called same f = λ e is. elim (subst (IfFails (FailsAt w (Some t) at line)) (same e is) f) [
+    | inl h ↦ inl (record { at = at; called = called; history = h.0; shown = h.1; fails_so = h.2 })
+    | inr i ↦ inr i
+  ]

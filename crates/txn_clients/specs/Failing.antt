@@ -1,0 +1,177 @@
+-- How calls fail, by what they had heard, and what a trace shows of that. Where there is no trace nothing is asked of it.
+use Rattle.std.specs.Prelude.{◌≡◌, ◌⊎◌, ⊤, ℕ, Bool, false, List, [], ◌++◌, Option, Some, None, Result, Ok, Err}
+use Rattle.std.specs.List.{All}
+use Rattle.txn_kv.specs.ErrorView.{view_of}
+use Rattle.txn_kv.specs.ErrorView.ErrorView.{undetermined as not_known}
+use Rattle.txn_kv.specs.Timestamp.{version_of}
+use Rattle.txn_kv.specs.declared.errors.Error.{Error}
+use Rattle.txn_kv.specs.declared.errors.Error.TheVariants.{GrpcAPI}
+use Rattle.txn_kv.specs.declared.outbox.Errand.TheVariants.{Send}
+use Rattle.txn_kv.specs.declared.request.Request.{Request}
+use Rattle.txn_kv.specs.declared.request.Request.TheVariants.{Tso}
+use Rattle.txn_kv.specs.declared.request.TsoRequest.{TsoRequest}
+use Rattle.txn_kv.specs.declared.ticket.Target.{Target}
+use Rattle.txn_kv.specs.declared.ticket.Ticket.{Ticket}
+use Rattle.txn_kv.specs.declared.timestamp.Timestamp.{Timestamp}
+use Rattle.txn_history.specs.Among.{IsAmong}
+use Rattle.txn_history.specs.Event.{Event, Has}
+use Rattle.txn_history.specs.Event.Event.{Lost, Took}
+use Rattle.txn_history.specs.Posted.{Posted, ticket_of}
+use Rattle.txn_plan.specs.declared.arrival.Arrival.{Arrival}
+use Rattle.txn_plan.specs.declared.arrival.Arrival.TheVariants as arrivals
+use Rattle.txn_buffer.specs.Contents.{Contents}
+use Rattle.txn_commit.specs.Committing.{Ways}
+use Rattle.txn_commit.specs.Following.{Commits, KnowsCommits, undetermined}
+use Rattle.txn_commit.specs.Parts.{parts_of}
+use Rattle.txn_commit.specs.Sending.{plan_of}
+use Rattle.txn_commit.specs.Timing.{WasUntimed}
+use Rattle.txn_commit.specs.declared.commit_parts.CommitParts.{CommitParts}
+use Rattle.txn_core.specs.Going.{TransactionGives}
+use Rattle.txn_side.specs.Account.{refusal}
+use Rattle.txn_side.specs.Sight.{Group, Stand, stand_at}
+use Rattle.txn_side.specs.Sight.Stand.{Asking, Calling}
+use Rattle.txn_side.specs.Trace.{AreShown, EndsFor, IsCalled, IsLonger, IsRefusedIn, IsSentIn, Trace, with_posted}
+use Rattle.txn_side.specs.declared.turn.Ending.{Ending}
+use Rattle.txn_side.specs.declared.turn.Posting.{Posting}
+use Rattle.txn_tso.specs.Oracle.{Answer as Answered}
+use Rattle.txn_clients.specs.Accounts.{account_of}
+use Rattle.txn_clients.specs.declared.answer.Answer.{Answer}
+use Rattle.txn_clients.specs.declared.answer.Answer.TheVariants as answers
+use Rattle.txn_clients.specs.declared.row.Row.{Row}
+use Rattle.txn_clients.specs.declared.row.Row.TheVariants as row
+use Rattle.txn_clients.specs.declared.told.Told.{Told}
+use Rattle.txn_clients.specs.declared.told.Told.TheVariants as tells
+
+-- How a call fails
+
+-- what is known of the Commits of the primary of what a buffer holds
+abbrev pub KnowsAll : Timestamp → Contents → Commits → List Event → Type 0
+KnowsAll start contents commits h = (parts : CommitParts) → parts_of contents ≡ Some parts → KnowsCommits (plan_of parts) (version_of start) commits h
+
+-- a commit or a rollback failed with this error
+pub record CallFailed {P Q K A B D : Type 0} (w : Ways P Q K A B D) (h : List Event) (e : Error) : Type 0 where
+  pub start : Timestamp
+  pub contents : Contents
+  pub commits : Commits
+  pub gives : TransactionGives w start contents commits h (Err e)
+  pub known : KnowsAll start contents commits h
+
+-- a rollback was refused, since it is not known what became of this Commit of the primary
+pub record CallRefused (h : List Event) (e : Error) : Type 0 where
+  pub start : Timestamp
+  pub contents : Contents
+  pub commits : Commits
+  pub ticket : Ticket
+  pub left : undetermined commits ≡ Some ticket
+  pub error : view_of e ≡ not_known (view_of (GrpcAPI ticket))
+  pub known : KnowsAll start contents commits h
+
+-- or there was no timestamp
+abbrev pub FailsFor : {P Q K A B D : Type 0} → Ways P Q K A B D → List Event → Error → Type 0
+FailsFor w h e = WasUntimed h e ⊎ (CallFailed w h e ⊎ CallRefused h e)
+
+abbrev pub IfFails : {X : Type 0} → (Error → Type 0) → Result X Error → Type 0
+IfFails P (Ok x) = ⊤
+IfFails P (Err e) = P e
+
+-- What a trace shows
+
+abbrev pub ShownIn : Option Trace → ℕ → List Event → Type 0
+ShownIn None at h = ⊤
+ShownIn (Some t) at h = AreShown t at h
+
+abbrev pub CalledIn : Option Trace → ℕ → ℕ → Type 0
+CalledIn None line at = ⊤
+CalledIn (Some t) line at = IsCalled t line at
+
+abbrev pub SentIn : Option Trace → Ticket → Request → Type 0
+SentIn None u r = ⊤
+SentIn (Some t) u r = IsSentIn t u r
+
+abbrev pub LongerIn : Option Trace → Option Trace → Type 0
+LongerIn None None = ⊤
+LongerIn (Some t) (Some longer) = IsLonger t longer × (longer.refused ≡ t.refused)
+LongerIn _ _ = ⊥
+
+-- this was posted in the step so far
+abbrev pub posting_in : List Posting → Option Trace → Option Trace
+posting_in ps None = None
+posting_in ps (Some t) = Some (with_posted ps t)
+
+-- the trace knows whom is told what comes for the line of each call
+pub record AreToldIn (trace : Option Trace) (stands : List Stand) : Type 0 where
+  pub asks : (n c : ℕ) (b : Bool) → stand_at stands n ≡ Asking c b → CalledIn trace n n
+  pub calls : (n c x : ℕ) (b : Bool) → stand_at stands n ≡ Calling c x b → CalledIn trace n x
+
+-- What is told
+
+-- it has happened
+abbrev pub HasComeIn : Trace → Posted → Arrival → Type 0
+HasComeIn t o (arrivals.Reply n x) = (r : Request) → IsSentIn t (ticket_of o n) r → Has t.events (Took (ticket_of o n) r x)
+HasComeIn t o (arrivals.Lost n) = (r : Request) → IsSentIn t (ticket_of o n) r → Has t.events (Lost (ticket_of o n) r)
+HasComeIn t o (arrivals.Slept n) = ⊤
+HasComeIn t o (arrivals.Time k x) = IfFails (IsRefusedIn t o.line) x
+
+abbrev pub CameIn : Option Trace → Posted → Arrival → Type 0
+CameIn None o a = ⊤
+CameIn (Some t) o a = HasComeIn t o a
+
+-- what is refused is noted
+abbrev pub RefusedIn : Option Trace → ℕ → Option Error → Type 0
+RefusedIn None line why = ⊤
+RefusedIn (Some t) line why = (e : Error) → why ≡ Some e → IsAmong t.refused (record { line = line; error = e })
+
+-- a row may be told this for the line of an outbox
+abbrev pub MayKnow : {P Q K : Type 0} → Option Trace → Posted → Told → Row P Q K → Type 0
+MayKnow trace o tells.Start r = ⊤
+MayKnow trace o (tells.Act act) (row.Begun c t m) = RefusedIn trace o.line (refusal act (account_of t))
+MayKnow trace o (tells.Act act) r = ⊤
+MayKnow trace o (tells.Heard a) r = CameIn trace o a
+
+-- what comes for the line is told to what stands there, if that has a history
+abbrev pub CalledFor : {P Q K : Type 0} → Option Trace → ℕ → ℕ → Row P Q K → Type 0
+CalledFor trace line at (row.Asking c b call) = CalledIn trace line at
+CalledFor trace line at (row.Begun c t m) = CalledIn trace line at
+CalledFor trace line at r = ⊤
+
+-- What a row posts is sent: `later` is the trace once it is.
+pub record HasMet (trace later : Option Trace) (from to : Posted) : Type 0 where
+  pub longer : LongerIn trace later
+  pub sent : (n : ℕ) (store : Target) (r : Request) → IsAmong to.sends (Send n store r) → SentIn later (ticket_of from n) r
+
+-- What an error rests on
+
+-- a history that is shown as that of what stands at this line, or it was a refusal
+abbrev pub FailsAt : {P Q K A B D : Type 0} → Ways P Q K A B D → Option Trace → ℕ → ℕ → Error → Type 0
+FailsAt w None at line e = ⊤
+FailsAt w (Some t) at line e = ((h : List Event) × AreShown t at h × FailsFor w h e) ⊎ IsAmong t.refused (record { line = line; error = e })
+
+abbrev pub AnswerRests : {P Q K A B D : Type 0} → Ways P Q K A B D → Option Trace → ℕ → ℕ → Answer P Q K → Type 0
+AnswerRests w trace at line (answers.Asked v) = IfFails (FailsAt w trace at line) v
+AnswerRests w trace at line (answers.Called v) = IfFails (FailsAt w trace at line) v
+
+abbrev pub HasReason : {P Q K A B D : Type 0} → Ways P Q K A B D → Option Trace → Ending → Type 0
+HasReason w None ending = ⊤
+HasReason w (Some t) ending = EndsFor (FailsFor w) t ending
+
+-- calls ended in a part, and each that failed has its reason
+pub record EndsMore {P Q K A B D : Type 0} (w : Ways P Q K A B D) (trace : Option Trace) (from to : List Ending) : Type 0 where
+  pub more : List Ending
+  pub ended : to ≡ from ++ more
+  pub each : All (HasReason w trace) more
+
+-- Groups of asks
+
+-- each that is told that there is no timestamp is told why
+abbrev pub AreGivenIn : Option Trace → List Answered → Type 0
+AreGivenIn None given = ⊤
+AreGivenIn (Some t) given = All (λ a. IfFails (IsRefusedIn t a.0.line) a.1) given
+
+-- what came for the request for timestamps that is out has happened, and the trace has the group
+abbrev pub GroupCameIn : Option Trace → Option Group → (Ticket → Request → Event) → Type 0
+GroupCameIn None out event = ⊤
+GroupCameIn (Some t) out event = (g : Group) → out ≡ Some g → IsAmong t.groups g × ((r : TsoRequest) × Has t.events (event g.ticket (Tso r)))
+
+-- an outbox of a line
+abbrev pub outbox_of : ℕ → Posted
+outbox_of line = record { line = line; beat = false; next = 0; next_ask = 0; sends = [] }

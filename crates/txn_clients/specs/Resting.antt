@@ -1,0 +1,138 @@
+-- What calls have heard stays shown as a trace goes on.
+use Rattle.std.specs.Prelude.{◌≡◌, ℕ, Bool, List, [], ◌∷◌, map, Option, Some, None, refl, slice_index_or}
+use Rattle.std.proofs.Common.{zero, suc, inl, sym, ap, ◌∙◌, subst}
+use Rattle.txn_kv.specs.declared.ticket.Ticket.{Ticket}
+use Rattle.txn_history.specs.Event.{Event}
+use Rattle.txn_history.specs.Posted.{Posted}
+use Rattle.txn_commit.specs.Committing.{Ways}
+use Rattle.txn_side.specs.Sight.{Sight, Stand, client_at, nobody, stand_at}
+use Rattle.txn_side.specs.Sight.Stand.{Asking, Calling}
+use Rattle.txn_side.specs.Trace.{IsLonger, Trace, called_longer}
+use Rattle.txn_side.specs.Trace.{shown_longer as event_longer}
+use Rattle.txn_tso.specs.declared.asker.Asker.{Asker}
+use Rattle.txn_clients.specs.Clients.{nexts_of, row_at, rows_of, sight_of, stands_of}
+use Rattle.txn_clients.specs.Failing.{AreToldIn, CalledIn, LongerIn, ShownIn}
+use Rattle.txn_clients.specs.Rows.{stand_of}
+use Rattle.txn_clients.specs.Waiting.{Book, IsSound, RowArises, asks_of, blank, book_at, book_of, posted_at, voice_at}
+use Rattle.txn_clients.specs.declared.client_state.ClientState.{ClientState}
+use Rattle.txn_clients.specs.declared.clients.Clients.{Clients}
+use Rattle.txn_clients.specs.declared.row.Row.{Row}
+use Rattle.txn_clients.specs.declared.row.Row.TheVariants as row
+
+-- between steps the calls rest on what a trace has, and on nothing that is yet to come
+abbrev pub RestsIn : {P Q K A B D : Type 0} → Ways P Q K A B D → Clients P Q K → Trace → Type 0
+RestsIn w s t = IsSound w (Some t) [] s
+
+-- lemmas
+
+pub shown_longer : (trace longer : Option Trace) (at : ℕ) (h : List Event) → LongerIn trace longer → ShownIn trace at h → ShownIn longer at h
+shown_longer None None at h l s = tt
+shown_longer None (Some u) at h l s = absurd l
+shown_longer (Some t) None at h l s = absurd l
+shown_longer (Some t) (Some u) at h l s = λ e i. event_longer t u l.0 at e (s e i)
+
+pub called_in_longer : (trace longer : Option Trace) (line at : ℕ) → LongerIn trace longer → CalledIn trace line at → CalledIn longer line at
+called_in_longer None None line at l c = tt
+called_in_longer None (Some u) line at l c = absurd l
+called_in_longer (Some t) None line at l c = absurd l
+called_in_longer (Some t) (Some u) line at l c = called_longer t u l.0 line at c
+
+pub told_longer : (trace longer : Option Trace) (stands : List Stand) → LongerIn trace longer → AreToldIn trace stands → AreToldIn longer stands
+told_longer trace longer stands l a = record {
+  asks = λ n c b e. called_in_longer trace longer n n l (a.asks n c b e);
+  calls = λ n c x b e. called_in_longer trace longer n x l (a.calls n c x b e);
+}
+
+module _ {P Q K A B D : Type 0} (w : Ways P Q K A B D) where
+  pub row_longer : (trace longer : Option Trace) (at : ℕ) (o : Posted) (nexts : List ℕ) (r : Row P Q K) → LongerIn trace longer → RowArises w trace at o nexts r → RowArises w longer at o nexts r
+  row_longer trace longer at o nexts row.Plain l x = tt
+  row_longer trace longer at o nexts (row.Client c) l x = tt
+  row_longer trace longer at o nexts (row.Asking c b call) l x = record { history = x.history; fits = x.fits; kept = x.kept; shown = shown_longer trace longer at x.history l x.shown }
+  row_longer trace longer at o nexts (row.Begun c t m) l x =
+      let a = x.arisen in
+      record { ordered = x.ordered; arisen = record { history = a.history; fits = a.fits; kept = a.kept; shown = shown_longer trace longer at a.history l a.shown } }
+  row_longer trace longer at o nexts (row.Calling c y b) l x = tt
+  row_longer trace longer at o nexts (row.Past c) l x = tt
+  row_longer trace longer at o nexts (row.Working c job) l x = tt
+
+  pub sound_longer : (trace longer : Option Trace) (rest : List Asker) (s : Clients P Q K) → LongerIn trace longer → IsSound w trace rest s → IsSound w longer rest s
+  sound_longer trace longer rest s l sound = record {
+    told = told_longer trace longer (stands_of (rows_of s)) l sound.told;
+    arisen = λ i. row_longer trace longer (suc i) _ _ (row_at (rows_of s) i) l (sound.arisen i);
+    called = sound.called;
+    known = sound.known;
+    asked = sound.asked;
+    paired = sound.paired;
+    owned = sound.owned;
+    numbered = sound.numbered;
+    unwanted = sound.unwanted;
+  }
+
+  pub rests_when_longer : (s : Clients P Q K) (t longer : Trace) → IsLonger t longer → RestsIn w s t → RestsIn w s longer
+  rests_when_longer s t longer l sound =
+      record {
+        told = record { asks = λ n c b e. called_longer t longer l n n (sound.told.asks n c b e); calls = λ n c x b e. called_longer t longer l n x (sound.told.calls n c x b e) };
+        arisen = λ i. row_any (suc i) _ _ (row_at (rows_of s) i) (sound.arisen i);
+        called = sound.called;
+        known = sound.known;
+        asked = sound.asked;
+        paired = sound.paired;
+        owned = sound.owned;
+        numbered = sound.numbered;
+        unwanted = sound.unwanted;
+      }
+    where
+      row_any : (at : ℕ) (o : Posted) (nexts : List ℕ) (r : Row P Q K) → RowArises w (Some t) at o nexts r → RowArises w (Some longer) at o nexts r
+      row_any at o nexts row.Plain x = tt
+      row_any at o nexts (row.Client c) x = tt
+      row_any at o nexts (row.Asking c b call) x = record { history = x.history; fits = x.fits; kept = x.kept; shown = λ e i. event_longer t longer l at e (x.shown e i) }
+      row_any at o nexts (row.Begun c b m) x =
+          let a = x.arisen in
+          record { ordered = x.ordered; arisen = record { history = a.history; fits = a.fits; kept = a.kept; shown = λ e i. event_longer t longer l at e (a.shown e i) } }
+      row_any at o nexts (row.Calling c y b) x = tt
+      row_any at o nexts (row.Past c) x = tt
+      row_any at o nexts (row.Working c job) x = tt
+
+-- calls of no line
+
+nothing_in : {X Y : Type 0} (f : X → Y) (xs : List X) → map f xs ≡ [] → xs ≡ []
+nothing_in f [] e = refl
+nothing_in f (x ∷ xs) e = absurd (cc)
+
+none_ticket : {t : Ticket} → None ≡ Some t → ⊥
+none_ticket q = cc
+
+never_calls : (n : ℕ) {c x : ℕ} {b : Bool} → stand_at [] n ≡ Calling c x b → ⊥
+never_calls zero q = cc
+never_calls (suc n) q = cc
+
+never_asks : (n : ℕ) {c : ℕ} {b : Bool} → stand_at [] n ≡ Asking c b → ⊥
+never_asks zero q = cc
+never_asks (suc n) q = cc
+
+nobody_at : (n : ℕ) {c : ℕ} → client_at (stand_at [] n) ≡ Some c → ⊥
+nobody_at zero q = cc
+nobody_at (suc n) q = cc
+
+module _ {P Q K A B D : Type 0} (w : Ways P Q K A B D) where
+  pub nothing_rests : (trace : Option Trace) (s : Clients P Q K) → rows_of s ≡ [] → s.clients.items ≡ [] → IsSound w trace [] s
+  nothing_rests trace s rows clients = record {
+    told = record {
+      asks = λ n c b e. absurd (never_asks n (subst (λ rs. stand_at (stands_of rs) n ≡ Asking c b) rows e));
+      calls = λ n c x b e. absurd (never_calls n (subst (λ rs. stand_at (stands_of rs) n ≡ Calling c x b) rows e));
+    };
+    arisen = λ i. subst (λ rs. RowArises w trace (suc i) (posted_at (nexts_of s) (asks_of s) (voice_at rs i)) (nexts_of s) (row_at rs i)) (sym rows) tt;
+    called = λ n c x b e. absurd (never_calls n (subst (λ rs. stand_at (stands_of rs) n ≡ Calling c x b) rows e));
+    known = λ n c e. absurd (nobody_at n (subst (λ rs. client_at (stand_at (stands_of rs) n) ≡ Some c) rows e));
+    asked = λ n c i e l x. absurd (nobody_at n (subst (λ rs. client_at (stand_at (stands_of rs) n) ≡ Some c) rows e));
+    paired = λ c. inl (ap (λ (b : Book). b.out) (book c));
+    owned = λ c t e. absurd (none_ticket (sym (ap (λ (b : Book). b.ticket) (book c)) ∙ e));
+    numbered = λ c t e. absurd (none_ticket (sym (ap (λ (b : Book). b.ticket) (book c)) ∙ e));
+    unwanted = λ c t e. absurd (none_ticket (sym (ap (λ (b : Book). b.ticket) (book c)) ∙ e));
+  }
+    where
+      book : (c : ℕ) → book_at s c ≡ blank
+      book c = ap (λ cs. slice_index_or (map book_of cs) c blank) clients
+
+  pub nobody_rests_so : (s : Clients P Q K) → sight_of s ≡ nobody → (t : Trace) → RestsIn w s t
+  nobody_rests_so s e t = nothing_rests (Some t) s (nothing_in stand_of (rows_of s) (ap (λ (v : Sight). v.stands) e)) (nothing_in (λ (c : ClientState). c.crashed) s.clients.items (ap (λ (v : Sight). v.crashed) e))
