@@ -1,1 +1,3 @@
+mod Refusing
+mod Causes
 mod Programs

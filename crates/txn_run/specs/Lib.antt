@@ -1,1 +1,3 @@
+pub mod Caused
+pub mod Refused
 pub mod Program

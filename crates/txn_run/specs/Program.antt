@@ -1,5 +1,5 @@
 -- How a run of a script, and of the program, ends.
-use Rattle.std.specs.Prelude.{◌≡◌, ℕ, ◌<◌, List, [], ◌∷◌, length, Option, None, take}
+use Rattle.std.specs.Prelude.{◌≡◌, ℕ, ◌<◌, List, [], ◌∷◌, length, Option, None, reverse, take}
 use Rattle.std.specs.Io.KnownBytes.{Consumes, IsAtEnd, Appends}
 use Rattle.txn_script.specs.Text as first_path
 use Rattle.txn_script.specs.declared.line.Line as first
@@ -11,6 +11,8 @@ use Rattle.txn_machine.specs.Lawful.{Lawful}
 use Rattle.txn_report.specs.declared.report.Report.{Report}
 use Rattle.txn_report.specs.Text.{text_of_report}
 use Rattle.txn_stream.specs.Bytes.{Rose, ReadsAll}
+use Rattle.txn_run.specs.Caused.{HaveCauses}
+use Rattle.txn_run.specs.Refused.{AreExact}
 use Rattle.txn_run.specs.declared.program.End.{End}
 use Rattle.txn_run.specs.declared.program.End.TheVariants.{Done, BadWords, BadLine, ReadFault, WriteFault, OutOfMemory}
 use Rattle.txn_run.specs.declared.program.ScriptStop.{ScriptStop}
@@ -30,6 +32,10 @@ pub record RanScript (bytes : List ℕ) (report : Report) : Type 0 where
   pub lines : List Line
   pub script : IsScript bytes lines
   pub lawful : Lawful lines report
+  -- and each call that failed has its cause
+  pub causes : HaveCauses (reverse lines) report
+  -- and one is refused only by how far its transaction has come, and by what it has written
+  pub exact : AreExact (reverse lines) report
 
 -- the bytes are no script of the first path
 abbrev pub IsOther : List ℕ → Type 0
