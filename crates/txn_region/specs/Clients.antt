@@ -18,13 +18,6 @@ use Rattle.txn_region.specs.Regions.{Key, is_reversed}
 
 -- Look-ups
 
--- what is looked up: a region by a key or by an id, the store of a region, or all stores
-pub data Lookup : Type 0 where
-  by_key : Key → Lookup
-  by_id : ℕ → Lookup
-  store_of : RegionWithLeader → Lookup
-  all_stores : Lookup
-
 abbrev pub MatchLook : {T : Type 0} → Look T → (T → Type 0) → (PdQuery → Type 0) → Type 0 → Type 0
 MatchLook (Found x) found asked waits = found x
 MatchLook (Query q) found asked waits = asked q
@@ -42,17 +35,6 @@ IsFoundAt key r = (contains_key r.region key ≡ true) × IsUsable r
 
 abbrev pub IsFoundOf : ℕ → RegionWithLeader → Type 0
 IsFoundOf id r = (r.region.id ≡ id) × IsUsable r
-
--- the store of a region that was found so is refused
-abbrev pub MayRefuseStore : (Lookup → Error → Type 0) → (RegionWithLeader → Type 0) → Error → Type 0
-MayRefuseStore refuses found error = (r : RegionWithLeader) × found r × refuses (store_of r) error
-
--- the look-up of some key, and of its store, is refused
-abbrev pub MayRefuseKey : (Lookup → Error → Type 0) → Error → Type 0
-MayRefuseKey refuses error = (key : Key) × refuses (by_key key) error
-
-abbrev pub MayRefuseKeyStore : (Lookup → Error → Type 0) → Error → Type 0
-MayRefuseKeyStore refuses error = (key : Key) × (refuses (by_key key) error ⊎ MayRefuseStore refuses (IsFoundAt key) error)
 
 -- a query for a region or for a store
 abbrev pub IsPlaceQuery : PdQuery → Type 0

@@ -1,6 +1,6 @@
 -- What a client believes of regions and stores, with keys as the placement driver has them.
 use Rattle.std.specs.Prelude.{◌≡◌, ◌⊎◌, ⊤, List, [], ◌∷◌, Bool, true, false, Option, Some, None, is_none, Result, Ok, Err, MatchOption, MatchResult}
-use Rattle.txn_kv.specs.Region.{store_id_of, ver_id_at}
+use Rattle.txn_kv.specs.Region.{ver_id_at}
 use Rattle.txn_kv.specs.declared.errors.Error.{Error}
 use Rattle.txn_kv.specs.declared.errors.Error.TheVariants.{LeaderNotFound, StringError}
 use Rattle.txn_kv.specs.declared.message.Region.{Region}
@@ -11,7 +11,7 @@ use Rattle.txn_kv.specs.declared.query.PdAnswer.{PdAnswer}
 use Rattle.txn_kv.specs.declared.query.PdAnswer.TheVariants as answer
 use Rattle.txn_kv.specs.declared.region.RegionWithLeader.{RegionWithLeader}
 use Rattle.txn_region.specs.Cache.{Cache, answer_refusal, cleared, learnt, without_region}
-use Rattle.txn_region.specs.Clients.{Lookup, by_key, by_id, store_of, all_stores, OrStarved}
+use Rattle.txn_region.specs.Clients.{OrStarved}
 use Rattle.txn_region.specs.Decoded.{CanBeShown, HasBadKey, IsShownAs}
 use Rattle.txn_region.specs.Regions.{region_of_id, region_of_key}
 use Rattle.txn_region.specs.Stores.{store_of_id}
@@ -49,14 +49,6 @@ IsUnknown c (query.Safepoint time) = ⊤
 abbrev pub IsText : Error → Type 0
 IsText (StringError message) = ⊤
 IsText _ = ⊥
-
--- what a look-up may refuse besides want of memory: a look-up by id gives up after five waits, and a region without leader
--- has no store
-abbrev pub MayRefuse : Lookup → Error → Type 0
-MayRefuse (by_key key) error = ⊥
-MayRefuse (by_id id) error = IsText error
-MayRefuse (store_of r) error = store_id_of r ≡ Err error
-MayRefuse all_stores error = ⊥
 
 -- the cache without the region of this id at this epoch
 abbrev pub without_version : Region → Option RegionEpoch → Cache → Cache

@@ -1,13 +1,12 @@
-ghost use Rattle.std.specs.Prelude.{◌≡◌, ◌⊎◌, ◌<◌, [], ⊤, IfErr, IfOk, IsOk, MatchOption, OnOk, false, is_none, true, length, map, reverse};
+ghost use Rattle.std.specs.Prelude.{◌≡◌, ◌<◌, [], ⊤, Err, IfErr, IfOk, IsOk, MatchOption, OnOk, false, is_none, true, length, map, reverse};
 ghost use Rattle.std.specs.Borrow.{Lends, sem};
+ghost use Rattle.txn_kv.specs.Region.{store_id_of};
 ghost use Rattle.txn_kv.specs.Timestamp.{HasVersion};
 ghost use Rattle.txn_kv.specs.declared.errors.Error.TheVariants.{OutOfMemory};
 ghost use Rattle.txn_kv.specs.declared.query.PdQuery.TheVariants as query;
-ghost use Rattle.txn_region.specs.Clients.{by_id, by_key, store_of, IsFoundAt, IsFoundOf, IsPlaceQuery, IsRefused, IsUsable, MatchLook, MayRefuseKey, MayRefuseKeyStore, MayRefuseStore, OrStarved, UnlessStarved};
-ghost use Rattle.txn_region.specs.Clients as lookup;
+ghost use Rattle.txn_region.specs.Clients.{IsFoundAt, IsFoundOf, IsPlaceQuery, IsRefused, IsUsable, MatchLook, OrStarved, UnlessStarved};
 ghost use Rattle.txn_region.specs.Decoded.{CanBeShown, HasBadKey, IsShownAs};
 ghost use Rattle.txn_region.specs.Groups.{next_start, or_unbounded, IsKeyGroup, IsRangeGroup};
-ghost use Rattle.txn_region.specs.Refusals.{IsPlacementError};
 ghost use Rattle.txn_tso.specs.Placement.{fresh};
 ghost use Rattle.txn_tso.specs.contracts.retry_client.RetryClient.{the_row as connection_row};
 
@@ -25,7 +24,8 @@ use txn_tso::{PdCall, RetryClient};
 /// Finds the regions of keys and the stores of regions, as the placement driver has told them. Keys are not encoded.
 ///
 /// A look-up sends nothing. It answers what was found, or the query that has to be asked first: the caller makes a call of the
-/// query, lends it the connection, tells the client what came of it by `learn`, and looks again.
+/// query, lends it the connection, tells the client what came of it by `learn`, and looks again. What is wrong with an answer is
+/// said by `learn`, so that a look-up by key, and that of the store of a region so found, is refused for want of memory alone.
 pub trait PdClient {
     ghost use Rattle.txn_kv.specs.declared.errors.Error.{Error};
     ghost use Rattle.txn_kv.specs.declared.query.PdAnswer.{PdAnswer};
@@ -35,15 +35,14 @@ pub trait PdClient {
     ghost use Rattle.txn_kv.specs.declared.region.RegionWithLeader.{RegionWithLeader};
     ghost use Rattle.txn_tso.specs.declared.retry_client.RetryClient.{RetryClient};
     ghost use Rattle.std.specs.Prelude.{ℕ, Result};
-    ghost use Rattle.txn_region.specs.Clients.{Lookup};
 
     type Codec: Codec;
 
     // The client, as it is, has no answer to the query.
     ghost asks: { Self → PdQuery → Type 0 };
 
-    // What a look-up may refuse besides want of memory: a region, its leader or its epoch that is not known.
-    ghost refuses: { Lookup → Error → Type 0 };
+    // Why a look-up by an id may be refused, besides want of memory.
+    ghost refuses: { ℕ → Error → Type 0 };
 
     // Requests for the region go to the store of this id.
     ghost is_at: { Self → RegionWithLeader → ℕ → Type 0 };
@@ -68,25 +67,25 @@ pub trait PdClient {
     /// The region that contains the key.
     fn region_for_key(&mut self, key: &Key) -> Result<Look<RegionWithLeader>>
         ensures look { IfOk result (λ look. MatchLook look (IsFoundAt key.now) (λ q. IsPlaceQuery q × asks self.new q) ⊥) }
-        ensures why { IfErr result (OrStarved (refuses (by_key key.now))) }
+        ensures why { IfErr result (λ error. error ≡ OutOfMemory) }
         ensures changed { looked self.old self.new };
 
     /// The region of the id. `waited` is how often the caller has waited for another call's look-up of it.
     fn region_for_id(&mut self, id: RegionId, waited: u32) -> Result<Look<RegionWithLeader>>
         ensures look { IfOk result (λ look. MatchLook look (IsFoundOf id) (λ q. IsPlaceQuery q × asks self.new q) ⊤) }
-        ensures why { IfErr result (OrStarved (refuses (by_id id))) }
+        ensures why { IfErr result (OrStarved (refuses id)) }
         ensures changed { looked self.old self.new };
 
     /// The store that requests for the region go to. A region without leader is refused, and not believed in any more.
     fn map_region_to_store(&mut self, region: RegionWithLeader) -> Result<Look<RegionStore>>
         ensures look { IfOk result (λ look. MatchLook look (λ s. (s.region_with_leader ≡ region) × is_at self.new region s.store) (λ q. IsPlaceQuery q × asks self.new q) ⊥) }
-        ensures why { IfErr result (OrStarved (refuses (store_of region))) }
+        ensures why { IfErr result (OrStarved (λ error. store_id_of region ≡ Err error)) }
         ensures changed { is_none region.leader ≡ false → looked self.old self.new };
 
     /// Each store that transactions are sent to.
     fn all_stores(&mut self) -> Result<Look<Vec<Store>>>
         ensures look { IfOk result (λ look. MatchLook look (λ _. ⊤) (λ q. q ≡ query.Stores) ⊥) }
-        ensures why { IfErr result (OrStarved (refuses lookup.all_stores)) }
+        ensures why { IfErr result (λ error. error ≡ OutOfMemory) }
         ensures changed { looked self.old self.new };
 
     fn get_timestamp(&mut self) -> Look<Timestamp>
@@ -126,9 +125,10 @@ pub trait PdClient {
         ensures { result.now ≡ codec self.now };
 
     /// The store that requests for the key go to.
+    #[tactic(auto, using(crate::specs::Refusals::has_store))]
     final fn store_for_key(&mut self, key: &Key) -> Result<Look<RegionStore>>
         ensures look { IfOk result (λ look. MatchLook look (λ s. IsFoundAt key.now s.region_with_leader × is_at self.new s.region_with_leader s.store) (λ q. IsPlaceQuery q × asks self.new q) ⊥) }
-        ensures why { IfErr result (OrStarved (λ error. refuses (by_key key.now) error ⊎ MayRefuseStore refuses (IsFoundAt key.now) error)) }
+        ensures why { IfErr result (λ error. error ≡ OutOfMemory) }
         ensures changed { looked self.old self.new }
     {
         match self.region_for_key(key)? {
@@ -139,9 +139,10 @@ pub trait PdClient {
     }
 
     /// The store that requests for the region of the id go to.
+    #[tactic(auto, using(crate::specs::Refusals::has_store))]
     final fn store_for_id(&mut self, id: RegionId, waited: u32) -> Result<Look<RegionStore>>
         ensures look { IfOk result (λ look. MatchLook look (λ s. IsFoundOf id s.region_with_leader × is_at self.new s.region_with_leader s.store) (λ q. IsPlaceQuery q × asks self.new q) ⊤) }
-        ensures why { IfErr result (OrStarved (λ error. refuses (by_id id) error ⊎ MayRefuseStore refuses (IsFoundOf id) error)) }
+        ensures why { IfErr result (OrStarved (refuses id)) }
         ensures changed { looked self.old self.new }
     {
         match self.region_for_id(id, waited)? {
@@ -159,7 +160,7 @@ pub trait PdClient {
     ) -> Result<Look<(RegionWithLeader, usize)>>
         requires { first < length keys.now }
         ensures look { IfOk result (λ look. MatchLook look (λ found. IsUsable found.0 × IsKeyGroup (map K.key keys.now) first found.0.region found.1) (λ q. IsPlaceQuery q × asks self.new q) ⊥) }
-        ensures why { IfErr result (OrStarved (MayRefuseKey refuses)) }
+        ensures why { IfErr result (λ error. error ≡ OutOfMemory) }
         ensures changed { looked self.old self.new }
     {
         match self.region_for_key(keys[first].as_key())? {
@@ -180,7 +181,7 @@ pub trait PdClient {
         first: &Key,
     ) -> Result<Look<(RegionStore, Option<Key>)>>
         ensures look { IfOk result (λ look. MatchLook look (λ found. IsFoundAt first.now found.0.region_with_leader × is_at self.new found.0.region_with_leader found.0.store × (found.1 ≡ next_start found.0.region_with_leader.region (or_unbounded end.now))) (λ q. IsPlaceQuery q × asks self.new q) ⊥) }
-        ensures why { IfErr result (OrStarved (MayRefuseKeyStore refuses)) }
+        ensures why { IfErr result (λ error. error ≡ OutOfMemory) }
         ensures changed { looked self.old self.new }
     {
         match self.store_for_key(first)? {
@@ -200,7 +201,7 @@ pub trait PdClient {
         ranges: &mut Vec<KeyRange>,
     ) -> Result<Look<Option<(RegionWithLeader, Vec<KeyRange>)>>>
         ensures look { IfOk result (λ look. MatchLook look (λ found. MatchOption found (ranges.old.items ≡ []) (λ group. IsUsable group.0 × IsRangeGroup group.0.region (reverse ranges.old.items) group.1.items (reverse ranges.new.items))) (λ q. IsPlaceQuery q × asks self.new q × (ranges.new ≡ ranges.old)) ⊥) }
-        ensures why { IfErr result (OrStarved (MayRefuseKey refuses)) }
+        ensures why { IfErr result (λ error. error ≡ OutOfMemory) }
         ensures changed { looked self.old self.new }
     {
         let Some(range) = ranges.as_slice().last() else {
@@ -228,8 +229,6 @@ pub trait PdClient {
     {
         decode_region(region, enable_mvcc_codec)
     }
-
-    ghost refuses_so: { (look : Lookup) (error : Error) → refuses look error → IsPlacementError error };
 
     ghost looked_same: { (c : Self) → looked c c };
 

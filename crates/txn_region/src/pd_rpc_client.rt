@@ -1,8 +1,7 @@
 ghost use Rattle.std.specs.Prelude.{◌≡◌, Ok, false, refl};
 ghost use Rattle.txn_kv.specs.Region.{store_id_of};
 ghost use Rattle.txn_region.specs.Cache.{empty, with_leader, without_region};
-ghost use Rattle.txn_region.specs.Placement.{IsUnknown, Learns, MayRefuse};
-ghost use Rattle.txn_region.specs.Refusals.{refused_so};
+ghost use Rattle.txn_region.specs.Placement.{IsText, IsUnknown, Learns};
 ghost use Rattle.txn_region.specs.RpcClient.{looked_on, LookedUp};
 
 use crate::codec::Codec;
@@ -60,7 +59,8 @@ impl<Cod: Codec> PdClient for PdRpcClient<Cod> {
 
     ghost asks = { λ c. IsUnknown c.placement.cache };
 
-    ghost refuses = { MayRefuse };
+    // A look-up by id gives up after five waits.
+    ghost refuses = { λ _. IsText };
 
     ghost is_at = { λ _ region store. store_id_of region ≡ Ok store };
 
@@ -126,8 +126,6 @@ impl<Cod: Codec> PdClient for PdRpcClient<Cod> {
     fn get_codec(&self) -> &Cod {
         &self.codec
     }
-
-    ghost refuses_so = { refused_so };
 
     ghost looked_same = { λ _. record { regions = refl; stores = refl; encodes = refl; codec = refl } };
 

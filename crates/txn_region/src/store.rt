@@ -1,5 +1,6 @@
 ghost use Rattle.std.specs.Prelude.{◌≡◌, ◌<◌, [], ⊤, IfErr, IfOk, MatchOption, length, map, reverse};
-ghost use Rattle.txn_region.specs.Clients.{IsPlaceQuery, IsUsable, MatchLook, MayRefuseKeyStore, OrStarved};
+ghost use Rattle.txn_kv.specs.declared.errors.Error.TheVariants.{OutOfMemory};
+ghost use Rattle.txn_region.specs.Clients.{IsPlaceQuery, IsUsable, MatchLook};
 ghost use Rattle.txn_region.specs.Groups.{IsKeyGroup, IsRangeGroup, IsRangePiece};
 
 use crate::as_key::AsKey;
@@ -57,7 +58,7 @@ pub fn store_stream_for_keys<K: AsKey, C: PdClient>(
 ) -> Result<Look<(RegionStore, usize)>>
     requires { first < length keys.now }
     ensures look { IfOk result (λ look. MatchLook look (λ found. IsUsable found.0.region_with_leader × C.is_at pd.new found.0.region_with_leader found.0.store × IsKeyGroup (map K.key keys.now) first found.0.region_with_leader.region found.1) (λ q. IsPlaceQuery q × C.asks pd.new q) ⊥) }
-    ensures why { IfErr result (OrStarved (MayRefuseKeyStore C.refuses)) }
+    ensures why { IfErr result (λ error. error ≡ OutOfMemory) }
     ensures changed { C.looked pd.old pd.new }
 {
     match pd.store_for_key(keys[first].as_key())? {
@@ -78,7 +79,7 @@ pub fn store_stream_for_range<C: PdClient>(
     pd: &mut C,
 ) -> Result<Look<((Key, Key), RegionStore, Option<Key>)>>
     ensures look { IfOk result (λ look. MatchLook look (λ found. IsUsable found.1.region_with_leader × C.is_at pd.new found.1.region_with_leader found.1.store × IsRangePiece found.1.region_with_leader.region first.now range.now.1 (found.0.0, found.0.1) found.2) (λ q. IsPlaceQuery q × C.asks pd.new q) ⊥) }
-    ensures why { IfErr result (OrStarved (MayRefuseKeyStore C.refuses)) }
+    ensures why { IfErr result (λ error. error ≡ OutOfMemory) }
     ensures changed { C.looked pd.old pd.new }
 {
     match pd.store_for_key(first)? {
@@ -98,7 +99,7 @@ pub fn store_stream_for_ranges<C: PdClient>(
     pd: &mut C,
 ) -> Result<Look<Option<(Vec<KeyRange>, RegionStore)>>>
     ensures look { IfOk result (λ look. MatchLook look (λ found. MatchOption found (ranges.old.items ≡ []) (λ group. IsUsable group.1.region_with_leader × C.is_at pd.new group.1.region_with_leader group.1.store × IsRangeGroup group.1.region_with_leader.region (reverse ranges.old.items) group.0.items (reverse ranges.new.items))) (λ q. IsPlaceQuery q × C.asks pd.new q × (ranges.new ≡ ranges.old)) ⊥) }
-    ensures why { IfErr result (OrStarved (MayRefuseKeyStore C.refuses)) }
+    ensures why { IfErr result (λ error. error ≡ OutOfMemory) }
     ensures changed { C.looked pd.old pd.new }
 {
     let Some(range) = ranges.as_slice().last() else {

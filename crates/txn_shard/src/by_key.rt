@@ -2,7 +2,8 @@
 ghost use Rattle.std.specs.Prelude.{◌≡◌, ◌++◌, ◌∷◌, ◌<◌, [], true, List, Ok, None, IfErr, IfOk, IfSome, map, refl};
 ghost use Rattle.std.proofs.Common.{ap};
 ghost use Rattle.std.specs.List.{All};
-ghost use Rattle.txn_region.specs.Clients.{IsPlaceQuery, MayRefuseKeyStore, OrStarved};
+ghost use Rattle.txn_kv.specs.declared.errors.Error.TheVariants.{OutOfMemory};
+ghost use Rattle.txn_region.specs.Clients.{IsPlaceQuery};
 ghost use Rattle.txn_region.specs.Regions.{Key as Bytes};
 ghost use Rattle.txn_shard.specs.Parting.{IsAlone-again, KeyIsFound-none, GetPart-applied, GetPart-part, CleanupPart-applied, CleanupPart-part, TxnHeartBeatPart-applied, TxnHeartBeatPart-part, CheckTxnStatusPart-applied, CheckTxnStatusPart-part};
 ghost use Rattle.txn_shard.specs.Parts.{IsPlaced, GetPart, CleanupPart, TxnHeartBeatPart, CheckTxnStatusPart};
@@ -29,7 +30,7 @@ fn shard_of_key<C: PdClient>(
     ensures stays { (more : List (Bytes × RegionStore)) × (found.new.shards.items ≡ found.old.shards.items ++ more) }
     ensures all { result ≡ Ok None → IsAlone key.now (shards_of found.new) }
     ensures left { IfOk result (λ query. IfSome query (λ q. IsPlaceQuery q × C.asks pd.new q × (IsAlone key.now (shards_of found.new) → ⊥))) }
-    ensures why { IfErr result (OrStarved (MayRefuseKeyStore C.refuses)) }
+    ensures why { IfErr result (λ error. error ≡ OutOfMemory) }
     ensures changed { C.looked pd.old pd.new }
 {
     if found.next > 0 {

@@ -3,7 +3,8 @@ ghost use Rattle.std.specs.Prelude.{◌≡◌, ◌++◌, ◌∷◌, ◌<◌, ◌
 ghost use Rattle.std.proofs.Common.{ap, ◌∙◌};
 ghost use Rattle.std.specs.List.{All};
 ghost use Rattle.txn_kv.specs.declared.message.Mutation.{Mutation as Mutated};
-ghost use Rattle.txn_region.specs.Clients.{IsPlaceQuery, IsUsable, MayRefuseKeyStore, OrStarved};
+ghost use Rattle.txn_kv.specs.declared.errors.Error.TheVariants.{OutOfMemory};
+ghost use Rattle.txn_region.specs.Clients.{IsPlaceQuery, IsUsable};
 ghost use Rattle.txn_region.specs.Groups.{IsKeyGroup};
 ghost use Rattle.txn_region.specs.Regions.{Key as Bytes};
 ghost use Rattle.txn_shard.specs.Cutting.{AreJoined-whole, AreJoined-again, ArePieces-whole, ArePieces-again, piece_in_order};
@@ -42,7 +43,7 @@ fn shards_by_keys<K: AsKey + TryClone + InBytes, C: PdClient>(
     ensures stays { (more : List (List _ × RegionStore)) × (found.new.shards.items ≡ found.old.shards.items ++ more) }
     ensures all { result ≡ Ok None → AreJoined (in_order K.key items.now) (shards_of found.new) }
     ensures left { IfOk result (λ query. IfSome query (λ q. IsPlaceQuery q × C.asks pd.new q × (AreJoined (in_order K.key items.now) (shards_of found.new) → ⊥))) }
-    ensures why { IfErr result (OrStarved (MayRefuseKeyStore C.refuses)) }
+    ensures why { IfErr result (λ error. error ≡ OutOfMemory) }
     ensures changed { C.looked pd.old pd.new }
 {
     let order = order_of(alloc, items, found)?;
@@ -81,7 +82,7 @@ fn find_groups<K: AsKey + TryClone + InBytes, C: PdClient>(
     ensures stays { (more : List (List _ × RegionStore)) × (found.new.shards.items ≡ found.old.shards.items ++ more) }
     ensures all { result ≡ Ok None → AreJoined order.now (shards_of found.new) }
     ensures left { IfOk result (λ query. IfSome query (λ q. IsPlaceQuery q × C.asks pd.new q × (AreJoined order.now (shards_of found.new) → ⊥))) }
-    ensures why { IfErr result (OrStarved (MayRefuseKeyStore C.refuses)) }
+    ensures why { IfErr result (λ error. error ≡ OutOfMemory) }
     ensures changed { C.looked pd.old pd.new }
 {
     while found.next < order.len() {

@@ -1,7 +1,8 @@
 //! Requests for a range of keys, cut by region from the lower to the upper bound.
 ghost use Rattle.std.specs.Prelude.{◌≡◌, ◌++◌, ◌+◌, ◌^◌, ◌<◌, List, Ok, Some, None, IfErr, IfOk, IfSome, OnOk, length, refl};
 ghost use Rattle.std.proofs.Common.{ap};
-ghost use Rattle.txn_region.specs.Clients.{IsPlaceQuery, IsUsable, MayRefuseKeyStore, OrStarved};
+ghost use Rattle.txn_kv.specs.declared.errors.Error.TheVariants.{OutOfMemory};
+ghost use Rattle.txn_region.specs.Clients.{IsPlaceQuery, IsUsable};
 ghost use Rattle.txn_region.specs.Groups.{IsRangePiece};
 ghost use Rattle.txn_region.specs.Regions.{is_below};
 ghost use Rattle.txn_shard.specs.Cutting.{IsPartition-whole, IsPartition-again};
@@ -28,7 +29,7 @@ fn shards_by_range<C: PdClient>(
     ensures stays { (more : List (Range × RegionStore)) × (found.new.shards.items ≡ found.old.shards.items ++ more) }
     ensures all { result ≡ Ok None → IsPartition range.now (shards_of found.new) }
     ensures left { IfOk result (λ query. IfSome query (λ q. IsPlaceQuery q × C.asks pd.new q × (IsPartition range.now (shards_of found.new) → ⊥))) }
-    ensures why { IfErr result (OrStarved (MayRefuseKeyStore C.refuses)) }
+    ensures why { IfErr result (λ error. error ≡ OutOfMemory) }
     ensures changed { C.looked pd.old pd.new }
 {
     let next = next_start(range, found)?;
@@ -71,7 +72,7 @@ fn find_pieces<C: PdClient>(
     ensures stays { (more : List (Range × RegionStore)) × (found.new.shards.items ≡ found.old.shards.items ++ more) }
     ensures all { result ≡ Ok None → IsPartition range.now (shards_of found.new) }
     ensures left { IfOk result (λ query. IfSome query (λ q. IsPlaceQuery q × C.asks pd.new q × (IsPartition range.now (shards_of found.new) → ⊥))) }
-    ensures why { IfErr result (OrStarved (MayRefuseKeyStore C.refuses)) }
+    ensures why { IfErr result (λ error. error ≡ OutOfMemory) }
     ensures changed { C.looked pd.old pd.new }
 {
     let mut next = next;

@@ -1,7 +1,8 @@
 ghost use Rattle.std.specs.Prelude.{◌≡◌, ◌++◌, ◌∷◌, [], List, IfErr, IfOk, IfSome, OnOk, OnErr, Ok, Err, Some, None, map};
 ghost use Rattle.std.specs.List.{All};
 ghost use Rattle.txn_kv.specs.Region.{context_of};
-ghost use Rattle.txn_region.specs.Clients.{IsPlaceQuery, MayRefuseKeyStore, OrStarved};
+ghost use Rattle.txn_kv.specs.declared.errors.Error.TheVariants.{OutOfMemory};
+ghost use Rattle.txn_region.specs.Clients.{IsPlaceQuery, OrStarved};
 ghost use Rattle.txn_shard.specs.Shards.{shards_of, IsAt, IsFresh};
 
 use crate::shard_list::ShardList;
@@ -53,7 +54,7 @@ pub trait Shardable {
         ensures all { result ≡ Ok None → AreCut (load self.now) (map load_of (shards_of found.new)) }
         ensures left { IfOk result (λ query. IfSome query (λ q. IsPlaceQuery q × C.asks pd.new q × (AreCut (load self.now) (map load_of (shards_of found.new)) → ⊥))) }
         ensures inside { All (λ f. IsAt LiesIn (load_of f.0) f.1) found.new.shards.items }
-        ensures why { IfErr result (OrStarved (MayRefuseKeyStore C.refuses)) }
+        ensures why { IfErr result (λ error. error ≡ OutOfMemory) }
         ensures changed { C.looked pd.old pd.new };
 
     /// Asks for one shard, at the store that it goes to. A refusal changes nothing.
