@@ -28,9 +28,8 @@ use Rattle.txn_plan.specs.Applied.{IsApplied}
 use Rattle.txn_plan.specs.LookUp.{call_waits, fresh-unbegun, looked_up}
 use Rattle.txn_plan.proofs.LastPosted.{calls_none, never_fails, one_awaited}
 use Rattle.txn_region.specs.Clients.{IsPlaceQuery, IsRefused, OrStarved}
-use Rattle.txn_region.specs.Refusals.{IsPlacementError}
 use Rattle.txn_region.specs.declared.store.RegionStore.{RegionStore}
-use Rattle.txn_multi.specs.Cutting.{cut_phase, cut_waits, cutting, cutting-lawful, AreApplied, ArePartsOf, AreWithin, CutAt, GivesParts, IfParts, IsPartOf, IsPlacement, Looking, UnfoundIfErr, WhyUnfound}
+use Rattle.txn_multi.specs.Cutting.{cut_phase, cut_waits, cutting, cutting-lawful, AreApplied, ArePartsOf, AreWithin, CutAt, GivesParts, IfParts, IsLookUpRefused, IsPartOf, IsPlacement, Looking, UnfoundIfErr}
 use Rattle.txn_multi.specs.Few.{AreFew}
 use Rattle.txn_multi.specs.Searching.{Holds, IsTaken, LooksOn}
 use Rattle.txn_multi.specs.declared.cut_stage.CutStage.{CutStage}
@@ -154,15 +153,10 @@ MayAsk-place s h r (inl a) = inl (s.query, a)
 MayAsk-place s h r (inr a) = inr a
 
 -- Why not all shards were found, from what the client refuses. Want of memory is another matter.
-
-pub unfound_placed : (h : List Event) (why : Error) → OrStarved IsPlacementError why → OrStarved (WhyUnfound h) why
-unfound_placed h why (inl starved) = inl starved
-unfound_placed h why (inr placed) = inr (inl placed)
-
 pub unfound_learnt : (call : PdCall) (answer : Result PdAnswer Error) (h : List Event) (why : Error) → IsPlaceQuery call.query → looked_up.gives call h answer
-    → OrStarved (IsRefused call.query answer) why → OrStarved (WhyUnfound h) why
+    → OrStarved (IsRefused call.query answer) why → OrStarved (IsLookUpRefused h) why
 unfound_learnt call answer h why place given (inl starved) = inl starved
-unfound_learnt call answer h why place given (inr refused) = inr (inr (record { call = call; place = place; answer = answer; given = given; refused = refused }))
+unfound_learnt call answer h why place given (inr refused) = inr (record { call = call; place = place; answer = answer; given = given; refused = refused })
 
 pub unless_starved : (P : Error → Type 0) (why : Error) → (why ≡ OutOfMemory → ⊥) → OrStarved P why → P why
 unless_starved P why fed (inl starved) = absurd (fed starved)

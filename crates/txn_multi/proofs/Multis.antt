@@ -24,7 +24,7 @@ use Rattle.txn_kv.specs.declared.backoff.Backoff.{Backoff}
 use Rattle.txn_kv.specs.declared.errors.Error.{Error}
 use Rattle.txn_kv.specs.declared.message.RegionErr.{RegionErr}
 use Rattle.txn_kv.specs.declared.request.Request.{Request}
-use Rattle.txn_multi.specs.Cutting.{cut_phase, cut_waits, cutting, cutting-lawful, ArePartsOf, CutAt, IsPartOf, Looking, UnfoundIfErr, WhyUnfound}
+use Rattle.txn_multi.specs.Cutting.{cut_phase, cut_waits, cutting, cutting-lawful, ArePartsOf, CutAt, IsLookUpRefused, IsPartOf, Looking, UnfoundIfErr}
 use Rattle.txn_multi.specs.Multi.{multi, multi-lawful, multi_phase, number_of, tasks_for, AfterCut, AfterTasks, Begins, IsAnswer, MultiAsks, MultiGives, MultiWaits, StandsReady}
 use Rattle.txn_multi.specs.Task.{region_task, shared, stage_left, task_for, IsOutcome, IsTaskOf}
 use Rattle.txn_multi.specs.declared.multi_region.RetryableMultiRegion.{RetryableMultiRegion}
@@ -430,7 +430,7 @@ module _ {S R H L : Type 0} (m : Meaning S (Result R Error)) (keys : R → List 
   -- the first look-ups failed
   pub begins_refused : (s : RetryableMultiRegion S R H) (why : Error) {o : Posted}
       → IsUnbegun m s.inner → s.tasks ≡ None
-      → Begins (multi {H = H} m keys region is_part load are_cut most) (λ h. WhyUnfound h why) (record s { stage = stage.Fresh }) (record s { stage = stage.Over }) o o (Ends (Err why))
+      → Begins (multi {H = H} m keys region is_part load are_cut most) (λ h. IsLookUpRefused h why) (record s { stage = stage.Fresh }) (record s { stage = stage.Over }) o o (Ends (Err why))
   begins_refused s why ready none = record {
     tells = record {
       moves = Moves-quiet refl (λ h f. tt) (λ h f. inr (why, refl, f.1));

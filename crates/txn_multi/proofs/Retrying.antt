@@ -193,11 +193,9 @@ begun {m = m} law {job = job} fresh s = record {
 
 module _ {S R : Type 0} (m : Meaning S (Result R Error)) (keys : R → List ErrorView) (region : R → Option RegionErr) where
   -- what is known of a loss, whatever is done about it
-  pub may_lose : (used : RegionVerId) (job : S) (t : Ticket) (n : Next) (h : List Event) → m.gives job h (Err (errors.GrpcAPI t)) → MayGoOn m keys region used job (errors.GrpcAPI t) n h
-  may_lose used job t next.AtOnce h g = inl (t, g)
-  may_lose used job t (next.Sleep ms) h g = inl (t, g)
-  may_lose used job t next.End h g = inl g
-  may_lose used job t (next.EndWithoutEpoch id) h g = inr (inr (inl (t, g), inl tt))
+  pub may_lose : (used : RegionVerId) (job : S) (t : Ticket) (delay : Option ℕ) (n : Next) (h : List Event) → (on_loss delay).next ≡ n → m.gives job h (Err (errors.GrpcAPI t)) → MayGoOn m keys region used job (errors.GrpcAPI t) n h
+  may_lose used job t None n h is g = subst (λ (x : Next). MayGoOn m keys region used job (errors.GrpcAPI t) x h) is (inl g)
+  may_lose used job t (Some ms) n h is g = subst (λ (x : Next). MayGoOn m keys region used job (errors.GrpcAPI t) x h) is (inl (t, g))
 
   -- what is known of an error of the region
   pub may_refuse : (used : RegionVerId) (job : S) (e : RegionErr) (delay : Option ℕ) (failure : Error) (n : Next) (h : List Event) → (on_region_error delay e used).next ≡ n → IsRegionError e failure → IsRefused m keys region job h e → MayGoOn m keys region used job failure n h

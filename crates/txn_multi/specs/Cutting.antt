@@ -1,6 +1,6 @@
 -- A plan whose request is being cut into shards.
 use Rattle.std.specs.Prelude.{◌≡◌, ◌⊎◌, ⊤, ℕ, ◌≤◌, max, false, List, [], ◌∷◌, length, map, Some, Result, Ok, Err, refl}
-use Rattle.std.proofs.Common.{inl, inr, subst, sym}
+use Rattle.std.proofs.Common.{subst, sym}
 use Rattle.std.proofs.Math.Nat.{le_refl}
 use Rattle.std.specs.List.{All}
 use Rattle.std.specs.Global.{Vec}
@@ -19,8 +19,7 @@ use Rattle.txn_kv.specs.declared.query.PdQuery.{PdQuery}
 use Rattle.txn_kv.specs.declared.request.Request.{Request}
 use Rattle.txn_plan.specs.Applied.{IsApplied}
 use Rattle.txn_plan.specs.LookUp.{call_waits, looked_up, looked_up-lawful}
-use Rattle.txn_region.specs.Clients.{IsPlaceQuery, IsRefused}
-use Rattle.txn_region.specs.Refusals.{IsPlacementError}
+use Rattle.txn_region.specs.Clients.{IsPlaceQuery, IsRefused, IsUsable}
 use Rattle.txn_region.specs.declared.store.RegionStore.{RegionStore}
 use Rattle.txn_multi.specs.declared.cut_stage.CutStage.{CutStage}
 use Rattle.txn_multi.specs.declared.cut_stage.CutStage.TheVariants as stage
@@ -50,7 +49,11 @@ pub record ArePartsOf {S A L : Type 0} (m : Meaning S A) (is_part : S → S → 
   pub cut : are_cut (load whole) (map (λ p. load p.plan) parts)
   pub few : (n : ℕ) → length parts ≤ n → length parts ≤ most whole n
 
--- what came of a look-up of a place, which is refused
+-- each shard that was found goes to the store of a region that requests can be made for
+abbrev pub AreUsable : {H : Type 0} → ShardList H → Type 0
+AreUsable found = All (λ f. IsUsable f.1.region_with_leader) found.shards.items
+
+-- Why not all shards were found: what came of a look-up of a place is refused.
 pub record IsLookUpRefused (h : List Event) (why : Error) : Type 0 where
   pub call : PdCall
   pub place : IsPlaceQuery call.query
@@ -58,14 +61,10 @@ pub record IsLookUpRefused (h : List Event) (why : Error) : Type 0 where
   pub given : looked_up.gives call h answer
   pub refused : IsRefused call.query answer why
 
--- Why not all shards were found: a place is not known, or what came of a look-up is refused.
-abbrev pub WhyUnfound : List Event → Error → Type 0
-WhyUnfound h why = IsPlacementError why ⊎ IsLookUpRefused h why
-
 -- so of an error
 abbrev pub UnfoundIfErr : {A : Type 0} → List Event → Result A Error → Type 0
 UnfoundIfErr h (Ok x) = ⊤
-UnfoundIfErr h (Err why) = WhyUnfound h why
+UnfoundIfErr h (Err why) = IsLookUpRefused h why
 
 -- the parts, where all shards were found
 abbrev pub IfParts : {S A L : Type 0} → Meaning S A → (S → S → Type 0) → (S → L) → (L → List L → Type 0) → (S → ℕ → ℕ) → S → Result (Vec (Part S)) Error → Type 0
@@ -139,14 +138,13 @@ AreApplied applies whole (f ∷ fs) (p ∷ ps) = applies whole f.0 f.1 p.plan ×
 
 -- lemmas
 
-pub WhyUnfound-longer : (h longer : List Event) (why : Error) → Within h longer → WhyUnfound h why → WhyUnfound longer why
-WhyUnfound-longer h longer why w (inl placed) = inl placed
-WhyUnfound-longer h longer why w (inr r) =
-    inr (record { call = r.call; place = r.place; answer = r.answer; given = looked_up-lawful.gives_longer r.call h longer r.answer w r.given; refused = r.refused })
+pub IsLookUpRefused-longer : (h longer : List Event) (why : Error) → Within h longer → IsLookUpRefused h why → IsLookUpRefused longer why
+IsLookUpRefused-longer h longer why w r =
+    record { call = r.call; place = r.place; answer = r.answer; given = looked_up-lawful.gives_longer r.call h longer r.answer w r.given; refused = r.refused }
 
 UnfoundIfErr-longer : {A : Type 0} (h longer : List Event) (v : Result A Error) → Within h longer → UnfoundIfErr h v → UnfoundIfErr longer v
 UnfoundIfErr-longer h longer (Ok x) w u = tt
-UnfoundIfErr-longer h longer (Err why) w u = WhyUnfound-longer h longer why w u
+UnfoundIfErr-longer h longer (Err why) w u = IsLookUpRefused-longer h longer why w u
 
 CutAt-longer : (g : CutStage) (o p : Posted) (h longer : List Event) → IsLater o p → Within h longer → CutAt g o h → CutAt g p longer
 CutAt-longer stage.Fresh o p h longer l w f = tt

@@ -15,7 +15,7 @@ use Rattle.txn_kv.specs.ErrorView.{ErrorView}
 use Rattle.txn_kv.specs.declared.errors.Error.{Error}
 use Rattle.txn_kv.specs.declared.message.RegionErr.{RegionErr}
 use Rattle.txn_kv.specs.declared.request.Request.{Request}
-use Rattle.txn_multi.specs.Cutting.{cut_phase, cut_waits, cutting, cutting-lawful, CutAt, IsPlacement, Looking, UnfoundIfErr, WhyUnfound, WhyUnfound-longer}
+use Rattle.txn_multi.specs.Cutting.{cut_phase, cut_waits, cutting, cutting-lawful, CutAt, IsLookUpRefused, IsLookUpRefused-longer, IsPlacement, Looking, UnfoundIfErr}
 use Rattle.txn_multi.specs.Task.{outcome_longer, region_task, region_task-lawful, shared, stage_runs, IsOutcome, IsTaskOf}
 use Rattle.txn_multi.specs.declared.multi_region.RetryableMultiRegion.{RetryableMultiRegion}
 use Rattle.txn_multi.specs.declared.multi_stage.MultiStage.{MultiStage}
@@ -52,7 +52,7 @@ IsAnswer false outcomes (Err why) = all_or_first outcomes ≡ Err why
 abbrev pub MultiGives : {S R L : Type 0} → Meaning S (Result R Error) → (R → List ErrorView) → (R → Option RegionErr) → (S → S → Type 0) → (S → L) → (L → List L → Type 0) → S → Bool → List Event → Result (Vec (Result R Error)) Error → Type 0
 MultiGives {S} {R} m keys region is_part load are_cut inner preserve h v =
     ((parts : List (Part S)) × (outcomes : List (Outcome R)) × HaveEnded m keys region is_part load are_cut inner h parts outcomes × IsAnswer preserve outcomes v)
-    ⊎ ((why : Error) × (v ≡ Err why) × WhyUnfound h why)
+    ⊎ ((why : Error) × (v ≡ Err why) × IsLookUpRefused h why)
 
 -- it sends what some part may, and look-ups
 abbrev pub MultiAsks : {S A : Type 0} → Meaning S A → (S → S → Type 0) → S → List Event → Request → Type 0
@@ -161,7 +161,7 @@ module _ {S R : Type 0} (m : Meaning S (Result R Error)) (keys : R → List Erro
 
   answer_longer : {L : Type 0} (is_part : S → S → Type 0) (load : S → L) (are_cut : L → List L → Type 0) (inner : S) (preserve : Bool) (h longer : List Event) (v : Result (Vec (Result R Error)) Error) → Within h longer → MultiGives m keys region is_part load are_cut inner preserve h v → MultiGives m keys region is_part load are_cut inner preserve longer v
   answer_longer is_part load are_cut inner preserve h longer v w (inl g) = inl (g.0, g.1, record { cut = g.2.cut; belong = g.2.belong; each = ended_longer h longer g.0 g.1 w g.2.each }, g.3)
-  answer_longer is_part load are_cut inner preserve h longer v w (inr g) = inr (g.0, g.1, WhyUnfound-longer h longer g.0 w g.2)
+  answer_longer is_part load are_cut inner preserve h longer v w (inr g) = inr (g.0, g.1, IsLookUpRefused-longer h longer g.0 w g.2)
 
 module _ {S R H L : Type 0} (m : Meaning S (Result R Error)) (keys : R → List ErrorView) (region : R → Option RegionErr) (is_part : S → S → Type 0) (load : S → L) (are_cut : L → List L → Type 0) (most : S → ℕ → ℕ) (law : IsLawful m) where
   looking : IsLawful (cutting {H = H} m is_part load are_cut most)

@@ -24,7 +24,7 @@ use Rattle.txn_kv.specs.declared.message.RegionErr.{RegionErr}
 use Rattle.txn_kv.specs.declared.region.RegionVerId.{RegionVerId}
 use Rattle.txn_kv.specs.declared.request.Request.{Request}
 use Rattle.txn_kv.specs.declared.ticket.Ticket.{Ticket}
-use Rattle.txn_multi.specs.Cutting.{cut_phase, cut_waits, cutting, cutting-lawful, ArePartsOf, CutAt, IsPlacement, WhyUnfound, WhyUnfound-longer}
+use Rattle.txn_multi.specs.Cutting.{cut_phase, cut_waits, cutting, cutting-lawful, ArePartsOf, CutAt, IsLookUpRefused, IsLookUpRefused-longer, IsPlacement}
 use Rattle.txn_multi.specs.declared.part.Part.{Part}
 use Rattle.txn_multi.specs.declared.stage.Stage.{Stage}
 use Rattle.txn_multi.specs.declared.stage.Stage.TheVariants as stage
@@ -73,7 +73,7 @@ pub record IsRefusedFor {S R : Type 0} (m : Meaning S (Result R Error)) (keys : 
 -- had failed, and this is why its shards were not found again.
 abbrev pub IsOutcome : {S R : Type 0} → Meaning S (Result R Error) → (R → List ErrorView) → (R → Option RegionErr) → RegionVerId → S → List Event → Result (Result R Error) Error → Type 0
 IsOutcome m keys region used job h (Ok result) = IsResult m keys region job h result
-IsOutcome m keys region used job h (Err why) = m.gives job h (Err why) ⊎ (IsRefusedFor m keys region used job h why ⊎ (HasFailed m keys region job h × WhyUnfound h why))
+IsOutcome m keys region used job h (Err why) = m.gives job h (Err why) ⊎ (IsRefusedFor m keys region used job h why ⊎ (HasFailed m keys region job h × IsLookUpRefused h why))
 
 -- a task for a part, which was not started
 abbrev pub task_for : {S R H : Type 0} → Global → Backoff → Part S → RegionTask S R H
@@ -259,7 +259,7 @@ module _ {S R : Type 0} (m : Meaning S (Result R Error)) (keys : R → List Erro
   outcome_longer used job h longer (Ok v) w i = result_longer job h longer v w i
   outcome_longer used job h longer (Err why) w (inl own) = inl (law.gives_longer job h longer (Err why) w own)
   outcome_longer used job h longer (Err why) w (inr (inl r)) = inr (inl (record { error = r.error; delay = r.delay; refused = refused_longer job h longer r.error w r.refused; end = r.end }))
-  outcome_longer used job h longer (Err why) w (inr (inr f)) = inr (inr (failed_longer job h longer w f.0, WhyUnfound-longer h longer why w f.1))
+  outcome_longer used job h longer (Err why) w (inr (inr f)) = inr (inr (failed_longer job h longer w f.0, IsLookUpRefused-longer h longer why w f.1))
 
 module _ {S R H L : Type 0} (m : Meaning S (Result R Error)) (keys : R → List ErrorView) (region : R → Option RegionErr) (is_part : S → S → Type 0) (load : S → L) (are_cut : L → List L → Type 0) (most : S → ℕ → ℕ) (law : IsLawful m) where
   looking : IsLawful (cutting {H = H} m is_part load are_cut most)

@@ -1,5 +1,6 @@
 //! A plan whose request is being cut into shards.
 ghost use Rattle.std.specs.Bool.{MatchBool};
+ghost use Rattle.std.specs.List.{All};
 ghost use Rattle.std.specs.Prelude.{◌≡◌, ◌≤◌, ◌++◌, ◌∷◌, [], ⊤, IfErr, IfOk, IfSome, MatchOption, None, Ok, OnOk, false, length, map, true};
 ghost use Rattle.txn_history.specs.Faults.{has_error, has_region_error};
 ghost use Rattle.txn_history.specs.Meaning.{missed, replied, started, woken, Counts, Goes, IsUnbegun, Tells};
@@ -13,12 +14,11 @@ ghost use Rattle.txn_history.specs.Turn.{turn_of, IfEnds, IfKept};
 ghost use Rattle.txn_history.specs.Turn.Turn.{Ends, Stopped, Waits};
 ghost use Rattle.txn_kv.specs.declared.errors.Error.TheVariants.{OutOfMemory};
 ghost use Rattle.txn_kv.specs.declared.request.Request.{Request as Asked};
-ghost use Rattle.txn_multi.specs.Cutting.{cut_phase, cut_waits, cutting, AreApplied, AreWithin, IfParts, WhyUnfound};
+ghost use Rattle.txn_multi.specs.Cutting.{cut_phase, cut_waits, cutting, AreApplied, AreUsable, AreWithin, IfParts, IsLookUpRefused};
 ghost use Rattle.txn_multi.specs.Searching.{Holds, IsTaken, LooksOn, Seeks};
 ghost use Rattle.txn_plan.specs.LookUp.{call_waits, looked_up, AwaitsLast};
 ghost use Rattle.txn_plan.specs.Touch.{touch};
-ghost use Rattle.txn_region.specs.Clients.{IsPlaceQuery, OrStarved};
-ghost use Rattle.txn_region.specs.Refusals.{IsPlacementError};
+ghost use Rattle.txn_region.specs.Clients.{IsPlaceQuery, IsUsable, OrStarved};
 ghost use Rattle.txn_shard.specs.Shards.{shards_of};
 ghost use Rattle.txn_tso.specs.Calling.{CallFits};
 
@@ -334,8 +334,9 @@ where
         ensures same { (self.new.plan ≡ self.old.plan) × (self.new.stage ≡ self.old.stage) }
         ensures wider { self.old.width ≤ self.new.width }
         ensures all { result ≡ Ok None → P.AreCut (P.load self.old.plan) (map P.load_of (shards_of self.new.found)) }
+        ensures usable { AreUsable self.new.found }
         ensures place { IfOk result (λ query. IfSome query IsPlaceQuery) }
-        ensures why { IfErr result (OrStarved IsPlacementError) }
+        ensures why { IfErr result (λ error. error ≡ OutOfMemory) }
         ensures changed { C.looked pd.old pd.new }
     {
         let query = self.plan.shards(self.alloc, pd, &mut self.found);
@@ -368,6 +369,7 @@ where
         requires stopped { self.old.stage ≡ CutStage.Stopped }
         requires ready { IsUnbegun P.meaning self.old.plan }
         requires all { P.AreCut (P.load self.old.plan) (map P.load_of (shards_of self.old.found)) }
+        requires usable { AreUsable self.old.found }
         ensures on { (o : Posted) → LooksOn P.meaning P.IsPart P.load P.AreCut P.most (λ h. ⊤) (λ a. ⊥) self.old self.new o o (turn_of result) }
     {
         let found = mem::replace(&mut self.found, ShardList::new(self.alloc));
@@ -380,7 +382,7 @@ where
     /// An error as the answer. Want of memory is none.
     fn refuse(&mut self, error: Error) -> Turn<Vec<Part<P>>>
         requires stopped { self.old.stage ≡ CutStage.Stopped }
-        ensures on { (o : Posted) → LooksOn P.meaning P.IsPart P.load P.AreCut P.most (λ h. OrStarved (WhyUnfound h) error) (λ a. ⊥) self.old self.new o o (turn_of result) }
+        ensures on { (o : Posted) → LooksOn P.meaning P.IsPart P.load P.AreCut P.most (λ h. OrStarved (IsLookUpRefused h) error) (λ a. ⊥) self.old self.new o o (turn_of result) }
         ensures kept { IfKept (turn_of result) (error ≡ OutOfMemory → ⊥) }
     {
         match error {
@@ -407,9 +409,10 @@ fn parts_of<P: ShardPlan>(
     plan: &P,
     shards: Vec<(P::Shard, RegionStore)>,
 ) -> Result<Vec<Part<P>>>
-    requires { IsUnbegun P.meaning plan.now }
+    requires unbegun { IsUnbegun P.meaning plan.now }
+    requires usable { All (λ f. IsUsable f.1.region_with_leader) shards.items }
     ensures parts { IfOk result (λ parts. AreApplied P.Applies plan.now shards.items parts.items) }
-    ensures why { IfErr result (OrStarved IsPlacementError) }
+    ensures why { IfErr result (λ error. error ≡ OutOfMemory) }
 {
     let mut parts = Vec::new(alloc);
     for (shard, store) in shards {
@@ -425,11 +428,12 @@ fn push<T: Drop>(items: &mut Vec<T>, item: T) -> std::result::Result<(), NoMemor
     Ok(())
 }
 
-#[tactic(auto, using(txn_region::specs::Refusals::context_refused, txn_region::specs::Refusals::ver_id_refused))]
+#[tactic(auto, using(txn_region::specs::Refusals::has_context, txn_region::specs::Refusals::has_version))]
 fn part_of<P: ShardPlan>(plan: &P, shard: P::Shard, store: &RegionStore) -> Result<Part<P>>
-    requires { IsUnbegun P.meaning plan.now }
+    requires unbegun { IsUnbegun P.meaning plan.now }
+    requires usable { IsUsable store.now.region_with_leader }
     ensures part { IfOk result (λ part. P.Applies plan.now shard store.now part.plan) }
-    ensures why { IfErr result (OrStarved IsPlacementError) }
+    ensures why { IfErr result (λ error. error ≡ OutOfMemory) }
 {
     let mut part = plan.try_clone()?;
     part.apply_shard(shard, store)?;

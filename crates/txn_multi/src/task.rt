@@ -461,7 +461,7 @@ where
     P::Result: HasKeyErrors + HasRegionError,
     ensures { IfOk result (λ tasks. tasks.items ≡ map (task_for alloc backoff) parts.items) }
 {
-    let mut tasks = Vec::new(alloc);
+    let mut tasks = Vec::with_capacity(alloc, parts.len())?;
     for part in parts {
         tasks.push(RegionTask::new(alloc, part, backoff))?;
     }

@@ -1,8 +1,8 @@
-use Rattle.std.proofs.Common.{ap, refl}
+use Rattle.std.proofs.Common.{ap, inl, refl}
 use Rattle.std.proofs.Math.Nat.{le_refl}
 use Rattle.std.specs.Prelude.{Ok}
 use Rattle.txn_multi.specs.Cutting.{Looking}
-use Rattle.txn_multi.proofs.Lookings.{ended, from_mid, same_length, unfound_placed, ArePartsOf-applied}
+use Rattle.txn_multi.proofs.Lookings.{ended, from_mid, same_length, ArePartsOf-applied}
 use Rattle.txn_multi.proofs.cutting.Cutting.end.Goals as goal
 
 pub returns-in-Ok : goal.returns-in-Ok
@@ -17,4 +17,4 @@ returns-in-Ok g c =
     rw (← c.self.view_is) (record { on = λ o. rw c.answer.ensures.turn (ended g.P.Plan.meaning g.P.Shardable.IsPart g.P.Shardable.load g.P.Shardable.AreCut g.P.RegionPlan.most (Ok c.in-Ok.parts) (ap (λ (x : Looking _ _). x.stage) s) (ap (λ (x : Looking _ _). x.plan) s) (ap (λ (x : Looking _ _). x.width) s) parts (λ h k. tt) (rw (ap (λ (x : Looking _ _). x.width) s, few) c.self.invariant.1)) })
 
 pub returns : goal.returns
-returns g c = rw (← c.self.view_is) (record { on = λ o. from_mid g.P.Plan.meaning g.P.Shardable.IsPart g.P.Shardable.load g.P.Shardable.AreCut g.P.RegionPlan.most (λ h k. unfound_placed h c.in-Err.error c.in-Err.ensures.why) refl (le_refl _) (c.refuse.ensures.on o) })
+returns g c = rw (← c.self.view_is) (record { on = λ o. from_mid g.P.Plan.meaning g.P.Shardable.IsPart g.P.Shardable.load g.P.Shardable.AreCut g.P.RegionPlan.most (λ h k. inl c.in-Err.ensures.why) refl (le_refl _) (c.refuse.ensures.on o) })

@@ -5,7 +5,7 @@ use Rattle.txn_multi.proofs.Retrying.{keeps_at, loss_drops, loss_waits, may_lose
 use Rattle.txn_multi.proofs.task.RegionTask.take_loss.Goals as goal
 
 pub returns-clause-over : goal.returns-clause-over
-returns-clause-over g c = Over-before (λ h f. may_lose g.P.Plan.meaning g.P.Result.HasKeyErrors.key_errors_in g.P.Result.HasRegionError.region_error_in c.args.self.now.region c.args.self.now.job c.args.ticket _ h f) (Over-mid (record { asked = λ h r x. x; given = λ h v x. x; gave = λ h v x. x }) c.heed.ensures.over)
+returns-clause-over g c = Over-before (λ h f. may_lose g.P.Plan.meaning g.P.Result.HasKeyErrors.key_errors_in g.P.Result.HasRegionError.region_error_in c.args.self.now.region c.args.self.now.job c.args.ticket (delay_ms c.args.self.now.backoff) _ h (ap (λ (r : Remedy). r.next) (sym c.on_loss-remedy.ensures.remedy)) f) (Over-mid (record { asked = λ h r x. x; given = λ h v x. x; gave = λ h v x. x }) c.heed.ensures.over)
 
 pub returns-clause-keeps : goal.returns-clause-keeps
 returns-clause-keeps g c = keeps_at _ _ _ _ _ _ _ c.args.self.now _ _ refl c.heed.ensures.keeps
