@@ -19,6 +19,8 @@ use Rattle.txn_kv.specs.declared.region.RegionWithLeader.{RegionWithLeader}
 use Rattle.txn_kv.specs.declared.reply.GetRegionResponse.{GetRegionResponse}
 use Rattle.txn_kv.specs.declared.reply.Reply.{Reply}
 use Rattle.txn_kv.specs.declared.reply.Reply.TheVariants as reply
+use Rattle.txn_kv.specs.declared.request.Request.{Request}
+use Rattle.txn_kv.specs.declared.request.Request.TheVariants as request
 
 -- Errors
 
@@ -91,17 +93,18 @@ region_in _ = None
 abbrev pub HasRegion : (RegionWithLeader → Type 0) → Reply → Type 0
 HasRegion is o = (r : RegionWithLeader) × (region_in o ≡ Some r) × is r
 
--- a look-up by a key found none
-abbrev pub FoundNone : Reply → Type 0
-FoundNone (reply.GetRegion o) = o.region ≡ None
-FoundNone _ = ⊥
+-- a look-up found no region
+abbrev pub FoundNone : Request → Reply → Type 0
+FoundNone (request.GetRegion r) (reply.GetRegion o) = o.region ≡ None
+FoundNone (request.GetRegionById r) (reply.GetRegionById o) = o.region ≡ None
+FoundNone _ _ = ⊥
 
--- A look-up did not find the region that was asked for: one by an id found none of that id; one by a key found the region of
--- the id, in which some key does not lie.
-abbrev pub FoundOther : ℕ → Reply → Type 0
-FoundOther id (reply.GetRegionById o) = (region : Region) → o.region ≡ Some region → region.id ≢ id
-FoundOther id (reply.GetRegion o) = (region : Region) × (key : List ℕ) × (o.region ≡ Some region) × (region.id ≡ id) × (contains_key region key ≡ false)
-FoundOther id _ = ⊥
+-- A look-up did not find the region that was asked for: one by this id found none of that id; one by a key found the region of
+-- the id, in which that key does not lie.
+abbrev pub FoundOther : ℕ → Request → Reply → Type 0
+FoundOther id (request.GetRegionById r) (reply.GetRegionById o) = (r.region_id ≡ id) × ((region : Region) → o.region ≡ Some region → region.id ≢ id)
+FoundOther id (request.GetRegion r) (reply.GetRegion o) = (region : Region) × (o.region ≡ Some region) × (region.id ≡ id) × (contains_key region r.region_key ≡ false)
+FoundOther id _ _ = ⊥
 
 -- What is wrong with a region.
 

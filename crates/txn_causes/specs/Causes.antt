@@ -1,9 +1,10 @@
 -- What an error of a call has its cause in.
-use Rattle.std.specs.Prelude.{◌≢◌, ◌⊎◌, ⊤, List, [], ◌∷◌, refl}
-use Rattle.std.proofs.Common.{inl, inr}
+use Rattle.std.specs.Prelude.{◌≡◌, ◌≢◌, ◌⊎◌, ◌<◌, ⊤, ℕ, List, [], ◌∷◌, refl}
+use Rattle.std.proofs.Common.{inl, inr, zero, suc}
 use Rattle.txn_causes.specs.Carried.{FoundNone, FoundOther, HasBadKey, HasKeyError, HasLock, HasNoEpoch, HasNoLeader, HasRegion, HasRegionError, IsReversed, ToldWithoutEpoch}
 use Rattle.txn_causes.specs.Heard.{Heard}
-use Rattle.txn_causes.specs.Heard.Heard.{TookReply, TookUnlike, WasLost, HadNoPlace}
+use Rattle.txn_causes.specs.Kinds.{IsOfKind}
+use Rattle.txn_causes.specs.Heard.Heard.{TookReply, WasLost}
 use Rattle.txn_history.specs.Among.{IsAmong}
 use Rattle.txn_kv.specs.ErrorView.{ErrorView, ErrorViews}
 use Rattle.txn_kv.specs.ErrorView.ErrorView.{plain, locks, region, undetermined, key, extracted, multiple, kv, text, pessimistic}
@@ -14,35 +15,57 @@ use Rattle.txn_kv.specs.declared.errors.Internal.{Internal}
 use Rattle.txn_kv.specs.declared.errors.Internal.TheVariants.{BadEnd, BadPadding, ReversedRegion, NoEpoch, WrongReply}
 use Rattle.txn_kv.specs.declared.message.LockInfo.{LockInfo}
 use Rattle.txn_kv.specs.declared.reply.Reply.{Reply}
+use Rattle.txn_kv.specs.declared.request.Request.{Request}
+use Rattle.txn_kv.specs.declared.request.Request.TheVariants.{GetAllStores, GetRegion, GetRegionById, GetStore, Members, UpdateGcSafePoint}
 use Rattle.txn_kv.specs.declared.ticket.Ticket.{Ticket}
 
 -- `K` says what was heard, by whatever evidence.
 
--- a reply was taken that is so
-abbrev pub Taken : (Heard → Type 0) → (Reply → Type 0) → Type 0
-Taken K is = (t : Ticket) × (o : Reply) × K (TookReply t o) × is o
+-- a reply was taken to a request, which are so
+abbrev pub Taken : (Heard → Type 0) → (Request → Reply → Type 0) → Type 0
+Taken K are = (t : Ticket) × (r : Request) × (o : Reply) × K (TookReply t r o) × are r o
 
--- so it is, or the client itself had no place for a request
-abbrev pub TakenOrUnplaced : (Heard → Type 0) → (Reply → Type 0) → Error → Type 0
-TakenOrUnplaced K is error = Taken K is ⊎ K (HadNoPlace (plain error))
+-- a try of a request to the placement driver failed: it was lost, or found no region
+abbrev pub HasFailed : (Heard → Type 0) → Ticket → Request → Type 0
+HasFailed K t r = K (WasLost t r) ⊎ ((o : Reply) × K (TookReply t r o) × FoundNone r o)
+
+-- so many tries of it failed before the one with this ticket, in the name of the same line: the numbers of their tickets fall
+abbrev pub HaveFailed : (Heard → Type 0) → Request → Ticket → ℕ → Type 0
+HaveFailed K r t zero = ⊤
+HaveFailed K r t (suc n) = (u : Ticket) × (u.line ≡ t.line) × (u.number < t.number) × HasFailed K u r × HaveFailed K r u n
+
+-- How often a request to the placement driver is tried again before its failure is told: a query ten times in all, one for the
+-- members five times. What a plan sends to a store it tries by its own count, of which nothing is said.
+abbrev pub retries : Request → ℕ
+retries (GetRegion r) = 9
+retries (GetRegionById r) = 9
+retries (GetStore r) = 9
+retries (GetAllStores r) = 9
+retries (UpdateGcSafePoint r) = 9
+retries (Members r) = 4
+retries _ = 0
+
+-- a look-up found no region, and as often as it is tried again it had failed before
+abbrev pub FoundNoRegion : (Heard → Type 0) → Request → Type 0
+FoundNoRegion K r = (t : Ticket) × (o : Reply) × K (TookReply t r o) × FoundNone r o × HaveFailed K r t (retries r)
 
 -- Something is wrong with a region record in a taken reply, or a taken reply is of another kind than its request. The rest of
 -- these errors are of calls other than commits and rollbacks.
 abbrev pub InternalCause : (Heard → Type 0) → Internal → Type 0
-InternalCause K (BadEnd at) = Taken K (HasRegion (HasBadKey (BadEnd at)))
-InternalCause K (BadPadding at) = Taken K (HasRegion (HasBadKey (BadPadding at)))
-InternalCause K (ReversedRegion id) = Taken K (HasRegion (IsReversed id))
-InternalCause K (NoEpoch id) = TakenOrUnplaced K (λ o. HasRegion (λ r. HasNoEpoch id r.region) o ⊎ ToldWithoutEpoch id o) (InternalError (NoEpoch id))
-InternalCause K WrongReply = (t : Ticket) × (o : Reply) × K (TookUnlike t o)
+InternalCause K (BadEnd at) = Taken K (λ q. HasRegion (HasBadKey (BadEnd at)))
+InternalCause K (BadPadding at) = Taken K (λ q. HasRegion (HasBadKey (BadPadding at)))
+InternalCause K (ReversedRegion id) = Taken K (λ q. HasRegion (IsReversed id))
+InternalCause K (NoEpoch id) = Taken K (λ q o. HasRegion (λ r. HasNoEpoch id r.region) o ⊎ ToldWithoutEpoch id o)
+InternalCause K WrongReply = Taken K (λ q o. IsOfKind q o → ⊥)
 InternalCause K _ = ⊥
 
--- An error that holds no other: a request was lost, or a look-up did not find what it was to find. A call may want for memory at
--- any time, and needs no cause for that. The rest are no errors of plans.
+-- An error that holds no other: a request was lost, and as often as it is tried again it had failed before; or a look-up did not
+-- find what it was to find. A call may want for memory at any time, and needs no cause for that. The rest are no errors of plans.
 abbrev pub PlainCause : (Heard → Type 0) → Error → Type 0
-PlainCause K (GrpcAPI ticket) = K (WasLost ticket)
-PlainCause K (RegionForKeyNotFound wanted) = TakenOrUnplaced K FoundNone (RegionForKeyNotFound wanted)
-PlainCause K (RegionNotFoundInResponse id) = TakenOrUnplaced K (FoundOther id) (RegionNotFoundInResponse id)
-PlainCause K (LeaderNotFound id) = TakenOrUnplaced K (HasRegion (HasNoLeader id)) (LeaderNotFound id)
+PlainCause K (GrpcAPI ticket) = (r : Request) × K (WasLost ticket r) × HaveFailed K r ticket (retries r)
+PlainCause K (RegionForKeyNotFound wanted) = FoundNoRegion K (GetRegion (record { region_key = wanted }))
+PlainCause K (RegionNotFoundInResponse id) = Taken K (FoundOther id)
+PlainCause K (LeaderNotFound id) = Taken K (λ q. HasRegion (HasNoLeader id))
 PlainCause K (InternalError what) = InternalCause K what
 PlainCause K OutOfMemory = ⊤
 PlainCause K _ = ⊥
@@ -51,26 +74,27 @@ abbrev pub AreSome : ErrorViews → Type 0
 AreSome none = ⊥
 AreSome (more error errors) = ⊤
 
--- The cause of an error, by what is seen of it. Errors of regions and keys, and locks, stand in taken replies. An error that
--- holds others has their causes, and holds some. A text is said only by a client that had no place.
+-- The cause of an error, by what is seen of it. Errors of regions and keys, and locks, stand in taken replies. A list of errors
+-- has the cause of each, and is not empty. No plan says that an end is not known: a commit or a rollback says so around an error of
+-- its plans.
 abbrev mutual
   pub HasCause : (Heard → Type 0) → ErrorView → Type 0
   HasCause K (plain error) = PlainCause K error
-  HasCause K (locks found) = (found ≢ []) × ((lock : LockInfo) → IsAmong found lock → Taken K (HasLock lock))
-  HasCause K (region error) = Taken K (HasRegionError error)
-  HasCause K (undetermined inner) = HasCause K inner
-  HasCause K (key error) = Taken K (HasKeyError error)
+  HasCause K (locks found) = (found ≢ []) × ((lock : LockInfo) → IsAmong found lock → Taken K (λ q. HasLock lock))
+  HasCause K (region error) = Taken K (λ q. HasRegionError error)
+  HasCause K (undetermined inner) = ⊥
+  HasCause K (key error) = Taken K (λ q. HasKeyError error)
   HasCause K (extracted errors) = AreSome errors × HaveCauses K errors
   HasCause K (multiple errors) = AreSome errors × HaveCauses K errors
   HasCause K (kv message) = ⊥
-  HasCause K (text message) = K (HadNoPlace (text message))
+  HasCause K (text message) = ⊥
   HasCause K (pessimistic inner keys) = ⊥
 
   pub HaveCauses : (Heard → Type 0) → ErrorViews → Type 0
   HaveCauses K none = ⊤
   HaveCauses K (more error errors) = HasCause K error × HaveCauses K errors
 
--- Nothing but want of memory, or errors that hold nothing but that.
+-- Nothing but want of memory, or lists of errors that hold nothing but that.
 abbrev pub IsMemory : Error → Type 0
 IsMemory OutOfMemory = ⊤
 IsMemory _ = ⊥
@@ -80,7 +104,7 @@ abbrev mutual
   IsStarved (plain error) = IsMemory error
   IsStarved (locks found) = ⊥
   IsStarved (region error) = ⊥
-  IsStarved (undetermined inner) = IsStarved inner
+  IsStarved (undetermined inner) = ⊥
   IsStarved (key error) = ⊥
   IsStarved (extracted errors) = AreStarved errors
   IsStarved (multiple errors) = AreStarved errors
@@ -96,26 +120,33 @@ abbrev mutual
 
 -- what has its cause in less has it in more
 module _ {K M : Heard → Type 0} (weaker : (x : Heard) → K x → M x) where
-  taken_more : (is : Reply → Type 0) → Taken K is → Taken M is
-  taken_more is k = (k.0, k.1, weaker (TookReply k.0 k.1) k.2, k.3)
+  taken_more : (are : Request → Reply → Type 0) → Taken K are → Taken M are
+  taken_more are k = (k.0, k.1, k.2, weaker (TookReply k.0 k.1 k.2) k.3, k.4)
 
-  unplaced_more : (is : Reply → Type 0) (error : Error) → TakenOrUnplaced K is error → TakenOrUnplaced M is error
-  unplaced_more is error (inl k) = inl (taken_more is k)
-  unplaced_more is error (inr k) = inr (weaker (HadNoPlace (plain error)) k)
+  failed_more : (t : Ticket) (r : Request) → HasFailed K t r → HasFailed M t r
+  failed_more t r (inl k) = inl (weaker (WasLost t r) k)
+  failed_more t r (inr k) = inr (k.0, weaker (TookReply t r k.0) k.1, k.2)
+
+  have_failed_more : (r : Request) (t : Ticket) (n : ℕ) → HaveFailed K r t n → HaveFailed M r t n
+  have_failed_more r t zero k = tt
+  have_failed_more r t (suc n) k = (k.0, k.1, k.2, failed_more k.0 r k.3, have_failed_more r k.0 n k.4)
+
+  found_none_more : (r : Request) → FoundNoRegion K r → FoundNoRegion M r
+  found_none_more r k = (k.0, k.1, weaker (TookReply k.0 r k.1) k.2, k.3, have_failed_more r k.0 (retries r) k.4)
 
   internal_more : (what : Internal) → InternalCause K what → InternalCause M what
-  internal_more (BadEnd at) k = taken_more (HasRegion (HasBadKey (BadEnd at))) k
-  internal_more (BadPadding at) k = taken_more (HasRegion (HasBadKey (BadPadding at))) k
-  internal_more (ReversedRegion id) k = taken_more (HasRegion (IsReversed id)) k
-  internal_more (NoEpoch id) k = unplaced_more (λ o. HasRegion (λ r. HasNoEpoch id r.region) o ⊎ ToldWithoutEpoch id o) (InternalError (NoEpoch id)) k
-  internal_more WrongReply k = (k.0, k.1, weaker (TookUnlike k.0 k.1) k.2)
+  internal_more (BadEnd at) k = taken_more (λ q. HasRegion (HasBadKey (BadEnd at))) k
+  internal_more (BadPadding at) k = taken_more (λ q. HasRegion (HasBadKey (BadPadding at))) k
+  internal_more (ReversedRegion id) k = taken_more (λ q. HasRegion (IsReversed id)) k
+  internal_more (NoEpoch id) k = taken_more (λ q o. HasRegion (λ r. HasNoEpoch id r.region) o ⊎ ToldWithoutEpoch id o) k
+  internal_more WrongReply k = taken_more (λ q o. IsOfKind q o → ⊥) k
   internal_more _ k = absurd k
 
   plain_more : (error : Error) → PlainCause K error → PlainCause M error
-  plain_more (GrpcAPI ticket) k = weaker (WasLost ticket) k
-  plain_more (RegionForKeyNotFound wanted) k = unplaced_more FoundNone (RegionForKeyNotFound wanted) k
-  plain_more (RegionNotFoundInResponse id) k = unplaced_more (FoundOther id) (RegionNotFoundInResponse id) k
-  plain_more (LeaderNotFound id) k = unplaced_more (HasRegion (HasNoLeader id)) (LeaderNotFound id) k
+  plain_more (GrpcAPI ticket) k = (k.0, weaker (WasLost ticket k.0) k.1, have_failed_more k.0 ticket (retries k.0) k.2)
+  plain_more (RegionForKeyNotFound wanted) k = found_none_more (GetRegion (record { region_key = wanted })) k
+  plain_more (RegionNotFoundInResponse id) k = taken_more (FoundOther id) k
+  plain_more (LeaderNotFound id) k = taken_more (λ q. HasRegion (HasNoLeader id)) k
   plain_more (InternalError what) k = internal_more what k
   plain_more OutOfMemory k = tt
   plain_more _ k = absurd k
@@ -123,14 +154,14 @@ module _ {K M : Heard → Type 0} (weaker : (x : Heard) → K x → M x) where
   mutual
     pub has_cause_more : (error : ErrorView) → HasCause K error → HasCause M error
     has_cause_more (plain error) k = plain_more error k
-    has_cause_more (locks found) k = (k.0, λ lock i. taken_more (HasLock lock) (k.1 lock i))
-    has_cause_more (region error) k = taken_more (HasRegionError error) k
-    has_cause_more (undetermined inner) k = has_cause_more inner k
-    has_cause_more (key error) k = taken_more (HasKeyError error) k
+    has_cause_more (locks found) k = (k.0, λ lock i. taken_more (λ q. HasLock lock) (k.1 lock i))
+    has_cause_more (region error) k = taken_more (λ q. HasRegionError error) k
+    has_cause_more (undetermined inner) k = absurd k
+    has_cause_more (key error) k = taken_more (λ q. HasKeyError error) k
     has_cause_more (extracted errors) k = (k.0, have_causes_more errors k.1)
     has_cause_more (multiple errors) k = (k.0, have_causes_more errors k.1)
     has_cause_more (kv message) k = absurd k
-    has_cause_more (text message) k = weaker (HadNoPlace (text message)) k
+    has_cause_more (text message) k = absurd k
     has_cause_more (pessimistic inner keys) k = absurd k
 
     pub have_causes_more : (errors : ErrorViews) → HaveCauses K errors → HaveCauses M errors
@@ -139,45 +170,41 @@ module _ {K M : Heard → Type 0} (weaker : (x : Heard) → K x → M x) where
 
 -- what has its cause in nothing is starved
 module _ {K : Heard → Type 0} (nothing : (x : Heard) → K x → ⊥) where
-  none_taken : (is : Reply → Type 0) → Taken K is → ⊥
-  none_taken is k = nothing (TookReply k.0 k.1) k.2
-
-  none_unplaced : (is : Reply → Type 0) (error : Error) → TakenOrUnplaced K is error → ⊥
-  none_unplaced is error (inl k) = none_taken is k
-  none_unplaced is error (inr k) = nothing (HadNoPlace (plain error)) k
+  none_taken : (are : Request → Reply → Type 0) → Taken K are → ⊥
+  none_taken are k = nothing (TookReply k.0 k.1 k.2) k.3
 
   none_internal : (what : Internal) → InternalCause K what → ⊥
-  none_internal (BadEnd at) k = none_taken (HasRegion (HasBadKey (BadEnd at))) k
-  none_internal (BadPadding at) k = none_taken (HasRegion (HasBadKey (BadPadding at))) k
-  none_internal (ReversedRegion id) k = none_taken (HasRegion (IsReversed id)) k
-  none_internal (NoEpoch id) k = none_unplaced (λ o. HasRegion (λ r. HasNoEpoch id r.region) o ⊎ ToldWithoutEpoch id o) (InternalError (NoEpoch id)) k
-  none_internal WrongReply k = nothing (TookUnlike k.0 k.1) k.2
+  none_internal (BadEnd at) k = none_taken (λ q. HasRegion (HasBadKey (BadEnd at))) k
+  none_internal (BadPadding at) k = none_taken (λ q. HasRegion (HasBadKey (BadPadding at))) k
+  none_internal (ReversedRegion id) k = none_taken (λ q. HasRegion (IsReversed id)) k
+  none_internal (NoEpoch id) k = none_taken (λ q o. HasRegion (λ r. HasNoEpoch id r.region) o ⊎ ToldWithoutEpoch id o) k
+  none_internal WrongReply k = none_taken (λ q o. IsOfKind q o → ⊥) k
   none_internal _ k = k
 
   plain_starved : (error : Error) → PlainCause K error → IsMemory error
-  plain_starved (GrpcAPI ticket) k = nothing (WasLost ticket) k
-  plain_starved (RegionForKeyNotFound wanted) k = none_unplaced FoundNone (RegionForKeyNotFound wanted) k
-  plain_starved (RegionNotFoundInResponse id) k = none_unplaced (FoundOther id) (RegionNotFoundInResponse id) k
-  plain_starved (LeaderNotFound id) k = none_unplaced (HasRegion (HasNoLeader id)) (LeaderNotFound id) k
+  plain_starved (GrpcAPI ticket) k = nothing (WasLost ticket k.0) k.1
+  plain_starved (RegionForKeyNotFound wanted) k = nothing (TookReply k.0 (GetRegion (record { region_key = wanted })) k.1) k.2
+  plain_starved (RegionNotFoundInResponse id) k = none_taken (FoundOther id) k
+  plain_starved (LeaderNotFound id) k = none_taken (λ q. HasRegion (HasNoLeader id)) k
   plain_starved (InternalError what) k = none_internal what k
   plain_starved OutOfMemory k = tt
   plain_starved _ k = k
 
-  some_lock : (found : List LockInfo) → found ≢ [] → ((lock : LockInfo) → IsAmong found lock → Taken K (HasLock lock)) → ⊥
+  some_lock : (found : List LockInfo) → found ≢ [] → ((lock : LockInfo) → IsAmong found lock → Taken K (λ q. HasLock lock)) → ⊥
   some_lock [] some each = some refl
-  some_lock (lock ∷ found) some each = none_taken (HasLock lock) (each lock (inl refl))
+  some_lock (lock ∷ found) some each = none_taken (λ q. HasLock lock) (each lock (inl refl))
 
   mutual
     pub is_starved : (error : ErrorView) → HasCause K error → IsStarved error
     is_starved (plain error) k = plain_starved error k
     is_starved (locks found) k = some_lock found k.0 k.1
-    is_starved (region error) k = none_taken (HasRegionError error) k
-    is_starved (undetermined inner) k = is_starved inner k
-    is_starved (key error) k = none_taken (HasKeyError error) k
+    is_starved (region error) k = none_taken (λ q. HasRegionError error) k
+    is_starved (undetermined inner) k = k
+    is_starved (key error) k = none_taken (λ q. HasKeyError error) k
     is_starved (extracted errors) k = are_starved errors k.1
     is_starved (multiple errors) k = are_starved errors k.1
     is_starved (kv message) k = k
-    is_starved (text message) k = nothing (HadNoPlace (text message)) k
+    is_starved (text message) k = k
     is_starved (pessimistic inner keys) k = k
 
     pub are_starved : (errors : ErrorViews) → HaveCauses K errors → AreStarved errors

@@ -1,12 +1,10 @@
 -- How an error is shown to have its cause.
 use Rattle.std.proofs.Common.{◌≡◌, ◌≢◌, ◌∙◌, inl, inr, List, [], ◌∷◌, ℕ, ap, refl, subst, sym}
-use Rattle.std.specs.Prelude.{string_bytes}
 use Rattle.txn_causes.specs.Causes.{AreSome, HasCause, HaveCauses, InternalCause, PlainCause}
 use Rattle.txn_causes.specs.Heard.{Heard}
-use Rattle.txn_causes.specs.Heard.Heard.{WasLost, HadNoPlace}
 use Rattle.txn_history.specs.Among.{IsAmong}
 use Rattle.txn_kv.specs.ErrorView.{listed, view_of, view_step, ErrorView}
-use Rattle.txn_kv.specs.ErrorView.ErrorView.{plain, text}
+use Rattle.txn_kv.specs.ErrorView.ErrorView.{plain}
 use Rattle.txn_kv.specs.declared.errors.Error.TheFolds.{fold-roll-Error}
 use Rattle.txn_kv.specs.declared.errors.Error.TheOpen as layer
 use Rattle.txn_kv.specs.declared.errors.Error.TheVariants as errors
@@ -33,11 +31,8 @@ view-RegionNotFoundInResponse id = ap view_of (sym (errors.rolls-RegionNotFoundI
 view-LeaderNotFound : (id : ℕ) → view_of (errors.LeaderNotFound id) ≡ plain (errors.LeaderNotFound id)
 view-LeaderNotFound id = ap view_of (sym (errors.rolls-LeaderNotFound id)) ∙ fold-roll-Error ErrorView view_step (layer.LeaderNotFound id)
 
-view-StringError : (message : _) → view_of (errors.StringError message) ≡ text (string_bytes message)
-view-StringError message = ap view_of (sym (errors.rolls-StringError message)) ∙ fold-roll-Error ErrorView view_step (layer.StringError message)
-
 module _ (K : Heard → Type 0) where
-  pub of_loss : (t : Ticket) → K (WasLost t) → HasCause K (view_of (errors.GrpcAPI t))
+  pub of_loss : (t : Ticket) → PlainCause K (errors.GrpcAPI t) → HasCause K (view_of (errors.GrpcAPI t))
   of_loss t k = subst (HasCause K) (sym (view-GrpcAPI t)) k
 
   pub of_memory : HasCause K (view_of errors.OutOfMemory)
@@ -54,9 +49,6 @@ module _ (K : Heard → Type 0) where
 
   pub of_leader : (id : ℕ) → PlainCause K (errors.LeaderNotFound id) → HasCause K (view_of (errors.LeaderNotFound id))
   of_leader id k = subst (HasCause K) (sym (view-LeaderNotFound id)) k
-
-  pub of_text : (message : _) → K (HadNoPlace (text (string_bytes message))) → HasCause K (view_of (errors.StringError message))
-  of_text message k = subst (HasCause K) (sym (view-StringError message)) k
 
   -- Errors that hold others
 

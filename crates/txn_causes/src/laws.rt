@@ -11,7 +11,7 @@ pub fn causes_stay()
     ensures { (h longer : List Event) (error : ErrorView) → Within h longer → HasCause (heard_in h) error → HasCause (heard_in longer) error }
 {}
 
-/// Where nothing was heard, and the client had a place for each request, an error is want of memory.
+/// Where nothing was heard, an error is want of memory, or lists of errors that are.
 pub fn nothing_causes_nothing()
     ensures { (error : ErrorView) → HasCause (λ heard. ⊥) error → IsStarved error }
 {}

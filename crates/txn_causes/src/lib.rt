@@ -2,7 +2,7 @@
 //!
 //! `Heard` says what an error may rest on: a reply that was taken, a request that was lost. `HasCause` goes through an error by its
 //! view, with one row for each kind: an error of a region or of a key stands in a taken reply, a lost request is named by its
-//! ticket, an error that holds others has their causes. What was heard is a parameter, so that a history (`heard_in`) and
+//! ticket, a list of errors has their causes. What was heard is a parameter, so that a history (`heard_in`) and
 //! whatever else tells of replies and losses can be cited alike.
 #![tactic(auto)]
 
