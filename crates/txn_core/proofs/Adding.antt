@@ -1,27 +1,25 @@
 -- What the event calls of a whole commit or rollback post adds up.
-use Rattle.std.proofs.Common.{◌≡◌, ◌≤◌, ℕ, ◌+◌, ◌*◌, ◌-◌, Bool, true, false, List, [], ◌∷◌, Option, Some, None, refl, sym, ap, subst, ◌∙◌, arith, max, length}
-use Rattle.std.proofs.Math.Nat.{add-mul, le-max_left, le-max_right, le_refl, le_trans, mul-le-mul_left}
+use Rattle.std.proofs.Common.{◌≡◌, ◌≤◌, ℕ, ◌+◌, ◌*◌, ◌-◌, Bool, true, false, List, [], ◌∷◌, Option, Some, None, refl, sym, ap, subst, arith, max, length}
+use Rattle.std.proofs.Math.Nat.{add-mul, le_refl, le_trans, mul-le-mul_left}
 use Rattle.std.proofs.lemmas.Bool.{false≢true}
 use Rattle.std.proofs.lemmas.List.{length-map}
 use Rattle.std.proofs.lemmas.List.Sums.{count_by-le-length, length-filter, sum_by-append, sum_by-cons}
-use Rattle.std.specs.Prelude.{⊤, Result, ◌++◌, cond, count_by, filter, if◌then◌else◌, is_some, map, not, option_map}
+use Rattle.std.specs.Prelude.{Result, ◌++◌, cond, count_by, filter, if◌then◌else◌, is_some, not, option_map}
 use Rattle.txn_kv.specs.declared.errors.Error.{Error}
 use Rattle.txn_kv.specs.declared.message.Mutation.{Mutation}
 use Rattle.txn_kv.specs.declared.timestamp.Timestamp.{Timestamp}
 use Rattle.txn_history.specs.Plan.{Key, key_eq}
 use Rattle.txn_history.specs.Posted.{Errand, Posted}
 use Rattle.txn_history.specs.Spends.{calls, is_call, sleeps, spare}
-use Rattle.txn_history.specs.Turn.{Turn, is_kept}
+use Rattle.txn_history.specs.Turn.{Turn}
 use Rattle.txn_history.specs.Turn.Turn.{Stopped, Waits, Ends}
 use Rattle.txn_buffer.specs.Contents.{Contents, mutations}
 use Rattle.txn_commit.specs.Committing.{Ways}
 use Rattle.txn_commit.specs.Counting.{Costs, IsOneEach, rollback_costs}
 use Rattle.txn_commit.specs.Parts.{locking_keys, locks, named_primary, parts_of, parts_under, secondary_keys}
 use Rattle.txn_commit.specs.declared.commit_parts.CommitParts.{CommitParts}
-use Rattle.txn_core.specs.Counting.{Follow, IsCounted, IsPushed, Runs, Step, TransactionPays, commit_price, errors, failures, locked, posted, posted_by, rested, rested_by, rollback_price, standing_after, transaction_width, weighed, work_bears, work_left, work_round, work_width}
+use Rattle.txn_core.specs.Counting.{Follow, IsPushed, Runs, Step, TransactionPays, commit_price, errors, failures, locked, posted, posted_by, rested, rested_by, rollback_price, standing_after, transaction_width, weighed, work_bears, work_left, work_round, work_width}
 use Rattle.txn_core.specs.Transaction.{GivesUp, Standing}
-use Rattle.txn_core.specs.declared.transaction.Work.{Work}
-use Rattle.txn_core.specs.declared.transaction.Work.TheVariants.{Idle, Open, GaveUp}
 use Rattle.txn_core.specs.declared.txn_answer.TxnAnswer.{TxnAnswer}
 
 -- One event more: P is what the later ones post, E and W are their errors and what their locks weigh.

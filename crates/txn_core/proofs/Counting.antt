@@ -1,17 +1,15 @@
 -- What the open call of a transaction posts is counted as that of the transaction, and the events of a whole call add up.
-use Rattle.std.proofs.Common.{◌≡◌, ◌≤◌, ℕ, ◌+◌, ◌*◌, ◌-◌, Bool, true, false, List, [], ◌∷◌, Option, Some, None, refl, sym, ap, subst, ◌∙◌, arith, max, length}
+use Rattle.std.proofs.Common.{◌≡◌, ◌≤◌, ℕ, Bool, true, false, Option, Some, refl, sym, ap, subst, ◌∙◌, arith, max}
 use Rattle.std.proofs.Math.Nat.{le-max_left, le-max_right, le_refl, le_trans, max-le}
 use Rattle.std.proofs.lemmas.Bool.{false≢true}
-use Rattle.std.proofs.lemmas.List.Sums.{sum_by-cons}
-use Rattle.std.specs.Prelude.{⊤, Result, cond, if◌then◌else◌, not}
+use Rattle.std.specs.Prelude.{Result, if◌then◌else◌, not}
 use Rattle.txn_kv.specs.declared.errors.Error.{Error}
 use Rattle.txn_kv.specs.declared.timestamp.Timestamp.{Timestamp}
 use Rattle.txn_history.specs.Posted.{Posted}
-use Rattle.txn_history.specs.Spends.{Spends, calls, sleeps, spare}
+use Rattle.txn_history.specs.Spends.{Spends}
 use Rattle.txn_history.specs.Turn.{Turn, is_kept}
-use Rattle.txn_history.specs.Turn.Turn.{Stopped, Waits, Ends}
+use Rattle.txn_history.specs.Turn.Turn.{Stopped}
 use Rattle.txn_history.proofs.Counting.{Spends-quiet}
-use Rattle.txn_buffer.specs.Contents.{Contents}
 use Rattle.txn_commit.specs.Committing.{Ways}
 use Rattle.txn_commit.specs.Counting.{Begins, CommitterCounts, Costs, Pays, call_width, rollback_costs, stage_bears, stage_left, stage_round}
 use Rattle.txn_commit.specs.Following.{Commits}

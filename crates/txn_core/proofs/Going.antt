@@ -1,8 +1,6 @@
 -- A commit or a rollback of a transaction: from the open call to the transaction around it.
-use Rattle.std.proofs.Common.{◌≡◌, ◌⊎◌, inl, inr, ℕ, Bool, true, false, List, [], ◌∷◌, Option, Some, None, refl, sym, ap, subst, ◌∙◌}
-use Rattle.std.specs.Prelude.{⊤, IsErr, Result, Ok, Err, if◌then◌else◌, not}
-use Rattle.txn_kv.specs.ErrorView.{view_of}
-use Rattle.txn_kv.specs.ErrorView.ErrorView.{undetermined as not_known}
+use Rattle.std.proofs.Common.{◌≡◌, inl, inr, ℕ, Bool, true, false, List, [], ◌∷◌, Option, Some, None, refl, sym, ap, subst, ◌∙◌}
+use Rattle.std.specs.Prelude.{⊤, Result, Ok, Err, if◌then◌else◌, not}
 use Rattle.txn_kv.specs.Timestamp.{HasVersion, version_of}
 use Rattle.txn_kv.specs.declared.errors.Error.{Error}
 use Rattle.txn_kv.specs.declared.request.Request.{Request}
@@ -10,15 +8,15 @@ use Rattle.txn_kv.specs.declared.request.Request.TheVariants.{Commit}
 use Rattle.txn_kv.specs.declared.ticket.Ticket.{Ticket}
 use Rattle.txn_kv.specs.declared.timestamp.Timestamp.{Timestamp}
 use Rattle.txn_history.specs.Event.{Event}
-use Rattle.txn_history.specs.Licence.{PrimaryCommitted, WasGiven}
-use Rattle.txn_history.specs.Moves.{Knows, Moves, Moves-after, Moves-before, Moves-map, Moves-quiet}
+use Rattle.txn_history.specs.Licence.{PrimaryCommitted}
+use Rattle.txn_history.specs.Moves.{Moves, Moves-after, Moves-before, Moves-map, Moves-quiet}
 use Rattle.txn_history.specs.Plan.{Key, Plan}
-use Rattle.txn_history.specs.Posted.{Posted, Within, Within-refl}
-use Rattle.txn_history.specs.Turn.{Turn, IfEnds, IfKept}
+use Rattle.txn_history.specs.Posted.{Posted, Within}
+use Rattle.txn_history.specs.Turn.{Turn, IfEnds}
 use Rattle.txn_history.specs.Turn.Turn.{Stopped, Waits, Ends}
 use Rattle.txn_buffer.specs.Contents.{Contents}
 use Rattle.txn_commit.specs.Committing.{CommitterFits, CommitterGives, CommitterMoves, MayCommit, Ways}
-use Rattle.txn_commit.specs.Following.{Commits, KnowsCommits, undetermined}
+use Rattle.txn_commit.specs.Following.{Commits, undetermined}
 use Rattle.txn_commit.specs.Parts.{parts_of}
 use Rattle.txn_commit.specs.Plans.{ArePrewritten, AreRolledBack}
 use Rattle.txn_commit.specs.Sending.{MaySend, plan_of}
@@ -26,17 +24,16 @@ use Rattle.txn_commit.specs.declared.commit_parts.CommitParts.{CommitParts}
 use Rattle.txn_commit.specs.declared.committer.CommitterAnswer.{CommitterAnswer}
 use Rattle.txn_commit.specs.declared.committer.CommitterAnswer.TheVariants.{Committed, Checked, RolledBack}
 use Rattle.txn_commit.specs.declared.committer.CommitterCall.{CommitterCall}
-use Rattle.txn_commit.specs.declared.committer.Stage.{Stage}
 use Rattle.txn_commit.proofs.Following.{IsNoSending, knows_more}
 use Rattle.txn_commit.proofs.Posting.{Hears}
 use Rattle.txn_commit.proofs.Posting.Hears.{Nothing, One}
 use Rattle.txn_commit.proofs.Sending.{given_longer}
 use Rattle.txn_core.proofs.Naming.{named_more, names_on}
-use Rattle.txn_core.specs.Going.{BeginMoves, CallFits, CallMoves, FailsWith, IsAtWork, IsCommittedAt, IsJobFor, IsNamed, IsNewCall, IsSameCall, IsUnderWay, KnowsCall, KnowsParts, MayBegin, MayGoBack, MaySendFor, MayStart, NamesReady, TakesUp, TransactionFits, TransactionGives, TransactionMoves}
+use Rattle.txn_core.specs.Going.{BeginMoves, CallFits, CallMoves, FailsWith, IsAtWork, IsCommittedAt, IsJobFor, IsNamed, IsNewCall, IsSameCall, IsUnderWay, KnowsCall, KnowsContents, KnowsParts, MayBegin, MayGoBack, MaySendFor, MayStart, NamesReady, TakesUp, TransactionFits, TransactionGives, TransactionMoves}
 use Rattle.txn_core.specs.Status.{allows_data, may_move}
 use Rattle.txn_core.specs.Transaction.{Standing, has_given_up, is_open, moved}
 use Rattle.txn_core.specs.declared.status.Status.{Status}
-use Rattle.txn_core.specs.declared.status.Status.TheVariants.{ReadOnly, Active, Committed as Is_committed, StartedCommit, Rolledback, StartedRollback, Dropped}
+use Rattle.txn_core.specs.declared.status.Status.TheVariants.{Committed as Is_committed, StartedCommit, Rolledback, StartedRollback}
 use Rattle.txn_core.specs.declared.transaction.Work.{Work}
 use Rattle.txn_core.specs.declared.transaction.Work.TheVariants.{Idle, Open, GaveUp}
 use Rattle.txn_core.specs.declared.txn_answer.TxnAnswer.{TxnAnswer}
@@ -71,13 +68,23 @@ may_start old call parts h n m = rw (n.own, n.whole) (record { given = m.given; 
 pub as_before : {P Q K : Type 0} (old mid new : Standing P Q K) → old.work ≡ Idle → mid ≡ record old { work = GaveUp } → new ≡ record mid { work = Idle } → new ≡ old
 as_before {P} {Q} {K} old mid new i e n = n ∙ ap (λ (x : Standing P Q K). record x { work = Idle }) e ∙ ap (λ (x : Work P Q K). record old { work = x }) (sym i)
 
+parts_more : (s : ℕ) (c : Commits) (parts : CommitParts) (e : Event) (h : List Event) → IsNoSending e → KnowsParts s c h parts → KnowsParts s c (e ∷ h) parts
+parts_more s c parts e h n k = record {
+  formed = k.formed;
+  knows = knows_more (plan_of parts) s c e h n k.knows;
+  ready = named_more (plan_of parts) s e h n k.ready;
+}
+
 module _ {P Q K A B D : Type 0} where
-  -- what is known of an open call is known of its parts
-  knows_parts : (w : Ways P Q K A B D) (start : Timestamp) (status : Status) (contents : Contents) (c : Commits) (call : CommitterCall P Q K) (o : Posted) (h : List Event)
-      → IsUnderWay w start status contents c call o h → (parts : CommitParts) → parts_of contents ≡ Some parts → KnowsParts (version_of start) c h parts
-  knows_parts w start status contents c call o h u parts e =
-      subst (λ x. KnowsParts (version_of start) c h x) (some_same u.whole e)
-      (subst (λ x. KnowsParts (version_of x) c h call.parts) u.own (record { formed = u.fits.formed; knows = u.fits.knows; ready = u.ready }))
+  -- what is known of an open call is known of what the buffer holds, which has its parts
+  knows_contents : (w : Ways P Q K A B D) (start : Timestamp) (status : Status) (contents : Contents) (c : Commits) (call : CommitterCall P Q K) (o : Posted) (h : List Event)
+      → IsUnderWay w start status contents c call o h → KnowsContents (version_of start) c h contents
+  knows_contents w start status contents c call o h u = record {
+    of_parts = λ parts e.
+        subst (λ x. KnowsParts (version_of start) c h x) (some_same u.whole e)
+        (subst (λ x. KnowsParts (version_of x) c h call.parts) u.own (record { formed = u.fits.formed; knows = u.fits.knows; ready = u.ready }));
+    empty = λ e. absurd (let x = sym e ∙ u.whole in cc);
+  }
 
   -- the open call has ended, and the transaction rests
   pub rests : (w : Ways P Q K A B D) (t new : Standing P Q K) (call : CommitterCall P Q K) (next : Status) (v : ℕ) (o : Posted) (h : List Event)
@@ -86,7 +93,7 @@ module _ {P Q K A B D : Type 0} where
   rests w t new call next v o h e n f = rw e (record {
     given = f.given;
     unsent = λ a. absurd (let g = sym n ∙ a in cc);
-    at = knows_parts w t.start t.status t.contents t.commits call o h f.under_way;
+    at = knows_contents w t.start t.status t.contents t.commits call o h f.under_way;
   })
 
   -- it waits still
@@ -228,7 +235,10 @@ module _ {P Q K A B D : Type 0} where
       (λ h u. record {
         given = u.0.given;
         unsent = λ a. absurd (let g = sym (stays_started old.status Rolledback u.0.started refl) ∙ a in cc);
-        at = λ more g. subst (λ (x : CommitParts). KnowsParts (version_of old.start) old.commits h x) (some_same f g) u.0.knows;
+        at = record {
+          of_parts = λ more g. subst (λ (x : CommitParts). KnowsParts (version_of old.start) old.commits h x) (some_same f g) u.0.knows;
+          empty = λ g. absurd (let x = sym g ∙ f in cc);
+        };
       })
       (λ h u. inl (parts, f, inl l)))
 
@@ -240,7 +250,7 @@ module _ {P Q K A B D : Type 0} where
   goes_back w old mid new parts from to turn e f m =
       let f' = subst (λ (x : Standing P Q K). parts_of x.contents ≡ Some parts) e f in
       let m' = subst (λ (x : Standing P Q K). BeginMoves w (λ h. MayBegin x parts h × (undetermined x.commits ≡ None)) x new from to turn) e m in
-      Moves-before (λ h u. (record { given = u.given; started = refl; knows = u.knows parts f' }, u.settled)) m'
+      Moves-before (λ h u. (record { given = u.given; started = refl; knows = u.knows.of_parts parts f' }, u.settled)) m'
 
   pub back_nothing : (w : Ways P Q K A B D) (old mid new : Standing P Q K) (o : Posted) (turn : Turn (Result (TxnAnswer Q) Error))
       → mid ≡ record old { status = StartedRollback; work = GaveUp } → new ≡ record mid { status = moved mid.status Rolledback; work = Idle }
@@ -252,14 +262,14 @@ module _ {P Q K A B D : Type 0} where
       (λ h u. record {
         given = u.given;
         unsent = λ a. absurd (cc);
-        at = λ parts g. absurd (let x = sym f' ∙ g in cc);
+        at = u.knows;
       })
       (λ h u. inr (f', inr refl)))
 
   -- A commit of what the buffer holds.
 
   at_rest : (w : Ways P Q K A B D) (t : Standing P Q K) (o : Posted) (h : List Event) → t.work ≡ Idle → TransactionFits w t o h
-      → (parts : CommitParts) → parts_of t.contents ≡ Some parts → KnowsParts (version_of t.start) t.commits h parts
+      → KnowsContents (version_of t.start) t.commits h t.contents
   at_rest w t o h e f = subst (λ (x : Work P Q K). IsAtWork w t.start t.status t.contents t.commits x o h) e f.at
 
   pub commits_on : (w : Ways P Q K A B D) (old mid new : Standing P Q K) (parts : CommitParts) (from to : Posted) (turn : Turn (Result (TxnAnswer Q) Error))
@@ -269,19 +279,19 @@ module _ {P Q K A B D : Type 0} where
   commits_on w old mid new parts from to turn i e f m =
       let f' = subst (λ (x : Standing P Q K). parts_of x.contents ≡ Some parts) e f in
       let m' = subst (λ (x : Standing P Q K). BeginMoves w (MayBegin x parts) x new from to turn) e m in
-      Moves-before (λ h u. record { given = u.0.given; started = refl; knows = at_rest w old from h i u.0 parts f' }) m'
+      Moves-before (λ h u. record { given = u.0.given; started = refl; knows = (at_rest w old from h i u.0).of_parts parts f' }) m'
 
   pub commits_nothing : (w : Ways P Q K A B D) (old mid new : Standing P Q K) (o : Posted) (turn : Turn (Result (TxnAnswer Q) Error))
-      → mid ≡ record old { status = StartedCommit; work = GaveUp } → new ≡ record mid { work = Idle }
+      → old.work ≡ Idle → mid ≡ record old { status = StartedCommit; work = GaveUp } → new ≡ record mid { work = Idle }
       → parts_of mid.contents ≡ None → turn ≡ Ends (Ok (answer.Committed None None))
       → TransactionMoves w (λ h. ⊤) (λ h. h) old new o o turn
-  commits_nothing w old mid new o turn e n f t =
+  commits_nothing w old mid new o turn i e n f t =
       let f' = subst (λ (x : Standing P Q K). parts_of x.contents ≡ None) e f in
       rw (t, n, e) (Moves-quiet refl
       (λ h u. record {
         given = u.0.given;
         unsent = λ a. absurd (cc);
-        at = λ parts g. absurd (let x = sym f' ∙ g in cc);
+        at = at_rest w old o h i u.0;
       })
       (λ h u. inr (f', inl refl)))
 
@@ -306,10 +316,9 @@ module _ {P Q K A B D : Type 0} where
   fits_on w t o h e n i f = record {
     given = given_longer (version_of t.start) h (e ∷ h) (λ x y. inr y) f.given;
     unsent = λ a. record { none = (f.unsent a).none; never = λ t r y q. elim y [ inl x ↦ n t (Commit r) x | inr x ↦ (f.unsent a).never t r x q ] };
-    at = rw i (λ parts g. let k = at_rest w t o h i f parts g in record {
-      formed = k.formed;
-      knows = knows_more (plan_of parts) (version_of t.start) t.commits e h n k.knows;
-      ready = named_more (plan_of parts) (version_of t.start) e h n k.ready;
+    at = rw i (let k = at_rest w t o h i f in record {
+      of_parts = λ parts g. parts_more (version_of t.start) t.commits parts e h n (k.of_parts parts g);
+      empty = k.empty;
     });
   }
 

@@ -4,10 +4,10 @@ use Rattle.std.specs.Prelude.{if◌then◌else◌, slice_index_or, cond}
 use Rattle.txn_kv.specs.declared.message.Mutation.{Mutation}
 use Rattle.txn_kv.specs.declared.message.Op.{Op}
 use Rattle.txn_kv.specs.declared.message.Op.TheVariants as op
-use Rattle.txn_buffer.specs.Contents.{Contents, locked, mutated, mutated_by, with_new_entry, with_primary, with_write, sets_primary}
+use Rattle.txn_buffer.specs.Contents.{Contents, locked, mutated, mutated_by, with_new_entry, with_primary, sets_primary}
 use Rattle.txn_buffer.specs.declared.entry.Entry.{Entry}
 use Rattle.txn_buffer.specs.Reads.{writes}
-use Rattle.txn_buffer.specs.Writes.{Write, WriteCall, Writes, after_call, after_calls}
+use Rattle.txn_buffer.specs.Writes.{WriteCall, Writes, after_call, after_calls}
 use Rattle.txn_buffer.proofs.Untouched.{locked_leaves}
 use Rattle.txn_core.specs.Transaction.{AreLocked, AreSteps, all_put_or_delete, and_mutated, call_by, calls_of, is_put_or_delete, locked_all, mutated_all}
 

@@ -1,20 +1,18 @@
 -- The timestamp that the Commits of a primary name was asked for last, as each of them was licensed so.
-use Rattle.std.proofs.Common.{◌≡◌, ◌⊎◌, inl, inr, ℕ, Bool, true, List, [], ◌∷◌, Some, refl, sym, ap, subst, ◌∙◌}
-use Rattle.std.specs.Prelude.{Result}
+use Rattle.std.proofs.Common.{◌≡◌, inl, inr, ℕ, Bool, true, List, [], ◌∷◌, refl, subst}
 use Rattle.txn_kv.specs.declared.outbox.Errand.TheVariants.{Send, Sleep, Ask}
 use Rattle.txn_kv.specs.declared.request.CommitRequest.{CommitRequest}
 use Rattle.txn_kv.specs.declared.request.Request.{Request}
 use Rattle.txn_kv.specs.declared.request.Request.TheVariants.{Commit}
 use Rattle.txn_kv.specs.declared.ticket.Ticket.{Ticket}
-use Rattle.txn_history.specs.Event.{Event, Has}
+use Rattle.txn_history.specs.Event.{Event}
 use Rattle.txn_history.specs.Event.Event.{Sent, Began, Asked}
-use Rattle.txn_history.specs.Licence.{WasNamed}
 use Rattle.txn_history.specs.Moves.{Moves}
 use Rattle.txn_history.specs.Plan.{has_key, Plan}
 use Rattle.txn_history.specs.Posted.{Errand, Licensed, Posted, after, posting}
 use Rattle.txn_history.specs.Turn.{Turn, IfKept-weaker}
 use Rattle.txn_commit.specs.Committing.{IsReady}
-use Rattle.txn_commit.specs.Sending.{MaySend, PrimaryMayGo}
+use Rattle.txn_commit.specs.Sending.{MaySend}
 use Rattle.txn_commit.proofs.Following.{IsNoSending}
 use Rattle.txn_commit.proofs.Posting.{Hears}
 use Rattle.txn_commit.proofs.Posting.Hears.{Nothing, One}

@@ -7,7 +7,7 @@ use Rattle.std.specs.Cmp.Lexicographic.{slice_cmp}
 use Rattle.std.specs.BTreeMap.{insert_entry, is_at}
 use Rattle.std.specs.List.{AllByRecursion}
 use Rattle.std.specs.List.Sorted.{IsStrictlySortedBy}
-use Rattle.std.specs.Map.{keys_of, set_value}
+use Rattle.std.specs.Map.{keys_of}
 use Rattle.std.proofs.lemmas.Cmp.{nat_list_cmp_total}
 use Rattle.std.proofs.lemmas.Map.{keys-set_value}
 use Rattle.txn_kv.specs.declared.message.Mutation.{Mutation}
@@ -172,7 +172,7 @@ module _ {P Q K A B D : Type 0} where
   begun_fits w start options now o h g u = record {
     given = g;
     unsent = λ a. record { none = refl; never = u };
-    at = λ parts e. absurd (cc);
+    at = record { of_parts = λ parts e. absurd (cc); empty = λ e. refl };
   }
 
   pub written_fits : (w : Ways P Q K A B D) (t : Standing P Q K) (contents : Contents) (o : Posted) (h : List Event)
@@ -180,9 +180,12 @@ module _ {P Q K A B D : Type 0} where
   written_fits w t contents o h a i s f = record {
     given = f.given;
     unsent = f.unsent;
-    at = rw i (λ parts e. record {
-      formed = formed contents parts s e;
-      knows = nothing_known (plan_of parts) (version_of t.start) t.commits h (f.unsent a);
-      ready = λ d w. absurd ((f.unsent a).never w.0 w.1 w.2 w.3);
+    at = rw i (record {
+      of_parts = λ parts e. record {
+        formed = formed contents parts s e;
+        knows = nothing_known (plan_of parts) (version_of t.start) t.commits h (f.unsent a);
+        ready = λ d w. absurd ((f.unsent a).never w.0 w.1 w.2 w.3);
+      };
+      empty = λ e. (f.unsent a).none;
     });
   }

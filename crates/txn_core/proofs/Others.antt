@@ -168,7 +168,10 @@ module _ {P Q K A B D : Type 0} (w : Ways P Q K A B D) (prewriting : IsLawful w.
   work_on : (start : Timestamp) (status : Status) (contents : Contents) (c : Commits) (work : Work P Q K) (o p : Posted) (newer h : List Event) → IsLater o p
       → ((parts : CommitParts) → parts_of contents ≡ Some parts → SendsNone (CommitsPrimary (plan_of parts) (version_of start)) newer)
       → IsAtWork w start status contents c work o h → IsAtWork w start status contents c work p (newer ++ h)
-  work_on start status contents c Idle o p newer h l n f = λ parts e. parts_on (version_of start) c parts newer h (n parts e) (f parts e)
+  work_on start status contents c Idle o p newer h l n f = record {
+    of_parts = λ parts e. parts_on (version_of start) c parts newer h (n parts e) (f.of_parts parts e);
+    empty = f.empty;
+  }
   work_on start status contents c (Open call) o p newer h l n u = record {
     own = u.own;
     started = u.started;

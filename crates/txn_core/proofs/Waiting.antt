@@ -1,12 +1,12 @@
 -- Where a transaction stands as its open call goes on, and what it waits for.
-use Rattle.std.proofs.Common.{◌≡◌, ◌≢◌, ◌⊎◌, inl, inr, Bool, true, false, List, [], ◌∷◌, Option, Some, None, refl, sym, ap, subst, ◌∙◌}
+use Rattle.std.proofs.Common.{◌≡◌, ◌≢◌, inl, inr, true, false, List, [], ◌∷◌, Option, Some, None, refl, sym, ap, subst, ◌∙◌}
 use Rattle.std.specs.Prelude.{Result, Ok, Err}
 use Rattle.txn_kv.specs.Timestamp.{HasVersion}
 use Rattle.txn_kv.specs.declared.errors.Error.{Error}
 use Rattle.txn_kv.specs.declared.timestamp.Timestamp.{Timestamp}
 use Rattle.txn_history.specs.Event.{Event}
 use Rattle.txn_history.specs.Meaning.{Expects, Goes, IsLawful, Meaning, WasPosted}
-use Rattle.txn_history.specs.Phase.{Awaited, IsPosted, IsRunning, Phase, phase_after, unheard}
+use Rattle.txn_history.specs.Phase.{Awaited, IsRunning, Phase, phase_after, unheard}
 use Rattle.txn_history.specs.Phase.Phase.{Fresh, GivenUp, Over, Running}
 use Rattle.txn_history.specs.Plan.{Key}
 use Rattle.txn_history.specs.Posted.{Posted}

@@ -1,5 +1,5 @@
 -- How many requests to stores and asks a commit or a rollback of a transaction posts, and how many are left.
-use Rattle.std.specs.Prelude.{◌≡◌, ◌≤◌, ⊤, ℕ, ◌+◌, ◌-◌, max, Bool, true, false, if◌then◌else◌, List, [], ◌∷◌, ◌++◌, Option, Some, None, Result}
+use Rattle.std.specs.Prelude.{◌≡◌, ◌≤◌, ⊤, ℕ, ◌-◌, max, Bool, false, if◌then◌else◌, List, [], ◌∷◌, ◌++◌, Option, Some, None, Result}
 use Rattle.std.specs.List.{count_by, sum_by}
 use Rattle.txn_kv.specs.declared.errors.Error.{Error}
 use Rattle.txn_kv.specs.declared.timestamp.Timestamp.{Timestamp}
@@ -8,7 +8,6 @@ use Rattle.txn_history.specs.Spends.{Spends, calls, sleeps}
 use Rattle.txn_history.specs.Turn.{Turn, is_kept}
 use Rattle.txn_commit.specs.Committing.{Ways}
 use Rattle.txn_commit.specs.Counting.{Costs, call_width, commit_again_costs, commit_costs, rollback_costs, stage_bears, stage_left, stage_round}
-use Rattle.txn_commit.specs.Parts.{parts_of}
 use Rattle.txn_commit.specs.declared.commit_parts.CommitParts.{CommitParts}
 use Rattle.txn_commit.specs.declared.committer.CommitterCall.{CommitterCall}
 use Rattle.txn_core.specs.Transaction.{GivesUp, Standing}

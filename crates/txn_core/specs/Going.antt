@@ -13,7 +13,6 @@ use Rattle.txn_kv.specs.declared.timestamp.Timestamp.{Timestamp}
 use Rattle.txn_history.specs.Event.{Event, Has}
 use Rattle.txn_history.specs.Event.Event.{Sent}
 use Rattle.txn_history.specs.Licence.{PrimaryCommitted, WasGiven, WasNamed}
-use Rattle.txn_history.specs.Meaning.{Told}
 use Rattle.txn_history.specs.Moves.{Knows, Moves}
 use Rattle.txn_history.specs.Phase.Phase.{Running}
 use Rattle.txn_history.specs.Plan.{Key, Plan}
@@ -62,6 +61,11 @@ pub record KnowsParts (s : ℕ) (c : Commits) (h : List Event) (parts : CommitPa
   pub knows : KnowsCommits (plan_of parts) s c h
   pub ready : NamesReady (plan_of parts) s h
 
+-- and of what the buffer holds: where there is nothing to commit, none was sent
+pub record KnowsContents (s : ℕ) (c : Commits) (h : List Event) (contents : Contents) : Type 0 where
+  pub of_parts : (parts : CommitParts) → parts_of contents ≡ Some parts → KnowsParts s c h parts
+  pub empty : parts_of contents ≡ None → c ≡ none_sent
+
 -- The open call is of this transaction, and of what its buffer holds. Nothing is written meanwhile.
 pub record IsUnderWay {P Q K A B D : Type 0} (w : Ways P Q K A B D) (start : Timestamp) (status : Status) (contents : Contents) (c : Commits) (call : CommitterCall P Q K) (o : Posted) (h : List Event) : Type 0 where
   pub own : call.start ≡ start
@@ -77,7 +81,7 @@ pub record IsNewCall {P Q K : Type 0} (start : Timestamp) (parts : CommitParts) 
   pub stage : call.stage ≡ Over
 
 abbrev pub IsAtWork : {P Q K A B D : Type 0} → Ways P Q K A B D → Timestamp → Status → Contents → Commits → Work P Q K → Posted → List Event → Type 0
-IsAtWork w start status contents c Idle o h = (parts : CommitParts) → parts_of contents ≡ Some parts → KnowsParts (version_of start) c h parts
+IsAtWork w start status contents c Idle o h = KnowsContents (version_of start) c h contents
 IsAtWork w start status contents c (Open call) o h = IsUnderWay w start status contents c call o h
 IsAtWork w start status contents c GaveUp o h = ⊤
 
@@ -200,7 +204,7 @@ IsCommittedAt {Q} start t keys turn = (job : Option (SecondaryJob Q)) × (turn �
 pub record MayGoBack {P Q K : Type 0} (t : Standing P Q K) (h : List Event) : Type 0 where
   pub given : WasGiven h (version_of t.start)
   pub settled : undetermined t.commits ≡ None
-  pub knows : (parts : CommitParts) → parts_of t.contents ≡ Some parts → KnowsParts (version_of t.start) t.commits h parts
+  pub knows : KnowsContents (version_of t.start) t.commits h t.contents
 
 -- a start was given, and so much is known of the Commits of its primary
 pub record MayStart (plan : Plan) (s : ℕ) (c : Commits) (h : List Event) : Type 0 where

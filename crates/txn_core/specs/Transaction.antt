@@ -19,7 +19,7 @@ use Rattle.txn_commit.specs.Following.{Commits, none_sent}
 use Rattle.txn_commit.specs.Parts.{parts_of}
 use Rattle.txn_commit.specs.declared.commit_parts.CommitParts.{CommitParts}
 use Rattle.txn_core.specs.Options.{is_pessimistic}
-use Rattle.txn_core.specs.Status.{allows_commit, allows_data, allows_rollback, is_undetermined, may_move, opening}
+use Rattle.txn_core.specs.Status.{allows_data, allows_rollback, is_undetermined, may_move, opening}
 use Rattle.txn_core.specs.declared.options.TransactionOptions.{TransactionOptions}
 use Rattle.txn_core.specs.declared.status.Status.{Status}
 use Rattle.txn_core.specs.declared.status.Status.TheVariants as statuses

@@ -1,4 +1,4 @@
-use Rattle.std.proofs.Common.{◌∙◌, refl, sym}
+use Rattle.std.proofs.Common.{refl}
 use Rattle.txn_core.proofs.Going.{takes_checked, takes_committed, takes_rolled}
 use Rattle.txn_core.proofs.Waiting.{hands_committed}
 use Rattle.txn_core.proofs.transaction.Transaction.answer.Goals as goal

@@ -1,4 +1,4 @@
-use Rattle.std.proofs.Common.{◌∙◌, refl, sym}
+use Rattle.std.proofs.Common.{refl}
 use Rattle.txn_core.proofs.Going.{takes_failed}
 use Rattle.txn_history.proofs.Telling.{turn_stopped}
 use Rattle.txn_core.proofs.Waiting.{rests_gone, rests_idle}

@@ -1,4 +1,4 @@
-use Rattle.std.proofs.Common.{◌∙◌, refl, sym}
+use Rattle.std.proofs.Common.{refl}
 use Rattle.txn_core.proofs.Counting.{keeps_open, lets_go}
 use Rattle.txn_commit.proofs.Stages.{ends_is, waits_is}
 use Rattle.txn_core.proofs.Waiting.{follows_ends, follows_waits, hands_nothing, rests_idle}

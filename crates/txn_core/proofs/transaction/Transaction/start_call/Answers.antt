@@ -1,4 +1,4 @@
-use Rattle.std.proofs.Common.{◌∙◌, refl, sym}
+use Rattle.std.proofs.Common.{◌∙◌, sym}
 use Rattle.txn_history.specs.Moves.{Moves-before}
 use Rattle.txn_core.proofs.Going.{may_again}
 use Rattle.txn_core.proofs.transaction.Transaction.start_call.Goals as goal

@@ -1,4 +1,4 @@
-use Rattle.std.proofs.Common.{◌∙◌, refl, sym}
+use Rattle.std.proofs.Common.{refl}
 use Rattle.txn_history.specs.Moves.{Moves-stops}
 use Rattle.txn_commit.proofs.Posting.Hears.{Nothing}
 use Rattle.txn_history.specs.Turn.{turn_of}
@@ -6,7 +6,7 @@ use Rattle.txn_commit.proofs.Counting.{is_kept_so}
 use Rattle.txn_core.proofs.Counting.{begin_counts, commit_priced, kept_of_ok, lets_go, never_kept}
 use Rattle.txn_core.proofs.Going.{begin_fits, goes_on, lifts, may_start}
 use Rattle.txn_history.proofs.Telling.{is_kept_ok}
-use Rattle.txn_core.proofs.Waiting.{call_runs, opens_call, opens_gone}
+use Rattle.txn_core.proofs.Waiting.{opens_call, opens_gone}
 use Rattle.txn_core.proofs.transaction.Transaction.start_commit.Goals as goal
 
 pub returns-in-Err-clause-moves : goal.returns-in-Err-clause-moves

@@ -1,4 +1,4 @@
-use Rattle.std.proofs.Common.{◌∙◌, ap, refl, sym}
+use Rattle.std.proofs.Common.{ap, refl}
 use Rattle.txn_history.specs.Moves.{Moves-stops}
 use Rattle.txn_commit.proofs.Posting.Hears.{Nothing}
 use Rattle.txn_history.specs.Turn.{turn_of}
@@ -6,7 +6,7 @@ use Rattle.txn_commit.proofs.Counting.{is_kept_so}
 use Rattle.txn_core.proofs.Counting.{begin_counts, is_locking, kept_of_ok, lets_go, locks_price, never_kept, rest_pays, rollback_priced}
 use Rattle.txn_core.proofs.Going.{begin_fits, goes_on, lifts, not_locking, rolls_nothing}
 use Rattle.txn_history.proofs.Telling.{is_kept_ok}
-use Rattle.txn_core.proofs.Waiting.{call_runs, opens_call, opens_gone, opens_rests, rests_idle}
+use Rattle.txn_core.proofs.Waiting.{opens_call, opens_gone, opens_rests, rests_idle}
 use Rattle.txn_core.proofs.transaction.Transaction.start_rollback.Goals as goal
 
 pub returns-then-not-parts-clause-moves : goal.returns-then-not-parts-clause-moves

@@ -1,4 +1,4 @@
-use Rattle.std.proofs.Common.{◌∙◌, refl, sym}
+use Rattle.std.proofs.Common.{◌∙◌, refl}
 use Rattle.txn_history.specs.Moves.{Moves-stops}
 use Rattle.txn_history.specs.Turn.{turn_of}
 use Rattle.txn_commit.proofs.Counting.{is_kept_so}
@@ -7,7 +7,7 @@ use Rattle.txn_core.proofs.Counting.{kept_of_ok, lets_go, never_kept, open_count
 use Rattle.txn_core.proofs.Going.{goes_on, lifts}
 use Rattle.std.proofs.Common.{ap}
 use Rattle.txn_history.proofs.Telling.{is_kept_ok}
-use Rattle.txn_core.proofs.Waiting.{expects_call, expects_gone, goes_call, goes_gone, runs_still}
+use Rattle.txn_core.proofs.Waiting.{expects_call, expects_gone, goes_call, goes_gone}
 use Rattle.txn_commit.specs.Committing.{ways}
 use Rattle.txn_core.proofs.transaction.Transaction.tell_call.Goals as goal
 
