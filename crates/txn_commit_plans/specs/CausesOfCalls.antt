@@ -1,26 +1,23 @@
 -- The errors of a transaction's calls have their causes in what was heard, where those of its plans have.
 use Rattle.std.specs.Prelude.{◌≡◌, ◌⊎◌, ℕ, List, [], ◌∷◌, Option, Some, None, Err, refl}
-use Rattle.std.proofs.Common.{inl, inr, subst, sym}
+use Rattle.std.proofs.Common.{inl, inr, subst}
 use Rattle.txn_buffer.specs.Contents.{Contents}
 use Rattle.txn_causes.specs.Causes.{HasCause}
 use Rattle.txn_causes.specs.Heard.{heard_in}
-use Rattle.txn_causes.specs.Making.{of_loss}
 use Rattle.txn_commit.specs.Committing.{CommitterGives, Ways}
-use Rattle.txn_commit.specs.Following.{first_of, or_first, undetermined, Commits, KnowsCommits, PrimarySent}
+use Rattle.txn_commit.specs.Following.{first_of, or_first, undetermined, Commits, KnowsCommits, PrimaryLost, PrimarySent}
 use Rattle.txn_commit.specs.Timing.{WasUntimed}
 use Rattle.txn_commit.specs.declared.commit_parts.CommitParts.{CommitParts}
 use Rattle.txn_core.specs.Going.{FailsWith, IsNothing, TransactionGives}
 use Rattle.txn_history.specs.Among.{IsAmong}
 use Rattle.txn_history.specs.Event.{Event, Has}
-use Rattle.txn_history.specs.Event.Event.{Answered, Lost}
+use Rattle.txn_history.specs.Event.Event.{Answered}
 use Rattle.txn_history.specs.Plan.{Plan}
 use Rattle.txn_kv.specs.ErrorView.{view_of}
 use Rattle.txn_kv.specs.ErrorView.ErrorView.{undetermined as not_known}
 use Rattle.txn_kv.specs.Timestamp.{version_of}
 use Rattle.txn_kv.specs.declared.errors.Error.{Error}
-use Rattle.txn_kv.specs.declared.errors.Error.TheVariants.{GrpcAPI}
 use Rattle.txn_kv.specs.declared.query.PdQuery.TheVariants.{Time}
-use Rattle.txn_kv.specs.declared.request.Request.TheVariants.{Commit}
 use Rattle.txn_kv.specs.declared.ticket.Ticket.{Ticket}
 use Rattle.txn_kv.specs.declared.timestamp.Timestamp.{Timestamp}
 use Rattle.txn_commit_plans.specs.CausesOfLookUps.{query_failed}
@@ -35,9 +32,9 @@ abbrev pub IsCallExplained : Option Ticket → List Event → Error → Type 0
 IsCallExplained None h e = IsExplained h e
 IsCallExplained (Some t) h e = (inner : Error) × (view_of e ≡ not_known (view_of inner)) × IsExplained h inner
 
--- What a rollback answers that is refused for this Commit of the primary: that was lost, and is named; or it is out.
-abbrev pub IsRefusalExplained : Plan → ℕ → Commits → Ticket → List Event → Error → Type 0
-IsRefusalExplained plan s c t h e = HasCause (heard_in h) (view_of e) ⊎ ((c.lost ≡ None) × PrimarySent plan s h t)
+-- What is known of the Commit of the primary that a refused rollback names: it was lost; or none was, and it is out.
+abbrev pub IsRefusalExplained : Plan → ℕ → Commits → Ticket → List Event → Type 0
+IsRefusalExplained plan s c t h = PrimaryLost plan s h t ⊎ ((c.lost ≡ None) × PrimarySent plan s h t)
 
 -- lemmas
 
@@ -76,13 +73,9 @@ first_sent : (plan : Plan) (s : ℕ) (h : List Event) (t : Ticket) (out : List T
 first_sent plan s h t [] sent e = cc
 first_sent plan s h t (u ∷ out) sent e = let same : u ≡ t = cc in subst (PrimarySent plan s h) same (sent u (inl refl))
 
-pub refusal_explained : (plan : Plan) (s : ℕ) (c : Commits) (h : List Event) (t : Ticket) (e : Error) → KnowsCommits plan s c h → undetermined c ≡ Some t → view_of e ≡ not_known (view_of (GrpcAPI t)) → IsRefusalExplained plan s c t h e
-refusal_explained plan s c h t e k u v = by c.lost refl u
+pub refusal_explained : (plan : Plan) (s : ℕ) (c : Commits) (h : List Event) (t : Ticket) → KnowsCommits plan s c h → undetermined c ≡ Some t → IsRefusalExplained plan s c t h
+refusal_explained plan s c h t k u = by c.lost refl u
   where
-    by : (lost : Option Ticket) → c.lost ≡ lost → or_first lost c.out ≡ Some t → IsRefusalExplained plan s c t h e
+    by : (lost : Option Ticket) → c.lost ≡ lost → or_first lost c.out ≡ Some t → IsRefusalExplained plan s c t h
     by None l f = inr (l, first_sent plan s h t c.out k.waiting f)
-    by (Some first) l f =
-        let same : first ≡ t = cc in
-        let p = k.losing first l in
-        let gone = subst (λ x. Has h (Lost x (Commit p.0))) same p.1 in
-        inl (subst (HasCause (heard_in h)) (sym v) (of_loss (heard_in h) t (Commit p.0, gone)))
+    by (Some first) l f = let same : first ≡ t = cc in inl (subst (PrimaryLost plan s h) same (k.losing first l))

@@ -1,20 +1,19 @@
 -- Why a place or a timestamp was not found: errors of look-ups have their causes in what was heard.
-use Rattle.std.proofs.Common.{◌≡◌, ◌≢◌, ◌∙◌, inl, inr, ap, refl, subst, sym, ℕ, ◌+◌, Bool, true, false, List, ◌∷◌, Option, Some, None}
+use Rattle.std.proofs.Common.{◌≡◌, ◌≢◌, ◌∙◌, inl, inr, ap, refl, subst, sym, zero, suc, ℕ, ◌+◌, Bool, true, false, List, ◌∷◌, Option, Some, None}
 use Rattle.std.proofs.lemmas.Bool.{eqb-false}
 use Rattle.std.specs.Prelude.{◌⊎◌, ⊤, ◌==◌, if◌then◌else◌, is_none, option_map, Result, Ok, Err}
-use Rattle.txn_causes.specs.Making.{of_internal, of_key, of_leader, of_loss, of_region, of_text}
+use Rattle.txn_causes.specs.Making.{of_internal, of_key, of_leader, of_loss, of_region}
 use Rattle.txn_causes.specs.Carried.{region_in, FoundNone, FoundOther, HasBadKey, IsNoKey}
-use Rattle.txn_causes.specs.Causes.{HasCause, InternalCause}
+use Rattle.txn_causes.specs.Causes.{FoundNoRegion, HasCause, HasFailed, HaveFailed, InternalCause, retries}
 use Rattle.txn_causes.specs.Heard.{heard_in, Heard}
 use Rattle.txn_causes.specs.Heard.Heard.{TookReply}
 use Rattle.txn_causes.specs.Kinds.{IsOfKind}
 use Rattle.txn_history.specs.Event.{Event, Has}
-use Rattle.txn_history.specs.Event.Event.{Took, Answered}
+use Rattle.txn_history.specs.Event.Event.{Took, Lost, Answered}
 use Rattle.txn_history.specs.Posted.{ticket_of, Posted}
 use Rattle.txn_kv.specs.Codec.{key_length}
 use Rattle.txn_kv.specs.ErrorView.{view_of}
 use Rattle.txn_kv.specs.declared.errors.Error.{Error}
-use Rattle.txn_kv.specs.declared.errors.Error.TheVariants.{InternalError, LeaderNotFound, RegionForKeyNotFound, RegionNotFoundInResponse, StringError}
 use Rattle.txn_kv.specs.declared.errors.Internal.{Internal}
 use Rattle.txn_kv.specs.declared.errors.Internal.TheVariants.{BadEnd, BadPadding, NoEpoch, ReversedRegion, WrongReply}
 use Rattle.txn_kv.specs.declared.message.Region.{Region}
@@ -29,12 +28,12 @@ use Rattle.txn_kv.specs.declared.reply.Reply.TheVariants as reply
 use Rattle.txn_kv.specs.declared.request.Request.{Request}
 use Rattle.txn_kv.specs.declared.request.Request.TheVariants as request
 use Rattle.txn_kv.specs.declared.ticket.Ticket.{Ticket}
-use Rattle.txn_multi.specs.Cutting.{IsLookUpRefused, WhyUnfound}
+use Rattle.txn_multi.specs.Cutting.{IsLookUpRefused}
 use Rattle.txn_region.specs.Clients
 use Rattle.txn_region.specs.Clients.{IsBadAnswer, IsBadRegion, IsPlaceQuery}
 use Rattle.txn_region.specs.Clients.IsBadRegion.{reversed, no_epoch, bad_start, bad_end, no_leader}
-use Rattle.txn_region.specs.Refusals.{IsNoEpoch, IsPlacementError}
-use Rattle.txn_tso.specs.Calling.{members, Gives, IsFailure, IsRefused, IsTold, IsUnlikeReply}
+use Rattle.txn_tso.specs.Calling
+use Rattle.txn_tso.specs.Calling.{members, Gives, HaveLostMembers, IsFailure, IsRefused, IsTold, IsUnlikeReply}
 use Rattle.txn_tso.specs.Placement.{not_found, request_of, Answers, HasNoRegion, IsOfOtherKind, IsToldRegion}
 
 is_nothing : {X : Type 0} (x : Option X) → is_none x ≡ true → x ≡ None
@@ -71,18 +70,18 @@ bad_key_refusal r what (inl start) = no_key_refusal r.region.start_key what star
 bad_key_refusal r what (inr end) = no_key_refusal r.region.end_key what end
 
 -- A region record in a reply that was taken, and what is wrong with it
-module _ (K : Heard → Type 0) (t : Ticket) (x : Reply) (taken : K (TookReply t x)) (r : RegionWithLeader) (found : region_in x ≡ Some r) where
+module _ (K : Heard → Type 0) (t : Ticket) (asked : Request) (x : Reply) (taken : K (TookReply t asked x)) (r : RegionWithLeader) (found : region_in x ≡ Some r) where
   bad_key : (what : Internal) → IsKeyRefusal what → HasBadKey what r → InternalCause K what
-  bad_key (BadEnd at) is bad = (t, x, taken, (r, found, bad))
-  bad_key (BadPadding at) is bad = (t, x, taken, (r, found, bad))
+  bad_key (BadEnd at) is bad = (t, asked, x, taken, (r, found, bad))
+  bad_key (BadPadding at) is bad = (t, asked, x, taken, (r, found, bad))
   bad_key _ is bad = absurd is
 
   bad_region : (why : Error) → IsBadRegion r why → HasCause K (view_of why)
-  bad_region _ (reversed e) = of_internal K (ReversedRegion r.region.id) (t, x, taken, (r, found, (refl, e)))
-  bad_region _ (no_epoch e) = of_internal K (NoEpoch r.region.id) (inl (t, x, taken, inl (r, found, (refl, is_nothing r.region.region_epoch e))))
+  bad_region _ (reversed e) = of_internal K (ReversedRegion r.region.id) (t, asked, x, taken, (r, found, (refl, e)))
+  bad_region _ (no_epoch e) = of_internal K (NoEpoch r.region.id) (t, asked, x, taken, inl (r, found, (refl, is_nothing r.region.region_epoch e)))
   bad_region _ (bad_start what e) = of_internal K what (bad_key what (bad_key_refusal r what (inl e)) (inl e))
   bad_region _ (bad_end what e) = of_internal K what (bad_key what (bad_key_refusal r what (inr e)) (inr e))
-  bad_region _ (no_leader e) = of_leader K r.region.id (inl (t, x, taken, (r, found, (refl, is_nothing r.leader e))))
+  bad_region _ (no_leader e) = of_leader K r.region.id (t, asked, x, taken, (r, found, (refl, is_nothing r.leader e)))
 
 -- What came of a query
 
@@ -90,50 +89,45 @@ shown : (o : GetRegionResponse) (r : RegionWithLeader) → o.region ≡ Some r.r
     → option_map (λ region. record { region = region; leader = o.leader }) o.region ≡ Some r
 shown o r e f = ap (option_map (λ (region : Region). record { region = region; leader = o.leader })) e ∙ ap (λ l. Some (record { region = r.region; leader = l })) (sym f)
 
+the : (a b : Request) → Some a ≡ Some b → a ≡ b
+the a b e = cc
+
 -- an answer that was taken and is refused
-module _ (h : List Event) (t : Ticket) (asked : Request) (why : Error) where
-  by_key : (key : List ℕ) (o : GetRegionResponse) → Has h (Took t asked (reply.GetRegion o)) → (a : PdAnswer) → IsToldRegion o a → IsBadAnswer (query.Region key) a why → HasCause (heard_in h) (view_of why)
+module _ (h : List Event) (t : Ticket) (why : Error) where
+  by_key : (key : List ℕ) (o : GetRegionResponse) → Has h (Took t (request.GetRegion (record { region_key = key })) (reply.GetRegion o)) → (a : PdAnswer) → IsToldRegion o a → IsBadAnswer (query.Region key) a why → HasCause (heard_in h) (view_of why)
   by_key key o taken a told bad = judged (subst (λ x. IsBadAnswer (query.Region key) x why) told.1 bad)
     where
       judged : IsBadAnswer (query.Region key) (answer.Region told.0) why → HasCause (heard_in h) (view_of why)
-      judged (inl spoilt) = bad_region (heard_in h) t (reply.GetRegion o) (asked, taken) told.0 (shown o told.0 told.2 told.3) why spoilt
+      judged (inl spoilt) = bad_region (heard_in h) t (request.GetRegion (record { region_key = key })) (reply.GetRegion o) taken told.0 (shown o told.0 told.2 told.3) why spoilt
       judged (inr other) =
           subst (λ x. HasCause (heard_in h) (view_of x)) (sym other.1)
-          (of_region (heard_in h) told.0.region.id (inl (t, reply.GetRegion o, (asked, taken), (told.0.region, key, told.2, refl, other.0))))
+          (of_region (heard_in h) told.0.region.id (t, request.GetRegion (record { region_key = key }), reply.GetRegion o, taken, (told.0.region, told.2, refl, other.0)))
 
-  by_id : (id : ℕ) (o : GetRegionResponse) → Has h (Took t asked (reply.GetRegionById o)) → (a : PdAnswer) → IsToldRegion o a → IsBadAnswer (query.RegionId id) a why → HasCause (heard_in h) (view_of why)
+  by_id : (id : ℕ) (o : GetRegionResponse) → Has h (Took t (request.GetRegionById (record { region_id = id })) (reply.GetRegionById o)) → (a : PdAnswer) → IsToldRegion o a → IsBadAnswer (query.RegionId id) a why → HasCause (heard_in h) (view_of why)
   by_id id o taken a told bad = judged (subst (λ x. IsBadAnswer (query.RegionId id) x why) told.1 bad)
     where
       other_id : (region : Region) → o.region ≡ Some region → (told.0.region.id ≡ id → ⊥) → region.id ≢ id
       other_id region e apart same = let is : told.0.region ≡ region = cc (told.2, e) in apart (ap (λ (x : Region). x.id) is ∙ same)
 
       judged : IsBadAnswer (query.RegionId id) (answer.Region told.0) why → HasCause (heard_in h) (view_of why)
-      judged (inl spoilt) = bad_region (heard_in h) t (reply.GetRegionById o) (asked, taken) told.0 (shown o told.0 told.2 told.3) why spoilt
+      judged (inl spoilt) = bad_region (heard_in h) t (request.GetRegionById (record { region_id = id })) (reply.GetRegionById o) taken told.0 (shown o told.0 told.2 told.3) why spoilt
       judged (inr other) =
           subst (λ x. HasCause (heard_in h) (view_of x)) (sym other.1)
-          (of_region (heard_in h) id (inl (t, reply.GetRegionById o, (asked, taken), λ region e. other_id region e (eqb-false told.0.region.id id other.0))))
+          (of_region (heard_in h) id (t, request.GetRegionById (record { region_id = id }), reply.GetRegionById o, taken, (refl, λ region e. other_id region e (eqb-false told.0.region.id id other.0))))
 
-  answer_refused : (q : PdQuery) → IsPlaceQuery q → (x : Reply) → Has h (Took t asked x) → (a : PdAnswer) → Answers q x a → IsBadAnswer q a why → HasCause (heard_in h) (view_of why)
-  answer_refused (query.Region key) place x taken a told bad = by_key key told.0 (subst (λ y. Has h (Took t asked y)) told.1 taken) a told.2 bad
-  answer_refused (query.RegionId id) place x taken a told bad = by_id id told.0 (subst (λ y. Has h (Took t asked y)) told.1 taken) a told.2 bad
-  answer_refused (query.Store id) place x taken a told bad = absurd (subst (λ y. IsBadAnswer (query.Store id) y why) told.2 bad)
-  answer_refused query.Stores place x taken a told bad = absurd place
-  answer_refused query.Time place x taken a told bad = absurd place
-  answer_refused (query.Safepoint time) place x taken a told bad = absurd place
+  -- to the request of the query
+  taken_as : (asked is : Request) (x y : Reply) → Some is ≡ Some asked → x ≡ y → Has h (Took t asked x) → Has h (Took t is y)
+  taken_as asked is x y e f taken = subst (λ z. Has h (Took t is z)) f (subst (λ r. Has h (Took t r x)) (sym (the is asked e)) taken)
 
--- a reply without region
-nothing_found : (h : List Event) (t : Ticket) (asked : Request) (q : PdQuery) (x : Reply) → Has h (Took t asked x) → HasNoRegion q x → HasCause (heard_in h) (view_of (not_found q))
-nothing_found h t asked (query.Region key) x taken none = of_key (heard_in h) key (inl (t, x, (asked, taken), subst FoundNone (sym none.1) none.2))
-nothing_found h t asked (query.RegionId id) x taken none = of_region (heard_in h) id (inl (t, x, (asked, taken), subst (FoundOther id) (sym none.1) (λ region e. cc (none.2, e))))
-nothing_found h t asked (query.Store id) x taken none = absurd none
-nothing_found h t asked query.Stores x taken none = absurd none
-nothing_found h t asked query.Time x taken none = absurd none
-nothing_found h t asked (query.Safepoint time) x taken none = absurd none
+  answer_refused : (q : PdQuery) → IsPlaceQuery q → (asked : Request) → request_of q ≡ Some asked → (x : Reply) → Has h (Took t asked x) → (a : PdAnswer) → Answers q x a → IsBadAnswer q a why → HasCause (heard_in h) (view_of why)
+  answer_refused (query.Region key) place asked is x taken a told bad = by_key key told.0 (taken_as asked (request.GetRegion (record { region_key = key })) x (reply.GetRegion told.0) is told.1 taken) a told.2 bad
+  answer_refused (query.RegionId id) place asked is x taken a told bad = by_id id told.0 (taken_as asked (request.GetRegionById (record { region_id = id })) x (reply.GetRegionById told.0) is told.1 taken) a told.2 bad
+  answer_refused (query.Store id) place asked is x taken a told bad = absurd (subst (λ y. IsBadAnswer (query.Store id) y why) told.2 bad)
+  answer_refused query.Stores place asked is x taken a told bad = absurd place
+  answer_refused query.Time place asked is x taken a told bad = absurd place
+  answer_refused (query.Safepoint time) place asked is x taken a told bad = absurd place
 
 -- A reply of another kind than its request
-
-the : (a b : Request) → Some a ≡ Some b → a ≡ b
-the a b e = cc
 
 unlike_query : (q : PdQuery) (r : Request) (x : Reply) → request_of q ≡ Some r → IsOfOtherKind q x → IsOfKind r x → ⊥
 unlike_query (query.Region key) r x e other k = let o = subst (λ y. IsOfKind y x) (sym (the (request.GetRegion (record { region_key = key })) r e)) k in other o.0 o.1
@@ -149,28 +143,79 @@ unlike_reply q r x (inr u) k = let o = subst (λ y. IsOfKind y x) u.0 k in u.1 o
 
 -- Why a query has failed
 
+-- the request of a query is tried ten times
+query_retries : (q : PdQuery) (r : Request) → request_of q ≡ Some r → retries r ≡ 9
+query_retries (query.Region key) r e = ap retries (sym (the (request.GetRegion (record { region_key = key })) r e))
+query_retries (query.RegionId id) r e = ap retries (sym (the (request.GetRegionById (record { region_id = id })) r e))
+query_retries (query.Store id) r e = ap retries (sym (the (request.GetStore (record { store_id = id })) r e))
+query_retries query.Stores r e = ap retries (sym (the (request.GetAllStores (record {})) r e))
+query_retries query.Time r e = cc
+query_retries (query.Safepoint at) r e = ap retries (sym (the (request.UpdateGcSafePoint (record { safe_point = at })) r e))
+
+-- its reply without region
+found_none : (q : PdQuery) (r : Request) (x : Reply) → request_of q ≡ Some r → HasNoRegion q x → FoundNone r x
+found_none (query.Region key) r x e none = subst (λ s. FoundNone s x) (the (request.GetRegion (record { region_key = key })) r e) (subst (FoundNone (request.GetRegion (record { region_key = key }))) (sym none.1) none.2)
+found_none (query.RegionId id) r x e none = subst (λ s. FoundNone s x) (the (request.GetRegionById (record { region_id = id })) r e) (subst (FoundNone (request.GetRegionById (record { region_id = id }))) (sym none.1) none.2)
+found_none (query.Store id) r x e none = absurd none
+found_none query.Stores r x e none = absurd none
+found_none query.Time r x e none = absurd none
+found_none (query.Safepoint at) r x e none = absurd none
+
 module _ (h : List Event) (q : PdQuery) where
-  try_failed : (t : Ticket) (why : Error) → IsFailure q t h why → HasCause (heard_in h) (view_of why) ⊎ ((q ≡ query.Time) × Has h (Answered t (Err why)))
-  try_failed t why (inl f) = inl (subst (λ x. HasCause (heard_in h) (view_of x)) (sym f.3) (of_loss (heard_in h) t (f.0, f.2)))
-  try_failed t why (inr (inl f)) = inl (subst (λ x. HasCause (heard_in h) (view_of x)) (sym f.5) (nothing_found h t f.0 q f.1 f.3 f.4))
-  try_failed t why (inr (inr f)) = inr f
+  -- tries of its request that failed, all under one line
+  one_failed : (r : Request) → request_of q ≡ Some r → (t : Ticket) (why : Error) → IsFailure q t h why → HasFailed (heard_in h) t r
+  one_failed r is t why (inl f) = inl (subst (λ s. Has h (Lost t s)) (the f.0 r (sym f.1 ∙ is)) f.2)
+  one_failed r is t why (inr (inl f)) = inr (f.1, subst (λ s. Has h (Took t s f.1)) (the f.0 r (sym f.2 ∙ is)) f.3, found_none q r f.1 is f.4)
+  one_failed r is t why (inr (inr f)) = absurd (untimed (sym is ∙ ap request_of f.0))
+    where
+      untimed : Some r ≡ None → ⊥
+      untimed e = cc
+
+  tried : (r : Request) → request_of q ≡ Some r → (o : Posted) (n below : ℕ) → Calling.HaveFailed q o n below h → HaveFailed (heard_in h) r (ticket_of o below) n
+  tried r is o zero below f = tt
+  tried r is o (suc n) below f = (ticket_of o f.0, refl, f.2, one_failed r is (ticket_of o f.0) f.1 f.3, tried r is o n f.0 f.4)
+
+  as_often : (r : Request) → request_of q ≡ Some r → (o : Posted) (k : ℕ) → Calling.HaveFailed q o 9 k h → HaveFailed (heard_in h) r (ticket_of o k) (retries r)
+  as_often r is o k f = subst (HaveFailed (heard_in h) r (ticket_of o k)) (sym (query_retries q r is)) (tried r is o 9 k f)
+
+  -- the tenth try found no region
+  nothing_found : (r : Request) (x : Reply) (o : Posted) (k : ℕ) → request_of q ≡ Some r → Has h (Took (ticket_of o k) r x) → HasNoRegion q x → Calling.HaveFailed q o 9 k h → HasCause (heard_in h) (view_of (not_found q))
+  nothing_found r x o k is taken none failed = by q r is none taken (found_none q r x is none) (as_often r is o k failed)
+    where
+      by : (p : PdQuery) (s : Request) → request_of p ≡ Some s → HasNoRegion p x → Has h (Took (ticket_of o k) s x) → FoundNone s x → HaveFailed (heard_in h) s (ticket_of o k) (retries s) → HasCause (heard_in h) (view_of (not_found p))
+      by (query.Region key) s e gone had found often = of_key (heard_in h) key (subst (FoundNoRegion (heard_in h)) (sym (the (request.GetRegion (record { region_key = key })) s e)) (ticket_of o k, x, had, found, often))
+      by (query.RegionId id) s e gone had found often = of_region (heard_in h) id (ticket_of o k, request.GetRegionById (record { region_id = id }), x, subst (λ r. Has h (Took (ticket_of o k) r x)) (sym (the (request.GetRegionById (record { region_id = id })) s e)) had, subst (FoundOther id (request.GetRegionById (record { region_id = id }))) (sym gone.1) (refl, λ region f. cc (gone.2, f)))
+      by (query.Store id) s e gone had found often = absurd gone
+      by query.Stores s e gone had found often = absurd gone
+      by query.Time s e gone had found often = absurd gone
+      by (query.Safepoint time) s e gone had found often = absurd gone
+
+  -- so many requests for the members were lost
+  members_lost : (o : Posted) (n below : ℕ) → HaveLostMembers o n below h → HaveFailed (heard_in h) members (ticket_of o below) n
+  members_lost o zero below f = tt
+  members_lost o (suc n) below f = (ticket_of o f.0, refl, f.1, inl f.2, members_lost o n f.0 f.3)
+
+  try_failed : (o : Posted) (k : ℕ) (why : Error) → IsFailure q (ticket_of o k) h why → Calling.HaveFailed q o 9 k h → HasCause (heard_in h) (view_of why) ⊎ ((q ≡ query.Time) × Has h (Answered (ticket_of o k) (Err why)))
+  try_failed o k why (inl f) often = inl (subst (λ x. HasCause (heard_in h) (view_of x)) (sym f.3) (of_loss (heard_in h) (ticket_of o k) (f.0, f.2, as_often f.0 f.1 o k often)))
+  try_failed o k why (inr (inl f)) often = inl (subst (λ x. HasCause (heard_in h) (view_of x)) (sym f.5) (nothing_found f.0 f.1 o k f.2 f.3 f.4 often))
+  try_failed o k why (inr (inr f)) often = inr f
 
   -- its error has a cause, or is that with which an ask for a timestamp was refused
   pub query_failed : (o : Posted) (why : Error) → IsRefused q o h why → HasCause (heard_in h) (view_of why) ⊎ ((q ≡ query.Time) × ((ask : Ticket) × Has h (Answered ask (Err why))))
-  query_failed o why (inl f) = asked (try_failed (ticket_of o f.0) why f.1)
+  query_failed o why (inl f) = asked (try_failed o f.0 why f.1 f.2)
     where
       asked : HasCause (heard_in h) (view_of why) ⊎ ((q ≡ query.Time) × Has h (Answered (ticket_of o f.0) (Err why))) → HasCause (heard_in h) (view_of why) ⊎ ((q ≡ query.Time) × ((ask : Ticket) × Has h (Answered ask (Err why))))
       asked (inl k) = inl k
       asked (inr k) = inr (k.0, (ticket_of o f.0, k.1))
-  query_failed o why (inr (inl f)) = inl (subst (λ x. HasCause (heard_in h) (view_of x)) (sym f.2) (of_loss (heard_in h) (ticket_of o f.0) (members, f.1)))
-  query_failed o why (inr (inr f)) = inl (subst (λ x. HasCause (heard_in h) (view_of x)) (sym f.5) (of_internal (heard_in h) WrongReply (ticket_of o f.0, f.2, (f.1, f.3, unlike_reply q f.1 f.2 f.4))))
+  query_failed o why (inr (inl f)) = inl (subst (λ x. HasCause (heard_in h) (view_of x)) (sym f.2) (of_loss (heard_in h) (ticket_of o f.0) (members, f.1, members_lost o 4 f.0 f.3)))
+  query_failed o why (inr (inr f)) = inl (subst (λ x. HasCause (heard_in h) (view_of x)) (sym f.5) (of_internal (heard_in h) WrongReply (ticket_of o f.0, f.1, f.2, f.3, unlike_reply q f.1 f.2 f.4)))
 
 -- Why no place was found
 
 never_timed : (q : PdQuery) → IsPlaceQuery q → q ≡ query.Time → ⊥
 never_timed q place e = subst IsPlaceQuery e place
 
-look_up_refused : (h : List Event) (why : Error) → IsLookUpRefused h why → HasCause (heard_in h) (view_of why)
+pub look_up_refused : (h : List Event) (why : Error) → IsLookUpRefused h why → HasCause (heard_in h) (view_of why)
 look_up_refused h why r = answered r.answer r.given.1 r.refused
   where
     failed : (e : Error) → view_of why ≡ view_of e → HasCause (heard_in h) (view_of e) ⊎ ((r.call.query ≡ query.Time) × ((ask : Ticket) × Has h (Answered ask (Err e)))) → HasCause (heard_in h) (view_of why)
@@ -178,26 +223,9 @@ look_up_refused h why r = answered r.answer r.given.1 r.refused
     failed e same (inr k) = absurd (never_timed r.call.query r.place k.0)
 
     told : (a : PdAnswer) → IsTold r.call.query r.given.0 h a → IsBadAnswer r.call.query a why → HasCause (heard_in h) (view_of why)
-    told a (inl g) bad = answer_refused h (ticket_of r.given.0 g.0) g.1 why r.call.query r.place g.2 g.4 a g.5 bad
+    told a (inl g) bad = answer_refused h (ticket_of r.given.0 g.0) why r.call.query r.place g.1 g.3 g.2 g.4 a g.5 bad
     told a (inr g) bad = absurd (never_timed r.call.query r.place g.2)
 
     answered : (v : Result PdAnswer Error) → Gives r.call r.given.0 h v → Clients.IsRefused r.call.query v why → HasCause (heard_in h) (view_of why)
     answered (Ok a) g refused = told a g refused
     answered (Err e) g refused = failed e refused (query_failed h r.call.query r.given.0 e g)
-
--- a client that had no place, by what it believed
-unplaced : (h : List Event) (why : Error) → IsPlacementError why → HasCause (heard_in h) (view_of why)
-unplaced h (RegionForKeyNotFound wanted) is = of_key (heard_in h) wanted (inr tt)
-unplaced h (RegionNotFoundInResponse id) is = of_region (heard_in h) id (inr tt)
-unplaced h (LeaderNotFound id) is = of_leader (heard_in h) id (inr tt)
-unplaced h (InternalError what) is = of_internal (heard_in h) what (by what is)
-  where
-    by : (what : Internal) → IsNoEpoch what → InternalCause (heard_in h) what
-    by (NoEpoch id) is = inr tt
-    by _ is = absurd is
-unplaced h (StringError message) is = of_text (heard_in h) message tt
-unplaced h _ is = absurd is
-
-pub unfound : (h : List Event) (why : Error) → WhyUnfound h why → HasCause (heard_in h) (view_of why)
-unfound h why (inl placed) = unplaced h why placed
-unfound h why (inr refused) = look_up_refused h why refused

@@ -5,7 +5,7 @@ use Rattle.std.specs.List.{cons_option, filter_map}
 use Rattle.std.specs.Prelude.{◌⊎◌, Result, Ok, Err}
 use Rattle.txn_causes.specs.Making.{each_caused, some_listed}
 use Rattle.txn_causes.specs.Carried.{listed as errors_listed, HasKeyError, HasLock, HasRegionError}
-use Rattle.txn_causes.specs.Causes.{HasCause, Taken}
+use Rattle.txn_causes.specs.Causes.{HasCause, Taken, retries}
 use Rattle.txn_causes.specs.Heard.{heard_in}
 use Rattle.txn_causes.specs.Kinds.{IsOfKind}
 use Rattle.txn_history.specs.Among.{IsAmong}
@@ -112,7 +112,7 @@ module _ {S T V : Type 0} (m : Meaning S (Result (Vec (Result V Error)) Error)) 
 
 module _ {S A : Type 0} (m : Meaning S (Result A Error)) (Is : List Event → A → Type 0) (rests : RestsOnHeard m Is) (keys : A → List ErrorView) (regions : A → List RegionErr)
     (keyed : (h : List Event) (a : A) → Is h a → (view : ErrorView) → IsAmong (keys a) view → HasCause (heard_in h) view)
-    (placed : (h : List Event) (a : A) → Is h a → (e : RegionErr) → IsAmong (regions a) e → Taken (heard_in h) (HasRegionError e)) where
+    (placed : (h : List Event) (a : A) → Is h a → (e : RegionErr) → IsAmong (regions a) e → Taken (heard_in h) (λ q. HasRegionError e)) where
   view_caused : (h : List Event) (a : A) → Is h a → (view : ErrorView) → IsAmong (views_in (keys a) (regions a)) view → HasCause (heard_in h) view
   view_caused h a is view i = by (or_else_among (keys a) (map region (regions a)) view i)
     where
@@ -137,7 +137,7 @@ module _ {V : Type 0} (reply_of : V → Reply) (keys : V → List ErrorView) (re
   reply_keyed : (v : V) → WasTaken h (reply_of v) → (view : ErrorView) → IsAmong (keys v) view → HasCause (heard_in h) view
   reply_keyed v w view i = let k = keyed v view i in subst (HasCause (heard_in h)) (sym k.1) (taken_so h (reply_of v) (HasKeyError k.0) w k.2)
 
-  reply_placed : (v : V) → WasTaken h (reply_of v) → (e : RegionErr) → region_of v ≡ Some e → Taken (heard_in h) (HasRegionError e)
+  reply_placed : (v : V) → WasTaken h (reply_of v) → (e : RegionErr) → region_of v ≡ Some e → Taken (heard_in h) (λ q. HasRegionError e)
   reply_placed v w e is = taken_so h (reply_of v) (HasRegionError e) w (placed v e is)
 
   result_keyed : (r : Result V Error) → ResultRests reply_of h r → (view : ErrorView) → IsAmong (seen_in keys r) view → HasCause (heard_in h) view
@@ -145,20 +145,20 @@ module _ {V : Type 0} (reply_of : V → Reply) (keys : V → List ErrorView) (re
   result_keyed (Err e) c view (inl same) = subst (HasCause (heard_in h)) same c
   result_keyed (Err e) c view (inr none) = absurd none
 
-  result_placed : (r : Result V Error) → ResultRests reply_of h r → (e : RegionErr) → region_in region_of r ≡ Some e → Taken (heard_in h) (HasRegionError e)
+  result_placed : (r : Result V Error) → ResultRests reply_of h r → (e : RegionErr) → region_in region_of r ≡ Some e → Taken (heard_in h) (λ q. HasRegionError e)
   result_placed (Ok v) w e is = reply_placed v w e is
   result_placed (Err why) c e is = cc
 
   results_keyed : (results : List (Result V Error)) → AllRest reply_of h results → (view : ErrorView) → IsAmong (first_seen (seen_in keys) results) view → HasCause (heard_in h) view
   results_keyed results rest view i = let s = first_seen_among (seen_in keys) results view i in result_keyed s.0 (rest s.0 s.1) view s.2
 
-  results_placed : (results : List (Result V Error)) → AllRest reply_of h results → (e : RegionErr) → IsAmong (filter_map (region_in region_of) results) e → Taken (heard_in h) (HasRegionError e)
+  results_placed : (results : List (Result V Error)) → AllRest reply_of h results → (e : RegionErr) → IsAmong (filter_map (region_in region_of) results) e → Taken (heard_in h) (λ q. HasRegionError e)
   results_placed results rest e i = let f = filtered_among (region_in region_of) results e i in result_placed f.0 (rest f.0 f.1) e f.2
 
   replies_keyed : (values : List V) → AllTaken reply_of h values → (view : ErrorView) → IsAmong (first_seen keys values) view → HasCause (heard_in h) view
   replies_keyed values taken view i = let s = first_seen_among keys values view i in reply_keyed s.0 (taken s.0 s.1) view s.2
 
-  replies_placed : (values : List V) → AllTaken reply_of h values → (e : RegionErr) → IsAmong (filter_map region_of values) e → Taken (heard_in h) (HasRegionError e)
+  replies_placed : (values : List V) → AllTaken reply_of h values → (e : RegionErr) → IsAmong (filter_map region_of values) e → Taken (heard_in h) (λ q. HasRegionError e)
   replies_placed values taken e i = let f = filtered_among region_of values e i in reply_placed f.0 (taken f.0 f.1) e f.2
 
 -- What stands in replies
@@ -196,7 +196,7 @@ key_of_errors errors view i = let m = mapped_among key errors view i in (m.0, sy
 
 -- The plans
 
-module _ {R V H L : Type 0} (request_of : R → Request) (reply_of : V → Reply) (unlike : (r : R) (x : Reply) → ((v : V) → x ≢ reply_of v) → IsOfKind (request_of r) x → ⊥)
+module _ {R V H L : Type 0} (request_of : R → Request) (reply_of : V → Reply) (once : (r : R) → retries (request_of r) ≡ 0) (unlike : (r : R) (x : Reply) → ((v : V) → x ≢ reply_of v) → IsOfKind (request_of r) x → ⊥)
     (keys : V → List ErrorView) (region_of : V → Option RegionErr) (locks_in : V → List LockInfo)
     (keyed : (v : V) (view : ErrorView) → IsAmong (keys v) view → (e : KeyError) × (view ≡ key e) × HasKeyError e (reply_of v))
     (placed : (v : V) (e : RegionErr) → region_of v ≡ Some e → HasRegionError e (reply_of v))
@@ -204,12 +204,12 @@ module _ {R V H L : Type 0} (request_of : R → Request) (reply_of : V → Reply
     (is_part : R → R → Type 0) (load : R → L) (are_cut : L → List L → Type 0) (most : R → ℕ → ℕ) where
   over_regions_rests : RestsOnHeard (over_regions {H = H} request_of reply_of keys region_of locks_in is_part load are_cut most) (λ h results. AllRest reply_of h results.items)
   over_regions_rests =
-      multi_rests (unlocked (dispatch request_of reply_of) locks_in) reply_of keys region_of keyed placed (unlocked_rests (dispatch request_of reply_of) reply_of locks_in held (dispatch_rests request_of reply_of unlike))
+      multi_rests (unlocked (dispatch request_of reply_of) locks_in) reply_of keys region_of keyed placed (unlocked_rests (dispatch request_of reply_of) reply_of locks_in held (dispatch_rests request_of reply_of once unlike))
       (λ part whole. is_part part.inner.request whole.inner.request) (λ s. load s.inner.request) are_cut (λ s. most s.inner.request)
 
 commits_rest : RestsOnHeard commits (λ h results. AllRest reply.Commit h results.items)
 commits_rest =
-    over_regions_rests Commit reply.Commit (λ r x other k. other k.0 k.1) (λ v. views_of_error v.error) (λ v. v.region_error) (λ v. locks_of_error v.error)
+    over_regions_rests Commit reply.Commit (λ r. refl) (λ r x other k. other k.0 k.1) (λ v. views_of_error v.error) (λ v. v.region_error) (λ v. locks_of_error v.error)
     (λ v view i. key_of_error v.error view i) (λ v e is. is) (λ v lock i. lock_of_error v.error lock i) CommitPart commit_keys (λ whole pieces. ArePieces whole pieces) (λ r. by_items (length r.keys))
 
 pub commits_caused : FailsForCauses commit_plan
@@ -220,7 +220,7 @@ commits_caused =
 
 rollbacks_rest : RestsOnHeard rollbacks (λ h results. AllRest reply.BatchRollback h results.items)
 rollbacks_rest =
-    over_regions_rests BatchRollback reply.BatchRollback (λ r x other k. other k.0 k.1) (λ v. views_of_error v.error) (λ v. v.region_error) (λ v. locks_of_error v.error)
+    over_regions_rests BatchRollback reply.BatchRollback (λ r. refl) (λ r x other k. other k.0 k.1) (λ v. views_of_error v.error) (λ v. v.region_error) (λ v. locks_of_error v.error)
     (λ v view i. key_of_error v.error view i) (λ v e is. is) (λ v lock i. lock_of_error v.error lock i) BatchRollbackPart rollback_keys (λ whole pieces. AreJoined whole pieces) (λ r. by_items (length r.keys))
 
 pub rollbacks_caused : FailsForCauses rollback_plan
@@ -231,7 +231,7 @@ rollbacks_caused =
 
 prewrites_rest : RestsOnHeard prewrites (λ h results. AllRest reply.Prewrite h results.items)
 prewrites_rest =
-    over_regions_rests Prewrite reply.Prewrite (λ r x other k. other k.0 k.1) (λ v. map key v.errors) (λ v. v.region_error) (λ v. locks_of_errors v.errors)
+    over_regions_rests Prewrite reply.Prewrite (λ r. refl) (λ r x other k. other k.0 k.1) (λ v. map key v.errors) (λ v. v.region_error) (λ v. locks_of_errors v.errors)
     (λ v view i. key_of_errors v.errors view i) (λ v e is. is) (λ v lock i. lock_of_errors v.errors lock i) PrewritePart mutations_of (λ whole pieces. AreJoined whole pieces) (λ r. by_items (length r.mutations))
 
 pub prewrites_caused : FailsForCauses prewrite_plan

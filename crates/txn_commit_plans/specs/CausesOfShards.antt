@@ -6,7 +6,7 @@ use Rattle.std.specs.Option.{option_map}
 use Rattle.std.specs.Prelude.{cond, is_none, Result, Ok, Err}
 use Rattle.txn_causes.specs.Making.{each_caused, of_internal, of_loss, of_memory, some_listed}
 use Rattle.txn_causes.specs.Carried.{HasKeyError, HasLock, HasNoEpoch, HasRegionError}
-use Rattle.txn_causes.specs.Causes.{HasCause, Taken}
+use Rattle.txn_causes.specs.Causes.{HasCause, HaveFailed, Taken, retries}
 use Rattle.txn_causes.specs.Heard.{heard_in}
 use Rattle.txn_causes.specs.Kinds.{IsOfKind}
 use Rattle.txn_history.specs.Among.{IsAmong}
@@ -40,14 +40,14 @@ use Rattle.txn_retry.specs.Remedy.{first_without_epoch, on_leader, on_listed, on
 use Rattle.txn_retry.specs.declared.remedy.Next.{Next}
 use Rattle.txn_retry.specs.declared.remedy.Next.TheVariants as next
 use Rattle.txn_tasks.specs.Tasks.{Outcome}
-use Rattle.txn_commit_plans.specs.CausesOfLookUps.{unfound}
+use Rattle.txn_commit_plans.specs.CausesOfLookUps.{look_up_refused}
 
 -- the reply was taken
 abbrev pub WasTaken : List Event → Reply → Type 0
 WasTaken h o = (t : Ticket) × (r : Request) × Has h (Took t r o)
 
-pub taken_so : (h : List Event) (o : Reply) (is : Reply → Type 0) → WasTaken h o → is o → Taken (heard_in h) is
-taken_so h o is w i = (w.0, o, (w.1, w.2), i)
+pub taken_so : (h : List Event) (o : Reply) (is : Reply → Type 0) → WasTaken h o → is o → Taken (heard_in h) (λ q. is)
+taken_so h o is w i = (w.0, w.1, o, w.2, i)
 
 abbrev pub IsCaused : List Event → Error → Type 0
 IsCaused h e = HasCause (heard_in h) (view_of e)
@@ -66,10 +66,10 @@ RestsOnReplies m reply_of = RestsOnHeard m (λ h v. WasTaken h (reply_of v))
 
 -- One request
 
-module _ {R V : Type 0} (request_of : R → Request) (reply_of : V → Reply) (unlike : (r : R) (x : Reply) → ((v : V) → x ≢ reply_of v) → IsOfKind (request_of r) x → ⊥) where
+module _ {R V : Type 0} (request_of : R → Request) (reply_of : V → Reply) (once : (r : R) → retries (request_of r) ≡ 0) (unlike : (r : R) (x : Reply) → ((v : V) → x ≢ reply_of v) → IsOfKind (request_of r) x → ⊥) where
   unanswered : (h : List Event) (r : R) (e : Error) → IsReplied reply_of (request_of r) h (Err e) → IsCaused h e
-  unanswered h r e (inl g) = subst (IsCaused h) (sym g.2) (of_loss (heard_in h) g.0 (request_of r, g.1))
-  unanswered h r e (inr g) = subst (IsCaused h) (sym g.4) (of_internal (heard_in h) WrongReply (g.0, g.1, (request_of r, g.2, unlike r g.1 g.3)))
+  unanswered h r e (inl g) = subst (IsCaused h) (sym g.2) (of_loss (heard_in h) g.0 (request_of r, g.1, subst (HaveFailed (heard_in h) (request_of r) g.0) (sym (once r)) tt))
+  unanswered h r e (inr g) = subst (IsCaused h) (sym g.4) (of_internal (heard_in h) WrongReply (g.0, request_of r, g.1, g.2, unlike r g.1 g.3))
 
   pub dispatch_rests : RestsOnReplies (dispatch request_of reply_of) reply_of
   dispatch_rests = record {
@@ -220,7 +220,7 @@ module _ {S V : Type 0} (m : Meaning S (Result V Error)) (reply_of : V → Reply
       by (next.EndWithoutEpoch id) e end =
           let t = ends_at_error r.delay r.error used id e in
           let error = subst (λ x. HasRegionError x (reply_of r.refused.reply)) t.2 (placed r.refused.reply r.error r.refused.found) in
-          subst (IsCaused h) (sym end) (of_internal (heard_in h) (NoEpoch id) (inl (taken.0, reply_of r.refused.reply, (taken.1, taken.2), inr (t.0, t.1, error, t.3, t.4))))
+          subst (IsCaused h) (sym end) (of_internal (heard_in h) (NoEpoch id) (taken.0, taken.1, reply_of r.refused.reply, taken.2, inr (t.0, t.1, error, t.3, t.4)))
 
   of_keys : (h : List Event) (v : V) → WasTaken h (reply_of v) → (view : ErrorView) → IsAmong (keys v) view → HasCause (heard_in h) view
   of_keys h v w view i = let k = keyed v view i in subst (HasCause (heard_in h)) (sym k.1) (taken_so h (reply_of v) (HasKeyError k.0) w k.2)
@@ -231,7 +231,7 @@ module _ {S V : Type 0} (m : Meaning S (Result V Error)) (reply_of : V → Reply
       subst (HasCause (heard_in h)) (sym i.3) (some_listed (keys i.0) i.2, each_caused (heard_in h) (keys i.0) (of_keys h i.0 (rests.value job h i.0 i.1)))
   outcome_rests used job h (Err why) (inl own) = rests.error job h why own
   outcome_rests used job h (Err why) (inr (inl refused)) = refused_for used job h why refused
-  outcome_rests used job h (Err why) (inr (inr lost)) = unfound h why lost.1
+  outcome_rests used job h (Err why) (inr (inr lost)) = look_up_refused h why lost.1
 
   all_rest : (h : List Event) (parts : List (Part S)) (outcomes : List (Outcome V)) → AllZip (λ p o. IsOutcome m keys region_of p.region p.plan h o) parts outcomes
       → (o : Outcome V) → IsAmong outcomes o → OutcomeRests reply_of h o
@@ -248,7 +248,7 @@ module _ {S V : Type 0} (m : Meaning S (Result V Error)) (reply_of : V → Reply
 
     multi_error : (s : RetryableMultiRegion S V H) (h : List Event) (e : Error) → (multi m keys region_of is_part load are_cut most).gives s h (Err e) → IsCaused h e
     multi_error s h e (inl g) = error_rests reply_of h s.preserve_region_results g.1 e g.3 (all_rest h g.0 g.1 g.2.each)
-    multi_error s h e (inr g) = let same : g.0 ≡ e = let is = g.1 in cc in subst (IsCaused h) same (unfound h g.0 g.2)
+    multi_error s h e (inr g) = let same : g.0 ≡ e = let is = g.1 in cc in subst (IsCaused h) same (look_up_refused h g.0 g.2)
 
     pub multi_rests : RestsOnHeard (multi {H = H} m keys region_of is_part load are_cut most) (λ h results. AllRest reply_of h results.items)
     multi_rests = record { value = multi_value; error = multi_error }

@@ -22,9 +22,7 @@ ghost use Rattle.txn_history.specs.Meaning.{IsUnbegun};
 ghost use Rattle.txn_history.specs.Plan.{Key, Plan};
 ghost use Rattle.txn_multi.specs.Few.{by_items};
 ghost use Rattle.txn_kv.specs.ErrorView.{view_of};
-ghost use Rattle.txn_kv.specs.ErrorView.ErrorView.{undetermined as not_known};
 ghost use Rattle.txn_kv.specs.declared.errors.Error.{Error};
-ghost use Rattle.txn_kv.specs.declared.errors.Error.TheVariants.{GrpcAPI};
 ghost use Rattle.txn_kv.specs.declared.message.Context.{Context as Place};
 ghost use Rattle.txn_kv.specs.declared.request.BatchRollbackRequest.{BatchRollbackRequest as RolledBack};
 ghost use Rattle.txn_kv.specs.declared.request.CommitRequest.{CommitRequest as Committed};
@@ -99,7 +97,7 @@ pub fn plans_fail_for_causes()
 
 /// Where a commit or a rollback fails that goes by such plans, its error has its cause in what was heard; or there was no timestamp,
 /// and it is the error with which the oracle refused an ask. Where a Commit of the primary was lost or is out, the answer says
-/// that the end is not known, and holds such an error. So does a rollback that is refused for that, and it names the Commit.
+/// that the end is not known, and holds such an error. A rollback that is refused for that names such a Commit.
 pub fn failed_calls_have_causes<P, Q, K>()
 where
     P: Caused<PrewriteRequest>,
@@ -107,8 +105,8 @@ where
     K: Caused<BatchRollbackRequest>,
     ensures failed { (start : Timestamp) (contents : Contents) (c : Followed) (h : List Event) (e : Error)
         → TransactionGives (ways P.meaning Q.meaning K.meaning P.refuses Q.refuses K.refuses) start contents c h (Err e) → IsCallExplained (undetermined c) h e }
-    ensures refused { (plan : Plan) (s : ℕ) (c : Followed) (h : List Event) (t : Ticket) (e : Error)
-        → KnowsCommits plan s c h → undetermined c ≡ Some t → view_of e ≡ not_known (view_of (GrpcAPI t)) → IsRefusalExplained plan s c t h e }
+    ensures refused { (plan : Plan) (s : ℕ) (c : Followed) (h : List Event) (t : Ticket)
+        → KnowsCommits plan s c h → undetermined c ≡ Some t → IsRefusalExplained plan s c t h }
     // A call for a timestamp alone fails so, too, and so does the job of the other keys.
     ensures untimed { (h : List Event) (e : Error) → WasUntimed h e → IsExplained h e }
     ensures jobs { (plan : Plan) (keys : List Key) (job : SecondaryJob Q) (h : List Event) (e : Error)
