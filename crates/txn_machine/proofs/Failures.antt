@@ -13,12 +13,14 @@ use Rattle.txn_report.specs.declared.outcome.Outcome.TheVariants as outcomes
 use Rattle.txn_report.specs.declared.report.SentNote.{SentNote}
 use Rattle.txn_side.specs.Account.{Account, refusal}
 use Rattle.txn_side.specs.Sight.{Group, stand_at}
-use Rattle.txn_side.specs.Trace.{FailsIn, IsLonger, Refusal, Trace, fails_longer, with_posted}
+use Rattle.txn_side.specs.Trace.{FailsIn, IsLonger, Refusal, RollsBack, Trace, fails_longer, with_posted}
+use Rattle.txn_side.specs.declared.act.Act.{Act}
+use Rattle.txn_side.specs.declared.act.Act.TheVariants.{Rollback}
 use Rattle.txn_side.specs.declared.turn.Posting.{Posting}
 use Rattle.txn_machine.specs.Accounts.{AreTakenIn, Ask, account_of, ask_of}
 use Rattle.txn_machine.specs.Causes.{AllCallsMeet, Role, ended_of, is_skipped, is_unfinished, lines_before, role_of, tells}
 use Rattle.txn_machine.specs.Causes.Role.{AsksTime, MakesClient, NoCall, UsesTransaction}
-use Rattle.txn_machine.specs.Failing.{AllCausesMeet, CanAsk, CanCall, CanRest, CauseMeets, FailsBy, HaveHeard, Rested, RestsIn, WasPosted, calls_by, calls_of, groups_of, trace_of}
+use Rattle.txn_machine.specs.Failing.{AllCausesMeet, CanAsk, CanCall, CanRest, CauseMeets, FailsBy, HaveHeard, Rested, RestsIn, WasPosted, calls_by, calls_of, rollbacks_of, rolled, rolled_by, groups_of, trace_of}
 use Rattle.txn_machine.specs.Lists.{Lists, all_posted, followed, newest, opened, with_mail}
 use Rattle.txn_machine.specs.Rows.{Caused}
 use Rattle.txn_machine.specs.Running.{IsOrdered}
@@ -96,6 +98,11 @@ refused_here : (a : Option Ask) (accounts : ℕ → Account) (n k : ℕ) (e : Er
 refused_here None accounts n k e h = absurd h
 refused_here (Some ask) accounts n k e h = (was_refused (refusal ask.act (accounts ask.transaction)) n k e h).0
 
+-- a line that rolls back is among those that do
+rolls_back : (act : Act) (n : ℕ) (before : List ℕ) → RollsBack (rolled n act ++ before) n act
+rolls_back Rollback n before = inl refl
+rolls_back _ n before = tt
+
 -- The trace of what has happened by the step of the newest line, before the clients do anything.
 
 module _ (line : Line) (ls : List Line) (old : Lists) (told : newest old ≡ length ls) (ordered : IsOrdered old) (good : why_after ls line ≡ None) (was : Caused ls old) (folded : Folded ls old)
@@ -116,7 +123,7 @@ module _ (line : Line) (ls : List Line) (old : Lists) (told : newest old ≡ len
   n = suc (length ls)
 
   abbrev now : Trace
-  now = record { events = happened; calls = calls_of (line ∷ ls); groups = groups_of old.mail.sent; posted = []; refused = refused_of (ask_of line) accounts n }
+  now = record { events = happened; calls = calls_of (line ∷ ls); rollbacks = rollbacks_of (line ∷ ls); groups = groups_of old.mail.sent; posted = []; refused = refused_of (ask_of line) accounts n }
 
   count : newest (opened old) ≡ n
   count = let a = opened_count old in let b = told in omega arith
@@ -133,9 +140,9 @@ module _ (line : Line) (ls : List Line) (old : Lists) (told : newest old ≡ len
   ask_now : CanAsk (ask_of line) accounts (newest (opened old)) now
   ask_now = subst (λ k. CanAsk (ask_of line) accounts k now) (sym count) (by (ask_of line))
     where
-      by : (a : Option Ask) → CanAsk a accounts n (record now { refused = refused_of a accounts n })
+      by : (a : Option Ask) → CanAsk a accounts n (record now { refused = refused_of a accounts n; rollbacks = rolled_by n a ++ rollbacks_of ls })
       by None = tt
-      by (Some ask) = λ e is. is_refused (refusal ask.act (accounts ask.transaction)) n e is
+      by (Some ask) = (λ e is. is_refused (refusal ask.act (accounts ask.transaction)) n e is, rolls_back ask.act n (rollbacks_of ls))
 
   can_rest : CanRest line (opened old) accounts now
   can_rest = record {
@@ -143,13 +150,14 @@ module _ (line : Line) (ls : List Line) (old : Lists) (told : newest old ≡ len
     call = call_now;
     ask = ask_now;
     hear = can_hear old es ordered.sound.mail was.fates.fates folded.folds.store looks (looked line ls old told ordered good was folded new c stepped) timely.groups (λ u r h. sent_noted u r old.mail.sent old.outcomes ls h)
-        (calls_of (line ∷ ls)) (refused_of (ask_of line) accounts n) (own_done c.own) line (λ role. ap own_done (c.sure role) ∙ done_is (does_it line (opened old)));
+        (calls_of (line ∷ ls)) (rollbacks_of (line ∷ ls)) (refused_of (ask_of line) accounts n) (own_done c.own) line (λ role. ap own_done (c.sure role) ∙ done_is (does_it line (opened old)));
   }
 
   was_longer : IsLonger (trace_of old.mail.sent old.outcomes ls) now
   was_longer = record {
     events = λ e h. done_more (own_done c.own) looks line es e h;
     calls = λ x h. among_ahead (calls_by n (role_of line)) (calls_of ls) x h;
+    rollbacks = λ x h. among_ahead (rolled_by n (ask_of line)) (rollbacks_of ls) x h;
     groups = λ g h. h;
     sent = λ u r h. elim h [ inl s ↦ inl (done_more (own_done c.own) looks line es (Sent u r) s) | inr p ↦ absurd (let low = p.2 in omega arith) ];
   }
@@ -168,6 +176,7 @@ module _ (line : Line) (ls : List Line) (old : Lists) (told : newest old ≡ len
   now_longer posted sent = record {
     events = has;
     calls = λ x h. h;
+    rollbacks = λ x h. h;
     groups = λ g h. groups_more old.mail.sent all.mail.sent among g h;
     sent = λ u r h. elim h [ inl s ↦ inl (has (Sent u r) s) | inr p ↦ inl (posted_has u r (sent u r p)) ];
   }
@@ -180,6 +189,7 @@ module _ (line : Line) (ls : List Line) (old : Lists) (told : newest old ≡ len
   still_longer zs low = record {
     events = same;
     calls = λ x h. h;
+    rollbacks = λ x h. h;
     groups = λ g h. groups_more old.mail.sent all.mail.sent among g h;
     sent = λ u r h. elim h [ inl s ↦ inl (same (Sent u r) s) | inr p ↦ absurd (let low = p.2 in omega arith) ];
   }
@@ -189,7 +199,7 @@ module _ (line : Line) (ls : List Line) (old : Lists) (told : newest old ≡ len
 
   -- Why calls fail.
 
-  module _ (steps : Steps line old all) (caused : Caused (line ∷ ls) all) (taken : AreTakenIn ls old.outcomes old.ended accounts) (fails : List Event → Error → Type 0) (is : Trace → Type 0) (r : RestsIn fails is now old all) where
+  module _ (steps : Steps line old all) (caused : Caused (line ∷ ls) all) (taken : AreTakenIn ls old.outcomes old.ended accounts) (fails : Bool → List Event → Error → Type 0) (is : Trace → Type 0) (r : RestsIn fails is now old all) where
     abbrev Was : ℕ → Error → Type 0
     Was k e = FailsBy fails old.mail.sent old.outcomes old.ended ls k e
 
@@ -276,7 +286,7 @@ module _ (line : Line) (ls : List Line) (old : Lists) (told : newest old ≡ len
     causes_now : AllCausesMeet (λ k e. Was k e) old.outcomes old.ended ls → AllCausesMeet (λ k e. Is k e) all.outcomes all.ended (line ∷ ls)
     causes_now h = (line_now, causes_still ls (omega arith) was.calls h)
 
-pub heard_step : (fails : List Event → Error → Type 0) (was is : Trace → Type 0) (line : Line) (ls : List Line) (old new : Lists) (accounts : ℕ → Account) → newest old ≡ length ls → IsOrdered old → why_after ls line ≡ None → Steps line old new → Folded ls old → Caused ls old → Timely ls old
+pub heard_step : (fails : Bool → List Event → Error → Type 0) (was is : Trace → Type 0) (line : Line) (ls : List Line) (old new : Lists) (accounts : ℕ → Account) → newest old ≡ length ls → IsOrdered old → why_after ls line ≡ None → Steps line old new → Folded ls old → Caused ls old → Timely ls old
     → AreTakenIn ls old.outcomes old.ended accounts → Rested fails was is line old accounts new → ((t longer : Trace) → IsLonger t longer → was t → was longer) → ((t longer : Trace) → IsLonger t longer → is t → is longer)
     → HaveHeard was fails ls old.mail.sent old.outcomes old.ended → HaveHeard is fails (line ∷ ls) new.mail.sent new.outcomes new.ended
 heard_step fails was is line ls old new accounts told ordered good steps folded caused timely taken rested was_more is_more heard =

@@ -1,5 +1,5 @@
 -- Why calls fail: after what they had heard, which had happened by then. Lines stand here with the newest first.
-use Rattle.std.specs.Prelude.{◌≡◌, ◌⊎◌, ⊤, ℕ, true, List, [], ◌∷◌, ◌++◌, length, map, Option, Some, None}
+use Rattle.std.specs.Prelude.{◌≡◌, ◌⊎◌, ⊤, ℕ, Bool, true, List, [], ◌∷◌, ◌++◌, length, map, Option, Some, None}
 use Rattle.std.specs.List.{Any}
 use Rattle.std.proofs.Common.{suc}
 use Rattle.txn_kv.specs.declared.errors.Error.{Error}
@@ -19,7 +19,9 @@ use Rattle.txn_report.specs.declared.report.Report.{Report}
 use Rattle.txn_report.specs.declared.report.SentNote.{SentNote}
 use Rattle.txn_side.specs.Account.{Account, refusal}
 use Rattle.txn_side.specs.Sight.{Group}
-use Rattle.txn_side.specs.Trace.{Call, FailsIn, HasCome, IsCalled, IsSend, RestsOn, Trace, with_posted}
+use Rattle.txn_side.specs.Trace.{Call, FailsIn, HasCome, IsCalled, IsSend, RestsOn, RollsBack, Trace, with_posted}
+use Rattle.txn_side.specs.declared.act.Act.{Act}
+use Rattle.txn_side.specs.declared.act.Act.TheVariants.{Rollback}
 use Rattle.txn_side.specs.declared.turn.Posting.{Posting}
 use Rattle.txn_machine.specs.Accounts.{Ask, account_of, ask_of}
 use Rattle.txn_machine.specs.Causes.{Role, ended_of, lines_before, role_of}
@@ -42,16 +44,29 @@ abbrev pub calls_of : List Line → List Call
 calls_of [] = []
 calls_of (line ∷ before) = calls_by (length (line ∷ before)) (role_of line) ++ calls_of before
 
+-- the lines that roll a transaction back
+abbrev pub rolled : ℕ → Act → List ℕ
+rolled n Rollback = n ∷ []
+rolled n act = []
+
+abbrev pub rolled_by : ℕ → Option Ask → List ℕ
+rolled_by n None = []
+rolled_by n (Some ask) = rolled n ask.act
+
+abbrev pub rollbacks_of : List Line → List ℕ
+rollbacks_of [] = []
+rollbacks_of (line ∷ before) = rolled_by (length (line ∷ before)) (ask_of line) ++ rollbacks_of before
+
 abbrev pub groups_of : List SentNote → List Group
 groups_of sent = map (λ s. record { ticket = s.ticket; askers = s.askers }) sent
 
 -- what has happened after these lines
 abbrev pub trace_of : List SentNote → List Outcome → List Line → Trace
-trace_of sent outs script = record { events = history sent outs script; calls = calls_of script; groups = groups_of sent; posted = []; refused = [] }
+trace_of sent outs script = record { events = history sent outs script; calls = calls_of script; rollbacks = rollbacks_of script; groups = groups_of sent; posted = []; refused = [] }
 
 -- The call of line n failed with this error after what it had heard, and that had happened in the lines up to the one in whose step the
 -- outcome came.
-abbrev pub FailsBy : (List Event → Error → Type 0) → List SentNote → List Outcome → List ℕ → List Line → ℕ → Error → Type 0
+abbrev pub FailsBy : (Bool → List Event → Error → Type 0) → List SentNote → List Outcome → List ℕ → List Line → ℕ → Error → Type 0
 FailsBy fails sent outs ended script n e = FailsIn fails (trace_of sent outs (lines_before script (suc (ended_of ended n)))) n e
 
 -- What line n asks fails only so, unless it is refused by the account of its transaction.
@@ -65,18 +80,18 @@ AllCausesMeet Fails outs ended (line ∷ before) =
     CauseMeets Fails (λ x. account_of (λ n. outcome_of outs n) (λ n. ended_of ended n) before x) (length (line ∷ before)) (ask_of line) (outcome_of outs (length (line ∷ before))) × AllCausesMeet Fails outs ended before
 
 -- each call that fails, and is not refused, fails so
-abbrev pub CausesMeetLines : (List Event → Error → Type 0) → List Line → Report → Type 0
+abbrev pub CausesMeetLines : (Bool → List Event → Error → Type 0) → List Line → Report → Type 0
 CausesMeetLines fails script report = AllCausesMeet (FailsBy fails report.sent report.outcomes report.ended script) report.outcomes report.ended script
 
 -- What a machine keeps of it while the script goes on.
 
 -- what the calls of the clients have heard has happened, and each that failed had its reason there
-pub record HaveHeard (rests : Trace → Type 0) (fails : List Event → Error → Type 0) (script : List Line) (sent : List SentNote) (outs : List Outcome) (ended : List ℕ) : Type 0 where
+pub record HaveHeard (rests : Trace → Type 0) (fails : Bool → List Event → Error → Type 0) (script : List Line) (sent : List SentNote) (outs : List Outcome) (ended : List ℕ) : Type 0 where
   pub rest : rests (trace_of sent outs script)
   pub causes : AllCausesMeet (FailsBy fails sent outs ended script) outs ended script
 
 -- where memory was never wanting
-abbrev pub HeardIn : {S : Type 0} → (S → Trace → Type 0) → (List Event → Error → Type 0) → Machine S → List Line → Type 0
+abbrev pub HeardIn : {S : Type 0} → (S → Trace → Type 0) → (Bool → List Event → Error → Type 0) → Machine S → List Line → Type 0
 HeardIn rests fails m script = HasMemory m → HaveHeard (rests m.clients) fails script m.post.sent m.outcomes.items m.ended.items
 
 -- What a step makes of it
@@ -88,10 +103,10 @@ CanCall (AsksTime begins client) n t = IsCalled t n n
 CanCall (UsesTransaction commits x) n t = IsCalled t n x
 CanCall NoCall n t = ⊤
 
--- with what it is refused
+-- with what it is refused, and whether it rolls back
 abbrev pub CanAsk : Option Ask → (ℕ → Account) → ℕ → Trace → Type 0
 CanAsk None accounts n t = ⊤
-CanAsk (Some ask) accounts n t = (e : Error) → refusal ask.act (accounts ask.transaction) ≡ Some e → IsAmong t.refused (record { line = n; error = e })
+CanAsk (Some ask) accounts n t = ((e : Error) → refusal ask.act (accounts ask.transaction) ≡ Some e → IsAmong t.refused (record { line = n; error = e })) × RollsBack t.rollbacks n ask.act
 
 -- what comes in its step
 abbrev pub CanHear : Line → Lists → Trace → Type 0
@@ -109,11 +124,11 @@ pub record CanRest (line : Line) (l : Lists) (accounts : ℕ → Account) (t : T
   pub hear : CanHear line l t
 
 -- and then the calls rest on it, once it is known what the line came to
-abbrev pub RunsOn : (List Event → Error → Type 0) → (Trace → Type 0) → (Trace → Type 0) → Line → Lists → (ℕ → Account) → Course → Type 0
+abbrev pub RunsOn : (Bool → List Event → Error → Type 0) → (Trace → Type 0) → (Trace → Type 0) → Line → Lists → (ℕ → Account) → Course → Type 0
 RunsOn fails was is line l accounts done = (t : Trace) → CanRest line l accounts t → RestsOn fails was is t done.turn.posted.items done.turn.ended.items
 
 -- the same of a line that asks this of a transaction
-abbrev pub RunsAsk : (List Event → Error → Type 0) → (Trace → Type 0) → (Trace → Type 0) → Ask → ℕ → (ℕ → Account) → Course → Type 0
+abbrev pub RunsAsk : (Bool → List Event → Error → Type 0) → (Trace → Type 0) → (Trace → Type 0) → Ask → ℕ → (ℕ → Account) → Course → Type 0
 RunsAsk fails was is ask n accounts done = (t : Trace) → t.posted ≡ [] → IsCalled t n ask.transaction → CanAsk (Some ask) accounts n t → RestsOn fails was is t done.turn.posted.items done.turn.ended.items
 
 -- And by the lists that its step left.
@@ -123,12 +138,12 @@ abbrev pub WasPosted : List Posting → Lists → Type 0
 WasPosted posted l = (u : Ticket) (r : Request) → Any (IsSend u r) posted → (s : SentNote) × IsAmong l.mail.sent s × (s.ticket ≡ u) × (s.request ≡ r) × (s.at ≡ newest l)
 
 -- the calls rest on the trace and on what was posted in the step, and each that failed in it has its reason there
-pub record RestsIn (fails : List Event → Error → Type 0) (is : Trace → Type 0) (t : Trace) (old new : Lists) : Type 0 where
+pub record RestsIn (fails : Bool → List Event → Error → Type 0) (is : Trace → Type 0) (t : Trace) (old new : Lists) : Type 0 where
   pub posted : List Posting
   pub sent : WasPosted posted new
   pub rest : is (with_posted posted t)
   pub causes : (n : ℕ) (e : Error) → outcome_of new.outcomes n ≡ Err e → (outcome_of old.outcomes n ≡ Err e) ⊎ (FailsIn fails (with_posted posted t) n e ⊎ IsAmong t.refused (record { line = n; error = e }))
 
 -- so with each trace that has all that the line tells
-abbrev pub Rested : (List Event → Error → Type 0) → (Trace → Type 0) → (Trace → Type 0) → Line → Lists → (ℕ → Account) → Lists → Type 0
+abbrev pub Rested : (Bool → List Event → Error → Type 0) → (Trace → Type 0) → (Trace → Type 0) → Line → Lists → (ℕ → Account) → Lists → Type 0
 Rested fails was is line old accounts new = (t : Trace) → CanRest line (opened old) accounts t → was t → RestsIn fails is t old new

@@ -1,5 +1,5 @@
 -- What has happened in a run so far, what the calls of clients have heard of it, and what a call that fails rests on.
-use Rattle.std.specs.Prelude.{◌≡◌, ◌⊎◌, ⊤, ℕ, List, [], Option, Some, None, Result, Ok, Err}
+use Rattle.std.specs.Prelude.{◌≡◌, ◌⊎◌, ⊤, ℕ, Bool, true, false, List, [], Option, Some, None, Result, Ok, Err}
 use Rattle.std.proofs.Common.{inl, inr}
 use Rattle.std.specs.List.{All, Any}
 use Rattle.txn_kv.specs.declared.errors.Error.{Error}
@@ -8,18 +8,20 @@ use Rattle.txn_kv.specs.declared.errors.Internal.TheVariants.{OracleCount, Oracl
 use Rattle.txn_kv.specs.declared.reply.Reply.{Reply}
 use Rattle.txn_kv.specs.declared.reply.Reply.TheVariants as replies
 use Rattle.txn_kv.specs.declared.request.Request.{Request}
-use Rattle.txn_kv.specs.declared.request.Request.TheVariants.{Tso}
+use Rattle.txn_kv.specs.declared.request.Request.TheVariants.{BatchRollback, Commit, Prewrite, Tso}
 use Rattle.txn_kv.specs.declared.request.TsoRequest.{TsoRequest}
 use Rattle.txn_kv.specs.declared.ticket.Ticket.{Ticket}
 use Rattle.txn_kv.specs.declared.timestamp.Timestamp.{Timestamp}
 use Rattle.txn_history.specs.Among.{IsAmong}
 use Rattle.txn_history.specs.Event.{Event, Has}
 use Rattle.txn_history.specs.Event.Event.{Sent, Took, Lost, Answered}
+use Rattle.txn_history.specs.Licence.{IsWithoutError}
 use Rattle.txn_report.specs.declared.outcome.Outcome.TheVariants as outcomes
 use Rattle.txn_side.specs.Account.{Account, refusal}
 use Rattle.txn_side.specs.Sight.{Group, IsOut, Sight}
 use Rattle.txn_side.specs.Waiting.{posted_in}
 use Rattle.txn_side.specs.declared.act.Act.{Act}
+use Rattle.txn_side.specs.declared.act.Act.TheVariants.{Rollback}
 use Rattle.txn_side.specs.declared.turn.Ending.{Ending}
 use Rattle.txn_side.specs.declared.turn.Posting.{Posting}
 use Rattle.txn_side.specs.declared.turn.Posting.TheVariants.{Send, Sleep}
@@ -37,11 +39,12 @@ pub record Refusal : Type 0 where
   pub line : ℕ
   pub error : Error
 
--- The events that a run shows; whom what comes for a line is told; the requests for timestamps and whose asks they carry; what was
--- posted since; and what was refused.
+-- The events that a run shows; whom what comes for a line is told; which lines roll a transaction back; the requests for timestamps
+-- and whose asks they carry; what was posted since; and what was refused.
 pub record Trace : Type 0 where
   pub events : List Event
   pub calls : List Call
+  pub rollbacks : List ℕ
   pub groups : List Group
   pub posted : List Posting
   pub refused : List Refusal
@@ -60,6 +63,11 @@ IsSentIn t u r = Has t.events (Sent u r) ⊎ Any (IsSend u r) t.posted
 -- what comes for the line is told to what stands at this one
 abbrev pub IsCalled : Trace → ℕ → ℕ → Type 0
 IsCalled t line at = IsAmong t.calls (record { line = line; at = at })
+
+-- where this is asked, the line is among those that roll back
+abbrev pub RollsBack : List ℕ → ℕ → Act → Type 0
+RollsBack lines line Rollback = IsAmong lines line
+RollsBack lines line act = ⊤
 
 -- with what the reply to a request for timestamps refuses those whose asks it carries
 abbrev pub Refuses : Reply → Error → Type 0
@@ -80,14 +88,18 @@ pub record IsRefusedIn (t : Trace) (line : ℕ) (e : Error) : Type 0 where
 
 -- What a call has heard
 
--- a reply with timestamps, to a request for them, which is no call's own and no cause of anything
-abbrev pub AreTimes : Request → Reply → Type 0
-AreTimes (Tso r) (replies.Tso o) = ⊤
-AreTimes r o = ⊥
+-- A reply in which no error has its cause: one with timestamps, to a request for them, which is no call's own; or one that says
+-- without error that keys are written, committed or rolled back.
+abbrev pub IsHarmless : Request → Reply → Type 0
+IsHarmless (Tso r) (replies.Tso o) = ⊤
+IsHarmless (Prewrite r) (replies.Prewrite o) = IsWithoutError (replies.Prewrite o)
+IsHarmless (Commit r) (replies.Commit o) = IsWithoutError (replies.Commit o)
+IsHarmless (BatchRollback r) (replies.BatchRollback o) = IsWithoutError (replies.BatchRollback o)
+IsHarmless r o = ⊥
 
 -- a reply was taken
 abbrev pub IsTakenIn : Trace → ℕ → Ticket → Request → Reply → Type 0
-IsTakenIn t at u r o = (IsCalled t u.line at × Has t.events (Took u r o)) ⊎ AreTimes r o
+IsTakenIn t at u r o = (IsCalled t u.line at × Has t.events (Took u r o)) ⊎ IsHarmless r o
 
 abbrev pub IsAnsweredIn : Trace → ℕ → Ticket → Result Timestamp Error → Type 0
 IsAnsweredIn t at ask (Ok x) = ⊤
@@ -104,6 +116,22 @@ IsShown t at e = ⊤
 abbrev pub AreShown : Trace → ℕ → List Event → Type 0
 AreShown t at h = (e : Event) → Has h e → IsShown t at e
 
+abbrev pub IsCommit : Request → Type 0
+IsCommit (Commit r) = ⊤
+IsCommit r = ⊥
+
+-- Came it for this line? Of the earlier lines of a transaction only this much is known where an error is explained: that Commits of it
+-- were lost, and what explains no error.
+abbrev pub IsOwn : ℕ → Event → Type 0
+IsOwn line (Took u r o) = (u.line ≡ line) ⊎ IsHarmless r o
+IsOwn line (Lost u r) = (u.line ≡ line) ⊎ IsCommit r
+IsOwn line (Answered ask (Ok x)) = ⊤
+IsOwn line (Answered ask (Err e)) = ask.line ≡ line
+IsOwn line e = ⊤
+
+abbrev pub AreOwn : ℕ → List Event → Type 0
+AreOwn line h = (e : Event) → Has h e → IsOwn line e
+
 -- What comes for a ticket has happened, whatever its request was. Where it is a request for timestamps that is out, the trace has it
 -- with those whose asks it carries.
 pub record HasCome (t : Trace) (s : Sight) (u : Ticket) (event : Request → Event) : Type 0 where
@@ -114,21 +142,24 @@ pub record HasCome (t : Trace) (s : Sight) (u : Ticket) (event : Request → Eve
 pub record IsLonger (t longer : Trace) : Type 0 where
   pub events : (e : Event) → Has t.events e → Has longer.events e
   pub calls : (c : Call) → IsAmong t.calls c → IsAmong longer.calls c
+  pub rollbacks : (n : ℕ) → IsAmong t.rollbacks n → IsAmong longer.rollbacks n
   pub groups : (g : Group) → IsAmong t.groups g → IsAmong longer.groups g
   pub sent : (u : Ticket) (r : Request) → IsSentIn t u r → IsSentIn longer u r
 
 -- How a call fails
 
--- The call of the line failed with this error after what it had heard, which has happened.
-pub record FailsIn (fails : List Event → Error → Type 0) (t : Trace) (line : ℕ) (e : Error) : Type 0 where
+-- The call of the line failed with this error after what it had heard, which has happened, and has come for this line: as any call
+-- may, or as a rollback alone.
+pub record FailsIn (fails : Bool → List Event → Error → Type 0) (t : Trace) (line : ℕ) (e : Error) : Type 0 where
   pub at : ℕ
   pub called : IsCalled t line at
   pub history : List Event
   pub shown : AreShown t at history
-  pub fails_so : fails history e
+  pub own : AreOwn line history
+  pub fails_so : fails false history e ⊎ (IsAmong t.rollbacks line × fails true history e)
 
 -- or it was refused
-abbrev pub EndsFor : (List Event → Error → Type 0) → Trace → Ending → Type 0
+abbrev pub EndsFor : (Bool → List Event → Error → Type 0) → Trace → Ending → Type 0
 EndsFor fails t ending = (e : Error) → ending.outcome ≡ outcomes.Err e → FailsIn fails t ending.line e ⊎ IsAmong t.refused (record { line = ending.line; error = e })
 
 abbrev pub ended_in : Option Turn → List Ending
@@ -136,24 +167,24 @@ ended_in None = []
 ended_in (Some turn) = turn.ended.items
 
 -- What a step makes of it, where nothing was posted before: the calls rest on what happened and what is posted, and each that fails has its reason there.
-abbrev pub RestsOn : (List Event → Error → Type 0) → (Trace → Type 0) → (Trace → Type 0) → Trace → List Posting → List Ending → Type 0
+abbrev pub RestsOn : (Bool → List Event → Error → Type 0) → (Trace → Type 0) → (Trace → Type 0) → Trace → List Posting → List Ending → Type 0
 RestsOn fails was is t posted ended = was t → is (with_posted posted t) × All (EndsFor fails (with_posted posted t)) ended
 
 -- the newest line calls for a timestamp
-abbrev pub AsksOn : (List Event → Error → Type 0) → (Trace → Type 0) → (Trace → Type 0) → ℕ → Option Turn → Type 0
+abbrev pub AsksOn : (Bool → List Event → Error → Type 0) → (Trace → Type 0) → (Trace → Type 0) → ℕ → Option Turn → Type 0
 AsksOn fails was is newest turn = (t : Trace) → t.posted ≡ [] → IsCalled t newest newest → RestsOn fails was is t (posted_in turn) (ended_in turn)
 
 -- the newest line asks something of the transaction of line x, whose account is this
-abbrev pub ActsOn : (List Event → Error → Type 0) → (Trace → Type 0) → (Trace → Type 0) → Act → ℕ → ℕ → Account → Option Turn → Type 0
+abbrev pub ActsOn : (Bool → List Event → Error → Type 0) → (Trace → Type 0) → (Trace → Type 0) → Act → ℕ → ℕ → Account → Option Turn → Type 0
 ActsOn fails was is act x newest account turn =
-    (t : Trace) → t.posted ≡ [] → IsCalled t newest x → ((e : Error) → refusal act account ≡ Some e → IsAmong t.refused (record { line = newest; error = e })) → RestsOn fails was is t (posted_in turn) (ended_in turn)
+    (t : Trace) → t.posted ≡ [] → IsCalled t newest x → ((e : Error) → refusal act account ≡ Some e → IsAmong t.refused (record { line = newest; error = e })) → RollsBack t.rollbacks newest act → RestsOn fails was is t (posted_in turn) (ended_in turn)
 
 -- clients hear of what came for a ticket
-abbrev pub HearsOn : (List Event → Error → Type 0) → (Trace → Type 0) → (Trace → Type 0) → Sight → Ticket → (Request → Event) → Turn → Type 0
+abbrev pub HearsOn : (Bool → List Event → Error → Type 0) → (Trace → Type 0) → (Trace → Type 0) → Sight → Ticket → (Request → Event) → Turn → Type 0
 HearsOn fails was is s u event turn = (t : Trace) → t.posted ≡ [] → HasCome t s u event → RestsOn fails was is t turn.posted.items turn.ended.items
 
 -- or that a sleep has ended
-abbrev pub WakesOn : (List Event → Error → Type 0) → (Trace → Type 0) → (Trace → Type 0) → Turn → Type 0
+abbrev pub WakesOn : (Bool → List Event → Error → Type 0) → (Trace → Type 0) → (Trace → Type 0) → Turn → Type 0
 WakesOn fails was is turn = (t : Trace) → t.posted ≡ [] → RestsOn fails was is t turn.posted.items turn.ended.items
 
 -- the calls rest on what they rested on
@@ -184,11 +215,12 @@ module _ (t longer : Trace) (l : IsLonger t longer) where
   shown_longer at (Answered ask (Err e)) k = (called_longer ask.line at k.0, refused_longer ask.line e k.1)
   shown_longer at e k = tt
 
-  pub fails_longer : (fails : List Event → Error → Type 0) (line : ℕ) (e : Error) → FailsIn fails t line e → FailsIn fails longer line e
+  pub fails_longer : (fails : Bool → List Event → Error → Type 0) (line : ℕ) (e : Error) → FailsIn fails t line e → FailsIn fails longer line e
   fails_longer fails line e f = record {
     at = f.at;
     called = called_longer line f.at f.called;
     history = f.history;
     shown = λ x h. shown_longer f.at x (f.shown x h);
-    fails_so = f.fails_so;
+    own = f.own;
+    fails_so = elim f.fails_so [ inl k ↦ inl k | inr k ↦ inr (l.rollbacks line k.0, k.1) ];
   }

@@ -15,7 +15,7 @@ use txn_lines::BeginOptions;
 ///
 /// After a call has answered `NoMemory` nothing more is said of them.
 pub trait ClientSide: Sized + Drop {
-    ghost use Rattle.std.specs.Prelude.{◌≡◌, ℕ};
+    ghost use Rattle.std.specs.Prelude.{◌≡◌, ℕ, Bool};
     ghost use Rattle.txn_side.specs.Sight.{Sight, nobody};
     ghost use Rattle.txn_side.specs.Waiting.{Awaited, IsDue, NoneWaits};
     ghost use Rattle.txn_side.specs.Account.{Account};
@@ -42,8 +42,8 @@ pub trait ClientSide: Sized + Drop {
     // How far the transaction of a line has come, and what it has taken in: nothing, where none has begun there.
     ghost account: { Self → ℕ → Account };
 
-    // With which errors a call may fail after what it has heard.
-    ghost fails: { List Event → Error → Type 0 };
+    // With which errors a call may fail after what it has heard: any call, or a rollback alone.
+    ghost fails: { Bool → List Event → Error → Type 0 };
 
     // What the calls have heard has happened.
     ghost rests: { Self → Trace → Type 0 };
