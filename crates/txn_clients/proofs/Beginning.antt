@@ -6,7 +6,6 @@ use Rattle.txn_commit.specs.Committing.{Ways}
 use Rattle.txn_client.specs.Calls.{called, stage_phase}
 use Rattle.txn_client.specs.declared.client_call.ClientCall.{ClientCall}
 use Rattle.txn_client.specs.declared.client_call.Stage.TheVariants as stages
-use Rattle.txn_side.specs.Account.{refusal}
 use Rattle.txn_side.specs.Sight.{client_at, stand_at}
 use Rattle.txn_side.specs.Sight.Stand.{Asking, Calling, HasBegun, Idle}
 use Rattle.txn_side.specs.declared.act.Act.{Act}
@@ -15,7 +14,7 @@ use Rattle.txn_side.specs.declared.turn.Ending.{Ending}
 use Rattle.txn_side.specs.declared.turn.Posting.{Posting}
 use Rattle.txn_clients.specs.Clients.{crashed_of, nexts_of, row_at, rows_of, stands_of}
 use Rattle.txn_clients.specs.Accounts.{account_at, account_in}
-use Rattle.txn_clients.specs.Failing.{CalledIn, MayKnow, RefusedIn, outbox_of, posting_in}
+use Rattle.txn_clients.specs.Failing.{CalledIn, KnowsAsk, MayKnow, outbox_of, posting_in}
 use Rattle.txn_clients.specs.Matching.{IsLine}
 use Rattle.txn_clients.specs.Rows.{Pd, stand_of, with_waits}
 use Rattle.txn_clients.specs.Waiting.{AreRunningBut, IsPrepared, IsQuiet, IsReady, IsSound, RowRuns, Steps, asks_of, book_at}
@@ -33,7 +32,7 @@ use Rattle.txn_clients.proofs.Tables.{called_stands, stand_read, stands_set}
 use Rattle.txn_clients.proofs.Telling.{begun_line, hears_begun}
 
 module _ {P Q K : Type 0} where
-  act_known : (trace : Option Trace) (act : Act) (line : ℕ) (r : Row P Q K) → RefusedIn trace line (refusal act (account_in r)) → MayKnow trace (outbox_of line) (tells.Act act) (with_waits line r)
+  act_known : (trace : Option Trace) (act : Act) (line : ℕ) (r : Row P Q K) → KnowsAsk trace line act (account_in r) → MayKnow trace (outbox_of line) (tells.Act act) (with_waits line r)
   act_known trace act line row.Plain h = tt
   act_known trace act line (row.Client c) h = tt
   act_known trace act line (row.Asking c b call) h = tt
@@ -66,7 +65,7 @@ module _ {P Q K A B D : Type 0} (w : Ways P Q K A B D) (p : IsLawful w.prewritin
 
   -- a call of a transaction begins
   pub call_steps : (trace : Option Trace) (s m t : Clients P Q K) (line x c : ℕ) (b : Bool) (act : Act) (Heard : ℕ → Awaited → Type 0) (ps : List Posting) (es : List Ending) → IsLine (stands_of (rows_of s)) line → stand_at (stands_of (rows_of s)) line ≡ Idle → stand_at (stands_of (rows_of s)) x ≡ HasBegun c 0
-      → rows_of m ≡ set (set (rows_of s) (x - 1) (with_waits line (row_at (rows_of s) (x - 1)))) (line - 1) (row.Calling c x b) → nexts_of m ≡ nexts_of s → asks_of m ≡ asks_of s → m.clients ≡ s.clients → IsReady w s → CalledIn (posting_in [] trace) line x → RefusedIn (posting_in [] trace) line (refusal act (account_at (rows_of s) x)) → IsSound w (posting_in [] trace) [] s → StepsAt trace m t line c (x - 1) (tells.Act act) Heard ps es → Steps w trace (λ n a. ⊥) ps es s t
+      → rows_of m ≡ set (set (rows_of s) (x - 1) (with_waits line (row_at (rows_of s) (x - 1)))) (line - 1) (row.Calling c x b) → nexts_of m ≡ nexts_of s → asks_of m ≡ asks_of s → m.clients ≡ s.clients → IsReady w s → CalledIn (posting_in [] trace) line x → KnowsAsk (posting_in [] trace) line act (account_at (rows_of s) x) → IsSound w (posting_in [] trace) [] s → StepsAt trace m t line c (x - 1) (tells.Act act) Heard ps es → Steps w trace (λ n a. ⊥) ps es s t
   call_steps trace s m t line x c b act Heard ps es is idle free rows nexts asks clients ready is_called refused sound step =
       steps_from w trace s m t Heard ps es (calling_fewer w p q k s m line x c b is free ready.rows rows)
       (step own may
@@ -102,7 +101,7 @@ module _ {P Q K A B D : Type 0} (w : Ways P Q K A B D) (p : IsLawful w.prewritin
 
       -- with what it is refused is told by how far its transaction has come
       may : MayKnow (posting_in [] trace) (outbox_of line) (tells.Act act) (row_at (rows_of m) (x - 1))
-      may = subst (MayKnow (posting_in [] trace) (outbox_of line) (tells.Act act)) (sym mine) (act_known (posting_in [] trace) act line (row_at (rows_of s) (x - 1)) (subst (λ a. RefusedIn (posting_in [] trace) line (refusal act a)) (account_read (rows_of s) x at.first) refused))
+      may = subst (MayKnow (posting_in [] trace) (outbox_of line) (tells.Act act)) (sym mine) (act_known (posting_in [] trace) act line (row_at (rows_of s) (x - 1)) (subst (λ a. KnowsAsk (posting_in [] trace) line act a) (account_read (rows_of s) x at.first) refused))
         where
           mine : row_at (rows_of m) (x - 1) ≡ with_waits line (row_at (rows_of s) (x - 1))
           mine = ap (λ rs. row_at rs (x - 1)) rows ∙ or_other mid (line - 1) (x - 1) (row.Calling c x b) row.Plain (λ e. far (let one = is.first in let two = at.first in omega (arith, one, two, e))) ∙ or_same (rows_of s) (x - 1) (with_waits line (row_at (rows_of s) (x - 1))) row.Plain (row_within (rows_of s) x at)

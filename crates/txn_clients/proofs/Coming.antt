@@ -13,7 +13,10 @@ use Rattle.txn_side.specs.Sight.{Group}
 use Rattle.txn_side.specs.Trace.{HasCome, IsSentIn, Trace, with_posted}
 use Rattle.txn_side.specs.declared.turn.Posting.{Posting}
 use Rattle.txn_clients.specs.Clients.{groups_of, sight_of}
-use Rattle.txn_clients.specs.Failing.{CalledIn, CameIn, GroupCameIn, RefusedIn, outbox_of, posting_in}
+use Rattle.txn_side.specs.Account.{Account, refusal}
+use Rattle.txn_side.specs.declared.act.Act.{Act}
+use Rattle.txn_side.specs.declared.act.Act.TheVariants.{Rollback}
+use Rattle.txn_clients.specs.Failing.{CalledIn, CameIn, GroupCameIn, KnowsAsk, RefusedIn, RollsBackIn, outbox_of, posting_in}
 use Rattle.txn_clients.specs.Groups.{group_by}
 use Rattle.txn_clients.specs.Waiting.{book_at}
 use Rattle.txn_clients.specs.declared.clients.Clients.{Clients}
@@ -25,9 +28,23 @@ pub called_since : (trace : Option Trace) (ps : List Posting) (line at : ℕ) �
 called_since None ps line at c = tt
 called_since (Some t) ps line at c = c
 
-pub refused_since : (trace : Option Trace) (ps : List Posting) (line : ℕ) (why : Option Error) → RefusedIn trace line why → RefusedIn (posting_in ps trace) line why
+-- without a trace nothing is asked of it
+pub rolls_untold : (line : ℕ) (act : Act) → RollsBackIn None line act
+rolls_untold line Rollback = tt
+rolls_untold line _ = tt
+
+rolls_since : (trace : Option Trace) (ps : List Posting) (line : ℕ) (act : Act) → RollsBackIn trace line act → RollsBackIn (posting_in ps trace) line act
+rolls_since None ps line Rollback r = tt
+rolls_since None ps line _ r = tt
+rolls_since (Some t) ps line Rollback r = r
+rolls_since (Some t) ps line _ r = tt
+
+refused_since : (trace : Option Trace) (ps : List Posting) (line : ℕ) (why : Option Error) → RefusedIn trace line why → RefusedIn (posting_in ps trace) line why
 refused_since None ps line why r = tt
 refused_since (Some t) ps line why r = r
+
+pub asked_since : (trace : Option Trace) (ps : List Posting) (line : ℕ) (act : Act) (account : Account) → KnowsAsk trace line act account → KnowsAsk (posting_in ps trace) line act account
+asked_since trace ps line act account k = (refused_since trace ps line (refusal act account) k.0, rolls_since trace ps line act k.1)
 
 -- for the request for timestamps of a client
 

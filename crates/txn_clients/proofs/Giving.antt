@@ -1,6 +1,6 @@
 -- Why those whose asks a request for timestamps carries are told that there is none.
-use Rattle.std.proofs.Common.{◌≡◌, inl, inr, ℕ, Bool, true, false, if◌then◌else◌, List, [], ◌∷◌, length, map, get_or, Option, Some, None, refl, sym, ap, ◌∙◌, subst}
-use Rattle.std.proofs.lemmas.List.Elements.{All-cons, All-head, All-nil, All-tail}
+use Rattle.std.proofs.Common.{◌≡◌, inl, inr, ℕ, Bool, true, false, if◌then◌else◌, List, [], ◌∷◌, length, get_or, Option, Some, None, refl, sym, ap, ◌∙◌, subst}
+use Rattle.std.proofs.lemmas.List.Elements.{All-cons, All-nil}
 use Rattle.std.specs.List.{All}
 use Rattle.std.specs.Prelude.{Result, Ok, Err}
 use Rattle.txn_kv.specs.declared.errors.Error.{Error}
@@ -17,6 +17,7 @@ use Rattle.txn_kv.specs.declared.timestamp.Timestamp.{Timestamp}
 use Rattle.txn_history.specs.Among.{IsAmong}
 use Rattle.txn_history.specs.Event.{Event, Has}
 use Rattle.txn_history.specs.Event.Event.{Lost, Took}
+use Rattle.txn_law.proofs.Among.{map_among}
 use Rattle.txn_plan.specs.declared.arrival.Arrival.TheVariants as arrivals
 use Rattle.txn_side.specs.Sight.{Group}
 use Rattle.txn_side.specs.Trace.{HasFailed, IsRefusedIn, Refuses, Trace, with_posted}
@@ -28,6 +29,7 @@ use Rattle.txn_clients.specs.Failing.{AreGivenIn, CameIn, GroupCameIn, IfFails, 
 use Rattle.txn_clients.specs.Groups.{group_by, lines_in}
 use Rattle.txn_clients.specs.Waiting.{IsPaired, IsThere, Takes, book_at}
 use Rattle.txn_clients.specs.declared.clients.Clients.{Clients}
+use Rattle.txn_clients.proofs.Showing.{all_map}
 use Rattle.txn_clients.proofs.Stepping.{group_there}
 use Rattle.txn_clients.proofs.Timestamps.{among_so}
 
@@ -37,10 +39,6 @@ Fails P a = IfFails P a.1
 weaker : (P Q : Error → Type 0) (v : Result Timestamp Error) → ((e : Error) → P e → Q e) → IfFails P v → IfFails Q v
 weaker P Q (Ok x) f h = tt
 weaker P Q (Err e) f h = f e h
-
-pub all_weaker : (P Q : Error → Type 0) (given : List Answer) → ((e : Error) → P e → Q e) → All (Fails P) given → All (Fails Q) given
-all_weaker P Q [] f h = All-nil (Fails Q)
-all_weaker P Q (a ∷ rest) f h = All-cons (Fails Q) a rest (weaker P Q a.1 f (All-head (Fails P) a rest h)) (all_weaker P Q rest f (All-tail (Fails P) a rest h))
 
 -- What a reply refuses
 
@@ -65,7 +63,7 @@ refuses_other o other e h = h
 
 -- a reply of another kind refuses all
 pub others_refuse : (o : Reply) (given : List Answer) → ((times : TsoResponse) → o ≡ replies.Tso times → ⊥) → All (Fails (λ e. e ≡ InternalError WrongReply)) given → All (Fails (Refuses o)) given
-others_refuse o given other all = all_weaker (λ e. e ≡ InternalError WrongReply) (Refuses o) given (refuses_other o other) all
+others_refuse o given other all = all_map (λ a h. weaker (λ e. e ≡ InternalError WrongReply) (Refuses o) a.1 (refuses_other o other) h) given all
 
 -- What those are told who asked
 
@@ -77,11 +75,6 @@ pub given_came : (trace : Option Trace) (ps : List Posting) (given : List Answer
 given_came None ps given asker v all among = tt
 given_came (Some t) ps given asker v all among =
     weaker (IsRefusedIn t asker.line) (IsRefusedIn (with_posted ps t) asker.line) v (λ e r. repacked t ps asker.line e r) (among_so (λ (a : Answer). IfFails (IsRefusedIn t a.0.line) a.1) given (asker, v) all among)
-
-among_map : {X Y : Type 0} (f : X → Y) (xs : List X) (x : X) → IsAmong xs x → IsAmong (map f xs) (f x)
-among_map f [] x h = absurd h
-among_map f (y ∷ ys) x (inl e) = inl (ap f e)
-among_map f (y ∷ ys) x (inr h) = inr (among_map f ys x h)
 
 all_among : {X : Type 0} (P : X → Type 0) (xs : List X) → ((x : X) → IsAmong xs x → P x) → All P xs
 all_among P [] f = All-nil P
@@ -107,12 +100,12 @@ module _ {P Q K : Type 0} where
       out = group_or_none (book_at s client).out
 
       asks : (a : Answer) → IsAmong given a → IsAmong out a.0
-      asks a i = subst (λ askers. IsAmong askers a.0) takes.askers (among_map (λ (b : Answer). b.0) given a i)
+      asks a i = subst (λ askers. IsAmong askers a.0) takes.askers (map_among (λ (b : Answer). b.0) given a i)
 
       there : IsThere (book_at s client).ticket → (a : Answer) → IfFails Why a.1 → IsAmong out a.0 → IfFails (IsRefusedIn u a.0.line) a.1
       there (ticket, e) a h i =
           let group : Group = record { ticket = ticket; askers = lines_in out } in
-          refused_one u event Why (failed u) group (came group (group_there s.clients.items client ∙ ap (λ o. group_by o (lines_in out)) e)) a.0.line (among_map (λ (b : Asker). b.line) out a.0 i) a.1 h
+          refused_one u event Why (failed u) group (came group (group_there s.clients.items client ∙ ap (λ o. group_by o (lines_in out)) e)) a.0.line (map_among (λ (b : Asker). b.line) out a.0 i) a.1 h
 
       one : (a : Answer) → IfFails Why a.1 → IsAmong out a.0 → IfFails (IsRefusedIn u a.0.line) a.1
       one a h i = elim paired [ inl none ↦ absurd (subst (λ o. IsAmong (group_or_none o) a.0) none i) | inr ticket ↦ there ticket a h i ]

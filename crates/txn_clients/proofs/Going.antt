@@ -29,13 +29,12 @@ use Rattle.txn_clients.specs.declared.row.Row.{Row}
 use Rattle.txn_clients.specs.declared.row.Row.TheVariants as row
 use Rattle.txn_clients.specs.declared.told.Told.{Told}
 use Rattle.txn_clients.specs.declared.told.Told.TheVariants as tells
-use Rattle.txn_side.specs.Account.{refusal}
 use Rattle.txn_side.specs.Trace.{Trace}
 use Rattle.txn_clients.specs.Accounts.{account_of}
-use Rattle.txn_clients.specs.Failing.{CameIn, RefusedIn}
+use Rattle.txn_clients.specs.Failing.{CameIn, KnowsAsk}
 use Rattle.txn_clients.specs.Resting.{row_longer}
 use Rattle.txn_clients.proofs.Calls.{call_later, call_rests, no_answer}
-use Rattle.txn_clients.proofs.Showing.{shown_times}
+use Rattle.txn_clients.proofs.Showing.{own_times, shown_times}
 use Rattle.txn_clients.proofs.Standing.{stand_later}
 use Rattle.std.specs.List.Sorted.{IsStrictlySortedBy}
 use Rattle.std.specs.Prelude.{IfSome}
@@ -67,7 +66,7 @@ reached_same : (from o : Posted) → IsReached from from o → IsLater from o
 reached_same from o r = record { line = r.line; beat = r.beat; next = r.next; next_ask = r.next_ask }
 
 module _ {P Q K A B D : Type 0} (w : Ways P Q K A B D) where
-  pub stand_acts : (x : Act) (c m : ℕ) (old new : Standing P Q K) (from to : Posted) (turn : Turn (Result (TxnAnswer Q) Error)) → turn ≢ Stopped → StandGoes w (λ a. ⊥) ⊤ (λ trace. RefusedIn trace from.line (refusal x (account_of old))) old new from to turn
+  pub stand_acts : (x : Act) (c m : ℕ) (old new : Standing P Q K) (from to : Posted) (turn : Turn (Result (TxnAnswer Q) Error)) → turn ≢ Stopped → StandGoes w (λ a. ⊥) ⊤ (λ trace. KnowsAsk trace from.line x (account_of old)) old new from to turn
       → RowGoes w (tells.Act x) (row.Begun c old m) (row.Begun c new m) from to (answer_in answers.Called turn)
   stand_acts x c m old new from to turn kept g = record {
     arises = λ trace longer at met called_so known nexts news o low risen up reached x. let r = g.arises trace longer at met called_so known nexts news o low risen up reached x in (r.0, call_rests w longer at from.line turn r.1);
@@ -140,7 +139,7 @@ module _ {P Q K A B D : Type 0} (w : Ways P Q K A B D) where
       subst (λ d. RowGoes w d (row.Asking c b old) (row.Asking c b new) from to answer) (sym e) (subst (λ o. RowGoes w (tells.Heard a) (row.Asking c b old) (row.Asking c b new) from to o) (sym f) (ok_kept progress (call_hears w c b a old new from to pd pd' (turn_of (Ok progress)) t goes)))
 
   pub stand_acted : (told : Told) (x : Act) (c m : ℕ) (old new : Standing P Q K) (from to : Posted) (progress : Progress (TxnAnswer Q)) (answer : Option (Answer P Q K)) → told ≡ tells.Act x → answer ≡ answer_in answers.Called (turn_of (Ok progress))
-      → IfKept (turn_of (Ok progress)) (StandGoes w (λ a. ⊥) ⊤ (λ trace. RefusedIn trace from.line (refusal x (account_of old))) old new from to (turn_of (Ok progress))) → RowGoes w told (row.Begun c old m) (row.Begun c new m) from to answer
+      → IfKept (turn_of (Ok progress)) (StandGoes w (λ a. ⊥) ⊤ (λ trace. KnowsAsk trace from.line x (account_of old)) old new from to (turn_of (Ok progress))) → RowGoes w told (row.Begun c old m) (row.Begun c new m) from to answer
   stand_acted told x c m old new from to progress answer e f g =
       subst (λ d. RowGoes w d (row.Begun c old m) (row.Begun c new m) from to answer) (sym e) (subst (λ o. RowGoes w (tells.Act x) (row.Begun c old m) (row.Begun c new m) from to o) (sym f) (stand_acts w x c m old new from to (turn_of (Ok progress)) (ok_goes progress) (ok_kept progress g)))
 
@@ -170,6 +169,7 @@ begun_arises w b options now trace at o nexts e = subst (StandArises w trace at 
     fits = begun_fits w b.start options now o given was never;
     kept = kept_took nexts _ _ _;
     shown = shown_times trace at ticket (record { count = 1 }) reply;
+    own = own_times o.line ticket (record { count = 1 }) reply;
   };
 })
   where

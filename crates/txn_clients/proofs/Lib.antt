@@ -16,6 +16,7 @@ pub mod Accounting
 pub mod Kept
 pub mod Standing
 pub mod Calls
+pub mod Cleaning
 pub mod Going
 pub mod Voices
 pub mod Sounding

@@ -125,7 +125,7 @@ module _ {P Q K : Type 0} where
     fresh_silent c b call e a x = subst (λ g. stage_waits g a) e x
 
     pub fresh_arises : (c : ℕ) (b : Bool) (call : ClientCall Pd P Q K) → IsUnbegun called call → (trace : Option Trace) (at : ℕ) (o : Posted) (nexts : List ℕ) → RowArises w trace at o nexts (row.Asking c b call)
-    fresh_arises c b call u trace at o nexts = record { history = []; fits = u.fits o []; kept = kept_nothing nexts; shown = shown_nothing trace at }
+    fresh_arises c b call u trace at o nexts = record { history = []; fits = u.fits o []; kept = kept_nothing nexts; shown = shown_nothing trace at; own = λ e i. absurd i }
 
     pub asking_sound : (trace : Option Trace) (s t : Clients P Q K) (line c : ℕ) (b : Bool) (call : ClientCall Pd P Q K) (rest : List Asker) → IsLine (stands_of (rows_of s)) line → stand_at (stands_of (rows_of s)) line ≡ Idle → AreMatched (stands_of (rows_of s))
         → get_or (crashed_of s) c true ≡ false → call.stage ≡ stages.Fresh → IsUnbegun called call

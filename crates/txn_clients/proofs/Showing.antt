@@ -1,7 +1,8 @@
 -- What a trace shows of what calls hear and post, and on what the errors that they answer rest.
-use Rattle.std.proofs.Common.{◌≡◌, inl, inr, ℕ, Bool, List, [], ◌∷◌, ◌++◌, Option, Some, None, refl, sym, ap, ◌∙◌, subst, append-nil, append_assoc}
+use Rattle.std.proofs.Common.{◌≡◌, inl, inr, ℕ, Bool, false, List, [], ◌∷◌, ◌++◌, Option, Some, None, refl, sym, ap, ◌∙◌, subst, append-nil, append_assoc}
 use Rattle.std.specs.List.{All, Any}
 use Rattle.std.specs.Prelude.{⊤, Result, Ok, Err}
+use Rattle.txn_kv.specs.ErrorView.{view_of}
 use Rattle.txn_kv.specs.Timestamp.{version_of}
 use Rattle.txn_kv.specs.declared.errors.Error.{Error}
 use Rattle.txn_kv.specs.declared.outbox.Errand.TheVariants.{Ask, Send, Sleep}
@@ -27,22 +28,26 @@ use Rattle.txn_plan.specs.declared.arrival.Arrival.{Arrival}
 use Rattle.txn_plan.specs.declared.arrival.Arrival.TheVariants as arrivals
 use Rattle.txn_buffer.specs.Contents.{Contents}
 use Rattle.txn_commit.specs.Committing.{Ways}
-use Rattle.txn_commit.specs.Following.{Commits, KnowsCommits}
+use Rattle.txn_commit.specs.Following.{KnowsCommits, none_sent, undetermined}
 use Rattle.txn_commit.specs.Parts.{parts_of}
 use Rattle.txn_commit.specs.Sending.{plan_of}
-use Rattle.txn_core.specs.Going.{IsAtWork, TransactionFits, TransactionGives}
+use Rattle.txn_commit.specs.declared.commit_parts.CommitParts.{CommitParts}
+use Rattle.txn_core.specs.Going.{IsAtWork, IsNothing, TransactionFits, TransactionGives}
 use Rattle.txn_core.specs.Transaction.{Standing}
 use Rattle.txn_core.specs.declared.transaction.Work.{Work}
 use Rattle.txn_core.specs.declared.transaction.Work.TheVariants.{Idle, Open, GaveUp}
 use Rattle.txn_core.specs.declared.txn_answer.TxnAnswer.{TxnAnswer}
-use Rattle.txn_side.specs.Trace.{fails_longer, EndsFor, IsLonger, IsSend, IsShown, Trace}
+use Rattle.txn_side.specs.Account.{Account, refusal}
+use Rattle.txn_side.specs.declared.act.Act.{Act}
+use Rattle.txn_side.specs.Trace.{fails_longer, AreOwn, EndsFor, IsLonger, IsOwn, IsSend, IsShown, Trace}
 use Rattle.txn_side.specs.declared.turn.Posting.{Posting}
 use Rattle.std.proofs.lemmas.List.Elements.{All-append, All-cons, All-head, All-nil, All-tail}
 use Rattle.txn_report.specs.declared.outcome.Outcome.{Outcome}
 use Rattle.txn_report.specs.declared.outcome.Outcome.TheVariants as outcomes
 use Rattle.txn_side.specs.declared.turn.Ending.{Ending}
-use Rattle.txn_clients.specs.Failing.{EndsMore, HasReason, CalledIn, CameIn, FailsAt, FailsFor, IfFails, KnowsAll, LongerIn, RefusedIn, SentIn, ShownIn, posting_in}
+use Rattle.txn_clients.specs.Failing.{EndsMore, HasReason, CalledIn, CameIn, FailsAt, FailsFor, HasFailedFor, IfFails, KnownTransaction, LongerIn, RefusedIn, SentIn, ShownIn, posting_in, CallRefused, KnowsAsk, RollsIn}
 use Rattle.txn_clients.specs.Waiting.{Keeps}
+use Rattle.txn_clients.specs.Want.{wants_memory}
 use Rattle.txn_clients.proofs.Groups.{any_ahead}
 
 -- What was posted
@@ -62,6 +67,7 @@ posting_longer (Some t) ps qs k = (
   record {
     events = λ e i. i;
     calls = λ c i. i;
+    rollbacks = λ n i. i;
     groups = λ g i. i;
     sent = λ u r h. elim h [ inl i ↦ inl i | inr a ↦ inr (keeps_any (IsSend u r) ps qs k a) ];
   },
@@ -70,7 +76,7 @@ posting_longer (Some t) ps qs k = (
 
 pub longer_same : (trace : Option Trace) → LongerIn trace trace
 longer_same None = tt
-longer_same (Some t) = (record { events = λ e i. i; calls = λ c i. i; groups = λ g i. i; sent = λ u r h. h }, refl)
+longer_same (Some t) = (record { events = λ e i. i; calls = λ c i. i; rollbacks = λ n i. i; groups = λ g i. i; sent = λ u r h. h }, refl)
 
 pub posted_sent : (trace : Option Trace) (ps : List Posting) (u : Ticket) (r : Request) → Any (IsSend u r) ps → SentIn (posting_in ps trace) u r
 posted_sent None ps u r a = tt
@@ -150,6 +156,32 @@ pub shown_times : (trace : Option Trace) (at : ℕ) (u : Ticket) (r : TsoRequest
 shown_times None at u r times = tt
 shown_times (Some t) at u r times = shown_one (Some t) at (Took u (Tso r) (replies.Tso times)) [] (inr tt) (λ e i. absurd i)
 
+-- For whom it came
+
+own_one : (line : ℕ) (e : Event) (h : List Event) → IsOwn line e → AreOwn line h → AreOwn line (e ∷ h)
+own_one line e h v s = λ x i. elim i [ inl same ↦ subst (IsOwn line) same v | inr j ↦ s x j ]
+
+-- as errands are posted
+pub own_after : (line by : ℕ) (beat : Bool) (h : List Event) (sends : List Errand) → AreOwn line h → AreOwn line (after by beat h sends)
+own_after line by beat h [] own = own
+own_after line by beat h (Send n to r ∷ rs) own = own_after line by beat (posting by beat (Send n to r) ∷ h) rs (own_one line (posting by beat (Send n to r)) h tt own)
+own_after line by beat h (Sleep n ms ∷ rs) own = own_after line by beat (posting by beat (Sleep n ms) ∷ h) rs (own_one line (posting by beat (Sleep n ms)) h tt own)
+own_after line by beat h (Ask n ∷ rs) own = own_after line by beat (posting by beat (Ask n) ∷ h) rs (own_one line (posting by beat (Ask n)) h tt own)
+
+answered_own : (o : Posted) (k : ℕ) (x : Result Timestamp Error) → IsOwn o.line (Answered (ticket_of o k) x)
+answered_own o k (Ok x) = tt
+answered_own o k (Err e) = refl
+
+-- as the line hears something
+pub own_heard : (a : Arrival) (o : Posted) (r : Request) (h : List Event) → AreOwn o.line h → AreOwn o.line ((told_by a o r).hear h)
+own_heard (arrivals.Reply n x) o r h own = own_one o.line (Took (ticket_of o n) r x) h (inl refl) own
+own_heard (arrivals.Lost n) o r h own = own_one o.line (Lost (ticket_of o n) r) h (inl refl) own
+own_heard (arrivals.Slept n) o r h own = own_one o.line (Slept (ticket_of o n)) h tt own
+own_heard (arrivals.Time k x) o r h own = own_one o.line (Answered (ticket_of o k) x) h (answered_own o k x) own
+
+pub own_times : (line : ℕ) (u : Ticket) (r : TsoRequest) (times : TsoResponse) → AreOwn line (Took u (Tso r) (replies.Tso times) ∷ [])
+own_times line u r times = own_one line (Took u (Tso r) (replies.Tso times)) [] (inr tt) (λ e i. absurd i)
+
 -- Errors
 
 -- a call that is not meant answers nothing
@@ -165,47 +197,88 @@ refused_longer_in None (Some u) line why l r = absurd l
 refused_longer_in (Some t) None line why l r = absurd l
 refused_longer_in (Some t) (Some u) line why l r = λ e f. subst (λ xs. IsAmong xs (record { line = line; error = e })) (sym l.1) (r e f)
 
-pub notes_so : (line : ℕ) (why noted : Option Error) → why ≡ noted → (trace : Option Trace) → RefusedIn trace line why → RefusedIn trace line noted
-notes_so line why noted e trace r = subst (RefusedIn trace line) e r
+pub rolls_longer : (trace longer : Option Trace) (line : ℕ) → LongerIn trace longer → RollsIn trace line → RollsIn longer line
+rolls_longer None None line l r = tt
+rolls_longer None (Some u) line l r = absurd l
+rolls_longer (Some t) None line l r = absurd l
+rolls_longer (Some t) (Some u) line l r = let more = l.0 in more.rollbacks line r
+
+-- what is known of what is asked says with what it is refused
+pub notes_so : (line : ℕ) (act : Act) (account : Account) (noted : Option Error) → refusal act account ≡ noted → (trace : Option Trace) → KnowsAsk trace line act account → RefusedIn trace line noted
+notes_so line act account noted e trace k = subst (RefusedIn trace line) e k.0
+
+never_nothing : {Q : Type 0} (e : Error) → IsNothing {Q = Q} (Err e) → ⊥
+never_nothing e n = elim n [ inl q ↦ (cc) | inr q ↦ (cc) ]
 
 module _ {P Q K A B D : Type 0} (w : Ways P Q K A B D) where
-  -- what is known of the Commits of a transaction
-  pub fits_known : (t : Standing P Q K) (o : Posted) (h : List Event) → (t.work ≡ GaveUp → ⊥) → TransactionFits w t o h → KnowsAll t.start t.contents t.commits h
-  fits_known t o h alive f parts e = by t.work refl f.at
-    where
-      by : (g : Work P Q K) → t.work ≡ g → IsAtWork w t.start t.status t.contents t.commits g o h → KnowsCommits (plan_of parts) (version_of t.start) t.commits h
-      by Idle k at = let a = at parts e in a.knows
-      by (Open call) k at =
-          let same : call.parts ≡ parts = one (sym at.whole ∙ e) in
-          subst (λ p. KnowsCommits (plan_of p) (version_of t.start) t.commits h) same (subst (λ (s : Timestamp). KnowsCommits (plan_of call.parts) (version_of s) t.commits h) at.own at.fits.knows)
-        where
-          one : Some call.parts ≡ Some parts → call.parts ≡ parts
-          one q = cc
-      by GaveUp k at = absurd (alive k)
+  -- what is known of a transaction that has not given up
+  module _ (t : Standing P Q K) (o : Posted) (h : List Event) (alive : t.work ≡ GaveUp → ⊥) (f : TransactionFits w t o h) where
+    fits_known : (parts : CommitParts) → parts_of t.contents ≡ Some parts → KnowsCommits (plan_of parts) (version_of t.start) t.commits h
+    fits_known parts e = by t.work refl f.at
+      where
+        by : (g : Work P Q K) → t.work ≡ g → IsAtWork w t.start t.status t.contents t.commits g o h → KnowsCommits (plan_of parts) (version_of t.start) t.commits h
+        by Idle k at = let a = at.of_parts parts e in a.knows
+        by (Open call) k at =
+            let same : call.parts ≡ parts = one (sym at.whole ∙ e) in
+            subst (λ p. KnowsCommits (plan_of p) (version_of t.start) t.commits h) same (subst (λ (s : Timestamp). KnowsCommits (plan_of call.parts) (version_of s) t.commits h) at.own at.fits.knows)
+          where
+            one : Some call.parts ≡ Some parts → call.parts ≡ parts
+            one q = cc
+        by GaveUp k at = absurd (alive k)
+
+    pub known_with : (parts : CommitParts) → parts_of t.contents ≡ Some parts → KnownTransaction h
+    known_with parts whole = record { start = t.start; contents = t.contents; parts = parts; whole = whole; commits = t.commits; known = fits_known parts whole }
+
+    -- where its buffer holds nothing to commit, no Commit of it was lost or is out
+    empty_sent : (g : Work P Q K) → t.work ≡ g → IsAtWork w t.start t.status t.contents t.commits g o h → parts_of t.contents ≡ None → t.commits ≡ none_sent
+    empty_sent Idle k at e = at.empty e
+    empty_sent (Open call) k at e = absurd (no_parts call.parts (sym e ∙ at.whole))
+      where
+        no_parts : (parts : CommitParts) → ◌≡◌ {A = Option CommitParts} None (Some parts) → ⊥
+        no_parts parts q = cc
+    empty_sent GaveUp k at e = absurd (alive k)
+
+    pub known_sent : (u : Ticket) → undetermined t.commits ≡ Some u → (k : KnownTransaction h) × (undetermined k.commits ≡ Some u)
+    unfolding known_with
+    known_sent u left = by (parts_of t.contents) refl
+      where
+        no_ticket : ◌≡◌ {A = Option Ticket} None (Some u) → ⊥
+        no_ticket q = cc
+
+        by : (found : Option CommitParts) → parts_of t.contents ≡ found → (k : KnownTransaction h) × (undetermined k.commits ≡ Some u)
+        by None e = absurd (no_ticket (sym (ap undetermined (empty_sent t.work refl f.at e)) ∙ left))
+        by (Some parts) e = (known_with parts e, left)
 
   -- an error that a call answers rests on what it has heard
-  pub fails_by : (trace : Option Trace) (at line : ℕ) (e : Error) (h : List Event) → ShownIn trace at h → FailsFor w h e → FailsAt w trace at line e
-  fails_by None at line e h s f = tt
-  fails_by (Some t) at line e h s f = inl (h, s, f)
+  pub fails_by : (trace : Option Trace) (at line : ℕ) (e : Error) (h : List Event) → ShownIn trace at h → AreOwn line h → HasFailedFor w false h e → FailsAt w trace at line e
+  fails_by None at line e h s own f = tt
+  fails_by (Some t) at line e h s own f = inl (h, s, own, inl f)
+
+  -- and of a rollback
+  pub barred_by : (trace : Option Trace) (at line : ℕ) (e : Error) (h : List Event) → ShownIn trace at h → AreOwn line h → RollsIn trace line → CallRefused h e → FailsAt w trace at line e
+  barred_by None at line e h s own rolls f = tt
+  barred_by (Some t) at line e h s own rolls f = inl (h, s, own, inr (rolls, f))
 
   pub refused_by : (trace : Option Trace) (at line : ℕ) (e why : Error) → RefusedIn trace line (Some why) → e ≡ why → FailsAt w trace at line e
   refused_by None at line e why r same = tt
   refused_by (Some t) at line e why r same = inr (r e (ap Some (sym same)))
 
-  fails_gives : (trace : Option Trace) (at line : ℕ) (start : Timestamp) (contents : Contents) (c : Commits) (h : List Event) (v : Result (TxnAnswer Q) Error) → ShownIn trace at h → KnowsAll start contents c h → TransactionGives w start contents c h v → IfFails (FailsAt w trace at line) v
-  fails_gives trace at line start contents c h (Ok v) s known gives = tt
-  fails_gives trace at line start contents c h (Err e) s known gives = fails_by trace at line e h s (inr (inl (record { start = start; contents = contents; commits = c; gives = gives; known = known })))
+  fails_gives : (trace : Option Trace) (at line : ℕ) (t : Standing P Q K) (o : Posted) (h : List Event) (v : Result (TxnAnswer Q) Error) → ShownIn trace at h → AreOwn line h → (t.work ≡ GaveUp → ⊥) → TransactionFits w t o h → TransactionGives w t.start t.contents t.commits h v → IfFails (FailsAt w trace at line) v
+  unfolding known_with
+  fails_gives trace at line t o h (Ok v) s own alive f gives = tt
+  fails_gives trace at line t o h (Err e) s own alive f (inl (parts, whole, fails)) = fails_by trace at line e h s own (inr (record { transaction = known_with t o h alive f parts whole; fails = fails }))
+  fails_gives trace at line t o h (Err e) s own alive f (inr g) = absurd (never_nothing {Q = Q} e g.1)
 
-  pub fails_done : (trace : Option Trace) (at line : ℕ) (old new : Standing P Q K) (o : Posted) (h : List Event) (turn : Turn (Result (TxnAnswer Q) Error)) → ShownIn trace at h → ((v : Result (TxnAnswer Q) Error) → turn ≡ Ends v → new.work ≡ GaveUp → ⊥) → TransactionFits w new o h → new.start ≡ old.start → new.contents ≡ old.contents
+  pub fails_done : (trace : Option Trace) (at line : ℕ) (old new : Standing P Q K) (o : Posted) (h : List Event) (turn : Turn (Result (TxnAnswer Q) Error)) → ShownIn trace at h → AreOwn line h → ((v : Result (TxnAnswer Q) Error) → turn ≡ Ends v → new.work ≡ GaveUp → ⊥) → TransactionFits w new o h → new.start ≡ old.start → new.contents ≡ old.contents
       → IfEnds turn (λ v. TransactionGives w old.start old.contents new.commits h v) → IfEnds turn (IfFails (FailsAt w trace at line))
-  fails_done trace at line old new o h Stopped s alive f start contents gives = tt
-  fails_done trace at line old new o h Waits s alive f start contents gives = tt
-  fails_done trace at line old new o h (Ends v) s alive f start contents gives =
-      fails_gives trace at line old.start old.contents new.commits h v s (λ parts e. subst (λ (x : Timestamp). KnowsCommits (plan_of parts) (version_of x) new.commits h) start (fits_known new o h (alive v refl) f parts (ap parts_of contents ∙ e))) gives
+  fails_done trace at line old new o h Stopped s own alive f start contents gives = tt
+  fails_done trace at line old new o h Waits s own alive f start contents gives = tt
+  fails_done trace at line old new o h (Ends v) s own alive f start contents gives =
+      fails_gives trace at line new o h v s own (alive v refl) f (subst (λ (x : Timestamp). TransactionGives w x new.contents new.commits h v) (sym start) (subst (λ (c : Contents). TransactionGives w old.start c new.commits h v) (sym contents) gives))
 
 -- Calls that ended
 
-all_map : {X : Type 0} {A B : X → Type 0} → ((x : X) → A x → B x) → (xs : List X) → All A xs → All B xs
+pub all_map : {X : Type 0} {A B : X → Type 0} → ((x : X) → A x → B x) → (xs : List X) → All A xs → All B xs
 all_map {X} {A} {B} f [] h = All-nil B
 all_map {X} {A} {B} f (x ∷ xs) h = All-cons B x xs (f x (All-head A x xs h)) (all_map f xs (All-tail A x xs h))
 
@@ -234,9 +307,10 @@ module _ {P Q K A B D : Type 0} (w : Ways P Q K A B D) where
   one_more trace es fs e is h = record { more = e ∷ []; ended = is; each = All-cons (HasReason w trace) e [] h (All-nil (HasReason w trace)) }
 
   -- the error of a call is the outcome of its line
-  pub reason_so : {X : Type 0} (trace : Option Trace) (line at : ℕ) (o : Outcome) (v : Result X Error) → CalledIn trace line at → ((e : Error) → o ≡ outcomes.Err e → v ≡ Err e) → IfFails (FailsAt w trace at line) v → HasReason w trace (record { line = line; outcome = o })
-  reason_so None line at o v called same f = tt
-  reason_so (Some t) line at o v called same f = λ e is. elim (subst (IfFails (FailsAt w (Some t) at line)) (same e is) f) [
-    | inl h ↦ inl (record { at = at; called = called; history = h.0; shown = h.1; fails_so = h.2 })
+  pub reason_so : {X : Type 0} (trace : Option Trace) (line at : ℕ) (o : Outcome) (v : Result X Error) → CalledIn trace line at → ((e : Error) → o ≡ outcomes.Err e → v ≡ Err e) → ((e : Error) → o ≡ outcomes.Err e → wants_memory (view_of e) ≡ false)
+      → IfFails (FailsAt w trace at line) v → HasReason w trace (record { line = line; outcome = o })
+  reason_so None line at o v called same fed f = tt
+  reason_so (Some t) line at o v called same fed f = λ e is. elim (subst (IfFails (FailsAt w (Some t) at line)) (same e is) f) [
+    | inl h ↦ inl (record { at = at; called = called; history = h.0; shown = h.1; own = h.2; fails_so = elim h.3 [ inl k ↦ inl (record { why = k; fed = fed e is }) | inr k ↦ inr (k.0, record { why = k.1; fed = fed e is }) ] })
     | inr i ↦ inr i
   ]

@@ -40,12 +40,13 @@ use Rattle.txn_core.proofs.Ordered.{locked_ordered, written_fits, written_ordere
 use Rattle.txn_core.proofs.Others.{adds_same, idle_fits, others_fit}
 use Rattle.txn_core.proofs.Waiting.{busy_runs, runs_still, standing_posted}
 use Rattle.txn_side.specs.Sight.{next_at}
-use Rattle.txn_clients.specs.Failing.{CalledIn, CameIn, FailsAt, HasMet, IfFails, LongerIn, RefusedIn, SentIn, ShownIn}
+use Rattle.txn_clients.specs.Failing.{CalledIn, CameIn, FailsAt, HasMet, IfFails, LongerIn, RefusedIn, SentIn, ShownIn, KnowsAsk, RollsIn}
 use Rattle.txn_clients.specs.Resting.{called_in_longer, shown_longer}
 use Rattle.txn_clients.specs.Waiting.{IsKept, IsReached, IsRisen, StandArises, StandGoes}
-use Rattle.txn_clients.proofs.Showing.{among_behind, fails_by, known_so, fails_done, fits_known, refused_by, refused_longer_in, sent_shown, shown_after, shown_heard, unheard_ends}
-use Rattle.txn_side.specs.Account.{Account, refusal}
-use Rattle.txn_side.specs.Trace.{Trace}
+use Rattle.txn_clients.proofs.Cleaning.{cleaned, given_cleaned, kept_cleaned, own_cleaned, parts_cleaned, shown_cleaned, unsent_cleaned}
+use Rattle.txn_clients.proofs.Showing.{among_behind, barred_by, rolls_longer, known_so, fails_done, known_sent, own_after, own_heard, refused_by, refused_longer_in, sent_shown, shown_after, shown_heard, unheard_ends}
+use Rattle.txn_side.specs.Account.{Account}
+use Rattle.txn_side.specs.Trace.{AreOwn, Trace}
 use Rattle.txn_side.specs.declared.act.Act.{Act}
 use Rattle.txn_kv.specs.declared.outbox.Errand.TheVariants.{Send}
 use Rattle.txn_history.specs.Among.{IsAmong}
@@ -144,28 +145,46 @@ module _ {P Q K A B D : Type 0} (w : Ways P Q K A B D) (p : IsLawful w.prewritin
   pub stand_later : {trace : Option Trace} {at : ℕ} (t : Standing P Q K) (o later : Posted) (nexts news : List ℕ) → IsLater o later → IsRisen nexts news → StandArises w trace at o nexts t → StandArises w trace at later news t
   stand_later t o later nexts news l risen a = record {
     ordered = a.ordered;
-    arisen = record { history = a.arisen.history; fits = later_fits t o later a.arisen.history l a.arisen.fits; kept = kept_risen nexts news a.arisen.history risen a.arisen.kept; shown = a.arisen.shown };
+    arisen = record { history = a.arisen.history; fits = later_fits t o later a.arisen.history l a.arisen.fits; kept = kept_risen nexts news a.arisen.history risen a.arisen.kept; shown = a.arisen.shown; own = subst (λ n. AreOwn n a.arisen.history) (sym l.line) a.arisen.own };
   }
 
   -- and in a longer trace
   stand_shown : (trace longer : Option Trace) (at : ℕ) (t : Standing P Q K) (o : Posted) (nexts : List ℕ) → LongerIn trace longer → StandArises w trace at o nexts t → StandArises w longer at o nexts t
   stand_shown trace longer at t o nexts l a = record {
     ordered = a.ordered;
-    arisen = record { history = a.arisen.history; fits = a.arisen.fits; kept = a.arisen.kept; shown = shown_longer trace longer at a.arisen.history l a.arisen.shown };
+    arisen = record { history = a.arisen.history; fits = a.arisen.fits; kept = a.arisen.kept; shown = shown_longer trace longer at a.arisen.history l a.arisen.shown; own = a.arisen.own };
   }
 
-  -- between calls, in any outbox
-  rest_fits : (t : Standing P Q K) (o later : Posted) (h : List Event) → is_open t.work ≡ false → TransactionFits w t o h → TransactionFits w t later h
-  rest_fits t o later h e f = by (open_so t.work e)
+  -- between calls, in any outbox, and with what explains no error
+  cleaned_fits : (t : Standing P Q K) (later : Posted) (h : List Event) → TransactionFits w t later h → (g : Work P Q K) → t.work ≡ g → is_open g ≡ false → TransactionFits w t later (cleaned h)
+  cleaned_fits t later h f g e rests = record {
+    given = given_cleaned h (version_of t.start) f.given;
+    unsent = λ a. unsent_cleaned (version_of t.start) t.commits h (f.unsent a);
+    at = subst (λ x. IsAtWork w t.start t.status t.contents t.commits x later (cleaned h)) (sym e) (at g rests (subst (λ x. IsAtWork w t.start t.status t.contents t.commits x later h) e f.at));
+  }
+    where
+      at : (x : Work P Q K) → is_open x ≡ false → IsAtWork w t.start t.status t.contents t.commits x later h → IsAtWork w t.start t.status t.contents t.commits x later (cleaned h)
+      at Idle shut k = record { of_parts = λ parts whole. parts_cleaned (version_of t.start) t.commits h parts (k.of_parts parts whole); empty = k.empty }
+      at (Open call) shut k = absurd (cc)
+      at GaveUp shut k = tt
+
+  rest_fits : (t : Standing P Q K) (o later : Posted) (h : List Event) → is_open t.work ≡ false → TransactionFits w t o h → TransactionFits w t later (cleaned h)
+  rest_fits t o later h e f = cleaned_fits t later h (by (open_so t.work e)) t.work refl e
     where
       by : (t.work ≡ Idle) ⊎ (t.work ≡ GaveUp) → TransactionFits w t later h
       by (inl i) = idle_fits w t o later h i f
       by (inr g) = record { given = f.given; unsent = f.unsent; at = subst (λ x. IsAtWork w t.start t.status t.contents t.commits x later h) (sym g) tt }
 
   pub stand_rests : {trace : Option Trace} {at : ℕ} (t : Standing P Q K) (o later : Posted) (nexts news : List ℕ) → is_open t.work ≡ false → IsRisen nexts news → StandArises w trace at o nexts t → StandArises w trace at later news t
-  stand_rests t o later nexts news e risen a = record {
+  stand_rests {trace} {at} t o later nexts news e risen a = record {
     ordered = a.ordered;
-    arisen = record { history = a.arisen.history; fits = rest_fits t o later a.arisen.history e a.arisen.fits; kept = kept_risen nexts news a.arisen.history risen a.arisen.kept; shown = a.arisen.shown };
+    arisen = record {
+      history = cleaned a.arisen.history;
+      fits = rest_fits t o later a.arisen.history e a.arisen.fits;
+      kept = kept_cleaned news a.arisen.history (kept_risen nexts news a.arisen.history risen a.arisen.kept);
+      shown = shown_cleaned trace at a.arisen.history a.arisen.shown;
+      own = own_cleaned later.line a.arisen.history;
+    };
   }
 
   -- It is told of something.
@@ -198,10 +217,11 @@ module _ {P Q K A B D : Type 0} (w : Ways P Q K A B D) (p : IsLawful w.prewritin
       → TransactionMoves w known hear old new from to turn → turn ≢ Stopped → Outlives new turn → new.start ≡ old.start → new.contents ≡ old.contents
       → ((h : List Event) → IsKept nexts h → IsKept nexts (hear h))
       → next_at nexts from.line ≤ from.next → IsRisen nexts news → to.next ≤ next_at news from.line → IsReached from to o
-      → (a : StandArises w trace at from nexts old) → known a.arisen.history → ShownIn trace at (hear a.arisen.history) → Arises longer at from.line o news new turn
-  moved trace longer at known hear old new from to o turn nexts news met called m kept alive start same keeps low risen up reached a knows hears =
+      → (a : StandArises w trace at from nexts old) → known a.arisen.history → ShownIn trace at (hear a.arisen.history) → AreOwn from.line (hear a.arisen.history) → Arises longer at from.line o news new turn
+  moved trace longer at known hear old new from to o turn nexts news met called m kept alive start same keeps low risen up reached a knows hears owns =
       let h = a.arisen.history in
       let after_all = after from.line from.beat (hear h) m.sends in
+      let own = own_after from.line from.line from.beat (hear h) m.sends owns in
       let fits = IfKept-out turn kept m.still h (a.arisen.fits, knows) in
       let shown = shown_after longer at from.line from.beat (hear h) m.sends (called_in_longer trace longer from.line at met.longer called) (λ n store r i. met.sent n store r (subst (λ es. IsAmong es (Send n store r)) (sym m.pushed) (among_behind from.sends m.sends (Send n store r) i))) (shown_longer trace longer at (hear h) met.longer hears) in (
         record {
@@ -211,9 +231,10 @@ module _ {P Q K A B D : Type 0} (w : Ways P Q K A B D) (p : IsLawful w.prewritin
             fits = later_fits new to o after_all (reached_later from to o m.line m.beat reached) fits;
             kept = kept_posted nexts news from.line from.beat from.next from.next_ask to.next to.next_ask m.sends (hear h) low m.numbered risen up (keeps h a.arisen.kept);
             shown = shown;
+            own = subst (λ n. AreOwn n after_all) (sym reached.line) own;
           };
         },
-        fails_done w longer at from.line old new to after_all turn shown alive fits start same (IfEnds-weaker turn (λ v gives. gives h (a.arisen.fits, knows)) m.done),
+        fails_done w longer at from.line old new to after_all turn shown own alive fits start same (IfEnds-weaker turn (λ v gives. gives h (a.arisen.fits, knows)) m.done),
       )
 
   -- nothing changes
@@ -272,7 +293,7 @@ module _ {P Q K A B D : Type 0} (w : Ways P Q K A B D) (p : IsLawful w.prewritin
           → Goal
       by_reply kept n is out knows trace longer at met called came nexts news o low risen up reached x = elim (sent_or_not x.arisen.history (ticket_of from n)) [
         | inl (r, i) ↦ moved trace longer at _ _ old new from to o turn nexts news met called (tells r) kept (heard_alive _ _ new from to pd pd' turn goes) start same (kept_heard a from r nexts) low risen up reached x (knows r x.arisen.history i (λ s j. x.arisen.kept.alone (ticket_of from n) r s i j))
-            (shown_heard trace at a from r x.arisen.history called came (λ m e. subst (λ j. SentIn trace (ticket_of from j) r) (one m (sym is ∙ e)) (sent_shown trace at x.arisen.history (ticket_of from n) r x.arisen.shown i)) x.arisen.shown)
+            (shown_heard trace at a from r x.arisen.history called came (λ m e. subst (λ j. SentIn trace (ticket_of from j) r) (one m (sym is ∙ e)) (sent_shown trace at x.arisen.history (ticket_of from n) r x.arisen.shown i)) x.arisen.shown) (own_heard a from r x.arisen.history x.arisen.own)
         | inr never ↦ unknown trace longer at a n old new from to o pd pd' turn nexts news met.longer is out goes commits deaf gone kept risen reached x never
       ]
         where
@@ -282,7 +303,7 @@ module _ {P Q K A B D : Type 0} (w : Ways P Q K A B D) (p : IsLawful w.prewritin
       -- where it is no reply and no loss
       comes : turn ≢ Stopped → {b : Arrival} → ((m : ℕ) → awaited_as b ≡ ReplyTo m → ⊥) → a ≡ b → Goal
       comes kept {b} other e trace longer at met called came nexts news o low risen up reached x = moved trace longer at _ _ old new from to o turn nexts news met called (tells members) kept (heard_alive _ _ new from to pd pd' turn goes) start same (kept_heard a from members nexts) low risen up reached x (known_so a from members x.arisen.history (λ m f. other m (sym (ap awaited_as e) ∙ f)))
-          (shown_heard trace at a from members x.arisen.history called came (λ m f. absurd (other m (sym (ap awaited_as e) ∙ f))) x.arisen.shown)
+          (shown_heard trace at a from members x.arisen.history called came (λ m f. absurd (other m (sym (ap awaited_as e) ∙ f))) x.arisen.shown) (own_heard a from members x.arisen.history x.arisen.own)
 
       by : turn ≢ Stopped → (b : Arrival) → a ≡ b → Goal
       by kept (arrivals.Reply n x) e = by_reply kept n (ap awaited_as e) (ap (λ b. awaits b from old.commits) e) (λ r h i alone. subst (λ b. (told_by b from r).known h) (sym e) (record { sent = i; alone = alone }))
@@ -356,6 +377,7 @@ module _ {P Q K A B D : Type 0} (w : Ways P Q K A B D) (p : IsLawful w.prewritin
               fits = subst (λ (t : Standing P Q K). TransactionFits w t o x.arisen.history) (sym ends.1) (written_fits w old new.contents o x.arisen.history (may refl) idle now x.arisen.fits);
               kept = x.arisen.kept;
               shown = x.arisen.shown;
+              own = x.arisen.own;
             };
           }
 
@@ -388,8 +410,8 @@ module _ {P Q K A B D : Type 0} (w : Ways P Q K A B D) (p : IsLawful w.prewritin
 
   -- what was asked is this
   pub acts_as : (act is : Act) (heard : Awaited → Type 0) (busy : Type 0) (line : ℕ) (account : Account) (old new : Standing P Q K) (from to : Posted) (turn : Turn (Result (TxnAnswer Q) Error)) → act ≡ is
-      → IfKept turn (StandGoes w heard busy (λ trace. RefusedIn trace line (refusal is account)) old new from to turn) → IfKept turn (StandGoes w heard busy (λ trace. RefusedIn trace line (refusal act account)) old new from to turn)
-  acts_as act is heard busy line account old new from to turn e h = subst (λ a. IfKept turn (StandGoes w heard busy (λ trace. RefusedIn trace line (refusal a account)) old new from to turn)) (sym e) h
+      → IfKept turn (StandGoes w heard busy (λ trace. KnowsAsk trace line is account) old new from to turn) → IfKept turn (StandGoes w heard busy (λ trace. KnowsAsk trace line act account) old new from to turn)
+  acts_as act is heard busy line account old new from to turn e h = subst (λ a. IfKept turn (StandGoes w heard busy (λ trace. KnowsAsk trace line a account) old new from to turn)) (sym e) h
 
   refused_fails : (e : Error) (old new : Standing P Q K) (trace longer : Option Trace) (at line : ℕ) (turn : Turn (Result (TxnAnswer Q) Error)) → IsRefused e old new turn → LongerIn trace longer → RefusedIn trace line (Some e) → IfEnds turn (IfFails (FailsAt w longer at line))
   refused_fails e old new trace longer at line Stopped r l known = tt
@@ -406,7 +428,7 @@ module _ {P Q K A B D : Type 0} (w : Ways P Q K A B D) (p : IsLawful w.prewritin
       → Opens w new from to turn → is_open new.work ≡ is_waiting turn
       → IfKept turn (StandGoes w (λ a. ⊥) ⊤ knows old new from to turn)
   commits_goes knows e true old new from to turn notes refused moves start same opens busy = if_kept turn (λ kept. record {
-    arises = λ trace longer at met called known nexts news o low risen up reached x. moved trace longer at _ _ old new from to o turn nexts news met called (moves refl) kept (opened_alive new turn opens.next) start same (λ h y. y) low risen up reached x tt x.arisen.shown;
+    arises = λ trace longer at met called known nexts news o low risen up reached x. moved trace longer at _ _ old new from to o turn nexts news met called (moves refl) kept (opened_alive new turn opens.next) start same (λ h y. y) low risen up reached x tt x.arisen.shown x.arisen.own;
     expects = opened old new from to turn opens;
     runs = λ any f. waiting_open turn new.work busy f;
   })
@@ -436,29 +458,30 @@ module _ {P Q K A B D : Type 0} (w : Ways P Q K A B D) (p : IsLawful w.prewritin
           fits = record { given = x.arisen.fits.given; unsent = x.arisen.fits.unsent; at = tt };
           kept = kept_risen nexts news x.arisen.history risen x.arisen.kept;
           shown = shown_longer trace longer at x.arisen.history l x.arisen.shown;
+          own = subst (λ n. AreOwn n x.arisen.history) (sym reached.line) x.arisen.own;
         };
       })
 
-  unknown_fails : (trace longer : Option Trace) (at : ℕ) (t : Ticket) (old : Standing P Q K) (o : Posted) (nexts : List ℕ) (turn : Turn (Result (TxnAnswer Q) Error)) → LongerIn trace longer → (old.work ≡ GaveUp → ⊥) → undetermined old.commits ≡ Some t → IsUndetermined t turn → StandArises w trace at o nexts old → IfEnds turn (IfFails (FailsAt w longer at o.line))
-  unknown_fails trace longer at t old o nexts Stopped l alive left u x = tt
-  unknown_fails trace longer at t old o nexts Waits l alive left u x = tt
-  unknown_fails trace longer at t old o nexts (Ends (Ok v)) l alive left u x = tt
-  unknown_fails trace longer at t old o nexts (Ends (Err e)) l alive left u x =
+  unknown_fails : (trace longer : Option Trace) (at : ℕ) (t : Ticket) (old : Standing P Q K) (o : Posted) (nexts : List ℕ) (turn : Turn (Result (TxnAnswer Q) Error)) → LongerIn trace longer → RollsIn trace o.line → (old.work ≡ GaveUp → ⊥) → undetermined old.commits ≡ Some t → IsUndetermined t turn → StandArises w trace at o nexts old → IfEnds turn (IfFails (FailsAt w longer at o.line))
+  unknown_fails trace longer at t old o nexts Stopped l rolls alive left u x = tt
+  unknown_fails trace longer at t old o nexts Waits l rolls alive left u x = tt
+  unknown_fails trace longer at t old o nexts (Ends (Ok v)) l rolls alive left u x = tt
+  unknown_fails trace longer at t old o nexts (Ends (Err e)) l rolls alive left u x =
       let h = x.arisen.history in
-      fails_by w longer at o.line e h (shown_longer trace longer at h l x.arisen.shown) (inr (inr (record { start = old.start; contents = old.contents; commits = old.commits; ticket = t; left = left; error = u; known = fits_known w old o h alive x.arisen.fits })))
+      barred_by w longer at o.line e h (shown_longer trace longer at h l x.arisen.shown) x.arisen.own (rolls_longer trace longer o.line l rolls) (let k = known_sent w old o h alive x.arisen.fits t left in record { transaction = k.0; ticket = t; left = k.1; error = u })
 
-  pub rollbacks_goes : (knows : Option Trace → Type 0) (e : Error) (b : Bool) (lost : Option Ticket) (old new : Standing P Q K) (from to : Posted) (turn : Turn (Result (TxnAnswer Q) Error)) → (b ≡ false → Notes knows from.line (Some e)) → undetermined old.commits ≡ lost
+  pub rollbacks_goes : (knows : Option Trace → Type 0) (e : Error) (b : Bool) (lost : Option Ticket) (old new : Standing P Q K) (from to : Posted) (turn : Turn (Result (TxnAnswer Q) Error)) → (b ≡ false → Notes knows from.line (Some e)) → ((trace : Option Trace) → knows trace → RollsIn trace from.line) → undetermined old.commits ≡ lost
       → (b ≡ false → IsRefused e old new turn × (to ≡ from))
       → ((t : Ticket) → b ≡ true → lost ≡ Some t → IsUndetermined t turn × (new ≡ record old { work = new.work }) × (to ≡ from))
       → (b ≡ true → lost ≡ None → TransactionMoves w (λ h. ⊤) (λ h. h) old new from to turn) → new.start ≡ old.start → new.contents ≡ old.contents
       → Opens w new from to turn → is_open new.work ≡ is_waiting turn → is_open old.work ≡ false → GivesUp old new turn
       → IfKept turn (StandGoes w (λ a. ⊥) ⊤ knows old new from to turn)
-  rollbacks_goes knows e true None old new from to turn notes is_lost refused unsure moves start same opens busy rests gone =
+  rollbacks_goes knows e true None old new from to turn notes rolls is_lost refused unsure moves start same opens busy rests gone =
       commits_goes knows e true old new from to turn (λ f. absurd (cc)) (λ f. absurd (cc)) (λ f. moves refl refl) start same opens busy
-  rollbacks_goes knows e true (Some t) old new from to turn notes is_lost refused unsure moves start same opens busy rests gone = let u = unsure t refl refl in if_kept turn (λ kept. record {
-    arises = λ trace longer at met called known nexts news o low risen up reached x. (left_alone trace longer at t old new from to o turn nexts news met.longer kept rests (busy ∙ ends_shut t turn u.0) gone u.1 u.2 risen reached x, unknown_fails trace longer at t old from nexts turn met.longer (λ e. let d = gone.after e in kept d.0) is_lost u.0 x);
+  rollbacks_goes knows e true (Some t) old new from to turn notes rolls is_lost refused unsure moves start same opens busy rests gone = let u = unsure t refl refl in if_kept turn (λ kept. record {
+    arises = λ trace longer at met called known nexts news o low risen up reached x. (left_alone trace longer at t old new from to o turn nexts news met.longer kept rests (busy ∙ ends_shut t turn u.0) gone u.1 u.2 risen reached x, unknown_fails trace longer at t old from nexts turn met.longer (rolls trace known) (λ e. let d = gone.after e in kept d.0) is_lost u.0 x);
     expects = opened old new from to turn opens;
     runs = λ any f. waiting_open turn new.work busy f;
   })
-  rollbacks_goes knows e false lost old new from to turn notes is_lost refused unsure moves start same opens busy rests gone =
+  rollbacks_goes knows e false lost old new from to turn notes rolls is_lost refused unsure moves start same opens busy rests gone =
       commits_goes knows e false old new from to turn notes refused (λ f. absurd (cc)) start same opens busy

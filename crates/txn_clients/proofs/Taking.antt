@@ -2,13 +2,9 @@
 use Rattle.std.proofs.Common.{◌≡◌, ◌⊎◌, inl, inr, ℕ, Bool, true, false, if◌then◌else◌, List, [], ◌∷◌, Option, Some, None, is_some, refl, sym, ap, ◌∙◌, subst}
 use Rattle.std.specs.Prelude.{Result, Ok, Err, option_map, unwrap_or}
 use Rattle.txn_kv.specs.declared.errors.Error.{Error}
-use Rattle.txn_kv.specs.ErrorView.{ErrorView, view_of, view_step}
+use Rattle.txn_kv.specs.ErrorView.{ErrorView, view_of}
 use Rattle.txn_kv.specs.ErrorView.ErrorView.{undetermined as not_known}
-use Rattle.txn_kv.specs.declared.errors.Error.TheFolds.{fold-roll-Error}
-use Rattle.txn_kv.specs.declared.errors.Error.TheOpen as layer
 use Rattle.txn_kv.specs.declared.errors.Error.TheVariants.{GrpcAPI, OperationAfterCommitError}
-use Rattle.txn_kv.specs.declared.errors.Error.TheVariants as errors
-use Rattle.txn_kv.specs.declared.errors.Internal.TheVariants.{WrongReply}
 use Rattle.txn_kv.specs.declared.message.Mutation.{Mutation}
 use Rattle.txn_kv.specs.declared.message.Op.{Op}
 use Rattle.txn_kv.specs.declared.message.Op.TheVariants as op
@@ -42,7 +38,6 @@ use Rattle.txn_client.specs.declared.client_call.Wanted.TheVariants as wanted
 use Rattle.txn_side.specs.Account.{Account, Status as Stage, after_act, all_put_or_delete, committed_by, has_mutations, is_put_or_delete, is_undetermined, is_undetermined_view, is_write, locked_all, made_by, mutated_all, new_account, or_refused, refusal, refused_unless, rolled_by, unless_refused, written}
 use Rattle.txn_side.specs.Account as side
 use Rattle.txn_report.specs.declared.outcome.Outcome.{Outcome}
-use Rattle.txn_report.specs.declared.outcome.Outcome.TheVariants as outcomes
 use Rattle.txn_side.specs.Sight as sights
 use Rattle.txn_side.specs.declared.act.Act.{Act}
 use Rattle.txn_side.specs.declared.act.Act.TheVariants as acts
@@ -202,24 +197,17 @@ has_parts c = by (mutations c.entries)
     by [] = refl
     by (m ∷ ms) = refl
 
--- an answer of another kind says nothing of a commit's end
-wrong_known : is_undetermined (errors.InternalError WrongReply) ≡ false
-wrong_known = ap is_undetermined_view (ap view_of (sym (errors.rolls-InternalError WrongReply)) ∙ fold-roll-Error ErrorView view_step (layer.InternalError WrongReply))
-
-unlike_rolls : (s : Stage) → rolled_by true s (outcomes.Err (errors.InternalError WrongReply)) ≡ Stage.StartedRollback
-unlike_rolls s = ap (λ (b : Bool). if b then s else Stage.StartedRollback) wrong_known
-
 -- a rollback that is begun leaves the status only where it was begun before
 rolls_so : {Q : Type 0} (s new : Status) (turn : Turn (Result (TxnAnswer Q) Error)) → new ≡ moved_by statuses.StartedRollback turn → (says_undetermined turn ≡ true → new ≡ s) → status_of new ≡ rolled_by true (status_of s) (come_to false turn)
 rolls_so s new Stopped e h = ap status_of e
 rolls_so s new Waits e h = ap status_of e
 rolls_so s new (Ends (Ok answer.Unit)) e h = ap status_of e
-rolls_so s new (Ends (Ok (answer.Committed t job))) e h = ap status_of e ∙ sym (unlike_rolls (status_of s))
-rolls_so s new (Ends (Ok (answer.Value v))) e h = ap status_of e ∙ sym (unlike_rolls (status_of s))
-rolls_so s new (Ends (Ok (answer.Exists b))) e h = ap status_of e ∙ sym (unlike_rolls (status_of s))
-rolls_so s new (Ends (Ok (answer.Pairs ps))) e h = ap status_of e ∙ sym (unlike_rolls (status_of s))
-rolls_so s new (Ends (Ok (answer.Keys ks))) e h = ap status_of e ∙ sym (unlike_rolls (status_of s))
-rolls_so s new (Ends (Ok (answer.Ttl n))) e h = ap status_of e ∙ sym (unlike_rolls (status_of s))
+rolls_so s new (Ends (Ok (answer.Committed t job))) e h = ap status_of e
+rolls_so s new (Ends (Ok (answer.Value v))) e h = ap status_of e
+rolls_so s new (Ends (Ok (answer.Exists b))) e h = ap status_of e
+rolls_so s new (Ends (Ok (answer.Pairs ps))) e h = ap status_of e
+rolls_so s new (Ends (Ok (answer.Keys ks))) e h = ap status_of e
+rolls_so s new (Ends (Ok (answer.Ttl n))) e h = ap status_of e
 rolls_so s new (Ends (Err why)) e h = elim (is_flag (is_undetermined why)) [
   | inl on ↦ ap status_of (h on) ∙ sym (ap (λ (b : Bool). if b then status_of s else Stage.StartedRollback) on)
   | inr off ↦ ap status_of e ∙ sym (ap (λ (b : Bool). if b then status_of s else Stage.StartedRollback) off)

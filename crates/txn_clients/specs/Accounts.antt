@@ -1,10 +1,9 @@
 -- How far the transactions that stand at the lines have come, and what they have taken in.
 use Rattle.std.specs.Prelude.{◌≡◌, ◌≢◌, ⊤, ℕ, Bool, true, false, List, Option, Some, None, Result, Ok, Err, option_map, slice_index_or}
 use Rattle.std.proofs.Common.{zero, suc}
+use Rattle.txn_kv.specs.ErrorView.{view_of}
 use Rattle.txn_kv.specs.Timestamp.{version_of}
 use Rattle.txn_kv.specs.declared.errors.Error.{Error}
-use Rattle.txn_kv.specs.declared.errors.Error.TheVariants.{InternalError}
-use Rattle.txn_kv.specs.declared.errors.Internal.TheVariants.{WrongReply}
 use Rattle.txn_history.specs.Event.{Event}
 use Rattle.txn_history.specs.Turn.{Turn}
 use Rattle.txn_history.specs.Turn.Turn.{Stopped, Waits, Ends}
@@ -26,6 +25,7 @@ use Rattle.txn_report.specs.declared.outcome.Payload.TheVariants as payloads
 use Rattle.txn_side.specs.Account.{Account, Status as Stage, after_act, is_undetermined, is_write, new_account, refusal}
 use Rattle.txn_side.specs.Sight.{commits}
 use Rattle.txn_side.specs.declared.act.Act.{Act}
+use Rattle.txn_clients.specs.Want.{wants_memory}
 use Rattle.txn_clients.specs.declared.answer.Answer.{Answer}
 use Rattle.txn_clients.specs.declared.answer.Answer.TheVariants as answers
 use Rattle.txn_clients.specs.declared.row.Row.{Row}
@@ -63,12 +63,26 @@ pub record IsNew {P Q K : Type 0} (t : Standing P Q K) : Type 0 where
   pub account : account_of t ≡ new_account
   pub quiet : IsQuiet t
 
--- What the call of a line comes to by its answer, where it commits or not. No call has an answer of another kind.
+-- What the call of a line comes to by its answer, where it commits or not. With an answer of another kind it does not end.
 abbrev pub outcome_by : {Q : Type 0} → Bool → Result (TxnAnswer Q) Error → Outcome
 outcome_by commits (Err e) = outcomes.Err e
 outcome_by true (Ok (answer.Committed t job)) = outcomes.Ok (payloads.Commit (option_map version_of t))
 outcome_by false (Ok answer.Unit) = outcomes.Ok payloads.Unit
-outcome_by commits (Ok _) = outcomes.Err (InternalError WrongReply)
+outcome_by commits (Ok _) = outcomes.Unfinished
+
+-- With such an answer no call for a timestamp ends: it is of another kind than the call, which begins a transaction or not, or it
+-- holds want of memory.
+abbrev pub EndsNoAsk : {D P Q K : Type 0} → Bool → Result (ClientAnswer D P Q K) Error → Type 0
+EndsNoAsk begins (Err e) = wants_memory (view_of e) ≡ true
+EndsNoAsk begins (Ok (Begun t)) = begins ≡ false
+EndsNoAsk begins (Ok (Time t)) = begins ≡ true
+
+-- and no call of a transaction, which commits or rolls back
+abbrev pub EndsNoCall : {Q : Type 0} → Bool → Result (TxnAnswer Q) Error → Type 0
+EndsNoCall commits (Err e) = wants_memory (view_of e) ≡ true
+EndsNoCall commits (Ok answer.Unit) = commits ≡ true
+EndsNoCall commits (Ok (answer.Committed t job)) = commits ≡ false
+EndsNoCall commits (Ok _) = ⊤
 
 -- so far
 abbrev pub come_to : {Q : Type 0} → Bool → Turn (Result (TxnAnswer Q) Error) → Outcome

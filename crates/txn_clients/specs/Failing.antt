@@ -1,5 +1,5 @@
 -- How calls fail, by what they had heard, and what a trace shows of that. Where there is no trace nothing is asked of it.
-use Rattle.std.specs.Prelude.{◌≡◌, ◌⊎◌, ⊤, ℕ, Bool, false, List, [], ◌++◌, Option, Some, None, Result, Ok, Err}
+use Rattle.std.specs.Prelude.{◌≡◌, ◌⊎◌, ⊤, ℕ, Bool, true, false, List, [], ◌++◌, Option, Some, None, Result, Ok, Err}
 use Rattle.std.specs.List.{All}
 use Rattle.txn_kv.specs.ErrorView.{view_of}
 use Rattle.txn_kv.specs.ErrorView.ErrorView.{undetermined as not_known}
@@ -26,15 +26,18 @@ use Rattle.txn_commit.specs.Parts.{parts_of}
 use Rattle.txn_commit.specs.Sending.{plan_of}
 use Rattle.txn_commit.specs.Timing.{WasUntimed}
 use Rattle.txn_commit.specs.declared.commit_parts.CommitParts.{CommitParts}
-use Rattle.txn_core.specs.Going.{TransactionGives}
-use Rattle.txn_side.specs.Account.{refusal}
+use Rattle.txn_core.specs.Going.{FailsWith}
+use Rattle.txn_side.specs.Account.{Account, refusal}
+use Rattle.txn_side.specs.declared.act.Act.{Act}
+use Rattle.txn_side.specs.declared.act.Act.TheVariants.{Rollback}
 use Rattle.txn_side.specs.Sight.{Group, Stand, stand_at}
 use Rattle.txn_side.specs.Sight.Stand.{Asking, Calling}
-use Rattle.txn_side.specs.Trace.{AreShown, EndsFor, IsCalled, IsLonger, IsRefusedIn, IsSentIn, Trace, with_posted}
+use Rattle.txn_side.specs.Trace.{AreOwn, AreShown, EndsFor, IsCalled, IsLonger, IsRefusedIn, IsSentIn, Trace, with_posted}
 use Rattle.txn_side.specs.declared.turn.Ending.{Ending}
 use Rattle.txn_side.specs.declared.turn.Posting.{Posting}
 use Rattle.txn_tso.specs.Oracle.{Answer as Answered}
 use Rattle.txn_clients.specs.Accounts.{account_of}
+use Rattle.txn_clients.specs.Want.{wants_memory}
 use Rattle.txn_clients.specs.declared.answer.Answer.{Answer}
 use Rattle.txn_clients.specs.declared.answer.Answer.TheVariants as answers
 use Rattle.txn_clients.specs.declared.row.Row.{Row}
@@ -44,31 +47,36 @@ use Rattle.txn_clients.specs.declared.told.Told.TheVariants as tells
 
 -- How a call fails
 
--- what is known of the Commits of the primary of what a buffer holds
-abbrev pub KnowsAll : Timestamp → Contents → Commits → List Event → Type 0
-KnowsAll start contents commits h = (parts : CommitParts) → parts_of contents ≡ Some parts → KnowsCommits (plan_of parts) (version_of start) commits h
+-- A transaction, what is committed of what its buffer holds, and what is known of the Commits of its primary.
+pub record KnownTransaction (h : List Event) : Type 0 where
+  pub start : Timestamp
+  pub contents : Contents
+  pub parts : CommitParts
+  pub whole : parts_of contents ≡ Some parts
+  pub commits : Commits
+  pub known : KnowsCommits (plan_of parts) (version_of start) commits h
 
--- a commit or a rollback failed with this error
+-- a commit or a rollback of it failed with this error
 pub record CallFailed {P Q K A B D : Type 0} (w : Ways P Q K A B D) (h : List Event) (e : Error) : Type 0 where
-  pub start : Timestamp
-  pub contents : Contents
-  pub commits : Commits
-  pub gives : TransactionGives w start contents commits h (Err e)
-  pub known : KnowsAll start contents commits h
+  pub transaction : KnownTransaction h
+  pub fails : FailsWith w (version_of transaction.start) transaction.parts (undetermined transaction.commits) h e
 
--- a rollback was refused, since it is not known what became of this Commit of the primary
+-- a rollback of it was refused, since it is not known what became of this Commit of its primary
 pub record CallRefused (h : List Event) (e : Error) : Type 0 where
-  pub start : Timestamp
-  pub contents : Contents
-  pub commits : Commits
+  pub transaction : KnownTransaction h
   pub ticket : Ticket
-  pub left : undetermined commits ≡ Some ticket
+  pub left : undetermined transaction.commits ≡ Some ticket
   pub error : view_of e ≡ not_known (view_of (GrpcAPI ticket))
-  pub known : KnowsAll start contents commits h
 
--- or there was no timestamp
-abbrev pub FailsFor : {P Q K A B D : Type 0} → Ways P Q K A B D → List Event → Error → Type 0
-FailsFor w h e = WasUntimed h e ⊎ (CallFailed w h e ⊎ CallRefused h e)
+-- how a call may fail, or a rollback alone; any call also where there was no timestamp
+abbrev pub HasFailedFor : {P Q K A B D : Type 0} → Ways P Q K A B D → Bool → List Event → Error → Type 0
+HasFailedFor w false h e = WasUntimed h e ⊎ CallFailed w h e
+HasFailedFor w true h e = CallRefused h e
+
+-- With what a line fails: an error that holds want of memory is told to no line.
+pub record FailsFor {P Q K A B D : Type 0} (w : Ways P Q K A B D) (rolls : Bool) (h : List Event) (e : Error) : Type 0 where
+  pub why : HasFailedFor w rolls h e
+  pub fed : wants_memory (view_of e) ≡ false
 
 abbrev pub IfFails : {X : Type 0} → (Error → Type 0) → Result X Error → Type 0
 IfFails P (Ok x) = ⊤
@@ -121,10 +129,23 @@ abbrev pub RefusedIn : Option Trace → ℕ → Option Error → Type 0
 RefusedIn None line why = ⊤
 RefusedIn (Some t) line why = (e : Error) → why ≡ Some e → IsAmong t.refused (record { line = line; error = e })
 
+-- the line rolls back
+abbrev pub RollsIn : Option Trace → ℕ → Type 0
+RollsIn None line = ⊤
+RollsIn (Some t) line = IsAmong t.rollbacks line
+
+abbrev pub RollsBackIn : Option Trace → ℕ → Act → Type 0
+RollsBackIn trace line Rollback = RollsIn trace line
+RollsBackIn trace line act = ⊤
+
+-- what is known of what a line asks of a transaction with this account: with what it is refused, and whether it rolls back
+abbrev pub KnowsAsk : Option Trace → ℕ → Act → Account → Type 0
+KnowsAsk trace line act account = RefusedIn trace line (refusal act account) × RollsBackIn trace line act
+
 -- a row may be told this for the line of an outbox
 abbrev pub MayKnow : {P Q K : Type 0} → Option Trace → Posted → Told → Row P Q K → Type 0
 MayKnow trace o tells.Start r = ⊤
-MayKnow trace o (tells.Act act) (row.Begun c t m) = RefusedIn trace o.line (refusal act (account_of t))
+MayKnow trace o (tells.Act act) (row.Begun c t m) = KnowsAsk trace o.line act (account_of t)
 MayKnow trace o (tells.Act act) r = ⊤
 MayKnow trace o (tells.Heard a) r = CameIn trace o a
 
@@ -141,10 +162,10 @@ pub record HasMet (trace later : Option Trace) (from to : Posted) : Type 0 where
 
 -- What an error rests on
 
--- a history that is shown as that of what stands at this line, or it was a refusal
+-- a history that is shown as that of what stands there, and is the line's own; or it was a refusal
 abbrev pub FailsAt : {P Q K A B D : Type 0} → Ways P Q K A B D → Option Trace → ℕ → ℕ → Error → Type 0
 FailsAt w None at line e = ⊤
-FailsAt w (Some t) at line e = ((h : List Event) × AreShown t at h × FailsFor w h e) ⊎ IsAmong t.refused (record { line = line; error = e })
+FailsAt w (Some t) at line e = ((h : List Event) × AreShown t at h × AreOwn line h × (HasFailedFor w false h e ⊎ (IsAmong t.rollbacks line × HasFailedFor w true h e))) ⊎ IsAmong t.refused (record { line = line; error = e })
 
 abbrev pub AnswerRests : {P Q K A B D : Type 0} → Ways P Q K A B D → Option Trace → ℕ → ℕ → Answer P Q K → Type 0
 AnswerRests w trace at line (answers.Asked v) = IfFails (FailsAt w trace at line) v

@@ -9,3 +9,4 @@ pub mod Waiting
 pub mod Due
 pub mod Failing
 pub mod Resting
+pub mod Want

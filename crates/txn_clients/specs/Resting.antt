@@ -47,10 +47,10 @@ module _ {P Q K A B D : Type 0} (w : Ways P Q K A B D) where
   pub row_longer : (trace longer : Option Trace) (at : ℕ) (o : Posted) (nexts : List ℕ) (r : Row P Q K) → LongerIn trace longer → RowArises w trace at o nexts r → RowArises w longer at o nexts r
   row_longer trace longer at o nexts row.Plain l x = tt
   row_longer trace longer at o nexts (row.Client c) l x = tt
-  row_longer trace longer at o nexts (row.Asking c b call) l x = record { history = x.history; fits = x.fits; kept = x.kept; shown = shown_longer trace longer at x.history l x.shown }
+  row_longer trace longer at o nexts (row.Asking c b call) l x = record { history = x.history; fits = x.fits; kept = x.kept; shown = shown_longer trace longer at x.history l x.shown; own = x.own }
   row_longer trace longer at o nexts (row.Begun c t m) l x =
       let a = x.arisen in
-      record { ordered = x.ordered; arisen = record { history = a.history; fits = a.fits; kept = a.kept; shown = shown_longer trace longer at a.history l a.shown } }
+      record { ordered = x.ordered; arisen = record { history = a.history; fits = a.fits; kept = a.kept; shown = shown_longer trace longer at a.history l a.shown; own = a.own } }
   row_longer trace longer at o nexts (row.Calling c y b) l x = tt
   row_longer trace longer at o nexts (row.Past c) l x = tt
   row_longer trace longer at o nexts (row.Working c job) l x = tt
@@ -85,10 +85,10 @@ module _ {P Q K A B D : Type 0} (w : Ways P Q K A B D) where
       row_any : (at : ℕ) (o : Posted) (nexts : List ℕ) (r : Row P Q K) → RowArises w (Some t) at o nexts r → RowArises w (Some longer) at o nexts r
       row_any at o nexts row.Plain x = tt
       row_any at o nexts (row.Client c) x = tt
-      row_any at o nexts (row.Asking c b call) x = record { history = x.history; fits = x.fits; kept = x.kept; shown = λ e i. event_longer t longer l at e (x.shown e i) }
+      row_any at o nexts (row.Asking c b call) x = record { history = x.history; fits = x.fits; kept = x.kept; shown = λ e i. event_longer t longer l at e (x.shown e i); own = x.own }
       row_any at o nexts (row.Begun c b m) x =
           let a = x.arisen in
-          record { ordered = x.ordered; arisen = record { history = a.history; fits = a.fits; kept = a.kept; shown = λ e i. event_longer t longer l at e (a.shown e i) } }
+          record { ordered = x.ordered; arisen = record { history = a.history; fits = a.fits; kept = a.kept; shown = λ e i. event_longer t longer l at e (a.shown e i); own = a.own } }
       row_any at o nexts (row.Calling c y b) x = tt
       row_any at o nexts (row.Past c) x = tt
       row_any at o nexts (row.Working c job) x = tt

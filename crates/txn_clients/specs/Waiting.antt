@@ -34,7 +34,7 @@ use Rattle.txn_side.specs.Waiting.{IsPosted}
 use Rattle.txn_side.specs.Waiting as side
 use Rattle.txn_side.specs.Waiting.Awaited.{EndOf as SideEnd, ReplyTo as SideReply}
 use Rattle.txn_side.specs.declared.turn.Posting.{Posting}
-use Rattle.txn_side.specs.Trace.{IsSend, Trace}
+use Rattle.txn_side.specs.Trace.{AreOwn, IsSend, Trace}
 use Rattle.txn_side.specs.declared.turn.Ending.{Ending}
 use Rattle.txn_kv.specs.declared.errors.Error.{Error}
 use Rattle.txn_kv.specs.declared.outbox.Errand.TheVariants.{Send}
@@ -108,22 +108,24 @@ pub record IsKept (nexts : List ℕ) (h : List Event) : Type 0 where
   pub alone : (t : Ticket) (r q : Request) → Has h (Sent t r) → Has h (Sent t q) → q ≡ r
   pub below : (t : Ticket) (r : Request) → Has h (Sent t r) → t.number < next_at nexts t.line
 
--- it can have arisen from a history of its own, which a trace shows as that of what stands at this line
-pub record HasArisen (Fits : List Event → Type 0) (trace : Option Trace) (at : ℕ) (nexts : List ℕ) : Type 0 where
+-- It can have arisen from a history of its own, which a trace shows as that of what stands at this line. What explains an error in it
+-- has come for the line in whose name it posts.
+pub record HasArisen (Fits : List Event → Type 0) (trace : Option Trace) (at line : ℕ) (nexts : List ℕ) : Type 0 where
   pub history : List Event
   pub fits : Fits history
   pub kept : IsKept nexts history
   pub shown : ShownIn trace at history
+  pub own : AreOwn line history
 
 -- a transaction whose buffer is in order
 pub record StandArises {P Q K A B D : Type 0} (w : Ways P Q K A B D) (trace : Option Trace) (at : ℕ) (o : Posted) (nexts : List ℕ) (t : Standing P Q K) : Type 0 where
   pub ordered : IsOrdered t.contents
-  pub arisen : HasArisen (λ h. TransactionFits w t o h) trace at nexts
+  pub arisen : HasArisen (λ h. TransactionFits w t o h) trace at o.line nexts
 
 abbrev pub RowArises : {P Q K A B D : Type 0} → Ways P Q K A B D → Option Trace → ℕ → Posted → List ℕ → Row P Q K → Type 0
 RowArises w trace at o nexts row.Plain = ⊤
 RowArises w trace at o nexts (row.Client c) = ⊤
-RowArises w trace at o nexts (row.Asking c b call) = HasArisen (λ h. IsAt call.stage o h) trace at nexts
+RowArises w trace at o nexts (row.Asking c b call) = HasArisen (λ h. IsAt call.stage o h) trace at o.line nexts
 RowArises w trace at o nexts (row.Begun c t m) = StandArises w trace at o nexts t
 RowArises w trace at o nexts (row.Calling c x b) = ⊤
 RowArises w trace at o nexts (row.Past c) = ⊤

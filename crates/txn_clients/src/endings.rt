@@ -1,8 +1,9 @@
 //! What a line comes to, as its call ends.
-ghost use Rattle.std.specs.Prelude.{◌≡◌, ℕ, IfOk, IfSome, None, List, Ok, Err, Option, false, option_map};
-ghost use Rattle.txn_clients.specs.Accounts.{BeginsNew, IsNew, account_in, outcome_by};
+ghost use Rattle.std.specs.Prelude.{◌≡◌, ℕ, IfOk, IfSome, None, List, OnErr, OnOk, Ok, Err, Option, false, option_map, true};
+ghost use Rattle.txn_clients.specs.Accounts.{BeginsNew, EndsNoAsk, EndsNoCall, IsNew, account_in, outcome_by};
 ghost use Rattle.txn_clients.specs.Rows.{AskFits, IsStamped, RowReady, stand_of};
 ghost use Rattle.txn_clients.specs.Waiting.{IsNewAnswer, RowArises};
+ghost use Rattle.txn_clients.specs.Want.{wants_memory};
 ghost use Rattle.txn_clients.specs.declared.answer.Answer.TheVariants.{Asked};
 ghost use Rattle.txn_commit.specs.Committing.{ways};
 ghost use Rattle.txn_commit.specs.Jobs.{JobReady};
@@ -11,6 +12,7 @@ ghost use Rattle.txn_core.specs.Transaction.{is_open};
 ghost use Rattle.txn_client.specs.declared.client_answer.ClientAnswer.TheVariants.{Begun};
 ghost use Rattle.txn_core.specs.Waiting.{HandsOut};
 ghost use Rattle.txn_history.specs.Posted.{Posted};
+ghost use Rattle.txn_kv.specs.ErrorView.{view_of};
 ghost use Rattle.txn_kv.specs.Timestamp.{HasVersion, version_of};
 ghost use Rattle.txn_side.specs.Account.{new_account};
 ghost use Rattle.txn_side.specs.Sight.{AskEnds, CallEnds, number_of};
@@ -22,6 +24,7 @@ ghost use Rattle.txn_core.specs.declared.txn_answer.TxnAnswer.TheVariants as ans
 
 use crate::answer::Pd;
 use crate::row::Row;
+use crate::want::wants_memory;
 use txn_client::ClientAnswer;
 use txn_commit::{PlanFor, SecondaryJob};
 use txn_core::{Transaction, TxnAnswer};
@@ -43,14 +46,19 @@ where
     Q: PlanFor<CommitRequest>,
     K: PlanFor<BatchRollbackRequest>,
 {
-    /// The call failed.
-    fn failed(client: usize, error: Error) -> Ended<P, Q, K>
-        ensures { result ≡ record { row = Past client; outcome = Failed error } }
+    /// The call failed. Want of memory is told as such, and is the outcome of no line.
+    fn failed(client: usize, error: Error) -> Result<Ended<P, Q, K>, NoMemory>
+        ensures ended { IfOk result (λ ended. ended ≡ record { row = Past client; outcome = Failed error }) }
+        ensures fed { OnOk result (wants_memory (view_of error) ≡ false) }
+        ensures starved { OnErr result (wants_memory (view_of error) ≡ true) }
     {
-        Ended {
+        if wants_memory(&error) {
+            return Err(NoMemory);
+        }
+        Ok(Ended {
             row: Row::Past { client },
             outcome: Outcome::Err(error),
-        }
+        })
     }
 
     /// A call for a timestamp has ended.
@@ -66,10 +74,12 @@ where
         ensures arises { IfOk result (λ ended. IsNewAnswer (Asked answer) → (trace : Option Trace) (at : ℕ) (o : Posted) (nexts : List ℕ) → RowArises (ways P.meaning Q.meaning K.meaning P.refuses Q.refuses K.refuses) trace at o nexts ended.row) }
         ensures ready { IfOk result (λ ended. RowReady (ways P.meaning Q.meaning K.meaning P.refuses Q.refuses K.refuses) ended.row) }
         ensures account { IfOk result (λ ended. account_in ended.row ≡ new_account) }
+        ensures unlike { OnErr result (EndsNoAsk begins answer) }
         ensures failed { IfOk result (λ ended. (e : Failure) → ended.outcome ≡ Failed e → answer ≡ Err e) }
+        ensures fed { IfOk result (λ ended. (e : Failure) → ended.outcome ≡ Failed e → wants_memory (view_of e) ≡ false) }
     {
         match answer {
-            Err(error) => Ok(Ended::failed(client, error)),
+            Err(error) => Ended::failed(client, error),
             Ok(ClientAnswer::Begun(transaction)) => Ended::begun(client, begins, transaction),
             Ok(ClientAnswer::Time(timestamp)) => Ended::timed(client, begins, timestamp),
         }
@@ -88,6 +98,7 @@ where
         ensures arises { IfOk result (λ ended. IsNewAnswer {P = P} {Q = Q} {K = K} (Asked (Ok (Begun transaction))) → (trace : Option Trace) (at : ℕ) (o : Posted) (nexts : List ℕ) → RowArises (ways P.meaning Q.meaning K.meaning P.refuses Q.refuses K.refuses) trace at o nexts ended.row) }
         ensures ready { IfOk result (λ ended. RowReady (ways P.meaning Q.meaning K.meaning P.refuses Q.refuses K.refuses) ended.row) }
         ensures account { IfOk result (λ ended. account_in ended.row ≡ new_account) }
+        ensures unlike { OnErr result (begins ≡ false) }
         ensures well { IfOk result (λ ended. (e : Failure) → ended.outcome ≡ Failed e → ⊥) }
     {
         if !begins {
@@ -111,6 +122,7 @@ where
         ensures arises { IfOk result (λ ended. (trace : Option Trace) (at : ℕ) (o : Posted) (nexts : List ℕ) → RowArises (ways P.meaning Q.meaning K.meaning P.refuses Q.refuses K.refuses) trace at o nexts ended.row) }
         ensures ready { IfOk result (λ ended. RowReady (ways P.meaning Q.meaning K.meaning P.refuses Q.refuses K.refuses) ended.row) }
         ensures account { IfOk result (λ ended. account_in ended.row ≡ new_account) }
+        ensures unlike { OnErr result (begins ≡ true) }
         ensures well { IfOk result (λ ended. (e : Failure) → ended.outcome ≡ Failed e → ⊥) }
     {
         if begins {
@@ -134,10 +146,12 @@ where
         ensures ready { IfOk result (λ ended. RowReady (ways P.meaning Q.meaning K.meaning P.refuses Q.refuses K.refuses) ended.row) }
         ensures account { IfOk result (λ ended. account_in ended.row ≡ new_account) }
         ensures outcome { IfOk result (λ ended. ended.outcome ≡ outcome_by commits answer) }
+        ensures unlike { OnErr result (EndsNoCall commits answer) }
         ensures failed { IfOk result (λ ended. (e : Failure) → ended.outcome ≡ Failed e → answer ≡ Err e) }
+        ensures fed { IfOk result (λ ended. (e : Failure) → ended.outcome ≡ Failed e → wants_memory (view_of e) ≡ false) }
     {
         match answer {
-            Err(error) => Ok(Ended::failed(client, error)),
+            Err(error) => Ended::failed(client, error),
             Ok(TxnAnswer::Unit) => Ended::done(client, commits),
             Ok(TxnAnswer::Committed(timestamp, job)) => {
                 Ended::committed(client, commits, timestamp, job)
@@ -152,6 +166,7 @@ where
         ensures number { IfOk result (λ ended. number_of ended.outcome ≡ None) }
         ensures ready { IfOk result (λ ended. RowReady (ways P.meaning Q.meaning K.meaning P.refuses Q.refuses K.refuses) ended.row) }
         ensures account { IfOk result (λ ended. account_in ended.row ≡ new_account) }
+        ensures unlike { OnErr result (commits ≡ true) }
         ensures well { IfOk result (λ ended. (e : Failure) → ended.outcome ≡ Failed e → ⊥) }
         ensures outcome { IfOk result (λ ended. ended.outcome ≡ outcome_by {Q = Q} commits (Ok answers.Unit)) }
     {
@@ -176,6 +191,7 @@ where
         ensures number { IfOk result (λ ended. number_of ended.outcome ≡ None) }
         ensures ready { IfOk result (λ ended. RowReady (ways P.meaning Q.meaning K.meaning P.refuses Q.refuses K.refuses) ended.row) }
         ensures account { IfOk result (λ ended. account_in ended.row ≡ new_account) }
+        ensures unlike { OnErr result (commits ≡ false) }
         ensures well { IfOk result (λ ended. (e : Failure) → ended.outcome ≡ Failed e → ⊥) }
         ensures outcome { IfOk result (λ ended. ended.outcome ≡ outcome_by commits (Ok (answers.Committed timestamp job))) }
     {

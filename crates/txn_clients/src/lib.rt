@@ -10,5 +10,6 @@ mod row;
 pub mod send;
 mod told;
 mod transactions;
+mod want;
 
 pub use clients::Clients;

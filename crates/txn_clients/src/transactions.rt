@@ -1,8 +1,7 @@
 //! What a transaction is told.
 ghost use Rattle.std.specs.Prelude.{◌≡◌, ◌<◌, ◌^◌, IsTrue, Ok, false, ⊤, true};
 ghost use Rattle.txn_clients.specs.Accounts.{HasHeard, HasTaken, IsQuiet, account_of, says_undetermined};
-ghost use Rattle.txn_clients.specs.Failing.{CameIn, RefusedIn};
-ghost use Rattle.txn_side.specs.Account.{refusal};
+ghost use Rattle.txn_clients.specs.Failing.{CameIn, KnowsAsk};
 ghost use Rattle.txn_clients.specs.Rows.{IsTold};
 ghost use Rattle.txn_clients.specs.Waiting.{StandGoes};
 ghost use Rattle.txn_commit.specs.Committing.{ways};
@@ -54,7 +53,7 @@ where
     requires quiet { IsQuiet transaction.old }
     ensures told { IfKept (turn_of result) (IsTold (ways P.meaning Q.meaning K.meaning P.refuses Q.refuses K.refuses) transaction.new out.old out.new (turn_of result)) }
     ensures taken { IfKept (turn_of result) (HasTaken Rollback transaction.old transaction.new (turn_of result)) }
-    ensures goes { IfKept (turn_of result) (StandGoes (ways P.meaning Q.meaning K.meaning P.refuses Q.refuses K.refuses) (λ a. ⊥) ⊤ (λ trace. RefusedIn trace out.old.line (refusal Rollback (account_of transaction.old))) transaction.old transaction.new out.old out.new (turn_of result)) }
+    ensures goes { IfKept (turn_of result) (StandGoes (ways P.meaning Q.meaning K.meaning P.refuses Q.refuses K.refuses) (λ a. ⊥) ⊤ (λ trace. KnowsAsk trace out.old.line Rollback (account_of transaction.old)) transaction.old transaction.new out.old out.new (turn_of result)) }
 {
     let before = transaction.status();
     let progress = transaction.rollback(pd, now, out)?;
@@ -84,7 +83,7 @@ where
     requires quiet { IsQuiet transaction.old }
     ensures told { IfKept (turn_of result) (IsTold (ways P.meaning Q.meaning K.meaning P.refuses Q.refuses K.refuses) transaction.new out.old out.new (turn_of result)) }
     ensures taken { IfKept (turn_of result) (HasTaken act transaction.old transaction.new (turn_of result)) }
-    ensures goes { IfKept (turn_of result) (StandGoes (ways P.meaning Q.meaning K.meaning P.refuses Q.refuses K.refuses) (λ a. ⊥) ⊤ (λ trace. RefusedIn trace out.old.line (refusal act (account_of transaction.old))) transaction.old transaction.new out.old out.new (turn_of result)) }
+    ensures goes { IfKept (turn_of result) (StandGoes (ways P.meaning Q.meaning K.meaning P.refuses Q.refuses K.refuses) (λ a. ⊥) ⊤ (λ trace. KnowsAsk trace out.old.line act (account_of transaction.old)) transaction.old transaction.new out.old out.new (turn_of result)) }
 {
     match act {
         Act::Put(key, value) => transaction.put(pd, key, value, now, out),

@@ -6,7 +6,7 @@ ghost use Rattle.txn_clients.specs.Accounts.{WantsNew, account_at};
 ghost use Rattle.txn_clients.specs.Closing.{GoesTold};
 ghost use Rattle.txn_client.specs.declared.client_call.Stage.TheVariants.{Fresh};
 ghost use Rattle.txn_clients.specs.Clients.{AreReady, HasOut, Listens, crashed_of, groups_of, row_at, rows_of, sight_of};
-ghost use Rattle.txn_clients.specs.Failing.{CalledIn, CameIn, GroupCameIn, MayKnow, RefusedIn, outbox_of, posting_in};
+ghost use Rattle.txn_clients.specs.Failing.{CalledIn, CameIn, GroupCameIn, KnowsAsk, MayKnow, outbox_of, posting_in};
 ghost use Rattle.txn_clients.specs.Going.{OfLine};
 ghost use Rattle.txn_history.specs.Event.Event.{Lost as Gone, Took};
 ghost use Rattle.txn_side.specs.Trace.{Trace};
@@ -18,7 +18,7 @@ ghost use Rattle.txn_history.specs.Meaning.{IsUnbegun};
 ghost use Rattle.txn_kv.specs.declared.ticket.Ticket.{Ticket as Name};
 ghost use Rattle.txn_plan.specs.Arrivals.{MayArrive};
 ghost use Rattle.txn_core.specs.declared.options.TransactionKind.TheVariants.{Optimistic};
-ghost use Rattle.txn_side.specs.Account.{AreClosed, AreKept, TakesIn, refusal};
+ghost use Rattle.txn_side.specs.Account.{AreClosed, AreKept, TakesIn};
 ghost use Rattle.txn_side.specs.Sight.{EndsAlone, Goes, IsGiven, Names, NoneGiven, commits, is_free, line_count, stand_at, with_stand, client_at, is_live};
 ghost use Rattle.txn_side.specs.Sight.Stand.{Asking, Calling, HasBegun, Idle};
 
@@ -169,7 +169,7 @@ where
         ensures turn { IfOk result (λ turn. Goes turn.posted.items turn.ended.items (with_stand (line_count (sight_of self.old)) (Calling client transaction (commits act)) (with_stand transaction (HasBegun client (line_count (sight_of self.old))) (sight_of self.old))) (sight_of self.new)) }
         ensures alone { IfOk result (λ turn. EndsAlone (line_count (sight_of self.old)) turn.ended.items) }
         ensures names { IfOk result (λ turn. All (Names NoneGiven) turn.ended.items) }
-        ensures steps { IfOk result (λ turn. (trace : Option Trace) → IsReady (ways P.meaning Q.meaning K.meaning P.refuses Q.refuses K.refuses) self.old → CalledIn trace (line_count (sight_of self.old)) transaction → RefusedIn trace (line_count (sight_of self.old)) (refusal act (account_at (rows_of self.old) transaction)) → IsSound (ways P.meaning Q.meaning K.meaning P.refuses Q.refuses K.refuses) (posting_in [] trace) [] self.old → Steps (ways P.meaning Q.meaning K.meaning P.refuses Q.refuses K.refuses) trace (λ n a. ⊥) turn.posted.items turn.ended.items self.old self.new) }
+        ensures steps { IfOk result (λ turn. (trace : Option Trace) → IsReady (ways P.meaning Q.meaning K.meaning P.refuses Q.refuses K.refuses) self.old → CalledIn trace (line_count (sight_of self.old)) transaction → KnowsAsk trace (line_count (sight_of self.old)) act (account_at (rows_of self.old) transaction) → IsSound (ways P.meaning Q.meaning K.meaning P.refuses Q.refuses K.refuses) (posting_in [] trace) [] self.old → Steps (ways P.meaning Q.meaning K.meaning P.refuses Q.refuses K.refuses) trace (λ n a. ⊥) turn.posted.items turn.ended.items self.old self.new) }
         ensures ready { OnOk result (AreReady (ways P.meaning Q.meaning K.meaning P.refuses Q.refuses K.refuses) (rows_of self.new)) }
         ensures takes { IfOk result (λ turn. TakesIn act transaction (line_count (sight_of self.old)) (account_at (rows_of self.old)) (account_at (rows_of self.new)) turn.ended.items) }
     {

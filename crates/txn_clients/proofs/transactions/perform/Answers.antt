@@ -8,7 +8,7 @@ use Rattle.txn_core.specs.Transaction.{insert_refusal, mutate_refusal, write_ref
 use Rattle.txn_side.specs.Account.{locked_all, mutated_all}
 use Rattle.txn_side.specs.declared.act.Act.TheVariants as acts
 use Rattle.txn_clients.specs.Accounts.{account_of}
-use Rattle.txn_clients.specs.Failing.{RefusedIn}
+use Rattle.txn_clients.specs.Failing.{KnowsAsk}
 use Rattle.txn_side.specs.Account.{refusal}
 use Rattle.txn_clients.proofs.Showing.{notes_so}
 use Rattle.txn_clients.proofs.Taking.{all_locked, all_mutated, as_act, commit_barred, insert_refused, mutate_refused, taken_commit, taken_write, write_refused}
@@ -60,28 +60,28 @@ returns-in-Commit-clause-taken g c = as_act c.args.transaction.now c.commit.new.
     (taken_commit c.args.transaction.now c.commit.new.self (turn_of c.commit.result) c.requires.idle c.requires.quiet c.commit.ensures.refused c.commit.ensures.status c.commit.ensures.kept c.commit.ensures.gives_up)
 
 pub returns-in-Put-clause-goes : goal.returns-in-Put-clause-goes
-returns-in-Put-clause-goes g c = writes_goes _ g.met.P.Plan.lawful g.met.Q.Plan.lawful g.met.K.Plan.lawful (λ trace. RefusedIn trace c.args.out.now.line (refusal c.args.act (account_of c.args.transaction.now))) _ _ c.args.transaction.now c.put.new.self c.args.out.now c.put.new._out _ (notes_so c.args.out.now.line _ _ (ap (λ a. refusal a (account_of c.args.transaction.now)) c.in-Put.is ∙ sym (write_refused c.args.transaction.now.status OperationAfterCommitError))) (λ e. may_write_so (allows_data c.args.transaction.now.status) OperationAfterCommitError e) (λ d f. written_step c.in-Put.key (λ d. after_put (write_at d c.in-Put.key) c.in-Put.value) (put_call c.in-Put.key c.in-Put.value) d f)
+returns-in-Put-clause-goes g c = writes_goes _ g.met.P.Plan.lawful g.met.Q.Plan.lawful g.met.K.Plan.lawful (λ trace. KnowsAsk trace c.args.out.now.line c.args.act (account_of c.args.transaction.now)) _ _ c.args.transaction.now c.put.new.self c.args.out.now c.put.new._out _ (notes_so c.args.out.now.line _ _ _ (ap (λ a. refusal a (account_of c.args.transaction.now)) c.in-Put.is ∙ sym (write_refused c.args.transaction.now.status OperationAfterCommitError))) (λ e. may_write_so (allows_data c.args.transaction.now.status) OperationAfterCommitError e) (λ d f. written_step c.in-Put.key (λ d. after_put (write_at d c.in-Put.key) c.in-Put.value) (put_call c.in-Put.key c.in-Put.value) d f)
     c.put.ensures.ends c.requires.idle c.put.ensures.gives_up c.put.ensures.quiet.0
 
 pub returns-in-Insert-clause-goes : goal.returns-in-Insert-clause-goes
-returns-in-Insert-clause-goes g c = writes_goes _ g.met.P.Plan.lawful g.met.Q.Plan.lawful g.met.K.Plan.lawful (λ trace. RefusedIn trace c.args.out.now.line (refusal c.args.act (account_of c.args.transaction.now))) _ _ c.args.transaction.now c.insert.new.self c.args.out.now c.insert.new._out _ (notes_so c.args.out.now.line _ _ (ap (λ a. refusal a (account_of c.args.transaction.now)) c.in-Insert.is ∙ sym (insert_refused c.args.transaction.now.status (is_none (known_value (known_at c.args.transaction.now.contents c.in-Insert.key))) OperationAfterCommitError DuplicateKeyInsertion))) (λ e. may_write (allows_data c.args.transaction.now.status) OperationAfterCommitError _ e) (λ d f. written_step c.in-Insert.key (λ d. after_insert (write_at d c.in-Insert.key) c.in-Insert.value) (insert_call c.in-Insert.key c.in-Insert.value) d f)
+returns-in-Insert-clause-goes g c = writes_goes _ g.met.P.Plan.lawful g.met.Q.Plan.lawful g.met.K.Plan.lawful (λ trace. KnowsAsk trace c.args.out.now.line c.args.act (account_of c.args.transaction.now)) _ _ c.args.transaction.now c.insert.new.self c.args.out.now c.insert.new._out _ (notes_so c.args.out.now.line _ _ _ (ap (λ a. refusal a (account_of c.args.transaction.now)) c.in-Insert.is ∙ sym (insert_refused c.args.transaction.now.status (is_none (known_value (known_at c.args.transaction.now.contents c.in-Insert.key))) OperationAfterCommitError DuplicateKeyInsertion))) (λ e. may_write (allows_data c.args.transaction.now.status) OperationAfterCommitError _ e) (λ d f. written_step c.in-Insert.key (λ d. after_insert (write_at d c.in-Insert.key) c.in-Insert.value) (insert_call c.in-Insert.key c.in-Insert.value) d f)
     c.insert.ensures.ends c.requires.idle c.insert.ensures.gives_up c.insert.ensures.quiet.0
 
 pub returns-in-Delete-clause-goes : goal.returns-in-Delete-clause-goes
-returns-in-Delete-clause-goes g c = writes_goes _ g.met.P.Plan.lawful g.met.Q.Plan.lawful g.met.K.Plan.lawful (λ trace. RefusedIn trace c.args.out.now.line (refusal c.args.act (account_of c.args.transaction.now))) _ _ c.args.transaction.now c.delete.new.self c.args.out.now c.delete.new._out _ (notes_so c.args.out.now.line _ _ (ap (λ a. refusal a (account_of c.args.transaction.now)) c.in-Delete.is ∙ sym (write_refused c.args.transaction.now.status OperationAfterCommitError))) (λ e. may_write_so (allows_data c.args.transaction.now.status) OperationAfterCommitError e) (λ d f. written_step c.in-Delete.key (λ d. after_delete d.is_pessimistic (write_at d c.in-Delete.key)) (delete_call c.in-Delete.key) d f)
+returns-in-Delete-clause-goes g c = writes_goes _ g.met.P.Plan.lawful g.met.Q.Plan.lawful g.met.K.Plan.lawful (λ trace. KnowsAsk trace c.args.out.now.line c.args.act (account_of c.args.transaction.now)) _ _ c.args.transaction.now c.delete.new.self c.args.out.now c.delete.new._out _ (notes_so c.args.out.now.line _ _ _ (ap (λ a. refusal a (account_of c.args.transaction.now)) c.in-Delete.is ∙ sym (write_refused c.args.transaction.now.status OperationAfterCommitError))) (λ e. may_write_so (allows_data c.args.transaction.now.status) OperationAfterCommitError e) (λ d f. written_step c.in-Delete.key (λ d. after_delete d.is_pessimistic (write_at d c.in-Delete.key)) (delete_call c.in-Delete.key) d f)
     c.delete.ensures.ends c.requires.idle c.delete.ensures.gives_up c.delete.ensures.quiet.0
 
 pub returns-in-Mutate-clause-goes : goal.returns-in-Mutate-clause-goes
-returns-in-Mutate-clause-goes g c = writes_goes _ g.met.P.Plan.lawful g.met.Q.Plan.lawful g.met.K.Plan.lawful (λ trace. RefusedIn trace c.args.out.now.line (refusal c.args.act (account_of c.args.transaction.now))) _ _ c.args.transaction.now c.batch_mutate.new.self c.args.out.now c.batch_mutate.new._out _ (notes_so c.args.out.now.line _ _ (ap (λ a. refusal a (account_of c.args.transaction.now)) c.in-Mutate.is ∙ sym (ap (mutate_refusal c.args.transaction.now.status) c.into_vec.ensures ∙ mutate_refused c.args.transaction.now.status c.in-Mutate.mutations OperationAfterCommitError Unimplemented))) (λ e. may_write (allows_data c.args.transaction.now.status) OperationAfterCommitError _ e) (λ d f. mutated_steps _ d f)
+returns-in-Mutate-clause-goes g c = writes_goes _ g.met.P.Plan.lawful g.met.Q.Plan.lawful g.met.K.Plan.lawful (λ trace. KnowsAsk trace c.args.out.now.line c.args.act (account_of c.args.transaction.now)) _ _ c.args.transaction.now c.batch_mutate.new.self c.args.out.now c.batch_mutate.new._out _ (notes_so c.args.out.now.line _ _ _ (ap (λ a. refusal a (account_of c.args.transaction.now)) c.in-Mutate.is ∙ sym (ap (mutate_refusal c.args.transaction.now.status) c.into_vec.ensures ∙ mutate_refused c.args.transaction.now.status c.in-Mutate.mutations OperationAfterCommitError Unimplemented))) (λ e. may_write (allows_data c.args.transaction.now.status) OperationAfterCommitError _ e) (λ d f. mutated_steps _ d f)
     c.batch_mutate.ensures.ends c.requires.idle c.batch_mutate.ensures.gives_up c.batch_mutate.ensures.quiet.0
 
 pub returns-in-Lock-clause-goes : goal.returns-in-Lock-clause-goes
-returns-in-Lock-clause-goes g c = writes_goes _ g.met.P.Plan.lawful g.met.Q.Plan.lawful g.met.K.Plan.lawful (λ trace. RefusedIn trace c.args.out.now.line (refusal c.args.act (account_of c.args.transaction.now))) _ _ c.args.transaction.now c.lock_keys.new.self c.args.out.now c.lock_keys.new._out _ (notes_so c.args.out.now.line _ _ (ap (λ a. refusal a (account_of c.args.transaction.now)) c.in-Lock.is ∙ sym (write_refused c.args.transaction.now.status OperationAfterCommitError))) (λ e. may_write_so (allows_data c.args.transaction.now.status) OperationAfterCommitError e) (λ d f. locked_steps _ d f)
+returns-in-Lock-clause-goes g c = writes_goes _ g.met.P.Plan.lawful g.met.Q.Plan.lawful g.met.K.Plan.lawful (λ trace. KnowsAsk trace c.args.out.now.line c.args.act (account_of c.args.transaction.now)) _ _ c.args.transaction.now c.lock_keys.new.self c.args.out.now c.lock_keys.new._out _ (notes_so c.args.out.now.line _ _ _ (ap (λ a. refusal a (account_of c.args.transaction.now)) c.in-Lock.is ∙ sym (write_refused c.args.transaction.now.status OperationAfterCommitError))) (λ e. may_write_so (allows_data c.args.transaction.now.status) OperationAfterCommitError e) (λ d f. locked_steps _ d f)
     c.lock_keys.ensures.ends c.requires.idle c.lock_keys.ensures.gives_up c.lock_keys.ensures.quiet.0
 
 pub returns-in-Commit-clause-goes : goal.returns-in-Commit-clause-goes
-returns-in-Commit-clause-goes g c = commits_goes _ g.met.P.Plan.lawful g.met.Q.Plan.lawful g.met.K.Plan.lawful (λ trace. RefusedIn trace c.args.out.now.line (refusal c.args.act (account_of c.args.transaction.now))) OperationAfterCommitError (allows_commit c.args.transaction.now.status) c.args.transaction.now c.commit.new.self c.args.out.now c.commit.new.out _
-    (λ bars. notes_so c.args.out.now.line _ _ (ap (λ a. refusal a (account_of c.args.transaction.now)) c.in-Commit.is ∙ commit_barred c.args.transaction.now c.requires.quiet bars)) c.commit.ensures.refused c.commit.ensures.moves (ap (λ t. t.start) c.commit.ensures.kept) (ap (λ t. t.contents) c.commit.ensures.kept) c.commit.ensures.opens c.commit.ensures.busy
+returns-in-Commit-clause-goes g c = commits_goes _ g.met.P.Plan.lawful g.met.Q.Plan.lawful g.met.K.Plan.lawful (λ trace. KnowsAsk trace c.args.out.now.line c.args.act (account_of c.args.transaction.now)) OperationAfterCommitError (allows_commit c.args.transaction.now.status) c.args.transaction.now c.commit.new.self c.args.out.now c.commit.new.out _
+    (λ bars. notes_so c.args.out.now.line _ _ _ (ap (λ a. refusal a (account_of c.args.transaction.now)) c.in-Commit.is ∙ commit_barred c.args.transaction.now c.requires.quiet bars)) c.commit.ensures.refused c.commit.ensures.moves (ap (λ t. t.start) c.commit.ensures.kept) (ap (λ t. t.contents) c.commit.ensures.kept) c.commit.ensures.opens c.commit.ensures.busy
 
 pub returns-in-Rollback-clause-taken : goal.returns-in-Rollback-clause-taken
 returns-in-Rollback-clause-taken g c = as_act c.args.transaction.now c.roll_back.new.transaction (turn_of c.roll_back.result) acts.Rollback c.args.act c.in-Rollback.is c.roll_back.ensures.taken

@@ -7,8 +7,7 @@ use Rattle.txn_kv.specs.declared.errors.Error.TheVariants.{OperationAfterCommitE
 use Rattle.txn_clients.proofs.Rows.{posts_rollback, told_call}
 use Rattle.txn_clients.proofs.Standing.{rollbacks_goes}
 use Rattle.txn_clients.specs.Accounts.{account_of}
-use Rattle.txn_clients.specs.Failing.{RefusedIn}
-use Rattle.txn_side.specs.Account.{refusal}
+use Rattle.txn_clients.specs.Failing.{KnowsAsk}
 use Rattle.txn_side.specs.declared.act.Act.TheVariants.{Rollback}
 use Rattle.txn_clients.proofs.Showing.{notes_so}
 use Rattle.txn_clients.proofs.Taking.{rollback_barred, taken_rollback}
@@ -23,5 +22,5 @@ returns-clause-taken g c = taken_rollback c.args.transaction.now c.rollback.new.
     (λ says. sym c.status.ensures ∙ c.if-not-fits_status.ensures refl says ∙ c.status-before.ensures)
 
 pub returns-clause-goes : goal.returns-clause-goes
-returns-clause-goes g c = rollbacks_goes _ g.met.P.Plan.lawful g.met.Q.Plan.lawful g.met.K.Plan.lawful (λ trace. RefusedIn trace c.args.out.now.line (refusal Rollback (account_of c.args.transaction.now))) OperationAfterCommitError (allows_rollback c.args.transaction.now.status) (undetermined c.args.transaction.now.commits) c.args.transaction.now c.rollback.new.self c.args.out.now c.rollback.new.out _
-    (λ bars. notes_so c.args.out.now.line _ _ (rollback_barred c.args.transaction.now c.requires.quiet bars)) refl c.in_ok-progress.ensures.refused c.in_ok-progress.ensures.undetermined c.in_ok-progress.ensures.moves (ap (λ t. t.start) c.in_ok-progress.ensures.kept) (ap (λ t. t.contents) c.in_ok-progress.ensures.kept) c.in_ok-progress.ensures.opens c.in_ok-progress.ensures.busy c.requires.idle c.in_ok-progress.ensures.gives_up
+returns-clause-goes g c = rollbacks_goes _ g.met.P.Plan.lawful g.met.Q.Plan.lawful g.met.K.Plan.lawful (λ trace. KnowsAsk trace c.args.out.now.line Rollback (account_of c.args.transaction.now)) OperationAfterCommitError (allows_rollback c.args.transaction.now.status) (undetermined c.args.transaction.now.commits) c.args.transaction.now c.rollback.new.self c.args.out.now c.rollback.new.out _
+    (λ bars. notes_so c.args.out.now.line Rollback (account_of c.args.transaction.now) _ (rollback_barred c.args.transaction.now c.requires.quiet bars)) (λ trace k. k.1) refl c.in_ok-progress.ensures.refused c.in_ok-progress.ensures.undetermined c.in_ok-progress.ensures.moves (ap (λ t. t.start) c.in_ok-progress.ensures.kept) (ap (λ t. t.contents) c.in_ok-progress.ensures.kept) c.in_ok-progress.ensures.opens c.in_ok-progress.ensures.busy c.requires.idle c.in_ok-progress.ensures.gives_up

@@ -11,10 +11,9 @@ use Rattle.txn_clients.proofs.Naming.{named_so}
 use Rattle.txn_clients.proofs.Accounting.{takes_in}
 use Rattle.txn_clients.proofs.Beginning.{call_steps}
 use Rattle.std.proofs.lemmas.Result.{IfOk-weaker}
-use Rattle.txn_side.specs.Account.{refusal}
 use Rattle.txn_clients.specs.Accounts.{account_at}
-use Rattle.txn_clients.specs.Failing.{CalledIn, RefusedIn}
-use Rattle.txn_clients.proofs.Coming.{called_since, refused_since}
+use Rattle.txn_clients.specs.Failing.{CalledIn, KnowsAsk}
+use Rattle.txn_clients.proofs.Coming.{called_since, asked_since}
 use Rattle.txn_clients.proofs.clients.Clients.call.Goals as goal
 
 pub step-requires-clause-listens : goal.step-requires-clause-listens
@@ -62,5 +61,5 @@ returns-clause-steps g c = IfOk-weaker c.step.result _ _
     (newest_idle c.args.self.now c.newest-line.result c.newest-line.ensures (c.if-not-is_new.ensures refl)) c.requires.transaction
     (c.set_row.ensures.rows ∙ ap (λ rs. set rs (c.newest-line.result - 1) (row.Calling c.args.client c.args.transaction c.is_commit.result)) c.set_waits.ensures.rows) (c.set_row.ensures.nexts ∙ c.set_waits.ensures.nexts) (c.set_row.ensures.asks ∙ c.set_waits.ensures.asks) (c.set_row.ensures.clients ∙ c.set_waits.ensures.clients) ready
     (called_since trace [] c.newest-line.result c.args.transaction (subst (λ n. CalledIn trace n c.args.transaction) (sym c.newest-line.ensures) called))
-    (refused_since trace [] c.newest-line.result (refusal c.args.act (account_at (rows_of c.args.self.now) c.args.transaction)) (subst (λ n. RefusedIn trace n (refusal c.args.act (account_at (rows_of c.args.self.now) c.args.transaction))) (sym c.newest-line.ensures) refused)) sound (f trace))
+    (asked_since trace [] c.newest-line.result c.args.act (account_at (rows_of c.args.self.now) c.args.transaction) (subst (λ n. KnowsAsk trace n c.args.act (account_at (rows_of c.args.self.now) c.args.transaction)) (sym c.newest-line.ensures) refused)) sound (f trace))
     c.step.ensures.steps

@@ -51,7 +51,7 @@ returns-in_ok-push-in-Asking-clause-waits g c new trace client rest fails sound 
     c.requires.line asks (ask_settles c.in-Asking.client c.in-Asking.begins c.in_ok-ended-in-Asking.ended.outcome (stand_of c.in_ok-ended-in-Asking.ended.row) c.in_ok-ended-in-Asking.ensures.ends) c.in_ok-ended-in-Asking.ensures.ready (c.in_ok-ended-in-Asking.ensures.arises new now)
     c.set_row.ensures.rows c.set_row.ensures.nexts c.set_row.ensures.asks c.set_row.ensures.clients
     (one_more _ now c.args.turn.now.ended.items c.push.new.self.items (record { line = c.args.line; outcome = c.in_ok-ended-in-Asking.ended.outcome }) c.in_ok-push-in-Asking.ensures.items
-    (reason_so _ now c.args.line c.args.line c.in_ok-ended-in-Asking.ended.outcome c.args.answer (sound.told.asks c.args.line c.in-Asking.client c.in-Asking.begins asks) c.in_ok-ended-in-Asking.ensures.failed fails)) sound
+    (reason_so _ now c.args.line c.args.line c.in_ok-ended-in-Asking.ended.outcome c.args.answer (sound.told.asks c.args.line c.in-Asking.client c.in-Asking.begins asks) c.in_ok-ended-in-Asking.ensures.failed c.in_ok-ended-in-Asking.ensures.fed fails)) sound
 
 pub returns-in_ok-push-in-Asking-clause-runs : goal.returns-in_ok-push-in-Asking-clause-runs
 returns-in_ok-push-in-Asking-clause-runs g c d b e but =

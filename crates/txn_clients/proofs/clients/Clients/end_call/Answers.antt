@@ -69,7 +69,7 @@ returns-in_ok-push-in-Calling-clause-waits g c trace client rest fails sound =
     (past_arises _ c.in-Calling.client c.in_ok-ended-in-Calling.ended.row (call_past c.in-Calling.client c.in-Calling.commits c.in_ok-ended-in-Calling.ended.outcome (stand_of c.in_ok-ended-in-Calling.ended.row) c.in_ok-ended-in-Calling.ensures.ends) now)
     (c.set_row.ensures.rows ∙ ap (λ rs. set rs (c.args.line - 1) c.in_ok-ended-in-Calling.ended.row) c.set_waits.ensures.rows) (c.set_row.ensures.nexts ∙ c.set_waits.ensures.nexts) (c.set_row.ensures.asks ∙ c.set_waits.ensures.asks) (c.set_row.ensures.clients ∙ c.set_waits.ensures.clients)
     (one_more _ now c.args.turn.now.ended.items c.push.new.self.items (record { line = c.args.line; outcome = c.in_ok-ended-in-Calling.ended.outcome }) c.in_ok-push-in-Calling.ensures.items
-    (reason_so _ now c.args.line c.in-Calling.transaction c.in_ok-ended-in-Calling.ended.outcome c.args.answer (sound.told.calls c.args.line c.in-Calling.client c.in-Calling.transaction c.in-Calling.commits calls) c.in_ok-ended-in-Calling.ensures.failed
+    (reason_so _ now c.args.line c.in-Calling.transaction c.in_ok-ended-in-Calling.ended.outcome c.args.answer (sound.told.calls c.args.line c.in-Calling.client c.in-Calling.transaction c.in-Calling.commits calls) c.in_ok-ended-in-Calling.ensures.failed c.in_ok-ended-in-Calling.ensures.fed
     (fails c.in-Calling.client c.in-Calling.transaction c.in-Calling.commits calls))) sound
 
 pub returns-in_ok-push-in-Calling-clause-runs : goal.returns-in_ok-push-in-Calling-clause-runs

@@ -1,5 +1,8 @@
 use Rattle.txn_commit.specs.Committing.{ways}
 use Rattle.std.proofs.Common.{None, Some}
+use Rattle.txn_side.specs.Sight.{line_count}
+use Rattle.txn_clients.specs.Clients.{sight_of}
+use Rattle.txn_clients.proofs.Coming.{rolls_untold}
 use Rattle.txn_clients.proofs.Sides.{waits_none}
 use Rattle.txn_clients.proofs.Stepping.{ready_of, rested, rests_on, rests_still}
 use Rattle.txn_clients.proofs.clients.asking.ClientsClientSide.act.Goals as goal
@@ -7,15 +10,15 @@ use Rattle.txn_clients.proofs.clients.asking.ClientsClientSide.act.Goals as goal
 pub returns-in_ok-call-in-Some-clause-waits : goal.returns-in_ok-call-in-Some-clause-waits
 returns-in_ok-call-in-Some-clause-waits g c =
     waits_none (ways g.P.Plan.meaning g.Q.Plan.meaning g.K.Plan.meaning g.P.PlanFor.refuses g.Q.PlanFor.refuses g.K.PlanFor.refuses) c.args.self.now c.call.new.self c.in_ok-call-in-Some.field-0.posted.items c.in_ok-call-in-Some.field-0.ended.items
-    (c.in_ok-call-in-Some.ensures.steps None c.requires.ready tt tt c.requires.ready.sound) c.in_ok-call-in-Some.ensures.turn.groups
+    (c.in_ok-call-in-Some.ensures.steps None c.requires.ready tt (tt, rolls_untold (line_count (sight_of c.args.self.now)) c.args.act) c.requires.ready.sound) c.in_ok-call-in-Some.ensures.turn.groups
 
 pub returns-in_ok-call-in-Some-clause-ready : goal.returns-in_ok-call-in-Some-clause-ready
 returns-in_ok-call-in-Some-clause-ready g c =
-    ready_of _ c.args.self.now c.call.new.self _ c.in_ok-call-in-Some.field-0.posted.items c.in_ok-call-in-Some.field-0.ended.items c.requires.ready c.in_ok-call-in-Some.ensures.ready (c.in_ok-call-in-Some.ensures.steps None c.requires.ready tt tt c.requires.ready.sound)
+    ready_of _ c.args.self.now c.call.new.self _ c.in_ok-call-in-Some.field-0.posted.items c.in_ok-call-in-Some.field-0.ended.items c.requires.ready c.in_ok-call-in-Some.ensures.ready (c.in_ok-call-in-Some.ensures.steps None c.requires.ready tt (tt, rolls_untold (line_count (sight_of c.args.self.now)) c.args.act) c.requires.ready.sound)
 
 pub returns-in_ok-call-in-Some-clause-rests : goal.returns-in_ok-call-in-Some-clause-rests
-returns-in_ok-call-in-Some-clause-rests g c t posted called refused was =
-    rests_on (ways g.P.Plan.meaning g.Q.Plan.meaning g.K.Plan.meaning g.P.PlanFor.refuses g.Q.PlanFor.refuses g.K.PlanFor.refuses) t c.args.self.now c.call.new.self _ c.in_ok-call-in-Some.field-0.posted.items c.in_ok-call-in-Some.field-0.ended.items (c.in_ok-call-in-Some.ensures.steps (Some t) c.requires.ready called refused (rested _ c.args.self.now t posted was))
+returns-in_ok-call-in-Some-clause-rests g c t posted called refused rolls was =
+    rests_on (ways g.P.Plan.meaning g.Q.Plan.meaning g.K.Plan.meaning g.P.PlanFor.refuses g.Q.PlanFor.refuses g.K.PlanFor.refuses) t c.args.self.now c.call.new.self _ c.in_ok-call-in-Some.field-0.posted.items c.in_ok-call-in-Some.field-0.ended.items (c.in_ok-call-in-Some.ensures.steps (Some t) c.requires.ready called (refused, rolls) (rested _ c.args.self.now t posted was))
 
 pub returns-in-None-clause-rests : goal.returns-in-None-clause-rests
-returns-in-None-clause-rests g c t posted called refused was = rests_still (ways g.P.Plan.meaning g.Q.Plan.meaning g.K.Plan.meaning g.P.PlanFor.refuses g.Q.PlanFor.refuses g.K.PlanFor.refuses) t c.args.self.now c.args.self.now posted was
+returns-in-None-clause-rests g c t posted called refused rolls was = rests_still (ways g.P.Plan.meaning g.Q.Plan.meaning g.K.Plan.meaning g.P.PlanFor.refuses g.Q.PlanFor.refuses g.K.PlanFor.refuses) t c.args.self.now c.args.self.now posted was
