@@ -1,7 +1,7 @@
 -- From what a call that failed had heard to what the report tells.
-use Rattle.std.proofs.Common.{◌≡◌, ◌⊎◌, inl, inr, ℕ, refl, subst, arith}
+use Rattle.std.proofs.Common.{◌≡◌, ◌⊎◌, inl, inr, zero, suc, ℕ, refl, subst, arith}
 use Rattle.std.specs.Global.{Vec}
-use Rattle.std.specs.Prelude.{List, [], ◌∷◌, Option, Some, None, Result, Err, reverse}
+use Rattle.std.specs.Prelude.{true, false, List, [], ◌∷◌, Option, Some, None, Result, Err, reverse}
 use Rattle.std.specs.List.{Any}
 use Rattle.txn_kv.specs.ErrorView.{view_of, ErrorView, ErrorViews}
 use Rattle.txn_kv.specs.ErrorView.ErrorView.{plain, locks, region, undetermined as not_known, key, extracted, multiple, kv, text, pessimistic}
@@ -11,41 +11,41 @@ use Rattle.txn_kv.specs.declared.errors.Error.{Error}
 use Rattle.txn_kv.specs.declared.errors.Error.TheVariants.{GrpcAPI, RegionForKeyNotFound, RegionNotFoundInResponse, LeaderNotFound, InternalError, OutOfMemory}
 use Rattle.txn_kv.specs.declared.errors.Internal.{Internal}
 use Rattle.txn_kv.specs.declared.errors.Internal.TheVariants.{BadEnd, BadPadding, ReversedRegion, NoEpoch, WrongReply}
+use Rattle.txn_kv.specs.declared.message.KeyError.{KeyError}
+use Rattle.txn_kv.specs.declared.message.KeyError.TheVariants.{Locked}
 use Rattle.txn_kv.specs.declared.message.RegionErr.{RegionErr}
+use Rattle.txn_kv.specs.declared.message.RegionErr.TheVariants.{EpochNotMatch}
 use Rattle.txn_kv.specs.declared.region.RegionWithLeader.{RegionWithLeader}
 use Rattle.txn_kv.specs.declared.reply.BatchRollbackResponse.{BatchRollbackResponse}
 use Rattle.txn_kv.specs.declared.reply.CommitResponse.{CommitResponse}
 use Rattle.txn_kv.specs.declared.reply.PrewriteResponse.{PrewriteResponse}
 use Rattle.txn_kv.specs.declared.reply.Reply.{Reply}
 use Rattle.txn_kv.specs.declared.reply.Reply.TheVariants as replies
-use Rattle.txn_kv.specs.declared.reply.TsoResponse.{TsoResponse}
 use Rattle.txn_kv.specs.declared.request.Request.{Request}
-use Rattle.txn_kv.specs.declared.request.Request.TheVariants.{Commit, Tso}
+use Rattle.txn_kv.specs.declared.request.Request.TheVariants.{BatchRollback, Commit, GetRegion, Prewrite, Tso}
 use Rattle.txn_kv.specs.declared.ticket.Ticket.{Ticket}
 use Rattle.txn_kv.specs.declared.timestamp.Timestamp.{Timestamp}
 use Rattle.txn_history.specs.Among.{IsAmong}
 use Rattle.txn_history.specs.Event.{Event, Has}
 use Rattle.txn_history.specs.Event.Event.{Sent, Took, Lost, Answered}
 use Rattle.txn_history.specs.Plan.{Plan}
-use Rattle.txn_causes.specs.Carried.{FoundNone, FoundOther, HasBadKey, HasKeyError, HasLock, HasNoEpoch, HasNoLeader, HasRegion, HasRegionError, IsReversed, ToldWithoutEpoch}
-use Rattle.txn_causes.specs.Causes.{HasCause, InternalCause, PlainCause, Taken, TakenOrUnplaced}
+use Rattle.txn_causes.specs.Carried.{listed, FoundNone, FoundOther, HasBadKey, HasKeyError, HasLock, HasNoEpoch, HasNoLeader, HasRegion, HasRegionError, IsReversed, ToldWithoutEpoch}
+use Rattle.txn_causes.specs.Causes.{FoundNoRegion, HasCause, HasFailed, HaveFailed, InternalCause, PlainCause, Taken, retries}
 use Rattle.txn_causes.specs.Causes as causes
 use Rattle.txn_causes.specs.Heard.{Heard, heard_in}
-use Rattle.txn_causes.specs.Heard.Heard.{TookReply, TookUnlike, WasLost, HadNoPlace}
+use Rattle.txn_causes.specs.Heard.Heard.{TookReply, WasLost}
 use Rattle.txn_causes.specs.Kinds.{IsOfKind}
 use Rattle.txn_buffer.specs.Contents.{Contents}
 use Rattle.txn_commit.specs.Committing.{Ways, ways}
 use Rattle.txn_commit.specs.Following.{Commits, KnowsCommits, PrimarySent, first_of, or_first, undetermined}
-use Rattle.txn_commit.specs.Parts.{parts_of}
 use Rattle.txn_commit.specs.Sending.{plan_of}
-use Rattle.txn_commit.specs.declared.commit_parts.CommitParts.{CommitParts}
 use Rattle.txn_commit_plans.specs.CausesOfCalls.{IsCallExplained, call_explained, untimed_explained}
 use Rattle.txn_commit_plans.specs.CausesOfCalls as calls
 use Rattle.txn_commit_plans.specs.CausesOfPlans.{commits_caused, prewrites_caused, rollbacks_caused}
 use Rattle.txn_commit_plans.specs.Failing.{HasGiven, given_caused}
 use Rattle.txn_commit_plans.specs.Kinds.{CommitPlan, PrewritePlan, RollbackPlan, commit_plan, prewrite_plan, rollback_plan}
-use Rattle.txn_core.specs.Going.{IsNothing, TransactionGives}
-use Rattle.txn_side.specs.Trace.{AreShown, AreTimes, FailsIn, IsCalled, IsSend, IsSentIn, Trace}
+use Rattle.txn_core.specs.Going.{TransactionGives}
+use Rattle.txn_side.specs.Trace.{AreOwn, AreShown, FailsIn, IsCalled, IsHarmless, IsRefusedIn, IsSend, IsSentIn, Trace}
 use Rattle.txn_report.specs.declared.outcome.Outcome.{Outcome}
 use Rattle.txn_report.specs.declared.report.Report.{Report}
 use Rattle.txn_lines.specs.Text.{IsScript}
@@ -53,64 +53,91 @@ use Rattle.txn_lines.specs.declared.line.Line.{Line}
 use Rattle.txn_machine.specs.Accounts.{Ask, ask_of}
 use Rattle.txn_machine.specs.Failing.{AllCausesMeet, CauseMeets, CausesMeetLines}
 use Rattle.txn_machine.specs.Lawful.{Lawful}
-use Rattle.txn_clients.specs.Failing.{CallFailed, CallRefused, FailsFor}
+use Rattle.txn_clients.specs.Failing.{CallFailed, CallRefused, FailsFor, HasFailedFor, KnownTransaction}
 use Rattle.txn_run.specs.Program.{RanScript}
+use Rattle.txn_run.proofs.Calming.{fails_calmly}
 use Rattle.txn_run.proofs.Refusing.{all_exact, never_caused}
 use Rattle.txn_run.specs.Caused.{HasCommit, HaveCauses, HeardBy, IsCaused, IsExplained, IsRollbackRefused, IsUndetermined, trace_at}
 
--- Replies with timestamps are no cause of anything
+-- In a reply that says without error what was done, and in one with timestamps, no error has its cause.
 
-abbrev pub IsTimes : Reply → Type 0
-IsTimes o = (x : TsoResponse) × (o ≡ replies.Tso x)
+harmless_like : (r : Request) (o : Reply) → IsHarmless r o → IsOfKind r o
+harmless_like (Tso r) (replies.Tso o) h = (o, refl)
+harmless_like (Prewrite r) (replies.Prewrite o) h = (o, refl)
+harmless_like (Commit r) (replies.Commit o) h = (o, refl)
+harmless_like (BatchRollback r) (replies.BatchRollback o) h = (o, refl)
+harmless_like _ _ h = absurd h
 
-are_times : (r : Request) (o : Reply) → AreTimes r o → IsTimes o
-are_times (Tso r) (replies.Tso x) k = (x, refl)
-are_times _ _ k = absurd k
+no_region : (is : RegionWithLeader → Type 0) (r : Request) (o : Reply) → IsHarmless r o → HasRegion is o → ⊥
+no_region is (Tso r) (replies.Tso o) h (x, k, i) = cc
+no_region is (Prewrite r) (replies.Prewrite o) h (x, k, i) = cc
+no_region is (Commit r) (replies.Commit o) h (x, k, i) = cc
+no_region is (BatchRollback r) (replies.BatchRollback o) h (x, k, i) = cc
+no_region is _ _ h k = absurd h
 
-are_like : (r : Request) (o : Reply) → AreTimes r o → IsOfKind r o
-are_like (Tso r) (replies.Tso x) k = (x, refl)
-are_like _ _ k = absurd k
+no_region_error : (error : RegionErr) (r : Request) (o : Reply) → IsHarmless r o → HasRegionError error o → ⊥
+no_region_error error (Tso r) (replies.Tso o) h k = cc
+no_region_error error (Prewrite r) (replies.Prewrite o) h k = let clean = h.0 in cc
+no_region_error error (Commit r) (replies.Commit o) h k = let clean = h.0 in cc
+no_region_error error (BatchRollback r) (replies.BatchRollback o) h k = let clean = h.0 in cc
+no_region_error error _ _ h k = absurd h
 
-no_region : (is : RegionWithLeader → Type 0) (x : TsoResponse) → HasRegion is (replies.Tso x) → ⊥
-no_region is x (r, k, i) = cc
+no_key_error : (error : KeyError) (r : Request) (o : Reply) → IsHarmless r o → HasKeyError error o → ⊥
+no_key_error error (Tso r) (replies.Tso o) h k = k
+no_key_error error (Prewrite r) (replies.Prewrite o) h k = subst (λ xs. IsAmong xs error) h.1 k
+no_key_error error (Commit r) (replies.Commit o) h k = subst (λ x. IsAmong (listed x) error) h.1 k
+no_key_error error (BatchRollback r) (replies.BatchRollback o) h k = subst (λ x. IsAmong (listed x) error) h.1 k
+no_key_error error _ _ h k = absurd h
 
-no_region_error : (error : RegionErr) (x : TsoResponse) → HasRegionError error (replies.Tso x) → ⊥
-no_region_error error x k = cc
+no_epoch : (id : ℕ) (r : Request) (o : Reply) → IsHarmless r o → HasRegion (λ x. HasNoEpoch id x.region) o ⊎ ToldWithoutEpoch id o → ⊥
+no_epoch id r o h (inl k) = no_region (λ x. HasNoEpoch id x.region) r o h k
+no_epoch id r o h (inr k) = no_region_error (EpochNotMatch k.0) r o h k.2
 
-no_epoch : (id : ℕ) (x : TsoResponse) → HasRegion (λ r. HasNoEpoch id r.region) (replies.Tso x) ⊎ ToldWithoutEpoch id (replies.Tso x) → ⊥
-no_epoch id x (inl k) = no_region (λ r. HasNoEpoch id r.region) x k
-no_epoch id x (inr k) = cc
+looks_no_none : (r : Request) (o : Reply) → IsHarmless r o → FoundNone r o → ⊥
+looks_no_none (Tso r) (replies.Tso o) h k = k
+looks_no_none (Prewrite r) (replies.Prewrite o) h k = k
+looks_no_none (Commit r) (replies.Commit o) h k = k
+looks_no_none (BatchRollback r) (replies.BatchRollback o) h k = k
+looks_no_none _ _ h k = absurd h
+
+looks_no_other : (id : ℕ) (r : Request) (o : Reply) → IsHarmless r o → FoundOther id r o → ⊥
+looks_no_other id (Tso r) (replies.Tso o) h k = k
+looks_no_other id (Prewrite r) (replies.Prewrite o) h k = k
+looks_no_other id (Commit r) (replies.Commit o) h k = k
+looks_no_other id (BatchRollback r) (replies.BatchRollback o) h k = k
+looks_no_other id _ _ h k = absurd h
 
 -- So what has its cause in what was heard has it in what is shown, where each other reply is.
 module _ (K M : Heard → Type 0)
-    (took : (u : Ticket) (o : Reply) → K (TookReply u o) → M (TookReply u o) ⊎ IsTimes o)
-    (unlike : (u : Ticket) (o : Reply) → K (TookUnlike u o) → M (TookUnlike u o))
-    (lost : (u : Ticket) → K (WasLost u) → M (WasLost u))
-    (unplaced : (why : ErrorView) → M (HadNoPlace why)) where
-  taken_so : (is : Reply → Type 0) (u : Ticket) (o : Reply) → ((x : TsoResponse) → is (replies.Tso x) → ⊥) → is o → M (TookReply u o) ⊎ IsTimes o → Taken M is
-  taken_so is u o never k (inl m) = (u, o, m, k)
-  taken_so is u o never k (inr times) = absurd (never times.0 (subst is times.1 k))
+    (took : (u : Ticket) (r : Request) (o : Reply) → K (TookReply u r o) → M (TookReply u r o) ⊎ IsHarmless r o)
+    (lost : (u : Ticket) (r : Request) → K (WasLost u r) → M (WasLost u r)) where
+  taken : (are : Request → Reply → Type 0) → ((r : Request) (o : Reply) → IsHarmless r o → are r o → ⊥) → Taken K are → Taken M are
+  taken are never k = elim (took k.0 k.1 k.2 k.3) [ inl m ↦ (k.0, k.1, k.2, m, k.4) | inr h ↦ absurd (never k.1 k.2 h k.4) ]
 
-  taken : (is : Reply → Type 0) → ((x : TsoResponse) → is (replies.Tso x) → ⊥) → Taken K is → Taken M is
-  taken is never k = taken_so is k.0 k.1 never k.3 (took k.0 k.1 k.2)
+  one_failed : (u : Ticket) (r : Request) → HasFailed K u r → HasFailed M u r
+  one_failed u r (inl k) = inl (lost u r k)
+  one_failed u r (inr k) = elim (took u r k.0 k.1) [ inl m ↦ inr (k.0, m, k.2) | inr h ↦ absurd (looks_no_none r k.0 h k.2) ]
 
-  or_unplaced : (is : Reply → Type 0) (error : Error) → ((x : TsoResponse) → is (replies.Tso x) → ⊥) → TakenOrUnplaced K is error → TakenOrUnplaced M is error
-  or_unplaced is error never (inl k) = inl (taken is never k)
-  or_unplaced is error never (inr k) = inr (unplaced (plain error))
+  have_failed : (r : Request) (u : Ticket) (n : ℕ) → HaveFailed K r u n → HaveFailed M r u n
+  have_failed r u zero k = tt
+  have_failed r u (suc n) k = (k.0, k.1, k.2, one_failed k.0 r k.3, have_failed r k.0 n k.4)
+
+  found_none : (r : Request) → FoundNoRegion K r → FoundNoRegion M r
+  found_none r k = elim (took k.0 r k.1 k.2) [ inl m ↦ (k.0, k.1, m, k.3, have_failed r k.0 (retries r) k.4) | inr h ↦ absurd (looks_no_none r k.1 h k.3) ]
 
   internal : (what : Internal) → InternalCause K what → InternalCause M what
-  internal (BadEnd at) k = taken (HasRegion (HasBadKey (BadEnd at))) (no_region (HasBadKey (BadEnd at))) k
-  internal (BadPadding at) k = taken (HasRegion (HasBadKey (BadPadding at))) (no_region (HasBadKey (BadPadding at))) k
-  internal (ReversedRegion id) k = taken (HasRegion (IsReversed id)) (no_region (IsReversed id)) k
-  internal (NoEpoch id) k = or_unplaced (λ o. HasRegion (λ r. HasNoEpoch id r.region) o ⊎ ToldWithoutEpoch id o) (InternalError (NoEpoch id)) (no_epoch id) k
-  internal WrongReply k = (k.0, k.1, unlike k.0 k.1 k.2)
+  internal (BadEnd at) k = taken (λ q. HasRegion (HasBadKey (BadEnd at))) (no_region (HasBadKey (BadEnd at))) k
+  internal (BadPadding at) k = taken (λ q. HasRegion (HasBadKey (BadPadding at))) (no_region (HasBadKey (BadPadding at))) k
+  internal (ReversedRegion id) k = taken (λ q. HasRegion (IsReversed id)) (no_region (IsReversed id)) k
+  internal (NoEpoch id) k = taken (λ q o. HasRegion (λ r. HasNoEpoch id r.region) o ⊎ ToldWithoutEpoch id o) (no_epoch id) k
+  internal WrongReply k = taken (λ q o. IsOfKind q o → ⊥) (λ r o h other. other (harmless_like r o h)) k
   internal _ k = absurd k
 
   of_plain : (error : Error) → PlainCause K error → PlainCause M error
-  of_plain (GrpcAPI ticket) k = lost ticket k
-  of_plain (RegionForKeyNotFound wanted) k = or_unplaced FoundNone (RegionForKeyNotFound wanted) (λ x i. i) k
-  of_plain (RegionNotFoundInResponse id) k = or_unplaced (FoundOther id) (RegionNotFoundInResponse id) (λ x i. i) k
-  of_plain (LeaderNotFound id) k = or_unplaced (HasRegion (HasNoLeader id)) (LeaderNotFound id) (no_region (HasNoLeader id)) k
+  of_plain (GrpcAPI ticket) k = (k.0, lost ticket k.0 k.1, have_failed k.0 ticket (retries k.0) k.2)
+  of_plain (RegionForKeyNotFound wanted) k = found_none (GetRegion (record { region_key = wanted })) k
+  of_plain (RegionNotFoundInResponse id) k = taken (FoundOther id) (looks_no_other id) k
+  of_plain (LeaderNotFound id) k = taken (λ q. HasRegion (HasNoLeader id)) (no_region (HasNoLeader id)) k
   of_plain (InternalError what) k = internal what k
   of_plain OutOfMemory k = tt
   of_plain _ k = absurd k
@@ -118,23 +145,19 @@ module _ (K M : Heard → Type 0)
   mutual
     has_cause : (error : ErrorView) → HasCause K error → HasCause M error
     has_cause (plain error) k = of_plain error k
-    has_cause (locks found) k = (k.0, λ lock i. taken (HasLock lock) (λ x j. j) (k.1 lock i))
-    has_cause (region error) k = taken (HasRegionError error) (no_region_error error) k
-    has_cause (not_known inner) k = has_cause inner k
-    has_cause (key error) k = taken (HasKeyError error) (λ x i. i) k
+    has_cause (locks found) k = (k.0, λ lock i. taken (λ q. HasLock lock) (no_key_error (Locked lock)) (k.1 lock i))
+    has_cause (region error) k = taken (λ q. HasRegionError error) (no_region_error error) k
+    has_cause (not_known inner) k = absurd k
+    has_cause (key error) k = taken (λ q. HasKeyError error) (no_key_error error) k
     has_cause (extracted errors) k = (k.0, have_causes errors k.1)
     has_cause (multiple errors) k = (k.0, have_causes errors k.1)
     has_cause (kv message) k = absurd k
-    has_cause (text message) k = unplaced (text message)
+    has_cause (text message) k = absurd k
     has_cause (pessimistic inner keys) k = absurd k
 
     have_causes : (errors : ErrorViews) → causes.HaveCauses K errors → causes.HaveCauses M errors
     have_causes none k = tt
     have_causes (more error errors) k = (has_cause error k.0, have_causes errors k.1)
-
-never_nothing : {Q : Type 0} (e : Error) → IsNothing {Q = Q} (Err e) → ⊥
-never_nothing e (inl n) = cc
-never_nothing e (inr n) = cc
 
 -- of the first of these it is known that it was sent
 first_sent : (plan : Plan) (s : ℕ) (h : List Event) (u : Ticket) (out : List Ticket) → ((v : Ticket) → IsAmong out v → PrimarySent plan s h v) → first_of out ≡ Some u → PrimarySent plan s h u
@@ -144,31 +167,20 @@ first_sent plan s h u (v ∷ out) sent e = let same : v ≡ u = cc in subst (Pri
 none_posted : (u : Ticket) (r : Request) → Any (IsSend u r) [] → ⊥
 none_posted u r k = omega (arith, k.2)
 
--- What a call heard is shown
-module _ (t : Trace) (at : ℕ) (h : List Event) (unposted : t.posted ≡ []) (shown : AreShown t at h) where
-  took_shown : (u : Ticket) (o : Reply) → heard_in h (TookReply u o) → HeardBy t at (TookReply u o) ⊎ IsTimes o
-  took_shown u o k = by (shown (Took u k.0 o) k.1)
-    where
-      by : (IsCalled t u.line at × Has t.events (Took u k.0 o)) ⊎ AreTimes k.0 o → HeardBy t at (TookReply u o) ⊎ IsTimes o
-      by (inl s) = inl (s.0, (k.0, s.1))
-      by (inr times) = inr (are_times k.0 o times)
+-- What a call heard is shown, and came for its line
+module _ (t : Trace) (at n : ℕ) (h : List Event) (unposted : t.posted ≡ []) (shown : AreShown t at h) (own : AreOwn n h) where
+  took_shown : (u : Ticket) (r : Request) (o : Reply) → heard_in h (TookReply u r o) → HeardBy t at n (TookReply u r o) ⊎ IsHarmless r o
+  took_shown u r o k = elim (shown (Took u r o) k) [ inl s ↦ elim (own (Took u r o) k) [ inl line ↦ inl (line, s.1) | inr harmless ↦ inr harmless ] | inr harmless ↦ inr harmless ]
 
-  unlike_shown : (u : Ticket) (o : Reply) → heard_in h (TookUnlike u o) → HeardBy t at (TookUnlike u o)
-  unlike_shown u o k = by (shown (Took u k.0 o) k.1)
-    where
-      by : (IsCalled t u.line at × Has t.events (Took u k.0 o)) ⊎ AreTimes k.0 o → HeardBy t at (TookUnlike u o)
-      by (inl s) = (s.0, (k.0, s.1, k.2))
-      by (inr times) = absurd (k.2 (are_like k.0 o times))
+  lost_shown : (u : Ticket) (r : Request) → heard_in h (WasLost u r) → HeardBy t at n (WasLost u r)
+  lost_shown u r k = let s = shown (Lost u r) k in (s.1, elim (own (Lost u r) k) [ inl line ↦ inl line | inr commit ↦ inr (s.0, commit) ])
 
-  lost_shown : (u : Ticket) → heard_in h (WasLost u) → HeardBy t at (WasLost u)
-  lost_shown u k = let s = shown (Lost u k.0) k.1 in (s.0, (k.0, s.1))
+  cause_shown : (error : ErrorView) → HasCause (heard_in h) error → HasCause (HeardBy t at n) error
+  cause_shown = has_cause (heard_in h) (HeardBy t at n) took_shown lost_shown
 
-  cause_shown : (error : ErrorView) → HasCause (heard_in h) error → HasCause (HeardBy t at) error
-  cause_shown = has_cause (heard_in h) (HeardBy t at) took_shown unlike_shown lost_shown (λ why. tt)
-
-  explained : (e : Error) → calls.IsExplained h e → IsExplained t at e
+  explained : (e : Error) → calls.IsExplained h e → IsExplained t at n e
   explained e (inl k) = inl (cause_shown (view_of e) k)
-  explained e (inr k) = let s = shown (Answered k.0 (Err e)) k.1 in inr (k.0.line, s.0, s.1)
+  explained e (inr k) = let s = shown (Answered k.0 (Err e)) k.1 in inr (subst (λ line. IsRefusedIn t line e) (own (Answered k.0 (Err e)) k.1) s.1)
 
   sent_shown : (u : Ticket) (r : Request) → IsSentIn t u r → Has t.events (Sent u r)
   sent_shown u r (inl s) = s
@@ -188,46 +200,38 @@ module _ (t : Trace) (at : ℕ) (h : List Event) (unposted : t.posted ≡ []) (s
           let s = shown (Lost u (Commit p.0)) p.1 in
           (s.0, (p.0, p.2, inr s.1))
 
-  refused : (e : Error) → CallRefused h e → IsRollbackRefused t at e
-  refused e k = record {
-    ticket = k.ticket;
-    error = k.error;
-    contents = k.contents;
-    start = version_of k.start;
-    commit = λ parts whole. commit_shown (plan_of parts) (version_of k.start) k.commits k.ticket (k.known parts whole) k.left;
-  }
+  refused : (e : Error) → IsAmong t.rollbacks n → CallRefused h e → IsRollbackRefused t at n e
+  refused e rolls k =
+      let x = k.transaction in
+      record {
+        rollback = rolls;
+        plan = plan_of x.parts;
+        start = version_of x.start;
+        ticket = k.ticket;
+        error = k.error;
+        commit = commit_shown (plan_of x.parts) (version_of x.start) x.commits k.ticket x.known k.left;
+      }
 
   module _ {P Q K A B D : Type 0} (w : Ways P Q K A B D)
       (failed : (start : Timestamp) (contents : Contents) (c : Commits) (h : List Event) (e : Error) → TransactionGives w start contents c h (Err e) → IsCallExplained (undetermined c) h e) where
-    parts_given : (start : Timestamp) (contents : Contents) (c : Commits) (e : Error) → TransactionGives w start contents c h (Err e) → (parts : CommitParts) × (parts_of contents ≡ Some parts)
-    parts_given start contents c e (inl g) = (g.0, g.1)
-    parts_given start contents c e (inr g) = absurd (never_nothing {Q = Q} e g.1)
-
-    call_failed : (e : Error) → CallFailed w h e → IsExplained t at e ⊎ IsUndetermined t at e
-    call_failed e k = by (undetermined k.commits) refl (failed k.start k.contents k.commits h e k.gives)
+    call_failed : (e : Error) → CallFailed w h e → IsExplained t at n e ⊎ IsUndetermined t at n e
+    call_failed e k = let x = k.transaction in by x (undetermined x.commits) refl (failed x.start x.contents x.commits h e (inl (x.parts, x.whole, k.fails)))
       where
-        by : (left : Option Ticket) → undetermined k.commits ≡ left → IsCallExplained left h e → IsExplained t at e ⊎ IsUndetermined t at e
-        by None l g = inl (explained e g)
-        by (Some u) l g =
-            let p = parts_given k.start k.contents k.commits e k.gives in
-            inr (record {
-              inner = g.0;
-              error = g.1;
-              explained = explained g.0 g.2;
-              plan = plan_of p.0;
-              start = version_of k.start;
-              ticket = u;
-              commit = commit_shown (plan_of p.0) (version_of k.start) k.commits u (k.known p.0 p.1) l;
-            })
+        by : (x : KnownTransaction h) (left : Option Ticket) → undetermined x.commits ≡ left → IsCallExplained left h e → IsExplained t at n e ⊎ IsUndetermined t at n e
+        by x None l g = inl (explained e g)
+        by x (Some u) l g = inr (record {
+          inner = g.0;
+          error = g.1;
+          explained = explained g.0 g.2;
+          plan = plan_of x.parts;
+          start = version_of x.start;
+          ticket = u;
+          commit = commit_shown (plan_of x.parts) (version_of x.start) x.commits u x.known l;
+        })
 
-    fails : (e : Error) → FailsFor w h e → IsExplained t at e ⊎ (IsUndetermined t at e ⊎ IsRollbackRefused t at e)
+    fails : (e : Error) → HasFailedFor w false h e → IsExplained t at n e ⊎ IsUndetermined t at n e
     fails e (inl k) = inl (explained e (untimed_explained h e k))
-    fails e (inr (inl k)) = by (call_failed e k)
-      where
-        by : IsExplained t at e ⊎ IsUndetermined t at e → IsExplained t at e ⊎ (IsUndetermined t at e ⊎ IsRollbackRefused t at e)
-        by (inl s) = inl s
-        by (inr s) = inr (inl s)
-    fails e (inr (inr k)) = inr (inr (refused e k))
+    fails e (inr k) = call_failed e k
 
 -- Each line
 module _ {Fails Causes : ℕ → Error → Type 0} (weaker : (n : ℕ) (e : Error) → Fails n e → Causes n e) where
@@ -250,7 +254,14 @@ pub have_causes_told : (script : List Line) (report : Report) → CausesMeetLine
 have_causes_told script report k = causes_meet is_caused report.outcomes report.ended script k
   where
     is_caused : (n : ℕ) (e : Error) → FailsIn (FailsFor plans) (trace_at script report n) n e → IsCaused (trace_at script report n) n e
-    is_caused n e f = record { at = f.at; called = f.called; why = fails (trace_at script report n) f.at f.history refl f.shown plans plans_explained e f.fails_so }
+    is_caused n e f = by f.fails_so
+      where
+        t : Trace
+        t = trace_at script report n
+
+        by : FailsFor plans false f.history e ⊎ (IsAmong t.rollbacks n × FailsFor plans true f.history e) → IsCaused t n e
+        by (inl so) = record { at = f.at; called = f.called; why = elim (fails t f.at n f.history refl f.shown f.own plans plans_explained e so.why) [ inl k ↦ inl k | inr k ↦ inr (inl k) ]; fed = so.fed }
+        by (inr (rolls, so)) = record { at = f.at; called = f.called; why = inr (inr (refused t f.at n f.history refl f.shown f.own e rolls so.why)); fed = so.fed }
 
 -- a script ran
 pub ran_script : (bytes : List ℕ) (lines items : List Line) (report : Report) → items ≡ lines → IsScript bytes lines → Lawful items report → CausesMeetLines (FailsFor plans) (reverse items) report → RanScript bytes report
@@ -260,6 +271,7 @@ ran_script bytes lines items report same script lawful causes = record {
   lawful = as_script;
   causes = told;
   exact = all_exact (λ n e. IsCaused (trace_at (reverse lines) report n) n e) (λ n e is c. never_caused (trace_at (reverse lines) report n) n e is c) report.outcomes report.ended (reverse lines) as_script.accounts told;
+  calm = causes_meet (λ n e c. fails_calmly (trace_at (reverse lines) report n) n e c) report.outcomes report.ended (reverse lines) told;
 }
   where
     as_script : Lawful lines report

@@ -1,3 +1,4 @@
 mod Refusing
+mod Calming
 mod Causes
 mod Programs

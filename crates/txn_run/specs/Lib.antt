@@ -1,3 +1,4 @@
 pub mod Caused
 pub mod Refused
+pub mod Calm
 pub mod Program

@@ -11,6 +11,7 @@ use Rattle.txn_machine.specs.Lawful.{Lawful}
 use Rattle.txn_report.specs.declared.report.Report.{Report}
 use Rattle.txn_report.specs.Text.{text_of_report}
 use Rattle.txn_stream.specs.Bytes.{Rose, ReadsAll}
+use Rattle.txn_run.specs.Calm.{AreCalm}
 use Rattle.txn_run.specs.Caused.{HaveCauses}
 use Rattle.txn_run.specs.Refused.{AreExact}
 use Rattle.txn_run.specs.declared.program.End.{End}
@@ -34,8 +35,10 @@ pub record RanScript (bytes : List ℕ) (report : Report) : Type 0 where
   pub lawful : Lawful lines report
   -- and each call that failed has its cause
   pub causes : HaveCauses (reverse lines) report
-  -- and one is refused only by how far its transaction has come, and by what it has written
+  -- one is refused only by how far its transaction has come, and by what it has written
   pub exact : AreExact (reverse lines) report
+  -- and one with which nothing went wrong does not fail
+  pub calm : AreCalm (reverse lines) report
 
 -- the bytes are no script of the first path
 abbrev pub IsOther : List ℕ → Type 0
