@@ -1,4 +1,6 @@
-//! Requests to the placement driver, and what changes a store from outside.
+//! Requests to the placement driver, asks for timestamps, and what changes a store from outside.
+ghost use Rattle.std.specs.Prelude.{IfOk};
+ghost use Rattle.store_cases.specs.Serving.{IsServable};
 
 use crate::fault::Fault;
 use crate::words::{key, number, word};
@@ -14,6 +16,35 @@ const CLOCK_END: u64 = 1 << 44;
 
 /// The last timestamp has to stay below this.
 const LAST_END: u64 = 1 << 63;
+
+fn get_region(alloc: Global, words: &[&str]) -> Result<GetRegionRequest, Fault> {
+    let key = key(alloc, words, 1)?;
+    Ok(GetRegionRequest {
+        region_key: key.to_encoded()?,
+    })
+}
+
+/// The request of a line to the placement driver, if it is one.
+pub fn placing(alloc: Global, words: &[&str]) -> Result<Option<Request>, Fault>
+    ensures { IfOk result IsServable }
+{
+    let request = match word(words, 0)? {
+        "region" => Request::GetRegion(get_region(alloc, words)?),
+        "regionid" => Request::GetRegionById(GetRegionByIdRequest {
+            region_id: number(words, 1)?,
+        }),
+        "store" => Request::GetStore(GetStoreRequest {
+            store_id: number(words, 1)?,
+        }),
+        "stores" => Request::GetAllStores(GetAllStoresRequest),
+        "safepoint" => Request::UpdateGcSafePoint(UpdateGcSafePointRequest {
+            safe_point: number(words, 1)?,
+        }),
+        "members" => Request::Members(MembersRequest),
+        _ => return Ok(None),
+    };
+    Ok(Some(request))
+}
 
 fn tso(store: &mut ModelStore, count: u64) -> Result<Reply, Fault> {
     let Ok(count) = u32::try_from(count) else {
@@ -34,32 +65,16 @@ fn tsos(store: &mut ModelStore, times: u64, count: u64) -> Result<Reply, Fault> 
     Ok(last)
 }
 
-/// Serves a line to the placement driver, if it is one.
-pub fn placing(
-    alloc: Global,
-    store: &mut ModelStore,
-    words: &[&str],
-) -> Result<Option<Reply>, Fault> {
-    let reply = match word(words, 0)? {
-        "region" => store.serve(&Request::GetRegion(GetRegionRequest {
-            region_key: key(alloc, words, 1)?.to_encoded()?,
-        }))?,
-        "regionid" => store.serve(&Request::GetRegionById(GetRegionByIdRequest {
-            region_id: number(words, 1)?,
-        }))?,
-        "store" => store.serve(&Request::GetStore(GetStoreRequest {
-            store_id: number(words, 1)?,
-        }))?,
-        "stores" => store.serve(&Request::GetAllStores(GetAllStoresRequest))?,
-        "safepoint" => store.serve(&Request::UpdateGcSafePoint(UpdateGcSafePointRequest {
-            safe_point: number(words, 1)?,
-        }))?,
-        "members" => store.serve(&Request::Members(MembersRequest))?,
-        "tso" => tso(store, number(words, 1)?)?,
-        "tsos" => tsos(store, number(words, 1)?, number(words, 2)?)?,
-        _ => return Ok(None),
-    };
-    Ok(Some(reply))
+/// Serves a line that asks for timestamps, if it is one.
+pub fn timing(store: &mut ModelStore, words: &[&str]) -> Result<Option<Reply>, Fault> {
+    match word(words, 0)? {
+        "tso" => Ok(Some(tso(store, number(words, 1)?)?)),
+        "tsos" => {
+            let times = number(words, 1)?;
+            Ok(Some(tsos(store, times, number(words, 2)?)?))
+        }
+        _ => Ok(None),
+    }
 }
 
 /// Does what a line changes from outside, if it is one: whether it could be done.

@@ -1,15 +1,17 @@
 //! The cases, one after another.
+ghost use Rattle.std.specs.Prelude.{IfOk};
+ghost use Rattle.store_cases.specs.Serving.{IsServable};
 
 use crate::fault::Fault;
 use crate::locking::locking;
-use crate::placing::{moving, placing};
+use crate::placing::{moving, placing, timing};
 use crate::reading::reading;
 use crate::settling::settling;
 use crate::shown::{ShownCell, ShownReply};
 use crate::words::{number, number_or_none, word};
 use crate::writing::writing;
 use std::alloc::Global;
-use txn_kv::{ApiVersion, Context, Peer, RegionEpoch, Reply};
+use txn_kv::{ApiVersion, Context, Peer, RegionEpoch, Reply, Request};
 use txn_model::ModelStore;
 
 /// The store of a case, and the context of its requests.
@@ -98,21 +100,31 @@ impl Session {
         Ok(())
     }
 
-    fn reply(&mut self, words: &[&str]) -> Result<Option<Reply>, Fault> {
+    /// The request of a line, if it has one.
+    fn request(&self, words: &[&str]) -> Result<Option<Request>, Fault>
+        ensures { IfOk result IsServable }
+    {
         let (alloc, here) = (self.alloc, self.here);
-        if let Some(reply) = reading(alloc, &mut self.store, here, words)? {
-            return Ok(Some(reply));
+        if let Some(request) = reading(alloc, here, words)? {
+            return Ok(Some(request));
         }
-        if let Some(reply) = writing(alloc, &mut self.store, here, words)? {
-            return Ok(Some(reply));
+        if let Some(request) = writing(alloc, here, words)? {
+            return Ok(Some(request));
         }
-        if let Some(reply) = locking(alloc, &mut self.store, here, words)? {
-            return Ok(Some(reply));
+        if let Some(request) = locking(alloc, here, words)? {
+            return Ok(Some(request));
         }
-        if let Some(reply) = settling(alloc, &mut self.store, here, words)? {
-            return Ok(Some(reply));
+        if let Some(request) = settling(alloc, here, words)? {
+            return Ok(Some(request));
         }
-        placing(alloc, &mut self.store, words)
+        placing(alloc, words)
+    }
+
+    fn reply(&mut self, words: &[&str]) -> Result<Option<Reply>, Fault> {
+        match self.request(words)? {
+            Some(request) => Ok(Some(self.store.serve(&request)?)),
+            None => timing(&mut self.store, words),
+        }
     }
 
     /// Serves a line.

@@ -1,27 +1,31 @@
 //! Requests that write, commit and roll back.
+ghost use Rattle.std.specs.Prelude.{IfOk};
+ghost use Rattle.store_cases.specs.Serving.{IsServable};
 
 use crate::fault::Fault;
 use crate::words::{flags, key, keys, mutations, number, word};
 use std::alloc::Global;
 use txn_kv::{
-    BatchRollbackRequest, CleanupRequest, CommitRequest, Context, Items, PrewriteRequest, Reply,
-    Request, UnsafeDestroyRangeRequest,
+    BatchRollbackRequest, CleanupRequest, CommitRequest, Context, Items, PrewriteRequest, Request,
+    UnsafeDestroyRangeRequest,
 };
-use txn_model::ModelStore;
 
 fn prewrite(
     alloc: Global,
     here: Option<Context>,
     words: &[&str],
 ) -> Result<PrewriteRequest, Fault> {
+    let start_version = number(words, 1)?;
+    let lock_ttl = number(words, 3)?;
+    let for_update_ts = number(words, 4)?;
     Ok(PrewriteRequest {
         context: here,
         mutations: mutations(alloc, words, 5)?,
         primary_lock: key(alloc, words, 2)?,
-        start_version: number(words, 1)?,
-        lock_ttl: number(words, 3)?,
+        start_version,
+        lock_ttl,
         txn_size: 0,
-        for_update_ts: number(words, 4)?,
+        for_update_ts,
         is_pessimistic_lock: flags(alloc, words, 5)?,
         use_async_commit: false,
         try_one_pc: false,
@@ -29,37 +33,66 @@ fn prewrite(
     })
 }
 
-/// Serves a line that writes, if it is one.
-pub fn writing(
+fn commit(alloc: Global, here: Option<Context>, words: &[&str]) -> Result<CommitRequest, Fault> {
+    let start_version = number(words, 1)?;
+    let commit_version = number(words, 2)?;
+    Ok(CommitRequest {
+        context: here,
+        start_version,
+        commit_version,
+        keys: keys(alloc, words, 3)?,
+    })
+}
+
+fn cleanup(alloc: Global, here: Option<Context>, words: &[&str]) -> Result<CleanupRequest, Fault> {
+    let start_version = number(words, 1)?;
+    Ok(CleanupRequest {
+        context: here,
+        start_version,
+        key: key(alloc, words, 2)?,
+    })
+}
+
+fn rollback(
     alloc: Global,
-    store: &mut ModelStore,
     here: Option<Context>,
     words: &[&str],
-) -> Result<Option<Reply>, Fault> {
-    let reply = match word(words, 0)? {
-        "prewrite" => store.serve(&Request::Prewrite(prewrite(alloc, here, words)?))?,
-        "commit" => store.serve(&Request::Commit(CommitRequest {
-            context: here,
-            start_version: number(words, 1)?,
-            commit_version: number(words, 2)?,
-            keys: keys(alloc, words, 3)?,
-        }))?,
-        "cleanup" => store.serve(&Request::Cleanup(CleanupRequest {
-            context: here,
-            start_version: number(words, 1)?,
-            key: key(alloc, words, 2)?,
-        }))?,
-        "rollback" => store.serve(&Request::BatchRollback(BatchRollbackRequest {
-            context: here,
-            start_version: number(words, 1)?,
-            keys: keys(alloc, words, 2)?,
-        }))?,
-        "destroy" => store.serve(&Request::UnsafeDestroyRange(UnsafeDestroyRangeRequest {
-            context: here,
-            start_key: key(alloc, words, 1)?,
-            end_key: key(alloc, words, 2)?,
-        }))?,
+) -> Result<BatchRollbackRequest, Fault> {
+    let start_version = number(words, 1)?;
+    Ok(BatchRollbackRequest {
+        context: here,
+        start_version,
+        keys: keys(alloc, words, 2)?,
+    })
+}
+
+fn destroy(
+    alloc: Global,
+    here: Option<Context>,
+    words: &[&str],
+) -> Result<UnsafeDestroyRangeRequest, Fault> {
+    Ok(UnsafeDestroyRangeRequest {
+        context: here,
+        start_key: key(alloc, words, 1)?,
+        end_key: key(alloc, words, 2)?,
+    })
+}
+
+/// The request of a line that writes, if it is one.
+pub fn writing(
+    alloc: Global,
+    here: Option<Context>,
+    words: &[&str],
+) -> Result<Option<Request>, Fault>
+    ensures { IfOk result IsServable }
+{
+    let request = match word(words, 0)? {
+        "prewrite" => Request::Prewrite(prewrite(alloc, here, words)?),
+        "commit" => Request::Commit(commit(alloc, here, words)?),
+        "cleanup" => Request::Cleanup(cleanup(alloc, here, words)?),
+        "rollback" => Request::BatchRollback(rollback(alloc, here, words)?),
+        "destroy" => Request::UnsafeDestroyRange(destroy(alloc, here, words)?),
         _ => return Ok(None),
     };
-    Ok(Some(reply))
+    Ok(Some(request))
 }

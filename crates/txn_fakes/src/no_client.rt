@@ -1,14 +1,12 @@
 ghost use Rattle.std.specs.Prelude.{⊤, refl};
-ghost use Rattle.txn_region.specs.Refusals.{IsPlacementError};
 
 use txn_kv::{
-    Error, Key, Look, PdAnswer, PdQuery, Peer, RegionId, RegionVerId, RegionWithLeader, Result,
-    Timestamp,
+    Key, Look, PdAnswer, PdQuery, Peer, RegionId, RegionVerId, RegionWithLeader, Result, Timestamp,
 };
 use txn_region::{ApiV1TxnCodec, PdClient, RegionStore, Store};
 use txn_tso::{Cluster, PdCall, RetryClient};
 
-/// A client that knows nothing and refuses each look-up.
+/// A client that knows nothing: each look-up answers the query that has to be asked, and no answer is kept.
 #[derive(Drop)]
 pub struct NoClient {
     connection: RetryClient,
@@ -29,7 +27,7 @@ impl PdClient for NoClient {
 
     ghost asks = { λ _ _. ⊤ };
 
-    ghost refuses = { λ _ error. IsPlacementError error };
+    ghost refuses = { λ _ _. ⊥ };
 
     ghost is_at = { λ _ _ _. ⊤ };
 
@@ -47,20 +45,20 @@ impl PdClient for NoClient {
 
     ghost codec = { λ c. c.codec };
 
-    fn region_for_key(&mut self, _key: &Key) -> Result<Look<RegionWithLeader>> {
-        Err(Error::RegionNotFoundInResponse { region_id: 0 })
+    fn region_for_key(&mut self, key: &Key) -> Result<Look<RegionWithLeader>> {
+        Ok(Look::Query(PdQuery::Region(key.try_clone()?)))
     }
 
-    fn region_for_id(&mut self, _id: RegionId, _waited: u32) -> Result<Look<RegionWithLeader>> {
-        Err(Error::RegionNotFoundInResponse { region_id: 0 })
+    fn region_for_id(&mut self, id: RegionId, _waited: u32) -> Result<Look<RegionWithLeader>> {
+        Ok(Look::Query(PdQuery::RegionId(id)))
     }
 
-    fn map_region_to_store(&mut self, _region: RegionWithLeader) -> Result<Look<RegionStore>> {
-        Err(Error::RegionNotFoundInResponse { region_id: 0 })
+    fn map_region_to_store(&mut self, region: RegionWithLeader) -> Result<Look<RegionStore>> {
+        Ok(Look::Query(PdQuery::Store(region.get_store_id()?)))
     }
 
     fn all_stores(&mut self) -> Result<Look<Vec<Store>>> {
-        Err(Error::RegionNotFoundInResponse { region_id: 0 })
+        Ok(Look::Query(PdQuery::Stores))
     }
 
     fn get_timestamp(&mut self) -> Look<Timestamp> {
@@ -79,8 +77,11 @@ impl PdClient for NoClient {
         &mut self.connection
     }
 
-    fn learn(&mut self, _query: &PdQuery, _answer: &Result<PdAnswer>) -> Result<()> {
-        Err(Error::OutOfMemory)
+    fn learn(&mut self, _query: &PdQuery, answer: &Result<PdAnswer>) -> Result<()> {
+        match answer {
+            Ok(_) => Ok(()),
+            Err(error) => Err(error.try_clone()?),
+        }
     }
 
     fn update_leader(&mut self, _ver_id: &RegionVerId, _leader: Peer) -> Result<()> {
@@ -92,8 +93,6 @@ impl PdClient for NoClient {
     fn get_codec(&self) -> &ApiV1TxnCodec {
         &self.codec
     }
-
-    ghost refuses_so = { λ look error refused. refused };
 
     ghost looked_same = { λ c. tt };
 

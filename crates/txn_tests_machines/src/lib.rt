@@ -4,4 +4,6 @@
 #[cfg(test)]
 mod first;
 #[cfg(test)]
+mod fixtures;
+#[cfg(test)]
 mod machine;

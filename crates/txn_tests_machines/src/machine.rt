@@ -1,12 +1,11 @@
 ghost use Rattle.std.specs.Prelude.{◌≡◌, []};
 ghost use Rattle.txn_tests_machines.specs.Nobody.{nobody_at, none, none_due};
 
+use crate::fixtures::assert_shown;
 use std::alloc::Global;
-use std::test::Fail;
-use txn_kv::{Items, Key, NoMemory, Reply, Request, Ticket};
+use txn_kv::{NoMemory, Reply, Request, Ticket};
 use txn_lines::{BeginOptions, Line};
 use txn_machine::*;
-use txn_report::Outcome;
 use txn_side::{Act, ClientSide, Turn};
 
 /// The clients of a run that has none.
@@ -31,7 +30,7 @@ impl ClientSide for Nobody {
 
     ghost account = { λ s n. new_account };
 
-    ghost fails = { λ heard error. ⊥ };
+    ghost fails = { λ rolls heard error. ⊥ };
 
     ghost rests = { λ s trace. ⊤ };
 
@@ -86,15 +85,6 @@ impl ClientSide for Nobody {
     }
 }
 
-/// What no line has sent.
-fn unsent() -> Ticket {
-    Ticket {
-        line: 2,
-        beat: false,
-        number: 1,
-    }
-}
-
 fn no_clients(alloc: Global) -> Nobody
     ensures { result.lines.items ≡ [] }
 {
@@ -103,44 +93,58 @@ fn no_clients(alloc: Global) -> Nobody
     }
 }
 
+/// What no line has sent.
+const UNSENT: Ticket = Ticket {
+    line: 2,
+    beat: false,
+    number: 1,
+};
+
 #[test]
-fn a_machine_runs_line_by_line(rt: HostRuntime) -> Result<(), Fail> {
-    let mut machine = Machine::new(rt.alloc(), no_clients(rt.alloc()))?;
+fn a_machine_runs_line_by_line(rt: HostRuntime) {
+    let alloc = rt.alloc();
+    let mut machine = Machine::new(alloc, no_clients(alloc)).expect(&rt, "memory");
     assert_eq!(rt; machine.check(&Line::Blank), None);
-    let first = machine.step(Line::Blank)?;
-    assert_eq!(rt; first.place, 1);
-    assert!(rt; matches!(first.outcome, Outcome::Done));
-    let second = machine.step(Line::Serve { ticket: unsent() })?;
-    assert_eq!(rt; second.place, 2);
-    assert!(rt; matches!(second.outcome, Outcome::Skipped));
-    assert_eq!(rt; second.sent.len(), 0);
-    assert_eq!(rt; second.ended.len(), 0);
-    Ok(())
+    let first = machine.step(Line::Blank).expect(&rt, "memory");
+    assert_shown(
+        &rt,
+        alloc,
+        &first,
+        "StepNote { place: 1, outcome: Done, sent: Items { vec: [] }, ended: Items { vec: [] } }",
+    );
+    let serve = Line::Serve { ticket: UNSENT };
+    let second = machine.step(serve).expect(&rt, "memory");
+    assert_shown(
+        &rt,
+        alloc,
+        &second,
+        "StepNote { place: 2, outcome: Skipped, sent: Items { vec: [] }, ended: Items { vec: [] } }",
+    );
 }
 
 #[test]
-fn a_report_has_the_outcomes_and_the_store(rt: HostRuntime) -> Result<(), Fail> {
-    let mut machine = Machine::new(rt.alloc(), no_clients(rt.alloc()))?;
-    machine.step(Line::Clock { ms: 5 })?;
-    machine.step(Line::Lead {
+fn a_report_has_the_outcomes_and_the_store(rt: HostRuntime) {
+    let alloc = rt.alloc();
+    let mut machine = Machine::new(alloc, no_clients(alloc)).expect(&rt, "memory");
+    machine.step(Line::Clock { ms: 5 }).expect(&rt, "memory");
+    let lead = Line::Lead {
         region: 7,
         store: 2,
-    })?;
+    };
+    machine.step(lead).expect(&rt, "memory");
     let report = machine.report();
     assert_eq!(rt; report.store.clock(), 5);
     assert_eq!(rt; report.ended.as_slice(), [1, 2].as_slice());
-    let outcomes = report.outcomes.as_slice();
-    assert!(rt; matches!(outcomes.first(), Some(Outcome::Done)));
-    assert!(rt; matches!(outcomes.last(), Some(Outcome::Skipped)));
-    Ok(())
+    let outcomes = "Items { vec: [Done, Skipped] }";
+    assert_shown(&rt, alloc, &report.outcomes, outcomes);
 }
 
 #[test]
-fn lines_are_run_to_a_report(rt: HostRuntime) -> Result<(), Fail> {
+fn lines_are_run_to_a_report(rt: HostRuntime) {
     let alloc = rt.alloc();
-    let lines = vec![in alloc; Line::Blank, Line::Clock { ms: 5 }]?;
-    let report = run_lines(alloc, no_clients(alloc), lines)?;
+    let lines = vec![in alloc; Line::Blank, Line::Clock { ms: 5 }];
+    let lines = lines.expect(&rt, "memory");
+    let report = run_lines(alloc, no_clients(alloc), lines).expect(&rt, "memory");
     assert_eq!(rt; report.store.clock(), 5);
     assert_eq!(rt; report.ended.as_slice(), [1, 2].as_slice());
-    Ok(())
 }

@@ -1,11 +1,10 @@
 ghost use Rattle.std.specs.Prelude.{◌≡◌, ⊤, refl, true};
 ghost use Rattle.txn_region.specs.Clients.{IsFoundAt};
-ghost use Rattle.txn_region.specs.Refusals.{IsPlacementError};
 
 use std::alloc::Global;
 use std::process::Abort;
 use txn_kv::{
-    Error, Key, Look, PdAnswer, PdQuery, Peer, Region, RegionEpoch, RegionId, RegionVerId,
+    Key, Look, PdAnswer, PdQuery, Peer, Region, RegionEpoch, RegionId, RegionVerId,
     RegionWithLeader, Result, Timestamp,
 };
 use txn_region::{ApiV1TxnCodec, PdClient, RegionStore, Store};
@@ -119,7 +118,7 @@ impl PdClient for Regions {
 
     ghost asks = { λ _ _. ⊤ };
 
-    ghost refuses = { λ _ error. IsPlacementError error };
+    ghost refuses = { λ _ _. ⊥ };
 
     ghost is_at = { λ _ _ _. ⊤ };
 
@@ -138,22 +137,20 @@ impl PdClient for Regions {
     ghost codec = { λ c. c.codec };
 
     fn region_for_key(&mut self, key: &Key) -> Result<Look<RegionWithLeader>> {
-        if !self.knows_region {
-            return Ok(Look::Query(PdQuery::Region(key.try_clone()?)));
-        }
-        for region in &self.regions {
-            if holds(region, key) {
-                return Ok(Look::Found(region.try_clone()?));
+        if self.knows_region {
+            for region in &self.regions {
+                if holds(region, key) {
+                    return Ok(Look::Found(region.try_clone()?));
+                }
             }
         }
-        Err(Error::RegionNotFoundInResponse { region_id: 0 })
+        Ok(Look::Query(PdQuery::Region(key.try_clone()?)))
     }
 
-    fn region_for_id(&mut self, _id: RegionId, _waited: u32) -> Result<Look<RegionWithLeader>> {
-        Err(Error::RegionNotFoundInResponse { region_id: 0 })
+    fn region_for_id(&mut self, id: RegionId, _waited: u32) -> Result<Look<RegionWithLeader>> {
+        Ok(Look::Query(PdQuery::RegionId(id)))
     }
 
-    #[tactic(auto, using(txn_region::specs::Refusals::store_refused))]
     fn map_region_to_store(&mut self, region: RegionWithLeader) -> Result<Look<RegionStore>> {
         let store = region.get_store_id()?;
         if !self.knows_store {
@@ -164,7 +161,7 @@ impl PdClient for Regions {
     }
 
     fn all_stores(&mut self) -> Result<Look<Vec<Store>>> {
-        Err(Error::RegionNotFoundInResponse { region_id: 0 })
+        Ok(Look::Query(PdQuery::Stores))
     }
 
     fn get_timestamp(&mut self) -> Look<Timestamp> {
@@ -210,8 +207,6 @@ impl PdClient for Regions {
     fn get_codec(&self) -> &ApiV1TxnCodec {
         &self.codec
     }
-
-    ghost refuses_so = { λ look error refused. refused };
 
     ghost looked_same = { λ c. tt };
 

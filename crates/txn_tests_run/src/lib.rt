@@ -2,4 +2,6 @@
 #![tactic(auto)]
 
 #[cfg(test)]
-mod run;
+mod bad_lines;
+#[cfg(test)]
+mod runs;

@@ -50,6 +50,29 @@ fn is_aimed(errands: &[Errand]) -> bool {
     }
 }
 
+/// Whether one look-up of a region is posted.
+fn asks_for_a_region(errands: &[Errand]) -> bool {
+    match errands {
+        [
+            Errand::Send {
+                to: Target::Placement,
+                request: Request::GetRegion(..),
+                ..
+            },
+        ] => true,
+        _ => false,
+    }
+}
+
+fn found_nothing(alloc: Global) -> Reply {
+    Reply::Get(GetResponse {
+        region_error: None,
+        error: None,
+        value: Value::new(alloc),
+        not_found: true,
+    })
+}
+
 #[test]
 fn a_request_goes_to_the_store_that_is_named(rt: HostRuntime) {
     let alloc = rt.alloc();
@@ -61,17 +84,19 @@ fn a_request_goes_to_the_store_that_is_named(rt: HostRuntime) {
     assert!(rt; is_aimed(line.errands()));
 }
 
-/// The client refuses to look a region up, which is the answer.
+/// The client knows no region, so that the one of the key is asked for. A reply of another kind is refused, which is the answer.
 #[test]
 fn the_shards_of_a_request_are_looked_for(rt: HostRuntime) {
     let alloc = rt.alloc();
     let builder = PlanBuilder::new(alloc, request(alloc)).retry_multi_region(Backoff::no_backoff());
     let mut line = Line::new(alloc, builder.plan(), FewRegions::new(None));
-    let progress = line.start(&rt);
+    line.start(&rt);
+    assert!(rt; asks_for_a_region(line.errands()));
+    let progress = line.reply(&rt, 1, found_nothing(alloc));
     let seen = format!(in alloc; "{progress:?}").expect(&rt, "memory");
     assert_eq!(rt;
         seen.as_str(),
-        "Done(Err(RegionNotFoundInResponse { region_id: 0 }))"
+        "Done(Err(InternalError { what: WrongReply }))"
     );
 }
 
@@ -84,13 +109,7 @@ fn the_reply_of_the_one_region_is_the_answer(rt: HostRuntime) {
     let mut line = Line::new(alloc, plan, FewRegions::new(Some(region(alloc))));
     line.start(&rt);
     assert!(rt; is_aimed(line.errands()));
-    let reply = Reply::Get(GetResponse {
-        region_error: None,
-        error: None,
-        value: Value::new(alloc),
-        not_found: true,
-    });
-    let progress = line.reply(&rt, 1, reply);
+    let progress = line.reply(&rt, 1, found_nothing(alloc));
     let seen = format!(in alloc; "{progress:?}").expect(&rt, "memory");
     assert_eq!(rt;
         seen.as_str(),

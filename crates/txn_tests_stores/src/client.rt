@@ -1,15 +1,14 @@
 ghost use Rattle.std.specs.Prelude.{◌≡◌, ⊤, refl, true};
 ghost use Rattle.txn_region.specs.Clients.{IsFoundAt};
-ghost use Rattle.txn_region.specs.Refusals.{IsPlacementError};
 
 use txn_kv::{
-    Error, Key, Look, PdAnswer, PdQuery, Peer, RegionId, RegionVerId, RegionWithLeader, Result,
-    Timestamp,
+    Key, Look, PdAnswer, PdQuery, Peer, RegionId, RegionVerId, RegionWithLeader, Result, Timestamp,
 };
 use txn_region::{ApiV1TxnCodec, PdClient, RegionStore, Store};
 use txn_tso::{Cluster, PdCall, RetryClient};
 
-/// A client that knows one region or none, refuses each other look-up, and believes each answer.
+/// A client that knows one region or none: each other look-up answers the query that has to be asked. It believes each answer, and
+/// keeps none.
 #[derive(Drop)]
 pub struct FewRegions {
     known: Option<RegionStore>,
@@ -43,7 +42,7 @@ impl PdClient for FewRegions {
 
     ghost asks = { λ _ _. ⊤ };
 
-    ghost refuses = { λ _ error. IsPlacementError error };
+    ghost refuses = { λ _ _. ⊥ };
 
     ghost is_at = { λ _ _ _. ⊤ };
 
@@ -68,22 +67,22 @@ impl PdClient for FewRegions {
                 return Ok(Look::Found(region.try_clone()?));
             }
         }
-        Err(Error::RegionNotFoundInResponse { region_id: 0 })
+        Ok(Look::Query(PdQuery::Region(key.try_clone()?)))
     }
 
-    fn region_for_id(&mut self, _id: RegionId, _waited: u32) -> Result<Look<RegionWithLeader>> {
-        Err(Error::RegionNotFoundInResponse { region_id: 0 })
+    fn region_for_id(&mut self, id: RegionId, _waited: u32) -> Result<Look<RegionWithLeader>> {
+        Ok(Look::Query(PdQuery::RegionId(id)))
     }
 
     fn map_region_to_store(&mut self, region: RegionWithLeader) -> Result<Look<RegionStore>> {
         match &self.known {
             Some(known) => Ok(Look::Found(RegionStore::new(region, known.store))),
-            None => Err(Error::RegionNotFoundInResponse { region_id: 0 }),
+            None => Ok(Look::Query(PdQuery::Store(region.get_store_id()?))),
         }
     }
 
     fn all_stores(&mut self) -> Result<Look<Vec<Store>>> {
-        Err(Error::RegionNotFoundInResponse { region_id: 0 })
+        Ok(Look::Query(PdQuery::Stores))
     }
 
     fn get_timestamp(&mut self) -> Look<Timestamp> {
@@ -118,8 +117,6 @@ impl PdClient for FewRegions {
     fn get_codec(&self) -> &ApiV1TxnCodec {
         &self.codec
     }
-
-    ghost refuses_so = { λ look error refused. refused };
 
     ghost looked_same = { λ c. tt };
 

@@ -1,12 +1,12 @@
 //! The plans of a transaction's requests.
 ghost use Rattle.std.specs.Prelude.{IsSome};
 
-use super::client::NoClient;
 use std::alloc::Global;
 use std::test::Fail;
 use txn_commit::PlanFor;
 use txn_commit_plans::over_regions::plan_over_regions;
 use txn_commit_plans::{BatchRollbackPlan, CommitPlan, PrewritePlan, TransactionPlan, laws, send};
+use txn_fakes::NoClient;
 use txn_kv::{
     Backoff, BatchRollbackRequest, CommitRequest, Errand, Error, GetRequest, GetResponse, Items,
     Key, Outbox, PrewriteRequest, Progress, Reply, Target, Value,

@@ -1,8 +1,8 @@
 //! A client of three regions, below [10], below [250, 250] and from there on, led by stores 41, 42 and 43.
-ghost use Rattle.std.specs.Prelude.{◌≡◌, true, IfErr, IfOk, refl};
-ghost use Rattle.txn_region.specs.Clients.{IsFoundAt, OrStarved};
+ghost use Rattle.std.specs.Prelude.{◌≡◌, true, IfErr, IfOk, IfSome, refl};
+ghost use Rattle.txn_kv.specs.declared.errors.Error.TheVariants.{OutOfMemory};
+ghost use Rattle.txn_region.specs.Clients.{IsFoundAt};
 ghost use Rattle.txn_region.specs.Regions.{is_below};
-ghost use Rattle.txn_region.specs.Refusals.{IsPlacementError};
 
 use crate::fixtures::key;
 use std::alloc::Global;
@@ -76,16 +76,16 @@ fn holds(region: &RegionWithLeader, key: &Key) -> bool
         && region.leader.is_some()
 }
 
-fn region_at(regions: &[RegionWithLeader], key: &Key) -> Result<RegionWithLeader>
-    ensures ok { IfOk result (IsFoundAt key.now) }
-    ensures why { IfErr result (OrStarved IsPlacementError) }
+fn region_at(regions: &[RegionWithLeader], key: &Key) -> Result<Option<RegionWithLeader>>
+    ensures ok { IfOk result (λ found. IfSome found (IsFoundAt key.now)) }
+    ensures why { IfErr result (λ error. error ≡ OutOfMemory) }
 {
     for region in regions {
         if holds(region, key) {
-            return Ok(region.try_clone()?);
+            return Ok(Some(region.try_clone()?));
         }
     }
-    Err(Error::RegionNotFoundInResponse { region_id: 0 })
+    Ok(None)
 }
 
 impl PdClient for ThreeRegions {
@@ -93,7 +93,7 @@ impl PdClient for ThreeRegions {
 
     ghost asks = { λ c q. Unit {0} };
 
-    ghost refuses = { λ look error. IsPlacementError error };
+    ghost refuses = { λ id error. ⊥ };
 
     ghost is_at = { λ c region store. Unit {0} };
 
@@ -112,18 +112,19 @@ impl PdClient for ThreeRegions {
     ghost codec = { λ c. c.codec };
 
     fn region_for_key(&mut self, key: &Key) -> Result<Look<RegionWithLeader>> {
-        if self.left == 0 {
-            return Ok(Look::Query(PdQuery::Region(key.try_clone()?)));
+        if self.left > 0
+            && let Some(region) = region_at(self.regions.as_slice(), key)?
+        {
+            self.left -= 1;
+            return Ok(Look::Found(region));
         }
-        self.left -= 1;
-        Ok(Look::Found(region_at(self.regions.as_slice(), key)?))
+        Ok(Look::Query(PdQuery::Region(key.try_clone()?)))
     }
 
     fn region_for_id(&mut self, id: RegionId, _waited: u32) -> Result<Look<RegionWithLeader>> {
         Ok(Look::Query(PdQuery::RegionId(id)))
     }
 
-    #[tactic(auto, using(txn_region::specs::Refusals::store_refused))]
     fn map_region_to_store(&mut self, region: RegionWithLeader) -> Result<Look<RegionStore>> {
         let store = region.get_store_id()?;
         Ok(Look::Found(RegionStore::new(region, store)))
@@ -162,8 +163,6 @@ impl PdClient for ThreeRegions {
     fn get_codec(&self) -> &ApiV1TxnCodec {
         &self.codec
     }
-
-    ghost refuses_so = { λ look error refused. refused };
 
     ghost looked_same = { λ c. tt };
 

@@ -7,4 +7,4 @@ pub returns-clause-waits : goal.returns-clause-waits
 returns-clause-waits c = none_waits_on NoneHeard [] _ _
 
 pub returns-clause-rests : goal.returns-clause-rests
-returns-clause-rests c t posted called refused was = none_rests t
+returns-clause-rests c t posted called refused rolls was = none_rests t
