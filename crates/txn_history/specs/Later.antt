@@ -32,7 +32,8 @@ IsLater-trans p q = record {
 pub IsLater-ticket : {o later : Posted} → IsLater o later → (n : ℕ) → ticket_of later n ≡ ticket_of o n
 IsLater-ticket p n = rw (p.line, p.beat) refl
 
-numbers_rise : (first ask : ℕ) (rs : List Errand) (next next_ask : ℕ) → AreNumbered first ask rs next next_ask → (first ≤ next) × (ask ≤ next_ask)
+-- the numbers given do not fall
+pub numbers_rise : (first ask : ℕ) (rs : List Errand) (next next_ask : ℕ) → AreNumbered first ask rs next next_ask → (first ≤ next) × (ask ≤ next_ask)
 numbers_rise first ask [] next next_ask n = (rw n.0 (le_refl first), rw n.1 (le_refl ask))
 numbers_rise first ask (Send k to r ∷ rs) next next_ask n = let m = numbers_rise (first + 1) ask rs next next_ask n.1 in (le_trans (le-add_right first 1) m.0, m.1)
 numbers_rise first ask (Sleep k ms ∷ rs) next next_ask n = let m = numbers_rise (first + 1) ask rs next next_ask n.1 in (le_trans (le-add_right first 1) m.0, m.1)

@@ -5,16 +5,11 @@ use Rattle.txn_kv.specs.declared.outbox.Errand.TheVariants.{Send, Sleep, Ask}
 use Rattle.txn_history.specs.Among.{IsAmong}
 use Rattle.txn_history.specs.Event.{Event}
 use Rattle.txn_history.specs.Event.Event.{Sent, Began, Asked}
+use Rattle.txn_history.specs.Later.{numbers_rise}
 use Rattle.txn_history.specs.Meaning.{WasPosted}
 use Rattle.txn_history.specs.Phase.{Awaited, awaited, IsPosted}
 use Rattle.txn_history.specs.Phase.Awaited.{ReplyTo, EndOf, TimeOf}
 use Rattle.txn_history.specs.Posted.{after, posting, ticket_of, AreNumbered, Errand, Posted, Within-after}
-
-numbers_rise : (first ask : ℕ) (rs : List Errand) (next next_ask : ℕ) → AreNumbered first ask rs next next_ask → (first ≤ next) × (ask ≤ next_ask)
-numbers_rise first ask [] next next_ask n = (omega (arith, n.0), omega (arith, n.1))
-numbers_rise first ask (Send k to r ∷ rs) next next_ask n = let m = numbers_rise (first + 1) ask rs next next_ask n.1 in (omega (arith, m.0), m.1)
-numbers_rise first ask (Sleep k ms ∷ rs) next next_ask n = let m = numbers_rise (first + 1) ask rs next next_ask n.1 in (omega (arith, m.0), m.1)
-numbers_rise first ask (Ask k ∷ rs) next next_ask n = let m = numbers_rise first (ask + 1) rs next next_ask n.1 in (m.0, omega (arith, m.1))
 
 -- its number is one of these or a later one
 abbrev pub IsFrom : ℕ → ℕ → Awaited → Type 0
