@@ -1,9 +1,15 @@
 -- What is known of the Commits of a primary stays true as their requests are answered, are lost, and are sent.
-use Rattle.std.proofs.Common.{◌≡◌, ◌≢◌, ◌⊎◌, inl, inr, ℕ, Bool, true, false, ◌&&◌, ◌||◌, List, [], ◌∷◌, Option, Some, None, nat_eq, refl, sym, subst, ◌∙◌, arith}
-use Rattle.std.specs.Prelude.{not, cond, if◌then◌else◌}
+use Rattle.std.proofs.Common.{◌≡◌, ◌≢◌, ◌⊎◌, inl, inr, ℕ, Bool, true, false, ◌&&◌, ◌||◌, List, [], ◌∷◌, Option, Some, None, nat_eq, refl, sym, ap, subst, ◌∙◌, arith}
+use Rattle.std.specs.Prelude.{not, cond, if◌then◌else◌, is_none}
 use Rattle.std.specs.List.{list_any}
 use Rattle.std.proofs.lemmas.Bool.Decides.{nat_tests}
+use Rattle.txn_kv.specs.Timestamp.{version_of}
+use Rattle.txn_kv.specs.declared.message.KeyError.{KeyError}
+use Rattle.txn_kv.specs.declared.message.RegionErr.{RegionErr}
 use Rattle.txn_kv.specs.declared.reply.Reply.{Reply}
+use Rattle.txn_kv.specs.declared.reply.Reply.TheVariants as replies
+use Rattle.txn_kv.specs.declared.timestamp.Timestamp.{Timestamp}
+use Rattle.txn_kv.specs.declared.request.CommitRequest.{CommitRequest}
 use Rattle.txn_kv.specs.declared.request.Request.{Request}
 use Rattle.txn_kv.specs.declared.request.Request.TheVariants.{Commit}
 use Rattle.txn_kv.specs.declared.ticket.Ticket.{Ticket}
@@ -12,7 +18,7 @@ use Rattle.txn_history.specs.Event.{Event, Has, bool_eq, same_ticket}
 use Rattle.txn_history.specs.Event.Event.{Sent, Took, Lost}
 use Rattle.txn_history.specs.Meaning.{IsSent}
 use Rattle.txn_history.specs.Plan.{Plan}
-use Rattle.txn_commit.specs.Following.{Commits, KnowsCommits, PrimaryLost, PrimarySent, answered, is_out, lost, or_ticket, without}
+use Rattle.txn_commit.specs.Following.{Commits, CommitsPrimary, IsRefusal, KnowsCommits, PrimaryLost, PrimarySent, answered, is_done, is_out, lost, or_ticket, without}
 
 -- tickets
 
@@ -100,7 +106,7 @@ knows_more plan s c e h never k = record {
   waiting = λ t a. sent_more plan s e h t (k.waiting t a);
   losing = λ t l. lost_more plan s e h t (k.losing t l);
   all = λ t r g p. elim (k.all t r (sent_before e h t (Commit r) never g) p) [
-    | inl w ↦ inl (w.0, inr w.1)
+    | inl w ↦ inl (w.0, inr w.1, w.2)
     | inr w ↦ inr w
   ];
 }
@@ -122,24 +128,48 @@ lost_is t q r f = λ i. Lost t (sym f i)
 only_one : (t u : Ticket) (q r : Request) (h : List Event) → IsSent t q h → Has h (Sent u r) → u ≡ t → r ≡ q
 only_one t u q r h known g e = known.alone r (subst (λ v. Has h (Sent v r)) e g)
 
+-- a reply that does not say that it is done at this time refuses each request that names it
+not_done : (time : Option Timestamp) (t : Timestamp) (r : CommitRequest) (o : Reply) → time ≡ Some t → version_of t ≡ r.commit_version → is_done time o ≡ false → IsRefusal r o
+not_done time t r (replies.Commit o) some names not = λ regional keyed same.
+    let done : is_done (Some t) (replies.Commit o) ≡ true = committed o.region_error o.error regional keyed (same ∙ sym names) in
+    absurd (let both = sym done ∙ ap (λ x. is_done x (replies.Commit o)) (sym some) ∙ not in cc)
+  where
+    committed : (region : Option RegionErr) (error : Option KeyError) → region ≡ None → error ≡ None → o.commit_version ≡ version_of t → (is_none region && is_none error && nat_eq o.commit_version (version_of t)) ≡ true
+    committed None None a b e = grind (arith, nat_tests)
+    committed (Some x) error a b e = absurd (cc)
+    committed None (Some x) a b e = absurd (cc)
+not_done time t r _ some names not = tt
+
 pub knows_answered : (plan : Plan) (s : ℕ) (c : Commits) (t : Ticket) (q : Request) (o : Reply) (h : List Event)
-    → IsSent t q h → KnowsCommits plan s c h → KnowsCommits plan s (answered t c) (Took t q o ∷ h)
-knows_answered plan s c t q o h known k = let m = knows_more plan s c (Took t q o) h (took_no_sending t q o) k in record {
-  named = m.named;
-  since = m.since;
-  waiting = λ u a. m.waiting u (among_without t c.out u a);
-  losing = m.losing;
-  all = λ u r g p. elim (k.all u r (sent_before (Took t q o) h u (Commit r) (took_no_sending t q o) g) p) [
-    | inl w ↦ inl (w.0, inr w.1)
-    | inr w ↦ elim w [
-      | inl l ↦ inr (inl l)
-      | inr a ↦ elim (without_among t c.out u a) [
-        | inl e ↦ inl (o, inl (took_is t u q (Commit r) o e (only_one t u q (Commit r) h known (sent_before (Took t q o) h u (Commit r) (took_no_sending t q o) g) e)))
-        | inr b ↦ inr (inr b)
-      ]
-    ]
-  ];
-}
+    → IsSent t q h → KnowsCommits plan s c h → KnowsCommits plan s (answered t o c) (Took t q o ∷ h)
+knows_answered plan s c t q o h known k = by (is_done c.timestamp o) refl
+  where
+    m : KnowsCommits plan s c (Took t q o ∷ h)
+    m = knows_more plan s c (Took t q o) h (took_no_sending t q o) k
+
+    refused : is_done c.timestamp o ≡ false → (u : Ticket) (r : CommitRequest) → Has h (Sent u (Commit r)) → CommitsPrimary plan s r → IsRefusal r o
+    refused not u r sent p = let n = k.named r.commit_version (u, r, sent, p.start, refl, p.primary) in not_done c.timestamp n.0 r o n.1 n.2 not
+
+    by : (b : Bool) → is_done c.timestamp o ≡ b → KnowsCommits plan s (if b then c else record c { out = without t c.out }) (Took t q o ∷ h)
+    by true e = m
+    by false e = record {
+      named = m.named;
+      since = m.since;
+      waiting = λ u a. m.waiting u (among_without t c.out u a);
+      losing = m.losing;
+      all = λ u r g p.
+          let sent = sent_before (Took t q o) h u (Commit r) (took_no_sending t q o) g in
+          elim (k.all u r sent p) [
+            | inl w ↦ inl (w.0, inr w.1, w.2)
+            | inr w ↦ elim w [
+              | inl l ↦ inr (inl l)
+              | inr a ↦ elim (without_among t c.out u a) [
+                | inl same ↦ inl (o, inl (took_is t u q (Commit r) o same (only_one t u q (Commit r) h known sent same)), refused e u r sent p)
+                | inr b ↦ inr (inr b)
+              ]
+            ]
+          ];
+    }
 
 -- a request is lost
 some_lost : (o : Option Ticket) (t : Ticket) → or_ticket o t ≢ None

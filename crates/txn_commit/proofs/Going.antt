@@ -14,14 +14,14 @@ use Rattle.txn_history.specs.Meaning.{Expects, Goes, GoesOn, IsLawful, IsUnbegun
 use Rattle.txn_history.specs.Phase.{Awaited, IsPosted, IsRunning, Phase, phase_after, unheard}
 use Rattle.txn_history.specs.Phase.Awaited.{TimeOf}
 use Rattle.txn_history.specs.Phase.Phase.{Fresh, GivenUp, Over, Running}
-use Rattle.txn_history.specs.Posted.{Posted}
+use Rattle.txn_history.specs.Posted.{Posted, ticket_of}
 use Rattle.txn_history.specs.Turn.{HasEnded, IfKept, IfKept-all, IfKept-out, IfKept-stopped, Turn}
 use Rattle.txn_history.specs.Turn.Turn.{Stopped, Waits, Ends}
 use Rattle.txn_history.proofs.Telling.{Expects-quiet, Expects-then, Goes-then}
 use Rattle.txn_tso.specs.declared.stage.Stage.{Stage as Call_stage}
 use Rattle.txn_tso.specs.declared.stage.Stage.TheVariants as tso
 use Rattle.txn_commit.specs.Committing.{CommitterFits, IsAt, Ways}
-use Rattle.txn_commit.specs.Following.{Commits, awaits, heard, is_out, lost, or_ticket, sent, without}
+use Rattle.txn_commit.specs.Following.{Commits, awaits, heard, is_done, is_out, lost, or_ticket, sent, without}
 use Rattle.txn_commit.specs.Going.{CommitterExpects, CommitterGoes, Opens, Relays, Resumes, Settles, stage_phase, stage_waits}
 use Rattle.txn_commit.specs.Timing.{HasBegun, time_asked, time_asked-lawful}
 use Rattle.txn_commit.specs.declared.committer.CommitterAnswer.{CommitterAnswer}
@@ -116,7 +116,11 @@ lost_other t c e = by (is_out t c) e
     by false f = refl
 
 pub heard_other : (a : Arrival) (o : Posted) (c : Commits) → awaits a o c ≡ false → heard a o c ≡ c
-heard_other (arrival.Reply n x) o c e = ap (λ (ts : List Ticket). record c { out = ts }) (not_out _ c.out e)
+heard_other (arrival.Reply n x) o c e = by (is_done c.timestamp x)
+  where
+    by : (b : Bool) → (if b then c else record c { out = without (ticket_of o n) c.out }) ≡ c
+    by true = refl
+    by false = ap (λ (ts : List Ticket). record c { out = ts }) (not_out _ c.out e)
 heard_other (arrival.Lost n) o c e = lost_other _ c e
 heard_other (arrival.Slept n) o c e = refl
 heard_other (arrival.Time n x) o c e = refl

@@ -3,6 +3,7 @@ use Rattle.std.proofs.Common.{◌≡◌, ◌⊎◌, inl, inr, ℕ, Bool, true, f
 use Rattle.std.specs.Prelude.{if◌then◌else◌}
 use Rattle.txn_kv.specs.Timestamp.{version_of}
 use Rattle.txn_kv.specs.declared.outbox.Errand.TheVariants.{Send, Sleep, Ask}
+use Rattle.txn_kv.specs.declared.reply.Reply.{Reply}
 use Rattle.txn_kv.specs.declared.request.CommitRequest.{CommitRequest}
 use Rattle.txn_kv.specs.declared.request.Request.{Request}
 use Rattle.txn_kv.specs.declared.request.Request.TheVariants.{Commit}
@@ -13,7 +14,7 @@ use Rattle.txn_history.specs.Event.{Event}
 use Rattle.txn_history.specs.Event.Event.{Sent, Took, Lost, Slept, Began, Asked, Answered}
 use Rattle.txn_history.specs.Plan.{Plan}
 use Rattle.txn_history.specs.Posted.{Errand, Licensed, Posted, after, posting, ticket_of}
-use Rattle.txn_commit.specs.Following.{Commits, CommitsPrimary, KnowsCommits, and_sent, and_ticket, commit_tickets, heard, is_commit, is_out, lost, sent}
+use Rattle.txn_commit.specs.Following.{Commits, CommitsPrimary, KnowsCommits, and_sent, and_ticket, answered, commit_tickets, heard, is_commit, is_done, is_out, lost, or_ticket, sent, without}
 use Rattle.txn_commit.specs.Plans.{IsForeign, IsOfCommit}
 use Rattle.txn_commit.proofs.Following.{IsNoSending, knows_answered, knows_lost, knows_more, lost_more, sent_more}
 use Rattle.txn_commit.proofs.Sending.{IsNoCommit, commits_primary, knows_quiet}
@@ -47,12 +48,19 @@ knows_heard plan s c (arrival.Time n x) o r h known k = knows_more plan s c (Ans
 lost_time : (t : Ticket) (c : Commits) → (lost t c).timestamp ≡ c.timestamp
 lost_time t c = by (is_out t c)
   where
-    by : (b : Bool) → (if b then record c { out = Rattle.txn_commit.specs.Following.without t c.out; lost = Rattle.txn_commit.specs.Following.or_ticket c.lost t } else c).timestamp ≡ c.timestamp
+    by : (b : Bool) → (if b then record c { out = without t c.out; lost = or_ticket c.lost t } else c).timestamp ≡ c.timestamp
+    by true = refl
+    by false = refl
+
+answered_time : (t : Ticket) (x : Reply) (c : Commits) → (answered t x c).timestamp ≡ c.timestamp
+answered_time t x c = by (is_done c.timestamp x)
+  where
+    by : (b : Bool) → (if b then c else record c { out = without t c.out }).timestamp ≡ c.timestamp
     by true = refl
     by false = refl
 
 pub heard_time : (a : Arrival) (o : Posted) (c : Commits) → (heard a o c).timestamp ≡ c.timestamp
-heard_time (arrival.Reply n x) o c = refl
+heard_time (arrival.Reply n x) o c = answered_time (ticket_of o n) x c
 heard_time (arrival.Lost n) o c = lost_time (ticket_of o n) c
 heard_time (arrival.Slept n) o c = refl
 heard_time (arrival.Time n x) o c = refl
@@ -100,7 +108,7 @@ knows_one plan s c t q time h v p same k = record {
   all = λ u r g w. elim g [
     | inl f ↦ inr (inr (subst (λ x. IsAmong (c.out ++ t ∷ []) x) (commit_is t u q r f).0 (among_last c.out t)))
     | inr g ↦ elim (k.all u r g w) [
-      | inl x ↦ inl (x.0, inr x.1)
+      | inl x ↦ inl (x.0, inr x.1, x.2)
       | inr x ↦ elim x [
         | inl l ↦ inr (inl l)
         | inr a ↦ inr (inr (among_first c.out t u a))

@@ -13,7 +13,7 @@ use Rattle.txn_history.specs.Licence.{AllAcknowledged, CommitsAnswered, PrimaryR
 use Rattle.txn_history.specs.Plan.{Key, has_key, Plan}
 use Rattle.txn_history.specs.Posted.{Errand, Licensed, Within, after, posting}
 use Rattle.txn_commit.specs.Committing.{IsReady}
-use Rattle.txn_commit.specs.Following.{Commits, CommitsPrimary, KnowsCommits, undetermined}
+use Rattle.txn_commit.specs.Following.{Commits, CommitsPrimary, KnowsCommits, WasRefused, undetermined}
 use Rattle.txn_commit.specs.Plans.{IsForeign, IsOfCommit, IsOfPrewrite, IsOfRollback}
 use Rattle.txn_commit.specs.Sending.{MaySend, PrimaryMayGo}
 use Rattle.txn_commit.proofs.Following.{IsNoSending, lost_more, sent_more}
@@ -84,7 +84,7 @@ knows_quiet plan s c t r h n k = record {
   waiting = λ u a. sent_more plan s (Sent t r) h u (k.waiting u a);
   losing = λ u l. lost_more plan s (Sent t r) h u (k.losing u l);
   all = λ u q g p. elim (k.all u q (commit_before t u r q h n g) p) [
-    | inl w ↦ inl (w.0, inr w.1)
+    | inl w ↦ inl (w.0, inr w.1, w.2)
     | inr w ↦ inr w
   ];
 }
@@ -96,15 +96,18 @@ none_out None [] e = (refl, refl)
 none_out None (t ∷ ts) e = absurd (cc)
 none_out (Some t) out e = absurd (cc)
 
-pub settled_answered : (plan : Plan) (s : ℕ) (c : Commits) (h : List Event) → undetermined c ≡ None → KnowsCommits plan s c h → CommitsAnswered plan h s
-settled_answered plan s c h u k t r g e f = let n = none_out c.lost c.out u in
-    elim (k.all t r g (record { start = e; primary = f })) [
+pub settled_refused : (plan : Plan) (s : ℕ) (c : Commits) (h : List Event) → undetermined c ≡ None → KnowsCommits plan s c h → (t : Ticket) (r : CommitRequest) → Has h (Sent t (Commit r)) → CommitsPrimary plan s r → WasRefused h t r
+settled_refused plan s c h u k t r g p = let n = none_out c.lost c.out u in
+    elim (k.all t r g p) [
       | inl w ↦ w
       | inr w ↦ elim w [
         | inl l ↦ absurd (l n.0)
         | inr a ↦ absurd (subst (λ ts. IsAmong ts t) n.1 a)
       ]
     ]
+
+pub settled_answered : (plan : Plan) (s : ℕ) (c : Commits) (h : List Event) → undetermined c ≡ None → KnowsCommits plan s c h → CommitsAnswered plan h s
+settled_answered plan s c h u k t r g e f = let w = settled_refused plan s c h u k t r g (record { start = e; primary = f }) in (w.0, w.1)
 
 -- facts of the history stay true as it grows
 

@@ -1,10 +1,11 @@
 -- The Commits of a transaction's primary, and what became of them.
-use Rattle.std.specs.Prelude.{◌≡◌, ◌≢◌, ◌⊎◌, ℕ, Bool, true, false, not, if◌then◌else◌, List, [], ◌∷◌, ◌++◌, filter, Option, Some, None}
+use Rattle.std.specs.Prelude.{◌≡◌, ◌≢◌, ◌⊎◌, ⊤, ℕ, nat_eq, Bool, true, false, ◌&&◌, not, if◌then◌else◌, List, [], ◌∷◌, ◌++◌, filter, Option, Some, None, is_none}
 use Rattle.std.specs.List.{list_any}
 use Rattle.txn_kv.specs.Timestamp.{version_of}
 use Rattle.txn_kv.specs.declared.outbox.Errand.{Errand}
 use Rattle.txn_kv.specs.declared.outbox.Errand.TheVariants.{Send, Sleep, Ask}
 use Rattle.txn_kv.specs.declared.reply.Reply.{Reply}
+use Rattle.txn_kv.specs.declared.reply.Reply.TheVariants as replies
 use Rattle.txn_kv.specs.declared.request.CommitRequest.{CommitRequest}
 use Rattle.txn_kv.specs.declared.request.Request.{Request}
 use Rattle.txn_kv.specs.declared.request.Request.TheVariants.{Commit}
@@ -19,7 +20,7 @@ use Rattle.txn_history.specs.Posted.{Posted, ticket_of}
 use Rattle.txn_plan.specs.declared.arrival.Arrival.{Arrival}
 use Rattle.txn_plan.specs.declared.arrival.Arrival.TheVariants.{Reply as Reply_came, Lost as Was_lost, Slept as Has_slept, Time as Time_came}
 
--- the timestamp that they name, once one was sent; those that are neither answered nor lost; and the first that was lost
+-- the timestamp that they name, once one was sent; those that are neither refused nor lost; and the first that was lost
 pub record Commits : Type 0 where
   pub timestamp : Option Timestamp
   pub out : List Ticket
@@ -34,9 +35,14 @@ without t ts = filter (λ u. not (same_ticket u t)) ts
 abbrev pub is_out : Ticket → Commits → Bool
 is_out t c = list_any (λ u. same_ticket u t) c.out
 
--- a reply was taken
-abbrev pub answered : Ticket → Commits → Commits
-answered t c = record c { out = without t c.out }
+-- the reply says that what was sent at this timestamp is committed
+abbrev pub is_done : Option Timestamp → Reply → Bool
+is_done (Some time) (replies.Commit o) = is_none o.region_error && is_none o.error && nat_eq o.commit_version (version_of time)
+is_done time o = false
+
+-- a reply was taken: one that does not say so is a refusal
+abbrev pub answered : Ticket → Reply → Commits → Commits
+answered t x c = if is_done c.timestamp x then c else record c { out = without t c.out }
 
 abbrev pub or_ticket : Option Ticket → Ticket → Option Ticket
 or_ticket None t = Some t
@@ -48,7 +54,7 @@ lost t c = if is_out t c then record c { out = without t c.out; lost = or_ticket
 
 -- what the line of this outbox was told of
 abbrev pub heard : Arrival → Posted → Commits → Commits
-heard (Reply_came n x) o c = answered (ticket_of o n) c
+heard (Reply_came n x) o c = answered (ticket_of o n) x c
 heard (Was_lost n) o c = lost (ticket_of o n) c
 heard (Has_slept n) o c = c
 heard (Time_came n x) o c = c
@@ -90,7 +96,7 @@ abbrev pub or_first : Option Ticket → List Ticket → Option Ticket
 or_first (Some t) out = Some t
 or_first None out = first_of out
 
--- one that was lost or is still out: whether the transaction is committed is not known
+-- one that was lost, or that is not refused: it may have committed the transaction
 abbrev pub undetermined : Commits → Option Ticket
 undetermined c = or_first c.lost c.out
 
@@ -109,12 +115,21 @@ PrimarySent plan s h t = (r : CommitRequest) × Has h (Sent t (Commit r)) × Com
 abbrev pub PrimaryLost : Plan → ℕ → List Event → Ticket → Type 0
 PrimaryLost plan s h t = (r : CommitRequest) × Has h (Lost t (Commit r)) × CommitsPrimary plan s r
 
+-- the reply does not say that what was sent is committed
+abbrev pub IsRefusal : CommitRequest → Reply → Type 0
+IsRefusal r (replies.Commit o) = o.region_error ≡ None → o.error ≡ None → o.commit_version ≢ r.commit_version
+IsRefusal r o = ⊤
+
+-- one was sent with this ticket, and was refused
+abbrev pub WasRefused : List Event → Ticket → CommitRequest → Type 0
+WasRefused h t r = (o : Reply) × Has h (Took t (Commit r) o) × IsRefusal r o
+
 -- Each that was sent names the one timestamp, and one was sent that does. What is out was sent, and the first that was lost was. Each that was sent was
--- answered, or is out, or one was lost.
+-- refused, or is out, or one was lost.
 pub record KnowsCommits (plan : Plan) (s : ℕ) (c : Commits) (h : List Event) : Type 0 where
   pub named : (d : ℕ) → WasNamed plan h s d → (t : Timestamp) × (c.timestamp ≡ Some t) × (version_of t ≡ d)
   pub since : (t : Timestamp) → c.timestamp ≡ Some t → WasNamed plan h s (version_of t)
   pub waiting : (t : Ticket) → IsAmong c.out t → PrimarySent plan s h t
   pub losing : (t : Ticket) → c.lost ≡ Some t → PrimaryLost plan s h t
   pub all : (t : Ticket) (r : CommitRequest) → Has h (Sent t (Commit r)) → CommitsPrimary plan s r
-      → ((o : Reply) × Has h (Took t (Commit r) o)) ⊎ ((c.lost ≢ None) ⊎ IsAmong c.out t)
+      → WasRefused h t r ⊎ ((c.lost ≢ None) ⊎ IsAmong c.out t)

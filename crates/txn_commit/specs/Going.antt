@@ -1,5 +1,5 @@
 -- Where a commit or a rollback stands, and what it waits for.
-use Rattle.std.specs.Prelude.{◌≡◌, Result}
+use Rattle.std.specs.Prelude.{◌≡◌, Bool, true, false, Result}
 use Rattle.txn_history.specs.Meaning.{Expects, Goes, GoesOn, Meaning}
 use Rattle.txn_history.specs.Phase.{Awaited, Phase, phase_after, unheard}
 use Rattle.txn_history.specs.Phase.Phase.{GivenUp, Over}
@@ -33,6 +33,12 @@ stage_waits w (stage.RollingBackPrimary k) a = w.rolling.waits k a
 stage_waits w (stage.RollingBackOthers k) a = w.rolling.waits k a
 stage_waits w stage.Over a = ⊥
 stage_waits w stage.Stopped a = ⊥
+
+-- it rolls back
+abbrev pub rolls_back : {P Q K : Type 0} → Stage P Q K → Bool
+rolls_back (stage.RollingBackPrimary k) = true
+rolls_back (stage.RollingBackOthers k) = true
+rolls_back s = false
 
 -- an event call of it, which is `meant` for it where it waits for that
 abbrev pub CommitterGoes : {P Q K A B D C : Type 0} → Ways P Q K A B D → Type 0

@@ -1,8 +1,8 @@
 //! Laws of the definitions, as contracts of functions that do nothing.
-ghost use Rattle.std.specs.Prelude.{ℕ, ◌+◌, ◌≡◌, ◌≢◌, ◌≤◌, ◌∷◌, List, Ok, Option, Some, false, length, true};
+ghost use Rattle.std.specs.Prelude.{ℕ, ◌+◌, ◌≡◌, ◌≢◌, ◌≤◌, ◌∷◌, List, None, Ok, Option, Some, false, length, true};
 ghost use Rattle.txn_buffer.specs.Contents.{Contents};
 ghost use Rattle.txn_history.specs.Event.{Event, Has};
-ghost use Rattle.txn_history.specs.Event.Event.{Answered, Took, Lost};
+ghost use Rattle.txn_history.specs.Event.Event.{Answered, Sent, Took, Lost};
 ghost use Rattle.txn_history.specs.Licence.{IsLicensed, WantedAfter, WasAskedFor};
 ghost use Rattle.txn_history.specs.Meaning.{IsSent, WasPosted};
 ghost use Rattle.txn_history.specs.Phase.{Awaited};
@@ -12,13 +12,14 @@ ghost use Rattle.txn_history.specs.Posted.{Posted};
 ghost use Rattle.txn_kv.specs.Timestamp.{version_of};
 ghost use Rattle.txn_kv.specs.declared.reply.Reply.{Reply};
 ghost use Rattle.txn_kv.specs.declared.request.Request.{Request};
-ghost use Rattle.txn_kv.specs.declared.request.Request.TheVariants.{UnsafeDestroyRange};
+ghost use Rattle.txn_kv.specs.declared.request.CommitRequest.{CommitRequest as Committing};
+ghost use Rattle.txn_kv.specs.declared.request.Request.TheVariants.{Commit, UnsafeDestroyRange};
 ghost use Rattle.txn_kv.specs.declared.request.UnsafeDestroyRangeRequest.{UnsafeDestroyRangeRequest};
 ghost use Rattle.txn_kv.specs.declared.ticket.Ticket.{Ticket};
 ghost use Rattle.txn_kv.specs.declared.timestamp.Timestamp.{Timestamp};
 ghost use Rattle.txn_commit.specs.Committing.{CommitterFits, ways};
 ghost use Rattle.txn_commit.specs.Counting.{Costs, IsOneEach, commit_costs, rollback_costs};
-ghost use Rattle.txn_commit.specs.Following.{Commits, KnowsCommits, answered, awaits, heard, lost};
+ghost use Rattle.txn_commit.specs.Following.{Commits, CommitsPrimary, KnowsCommits, WasRefused, answered, awaits, heard, lost, undetermined};
 ghost use Rattle.txn_commit.specs.Going.{stage_phase, stage_waits};
 ghost use Rattle.txn_commit.specs.Parts.{AreDistinct, parts_of};
 ghost use Rattle.txn_commit.specs.Plans.{IsForeign};
@@ -33,8 +34,13 @@ use txn_kv::{BatchRollbackRequest, CommitRequest, PrewriteRequest};
 
 /// What is known of the Commits of a primary is known of them once a reply was taken, or a request was lost.
 pub fn commits_are_followed()
-    ensures answered { (plan : Plan) (s : ℕ) (c : Commits) (t : Ticket) (q : Request) (o : Reply) (h : List Event) → IsSent t q h → KnowsCommits plan s c h → KnowsCommits plan s (answered t c) (Took t q o ∷ h) }
+    ensures answered { (plan : Plan) (s : ℕ) (c : Commits) (t : Ticket) (q : Request) (o : Reply) (h : List Event) → IsSent t q h → KnowsCommits plan s c h → KnowsCommits plan s (answered t o c) (Took t q o ∷ h) }
     ensures lost { (plan : Plan) (s : ℕ) (c : Commits) (t : Ticket) (q : Request) (h : List Event) → IsSent t q h → KnowsCommits plan s c h → KnowsCommits plan s (lost t c) (Lost t q ∷ h) }
+{}
+
+/// Where it is known that the transaction is not committed, each Commit of its primary was refused.
+pub fn what_is_determined_was_refused()
+    ensures { (plan : Plan) (s : ℕ) (c : Commits) (h : List Event) → undetermined c ≡ None → KnowsCommits plan s c h → (t : Ticket) (r : Committing) → Has h (Sent t (Commit r)) → CommitsPrimary plan s r → WasRefused h t r }
 {}
 
 /// What a transaction may send has its licence, where a timestamp that an ask was answered with was asked for.

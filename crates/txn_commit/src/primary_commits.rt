@@ -1,18 +1,18 @@
 ghost use Rattle.std.specs.Prelude.{◌≡◌, ◌<◌, ◌++◌, IfSome, OnErr, OnOk, drop, filter, length, not};
 ghost use Rattle.txn_history.specs.Event.{same_ticket};
 ghost use Rattle.txn_kv.specs.Timestamp.{HasVersion};
-ghost use Rattle.txn_commit.specs.Following.{answered, commit_tickets, heard, is_commit, is_out, lost, none_sent, sent, undetermined, without};
+ghost use Rattle.txn_commit.specs.Following.{answered, commit_tickets, heard, is_commit, is_done, is_out, lost, none_sent, sent, undetermined, without};
 
 use std::alloc::Global;
 use std::marker::Model;
-use txn_kv::{Errand, NoMemory, Outbox, Request, Ticket, Timestamp};
+use txn_kv::{Errand, NoMemory, Outbox, Reply, Request, Ticket, Timestamp, TimestampExt};
 use txn_plan::Arrival;
 
 /// The Commits of a transaction's primary: the timestamp that all of them name, once one was sent, and what became of them.
 #[derive(Debug, Drop)]
 pub struct PrimaryCommits {
     timestamp: Option<Timestamp>,
-    /// Those that are neither answered nor lost.
+    /// Those that are neither refused nor lost.
     out: Vec<Ticket>,
     /// The first that was lost.
     lost: Option<Ticket>,
@@ -51,10 +51,13 @@ impl PrimaryCommits {
         self.timestamp
     }
 
-    /// The request of this ticket was answered. Takes no memory.
-    pub fn take(&mut self, ticket: Ticket)
-        ensures { self.new ≡ answered ticket self.old }
+    /// The request of this ticket was answered. A Commit whose reply does not say that it was done is out no more. Takes no memory.
+    pub fn take(&mut self, ticket: Ticket, reply: &Reply)
+        ensures { self.new ≡ answered ticket reply.now self.old }
     {
+        if is_done(self.timestamp, reply) {
+            return;
+        }
         drop_ticket(&mut self.out, ticket);
     }
 
@@ -76,7 +79,7 @@ impl PrimaryCommits {
         ensures { self.new ≡ heard arrival.now out.now self.old }
     {
         match arrival {
-            Arrival::Reply { number, .. } => self.take(out.ticket(*number)),
+            Arrival::Reply { number, reply } => self.take(out.ticket(*number), reply),
             Arrival::Lost { number } => self.lose(out.ticket(*number)),
             Arrival::Slept { .. } => {}
             Arrival::Time { .. } => {}
@@ -109,7 +112,7 @@ impl PrimaryCommits {
         Ok(())
     }
 
-    /// One that was lost, or that is out: it is not known whether the transaction is committed.
+    /// One that was lost, or that is not refused: it may have committed the transaction.
     pub fn undetermined(&self) -> Option<Ticket>
         ensures { result ≡ undetermined self.now }
     {
@@ -117,6 +120,19 @@ impl PrimaryCommits {
             Some(ticket) => Some(ticket),
             None => self.out.first().copied(),
         }
+    }
+}
+
+/// The reply says that what was sent at this timestamp is committed.
+fn is_done(timestamp: Option<Timestamp>, reply: &Reply) -> bool
+    requires { IfSome timestamp HasVersion }
+    ensures { result ≡ is_done timestamp reply.now }
+{
+    match (timestamp, reply) {
+        (Some(time), Reply::Commit(it)) => {
+            it.region_error.is_none() && it.error.is_none() && it.commit_version == time.version()
+        }
+        _ => false,
     }
 }
 

@@ -26,13 +26,13 @@ use Rattle.txn_commit_plans.specs.CausesOfLookUps.{query_failed}
 abbrev pub IsExplained : List Event → Error → Type 0
 IsExplained h e = HasCause (heard_in h) (view_of e) ⊎ ((ask : Ticket) × Has h (Answered ask (Err e)))
 
--- What a commit or a rollback answers that failed: such an error. Where this Commit of the primary was lost or is out it is
+-- What a commit or a rollback answers that failed: such an error. Where this Commit of the primary was lost or is not refused it is
 -- not known whether the transaction is committed, and the answer says so and holds such an error.
 abbrev pub IsCallExplained : Option Ticket → List Event → Error → Type 0
 IsCallExplained None h e = IsExplained h e
 IsCallExplained (Some t) h e = (inner : Error) × (view_of e ≡ not_known (view_of inner)) × IsExplained h inner
 
--- What is known of the Commit of the primary that a refused rollback names: it was lost; or none was, and it is out.
+-- What is known of the Commit of the primary that a refused rollback names: it was lost; or none was, and it is not refused.
 abbrev pub IsRefusalExplained : Plan → ℕ → Commits → Ticket → List Event → Type 0
 IsRefusalExplained plan s c t h = PrimaryLost plan s h t ⊎ ((c.lost ≡ None) × PrimarySent plan s h t)
 

@@ -34,7 +34,7 @@ use Rattle.txn_core.specs.declared.transaction.Work.TheVariants.{Idle, Open, Gav
 
 -- newer events
 
-newer_or_older : (newer h : List Event) (e : Event) → Has (newer ++ h) e → Has newer e ⊎ Has h e
+pub newer_or_older : (newer h : List Event) (e : Event) → Has (newer ++ h) e → Has newer e ⊎ Has h e
 newer_or_older [] h e i = inr i
 newer_or_older (x ∷ newer) h e (inl f) = inl (inl f)
 newer_or_older (x ∷ newer) h e (inr i) = elim (newer_or_older newer h e i) [ inl j ↦ inl (inr j) | inr j ↦ inr j ]
@@ -86,7 +86,7 @@ knows_on plan s c newer h n k = record {
   waiting = λ u a. let w = k.waiting u a in (w.0, older newer h _ w.1, w.2);
   losing = λ u l. let w = k.losing u l in (w.0, older newer h _ w.1, w.2);
   all = λ u r g p. elim (k.all u r (sent_before (CommitsPrimary plan s) newer h u r n p g) p) [
-    | inl w ↦ inl (w.0, older newer h _ w.1)
+    | inl w ↦ inl (w.0, older newer h _ w.1, w.2)
     | inr w ↦ inr w
   ];
 }

@@ -137,7 +137,7 @@ pub record IsCommitted {Q : Type 0} (start t : Timestamp) (parts : CommitParts) 
   pub primary : PrimaryCommitted (plan_of parts) h (version_of start) (version_of t)
   pub others : IsJobFor start t parts.secondaries job
 
--- An error, where this Commit of the primary was lost or is out: the transaction may be committed, and that is what is said,
+-- An error, where this Commit of the primary was lost or is not refused: the transaction may be committed, and that is what is said,
 -- with the error that it ended with. Where there is none it is that error itself.
 abbrev pub FailsWith : {P Q K A B D : Type 0} → Ways P Q K A B D → ℕ → CommitParts → Option Ticket → List Event → Error → Type 0
 FailsWith w s parts None h e = CommitterGives w s parts h (Err e)
@@ -184,7 +184,7 @@ pub record TakesUp {P Q K A B D : Type 0} (w : Ways P Q K A B D) (call : Committ
   pub still : IfKept turn ((h : List Event) → KnowsCall w call old o inner h → TransactionFits w new o h)
   pub done : IfEnds turn (λ v. (h : List Event) → KnowsCall w call old o inner h → TransactionGives w old.start old.contents new.commits h v)
 
--- the name of a failure: what is said of it where a Commit of the primary was lost or is out
+-- the name of a failure: what is said of it where a Commit of the primary was lost or is not refused
 abbrev pub IsNamed : Option Ticket → Error → Error → Type 0
 IsNamed None inner e = e ≡ inner
 IsNamed (Some t) inner e = view_of e ≡ not_known (view_of inner)
@@ -217,7 +217,7 @@ pub record IsSameCall {P Q K : Type 0} (call now : CommitterCall P Q K) : Type 0
   pub start : now.start ≡ call.start
   pub parts : now.parts ≡ call.parts
 
--- It is refused: whether it is committed is not known, since this Commit of the primary was lost or is out.
+-- It is refused: whether it is committed is not known, since this Commit of the primary was lost or is not refused.
 abbrev pub IsUndetermined : {Q : Type 0} → Ticket → Turn (Result (TxnAnswer Q) Error) → Type 0
 IsUndetermined t Stopped = ⊤
 IsUndetermined t Waits = ⊥

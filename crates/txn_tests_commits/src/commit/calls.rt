@@ -255,7 +255,8 @@ fn all_is_prewritten_before_the_primary_is_committed(rt: HostRuntime) -> Result<
     assert!(rt; sent.undetermined().is_some());
     let end = tell(&mut call, &mut sent, committed(2), &mut pd, &mut out)?;
     assert!(rt; matches!(end, Progress::Done(Ok(CommitterAnswer::Committed(_)))));
-    assert!(rt; sent.undetermined().is_none());
+    // It was done, and not refused.
+    assert!(rt; sent.undetermined().is_some());
     Ok(())
 }
 

@@ -5,7 +5,8 @@ use std::test::Fail;
 use txn_buffer::Buffer;
 use txn_commit::{CommitParts, PrimaryCommits};
 use txn_kv::{
-    CommitRequest, Items, Key, NoMemory, Outbox, Request, Target, Ticket, Timestamp, Value,
+    CommitRequest, CommitResponse, Items, Key, KeyError, NoMemory, Outbox, Reply, Request, Target,
+    Ticket, Timestamp, Value,
 };
 
 fn key(alloc: Global, name: &str) -> Result<Key, NoMemory> {
@@ -61,6 +62,14 @@ fn a_commit(alloc: Global) -> Request {
     })
 }
 
+fn a_reply(error: Option<KeyError>) -> Reply {
+    Reply::Commit(CommitResponse {
+        region_error: None,
+        error,
+        commit_version: 2,
+    })
+}
+
 fn two() -> Timestamp
     ensures { HasVersion result }
 {
@@ -72,7 +81,7 @@ fn two() -> Timestamp
 }
 
 #[test]
-fn a_commit_is_followed_until_it_is_answered(rt: HostRuntime) -> Result<(), Fail> {
+fn a_commit_is_followed_until_it_is_refused(rt: HostRuntime) -> Result<(), Fail> {
     let alloc = rt.alloc();
     let mut commits = PrimaryCommits::new(alloc);
     let mut out = Outbox::new(alloc, 6, false);
@@ -81,7 +90,12 @@ fn a_commit_is_followed_until_it_is_answered(rt: HostRuntime) -> Result<(), Fail
     commits.send(&out, 1, two())?;
     assert_eq!(rt; commits.timestamp(), Some(two()));
     assert_eq!(rt; commits.undetermined(), Some(ticket(2)));
-    commits.take(ticket(2));
+    commits.take(ticket(2), &a_reply(None));
+    assert_eq!(rt; commits.undetermined(), Some(ticket(2)));
+    let gone = KeyError::PessimisticLockNotFound {
+        key: key(alloc, "a")?,
+    };
+    commits.take(ticket(2), &a_reply(Some(gone)));
     assert_eq!(rt; commits.undetermined(), None);
     Ok(())
 }
@@ -94,7 +108,7 @@ fn a_commit_that_was_lost_stays_so(rt: HostRuntime) -> Result<(), Fail> {
     out.send(Target::Store(1), a_commit(alloc))?;
     commits.send(&out, 0, two())?;
     commits.lose(ticket(1));
-    commits.take(ticket(1));
+    commits.take(ticket(1), &a_reply(None));
     assert_eq!(rt; commits.undetermined(), Some(ticket(1)));
     Ok(())
 }
