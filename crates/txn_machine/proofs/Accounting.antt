@@ -105,7 +105,7 @@ module _ (line : Line) (ls : List Line) (old new : Lists) (told : newest old ≡
       by (UsesTransaction b x) h = elim h [ inl i ↦ none i.none | inr a ↦ own a.alone ]
       by NoCall h = elim h.ends [ inl is ↦ none is | inr t ↦ absurd (let a = t.1 in cc) ]
 
-  stays : tells line ≡ false → (j : ℕ) → j ≤ length ls → (outcome_of new.outcomes j ≡ outcome_of old.outcomes j) × (ended_of new.ended j ≡ ended_of old.ended j)
+  pub stays : tells line ≡ false → (j : ℕ) → j ≤ length ls → (outcome_of new.outcomes j ≡ outcome_of old.outcomes j) × (ended_of new.ended j ≡ ended_of old.ended j)
   stays quiet j low =
       let far : j ≢ suc (length ls) = λ here. absurd (omega arith) in
       let k = apart line ls old told ordered.even good caused.rows new c j far in

@@ -16,9 +16,9 @@ use Rattle.txn_machine.specs.Rows.{AllSleptBefore, AreFates, Caused, Row, outcom
 use Rattle.txn_machine.specs.Rows.Row.{Acted, AskFailed, AskSkipped, AskWaits, Begun, CallFailed, CallSkipped, CallWaits, Happened, Made, Over, Timed, Works}
 use Rattle.txn_machine.specs.Running.{AreNumbered, IsOrdered}
 use Rattle.txn_machine.specs.Script.{Folded, does, find, history, is_done, outcome_of, with_sends}
-use Rattle.txn_machine.specs.Steps.{done_if}
+use Rattle.txn_machine.specs.Steps.{does_it, done_if}
 use Rattle.txn_machine.proofs.Caused.{apart, changes, known_same, mid_count, none_here, over_is, seen_now, some_here}
-use Rattle.txn_machine.proofs.Courses.{Course, does_it, own_done}
+use Rattle.txn_machine.proofs.Courses.{Course, own_done}
 use Rattle.txn_machine.proofs.Events.{event_meets}
 use Rattle.txn_machine.proofs.Fates.{Fates, began_by, fates_posted, posted_began, posted_slept, sends_none, slept_more}
 use Rattle.txn_machine.proofs.Finds.{found_by, looked_up}

@@ -24,7 +24,7 @@ use Rattle.txn_machine.specs.Causes.Role.{AsksTime, MakesClient, NoCall, UsesTra
 use Rattle.txn_machine.specs.Lists.{Lists, fated, followed, handled, opened, outright, reply_at, request_at, with_mail, with_sight, with_store}
 use Rattle.txn_machine.specs.Running.{with_own}
 use Rattle.txn_machine.specs.Script.{is_done}
-use Rattle.txn_machine.specs.Steps.{Answers, AtPlace, Delivers, Hears, IfServable, IsBusy, Loses, Refuses, Serves, Steps, Takes, Wakes, called, done_if, found_asleep, found_out, skipped}
+use Rattle.txn_machine.specs.Steps.{Answers, AtPlace, Delivers, Hears, IfServable, IsBusy, Loses, Refuses, Serves, Steps, Takes, Wakes, called, does_it, done_if, found_asleep, found_out, skipped, test_at}
 
 -- it is skipped, and the clients stay as they were
 pub record IsIdle (can : Bool) (own : Option Outcome) (ended : List Ending) (s from : Sight) : Type 0 where
@@ -71,26 +71,7 @@ Begins (AsksTime b k) line own ended s from = IsIdle (is_live s k) own ended s f
 Begins (UsesTransaction b x) line own ended s from = IsIdle (is_free s x) own ended s from ⊎ IsCalled x b own ended s from
 Begins NoCall line own ended s from = IsEvent line own ended s from
 
--- What an event does, and when.
-
-abbrev pub test_at : (ℕ → Bool) → Option ℕ → Bool
-test_at test None = false
-test_at test (Some k) = test k
-
--- an event is done
-abbrev pub does_it : Line → Lists → Bool
-does_it lines.Blank l = true
-does_it (lines.Serve t) l = test_at (λ k. true) (found_unserved l.mail t)
-does_it (lines.Answer t) l = test_at (λ k. is_some (letter_at l.mail k).kept) (found_out l t)
-does_it (lines.Deliver t) l = test_at (λ k. can_be_served l.mail k) (found_out l t)
-does_it (lines.Lose t) l = test_at (λ k. true) (found_out l t)
-does_it (lines.Busy t) l = test_at (λ k. can_be_served l.mail k && is_some (busy_reply (request_at l k))) (found_out l t)
-does_it (lines.Wake t) l = test_at (λ k. true) (found_asleep l t)
-does_it (lines.Split key) l = can_split l.store key
-does_it (lines.Lead region store) l = can_lead l.store region store
-does_it (lines.Clock ms) l = true
-does_it (lines.Crash client) l = is_live l.sight client
-does_it line l = false
+-- What an event does.
 
 -- the letter of the request that the ticket names changes
 pub record Changes (t : Ticket) (change : ℕ → Letter → Letter) (l : Lists) (mail : Mail) : Type 0 where

@@ -18,10 +18,9 @@ use Rattle.txn_machine.specs.Causes.Role.{NoCall}
 use Rattle.txn_machine.specs.Lists.{Lists, opened, request_at, request_in}
 use Rattle.txn_machine.specs.Rows.{AreOwned, AreRows, Fate, IsFate, IsUnsent}
 use Rattle.txn_machine.specs.Script.{outcome_of}
-use Rattle.txn_machine.specs.Steps.{done_if, found_asleep, found_out}
+use Rattle.txn_machine.specs.Steps.{does_it, done_if, found_asleep, found_out, test_at}
 use Rattle.txn_post.proofs.Naming.{opened_leads}
 use Rattle.txn_machine.proofs.Calms.{stand_opened}
-use Rattle.txn_machine.proofs.Courses.{does_it, test_at}
 use Rattle.txn_machine.proofs.Fates.{Fates}
 use Rattle.txn_machine.proofs.Idles.{crash_names, live_is, live_of}
 

@@ -25,7 +25,7 @@ use Rattle.txn_machine.specs.Lists.{Lists, all_posted, followed, newest, opened,
 use Rattle.txn_machine.specs.Rows.{Caused}
 use Rattle.txn_machine.specs.Running.{IsOrdered}
 use Rattle.txn_machine.specs.Script.{Folded, does, find, history, outcome_of, with_sends}
-use Rattle.txn_machine.specs.Steps.{Steps}
+use Rattle.txn_machine.specs.Steps.{Steps, does_it}
 use Rattle.txn_machine.specs.Times.{Timely}
 use Rattle.txn_machine.proofs.Accounting.{QuietBy, calm_was, change, quiet_by}
 use Rattle.txn_machine.proofs.Alive.{before_next, before_old}
@@ -33,7 +33,7 @@ use Rattle.txn_machine.proofs.Calms.{outcome_past}
 use Rattle.txn_machine.proofs.Carried.{history_now, looked, same_history}
 use Rattle.txn_machine.proofs.Caused.{done_is, mid_count}
 use Rattle.txn_machine.proofs.Closings.{RoleBy, asked_same, role_by}
-use Rattle.txn_machine.proofs.Courses.{Course, course, does_it, own_done}
+use Rattle.txn_machine.proofs.Courses.{Course, course, own_done}
 use Rattle.txn_machine.proofs.Credits.{all_count}
 use Rattle.txn_machine.proofs.Folds.{Stepped, stepped}
 use Rattle.txn_machine.proofs.Goings.{Change}

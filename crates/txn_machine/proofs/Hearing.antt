@@ -23,8 +23,9 @@ use Rattle.txn_machine.specs.Causes.Role.{NoCall}
 use Rattle.txn_machine.specs.Failing.{CanHear, groups_of}
 use Rattle.txn_machine.specs.Lists.{Lists, opened, reply_at, request_at, request_in}
 use Rattle.txn_machine.specs.Script.{does, history, is_done, loses, outcome_of, refuses, refuses_it, serves, takes, takes_it, with_sends}
+use Rattle.txn_machine.specs.Steps.{does_it, test_at}
 use Rattle.txn_machine.specs.Times.{IsGrouped}
-use Rattle.txn_machine.proofs.Courses.{does_it, out_there, test_at}
+use Rattle.txn_machine.proofs.Courses.{out_there}
 use Rattle.txn_machine.proofs.Fates.{Fates}
 use Rattle.txn_machine.proofs.Finds.{looked_up}
 use Rattle.txn_machine.proofs.Folds.{asked}

@@ -4,7 +4,7 @@ mod Orders
 mod Finds
 mod Calms
 mod Folds
-mod Numberings
+pub mod Numberings
 mod Goings
 mod Beginnings
 mod Courses
@@ -31,8 +31,11 @@ mod LineByLine
 mod Takings
 mod Hearing
 mod Resting
+mod Arising
 mod Failures
 mod HeardLines
+mod Origins
+mod OriginLines
 pub mod Scripts
 mod Ranking
 mod Telling

@@ -23,7 +23,7 @@ use Rattle.txn_machine.specs.declared.done.Done.{Done as Course}
 use Rattle.txn_machine.proofs.Folds.{ended_mail, ended_sight}
 use Rattle.txn_machine.proofs.Outs.{IsPostedIn, StaysBut, as_awaited, as_group, end_stays, posted_out, reply_stays, stays_changed, stays_kept, stays_opened, stays_same, stays_woken}
 
-own_mail : (own : Option Outcome) (l : Lists) → (with_own own l).mail ≡ l.mail
+pub own_mail : (own : Option Outcome) (l : Lists) → (with_own own l).mail ≡ l.mail
 own_mail None l = refl
 own_mail (Some o) l = refl
 

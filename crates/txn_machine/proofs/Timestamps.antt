@@ -38,12 +38,12 @@ abbrev pub WasAsked : List SentNote → Ticket → Request → Type 0
 WasAsked sent t r = (s : SentNote) × IsAmong sent s × (s.ticket ≡ t) × (s.request ≡ r)
 
 -- what is served is the table's reply to a request that was sent, and what is taken was served, or comes of a store that is too busy
-abbrev Fits : List SentNote → List Event → Event → Type 0
+abbrev pub Fits : List SentNote → List Event → Event → Type 0
 Fits sent es (Served t r o) = WasAsked sent t r × (o ≡ (table (store_after es) r).reply)
 Fits sent es (Took t r o) = ((q : Request) × Has es (Served t q o)) ⊎ (busy_reply r ≡ Some o)
 Fits sent es _ = Unit {0}
 
-abbrev AllFit : List SentNote → List Event → Type 0
+abbrev pub AllFit : List SentNote → List Event → Type 0
 AllFit sent [] = Unit {0}
 AllFit sent (e ∷ es) = Fits sent es e × AllFit sent es
 
@@ -56,7 +56,7 @@ find_asked (s ∷ ss) n t r e = by (same_ticket s.ticket t) refl (nat_lt s.at n)
     by true q false later f = later f
     by false q b later f = later f
 
-kept_served : (es : List Event) (t : Ticket) (o : Reply) → kept_reply es t ≡ Some o → (q : Request) × Has es (Served t q o)
+pub kept_served : (es : List Event) (t : Ticket) (o : Reply) → kept_reply es t ≡ Some o → (q : Request) × Has es (Served t q o)
 kept_served [] t o e = absurd (cc)
 kept_served (Served u r p ∷ es) t o e = by (same_ticket u t) refl (λ f. let w = kept_served es t o f in (w.0, inr w.1)) e
   where
@@ -114,7 +114,7 @@ module _ (sent : List SentNote) where
       one true = (tt, f)
       one false = f
 
-  history_fit : (outs : List Outcome) (ls : List Line) → AllFit sent (history sent outs ls)
+  pub history_fit : (outs : List Outcome) (ls : List Line) → AllFit sent (history sent outs ls)
   history_fit outs [] = tt
   history_fit outs (l ∷ ls) = sends_fit sent (length (l ∷ ls)) _ (one (is_done (outcome_of outs (length (l ∷ ls)))) (history_fit outs ls))
     where
@@ -124,7 +124,7 @@ module _ (sent : List SentNote) where
 
   -- Of what fits.
 
-  served_asked : (es : List Event) → AllFit sent es → (t : Ticket) (r : Request) (o : Reply) → Has es (Served t r o) → WasAsked sent t r
+  pub served_asked : (es : List Event) → AllFit sent es → (t : Ticket) (r : Request) (o : Reply) → Has es (Served t r o) → WasAsked sent t r
   served_asked [] f t r o h = absurd h
   served_asked (e ∷ es) f t r o (inl h) = (subst (λ x. Fits sent es x) h f.0).0
   served_asked (e ∷ es) f t r o (inr h) = served_asked es f.1 t r o h

@@ -1,4 +1,5 @@
 pub mod Accounts
+pub mod Arising
 pub mod Causes
 pub mod Dues
 pub mod Failing

@@ -1,5 +1,5 @@
 -- What each line does.
-use Rattle.std.specs.Prelude.{◌≡◌, ℕ, Bool, true, false, if◌then◌else◌, List, [], Option, Some, None}
+use Rattle.std.specs.Prelude.{◌≡◌, ℕ, Bool, true, false, ◌&&◌, if◌then◌else◌, List, [], Option, Some, None, is_some}
 use Rattle.std.specs.List.{All}
 use Rattle.txn_kv.specs.declared.reply.Reply.{Reply}
 use Rattle.txn_kv.specs.declared.ticket.Ticket.{Ticket}
@@ -99,6 +99,27 @@ Wakes place l new = Hears NoneGiven (with_mail (waking place l.mail) l) new
 -- where the sleep stands that a ticket names and that lasts, of a client that has not crashed
 abbrev pub found_asleep : Lists → Ticket → Option ℕ
 found_asleep l t = if is_live l.sight t.line then found_lasting l.mail t else None
+
+-- Whether an event is done
+
+abbrev pub test_at : (ℕ → Bool) → Option ℕ → Bool
+test_at test None = false
+test_at test (Some k) = test k
+
+-- an event is done
+abbrev pub does_it : Line → Lists → Bool
+does_it lines.Blank l = true
+does_it (lines.Serve t) l = test_at (λ k. true) (found_unserved l.mail t)
+does_it (lines.Answer t) l = test_at (λ k. is_some (letter_at l.mail k).kept) (found_out l t)
+does_it (lines.Deliver t) l = test_at (λ k. can_be_served l.mail k) (found_out l t)
+does_it (lines.Lose t) l = test_at (λ k. true) (found_out l t)
+does_it (lines.Busy t) l = test_at (λ k. can_be_served l.mail k && is_some (busy_reply (request_at l k))) (found_out l t)
+does_it (lines.Wake t) l = test_at (λ k. true) (found_asleep l t)
+does_it (lines.Split key) l = can_split l.store key
+does_it (lines.Lead region store) l = can_lead l.store region store
+does_it (lines.Clock ms) l = true
+does_it (lines.Crash client) l = is_live l.sight client
+does_it line l = false
 
 -- Lines
 

@@ -3,6 +3,7 @@ ghost use Rattle.std.specs.Prelude.{◌≡◌, ◌+◌, ◌++◌, ◌∷◌, ◌
 ghost use Rattle.txn_lines.specs.Kinds.{kinds_of};
 ghost use Rattle.txn_lines.specs.Lines.{max_lines, why_after};
 ghost use Rattle.txn_machine.specs.Accounts.{AccountsMeetLines, AsksIt, Credited, Credits, TakenIn, own_by};
+ghost use Rattle.txn_machine.specs.Arising.{ActsTo, Arisen, ArisenIn, ArisenLines, RunsTo};
 ghost use Rattle.txn_machine.specs.Causes.{CallsMeetLines, EndsLines, EventsMeetLines, LivesLines, TellsLines};
 ghost use Rattle.txn_machine.specs.Dues.{DuesLines, StayOut};
 ghost use Rattle.txn_machine.specs.Failing.{CausesMeetLines, HeardIn, Rested, RunsAsk, RunsOn};
@@ -16,6 +17,7 @@ ghost use Rattle.txn_machine.specs.Told.{ArePast, CanTell, IsNote, IsNoteOf, Own
 ghost use Rattle.txn_post.specs.Mail.{IsNext};
 ghost use Rattle.txn_report.specs.OutcomeView.{view_of_outcome};
 ghost use Rattle.txn_side.specs.Account.{AreKept, AreNew};
+ghost use Rattle.txn_side.specs.Arising.{StillArises};
 ghost use Rattle.txn_side.specs.Sight.{Acts, nobody, ticket_in};
 ghost use Rattle.txn_side.specs.Trace.{StillRests};
 
@@ -81,6 +83,7 @@ impl<S: ClientSide> Machine<S> {
         ensures stands { IfOk result (λ machine. StandsFor S.sight S.ready S.waits machine []) }
         ensures taken { IfOk result (λ machine. TakenIn S.account machine []) }
         ensures heard { IfOk result (λ machine. HeardIn S.rests S.fails machine []) }
+        ensures arisen { IfOk result (λ machine. ArisenIn S.arises S.holds machine []) }
         ensures memory { IfOk result HasMemory }
     {
         Ok(Machine {
@@ -109,6 +112,7 @@ impl<S: ClientSide> Machine<S> {
         ensures stands { (lines : List Line) → StandsFor S.sight S.ready S.waits self.old lines → why_after lines line ≡ None → StandsFor S.sight S.ready S.waits self.new (line ∷ lines) }
         ensures taken { (lines : List Line) → StandsFor S.sight S.ready S.waits self.old lines → why_after lines line ≡ None → TakenIn S.account self.old lines → TakenIn S.account self.new (line ∷ lines) }
         ensures heard { (lines : List Line) → StandsFor S.sight S.ready S.waits self.old lines → why_after lines line ≡ None → TakenIn S.account self.old lines → HeardIn S.rests S.fails self.old lines → HeardIn S.rests S.fails self.new (line ∷ lines) }
+        ensures arisen { (lines : List Line) → StandsFor S.sight S.ready S.waits self.old lines → why_after lines line ≡ None → ArisenIn S.arises S.holds self.old lines → ArisenIn S.arises S.holds self.new (line ∷ lines) }
         ensures memory { OnOk result (HasMemory self.old × HasMemory self.new) }
         ensures broken { OnErr result (HasMemory self.new → ⊥) }
         ensures note { IfOk result (λ note. IsNote (lists_of S.sight self.new) note) }
@@ -140,6 +144,7 @@ impl<S: ClientSide> Machine<S> {
         ensures ready { OnOk result (S.ready self.new.clients) }
         ensures credited { OnOk result (Credited line (S.sight self.old.clients) (S.account self.old.clients) (S.account self.new.clients) (lists_of S.sight self.new)) }
         ensures rests { OnOk result (Rested S.fails (S.rests self.old.clients) (S.rests self.new.clients) line (lists_of S.sight self.old) (S.account self.old.clients) (lists_of S.sight self.new)) }
+        ensures arises { OnOk result (Arisen (S.arises self.old.clients) (S.arises self.new.clients) (S.holds self.old.clients) (S.holds self.new.clients) line (lists_of S.sight self.old) (lists_of S.sight self.new)) }
         ensures kinds { OnOk result ((lines : List Line) → self.old.kinds ≡ kinds_of lines → self.new.kinds ≡ kinds_of (line ∷ lines)) }
         ensures note { IfOk result (λ note. IsNote (lists_of S.sight self.new) note) }
     {
@@ -168,6 +173,7 @@ impl<S: ClientSide> Machine<S> {
         ensures ready { OnOk result (S.ready self.new.clients) }
         ensures accounts { OnOk result (AreKept (S.account self.old.clients) (S.account self.new.clients)) }
         ensures rests { OnOk result (StillRests (S.rests self.old.clients) (S.rests self.new.clients)) }
+        ensures arises { OnOk result (StillArises (S.arises self.old.clients) (S.arises self.new.clients) (S.holds self.old.clients) (S.holds self.new.clients)) }
     {
         self.post.open()?;
         self.clients.open()?;
@@ -189,6 +195,7 @@ impl<S: ClientSide> Machine<S> {
         ensures ready { OnOk result (S.ready self.new.clients) }
         ensures credits { IfOk result (Credits line (lists_of S.sight self.old) (S.account self.old.clients) (S.account self.new.clients)) }
         ensures rests { IfOk result (RunsOn S.fails (S.rests self.old.clients) (S.rests self.new.clients) line (lists_of S.sight self.old) (S.account self.old.clients)) }
+        ensures arises { IfOk result (RunsTo (S.arises self.old.clients) (S.arises self.new.clients) (S.holds self.old.clients) (S.holds self.new.clients) line (lists_of S.sight self.old)) }
     {
         match line {
             Line::Blank => Ok(self.outright(Outcome::Done)),
@@ -268,6 +275,7 @@ impl<S: ClientSide> Machine<S> {
         ensures ready { OnOk result (S.ready self.new.clients) }
         ensures accounts { OnOk result (AreKept (S.account self.old.clients) (S.account self.new.clients)) }
         ensures rests { IfOk result (RunsOn S.fails (S.rests self.old.clients) (S.rests self.new.clients) Line.Client (lists_of S.sight self.old) (S.account self.old.clients)) }
+        ensures arises { IfOk result (RunsTo (S.arises self.old.clients) (S.arises self.new.clients) (S.holds self.old.clients) (S.holds self.new.clients) Line.Client (lists_of S.sight self.old)) }
     {
         self.clients.connect(self.store.clock())?;
         let mut turn = Turn::new(self.alloc);
@@ -289,6 +297,7 @@ impl<S: ClientSide> Machine<S> {
         ensures ready { OnOk result (S.ready self.new.clients) }
         ensures accounts { OnOk result (AreKept (S.account self.old.clients) (S.account self.new.clients)) }
         ensures rests { IfOk result (RunsOn S.fails (S.rests self.old.clients) (S.rests self.new.clients) (Line.Begin client options) (lists_of S.sight self.old) (S.account self.old.clients)) }
+        ensures arises { IfOk result (RunsTo (S.arises self.old.clients) (S.arises self.new.clients) (S.holds self.old.clients) (S.holds self.new.clients) (Line.Begin client options) (lists_of S.sight self.old)) }
     {
         let now = self.store.clock();
         let turn = self.clients.begin(client, options, now)?;
@@ -306,6 +315,7 @@ impl<S: ClientSide> Machine<S> {
         ensures ready { OnOk result (S.ready self.new.clients) }
         ensures accounts { OnOk result (AreKept (S.account self.old.clients) (S.account self.new.clients)) }
         ensures rests { IfOk result (RunsOn S.fails (S.rests self.old.clients) (S.rests self.new.clients) (Line.Timestamp client) (lists_of S.sight self.old) (S.account self.old.clients)) }
+        ensures arises { IfOk result (RunsTo (S.arises self.old.clients) (S.arises self.new.clients) (S.holds self.old.clients) (S.holds self.new.clients) (Line.Timestamp client) (lists_of S.sight self.old)) }
     {
         let turn = self.clients.timestamp(client, self.store.clock())?;
         Ok(self.called(turn))
@@ -323,6 +333,7 @@ impl<S: ClientSide> Machine<S> {
         ensures ready { OnOk result (S.ready self.new.clients) }
         ensures takes { IfOk result (AsksIt (record { transaction = transaction; act = act }) (newest (lists_of S.sight self.old)) (S.account self.old.clients) (S.account self.new.clients)) }
         ensures rests { IfOk result (RunsAsk S.fails (S.rests self.old.clients) (S.rests self.new.clients) (record { transaction = transaction; act = act }) (newest (lists_of S.sight self.old)) (S.account self.old.clients)) }
+        ensures arises { IfOk result (ActsTo (S.arises self.old.clients) (S.arises self.new.clients) (S.holds self.old.clients) (S.holds self.new.clients) transaction) }
     {
         let turn = self.clients.act(transaction, act, self.store.clock())?;
         Ok(self.called(turn))
@@ -479,6 +490,7 @@ impl<S: ClientSide> Machine<S> {
         ensures noted { (lines : List Line) → StandsFor S.sight S.ready S.waits self lines → AreNoted (length lines) result.sent result.sleeps }
         ensures accounts { (lines : List Line) → TakenIn S.account self lines → AccountsMeetLines lines result }
         ensures causes { (lines : List Line) → HeardIn S.rests S.fails self lines → CausesMeetLines S.fails lines result }
+        ensures arisen { (lines : List Line) → StandsFor S.sight S.ready S.waits self lines → TakenIn S.account self lines → ArisenIn S.arises S.holds self lines → ArisenLines S.sight S.arises S.holds S.account lines result }
     {
         let (sent, sleeps) = self.post.into_notes();
         Report {

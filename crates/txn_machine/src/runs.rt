@@ -1,5 +1,6 @@
 //! Whole scripts.
 ghost use Rattle.std.specs.Prelude.{◌≡◌, [], IfOk, reverse};
+ghost use Rattle.txn_machine.specs.Arising.{ArisenLines};
 ghost use Rattle.txn_machine.specs.Failing.{CausesMeetLines};
 ghost use Rattle.txn_machine.specs.Lawful.{AllGood, Lawful};
 ghost use Rattle.txn_side.specs.Account.{AreNew};
@@ -24,6 +25,7 @@ pub fn run_lines<S: ClientSide>(
     requires good { AllGood [] lines.items }
     ensures lawful { IfOk result (λ report. Lawful lines.items report) }
     ensures causes { IfOk result (λ report. CausesMeetLines S.fails (reverse lines.items) report) }
+    ensures arisen { IfOk result (λ report. ArisenLines S.sight S.arises S.holds S.account (reverse lines.items) report) }
 {
     let mut machine = Machine::new(alloc, clients)?;
     for line in lines {

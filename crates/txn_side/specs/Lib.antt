@@ -1,4 +1,5 @@
 pub mod Account
+pub mod Arising
 pub mod Sight
 pub mod Trace
 pub mod Waiting

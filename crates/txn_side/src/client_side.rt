@@ -1,6 +1,7 @@
 ghost use Rattle.std.specs.List.{All};
 ghost use Rattle.std.specs.Prelude.{◌≡◌, ◌<◌, ◌≤◌, ◌^◌, ℕ, [], IfOk, OnOk, false, true};
 ghost use Rattle.txn_side.specs.Account.{AreClosed, AreKept, MayTakeIn};
+ghost use Rattle.txn_side.specs.Arising.{ArisesAwake, ArisesHearing, ArisesOn, StillArises};
 ghost use Rattle.txn_side.specs.Sight.{Acts, Asks, Goes, IsGiven, Names, NoneGiven, connected, crash, is_live, line_count, opened};
 ghost use Rattle.txn_history.specs.Event.Event.{Lost, Took};
 ghost use Rattle.txn_side.specs.Trace.{ActsOn, AsksOn, HearsOn, StillRests, WakesOn};
@@ -23,6 +24,10 @@ pub trait ClientSide: Sized + Drop {
     ghost use Rattle.txn_history.specs.Event.{Event};
     ghost use Rattle.txn_kv.specs.declared.errors.Error.{Error};
     ghost use Rattle.txn_side.specs.Trace.{IsLonger, Trace};
+    ghost use Rattle.std.specs.Prelude.{[], ◌∷◌};
+    ghost use Rattle.txn_law.specs.Run.{IsPossible};
+    ghost use Rattle.txn_report.specs.declared.outcome.Outcome.{Outcome};
+    ghost use Rattle.txn_side.specs.Arising.{Arises, IsOutside};
 
     // What stands at each line, which clients have crashed, and how far the numbers of each line have come.
     ghost sight: { Self → Sight };
@@ -54,6 +59,18 @@ pub trait ClientSide: Sized + Drop {
     // Calls of no line have heard nothing.
     ghost nobody_rests: { (s : Self) → sight s ≡ nobody → (t : Trace) → rests s t };
 
+    // They can have arisen from this history of a run, in which each request that they posted is licensed.
+    ghost arises: { Self → List Event → Type 0 };
+
+    // After it this may be answered of what stands at a line.
+    ghost holds: { Self → List Event → ℕ → Outcome → Type 0 };
+
+    // Of no line nothing has happened.
+    ghost nobody_arises: { (s : Self) → ready s → sight s ≡ nobody → arises s [] };
+
+    // What comes from outside changes nothing of them.
+    ghost arises_longer: { (s : Self) (h : List Event) (e : Event) → IsOutside e → IsPossible h e → arises s h → Arises (arises s) (holds s) (holds s h) (λ n. n) (e ∷ h) [] };
+
     /// One line more, at which nothing stands.
     fn open(&mut self) -> Result<(), NoMemory>
         requires ready { ready self.old }
@@ -61,7 +78,8 @@ pub trait ClientSide: Sized + Drop {
         ensures waits { OnOk result (WaitsOn NoneHeard [] (waits self.old) (waits self.new) (sight self.old) (sight self.new)) }
         ensures ready { OnOk result (ready self.new) }
         ensures accounts { OnOk result (AreKept (account self.old) (account self.new)) }
-        ensures rests { OnOk result (StillRests (rests self.old) (rests self.new)) };
+        ensures rests { OnOk result (StillRests (rests self.old) (rests self.new)) }
+        ensures arises { OnOk result (StillArises (arises self.old) (arises self.new) (holds self.old) (holds self.new)) };
 
     /// Whether a line has a client that has not crashed.
     fn is_live(&self, line: u64) -> bool
@@ -76,7 +94,8 @@ pub trait ClientSide: Sized + Drop {
         ensures waits { OnOk result (WaitsOn NoneHeard [] (waits self.old) (waits self.new) (sight self.old) (sight self.new)) }
         ensures ready { OnOk result (ready self.new) }
         ensures accounts { OnOk result (AreKept (account self.old) (account self.new)) }
-        ensures rests { OnOk result (StillRests (rests self.old) (rests self.new)) };
+        ensures rests { OnOk result (StillRests (rests self.old) (rests self.new)) }
+        ensures arises { OnOk result (StillArises (arises self.old) (arises self.new) (holds self.old) (holds self.new)) };
 
     /// The client of a line is gone, and its open calls and jobs with it. Whether it was there.
     fn crash(&mut self, line: u64) -> bool
@@ -86,7 +105,8 @@ pub trait ClientSide: Sized + Drop {
         ensures waits { WaitsOn NoneHeard [] (waits self.old) (waits self.new) (sight self.old) (sight self.new) }
         ensures ready { ready self.new }
         ensures accounts { AreKept (account self.old) (account self.new) }
-        ensures rests { StillRests (rests self.old) (rests self.new) };
+        ensures rests { StillRests (rests self.old) (rests self.new) }
+        ensures arises { StillArises (arises self.old) (arises self.new) (holds self.old) (holds self.new) };
 
     /// The newest line begins a transaction of a line's client; none where that has crashed.
     fn begin(
@@ -102,7 +122,8 @@ pub trait ClientSide: Sized + Drop {
         ensures waits { IfOk result (λ turn. WaitsOn NoneHeard (posted_in turn) (waits self.old) (waits self.new) (sight self.old) (sight self.new)) }
         ensures ready { OnOk result (ready self.new) }
         ensures accounts { OnOk result (AreKept (account self.old) (account self.new)) }
-        ensures rests { IfOk result (AsksOn fails (rests self.old) (rests self.new) (line_count (sight self.old))) };
+        ensures rests { IfOk result (AsksOn fails (rests self.old) (rests self.new) (line_count (sight self.old))) }
+        ensures arises { IfOk result (ArisesOn (arises self.old) (arises self.new) (holds self.old) (holds self.new) (λ n. n)) };
 
     /// The newest line asks for a timestamp; none where the client has crashed.
     fn timestamp(&mut self, client: u64, now: u64) -> Result<Option<Turn>, NoMemory>
@@ -113,7 +134,8 @@ pub trait ClientSide: Sized + Drop {
         ensures waits { IfOk result (λ turn. WaitsOn NoneHeard (posted_in turn) (waits self.old) (waits self.new) (sight self.old) (sight self.new)) }
         ensures ready { OnOk result (ready self.new) }
         ensures accounts { OnOk result (AreKept (account self.old) (account self.new)) }
-        ensures rests { IfOk result (AsksOn fails (rests self.old) (rests self.new) (line_count (sight self.old))) };
+        ensures rests { IfOk result (AsksOn fails (rests self.old) (rests self.new) (line_count (sight self.old))) }
+        ensures arises { IfOk result (ArisesOn (arises self.old) (arises self.new) (holds self.old) (holds self.new) (λ n. n)) };
 
     /// The newest line asks something of a transaction; none where its client has crashed, it has not begun, or a call of it is
     /// open.
@@ -125,7 +147,8 @@ pub trait ClientSide: Sized + Drop {
         ensures waits { IfOk result (λ turn. WaitsOn NoneHeard (posted_in turn) (waits self.old) (waits self.new) (sight self.old) (sight self.new)) }
         ensures ready { OnOk result (ready self.new) }
         ensures accounts { IfOk result (MayTakeIn act transaction (line_count (sight self.old)) (account self.old) (account self.new)) }
-        ensures rests { IfOk result (ActsOn fails (rests self.old) (rests self.new) act transaction (line_count (sight self.old)) (account self.old transaction)) };
+        ensures rests { IfOk result (ActsOn fails (rests self.old) (rests self.new) act transaction (line_count (sight self.old)) (account self.old transaction)) }
+        ensures arises { IfOk result (ArisesOn (arises self.old) (arises self.new) (holds self.old) (holds self.new) (λ n. transaction)) };
 
     /// A reply comes: to the call of the ticket's line, or from the oracle to those who asked, none of whom gets a timestamp but that
     /// of its place. Nothing is done where the line's client has crashed.
@@ -137,7 +160,8 @@ pub trait ClientSide: Sized + Drop {
         ensures waits { is_live (sight self.old) ticket.line ≡ true → IfOk result (λ turn. WaitsOn (HearsReply ticket) turn.posted.items (waits self.old) (waits self.new) (sight self.old) (sight self.new)) }
         ensures ready { OnOk result (ready self.new) }
         ensures accounts { IfOk result (λ turn. AreClosed (sight self.old) turn.ended.items (account self.old) (account self.new)) }
-        ensures rests { IfOk result (HearsOn fails (rests self.old) (rests self.new) (sight self.old) ticket (λ r. Took ticket r reply)) };
+        ensures rests { IfOk result (HearsOn fails (rests self.old) (rests self.new) (sight self.old) ticket (λ r. Took ticket r reply)) }
+        ensures arises { IfOk result (ArisesHearing (arises self.old) (arises self.new) (holds self.old) (holds self.new) (sight self.old) (λ r. Took ticket r reply)) };
 
     /// No reply to the request of the ticket will come.
     fn lost(&mut self, ticket: Ticket, request: &Request, now: u64) -> Result<Turn, NoMemory>
@@ -148,7 +172,8 @@ pub trait ClientSide: Sized + Drop {
         ensures waits { is_live (sight self.old) ticket.line ≡ true → IfOk result (λ turn. WaitsOn (HearsReply ticket) turn.posted.items (waits self.old) (waits self.new) (sight self.old) (sight self.new)) }
         ensures ready { OnOk result (ready self.new) }
         ensures accounts { IfOk result (λ turn. AreClosed (sight self.old) turn.ended.items (account self.old) (account self.new)) }
-        ensures rests { IfOk result (HearsOn fails (rests self.old) (rests self.new) (sight self.old) ticket (λ r. Lost ticket r)) };
+        ensures rests { IfOk result (HearsOn fails (rests self.old) (rests self.new) (sight self.old) ticket (λ r. Lost ticket r)) }
+        ensures arises { IfOk result (ArisesHearing (arises self.old) (arises self.new) (holds self.old) (holds self.new) (sight self.old) (λ r. Lost ticket r)) };
 
     /// A sleep has ended.
     fn slept(&mut self, ticket: Ticket, now: u64) -> Result<Turn, NoMemory>
@@ -159,5 +184,6 @@ pub trait ClientSide: Sized + Drop {
         ensures waits { is_live (sight self.old) ticket.line ≡ true → IfOk result (λ turn. WaitsOn (HearsEnd ticket) turn.posted.items (waits self.old) (waits self.new) (sight self.old) (sight self.new)) }
         ensures ready { OnOk result (ready self.new) }
         ensures accounts { IfOk result (λ turn. AreClosed (sight self.old) turn.ended.items (account self.old) (account self.new)) }
-        ensures rests { IfOk result (WakesOn fails (rests self.old) (rests self.new)) };
+        ensures rests { IfOk result (WakesOn fails (rests self.old) (rests self.new)) }
+        ensures arises { IfOk result (ArisesAwake (arises self.old) (arises self.new) (holds self.old) (holds self.new) (sight self.old) ticket) };
 }

@@ -1,5 +1,5 @@
-ghost use Rattle.std.specs.Prelude.{◌≡◌, []};
-ghost use Rattle.txn_tests_machines.specs.Nobody.{nobody_at, none, none_due};
+ghost use Rattle.std.specs.Prelude.{◌≡◌, ◌∷◌, []};
+ghost use Rattle.txn_tests_machines.specs.Nobody.{nobody_at, none, none_arises, none_due};
 
 use crate::fixtures::assert_shown;
 use std::alloc::Global;
@@ -37,6 +37,14 @@ impl ClientSide for Nobody {
     ghost rests_longer = { λ s trace longer is_longer rest. rest };
 
     ghost nobody_rests = { λ s is_nobody trace. tt };
+
+    ghost arises = { λ s history. ⊤ };
+
+    ghost holds = { λ s history line outcome. ⊤ };
+
+    ghost nobody_arises = { λ s ready is_nobody. tt };
+
+    ghost arises_longer = { λ s history event is_outside possible arisen. none_arises (λ n. n) (event ∷ history) };
 
     fn open(&mut self) -> Result<(), NoMemory> {
         self.lines.push(0)?;

@@ -43,7 +43,7 @@ fresh_quiet line beat h n a e quiet f = fresh_on line beat n a e h (λ t r x w. 
 
 -- a request, a sleep or an ask under the next number
 
-sent_ticket : (t u : Ticket) (r q : Request) → Sent t r ≡ Sent u q → t ≡ u
+pub sent_ticket : (t u : Ticket) (r q : Request) → Sent t r ≡ Sent u q → t ≡ u
 sent_ticket t u r q e = cc
 
 began_ticket : (t u : Ticket) (m k : ℕ) → Began t m ≡ Began u k → t ≡ u

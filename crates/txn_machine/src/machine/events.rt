@@ -3,9 +3,11 @@ ghost use Rattle.std.specs.Prelude.{◌≡◌, ◌≤◌, ◌<◌, ◌^◌, [], 
 ghost use Rattle.txn_history.specs.Event.Event.{Took};
 ghost use Rattle.txn_post.specs.Mail.{IsSentAt, IsSleptAt};
 ghost use Rattle.txn_side.specs.Account.{AreClosed, AreKept};
+ghost use Rattle.txn_side.specs.Arising.{ArisesHearing};
 ghost use Rattle.txn_side.specs.Sight.{IsGiven, is_live};
 ghost use Rattle.txn_side.specs.Trace.{HearsOn};
 ghost use Rattle.txn_side.specs.Waiting.{HearsReply, WaitsOn};
+ghost use Rattle.txn_machine.specs.Arising.{RunsTo};
 ghost use Rattle.txn_machine.specs.Failing.{RunsOn};
 ghost use Rattle.txn_machine.specs.Lists.{Lists, handled, newest, outright, reply_at};
 ghost use Rattle.txn_machine.specs.Running.{CanClose, IsEven, IsOrdered, KeepOut, closed, lists_of};
@@ -94,6 +96,7 @@ impl<S: ClientSide> Machine<S> {
         ensures ready { OnOk result (S.ready self.new.clients) }
         ensures accounts { OnOk result (AreKept (S.account self.old.clients) (S.account self.new.clients)) }
         ensures rests { IfOk result (RunsOn S.fails (S.rests self.old.clients) (S.rests self.new.clients) (Line.Serve ticket) (lists_of S.sight self.old) (S.account self.old.clients)) }
+        ensures arises { IfOk result (RunsTo (S.arises self.old.clients) (S.arises self.new.clients) (S.holds self.old.clients) (S.holds self.new.clients) (Line.Serve ticket) (lists_of S.sight self.old)) }
     {
         let Some(place) = self.post.find_unserved(&ticket) else {
             return Ok(self.happened(false));
@@ -115,6 +118,7 @@ impl<S: ClientSide> Machine<S> {
         ensures ready { OnOk result (S.ready self.new.clients) }
         ensures accounts { IfOk result (λ done. AreClosed (S.sight self.old.clients) done.turn.ended.items (S.account self.old.clients) (S.account self.new.clients)) }
         ensures rests { IfOk result (RunsOn S.fails (S.rests self.old.clients) (S.rests self.new.clients) (Line.Answer ticket) (lists_of S.sight self.old) (S.account self.old.clients)) }
+        ensures arises { IfOk result (RunsTo (S.arises self.old.clients) (S.arises self.new.clients) (S.holds self.old.clients) (S.holds self.new.clients) (Line.Answer ticket) (lists_of S.sight self.old)) }
     {
         let Some(place) = self.find_out(&ticket) else {
             return Ok(self.happened(false));
@@ -137,6 +141,7 @@ impl<S: ClientSide> Machine<S> {
         ensures ready { OnOk result (S.ready self.new.clients) }
         ensures accounts { IfOk result (λ done. AreClosed (S.sight self.old.clients) done.turn.ended.items (S.account self.old.clients) (S.account self.new.clients)) }
         ensures rests { IfOk result (RunsOn S.fails (S.rests self.old.clients) (S.rests self.new.clients) (Line.Deliver ticket) (lists_of S.sight self.old) (S.account self.old.clients)) }
+        ensures arises { IfOk result (RunsTo (S.arises self.old.clients) (S.arises self.new.clients) (S.holds self.old.clients) (S.holds self.new.clients) (Line.Deliver ticket) (lists_of S.sight self.old)) }
     {
         let Some(place) = self.find_out(&ticket) else {
             return Ok(self.happened(false));
@@ -161,6 +166,7 @@ impl<S: ClientSide> Machine<S> {
         ensures ready { OnOk result (S.ready self.new.clients) }
         ensures accounts { IfOk result (λ done. AreClosed (S.sight self.old.clients) done.turn.ended.items (S.account self.old.clients) (S.account self.new.clients)) }
         ensures rests { IfOk result (RunsOn S.fails (S.rests self.old.clients) (S.rests self.new.clients) (Line.Busy ticket) (lists_of S.sight self.old) (S.account self.old.clients)) }
+        ensures arises { IfOk result (RunsTo (S.arises self.old.clients) (S.arises self.new.clients) (S.holds self.old.clients) (S.holds self.new.clients) (Line.Busy ticket) (lists_of S.sight self.old)) }
     {
         let Some(place) = self.find_out(&ticket) else {
             return Ok(self.happened(false));
@@ -190,6 +196,7 @@ impl<S: ClientSide> Machine<S> {
         ensures post { OnOk result (self.new.post ≡ self.old.post) }
         ensures accounts { IfOk result (λ done. AreClosed (S.sight self.old.clients) done.turn.ended.items (S.account self.old.clients) (S.account self.new.clients)) }
         ensures rests { IfOk result (λ done. HearsOn S.fails (S.rests self.old.clients) (S.rests self.new.clients) (S.sight self.old.clients) ticket (λ r. Took ticket r reply) done.turn) }
+        ensures arises { IfOk result (λ done. ArisesHearing (S.arises self.old.clients) (S.arises self.new.clients) (S.holds self.old.clients) (S.holds self.new.clients) (S.sight self.old.clients) (λ r. Took ticket r reply) done.turn) }
     {
         let now = self.store.clock();
         let turn = self.clients.take_reply(ticket, reply, now)?;
@@ -208,6 +215,7 @@ impl<S: ClientSide> Machine<S> {
         ensures ready { OnOk result (S.ready self.new.clients) }
         ensures accounts { IfOk result (λ done. AreClosed (S.sight self.old.clients) done.turn.ended.items (S.account self.old.clients) (S.account self.new.clients)) }
         ensures rests { IfOk result (RunsOn S.fails (S.rests self.old.clients) (S.rests self.new.clients) (Line.Lose ticket) (lists_of S.sight self.old) (S.account self.old.clients)) }
+        ensures arises { IfOk result (RunsTo (S.arises self.old.clients) (S.arises self.new.clients) (S.holds self.old.clients) (S.holds self.new.clients) (Line.Lose ticket) (lists_of S.sight self.old)) }
     {
         let Some(place) = self.find_out(&ticket) else {
             return Ok(self.happened(false));
@@ -231,6 +239,7 @@ impl<S: ClientSide> Machine<S> {
         ensures ready { OnOk result (S.ready self.new.clients) }
         ensures accounts { IfOk result (λ done. AreClosed (S.sight self.old.clients) done.turn.ended.items (S.account self.old.clients) (S.account self.new.clients)) }
         ensures rests { IfOk result (RunsOn S.fails (S.rests self.old.clients) (S.rests self.new.clients) (Line.Wake ticket) (lists_of S.sight self.old) (S.account self.old.clients)) }
+        ensures arises { IfOk result (RunsTo (S.arises self.old.clients) (S.arises self.new.clients) (S.holds self.old.clients) (S.holds self.new.clients) (Line.Wake ticket) (lists_of S.sight self.old)) }
     {
         let Some(place) = self.find_asleep(&ticket) else {
             return Ok(self.happened(false));
@@ -251,6 +260,7 @@ impl<S: ClientSide> Machine<S> {
         ensures ready { OnOk result (S.ready self.new.clients) }
         ensures accounts { OnOk result (AreKept (S.account self.old.clients) (S.account self.new.clients)) }
         ensures rests { IfOk result (RunsOn S.fails (S.rests self.old.clients) (S.rests self.new.clients) (Line.Split key) (lists_of S.sight self.old) (S.account self.old.clients)) }
+        ensures arises { IfOk result (RunsTo (S.arises self.old.clients) (S.arises self.new.clients) (S.holds self.old.clients) (S.holds self.new.clients) (Line.Split key) (lists_of S.sight self.old)) }
     {
         let done = self.store.split(&key)?;
         Ok(self.happened(done))
@@ -267,6 +277,7 @@ impl<S: ClientSide> Machine<S> {
         ensures ready { OnOk result (S.ready self.new.clients) }
         ensures accounts { OnOk result (AreKept (S.account self.old.clients) (S.account self.new.clients)) }
         ensures rests { IfOk result (RunsOn S.fails (S.rests self.old.clients) (S.rests self.new.clients) (Line.Lead region store) (lists_of S.sight self.old) (S.account self.old.clients)) }
+        ensures arises { IfOk result (RunsTo (S.arises self.old.clients) (S.arises self.new.clients) (S.holds self.old.clients) (S.holds self.new.clients) (Line.Lead region store) (lists_of S.sight self.old)) }
     {
         let done = self.store.lead(region, store);
         Ok(self.happened(done))
@@ -284,6 +295,7 @@ impl<S: ClientSide> Machine<S> {
         ensures ready { OnOk result (S.ready self.new.clients) }
         ensures accounts { OnOk result (AreKept (S.account self.old.clients) (S.account self.new.clients)) }
         ensures rests { IfOk result (RunsOn S.fails (S.rests self.old.clients) (S.rests self.new.clients) (Line.Clock ms) (lists_of S.sight self.old) (S.account self.old.clients)) }
+        ensures arises { IfOk result (RunsTo (S.arises self.old.clients) (S.arises self.new.clients) (S.holds self.old.clients) (S.holds self.new.clients) (Line.Clock ms) (lists_of S.sight self.old)) }
     {
         self.store.set_clock(ms);
         Ok(self.happened(true))
@@ -300,6 +312,7 @@ impl<S: ClientSide> Machine<S> {
         ensures ready { OnOk result (S.ready self.new.clients) }
         ensures accounts { OnOk result (AreKept (S.account self.old.clients) (S.account self.new.clients)) }
         ensures rests { IfOk result (RunsOn S.fails (S.rests self.old.clients) (S.rests self.new.clients) (Line.Crash client) (lists_of S.sight self.old) (S.account self.old.clients)) }
+        ensures arises { IfOk result (RunsTo (S.arises self.old.clients) (S.arises self.new.clients) (S.holds self.old.clients) (S.holds self.new.clients) (Line.Crash client) (lists_of S.sight self.old)) }
     {
         let done = self.clients.crash(client);
         Ok(self.happened(done))

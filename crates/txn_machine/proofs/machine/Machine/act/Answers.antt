@@ -3,6 +3,7 @@ use Rattle.txn_machine.specs.Running.{lists_of}
 use Rattle.txn_machine.proofs.Staying.{acts_out}
 use Rattle.txn_machine.proofs.Telling.{leaves_same, tell_acts}
 use Rattle.txn_side.specs.Account.{MayTakeIn}
+use Rattle.txn_machine.proofs.Arising.{called_to}
 use Rattle.txn_machine.proofs.machine.Machine.act.Goals as goal
 
 pub returns-clause-tells : goal.returns-clause-tells
@@ -18,3 +19,6 @@ returns-clause-takes g c = record {
   own = c.called.ensures.outcome;
   ended = c.called.ensures.ended;
 }
+
+pub returns-clause-arises : goal.returns-clause-arises
+returns-clause-arises g c h w = called_to (g.S.ClientSide.arises c.args.self.now.clients) (g.S.ClientSide.arises c.act.new.self) (g.S.ClientSide.holds c.args.self.now.clients) (g.S.ClientSide.holds c.act.new.self) c.called.result (λ n. c.args.transaction) c.in_ok-turn.turn c.called.ensures.posted c.called.ensures.ended c.in_ok-turn.ensures.arises h w

@@ -2,6 +2,7 @@ use Rattle.std.proofs.Common.{true, refl}
 use Rattle.txn_machine.specs.Running.{lists_of}
 use Rattle.txn_machine.proofs.Staying.{asks_out}
 use Rattle.txn_machine.proofs.Telling.{leaves_same, tell_asks}
+use Rattle.txn_machine.proofs.Arising.{called_to}
 use Rattle.txn_machine.proofs.machine.Machine.begin.Goals as goal
 
 pub returns-clause-tells : goal.returns-clause-tells
@@ -9,3 +10,8 @@ returns-clause-tells g c = tell_asks (lists_of g.S.ClientSide.sight c.args.self.
 
 pub returns-clause-out : goal.returns-clause-out
 returns-clause-out g c = asks_out (g.S.ClientSide.waits c.args.self.now.clients) _ (lists_of g.S.ClientSide.sight c.args.self.now) _ _ true c.args.client c.in_ok-turn.turn c.in_ok-turn.ensures.turn c.in_ok-turn.ensures.waits c.called.ensures.posted refl c.requires.ordered
+
+pub returns-clause-arises : goal.returns-clause-arises
+returns-clause-arises g c looks h knows w =
+    let a = called_to (g.S.ClientSide.arises c.args.self.now.clients) (g.S.ClientSide.arises c.begin.new.self) (g.S.ClientSide.holds c.args.self.now.clients) (g.S.ClientSide.holds c.begin.new.self) c.called.result (λ n. n) c.in_ok-turn.turn c.called.ensures.posted c.called.ensures.ended c.in_ok-turn.ensures.arises h w in
+    record { now = a.now; kept = a.kept; answers = a.answers }

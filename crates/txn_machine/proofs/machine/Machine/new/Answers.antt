@@ -1,6 +1,7 @@
 use Rattle.txn_machine.proofs.Standings.{new_stands}
 use Rattle.txn_machine.proofs.Takings.{new_taken}
 use Rattle.txn_machine.proofs.HeardLines.{new_heard}
+use Rattle.txn_machine.proofs.OriginLines.{new_arisen}
 use Rattle.txn_machine.proofs.machine.Machine.new.Goals as goal
 
 pub returns-clause-stands : goal.returns-clause-stands
@@ -11,3 +12,6 @@ returns-clause-taken g c = new_taken g.S.ClientSide.account _ c.new-3.ensures.it
 
 pub returns-clause-heard : goal.returns-clause-heard
 returns-clause-heard g c = new_heard g.S.ClientSide.rests g.S.ClientSide.fails _ (λ t. g.S.ClientSide.nobody_rests c.args.clients c.requires.nobody t)
+
+pub returns-clause-arisen : goal.returns-clause-arisen
+returns-clause-arisen g c = new_arisen g.S.ClientSide.arises g.S.ClientSide.holds _ (g.S.ClientSide.nobody_arises c.args.clients c.requires.ready c.requires.nobody)

@@ -4,6 +4,7 @@ use Rattle.txn_machine.proofs.Noting.{standing_notes}
 use Rattle.txn_machine.proofs.Standings.{report_calls, report_ends, report_dues, report_events, report_lives, report_tells, report_times}
 use Rattle.txn_machine.proofs.Takings.{report_accounts}
 use Rattle.txn_machine.proofs.HeardLines.{report_causes}
+use Rattle.txn_machine.proofs.OriginLines.{report_arisen}
 use Rattle.txn_machine.proofs.machine.Machine.report.Goals as goal
 
 pub returns-clause-told : goal.returns-clause-told
@@ -50,3 +51,7 @@ returns-clause-accounts g c lines taken = report_accounts g.S.ClientSide.account
 pub returns-clause-causes : goal.returns-clause-causes
 returns-clause-causes g c lines heard =
     report_causes g.S.ClientSide.sight g.S.ClientSide.rests g.S.ClientSide.fails c.args.self _ lines (record { outcomes = c.from_vec.ensures; ended = c.from_vec-2.ensures; sent = c.into_notes-sent.ensures.sent; sleeps = c.into_notes-sent.ensures.sleeps; served = c.from_vec-3.ensures; store = refl }) c.requires heard
+
+pub returns-clause-arisen : goal.returns-clause-arisen
+returns-clause-arisen g c lines stood taken arisen =
+    report_arisen g.S.ClientSide.sight g.S.ClientSide.ready g.S.ClientSide.waits g.S.ClientSide.arises g.S.ClientSide.holds g.S.ClientSide.account c.args.self _ lines (record { outcomes = c.from_vec.ensures; ended = c.from_vec-2.ensures; sent = c.into_notes-sent.ensures.sent; sleeps = c.into_notes-sent.ensures.sleeps; served = c.from_vec-3.ensures; store = refl }) c.requires stood taken arisen

@@ -3,6 +3,7 @@ use Rattle.txn_machine.specs.Running.{lists_of}
 use Rattle.txn_machine.proofs.Standings.{broken_stands, caused_past, few_lines, good_fine, step_stands}
 use Rattle.txn_machine.proofs.Takings.{broken_taken, step_taken}
 use Rattle.txn_machine.proofs.HeardLines.{broken_heard, step_heard}
+use Rattle.txn_machine.proofs.OriginLines.{broken_arisen, step_arisen}
 use Rattle.txn_machine.proofs.machine.Machine.step.Goals as goal
 
 pub try_step-requires-clause-ordered : goal.try_step-requires-clause-ordered
@@ -46,3 +47,12 @@ returns-in-Ok-clause-heard g c lines s good taken heard = step_heard g.S.ClientS
 
 pub returns-in-Err-clause-heard : goal.returns-in-Err-clause-heard
 returns-in-Err-clause-heard g c lines s good taken heard = broken_heard g.S.ClientSide.rests g.S.ClientSide.fails _ _ refl
+
+pub returns-then-self-clause-arisen : goal.returns-then-self-clause-arisen
+returns-then-self-clause-arisen g c lines s good arisen = broken_arisen g.S.ClientSide.arises g.S.ClientSide.holds _ _ c.if-self.true
+
+pub returns-in-Ok-clause-arisen : goal.returns-in-Ok-clause-arisen
+returns-in-Ok-clause-arisen g c lines s good arisen = step_arisen g.S.ClientSide.sight g.S.ClientSide.ready g.S.ClientSide.waits g.S.ClientSide.arises g.S.ClientSide.holds c.args.self.now _ c.args.line lines c.in-Ok.ensures.lists c.in-Ok.ensures.arises good (record { whole = c.if-self.false }) s arisen
+
+pub returns-in-Err-clause-arisen : goal.returns-in-Err-clause-arisen
+returns-in-Err-clause-arisen g c lines s good arisen = broken_arisen g.S.ClientSide.arises g.S.ClientSide.holds _ _ refl

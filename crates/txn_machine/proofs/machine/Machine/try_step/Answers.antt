@@ -4,6 +4,7 @@ use Rattle.txn_machine.proofs.Standings.{opened_ordered, opened_some, stays_thro
 use Rattle.txn_machine.proofs.Telling.{note_is}
 use Rattle.txn_machine.proofs.Credits.{credited_step}
 use Rattle.txn_machine.proofs.Resting.{rested_step}
+use Rattle.txn_machine.proofs.Arising.{arisen_step}
 use Rattle.txn_machine.proofs.machine.Machine.try_step.Goals as goal
 
 pub run-requires-clause-ordered : goal.run-requires-clause-ordered
@@ -26,3 +27,6 @@ returns-clause-credited g c = credited_step g.S.ClientSide.account c.args.line (
 
 pub returns-clause-rests : goal.returns-clause-rests
 returns-clause-rests g c = rested_step g.S.ClientSide.fails g.S.ClientSide.rests g.S.ClientSide.account c.args.line (lists_of g.S.ClientSide.sight c.args.self.now) _ _ _ c.in_ok-done.done c.args.self.now.clients _ _ _ c.in_ok-open.ensures.lists c.in_ok-note.ensures.lists c.in_ok-done.ensures.tells c.in_ok-open.ensures.accounts c.in_ok-open.ensures.rests c.in_ok-done.ensures.rests c.in_ok-note.ensures.clients
+
+pub returns-clause-arises : goal.returns-clause-arises
+returns-clause-arises g c = arisen_step g.S.ClientSide.arises g.S.ClientSide.holds c.args.line (lists_of g.S.ClientSide.sight c.args.self.now) _ _ _ c.in_ok-done.done c.args.self.now.clients _ _ _ c.in_ok-open.ensures.lists c.in_ok-note.ensures.lists c.in_ok-done.ensures.tells c.in_ok-open.ensures.arises c.in_ok-done.ensures.arises c.in_ok-note.ensures.clients
