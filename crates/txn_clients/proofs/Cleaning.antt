@@ -1,6 +1,6 @@
 -- What a transaction keeps of its history when a call of another line begins: what explains no error, and the Commits that were lost.
 -- The reply to a Commit is taken as one without error, since only that there was one counts then.
-use Rattle.std.proofs.Common.{◌≡◌, ◌≢◌, ◌⊎◌, inl, inr, ℕ, Bool, true, false, List, [], ◌∷◌, Option, Some, None, refl, sym, ap, ◌∙◌, subst}
+use Rattle.std.proofs.Common.{◌≡◌, ◌≢◌, ◌⊎◌, inl, inr, suc, ℕ, Bool, true, false, List, [], ◌∷◌, Option, Some, None, refl, sym, ap, ◌∙◌, subst, arith}
 use Rattle.std.specs.Prelude.{◌&&◌, is_none, Ok, Err}
 use Rattle.txn_kv.specs.Timestamp.{version_of}
 use Rattle.txn_kv.specs.declared.reply.PrewriteResponse.{PrewriteResponse}
@@ -17,7 +17,7 @@ use Rattle.txn_history.specs.Event.Event.{Answered, Asked, Began, Clocked, Crash
 use Rattle.txn_history.specs.Licence.{AllAcknowledged, IsWithoutError, WantedAfter, WasGiven, WasNamed}
 use Rattle.txn_history.specs.Plan.{Plan}
 use Rattle.txn_commit.specs.Committing.{IsReady}
-use Rattle.txn_commit.specs.Following.{Commits, KnowsCommits, is_commit}
+use Rattle.txn_commit.specs.Following.{Commits, KnowsCommits, WasRefused, is_commit}
 use Rattle.txn_commit.specs.Sending.{plan_of}
 use Rattle.txn_commit.specs.declared.commit_parts.CommitParts.{CommitParts}
 use Rattle.txn_core.specs.Going.{IsUnsent, KnowsParts, NamesReady}
@@ -36,11 +36,16 @@ is_fine (Prewrite r) (replies.Prewrite o) = is_none o.region_error && no_errors 
 is_fine (BatchRollback r) (replies.BatchRollback o) = is_none o.region_error && is_none o.error
 is_fine r o = false
 
-abbrev fine : Reply
-fine = replies.Commit (record { region_error = None; error = None; commit_version = 0 })
+-- one that says without error that something was committed, and does not say that it was this
+abbrev elsewhere : Request → ℕ
+elsewhere (Commit r) = suc r.commit_version
+elsewhere r = 0
+
+abbrev fine : Request → Reply
+fine r = replies.Commit (record { region_error = None; error = None; commit_version = elsewhere r })
 
 abbrev kept_took : Ticket → Request → Reply → Bool → Bool → Option Event
-kept_took u r o true b = Some (Took u r fine)
+kept_took u r o true b = Some (Took u r (fine r))
 kept_took u r o false true = Some (Took u r o)
 kept_took u r o false false = None
 
@@ -99,7 +104,10 @@ back (y ∷ h) x i = by (keep y) refl i (back h x)
 abbrev IsKeptAs : Event → Event → Type 0
 IsKeptAs e x = (e ≡ x) ⊎ ((u : Ticket) × (r : Request) × (o : Reply) × (x ≡ Took u r o) × IsHarmless r o)
 
-commit_harmless : (r : Request) → is_commit r ≡ true → IsHarmless r fine
+next_other : (n : ℕ) → suc n ≡ n → ⊥
+next_other n e = omega (arith, e)
+
+commit_harmless : (r : Request) → is_commit r ≡ true → IsHarmless r (fine r)
 commit_harmless (Commit r) e = (refl, refl)
 commit_harmless _ e = absurd (cc)
 
@@ -125,7 +133,7 @@ took_kept : (u : Ticket) (r : Request) (o : Reply) (x : Event) → keep (Took u 
 took_kept u r o x k = by (is_commit r) refl (is_fine r o) refl k
   where
     by : (b : Bool) → is_commit r ≡ b → (f : Bool) → is_fine r o ≡ f → kept_took u r o b f ≡ Some x → (q : Reply) × (x ≡ Took u r q) × IsHarmless r q
-    by true b f g e = (fine, sym (some_same (Took u r fine) x e), commit_harmless r b)
+    by true b f g e = (fine r, sym (some_same (Took u r (fine r)) x e), commit_harmless r b)
     by false b true g e = (o, sym (some_same (Took u r o) x e), fine_harmless r o g)
     by false b false g e = none_some x e
 
@@ -273,9 +281,8 @@ module _ (plan : Plan) (s : ℕ) where
     all = λ t r sent primary. answered t r (k.all t r (sent_back h t (Commit r) sent) primary);
   }
     where
-      answered : (t : Ticket) (r : CommitRequest) → ((o : Reply) × Has h (Took t (Commit r) o)) ⊎ ((c.lost ≢ None) ⊎ IsAmong c.out t)
-          → ((o : Reply) × Has (cleaned h) (Took t (Commit r) o)) ⊎ ((c.lost ≢ None) ⊎ IsAmong c.out t)
-      answered t r (inl (o, taken)) = inl (fine, forth h (Took t (Commit r) o) (Took t (Commit r) fine) refl taken)
+      answered : (t : Ticket) (r : CommitRequest) → WasRefused h t r ⊎ ((c.lost ≢ None) ⊎ IsAmong c.out t) → WasRefused (cleaned h) t r ⊎ ((c.lost ≢ None) ⊎ IsAmong c.out t)
+      answered t r (inl (o, taken, refusal)) = inl (fine (Commit r), forth h (Took t (Commit r) o) (Took t (Commit r) (fine (Commit r))) refl taken, λ regional keyed same. next_other r.commit_version same)
       answered t r (inr rest) = inr rest
 
 pub unsent_cleaned : (s : ℕ) (c : Commits) (h : List Event) → IsUnsent s c h → IsUnsent s c (cleaned h)

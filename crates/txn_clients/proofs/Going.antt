@@ -110,11 +110,11 @@ module _ {P Q K A B D : Type 0} (w : Ways P Q K A B D) where
 
 -- A call that has not given up
 
-ok_kept : {A X : Type 0} (p : Progress A) → IfKept (turn_of (Ok p)) X → X
+pub ok_kept : {A X : Type 0} (p : Progress A) → IfKept (turn_of (Ok p)) X → X
 ok_kept Waiting x = x
 ok_kept (Done v) x = x
 
-ok_goes : {A : Type 0} (p : Progress A) → turn_of (Ok p) ≢ Stopped
+pub ok_goes : {A : Type 0} (p : Progress A) → turn_of (Ok p) ≢ Stopped
 ok_goes Waiting e = cc
 ok_goes (Done v) e = cc
 
@@ -157,7 +157,7 @@ module _ {P Q K A B D : Type 0} (w : Ways P Q K A B D) where
 
 -- A transaction that has just begun
 
-none_ordered : {X : Type 0} (key : X → X → Ordering) → IsStrictlySortedBy key []
+pub none_ordered : {X : Type 0} (key : X → X → Ordering) → IsStrictlySortedBy key []
 unfolding IsStrictlySortedBy
 none_ordered key = tt
 

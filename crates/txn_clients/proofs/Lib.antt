@@ -32,3 +32,16 @@ pub mod Beginning
 pub mod Sides
 pub mod Showing
 pub mod Hearing
+pub mod Handing
+pub mod Leading
+pub mod Rising
+pub mod Arriving
+pub mod Unmoved
+pub mod Shown
+pub mod Moving
+pub mod MovingRows
+pub mod Chaining
+pub mod Ended
+pub mod ToldParts
+pub mod Stepped
+pub mod Grouped

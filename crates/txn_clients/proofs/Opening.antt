@@ -34,7 +34,7 @@ use Rattle.txn_clients.proofs.Voices.{unheard_voice}
 
 -- Numbers of one line more
 
-next_opened : (nexts : List ℕ) (n : ℕ) → next_at nexts n ≤ next_at (nexts ++ 1 ∷ []) n
+pub next_opened : (nexts : List ℕ) (n : ℕ) → next_at nexts n ≤ next_at (nexts ++ 1 ∷ []) n
 next_opened nexts zero = omega arith
 next_opened nexts (suc i) = by nexts i
   where

@@ -144,7 +144,7 @@ module _ {P Q K A B D : Type 0} (w : Ways P Q K A B D) where
 
     -- A client is made.
 
-    book_more : (s t : Clients P Q K) (c : ClientState) → t.clients.items ≡ s.clients.items ++ c ∷ [] → book_of c ≡ blank → (d : ℕ) → book_at t d ≡ book_at s d
+    pub book_more : (s t : Clients P Q K) (c : ClientState) → t.clients.items ≡ s.clients.items ++ c ∷ [] → book_of c ≡ blank → (d : ℕ) → book_at t d ≡ book_at s d
     book_more s t c clients new d = ap (λ cs. get_or (map book_of cs) d blank) clients ∙ ap (λ bs. get_or bs d blank) (map-append book_of s.clients.items (c ∷ []) ∙ ap (λ b. map book_of s.clients.items ++ b ∷ []) new) ∙ or_ended (map book_of s.clients.items) blank d
 
     connected_sound : (trace : Option Trace) (s t : Clients P Q K) (line client : ℕ) (c : ClientState) → IsLine (stands_of (rows_of s)) line → stand_at (stands_of (rows_of s)) line ≡ Idle → client ≡ length (crashed_of s) → t.clients.items ≡ s.clients.items ++ c ∷ [] → book_of c ≡ blank → crashed_of t ≡ crashed_of s ++ false ∷ []
@@ -225,7 +225,7 @@ new_ready {P} {Q} {K} w p q k s places clients ready = record {
 
 module _ {P Q K A B D : Type 0} (w : Ways P Q K A B D) where
   module _ (p : IsLawful w.prewriting) (q : IsLawful w.committing) (k : IsLawful w.rolling) where
-    opened_lists : (s t : Clients P Q K) (d : Place P Q K) → d ≡ record { row = row.Plain; next = 1; next_ask = 1 } → t.places.items ≡ s.places.items ++ d ∷ []
+    pub opened_lists : (s t : Clients P Q K) (d : Place P Q K) → d ≡ record { row = row.Plain; next = 1; next_ask = 1 } → t.places.items ≡ s.places.items ++ d ∷ []
         → (rows_of t ≡ rows_of s ++ row.Plain ∷ []) × (nexts_of t ≡ nexts_of s ++ 1 ∷ []) × (asks_of t ≡ asks_of s ++ 1 ∷ [])
     opened_lists s t d new items = (
       ap (map (λ (x : Place P Q K). x.row)) items ∙ map-append (λ (x : Place P Q K). x.row) s.places.items (d ∷ []) ∙ ap (λ (x : Place P Q K). rows_of s ++ x.row ∷ []) new,

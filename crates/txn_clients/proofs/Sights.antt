@@ -17,7 +17,7 @@ use Rattle.txn_clients.proofs.Stands.{called, line_of, same_line, stand_other, s
 
 -- What ends, in two parts.
 
-outcomes_append : (n : ℕ) (es fs : List Ending) → outcomes_of n (es ++ fs) ≡ outcomes_of n es ++ outcomes_of n fs
+pub outcomes_append : (n : ℕ) (es fs : List Ending) → outcomes_of n (es ++ fs) ≡ outcomes_of n es ++ outcomes_of n fs
 outcomes_append n es fs = ap (map (λ (e : Ending). e.outcome)) (filter-append (λ (e : Ending). nat_eq e.line n) es fs) ∙ map-append (λ (e : Ending). e.outcome) (filter (λ (e : Ending). nat_eq e.line n) es) (filter (λ (e : Ending). nat_eq e.line n) fs)
 
 still_zero : (os : List Outcome) → still_open 0 os ≡ 0

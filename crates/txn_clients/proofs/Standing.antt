@@ -58,7 +58,7 @@ if_kept Stopped f = tt
 if_kept Waits f = f (λ e. cc)
 if_kept (Ends v) f = f (λ e. cc)
 
-open_so : {P Q K : Type 0} (g : Work P Q K) → is_open g ≡ false → (g ≡ Idle) ⊎ (g ≡ GaveUp)
+pub open_so : {P Q K : Type 0} (g : Work P Q K) → is_open g ≡ false → (g ≡ Idle) ⊎ (g ≡ GaveUp)
 open_so Idle e = inl refl
 open_so (Open call) e = absurd (no e)
   where
@@ -129,6 +129,18 @@ pub reached_later : (from to o : Posted) → to.line ≡ from.line → to.beat �
 reached_later from to o line beat r = record { line = r.line ∙ sym line; beat = r.beat ∙ sym beat; next = r.next; next_ask = r.next_ask }
 
 -- between calls it waits for nothing
+-- where a call is refused
+module _ {P Q K : Type 0} where
+  pub refused_stays : (e : Error) (old new : Standing P Q K) (turn : Turn (Result (TxnAnswer Q) Error)) → IsRefused e old new turn → new ≡ old
+  refused_stays e old new Stopped r = r
+  refused_stays e old new Waits r = absurd r
+  refused_stays e old new (Ends v) r = r.1
+
+  pub ends_shut : (t : Ticket) (turn : Turn (Result (TxnAnswer Q) Error)) → IsUndetermined t turn → is_waiting turn ≡ false
+  ends_shut t Stopped u = refl
+  ends_shut t Waits u = absurd u
+  ends_shut t (Ends v) u = refl
+
 module _ {P Q K A B D : Type 0} (w : Ways P Q K A B D) where
   pub rest_silent : (g : Work P Q K) (a : Awaited) → is_open g ≡ false → work_waits w g a → ⊥
   rest_silent g a e x = by (open_so g e)
@@ -403,11 +415,6 @@ module _ {P Q K A B D : Type 0} (w : Ways P Q K A B D) (p : IsLawful w.prewritin
   waiting_open : (turn : Turn (Result (TxnAnswer Q) Error)) (g : Work P Q K) → is_open g ≡ is_waiting turn → turn ≡ Waits → is_open g ≡ true
   waiting_open turn g e f = e ∙ ap is_waiting f
 
-  refused_stays : (e : Error) (old new : Standing P Q K) (turn : Turn (Result (TxnAnswer Q) Error)) → IsRefused e old new turn → new ≡ old
-  refused_stays e old new Stopped r = r
-  refused_stays e old new Waits r = absurd r
-  refused_stays e old new (Ends v) r = r.1
-
   -- what was asked is this
   pub acts_as : (act is : Act) (heard : Awaited → Type 0) (busy : Type 0) (line : ℕ) (account : Account) (old new : Standing P Q K) (from to : Posted) (turn : Turn (Result (TxnAnswer Q) Error)) → act ≡ is
       → IfKept turn (StandGoes w heard busy (λ trace. KnowsAsk trace line is account) old new from to turn) → IfKept turn (StandGoes w heard busy (λ trace. KnowsAsk trace line act account) old new from to turn)
@@ -437,11 +444,6 @@ module _ {P Q K A B D : Type 0} (w : Ways P Q K A B D) (p : IsLawful w.prewritin
     expects = opened old new from to turn opens;
     runs = λ any f. waiting_open turn new.work busy f;
   })
-
-  ends_shut : (t : Ticket) (turn : Turn (Result (TxnAnswer Q) Error)) → IsUndetermined t turn → is_waiting turn ≡ false
-  ends_shut t Stopped u = refl
-  ends_shut t Waits u = absurd u
-  ends_shut t (Ends v) u = refl
 
   -- a commit of it was lost, so that it is not known what became of it
   left_alone : (trace longer : Option Trace) (at : ℕ) (t : Ticket) (old new : Standing P Q K) (from to o : Posted) (turn : Turn (Result (TxnAnswer Q) Error)) (nexts news : List ℕ) → LongerIn trace longer → turn ≢ Stopped → is_open old.work ≡ false → is_open new.work ≡ false → GivesUp old new turn

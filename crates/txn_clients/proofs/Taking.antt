@@ -21,7 +21,7 @@ use Rattle.txn_core.specs.Options.{is_pessimistic}
 use Rattle.txn_core.specs.Status.{after_commit, allows_commit, allows_data, allows_rollback, may_move, status_step}
 use Rattle.txn_core.specs.Going.{IsUndetermined}
 use Rattle.txn_core.specs.Status.Became.{commits}
-use Rattle.txn_core.specs.Transaction.{GivesUp, IsRefused, Standing, WriteEnds, begun, commit_outcome, is_open, moved, moved_by, rolled_status}
+use Rattle.txn_core.specs.Transaction.{GivesUp, IsRefused, Standing, WriteEnds, begun, commit_outcome, is_open, moved_by, rolled_status}
 use Rattle.txn_core.specs.Transaction as core
 use Rattle.txn_core.specs.declared.status.Status.{Status}
 use Rattle.txn_core.specs.declared.status.Status.TheVariants as statuses
@@ -35,7 +35,7 @@ use Rattle.txn_client.specs.declared.client_answer.ClientAnswer.TheVariants.{Beg
 use Rattle.txn_client.specs.declared.client_call.ClientCall.{ClientCall}
 use Rattle.txn_client.specs.declared.client_call.Wanted.{Wanted}
 use Rattle.txn_client.specs.declared.client_call.Wanted.TheVariants as wanted
-use Rattle.txn_side.specs.Account.{Account, Status as Stage, after_act, all_put_or_delete, committed_by, has_mutations, is_put_or_delete, is_undetermined, is_undetermined_view, is_write, locked_all, made_by, mutated_all, new_account, or_refused, refusal, refused_unless, rolled_by, unless_refused, written}
+use Rattle.txn_side.specs.Account.{Account, Status as Stage, after_act, all_put_or_delete, committed_by, has_mutations, is_put_or_delete, is_undetermined, is_undetermined_view, is_write, locked_all, made_by, mutated_all, or_refused, refusal, refused_unless, rolled_by, unless_refused, written}
 use Rattle.txn_side.specs.Account as side
 use Rattle.txn_report.specs.declared.outcome.Outcome.{Outcome}
 use Rattle.txn_side.specs.Sight as sights
@@ -50,7 +50,7 @@ pub is_flag : (b : Bool) → (b ≡ true) ⊎ (b ≡ false)
 is_flag true = inl refl
 is_flag false = inr refl
 
-no_flag : (b : Bool) → b ≡ true → b ≡ false → ⊥
+pub no_flag : (b : Bool) → b ≡ true → b ≡ false → ⊥
 no_flag b p q = cc
 
 -- an error whose view says so
@@ -226,7 +226,7 @@ either_off : (b : Bool) (s next : Status) → allows_data s ≡ false → allows
 either_off true s next a c = c
 either_off false s next a c = a
 
-moved_off : {Q : Type 0} (s : Status) (turn : Turn (Result (TxnAnswer Q) Error)) → allows_data s ≡ false → allows_data (moved_by s turn) ≡ false
+pub moved_off : {Q : Type 0} (s : Status) (turn : Turn (Result (TxnAnswer Q) Error)) → allows_data s ≡ false → allows_data (moved_by s turn) ≡ false
 moved_off s Stopped h = h
 moved_off s Waits h = h
 moved_off s (Ends (Err e)) h = h
@@ -238,7 +238,7 @@ moved_off s (Ends (Ok (answer.Pairs ps))) h = h
 moved_off s (Ends (Ok (answer.Keys ks))) h = h
 moved_off s (Ends (Ok (answer.Ttl n))) h = h
 
-commit_off : (o : Option (Result (Option Timestamp) Error)) (b : Bool) → allows_data (after_commit o b) ≡ false
+pub commit_off : (o : Option (Result (Option Timestamp) Error)) (b : Bool) → allows_data (after_commit o b) ≡ false
 commit_off None b = refl
 commit_off (Some (Err e)) b = refl
 commit_off (Some (Ok (Some t))) b = refl
@@ -301,7 +301,7 @@ module _ {P Q K : Type 0} where
   }
 
   -- a call that is begun where none is open
-  begins : {A : Type 0} (old new : Standing P Q K) (turn : Turn (Result (TxnAnswer Q) Error)) → is_open old.work ≡ false → GivesUp old new turn → (old.work ≡ Idle → A) → IfKept turn A
+  pub begins : {A : Type 0} (old new : Standing P Q K) (turn : Turn (Result (TxnAnswer Q) Error)) → is_open old.work ≡ false → GivesUp old new turn → (old.work ≡ Idle → A) → IfKept turn A
   begins {A} old new turn idle gives off = by old.work refl
     where
       by : (work : Work P Q K) → old.work ≡ work → IfKept turn A

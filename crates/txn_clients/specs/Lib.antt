@@ -10,3 +10,7 @@ pub mod Due
 pub mod Failing
 pub mod Resting
 pub mod Want
+pub mod Arising
+pub mod Growing
+pub mod Unmoved
+pub mod Ended

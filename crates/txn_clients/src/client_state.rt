@@ -1,5 +1,6 @@
-ghost use Rattle.std.specs.Prelude.{◌≡◌, ◌≤◌, ◌++◌, ◌∷◌, ℕ, [], IfOk, IfSome, IsTrue, OnOk, false, map};
+ghost use Rattle.std.specs.Prelude.{◌≡◌, ◌≤◌, ◌++◌, ◌∷◌, ℕ, [], IfOk, IfSome, IsTrue, OnOk, false, map, option_map};
 ghost use Rattle.std.specs.List.{All};
+ghost use Rattle.txn_clients.specs.Arising.{GroupsNext};
 ghost use Rattle.txn_clients.specs.Failing.{IfFails};
 ghost use Rattle.txn_clients.specs.Groups.{IsLeft, IsRefused, IsTimeFor, group_of, lines_in, lines_out, why_none};
 ghost use Rattle.txn_kv.specs.declared.errors.Error.TheVariants.{InternalError};
@@ -165,6 +166,7 @@ impl ClientState {
         ensures askers { IfOk result (λ group. IfSome group (λ g. g.askers ≡ lines_out self.new)) }
         ensures most { IfOk result (λ group. IfSome group (λ g. All (λ n. n ≤ newest) g.askers)) }
         ensures regroups { IfOk result (λ group. Regroups group (book_of self.old) (book_of self.new)) }
+        ensures next { IfOk result (λ group. GroupsNext (option_map (λ g. g.request) group) (book_of self.old) (book_of self.new)) }
     {
         match self.oracle.next_group()? {
             None => Ok(None),

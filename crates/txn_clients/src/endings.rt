@@ -1,5 +1,6 @@
 //! What a line comes to, as its call ends.
 ghost use Rattle.std.specs.Prelude.{◌≡◌, ℕ, IfOk, IfSome, None, List, OnErr, OnOk, Ok, Err, Option, false, option_map, true};
+ghost use Rattle.txn_clients.specs.Ended.{AskLeaves, CallLeaves};
 ghost use Rattle.txn_clients.specs.Accounts.{BeginsNew, EndsNoAsk, EndsNoCall, IsNew, account_in, outcome_by};
 ghost use Rattle.txn_clients.specs.Rows.{AskFits, IsStamped, RowReady, stand_of};
 ghost use Rattle.txn_clients.specs.Waiting.{IsNewAnswer, RowArises};
@@ -9,7 +10,7 @@ ghost use Rattle.txn_commit.specs.Committing.{ways};
 ghost use Rattle.txn_commit.specs.Jobs.{JobReady};
 ghost use Rattle.txn_core.specs.Going.{TransactionReady};
 ghost use Rattle.txn_core.specs.Transaction.{is_open};
-ghost use Rattle.txn_client.specs.declared.client_answer.ClientAnswer.TheVariants.{Begun};
+ghost use Rattle.txn_client.specs.declared.client_answer.ClientAnswer.TheVariants.{Begun, Time};
 ghost use Rattle.txn_core.specs.Waiting.{HandsOut};
 ghost use Rattle.txn_history.specs.Posted.{Posted};
 ghost use Rattle.txn_kv.specs.ErrorView.{view_of};
@@ -77,6 +78,7 @@ where
         ensures unlike { OnErr result (EndsNoAsk begins answer) }
         ensures failed { IfOk result (λ ended. (e : Failure) → ended.outcome ≡ Failed e → answer ≡ Err e) }
         ensures fed { IfOk result (λ ended. (e : Failure) → ended.outcome ≡ Failed e → wants_memory (view_of e) ≡ false) }
+        ensures leaves { IfOk result (λ ended. AskLeaves client answer ended.row ended.outcome) }
     {
         match answer {
             Err(error) => Ended::failed(client, error),
@@ -100,6 +102,7 @@ where
         ensures account { IfOk result (λ ended. account_in ended.row ≡ new_account) }
         ensures unlike { OnErr result (begins ≡ false) }
         ensures well { IfOk result (λ ended. (e : Failure) → ended.outcome ≡ Failed e → ⊥) }
+        ensures leaves { IfOk result (λ ended. AskLeaves client (Ok (Begun transaction)) ended.row ended.outcome) }
     {
         if !begins {
             return Err(NoMemory);
@@ -124,6 +127,7 @@ where
         ensures account { IfOk result (λ ended. account_in ended.row ≡ new_account) }
         ensures unlike { OnErr result (begins ≡ true) }
         ensures well { IfOk result (λ ended. (e : Failure) → ended.outcome ≡ Failed e → ⊥) }
+        ensures leaves { IfOk result (λ ended. AskLeaves {P = P} {Q = Q} {K = K} client (Ok (Time timestamp)) ended.row ended.outcome) }
     {
         if begins {
             return Err(NoMemory);
@@ -149,6 +153,7 @@ where
         ensures unlike { OnErr result (EndsNoCall commits answer) }
         ensures failed { IfOk result (λ ended. (e : Failure) → ended.outcome ≡ Failed e → answer ≡ Err e) }
         ensures fed { IfOk result (λ ended. (e : Failure) → ended.outcome ≡ Failed e → wants_memory (view_of e) ≡ false) }
+        ensures leaves { IfOk result (λ ended. CallLeaves client answer ended.row) }
     {
         match answer {
             Err(error) => Ended::failed(client, error),
@@ -168,6 +173,7 @@ where
         ensures account { IfOk result (λ ended. account_in ended.row ≡ new_account) }
         ensures unlike { OnErr result (commits ≡ true) }
         ensures well { IfOk result (λ ended. (e : Failure) → ended.outcome ≡ Failed e → ⊥) }
+        ensures leaves { IfOk result (λ ended. CallLeaves {Q = Q} client (Ok answers.Unit) ended.row) }
         ensures outcome { IfOk result (λ ended. ended.outcome ≡ outcome_by {Q = Q} commits (Ok answers.Unit)) }
     {
         if commits {
@@ -193,6 +199,7 @@ where
         ensures account { IfOk result (λ ended. account_in ended.row ≡ new_account) }
         ensures unlike { OnErr result (commits ≡ false) }
         ensures well { IfOk result (λ ended. (e : Failure) → ended.outcome ≡ Failed e → ⊥) }
+        ensures leaves { IfOk result (λ ended. CallLeaves client (Ok (answers.Committed timestamp job)) ended.row) }
         ensures outcome { IfOk result (λ ended. ended.outcome ≡ outcome_by commits (Ok (answers.Committed timestamp job))) }
     {
         if !commits {

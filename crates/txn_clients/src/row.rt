@@ -1,3 +1,4 @@
+ghost use Rattle.txn_clients.specs.Arising.{JobMoves, RowMoves, StandMoves};
 ghost use Rattle.std.specs.Prelude.{◌≡◌, ◌<◌, ◌^◌, ℕ, Bool, false, IfOk, IfSome, OnOk};
 ghost use Rattle.txn_client.specs.Calls.{CallReady};
 ghost use Rattle.txn_clients.specs.Accounts.{AccountTold, AnswersAsk, AnswersNew, AnswersTold, IsQuiet, RowTold, WantsNew, account_in, account_of};
@@ -97,6 +98,7 @@ where
     ensures posts { OnOk result (Posts out.old out.new) }
     ensures fits { IfOk result (λ answer. IfSome answer (AnswerFits (ways P.meaning Q.meaning K.meaning P.refuses Q.refuses K.refuses))) }
     ensures stamped { IfOk result (λ answer. IfSome answer (IsToldIn told)) }
+    ensures moves { IfOk result (λ answer. (c : ℕ) (b : Bool) → RowMoves (ways P.meaning Q.meaning K.meaning P.refuses Q.refuses K.refuses) told (Asking c b call.old) (Asking c b call.new) out.old out.new answer) }
 {
     match told {
         Told::Start => {
@@ -141,6 +143,7 @@ where
     ensures rests { IfOk result (λ answer. IfSome answer (λ a. is_open transaction.new.work ≡ false)) }
     ensures fits { IfOk result (λ answer. IfSome answer (AnswerFits (ways P.meaning Q.meaning K.meaning P.refuses Q.refuses K.refuses))) }
     ensures stamped { IfOk result (λ answer. IfSome answer (IsToldIn told)) }
+    ensures moves { IfOk result (StandMoves (ways P.meaning Q.meaning K.meaning P.refuses Q.refuses K.refuses) told transaction.old transaction.new out.old out.new) }
 {
     match told {
         Told::Start => Ok(None),
@@ -169,6 +172,7 @@ fn tell_job<Q: PlanFor<CommitRequest>>(
     requires clock { now < 2 ^ 44 }
     ensures ready { OnOk result (JobReady Q.meaning job.new) }
     ensures posts { OnOk result (Posts out.old out.new) }
+    ensures moves { OnOk result (JobMoves Q.meaning Q.refuses told job.old job.new out.old out.new) }
 {
     match told {
         Told::Start => {
@@ -246,6 +250,7 @@ where
         ensures rests { IfOk result (λ answer. IfSome answer (λ a. Rests self.new)) }
         ensures fits { IfOk result (λ answer. IfSome answer (AnswerFits (ways P.meaning Q.meaning K.meaning P.refuses Q.refuses K.refuses))) }
         ensures stamped { IfOk result (λ answer. IfSome answer (IsToldIn told)) }
+        ensures moves { IfOk result (RowMoves (ways P.meaning Q.meaning K.meaning P.refuses Q.refuses K.refuses) told self.old self.new out.old out.new) }
     {
         match self {
             Row::Asking { call, .. } => tell_call(call, told, pd, now, out),

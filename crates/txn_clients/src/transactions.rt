@@ -1,4 +1,8 @@
 //! What a transaction is told.
+ghost use Rattle.txn_clients.specs.Arising.{StandMoves};
+ghost use Rattle.txn_clients.specs.Rows.{answer_in};
+ghost use Rattle.txn_clients.specs.declared.answer.Answer.TheVariants.{Called};
+ghost use Rattle.txn_clients.specs.declared.told.Told.TheVariants as tells;
 ghost use Rattle.std.specs.Prelude.{◌≡◌, ◌<◌, ◌^◌, IsTrue, Ok, false, ⊤, true};
 ghost use Rattle.txn_clients.specs.Accounts.{HasHeard, HasTaken, IsQuiet, account_of, says_undetermined};
 ghost use Rattle.txn_clients.specs.Failing.{CameIn, KnowsAsk};
@@ -54,6 +58,7 @@ where
     ensures told { IfKept (turn_of result) (IsTold (ways P.meaning Q.meaning K.meaning P.refuses Q.refuses K.refuses) transaction.new out.old out.new (turn_of result)) }
     ensures taken { IfKept (turn_of result) (HasTaken Rollback transaction.old transaction.new (turn_of result)) }
     ensures goes { IfKept (turn_of result) (StandGoes (ways P.meaning Q.meaning K.meaning P.refuses Q.refuses K.refuses) (λ a. ⊥) ⊤ (λ trace. KnowsAsk trace out.old.line Rollback (account_of transaction.old)) transaction.old transaction.new out.old out.new (turn_of result)) }
+    ensures moves { IfKept (turn_of result) (StandMoves (ways P.meaning Q.meaning K.meaning P.refuses Q.refuses K.refuses) (tells.Act Rollback) transaction.old transaction.new out.old out.new (answer_in Called (turn_of result))) }
 {
     let before = transaction.status();
     let progress = transaction.rollback(pd, now, out)?;
@@ -84,6 +89,7 @@ where
     ensures told { IfKept (turn_of result) (IsTold (ways P.meaning Q.meaning K.meaning P.refuses Q.refuses K.refuses) transaction.new out.old out.new (turn_of result)) }
     ensures taken { IfKept (turn_of result) (HasTaken act transaction.old transaction.new (turn_of result)) }
     ensures goes { IfKept (turn_of result) (StandGoes (ways P.meaning Q.meaning K.meaning P.refuses Q.refuses K.refuses) (λ a. ⊥) ⊤ (λ trace. KnowsAsk trace out.old.line act (account_of transaction.old)) transaction.old transaction.new out.old out.new (turn_of result)) }
+    ensures moves { IfKept (turn_of result) (StandMoves (ways P.meaning Q.meaning K.meaning P.refuses Q.refuses K.refuses) (tells.Act act) transaction.old transaction.new out.old out.new (answer_in Called (turn_of result))) }
 {
     match act {
         Act::Put(key, value) => transaction.put(pd, key, value, now, out),
@@ -116,6 +122,7 @@ where
     ensures told { IfKept (turn_of result) (IsTold (ways P.meaning Q.meaning K.meaning P.refuses Q.refuses K.refuses) transaction.new out.old out.new (turn_of result)) }
     ensures heard { IfKept (turn_of result) (HasHeard transaction.old transaction.new (turn_of result)) }
     ensures goes { IfKept (turn_of result) (StandGoes (ways P.meaning Q.meaning K.meaning P.refuses Q.refuses K.refuses) (λ a. a ≡ awaited_as arrival) (is_open transaction.old.work ≡ true) (λ trace. CameIn trace out.old arrival) transaction.old transaction.new out.old out.new (turn_of result)) }
+    ensures moves { IfKept (turn_of result) (StandMoves (ways P.meaning Q.meaning K.meaning P.refuses Q.refuses K.refuses) (tells.Heard arrival) transaction.old transaction.new out.old out.new (answer_in Called (turn_of result))) }
 {
     match arrival {
         Arrival::Reply { number, reply } => transaction.take_reply(pd, now, number, reply, out),

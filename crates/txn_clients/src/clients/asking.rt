@@ -1,4 +1,5 @@
 //! What a machine asks of the clients.
+ghost use Rattle.txn_clients.specs.Arising.{LeadsSent, StepsGroup, StepsTold};
 ghost use Rattle.std.specs.List.{All};
 ghost use Rattle.std.specs.Prelude.{◌≡◌, ◌<◌, ◌≤◌, ◌^◌, [], None, Option, IfOk, IfSome, IsTrue, OnOk, false, is_some, length, slice_index_or, true, ◌≢◌, ℕ, Some};
 ghost use Rattle.txn_client.specs.Calls.{CallReady, called};
@@ -109,6 +110,7 @@ where
         ensures steps { IfOk result (λ turn. (trace : Option Trace) → IsReady (ways P.meaning Q.meaning K.meaning P.refuses Q.refuses K.refuses) self.old → CalledIn trace (line_count (sight_of self.old)) (line_count (sight_of self.old)) → IsSound (ways P.meaning Q.meaning K.meaning P.refuses Q.refuses K.refuses) (posting_in [] trace) [] self.old → Steps (ways P.meaning Q.meaning K.meaning P.refuses Q.refuses K.refuses) trace (λ n a. ⊥) turn.posted.items turn.ended.items self.old self.new) }
         ensures ready { OnOk result (AreReady (ways P.meaning Q.meaning K.meaning P.refuses Q.refuses K.refuses) (rows_of self.new)) }
         ensures accounts { OnOk result (AreKept (account_at (rows_of self.old)) (account_at (rows_of self.new))) }
+        ensures leads { IfOk result (λ turn. LeadsSent (ways P.meaning Q.meaning K.meaning P.refuses Q.refuses K.refuses) [] turn.posted.items [] turn.ended.items (λ n. n) self.old self.new) }
     {
         // A call begins where nothing stands.
         if !self.is_new() {
@@ -146,6 +148,7 @@ where
         ensures steps { IfOk result (λ turn. (trace : Option Trace) → client_at (stand_at (sight_of self.old).stands line) ≡ Some listener.client → MayKnow (posting_in [] trace) (outbox_of line) told (row_at (rows_of self.old) listener.at) → IsSound (ways P.meaning Q.meaning K.meaning P.refuses Q.refuses K.refuses) (posting_in [] trace) (pends line told []) self.old → ((c : ℕ) → c ≢ listener.client → IsQuiet (book_at self.old c)) → AreRunningBut listener.at (rows_of self.old) → IsPrepared told (row_at (rows_of self.old) listener.at) → Steps (ways P.meaning Q.meaning K.meaning P.refuses Q.refuses K.refuses) trace (HearsAt line told) turn.posted.items turn.ended.items self.old self.new) }
         ensures ready { OnOk result (AreReady (ways P.meaning Q.meaning K.meaning P.refuses Q.refuses K.refuses) (rows_of self.new)) }
         ensures accounts { IfOk result (λ turn. GoesTold told line listener.at (stand_at (sight_of self.old).stands line) (rows_of self.old) (rows_of self.new) [] turn.ended.items) }
+        ensures leads { IfOk result (λ turn. StepsTold (ways P.meaning Q.meaning K.meaning P.refuses Q.refuses K.refuses) told line listener.client turn.posted.items turn.ended.items self.old self.new) }
     {
         let mut turn = Turn::new(self.alloc);
         self.go(line, listener, told, now, &mut turn)?;
@@ -172,6 +175,7 @@ where
         ensures steps { IfOk result (λ turn. (trace : Option Trace) → IsReady (ways P.meaning Q.meaning K.meaning P.refuses Q.refuses K.refuses) self.old → CalledIn trace (line_count (sight_of self.old)) transaction → KnowsAsk trace (line_count (sight_of self.old)) act (account_at (rows_of self.old) transaction) → IsSound (ways P.meaning Q.meaning K.meaning P.refuses Q.refuses K.refuses) (posting_in [] trace) [] self.old → Steps (ways P.meaning Q.meaning K.meaning P.refuses Q.refuses K.refuses) trace (λ n a. ⊥) turn.posted.items turn.ended.items self.old self.new) }
         ensures ready { OnOk result (AreReady (ways P.meaning Q.meaning K.meaning P.refuses Q.refuses K.refuses) (rows_of self.new)) }
         ensures takes { IfOk result (λ turn. TakesIn act transaction (line_count (sight_of self.old)) (account_at (rows_of self.old)) (account_at (rows_of self.new)) turn.ended.items) }
+        ensures leads { IfOk result (λ turn. LeadsSent (ways P.meaning Q.meaning K.meaning P.refuses Q.refuses K.refuses) [] turn.posted.items [] turn.ended.items (λ n. transaction) self.old self.new) }
     {
         // A call begins where nothing stands.
         if !self.is_new() {
@@ -208,6 +212,7 @@ where
         ensures steps { IfOk result (λ turn. (trace : Option Trace) → is_live (sight_of self.old) line ≡ true → client_at (stand_at (sight_of self.old).stands line) ≡ Some client → IsReady (ways P.meaning Q.meaning K.meaning P.refuses Q.refuses K.refuses) self.old → CameIn (posting_in [] trace) (outbox_of line) arrival → IsSound (ways P.meaning Q.meaning K.meaning P.refuses Q.refuses K.refuses) (posting_in [] trace) [] self.old → Steps (ways P.meaning Q.meaning K.meaning P.refuses Q.refuses K.refuses) trace (HearsAt line (Heard arrival)) turn.posted.items turn.ended.items self.old self.new) }
         ensures ready { OnOk result (AreReady (ways P.meaning Q.meaning K.meaning P.refuses Q.refuses K.refuses) (rows_of self.new)) }
         ensures accounts { IfOk result (λ turn. AreClosed (sight_of self.old) turn.ended.items (account_at (rows_of self.old)) (account_at (rows_of self.new))) }
+        ensures leads { IfOk result (λ turn. StepsTold (ways P.meaning Q.meaning K.meaning P.refuses Q.refuses K.refuses) (Heard arrival) line client turn.posted.items turn.ended.items self.old self.new) }
     {
         let mut turn = Turn::new(self.alloc);
         self.tell(line, arrival, now, &mut turn)?;
@@ -226,6 +231,7 @@ where
         ensures groups { IfOk result (λ turn. IsReady (ways P.meaning Q.meaning K.meaning P.refuses Q.refuses K.refuses) self.old → GroupsBeside client turn.posted.items (sight_of self.old) (sight_of self.new)) }
         ensures ready { OnOk result (AreReady (ways P.meaning Q.meaning K.meaning P.refuses Q.refuses K.refuses) (rows_of self.new)) }
         ensures accounts { IfOk result (λ turn. AreClosed (sight_of self.old) turn.ended.items (account_at (rows_of self.old)) (account_at (rows_of self.new))) }
+        ensures leads { IfOk result (λ turn. StepsGroup (ways P.meaning Q.meaning K.meaning P.refuses Q.refuses K.refuses) client (λ u r. Took u r reply) turn.posted.items turn.ended.items self.old self.new) }
     {
         let mut turn = Turn::new(self.alloc);
         self.take_group(client, reply, now, &mut turn)?;
@@ -244,6 +250,7 @@ where
         ensures groups { IfOk result (λ turn. IsReady (ways P.meaning Q.meaning K.meaning P.refuses Q.refuses K.refuses) self.old → GroupsBeside client turn.posted.items (sight_of self.old) (sight_of self.new)) }
         ensures ready { OnOk result (AreReady (ways P.meaning Q.meaning K.meaning P.refuses Q.refuses K.refuses) (rows_of self.new)) }
         ensures accounts { IfOk result (λ turn. AreClosed (sight_of self.old) turn.ended.items (account_at (rows_of self.old)) (account_at (rows_of self.new))) }
+        ensures leads { IfOk result (λ turn. StepsGroup (ways P.meaning Q.meaning K.meaning P.refuses Q.refuses K.refuses) client (λ u r. Gone u r) turn.posted.items turn.ended.items self.old self.new) }
     {
         let mut turn = Turn::new(self.alloc);
         self.lose_group(client, now, &mut turn)?;
@@ -263,6 +270,8 @@ where
     ghost use Rattle.txn_clients.specs.Due.{due_when_ready, nobody_waits_so};
     ghost use Rattle.txn_clients.specs.Failing.{FailsFor};
     ghost use Rattle.txn_clients.specs.Resting.{RestsIn, nobody_rests_so, rests_when_longer};
+    ghost use Rattle.txn_clients.specs.Arising.{ArisenFrom, HoldsAt};
+    ghost use Rattle.txn_clients.specs.Unmoved.{arises_when_longer, nobody_arises_so};
     ghost use Rattle.txn_clients.specs.Waiting.{IsReady, waits_of};
     ghost use Rattle.txn_commit.specs.Committing.{ways};
 
@@ -285,6 +294,14 @@ where
     ghost rests_longer = { rests_when_longer (ways P.meaning Q.meaning K.meaning P.refuses Q.refuses K.refuses) };
 
     ghost nobody_rests = { nobody_rests_so (ways P.meaning Q.meaning K.meaning P.refuses Q.refuses K.refuses) };
+
+    ghost arises = { ArisenFrom (ways P.meaning Q.meaning K.meaning P.refuses Q.refuses K.refuses) };
+
+    ghost holds = { λ s h x o. HoldsAt (rows_of s) h x o };
+
+    ghost nobody_arises = { nobody_arises_so (ways P.meaning Q.meaning K.meaning P.refuses Q.refuses K.refuses) };
+
+    ghost arises_longer = { arises_when_longer (ways P.meaning Q.meaning K.meaning P.refuses Q.refuses K.refuses) };
 
     fn open(&mut self) -> Result<(), NoMemory> {
         self.places.push(Place::new())?;

@@ -1,5 +1,6 @@
 //! Timestamps: the groups of asks that go out, and what comes of them.
-ghost use Rattle.std.specs.Prelude.{◌≡◌, ◌<◌, ◌≤◌, ◌^◌, ℕ, [], List, None, Option, Some, false, length, map, slice_index_or, slice_set, true, IfOk, IfSome, IsTrue, OnOk};
+ghost use Rattle.txn_clients.specs.Arising.{GroupsNext, LeadsGiven, LeadsGroup, LeadsSent, PostsGroup, heard_by, oracle_of};
+ghost use Rattle.std.specs.Prelude.{◌≡◌, ◌<◌, ◌≤◌, ◌^◌, ℕ, [], List, None, Option, Some, false, length, map, option_map, slice_index_or, slice_set, true, IfOk, IfSome, IsTrue, OnOk};
 ghost use Rattle.std.specs.List.{All};
 ghost use Rattle.txn_clients.specs.Accounts.{account_at};
 ghost use Rattle.txn_clients.specs.Clients.{AreGiven, AreReady, HasOut, IsLine, asks_at, crashed_of, groups_of, nexts_of, rows_of, sight_of};
@@ -12,10 +13,13 @@ ghost use Rattle.txn_side.specs.Trace.{Refuses, Trace};
 ghost use Rattle.txn_clients.specs.Groups.{IsRefused, IsTimeFor, IsTimed};
 ghost use Rattle.txn_clients.specs.Waiting.{AreRunning, EndsGroup, GoesOn, IsSound, RegroupsAt, SendsGroup, SendsOn, SetsTicket, Takes, book_at};
 ghost use Rattle.txn_commit.specs.Committing.{ways};
+ghost use Rattle.txn_kv.specs.declared.reply.Reply.TheVariants as replies;
+ghost use Rattle.txn_kv.specs.declared.reply.TsoResponse.{TsoResponse as Times};
 ghost use Rattle.txn_kv.specs.declared.request.Request.TheVariants.{Tso};
 ghost use Rattle.txn_kv.specs.declared.ticket.Ticket.{Ticket as Name};
 ghost use Rattle.txn_side.specs.Account.{AreClosed};
 ghost use Rattle.txn_side.specs.Sight.{AskFor, GroupsGo, IsGiven, IsNext, NoneGiven, is_live, line_count, client_at, stand_at};
+ghost use Rattle.txn_tso.specs.Oracle.{answered};
 ghost use Rattle.txn_tso.specs.declared.asker.Asker.{Asker};
 
 use crate::client_state::{Answers, Group};
@@ -51,6 +55,7 @@ impl<P, Q, K> Clients<P, Q, K> {
         ensures askers { IfOk result (λ group. IfSome group (λ g. g.askers ≡ asks_at self.new client)) }
         ensures lines { IfOk result (λ group. IfSome group (λ g. All (λ n. n ≤ line_count (sight_of self.new)) g.askers)) }
         ensures regroups { IfOk result (λ group. RegroupsAt client group self.old self.new) }
+        ensures next { IfOk result (λ group. GroupsNext (option_map (λ g. g.request) group) (book_at self.old client) (book_at self.new client)) }
     {
         let newest = self.newest();
         self.clients[client].next_group(self.alloc, newest)
@@ -67,6 +72,8 @@ impl<P, Q, K> Clients<P, Q, K> {
         ensures given { IfOk result (λ given. AreGiven (sight_of self.old) client reply given.items) }
         ensures errors { IfOk result (λ given. All (λ a. IfFails (Refuses reply) a.1) given.items) }
         ensures takes { IfOk result (λ given. Takes client given.items self.old self.new) }
+        ensures granted { IfOk result (λ given. (times : Times) → reply ≡ replies.Tso times → given.items ≡ answered times (oracle_of (book_at self.old client))) }
+        ensures refused { IfOk result (λ given. ((times : Times) → reply ≡ replies.Tso times → ⊥) → All IsRefused given.items) }
     {
         self.clients[client].take_group(self.alloc, reply)
     }
@@ -136,6 +143,7 @@ impl<P, Q, K> Clients<P, Q, K> {
         ensures crashed { OnOk result (crashed_of self.new ≡ crashed_of self.old) }
         ensures sends { OnOk result (SendsGroup client turn.old.posted.items turn.new.posted.items self.old self.new) }
         ensures groups { OnOk result (GroupsGo turn.new.posted.items (sight_of self.old) (sight_of self.new)) }
+        ensures exact { OnOk result (PostsGroup client group.request group.askers turn.old.posted.items turn.new.posted.items self.new) }
     {
         let line = match group.askers.as_slice().first() {
             None => return Ok(()),
@@ -168,6 +176,7 @@ where
         ensures rows { OnOk result (rows_of self.new ≡ rows_of self.old) }
         ensures waits { OnOk result ((trace : Option Trace) (rest : List Asker) → IsSound (ways P.meaning Q.meaning K.meaning P.refuses Q.refuses K.refuses) (posting_in turn.old.posted.items trace) rest self.old → SendsOn (ways P.meaning Q.meaning K.meaning P.refuses Q.refuses K.refuses) trace client rest turn.old.posted.items turn.new.posted.items self.old self.new) }
         ensures groups { OnOk result (GroupsGo turn.new.posted.items (sight_of self.old) (sight_of self.new)) }
+        ensures leads { OnOk result (LeadsSent (ways P.meaning Q.meaning K.meaning P.refuses Q.refuses K.refuses) turn.old.posted.items turn.new.posted.items turn.old.ended.items turn.new.ended.items (heard_by self.old) self.old self.new) }
     {
         match self.next_group(client)? {
             None => Ok(()),
@@ -193,6 +202,7 @@ where
         ensures crashed { OnOk result (crashed_of self.new ≡ crashed_of self.old) }
         ensures waits { OnOk result ((trace : Option Trace) → GroupCameIn trace (slice_index_or (groups_of self.old) client None) (λ u r. Took u r reply) → IsSound (ways P.meaning Q.meaning K.meaning P.refuses Q.refuses K.refuses) (posting_in turn.old.posted.items trace) [] self.old → EndsGroup (ways P.meaning Q.meaning K.meaning P.refuses Q.refuses K.refuses) trace client turn.old.posted.items turn.new.posted.items turn.old.ended.items turn.new.ended.items self.old self.new) }
         ensures runs { OnOk result (AreRunning (rows_of self.old) → AreRunning (rows_of self.new)) }
+        ensures leads { OnOk result (turn.old.posted.items ≡ [] → turn.old.ended.items ≡ [] → LeadsGroup (ways P.meaning Q.meaning K.meaning P.refuses Q.refuses K.refuses) client (λ u r. Took u r reply) turn.old.posted.items turn.new.posted.items turn.old.ended.items turn.new.ended.items self.old self.new) }
     {
         let given = self.take_times(client, reply)?;
         self.give(client, given, now, turn)
@@ -215,6 +225,7 @@ where
         ensures crashed { OnOk result (crashed_of self.new ≡ crashed_of self.old) }
         ensures waits { OnOk result ((trace : Option Trace) → GroupCameIn trace (slice_index_or (groups_of self.old) client None) (λ u r. Lost u r) → IsSound (ways P.meaning Q.meaning K.meaning P.refuses Q.refuses K.refuses) (posting_in turn.old.posted.items trace) [] self.old → EndsGroup (ways P.meaning Q.meaning K.meaning P.refuses Q.refuses K.refuses) trace client turn.old.posted.items turn.new.posted.items turn.old.ended.items turn.new.ended.items self.old self.new) }
         ensures runs { OnOk result (AreRunning (rows_of self.old) → AreRunning (rows_of self.new)) }
+        ensures leads { OnOk result (turn.old.posted.items ≡ [] → turn.old.ended.items ≡ [] → LeadsGroup (ways P.meaning Q.meaning K.meaning P.refuses Q.refuses K.refuses) client (λ u r. Lost u r) turn.old.posted.items turn.new.posted.items turn.old.ended.items turn.new.ended.items self.old self.new) }
     {
         let given = self.lose_times(client)?;
         self.give(client, given, now, turn)
@@ -238,9 +249,13 @@ where
         ensures crashed { OnOk result (crashed_of self.new ≡ crashed_of self.old) }
         ensures waits { OnOk result ((trace : Option Trace) → AreGivenIn trace given.items → IsSound (ways P.meaning Q.meaning K.meaning P.refuses Q.refuses K.refuses) (posting_in turn.old.posted.items trace) (map (λ a. a.0) given.items) self.old → GoesOn (ways P.meaning Q.meaning K.meaning P.refuses Q.refuses K.refuses) trace client (λ n a. ⊥) [] turn.old.posted.items turn.new.posted.items turn.old.ended.items turn.new.ended.items self.old self.new) }
         ensures runs { OnOk result (AreRunning (rows_of self.old) → AreRunning (rows_of self.new)) }
+        ensures leads { OnOk result (turn.old.posted.items ≡ [] → turn.old.ended.items ≡ [] → LeadsGiven (ways P.meaning Q.meaning K.meaning P.refuses Q.refuses K.refuses) given.items turn.old.posted.items turn.new.posted.items turn.old.ended.items turn.new.ended.items self.old self.new) }
     {
         for (asker, answer) in given {
-            // Only lines of a client that has not crashed ask its oracle.
+            // Only calls of lines of a client that has not crashed ask its oracle, and no heartbeat.
+            if asker.beat {
+                return Err(NoMemory);
+            }
             if !self.is_of(asker.line, client) {
                 return Err(NoMemory);
             }

@@ -1,4 +1,6 @@
 //! What the calls of the lines want done is posted.
+ghost use Rattle.txn_clients.specs.Arising.{HandsAll};
+ghost use Rattle.txn_side.specs.declared.turn.Posting.TheVariants.{Send};
 ghost use Rattle.std.specs.Bool.{MatchBool};
 ghost use Rattle.std.specs.Prelude.{◌≡◌, ◌-◌, ◌<◌, ◌++◌, ◌∷◌, ⊤, [], List, false, length, slice_set, true, IfOk, OnOk};
 ghost use Rattle.txn_clients.specs.Clients.{IsLine, crashed_of, groups_of, nexts_of, rows_of, sight_of};
@@ -108,6 +110,7 @@ impl<P, Q, K> Clients<P, Q, K> {
         ensures clients { OnOk result (self.new.clients ≡ self.old.clients) }
         ensures posts { OnOk result (PostsOne line (ReplyTo number) turn.old.posted.items turn.new.posted.items) }
         ensures sent { OnOk result (Any (IsSend (record { line = line; beat = false; number = number }) request) turn.new.posted.items) }
+        ensures exact { OnOk result (turn.new.posted.items ≡ turn.old.posted.items ++ Send (record { line = line; beat = false; number = number }) to request [] ∷ []) }
     {
         // Timestamps are asked for by the oracle, and by nobody else.
         if is_tso(&request) {
@@ -152,6 +155,7 @@ impl<P, Q, K> Clients<P, Q, K> {
         ensures crashed { OnOk result (crashed_of self.new ≡ crashed_of self.old) }
         ensures next { OnOk result (next_at (nexts_of self.new) line ≡ next_after errand (next_at (nexts_of self.old) line)) }
         ensures hands { OnOk result ((rest : List Wanted) → HandsOn line client (errand ∷ rest) rest turn.old.posted.items turn.new.posted.items self.old self.new) }
+        ensures exact { OnOk result ((rest : List Wanted) → HandsAll line client (errand ∷ rest) rest turn.old.posted.items turn.new.posted.items self.old self.new) }
     {
         match errand {
             Errand::Send {
@@ -186,6 +190,7 @@ impl<P, Q, K> Clients<P, Q, K> {
         ensures ended { OnOk result (turn.new.ended ≡ turn.old.ended) }
         ensures rows { OnOk result (rows_of self.new ≡ rows_of self.old) }
         ensures crashed { OnOk result (crashed_of self.new ≡ crashed_of self.old) }
+        ensures exact { OnOk result (HandsAll line client sends.items [] turn.old.posted.items turn.new.posted.items self.old self.new) }
     {
         for errand in sends {
             self.hand_on(line, client, errand, turn)?;

@@ -1,4 +1,8 @@
 //! What stands at the lines is told of what came.
+ghost use Rattle.txn_clients.specs.Arising.{AnswerArises, CallCame, LeadsEnded, LeadsPushed, LeadsTold, MovesRow};
+ghost use Rattle.std.specs.Prelude.{⊤};
+ghost use Rattle.txn_clients.specs.declared.answer.Answer.TheVariants.{Called};
+ghost use Rattle.txn_clients.specs.declared.row.Row.TheVariants.{Plain};
 ghost use Rattle.std.specs.Prelude.{◌≡◌, ◌<◌, ◌^◌, ◌-◌, ℕ, Option, true, length, IfOk, IfSome, IsTrue, OnOk, Bool, List, None, Some, false};
 ghost use Rattle.txn_clients.specs.Accounts.{AccountsTold, AnswersNew, AnswersTold, BeginsNew, account_at, is_heard};
 ghost use Rattle.txn_clients.specs.Closing.{ClosesIn, EndsCall, EndsOwn, GoesTold, HasComeTo, StandsAt, status_by};
@@ -86,6 +90,7 @@ where
         ensures tells { IfOk result (λ answer. TellsRow (ways P.meaning Q.meaning K.meaning P.refuses Q.refuses K.refuses) told listener.at self.old self.new out.old out.new answer) }
         ensures new { IfOk result (λ answer. IfSome answer IsNewAnswer) }
         ensures kind { IfOk result (λ answer. IfSome answer (IsAnswerOf (stand_of (row_at (rows_of self.old) listener.at)))) }
+        ensures moves { IfOk result (λ answer. MovesRow (ways P.meaning Q.meaning K.meaning P.refuses Q.refuses K.refuses) told listener.at self.old self.new out.old out.new answer) }
     {
         let pd = self.clients[listener.client].client.pd();
         self.places[listener.at].row.tell(told, pd, now, out)
@@ -124,6 +129,7 @@ where
         ensures runs { IfOk result (λ answer. RunsOn told listener.at answer (rows_of self.old) (rows_of self.new)) }
         ensures new { IfOk result (λ answer. IfSome answer IsNewAnswer) }
         ensures kind { IfOk result (λ answer. IfSome answer (IsAnswerOf (stand_of (row_at (rows_of self.old) listener.at)))) }
+        ensures leads { IfOk result (λ answer. LeadsPushed (ways P.meaning Q.meaning K.meaning P.refuses Q.refuses K.refuses) told line listener.at listener.client answer turn.old.posted.items turn.new.posted.items turn.old.ended.items turn.new.ended.items self.old self.new) }
     {
         let mut out = self.outbox(line)?;
         let answer = self.tell_row(listener, told, now, &mut out)?;
@@ -154,6 +160,7 @@ where
         ensures ready { OnOk result (AreReady (ways P.meaning Q.meaning K.meaning P.refuses Q.refuses K.refuses) (rows_of self.new)) }
         ensures accounts { OnOk result (AreKept (account_at (rows_of self.old)) (account_at (rows_of self.new))) }
         ensures crashed { OnOk result (crashed_of self.new ≡ crashed_of self.old) }
+        ensures leads { OnOk result (IsNewAnswer {P = P} {Q = Q} {K = K} (Asked answer) → LeadsEnded (ways P.meaning Q.meaning K.meaning P.refuses Q.refuses K.refuses) (λ askers h. AnswerArises (ways P.meaning Q.meaning K.meaning P.refuses Q.refuses K.refuses) askers line Plain (Some (Asked answer)) h) turn.old.posted.items turn.new.posted.items turn.old.ended.items turn.new.ended.items self.old self.new) }
     {
         match self.row(line) {
             Row::Asking { client, begins, .. } => {
@@ -193,6 +200,7 @@ where
         ensures ends { OnOk result (EndsCall line (stand_at (sight_of self.old).stands line) answer turn.old.ended.items turn.new.ended.items) }
         ensures crashed { OnOk result (crashed_of self.new ≡ crashed_of self.old) }
         ensures count { OnOk result (length (sight_of self.new).stands ≡ length (sight_of self.old).stands) }
+        ensures leads { OnOk result (LeadsEnded (ways P.meaning Q.meaning K.meaning P.refuses Q.refuses K.refuses) (CallCame (ways P.meaning Q.meaning K.meaning P.refuses Q.refuses K.refuses) self.old line (Some (Called answer))) turn.old.posted.items turn.new.posted.items turn.old.ended.items turn.new.ended.items self.old self.new) }
     {
         match self.row(line) {
             Row::Calling {
@@ -284,6 +292,7 @@ where
         ensures crashed { OnOk result (crashed_of self.new ≡ crashed_of self.old) }
         ensures waits { OnOk result ((trace : Option Trace) (rest : List Asker) → client_at (stand_at (sight_of self.old).stands line) ≡ Some client → IsSound (ways P.meaning Q.meaning K.meaning P.refuses Q.refuses K.refuses) (posting_in turn.old.posted.items trace) rest self.old → GoesOn (ways P.meaning Q.meaning K.meaning P.refuses Q.refuses K.refuses) trace client (λ n a. ⊥) rest turn.old.posted.items turn.new.posted.items turn.old.ended.items turn.new.ended.items self.old self.new) }
         ensures runs { OnOk result (AreRunning (rows_of self.old) → AreRunning (rows_of self.new)) }
+        ensures leads { OnOk result (client_at (stand_at (sight_of self.old).stands line) ≡ Some client → LeadsEnded (ways P.meaning Q.meaning K.meaning P.refuses Q.refuses K.refuses) (λ askers h. ⊤) turn.old.posted.items turn.new.posted.items turn.old.ended.items turn.new.ended.items self.old self.new) }
     {
         if !self.has_job(line) {
             return Ok(());
@@ -315,6 +324,7 @@ where
         ensures crashed { OnOk result (crashed_of self.new ≡ crashed_of self.old) }
         ensures waits { OnOk result ((trace : Option Trace) (rest : List Asker) → client_at (stand_at (sight_of self.old).stands line) ≡ Some listener.client → MayKnow (posting_in turn.old.posted.items trace) (outbox_of line) told (row_at (rows_of self.old) listener.at) → IsSound (ways P.meaning Q.meaning K.meaning P.refuses Q.refuses K.refuses) (posting_in turn.old.posted.items trace) (pends line told rest) self.old → GoesOn (ways P.meaning Q.meaning K.meaning P.refuses Q.refuses K.refuses) trace listener.client (HearsAt line told) rest turn.old.posted.items turn.new.posted.items turn.old.ended.items turn.new.ended.items self.old self.new) }
         ensures runs { OnOk result (AreRunningBut listener.at (rows_of self.old) → IsPrepared told (row_at (rows_of self.old) listener.at) → AreRunning (rows_of self.new)) }
+        ensures leads { OnOk result (LeadsTold (ways P.meaning Q.meaning K.meaning P.refuses Q.refuses K.refuses) told line listener.client turn.old.posted.items turn.new.posted.items turn.old.ended.items turn.new.ended.items self.old self.new) }
     {
         let heard = told.is_heard();
         match self.push(line, listener, told, now, turn)? {
@@ -395,6 +405,7 @@ where
         ensures crashed { OnOk result (crashed_of self.new ≡ crashed_of self.old) }
         ensures waits { OnOk result ((trace : Option Trace) (client : ℕ) (rest : List Asker) → is_live (sight_of self.old) line ≡ true → client_at (stand_at (sight_of self.old).stands line) ≡ Some client → CameIn (posting_in turn.old.posted.items trace) (outbox_of line) arrival → IsSound (ways P.meaning Q.meaning K.meaning P.refuses Q.refuses K.refuses) (posting_in turn.old.posted.items trace) (pends line (Heard arrival) rest) self.old → GoesOn (ways P.meaning Q.meaning K.meaning P.refuses Q.refuses K.refuses) trace client (HearsAt line (Heard arrival)) rest turn.old.posted.items turn.new.posted.items turn.old.ended.items turn.new.ended.items self.old self.new) }
         ensures runs { OnOk result (AreRunning (rows_of self.old) → AreRunning (rows_of self.new)) }
+        ensures leads { OnOk result ((client : ℕ) → LeadsTold (ways P.meaning Q.meaning K.meaning P.refuses Q.refuses K.refuses) (Heard arrival) line client turn.old.posted.items turn.new.posted.items turn.old.ended.items turn.new.ended.items self.old self.new) }
     {
         match self.listener(line) {
             None => Ok(()),

@@ -1,10 +1,12 @@
 use Rattle.txn_tso.specs.Calling.{members}
+use Rattle.txn_commit.specs.Committing.{ways}
 use Rattle.std.proofs.Common.{subst, sym}
 use Rattle.std.specs.Prelude.{IfSome, Ok}
 use Rattle.txn_history.specs.Turn.{turn_of}
 use Rattle.txn_clients.specs.Accounts.{AnswersNew}
 use Rattle.txn_clients.proofs.Accounting.{begun_answer, none_answer, wants_still}
 use Rattle.txn_clients.proofs.Going.{call_heard, call_started, call_unmoved, made_new}
+use Rattle.txn_clients.proofs.MovingRows.{ask_heard, ask_started, ask_unmoved}
 use Rattle.txn_clients.proofs.row.tell_call.Goals as goal
 
 pub returns-clause-posts : goal.returns-clause-posts
@@ -35,3 +37,12 @@ returns-clause-goes g c d b = call_heard _ c.args.told d b c.in-Heard.arrival c.
 
 pub returns-clause-new : goal.returns-clause-new
 returns-clause-new g c = made_new c.in_ok-progress-in-Heard.progress c.args.call.now.wanted c.args.now c.in-Heard.arrival c.asked-in-Heard.result c.asked-in-Heard.ensures c.in_ok-progress-in-Heard.ensures.made
+
+pub returns-in-Start-clause-moves : goal.returns-in-Start-clause-moves
+returns-in-Start-clause-moves g c d b = ask_started (ways g.P.Plan.meaning g.Q.Plan.meaning g.K.Plan.meaning g.P.PlanFor.refuses g.Q.PlanFor.refuses g.K.PlanFor.refuses) c.args.told d b c.args.call.now c.start.new.self c.args.out.now c.start.new.out c.in_ok-progress-in-Start.progress c.asked.result c.in-Start.is c.asked.ensures c.in_ok-progress-in-Start.ensures.tells
+
+pub returns-in-Act-clause-moves : goal.returns-in-Act-clause-moves
+returns-in-Act-clause-moves g c d b = ask_unmoved (ways g.P.Plan.meaning g.Q.Plan.meaning g.K.Plan.meaning g.P.PlanFor.refuses g.Q.PlanFor.refuses g.K.PlanFor.refuses) c.args.told c.in-Act.field-0 d b c.args.call.now c.args.out.now c.in-Act.is
+
+pub returns-clause-moves : goal.returns-clause-moves
+returns-clause-moves g c d b = ask_heard (ways g.P.Plan.meaning g.Q.Plan.meaning g.K.Plan.meaning g.P.PlanFor.refuses g.Q.PlanFor.refuses g.K.PlanFor.refuses) c.args.told d b c.in-Heard.arrival c.args.call.now c.tell.new.self c.args.out.now c.tell.new.out c.in_ok-progress-in-Heard.progress c.asked-in-Heard.result c.in-Heard.is c.asked-in-Heard.ensures c.in_ok-progress-in-Heard.ensures.tells

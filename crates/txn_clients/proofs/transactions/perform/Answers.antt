@@ -14,6 +14,7 @@ use Rattle.txn_clients.proofs.Showing.{notes_so}
 use Rattle.txn_clients.proofs.Taking.{all_locked, all_mutated, as_act, commit_barred, insert_refused, mutate_refused, taken_commit, taken_write, write_refused}
 use Rattle.txn_buffer.specs.Writes.{after_delete, after_insert, after_put, delete_call, insert_call, put_call}
 use Rattle.txn_clients.proofs.Standing.{acts_as, commits_goes, locked_steps, may_write, may_write_so, mutated_steps, writes_goes, written_step}
+use Rattle.txn_clients.proofs.Moving.{acts_move, commits_move, writes_move}
 use Rattle.txn_clients.proofs.transactions.perform.Goals as goal
 
 pub returns-in-Put-clause-told : goal.returns-in-Put-clause-told
@@ -88,3 +89,24 @@ returns-in-Rollback-clause-taken g c = as_act c.args.transaction.now c.roll_back
 
 pub returns-in-Rollback-clause-goes : goal.returns-in-Rollback-clause-goes
 returns-in-Rollback-clause-goes g c = acts_as _ g.met.P.Plan.lawful g.met.Q.Plan.lawful g.met.K.Plan.lawful c.args.act acts.Rollback _ _ c.args.out.now.line (account_of c.args.transaction.now) c.args.transaction.now c.roll_back.new.transaction c.args.out.now c.roll_back.new.out (turn_of c.roll_back.result) c.in-Rollback.is c.roll_back.ensures.goes
+
+pub returns-in-Put-clause-moves : goal.returns-in-Put-clause-moves
+returns-in-Put-clause-moves g c = writes_move _ c.args.act _ _ c.args.transaction.now c.put.new.self c.args.out.now c.put.new._out (turn_of c.put.result) (λ e. may_write_so (allows_data c.args.transaction.now.status) OperationAfterCommitError e) (λ d f. written_step c.in-Put.key (λ d. after_put (write_at d c.in-Put.key) c.in-Put.value) (put_call c.in-Put.key c.in-Put.value) d f) c.put.ensures.ends c.requires.idle c.put.ensures.gives_up c.put.ensures.quiet.0
+
+pub returns-in-Insert-clause-moves : goal.returns-in-Insert-clause-moves
+returns-in-Insert-clause-moves g c = writes_move _ c.args.act _ _ c.args.transaction.now c.insert.new.self c.args.out.now c.insert.new._out (turn_of c.insert.result) (λ e. may_write (allows_data c.args.transaction.now.status) OperationAfterCommitError _ e) (λ d f. written_step c.in-Insert.key (λ d. after_insert (write_at d c.in-Insert.key) c.in-Insert.value) (insert_call c.in-Insert.key c.in-Insert.value) d f) c.insert.ensures.ends c.requires.idle c.insert.ensures.gives_up c.insert.ensures.quiet.0
+
+pub returns-in-Delete-clause-moves : goal.returns-in-Delete-clause-moves
+returns-in-Delete-clause-moves g c = writes_move _ c.args.act _ _ c.args.transaction.now c.delete.new.self c.args.out.now c.delete.new._out (turn_of c.delete.result) (λ e. may_write_so (allows_data c.args.transaction.now.status) OperationAfterCommitError e) (λ d f. written_step c.in-Delete.key (λ d. after_delete d.is_pessimistic (write_at d c.in-Delete.key)) (delete_call c.in-Delete.key) d f) c.delete.ensures.ends c.requires.idle c.delete.ensures.gives_up c.delete.ensures.quiet.0
+
+pub returns-in-Mutate-clause-moves : goal.returns-in-Mutate-clause-moves
+returns-in-Mutate-clause-moves g c = writes_move _ c.args.act _ _ c.args.transaction.now c.batch_mutate.new.self c.args.out.now c.batch_mutate.new._out (turn_of c.batch_mutate.result) (λ e. may_write (allows_data c.args.transaction.now.status) OperationAfterCommitError _ e) (λ d f. mutated_steps _ d f) c.batch_mutate.ensures.ends c.requires.idle c.batch_mutate.ensures.gives_up c.batch_mutate.ensures.quiet.0
+
+pub returns-in-Lock-clause-moves : goal.returns-in-Lock-clause-moves
+returns-in-Lock-clause-moves g c = writes_move _ c.args.act _ _ c.args.transaction.now c.lock_keys.new.self c.args.out.now c.lock_keys.new._out (turn_of c.lock_keys.result) (λ e. may_write_so (allows_data c.args.transaction.now.status) OperationAfterCommitError e) (λ d f. locked_steps _ d f) c.lock_keys.ensures.ends c.requires.idle c.lock_keys.ensures.gives_up c.lock_keys.ensures.quiet.0
+
+pub returns-in-Commit-clause-moves : goal.returns-in-Commit-clause-moves
+returns-in-Commit-clause-moves g c = commits_move _ c.args.act OperationAfterCommitError c.args.transaction.now c.commit.new.self c.args.out.now c.commit.new.out (turn_of c.commit.result) c.requires.idle c.commit.ensures.refused c.commit.ensures.moves c.commit.ensures.status c.commit.ensures.kept c.commit.ensures.gives_up
+
+pub returns-in-Rollback-clause-moves : goal.returns-in-Rollback-clause-moves
+returns-in-Rollback-clause-moves g c = acts_move _ c.args.act acts.Rollback c.args.transaction.now c.roll_back.new.transaction c.args.out.now c.roll_back.new.out (turn_of c.roll_back.result) c.in-Rollback.is c.roll_back.ensures.moves

@@ -14,6 +14,8 @@ use Rattle.txn_clients.proofs.Beginning.{ask_steps}
 use Rattle.std.proofs.lemmas.Result.{IfOk-weaker}
 use Rattle.txn_clients.specs.Failing.{CalledIn}
 use Rattle.txn_clients.proofs.Coming.{called_since}
+use Rattle.txn_clients.proofs.Timestamps.{both_if_ok}
+use Rattle.txn_clients.proofs.Stepped.{ask_leads}
 use Rattle.txn_clients.proofs.clients.Clients.ask.Goals as goal
 
 pub step-requires-clause-listens : goal.step-requires-clause-listens
@@ -52,3 +54,9 @@ returns-clause-steps g c = IfOk-weaker c.step.result _ _
     (newest_idle c.args.self.now c.newest-line.result c.newest-line.ensures (c.if-not-is_new.ensures refl)) c.requires.client c.requires.fresh c.requires.unbegun c.set_row.ensures.rows c.set_row.ensures.nexts c.set_row.ensures.asks c.set_row.ensures.clients ready
     (called_since trace [] c.newest-line.result c.newest-line.result (subst (λ n. CalledIn trace n n) (sym c.newest-line.ensures) called)) sound (f trace))
     c.step.ensures.steps
+
+pub returns-clause-leads : goal.returns-clause-leads
+returns-clause-leads g c = both_if_ok c.step.result _ _ _
+    (λ turn alone f. ask_leads _ c.args.self.now c.set_row.new.self c.step.new.self c.newest-line.result c.args.client c.args.begins c.args.call turn.posted.items turn.ended.items (newest_is c.args.self.now c.newest-line.result c.requires.line c.newest-line.ensures)
+    (newest_idle c.args.self.now c.newest-line.result c.newest-line.ensures (c.if-not-is_new.ensures refl)) c.requires.fresh c.set_row.ensures.rows c.set_row.ensures.nexts c.set_row.ensures.asks c.set_row.ensures.clients alone f)
+    c.step.ensures.alone c.step.ensures.leads

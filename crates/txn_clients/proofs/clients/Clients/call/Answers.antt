@@ -14,6 +14,8 @@ use Rattle.std.proofs.lemmas.Result.{IfOk-weaker}
 use Rattle.txn_clients.specs.Accounts.{account_at}
 use Rattle.txn_clients.specs.Failing.{CalledIn, KnowsAsk}
 use Rattle.txn_clients.proofs.Coming.{called_since, asked_since}
+use Rattle.txn_clients.proofs.Timestamps.{both_if_ok}
+use Rattle.txn_clients.proofs.Stepped.{call_leads}
 use Rattle.txn_clients.proofs.clients.Clients.call.Goals as goal
 
 pub step-requires-clause-listens : goal.step-requires-clause-listens
@@ -63,3 +65,10 @@ returns-clause-steps g c = IfOk-weaker c.step.result _ _
     (called_since trace [] c.newest-line.result c.args.transaction (subst (λ n. CalledIn trace n c.args.transaction) (sym c.newest-line.ensures) called))
     (asked_since trace [] c.newest-line.result c.args.act (account_at (rows_of c.args.self.now) c.args.transaction) (subst (λ n. KnowsAsk trace n c.args.act (account_at (rows_of c.args.self.now) c.args.transaction)) (sym c.newest-line.ensures) refused)) sound (f trace))
     c.step.ensures.steps
+
+pub returns-clause-leads : goal.returns-clause-leads
+returns-clause-leads g c = both_if_ok c.step.result _ _ _
+    (λ turn alone f. call_leads _ c.args.self.now c.set_waits.new.self c.set_row.new.self c.step.new.self c.newest-line.result c.args.transaction c.args.client c.is_commit.result c.args.act turn.posted.items turn.ended.items (newest_is c.args.self.now c.newest-line.result c.requires.line c.newest-line.ensures)
+    (newest_idle c.args.self.now c.newest-line.result c.newest-line.ensures (c.if-not-is_new.ensures refl)) c.requires.transaction c.requires.ready c.set_waits.ensures.rows c.set_waits.ensures.nexts c.set_waits.ensures.asks c.set_waits.ensures.clients
+    c.set_row.ensures.rows c.set_row.ensures.nexts c.set_row.ensures.asks c.set_row.ensures.clients alone f)
+    c.step.ensures.alone c.step.ensures.leads

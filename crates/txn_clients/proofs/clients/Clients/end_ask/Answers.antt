@@ -14,6 +14,9 @@ use Rattle.txn_clients.proofs.Showing.{one_more, reason_so}
 use Rattle.txn_clients.proofs.Sounding.{no_more, running_set}
 use Rattle.txn_clients.specs.Failing.{posting_in}
 use Rattle.txn_clients.proofs.Tables.{stand_of_line}
+use Rattle.txn_clients.proofs.Chaining.{leads_nothing}
+use Rattle.txn_clients.proofs.Ended.{ask_ends}
+use Rattle.txn_clients.specs.Arising.{heard_by}
 use Rattle.txn_clients.proofs.clients.Clients.end_ask.Goals as goal
 
 pub returns-in_ok-push-in-Asking-clause-advances : goal.returns-in_ok-push-in-Asking-clause-advances
@@ -72,3 +75,11 @@ returns-in_ok-push-in-Asking-clause-ends g c = (ends_so c.args.line c.in_ok-ende
 
 pub returns-in_default-clause-ends : goal.returns-in_default-clause-ends
 returns-in_default-clause-ends g c = ends_nothing c.args.line c.args.turn.now.ended.items
+
+pub returns-in_ok-push-in-Asking-clause-leads : goal.returns-in_ok-push-in-Asking-clause-leads
+returns-in_ok-push-in-Asking-clause-leads g c new =
+    ask_ends _ c.args.self.now c.set_row.new.self c.args.line c.in-Asking.client c.in-Asking.begins c.in-Asking.call c.in_ok-ended-in-Asking.ended.row c.in_ok-ended-in-Asking.ended.outcome c.args.answer c.args.turn.now.posted.items c.args.turn.now.ended.items c.push.new.self.items
+    c.requires.line (sym c.row.ensures ∙ c.in-Asking.is) c.set_row.ensures.rows c.set_row.ensures.nexts c.set_row.ensures.asks c.set_row.ensures.clients c.in_ok-ended-in-Asking.ensures.leaves c.in_ok-push-in-Asking.ensures.items new
+
+pub returns-in_default-clause-leads : goal.returns-in_default-clause-leads
+returns-in_default-clause-leads g c new askers rest h came arisen = leads_nothing _ askers rest c.args.turn.now.posted.items c.args.turn.now.ended.items (heard_by c.args.self.now) c.args.self.now h arisen

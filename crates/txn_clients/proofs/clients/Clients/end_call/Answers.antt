@@ -13,6 +13,9 @@ use Rattle.txn_clients.proofs.Showing.{one_more, reason_so}
 use Rattle.txn_clients.proofs.Sounding.{no_more}
 use Rattle.txn_clients.specs.Failing.{posting_in}
 use Rattle.txn_clients.proofs.Tables.{stand_of_line}
+use Rattle.txn_clients.proofs.Chaining.{leads_nothing}
+use Rattle.txn_clients.proofs.Ended.{call_ends}
+use Rattle.txn_clients.specs.Arising.{heard_by}
 use Rattle.txn_clients.proofs.clients.Clients.end_call.Goals as goal
 
 pub set_waits-requires : goal.set_waits-requires
@@ -95,3 +98,13 @@ pub returns-in_default-clause-runs : goal.returns-in_default-clause-runs
 returns-in_default-clause-runs g c d x b e but =
     let r = calling_row c.row.result.now d x b (ap stand_of c.row.ensures ∙ sym (stand_of_line (rows_of c.args.self.now) c.args.line c.requires.line.first) ∙ e) in
     absurd (c.in_default.not-Calling d x b r)
+
+pub returns-in_ok-push-in-Calling-clause-leads : goal.returns-in_ok-push-in-Calling-clause-leads
+returns-in_ok-push-in-Calling-clause-leads g c =
+    let may = subst (MayEnd (rows_of c.args.self.now) c.args.line) (stands_at (rows_of c.args.self.now) c.args.line (row.Calling c.in-Calling.client c.in-Calling.transaction c.in-Calling.commits) c.requires.line (sym c.row.ensures ∙ c.in-Calling.is)) c.requires.may in
+    call_ends _ c.args.self.now c.set_waits.new.self c.set_row.new.self c.args.line c.in-Calling.transaction c.in-Calling.client may.0 c.in-Calling.commits c.in_ok-ended-in-Calling.ended.row c.in_ok-ended-in-Calling.ended.outcome c.args.answer c.args.turn.now.posted.items c.args.turn.now.ended.items c.push.new.self.items
+    c.requires.line (sym c.row.ensures ∙ c.in-Calling.is) may.1 may.2 c.set_waits.ensures.rows c.set_waits.ensures.nexts c.set_waits.ensures.asks c.set_waits.ensures.clients c.set_row.ensures.rows c.set_row.ensures.nexts c.set_row.ensures.asks c.set_row.ensures.clients
+    c.in_ok-ended-in-Calling.ensures.leaves c.in_ok-ended-in-Calling.ensures.outcome c.in_ok-push-in-Calling.ensures.items
+
+pub returns-in_default-clause-leads : goal.returns-in_default-clause-leads
+returns-in_default-clause-leads g c askers rest h came arisen = leads_nothing _ askers rest c.args.turn.now.posted.items c.args.turn.now.ended.items (heard_by c.args.self.now) c.args.self.now h arisen

@@ -1,4 +1,4 @@
-use Rattle.std.proofs.Common.{arith, ◌∙◌, ◌++◌, [], inl, inr, refl, subst, sym, map}
+use Rattle.std.proofs.Common.{arith, ◌∙◌, ◌++◌, ◌∷◌, [], inl, inr, refl, subst, sym, map}
 use Rattle.std.proofs.lemmas.List.Elements.{All-tail}
 use Rattle.std.specs.List.{All}
 use Rattle.txn_history.specs.Among.{IsAmong}
@@ -15,12 +15,16 @@ use Rattle.txn_clients.proofs.Timestamps.{timed_by}
 use Rattle.txn_clients.specs.Waiting.{HearsAt, IsSound, GoesOn}
 use Rattle.txn_clients.specs.declared.told.Told.TheVariants.{Heard}
 use Rattle.txn_clients.proofs.Settling.{goes_on, head_sound, quiet_goes}
+use Rattle.txn_tso.specs.Calling.{members}
 use Rattle.txn_tso.specs.Oracle.{Answer}
 use Rattle.txn_clients.proofs.Kept.{nil_so}
 use Rattle.txn_commit.specs.Committing.{ways}
 use Rattle.txn_clients.specs.Failing.{posting_in}
 use Rattle.txn_clients.proofs.Giving.{given_came}
 use Rattle.txn_clients.proofs.Sounding.{no_more}
+use Rattle.txn_clients.specs.Arising.{Arisen}
+use Rattle.txn_clients.proofs.Chaining.{leads_nothing}
+use Rattle.txn_clients.proofs.Grouped.{LeadsGiving, gives_next, plain_asker}
 use Rattle.txn_clients.proofs.clients.Clients.give.Goals as goal
 
 pub loop-asker-init : goal.loop-asker-init
@@ -35,6 +39,8 @@ loop-asker-init g c = record {
       quiet_goes _ trace c.args.self.now c.args.self.now c.args.client _ c.args.turn.now.posted.items c.args.turn.now.ended.items c.args.turn.now.ended.items (subst (λ xs. IsSound (ways g.P.Plan.meaning g.Q.Plan.meaning g.K.Plan.meaning g.P.PlanFor.refuses g.Q.PlanFor.refuses g.K.PlanFor.refuses) now (map (λ (a : Answer). a.0) xs) c.args.self.now) (sym c.into_iter-asker-iterator.ensures.into_iter_gives.0) sound)
       (no_more _ now c.args.turn.now.ended.items) (λ n a x. x) (λ n. refl);
   runs = λ running. running;
+  leads = λ posted ended askers h f.
+      leads_nothing (ways g.P.Plan.meaning g.Q.Plan.meaning g.K.Plan.meaning g.P.PlanFor.refuses g.Q.PlanFor.refuses g.K.PlanFor.refuses) askers _ c.args.turn.now.posted.items c.args.turn.now.ended.items _ c.args.self.now h (subst (λ xs. Arisen (ways g.P.Plan.meaning g.Q.Plan.meaning g.K.Plan.meaning g.P.PlanFor.refuses g.Q.PlanFor.refuses g.K.PlanFor.refuses) c.args.self.now askers xs h) (sym c.into_iter-asker-iterator.ensures.into_iter_gives.0) f);
   times = subst (All IsTimeFor) (sym c.into_iter-asker-iterator.ensures.into_iter_gives.0) c.requires.times;
   rest = λ a among. subst (λ xs. IsAmong xs a) c.into_iter-asker-iterator.ensures.into_iter_gives.0 among;
 }
@@ -63,6 +69,14 @@ loop-asker-preserved g c =
           goes_on _ trace c.args.self.now c.loop-asker.self c.tell.new.self c.args.client (λ n a. ⊥) (HearsAt c.in-Some.asker.line (Heard (Time c.in-Some.asker.ask c.in-Some.answer))) _ left c.args.turn.now.posted.items c.loop-asker.turn.posted.items c.tell.new.turn.posted.items c.args.turn.now.ended.items c.loop-asker.turn.ended.items c.tell.new.turn.ended.items first
           (c.in_ok-tell.ensures.waits trace c.args.client left (c.if-not-is_of.ensures.live refl) (c.if-not-is_of.ensures.own refl) came here);
       runs = λ running. c.in_ok-tell.ensures.runs (c.loop-asker.invariant.runs running);
+      leads = λ posted ended askers h f.
+          let first = c.loop-asker.invariant.leads posted ended askers h f in
+          let here = subst (λ a. Arisen (ways g.P.Plan.meaning g.Q.Plan.meaning g.K.Plan.meaning g.P.PlanFor.refuses g.Q.PlanFor.refuses g.K.PlanFor.refuses) c.loop-asker.self askers ((a, c.in-Some.answer) ∷ c.next.new.self.rest.items) first.later) (sym (plain_asker c.in-Some.asker c.if-asker.false)) (subst (λ xs. Arisen (ways g.P.Plan.meaning g.Q.Plan.meaning g.K.Plan.meaning g.P.PlanFor.refuses g.Q.PlanFor.refuses g.K.PlanFor.refuses) c.loop-asker.self askers xs first.later) c.in-Some.ensures.steps.0 first.arisen) in
+          gives_next (ways g.P.Plan.meaning g.Q.Plan.meaning g.K.Plan.meaning g.P.PlanFor.refuses g.Q.PlanFor.refuses g.K.PlanFor.refuses) c.args.self.now c.loop-asker.self c.tell.new.self askers c.loop-asker.asker-iterator.rest.items c.next.new.self.rest.items c.args.turn.now.posted.items c.loop-asker.turn.posted.items c.tell.new.turn.posted.items c.loop-asker.turn.posted.items c.args.turn.now.ended.items c.loop-asker.turn.ended.items c.tell.new.turn.ended.items h
+          (advances_all c.args.turn.now c.loop-asker.turn (sight_of c.args.self.now) (sight_of c.loop-asker.self) posted ended c.loop-asker.invariant.advances)
+          (advances_all c.args.turn.now c.tell.new.turn (sight_of c.args.self.now) (sight_of c.tell.new.self) posted ended (advances_then c.args.turn.now c.loop-asker.turn c.tell.new.turn (sight_of c.args.self.now) (sight_of c.loop-asker.self) (sight_of c.tell.new.self) c.loop-asker.invariant.advances c.in_ok-tell.ensures.advances))
+          first
+          (c.in_ok-tell.ensures.leads c.args.client askers c.next.new.self.rest.items first.later members (c.if-not-is_of.ensures.own refl) tt here);
       times = All-tail IsTimeFor (c.in-Some.asker, c.in-Some.answer) c.next.new.self.rest.items (subst (All IsTimeFor) c.in-Some.ensures.steps.0 c.loop-asker.invariant.times);
       rest = λ a among. c.loop-asker.invariant.rest a (subst (λ xs. IsAmong xs a) (sym c.in-Some.ensures.steps.0) (inr among));
     }
@@ -73,3 +87,10 @@ returns-clause-waits g c trace given sound =
     let none = c.in-None.ensures.steps.0 in
     let none_left = nil_so rest.items (let ok = rest.ok in omega (arith, ok, none)) in
     subst (λ xs. GoesOn (ways g.P.Plan.meaning g.Q.Plan.meaning g.K.Plan.meaning g.P.PlanFor.refuses g.Q.PlanFor.refuses g.K.PlanFor.refuses) trace c.args.client (λ n a. ⊥) (map (λ (a : Answer). a.0) xs) c.args.turn.now.posted.items c.loop-asker.turn.posted.items c.args.turn.now.ended.items c.loop-asker.turn.ended.items c.args.self.now c.loop-asker.self) none_left (c.loop-asker.invariant.waits trace given sound)
+
+pub returns-clause-leads : goal.returns-clause-leads
+returns-clause-leads g c posted ended =
+    let rest = c.loop-asker.asker-iterator.rest in
+    let none = c.in-None.ensures.steps.0 in
+    let none_left = nil_so rest.items (let ok = rest.ok in omega (arith, ok, none)) in
+    subst (λ xs. LeadsGiving (ways g.P.Plan.meaning g.Q.Plan.meaning g.K.Plan.meaning g.P.PlanFor.refuses g.Q.PlanFor.refuses g.K.PlanFor.refuses) c.args.given.items xs c.args.turn.now.posted.items c.loop-asker.turn.posted.items c.args.turn.now.ended.items c.loop-asker.turn.ended.items c.args.self.now c.loop-asker.self) none_left (c.loop-asker.invariant.leads posted ended)

@@ -13,6 +13,7 @@ use Rattle.txn_clients.specs.Waiting.{AreRunning, GoesOn, IsSound}
 use Rattle.std.specs.Prelude.{Option}
 use Rattle.txn_side.specs.Trace.{Trace}
 use Rattle.txn_clients.specs.Failing.{AreGivenIn, posting_in}
+use Rattle.txn_clients.proofs.Grouped.{LeadsGiving}
 use Rattle.txn_clients.proofs.clients.Clients.give.Given as goal
 
 abbrev pub invariant-loop-asker : goal.invariant-loop-asker
@@ -25,6 +26,7 @@ invariant-loop-asker g l = record {
   waits : (trace : Option Trace) → AreGivenIn trace l.fn.given.items → IsSound (ways g.P.Plan.meaning g.Q.Plan.meaning g.K.Plan.meaning g.P.PlanFor.refuses g.Q.PlanFor.refuses g.K.PlanFor.refuses) (posting_in l.initial.turn.posted.items trace) (map (λ (a : Answer). a.0) l.fn.given.items) l.initial.self
       → GoesOn (ways g.P.Plan.meaning g.Q.Plan.meaning g.K.Plan.meaning g.P.PlanFor.refuses g.Q.PlanFor.refuses g.K.PlanFor.refuses) trace l.client (λ n a. ⊥) (map (λ (a : Answer). a.0) l.asker-iterator.rest.items) l.initial.turn.posted.items l.turn.posted.items l.initial.turn.ended.items l.turn.ended.items l.initial.self l.self;
   runs : AreRunning (rows_of l.initial.self) → AreRunning (rows_of l.self);
+  leads : l.initial.turn.posted.items ≡ [] → l.initial.turn.ended.items ≡ [] → LeadsGiving (ways g.P.Plan.meaning g.Q.Plan.meaning g.K.Plan.meaning g.P.PlanFor.refuses g.Q.PlanFor.refuses g.K.PlanFor.refuses) l.fn.given.items l.asker-iterator.rest.items l.initial.turn.posted.items l.turn.posted.items l.initial.turn.ended.items l.turn.ended.items l.initial.self l.self;
   times : All IsTimeFor l.asker-iterator.rest.items;
   rest : (a : Answer) → IsAmong l.asker-iterator.rest.items a → IsAmong l.fn.given.items a;
 }

@@ -15,6 +15,7 @@ use Rattle.txn_clients.specs.Waiting.{AreRunningBut, IsAnswerOf, IsNewAnswer}
 use Rattle.txn_clients.proofs.Settling.{asked_at, asked_rests, called_at, called_rests, goes_on}
 use Rattle.txn_clients.specs.Failing.{posting_in}
 use Rattle.txn_clients.proofs.Voices.{hears_voice}
+use Rattle.txn_clients.proofs.ToldParts.{asked_leads, called_leads, pushed_leads}
 use Rattle.txn_clients.proofs.clients.Clients.go.Goals as goal
 
 pub end_call-requires-clause-may : goal.end_call-requires-clause-may
@@ -137,3 +138,20 @@ returns-in_ok-end_call-in-Some-Called-clause-runs g c = on_ok c.start_job.result
     let r = c.in_ok-push.ensures.runs but prepared in
     f (c.in_ok-end_call-in-Some-Called.ensures.runs at.c at.x at.b (ap (λ ss. stand_at ss c.args.line) c.in_ok-push.ensures.stands ∙ at.stand) (subst (λ i. AreRunningBut i (rows_of c.push.new.self)) at.place r.0)))
     c.start_job.ensures.runs
+
+pub returns-in-None-clause-leads : goal.returns-in-None-clause-leads
+returns-in-None-clause-leads g c = pushed_leads _ c.args.told c.args.line c.args.listener.at c.args.listener.client c.in_ok-push.field-0 c.args.self.now c.push.new.self _ _ _ _ c.requires.listens.hears c.in_ok-push.ensures.leads
+
+pub returns-in-Some-Asked-clause-leads : goal.returns-in-Some-Asked-clause-leads
+returns-in-Some-Asked-clause-leads g c = on_ok c.end_ask.result
+    (λ f. let new = some_at c.in_ok-push.field-0 c.in-Some-Asked.field-0 IsNewAnswer c.in-Some-Asked.is c.in_ok-push.ensures.new in
+    asked_leads _ c.args.told c.args.line c.args.listener.at c.args.listener.client c.in_ok-push.field-0 c.in-Some-Asked.answer c.args.self.now c.push.new.self c.end_ask.new.self _ _ _ _ _ _ c.requires.listens.hears c.in_ok-push.ensures.stands
+    (c.in-Some-Asked.is ∙ ap (λ x. Some x) c.in-Some-Asked.field-0-is) c.in_ok-push.ensures.leads (f (subst IsNewAnswer c.in-Some-Asked.field-0-is new)))
+    c.end_ask.ensures.leads
+
+pub returns-in_ok-end_call-in-Some-Called-clause-leads : goal.returns-in_ok-end_call-in-Some-Called-clause-leads
+returns-in_ok-end_call-in-Some-Called-clause-leads g c = both_on_ok c.start_job.result
+    (λ job (same : c.start_job.new.turn.ended ≡ c.end_call.new.turn.ended).
+    called_leads _ c.args.told c.args.line c.args.listener.at c.args.listener.client c.in_ok-push.field-0 c.in-Some-Called.answer c.args.self.now c.push.new.self c.end_call.new.self c.start_job.new.self _ _ _ _ _ _ _ _ c.requires.listens.hears c.in_ok-push.ensures.stands
+    (c.in-Some-Called.is ∙ ap (λ x. Some x) c.in-Some-Called.field-0-is) c.in_ok-push.ensures.leads c.in_ok-end_call-in-Some-Called.ensures.leads c.in_ok-end_call-in-Some-Called.ensures.clients job (ap (λ v. v.items) same))
+    c.start_job.ensures.leads c.start_job.ensures.ended

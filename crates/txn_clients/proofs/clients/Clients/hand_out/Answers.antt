@@ -5,8 +5,10 @@ use Rattle.txn_clients.specs.Going.{AreNext}
 use Rattle.txn_clients.proofs.Advances.{advances_quiet, advances_then, next_done, next_first, next_left}
 use Rattle.txn_clients.proofs.Listening.{live_after}
 use Rattle.txn_clients.proofs.Tables.{line_kept}
+use Rattle.txn_clients.specs.Arising.{HandsAll}
 use Rattle.txn_clients.specs.Waiting.{HandsOn}
 use Rattle.txn_clients.proofs.Grouping.{hands_nothing, hands_then}
+use Rattle.txn_clients.proofs.Handing.{all_nothing, all_then}
 use Rattle.txn_clients.proofs.Kept.{nil_so}
 use Rattle.txn_clients.proofs.clients.Clients.hand_out.Goals as goal
 
@@ -17,6 +19,7 @@ loop-errand-init g c = record {
   rows = refl;
   crashed = refl;
   hands = subst (λ es. HandsOn c.args.line c.args.client c.args.sends.items es c.args.turn.now.posted.items c.args.turn.now.posted.items c.args.self.now c.args.self.now) (sym c.into_iter-errand-iterator.ensures.into_iter_gives.0) (hands_nothing c.args.line c.args.client c.args.sends.items c.args.turn.now.posted.items c.args.self.now);
+  exact = subst (λ es. HandsAll c.args.line c.args.client c.args.sends.items es c.args.turn.now.posted.items c.args.turn.now.posted.items c.args.self.now c.args.self.now) (sym c.into_iter-errand-iterator.ensures.into_iter_gives.0) (all_nothing c.args.line c.args.client c.args.sends.items c.args.turn.now.posted.items c.args.self.now);
   next = subst (AreNext (next_at (nexts_of c.args.self.now) c.args.line)) (sym c.into_iter-errand-iterator.ensures.into_iter_gives.0) c.requires.next;
 }
 
@@ -44,6 +47,8 @@ loop-errand-preserved g c =
       crashed = done.crashed ∙ c.loop-errand.invariant.crashed;
       hands = hands_then c.args.line c.args.client c.args.sends.items (c.in-Some.errand ∷ c.next.new.self.rest.items) c.next.new.self.rest.items c.args.turn.now.posted.items c.loop-errand.turn.posted.items c.hand_on.new.turn.posted.items c.args.self.now c.loop-errand.self c.hand_on.new.self
           (subst (λ es. HandsOn c.args.line c.args.client c.args.sends.items es c.args.turn.now.posted.items c.loop-errand.turn.posted.items c.args.self.now c.loop-errand.self) c.in-Some.ensures.steps.0 c.loop-errand.invariant.hands) (done.hands c.next.new.self.rest.items);
+      exact = all_then c.args.line c.args.client c.args.sends.items (c.in-Some.errand ∷ c.next.new.self.rest.items) c.next.new.self.rest.items c.args.turn.now.posted.items c.loop-errand.turn.posted.items c.hand_on.new.turn.posted.items c.args.self.now c.loop-errand.self c.hand_on.new.self
+          (subst (λ es. HandsAll c.args.line c.args.client c.args.sends.items es c.args.turn.now.posted.items c.loop-errand.turn.posted.items c.args.self.now c.loop-errand.self) c.in-Some.ensures.steps.0 c.loop-errand.invariant.exact) (done.exact c.next.new.self.rest.items);
       next = next_done _ _ c.loop-errand.errand-iterator.rest.items c.in-Some.errand c.next.new.self.rest.items c.in-Some.ensures.steps.0 done.next c.loop-errand.invariant.next;
     }
 
@@ -53,3 +58,10 @@ returns-clause-hands g c =
     let none = c.in-None.ensures.steps.0 in
     let none_left = nil_so rest.items (let ok = rest.ok in omega (arith, ok, none)) in
     subst (λ es. HandsOn c.args.line c.args.client c.args.sends.items es c.args.turn.now.posted.items c.loop-errand.turn.posted.items c.args.self.now c.loop-errand.self) none_left c.loop-errand.invariant.hands
+
+pub returns-clause-exact : goal.returns-clause-exact
+returns-clause-exact g c =
+    let rest = c.loop-errand.errand-iterator.rest in
+    let none = c.in-None.ensures.steps.0 in
+    let none_left = nil_so rest.items (let ok = rest.ok in omega (arith, ok, none)) in
+    subst (λ es. HandsAll c.args.line c.args.client c.args.sends.items es c.args.turn.now.posted.items c.loop-errand.turn.posted.items c.args.self.now c.loop-errand.self) none_left c.loop-errand.invariant.exact

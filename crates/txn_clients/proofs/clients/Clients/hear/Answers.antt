@@ -13,6 +13,7 @@ use Rattle.txn_clients.specs.Failing.{CameIn, outbox_of, posting_in}
 use Rattle.txn_clients.specs.Waiting.{IsSound, pends}
 use Rattle.txn_clients.specs.declared.told.Told.TheVariants.{Heard}
 use Rattle.txn_commit.specs.Committing.{ways}
+use Rattle.txn_clients.proofs.Stepped.{told_steps}
 use Rattle.txn_clients.proofs.clients.Clients.hear.Goals as goal
 
 pub returns-clause-turn : goal.returns-clause-turn
@@ -40,3 +41,8 @@ returns-clause-steps g c trace live own ready came sound =
     (subst (λ ps. IsSound (ways g.P.Plan.meaning g.Q.Plan.meaning g.K.Plan.meaning g.P.PlanFor.refuses g.Q.PlanFor.refuses g.K.PlanFor.refuses) (posting_in ps trace) (pends c.args.line (Heard c.args.arrival) []) c.args.self.now) none (pends_none _ (posting_in [] trace) c.args.self.now c.args.line c.args.arrival sound)) in
     whole_steps _ trace c.args.self.now c.tell.new.self c.send_group.new.self c.args.client _ c.new-turn.result.posted.items c.tell.new.turn.posted.items c.send_group.new.turn.posted.items c.new-turn.result.ended.items c.tell.new.turn.ended.items c.send_group.new.turn.ended.items
     c.new-turn.ensures.ended (ap (λ v. v.items) c.in_ok-send_group.ensures.ended) went (c.in_ok-send_group.ensures.waits trace [] went.sound) c.in_ok-send_group.ensures.rows (c.in_ok-tell.ensures.runs ready.running) (λ d apart. ready.quiet d)
+
+pub returns-clause-leads : goal.returns-clause-leads
+returns-clause-leads g c =
+    told_steps _ (Heard c.args.arrival) c.args.line c.args.client c.args.self.now c.tell.new.self c.send_group.new.self c.new-turn.result.posted.items c.tell.new.turn.posted.items c.send_group.new.turn.posted.items c.new-turn.result.ended.items c.tell.new.turn.ended.items c.send_group.new.turn.ended.items
+    c.new-turn.ensures.posted c.new-turn.ensures.ended (ap (λ v. v.items) c.in_ok-send_group.ensures.ended) (c.in_ok-tell.ensures.leads c.args.client) c.in_ok-send_group.ensures.leads

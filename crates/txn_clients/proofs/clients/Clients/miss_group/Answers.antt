@@ -10,6 +10,8 @@ use Rattle.std.specs.Prelude.{[]}
 use Rattle.txn_clients.specs.Failing.{posting_in}
 use Rattle.txn_clients.specs.Waiting.{IsSound}
 use Rattle.txn_commit.specs.Committing.{ways}
+use Rattle.txn_history.specs.Event.Event.{Lost}
+use Rattle.txn_clients.proofs.Stepped.{group_leads}
 use Rattle.txn_clients.proofs.clients.Clients.miss_group.Goals as goal
 
 pub returns-clause-turn : goal.returns-clause-turn
@@ -39,3 +41,8 @@ pub returns-clause-groups : goal.returns-clause-groups
 returns-clause-groups g c ready =
     let ended = c.in_ok-lose_group.ensures.waits None tt ready.sound in
     groups_beside _ None c.args.self.now c.lose_group.new.self c.send_group.new.self c.args.client c.new-turn.result.posted.items c.lose_group.new.turn.posted.items c.send_group.new.turn.posted.items c.new-turn.result.ended.items c.lose_group.new.turn.ended.items ended c.in_ok-send_group.ensures.groups
+
+pub returns-clause-leads : goal.returns-clause-leads
+returns-clause-leads g c =
+    group_leads _ c.args.client (λ u r. Lost u r) c.args.self.now c.lose_group.new.self c.send_group.new.self c.new-turn.result.posted.items c.lose_group.new.turn.posted.items c.send_group.new.turn.posted.items c.new-turn.result.ended.items c.lose_group.new.turn.ended.items c.send_group.new.turn.ended.items
+    c.new-turn.ensures.posted c.new-turn.ensures.ended (ap (λ v. v.items) c.in_ok-send_group.ensures.ended) (c.in_ok-lose_group.ensures.leads c.new-turn.ensures.posted c.new-turn.ensures.ended) c.in_ok-send_group.ensures.leads

@@ -5,6 +5,7 @@ use Rattle.txn_clients.proofs.Sending.{asked_so, asks_put, groups_left, lines_so
 use Rattle.txn_clients.proofs.Telling.{on_ok}
 use Rattle.txn_clients.proofs.Grouping.{regrouped}
 use Rattle.std.proofs.lemmas.Result.{IfOk-weaker}
+use Rattle.txn_clients.proofs.Grouped.{next_put}
 use Rattle.txn_clients.proofs.clients.Clients.next_group.Goals as goal
 
 pub returns-clause-crashed : goal.returns-clause-crashed
@@ -25,3 +26,6 @@ returns-clause-lines g c = lines_so c.next_group.result c.newest-newest.result _
 
 pub returns-clause-regroups : goal.returns-clause-regroups
 returns-clause-regroups g c = IfOk-weaker c.next_group.result _ _ (λ group book. regrouped c.args.self.now _ c.args.client group c.next_group.new.self c.index_mut.result.now refl refl c.requires c.index_mut.ensures.value book) c.next_group.ensures.regroups
+
+pub returns-clause-next : goal.returns-clause-next
+returns-clause-next g c = IfOk-weaker c.next_group.result _ _ (λ group next. next_put c.args.self.now c.args.client _ c.next_group.new.self c.index_mut.result.now c.requires c.index_mut.ensures.value next) c.next_group.ensures.next

@@ -5,6 +5,7 @@ use Rattle.txn_clients.proofs.Tables.{same_clients, same_groups}
 use Rattle.txn_clients.proofs.Timestamps.{first_asks}
 use Rattle.txn_clients.proofs.Grouping.{group_sent}
 use Rattle.txn_clients.proofs.Hearing.{group_posted}
+use Rattle.txn_clients.specs.Waiting.{Book}
 use Rattle.txn_clients.proofs.clients.Clients.send_request.Goals as goal
 
 pub returns-clause-advances : goal.returns-clause-advances
@@ -32,3 +33,6 @@ returns-clause-groups g c =
     group_posted c.args.self.now c.set_group.new.self c.args.client (record { ticket = c.in_ok-ticket.ticket; askers = asks }) c.args.turn.now.posted.items c.post.new.turn.posted.items _ posted.posted
     (refl, c.requires.askers ∙ sym (same_asks c.args.self.now c.post.new.self c.args.client posted.clients)) c.requires.client
     (c.set_group.ensures.groups ∙ ap (λ gs. set gs c.args.client (Some (record { ticket = c.in_ok-ticket.ticket; askers = asks }))) (same_groups c.args.self.now c.post.new.self posted.clients))
+
+pub returns-clause-exact : goal.returns-clause-exact
+returns-clause-exact g c = record { ticket = c.in_ok-ticket.ticket; kept = ap (λ (b : Book). b.ticket) c.set_group.ensures.ticket.book; posted = c.in_ok-post.ensures.posted }

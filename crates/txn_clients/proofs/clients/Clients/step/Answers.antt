@@ -11,6 +11,7 @@ use Rattle.txn_side.specs.Sight.{stand_at}
 use Rattle.txn_clients.specs.Closing.{GoesTold}
 use Rattle.txn_clients.proofs.Stepping.{whole_steps}
 use Rattle.std.specs.Prelude.{[]}
+use Rattle.txn_clients.proofs.Stepped.{told_steps}
 use Rattle.txn_clients.proofs.clients.Clients.step.Goals as goal
 
 pub returns-clause-turn : goal.returns-clause-turn
@@ -36,3 +37,8 @@ returns-clause-steps g c trace own knows sound quiet but prepared =
     (subst (λ ps. IsSound (ways g.P.Plan.meaning g.Q.Plan.meaning g.K.Plan.meaning g.P.PlanFor.refuses g.Q.PlanFor.refuses g.K.PlanFor.refuses) (posting_in ps trace) (pends c.args.line c.args.told []) c.args.self.now) none sound) in
     whole_steps _ trace c.args.self.now c.go.new.self c.send_group.new.self c.args.listener.client _ c.new-turn.result.posted.items c.go.new.turn.posted.items c.send_group.new.turn.posted.items c.new-turn.result.ended.items c.go.new.turn.ended.items c.send_group.new.turn.ended.items
     c.new-turn.ensures.ended (ap (λ v. v.items) c.in_ok-send_group.ensures.ended) went (c.in_ok-send_group.ensures.waits trace [] went.sound) c.in_ok-send_group.ensures.rows (c.in_ok-go.ensures.runs but prepared) quiet
+
+pub returns-clause-leads : goal.returns-clause-leads
+returns-clause-leads g c =
+    told_steps _ c.args.told c.args.line c.args.listener.client c.args.self.now c.go.new.self c.send_group.new.self c.new-turn.result.posted.items c.go.new.turn.posted.items c.send_group.new.turn.posted.items c.new-turn.result.ended.items c.go.new.turn.ended.items c.send_group.new.turn.ended.items
+    c.new-turn.ensures.posted c.new-turn.ensures.ended (ap (λ v. v.items) c.in_ok-send_group.ensures.ended) c.in_ok-go.ensures.leads c.in_ok-send_group.ensures.leads

@@ -12,6 +12,7 @@ use Rattle.txn_clients.proofs.Stepping.{group_ends}
 use Rattle.txn_clients.specs.Waiting.{AreRunning}
 use Rattle.txn_clients.specs.Failing.{posting_in}
 use Rattle.txn_clients.proofs.Giving.{given_taken}
+use Rattle.txn_clients.proofs.Grouped.{jobs_last, taken_leads}
 use Rattle.txn_clients.proofs.clients.Clients.take_group.Goals as goal
 
 pub returns-clause-advances : goal.returns-clause-advances
@@ -47,3 +48,11 @@ returns-clause-waits g c = on_ok c.give.result
 
 pub returns-clause-runs : goal.returns-clause-runs
 returns-clause-runs g c = on_ok c.give.result (λ f running. f (subst AreRunning (sym c.in_ok-given.ensures.rows) running)) c.give.ensures.runs
+
+pub returns-clause-leads : goal.returns-clause-leads
+returns-clause-leads g c = on_ok c.give.result
+    (λ f posted ended.
+    let done = c.in_ok-given.ensures in
+    taken_leads _ g.met.P.Plan.lawful g.met.Q.Plan.lawful g.met.K.Plan.lawful (jobs_last g.Q.Plan.meaning g.met.Q.Plan.lawful g.Q.PlanFor.refuses g.Q.PlanFor.costs g.met.Q.PlanFor.refuses_longer) c.args.self.now c.take_times.new.self c.give.new.self c.args.client c.args.reply c.in_ok-given.given.items c.args.turn.now.posted.items c.give.new.turn.posted.items c.args.turn.now.ended.items c.give.new.turn.ended.items
+    done.takes done.rows done.nexts done.granted done.refused (f posted ended))
+    c.give.ensures.leads

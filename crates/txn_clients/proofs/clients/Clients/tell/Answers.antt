@@ -12,6 +12,7 @@ use Rattle.txn_clients.proofs.Settling.{client_same, unheard_goes}
 use Rattle.txn_clients.proofs.Telling.{live_line, on_ok}
 use Rattle.txn_clients.specs.declared.told.Told.TheVariants.{Heard}
 use Rattle.txn_commit.specs.Committing.{ways}
+use Rattle.txn_clients.proofs.ToldParts.{unheard_leads}
 use Rattle.txn_clients.proofs.clients.Clients.tell.Goals as goal
 
 pub go-requires-clause-hears : goal.go-requires-clause-hears
@@ -43,3 +44,9 @@ returns-in-None-clause-runs g c running = running
 
 pub returns-in-Some-clause-runs : goal.returns-in-Some-clause-runs
 returns-in-Some-clause-runs g c = on_ok c.go.result (λ f running. f (λ i apart. running i) (running c.in-Some.listener.at)) c.go.ensures.runs
+
+pub returns-in-None-clause-leads : goal.returns-in-None-clause-leads
+returns-in-None-clause-leads g c client = unheard_leads _ g.met.P.Plan.lawful g.met.Q.Plan.lawful g.met.K.Plan.lawful c.args.self.now c.args.line client c.args.arrival c.args.turn.now.posted.items c.args.turn.now.ended.items
+
+pub returns-in-Some-clause-leads : goal.returns-in-Some-clause-leads
+returns-in-Some-clause-leads g c = on_ok c.go.result (λ f client askers rest h r own can arisen. f askers rest h r c.in-Some.ensures.own can arisen) c.go.ensures.leads

@@ -9,6 +9,7 @@ use Rattle.txn_clients.proofs.Accounting.{put_accounts, put_answers}
 use Rattle.txn_clients.proofs.Pushing.{if_ok_with, row_told}
 use Rattle.txn_clients.specs.Waiting.{IsAnswerOf}
 use Rattle.std.specs.Prelude.{IfSome}
+use Rattle.txn_clients.proofs.MovingRows.{place_told}
 use Rattle.txn_clients.proofs.clients.Clients.tell_row.Goals as goal
 
 pub returns-clause-stands : goal.returns-clause-stands
@@ -57,3 +58,8 @@ pub returns-clause-kind : goal.returns-clause-kind
 returns-clause-kind g c = IfOk-weaker c.tell.result _ _
     (λ answer kind. subst (λ s. IfSome answer (IsAnswerOf s)) (ap stand_of (sym (place_row c.args.self.now c.args.listener.at c.index_mut-2.result.now c.requires.place c.index_mut-2.ensures.value))) kind)
     c.tell.ensures.kind
+
+pub returns-clause-moves : goal.returns-clause-moves
+returns-clause-moves g c = if_ok_with c.tell.result
+    (λ answer same moves. place_told _ c.args.told c.args.self.now _ c.args.listener.at c.index_mut-2.result.now (record c.index_mut-2.result.now { row = c.tell.new.self }) c.args.out.now c.tell.new.out answer refl c.requires.place c.index_mut-2.ensures.value same moves)
+    c.tell.ensures.stand c.tell.ensures.moves

@@ -5,6 +5,7 @@ use Rattle.txn_clients.specs.Clients.{sight_of}
 use Rattle.txn_clients.proofs.Coming.{rolls_untold}
 use Rattle.txn_clients.proofs.Sides.{waits_none}
 use Rattle.txn_clients.proofs.Stepping.{ready_of, rested, rests_on, rests_still}
+use Rattle.txn_clients.proofs.Shown.{arises_sent, arises_still}
 use Rattle.txn_clients.proofs.clients.asking.ClientsClientSide.act.Goals as goal
 
 pub returns-in_ok-call-in-Some-clause-waits : goal.returns-in_ok-call-in-Some-clause-waits
@@ -22,3 +23,9 @@ returns-in_ok-call-in-Some-clause-rests g c t posted called refused rolls was =
 
 pub returns-in-None-clause-rests : goal.returns-in-None-clause-rests
 returns-in-None-clause-rests g c t posted called refused rolls was = rests_still (ways g.P.Plan.meaning g.Q.Plan.meaning g.K.Plan.meaning g.P.PlanFor.refuses g.Q.PlanFor.refuses g.K.PlanFor.refuses) t c.args.self.now c.args.self.now posted was
+
+pub returns-in-None-clause-arises : goal.returns-in-None-clause-arises
+returns-in-None-clause-arises g c h a = arises_still (ways g.P.Plan.meaning g.Q.Plan.meaning g.K.Plan.meaning g.P.PlanFor.refuses g.Q.PlanFor.refuses g.K.PlanFor.refuses) c.args.self.now (λ n. c.args.transaction) h a
+
+pub returns-in_ok-call-in-Some-clause-arises : goal.returns-in_ok-call-in-Some-clause-arises
+returns-in_ok-call-in-Some-clause-arises g c h a = arises_sent (ways g.P.Plan.meaning g.Q.Plan.meaning g.K.Plan.meaning g.P.PlanFor.refuses g.Q.PlanFor.refuses g.K.PlanFor.refuses) c.args.self.now c.call.new.self c.in_ok-call-in-Some.field-0.posted.items c.in_ok-call-in-Some.field-0.ended.items (λ n. c.args.transaction) h c.in_ok-call-in-Some.ensures.leads a

@@ -3,6 +3,7 @@ use Rattle.std.proofs.Common.{None, Some}
 use Rattle.txn_clients.proofs.Sides.{waits_none}
 use Rattle.txn_clients.proofs.Stepping.{ready_of, rested, rests_on, rests_still}
 use Rattle.txn_clients.proofs.Taking.{wants_optimistic}
+use Rattle.txn_clients.proofs.Shown.{arises_sent, arises_still}
 use Rattle.txn_clients.proofs.clients.asking.ClientsClientSide.begin.Goals as goal
 
 pub ask-requires-clause-wants : goal.ask-requires-clause-wants
@@ -23,3 +24,9 @@ returns-in_ok-ask-in-Some-clause-rests g c t posted called was =
 
 pub returns-in-None-clause-rests : goal.returns-in-None-clause-rests
 returns-in-None-clause-rests g c t posted called was = rests_still (ways g.P.Plan.meaning g.Q.Plan.meaning g.K.Plan.meaning g.P.PlanFor.refuses g.Q.PlanFor.refuses g.K.PlanFor.refuses) t c.args.self.now c.args.self.now posted was
+
+pub returns-in-None-clause-arises : goal.returns-in-None-clause-arises
+returns-in-None-clause-arises g c h a = arises_still (ways g.P.Plan.meaning g.Q.Plan.meaning g.K.Plan.meaning g.P.PlanFor.refuses g.Q.PlanFor.refuses g.K.PlanFor.refuses) c.args.self.now (λ n. n) h a
+
+pub returns-in_ok-ask-in-Some-clause-arises : goal.returns-in_ok-ask-in-Some-clause-arises
+returns-in_ok-ask-in-Some-clause-arises g c h a = arises_sent (ways g.P.Plan.meaning g.Q.Plan.meaning g.K.Plan.meaning g.P.PlanFor.refuses g.Q.PlanFor.refuses g.K.PlanFor.refuses) c.args.self.now c.ask.new.self c.in_ok-ask-in-Some.field-0.posted.items c.in_ok-ask-in-Some.field-0.ended.items (λ n. n) h c.in_ok-ask-in-Some.ensures.leads a

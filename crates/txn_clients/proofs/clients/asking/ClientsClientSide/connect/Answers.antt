@@ -8,6 +8,7 @@ use Rattle.txn_clients.proofs.Tables.{same_clients, same_groups}
 use Rattle.txn_clients.specs.declared.row.Row.TheVariants as row
 use Rattle.txn_clients.proofs.Accounting.{idle_line, kept_at}
 use Rattle.txn_clients.proofs.Sides.{connected_all, connected_rests, connected_waits}
+use Rattle.txn_clients.proofs.Unmoved.{connected_arises}
 use Rattle.txn_clients.proofs.clients.asking.ClientsClientSide.connect.Goals as goal
 
 pub returns-clause-sight : goal.returns-clause-sight
@@ -47,3 +48,7 @@ returns-clause-rests g c t was =
     connected_rests _ g.met.P.Plan.lawful g.met.Q.Plan.lawful g.met.K.Plan.lawful t c.args.self.now c.set_row.new.self c.newest.result c.len-client.result c.new.result (newest_is c.args.self.now c.newest.result c.requires.line c.newest.ensures)
     (newest_idle c.args.self.now c.newest.result c.newest.ensures (c.if-not-is_new.ensures refl)) new (ap (λ v. v.items) c.set_row.ensures.clients ∙ c.in_ok-push.ensures.items) c.new.ensures.book
     (same_clients pushed c.set_row.new.self c.set_row.ensures.clients ∙ pushed_crashed c.args.self.now pushed c.new.result c.in_ok-push.ensures.items c.new.ensures.crashed) c.set_row.ensures.rows c.set_row.ensures.nexts c.set_row.ensures.asks c.requires.ready.rows.matched was
+
+pub returns-clause-arises : goal.returns-clause-arises
+returns-clause-arises g c = connected_arises (ways g.P.Plan.meaning g.Q.Plan.meaning g.K.Plan.meaning g.P.PlanFor.refuses g.Q.PlanFor.refuses g.K.PlanFor.refuses) g.met.P.Plan.lawful g.met.Q.Plan.lawful g.met.K.Plan.lawful c.args.self.now c.set_row.new.self c.newest.result c.len-client.result c.new.result (newest_is c.args.self.now c.newest.result c.requires.line c.newest.ensures)
+    (newest_idle c.args.self.now c.newest.result c.newest.ensures (c.if-not-is_new.ensures refl)) (ap (λ v. v.items) c.set_row.ensures.clients ∙ c.in_ok-push.ensures.items) c.new.ensures.book c.set_row.ensures.rows c.set_row.ensures.nexts c.set_row.ensures.asks

@@ -9,6 +9,7 @@ use Rattle.txn_clients.proofs.Sides.{crashed_all, crashed_waits, waits_same}
 use Rattle.txn_clients.proofs.Grouping.{books_kept}
 use Rattle.txn_clients.proofs.Opening.{crashed_sound}
 use Rattle.txn_clients.specs.Waiting.{blank}
+use Rattle.txn_clients.proofs.Unmoved.{crashed_arises, unmoved_arises}
 use Rattle.txn_clients.proofs.clients.asking.ClientsClientSide.crash.Goals as goal
 
 pub returns-in-Some-clause-gone : goal.returns-in-Some-clause-gone
@@ -41,3 +42,12 @@ returns-in-Some-clause-rests g c t was =
     let gone = record c.index_mut.result.now { crashed = true } in
     crashed_sound _ g.met.P.Plan.lawful g.met.Q.Plan.lawful g.met.K.Plan.lawful (Some t) c.args.self.now (record c.args.self.now { clients = with_item c.args.self.now.clients c.in-Some.client gone }) c.in-Some.client [] refl (crashed_put c.args.self.now c.in-Some.client gone)
     (λ d. ap (λ bs. get_or bs d blank) (books_kept c.args.self.now.clients.items c.in-Some.client gone c.index_mut.result.now (within (crashed_of c.args.self.now) c.in-Some.client c.in-Some.ensures.there) c.index_mut.ensures.value refl)) was
+
+pub returns-in-None-clause-arises : goal.returns-in-None-clause-arises
+returns-in-None-clause-arises g c = unmoved_arises (ways g.P.Plan.meaning g.Q.Plan.meaning g.K.Plan.meaning g.P.PlanFor.refuses g.Q.PlanFor.refuses g.K.PlanFor.refuses) c.args.self.now
+
+pub returns-in-Some-clause-arises : goal.returns-in-Some-clause-arises
+returns-in-Some-clause-arises g c =
+    let gone = record c.index_mut.result.now { crashed = true } in
+    crashed_arises (ways g.P.Plan.meaning g.Q.Plan.meaning g.K.Plan.meaning g.P.PlanFor.refuses g.Q.PlanFor.refuses g.K.PlanFor.refuses) g.met.P.Plan.lawful g.met.Q.Plan.lawful g.met.K.Plan.lawful c.args.self.now (record c.args.self.now { clients = with_item c.args.self.now.clients c.in-Some.client gone }) refl
+    (λ d. ap (λ bs. get_or bs d blank) (books_kept c.args.self.now.clients.items c.in-Some.client gone c.index_mut.result.now (within (crashed_of c.args.self.now) c.in-Some.client c.in-Some.ensures.there) c.index_mut.ensures.value refl))

@@ -12,6 +12,8 @@ use Rattle.txn_clients.proofs.Coming.{group_came, loss_came}
 use Rattle.txn_clients.proofs.Sides.{on_ok_if, out_ticket, waits_deaf, waits_group, waits_reply}
 use Rattle.txn_clients.proofs.Stepping.{ready_of, rested, rests_on, rests_quiet}
 use Rattle.std.proofs.Common.{refl, sym}
+use Rattle.txn_clients.proofs.Shown.{arises_group, arises_lost, passes_quietly}
+use Rattle.txn_clients.specs.Arising.{heard_by}
 use Rattle.txn_clients.proofs.clients.asking.ClientsClientSide.lost.Goals as goal
 
 pub returns-else-is_group-clause-given : goal.returns-else-is_group-clause-given
@@ -53,3 +55,19 @@ returns-then-ticket-clause-rests g c t posted came was = rests_quiet (ways g.P.P
 
 pub returns-then-ticket-clause-waits : goal.returns-then-ticket-clause-waits
 returns-then-ticket-clause-waits g c live = waits_deaf (ways g.P.Plan.meaning g.Q.Plan.meaning g.K.Plan.meaning g.P.PlanFor.refuses g.Q.PlanFor.refuses g.K.PlanFor.refuses) c.args.self.now c.args.ticket c.new.result.posted.items c.if-ticket.true
+
+pub returns-then-is_group-clause-arises : goal.returns-then-is_group-clause-arises
+returns-then-is_group-clause-arises g c = IfOk-weaker c.miss_group.result _ _
+    (λ turn steps h r may a. arises_group (ways g.P.Plan.meaning g.Q.Plan.meaning g.K.Plan.meaning g.P.PlanFor.refuses g.Q.PlanFor.refuses g.K.PlanFor.refuses) c.args.self.now c.miss_group.new.self c.args.ticket c.in-Some.client (λ u r. Gone u r) r turn.posted.items turn.ended.items h tt (c.if-is_group.ensures.is refl) steps may a)
+    c.miss_group.ensures.leads
+
+pub returns-else-is_group-clause-arises : goal.returns-else-is_group-clause-arises
+returns-else-is_group-clause-arises g c = IfOk-weaker c.hear.result _ _
+    (λ turn steps h r may a. arises_lost (ways g.P.Plan.meaning g.Q.Plan.meaning g.K.Plan.meaning g.P.PlanFor.refuses g.Q.PlanFor.refuses g.K.PlanFor.refuses) c.args.self.now c.hear.new.self c.args.ticket c.in-Some.client turn.posted.items turn.ended.items h c.if-ticket.false c.in-Some.ensures.client r steps may a)
+    c.hear.ensures.leads
+
+pub returns-in-None-clause-arises : goal.returns-in-None-clause-arises
+returns-in-None-clause-arises g c h r may a = passes_quietly (ways g.P.Plan.meaning g.Q.Plan.meaning g.K.Plan.meaning g.P.PlanFor.refuses g.Q.PlanFor.refuses g.K.PlanFor.refuses) c.args.self.now c.new-in-None.result.posted.items c.new-in-None.result.ended.items (heard_by c.args.self.now) (Gone c.args.ticket r) h c.new-in-None.ensures.posted c.new-in-None.ensures.ended tt may a
+
+pub returns-then-ticket-clause-arises : goal.returns-then-ticket-clause-arises
+returns-then-ticket-clause-arises g c h r may a = passes_quietly (ways g.P.Plan.meaning g.Q.Plan.meaning g.K.Plan.meaning g.P.PlanFor.refuses g.Q.PlanFor.refuses g.K.PlanFor.refuses) c.args.self.now c.new.result.posted.items c.new.result.ended.items (heard_by c.args.self.now) (Gone c.args.ticket r) h c.new.ensures.posted c.new.ensures.ended tt may a

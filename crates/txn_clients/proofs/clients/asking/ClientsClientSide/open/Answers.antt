@@ -4,6 +4,7 @@ use Rattle.txn_clients.proofs.Asking.{opened_ready, opened_rows}
 use Rattle.txn_clients.proofs.Accounting.{kept_opened}
 use Rattle.std.proofs.Common.{ap, refl}
 use Rattle.txn_clients.proofs.Sides.{opened_ready_all, opened_rests, opened_waits_all}
+use Rattle.txn_clients.proofs.Unmoved.{opened_arises}
 use Rattle.txn_clients.proofs.clients.asking.ClientsClientSide.open.Goals as goal
 
 pub returns-clause-ready : goal.returns-clause-ready
@@ -23,3 +24,6 @@ returns-clause-waits g c = opened_waits_all (ways g.P.Plan.meaning g.Q.Plan.mean
 pub returns-clause-rests : goal.returns-clause-rests
 returns-clause-rests g c t was =
     opened_rests _ g.met.P.Plan.lawful g.met.Q.Plan.lawful g.met.K.Plan.lawful t c.args.self.now (record c.args.self.now { places = c.push.new.self }) c.new.result c.new.ensures c.in_ok-push.ensures.items refl was
+
+pub returns-clause-arises : goal.returns-clause-arises
+returns-clause-arises g c = opened_arises (ways g.P.Plan.meaning g.Q.Plan.meaning g.K.Plan.meaning g.P.PlanFor.refuses g.Q.PlanFor.refuses g.K.PlanFor.refuses) g.met.P.Plan.lawful g.met.Q.Plan.lawful g.met.K.Plan.lawful c.args.self.now (record c.args.self.now { places = c.push.new.self }) c.new.result c.new.ensures c.in_ok-push.ensures.items refl

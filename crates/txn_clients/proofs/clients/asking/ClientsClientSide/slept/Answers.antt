@@ -10,6 +10,10 @@ use Rattle.std.proofs.lemmas.Result.{IfOk-weaker}
 use Rattle.txn_commit.specs.Committing.{ways}
 use Rattle.txn_clients.proofs.Stepping.{ready_of, rested, rests_on, rests_quiet}
 use Rattle.std.proofs.Common.{refl, sym}
+use Rattle.txn_clients.proofs.Shown.{arises_slept, passes_quietly}
+use Rattle.txn_clients.specs.Arising.{heard_by}
+use Rattle.txn_history.specs.Event.Event.{Slept as Woke}
+use Rattle.txn_tso.specs.Calling.{members}
 use Rattle.txn_clients.proofs.clients.asking.ClientsClientSide.slept.Goals as goal
 
 pub returns-in-Some-clause-given : goal.returns-in-Some-clause-given
@@ -31,3 +35,11 @@ returns-in-Some-clause-rests g c = IfOk-weaker c.hear.result _ _
 
 pub returns-in-None-clause-rests : goal.returns-in-None-clause-rests
 returns-in-None-clause-rests g c t posted was = rests_quiet (ways g.P.Plan.meaning g.Q.Plan.meaning g.K.Plan.meaning g.P.PlanFor.refuses g.Q.PlanFor.refuses g.K.PlanFor.refuses) t c.args.self.now c.new.result.posted.items c.new.result.ended.items c.new.ensures.posted c.new.ensures.ended posted was
+
+pub returns-in-Some-clause-arises : goal.returns-in-Some-clause-arises
+returns-in-Some-clause-arises g c = IfOk-weaker c.hear.result _ _
+    (λ turn steps h beat a. arises_slept (ways g.P.Plan.meaning g.Q.Plan.meaning g.K.Plan.meaning g.P.PlanFor.refuses g.Q.PlanFor.refuses g.K.PlanFor.refuses) c.args.self.now c.hear.new.self c.args.ticket c.in-Some.client turn.posted.items turn.ended.items h beat c.in-Some.ensures.client members steps a)
+    c.hear.ensures.leads
+
+pub returns-in-None-clause-arises : goal.returns-in-None-clause-arises
+returns-in-None-clause-arises g c h beat a = passes_quietly (ways g.P.Plan.meaning g.Q.Plan.meaning g.K.Plan.meaning g.P.PlanFor.refuses g.Q.PlanFor.refuses g.K.PlanFor.refuses) c.args.self.now c.new.result.posted.items c.new.result.ended.items (heard_by c.args.self.now) (Woke c.args.ticket) h c.new.ensures.posted c.new.ensures.ended tt tt a

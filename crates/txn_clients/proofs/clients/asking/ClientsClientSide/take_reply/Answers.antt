@@ -13,6 +13,8 @@ use Rattle.txn_history.specs.Event.Event.{Took}
 use Rattle.txn_clients.proofs.Coming.{group_came, reply_came}
 use Rattle.txn_clients.proofs.Sides.{on_ok_if, out_ticket, waits_deaf, waits_group, waits_reply}
 use Rattle.txn_clients.proofs.Stepping.{ready_of, rested, rests_on, rests_quiet}
+use Rattle.txn_clients.proofs.Shown.{arises_group, arises_replied, passes_quietly}
+use Rattle.txn_clients.specs.Arising.{heard_by}
 use Rattle.txn_clients.proofs.clients.asking.ClientsClientSide.take_reply.Goals as goal
 
 pub returns-then-is_group-clause-given : goal.returns-then-is_group-clause-given
@@ -58,3 +60,19 @@ returns-then-ticket-clause-rests g c t posted came was = rests_quiet (ways g.P.P
 
 pub returns-then-ticket-clause-waits : goal.returns-then-ticket-clause-waits
 returns-then-ticket-clause-waits g c live = waits_deaf (ways g.P.Plan.meaning g.Q.Plan.meaning g.K.Plan.meaning g.P.PlanFor.refuses g.Q.PlanFor.refuses g.K.PlanFor.refuses) c.args.self.now c.args.ticket c.new.result.posted.items c.if-ticket.true
+
+pub returns-then-is_group-clause-arises : goal.returns-then-is_group-clause-arises
+returns-then-is_group-clause-arises g c = IfOk-weaker c.hear_group.result _ _
+    (λ turn steps h r may a. arises_group (ways g.P.Plan.meaning g.Q.Plan.meaning g.K.Plan.meaning g.P.PlanFor.refuses g.Q.PlanFor.refuses g.K.PlanFor.refuses) c.args.self.now c.hear_group.new.self c.args.ticket c.in-Some.client (λ u r. Took u r c.args.reply) r turn.posted.items turn.ended.items h tt (c.if-is_group.ensures.is refl) steps may a)
+    c.hear_group.ensures.leads
+
+pub returns-else-is_group-clause-arises : goal.returns-else-is_group-clause-arises
+returns-else-is_group-clause-arises g c = IfOk-weaker c.hear.result _ _
+    (λ turn steps h r may a. arises_replied (ways g.P.Plan.meaning g.Q.Plan.meaning g.K.Plan.meaning g.P.PlanFor.refuses g.Q.PlanFor.refuses g.K.PlanFor.refuses) c.args.self.now c.hear.new.self c.args.ticket c.in-Some.client turn.posted.items turn.ended.items h c.if-ticket.false c.in-Some.ensures.client c.args.reply r steps may a)
+    c.hear.ensures.leads
+
+pub returns-in-None-clause-arises : goal.returns-in-None-clause-arises
+returns-in-None-clause-arises g c h r may a = passes_quietly (ways g.P.Plan.meaning g.Q.Plan.meaning g.K.Plan.meaning g.P.PlanFor.refuses g.Q.PlanFor.refuses g.K.PlanFor.refuses) c.args.self.now c.new-in-None.result.posted.items c.new-in-None.result.ended.items (heard_by c.args.self.now) (Took c.args.ticket r c.args.reply) h c.new-in-None.ensures.posted c.new-in-None.ensures.ended tt may a
+
+pub returns-then-ticket-clause-arises : goal.returns-then-ticket-clause-arises
+returns-then-ticket-clause-arises g c h r may a = passes_quietly (ways g.P.Plan.meaning g.Q.Plan.meaning g.K.Plan.meaning g.P.PlanFor.refuses g.Q.PlanFor.refuses g.K.PlanFor.refuses) c.args.self.now c.new.result.posted.items c.new.result.ended.items (heard_by c.args.self.now) (Took c.args.ticket r c.args.reply) h c.new.ensures.posted c.new.ensures.ended tt may a

@@ -1,0 +1,294 @@
+-- What is told to what stands at a line makes a longer history of each history that was so.
+use Rattle.std.proofs.Common.{◌≡◌, ◌≢◌, ◌⊎◌, inl, inr, Bool, true, false, if◌then◌else◌, List, [], Option, Some, None, is_some, refl, sym, ap, ◌∙◌, subst, append-nil}
+use Rattle.std.specs.Prelude.{⊤, Result, Ok, Err}
+use Rattle.txn_kv.specs.Timestamp.{version_of}
+use Rattle.txn_kv.specs.declared.errors.Error.{Error}
+use Rattle.txn_kv.specs.declared.request.Request.{Request}
+use Rattle.txn_kv.specs.declared.ticket.Ticket.{Ticket}
+use Rattle.txn_history.specs.Event.{Event}
+use Rattle.txn_history.specs.Moves.{Moves}
+use Rattle.txn_history.specs.Posted.{Posted}
+use Rattle.txn_history.specs.Turn.{IfEnds, IfEnds-weaker, IfKept, IfKept-all, IfKept-out, IfKept-stopped, Turn}
+use Rattle.txn_history.specs.Turn.Turn.{Stopped, Waits, Ends}
+use Rattle.txn_plan.specs.Arrivals.{told_by}
+use Rattle.txn_plan.specs.declared.arrival.Arrival.{Arrival}
+use Rattle.txn_buffer.specs.Contents.{Contents}
+use Rattle.txn_commit.specs.Committing.{Ways}
+use Rattle.txn_commit.specs.Following.{undetermined}
+use Rattle.txn_commit.specs.Parts.{parts_of}
+use Rattle.txn_core.specs.Going.{IsUndetermined, MaySendFor, TransactionFits, TransactionGives, TransactionMoves}
+use Rattle.txn_core.specs.Status.{after_commit, allows_commit, allows_data, allows_rollback, status_step}
+use Rattle.txn_core.specs.Status.Became.{commits}
+use Rattle.txn_core.specs.Transaction.{GivesUp, IsOrdered, IsRefused, Standing, WriteEnds, commit_outcome, is_open, is_waiting, moved_by, rolled_status}
+use Rattle.txn_core.specs.declared.status.Status.TheVariants as statuses
+use Rattle.txn_core.specs.declared.transaction.Work.{Work}
+use Rattle.txn_core.specs.declared.transaction.Work.TheVariants.{Idle, GaveUp}
+use Rattle.txn_core.specs.declared.txn_answer.TxnAnswer.{TxnAnswer}
+use Rattle.txn_core.specs.declared.txn_answer.TxnAnswer.TheVariants as answer
+use Rattle.txn_core.proofs.Ordered.{written_fits}
+use Rattle.txn_side.specs.declared.act.Act.{Act}
+use Rattle.txn_clients.specs.Accounts.{IsQuiet}
+use Rattle.txn_clients.specs.Arising.{CallStands, KeepsPlan, Moved, StandFits, StandMoves}
+use Rattle.txn_clients.specs.Rows.{answer_in}
+use Rattle.txn_clients.specs.declared.answer.Answer.TheVariants as answers
+use Rattle.txn_clients.specs.declared.told.Told.TheVariants as tells
+use Rattle.txn_clients.proofs.Standing.{ends_shut, if_kept, open_so, refused_stays}
+use Rattle.txn_clients.proofs.Taking.{begins, commit_off, is_flag, moved_off, no_flag}
+
+-- Histories
+
+-- what an event call of a state does, where it has not given up
+pub moved_by_call : {X : Type 0} {may : List Event → Request → Type 0} {was is : List Event → Type 0} {gives : List Event → X → Type 0} {hear : List Event → List Event} {from to : Posted} {turn : Turn X} (stands : List Event → Type 0)
+    → turn ≢ Stopped → ((h : List Event) → IfEnds turn (λ v. gives h v) → stands h) → Moves may was is gives hear from to turn → Moved may was is stands hear from to
+moved_by_call {turn = turn} stands kept stood m = record {
+  sends = m.sends;
+  pushed = m.pushed;
+  line = m.line;
+  beat = m.beat;
+  numbered = m.numbered;
+  licensed = m.licensed;
+  still = IfKept-out turn kept m.still;
+  stands = λ h x. stood _ (IfEnds-weaker turn (λ v g. g h x) m.done);
+}
+
+-- nothing is posted, and nothing heard
+pub moved_quiet : {may : List Event → Request → Type 0} {was is stands : List Event → Type 0} {from to : Posted}
+    → to ≡ from → ((h : List Event) → was h → is h) → ((h : List Event) → was h → stands h) → Moved may was is stands (λ h. h) from to
+moved_quiet {from = from} e still stands = record {
+  sends = [];
+  pushed = ap (λ (o : Posted). o.sends) e ∙ sym (append-nil from.sends);
+  line = ap (λ (o : Posted). o.line) e;
+  beat = ap (λ (o : Posted). o.beat) e;
+  numbered = (ap (λ (o : Posted). o.next) e, ap (λ (o : Posted). o.next_ask) e);
+  licensed = λ h x. tt;
+  still = still;
+  stands = stands;
+}
+
+-- Plans
+
+module _ {P Q K : Type 0} where
+  -- only what is known of its Commits, and its work, change
+  keeps_rest : (old new : Standing P Q K) (from to : Posted) → new.start ≡ old.start → new.status ≡ old.status → new.contents ≡ old.contents → to ≡ from → KeepsPlan old new from to
+  keeps_rest old new from to start status contents quiet = record {
+    start = start;
+    closed = λ off. ap allows_data status ∙ off;
+    fixed = λ off. contents;
+    quiet = inl quiet;
+  }
+
+  pub keeps_same : (old new : Standing P Q K) (from to : Posted) → new ≡ old → to ≡ from → KeepsPlan old new from to
+  keeps_same old new from to e quiet = keeps_rest old new from to (ap (λ (t : Standing P Q K). t.start) e) (ap (λ (t : Standing P Q K). t.status) e) (ap (λ (t : Standing P Q K). t.contents) e) quiet
+
+  -- it may be written no more
+  keeps_off : (old new : Standing P Q K) (from to : Posted) → new.start ≡ old.start → new.contents ≡ old.contents → allows_data new.status ≡ false → KeepsPlan old new from to
+  keeps_off old new from to start contents off = record {
+    start = start;
+    closed = λ any. off;
+    fixed = λ any. contents;
+    quiet = inr off;
+  }
+
+  -- it may still be written, and is
+  keeps_written : (old new : Standing P Q K) (from to : Posted) → new ≡ record old { contents = new.contents } → allows_data old.status ≡ true → to ≡ from → KeepsPlan old new from to
+  keeps_written old new from to e on quiet = record {
+    start = ap (λ (t : Standing P Q K). t.start) e;
+    closed = λ off. absurd (no_flag (allows_data old.status) on off);
+    fixed = λ off. absurd (no_flag (allows_data new.status) (ap (λ (t : Standing P Q K). allows_data t.status) e ∙ on) off);
+    quiet = inl quiet;
+  }
+
+  keeps_commit : (old new : Standing P Q K) (from to : Posted) (turn : Turn (Result (TxnAnswer Q) Error)) → is_open old.work ≡ false
+      → (allows_commit old.status ≡ false → (new ≡ old) × (to ≡ from))
+      → (old.work ≡ Idle → new.status ≡ status_step old.status (commits (commit_outcome turn) (is_some (parts_of old.contents))))
+      → new.start ≡ old.start → new.contents ≡ old.contents → GivesUp old new turn → IfKept turn (KeepsPlan old new from to)
+  keeps_commit old new from to turn idle refused status start contents gives = elim (is_flag (allows_commit old.status)) [
+    | inl may ↦ begins old new turn idle gives (λ e.
+        let has = is_some (parts_of old.contents) in
+        keeps_off old new from to start contents (ap allows_data (status e ∙ ap (λ (b : Bool). if b then after_commit (commit_outcome turn) has else old.status) may) ∙ commit_off (commit_outcome turn) has))
+    | inr bars ↦ let r = refused bars in IfKept-all turn (keeps_same old new from to r.0 r.1)
+  ]
+
+  keeps_rollback : (old new : Standing P Q K) (from to : Posted) (turn : Turn (Result (TxnAnswer Q) Error)) → is_open old.work ≡ false
+      → (allows_rollback old.status ≡ false → (new ≡ old) × (to ≡ from))
+      → ((t : Ticket) → allows_rollback old.status ≡ true → undetermined old.commits ≡ Some t → (new ≡ record old { work = new.work }) × (to ≡ from))
+      → (old.work ≡ Idle → new.status ≡ rolled_status old.status (is_some (undetermined old.commits)) turn)
+      → new.start ≡ old.start → new.contents ≡ old.contents → GivesUp old new turn → IfKept turn (KeepsPlan old new from to)
+  keeps_rollback old new from to turn idle refused unknown status start contents gives = elim (is_flag (allows_rollback old.status)) [
+    | inl may ↦ by may (undetermined old.commits) refl
+    | inr bars ↦ let r = refused bars in IfKept-all turn (keeps_same old new from to r.0 r.1)
+  ]
+    where
+      by : allows_rollback old.status ≡ true → (o : Option Ticket) → undetermined old.commits ≡ o → IfKept turn (KeepsPlan old new from to)
+      by may (Some t) e = let u = unknown t may e in IfKept-all turn (keeps_rest old new from to start (ap (λ (x : Standing P Q K). x.status) u.0) contents u.1)
+      by may None e = begins old new turn idle gives (λ i.
+          let is : new.status ≡ moved_by statuses.StartedRollback turn = status i ∙ ap (λ (u : Option Ticket). rolled_status old.status (is_some u) turn) e ∙ ap (λ (b : Bool). if b then moved_by statuses.StartedRollback turn else old.status) may in
+          keeps_off old new from to start contents (ap allows_data is ∙ moved_off statuses.StartedRollback turn refl))
+
+  keeps_heard : (old new : Standing P Q K) (from to : Posted) (turn : Turn (Result (TxnAnswer Q) Error)) → IsQuiet old → new.status ≡ moved_by old.status turn
+      → new.start ≡ old.start → new.contents ≡ old.contents → GivesUp old new turn → (old.work ≡ Idle → (turn ≡ Waits) × (new ≡ old) × (to ≡ from)) → IfKept turn (KeepsPlan old new from to)
+  keeps_heard old new from to turn quiet status start contents gives deaf = elim (is_flag (allows_data old.status)) [
+    | inl on ↦ begins old new turn (quiet on).rests gives (λ e. let d = deaf e in keeps_same old new from to d.1 d.2)
+    | inr off ↦ IfKept-all turn (keeps_off old new from to start contents (ap allows_data status ∙ moved_off old.status turn off))
+  ]
+
+-- What a transaction is told
+
+module _ {P Q K A B D : Type 0} (w : Ways P Q K A B D) where
+  -- what it answers stands on what the call gives
+  call_stands : (old new : Standing P Q K) (h : List Event) (turn : Turn (Result (TxnAnswer Q) Error)) → IfEnds turn (λ v. TransactionGives w old.start old.contents new.commits h v) → CallStands w old new (answer_in answers.Called turn) h
+  call_stands old new h Stopped g = tt
+  call_stands old new h Waits g = tt
+  call_stands old new h (Ends (Err e)) g = tt
+  call_stands old new h (Ends (Ok (answer.Committed t job))) g = g
+  call_stands old new h (Ends (Ok answer.Unit)) g = tt
+  call_stands old new h (Ends (Ok (answer.Value v))) g = tt
+  call_stands old new h (Ends (Ok (answer.Exists b))) g = tt
+  call_stands old new h (Ends (Ok (answer.Pairs ps))) g = tt
+  call_stands old new h (Ends (Ok (answer.Keys ks))) g = tt
+  call_stands old new h (Ends (Ok (answer.Ttl n))) g = tt
+
+  -- and nothing is said of an error
+  error_stands : (old new : Standing P Q K) (h : List Event) (v : Result (TxnAnswer Q) Error) (e : Error) → v ≡ Err e → CallStands w old new (Some (answers.Called v)) h
+  error_stands old new h v e f = subst (λ (x : Result (TxnAnswer Q) Error). CallStands w old new (Some (answers.Called x)) h) (sym f) tt
+
+  refused_stands : (e : Error) (old new : Standing P Q K) (h : List Event) (turn : Turn (Result (TxnAnswer Q) Error)) → IsRefused e old new turn → CallStands w old new (answer_in answers.Called turn) h
+  refused_stands e old new h Stopped r = tt
+  refused_stands e old new h Waits r = tt
+  refused_stands e old new h (Ends v) r = error_stands old new h v e r.0
+
+  unknown_stands : (t : Ticket) (old new : Standing P Q K) (h : List Event) (turn : Turn (Result (TxnAnswer Q) Error)) → IsUndetermined t turn → CallStands w old new (answer_in answers.Called turn) h
+  unknown_stands t old new h Stopped u = tt
+  unknown_stands t old new h Waits u = tt
+  unknown_stands t old new h (Ends (Ok v)) u = absurd u
+  unknown_stands t old new h (Ends (Err e)) u = tt
+
+  stand_same : (old new : Standing P Q K) (from to : Posted) (h : List Event) → new ≡ old → to ≡ from → StandFits w old from h → StandFits w new to h
+  stand_same old new from to h e f x = subst (λ (t : Standing P Q K). StandFits w t to h) (sym e) (subst (λ (o : Posted). StandFits w old o h) (sym f) x)
+
+  -- it goes on, in a history of which so much is known
+  stand_moved : (known : List Event → Type 0) (hear : List Event → List Event) (old new : Standing P Q K) (from to : Posted) (turn : Turn (Result (TxnAnswer Q) Error)) → turn ≢ Stopped → new.contents ≡ old.contents → TransactionMoves w known hear old new from to turn
+      → Moved (MaySendFor old.contents (version_of old.start)) (λ h. StandFits w old from h × known h) (λ h. StandFits w new to h) (λ h. CallStands w old new (answer_in answers.Called turn) h) hear from to
+  stand_moved known hear old new from to turn kept same m = record {
+    sends = m.sends;
+    pushed = m.pushed;
+    line = m.line;
+    beat = m.beat;
+    numbered = m.numbered;
+    licensed = λ h x. m.licensed h (x.0.1, x.1);
+    still = λ h x. (subst IsOrdered (sym same) x.0.0, IfKept-out turn kept m.still h (x.0.1, x.1));
+    stands = λ h x. call_stands old new _ turn (IfEnds-weaker turn (λ v g. g h (x.0.1, x.1)) m.done);
+  }
+
+  -- It is asked for something.
+
+  asked : (act : Act) (old new : Standing P Q K) (from to : Posted) (turn : Turn (Result (TxnAnswer Q) Error)) → KeepsPlan old new from to
+      → Moved (MaySendFor old.contents (version_of old.start)) (λ h. StandFits w old from h × ⊤) (λ h. StandFits w new to h) (λ h. CallStands w old new (answer_in answers.Called turn) h) (λ h. h) from to
+      → StandMoves w (tells.Act act) old new from to (answer_in answers.Called turn)
+  asked act old new from to turn keeps moves = record { keeps = keeps; moves = λ r. moves }
+
+  asked_same : (act : Act) (old new : Standing P Q K) (from to : Posted) (turn : Turn (Result (TxnAnswer Q) Error)) → new ≡ old → to ≡ from
+      → ((h : List Event) → CallStands w old new (answer_in answers.Called turn) h) → StandMoves w (tells.Act act) old new from to (answer_in answers.Called turn)
+  asked_same act old new from to turn e quiet stands = asked act old new from to turn (keeps_same old new from to e quiet) (moved_quiet quiet (λ h x. stand_same old new from to h e quiet x.0) (λ h x. stands h))
+
+  written_stands : (old new : Standing P Q K) (contents : Contents) (from to : Posted) (h : List Event) → new ≡ record old { contents = contents } → allows_data old.status ≡ true → old.work ≡ Idle → (IsOrdered old.contents → IsOrdered contents) → to ≡ from → StandFits w old from h → StandFits w new to h
+  written_stands old new contents from to h e on idle keeps quiet x =
+      let now = keeps x.0 in
+      subst (λ (t : Standing P Q K). StandFits w t to h) (sym e) (now, written_fits w old contents to h on idle now (subst (λ (o : Posted). TransactionFits w old o h) (sym quiet) x.1))
+
+  writes_so : (act : Act) (refusal : Option Error) (wrote : Contents → Contents → Type 0) (old new : Standing P Q K) (from to : Posted) (turn : Turn (Result (TxnAnswer Q) Error))
+      → (refusal ≡ None → allows_data old.status ≡ true) → ((c d : Contents) → wrote c d → IsOrdered c → IsOrdered d) → WriteEnds refusal wrote old new turn → to ≡ from → old.work ≡ Idle
+      → IfKept turn (StandMoves w (tells.Act act) old new from to (answer_in answers.Called turn))
+  writes_so act refusal wrote old new from to Stopped may keeps ends quiet idle = tt
+  writes_so act refusal wrote old new from to Waits may keeps ends quiet idle = absurd ends
+  writes_so act (Some e) wrote old new from to (Ends v) may keeps ends quiet idle = asked_same act old new from to (Ends v) ends.1 quiet (λ h. error_stands old new h v e ends.0)
+  writes_so act None wrote old new from to (Ends v) may keeps ends quiet idle = asked act old new from to (Ends v) (keeps_written old new from to ends.1 (may refl) quiet)
+      (moved_quiet quiet (λ h x. written_stands old new new.contents from to h ends.1 (may refl) idle (keeps old.contents new.contents ends.2) quiet x.0)
+      (λ h x. subst (λ (a : Result (TxnAnswer Q) Error). CallStands w old new (Some (answers.Called a)) h) (sym ends.0) tt))
+
+  -- a write ends at once
+  pub writes_move : (act : Act) (refusal : Option Error) (wrote : Contents → Contents → Type 0) (old new : Standing P Q K) (from to : Posted) (turn : Turn (Result (TxnAnswer Q) Error))
+      → (refusal ≡ None → allows_data old.status ≡ true) → ((c d : Contents) → wrote c d → IsOrdered c → IsOrdered d) → WriteEnds refusal wrote old new turn → is_open old.work ≡ false → GivesUp old new turn → to ≡ from
+      → IfKept turn (StandMoves w (tells.Act act) old new from to (answer_in answers.Called turn))
+  writes_move act refusal wrote old new from to turn may keeps ends rests gives quiet = by (open_so old.work rests)
+    where
+      by : (old.work ≡ Idle) ⊎ (old.work ≡ GaveUp) → IfKept turn (StandMoves w (tells.Act act) old new from to (answer_in answers.Called turn))
+      by (inl idle) = writes_so act refusal wrote old new from to turn may keeps ends quiet idle
+      by (inr e) = IfKept-stopped turn _ (gives.after e).0
+
+  -- a commit begins, or is refused
+  pub commits_move : (act : Act) (e : Error) (old new : Standing P Q K) (from to : Posted) (turn : Turn (Result (TxnAnswer Q) Error)) → is_open old.work ≡ false
+      → (allows_commit old.status ≡ false → IsRefused e old new turn × (to ≡ from))
+      → (allows_commit old.status ≡ true → TransactionMoves w (λ h. ⊤) (λ h. h) old new from to turn)
+      → (old.work ≡ Idle → new.status ≡ status_step old.status (commits (commit_outcome turn) (is_some (parts_of old.contents))))
+      → new ≡ record old { status = new.status; commits = new.commits; work = new.work; width = new.width } → GivesUp old new turn
+      → IfKept turn (StandMoves w (tells.Act act) old new from to (answer_in answers.Called turn))
+  commits_move act e old new from to turn idle refused moves status kept gives = if_kept turn (λ alive. elim (is_flag (allows_commit old.status)) [
+    | inl may ↦ asked act old new from to turn (IfKept-out turn alive keeps) (stand_moved (λ h. ⊤) (λ h. h) old new from to turn alive contents (moves may))
+    | inr bars ↦ let r = refused bars in asked_same act old new from to turn (refused_stays e old new turn r.0) r.1 (λ h. refused_stands e old new h turn r.0)
+  ])
+    where
+      contents : new.contents ≡ old.contents
+      contents = ap (λ (t : Standing P Q K). t.contents) kept
+
+      keeps : IfKept turn (KeepsPlan old new from to)
+      keeps = keeps_commit old new from to turn idle (λ bars. let r = refused bars in (refused_stays e old new turn r.0, r.1)) status (ap (λ (t : Standing P Q K). t.start) kept) contents gives
+
+  -- no call of it is open, and it may have given up
+  left_fits : (old new : Standing P Q K) (from to : Posted) (turn : Turn (Result (TxnAnswer Q) Error)) (h : List Event) → turn ≢ Stopped → is_open old.work ≡ false → is_open new.work ≡ false → GivesUp old new turn
+      → new ≡ record old { work = new.work } → to ≡ from → StandFits w old from h → StandFits w new to h
+  left_fits old new from to turn h alive rests shut gives e quiet x = by (open_so old.work rests) (open_so new.work shut)
+    where
+      by : (old.work ≡ Idle) ⊎ (old.work ≡ GaveUp) → (new.work ≡ Idle) ⊎ (new.work ≡ GaveUp) → StandFits w new to h
+      by (inr g) later = let d = gives.after g in absurd (alive d.0)
+      by (inl i) (inl j) = stand_same old new from to h (e ∙ ap (λ (y : Work P Q K). record old { work = y }) (j ∙ sym i)) quiet x
+      by (inl i) (inr g) = subst (λ (t : Standing P Q K). StandFits w t to h) (sym (e ∙ ap (λ (y : Work P Q K). record old { work = y }) g)) (x.0, record { given = x.1.given; unsent = x.1.unsent; at = tt })
+
+  -- and so does a rollback
+  pub rollbacks_move : (act : Act) (e : Error) (old new : Standing P Q K) (from to : Posted) (turn : Turn (Result (TxnAnswer Q) Error)) → is_open old.work ≡ false
+      → (allows_rollback old.status ≡ false → IsRefused e old new turn × (to ≡ from))
+      → ((t : Ticket) → allows_rollback old.status ≡ true → undetermined old.commits ≡ Some t → IsUndetermined t turn × (new ≡ record old { work = new.work }) × (to ≡ from))
+      → (allows_rollback old.status ≡ true → undetermined old.commits ≡ None → TransactionMoves w (λ h. ⊤) (λ h. h) old new from to turn)
+      → (old.work ≡ Idle → new.status ≡ rolled_status old.status (is_some (undetermined old.commits)) turn)
+      → new ≡ record old { status = new.status; commits = new.commits; work = new.work; width = new.width } → GivesUp old new turn → is_open new.work ≡ is_waiting turn
+      → IfKept turn (StandMoves w (tells.Act act) old new from to (answer_in answers.Called turn))
+  rollbacks_move act e old new from to turn idle refused unknown moves status kept gives busy = if_kept turn (λ alive. elim (is_flag (allows_rollback old.status)) [
+    | inl may ↦ by alive may (undetermined old.commits) refl
+    | inr bars ↦ let r = refused bars in asked_same act old new from to turn (refused_stays e old new turn r.0) r.1 (λ h. refused_stands e old new h turn r.0)
+  ])
+    where
+      contents : new.contents ≡ old.contents
+      contents = ap (λ (t : Standing P Q K). t.contents) kept
+
+      keeps : IfKept turn (KeepsPlan old new from to)
+      keeps = keeps_rollback old new from to turn idle (λ bars. let r = refused bars in (refused_stays e old new turn r.0, r.1)) (λ t may u. let r = unknown t may u in (r.1, r.2)) status (ap (λ (t : Standing P Q K). t.start) kept) contents gives
+
+      by : turn ≢ Stopped → allows_rollback old.status ≡ true → (o : Option Ticket) → undetermined old.commits ≡ o → StandMoves w (tells.Act act) old new from to (answer_in answers.Called turn)
+      by alive may (Some t) u = let r = unknown t may u in asked act old new from to turn (IfKept-out turn alive keeps)
+          (moved_quiet r.2 (λ h x. left_fits old new from to turn h alive idle (busy ∙ ends_shut t turn r.0) gives r.1 r.2 x.0) (λ h x. unknown_stands t old new h turn r.0))
+      by alive may None u = asked act old new from to turn (IfKept-out turn alive keeps) (stand_moved (λ h. ⊤) (λ h. h) old new from to turn alive contents (moves may u))
+
+  -- what was asked is this
+  pub acts_move : (act is : Act) (old new : Standing P Q K) (from to : Posted) (turn : Turn (Result (TxnAnswer Q) Error)) → act ≡ is
+      → IfKept turn (StandMoves w (tells.Act is) old new from to (answer_in answers.Called turn)) → IfKept turn (StandMoves w (tells.Act act) old new from to (answer_in answers.Called turn))
+  acts_move act is old new from to turn e h = subst (λ a. IfKept turn (StandMoves w (tells.Act a) old new from to (answer_in answers.Called turn))) (sym e) h
+
+  -- It hears of something.
+
+  hears_move : (a : Arrival) (old new : Standing P Q K) (from to : Posted) (turn : Turn (Result (TxnAnswer Q) Error))
+      → ((r : Request) → TransactionMoves w (told_by a from r).known (told_by a from r).hear old new from to turn) → new.contents ≡ old.contents → IfKept turn (KeepsPlan old new from to)
+      → IfKept turn (StandMoves w (tells.Heard a) old new from to (answer_in answers.Called turn))
+  hears_move a old new from to turn told same keeps = if_kept turn (λ alive. record {
+    keeps = IfKept-out turn alive keeps;
+    moves = λ r. stand_moved (told_by a from r).known (told_by a from r).hear old new from to turn alive same (told r);
+  })
+
+  -- what came is this
+  pub heard_moves : (b a : Arrival) (old new : Standing P Q K) (from to : Posted) (turn : Turn (Result (TxnAnswer Q) Error)) → b ≡ a
+      → ((r : Request) → TransactionMoves w (told_by a from r).known (told_by a from r).hear old new from to turn) → IsQuiet old → new.status ≡ moved_by old.status turn
+      → new ≡ record old { status = new.status; commits = new.commits; work = new.work; width = new.width } → GivesUp old new turn → (old.work ≡ Idle → (turn ≡ Waits) × (new ≡ old) × (to ≡ from))
+      → IfKept turn (StandMoves w (tells.Heard b) old new from to (answer_in answers.Called turn))
+  heard_moves b a old new from to turn e told quiet status kept gives deaf =
+      let contents : new.contents ≡ old.contents = ap (λ (t : Standing P Q K). t.contents) kept in
+      subst (λ d. IfKept turn (StandMoves w (tells.Heard d) old new from to (answer_in answers.Called turn))) (sym e)
+      (hears_move a old new from to turn told contents (keeps_heard old new from to turn quiet status (ap (λ (t : Standing P Q K). t.start) kept) contents gives deaf))
