@@ -45,7 +45,7 @@ use Rattle.txn_commit_plans.specs.CausesOfPlans.{commits_caused, prewrites_cause
 use Rattle.txn_commit_plans.specs.Failing.{HasGiven, given_caused}
 use Rattle.txn_commit_plans.specs.Kinds.{CommitPlan, PrewritePlan, RollbackPlan, commit_plan, prewrite_plan, rollback_plan}
 use Rattle.txn_core.specs.Going.{TransactionGives}
-use Rattle.txn_side.specs.Trace.{AreOwn, AreShown, FailsIn, IsCalled, IsHarmless, IsRefusedIn, IsSend, IsSentIn, Trace}
+use Rattle.txn_side.specs.Trace.{AreOwn, AreShown, FailsIn, IsHarmless, IsRefusedIn, IsSend, IsSentIn, Trace}
 use Rattle.txn_report.specs.declared.outcome.Outcome.{Outcome}
 use Rattle.txn_report.specs.declared.report.Report.{Report}
 use Rattle.txn_lines.specs.Text.{IsScript}
@@ -54,9 +54,11 @@ use Rattle.txn_machine.specs.Accounts.{Ask, ask_of}
 use Rattle.txn_machine.specs.Failing.{AllCausesMeet, CauseMeets, CausesMeetLines}
 use Rattle.txn_machine.specs.Lawful.{Lawful}
 use Rattle.txn_clients.specs.Failing.{CallFailed, CallRefused, FailsFor, HasFailedFor, KnownTransaction}
+use Rattle.txn_run.specs.Behind.{AreBehind}
 use Rattle.txn_run.specs.Program.{RanScript}
 use Rattle.txn_run.proofs.Calming.{fails_calmly}
 use Rattle.txn_run.proofs.Refusing.{all_exact, never_caused}
+use Rattle.txn_run.proofs.Wholeness.{lines_whole}
 use Rattle.txn_run.specs.Caused.{HasCommit, HaveCauses, HeardBy, IsCaused, IsExplained, IsRollbackRefused, IsUndetermined, trace_at}
 
 -- In a reply that says without error what was done, and in one with timestamps, no error has its cause.
@@ -264,14 +266,16 @@ have_causes_told script report k = causes_meet is_caused report.outcomes report.
         by (inr (rolls, so)) = record { at = f.at; called = f.called; why = inr (inr (refused t f.at n f.history refl f.shown f.own e rolls so.why)); fed = so.fed }
 
 -- a script ran
-pub ran_script : (bytes : List ℕ) (lines items : List Line) (report : Report) → items ≡ lines → IsScript bytes lines → Lawful items report → CausesMeetLines (FailsFor plans) (reverse items) report → RanScript bytes report
-ran_script bytes lines items report same script lawful causes = record {
+pub ran_script : (bytes : List ℕ) (lines items : List Line) (report : Report) → items ≡ lines → IsScript bytes lines → Lawful items report → CausesMeetLines (FailsFor plans) (reverse items) report
+    → AreBehind plans (reverse items) report → RanScript bytes report
+ran_script bytes lines items report same script lawful causes behind = record {
   lines = lines;
   script = script;
   lawful = as_script;
   causes = told;
   exact = all_exact (λ n e. IsCaused (trace_at (reverse lines) report n) n e) (λ n e is c. never_caused (trace_at (reverse lines) report n) n e is c) report.outcomes report.ended (reverse lines) as_script.accounts told;
   calm = causes_meet (λ n e c. fails_calmly (trace_at (reverse lines) report n) n e c) report.outcomes report.ended (reverse lines) told;
+  whole = lines_whole plans (reverse lines) report (subst (λ ls. AreBehind plans (reverse ls) report) same behind) as_script.folded;
 }
   where
     as_script : Lawful lines report

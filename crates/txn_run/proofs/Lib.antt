@@ -1,3 +1,4 @@
+mod Wholeness
 mod Refusing
 mod Calming
 mod Causes

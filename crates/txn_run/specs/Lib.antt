@@ -1,4 +1,6 @@
 pub mod Caused
 pub mod Refused
 pub mod Calm
+pub mod Whole
+pub mod Behind
 pub mod Program

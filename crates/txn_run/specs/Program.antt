@@ -1,5 +1,5 @@
 -- How a run of a script, and of the program, ends.
-use Rattle.std.specs.Prelude.{◌≡◌, ℕ, ◌<◌, List, [], ◌∷◌, length, Option, None, reverse, take}
+use Rattle.std.specs.Prelude.{◌≡◌, ℕ, ◌<◌, List, length, Option, reverse, take}
 use Rattle.std.specs.Io.KnownBytes.{Consumes, IsAtEnd, Appends}
 use Rattle.txn_script.specs.Text as first_path
 use Rattle.txn_script.specs.declared.line.Line as first
@@ -14,6 +14,7 @@ use Rattle.txn_stream.specs.Bytes.{Rose, ReadsAll}
 use Rattle.txn_run.specs.Calm.{AreCalm}
 use Rattle.txn_run.specs.Caused.{HaveCauses}
 use Rattle.txn_run.specs.Refused.{AreExact}
+use Rattle.txn_run.specs.Whole.{AreWhole}
 use Rattle.txn_run.specs.declared.program.End.{End}
 use Rattle.txn_run.specs.declared.program.End.TheVariants.{Done, BadWords, BadLine, ReadFault, WriteFault, OutOfMemory}
 use Rattle.txn_run.specs.declared.program.ScriptStop.{ScriptStop}
@@ -39,6 +40,8 @@ pub record RanScript (bytes : List ℕ) (report : Report) : Type 0 where
   pub exact : AreExact (reverse lines) report
   -- and one with which nothing went wrong does not fail
   pub calm : AreCalm (reverse lines) report
+  -- each transaction is whole at one commit timestamp or not there at all, as its commits answered
+  pub whole : AreWhole (reverse lines) report
 
 -- the bytes are no script of the first path
 abbrev pub IsOther : List ℕ → Type 0

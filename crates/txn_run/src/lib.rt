@@ -1,6 +1,7 @@
 //! The program: it reads a script, runs it, and writes the report of what its lines did.
 #![tactic(auto)]
 
+mod over;
 pub mod program;
 pub mod send;
 

@@ -2,12 +2,11 @@ ghost use Rattle.std.specs.Prelude.{◌≡◌, ◌<◌, [], IfOk, MatchResult, v
 ghost use Rattle.txn_run.specs.Program.{status_of_end, Ran, RanScript, EndOfScript, StopOfLines, StopOfScript, Edges, EndOfRun, WritesNothing, Wrote};
 ghost use Rattle.txn_run.specs.declared.program.ScriptStop.TheVariants.{Bad, Memory};
 
+use crate::over::run_over;
 use std::alloc::Global;
-use txn_clients::Clients;
 use txn_commit_plans::{BatchRollbackPlan, CommitPlan, PrewritePlan};
 use txn_kv::NoMemory;
 use txn_lines::{BadAt, Why, parse_script};
-use txn_machine::run_lines;
 use txn_report::{Report, report_text};
 use txn_stream::{ReadStop, Sink, Source, read_all, write_all};
 
@@ -70,14 +69,13 @@ fn run_lines_of(alloc: Global, bytes: &[u8]) -> Result<Report, ScriptStop>
     match parse_script(alloc, bytes)? {
         Err(bad) => Err(ScriptStop::Bad(bad)),
         Ok(script) => {
-            let clients: Clients<PrewritePlan, CommitPlan, BatchRollbackPlan> = Clients::new(alloc);
-            Ok(run_lines(alloc, clients, script.lines.into_vec())?)
+            let lines = script.lines.into_vec();
+            Ok(run_over::<PrewritePlan, CommitPlan, BatchRollbackPlan>(alloc, lines)?)
         }
     }
 }
 
-/// Runs the script of these bytes: one of the first path by the machine whose reports carry the headline, and every other over the
-/// clients of the library.
+/// Runs the script of these bytes: one of the first path by a machine of its own, and every other over the clients of the library.
 fn run_bytes(alloc: Global, bytes: &[u8]) -> Result<Report, ScriptStop>
     ensures { MatchResult result (Ran bytes.now) (StopOfScript bytes.now) }
 {

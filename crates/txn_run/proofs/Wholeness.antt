@@ -1,0 +1,355 @@
+-- From a history that clients can have arisen from to transactions that are whole.
+use Rattle.std.proofs.Common.{◌≡◌, ◌≢◌, inl, inr, zero, suc, ℕ, Bool, true, false, List, [], ◌∷◌, Option, Some, None, length, nat_eq, refl, sym, ap, ◌∙◌, subst, arith}
+use Rattle.std.proofs.lemmas.Bool.Decides.{nat_tests}
+use Rattle.std.specs.Prelude.{◌<◌, ◌+◌, if◌then◌else◌, Ok}
+use Rattle.txn_kv.specs.Timestamp.{version_of}
+use Rattle.txn_history.specs.Event.{Event}
+use Rattle.txn_history.specs.Licence.{PrimaryCommitted, WasNamed}
+use Rattle.txn_history.specs.Plan.{Content, Plan}
+use Rattle.txn_law.specs.Run.{IsRun, store_after}
+use Rattle.txn_law.specs.Whole.{FitsAnswers, IsAbsent, IsWholeAt}
+use Rattle.txn_law.proofs.Wholes.{law_above, law_fits}
+use Rattle.txn_model.specs.Store.{Store}
+use Rattle.txn_model.specs.declared.cell.Cell.{Cell}
+use Rattle.txn_commit.specs.Committing.{Ways}
+use Rattle.txn_commit.specs.Parts.{parts_of}
+use Rattle.txn_commit.specs.Sending.{plan_of}
+use Rattle.txn_commit.specs.declared.commit_parts.CommitParts.{CommitParts}
+use Rattle.txn_core.specs.Status.{allows_data}
+use Rattle.txn_core.specs.Transaction.{Standing}
+use Rattle.txn_kv.specs.declared.ticket.Ticket.{Ticket}
+use Rattle.txn_lines.specs.Lines.{line_at}
+use Rattle.txn_lines.specs.declared.begin_options.BeginOptions.{BeginOptions}
+use Rattle.txn_lines.specs.declared.line.Line.{Line}
+use Rattle.txn_lines.specs.declared.line.Line.TheVariants as lines
+use Rattle.txn_machine.specs.Arising.{AllHold, HoldsBy}
+use Rattle.txn_machine.specs.Causes.{Role, role_of}
+use Rattle.txn_machine.specs.Causes.Role.{AsksTime, UsesTransaction}
+use Rattle.txn_machine.specs.Rows.{IsRow, outcome_in, role_in, stand_in}
+use Rattle.txn_machine.specs.Rows.{Row as Kind}
+use Rattle.txn_machine.specs.Rows.Row.{Acted, AskFailed, AskSkipped, AskWaits, Begun, CallFailed, CallSkipped, CallWaits, Happened, Made, Over, Timed, Works}
+use Rattle.txn_machine.specs.Script.{FoldsLines, history, outcome_of}
+use Rattle.txn_machine.proofs.Numberings.{has_line, line_range}
+use Rattle.txn_report.specs.declared.outcome.Outcome.{Outcome}
+use Rattle.txn_report.specs.declared.outcome.Outcome.TheVariants as outcomes
+use Rattle.txn_report.specs.declared.outcome.Payload.TheVariants.{Number}
+use Rattle.txn_report.specs.declared.report.Report.{Report}
+use Rattle.txn_side.specs.Account.{Account}
+use Rattle.txn_side.specs.Sight.{Stand, stand_at}
+use Rattle.txn_side.specs.Sight.Stand.{HasBegun, Idle}
+use Rattle.txn_trace.specs.Seeing.{seen}
+use Rattle.txn_trace.proofs.Seen.{seen_runs}
+use Rattle.txn_clients.specs.Accounts.{account_at}
+use Rattle.txn_clients.specs.Accounts.{account_in as account_in_row}
+use Rattle.txn_clients.specs.Arising.{BeganAt as StartsAt}
+use Rattle.txn_clients.specs.Arising.{Arisen, HasPlan, HasStart, HavePlans, HoldsAt, IsCommittedSo}
+use Rattle.txn_clients.specs.Clients.{row_at, rows_of, stands_of}
+use Rattle.txn_clients.specs.Growing.{plans_found, plans_in}
+use Rattle.txn_clients.specs.Rows.{stand_of}
+use Rattle.txn_clients.proofs.Tables.{stand_read}
+use Rattle.txn_clients.specs.declared.clients.Clients.{Clients}
+use Rattle.txn_clients.specs.declared.row.Row.{Row}
+use Rattle.txn_clients.specs.declared.row.Row.TheVariants as row
+use Rattle.txn_run.specs.Behind.{AreBehind}
+use Rattle.txn_run.specs.Whole.{AreWhole, BeganAt, CommitAnswered, FitsCommits, account_in}
+
+-- A plan that writes nothing
+
+abbrev no_plan : Plan
+no_plan = record { primary = []; writes = λ k. None }
+
+nothing_written : (x : Content) → None ≡ Some x → ⊥
+nothing_written x e = cc
+
+-- nothing is whole by it
+never_whole : (cells : List Cell) (s c : ℕ) → IsWholeAt no_plan cells s c → ⊥
+never_whole cells s c w =
+    let p = w.primary.1 in
+    nothing_written _ (w.others [] p.write p.among p.start).1
+
+-- it is the plan of this start, beside the others
+abbrev without : ℕ → (ℕ → Plan) → ℕ → Plan
+without v plans n = if nat_eq n v then no_plan else plans n
+
+without_own : (v : ℕ) (plans : ℕ → Plan) → without v plans v ≡ no_plan
+without_own v plans = by (nat_eq v v) refl
+  where
+    by : (b : Bool) → nat_eq v v ≡ b → (if b then no_plan else plans v) ≡ no_plan
+    by true e = refl
+    by false e = absurd (grind (arith, nat_tests))
+
+without_other : (v n : ℕ) (plans : ℕ → Plan) → n ≢ v → without v plans n ≡ plans n
+without_other v n plans apart = by (nat_eq n v) refl
+  where
+    by : (b : Bool) → nat_eq n v ≡ b → (if b then no_plan else plans n) ≡ plans n
+    by true e = absurd (apart (grind (arith, nat_tests)))
+    by false e = refl
+
+-- What stands at a line, and what it answered
+
+none_some : {X : Type 0} (x : X) → None ≡ Some x → ⊥
+none_some x e = cc
+
+-- what is held of all lines is held of each
+held_at : (holds : ℕ → Outcome → Type 0) (outs : List Outcome) (script : List Line) (n : ℕ) (line : Line) → AllHold holds outs script → line_at script n ≡ Some line → HoldsBy holds n (role_of line) (outcome_of outs n)
+held_at holds outs [] n line all e = absurd (none_some line e)
+held_at holds outs (l ∷ before) n line all e = by (nat_eq (length before + 1) n) refl e (λ f. held_at holds outs before n line all.1 f)
+  where
+    by : (b : Bool) → nat_eq (length before + 1) n ≡ b → (if b then Some l else line_at before n) ≡ Some line
+        → (line_at before n ≡ Some line → HoldsBy holds n (role_of line) (outcome_of outs n)) → HoldsBy holds n (role_of line) (outcome_of outs n)
+    by true q f later =
+        let same : l ≡ line = cc in
+        let number : length (l ∷ before) ≡ n = grind (arith, nat_tests) in
+        subst (λ k. HoldsBy holds k (role_of line) (outcome_of outs k)) number (subst (λ x. HoldsBy holds (length (l ∷ before)) (role_of x) (outcome_of outs (length (l ∷ before)))) same all.0)
+    by false q f later = later f
+
+-- What a machine says of a line
+
+module _ (role : Role) (o : Outcome) (stand : Stand) where
+  -- a line that answered the start of a transaction has one
+  row_begins : (k v : ℕ) → role ≡ AsksTime true k → o ≡ outcomes.Ok (Number v) → IsRow role o stand → (c : ℕ) × (m : ℕ) × (stand ≡ HasBegun c m)
+  row_begins k v asks answers r = by r.row (r.is ∙ asks) (r.outcome ∙ answers) r.at
+    where
+      by : (x : Kind) → role_in x ≡ AsksTime true k → outcome_in x ≡ outcomes.Ok (Number v) → stand_in x ≡ stand → (c : ℕ) × (m : ℕ) × (stand ≡ HasBegun c m)
+      by (Made c) a b e = absurd (cc)
+      by (AskWaits d j c) a b e = absurd (cc)
+      by (Begun j u c m) a b e = (c, m, sym e)
+      by (Timed j u c) a b e = absurd (cc)
+      by (AskFailed d j c why) a b e = absurd (cc)
+      by (AskSkipped d j) a b e = absurd (cc)
+      by (CallWaits d x c) a b e = absurd (cc)
+      by (Acted x c) a b e = absurd (cc)
+      by (Over x u c) a b e = absurd (cc)
+      by (Works x u c) a b e = absurd (cc)
+      by (CallFailed d x c why) a b e = absurd (cc)
+      by (CallSkipped d x) a b e = absurd (cc)
+      by (Happened d) a b e = absurd (cc)
+
+  -- and where a transaction stands, the line answered its start
+  begun_line : (c m : ℕ) → stand ≡ HasBegun c m → IsRow role o stand → (k : ℕ) × (v : ℕ) × (role ≡ AsksTime true k) × (o ≡ outcomes.Ok (Number v))
+  begun_line c m stands r = by r.row (sym r.is) (sym r.outcome) (r.at ∙ stands)
+    where
+      by : (x : Kind) → role ≡ role_in x → o ≡ outcome_in x → stand_in x ≡ HasBegun c m → (k : ℕ) × (v : ℕ) × (role ≡ AsksTime true k) × (o ≡ outcomes.Ok (Number v))
+      by (Made d) a b e = absurd (cc)
+      by (AskWaits f j d) a b e = absurd (cc)
+      by (Begun j u d n) a b e = (j, u, a, b)
+      by (Timed j u d) a b e = absurd (cc)
+      by (AskFailed f j d why) a b e = absurd (cc)
+      by (AskSkipped f j) a b e = absurd (cc)
+      by (CallWaits f x d) a b e = absurd (cc)
+      by (Acted x d) a b e = absurd (cc)
+      by (Over x u d) a b e = absurd (cc)
+      by (Works x u d) a b e = absurd (cc)
+      by (CallFailed f x d why) a b e = absurd (cc)
+      by (CallSkipped f x) a b e = absurd (cc)
+      by (Happened f) a b e = absurd (cc)
+
+-- such a line begins a transaction
+is_begin : (line : Line) (k : ℕ) → role_of line ≡ AsksTime true k → (options : BeginOptions) × (line ≡ lines.Begin k options)
+is_begin (lines.Begin client options) k e = let same : client ≡ k = cc in (options, ap (λ c. lines.Begin c options) same)
+is_begin lines.Blank k e = absurd (cc)
+is_begin lines.Client k e = absurd (cc)
+is_begin (lines.Timestamp client) k e = absurd (cc)
+is_begin (lines.Put x key value) k e = absurd (cc)
+is_begin (lines.Insert x key value) k e = absurd (cc)
+is_begin (lines.Delete x key) k e = absurd (cc)
+is_begin (lines.Mutate x mutations) k e = absurd (cc)
+is_begin (lines.Lock x keys) k e = absurd (cc)
+is_begin (lines.Commit x) k e = absurd (cc)
+is_begin (lines.Rollback x) k e = absurd (cc)
+is_begin (lines.Serve t) k e = absurd (cc)
+is_begin (lines.Answer t) k e = absurd (cc)
+is_begin (lines.Deliver t) k e = absurd (cc)
+is_begin (lines.Lose t) k e = absurd (cc)
+is_begin (lines.Busy t) k e = absurd (cc)
+is_begin (lines.Wake t) k e = absurd (cc)
+is_begin (lines.Split key) k e = absurd (cc)
+is_begin (lines.Lead region store) k e = absurd (cc)
+is_begin (lines.Clock ms) k e = absurd (cc)
+is_begin (lines.Crash client) k e = absurd (cc)
+
+-- The clients behind a report
+
+module _ {P Q K A B D : Type 0} (w : Ways P Q K A B D) (script : List Line) (report : Report) (s : Clients P Q K) (askers : Ticket → List ℕ) (h : List Event)
+    (shows : seen h ≡ history report.sent report.outcomes script) (arisen : Arisen w s askers [] h)
+    (held : AllHold (λ x o. HoldsAt (rows_of s) (history report.sent report.outcomes script) x o) report.outcomes script)
+    (accounts : (x : ℕ) → account_at (rows_of s) x ≡ account_in script report x)
+    (stood : (n : ℕ) (line : Line) → line_at script n ≡ Some line → IsRow (role_of line) (outcome_of report.outcomes n) (stand_at (stands_of (rows_of s)) n))
+    (none : (n : ℕ) → line_at script n ≡ None → stand_at (stands_of (rows_of s)) n ≡ Idle)
+    (folds : report.store ≡ store_after (history report.sent report.outcomes script))
+    (plans : ℕ → Plan) (are : HavePlans plans (rows_of s))
+    (apart : (i j v : ℕ) → HasStart v (row_at (rows_of s) i) → HasStart v (row_at (rows_of s) j) → i ≡ j) where
+  abbrev shown : List Event
+  shown = history report.sent report.outcomes script
+
+  abbrev cells : List Cell
+  cells = report.store.cells
+
+  fits : (some : ℕ → Plan) → HavePlans some (rows_of s) → (v : ℕ) → FitsAnswers (some v) shown cells v
+  fits some have v =
+      subst (λ (st : Store). FitsAnswers (some v) shown st.cells v) (sym folds)
+      (law_fits some shown (subst (IsRun some) shows (seen_runs some h (arisen.run some have))) v)
+
+  -- Where no plan is asked of a start, nothing of it is there.
+  abbrev IsFree : ℕ → Type 0
+  IsFree v = (i : ℕ) → HasStart v (row_at (rows_of s) i) → (some : ℕ → Plan) → HasPlan some (row_at (rows_of s) i)
+
+  still_planned : (v i : ℕ) → IsFree v → HasPlan (without v plans) (row_at (rows_of s) i)
+  still_planned v i free = by (row_at (rows_of s) i) (are i) (free i)
+    where
+      by : (r : Row P Q K) → HasPlan plans r → (HasStart v r → (some : ℕ → Plan) → HasPlan some r) → HasPlan (without v plans) r
+      by row.Plain has unbound = tt
+      by (row.Client c) has unbound = tt
+      by (row.Asking c b call) has unbound = tt
+      by (row.Begun c t m) has unbound = at (nat_eq (version_of t.start) v) refl
+        where
+          at : (b : Bool) → nat_eq (version_of t.start) v ≡ b → HasPlan {P = P} {Q = Q} {K = K} (without v plans) (row.Begun c t m)
+          at true e = unbound (grind (arith, nat_tests)) (without v plans)
+          at false e = λ closed parts is. without_other v (version_of t.start) plans (λ same. grind (arith, nat_tests)) ∙ has closed parts is
+      by (row.Calling c x b) has unbound = tt
+      by (row.Past c) has unbound = tt
+      by (row.Working c job) has unbound = tt
+
+  nothing_there : (v : ℕ) → IsFree v → IsAbsent cells v
+  nothing_there v free = elim (fits (without v plans) (λ i. still_planned v i free) v) [
+    | inl a ↦ a.0
+    | inr b ↦ absurd (never_whole cells v b.0 (subst (λ (p : Plan). IsWholeAt p cells v b.0) (without_own v plans) b.1))
+  ]
+
+  -- The line of a transaction
+
+  row_here : (i : ℕ) → stand_at (stands_of (rows_of s)) (suc i) ≡ stand_of (row_at (rows_of s) i)
+  row_here i = stand_read (rows_of s) i
+
+  -- where a transaction stands its line answered its start
+  line_began : (i v : ℕ) → HasStart v (row_at (rows_of s) i) → BeganAt script report (suc i) v
+  line_began i v start = by (row_at (rows_of s) i) refl start
+    where
+      by : (r : Row P Q K) → row_at (rows_of s) i ≡ r → HasStart v r → BeganAt script report (suc i) v
+      by (row.Begun c t m) e is = elim (has_line script (suc i)) [
+        | inl missing ↦ absurd (let idle = sym (none (suc i) missing) ∙ row_here i ∙ ap stand_of e in cc)
+        | inr (line, there) ↦
+            let r = begun_line (role_of line) (outcome_of report.outcomes (suc i)) (stand_at (stands_of (rows_of s)) (suc i)) c m (row_here i ∙ ap stand_of e) (stood (suc i) line there) in
+            let b = is_begin line r.0 r.2 in
+            let says : HoldsBy (λ x o. HoldsAt (rows_of s) shown x o) (suc i) (role_of line) (outcome_of report.outcomes (suc i)) = held_at (λ x o. HoldsAt (rows_of s) shown x o) report.outcomes script (suc i) line held there in
+            let version : version_of t.start ≡ r.1 = began_at r.0 r.1 (role_of line) (outcome_of report.outcomes (suc i)) r.2 r.3 says in
+            (r.0, b.0, there ∙ ap Some b.1, r.3 ∙ ap (λ n. outcomes.Ok (Number n)) (sym version ∙ is))
+      ]
+        where
+          began_at : (k u : ℕ) (role : Role) (o : Outcome) → role ≡ AsksTime true k → o ≡ outcomes.Ok (Number u) → HoldsBy (λ x o. HoldsAt (rows_of s) shown x o) (suc i) role o → version_of t.start ≡ u
+          began_at k u role o a b says =
+              subst (λ (r : Row P Q K). StartsAt u r) e
+              (subst (λ (p : Outcome). HoldsBy (λ x o. HoldsAt (rows_of s) shown x o) (suc i) (AsksTime true k) p) b (subst (λ (z : Role). HoldsBy (λ x o. HoldsAt (rows_of s) shown x o) (suc i) z o) a says))
+      by row.Plain e is = absurd is
+      by (row.Client c) e is = absurd is
+      by (row.Asking c b call) e is = absurd is
+      by (row.Calling c x b) e is = absurd is
+      by (row.Past c) e is = absurd is
+      by (row.Working c job) e is = absurd is
+
+  -- and a line that answered a start has its transaction
+  pub record Stands (x v : ℕ) : Type 0 where
+    pub place : ℕ
+    pub is : x ≡ suc place
+    pub client : ℕ
+    pub transaction : Standing P Q K
+    pub waits : ℕ
+    pub here : row_at (rows_of s) place ≡ row.Begun client transaction waits
+    pub start : version_of transaction.start ≡ v
+
+  stands : (x v : ℕ) → BeganAt script report x v → Stands x v
+  stands zero v (client, options, there, answered) = absurd (let r = line_range script 0 (lines.Begin client options) there in omega (arith, r.0))
+  stands (suc i) v (client, options, there, answered) =
+      let r = row_begins (role_of (lines.Begin client options)) (outcome_of report.outcomes (suc i)) (stand_at (stands_of (rows_of s)) (suc i)) client v refl answered (stood (suc i) (lines.Begin client options) there) in
+      by r.0 r.1 (row_at (rows_of s) i) refl (sym (row_here i) ∙ r.2)
+    where
+      by : (c m : ℕ) (r : Row P Q K) → row_at (rows_of s) i ≡ r → stand_of (row_at (rows_of s) i) ≡ HasBegun c m → Stands (suc i) v
+      by c m (row.Begun d t n) e at = record {
+        place = i;
+        is = refl;
+        client = d;
+        transaction = t;
+        waits = n;
+        here = e;
+        start = subst (StartsAt v) e (subst (λ (o : Outcome). HoldsBy (λ x o. HoldsAt (rows_of s) shown x o) (suc i) (AsksTime true client) o) answered (held_at (λ x o. HoldsAt (rows_of s) shown x o) report.outcomes script (suc i) (lines.Begin client options) held there));
+      }
+      by c m row.Plain e at = absurd (let no = sym (ap stand_of e) ∙ at in cc)
+      by c m (row.Client d) e at = absurd (let no = sym (ap stand_of e) ∙ at in cc)
+      by c m (row.Asking d b call) e at = absurd (let no = sym (ap stand_of e) ∙ at in cc)
+      by c m (row.Calling d x b) e at = absurd (let no = sym (ap stand_of e) ∙ at in cc)
+      by c m (row.Past d) e at = absurd (let no = sym (ap stand_of e) ∙ at in cc)
+      by c m (row.Working d job) e at = absurd (let no = sym (ap stand_of e) ∙ at in cc)
+
+  -- What a commit answered
+
+  committed_at : (i n d : ℕ) → CommitAnswered script report (suc i) n d → IsCommittedSo shown d (row_at (rows_of s) i)
+  committed_at i n d (there, answered) =
+      subst (λ (o : Outcome). HoldsBy (λ x o. HoldsAt (rows_of s) shown x o) n (UsesTransaction true (suc i)) o) answered (held_at (λ x o. HoldsAt (rows_of s) shown x o) report.outcomes script n (lines.Commit (suc i)) held there)
+
+  module _ (x v : ℕ) (k : Stands x v) where
+    abbrev t : Standing P Q K
+    t = k.transaction
+
+    starts : HasStart v (row_at (rows_of s) k.place)
+    starts = subst (λ (r : Row P Q K). HasStart v r) (sym k.here) k.start
+
+    commits : (n d : ℕ) → CommitAnswered script report x n d → IsCommittedSo shown d (row.Begun k.client t k.waits)
+    commits n d c = subst (λ (r : Row P Q K). IsCommittedSo shown d r) k.here (committed_at k.place n d (subst (λ y. CommitAnswered script report y n d) k.is c))
+
+    contents_are : t.contents ≡ (account_in script report x).contents
+    contents_are =
+        ap (λ (a : Account). a.contents) (
+        sym (ap (λ (r : Row P Q K). account_in_row r) k.here)
+        ∙ subst (λ y. account_at (rows_of s) y ≡ account_in script report x) k.is (accounts x))
+
+    -- where it is still written, or has nothing to commit, no plan is asked of it
+    unbound : ((parts : CommitParts) → allows_data t.status ≡ false → parts_of t.contents ≡ Some parts → ⊥) → FitsCommits script report x v
+    unbound never = inl (
+      nothing_there v free,
+      λ n d c. let q = commits n d c in never q.0 q.1 q.2,
+    )
+      where
+        free : IsFree v
+        free i start some = subst (λ (r : Row P Q K). HasPlan some r) (sym (ap (λ j. row_at (rows_of s) j) (apart i k.place v start starts) ∙ k.here)) (λ closed parts is. absurd (never parts closed is))
+
+    bound : (parts : CommitParts) → allows_data t.status ≡ false → parts_of t.contents ≡ Some parts → FitsCommits script report x v
+    bound parts closed is = elim (subst (λ (p : Plan). FitsAnswers p shown cells v) planned (fits plans are v)) [
+      | inl a ↦ inl (a.0, λ n d c. let q = commits n d c in a.1 d (same_plan d q))
+      | inr b ↦ inr (b.0, record { parts = parts; wrote = sym (ap parts_of contents_are) ∙ is; whole = b.1; above = above b.0 b.3 }, λ n d c. let q = commits n d c in b.2 d (same_plan d q))
+    ]
+      where
+        planned : plans v ≡ plan_of parts
+        planned = ap plans (sym k.start) ∙ subst (λ (r : Row P Q K). HasPlan plans r) k.here (are k.place) closed parts is
+
+        above : (c : ℕ) → WasNamed (plan_of parts) shown v c → v < c
+        above c named = law_above plans shown (subst (IsRun plans) shows (seen_runs plans h (arisen.run plans are))) v c (subst (λ (p : Plan). WasNamed p shown v c) (sym planned) named)
+
+        same_plan : (d : ℕ) → IsCommittedSo {P = P} {Q = Q} {K = K} shown d (row.Begun k.client t k.waits) → PrimaryCommitted (plan_of parts) shown v d
+        same_plan d q =
+            let one : q.0 ≡ parts = some_same (sym q.2 ∙ is) in
+            subst (λ (p : CommitParts). PrimaryCommitted (plan_of p) shown v d) one (subst (λ u. PrimaryCommitted (plan_of q.0) shown u d) k.start q.3)
+          where
+            some_same : {a b : CommitParts} → Some a ≡ Some b → a ≡ b
+            some_same e = cc
+
+    fits_commits : FitsCommits script report x v
+    fits_commits = by (allows_data t.status) refl (parts_of t.contents) refl
+      where
+        by : (b : Bool) → allows_data t.status ≡ b → (p : Option CommitParts) → parts_of t.contents ≡ p → FitsCommits script report x v
+        by true e p f = unbound (λ parts closed is. let no = sym e ∙ closed in cc)
+        by false e None f = unbound (λ parts closed is. none_some parts (sym f ∙ is))
+        by false e (Some parts) f = bound parts e f
+
+  pub are_whole : AreWhole script report
+  are_whole = record {
+    each = λ x v began. fits_commits x v (stands x v began);
+    apart = λ x y v one other. let a = stands x v one in let b = stands y v other in a.is ∙ ap suc (apart a.place b.place v (starts x v a) (starts y v b)) ∙ sym b.is;
+    others = λ v never. nothing_there v (λ i start some. absurd (never (suc i) (line_began i v start)));
+  }
+
+-- So it is where clients that can have arisen from the lines are behind the report.
+pub lines_whole : {P Q K A B D : Type 0} (w : Ways P Q K A B D) (script : List Line) (report : Report)
+    → AreBehind w script report → FoldsLines script report → AreWhole script report
+lines_whole w script report a folds =
+    let now = a.arisen.now in
+    are_whole w script report a.clients now.1 now.2 now.3 now.4 a.arisen.answers a.taken a.rows a.none folds.store (plans_in (rows_of a.clients)) (plans_found (rows_of a.clients) now.4.apart) now.4.apart

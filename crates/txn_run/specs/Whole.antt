@@ -1,0 +1,50 @@
+-- Each transaction of a script is whole at one commit timestamp or not there at all, as its commits answered. Lines stand here with the
+-- newest first.
+use Rattle.std.specs.Prelude.{◌≡◌, ◌⊎◌, ◌<◌, ℕ, List, Some}
+use Rattle.txn_commit.specs.Parts.{parts_of}
+use Rattle.txn_commit.specs.Sending.{plan_of}
+use Rattle.txn_commit.specs.declared.commit_parts.CommitParts.{CommitParts}
+use Rattle.txn_law.specs.Whole.{IsAbsent, IsWholeAt}
+use Rattle.txn_lines.specs.Lines.{line_at}
+use Rattle.txn_lines.specs.declared.begin_options.BeginOptions.{BeginOptions}
+use Rattle.txn_lines.specs.declared.line.Line.{Line}
+use Rattle.txn_lines.specs.declared.line.Line.TheVariants.{Begin, Commit}
+use Rattle.txn_machine.specs.Accounts.{account_of}
+use Rattle.txn_machine.specs.Causes.{ended_of}
+use Rattle.txn_machine.specs.Script.{outcome_of}
+use Rattle.txn_report.specs.declared.outcome.Outcome.TheVariants.{Ok}
+use Rattle.txn_report.specs.declared.outcome.Payload.TheVariants.{Number, Commit as CommittedAt}
+use Rattle.txn_report.specs.declared.report.Report.{Report}
+use Rattle.txn_side.specs.Account.{Account}
+
+-- the line began a transaction with this start
+abbrev pub BeganAt : List Line → Report → ℕ → ℕ → Type 0
+BeganAt script report x s = (client : ℕ) × (options : BeginOptions) × (line_at script x ≡ Some (Begin client options)) × (outcome_of report.outcomes x ≡ Ok (Number s))
+
+-- a commit of the transaction of line x answered this timestamp
+abbrev pub CommitAnswered : List Line → Report → ℕ → ℕ → ℕ → Type 0
+CommitAnswered script report x n c = (line_at script n ≡ Some (Commit x)) × (outcome_of report.outcomes n ≡ Ok (CommittedAt (Some c)))
+
+-- what the transaction of line x has taken in, by the lines that wrote and were answered ok
+abbrev pub account_in : List Line → Report → ℕ → Account
+account_in script report x = account_of (λ n. outcome_of report.outcomes n) (λ n. ended_of report.ended n) script x
+
+-- The transaction of line x, which began at s, is whole at c, a later timestamp: its primary holds its commit, each key that it wrote holds
+-- what it wrote, committed at c or locked under the primary, and no other commit of s is anywhere.
+pub record IsWhole (script : List Line) (report : Report) (x s c : ℕ) : Type 0 where
+  pub parts : CommitParts
+  pub wrote : parts_of (account_in script report x).contents ≡ Some parts
+  pub whole : IsWholeAt (plan_of parts) report.store.cells s c
+  pub above : s < c
+
+-- Nothing of it is there and no commit of it answered a timestamp; or it is whole at one c, which each such commit answered.
+abbrev pub FitsCommits : List Line → Report → ℕ → ℕ → Type 0
+FitsCommits script report x s =
+    (IsAbsent report.store.cells s × ((n c : ℕ) → CommitAnswered script report x n c → ⊥))
+    ⊎ ((c : ℕ) × IsWhole script report x s c × ((n d : ℕ) → CommitAnswered script report x n d → d ≡ c))
+
+-- So it is of each transaction; no two began at one timestamp; and nothing else is committed.
+pub record AreWhole (script : List Line) (report : Report) : Type 0 where
+  pub each : (x s : ℕ) → BeganAt script report x s → FitsCommits script report x s
+  pub apart : (x y s : ℕ) → BeganAt script report x s → BeganAt script report y s → x ≡ y
+  pub others : (s : ℕ) → ((x : ℕ) → BeganAt script report x s → ⊥) → IsAbsent report.store.cells s
