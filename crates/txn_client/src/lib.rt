@@ -6,8 +6,6 @@ pub mod client_answer;
 pub mod client_call;
 pub mod laws;
 pub mod send;
-#[cfg(test)]
-mod tests;
 
 pub use client::Client;
 pub use client_answer::ClientAnswer;

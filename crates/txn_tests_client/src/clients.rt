@@ -1,7 +1,7 @@
 //! New clients, and the calls that they make.
 use super::plans::NoPlan;
-use crate::{Client, ClientCall};
 use std::test::Fail;
+use txn_client::{Client, ClientCall};
 use txn_core::TransactionOptions;
 use txn_kv::NoMemory;
 use txn_region::{ApiV1TxnCodec, ApiV2TxnCodec, PdClient, PdRpcClient};

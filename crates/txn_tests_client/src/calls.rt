@@ -1,22 +1,25 @@
-//! Calls for a timestamp and for a transaction, over a client that knows nothing.
+//! Calls for a timestamp and for a transaction. What they are lent knows nothing.
 ghost use Rattle.txn_client.specs.Calls.{CallReady};
 ghost use Rattle.txn_plan.specs.Arrivals.{MayArrive};
 ghost use Rattle.txn_history.specs.Posted.{HasNumbers};
 ghost use Rattle.txn_kv.specs.Timestamp.{HasVersion};
 
-use super::no_client::NoClient;
 use super::plans::NoPlan;
-use crate::{ClientAnswer, ClientCall};
 use std::test::Fail;
+use txn_client::{Client, ClientAnswer, ClientCall};
 use txn_core::{CheckLevel, CloseAnswer, Transaction, TransactionOptions};
+use txn_fakes::NoClient;
 use txn_kv::{Errand, Error, Internal, NoMemory, Outbox, Progress, Timestamp};
 use txn_plan::Arrival;
+use txn_region::{ApiV1TxnCodec, PdRpcClient};
 
-type Call = ClientCall<NoClient, NoPlan, NoPlan, NoPlan>;
+type Pd = PdRpcClient<ApiV1TxnCodec>;
 
-type Answer = ClientAnswer<NoClient, NoPlan, NoPlan, NoPlan>;
+type Call = ClientCall<Pd, NoPlan, NoPlan, NoPlan>;
 
-type Begun = Transaction<NoClient, NoPlan, NoPlan, NoPlan>;
+type Answer = ClientAnswer<Pd, NoPlan, NoPlan, NoPlan>;
+
+type Begun = Transaction<Pd, NoPlan, NoPlan, NoPlan>;
 
 fn seven() -> Timestamp
     ensures { HasVersion result }
@@ -110,7 +113,7 @@ fn a_transaction_begins_at_the_timestamp_that_came(rt: HostRuntime) -> Result<()
     let mut pd = NoClient::new();
     let mut out = Outbox::new(rt.alloc(), 3, false);
     let options = TransactionOptions::new_optimistic().drop_check(CheckLevel::Warn);
-    let mut call: Call = ClientCall::begin(rt.alloc(), options);
+    let mut call: Call = Client::new(rt.alloc(), 0).begin_with_options(options)?;
     start(&mut call, &mut pd, &mut out)?;
     assert_eq!(rt; asked(&out), Some(1));
     let end = tell(&mut call, given(1), &mut pd, &mut out)?;
@@ -125,7 +128,7 @@ fn a_transaction_begins_at_the_timestamp_that_came(rt: HostRuntime) -> Result<()
 fn a_timestamp_is_told_once(rt: HostRuntime) -> Result<(), Fail> {
     let mut pd = NoClient::new();
     let mut out = Outbox::new(rt.alloc(), 3, false);
-    let mut call: Call = ClientCall::timestamp(rt.alloc());
+    let mut call: Call = Client::new(rt.alloc(), 0).current_timestamp()?;
     start(&mut call, &mut pd, &mut out)?;
     let early = tell(&mut call, given(2), &mut pd, &mut out)?;
     assert!(rt; matches!(early, Progress::Waiting));
@@ -143,7 +146,7 @@ fn a_timestamp_is_told_once(rt: HostRuntime) -> Result<(), Fail> {
 fn an_ask_is_refused_ten_times(rt: HostRuntime) -> Result<(), Fail> {
     let mut pd = NoClient::new();
     let mut out = Outbox::new(rt.alloc(), 3, false);
-    let mut call: Call = ClientCall::timestamp(rt.alloc());
+    let mut call: Call = Client::new(rt.alloc(), 0).current_timestamp()?;
     start(&mut call, &mut pd, &mut out)?;
     refuse_three(&mut call, [1, 2, 3], &mut pd, &mut out)?;
     refuse_three(&mut call, [4, 5, 6], &mut pd, &mut out)?;

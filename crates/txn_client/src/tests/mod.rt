@@ -1,4 +1,0 @@
-mod calls;
-mod clients;
-mod no_client;
-mod plans;
