@@ -242,7 +242,7 @@ module _ {P Q K A B D : Type 0} (w : Ways P Q K A B D) where
       by : (old.work ≡ Idle) ⊎ (old.work ≡ GaveUp) → (new.work ≡ Idle) ⊎ (new.work ≡ GaveUp) → StandFits w new to h
       by (inr g) later = let d = gives.after g in absurd (alive d.0)
       by (inl i) (inl j) = stand_same old new from to h (e ∙ ap (λ (y : Work P Q K). record old { work = y }) (j ∙ sym i)) quiet x
-      by (inl i) (inr g) = subst (λ (t : Standing P Q K). StandFits w t to h) (sym (e ∙ ap (λ (y : Work P Q K). record old { work = y }) g)) (x.0, record { given = x.1.given; unsent = x.1.unsent; at = tt })
+      by (inl i) (inr g) = subst (λ (t : Standing P Q K). StandFits w t to h) (sym (e ∙ ap (λ (y : Work P Q K). record old { work = y }) g)) (x.0, record { given = x.1.given; unsent = x.1.unsent; settled = x.1.settled; at = tt })
 
   -- and so does a rollback
   pub rollbacks_move : (act : Act) (e : Error) (old new : Standing P Q K) (from to : Posted) (turn : Turn (Result (TxnAnswer Q) Error)) → is_open old.work ≡ false

@@ -128,7 +128,6 @@ may_write_so false e h = absurd (no h)
 pub reached_later : (from to o : Posted) → to.line ≡ from.line → to.beat ≡ from.beat → IsReached from to o → IsLater to o
 reached_later from to o line beat r = record { line = r.line ∙ sym line; beat = r.beat ∙ sym beat; next = r.next; next_ask = r.next_ask }
 
--- between calls it waits for nothing
 -- where a call is refused
 module _ {P Q K : Type 0} where
   pub refused_stays : (e : Error) (old new : Standing P Q K) (turn : Turn (Result (TxnAnswer Q) Error)) → IsRefused e old new turn → new ≡ old
@@ -142,6 +141,7 @@ module _ {P Q K : Type 0} where
   ends_shut t (Ends v) u = refl
 
 module _ {P Q K A B D : Type 0} (w : Ways P Q K A B D) where
+  -- between calls it waits for nothing
   pub rest_silent : (g : Work P Q K) (a : Awaited) → is_open g ≡ false → work_waits w g a → ⊥
   rest_silent g a e x = by (open_so g e)
     where
@@ -172,6 +172,7 @@ module _ {P Q K A B D : Type 0} (w : Ways P Q K A B D) (p : IsLawful w.prewritin
   cleaned_fits t later h f g e rests = record {
     given = given_cleaned h (version_of t.start) f.given;
     unsent = λ a. unsent_cleaned (version_of t.start) t.commits h (f.unsent a);
+    settled = f.settled;
     at = subst (λ x. IsAtWork w t.start t.status t.contents t.commits x later (cleaned h)) (sym e) (at g rests (subst (λ x. IsAtWork w t.start t.status t.contents t.commits x later h) e f.at));
   }
     where
@@ -185,7 +186,7 @@ module _ {P Q K A B D : Type 0} (w : Ways P Q K A B D) (p : IsLawful w.prewritin
     where
       by : (t.work ≡ Idle) ⊎ (t.work ≡ GaveUp) → TransactionFits w t later h
       by (inl i) = idle_fits w t o later h i f
-      by (inr g) = record { given = f.given; unsent = f.unsent; at = subst (λ x. IsAtWork w t.start t.status t.contents t.commits x later h) (sym g) tt }
+      by (inr g) = record { given = f.given; unsent = f.unsent; settled = f.settled; at = subst (λ x. IsAtWork w t.start t.status t.contents t.commits x later h) (sym g) tt }
 
   pub stand_rests : {trace : Option Trace} {at : ℕ} (t : Standing P Q K) (o later : Posted) (nexts news : List ℕ) → is_open t.work ≡ false → IsRisen nexts news → StandArises w trace at o nexts t → StandArises w trace at later news t
   stand_rests {trace} {at} t o later nexts news e risen a = record {
@@ -457,7 +458,7 @@ module _ {P Q K A B D : Type 0} (w : Ways P Q K A B D) (p : IsLawful w.prewritin
         ordered = x.ordered;
         arisen = record {
           history = x.arisen.history;
-          fits = record { given = x.arisen.fits.given; unsent = x.arisen.fits.unsent; at = tt };
+          fits = record { given = x.arisen.fits.given; unsent = x.arisen.fits.unsent; settled = x.arisen.fits.settled; at = tt };
           kept = kept_risen nexts news x.arisen.history risen x.arisen.kept;
           shown = shown_longer trace longer at x.arisen.history l x.arisen.shown;
           own = subst (λ n. AreOwn n x.arisen.history) (sym reached.line) x.arisen.own;

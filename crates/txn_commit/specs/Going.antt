@@ -40,6 +40,13 @@ rolls_back (stage.RollingBackPrimary k) = true
 rolls_back (stage.RollingBackOthers k) = true
 rolls_back s = false
 
+-- it is on its way to a Commit of the primary, or sends one
+abbrev pub may_commit : {P Q K : Type 0} → Stage P Q K → Bool
+may_commit (stage.Prewriting p) = true
+may_commit (stage.Asking t) = true
+may_commit (stage.Committing q t) = true
+may_commit s = false
+
 -- an event call of it, which is `meant` for it where it waits for that
 abbrev pub CommitterGoes : {P Q K A B D C : Type 0} → Ways P Q K A B D → Type 0
     → CommitterCall P Q K → CommitterCall P Q K → Posted → Posted → C → C → Turn (Result CommitterAnswer Error) → Type 0

@@ -12,7 +12,7 @@ ghost use Rattle.txn_request.specs.Defaults.{default_batch_rollback};
 ghost use Rattle.txn_commit.specs.Committing.{CommitterFits, CommitterGives, CommitterGoesOn, CommitterMoves, IsFirst, IsInRange, IsRolled, IsWritten, MayCommit, SendsCommits, StageReady, TimeSays, ways};
 ghost use Rattle.txn_commit.specs.Counting.{Begins, CommitterCounts, ask_costs, call_width, commit_again_costs, commit_costs, costs_of, others_costs, rollback_costs, stage_width};
 ghost use Rattle.txn_commit.specs.Following.{Commits, awaits, heard, undetermined};
-ghost use Rattle.txn_commit.specs.Going.{CommitterExpects, CommitterGoes, Opens, Relays, Resumes, Settles, rolls_back, stage_waits};
+ghost use Rattle.txn_commit.specs.Going.{CommitterExpects, CommitterGoes, Opens, Relays, Resumes, Settles, may_commit, rolls_back, stage_waits};
 ghost use Rattle.txn_commit.specs.Plans.{AreCommitted, ArePrewritten, AreRolledBack, IsPlanFor};
 ghost use Rattle.txn_commit.specs.Sending.{MaySend, plan_of};
 ghost use Rattle.txn_commit.specs.Timing.{HasVersionIfDone};
@@ -199,6 +199,7 @@ where
         ensures moves { (c : Commits) → CommitterMoves (ways P.meaning Q.meaning K.meaning P.refuses Q.refuses K.refuses) (λ h. undetermined c ≡ None) (λ h. h) self.old self.new c c out.old out.new (turn_of result) }
         ensures counts { Begins (ways P.meaning Q.meaning K.meaning P.refuses Q.refuses K.refuses) (costs_of P.costs Q.costs K.costs) (rollback_costs (costs_of P.costs Q.costs K.costs) self.old.parts) self.old self.new out.old out.new (turn_of result) }
         ensures opens { Opens (ways P.meaning Q.meaning K.meaning P.refuses Q.refuses K.refuses) self.new out.old out.new (turn_of result) }
+        ensures back { may_commit self.new.stage ≡ false }
         ensures version { IfEnds (turn_of result) IsInRange }
         ensures job { self.new ≡ record self.old { stage = self.new.stage; width = self.new.width } }
         ensures ready { StageReady (ways P.meaning Q.meaning K.meaning P.refuses Q.refuses K.refuses) self.new.stage }
@@ -232,6 +233,7 @@ where
         ensures expects { CommitterExpects (ways P.meaning Q.meaning K.meaning P.refuses Q.refuses K.refuses) (λ a. a ≡ awaited_as arrival) self.old self.new out.old out.new }
         ensures commits { (stage_waits (ways P.meaning Q.meaning K.meaning P.refuses Q.refuses K.refuses) self.old.stage (awaited_as arrival) → ⊥) → awaits arrival out.old commits.old ≡ false → commits.new ≡ commits.old }
         ensures rolls_back { rolls_back self.old.stage ≡ true → commits.new ≡ commits.old }
+        ensures back { may_commit self.old.stage ≡ false → (commits.new ≡ commits.old) × (may_commit self.new.stage ≡ false) }
         ensures version { IfEnds (turn_of result) IsInRange }
         ensures job { self.new ≡ record self.old { stage = self.new.stage; width = self.new.width } }
         ensures ready { StageReady (ways P.meaning Q.meaning K.meaning P.refuses Q.refuses K.refuses) self.new.stage }
@@ -401,6 +403,7 @@ where
         ensures moves { (c : Commits) (k : K) → self.old.stage ≡ stages.RollingBackPrimary k → CommitterGoesOn (ways P.meaning Q.meaning K.meaning P.refuses Q.refuses K.refuses) K.refuses (AreRolledBack (version_of self.old.start) (self.old.parts.primary ∷ [])) self.old self.new c c out.old out.new (turn_of (Ok progress)) (turn_of result) }
         ensures counts { (k : K) → self.old.stage ≡ stages.RollingBackPrimary k → CommitterCounts (ways P.meaning Q.meaning K.meaning P.refuses Q.refuses K.refuses) (costs_of P.costs Q.costs K.costs) false false 0 0 self.old self.new out.old out.new (turn_of result) }
         ensures resumes { Resumes (ways P.meaning Q.meaning K.meaning P.refuses Q.refuses K.refuses) (turn_of (Ok progress)) self.old self.new out.old out.new pd.old pd.new (turn_of result) }
+        ensures back { may_commit self.old.stage ≡ false → may_commit self.new.stage ≡ false }
         ensures version { IfEnds (turn_of result) IsInRange }
         ensures job { self.new ≡ record self.old { stage = self.new.stage; width = self.new.width } }
         ensures ready { StageReady (ways P.meaning Q.meaning K.meaning P.refuses Q.refuses K.refuses) self.new.stage }
@@ -420,6 +423,7 @@ where
         ensures moves { (c : Commits) → CommitterMoves (ways P.meaning Q.meaning K.meaning P.refuses Q.refuses K.refuses) (IsRolled (version_of self.old.start) self.old.parts c) (λ h. h) self.old self.new c c out.old out.new (turn_of result) }
         ensures counts { Begins (ways P.meaning Q.meaning K.meaning P.refuses Q.refuses K.refuses) (costs_of P.costs Q.costs K.costs) (others_costs (costs_of P.costs Q.costs K.costs) self.old.parts) self.old self.new out.old out.new (turn_of result) }
         ensures opens { Opens (ways P.meaning Q.meaning K.meaning P.refuses Q.refuses K.refuses) self.new out.old out.new (turn_of result) }
+        ensures back { may_commit self.new.stage ≡ false }
         ensures version { IfEnds (turn_of result) IsInRange }
         ensures job { self.new ≡ record self.old { stage = self.new.stage; width = self.new.width } }
         ensures ready { StageReady (ways P.meaning Q.meaning K.meaning P.refuses Q.refuses K.refuses) self.new.stage }
@@ -441,6 +445,7 @@ where
         ensures moves { (c : Commits) (o : Posted) (k : K) → self.old.stage ≡ stages.RollingBackOthers k → CommitterGoesOn (ways P.meaning Q.meaning K.meaning P.refuses Q.refuses K.refuses) K.refuses (AreRolledBack (version_of self.old.start) self.old.parts.secondaries) self.old self.new c c o o (turn_of (Ok progress)) (turn_of result) }
         ensures counts { (o : Posted) → CommitterCounts (ways P.meaning Q.meaning K.meaning P.refuses Q.refuses K.refuses) (costs_of P.costs Q.costs K.costs) false false 0 0 self.old self.new o o (turn_of result) }
         ensures settles { Settles (turn_of (Ok progress)) self.old self.new (turn_of result) }
+        ensures back { may_commit self.old.stage ≡ false → may_commit self.new.stage ≡ false }
         ensures version { IfEnds (turn_of result) IsInRange }
         ensures job { self.new ≡ record self.old { stage = self.new.stage; width = self.new.width } }
         ensures ready { StageReady (ways P.meaning Q.meaning K.meaning P.refuses Q.refuses K.refuses) self.new.stage }

@@ -17,6 +17,7 @@ use Rattle.txn_history.specs.Turn.Turn.{Stopped, Waits, Ends}
 use Rattle.txn_buffer.specs.Contents.{Contents}
 use Rattle.txn_commit.specs.Committing.{CommitterFits, CommitterGives, CommitterMoves, MayCommit, Ways}
 use Rattle.txn_commit.specs.Following.{Commits, undetermined}
+use Rattle.txn_commit.specs.Going.{may_commit}
 use Rattle.txn_commit.specs.Parts.{parts_of}
 use Rattle.txn_commit.specs.Plans.{ArePrewritten, AreRolledBack}
 use Rattle.txn_commit.specs.Sending.{MaySend, plan_of}
@@ -30,10 +31,10 @@ use Rattle.txn_commit.proofs.Posting.Hears.{Nothing, One}
 use Rattle.txn_commit.proofs.Sending.{given_longer}
 use Rattle.txn_core.proofs.Naming.{named_more, names_on}
 use Rattle.txn_core.specs.Going.{BeginMoves, CallFits, CallMoves, FailsWith, IsAtWork, IsCommittedAt, IsJobFor, IsNamed, IsNewCall, IsSameCall, IsUnderWay, KnowsCall, KnowsContents, KnowsParts, MayBegin, MayGoBack, MaySendFor, MayStart, NamesReady, TakesUp, TransactionFits, TransactionGives, TransactionMoves}
-use Rattle.txn_core.specs.Status.{allows_data, may_move}
+use Rattle.txn_core.specs.Status.{allows_data, has_turned_back, may_move}
 use Rattle.txn_core.specs.Transaction.{Standing, has_given_up, is_open, moved}
 use Rattle.txn_core.specs.declared.status.Status.{Status}
-use Rattle.txn_core.specs.declared.status.Status.TheVariants.{Committed as Is_committed, StartedCommit, Rolledback, StartedRollback}
+use Rattle.txn_core.specs.declared.status.Status.TheVariants.{Committed as Is_committed, ReadOnly, Active, StartedCommit, Rolledback, StartedRollback, Dropped}
 use Rattle.txn_core.specs.declared.transaction.Work.{Work}
 use Rattle.txn_core.specs.declared.transaction.Work.TheVariants.{Idle, Open, GaveUp}
 use Rattle.txn_core.specs.declared.txn_answer.TxnAnswer.{TxnAnswer}
@@ -49,6 +50,25 @@ stays_started s next e n = by (may_move s next)
     by : (b : Bool) → allows_data (if b then next else s) ≡ false
     by true = n
     by false = e
+
+-- where a rollback was begun once it has moved so, one was begun before
+turned_committed : (s : Status) → has_turned_back (moved s Is_committed) ≡ true → has_turned_back s ≡ true
+turned_committed ReadOnly e = e
+turned_committed Active e = e
+turned_committed Is_committed e = e
+turned_committed StartedCommit e = absurd (cc)
+turned_committed Rolledback e = e
+turned_committed StartedRollback e = e
+turned_committed Dropped e = e
+
+turned_rolled : (s : Status) → has_turned_back (moved s Rolledback) ≡ true → has_turned_back s ≡ true
+turned_rolled ReadOnly e = e
+turned_rolled Active e = e
+turned_rolled Is_committed e = e
+turned_rolled StartedCommit e = e
+turned_rolled Rolledback e = refl
+turned_rolled StartedRollback e = refl
+turned_rolled Dropped e = e
 
 pub not_locking : (b : Bool) → not b ≡ true → b ≡ false
 not_locking true e = absurd (cc)
@@ -88,11 +108,12 @@ module _ {P Q K A B D : Type 0} where
 
   -- the open call has ended, and the transaction rests
   pub rests : (w : Ways P Q K A B D) (t new : Standing P Q K) (call : CommitterCall P Q K) (next : Status) (v : ℕ) (o : Posted) (h : List Event)
-      → new ≡ record t { status = next; work = Idle; width = v } → allows_data next ≡ false
+      → new ≡ record t { status = next; work = Idle; width = v } → allows_data next ≡ false → (has_turned_back next ≡ true → has_turned_back t.status ≡ true)
       → CallFits w t call o h → TransactionFits w new o h
-  rests w t new call next v o h e n f = rw e (record {
+  rests w t new call next v o h e n b f = rw e (record {
     given = f.given;
     unsent = λ a. absurd (let g = sym n ∙ a in cc);
+    settled = λ a. f.settled (b a);
     at = knows_contents w t.start t.status t.contents t.commits call o h f.under_way;
   })
 
@@ -100,7 +121,7 @@ module _ {P Q K A B D : Type 0} where
   pub takes_waits : (w : Ways P Q K A B D) (call : CommitterCall P Q K) (old new : Standing P Q K) (o : Posted)
       → new ≡ record old { work = Open call } → TakesUp w call old new o Waits Waits
   takes_waits w call old new o e = record {
-    still = λ h k. rw e (record { given = k.0.given; unsent = λ a. absurd (let g = sym k.0.under_way.started ∙ a in cc); at = k.0.under_way });
+    still = λ h k. rw e (record { given = k.0.given; unsent = λ a. absurd (let g = sym k.0.under_way.started ∙ a in cc); settled = k.0.settled; at = k.0.under_way });
     done = tt;
   }
 
@@ -111,7 +132,7 @@ module _ {P Q K A B D : Type 0} where
       → IsCommittedAt new.start t keys turn
       → TakesUp w call old new o (Ends (Ok (Committed t))) turn
   takes_committed w call old new t keys v o turn e f (job, g, j) = rw g (record {
-    still = λ h k. rests w old new call (moved old.status Is_committed) v o h e (stays_started old.status Is_committed k.0.under_way.started refl) k.0;
+    still = λ h k. rests w old new call (moved old.status Is_committed) v o h e (stays_started old.status Is_committed k.0.under_way.started refl) (turned_committed old.status) k.0;
     done = λ h k. inl (
       call.parts,
       k.0.under_way.whole,
@@ -127,7 +148,7 @@ module _ {P Q K A B D : Type 0} where
       → new ≡ record old { status = moved old.status Is_committed; work = Idle; width = v }
       → TakesUp w call old new o (Ends (Ok Checked)) (Ends (Ok (answer.Committed None None)))
   takes_checked w call old new v o e = record {
-    still = λ h k. rests w old new call (moved old.status Is_committed) v o h e (stays_started old.status Is_committed k.0.under_way.started refl) k.0;
+    still = λ h k. rests w old new call (moved old.status Is_committed) v o h e (stays_started old.status Is_committed k.0.under_way.started refl) (turned_committed old.status) k.0;
     done = λ h k. inl (call.parts, k.0.under_way.whole, (k.1.0, subst (λ (x : Timestamp). ArePrewritten (version_of x) call.parts.mutations h) k.0.under_way.own k.1.1));
   }
 
@@ -136,7 +157,7 @@ module _ {P Q K A B D : Type 0} where
       → new ≡ record old { status = moved old.status Rolledback; work = Idle; width = v }
       → TakesUp w call old new o (Ends (Ok RolledBack)) (Ends (Ok answer.Unit))
   takes_rolled w call old new v o e = record {
-    still = λ h k. rests w old new call (moved old.status Rolledback) v o h e (stays_started old.status Rolledback k.0.under_way.started refl) k.0;
+    still = λ h k. rests w old new call (moved old.status Rolledback) v o h e (stays_started old.status Rolledback k.0.under_way.started refl) (turned_rolled old.status) k.0;
     done = λ h k. inl (call.parts, k.0.under_way.whole, inr (subst (λ (x : Timestamp). AreRolledBack (version_of x) (call.parts.primary ∷ []) h × AreRolledBack (version_of x) call.parts.secondaries h) k.0.under_way.own k.1));
   }
 
@@ -151,7 +172,7 @@ module _ {P Q K A B D : Type 0} where
       → IsNamed (undetermined old.commits) inner e
       → TakesUp w call old new o (Ends (Err inner)) (Ends (Err e))
   takes_failed w call old new inner e v o f n = record {
-    still = λ h k. rests w old new call old.status v o h f k.0.under_way.started k.0;
+    still = λ h k. rests w old new call old.status v o h f k.0.under_way.started (λ a. a) k.0;
     done = λ h k. inl (call.parts, k.0.under_way.whole, rw f (named_fails w (version_of call.start) (version_of old.start) call.parts (undetermined old.commits) h inner e n k.1));
   }
 
@@ -166,9 +187,10 @@ module _ {P Q K A B D : Type 0} where
       → ((h : List Event) → Hears h (hear h))
       → IsSameCall call call' → mid ≡ record old { commits = d }
       → ((h : List Event) → was h → CallFits w old call from h × known h)
+      → (has_turned_back old.status ≡ true → may_commit call.stage ≡ false → (d ≡ old.commits) × (may_commit call'.stage ≡ false))
       → CommitterMoves w known hear call call' old.commits d from to inner
       → Moves (MaySendFor old.contents (version_of old.start)) was (CallFits w mid call' to) (CommitterGives w (version_of call'.start) call'.parts) hear from to inner
-  lifts w call call' old mid d was known hear from to inner hears e f k m = rw f (Moves-map
+  lifts w call call' old mid d was known hear from to inner hears e f k b m = rw f (Moves-map
       {may = MaySend (plan_of call.parts) (version_of call.start)}
       {may' = MaySendFor old.contents (version_of old.start)}
       {was = was}
@@ -182,9 +204,11 @@ module _ {P Q K A B D : Type 0} where
       (λ h u l r x. (call.parts, (k h u).0.under_way.whole, subst (λ (s : Timestamp). MaySend (plan_of call.parts) (version_of s) l r) (k h u).0.under_way.own x))
       (λ h u l i x. record {
         given = given_longer (version_of old.start) h l i (k h u).0.given;
+        settled = λ a. ap undetermined (b a ((k h u).0.under_way.back a)).0 ∙ (k h u).0.settled a;
         under_way = record {
           own = e.start ∙ (k h u).0.under_way.own;
           started = (k h u).0.under_way.started;
+          back = λ a. (b a ((k h u).0.under_way.back a)).1;
           whole = (k h u).0.under_way.whole ∙ ap Some (sym e.parts);
           ready = rw (e.start, e.parts) x.1;
           fits = x.0;
@@ -199,11 +223,12 @@ module _ {P Q K A B D : Type 0} where
       → ((h : List Event) → Hears h (hear h))
       → IsSameCall call call' → mid ≡ record old { commits = d }
       → ((h : List Event) → was h → CallFits w old call from h × known h)
+      → (has_turned_back old.status ≡ true → may_commit call.stage ≡ false → (d ≡ old.commits) × (may_commit call'.stage ≡ false))
       → CommitterMoves w known hear call call' old.commits d from to inner
       → TakesUp w call' mid new to inner turn
       → Moves (MaySendFor old.contents (version_of old.start)) was (TransactionFits w new to) (TransactionGives w old.start old.contents new.commits) hear from to turn
-  goes_on w call call' old mid new d was known hear from to inner turn hears e f k m t =
-      let lifted = lifts w call call' old mid d was known hear from to inner hears e f k m in
+  goes_on w call call' old mid new d was known hear from to inner turn hears e f k b m t =
+      let lifted = lifts w call call' old mid d was known hear from to inner hears e f k b m in
       Moves-after lifted t.still (subst (λ (x : Standing P Q K). IfEnds turn (λ v. (h : List Event) → KnowsCall w call' mid to inner h → TransactionGives w x.start x.contents new.commits h v)) f t.done)
 
   -- A commit or a rollback begins.
@@ -212,9 +237,11 @@ module _ {P Q K A B D : Type 0} where
       → HasVersion old.start → parts_of old.contents ≡ Some parts → IsNewCall old.start parts call → MayBegin old parts h → CallFits w old call o h
   begin_fits w old call parts o h v e n m = record {
     given = m.given;
+    settled = m.settled;
     under_way = record {
       own = n.own;
       started = m.started;
+      back = λ a. ap may_commit n.stage;
       whole = rw n.whole e;
       ready = rw (n.own, n.whole) m.knows.ready;
       fits = record {
@@ -235,6 +262,7 @@ module _ {P Q K A B D : Type 0} where
       (λ h u. record {
         given = u.0.given;
         unsent = λ a. absurd (let g = sym (stays_started old.status Rolledback u.0.started refl) ∙ a in cc);
+        settled = λ a. u.0.settled (turned_rolled old.status a);
         at = record {
           of_parts = λ more g. subst (λ (x : CommitParts). KnowsParts (version_of old.start) old.commits h x) (some_same f g) u.0.knows;
           empty = λ g. absurd (let x = sym g ∙ f in cc);
@@ -250,7 +278,7 @@ module _ {P Q K A B D : Type 0} where
   goes_back w old mid new parts from to turn e f m =
       let f' = subst (λ (x : Standing P Q K). parts_of x.contents ≡ Some parts) e f in
       let m' = subst (λ (x : Standing P Q K). BeginMoves w (λ h. MayBegin x parts h × (undetermined x.commits ≡ None)) x new from to turn) e m in
-      Moves-before (λ h u. (record { given = u.given; started = refl; knows = u.knows.of_parts parts f' }, u.settled)) m'
+      Moves-before (λ h u. (record { given = u.given; started = refl; settled = λ a. u.settled; knows = u.knows.of_parts parts f' }, u.settled)) m'
 
   pub back_nothing : (w : Ways P Q K A B D) (old mid new : Standing P Q K) (o : Posted) (turn : Turn (Result (TxnAnswer Q) Error))
       → mid ≡ record old { status = StartedRollback; work = GaveUp } → new ≡ record mid { status = moved mid.status Rolledback; work = Idle }
@@ -262,6 +290,7 @@ module _ {P Q K A B D : Type 0} where
       (λ h u. record {
         given = u.given;
         unsent = λ a. absurd (cc);
+        settled = λ a. u.settled;
         at = u.knows;
       })
       (λ h u. inr (f', inr refl)))
@@ -279,7 +308,7 @@ module _ {P Q K A B D : Type 0} where
   commits_on w old mid new parts from to turn i e f m =
       let f' = subst (λ (x : Standing P Q K). parts_of x.contents ≡ Some parts) e f in
       let m' = subst (λ (x : Standing P Q K). BeginMoves w (MayBegin x parts) x new from to turn) e m in
-      Moves-before (λ h u. record { given = u.0.given; started = refl; knows = (at_rest w old from h i u.0).of_parts parts f' }) m'
+      Moves-before (λ h u. record { given = u.0.given; started = refl; settled = λ a. absurd (cc); knows = (at_rest w old from h i u.0).of_parts parts f' }) m'
 
   pub commits_nothing : (w : Ways P Q K A B D) (old mid new : Standing P Q K) (o : Posted) (turn : Turn (Result (TxnAnswer Q) Error))
       → old.work ≡ Idle → mid ≡ record old { status = StartedCommit; work = GaveUp } → new ≡ record mid { work = Idle }
@@ -291,6 +320,7 @@ module _ {P Q K A B D : Type 0} where
       (λ h u. record {
         given = u.0.given;
         unsent = λ a. absurd (cc);
+        settled = λ a. absurd (cc);
         at = at_rest w old o h i u.0;
       })
       (λ h u. inr (f', inl refl)))
@@ -310,12 +340,13 @@ module _ {P Q K A B D : Type 0} where
       → TransactionMoves w known hear old new from to turn
   tells_open w known hear call old mid new from to turn i e m =
       let m' = subst (λ (x : Standing P Q K). CallMoves w known hear call x new from to turn) e m in
-      Moves-before (λ h u. (record { given = u.0.given; under_way = subst (λ (x : Work P Q K). IsAtWork w old.start old.status old.contents old.commits x from h) i u.0.at }, u.1)) m'
+      Moves-before (λ h u. (record { given = u.0.given; settled = u.0.settled; under_way = subst (λ (x : Work P Q K). IsAtWork w old.start old.status old.contents old.commits x from h) i u.0.at }, u.1)) m'
 
   fits_on : (w : Ways P Q K A B D) (t : Standing P Q K) (o : Posted) (h : List Event) (e : Event) → IsNoSending e → t.work ≡ Idle → TransactionFits w t o h → TransactionFits w t o (e ∷ h)
   fits_on w t o h e n i f = record {
     given = given_longer (version_of t.start) h (e ∷ h) (λ x y. inr y) f.given;
     unsent = λ a. record { none = (f.unsent a).none; never = λ t r y q. elim y [ inl x ↦ n t (Commit r) x | inr x ↦ (f.unsent a).never t r x q ] };
+    settled = f.settled;
     at = rw i (let k = at_rest w t o h i f in record {
       of_parts = λ parts g. parts_more (version_of t.start) t.commits parts e h n (k.of_parts parts g);
       empty = k.empty;

@@ -172,6 +172,7 @@ module _ {P Q K A B D : Type 0} where
   begun_fits w start options now o h g u = record {
     given = g;
     unsent = λ a. record { none = refl; never = u };
+    settled = λ a. refl;
     at = record { of_parts = λ parts e. absurd (cc); empty = λ e. refl };
   }
 
@@ -180,6 +181,7 @@ module _ {P Q K A B D : Type 0} where
   written_fits w t contents o h a i s f = record {
     given = f.given;
     unsent = f.unsent;
+    settled = f.settled;
     at = rw i (record {
       of_parts = λ parts e. record {
         formed = formed contents parts s e;

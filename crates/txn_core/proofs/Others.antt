@@ -175,6 +175,7 @@ module _ {P Q K A B D : Type 0} (w : Ways P Q K A B D) (prewriting : IsLawful w.
   work_on start status contents c (Open call) o p newer h l n u = record {
     own = u.own;
     started = u.started;
+    back = u.back;
     whole = u.whole;
     ready = names_on (plan_of call.parts) (version_of call.start) newer h own u.ready;
     fits = call_on call c o p newer h l own u.fits;
@@ -191,6 +192,7 @@ module _ {P Q K A B D : Type 0} (w : Ways P Q K A B D) (prewriting : IsLawful w.
   grown_fits t o p newer h l unsent unnamed f = record {
     given = given_longer (version_of t.start) h (newer ++ h) (older newer h) f.given;
     unsent = λ a. let u = f.unsent a in record { none = u.none; never = λ q r i e. u.never q r (sent_before (λ (x : CommitRequest). x.start_version ≡ version_of t.start) newer h q r (unsent a) e i) e };
+    settled = f.settled;
     at = work_on t.start t.status t.contents t.commits t.work o p newer h l unnamed f.at;
   }
 
@@ -212,5 +214,6 @@ pub idle_fits : {P Q K A B D : Type 0} (w : Ways P Q K A B D) (t : Standing P Q 
 idle_fits w t o p h i f = record {
   given = f.given;
   unsent = f.unsent;
+  settled = f.settled;
   at = subst (λ x. IsAtWork w t.start t.status t.contents t.commits x p h) (sym i) (subst (λ x. IsAtWork w t.start t.status t.contents t.commits x o h) i f.at);
 }

@@ -22,7 +22,7 @@ use Rattle.txn_history.specs.Turn.Turn.{Stopped, Waits, Ends}
 use Rattle.txn_buffer.specs.Contents.{Contents}
 use Rattle.txn_commit.specs.Committing.{CommitterFits, CommitterGives, IsFormed, IsReady, StageReady, Ways}
 use Rattle.txn_commit.specs.Following.{Commits, KnowsCommits, none_sent, undetermined}
-use Rattle.txn_commit.specs.Going.{stage_phase}
+use Rattle.txn_commit.specs.Going.{may_commit, stage_phase}
 use Rattle.txn_commit.specs.Parts.{parts_of}
 use Rattle.txn_commit.specs.Plans.{ArePrewritten, AreRolledBack}
 use Rattle.txn_commit.specs.Sending.{MaySend, plan_of}
@@ -32,7 +32,7 @@ use Rattle.txn_commit.specs.declared.committer.CommitterCall.{CommitterCall}
 use Rattle.txn_commit.specs.declared.committer.Stage.TheVariants.{Over}
 use Rattle.txn_commit.specs.declared.secondary_job.SecondaryJob.{SecondaryJob}
 use Rattle.txn_commit.specs.declared.secondary_job.Stage.TheVariants.{Fresh}
-use Rattle.txn_core.specs.Status.{allows_data}
+use Rattle.txn_core.specs.Status.{allows_data, has_turned_back}
 use Rattle.txn_core.specs.Transaction.{Standing}
 use Rattle.txn_core.specs.declared.status.Status.{Status}
 use Rattle.txn_core.specs.declared.transaction.Work.{Work}
@@ -66,10 +66,12 @@ pub record KnowsContents (s : ℕ) (c : Commits) (h : List Event) (contents : Co
   pub of_parts : (parts : CommitParts) → parts_of contents ≡ Some parts → KnowsParts s c h parts
   pub empty : parts_of contents ≡ None → c ≡ none_sent
 
--- The open call is of this transaction, and of what its buffer holds. Nothing is written meanwhile.
+-- The open call is of this transaction, and of what its buffer holds. Nothing is written meanwhile, and once a rollback was begun no
+-- Commit of the primary is on its way.
 pub record IsUnderWay {P Q K A B D : Type 0} (w : Ways P Q K A B D) (start : Timestamp) (status : Status) (contents : Contents) (c : Commits) (call : CommitterCall P Q K) (o : Posted) (h : List Event) : Type 0 where
   pub own : call.start ≡ start
   pub started : allows_data status ≡ false
+  pub back : has_turned_back status ≡ true → may_commit call.stage ≡ false
   pub whole : parts_of contents ≡ Some call.parts
   pub ready : NamesReady (plan_of call.parts) (version_of call.start) h
   pub fits : CommitterFits w call c o h
@@ -85,21 +87,25 @@ IsAtWork w start status contents c Idle o h = KnowsContents (version_of start) c
 IsAtWork w start status contents c (Open call) o h = IsUnderWay w start status contents c call o h
 IsAtWork w start status contents c GaveUp o h = ⊤
 
--- The transaction can have arisen from the history: its start was given.
+-- The transaction can have arisen from the history: its start was given. Once a rollback was begun each Commit of its primary was
+-- refused, and stays so.
 pub record TransactionFits {P Q K A B D : Type 0} (w : Ways P Q K A B D) (t : Standing P Q K) (o : Posted) (h : List Event) : Type 0 where
   pub given : WasGiven h (version_of t.start)
   pub unsent : allows_data t.status ≡ true → IsUnsent (version_of t.start) t.commits h
+  pub settled : has_turned_back t.status ≡ true → undetermined t.commits ≡ None
   pub at : IsAtWork w t.start t.status t.contents t.commits t.work o h
 
 -- and so it can, while this call is open
 pub record CallFits {P Q K A B D : Type 0} (w : Ways P Q K A B D) (t : Standing P Q K) (call : CommitterCall P Q K) (o : Posted) (h : List Event) : Type 0 where
   pub given : WasGiven h (version_of t.start)
+  pub settled : has_turned_back t.status ≡ true → undetermined t.commits ≡ None
   pub under_way : IsUnderWay w t.start t.status t.contents t.commits call o h
 
 -- a commit or a rollback of these parts may begin
 pub record MayBegin {P Q K : Type 0} (t : Standing P Q K) (parts : CommitParts) (h : List Event) : Type 0 where
   pub given : WasGiven h (version_of t.start)
   pub started : allows_data t.status ≡ false
+  pub settled : has_turned_back t.status ≡ true → undetermined t.commits ≡ None
   pub knows : KnowsParts (version_of t.start) t.commits h parts
 
 -- its open call may be told of something, and waits for something

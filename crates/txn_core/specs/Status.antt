@@ -48,6 +48,16 @@ allows_rollback Rolledback = false
 allows_rollback StartedRollback = true
 allows_rollback Dropped = false
 
+-- a rollback of it was begun
+abbrev pub has_turned_back : Status → Bool
+has_turned_back ReadOnly = false
+has_turned_back Active = false
+has_turned_back Committed = false
+has_turned_back StartedCommit = false
+has_turned_back Rolledback = true
+has_turned_back StartedRollback = true
+has_turned_back Dropped = false
+
 -- nothing comes after it but that the transaction is let go
 abbrev pub is_end : Status → Bool
 is_end ReadOnly = false

@@ -16,7 +16,7 @@ ghost use Rattle.txn_commit.specs.Parts.{parts_of};
 ghost use Rattle.txn_commit.specs.Sending.{plan_of};
 ghost use Rattle.txn_core.specs.Counting.{Keeps, TransactionBegins, commit_price, rollback_price};
 ghost use Rattle.txn_core.specs.Going.{BeginMoves, HasFailed, IsCommittedAt, IsJobFor, IsNamed, IsNewCall, IsSameCall, MayBegin, MayGoBack, MayStart, IsUndetermined, TakesUp, TransactionMoves, TransactionReady};
-ghost use Rattle.txn_core.specs.Status.{allows_commit, allows_rollback, closing, status_step};
+ghost use Rattle.txn_core.specs.Status.{allows_commit, allows_rollback, closing, has_turned_back, status_step};
 ghost use Rattle.txn_core.specs.Status.Became.{commits};
 ghost use Rattle.txn_core.specs.Transaction.{GivesUp, AnswersAtOnce, IsRefused, locks_nothing, begun, commit_outcome, has_given_up, is_open, is_waiting, moved, moved_by, rolled_status};
 ghost use Rattle.txn_core.specs.Waiting.{Follows, HandsOut, Opens, Rests};
@@ -220,6 +220,7 @@ where
     ) -> Turn<Q>
         requires aside { self.old.work ≡ works.GaveUp }
         requires start { HasVersion self.old.start }
+        requires forward { has_turned_back self.old.status ≡ false }
         requires parts { parts_of self.old.contents ≡ Some parts }
         requires numbers { HasNumbers out.old }
         requires clock { now < 2 ^ 44 }

@@ -14,7 +14,7 @@ ghost use Rattle.txn_plan.specs.Answered.{IsTimeAnswer};
 ghost use Rattle.txn_commit.specs.Committing.{CommitterMoves, IsInRange, StageReady, ways};
 ghost use Rattle.txn_commit.specs.Counting.{CommitterCounts, costs_of};
 ghost use Rattle.txn_commit.specs.Following.{awaits, is_out};
-ghost use Rattle.txn_commit.specs.Going.{CommitterExpects, CommitterGoes, rolls_back, stage_phase, stage_waits};
+ghost use Rattle.txn_commit.specs.Going.{CommitterExpects, CommitterGoes, may_commit, rolls_back, stage_phase, stage_waits};
 ghost use Rattle.txn_core.specs.Counting.{OpenCounts, TransactionCounts};
 ghost use Rattle.txn_core.specs.Going.{CallMoves, IsSameCall, TransactionMoves, TransactionReady};
 ghost use Rattle.txn_core.specs.Transaction.{GivesUp, is_open, is_waiting, moved_by};
@@ -221,6 +221,7 @@ where
         ensures expects { CommitterExpects (ways P.meaning Q.meaning K.meaning P.refuses Q.refuses K.refuses) (λ a. a ≡ awaited_as arrival) call.old call.new out.old out.new }
         ensures commits { (stage_waits (ways P.meaning Q.meaning K.meaning P.refuses Q.refuses K.refuses) call.old.stage (awaited_as arrival) → ⊥) → awaits arrival out.old self.old.commits ≡ false → self.new.commits ≡ self.old.commits }
         ensures rolls_back { rolls_back call.old.stage ≡ true → self.new.commits ≡ self.old.commits }
+        ensures back { may_commit call.old.stage ≡ false → (self.new.commits ≡ self.old.commits) × (may_commit call.new.stage ≡ false) }
         ensures version { IfEnds (turn_of result) IsInRange }
         ensures ready { StageReady (ways P.meaning Q.meaning K.meaning P.refuses Q.refuses K.refuses) call.new.stage }
         ensures numbers { HasNumbers out.new }

@@ -1,4 +1,4 @@
-use Rattle.std.proofs.Common.{refl}
+use Rattle.std.proofs.Common.{◌∙◌, refl, sym}
 use Rattle.txn_history.specs.Moves.{Moves-stops}
 use Rattle.txn_commit.proofs.Posting.Hears.{Nothing}
 use Rattle.txn_history.specs.Turn.{turn_of}
@@ -10,10 +10,10 @@ use Rattle.txn_core.proofs.Waiting.{opens_call, opens_gone}
 use Rattle.txn_core.proofs.transaction.Transaction.start_commit.Goals as goal
 
 pub returns-in-Err-clause-moves : goal.returns-in-Err-clause-moves
-returns-in-Err-clause-moves g c = Moves-stops (lifts _ c.committer-call.result c.start_call.new.call c.args.self.now c.start_call.new.self _ _ _ _ _ _ _ (λ h. Nothing) c.start_call.ensures.job c.start_call.ensures.kept (λ h u. (begin_fits _ c.args.self.now c.committer-call.result c.args.parts _ h c.requires.start c.requires.parts c.committer-call.ensures u, may_start c.args.self.now c.committer-call.result c.args.parts h c.committer-call.ensures u)) c.start_call.ensures.moves) c.stop.ensures.turn
+returns-in-Err-clause-moves g c = Moves-stops (lifts _ c.committer-call.result c.start_call.new.call c.args.self.now c.start_call.new.self _ _ _ _ _ _ _ (λ h. Nothing) c.start_call.ensures.job c.start_call.ensures.kept (λ h u. (begin_fits _ c.args.self.now c.committer-call.result c.args.parts _ h c.requires.start c.requires.parts c.committer-call.ensures u, may_start c.args.self.now c.committer-call.result c.args.parts h c.committer-call.ensures u)) (λ a. absurd (let no = sym c.requires.forward ∙ a in cc)) c.start_call.ensures.moves) c.stop.ensures.turn
 
 pub returns-in-Ok-clause-moves : goal.returns-in-Ok-clause-moves
-returns-in-Ok-clause-moves g c = goes_on _ c.committer-call.result c.start_call.new.call c.args.self.now c.start_call.new.self c.go_on.new.self _ _ _ _ _ _ _ _ (λ h. Nothing) c.start_call.ensures.job c.start_call.ensures.kept (λ h u. (begin_fits _ c.args.self.now c.committer-call.result c.args.parts _ h c.requires.start c.requires.parts c.committer-call.ensures u, may_start c.args.self.now c.committer-call.result c.args.parts h c.committer-call.ensures u)) (rw c.in-Ok.is at c.start_call.ensures.moves) (c.go_on.ensures.takes_up _)
+returns-in-Ok-clause-moves g c = goes_on _ c.committer-call.result c.start_call.new.call c.args.self.now c.start_call.new.self c.go_on.new.self _ _ _ _ _ _ _ _ (λ h. Nothing) c.start_call.ensures.job c.start_call.ensures.kept (λ h u. (begin_fits _ c.args.self.now c.committer-call.result c.args.parts _ h c.requires.start c.requires.parts c.committer-call.ensures u, may_start c.args.self.now c.committer-call.result c.args.parts h c.committer-call.ensures u)) (λ a. absurd (let no = sym c.requires.forward ∙ a in cc)) (rw c.in-Ok.is at c.start_call.ensures.moves) (c.go_on.ensures.takes_up _)
 
 pub returns-in-Err-clause-counts : goal.returns-in-Err-clause-counts
 returns-in-Err-clause-counts g c = begin_counts _ _ c.committer-call.result c.start_call.new.call c.args.self.now c.start_call.new.self c.stop.new.self _ c.requires.aside c.start_call.ensures.kept (lets_go _ c.start_call.new.call c.start_call.new.self c.stop.new.self (rw c.stop.ensures.state refl) (rw c.stop.ensures.state refl)) (never_kept _ _ c.stop.ensures.turn) (commit_priced _ _ c.args.self.now.commits.timestamp c.committer-call.result c.start_call.new.call c.args.parts c.committer-call.ensures.whole c.start_call.ensures.counts)

@@ -12,10 +12,10 @@ use Rattle.txn_commit.specs.Committing.{ways}
 use Rattle.txn_core.proofs.transaction.Transaction.tell_call.Goals as goal
 
 pub returns-in-Err-clause-moves : goal.returns-in-Err-clause-moves
-returns-in-Err-clause-moves g c r = Moves-stops (lifts _ c.args.call c.tell_open.new.call c.args.self.now c.tell_open.new.self _ _ _ _ _ _ _ (hears_told c.args.arrival c.args.out.now r) c.tell_open.ensures.job c.tell_open.ensures.kept (λ h u. u) (c.tell_open.ensures.moves r)) c.stop.ensures.turn
+returns-in-Err-clause-moves g c r = Moves-stops (lifts _ c.args.call c.tell_open.new.call c.args.self.now c.tell_open.new.self _ _ _ _ _ _ _ (hears_told c.args.arrival c.args.out.now r) c.tell_open.ensures.job c.tell_open.ensures.kept (λ h u. u) (λ a. c.tell_open.ensures.back) (c.tell_open.ensures.moves r)) c.stop.ensures.turn
 
 pub returns-in-Ok-clause-moves : goal.returns-in-Ok-clause-moves
-returns-in-Ok-clause-moves g c r = goes_on _ c.args.call c.tell_open.new.call c.args.self.now c.tell_open.new.self c.go_on.new.self _ _ _ _ _ _ _ _ (hears_told c.args.arrival c.args.out.now r) c.tell_open.ensures.job c.tell_open.ensures.kept (λ h u. u) (rw c.in-Ok.is at (c.tell_open.ensures.moves r)) (c.go_on.ensures.takes_up _)
+returns-in-Ok-clause-moves g c r = goes_on _ c.args.call c.tell_open.new.call c.args.self.now c.tell_open.new.self c.go_on.new.self _ _ _ _ _ _ _ _ (hears_told c.args.arrival c.args.out.now r) c.tell_open.ensures.job c.tell_open.ensures.kept (λ h u. u) (λ a. c.tell_open.ensures.back) (rw c.in-Ok.is at (c.tell_open.ensures.moves r)) (c.go_on.ensures.takes_up _)
 
 pub returns-in-Err-clause-counts : goal.returns-in-Err-clause-counts
 returns-in-Err-clause-counts g c = open_counts _ _ c.args.call c.tell_open.new.call c.args.self.now c.tell_open.new.self c.stop.new.self _ c.tell_open.ensures.kept (lets_go _ c.tell_open.new.call c.tell_open.new.self c.stop.new.self (rw c.stop.ensures.state refl) (rw c.stop.ensures.state refl)) (never_kept _ _ c.stop.ensures.turn) c.tell_open.ensures.counts
