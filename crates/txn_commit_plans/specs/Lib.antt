@@ -5,4 +5,3 @@ pub mod CausesOfShards
 pub mod Failing
 pub mod Kinds
 pub mod OverRegions
-pub mod OneEach

@@ -1,29 +1,34 @@
-ghost use Rattle.std.specs.Prelude.{◌≡◌};
+ghost use Rattle.std.specs.Prelude.{◌≡◌, IfOk};
 
+use std::alloc::Global;
 use std::marker::Model;
 use txn_kv::{NoMemory, Outbox, Progress, Reply, Timestamp};
 use txn_plan::Plan;
 use txn_region::PdClient;
 
-/// A plan by which a request of a transaction goes.
+/// A plan by which a request of a transaction goes. It stands on the heap, so that what holds it is small.
 #[derive(Drop)]
 pub struct TransactionPlan<P> {
-    inner: P,
+    inner: Box<P>,
 }
 
 /// It is seen as the plan that it holds.
 impl<P> Model for TransactionPlan<P> {
     ghost Value = { P };
 
-    ghost view = { λ plan. plan.inner };
+    ghost view = { λ plan. plan.inner.value };
 }
 
 impl<P> TransactionPlan<P> {
     /// The plan, as one of a transaction.
-    pub fn new(plan: P) -> TransactionPlan<P>
-        ensures { result ≡ plan }
+    pub fn new(alloc: Global, plan: P) -> Result<TransactionPlan<P>, NoMemory>
+    where
+        P: Drop,
+        ensures { IfOk result (λ made. made ≡ plan) }
     {
-        TransactionPlan { inner: plan }
+        Ok(TransactionPlan {
+            inner: Box::new(alloc, plan)?,
+        })
     }
 
     /// The plan that it holds.
@@ -42,9 +47,7 @@ impl<P: Plan> Plan for TransactionPlan<P> {
     ghost touches = { λ touch told from old new pd pd'. P.touches touch told from old new pd pd' };
 
     fn try_clone(&self) -> Result<Self, NoMemory> {
-        Ok(TransactionPlan {
-            inner: self.inner.try_clone()?,
-        })
+        TransactionPlan::new(*Box::allocator(&self.inner), self.inner.try_clone()?)
     }
 
     fn start<C: PdClient>(

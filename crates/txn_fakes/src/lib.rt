@@ -2,5 +2,7 @@
 #![tactic(auto)]
 
 pub mod no_client;
+pub mod plans;
 
 pub use no_client::NoClient;
+pub use plans::Once;

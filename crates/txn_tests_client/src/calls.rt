@@ -4,22 +4,30 @@ ghost use Rattle.txn_plan.specs.Arrivals.{MayArrive};
 ghost use Rattle.txn_history.specs.Posted.{HasNumbers};
 ghost use Rattle.txn_kv.specs.Timestamp.{HasVersion};
 
-use super::plans::NoPlan;
 use std::test::Fail;
 use txn_client::{Client, ClientAnswer, ClientCall};
 use txn_core::{CheckLevel, CloseAnswer, Transaction, TransactionOptions};
-use txn_fakes::NoClient;
-use txn_kv::{Errand, Error, Internal, NoMemory, Outbox, Progress, Timestamp};
+use txn_fakes::{NoClient, Once};
+use txn_kv::{
+    BatchRollbackRequest, CommitRequest, Errand, Error, Internal, NoMemory, Outbox,
+    PrewriteRequest, Progress, Timestamp,
+};
 use txn_plan::Arrival;
 use txn_region::{ApiV1TxnCodec, PdRpcClient};
 
 type Pd = PdRpcClient<ApiV1TxnCodec>;
 
-type Call = ClientCall<Pd, NoPlan, NoPlan, NoPlan>;
+type Prewriting = Once<PrewriteRequest>;
 
-type Answer = ClientAnswer<Pd, NoPlan, NoPlan, NoPlan>;
+type Committing = Once<CommitRequest>;
 
-type Begun = Transaction<Pd, NoPlan, NoPlan, NoPlan>;
+type Rolling = Once<BatchRollbackRequest>;
+
+type Call = ClientCall<Pd, Prewriting, Committing, Rolling>;
+
+type Answer = ClientAnswer<Pd, Prewriting, Committing, Rolling>;
+
+type Begun = Transaction<Pd, Prewriting, Committing, Rolling>;
 
 fn seven() -> Timestamp
     ensures { HasVersion result }

@@ -1,12 +1,17 @@
 //! New clients, and the calls that they make.
-use super::plans::NoPlan;
 use std::test::Fail;
 use txn_client::{Client, ClientCall};
 use txn_core::TransactionOptions;
-use txn_kv::NoMemory;
+use txn_fakes::Once;
+use txn_kv::{BatchRollbackRequest, CommitRequest, NoMemory, PrewriteRequest};
 use txn_region::{ApiV1TxnCodec, ApiV2TxnCodec, PdClient, PdRpcClient};
 
-type Call = ClientCall<PdRpcClient<ApiV1TxnCodec>, NoPlan, NoPlan, NoPlan>;
+type Call = ClientCall<
+    PdRpcClient<ApiV1TxnCodec>,
+    Once<PrewriteRequest>,
+    Once<CommitRequest>,
+    Once<BatchRollbackRequest>,
+>;
 
 #[test]
 fn a_client_is_of_cluster_0(rt: HostRuntime) {

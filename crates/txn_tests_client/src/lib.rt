@@ -5,5 +5,3 @@
 mod calls;
 #[cfg(test)]
 mod clients;
-#[cfg(test)]
-mod plans;

@@ -1,3 +1,2 @@
 mod calls;
-mod client;
 mod parts;

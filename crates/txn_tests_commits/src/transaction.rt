@@ -1,6 +1,5 @@
 mod line;
 mod options;
-pub(crate) mod plans;
 mod replies;
 mod script;
 mod transactions;

@@ -5,14 +5,13 @@ ghost use Rattle.txn_history.specs.Posted.{HasNumbers};
 ghost use Rattle.txn_kv.specs.Timestamp.{HasVersion};
 ghost use Rattle.txn_plan.specs.Arrivals.{MayArrive};
 
-use super::client::NoClient;
-use crate::transaction::plans::Once;
 use std::alloc::Global;
 use std::test::Fail;
 use txn_buffer::Buffer;
 use txn_commit::{
     CommitParts, CommitterAnswer, CommitterCall, PlanFor, PrimaryCommits, SecondaryJob,
 };
+use txn_fakes::{NoClient, Once};
 use txn_kv::{
     BatchRollbackRequest, BatchRollbackResponse, CommitRequest, CommitResponse, Errand, Items, Key,
     NoMemory, Outbox, PrewriteRequest, PrewriteResponse, Progress, Reply, Request, Timestamp,

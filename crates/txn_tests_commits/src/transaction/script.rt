@@ -2,11 +2,11 @@
 ghost use Rattle.std.specs.Prelude.{◌≡◌};
 
 use super::line::Line;
-use super::plans::Once;
 use super::replies::{abort, committed, conflict, first, no_lock, prewritten, rolled_back, second};
 use super::words::{answer_text, push_errand};
 use std::alloc::Global;
 use txn_core::{TransactionOptions, TxnAnswer};
+use txn_fakes::Once;
 use txn_kv::{
     Assertion, BatchRollbackRequest, CommitRequest, Key, Mutation, NoMemory, Op, PrewriteRequest,
     Progress, Value,

@@ -13,7 +13,7 @@ use txn_merge::{HasKeyErrors, HasRegionErrors, RetryOptions};
 use txn_plan::{CopyRequest, Dispatch, ExtractError, Plan};
 use txn_region::PdClient;
 
-/// A plan as one of this crate.
+/// A plan as one of this crate, which may be one for requests.
 #[derive(Drop)]
 pub struct Own<P: Plan> {
     plan: P,
