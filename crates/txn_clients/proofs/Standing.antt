@@ -128,17 +128,18 @@ may_write_so false e h = absurd (no h)
 pub reached_later : (from to o : Posted) → to.line ≡ from.line → to.beat ≡ from.beat → IsReached from to o → IsLater to o
 reached_later from to o line beat r = record { line = r.line ∙ sym line; beat = r.beat ∙ sym beat; next = r.next; next_ask = r.next_ask }
 
--- where a call is refused
+-- Where a call is refused
+
+pub ends_shut : {Q : Type 0} → (t : Ticket) (turn : Turn (Result (TxnAnswer Q) Error)) → IsUndetermined t turn → is_waiting turn ≡ false
+ends_shut t Stopped u = refl
+ends_shut t Waits u = absurd u
+ends_shut t (Ends v) u = refl
+
 module _ {P Q K : Type 0} where
   pub refused_stays : (e : Error) (old new : Standing P Q K) (turn : Turn (Result (TxnAnswer Q) Error)) → IsRefused e old new turn → new ≡ old
   refused_stays e old new Stopped r = r
   refused_stays e old new Waits r = absurd r
   refused_stays e old new (Ends v) r = r.1
-
-  pub ends_shut : (t : Ticket) (turn : Turn (Result (TxnAnswer Q) Error)) → IsUndetermined t turn → is_waiting turn ≡ false
-  ends_shut t Stopped u = refl
-  ends_shut t Waits u = absurd u
-  ends_shut t (Ends v) u = refl
 
 module _ {P Q K A B D : Type 0} (w : Ways P Q K A B D) where
   -- between calls it waits for nothing
