@@ -5,3 +5,4 @@ pub mod CausesOfShards
 pub mod Failing
 pub mod Kinds
 pub mod OverRegions
+pub mod OneEach

@@ -4,10 +4,12 @@ ghost use Rattle.txn_commit_plans.specs.Failing.{HasGiven, given_caused, has_giv
 ghost use Rattle.txn_commit_plans.specs.Kinds.{rollback_plan, rollback_plan-lawful};
 ghost use Rattle.txn_kv.specs.declared.request.BatchRollbackRequest.{BatchRollbackRequest as Sent};
 ghost use Rattle.txn_kv.specs.declared.request.Request.TheVariants.{BatchRollback};
+ghost use Rattle.txn_commit_plans.specs.OneEach.{few_by_items};
 ghost use Rattle.txn_multi.specs.Few.{by_items};
 ghost use Rattle.txn_request.specs.Defaults.{default_batch_rollback};
 
 use crate::has_causes::Caused;
+use crate::one_each::OneEach;
 use crate::over_regions::{OverRegions, plan_over_regions};
 use crate::transaction_plan::TransactionPlan;
 use std::alloc::Global;
@@ -51,7 +53,7 @@ impl PlanFor<BatchRollbackRequest> for BatchRollbackPlan {
         let request = encoded(alloc, pd, request);
         let plan = plan_over_regions(alloc, request, retry_options);
         let extracted = ExtractError::new(alloc, plan);
-        TransactionPlan::new(alloc, extracted)
+        Ok(TransactionPlan::new(extracted))
     }
 
     fn width(&self) -> u64 {
@@ -59,6 +61,10 @@ impl PlanFor<BatchRollbackRequest> for BatchRollbackPlan {
     }
 
     ghost refuses_longer = { has_given_longer Self.Plan.meaning rollback_plan-lawful };
+}
+
+impl OneEach<BatchRollbackRequest> for BatchRollbackPlan {
+    ghost one_each = { few_by_items };
 }
 
 impl Caused<BatchRollbackRequest> for BatchRollbackPlan {

@@ -4,10 +4,12 @@ ghost use Rattle.txn_commit_plans.specs.Failing.{HasGiven, given_caused, has_giv
 ghost use Rattle.txn_commit_plans.specs.Kinds.{commit_plan, commit_plan-lawful};
 ghost use Rattle.txn_kv.specs.declared.request.CommitRequest.{CommitRequest as Sent};
 ghost use Rattle.txn_kv.specs.declared.request.Request.TheVariants.{Commit};
+ghost use Rattle.txn_commit_plans.specs.OneEach.{few_by_items};
 ghost use Rattle.txn_multi.specs.Few.{by_items};
 ghost use Rattle.txn_request.specs.Defaults.{default_commit};
 
 use crate::has_causes::Caused;
+use crate::one_each::OneEach;
 use crate::over_regions::{OverRegions, plan_over_regions};
 use crate::transaction_plan::TransactionPlan;
 use std::alloc::Global;
@@ -47,7 +49,7 @@ impl PlanFor<CommitRequest> for CommitPlan {
         let request = encoded(alloc, pd, request);
         let plan = plan_over_regions(alloc, request, retry_options);
         let extracted = ExtractError::new(alloc, plan);
-        TransactionPlan::new(alloc, extracted)
+        Ok(TransactionPlan::new(extracted))
     }
 
     fn width(&self) -> u64 {
@@ -55,6 +57,10 @@ impl PlanFor<CommitRequest> for CommitPlan {
     }
 
     ghost refuses_longer = { has_given_longer Self.Plan.meaning commit_plan-lawful };
+}
+
+impl OneEach<CommitRequest> for CommitPlan {
+    ghost one_each = { few_by_items };
 }
 
 impl Caused<CommitRequest> for CommitPlan {

@@ -34,8 +34,10 @@ ghost use Rattle.txn_kv.specs.declared.timestamp.Timestamp.{Timestamp};
 use crate::batch_rollback::BatchRollbackPlan;
 use crate::commit::CommitPlan;
 use crate::has_causes::Caused;
+use crate::one_each::OneEach;
 use crate::prewrite::PrewritePlan;
 use txn_commit::PlanFor;
+use txn_core::laws::commits_are_bounded;
 use txn_kv::{BatchRollbackRequest, CommitRequest, PrewriteRequest};
 
 /// A plan that is not begun, and sends a request in any context to the regions of its keys, is a plan of the request: all that
@@ -51,8 +53,24 @@ pub fn plans_cost_one_request_a_key()
     ensures { IsOneEach (costs_of ⟦<PrewritePlan as PlanFor<PrewriteRequest>>⟧.costs ⟦<CommitPlan as PlanFor<CommitRequest>>⟧.costs ⟦<BatchRollbackPlan as PlanFor<BatchRollbackRequest>>⟧.costs) }
 {}
 
-/// A commit and a rollback of k mutations that go by these plans post no more than 2k + 9 requests and asks, once more for each error
-/// that comes to them, and what locks may cost.
+/// Where a commit and a rollback of k mutations go by such plans, they post no more than 2k + 9 requests and asks, once more for each
+/// error that comes to them, and what locks may cost.
+pub fn frugal_commits_are_bounded<P, Q, K>()
+where
+    P: OneEach<PrewriteRequest>,
+    Q: OneEach<CommitRequest>,
+    K: OneEach<BatchRollbackRequest>,
+    ensures commit { (first : Step P Q K) (steps : List (Step P Q K))
+        → Runs (ways P.meaning Q.meaning K.meaning P.refuses Q.refuses K.refuses) (costs_of P.costs Q.costs K.costs) (commit_price (costs_of P.costs Q.costs K.costs) (parts_of first.old.contents) first.old.commits.timestamp) first steps
+        → posted (first ∷ steps) ≤ (1 + errors steps) * (2 * length (mutations first.old.contents.entries) + 9 + weighed steps) }
+    ensures rollback { (first : Step P Q K) (steps : List (Step P Q K))
+        → Runs (ways P.meaning Q.meaning K.meaning P.refuses Q.refuses K.refuses) (costs_of P.costs Q.costs K.costs) (rollback_price (costs_of P.costs Q.costs K.costs) (parts_of first.old.contents)) first steps
+        → posted (first ∷ steps) ≤ (1 + errors steps) * (2 * length (mutations first.old.contents.entries) + 9 + weighed steps) }
+{
+    commits_are_bounded::<P, Q, K>();
+}
+
+/// The plans of this crate are such plans.
 pub fn commits_by_plans_are_bounded()
     ensures commit { (first : Step Prewriting Committing Rolling) (steps : List (Step Prewriting Committing Rolling))
         → Runs (ways ⟦<PrewritePlan as txn_plan::Plan>⟧.meaning ⟦<CommitPlan as txn_plan::Plan>⟧.meaning ⟦<BatchRollbackPlan as txn_plan::Plan>⟧.meaning ⟦<PrewritePlan as PlanFor<PrewriteRequest>>⟧.refuses ⟦<CommitPlan as PlanFor<CommitRequest>>⟧.refuses ⟦<BatchRollbackPlan as PlanFor<BatchRollbackRequest>>⟧.refuses) (costs_of ⟦<PrewritePlan as PlanFor<PrewriteRequest>>⟧.costs ⟦<CommitPlan as PlanFor<CommitRequest>>⟧.costs ⟦<BatchRollbackPlan as PlanFor<BatchRollbackRequest>>⟧.costs) (commit_price (costs_of ⟦<PrewritePlan as PlanFor<PrewriteRequest>>⟧.costs ⟦<CommitPlan as PlanFor<CommitRequest>>⟧.costs ⟦<BatchRollbackPlan as PlanFor<BatchRollbackRequest>>⟧.costs) (parts_of first.old.contents) first.old.commits.timestamp) first steps
@@ -60,7 +78,9 @@ pub fn commits_by_plans_are_bounded()
     ensures rollback { (first : Step Prewriting Committing Rolling) (steps : List (Step Prewriting Committing Rolling))
         → Runs (ways ⟦<PrewritePlan as txn_plan::Plan>⟧.meaning ⟦<CommitPlan as txn_plan::Plan>⟧.meaning ⟦<BatchRollbackPlan as txn_plan::Plan>⟧.meaning ⟦<PrewritePlan as PlanFor<PrewriteRequest>>⟧.refuses ⟦<CommitPlan as PlanFor<CommitRequest>>⟧.refuses ⟦<BatchRollbackPlan as PlanFor<BatchRollbackRequest>>⟧.refuses) (costs_of ⟦<PrewritePlan as PlanFor<PrewriteRequest>>⟧.costs ⟦<CommitPlan as PlanFor<CommitRequest>>⟧.costs ⟦<BatchRollbackPlan as PlanFor<BatchRollbackRequest>>⟧.costs) (rollback_price (costs_of ⟦<PrewritePlan as PlanFor<PrewriteRequest>>⟧.costs ⟦<CommitPlan as PlanFor<CommitRequest>>⟧.costs ⟦<BatchRollbackPlan as PlanFor<BatchRollbackRequest>>⟧.costs) (parts_of first.old.contents)) first steps
         → posted (first ∷ steps) ≤ (1 + errors steps) * (2 * length (mutations first.old.contents.entries) + 9 + weighed steps) }
-{}
+{
+    frugal_commits_are_bounded::<PrewritePlan, CommitPlan, BatchRollbackPlan>();
+}
 
 /// The job of k other keys, which is not started, posts no more than k requests.
 pub fn jobs_by_plans_are_bounded()

@@ -4,10 +4,12 @@ ghost use Rattle.txn_commit_plans.specs.Failing.{HasGiven, given_caused, has_giv
 ghost use Rattle.txn_commit_plans.specs.Kinds.{prewrite_plan, prewrite_plan-lawful};
 ghost use Rattle.txn_kv.specs.declared.request.PrewriteRequest.{PrewriteRequest as Sent};
 ghost use Rattle.txn_kv.specs.declared.request.Request.TheVariants.{Prewrite};
+ghost use Rattle.txn_commit_plans.specs.OneEach.{few_by_items};
 ghost use Rattle.txn_multi.specs.Few.{by_items};
 ghost use Rattle.txn_request.specs.Defaults.{default_prewrite};
 
 use crate::has_causes::Caused;
+use crate::one_each::OneEach;
 use crate::over_regions::{OverRegions, plan_over_regions};
 use crate::transaction_plan::TransactionPlan;
 use std::alloc::Global;
@@ -51,7 +53,7 @@ impl PlanFor<PrewriteRequest> for PrewritePlan {
         let plan = plan_over_regions(alloc, request, retry_options);
         let merged = MergeResponse::new(alloc, plan, CollectError);
         let extracted = ExtractError::new(alloc, merged);
-        TransactionPlan::new(alloc, extracted)
+        Ok(TransactionPlan::new(extracted))
     }
 
     fn width(&self) -> u64 {
@@ -59,6 +61,10 @@ impl PlanFor<PrewriteRequest> for PrewritePlan {
     }
 
     ghost refuses_longer = { has_given_longer Self.Plan.meaning prewrite_plan-lawful };
+}
+
+impl OneEach<PrewriteRequest> for PrewritePlan {
+    ghost one_each = { few_by_items };
 }
 
 impl Caused<PrewriteRequest> for PrewritePlan {

@@ -1,34 +1,29 @@
-ghost use Rattle.std.specs.Prelude.{◌≡◌, IfOk};
+ghost use Rattle.std.specs.Prelude.{◌≡◌};
 
-use std::alloc::Global;
 use std::marker::Model;
 use txn_kv::{NoMemory, Outbox, Progress, Reply, Timestamp};
 use txn_plan::Plan;
 use txn_region::PdClient;
 
-/// A plan by which a request of a transaction goes. It stands on the heap, so that what holds it is small.
+/// A plan by which a request of a transaction goes.
 #[derive(Drop)]
 pub struct TransactionPlan<P> {
-    inner: Box<P>,
+    inner: P,
 }
 
 /// It is seen as the plan that it holds.
 impl<P> Model for TransactionPlan<P> {
     ghost Value = { P };
 
-    ghost view = { λ plan. plan.inner.value };
+    ghost view = { λ plan. plan.inner };
 }
 
 impl<P> TransactionPlan<P> {
     /// The plan, as one of a transaction.
-    pub fn new(alloc: Global, plan: P) -> Result<TransactionPlan<P>, NoMemory>
-    where
-        P: Drop,
-        ensures { IfOk result (λ made. made ≡ plan) }
+    pub fn new(plan: P) -> TransactionPlan<P>
+        ensures { result ≡ plan }
     {
-        Ok(TransactionPlan {
-            inner: Box::new(alloc, plan)?,
-        })
+        TransactionPlan { inner: plan }
     }
 
     /// The plan that it holds.
@@ -47,7 +42,9 @@ impl<P: Plan> Plan for TransactionPlan<P> {
     ghost touches = { λ touch told from old new pd pd'. P.touches touch told from old new pd pd' };
 
     fn try_clone(&self) -> Result<Self, NoMemory> {
-        TransactionPlan::new(*Box::allocator(&self.inner), self.inner.try_clone()?)
+        Ok(TransactionPlan {
+            inner: self.inner.try_clone()?,
+        })
     }
 
     fn start<C: PdClient>(

@@ -1,5 +1,5 @@
 //! The plans of a transaction's requests.
-ghost use Rattle.std.specs.Prelude.{IfOk, IsSome};
+ghost use Rattle.std.specs.Prelude.{IsSome};
 
 use std::alloc::Global;
 use std::test::Fail;
@@ -9,7 +9,7 @@ use txn_commit_plans::{BatchRollbackPlan, CommitPlan, PrewritePlan, TransactionP
 use txn_fakes::NoClient;
 use txn_kv::{
     Backoff, BatchRollbackRequest, CommitRequest, Errand, Error, GetRequest, GetResponse, Items,
-    Key, NoMemory, Outbox, PrewriteRequest, Progress, Reply, Target, Value,
+    Key, Outbox, PrewriteRequest, Progress, Reply, Target, Value,
 };
 use txn_merge::RetryOptions;
 use txn_plan::{Dispatch, Plan};
@@ -43,10 +43,10 @@ fn get(alloc: Global) -> GetRequest {
 }
 
 /// A plan that sends a Get to store 3, as one of a transaction.
-fn getting(alloc: Global) -> Result<TransactionPlan<Dispatch<GetRequest>>, NoMemory>
-    ensures { IfOk result (λ plan. IsSome plan.store) }
+fn getting(alloc: Global) -> TransactionPlan<Dispatch<GetRequest>>
+    ensures { IsSome result.store }
 {
-    TransactionPlan::new(alloc, Dispatch::new(get(alloc), Some(3)))
+    TransactionPlan::new(Dispatch::new(get(alloc), Some(3)))
 }
 
 fn found_nothing(alloc: Global) -> Reply {
@@ -104,7 +104,7 @@ fn a_transactions_plan_sends_what_its_plan_does(rt: HostRuntime) -> Result<(), F
     let alloc = rt.alloc();
     let mut pd = NoClient::new();
     let mut out = Outbox::new(alloc, 7, false);
-    let mut plan = getting(alloc)?;
+    let mut plan = getting(alloc);
     let begun = plan.start(&mut pd, 0, &mut out)?;
     assert!(rt; waits(&begun));
     assert!(rt; is_sent_to_three(out.sends.as_slice()));
@@ -118,7 +118,7 @@ fn a_transactions_plan_is_told_of_a_loss(rt: HostRuntime) -> Result<(), Fail> {
     let alloc = rt.alloc();
     let mut pd = NoClient::new();
     let mut out = Outbox::new(alloc, 7, false);
-    let mut plan = getting(alloc)?;
+    let mut plan = getting(alloc);
     plan.start(&mut pd, 0, &mut out)?;
     let answer = plan.lost(&mut pd, 0, 1, &mut out)?;
     assert!(rt; is_lost(&answer));
@@ -131,7 +131,7 @@ fn a_transactions_plan_is_told_of_its_own_kind_alone(rt: HostRuntime) -> Result<
     let alloc = rt.alloc();
     let mut pd = NoClient::new();
     let mut out = Outbox::new(alloc, 7, false);
-    let mut plan = getting(alloc)?;
+    let mut plan = getting(alloc);
     plan.start(&mut pd, 0, &mut out)?;
     let woken = plan.slept(&mut pd, 0, 1, &mut out)?;
     assert!(rt; waits(&woken));
@@ -148,7 +148,7 @@ fn a_transactions_plan_is_told_of_its_own_kind_alone(rt: HostRuntime) -> Result<
 
 #[test]
 fn a_copy_of_a_transactions_plan_is_the_same(rt: HostRuntime) -> Result<(), Fail> {
-    let plan = getting(rt.alloc())?;
+    let plan = getting(rt.alloc());
     let copy = plan.try_clone()?;
     assert_eq!(rt; copy.plan().store, plan.plan().store);
     Ok(())
@@ -159,6 +159,7 @@ fn a_copy_of_a_transactions_plan_is_the_same(rt: HostRuntime) -> Result<(), Fail
 fn laws_are_called(_rt: HostRuntime) -> Result<(), Fail> {
     laws::plans_are_of_their_requests();
     laws::plans_cost_one_request_a_key();
+    laws::frugal_commits_are_bounded::<PrewritePlan, CommitPlan, BatchRollbackPlan>();
     laws::commits_by_plans_are_bounded();
     laws::jobs_by_plans_are_bounded();
     send::can_move::<u8>();

@@ -1,5 +1,4 @@
 use Rattle.std.proofs.Common.{ap, ◌∙◌}
-use Rattle.std.proofs.lemmas.Result.{IfOk-weaker}
 use Rattle.txn_kv.specs.declared.reply.CommitResponse.{CommitResponse}
 use Rattle.txn_kv.specs.declared.request.CommitRequest.{CommitRequest}
 use Rattle.txn_plan.specs.declared.dispatch.Dispatch.{Dispatch}
@@ -8,7 +7,7 @@ use Rattle.txn_commit_plans.proofs.Planning.{made_commit}
 use Rattle.txn_commit_plans.proofs.commit.CommitPlanPlanForCommitRequest.plan_for.Goals as goal
 
 pub returns : goal.returns
-returns g c = IfOk-weaker c.new.result _ _ (λ made same. made_commit c.args.request c.encoded-request.result.context c.plan_over_regions-plan.result made
-    (ap (λ (p : CommitPlan). p.inner) same ∙ c.new-extracted.ensures)
+returns g c = made_commit c.args.request c.encoded-request.result.context c.plan_over_regions-plan.result c.new.result
+    (ap (λ (p : CommitPlan). p.inner) c.new.ensures ∙ c.new-extracted.ensures)
     (ap (λ (d : Dispatch CommitRequest CommitResponse). d.request) c.plan_over_regions-plan.ensures.request ∙ c.encoded-request.ensures.rest)
-    c.plan_over_regions-plan.ensures.errors c.plan_over_regions-plan.ensures.unbegun c.plan_over_regions-plan.ensures.ready) c.new.ensures
+    c.plan_over_regions-plan.ensures.errors c.plan_over_regions-plan.ensures.unbegun c.plan_over_regions-plan.ensures.ready
