@@ -565,8 +565,8 @@ where
         self.commits.timestamp()
     }
 
-    /// A Commit of the primary that was lost, or that is not refused.
-    fn lost_commit(&self) -> Option<Ticket>
+    /// A Commit of the primary that was lost, or that is not refused: by it the transaction may be committed.
+    pub fn lost_commit(&self) -> Option<Ticket>
         ensures { result ≡ undetermined self.now.commits }
     {
         self.commits.undetermined()

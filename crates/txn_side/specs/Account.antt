@@ -23,8 +23,12 @@ use Rattle.txn_side.specs.declared.turn.Turn.{Turn}
 pub data Status : Type 0 where
   -- it may be written
   Active : Status
-  -- a commit was begun, and may be begun again
+  -- a commit was begun, and has no answer yet
+  Committing : Status
+  -- a commit was begun, and answered that nothing was committed; it may be begun again
   StartedCommit : Status
+  -- a commit answered that it is not known whether it has come to its end; it may be begun again
+  Undetermined : Status
   Committed : Status
   -- a rollback was begun, and may be begun again
   StartedRollback : Status
@@ -43,21 +47,27 @@ new_account = record { status = Active; contents = record { entries = []; primar
 
 abbrev pub allows_write : Status → Bool
 allows_write Active = true
+allows_write Committing = false
 allows_write StartedCommit = false
+allows_write Undetermined = false
 allows_write Committed = false
 allows_write StartedRollback = false
 allows_write RolledBack = false
 
 abbrev pub allows_commit : Status → Bool
 allows_commit Active = true
+allows_commit Committing = true
 allows_commit StartedCommit = true
+allows_commit Undetermined = true
 allows_commit Committed = false
 allows_commit StartedRollback = false
 allows_commit RolledBack = false
 
 abbrev pub allows_rollback : Status → Bool
 allows_rollback Active = true
+allows_rollback Committing = true
 allows_rollback StartedCommit = true
+allows_rollback Undetermined = true
 allows_rollback Committed = false
 allows_rollback StartedRollback = true
 allows_rollback RolledBack = false
@@ -162,19 +172,21 @@ abbrev pub has_prewritten : Bool → Contents → Bool
 has_prewritten true contents = has_mutations contents
 has_prewritten false contents = true
 
--- It is committed at a timestamp, or all was prewritten and nothing is locked. Where there was nothing to do it may be committed again,
--- and so it may after an error, and while there is no answer yet.
-abbrev pub committed_by : Bool → Outcome → Status
-committed_by wrote (Ok (CommittedAt (Some version))) = Committed
-committed_by wrote (Ok (CommittedAt None)) = if wrote then Committed else StartedCommit
-committed_by wrote _ = StartedCommit
-
 abbrev pub is_undetermined_view : ErrorView → Bool
 is_undetermined_view (undetermined inner) = true
 is_undetermined_view _ = false
 
 abbrev pub is_undetermined : Error → Bool
 is_undetermined error = is_undetermined_view (view_of error)
+
+-- It is committed at a timestamp, or all was prewritten and nothing is locked. Where there was nothing to do it may be committed again,
+-- and so it may after an error, which says whether it is known that nothing was committed, and while there is no answer yet.
+abbrev pub committed_by : Bool → Outcome → Status
+committed_by wrote (Ok (CommittedAt (Some version))) = Committed
+committed_by wrote (Ok (CommittedAt None)) = if wrote then Committed else StartedCommit
+committed_by wrote (Ok _) = StartedCommit
+committed_by wrote (Err e) = if is_undetermined e then Undetermined else StartedCommit
+committed_by wrote _ = Committing
 
 -- it was refused, since it is not known whether a commit has come to its end
 abbrev pub is_refused : Bool → Error → Bool
