@@ -34,12 +34,6 @@ stage_waits w (stage.RollingBackOthers k) a = w.rolling.waits k a
 stage_waits w stage.Over a = ⊥
 stage_waits w stage.Stopped a = ⊥
 
--- it rolls back
-abbrev pub rolls_back : {P Q K : Type 0} → Stage P Q K → Bool
-rolls_back (stage.RollingBackPrimary k) = true
-rolls_back (stage.RollingBackOthers k) = true
-rolls_back s = false
-
 -- it is on its way to a Commit of the primary, or sends one
 abbrev pub may_commit : {P Q K : Type 0} → Stage P Q K → Bool
 may_commit (stage.Prewriting p) = true

@@ -12,7 +12,7 @@ ghost use Rattle.txn_request.specs.Defaults.{default_batch_rollback};
 ghost use Rattle.txn_commit.specs.Committing.{CommitterFits, CommitterGives, CommitterGoesOn, CommitterMoves, IsFirst, IsInRange, IsRolled, IsWritten, MayCommit, SendsCommits, StageReady, TimeSays, ways};
 ghost use Rattle.txn_commit.specs.Counting.{Begins, CommitterCounts, ask_costs, call_width, commit_again_costs, commit_costs, costs_of, others_costs, rollback_costs, stage_width};
 ghost use Rattle.txn_commit.specs.Following.{Commits, awaits, heard, undetermined};
-ghost use Rattle.txn_commit.specs.Going.{CommitterExpects, CommitterGoes, Opens, Relays, Resumes, Settles, may_commit, rolls_back, stage_waits};
+ghost use Rattle.txn_commit.specs.Going.{CommitterExpects, CommitterGoes, Opens, Relays, Resumes, Settles, may_commit, stage_waits};
 ghost use Rattle.txn_commit.specs.Plans.{AreCommitted, ArePrewritten, AreRolledBack, IsPlanFor};
 ghost use Rattle.txn_commit.specs.Sending.{MaySend, plan_of};
 ghost use Rattle.txn_commit.specs.Timing.{HasVersionIfDone};
@@ -232,7 +232,6 @@ where
         ensures goes { CommitterGoes (ways P.meaning Q.meaning K.meaning P.refuses Q.refuses K.refuses) (stage_waits (ways P.meaning Q.meaning K.meaning P.refuses Q.refuses K.refuses) self.old.stage (awaited_as arrival)) self.old self.new out.old out.new pd.old pd.new (turn_of result) }
         ensures expects { CommitterExpects (ways P.meaning Q.meaning K.meaning P.refuses Q.refuses K.refuses) (λ a. a ≡ awaited_as arrival) self.old self.new out.old out.new }
         ensures commits { (stage_waits (ways P.meaning Q.meaning K.meaning P.refuses Q.refuses K.refuses) self.old.stage (awaited_as arrival) → ⊥) → awaits arrival out.old commits.old ≡ false → commits.new ≡ commits.old }
-        ensures rolls_back { rolls_back self.old.stage ≡ true → commits.new ≡ commits.old }
         ensures back { may_commit self.old.stage ≡ false → (commits.new ≡ commits.old) × (may_commit self.new.stage ≡ false) }
         ensures version { IfEnds (turn_of result) IsInRange }
         ensures job { self.new ≡ record self.old { stage = self.new.stage; width = self.new.width } }

@@ -15,7 +15,7 @@ use Rattle.txn_history.specs.Turn.Turn.{Stopped, Waits, Ends}
 use Rattle.txn_history.proofs.Telling.{Expects-quiet}
 use Rattle.txn_commit.specs.Committing.{Ways}
 use Rattle.txn_commit.specs.Following.{Commits, awaits}
-use Rattle.txn_commit.specs.Going.{CommitterExpects, CommitterGoes, rolls_back, stage_phase, stage_waits}
+use Rattle.txn_commit.specs.Going.{CommitterExpects, CommitterGoes, stage_phase, stage_waits}
 use Rattle.txn_commit.specs.Going.{Opens as CallOpens}
 use Rattle.txn_commit.specs.declared.committer.CommitterAnswer.{CommitterAnswer}
 use Rattle.txn_commit.specs.declared.committer.CommitterCall.{CommitterCall}
@@ -23,7 +23,7 @@ use Rattle.txn_commit.specs.declared.secondary_job.SecondaryJob.{SecondaryJob}
 use Rattle.txn_commit.proofs.Going.{call_posted, call_waits, stage_runs, unheard_waits}
 use Rattle.txn_core.specs.Going.{HasFailed, IsAtWork, IsCommittedAt, IsJobFor, TransactionFits, TransactionReady, WorkReady}
 use Rattle.txn_core.specs.Transaction.{Standing, has_given_up, is_open}
-use Rattle.txn_core.specs.Waiting.{Follows, HandsOut, Opens, Rests, TransactionGoes, work_phase, work_rolls_back, work_waits}
+use Rattle.txn_core.specs.Waiting.{Follows, HandsOut, Opens, Rests, TransactionGoes, work_phase, work_waits}
 use Rattle.txn_core.specs.declared.transaction.Work.{Work}
 use Rattle.txn_core.specs.declared.transaction.Work.TheVariants.{Idle, Open, GaveUp}
 use Rattle.txn_core.specs.declared.txn_answer.TxnAnswer.{TxnAnswer}
@@ -211,10 +211,6 @@ module _ {P Q K A B D : Type 0} (w : Ways P Q K A B D) where
   commits_open arrival o a call old mid new i e f other out =
       let same : mid.commits ≡ old.commits = ap (λ (t : Standing P Q K). t.commits) e in
       f (λ x. other (subst (λ z. work_waits w z a) (sym i) x)) (subst (λ c. awaits arrival o c ≡ false) (sym same) out) ∙ same
-
-  pub rolls_open : (call : CommitterCall P Q K) (old mid new : Standing P Q K) → old.work ≡ Open call → mid ≡ record old { work = GaveUp }
-      → (rolls_back call.stage ≡ true → new.commits ≡ mid.commits) → work_rolls_back old.work ≡ true → new.commits ≡ old.commits
-  rolls_open call old mid new i e f rolls = f (sym (ap work_rolls_back i) ∙ rolls) ∙ ap (λ (t : Standing P Q K). t.commits) e
 
   -- what is ready runs while it is open
   pub busy_runs : (t : Standing P Q K) → TransactionReady w t → is_open t.work ≡ true → work_phase w t.work ≡ Running

@@ -9,7 +9,7 @@ use Rattle.txn_history.specs.Posted.{Posted}
 use Rattle.txn_history.specs.Turn.{HasEnded, Turn}
 use Rattle.txn_history.specs.Turn.Turn.{Waits}
 use Rattle.txn_commit.specs.Committing.{Ways}
-use Rattle.txn_commit.specs.Going.{rolls_back, stage_phase, stage_waits}
+use Rattle.txn_commit.specs.Going.{stage_phase, stage_waits}
 use Rattle.txn_commit.specs.Jobs.{JobReady}
 use Rattle.txn_commit.specs.declared.committer.CommitterAnswer.{CommitterAnswer}
 use Rattle.txn_commit.specs.declared.committer.CommitterCall.{CommitterCall}
@@ -30,12 +30,6 @@ abbrev pub work_waits : {P Q K A B D : Type 0} → Ways P Q K A B D → Work P Q
 work_waits w Idle a = ⊥
 work_waits w (Open call) a = stage_waits w call.stage a
 work_waits w GaveUp a = ⊥
-
--- its open call rolls back
-abbrev pub work_rolls_back : {P Q K : Type 0} → Work P Q K → Bool
-work_rolls_back Idle = false
-work_rolls_back (Open call) = rolls_back call.stage
-work_rolls_back GaveUp = false
 
 -- an event call of it, which is `meant` for it where it waits for that
 abbrev pub TransactionGoes : {P Q K A B D C : Type 0} → Ways P Q K A B D → Type 0

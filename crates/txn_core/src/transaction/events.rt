@@ -14,11 +14,11 @@ ghost use Rattle.txn_plan.specs.Answered.{IsTimeAnswer};
 ghost use Rattle.txn_commit.specs.Committing.{CommitterMoves, IsInRange, StageReady, ways};
 ghost use Rattle.txn_commit.specs.Counting.{CommitterCounts, costs_of};
 ghost use Rattle.txn_commit.specs.Following.{awaits, is_out};
-ghost use Rattle.txn_commit.specs.Going.{CommitterExpects, CommitterGoes, may_commit, rolls_back, stage_phase, stage_waits};
+ghost use Rattle.txn_commit.specs.Going.{CommitterExpects, CommitterGoes, may_commit, stage_phase, stage_waits};
 ghost use Rattle.txn_core.specs.Counting.{OpenCounts, TransactionCounts};
 ghost use Rattle.txn_core.specs.Going.{CallMoves, IsSameCall, TransactionMoves, TransactionReady};
 ghost use Rattle.txn_core.specs.Transaction.{GivesUp, is_open, is_waiting, moved_by};
-ghost use Rattle.txn_core.specs.Waiting.{HandsOut, TransactionGoes, work_rolls_back, work_waits};
+ghost use Rattle.txn_core.specs.Waiting.{HandsOut, TransactionGoes, work_waits};
 ghost use Rattle.txn_core.specs.declared.transaction.Work.TheVariants as works;
 ghost use Rattle.txn_plan.specs.Arrivals.{MayArrive, awaited_as, locked_told, tells_error, tells_failure, told_by, weight_told};
 ghost use Rattle.txn_plan.specs.declared.arrival.Arrival.TheVariants as arrivals;
@@ -59,7 +59,6 @@ where
         ensures goes { TransactionGoes (ways P.meaning Q.meaning K.meaning P.refuses Q.refuses K.refuses) (work_waits (ways P.meaning Q.meaning K.meaning P.refuses Q.refuses K.refuses) self.old.work (ReplyTo number)) (record self.old { commits = self.new.commits }) self.new out.old out.new pd.old pd.new (turn_of result) }
         ensures expects { Expects (work_waits (ways P.meaning Q.meaning K.meaning P.refuses Q.refuses K.refuses) self.old.work) (work_waits (ways P.meaning Q.meaning K.meaning P.refuses Q.refuses K.refuses) self.new.work) (λ a. a ≡ ReplyTo number) out.old out.new }
         ensures commits { (work_waits (ways P.meaning Q.meaning K.meaning P.refuses Q.refuses K.refuses) self.old.work (ReplyTo number) → ⊥) → is_out (ticket_of out.old number) self.old.commits ≡ false → self.new.commits ≡ self.old.commits }
-        ensures rolls_back { work_rolls_back self.old.work ≡ true → self.new.commits ≡ self.old.commits }
         ensures job { IfEnds (turn_of result) (HandsOut Q.meaning) }
         ensures ready { TransactionReady (ways P.meaning Q.meaning K.meaning P.refuses Q.refuses K.refuses) self.new }
         ensures numbers { HasNumbers out.new }
@@ -80,7 +79,6 @@ where
         ensures goes { TransactionGoes (ways P.meaning Q.meaning K.meaning P.refuses Q.refuses K.refuses) (work_waits (ways P.meaning Q.meaning K.meaning P.refuses Q.refuses K.refuses) self.old.work (ReplyTo number)) (record self.old { commits = self.new.commits }) self.new out.old out.new pd.old pd.new (turn_of result) }
         ensures expects { Expects (work_waits (ways P.meaning Q.meaning K.meaning P.refuses Q.refuses K.refuses) self.old.work) (work_waits (ways P.meaning Q.meaning K.meaning P.refuses Q.refuses K.refuses) self.new.work) (λ a. a ≡ ReplyTo number) out.old out.new }
         ensures commits { (work_waits (ways P.meaning Q.meaning K.meaning P.refuses Q.refuses K.refuses) self.old.work (ReplyTo number) → ⊥) → is_out (ticket_of out.old number) self.old.commits ≡ false → self.new.commits ≡ self.old.commits }
-        ensures rolls_back { work_rolls_back self.old.work ≡ true → self.new.commits ≡ self.old.commits }
         ensures job { IfEnds (turn_of result) (HandsOut Q.meaning) }
         ensures ready { TransactionReady (ways P.meaning Q.meaning K.meaning P.refuses Q.refuses K.refuses) self.new }
         ensures numbers { HasNumbers out.new }
@@ -101,7 +99,6 @@ where
         ensures goes { TransactionGoes (ways P.meaning Q.meaning K.meaning P.refuses Q.refuses K.refuses) (work_waits (ways P.meaning Q.meaning K.meaning P.refuses Q.refuses K.refuses) self.old.work (EndOf number)) (record self.old { commits = self.new.commits }) self.new out.old out.new pd.old pd.new (turn_of result) }
         ensures expects { Expects (work_waits (ways P.meaning Q.meaning K.meaning P.refuses Q.refuses K.refuses) self.old.work) (work_waits (ways P.meaning Q.meaning K.meaning P.refuses Q.refuses K.refuses) self.new.work) (λ a. a ≡ EndOf number) out.old out.new }
         ensures commits { (work_waits (ways P.meaning Q.meaning K.meaning P.refuses Q.refuses K.refuses) self.old.work (EndOf number) → ⊥) → self.new.commits ≡ self.old.commits }
-        ensures rolls_back { work_rolls_back self.old.work ≡ true → self.new.commits ≡ self.old.commits }
         ensures job { IfEnds (turn_of result) (HandsOut Q.meaning) }
         ensures ready { TransactionReady (ways P.meaning Q.meaning K.meaning P.refuses Q.refuses K.refuses) self.new }
         ensures numbers { HasNumbers out.new }
@@ -130,7 +127,6 @@ where
         ensures goes { TransactionGoes (ways P.meaning Q.meaning K.meaning P.refuses Q.refuses K.refuses) (work_waits (ways P.meaning Q.meaning K.meaning P.refuses Q.refuses K.refuses) self.old.work (TimeOf ask)) (record self.old { commits = self.new.commits }) self.new out.old out.new pd.old pd.new (turn_of result) }
         ensures expects { Expects (work_waits (ways P.meaning Q.meaning K.meaning P.refuses Q.refuses K.refuses) self.old.work) (work_waits (ways P.meaning Q.meaning K.meaning P.refuses Q.refuses K.refuses) self.new.work) (λ a. a ≡ TimeOf ask) out.old out.new }
         ensures commits { (work_waits (ways P.meaning Q.meaning K.meaning P.refuses Q.refuses K.refuses) self.old.work (TimeOf ask) → ⊥) → self.new.commits ≡ self.old.commits }
-        ensures rolls_back { work_rolls_back self.old.work ≡ true → self.new.commits ≡ self.old.commits }
         ensures job { IfEnds (turn_of result) (HandsOut Q.meaning) }
         ensures ready { TransactionReady (ways P.meaning Q.meaning K.meaning P.refuses Q.refuses K.refuses) self.new }
         ensures numbers { HasNumbers out.new }
@@ -152,7 +148,6 @@ where
         ensures goes { TransactionGoes (ways P.meaning Q.meaning K.meaning P.refuses Q.refuses K.refuses) (work_waits (ways P.meaning Q.meaning K.meaning P.refuses Q.refuses K.refuses) self.old.work (awaited_as arrival)) (record self.old { commits = self.new.commits }) self.new out.old out.new pd.old pd.new (turn_of result) }
         ensures expects { Expects (work_waits (ways P.meaning Q.meaning K.meaning P.refuses Q.refuses K.refuses) self.old.work) (work_waits (ways P.meaning Q.meaning K.meaning P.refuses Q.refuses K.refuses) self.new.work) (λ a. a ≡ awaited_as arrival) out.old out.new }
         ensures commits { (work_waits (ways P.meaning Q.meaning K.meaning P.refuses Q.refuses K.refuses) self.old.work (awaited_as arrival) → ⊥) → awaits arrival out.old self.old.commits ≡ false → self.new.commits ≡ self.old.commits }
-        ensures rolls_back { work_rolls_back self.old.work ≡ true → self.new.commits ≡ self.old.commits }
         ensures job { IfEnds (turn_of result) (HandsOut Q.meaning) }
         ensures ready { TransactionReady (ways P.meaning Q.meaning K.meaning P.refuses Q.refuses K.refuses) self.new }
         ensures numbers { HasNumbers out.new }
@@ -188,7 +183,6 @@ where
         ensures goes { TransactionGoes (ways P.meaning Q.meaning K.meaning P.refuses Q.refuses K.refuses) (stage_waits (ways P.meaning Q.meaning K.meaning P.refuses Q.refuses K.refuses) call.stage (awaited_as arrival)) (record self.old { work = works.Open call; commits = self.new.commits }) self.new out.old out.new pd.old pd.new (turn_of result) }
         ensures expects { Expects (stage_waits (ways P.meaning Q.meaning K.meaning P.refuses Q.refuses K.refuses) call.stage) (work_waits (ways P.meaning Q.meaning K.meaning P.refuses Q.refuses K.refuses) self.new.work) (λ a. a ≡ awaited_as arrival) out.old out.new }
         ensures commits { (stage_waits (ways P.meaning Q.meaning K.meaning P.refuses Q.refuses K.refuses) call.stage (awaited_as arrival) → ⊥) → awaits arrival out.old self.old.commits ≡ false → self.new.commits ≡ self.old.commits }
-        ensures rolls_back { rolls_back call.stage ≡ true → self.new.commits ≡ self.old.commits }
         ensures job { IfEnds (turn_of result) (HandsOut Q.meaning) }
         ensures ready { TransactionReady (ways P.meaning Q.meaning K.meaning P.refuses Q.refuses K.refuses) self.new }
         ensures numbers { HasNumbers out.new }
@@ -220,7 +214,6 @@ where
         ensures goes { CommitterGoes (ways P.meaning Q.meaning K.meaning P.refuses Q.refuses K.refuses) (stage_waits (ways P.meaning Q.meaning K.meaning P.refuses Q.refuses K.refuses) call.old.stage (awaited_as arrival)) call.old call.new out.old out.new pd.old pd.new (turn_of result) }
         ensures expects { CommitterExpects (ways P.meaning Q.meaning K.meaning P.refuses Q.refuses K.refuses) (λ a. a ≡ awaited_as arrival) call.old call.new out.old out.new }
         ensures commits { (stage_waits (ways P.meaning Q.meaning K.meaning P.refuses Q.refuses K.refuses) call.old.stage (awaited_as arrival) → ⊥) → awaits arrival out.old self.old.commits ≡ false → self.new.commits ≡ self.old.commits }
-        ensures rolls_back { rolls_back call.old.stage ≡ true → self.new.commits ≡ self.old.commits }
         ensures back { may_commit call.old.stage ≡ false → (self.new.commits ≡ self.old.commits) × (may_commit call.new.stage ≡ false) }
         ensures version { IfEnds (turn_of result) IsInRange }
         ensures ready { StageReady (ways P.meaning Q.meaning K.meaning P.refuses Q.refuses K.refuses) call.new.stage }

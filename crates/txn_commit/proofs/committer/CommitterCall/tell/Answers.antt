@@ -167,12 +167,3 @@ returns-in-Over-clause-expects g c = expects_idle (ways g.P.Plan.meaning g.Q.Pla
 
 pub returns-in-Stopped-clause-expects : goal.returns-in-Stopped-clause-expects
 returns-in-Stopped-clause-expects g c = expects_idle (ways g.P.Plan.meaning g.Q.Plan.meaning g.K.Plan.meaning g.P.PlanFor.refuses g.Q.PlanFor.refuses g.K.PlanFor.refuses) c.args.self.now stages.Stopped _ _ c.in-Stopped.is (λ a x. x)
-
-pub returns-in-Ok-clause-rolls_back : goal.returns-in-Ok-clause-rolls_back
-returns-in-Ok-clause-rolls_back g c rolls = absurd (let e = rw c.in-Asking.is at rolls in cc)
-
-pub returns-in-Ok-tell_commit-clause-rolls_back : goal.returns-in-Ok-tell_commit-clause-rolls_back
-returns-in-Ok-tell_commit-clause-rolls_back g c rolls = absurd (let e = rw c.in-Committing.is at rolls in cc)
-
-pub returns-in-Err-tell_commit-clause-rolls_back : goal.returns-in-Err-tell_commit-clause-rolls_back
-returns-in-Err-tell_commit-clause-rolls_back g c rolls = absurd (let e = rw c.in-Committing.is at rolls in cc)

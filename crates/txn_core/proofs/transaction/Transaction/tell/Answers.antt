@@ -4,7 +4,7 @@ use Rattle.txn_core.proofs.Counting.{rest_pays, tells_counts}
 use Rattle.txn_core.proofs.Going.{tells_idle, tells_open}
 use Rattle.std.proofs.Common.{ap}
 use Rattle.txn_core.proofs.Going.{as_before}
-use Rattle.txn_core.proofs.Waiting.{commits_open, expects_open, expects_still, goes_open, goes_still, rolls_open}
+use Rattle.txn_core.proofs.Waiting.{commits_open, expects_open, expects_still, goes_open, goes_still}
 use Rattle.txn_core.specs.declared.transaction.Work.TheVariants as works
 use Rattle.txn_plan.specs.Arrivals.{awaited_as}
 use Rattle.txn_commit.specs.Committing.{ways}
@@ -57,12 +57,3 @@ returns-in-GaveUp-clause-commits g c other out = ap (λ t. t.commits) c.take_wor
 
 pub returns-in-Idle-clause-job : goal.returns-in-Idle-clause-job
 returns-in-Idle-clause-job g c = rw c.wait.ensures.answer tt
-
-pub returns-in-Idle-clause-rolls_back : goal.returns-in-Idle-clause-rolls_back
-returns-in-Idle-clause-rolls_back g c rolls = ap (λ t. t.commits) (as_before c.args.self.now c.take_work.new.self c.wait.new.self (sym c.take_work.ensures.work ∙ c.in-Idle.is) c.take_work.ensures.state c.wait.ensures.state)
-
-pub returns-in-Open-clause-rolls_back : goal.returns-in-Open-clause-rolls_back
-returns-in-Open-clause-rolls_back g c rolls = rolls_open (ways g.P.Plan.meaning g.Q.Plan.meaning g.K.Plan.meaning g.P.PlanFor.refuses g.Q.PlanFor.refuses g.K.PlanFor.refuses) c.in-Open.call c.args.self.now c.take_work.new.self c.tell_call.new.self (sym c.take_work.ensures.work ∙ c.in-Open.is) c.take_work.ensures.state c.tell_call.ensures.rolls_back rolls
-
-pub returns-in-GaveUp-clause-rolls_back : goal.returns-in-GaveUp-clause-rolls_back
-returns-in-GaveUp-clause-rolls_back g c rolls = ap (λ t. t.commits) c.take_work.ensures.state

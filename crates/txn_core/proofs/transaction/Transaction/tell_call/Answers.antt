@@ -43,9 +43,3 @@ returns-in-Err-clause-commits g c other out = ap (λ t. t.commits) c.stop.ensure
 
 pub returns-in-Err-clause-job : goal.returns-in-Err-clause-job
 returns-in-Err-clause-job g c = rw c.stop.ensures.turn tt
-
-pub returns-in-Ok-clause-rolls_back : goal.returns-in-Ok-clause-rolls_back
-returns-in-Ok-clause-rolls_back g c rolls = ap (λ t. t.commits) c.go_on.ensures.kept ∙ c.tell_open.ensures.rolls_back rolls
-
-pub returns-in-Err-clause-rolls_back : goal.returns-in-Err-clause-rolls_back
-returns-in-Err-clause-rolls_back g c rolls = ap (λ t. t.commits) c.stop.ensures.state ∙ c.tell_open.ensures.rolls_back rolls
