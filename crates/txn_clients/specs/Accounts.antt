@@ -1,5 +1,5 @@
 -- How far the transactions that stand at the lines have come, and what they have taken in.
-use Rattle.std.specs.Prelude.{◌≡◌, ◌≢◌, ⊤, ℕ, Bool, true, false, List, Option, Some, None, Result, Ok, Err, option_map, slice_index_or}
+use Rattle.std.specs.Prelude.{◌≡◌, ◌≢◌, ⊤, ℕ, Bool, true, false, List, Option, Some, None, Result, Ok, Err, is_some, option_map, slice_index_or}
 use Rattle.std.proofs.Common.{zero, suc}
 use Rattle.txn_kv.specs.ErrorView.{view_of}
 use Rattle.txn_kv.specs.Timestamp.{version_of}
@@ -7,7 +7,7 @@ use Rattle.txn_kv.specs.declared.errors.Error.{Error}
 use Rattle.txn_history.specs.Event.{Event}
 use Rattle.txn_history.specs.Turn.{Turn}
 use Rattle.txn_history.specs.Turn.Turn.{Stopped, Waits, Ends}
-use Rattle.txn_commit.specs.Following.{none_sent}
+use Rattle.txn_commit.specs.Following.{none_sent, undetermined}
 use Rattle.txn_core.specs.Status.{allows_data}
 use Rattle.txn_core.specs.Transaction.{Standing, is_open}
 use Rattle.txn_core.specs.declared.status.Status.{Status}
@@ -45,8 +45,17 @@ status_of Rolledback = Stage.RolledBack
 status_of StartedRollback = Stage.StartedRollback
 status_of Dropped = Stage.Committed
 
+-- by its status, whether a call of it is open, and whether a Commit of its primary was lost or is not refused
+abbrev pub stage_by : Status → Bool → Bool → Stage
+stage_by StartedCommit true doubtful = Stage.Committing
+stage_by StartedCommit false true = Stage.Undetermined
+stage_by s open doubtful = status_of s
+
+abbrev pub stage_of : {P Q K : Type 0} → Standing P Q K → Stage
+stage_of t = stage_by t.status (is_open t.work) (is_some (undetermined t.commits))
+
 abbrev pub account_of : {P Q K : Type 0} → Standing P Q K → Account
-account_of t = record { status = status_of t.status; contents = t.contents }
+account_of t = record { status = stage_of t; contents = t.contents }
 
 -- no Commit of it was sent, and no call of it is open
 pub record IsActive {P Q K : Type 0} (t : Standing P Q K) : Type 0 where

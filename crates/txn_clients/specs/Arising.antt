@@ -32,7 +32,7 @@ use Rattle.txn_commit.specs.declared.commit_parts.CommitParts.{CommitParts}
 use Rattle.txn_commit.specs.declared.secondary_job.SecondaryJob.{SecondaryJob}
 use Rattle.txn_core.specs.Going.{MaySendFor, TransactionFits, TransactionGives}
 use Rattle.txn_core.specs.Status.{allows_data}
-use Rattle.txn_core.specs.Transaction.{IsOrdered, Standing}
+use Rattle.txn_core.specs.Transaction.{IsOrdered, Standing, locks_nothing}
 use Rattle.txn_core.specs.declared.txn_answer.TxnAnswer.TheVariants as answer
 use Rattle.txn_client.specs.Calls.{CallGives, IsAt}
 use Rattle.txn_client.specs.declared.client_call.Wanted.{Wanted}
@@ -203,6 +203,11 @@ abbrev pub IsCommittedSo : {P Q K : Type 0} → List Event → ℕ → Row P Q K
 IsCommittedSo h v (row.Begun c t m) = (parts : CommitParts) × (allows_data t.status ≡ false) × (parts_of t.contents ≡ Some parts) × PrimaryCommitted (plan_of parts) h (version_of t.start) v
 IsCommittedSo h v r = ⊥
 
+-- a commit of this transaction locks no key
+abbrev pub IsCommittedUnlocked : {P Q K : Type 0} → Row P Q K → Type 0
+IsCommittedUnlocked (row.Begun c t m) = (allows_data t.status ≡ false) × (locks_nothing t.contents ≡ true)
+IsCommittedUnlocked r = ⊥
+
 -- the transaction that stands here began at this version; a call for a timestamp alone left nothing
 abbrev pub BeganAt : {P Q K : Type 0} → ℕ → Row P Q K → Type 0
 BeganAt v (row.Begun c t m) = version_of t.start ≡ v
@@ -213,6 +218,7 @@ BeganAt v r = ⊥
 abbrev pub HoldsOf : {P Q K : Type 0} → List Event → Outcome → Row P Q K → Type 0
 HoldsOf h (outcomes.Ok (payloads.Number v)) r = BeganAt v r
 HoldsOf h (outcomes.Ok (payloads.Commit (Some v))) r = IsCommittedSo h v r
+HoldsOf h (outcomes.Ok (payloads.Commit None)) r = IsCommittedUnlocked r
 HoldsOf h o r = ⊤
 
 abbrev pub HoldsAt : {P Q K : Type 0} → List (Row P Q K) → List Event → ℕ → Outcome → Type 0
@@ -244,10 +250,11 @@ CanCome (tells.Heard (arrivals.Lost n)) o r h = IsPossible h (Lost (ticket_of o 
 CanCome told o r h = ⊤
 
 -- What a row answers: a transaction begins at what its line drew; a commit says where its primary is committed, and hands out the job
--- of the other keys.
+-- of the other keys, or that nothing was locked.
 abbrev pub AnswerArises : {P Q K A B D : Type 0} → Ways P Q K A B D → (Ticket → List ℕ) → ℕ → Row P Q K → Option (Answer P Q K) → List Event → Type 0
 AnswerArises w askers line r (Some (answers.Asked (Ok (Begun b)))) h = IsDrawn askers h line (version_of b.start)
 AnswerArises w askers line r (Some (answers.Called (Ok (answer.Committed (Some t) job)))) h = IsCommittedSo h (version_of t) r × IfSome job (λ j. (o : Posted) → IsBehind w j o h r)
+AnswerArises w askers line r (Some (answers.Called (Ok (answer.Committed None None)))) h = IsCommittedUnlocked r
 AnswerArises w askers line r (Some (answers.Called (Ok (answer.Committed None (Some job))))) h = ⊥
 AnswerArises w askers line r answer h = ⊤
 
