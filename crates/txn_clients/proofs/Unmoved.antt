@@ -153,7 +153,7 @@ module _ {P Q K : Type 0} (h : List Event) where
   right_follows o old new (inl same) x = subst (HoldsOf h o) (sym same) x
   right_follows (outcomes.Ok payloads.Unit) old new (inr plain) x = tt
   right_follows (outcomes.Ok (payloads.Number v)) old new (inr plain) x = absurd (subst (HoldsOf h (outcomes.Ok (payloads.Number v))) plain x)
-  right_follows (outcomes.Ok (payloads.Commit None)) old new (inr plain) x = tt
+  right_follows (outcomes.Ok (payloads.Commit None)) old new (inr plain) x = absurd (subst (HoldsOf h (outcomes.Ok (payloads.Commit None))) plain x)
   right_follows (outcomes.Ok (payloads.Commit (Some v))) old new (inr plain) x = absurd (subst (HoldsOf h (outcomes.Ok (payloads.Commit (Some v)))) plain x)
   right_follows (outcomes.Err e) old new (inr plain) x = tt
   right_follows outcomes.Unfinished old new (inr plain) x = tt

@@ -49,7 +49,7 @@ status_of Dropped = Stage.Committed
 abbrev pub stage_by : Status → Bool → Bool → Stage
 stage_by StartedCommit true doubtful = Stage.Committing
 stage_by StartedCommit false true = Stage.Undetermined
-stage_by s open doubtful = status_of s
+stage_by s busy doubtful = status_of s
 
 abbrev pub stage_of : {P Q K : Type 0} → Standing P Q K → Stage
 stage_of t = stage_by t.status (is_open t.work) (is_some (undetermined t.commits))
@@ -113,7 +113,7 @@ pub record HasTaken {P Q K : Type 0} (act : Act) (old new : Standing P Q K) (tur
 -- it heard of something
 pub record HasHeard {P Q K : Type 0} (old new : Standing P Q K) (turn : Turn (Result (TxnAnswer Q) Error)) : Type 0 where
   pub contents : new.contents ≡ old.contents
-  pub waits : turn ≡ Waits → new.status ≡ old.status
+  pub waits : turn ≡ Waits → stage_of new ≡ stage_of old
   pub quiet : IsQuiet new
 
 -- A call that begins one
@@ -149,6 +149,18 @@ says_undetermined Stopped = false
 says_undetermined Waits = false
 says_undetermined (Ends (Ok v)) = false
 says_undetermined (Ends (Err e)) = is_undetermined e
+
+-- a commit ends with no other answer
+abbrev pub EndsCommit : {Q : Type 0} → Result (TxnAnswer Q) Error → Type 0
+EndsCommit (Err e) = ⊤
+EndsCommit (Ok (answer.Committed t job)) = ⊤
+EndsCommit (Ok _) = ⊥
+
+-- The answer of a commit tells how its transaction stands: where it may be begun again, a Commit of its primary was lost or is not refused
+-- exactly if that is what is said.
+pub record TellsEnd {P Q K : Type 0} (v : Result (TxnAnswer Q) Error) (t : Standing P Q K) : Type 0 where
+  pub kind : EndsCommit v
+  pub known : t.status ≡ StartedCommit → says_undetermined (Ends v) ≡ is_some (undetermined t.commits)
 
 -- What it is told
 

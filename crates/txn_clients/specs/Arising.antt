@@ -91,9 +91,9 @@ abbrev pub AskStands : {P Q K : Type 0} → Wanted → Option (Answer P Q K) →
 AskStands x (Some (answers.Asked v)) h = CallGives x h v
 AskStands x answer h = ⊤
 
--- and what a transaction answers that is committed, which stood so before
+-- and what a transaction answers that is committed, which stood so before, and is written no more
 abbrev pub CallStands : {P Q K A B D : Type 0} → Ways P Q K A B D → Standing P Q K → Standing P Q K → Option (Answer P Q K) → List Event → Type 0
-CallStands w old new (Some (answers.Called (Ok (answer.Committed t job)))) h = TransactionGives w old.start old.contents new.commits h (Ok (answer.Committed t job))
+CallStands w old new (Some (answers.Called (Ok (answer.Committed t job)))) h = (allows_data new.status ≡ false) × TransactionGives w old.start old.contents new.commits h (Ok (answer.Committed t job))
 CallStands w old new answer h = ⊤
 
 -- A transaction can have arisen from the history, and the keys of its buffer are in order.

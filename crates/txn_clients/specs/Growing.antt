@@ -203,6 +203,7 @@ module _ {P Q K : Type 0} where
   pub holds_grow : (h longer : List Event) (o : Outcome) (r : Row P Q K) → Within h longer → HoldsOf h o r → HoldsOf longer o r
   holds_grow h longer (outcomes.Ok (payloads.Number v)) r within x = x
   holds_grow h longer (outcomes.Ok (payloads.Commit (Some v))) r within x = committed_grows h longer v r within x
+  holds_grow h longer (outcomes.Ok (payloads.Commit None)) r within x = x
   holds_grow h longer o r within x = tt
 
   -- where each row is as right as before

@@ -4,7 +4,7 @@ use Rattle.txn_tso.specs.Calling.{members}
 use Rattle.txn_clients.proofs.Rows.{posts_moves, told_heard}
 use Rattle.txn_history.specs.Turn.{turn_of}
 use Rattle.txn_clients.proofs.Taking.{heard_so}
-use Rattle.txn_clients.proofs.Standing.{heard_goes}
+use Rattle.txn_clients.proofs.Standing.{heard_goes, stays_open}
 use Rattle.txn_clients.proofs.Moving.{heard_moves}
 use Rattle.txn_clients.proofs.transactions.hear.Goals as goal
 
@@ -22,15 +22,19 @@ returns-in-Time-clause-told g c = told_heard _ _ _ c.take_time.new.self c.args.o
 
 pub returns-in-Reply-clause-heard : goal.returns-in-Reply-clause-heard
 returns-in-Reply-clause-heard g c = heard_so c.args.transaction.now c.take_reply.new.self (turn_of c.take_reply.result) c.requires.quiet c.take_reply.ensures.status c.take_reply.ensures.kept c.take_reply.ensures.gives_up c.take_reply.ensures.deaf
+    (stays_open _ g.met.P.Plan.lawful g.met.Q.Plan.lawful g.met.K.Plan.lawful _ c.args.transaction.now c.take_reply.new.self c.args.out.now c.take_reply.new.out c.args.pd.now c.take_reply.new.pd _ c.requires.ready c.take_reply.ensures.goes)
 
 pub returns-in-Lost-clause-heard : goal.returns-in-Lost-clause-heard
 returns-in-Lost-clause-heard g c = heard_so c.args.transaction.now c.lost.new.self (turn_of c.lost.result) c.requires.quiet c.lost.ensures.status c.lost.ensures.kept c.lost.ensures.gives_up c.lost.ensures.deaf
+    (stays_open _ g.met.P.Plan.lawful g.met.Q.Plan.lawful g.met.K.Plan.lawful _ c.args.transaction.now c.lost.new.self c.args.out.now c.lost.new.out c.args.pd.now c.lost.new.pd _ c.requires.ready c.lost.ensures.goes)
 
 pub returns-in-Slept-clause-heard : goal.returns-in-Slept-clause-heard
 returns-in-Slept-clause-heard g c = heard_so c.args.transaction.now c.slept.new.self (turn_of c.slept.result) c.requires.quiet c.slept.ensures.status c.slept.ensures.kept c.slept.ensures.gives_up c.slept.ensures.deaf
+    (stays_open _ g.met.P.Plan.lawful g.met.Q.Plan.lawful g.met.K.Plan.lawful _ c.args.transaction.now c.slept.new.self c.args.out.now c.slept.new.out c.args.pd.now c.slept.new.pd _ c.requires.ready c.slept.ensures.goes)
 
 pub returns-in-Time-clause-heard : goal.returns-in-Time-clause-heard
 returns-in-Time-clause-heard g c = heard_so c.args.transaction.now c.take_time.new.self (turn_of c.take_time.result) c.requires.quiet c.take_time.ensures.status c.take_time.ensures.kept c.take_time.ensures.gives_up c.take_time.ensures.deaf
+    (stays_open _ g.met.P.Plan.lawful g.met.Q.Plan.lawful g.met.K.Plan.lawful _ c.args.transaction.now c.take_time.new.self c.args.out.now c.take_time.new.out c.args.pd.now c.take_time.new.pd _ c.requires.ready c.take_time.ensures.goes)
 
 pub returns-in-Reply-clause-goes : goal.returns-in-Reply-clause-goes
 returns-in-Reply-clause-goes g c = heard_goes _ g.met.P.Plan.lawful g.met.Q.Plan.lawful g.met.K.Plan.lawful c.args.arrival (arrivals.Reply c.in-Reply.number c.in-Reply.reply) c.args.transaction.now c.take_reply.new.self c.args.out.now c.take_reply.new.out c.args.pd.now c.take_reply.new.pd _ c.in-Reply.is
