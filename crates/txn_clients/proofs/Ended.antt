@@ -255,7 +255,7 @@ module _ {P Q K A B D : Type 0} (w : Ways P Q K A B D) where
   begun_leaves : (askers : Ticket → List ℕ) (h : List Event) (line c : ℕ) (b : Standing P Q K) (options : TransactionOptions) (now : ℕ) → b ≡ begun b.start options now → IsDrawn askers h line (version_of b.start) → IsUncommitted (version_of b.start) h → Leaves askers h line (row.Begun c b 0) (outcomes.Ok (payloads.Number (version_of b.start)))
   begun_leaves askers h line c b options now e drawn never = record {
     drawn = λ v same. subst (IsDrawn askers h line) same drawn;
-    fits = λ rows p. subst (λ (y : Standing P Q K). StandFits w y p h) (sym e) (none_ordered _, begun_fits w b.start options now p h (draw_given askers h line (version_of b.start) drawn) never);
+    fits = λ rows p. subst (λ (y : Standing P Q K). StandFits w y p h) (sym e) (none_ordered _, begun_fits w b.start options now p h (draw_given askers h line (version_of b.start) drawn) never, refl);
     right = refl;
   }
 

@@ -32,7 +32,7 @@ use Rattle.txn_commit.specs.declared.commit_parts.CommitParts.{CommitParts}
 use Rattle.txn_commit.specs.declared.secondary_job.SecondaryJob.{SecondaryJob}
 use Rattle.txn_core.specs.Going.{MaySendFor, TransactionFits, TransactionGives}
 use Rattle.txn_core.specs.Status.{allows_data}
-use Rattle.txn_core.specs.Transaction.{IsOrdered, Standing, locks_nothing}
+use Rattle.txn_core.specs.Transaction.{IsOrdered, Standing, has_given_up, locks_nothing}
 use Rattle.txn_core.specs.declared.txn_answer.TxnAnswer.TheVariants as answer
 use Rattle.txn_client.specs.Calls.{CallGives, IsAt}
 use Rattle.txn_client.specs.declared.client_call.Wanted.{Wanted}
@@ -96,9 +96,9 @@ abbrev pub CallStands : {P Q K A B D : Type 0} → Ways P Q K A B D → Standing
 CallStands w old new (Some (answers.Called (Ok (answer.Committed t job)))) h = (allows_data new.status ≡ false) × TransactionGives w old.start old.contents new.commits h (Ok (answer.Committed t job))
 CallStands w old new answer h = ⊤
 
--- A transaction can have arisen from the history, and the keys of its buffer are in order.
+-- A transaction can have arisen from the history, the keys of its buffer are in order, and it has not given up.
 abbrev pub StandFits : {P Q K A B D : Type 0} → Ways P Q K A B D → Standing P Q K → Posted → List Event → Type 0
-StandFits w t o h = IsOrdered t.contents × TransactionFits w t o h
+StandFits w t o h = IsOrdered t.contents × TransactionFits w t o h × (has_given_up t.work ≡ false)
 
 -- A transaction stays itself. Once it may be written no more that stays so, and what it writes is what it wrote before; and only then does
 -- it post anything.
