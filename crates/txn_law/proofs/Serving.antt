@@ -1,9 +1,8 @@
 -- The Commit by which a transaction was committed was served.
-use Rattle.std.proofs.Common.{◌≡◌, ℕ, inl, inr, true, List, [], ◌∷◌, Option, Some, None, refl, sym, ◌∙◌, subst, subst₂}
+use Rattle.std.proofs.Common.{◌≡◌, ℕ, inl, inr, List, [], ◌∷◌, Option, Some, None, refl, sym, ◌∙◌, subst, subst₂}
 use Rattle.txn_kv.specs.declared.ticket.Ticket.{Ticket}
 use Rattle.txn_kv.specs.declared.message.KeyError.{KeyError}
 use Rattle.txn_kv.specs.declared.message.RegionErr.{RegionErr}
-use Rattle.txn_kv.specs.declared.message.TxnInfo.{TxnInfo}
 use Rattle.txn_kv.specs.declared.request.Request.{Request}
 use Rattle.txn_kv.specs.declared.request.Request.TheVariants.{Commit, ResolveLock}
 use Rattle.txn_kv.specs.declared.request.CommitRequest.{CommitRequest}
@@ -14,12 +13,11 @@ use Rattle.txn_kv.specs.declared.reply.CommitResponse.{CommitResponse}
 use Rattle.txn_history.specs.Among.{IsAmong}
 use Rattle.txn_history.specs.Event.{Event, Has}
 use Rattle.txn_history.specs.Event.Event.{Sent, Served}
-use Rattle.txn_history.specs.Licence.{IsLicensed, IsWithoutError, ResolveLockLicence, WasDecided, WasShown, settled_starts}
-use Rattle.txn_history.specs.Plan.{Key, Content, Plan, has_key}
+use Rattle.txn_history.specs.Licence.{IsLicensed, IsWithoutError, ResolveLockLicence, WasDecided, WasShown}
+use Rattle.txn_history.specs.Plan.{Key, Content, Plan}
 use Rattle.txn_model.specs.Cells.{cell_at}
 use Rattle.txn_model.specs.Commit.{commit_by, first_commit_error}
 use Rattle.txn_model.specs.Placement.{region_check}
-use Rattle.txn_model.specs.Resolve.{infos}
 use Rattle.txn_model.specs.Store.{Store}
 use Rattle.txn_model.specs.Table.{table}
 use Rattle.txn_law.specs.Run.{store_after, IsRun}
@@ -31,7 +29,7 @@ use Rattle.txn_law.proofs.Coherent.{IsDecidedAt}
 use Rattle.txn_law.proofs.Moves.{May, outcome}
 use Rattle.txn_law.proofs.Rows.{row}
 use Rattle.txn_law.proofs.Replies.{phases}
-use Rattle.txn_law.proofs.Kept.{Inv, kept, passes, settled_infos, timely, told}
+use Rattle.txn_law.proofs.Kept.{kept, passes, settled_infos, timely, told}
 
 served_more : (plan : Plan) (es : List Event) (e : Event) (s c : ℕ) → PrimaryServed plan es s c → PrimaryServed plan (e ∷ es) s c
 served_more plan es e s c h = record {
