@@ -1,6 +1,6 @@
 -- Each transaction of a script is whole at one commit timestamp or not there at all, as its commits answered. Lines stand here with the
 -- newest first.
-use Rattle.std.specs.Prelude.{◌≡◌, ◌⊎◌, ◌<◌, ℕ, List, Some}
+use Rattle.std.specs.Prelude.{◌≡◌, ◌⊎◌, ◌<◌, ⊤, ℕ, true, List, Some}
 use Rattle.txn_commit.specs.Parts.{parts_of}
 use Rattle.txn_commit.specs.Sending.{plan_of}
 use Rattle.txn_commit.specs.declared.commit_parts.CommitParts.{CommitParts}
@@ -12,10 +12,11 @@ use Rattle.txn_lines.specs.declared.line.Line.TheVariants.{Begin, Commit}
 use Rattle.txn_machine.specs.Accounts.{account_of}
 use Rattle.txn_machine.specs.Causes.{ended_of}
 use Rattle.txn_machine.specs.Script.{outcome_of}
-use Rattle.txn_report.specs.declared.outcome.Outcome.TheVariants.{Ok}
+use Rattle.txn_report.specs.declared.outcome.Outcome.{Outcome}
+use Rattle.txn_report.specs.declared.outcome.Outcome.TheVariants.{Ok, Err, Unfinished}
 use Rattle.txn_report.specs.declared.outcome.Payload.TheVariants.{Number, Commit as CommittedAt}
 use Rattle.txn_report.specs.declared.report.Report.{Report}
-use Rattle.txn_side.specs.Account.{Account}
+use Rattle.txn_side.specs.Account.{Account, is_undetermined}
 
 -- the line began a transaction with this start
 abbrev pub BeganAt : List Line → Report → ℕ → ℕ → Type 0
@@ -24,6 +25,18 @@ BeganAt script report x s = (client : ℕ) × (options : BeginOptions) × (line_
 -- a commit of the transaction of line x answered this timestamp
 abbrev pub CommitAnswered : List Line → Report → ℕ → ℕ → ℕ → Type 0
 CommitAnswered script report x n c = (line_at script n ≡ Some (Commit x)) × (outcome_of report.outcomes n ≡ Ok (CommittedAt (Some c)))
+
+-- by this outcome of a commit its transaction may be committed: it answered a timestamp, is open still, or answered that it is not known
+-- whether it has come to its end
+abbrev pub MayBeDone : Outcome → Type 0
+MayBeDone (Ok (CommittedAt (Some c))) = ⊤
+MayBeDone Unfinished = ⊤
+MayBeDone (Err e) = is_undetermined e ≡ true
+MayBeDone o = ⊥
+
+-- a commit of the transaction of line x has such an outcome
+abbrev pub MayHaveCommitted : List Line → Report → ℕ → Type 0
+MayHaveCommitted script report x = (n : ℕ) × (line_at script n ≡ Some (Commit x)) × MayBeDone (outcome_of report.outcomes n)
 
 -- what the transaction of line x has taken in, by the lines that wrote and were answered ok
 abbrev pub account_in : List Line → Report → ℕ → Account
@@ -37,11 +50,12 @@ pub record IsWhole (script : List Line) (report : Report) (x s c : ℕ) : Type 0
   pub whole : IsWholeAt (plan_of parts) report.store.cells s c
   pub above : s < c
 
--- Nothing of it is there and no commit of it answered a timestamp; or it is whole at one c, which each such commit answered.
+-- Nothing of it is there and no commit of it answered a timestamp; or it is whole at one c, which each such commit answered, and some
+-- commit of it answered a timestamp, is open still, or answered that it is not known whether it has come to its end.
 abbrev pub FitsCommits : List Line → Report → ℕ → ℕ → Type 0
 FitsCommits script report x s =
     (IsAbsent report.store.cells s × ((n c : ℕ) → CommitAnswered script report x n c → ⊥))
-    ⊎ ((c : ℕ) × IsWhole script report x s c × ((n d : ℕ) → CommitAnswered script report x n d → d ≡ c))
+    ⊎ ((c : ℕ) × IsWhole script report x s c × ((n d : ℕ) → CommitAnswered script report x n d → d ≡ c) × MayHaveCommitted script report x)
 
 -- So it is of each transaction; no two began at one timestamp; and nothing else is committed.
 pub record AreWhole (script : List Line) (report : Report) : Type 0 where
