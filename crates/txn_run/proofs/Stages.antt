@@ -1,18 +1,20 @@
--- How far a transaction has come tells of its commits.
+-- How far a transaction has come tells of its commits, and it stays rolled back.
 use Rattle.std.proofs.Common.{◌≡◌, ◌≢◌, ℕ, suc, Bool, true, false, not, ◌&&◌, List, [], ◌∷◌, Option, Some, None, length, nat_eq, refl, sym, ap, ◌∙◌, subst, arith}
 use Rattle.std.proofs.lemmas.Bool.Decides.{nat_tests}
-use Rattle.std.specs.Prelude.{⊤, if◌then◌else◌}
+use Rattle.std.specs.Prelude.{⊤, ◌+◌, if◌then◌else◌}
 use Rattle.txn_kv.specs.declared.errors.Error.{Error}
+use Rattle.txn_kv.specs.declared.errors.Error.TheVariants.{OperationAfterCommitError}
 use Rattle.txn_lines.specs.Lines.{line_at}
 use Rattle.txn_lines.specs.declared.line.Line.{Line}
 use Rattle.txn_lines.specs.declared.line.Line.TheVariants as lines
-use Rattle.txn_machine.specs.Accounts.{account_of, after_line}
-use Rattle.txn_machine.specs.Causes.{is_skipped}
+use Rattle.txn_machine.specs.Accounts.{AccountMeets, AllAccountsMeet, AnswersIn, Ask, account_of, after_line, ask_of, is_asked}
+use Rattle.txn_machine.specs.Causes.{ended_of, is_skipped}
+use Rattle.txn_machine.specs.Script.{outcome_of}
 use Rattle.txn_machine.proofs.Numberings.{line_new, line_old, line_range}
 use Rattle.txn_report.specs.declared.outcome.Outcome.{Outcome}
 use Rattle.txn_report.specs.declared.outcome.Outcome.TheVariants.{Ok, Err, Unfinished, Done, Skipped}
 use Rattle.txn_report.specs.declared.outcome.Payload.TheVariants.{Unit as Nothing, Number, Commit as CommittedAt}
-use Rattle.txn_side.specs.Account.{Account, Status, committed_by, has_prewritten, is_refused, is_undetermined, made_by, refusal, rolled_by, unless_refused}
+use Rattle.txn_side.specs.Account.{Account, Status, after_act, allows, committed_by, has_prewritten, is_refused, is_undetermined, made_by, or_refused, own_refusal, refusal, refused_unless, rolled_by, unless_refused}
 use Rattle.txn_side.specs.Account.Status.{Active, Committing, StartedCommit, Undetermined, Committed, StartedRollback, RolledBack}
 use Rattle.txn_side.specs.declared.act.Act.{Act}
 use Rattle.txn_side.specs.declared.act.Act.TheVariants as acts
@@ -142,3 +144,68 @@ module _ (seen : ℕ → Outcome) (ends : ℕ → ℕ) (x : ℕ) where
   pub stage_tells : (script : List Line) → AreAnswers script → Tells (account_of seen ends script x).status script
   stage_tells [] answers = tt
   stage_tells (line ∷ before) answers = line_tells line before (stage_tells before (λ n there. answers n (there_still line before n (lines.Commit x) there))) answers
+
+-- Once it is rolled back each act is refused, and it stays so.
+
+forbidden : (act : Act) → allows act RolledBack ≡ false
+forbidden (acts.Put key value) = refl
+forbidden (acts.Insert key value) = refl
+forbidden (acts.Delete key) = refl
+forbidden (acts.Mutate mutations) = refl
+forbidden (acts.Lock keys) = refl
+forbidden acts.Commit = refl
+forbidden acts.Rollback = refl
+
+act_stays : (act : Act) (at_once : Bool) (o : Outcome) (a : Account) → a.status ≡ RolledBack → (after_act act at_once o a).status ≡ RolledBack
+act_stays act at_once o a e = ap (λ (r : Option Error). (unless_refused r a (made_by act at_once o a)).status) refused ∙ e
+  where
+    refused : refusal act a ≡ Some OperationAfterCommitError
+    refused = ap (λ (b : Bool). or_refused (refused_unless b OperationAfterCommitError) (own_refusal act a.contents)) (ap (allows act) e ∙ forbidden act)
+
+line_stays : (ask : Option Ask) (n x : ℕ) (o : Outcome) (e : ℕ) (a : Account) → a.status ≡ RolledBack → (after_line ask n x o e a).status ≡ RolledBack
+line_stays None n x o e a is = is
+line_stays (Some ask) n x o e a is = by (is_asked ask x o)
+  where
+    by : (b : Bool) → (if b then after_act ask.act (nat_eq e n) o a else a).status ≡ RolledBack
+    by true = act_stays ask.act (nat_eq e n) o a is
+    by false = is
+
+-- so it is by a rollback of it that answered ok
+line_rolls : (x n : ℕ) (o : Outcome) (e : ℕ) (a : Account) → o ≡ Ok Nothing → (is_skipped o ≡ false → AnswersIn n acts.Rollback (refusal acts.Rollback a) o e) → (after_line (ask_of (lines.Rollback x)) n x o e a).status ≡ RolledBack
+line_rolls x n o e a is meets =
+    ap (λ (b : Bool). (if b then after_act acts.Rollback (nat_eq e n) o a else a).status) asked
+    ∙ by (refusal acts.Rollback a) (meets made)
+    ∙ ap (λ (p : Outcome). rolled_by (nat_eq e n) a.status p) is
+  where
+    made : is_skipped o ≡ false
+    made = ap is_skipped is
+
+    asked : (nat_eq x x && not (is_skipped o)) ≡ true
+    asked =
+        let same : nat_eq x x ≡ true = grind (arith, nat_tests) in
+        (λ i. same i && not (made i))
+
+    by : (r : Option Error) → AnswersIn n acts.Rollback r o e → (unless_refused r a (made_by acts.Rollback (nat_eq e n) o a)).status ≡ rolled_by (nat_eq e n) a.status o
+    by None k = refl
+    by (Some why) k = absurd (let no = sym is ∙ k.0 in cc)
+
+pub stays_rolled : (outs : List Outcome) (ended : List ℕ) (script : List Line) (x n : ℕ) → AllAccountsMeet outs ended script → line_at script n ≡ Some (lines.Rollback x) → outcome_of outs n ≡ Ok Nothing
+    → (account_of (λ m. outcome_of outs m) (λ m. ended_of ended m) script x).status ≡ RolledBack
+stays_rolled outs ended [] x n all there answered = absurd (cc)
+stays_rolled outs ended (line ∷ before) x n all there answered = by (nat_eq (length before + 1) n) refl there
+  where
+    a : Account
+    a = account_of (λ m. outcome_of outs m) (λ m. ended_of ended m) before x
+
+    newest : ℕ
+    newest = length (line ∷ before)
+
+    by : (b : Bool) → nat_eq (length before + 1) n ≡ b → (if b then Some line else line_at before n) ≡ Some (lines.Rollback x)
+        → (after_line (ask_of line) newest x (outcome_of outs newest) (ended_of ended newest) a).status ≡ RolledBack
+    by false q f = line_stays (ask_of line) newest x (outcome_of outs newest) (ended_of ended newest) a (stays_rolled outs ended before x n all.1 f answered)
+    by true q f =
+        let same : line ≡ lines.Rollback x = cc in
+        let number : n ≡ newest = grind (arith, nat_tests) in
+        let ok : outcome_of outs newest ≡ Ok Nothing = subst (λ m. outcome_of outs m ≡ Ok Nothing) number answered in
+        subst (λ (l : Line). (after_line (ask_of l) newest x (outcome_of outs newest) (ended_of ended newest) a).status ≡ RolledBack) (sym same)
+        (line_rolls x newest (outcome_of outs newest) (ended_of ended newest) a ok (subst (λ (l : Line). AccountMeets (λ y. account_of (λ m. outcome_of outs m) (λ m. ended_of ended m) before y) newest (ask_of l) (outcome_of outs newest) (ended_of ended newest)) same all.0))

@@ -33,6 +33,7 @@ use Rattle.txn_lines.specs.Lines.{line_at}
 use Rattle.txn_lines.specs.declared.begin_options.BeginOptions.{BeginOptions}
 use Rattle.txn_lines.specs.declared.line.Line.{Line}
 use Rattle.txn_lines.specs.declared.line.Line.TheVariants as lines
+use Rattle.txn_machine.specs.Accounts.{AccountsMeetLines}
 use Rattle.txn_machine.specs.Arising.{AllHold, HoldsBy}
 use Rattle.txn_machine.specs.Causes.{EventsMeetLines, Role, TellsLines, answers, ended_of, role_of}
 use Rattle.txn_machine.specs.Causes.Role.{AsksTime, UsesTransaction}
@@ -45,7 +46,7 @@ use Rattle.txn_report.specs.declared.outcome.Outcome.{Outcome}
 use Rattle.txn_report.specs.declared.outcome.Outcome.TheVariants as outcomes
 use Rattle.txn_report.specs.declared.outcome.Payload.TheVariants.{Number, Commit as CommittedAt}
 use Rattle.txn_report.specs.declared.report.Report.{Report}
-use Rattle.txn_side.specs.Account.{Account}
+use Rattle.txn_side.specs.Account.{Account, Status as Stage}
 use Rattle.txn_side.specs.Sight.{Stand, stand_at}
 use Rattle.txn_side.specs.Sight.Stand.{HasBegun, Idle}
 use Rattle.txn_trace.specs.Seeing.{seen}
@@ -63,9 +64,9 @@ use Rattle.txn_clients.specs.declared.clients.Clients.{Clients}
 use Rattle.txn_clients.specs.declared.row.Row.{Row}
 use Rattle.txn_clients.specs.declared.row.Row.TheVariants as row
 use Rattle.txn_run.specs.Behind.{AreBehind}
-use Rattle.txn_run.specs.Whole.{AreWhole, BeganAt, CommitAnswered, FitsCommits, MayBeDone, MayHaveCommitted, account_in}
+use Rattle.txn_run.specs.Whole.{AreWhole, BeganAt, CommitAnswered, FitsCommits, MayBeDone, MayHaveCommitted, RollbackAnswered, account_in}
 use Rattle.txn_run.proofs.ServedOnce.{AreServedOnce, done_unrefused, history_once}
-use Rattle.txn_run.proofs.Stages.{CommitCame, IsAtEnd, Tells, stage_tells}
+use Rattle.txn_run.proofs.Stages.{CommitCame, IsAtEnd, Tells, stage_tells, stays_rolled}
 use Rattle.txn_run.proofs.Unlocked.{unlocked_never}
 
 -- A plan that writes nothing
@@ -203,7 +204,8 @@ module _ {P Q K A B D : Type 0} (w : Ways P Q K A B D) (script : List Line) (rep
     (folds : report.store ≡ store_after (history report.sent report.outcomes script))
     (plans : ℕ → Plan) (are : HavePlans plans (rows_of s))
     (apart : (i j v : ℕ) → HasStart v (row_at (rows_of s) i) → HasStart v (row_at (rows_of s) j) → i ≡ j)
-    (once : AreServedOnce (history report.sent report.outcomes script)) (undone : (n x : ℕ) → line_at script n ≡ Some (lines.Commit x) → outcome_of report.outcomes n ≢ outcomes.Done) where
+    (once : AreServedOnce (history report.sent report.outcomes script)) (undone : (n x : ℕ) → line_at script n ≡ Some (lines.Commit x) → outcome_of report.outcomes n ≢ outcomes.Done)
+    (accounted : AccountsMeetLines script report) where
   abbrev shown : List Event
   shown = history report.sent report.outcomes script
 
@@ -446,18 +448,53 @@ module _ {P Q K A B D : Type 0} (w : Ways P Q K A B D) (script : List Line) (rep
         by false e None f = unbound (λ parts closed is. none_some parts (sym f ∙ is))
         by false e (Some parts) f = bound parts e f
 
+    -- one that is rolled back is not there
+    rolled_back : (n : ℕ) → RollbackAnswered script report x n → IsAbsent cells v
+    rolled_back n (there, answered) = elim fits_commits [
+      | inl a ↦ a.0
+      | inr b ↦ absurd (never b.1.parts (contents_wrote b.1.parts b.1.wrote) b.0 b.1.whole)
+    ]
+      where
+        contents_wrote : (parts : CommitParts) → parts_of (account_in script report x).contents ≡ Some parts → parts_of t.contents ≡ Some parts
+        contents_wrote parts wrote = ap parts_of contents_are ∙ wrote
+
+        stage : stage_by t.status (is_open t.work) (is_some (undetermined t.commits)) ≡ Stage.RolledBack
+        stage = ap (λ (a : Account). a.status) account_is ∙ stays_rolled report.outcomes report.ended script x n accounted there answered
+
+        -- no other status is told so
+        status : (s : Status) (busy doubtful : Bool) → stage_by s busy doubtful ≡ Stage.RolledBack → s ≡ Rolledback
+        status Rolledback busy doubtful e = refl
+        status ReadOnly busy doubtful e = absurd (cc)
+        status Active busy doubtful e = absurd (cc)
+        status Committed busy doubtful e = absurd (cc)
+        status StartedCommit true doubtful e = absurd (cc)
+        status StartedCommit false true e = absurd (cc)
+        status StartedCommit false false e = absurd (cc)
+        status StartedRollback busy doubtful e = absurd (cc)
+        status Dropped busy doubtful e = absurd (cc)
+
+        turned : t.status ≡ Rolledback
+        turned = status t.status (is_open t.work) (is_some (undetermined t.commits)) stage
+
+        never : (parts : CommitParts) → parts_of t.contents ≡ Some parts → (c : ℕ) → IsWholeAt (plan_of parts) cells v c → ⊥
+        never parts is c whole =
+            let closed : allows_data t.status ≡ false = ap allows_data turned in
+            never_settled parts closed is c whole ((stand_fits parts closed is c whole).1.settled (ap has_turned_back turned))
+
   pub are_whole : AreWhole script report
   are_whole = record {
     each = λ x v began. fits_commits x v (stands x v began);
+    rolled = λ x v n began answered. rolled_back x v (stands x v began) n answered;
     apart = λ x y v one other. let a = stands x v one in let b = stands y v other in a.is ∙ ap suc (apart a.place b.place v (starts x v a) (starts y v b)) ∙ sym b.is;
     others = λ v never. nothing_there v (λ i start some. absurd (never (suc i) (line_began i v start)));
   }
 
 -- So it is where clients that can have arisen from the lines are behind the report.
 pub lines_whole : {P Q K A B D : Type 0} (w : Ways P Q K A B D) (script : List Line) (report : Report)
-    → AreBehind w script report → FoldsLines script report → TellsLines script report → EventsMeetLines script report → AreWhole script report
-lines_whole w script report a folds told events =
+    → AreBehind w script report → FoldsLines script report → TellsLines script report → EventsMeetLines script report → AccountsMeetLines script report → AreWhole script report
+lines_whole w script report a folds told events accounted =
     let now = a.arisen.now in
     are_whole w script report a.clients now.1 now.2 now.3 now.4 a.arisen.answers a.taken a.rows a.none folds.store (plans_in (rows_of a.clients)) (plans_found (rows_of a.clients) now.4.apart) now.4.apart
     (history_once report.sent report.sleeps report.outcomes report.ended script events)
     (λ n x there done. let kind = told.kinds n (lines.Commit x) there in let no = sym (ap (answers (UsesTransaction true x)) done) ∙ kind in absurd (cc))
+    accounted

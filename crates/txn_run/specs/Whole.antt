@@ -1,5 +1,5 @@
--- Each transaction of a script is whole at one commit timestamp or not there at all, as its commits answered. Lines stand here with the
--- newest first.
+-- Each transaction of a script is whole at one commit timestamp or not there at all, as its commits and rollbacks answered. Lines stand
+-- here with the newest first.
 use Rattle.std.specs.Prelude.{◌≡◌, ◌⊎◌, ◌<◌, ⊤, ℕ, true, List, Some}
 use Rattle.txn_commit.specs.Parts.{parts_of}
 use Rattle.txn_commit.specs.Sending.{plan_of}
@@ -8,13 +8,13 @@ use Rattle.txn_law.specs.Whole.{IsAbsent, IsWholeAt}
 use Rattle.txn_lines.specs.Lines.{line_at}
 use Rattle.txn_lines.specs.declared.begin_options.BeginOptions.{BeginOptions}
 use Rattle.txn_lines.specs.declared.line.Line.{Line}
-use Rattle.txn_lines.specs.declared.line.Line.TheVariants.{Begin, Commit}
+use Rattle.txn_lines.specs.declared.line.Line.TheVariants.{Begin, Commit, Rollback}
 use Rattle.txn_machine.specs.Accounts.{account_of}
 use Rattle.txn_machine.specs.Causes.{ended_of}
 use Rattle.txn_machine.specs.Script.{outcome_of}
 use Rattle.txn_report.specs.declared.outcome.Outcome.{Outcome}
 use Rattle.txn_report.specs.declared.outcome.Outcome.TheVariants.{Ok, Err, Unfinished}
-use Rattle.txn_report.specs.declared.outcome.Payload.TheVariants.{Number, Commit as CommittedAt}
+use Rattle.txn_report.specs.declared.outcome.Payload.TheVariants.{Unit as Nothing, Number, Commit as CommittedAt}
 use Rattle.txn_report.specs.declared.report.Report.{Report}
 use Rattle.txn_side.specs.Account.{Account, is_undetermined}
 
@@ -38,6 +38,10 @@ MayBeDone o = ⊥
 abbrev pub MayHaveCommitted : List Line → Report → ℕ → Type 0
 MayHaveCommitted script report x = (n : ℕ) × (line_at script n ≡ Some (Commit x)) × MayBeDone (outcome_of report.outcomes n)
 
+-- a rollback of the transaction of line x answered ok
+abbrev pub RollbackAnswered : List Line → Report → ℕ → ℕ → Type 0
+RollbackAnswered script report x n = (line_at script n ≡ Some (Rollback x)) × (outcome_of report.outcomes n ≡ Ok Nothing)
+
 -- what the transaction of line x has taken in, by the lines that wrote and were answered ok
 abbrev pub account_in : List Line → Report → ℕ → Account
 account_in script report x = account_of (λ n. outcome_of report.outcomes n) (λ n. ended_of report.ended n) script x
@@ -57,8 +61,10 @@ FitsCommits script report x s =
     (IsAbsent report.store.cells s × ((n c : ℕ) → CommitAnswered script report x n c → ⊥))
     ⊎ ((c : ℕ) × IsWhole script report x s c × ((n d : ℕ) → CommitAnswered script report x n d → d ≡ c) × MayHaveCommitted script report x)
 
--- So it is of each transaction; no two began at one timestamp; and nothing else is committed.
+-- So it is of each transaction, and one of which a rollback answered ok is not there at all; no two began at one timestamp; and nothing
+-- else is committed.
 pub record AreWhole (script : List Line) (report : Report) : Type 0 where
   pub each : (x s : ℕ) → BeganAt script report x s → FitsCommits script report x s
+  pub rolled : (x s n : ℕ) → BeganAt script report x s → RollbackAnswered script report x n → IsAbsent report.store.cells s
   pub apart : (x y s : ℕ) → BeganAt script report x s → BeganAt script report y s → x ≡ y
   pub others : (s : ℕ) → ((x : ℕ) → BeganAt script report x s → ⊥) → IsAbsent report.store.cells s
