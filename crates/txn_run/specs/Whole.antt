@@ -1,5 +1,5 @@
--- Each transaction of a script is whole at one commit timestamp or not there at all, as its commits and rollbacks answered. Lines stand
--- here with the newest first.
+-- Each transaction of a script is whole at one commit timestamp, or no commit of it is in the store, as its commit lines and its
+-- rollback lines answered. Lines stand here with the newest first.
 use Rattle.std.specs.Prelude.{◌≡◌, ◌⊎◌, ◌<◌, ⊤, ℕ, true, List, Some}
 use Rattle.txn_commit.specs.Parts.{parts_of}
 use Rattle.txn_commit.specs.Sending.{plan_of}
@@ -22,23 +22,22 @@ use Rattle.txn_side.specs.Account.{Account, is_undetermined}
 abbrev pub BeganAt : List Line → Report → ℕ → ℕ → Type 0
 BeganAt script report x s = (client : ℕ) × (options : BeginOptions) × (line_at script x ≡ Some (Begin client options)) × (outcome_of report.outcomes x ≡ Ok (Number s))
 
--- a commit of the transaction of line x answered this timestamp
+-- a commit line of the transaction of line x answered this timestamp
 abbrev pub CommitAnswered : List Line → Report → ℕ → ℕ → ℕ → Type 0
 CommitAnswered script report x n c = (line_at script n ≡ Some (Commit x)) × (outcome_of report.outcomes n ≡ Ok (CommittedAt (Some c)))
 
--- by this outcome of a commit its transaction may be committed: it answered a timestamp, is open still, or answered that it is not known
--- whether it has come to its end
+-- by this outcome of a commit line its transaction may be committed: it answered a timestamp, has not ended, or failed with UndeterminedError
 abbrev pub MayBeDone : Outcome → Type 0
 MayBeDone (Ok (CommittedAt (Some c))) = ⊤
 MayBeDone Unfinished = ⊤
 MayBeDone (Err e) = is_undetermined e ≡ true
 MayBeDone o = ⊥
 
--- a commit of the transaction of line x has such an outcome
+-- a commit line of the transaction of line x has such an outcome
 abbrev pub MayHaveCommitted : List Line → Report → ℕ → Type 0
 MayHaveCommitted script report x = (n : ℕ) × (line_at script n ≡ Some (Commit x)) × MayBeDone (outcome_of report.outcomes n)
 
--- a rollback of the transaction of line x answered ok
+-- a rollback line of the transaction of line x answered ok
 abbrev pub RollbackAnswered : List Line → Report → ℕ → ℕ → Type 0
 RollbackAnswered script report x n = (line_at script n ≡ Some (Rollback x)) × (outcome_of report.outcomes n ≡ Ok Nothing)
 
@@ -46,23 +45,23 @@ RollbackAnswered script report x n = (line_at script n ≡ Some (Rollback x)) ×
 abbrev pub account_in : List Line → Report → ℕ → Account
 account_in script report x = account_of (λ n. outcome_of report.outcomes n) (λ n. ended_of report.ended n) script x
 
--- The transaction of line x, which began at s, is whole at c, a later timestamp: its primary holds its commit, each key that it wrote holds
--- what it wrote, committed at c or locked under the primary, and no other commit of s is anywhere.
+-- The transaction of line x, which began at s, is whole at c, a later timestamp: its primary holds its commit there, each key that it wrote
+-- holds what it wrote, committed at c or locked under the primary, and no other commit of s is anywhere.
 pub record IsWhole (script : List Line) (report : Report) (x s c : ℕ) : Type 0 where
   pub parts : CommitParts
   pub wrote : parts_of (account_in script report x).contents ≡ Some parts
   pub whole : IsWholeAt (plan_of parts) report.store.cells s c
   pub above : s < c
 
--- Nothing of it is there and no commit of it answered a timestamp; or it is whole at one c, which each such commit answered, and some
--- commit of it answered a timestamp, is open still, or answered that it is not known whether it has come to its end.
+-- No commit of it is in the store, and no commit line of it answered a timestamp. Or it is whole at one c, which each commit line that
+-- answered a timestamp answered, and some commit line of it answered one, has not ended, or failed with UndeterminedError.
 abbrev pub FitsCommits : List Line → Report → ℕ → ℕ → Type 0
 FitsCommits script report x s =
     (IsAbsent report.store.cells s × ((n c : ℕ) → CommitAnswered script report x n c → ⊥))
     ⊎ ((c : ℕ) × IsWhole script report x s c × ((n d : ℕ) → CommitAnswered script report x n d → d ≡ c) × MayHaveCommitted script report x)
 
--- So it is of each transaction, and one of which a rollback answered ok is not there at all; no two began at one timestamp; and nothing
--- else is committed.
+-- So it is of each transaction. No commit is in the store of one of which a rollback line answered ok. No two began at one timestamp,
+-- and nothing else is committed.
 pub record AreWhole (script : List Line) (report : Report) : Type 0 where
   pub each : (x s : ℕ) → BeganAt script report x s → FitsCommits script report x s
   pub rolled : (x s n : ℕ) → BeganAt script report x s → RollbackAnswered script report x n → IsAbsent report.store.cells s
