@@ -157,6 +157,7 @@ module _ {P Q K : Type 0} where
       };
       answerable = a.answerable;
       owned = λ u q has. let own = a.owned u q has in (own.0, subst (λ rs. HasStart q.start_version (row_at rs own.0)) (sym rows) (start_in own.0 q.start_version own.1));
+      optimistic = a.optimistic;
     }
       where
         new : List (Row P Q K)

@@ -189,6 +189,7 @@ module _ {P Q K A B D : Type 0} (w : Ways P Q K A B D) where
       };
       answerable = f.answerable;
       owned = λ u r sent. let g = f.owned u r sent in (g.0, subst (λ rs. HasStart r.start_version (row_at rs g.0)) (sym rows) g.1);
+      optimistic = f.optimistic;
     }
 
     -- A request for timestamps is over: its reply was taken, or it was lost.
@@ -214,6 +215,7 @@ module _ {P Q K A B D : Type 0} (w : Ways P Q K A B D) where
         | inl same ↦ absurd (subst SendsNothing same sends)
         | inr was ↦ let g = f.owned u r was in (g.0, subst (λ rs. HasStart r.start_version (row_at rs g.0)) (sym rows) g.1)
       ];
+      optimistic = λ u r sent. elim sent [ inl same ↦ subst SendsNothing same sends | inr was ↦ f.optimistic u r was ];
     }
       where
         fits : (c : ℕ) → (c ≡ client) ⊎ (c ≢ client) → OracleFits (oracle_of (book_at t c)) (ticket_or (book_at t c).ticket) (e ∷ h)
@@ -315,6 +317,7 @@ module _ {P Q K A B D : Type 0} (w : Ways P Q K A B D) where
         | inl same ↦ absurd (cc)
         | inr was ↦ let g = f.owned u r was in (g.0, subst (λ rs. HasStart r.start_version (row_at rs g.0)) (sym rows) g.1)
       ];
+      optimistic = λ u r sent. elim sent [ inl same ↦ cc | inr was ↦ f.optimistic u r was ];
     }
       where
         unused : IsUnused h ticket

@@ -36,7 +36,7 @@ use Rattle.txn_clients.specs.Growing.{AddsNoCommit, AreApart, commits_before, jo
 use Rattle.txn_clients.specs.Rows.{Pd}
 use Rattle.txn_clients.specs.declared.row.Row.{Row}
 use Rattle.txn_clients.specs.declared.row.Row.TheVariants as row
-use Rattle.txn_clients.proofs.Leading.{Rises, may_ask, may_transact, none_commits}
+use Rattle.txn_clients.proofs.Leading.{Rises, locks_before, may_ask, may_transact, none_commits}
 use Rattle.txn_clients.proofs.Stands.{or_other, or_same, same_line}
 
 -- A call for a timestamp asks for nothing but the members.
@@ -73,6 +73,7 @@ module _ {P Q K A B D : Type 0} (w : Ways P Q K A B D) (p : IsLawful w.prewritin
     fits = λ later l. called-lawful.fits_longer new to later _ _ l (Within-refl (after line false h to.sends)) fits;
     others = λ i apart o later l f. row_stays w p q k olds o later h (after line false h to.sends) (row_at olds i) l adds f;
     owns = λ t r i. inl (commits_before h (after line false h to.sends) t r adds i);
+    locks = λ t r i. locks_before MayAsk (λ k q e. cc) line false h to.sends licensed t r i;
   }
     where
       adds : AddsNoCommit h (after line false h to.sends)
@@ -127,6 +128,7 @@ module _ {P Q K A B D : Type 0} (w : Ways P Q K A B D) (p : IsLawful w.prewritin
       | inl j ↦ inl j
       | inr e ↦ inr (at, subst (HasStart r.start_version) (sym here) (ap version_of keeps.start ∙ sym e))
     ];
+    locks = λ t r i. locks_before (MaySendFor old.contents (version_of old.start)) (λ k q m. m.2) line false h to.sends licensed t r i;
   }
     where
       here : row_at (set olds at (row.Begun d new n)) at ≡ row.Begun d new n
@@ -183,6 +185,7 @@ module _ {P Q K A B D : Type 0} (w : Ways P Q K A B D) (p : IsLawful w.prewritin
       | inl x ↦ inl x
       | inr e ↦ inr (j, subst (HasStart r.start_version) (sym there) (subst (λ u. HasStart u (row_at olds j)) (sym e) b.start))
     ];
+    locks = λ t r i. locks_before (MaySendBehind (plan_of b.parts) (version_of old.start)) (λ k q m. m.may) line false h to.sends licensed t r i;
   }
     where
       far_from : j ≢ at

@@ -8,7 +8,8 @@ use Rattle.txn_kv.specs.declared.errors.Error.{Error}
 use Rattle.txn_kv.specs.declared.outbox.Errand.TheVariants.{Ask, Send, Sleep}
 use Rattle.txn_kv.specs.declared.request.CommitRequest.{CommitRequest}
 use Rattle.txn_kv.specs.declared.request.Request.{Request}
-use Rattle.txn_kv.specs.declared.request.Request.TheVariants.{Commit, Tso}
+use Rattle.txn_kv.specs.declared.request.PessimisticLockRequest.{PessimisticLockRequest}
+use Rattle.txn_kv.specs.declared.request.Request.TheVariants.{Commit, PessimisticLock, Tso}
 use Rattle.txn_kv.specs.declared.request.TsoRequest.{TsoRequest}
 use Rattle.txn_kv.specs.declared.ticket.Target.TheVariants.{Placement}
 use Rattle.txn_kv.specs.declared.ticket.Ticket.{Ticket}
@@ -183,6 +184,8 @@ pub record Arisen {P Q K A B D : Type 0} (w : Ways P Q K A B D) (s : Clients P Q
   pub answerable : AreAnswerable rest h
   -- a Commit is one of a transaction that stands somewhere
   pub owned : (t : Ticket) (r : CommitRequest) → Has h (Sent t (Commit r)) → (i : ℕ) × HasStart r.start_version (row_at (rows_of s) i)
+  -- no pessimistic lock is asked for
+  pub optimistic : (t : Ticket) (r : PessimisticLockRequest) → Has h (Sent t (PessimisticLock r)) → ⊥
   -- two transactions that stand at two places have unlike starts
   pub apart : (i j v : ℕ) → HasStart v (row_at (rows_of s) i) → HasStart v (row_at (rows_of s) j) → i ≡ j
 

@@ -166,6 +166,7 @@ module _ {P Q K A B D : Type 0} (w : Ways P Q K A B D) (p : IsLawful w.prewritin
     draws = draws_grow s askers rest h (e ∷ h) (Within-one e h) a.draws;
     answerable = answerable_more rest h e a.answerable;
     owned = λ t r i. a.owned t r (commits_before h (e ∷ h) t r adds i);
+    optimistic = λ t r i. elim i [ inl same ↦ subst SendsNothing same (posts_sends_nothing e quiet) | inr was ↦ a.optimistic t r was ];
     apart = a.apart;
   }
     where
@@ -185,6 +186,7 @@ arisen_fewer w s askers x rest h a = record {
   draws = record { starts = a.draws.starts; groups = a.draws.groups; given = λ y time i. a.draws.given y time (inr i) };
   answerable = a.answerable.1;
   owned = a.owned;
+  optimistic = a.optimistic;
   apart = a.apart;
 }
 

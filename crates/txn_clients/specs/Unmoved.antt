@@ -50,6 +50,7 @@ module _ {P Q K A B D : Type 0} (w : Ways P Q K A B D) where
     };
     answerable = tt;
     owned = λ x r i. absurd i;
+    optimistic = λ x r i. absurd i;
     apart = λ i j v x y. absurd (subst (HasStart v) (plain i) x);
   }
     where
