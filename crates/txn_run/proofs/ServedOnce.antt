@@ -20,8 +20,8 @@ use Rattle.txn_model.specs.Table.{table}
 use Rattle.txn_commit.specs.Following.{IsRefusal, WasRefused}
 use Rattle.txn_lines.specs.declared.line.Line.{Line}
 use Rattle.txn_lines.specs.declared.line.Line.TheVariants as lines
-use Rattle.txn_machine.specs.Causes.{AllEventsMeet, EventMeets, hears, is_refusable, is_servable}
-use Rattle.txn_machine.specs.Script.{does, history, is_done, loses, outcome_of, refuses, refuses_it, serves, takes, takes_it, with_sends}
+use Rattle.txn_machine.specs.Causes.{AllEventsMeet, EventMeets, began, hears, is_refusable, is_servable, known}
+use Rattle.txn_machine.specs.Script.{does, find, history, is_done, loses, outcome_of, refuses, refuses_it, serves, takes, takes_it, with_sends}
 use Rattle.txn_machine.specs.Steps.{done_if}
 use Rattle.txn_report.specs.declared.outcome.Outcome.{Outcome}
 use Rattle.txn_report.specs.declared.report.SentNote.{SentNote}
@@ -179,10 +179,16 @@ line_once asleep seen before looks es _ o meets done i = i
 
 pub history_once : (sent : List SentNote) (sleeps : List SleepNote) (outs : List Outcome) (ended : List ℕ) (script : List Line) → AllEventsMeet sent sleeps outs ended script → AreServedOnce (history sent outs script)
 history_once sent sleeps outs ended [] meets = record { once = λ t r q o p h. absurd h; unrefused = λ t r q o p h. absurd h }
-history_once sent sleeps outs ended (line ∷ before) meets = sends_once sent (length (line ∷ before)) _ (by (is_done (outcome_of outs (length (line ∷ before)))) refl (history_once sent sleeps outs ended before meets.1))
+history_once sent sleeps outs ended (line ∷ before) meets = sends_once sent newest _ (by (is_done (outcome_of outs newest)) refl (history_once sent sleeps outs ended before meets.1))
   where
-    by : (b : Bool) → is_done (outcome_of outs (length (line ∷ before))) ≡ b → AreServedOnce (history sent outs before) → AreServedOnce (if b then does _ line (history sent outs before) else history sent outs before)
-    by true e i = line_once _ _ before _ (history sent outs before) line (outcome_of outs (length (line ∷ before))) meets.0 e i
+    newest : ℕ
+    newest = length (line ∷ before)
+
+    looks : Ticket → Option Request
+    looks t = find sent newest t
+
+    by : (b : Bool) → is_done (outcome_of outs newest) ≡ b → AreServedOnce (history sent outs before) → AreServedOnce (if b then does looks line (history sent outs before) else history sent outs before)
+    by true e i = line_once (λ t. began sleeps newest t) (known outs ended newest) before looks (history sent outs before) line (outcome_of outs newest) meets.0 e i
     by false e i = i
 
 -- So a Commit that was served, and whose reply says that it is done, was not refused.

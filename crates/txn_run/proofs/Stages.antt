@@ -13,7 +13,7 @@ use Rattle.txn_machine.specs.Script.{outcome_of}
 use Rattle.txn_machine.proofs.Numberings.{line_new, line_old, line_range}
 use Rattle.txn_report.specs.declared.outcome.Outcome.{Outcome}
 use Rattle.txn_report.specs.declared.outcome.Outcome.TheVariants.{Ok, Err, Unfinished, Done, Skipped}
-use Rattle.txn_report.specs.declared.outcome.Payload.TheVariants.{Unit as Nothing, Number, Commit as CommittedAt}
+use Rattle.txn_report.specs.declared.outcome.Payload.TheVariants.{Unit as Nothing, Commit as CommittedAt}
 use Rattle.txn_side.specs.Account.{Account, Status, after_act, allows, committed_by, has_prewritten, is_refused, is_undetermined, made_by, or_refused, own_refusal, refusal, refused_unless, rolled_by, unless_refused}
 use Rattle.txn_side.specs.Account.Status.{Active, Committing, StartedCommit, Undetermined, Committed, StartedRollback, RolledBack}
 use Rattle.txn_side.specs.declared.act.Act.{Act}
@@ -192,7 +192,7 @@ line_rolls x n o e a is meets =
 pub stays_rolled : (outs : List Outcome) (ended : List ℕ) (script : List Line) (x n : ℕ) → AllAccountsMeet outs ended script → line_at script n ≡ Some (lines.Rollback x) → outcome_of outs n ≡ Ok Nothing
     → (account_of (λ m. outcome_of outs m) (λ m. ended_of ended m) script x).status ≡ RolledBack
 stays_rolled outs ended [] x n all there answered = absurd (cc)
-stays_rolled outs ended (line ∷ before) x n all there answered = by (nat_eq (length before + 1) n) refl there
+stays_rolled outs ended (line ∷ before) x n all there answered = by (nat_eq (length before + 1) n) refl (λ f. stays_rolled outs ended before x n all.1 f answered) there
   where
     a : Account
     a = account_of (λ m. outcome_of outs m) (λ m. ended_of ended m) before x
@@ -200,10 +200,10 @@ stays_rolled outs ended (line ∷ before) x n all there answered = by (nat_eq (l
     newest : ℕ
     newest = length (line ∷ before)
 
-    by : (b : Bool) → nat_eq (length before + 1) n ≡ b → (if b then Some line else line_at before n) ≡ Some (lines.Rollback x)
+    by : (b : Bool) → nat_eq (length before + 1) n ≡ b → (line_at before n ≡ Some (lines.Rollback x) → a.status ≡ RolledBack) → (if b then Some line else line_at before n) ≡ Some (lines.Rollback x)
         → (after_line (ask_of line) newest x (outcome_of outs newest) (ended_of ended newest) a).status ≡ RolledBack
-    by false q f = line_stays (ask_of line) newest x (outcome_of outs newest) (ended_of ended newest) a (stays_rolled outs ended before x n all.1 f answered)
-    by true q f =
+    by false q earlier f = line_stays (ask_of line) newest x (outcome_of outs newest) (ended_of ended newest) a (earlier f)
+    by true q earlier f =
         let same : line ≡ lines.Rollback x = cc in
         let number : n ≡ newest = grind (arith, nat_tests) in
         let ok : outcome_of outs newest ≡ Ok Nothing = subst (λ m. outcome_of outs m ≡ Ok Nothing) number answered in

@@ -1,7 +1,7 @@
 -- A commit that locks no key writes nothing.
 use Rattle.std.proofs.Common.{◌≡◌, ℕ, Bool, true, false, List, [], ◌∷◌, Option, Some, None, is_some, not, refl, sym, ap, ◌∙◌, subst}
 use Rattle.std.specs.Prelude.{if◌then◌else◌, option_map}
-use Rattle.txn_buffer.specs.Contents.{Contents, commit_primary_or, entry_at, first_locking, is_locking_at, mutation, mutations}
+use Rattle.txn_buffer.specs.Contents.{Contents, commit_primary_or, entry_at, first_locking, is_locking_at, mutations}
 use Rattle.txn_buffer.specs.declared.entry.Entry.{Entry}
 use Rattle.txn_buffer.specs.declared.entry.Entry.TheVariants as entry
 use Rattle.txn_commit.specs.Parts.{named_primary, parts_of, parts_under}
@@ -9,7 +9,6 @@ use Rattle.txn_commit.specs.Sending.{content_at, plan_of}
 use Rattle.txn_commit.specs.declared.commit_parts.CommitParts.{CommitParts}
 use Rattle.txn_core.specs.Transaction.{lock_nothing, locks_nothing}
 use Rattle.txn_history.specs.Plan.{Content, Key, key_eq}
-use Rattle.txn_kv.specs.declared.message.Op.TheVariants as op
 use Rattle.txn_law.specs.Whole.{IsWholeAt}
 use Rattle.txn_model.specs.declared.cell.Cell.{Cell}
 
