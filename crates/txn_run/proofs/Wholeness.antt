@@ -3,15 +3,16 @@ use Rattle.std.proofs.Common.{◌≡◌, ◌≢◌, inl, inr, zero, suc, ℕ, Bo
 use Rattle.std.proofs.lemmas.Bool.Decides.{nat_tests}
 use Rattle.std.specs.Prelude.{◌<◌, ◌+◌, if◌then◌else◌, is_some, Ok}
 use Rattle.txn_kv.specs.Timestamp.{version_of}
-use Rattle.txn_kv.specs.declared.request.Request.TheVariants.{Commit}
+use Rattle.txn_kv.specs.declared.request.Request.TheVariants.{Commit, PessimisticLock}
 use Rattle.txn_history.specs.Among.{IsAmong}
 use Rattle.txn_history.specs.Event.{Event, Has}
 use Rattle.txn_history.specs.Event.Event.{Sent, Took}
 use Rattle.txn_history.specs.Licence.{PrimaryCommitted, WasNamed}
 use Rattle.txn_history.specs.Plan.{Content, Plan}
 use Rattle.txn_history.specs.Posted.{Posted}
-use Rattle.txn_law.specs.Run.{IsRun, store_after}
+use Rattle.txn_law.specs.Run.{IsOptimistic, IsRun, store_after}
 use Rattle.txn_law.specs.Whole.{FitsAnswers, IsAbsent, IsWholeAt, PrimaryServed}
+use Rattle.txn_law.proofs.Apart.{law_between}
 use Rattle.txn_law.proofs.Kept.{kept}
 use Rattle.txn_law.proofs.Wholes.{law_above, law_fits, law_served}
 use Rattle.txn_model.specs.Store.{Store}
@@ -64,7 +65,7 @@ use Rattle.txn_clients.specs.declared.clients.Clients.{Clients}
 use Rattle.txn_clients.specs.declared.row.Row.{Row}
 use Rattle.txn_clients.specs.declared.row.Row.TheVariants as row
 use Rattle.txn_run.specs.Behind.{AreBehind}
-use Rattle.txn_run.specs.Whole.{AreWhole, BeganAt, CommitAnswered, FitsCommits, MayBeDone, MayHaveCommitted, RollbackAnswered, account_in}
+use Rattle.txn_run.specs.Whole.{AreWhole, BeganAt, CommitAnswered, FitsCommits, IsAlone, MayBeDone, MayHaveCommitted, RollbackAnswered, account_in}
 use Rattle.txn_run.proofs.ServedOnce.{AreServedOnce, done_unrefused, history_once}
 use Rattle.txn_run.proofs.Stages.{CommitCame, IsAtEnd, Tells, stage_tells, stays_rolled}
 use Rattle.txn_run.proofs.Unlocked.{unlocked_never}
@@ -426,11 +427,18 @@ module _ {P Q K A B D : Type 0} (w : Ways P Q K A B D) (script : List Line) (rep
     bound : (parts : CommitParts) → allows_data t.status ≡ false → parts_of t.contents ≡ Some parts → FitsCommits script report x v
     bound parts closed is = elim (subst (λ (p : Plan). FitsAnswers p shown cells v) planned (fits plans are v)) [
       | inl a ↦ inl (a.0, λ n d c. let q = commits n d c in a.1 d (same_plan d q))
-      | inr b ↦ inr (b.0, record { parts = parts; wrote = sym (ap parts_of contents_are) ∙ is; whole = b.1; above = above b.0 b.3 }, (λ n d c. let q = commits n d c in b.2 d (same_plan d q)), may_have_committed parts closed is b.0 b.1)
+      | inr b ↦ inr (b.0, record { parts = parts; wrote = sym (ap parts_of contents_are) ∙ is; whole = b.1; above = above b.0 b.3; alone = alone b.0 b.1 }, (λ n d c. let q = commits n d c in b.2 d (same_plan d q)), may_have_committed parts closed is b.0 b.1)
     ]
       where
         planned : plans v ≡ plan_of parts
         planned = planned_so parts closed is
+
+        optimistic : IsOptimistic shown v
+        optimistic u r sent start = arisen.optimistic u r (seen_had h (Sent u (PessimisticLock r)) (subst (λ es. Has es (Sent u (PessimisticLock r))) (sym shows) sent)).0
+
+        alone : (c : ℕ) → IsWholeAt (plan_of parts) cells v c → IsAlone (plan_of parts) cells v c
+        alone c whole = subst (λ (p : Plan). IsAlone p cells v c) planned (subst (λ (st : Store). IsAlone (plans v) st.cells v c) (sym folds)
+            (law_between plans shown shown_run v c optimistic (subst (λ (st : Store). IsWholeAt (plans v) st.cells v c) folds (subst (λ (p : Plan). IsWholeAt p cells v c) (sym planned) whole))))
 
         above : (c : ℕ) → WasNamed (plan_of parts) shown v c → v < c
         above c named = law_above plans shown shown_run v c (subst (λ (p : Plan). WasNamed p shown v c) (sym planned) named)

@@ -1,9 +1,11 @@
 -- Each transaction of a script is whole at one commit timestamp, or no commit of it is in the store, as its commit lines and its
 -- rollback lines answered. Lines stand here with the newest first.
-use Rattle.std.specs.Prelude.{◌≡◌, ◌⊎◌, ◌<◌, ⊤, ℕ, true, List, Some}
+use Rattle.std.specs.Prelude.{◌≡◌, ◌≢◌, ◌⊎◌, ◌<◌, ◌≤◌, ⊤, ℕ, true, List, Some}
 use Rattle.txn_commit.specs.Parts.{parts_of}
 use Rattle.txn_commit.specs.Sending.{plan_of}
 use Rattle.txn_commit.specs.declared.commit_parts.CommitParts.{CommitParts}
+use Rattle.txn_history.specs.Among.{IsAmong}
+use Rattle.txn_history.specs.Plan.{Content, Key, Plan}
 use Rattle.txn_law.specs.Whole.{IsAbsent, IsWholeAt}
 use Rattle.txn_lines.specs.Lines.{line_at}
 use Rattle.txn_lines.specs.declared.begin_options.BeginOptions.{BeginOptions}
@@ -12,6 +14,9 @@ use Rattle.txn_lines.specs.declared.line.Line.TheVariants.{Begin, Commit, Rollba
 use Rattle.txn_machine.specs.Accounts.{account_of}
 use Rattle.txn_machine.specs.Causes.{ended_of}
 use Rattle.txn_machine.specs.Script.{outcome_of}
+use Rattle.txn_model.specs.Cells.{cell_at}
+use Rattle.txn_model.specs.declared.cell.Cell.{Cell}
+use Rattle.txn_model.specs.declared.cell.Write.{Write}
 use Rattle.txn_report.specs.declared.outcome.Outcome.{Outcome}
 use Rattle.txn_report.specs.declared.outcome.Outcome.TheVariants.{Ok, Err, Unfinished}
 use Rattle.txn_report.specs.declared.outcome.Payload.TheVariants.{Unit as Nothing, Number, Commit as CommittedAt}
@@ -45,13 +50,19 @@ RollbackAnswered script report x n = (line_at script n ≡ Some (Rollback x)) ×
 abbrev pub account_in : List Line → Report → ℕ → Account
 account_in script report x = account_of (λ n. outcome_of report.outcomes n) (λ n. ended_of report.ended n) script x
 
+-- no other start has a commit between s and c of a key that the plan writes
+abbrev pub IsAlone : Plan → List Cell → ℕ → ℕ → Type 0
+IsAlone plan cells s c = (k : Key) (x : Content) → plan.writes k ≡ Some x → (w : Write) → IsAmong (cell_at cells k).commits w → w.start ≢ s → (w.commit ≤ s) ⊎ (c < w.commit)
+
 -- The transaction of line x, which began at s, is whole at c, a later timestamp: its primary holds its commit there, each key that it wrote
--- holds what it wrote, committed at c or locked under the primary, and no other commit of s is anywhere.
+-- holds what it wrote, committed at c or locked under the primary, and no other commit of s is anywhere. No
+-- other transaction committed such a key meanwhile.
 pub record IsWhole (script : List Line) (report : Report) (x s c : ℕ) : Type 0 where
   pub parts : CommitParts
   pub wrote : parts_of (account_in script report x).contents ≡ Some parts
   pub whole : IsWholeAt (plan_of parts) report.store.cells s c
   pub above : s < c
+  pub alone : IsAlone (plan_of parts) report.store.cells s c
 
 -- No commit of it is in the store, and no commit line of it answered a timestamp. Or it is whole at one c, which each commit line that
 -- answered a timestamp answered, and some commit line of it answered one, has not ended, or failed with UndeterminedError.
