@@ -1,7 +1,7 @@
 -- From a history that clients can have arisen from to transactions that are whole.
 use Rattle.std.proofs.Common.{◌≡◌, ◌≢◌, inl, inr, zero, suc, ℕ, Bool, true, false, List, [], ◌∷◌, Option, Some, None, length, nat_eq, refl, sym, ap, ◌∙◌, subst, arith}
 use Rattle.std.proofs.lemmas.Bool.Decides.{nat_tests}
-use Rattle.std.specs.Prelude.{◌<◌, ◌+◌, if◌then◌else◌, is_some, Ok}
+use Rattle.std.specs.Prelude.{◌<◌, ◌+◌, if◌then◌else◌, is_some}
 use Rattle.txn_kv.specs.Timestamp.{version_of}
 use Rattle.txn_kv.specs.declared.request.Request.TheVariants.{Commit, PessimisticLock}
 use Rattle.txn_history.specs.Among.{IsAmong}
