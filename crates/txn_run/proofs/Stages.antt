@@ -1,4 +1,4 @@
--- How far a transaction has come tells of its commits, and it stays rolled back.
+-- How far a transaction has come tells of its commits, and once it is rolled back it stays so.
 use Rattle.std.proofs.Common.{◌≡◌, ◌≢◌, ℕ, suc, Bool, true, false, not, ◌&&◌, List, [], ◌∷◌, Option, Some, None, length, nat_eq, refl, sym, ap, ◌∙◌, subst, arith}
 use Rattle.std.proofs.lemmas.Bool.Decides.{nat_tests}
 use Rattle.std.specs.Prelude.{⊤, ◌+◌, if◌then◌else◌}
@@ -41,7 +41,7 @@ module _ (seen : ℕ → Outcome) (ends : ℕ → ℕ) (x : ℕ) where
   Tells StartedRollback script = ⊤
   Tells RolledBack script = ⊤
 
-  -- no commit of it is done as an event is
+  -- no commit line of it has the outcome of an event
   abbrev pub AreAnswers : List Line → Type 0
   AreAnswers script = (n : ℕ) → line_at script n ≡ Some (lines.Commit x) → seen n ≢ Done
 
@@ -145,7 +145,7 @@ module _ (seen : ℕ → Outcome) (ends : ℕ → ℕ) (x : ℕ) where
   stage_tells [] answers = tt
   stage_tells (line ∷ before) answers = line_tells line before (stage_tells before (λ n there. answers n (there_still line before n (lines.Commit x) there))) answers
 
--- Once it is rolled back each act is refused, and it stays so.
+-- Once it is rolled back each act is refused, and it stays so
 
 forbidden : (act : Act) → allows act RolledBack ≡ false
 forbidden (acts.Put key value) = refl
@@ -170,7 +170,7 @@ line_stays (Some ask) n x o e a is = by (is_asked ask x o)
     by true = act_stays ask.act (nat_eq e n) o a is
     by false = is
 
--- so it is by a rollback of it that answered ok
+-- a rollback of it that answered ok was not refused
 line_rolls : (x n : ℕ) (o : Outcome) (e : ℕ) (a : Account) → o ≡ Ok Nothing → (is_skipped o ≡ false → AnswersIn n acts.Rollback (refusal acts.Rollback a) o e) → (after_line (ask_of (lines.Rollback x)) n x o e a).status ≡ RolledBack
 line_rolls x n o e a is meets =
     ap (λ (b : Bool). (if b then after_act acts.Rollback (nat_eq e n) o a else a).status) asked
@@ -189,6 +189,7 @@ line_rolls x n o e a is meets =
     by None k = refl
     by (Some why) k = absurd (let no = sym is ∙ k.0 in cc)
 
+-- So after a rollback that answered ok it is rolled back.
 pub stays_rolled : (outs : List Outcome) (ended : List ℕ) (script : List Line) (x n : ℕ) → AllAccountsMeet outs ended script → line_at script n ≡ Some (lines.Rollback x) → outcome_of outs n ≡ Ok Nothing
     → (account_of (λ m. outcome_of outs m) (λ m. ended_of ended m) script x).status ≡ RolledBack
 stays_rolled outs ended [] x n all there answered = absurd (cc)

@@ -456,7 +456,7 @@ module _ {P Q K A B D : Type 0} (w : Ways P Q K A B D) (script : List Line) (rep
         by false e None f = unbound (λ parts closed is. none_some parts (sym f ∙ is))
         by false e (Some parts) f = bound parts e f
 
-    -- one that is rolled back is not there
+    -- no commit is there of one that is rolled back
     rolled_back : (n : ℕ) → RollbackAnswered script report x n → IsAbsent cells v
     rolled_back n (there, answered) = elim fits_commits [
       | inl a ↦ a.0
