@@ -197,7 +197,7 @@ module _ {P Q K : Type 0} where
       where
         no : Asking d b ≡ HasBegun c m → ⊥
         no f = cc
-    rest_row n c m rows news o p h (row.Begun d t i) e rests x = (x.0, rest_fits t o p h rests x.1)
+    rest_row n c m rows news o p h (row.Begun d t i) e rests x = (x.0, rest_fits t o p h rests x.1, x.2)
     rest_row n c m rows news o p h (row.Calling d y b) e rests x = tt
     rest_row n c m rows news o p h (row.Past d) e rests x = tt
     rest_row n c m rows news o p h (row.Working d job) e rests x = absurd (cc)

@@ -214,7 +214,7 @@ module _ {P Q K A B D : Type 0} (w : Ways P Q K A B D) (p : IsLawful w.prewritin
 
   -- it locked nothing
   gives_unlocked : (old new : Standing P Q K) (h : List Event) → TransactionGives w old.start old.contents new.commits h (Ok (answer.Committed None None)) → locks_nothing old.contents ≡ true
-  gives_unlocked old new h (inl (parts, whole, unlocked, prewritten)) = ap lock_nothing whole ∙ ap not unlocked
+  gives_unlocked old new h (inl (parts, whole, stands)) = ap lock_nothing whole ∙ ap not stands.0
   gives_unlocked old new h (inr (none, nothing)) = ap lock_nothing none
 
   pub stand_unlocks : (d n : ℕ) (old new : Standing P Q K) (from to : Posted) (h : List Event) → KeepsPlan old new from to → allows_data new.status ≡ false → TransactionGives w old.start old.contents new.commits h (Ok (answer.Committed None None)) → IsCommittedUnlocked {P = P} {Q = Q} {K = K} (row.Begun d new n)

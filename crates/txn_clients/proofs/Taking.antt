@@ -453,7 +453,7 @@ module _ {P Q K : Type 0} where
       → (is_open old.work ≡ true → turn ≡ Waits → is_open new.work ≡ true) → turn ≡ Waits → stage_of new ≡ stage_of old
   waits_so old new turn status gives deaf busy waits = by old.work refl
     where
-      no : Waits ≡ Stopped → ⊥
+      no : ◌≡◌ {A = Turn (Result (TxnAnswer Q) Error)} Waits Stopped → ⊥
       no q = cc
 
       by : (work : Work P Q K) → old.work ≡ work → stage_of new ≡ stage_of old

@@ -1,6 +1,6 @@
 -- What clients can have arisen from: one history of a whole run, in which each request that they posted is licensed. It has what a run
 -- shows, and the sleeps that began, the asks for timestamps and their answers between.
-use Rattle.std.specs.Prelude.{IfSome, ◌≡◌, ◌≢◌, ◌⊎◌, ⊤, ℕ, Bool, false, List, [], ◌∷◌, ◌++◌, ◌-◌, map, Option, Some, None, Result, Ok, slice_set}
+use Rattle.std.specs.Prelude.{IfSome, ◌≡◌, ◌≢◌, ◌⊎◌, ⊤, ℕ, Bool, true, false, List, [], ◌∷◌, ◌++◌, ◌-◌, map, Option, Some, None, Result, Ok, slice_set}
 use Rattle.std.proofs.Common.{suc, zero}
 use Rattle.std.specs.List.{All}
 use Rattle.txn_kv.specs.Timestamp.{version_of}

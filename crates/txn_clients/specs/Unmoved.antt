@@ -8,8 +8,6 @@ use Rattle.txn_law.specs.Run.{IsPossible}
 use Rattle.txn_model.specs.Store.{Store}
 use Rattle.txn_model.specs.Table.{table}
 use Rattle.txn_commit.specs.Committing.{Ways}
-use Rattle.txn_report.specs.declared.outcome.Outcome.TheVariants as outcomes
-use Rattle.txn_report.specs.declared.outcome.Payload.TheVariants as payloads
 use Rattle.txn_side.specs.Arising.{Arises, IsOutside}
 use Rattle.txn_side.specs.Sight.{Sight, nobody}
 use Rattle.txn_trace.specs.Answering.{OracleFits}
