@@ -29,8 +29,8 @@ use Rattle.txn_side.specs.Sight.Stand.{Asking, Calling, HasBegun, Idle, IsClient
 use Rattle.txn_side.specs.declared.act.Act.{Act}
 use Rattle.txn_side.specs.declared.act.Act.TheVariants as acts
 use Rattle.txn_side.specs.declared.turn.Ending.{Ending}
-use Rattle.txn_clients.specs.Accounts.{AccountTold, AccountsTold, AnswersAsk, AnswersNew, AnswersSo, AnswersTold, EndsAtOnce, HasHeard, HasTaken, RowTold, WantsNew, account_at, account_in, account_of, is_heard, outcome_by, outcome_in, status_of}
-use Rattle.txn_clients.specs.Closing.{Closes, ClosesIn, ComesTo, EndsBy, EndsCall, EndsOwn, GoesTold, HasComeTo, StandsAt, ends_so, status_by}
+use Rattle.txn_clients.specs.Accounts.{AccountTold, AccountsTold, AnswersAsk, AnswersNew, AnswersSo, AnswersTold, EndsAtOnce, HasHeard, HasTaken, RowTold, WantsNew, account_at, account_in, account_of, is_heard, outcome_by, outcome_in}
+use Rattle.txn_clients.specs.Closing.{Closes, ClosesIn, ComesTo, EndsBy, EndsCall, EndsOwn, GoesTold, HasComeTo, StandsAt, ends_so, stage_after}
 use Rattle.txn_clients.specs.Clients.{HearsFor, row_at, rows_of, stands_of}
 use Rattle.txn_clients.specs.Matching.{AreMatched, IsLine}
 use Rattle.txn_clients.specs.Waiting.{IsAnswerOf}
@@ -153,32 +153,21 @@ called_new P Q K Stopped = tt
 called_new P Q K Waits = tt
 called_new P Q K (Ends v) = tt
 
--- What a status comes to by an answer
+-- What a transaction comes to by an answer
 
-status_committed : {Q : Type 0} (v : Result (TxnAnswer Q) Error) → status_of (status_by true v) ≡ side.committed_by true (outcome_by true v)
-status_committed (Err e) = refl
-status_committed (Ok (answer.Committed (Some t) job)) = refl
-status_committed (Ok (answer.Committed None job)) = refl
-status_committed (Ok answer.Unit) = refl
-status_committed (Ok (answer.Value x)) = refl
-status_committed (Ok (answer.Exists b)) = refl
-status_committed (Ok (answer.Pairs ps)) = refl
-status_committed (Ok (answer.Keys ks)) = refl
-status_committed (Ok (answer.Ttl n)) = refl
+stage_rolled : {Q : Type 0} (v : Result (TxnAnswer Q) Error) (s : side.Status) → stage_after false v ≡ side.rolled_by false s (outcome_by false v)
+stage_rolled (Err e) s = refl
+stage_rolled (Ok (answer.Committed t job)) s = refl
+stage_rolled (Ok answer.Unit) s = refl
+stage_rolled (Ok (answer.Value x)) s = refl
+stage_rolled (Ok (answer.Exists b)) s = refl
+stage_rolled (Ok (answer.Pairs ps)) s = refl
+stage_rolled (Ok (answer.Keys ks)) s = refl
+stage_rolled (Ok (answer.Ttl n)) s = refl
 
-status_rolled : {Q : Type 0} (v : Result (TxnAnswer Q) Error) (s : side.Status) → status_of (status_by false v) ≡ side.rolled_by false s (outcome_by false v)
-status_rolled (Err e) s = refl
-status_rolled (Ok (answer.Committed t job)) s = refl
-status_rolled (Ok answer.Unit) s = refl
-status_rolled (Ok (answer.Value x)) s = refl
-status_rolled (Ok (answer.Exists b)) s = refl
-status_rolled (Ok (answer.Pairs ps)) s = refl
-status_rolled (Ok (answer.Keys ks)) s = refl
-status_rolled (Ok (answer.Ttl n)) s = refl
-
-account_closed : {Q : Type 0} (b : Bool) (v : Result (TxnAnswer Q) Error) (old new : Account) → new.contents ≡ old.contents → new.status ≡ status_of (status_by b v) → new ≡ closed_by b (outcome_by b v) old
-account_closed true v old new c s = λ i. record { status = (s ∙ status_committed v) i; contents = c i }
-account_closed false v old new c s = λ i. record { status = (s ∙ status_rolled v old.status) i; contents = c i }
+account_closed : {Q : Type 0} (b : Bool) (v : Result (TxnAnswer Q) Error) (old new : Account) → new.contents ≡ old.contents → new.status ≡ stage_after b v → new ≡ closed_by b (outcome_by b v) old
+account_closed true v old new c s = λ i. record { status = s i; contents = c i }
+account_closed false v old new c s = λ i. record { status = (s ∙ stage_rolled v old.status) i; contents = c i }
 
 awaited_begun : (stand : Stand) (m : ℕ) → awaited_line stand ≡ m → (m ≡ 0 → ⊥) → (c : ℕ) × (stand ≡ HasBegun c m)
 awaited_begun Idle m e far = absurd (far (sym e))
@@ -336,7 +325,7 @@ module _ {P Q K : Type 0} where
   heard_account told a old new p o is e h = subst (λ t. AccountTold t o (account_of old) (account_of new)) (sym is) (subst (λ (x : Option (Answer P Q K)). AccountTold (tells.Heard a) x (account_of old) (account_of new)) (sym e) (by p h))
     where
       by : (p : Progress (TxnAnswer Q)) → IfKept (turn_of (Ok p)) (HasHeard old new (turn_of (Ok p))) → AccountTold {P = P} {Q = Q} {K = K} (tells.Heard a) (answer_in answers.Called (turn_of (Ok p))) (account_of old) (account_of new)
-      by Waiting h = λ i. record { status = status_of (h.waits refl i); contents = h.contents i }
+      by Waiting h = λ i. record { status = h.waits refl i; contents = h.contents i }
       by (Done v) h = h.contents
 
   -- How calls end.
@@ -414,8 +403,8 @@ module _ {P Q K : Type 0} where
   closes_so (tells.Heard a) stand v (row.Working c job) mid new e m h come = tt
   closes_so (tells.Heard a) stand v (row.Begun c t k) mid new e m h come = by stand mid e m (come refl)
     where
-      there : (b : Bool) (mid : Row P Q K) → stand_of mid ≡ HasBegun c k → account_in mid ≡ new → StandsAt (status_by b v) mid → new.status ≡ status_of (status_by b v)
-      there b (row.Begun d u n) e m s = ap (λ (a : Account). a.status) (sym m) ∙ ap status_of s
+      there : (b : Bool) (mid : Row P Q K) → stand_of mid ≡ HasBegun c k → account_in mid ≡ new → StandsAt (stage_after b v) mid → new.status ≡ stage_after b v
+      there b (row.Begun d u n) e m s = ap (λ (a : Account). a.status) (sym m) ∙ s
       there b row.Plain e m s = absurd (no e)
         where
           no : Idle ≡ HasBegun c k → ⊥

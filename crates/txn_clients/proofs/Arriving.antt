@@ -12,7 +12,7 @@ use Rattle.txn_commit.specs.Committing.{Ways}
 use Rattle.txn_commit.specs.Jobs.{JobFits}
 use Rattle.txn_commit.specs.Sending.{MaySendBehind, plan_of}
 use Rattle.txn_commit.specs.declared.secondary_job.SecondaryJob.{SecondaryJob}
-use Rattle.txn_core.specs.Going.{MaySendFor, TransactionFits, TransactionGives}
+use Rattle.txn_core.specs.Going.{MaySendFor, TransactionGives}
 use Rattle.txn_core.specs.Transaction.{Standing}
 use Rattle.txn_core.specs.declared.txn_answer.TxnAnswer.TheVariants as answer
 use Rattle.txn_client.specs.Calls.{IsAt}
@@ -29,7 +29,7 @@ use Rattle.txn_tso.specs.Oracle.{Answer as Answered_to}
 use Rattle.txn_clients.specs.Arising.{AnswerArises, Anyhow, Arisen, CallStands, CanCome, HandsAll, JobMoves, KeepsPlan, Leads, LeadsEnded, LeadsPushed, MovesRow, RowFits, RowMoves, StandFits, StandMoves, askers_of, heard_by, pends_answer, postings_of, told_of}
 use Rattle.txn_clients.specs.Clients.{nexts_of, row_at, rows_of, stands_of}
 use Rattle.txn_clients.specs.Failing.{outbox_of}
-use Rattle.txn_clients.specs.Growing.{drawn_grows, some_run}
+use Rattle.txn_clients.specs.Growing.{drawn_grows}
 use Rattle.txn_clients.specs.Matching.{IsLine}
 use Rattle.txn_clients.specs.Rows.{IsToldIn, Pd, Posts, stand_of}
 use Rattle.txn_clients.specs.Waiting.{Book, HandsOn, IsAnswerOf, IsNumberedTo, TellsRow, asks_of, blank, book_at, posted_at, voice, voice_at}
@@ -42,7 +42,7 @@ use Rattle.txn_clients.specs.declared.told.Told.{Told}
 use Rattle.txn_clients.specs.declared.told.Told.TheVariants as tells
 use Rattle.txn_clients.proofs.Grouping.{numbered_end}
 use Rattle.txn_clients.proofs.Leading.{Handed, Rises, drawn_told, hear_same, heard, known_of, leads_now, leads_weaker}
-use Rattle.txn_clients.proofs.Rising.{MayAsk, asking_rises, has_job, stand_commits, stand_rises, working_rises}
+use Rattle.txn_clients.proofs.Rising.{MayAsk, asking_rises, has_job, stand_commits, stand_rises, stand_unlocks, working_rises}
 use Rattle.txn_clients.proofs.Settling.{books_same, job_heard}
 use Rattle.txn_clients.proofs.Stands.{or_same}
 use Rattle.txn_clients.proofs.Tables.{stand_read}
@@ -112,13 +112,14 @@ module _ {P Q K A B D : Type 0} (w : Ways P Q K A B D) where
     no_job old new h job (inl (parts, whole, stands)) = stands
     no_job old new h job (inr (none, nothing)) = elim nothing [ inl e ↦ (cc) | inr e ↦ (cc) ]
 
-    stand_arises : (s : Clients P Q K) (askers : Ticket → List ℕ) (rest : List Answered_to) (line c d m n : ℕ) (old new : Standing P Q K) (from to : Posted) (later : List Event) (answer : Option (Answer P Q K)) → IfSome answer (IsAnswerOf (HasBegun c m)) → KeepsPlan old new from to → TransactionFits w new to later
-        → CallStands w old new answer later → Arisen w s askers rest later → AnswerArises w askers line (row.Begun d new n) answer later
-    stand_arises s askers rest line c d m n old new from to later None kind keeps fits stands a = tt
-    stand_arises s askers rest line c d m n old new from to later (Some (answers.Asked v)) kind keeps fits stands a = absurd kind
-    stand_arises s askers rest line c d m n old new from to later (Some (answers.Called (Ok (answer.Committed (Some t) job)))) kind keeps fits stands a = stand_commits w p q k _ d n old new from to later t job (some_run w s askers rest later a) keeps fits stands
-    stand_arises s askers rest line c d m n old new from to later (Some (answers.Called (Ok (answer.Committed None (Some job))))) kind keeps fits stands a = no_job old new later job stands
-    stand_arises s askers rest line c d m n old new from to later (Some (answers.Called v)) kind keeps fits stands a = tt
+    stand_arises : (askers : Ticket → List ℕ) (line c d m n : ℕ) (old new : Standing P Q K) (from to : Posted) (later : List Event) (answer : Option (Answer P Q K)) → IfSome answer (IsAnswerOf (HasBegun c m)) → KeepsPlan old new from to
+        → CallStands w old new answer later → AnswerArises w askers line (row.Begun d new n) answer later
+    stand_arises askers line c d m n old new from to later None kind keeps stands = tt
+    stand_arises askers line c d m n old new from to later (Some (answers.Asked v)) kind keeps stands = absurd kind
+    stand_arises askers line c d m n old new from to later (Some (answers.Called (Ok (answer.Committed (Some t) job)))) kind keeps stands = stand_commits w p q k d n old new from to later t job keeps stands.0 stands.1
+    stand_arises askers line c d m n old new from to later (Some (answers.Called (Ok (answer.Committed None (Some job))))) kind keeps stands = no_job old new later job stands.1
+    stand_arises askers line c d m n old new from to later (Some (answers.Called (Ok (answer.Committed None None)))) kind keeps stands = stand_unlocks w p q k d n old new from to later keeps stands.0 stands.1
+    stand_arises askers line c d m n old new from to later (Some (answers.Called v)) kind keeps stands = tt
 
     module _ (s t : Clients P Q K) (told : Told) (line client at : ℕ) (to : Posted) (said : Option (Answer P Q K)) (ps qs : List Posting) (es fs : List Ending) (inside : at < length (rows_of s)) (is : IsLine (stands_of (rows_of s)) line)
         (posted : qs ≡ ps ++ postings_of line to.sends) (ended : fs ≡ es) (stamped : IfSome said (IsToldIn told))
@@ -173,7 +174,7 @@ module _ {P Q K A B D : Type 0} (w : Ways P Q K A B D) where
           let fits = subst (λ xs. StandFits w new to (after line false hear xs)) (sym x.pushed) (x.still h was) in
           led (row.Begun d new n) handed (voices_of (row.Begun c old m) (row.Begun d new n) at_old stand) (x.line, x.beat)
           (stand_rises w p q k (rows_of s) line at c d m n old new from to hear inside now.apart at_old refl moves.keeps (subst (λ xs. Licensed (MaySendFor old.contents (version_of old.start)) line false hear xs) (sym x.pushed) (x.licensed h was)) fits)
-          (λ y. stand_arises t askers rest line c d m n old new from to later said kind moves.keeps fits.1 (subst (λ xs. CallStands w old new said (after line false hear xs)) (sym x.pushed) (x.stands h was)) y)
+          (λ y. stand_arises askers line c d m n old new from to later said kind moves.keeps (subst (λ xs. CallStands w old new said (after line false hear xs)) (sym x.pushed) (x.stands h was)))
 
       led_working : (c d : ℕ) (old new : SecondaryJob Q) → row_at (rows_of s) at ≡ row.Working c old → JobMoves w.committing w.uncommitted told old new from to → stand_of {P = P} {Q = Q} {K = K} (row.Working d new) ≡ stand_of {P = P} {Q = Q} {K = K} (row.Working c old)
           → IfSome said (IsAnswerOf (Working c)) → Handed s t line client at (set (rows_of s) at (row.Working d new)) to → Goal

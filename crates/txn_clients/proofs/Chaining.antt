@@ -9,8 +9,6 @@ use Rattle.txn_history.specs.Event.{Event}
 use Rattle.txn_history.specs.Posted.{Within, Within-refl, Within-trans}
 use Rattle.txn_commit.specs.Committing.{Ways}
 use Rattle.txn_report.specs.declared.outcome.Outcome.{Outcome}
-use Rattle.txn_report.specs.declared.outcome.Outcome.TheVariants as outcomes
-use Rattle.txn_report.specs.declared.outcome.Payload.TheVariants as payloads
 use Rattle.txn_side.specs.Arising.{answered_at, with_posting, with_postings}
 use Rattle.txn_side.specs.Sight.{AskEnds, CallEnds, LineGoes, Stand, StaysOrEnds, outcomes_of, stand_at}
 use Rattle.txn_side.specs.Sight.Stand.{Asking, Calling, HasBegun, Idle, IsClient, Past, Working}
@@ -23,7 +21,6 @@ use Rattle.txn_clients.specs.Growing.{right_same}
 use Rattle.txn_clients.specs.Clients.{rows_of, stands_of}
 use Rattle.txn_clients.specs.declared.clients.Clients.{Clients}
 use Rattle.txn_clients.specs.declared.row.Row.{Row}
-use Rattle.txn_clients.specs.declared.row.Row.TheVariants as row
 use Rattle.txn_clients.proofs.Sights.{HasSettled, ask_settles, outcomes_append}
 
 -- What is posted, in two parts

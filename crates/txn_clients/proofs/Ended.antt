@@ -39,7 +39,7 @@ use Rattle.txn_trace.specs.Seeing.{seen}
 use Rattle.txn_trace.proofs.Drawn.{draw_given, draws_line}
 use Rattle.txn_tso.specs.Oracle.{Answer as Answered}
 use Rattle.txn_clients.specs.Accounts.{outcome_by}
-use Rattle.txn_clients.specs.Arising.{AnswerArises, Anyhow, Arisen, BeganAt, CallCame, HasPlan, HasStart, HavePlans, HoldsAt, HoldsOf, IsBehind, IsCommittedSo, KeepRight, Leads, LeadsEnded, RowFits, StandFits, heard_by, oracle_of, ticket_or}
+use Rattle.txn_clients.specs.Arising.{AnswerArises, Anyhow, Arisen, BeganAt, CallCame, HasPlan, HasStart, HavePlans, HoldsAt, HoldsOf, IsBehind, IsCommittedSo, IsCommittedUnlocked, KeepRight, Leads, LeadsEnded, RowFits, StandFits, heard_by, oracle_of, ticket_or}
 use Rattle.txn_clients.specs.Clients.{nexts_of, row_at, rows_of, stands_of}
 use Rattle.txn_clients.specs.Ended.{AskLeaves, CallLeaves}
 use Rattle.txn_clients.specs.Growing.{committed_grows, drawn_apart, plans_in, some_run, suc_same}
@@ -115,6 +115,10 @@ module _ {P Q K : Type 0} where
   unended_committed h v (row.Begun c t m) u x = u
   unended_committed h v r u x = x
 
+  unended_unlocked : (r : Row P Q K) → IsUnended r → IsCommittedUnlocked r → ⊥
+  unended_unlocked (row.Begun c t m) u x = u
+  unended_unlocked r u x = x
+
   pub unended_replaced : {A B D : Type 0} (w : Ways P Q K A B D) (askers : Ticket → List ℕ) (h : List Event) (at : ℕ) (old new : Row P Q K) → IsUnended old → ((v : ℕ) → HasStart v new → IsDrawn askers h (suc at) v) → Replaces w askers h at old new
   unended_replaced w askers h at old new u drawn = record {
     plan = λ plans x. unended_plan plans old u;
@@ -153,6 +157,7 @@ module _ {P Q K : Type 0} where
       };
       answerable = a.answerable;
       owned = λ u q has. let own = a.owned u q has in (own.0, subst (λ rs. HasStart q.start_version (row_at rs own.0)) (sym rows) (start_in own.0 q.start_version own.1));
+      optimistic = a.optimistic;
     }
       where
         new : List (Row P Q K)
@@ -192,7 +197,7 @@ module _ {P Q K : Type 0} where
       where
         no : Asking d b ≡ HasBegun c m → ⊥
         no f = cc
-    rest_row n c m rows news o p h (row.Begun d t i) e rests x = (x.0, rest_fits t o p h rests x.1)
+    rest_row n c m rows news o p h (row.Begun d t i) e rests x = (x.0, rest_fits t o p h rests x.1, x.2)
     rest_row n c m rows news o p h (row.Calling d y b) e rests x = tt
     rest_row n c m rows news o p h (row.Past d) e rests x = tt
     rest_row n c m rows news o p h (row.Working d job) e rests x = absurd (cc)
@@ -200,21 +205,22 @@ module _ {P Q K : Type 0} where
 -- What was right stays so
 
 module _ {P Q K : Type 0} where
-  right_by : (o : Outcome) (h longer : List Event) (old new : Row P Q K) → ((v : ℕ) → BeganAt v old → BeganAt v new) → ((v : ℕ) → IsCommittedSo h v old → IsCommittedSo longer v new) → HoldsOf h o old → HoldsOf longer o new
-  right_by (outcomes.Ok (payloads.Number v)) h longer old new f g x = f v x
-  right_by (outcomes.Ok (payloads.Commit (Some v))) h longer old new f g x = g v x
-  right_by o h longer old new f g x = tt
+  right_by : (o : Outcome) (h longer : List Event) (old new : Row P Q K) → ((v : ℕ) → BeganAt v old → BeganAt v new) → ((v : ℕ) → IsCommittedSo h v old → IsCommittedSo longer v new) → (IsCommittedUnlocked old → IsCommittedUnlocked new) → HoldsOf h o old → HoldsOf longer o new
+  right_by (outcomes.Ok (payloads.Number v)) h longer old new f g u x = f v x
+  right_by (outcomes.Ok (payloads.Commit (Some v))) h longer old new f g u x = g v x
+  right_by (outcomes.Ok (payloads.Commit None)) h longer old new f g u x = u x
+  right_by o h longer old new f g u x = tt
 
-  pub right_set : (rows : List (Row P Q K)) (at : ℕ) (r : Row P Q K) → at < length rows → ((v : ℕ) → BeganAt v (row_at rows at) → BeganAt v r) → ((h longer : List Event) (v : ℕ) → Within h longer → IsCommittedSo h v (row_at rows at) → IsCommittedSo longer v r) → KeepRight rows (set rows at r)
-  right_set rows at r h began committed zero o k longer within x = tt
-  right_set rows at r h began committed (suc i) o k longer within x =
+  pub right_set : (rows : List (Row P Q K)) (at : ℕ) (r : Row P Q K) → at < length rows → ((v : ℕ) → BeganAt v (row_at rows at) → BeganAt v r) → ((h longer : List Event) (v : ℕ) → Within h longer → IsCommittedSo h v (row_at rows at) → IsCommittedSo longer v r) → (IsCommittedUnlocked (row_at rows at) → IsCommittedUnlocked r) → KeepRight rows (set rows at r)
+  right_set rows at r h began committed unlocked zero o k longer within x = tt
+  right_set rows at r h began committed unlocked (suc i) o k longer within x =
       at_set (λ j y. HoldsOf k o (row_at rows j) → HoldsOf longer o y) rows at r h
-      (right_by o k longer (row_at rows at) r began (λ v. committed k longer v within))
-      (λ j apart. right_by o k longer (row_at rows j) (row_at rows j) (λ v y. y) (λ v. committed_grows k longer v (row_at rows j) within)) i x
+      (right_by o k longer (row_at rows at) r began (λ v. committed k longer v within) unlocked)
+      (λ j apart. right_by o k longer (row_at rows j) (row_at rows j) (λ v y. y) (λ v. committed_grows k longer v (row_at rows j) within) (λ y. y)) i x
 
   -- where nothing had ended
   pub right_unended : (rows : List (Row P Q K)) (at : ℕ) (r : Row P Q K) → at < length rows → IsUnended (row_at rows at) → KeepRight rows (set rows at r)
-  right_unended rows at r h u = right_set rows at r h (λ v x. absurd (unended_began v (row_at rows at) u x)) (λ k longer v within x. absurd (unended_committed k v (row_at rows at) u x))
+  right_unended rows at r h u = right_set rows at r h (λ v x. absurd (unended_began v (row_at rows at) u x)) (λ k longer v within x. absurd (unended_committed k v (row_at rows at) u x)) (λ x. absurd (unended_unlocked (row_at rows at) u x))
 
   waits_began : (n v : ℕ) (r : Row P Q K) → BeganAt v r → BeganAt v (with_waits n r)
   waits_began n v (row.Begun c t m) x = x
@@ -224,12 +230,16 @@ module _ {P Q K : Type 0} where
   waits_committed n h v (row.Begun c t m) x = x
   waits_committed n h v r x = x
 
+  waits_unlocked : (n : ℕ) (r : Row P Q K) → IsCommittedUnlocked r → IsCommittedUnlocked (with_waits n r)
+  waits_unlocked n (row.Begun c t m) x = x
+  waits_unlocked n r x = x
+
   waits_behind : {A B D : Type 0} (w : Ways P Q K A B D) (n : ℕ) (job : SecondaryJob Q) (o : Posted) (h : List Event) (r : Row P Q K) → IsBehind w job o h r → IsBehind w job o h (with_waits n r)
   waits_behind w n job o h (row.Begun c t m) x = x
   waits_behind w n job o h r x = x
 
   pub right_waits : (rows : List (Row P Q K)) (at n : ℕ) → at < length rows → KeepRight rows (set rows at (with_waits n (row_at rows at)))
-  right_waits rows at n h = right_set rows at (with_waits n (row_at rows at)) h (λ v. waits_began n v (row_at rows at)) (λ k longer v within x. waits_committed n longer v (row_at rows at) (committed_grows k longer v (row_at rows at) within x))
+  right_waits rows at n h = right_set rows at (with_waits n (row_at rows at)) h (λ v. waits_began n v (row_at rows at)) (λ k longer v within x. waits_committed n longer v (row_at rows at) (committed_grows k longer v (row_at rows at) within x)) (waits_unlocked n (row_at rows at))
 
   pub holds_line : (rows : List (Row P Q K)) (h : List Event) (line : ℕ) (o : Outcome) → 1 ≤ line → HoldsOf h o (row_at rows (line - 1)) → HoldsAt rows h line o
   holds_line rows h line o one x = subst (λ n. HoldsAt rows h n o) (hears_own line one) x
@@ -246,7 +256,7 @@ module _ {P Q K A B D : Type 0} (w : Ways P Q K A B D) where
   begun_leaves : (askers : Ticket → List ℕ) (h : List Event) (line c : ℕ) (b : Standing P Q K) (options : TransactionOptions) (now : ℕ) → b ≡ begun b.start options now → IsDrawn askers h line (version_of b.start) → IsUncommitted (version_of b.start) h → Leaves askers h line (row.Begun c b 0) (outcomes.Ok (payloads.Number (version_of b.start)))
   begun_leaves askers h line c b options now e drawn never = record {
     drawn = λ v same. subst (IsDrawn askers h line) same drawn;
-    fits = λ rows p. subst (λ (y : Standing P Q K). StandFits w y p h) (sym e) (none_ordered _, begun_fits w b.start options now p h (draw_given askers h line (version_of b.start) drawn) never);
+    fits = λ rows p. subst (λ (y : Standing P Q K). StandFits w y p h) (sym e) (none_ordered _, begun_fits w b.start options now p h (draw_given askers h line (version_of b.start) drawn) never, refl);
     right = refl;
   }
 
@@ -324,7 +334,8 @@ module _ {P Q K A B D : Type 0} (w : Ways P Q K A B D) where
   called_holds askers h line b (Err e) r came = tt
   called_holds askers h line true (Ok (answer.Committed (Some t) (Some job))) r came = came.0
   called_holds askers h line true (Ok (answer.Committed (Some t) None)) r came = came.0
-  called_holds askers h line true (Ok (answer.Committed None job)) r came = tt
+  called_holds askers h line true (Ok (answer.Committed None None)) r came = came
+  called_holds askers h line true (Ok (answer.Committed None (Some job))) r came = absurd came
   called_holds askers h line false (Ok (answer.Committed t job)) r came = tt
   called_holds askers h line true (Ok answer.Unit) r came = tt
   called_holds askers h line false (Ok answer.Unit) r came = tt
@@ -332,7 +343,7 @@ module _ {P Q K A B D : Type 0} (w : Ways P Q K A B D) where
   called_holds askers h line false (Ok v) r came = tt
 
   waits_holds : (n : ℕ) (h : List Event) (o : Outcome) (r : Row P Q K) → HoldsOf h o r → HoldsOf h o (with_waits n r)
-  waits_holds n h o r x = right_by o h h r (with_waits n r) (λ v. waits_began n v r) (λ v. waits_committed n h v r) x
+  waits_holds n h o r x = right_by o h h r (with_waits n r) (λ v. waits_began n v r) (λ v. waits_committed n h v r) (waits_unlocked n r) x
 
   -- the call of a transaction ends, which waits no more
   pub call_ends : (s m t : Clients P Q K) (line x c d : ℕ) (b : Bool) (r : Row P Q K) (o : Outcome) (v : Result (TxnAnswer Q) Error) (ps : List Posting) (es fs : List Ending) → IsLine (stands_of (rows_of s)) line → row_at (rows_of s) (line - 1) ≡ row.Calling c x b → stand_at (stands_of (rows_of s)) x ≡ HasBegun d line → Rests (row_at (rows_of s) (x - 1))

@@ -156,7 +156,7 @@ module _ {P Q K A B D : Type 0} (w : Ways P Q K A B D) where
     row_on rows o p h e row.Plain l beside f = tt
     row_on rows o p h e (row.Client c) l beside f = tt
     row_on rows o p h e (row.Asking c b call) l beside f = (called-lawful {C = Pd} {P = P} {Q = Q} {K = K}).fits_longer call o p h (e ∷ h) l (Within-one e h) f
-    row_on rows o p h e (row.Begun c t m) l beside f = (f.0, others_fit w prewriting committing rolling t o p h (e ∷ h) l (adds_event (version_of t.start) e h (beside (version_of t.start))) f.1)
+    row_on rows o p h e (row.Begun c t m) l beside f = (f.0, others_fit w prewriting committing rolling t o p h (e ∷ h) l (adds_event (version_of t.start) e h (beside (version_of t.start))) f.1, f.2)
     row_on rows o p h e (row.Calling c x b) l beside f = tt
     row_on rows o p h e (row.Past c) l beside f = tt
     row_on rows o p h e (row.Working c job) l beside f = (f.0, behind_on job o p h (e ∷ h) (row_at rows f.0) l (Within-one e h) f.1)
@@ -189,6 +189,7 @@ module _ {P Q K A B D : Type 0} (w : Ways P Q K A B D) where
       };
       answerable = f.answerable;
       owned = λ u r sent. let g = f.owned u r sent in (g.0, subst (λ rs. HasStart r.start_version (row_at rs g.0)) (sym rows) g.1);
+      optimistic = f.optimistic;
     }
 
     -- A request for timestamps is over: its reply was taken, or it was lost.
@@ -214,6 +215,7 @@ module _ {P Q K A B D : Type 0} (w : Ways P Q K A B D) where
         | inl same ↦ absurd (subst SendsNothing same sends)
         | inr was ↦ let g = f.owned u r was in (g.0, subst (λ rs. HasStart r.start_version (row_at rs g.0)) (sym rows) g.1)
       ];
+      optimistic = λ u r sent. elim sent [ inl same ↦ subst SendsNothing same sends | inr was ↦ f.optimistic u r was ];
     }
       where
         fits : (c : ℕ) → (c ≡ client) ⊎ (c ≢ client) → OracleFits (oracle_of (book_at t c)) (ticket_or (book_at t c).ticket) (e ∷ h)
@@ -315,6 +317,7 @@ module _ {P Q K A B D : Type 0} (w : Ways P Q K A B D) where
         | inl same ↦ absurd (cc)
         | inr was ↦ let g = f.owned u r was in (g.0, subst (λ rs. HasStart r.start_version (row_at rs g.0)) (sym rows) g.1)
       ];
+      optimistic = λ u r sent. elim sent [ inl same ↦ cc | inr was ↦ f.optimistic u r was ];
     }
       where
         unused : IsUnused h ticket

@@ -1,5 +1,5 @@
 -- What stands at a place is told of something: what that makes of the history of the whole run.
-use Rattle.std.proofs.Common.{◌≡◌, ◌≢◌, ◌⊎◌, inl, inr, ℕ, suc, ◌+◌, ◌-◌, ◌<◌, ◌≤◌, false, List, [], ◌∷◌, ◌++◌, length, set, refl, sym, ap, ◌∙◌, subst, subst₂, arith, append-nil}
+use Rattle.std.proofs.Common.{◌≡◌, ◌≢◌, ◌⊎◌, inl, inr, ℕ, suc, ◌-◌, ◌<◌, ◌≤◌, Bool, false, List, [], ◌∷◌, ◌++◌, length, set, refl, sym, ap, ◌∙◌, subst, subst₂, arith, append-nil}
 use Rattle.std.proofs.lemmas.List.{length-map}
 use Rattle.std.proofs.lemmas.List.Elements.{All-nil}
 use Rattle.std.specs.Prelude.{Ok, Err}
@@ -8,7 +8,8 @@ use Rattle.txn_kv.specs.declared.outbox.Errand.TheVariants.{Ask, Send, Sleep}
 use Rattle.txn_kv.specs.declared.reply.Reply.{Reply}
 use Rattle.txn_kv.specs.declared.request.CommitRequest.{CommitRequest}
 use Rattle.txn_kv.specs.declared.request.Request.{Request}
-use Rattle.txn_kv.specs.declared.request.Request.TheVariants.{Commit, UnsafeDestroyRange}
+use Rattle.txn_kv.specs.declared.request.PessimisticLockRequest.{PessimisticLockRequest}
+use Rattle.txn_kv.specs.declared.request.Request.TheVariants.{Commit, PessimisticLock, UnsafeDestroyRange}
 use Rattle.txn_kv.specs.declared.ticket.Ticket.{Ticket}
 use Rattle.txn_history.specs.Among.{IsAmong}
 use Rattle.txn_history.specs.Event.{Event, Has}
@@ -17,7 +18,7 @@ use Rattle.txn_history.specs.Later.{IsLater, numbers_rise}
 use Rattle.txn_history.specs.Licence.{IsLicensed}
 use Rattle.txn_history.specs.Meaning.{IsLawful, IsSent}
 use Rattle.txn_history.specs.Plan.{Plan}
-use Rattle.txn_history.specs.Posted.{AreNumbered, Errand, Licensed, Posted, Within, Within-after, Within-refl, Within-trans, after, ticket_of}
+use Rattle.txn_history.specs.Posted.{AreNumbered, Errand, Licensed, Posted, Within, Within-after, Within-refl, Within-trans, after, posting, ticket_of}
 use Rattle.txn_law.specs.Run.{IsCovered, IsPossible, IsRun}
 use Rattle.txn_law.proofs.Tickets.{sent_once}
 use Rattle.txn_plan.specs.declared.arrival.Arrival.TheVariants as arrivals
@@ -112,6 +113,23 @@ covered plan s h r m = tt
 pub may_transact : (plans : ℕ → Plan) (plan : Plan) (s : ℕ) (h : List Event) (r : Request) → plans s ≡ plan → MaySend plan s h r → IsLicensedInRun plans h r
 may_transact plans plan s h r e m = transacting plans s h r (subst (λ x. MaySend x s h r) (sym e) m, covered plan s h r m)
 
+-- none of what may be posted is a pessimistic lock, so none is new
+pub locks_before : (may : List Event → Request → Type 0) → ((k : List Event) (r : PessimisticLockRequest) → may k (PessimisticLock r) → ⊥)
+    → (line : ℕ) (beat : Bool) (h : List Event) (sends : List Errand) → Licensed may line beat h sends → (t : Ticket) (r : PessimisticLockRequest) → Has (after line beat h sends) (Sent t (PessimisticLock r)) → Has h (Sent t (PessimisticLock r))
+locks_before may never line beat h [] l t r i = i
+locks_before may never line beat h (Send n to q ∷ rest) l t r i = elim (locks_before may never line beat (posting line beat (Send n to q) ∷ h) rest l.1 t r i) [
+  | inl e ↦ absurd (never h r (let same : q ≡ PessimisticLock r = cc in subst (may h) same l.0))
+  | inr was ↦ was
+]
+locks_before may never line beat h (Sleep n ms ∷ rest) l t r i = elim (locks_before may never line beat (posting line beat (Sleep n ms) ∷ h) rest l.1 t r i) [
+  | inl e ↦ absurd (cc)
+  | inr was ↦ was
+]
+locks_before may never line beat h (Ask n ∷ rest) l t r i = elim (locks_before may never line beat (posting line beat (Ask n) ∷ h) rest l.1 t r i) [
+  | inl e ↦ absurd (cc)
+  | inr was ↦ was
+]
+
 pub may_ask : (plans : ℕ → Plan) (h : List Event) (r : Request) → r ≡ members → IsLicensedInRun plans h r
 may_ask plans h r e run = subst (λ x. IsCovered x × IsLicensed plans h x) (sym e) (tt, tt)
 
@@ -186,6 +204,7 @@ pub record Rises {P Q K A B D : Type 0} (w : Ways P Q K A B D) (olds : List (Row
   pub fits : (later : Posted) → IsLater to later → RowFits w (set olds at new) later (after line false h to.sends) new
   pub others : (i : ℕ) → i ≢ at → (o later : Posted) → IsLater o later → RowFits w olds o h (row_at olds i) → RowFits w olds later (after line false h to.sends) (row_at olds i)
   pub owns : (t : Ticket) (r : CommitRequest) → Has (after line false h to.sends) (Sent t (Commit r)) → Has h (Sent t (Commit r)) ⊎ ((i : ℕ) × HasStart r.start_version (row_at (set olds at new) i))
+  pub locks : (t : Ticket) (r : PessimisticLockRequest) → Has (after line false h to.sends) (Sent t (PessimisticLock r)) → Has h (Sent t (PessimisticLock r))
 
 module _ {P Q K A B D : Type 0} (w : Ways P Q K A B D) (olds : List (Row P Q K)) (line at : ℕ) (new : Row P Q K) (to : Posted) (h : List Event) (inside : at < length olds) (rises : Rises w olds line at new to h) where
   abbrev news : List (Row P Q K)
@@ -317,6 +336,7 @@ module _ {P Q K A B D : Type 0} (w : Ways P Q K A B D) (s t : Clients P Q K) (li
       | inl j ↦ (let o = a.owned u r j in (o.0, now o.0 r.start_version (start_now w (rows_of s) line at new to h inside rises o.0 r.start_version o.1)))
       | inr o ↦ (o.0, now o.0 r.start_version o.1)
     ];
+    optimistic = λ u r i. a.optimistic u r (rises.locks u r i);
     apart = λ i j v b d. a.apart i j v (began i v b) (began j v d);
   }
     where

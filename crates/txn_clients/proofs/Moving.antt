@@ -7,8 +7,9 @@ use Rattle.txn_kv.specs.declared.request.Request.{Request}
 use Rattle.txn_kv.specs.declared.ticket.Ticket.{Ticket}
 use Rattle.txn_history.specs.Event.{Event}
 use Rattle.txn_history.specs.Moves.{Moves}
+use Rattle.txn_history.specs.Phase.{phase_after}
 use Rattle.txn_history.specs.Posted.{Posted}
-use Rattle.txn_history.specs.Turn.{IfEnds, IfEnds-weaker, IfKept, IfKept-all, IfKept-out, IfKept-stopped, Turn}
+use Rattle.txn_history.specs.Turn.{IfEnds, IfEnds-weaker, IfKept, IfKept-all, IfKept-out, IfKept-stopped, IfKept-weaker, Turn}
 use Rattle.txn_history.specs.Turn.Turn.{Stopped, Waits, Ends}
 use Rattle.txn_plan.specs.Arrivals.{told_by}
 use Rattle.txn_plan.specs.declared.arrival.Arrival.{Arrival}
@@ -19,10 +20,11 @@ use Rattle.txn_commit.specs.Parts.{parts_of}
 use Rattle.txn_core.specs.Going.{IsUndetermined, MaySendFor, TransactionFits, TransactionGives, TransactionMoves}
 use Rattle.txn_core.specs.Status.{after_commit, allows_commit, allows_data, allows_rollback, status_step}
 use Rattle.txn_core.specs.Status.Became.{commits}
-use Rattle.txn_core.specs.Transaction.{GivesUp, IsOrdered, IsRefused, Standing, WriteEnds, commit_outcome, is_open, is_waiting, moved_by, rolled_status}
+use Rattle.txn_core.specs.Transaction.{GivesUp, IsOrdered, IsRefused, Standing, WriteEnds, commit_outcome, has_given_up, is_open, is_waiting, moved_by, rolled_status}
+use Rattle.txn_core.specs.Waiting.{Opens, TransactionGoes, work_phase}
 use Rattle.txn_core.specs.declared.status.Status.TheVariants as statuses
 use Rattle.txn_core.specs.declared.transaction.Work.{Work}
-use Rattle.txn_core.specs.declared.transaction.Work.TheVariants.{Idle, GaveUp}
+use Rattle.txn_core.specs.declared.transaction.Work.TheVariants.{Idle, Open, GaveUp}
 use Rattle.txn_core.specs.declared.txn_answer.TxnAnswer.{TxnAnswer}
 use Rattle.txn_core.specs.declared.txn_answer.TxnAnswer.TheVariants as answer
 use Rattle.txn_core.proofs.Ordered.{written_fits}
@@ -65,6 +67,12 @@ moved_quiet {from = from} e still stands = record {
   stands = stands;
 }
 
+-- what holds anyhow holds once it has ended
+ends_all : {X G : Type 0} (turn : Turn X) → G → IfEnds turn (λ v. G)
+ends_all Stopped g = tt
+ends_all Waits g = tt
+ends_all (Ends v) g = g
+
 -- Plans
 
 module _ {P Q K : Type 0} where
@@ -98,14 +106,32 @@ module _ {P Q K : Type 0} where
     quiet = inl quiet;
   }
 
+  -- Once a call of it has ended, it is written no more.
+
+  off_commit : (old new : Standing P Q K) (turn : Turn (Result (TxnAnswer Q) Error)) → is_open old.work ≡ false → allows_commit old.status ≡ true
+      → (old.work ≡ Idle → new.status ≡ status_step old.status (commits (commit_outcome turn) (is_some (parts_of old.contents)))) → GivesUp old new turn → IfKept turn (allows_data new.status ≡ false)
+  off_commit old new turn idle may status gives = begins old new turn idle gives (λ e.
+      let has = is_some (parts_of old.contents) in
+      ap allows_data (status e ∙ ap (λ (b : Bool). if b then after_commit (commit_outcome turn) has else old.status) may) ∙ commit_off (commit_outcome turn) has)
+
+  off_rollback : (old new : Standing P Q K) (turn : Turn (Result (TxnAnswer Q) Error)) → is_open old.work ≡ false → allows_rollback old.status ≡ true → undetermined old.commits ≡ None
+      → (old.work ≡ Idle → new.status ≡ rolled_status old.status (is_some (undetermined old.commits)) turn) → GivesUp old new turn → IfKept turn (allows_data new.status ≡ false)
+  off_rollback old new turn idle may known status gives = begins old new turn idle gives (λ i.
+      ap allows_data (status i ∙ ap (λ (u : Option Ticket). rolled_status old.status (is_some u) turn) known ∙ ap (λ (b : Bool). if b then moved_by statuses.StartedRollback turn else old.status) may)
+      ∙ moved_off statuses.StartedRollback turn refl)
+
+  off_heard : (old new : Standing P Q K) (turn : Turn (Result (TxnAnswer Q) Error)) → IsQuiet old → new.status ≡ moved_by old.status turn → GivesUp old new turn → (old.work ≡ Idle → turn ≡ Waits) → IfKept turn (IfEnds turn (λ v. allows_data new.status ≡ false))
+  off_heard old new turn quiet status gives deaf = elim (is_flag (allows_data old.status)) [
+    | inl on ↦ begins old new turn (quiet on).rests gives (λ e. subst (λ (t : Turn (Result (TxnAnswer Q) Error)). IfEnds t (λ v. allows_data new.status ≡ false)) (sym (deaf e)) tt)
+    | inr off ↦ IfKept-all turn (ends_all turn (ap allows_data status ∙ moved_off old.status turn off))
+  ]
+
   keeps_commit : (old new : Standing P Q K) (from to : Posted) (turn : Turn (Result (TxnAnswer Q) Error)) → is_open old.work ≡ false
       → (allows_commit old.status ≡ false → (new ≡ old) × (to ≡ from))
       → (old.work ≡ Idle → new.status ≡ status_step old.status (commits (commit_outcome turn) (is_some (parts_of old.contents))))
       → new.start ≡ old.start → new.contents ≡ old.contents → GivesUp old new turn → IfKept turn (KeepsPlan old new from to)
   keeps_commit old new from to turn idle refused status start contents gives = elim (is_flag (allows_commit old.status)) [
-    | inl may ↦ begins old new turn idle gives (λ e.
-        let has = is_some (parts_of old.contents) in
-        keeps_off old new from to start contents (ap allows_data (status e ∙ ap (λ (b : Bool). if b then after_commit (commit_outcome turn) has else old.status) may) ∙ commit_off (commit_outcome turn) has))
+    | inl may ↦ IfKept-weaker turn (λ off. keeps_off old new from to start contents off) (off_commit old new turn idle may status gives)
     | inr bars ↦ let r = refused bars in IfKept-all turn (keeps_same old new from to r.0 r.1)
   ]
 
@@ -121,9 +147,7 @@ module _ {P Q K : Type 0} where
     where
       by : allows_rollback old.status ≡ true → (o : Option Ticket) → undetermined old.commits ≡ o → IfKept turn (KeepsPlan old new from to)
       by may (Some t) e = let u = unknown t may e in IfKept-all turn (keeps_rest old new from to start (ap (λ (x : Standing P Q K). x.status) u.0) contents u.1)
-      by may None e = begins old new turn idle gives (λ i.
-          let is : new.status ≡ moved_by statuses.StartedRollback turn = status i ∙ ap (λ (u : Option Ticket). rolled_status old.status (is_some u) turn) e ∙ ap (λ (b : Bool). if b then moved_by statuses.StartedRollback turn else old.status) may in
-          keeps_off old new from to start contents (ap allows_data is ∙ moved_off statuses.StartedRollback turn refl))
+      by may None e = IfKept-weaker turn (λ off. keeps_off old new from to start contents off) (off_rollback old new turn idle may e status gives)
 
   keeps_heard : (old new : Standing P Q K) (from to : Posted) (turn : Turn (Result (TxnAnswer Q) Error)) → IsQuiet old → new.status ≡ moved_by old.status turn
       → new.start ≡ old.start → new.contents ≡ old.contents → GivesUp old new turn → (old.work ≡ Idle → (turn ≡ Waits) × (new ≡ old) × (to ≡ from)) → IfKept turn (KeepsPlan old new from to)
@@ -136,17 +160,17 @@ module _ {P Q K : Type 0} where
 
 module _ {P Q K A B D : Type 0} (w : Ways P Q K A B D) where
   -- what it answers stands on what the call gives
-  call_stands : (old new : Standing P Q K) (h : List Event) (turn : Turn (Result (TxnAnswer Q) Error)) → IfEnds turn (λ v. TransactionGives w old.start old.contents new.commits h v) → CallStands w old new (answer_in answers.Called turn) h
-  call_stands old new h Stopped g = tt
-  call_stands old new h Waits g = tt
-  call_stands old new h (Ends (Err e)) g = tt
-  call_stands old new h (Ends (Ok (answer.Committed t job))) g = g
-  call_stands old new h (Ends (Ok answer.Unit)) g = tt
-  call_stands old new h (Ends (Ok (answer.Value v))) g = tt
-  call_stands old new h (Ends (Ok (answer.Exists b))) g = tt
-  call_stands old new h (Ends (Ok (answer.Pairs ps))) g = tt
-  call_stands old new h (Ends (Ok (answer.Keys ks))) g = tt
-  call_stands old new h (Ends (Ok (answer.Ttl n))) g = tt
+  call_stands : (old new : Standing P Q K) (h : List Event) (turn : Turn (Result (TxnAnswer Q) Error)) → IfEnds turn (λ v. allows_data new.status ≡ false) → IfEnds turn (λ v. TransactionGives w old.start old.contents new.commits h v) → CallStands w old new (answer_in answers.Called turn) h
+  call_stands old new h Stopped off g = tt
+  call_stands old new h Waits off g = tt
+  call_stands old new h (Ends (Err e)) off g = tt
+  call_stands old new h (Ends (Ok (answer.Committed t job))) off g = (off, g)
+  call_stands old new h (Ends (Ok answer.Unit)) off g = tt
+  call_stands old new h (Ends (Ok (answer.Value v))) off g = tt
+  call_stands old new h (Ends (Ok (answer.Exists b))) off g = tt
+  call_stands old new h (Ends (Ok (answer.Pairs ps))) off g = tt
+  call_stands old new h (Ends (Ok (answer.Keys ks))) off g = tt
+  call_stands old new h (Ends (Ok (answer.Ttl n))) off g = tt
 
   -- and nothing is said of an error
   error_stands : (old new : Standing P Q K) (h : List Event) (v : Result (TxnAnswer Q) Error) (e : Error) → v ≡ Err e → CallStands w old new (Some (answers.Called v)) h
@@ -166,18 +190,38 @@ module _ {P Q K A B D : Type 0} (w : Ways P Q K A B D) where
   stand_same : (old new : Standing P Q K) (from to : Posted) (h : List Event) → new ≡ old → to ≡ from → StandFits w old from h → StandFits w new to h
   stand_same old new from to h e f x = subst (λ (t : Standing P Q K). StandFits w t to h) (sym e) (subst (λ (o : Posted). StandFits w old o h) (sym f) x)
 
+  -- While there is memory it does not give up.
+
+  opened_lives : (work : Work P Q K) (turn : Turn (Result (TxnAnswer Q) Error)) → turn ≢ Stopped → work_phase w work ≡ phase_after turn → has_given_up work ≡ false
+  opened_lives Idle turn alive next = refl
+  opened_lives (Open call) turn alive next = refl
+  opened_lives GaveUp Stopped alive next = absurd (alive refl)
+  opened_lives GaveUp Waits alive next = absurd (cc)
+  opened_lives GaveUp (Ends v) alive next = absurd (cc)
+
+  heard_lives : {C : Type 0} (meant : Type 0) (old new : Standing P Q K) (from to : Posted) (pd pd' : C) (turn : Turn (Result (TxnAnswer Q) Error)) → turn ≢ Stopped
+      → TransactionGoes w meant (record old { commits = new.commits }) new from to pd pd' turn → has_given_up old.work ≡ false → has_given_up new.work ≡ false
+  heard_lives meant old new from to pd pd' turn alive goes lives = by new.work refl
+    where
+      by : (work : Work P Q K) → new.work ≡ work → has_given_up work ≡ false
+      by Idle e = refl
+      by (Open call) e = refl
+      by GaveUp e =
+          let never : meant → ⊥ = λ m. let up = opened_lives new.work turn alive (goes.next m) in absurd (let no = sym (ap has_given_up e) ∙ up in cc) in
+          ap has_given_up (sym e ∙ ap (λ (t : Standing P Q K). t.work) (goes.state never)) ∙ lives
+
   -- it goes on, in a history of which so much is known
-  stand_moved : (known : List Event → Type 0) (hear : List Event → List Event) (old new : Standing P Q K) (from to : Posted) (turn : Turn (Result (TxnAnswer Q) Error)) → turn ≢ Stopped → new.contents ≡ old.contents → TransactionMoves w known hear old new from to turn
+  stand_moved : (known : List Event → Type 0) (hear : List Event → List Event) (old new : Standing P Q K) (from to : Posted) (turn : Turn (Result (TxnAnswer Q) Error)) → turn ≢ Stopped → (has_given_up old.work ≡ false → has_given_up new.work ≡ false) → new.contents ≡ old.contents → IfEnds turn (λ v. allows_data new.status ≡ false) → TransactionMoves w known hear old new from to turn
       → Moved (MaySendFor old.contents (version_of old.start)) (λ h. StandFits w old from h × known h) (λ h. StandFits w new to h) (λ h. CallStands w old new (answer_in answers.Called turn) h) hear from to
-  stand_moved known hear old new from to turn kept same m = record {
+  stand_moved known hear old new from to turn kept lives same off m = record {
     sends = m.sends;
     pushed = m.pushed;
     line = m.line;
     beat = m.beat;
     numbered = m.numbered;
     licensed = λ h x. m.licensed h (x.0.1, x.1);
-    still = λ h x. (subst IsOrdered (sym same) x.0.0, IfKept-out turn kept m.still h (x.0.1, x.1));
-    stands = λ h x. call_stands old new _ turn (IfEnds-weaker turn (λ v g. g h (x.0.1, x.1)) m.done);
+    still = λ h x. (subst IsOrdered (sym same) x.0.0, IfKept-out turn kept m.still h (x.0.1, x.1), lives x.0.2);
+    stands = λ h x. call_stands old new _ turn off (IfEnds-weaker turn (λ v g. g h (x.0.1, x.1)) m.done);
   }
 
   -- It is asked for something.
@@ -194,7 +238,7 @@ module _ {P Q K A B D : Type 0} (w : Ways P Q K A B D) where
   written_stands : (old new : Standing P Q K) (contents : Contents) (from to : Posted) (h : List Event) → new ≡ record old { contents = contents } → allows_data old.status ≡ true → old.work ≡ Idle → (IsOrdered old.contents → IsOrdered contents) → to ≡ from → StandFits w old from h → StandFits w new to h
   written_stands old new contents from to h e on idle keeps quiet x =
       let now = keeps x.0 in
-      subst (λ (t : Standing P Q K). StandFits w t to h) (sym e) (now, written_fits w old contents to h on idle now (subst (λ (o : Posted). TransactionFits w old o h) (sym quiet) x.1))
+      subst (λ (t : Standing P Q K). StandFits w t to h) (sym e) (now, written_fits w old contents to h on idle now (subst (λ (o : Posted). TransactionFits w old o h) (sym quiet) x.1), x.2)
 
   writes_so : (act : Act) (refusal : Option Error) (wrote : Contents → Contents → Type 0) (old new : Standing P Q K) (from to : Posted) (turn : Turn (Result (TxnAnswer Q) Error))
       → (refusal ≡ None → allows_data old.status ≡ true) → ((c d : Contents) → wrote c d → IsOrdered c → IsOrdered d) → WriteEnds refusal wrote old new turn → to ≡ from → old.work ≡ Idle
@@ -221,10 +265,10 @@ module _ {P Q K A B D : Type 0} (w : Ways P Q K A B D) where
       → (allows_commit old.status ≡ false → IsRefused e old new turn × (to ≡ from))
       → (allows_commit old.status ≡ true → TransactionMoves w (λ h. ⊤) (λ h. h) old new from to turn)
       → (old.work ≡ Idle → new.status ≡ status_step old.status (commits (commit_outcome turn) (is_some (parts_of old.contents))))
-      → new ≡ record old { status = new.status; commits = new.commits; work = new.work; width = new.width } → GivesUp old new turn
+      → new ≡ record old { status = new.status; commits = new.commits; work = new.work; width = new.width } → GivesUp old new turn → Opens w new from to turn
       → IfKept turn (StandMoves w (tells.Act act) old new from to (answer_in answers.Called turn))
-  commits_move act e old new from to turn idle refused moves status kept gives = if_kept turn (λ alive. elim (is_flag (allows_commit old.status)) [
-    | inl may ↦ asked act old new from to turn (IfKept-out turn alive keeps) (stand_moved (λ h. ⊤) (λ h. h) old new from to turn alive contents (moves may))
+  commits_move act e old new from to turn idle refused moves status kept gives opens = if_kept turn (λ alive. elim (is_flag (allows_commit old.status)) [
+    | inl may ↦ asked act old new from to turn (IfKept-out turn alive keeps) (stand_moved (λ h. ⊤) (λ h. h) old new from to turn alive (λ x. opened_lives new.work turn alive opens.next) contents (ends_all turn (IfKept-out turn alive (off_commit old new turn idle may status gives))) (moves may))
     | inr bars ↦ let r = refused bars in asked_same act old new from to turn (refused_stays e old new turn r.0) r.1 (λ h. refused_stands e old new h turn r.0)
   ])
     where
@@ -234,15 +278,15 @@ module _ {P Q K A B D : Type 0} (w : Ways P Q K A B D) where
       keeps : IfKept turn (KeepsPlan old new from to)
       keeps = keeps_commit old new from to turn idle (λ bars. let r = refused bars in (refused_stays e old new turn r.0, r.1)) status (ap (λ (t : Standing P Q K). t.start) kept) contents gives
 
-  -- no call of it is open, and it may have given up
-  left_fits : (old new : Standing P Q K) (from to : Posted) (turn : Turn (Result (TxnAnswer Q) Error)) (h : List Event) → turn ≢ Stopped → is_open old.work ≡ false → is_open new.work ≡ false → GivesUp old new turn
+  -- no call of it is open
+  left_fits : (old new : Standing P Q K) (from to : Posted) (turn : Turn (Result (TxnAnswer Q) Error)) (h : List Event) → turn ≢ Stopped → is_open old.work ≡ false → is_open new.work ≡ false → Opens w new from to turn
       → new ≡ record old { work = new.work } → to ≡ from → StandFits w old from h → StandFits w new to h
-  left_fits old new from to turn h alive rests shut gives e quiet x = by (open_so old.work rests) (open_so new.work shut)
+  left_fits old new from to turn h alive rests shut opens e quiet x = by (open_so old.work rests) (open_so new.work shut)
     where
       by : (old.work ≡ Idle) ⊎ (old.work ≡ GaveUp) → (new.work ≡ Idle) ⊎ (new.work ≡ GaveUp) → StandFits w new to h
-      by (inr g) later = let d = gives.after g in absurd (alive d.0)
+      by (inr g) later = absurd (let no = sym (ap has_given_up g) ∙ x.2 in cc)
       by (inl i) (inl j) = stand_same old new from to h (e ∙ ap (λ (y : Work P Q K). record old { work = y }) (j ∙ sym i)) quiet x
-      by (inl i) (inr g) = subst (λ (t : Standing P Q K). StandFits w t to h) (sym (e ∙ ap (λ (y : Work P Q K). record old { work = y }) g)) (x.0, record { given = x.1.given; unsent = x.1.unsent; settled = x.1.settled; at = tt })
+      by (inl i) (inr g) = absurd (let no = sym (ap has_given_up g) ∙ opened_lives new.work turn alive opens.next in cc)
 
   -- and so does a rollback
   pub rollbacks_move : (act : Act) (e : Error) (old new : Standing P Q K) (from to : Posted) (turn : Turn (Result (TxnAnswer Q) Error)) → is_open old.work ≡ false
@@ -250,9 +294,9 @@ module _ {P Q K A B D : Type 0} (w : Ways P Q K A B D) where
       → ((t : Ticket) → allows_rollback old.status ≡ true → undetermined old.commits ≡ Some t → IsUndetermined t turn × (new ≡ record old { work = new.work }) × (to ≡ from))
       → (allows_rollback old.status ≡ true → undetermined old.commits ≡ None → TransactionMoves w (λ h. ⊤) (λ h. h) old new from to turn)
       → (old.work ≡ Idle → new.status ≡ rolled_status old.status (is_some (undetermined old.commits)) turn)
-      → new ≡ record old { status = new.status; commits = new.commits; work = new.work; width = new.width } → GivesUp old new turn → is_open new.work ≡ is_waiting turn
+      → new ≡ record old { status = new.status; commits = new.commits; work = new.work; width = new.width } → GivesUp old new turn → Opens w new from to turn → is_open new.work ≡ is_waiting turn
       → IfKept turn (StandMoves w (tells.Act act) old new from to (answer_in answers.Called turn))
-  rollbacks_move act e old new from to turn idle refused unknown moves status kept gives busy = if_kept turn (λ alive. elim (is_flag (allows_rollback old.status)) [
+  rollbacks_move act e old new from to turn idle refused unknown moves status kept gives opens busy = if_kept turn (λ alive. elim (is_flag (allows_rollback old.status)) [
     | inl may ↦ by alive may (undetermined old.commits) refl
     | inr bars ↦ let r = refused bars in asked_same act old new from to turn (refused_stays e old new turn r.0) r.1 (λ h. refused_stands e old new h turn r.0)
   ])
@@ -265,8 +309,8 @@ module _ {P Q K A B D : Type 0} (w : Ways P Q K A B D) where
 
       by : turn ≢ Stopped → allows_rollback old.status ≡ true → (o : Option Ticket) → undetermined old.commits ≡ o → StandMoves w (tells.Act act) old new from to (answer_in answers.Called turn)
       by alive may (Some t) u = let r = unknown t may u in asked act old new from to turn (IfKept-out turn alive keeps)
-          (moved_quiet r.2 (λ h x. left_fits old new from to turn h alive idle (busy ∙ ends_shut t turn r.0) gives r.1 r.2 x.0) (λ h x. unknown_stands t old new h turn r.0))
-      by alive may None u = asked act old new from to turn (IfKept-out turn alive keeps) (stand_moved (λ h. ⊤) (λ h. h) old new from to turn alive contents (moves may u))
+          (moved_quiet r.2 (λ h x. left_fits old new from to turn h alive idle (busy ∙ ends_shut t turn r.0) opens r.1 r.2 x.0) (λ h x. unknown_stands t old new h turn r.0))
+      by alive may None u = asked act old new from to turn (IfKept-out turn alive keeps) (stand_moved (λ h. ⊤) (λ h. h) old new from to turn alive (λ x. opened_lives new.work turn alive opens.next) contents (ends_all turn (IfKept-out turn alive (off_rollback old new turn idle may u status gives))) (moves may u))
 
   -- what was asked is this
   pub acts_move : (act is : Act) (old new : Standing P Q K) (from to : Posted) (turn : Turn (Result (TxnAnswer Q) Error)) → act ≡ is
@@ -275,20 +319,21 @@ module _ {P Q K A B D : Type 0} (w : Ways P Q K A B D) where
 
   -- It hears of something.
 
-  hears_move : (a : Arrival) (old new : Standing P Q K) (from to : Posted) (turn : Turn (Result (TxnAnswer Q) Error))
-      → ((r : Request) → TransactionMoves w (told_by a from r).known (told_by a from r).hear old new from to turn) → new.contents ≡ old.contents → IfKept turn (KeepsPlan old new from to)
+  hears_move : (a : Arrival) (old new : Standing P Q K) (from to : Posted) (turn : Turn (Result (TxnAnswer Q) Error)) → (turn ≢ Stopped → has_given_up old.work ≡ false → has_given_up new.work ≡ false)
+      → ((r : Request) → TransactionMoves w (told_by a from r).known (told_by a from r).hear old new from to turn) → new.contents ≡ old.contents → IfKept turn (KeepsPlan old new from to) → IfKept turn (IfEnds turn (λ v. allows_data new.status ≡ false))
       → IfKept turn (StandMoves w (tells.Heard a) old new from to (answer_in answers.Called turn))
-  hears_move a old new from to turn told same keeps = if_kept turn (λ alive. record {
+  hears_move a old new from to turn lives told same keeps off = if_kept turn (λ alive. record {
     keeps = IfKept-out turn alive keeps;
-    moves = λ r. stand_moved (told_by a from r).known (told_by a from r).hear old new from to turn alive same (told r);
+    moves = λ r. stand_moved (told_by a from r).known (told_by a from r).hear old new from to turn alive (lives alive) same (IfKept-out turn alive off) (told r);
   })
 
   -- what came is this
-  pub heard_moves : (b a : Arrival) (old new : Standing P Q K) (from to : Posted) (turn : Turn (Result (TxnAnswer Q) Error)) → b ≡ a
+  pub heard_moves : {C : Type 0} (b a : Arrival) (meant : Type 0) (old new : Standing P Q K) (from to : Posted) (pd pd' : C) (turn : Turn (Result (TxnAnswer Q) Error)) → b ≡ a → TransactionGoes w meant (record old { commits = new.commits }) new from to pd pd' turn
       → ((r : Request) → TransactionMoves w (told_by a from r).known (told_by a from r).hear old new from to turn) → IsQuiet old → new.status ≡ moved_by old.status turn
       → new ≡ record old { status = new.status; commits = new.commits; work = new.work; width = new.width } → GivesUp old new turn → (old.work ≡ Idle → (turn ≡ Waits) × (new ≡ old) × (to ≡ from))
       → IfKept turn (StandMoves w (tells.Heard b) old new from to (answer_in answers.Called turn))
-  heard_moves b a old new from to turn e told quiet status kept gives deaf =
+  heard_moves b a meant old new from to pd pd' turn e goes told quiet status kept gives deaf =
       let contents : new.contents ≡ old.contents = ap (λ (t : Standing P Q K). t.contents) kept in
       subst (λ d. IfKept turn (StandMoves w (tells.Heard d) old new from to (answer_in answers.Called turn))) (sym e)
-      (hears_move a old new from to turn told contents (keeps_heard old new from to turn quiet status (ap (λ (t : Standing P Q K). t.start) kept) contents gives deaf))
+      (hears_move a old new from to turn (λ alive. heard_lives meant old new from to pd pd' turn alive goes) told contents (keeps_heard old new from to turn quiet status (ap (λ (t : Standing P Q K). t.start) kept) contents gives deaf)
+      (off_heard old new turn quiet status gives (λ e. (deaf e).0)))

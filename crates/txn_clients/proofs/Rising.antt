@@ -1,5 +1,5 @@
 -- What each row that is told of something comes to in the longer history, and what its answer stands on there.
-use Rattle.std.proofs.Common.{◌≡◌, ◌≢◌, inl, inr, ℕ, ◌<◌, false, Bool, List, [], length, set, Option, Some, None, sym, ap, ◌∙◌, subst}
+use Rattle.std.proofs.Common.{◌≡◌, ◌≢◌, inl, inr, ℕ, ◌<◌, true, false, not, Bool, List, [], length, set, Option, Some, None, sym, ap, ◌∙◌, subst}
 use Rattle.std.specs.Prelude.{⊤, IfSome, Ok}
 use Rattle.txn_kv.specs.Timestamp.{version_of}
 use Rattle.txn_kv.specs.declared.request.Request.{Request}
@@ -10,7 +10,6 @@ use Rattle.txn_history.specs.Licence.{PrimaryCommitted}
 use Rattle.txn_history.specs.Meaning.{IsLawful}
 use Rattle.txn_history.specs.Plan.{Plan}
 use Rattle.txn_history.specs.Posted.{Errand, Licensed, Licensed-weaker, Posted, Within-after, Within-refl, after}
-use Rattle.txn_law.specs.Run.{IsRun}
 use Rattle.txn_commit.specs.Committing.{Ways}
 use Rattle.txn_commit.specs.Jobs.{JobFits}
 use Rattle.txn_commit.specs.Parts.{parts_of}
@@ -20,9 +19,9 @@ use Rattle.txn_commit.specs.declared.secondary_job.SecondaryJob.{SecondaryJob}
 use Rattle.txn_core.proofs.Ending.{ends_committed, ends_with_job}
 use Rattle.txn_core.proofs.Others.{adds_same, others_fit, others_fit_still}
 use Rattle.txn_core.proofs.Owning.{commits_own, job_adds, job_commits_own, other_jobs_add, others_add, posted_adds}
-use Rattle.txn_core.specs.Going.{MaySendFor, TransactionFits, TransactionGives}
+use Rattle.txn_core.specs.Going.{MaySendFor, TransactionGives}
 use Rattle.txn_core.specs.Status.{allows_data}
-use Rattle.txn_core.specs.Transaction.{Standing}
+use Rattle.txn_core.specs.Transaction.{Standing, lock_nothing, locks_nothing}
 use Rattle.txn_core.specs.declared.txn_answer.TxnAnswer.TheVariants as answer
 use Rattle.txn_client.specs.Calls.{IsAt, called-lawful}
 use Rattle.txn_client.specs.declared.client_call.ClientCall.{ClientCall}
@@ -31,15 +30,14 @@ use Rattle.txn_report.specs.declared.outcome.Outcome.TheVariants as outcomes
 use Rattle.txn_report.specs.declared.outcome.Payload.TheVariants as payloads
 use Rattle.txn_trace.proofs.Lines.{IsLicensedInRun}
 use Rattle.txn_tso.specs.Calling.{members}
-use Rattle.txn_clients.specs.Arising.{StandFits, HasPlan, HasStart, HoldsOf, IsBehind, IsCommittedSo, KeepsPlan, RowFits}
+use Rattle.txn_clients.specs.Arising.{StandFits, HasPlan, HasStart, HoldsOf, IsBehind, IsCommittedSo, IsCommittedUnlocked, KeepsPlan, RowFits}
 use Rattle.txn_clients.specs.Clients.{row_at}
 use Rattle.txn_clients.specs.Growing.{AddsNoCommit, AreApart, commits_before, job_grows, row_grows, row_stays}
 use Rattle.txn_clients.specs.Rows.{Pd}
 use Rattle.txn_clients.specs.declared.row.Row.{Row}
 use Rattle.txn_clients.specs.declared.row.Row.TheVariants as row
-use Rattle.txn_clients.proofs.Leading.{Rises, may_ask, may_transact, none_commits, took_sent}
+use Rattle.txn_clients.proofs.Leading.{Rises, locks_before, may_ask, may_transact, none_commits}
 use Rattle.txn_clients.proofs.Stands.{or_other, or_same, same_line}
-use Rattle.txn_clients.proofs.Taking.{is_flag}
 
 -- A call for a timestamp asks for nothing but the members.
 
@@ -53,11 +51,13 @@ module _ {P Q K : Type 0} where
   asking_right : (c d : ℕ) (b e : Bool) (old new : ClientCall Pd P Q K) (o : Outcome) (h : List Event) → HoldsOf h o (row.Asking c b old) → HoldsOf h o (row.Asking d e new)
   asking_right c d b e old new (outcomes.Ok (payloads.Number v)) h x = x
   asking_right c d b e old new (outcomes.Ok (payloads.Commit (Some v))) h x = x
+  asking_right c d b e old new (outcomes.Ok (payloads.Commit None)) h x = x
   asking_right c d b e old new o h x = tt
 
 working_right : (P Q K : Type 0) (c d : ℕ) (old new : SecondaryJob Q) (o : Outcome) (h : List Event) → HoldsOf {P = P} {Q = Q} {K = K} h o (row.Working c old) → HoldsOf {P = P} {Q = Q} {K = K} h o (row.Working d new)
 working_right P Q K c d old new (outcomes.Ok (payloads.Number v)) h x = x
 working_right P Q K c d old new (outcomes.Ok (payloads.Commit (Some v))) h x = x
+working_right P Q K c d old new (outcomes.Ok (payloads.Commit None)) h x = x
 working_right P Q K c d old new o h x = tt
 
 module _ {P Q K A B D : Type 0} (w : Ways P Q K A B D) (p : IsLawful w.prewriting) (q : IsLawful w.committing) (k : IsLawful w.rolling) where
@@ -73,6 +73,7 @@ module _ {P Q K A B D : Type 0} (w : Ways P Q K A B D) (p : IsLawful w.prewritin
     fits = λ later l. called-lawful.fits_longer new to later _ _ l (Within-refl (after line false h to.sends)) fits;
     others = λ i apart o later l f. row_stays w p q k olds o later h (after line false h to.sends) (row_at olds i) l adds f;
     owns = λ t r i. inl (commits_before h (after line false h to.sends) t r adds i);
+    locks = λ t r i. locks_before MayAsk (λ k q e. cc) line false h to.sends licensed t r i;
   }
     where
       adds : AddsNoCommit h (after line false h to.sends)
@@ -84,9 +85,13 @@ module _ {P Q K A B D : Type 0} (w : Ways P Q K A B D) (p : IsLawful w.prewritin
   stand_committed c d m n v old new from to h keeps (parts, closed, whole, committed) =
       (parts, keeps.closed closed, ap parts_of (keeps.fixed (keeps.closed closed)) ∙ whole, subst (λ u. PrimaryCommitted (plan_of parts) h (version_of u) v) (sym keeps.start) committed)
 
+  stand_unlocked : (c d m n : ℕ) (old new : Standing P Q K) (from to : Posted) → KeepsPlan old new from to → IsCommittedUnlocked {P = P} {Q = Q} {K = K} (row.Begun c old m) → IsCommittedUnlocked {P = P} {Q = Q} {K = K} (row.Begun d new n)
+  stand_unlocked c d m n old new from to keeps (closed, unlocked) = (keeps.closed closed, ap locks_nothing (keeps.fixed (keeps.closed closed)) ∙ unlocked)
+
   stand_right : (c d m n : ℕ) (old new : Standing P Q K) (from to : Posted) (o : Outcome) (h : List Event) → KeepsPlan old new from to → HoldsOf h o (row.Begun c old m) → HoldsOf h o (row.Begun d new n)
   stand_right c d m n old new from to (outcomes.Ok (payloads.Number v)) h keeps x = ap version_of keeps.start ∙ x
   stand_right c d m n old new from to (outcomes.Ok (payloads.Commit (Some v))) h keeps x = stand_committed c d m n v old new from to h keeps x
+  stand_right c d m n old new from to (outcomes.Ok (payloads.Commit None)) h keeps x = stand_unlocked c d m n old new from to keeps x
   stand_right c d m n old new from to o h keeps x = tt
 
   stand_behind : (c d m n : ℕ) (old new : Standing P Q K) (from to : Posted) (job : SecondaryJob Q) (o : Posted) (h : List Event) → KeepsPlan old new from to → IsBehind w job o h (row.Begun c old m) → IsBehind w job o h (row.Begun d new n)
@@ -116,13 +121,14 @@ module _ {P Q K A B D : Type 0} (w : Ways P Q K A B D) (p : IsLawful w.prewritin
     behind = λ job o g x. stand_behind c d m n old new from to job o g keeps (subst (IsBehind w job o g) was x);
     right = λ o g x. stand_right c d m n old new from to o g keeps (subst (HoldsOf g o) was x);
     licensed = λ plans have. stand_licensed line d n old new from to plans h empty keeps (subst (HasPlan plans) here (have at)) licensed;
-    fits = λ later l. (fits.0, others_fit w p q k new to later _ _ l (adds_same _ (after line false h to.sends)) fits.1);
+    fits = λ later l. (fits.0, others_fit w p q k new to later _ _ l (adds_same _ (after line false h to.sends)) fits.1, fits.2);
     others = λ i other o later l f. row_grows w p q k olds o later h (after line false h to.sends) (row_at olds i) l (Within-after line false h to.sends)
         (λ v b. others_add old.contents v (version_of old.start) line false h to.sends (λ e. other (apart i at v b (subst (HasStart v) (sym was) e))) licensed) f;
     owns = λ t r i. elim (commits_own old.contents (version_of old.start) line false h to.sends t r licensed i) [
       | inl j ↦ inl j
       | inr e ↦ inr (at, subst (HasStart r.start_version) (sym here) (ap version_of keeps.start ∙ sym e))
     ];
+    locks = λ t r i. locks_before (MaySendFor old.contents (version_of old.start)) (λ k q m. m.2) line false h to.sends licensed t r i;
   }
     where
       here : row_at (set olds at (row.Begun d new n)) at ≡ row.Begun d new n
@@ -152,6 +158,7 @@ module _ {P Q K A B D : Type 0} (w : Ways P Q K A B D) (p : IsLawful w.prewritin
       f.0,
       others_fit_still w p q k t parts u later g (after line false g sends) closed whole l
           (job_adds (plan_of parts) (version_of t.start) line false g sends (subst (λ v. Licensed (MaySendBehind (plan_of parts) v) line false g sends) (sym start) licensed)) f.1,
+      f.2,
     );
   }
   has_job job o h (row.Calling c x y) b = absurd b
@@ -178,6 +185,7 @@ module _ {P Q K A B D : Type 0} (w : Ways P Q K A B D) (p : IsLawful w.prewritin
       | inl x ↦ inl x
       | inr e ↦ inr (j, subst (HasStart r.start_version) (sym there) (subst (λ u. HasStart u (row_at olds j)) (sym e) b.start))
     ];
+    locks = λ t r i. locks_before (MaySendBehind (plan_of b.parts) (version_of old.start)) (λ k q m. m.may) line false h to.sends licensed t r i;
   }
     where
       far_from : j ≢ at
@@ -188,26 +196,13 @@ module _ {P Q K A B D : Type 0} (w : Ways P Q K A B D) (p : IsLawful w.prewritin
 
   -- What a commit answers
 
-  -- once its primary is committed it is written no more
-  stand_closed : (plans : ℕ → Plan) (new : Standing P Q K) (to : Posted) (h : List Event) (parts : CommitParts) (v : ℕ) → IsRun plans h → TransactionFits w new to h → PrimaryCommitted (plan_of parts) h (version_of new.start) v → allows_data new.status ≡ false
-  stand_closed plans new to h parts v run fits c = elim (is_flag (allows_data new.status)) [
-    | inl e ↦ absurd ((fits.unsent e).never c.0 c.1 (took_sent plans h c.0 _ _ run c.3) c.5)
-    | inr e ↦ e
-  ]
-
-  pub stand_commits : (plans : ℕ → Plan) (d n : ℕ) (old new : Standing P Q K) (from to : Posted) (h : List Event) (t : Timestamp) (job : Option (SecondaryJob Q)) → IsRun plans h → KeepsPlan old new from to → TransactionFits w new to h
+  pub stand_commits : (d n : ℕ) (old new : Standing P Q K) (from to : Posted) (h : List Event) (t : Timestamp) (job : Option (SecondaryJob Q)) → KeepsPlan old new from to → allows_data new.status ≡ false
       → TransactionGives w old.start old.contents new.commits h (Ok (answer.Committed (Some t) job))
       → IsCommittedSo {P = P} {Q = Q} {K = K} h (version_of t) (row.Begun d new n) × IfSome job (λ j. (o : Posted) → IsBehind {P = P} {K = K} w j o h (row.Begun d new n))
-  stand_commits plans d n old new from to h t job run keeps fits gives = ((c.0, closed, fixed ∙ c.1, committed), behind job gives)
+  stand_commits d n old new from to h t job keeps closed gives = ((c.0, closed, fixed ∙ c.1, subst (λ u. PrimaryCommitted (plan_of c.0) h (version_of u) (version_of t)) (sym keeps.start) c.2), behind job gives)
     where
       c : (parts : CommitParts) × (parts_of old.contents ≡ Some parts) × PrimaryCommitted (plan_of parts) h (version_of old.start) (version_of t)
       c = ends_committed w old.start t old.contents new.commits h job gives
-
-      committed : PrimaryCommitted (plan_of c.0) h (version_of new.start) (version_of t)
-      committed = subst (λ u. PrimaryCommitted (plan_of c.0) h (version_of u) (version_of t)) (sym keeps.start) c.2
-
-      closed : allows_data new.status ≡ false
-      closed = stand_closed plans new to h c.0 (version_of t) run fits committed
 
       fixed : parts_of new.contents ≡ parts_of old.contents
       fixed = ap parts_of (keeps.fixed closed)
@@ -216,3 +211,11 @@ module _ {P Q K A B D : Type 0} (w : Ways P Q K A B D) (p : IsLawful w.prewritin
       behind None x = tt
       behind (Some j) x = λ o. let e = ends_with_job w old.start t old.contents new.commits o h j x in
           (e.0, ap version_of (keeps.start ∙ sym e.2), closed, fixed ∙ e.1, e.4)
+
+  -- it locked nothing
+  gives_unlocked : (old new : Standing P Q K) (h : List Event) → TransactionGives w old.start old.contents new.commits h (Ok (answer.Committed None None)) → locks_nothing old.contents ≡ true
+  gives_unlocked old new h (inl (parts, whole, stands)) = ap lock_nothing whole ∙ ap not stands.0
+  gives_unlocked old new h (inr (none, nothing)) = ap lock_nothing none
+
+  pub stand_unlocks : (d n : ℕ) (old new : Standing P Q K) (from to : Posted) (h : List Event) → KeepsPlan old new from to → allows_data new.status ≡ false → TransactionGives w old.start old.contents new.commits h (Ok (answer.Committed None None)) → IsCommittedUnlocked {P = P} {Q = Q} {K = K} (row.Begun d new n)
+  stand_unlocks d n old new from to h keeps closed gives = (closed, ap locks_nothing (keeps.fixed closed) ∙ gives_unlocked old new h gives)

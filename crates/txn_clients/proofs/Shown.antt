@@ -46,7 +46,7 @@ module _ {P Q K : Type 0} (h : List Event) where
   right_shown : (o : Outcome) (r : Row P Q K) → HoldsOf h o r → HoldsOf (seen h) o r
   right_shown (outcomes.Ok payloads.Unit) r x = tt
   right_shown (outcomes.Ok (payloads.Number v)) r x = x
-  right_shown (outcomes.Ok (payloads.Commit None)) r x = tt
+  right_shown (outcomes.Ok (payloads.Commit None)) r x = x
   right_shown (outcomes.Ok (payloads.Commit (Some v))) r x = committed_shown v r x
   right_shown (outcomes.Err e) r x = tt
   right_shown outcomes.Unfinished r x = tt

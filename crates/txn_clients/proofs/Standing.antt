@@ -284,6 +284,11 @@ module _ {P Q K A B D : Type 0} (w : Ways P Q K A B D) (p : IsLawful w.prewritin
   runs_open (Open call) e = refl
   runs_open GaveUp e = absurd (subst IsRunning (sym e) tt)
 
+  -- a call that is open, and waits on, is still open
+  pub stays_open : {C : Type 0} (meant : Type 0) (old new : Standing P Q K) (from to : Posted) (pd pd' : C) (turn : Turn (Result (TxnAnswer Q) Error)) → TransactionReady w old → TransactionGoes w meant (record old { commits = new.commits }) new from to pd pd' turn
+      → is_open old.work ≡ true → turn ≡ Waits → is_open new.work ≡ true
+  stays_open meant old new from to pd pd' turn ready goes busy waits = runs_open new.work (runs_still (λ (t : Standing P Q K). work_phase w t.work) (busy_runs w old ready busy) goes waits)
+
   pub hears_goes : {C : Type 0} (a : Arrival) (old new : Standing P Q K) (from to : Posted) (pd pd' : C) (turn : Turn (Result (TxnAnswer Q) Error))
       → ((r : Request) → TransactionMoves w (told_by a from r).known (told_by a from r).hear old new from to turn)
       → new.start ≡ old.start → new.contents ≡ old.contents
@@ -295,7 +300,7 @@ module _ {P Q K A B D : Type 0} (w : Ways P Q K A B D) (p : IsLawful w.prewritin
   hears_goes a old new from to pd pd' turn tells start same goes expects commits deaf gone ready = if_kept turn (λ kept. record {
     arises = λ trace longer at met called came nexts news o low risen up reached x. by kept a refl trace longer at met called came nexts news o low risen up reached x;
     expects = expects;
-    runs = λ busy waits. runs_open new.work (runs_still (λ (t : Standing P Q K). work_phase w t.work) (busy_runs w old ready busy) goes waits);
+    runs = stays_open (work_waits w old.work (awaited_as a)) old new from to pd pd' turn ready goes;
   })
     where
       Goal : Type 0

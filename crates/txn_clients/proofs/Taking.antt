@@ -1,5 +1,5 @@
 -- What a transaction makes of what it is told.
-use Rattle.std.proofs.Common.{◌≡◌, ◌⊎◌, inl, inr, ℕ, Bool, true, false, if◌then◌else◌, List, [], ◌∷◌, Option, Some, None, is_some, refl, sym, ap, ◌∙◌, subst}
+use Rattle.std.proofs.Common.{◌≡◌, ◌≢◌, ◌⊎◌, inl, inr, ℕ, Bool, true, false, if◌then◌else◌, List, [], ◌∷◌, Option, Some, None, is_some, refl, sym, ap, ◌∙◌, subst}
 use Rattle.std.specs.Prelude.{Result, Ok, Err, option_map, unwrap_or}
 use Rattle.txn_kv.specs.declared.errors.Error.{Error}
 use Rattle.txn_kv.specs.ErrorView.{ErrorView, view_of}
@@ -11,17 +11,17 @@ use Rattle.txn_kv.specs.declared.message.Op.TheVariants as op
 use Rattle.txn_kv.specs.declared.ticket.Ticket.{Ticket}
 use Rattle.txn_kv.specs.declared.timestamp.Timestamp.{Timestamp}
 use Rattle.txn_history.specs.Event.Event.{Answered}
-use Rattle.txn_history.specs.Turn.{IfKept, IfKept-all, IfKept-stopped, Turn}
+use Rattle.txn_history.specs.Turn.{IfEnds, IfKept, IfKept-all, IfKept-stopped, Turn}
 use Rattle.txn_history.specs.Turn.Turn.{Stopped, Waits, Ends}
 use Rattle.txn_buffer.specs.Contents.{Contents, mutated, mutations}
 use Rattle.txn_commit.specs.Parts.{named_primary, parts_of, parts_under}
-use Rattle.txn_commit.specs.Following.{undetermined}
+use Rattle.txn_commit.specs.Following.{none_sent, undetermined}
 use Rattle.txn_plan.specs.declared.arrival.Arrival.{Arrival}
 use Rattle.txn_core.specs.Options.{is_pessimistic}
 use Rattle.txn_core.specs.Status.{after_commit, allows_commit, allows_data, allows_rollback, may_move, status_step}
 use Rattle.txn_core.specs.Going.{IsUndetermined}
 use Rattle.txn_core.specs.Status.Became.{commits}
-use Rattle.txn_core.specs.Transaction.{GivesUp, IsRefused, Standing, WriteEnds, begun, commit_outcome, is_open, moved_by, rolled_status}
+use Rattle.txn_core.specs.Transaction.{GivesUp, IsRefused, Standing, WriteEnds, begun, commit_outcome, is_open, is_waiting, moved_by, rolled_status}
 use Rattle.txn_core.specs.Transaction as core
 use Rattle.txn_core.specs.declared.status.Status.{Status}
 use Rattle.txn_core.specs.declared.status.Status.TheVariants as statuses
@@ -43,7 +43,8 @@ use Rattle.txn_side.specs.declared.act.Act.{Act}
 use Rattle.txn_side.specs.declared.act.Act.TheVariants as acts
 use Rattle.txn_core.specs.declared.options.TransactionOptions.{TransactionOptions}
 use Rattle.txn_core.specs.declared.options.TransactionKind.TheVariants.{Optimistic}
-use Rattle.txn_clients.specs.Accounts.{BeginsNew, EndsAtOnce, HasHeard, HasTaken, IsNew, IsQuiet, WantsNew, account_of, come_to, says_undetermined, status_of}
+use Rattle.txn_clients.specs.Closing.{stage_after, status_by}
+use Rattle.txn_clients.specs.Accounts.{BeginsNew, EndsAtOnce, HasHeard, HasTaken, IsNew, IsQuiet, TellsEnd, WantsNew, account_of, come_to, says_undetermined, stage_by, stage_of}
 
 -- which of the two a flag is
 pub is_flag : (b : Bool) → (b ≡ true) ⊎ (b ≡ false)
@@ -59,14 +60,17 @@ undetermined_is e v h = ap is_undetermined_view h
 
 -- What is refused.
 
-pub write_refused : (s : Status) (e : Error) → core.refused_unless (allows_data s) e ≡ or_refused (refused_unless (side.allows_write (status_of s)) e) None
-write_refused statuses.ReadOnly e = refl
-write_refused statuses.Active e = refl
-write_refused statuses.Committed e = refl
-write_refused statuses.StartedCommit e = refl
-write_refused statuses.Rolledback e = refl
-write_refused statuses.StartedRollback e = refl
-write_refused statuses.Dropped e = refl
+-- What it allows is told by its status alone.
+same_write : (s : Status) (busy doubtful : Bool) → allows_data s ≡ side.allows_write (stage_by s busy doubtful)
+same_write statuses.ReadOnly busy doubtful = refl
+same_write statuses.Active busy doubtful = refl
+same_write statuses.Committed busy doubtful = refl
+same_write statuses.StartedCommit true doubtful = refl
+same_write statuses.StartedCommit false true = refl
+same_write statuses.StartedCommit false false = refl
+same_write statuses.Rolledback busy doubtful = refl
+same_write statuses.StartedRollback busy doubtful = refl
+same_write statuses.Dropped busy doubtful = refl
 
 same_unless : (b d : Bool) (e : Error) → b ≡ d → core.refused_unless b e ≡ refused_unless d e
 same_unless true d e h = ap (λ x. refused_unless x e) h
@@ -77,42 +81,44 @@ same_or None true f = refl
 same_or None false f = refl
 same_or (Some e) b f = refl
 
-same_write : (s : Status) → allows_data s ≡ side.allows_write (status_of s)
-same_write statuses.ReadOnly = refl
-same_write statuses.Active = refl
-same_write statuses.Committed = refl
-same_write statuses.StartedCommit = refl
-same_write statuses.Rolledback = refl
-same_write statuses.StartedRollback = refl
-same_write statuses.Dropped = refl
+or_none : (o : Option Error) → or_refused o None ≡ o
+or_none None = refl
+or_none (Some e) = refl
 
-pub insert_refused : (s : Status) (d : Bool) (e f : Error) → core.or_refused (core.refused_unless (allows_data s) e) (core.refused_unless d f) ≡ or_refused (refused_unless (side.allows_write (status_of s)) e) (refused_unless d f)
-insert_refused s d e f = same_or (core.refused_unless (allows_data s) e) d f ∙ ap (λ o. or_refused o (refused_unless d f)) (same_unless (allows_data s) (side.allows_write (status_of s)) e (same_write s))
+pub write_refused : {P Q K : Type 0} (t : Standing P Q K) (e : Error) → core.refused_unless (allows_data t.status) e ≡ or_refused (refused_unless (side.allows_write (stage_of t)) e) None
+write_refused t e = same_unless (allows_data t.status) (side.allows_write (stage_of t)) e (same_write t.status (is_open t.work) (is_some (undetermined t.commits))) ∙ sym (or_none (refused_unless (side.allows_write (stage_of t)) e))
+
+pub insert_refused : {P Q K : Type 0} (t : Standing P Q K) (d : Bool) (e f : Error) → core.or_refused (core.refused_unless (allows_data t.status) e) (core.refused_unless d f) ≡ or_refused (refused_unless (side.allows_write (stage_of t)) e) (refused_unless d f)
+insert_refused t d e f = same_or (core.refused_unless (allows_data t.status) e) d f ∙ ap (λ o. or_refused o (refused_unless d f)) (same_unless (allows_data t.status) (side.allows_write (stage_of t)) e (same_write t.status (is_open t.work) (is_some (undetermined t.commits))))
 
 -- one that was not begun to read alone allows what a machine sees it allow
-quiet_commit : (s : Status) → (allows_data s ≡ true → s ≡ statuses.Active) → allows_commit s ≡ side.allows_commit (status_of s)
-quiet_commit statuses.ReadOnly h = absurd (let e = h refl in no e)
+quiet_commit : (s : Status) (busy doubtful : Bool) → (allows_data s ≡ true → s ≡ statuses.Active) → allows_commit s ≡ side.allows_commit (stage_by s busy doubtful)
+quiet_commit statuses.ReadOnly busy doubtful h = absurd (let e = h refl in no e)
   where
     no : statuses.ReadOnly ≡ statuses.Active → ⊥
     no q = cc
-quiet_commit statuses.Active h = refl
-quiet_commit statuses.Committed h = refl
-quiet_commit statuses.StartedCommit h = refl
-quiet_commit statuses.Rolledback h = refl
-quiet_commit statuses.StartedRollback h = refl
-quiet_commit statuses.Dropped h = refl
+quiet_commit statuses.Active busy doubtful h = refl
+quiet_commit statuses.Committed busy doubtful h = refl
+quiet_commit statuses.StartedCommit true doubtful h = refl
+quiet_commit statuses.StartedCommit false true h = refl
+quiet_commit statuses.StartedCommit false false h = refl
+quiet_commit statuses.Rolledback busy doubtful h = refl
+quiet_commit statuses.StartedRollback busy doubtful h = refl
+quiet_commit statuses.Dropped busy doubtful h = refl
 
-quiet_rollback : (s : Status) → (allows_data s ≡ true → s ≡ statuses.Active) → allows_rollback s ≡ side.allows_rollback (status_of s)
-quiet_rollback statuses.ReadOnly h = absurd (let e = h refl in no e)
+quiet_rollback : (s : Status) (busy doubtful : Bool) → (allows_data s ≡ true → s ≡ statuses.Active) → allows_rollback s ≡ side.allows_rollback (stage_by s busy doubtful)
+quiet_rollback statuses.ReadOnly busy doubtful h = absurd (let e = h refl in no e)
   where
     no : statuses.ReadOnly ≡ statuses.Active → ⊥
     no q = cc
-quiet_rollback statuses.Active h = refl
-quiet_rollback statuses.Committed h = refl
-quiet_rollback statuses.StartedCommit h = refl
-quiet_rollback statuses.Rolledback h = refl
-quiet_rollback statuses.StartedRollback h = refl
-quiet_rollback statuses.Dropped h = refl
+quiet_rollback statuses.Active busy doubtful h = refl
+quiet_rollback statuses.Committed busy doubtful h = refl
+quiet_rollback statuses.StartedCommit true doubtful h = refl
+quiet_rollback statuses.StartedCommit false true h = refl
+quiet_rollback statuses.StartedCommit false false h = refl
+quiet_rollback statuses.Rolledback busy doubtful h = refl
+quiet_rollback statuses.StartedRollback busy doubtful h = refl
+quiet_rollback statuses.Dropped busy doubtful h = refl
 
 unless_true : (b : Bool) (e : Error) → b ≡ true → or_refused (refused_unless b e) None ≡ None
 unless_true b e h = ap (λ x. or_refused (refused_unless x e) None) h
@@ -133,8 +139,8 @@ same_all : (ms : List Mutation) → core.all_put_or_delete ms ≡ all_put_or_del
 same_all [] = refl
 same_all (m ∷ ms) = let rest = same_all ms in λ i. if same_op m.op i then rest i else false
 
-pub mutate_refused : (s : Status) (ms : List Mutation) (e f : Error) → core.or_refused (core.refused_unless (allows_data s) e) (core.refused_unless (core.all_put_or_delete ms) f) ≡ or_refused (refused_unless (side.allows_write (status_of s)) e) (refused_unless (all_put_or_delete ms) f)
-mutate_refused s ms e f = ap (λ d. core.or_refused (core.refused_unless (allows_data s) e) (core.refused_unless d f)) (same_all ms) ∙ insert_refused s (all_put_or_delete ms) e f
+pub mutate_refused : {P Q K : Type 0} (t : Standing P Q K) (ms : List Mutation) (e f : Error) → core.or_refused (core.refused_unless (allows_data t.status) e) (core.refused_unless (core.all_put_or_delete ms) f) ≡ or_refused (refused_unless (side.allows_write (stage_of t)) e) (refused_unless (all_put_or_delete ms) f)
+mutate_refused t ms e f = ap (λ d. core.or_refused (core.refused_unless (allows_data t.status) e) (core.refused_unless d f)) (same_all ms) ∙ insert_refused t (all_put_or_delete ms) e f
 
 -- What is written.
 
@@ -173,22 +179,19 @@ written_is act at_once o account w is = taken_is act at_once o account is ∙ ma
 
 -- What calls come to.
 
-either_same : (b : Bool) → status_of (if b then statuses.Committed else statuses.StartedCommit) ≡ (if b then Stage.Committed else Stage.StartedCommit)
-either_same true = refl
-either_same false = refl
+failed_so : (doubtful : Bool) → stage_by statuses.StartedCommit false doubtful ≡ (if doubtful then Stage.Undetermined else Stage.StartedCommit)
+failed_so true = refl
+failed_so false = refl
 
-commits_so : {Q : Type 0} (turn : Turn (Result (TxnAnswer Q) Error)) (has : Bool) → status_of (after_commit (commit_outcome turn) has) ≡ committed_by has (come_to true turn)
-commits_so Stopped has = refl
-commits_so Waits has = refl
-commits_so (Ends (Err e)) has = refl
-commits_so (Ends (Ok (answer.Committed (Some t) job))) has = refl
-commits_so (Ends (Ok (answer.Committed None job))) has = either_same has
-commits_so (Ends (Ok answer.Unit)) has = refl
-commits_so (Ends (Ok (answer.Value v))) has = refl
-commits_so (Ends (Ok (answer.Exists b))) has = refl
-commits_so (Ends (Ok (answer.Pairs ps))) has = refl
-commits_so (Ends (Ok (answer.Keys ks))) has = refl
-commits_so (Ends (Ok (answer.Ttl n))) has = refl
+-- while a call is open, what is known of its Commits counts for nothing
+open_stage : (s : Status) (d e : Bool) → stage_by s true d ≡ stage_by s true e
+open_stage statuses.ReadOnly d e = refl
+open_stage statuses.Active d e = refl
+open_stage statuses.Committed d e = refl
+open_stage statuses.StartedCommit d e = refl
+open_stage statuses.Rolledback d e = refl
+open_stage statuses.StartedRollback d e = refl
+open_stage statuses.Dropped d e = refl
 
 has_parts : (c : Contents) → is_some (parts_of c) ≡ has_mutations c
 has_parts c = by (mutations c.entries)
@@ -196,29 +199,6 @@ has_parts c = by (mutations c.entries)
     by : (ms : List Mutation) → is_some (option_map (parts_under c) (named_primary c ms)) ≡ side.is_not_empty ms
     by [] = refl
     by (m ∷ ms) = refl
-
--- a rollback that is begun leaves the status only where it was begun before
-rolls_so : {Q : Type 0} (s new : Status) (turn : Turn (Result (TxnAnswer Q) Error)) → new ≡ moved_by statuses.StartedRollback turn → (says_undetermined turn ≡ true → new ≡ s) → status_of new ≡ rolled_by true (status_of s) (come_to false turn)
-rolls_so s new Stopped e h = ap status_of e
-rolls_so s new Waits e h = ap status_of e
-rolls_so s new (Ends (Ok answer.Unit)) e h = ap status_of e
-rolls_so s new (Ends (Ok (answer.Committed t job))) e h = ap status_of e
-rolls_so s new (Ends (Ok (answer.Value v))) e h = ap status_of e
-rolls_so s new (Ends (Ok (answer.Exists b))) e h = ap status_of e
-rolls_so s new (Ends (Ok (answer.Pairs ps))) e h = ap status_of e
-rolls_so s new (Ends (Ok (answer.Keys ks))) e h = ap status_of e
-rolls_so s new (Ends (Ok (answer.Ttl n))) e h = ap status_of e
-rolls_so s new (Ends (Err why)) e h = elim (is_flag (is_undetermined why)) [
-  | inl on ↦ ap status_of (h on) ∙ sym (ap (λ (b : Bool). if b then status_of s else Stage.StartedRollback) on)
-  | inr off ↦ ap status_of e ∙ sym (ap (λ (b : Bool). if b then status_of s else Stage.StartedRollback) off)
-]
-
--- one that is refused since it is not known leaves it
-known_so : {Q : Type 0} (s new : Status) (t : Ticket) (turn : Turn (Result (TxnAnswer Q) Error)) → new ≡ s → IsUndetermined t turn → IfKept turn (status_of new ≡ rolled_by true (status_of s) (come_to false turn))
-known_so s new t Stopped e u = tt
-known_so s new t Waits e u = absurd u
-known_so s new t (Ends (Ok v)) e u = absurd u
-known_so s new t (Ends (Err why)) e u = ap status_of e ∙ sym (ap (λ (b : Bool). if b then status_of s else Stage.StartedRollback) (undetermined_is why (view_of (GrpcAPI t)) u))
 
 -- How the status moves.
 
@@ -248,12 +228,103 @@ commit_off (Some (Ok None)) false = refl
 some_ask : Ticket
 some_ask = record { line = 0; beat = false; number = 0 }
 
+kept_alive : {T : Type 0} (A : Type 0) (turn : Turn T) → IfKept turn (turn ≢ Stopped → A) → IfKept turn A
+kept_alive A Stopped h = tt
+kept_alive A Waits h = h (λ e. cc)
+kept_alive A (Ends v) h = h (λ e. cc)
+
 kept_then : {T A B : Type 0} (turn : Turn T) → (A → B) → IfKept turn A → IfKept turn B
 kept_then Stopped f h = tt
 kept_then Waits f h = f h
 kept_then (Ends v) f h = f h
 
 module _ {P Q K : Type 0} where
+  -- What calls come to: as far as its status, its work and what is known of its Commits say.
+
+  stage_so : (t : Standing P Q K) (s : Status) → t.status ≡ s → stage_of t ≡ stage_by s (is_open t.work) (is_some (undetermined t.commits))
+  stage_so t s e = ap (λ (x : Status). stage_by x (is_open t.work) (is_some (undetermined t.commits))) e
+
+  -- one whose commit may be begun again
+  stage_started : (t : Standing P Q K) (busy doubtful : Bool) → t.status ≡ statuses.StartedCommit → is_open t.work ≡ busy → is_some (undetermined t.commits) ≡ doubtful → stage_of t ≡ stage_by statuses.StartedCommit busy doubtful
+  stage_started t busy doubtful e f g = λ i. stage_by (e i) (f i) (g i)
+
+  commits_so : (t : Standing P Q K) (turn : Turn (Result (TxnAnswer Q) Error)) (has : Bool) → turn ≢ Stopped → t.status ≡ after_commit (commit_outcome turn) has → is_open t.work ≡ is_waiting turn
+      → IfEnds turn (λ v. TellsEnd v t) → stage_of t ≡ committed_by has (come_to true turn)
+  commits_so t Stopped has alive e busy tells = absurd (alive refl)
+  commits_so t Waits has alive e busy tells = stage_started t true (is_some (undetermined t.commits)) e busy refl
+  commits_so t (Ends (Err why)) has alive e busy tells = stage_started t false (is_undetermined why) e busy (sym (tells.known e)) ∙ failed_so (is_undetermined why)
+  commits_so t (Ends (Ok (answer.Committed (Some time) job))) has alive e busy tells = stage_so t statuses.Committed e
+  commits_so t (Ends (Ok (answer.Committed None job))) true alive e busy tells = stage_so t statuses.Committed e
+  commits_so t (Ends (Ok (answer.Committed None job))) false alive e busy tells = stage_started t false false e busy (sym (tells.known e))
+  commits_so t (Ends (Ok answer.Unit)) has alive e busy tells = absurd tells.kind
+  commits_so t (Ends (Ok (answer.Value v))) has alive e busy tells = absurd tells.kind
+  commits_so t (Ends (Ok (answer.Exists b))) has alive e busy tells = absurd tells.kind
+  commits_so t (Ends (Ok (answer.Pairs ps))) has alive e busy tells = absurd tells.kind
+  commits_so t (Ends (Ok (answer.Keys ks))) has alive e busy tells = absurd tells.kind
+  commits_so t (Ends (Ok (answer.Ttl n))) has alive e busy tells = absurd tells.kind
+
+  -- a rollback that is begun leaves the status only where it was begun before
+  rolls_so : (old new : Standing P Q K) (turn : Turn (Result (TxnAnswer Q) Error)) → new.status ≡ moved_by statuses.StartedRollback turn → (says_undetermined turn ≡ true → new.status ≡ old.status) → stage_of new ≡ rolled_by true (stage_of old) (come_to false turn)
+  rolls_so old new Stopped e h = stage_so new statuses.StartedRollback e
+  rolls_so old new Waits e h = stage_so new statuses.StartedRollback e
+  rolls_so old new (Ends (Ok answer.Unit)) e h = stage_so new statuses.Rolledback e
+  rolls_so old new (Ends (Ok (answer.Committed t job))) e h = stage_so new statuses.StartedRollback e
+  rolls_so old new (Ends (Ok (answer.Value v))) e h = stage_so new statuses.StartedRollback e
+  rolls_so old new (Ends (Ok (answer.Exists b))) e h = stage_so new statuses.StartedRollback e
+  rolls_so old new (Ends (Ok (answer.Pairs ps))) e h = stage_so new statuses.StartedRollback e
+  rolls_so old new (Ends (Ok (answer.Keys ks))) e h = stage_so new statuses.StartedRollback e
+  rolls_so old new (Ends (Ok (answer.Ttl n))) e h = stage_so new statuses.StartedRollback e
+  rolls_so old new (Ends (Err why)) e h = elim (is_flag (is_undetermined why)) [
+    | inl on ↦ stage_so new statuses.StartedRollback e ∙ sym (stage_so old statuses.StartedRollback (sym (h on) ∙ e)) ∙ sym (ap (λ (b : Bool). if b then stage_of old else Stage.StartedRollback) on)
+    | inr off ↦ stage_so new statuses.StartedRollback e ∙ sym (ap (λ (b : Bool). if b then stage_of old else Stage.StartedRollback) off)
+  ]
+
+  -- only its work changes, which rests before and after
+  rests_same : (old new : Standing P Q K) → new ≡ record old { work = new.work } → is_open old.work ≡ false → is_open new.work ≡ false → stage_of new ≡ stage_of old
+  rests_same old new e idle rests =
+      let status = ap (λ (t : Standing P Q K). t.status) e in
+      let doubtful = ap (λ (t : Standing P Q K). is_some (undetermined t.commits)) e in
+      λ i. stage_by (status i) ((rests ∙ sym idle) i) (doubtful i)
+
+  -- one that is refused since it is not known stays as it is
+  known_so : (old new : Standing P Q K) (t : Ticket) (turn : Turn (Result (TxnAnswer Q) Error)) → new ≡ record old { work = new.work } → is_open old.work ≡ false → is_open new.work ≡ is_waiting turn → IsUndetermined t turn
+      → IfKept turn (stage_of new ≡ rolled_by true (stage_of old) (come_to false turn))
+  known_so old new t Stopped e idle busy u = tt
+  known_so old new t Waits e idle busy u = absurd u
+  known_so old new t (Ends (Ok v)) e idle busy u = absurd u
+  known_so old new t (Ends (Err why)) e idle busy u = rests_same old new e idle busy ∙ sym (ap (λ (b : Bool). if b then stage_of old else Stage.StartedRollback) (undetermined_is why (view_of (GrpcAPI t)) u))
+
+  stage_open : (t : Standing P Q K) → is_open t.work ≡ true → stage_of t ≡ stage_by t.status true (is_some (undetermined t.commits))
+  stage_open t e = ap (λ (b : Bool). stage_by t.status b (is_some (undetermined t.commits))) e
+
+  open_same : (old new : Standing P Q K) → new.status ≡ old.status → is_open old.work ≡ true → is_open new.work ≡ true → stage_of new ≡ stage_of old
+  open_same old new status was is = stage_open new is ∙ ap (λ (s : Status). stage_by s true (is_some (undetermined new.commits))) status
+      ∙ open_stage old.status (is_some (undetermined new.commits)) (is_some (undetermined old.commits)) ∙ sym (stage_open old was)
+
+  -- Where its call has answered later than in its own line, and its status is what that says: it has come so far, where it rolls back,
+
+  pub stage_back : (t : Standing P Q K) (v : Result (TxnAnswer Q) Error) → t.status ≡ status_by false v → stage_of t ≡ stage_after false v
+  stage_back t (Err why) e = stage_so t statuses.StartedRollback e
+  stage_back t (Ok (answer.Committed time job)) e = stage_so t statuses.StartedRollback e
+  stage_back t (Ok answer.Unit) e = stage_so t statuses.Rolledback e
+  stage_back t (Ok (answer.Value x)) e = stage_so t statuses.StartedRollback e
+  stage_back t (Ok (answer.Exists b)) e = stage_so t statuses.StartedRollback e
+  stage_back t (Ok (answer.Pairs ps)) e = stage_so t statuses.StartedRollback e
+  stage_back t (Ok (answer.Keys ks)) e = stage_so t statuses.StartedRollback e
+  stage_back t (Ok (answer.Ttl n)) e = stage_so t statuses.StartedRollback e
+
+  -- or commits, and the answer tells how it stands
+  pub stage_forward : (t : Standing P Q K) (v : Result (TxnAnswer Q) Error) → t.status ≡ status_by true v → is_open t.work ≡ false → TellsEnd v t → stage_of t ≡ stage_after true v
+  stage_forward t (Err why) e rests tells = stage_started t false (is_undetermined why) e rests (sym (tells.known e)) ∙ failed_so (is_undetermined why)
+  stage_forward t (Ok (answer.Committed (Some time) job)) e rests tells = stage_so t statuses.Committed e
+  stage_forward t (Ok (answer.Committed None job)) e rests tells = stage_so t statuses.Committed e
+  stage_forward t (Ok answer.Unit) e rests tells = absurd tells.kind
+  stage_forward t (Ok (answer.Value x)) e rests tells = absurd tells.kind
+  stage_forward t (Ok (answer.Exists b)) e rests tells = absurd tells.kind
+  stage_forward t (Ok (answer.Pairs ps)) e rests tells = absurd tells.kind
+  stage_forward t (Ok (answer.Keys ks)) e rests tells = absurd tells.kind
+  stage_forward t (Ok (answer.Ttl n)) e rests tells = absurd tells.kind
+
   -- Writes.
 
   pub taken_write : (act : Act) (refused : Option Error) (wrote : Contents → Contents → Type 0) (old new : Standing P Q K) (turn : Turn (Result (TxnAnswer Q) Error)) → is_write act ≡ true → refused ≡ refusal act (account_of old)
@@ -261,7 +332,7 @@ module _ {P Q K : Type 0} where
   taken_write act refused wrote old new Stopped w is does quiet h = tt
   taken_write act refused wrote old new Waits w is does quiet h = absurd h
   taken_write act None wrote old new (Ends v) w is does quiet h = record {
-    account = ap (λ (t : Standing P Q K). account_of t) h.1 ∙ ap (λ (c : Contents). record { status = status_of old.status; contents = c }) (does old.contents new.contents h.2) ∙ sym (written_is act true (come_to (sights.commits act) (Ends v)) (account_of old) w is);
+    account = ap (λ (t : Standing P Q K). account_of t) h.1 ∙ ap (λ (c : Contents). record { status = stage_of old; contents = c }) (does old.contents new.contents h.2) ∙ sym (written_is act true (come_to (sights.commits act) (Ends v)) (account_of old) w is);
     quiet = subst (λ (t : Standing P Q K). IsQuiet t) (sym h.1) (λ s. let a = quiet s in record { status = a.status; commits = a.commits; rests = a.rests });
     answer = subst (λ (r : Option Error). EndsAtOnce {Q = Q} act r (Ends v)) is (λ u. ap (λ (r : Result (TxnAnswer Q) Error). Ends r) h.0);
   }
@@ -309,45 +380,54 @@ module _ {P Q K : Type 0} where
       by (Open call) e = absurd (no_flag (is_open old.work) (ap (λ (w : Work P Q K). is_open w) e) idle)
       by GaveUp e = IfKept-stopped turn A (gives.after e).0
 
-  account_with : (old new : Standing P Q K) → new.contents ≡ old.contents → (s : Stage) → status_of new.status ≡ s → account_of new ≡ record (account_of old) { status = s }
+  account_with : (old new : Standing P Q K) → new.contents ≡ old.contents → (s : Stage) → stage_of new ≡ s → account_of new ≡ record (account_of old) { status = s }
   account_with old new same s e = λ i. record { status = e i; contents = same i }
+
+  -- what is allowed of one that was not begun to read alone
+  may_commit : (t : Standing P Q K) → IsQuiet t → allows_commit t.status ≡ side.allows_commit (stage_of t)
+  may_commit t quiet = quiet_commit t.status (is_open t.work) (is_some (undetermined t.commits)) (stands_active t quiet)
+
+  may_rollback : (t : Standing P Q K) → IsQuiet t → allows_rollback t.status ≡ side.allows_rollback (stage_of t)
+  may_rollback t quiet = quiet_rollback t.status (is_open t.work) (is_some (undetermined t.commits)) (stands_active t quiet)
+
+  -- with what a commit and a rollback are refused
+  pub commit_barred : (old : Standing P Q K) → IsQuiet old → allows_commit old.status ≡ false → refusal acts.Commit (account_of old) ≡ Some OperationAfterCommitError
+  commit_barred old quiet bars = unless_false (side.allows_commit (stage_of old)) OperationAfterCommitError (sym (may_commit old quiet) ∙ bars)
+
+  pub rollback_barred : (old : Standing P Q K) → IsQuiet old → allows_rollback old.status ≡ false → refusal acts.Rollback (account_of old) ≡ Some OperationAfterCommitError
+  rollback_barred old quiet bars = unless_false (side.allows_rollback (stage_of old)) OperationAfterCommitError (sym (may_rollback old quiet) ∙ bars)
 
   pub taken_commit : {R : Type 0} (old new : Standing P Q K) (turn : Turn (Result (TxnAnswer Q) Error)) → is_open old.work ≡ false → IsQuiet old
       → (allows_commit old.status ≡ false → IsRefused OperationAfterCommitError old new turn × R)
       → (old.work ≡ Idle → new.status ≡ status_step old.status (commits (commit_outcome turn) (is_some (parts_of old.contents))))
-      → new ≡ record old { status = new.status; commits = new.commits; work = new.work; width = new.width } → GivesUp old new turn → IfKept turn (HasTaken acts.Commit old new turn)
-  taken_commit old new turn idle quiet refused status kept gives = elim (is_flag (allows_commit old.status)) [
-    | inl may ↦ begins old new turn idle gives (λ e.
+      → new ≡ record old { status = new.status; commits = new.commits; work = new.work; width = new.width } → GivesUp old new turn → is_open new.work ≡ is_waiting turn → IfEnds turn (λ v. TellsEnd v new)
+      → IfKept turn (HasTaken acts.Commit old new turn)
+  taken_commit old new turn idle quiet refused status kept gives busy tells = elim (is_flag (allows_commit old.status)) [
+    | inl may ↦ kept_alive (HasTaken acts.Commit old new turn) turn (begins old new turn idle gives (λ e alive.
         let has = is_some (parts_of old.contents) in
         let is : new.status ≡ after_commit (commit_outcome turn) has = status e ∙ ap (λ (b : Bool). if b then after_commit (commit_outcome turn) has else old.status) may in
-        begun_taken acts.Commit old new turn refl (sym (unless_true (side.allows_commit (status_of old.status)) OperationAfterCommitError (sym (quiet_commit old.status (stands_active old quiet)) ∙ may)))
-        (account_with old new (ap (λ (t : Standing P Q K). t.contents) kept) (committed_by (has_mutations old.contents) (come_to true turn)) (ap status_of is ∙ commits_so turn has ∙ ap (λ b. committed_by b (come_to true turn)) (has_parts old.contents)))
-        (ap allows_data is ∙ commit_off (commit_outcome turn) has))
-    | inr bars ↦ refused_taken acts.Commit old new turn (sym (unless_false (side.allows_commit (status_of old.status)) OperationAfterCommitError (sym (quiet_commit old.status (stands_active old quiet)) ∙ bars))) quiet (refused bars).0
+        begun_taken acts.Commit old new turn refl (sym (unless_true (side.allows_commit (stage_of old)) OperationAfterCommitError (sym (may_commit old quiet) ∙ may)))
+        (account_with old new (ap (λ (t : Standing P Q K). t.contents) kept) (committed_by (has_mutations old.contents) (come_to true turn)) (commits_so new turn has alive is busy tells ∙ ap (λ b. committed_by b (come_to true turn)) (has_parts old.contents)))
+        (ap allows_data is ∙ commit_off (commit_outcome turn) has)))
+    | inr bars ↦ refused_taken acts.Commit old new turn (sym (commit_barred old quiet bars)) quiet (refused bars).0
   ]
-
-  -- with what a commit and a rollback are refused
-  pub commit_barred : (old : Standing P Q K) → IsQuiet old → allows_commit old.status ≡ false → refusal acts.Commit (account_of old) ≡ Some OperationAfterCommitError
-  commit_barred old quiet bars = unless_false (side.allows_commit (status_of old.status)) OperationAfterCommitError (sym (quiet_commit old.status (stands_active old quiet)) ∙ bars)
-
-  pub rollback_barred : (old : Standing P Q K) → IsQuiet old → allows_rollback old.status ≡ false → refusal acts.Rollback (account_of old) ≡ Some OperationAfterCommitError
-  rollback_barred old quiet bars = unless_false (side.allows_rollback (status_of old.status)) OperationAfterCommitError (sym (quiet_rollback old.status (stands_active old quiet)) ∙ bars)
 
   pub taken_rollback : {R S : Type 0} (old new : Standing P Q K) (turn : Turn (Result (TxnAnswer Q) Error)) → is_open old.work ≡ false → IsQuiet old
       → (allows_rollback old.status ≡ false → IsRefused OperationAfterCommitError old new turn × R)
       → ((t : Ticket) → allows_rollback old.status ≡ true → undetermined old.commits ≡ Some t → IsUndetermined t turn × (new ≡ record old { work = new.work }) × S)
       → (old.work ≡ Idle → new.status ≡ rolled_status old.status (is_some (undetermined old.commits)) turn)
-      → new ≡ record old { status = new.status; commits = new.commits; work = new.work; width = new.width } → GivesUp old new turn → (says_undetermined turn ≡ true → new.status ≡ old.status) → IfKept turn (HasTaken acts.Rollback old new turn)
-  taken_rollback {R} {S} old new turn idle quiet refused unknown status kept gives known = elim (is_flag (allows_rollback old.status)) [
+      → new ≡ record old { status = new.status; commits = new.commits; work = new.work; width = new.width } → GivesUp old new turn → is_open new.work ≡ is_waiting turn → (says_undetermined turn ≡ true → new.status ≡ old.status)
+      → IfKept turn (HasTaken acts.Rollback old new turn)
+  taken_rollback {R} {S} old new turn idle quiet refused unknown status kept gives busy known = elim (is_flag (allows_rollback old.status)) [
     | inl may ↦ by may (undetermined old.commits) refl
-    | inr bars ↦ refused_taken acts.Rollback old new turn (sym (unless_false (side.allows_rollback (status_of old.status)) OperationAfterCommitError (sym (quiet_rollback old.status (stands_active old quiet)) ∙ bars))) quiet (refused bars).0
+    | inr bars ↦ refused_taken acts.Rollback old new turn (sym (rollback_barred old quiet bars)) quiet (refused bars).0
   ]
     where
       allowed : allows_rollback old.status ≡ true → None ≡ refusal acts.Rollback (account_of old)
-      allowed may = sym (unless_true (side.allows_rollback (status_of old.status)) OperationAfterCommitError (sym (quiet_rollback old.status (stands_active old quiet)) ∙ may))
+      allowed may = sym (unless_true (side.allows_rollback (stage_of old)) OperationAfterCommitError (sym (may_rollback old quiet) ∙ may))
 
-      made : status_of new.status ≡ rolled_by true (status_of old.status) (come_to false turn) → account_of new ≡ made_by acts.Rollback true (come_to false turn) (account_of old)
-      made e = account_with old new (ap (λ (t : Standing P Q K). t.contents) kept) (rolled_by true (status_of old.status) (come_to false turn)) e
+      made : stage_of new ≡ rolled_by true (stage_of old) (come_to false turn) → account_of new ≡ made_by acts.Rollback true (come_to false turn) (account_of old)
+      made e = account_with old new (ap (λ (t : Standing P Q K). t.contents) kept) (rolled_by true (stage_of old) (come_to false turn)) e
 
       begun_before : (t : Ticket) → undetermined old.commits ≡ Some t → allows_data old.status ≡ false
       begun_before t e = elim (is_flag (allows_data old.status)) [
@@ -360,27 +440,40 @@ module _ {P Q K : Type 0} where
 
       by : allows_rollback old.status ≡ true → (o : Option Ticket) → undetermined old.commits ≡ o → IfKept turn (HasTaken acts.Rollback old new turn)
       by may (Some t) e = let u = unknown t may e in let same : new.status ≡ old.status = ap (λ (x : Standing P Q K). x.status) u.1 in
-          kept_then turn (λ (is : status_of new.status ≡ rolled_by true (status_of old.status) (come_to false turn)). begun_taken acts.Rollback old new turn refl (allowed may) (made is) (ap allows_data same ∙ begun_before t e))
-          (known_so old.status new.status t turn same u.0)
+          kept_then turn (λ (is : stage_of new ≡ rolled_by true (stage_of old) (come_to false turn)). begun_taken acts.Rollback old new turn refl (allowed may) (made is) (ap allows_data same ∙ begun_before t e))
+          (known_so old new t turn u.1 idle busy u.0)
       by may None e = begins old new turn idle gives (λ i.
           let is : new.status ≡ moved_by statuses.StartedRollback turn = status i ∙ ap (λ (u : Option Ticket). rolled_status old.status (is_some u) turn) e ∙ ap (λ (b : Bool). if b then moved_by statuses.StartedRollback turn else old.status) may in
-          begun_taken acts.Rollback old new turn refl (allowed may) (made (rolls_so old.status new.status turn is known)) (ap allows_data is ∙ moved_off statuses.StartedRollback turn refl))
+          begun_taken acts.Rollback old new turn refl (allowed may) (made (rolls_so old new turn is known)) (ap allows_data is ∙ moved_off statuses.StartedRollback turn refl))
 
   -- It hears of something.
 
+  -- where it waits, it has come as far as before
+  waits_so : {R : Type 0} (old new : Standing P Q K) (turn : Turn (Result (TxnAnswer Q) Error)) → new.status ≡ moved_by old.status turn → GivesUp old new turn → (old.work ≡ Idle → (turn ≡ Waits) × (new ≡ old) × R)
+      → (is_open old.work ≡ true → turn ≡ Waits → is_open new.work ≡ true) → turn ≡ Waits → stage_of new ≡ stage_of old
+  waits_so old new turn status gives deaf busy waits = by old.work refl
+    where
+      no : ◌≡◌ {A = Turn (Result (TxnAnswer Q) Error)} Waits Stopped → ⊥
+      no q = cc
+
+      by : (work : Work P Q K) → old.work ≡ work → stage_of new ≡ stage_of old
+      by Idle e = ap (λ (t : Standing P Q K). stage_of t) (deaf e).1
+      by (Open call) e = let was : is_open old.work ≡ true = ap (λ (w : Work P Q K). is_open w) e in open_same old new (status ∙ ap (λ (x : Turn (Result (TxnAnswer Q) Error)). moved_by old.status x) waits) was (busy was waits)
+      by GaveUp e = absurd (no (sym waits ∙ (gives.after e).0))
+
   pub heard_so : {R : Type 0} (old new : Standing P Q K) (turn : Turn (Result (TxnAnswer Q) Error)) → IsQuiet old → new.status ≡ moved_by old.status turn
-      → new ≡ record old { status = new.status; commits = new.commits; work = new.work; width = new.width } → GivesUp old new turn → (old.work ≡ Idle → (turn ≡ Waits) × (new ≡ old) × R) → IfKept turn (HasHeard old new turn)
-  heard_so old new turn quiet status kept gives deaf = elim (is_flag (allows_data old.status)) [
+      → new ≡ record old { status = new.status; commits = new.commits; work = new.work; width = new.width } → GivesUp old new turn → (old.work ≡ Idle → (turn ≡ Waits) × (new ≡ old) × R)
+      → (is_open old.work ≡ true → turn ≡ Waits → is_open new.work ≡ true) → IfKept turn (HasHeard old new turn)
+  heard_so old new turn quiet status kept gives deaf busy = elim (is_flag (allows_data old.status)) [
     | inl on ↦ by (quiet on).rests old.work refl
-    | inr off ↦ IfKept-all turn (let still = ap allows_data status ∙ moved_off old.status turn off in record {
-      contents = ap (λ (t : Standing P Q K). t.contents) kept;
-      waits = λ w. status ∙ ap (λ (x : Turn (Result (TxnAnswer Q) Error)). moved_by old.status x) w;
-      quiet = λ s. absurd (no_flag (allows_data new.status) s still);
-    })
+    | inr off ↦ IfKept-all turn (let still = ap allows_data status ∙ moved_off old.status turn off in heard (λ s. absurd (no_flag (allows_data new.status) s still)))
   ]
     where
+      heard : IsQuiet new → HasHeard old new turn
+      heard q = record { contents = ap (λ (t : Standing P Q K). t.contents) kept; waits = waits_so old new turn status gives deaf busy; quiet = q }
+
       by : is_open old.work ≡ false → (work : Work P Q K) → old.work ≡ work → IfKept turn (HasHeard old new turn)
-      by rests Idle e = IfKept-all turn (let same = (deaf e).1 in record { contents = ap (λ (t : Standing P Q K). t.contents) same; waits = λ w. ap (λ (t : Standing P Q K). t.status) same; quiet = subst (λ (t : Standing P Q K). IsQuiet t) (sym same) quiet })
+      by rests Idle e = IfKept-all turn (let same = (deaf e).1 in heard (subst (λ (t : Standing P Q K). IsQuiet t) (sym same) quiet))
       by rests (Open call) e = absurd (no_flag (is_open old.work) (ap (λ (w : Work P Q K). is_open w) e) rests)
       by rests GaveUp e = IfKept-stopped turn (HasHeard old new turn) (gives.after e).0
 
@@ -389,7 +482,7 @@ module _ {P Q K : Type 0} where
   -- one that begins now, with these options
   pub new_begun : (options : TransactionOptions) → options.kind ≡ Optimistic → options.read_only ≡ false → (b : Standing P Q K) → b ≡ begun b.start options b.began → IsNew b
   new_begun options kind writes b e = subst (λ (t : Standing P Q K). IsNew t) (sym e) (record {
-    account = λ i. record { status = status_of (if writes i then statuses.ReadOnly else statuses.Active); contents = record { entries = []; primary = None; is_pessimistic = is_pessimistic (kind i) } };
+    account = λ i. record { status = stage_by (if writes i then statuses.ReadOnly else statuses.Active) false (is_some (undetermined none_sent)); contents = record { entries = []; primary = None; is_pessimistic = is_pessimistic (kind i) } };
     quiet = λ s. record { status = ap (λ (r : Bool). if r then statuses.ReadOnly else statuses.Active) writes; commits = refl; rests = refl };
   })
 

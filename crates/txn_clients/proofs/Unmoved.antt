@@ -134,6 +134,7 @@ module _ {P Q K A B D : Type 0} (w : Ways P Q K A B D) (p : IsLawful w.prewritin
     };
     answerable = a.answerable;
     owned = λ x r i. let o = a.owned x r i in (o.0, start_back r.start_version (row_at (rows_of s) o.0) (row_at (rows_of t) o.0) (rows o.0) o.1);
+    optimistic = a.optimistic;
     apart = λ i j v x y. a.apart i j v (start_alike v (row_at (rows_of s) i) (row_at (rows_of t) i) (rows i) x) (start_alike v (row_at (rows_of s) j) (row_at (rows_of t) j) (rows j) y);
   }
     where
@@ -153,7 +154,7 @@ module _ {P Q K : Type 0} (h : List Event) where
   right_follows o old new (inl same) x = subst (HoldsOf h o) (sym same) x
   right_follows (outcomes.Ok payloads.Unit) old new (inr plain) x = tt
   right_follows (outcomes.Ok (payloads.Number v)) old new (inr plain) x = absurd (subst (HoldsOf h (outcomes.Ok (payloads.Number v))) plain x)
-  right_follows (outcomes.Ok (payloads.Commit None)) old new (inr plain) x = tt
+  right_follows (outcomes.Ok (payloads.Commit None)) old new (inr plain) x = absurd (subst (HoldsOf h (outcomes.Ok (payloads.Commit None))) plain x)
   right_follows (outcomes.Ok (payloads.Commit (Some v))) old new (inr plain) x = absurd (subst (HoldsOf h (outcomes.Ok (payloads.Commit (Some v)))) plain x)
   right_follows (outcomes.Err e) old new (inr plain) x = tt
   right_follows outcomes.Unfinished old new (inr plain) x = tt

@@ -1,5 +1,5 @@
 -- How far the transactions that stand at the lines have come, and what they have taken in.
-use Rattle.std.specs.Prelude.{◌≡◌, ◌≢◌, ⊤, ℕ, Bool, true, false, List, Option, Some, None, Result, Ok, Err, option_map, slice_index_or}
+use Rattle.std.specs.Prelude.{◌≡◌, ◌≢◌, ⊤, ℕ, Bool, true, false, List, Option, Some, None, Result, Ok, Err, is_some, option_map, slice_index_or}
 use Rattle.std.proofs.Common.{zero, suc}
 use Rattle.txn_kv.specs.ErrorView.{view_of}
 use Rattle.txn_kv.specs.Timestamp.{version_of}
@@ -7,7 +7,7 @@ use Rattle.txn_kv.specs.declared.errors.Error.{Error}
 use Rattle.txn_history.specs.Event.{Event}
 use Rattle.txn_history.specs.Turn.{Turn}
 use Rattle.txn_history.specs.Turn.Turn.{Stopped, Waits, Ends}
-use Rattle.txn_commit.specs.Following.{none_sent}
+use Rattle.txn_commit.specs.Following.{none_sent, undetermined}
 use Rattle.txn_core.specs.Status.{allows_data}
 use Rattle.txn_core.specs.Transaction.{Standing, is_open}
 use Rattle.txn_core.specs.declared.status.Status.{Status}
@@ -45,8 +45,17 @@ status_of Rolledback = Stage.RolledBack
 status_of StartedRollback = Stage.StartedRollback
 status_of Dropped = Stage.Committed
 
+-- by its status, whether a call of it is open, and whether a Commit of its primary was lost or is not refused
+abbrev pub stage_by : Status → Bool → Bool → Stage
+stage_by StartedCommit true doubtful = Stage.Committing
+stage_by StartedCommit false true = Stage.Undetermined
+stage_by s busy doubtful = status_of s
+
+abbrev pub stage_of : {P Q K : Type 0} → Standing P Q K → Stage
+stage_of t = stage_by t.status (is_open t.work) (is_some (undetermined t.commits))
+
 abbrev pub account_of : {P Q K : Type 0} → Standing P Q K → Account
-account_of t = record { status = status_of t.status; contents = t.contents }
+account_of t = record { status = stage_of t; contents = t.contents }
 
 -- no Commit of it was sent, and no call of it is open
 pub record IsActive {P Q K : Type 0} (t : Standing P Q K) : Type 0 where
@@ -104,7 +113,7 @@ pub record HasTaken {P Q K : Type 0} (act : Act) (old new : Standing P Q K) (tur
 -- it heard of something
 pub record HasHeard {P Q K : Type 0} (old new : Standing P Q K) (turn : Turn (Result (TxnAnswer Q) Error)) : Type 0 where
   pub contents : new.contents ≡ old.contents
-  pub waits : turn ≡ Waits → new.status ≡ old.status
+  pub waits : turn ≡ Waits → stage_of new ≡ stage_of old
   pub quiet : IsQuiet new
 
 -- A call that begins one
@@ -140,6 +149,18 @@ says_undetermined Stopped = false
 says_undetermined Waits = false
 says_undetermined (Ends (Ok v)) = false
 says_undetermined (Ends (Err e)) = is_undetermined e
+
+-- a commit ends with no other answer
+abbrev pub EndsCommit : {Q : Type 0} → Result (TxnAnswer Q) Error → Type 0
+EndsCommit (Err e) = ⊤
+EndsCommit (Ok (answer.Committed t job)) = ⊤
+EndsCommit (Ok _) = ⊥
+
+-- The answer of a commit tells how its transaction stands: where it may be begun again, a Commit of its primary was lost or is not refused
+-- exactly if that is what is said.
+pub record TellsEnd {P Q K : Type 0} (v : Result (TxnAnswer Q) Error) (t : Standing P Q K) : Type 0 where
+  pub kind : EndsCommit v
+  pub known : t.status ≡ StartedCommit → says_undetermined (Ends v) ≡ is_some (undetermined t.commits)
 
 -- What it is told
 

@@ -1,6 +1,6 @@
 -- What clients can have arisen from: one history of a whole run, in which each request that they posted is licensed. It has what a run
 -- shows, and the sleeps that began, the asks for timestamps and their answers between.
-use Rattle.std.specs.Prelude.{IfSome, ◌≡◌, ◌≢◌, ◌⊎◌, ⊤, ℕ, Bool, false, List, [], ◌∷◌, ◌++◌, ◌-◌, map, Option, Some, None, Result, Ok, slice_set}
+use Rattle.std.specs.Prelude.{IfSome, ◌≡◌, ◌≢◌, ◌⊎◌, ⊤, ℕ, Bool, true, false, List, [], ◌∷◌, ◌++◌, ◌-◌, map, Option, Some, None, Result, Ok, slice_set}
 use Rattle.std.proofs.Common.{suc, zero}
 use Rattle.std.specs.List.{All}
 use Rattle.txn_kv.specs.Timestamp.{version_of}
@@ -8,7 +8,8 @@ use Rattle.txn_kv.specs.declared.errors.Error.{Error}
 use Rattle.txn_kv.specs.declared.outbox.Errand.TheVariants.{Ask, Send, Sleep}
 use Rattle.txn_kv.specs.declared.request.CommitRequest.{CommitRequest}
 use Rattle.txn_kv.specs.declared.request.Request.{Request}
-use Rattle.txn_kv.specs.declared.request.Request.TheVariants.{Commit, Tso}
+use Rattle.txn_kv.specs.declared.request.PessimisticLockRequest.{PessimisticLockRequest}
+use Rattle.txn_kv.specs.declared.request.Request.TheVariants.{Commit, PessimisticLock, Tso}
 use Rattle.txn_kv.specs.declared.request.TsoRequest.{TsoRequest}
 use Rattle.txn_kv.specs.declared.ticket.Target.TheVariants.{Placement}
 use Rattle.txn_kv.specs.declared.ticket.Ticket.{Ticket}
@@ -32,7 +33,7 @@ use Rattle.txn_commit.specs.declared.commit_parts.CommitParts.{CommitParts}
 use Rattle.txn_commit.specs.declared.secondary_job.SecondaryJob.{SecondaryJob}
 use Rattle.txn_core.specs.Going.{MaySendFor, TransactionFits, TransactionGives}
 use Rattle.txn_core.specs.Status.{allows_data}
-use Rattle.txn_core.specs.Transaction.{IsOrdered, Standing}
+use Rattle.txn_core.specs.Transaction.{IsOrdered, Standing, has_given_up, locks_nothing}
 use Rattle.txn_core.specs.declared.txn_answer.TxnAnswer.TheVariants as answer
 use Rattle.txn_client.specs.Calls.{CallGives, IsAt}
 use Rattle.txn_client.specs.declared.client_call.Wanted.{Wanted}
@@ -91,14 +92,14 @@ abbrev pub AskStands : {P Q K : Type 0} → Wanted → Option (Answer P Q K) →
 AskStands x (Some (answers.Asked v)) h = CallGives x h v
 AskStands x answer h = ⊤
 
--- and what a transaction answers that is committed, which stood so before
+-- and what a transaction answers that is committed, which stood so before, and is written no more
 abbrev pub CallStands : {P Q K A B D : Type 0} → Ways P Q K A B D → Standing P Q K → Standing P Q K → Option (Answer P Q K) → List Event → Type 0
-CallStands w old new (Some (answers.Called (Ok (answer.Committed t job)))) h = TransactionGives w old.start old.contents new.commits h (Ok (answer.Committed t job))
+CallStands w old new (Some (answers.Called (Ok (answer.Committed t job)))) h = (allows_data new.status ≡ false) × TransactionGives w old.start old.contents new.commits h (Ok (answer.Committed t job))
 CallStands w old new answer h = ⊤
 
--- A transaction can have arisen from the history, and the keys of its buffer are in order.
+-- A transaction can have arisen from the history, the keys of its buffer are in order, and it has not given up.
 abbrev pub StandFits : {P Q K A B D : Type 0} → Ways P Q K A B D → Standing P Q K → Posted → List Event → Type 0
-StandFits w t o h = IsOrdered t.contents × TransactionFits w t o h
+StandFits w t o h = IsOrdered t.contents × TransactionFits w t o h × (has_given_up t.work ≡ false)
 
 -- A transaction stays itself. Once it may be written no more that stays so, and what it writes is what it wrote before; and only then does
 -- it post anything.
@@ -183,6 +184,8 @@ pub record Arisen {P Q K A B D : Type 0} (w : Ways P Q K A B D) (s : Clients P Q
   pub answerable : AreAnswerable rest h
   -- a Commit is one of a transaction that stands somewhere
   pub owned : (t : Ticket) (r : CommitRequest) → Has h (Sent t (Commit r)) → (i : ℕ) × HasStart r.start_version (row_at (rows_of s) i)
+  -- no pessimistic lock is asked for
+  pub optimistic : (t : Ticket) (r : PessimisticLockRequest) → Has h (Sent t (PessimisticLock r)) → ⊥
   -- two transactions that stand at two places have unlike starts
   pub apart : (i j v : ℕ) → HasStart v (row_at (rows_of s) i) → HasStart v (row_at (rows_of s) j) → i ≡ j
 
@@ -203,6 +206,11 @@ abbrev pub IsCommittedSo : {P Q K : Type 0} → List Event → ℕ → Row P Q K
 IsCommittedSo h v (row.Begun c t m) = (parts : CommitParts) × (allows_data t.status ≡ false) × (parts_of t.contents ≡ Some parts) × PrimaryCommitted (plan_of parts) h (version_of t.start) v
 IsCommittedSo h v r = ⊥
 
+-- a commit of this transaction locks no key
+abbrev pub IsCommittedUnlocked : {P Q K : Type 0} → Row P Q K → Type 0
+IsCommittedUnlocked (row.Begun c t m) = (allows_data t.status ≡ false) × (locks_nothing t.contents ≡ true)
+IsCommittedUnlocked r = ⊥
+
 -- the transaction that stands here began at this version; a call for a timestamp alone left nothing
 abbrev pub BeganAt : {P Q K : Type 0} → ℕ → Row P Q K → Type 0
 BeganAt v (row.Begun c t m) = version_of t.start ≡ v
@@ -213,6 +221,7 @@ BeganAt v r = ⊥
 abbrev pub HoldsOf : {P Q K : Type 0} → List Event → Outcome → Row P Q K → Type 0
 HoldsOf h (outcomes.Ok (payloads.Number v)) r = BeganAt v r
 HoldsOf h (outcomes.Ok (payloads.Commit (Some v))) r = IsCommittedSo h v r
+HoldsOf h (outcomes.Ok (payloads.Commit None)) r = IsCommittedUnlocked r
 HoldsOf h o r = ⊤
 
 abbrev pub HoldsAt : {P Q K : Type 0} → List (Row P Q K) → List Event → ℕ → Outcome → Type 0
@@ -244,10 +253,11 @@ CanCome (tells.Heard (arrivals.Lost n)) o r h = IsPossible h (Lost (ticket_of o 
 CanCome told o r h = ⊤
 
 -- What a row answers: a transaction begins at what its line drew; a commit says where its primary is committed, and hands out the job
--- of the other keys.
+-- of the other keys, or that nothing was locked.
 abbrev pub AnswerArises : {P Q K A B D : Type 0} → Ways P Q K A B D → (Ticket → List ℕ) → ℕ → Row P Q K → Option (Answer P Q K) → List Event → Type 0
 AnswerArises w askers line r (Some (answers.Asked (Ok (Begun b)))) h = IsDrawn askers h line (version_of b.start)
 AnswerArises w askers line r (Some (answers.Called (Ok (answer.Committed (Some t) job)))) h = IsCommittedSo h (version_of t) r × IfSome job (λ j. (o : Posted) → IsBehind w j o h r)
+AnswerArises w askers line r (Some (answers.Called (Ok (answer.Committed None None)))) h = IsCommittedUnlocked r
 AnswerArises w askers line r (Some (answers.Called (Ok (answer.Committed None (Some job))))) h = ⊥
 AnswerArises w askers line r answer h = ⊤
 

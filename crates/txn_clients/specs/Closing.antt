@@ -7,11 +7,11 @@ use Rattle.txn_core.specs.declared.status.Status.TheVariants.{Committed, Started
 use Rattle.txn_core.specs.declared.txn_answer.TxnAnswer.{TxnAnswer}
 use Rattle.txn_core.specs.declared.txn_answer.TxnAnswer.TheVariants as answer
 use Rattle.txn_report.specs.declared.outcome.Outcome.{Outcome}
-use Rattle.txn_side.specs.Account.{Account, AreClosed, closed_by}
+use Rattle.txn_side.specs.Account.{Account, AreClosed, Status as Stage, closed_by, committed_by}
 use Rattle.txn_side.specs.Sight.{EndsAlone, Sight, Stand}
 use Rattle.txn_side.specs.Sight.Stand.{Calling}
 use Rattle.txn_side.specs.declared.turn.Ending.{Ending}
-use Rattle.txn_clients.specs.Accounts.{AccountsTold, AnswersTold, account_at, account_of, outcome_by}
+use Rattle.txn_clients.specs.Accounts.{AccountsTold, AnswersTold, account_at, account_of, outcome_by, stage_of}
 use Rattle.txn_clients.specs.Rows.{stand_of}
 use Rattle.txn_clients.specs.Waiting.{IsAnswerOf}
 use Rattle.txn_clients.specs.declared.answer.Answer.{Answer}
@@ -39,21 +39,27 @@ EndsBy line stand None from to = to ≡ from
 EndsBy line stand (Some (answers.Asked v)) from to = EndsOwn line from to
 EndsBy line stand (Some (answers.Called v)) from to = EndsCall line stand v from to
 
--- Where it stands once its call has answered later than in its own line.
+-- The status of a transaction once its call has answered later than in its own line.
 abbrev pub status_by : {Q : Type 0} → Bool → Result (TxnAnswer Q) Error → Status
 status_by true (Ok (answer.Committed t job)) = Committed
 status_by true _ = StartedCommit
 status_by false (Ok answer.Unit) = Rolledback
 status_by false _ = StartedRollback
 
--- a transaction that stands there has this status
-abbrev pub StandsAt : {P Q K : Type 0} → Status → Row P Q K → Type 0
-StandsAt status (row.Begun d t m) = t.status ≡ status
-StandsAt status r = ⊤
+-- and how far it has come
+abbrev pub stage_after : {Q : Type 0} → Bool → Result (TxnAnswer Q) Error → Stage
+stage_after true v = committed_by true (outcome_by true v)
+stage_after false (Ok answer.Unit) = Stage.RolledBack
+stage_after false _ = Stage.StartedRollback
+
+-- a transaction that stands there has come so far
+abbrev pub StandsAt : {P Q K : Type 0} → Stage → Row P Q K → Type 0
+StandsAt stage (row.Begun d t m) = stage_of t ≡ stage
+StandsAt stage r = ⊤
 
 -- it has come as far as the answer of its call says
 abbrev pub HasComeTo : {P Q K : Type 0} → Stand → Result (TxnAnswer Q) Error → Row P Q K → Type 0
-HasComeTo (Calling c x commits) v r = StandsAt (status_by commits v) r
+HasComeTo (Calling c x commits) v r = StandsAt (stage_after commits v) r
 HasComeTo stand v r = ⊤
 
 -- a transaction that answers later comes as far as its line's outcome says

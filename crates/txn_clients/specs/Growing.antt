@@ -146,7 +146,7 @@ module _ {P Q K A B D : Type 0} (w : Ways P Q K A B D) (p : IsLawful w.prewritin
   row_grows rows o later h longer row.Plain l within none f = tt
   row_grows rows o later h longer (row.Client c) l within none f = tt
   row_grows rows o later h longer (row.Asking c b call) l within none f = called-lawful.fits_longer call o later h longer l within f
-  row_grows rows o later h longer (row.Begun c t m) l within none f = (f.0, others_fit w p q k t o later h longer l (none (version_of t.start) refl) f.1)
+  row_grows rows o later h longer (row.Begun c t m) l within none f = (f.0, others_fit w p q k t o later h longer l (none (version_of t.start) refl) f.1, f.2)
   row_grows rows o later h longer (row.Calling c x b) l within none f = tt
   row_grows rows o later h longer (row.Past c) l within none f = tt
   row_grows rows o later h longer (row.Working c job) l within none f = (f.0, behind_grows job o later h longer (row_at rows f.0) l within f.1)
@@ -166,6 +166,7 @@ module _ {P Q K A B D : Type 0} (w : Ways P Q K A B D) (p : IsLawful w.prewritin
     draws = draws_grow s askers rest h (e ∷ h) (Within-one e h) a.draws;
     answerable = answerable_more rest h e a.answerable;
     owned = λ t r i. a.owned t r (commits_before h (e ∷ h) t r adds i);
+    optimistic = λ t r i. elim i [ inl same ↦ subst SendsNothing same (posts_sends_nothing e quiet) | inr was ↦ a.optimistic t r was ];
     apart = a.apart;
   }
     where
@@ -185,6 +186,7 @@ arisen_fewer w s askers x rest h a = record {
   draws = record { starts = a.draws.starts; groups = a.draws.groups; given = λ y time i. a.draws.given y time (inr i) };
   answerable = a.answerable.1;
   owned = a.owned;
+  optimistic = a.optimistic;
   apart = a.apart;
 }
 
@@ -203,6 +205,7 @@ module _ {P Q K : Type 0} where
   pub holds_grow : (h longer : List Event) (o : Outcome) (r : Row P Q K) → Within h longer → HoldsOf h o r → HoldsOf longer o r
   holds_grow h longer (outcomes.Ok (payloads.Number v)) r within x = x
   holds_grow h longer (outcomes.Ok (payloads.Commit (Some v))) r within x = committed_grows h longer v r within x
+  holds_grow h longer (outcomes.Ok (payloads.Commit None)) r within x = x
   holds_grow h longer o r within x = tt
 
   -- where each row is as right as before

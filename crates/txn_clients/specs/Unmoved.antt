@@ -8,8 +8,6 @@ use Rattle.txn_law.specs.Run.{IsPossible}
 use Rattle.txn_model.specs.Store.{Store}
 use Rattle.txn_model.specs.Table.{table}
 use Rattle.txn_commit.specs.Committing.{Ways}
-use Rattle.txn_report.specs.declared.outcome.Outcome.TheVariants as outcomes
-use Rattle.txn_report.specs.declared.outcome.Payload.TheVariants as payloads
 use Rattle.txn_side.specs.Arising.{Arises, IsOutside}
 use Rattle.txn_side.specs.Sight.{Sight, nobody}
 use Rattle.txn_trace.specs.Answering.{OracleFits}
@@ -50,6 +48,7 @@ module _ {P Q K A B D : Type 0} (w : Ways P Q K A B D) where
     };
     answerable = tt;
     owned = λ x r i. absurd i;
+    optimistic = λ x r i. absurd i;
     apart = λ i j v x y. absurd (subst (HasStart v) (plain i) x);
   }
     where

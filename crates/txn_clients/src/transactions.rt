@@ -4,7 +4,8 @@ ghost use Rattle.txn_clients.specs.Rows.{answer_in};
 ghost use Rattle.txn_clients.specs.declared.answer.Answer.TheVariants.{Called};
 ghost use Rattle.txn_clients.specs.declared.told.Told.TheVariants as tells;
 ghost use Rattle.std.specs.Prelude.{◌≡◌, ◌<◌, ◌^◌, IsTrue, Ok, false, ⊤, true};
-ghost use Rattle.txn_clients.specs.Accounts.{HasHeard, HasTaken, IsQuiet, account_of, says_undetermined};
+ghost use Rattle.txn_clients.specs.Accounts.{EndsCommit, HasHeard, HasTaken, IsQuiet, TellsEnd, account_of, says_undetermined, stage_of};
+ghost use Rattle.txn_clients.specs.Closing.{stage_after, status_by};
 ghost use Rattle.txn_clients.specs.Failing.{CameIn, KnowsAsk};
 ghost use Rattle.txn_clients.specs.Rows.{IsTold};
 ghost use Rattle.txn_clients.specs.Waiting.{StandGoes};
@@ -12,9 +13,10 @@ ghost use Rattle.txn_commit.specs.Committing.{ways};
 ghost use Rattle.txn_core.specs.Going.{TransactionReady};
 ghost use Rattle.txn_core.specs.Transaction.{is_open};
 ghost use Rattle.txn_history.specs.Posted.{HasNumbers};
-ghost use Rattle.txn_history.specs.Turn.{IfKept, turn_of};
+ghost use Rattle.txn_history.specs.Turn.{IfEnds, IfKept, turn_of};
+ghost use Rattle.txn_history.specs.Turn.Turn.{Ends};
 ghost use Rattle.txn_plan.specs.Arrivals.{MayArrive, awaited_as};
-ghost use Rattle.txn_side.specs.declared.act.Act.TheVariants.{Rollback};
+ghost use Rattle.txn_side.specs.declared.act.Act.TheVariants as acts;
 
 use crate::answer::Pd;
 use txn_commit::PlanFor;
@@ -25,18 +27,128 @@ use txn_kv::{
 use txn_plan::Arrival;
 use txn_side::Act;
 
-/// Whether the answer, if there is one, says that it is not known whether the transaction is committed.
-fn says_undetermined<Q>(progress: &Progress<TxnAnswer<Q>>) -> bool
-    ensures { result ≡ says_undetermined (turn_of (Ok progress.now)) }
+/// Whether the answer says that it is not known whether the transaction is committed.
+fn says_undetermined<Q>(answer: &txn_kv::Result<TxnAnswer<Q>>) -> bool
+    ensures { result ≡ says_undetermined (Ends answer.now) }
 {
-    matches!(progress, Progress::Done(Err(Error::UndeterminedError(_))))
+    matches!(answer, Err(Error::UndeterminedError(_)))
 }
 
 /// Whether the status stayed, where the answer says that it is not known whether the transaction is committed.
 fn fits_status<Q>(progress: &Progress<TxnAnswer<Q>>, before: Status, after: Status) -> bool
     ensures { IsTrue result → says_undetermined (turn_of (Ok progress.now)) ≡ true → after ≡ before }
 {
-    !says_undetermined(progress) || after == before
+    match progress {
+        Progress::Waiting => true,
+        Progress::Done(answer) => !says_undetermined(answer) || after == before,
+    }
+}
+
+/// Whether a commit may end with the answer.
+fn ends_commit<Q>(answer: &txn_kv::Result<TxnAnswer<Q>>) -> bool
+    ensures { IsTrue result → EndsCommit answer.now }
+{
+    matches!(answer, Ok(TxnAnswer::Committed(_, _)) | Err(_))
+}
+
+/// Whether the answer of a commit tells how the transaction stands.
+fn tells_end<P, Q, K>(
+    answer: &txn_kv::Result<TxnAnswer<Q>>,
+    transaction: &Transaction<Pd, P, Q, K>,
+) -> bool
+where
+    P: PlanFor<PrewriteRequest>,
+    Q: PlanFor<CommitRequest>,
+    K: PlanFor<BatchRollbackRequest>,
+    ensures { IsTrue result → TellsEnd answer.now transaction.now }
+{
+    if !ends_commit(answer) {
+        return false;
+    }
+    transaction.status() != Status::StartedCommit
+        || says_undetermined(answer) == transaction.lost_commit().is_some()
+}
+
+/// Whether the answer of a commit, if there is one, tells how the transaction stands.
+fn tells_progress<P, Q, K>(
+    progress: &Progress<TxnAnswer<Q>>,
+    transaction: &Transaction<Pd, P, Q, K>,
+) -> bool
+where
+    P: PlanFor<PrewriteRequest>,
+    Q: PlanFor<CommitRequest>,
+    K: PlanFor<BatchRollbackRequest>,
+    ensures { IsTrue result → IfEnds (turn_of (Ok progress.now)) (λ v. TellsEnd v transaction.now) }
+{
+    match progress {
+        Progress::Waiting => true,
+        Progress::Done(answer) => tells_end(answer, transaction),
+    }
+}
+
+/// The status of a transaction whose call, which commits or rolls back, has answered later than in its own line.
+fn status_by<Q>(commits: bool, answer: &txn_kv::Result<TxnAnswer<Q>>) -> Status
+    ensures { result ≡ status_by commits answer.now }
+{
+    if commits {
+        match answer {
+            Ok(TxnAnswer::Committed(_, _)) => Status::Committed,
+            _ => Status::StartedCommit,
+        }
+    } else {
+        match answer {
+            Ok(TxnAnswer::Unit) => Status::Rolledback,
+            _ => Status::StartedRollback,
+        }
+    }
+}
+
+/// Whether a transaction has come as far as the answer of its call says, which commits or rolls back, and came later than in its
+/// own line.
+pub fn has_come_to<P, Q, K>(
+    transaction: &Transaction<Pd, P, Q, K>,
+    commits: bool,
+    answer: &txn_kv::Result<TxnAnswer<Q>>,
+) -> bool
+where
+    P: PlanFor<PrewriteRequest>,
+    Q: PlanFor<CommitRequest>,
+    K: PlanFor<BatchRollbackRequest>,
+    ensures { IsTrue result → stage_of transaction.now ≡ stage_after commits answer.now }
+{
+    if transaction.status() != status_by(commits, answer) {
+        return false;
+    }
+    !commits || (!transaction.is_busy() && tells_end(answer, transaction))
+}
+
+/// A transaction is committed.
+fn commit<P, Q, K>(
+    transaction: &mut Transaction<Pd, P, Q, K>,
+    pd: &mut Pd,
+    now: u64,
+    out: &mut Outbox,
+) -> Result<Progress<TxnAnswer<Q>>, NoMemory>
+where
+    P: PlanFor<PrewriteRequest>,
+    Q: PlanFor<CommitRequest>,
+    K: PlanFor<BatchRollbackRequest>,
+    requires idle { is_open transaction.old.work ≡ false }
+    requires ready { TransactionReady (ways P.meaning Q.meaning K.meaning P.refuses Q.refuses K.refuses) transaction.old }
+    requires numbers { HasNumbers out.old }
+    requires clock { now < 2 ^ 44 }
+    requires quiet { IsQuiet transaction.old }
+    ensures told { IfKept (turn_of result) (IsTold (ways P.meaning Q.meaning K.meaning P.refuses Q.refuses K.refuses) transaction.new out.old out.new (turn_of result)) }
+    ensures taken { IfKept (turn_of result) (HasTaken acts.Commit transaction.old transaction.new (turn_of result)) }
+    ensures goes { IfKept (turn_of result) (StandGoes (ways P.meaning Q.meaning K.meaning P.refuses Q.refuses K.refuses) (λ a. ⊥) ⊤ (λ trace. KnowsAsk trace out.old.line acts.Commit (account_of transaction.old)) transaction.old transaction.new out.old out.new (turn_of result)) }
+    ensures moves { IfKept (turn_of result) (StandMoves (ways P.meaning Q.meaning K.meaning P.refuses Q.refuses K.refuses) (tells.Act acts.Commit) transaction.old transaction.new out.old out.new (answer_in Called (turn_of result))) }
+{
+    let progress = transaction.commit(pd, now, out)?;
+    // An error says that the end of the commit is not known exactly where a Commit was lost or is not refused.
+    if !tells_progress(&progress, transaction) {
+        return Err(NoMemory);
+    }
+    Ok(progress)
 }
 
 /// A transaction is rolled back.
@@ -56,9 +168,9 @@ where
     requires clock { now < 2 ^ 44 }
     requires quiet { IsQuiet transaction.old }
     ensures told { IfKept (turn_of result) (IsTold (ways P.meaning Q.meaning K.meaning P.refuses Q.refuses K.refuses) transaction.new out.old out.new (turn_of result)) }
-    ensures taken { IfKept (turn_of result) (HasTaken Rollback transaction.old transaction.new (turn_of result)) }
-    ensures goes { IfKept (turn_of result) (StandGoes (ways P.meaning Q.meaning K.meaning P.refuses Q.refuses K.refuses) (λ a. ⊥) ⊤ (λ trace. KnowsAsk trace out.old.line Rollback (account_of transaction.old)) transaction.old transaction.new out.old out.new (turn_of result)) }
-    ensures moves { IfKept (turn_of result) (StandMoves (ways P.meaning Q.meaning K.meaning P.refuses Q.refuses K.refuses) (tells.Act Rollback) transaction.old transaction.new out.old out.new (answer_in Called (turn_of result))) }
+    ensures taken { IfKept (turn_of result) (HasTaken acts.Rollback transaction.old transaction.new (turn_of result)) }
+    ensures goes { IfKept (turn_of result) (StandGoes (ways P.meaning Q.meaning K.meaning P.refuses Q.refuses K.refuses) (λ a. ⊥) ⊤ (λ trace. KnowsAsk trace out.old.line acts.Rollback (account_of transaction.old)) transaction.old transaction.new out.old out.new (turn_of result)) }
+    ensures moves { IfKept (turn_of result) (StandMoves (ways P.meaning Q.meaning K.meaning P.refuses Q.refuses K.refuses) (tells.Act acts.Rollback) transaction.old transaction.new out.old out.new (answer_in Called (turn_of result))) }
 {
     let before = transaction.status();
     let progress = transaction.rollback(pd, now, out)?;
@@ -97,7 +209,7 @@ where
         Act::Delete(key) => transaction.delete(pd, key, now, out),
         Act::Mutate(mutations) => transaction.batch_mutate(pd, mutations.into_vec(), now, out),
         Act::Lock(keys) => transaction.lock_keys(pd, keys.into_vec(), now, out),
-        Act::Commit => transaction.commit(pd, now, out),
+        Act::Commit => commit(transaction, pd, now, out),
         Act::Rollback => roll_back(transaction, pd, now, out),
     }
 }

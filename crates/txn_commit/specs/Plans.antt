@@ -6,7 +6,7 @@ use Rattle.txn_kv.specs.declared.reply.PrewriteResponse.{PrewriteResponse}
 use Rattle.txn_kv.specs.declared.reply.Reply.TheVariants as reply
 use Rattle.txn_kv.specs.declared.request.PrewriteRequest.{PrewriteRequest}
 use Rattle.txn_kv.specs.declared.request.Request.{Request}
-use Rattle.txn_kv.specs.declared.request.Request.TheVariants.{Prewrite, Commit, BatchRollback, UnsafeDestroyRange}
+use Rattle.txn_kv.specs.declared.request.Request.TheVariants.{Prewrite, Commit, BatchRollback, PessimisticLock, UnsafeDestroyRange}
 use Rattle.txn_kv.specs.declared.ticket.Ticket.{Ticket}
 use Rattle.txn_history.specs.Among.{IsAmong}
 use Rattle.txn_history.specs.Event.{Event, Has}
@@ -42,11 +42,12 @@ abbrev pub only_key : Key → Plan
 only_key k = record { primary = k; writes = λ _. None }
 
 -- It looks for regions and stores, and settles the locks of others, as the licences allow. These rest on no plan. It destroys
--- no range.
+-- no range, and asks for no pessimistic lock.
 abbrev pub IsForeign : List Event → Request → Type 0
 IsForeign h (Prewrite r) = ⊥
 IsForeign h (Commit r) = ⊥
 IsForeign h (BatchRollback r) = ⊥
+IsForeign h (PessimisticLock r) = ⊥
 IsForeign h (UnsafeDestroyRange r) = ⊥
 IsForeign h r = IsLicensed (λ _. only_key []) h r
 

@@ -4,7 +4,7 @@ use Rattle.txn_kv.specs.Timestamp.{version_of}
 use Rattle.txn_kv.specs.declared.message.Mutation.{Mutation}
 use Rattle.txn_kv.specs.declared.request.CommitRequest.{CommitRequest}
 use Rattle.txn_kv.specs.declared.request.Request.{Request}
-use Rattle.txn_kv.specs.declared.request.Request.TheVariants.{Prewrite, Commit, BatchRollback, UnsafeDestroyRange}
+use Rattle.txn_kv.specs.declared.request.Request.TheVariants.{Prewrite, Commit, BatchRollback, PessimisticLock, UnsafeDestroyRange}
 use Rattle.txn_kv.specs.declared.ticket.Ticket.{Ticket}
 use Rattle.txn_kv.specs.declared.timestamp.Timestamp.{Timestamp}
 use Rattle.txn_history.specs.Event.{Event, Has}
@@ -41,11 +41,12 @@ CommitMayGo plan h r = (k : Key) → has_key r.keys k ≡ true
     → ((k ≡ plan.primary) × PrimaryMayGo plan h r.start_version r.commit_version) ⊎ ((k ≢ plan.primary) × PrimaryCommitted plan h r.start_version r.commit_version)
 
 -- Of its own start it sends what the licences allow under its plan. What it sends for others, to settle a lock that it met,
--- rests on no plan. It destroys no range: that would take away what others committed.
+-- rests on no plan. It asks for no pessimistic lock. It destroys no range: that would take away what others committed.
 abbrev pub MaySend : Plan → ℕ → List Event → Request → Type 0
 MaySend plan s h (Prewrite r) = (r.start_version ≡ s) × PrewriteLicence plan h r
 MaySend plan s h (Commit r) = (r.start_version ≡ s) × CommitMayGo plan h r
 MaySend plan s h (BatchRollback r) = (r.start_version ≡ s) × BatchRollbackLicence plan h r
+MaySend plan s h (PessimisticLock r) = ⊥
 MaySend plan s h (UnsafeDestroyRange r) = ⊥
 MaySend plan s h r = IsLicensed (λ _. plan) h r
 

@@ -13,7 +13,8 @@ ghost use Rattle.txn_kv.specs.Timestamp.{version_of};
 ghost use Rattle.txn_kv.specs.declared.reply.Reply.{Reply};
 ghost use Rattle.txn_kv.specs.declared.request.Request.{Request};
 ghost use Rattle.txn_kv.specs.declared.request.CommitRequest.{CommitRequest as Committing};
-ghost use Rattle.txn_kv.specs.declared.request.Request.TheVariants.{Commit, UnsafeDestroyRange};
+ghost use Rattle.txn_kv.specs.declared.request.Request.TheVariants.{Commit, PessimisticLock, UnsafeDestroyRange};
+ghost use Rattle.txn_kv.specs.declared.request.PessimisticLockRequest.{PessimisticLockRequest};
 ghost use Rattle.txn_kv.specs.declared.request.UnsafeDestroyRangeRequest.{UnsafeDestroyRangeRequest};
 ghost use Rattle.txn_kv.specs.declared.ticket.Ticket.{Ticket};
 ghost use Rattle.txn_kv.specs.declared.timestamp.Timestamp.{Timestamp};
@@ -85,4 +86,10 @@ pub fn others_are_not_followed()
 pub fn no_range_is_destroyed()
     ensures sent { (plan : Plan) (s : ℕ) (h : List Event) (r : UnsafeDestroyRangeRequest) → MaySend plan s h (UnsafeDestroyRange r) → ⊥ }
     ensures foreign { (h : List Event) (r : UnsafeDestroyRangeRequest) → IsForeign h (UnsafeDestroyRange r) → ⊥ }
+{}
+
+/// Nor does any ask for a pessimistic lock: each transaction is optimistic.
+pub fn no_pessimistic_lock_is_asked_for()
+    ensures sent { (plan : Plan) (s : ℕ) (h : List Event) (r : PessimisticLockRequest) → MaySend plan s h (PessimisticLock r) → ⊥ }
+    ensures foreign { (h : List Event) (r : PessimisticLockRequest) → IsForeign h (PessimisticLock r) → ⊥ }
 {}

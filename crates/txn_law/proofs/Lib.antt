@@ -8,6 +8,7 @@ pub mod Among
 pub mod Shown
 pub mod Replies
 pub mod Kept
+pub mod Serving
 pub mod Wholes
 pub mod OneRequest
 pub mod Reading

@@ -19,12 +19,13 @@ use Rattle.txn_model.specs.declared.cell.Write.{Write}
 use Rattle.txn_model.specs.Cells.{cell_at}
 use Rattle.txn_model.specs.Locks.{has_start, commit_of, is_prewrite}
 use Rattle.txn_law.specs.Run.{store_after, IsRun}
-use Rattle.txn_law.specs.Whole.{content, HasCommit, HasLock, IsWholeAt, IsAbsent, IsWholeOrAbsent, KeyCommitted, FitsAnswers}
+use Rattle.txn_law.specs.Whole.{content, HasCommit, HasLock, IsWholeAt, IsAbsent, IsWholeOrAbsent, KeyCommitted, FitsAnswers, PrimaryServed}
 use Rattle.txn_law.proofs.Phases.{Phase, phase, IsSound}
 use Rattle.txn_law.proofs.Phases.Phase.{Free, Locked, Committed, RolledBack}
 use Rattle.txn_law.proofs.Coherent.{IsDecidedAt}
 use Rattle.txn_law.proofs.Replies.{phases, IsCommitted, lock_is_phase}
 use Rattle.txn_law.proofs.Kept.{Inv, kept, decided, told, means_taken}
+use Rattle.txn_law.proofs.Serving.{primary_served}
 
 found_commit : (ws : List Write) (s : ℕ) (w : Write) → commit_of ws s ≡ Some w → IsAmong ws w × (w.start ≡ s)
 found_commit [] s w h = absurd (cc)
@@ -83,6 +84,15 @@ module _ (plans : ℕ → Plan) (es : List Event) (i : Inv plans es) (s : ℕ) w
       by_one : (a b : ℕ) → IsDecidedAt (plans s) (phases (store_after es) s) a → IsDecidedAt (plans s) (phases (store_after es) s) b → a ≡ b
       by_one a b d e = let x = d.1 in let y = e.1 in cc
 
+  -- who is whole at c has its primary committed at c
+  decided_there : (c : ℕ) → IsWholeAt (plans s) (store_after es).cells s c → IsDecidedAt (plans s) (phases (store_after es) s) c
+  decided_there c h =
+      let p = (plans s).primary in
+      let w = h.primary.1 in
+      let x = content w.write.kind w.write.value in
+      let o : phases (store_after es) s p ≡ Committed w.write.commit x = write_stands p w.write w.among w.start in
+      (x, subst (λ t. phases (store_after es) s p ≡ Committed t x) w.commit o)
+
   pub absent : ((c : ℕ) → IsDecidedAt (plans s) (phases (store_after es) s) c → ⊥) → IsAbsent (store_after es).cells s
   absent n k w h e = n w.commit ((i.coherent s).committed k w.commit (content w.kind w.value) (write_stands k w h e)).1
 
@@ -112,12 +122,11 @@ law_rolled_back plans es run s h =
 
 -- what is committed was sent to the primary at this timestamp
 pub law_named : (plans : ℕ → Plan) (es : List Event) → IsRun plans es → (s c : ℕ) → IsWholeAt (plans s) (store_after es).cells s c → WasNamed (plans s) es s c
-law_named plans es run s c h =
-    let i = kept plans es run in
-    let p = (plans s).primary in
-    let w = h.primary.1 in
-    let o : phases (store_after es) s p ≡ Committed w.write.commit (content w.write.kind w.write.value) = write_stands plans es i s p w.write w.among w.start in
-    ((i.coherent s).named c (content w.write.kind w.write.value, subst (λ t. phases (store_after es) s p ≡ Committed t (content w.write.kind w.write.value)) w.commit o)).0
+law_named plans es run s c h = let i = kept plans es run in ((i.coherent s).named c (decided_there plans es i s c h)).0
+
+-- and a Commit of the primary at this timestamp was served
+pub law_served : (plans : ℕ → Plan) (es : List Event) → IsRun plans es → (s c : ℕ) → IsWholeAt (plans s) (store_after es).cells s c → PrimaryServed (plans s) es s c
+law_served plans es run s c h = primary_served plans es run s c (decided_there plans es (kept plans es run) s c h)
 
 -- all primary commits of a start name one timestamp
 pub law_one : (plans : ℕ → Plan) (es : List Event) → IsRun plans es → (s c d : ℕ) → WasNamed (plans s) es s c → WasNamed (plans s) es s d → c ≡ d

@@ -1,6 +1,6 @@
 -- A run: what happened may happen, and every request is licensed when it is sent.
 use Rattle.txn_kv.specs.declared.request.PessimisticLockRequest.{PessimisticLockRequest}
-use Rattle.std.specs.Prelude.{◌≡◌, ◌⊎◌, ℕ, List, [], ◌∷◌, Some, None, Ok, Err}
+use Rattle.std.specs.Prelude.{◌≡◌, ◌⊎◌, ℕ, List, [], ◌∷◌, Some, Ok, Err}
 use Rattle.txn_kv.specs.Timestamp.{version_of}
 use Rattle.txn_kv.specs.declared.request.Request.{Request}
 use Rattle.txn_kv.specs.declared.request.Request.TheVariants.{UnsafeDestroyRange, PessimisticLock}

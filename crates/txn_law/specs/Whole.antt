@@ -5,7 +5,7 @@ use Rattle.txn_kv.specs.declared.request.Request.TheVariants.{Commit}
 use Rattle.txn_kv.specs.declared.reply.CommitResponse.{CommitResponse}
 use Rattle.txn_kv.specs.declared.reply.Reply.TheVariants as reply
 use Rattle.txn_history.specs.Event.{Event, Has}
-use Rattle.txn_history.specs.Event.Event.{Took}
+use Rattle.txn_history.specs.Event.Event.{Served, Took}
 use Rattle.txn_history.specs.Licence.{IsWithoutError, PrimaryCommitted, WasNamed}
 use Rattle.std.specs.Prelude.{◌≡◌, ◌≢◌, ◌⊎◌, ℕ, true, List, Some}
 use Rattle.txn_history.specs.Among.{IsAmong}
@@ -55,6 +55,18 @@ IsWholeOrAbsent plan cells s = ((c : ℕ) × IsWholeAt plan cells s c) ⊎ IsAbs
 -- a Commit of s that names the key was answered without error
 abbrev pub KeyCommitted : List Event → ℕ → Key → Type 0
 KeyCommitted es s k = (t : Ticket) × (r : CommitRequest) × (o : CommitResponse) × Has es (Took t (Commit r) (reply.Commit o)) × IsWithoutError (reply.Commit o) × (r.start_version ≡ s) × (has_key r.keys k ≡ true)
+
+-- a Commit of s at c that names the primary was served without error, and its reply says that c was committed
+pub record PrimaryServed (plan : Plan) (es : List Event) (s c : ℕ) : Type 0 where
+  pub ticket : Ticket
+  pub request : CommitRequest
+  pub response : CommitResponse
+  pub served : Has es (Served ticket (Commit request) (reply.Commit response))
+  pub fine : IsWithoutError (reply.Commit response)
+  pub start : request.start_version ≡ s
+  pub commit : request.commit_version ≡ c
+  pub primary : has_key request.keys plan.primary ≡ true
+  pub says : response.commit_version ≡ request.commit_version
 
 -- What was answered fits what is there: nothing of s where no commit of its primary was answered, or s whole at one c that
 -- each such answer named, and that a Commit of the primary named.

@@ -17,7 +17,7 @@ ghost use Rattle.txn_model.specs.Cells.{cell_at};
 ghost use Rattle.txn_model.specs.Locks.{has_start, is_prewrite};
 ghost use Rattle.txn_law.specs.Part.{LocksForUpdate, WasGivenBack};
 ghost use Rattle.txn_law.specs.Run.{IsRun, store_after};
-ghost use Rattle.txn_law.specs.Whole.{FitsAnswers, IsWholeAt, IsAbsent, IsWholeOrAbsent, KeyCommitted};
+ghost use Rattle.txn_law.specs.Whole.{FitsAnswers, IsWholeAt, IsAbsent, IsWholeOrAbsent, KeyCommitted, PrimaryServed};
 
 /// Whatever is lost, comes late or crashes: each transaction is whole at one commit timestamp or not at all.
 pub fn whole_or_nothing()
@@ -43,6 +43,9 @@ pub fn whole_or_nothing()
     // What is whole at c was sent to the primary at c.
     ensures named { (plans : ℕ → Plan) (events : List Event) → IsRun plans events →
         (s c : ℕ) → IsWholeAt (plans s) (store_after events).cells s c → WasNamed (plans s) events s c }
+    // And it was committed by a Commit of the primary at c that was served without error.
+    ensures served { (plans : ℕ → Plan) (events : List Event) → IsRun plans events →
+        (s c : ℕ) → IsWholeAt (plans s) (store_after events).cells s c → PrimaryServed (plans s) events s c }
     // All commits of the primary name one timestamp.
     ensures one { (plans : ℕ → Plan) (events : List Event) → IsRun plans events →
         (s c d : ℕ) → WasNamed (plans s) events s c → WasNamed (plans s) events s d → c ≡ d }

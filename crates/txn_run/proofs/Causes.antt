@@ -275,7 +275,7 @@ ran_script bytes lines items report same script lawful causes behind = record {
   causes = told;
   exact = all_exact (λ n e. IsCaused (trace_at (reverse lines) report n) n e) (λ n e is c. never_caused (trace_at (reverse lines) report n) n e is c) report.outcomes report.ended (reverse lines) as_script.accounts told;
   calm = causes_meet (λ n e c. fails_calmly (trace_at (reverse lines) report n) n e c) report.outcomes report.ended (reverse lines) told;
-  whole = lines_whole plans (reverse lines) report (subst (λ ls. AreBehind plans (reverse ls) report) same behind) as_script.folded;
+  whole = lines_whole plans (reverse lines) report (subst (λ ls. AreBehind plans (reverse ls) report) same behind) as_script.folded as_script.told as_script.events as_script.accounts;
 }
   where
     as_script : Lawful lines report

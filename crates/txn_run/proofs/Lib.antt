@@ -1,3 +1,6 @@
+mod ServedOnce
+mod Stages
+mod Unlocked
 mod Wholeness
 mod Refusing
 mod Calming

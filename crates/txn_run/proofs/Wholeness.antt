@@ -1,29 +1,42 @@
 -- From a history that clients can have arisen from to transactions that are whole.
 use Rattle.std.proofs.Common.{◌≡◌, ◌≢◌, inl, inr, zero, suc, ℕ, Bool, true, false, List, [], ◌∷◌, Option, Some, None, length, nat_eq, refl, sym, ap, ◌∙◌, subst, arith}
 use Rattle.std.proofs.lemmas.Bool.Decides.{nat_tests}
-use Rattle.std.specs.Prelude.{◌<◌, ◌+◌, if◌then◌else◌, Ok}
+use Rattle.std.specs.Prelude.{◌<◌, ◌+◌, if◌then◌else◌, is_some}
 use Rattle.txn_kv.specs.Timestamp.{version_of}
-use Rattle.txn_history.specs.Event.{Event}
+use Rattle.txn_kv.specs.declared.request.Request.TheVariants.{Commit, PessimisticLock}
+use Rattle.txn_history.specs.Among.{IsAmong}
+use Rattle.txn_history.specs.Event.{Event, Has}
+use Rattle.txn_history.specs.Event.Event.{Sent, Took}
 use Rattle.txn_history.specs.Licence.{PrimaryCommitted, WasNamed}
 use Rattle.txn_history.specs.Plan.{Content, Plan}
-use Rattle.txn_law.specs.Run.{IsRun, store_after}
-use Rattle.txn_law.specs.Whole.{FitsAnswers, IsAbsent, IsWholeAt}
-use Rattle.txn_law.proofs.Wholes.{law_above, law_fits}
+use Rattle.txn_history.specs.Posted.{Posted}
+use Rattle.txn_law.specs.Run.{IsOptimistic, IsRun, store_after}
+use Rattle.txn_law.specs.Whole.{FitsAnswers, IsAbsent, IsWholeAt, PrimaryServed}
+use Rattle.txn_law.proofs.Apart.{law_between}
+use Rattle.txn_law.proofs.Kept.{kept}
+use Rattle.txn_law.proofs.Wholes.{law_above, law_fits, law_served}
 use Rattle.txn_model.specs.Store.{Store}
 use Rattle.txn_model.specs.declared.cell.Cell.{Cell}
 use Rattle.txn_commit.specs.Committing.{Ways}
+use Rattle.txn_commit.specs.Following.{KnowsCommits, or_first, undetermined}
 use Rattle.txn_commit.specs.Parts.{parts_of}
 use Rattle.txn_commit.specs.Sending.{plan_of}
 use Rattle.txn_commit.specs.declared.commit_parts.CommitParts.{CommitParts}
-use Rattle.txn_core.specs.Status.{allows_data}
-use Rattle.txn_core.specs.Transaction.{Standing}
+use Rattle.txn_core.specs.Going.{IsAtWork}
+use Rattle.txn_core.specs.Status.{allows_data, has_turned_back}
+use Rattle.txn_core.specs.Transaction.{Standing, has_given_up, is_open}
+use Rattle.txn_core.specs.declared.status.Status.{Status}
+use Rattle.txn_core.specs.declared.status.Status.TheVariants.{ReadOnly, Active, Committed, StartedCommit, Rolledback, StartedRollback, Dropped}
+use Rattle.txn_core.specs.declared.transaction.Work.{Work}
+use Rattle.txn_core.specs.declared.transaction.Work.TheVariants as works
 use Rattle.txn_kv.specs.declared.ticket.Ticket.{Ticket}
 use Rattle.txn_lines.specs.Lines.{line_at}
 use Rattle.txn_lines.specs.declared.begin_options.BeginOptions.{BeginOptions}
 use Rattle.txn_lines.specs.declared.line.Line.{Line}
 use Rattle.txn_lines.specs.declared.line.Line.TheVariants as lines
+use Rattle.txn_machine.specs.Accounts.{AccountsMeetLines}
 use Rattle.txn_machine.specs.Arising.{AllHold, HoldsBy}
-use Rattle.txn_machine.specs.Causes.{Role, role_of}
+use Rattle.txn_machine.specs.Causes.{EventsMeetLines, Role, TellsLines, answers, ended_of, role_of}
 use Rattle.txn_machine.specs.Causes.Role.{AsksTime, UsesTransaction}
 use Rattle.txn_machine.specs.Rows.{IsRow, outcome_in, role_in, stand_in}
 use Rattle.txn_machine.specs.Rows.{Row as Kind}
@@ -32,26 +45,30 @@ use Rattle.txn_machine.specs.Script.{FoldsLines, history, outcome_of}
 use Rattle.txn_machine.proofs.Numberings.{has_line, line_range}
 use Rattle.txn_report.specs.declared.outcome.Outcome.{Outcome}
 use Rattle.txn_report.specs.declared.outcome.Outcome.TheVariants as outcomes
-use Rattle.txn_report.specs.declared.outcome.Payload.TheVariants.{Number}
+use Rattle.txn_report.specs.declared.outcome.Payload.TheVariants.{Number, Commit as CommittedAt}
 use Rattle.txn_report.specs.declared.report.Report.{Report}
-use Rattle.txn_side.specs.Account.{Account}
+use Rattle.txn_side.specs.Account.{Account, Status as Stage}
 use Rattle.txn_side.specs.Sight.{Stand, stand_at}
 use Rattle.txn_side.specs.Sight.Stand.{HasBegun, Idle}
 use Rattle.txn_trace.specs.Seeing.{seen}
-use Rattle.txn_trace.proofs.Seen.{seen_runs}
-use Rattle.txn_clients.specs.Accounts.{account_at}
+use Rattle.txn_trace.proofs.Seen.{had_seen, seen_had, seen_runs}
+use Rattle.txn_clients.specs.Accounts.{account_at, account_of, stage_by}
 use Rattle.txn_clients.specs.Accounts.{account_in as account_in_row}
 use Rattle.txn_clients.specs.Arising.{BeganAt as StartsAt}
-use Rattle.txn_clients.specs.Arising.{Arisen, HasPlan, HasStart, HavePlans, HoldsAt, IsCommittedSo}
-use Rattle.txn_clients.specs.Clients.{row_at, rows_of, stands_of}
+use Rattle.txn_clients.specs.Arising.{Arisen, HasPlan, HasStart, HavePlans, HoldsAt, IsCommittedSo, IsCommittedUnlocked, RowFits, StandFits}
+use Rattle.txn_clients.specs.Clients.{nexts_of, row_at, rows_of, stands_of}
 use Rattle.txn_clients.specs.Growing.{plans_found, plans_in}
 use Rattle.txn_clients.specs.Rows.{stand_of}
+use Rattle.txn_clients.specs.Waiting.{asks_of, posted_at, voice_at}
 use Rattle.txn_clients.proofs.Tables.{stand_read}
 use Rattle.txn_clients.specs.declared.clients.Clients.{Clients}
 use Rattle.txn_clients.specs.declared.row.Row.{Row}
 use Rattle.txn_clients.specs.declared.row.Row.TheVariants as row
 use Rattle.txn_run.specs.Behind.{AreBehind}
-use Rattle.txn_run.specs.Whole.{AreWhole, BeganAt, CommitAnswered, FitsCommits, account_in}
+use Rattle.txn_run.specs.Whole.{AreWhole, BeganAt, CommitAnswered, FitsCommits, IsAlone, MayBeDone, MayHaveCommitted, RollbackAnswered, account_in}
+use Rattle.txn_run.proofs.ServedOnce.{AreServedOnce, done_unrefused, history_once}
+use Rattle.txn_run.proofs.Stages.{CommitCame, IsAtEnd, Tells, stage_tells, stays_rolled}
+use Rattle.txn_run.proofs.Unlocked.{unlocked_never}
 
 -- A plan that writes nothing
 
@@ -89,6 +106,9 @@ without_other v n plans apart = by (nat_eq n v) refl
 
 none_some : {X : Type 0} (x : X) → None ≡ Some x → ⊥
 none_some x e = cc
+
+some_same : {X : Type 0} {a b : X} → Some a ≡ Some b → a ≡ b
+some_same e = cc
 
 -- what is held of all lines is held of each
 held_at : (holds : ℕ → Outcome → Type 0) (outs : List Outcome) (script : List Line) (n : ℕ) (line : Line) → AllHold holds outs script → line_at script n ≡ Some line → HoldsBy holds n (role_of line) (outcome_of outs n)
@@ -168,6 +188,12 @@ is_begin (lines.Lead region store) k e = absurd (cc)
 is_begin (lines.Clock ms) k e = absurd (cc)
 is_begin (lines.Crash client) k e = absurd (cc)
 
+-- what is known of Commits, where none was lost and each was refused
+none_left : (lost : Option Ticket) (out : List Ticket) → or_first lost out ≡ None → (lost ≡ None) × (out ≡ [])
+none_left (Some t) out e = absurd (none_some t (sym e))
+none_left None (t ∷ ts) e = absurd (none_some t (sym e))
+none_left None [] e = (refl, refl)
+
 -- The clients behind a report
 
 module _ {P Q K A B D : Type 0} (w : Ways P Q K A B D) (script : List Line) (report : Report) (s : Clients P Q K) (askers : Ticket → List ℕ) (h : List Event)
@@ -178,7 +204,9 @@ module _ {P Q K A B D : Type 0} (w : Ways P Q K A B D) (script : List Line) (rep
     (none : (n : ℕ) → line_at script n ≡ None → stand_at (stands_of (rows_of s)) n ≡ Idle)
     (folds : report.store ≡ store_after (history report.sent report.outcomes script))
     (plans : ℕ → Plan) (are : HavePlans plans (rows_of s))
-    (apart : (i j v : ℕ) → HasStart v (row_at (rows_of s) i) → HasStart v (row_at (rows_of s) j) → i ≡ j) where
+    (apart : (i j v : ℕ) → HasStart v (row_at (rows_of s) i) → HasStart v (row_at (rows_of s) j) → i ≡ j)
+    (once : AreServedOnce (history report.sent report.outcomes script)) (undone : (n x : ℕ) → line_at script n ≡ Some (lines.Commit x) → outcome_of report.outcomes n ≢ outcomes.Done)
+    (accounted : AccountsMeetLines script report) where
   abbrev shown : List Event
   shown = history report.sent report.outcomes script
 
@@ -282,9 +310,15 @@ module _ {P Q K A B D : Type 0} (w : Ways P Q K A B D) (script : List Line) (rep
 
   -- What a commit answered
 
+  ended_at : (i n : ℕ) (o : Outcome) → line_at script n ≡ Some (lines.Commit (suc i)) → outcome_of report.outcomes n ≡ o → HoldsBy (λ x o. HoldsAt (rows_of s) shown x o) n (UsesTransaction true (suc i)) o
+  ended_at i n o there answered =
+      subst (λ (p : Outcome). HoldsBy (λ x o. HoldsAt (rows_of s) shown x o) n (UsesTransaction true (suc i)) p) answered (held_at (λ x o. HoldsAt (rows_of s) shown x o) report.outcomes script n (lines.Commit (suc i)) held there)
+
   committed_at : (i n d : ℕ) → CommitAnswered script report (suc i) n d → IsCommittedSo shown d (row_at (rows_of s) i)
-  committed_at i n d (there, answered) =
-      subst (λ (o : Outcome). HoldsBy (λ x o. HoldsAt (rows_of s) shown x o) n (UsesTransaction true (suc i)) o) answered (held_at (λ x o. HoldsAt (rows_of s) shown x o) report.outcomes script n (lines.Commit (suc i)) held there)
+  committed_at i n d (there, answered) = ended_at i n _ there answered
+
+  unlocked_at : (i n : ℕ) → line_at script n ≡ Some (lines.Commit (suc i)) → outcome_of report.outcomes n ≡ outcomes.Ok (CommittedAt None) → IsCommittedUnlocked (row_at (rows_of s) i)
+  unlocked_at i n there answered = ended_at i n _ there answered
 
   module _ (x v : ℕ) (k : Stands x v) where
     abbrev t : Standing P Q K
@@ -296,11 +330,16 @@ module _ {P Q K A B D : Type 0} (w : Ways P Q K A B D) (script : List Line) (rep
     commits : (n d : ℕ) → CommitAnswered script report x n d → IsCommittedSo shown d (row.Begun k.client t k.waits)
     commits n d c = subst (λ (r : Row P Q K). IsCommittedSo shown d r) k.here (committed_at k.place n d (subst (λ y. CommitAnswered script report y n d) k.is c))
 
-    contents_are : t.contents ≡ (account_in script report x).contents
-    contents_are =
-        ap (λ (a : Account). a.contents) (
+    unlocks : (n : ℕ) → line_at script n ≡ Some (lines.Commit x) → outcome_of report.outcomes n ≡ outcomes.Ok (CommittedAt None) → IsCommittedUnlocked (row.Begun k.client t k.waits)
+    unlocks n there answered = subst (λ (r : Row P Q K). IsCommittedUnlocked r) k.here (unlocked_at k.place n (subst (λ y. line_at script n ≡ Some (lines.Commit y)) k.is there) answered)
+
+    account_is : account_of t ≡ account_in script report x
+    account_is =
         sym (ap (λ (r : Row P Q K). account_in_row r) k.here)
-        ∙ subst (λ y. account_at (rows_of s) y ≡ account_in script report x) k.is (accounts x))
+        ∙ subst (λ y. account_at (rows_of s) y ≡ account_in script report x) k.is (accounts x)
+
+    contents_are : t.contents ≡ (account_in script report x).contents
+    contents_are = ap (λ (a : Account). a.contents) account_is
 
     -- where it is still written, or has nothing to commit, no plan is asked of it
     unbound : ((parts : CommitParts) → allows_data t.status ≡ false → parts_of t.contents ≡ Some parts → ⊥) → FitsCommits script report x v
@@ -312,25 +351,102 @@ module _ {P Q K A B D : Type 0} (w : Ways P Q K A B D) (script : List Line) (rep
         free : IsFree v
         free i start some = subst (λ (r : Row P Q K). HasPlan some r) (sym (ap (λ j. row_at (rows_of s) j) (apart i k.place v start starts) ∙ k.here)) (λ closed parts is. absurd (never parts closed is))
 
+    shown_run : IsRun plans shown
+    shown_run = subst (IsRun plans) shows (seen_runs plans h (arisen.run plans are))
+
+    planned_so : (parts : CommitParts) → allows_data t.status ≡ false → parts_of t.contents ≡ Some parts → plans v ≡ plan_of parts
+    planned_so parts closed is = ap plans (sym k.start) ∙ subst (λ (r : Row P Q K). HasPlan plans r) k.here (are k.place) closed parts is
+
+    -- Where it is whole, some commit of it may have done that.
+    module _ (parts : CommitParts) (closed : allows_data t.status ≡ false) (is : parts_of t.contents ≡ Some parts) (c : ℕ) (whole : IsWholeAt (plan_of parts) cells v c) where
+      abbrev own : Posted
+      own = posted_at (nexts_of s) (asks_of s) (voice_at (rows_of s) k.place)
+
+      stand_fits : StandFits w t own h
+      stand_fits = subst (λ (r : Row P Q K). RowFits w (rows_of s) own h r) k.here (arisen.rows k.place)
+
+      -- what is known of the Commits of its primary
+      knows : (g : Work P Q K) → t.work ≡ g → KnowsCommits (plan_of parts) v t.commits h
+      knows g e = subst (λ u. KnowsCommits (plan_of parts) u t.commits h) k.start (by g (subst (λ (y : Work P Q K). IsAtWork w t.start t.status t.contents t.commits y own h) e stand_fits.1.at) (sym (ap has_given_up e) ∙ stand_fits.2))
+        where
+          by : (g : Work P Q K) → IsAtWork w t.start t.status t.contents t.commits g own h → has_given_up g ≡ false → KnowsCommits (plan_of parts) (version_of t.start) t.commits h
+          by works.Idle at lives = (at.of_parts parts is).knows
+          by (works.Open call) at lives = subst (λ (p : CommitParts). KnowsCommits (plan_of p) (version_of t.start) t.commits h) (some_same (sym at.whole ∙ is)) (subst (λ u. KnowsCommits (plan_of call.parts) (version_of u) t.commits h) at.own at.fits.knows)
+          by works.GaveUp at lives = absurd (cc)
+
+      served : PrimaryServed (plan_of parts) shown v c
+      served =
+          let planned = planned_so parts closed is in
+          subst (λ (p : Plan). PrimaryServed p shown v c) planned
+          (law_served plans shown shown_run v c (subst (λ (st : Store). IsWholeAt (plans v) st.cells v c) folds (subst (λ (p : Plan). IsWholeAt p cells v c) (sym planned) whole)))
+
+      -- a Commit of its primary was lost, or is not refused
+      never_settled : undetermined t.commits ≡ None → ⊥
+      never_settled none = elim ((knows t.work refl).all served.ticket served.request sent (record { start = served.start; primary = served.primary })) [
+        | inl refused ↦ done_unrefused plans shown shown_run once served.ticket served.request served.request served.response served.served served.fine served.says (refused.0, subst (λ es. Has es (Took served.ticket (Commit served.request) refused.0)) shows (had_seen h _ tt refused.1), refused.2)
+        | inr left ↦ elim left [ inl lost ↦ lost settled.0 | inr out ↦ subst (λ ts. IsAmong ts served.ticket) settled.1 out ]
+      ]
+        where
+          settled : (t.commits.lost ≡ None) × (t.commits.out ≡ [])
+          settled = none_left t.commits.lost t.commits.out none
+
+          sent : Has h (Sent served.ticket (Commit served.request))
+          sent = (seen_had h _ (subst (λ es. Has es (Sent served.ticket (Commit served.request))) (sym shows) ((kept plans shown shown_run).sent served.ticket (Commit served.request) _ served.served))).0
+
+      tells : (status : Status) (busy doubtful : Bool) → t.status ≡ status → is_open t.work ≡ busy → is_some (undetermined t.commits) ≡ doubtful → Tells (λ n. outcome_of report.outcomes n) (λ n. ended_of report.ended n) x (stage_by status busy doubtful) script
+      tells status busy doubtful e f g =
+          subst (λ a. Tells (λ n. outcome_of report.outcomes n) (λ n. ended_of report.ended n) x a script) (sym (ap (λ (a : Account). a.status) account_is) ∙ (λ i. stage_by (e i) (f i) (g i)))
+          (stage_tells (λ n. outcome_of report.outcomes n) (λ n. ended_of report.ended n) x script (λ n there. undone n x there))
+
+      -- one that is at its end answered a timestamp, since it locks some key
+      timed : CommitCame (λ n. outcome_of report.outcomes n) (λ n. ended_of report.ended n) x IsAtEnd script → MayHaveCommitted script report x
+      timed (n, there, ended) = (n, there, by (outcome_of report.outcomes n) refl ended)
+        where
+          by : (o : Outcome) → outcome_of report.outcomes n ≡ o → IsAtEnd o → MayBeDone o
+          by (outcomes.Ok (CommittedAt (Some d))) e at = tt
+          by (outcomes.Ok (CommittedAt None)) e at = absurd (unlocked_never t.contents parts cells v c is (unlocks n there e).1 whole)
+          by _ e at = absurd at
+
+      may_have_committed : MayHaveCommitted script report x
+      may_have_committed = by t.status refl
+        where
+          started : (busy : Bool) (left : Option Ticket) → is_open t.work ≡ busy → undetermined t.commits ≡ left → t.status ≡ StartedCommit → MayHaveCommitted script report x
+          started true left f g e = tells StartedCommit true (is_some left) e f (ap is_some g)
+          started false (Some u) f g e = tells StartedCommit false true e f (ap is_some g)
+          started false None f g e = absurd (never_settled g)
+
+          by : (status : Status) → t.status ≡ status → MayHaveCommitted script report x
+          by ReadOnly e = absurd (let no = sym (ap allows_data e) ∙ closed in cc)
+          by Active e = absurd (let no = sym (ap allows_data e) ∙ closed in cc)
+          by Committed e = timed (tells Committed (is_open t.work) (is_some (undetermined t.commits)) e refl refl)
+          by StartedCommit e = started (is_open t.work) (undetermined t.commits) refl refl e
+          by Rolledback e = absurd (never_settled (stand_fits.1.settled (ap has_turned_back e)))
+          by StartedRollback e = absurd (never_settled (stand_fits.1.settled (ap has_turned_back e)))
+          by Dropped e = timed (tells Dropped (is_open t.work) (is_some (undetermined t.commits)) e refl refl)
+
     bound : (parts : CommitParts) → allows_data t.status ≡ false → parts_of t.contents ≡ Some parts → FitsCommits script report x v
     bound parts closed is = elim (subst (λ (p : Plan). FitsAnswers p shown cells v) planned (fits plans are v)) [
       | inl a ↦ inl (a.0, λ n d c. let q = commits n d c in a.1 d (same_plan d q))
-      | inr b ↦ inr (b.0, record { parts = parts; wrote = sym (ap parts_of contents_are) ∙ is; whole = b.1; above = above b.0 b.3 }, λ n d c. let q = commits n d c in b.2 d (same_plan d q))
+      | inr b ↦ inr (b.0, record { parts = parts; wrote = sym (ap parts_of contents_are) ∙ is; whole = b.1; above = above b.0 b.3; alone = alone b.0 b.1 }, (λ n d c. let q = commits n d c in b.2 d (same_plan d q)), may_have_committed parts closed is b.0 b.1)
     ]
       where
         planned : plans v ≡ plan_of parts
-        planned = ap plans (sym k.start) ∙ subst (λ (r : Row P Q K). HasPlan plans r) k.here (are k.place) closed parts is
+        planned = planned_so parts closed is
+
+        optimistic : IsOptimistic shown v
+        optimistic u r sent start = arisen.optimistic u r (seen_had h (Sent u (PessimisticLock r)) (subst (λ es. Has es (Sent u (PessimisticLock r))) (sym shows) sent)).0
+
+        alone : (c : ℕ) → IsWholeAt (plan_of parts) cells v c → IsAlone (plan_of parts) cells v c
+        alone c whole = subst (λ (p : Plan). IsAlone p cells v c) planned (subst (λ (st : Store). IsAlone (plans v) st.cells v c) (sym folds)
+            (law_between plans shown shown_run v c optimistic (subst (λ (st : Store). IsWholeAt (plans v) st.cells v c) folds (subst (λ (p : Plan). IsWholeAt p cells v c) (sym planned) whole))))
 
         above : (c : ℕ) → WasNamed (plan_of parts) shown v c → v < c
-        above c named = law_above plans shown (subst (IsRun plans) shows (seen_runs plans h (arisen.run plans are))) v c (subst (λ (p : Plan). WasNamed p shown v c) (sym planned) named)
+        above c named = law_above plans shown shown_run v c (subst (λ (p : Plan). WasNamed p shown v c) (sym planned) named)
 
         same_plan : (d : ℕ) → IsCommittedSo {P = P} {Q = Q} {K = K} shown d (row.Begun k.client t k.waits) → PrimaryCommitted (plan_of parts) shown v d
         same_plan d q =
             let one : q.0 ≡ parts = some_same (sym q.2 ∙ is) in
             subst (λ (p : CommitParts). PrimaryCommitted (plan_of p) shown v d) one (subst (λ u. PrimaryCommitted (plan_of q.0) shown u d) k.start q.3)
-          where
-            some_same : {a b : CommitParts} → Some a ≡ Some b → a ≡ b
-            some_same e = cc
 
     fits_commits : FitsCommits script report x v
     fits_commits = by (allows_data t.status) refl (parts_of t.contents) refl
@@ -340,16 +456,53 @@ module _ {P Q K A B D : Type 0} (w : Ways P Q K A B D) (script : List Line) (rep
         by false e None f = unbound (λ parts closed is. none_some parts (sym f ∙ is))
         by false e (Some parts) f = bound parts e f
 
+    -- no commit is there of one that is rolled back
+    rolled_back : (n : ℕ) → RollbackAnswered script report x n → IsAbsent cells v
+    rolled_back n (there, answered) = elim fits_commits [
+      | inl a ↦ a.0
+      | inr b ↦ absurd (never b.1.parts (contents_wrote b.1.parts b.1.wrote) b.0 b.1.whole)
+    ]
+      where
+        contents_wrote : (parts : CommitParts) → parts_of (account_in script report x).contents ≡ Some parts → parts_of t.contents ≡ Some parts
+        contents_wrote parts wrote = ap parts_of contents_are ∙ wrote
+
+        stage : stage_by t.status (is_open t.work) (is_some (undetermined t.commits)) ≡ Stage.RolledBack
+        stage = ap (λ (a : Account). a.status) account_is ∙ stays_rolled report.outcomes report.ended script x n accounted there answered
+
+        -- no other status is told so
+        status : (s : Status) (busy doubtful : Bool) → stage_by s busy doubtful ≡ Stage.RolledBack → s ≡ Rolledback
+        status Rolledback busy doubtful e = refl
+        status ReadOnly busy doubtful e = absurd (cc)
+        status Active busy doubtful e = absurd (cc)
+        status Committed busy doubtful e = absurd (cc)
+        status StartedCommit true doubtful e = absurd (cc)
+        status StartedCommit false true e = absurd (cc)
+        status StartedCommit false false e = absurd (cc)
+        status StartedRollback busy doubtful e = absurd (cc)
+        status Dropped busy doubtful e = absurd (cc)
+
+        turned : t.status ≡ Rolledback
+        turned = status t.status (is_open t.work) (is_some (undetermined t.commits)) stage
+
+        never : (parts : CommitParts) → parts_of t.contents ≡ Some parts → (c : ℕ) → IsWholeAt (plan_of parts) cells v c → ⊥
+        never parts is c whole =
+            let closed : allows_data t.status ≡ false = ap allows_data turned in
+            never_settled parts closed is c whole ((stand_fits parts closed is c whole).1.settled (ap has_turned_back turned))
+
   pub are_whole : AreWhole script report
   are_whole = record {
     each = λ x v began. fits_commits x v (stands x v began);
+    rolled = λ x v n began answered. rolled_back x v (stands x v began) n answered;
     apart = λ x y v one other. let a = stands x v one in let b = stands y v other in a.is ∙ ap suc (apart a.place b.place v (starts x v a) (starts y v b)) ∙ sym b.is;
     others = λ v never. nothing_there v (λ i start some. absurd (never (suc i) (line_began i v start)));
   }
 
 -- So it is where clients that can have arisen from the lines are behind the report.
 pub lines_whole : {P Q K A B D : Type 0} (w : Ways P Q K A B D) (script : List Line) (report : Report)
-    → AreBehind w script report → FoldsLines script report → AreWhole script report
-lines_whole w script report a folds =
+    → AreBehind w script report → FoldsLines script report → TellsLines script report → EventsMeetLines script report → AccountsMeetLines script report → AreWhole script report
+lines_whole w script report a folds told events accounted =
     let now = a.arisen.now in
     are_whole w script report a.clients now.1 now.2 now.3 now.4 a.arisen.answers a.taken a.rows a.none folds.store (plans_in (rows_of a.clients)) (plans_found (rows_of a.clients) now.4.apart) now.4.apart
+    (history_once report.sent report.sleeps report.outcomes report.ended script events)
+    (λ n x there done. let kind = told.kinds n (lines.Commit x) there in let no = sym (ap (answers (UsesTransaction true x)) done) ∙ kind in absurd (cc))
+    accounted

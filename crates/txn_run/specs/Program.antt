@@ -40,7 +40,7 @@ pub record RanScript (bytes : List ℕ) (report : Report) : Type 0 where
   pub exact : AreExact (reverse lines) report
   -- and one with which nothing went wrong does not fail
   pub calm : AreCalm (reverse lines) report
-  -- each transaction is whole at one commit timestamp or not there at all, as its commits answered
+  -- each transaction is whole at one commit timestamp or not there at all, as its commits and its rollbacks answered
   pub whole : AreWhole (reverse lines) report
 
 -- the bytes are no script of the first path

@@ -5,7 +5,7 @@ ghost use Rattle.txn_clients.specs.declared.answer.Answer.TheVariants.{Called};
 ghost use Rattle.txn_clients.specs.declared.row.Row.TheVariants.{Plain};
 ghost use Rattle.std.specs.Prelude.{◌≡◌, ◌<◌, ◌^◌, ◌-◌, ℕ, Option, true, length, IfOk, IfSome, IsTrue, OnOk, Bool, List, None, Some, false};
 ghost use Rattle.txn_clients.specs.Accounts.{AccountsTold, AnswersNew, AnswersTold, BeginsNew, account_at, is_heard};
-ghost use Rattle.txn_clients.specs.Closing.{ClosesIn, EndsCall, EndsOwn, GoesTold, HasComeTo, StandsAt, status_by};
+ghost use Rattle.txn_clients.specs.Closing.{ClosesIn, EndsCall, EndsOwn, GoesTold, HasComeTo, StandsAt, stage_after};
 ghost use Rattle.txn_clients.specs.Clients.{AreReady, HearsFor, IsLine, Listens, MayEnd, crashed_of, groups_of, nexts_of, row_at, rows_of, sight_of};
 ghost use Rattle.std.proofs.Common.{suc};
 ghost use Rattle.txn_clients.specs.Failing.{AnswerRests, CameIn, FailsAt, IfFails, MayKnow, outbox_of, posting_in};
@@ -29,30 +29,14 @@ use crate::clients::{Clients, Listener};
 use crate::endings::Ended;
 use crate::row::Row;
 use crate::told::Told;
+use crate::transactions::has_come_to;
 use std::mem;
 use txn_client::ClientAnswer;
 use txn_commit::PlanFor;
-use txn_core::{Status, TxnAnswer};
+use txn_core::TxnAnswer;
 use txn_kv::{BatchRollbackRequest, CommitRequest, NoMemory, Outbox, PrewriteRequest};
 use txn_plan::Arrival;
 use txn_side::{Ending, Turn};
-
-/// How far a transaction has come whose call, which commits or rolls back, has answered later than in its own line.
-fn status_by<Q>(commits: bool, answer: &txn_kv::Result<TxnAnswer<Q>>) -> Status
-    ensures { result ≡ status_by commits answer.now }
-{
-    if commits {
-        match answer {
-            Ok(TxnAnswer::Committed(_, _)) => Status::Committed,
-            _ => Status::StartedCommit,
-        }
-    } else {
-        match answer {
-            Ok(TxnAnswer::Unit) => Status::Rolledback,
-            _ => Status::StartedRollback,
-        }
-    }
-}
 
 impl<P, Q, K> Clients<P, Q, K>
 where
@@ -222,13 +206,13 @@ where
         }
     }
 
-    /// Whether a transaction that stands at a place has this status.
-    fn stands_at(&self, at: usize, status: Status) -> bool
+    /// Whether a transaction that stands at a place has come as far as the answer of its call says, which commits or rolls back.
+    fn stands_at(&self, at: usize, commits: bool, answer: &txn_kv::Result<TxnAnswer<Q>>) -> bool
         requires { at < length (rows_of self.now) }
-        ensures { IsTrue result → StandsAt status (row_at (rows_of self.now) at) }
+        ensures { IsTrue result → StandsAt (stage_after commits answer.now) (row_at (rows_of self.now) at) }
     {
         match &self.places[at].row {
-            Row::Begun { transaction, .. } => transaction.status() == status,
+            Row::Begun { transaction, .. } => has_come_to(transaction, commits, answer),
             _ => true,
         }
     }
@@ -240,7 +224,7 @@ where
         ensures { IsTrue result → HasComeTo (stand_at (sight_of self.now).stands line) answer.now (row_at (rows_of self.now) at) }
     {
         match self.row(line) {
-            Row::Calling { commits, .. } => self.stands_at(at, status_by(*commits, answer)),
+            Row::Calling { commits, .. } => self.stands_at(at, *commits, answer),
             _ => true,
         }
     }

@@ -1,4 +1,4 @@
-use Rattle.txn_law.proofs.Wholes.{law_decided, law_fits, law_whole, law_committed, law_rolled_back, law_rolled_stays, law_no_lock, law_above, law_named, law_one, law_unlocked, law_recorded}
+use Rattle.txn_law.proofs.Wholes.{law_decided, law_fits, law_whole, law_committed, law_rolled_back, law_rolled_stays, law_no_lock, law_above, law_named, law_served, law_one, law_unlocked, law_recorded}
 use Rattle.txn_law.proofs.Origins.{law_no_lock_left}
 use Rattle.txn_law.proofs.whole.whole_or_nothing.Goals as goal
 
@@ -16,6 +16,9 @@ returns-clause-rolled_stays c = law_rolled_stays
 
 pub returns-clause-named : goal.returns-clause-named
 returns-clause-named c = law_named
+
+pub returns-clause-served : goal.returns-clause-served
+returns-clause-served c = law_served
 
 pub returns-clause-one : goal.returns-clause-one
 returns-clause-one c = law_one
