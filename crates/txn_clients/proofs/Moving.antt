@@ -106,7 +106,7 @@ module _ {P Q K : Type 0} where
     quiet = inl quiet;
   }
 
-  -- Once a call of it has ended, it is written no more.
+  -- One that commits or rolls back is written no more.
 
   off_commit : (old new : Standing P Q K) (turn : Turn (Result (TxnAnswer Q) Error)) → is_open old.work ≡ false → allows_commit old.status ≡ true
       → (old.work ≡ Idle → new.status ≡ status_step old.status (commits (commit_outcome turn) (is_some (parts_of old.contents)))) → GivesUp old new turn → IfKept turn (allows_data new.status ≡ false)

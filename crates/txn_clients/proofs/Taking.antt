@@ -43,7 +43,6 @@ use Rattle.txn_side.specs.declared.act.Act.{Act}
 use Rattle.txn_side.specs.declared.act.Act.TheVariants as acts
 use Rattle.txn_core.specs.declared.options.TransactionOptions.{TransactionOptions}
 use Rattle.txn_core.specs.declared.options.TransactionKind.TheVariants.{Optimistic}
-use Rattle.txn_clients.specs.Closing.{stage_after, status_by}
 use Rattle.txn_clients.specs.Accounts.{BeginsNew, EndsAtOnce, HasHeard, HasTaken, IsNew, IsQuiet, TellsEnd, WantsNew, account_of, come_to, says_undetermined, stage_by, stage_of}
 
 -- which of the two a flag is
@@ -300,30 +299,6 @@ module _ {P Q K : Type 0} where
   open_same : (old new : Standing P Q K) → new.status ≡ old.status → is_open old.work ≡ true → is_open new.work ≡ true → stage_of new ≡ stage_of old
   open_same old new status was is = stage_open new is ∙ ap (λ (s : Status). stage_by s true (is_some (undetermined new.commits))) status
       ∙ open_stage old.status (is_some (undetermined new.commits)) (is_some (undetermined old.commits)) ∙ sym (stage_open old was)
-
-  -- Where its call has answered later than in its own line, and its status is what that says: it has come so far, where it rolls back,
-
-  pub stage_back : (t : Standing P Q K) (v : Result (TxnAnswer Q) Error) → t.status ≡ status_by false v → stage_of t ≡ stage_after false v
-  stage_back t (Err why) e = stage_so t statuses.StartedRollback e
-  stage_back t (Ok (answer.Committed time job)) e = stage_so t statuses.StartedRollback e
-  stage_back t (Ok answer.Unit) e = stage_so t statuses.Rolledback e
-  stage_back t (Ok (answer.Value x)) e = stage_so t statuses.StartedRollback e
-  stage_back t (Ok (answer.Exists b)) e = stage_so t statuses.StartedRollback e
-  stage_back t (Ok (answer.Pairs ps)) e = stage_so t statuses.StartedRollback e
-  stage_back t (Ok (answer.Keys ks)) e = stage_so t statuses.StartedRollback e
-  stage_back t (Ok (answer.Ttl n)) e = stage_so t statuses.StartedRollback e
-
-  -- or commits, and the answer tells how it stands
-  pub stage_forward : (t : Standing P Q K) (v : Result (TxnAnswer Q) Error) → t.status ≡ status_by true v → is_open t.work ≡ false → TellsEnd v t → stage_of t ≡ stage_after true v
-  stage_forward t (Err why) e rests tells = stage_started t false (is_undetermined why) e rests (sym (tells.known e)) ∙ failed_so (is_undetermined why)
-  stage_forward t (Ok (answer.Committed (Some time) job)) e rests tells = stage_so t statuses.Committed e
-  stage_forward t (Ok (answer.Committed None job)) e rests tells = stage_so t statuses.Committed e
-  stage_forward t (Ok answer.Unit) e rests tells = absurd tells.kind
-  stage_forward t (Ok (answer.Value x)) e rests tells = absurd tells.kind
-  stage_forward t (Ok (answer.Exists b)) e rests tells = absurd tells.kind
-  stage_forward t (Ok (answer.Pairs ps)) e rests tells = absurd tells.kind
-  stage_forward t (Ok (answer.Keys ks)) e rests tells = absurd tells.kind
-  stage_forward t (Ok (answer.Ttl n)) e rests tells = absurd tells.kind
 
   -- Writes.
 

@@ -144,7 +144,7 @@ where
     ensures moves { IfKept (turn_of result) (StandMoves (ways P.meaning Q.meaning K.meaning P.refuses Q.refuses K.refuses) (tells.Act acts.Commit) transaction.old transaction.new out.old out.new (answer_in Called (turn_of result))) }
 {
     let progress = transaction.commit(pd, now, out)?;
-    // An error says that the end of the commit is not known exactly where a Commit was lost or is not refused.
+    // It answers that its end is not known exactly where a Commit was lost or is not refused: no plan makes it say otherwise.
     if !tells_progress(&progress, transaction) {
         return Err(NoMemory);
     }
