@@ -13,7 +13,6 @@ use Rattle.txn_kv.specs.declared.message.KeyError.TheVariants.{Locked}
 use Rattle.txn_kv.specs.declared.message.LockInfo.{LockInfo}
 use Rattle.txn_kv.specs.declared.message.RegionErr.{RegionErr}
 use Rattle.txn_kv.specs.declared.message.RegionErr.TheVariants.{EpochNotMatch}
-use Rattle.txn_kv.specs.declared.region.RegionWithLeader.{RegionWithLeader}
 use Rattle.txn_kv.specs.declared.reply.Reply.{Reply}
 use Rattle.txn_kv.specs.declared.request.Request.{Request}
 use Rattle.txn_kv.specs.declared.request.Request.TheVariants.{GetRegion}
@@ -22,7 +21,7 @@ use Rattle.txn_history.specs.Among.{IsAmong}
 use Rattle.txn_causes.specs.Carried.{FoundOther, HasBadKey, HasKeyError, HasLock, HasNoEpoch, HasNoLeader, HasRegion, HasRegionError, IsReversed, ToldWithoutEpoch}
 use Rattle.txn_causes.specs.Causes.{AreSome, HasCause, InternalCause, PlainCause, Taken}
 use Rattle.txn_causes.specs.Causes as causes
-use Rattle.txn_causes.specs.Heard.Heard.{TookReply, WasLost}
+use Rattle.txn_causes.specs.Heard.Heard.{WasLost}
 use Rattle.txn_causes.specs.Kinds.{IsOfKind}
 use Rattle.txn_clients.specs.Want.{is_memory, some_want_memory, wants_memory}
 use Rattle.txn_side.specs.Trace.{IsCalled, Trace}

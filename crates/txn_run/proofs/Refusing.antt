@@ -1,5 +1,5 @@
 -- Errors that come only where a line is refused.
-use Rattle.std.proofs.Common.{◌≡◌, ◌⊎◌, inl, inr, ℕ, false, List, [], ◌∷◌, length, Option, Some, None, refl, sym, ap, ◌∙◌, subst}
+use Rattle.std.proofs.Common.{◌≡◌, ◌⊎◌, inl, inr, ℕ, List, [], ◌∷◌, length, Option, Some, None, refl, sym, ap, ◌∙◌, subst}
 use Rattle.txn_causes.specs.Causes.{HasCause, PlainCause}
 use Rattle.txn_causes.specs.Heard.{Heard}
 use Rattle.txn_kv.specs.ErrorView.{ErrorView, view_of, view_step}
