@@ -65,7 +65,7 @@ use Rattle.txn_clients.specs.declared.clients.Clients.{Clients}
 use Rattle.txn_clients.specs.declared.row.Row.{Row}
 use Rattle.txn_clients.specs.declared.row.Row.TheVariants as row
 use Rattle.txn_run.specs.Behind.{AreBehind}
-use Rattle.txn_run.specs.Whole.{AreWhole, BeganAt, CommitAnswered, FitsCommits, IsAlone, MayBeDone, MayHaveCommitted, RollbackAnswered, account_in}
+use Rattle.txn_run.specs.Whole.{AreWhole, BeganAt, CommitAnswered, CommitAnsweredNone, FitsCommits, IsAlone, MayBeDone, MayHaveCommitted, RollbackAnswered, account_in}
 use Rattle.txn_run.proofs.ServedOnce.{AreServedOnce, done_unrefused, history_once}
 use Rattle.txn_run.proofs.Stages.{CommitCame, IsAtEnd, Tells, stage_tells, stays_rolled}
 use Rattle.txn_run.proofs.Unlocked.{unlocked_never}
@@ -456,16 +456,23 @@ module _ {P Q K A B D : Type 0} (w : Ways P Q K A B D) (script : List Line) (rep
         by false e None f = unbound (λ parts closed is. none_some parts (sym f ∙ is))
         by false e (Some parts) f = bound parts e f
 
-    -- no commit is there of one that is rolled back
+    contents_wrote : (parts : CommitParts) → parts_of (account_in script report x).contents ≡ Some parts → parts_of t.contents ≡ Some parts
+    contents_wrote parts wrote = ap parts_of contents_are ∙ wrote
+
+    -- no commit is there of one that locked no key
+    answered_none : (n : ℕ) → CommitAnsweredNone script report x n → IsAbsent cells v
+    answered_none n (there, answered) = elim fits_commits [
+      | inl a ↦ a.0
+      | inr b ↦ absurd (unlocked_never t.contents b.1.parts cells v b.0 (contents_wrote b.1.parts b.1.wrote) (unlocks n there answered).1 b.1.whole)
+    ]
+
+    -- nor of one that is rolled back
     rolled_back : (n : ℕ) → RollbackAnswered script report x n → IsAbsent cells v
     rolled_back n (there, answered) = elim fits_commits [
       | inl a ↦ a.0
       | inr b ↦ absurd (never b.1.parts (contents_wrote b.1.parts b.1.wrote) b.0 b.1.whole)
     ]
       where
-        contents_wrote : (parts : CommitParts) → parts_of (account_in script report x).contents ≡ Some parts → parts_of t.contents ≡ Some parts
-        contents_wrote parts wrote = ap parts_of contents_are ∙ wrote
-
         stage : stage_by t.status (is_open t.work) (is_some (undetermined t.commits)) ≡ Stage.RolledBack
         stage = ap (λ (a : Account). a.status) account_is ∙ stays_rolled report.outcomes report.ended script x n accounted there answered
 
@@ -493,6 +500,7 @@ module _ {P Q K A B D : Type 0} (w : Ways P Q K A B D) (script : List Line) (rep
   are_whole = record {
     each = λ x v began. fits_commits x v (stands x v began);
     rolled = λ x v n began answered. rolled_back x v (stands x v began) n answered;
+    unlocked = λ x v n began answered. answered_none x v (stands x v began) n answered;
     apart = λ x y v one other. let a = stands x v one in let b = stands y v other in a.is ∙ ap suc (apart a.place b.place v (starts x v a) (starts y v b)) ∙ sym b.is;
     others = λ v never. nothing_there v (λ i start some. absurd (never (suc i) (line_began i v start)));
   }

@@ -1,6 +1,6 @@
 -- Each transaction of a script is whole at one commit timestamp, or no commit of it is in the store, as its commit lines and its
 -- rollback lines answered. Lines stand here with the newest first.
-use Rattle.std.specs.Prelude.{◌≡◌, ◌≢◌, ◌⊎◌, ◌<◌, ◌≤◌, ⊤, ℕ, true, List, Some}
+use Rattle.std.specs.Prelude.{◌≡◌, ◌≢◌, ◌⊎◌, ◌<◌, ◌≤◌, ⊤, ℕ, true, List, Some, None}
 use Rattle.txn_commit.specs.Parts.{parts_of}
 use Rattle.txn_commit.specs.Sending.{plan_of}
 use Rattle.txn_commit.specs.declared.commit_parts.CommitParts.{CommitParts}
@@ -30,6 +30,10 @@ BeganAt script report x s = (client : ℕ) × (options : BeginOptions) × (line_
 -- a commit line of the transaction of line x answered this timestamp
 abbrev pub CommitAnswered : List Line → Report → ℕ → ℕ → ℕ → Type 0
 CommitAnswered script report x n c = (line_at script n ≡ Some (Commit x)) × (outcome_of report.outcomes n ≡ Ok (CommittedAt (Some c)))
+
+-- it answered none: it locked no key
+abbrev pub CommitAnsweredNone : List Line → Report → ℕ → ℕ → Type 0
+CommitAnsweredNone script report x n = (line_at script n ≡ Some (Commit x)) × (outcome_of report.outcomes n ≡ Ok (CommittedAt None))
 
 -- by this outcome of a commit line its transaction may be committed: it answered a timestamp, has not ended, or failed with UndeterminedError
 abbrev pub MayBeDone : Outcome → Type 0
@@ -71,10 +75,11 @@ FitsCommits script report x s =
     (IsAbsent report.store.cells s × ((n c : ℕ) → CommitAnswered script report x n c → ⊥))
     ⊎ ((c : ℕ) × IsWhole script report x s c × ((n d : ℕ) → CommitAnswered script report x n d → d ≡ c) × MayHaveCommitted script report x)
 
--- So it is of each transaction. No commit is in the store of one of which a rollback line answered ok. No two began at one timestamp,
--- and nothing else is committed.
+-- So it is of each transaction. No commit is in the store of one of which a rollback line answered ok, or a commit line none. No two
+-- began at one timestamp, and nothing else is committed.
 pub record AreWhole (script : List Line) (report : Report) : Type 0 where
   pub each : (x s : ℕ) → BeganAt script report x s → FitsCommits script report x s
   pub rolled : (x s n : ℕ) → BeganAt script report x s → RollbackAnswered script report x n → IsAbsent report.store.cells s
+  pub unlocked : (x s n : ℕ) → BeganAt script report x s → CommitAnsweredNone script report x n → IsAbsent report.store.cells s
   pub apart : (x y s : ℕ) → BeganAt script report x s → BeganAt script report y s → x ≡ y
   pub others : (s : ℕ) → ((x : ℕ) → BeganAt script report x s → ⊥) → IsAbsent report.store.cells s
