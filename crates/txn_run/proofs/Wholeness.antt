@@ -24,7 +24,7 @@ use Rattle.txn_commit.specs.Sending.{plan_of}
 use Rattle.txn_commit.specs.declared.commit_parts.CommitParts.{CommitParts}
 use Rattle.txn_core.specs.Going.{IsAtWork}
 use Rattle.txn_core.specs.Status.{allows_data, has_turned_back}
-use Rattle.txn_core.specs.Transaction.{Standing, has_given_up, is_open}
+use Rattle.txn_core.specs.Transaction.{Standing, has_given_up, is_open, locks_nothing}
 use Rattle.txn_core.specs.declared.status.Status.{Status}
 use Rattle.txn_core.specs.declared.status.Status.TheVariants.{ReadOnly, Active, Committed, StartedCommit, Rolledback, StartedRollback, Dropped}
 use Rattle.txn_core.specs.declared.transaction.Work.{Work}
@@ -460,11 +460,15 @@ module _ {P Q K A B D : Type 0} (w : Ways P Q K A B D) (script : List Line) (rep
     contents_wrote parts wrote = ap parts_of contents_are ∙ wrote
 
     -- no commit is there of one that locked no key
-    answered_none : (n : ℕ) → CommitAnsweredNone script report x n → IsAbsent cells v
-    answered_none n (there, answered) = elim fits_commits [
-      | inl a ↦ a.0
-      | inr b ↦ absurd (unlocked_never t.contents b.1.parts cells v b.0 (contents_wrote b.1.parts b.1.wrote) (unlocks n there answered).1 b.1.whole)
-    ]
+    answered_none : (n : ℕ) → CommitAnsweredNone script report x n → (locks_nothing (account_in script report x).contents ≡ true) × IsAbsent cells v
+    answered_none n (there, answered) =
+        let nothing = (unlocks n there answered).1 in (
+          sym (ap locks_nothing contents_are) ∙ nothing,
+          elim fits_commits [
+            | inl a ↦ a.0
+            | inr b ↦ absurd (unlocked_never t.contents b.1.parts cells v b.0 (contents_wrote b.1.parts b.1.wrote) nothing b.1.whole)
+          ],
+        )
 
     -- nor of one that is rolled back
     rolled_back : (n : ℕ) → RollbackAnswered script report x n → IsAbsent cells v

@@ -4,6 +4,7 @@ use Rattle.std.specs.Prelude.{◌≡◌, ◌≢◌, ◌⊎◌, ◌<◌, ◌≤�
 use Rattle.txn_commit.specs.Parts.{parts_of}
 use Rattle.txn_commit.specs.Sending.{plan_of}
 use Rattle.txn_commit.specs.declared.commit_parts.CommitParts.{CommitParts}
+use Rattle.txn_core.specs.Transaction.{locks_nothing}
 use Rattle.txn_history.specs.Among.{IsAmong}
 use Rattle.txn_history.specs.Plan.{Content, Key, Plan}
 use Rattle.txn_law.specs.Whole.{IsAbsent, IsWholeAt}
@@ -31,7 +32,7 @@ BeganAt script report x s = (client : ℕ) × (options : BeginOptions) × (line_
 abbrev pub CommitAnswered : List Line → Report → ℕ → ℕ → ℕ → Type 0
 CommitAnswered script report x n c = (line_at script n ≡ Some (Commit x)) × (outcome_of report.outcomes n ≡ Ok (CommittedAt (Some c)))
 
--- it answered none: it locked no key
+-- it answered none
 abbrev pub CommitAnsweredNone : List Line → Report → ℕ → ℕ → Type 0
 CommitAnsweredNone script report x n = (line_at script n ≡ Some (Commit x)) × (outcome_of report.outcomes n ≡ Ok (CommittedAt None))
 
@@ -75,11 +76,11 @@ FitsCommits script report x s =
     (IsAbsent report.store.cells s × ((n c : ℕ) → CommitAnswered script report x n c → ⊥))
     ⊎ ((c : ℕ) × IsWhole script report x s c × ((n d : ℕ) → CommitAnswered script report x n d → d ≡ c) × MayHaveCommitted script report x)
 
--- So it is of each transaction. No commit is in the store of one of which a rollback line answered ok, or a commit line none. No two
--- began at one timestamp, and nothing else is committed.
+-- So it is of each transaction. No commit is in the store of one of which a rollback line answered ok. A commit line answers none only
+-- where no key is locked by what was written, and then none is there either. No two began at one timestamp, and nothing else is committed.
 pub record AreWhole (script : List Line) (report : Report) : Type 0 where
   pub each : (x s : ℕ) → BeganAt script report x s → FitsCommits script report x s
   pub rolled : (x s n : ℕ) → BeganAt script report x s → RollbackAnswered script report x n → IsAbsent report.store.cells s
-  pub unlocked : (x s n : ℕ) → BeganAt script report x s → CommitAnsweredNone script report x n → IsAbsent report.store.cells s
+  pub unlocked : (x s n : ℕ) → BeganAt script report x s → CommitAnsweredNone script report x n → (locks_nothing (account_in script report x).contents ≡ true) × IsAbsent report.store.cells s
   pub apart : (x y s : ℕ) → BeganAt script report x s → BeganAt script report y s → x ≡ y
   pub others : (s : ℕ) → ((x : ℕ) → BeganAt script report x s → ⊥) → IsAbsent report.store.cells s
