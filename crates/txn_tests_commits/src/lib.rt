@@ -4,4 +4,8 @@
 #[cfg(test)]
 mod commit;
 #[cfg(test)]
+mod replies;
+#[cfg(test)]
 mod transaction;
+#[cfg(test)]
+mod words;
