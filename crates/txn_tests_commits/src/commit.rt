@@ -1,3 +1,3 @@
 mod calls;
-mod line;
+pub mod line;
 mod parts;

@@ -4,6 +4,8 @@
 #[cfg(test)]
 mod commit;
 #[cfg(test)]
+mod play;
+#[cfg(test)]
 mod replies;
 #[cfg(test)]
 mod transaction;

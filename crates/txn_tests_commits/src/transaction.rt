@@ -1,4 +1,4 @@
-mod line;
+pub mod line;
 mod options;
 mod script;
 mod stories;

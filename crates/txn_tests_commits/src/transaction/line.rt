@@ -3,15 +3,16 @@ ghost use Rattle.std.specs.Prelude.{◌≡◌, false};
 ghost use Rattle.txn_core.specs.Transaction.{is_open};
 ghost use Rattle.txn_kv.specs.Timestamp.{HasVersion};
 
+use crate::words::{answer_text, push_errands, shown};
 use std::alloc::Global;
 use std::marker::Model;
 use std::process::Abort;
 use txn_commit::PlanFor;
-use txn_core::{CloseAnswer, Status, Transaction, TransactionOptions, TxnAnswer};
+use txn_core::{CloseAnswer, Transaction, TransactionOptions, TxnAnswer};
 use txn_fakes::NoClient;
 use txn_kv::{
-    BatchRollbackRequest, CommitRequest, Errand, Error, Internal, Key, Mutation, Outbox,
-    PrewriteRequest, Progress, Reply, Ticket, Timestamp, Value,
+    BatchRollbackRequest, CommitRequest, Error, Internal, Key, Mutation, Outbox, PrewriteRequest,
+    Progress, Reply, Timestamp, Value,
 };
 /// The transaction began at 100 ms, and all its calls are made at 350 ms.
 #[derive(Drop)]
@@ -155,25 +156,29 @@ where
         turn.expect(rt, "memory")
     }
 
-    pub fn close(&mut self) -> CloseAnswer {
+    /// What is seen of a step: what is answered, and what is posted.
+    pub fn see(&mut self, rt: &impl Abort, alloc: Global, step: &str) -> String {
+        match step {
+            "close" => shown(rt, alloc, &self.close()),
+            "status" => shown(rt, alloc, &self.txn.status()),
+            "lost_commit" => shown(rt, alloc, &self.txn.lost_commit()),
+            _ => self.see_turn(rt, alloc, step),
+        }
+    }
+
+    fn close(&mut self) -> CloseAnswer {
         self.txn.close()
     }
 
-    pub fn status(&self) -> Status {
-        self.txn.status()
-    }
-
-    pub fn lost_commit(&self) -> Option<Ticket> {
-        self.txn.lost_commit()
-    }
-
-    pub fn is_busy(&self) -> bool {
-        self.txn.is_busy()
-    }
-
-    /// What the newest line has posted.
-    pub fn errands(&self) -> &[Errand] {
-        self.out.sends.as_slice()
+    /// A commit and a rollback stand on lines of their own, where nothing was posted before.
+    fn see_turn(&mut self, rt: &impl Abort, alloc: Global, step: &str) -> String {
+        let line = self.out.line;
+        let posted = self.out.sends.len();
+        let answer = self.take(rt, alloc, step);
+        let mut text = answer_text(rt, alloc, &answer, self.txn.is_busy());
+        let before = if self.out.line == line { posted } else { 0 };
+        push_errands(rt, &mut text, self.out.sends.as_slice(), before);
+        text
     }
 
     /// A write, a commit or a rollback is not made while another call is open.

@@ -1,22 +1,14 @@
 //! What a user does, step by step, and what the user sees.
 use super::line::Line;
 use crate::replies::{first, reply, second};
-use crate::words::{answer_text, push_errands, shown};
 use std::alloc::Global;
 use std::process::Abort;
 use txn_commit::PlanFor;
 use txn_core::{TransactionOptions, TxnAnswer};
-use txn_fakes::Once;
 use txn_kv::{
     Assertion, BatchRollbackRequest, CommitRequest, Key, Mutation, Op, PrewriteRequest, Progress,
     Value,
 };
-
-type Client = Line<Once<PrewriteRequest>, Once<CommitRequest>, Once<BatchRollbackRequest>>;
-
-pub fn play(rt: &impl Abort, alloc: Global, options: TransactionOptions, story: &str) {
-    Client::play(rt, alloc, options, story);
-}
 
 impl<P, Q, K> Line<P, Q, K>
 where
@@ -28,7 +20,7 @@ where
     ///
     /// Writes name a key, or the kind of a mutation of `b` after a put of `a`; a commit and a rollback name the line that they
     /// stand on; and what arrives names the number of its request.
-    fn play(rt: &impl Abort, alloc: Global, options: TransactionOptions, story: &str) {
+    pub fn play(rt: &impl Abort, alloc: Global, options: TransactionOptions, story: &str) {
         let mut line: Self = Line::begin(rt, alloc, first(), options);
         for row in story.lines() {
             let (step, expected) = row.split_once(" -> ").expect(rt, "a step");
@@ -37,43 +29,13 @@ where
         }
     }
 
-    /// What is seen of a step.
-    fn see(&mut self, rt: &impl Abort, alloc: Global, step: &str) -> String {
-        match step {
-            "close" => shown(rt, alloc, &self.close()),
-            "status" => shown(rt, alloc, &self.status()),
-            "lost_commit" => shown(rt, alloc, &self.lost_commit()),
-            _ => {
-                let (verb, word) = step.split_once(' ').expect(rt, "two words");
-                self.see_turn(rt, alloc, verb, word)
-            }
-        }
-    }
-
-    /// What is answered at a step, and what it posts.
-    fn see_turn(&mut self, rt: &impl Abort, alloc: Global, verb: &str, word: &str) -> String {
-        let posted = self.posted_before(verb);
-        let answer = self.take(rt, alloc, verb, word);
-        let mut text = answer_text(rt, alloc, &answer, self.is_busy());
-        push_errands(rt, &mut text, self.errands(), posted);
-        text
-    }
-
-    /// A commit and a rollback stand on lines of their own, where nothing is posted yet.
-    fn posted_before(&self, verb: &str) -> usize {
-        match verb {
-            "commit" | "rollback" => 0,
-            _ => self.errands().len(),
-        }
-    }
-
-    fn take(
+    pub(super) fn take(
         &mut self,
         rt: &impl Abort,
         alloc: Global,
-        verb: &str,
-        word: &str,
+        step: &str,
     ) -> Progress<TxnAnswer<Q>> {
+        let (verb, word) = step.split_once(' ').expect(rt, "two words");
         match verb {
             "put" => self.put(rt, key(rt, alloc, word), Value::new(alloc)),
             "insert" => self.insert(rt, key(rt, alloc, word), Value::new(alloc)),

@@ -1,9 +1,15 @@
 //! Transactions as their users see them. Each row is a step, what is answered, and what is posted then.
-use super::script::play;
+use crate::play::{Subject, play};
+use std::alloc::Global;
+use std::process::Abort;
 use txn_core::{CheckLevel, TransactionOptions};
 
 fn optimistic() -> TransactionOptions {
     TransactionOptions::new_optimistic()
+}
+
+fn play_with(rt: &impl Abort, alloc: Global, options: TransactionOptions, story: &str) {
+    play(rt, alloc, Subject::Transaction(options), story);
 }
 
 #[test]
@@ -23,7 +29,7 @@ put k -> OperationAfterCommitError
 commit 9 -> OperationAfterCommitError
 rollback 10 -> OperationAfterCommitError
 close -> Clean";
-    play(&rt, rt.alloc(), optimistic(), story);
+    play_with(&rt, rt.alloc(), optimistic(), story);
 }
 
 #[test]
@@ -34,7 +40,7 @@ commit 6 -> open; Prewrite 1 under b for 3250: Lock a Put b
 prewritten 1 -> open; Ask 1
 given 1 -> open; Commit 1 at 2: b
 committed 2 -> 0.2 and a job";
-    play(&rt, rt.alloc(), optimistic(), story);
+    play_with(&rt, rt.alloc(), optimistic(), story);
 }
 
 #[test]
@@ -45,7 +51,7 @@ commit 6 -> open; Prewrite 1 under k for 3250: CheckNotExists k
 prewritten 1 -> none
 put k -> OperationAfterCommitError
 commit 8 -> OperationAfterCommitError";
-    play(&rt, rt.alloc(), optimistic(), story);
+    play_with(&rt, rt.alloc(), optimistic(), story);
 }
 
 #[test]
@@ -54,7 +60,7 @@ fn checks_alone_are_rolled_back_unsent(rt: HostRuntime) {
 delete k -> unit
 rollback 6 -> unit
 rollback 7 -> OperationAfterCommitError";
-    play(&rt, rt.alloc(), optimistic(), story);
+    play_with(&rt, rt.alloc(), optimistic(), story);
 }
 
 #[test]
@@ -66,7 +72,7 @@ insert b -> DuplicateKeyInsertion
 delete a -> unit
 insert a -> unit
 commit 10 -> open; Prewrite 1 under a for 3250: Put a Insert b";
-    play(&rt, rt.alloc(), optimistic(), story);
+    play_with(&rt, rt.alloc(), optimistic(), story);
 }
 
 #[test]
@@ -80,7 +86,7 @@ lock c -> unit
 commit 9 -> open; Prewrite 1 under c for 3250: Lock c
 conflict 1 -> ExtractedErrors([KeyError(WriteConflict { key: Key(), start: 1, commit: 2 })])
 mutate Lock -> OperationAfterCommitError";
-    play(&rt, rt.alloc(), optimistic(), story);
+    play_with(&rt, rt.alloc(), optimistic(), story);
 }
 
 #[test]
@@ -88,7 +94,7 @@ fn puts_and_deletes_are_mutated_in_order(rt: HostRuntime) {
     let story = "mutate Put -> unit
 mutate Del -> unit
 commit 6 -> open; Prewrite 1 under a for 3250: Put a Del b";
-    play(&rt, rt.alloc(), optimistic(), story);
+    play_with(&rt, rt.alloc(), optimistic(), story);
 }
 
 #[test]
@@ -99,7 +105,7 @@ put a -> OperationAfterCommitError
 rollback 7 -> unit
 rollback 8 -> OperationAfterCommitError
 commit 9 -> OperationAfterCommitError";
-    play(&rt, rt.alloc(), optimistic(), story);
+    play_with(&rt, rt.alloc(), optimistic(), story);
 }
 
 /// The first loss is named, and a further commit sends the same Commit again.
@@ -121,7 +127,7 @@ rollback 15 -> UndeterminedError(GrpcAPI(Ticket { line: 6, beat: false, number: 
 commit 16 -> open; Commit 1 at 2: a
 committed 1 -> 0.2 and a job
 rollback 18 -> OperationAfterCommitError";
-    play(&rt, rt.alloc(), optimistic(), story);
+    play_with(&rt, rt.alloc(), optimistic(), story);
 }
 
 #[test]
@@ -134,7 +140,7 @@ lost 2 -> UndeterminedError(GrpcAPI(Ticket { line: 6, beat: false, number: 2 }))
 commit 13 -> open; Commit 1 at 2: a
 no_lock 1 -> UndeterminedError(ExtractedErrors([KeyError(TxnLockNotFound { key: Key() })]))
 close -> Clean";
-    play(&rt, rt.alloc(), optimistic(), story);
+    play_with(&rt, rt.alloc(), optimistic(), story);
 }
 
 #[test]
@@ -150,7 +156,7 @@ abort 1 -> ExtractedErrors([KeyError(Abort { key: Key(), start: 1, commit: 2 })]
 commit 13 -> OperationAfterCommitError
 rollback 14 -> open; BatchRollback 1: a
 rolled_back 1 -> unit";
-    play(&rt, rt.alloc(), optimistic(), story);
+    play_with(&rt, rt.alloc(), optimistic(), story);
 }
 
 #[test]
@@ -166,7 +172,7 @@ rolled_back 2 -> unit
 rollback 12 -> OperationAfterCommitError
 commit 13 -> OperationAfterCommitError
 close -> Clean";
-    play(&rt, rt.alloc(), optimistic(), story);
+    play_with(&rt, rt.alloc(), optimistic(), story);
 }
 
 /// All is prewritten anew, since no Commit was sent.
@@ -180,7 +186,7 @@ commit 8 -> open; Prewrite 1 under a for 3250: Put a
 prewritten 1 -> open; Ask 1
 given 1 -> open; Commit 1 at 2: a
 committed 2 -> 0.2";
-    play(&rt, rt.alloc(), optimistic(), story);
+    play_with(&rt, rt.alloc(), optimistic(), story);
 }
 
 /// A commit without its timestamp is not undetermined.
@@ -200,7 +206,7 @@ not_given 8 -> open; Ask 9
 not_given 9 -> open; Ask 10
 not_given 10 -> InternalError { what: OracleLost }
 rollback 17 -> open; BatchRollback 1: a";
-    play(&rt, rt.alloc(), optimistic(), story);
+    play_with(&rt, rt.alloc(), optimistic(), story);
 }
 
 #[test]
@@ -220,7 +226,7 @@ rollback 8 -> OperationAfterCommitError
 close -> Clean"
         );
         let story = story.expect(&rt, "memory");
-        play(&rt, rt.alloc(), optimistic().drop_check(level), &story);
+        play_with(&rt, rt.alloc(), optimistic().drop_check(level), &story);
     }
 }
 
@@ -233,7 +239,7 @@ prewritten 1 -> open; Ask 1
 given 1 -> open; Commit 1 at 2: a
 committed 2 -> 0.2
 commit 10 -> OperationAfterCommitError";
-    play(&rt, rt.alloc(), optimistic(), story);
+    play_with(&rt, rt.alloc(), optimistic(), story);
 }
 
 #[test]
@@ -241,7 +247,7 @@ fn one_that_only_reads_is_not_committed(rt: HostRuntime) {
     let story = "commit 4 -> OperationAfterCommitError
 rollback 5 -> OperationAfterCommitError
 close -> Clean";
-    play(&rt, rt.alloc(), optimistic().read_only(), story);
+    play_with(&rt, rt.alloc(), optimistic().read_only(), story);
 }
 
 /// The plans of these tests send to store 2 where errors of regions are not retried, and to store 3 where locks are not.
@@ -253,8 +259,8 @@ prewritten 1 -> open; Ask 1
 given 1 -> open; Commit 1 at 2: a to store 2
 no_lock 2 -> ExtractedErrors([KeyError(TxnLockNotFound { key: Key() })])
 rollback 9 -> open; BatchRollback 1: a to store 2";
-    play(&rt, rt.alloc(), optimistic().no_resolve_regions(), story);
+    play_with(&rt, rt.alloc(), optimistic().no_resolve_regions(), story);
     let story = "put a -> unit
 commit 5 -> open; Prewrite 1 under a for 3250: Put a to store 3";
-    play(&rt, rt.alloc(), optimistic().no_resolve_locks(), story);
+    play_with(&rt, rt.alloc(), optimistic().no_resolve_locks(), story);
 }
