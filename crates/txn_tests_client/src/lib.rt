@@ -5,3 +5,5 @@
 mod calls;
 #[cfg(test)]
 mod clients;
+#[cfg(test)]
+mod line;

@@ -1,2 +1,3 @@
 mod calls;
+pub mod line;
 mod parts;

@@ -4,4 +4,10 @@
 #[cfg(test)]
 mod commit;
 #[cfg(test)]
+mod play;
+#[cfg(test)]
+mod replies;
+#[cfg(test)]
 mod transaction;
+#[cfg(test)]
+mod words;

@@ -1,6 +1,4 @@
-mod line;
+pub mod line;
 mod options;
-mod replies;
 mod script;
-mod transactions;
-mod words;
+mod stories;

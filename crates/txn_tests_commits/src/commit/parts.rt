@@ -1,48 +1,68 @@
-ghost use Rattle.txn_kv.specs.Timestamp.{HasVersion};
-
+use crate::replies::{reply, second};
+use crate::words::{name, push_keys, push_mutations};
 use std::alloc::Global;
-use std::test::Fail;
+use std::process::Abort;
 use txn_buffer::Buffer;
 use txn_commit::{CommitParts, PrimaryCommits};
-use txn_kv::{
-    CommitRequest, CommitResponse, Items, Key, KeyError, NoMemory, Outbox, Reply, Request, Target,
-    Ticket, Timestamp, Value,
-};
+use txn_kv::{CommitRequest, Items, Key, Outbox, Request, Target, Ticket, Value};
+use txn_plan::Arrival;
 
-fn key(alloc: Global, name: &str) -> Result<Key, NoMemory> {
-    Ok(Key::from(name.as_bytes().to_vec(alloc)?))
+fn key(rt: &impl Abort, alloc: Global, name: &str) -> Key {
+    Key::from(name.as_bytes().to_vec(alloc).expect(rt, "memory"))
+}
+
+fn change(rt: &impl Abort, alloc: Global, buffer: &mut Buffer, verb: &str, name: &str) {
+    let key = key(rt, alloc, name);
+    let changed = match verb {
+        "insert" => buffer.insert(key, Value::new(alloc)),
+        "put" => buffer.put(key, Value::new(alloc)),
+        "lock" => buffer.lock(key),
+        _ => buffer.delete(key),
+    };
+    changed.expect(rt, "memory");
+}
+
+/// The parts of a buffer after these changes, each a verb and a key.
+fn parts(rt: &impl Abort, alloc: Global, changes: &str) -> String {
+    let mut buffer = Buffer::new(alloc, false);
+    for row in changes.lines() {
+        let (verb, name) = row.split_once(' ').expect(rt, "two words");
+        change(rt, alloc, &mut buffer, verb, name);
+    }
+    let mut text = String::new(alloc);
+    match CommitParts::of_buffer(alloc, &buffer).expect(rt, "memory") {
+        Some(parts) => push_parts(rt, &mut text, &parts),
+        None => text.push_str("nothing").expect(rt, "memory"),
+    }
+    text
+}
+
+fn push_parts(rt: &impl Abort, text: &mut String, parts: &CommitParts) {
+    push_mutations(rt, text, parts.mutations.as_slice());
+    let primary = name(&parts.primary);
+    write!(text, " under {primary}, and").expect(rt, "memory");
+    push_keys(rt, text, parts.secondaries.as_slice());
+    let locks = parts.locks;
+    write!(text, "; locks: {locks}").expect(rt, "memory");
 }
 
 #[test]
-fn parts_of_writes_locks_and_checks(rt: HostRuntime) -> Result<(), Fail> {
-    let alloc = rt.alloc();
-    let mut buffer = Buffer::new(alloc, false);
-    assert_eq!(rt; CommitParts::of_buffer(alloc, &buffer)?, None);
-    buffer.insert(key(alloc, "a")?, Value::new(alloc))?;
-    buffer.put(key(alloc, "c")?, Value::new(alloc))?;
-    buffer.lock(key(alloc, "b")?)?;
-    buffer.delete(key(alloc, "a")?)?;
-    let parts = CommitParts::of_buffer(alloc, &buffer)?.ok_or("no parts")?;
-    assert_eq!(rt; parts.mutations.len(), 3);
-    assert_eq!(rt; parts.primary, key(alloc, "b")?);
-    assert_eq!(rt; parts.secondaries.as_slice(), [key(alloc, "c")?].as_slice());
-    assert_eq!(rt; parts.locks, true);
-    Ok(())
-}
-
-#[test]
-fn parts_of_checks_alone(rt: HostRuntime) -> Result<(), Fail> {
-    let alloc = rt.alloc();
-    let mut buffer = Buffer::new(alloc, false);
-    buffer.insert(key(alloc, "b")?, Value::new(alloc))?;
-    buffer.insert(key(alloc, "a")?, Value::new(alloc))?;
-    buffer.delete(key(alloc, "a")?)?;
-    buffer.delete(key(alloc, "b")?)?;
-    let parts = CommitParts::of_buffer(alloc, &buffer)?.ok_or("no parts")?;
-    assert_eq!(rt; parts.primary, key(alloc, "b")?);
-    assert_eq!(rt; parts.secondaries.len(), 0);
-    assert_eq!(rt; parts.locks, false);
-    Ok(())
+fn parts_of_a_buffer(rt: HostRuntime) {
+    let rows = [
+        ("", "nothing"),
+        (
+            "insert a\nput c\nlock b\ndelete a",
+            " CheckNotExists a Lock b Put c under b, and c; locks: true",
+        ),
+        (
+            "insert b\ninsert a\ndelete a\ndelete b",
+            " CheckNotExists a CheckNotExists b under b, and; locks: false",
+        ),
+    ];
+    for (changes, wanted) in rows {
+        let seen = parts(&rt, rt.alloc(), changes);
+        assert!(rt; seen.as_str() == wanted, "{changes}: {seen}");
+    }
 }
 
 fn ticket(number: u64) -> Ticket {
@@ -53,62 +73,41 @@ fn ticket(number: u64) -> Ticket {
     }
 }
 
-fn a_commit(alloc: Global) -> Request {
-    Request::Commit(CommitRequest {
+/// A Commit is sent, behind a sleep.
+fn sent(rt: &impl Abort, alloc: Global) -> (PrimaryCommits, Outbox) {
+    let mut commits = PrimaryCommits::new(alloc);
+    let mut out = Outbox::new(alloc, 6, false);
+    let request = CommitRequest {
         context: None,
         keys: Items::new(alloc),
         start_version: 1,
         commit_version: 2,
-    })
-}
-
-fn a_reply(error: Option<KeyError>) -> Reply {
-    Reply::Commit(CommitResponse {
-        region_error: None,
-        error,
-        commit_version: 2,
-    })
-}
-
-fn two() -> Timestamp
-    ensures { HasVersion result }
-{
-    Timestamp {
-        physical: 0,
-        logical: 2,
-        suffix_bits: 0,
-    }
-}
-
-#[test]
-fn a_commit_is_followed_until_it_is_refused(rt: HostRuntime) -> Result<(), Fail> {
-    let alloc = rt.alloc();
-    let mut commits = PrimaryCommits::new(alloc);
-    let mut out = Outbox::new(alloc, 6, false);
-    out.sleep(2)?;
-    out.send(Target::Store(1), a_commit(alloc))?;
-    commits.send(&out, 1, two())?;
-    assert_eq!(rt; commits.timestamp(), Some(two()));
-    assert_eq!(rt; commits.undetermined(), Some(ticket(2)));
-    commits.take(ticket(2), &a_reply(None));
-    assert_eq!(rt; commits.undetermined(), Some(ticket(2)));
-    let gone = KeyError::PessimisticLockNotFound {
-        key: key(alloc, "a")?,
     };
-    commits.take(ticket(2), &a_reply(Some(gone)));
-    assert_eq!(rt; commits.undetermined(), None);
-    Ok(())
+    out.sleep(2).expect(rt, "memory");
+    let to = Target::Store(1);
+    out.send(to, Request::Commit(request)).expect(rt, "memory");
+    commits.send(&out, 1, second()).expect(rt, "memory");
+    (commits, out)
 }
 
 #[test]
-fn a_commit_that_was_lost_stays_so(rt: HostRuntime) -> Result<(), Fail> {
+fn a_commit_is_followed_until_it_is_refused(rt: HostRuntime) {
     let alloc = rt.alloc();
-    let mut commits = PrimaryCommits::new(alloc);
-    let mut out = Outbox::new(alloc, 6, false);
-    out.send(Target::Store(1), a_commit(alloc))?;
-    commits.send(&out, 0, two())?;
-    commits.lose(ticket(1));
-    commits.take(ticket(1), &a_reply(None));
-    assert_eq!(rt; commits.undetermined(), Some(ticket(1)));
-    Ok(())
+    let (mut commits, out) = sent(&rt, alloc);
+    assert!(rt; commits.timestamp() == Some(second()));
+    assert!(rt; commits.undetermined() == Some(ticket(2)));
+    commits.take(ticket(2), &reply(&rt, alloc, "committed"));
+    assert!(rt; commits.undetermined() == Some(ticket(2)));
+    let reply = reply(&rt, alloc, "no_lock");
+    commits.hear(&Arrival::Reply { number: 2, reply }, &out);
+    assert!(rt; commits.undetermined().is_none());
+}
+
+#[test]
+fn a_commit_that_was_lost_stays_so(rt: HostRuntime) {
+    let alloc = rt.alloc();
+    let (mut commits, _) = sent(&rt, alloc);
+    commits.lose(ticket(2));
+    commits.take(ticket(2), &reply(&rt, alloc, "no_lock"));
+    assert!(rt; commits.undetermined() == Some(ticket(2)));
 }

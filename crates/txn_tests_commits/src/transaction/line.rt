@@ -1,22 +1,19 @@
 //! A transaction with its client and its outbox.
-ghost use Rattle.std.specs.Prelude.{◌≡◌, OnOk, false};
+ghost use Rattle.std.specs.Prelude.{◌≡◌, false};
 ghost use Rattle.txn_core.specs.Transaction.{is_open};
 ghost use Rattle.txn_kv.specs.Timestamp.{HasVersion};
 
+use crate::words::{answer_text, push_errands, shown};
 use std::alloc::Global;
 use std::marker::Model;
+use std::process::Abort;
 use txn_commit::PlanFor;
 use txn_core::{CloseAnswer, Transaction, TransactionOptions, TxnAnswer};
+use txn_fakes::NoClient;
 use txn_kv::{
-    BatchRollbackRequest, CommitRequest, Errand, Error, Internal, Key, Mutation, NoMemory, Outbox,
-    PrewriteRequest, Progress, Reply, Timestamp, Value,
+    BatchRollbackRequest, CommitRequest, Error, Internal, Key, Mutation, Outbox, PrewriteRequest,
+    Progress, Reply, Timestamp, Value,
 };
-use txn_region::{ApiV1TxnCodec, PdRpcClient};
-
-type Turn<Q> = Result<Progress<TxnAnswer<Q>>, NoMemory>;
-
-type Client = PdRpcClient<ApiV1TxnCodec>;
-
 /// The transaction began at 100 ms, and all its calls are made at 350 ms.
 #[derive(Drop)]
 pub struct Line<P, Q, K>
@@ -25,8 +22,8 @@ where
     Q: PlanFor<CommitRequest>,
     K: PlanFor<BatchRollbackRequest>,
 {
-    txn: Transaction<Client, P, Q, K>,
-    pd: Client,
+    txn: Transaction<NoClient, P, Q, K>,
+    pd: NoClient,
     out: Outbox,
     alloc: Global,
 }
@@ -57,110 +54,144 @@ where
     K: PlanFor<BatchRollbackRequest>,
 {
     pub fn begin(
+        rt: &impl Abort,
         alloc: Global,
         start: Timestamp,
         options: TransactionOptions,
-    ) -> Result<Self, NoMemory>
+    ) -> Self
         requires { HasVersion start }
     {
-        Ok(Line {
-            txn: Transaction::new(alloc, start, options, 100)?,
-            pd: PdRpcClient::new(alloc, 0, 0, true, ApiV1TxnCodec {}),
+        Line {
+            txn: Transaction::new(alloc, start, options, 100).expect(rt, "memory"),
+            pd: NoClient::new(),
             out: Outbox::new(alloc, 0, false),
             alloc,
-        })
+        }
     }
 
-    pub fn put(&mut self, key: Key, value: Value) -> Turn<Q> {
-        self.expect_idle()?;
-        self.txn.put(&mut self.pd, key, value, 350, &mut self.out)
+    pub fn put(&mut self, rt: &impl Abort, key: Key, value: Value) -> Progress<TxnAnswer<Q>> {
+        self.expect_idle(rt);
+        let turn = self.txn.put(&mut self.pd, key, value, 350, &mut self.out);
+        turn.expect(rt, "memory")
     }
 
-    pub fn insert(&mut self, key: Key, value: Value) -> Turn<Q> {
-        self.expect_idle()?;
-        self.txn
-            .insert(&mut self.pd, key, value, 350, &mut self.out)
+    pub fn insert(&mut self, rt: &impl Abort, key: Key, value: Value) -> Progress<TxnAnswer<Q>> {
+        self.expect_idle(rt);
+        let turn = self
+            .txn
+            .insert(&mut self.pd, key, value, 350, &mut self.out);
+        turn.expect(rt, "memory")
     }
 
-    pub fn delete(&mut self, key: Key) -> Turn<Q> {
-        self.expect_idle()?;
-        self.txn.delete(&mut self.pd, key, 350, &mut self.out)
+    pub fn delete(&mut self, rt: &impl Abort, key: Key) -> Progress<TxnAnswer<Q>> {
+        self.expect_idle(rt);
+        let turn = self.txn.delete(&mut self.pd, key, 350, &mut self.out);
+        turn.expect(rt, "memory")
     }
 
-    pub fn mutate(&mut self, mutations: Vec<Mutation>) -> Turn<Q> {
-        self.expect_idle()?;
-        self.txn
-            .batch_mutate(&mut self.pd, mutations, 350, &mut self.out)
+    pub fn mutate(&mut self, rt: &impl Abort, mutations: Vec<Mutation>) -> Progress<TxnAnswer<Q>> {
+        self.expect_idle(rt);
+        let turn = self
+            .txn
+            .batch_mutate(&mut self.pd, mutations, 350, &mut self.out);
+        turn.expect(rt, "memory")
     }
 
-    pub fn lock(&mut self, keys: Vec<Key>) -> Turn<Q> {
-        self.expect_idle()?;
-        self.txn.lock_keys(&mut self.pd, keys, 350, &mut self.out)
+    pub fn lock(&mut self, rt: &impl Abort, keys: Vec<Key>) -> Progress<TxnAnswer<Q>> {
+        self.expect_idle(rt);
+        let turn = self.txn.lock_keys(&mut self.pd, keys, 350, &mut self.out);
+        turn.expect(rt, "memory")
     }
 
     /// Commits, on a line of this number.
-    pub fn commit(&mut self, line: u64) -> Turn<Q> {
-        self.expect_idle()?;
-        self.out = Outbox::new(self.alloc, line, false);
-        self.txn.commit(&mut self.pd, 350, &mut self.out)
+    pub fn commit(&mut self, rt: &impl Abort, line: u64) -> Progress<TxnAnswer<Q>> {
+        self.expect_idle(rt);
+        self.open(line);
+        let turn = self.txn.commit(&mut self.pd, 350, &mut self.out);
+        turn.expect(rt, "memory")
     }
 
     /// Rolls back, on a line of this number.
-    pub fn roll_back(&mut self, line: u64) -> Turn<Q> {
-        self.expect_idle()?;
-        self.out = Outbox::new(self.alloc, line, false);
-        self.txn.rollback(&mut self.pd, 350, &mut self.out)
+    pub fn roll_back(&mut self, rt: &impl Abort, line: u64) -> Progress<TxnAnswer<Q>> {
+        self.expect_idle(rt);
+        self.open(line);
+        let turn = self.txn.rollback(&mut self.pd, 350, &mut self.out);
+        turn.expect(rt, "memory")
     }
 
-    pub fn reply(&mut self, number: u64, reply: Reply) -> Turn<Q> {
-        self.txn
-            .take_reply(&mut self.pd, 350, number, reply, &mut self.out)
+    pub fn reply(&mut self, rt: &impl Abort, number: u64, reply: Reply) -> Progress<TxnAnswer<Q>> {
+        let turn = self
+            .txn
+            .take_reply(&mut self.pd, 350, number, reply, &mut self.out);
+        turn.expect(rt, "memory")
     }
 
-    pub fn lose(&mut self, number: u64) -> Turn<Q> {
-        self.txn.lost(&mut self.pd, 350, number, &mut self.out)
+    pub fn lose(&mut self, rt: &impl Abort, number: u64) -> Progress<TxnAnswer<Q>> {
+        let turn = self.txn.lost(&mut self.pd, 350, number, &mut self.out);
+        turn.expect(rt, "memory")
     }
 
-    pub fn wake(&mut self, number: u64) -> Turn<Q> {
-        self.txn.slept(&mut self.pd, 350, number, &mut self.out)
+    pub fn wake(&mut self, rt: &impl Abort, number: u64) -> Progress<TxnAnswer<Q>> {
+        let turn = self.txn.slept(&mut self.pd, 350, number, &mut self.out);
+        turn.expect(rt, "memory")
     }
 
-    pub fn give(&mut self, ask: u64, time: Timestamp) -> Turn<Q>
+    pub fn give(&mut self, rt: &impl Abort, ask: u64, time: Timestamp) -> Progress<TxnAnswer<Q>>
         requires { HasVersion time }
     {
-        self.txn
-            .take_time(&mut self.pd, 350, ask, Ok(time), &mut self.out)
+        let turn = self
+            .txn
+            .take_time(&mut self.pd, 350, ask, Ok(time), &mut self.out);
+        turn.expect(rt, "memory")
     }
 
     /// The oracle gives no timestamp.
-    pub fn refuse_time(&mut self, ask: u64) -> Turn<Q> {
+    pub fn refuse_time(&mut self, rt: &impl Abort, ask: u64) -> Progress<TxnAnswer<Q>> {
         let lost = Error::InternalError {
             what: Internal::OracleLost,
         };
-        self.txn
-            .take_time(&mut self.pd, 350, ask, Err(lost), &mut self.out)
+        let turn = self
+            .txn
+            .take_time(&mut self.pd, 350, ask, Err(lost), &mut self.out);
+        turn.expect(rt, "memory")
     }
 
-    pub fn close(&mut self) -> CloseAnswer {
+    /// What is seen of a step: what is answered, and what is posted.
+    pub fn see(&mut self, rt: &impl Abort, alloc: Global, step: &str) -> String {
+        match step {
+            "close" => shown(rt, alloc, &self.close()),
+            "status" => shown(rt, alloc, &self.txn.status()),
+            "lost_commit" => shown(rt, alloc, &self.txn.lost_commit()),
+            _ => self.see_turn(rt, alloc, step),
+        }
+    }
+
+    fn close(&mut self) -> CloseAnswer {
         self.txn.close()
     }
 
-    pub fn is_busy(&self) -> bool {
-        self.txn.is_busy()
-    }
-
-    /// What the newest line has posted.
-    pub fn errands(&self) -> &[Errand] {
-        self.out.sends.as_slice()
+    /// A commit and a rollback stand on lines of their own, where nothing was posted before.
+    fn see_turn(&mut self, rt: &impl Abort, alloc: Global, step: &str) -> String {
+        let line = self.out.line;
+        let posted = self.out.sends.len();
+        let answer = self.take(rt, alloc, step);
+        let mut text = answer_text(rt, alloc, &answer, self.txn.is_busy());
+        let before = if self.out.line == line { posted } else { 0 };
+        push_errands(rt, &mut text, self.out.sends.as_slice(), before);
+        text
     }
 
     /// A write, a commit or a rollback is not made while another call is open.
-    fn expect_idle(&self) -> Result<(), NoMemory>
-        ensures { OnOk result (is_open self.now.work ≡ false) }
+    fn expect_idle(&self, rt: &impl Abort)
+        ensures { is_open self.now.work ≡ false }
     {
-        if self.txn.is_busy() {
-            return Err(NoMemory);
-        }
-        Ok(())
+        assert!(rt; !self.txn.is_busy());
+    }
+
+    /// What comes is posted on a new line of this number.
+    fn open(&mut self, line: u64)
+        ensures { self.new ≡ self.old }
+    {
+        self.out = Outbox::new(self.alloc, line, false);
     }
 }
