@@ -2,4 +2,6 @@
 #![tactic(auto)]
 
 #[cfg(test)]
-mod commit_plans;
+mod line;
+#[cfg(test)]
+mod plans;
