@@ -4,7 +4,6 @@ use crate::line::Line;
 use std::alloc::Global;
 use std::process::Abort;
 use txn_commit::PlanFor;
-use txn_commit_plans::over_regions::plan_over_regions;
 use txn_commit_plans::{BatchRollbackPlan, CommitPlan, PrewritePlan, TransactionPlan, send};
 use txn_fakes::NoClient;
 use txn_kv::{Backoff, GetRequest, Items, Key};
@@ -43,15 +42,6 @@ fn a_rollback_is_cut_into_nothing_yet(rt: HostRuntime) {
     let request = new_batch_rollback_request(Items::new(alloc), 5);
     let plan = BatchRollbackPlan::plan_for(alloc, &NoClient::new(), request, options());
     assert!(rt; plan.expect(&rt, "memory").width() == 0);
-}
-
-#[test]
-fn regions_are_tried_as_often_as_the_options_say(rt: HostRuntime) {
-    let alloc = rt.alloc();
-    let commit = new_commit_request(Items::new(alloc), 5, 6);
-    let plan = plan_over_regions(alloc, commit, options());
-    assert!(rt; plan.backoff == options().region_backoff);
-    assert!(rt; !plan.preserve_region_results);
 }
 
 /// A plan that sends a Get to store 3, as one of a transaction.
