@@ -60,8 +60,8 @@ abbrev pub IsAlone : Plan → List Cell → ℕ → ℕ → Type 0
 IsAlone plan cells s c = (k : Key) (x : Content) → plan.writes k ≡ Some x → (w : Write) → IsAmong (cell_at cells k).commits w → w.start ≢ s → (w.commit ≤ s) ⊎ (c < w.commit)
 
 -- The transaction of line x, which began at s, is whole at c, a later timestamp: its primary holds its commit there, each key that it wrote
--- holds what it wrote, committed at c or locked under the primary, and no other commit of s is anywhere. No
--- other transaction committed such a key meanwhile.
+-- holds what it wrote, committed at c or locked under the primary, and no other commit of s is anywhere. No other transaction committed
+-- such a key meanwhile.
 pub record IsWhole (script : List Line) (report : Report) (x s c : ℕ) : Type 0 where
   pub parts : CommitParts
   pub wrote : parts_of (account_in script report x).contents ≡ Some parts
