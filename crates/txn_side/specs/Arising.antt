@@ -1,7 +1,8 @@
 -- What clients can have arisen from: the history that a run shows, with the newest event first.
-use Rattle.std.specs.Prelude.{◌≡◌, ⊤, ℕ, false, List, [], ◌∷◌, Option}
+use Rattle.std.specs.Prelude.{◌≡◌, ⊤, ℕ, List, [], ◌∷◌, Option}
 use Rattle.std.specs.List.{All}
 use Rattle.txn_kv.specs.declared.request.Request.{Request}
+use Rattle.txn_kv.specs.declared.request.Request.TheVariants as requests
 use Rattle.txn_kv.specs.declared.ticket.Ticket.{Ticket}
 use Rattle.txn_history.specs.Event.{Event}
 use Rattle.txn_history.specs.Event.Event.{Answered, Asked, Began, Sent, Slept}
@@ -25,6 +26,17 @@ IsOutside (Began t ms) = ⊥
 IsOutside (Asked a) = ⊥
 IsOutside (Answered a x) = ⊥
 IsOutside _ = ⊤
+
+-- what a heartbeat sends: heartbeats, and what it asks the placement driver for; nothing that writes, locks or settles
+abbrev pub IsBeat : Request → Type 0
+IsBeat (requests.TxnHeartBeat r) = ⊤
+IsBeat (requests.GetRegion r) = ⊤
+IsBeat (requests.GetRegionById r) = ⊤
+IsBeat (requests.GetStore r) = ⊤
+IsBeat (requests.GetAllStores r) = ⊤
+IsBeat (requests.UpdateGcSafePoint r) = ⊤
+IsBeat (requests.Members r) = ⊤
+IsBeat r = ⊥
 
 -- of what is posted the requests are shown, and not the sleeps
 abbrev pub with_posting : Posting → List Event → List Event
@@ -62,6 +74,6 @@ ArisesOn was is held holds at turn = (h : List Event) → was h → Arises is ho
 abbrev pub ArisesHearing : (List Event → Type 0) → (List Event → Type 0) → (List Event → ℕ → Outcome → Type 0) → (List Event → ℕ → Outcome → Type 0) → Sight → (Request → Event) → Turn → Type 0
 ArisesHearing was is held holds s event turn = (h : List Event) (r : Request) → IsPossible h (event r) → was h → Arises is holds (held h) (λ n. answered_at n (stand_at s.stands n)) (with_postings turn.posted.items (event r ∷ h)) turn.ended.items
 
--- or a sleep has ended, which is none of a heartbeat
+-- or a sleep has ended
 abbrev pub ArisesAwake : (List Event → Type 0) → (List Event → Type 0) → (List Event → ℕ → Outcome → Type 0) → (List Event → ℕ → Outcome → Type 0) → Sight → Ticket → Turn → Type 0
-ArisesAwake was is held holds s t turn = (h : List Event) → t.beat ≡ false → was h → Arises is holds (held h) (λ n. answered_at n (stand_at s.stands n)) (with_postings turn.posted.items (Slept t ∷ h)) turn.ended.items
+ArisesAwake was is held holds s t turn = (h : List Event) → was h → Arises is holds (held h) (λ n. answered_at n (stand_at s.stands n)) (with_postings turn.posted.items (Slept t ∷ h)) turn.ended.items

@@ -43,16 +43,21 @@ pub record Group : Type 0 where
   pub ticket : Ticket
   pub askers : List ℕ
 
--- which clients have crashed; the request for timestamps of each that is out; what stands at each line; and the number of the next
--- request or sleep of each
+-- the number of the next request or sleep of each line, and of each line's heartbeat
+pub record Nexts : Type 0 where
+  pub calls : List ℕ
+  pub beats : List ℕ
+
+-- which clients have crashed; the request for timestamps of each that is out; what stands at each line; and the numbers of what it posts
+-- next
 pub record Sight : Type 0 where
   pub crashed : List Bool
   pub groups : List (Option Group)
   pub stands : List Stand
-  pub nexts : List ℕ
+  pub nexts : Nexts
 
 abbrev pub nobody : Sight
-nobody = record { crashed = []; groups = []; stands = []; nexts = [] }
+nobody = record { crashed = []; groups = []; stands = []; nexts = record { calls = []; beats = [] } }
 
 abbrev pub line_count : Sight → ℕ
 line_count s = length s.stands
@@ -90,7 +95,7 @@ is_free s x = is_live s x && free (stand_at s.stands x)
 
 -- one line more
 abbrev pub opened : Sight → Sight
-opened s = record s { stands = s.stands ++ Idle ∷ []; nexts = s.nexts ++ 1 ∷ [] }
+opened s = record s { stands = s.stands ++ Idle ∷ []; nexts = record { calls = s.nexts.calls ++ 1 ∷ []; beats = s.nexts.beats ++ 1 ∷ [] } }
 
 abbrev pub with_stand : ℕ → Stand → Sight → Sight
 with_stand line stand s = record s { stands = slice_set s.stands (line - 1) stand }
@@ -117,15 +122,24 @@ abbrev pub next_at : List ℕ → ℕ → ℕ
 next_at nexts zero = 0
 next_at nexts (suc i) = slice_index_or nexts i 0
 
--- it is the next of its line
-pub record IsNext (nexts : List ℕ) (t : Ticket) : Type 0 where
-  pub beat : t.beat ≡ false
+-- the numbers of calls, or those of heartbeats
+abbrev pub numbers_of : Bool → Nexts → List ℕ
+numbers_of false nexts = nexts.calls
+numbers_of true nexts = nexts.beats
+
+-- it is the next of its line, or of its line's heartbeat
+pub record IsNext (nexts : Nexts) (t : Ticket) : Type 0 where
   pub first : 1 ≤ t.line
-  pub last : t.line ≤ length nexts
-  pub number : t.number ≡ next_at nexts t.line
+  pub last : t.line ≤ length (numbers_of t.beat nexts)
+  pub number : t.number ≡ next_at (numbers_of t.beat nexts) t.line
 
 abbrev pub with_next : List ℕ → ℕ → List ℕ
 with_next nexts line = slice_set nexts (line - 1) (next_at nexts line + 1)
+
+-- the numbers once that of a line, or of its heartbeat, was used
+abbrev pub raised : Bool → ℕ → Nexts → Nexts
+raised false line nexts = record nexts { calls = with_next nexts.calls line }
+raised true line nexts = record nexts { beats = with_next nexts.beats line }
 
 -- a request for timestamps asks for as many as it has askers, of which its own line is the first, at most 64; no other has askers
 abbrev pub AskFor : ℕ → Request → List ℕ → Type 0
@@ -136,10 +150,10 @@ abbrev pub HasAskers : Posting → Type 0
 HasAskers (Send t to r askers) = AskFor t.line r askers
 HasAskers (Sleep t) = Unit {0}
 
--- they are posted in this order, each under the next number of its line
-abbrev pub ArePosted : List ℕ → List Posting → List ℕ → Type 0
+-- they are posted in this order, each under the next number of its line, or of its line's heartbeat
+abbrev pub ArePosted : Nexts → List Posting → Nexts → Type 0
 ArePosted from [] to = to ≡ from
-ArePosted from (p ∷ ps) to = IsNext from (ticket_in p) × HasAskers p × ArePosted (with_next from (ticket_in p).line) ps to
+ArePosted from (p ∷ ps) to = IsNext from (ticket_in p) × HasAskers p × ArePosted (raised (ticket_in p).beat (ticket_in p).line from) ps to
 
 -- each asker is one of so many lines
 abbrev pub AskersAre : ℕ → Posting → Type 0

@@ -18,9 +18,9 @@ abbrev pub awaited_as : Posting → Awaited
 awaited_as (Send t to r askers) = ReplyTo t.number
 awaited_as (Sleep t) = EndOf t.number
 
--- one of these is waited for so, by this line
+-- one of these is waited for so, by the call of this line: it is none of a heartbeat
 abbrev pub IsPosted : List Posting → ℕ → Awaited → Type 0
-IsPosted posted line a = Any (λ p. ((ticket_in p).line ≡ line) × (awaited_as p ≡ a)) posted
+IsPosted posted line a = Any (λ p. ((ticket_in p).line ≡ line) × ((ticket_in p).beat ≡ false) × (awaited_as p ≡ a)) posted
 
 abbrev pub posted_in : Option Turn → List Posting
 posted_in None = []
@@ -35,7 +35,7 @@ abbrev pub HearsReply : Ticket → ℕ → Awaited → Type 0
 HearsReply t line a = (t.beat ≡ false) × (line ≡ t.line) × (a ≡ ReplyTo t.number)
 
 abbrev pub HearsEnd : Ticket → ℕ → Awaited → Type 0
-HearsEnd t line a = (line ≡ t.line) × (a ≡ EndOf t.number)
+HearsEnd t line a = (t.beat ≡ false) × (line ≡ t.line) × (a ≡ EndOf t.number)
 
 -- What one step makes of what is waited for.
 pub record WaitsOn (Hears : ℕ → Awaited → Type 0) (posted : List Posting) (was is : ℕ → Awaited → Type 0) (old new : Sight) : Type 0 where
