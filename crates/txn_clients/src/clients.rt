@@ -9,6 +9,7 @@ ghost use Rattle.txn_side.specs.Sight.{client_at, is_live, line_count, nobody, s
 
 mod asking;
 mod groups;
+mod hearts;
 mod posting;
 mod telling;
 

@@ -4,6 +4,7 @@
 pub mod batch_rollback;
 pub mod commit;
 pub mod has_causes;
+pub mod heartbeat;
 pub mod laws;
 pub mod one_each;
 pub mod over_regions;
@@ -14,6 +15,7 @@ pub mod transaction_plan;
 pub use batch_rollback::BatchRollbackPlan;
 pub use commit::CommitPlan;
 pub use has_causes::Caused;
+pub use heartbeat::HeartbeatPlan;
 pub use one_each::OneEach;
 pub use over_regions::OverRegions;
 pub use prewrite::PrewritePlan;

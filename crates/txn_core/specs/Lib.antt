@@ -1,5 +1,6 @@
 pub mod Counting
 pub mod Going
+pub mod Heartbeats
 pub mod Options
 pub mod Others
 pub mod Status

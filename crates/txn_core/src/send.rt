@@ -1,6 +1,7 @@
 //! Each type of this crate can move between threads.
 
 use crate::close_answer::CloseAnswer;
+use crate::heartbeat::Heartbeat;
 use crate::options::TransactionOptions;
 use crate::status::Status;
 use crate::transaction::Transaction;
@@ -11,6 +12,7 @@ use txn_kv::send::can_move;
 /// The types of this crate do.
 pub fn parts_can_move() {
     can_move::<CloseAnswer>();
+    can_move::<Heartbeat>();
     can_move::<Status>();
     can_move::<TransactionOptions>();
 }

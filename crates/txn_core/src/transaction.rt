@@ -25,6 +25,7 @@ ghost use Rattle.txn_core.specs.declared.transaction.Work.TheVariants as works;
 ghost use Rattle.txn_core.specs.declared.txn_answer.TxnAnswer.TheVariants as answers;
 
 mod events;
+mod hearts;
 mod writes;
 
 use crate::close_answer::CloseAnswer;

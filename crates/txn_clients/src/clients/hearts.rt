@@ -1,0 +1,54 @@
+//! What clients lend heartbeats.
+use crate::clients::Clients;
+use crate::row::Row;
+use txn_commit::PlanFor;
+use txn_core::{Heartbeat, Status};
+use txn_heartbeat::{HeartHost, HeartbeatJob, PlanForHeartbeats};
+use txn_kv::{BatchRollbackRequest, CommitRequest, NoMemory, Outbox, PrewriteRequest};
+use txn_plan::Arrival;
+
+impl<P, Q, K> HeartHost for Clients<P, Q, K>
+where
+    P: PlanFor<PrewriteRequest> + Drop,
+    Q: PlanFor<CommitRequest> + Drop,
+    K: PlanFor<BatchRollbackRequest> + Drop,
+{
+    fn heartbeat(&self, transaction: u64) -> Result<Option<Heartbeat>, NoMemory> {
+        if transaction == 0 || transaction > self.newest() {
+            return Ok(None);
+        }
+        match self.row(transaction) {
+            Row::Begun { transaction, .. } => transaction.heartbeat(),
+            _ => Ok(None),
+        }
+    }
+
+    fn status(&self, transaction: u64) -> Status {
+        if transaction == 0 || transaction > self.newest() {
+            return Status::Dropped;
+        }
+        match self.row(transaction) {
+            Row::Begun { transaction, .. } => transaction.status(),
+            _ => Status::Dropped,
+        }
+    }
+
+    fn beat<H: PlanForHeartbeats>(
+        &mut self,
+        line: u64,
+        job: &mut HeartbeatJob<H>,
+        arrival: Arrival,
+        status: Status,
+        now: u64,
+        out: &mut Outbox,
+    ) -> Result<(), NoMemory> {
+        match self.live_client(line) {
+            None => Ok(()),
+            Some(client) => {
+                let pd = self.clients[client].client.pd();
+                job.tell(arrival, status, pd, now, out)?;
+                Ok(())
+            }
+        }
+    }
+}

@@ -1,0 +1,45 @@
+use crate::transaction_plan::TransactionPlan;
+use std::alloc::Global;
+use txn_heartbeat::PlanForHeartbeats;
+use txn_kv::{Backoff, Key, NoMemory, TxnHeartBeatRequest, TxnHeartBeatResponse};
+use txn_merge::CollectSingle;
+use txn_multi::RetryableMultiRegion;
+use txn_plan::{Dispatch, MergeResponse};
+use txn_region::{EncodedRequest, PdClient};
+use txn_request::requests::new_heart_beat_request;
+
+/// The plan of a heartbeat: it goes to the region of its primary, and the one reply is its answer.
+pub type HeartbeatPlan = TransactionPlan<
+    MergeResponse<
+        RetryableMultiRegion<Dispatch<TxnHeartBeatRequest>>,
+        TxnHeartBeatResponse,
+        CollectSingle,
+    >,
+>;
+
+/// The heartbeat with the context that the client's codec gives one like it that names nothing.
+fn encoded<C: PdClient>(
+    alloc: Global,
+    pd: &C,
+    request: TxnHeartBeatRequest,
+) -> TxnHeartBeatRequest {
+    let mut request = request;
+    let mut empty = new_heart_beat_request(0, Key::empty(alloc), 0);
+    empty.context = request.context;
+    request.context = EncodedRequest::new(empty, pd.get_codec()).inner.context;
+    request
+}
+
+impl PlanForHeartbeats for HeartbeatPlan {
+    fn plan_for_beat<C: PdClient>(
+        alloc: Global,
+        pd: &C,
+        request: TxnHeartBeatRequest,
+        backoff: Backoff,
+    ) -> Result<Self, NoMemory> {
+        let request = encoded(alloc, pd, request);
+        let sent = Dispatch::new(request, None);
+        let plan = RetryableMultiRegion::new(alloc, sent, backoff, false);
+        Ok(TransactionPlan::new(MergeResponse::new(alloc, plan, CollectSingle)))
+    }
+}
