@@ -166,9 +166,9 @@ AskersAre count (Sleep t) = Unit {0}
 abbrev pub IsOut : Sight → Group → Type 0
 IsOut s g = (c : ℕ) × (slice_index_or s.groups c None ≡ Some g)
 
--- this is posted
+-- this is posted, by no heartbeat
 abbrev pub IsAsk : Group → Posting → Type 0
-IsAsk g (Send t to (Tso r) askers) = (t ≡ g.ticket) × (askers ≡ g.askers)
+IsAsk g (Send t to (Tso r) askers) = (t ≡ g.ticket) × (askers ≡ g.askers) × (t.beat ≡ false)
 IsAsk g _ = ⊥
 
 -- a group that is out was so before, or is one that was posted
