@@ -15,17 +15,16 @@ use txn_side::ClientSide;
 
 /// Clients that post nothing of heartbeats themselves, and lend them what they need.
 pub trait HeartHost: ClientSide {
-    ghost use Rattle.std.specs.Prelude.{◌≡◌, ◌≤◌, ◌∷◌, [], ℕ, List, true};
+    ghost use Rattle.std.specs.Prelude.{◌≡◌, ◌∷◌, [], ℕ, List, map, true};
     ghost use Rattle.txn_history.specs.Event.{Event};
     ghost use Rattle.txn_history.specs.Event.Event.{Sent};
     ghost use Rattle.txn_kv.specs.declared.request.Request.{Request};
     ghost use Rattle.txn_kv.specs.declared.ticket.Ticket.{Ticket};
     ghost use Rattle.txn_law.specs.Run.{IsPossible};
     ghost use Rattle.txn_side.specs.Arising.{Arises, IsBeat};
-    ghost use Rattle.txn_side.specs.Sight.{next_at};
 
-    // No number of a heartbeat was used.
-    ghost unbeaten: { (s : Self) (n : ℕ) → next_at (Self.ClientSide.sight s).nexts.beats n ≤ 1 };
+    // No number of a heartbeat was used: the next of each line is 1 still.
+    ghost unbeaten: { (s : Self) → (Self.ClientSide.sight s).nexts.beats ≡ map (λ (n : ℕ). 1) (Self.ClientSide.sight s).nexts.calls };
 
     // What a heartbeat sends changes nothing of them.
     ghost arises_beating: { (s : Self) (h : List Event) (t : Ticket) (r : Request) → t.beat ≡ true → IsBeat r → IsPossible h (Sent t r) → Self.ClientSide.arises s h → Arises (Self.ClientSide.arises s) (Self.ClientSide.holds s) (Self.ClientSide.holds s h) (λ n. n) (Sent t r ∷ h) [] };
