@@ -1,6 +1,6 @@
 -- A number that is read is spelled so, and one that is spelled so is read.
 use Rattle.std.proofs.Common.{◌≡◌, ℕ, ◌+◌, ◌-◌, ◌*◌, ◌^◌, ◌<◌, ◌≤◌, true, false, cond, eqb, ltb, leb, ◌&&◌, List, [], ◌∷◌, length, get_or, Some, None, refl, sym, ap, ◌∙◌, arith, inl, inr, lit<}
-use Rattle.std.specs.Prelude.{decimal}
+use Rattle.std.specs.Prelude.{bytes_eq, codes, decimal, take}
 use Rattle.std.specs.Char.{digit_value, is_ascii_digit}
 use Rattle.std.specs.Str.Parse.{AllDigits, digits_value, digits_value_after}
 use Rattle.std.proofs.lemmas.Bool.{eqb-false, eq-eqb, ne_eqb, ltb-true, leb-true, lt-ltb, le-ltb, le-leb, and_parts, and_from, and_right, and_left, cases_lt}
@@ -112,3 +112,13 @@ free_digits c (d ∷ ds) low all =
 
 pub free_number : (c : ℕ) (word : List ℕ) (n : ℕ) → c < 48 → IsNumber word n → IsFree c word
 free_number c word n low spelled = rw spelled.1 (free_digits c (decimal n) low (digits_decimal own n spelled.0))
+
+no_h : (ds : List ℕ) → AllDigits 10 ds → bytes_eq (take 1 ds) (codes "h") ≡ false
+no_h [] all = refl
+no_h (d ∷ ds) all =
+    let range = digit_from_value d all.0 in
+    rw (ne_eqb d 104 (λ is. omega (arith, range.1, is))) refl
+
+-- what a number is spelled by does not begin with an h
+pub number_no_h : (word : List ℕ) (n : ℕ) → IsNumber word n → bytes_eq (take 1 word) (codes "h") ≡ false
+number_no_h word n spelled = rw spelled.1 (no_h (decimal n) (digits_decimal own n spelled.0))

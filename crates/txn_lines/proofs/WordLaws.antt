@@ -1,37 +1,78 @@
 -- What is read of a word has a form, and what has a form is read.
-use Rattle.std.proofs.Common.{◌≡◌, ℕ, ◌<◌, false, List, [], ◌∷◌, ◌++◌, length, Option, Some, refl, ap, subst, arith, lit<}
+use Rattle.std.proofs.Common.{◌≡◌, ℕ, ◌<◌, ◌⊎◌, Bool, true, false, eqb, List, [], ◌∷◌, ◌++◌, length, Option, Some, refl, ap, subst, ◌∙◌, arith, lit<, inl, inr}
+use Rattle.std.proofs.lemmas.Bool.{cases_Bool, eqb-true}
 use Rattle.std.specs.Prelude.{bytes_eq}
 use Rattle.std.proofs.lemmas.Slice.Eq.{bytes_eq-Decides}
 use Rattle.txn_kv.specs.declared.ticket.Ticket.{Ticket}
 use Rattle.txn_lines.specs.Grammar.{IsNumber, IsByteString, IsTicket, Form, exactly, number, byte_string, ticket, IsWordOf, AreWordsOf}
-use Rattle.txn_lines.specs.Reading.{◌>>=◌, Words, cut_at, number_in, string_in, ticket_in, next_number, next_string, next_ticket, next_exactly, ended, number_alone, ticket_alone, string_alone, strings_alone}
+use Rattle.txn_lines.specs.Reading.{◌>>=◌, Words, cut_at, number_in, string_in, behind_dot, ticket_in, next_number, next_string, next_ticket, next_exactly, ended, number_alone, ticket_alone, string_alone, strings_alone}
 use Rattle.txn_lines.proofs.Options.{bind_some, test_passed, some_is}
 use Rattle.txn_lines.proofs.Cuts.{IsFree, IsFree-append, IsCut, cut_is, cut_first}
-use Rattle.txn_lines.proofs.Numbers.{number_takes, number_again, free_number}
+use Rattle.txn_lines.proofs.Numbers.{number_takes, number_again, free_number, number_no_h}
 use Rattle.txn_lines.proofs.Strings.{string_takes, string_again, free_string}
 use Rattle.txn_lines.proofs.Splits.{AreFree}
 
 -- ---- tickets
 
+with_h : (digits : List ℕ) → behind_dot (104 ∷ digits) ≡ (true, digits)
+unfolding behind_dot
+with_h digits = refl
+
+without_h : (digits : List ℕ) (n : ℕ) → IsNumber digits n → behind_dot digits ≡ (false, digits)
+unfolding behind_dot
+without_h digits n is = rw (number_no_h digits n is) refl
+
+-- what stands behind a dot is what is left, behind an h or not
+abbrev IsBehind : List ℕ → Bool × List ℕ → Type 0
+IsBehind word parts = ((parts.0 ≡ false) × (word ≡ parts.1)) ⊎ ((parts.0 ≡ true) × (word ≡ 104 ∷ parts.1))
+
+behind_is : (word : List ℕ) → IsBehind word (behind_dot word)
+unfolding behind_dot
+behind_is [] = inl (refl, refl)
+behind_is (b ∷ bs) =
+    elim (cases_Bool (eqb b 104)) [
+      | inl is ↦ rw is (inr (refl, ap (λ (x : ℕ). x ∷ bs) (eqb-true b 104 is)))
+      | inr not_is ↦ rw not_is (inl (refl, refl))
+    ]
+
+-- a word that is cut in two, of which both have numbers
+ticket_made : (word line rest : List ℕ) (l n : ℕ) → IsNumber line l → IsNumber (behind_dot rest).1 n → word ≡ line ++ 46 ∷ rest → IsTicket word (record { line = l; beat = (behind_dot rest).0; number = n })
+ticket_made word line rest l n is_line is_number parts =
+    (line, (behind_dot rest).1, is_line, is_number,
+      elim (behind_is rest) [
+        | inl calls ↦ inl (calls.0, parts ∙ ap (λ (r : List ℕ). line ++ 46 ∷ r) calls.1)
+        | inr beats ↦ inr (beats.0, parts ∙ ap (λ (r : List ℕ). line ++ 46 ∷ r) beats.1)
+      ])
+
 ticket_takes : (word : List ℕ) (t : Ticket) → ticket_in word ≡ Some t → IsTicket word t
 unfolding ticket_in
 ticket_takes word t e =
-    let cut = bind_some (cut_at 46 word) (λ parts. number_in parts.0 >>= λ line. number_in parts.1 >>= λ n. Some (record { line = line; beat = false; number = n })) t e in
-    let line = bind_some (number_in cut.0.0) (λ line. number_in cut.0.1 >>= λ n. Some (record { line = line; beat = false; number = n })) t cut.2 in
-    let n = bind_some (number_in cut.0.1) (λ n. Some (record { line = line.0; beat = false; number = n })) t line.2 in
+    let cut = bind_some (cut_at 46 word) (λ parts. number_in parts.0 >>= λ line. number_in (behind_dot parts.1).1 >>= λ n. Some (record { line = line; beat = (behind_dot parts.1).0; number = n })) t e in
+    let rest = behind_dot cut.0.1 in
+    let line = bind_some (number_in cut.0.0) (λ line. number_in rest.1 >>= λ n. Some (record { line = line; beat = rest.0; number = n })) t cut.2 in
+    let n = bind_some (number_in rest.1) (λ n. Some (record { line = line.0; beat = rest.0; number = n })) t line.2 in
     let parts : IsFree 46 cut.0.0 × (word ≡ cut.0.0 ++ 46 ∷ cut.0.1) = subst (λ (found : Option (List ℕ × List ℕ)). IsCut 46 word found) cut.1 (cut_is 46 word) in
-    let made : Ticket = record { line = line.0; beat = false; number = n.0 } in
-    subst (λ (u : Ticket). IsTicket word u) (some_is made t n.2) (cut.0.0, cut.0.1, number_takes cut.0.0 line.0 line.1, number_takes cut.0.1 n.0 n.1, refl, parts.1)
+    let made : Ticket = record { line = line.0; beat = rest.0; number = n.0 } in
+    subst (λ (u : Ticket). IsTicket word u) (some_is made t n.2) (ticket_made word cut.0.0 cut.0.1 line.0 n.0 (number_takes cut.0.0 line.0 line.1) (number_takes rest.1 n.0 n.1) parts.1)
+
+-- a word that is cut in two, of which both have the numbers of a ticket, is read as that
+ticket_from : (word line rest digits : List ℕ) (t : Ticket) → IsNumber line t.line → IsNumber digits t.number → behind_dot rest ≡ (t.beat, digits) → word ≡ line ++ 46 ∷ rest → ticket_in word ≡ Some t
+unfolding ticket_in
+ticket_from word line rest digits t is_line is_number behind parts =
+    let cut : cut_at 46 word ≡ Some (line, rest) = rw parts (cut_first 46 line rest (free_number 46 line t.line (lit< tt) is_line)) in
+    rw (cut, number_again line t.line is_line, behind, number_again digits t.number is_number) refl
 
 ticket_again : (word : List ℕ) (t : Ticket) → IsTicket word t → ticket_in word ≡ Some t
-unfolding ticket_in
-ticket_again word t (line, n, is_line, is_number, beat, parts) =
-    let cut : cut_at 46 word ≡ Some (line, n) = rw parts (cut_first 46 line n (free_number 46 line t.line (lit< tt) is_line)) in
-    rw (cut, number_again line t.line is_line, number_again n t.number is_number, ← beat) refl
+ticket_again word t (line, digits, is_line, is_number, inl calls) =
+    ticket_from word line digits digits t is_line is_number (rw calls.0 (without_h digits t.number is_number)) calls.1
+ticket_again word t (line, digits, is_line, is_number, inr beats) =
+    ticket_from word line (104 ∷ digits) digits t is_line is_number (rw beats.0 (with_h digits)) beats.1
 
 free_ticket : (word : List ℕ) (t : Ticket) → IsTicket word t → IsFree 32 word
-free_ticket word t (line, n, is_line, is_number, beat, parts) =
-    rw parts (IsFree-append 32 line (46 ∷ n) (free_number 32 line t.line (lit< tt) is_line) (refl, free_number 32 n t.number (lit< tt) is_number))
+free_ticket word t (line, digits, is_line, is_number, inl calls) =
+    rw calls.1 (IsFree-append 32 line (46 ∷ digits) (free_number 32 line t.line (lit< tt) is_line) (refl, free_number 32 digits t.number (lit< tt) is_number))
+free_ticket word t (line, digits, is_line, is_number, inr beats) =
+    rw beats.1 (IsFree-append 32 line (46 ∷ 104 ∷ digits) (free_number 32 line t.line (lit< tt) is_line) (refl, (refl, free_number 32 digits t.number (lit< tt) is_number)))
 
 -- ---- words without a space
 

@@ -19,9 +19,10 @@ IsNumber word n = (n < 2 ^ 64) × (word ≡ decimal n)
 abbrev pub IsByteString : List ℕ → List ℕ → Type 0
 IsByteString word bytes = ((is_plain bytes ≡ true) × (word ≡ bytes)) ⊎ (AllByRecursion (λ b. b < 256) bytes × (word ≡ codes "x:" ++ hex bytes))
 
--- two numbers with a dot between
+-- two numbers with a dot between, and for a heartbeat an h behind the dot
 abbrev pub IsTicket : List ℕ → Ticket → Type 0
-IsTicket word t = (line number : List ℕ) × IsNumber line t.line × IsNumber number t.number × (t.beat ≡ false) × (word ≡ line ++ 46 ∷ number)
+IsTicket word t =
+    (line number : List ℕ) × IsNumber line t.line × IsNumber number t.number × (((t.beat ≡ false) × (word ≡ line ++ 46 ∷ number)) ⊎ ((t.beat ≡ true) × (word ≡ line ++ 46 ∷ 104 ∷ number)))
 
 -- what a word says
 pub data Form : Type 0 where

@@ -74,12 +74,16 @@ string_in word = if bytes_eq (take 2 word) (codes "x:") then hex_in (drop 2 word
 
 -- ---- tickets
 
+-- whether an h stands behind the dot, and what is left without it
+unfoldable pub behind_dot : List ℕ → Bool × List ℕ
+behind_dot word = if bytes_eq (take 1 word) (codes "h") then (true, drop 1 word) else (false, word)
+
 unfoldable pub ticket_in : List ℕ → Option Ticket
 ticket_in word = do
   parts ← cut_at 46 word
   line ← number_in parts.0
-  number ← number_in parts.1
-  Some (record { line = line; beat = false; number = number })
+  number ← number_in (behind_dot parts.1).1
+  Some (record { line = line; beat = (behind_dot parts.1).0; number = number })
 
 -- ---- the next word of a line
 

@@ -1,7 +1,7 @@
 //! The words of a line as numbers, byte strings and tickets.
 
 ghost use Rattle.std.specs.Prelude.{◌≡◌, ◌%◌, length};
-ghost use Rattle.txn_lines.specs.Reading.{Gives, next_digit, digits_after, number_in, hex_value, byte_in, pairs_in, hex_in, string_in, ticket_in, next_number, next_string, next_ticket, next_exactly};
+ghost use Rattle.txn_lines.specs.Reading.{Gives, next_digit, digits_after, number_in, hex_value, byte_in, pairs_in, hex_in, string_in, behind_dot, ticket_in, next_number, next_string, next_ticket, next_exactly};
 
 use crate::stop::Stop;
 use crate::words::{Words, cut_at};
@@ -98,21 +98,29 @@ fn string_in(alloc: Global, word: &[u8]) -> Result<Vec<u8>, Stop>
     Ok(Vec::from_slice(alloc, word)?)
 }
 
-/// Two numbers with a dot between.
+/// Whether an h stands behind the dot of a ticket, and what is left without it.
+#[tactic(auto, unfolding(crate::specs::Reading::behind_dot))]
+fn behind_dot(word: &[u8]) -> (bool, &[u8])
+    ensures { (result.0, result.1.now) ≡ behind_dot word.now }
+{
+    match word.strip_prefix(b"h".as_slice()) {
+        Some(number) => (true, number),
+        None => (false, word),
+    }
+}
+
+/// Two numbers with a dot between, and for a heartbeat an h behind the dot.
 #[tactic(auto, unfolding(crate::specs::Reading::ticket_in))]
 fn ticket_in(word: &[u8]) -> Result<Ticket, Stop>
     ensures { Gives (λ t. t) result (ticket_in word.now) }
 {
-    let Some((line, number)) = cut_at(b'.', word) else {
+    let Some((line, rest)) = cut_at(b'.', word) else {
         return Err(Stop::Word);
     };
     let line = number_in(line)?;
+    let (beat, number) = behind_dot(rest);
     let number = number_in(number)?;
-    Ok(Ticket {
-        line,
-        beat: false,
-        number,
-    })
+    Ok(Ticket { line, beat, number })
 }
 
 #[tactic(auto, unfolding(crate::specs::Reading::next_number))]
