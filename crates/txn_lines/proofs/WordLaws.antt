@@ -37,12 +37,16 @@ behind_is (b ∷ bs) =
 
 -- a word that is cut in two, of which both have numbers
 ticket_made : (word line rest : List ℕ) (l n : ℕ) → IsNumber line l → IsNumber (behind_dot rest).1 n → word ≡ line ++ 46 ∷ rest → IsTicket word (record { line = l; beat = (behind_dot rest).0; number = n })
-ticket_made word line rest l n is_line is_number parts =
-    (line, (behind_dot rest).1, is_line, is_number,
-      elim (behind_is rest) [
-        | inl calls ↦ inl (calls.0, parts ∙ ap (λ (r : List ℕ). line ++ 46 ∷ r) calls.1)
-        | inr beats ↦ inr (beats.0, parts ∙ ap (λ (r : List ℕ). line ++ 46 ∷ r) beats.1)
-      ])
+ticket_made word line rest l n is_line is_number parts = (
+  line,
+  (behind_dot rest).1,
+  is_line,
+  is_number,
+  elim (behind_is rest) [
+    | inl calls ↦ inl (calls.0, parts ∙ ap (λ (r : List ℕ). line ++ 46 ∷ r) calls.1)
+    | inr beats ↦ inr (beats.0, parts ∙ ap (λ (r : List ℕ). line ++ 46 ∷ r) beats.1)
+  ],
+)
 
 ticket_takes : (word : List ℕ) (t : Ticket) → ticket_in word ≡ Some t → IsTicket word t
 unfolding ticket_in

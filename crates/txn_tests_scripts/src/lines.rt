@@ -97,6 +97,27 @@ clock 17592186044415
     assert_text(&rt, &read(&rt, rt.alloc(), script), lines);
 }
 
+/// Each event that takes a ticket takes that of a heartbeat.
+#[test]
+fn events_of_heartbeats(rt: HostRuntime) {
+    let script = "wake 6.h1
+serve 6.h2
+answer 18446744073709551615.h2
+deliver 6.h18446744073709551615
+lose 6.h10
+busy 0.h0
+busy 0.0";
+    let lines = "Ok(Script { lines: Items { vec: [\
+        Wake { ticket: Ticket { line: 6, beat: true, number: 1 } }, \
+        Serve { ticket: Ticket { line: 6, beat: true, number: 2 } }, \
+        Answer { ticket: Ticket { line: 18446744073709551615, beat: true, number: 2 } }, \
+        Deliver { ticket: Ticket { line: 6, beat: true, number: 18446744073709551615 } }, \
+        Lose { ticket: Ticket { line: 6, beat: true, number: 10 } }, \
+        Busy { ticket: Ticket { line: 0, beat: true, number: 0 } }, \
+        Busy { ticket: Ticket { line: 0, beat: false, number: 0 } }] } })";
+    assert_text(&rt, &read(&rt, rt.alloc(), script), lines);
+}
+
 #[test]
 fn lines_that_are_not_in_the_grammar(rt: HostRuntime) {
     let lines = [
@@ -104,7 +125,13 @@ fn lines_that_are_not_in_the_grammar(rt: HostRuntime) {
         "commit 18446744073709551616",
         "client ",
         "put 2 k x:0A",
-        "deliver 5.h1",
+        "deliver 1.h",
+        "deliver 1.hh1",
+        "deliver 1.h01",
+        "deliver 1.h18446744073709551616",
+        "deliver h1.1",
+        "deliver 1.H1",
+        "deliver 1h1",
         "mutate 2",
         "lead 1 4",
         "begin 1 opt nolocks nolocks",
