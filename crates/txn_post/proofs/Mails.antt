@@ -1,28 +1,32 @@
 -- What keeps the mail in order.
-use Rattle.std.proofs.Common.{◌≡◌, ℕ, zero, suc, ◌+◌, ◌-◌, ◌<◌, ◌≤◌, inl, inr, Bool, true, false, List, [], ◌∷◌, ◌++◌, Option, Some, None, length, get_or, set, refl, sym, ap, ◌∙◌, subst, arith, length-append}
+use Rattle.std.proofs.Common.{◌≡◌, ℕ, zero, suc, inl, inr, Bool, true, false, List, [], ◌∷◌, ◌++◌, Some, length, refl, sym, ap, ◌∙◌, subst, arith, length-append}
 use Rattle.std.proofs.Math.ListN.{length-set}
-use Rattle.std.specs.Option.{option_map}
 use Rattle.txn_kv.specs.declared.ticket.Ticket.{Ticket}
 use Rattle.txn_report.specs.declared.report.SentNote.{SentNote}
 use Rattle.txn_report.specs.declared.report.SleepNote.{SleepNote}
 use Rattle.txn_post.specs.declared.letter.Letter.{Letter}
 use Rattle.txn_post.specs.declared.post.Place.{Place}
 use Rattle.txn_post.specs.declared.post.Place.TheVariants.{Sent, Slept}
-use Rattle.txn_post.specs.Mail.{Mail, ticket_at, place_of, place_in, places_of, naming, changing, letter_at, opened, sending, sleeping, no_mail, just_sent, waking, IsMail, IsNext, IsSentAt, IsSleptAt}
-use Rattle.txn_post.proofs.Lists.{told_old, told_last, told_pushed, told_within, or_any}
+use Rattle.txn_post.specs.Mail.{Mail, Tickets, ticket_at, place_of, place_in, places_of, lane, no_tickets, naming, changing, letter_at, opened, sending, sleeping, no_mail, just_sent, waking, IsMail, IsNext, IsSentAt, IsSleptAt}
+use Rattle.txn_post.proofs.Lists.{told_old, told_last, told_pushed, told_within}
 use Rattle.txn_post.proofs.Naming.{named_next, named_old, named_pushed, opened_leads}
 
 pub none_is_mail : IsMail no_mail
 none_is_mail = record { letters = refl; flags = refl; named = λ t p h. absurd (nowhere t p h); found = λ t p h. absurd (nothing t p h) }
   where
-    none_in : (n m : ℕ) (p : Place) → place_in (places_of [] n) m ≡ Some p → ⊥
-    none_in zero zero p h = cc
-    none_in zero (suc m) p h = cc
-    none_in (suc n) zero p h = cc
-    none_in (suc n) (suc m) p h = cc
+    none_in : (lines : List (List Place)) (n m : ℕ) (p : Place) → lines ≡ [] → place_in (places_of lines n) m ≡ Some p → ⊥
+    none_in lines zero zero p e h = cc
+    none_in lines zero (suc m) p e h = cc
+    none_in [] (suc n) zero p e h = cc
+    none_in [] (suc n) (suc m) p e h = cc
+    none_in (ps ∷ lines) (suc n) m p e h = cc
 
-    nowhere : (t : Ticket) (p : Place) → place_of [] t ≡ Some p → ⊥
-    nowhere t p h = grind (arith, none_in t.line t.number p)
+    none_there : (b : Bool) → lane b no_tickets ≡ []
+    none_there false = refl
+    none_there true = refl
+
+    nowhere : (t : Ticket) (p : Place) → place_of no_tickets t ≡ Some p → ⊥
+    nowhere t p h = none_in (lane t.beat no_tickets) t.line t.number p (none_there t.beat) h
 
     nothing : (t : Ticket) (p : Place) → ticket_at no_mail p ≡ Some t → ⊥
     nothing t (Sent k) h = cc
@@ -54,11 +58,11 @@ sent_is_mail mail note next m = record {
     stays t (Sent k) h = told_old (λ n. n.ticket) mail.sent (note ∷ []) k t h
     stays t (Slept k) h = h
 
-    back : (t : Ticket) (p : Place) → ticket_at (sending note mail) p ≡ Some t → place_of (naming mail.tickets note.ticket.line (Sent (length mail.sent))) t ≡ Some p
+    back : (t : Ticket) (p : Place) → ticket_at (sending note mail) p ≡ Some t → place_of (naming mail.tickets note.ticket.beat note.ticket.line (Sent (length mail.sent))) t ≡ Some p
     back t (Sent k) h = elim (told_pushed (λ n. n.ticket) mail.sent note k t h) [
       | inl a ↦ named_old mail note.ticket t (Sent (length mail.sent)) (Sent k) next (m.found t (Sent k) a)
       | inr b ↦
-          ap (λ u. place_of (naming mail.tickets note.ticket.line (Sent (length mail.sent))) u) (sym b.1)
+          ap (λ u. place_of (naming mail.tickets note.ticket.beat note.ticket.line (Sent (length mail.sent))) u) (sym b.1)
           ∙ named_next mail note.ticket (Sent (length mail.sent)) next
           ∙ ap (λ n. Some (Sent n)) (sym b.0)
     ]
@@ -79,43 +83,33 @@ slept_is_mail mail note next m = record {
     stays t (Sent k) h = h
     stays t (Slept k) h = told_old (λ n. n.ticket) mail.sleeps (note ∷ []) k t h
 
-    back : (t : Ticket) (p : Place) → ticket_at (sleeping note mail) p ≡ Some t → place_of (naming mail.tickets note.ticket.line (Slept (length mail.sleeps))) t ≡ Some p
+    back : (t : Ticket) (p : Place) → ticket_at (sleeping note mail) p ≡ Some t → place_of (naming mail.tickets note.ticket.beat note.ticket.line (Slept (length mail.sleeps))) t ≡ Some p
     back t (Slept k) h = elim (told_pushed (λ n. n.ticket) mail.sleeps note k t h) [
       | inl a ↦ named_old mail note.ticket t (Slept (length mail.sleeps)) (Slept k) next (m.found t (Slept k) a)
       | inr b ↦
-          ap (λ u. place_of (naming mail.tickets note.ticket.line (Slept (length mail.sleeps))) u) (sym b.1)
+          ap (λ u. place_of (naming mail.tickets note.ticket.beat note.ticket.line (Slept (length mail.sleeps))) u) (sym b.1)
           ∙ named_next mail note.ticket (Slept (length mail.sleeps)) next
           ∙ ap (λ n. Some (Slept n)) (sym b.0)
     ]
     back t (Sent k) h = named_old mail note.ticket t (Slept (length mail.sleeps)) (Sent k) next (m.found t (Sent k) h)
 
--- A ticket more in the list of its line.
+-- In these lists.
 
-named_at : (tickets : List (List Place)) (line : ℕ) (ps : List Place) → 1 ≤ line → line ≤ length tickets → ps ≡ get_or tickets (line - 1) ps → places_of tickets line ≡ ps
-named_at tickets zero ps one most e = absurd (omega arith)
-named_at tickets (suc i) ps one most e =
-    let same : suc i - 1 ≡ i = omega arith in
-    or_any tickets i ps [] (omega arith) (e ∙ ap (λ n. get_or tickets n ps) same)
-
-named_so : (mail : Mail) (t : Ticket) (p : Place) (ps qs : List Place) → IsNext mail t → ps ≡ get_or mail.tickets (t.line - 1) ps → qs ≡ ps ++ p ∷ [] → set mail.tickets (t.line - 1) qs ≡ naming mail.tickets t.line p
-named_so mail t p ps qs next e h =
-    ap (λ rs. set mail.tickets (t.line - 1) rs) (h ∙ ap (λ rs. rs ++ p ∷ []) (sym (named_at mail.tickets t.line ps next.first next.last e)))
-
-pub sent_so : (was mail : Mail) (note : SentNote) (sent : List SentNote) (letters : List Letter) (ps qs : List Place) (n : ℕ) → was ≡ mail → IsNext mail note.ticket → IsMail was →
-    sent ≡ was.sent ++ note ∷ [] → letters ≡ was.letters ++ just_sent ∷ [] → ps ≡ get_or was.tickets (note.ticket.line - 1) ps → qs ≡ ps ++ Sent n ∷ [] → n ≡ length was.sent →
-    IsMail (record { sent = sent; letters = letters; sleeps = was.sleeps; lasting = was.lasting; tickets = set was.tickets (note.ticket.line - 1) qs })
-sent_so was mail note sent letters ps qs n e next m a b old new len =
+pub sent_so : (was mail : Mail) (note : SentNote) (sent : List SentNote) (letters : List Letter) (tickets : Tickets) (n : ℕ) → was ≡ mail → IsNext mail note.ticket → IsMail was →
+    sent ≡ was.sent ++ note ∷ [] → letters ≡ was.letters ++ just_sent ∷ [] → tickets ≡ naming was.tickets note.ticket.beat note.ticket.line (Sent n) → n ≡ length was.sent →
+    IsMail (record { sent = sent; letters = letters; sleeps = was.sleeps; lasting = was.lasting; tickets = tickets })
+sent_so was mail note sent letters tickets n e next m a b named len =
     let here : IsNext was note.ticket = subst (λ x. IsNext x note.ticket) (sym e) next in
-    let place : qs ≡ ps ++ Sent (length was.sent) ∷ [] = new ∙ ap (λ k. ps ++ Sent k ∷ []) len in
-    rw (a, b, named_so was note.ticket (Sent (length was.sent)) ps qs here old place) (sent_is_mail was note here m)
+    let place : tickets ≡ naming was.tickets note.ticket.beat note.ticket.line (Sent (length was.sent)) = named ∙ ap (λ k. naming was.tickets note.ticket.beat note.ticket.line (Sent k)) len in
+    rw (a, b, place) (sent_is_mail was note here m)
 
-pub slept_so : (was mail : Mail) (note : SleepNote) (sleeps : List SleepNote) (lasting : List Bool) (ps qs : List Place) (n : ℕ) → was ≡ mail → IsNext mail note.ticket → IsMail was →
-    sleeps ≡ was.sleeps ++ note ∷ [] → lasting ≡ was.lasting ++ true ∷ [] → ps ≡ get_or was.tickets (note.ticket.line - 1) ps → qs ≡ ps ++ Slept n ∷ [] → n ≡ length was.sleeps →
-    IsMail (record { sent = was.sent; letters = was.letters; sleeps = sleeps; lasting = lasting; tickets = set was.tickets (note.ticket.line - 1) qs })
-slept_so was mail note sleeps lasting ps qs n e next m a b old new len =
+pub slept_so : (was mail : Mail) (note : SleepNote) (sleeps : List SleepNote) (lasting : List Bool) (tickets : Tickets) (n : ℕ) → was ≡ mail → IsNext mail note.ticket → IsMail was →
+    sleeps ≡ was.sleeps ++ note ∷ [] → lasting ≡ was.lasting ++ true ∷ [] → tickets ≡ naming was.tickets note.ticket.beat note.ticket.line (Slept n) → n ≡ length was.sleeps →
+    IsMail (record { sent = was.sent; letters = was.letters; sleeps = sleeps; lasting = lasting; tickets = tickets })
+slept_so was mail note sleeps lasting tickets n e next m a b named len =
     let here : IsNext was note.ticket = subst (λ x. IsNext x note.ticket) (sym e) next in
-    let place : qs ≡ ps ++ Slept (length was.sleeps) ∷ [] = new ∙ ap (λ k. ps ++ Slept k ∷ []) len in
-    rw (a, b, named_so was note.ticket (Slept (length was.sleeps)) ps qs here old place) (slept_is_mail was note here m)
+    let place : tickets ≡ naming was.tickets note.ticket.beat note.ticket.line (Slept (length was.sleeps)) = named ∙ ap (λ k. naming was.tickets note.ticket.beat note.ticket.line (Slept k)) len in
+    rw (a, b, place) (slept_is_mail was note here m)
 
 -- What a ticket leads to has the ticket.
 

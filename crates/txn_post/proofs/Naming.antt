@@ -1,9 +1,9 @@
--- The next ticket of a line leads to a place, and the others lead where they led.
-use Rattle.std.proofs.Common.{◌≡◌, ◌≢◌, ℕ, zero, suc, ◌+◌, ◌-◌, ◌<◌, ◌≤◌, ◌⊎◌, inl, inr, Bool, true, false, if◌then◌else◌, List, [], ◌∷◌, ◌++◌, Option, Some, None, length, set, nat_eq, refl, sym, ap, ◌∙◌, subst, arith}
+-- The next ticket of a line, or of its heartbeat, leads to a place, and the others lead where they led.
+use Rattle.std.proofs.Common.{◌≡◌, ◌≢◌, ℕ, zero, suc, ◌+◌, ◌-◌, ◌≤◌, ◌⊎◌, inl, inr, Bool, true, false, List, [], ◌∷◌, ◌++◌, Some, length, set, nat_eq, refl, sym, ap, ◌∙◌, arith}
 use Rattle.std.proofs.lemmas.Bool.Decides.{nat_tests}
 use Rattle.txn_kv.specs.declared.ticket.Ticket.{Ticket}
 use Rattle.txn_post.specs.declared.post.Place.{Place}
-use Rattle.txn_post.specs.Mail.{Mail, place_in, place_of, places_of, naming, IsNext}
+use Rattle.txn_post.specs.Mail.{Mail, Tickets, lane, naming, naming_in, opened_lanes, place_in, place_of, places_of, IsNext}
 use Rattle.txn_post.proofs.Lists.{get_old, get_last, get_pushed, or_same, or_other, or_ended}
 
 -- The places of one line.
@@ -22,26 +22,34 @@ in_pushed ps p (suc k) q h = elim (get_pushed ps p k q h) [ inl a ↦ inl a | in
 
 -- The places of all lines.
 
-of_same : (tickets : List (List Place)) (line : ℕ) (ps : List Place) → 1 ≤ line → line ≤ length tickets → places_of (set tickets (line - 1) ps) line ≡ ps
-of_same tickets zero ps one most = absurd (omega arith)
-of_same tickets (suc i) ps one most = let e : suc i - 1 ≡ i = omega arith in rw e (or_same tickets i ps [] (omega arith))
+of_same : (lines : List (List Place)) (line : ℕ) (ps : List Place) → 1 ≤ line → line ≤ length lines → places_of (set lines (line - 1) ps) line ≡ ps
+of_same lines zero ps one most = absurd (omega arith)
+of_same lines (suc i) ps one most = let e : suc i - 1 ≡ i = omega arith in rw e (or_same lines i ps [] (omega arith))
 
-of_other : (tickets : List (List Place)) (line n : ℕ) (ps : List Place) → 1 ≤ line → n ≢ line → places_of (set tickets (line - 1) ps) n ≡ places_of tickets n
-of_other tickets zero n ps one apart = absurd (omega arith)
-of_other tickets (suc i) zero ps one apart = refl
-of_other tickets (suc i) (suc j) ps one apart =
+of_other : (lines : List (List Place)) (line n : ℕ) (ps : List Place) → 1 ≤ line → n ≢ line → places_of (set lines (line - 1) ps) n ≡ places_of lines n
+of_other lines zero n ps one apart = absurd (omega arith)
+of_other lines (suc i) zero ps one apart = refl
+of_other lines (suc i) (suc j) ps one apart =
     let e : suc i - 1 ≡ i = omega arith in
-    rw e (or_other tickets i j ps [] (λ s. apart (ap (λ k. suc k) s)))
+    rw e (or_other lines i j ps [] (λ s. apart (ap (λ k. suc k) s)))
 
--- The places of tickets.
+-- Calls and heartbeats.
 
-unbeaten : (b : Bool) (o : Option Place) (p : Place) → (if b then None else o) ≡ Some p → (b ≡ false) × (o ≡ Some p)
-unbeaten true o p h = absurd (cc)
-unbeaten false o p h = (refl, h)
+pub named_lane : (b : Bool) (tickets : Tickets) (line : ℕ) (p : Place) → lane b (naming tickets b line p) ≡ naming_in (lane b tickets) line p
+named_lane false tickets line p = refl
+named_lane true tickets line p = refl
 
-beaten : (b : Bool) (o : Option Place) (p : Place) → b ≡ false → o ≡ Some p → (if b then None else o) ≡ Some p
-beaten true o p b h = absurd (cc)
-beaten false o p b h = h
+pub other_lane : (a b : Bool) (tickets : Tickets) (line : ℕ) (p : Place) → a ≢ b → lane a (naming tickets b line p) ≡ lane a tickets
+other_lane false false tickets line p apart = absurd (apart refl)
+other_lane false true tickets line p apart = refl
+other_lane true false tickets line p apart = refl
+other_lane true true tickets line p apart = absurd (apart refl)
+
+same_beat : (a b : Bool) → (a ≡ b) ⊎ (a ≢ b)
+same_beat false false = inl refl
+same_beat false true = inr (λ e. cc)
+same_beat true false = inr (λ e. cc)
+same_beat true true = inl refl
 
 same_line : (line n : ℕ) → (n ≡ line) ⊎ (n ≢ line)
 same_line line n = by (nat_eq n line) refl
@@ -50,56 +58,75 @@ same_line line n = by (nat_eq n line) refl
     by true e = inl (grind (arith, nat_tests))
     by false e = inr (grind (arith, nat_tests))
 
-pub named_next : (mail : Mail) (t : Ticket) (p : Place) → IsNext mail t → place_of (naming mail.tickets t.line p) t ≡ Some p
-named_next mail t p next =
-    let ps = places_of mail.tickets t.line in
-    beaten t.beat (place_in (places_of (naming mail.tickets t.line p) t.line) t.number) p next.beat
-    (ap (λ qs. place_in qs t.number) (of_same mail.tickets t.line (places_of mail.tickets t.line ++ p ∷ []) next.first next.last)
-    ∙ in_last (places_of mail.tickets t.line) p t.number next.number)
+-- What a line, or its heartbeat, named is what it was; or this is its next.
+pub record IsHere (tickets : Tickets) (t : Ticket) (p : Place) (b : Bool) (n : ℕ) : Type 0 where
+  pub beat : b ≡ t.beat
+  pub line : n ≡ t.line
+  pub places : places_of (lane b (naming tickets t.beat t.line p)) n ≡ places_of (lane b tickets) n ++ p ∷ []
 
-pub named_old : (mail : Mail) (t u : Ticket) (p q : Place) → IsNext mail t → place_of mail.tickets u ≡ Some q → place_of (naming mail.tickets t.line p) u ≡ Some q
-named_old mail t u p q next h = elim (same_line t.line u.line) [
-  | inl e ↦
-      let here : places_of (naming mail.tickets t.line p) u.line ≡ places_of mail.tickets u.line ++ p ∷ [] =
-      ap (λ n. places_of (naming mail.tickets t.line p) n) e
-      ∙ of_same mail.tickets t.line (places_of mail.tickets t.line ++ p ∷ []) next.first next.last
-      ∙ ap (λ n. places_of mail.tickets n ++ p ∷ []) (sym e) in
-      led (ap (λ qs. place_in qs u.number) here ∙ in_old (places_of mail.tickets u.line) (p ∷ []) u.number q was.1)
-  | inr apart ↦ led (ap (λ qs. place_in qs u.number) (of_other mail.tickets t.line u.line (places_of mail.tickets t.line ++ p ∷ []) next.first apart) ∙ was.1)
-]
+abbrev pub IsElsewhere : Tickets → Ticket → Place → Bool → ℕ → Type 0
+IsElsewhere tickets t p b n = places_of (lane b (naming tickets t.beat t.line p)) n ≡ places_of (lane b tickets) n
+
+pub named_where : (tickets : Tickets) (t : Ticket) (p : Place) (b : Bool) (n : ℕ) → 1 ≤ t.line → t.line ≤ length (lane t.beat tickets) → IsHere tickets t p b n ⊎ IsElsewhere tickets t p b n
+named_where tickets t p b n first last = by_beat (same_beat b t.beat)
   where
-    was : (u.beat ≡ false) × (place_in (places_of mail.tickets u.line) u.number ≡ Some q)
-    was = unbeaten u.beat (place_in (places_of mail.tickets u.line) u.number) q h
+    on_lane : b ≡ t.beat → places_of (lane b (naming tickets t.beat t.line p)) n ≡ places_of (naming_in (lane t.beat tickets) t.line p) n
+    on_lane e = ap (λ c. places_of (lane c (naming tickets t.beat t.line p)) n) e ∙ ap (λ lines. places_of lines n) (named_lane t.beat tickets t.line p)
 
-    led : place_in (places_of (naming mail.tickets t.line p) u.line) u.number ≡ Some q → place_of (naming mail.tickets t.line p) u ≡ Some q
-    led g = beaten u.beat (place_in (places_of (naming mail.tickets t.line p) u.line) u.number) q was.0 g
+    by_line : b ≡ t.beat → (n ≡ t.line) ⊎ (n ≢ t.line) → IsHere tickets t p b n ⊎ IsElsewhere tickets t p b n
+    by_line e (inl l) = inl (record {
+      beat = e;
+      line = l;
+      places = on_lane e
+          ∙ ap (λ k. places_of (naming_in (lane t.beat tickets) t.line p) k) l
+          ∙ of_same (lane t.beat tickets) t.line (places_of (lane t.beat tickets) t.line ++ p ∷ []) first last
+          ∙ ap (λ k. places_of (lane t.beat tickets) k ++ p ∷ []) (sym l)
+          ∙ ap (λ c. places_of (lane c tickets) n ++ p ∷ []) (sym e);
+    })
+    by_line e (inr apart) = inr (on_lane e ∙ of_other (lane t.beat tickets) t.line n (places_of (lane t.beat tickets) t.line ++ p ∷ []) first apart ∙ ap (λ c. places_of (lane c tickets) n) (sym e))
+
+    by_beat : (b ≡ t.beat) ⊎ (b ≢ t.beat) → IsHere tickets t p b n ⊎ IsElsewhere tickets t p b n
+    by_beat (inl e) = by_line e (same_line t.line n)
+    by_beat (inr apart) = inr (ap (λ lines. places_of lines n) (other_lane b t.beat tickets t.line p apart))
+
+-- The places of tickets.
+
+pub named_next : (mail : Mail) (t : Ticket) (p : Place) → IsNext mail t → place_of (naming mail.tickets t.beat t.line p) t ≡ Some p
+named_next mail t p next =
+    ap (λ lines. place_in (places_of lines t.line) t.number) (named_lane t.beat mail.tickets t.line p)
+    ∙ ap (λ qs. place_in qs t.number) (of_same (lane t.beat mail.tickets) t.line (places_of (lane t.beat mail.tickets) t.line ++ p ∷ []) next.first next.last)
+    ∙ in_last (places_of (lane t.beat mail.tickets) t.line) p t.number next.number
+
+pub named_old : (mail : Mail) (t u : Ticket) (p q : Place) → IsNext mail t → place_of mail.tickets u ≡ Some q → place_of (naming mail.tickets t.beat t.line p) u ≡ Some q
+named_old mail t u p q next h = elim (named_where mail.tickets t p u.beat u.line next.first next.last) [
+  | inl here ↦ ap (λ qs. place_in qs u.number) here.places ∙ in_old (places_of (lane u.beat mail.tickets) u.line) (p ∷ []) u.number q h
+  | inr there ↦ ap (λ qs. place_in qs u.number) there ∙ h
+]
 
 same_ticket : (t u : Ticket) → u.line ≡ t.line → u.beat ≡ t.beat → u.number ≡ t.number → u ≡ t
 same_ticket t u a b c = λ i. record { line = a i; beat = b i; number = c i }
 
-pub named_pushed : (mail : Mail) (t u : Ticket) (p q : Place) → IsNext mail t → place_of (naming mail.tickets t.line p) u ≡ Some q → (place_of mail.tickets u ≡ Some q) ⊎ ((u ≡ t) × (p ≡ q))
-named_pushed mail t u p q next h = elim (same_line t.line u.line) [
-  | inl e ↦
-      let here : places_of (naming mail.tickets t.line p) u.line ≡ places_of mail.tickets u.line ++ p ∷ [] =
-      ap (λ n. places_of (naming mail.tickets t.line p) n) e
-      ∙ of_same mail.tickets t.line (places_of mail.tickets t.line ++ p ∷ []) next.first next.last
-      ∙ ap (λ n. places_of mail.tickets n ++ p ∷ []) (sym e) in
-      elim (in_pushed (places_of mail.tickets u.line) p u.number q (ap (λ qs. place_in qs u.number) (sym here) ∙ is.1)) [
-        | inl a ↦ inl (beaten u.beat (place_in (places_of mail.tickets u.line) u.number) q is.0 a)
-        | inr b ↦ inr (same_ticket t u e (is.0 ∙ sym next.beat) (b.0 ∙ ap (λ n. length (places_of mail.tickets n) + 1) e ∙ sym next.number), b.1)
-      ]
-  | inr apart ↦ inl (beaten u.beat (place_in (places_of mail.tickets u.line) u.number) q is.0
-      (ap (λ qs. place_in qs u.number) (sym (of_other mail.tickets t.line u.line (places_of mail.tickets t.line ++ p ∷ []) next.first apart)) ∙ is.1))
+pub named_pushed : (mail : Mail) (t u : Ticket) (p q : Place) → IsNext mail t → place_of (naming mail.tickets t.beat t.line p) u ≡ Some q → (place_of mail.tickets u ≡ Some q) ⊎ ((u ≡ t) × (p ≡ q))
+named_pushed mail t u p q next h = elim (named_where mail.tickets t p u.beat u.line next.first next.last) [
+  | inl here ↦ elim (in_pushed (places_of (lane u.beat mail.tickets) u.line) p u.number q (ap (λ qs. place_in qs u.number) (sym here.places) ∙ h)) [
+    | inl a ↦ inl a
+    | inr b ↦
+        let many : length (places_of (lane u.beat mail.tickets) u.line) + 1 ≡ length (places_of (lane t.beat mail.tickets) t.line) + 1 =
+        ap (λ c. length (places_of (lane c mail.tickets) u.line) + 1) here.beat ∙ ap (λ n. length (places_of (lane t.beat mail.tickets) n) + 1) here.line in
+        inr (same_ticket t u here.line here.beat (b.0 ∙ many ∙ sym next.number), b.1)
+  ]
+  | inr there ↦ inl (ap (λ qs. place_in qs u.number) (sym there) ∙ h)
 ]
-  where
-    is : (u.beat ≡ false) × (place_in (places_of (naming mail.tickets t.line p) u.line) u.number ≡ Some q)
-    is = unbeaten u.beat (place_in (places_of (naming mail.tickets t.line p) u.line) u.number) q h
 
 -- A line more has named nothing.
 
-of_opened : (tickets : List (List Place)) (line : ℕ) → places_of (tickets ++ [] ∷ []) line ≡ places_of tickets line
-of_opened tickets zero = refl
-of_opened tickets (suc i) = or_ended tickets [] i
+of_opened : (lines : List (List Place)) (line : ℕ) → places_of (lines ++ [] ∷ []) line ≡ places_of lines line
+of_opened lines zero = refl
+of_opened lines (suc i) = or_ended lines [] i
 
-pub opened_leads : (tickets : List (List Place)) (t : Ticket) → place_of (tickets ++ [] ∷ []) t ≡ place_of tickets t
-opened_leads tickets t = ap (λ ps. if t.beat then None else place_in ps t.number) (of_opened tickets t.line)
+pub opened_lane : (b : Bool) (tickets : Tickets) (line : ℕ) → places_of (lane b (opened_lanes tickets)) line ≡ places_of (lane b tickets) line
+opened_lane false tickets line = of_opened tickets.calls line
+opened_lane true tickets line = of_opened tickets.beats line
+
+pub opened_leads : (tickets : Tickets) (t : Ticket) → place_of (opened_lanes tickets) t ≡ place_of tickets t
+opened_leads tickets t = ap (λ ps. place_in ps t.number) (opened_lane t.beat tickets t.line)

@@ -11,6 +11,11 @@ use Rattle.txn_post.specs.declared.letter.Letter.{Letter}
 use Rattle.txn_post.specs.declared.post.Place.{Place}
 use Rattle.txn_post.specs.declared.post.Place.TheVariants.{Sent, Slept}
 
+-- For each line where what its tickets name stands, in the order of the numbers: what its calls named, and what its heartbeat did.
+pub record Tickets : Type 0 where
+  pub calls : List (List Place)
+  pub beats : List (List Place)
+
 pub record Mail : Type 0 where
   -- the requests, in the order in which they were sent
   pub sent : List SentNote
@@ -20,13 +25,21 @@ pub record Mail : Type 0 where
   pub sleeps : List SleepNote
   -- whether each still lasts
   pub lasting : List Bool
-  -- for each line where what it named stands, in the order of the numbers
-  pub tickets : List (List Place)
+  pub tickets : Tickets
+
+-- of no line
+abbrev pub no_tickets : Tickets
+no_tickets = record { calls = []; beats = [] }
 
 abbrev pub no_mail : Mail
-no_mail = record { sent = []; letters = []; sleeps = []; lasting = []; tickets = [] }
+no_mail = record { sent = []; letters = []; sleeps = []; lasting = []; tickets = no_tickets }
 
 -- Tickets. Lines and numbers are counted from 1.
+
+-- what calls named, or what heartbeats did
+abbrev pub lane : Bool → Tickets → List (List Place)
+lane false tickets = tickets.calls
+lane true tickets = tickets.beats
 
 -- where what a line named stands
 abbrev pub places_of : List (List Place) → ℕ → List Place
@@ -38,8 +51,8 @@ place_in places zero = None
 place_in places (suc number) = slice_get places number
 
 -- where what the ticket names stands, if it names something
-abbrev pub place_of : List (List Place) → Ticket → Option Place
-place_of tickets t = if t.beat then None else place_in (places_of tickets t.line) t.number
+abbrev pub place_of : Tickets → Ticket → Option Place
+place_of tickets t = place_in (places_of (lane t.beat tickets) t.line) t.number
 
 -- the ticket of what stands at a place, if something does
 abbrev pub ticket_at : Mail → Place → Option Ticket
@@ -117,39 +130,50 @@ is_out mail (Slept place) = is_lasting mail place
 abbrev pub out_at : Mail → Place → Option Ticket
 out_at mail place = if is_out mail place then ticket_at mail place else None
 
--- the tickets of a line that are out, in the order of their numbers
+-- the tickets of what stands at these places and is out
+abbrev pub outs_among : Mail → List Place → List Ticket
+outs_among mail places = flat_map (λ place. option_to_list (out_at mail place)) places
+
+-- the tickets of a line that are out, in the order of their numbers; those of its heartbeat come last
 abbrev pub outs_of : Mail → ℕ → List Ticket
-outs_of mail line = flat_map (λ place. option_to_list (out_at mail place)) (places_of mail.tickets line)
+outs_of mail line = outs_among mail (places_of mail.tickets.calls line) ++ outs_among mail (places_of mail.tickets.beats line)
 
 -- Steps.
 
 -- one line more, which has named nothing
-abbrev pub opened : Mail → Mail
-opened mail = record mail { tickets = mail.tickets ++ [] ∷ [] }
+abbrev pub opened_lanes : Tickets → Tickets
+opened_lanes tickets = record { calls = tickets.calls ++ [] ∷ []; beats = tickets.beats ++ [] ∷ [] }
 
--- the ticket is the next of a line that is there
+abbrev pub opened : Mail → Mail
+opened mail = record mail { tickets = opened_lanes mail.tickets }
+
+-- the ticket is the next of a line that is there, or of its heartbeat
 pub record IsNext (mail : Mail) (t : Ticket) : Type 0 where
   pub first : 1 ≤ t.line
-  pub last : t.line ≤ length mail.tickets
-  pub beat : t.beat ≡ false
-  pub number : t.number ≡ length (places_of mail.tickets t.line) + 1
+  pub last : t.line ≤ length (lane t.beat mail.tickets)
+  pub number : t.number ≡ length (places_of (lane t.beat mail.tickets) t.line) + 1
 
--- the next ticket of a line leads to this place
-abbrev pub naming : List (List Place) → ℕ → Place → List (List Place)
-naming tickets line place = slice_set tickets (line - 1) (places_of tickets line ++ place ∷ [])
+-- the next of a line stands at this place
+abbrev pub naming_in : List (List Place) → ℕ → Place → List (List Place)
+naming_in places line place = slice_set places (line - 1) (places_of places line ++ place ∷ [])
+
+-- the next ticket of a line, or of its heartbeat, leads to this place
+abbrev pub naming : Tickets → Bool → ℕ → Place → Tickets
+naming tickets false line place = record tickets { calls = naming_in tickets.calls line place }
+naming tickets true line place = record tickets { beats = naming_in tickets.beats line place }
 
 abbrev pub sending : SentNote → Mail → Mail
 sending note mail = record mail {
   sent = mail.sent ++ note ∷ [];
   letters = mail.letters ++ just_sent ∷ [];
-  tickets = naming mail.tickets note.ticket.line (Sent (length mail.sent));
+  tickets = naming mail.tickets note.ticket.beat note.ticket.line (Sent (length mail.sent));
 }
 
 abbrev pub sleeping : SleepNote → Mail → Mail
 sleeping note mail = record mail {
   sleeps = mail.sleeps ++ note ∷ [];
   lasting = mail.lasting ++ true ∷ [];
-  tickets = naming mail.tickets note.ticket.line (Slept (length mail.sleeps));
+  tickets = naming mail.tickets note.ticket.beat note.ticket.line (Slept (length mail.sleeps));
 }
 
 -- the letter of a place changes

@@ -1,6 +1,7 @@
 ghost use Rattle.std.specs.Prelude.{◌≡◌, ◌+◌, ◌<◌, ◌++◌, IfSome, OnOk, length, option_to_list};
-ghost use Rattle.txn_post.specs.Mail.{can_be_served, changing, delivering, found_awaited, found_lasting, found_unserved, keeping, letter_at, losing, no_mail, opened, out_at, outs_of, as_sent, as_slept, place_of, places_of, refusing, sending, sleeping, taking, waking, IsMail, IsNext, IsSentAt, IsSleptAt};
+ghost use Rattle.txn_post.specs.Mail.{can_be_served, changing, delivering, found_awaited, found_lasting, found_unserved, keeping, letter_at, losing, no_mail, opened, out_at, outs_among, outs_of, as_sent, as_slept, place_of, refusing, sending, sleeping, taking, waking, IsMail, IsNext, IsSentAt, IsSleptAt};
 
+use crate::lanes::Lanes;
 use crate::letter::Letter;
 use crate::room::{make_room, put_last};
 use std::alloc::Global;
@@ -15,7 +16,7 @@ pub enum Place {
     Slept(usize),
 }
 
-/// The requests and sleeps of a run, in order, and for each line those that it named, in the order of their numbers.
+/// The requests and sleeps of a run, in order, and the tickets that name them.
 #[derive(Debug, Drop)]
 pub struct Post {
     sent: Vec<SentNote>,
@@ -24,8 +25,7 @@ pub struct Post {
     sleeps: Vec<SleepNote>,
     /// For each sleep whether it still lasts.
     lasting: Vec<bool>,
-    /// For each line where its tickets stand.
-    tickets: Vec<Items<Place>>,
+    tickets: Lanes,
 }
 
 impl Model for Post {
@@ -33,22 +33,9 @@ impl Model for Post {
 
     ghost Value = { Mail };
 
-    ghost view = { λ p. record { sent = p.sent.items; letters = p.letters.items; sleeps = p.sleeps.items; lasting = p.lasting.items; tickets = p.tickets.items } };
+    ghost view = { λ p. record { sent = p.sent.items; letters = p.letters.items; sleeps = p.sleeps.items; lasting = p.lasting.items; tickets = p.tickets } };
 
-    ghost invariant = { λ p. IsMail (record { sent = p.sent.items; letters = p.letters.items; sleeps = p.sleeps.items; lasting = p.lasting.items; tickets = p.tickets.items }) };
-}
-
-/// Where what the ticket names stands, if it names something.
-fn place_of(tickets: &[Items<Place>], ticket: &Ticket) -> Option<Place>
-    ensures { result ≡ place_of tickets.now ticket.now }
-{
-    if ticket.beat || ticket.line == 0 || ticket.number == 0 {
-        return None;
-    }
-    match tickets.get(ticket.line as usize - 1) {
-        None => None,
-        Some(places) => places.as_slice().get(ticket.number as usize - 1).copied(),
-    }
+    ghost invariant = { λ p. IsMail (record { sent = p.sent.items; letters = p.letters.items; sleeps = p.sleeps.items; lasting = p.lasting.items; tickets = p.tickets }) };
 }
 
 impl Post {
@@ -61,7 +48,7 @@ impl Post {
             letters: Vec::new(alloc),
             sleeps: Vec::new(alloc),
             lasting: Vec::new(alloc),
-            tickets: Vec::new(alloc),
+            tickets: Lanes::new(alloc),
         }
     }
 
@@ -70,7 +57,7 @@ impl Post {
         ensures { OnOk result (self.new ≡ opened self.old) }
     {
         let alloc = *self.sent.allocator();
-        self.tickets.push(Items::new(alloc))?;
+        self.tickets.open(alloc)?;
         Ok(())
     }
 
@@ -97,7 +84,7 @@ impl Post {
         make_room(&mut self.letters)?;
         make_room(&mut self.sent)?;
         let place = Place::Sent(self.sent.len());
-        self.tickets[ticket.line as usize - 1].push(place)?;
+        self.tickets.name(&ticket, place)?;
         put_last(&mut self.letters, Letter::new());
         put_last(
             &mut self.sent,
@@ -120,7 +107,7 @@ impl Post {
         make_room(&mut self.lasting)?;
         make_room(&mut self.sleeps)?;
         let place = Place::Slept(self.sleeps.len());
-        self.tickets[ticket.line as usize - 1].push(place)?;
+        self.tickets.name(&ticket, place)?;
         put_last(&mut self.lasting, true);
         put_last(&mut self.sleeps, SleepNote { ticket, at });
         Ok(())
@@ -131,7 +118,7 @@ impl Post {
         ensures exact { result ≡ place_of self.now.tickets ticket.now }
         ensures mail { IsMail self.now }
     {
-        place_of(self.tickets.as_slice(), ticket)
+        self.tickets.place_of(ticket)
     }
 
     /// Where the request that the ticket names stands.
@@ -278,24 +265,25 @@ impl Post {
         Ok(())
     }
 
-    /// Where what a line named stands.
-    fn places(&self, line: usize) -> &[Place]
-        requires { line < length self.now.tickets }
-        ensures { result.now ≡ places_of self.now.tickets (line + 1) }
+    /// Notes the tickets of what stands at places and is out.
+    fn push_outs_among(&self, places: &[Place], outs: &mut Vec<Ticket>) -> Result<(), NoMemory>
+        ensures { OnOk result (outs.new.items ≡ outs.old.items ++ outs_among self.now places.now) }
     {
-        self.tickets[line].as_slice()
-    }
-
-    /// Notes the tickets of a line that are out, in the order of their numbers. Lines are counted from 0 here.
-    pub fn push_outs(&self, line: usize, outs: &mut Vec<Ticket>) -> Result<(), NoMemory>
-        requires { line < length self.now.tickets }
-        ensures { OnOk result (outs.new.items ≡ outs.old.items ++ outs_of self.now (line + 1)) }
-    {
-        let places = self.places(line);
         for place in places {
             self.push_out(*place, outs)?;
         }
         Ok(())
+    }
+
+    /// Notes the tickets of a line that are out, in the order of their numbers, and those of its heartbeat last. Lines are counted
+    /// from 0 here.
+    pub fn push_outs(&self, line: usize, outs: &mut Vec<Ticket>) -> Result<(), NoMemory>
+        requires calls { line < length self.now.tickets.calls }
+        requires beats { line < length self.now.tickets.beats }
+        ensures { OnOk result (outs.new.items ≡ outs.old.items ++ outs_of self.now (line + 1)) }
+    {
+        self.push_outs_among(self.tickets.calls(line), outs)?;
+        self.push_outs_among(self.tickets.beats(line), outs)
     }
 
     /// The requests, and the sleeps, of the whole run. Takes no memory.

@@ -9,7 +9,7 @@ use Rattle.txn_side.specs.Waiting.{Awaited, IsDue, waiting_at}
 
 -- so many lines, at which nothing stands
 abbrev pub nobody_at : List ℕ → Sight
-nobody_at lines = record { crashed = []; groups = []; stands = map (λ (n : ℕ). Idle) lines; nexts = map (λ (n : ℕ). 1) lines }
+nobody_at lines = record { crashed = []; groups = []; stands = map (λ (n : ℕ). Idle) lines; nexts = record { calls = map (λ (n : ℕ). 1) lines; beats = map (λ (n : ℕ). 1) lines } }
 
 -- no line waits for anything
 abbrev pub none : ℕ → Awaited → Type 0

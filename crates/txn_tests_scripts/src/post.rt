@@ -1,4 +1,4 @@
-ghost use Rattle.std.specs.Prelude.{◌≡◌, ◌<◌, length, false};
+ghost use Rattle.std.specs.Prelude.{◌≡◌, ◌<◌, length, false, true};
 
 use crate::fixtures::assert_text;
 use std::alloc::Global;
@@ -17,6 +17,16 @@ fn ticket(line: u64, number: u64) -> Ticket
     }
 }
 
+fn heartbeat(line: u64, number: u64) -> Ticket
+    ensures { result ≡ record { line = line; beat = true; number = number } }
+{
+    Ticket {
+        line,
+        beat: true,
+        number,
+    }
+}
+
 fn request() -> Request {
     Request::Tso(TsoRequest { count: 1 })
 }
@@ -30,7 +40,8 @@ fn reply() -> Reply {
 
 /// The first line sent 1.1, slept under 1.2 and sent 1.3 in the step of the second, which sent 2.1.
 fn small_run(rt: &impl Abort, alloc: Global) -> Post
-    ensures { length result.tickets ≡ 2 }
+    ensures calls { length result.tickets.calls ≡ 2 }
+    ensures beats { length result.tickets.beats ≡ 2 }
 {
     let mut post = Post::new(alloc);
     post.open().expect(rt, "memory");
@@ -44,6 +55,23 @@ fn small_run(rt: &impl Abort, alloc: Global) -> Post
         .expect(rt, "memory");
     post.send(ticket(2, 1), 2, to, request(), Items::new(alloc))
         .expect(rt, "memory");
+    post
+}
+
+/// The first line sent 1.1, and its heartbeat slept under 1.h1 and sent 1.h2; then its call slept under 1.2.
+fn beating_run(rt: &impl Abort, alloc: Global) -> Post
+    ensures calls { length result.tickets.calls ≡ 1 }
+    ensures beats { length result.tickets.beats ≡ 1 }
+{
+    let mut post = Post::new(alloc);
+    post.open().expect(rt, "memory");
+    let to = Target::Store(4);
+    post.send(ticket(1, 1), 1, to, request(), Items::new(alloc))
+        .expect(rt, "memory");
+    post.sleep(heartbeat(1, 1), 1).expect(rt, "memory");
+    post.send(heartbeat(1, 2), 1, to, request(), Items::new(alloc))
+        .expect(rt, "memory");
+    post.sleep(ticket(1, 2), 1).expect(rt, "memory");
     post
 }
 
@@ -120,7 +148,8 @@ fn wake(post: &mut Post, ticket: Ticket) -> bool
 
 /// The tickets of the first line that are out.
 fn outs_of_first(rt: &impl Abort, alloc: Global, post: &Post) -> Vec<Ticket>
-    requires { 0 < length post.now.tickets }
+    requires calls { 0 < length post.now.tickets.calls }
+    requires beats { 0 < length post.now.tickets.beats }
 {
     let mut outs = Vec::new(alloc);
     post.push_outs(0, &mut outs).expect(rt, "memory");
@@ -130,10 +159,6 @@ fn outs_of_first(rt: &impl Abort, alloc: Global, post: &Post) -> Vec<Ticket>
 #[test]
 fn tickets_name_what_was_sent(rt: HostRuntime) {
     let post = small_run(&rt, rt.alloc());
-    let heartbeat = Ticket {
-        beat: true,
-        ..ticket(1, 1)
-    };
     let rows = [
         (ticket(1, 1), Some(0)),
         (ticket(1, 3), Some(1)),
@@ -143,7 +168,7 @@ fn tickets_name_what_was_sent(rt: HostRuntime) {
         (ticket(1, 0), None),
         (ticket(2, 2), None),
         (ticket(3, 1), None),
-        (heartbeat, None),
+        (heartbeat(1, 1), None),
     ];
     for (name, place) in rows {
         assert!(rt; post.find_awaited(&name) == place, "{name}");
@@ -217,4 +242,21 @@ fn a_sleep_ends(rt: HostRuntime) {
     assert_eq!(rt; seen, [true, false]);
     let outs = outs_of_first(&rt, alloc, &post);
     assert!(rt; outs.as_slice() == [ticket(1, 1), ticket(1, 3)].as_slice());
+}
+
+#[test]
+fn heartbeats_have_numbers_of_their_own(rt: HostRuntime) {
+    let alloc = rt.alloc();
+    let mut post = beating_run(&rt, alloc);
+    let outs = outs_of_first(&rt, alloc, &post);
+    let all = [ticket(1, 1), ticket(1, 2), heartbeat(1, 1), heartbeat(1, 2)];
+    assert!(rt; outs.as_slice() == all.as_slice());
+    let seen = [
+        wake(&mut post, heartbeat(1, 2)),
+        wake(&mut post, heartbeat(1, 1)),
+        deliver(&mut post, heartbeat(1, 2)),
+    ];
+    assert_eq!(rt; seen, [false, true, true]);
+    let outs = outs_of_first(&rt, alloc, &post);
+    assert!(rt; outs.as_slice() == [ticket(1, 1), ticket(1, 2)].as_slice());
 }
