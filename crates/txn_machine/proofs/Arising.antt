@@ -116,10 +116,10 @@ module _ (was is : List Event → Type 0) (held holds : List Event → ℕ → O
       → ArisesHearing was is held holds l.sight event turn → RunsTo was is held holds line l done
   heard_to event turn done same role comes a = hears_to event (Ok done) role comes (subst (λ (t : Turn). ArisesHearing was is held holds l.sight event t) (sym same) a)
 
-  pub woken_to : (t : Ticket) (turn : Turn) (done : Course) → t.beat ≡ false → done.turn ≡ turn → role_of line ≡ NoCall → ((looks : Ticket → Option Request) (h : List Event) → happens looks line l h ≡ Slept t ∷ h)
+  pub woken_to : (t : Ticket) (turn : Turn) (done : Course) → done.turn ≡ turn → role_of line ≡ NoCall → ((looks : Ticket → Option Request) (h : List Event) → happens looks line l h ≡ Slept t ∷ h)
       → ArisesAwake was is held holds l.sight t turn → RunsTo was is held holds line l done
-  woken_to t turn done beat same role here a looks h knows w =
-      let z = subst (λ (x : Turn). ArisesAwake was is held holds l.sight t x) (sym same) a h beat w in
+  woken_to t turn done same role here a looks h knows w =
+      let z = subst (λ (x : Turn). ArisesAwake was is held holds l.sight t x) (sym same) a h w in
       came_so done h looks (Slept t) h role (here looks h) (λ x o k. k) (record { now = z.now; kept = z.kept; answers = z.answers })
 
 -- What each line does.
@@ -311,18 +311,3 @@ arisen_step arises holds line older start l new done from mid last to a b can st
     let s = still h w in
     let r = subst (λ x. RunsTo (arises mid) (arises last) (holds mid) (holds last) line x done) a runs looks h knows s.now in
     record { now = r.now; kept = λ x o k. r.kept x o (s.kept x o k); answers = r.answers })))
-
--- a sleep that lasts is none of a heartbeat
-pub asleep_unbeaten : (l : Lists) (t : Ticket) (place : ℕ) → found_asleep l t ≡ Some place → t.beat ≡ false
-asleep_unbeaten l t place e = by t.beat refl
-  where
-    found : Bool → Option ℕ
-    found beat = if is_live l.sight t.line then only (is_lasting l.mail) (as_slept (if beat then None else place_in (places_of l.mail.tickets t.line) t.number)) else None
-
-    never : (live : Bool) → (if live then None else None) ≡ Some place → ⊥
-    never true q = cc
-    never false q = cc
-
-    by : (beat : Bool) → t.beat ≡ beat → t.beat ≡ false
-    by false q = q
-    by true q = absurd (never (is_live l.sight t.line) (ap found (sym q) ∙ e))

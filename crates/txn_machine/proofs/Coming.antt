@@ -4,16 +4,17 @@ use Rattle.std.proofs.lemmas.Bool.Decides.{nat_tests}
 use Rattle.std.proofs.lemmas.List.Elements.{All-push}
 use Rattle.std.specs.Option.{option_map}
 use Rattle.txn_kv.specs.declared.ticket.Ticket.{Ticket}
-use Rattle.txn_post.specs.Mail.{IsMail, Mail, naming, no_mail, opened, place_in, places_of, sending, sleeping, ticket_at}
+use Rattle.txn_post.proofs.Naming.{IsElsewhere, IsHere, named_where, opened_lane}
+use Rattle.txn_post.specs.Mail.{IsMail, Mail, lane, naming, no_mail, no_tickets, opened, places_of, ticket_at}
 use Rattle.txn_post.specs.Mail as mails
 use Rattle.txn_post.specs.declared.post.Place.{Place}
 use Rattle.txn_post.specs.declared.post.Place.TheVariants.{Sent, Slept}
-use Rattle.txn_side.specs.Sight.{ArePosted, ticket_in, with_next}
+use Rattle.txn_side.specs.Sight.{ArePosted, Nexts, ticket_in}
 use Rattle.txn_side.specs.declared.turn.Posting.{Posting}
 use Rattle.txn_side.specs.declared.turn.Posting.TheVariants.{Send, Sleep}
 use Rattle.txn_machine.specs.Lists.{all_posted, posted_at}
 use Rattle.txn_machine.specs.Running.{AreNumbered, AreRising, CameInOrder, at_of}
-use Rattle.txn_machine.proofs.Numbers.{length_next, mail_one, next_in, numbered_one, or_last, or_old, places_opened, places_other, places_same, same_line}
+use Rattle.txn_machine.proofs.Numbers.{length_raised, mail_one, next_in, numbered_one, or_last, or_old, used}
 
 -- Lists that rise.
 
@@ -62,9 +63,9 @@ mapped_last f (y ∷ xs) x = mapped_last f xs x
 
 -- One that is posted.
 
--- the ticket of a place in the list of a line
-ticket_here : (mail : Mail) (line i : ℕ) (p : Place) → IsMail mail → slice_get (places_of mail.tickets line) i ≡ Some p → ticket_at mail p ≡ Some (record { line = line; beat = false; number = suc i })
-ticket_here mail line i p m h = m.named (record { line = line; beat = false; number = suc i }) p h
+-- the ticket of a place in the list of a line, or of its heartbeat
+ticket_here : (mail : Mail) (b : Bool) (line i : ℕ) (p : Place) → IsMail mail → slice_get (places_of (lane b mail.tickets) line) i ≡ Some p → ticket_at mail p ≡ Some (record { line = line; beat = b; number = suc i })
+ticket_here mail b line i p m h = m.named (record { line = line; beat = b; number = suc i }) p h
 
 at_stays : (at : ℕ) (p : Posting) (mail : Mail) (q : Place) (t : Ticket) → ticket_at mail q ≡ Some t → at_of (posted_at at p mail) q ≡ at_of mail q
 at_stays at (Send t to r askers) mail (Sent i) u h = or_mapped (λ s. s.ticket) (λ s. s.at) mail.sent (record { ticket = t; at = at; to = to; request = r; askers = askers }) i u h
@@ -81,7 +82,7 @@ at_new : (at : ℕ) (p : Posting) (mail : Mail) → at_of (posted_at at p mail) 
 at_new at (Send t to r askers) mail = mapped_last (λ s. s.at) mail.sent (record { ticket = t; at = at; to = to; request = r; askers = askers })
 at_new at (Sleep t) mail = mapped_last (λ s. s.at) mail.sleeps (record { ticket = t; at = at })
 
-named_so : (at : ℕ) (p : Posting) (mail : Mail) → (posted_at at p mail).tickets ≡ naming mail.tickets (ticket_in p).line (place_by mail p)
+named_so : (at : ℕ) (p : Posting) (mail : Mail) → (posted_at at p mail).tickets ≡ naming mail.tickets (ticket_in p).beat (ticket_in p).line (place_by mail p)
 named_so at (Send t to r askers) mail = refl
 named_so at (Sleep t) mail = refl
 
@@ -94,45 +95,38 @@ sleeps_rise at (Send t to r askers) mail h = h
 sleeps_rise at (Sleep t) mail h = subst (λ xs. AreRising 0 at xs) (sym (mapped_on (λ s. s.at) mail.sleeps (record { ticket = t; at = at }))) (rises_on 0 at (map (λ s. s.at) mail.sleeps) (omega arith) h)
 
 module _ (at : ℕ) (p : Posting) (mail : Mail) (next : mails.IsNext mail (ticket_in p)) (own : (ticket_in p).line ≤ at) (m : IsMail mail) (o : CameInOrder at mail) where
-  ats_stay : (n : ℕ) → map (λ q. at_of (posted_at at p mail) q) (places_of mail.tickets n) ≡ map (λ q. at_of mail q) (places_of mail.tickets n)
-  ats_stay n = mapped_same (λ q. at_of (posted_at at p mail) q) (λ q. at_of mail q) (places_of mail.tickets n) (λ i q h. at_stays at p mail q (record { line = n; beat = false; number = suc i }) (ticket_here mail n i q m h))
+  ats_stay : (b : Bool) (n : ℕ) → map (λ q. at_of (posted_at at p mail) q) (places_of (lane b mail.tickets) n) ≡ map (λ q. at_of mail q) (places_of (lane b mail.tickets) n)
+  ats_stay b n = mapped_same (λ q. at_of (posted_at at p mail) q) (λ q. at_of mail q) (places_of (lane b mail.tickets) n) (λ i q h. at_stays at p mail q (record { line = n; beat = b; number = suc i }) (ticket_here mail b n i q m h))
 
-  here : map (λ q. at_of (posted_at at p mail) q) (places_of (naming mail.tickets (ticket_in p).line (place_by mail p)) (ticket_in p).line) ≡ map (λ q. at_of mail q) (places_of mail.tickets (ticket_in p).line) ++ at ∷ []
-  here =
-      ap (λ ps. map (λ q. at_of (posted_at at p mail) q) ps) (places_same mail.tickets (ticket_in p).line (places_of mail.tickets (ticket_in p).line ++ place_by mail p ∷ []) next.first next.last)
-      ∙ mapped_on (λ q. at_of (posted_at at p mail) q) (places_of mail.tickets (ticket_in p).line) (place_by mail p)
-      ∙ ap (λ xs. xs ++ at_of (posted_at at p mail) (place_by mail p) ∷ []) (ats_stay (ticket_in p).line)
-      ∙ ap (λ a. map (λ q. at_of mail q) (places_of mail.tickets (ticket_in p).line) ++ a ∷ []) (at_new at p mail)
-
-  there : (n : ℕ) → n ≢ (ticket_in p).line → map (λ q. at_of (posted_at at p mail) q) (places_of (naming mail.tickets (ticket_in p).line (place_by mail p)) n) ≡ map (λ q. at_of mail q) (places_of mail.tickets n)
-  there n apart =
-      ap (λ ps. map (λ q. at_of (posted_at at p mail) q) ps) (places_other mail.tickets (ticket_in p).line n (places_of mail.tickets (ticket_in p).line ++ place_by mail p ∷ []) next.first apart)
-      ∙ ats_stay n
-
-  lines_by : (n : ℕ) → (n ≡ (ticket_in p).line) ⊎ (n ≢ (ticket_in p).line) → AreRising n at (map (λ q. at_of (posted_at at p mail) q) (places_of (naming mail.tickets (ticket_in p).line (place_by mail p)) n))
-  lines_by n (inl e) = subst (λ k. AreRising k at (map (λ q. at_of (posted_at at p mail) q) (places_of (naming mail.tickets (ticket_in p).line (place_by mail p)) k))) (sym e)
-      (subst (λ xs. AreRising (ticket_in p).line at xs) (sym here) (rises_on (ticket_in p).line at (map (λ q. at_of mail q) (places_of mail.tickets (ticket_in p).line)) own (o.lines (ticket_in p).line)))
-  lines_by n (inr apart) = subst (λ xs. AreRising n at xs) (sym (there n apart)) (o.lines n)
+  lines_by : (b : Bool) (n : ℕ) → IsHere mail.tickets (ticket_in p) (place_by mail p) b n ⊎ IsElsewhere mail.tickets (ticket_in p) (place_by mail p) b n
+      → AreRising n at (map (λ q. at_of (posted_at at p mail) q) (places_of (lane b (naming mail.tickets (ticket_in p).beat (ticket_in p).line (place_by mail p))) n))
+  lines_by b n (inl here) =
+      let now = ap (λ ps. map (λ q. at_of (posted_at at p mail) q) ps) here.places
+      ∙ mapped_on (λ q. at_of (posted_at at p mail) q) (places_of (lane b mail.tickets) n) (place_by mail p)
+      ∙ ap (λ xs. xs ++ at_of (posted_at at p mail) (place_by mail p) ∷ []) (ats_stay b n)
+      ∙ ap (λ a. map (λ q. at_of mail q) (places_of (lane b mail.tickets) n) ++ a ∷ []) (at_new at p mail) in
+      subst (λ xs. AreRising n at xs) (sym now) (rises_on n at (map (λ q. at_of mail q) (places_of (lane b mail.tickets) n)) (let e = here.line in omega arith) (o.lines b n))
+  lines_by b n (inr there) = subst (λ xs. AreRising n at xs) (sym (ap (λ ps. map (λ q. at_of (posted_at at p mail) q) ps) there ∙ ats_stay b n)) (o.lines b n)
 
   pub order_one : CameInOrder at (posted_at at p mail)
   order_one = record {
     sent = sent_rises at p mail o.sent;
     sleeps = sleeps_rise at p mail o.sleeps;
-    lines = λ n. subst (λ ts. AreRising n at (map (λ q. at_of (posted_at at p mail) q) (places_of ts n))) (sym (named_so at p mail)) (lines_by n (same_line (ticket_in p).line n));
+    lines = λ b n. subst (λ ts. AreRising n at (map (λ q. at_of (posted_at at p mail) q) (places_of (lane b ts) n))) (sym (named_so at p mail)) (lines_by b n (named_where mail.tickets (ticket_in p) (place_by mail p) b n next.first next.last));
   }
 
 -- All that is posted.
 
-pub order_all : (at : ℕ) (ps : List Posting) (mail : Mail) (from to : List ℕ) → ArePosted from ps to → AreNumbered mail.tickets from → length mail.tickets ≤ at → IsMail mail → CameInOrder at mail → CameInOrder at (all_posted at ps mail)
+pub order_all : (at : ℕ) (ps : List Posting) (mail : Mail) (from to : Nexts) → ArePosted from ps to → AreNumbered mail.tickets from → ((b : Bool) → length (lane b mail.tickets) ≤ at) → IsMail mail → CameInOrder at mail → CameInOrder at (all_posted at ps mail)
 order_all at [] mail from to h a few m o = o
 order_all at (p ∷ ps) mail from to h a few m o =
     let next = next_in (ticket_in p) mail from h.0 a in
     let new = numbered_one at p mail from h.0 a in
-    order_all at ps (posted_at at p mail) (with_next from (ticket_in p).line) to h.2 new
-    (as_many new) (mail_one at p mail next m) (order_one at p mail next (let l = next.last in omega arith) m o)
+    order_all at ps (posted_at at p mail) (used p from) to h.2 new
+    (as_many new) (mail_one at p mail next m) (order_one at p mail next (let l = next.last in let f = few (ticket_in p).beat in omega arith) m o)
   where
-    as_many : AreNumbered (posted_at at p mail).tickets (with_next from (ticket_in p).line) → length (posted_at at p mail).tickets ≤ at
-    as_many new = let a1 = new.lines in let a2 = a.lines in let a3 = length_next from (ticket_in p).line in omega arith
+    as_many : AreNumbered (posted_at at p mail).tickets (used p from) → (b : Bool) → length (lane b (posted_at at p mail).tickets) ≤ at
+    as_many new b = let a1 = (new.lanes b).lines in let a2 = (a.lanes b).lines in let a3 = length_raised b (ticket_in p).beat (ticket_in p).line from in let f = few b in omega arith
 
 -- A line more.
 
@@ -140,16 +134,17 @@ pub order_opened : (n : ℕ) (mail : Mail) → CameInOrder n mail → CameInOrde
 order_opened n mail o = record {
   sent = rises_later 0 n (n + 1) (map (λ s. s.at) mail.sent) (omega arith) o.sent;
   sleeps = rises_later 0 n (n + 1) (map (λ s. s.at) mail.sleeps) (omega arith) o.sleeps;
-  lines = λ line. subst (λ ps. AreRising line (n + 1) (map (λ q. at_of mail q) ps)) (sym (places_opened mail.tickets line)) (rises_later line n (n + 1) (map (λ q. at_of mail q) (places_of mail.tickets line)) (omega arith) (o.lines line));
+  lines = λ b line. subst (λ ps. AreRising line (n + 1) (map (λ q. at_of mail q) ps)) (sym (opened_lane b mail.tickets line)) (rises_later line n (n + 1) (map (λ q. at_of mail q) (places_of (lane b mail.tickets) line)) (omega arith) (o.lines b line));
 }
 
 pub none_in_order : (n : ℕ) → CameInOrder n no_mail
 none_in_order n = record {
   sent = none_rises 0 n;
   sleeps = none_rises 0 n;
-  lines = λ line. no_lines line;
+  lines = no_lines;
 }
   where
-    no_lines : (line : ℕ) → AreRising line n (map (λ q. at_of no_mail q) (places_of [] line))
-    no_lines zero = none_rises 0 n
-    no_lines (suc i) = none_rises (suc i) n
+    no_lines : (b : Bool) (line : ℕ) → AreRising line n (map (λ q. at_of no_mail q) (places_of (lane b no_tickets) line))
+    no_lines b zero = none_rises 0 n
+    no_lines false (suc i) = none_rises (suc i) n
+    no_lines true (suc i) = none_rises (suc i) n

@@ -99,12 +99,13 @@ module _ (script : List Line) (l : Lists) (waits : ℕ → Awaited → Type 0) (
 
   group_out : (n c : ℕ) → client_at (st n) ≡ Some c → HasGroup l.sight c → OracleIsOut script es n
   group_out n c client h =
-      let r = out.groups h.group (c, h.out) in
+      let r = (out.groups h.group (c, h.out)).1 in
       let w = timely.groups h.group (c, h.out) in
       let fate = fate_of es l.mail m caused.fates.fates h.group.ticket r.place (ap as_sent r.sent) in
       let there = noted_there l.mail w.note r.place m w.noted (ap (λ t. as_sent (place_of l.mail.tickets t)) w.ticket ∙ ap as_sent r.sent) in
       record {
         ticket = h.group.ticket;
+        no_beat = (out.groups h.group (c, h.out)).0;
         same_client = caused.rows.woven.one (client_of script h.group.ticket.line) (client_of script n) c (caused.rows.woven.clients h.group.ticket.line c h.own) (caused.rows.woven.clients n c client);
         asks = w.request;
         is_tso = fate.sent ∙ ap (λ q. Some (request_in q)) there ∙ ap (λ q. Some q) w.asks;

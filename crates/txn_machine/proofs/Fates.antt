@@ -13,14 +13,14 @@ use Rattle.txn_law.specs.Run.{store_after}
 use Rattle.txn_model.specs.Table.{table}
 use Rattle.txn_post.proofs.Lists.{get_last, get_old, told_within}
 use Rattle.txn_post.proofs.Naming.{named_next, named_old, named_pushed, opened_leads}
-use Rattle.txn_post.specs.Mail.{IsMail, IsNext, Mail, as_sent, as_slept, changing, delivering, is_lasting, just_sent, keeping, letter_at, losing, naming, place_in, place_of, places_of, refusing, sending, sleeping, taking, ticket_at, waking}
+use Rattle.txn_post.specs.Mail.{IsMail, IsNext, Mail, as_sent, as_slept, changing, delivering, is_lasting, just_sent, keeping, lane, letter_at, losing, naming, place_in, place_of, places_of, refusing, sending, sleeping, taking, ticket_at, waking}
 use Rattle.txn_post.specs.Mail as mails
 use Rattle.txn_post.specs.declared.letter.Letter.{Letter}
 use Rattle.txn_post.specs.declared.post.Place.{Place}
 use Rattle.txn_post.specs.declared.post.Place.TheVariants.{Sent, Slept}
 use Rattle.txn_report.specs.declared.report.SentNote.{SentNote}
 use Rattle.txn_report.specs.declared.report.SleepNote.{SleepNote}
-use Rattle.txn_side.specs.Sight.{ArePosted, ticket_in, with_next}
+use Rattle.txn_side.specs.Sight.{ArePosted, Nexts, ticket_in}
 use Rattle.txn_side.specs.declared.turn.Posting.{Posting}
 use Rattle.txn_side.specs.declared.turn.Posting.TheVariants.{Send, Sleep}
 use Rattle.txn_machine.specs.Causes.{began, is_woken}
@@ -30,7 +30,7 @@ use Rattle.txn_machine.specs.Running.{AreNumbered}
 use Rattle.txn_machine.specs.Script.{AllBefore, loses, refuses, refuses_it, serves, takes, takes_it, with_sends}
 use Rattle.txn_machine.proofs.Calms.{or_ended, or_other, or_past, or_same}
 use Rattle.txn_machine.proofs.Finds.{same_is, same_itself, sends_push}
-use Rattle.txn_machine.proofs.Numbers.{next_in, numbered_one, mail_one, or_last}
+use Rattle.txn_machine.proofs.Numbers.{next_in, numbered_one, mail_one, or_last, used}
 
 -- Histories that tell the same of a ticket.
 
@@ -236,24 +236,24 @@ none_past (x ∷ xs) (suc i) h = none_past xs i (omega arith)
 
 -- the next ticket of a line names nothing yet
 next_fresh : (mail : Mail) (t : Ticket) → IsNext mail t → place_of mail.tickets t ≡ None
-next_fresh mail t next = ap (λ (b : Bool). if b then None else place_in (places_of mail.tickets t.line) t.number) next.beat ∙ past (places_of mail.tickets t.line) t.number next.number
+next_fresh mail t next = past (places_of (lane t.beat mail.tickets) t.line) t.number next.number
   where
     past : (ps : List Place) (n : ℕ) → n ≡ length ps + 1 → place_in ps n ≡ None
     past ps zero h = refl
     past ps (suc i) h = none_past ps i (omega arith)
 
-place_apart : (mail : Mail) (t u : Ticket) (p : Place) → IsNext mail t → same_ticket t u ≡ false → place_of (naming mail.tickets t.line p) u ≡ place_of mail.tickets u
+place_apart : (mail : Mail) (t u : Ticket) (p : Place) → IsNext mail t → same_ticket t u ≡ false → place_of (naming mail.tickets t.beat t.line p) u ≡ place_of mail.tickets u
 place_apart mail t u p next far = by (place_of mail.tickets u) refl
   where
     unlike_it : t ≡ u → ⊥
     unlike_it e = let a = subst (λ v. same_ticket t v ≡ true) e (same_itself t) in cc
 
-    after : (o : Option Place) → place_of (naming mail.tickets t.line p) u ≡ o → place_of mail.tickets u ≡ None → o ≡ None
+    after : (o : Option Place) → place_of (naming mail.tickets t.beat t.line p) u ≡ o → place_of mail.tickets u ≡ None → o ≡ None
     after None e h = refl
     after (Some q) e h = absurd (elim (named_pushed mail t u p q next e) [ inl a ↦ cc | inr a ↦ unlike_it (sym a.0) ])
 
-    by : (o : Option Place) → place_of mail.tickets u ≡ o → place_of (naming mail.tickets t.line p) u ≡ o
-    by None e = after (place_of (naming mail.tickets t.line p) u) refl e
+    by : (o : Option Place) → place_of mail.tickets u ≡ o → place_of (naming mail.tickets t.beat t.line p) u ≡ o
+    by None e = after (place_of (naming mail.tickets t.beat t.line p) u) refl e
     by (Some q) e = named_old mail t u p q next e
 
 module _ (es : List Event) (mail : Mail) (m : IsMail mail) (fates : Fates es mail) where
@@ -295,8 +295,8 @@ module _ (es : List Event) (mail : Mail) (m : IsMail mail) (fates : Fates es mai
           some_note (s ∷ ss) zero t h = (s, refl)
           some_note (s ∷ ss) (suc k) t h = some_note ss k t h
 
-      by : (b : Bool) → same_ticket note.ticket u ≡ b → Fate (SentEvent note.ticket note.request ∷ es) (sending note mail) u (place_of (naming mail.tickets note.ticket.line (Sent (length mail.sent))) u)
-      by true e = subst (λ v. Fate (SentEvent note.ticket note.request ∷ es) (sending note mail) v (place_of (naming mail.tickets note.ticket.line (Sent (length mail.sent))) v)) (same_is note.ticket u e)
+      by : (b : Bool) → same_ticket note.ticket u ≡ b → Fate (SentEvent note.ticket note.request ∷ es) (sending note mail) u (place_of (naming mail.tickets note.ticket.beat note.ticket.line (Sent (length mail.sent))) u)
+      by true e = subst (λ v. Fate (SentEvent note.ticket note.request ∷ es) (sending note mail) v (place_of (naming mail.tickets note.ticket.beat note.ticket.line (Sent (length mail.sent))) v)) (same_is note.ticket u e)
           (subst (λ o. Fate (SentEvent note.ticket note.request ∷ es) (sending note mail) note.ticket o) (sym (named_next mail note.ticket (Sent (length mail.sent)) next)) own)
       by false e = subst (λ o. Fate (SentEvent note.ticket note.request ∷ es) (sending note mail) u o) (sym (place_apart mail note.ticket u (Sent (length mail.sent)) next e)) (at (place_of mail.tickets u) refl e (fates u))
 
@@ -324,8 +324,8 @@ module _ (es : List Event) (mail : Mail) (m : IsMail mail) (fates : Fates es mai
           let low : j < length mail.lasting = let a = told_within (λ (n : SleepNote). n.ticket) mail.sleeps j u (m.named u (Slept j) e) in let b = m.flags in omega arith in
           (f.0, f.1 ∙ ap not (sym (lasting_same j low)))
 
-      by : (b : Bool) → same_ticket note.ticket u ≡ b → Fate es (sleeping note mail) u (place_of (naming mail.tickets note.ticket.line (Slept (length mail.sleeps))) u)
-      by true e = subst (λ v. Fate es (sleeping note mail) v (place_of (naming mail.tickets note.ticket.line (Slept (length mail.sleeps))) v)) (same_is note.ticket u e)
+      by : (b : Bool) → same_ticket note.ticket u ≡ b → Fate es (sleeping note mail) u (place_of (naming mail.tickets note.ticket.beat note.ticket.line (Slept (length mail.sleeps))) u)
+      by true e = subst (λ v. Fate es (sleeping note mail) v (place_of (naming mail.tickets note.ticket.beat note.ticket.line (Slept (length mail.sleeps))) v)) (same_is note.ticket u e)
           (subst (λ o. Fate es (sleeping note mail) note.ticket o) (sym (named_next mail note.ticket (Slept (length mail.sleeps)) next)) own)
       by false e = subst (λ o. Fate es (sleeping note mail) u o) (sym (place_apart mail note.ticket u (Slept (length mail.sleeps)) next e)) (at (place_of mail.tickets u) refl (fates u))
 
@@ -334,9 +334,9 @@ sends_now ns s n es h =
     let e : nat_eq s.at n ≡ true = grind (arith, nat_tests) in
     sends_push ns s n es ∙ ap (λ (b : Bool). if b then SentEvent s.ticket s.request ∷ with_sends ns n es else with_sends ns n es) e
 
-pub fates_posted : (at : ℕ) (ps : List Posting) (mail : Mail) (es : List Event) (from to : List ℕ) → ArePosted from ps to → AreNumbered mail.tickets from → IsMail mail → Fates (with_sends mail.sent at es) mail → Fates (with_sends (all_posted at ps mail).sent at es) (all_posted at ps mail)
+pub fates_posted : (at : ℕ) (ps : List Posting) (mail : Mail) (es : List Event) (from to : Nexts) → ArePosted from ps to → AreNumbered mail.tickets from → IsMail mail → Fates (with_sends mail.sent at es) mail → Fates (with_sends (all_posted at ps mail).sent at es) (all_posted at ps mail)
 fates_posted at [] mail es from to h a m f = f
-fates_posted at (p ∷ ps) mail es from to h a m f = fates_posted at ps (posted_at at p mail) es (with_next from (ticket_in p).line) to h.2 (numbered_one at p mail from h.0 a) (mail_one at p mail (next_in (ticket_in p) mail from h.0 a) m) (one p (next_in (ticket_in p) mail from h.0 a))
+fates_posted at (p ∷ ps) mail es from to h a m f = fates_posted at ps (posted_at at p mail) es (used p from) to h.2 (numbered_one at p mail from h.0 a) (mail_one at p mail (next_in (ticket_in p) mail from h.0 a) m) (one p (next_in (ticket_in p) mail from h.0 a))
   where
     one : (q : Posting) → IsNext mail (ticket_in q) → Fates (with_sends (posted_at at q mail).sent at es) (posted_at at q mail)
     one (Send t to r askers) next =

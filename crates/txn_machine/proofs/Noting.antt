@@ -4,7 +4,7 @@ use Rattle.std.proofs.lemmas.Bool.Decides.{nat_tests}
 use Rattle.std.specs.Option.{option_map}
 use Rattle.txn_kv.specs.declared.ticket.Ticket.{Ticket}
 use Rattle.txn_history.specs.Among.{IsAmong}
-use Rattle.txn_post.specs.Mail.{IsMail, Mail, place_in, place_of, places_of, ticket_at}
+use Rattle.txn_post.specs.Mail.{IsMail, Mail, Tickets, lane, place_in, place_of, places_of, ticket_at}
 use Rattle.txn_post.specs.declared.post.Place.{Place}
 use Rattle.txn_post.specs.declared.post.Place.TheVariants.{Sent, Slept}
 use Rattle.txn_report.specs.declared.report.SentNote.{SentNote}
@@ -68,26 +68,21 @@ pairs_rise f least most xs r i j d lt below =
 
 -- Where a ticket leads.
 
-pub record Leads (tickets : List (List Place)) (t : Ticket) (p : Place) : Type 0 where
-  pub beat : t.beat ≡ false
+pub record Leads (tickets : Tickets) (t : Ticket) (p : Place) : Type 0 where
   pub line : 1 ≤ t.line
   pub number : 1 ≤ t.number
-  pub here : slice_get (places_of tickets t.line) (t.number - 1) ≡ Some p
+  pub here : slice_get (places_of (lane t.beat tickets) t.line) (t.number - 1) ≡ Some p
 
-leads : (tickets : List (List Place)) (t : Ticket) (p : Place) → place_of tickets t ≡ Some p → Leads tickets t p
-leads tickets t p h = by t.beat refl h
+leads : (tickets : Tickets) (t : Ticket) (p : Place) → place_of tickets t ≡ Some p → Leads tickets t p
+leads tickets t p h = let n = number_by (places_of (lane t.beat tickets) t.line) t.number h in record { line = line_by (lane t.beat tickets) t.line (t.number - 1) n.1; number = n.0; here = n.1 }
   where
     number_by : (ps : List Place) (n : ℕ) → place_in ps n ≡ Some p → (1 ≤ n) × (slice_get ps (n - 1) ≡ Some p)
     number_by ps zero e = absurd (cc)
     number_by ps (suc n) e = (omega arith, let same : suc n - 1 ≡ n = omega arith in rw same e)
 
-    line_by : (n k : ℕ) → slice_get (places_of tickets n) k ≡ Some p → 1 ≤ n
-    line_by zero k e = absurd (cc)
-    line_by (suc n) k e = omega arith
-
-    by : (b : Bool) → t.beat ≡ b → (if b then None else place_in (places_of tickets t.line) t.number) ≡ Some p → Leads tickets t p
-    by true e h = absurd (cc)
-    by false e h = let n = number_by (places_of tickets t.line) t.number h in record { beat = e; line = line_by t.line (t.number - 1) n.1; number = n.0; here = n.1 }
+    line_by : (lines : List (List Place)) (n k : ℕ) → slice_get (places_of lines n) k ≡ Some p → 1 ≤ n
+    line_by lines zero k e = absurd (cc)
+    line_by lines (suc n) k e = omega arith
 
 module _ (mail : Mail) (n : ℕ) (m : IsMail mail) (o : CameInOrder n mail) where
   place_sent : (t : Ticket) (at : ℕ) → WasSent mail.sent t at → (i : ℕ) × (ticket_at mail (Sent i) ≡ Some t) × (at_of mail (Sent i) ≡ at)
@@ -111,60 +106,65 @@ module _ (mail : Mail) (n : ℕ) (m : IsMail mail) (o : CameInOrder n mail) wher
   leads_to : (t : Ticket) (p : Place) → ticket_at mail p ≡ Some t → Leads mail.tickets t p
   leads_to t p h = leads mail.tickets t p (m.found t p h)
 
-  came_at : (line k : ℕ) (p : Place) → slice_get (places_of mail.tickets line) k ≡ Some p → get_or (map (λ q. at_of mail q) (places_of mail.tickets line)) k 0 ≡ at_of mail p
-  came_at line k p h = or_told (λ q. at_of mail q) (places_of mail.tickets line) k 0 p h
+  -- what a line, or its heartbeat, named
+  abbrev those : Bool → ℕ → List Place
+  those b line = places_of (lane b mail.tickets) line
 
-  came_within : (line k : ℕ) (p : Place) → slice_get (places_of mail.tickets line) k ≡ Some p → (line ≤ at_of mail p) × (at_of mail p ≤ n)
-  came_within line k p h =
-      let below = is_within (places_of mail.tickets line) k p h in
-      let count = as_many (λ q. at_of mail q) (places_of mail.tickets line) in
-      subst (λ a. (line ≤ a) × (a ≤ n)) (came_at line k p h) ((o.lines line).within k 0 (omega arith))
+  came_at : (b : Bool) (line k : ℕ) (p : Place) → slice_get (those b line) k ≡ Some p → get_or (map (λ q. at_of mail q) (those b line)) k 0 ≡ at_of mail p
+  came_at b line k p h = or_told (λ q. at_of mail q) (those b line) k 0 p h
 
-  came_later : (line j k : ℕ) (p q : Place) → slice_get (places_of mail.tickets line) j ≡ Some p → slice_get (places_of mail.tickets line) k ≡ Some q → j ≤ k → at_of mail p ≤ at_of mail q
-  came_later line j k p q a b le = by (nat_lt j k) refl
+  came_within : (b : Bool) (line k : ℕ) (p : Place) → slice_get (those b line) k ≡ Some p → (line ≤ at_of mail p) × (at_of mail p ≤ n)
+  came_within b line k p h =
+      let below = is_within (those b line) k p h in
+      let count = as_many (λ q. at_of mail q) (those b line) in
+      subst (λ a. (line ≤ a) × (a ≤ n)) (came_at b line k p h) ((o.lines b line).within k 0 (omega arith))
+
+  came_later : (b : Bool) (line j k : ℕ) (p q : Place) → slice_get (those b line) j ≡ Some p → slice_get (those b line) k ≡ Some q → j ≤ k → at_of mail p ≤ at_of mail q
+  came_later b line j k p q first second le = by (nat_lt j k) refl
     where
       by : (t : Bool) → nat_lt j k ≡ t → at_of mail p ≤ at_of mail q
       by true e =
-          let below = is_within (places_of mail.tickets line) k q b in
-          let count = as_many (λ r. at_of mail r) (places_of mail.tickets line) in
+          let below = is_within (those b line) k q second in
+          let count = as_many (λ r. at_of mail r) (those b line) in
           let lt : j < k = grind (arith, nat_tests) in
-          let h = (o.lines line).pairs j k 0 lt (omega arith) in
-          let x = came_at line j p a in
-          let y = came_at line k q b in
+          let h = (o.lines b line).pairs j k 0 lt (omega arith) in
+          let x = came_at b line j p first in
+          let y = came_at b line k q second in
           omega (arith, h, x, y)
       by false e =
           let far : k ≤ j = grind (arith, nat_tests) in
           let same : j ≡ k = omega arith in
-          let one : Some p ≡ Some q = sym a ∙ ap (λ i. slice_get (places_of mail.tickets line) i) same ∙ b in
+          let one : Some p ≡ Some q = sym first ∙ ap (λ i. slice_get (those b line) i) same ∙ second in
           let eq : p ≡ q = cc in
           subst (λ r. at_of mail p ≤ at_of mail r) eq (omega arith)
 
-  own : (t : Ticket) (at : ℕ) → IsNoted mail.sent mail.sleeps t at → (t.beat ≡ false) × (1 ≤ t.line) × (t.line ≤ at) × (at ≤ n)
+  own : (t : Ticket) (at : ℕ) → IsNoted mail.sent mail.sleeps t at → (1 ≤ t.line) × (t.line ≤ at) × (at ≤ n)
   own t at h =
       let p = place_noted t at h in
       let l = leads_to t p.0 p.1 in
-      let w = came_within t.line (t.number - 1) p.0 l.here in
-      (l.beat, l.line, subst (λ a. t.line ≤ a) p.2 w.0, subst (λ a. a ≤ n) p.2 w.1)
+      let w = came_within t.beat t.line (t.number - 1) p.0 l.here in
+      (l.line, subst (λ a. t.line ≤ a) p.2 w.0, subst (λ a. a ≤ n) p.2 w.1)
 
   whole : (t : Ticket) (at k : ℕ) → IsNoted mail.sent mail.sleeps t at → 1 ≤ k → k ≤ t.number → (earlier : ℕ) × IsNoted mail.sent mail.sleeps (record t { number = k }) earlier
   whole t at k h one most =
       let p = place_noted t at h in
       let l = leads_to t p.0 p.1 in
-      let below = is_within (places_of mail.tickets t.line) (t.number - 1) p.0 l.here in
-      let q = some_at (places_of mail.tickets t.line) (k - 1) (omega arith) in
+      let below = is_within (those t.beat t.line) (t.number - 1) p.0 l.here in
+      let q = some_at (those t.beat t.line) (k - 1) (omega arith) in
       let next : suc (k - 1) ≡ k = omega arith in
-      let named = m.named (record { line = t.line; beat = false; number = suc (k - 1) }) q.0 q.1 in
-      let this : ticket_at mail q.0 ≡ Some (record t { number = k }) = named ∙ (λ i. Some (record { line = t.line; beat = sym l.beat i; number = next i })) in
+      let named = m.named (record { line = t.line; beat = t.beat; number = suc (k - 1) }) q.0 q.1 in
+      let this : ticket_at mail q.0 ≡ Some (record t { number = k }) = named ∙ ap (λ n. Some (record t { number = n })) next in
       (at_of mail q.0, noted_at (record t { number = k }) q.0 this)
 
-  rise : (t u : Ticket) (a b : ℕ) → IsNoted mail.sent mail.sleeps t a → IsNoted mail.sent mail.sleeps u b → t.line ≡ u.line → t.number ≤ u.number → a ≤ b
-  rise t u a b h g line number =
+  rise : (t u : Ticket) (a b : ℕ) → IsNoted mail.sent mail.sleeps t a → IsNoted mail.sent mail.sleeps u b → t.line ≡ u.line → t.beat ≡ u.beat → t.number ≤ u.number → a ≤ b
+  rise t u a b h g line beat number =
       let p = place_noted t a h in
       let q = place_noted u b g in
       let l = leads_to t p.0 p.1 in
       let k = leads_to u q.0 q.1 in
-      let here : slice_get (places_of mail.tickets t.line) (u.number - 1) ≡ Some q.0 = subst (λ i. slice_get (places_of mail.tickets i) (u.number - 1) ≡ Some q.0) (sym line) k.here in
-      let c = came_later t.line (t.number - 1) (u.number - 1) p.0 q.0 l.here here (omega arith) in
+      let there : those t.beat t.line ≡ those u.beat u.line = ap (λ c. those c t.line) beat ∙ ap (λ i. those u.beat i) line in
+      let here : slice_get (those t.beat t.line) (u.number - 1) ≡ Some q.0 = ap (λ ps. slice_get ps (u.number - 1)) there ∙ k.here in
+      let c = came_later t.beat t.line (t.number - 1) (u.number - 1) p.0 q.0 l.here here (omega arith) in
       let x = p.2 in
       let y = q.2 in
       omega (arith, c, x, y)

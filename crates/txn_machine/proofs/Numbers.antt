@@ -3,17 +3,18 @@ use Rattle.std.proofs.Common.{◌≡◌, ◌≢◌, ℕ, zero, suc, ◌+◌, ◌
 use Rattle.std.proofs.lemmas.Bool.Decides.{nat_tests}
 use Rattle.std.specs.List.{All}
 use Rattle.txn_kv.specs.declared.ticket.Ticket.{Ticket}
-use Rattle.txn_post.specs.Mail.{Mail, naming, places_of}
+use Rattle.txn_post.specs.Mail.{Mail, Tickets, lane, naming, naming_in, opened_lanes, places_of}
 use Rattle.txn_post.specs.Mail as mails
 use Rattle.txn_post.specs.declared.post.Place.{Place}
 use Rattle.txn_post.specs.declared.post.Place.TheVariants.{Sent, Slept}
 use Rattle.txn_report.specs.declared.report.SentNote.{SentNote}
-use Rattle.txn_side.specs.Sight.{AskFor, ArePosted, HasAskers, IsNext, next_at, ticket_in, with_next}
+use Rattle.txn_side.specs.Sight.{AskFor, ArePosted, HasAskers, IsNext, Nexts, Sight, next_at, numbers_of, raised, ticket_in, with_next}
 use Rattle.txn_side.specs.declared.turn.Posting.{Posting}
 use Rattle.txn_side.specs.declared.turn.Posting.TheVariants.{Send, Sleep}
-use Rattle.txn_machine.specs.Lists.{all_posted, posted_at}
+use Rattle.txn_machine.specs.Lists.{Lists, all_posted, newest, posted_at}
 use Rattle.txn_post.proofs.Mails.{sent_is_mail, slept_is_mail}
-use Rattle.txn_machine.specs.Running.{AreNumbered, CanPost}
+use Rattle.txn_machine.specs.Running.{AreCounted, AreNumbered, CanClose, CanPost, IsEven}
+use Rattle.txn_machine.specs.declared.done.Done.{Done as Course}
 
 -- Elements that are set.
 
@@ -54,14 +55,14 @@ or_past (z ∷ xs) d (suc i) h = or_past xs d i (omega arith)
 
 -- The places and the next number of a line.
 
-pub places_same : (tickets : List (List Place)) (line : ℕ) (ps : List Place) → 1 ≤ line → line ≤ length tickets → places_of (set tickets (line - 1) ps) line ≡ ps
-places_same tickets zero ps one most = absurd (omega arith)
-places_same tickets (suc i) ps one most = let e : suc i - 1 ≡ i = omega arith in rw e (or_same tickets i ps [] (omega arith))
+pub places_same : (lines : List (List Place)) (line : ℕ) (ps : List Place) → 1 ≤ line → line ≤ length lines → places_of (set lines (line - 1) ps) line ≡ ps
+places_same lines zero ps one most = absurd (omega arith)
+places_same lines (suc i) ps one most = let e : suc i - 1 ≡ i = omega arith in rw e (or_same lines i ps [] (omega arith))
 
-pub places_other : (tickets : List (List Place)) (line n : ℕ) (ps : List Place) → 1 ≤ line → n ≢ line → places_of (set tickets (line - 1) ps) n ≡ places_of tickets n
-places_other tickets zero n ps one apart = absurd (omega arith)
-places_other tickets (suc i) zero ps one apart = refl
-places_other tickets (suc i) (suc j) ps one apart = let e : suc i - 1 ≡ i = omega arith in rw e (or_other tickets i j ps [] (suc_apart i j apart))
+pub places_other : (lines : List (List Place)) (line n : ℕ) (ps : List Place) → 1 ≤ line → n ≢ line → places_of (set lines (line - 1) ps) n ≡ places_of lines n
+places_other lines zero n ps one apart = absurd (omega arith)
+places_other lines (suc i) zero ps one apart = refl
+places_other lines (suc i) (suc j) ps one apart = let e : suc i - 1 ≡ i = omega arith in rw e (or_other lines i j ps [] (suc_apart i j apart))
 
 next_same : (nexts : List ℕ) (line v : ℕ) → 1 ≤ line → line ≤ length nexts → next_at (set nexts (line - 1) v) line ≡ v
 next_same nexts zero v one most = absurd (omega arith)
@@ -86,51 +87,77 @@ abbrev place_by : Mail → Posting → Place
 place_by mail (Send t to r askers) = Sent (length mail.sent)
 place_by mail (Sleep t) = Slept (length mail.sleeps)
 
-named_so : (at : ℕ) (p : Posting) (mail : Mail) → (posted_at at p mail).tickets ≡ naming mail.tickets (ticket_in p).line (place_by mail p)
+named_so : (at : ℕ) (p : Posting) (mail : Mail) → (posted_at at p mail).tickets ≡ naming mail.tickets (ticket_in p).beat (ticket_in p).line (place_by mail p)
 named_so at (Send t to r askers) mail = refl
 named_so at (Sleep t) mail = refl
 
-numbered_next : (tickets : List (List Place)) (nexts : List ℕ) (t : Ticket) (place : Place) → IsNext nexts t → AreNumbered tickets nexts → AreNumbered (naming tickets t.line place) (with_next nexts t.line)
-numbered_next tickets nexts t place next a = record {
-  lines = length-set tickets (t.line - 1) (places_of tickets t.line ++ place ∷ []) ∙ a.lines ∙ sym (length-set nexts (t.line - 1) (next_at nexts t.line + 1));
-  numbers = λ n one most. by n one (subst (λ m. n ≤ m) (length-set nexts (t.line - 1) (next_at nexts t.line + 1)) most) (same_line t.line n);
+counted_next : (places : List (List Place)) (nexts : List ℕ) (line : ℕ) (place : Place) → 1 ≤ line → line ≤ length nexts → AreCounted places nexts → AreCounted (naming_in places line place) (with_next nexts line)
+counted_next places nexts line place first last a = record {
+  lines = length-set places (line - 1) (places_of places line ++ place ∷ []) ∙ a.lines ∙ sym (length-set nexts (line - 1) (next_at nexts line + 1));
+  numbers = λ n one most. by n one (subst (λ m. n ≤ m) (length-set nexts (line - 1) (next_at nexts line + 1)) most) (same_line line n);
 }
   where
-    here : t.line ≤ length tickets
-    here = subst (λ m. t.line ≤ m) (sym a.lines) next.last
+    here : line ≤ length places
+    here = subst (λ m. line ≤ m) (sym a.lines) last
 
-    by : (n : ℕ) → 1 ≤ n → n ≤ length nexts → (n ≡ t.line) ⊎ (n ≢ t.line) → next_at (with_next nexts t.line) n ≡ length (places_of (naming tickets t.line place) n) + 1
-    by n one most (inl e) = subst (λ m. next_at (with_next nexts t.line) m ≡ length (places_of (naming tickets t.line place) m) + 1) (sym e)
-        (next_same nexts t.line (next_at nexts t.line + 1) next.first next.last
-        ∙ ap (λ k. k + 1) (a.numbers t.line next.first next.last ∙ sym (length-append (places_of tickets t.line) (place ∷ [])))
-        ∙ ap (λ ps. length ps + 1) (sym (places_same tickets t.line (places_of tickets t.line ++ place ∷ []) next.first here)))
-    by n one most (inr apart) = next_other nexts t.line n (next_at nexts t.line + 1) next.first apart ∙ a.numbers n one most
-        ∙ ap (λ ps. length ps + 1) (sym (places_other tickets t.line n (places_of tickets t.line ++ place ∷ []) next.first apart))
+    by : (n : ℕ) → 1 ≤ n → n ≤ length nexts → (n ≡ line) ⊎ (n ≢ line) → next_at (with_next nexts line) n ≡ length (places_of (naming_in places line place) n) + 1
+    by n one most (inl e) = subst (λ m. next_at (with_next nexts line) m ≡ length (places_of (naming_in places line place) m) + 1) (sym e)
+        (next_same nexts line (next_at nexts line + 1) first last
+        ∙ ap (λ k. k + 1) (a.numbers line first last ∙ sym (length-append (places_of places line) (place ∷ [])))
+        ∙ ap (λ ps. length ps + 1) (sym (places_same places line (places_of places line ++ place ∷ []) first here)))
+    by n one most (inr apart) = next_other nexts line n (next_at nexts line + 1) first apart ∙ a.numbers n one most
+        ∙ ap (λ ps. length ps + 1) (sym (places_other places line n (places_of places line ++ place ∷ []) first apart))
 
-pub length_next : (nexts : List ℕ) (line : ℕ) → length (with_next nexts line) ≡ length nexts
-length_next nexts line = length-set nexts (line - 1) (next_at nexts line + 1)
+numbered_next : (tickets : Tickets) (nexts : Nexts) (t : Ticket) (place : Place) → IsNext nexts t → AreNumbered tickets nexts → AreNumbered (naming tickets t.beat t.line place) (raised t.beat t.line nexts)
+numbered_next tickets nexts t place next a = record { lanes = λ b. by b t.beat next.last }
+  where
+    by : (b c : Bool) → t.line ≤ length (numbers_of c nexts) → AreCounted (lane b (naming tickets c t.line place)) (numbers_of b (raised c t.line nexts))
+    by false false last = counted_next tickets.calls nexts.calls t.line place next.first last (a.lanes false)
+    by false true last = a.lanes false
+    by true false last = a.lanes true
+    by true true last = counted_next tickets.beats nexts.beats t.line place next.first last (a.lanes true)
 
-pub numbered_one : (at : ℕ) (p : Posting) (mail : Mail) (nexts : List ℕ) → IsNext nexts (ticket_in p) → AreNumbered mail.tickets nexts → AreNumbered (posted_at at p mail).tickets (with_next nexts (ticket_in p).line)
-numbered_one at p mail nexts next a = subst (λ ts. AreNumbered ts (with_next nexts (ticket_in p).line)) (sym (named_so at p mail)) (numbered_next mail.tickets nexts (ticket_in p) (place_by mail p) next a)
+pub length_raised : (b c : Bool) (line : ℕ) (nexts : Nexts) → length (numbers_of b (raised c line nexts)) ≡ length (numbers_of b nexts)
+length_raised false false line nexts = length-set nexts.calls (line - 1) (next_at nexts.calls line + 1)
+length_raised false true line nexts = refl
+length_raised true false line nexts = refl
+length_raised true true line nexts = length-set nexts.beats (line - 1) (next_at nexts.beats line + 1)
+
+-- the numbers once that of a posting was used
+abbrev pub used : Posting → Nexts → Nexts
+used p nexts = raised (ticket_in p).beat (ticket_in p).line nexts
+
+pub numbered_one : (at : ℕ) (p : Posting) (mail : Mail) (nexts : Nexts) → IsNext nexts (ticket_in p) → AreNumbered mail.tickets nexts → AreNumbered (posted_at at p mail).tickets (used p nexts)
+numbered_one at p mail nexts next a = subst (λ ts. AreNumbered ts (used p nexts)) (sym (named_so at p mail)) (numbered_next mail.tickets nexts (ticket_in p) (place_by mail p) next a)
 
 -- The mail has a place for it.
 
-pub next_in : (t : Ticket) (mail : Mail) (nexts : List ℕ) → IsNext nexts t → AreNumbered mail.tickets nexts → mails.IsNext mail t
+pub next_in : (t : Ticket) (mail : Mail) (nexts : Nexts) → IsNext nexts t → AreNumbered mail.tickets nexts → mails.IsNext mail t
 next_in t mail nexts next a = record {
   first = next.first;
-  last = subst (λ m. t.line ≤ m) (sym a.lines) next.last;
-  beat = next.beat;
-  number = next.number ∙ a.numbers t.line next.first next.last;
+  last = subst (λ m. t.line ≤ m) (sym (a.lanes t.beat).lines) next.last;
+  number = next.number ∙ (a.lanes t.beat).numbers t.line next.first next.last;
 }
 
-pub can_next : (p : Posting) (ps : List Posting) (mail : Mail) (nexts : List ℕ) → CanPost (p ∷ ps) mail nexts → mails.IsNext mail (ticket_in p)
+pub can_next : (p : Posting) (ps : List Posting) (mail : Mail) (nexts : Nexts) → CanPost (p ∷ ps) mail nexts → mails.IsNext mail (ticket_in p)
 can_next p ps mail nexts c = next_in (ticket_in p) mail c.before c.numbers.0 c.numbered
 
-pub can_rest : (at : ℕ) (p : Posting) (ps : List Posting) (mail : Mail) (nexts : List ℕ) → CanPost (p ∷ ps) mail nexts → CanPost ps (posted_at at p mail) nexts
+pub can_rest : (at : ℕ) (p : Posting) (ps : List Posting) (mail : Mail) (nexts : Nexts) → CanPost (p ∷ ps) mail nexts → CanPost ps (posted_at at p mail) nexts
 can_rest at p ps mail nexts c = record {
-  before = with_next c.before (ticket_in p).line;
+  before = used p c.before;
   numbered = numbered_one at p mail c.before c.numbers.0 c.numbered;
   numbers = c.numbers.2;
+}
+
+-- where nothing is posted
+pub can_end : (done : Course) (old l : Lists) → newest l ≡ newest old → l.mail.tickets ≡ old.mail.tickets → l.sight ≡ old.sight → done.turn.posted.items ≡ [] → 1 ≤ newest old → IsEven old → CanClose done l
+can_end done old l count tickets sight none some even = record {
+  some = omega arith;
+  post = subst (λ ps. CanPost ps l.mail l.sight.nexts) (sym none) (record {
+    before = l.sight.nexts;
+    numbered = subst (λ (s : Sight). AreNumbered l.mail.tickets s.nexts) (sym sight) (subst (λ ts. AreNumbered ts old.sight.nexts) (sym tickets) even.numbered);
+    numbers = refl;
+  });
 }
 
 -- One after the other.
@@ -138,7 +165,7 @@ can_rest at p ps mail nexts c = record {
 pub sent_posts : (at : ℕ) (posted : List Posting) (p : Posting) (rest : List Posting) (mail after all : Mail) → posted ≡ p ∷ rest → after ≡ posted_at at p mail → all_posted at posted mail ≡ all → all_posted at rest after ≡ all
 sent_posts at posted p rest mail after all a b h = ap (λ m. all_posted at rest m) b ∙ ap (λ ps. all_posted at ps mail) (sym a) ∙ h
 
-pub sent_rest : (at : ℕ) (posted : List Posting) (p : Posting) (rest : List Posting) (mail after : Mail) (nexts : List ℕ) → posted ≡ p ∷ rest → after ≡ posted_at at p mail → CanPost posted mail nexts → CanPost rest after nexts
+pub sent_rest : (at : ℕ) (posted : List Posting) (p : Posting) (rest : List Posting) (mail after : Mail) (nexts : Nexts) → posted ≡ p ∷ rest → after ≡ posted_at at p mail → CanPost posted mail nexts → CanPost rest after nexts
 sent_rest at posted p rest mail after nexts a b h = subst (λ m. CanPost rest m nexts) (sym b) (can_rest at p rest mail nexts (subst (λ ps. CanPost ps mail nexts) a h))
 
 pub sent_tickets : (posted : List Posting) (p : Posting) (rest : List Posting) (before after all : List Ticket) (t : Ticket) → posted ≡ p ∷ rest → t ≡ ticket_in p → after ≡ before ++ t ∷ [] → before ++ map ticket_in posted ≡ all → after ++ map ticket_in rest ≡ all
@@ -147,21 +174,21 @@ sent_tickets posted p rest before after all t a b c h =
 
 -- All that is posted.
 
-pub numbered_all : (at : ℕ) (ps : List Posting) (mail : Mail) (from to : List ℕ) → ArePosted from ps to → AreNumbered mail.tickets from → AreNumbered (all_posted at ps mail).tickets to
+pub numbered_all : (at : ℕ) (ps : List Posting) (mail : Mail) (from to : Nexts) → ArePosted from ps to → AreNumbered mail.tickets from → AreNumbered (all_posted at ps mail).tickets to
 numbered_all at [] mail from to h a = subst (λ ns. AreNumbered mail.tickets ns) (sym h) a
-numbered_all at (p ∷ ps) mail from to h a = numbered_all at ps (posted_at at p mail) (with_next from (ticket_in p).line) to h.2 (numbered_one at p mail from h.0 a)
+numbered_all at (p ∷ ps) mail from to h a = numbered_all at ps (posted_at at p mail) (used p from) to h.2 (numbered_one at p mail from h.0 a)
 
-pub lines_stay : (ps : List Posting) (from to : List ℕ) → ArePosted from ps to → length to ≡ length from
-lines_stay [] from to h = ap (λ ns. length ns) h
-lines_stay (p ∷ ps) from to h = lines_stay ps (with_next from (ticket_in p).line) to h.2 ∙ length-set from ((ticket_in p).line - 1) (next_at from (ticket_in p).line + 1)
+pub lines_stay : (b : Bool) (ps : List Posting) (from to : Nexts) → ArePosted from ps to → length (numbers_of b to) ≡ length (numbers_of b from)
+lines_stay b [] from to h = ap (λ ns. length (numbers_of b ns)) h
+lines_stay b (p ∷ ps) from to h = lines_stay b ps (used p from) to h.2 ∙ length_raised b (ticket_in p).beat (ticket_in p).line from
 
 pub mail_one : (at : ℕ) (p : Posting) (mail : Mail) → mails.IsNext mail (ticket_in p) → mails.IsMail mail → mails.IsMail (posted_at at p mail)
 mail_one at (Send t to r askers) mail next m = sent_is_mail mail (record { ticket = t; at = at; to = to; request = r; askers = askers }) next m
 mail_one at (Sleep t) mail next m = slept_is_mail mail (record { ticket = t; at = at }) next m
 
-pub mail_all : (at : ℕ) (ps : List Posting) (mail : Mail) (from to : List ℕ) → ArePosted from ps to → AreNumbered mail.tickets from → mails.IsMail mail → mails.IsMail (all_posted at ps mail)
+pub mail_all : (at : ℕ) (ps : List Posting) (mail : Mail) (from to : Nexts) → ArePosted from ps to → AreNumbered mail.tickets from → mails.IsMail mail → mails.IsMail (all_posted at ps mail)
 mail_all at [] mail from to h a m = m
-mail_all at (p ∷ ps) mail from to h a m = mail_all at ps (posted_at at p mail) (with_next from (ticket_in p).line) to h.2 (numbered_one at p mail from h.0 a) (mail_one at p mail (next_in (ticket_in p) mail from h.0 a) m)
+mail_all at (p ∷ ps) mail from to h a m = mail_all at ps (posted_at at p mail) (used p from) to h.2 (numbered_one at p mail from h.0 a) (mail_one at p mail (next_in (ticket_in p) mail from h.0 a) m)
 
 -- Who asks for timestamps.
 
@@ -183,36 +210,43 @@ asks_one : (at : ℕ) (p : Posting) (mail : Mail) → HasAskers p → All Asks m
 asks_one at (Send t to r askers) mail a h = all_pushed mail.sent (record { ticket = t; at = at; to = to; request = r; askers = askers }) h a
 asks_one at (Sleep t) mail a h = h
 
-pub asks_all : (at : ℕ) (ps : List Posting) (mail : Mail) (from to : List ℕ) → ArePosted from ps to → All Asks mail.sent → All Asks (all_posted at ps mail).sent
+pub asks_all : (at : ℕ) (ps : List Posting) (mail : Mail) (from to : Nexts) → ArePosted from ps to → All Asks mail.sent → All Asks (all_posted at ps mail).sent
 asks_all at [] mail from to h a = a
-asks_all at (p ∷ ps) mail from to h a = asks_all at ps (posted_at at p mail) (with_next from (ticket_in p).line) to h.2 (asks_one at p mail h.1 a)
+asks_all at (p ∷ ps) mail from to h a = asks_all at ps (posted_at at p mail) (used p from) to h.2 (asks_one at p mail h.1 a)
 
 -- A line more has named nothing.
 
-pub places_opened : (tickets : List (List Place)) (n : ℕ) → places_of (tickets ++ [] ∷ []) n ≡ places_of tickets n
-places_opened tickets zero = refl
-places_opened tickets (suc i) = or_ended tickets [] i
+places_opened : (lines : List (List Place)) (n : ℕ) → places_of (lines ++ [] ∷ []) n ≡ places_of lines n
+places_opened lines zero = refl
+places_opened lines (suc i) = or_ended lines [] i
 
 next_old : (nexts : List ℕ) (n : ℕ) → n ≤ length nexts → next_at (nexts ++ 1 ∷ []) n ≡ next_at nexts n
 next_old nexts zero h = refl
 next_old nexts (suc i) h = or_old nexts 1 0 i (omega arith)
 
-pub numbered_opened : (tickets : List (List Place)) (nexts : List ℕ) → AreNumbered tickets nexts → AreNumbered (tickets ++ [] ∷ []) (nexts ++ 1 ∷ [])
-numbered_opened tickets nexts a = record {
-  lines = length-append tickets ([] ∷ []) ∙ ap (λ n. n + 1) a.lines ∙ sym (length-append nexts (1 ∷ []));
+counted_opened : (places : List (List Place)) (nexts : List ℕ) → AreCounted places nexts → AreCounted (places ++ [] ∷ []) (nexts ++ 1 ∷ [])
+counted_opened places nexts a = record {
+  lines = length-append places ([] ∷ []) ∙ ap (λ n. n + 1) a.lines ∙ sym (length-append nexts (1 ∷ []));
   numbers = λ n one most. by n one (subst (λ m. n ≤ m) (length-append nexts (1 ∷ [])) most) (same_line (length nexts + 1) n);
 }
   where
-    last : (n : ℕ) → n ≡ length nexts + 1 → next_at (nexts ++ 1 ∷ []) n ≡ length (places_of (tickets ++ [] ∷ []) n) + 1
+    last : (n : ℕ) → n ≡ length nexts + 1 → next_at (nexts ++ 1 ∷ []) n ≡ length (places_of (places ++ [] ∷ []) n) + 1
     last zero e = absurd (omega arith)
     last (suc i) e =
         let same : i ≡ length nexts = omega arith in
-        let past : length tickets ≤ i = omega (arith, a.lines) in
+        let past : length places ≤ i = omega (arith, a.lines) in
         ap (λ k. get_or (nexts ++ 1 ∷ []) k 0) same ∙ or_last nexts 1 0
-        ∙ ap (λ ps. length ps + 1) (sym (or_ended tickets [] i ∙ or_past tickets [] i past))
+        ∙ ap (λ ps. length ps + 1) (sym (or_ended places [] i ∙ or_past places [] i past))
 
-    by : (n : ℕ) → 1 ≤ n → n ≤ length nexts + 1 → (n ≡ length nexts + 1) ⊎ (n ≢ length nexts + 1) → next_at (nexts ++ 1 ∷ []) n ≡ length (places_of (tickets ++ [] ∷ []) n) + 1
+    by : (n : ℕ) → 1 ≤ n → n ≤ length nexts + 1 → (n ≡ length nexts + 1) ⊎ (n ≢ length nexts + 1) → next_at (nexts ++ 1 ∷ []) n ≡ length (places_of (places ++ [] ∷ []) n) + 1
     by n one most (inl e) = last n e
     by n one most (inr apart) =
         let old : n ≤ length nexts = omega arith in
-        next_old nexts n old ∙ a.numbers n one old ∙ ap (λ ps. length ps + 1) (sym (places_opened tickets n))
+        next_old nexts n old ∙ a.numbers n one old ∙ ap (λ ps. length ps + 1) (sym (places_opened places n))
+
+pub numbered_opened : (tickets : Tickets) (nexts : Nexts) → AreNumbered tickets nexts → AreNumbered (opened_lanes tickets) (record { calls = nexts.calls ++ 1 ∷ []; beats = nexts.beats ++ 1 ∷ [] })
+numbered_opened tickets nexts a = record { lanes = by }
+  where
+    by : (b : Bool) → AreCounted (lane b (opened_lanes tickets)) (numbers_of b (record { calls = nexts.calls ++ 1 ∷ []; beats = nexts.beats ++ 1 ∷ [] }))
+    by false = counted_opened tickets.calls nexts.calls (a.lanes false)
+    by true = counted_opened tickets.beats nexts.beats (a.lanes true)

@@ -13,7 +13,7 @@ use Rattle.txn_model.specs.Regions.{at_clock, can_lead, can_split, lead, led_by,
 use Rattle.txn_model.specs.Served.{last_after, last_small, others_stay}
 use Rattle.txn_model.specs.Store.{Store}
 use Rattle.txn_model.specs.Table.{CanServe, table}
-use Rattle.txn_post.specs.Mail.{can_be_served, delivering, found_unserved, keeping, letter_at, losing, refusing, taking, waking}
+use Rattle.txn_post.specs.Mail.{can_be_served, delivering, found_unserved, keeping, lane, letter_at, losing, refusing, taking, waking}
 use Rattle.txn_post.specs.declared.letter.Letter.{Letter}
 use Rattle.txn_report.specs.declared.outcome.Outcome.{Outcome}
 use Rattle.txn_report.specs.declared.outcome.Outcome.TheVariants.{Done, Ok, Skipped, Unfinished}
@@ -44,7 +44,8 @@ relisted : (l : Lists) (outs : List Outcome) (es : List ℕ) → length outs ≡
 relisted l outs es a b h = record {
   even = record {
     ended = b ∙ h.even.ended ∙ sym a;
-    tickets = h.even.tickets ∙ sym a;
+    calls = h.even.calls ∙ sym a;
+    beats = h.even.beats ∙ sym a;
     stands = h.even.stands ∙ sym a;
     numbered = h.even.numbered;
   };
@@ -80,7 +81,7 @@ all_ended_keeps (e ∷ es) l h = all_ended_keeps es (ended_at e.line e.outcome l
 pub sight_keeps : {n : ℕ} (s : Sight) (l : Lists) → length s.stands ≡ newest l → s.nexts ≡ l.sight.nexts → Stays n l → Stays n (with_sight s l)
 sight_keeps s l count nexts h = record {
   ordered = record {
-    even = record { ended = h.ordered.even.ended; tickets = h.ordered.even.tickets; stands = count; numbered = subst (λ ns. AreNumbered l.mail.tickets ns) (sym nexts) h.ordered.even.numbered };
+    even = record { ended = h.ordered.even.ended; calls = h.ordered.even.calls; beats = h.ordered.even.beats; stands = count; numbered = subst (λ ns. AreNumbered l.mail.tickets ns) (sym nexts) h.ordered.even.numbered };
     sound = record { mail = h.ordered.sound.mail; order = h.ordered.sound.order; askers = h.ordered.sound.askers; last = h.ordered.sound.last; clock = h.ordered.sound.clock; few = h.ordered.sound.few };
   };
   count = h.count;
@@ -91,13 +92,14 @@ followed_keeps s posted ended l count numbers h = all_ended_keeps ended (with_ma
   ordered = record {
     even = record {
       ended = h.ordered.even.ended;
-      tickets = new.lines ∙ lines_stay posted l.sight.nexts s.nexts numbers ∙ sym h.ordered.even.numbered.lines ∙ h.ordered.even.tickets;
+      calls = as_many false ∙ h.ordered.even.calls;
+      beats = as_many true ∙ h.ordered.even.beats;
       stands = count;
       numbered = new;
     };
     sound = record {
       mail = mail_all (newest l) posted l.mail l.sight.nexts s.nexts numbers h.ordered.even.numbered h.ordered.sound.mail;
-      order = order_all (newest l) posted l.mail l.sight.nexts s.nexts numbers h.ordered.even.numbered (let e = h.ordered.even.tickets in omega arith) h.ordered.sound.mail h.ordered.sound.order;
+      order = order_all (newest l) posted l.mail l.sight.nexts s.nexts numbers h.ordered.even.numbered within h.ordered.sound.mail h.ordered.sound.order;
       askers = asks_all (newest l) posted l.mail l.sight.nexts s.nexts numbers h.ordered.sound.askers;
       last = h.ordered.sound.last;
       clock = h.ordered.sound.clock;
@@ -110,14 +112,21 @@ followed_keeps s posted ended l count numbers h = all_ended_keeps ended (with_ma
     new : AreNumbered (all_posted (newest l) posted l.mail).tickets s.nexts
     new = numbered_all (newest l) posted l.mail l.sight.nexts s.nexts numbers h.ordered.even.numbered
 
+    as_many : (b : Bool) → length (lane b (all_posted (newest l) posted l.mail).tickets) ≡ length (lane b l.mail.tickets)
+    as_many b = (new.lanes b).lines ∙ lines_stay b posted l.sight.nexts s.nexts numbers ∙ sym (h.ordered.even.numbered.lanes b).lines
+
+    within : (b : Bool) → length (lane b l.mail.tickets) ≤ newest l
+    within false = let e = h.ordered.even.calls in omega arith
+    within true = let e = h.ordered.even.beats in omega arith
+
 pub fated_even : (change : Letter → Letter) (place : ℕ) (l : Lists) → IsEven l → IsEven (fated change place l)
-fated_even change place l h = record { ended = h.ended; tickets = h.tickets; stands = h.stands; numbered = h.numbered }
+fated_even change place l h = record { ended = h.ended; calls = h.calls; beats = h.beats; stands = h.stands; numbered = h.numbered }
 
 pub waked_even : (place : ℕ) (l : Lists) → IsEven l → IsEven (with_mail (waking place l.mail) l)
-waked_even place l h = record { ended = h.ended; tickets = h.tickets; stands = h.stands; numbered = h.numbered }
+waked_even place l h = record { ended = h.ended; calls = h.calls; beats = h.beats; stands = h.stands; numbered = h.numbered }
 
 pub handled_even : (t : Ticket) (place : ℕ) (l : Lists) → IsEven l → IsEven (handled t place l)
-handled_even t place l h = record { ended = h.ended; tickets = h.tickets; stands = h.stands; numbered = h.numbered }
+handled_even t place l h = record { ended = h.ended; calls = h.calls; beats = h.beats; stands = h.stands; numbered = h.numbered }
 
 fated_keeps : {n : ℕ} (change : Letter → Letter) (place : ℕ) (l : Lists) → Stays n l → Stays n (fated change place l)
 fated_keeps change place l h = record {
@@ -145,7 +154,8 @@ opened_count l = length-append l.outcomes (Unfinished ∷ [])
 opened_even : (l : Lists) → IsEven l → IsEven (opened l)
 opened_even l h = record {
   ended = length-append l.ended (0 ∷ []) ∙ ap (λ n. n + 1) h.ended ∙ sym (opened_count l);
-  tickets = length-append l.mail.tickets ([] ∷ []) ∙ ap (λ n. n + 1) h.tickets ∙ sym (opened_count l);
+  calls = length-append l.mail.tickets.calls ([] ∷ []) ∙ ap (λ n. n + 1) h.calls ∙ sym (opened_count l);
+  beats = length-append l.mail.tickets.beats ([] ∷ []) ∙ ap (λ n. n + 1) h.beats ∙ sym (opened_count l);
   stands = length-append l.sight.stands (Idle ∷ []) ∙ ap (λ n. n + 1) h.stands ∙ sym (opened_count l);
   numbered = numbered_opened l.mail.tickets l.sight.nexts h.numbered;
 }
@@ -212,7 +222,7 @@ handled_keeps t place l room h = record {
 stored_keeps : {n : ℕ} (st : Store) (l : Lists) → st.last ≡ l.store.last → st.clock < 2 ^ 44 → Stays n l → Stays n (with_store st l)
 stored_keeps st l last clock h = record {
   ordered = record {
-    even = record { ended = h.ordered.even.ended; tickets = h.ordered.even.tickets; stands = h.ordered.even.stands; numbered = h.ordered.even.numbered };
+    even = record { ended = h.ordered.even.ended; calls = h.ordered.even.calls; beats = h.ordered.even.beats; stands = h.ordered.even.stands; numbered = h.ordered.even.numbered };
     sound = record { mail = h.ordered.sound.mail; order = h.ordered.sound.order; askers = h.ordered.sound.askers; last = subst (λ n. n ≤ 2 ^ 62 + 2 ^ 19 * newest l) (sym last) h.ordered.sound.last; clock = clock; few = h.ordered.sound.few };
   };
   count = h.count;

@@ -10,7 +10,7 @@ use Rattle.txn_post.proofs.Naming.{named_pushed, opened_leads}
 use Rattle.txn_post.specs.Mail.{IsMail, IsNext, Mail, place_of}
 use Rattle.txn_post.specs.declared.post.Place.{Place}
 use Rattle.txn_post.specs.declared.post.Place.TheVariants.{Sent, Slept}
-use Rattle.txn_side.specs.Sight.{ArePosted, Sight, Stand, client_at, connected, line_count, lives, stand_at, ticket_in, with_next, with_stand}
+use Rattle.txn_side.specs.Sight.{ArePosted, Nexts, Sight, Stand, client_at, connected, line_count, lives, stand_at, ticket_in, with_stand}
 use Rattle.txn_side.specs.Sight.Stand.{Asking, Calling, HasBegun, IsClient}
 use Rattle.txn_side.specs.declared.turn.Posting.{Posting}
 use Rattle.txn_side.specs.declared.turn.Posting.TheVariants.{Send, Sleep}
@@ -28,15 +28,15 @@ use Rattle.txn_machine.proofs.Goings.{client_stays}
 use Rattle.txn_machine.proofs.Happenings.{Keeps, from_nexts, mail_keeps}
 use Rattle.txn_machine.proofs.Idles.{Names, names}
 use Rattle.txn_machine.proofs.Numberings.{line_ahead, line_range, stand_set}
-use Rattle.txn_machine.proofs.Numbers.{mail_one, next_in, numbered_one, numbered_opened}
+use Rattle.txn_machine.proofs.Numbers.{mail_one, next_in, numbered_one, numbered_opened, used}
 
 -- something of all lines under whose tickets something was posted
-pub posted_owned : (Has : ℕ → Type 0) (at : ℕ) (ps : List Posting) (mail : Mail) (from to : List ℕ) → ArePosted from ps to → AreNumbered mail.tickets from → IsMail mail
+pub posted_owned : (Has : ℕ → Type 0) (at : ℕ) (ps : List Posting) (mail : Mail) (from to : Nexts) → ArePosted from ps to → AreNumbered mail.tickets from → IsMail mail
     → All (λ (p : Posting). Has (ticket_in p).line) ps → ((t : Ticket) (p : Place) → place_of mail.tickets t ≡ Some p → Has t.line)
     → (t : Ticket) (p : Place) → place_of (all_posted at ps mail).tickets t ≡ Some p → Has t.line
 posted_owned Has at [] mail from to h a m all own t p e = own t p e
 posted_owned Has at (q ∷ ps) mail from to h a m all own t p e =
-    posted_owned Has at ps (posted_at at q mail) (with_next from (ticket_in q).line) to h.2 (numbered_one at q mail from h.0 a) (mail_one at q mail (next_in (ticket_in q) mail from h.0 a) m)
+    posted_owned Has at ps (posted_at at q mail) (used q from) to h.2 (numbered_one at q mail from h.0 a) (mail_one at q mail (next_in (ticket_in q) mail from h.0 a) m)
     (λ k d low. all (suc k) d (omega arith)) (one q (next_in (ticket_in q) mail from h.0 a) (all 0 q (omega arith))) t p e
   where
     one : (q : Posting) → IsNext mail (ticket_in q) → Has (ticket_in q).line → (t : Ticket) (p : Place) → place_of (posted_at at q mail).tickets t ≡ Some p → Has t.line

@@ -9,10 +9,10 @@ use Rattle.txn_lines.specs.declared.script.Why.{Why}
 use Rattle.txn_lines.specs.declared.script.Why.TheVariants.{TooMany, ClockHigh, ClockFalls}
 use Rattle.txn_model.specs.Store.{opening}
 use Rattle.txn_kv.specs.declared.ticket.Ticket.{Ticket}
-use Rattle.txn_post.specs.Mail.{no_mail, place_in, place_of, places_of}
+use Rattle.txn_post.specs.Mail.{lane, no_mail, no_tickets, place_in, place_of, places_of}
 use Rattle.txn_post.proofs.Mails.{none_is_mail}
 use Rattle.txn_report.specs.declared.report.Report.{Report}
-use Rattle.txn_side.specs.Sight.{Sight, Stand, client_at, nobody, number_of, stand_at}
+use Rattle.txn_side.specs.Sight.{Sight, Stand, client_at, nobody, number_of, numbers_of, stand_at}
 use Rattle.txn_side.specs.Sight.Stand.{Calling, HasBegun, Idle, IsClient}
 use Rattle.txn_side.specs.Waiting.{Awaited, IsDue, NoneWaits}
 use Rattle.txn_machine.specs.Causes.{AllCallsMeet, AllEnd, AllEventsMeet, AllLive, AreTold, CallsMeetLines, EndsLines, EventsMeetLines, LivesLines, TellsLines, answers, ended_of}
@@ -20,7 +20,7 @@ use Rattle.txn_machine.specs.Dues.{AreDue, AreOut, Dues, DuesLines, StayOut}
 use Rattle.txn_machine.specs.Lists.{Lists, newest, nothing, opened}
 use Rattle.txn_machine.specs.Rows.{Caused, Fate, IsNoRow, Row, outcome_in, role_in}
 use Rattle.txn_machine.specs.Rows.Row.{Acted, AskFailed, AskSkipped, AskWaits, Begun, CallFailed, CallSkipped, CallWaits, Happened, Made, Over, Timed, Works}
-use Rattle.txn_machine.specs.Running.{HasMemory, IsFine, IsOrdered, IsReportOf, Standing, StandsFor, closed, lists_of}
+use Rattle.txn_machine.specs.Running.{AreCounted, HasMemory, IsFine, IsOrdered, IsReportOf, Standing, StandsFor, closed, lists_of}
 use Rattle.txn_machine.specs.Steps.{Does, Steps}
 use Rattle.txn_machine.specs.Times.{AllTimed, AreApart, Timely, TimesLines}
 use Rattle.txn_machine.specs.Told.{ArePast}
@@ -70,9 +70,13 @@ good_fine before line e = tt
 
 -- No lines.
 
+numbered_nothing : (b : Bool) → AreCounted (lane b no_tickets) (numbers_of b nobody.nexts)
+numbered_nothing false = record { lines = refl; numbers = λ n one most. absurd (omega arith) }
+numbered_nothing true = record { lines = refl; numbers = λ n one most. absurd (omega arith) }
+
 ordered_nothing : IsOrdered nothing
 ordered_nothing = record {
-  even = record { ended = refl; tickets = refl; stands = refl; numbered = record { lines = refl; numbers = λ n one most. absurd (omega arith) } };
+  even = record { ended = refl; calls = refl; beats = refl; stands = refl; numbered = record { lanes = numbered_nothing } };
   sound = record { mail = none_is_mail; order = none_in_order 0; askers = λ k d h. absurd (omega arith); last = omega arith; clock = omega arith; few = omega arith };
 }
 
@@ -94,7 +98,7 @@ none_has_read (suc i) = record { outcome = refl; ended = refl; at = refl }
 none_stands : (n : ℕ) (s : Stand) → stand_at [] n ≡ s → s ≡ Idle
 none_stands n s e = sym e ∙ (none_has_read n).at
 
-nothing_named : (t : Ticket) → place_of [] t ≡ None
+nothing_named : (t : Ticket) → place_of no_tickets t ≡ None
 nothing_named t = by t.beat
   where
     none_in : (n m : ℕ) → place_in (places_of [] n) m ≡ None
@@ -103,8 +107,8 @@ nothing_named t = by t.beat
     none_in (suc n) zero = refl
     none_in (suc n) (suc m) = refl
 
-    by : (b : Bool) → (if b then None else place_in (places_of [] t.line) t.number) ≡ None
-    by true = refl
+    by : (b : Bool) → place_in (places_of (lane b no_tickets) t.line) t.number ≡ None
+    by true = none_in t.line t.number
     by false = none_in t.line t.number
 
 caused_nothing : Caused [] nothing

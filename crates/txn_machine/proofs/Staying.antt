@@ -8,14 +8,14 @@ use Rattle.txn_post.specs.Mail.{IsMail, Mail, changing, found_awaited, found_las
 use Rattle.txn_post.specs.declared.letter.Letter.{Letter}
 use Rattle.txn_post.specs.declared.post.Place.TheVariants.{Sent, Slept}
 use Rattle.txn_report.specs.declared.outcome.Outcome.{Outcome}
-use Rattle.txn_side.specs.Sight.{Acts, ArePosted, Asks, Goes, IsOut, Sight, is_live}
+use Rattle.txn_side.specs.Sight.{Acts, ArePosted, Asks, Goes, Group, IsOut, Nexts, Sight, is_live}
 use Rattle.txn_side.specs.Waiting.{Awaited, HearsEnd, HearsReply, NoneHeard, WaitsOn}
 use Rattle.txn_side.specs.Waiting as waiting
 use Rattle.txn_side.specs.Waiting.Awaited.{EndOf, ReplyTo}
 use Rattle.txn_side.specs.declared.act.Act.{Act}
 use Rattle.txn_side.specs.declared.turn.Posting.{Posting}
 use Rattle.txn_side.specs.declared.turn.Turn.{Turn}
-use Rattle.txn_machine.specs.Dues.{AreOut, IsAwaitedIn, IsReplyOut, StayOut}
+use Rattle.txn_machine.specs.Dues.{AreOut, IsAskedIn, IsAwaitedIn, StayOut}
 use Rattle.txn_machine.specs.Lists.{Lists, all_posted, handled, newest, nothing, opened, with_mail}
 use Rattle.txn_machine.specs.Running.{AreNumbered, CanClose, IsEven, IsOrdered, KeepOut, closed, with_own}
 use Rattle.txn_machine.specs.Steps.{found_asleep, found_out, posted_in}
@@ -32,8 +32,8 @@ own_sight None l = refl
 own_sight (Some o) l = refl
 
 kept : (Hears : ℕ → Awaited → Type 0) (old new : Mail) → StaysBut Hears old new → (line : ℕ) (a : Awaited) → (Hears line a → ⊥) → IsAwaitedIn old line a → IsAwaitedIn new line a
-kept Hears old new stays line (ReplyTo number) far out = stays.replies (record { line = line; beat = false; number = number }) far out
-kept Hears old new stays line (EndOf number) far out = stays.ends (record { line = line; beat = false; number = number }) far out
+kept Hears old new stays line (ReplyTo number) far out = stays.replies (record { line = line; beat = false; number = number }) refl far out
+kept Hears old new stays line (EndOf number) far out = stays.ends (record { line = line; beat = false; number = number }) refl far out
 
 module _ (was is : ℕ → Awaited → Type 0) (old l : Lists) (done : Course) where
   abbrev mid : Lists
@@ -49,16 +49,16 @@ module _ (was is : ℕ → Awaited → Type 0) (old l : Lists) (done : Course) w
   closed_sight = ended_sight done.turn.ended.items sent ∙ own_sight done.outcome l
 
   -- the clients are told of something, and post something
-  pub still_out : (Hears : ℕ → Awaited → Type 0) (from to : List ℕ) → WaitsOn Hears done.turn.posted.items was is old.sight l.sight → StaysBut Hears old.mail l.mail → IsMail l.mail
+  pub still_out : (Hears : ℕ → Awaited → Type 0) (from to : Nexts) → WaitsOn Hears done.turn.posted.items was is old.sight l.sight → StaysBut Hears old.mail l.mail → IsMail l.mail
       → ArePosted from done.turn.posted.items to → AreNumbered l.mail.tickets from → KeepOut was is old done l
   still_out Hears from to w stays m posted numbered = record {
     stays = λ o. record {
       lines = λ line a waits. subst (λ mail. IsAwaitedIn mail line a) (sym closed_mail) (elim (w.lines line a waits) [
         | inl h ↦ behind line a (kept Hears old.mail l.mail stays line a h.1 (o.lines line a h.0))
-        | inr p ↦ as_awaited all p.1 line a (out p.0 p.1 p.2 p.3) p.4.0 p.4.1
+        | inr p ↦ as_awaited all p.1 line a (out p.0 p.1 p.2 p.3) p.4.0 p.4.1 p.4.2
       ]);
-      groups = λ g h. subst (λ mail. IsReplyOut mail g.ticket) (sym closed_mail) (elim (w.groups g (subst (λ s. IsOut s g) closed_sight h)) [
-        | inl i ↦ reply_stays (newest mid) done.turn.posted.items l.mail from to posted numbered m g.ticket (stays.replies g.ticket i.1 (o.groups g i.0))
+      groups = λ g h. subst (λ mail. IsAskedIn mail g) (sym closed_mail) (elim (w.groups g (subst (λ s. IsOut s g) closed_sight h)) [
+        | inl i ↦ let was = o.groups g i.0 in (was.0, reply_stays (newest mid) done.turn.posted.items l.mail from to posted numbered m g.ticket (stays.replies g.ticket was.0 i.1 was.1))
         | inr p ↦ as_group all g p.1 (out p.0 p.1 p.2 p.3) p.4
       ]);
     };
@@ -82,8 +82,8 @@ module _ (was is : ℕ → Awaited → Type 0) (old l : Lists) (done : Course) w
         | inl h ↦ kept Hears old.mail l.mail stays line a h.1 (o.lines line a h.0)
         | inr p ↦ absurd (let low = p.2 in omega arith)
       ]);
-      groups = λ g h. subst (λ mail. IsReplyOut mail g.ticket) (sym same) (elim (w.groups g (subst (λ s. IsOut s g) closed_sight h)) [
-        | inl i ↦ stays.replies g.ticket i.1 (o.groups g i.0)
+      groups = λ g h. subst (λ mail. IsAskedIn mail g) (sym same) (elim (w.groups g (subst (λ s. IsOut s g) closed_sight h)) [
+        | inl i ↦ let was = o.groups g i.0 in (was.0, stays.replies g.ticket was.0 i.1 was.1)
         | inr p ↦ absurd (let low = p.2 in omega arith)
       ]);
     };
@@ -97,7 +97,7 @@ module _ (was is : ℕ → Awaited → Type 0) (old l : Lists) (done : Course) w
   calm_out same sight stays none = quiet_out NoneHeard (record { lines = λ line a h. inl (same line a h, λ x. x); groups = λ g out. inl (subst (λ s. IsOut s g) sight out, λ x. x) }) stays none
 
   -- the clients post what a turn has
-  turn_out : (Hears : ℕ → Awaited → Type 0) (posted : List Posting) (from to : List ℕ) → done.turn.posted.items ≡ posted → WaitsOn Hears posted was is old.sight l.sight → StaysBut Hears old.mail l.mail → IsMail l.mail
+  turn_out : (Hears : ℕ → Awaited → Type 0) (posted : List Posting) (from to : Nexts) → done.turn.posted.items ≡ posted → WaitsOn Hears posted was is old.sight l.sight → StaysBut Hears old.mail l.mail → IsMail l.mail
       → ArePosted from posted to → AreNumbered l.mail.tickets from → KeepOut was is old done l
   turn_out Hears posted from to same w stays m numbers numbered =
       still_out Hears from to (subst (λ ps. WaitsOn Hears ps was is old.sight l.sight) (sym same) w) stays m (subst (λ ps. ArePosted from ps to) (sym same) numbers) numbered
@@ -193,8 +193,8 @@ opened_out was is old new e w o = record {
     | inl i ↦ kept NoneHeard old.mail (opened old).mail (stays_opened NoneHeard old.mail) line a i.1 (o.lines line a i.0)
     | inr p ↦ absurd (let low = p.2 in omega arith)
   ]);
-  groups = λ g h. subst (λ mail. IsReplyOut mail g.ticket) (sym e) (elim (w.groups g h) [
-    | inl i ↦ (stays_opened NoneHeard old.mail).replies g.ticket i.1 (o.groups g i.0)
+  groups = λ g h. subst (λ mail. IsAskedIn mail g) (sym e) (elim (w.groups g h) [
+    | inl i ↦ let was = o.groups g i.0 in (was.0, (stays_opened NoneHeard old.mail).replies g.ticket was.0 i.1 was.1)
     | inr p ↦ absurd (let low = p.2 in omega arith)
   ]);
 }

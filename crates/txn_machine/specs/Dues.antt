@@ -37,6 +37,7 @@ pub record SleepIsOut (asleep : Ticket → Bool) (es : List Event) (n : ℕ) : T
 -- a request for timestamps of the line's client is out
 pub record OracleIsOut (script : List Line) (es : List Event) (n : ℕ) : Type 0 where
   pub ticket : Ticket
+  pub no_beat : ticket.beat ≡ false
   pub same_client : client_of script ticket.line ≡ client_of script n
   pub asks : TsoRequest
   pub is_tso : sent_request es ticket ≡ Some (Tso asks)
@@ -74,10 +75,14 @@ abbrev pub IsAwaitedIn : Mail → ℕ → Awaited → Type 0
 IsAwaitedIn mail line (ReplyTo number) = IsReplyOut mail (record { line = line; beat = false; number = number })
 IsAwaitedIn mail line (EndOf number) = IsEndOut mail (record { line = line; beat = false; number = number })
 
+-- a request for timestamps is out, which is none of a heartbeat
+abbrev pub IsAskedIn : Mail → Group → Type 0
+IsAskedIn mail g = (g.ticket.beat ≡ false) × IsReplyOut mail g.ticket
+
 -- what the clients wait for is out, and so are their requests for timestamps
 pub record AreOut (waits : ℕ → Awaited → Type 0) (l : Lists) : Type 0 where
   pub lines : (line : ℕ) (a : Awaited) → waits line a → IsAwaitedIn l.mail line a
-  pub groups : (g : Group) → IsOut l.sight g → IsReplyOut l.mail g.ticket
+  pub groups : (g : Group) → IsOut l.sight g → IsAskedIn l.mail g
 
 -- the clients waited for what is out, and still do
 abbrev pub StayOut : (ℕ → Awaited → Type 0) → (ℕ → Awaited → Type 0) → Lists → Lists → Type 0

@@ -20,7 +20,7 @@ pub record Lawful (script : List Line) (report : Report) : Type 0 where
   pub told : TellsLines (reverse script) report
   -- the store is the request table folded over what was served, which is listed in order
   pub folded : FoldsLines (reverse script) report
-  -- each ticket of a line once, from the first number on, in order
+  -- each ticket of a line, and of its heartbeat, once, from the first number on, in order
   pub noted : AreNoted (length script) report.sent report.sleeps
   -- each outcome came in the step of its line, or of a later event; none of a call whose client had crashed
   pub ends : EndsLines (reverse script) report

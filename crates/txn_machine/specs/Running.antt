@@ -1,5 +1,5 @@
 -- The machine and the lines that it stands for, of which the newest is the first.
-use Rattle.std.specs.Prelude.{◌≡◌, ℕ, ◌+◌, ◌*◌, ◌≤◌, ◌<◌, ◌^◌, false, if◌then◌else◌, List, [], ◌∷◌, ◌++◌, length, map, slice_index_or, Option, Some, None}
+use Rattle.std.specs.Prelude.{◌≡◌, ℕ, ◌+◌, ◌*◌, ◌≤◌, ◌<◌, ◌^◌, Bool, false, if◌then◌else◌, List, [], ◌∷◌, ◌++◌, length, map, slice_index_or, Option, Some, None}
 use Rattle.std.specs.List.{All, AllPairs}
 use Rattle.std.proofs.Common.{zero, suc}
 use Rattle.txn_kv.specs.declared.ticket.Ticket.{Ticket}
@@ -7,13 +7,13 @@ use Rattle.txn_lines.specs.Kinds.{kinds_of}
 use Rattle.txn_lines.specs.Lines.{max_lines, why_after}
 use Rattle.txn_lines.specs.declared.line.Line.{Line}
 use Rattle.txn_lines.specs.declared.line.Line.TheVariants.{Clock}
-use Rattle.txn_post.specs.Mail.{IsMail, Mail, outs_of, places_of}
+use Rattle.txn_post.specs.Mail.{IsMail, Mail, Tickets, lane, outs_of, places_of}
 use Rattle.txn_post.specs.declared.post.Place.{Place}
 use Rattle.txn_post.specs.declared.post.Place.TheVariants.{Sent, Slept}
 use Rattle.txn_report.specs.declared.outcome.Outcome.{Outcome}
 use Rattle.txn_report.specs.declared.report.Report.{Report}
 use Rattle.txn_report.specs.declared.report.SentNote.{SentNote}
-use Rattle.txn_side.specs.Sight.{AskFor, ArePosted, Sight, is_live, next_at}
+use Rattle.txn_side.specs.Sight.{AskFor, ArePosted, Nexts, Sight, is_live, next_at, numbers_of}
 use Rattle.txn_side.specs.Waiting.{Awaited}
 use Rattle.txn_side.specs.declared.turn.Posting.{Posting}
 use Rattle.txn_machine.specs.Dues.{AreDue, StayOut}
@@ -37,15 +37,20 @@ LedTo (line ∷ before) l = (old : Lists) × LedTo before old × Steps line old 
 
 -- What the code of a step rests on
 
--- the clients number the tickets of each line on from those that the mail has
-pub record AreNumbered (tickets : List (List Place)) (nexts : List ℕ) : Type 0 where
-  pub lines : length tickets ≡ length nexts
-  pub numbers : (n : ℕ) → 1 ≤ n → n ≤ length nexts → next_at nexts n ≡ length (places_of tickets n) + 1
+-- the next number of each line is the one after those that name these places
+pub record AreCounted (places : List (List Place)) (nexts : List ℕ) : Type 0 where
+  pub lines : length places ≡ length nexts
+  pub numbers : (n : ℕ) → 1 ≤ n → n ≤ length nexts → next_at nexts n ≡ length (places_of places n) + 1
+
+-- the clients number the tickets of each line, and those of its heartbeat, on from those that the mail has
+pub record AreNumbered (tickets : Tickets) (nexts : Nexts) : Type 0 where
+  pub lanes : (beat : Bool) → AreCounted (lane beat tickets) (numbers_of beat nexts)
 
 -- each line has its place in each list
 pub record IsEven (l : Lists) : Type 0 where
   pub ended : length l.ended ≡ newest l
-  pub tickets : length l.mail.tickets ≡ newest l
+  pub calls : length l.mail.tickets.calls ≡ newest l
+  pub beats : length l.mail.tickets.beats ≡ newest l
   pub stands : length l.sight.stands ≡ newest l
   pub numbered : AreNumbered l.mail.tickets l.sight.nexts
 
@@ -63,7 +68,7 @@ at_of mail (Slept place) = slice_index_or (map (λ s. s.at) mail.sleeps) place 0
 pub record CameInOrder (n : ℕ) (mail : Mail) : Type 0 where
   pub sent : AreRising 0 n (map (λ s. s.at) mail.sent)
   pub sleeps : AreRising 0 n (map (λ s. s.at) mail.sleeps)
-  pub lines : (line : ℕ) → AreRising line n (map (λ place. at_of mail place) (places_of mail.tickets line))
+  pub lines : (beat : Bool) (line : ℕ) → AreRising line n (map (λ place. at_of mail place) (places_of (lane beat mail.tickets) line))
 
 -- Each ticket names what it should, and the store can serve each request that was sent: each for timestamps asks for 1 to 64, and the oracle is far from its end, since
 -- each line served at most one.
@@ -137,9 +142,9 @@ with_own (Some o) l = outright o l
 abbrev pub closed : Course → Lists → Lists
 closed done l = followed done.turn.posted.items done.turn.ended.items (with_own done.outcome l)
 
--- the mail has a place for each that is posted: under the number that is the next of its line
-pub record CanPost (posted : List Posting) (mail : Mail) (nexts : List ℕ) : Type 0 where
-  pub before : List ℕ
+-- the mail has a place for each that is posted: under the number that is the next of its line, or of its line's heartbeat
+pub record CanPost (posted : List Posting) (mail : Mail) (nexts : Nexts) : Type 0 where
+  pub before : Nexts
   pub numbered : AreNumbered mail.tickets before
   pub numbers : ArePosted before posted nexts
 

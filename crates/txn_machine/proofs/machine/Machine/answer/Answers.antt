@@ -1,13 +1,18 @@
 use Rattle.std.proofs.Common.{refl, sym, ◌∙◌, Option, ℕ, is_some, ap}
 use Rattle.txn_machine.specs.Running.{lists_of}
-use Rattle.txn_post.specs.Mail.{taking, letter_at}
+use Rattle.txn_post.specs.Mail.{Mail, taking, letter_at}
 use Rattle.txn_machine.proofs.Staying.{heard_out, live_out, rest_out, untaken_out}
 use Rattle.txn_history.specs.Event.Event.{Took}
 use Rattle.txn_lines.specs.declared.line.Line.TheVariants.{Answer}
 use Rattle.txn_machine.proofs.Resting.{heard_on}
 use Rattle.txn_machine.specs.Steps.{test_at}
 use Rattle.txn_machine.proofs.Arising.{answer_comes, arises_same, hears_to, missed, outside_to}
+use Rattle.txn_machine.proofs.Numbers.{can_end}
 use Rattle.txn_machine.proofs.machine.Machine.answer.Goals as goal
+
+pub returns-in-None-clause-can : goal.returns-in-None-clause-can
+returns-in-None-clause-can g c =
+    can_end c.happened-in-None.result (lists_of g.S.ClientSide.sight c.args.self.now) _ refl (ap (λ (m : Mail). m.tickets) c.take_kept.ensures.taken) refl c.happened-in-None.ensures.nothing c.requires.some c.requires.ordered.even
 
 pub returns-in_default-clause-out : goal.returns-in_default-clause-out
 returns-in_default-clause-out g c = rest_out (g.S.ClientSide.waits c.args.self.now.clients) (lists_of g.S.ClientSide.sight c.args.self.now) _ c.happened.result refl refl c.happened.ensures.nothing

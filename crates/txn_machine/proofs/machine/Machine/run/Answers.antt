@@ -23,3 +23,13 @@ pub returns-in-Lock-clause-rests : goal.returns-in-Lock-clause-rests
 returns-in-Lock-clause-rests g c =
     ask_on g.S.ClientSide.fails (g.S.ClientSide.rests c.args.self.now.clients) (g.S.ClientSide.rests c.act-in-Lock.new.self.clients) (lists_of g.S.ClientSide.sight c.args.self.now) (g.S.ClientSide.account c.args.self.now.clients) (record { transaction = c.in-Lock.transaction; act = acts.Lock c.in-Lock.keys }) c.args.line
     (lines.Lock c.in-Lock.transaction c.in-Lock.keys) c.act-in-Lock.result c.in-Lock.is (λ t can. (can.call, can.ask)) c.act-in-Lock.ensures.rests
+
+pub returns-in-Commit-clause-rests : goal.returns-in-Commit-clause-rests
+returns-in-Commit-clause-rests g c =
+    ask_on g.S.ClientSide.fails (g.S.ClientSide.rests c.args.self.now.clients) (g.S.ClientSide.rests c.act-in-Commit.new.self.clients) (lists_of g.S.ClientSide.sight c.args.self.now) (g.S.ClientSide.account c.args.self.now.clients) (record { transaction = c.in-Commit.transaction; act = acts.Commit }) c.args.line
+    (lines.Commit c.in-Commit.transaction) c.act-in-Commit.result c.in-Commit.is (λ t can. (can.call, can.ask)) c.act-in-Commit.ensures.rests
+
+pub returns-in-Rollback-clause-rests : goal.returns-in-Rollback-clause-rests
+returns-in-Rollback-clause-rests g c =
+    ask_on g.S.ClientSide.fails (g.S.ClientSide.rests c.args.self.now.clients) (g.S.ClientSide.rests c.act-in-Rollback.new.self.clients) (lists_of g.S.ClientSide.sight c.args.self.now) (g.S.ClientSide.account c.args.self.now.clients) (record { transaction = c.in-Rollback.transaction; act = acts.Rollback }) c.args.line
+    (lines.Rollback c.in-Rollback.transaction) c.act-in-Rollback.result c.in-Rollback.is (λ t can. (can.call, can.ask)) c.act-in-Rollback.ensures.rests

@@ -1,9 +1,17 @@
-use Rattle.std.proofs.Common.{refl, ap}
+use Rattle.std.proofs.Common.{refl, ap, ◌∙◌}
+use Rattle.txn_post.specs.Mail.{Mail}
+use Rattle.txn_machine.specs.Lists.{Lists, newest}
 use Rattle.txn_machine.specs.Running.{lists_of}
 use Rattle.txn_machine.proofs.Staying.{rest_out, served_out}
 use Rattle.txn_lines.specs.declared.line.Line.TheVariants.{Serve}
 use Rattle.txn_machine.proofs.Arising.{arises_same, outside_to, serve_comes, still_moved}
+use Rattle.txn_machine.proofs.Numbers.{can_end}
 use Rattle.txn_machine.proofs.machine.Machine.serve.Goals as goal
+
+pub returns-clause-can : goal.returns-clause-can
+returns-clause-can g c =
+    can_end c.happened-2.result (lists_of g.S.ClientSide.sight c.args.self.now) _ (ap (λ (l : Lists). newest l) c.in_ok-reply.ensures.lists) (ap (λ (m : Mail). m.tickets) c.keep.ensures ∙ ap (λ (l : Lists). l.mail.tickets) c.in_ok-reply.ensures.lists) (ap (λ (l : Lists). l.sight) c.in_ok-reply.ensures.lists)
+    c.happened-2.ensures.nothing c.requires.some c.requires.ordered.even
 
 pub returns-in_default-clause-out : goal.returns-in_default-clause-out
 returns-in_default-clause-out g c = rest_out (g.S.ClientSide.waits c.args.self.now.clients) (lists_of g.S.ClientSide.sight c.args.self.now) _ c.happened.result refl refl c.happened.ensures.nothing

@@ -6,7 +6,7 @@ use Rattle.txn_machine.proofs.Staying.{live_asleep, rest_out, slept_out}
 use Rattle.txn_history.specs.Event.Event.{Slept}
 use Rattle.txn_lines.specs.declared.line.Line.TheVariants.{Wake}
 use Rattle.txn_machine.specs.Steps.{test_at}
-use Rattle.txn_machine.proofs.Arising.{asleep_unbeaten, arises_same, missed, outside_to, woken_to}
+use Rattle.txn_machine.proofs.Arising.{arises_same, missed, outside_to, woken_to}
 use Rattle.txn_machine.proofs.machine.Machine.wake.Goals as goal
 
 pub returns-clause-tells : goal.returns-clause-tells
@@ -28,5 +28,5 @@ returns-in_default-clause-arises g c =
 
 pub returns-clause-arises : goal.returns-clause-arises
 returns-clause-arises g c =
-    woken_to (g.S.ClientSide.arises c.args.self.now.clients) (g.S.ClientSide.arises c.slept.new.self) (g.S.ClientSide.holds c.args.self.now.clients) (g.S.ClientSide.holds c.slept.new.self) (Wake c.args.ticket) (lists_of g.S.ClientSide.sight c.args.self.now) c.args.ticket c.in_ok-turn.turn c.came.result (asleep_unbeaten (lists_of g.S.ClientSide.sight c.args.self.now) c.args.ticket c.in-Some.place (sym c.find_asleep.ensures.exact ∙ c.in-Some.is)) c.came.ensures.turn refl
+    woken_to (g.S.ClientSide.arises c.args.self.now.clients) (g.S.ClientSide.arises c.slept.new.self) (g.S.ClientSide.holds c.args.self.now.clients) (g.S.ClientSide.holds c.slept.new.self) (Wake c.args.ticket) (lists_of g.S.ClientSide.sight c.args.self.now) c.args.ticket c.in_ok-turn.turn c.came.result c.came.ensures.turn refl
     (λ looks h. ap (λ (o : Option ℕ). if test_at (λ k. true) o then Slept c.args.ticket ∷ h else h) (sym c.find_asleep.ensures.exact ∙ c.in-Some.is)) c.in_ok-turn.ensures.arises
