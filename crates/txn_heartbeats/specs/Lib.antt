@@ -1,0 +1,3 @@
+pub mod Beating
+pub mod Hearts
+pub mod Standing

@@ -1,0 +1,98 @@
+-- What has happened in a run, where heartbeats post beside the calls.
+use Rattle.std.proofs.Common.{◌≡◌, inl, inr, ℕ, ◌+◌, ◌<◌, true, false, List, [], ◌∷◌, ◌++◌, Option, Some, None, refl, sym, ap, ◌∙◌, subst, arith}
+use Rattle.std.proofs.lemmas.List.Elements.{All-nil, All-weaker}
+use Rattle.std.specs.List.{All}
+use Rattle.txn_history.specs.Event.{Event, Has}
+use Rattle.txn_history.specs.Event.Event.{Sent}
+use Rattle.txn_kv.specs.declared.request.Request.{Request}
+use Rattle.txn_kv.specs.declared.ticket.Ticket.{Ticket}
+use Rattle.txn_law.specs.Run.{IsPossible, IsUnused}
+use Rattle.txn_report.specs.declared.outcome.Outcome.{Outcome}
+use Rattle.txn_side.specs.Arising.{Arises, IsBeat, IsOutside, with_posting, with_postings}
+use Rattle.txn_side.specs.Sight.{next_at, ticket_in, with_next}
+use Rattle.txn_side.specs.declared.turn.Ending.{Ending}
+use Rattle.txn_side.specs.declared.turn.Posting.{Posting}
+use Rattle.txn_side.specs.declared.turn.Posting.TheVariants.{Send, Sleep}
+use Rattle.txn_heartbeats.specs.Beating.{AreBeats, AreFresh, IsLine, IsNextBeat, beat_ticket}
+use Rattle.txn_heartbeats.proofs.Lists.{front_rises, next_set, raised_rises}
+use Rattle.txn_heartbeats.proofs.Numbers.{AreCalls}
+
+two : true ≡ false → ⊥
+two q = cc
+
+sent_ticket : (t u : Ticket) (r q : Request) → Sent t r ≡ Sent u q → t ≡ u
+sent_ticket t u r q e = cc
+
+pub postings_then : (ps qs : List Posting) (h : List Event) → with_postings (ps ++ qs) h ≡ with_postings qs (with_postings ps h)
+postings_then [] qs h = refl
+postings_then (p ∷ ps) qs h = postings_then ps qs (with_posting p h)
+
+-- Which tickets were used
+
+fresh_call : (beats : List ℕ) (p : Posting) (h : List Event) → (ticket_in p).beat ≡ false → AreFresh beats h → AreFresh beats (with_posting p h)
+fresh_call beats (Sleep t) h call fresh u q has beat = fresh u q has beat
+fresh_call beats (Send t to r askers) h call fresh u q has beat = elim has [
+  inl same ↦ absurd (two (sym beat ∙ sym (ap (λ (v : Ticket). v.beat) (sent_ticket t u r q same)) ∙ call))
+  | inr was ↦ fresh u q was beat
+]
+
+pub fresh_calls : (beats : List ℕ) (ps : List Posting) (h : List Event) → AreCalls ps → AreFresh beats h → AreFresh beats (with_postings ps h)
+fresh_calls beats [] h calls fresh = fresh
+fresh_calls beats (p ∷ ps) h calls fresh = fresh_calls beats ps (with_posting p h) calls.1 (fresh_call beats p h calls.0 fresh)
+
+-- one line more
+pub fresh_opened : (beats : List ℕ) (h : List Event) → AreFresh beats h → AreFresh (beats ++ 1 ∷ []) h
+fresh_opened beats h fresh t r has beat =
+    let before = fresh t r has beat in
+    let rises = front_rises beats (1 ∷ []) t.line in
+    omega (arith, before, rises)
+
+fresh_raised : (line : ℕ) (from : List ℕ) (h : List Event) → IsLine from line → AreFresh from h → AreFresh (with_next from line) h
+fresh_raised line from h own fresh t r has beat =
+    let before = fresh t r has beat in
+    let rises = raised_rises from line t.line own in
+    omega (arith, before, rises)
+
+fresh_sent : (line : ℕ) (from : List ℕ) (h : List Event) (t : Ticket) (r : Request) → IsLine from line → t ≡ beat_ticket line (next_at from line) → AreFresh from h → AreFresh (with_next from line) (Sent t r ∷ h)
+fresh_sent line from h t r own named fresh u q has beat = elim has [
+  inl same ↦ subst (λ (v : Ticket). v.number < next_at (with_next from line) v.line) (sym named ∙ sent_ticket t u r q same) below
+  | inr was ↦ fresh_raised line from h own fresh u q was beat
+]
+  where
+    below : next_at from line < next_at (with_next from line) line
+    below = let e = next_set from line (next_at from line + 1) own in omega (arith, e)
+
+fresh_unused : (line : ℕ) (from : List ℕ) (h : List Event) (t : Ticket) → t ≡ beat_ticket line (next_at from line) → AreFresh from h → IsUnused h t
+fresh_unused line from h t named fresh q has = absurd (omega (arith, below))
+  where
+    below : next_at from line < next_at from line
+    below = subst (λ (v : Ticket). v.number < next_at from v.line) named (fresh t q has (ap (λ (v : Ticket). v.beat) named))
+
+-- What a heartbeat posts
+
+-- They can have arisen from the history with these postings, and what was right is right still.
+pub record GoOn (arises : List Event → Type 0) (holds : List Event → ℕ → Outcome → Type 0) (to : List ℕ) (before later : List Event) : Type 0 where
+  pub now : arises later
+  pub fresh : AreFresh to later
+  pub kept : (x : ℕ) (o : Outcome) → holds before x o → holds later x o
+
+module _ (arises : List Event → Type 0) (holds : List Event → ℕ → Outcome → Type 0)
+    (beating : (h : List Event) (t : Ticket) (r : Request) → t.beat ≡ true → IsBeat r → IsPossible h (Sent t r) → arises h → Arises arises holds (holds h) (λ n. n) (Sent t r ∷ h) []) where
+  pub beats_arise : (line : ℕ) (from to : List ℕ) (ps : List Posting) (h : List Event) → AreBeats line from ps to → arises h → AreFresh from h → GoOn arises holds to h (with_postings ps h)
+  beats_arise line from to [] h e a fresh = record { now = a; fresh = subst (λ bs. AreFresh bs h) (sym e) fresh; kept = λ x o k. k }
+  beats_arise line from to (Sleep t ∷ ps) h b a fresh = beats_arise line (with_next from line) to ps h b.1 a (fresh_raised line from h b.0.own fresh)
+  beats_arise line from to (Send t target r askers ∷ ps) h b a fresh =
+      let one = beating h t r (ap (λ (v : Ticket). v.beat) b.0.ticket) b.0.beats.0 (fresh_unused line from h t b.0.ticket fresh) a in
+      let rest = beats_arise line (with_next from line) to ps (Sent t r ∷ h) b.1 one.now (fresh_sent line from h t r b.0.own b.0.ticket fresh) in
+      record { now = rest.now; fresh = rest.fresh; kept = λ x o k. rest.kept x o (one.kept x o k) }
+
+  -- after a step of the clients, of which calls ended
+  pub arises_then : (line : ℕ) (from to : List ℕ) (ps qs : List Posting) (es : List Ending) (held : ℕ → Outcome → Type 0) (at : ℕ → ℕ) (h : List Event) → AreBeats line from qs to → AreFresh from (with_postings ps h) → Arises arises holds held at (with_postings ps h) es
+      → Arises (λ g. arises g × AreFresh to g) holds held at (with_postings (ps ++ qs) h) es
+  arises_then line from to ps qs es held at h b fresh a =
+      let more = beats_arise line from to qs (with_postings ps h) b a.now fresh in
+      subst (λ g. Arises (λ g. arises g × AreFresh to g) holds held at g es) (sym (postings_then ps qs h)) (record {
+        now = (more.now, more.fresh);
+        kept = λ x o k. more.kept x o (a.kept x o k);
+        answers = All-weaker (λ e. holds (with_postings ps h) (at e.line) e.outcome) (λ e. holds (with_postings qs (with_postings ps h)) (at e.line) e.outcome) (λ e k. more.kept (at e.line) e.outcome k) es a.answers;
+      })

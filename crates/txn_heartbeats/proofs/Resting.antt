@@ -1,0 +1,88 @@
+-- What calls rest on, and the accounts of transactions, where heartbeats post beside the calls.
+use Rattle.std.proofs.Common.{◌≡◌, inl, inr, ℕ, ◌+◌, ◌<◌, Bool, true, false, List, [], ◌∷◌, ◌++◌, length, Option, Some, None, refl, sym, ap, ◌∙◌, subst, arith}
+use Rattle.std.proofs.lemmas.List.{length-append}
+use Rattle.std.proofs.lemmas.List.Elements.{All-nil, All-weaker}
+use Rattle.std.specs.List.{All, Any}
+use Rattle.txn_history.specs.Event.{Event}
+use Rattle.txn_kv.specs.declared.errors.Error.{Error}
+use Rattle.txn_kv.specs.declared.request.Request.{Request}
+use Rattle.txn_kv.specs.declared.ticket.Ticket.{Ticket}
+use Rattle.txn_report.specs.declared.outcome.Outcome.{Outcome}
+use Rattle.txn_side.specs.Account.{Account, AreClosed, MayTakeIn, TakesIn, after_endings, awaited_line, closed}
+use Rattle.txn_side.specs.Sight.{Sight, Stand, stand_at}
+use Rattle.txn_side.specs.Sight.Stand.{Asking, Calling, HasBegun, Idle, IsClient, Past, Working}
+use Rattle.txn_side.specs.Trace.{ActsOn, EndsFor, FailsIn, HasCome, IsLonger, IsSend, IsSentIn, RestsOn, StillRests, Trace, fails_longer, with_posted}
+use Rattle.txn_side.specs.declared.act.Act.{Act}
+use Rattle.txn_side.specs.declared.turn.Ending.{Ending}
+use Rattle.txn_side.specs.declared.turn.Posting.{Posting}
+use Rattle.txn_side.specs.declared.turn.Turn.{Turn}
+use Rattle.txn_heartbeats.specs.Beating.{with_beats}
+use Rattle.txn_heartbeats.proofs.Seen.{any_left}
+
+-- More is posted
+
+none_any : {X : Type 0} (P : X → Type 0) (xs : List X) → xs ≡ [] → Any P xs → ⊥
+none_any P xs e (k, x, within, there, holds) = absurd (omega (arith, within, ap length e))
+
+longer_posted : (t : Trace) (ps qs : List Posting) → IsLonger (with_posted ps t) (with_posted (ps ++ qs) t)
+longer_posted t ps qs = record {
+  events = λ e h. h;
+  calls = λ c i. i;
+  rollbacks = λ n i. i;
+  groups = λ g i. i;
+  sent = λ u r s. elim s [ inl h ↦ inl h | inr a ↦ inr (any_left (IsSend u r) ps qs a) ];
+}
+
+longer_nothing : (t : Trace) (ps : List Posting) → t.posted ≡ [] → IsLonger t (with_posted ps t)
+longer_nothing t ps none = record {
+  events = λ e h. h;
+  calls = λ c i. i;
+  rollbacks = λ n i. i;
+  groups = λ g i. i;
+  sent = λ u r s. elim s [ inl h ↦ inl h | inr a ↦ absurd (none_any (IsSend u r) t.posted none a) ];
+}
+
+module _ (fails : Bool → List Event → Error → Type 0) where
+  ends_longer : (t : Trace) (ps qs : List Posting) (e : Ending) → EndsFor fails (with_posted ps t) e → EndsFor fails (with_posted (ps ++ qs) t) e
+  ends_longer t ps qs e ends why failed = elim (ends why failed) [
+    inl f ↦ inl (fails_longer (with_posted ps t) (with_posted (ps ++ qs) t) (longer_posted t ps qs) fails e.line why f)
+    | inr r ↦ inr r
+  ]
+
+  module _ (was is : Trace → Type 0) (is_longer : (t longer : Trace) → IsLonger t longer → is t → is longer) where
+    pub rests_then : (t : Trace) (ps qs : List Posting) (es : List Ending) → RestsOn fails was is t ps es → RestsOn fails was is t (ps ++ qs) es
+    rests_then t ps qs es rests before =
+        let r = rests before in
+        (
+          is_longer (with_posted ps t) (with_posted (ps ++ qs) t) (longer_posted t ps qs) r.0,
+          All-weaker (EndsFor fails (with_posted ps t)) (EndsFor fails (with_posted (ps ++ qs) t)) (ends_longer t ps qs) es r.1,
+        )
+
+    -- what comes for a heartbeat ends no call
+    pub rests_deaf : (t : Trace) (ps : List Posting) (es : List Ending) → es ≡ [] → t.posted ≡ [] → StillRests was is → RestsOn fails was is t ps es
+    rests_deaf t ps es none posted still before = (is_longer t (with_posted ps t) (longer_nothing t ps posted) (still t before), subst (All (EndsFor fails (with_posted ps t))) (sym none) (All-nil _))
+
+    pub acts_then : (act : Act) (x newest : ℕ) (account : Account) (turn later : Turn) (qs : List Posting) → later.posted.items ≡ turn.posted.items ++ qs → later.ended ≡ turn.ended → ActsOn fails was is act x newest account (Some turn) → ActsOn fails was is act x newest account (Some later)
+    acts_then act x newest account turn later qs pushed ended acts t posted called refused rolls =
+        subst (λ ps. RestsOn fails was is t ps later.ended.items) (sym pushed) (subst (λ v. RestsOn fails was is t (turn.posted.items ++ qs) v.items) (sym ended) (rests_then t turn.posted.items qs turn.ended.items (acts t posted called refused rolls)))
+
+-- what has come is seen without the numbers of heartbeats
+pub come_beside : (t : Trace) (s : Sight) (beats : List ℕ) (u : Ticket) (event : Request → Event) → HasCome t (with_beats beats s) u event → HasCome t s u event
+come_beside t s beats u event came = record { own = came.own; group = came.group }
+
+-- The accounts
+
+pub takes_then : (act : Act) (x newest : ℕ) (old new : ℕ → Account) (turn later : Turn) → later.ended ≡ turn.ended → MayTakeIn act x newest old new (Some turn) → MayTakeIn act x newest old new (Some later)
+takes_then act x newest old new turn later ended takes = subst (λ v. TakesIn act x newest old new v.items) (sym ended) takes
+
+closed_none : (x : Stand) (account : Account) → closed x [] account ≡ account
+closed_none Idle account = refl
+closed_none (IsClient c) account = refl
+closed_none (Asking c b) account = refl
+closed_none (HasBegun c m) account = refl
+closed_none (Calling c x b) account = refl
+closed_none (Past c) account = refl
+closed_none (Working c) account = refl
+
+pub closed_deaf : (s : Sight) (es : List Ending) (old new : ℕ → Account) → es ≡ [] → ((n : ℕ) → new n ≡ old n) → AreClosed s es old new
+closed_deaf s es old new none same n = subst (λ fs. new n ≡ after_endings s fs n (old n)) (sym none) (same n ∙ sym (closed_none (stand_at s.stands (awaited_line (stand_at s.stands n))) (old n)))
