@@ -23,12 +23,6 @@ pub trait HeartHost: ClientSide {
     ghost use Rattle.txn_law.specs.Run.{IsPossible};
     ghost use Rattle.txn_side.specs.Arising.{Arises, IsBeat};
 
-    // No number of a heartbeat was used: the next of each line is 1 still.
-    ghost unbeaten: { (s : Self) → (Self.ClientSide.sight s).nexts.beats ≡ map (λ (n : ℕ). 1) (Self.ClientSide.sight s).nexts.calls };
-
-    // What a heartbeat sends changes nothing of them.
-    ghost arises_beating: { (s : Self) (h : List Event) (t : Ticket) (r : Request) → t.beat ≡ true → IsBeat r → IsPossible h (Sent t r) → Self.ClientSide.arises s h → Arises (Self.ClientSide.arises s) (Self.ClientSide.holds s) (Self.ClientSide.holds s h) (λ n. n) (Sent t r ∷ h) [] };
-
     /// What the heartbeat of the transaction of a line needs, where a commit of it is open that locks some key.
     fn heartbeat(&self, transaction: u64) -> Result<Option<Heartbeat>, NoMemory>
         requires ready { Self.ClientSide.ready self.now }
@@ -59,4 +53,10 @@ pub trait HeartHost: ClientSide {
         ensures kept { OnOk result (job.new.heartbeat ≡ job.old.heartbeat) }
         ensures alive { OnOk result (IsAlive H.meaning job.new out.new) }
         ensures numbers { OnOk result (HasNumbers out.new) };
+
+    // No number of a heartbeat was used: the next of each line is 1 still.
+    ghost unbeaten: { (s : Self) → (Self.ClientSide.sight s).nexts.beats ≡ map (λ (n : ℕ). 1) (Self.ClientSide.sight s).nexts.calls };
+
+    // What a heartbeat sends changes nothing of them.
+    ghost arises_beating: { (s : Self) (h : List Event) (t : Ticket) (r : Request) → t.beat ≡ true → IsBeat r → IsPossible h (Sent t r) → Self.ClientSide.arises s h → Arises (Self.ClientSide.arises s) (Self.ClientSide.holds s) (Self.ClientSide.holds s h) (λ n. n) (Sent t r ∷ h) [] };
 }
