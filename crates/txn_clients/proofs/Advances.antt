@@ -2,7 +2,7 @@
 use Rattle.std.proofs.Common.{◌≡◌, ℕ, ◌+◌, ◌<◌, true, List, [], ◌∷◌, ◌++◌, length, set, Some, sym, ◌∙◌, subst, append-nil}
 use Rattle.txn_kv.specs.declared.outbox.Errand.TheVariants.{Send, Sleep, Ask}
 use Rattle.txn_history.specs.Posted.{Errand}
-use Rattle.txn_side.specs.Sight.{AskersAre, Goes, Group, GroupsGo, HasAskers, IsAsk, IsNext, Sight, is_live, line_count, ticket_in, with_next}
+use Rattle.txn_side.specs.Sight.{AskersAre, Goes, Group, GroupsGo, HasAskers, IsAsk, IsNext, Sight, is_live, line_count, raised, ticket_in}
 use Rattle.txn_side.specs.declared.turn.Ending.{Ending}
 use Rattle.txn_side.specs.declared.turn.Posting.{Posting}
 use Rattle.txn_side.specs.declared.turn.Turn.{Turn}
@@ -24,7 +24,7 @@ advances_so from to ps es old new posted ended k first g =
 
 -- one is posted
 pub advances_posted : (from to : Turn) (p : Posting) (old new : Sight) → to.posted.items ≡ from.posted.items ++ p ∷ [] → to.ended.items ≡ from.ended.items
-    → is_live old (ticket_in p).line ≡ true → IsNext old.nexts (ticket_in p) → HasAskers p → AskersAre (line_count old) p → new ≡ record old { nexts = with_next old.nexts (ticket_in p).line }
+    → is_live old (ticket_in p).line ≡ true → IsNext old.nexts (ticket_in p) → HasAskers p → AskersAre (line_count old) p → new ≡ record old { nexts = raised (ticket_in p).beat (ticket_in p).line old.nexts }
     → Advances from to old new
 advances_posted from to p old new posted ended live next askers lines e =
     advances_so from to (p ∷ []) [] old new posted (ended ∙ sym (append-nil from.ended.items)) (subst (λ s. Goes (p ∷ []) [] old s) (sym e) (goes_posted p old live next askers lines))
@@ -32,7 +32,7 @@ advances_posted from to p old new posted ended live next askers lines e =
 -- a client's request for timestamps goes out
 pub advances_sent : (from to : Turn) (p : Posting) (h : Group) (client : ℕ) (old new : Sight) → to.posted.items ≡ from.posted.items ++ p ∷ [] → to.ended.items ≡ from.ended.items
     → is_live old (ticket_in p).line ≡ true → IsNext old.nexts (ticket_in p) → HasAskers p → AskersAre (line_count old) p → IsAsk h p → client < length old.groups
-    → new ≡ record old { groups = set old.groups client (Some h); nexts = with_next old.nexts (ticket_in p).line }
+    → new ≡ record old { groups = set old.groups client (Some h); nexts = raised (ticket_in p).beat (ticket_in p).line old.nexts }
     → Advances from to old new
 advances_sent from to p h client old new posted ended live next askers lines ask there e =
     advances_so from to (p ∷ []) [] old new posted (ended ∙ sym (append-nil from.ended.items)) (subst (λ s. Goes (p ∷ []) [] old s) (sym e) (goes_sent p h client old live next askers lines ask there))

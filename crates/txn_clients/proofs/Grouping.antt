@@ -15,7 +15,7 @@ use Rattle.txn_kv.specs.declared.outbox.Errand.TheVariants.{Send, Sleep, Ask}
 use Rattle.txn_kv.specs.declared.request.Request.{Request}
 use Rattle.txn_kv.specs.declared.ticket.Target.{Target}
 use Rattle.txn_kv.specs.declared.ticket.Ticket.{Ticket}
-use Rattle.txn_side.specs.Sight.{IsNext, client_at, lives, next_at, stand_at, ticket_in, with_next}
+use Rattle.txn_side.specs.Sight.{IsNext, client_at, lives, next_at, numbers_of, stand_at, ticket_in, with_next}
 use Rattle.txn_side.specs.Waiting.{IsPosted}
 use Rattle.txn_side.specs.Waiting as side
 use Rattle.txn_side.specs.Waiting.Awaited.{EndOf as SideEnd, ReplyTo as SideReply}
@@ -138,8 +138,8 @@ books_kept cs i new d h e k = let long = length-map cs (λ (c : ClientState). c.
 keeps_one : (from to : List Posting) (p : Posting) → to ≡ from ++ p ∷ [] → Keeps from to
 keeps_one from to p e = (p ∷ [], e)
 
-one_posted : (from to : List Posting) (p : Posting) (line : ℕ) (a : side.Awaited) → to ≡ from ++ p ∷ [] → (ticket_in p).line ≡ line → side.awaited_as p ≡ a → IsPosted to line a
-one_posted from to p line a e own is = subst (λ ps. IsPosted ps line a) (sym e) (any_behind _ from (p ∷ []) (0, p, omega arith, refl, (own, is)))
+one_posted : (from to : List Posting) (p : Posting) (line : ℕ) (a : side.Awaited) → to ≡ from ++ p ∷ [] → (ticket_in p).line ≡ line → (ticket_in p).beat ≡ false → side.awaited_as p ≡ a → IsPosted to line a
+one_posted from to p line a e own beat is = subst (λ ps. IsPosted ps line a) (sym e) (any_behind _ from (p ∷ []) (0, p, omega arith, refl, (own, beat, is)))
 
 -- a request was posted with a ticket
 pub mailed_one : (from to : List Posting) (p : Posting) (u : Ticket) (x : Request) → IsSend u x p → to ≡ from ++ p ∷ [] → Any (IsSend u x) to
@@ -213,7 +213,7 @@ module _ {P Q K : Type 0} where
   hands_posted line client r a rest ps qs s t is how mails posts nexts raised asks clients = record {
     posted = keeps_one ps qs posts.posting posts.pushed;
     sent = λ n store x i. elim i [ inl e ↦ inl (mails n store x e) | inr j ↦ inr j ];
-    done = λ b h. elim (first_among r rest b h) [ inl e ↦ inl (how b e (one_posted ps qs posts.posting line a posts.pushed posts.line_is posts.awaited)) | inr i ↦ inr i ];
+    done = λ b h. elim (first_among r rest b h) [ inl e ↦ inl (how b e (one_posted ps qs posts.posting line a posts.pushed posts.line_is posts.unbeaten posts.awaited)) | inr i ↦ inr i ];
     numbers = λ end h. numbered_more line end (nexts_of s) (nexts_of t) r rest (ap (λ ns. next_at ns line) nexts ∙ with_next_at (nexts_of s) line is.first (nexts_there s line is) ∙ sym raised) h;
     nexts = λ n. subst (λ ns. next_at (nexts_of s) n ≤ next_at ns n) (sym nexts) (with_next_risen (nexts_of s) line is.first (nexts_there s line is) n);
     asks = asks;
@@ -440,16 +440,19 @@ module _ {P Q K : Type 0} where
 -- A request for timestamps is posted, and has its ticket
 
 module _ {P Q K : Type 0} where
-  pub group_sent : (s m t : Clients P Q K) (client line : ℕ) (ticket : Ticket) (posting : Posting) (ps qs : List Posting) → IsLine (sight_of s).stands line → client_at (stand_at (sight_of s).stands line) ≡ Some client → ticket.line ≡ line → IsNext (nexts_of s) ticket
+  pub group_sent : (s m t : Clients P Q K) (client line : ℕ) (ticket : Ticket) (posting : Posting) (ps qs : List Posting) → IsLine (sight_of s).stands line → client_at (stand_at (sight_of s).stands line) ≡ Some client → ticket.line ≡ line → ticket.beat ≡ false → IsNext (sight_of s).nexts ticket
       → qs ≡ ps ++ posting ∷ [] → nexts_of m ≡ with_next (nexts_of s) line → asks_of m ≡ asks_of s → m.clients ≡ s.clients → rows_of m ≡ rows_of s → nexts_of t ≡ nexts_of m → rows_of t ≡ rows_of m → SetsTicket client ticket m t → SendsGroup client ps qs s t
-  group_sent s m t client line ticket posting ps qs is own of next pushed nexts asks clients rows nexts_t rows_t sets = record {
+  group_sent s m t client line ticket posting ps qs is own of beat next pushed nexts asks clients rows nexts_t rows_t sets = record {
     ticket = ticket;
-    owned = record { beat = next.beat; own = ap (λ n. client_at (stand_at (stands_of (rows_of s)) n)) of ∙ own };
-    number = next.number;
-    past = let n = next.number in let f : next_at (nexts_of s) ticket.line ≡ next_at (nexts_of s) line = ap (next_at (nexts_of s)) of in let up : next_at (nexts_of t) ticket.line ≡ next_at (nexts_of s) line + 1 = ap (λ ns. next_at ns ticket.line) (nexts_t ∙ nexts) ∙ ap (next_at (with_next (nexts_of s) line)) of ∙ with_next_at (nexts_of s) line is.first (nexts_there s line is) in omega (arith, n, f, up);
+    owned = record { beat = beat; own = ap (λ n. client_at (stand_at (stands_of (rows_of s)) n)) of ∙ own };
+    number = number;
+    past = let n = number in let f : next_at (nexts_of s) ticket.line ≡ next_at (nexts_of s) line = ap (next_at (nexts_of s)) of in let up : next_at (nexts_of t) ticket.line ≡ next_at (nexts_of s) line + 1 = ap (λ ns. next_at ns ticket.line) (nexts_t ∙ nexts) ∙ ap (next_at (with_next (nexts_of s) line)) of ∙ with_next_at (nexts_of s) line is.first (nexts_there s line is) in omega (arith, n, f, up);
     posted = keeps_one ps qs posting pushed;
     nexts = λ n. subst (λ ns. next_at (nexts_of s) n ≤ next_at ns n) (sym (nexts_t ∙ nexts)) (with_next_risen (nexts_of s) line is.first (nexts_there s line is) n);
     asks = sets.asks ∙ asks;
     book = sets.book ∙ ap (λ (b : Book). record b { ticket = Some ticket }) (books_same s m clients client);
     books = λ c apart. sets.books c apart ∙ books_same s m clients c;
   }
+    where
+      number : ticket.number ≡ next_at (nexts_of s) ticket.line
+      number = next.number ∙ ap (λ b. next_at (numbers_of b (sight_of s).nexts) ticket.line) beat

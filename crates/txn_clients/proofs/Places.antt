@@ -1,8 +1,8 @@
 -- What a place of a line that is set makes of the lists that a machine sees.
-use Rattle.std.proofs.Common.{◌≡◌, ℕ, ◌+◌, ◌-◌, ◌<◌, ◌≤◌, true, List, [], ◌∷◌, ◌++◌, length, map, get_or, set, sym, ap, ◌∙◌, arith}
+use Rattle.std.proofs.Common.{◌≡◌, ℕ, ◌+◌, ◌-◌, ◌<◌, ◌≤◌, true, false, List, [], ◌∷◌, ◌++◌, length, map, get_or, set, sym, ap, ◌∙◌, arith}
 use Rattle.std.specs.Prelude.{OnOk, Result, Ok, Err}
 use Rattle.std.proofs.lemmas.List.{length-map, map-set}
-use Rattle.txn_side.specs.Sight.{AskersAre, HasAskers, IsNext, client_at, is_live, line_count, next_at, stand_at, ticket_in, with_next}
+use Rattle.txn_side.specs.Sight.{AskersAre, HasAskers, IsNext, Nexts, client_at, is_live, line_count, next_at, stand_at, ticket_in, with_next}
 use Rattle.txn_side.specs.declared.turn.Posting.{Posting}
 use Rattle.txn_side.specs.declared.turn.Turn.{Turn}
 use Rattle.txn_clients.specs.Clients.{IsLine, nexts_of, row_at, rows_of, sight_of, stands_of}
@@ -14,7 +14,7 @@ use Rattle.txn_clients.specs.declared.place.Place.{Place}
 use Rattle.txn_clients.specs.declared.row.Row.{Row}
 use Rattle.txn_clients.specs.declared.row.Row.TheVariants.{Plain}
 use Rattle.txn_clients.proofs.Advances.{advances_posted}
-use Rattle.txn_clients.proofs.Tables.{count, map_kept, next_of_line, read_in, sight_at, stand_of_line}
+use Rattle.txn_clients.proofs.Tables.{count, map_kept, next_of_line, raised_calls, read_in, sight_at, stand_of_line}
 
 -- two facts of a call that went well give a third
 pub both_ok : {T E A B C : Type 0} (r : Result T E) → (A → B → C) → OnOk r A → OnOk r B → OnOk r C
@@ -66,8 +66,9 @@ module _ {P Q K : Type 0} where
 
   -- one is posted
   pub posts_one : (s t : Clients P Q K) (from to : Turn) (p : Posting) (line : ℕ) → to.posted.items ≡ from.posted.items ++ p ∷ [] → to.ended.items ≡ from.ended.items
-      → (ticket_in p).line ≡ line → is_live (sight_of s) line ≡ true → IsNext (nexts_of s) (ticket_in p) → HasAskers p → AskersAre (line_count (sight_of s)) p
+      → (ticket_in p).line ≡ line → (ticket_in p).beat ≡ false → is_live (sight_of s) line ≡ true → IsNext (sight_of s).nexts (ticket_in p) → HasAskers p → AskersAre (line_count (sight_of s)) p
       → t.clients ≡ s.clients → rows_of t ≡ rows_of s → nexts_of t ≡ with_next (nexts_of s) line → Advances from to (sight_of s) (sight_of t)
-  posts_one s t from to p line posted ended own live next askers lines clients rows nexts =
+  posts_one s t from to p line posted ended own beat live next askers lines clients rows nexts =
       advances_posted from to p (sight_of s) (sight_of t) posted ended (ap (is_live (sight_of s)) own ∙ live) next askers lines
-      (sight_at s t (stands_of (rows_of s)) (with_next (nexts_of s) (ticket_in p).line) clients (ap stands_of rows) (nexts ∙ ap (with_next (nexts_of s)) (sym own)))
+      (sight_at s t (stands_of (rows_of s)) (with_next (nexts_of s) (ticket_in p).line) clients (ap stands_of rows) (nexts ∙ ap (with_next (nexts_of s)) (sym own))
+      ∙ ap (λ (ns : Nexts). record (sight_of s) { nexts = ns }) (raised_calls (nexts_of s) (ticket_in p) beat))

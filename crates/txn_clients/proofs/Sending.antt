@@ -1,5 +1,5 @@
 -- A client's request for timestamps goes out, and is out no more.
-use Rattle.std.proofs.Common.{◌≡◌, ◌⊎◌, inl, ℕ, ◌<◌, ◌≤◌, true, List, [], ◌∷◌, ◌++◌, length, map, get_or, set, Option, Some, None, refl, sym, ap, ◌∙◌, subst, arith}
+use Rattle.std.proofs.Common.{◌≡◌, ◌⊎◌, inl, ℕ, ◌<◌, ◌≤◌, true, false, List, [], ◌∷◌, ◌++◌, length, map, get_or, set, Option, Some, None, refl, sym, ap, ◌∙◌, subst, arith}
 use Rattle.std.proofs.lemmas.List.{length-map, map-set}
 use Rattle.std.specs.List.{All, Any}
 use Rattle.std.specs.Prelude.{IfOk, IfSome, Result}
@@ -7,7 +7,7 @@ use Rattle.txn_kv.specs.declared.reply.Reply.{Reply}
 use Rattle.txn_kv.specs.declared.reply.Reply.TheVariants as replies
 use Rattle.txn_kv.specs.declared.reply.TsoResponse.{TsoResponse}
 use Rattle.txn_kv.specs.declared.ticket.Ticket.{Ticket}
-use Rattle.txn_side.specs.Sight.{AskersAre, Group, HasAskers, IsAsk, IsNext, is_live, line_count, ticket_in, with_next}
+use Rattle.txn_side.specs.Sight.{AskersAre, Group, HasAskers, IsAsk, IsNext, Nexts, is_live, line_count, ticket_in, with_next}
 use Rattle.txn_side.specs.declared.turn.Posting.{Posting}
 use Rattle.txn_side.specs.declared.turn.Turn.{Turn}
 use Rattle.txn_tso.specs.Oracle.{Answer, answered, askers_out}
@@ -20,7 +20,7 @@ use Rattle.txn_clients.specs.declared.clients.Clients.{Clients}
 use Rattle.txn_clients.proofs.Advances.{advances_sent}
 use Rattle.txn_clients.proofs.Groups.{IsIn, left_in}
 use Rattle.txn_clients.proofs.Stands.{or_same}
-use Rattle.txn_clients.proofs.Tables.{map_kept, read_in, sight_by}
+use Rattle.txn_clients.proofs.Tables.{map_kept, raised_calls, read_in, sight_by}
 use Rattle.txn_clients.proofs.Timestamps.{gives_in}
 
 -- One of the clients is replaced
@@ -105,10 +105,11 @@ module _ {P Q K : Type 0} where
 
   -- it goes out
   pub sends_one : (s t : Clients P Q K) (from to : Turn) (p : Posting) (h : Group) (client line : ℕ) → to.posted.items ≡ from.posted.items ++ p ∷ [] → to.ended.items ≡ from.ended.items
-      → (ticket_in p).line ≡ line → is_live (sight_of s) line ≡ true → IsNext (nexts_of s) (ticket_in p) → HasAskers p → AskersAre (line_count (sight_of s)) p → IsAsk h p → client < length (crashed_of s)
+      → (ticket_in p).line ≡ line → (ticket_in p).beat ≡ false → is_live (sight_of s) line ≡ true → IsNext (sight_of s).nexts (ticket_in p) → HasAskers p → AskersAre (line_count (sight_of s)) p → IsAsk h p → client < length (crashed_of s)
       → crashed_of t ≡ crashed_of s → groups_of t ≡ set (groups_of s) client (Some h) → rows_of t ≡ rows_of s → nexts_of t ≡ with_next (nexts_of s) line → Advances from to (sight_of s) (sight_of t)
-  sends_one s t from to p h client line posted ended own live next askers lines ask inside crashed groups rows nexts =
+  sends_one s t from to p h client line posted ended own beat live next askers lines ask inside crashed groups rows nexts =
       let within : client < length (groups_of s) = let short = there s.clients.items client inside in let long = length-map s.clients.items group_of in omega (arith, short, long) in
       advances_sent from to p h client (sight_of s) (sight_of t) posted ended (ap (is_live (sight_of s)) own ∙ live) next askers lines ask within
       (sight_by (crashed_of t) (crashed_of s) (groups_of t) (set (groups_of s) client (Some h)) (stands_of (rows_of t)) (stands_of (rows_of s)) (nexts_of t) (with_next (nexts_of s) (ticket_in p).line)
-      crashed groups (ap stands_of rows) (nexts ∙ ap (with_next (nexts_of s)) (sym own)))
+      crashed groups (ap stands_of rows) (nexts ∙ ap (with_next (nexts_of s)) (sym own))
+      ∙ ap (λ (ns : Nexts). record (sight_of s) { groups = set (groups_of s) client (Some h); nexts = ns }) (raised_calls (nexts_of s) (ticket_in p) beat))

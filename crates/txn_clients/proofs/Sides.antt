@@ -70,6 +70,13 @@ module _ {P Q K A B D : Type 0} (w : Ways P Q K A B D) where
       two : true ≡ false → ⊥
       two q = cc
 
+  -- nor for the end of its sleep
+  pub waits_asleep : (s : Clients P Q K) (ticket : Ticket) (ps : List Posting) → ticket.beat ≡ true → WaitsOn (HearsEnd ticket) ps (waits_of w s) (waits_of w s) (sight_of s) (sight_of s)
+  waits_asleep s ticket ps beat = record { lines = λ n a x. inl (x, λ h. two (sym beat ∙ h.0)); groups = λ g o. inl (o, λ h. two (sym beat ∙ h.0)) }
+    where
+      two : true ≡ false → ⊥
+      two q = cc
+
   -- the reply to a request of a line, which is not its client's request for timestamps
   pub waits_reply : (s t : Clients P Q K) (ticket : Ticket) (client : ℕ) (x : Arrival) (ps : List Posting) (es : List Ending) → awaited_as x ≡ ReplyTo ticket.number → client_at (stand_at (sight_of s).stands ticket.line) ≡ Some client → ((book_at s client).ticket ≡ Some ticket → ⊥) → IsReady w s
       → Steps w None (HearsAt ticket.line (tells.Heard x)) ps es s t → GroupsGo ps (sight_of s) (sight_of t) → WaitsOn (HearsReply ticket) ps (waits_of w s) (waits_of w t) (sight_of s) (sight_of t)
@@ -116,8 +123,8 @@ module _ {P Q K A B D : Type 0} (w : Ways P Q K A B D) where
   -- a sleep has ended
   pub waits_end : (s t : Clients P Q K) (ticket : Ticket) (x : Arrival) (ps : List Posting) (es : List Ending) → awaited_as x ≡ EndOf ticket.number → Steps w None (HearsAt ticket.line (tells.Heard x)) ps es s t → GroupsGo ps (sight_of s) (sight_of t) → WaitsOn (HearsEnd ticket) ps (waits_of w s) (waits_of w t) (sight_of s) (sight_of t)
   waits_end s t ticket x ps es as_end g gone =
-      waits_on w s t (HearsAt ticket.line (tells.Heard x)) (HearsEnd ticket) ps es g (λ n a h. (h.0, ap kind h.1 ∙ sym as_end))
-      (λ group out. elim (gone group out) [ inl o ↦ inl (o, λ h. other group.ticket.number h.1) | inr a ↦ inr a ])
+      waits_on w s t (HearsAt ticket.line (tells.Heard x)) (HearsEnd ticket) ps es g (λ n a h. (h.1, ap kind h.2 ∙ sym as_end))
+      (λ group out. elim (gone group out) [ inl o ↦ inl (o, λ h. other group.ticket.number h.2) | inr a ↦ inr a ])
     where
       other : (m : ℕ) → SideReply m ≡ SideEnd ticket.number → ⊥
       other m q = cc

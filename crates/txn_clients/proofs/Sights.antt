@@ -7,7 +7,7 @@ use Rattle.std.specs.List.{All, Any, filter}
 use Rattle.txn_report.specs.declared.outcome.Outcome.{Outcome}
 use Rattle.txn_report.specs.declared.outcome.Outcome.TheVariants.{Ok, Err, Unfinished, Done, Skipped}
 use Rattle.txn_report.specs.declared.outcome.Payload.TheVariants.{Unit as Nothing, Number, Commit as Committed}
-use Rattle.txn_side.specs.Sight.{AskEnds, ArePosted, AskersAre, CallEnds, Goes, Group, GroupsGo, HasAskers, IsAsk, IsNext, IsOut, LineGoes, Sight, Stand, StaysOrEnds, client_at, is_live, line_count, lives, outcomes_of, stand_at, still_open, ticket_in, with_next, with_stand}
+use Rattle.txn_side.specs.Sight.{AskEnds, ArePosted, AskersAre, CallEnds, Goes, Group, GroupsGo, HasAskers, IsAsk, IsNext, IsOut, LineGoes, Nexts, Sight, Stand, StaysOrEnds, client_at, is_live, line_count, lives, outcomes_of, raised, stand_at, still_open, ticket_in, with_stand}
 use Rattle.txn_side.specs.Sight.Stand.{Asking, Calling, HasBegun, Idle, IsClient, Past, Working}
 use Rattle.txn_side.specs.declared.turn.Ending.{Ending}
 use Rattle.txn_side.specs.declared.turn.Posting.{Posting}
@@ -105,9 +105,9 @@ line_then es fs n (Calling c x b) mid new h k = subst (λ os. StaysOrEnds (Calli
 line_then es fs n (Past c) mid new h k = let q = quiet_then es fs n (Past c) mid new h (subst (λ s. LineGoes fs n s new) h.1 k) in (q.0, q.1)
 line_then es fs n (Working c) mid new h k = let q = quiet_then es fs n (Working c) mid new h (subst (λ s. LineGoes fs n s new) h.1 k) in (q.0, q.1)
 
-posted_then : (from mid to : List ℕ) (ps qs : List Posting) → ArePosted from ps mid → ArePosted mid qs to → ArePosted from (ps ++ qs) to
+posted_then : (from mid to : Nexts) (ps qs : List Posting) → ArePosted from ps mid → ArePosted mid qs to → ArePosted from (ps ++ qs) to
 posted_then from mid to [] qs h k = subst (λ ns. ArePosted ns qs to) h k
-posted_then from mid to (p ∷ ps) qs h k = (h.0, h.1, posted_then (with_next from (ticket_in p).line) mid to ps qs h.2 k)
+posted_then from mid to (p ∷ ps) qs h k = (h.0, h.1, posted_then (raised (ticket_in p).beat (ticket_in p).line from) mid to ps qs h.2 k)
 
 -- A line keeps its client.
 
@@ -199,7 +199,7 @@ goes_left old new crashed stands nexts groups = record {
 
 -- one is posted, and the request of its ticket may be out
 goes_one : (p : Posting) (old new : Sight) → is_live old (ticket_in p).line ≡ true → IsNext old.nexts (ticket_in p) → HasAskers p → AskersAre (line_count old) p
-    → new.crashed ≡ old.crashed → new.stands ≡ old.stands → new.nexts ≡ with_next old.nexts (ticket_in p).line → GroupsGo (p ∷ []) old new → Goes (p ∷ []) [] old new
+    → new.crashed ≡ old.crashed → new.stands ≡ old.stands → new.nexts ≡ raised (ticket_in p).beat (ticket_in p).line old.nexts → GroupsGo (p ∷ []) old new → Goes (p ∷ []) [] old new
 goes_one p old new live next askers lines crashed stands nexts groups = record {
   crashed = crashed;
   count = ap length stands;
@@ -212,14 +212,14 @@ goes_one p old new live next askers lines crashed stands nexts groups = record {
 }
 
 -- one is posted
-pub goes_posted : (p : Posting) (s : Sight) → is_live s (ticket_in p).line ≡ true → IsNext s.nexts (ticket_in p) → HasAskers p → AskersAre (line_count s) p → Goes (p ∷ []) [] s (record s { nexts = with_next s.nexts (ticket_in p).line })
-goes_posted p s live next askers lines = goes_one p s (record s { nexts = with_next s.nexts (ticket_in p).line }) live next askers lines refl refl refl (λ g out. inl out)
+pub goes_posted : (p : Posting) (s : Sight) → is_live s (ticket_in p).line ≡ true → IsNext s.nexts (ticket_in p) → HasAskers p → AskersAre (line_count s) p → Goes (p ∷ []) [] s (record s { nexts = raised (ticket_in p).beat (ticket_in p).line s.nexts })
+goes_posted p s live next askers lines = goes_one p s (record s { nexts = raised (ticket_in p).beat (ticket_in p).line s.nexts }) live next askers lines refl refl refl (λ g out. inl out)
 
 -- a client's request for timestamps goes out
 pub goes_sent : (p : Posting) (h : Group) (client : ℕ) (s : Sight) → is_live s (ticket_in p).line ≡ true → IsNext s.nexts (ticket_in p) → HasAskers p → AskersAre (line_count s) p → IsAsk h p → client < length s.groups
-    → Goes (p ∷ []) [] s (record s { groups = set s.groups client (Some h); nexts = with_next s.nexts (ticket_in p).line })
+    → Goes (p ∷ []) [] s (record s { groups = set s.groups client (Some h); nexts = raised (ticket_in p).beat (ticket_in p).line s.nexts })
 goes_sent p h client s live next askers lines ask there =
-    goes_one p s (record s { groups = set s.groups client (Some h); nexts = with_next s.nexts (ticket_in p).line }) live next askers lines refl refl refl (λ g out. by g (sent_in s.groups client h g there out))
+    goes_one p s (record s { groups = set s.groups client (Some h); nexts = raised (ticket_in p).beat (ticket_in p).line s.nexts }) live next askers lines refl refl refl (λ g out. by g (sent_in s.groups client h g there out))
   where
     by : (g : Group) → IsIn s.groups g ⊎ (h ≡ g) → IsOut s g ⊎ Any (IsAsk g) (p ∷ [])
     by g (inl was) = inl was

@@ -1,12 +1,13 @@
 -- The lists that a machine sees, of what is kept in one place a line.
-use Rattle.std.proofs.Common.{◌≡◌, ◌≢◌, ℕ, zero, suc, ◌-◌, ◌<◌, ◌≤◌, Bool, false, List, [], ◌∷◌, length, map, get_or, set, Option, refl, sym, ap, ◌∙◌, subst, arith}
+use Rattle.std.proofs.Common.{◌≡◌, ◌≢◌, ℕ, zero, suc, ◌+◌, ◌-◌, ◌<◌, ◌≤◌, Bool, false, List, [], ◌∷◌, length, map, get_or, set, Option, refl, sym, ap, ◌∙◌, subst, arith}
 use Rattle.std.proofs.lemmas.List.{length-map, map-set}
 use Rattle.std.proofs.lemmas.List.Elements.{All-set}
 use Rattle.std.specs.List.{All}
 use Rattle.txn_commit.specs.Committing.{Ways}
-use Rattle.txn_side.specs.Sight.{Group, IsNext, Sight, Stand, line_count, next_at, stand_at}
+use Rattle.txn_kv.specs.declared.ticket.Ticket.{Ticket}
+use Rattle.txn_side.specs.Sight.{Group, IsNext, Nexts, Sight, Stand, line_count, next_at, raised, stand_at, with_next}
 use Rattle.txn_side.specs.Sight.Stand.{Asking, Calling, HasBegun, Idle, IsClient, Past, Working}
-use Rattle.txn_clients.specs.Clients.{AreReady, IsLine, crashed_of, groups_of, nexts_of, row_at, rows_of, sight_of, stands_of}
+use Rattle.txn_clients.specs.Clients.{AreReady, IsLine, crashed_of, groups_of, nexts_of, of_calls, row_at, rows_of, sight_of, stands_of, unbeaten}
 use Rattle.txn_clients.specs.Groups.{group_of}
 use Rattle.txn_clients.specs.Matching.{AreMatched}
 use Rattle.txn_clients.specs.Rows.{Rests, RowReady, stand_of, with_waits}
@@ -39,10 +40,22 @@ begun_by (HasBegun c m) = c
 begun_by _ = 0
 
 abbrev sight : List Bool → List (Option Group) → List Stand → List ℕ → Sight
-sight c g r n = record { crashed = c; groups = g; stands = r; nexts = n }
+sight c g r n = record { crashed = c; groups = g; stands = r; nexts = of_calls n }
 
 pub sight_by : (c d : List Bool) (g h : List (Option Group)) (r s : List Stand) (n m : List ℕ) → c ≡ d → g ≡ h → r ≡ s → n ≡ m → sight c g r n ≡ sight d h s m
 sight_by c d g h r s n m e f k l = rw (e, f, k, l) refl
+
+-- where a call posts, the numbers of its line's heartbeat stay
+unbeaten_set : (nexts : List ℕ) (i n : ℕ) → unbeaten (set nexts i n) ≡ unbeaten nexts
+unbeaten_set [] i n = refl
+unbeaten_set (x ∷ xs) zero n = refl
+unbeaten_set (x ∷ xs) (suc i) n = ap (λ zs. 1 ∷ zs) (unbeaten_set xs i n)
+
+pub raised_calls : (nexts : List ℕ) (t : Ticket) → t.beat ≡ false → of_calls (with_next nexts t.line) ≡ raised t.beat t.line (of_calls nexts)
+raised_calls nexts t beat = by (unbeaten_set nexts (t.line - 1) (next_at nexts t.line + 1)) ∙ ap (λ b. raised b t.line (of_calls nexts)) (sym beat)
+  where
+    by : unbeaten (with_next nexts t.line) ≡ unbeaten nexts → of_calls (with_next nexts t.line) ≡ raised false t.line (of_calls nexts)
+    by e = λ i. record { calls = with_next nexts t.line; beats = e i }
 
 module _ {P Q K : Type 0} where
   pub count : (s : Clients P Q K) → line_count (sight_of s) ≡ length s.places.items
@@ -63,8 +76,8 @@ module _ {P Q K : Type 0} where
   nexts_count s = length-map s.places.items (λ p. p.next) ∙ sym (count s)
 
   -- what is next of a line
-  pub is_next : (s : Clients P Q K) (line number : ℕ) → IsLine (sight_of s).stands line → number ≡ next_at (nexts_of s) line → IsNext (nexts_of s) (record { line = line; beat = false; number = number })
-  is_next s line number is e = record { beat = refl; first = is.first; last = subst (λ n. line ≤ n) (sym (nexts_count s)) is.last; number = e }
+  pub is_next : (s : Clients P Q K) (line number : ℕ) → IsLine (sight_of s).stands line → number ≡ next_at (nexts_of s) line → IsNext (sight_of s).nexts (record { line = line; beat = false; number = number })
+  is_next s line number is e = record { first = is.first; last = subst (λ n. line ≤ n) (sym (nexts_count s)) is.last; number = e }
 
   pub same_clients : (s t : Clients P Q K) → t.clients ≡ s.clients → crashed_of t ≡ crashed_of s
   same_clients s t e = ap (λ v. map (λ (c : ClientState). c.crashed) v.items) e
@@ -73,7 +86,7 @@ module _ {P Q K : Type 0} where
   same_groups s t e = ap (λ v. map group_of v.items) e
 
   -- the clients are the same, but for what stands at their lines, and for what these post
-  pub sight_at : (s t : Clients P Q K) (ss : List Stand) (ns : List ℕ) → t.clients ≡ s.clients → stands_of (rows_of t) ≡ ss → nexts_of t ≡ ns → sight_of t ≡ record (sight_of s) { stands = ss; nexts = ns }
+  pub sight_at : (s t : Clients P Q K) (ss : List Stand) (ns : List ℕ) → t.clients ≡ s.clients → stands_of (rows_of t) ≡ ss → nexts_of t ≡ ns → sight_of t ≡ record (sight_of s) { stands = ss; nexts = of_calls ns }
   sight_at s t ss ns c r n = sight_by (crashed_of t) (crashed_of s) (groups_of t) (groups_of s) (stands_of (rows_of t)) ss (nexts_of t) ns (same_clients s t c) (same_groups s t c) r n
 
   pub line_kept : (s t : Clients P Q K) (line : ℕ) → rows_of t ≡ rows_of s → IsLine (sight_of s).stands line → IsLine (sight_of t).stands line

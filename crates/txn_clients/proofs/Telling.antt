@@ -127,7 +127,7 @@ module _ {P Q K : Type 0} where
   put_row s at q h = ap (λ rs. row_at rs at) (rows_set s.places.items at q) ∙ or_same (rows_of s) at q.row row.Plain h
 
   -- the number that is kept for a line is its next
-  pub ticket_next : (s : Clients P Q K) (line : ℕ) (p : Place P Q K) → IsLine (sight_of s).stands line → p ≡ get_or s.places.items (line - 1) p → IsNext (nexts_of s) (record { line = line; beat = false; number = p.next })
+  pub ticket_next : (s : Clients P Q K) (line : ℕ) (p : Place P Q K) → IsLine (sight_of s).stands line → p ≡ get_or s.places.items (line - 1) p → IsNext (sight_of s).nexts (record { line = line; beat = false; number = p.next })
   ticket_next s line p is e = is_next s line p.next is (ap (λ (q : Place P Q K). q.next) e ∙ sym (next_of_line s line p is.first (let one = is.first in let last = is.last in let long = count s in omega (arith, one, last, long))))
 
   -- Who hears.

@@ -5,7 +5,7 @@ use Rattle.std.proofs.Common.{suc}
 use Rattle.txn_commit.specs.Committing.{Ways}
 use Rattle.txn_kv.specs.declared.reply.Reply.{Reply}
 use Rattle.txn_kv.specs.declared.ticket.Ticket.{Ticket}
-use Rattle.txn_side.specs.Sight.{Group, IsGiven, Sight, Stand, is_live, stand_at}
+use Rattle.txn_side.specs.Sight.{Group, IsGiven, Nexts, Sight, Stand, is_live, stand_at}
 use Rattle.txn_side.specs.Sight.Stand.{Asking, Calling, HasBegun, Idle, IsClient, Past, Working}
 use Rattle.txn_tso.specs.Oracle.{Answer}
 use Rattle.txn_clients.specs.Groups.{IsTimed, group_of, lines_out}
@@ -38,8 +38,16 @@ asks_at s client = slice_index_or (map lines_out s.clients.items) client []
 abbrev pub nexts_of : {P Q K : Type 0} → Clients P Q K → List ℕ
 nexts_of s = map (λ p. p.next) s.places.items
 
+-- no line has a heartbeat
+abbrev pub unbeaten : List ℕ → List ℕ
+unbeaten nexts = map (λ n. 1) nexts
+
+-- the numbers of calls, where these alone post
+abbrev pub of_calls : List ℕ → Nexts
+of_calls nexts = record { calls = nexts; beats = unbeaten nexts }
+
 abbrev pub sight_of : {P Q K : Type 0} → Clients P Q K → Sight
-sight_of s = record { crashed = crashed_of s; groups = groups_of s; stands = stands_of (rows_of s); nexts = nexts_of s }
+sight_of s = record { crashed = crashed_of s; groups = groups_of s; stands = stands_of (rows_of s); nexts = of_calls (nexts_of s) }
 
 -- each row may be called, and each transaction that waits has a call that does
 pub record AreReady {P Q K A B D : Type 0} (w : Ways P Q K A B D) (rows : List (Row P Q K)) : Type 0 where

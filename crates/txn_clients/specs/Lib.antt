@@ -13,4 +13,5 @@ pub mod Want
 pub mod Arising
 pub mod Growing
 pub mod Unmoved
+pub mod Beating
 pub mod Ended

@@ -345,11 +345,12 @@ pub record IsNumberedTo (next : ℕ) (sends : List Errand) (end : ℕ) : Type 0 
   pub end_ask : ℕ
   pub numbered : AreNumbered next ask sends end end_ask
 
--- one was posted for the line, which waits for it so
+-- one was posted for the line, whose call waits for it so
 pub record PostsOne (line : ℕ) (a : side.Awaited) (from to : List Posting) : Type 0 where
   pub posting : Posting
   pub pushed : to ≡ from ++ posting ∷ []
   pub line_is : (ticket_in posting).line ≡ line
+  pub unbeaten : (ticket_in posting).beat ≡ false
   pub awaited : side.awaited_as posting ≡ a
 
 -- one more asks at a client

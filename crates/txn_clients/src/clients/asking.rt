@@ -402,6 +402,10 @@ where
     }
 
     fn slept(&mut self, ticket: Ticket, now: u64) -> Result<Turn, NoMemory> {
+        // No call waits for the end of a beat's sleep.
+        if ticket.beat {
+            return Ok(Turn::new(self.alloc));
+        }
         match self.live_client(ticket.line) {
             None => Ok(Turn::new(self.alloc)),
             Some(client) => {

@@ -118,7 +118,8 @@ impl<P, Q, K> Clients<P, Q, K> {
 
     /// The next ticket of a line of a client.
     fn next_ticket(&self, client: usize, line: u64) -> Result<Ticket, NoMemory>
-        ensures next { IfOk result (IsNext (nexts_of self.now)) }
+        ensures next { IfOk result (IsNext (sight_of self.now).nexts) }
+        ensures beat { IfOk result (λ ticket. ticket.beat ≡ false) }
         ensures line { IfOk result (λ ticket. ticket.line ≡ line) }
         ensures is { OnOk result (IsLine (sight_of self.now).stands line) }
         ensures live { OnOk result (is_live (sight_of self.now) line ≡ true) }

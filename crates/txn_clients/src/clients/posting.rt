@@ -75,7 +75,8 @@ impl<P, Q, K> Clients<P, Q, K> {
         requires line { IsLine (sight_of self.old).stands line }
         requires live { is_live (sight_of self.old) line ≡ true }
         requires own { (ticket_in posting).line ≡ line }
-        requires next { IsNext (nexts_of self.old) (ticket_in posting) }
+        requires beat { (ticket_in posting).beat ≡ false }
+        requires next { IsNext (sight_of self.old).nexts (ticket_in posting) }
         requires askers { HasAskers posting }
         requires lines { AskersAre (line_count (sight_of self.old)) posting }
         ensures posted { OnOk result (turn.new.posted.items ≡ turn.old.posted.items ++ posting ∷ []) }

@@ -19,7 +19,7 @@ returns-in-Send-clause-hands g c = ok_five c.send.result
 pub returns-in-Sleep-clause-hands : goal.returns-in-Sleep-clause-hands
 returns-in-Sleep-clause-hands g c = ok_four c.post.result
     (λ pushed nexts asks clients rest. subst (λ (r : Errand). HandsOn c.args.line c.args.client (r ∷ rest) rest c.args.turn.now.posted.items c.post.new.turn.posted.items c.args.self.now c.post.new.self) (sym c.in-Sleep.is) (hands_slept c.args.line c.args.client c.in-Sleep.number _ rest c.args.turn.now.posted.items c.post.new.turn.posted.items c.args.self.now c.post.new.self c.requires.line
-    (record { posting = _; pushed = pushed; line_is = ap (λ (t : Ticket). t.line) c.ticket_of.ensures; awaited = ap (λ (t : Ticket). EndOf t.number) c.ticket_of.ensures }) nexts asks clients))
+    (record { posting = _; pushed = pushed; line_is = ap (λ (t : Ticket). t.line) c.ticket_of.ensures; unbeaten = ap (λ (t : Ticket). t.beat) c.ticket_of.ensures; awaited = ap (λ (t : Ticket). EndOf t.number) c.ticket_of.ensures }) nexts asks clients))
     c.post.ensures.posted c.post.ensures.nexts c.post.ensures.asks c.post.ensures.clients
 
 pub returns-in-Ask-clause-hands : goal.returns-in-Ask-clause-hands

@@ -13,7 +13,7 @@ returns-clause-advances g c =
     let posted = c.in_ok-post.ensures in
     let asks = asks_at c.post.new.self c.args.client in
     sends_one c.args.self.now c.set_group.new.self c.args.turn.now c.post.new.turn _ (record { ticket = c.in_ok-ticket.ticket; askers = asks }) c.args.client c.in-Some.line.now
-    posted.posted (ap (λ v. v.items) posted.ended) c.in_ok-ticket.ensures.line c.in_ok-ticket.ensures.live c.in_ok-ticket.ensures.next
+    posted.posted (ap (λ v. v.items) posted.ended) c.in_ok-ticket.ensures.line c.in_ok-ticket.ensures.beat c.in_ok-ticket.ensures.live c.in_ok-ticket.ensures.next
     (first_asks c.requires.group.0 c.in-Some.line.now c.in_ok-ticket.ticket.line c.args.group.request c.args.group.askers c.as_slice.result.now c.as_slice.ensures c.in-Some.ensures.value c.in_ok-ticket.ensures.line c.requires.group.1)
     c.requires.lines (refl, c.requires.askers ∙ sym (same_asks c.args.self.now c.post.new.self c.args.client posted.clients)) c.requires.client
     (c.set_group.ensures.crashed ∙ same_clients c.args.self.now c.post.new.self posted.clients)
@@ -24,7 +24,7 @@ pub returns-clause-sends : goal.returns-clause-sends
 returns-clause-sends g c =
     let posted = c.in_ok-post.ensures in
     group_sent c.args.self.now c.post.new.self c.set_group.new.self c.args.client c.in-Some.line.now c.in_ok-ticket.ticket _ c.args.turn.now.posted.items c.post.new.turn.posted.items
-    c.in_ok-ticket.ensures.is c.in_ok-ticket.ensures.own c.in_ok-ticket.ensures.line c.in_ok-ticket.ensures.next posted.posted posted.nexts posted.asks posted.clients posted.rows c.set_group.ensures.nexts c.set_group.ensures.rows c.set_group.ensures.ticket
+    c.in_ok-ticket.ensures.is c.in_ok-ticket.ensures.own c.in_ok-ticket.ensures.line c.in_ok-ticket.ensures.beat c.in_ok-ticket.ensures.next posted.posted posted.nexts posted.asks posted.clients posted.rows c.set_group.ensures.nexts c.set_group.ensures.rows c.set_group.ensures.ticket
 
 pub returns-clause-groups : goal.returns-clause-groups
 returns-clause-groups g c =

@@ -1,6 +1,6 @@
 use Rattle.std.proofs.Common.{sym, ap, subst}
 use Rattle.txn_side.specs.Sight.{IsGiven}
-use Rattle.txn_clients.specs.Clients.{sight_of, stands_of, rows_of}
+use Rattle.txn_clients.specs.Clients.{of_calls, rows_of, sight_of, stands_of}
 use Rattle.txn_clients.specs.Going.{Advances, NamesIn}
 use Rattle.txn_clients.specs.Groups.{IsTimed}
 use Rattle.txn_clients.proofs.Advances.{advances_left, advances_then}
@@ -23,7 +23,7 @@ returns-clause-advances g c =
     on_ok c.give.result
     (λ (a : Advances c.args.turn.now c.give.new.turn mid (sight_of c.give.new.self)).
     advances_then c.args.turn.now c.args.turn.now c.give.new.turn old mid (sight_of c.give.new.self)
-    (advances_left c.args.turn.now old mid done.crashed (ap stands_of done.rows) done.nexts done.groups) a)
+    (advances_left c.args.turn.now old mid done.crashed (ap stands_of done.rows) (ap of_calls done.nexts) done.groups) a)
     c.give.ensures.advances
 
 pub returns-clause-names : goal.returns-clause-names

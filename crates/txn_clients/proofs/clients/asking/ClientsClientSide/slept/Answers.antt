@@ -4,7 +4,7 @@ use Rattle.txn_clients.specs.Going.{OfLine}
 use Rattle.txn_clients.specs.Rows.{Brings}
 use Rattle.txn_clients.proofs.Naming.{named_so}
 use Rattle.txn_clients.proofs.Timestamps.{both_if_ok}
-use Rattle.txn_clients.proofs.Sides.{on_ok_if, waits_end}
+use Rattle.txn_clients.proofs.Sides.{on_ok_if, waits_asleep, waits_end}
 use Rattle.std.proofs.Common.{None, Some}
 use Rattle.std.proofs.lemmas.Result.{IfOk-weaker}
 use Rattle.txn_commit.specs.Committing.{ways}
@@ -38,8 +38,17 @@ returns-in-None-clause-rests g c t posted was = rests_quiet (ways g.P.Plan.meani
 
 pub returns-in-Some-clause-arises : goal.returns-in-Some-clause-arises
 returns-in-Some-clause-arises g c = IfOk-weaker c.hear.result _ _
-    (λ turn steps h beat a. arises_slept (ways g.P.Plan.meaning g.Q.Plan.meaning g.K.Plan.meaning g.P.PlanFor.refuses g.Q.PlanFor.refuses g.K.PlanFor.refuses) c.args.self.now c.hear.new.self c.args.ticket c.in-Some.client turn.posted.items turn.ended.items h beat c.in-Some.ensures.client members steps a)
+    (λ turn steps h a. arises_slept (ways g.P.Plan.meaning g.Q.Plan.meaning g.K.Plan.meaning g.P.PlanFor.refuses g.Q.PlanFor.refuses g.K.PlanFor.refuses) c.args.self.now c.hear.new.self c.args.ticket c.in-Some.client turn.posted.items turn.ended.items h c.if-ticket.false c.in-Some.ensures.client members steps a)
     c.hear.ensures.leads
 
 pub returns-in-None-clause-arises : goal.returns-in-None-clause-arises
-returns-in-None-clause-arises g c h beat a = passes_quietly (ways g.P.Plan.meaning g.Q.Plan.meaning g.K.Plan.meaning g.P.PlanFor.refuses g.Q.PlanFor.refuses g.K.PlanFor.refuses) c.args.self.now c.new.result.posted.items c.new.result.ended.items (heard_by c.args.self.now) (Woke c.args.ticket) h c.new.ensures.posted c.new.ensures.ended tt tt a
+returns-in-None-clause-arises g c h a = passes_quietly (ways g.P.Plan.meaning g.Q.Plan.meaning g.K.Plan.meaning g.P.PlanFor.refuses g.Q.PlanFor.refuses g.K.PlanFor.refuses) c.args.self.now c.new.result.posted.items c.new.result.ended.items (heard_by c.args.self.now) (Woke c.args.ticket) h c.new.ensures.posted c.new.ensures.ended tt tt a
+
+pub returns-then-ticket-clause-waits : goal.returns-then-ticket-clause-waits
+returns-then-ticket-clause-waits g c live = waits_asleep (ways g.P.Plan.meaning g.Q.Plan.meaning g.K.Plan.meaning g.P.PlanFor.refuses g.Q.PlanFor.refuses g.K.PlanFor.refuses) c.args.self.now c.args.ticket c.new.result.posted.items c.if-ticket.true
+
+pub returns-then-ticket-clause-rests : goal.returns-then-ticket-clause-rests
+returns-then-ticket-clause-rests g c t posted was = rests_quiet (ways g.P.Plan.meaning g.Q.Plan.meaning g.K.Plan.meaning g.P.PlanFor.refuses g.Q.PlanFor.refuses g.K.PlanFor.refuses) t c.args.self.now c.new.result.posted.items c.new.result.ended.items c.new.ensures.posted c.new.ensures.ended posted was
+
+pub returns-then-ticket-clause-arises : goal.returns-then-ticket-clause-arises
+returns-then-ticket-clause-arises g c h a = passes_quietly (ways g.P.Plan.meaning g.Q.Plan.meaning g.K.Plan.meaning g.P.PlanFor.refuses g.Q.PlanFor.refuses g.K.PlanFor.refuses) c.args.self.now c.new.result.posted.items c.new.result.ended.items (heard_by c.args.self.now) (Woke c.args.ticket) h c.new.ensures.posted c.new.ensures.ended tt tt a
