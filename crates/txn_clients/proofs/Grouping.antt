@@ -268,7 +268,7 @@ quiet_so b (inr t) (inr there) = inr t
 
 module _ {P Q K A B D : Type 0} (w : Ways P Q K A B D) (p : IsLawful w.prewriting) (q : IsLawful w.committing) (k : IsLawful w.rolling) where
   -- What holds where rows are the same, and numbers have risen.
-  grown_sound : (trace : Option Trace) (s t : Clients P Q K) (rest left : List Asker) → rows_of t ≡ rows_of s → crashed_of t ≡ crashed_of s → IsRisen (nexts_of s) (nexts_of t) → asks_of t ≡ asks_of s
+  pub grown_sound : (trace : Option Trace) (s t : Clients P Q K) (rest left : List Asker) → rows_of t ≡ rows_of s → crashed_of t ≡ crashed_of s → IsRisen (nexts_of s) (nexts_of t) → asks_of t ≡ asks_of s
       → ((c n i : ℕ) → IsAskedIn (book_at s c) n i ⊎ HasAsk rest n i → IsAskedIn (book_at t c) n i ⊎ HasAsk left n i) → ((c : ℕ) → IsPaired (book_at t c)) → ((c : ℕ) (u : Ticket) → (book_at t c).ticket ≡ Some u → IsOwned (stands_of (rows_of s)) c u)
       → ((c : ℕ) (u : Ticket) → (book_at t c).ticket ≡ Some u → ((book_at s c).ticket ≡ Some u) ⊎ ((u.number < next_at (nexts_of t) u.line) × (Wants w (rows_of s) u.line (ReplyTo u.number) → ⊥)))
       → IsSound w trace rest s → IsSound w trace left t

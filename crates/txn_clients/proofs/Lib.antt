@@ -45,3 +45,4 @@ pub mod Ended
 pub mod ToldParts
 pub mod Stepped
 pub mod Grouped
+pub mod Hearts

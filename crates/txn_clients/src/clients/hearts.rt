@@ -13,6 +13,13 @@ where
     Q: PlanFor<CommitRequest> + Drop,
     K: PlanFor<BatchRollbackRequest> + Drop,
 {
+    ghost use Rattle.txn_clients.specs.Beating.{arises_when_beating, unbeaten_so};
+    ghost use Rattle.txn_commit.specs.Committing.{ways};
+
+    ghost unbeaten = { unbeaten_so };
+
+    ghost arises_beating = { arises_when_beating (ways P.meaning Q.meaning K.meaning P.refuses Q.refuses K.refuses) };
+
     fn heartbeat(&self, transaction: u64) -> Result<Option<Heartbeat>, NoMemory> {
         if transaction == 0 || transaction > self.newest() {
             return Ok(None);
