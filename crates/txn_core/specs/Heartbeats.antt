@@ -1,6 +1,7 @@
 -- What the heartbeat of a transaction needs, and when there is one.
-use Rattle.std.specs.Prelude.{◌≡◌, ℕ, ◌^◌, ◌-◌, ◌/◌, Bool, true, false, ◌&&◌, List, Some, is_some, min}
-use Rattle.std.specs.Duration.{as_nanos, Duration}
+use Rattle.std.specs.Prelude.{◌≡◌, ◌/◌, ℕ, Bool, true, false, ◌&&◌, Some, is_some}
+use Rattle.std.specs.Duration.{as_nanos}
+use Rattle.txn_kv.specs.Backoff.{saturated}
 use Rattle.txn_buffer.specs.Contents.{commit_primary}
 use Rattle.txn_core.specs.Options.{is_auto}
 use Rattle.txn_core.specs.Transaction.{Standing, is_open}
@@ -12,7 +13,7 @@ use Rattle.txn_core.specs.declared.status.Status.TheVariants.{ReadOnly, Active, 
 
 -- whole milliseconds of so many nanoseconds, at most the greatest number
 abbrev pub in_millis : ℕ → ℕ
-in_millis nanos = min (2 ^ 64 - 1) (nanos / 1_000_000)
+in_millis nanos = saturated (nanos / 1_000_000)
 
 -- a commit was begun, and neither came to its end nor was followed by a rollback
 abbrev pub commits : Status → Bool
