@@ -1,4 +1,4 @@
--- The plans of a Prewrite, a Commit and a BatchRollback, by what they mean.
+-- The plans of a Prewrite, a Commit, a BatchRollback and a heartbeat, by what they mean.
 use Rattle.std.specs.Prelude.{◌≡◌, List, length, map, Result}
 use Rattle.std.specs.Global.{Vec}
 use Rattle.std.specs.List.{filter_map}
@@ -10,25 +10,31 @@ use Rattle.txn_kv.specs.declared.reply.BatchRollbackResponse.{BatchRollbackRespo
 use Rattle.txn_kv.specs.declared.reply.CommitResponse.{CommitResponse}
 use Rattle.txn_kv.specs.declared.reply.PrewriteResponse.{PrewriteResponse}
 use Rattle.txn_kv.specs.declared.reply.Reply.TheVariants as reply
+use Rattle.txn_kv.specs.declared.reply.TxnHeartBeatResponse.{TxnHeartBeatResponse}
 use Rattle.txn_kv.specs.declared.request.BatchRollbackRequest.{BatchRollbackRequest}
 use Rattle.txn_kv.specs.declared.request.CommitRequest.{CommitRequest}
 use Rattle.txn_kv.specs.declared.request.PrewriteRequest.{PrewriteRequest}
-use Rattle.txn_kv.specs.declared.request.Request.TheVariants.{BatchRollback, Commit, Prewrite}
+use Rattle.txn_kv.specs.declared.request.Request.TheVariants.{BatchRollback, Commit, Prewrite, TxnHeartBeat}
+use Rattle.txn_kv.specs.declared.request.TxnHeartBeatRequest.{TxnHeartBeatRequest}
 use Rattle.txn_merge.specs.Firsts.{first_seen, region_in, seen_in}
-use Rattle.txn_merge.specs.Gathered.{FirstErrorOr}
+use Rattle.txn_merge.specs.Gathered.{FirstErrorOr, single_of}
 use Rattle.txn_merge.specs.KeyErrors.{views_of_error}
 use Rattle.txn_merge.specs.Locks.{locks_of_error, locks_of_errors}
 use Rattle.txn_merge.specs.declared.merge.CollectError.{CollectError}
+use Rattle.txn_merge.specs.declared.merge.CollectSingle.{CollectSingle}
 use Rattle.txn_multi.specs.Few.{by_items}
+use Rattle.txn_multi.specs.Multi.{multi}
 use Rattle.txn_multi.specs.declared.multi_region.RetryableMultiRegion.{RetryableMultiRegion}
+use Rattle.txn_plan.specs.Dispatch.{dispatch}
 use Rattle.txn_plan.specs.Extracted.{extracted, extracted-lawful}
 use Rattle.txn_plan.specs.Merged.{merged, merged-lawful}
+use Rattle.txn_plan.specs.declared.dispatch.Dispatch.{Dispatch}
 use Rattle.txn_plan.specs.declared.extract_error.ExtractError.{ExtractError}
 use Rattle.txn_plan.specs.declared.merge_response.MergeResponse.{MergeResponse}
 use Rattle.txn_region.specs.Regions.{Key}
 use Rattle.txn_shard.specs.Order.{in_order}
-use Rattle.txn_shard.specs.Parts.{BatchRollbackPart, CommitPart, PrewritePart}
-use Rattle.txn_shard.specs.Shards.{AreJoined, ArePieces}
+use Rattle.txn_shard.specs.Parts.{BatchRollbackPart, CommitPart, PrewritePart, TxnHeartBeatPart}
+use Rattle.txn_shard.specs.Shards.{AreJoined, ArePieces, IsAlone}
 use Rattle.txn_commit_plans.specs.OverRegions.{over_regions, over_regions-lawful, Shard}
 
 -- the keys of a request, and its mutations, in order
@@ -89,6 +95,20 @@ PrewritePlan = ExtractError Collected (Vec PrewriteResponse)
 
 abbrev pub prewrite_plan : Meaning PrewritePlan (Result (Vec PrewriteResponse) Error)
 prewrite_plan = extracted collected (λ v. first_seen (λ (r : PrewriteResponse). map key r.errors) v.items) (λ v. filter_map (λ (r : PrewriteResponse). r.region_error) v.items)
+
+-- A heartbeat, whose one reply is taken
+
+abbrev pub Beats : Type 0
+Beats = RetryableMultiRegion (Dispatch TxnHeartBeatRequest TxnHeartBeatResponse) TxnHeartBeatResponse Key
+
+abbrev pub beats : Meaning Beats (Result (Vec (Result TxnHeartBeatResponse Error)) Error)
+beats = multi (dispatch TxnHeartBeat reply.TxnHeartBeat) (λ v. views_of_error v.error) (λ v. v.region_error) (λ part whole. TxnHeartBeatPart part.request whole.request) (λ s. s.request.primary_lock) IsAlone (λ s n. 1)
+
+abbrev pub HeartbeatPlan : Type 0
+HeartbeatPlan = MergeResponse Beats TxnHeartBeatResponse CollectSingle TxnHeartBeatResponse
+
+abbrev pub heartbeat_plan : Meaning HeartbeatPlan (Result TxnHeartBeatResponse Error)
+heartbeat_plan = merged beats (λ one results result. result ≡ single_of results)
 
 -- lemmas
 

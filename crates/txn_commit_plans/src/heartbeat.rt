@@ -1,3 +1,8 @@
+ghost use Rattle.std.specs.Prelude.{◌≡◌};
+ghost use Rattle.txn_kv.specs.declared.request.Request.TheVariants.{TxnHeartBeat};
+ghost use Rattle.txn_kv.specs.declared.request.TxnHeartBeatRequest.{TxnHeartBeatRequest as Sent};
+ghost use Rattle.txn_request.specs.Defaults.{default_txn_heart_beat};
+
 use crate::transaction_plan::TransactionPlan;
 use std::alloc::Global;
 use txn_heartbeat::PlanForHeartbeats;
@@ -18,11 +23,10 @@ pub type HeartbeatPlan = TransactionPlan<
 >;
 
 /// The heartbeat with the context that the client's codec gives one like it that names nothing.
-fn encoded<C: PdClient>(
-    alloc: Global,
-    pd: &C,
-    request: TxnHeartBeatRequest,
-) -> TxnHeartBeatRequest {
+fn encoded<C: PdClient>(alloc: Global, pd: &C, request: TxnHeartBeatRequest) -> TxnHeartBeatRequest
+    ensures rest { result ≡ record request { context = result.context } }
+    ensures context { (sent : Sent) × (C.Codec.encoded (C.codec pd.now) (TxnHeartBeat (record default_txn_heart_beat { context = request.context })) ≡ TxnHeartBeat sent) × (result.context ≡ sent.context) }
+{
     let mut request = request;
     let mut empty = new_heart_beat_request(0, Key::empty(alloc), 0);
     empty.context = request.context;

@@ -4,7 +4,7 @@ ghost use Rattle.txn_heartbeat.specs.Beats.{Beats, Ended, IsAlive, Sleeps, Stays
 ghost use Rattle.txn_heartbeat.specs.declared.heartbeat_job.Stage.TheVariants as stages;
 ghost use Rattle.txn_history.specs.Phase.Awaited.{EndOf};
 ghost use Rattle.txn_history.specs.Posted.{HasNumbers};
-ghost use Rattle.txn_history.specs.Turn.{turn_of};
+ghost use Rattle.txn_history.specs.Turn.{IfKept, turn_of};
 ghost use Rattle.txn_kv.specs.Timestamp.{HasVersion};
 ghost use Rattle.txn_plan.specs.Arrivals.{MayArrive, awaited_as};
 
@@ -134,7 +134,11 @@ impl<H: PlanForHeartbeats> HeartbeatJob<H> {
 
     /// Sleeps where a beat was answered, and ends where it failed.
     fn go_on(&mut self, turn: Result<Progress<H::Result>, NoMemory>, out: &mut Outbox) -> Turn
+        requires alive { IfKept (turn_of turn) (IsAlive H.meaning self.old out.old) }
         requires numbers { HasNumbers out.old }
+        ensures beats { OnOk result (Beats self.old.heartbeat out.old out.new) }
+        ensures kept { self.new.heartbeat ≡ self.old.heartbeat }
+        ensures alive { OnOk result (IsAlive H.meaning self.new out.new) }
         ensures numbers { HasNumbers out.new }
     {
         match turn {

@@ -1,0 +1,56 @@
+-- The plan of a heartbeat is one of it.
+use Rattle.std.proofs.Common.{◌≡◌, ◌⊎◌, inl, inr, false, List, Option, Some, refl, sym, ap, subst, ◌∙◌}
+use Rattle.std.specs.Prelude.{⊤, Result}
+use Rattle.txn_heartbeat.specs.Beats.{IsBeatOf, IsLookUp, IsPlanForBeats}
+use Rattle.txn_history.specs.Around.{around-unbegun}
+use Rattle.txn_history.specs.Event.{Event}
+use Rattle.txn_history.specs.Meaning.{IsUnbegun}
+use Rattle.txn_kv.specs.declared.message.Context.{Context}
+use Rattle.txn_kv.specs.declared.query.PdQuery.{PdQuery}
+use Rattle.txn_kv.specs.declared.query.PdQuery.TheVariants.{Region, RegionId, Safepoint, Store, Stores, Time}
+use Rattle.txn_kv.specs.declared.request.Request.{Request}
+use Rattle.txn_kv.specs.declared.request.Request.TheVariants.{GetAllStores, GetRegion, GetRegionById, GetStore, TxnHeartBeat, UpdateGcSafePoint}
+use Rattle.txn_kv.specs.declared.request.TxnHeartBeatRequest.{TxnHeartBeatRequest}
+use Rattle.txn_merge.specs.Gathered.{single_of}
+use Rattle.txn_multi.specs.Cutting.{IsPlacement}
+use Rattle.txn_plan.specs.Merged.{IsMerged}
+use Rattle.txn_shard.specs.Parts.{TxnHeartBeatPart}
+use Rattle.txn_tso.specs.Placement.{request_of}
+use Rattle.txn_commit_plans.specs.Kinds.{beats, heartbeat_plan, Beats, HeartbeatPlan}
+
+-- Looking for regions and stores
+
+the : (a b : Request) → Some a ≡ Some b → a ≡ b
+the a b e = cc
+
+queried : (q : PdQuery) (r : Request) → request_of q ≡ Some r → IsLookUp r
+queried (Region key) r e = subst IsLookUp (the (GetRegion (record { region_key = key })) r e) tt
+queried (RegionId id) r e = subst IsLookUp (the (GetRegionById (record { region_id = id })) r e) tt
+queried (Store id) r e = subst IsLookUp (the (GetStore (record { store_id = id })) r e) tt
+queried Stores r e = subst IsLookUp (the (GetAllStores (record {})) r e) tt
+queried Time r e = cc
+queried (Safepoint at) r e = subst IsLookUp (the (UpdateGcSafePoint (record { safe_point = at })) r e) tt
+
+looked_up : (h : List Event) (r : Request) → IsPlacement h r → IsLookUp r
+looked_up h r (inl p) = queried p.0 r p.1
+looked_up h r (inr e) = subst IsLookUp (sym e) tt
+
+-- and the heartbeat itself
+
+beat_part : (request : TxnHeartBeatRequest) (context : Option Context) (q : TxnHeartBeatRequest) → TxnHeartBeatPart q (record request { context = context }) → IsBeatOf request.primary_lock request.start_version (TxnHeartBeat q)
+beat_part request context q i = (ap (λ (r : TxnHeartBeatRequest). r.primary_lock) i, ap (λ (r : TxnHeartBeatRequest). r.start_version) i)
+
+pub made_heartbeat : (request : TxnHeartBeatRequest) (context : Option Context) (s : Beats) (p : HeartbeatPlan) → p.inner ≡ s → s.inner.request ≡ record request { context = context }
+    → IsUnbegun beats s → beats.ready s → IsPlanForBeats heartbeat_plan request p
+made_heartbeat request context s p e same u r = record {
+  unbegun = around-unbegun beats (λ x. x.inner) (λ x. IsMerged (λ results result. result ≡ single_of results)) (λ x. ⊤) (λ b. false) p (subst (IsUnbegun beats) (sym e) u);
+  ready = (subst beats.ready (sym e) r, tt);
+  asks = λ h q a. sent h q a;
+}
+  where
+    is : p.inner.inner.request ≡ record request { context = context }
+    is = ap (λ (x : Beats). x.inner.request) e ∙ same
+
+    sent : (h : List Event) (q : Request) → beats.asks p.inner h q → IsBeatOf request.primary_lock request.start_version q ⊎ IsLookUp q
+    sent h q (inl a) = inl (subst (IsBeatOf request.primary_lock request.start_version) (sym a.2.1) (beat_part request context a.0.request (subst (TxnHeartBeatPart a.0.request) is a.1)))
+    sent h q (inr a) = inr (looked_up h q a)

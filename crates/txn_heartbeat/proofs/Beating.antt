@@ -1,0 +1,176 @@
+-- The calls of a beat's plan as calls of the job.
+use Rattle.std.proofs.Common.{◌≡◌, ◌⊎◌, inl, inr, ℕ, ◌+◌, ◌<◌, Bool, List, [], ◌∷◌, ◌++◌, append-nil, append_assoc, refl, sym, ap, ◌∙◌, subst, arith}
+use Rattle.std.specs.List.{All}
+use Rattle.std.specs.Prelude.{⊤, OnOk, Result, Ok, Err}
+use Rattle.txn_kv.specs.Timestamp.{HasVersion, version_of}
+use Rattle.txn_kv.specs.declared.errors.Error.{Error}
+use Rattle.txn_kv.specs.declared.outbox.Errand.TheVariants.{Send, Sleep, Ask}
+use Rattle.txn_kv.specs.declared.request.Request.{Request}
+use Rattle.txn_kv.specs.declared.request.Request.TheVariants.{Members}
+use Rattle.txn_kv.specs.declared.request.TxnHeartBeatRequest.{TxnHeartBeatRequest}
+use Rattle.txn_core.specs.declared.heartbeat.Heartbeat.{Heartbeat}
+use Rattle.txn_history.specs.Event.{Event, Has}
+use Rattle.txn_history.specs.Event.Event.{Sent}
+use Rattle.txn_history.specs.Meaning.{started, Goes, IsLawful, IsSent, Meaning, Tells, Told}
+use Rattle.txn_history.specs.Moves.{Moves}
+use Rattle.txn_history.specs.Phase.{Phase, unheard}
+use Rattle.txn_history.specs.Phase.Phase.{Fresh, GivenUp, Over, Running}
+use Rattle.txn_history.specs.Plan.{Key}
+use Rattle.txn_history.specs.Posted.{AreNumbered-append, Errand, Licensed, Posted, posting, ticket_of}
+use Rattle.txn_history.specs.Turn.{IfKept, IfKept-all, IfKept-weaker, Turn}
+use Rattle.txn_plan.specs.Arrivals.{awaited_as, told_by}
+use Rattle.txn_plan.specs.declared.arrival.Arrival.{Arrival}
+use Rattle.txn_plan.specs.declared.arrival.Arrival.TheVariants as arrivals
+use Rattle.txn_heartbeat.specs.Beats.{Beats, IsAlive, IsBeatOf, IsBeating, IsErrandOf, IsLookUp, IsPlanForBeats, Sleeps, StageLives}
+use Rattle.txn_heartbeat.specs.declared.heartbeat_job.HeartbeatJob.{HeartbeatJob}
+use Rattle.txn_heartbeat.specs.declared.heartbeat_job.Stage.{Stage}
+use Rattle.txn_heartbeat.specs.declared.heartbeat_job.Stage.TheVariants as stage
+use Rattle.txn_heartbeat.proofs.Own.{IsOwn, own_after, own_heard, own_nothing, sent_or_not}
+
+-- What is posted.
+
+all_append : {X : Type 0} (P : X → Type 0) (xs ys : List X) → All P xs → All P ys → All P (xs ++ ys)
+all_append P [] ys a b = b
+all_append P (x ∷ xs) ys a b = (a.0, all_append P xs ys a.1 b)
+
+pub beats_nothing : (beat : Heartbeat) {from to : Posted} → to ≡ from → Beats beat from to
+beats_nothing beat {from} e = record {
+  sends = [];
+  pushed = rw e (sym (append-nil from.sends));
+  line = ap (λ (o : Posted). o.line) e;
+  beat_is = ap (λ (o : Posted). o.beat) e;
+  numbered = (ap (λ (o : Posted). o.next) e, ap (λ (o : Posted). o.next_ask) e);
+  each = tt;
+}
+
+pub beats_then : (beat : Heartbeat) {from via to : Posted} → Beats beat from via → Beats beat via to → Beats beat from to
+beats_then beat {from} s t = record {
+  sends = s.sends ++ t.sends;
+  pushed = t.pushed ∙ ap (λ x. x ++ t.sends) s.pushed ∙ append_assoc from.sends s.sends t.sends;
+  line = t.line ∙ s.line;
+  beat_is = t.beat_is ∙ s.beat_is;
+  numbered = AreNumbered-append _ _ _ _ _ _ s.sends t.sends s.numbered t.numbered;
+  each = all_append (IsErrandOf beat) s.sends t.sends s.each t.each;
+}
+
+each_of : (beat : Heartbeat) (may : List Event → Request → Type 0)
+    → ((h : List Event) (r : Request) → may h r → IsBeatOf beat.primary (version_of beat.start) r ⊎ IsLookUp r)
+    → (line : ℕ) (turned : Bool) (h : List Event) (rs : List Errand) → Licensed may line turned h rs → All (IsErrandOf beat) rs
+each_of beat may w line turned h [] l = tt
+each_of beat may w line turned h (Send n to r ∷ rs) l = (w h r l.0, each_of beat may w line turned (posting line turned (Send n to r) ∷ h) rs l.1)
+each_of beat may w line turned h (Sleep n ms ∷ rs) l = (tt, each_of beat may w line turned (posting line turned (Sleep n ms) ∷ h) rs l.1)
+each_of beat may w line turned h (Ask n ∷ rs) l = (tt, each_of beat may w line turned (posting line turned (Ask n) ∷ h) rs l.1)
+
+module _ {S A : Type 0} where
+  -- what a call leaves: its errands, and a plan that lives on
+  pub record GoesOn (m : Meaning S (Result A Error)) (beat : Heartbeat) (p : S) (from to : Posted) (turn : Turn (Result A Error)) : Type 0 where
+    pub beats : Beats beat from to
+    pub lives : IfKept turn (IsBeating m beat.primary (version_of beat.start) p to)
+
+  -- a call that tells the plan something, which is known of its own history
+  meant : (m : Meaning S (Result A Error)) (beat : Heartbeat) (told : Told) (p p' : S) (o o' : Posted) (turn : Turn (Result A Error))
+      → ((h : List Event) → IsOwn o.line o.beat o.next h → IsOwn o.line o.beat o.next (told.hear h))
+      → (b : IsBeating m beat.primary (version_of beat.start) p o) → told.known b.history
+      → Tells m told p p' o o' turn → m.ready p' → GoesOn m beat p' o o' turn
+  meant m beat told p p' o o' turn hears b known t ready = record {
+    beats = record {
+      sends = t.moves.sends;
+      pushed = t.moves.pushed;
+      line = t.moves.line;
+      beat_is = t.moves.beat;
+      numbered = t.moves.numbered;
+      each = each_of beat (m.asks p) b.asks o.line o.beat (told.hear b.history) t.moves.sends (t.moves.licensed b.history (b.fits, known));
+    };
+    lives = IfKept-weaker turn (λ still. record {
+      history = _;
+      fits = still b.history (b.fits, known);
+      alone = own.alone;
+      below = λ t' r i l x. own.below t' r i (l ∙ t.moves.line) (x ∙ t.moves.beat);
+      asks = λ h r a. b.asks h r (t.job.asked h r a);
+      ready = ready;
+    }) t.moves.still;
+  }
+    where
+      own = own_after o.line o.beat o.next o.next_ask o'.next o'.next_ask t.moves.sends (told.hear b.history) t.moves.numbered (hears b.history (record { alone = b.alone; below = b.below }))
+
+  -- a call that is not meant for it changes nothing
+  unmeant : {C : Type 0} (m : Meaning S (Result A Error)) (beat : Heartbeat) (a : Type 0) (p p' : S) (o o' : Posted) (pd pd' : C) (turn : Turn (Result A Error))
+      → IsBeating m beat.primary (version_of beat.start) p o → (a → ⊥)
+      → Goes m.phase a p p' o o' pd pd' turn → GoesOn m beat p' o o' turn
+  unmeant m beat a p p' o o' pd pd' turn b other g = record {
+    beats = beats_nothing beat (g.outbox other);
+    lives = IfKept-all turn (rw (g.state other, g.outbox other) b);
+  }
+
+  -- Either something is known of the request that was sent under the number, or the plan does not wait for it.
+  known_or_not : (m : Meaning S (Result A Error)) → IsLawful m → (a : Arrival) (primary : Key) (start : ℕ) (p : S) (o : Posted) (b : IsBeating m primary start p o)
+      → ((r : Request) × (told_by a o r).known b.history) ⊎ (m.waits p (awaited_as a) → ⊥)
+  known_or_not m law (arrivals.Reply n x) primary start p o b = by (sent_or_not b.history (ticket_of o n))
+    where
+      by : ((r : Request) × Has b.history (Sent (ticket_of o n) r)) ⊎ ((r : Request) → Has b.history (Sent (ticket_of o n) r) → ⊥)
+          → ((r : Request) × IsSent (ticket_of o n) r b.history) ⊎ (m.waits p (awaited_as (arrivals.Reply n x)) → ⊥)
+      by (inl (r, i)) = inl (r, record { sent = i; alone = λ q j. b.alone (ticket_of o n) r q i j })
+      by (inr never) = inr (λ w. let sent = law.posted p o b.history _ b.fits w in never sent.0 sent.1)
+  known_or_not m law (arrivals.Lost n) primary start p o b = by (sent_or_not b.history (ticket_of o n))
+    where
+      by : ((r : Request) × Has b.history (Sent (ticket_of o n) r)) ⊎ ((r : Request) → Has b.history (Sent (ticket_of o n) r) → ⊥)
+          → ((r : Request) × IsSent (ticket_of o n) r b.history) ⊎ (m.waits p (awaited_as (arrivals.Lost n)) → ⊥)
+      by (inl (r, i)) = inl (r, record { sent = i; alone = λ q j. b.alone (ticket_of o n) r q i j })
+      by (inr never) = inr (λ w. let sent = law.posted p o b.history _ b.fits w in never sent.0 sent.1)
+  known_or_not m law (arrivals.Slept n) primary start p o b = inl (Members (record {}), tt)
+  known_or_not m law (arrivals.Time n x) primary start p o b = inl (Members (record {}), tt)
+
+  pub told_on : {C : Type 0} (m : Meaning S (Result A Error)) (beat : Heartbeat) (a : Arrival) (p p' : S) (o o' : Posted) (pd pd' : C) (turn : Turn (Result A Error))
+      → IsLawful m → IsBeating m beat.primary (version_of beat.start) p o
+      → ((r : Request) → Tells m (told_by a o r) p p' o o' turn)
+      → Goes m.phase (m.waits p (awaited_as a)) p p' o o' pd pd' turn
+      → m.ready p' → GoesOn m beat p' o o' turn
+  told_on m beat a p p' o o' pd pd' turn law b tells goes ready = by (known_or_not m law a beat.primary (version_of beat.start) p o b)
+    where
+      by : ((r : Request) × (told_by a o r).known b.history) ⊎ (m.waits p (awaited_as a) → ⊥) → GoesOn m beat p' o o' turn
+      by (inl (r, known)) = meant m beat (told_by a o r) p p' o o' turn (λ h k. own_heard a o r o.line o.beat o.next h k) b known (tells r) ready
+      by (inr other) = unmeant m beat (m.waits p (awaited_as a)) p p' o o' pd pd' turn b other goes
+
+  -- a plan that is started
+  pub started_on : (m : Meaning S (Result A Error)) (beat : Heartbeat) (request : TxnHeartBeatRequest) (p p' : S) (o o' : Posted) (turn : Turn (Result A Error))
+      → IsPlanForBeats m request p → request.primary_lock ≡ beat.primary → request.start_version ≡ version_of beat.start
+      → Tells m started p p' o o' turn → m.ready p' → GoesOn m beat p' o o' turn
+  started_on m beat request p p' o o' turn is e f t ready = meant m beat started p p' o o' turn (λ h k. k) begun tt t ready
+    where
+      begun : IsBeating m beat.primary (version_of beat.start) p o
+      begun = record {
+        history = [];
+        fits = is.unbegun.fits o [];
+        alone = nothing.alone;
+        below = nothing.below;
+        asks = rw (← e, ← f) is.asks;
+        ready = is.ready;
+      }
+        where
+          nothing = own_nothing o.line o.beat o.next
+
+-- The job.
+
+-- it sleeps
+pub beats_sleeping : {S : Type 0} (old new : HeartbeatJob S) (from to : Posted) (turn : Turn (Result (Unit {0}) Error)) → Sleeps old new from to turn → Beats old.heartbeat from to
+beats_sleeping old new from to turn s = record {
+  sends = Sleep from.next old.heartbeat.interval ∷ [];
+  pushed = ap (λ (o : Posted). o.sends) s.posted;
+  line = ap (λ (o : Posted). o.line) s.posted;
+  beat_is = ap (λ (o : Posted). o.beat) s.posted;
+  numbered = (refl, (ap (λ (o : Posted). o.next) s.posted, ap (λ (o : Posted). o.next_ask) s.posted));
+  each = (tt, tt);
+}
+
+pub sleeping_alive : {S A : Type 0} (m : Meaning S (Result A Error)) (old new : HeartbeatJob S) (from to : Posted) (turn : Turn (Result (Unit {0}) Error)) → Sleeps old new from to turn → new.heartbeat ≡ old.heartbeat → HasVersion old.heartbeat.start → IsAlive m new to
+sleeping_alive m old new from to turn s same version = record {
+  start = subst (λ (h : Heartbeat). HasVersion h.start) (sym same) version;
+  stage = rw s.stage (rw s.posted (omega arith));
+}
+
+-- its plan lives where it is at work
+pub beating_alive : {S A : Type 0} (m : Meaning S (Result A Error)) (job : HeartbeatJob S) (p : S) (o : Posted) → HasVersion job.heartbeat.start → job.stage ≡ stage.Beating p → IsBeating m job.heartbeat.primary (version_of job.heartbeat.start) p o → IsAlive m job o
+beating_alive m job p o version e b = record { start = version; stage = rw e b }
+
+pub alive_beating : {S A : Type 0} (m : Meaning S (Result A Error)) (job : HeartbeatJob S) (p : S) (o : Posted) → job.stage ≡ stage.Beating p → IsAlive m job o → IsBeating m job.heartbeat.primary (version_of job.heartbeat.start) p o
+alive_beating m job p o e a = subst (λ g. StageLives m job.heartbeat.primary (version_of job.heartbeat.start) g o) e a.stage
