@@ -15,7 +15,7 @@ use Rattle.txn_lines.specs.declared.line.Line.TheVariants as lines
 use Rattle.txn_model.specs.Regions.{can_lead, can_split}
 use Rattle.txn_model.specs.Store.{Store}
 use Rattle.txn_model.specs.Table.{table}
-use Rattle.txn_post.specs.Mail.{Mail, as_slept, can_be_served, found_unserved, is_lasting, letter_at, only, place_in, places_of}
+use Rattle.txn_post.specs.Mail.{Mail, can_be_served, found_unserved, letter_at}
 use Rattle.txn_report.specs.declared.outcome.Outcome.{Outcome}
 use Rattle.txn_report.specs.declared.outcome.Outcome.TheVariants as outcomes
 use Rattle.txn_report.specs.declared.outcome.Payload.{Payload}
@@ -31,7 +31,7 @@ use Rattle.txn_machine.specs.Causes.Role.{MakesClient, NoCall}
 use Rattle.txn_machine.specs.Lists.{Lists, all_ended, all_posted, ended_at, newest, opened, posted_at, reply_at, request_at, with_mail}
 use Rattle.txn_machine.specs.Running.{closed, with_own}
 use Rattle.txn_machine.specs.Script.{AllBefore, does, loses, outcome_of, refuses, refuses_it, serves, takes, takes_it, with_sends}
-use Rattle.txn_machine.specs.Steps.{does_it, ended_in, found_asleep, found_out, posted_in, test_at}
+use Rattle.txn_machine.specs.Steps.{does_it, ended_in, found_out, posted_in, test_at}
 use Rattle.txn_machine.specs.Told.{CanTell, OwnEnds, is_answer}
 use Rattle.txn_machine.specs.declared.done.Done.{Done as Course}
 use Rattle.txn_machine.proofs.Calms.{outcome_opened}

@@ -55,11 +55,11 @@ or_past (z ∷ xs) d (suc i) h = or_past xs d i (omega arith)
 
 -- The places and the next number of a line.
 
-pub places_same : (lines : List (List Place)) (line : ℕ) (ps : List Place) → 1 ≤ line → line ≤ length lines → places_of (set lines (line - 1) ps) line ≡ ps
+places_same : (lines : List (List Place)) (line : ℕ) (ps : List Place) → 1 ≤ line → line ≤ length lines → places_of (set lines (line - 1) ps) line ≡ ps
 places_same lines zero ps one most = absurd (omega arith)
 places_same lines (suc i) ps one most = let e : suc i - 1 ≡ i = omega arith in rw e (or_same lines i ps [] (omega arith))
 
-pub places_other : (lines : List (List Place)) (line n : ℕ) (ps : List Place) → 1 ≤ line → n ≢ line → places_of (set lines (line - 1) ps) n ≡ places_of lines n
+places_other : (lines : List (List Place)) (line n : ℕ) (ps : List Place) → 1 ≤ line → n ≢ line → places_of (set lines (line - 1) ps) n ≡ places_of lines n
 places_other lines zero n ps one apart = absurd (omega arith)
 places_other lines (suc i) zero ps one apart = refl
 places_other lines (suc i) (suc j) ps one apart = let e : suc i - 1 ≡ i = omega arith in rw e (or_other lines i j ps [] (suc_apart i j apart))
@@ -73,7 +73,7 @@ next_other nexts zero n v one apart = absurd (omega arith)
 next_other nexts (suc i) zero v one apart = refl
 next_other nexts (suc i) (suc j) v one apart = let e : suc i - 1 ≡ i = omega arith in rw e (or_other nexts i j v 0 (suc_apart i j apart))
 
-pub same_line : (line n : ℕ) → (n ≡ line) ⊎ (n ≢ line)
+same_line : (line n : ℕ) → (n ≡ line) ⊎ (n ≢ line)
 same_line line n = by (nat_eq n line) refl
   where
     by : (b : Bool) → nat_eq n line ≡ b → (n ≡ line) ⊎ (n ≢ line)

@@ -1,5 +1,5 @@
 -- What the clients wait for is out, and stays so until they hear of it.
-use Rattle.std.proofs.Common.{◌≡◌, ◌≢◌, ℕ, zero, suc, ◌<◌, ◌⊎◌, inl, inr, Bool, true, false, if◌then◌else◌, List, [], ◌∷◌, ◌++◌, Option, Some, None, length, get_or, refl, sym, ap, ◌∙◌, subst, arith}
+use Rattle.std.proofs.Common.{◌≡◌, ◌≢◌, ℕ, zero, suc, ◌<◌, ◌⊎◌, inl, inr, true, false, List, [], ◌∷◌, ◌++◌, Option, Some, length, get_or, sym, ap, ◌∙◌, subst, arith}
 use Rattle.txn_kv.specs.declared.request.Request.TheVariants.{Tso}
 use Rattle.txn_kv.specs.declared.ticket.Ticket.{Ticket}
 use Rattle.txn_post.proofs.Lists.{told_within}
@@ -7,7 +7,6 @@ use Rattle.txn_post.proofs.Naming.{named_next, named_old, opened_leads}
 use Rattle.txn_post.specs.Mail.{IsMail, IsNext, Mail, changing, is_lasting, just_sent, letter_at, place_of, ticket_at, waking}
 use Rattle.txn_post.specs.Mail as mails
 use Rattle.txn_post.specs.declared.letter.Letter.{Letter}
-use Rattle.txn_post.specs.declared.post.Place.{Place}
 use Rattle.txn_post.specs.declared.post.Place.TheVariants.{Sent, Slept}
 use Rattle.txn_report.specs.declared.report.SleepNote.{SleepNote}
 use Rattle.txn_side.specs.Sight.{ArePosted, Group, IsAsk, Nexts, ticket_in}

@@ -8,7 +8,7 @@ use Rattle.txn_post.specs.Mail.{IsMail, Mail, changing, found_awaited, found_las
 use Rattle.txn_post.specs.declared.letter.Letter.{Letter}
 use Rattle.txn_post.specs.declared.post.Place.TheVariants.{Sent, Slept}
 use Rattle.txn_report.specs.declared.outcome.Outcome.{Outcome}
-use Rattle.txn_side.specs.Sight.{Acts, ArePosted, Asks, Goes, Group, IsOut, Nexts, Sight, is_live}
+use Rattle.txn_side.specs.Sight.{Acts, ArePosted, Asks, Goes, IsOut, Nexts, Sight, is_live}
 use Rattle.txn_side.specs.Waiting.{Awaited, HearsEnd, HearsReply, NoneHeard, WaitsOn}
 use Rattle.txn_side.specs.Waiting as waiting
 use Rattle.txn_side.specs.Waiting.Awaited.{EndOf, ReplyTo}

@@ -35,11 +35,11 @@ of_other lines (suc i) (suc j) ps one apart =
 
 -- Calls and heartbeats.
 
-pub named_lane : (b : Bool) (tickets : Tickets) (line : ℕ) (p : Place) → lane b (naming tickets b line p) ≡ naming_in (lane b tickets) line p
+named_lane : (b : Bool) (tickets : Tickets) (line : ℕ) (p : Place) → lane b (naming tickets b line p) ≡ naming_in (lane b tickets) line p
 named_lane false tickets line p = refl
 named_lane true tickets line p = refl
 
-pub other_lane : (a b : Bool) (tickets : Tickets) (line : ℕ) (p : Place) → a ≢ b → lane a (naming tickets b line p) ≡ lane a tickets
+other_lane : (a b : Bool) (tickets : Tickets) (line : ℕ) (p : Place) → a ≢ b → lane a (naming tickets b line p) ≡ lane a tickets
 other_lane false false tickets line p apart = absurd (apart refl)
 other_lane false true tickets line p apart = refl
 other_lane true false tickets line p apart = refl
