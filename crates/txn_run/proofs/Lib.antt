@@ -1,3 +1,4 @@
+mod Behind
 mod ServedOnce
 mod Stages
 mod Unlocked
