@@ -1,9 +1,11 @@
 -- The calls of a beat's plan as calls of the job.
-use Rattle.std.proofs.Common.{◌≡◌, ◌⊎◌, inl, inr, ℕ, ◌+◌, ◌<◌, Bool, List, [], ◌∷◌, ◌++◌, append-nil, append_assoc, refl, sym, ap, ◌∙◌, subst, arith}
+use Rattle.std.proofs.Common.{◌≡◌, ◌⊎◌, inl, inr, ℕ, Bool, List, [], ◌∷◌, ◌++◌, append-nil, append_assoc, sym, ap, ◌∙◌, subst}
+use Rattle.std.proofs.lemmas.List.Elements.{All-append, All-cons, All-nil}
 use Rattle.std.specs.List.{All}
-use Rattle.std.specs.Prelude.{⊤, OnOk, Result, Ok, Err}
+use Rattle.std.specs.Prelude.{OnOk, Result, Ok, Err}
 use Rattle.txn_kv.specs.Timestamp.{HasVersion, version_of}
 use Rattle.txn_kv.specs.declared.errors.Error.{Error}
+use Rattle.txn_kv.specs.declared.memory.NoMemory.{NoMemory}
 use Rattle.txn_kv.specs.declared.outbox.Errand.TheVariants.{Send, Sleep, Ask}
 use Rattle.txn_kv.specs.declared.request.Request.{Request}
 use Rattle.txn_kv.specs.declared.request.Request.TheVariants.{Members}
@@ -12,26 +14,18 @@ use Rattle.txn_core.specs.declared.heartbeat.Heartbeat.{Heartbeat}
 use Rattle.txn_history.specs.Event.{Event, Has}
 use Rattle.txn_history.specs.Event.Event.{Sent}
 use Rattle.txn_history.specs.Meaning.{started, Goes, IsLawful, IsSent, Meaning, Tells, Told}
-use Rattle.txn_history.specs.Moves.{Moves}
-use Rattle.txn_history.specs.Phase.{Phase, unheard}
-use Rattle.txn_history.specs.Phase.Phase.{Fresh, GivenUp, Over, Running}
 use Rattle.txn_history.specs.Plan.{Key}
-use Rattle.txn_history.specs.Posted.{AreNumbered-append, Errand, Licensed, Posted, posting, ticket_of}
+use Rattle.txn_history.specs.Posted.{AreNumbered-append, Errand, Licensed, Posted, after, posting, ticket_of}
 use Rattle.txn_history.specs.Turn.{IfKept, IfKept-all, IfKept-weaker, Turn}
 use Rattle.txn_plan.specs.Arrivals.{awaited_as, told_by}
 use Rattle.txn_plan.specs.declared.arrival.Arrival.{Arrival}
 use Rattle.txn_plan.specs.declared.arrival.Arrival.TheVariants as arrivals
-use Rattle.txn_heartbeat.specs.Beats.{Beats, IsAlive, IsBeatOf, IsBeating, IsErrandOf, IsLookUp, IsPlanForBeats, Sleeps, StageLives}
+use Rattle.txn_heartbeat.specs.Beats.{Beats, IsAlive, IsBeatOf, IsBeating, IsErrandOf, IsLookUp, IsPlanForBeats, StageLives}
 use Rattle.txn_heartbeat.specs.declared.heartbeat_job.HeartbeatJob.{HeartbeatJob}
-use Rattle.txn_heartbeat.specs.declared.heartbeat_job.Stage.{Stage}
 use Rattle.txn_heartbeat.specs.declared.heartbeat_job.Stage.TheVariants as stage
 use Rattle.txn_heartbeat.proofs.Own.{IsOwn, own_after, own_heard, own_nothing, sent_or_not}
 
 -- What is posted.
-
-all_append : {X : Type 0} (P : X → Type 0) (xs ys : List X) → All P xs → All P ys → All P (xs ++ ys)
-all_append P [] ys a b = b
-all_append P (x ∷ xs) ys a b = (a.0, all_append P xs ys a.1 b)
 
 pub beats_nothing : (beat : Heartbeat) {from to : Posted} → to ≡ from → Beats beat from to
 beats_nothing beat {from} e = record {
@@ -40,7 +34,7 @@ beats_nothing beat {from} e = record {
   line = ap (λ (o : Posted). o.line) e;
   beat_is = ap (λ (o : Posted). o.beat) e;
   numbered = (ap (λ (o : Posted). o.next) e, ap (λ (o : Posted). o.next_ask) e);
-  each = tt;
+  each = All-nil (IsErrandOf beat);
 }
 
 pub beats_then : (beat : Heartbeat) {from via to : Posted} → Beats beat from via → Beats beat via to → Beats beat from to
@@ -50,16 +44,16 @@ beats_then beat {from} s t = record {
   line = t.line ∙ s.line;
   beat_is = t.beat_is ∙ s.beat_is;
   numbered = AreNumbered-append _ _ _ _ _ _ s.sends t.sends s.numbered t.numbered;
-  each = all_append (IsErrandOf beat) s.sends t.sends s.each t.each;
+  each = All-append (IsErrandOf beat) s.sends t.sends s.each t.each;
 }
 
 each_of : (beat : Heartbeat) (may : List Event → Request → Type 0)
     → ((h : List Event) (r : Request) → may h r → IsBeatOf beat.primary (version_of beat.start) r ⊎ IsLookUp r)
     → (line : ℕ) (turned : Bool) (h : List Event) (rs : List Errand) → Licensed may line turned h rs → All (IsErrandOf beat) rs
-each_of beat may w line turned h [] l = tt
-each_of beat may w line turned h (Send n to r ∷ rs) l = (w h r l.0, each_of beat may w line turned (posting line turned (Send n to r) ∷ h) rs l.1)
-each_of beat may w line turned h (Sleep n ms ∷ rs) l = (tt, each_of beat may w line turned (posting line turned (Sleep n ms) ∷ h) rs l.1)
-each_of beat may w line turned h (Ask n ∷ rs) l = (tt, each_of beat may w line turned (posting line turned (Ask n) ∷ h) rs l.1)
+each_of beat may w line turned h [] l = All-nil (IsErrandOf beat)
+each_of beat may w line turned h (Send n to r ∷ rs) l = All-cons (IsErrandOf beat) (Send n to r) rs (w h r l.0) (each_of beat may w line turned (posting line turned (Send n to r) ∷ h) rs l.1)
+each_of beat may w line turned h (Sleep n ms ∷ rs) l = All-cons (IsErrandOf beat) (Sleep n ms) rs tt (each_of beat may w line turned (posting line turned (Sleep n ms) ∷ h) rs l.1)
+each_of beat may w line turned h (Ask n ∷ rs) l = All-cons (IsErrandOf beat) (Ask n) rs tt (each_of beat may w line turned (posting line turned (Ask n) ∷ h) rs l.1)
 
 module _ {S A : Type 0} where
   -- what a call leaves: its errands, and a plan that lives on
@@ -91,6 +85,7 @@ module _ {S A : Type 0} where
     }) t.moves.still;
   }
     where
+      own : IsOwn o.line o.beat o'.next (after o.line o.beat (told.hear b.history) t.moves.sends)
       own = own_after o.line o.beat o.next o.next_ask o'.next o'.next_ask t.moves.sends (told.hear b.history) t.moves.numbered (hears b.history (record { alone = b.alone; below = b.below }))
 
   -- a call that is not meant for it changes nothing
@@ -147,30 +142,18 @@ module _ {S A : Type 0} where
         ready = is.ready;
       }
         where
+          nothing : IsOwn o.line o.beat o.next []
           nothing = own_nothing o.line o.beat o.next
 
 -- The job.
 
--- it sleeps
-pub beats_sleeping : {S : Type 0} (old new : HeartbeatJob S) (from to : Posted) (turn : Turn (Result (Unit {0}) Error)) → Sleeps old new from to turn → Beats old.heartbeat from to
-beats_sleeping old new from to turn s = record {
-  sends = Sleep from.next old.heartbeat.interval ∷ [];
-  pushed = ap (λ (o : Posted). o.sends) s.posted;
-  line = ap (λ (o : Posted). o.line) s.posted;
-  beat_is = ap (λ (o : Posted). o.beat) s.posted;
-  numbered = (refl, (ap (λ (o : Posted). o.next) s.posted, ap (λ (o : Posted). o.next_ask) s.posted));
-  each = (tt, tt);
-}
-
-pub sleeping_alive : {S A : Type 0} (m : Meaning S (Result A Error)) (old new : HeartbeatJob S) (from to : Posted) (turn : Turn (Result (Unit {0}) Error)) → Sleeps old new from to turn → new.heartbeat ≡ old.heartbeat → HasVersion old.heartbeat.start → IsAlive m new to
-sleeping_alive m old new from to turn s same version = record {
-  start = subst (λ (h : Heartbeat). HasVersion h.start) (sym same) version;
-  stage = rw s.stage (rw s.posted (omega arith));
-}
-
--- its plan lives where it is at work
-pub beating_alive : {S A : Type 0} (m : Meaning S (Result A Error)) (job : HeartbeatJob S) (p : S) (o : Posted) → HasVersion job.heartbeat.start → job.stage ≡ stage.Beating p → IsBeating m job.heartbeat.primary (version_of job.heartbeat.start) p o → IsAlive m job o
-beating_alive m job p o version e b = record { start = version; stage = rw e b }
-
 pub alive_beating : {S A : Type 0} (m : Meaning S (Result A Error)) (job : HeartbeatJob S) (p : S) (o : Posted) → job.stage ≡ stage.Beating p → IsAlive m job o → IsBeating m job.heartbeat.primary (version_of job.heartbeat.start) p o
 alive_beating m job p o e a = subst (λ g. StageLives m job.heartbeat.primary (version_of job.heartbeat.start) g o) e a.stage
+
+-- and goes on after a call of its plan
+pub alive_on : {S A : Type 0} (m : Meaning S (Result A Error)) (job : HeartbeatJob S) (beat : Heartbeat) (p : S) {from : Posted} (to : Posted) (turn : Turn (Result A Error)) → job.heartbeat ≡ beat → job.stage ≡ stage.Beating p → HasVersion beat.start → GoesOn m beat p from to turn → IfKept turn (IsAlive m job to)
+alive_on m job beat p to turn same at version goes = IfKept-weaker turn (λ b. record { start = subst (λ (x : Heartbeat). HasVersion x.start) (sym same) version; stage = rw (at, same) b }) goes.lives
+
+pub beats_on : {X : Type 0} (r : Result X NoMemory) (beat : Heartbeat) {from via : Posted} (to : Posted) → Beats beat from via → OnOk r (Beats beat via to) → OnOk r (Beats beat from to)
+beats_on (Ok v) beat to s t = beats_then beat s t
+beats_on (Err e) beat to s t = tt
