@@ -1,7 +1,7 @@
 -- The plan of a heartbeat is one of it.
 use Rattle.std.proofs.Common.{◌≡◌, ◌⊎◌, inl, inr, false, List, Option, Some, refl, sym, ap, subst, ◌∙◌}
 use Rattle.std.specs.Prelude.{⊤, Result}
-use Rattle.txn_heartbeat.specs.Beats.{IsBeatOf, IsLookUp, IsPlanForBeats}
+use Rattle.txn_heartbeat.specs.Beats.{IsLookUp, IsPlanForBeats, IsSentAs}
 use Rattle.txn_history.specs.Around.{around-unbegun}
 use Rattle.txn_history.specs.Event.{Event}
 use Rattle.txn_history.specs.Meaning.{IsUnbegun}
@@ -37,8 +37,8 @@ looked_up h r (inr e) = subst IsLookUp (sym e) tt
 
 -- and the heartbeat itself
 
-beat_part : (request : TxnHeartBeatRequest) (context : Option Context) (q : TxnHeartBeatRequest) → TxnHeartBeatPart q (record request { context = context }) → IsBeatOf request.primary_lock request.start_version (TxnHeartBeat q)
-beat_part request context q i = (ap (λ (r : TxnHeartBeatRequest). r.primary_lock) i, ap (λ (r : TxnHeartBeatRequest). r.start_version) i)
+beat_part : (request : TxnHeartBeatRequest) (context : Option Context) (q : TxnHeartBeatRequest) → TxnHeartBeatPart q (record request { context = context }) → IsSentAs request (TxnHeartBeat q)
+beat_part request context q i = i
 
 pub made_heartbeat : (request : TxnHeartBeatRequest) (context : Option Context) (s : Beats) (p : HeartbeatPlan) → p.inner ≡ s → s.inner.request ≡ record request { context = context }
     → IsUnbegun beats s → beats.ready s → IsPlanForBeats heartbeat_plan request p
@@ -51,6 +51,6 @@ made_heartbeat request context s p e same u r = record {
     is : p.inner.inner.request ≡ record request { context = context }
     is = ap (λ (x : Beats). x.inner.request) e ∙ same
 
-    sent : (h : List Event) (q : Request) → beats.asks p.inner h q → IsBeatOf request.primary_lock request.start_version q ⊎ IsLookUp q
-    sent h q (inl a) = inl (subst (IsBeatOf request.primary_lock request.start_version) (sym a.2.1) (beat_part request context a.0.request (subst (TxnHeartBeatPart a.0.request) is a.1)))
+    sent : (h : List Event) (q : Request) → beats.asks p.inner h q → IsSentAs request q ⊎ IsLookUp q
+    sent h q (inl a) = inl (subst (IsSentAs request) (sym a.2.1) (beat_part request context a.0.request (subst (TxnHeartBeatPart a.0.request) is a.1)))
     sent h q (inr a) = inr (looked_up h q a)

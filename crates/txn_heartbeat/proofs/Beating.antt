@@ -1,5 +1,5 @@
 -- The calls of a beat's plan as calls of the job.
-use Rattle.std.proofs.Common.{◌≡◌, ◌⊎◌, inl, inr, ℕ, Bool, List, [], ◌∷◌, ◌++◌, append-nil, append_assoc, sym, ap, ◌∙◌, subst}
+use Rattle.std.proofs.Common.{◌≡◌, ◌⊎◌, inl, inr, ℕ, ◌+◌, ◌-◌, Bool, List, [], ◌∷◌, ◌++◌, None, append-nil, append_assoc, refl, sym, ap, ◌∙◌, subst, arith}
 use Rattle.std.proofs.lemmas.List.Elements.{All-append, All-cons, All-nil}
 use Rattle.std.specs.List.{All}
 use Rattle.std.specs.Prelude.{OnOk, Result, Ok, Err}
@@ -8,7 +8,7 @@ use Rattle.txn_kv.specs.declared.errors.Error.{Error}
 use Rattle.txn_kv.specs.declared.memory.NoMemory.{NoMemory}
 use Rattle.txn_kv.specs.declared.outbox.Errand.TheVariants.{Send, Sleep, Ask}
 use Rattle.txn_kv.specs.declared.request.Request.{Request}
-use Rattle.txn_kv.specs.declared.request.Request.TheVariants.{Members}
+use Rattle.txn_kv.specs.declared.request.Request.TheVariants.{Members, TxnHeartBeat}
 use Rattle.txn_kv.specs.declared.request.TxnHeartBeatRequest.{TxnHeartBeatRequest}
 use Rattle.txn_core.specs.declared.heartbeat.Heartbeat.{Heartbeat}
 use Rattle.txn_history.specs.Event.{Event, Has}
@@ -20,8 +20,10 @@ use Rattle.txn_history.specs.Turn.{IfKept, IfKept-all, IfKept-weaker, Turn}
 use Rattle.txn_plan.specs.Arrivals.{awaited_as, told_by}
 use Rattle.txn_plan.specs.declared.arrival.Arrival.{Arrival}
 use Rattle.txn_plan.specs.declared.arrival.Arrival.TheVariants as arrivals
-use Rattle.txn_heartbeat.specs.Beats.{Beats, IsAlive, IsBeatOf, IsBeating, IsErrandOf, IsLookUp, IsPlanForBeats, StageLives}
+use Rattle.txn_heartbeat.specs.Beats.{beat_at, Beats, IsAlive, IsBeatOf, IsBeating, IsErrandOf, IsLookUp, IsPlanForBeats, IsSentAs, SendsBeat, StageLives, TellsBeat}
+use Rattle.txn_heartbeat.specs.Beats.{GoesOn as JobGoesOn}
 use Rattle.txn_heartbeat.specs.declared.heartbeat_job.HeartbeatJob.{HeartbeatJob}
+use Rattle.txn_heartbeat.specs.declared.heartbeat_job.Stage.{Stage}
 use Rattle.txn_heartbeat.specs.declared.heartbeat_job.Stage.TheVariants as stage
 use Rattle.txn_heartbeat.proofs.Own.{IsOwn, own_after, own_heard, own_nothing, sent_or_not}
 
@@ -57,7 +59,7 @@ each_of beat may w line turned h (Ask n ∷ rs) l = All-cons (IsErrandOf beat) (
 
 module _ {S A : Type 0} where
   -- what a call leaves: its errands, and a plan that lives on
-  pub record GoesOn (m : Meaning S (Result A Error)) (beat : Heartbeat) (p : S) (from to : Posted) (turn : Turn (Result A Error)) : Type 0 where
+  pub record LivesOn (m : Meaning S (Result A Error)) (beat : Heartbeat) (p : S) (from to : Posted) (turn : Turn (Result A Error)) : Type 0 where
     pub beats : Beats beat from to
     pub lives : IfKept turn (IsBeating m beat.primary (version_of beat.start) p to)
 
@@ -65,7 +67,7 @@ module _ {S A : Type 0} where
   meant : (m : Meaning S (Result A Error)) (beat : Heartbeat) (told : Told) (p p' : S) (o o' : Posted) (turn : Turn (Result A Error))
       → ((h : List Event) → IsOwn o.line o.beat o.next h → IsOwn o.line o.beat o.next (told.hear h))
       → (b : IsBeating m beat.primary (version_of beat.start) p o) → told.known b.history
-      → Tells m told p p' o o' turn → m.ready p' → GoesOn m beat p' o o' turn
+      → Tells m told p p' o o' turn → m.ready p' → LivesOn m beat p' o o' turn
   meant m beat told p p' o o' turn hears b known t ready = record {
     beats = record {
       sends = t.moves.sends;
@@ -91,7 +93,7 @@ module _ {S A : Type 0} where
   -- a call that is not meant for it changes nothing
   unmeant : {C : Type 0} (m : Meaning S (Result A Error)) (beat : Heartbeat) (a : Type 0) (p p' : S) (o o' : Posted) (pd pd' : C) (turn : Turn (Result A Error))
       → IsBeating m beat.primary (version_of beat.start) p o → (a → ⊥)
-      → Goes m.phase a p p' o o' pd pd' turn → GoesOn m beat p' o o' turn
+      → Goes m.phase a p p' o o' pd pd' turn → LivesOn m beat p' o o' turn
   unmeant m beat a p p' o o' pd pd' turn b other g = record {
     beats = beats_nothing beat (g.outbox other);
     lives = IfKept-all turn (rw (g.state other, g.outbox other) b);
@@ -119,31 +121,43 @@ module _ {S A : Type 0} where
       → IsLawful m → IsBeating m beat.primary (version_of beat.start) p o
       → ((r : Request) → Tells m (told_by a o r) p p' o o' turn)
       → Goes m.phase (m.waits p (awaited_as a)) p p' o o' pd pd' turn
-      → m.ready p' → GoesOn m beat p' o o' turn
+      → m.ready p' → LivesOn m beat p' o o' turn
   told_on m beat a p p' o o' pd pd' turn law b tells goes ready = by (known_or_not m law a beat.primary (version_of beat.start) p o b)
     where
-      by : ((r : Request) × (told_by a o r).known b.history) ⊎ (m.waits p (awaited_as a) → ⊥) → GoesOn m beat p' o o' turn
+      by : ((r : Request) × (told_by a o r).known b.history) ⊎ (m.waits p (awaited_as a) → ⊥) → LivesOn m beat p' o o' turn
       by (inl (r, known)) = meant m beat (told_by a o r) p p' o o' turn (λ h k. own_heard a o r o.line o.beat o.next h k) b known (tells r) ready
       by (inr other) = unmeant m beat (m.waits p (awaited_as a)) p p' o o' pd pd' turn b other goes
 
   -- a plan that is started
-  pub started_on : (m : Meaning S (Result A Error)) (beat : Heartbeat) (request : TxnHeartBeatRequest) (p p' : S) (o o' : Posted) (turn : Turn (Result A Error))
-      → IsPlanForBeats m request p → request.primary_lock ≡ beat.primary → request.start_version ≡ version_of beat.start
-      → Tells m started p p' o o' turn → m.ready p' → GoesOn m beat p' o o' turn
-  started_on m beat request p p' o o' turn is e f t ready = meant m beat started p p' o o' turn (λ h k. k) begun tt t ready
+  pub started_on : (m : Meaning S (Result A Error)) (beat : Heartbeat) (now : ℕ) (p p' : S) (o o' : Posted) (turn : Turn (Result A Error))
+      → IsPlanForBeats m (beat_at beat now) p → Tells m started p p' o o' turn → m.ready p' → LivesOn m beat p' o o' turn
+  started_on m beat now p p' o o' turn is t ready = meant m beat started p p' o o' turn (λ h k. k) begun tt t ready
     where
+      sent : (r : Request) → IsSentAs (beat_at beat now) r ⊎ IsLookUp r → IsBeatOf beat.primary (version_of beat.start) r ⊎ IsLookUp r
+      sent (TxnHeartBeat q) (inl i) = inl (
+        ap (λ (x : TxnHeartBeatRequest). x.primary_lock) i,
+        ap (λ (x : TxnHeartBeatRequest). x.start_version) i,
+        (let same : q.advise_lock_ttl ≡ 20_000 + (now - beat.began) = ap (λ (x : TxnHeartBeatRequest). x.advise_lock_ttl) i in omega (arith, same)),
+      )
+      sent r (inl i) = absurd i
+      sent r (inr l) = inr l
+
+      nothing : IsOwn o.line o.beat o.next []
+      nothing = own_nothing o.line o.beat o.next
+
       begun : IsBeating m beat.primary (version_of beat.start) p o
       begun = record {
         history = [];
         fits = is.unbegun.fits o [];
         alone = nothing.alone;
         below = nothing.below;
-        asks = rw (← e, ← f) is.asks;
+        asks = λ h r a. sent r (is.asks h r a);
         ready = is.ready;
       }
-        where
-          nothing : IsOwn o.line o.beat o.next []
-          nothing = own_nothing o.line o.beat o.next
+
+pub is_beat : (beat : Heartbeat) (now ttl : ℕ) (primary : Key) (request : TxnHeartBeatRequest) → request ≡ record { context = None; primary_lock = primary; start_version = version_of beat.start; advise_lock_ttl = ttl }
+    → primary ≡ beat.primary → ttl ≡ 20_000 + (now - beat.began) → request ≡ beat_at beat now
+is_beat beat now ttl primary request e f g = e ∙ rw (f, g) refl
 
 -- The job.
 
@@ -151,9 +165,29 @@ pub alive_beating : {S A : Type 0} (m : Meaning S (Result A Error)) (job : Heart
 alive_beating m job p o e a = subst (λ g. StageLives m job.heartbeat.primary (version_of job.heartbeat.start) g o) e a.stage
 
 -- and goes on after a call of its plan
-pub alive_on : {S A : Type 0} (m : Meaning S (Result A Error)) (job : HeartbeatJob S) (beat : Heartbeat) (p : S) {from : Posted} (to : Posted) (turn : Turn (Result A Error)) → job.heartbeat ≡ beat → job.stage ≡ stage.Beating p → HasVersion beat.start → GoesOn m beat p from to turn → IfKept turn (IsAlive m job to)
+pub alive_on : {S A : Type 0} (m : Meaning S (Result A Error)) (job : HeartbeatJob S) (beat : Heartbeat) (p : S) {from : Posted} (to : Posted) (turn : Turn (Result A Error)) → job.heartbeat ≡ beat → job.stage ≡ stage.Beating p → HasVersion beat.start → LivesOn m beat p from to turn → IfKept turn (IsAlive m job to)
 alive_on m job beat p to turn same at version goes = IfKept-weaker turn (λ b. record { start = subst (λ (x : Heartbeat). HasVersion x.start) (sym same) version; stage = rw (at, same) b }) goes.lives
 
 pub beats_on : {X : Type 0} (r : Result X NoMemory) (beat : Heartbeat) {from via : Posted} (to : Posted) → Beats beat from via → OnOk r (Beats beat via to) → OnOk r (Beats beat from to)
 beats_on (Ok v) beat to s t = beats_then beat s t
 beats_on (Err e) beat to s t = tt
+
+pub sends_beat : {S A X : Type 0} (m : Meaning S (Result A Error)) (now : ℕ) (old new : HeartbeatJob S) (fresh plan : S) (from via to : Posted) (inner : Turn (Result A Error)) (r : Result X NoMemory) (turn : Turn (Result (Unit {0}) Error))
+    → IsPlanForBeats m (beat_at old.heartbeat now) fresh → Tells m started fresh plan from via inner → OnOk r (JobGoesOn inner (record old { stage = stage.Beating plan }) new via to turn)
+    → OnOk r (SendsBeat m now old new from to turn)
+sends_beat m now old new fresh plan from via to inner (Ok v) turn is t g = record { fresh = fresh; is = is; plan = plan; via = via; inner = inner; tells = t; goes = g }
+sends_beat m now old new fresh plan from via to inner (Err e) turn is t g = tt
+
+pub tells_beat : {S A C X : Type 0} (m : Meaning S (Result A Error)) (arrival : Arrival) (p : S) (old new : HeartbeatJob S) (plan : S) (from via to : Posted) (pd pd' : C) (inner : Turn (Result A Error)) (r : Result X NoMemory) (turn : Turn (Result (Unit {0}) Error))
+    → ((r : Request) → Tells m (told_by arrival from r) p plan from via inner) → Goes m.phase (m.waits p (awaited_as arrival)) p plan from via pd pd' inner
+    → OnOk r (JobGoesOn inner (record old { stage = stage.Beating plan }) new via to turn)
+    → OnOk r (TellsBeat m arrival p old new from to turn)
+tells_beat m arrival p old new plan from via to pd pd' inner (Ok v) turn t h g = record { plan = plan; via = via; inner = inner; tells = t; deaf = λ other. (h.deaf other, h.state other, h.outbox other); goes = g }
+tells_beat m arrival p old new plan from via to pd pd' inner (Err e) turn t h g = tt
+
+-- what is said of its plan is said of it under any name
+pub of_its_plan : {S : Type 0} (P : S → Type 0) (g : Stage S) (p q : S) → g ≡ stage.Beating p → g ≡ stage.Beating q → P p → P q
+of_its_plan P g p q e f h = subst P (same (sym e ∙ f)) h
+  where
+    same : stage.Beating p ≡ stage.Beating q → p ≡ q
+    same d = cc

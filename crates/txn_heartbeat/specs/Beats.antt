@@ -1,14 +1,15 @@
 -- A heartbeat's job: what it sends, and what is known of it.
-use Rattle.std.specs.Prelude.{◌≡◌, ◌⊎◌, ◌<◌, ◌+◌, ⊤, ℕ, List, [], ◌∷◌, ◌++◌, Result, Ok}
+use Rattle.std.specs.Prelude.{◌≡◌, ◌⊎◌, ◌<◌, ◌≤◌, ◌+◌, ◌-◌, ⊤, ℕ, List, [], ◌∷◌, ◌++◌, None, Result, Ok, Err}
 use Rattle.std.specs.List.{All}
 use Rattle.txn_core.specs.declared.heartbeat.Heartbeat.{Heartbeat}
 use Rattle.txn_history.specs.Event.{Event, Has}
 use Rattle.txn_history.specs.Event.Event.{Sent}
-use Rattle.txn_history.specs.Meaning.{IsUnbegun, Meaning}
+use Rattle.txn_history.specs.Meaning.{started, IsUnbegun, Meaning, Tells}
+use Rattle.txn_history.specs.Phase.{unheard}
 use Rattle.txn_history.specs.Plan.{Key}
 use Rattle.txn_history.specs.Posted.{AreNumbered, Errand, Posted}
 use Rattle.txn_history.specs.Turn.{Turn}
-use Rattle.txn_history.specs.Turn.Turn.{Ends, Waits}
+use Rattle.txn_history.specs.Turn.Turn.{Ends, Stopped, Waits}
 use Rattle.txn_kv.specs.Timestamp.{HasVersion, version_of}
 use Rattle.txn_kv.specs.declared.errors.Error.{Error}
 use Rattle.txn_kv.specs.declared.outbox.Errand.TheVariants as errands
@@ -16,14 +17,21 @@ use Rattle.txn_kv.specs.declared.request.Request.{Request}
 use Rattle.txn_kv.specs.declared.request.Request.TheVariants.{GetRegion, GetRegionById, GetStore, GetAllStores, Members, TxnHeartBeat, UpdateGcSafePoint}
 use Rattle.txn_kv.specs.declared.request.TxnHeartBeatRequest.{TxnHeartBeatRequest}
 use Rattle.txn_kv.specs.declared.ticket.Ticket.{Ticket}
+use Rattle.txn_plan.specs.Arrivals.{awaited_as, told_by}
+use Rattle.txn_plan.specs.declared.arrival.Arrival.{Arrival}
 use Rattle.txn_heartbeat.specs.declared.heartbeat_job.HeartbeatJob.{HeartbeatJob}
 use Rattle.txn_heartbeat.specs.declared.heartbeat_job.Stage.{Stage}
 use Rattle.txn_heartbeat.specs.declared.heartbeat_job.Stage.TheVariants as stage
 
--- a beat for this primary, of the transaction of this start
+-- a beat for this primary, of the transaction of this start, which asks it to live as long at least as a lock does at most
 abbrev pub IsBeatOf : Key → ℕ → Request → Type 0
-IsBeatOf primary start (TxnHeartBeat r) = (r.primary_lock ≡ primary) × (r.start_version ≡ start)
+IsBeatOf primary start (TxnHeartBeat r) = (r.primary_lock ≡ primary) × (r.start_version ≡ start) × (20_000 ≤ r.advise_lock_ttl)
 IsBeatOf primary start r = ⊥
+
+-- the request, as it goes to its region
+abbrev pub IsSentAs : TxnHeartBeatRequest → Request → Type 0
+IsSentAs request (TxnHeartBeat r) = r ≡ record request { context = r.context }
+IsSentAs request r = ⊥
 
 -- what the placement driver is asked for
 abbrev pub IsLookUp : Request → Type 0
@@ -39,7 +47,7 @@ IsLookUp r = ⊥
 pub record IsPlanForBeats {S A : Type 0} (m : Meaning S (Result A Error)) (request : TxnHeartBeatRequest) (p : S) : Type 0 where
   pub unbegun : IsUnbegun m p
   pub ready : m.ready p
-  pub asks : (h : List Event) (r : Request) → m.asks p h r → IsBeatOf request.primary_lock request.start_version r ⊎ IsLookUp r
+  pub asks : (h : List Event) (r : Request) → m.asks p h r → IsSentAs request r ⊎ IsLookUp r
 
 -- What a beat's plan is while it is on its way: it can have arisen from a history of its own, in which each ticket names one request, and
 -- a number below that of the next.
@@ -96,3 +104,35 @@ pub record Ended {S : Type 0} (new : HeartbeatJob S) (from to : Posted) (turn : 
   pub ends : turn ≡ Ends (Ok tt)
   pub stage : new.stage ≡ stage.Over
   pub posted : to ≡ from
+
+-- What becomes of a beat
+
+-- what it asks for at this time
+abbrev pub beat_at : Heartbeat → ℕ → TxnHeartBeatRequest
+beat_at beat now = record { context = None; primary_lock = beat.primary; start_version = version_of beat.start; advise_lock_ttl = 20_000 + (now - beat.began) }
+
+-- A call of its plan ended so: the job waits with it, sleeps once the beat is answered, and is over where it failed.
+abbrev pub GoesOn : {S A : Type 0} → Turn (Result A Error) → HeartbeatJob S → HeartbeatJob S → Posted → Posted → Turn (Result (Unit {0}) Error) → Type 0
+GoesOn Stopped old new from to turn = ⊥
+GoesOn Waits old new from to turn = (turn ≡ Waits) × (new ≡ old) × (to ≡ from)
+GoesOn (Ends (Ok v)) old new from to turn = Sleeps old new from to turn
+GoesOn (Ends (Err e)) old new from to turn = (turn ≡ Ends (Err e)) × (new.stage ≡ stage.Over) × (to ≡ from)
+
+-- a plan of the beat is started
+pub record SendsBeat {S A : Type 0} (m : Meaning S (Result A Error)) (now : ℕ) (old new : HeartbeatJob S) (from to : Posted) (turn : Turn (Result (Unit {0}) Error)) : Type 0 where
+  pub fresh : S
+  pub is : IsPlanForBeats m (beat_at old.heartbeat now) fresh
+  pub plan : S
+  pub via : Posted
+  pub inner : Turn (Result A Error)
+  pub tells : Tells m started fresh plan from via inner
+  pub goes : GoesOn inner (record old { stage = stage.Beating plan }) new via to turn
+
+-- the plan of the beat is told of something
+pub record TellsBeat {S A : Type 0} (m : Meaning S (Result A Error)) (arrival : Arrival) (p : S) (old new : HeartbeatJob S) (from to : Posted) (turn : Turn (Result (Unit {0}) Error)) : Type 0 where
+  pub plan : S
+  pub via : Posted
+  pub inner : Turn (Result A Error)
+  pub tells : (r : Request) → Tells m (told_by arrival from r) p plan from via inner
+  pub deaf : (m.waits p (awaited_as arrival) → ⊥) → (inner ≡ unheard (m.phase p)) × (plan ≡ p) × (via ≡ from)
+  pub goes : GoesOn inner (record old { stage = stage.Beating plan }) new via to turn
