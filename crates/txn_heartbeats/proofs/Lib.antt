@@ -2,4 +2,8 @@ pub mod Lists
 pub mod Numbers
 pub mod Seen
 pub mod Happening
+pub mod Resting
+pub mod Keeping
 pub mod Living
+pub mod Posting
+pub mod Sides

@@ -8,6 +8,8 @@ use Rattle.txn_history.specs.Meaning.{Meaning}
 use Rattle.txn_history.specs.Posted.{Posted}
 use Rattle.txn_kv.specs.declared.errors.Error.{Error}
 use Rattle.txn_side.specs.Sight.{Sight, line_count, next_at}
+use Rattle.txn_side.specs.Trace.{Trace}
+use Rattle.txn_side.specs.Waiting.{Awaited}
 use Rattle.txn_heartbeats.specs.Beating.{AreFresh, with_beats}
 use Rattle.txn_heartbeats.specs.declared.heartbeats.Heartbeats.{Heartbeats}
 
@@ -27,6 +29,19 @@ job_at jobs (suc i) = slice_index_or jobs i None
 abbrev pub sight_of : {S H : Type 0} → (S → Sight) → Heartbeats S H → Sight
 sight_of sight b = with_beats (beats_of b) (sight b.side)
 
+-- The clients have used no number of a heartbeat. It is a law of theirs, but what they say of clients of no line they say of a sight that
+-- has no such number either, which is not seen from outside.
+abbrev pub IsUnbeaten : Sight → Type 0
+IsUnbeaten s = s.nexts.beats ≡ map (λ (n : ℕ). 1) s.nexts.calls
+
+-- what a call waits for
+abbrev pub waits_of : {S H : Type 0} → (S → Sight) → (S → ℕ → Awaited → Type 0) → Heartbeats S H → ℕ → Awaited → Type 0
+waits_of sight waits b n a = IsUnbeaten (sight b.side) × waits b.side n a
+
+-- what the calls have heard has happened
+abbrev pub RestsIn : {S H : Type 0} → (S → Sight) → (S → Trace → Type 0) → Heartbeats S H → Trace → Type 0
+RestsIn sight rests b t = IsUnbeaten (sight b.side) → rests b.side t
+
 -- an outbox of a line's heartbeat, in which nothing is posted yet
 abbrev pub outbox_at : ℕ → ℕ → Posted
 outbox_at line next = record { line = line; beat = true; next = next; next_ask = 1; sends = [] }
@@ -38,6 +53,7 @@ AreAlive {H} m beats jobs = (line : ℕ) (job : HeartbeatJob H) → job_at jobs 
 -- they may be called: the clients may, and each line has the numbers of a heartbeat, whose job may be told of something
 pub record IsReady {S H A : Type 0} (ready : S → Type 0) (sight : S → Sight) (m : Meaning H (Result A Error)) (b : Heartbeats S H) : Type 0 where
   pub side : ready b.side
+  pub unbeaten : IsUnbeaten (sight b.side)
   pub even : length (beats_of b) ≡ line_count (sight b.side)
   pub alive : AreAlive m (beats_of b) (jobs_of b)
 

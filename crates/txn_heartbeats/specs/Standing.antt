@@ -1,21 +1,20 @@
 -- What is so of the clients is so of them with their heartbeats.
-use Rattle.std.specs.Prelude.{◌≡◌, ℕ, List, [], ◌∷◌, map, refl}
+use Rattle.std.specs.Prelude.{◌≡◌, ℕ, List, [], ◌∷◌, map, Result}
 use Rattle.std.proofs.Common.{inl, inr, sym, ap, ◌∙◌, subst}
 use Rattle.txn_history.specs.Event.{Event, Has}
-use Rattle.txn_history.specs.Event.Event as events
+use Rattle.txn_history.specs.Event.Event.{Sent}
+use Rattle.txn_history.specs.Meaning.{Meaning}
+use Rattle.txn_kv.specs.declared.errors.Error.{Error}
 use Rattle.txn_kv.specs.declared.request.Request.{Request}
 use Rattle.txn_kv.specs.declared.ticket.Ticket.{Ticket}
 use Rattle.txn_report.specs.declared.outcome.Outcome.{Outcome}
 use Rattle.txn_side.specs.Arising.{Arises, IsOutside}
 use Rattle.txn_side.specs.Sight.{Sight, nobody}
-use Rattle.txn_side.specs.Waiting.{Awaited, IsDue}
+use Rattle.txn_side.specs.Trace.{IsLonger, Trace}
+use Rattle.txn_side.specs.Waiting.{Awaited, IsDue, NoneWaits}
 use Rattle.txn_heartbeats.specs.Beating.{AreFresh, with_beats}
-use Rattle.txn_heartbeats.specs.Hearts.{ArisesIn, IsReady, beats_of, sight_of}
+use Rattle.txn_heartbeats.specs.Hearts.{ArisesIn, IsReady, IsUnbeaten, RestsIn, beats_of, sight_of, waits_of}
 use Rattle.txn_heartbeats.specs.declared.heartbeats.Heartbeats.{Heartbeats}
-
--- no number of a heartbeat was used
-abbrev pub IsUnbeaten : Sight → Type 0
-IsUnbeaten s = s.nexts.beats ≡ map (λ (n : ℕ). 1) s.nexts.calls
 
 -- clients of no line
 
@@ -27,17 +26,23 @@ nobody_inside beats s unbeaten e =
     let calls = ap (λ (x : Sight). x.nexts.calls) e in
     nobody_by s (ap (λ (x : Sight). x.crashed) e) (ap (λ (x : Sight). x.groups) e) (ap (λ (x : Sight). x.stands) e) calls (unbeaten ∙ ap (map (λ (n : ℕ). 1)) calls)
 
-pub no_beats : (beats : List ℕ) (s : Sight) → with_beats beats s ≡ nobody → beats ≡ []
-no_beats beats s e = ap (λ (x : Sight). x.nexts.beats) e
+module _ {S H : Type 0} (sight : S → Sight) (b : Heartbeats S H) where
+  pub nobody_waits_so : (waits : S → ℕ → Awaited → Type 0) → (sight b.side ≡ nobody → NoneWaits (waits b.side)) → sight_of sight b ≡ nobody → NoneWaits (waits_of sight waits b)
+  nobody_waits_so waits none e n a w = none (nobody_inside (beats_of b) (sight b.side) w.0 e) n a w.1
 
--- what is due
+  pub nobody_rests_so : (rests : S → Trace → Type 0) → (sight b.side ≡ nobody → (t : Trace) → rests b.side t) → sight_of sight b ≡ nobody → (t : Trace) → RestsIn sight rests b t
+  nobody_rests_so rests all e t unbeaten = all (nobody_inside (beats_of b) (sight b.side) unbeaten e) t
 
-pub due_so : (waits : ℕ → Awaited → Type 0) (s : Sight) (beats : List ℕ) → IsDue waits s → IsDue waits (with_beats beats s)
-due_so waits s beats due n c at lives = elim (due n c at lives) [ inl w ↦ inl w | inr g ↦ inr (record { group = g.group; out = g.out; own = g.own }) ]
+  pub rests_longer_so : (rests : S → Trace → Type 0) → ((t longer : Trace) → IsLonger t longer → rests b.side t → rests b.side longer) → (t longer : Trace) → IsLonger t longer → RestsIn sight rests b t → RestsIn sight rests b longer
+  rests_longer_so rests more t longer is r unbeaten = more t longer is (r unbeaten)
+
+  -- what is due
+  pub due_so : (waits : S → ℕ → Awaited → Type 0) → IsUnbeaten (sight b.side) → IsDue (waits b.side) (sight b.side) → IsDue (waits_of sight waits b) (sight_of sight b)
+  due_so waits unbeaten due n c at lives = elim (due n c at lives) [ inl w ↦ inl (w.0, (unbeaten, w.1)) | inr g ↦ inr (record { group = g.group; out = g.out; own = g.own }) ]
 
 -- what happened
 
-outside_sent : (e : Event) (t : Ticket) (r : Request) → IsOutside e → e ≡ events.Sent t r → ⊥
+outside_sent : (e : Event) (t : Ticket) (r : Request) → IsOutside e → e ≡ Sent t r → ⊥
 outside_sent e t r outside same = subst IsOutside same outside
 
 pub fresh_outside : (beats : List ℕ) (h : List Event) (e : Event) → IsOutside e → AreFresh beats h → AreFresh beats (e ∷ h)
@@ -47,8 +52,8 @@ pub nothing_fresh : (beats : List ℕ) → AreFresh beats []
 nothing_fresh beats t r has beat = absurd has
 
 module _ {S H : Type 0} (arises : S → List Event → Type 0) (holds : S → List Event → ℕ → Outcome → Type 0) (b : Heartbeats S H) where
-  pub nobody_arises_so : arises b.side [] → ArisesIn arises b []
-  nobody_arises_so a = record { side = a; fresh = nothing_fresh (beats_of b) }
+  pub nobody_arises_so : {A : Type 0} (ready : S → Type 0) (sight : S → Sight) (m : Meaning H (Result A Error)) → (ready b.side → sight b.side ≡ nobody → arises b.side []) → IsReady ready sight m b → sight_of sight b ≡ nobody → ArisesIn arises b []
+  nobody_arises_so ready sight m all r e = record { side = all r.side (nobody_inside (beats_of b) (sight b.side) r.unbeaten e); fresh = nothing_fresh (beats_of b) }
 
   pub arises_outside : (h : List Event) (e : Event) → IsOutside e → ArisesIn arises b h → Arises (arises b.side) (holds b.side) (holds b.side h) (λ n. n) (e ∷ h) []
       → Arises (ArisesIn arises b) (holds b.side) (holds b.side h) (λ n. n) (e ∷ h) []

@@ -1,4 +1,4 @@
-ghost use Rattle.std.specs.Prelude.{◌≡◌, IfOk, None, true, []};
+ghost use Rattle.std.specs.Prelude.{◌≡◌, IfOk, None, false, true, []};
 ghost use Rattle.txn_history.specs.Posted.{HasNumbers};
 
 use std::alloc::Global;

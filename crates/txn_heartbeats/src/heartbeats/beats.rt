@@ -20,7 +20,7 @@ use txn_side::{Posting, Turn};
 fn post_one(alloc: Global, line: u64, errand: Errand, turn: &mut Turn) -> Result<(), NoMemory>
     ensures posted { OnOk result (turn.new.posted.items ≡ turn.old.posted.items ++ posted_as line errand) }
     ensures timeless { OnOk result (AreTimeless (errand ∷ [])) }
-    ensures ended { turn.new.ended ≡ turn.old.ended }
+    ensures ended { OnOk result (turn.new.ended ≡ turn.old.ended) }
 {
     match errand {
         Errand::Send {
@@ -68,7 +68,7 @@ impl<S: HeartHost, H: PlanForHeartbeats> Heartbeats<S, H> {
         requires ready { IsReady S.ready S.sight H.meaning self.old }
         requires line { 1 ≤ length (beats_of self.old) }
         ensures side { OnOk result (self.new.side ≡ self.old.side) }
-        ensures ended { turn.new.ended ≡ turn.old.ended }
+        ensures ended { OnOk result (turn.new.ended ≡ turn.old.ended) }
         ensures beats { OnOk result (PostsBeats (length (beats_of self.old)) (beats_of self.old) turn.old.posted.items turn.new.posted.items (beats_of self.new)) }
         ensures ready { OnOk result (IsReady S.ready S.sight H.meaning self.new) }
     {
@@ -124,10 +124,10 @@ impl<S: HeartHost, H: PlanForHeartbeats> Heartbeats<S, H> {
         requires { IsLine (beats_of self.old) line }
         ensures posted { OnOk result (turn.new.posted.items ≡ turn.old.posted.items ++ postings_of line out.sends) }
         ensures timeless { OnOk result (AreTimeless out.sends) }
-        ensures ended { turn.new.ended ≡ turn.old.ended }
-        ensures side { self.new.side ≡ self.old.side }
+        ensures ended { OnOk result (turn.new.ended ≡ turn.old.ended) }
+        ensures side { OnOk result (self.new.side ≡ self.old.side) }
         ensures beats { OnOk result (beats_of self.new ≡ slice_set (beats_of self.old) (line - 1) out.next) }
-        ensures jobs { jobs_of self.new ≡ jobs_of self.old }
+        ensures jobs { OnOk result (jobs_of self.new ≡ jobs_of self.old) }
     {
         let mut out = out;
         let sends = mem::replace(&mut out.sends, Vec::new(self.alloc));
@@ -141,7 +141,7 @@ impl<S: HeartHost, H: PlanForHeartbeats> Heartbeats<S, H> {
 fn post_all(alloc: Global, line: u64, sends: Vec<Errand>, turn: &mut Turn) -> Result<(), NoMemory>
     ensures posted { OnOk result (turn.new.posted.items ≡ turn.old.posted.items ++ postings_of line sends.items) }
     ensures timeless { OnOk result (AreTimeless sends.items) }
-    ensures ended { turn.new.ended ≡ turn.old.ended }
+    ensures ended { OnOk result (turn.new.ended ≡ turn.old.ended) }
 {
     for errand in sends {
         post_one(alloc, line, errand, turn)?;

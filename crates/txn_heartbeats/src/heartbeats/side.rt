@@ -12,34 +12,34 @@ fn is_commit(act: &Act) -> bool {
 }
 
 impl<S: HeartHost, H: PlanForHeartbeats> ClientSide for Heartbeats<S, H> {
-    ghost use Rattle.txn_heartbeats.specs.Hearts.{ArisesIn, IsReady, beats_of, sight_of};
-    ghost use Rattle.txn_heartbeats.specs.Standing.{arises_outside, due_so, nobody_arises_so, nobody_inside};
+    ghost use Rattle.txn_heartbeats.specs.Hearts.{ArisesIn, IsReady, RestsIn, sight_of, waits_of};
+    ghost use Rattle.txn_heartbeats.specs.Standing.{arises_outside, due_so, nobody_arises_so, nobody_rests_so, nobody_waits_so, rests_longer_so};
 
     ghost sight = { sight_of S.sight };
 
     ghost ready = { IsReady S.ready S.sight H.meaning };
 
-    ghost waits = { λ b. S.waits b.side };
+    ghost waits = { waits_of S.sight S.waits };
 
-    ghost nobody_waits = { λ b e. S.nobody_waits b.side (nobody_inside (beats_of b) (S.sight b.side) (S.unbeaten b.side) e) };
+    ghost nobody_waits = { λ b. nobody_waits_so S.sight b S.waits (S.nobody_waits b.side) };
 
-    ghost due = { λ b r. due_so (S.waits b.side) (S.sight b.side) (beats_of b) (S.due b.side r.side) };
+    ghost due = { λ b r. due_so S.sight b S.waits r.unbeaten (S.due b.side r.side) };
 
     ghost account = { λ b. S.account b.side };
 
     ghost fails = { S.fails };
 
-    ghost rests = { λ b. S.rests b.side };
+    ghost rests = { RestsIn S.sight S.rests };
 
-    ghost rests_longer = { λ b. S.rests_longer b.side };
+    ghost rests_longer = { λ b. rests_longer_so S.sight b S.rests (S.rests_longer b.side) };
 
-    ghost nobody_rests = { λ b e. S.nobody_rests b.side (nobody_inside (beats_of b) (S.sight b.side) (S.unbeaten b.side) e) };
+    ghost nobody_rests = { λ b. nobody_rests_so S.sight b S.rests (S.nobody_rests b.side) };
 
     ghost arises = { ArisesIn S.arises };
 
     ghost holds = { λ b. S.holds b.side };
 
-    ghost nobody_arises = { λ b r e. nobody_arises_so S.arises S.holds b (S.nobody_arises b.side r.side (nobody_inside (beats_of b) (S.sight b.side) (S.unbeaten b.side) e)) };
+    ghost nobody_arises = { λ b. nobody_arises_so S.arises S.holds b S.ready S.sight H.meaning (S.nobody_arises b.side) };
 
     ghost arises_longer = { λ b h e outside may a. arises_outside S.arises S.holds b h e outside a (S.arises_longer b.side h e outside may a.side) };
 
@@ -79,9 +79,10 @@ impl<S: HeartHost, H: PlanForHeartbeats> ClientSide for Heartbeats<S, H> {
         match self.side.act(transaction, act, now)? {
             None => Ok(None),
             Some(mut turn) => {
-                if commits {
-                    self.start_beat(transaction, &mut turn)?;
+                if !commits {
+                    return Ok(Some(turn));
                 }
+                self.start_beat(transaction, &mut turn)?;
                 Ok(Some(turn))
             }
         }
