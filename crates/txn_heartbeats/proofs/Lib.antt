@@ -7,3 +7,4 @@ pub mod Keeping
 pub mod Living
 pub mod Posting
 pub mod Sides
+pub mod Telling

@@ -13,7 +13,8 @@ use Rattle.txn_kv.specs.declared.request.Request.{Request}
 use Rattle.txn_kv.specs.declared.request.Request.TheVariants as requests
 use Rattle.txn_side.specs.Arising.{IsBeat}
 use Rattle.txn_side.specs.Sight.{next_at, with_next}
-use Rattle.txn_heartbeats.specs.Beating.{AreBeats, AreTimeless, IsLine, beat_ticket, postings_of}
+use Rattle.txn_side.specs.declared.turn.Posting.{Posting}
+use Rattle.txn_heartbeats.specs.Beating.{AreBeats, AreTimeless, IsLine, PostsBeats, beat_ticket, postings_of}
 use Rattle.txn_heartbeats.specs.Hearts.{outbox_at}
 use Rattle.txn_heartbeats.proofs.Lists.{line_set, next_set, set_next_same}
 use Rattle.txn_heartbeats.proofs.Living.{timeless_ask}
@@ -79,3 +80,11 @@ pub timeless_then : (e : Errand) (es : List Errand) → AreTimeless (e ∷ []) �
 timeless_then (errands.Send k to r) es one rest = rest
 timeless_then (errands.Sleep k ms) es one rest = rest
 timeless_then (errands.Ask k) es one rest = absurd one
+
+-- what is posted so
+
+pub posts_so : (line : ℕ) (from to : List ℕ) (ps qs : List Posting) (p : Posted) → Holds line from p → qs ≡ ps ++ postings_of line p.sends → to ≡ set from (line - 1) p.next → PostsBeats line from ps qs to
+posts_so line from to ps qs p h pushed e = record { posted = postings_of line p.sends; pushed = pushed; beats = subst (AreBeats line from (postings_of line p.sends)) (sym e) h.beats }
+
+pub posts_all : (line : ℕ) (from to : List ℕ) (ps qs : List Posting) → ps ≡ [] → PostsBeats line from ps qs to → AreBeats line from qs to
+posts_all line from to ps qs none p = subst (λ rs. AreBeats line from rs to) (sym (p.pushed ∙ ap (λ rs. rs ++ p.posted) none)) p.beats

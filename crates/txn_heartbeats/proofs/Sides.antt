@@ -40,6 +40,11 @@ pub both_if_ok : {T E : Type 0} (r : Result T E) (P Q R : T → Type 0) → ((v 
 both_if_ok (Ok v) P Q R f p q = f v p q
 both_if_ok (Err e) P Q R f p q = tt
 
+-- four of what went well give a fifth
+pub ok_four : {T E A B C D F : Type 0} (r : Result T E) → (A → B → C → D → F) → OnOk r A → OnOk r B → OnOk r C → OnOk r D → OnOk r F
+ok_four (Ok v) f a b c d = f a b c d
+ok_four (Err e) f a b c d = tt
+
 -- What the calls post
 
 pub asks_calls : (begins : Bool) (client : ℕ) (s t : Sight) (turn : Option Turn) → IsUnbeaten s → IsUnbeaten t → Asks begins client s t turn → AreCalls (posted_in turn)

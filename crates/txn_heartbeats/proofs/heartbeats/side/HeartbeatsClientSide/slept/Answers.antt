@@ -1,0 +1,32 @@
+use Rattle.std.proofs.Common.{refl}
+use Rattle.std.proofs.lemmas.Result.{IfOk-weaker, on_ok_weaker}
+use Rattle.txn_history.specs.Event.Event.{Slept}
+use Rattle.txn_side.specs.Sight.{stand_at}
+use Rattle.txn_side.specs.Arising.{answered_at}
+use Rattle.txn_heartbeats.specs.Hearts.{beats_of}
+use Rattle.txn_heartbeats.proofs.Numbers.{unused_so}
+use Rattle.txn_heartbeats.proofs.Seen.{goes_beside, goes_calls}
+use Rattle.txn_heartbeats.proofs.Sides.{both_if_ok, awake_beside, told_goes}
+use Rattle.txn_heartbeats.proofs.Telling.{told_happens, told_rests}
+use Rattle.txn_heartbeats.proofs.heartbeats.side.HeartbeatsClientSide.slept.Goals as goal
+
+pub returns-then-not-ticket-clause-turn : goal.returns-then-not-ticket-clause-turn
+returns-then-not-ticket-clause-turn g c = IfOk-weaker c.slept.result _ _
+    (λ turn. goes_beside (beats_of c.args.self.now) (g.S.ClientSide.sight c.args.self.now.side) (g.S.ClientSide.sight c.slept.new.self) turn.posted.items turn.ended.items (unused_so _ (g.met.S.HeartHost.unbeaten c.args.self.now.side)) (unused_so _ (g.met.S.HeartHost.unbeaten c.slept.new.self)))
+    c.slept.ensures.turn
+
+pub returns-then-not-ticket-clause-arises : goal.returns-then-not-ticket-clause-arises
+returns-then-not-ticket-clause-arises g c = both_if_ok c.slept.result _ _ _
+    (λ turn goes. awake_beside g.S.ClientSide.arises g.S.ClientSide.holds c.args.self.now (record c.args.self.now { side = c.slept.new.self }) (g.S.ClientSide.sight c.args.self.now.side) c.args.ticket turn (goes_calls (g.S.ClientSide.sight c.args.self.now.side) (g.S.ClientSide.sight c.slept.new.self) turn.posted.items turn.ended.items (unused_so _ (g.met.S.HeartHost.unbeaten c.args.self.now.side)) (unused_so _ (g.met.S.HeartHost.unbeaten c.slept.new.self)) goes) refl)
+    c.slept.ensures.turn c.slept.ensures.arises
+
+pub returns-clause-turn : goal.returns-clause-turn
+returns-clause-turn g c = told_goes g.S.ClientSide.sight c.args.ticket.line c.args.self.now c.tell.new.self c.tell.result (on_ok_weaker c.tell.result (λ stays. stays.sight_is) c.tell.ensures.stays) c.tell.ensures.ended c.tell.ensures.beats c.tell.ensures.dead
+
+pub returns-clause-rests : goal.returns-clause-rests
+returns-clause-rests g c = IfOk-weaker c.tell.result _ _ (λ turn rests t posted. rests t posted)
+    (told_rests g.S.ClientSide.sight c.args.self.now c.tell.new.self (g.met.S.HeartHost.unbeaten c.args.self.now.side) g.S.ClientSide.waits g.S.ClientSide.account g.S.ClientSide.rests g.S.ClientSide.arises g.S.ClientSide.holds g.S.ClientSide.fails (g.S.ClientSide.rests_longer c.tell.new.self.side) c.tell.result c.tell.ensures.stays c.tell.ensures.ended)
+
+pub returns-clause-arises : goal.returns-clause-arises
+returns-clause-arises g c = IfOk-weaker c.tell.result _ _ (λ turn happens h. happens h (Slept c.args.ticket) tt tt)
+    (told_happens g.S.ClientSide.sight c.args.self.now c.tell.new.self (g.met.S.HeartHost.unbeaten c.args.self.now.side) g.S.ClientSide.waits g.S.ClientSide.account g.S.ClientSide.rests g.S.ClientSide.arises g.S.ClientSide.holds g.met.S.HeartHost.arises_beating g.S.ClientSide.arises_longer c.args.ticket.line (λ n. answered_at n (stand_at (g.S.ClientSide.sight c.args.self.now.side).stands n)) c.tell.result c.tell.ensures.stays c.tell.ensures.ended c.tell.ensures.beats)
