@@ -1,7 +1,4 @@
 //! Clients that are told, line by line, what a machine would tell them.
-ghost use Rattle.std.specs.Prelude.{◌≤◌, OnOk};
-ghost use Rattle.txn_side.specs.Sight.{line_count};
-
 use crate::replies::reply;
 use crate::words::{push_ending, push_posting};
 use std::alloc::Global;
