@@ -155,7 +155,7 @@ module _ {P Q K : Type 0} where
             → Goal
         by_reply kept n is knows trace longer at met called_so came nexts news o low risen up reached x = elim (sent_or_not x.history (ticket_of from n)) [
           | inl (r, i) ↦ call_moved w trace longer at _ old new from to o turn nexts news met called_so (t r) kept (kept_heard a from r nexts) low risen up reached x (knows r x.history i (λ s j. x.kept.alone (ticket_of from n) r s i j))
-              (shown_heard trace at a from r x.history called_so came (λ m e. subst (λ j. SentIn trace (ticket_of from j) r) (one m (sym is ∙ e)) (sent_shown trace at x.history (ticket_of from n) r x.shown i)) x.shown) (own_heard a from r x.history x.own)
+              (shown_heard trace at a from r x.history called_so came (λ m e. subst (λ j. SentIn trace (ticket_of from j) r) (one m (sym is ∙ e)) (sent_shown trace at x.history (ticket_of from n) r x.shown i)) x.shown) (own_heard a from r x.history met.calls x.own)
           | inr never ↦ call_unknown w trace longer at a n old new from to o pd pd' turn nexts news met.longer is goes risen reached x never
         ]
           where
@@ -165,7 +165,7 @@ module _ {P Q K : Type 0} where
         -- where it is no reply and no loss
         comes : turn ≢ Stopped → {d : Arrival} → ((m : ℕ) → awaited_as d ≡ ReplyTo m → ⊥) → a ≡ d → Goal
         comes kept {d} other e trace longer at met called_so came nexts news o low risen up reached x = call_moved w trace longer at _ old new from to o turn nexts news met called_so (t members) kept (kept_heard a from members nexts) low risen up reached x (known_so a from members x.history (λ m f. other m (sym (ap awaited_as e) ∙ f)))
-            (shown_heard trace at a from members x.history called_so came (λ m f. absurd (other m (sym (ap awaited_as e) ∙ f))) x.shown) (own_heard a from members x.history x.own)
+            (shown_heard trace at a from members x.history called_so came (λ m f. absurd (other m (sym (ap awaited_as e) ∙ f))) x.shown) (own_heard a from members x.history met.calls x.own)
 
         by : turn ≢ Stopped → (d : Arrival) → a ≡ d → Goal
         by kept (arrivals.Reply n x) e = by_reply kept n (ap awaited_as e) (λ r h i alone. subst (λ d. (told_by d from r).known h) (sym e) (record { sent = i; alone = alone }))

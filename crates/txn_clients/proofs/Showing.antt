@@ -173,11 +173,11 @@ answered_own o k (Ok x) = tt
 answered_own o k (Err e) = refl
 
 -- as the line hears something
-pub own_heard : (a : Arrival) (o : Posted) (r : Request) (h : List Event) → AreOwn o.line h → AreOwn o.line ((told_by a o r).hear h)
-own_heard (arrivals.Reply n x) o r h own = own_one o.line (Took (ticket_of o n) r x) h (inl refl) own
-own_heard (arrivals.Lost n) o r h own = own_one o.line (Lost (ticket_of o n) r) h (inl refl) own
-own_heard (arrivals.Slept n) o r h own = own_one o.line (Slept (ticket_of o n)) h tt own
-own_heard (arrivals.Time k x) o r h own = own_one o.line (Answered (ticket_of o k) x) h (answered_own o k x) own
+pub own_heard : (a : Arrival) (o : Posted) (r : Request) (h : List Event) → o.beat ≡ false → AreOwn o.line h → AreOwn o.line ((told_by a o r).hear h)
+own_heard (arrivals.Reply n x) o r h calls own = own_one o.line (Took (ticket_of o n) r x) h (inl (refl, calls)) own
+own_heard (arrivals.Lost n) o r h calls own = own_one o.line (Lost (ticket_of o n) r) h (inl (refl, calls)) own
+own_heard (arrivals.Slept n) o r h calls own = own_one o.line (Slept (ticket_of o n)) h tt own
+own_heard (arrivals.Time k x) o r h calls own = own_one o.line (Answered (ticket_of o k) x) h (answered_own o k x) own
 
 pub own_times : (line : ℕ) (u : Ticket) (r : TsoRequest) (times : TsoResponse) → AreOwn line (Took u (Tso r) (replies.Tso times) ∷ [])
 own_times line u r times = own_one line (Took u (Tso r) (replies.Tso times)) [] (inr tt) (λ e i. absurd i)

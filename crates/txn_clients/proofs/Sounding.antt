@@ -276,6 +276,7 @@ module _ {P Q K A B D : Type 0} (w : Ways P Q K A B D) where
 
         met : HasMet (posting_in ps trace) (posting_in qs trace) from to
         met = record {
+          calls = ap (λ (o : Posted). o.beat) begins;
           longer = posting_longer trace ps qs kept;
           sent = λ n store x i. posted_sent trace qs (ticket_of from n) x (subst (λ (o : Posted). Any (IsSend (ticket_of o n) x) qs) (sym begins) (mailed n store x (subst (λ es. IsAmong es (Send n store x)) (sym sent) i)));
         }

@@ -312,7 +312,7 @@ module _ {P Q K A B D : Type 0} (w : Ways P Q K A B D) (p : IsLawful w.prewritin
           → Goal
       by_reply kept n is out knows trace longer at met called came nexts news o low risen up reached x = elim (sent_or_not x.arisen.history (ticket_of from n)) [
         | inl (r, i) ↦ moved trace longer at _ _ old new from to o turn nexts news met called (tells r) kept (heard_alive _ _ new from to pd pd' turn goes) start same (kept_heard a from r nexts) low risen up reached x (knows r x.arisen.history i (λ s j. x.arisen.kept.alone (ticket_of from n) r s i j))
-            (shown_heard trace at a from r x.arisen.history called came (λ m e. subst (λ j. SentIn trace (ticket_of from j) r) (one m (sym is ∙ e)) (sent_shown trace at x.arisen.history (ticket_of from n) r x.arisen.shown i)) x.arisen.shown) (own_heard a from r x.arisen.history x.arisen.own)
+            (shown_heard trace at a from r x.arisen.history called came (λ m e. subst (λ j. SentIn trace (ticket_of from j) r) (one m (sym is ∙ e)) (sent_shown trace at x.arisen.history (ticket_of from n) r x.arisen.shown i)) x.arisen.shown) (own_heard a from r x.arisen.history met.calls x.arisen.own)
         | inr never ↦ unknown trace longer at a n old new from to o pd pd' turn nexts news met.longer is out goes commits deaf gone kept risen reached x never
       ]
         where
@@ -322,7 +322,7 @@ module _ {P Q K A B D : Type 0} (w : Ways P Q K A B D) (p : IsLawful w.prewritin
       -- where it is no reply and no loss
       comes : turn ≢ Stopped → {b : Arrival} → ((m : ℕ) → awaited_as b ≡ ReplyTo m → ⊥) → a ≡ b → Goal
       comes kept {b} other e trace longer at met called came nexts news o low risen up reached x = moved trace longer at _ _ old new from to o turn nexts news met called (tells members) kept (heard_alive _ _ new from to pd pd' turn goes) start same (kept_heard a from members nexts) low risen up reached x (known_so a from members x.arisen.history (λ m f. other m (sym (ap awaited_as e) ∙ f)))
-          (shown_heard trace at a from members x.arisen.history called came (λ m f. absurd (other m (sym (ap awaited_as e) ∙ f))) x.arisen.shown) (own_heard a from members x.arisen.history x.arisen.own)
+          (shown_heard trace at a from members x.arisen.history called came (λ m f. absurd (other m (sym (ap awaited_as e) ∙ f))) x.arisen.shown) (own_heard a from members x.arisen.history met.calls x.arisen.own)
 
       by : turn ≢ Stopped → (b : Arrival) → a ≡ b → Goal
       by kept (arrivals.Reply n x) e = by_reply kept n (ap awaited_as e) (ap (λ b. awaits b from old.commits) e) (λ r h i alone. subst (λ b. (told_by b from r).known h) (sym e) (record { sent = i; alone = alone }))

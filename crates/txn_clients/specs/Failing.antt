@@ -155,8 +155,9 @@ CalledFor trace line at (row.Asking c b call) = CalledIn trace line at
 CalledFor trace line at (row.Begun c t m) = CalledIn trace line at
 CalledFor trace line at r = ⊤
 
--- What a row posts is sent: `later` is the trace once it is.
+-- What a row posts is sent, by no heartbeat: `later` is the trace once it is.
 pub record HasMet (trace later : Option Trace) (from to : Posted) : Type 0 where
+  pub calls : from.beat ≡ false
   pub longer : LongerIn trace later
   pub sent : (n : ℕ) (store : Target) (r : Request) → IsAmong to.sends (Send n store r) → SentIn later (ticket_of from n) r
 

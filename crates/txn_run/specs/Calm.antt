@@ -13,7 +13,7 @@ use Rattle.txn_causes.specs.Kinds.{IsOfKind}
 use Rattle.txn_lines.specs.declared.line.Line.{Line}
 use Rattle.txn_machine.specs.Failing.{AllCausesMeet}
 use Rattle.txn_report.specs.declared.report.Report.{Report}
-use Rattle.txn_side.specs.Trace.{IsCalled, IsCommit, IsRefusedIn, Trace}
+use Rattle.txn_side.specs.Trace.{IsCalled, IsCommit, IsFrom, IsRefusedIn, Trace}
 use Rattle.txn_run.specs.Caused.{IsRollbackRefused, trace_at}
 
 -- a region record that lacks nothing: its end is above its start, it has an epoch and a leader, and its bounds are keys
@@ -32,12 +32,12 @@ pub record IsGoodReply (r : Request) (o : Reply) : Type 0 where
   pub wanted : (id : ℕ) → FoundOther id r o → ⊥
   pub record_in : (x : RegionWithLeader) → region_in o ≡ Some x → IsGoodRecord x
 
--- No request of line n was lost, and no request for timestamps that carried an ask of it failed; each reply to it was good. Nor was a
+-- No request of line n itself was lost, be its heartbeat as it may, and no request for timestamps that carried an ask of it failed; each reply to it was good. Nor was a
 -- Commit of its transaction lost, of whichever line.
 pub record IsCalm (t : Trace) (n : ℕ) : Type 0 where
-  pub kept : (u : Ticket) (r : Request) → Has t.events (Lost u r) → u.line ≡ n → ⊥
+  pub kept : (u : Ticket) (r : Request) → Has t.events (Lost u r) → IsFrom n u → ⊥
   pub timed : (e : Error) → IsRefusedIn t n e → ⊥
-  pub good : (u : Ticket) (r : Request) (o : Reply) → Has t.events (Took u r o) → u.line ≡ n → IsGoodReply r o
+  pub good : (u : Ticket) (r : Request) (o : Reply) → Has t.events (Took u r o) → IsFrom n u → IsGoodReply r o
   pub settled : (at : ℕ) (u : Ticket) (r : Request) → IsCalled t n at → Has t.events (Lost u r) → IsCalled t u.line at → IsCommit r → ⊥
 
 -- Such a line fails only where it rolls back, and is refused for a Commit that is still out.

@@ -21,13 +21,13 @@ use Rattle.txn_lines.specs.declared.line.Line.{Line}
 use Rattle.txn_machine.specs.Causes.{ended_of, lines_before}
 use Rattle.txn_machine.specs.Failing.{AllCausesMeet, trace_of}
 use Rattle.txn_report.specs.declared.report.Report.{Report}
-use Rattle.txn_side.specs.Trace.{IsCalled, IsCommit, IsRefusedIn, Trace}
+use Rattle.txn_side.specs.Trace.{IsCalled, IsCommit, IsFrom, IsRefusedIn, Trace}
 
--- What had come to line n: replies to requests of its own, and losses of these. Of the transaction that stands at `at` it counts too
+-- What had come to line n: replies to requests of its own, not of its heartbeat, and losses of these. Of the transaction that stands at `at` it counts too
 -- that a Commit was lost, of whichever line.
 abbrev pub HeardBy : Trace → ℕ → ℕ → Heard → Type 0
-HeardBy t at n (TookReply u r o) = (u.line ≡ n) × Has t.events (Took u r o)
-HeardBy t at n (WasLost u r) = Has t.events (Lost u r) × ((u.line ≡ n) ⊎ (IsCalled t u.line at × IsCommit r))
+HeardBy t at n (TookReply u r o) = IsFrom n u × Has t.events (Took u r o)
+HeardBy t at n (WasLost u r) = Has t.events (Lost u r) × (IsFrom n u ⊎ (IsCalled t u.line at × IsCommit r))
 
 -- The error has its cause in that; or a request for timestamps that carried an ask of the line failed with this very error.
 abbrev pub IsExplained : Trace → ℕ → ℕ → Error → Type 0

@@ -120,11 +120,15 @@ abbrev pub IsCommit : Request → Type 0
 IsCommit (Commit r) = ⊤
 IsCommit r = ⊥
 
+-- the ticket is one of the line itself, and none of its heartbeat
+abbrev pub IsFrom : ℕ → Ticket → Type 0
+IsFrom line u = (u.line ≡ line) × (u.beat ≡ false)
+
 -- Came it for this line? Of the earlier lines of a transaction only this much is known where an error is explained: that Commits of it
 -- were lost, and what explains no error.
 abbrev pub IsOwn : ℕ → Event → Type 0
-IsOwn line (Took u r o) = (u.line ≡ line) ⊎ IsHarmless r o
-IsOwn line (Lost u r) = (u.line ≡ line) ⊎ IsCommit r
+IsOwn line (Took u r o) = IsFrom line u ⊎ IsHarmless r o
+IsOwn line (Lost u r) = IsFrom line u ⊎ IsCommit r
 IsOwn line (Answered ask (Ok x)) = ⊤
 IsOwn line (Answered ask (Err e)) = ask.line ≡ line
 IsOwn line e = ⊤
