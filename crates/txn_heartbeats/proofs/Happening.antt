@@ -1,19 +1,18 @@
 -- What has happened in a run, where heartbeats post beside the calls.
-use Rattle.std.proofs.Common.{◌≡◌, inl, inr, ℕ, ◌+◌, ◌<◌, true, false, List, [], ◌∷◌, ◌++◌, Option, Some, None, refl, sym, ap, ◌∙◌, subst, arith}
-use Rattle.std.proofs.lemmas.List.Elements.{All-nil, All-weaker}
-use Rattle.std.specs.List.{All}
-use Rattle.txn_history.specs.Event.{Event, Has}
+use Rattle.std.proofs.Common.{◌≡◌, inl, inr, ℕ, ◌+◌, ◌<◌, true, false, List, [], ◌∷◌, ◌++◌, refl, sym, ap, ◌∙◌, subst, arith}
+use Rattle.std.proofs.lemmas.List.Elements.{All-weaker}
+use Rattle.txn_history.specs.Event.{Event}
 use Rattle.txn_history.specs.Event.Event.{Sent}
 use Rattle.txn_kv.specs.declared.request.Request.{Request}
 use Rattle.txn_kv.specs.declared.ticket.Ticket.{Ticket}
 use Rattle.txn_law.specs.Run.{IsPossible, IsUnused}
 use Rattle.txn_report.specs.declared.outcome.Outcome.{Outcome}
-use Rattle.txn_side.specs.Arising.{Arises, IsBeat, IsOutside, with_posting, with_postings}
+use Rattle.txn_side.specs.Arising.{Arises, IsBeat, with_posting, with_postings}
 use Rattle.txn_side.specs.Sight.{next_at, ticket_in, with_next}
 use Rattle.txn_side.specs.declared.turn.Ending.{Ending}
 use Rattle.txn_side.specs.declared.turn.Posting.{Posting}
 use Rattle.txn_side.specs.declared.turn.Posting.TheVariants.{Send, Sleep}
-use Rattle.txn_heartbeats.specs.Beating.{AreBeats, AreFresh, IsLine, IsNextBeat, beat_ticket}
+use Rattle.txn_heartbeats.specs.Beating.{AreBeats, AreFresh, IsLine, beat_ticket}
 use Rattle.txn_heartbeats.proofs.Lists.{front_rises, next_set, raised_rises}
 use Rattle.txn_heartbeats.proofs.Numbers.{AreCalls}
 
@@ -32,7 +31,7 @@ postings_then (p ∷ ps) qs h = postings_then ps qs (with_posting p h)
 fresh_call : (beats : List ℕ) (p : Posting) (h : List Event) → (ticket_in p).beat ≡ false → AreFresh beats h → AreFresh beats (with_posting p h)
 fresh_call beats (Sleep t) h call fresh u q has beat = fresh u q has beat
 fresh_call beats (Send t to r askers) h call fresh u q has beat = elim has [
-  inl same ↦ absurd (two (sym beat ∙ sym (ap (λ (v : Ticket). v.beat) (sent_ticket t u r q same)) ∙ call))
+  | inl same ↦ absurd (two (sym beat ∙ sym (ap (λ (v : Ticket). v.beat) (sent_ticket t u r q same)) ∙ call))
   | inr was ↦ fresh u q was beat
 ]
 
@@ -55,7 +54,7 @@ fresh_raised line from h own fresh t r has beat =
 
 fresh_sent : (line : ℕ) (from : List ℕ) (h : List Event) (t : Ticket) (r : Request) → IsLine from line → t ≡ beat_ticket line (next_at from line) → AreFresh from h → AreFresh (with_next from line) (Sent t r ∷ h)
 fresh_sent line from h t r own named fresh u q has beat = elim has [
-  inl same ↦ subst (λ (v : Ticket). v.number < next_at (with_next from line) v.line) (sym named ∙ sent_ticket t u r q same) below
+  | inl same ↦ subst (λ (v : Ticket). v.number < next_at (with_next from line) v.line) (sym named ∙ sent_ticket t u r q same) below
   | inr was ↦ fresh_raised line from h own fresh u q was beat
 ]
   where

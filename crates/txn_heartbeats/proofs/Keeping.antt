@@ -1,8 +1,6 @@
 -- What is kept of a line's heartbeat is changed.
-use Rattle.std.proofs.Common.{◌≡◌, ℕ, suc, zero, ◌+◌, ◌-◌, ◌<◌, ◌≤◌, true, List, [], length, map, get_or, set, Option, None, sym, ap, ◌∙◌, subst, arith}
+use Rattle.std.proofs.Common.{◌≡◌, ℕ, suc, zero, ◌-◌, ◌<◌, ◌≤◌, true, [], length, map, get_or, set, None, sym, ap, ◌∙◌, arith}
 use Rattle.std.proofs.lemmas.List.{length-map, map-set}
-use Rattle.txn_heartbeat.specs.declared.heartbeat_job.HeartbeatJob.{HeartbeatJob}
-use Rattle.txn_history.specs.Posted.{Posted}
 use Rattle.txn_side.specs.Sight.{next_at}
 use Rattle.txn_heartbeats.specs.Beating.{IsLine}
 use Rattle.txn_heartbeats.specs.Hearts.{beats_of, job_at, jobs_of, outbox_at}

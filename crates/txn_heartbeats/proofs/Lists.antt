@@ -1,7 +1,7 @@
 -- The lists of lines, which are counted from 1.
-use Rattle.std.proofs.Common.{◌≡◌, ◌≢◌, inl, inr, ℕ, zero, suc, ◌+◌, ◌-◌, ◌<◌, ◌≤◌, List, [], ◌∷◌, ◌++◌, length, map, get_or, set, Option, Some, None, refl, sym, ap, ◌∙◌, subst, arith}
+use Rattle.std.proofs.Common.{◌≡◌, ◌≢◌, inl, inr, ℕ, zero, suc, ◌+◌, ◌-◌, ◌<◌, ◌≤◌, List, [], ◌∷◌, ◌++◌, length, map, get_or, set, refl, sym, ap, ◌∙◌, subst, arith}
 use Rattle.std.proofs.lemmas.Bool.{cases_eq}
-use Rattle.std.proofs.lemmas.List.{get_or-set_other, get_or-set_same, length-set, set-get_or, set-set}
+use Rattle.std.proofs.lemmas.List.{get_or-set_other, get_or-set_same, length-set, set-get_or}
 use Rattle.txn_side.specs.Sight.{next_at, with_next}
 use Rattle.txn_heartbeats.specs.Beating.{IsLine}
 
@@ -72,7 +72,7 @@ line_set xs i v line own = record { first = own.first; last = subst (λ n. line 
 -- none falls where one is raised
 pub raised_rises : (xs : List ℕ) (line n : ℕ) → IsLine xs line → next_at xs n ≤ next_at (with_next xs line) n
 raised_rises xs line n own = elim (cases_eq n line) [
-  inl same ↦ (let e = next_set xs line (next_at xs line + 1) own in subst (λ k. next_at xs k ≤ next_at (with_next xs line) k) (sym same) (omega (arith, e)))
+  | inl same ↦ (let e = next_set xs line (next_at xs line + 1) own in subst (λ k. next_at xs k ≤ next_at (with_next xs line) k) (sym same) (omega (arith, e)))
   | inr apart ↦ (let e = next_other xs line n (next_at xs line + 1) own.first apart in omega (arith, e))
 ]
 

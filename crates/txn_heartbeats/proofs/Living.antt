@@ -1,11 +1,8 @@
 -- Jobs may be told of something.
-use Rattle.std.proofs.Common.{◌≡◌, ◌≢◌, inl, inr, ℕ, zero, suc, ◌+◌, ◌-◌, ◌<◌, ◌≤◌, true, List, [], ◌∷◌, ◌++◌, length, map, get_or, set, Option, Some, None, refl, sym, ap, ◌∙◌, subst, arith}
+use Rattle.std.proofs.Common.{◌≡◌, ◌≢◌, inl, inr, ℕ, zero, suc, ◌+◌, ◌-◌, ◌≤◌, true, List, [], ◌∷◌, ◌++◌, length, set, Option, Some, None, refl, sym, ◌∙◌, subst, arith}
 use Rattle.std.proofs.lemmas.Bool.{cases_eq, cases_lt}
-use Rattle.std.proofs.lemmas.List.{length-map, length-set, set_past}
-use Rattle.std.proofs.lemmas.List.Elements.{All-head, All-tail}
-use Rattle.std.specs.List.{All}
-use Rattle.std.specs.Prelude.{⊤, Result}
-use Rattle.txn_heartbeat.specs.Beats.{Beats, IsAlive, IsBeatOf, IsErrandOf, IsLookUp, StageLives}
+use Rattle.std.specs.Prelude.{Result}
+use Rattle.txn_heartbeat.specs.Beats.{IsAlive, StageLives}
 use Rattle.txn_heartbeat.specs.declared.heartbeat_job.HeartbeatJob.{HeartbeatJob}
 use Rattle.txn_heartbeat.specs.declared.heartbeat_job.Stage.{Stage}
 use Rattle.txn_heartbeat.specs.declared.heartbeat_job.Stage.TheVariants as stage
@@ -48,7 +45,7 @@ some_same x y e = cc
 
 job_within : {H : Type 0} (jobs : List (Option (HeartbeatJob H))) (n : ℕ) (job : HeartbeatJob H) → job_at jobs n ≡ Some job → n ≤ length jobs
 job_within jobs n job e = elim (cases_lt (length jobs) n) [
-  inl past ↦ absurd (none_some job (sym (job_is jobs n ∙ at_past None jobs n past) ∙ e))
+  | inl past ↦ absurd (none_some job (sym (job_is jobs n ∙ at_past None jobs n past) ∙ e))
   | inr within ↦ within
 ]
 
@@ -90,7 +87,7 @@ module _ {H A : Type 0} (m : Meaning H (Result A Error)) where
   pub alive_set : (beats : List ℕ) (jobs : List (Option (HeartbeatJob H))) (line next : ℕ) (job : HeartbeatJob H) → IsLine beats line → length jobs ≡ length beats → AreAlive m beats jobs → IsAlive m job (outbox_at line next)
       → AreAlive m (set beats (line - 1) next) (set jobs (line - 1) (Some job))
   alive_set beats jobs line next job own long alive mine n other at = elim (cases_eq n line) [
-    inl same ↦ subst (λ k. IsAlive m other (outbox_at k (next_at (set beats (line - 1) next) k))) (sym same) (subst (λ k. IsAlive m other (outbox_at line k)) (sym (next_set beats line next own)) (subst (λ (j : HeartbeatJob H). IsAlive m j (outbox_at line next)) (here same) mine))
+    | inl same ↦ subst (λ k. IsAlive m other (outbox_at k (next_at (set beats (line - 1) next) k))) (sym same) (subst (λ k. IsAlive m other (outbox_at line k)) (sym (next_set beats line next own)) (subst (λ (j : HeartbeatJob H). IsAlive m j (outbox_at line next)) (here same) mine))
     | inr apart ↦ subst (λ k. IsAlive m other (outbox_at n k)) (sym (next_other beats line n next own.first apart)) (alive n other (sym (job_other jobs line n (Some job) own.first apart) ∙ at))
   ]
     where
@@ -102,7 +99,7 @@ module _ {H A : Type 0} (m : Meaning H (Result A Error)) where
 
   pub alive_taken : (beats : List ℕ) (jobs : List (Option (HeartbeatJob H))) (line : ℕ) → IsLine beats line → length jobs ≡ length beats → AreAlive m beats jobs → AreAlive m beats (set jobs (line - 1) None)
   alive_taken beats jobs line own long alive n other at = elim (cases_eq n line) [
-    inl same ↦ absurd (none_some other (sym (job_same jobs line None own.first inside) ∙ subst (λ k. job_at (set jobs (line - 1) None) k ≡ Some other) same at))
+    | inl same ↦ absurd (none_some other (sym (job_same jobs line None own.first inside) ∙ subst (λ k. job_at (set jobs (line - 1) None) k ≡ Some other) same at))
     | inr apart ↦ alive n other (sym (job_other jobs line n None own.first apart) ∙ at)
   ]
     where

@@ -1,12 +1,9 @@
 -- The numbers of what is posted: those of calls and those of heartbeats do not meet.
-use Rattle.std.proofs.Common.{◌≡◌, ◌≢◌, inl, inr, ℕ, zero, suc, ◌+◌, ◌-◌, ◌<◌, ◌≤◌, Bool, true, false, List, [], ◌∷◌, ◌++◌, length, map, get_or, set, refl, sym, ap, ◌∙◌, subst, arith}
-use Rattle.std.proofs.lemmas.Bool.{cases_Bool, cases_eq}
-use Rattle.std.proofs.lemmas.List.{length-map, set-set}
-use Rattle.std.proofs.lemmas.List.Elements.{All-cons, All-head, All-nil, All-tail}
+use Rattle.std.proofs.Common.{◌≡◌, inl, inr, ℕ, zero, suc, ◌+◌, ◌≤◌, Bool, true, false, List, [], ◌∷◌, ◌++◌, length, map, refl, sym, ap, subst, arith}
+use Rattle.std.proofs.lemmas.Bool.{cases_Bool}
+use Rattle.std.proofs.lemmas.List.Elements.{All-cons, All-nil}
 use Rattle.std.specs.List.{All}
 use Rattle.std.specs.Prelude.{⊤}
-use Rattle.txn_history.specs.Posted.{AreNumbered, Errand}
-use Rattle.txn_kv.specs.declared.outbox.Errand.TheVariants as errands
 use Rattle.txn_kv.specs.declared.request.Request.{Request}
 use Rattle.txn_kv.specs.declared.request.Request.TheVariants as requests
 use Rattle.txn_kv.specs.declared.ticket.Ticket.{Ticket}
@@ -14,8 +11,8 @@ use Rattle.txn_side.specs.Arising.{IsBeat}
 use Rattle.txn_side.specs.Sight.{ArePosted, AskFor, AskersAre, HasAskers, IsNext, Nexts, next_at, numbers_of, raised, ticket_in, with_next}
 use Rattle.txn_side.specs.declared.turn.Posting.{Posting}
 use Rattle.txn_side.specs.declared.turn.Posting.TheVariants.{Send, Sleep}
-use Rattle.txn_heartbeats.specs.Beating.{AreBeats, AreTimeless, IsLine, IsNextBeat, IsOfBeat, beat_ticket, postings_of}
-use Rattle.txn_heartbeats.proofs.Lists.{line_set, next_is, next_set, raised_rises, set_next_same}
+use Rattle.txn_heartbeats.specs.Beating.{AreBeats, IsLine, IsNextBeat, IsOfBeat}
+use Rattle.txn_heartbeats.proofs.Lists.{next_set, raised_rises}
 
 -- none is posted by a heartbeat
 abbrev pub AreCalls : List Posting → Type 0
@@ -103,7 +100,7 @@ unused_raised from t call f = subst (λ b. AreUnused (raised b t.line from)) (sy
 pub all_calls : (from to : Nexts) (ps : List Posting) → AreUnused from → AreUnused to → ArePosted from ps to → AreCalls ps
 all_calls from to [] f t a = tt
 all_calls from to (p ∷ ps) f t a = elim (cases_Bool (ticket_in p).beat) [
-  inl beat ↦ absurd (no_beat from to p ps f t a beat)
+  | inl beat ↦ absurd (no_beat from to p ps f t a beat)
   | inr call ↦ (call, all_calls (raised (ticket_in p).beat (ticket_in p).line from) to ps (unused_raised from (ticket_in p) call f) t a.2)
 ]
 

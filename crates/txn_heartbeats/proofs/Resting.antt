@@ -1,17 +1,15 @@
 -- What calls rest on, and the accounts of transactions, where heartbeats post beside the calls.
-use Rattle.std.proofs.Common.{◌≡◌, inl, inr, ℕ, ◌+◌, ◌<◌, Bool, true, false, List, [], ◌∷◌, ◌++◌, length, Option, Some, None, refl, sym, ap, ◌∙◌, subst, arith}
-use Rattle.std.proofs.lemmas.List.{length-append}
+use Rattle.std.proofs.Common.{◌≡◌, inl, inr, ℕ, Bool, List, [], ◌++◌, length, Some, refl, sym, ap, ◌∙◌, subst, arith}
 use Rattle.std.proofs.lemmas.List.Elements.{All-nil, All-weaker}
 use Rattle.std.specs.List.{All, Any}
 use Rattle.txn_history.specs.Event.{Event}
 use Rattle.txn_kv.specs.declared.errors.Error.{Error}
 use Rattle.txn_kv.specs.declared.request.Request.{Request}
 use Rattle.txn_kv.specs.declared.ticket.Ticket.{Ticket}
-use Rattle.txn_report.specs.declared.outcome.Outcome.{Outcome}
 use Rattle.txn_side.specs.Account.{Account, AreClosed, MayTakeIn, TakesIn, after_endings, awaited_line, closed}
 use Rattle.txn_side.specs.Sight.{Sight, Stand, stand_at}
 use Rattle.txn_side.specs.Sight.Stand.{Asking, Calling, HasBegun, Idle, IsClient, Past, Working}
-use Rattle.txn_side.specs.Trace.{ActsOn, EndsFor, FailsIn, HasCome, IsLonger, IsSend, IsSentIn, RestsOn, StillRests, Trace, fails_longer, with_posted}
+use Rattle.txn_side.specs.Trace.{ActsOn, EndsFor, HasCome, IsLonger, IsSend, RestsOn, StillRests, Trace, fails_longer, with_posted}
 use Rattle.txn_side.specs.declared.act.Act.{Act}
 use Rattle.txn_side.specs.declared.turn.Ending.{Ending}
 use Rattle.txn_side.specs.declared.turn.Posting.{Posting}
@@ -45,15 +43,14 @@ longer_nothing t ps none = record {
 module _ (fails : Bool → List Event → Error → Type 0) where
   ends_longer : (t : Trace) (ps qs : List Posting) (e : Ending) → EndsFor fails (with_posted ps t) e → EndsFor fails (with_posted (ps ++ qs) t) e
   ends_longer t ps qs e ends why failed = elim (ends why failed) [
-    inl f ↦ inl (fails_longer (with_posted ps t) (with_posted (ps ++ qs) t) (longer_posted t ps qs) fails e.line why f)
+    | inl f ↦ inl (fails_longer (with_posted ps t) (with_posted (ps ++ qs) t) (longer_posted t ps qs) fails e.line why f)
     | inr r ↦ inr r
   ]
 
   module _ (was is : Trace → Type 0) (is_longer : (t longer : Trace) → IsLonger t longer → is t → is longer) where
     pub rests_then : (t : Trace) (ps qs : List Posting) (es : List Ending) → RestsOn fails was is t ps es → RestsOn fails was is t (ps ++ qs) es
     rests_then t ps qs es rests before =
-        let r = rests before in
-        (
+        let r = rests before in (
           is_longer (with_posted ps t) (with_posted (ps ++ qs) t) (longer_posted t ps qs) r.0,
           All-weaker (EndsFor fails (with_posted ps t)) (EndsFor fails (with_posted (ps ++ qs) t)) (ends_longer t ps qs) es r.1,
         )

@@ -1,15 +1,15 @@
 -- What a machine sees of clients and their heartbeats in a step.
-use Rattle.std.proofs.Common.{◌≡◌, ◌≢◌, inl, inr, ℕ, zero, suc, ◌+◌, ◌-◌, ◌<◌, ◌≤◌, Bool, true, false, List, [], ◌∷◌, ◌++◌, length, map, get_or, set, Option, Some, None, refl, sym, ap, ◌∙◌, subst, arith}
+use Rattle.std.proofs.Common.{◌≡◌, inl, inr, ℕ, zero, suc, ◌-◌, ◌<◌, ◌≤◌, Bool, true, false, List, [], ◌++◌, length, set, Option, Some, None, refl, sym, ap, ◌∙◌, subst, arith}
 use Rattle.std.proofs.lemmas.Bool.{and_parts, cases_Bool, cases_lt}
 use Rattle.std.proofs.lemmas.List.{length-append, length-set, get_or_append_left}
 use Rattle.std.proofs.lemmas.List.Elements.{All-append, All-nil, All-weaker}
 use Rattle.std.specs.List.{All, Any}
 use Rattle.txn_kv.specs.declared.reply.Reply.{Reply}
 use Rattle.txn_kv.specs.declared.ticket.Ticket.{Ticket}
-use Rattle.txn_side.specs.Sight.{Acts, Asks, AskersAre, EndsAlone, Goes, Group, GroupsGo, IsAsk, IsGiven, IsOut, LineGoes, Names, NoneGiven, Sight, Stand, client_at, commits, is_free, is_live, line_count, lives, stand_at, ticket_in, with_stand}
+use Rattle.txn_side.specs.Sight.{Acts, Asks, AskersAre, EndsAlone, Goes, IsAsk, IsGiven, LineGoes, Names, NoneGiven, Sight, Stand, client_at, commits, is_free, is_live, line_count, lives, stand_at, ticket_in, with_stand}
 use Rattle.txn_side.specs.Sight.Stand.{Asking, Calling, HasBegun, Idle, IsClient, Past, Working}
-use Rattle.txn_side.specs.Waiting.{Awaited, HearsEnd, HearsReply, IsPosted, WaitsOn, posted_in}
-use Rattle.txn_side.specs.Waiting.Awaited.{EndOf, ReplyTo}
+use Rattle.txn_side.specs.Waiting.{Awaited, HearsEnd, HearsReply, WaitsOn}
+use Rattle.txn_side.specs.Waiting.Awaited.{ReplyTo}
 use Rattle.txn_side.specs.declared.act.Act.{Act}
 use Rattle.txn_side.specs.declared.turn.Ending.{Ending}
 use Rattle.txn_side.specs.declared.turn.Posting.{Posting}
@@ -110,7 +110,7 @@ goes_beating line s from to ps beats dead = record {
   where
     posting_so : All (λ (p : Posting). is_live s (ticket_in p).line ≡ true) ps
     posting_so = elim (cases_Bool (is_live s line)) [
-      inl live ↦ each_beat (λ (p : Posting). is_live s (ticket_in p).line ≡ true) line from to ps (λ p own b. ap (is_live s) own ∙ live) beats
+      | inl live ↦ each_beat (λ (p : Posting). is_live s (ticket_in p).line ≡ true) line from to ps (λ p own b. ap (is_live s) own ∙ live) beats
       | inr gone ↦ subst (All (λ (p : Posting). is_live s (ticket_in p).line ≡ true)) (sym (dead gone)) (All-nil _)
     ]
 

@@ -1,7 +1,7 @@
 -- Steps of clients and their heartbeats as a machine sees them.
-use Rattle.std.proofs.Common.{◌≡◌, ℕ, suc, ◌+◌, ◌-◌, ◌≤◌, Bool, true, false, List, [], ◌∷◌, ◌++◌, length, map, set, Option, Some, None, refl, sym, ap, ◌∙◌, subst, arith}
+use Rattle.std.proofs.Common.{◌≡◌, ℕ, ◌+◌, ◌-◌, ◌≤◌, Bool, true, false, List, [], ◌∷◌, ◌++◌, length, map, set, Option, Some, None, sym, ap, ◌∙◌, subst}
 use Rattle.std.proofs.lemmas.List.{length-append, length-map, length-set, map-append}
-use Rattle.std.proofs.lemmas.List.Elements.{All-nil, All-weaker}
+use Rattle.std.proofs.lemmas.List.Elements.{All-nil}
 use Rattle.std.specs.List.{All}
 use Rattle.std.specs.Prelude.{IfOk, OnOk, Ok, Err, Result}
 use Rattle.txn_heartbeat.specs.Beats.{IsAlive}
@@ -17,22 +17,21 @@ use Rattle.txn_kv.specs.declared.ticket.Ticket.{Ticket}
 use Rattle.txn_law.specs.Run.{IsPossible}
 use Rattle.txn_report.specs.declared.outcome.Outcome.{Outcome}
 use Rattle.txn_side.specs.Account.{Account}
-use Rattle.txn_side.specs.Arising.{Arises, ArisesAwake, ArisesHearing, ArisesOn, IsBeat, IsOutside, answered_at, with_postings}
-use Rattle.txn_side.specs.Sight.{Acts, Asks, Goes, Sight, commits, is_live, line_count, opened, stand_at, with_stand}
+use Rattle.txn_side.specs.Arising.{Arises, ArisesAwake, ArisesHearing, ArisesOn, IsBeat, IsOutside, with_postings}
+use Rattle.txn_side.specs.Sight.{Acts, Asks, Goes, Sight, commits, is_live, line_count, opened, with_stand}
 use Rattle.txn_side.specs.Sight.Stand.{Asking, Calling, HasBegun, Idle}
 use Rattle.txn_side.specs.Trace.{Trace}
 use Rattle.txn_side.specs.Waiting.{Awaited, posted_in}
 use Rattle.txn_side.specs.declared.act.Act.{Act}
-use Rattle.txn_side.specs.declared.turn.Posting.{Posting}
 use Rattle.txn_side.specs.declared.turn.Turn.{Turn}
 use Rattle.txn_heartbeats.specs.Beating.{AreBeats, AreFresh, IsLine, PostsBeats, with_beats}
 use Rattle.txn_heartbeats.specs.Hearts.{ArisesIn, AreAlive, IsReady, IsUnbeaten, beats_of, jobs_of, outbox_at, sight_of}
 use Rattle.txn_heartbeats.specs.Standing.{fresh_outside}
 use Rattle.txn_heartbeats.specs.declared.heartbeats.Heartbeats.{Heartbeats}
 use Rattle.txn_heartbeats.specs.declared.pulse.Pulse.{Pulse}
-use Rattle.txn_heartbeats.proofs.Happening.{GoOn, arises_then, beats_arise, fresh_calls}
+use Rattle.txn_heartbeats.proofs.Happening.{arises_then, beats_arise, fresh_calls}
 use Rattle.txn_heartbeats.proofs.Living.{alive_opened, alive_set, alive_taken}
-use Rattle.txn_heartbeats.proofs.Numbers.{AreCalls, AreUnused, unused_so}
+use Rattle.txn_heartbeats.proofs.Numbers.{AreCalls, unused_so}
 use Rattle.txn_heartbeats.proofs.Seen.{acts_beside, acts_then_beats, goes_beating, goes_calls}
 
 -- two facts of what a call answered give a third

@@ -1,5 +1,5 @@
 -- What calls wait for and rest on in the steps of clients and their heartbeats, and what becomes of these where a heartbeat is told of something.
-use Rattle.std.proofs.Common.{◌≡◌, inl, inr, ℕ, Bool, true, false, List, [], ◌∷◌, ◌++◌, Option, Some, None, refl, sym, ap, ◌∙◌, subst}
+use Rattle.std.proofs.Common.{◌≡◌, inl, inr, ℕ, Bool, true, List, [], ◌∷◌, ◌++◌, Option, Some, sym, subst}
 use Rattle.std.specs.Prelude.{IfOk, OnOk, Ok, Err, Result}
 use Rattle.txn_heartbeat.specs.Hosting.{StaysSo}
 use Rattle.txn_history.specs.Event.{Event}
@@ -13,7 +13,7 @@ use Rattle.txn_report.specs.declared.outcome.Outcome.{Outcome}
 use Rattle.txn_side.specs.Account.{Account}
 use Rattle.txn_side.specs.Arising.{Arises, IsBeat, IsOutside, with_postings}
 use Rattle.txn_side.specs.Sight.{Sight}
-use Rattle.txn_side.specs.Trace.{ActsOn, IsLonger, RestsOn, StillRests, Trace}
+use Rattle.txn_side.specs.Trace.{ActsOn, IsLonger, RestsOn, Trace}
 use Rattle.txn_side.specs.Waiting.{Awaited, WaitsOn}
 use Rattle.txn_side.specs.declared.act.Act.{Act}
 use Rattle.txn_side.specs.declared.turn.Posting.{Posting}

@@ -1,7 +1,7 @@
 -- What is so of the clients is so of them with their heartbeats.
 use Rattle.std.specs.Prelude.{◌≡◌, ℕ, List, [], ◌∷◌, map, Result}
-use Rattle.std.proofs.Common.{inl, inr, sym, ap, ◌∙◌, subst}
-use Rattle.txn_history.specs.Event.{Event, Has}
+use Rattle.std.proofs.Common.{inl, inr, ap, ◌∙◌, subst}
+use Rattle.txn_history.specs.Event.{Event}
 use Rattle.txn_history.specs.Event.Event.{Sent}
 use Rattle.txn_history.specs.Meaning.{Meaning}
 use Rattle.txn_kv.specs.declared.errors.Error.{Error}

@@ -1,10 +1,8 @@
 //! Heartbeats start, and are told of what comes for them.
-ghost use Rattle.std.specs.Prelude.{◌≡◌, ◌-◌, ◌<◌, ◌≤◌, ◌++◌, ◌^◌, [], IfOk, OnOk, false, length, slice_set};
+ghost use Rattle.std.specs.Prelude.{◌≡◌, ◌-◌, ◌<◌, ◌≤◌, ◌++◌, ◌∷◌, ◌^◌, [], IfOk, OnOk, false, length, slice_set};
 ghost use Rattle.txn_heartbeat.specs.Hosting.{StaysSo};
 ghost use Rattle.txn_heartbeats.specs.Beating.{AreBeats, AreTimeless, IsLine, PostsBeats, beat_ticket, posted_as, postings_of};
 ghost use Rattle.txn_heartbeats.specs.Hearts.{IsReady, beats_of, jobs_of};
-ghost use Rattle.txn_history.specs.Posted.{Errand as Wanted};
-ghost use Rattle.std.specs.Prelude.{◌∷◌};
 ghost use Rattle.txn_plan.specs.Arrivals.{MayArrive};
 ghost use Rattle.txn_side.specs.Sight.{is_live};
 
@@ -47,6 +45,18 @@ fn post_one(alloc: Global, line: u64, errand: Errand, turn: &mut Turn) -> Result
     }
 }
 
+/// Posts all that it wants done, in order.
+fn post_all(alloc: Global, line: u64, sends: Vec<Errand>, turn: &mut Turn) -> Result<(), NoMemory>
+    ensures posted { OnOk result (turn.new.posted.items ≡ turn.old.posted.items ++ postings_of line sends.items) }
+    ensures timeless { OnOk result (AreTimeless sends.items) }
+    ensures ended { OnOk result (turn.new.ended ≡ turn.old.ended) }
+{
+    for errand in sends {
+        post_one(alloc, line, errand, turn)?;
+    }
+    Ok(())
+}
+
 /// The ticket of a heartbeat's number.
 fn ticket_of(line: u64, number: u64) -> Ticket
     ensures { result ≡ beat_ticket line number }
@@ -60,11 +70,7 @@ fn ticket_of(line: u64, number: u64) -> Ticket
 
 impl<S: HeartHost, H: PlanForHeartbeats> Heartbeats<S, H> {
     /// A commit of the transaction of a line was begun in the newest line: its heartbeat starts there, where none was started.
-    pub(crate) fn start_beat(
-        &mut self,
-        transaction: u64,
-        turn: &mut Turn,
-    ) -> Result<(), NoMemory>
+    pub(crate) fn start_beat(&mut self, transaction: u64, turn: &mut Turn) -> Result<(), NoMemory>
         requires ready { IsReady S.ready S.sight H.meaning self.old }
         requires line { 1 ≤ length (beats_of self.old) }
         ensures side { OnOk result (self.new.side ≡ self.old.side) }
@@ -135,16 +141,4 @@ impl<S: HeartHost, H: PlanForHeartbeats> Heartbeats<S, H> {
         self.set_next(line, out.next);
         Ok(())
     }
-}
-
-/// Posts all this, in order.
-fn post_all(alloc: Global, line: u64, sends: Vec<Errand>, turn: &mut Turn) -> Result<(), NoMemory>
-    ensures posted { OnOk result (turn.new.posted.items ≡ turn.old.posted.items ++ postings_of line sends.items) }
-    ensures timeless { OnOk result (AreTimeless sends.items) }
-    ensures ended { OnOk result (turn.new.ended ≡ turn.old.ended) }
-{
-    for errand in sends {
-        post_one(alloc, line, errand, turn)?;
-    }
-    Ok(())
 }

@@ -1,6 +1,5 @@
 use Rattle.std.proofs.Common.{◌∙◌}
 use Rattle.std.proofs.lemmas.Result.{IfOk-weaker}
-use Rattle.txn_kv.specs.Posted.{Posted}
 use Rattle.txn_heartbeats.proofs.Keeping.{outbox_there}
 use Rattle.txn_heartbeats.proofs.heartbeats.Heartbeats.outbox.Goals as goal
 

@@ -1,8 +1,6 @@
-use Rattle.std.proofs.Common.{◌≡◌, ◌∙◌, ◌-◌, Some, None, true, ap, set, subst, sym}
+use Rattle.std.proofs.Common.{◌∙◌, ◌-◌, Some, None, ap, set, subst, sym}
 use Rattle.std.proofs.lemmas.List.{set-set}
-use Rattle.txn_kv.specs.Posted.{Posted}
 use Rattle.txn_side.specs.Sight.{next_at}
-use Rattle.txn_heartbeats.specs.Beating.{IsLine}
 use Rattle.txn_heartbeats.specs.Hearts.{beats_of, jobs_of, outbox_at}
 use Rattle.txn_heartbeats.proofs.Living.{alive_at, alive_emptied}
 use Rattle.txn_heartbeats.proofs.Posting.{holds_so, posts_all, posts_so}
