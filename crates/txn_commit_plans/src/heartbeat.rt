@@ -44,6 +44,7 @@ impl PlanForHeartbeats for HeartbeatPlan {
         let request = encoded(alloc, pd, request);
         let sent = Dispatch::new(request, None);
         let plan = RetryableMultiRegion::new(alloc, sent, backoff, false);
-        Ok(TransactionPlan::new(MergeResponse::new(alloc, plan, CollectSingle)))
+        let merged = MergeResponse::new(alloc, plan, CollectSingle);
+        Ok(TransactionPlan::new(merged))
     }
 }

@@ -99,6 +99,11 @@ pub record StaysAsleep {S : Type 0} (old new : HeartbeatJob S) (from to : Posted
   pub same : new ≡ old
   pub posted : to ≡ from
 
+-- one that gives up for want of memory does so for good
+pub record GivesUp {S : Type 0} (old new : HeartbeatJob S) (from to : Posted) (turn : Turn (Result (Unit {0}) Error)) : Type 0 where
+  pub after : old.stage ≡ stage.Stopped → (turn ≡ Stopped) × (new ≡ old) × (to ≡ from)
+  pub stops : turn ≡ Stopped → new.stage ≡ stage.Stopped
+
 -- it has ended, and posts nothing
 pub record Ended {S : Type 0} (new : HeartbeatJob S) (from to : Posted) (turn : Turn (Result (Unit {0}) Error)) : Type 0 where
   pub ends : turn ≡ Ends (Ok tt)

@@ -1,6 +1,6 @@
-ghost use Rattle.std.specs.Prelude.{◌≡◌, ◌<◌, ◌+◌, ◌^◌, ◌++◌, ◌∷◌, [], ℕ, OnOk, false, true};
+ghost use Rattle.std.specs.Prelude.{◌≡◌, ◌<◌, ◌+◌, ◌^◌, ◌++◌, ◌∷◌, [], ℕ, OnErr, OnOk, false, true};
 ghost use Rattle.txn_core.specs.Status.{is_end};
-ghost use Rattle.txn_heartbeat.specs.Beats.{Beats, Ended, GoesOn, IsAlive, SendsBeat, Sleeps, StaysAsleep, TellsBeat};
+ghost use Rattle.txn_heartbeat.specs.Beats.{Beats, Ended, GivesUp, GoesOn, IsAlive, SendsBeat, Sleeps, StaysAsleep, TellsBeat};
 ghost use Rattle.txn_heartbeat.specs.declared.heartbeat_job.Stage.TheVariants as stages;
 ghost use Rattle.txn_history.specs.Phase.Awaited.{EndOf};
 ghost use Rattle.txn_history.specs.Posted.{HasNumbers};
@@ -58,6 +58,9 @@ impl<H: PlanForHeartbeats> HeartbeatJob<H> {
         requires alive { IsAlive H.meaning self.old out.old }
         requires numbers { HasNumbers out.old }
         ensures sleeps { self.old.stage ≡ stages.Fresh → OnOk result (Sleeps self.old self.new out.old out.new (turn_of result)) }
+        ensures state { (self.old.stage ≡ stages.Fresh → ⊥) → self.new ≡ self.old }
+        ensures outbox { (self.old.stage ≡ stages.Fresh → ⊥) → out.new ≡ out.old }
+        ensures gives_up { GivesUp self.old self.new out.old out.new (turn_of result) }
         ensures beats { OnOk result (Beats self.old.heartbeat out.old out.new) }
         ensures kept { self.new.heartbeat ≡ self.old.heartbeat }
         ensures alive { OnOk result (IsAlive H.meaning self.new out.new) }
@@ -88,6 +91,7 @@ impl<H: PlanForHeartbeats> HeartbeatJob<H> {
         ensures ends { (n : ℕ) → self.old.stage ≡ stages.Sleeping n → awaited_as arrival ≡ EndOf n → is_end status ≡ true → Ended self.new out.old out.new (turn_of result) }
         ensures wakes { (n : ℕ) → self.old.stage ≡ stages.Sleeping n → awaited_as arrival ≡ EndOf n → is_end status ≡ false → OnOk result (SendsBeat H.meaning now self.old self.new out.old out.new (turn_of result)) }
         ensures tells { (p : H) → self.old.stage ≡ stages.Beating p → OnOk result (TellsBeat H.meaning arrival p self.old self.new out.old out.new (turn_of result)) }
+        ensures gives_up { GivesUp self.old self.new out.old out.new (turn_of result) }
         ensures over { self.old.stage ≡ stages.Over → StaysAsleep self.old self.new out.old out.new (turn_of result) }
         ensures beats { OnOk result (Beats self.old.heartbeat out.old out.new) }
         ensures kept { self.new.heartbeat ≡ self.old.heartbeat }
@@ -119,6 +123,7 @@ impl<H: PlanForHeartbeats> HeartbeatJob<H> {
         requires start { HasVersion self.old.heartbeat.start }
         requires numbers { HasNumbers out.old }
         requires clock { now < 2 ^ 44 }
+        ensures stops { OnErr result (self.new.stage ≡ stages.Stopped) }
         ensures sends { OnOk result (SendsBeat H.meaning now self.old self.new out.old out.new (turn_of result)) }
         ensures beats { OnOk result (Beats self.old.heartbeat out.old out.new) }
         ensures kept { self.new.heartbeat ≡ self.old.heartbeat }
@@ -139,6 +144,7 @@ impl<H: PlanForHeartbeats> HeartbeatJob<H> {
     fn go_on(&mut self, turn: Result<Progress<H::Result>, NoMemory>, out: &mut Outbox) -> Turn
         requires alive { IfKept (turn_of turn) (IsAlive H.meaning self.old out.old) }
         requires numbers { HasNumbers out.old }
+        ensures stops { OnErr result (self.new.stage ≡ stages.Stopped) }
         ensures goes { OnOk result (GoesOn (turn_of turn) self.old self.new out.old out.new (turn_of result)) }
         ensures beats { OnOk result (Beats self.old.heartbeat out.old out.new) }
         ensures kept { self.new.heartbeat ≡ self.old.heartbeat }
@@ -162,6 +168,7 @@ impl<H: PlanForHeartbeats> HeartbeatJob<H> {
     /// Sleeps for its interval.
     fn sleep(&mut self, out: &mut Outbox) -> Turn
         requires numbers { HasNumbers out.old }
+        ensures stops { OnErr result (self.new.stage ≡ stages.Stopped) }
         ensures sleeps { OnOk result (Sleeps self.old self.new out.old out.new (turn_of result)) }
         ensures kept { self.new.heartbeat ≡ self.old.heartbeat }
         ensures numbers { HasNumbers out.new }
