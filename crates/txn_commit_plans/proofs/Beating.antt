@@ -1,6 +1,6 @@
 -- The plan of a heartbeat is one of it.
-use Rattle.std.proofs.Common.{◌≡◌, ◌⊎◌, inl, inr, false, List, Option, Some, refl, sym, ap, subst, ◌∙◌}
-use Rattle.std.specs.Prelude.{⊤, Result}
+use Rattle.std.proofs.Common.{◌≡◌, ◌⊎◌, inl, inr, false, List, Option, Some, sym, ap, subst, ◌∙◌}
+use Rattle.std.specs.Prelude.{⊤}
 use Rattle.txn_heartbeat.specs.Beats.{IsLookUp, IsPlanForBeats, IsSentAs}
 use Rattle.txn_history.specs.Around.{around-unbegun}
 use Rattle.txn_history.specs.Event.{Event}
