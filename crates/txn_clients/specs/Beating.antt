@@ -1,8 +1,7 @@
 -- What clients can have arisen from where a heartbeat sends something beside their calls: it commits nothing, locks nothing and needs no
 -- licence, and its numbers are its own.
-use Rattle.std.specs.Prelude.{◌≡◌, ◌≤◌, ℕ, true, false, List, [], ◌∷◌, slice_index_or}
-use Rattle.std.proofs.Common.{zero, suc, inl, inr, sym, ap, ◌∙◌, subst}
-use Rattle.std.proofs.Math.Nat.{le_refl, le_step}
+use Rattle.std.specs.Prelude.{◌≡◌, ℕ, true, false, List, [], ◌∷◌}
+use Rattle.std.proofs.Common.{inl, inr, sym, ap, ◌∙◌, subst}
 use Rattle.std.proofs.lemmas.List.Elements.{All-nil}
 use Rattle.txn_kv.specs.declared.request.PessimisticLockRequest.{PessimisticLockRequest}
 use Rattle.txn_kv.specs.declared.request.Request.{Request}
@@ -18,7 +17,6 @@ use Rattle.txn_history.specs.Posted.{Within-one}
 use Rattle.txn_law.specs.Run.{IsCovered, IsPossible, IsUnused}
 use Rattle.txn_commit.specs.Committing.{Ways}
 use Rattle.txn_side.specs.Arising.{Arises, IsBeat}
-use Rattle.txn_side.specs.Sight.{next_at}
 use Rattle.txn_trace.specs.Posting.{IsFreshFor}
 use Rattle.txn_trace.proofs.Fitting.{fits_more}
 use Rattle.txn_trace.proofs.Lines.{fresh_on, sent_ticket}
@@ -26,7 +24,7 @@ use Rattle.txn_trace.proofs.Seen.{had_seen}
 use Rattle.txn_trace.proofs.Timing.{answerable_more}
 use Rattle.txn_tso.specs.Oracle.{Answer}
 use Rattle.txn_clients.specs.Arising.{Arisen, ArisenFrom, HoldsAt}
-use Rattle.txn_clients.specs.Clients.{nexts_of, row_at, rows_of, sight_of, unbeaten}
+use Rattle.txn_clients.specs.Clients.{row_at, rows_of}
 use Rattle.txn_clients.specs.Growing.{AddsNoCommit, IsNoCommit, adds_no_commit, commits_before, draws_grow, right_same, row_stays}
 use Rattle.txn_clients.specs.declared.clients.Clients.{Clients}
 
@@ -59,17 +57,6 @@ fresh_beating n next ask t r h beat f = fresh_on n false next ask (Sent t r) h
     (λ u ms x w. absurd (cc))
     (λ u x w. absurd (cc))
     f
-
--- The numbers of heartbeats
-
-one_each : (nexts : List ℕ) (i : ℕ) → slice_index_or (unbeaten nexts) i 0 ≤ 1
-one_each [] i = le_step (le_refl 0)
-one_each (n ∷ nexts) zero = le_refl 1
-one_each (n ∷ nexts) (suc i) = one_each nexts i
-
-pub unbeaten_so : {P Q K : Type 0} (s : Clients P Q K) (n : ℕ) → next_at (sight_of s).nexts.beats n ≤ 1
-unbeaten_so s zero = le_step (le_refl 0)
-unbeaten_so s (suc i) = one_each (nexts_of s) i
 
 -- The whole
 

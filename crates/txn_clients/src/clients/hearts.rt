@@ -13,10 +13,11 @@ where
     Q: PlanFor<CommitRequest> + Drop,
     K: PlanFor<BatchRollbackRequest> + Drop,
 {
-    ghost use Rattle.txn_clients.specs.Beating.{arises_when_beating, unbeaten_so};
+    ghost use Rattle.std.specs.Prelude.{refl};
+    ghost use Rattle.txn_clients.specs.Beating.{arises_when_beating};
     ghost use Rattle.txn_commit.specs.Committing.{ways};
 
-    ghost unbeaten = { unbeaten_so };
+    ghost unbeaten = { λ s. refl };
 
     ghost arises_beating = { arises_when_beating (ways P.meaning Q.meaning K.meaning P.refuses Q.refuses K.refuses) };
 

@@ -15,7 +15,7 @@ returns-clause-advances g c =
     sends_one c.args.self.now c.set_group.new.self c.args.turn.now c.post.new.turn _ (record { ticket = c.in_ok-ticket.ticket; askers = asks }) c.args.client c.in-Some.line.now
     posted.posted (ap (λ v. v.items) posted.ended) c.in_ok-ticket.ensures.line c.in_ok-ticket.ensures.beat c.in_ok-ticket.ensures.live c.in_ok-ticket.ensures.next
     (first_asks c.requires.group.0 c.in-Some.line.now c.in_ok-ticket.ticket.line c.args.group.request c.args.group.askers c.as_slice.result.now c.as_slice.ensures c.in-Some.ensures.value c.in_ok-ticket.ensures.line c.requires.group.1)
-    c.requires.lines (refl, c.requires.askers ∙ sym (same_asks c.args.self.now c.post.new.self c.args.client posted.clients)) c.requires.client
+    c.requires.lines (refl, c.requires.askers ∙ sym (same_asks c.args.self.now c.post.new.self c.args.client posted.clients), c.in_ok-ticket.ensures.beat) c.requires.client
     (c.set_group.ensures.crashed ∙ same_clients c.args.self.now c.post.new.self posted.clients)
     (c.set_group.ensures.groups ∙ ap (λ gs. set gs c.args.client (Some (record { ticket = c.in_ok-ticket.ticket; askers = asks }))) (same_groups c.args.self.now c.post.new.self posted.clients))
     (c.set_group.ensures.rows ∙ posted.rows) (c.set_group.ensures.nexts ∙ posted.nexts)
@@ -31,7 +31,7 @@ returns-clause-groups g c =
     let posted = c.in_ok-post.ensures in
     let asks = asks_at c.post.new.self c.args.client in
     group_posted c.args.self.now c.set_group.new.self c.args.client (record { ticket = c.in_ok-ticket.ticket; askers = asks }) c.args.turn.now.posted.items c.post.new.turn.posted.items _ posted.posted
-    (refl, c.requires.askers ∙ sym (same_asks c.args.self.now c.post.new.self c.args.client posted.clients)) c.requires.client
+    (refl, c.requires.askers ∙ sym (same_asks c.args.self.now c.post.new.self c.args.client posted.clients), c.in_ok-ticket.ensures.beat) c.requires.client
     (c.set_group.ensures.groups ∙ ap (λ gs. set gs c.args.client (Some (record { ticket = c.in_ok-ticket.ticket; askers = asks }))) (same_groups c.args.self.now c.post.new.self posted.clients))
 
 pub returns-clause-exact : goal.returns-clause-exact
