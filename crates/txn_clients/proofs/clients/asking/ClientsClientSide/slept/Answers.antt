@@ -34,7 +34,7 @@ returns-in-Some-clause-rests g c = IfOk-weaker c.hear.result _ _
     c.hear.ensures.steps
 
 pub returns-in-None-clause-rests : goal.returns-in-None-clause-rests
-returns-in-None-clause-rests g c t posted was = rests_quiet (ways g.P.Plan.meaning g.Q.Plan.meaning g.K.Plan.meaning g.P.PlanFor.refuses g.Q.PlanFor.refuses g.K.PlanFor.refuses) t c.args.self.now c.new.result.posted.items c.new.result.ended.items c.new.ensures.posted c.new.ensures.ended posted was
+returns-in-None-clause-rests g c t posted was = rests_quiet (ways g.P.Plan.meaning g.Q.Plan.meaning g.K.Plan.meaning g.P.PlanFor.refuses g.Q.PlanFor.refuses g.K.PlanFor.refuses) t c.args.self.now c.new-in-None.result.posted.items c.new-in-None.result.ended.items c.new-in-None.ensures.posted c.new-in-None.ensures.ended posted was
 
 pub returns-in-Some-clause-arises : goal.returns-in-Some-clause-arises
 returns-in-Some-clause-arises g c = IfOk-weaker c.hear.result _ _
@@ -42,7 +42,7 @@ returns-in-Some-clause-arises g c = IfOk-weaker c.hear.result _ _
     c.hear.ensures.leads
 
 pub returns-in-None-clause-arises : goal.returns-in-None-clause-arises
-returns-in-None-clause-arises g c h a = passes_quietly (ways g.P.Plan.meaning g.Q.Plan.meaning g.K.Plan.meaning g.P.PlanFor.refuses g.Q.PlanFor.refuses g.K.PlanFor.refuses) c.args.self.now c.new.result.posted.items c.new.result.ended.items (heard_by c.args.self.now) (Woke c.args.ticket) h c.new.ensures.posted c.new.ensures.ended tt tt a
+returns-in-None-clause-arises g c h a = passes_quietly (ways g.P.Plan.meaning g.Q.Plan.meaning g.K.Plan.meaning g.P.PlanFor.refuses g.Q.PlanFor.refuses g.K.PlanFor.refuses) c.args.self.now c.new-in-None.result.posted.items c.new-in-None.result.ended.items (heard_by c.args.self.now) (Woke c.args.ticket) h c.new-in-None.ensures.posted c.new-in-None.ensures.ended tt tt a
 
 pub returns-then-ticket-clause-waits : goal.returns-then-ticket-clause-waits
 returns-then-ticket-clause-waits g c live = waits_asleep (ways g.P.Plan.meaning g.Q.Plan.meaning g.K.Plan.meaning g.P.PlanFor.refuses g.Q.PlanFor.refuses g.K.PlanFor.refuses) c.args.self.now c.args.ticket c.new.result.posted.items c.if-ticket.true
