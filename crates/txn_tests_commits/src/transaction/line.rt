@@ -162,7 +162,23 @@ where
             "close" => shown(rt, alloc, &self.close()),
             "status" => shown(rt, alloc, &self.txn.status()),
             "lost_commit" => shown(rt, alloc, &self.txn.lost_commit()),
+            "heartbeat" => self.heartbeat(rt, alloc),
             _ => self.see_turn(rt, alloc, step),
+        }
+    }
+
+    /// Which key is kept alive, how often, and how long it would live on.
+    fn heartbeat(&self, rt: &impl Abort, alloc: Global) -> String {
+        match self.txn.heartbeat().expect(rt, "memory") {
+            None => String::from_str(alloc, "none").expect(rt, "memory"),
+            Some(heartbeat) => {
+                let ttl = heartbeat.ttl(350);
+                let text = format!(in alloc;
+                    "{:?} each {} for {ttl}",
+                    heartbeat.primary, heartbeat.interval
+                );
+                text.expect(rt, "memory")
+            }
         }
     }
 

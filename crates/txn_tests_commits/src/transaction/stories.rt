@@ -2,7 +2,7 @@
 use crate::play::{Subject, play};
 use std::alloc::Global;
 use std::process::Abort;
-use txn_core::{CheckLevel, TransactionOptions};
+use txn_core::{CheckLevel, HeartbeatOption, TransactionOptions};
 
 fn optimistic() -> TransactionOptions {
     TransactionOptions::new_optimistic()
@@ -30,6 +30,29 @@ commit 9 -> OperationAfterCommitError
 rollback 10 -> OperationAfterCommitError
 close -> Clean";
     play_with(&rt, rt.alloc(), optimistic(), story);
+}
+
+#[test]
+fn a_transaction_has_a_heartbeat_while_it_commits(rt: HostRuntime) {
+    let story = "put k -> unit
+heartbeat -> none
+commit 5 -> open; Prewrite 1 under k for 3250: Put k
+heartbeat -> Key(6B) each 10000 for 20250
+prewritten 1 -> open; Ask 1
+given 1 -> open; Commit 1 at 2: k
+heartbeat -> Key(6B) each 10000 for 20250
+committed 2 -> 0.2
+heartbeat -> none";
+    play_with(&rt, rt.alloc(), optimistic(), story);
+}
+
+#[test]
+fn a_transaction_may_have_no_heartbeat(rt: HostRuntime) {
+    let story = "put k -> unit
+commit 5 -> open; Prewrite 1 under k for 3250: Put k
+heartbeat -> none";
+    let options = optimistic().heartbeat_option(HeartbeatOption::NoHeartbeat);
+    play_with(&rt, rt.alloc(), options, story);
 }
 
 #[test]
