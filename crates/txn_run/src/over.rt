@@ -29,6 +29,6 @@ where
     ensures behind { IfOk result (λ report. AreBehind (ways P.meaning Q.meaning K.meaning P.refuses Q.refuses K.refuses) (reverse lines.items) report) }
 {
     let clients: Clients<P, Q, K> = Clients::new(alloc);
-    let clients: Heartbeats<Clients<P, Q, K>, H> = Heartbeats::new(alloc, clients);
-    run_lines(alloc, clients, lines)
+    let hearts: Heartbeats<Clients<P, Q, K>, H> = Heartbeats::new(alloc, clients);
+    run_lines(alloc, hearts, lines)
 }
