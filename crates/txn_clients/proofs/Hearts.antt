@@ -1,5 +1,5 @@
 -- Clients that lend a heartbeat their placement client stay as they were.
-use Rattle.std.proofs.Common.{◌≡◌, ◌⊎◌, inl, inr, ℕ, ◌≤◌, List, [], map, Option, Some, None, sym, ap, ◌∙◌, subst}
+use Rattle.std.proofs.Common.{◌≡◌, ◌⊎◌, inl, ℕ, [], map, Option, Some, None, sym, ap, ◌∙◌, subst}
 use Rattle.txn_history.specs.Meaning.{IsLawful}
 use Rattle.txn_commit.specs.Committing.{Ways}
 use Rattle.txn_heartbeat.specs.Hosting.{StaysSo}

@@ -5,7 +5,7 @@ use Rattle.std.proofs.lemmas.List.Elements.{All-set}
 use Rattle.std.specs.List.{All}
 use Rattle.txn_commit.specs.Committing.{Ways}
 use Rattle.txn_kv.specs.declared.ticket.Ticket.{Ticket}
-use Rattle.txn_side.specs.Sight.{Group, IsNext, Nexts, Sight, Stand, line_count, next_at, raised, stand_at, with_next}
+use Rattle.txn_side.specs.Sight.{Group, IsNext, Sight, Stand, line_count, next_at, raised, stand_at, with_next}
 use Rattle.txn_side.specs.Sight.Stand.{Asking, Calling, HasBegun, Idle, IsClient, Past, Working}
 use Rattle.txn_clients.specs.Clients.{AreReady, IsLine, crashed_of, groups_of, nexts_of, of_calls, row_at, rows_of, sight_of, stands_of, unbeaten}
 use Rattle.txn_clients.specs.Groups.{group_of}
