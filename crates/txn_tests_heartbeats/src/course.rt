@@ -4,7 +4,7 @@ use crate::words::{push_ending, push_posting};
 use std::alloc::Global;
 use std::marker::Model;
 use std::process::Abort;
-use txn_kv::{Key, NoMemory, Request, Ticket, TsoRequest, Value};
+use txn_kv::{Key, Request, Ticket, TsoRequest, Value};
 use txn_lines::BeginOptions;
 use txn_side::{Act, ClientSide, Turn};
 
@@ -59,7 +59,7 @@ impl<S: ClientSide> Course<S> {
         match word.split_once('.') {
             None => {
                 let line = word.parse::<u64>().expect(rt, "a line");
-                self.call(alloc, verb, line).expect(rt, "memory")
+                self.call(rt, alloc, verb, line)
             }
             Some((line, number)) => {
                 let ticket = ticket(rt, line, number);
@@ -69,39 +69,47 @@ impl<S: ClientSide> Course<S> {
     }
 
     /// The next line names an earlier one.
-    fn call(&mut self, alloc: Global, verb: &str, line: u64) -> Result<Option<Turn>, NoMemory> {
-        self.clients.open()?;
+    fn call(&mut self, rt: &impl Abort, alloc: Global, verb: &str, line: u64) -> Option<Turn> {
+        self.clients.open().expect(rt, "memory");
         match verb {
             "client" => {
-                self.clients.connect(10_300)?;
-                Ok(None)
+                self.clients.connect(10_300).expect(rt, "memory");
+                None
             }
             "crash" => {
                 self.clients.crash(line);
-                Ok(None)
+                None
             }
-            "begin" => self.clients.begin(line, BeginOptions::default(), 10_300),
+            "begin" => {
+                let turn = self.clients.begin(line, BeginOptions::default(), 10_300);
+                turn.expect(rt, "memory")
+            }
             "put" => {
                 let put = Act::Put(Key::empty(alloc), Value::new(alloc));
-                self.clients.act(line, put, 10_300)
+                self.clients.act(line, put, 10_300).expect(rt, "memory")
             }
-            _ => self.clients.act(line, Act::Commit, 10_300),
+            _ => {
+                let turn = self.clients.act(line, Act::Commit, 10_300);
+                turn.expect(rt, "memory")
+            }
         }
     }
 
     /// Something comes for a ticket.
     fn hear(&mut self, rt: &impl Abort, alloc: Global, verb: &str, ticket: Ticket) -> Turn {
-        let turn = match verb {
-            "woken" => self.clients.slept(ticket, 10_300),
+        match verb {
+            "woken" => self.clients.slept(ticket, 10_300).expect(rt, "memory"),
             "lost" => {
                 let request = Request::Tso(TsoRequest { count: 1 });
-                self.clients.lost(ticket, &request, 10_300)
+                let turn = self.clients.lost(ticket, &request, 10_300);
+                turn.expect(rt, "memory")
             }
-            _ => self
-                .clients
-                .take_reply(ticket, reply(rt, alloc, verb), 10_300),
-        };
-        turn.expect(rt, "memory")
+            _ => {
+                let reply = reply(rt, alloc, verb);
+                let turn = self.clients.take_reply(ticket, reply, 10_300);
+                turn.expect(rt, "memory")
+            }
+        }
     }
 }
 
