@@ -46,3 +46,4 @@ pub mod ToldParts
 pub mod Stepped
 pub mod Grouped
 pub mod Hearts
+pub mod Lent

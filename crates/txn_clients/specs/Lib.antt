@@ -14,4 +14,5 @@ pub mod Arising
 pub mod Growing
 pub mod Unmoved
 pub mod Beating
+pub mod Hearts
 pub mod Ended

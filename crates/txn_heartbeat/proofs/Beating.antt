@@ -1,5 +1,5 @@
 -- The calls of a beat's plan as calls of the job.
-use Rattle.std.proofs.Common.{◌≡◌, ◌⊎◌, inl, inr, ℕ, ◌+◌, ◌-◌, Bool, List, [], ◌∷◌, ◌++◌, None, append-nil, append_assoc, refl, sym, ap, ◌∙◌, subst, arith}
+use Rattle.std.proofs.Common.{◌≡◌, ◌⊎◌, inl, inr, ℕ, ◌+◌, ◌-◌, Bool, true, false, List, [], ◌∷◌, ◌++◌, None, append-nil, append_assoc, refl, sym, ap, ◌∙◌, subst, arith}
 use Rattle.std.proofs.lemmas.List.Elements.{All-append, All-cons, All-nil}
 use Rattle.std.specs.List.{All}
 use Rattle.std.specs.Prelude.{OnOk, Result, Ok, Err}
@@ -10,17 +10,20 @@ use Rattle.txn_kv.specs.declared.outbox.Errand.TheVariants.{Send, Sleep, Ask}
 use Rattle.txn_kv.specs.declared.request.Request.{Request}
 use Rattle.txn_kv.specs.declared.request.Request.TheVariants.{Members, TxnHeartBeat}
 use Rattle.txn_kv.specs.declared.request.TxnHeartBeatRequest.{TxnHeartBeatRequest}
+use Rattle.txn_core.specs.Status.{is_end}
 use Rattle.txn_core.specs.declared.heartbeat.Heartbeat.{Heartbeat}
+use Rattle.txn_core.specs.declared.status.Status.{Status}
 use Rattle.txn_history.specs.Event.{Event, Has}
 use Rattle.txn_history.specs.Event.Event.{Sent}
 use Rattle.txn_history.specs.Meaning.{started, Goes, IsLawful, IsSent, Meaning, Tells, Told}
+use Rattle.txn_history.specs.Phase.Awaited.{EndOf}
 use Rattle.txn_history.specs.Plan.{Key}
 use Rattle.txn_history.specs.Posted.{AreNumbered-append, Errand, Licensed, Posted, after, posting, ticket_of}
 use Rattle.txn_history.specs.Turn.{IfKept, IfKept-all, IfKept-weaker, Turn}
 use Rattle.txn_plan.specs.Arrivals.{awaited_as, told_by}
 use Rattle.txn_plan.specs.declared.arrival.Arrival.{Arrival}
 use Rattle.txn_plan.specs.declared.arrival.Arrival.TheVariants as arrivals
-use Rattle.txn_heartbeat.specs.Beats.{beat_at, Beats, IsAlive, IsBeatOf, IsBeating, IsErrandOf, IsLookUp, IsPlanForBeats, IsSentAs, SendsBeat, StageLives, TellsBeat}
+use Rattle.txn_heartbeat.specs.Beats.{beat_at, Beats, Ended, HasHeard, IsAlive, IsBeatOf, IsBeating, IsErrandOf, IsLookUp, IsPlanForBeats, IsSentAs, SendsBeat, StageLives, StaysAsleep, TellsBeat}
 use Rattle.txn_heartbeat.specs.Beats.{GoesOn as JobGoesOn}
 use Rattle.txn_heartbeat.specs.declared.heartbeat_job.HeartbeatJob.{HeartbeatJob}
 use Rattle.txn_heartbeat.specs.declared.heartbeat_job.Stage.{Stage}
@@ -191,3 +194,14 @@ of_its_plan P g p q e f h = subst P (same (sym e ∙ f)) h
   where
     same : stage.Beating p ≡ stage.Beating q → p ≡ q
     same d = cc
+
+-- what each clause says of a job that was told of something, as one
+pub has_heard : {S A X : Type 0} (m : Meaning S (Result A Error)) (arrival : Arrival) (status : Status) (now : ℕ) (old new : HeartbeatJob S) (from to : Posted) (turn : Turn (Result (Unit {0}) Error)) (r : Result X NoMemory)
+    → ((n : ℕ) → old.stage ≡ stage.Sleeping n → (awaited_as arrival ≡ EndOf n → ⊥) → StaysAsleep old new from to turn)
+    → ((n : ℕ) → old.stage ≡ stage.Sleeping n → awaited_as arrival ≡ EndOf n → is_end status ≡ true → Ended new from to turn)
+    → ((n : ℕ) → old.stage ≡ stage.Sleeping n → awaited_as arrival ≡ EndOf n → is_end status ≡ false → OnOk r (SendsBeat m now old new from to turn))
+    → ((p : S) → old.stage ≡ stage.Beating p → OnOk r (TellsBeat m arrival p old new from to turn))
+    → (old.stage ≡ stage.Over → StaysAsleep old new from to turn)
+    → OnOk r (HasHeard m arrival status now old new from to turn)
+has_heard m arrival status now old new from to turn (Ok v) asleep ends wakes tells over = record { asleep = asleep; ends = ends; wakes = wakes; tells = tells; over = over }
+has_heard m arrival status now old new from to turn (Err e) asleep ends wakes tells over = tt

@@ -1,11 +1,14 @@
 -- A heartbeat's job: what it sends, and what is known of it.
-use Rattle.std.specs.Prelude.{◌≡◌, ◌⊎◌, ◌<◌, ◌≤◌, ◌+◌, ◌-◌, ⊤, ℕ, List, [], ◌∷◌, ◌++◌, None, Result, Ok, Err}
+use Rattle.std.specs.Prelude.{◌≡◌, ◌⊎◌, ◌<◌, ◌≤◌, ◌+◌, ◌-◌, ⊤, ℕ, true, false, List, [], ◌∷◌, ◌++◌, None, Result, Ok, Err}
 use Rattle.std.specs.List.{All}
+use Rattle.txn_core.specs.Status.{is_end}
 use Rattle.txn_core.specs.declared.heartbeat.Heartbeat.{Heartbeat}
+use Rattle.txn_core.specs.declared.status.Status.{Status}
 use Rattle.txn_history.specs.Event.{Event, Has}
 use Rattle.txn_history.specs.Event.Event.{Sent}
 use Rattle.txn_history.specs.Meaning.{started, IsUnbegun, Meaning, Tells}
 use Rattle.txn_history.specs.Phase.{unheard}
+use Rattle.txn_history.specs.Phase.Awaited.{EndOf}
 use Rattle.txn_history.specs.Plan.{Key}
 use Rattle.txn_history.specs.Posted.{AreNumbered, Errand, Posted}
 use Rattle.txn_history.specs.Turn.{Turn}
@@ -141,3 +144,12 @@ pub record TellsBeat {S A : Type 0} (m : Meaning S (Result A Error)) (arrival : 
   pub tells : (r : Request) → Tells m (told_by arrival from r) p plan from via inner
   pub deaf : (m.waits p (awaited_as arrival) → ⊥) → (inner ≡ unheard (m.phase p)) × (plan ≡ p) × (via ≡ from)
   pub goes : GoesOn inner (record old { stage = stage.Beating plan }) new via to turn
+
+-- What becomes of a job that is told of something, while its transaction has come so far: it sleeps on until the end of its sleep, looks
+-- then at its transaction, and ends with it or sends a beat; the plan of a beat that is on its way is told; and one that is over stays so.
+pub record HasHeard {S A : Type 0} (m : Meaning S (Result A Error)) (arrival : Arrival) (status : Status) (now : ℕ) (old new : HeartbeatJob S) (from to : Posted) (turn : Turn (Result (Unit {0}) Error)) : Type 0 where
+  pub asleep : (n : ℕ) → old.stage ≡ stage.Sleeping n → (awaited_as arrival ≡ EndOf n → ⊥) → StaysAsleep old new from to turn
+  pub ends : (n : ℕ) → old.stage ≡ stage.Sleeping n → awaited_as arrival ≡ EndOf n → is_end status ≡ true → Ended new from to turn
+  pub wakes : (n : ℕ) → old.stage ≡ stage.Sleeping n → awaited_as arrival ≡ EndOf n → is_end status ≡ false → SendsBeat m now old new from to turn
+  pub tells : (p : S) → old.stage ≡ stage.Beating p → TellsBeat m arrival p old new from to turn
+  pub over : old.stage ≡ stage.Over → StaysAsleep old new from to turn

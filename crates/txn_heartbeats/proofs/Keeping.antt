@@ -1,12 +1,29 @@
 -- What is kept of a line's heartbeat is changed.
-use Rattle.std.proofs.Common.{◌≡◌, ℕ, suc, zero, ◌-◌, ◌<◌, ◌≤◌, true, [], length, map, get_or, set, None, sym, ap, ◌∙◌, arith}
-use Rattle.std.proofs.lemmas.List.{length-map, map-set}
+use Rattle.std.proofs.Common.{◌≡◌, ℕ, suc, zero, ◌-◌, ◌<◌, ◌≤◌, Bool, true, List, [], length, map, get_or, set, None, refl, sym, ap, ◌∙◌, arith}
+use Rattle.std.proofs.lemmas.List.{length-map, map-set, set-get_or}
 use Rattle.txn_side.specs.Sight.{next_at}
 use Rattle.txn_heartbeats.specs.Beating.{IsLine}
 use Rattle.txn_heartbeats.specs.Hearts.{beats_of, job_at, jobs_of, outbox_at}
+use Rattle.txn_heartbeats.specs.Started.{starts_of, transaction_at, transactions_of, was_started, with_started}
 use Rattle.txn_heartbeats.specs.declared.heartbeats.Heartbeats.{Heartbeats}
 use Rattle.txn_heartbeats.specs.declared.pulse.Pulse.{Pulse}
 use Rattle.txn_heartbeats.proofs.Lists.{at_line, map_kept, next_line, read_in}
+
+marked : (starts : List Bool) (transaction : ℕ) → 1 ≤ transaction → set starts (transaction - 1) true ≡ with_started transaction starts
+marked starts zero one = absurd (omega (arith, one))
+marked starts (suc i) one = let e : suc i - 1 ≡ i = omega arith in ap (λ n. set starts n true) e
+
+started_at : (starts : List Bool) (transaction : ℕ) → 1 ≤ transaction → get_or starts (transaction - 1) true ≡ was_started starts transaction
+started_at starts zero one = absurd (omega (arith, one))
+started_at starts (suc i) one = let e : suc i - 1 ≡ i = omega arith in ap (λ n. get_or starts n true) e
+
+transaction_line : (transactions : List ℕ) (line : ℕ) → 1 ≤ line → transaction_at transactions line ≡ get_or transactions (line - 1) 0
+transaction_line transactions zero one = absurd (omega (arith, one))
+transaction_line transactions (suc i) one = let e : suc i - 1 ≡ i = omega arith in ap (λ n. get_or transactions n 0) (sym e)
+
+-- that of a line is written where it stands
+pub transaction_again : (transactions : List ℕ) (line : ℕ) → 1 ≤ line → set transactions (line - 1) (transaction_at transactions line) ≡ transactions
+transaction_again transactions line one = ap (set transactions (line - 1)) (transaction_line transactions line one) ∙ set-get_or transactions (line - 1) 0
 
 module _ {S H : Type 0} (b : Heartbeats S H) where
   pub pulse_there : (line : ℕ) → IsLine (beats_of b) line → line - 1 < length b.pulses.items
@@ -24,6 +41,19 @@ module _ {S H : Type 0} (b : Heartbeats S H) where
   pub jobs_set : (i : ℕ) (p : Pulse H) → map (λ (q : Pulse H). q.job) (set b.pulses.items i p) ≡ set (jobs_of b) i p.job
   jobs_set i p = map-set (λ (q : Pulse H). q.job) b.pulses.items i p
 
+  pub starts_kept : (i : ℕ) (p d : Pulse H) → i < length b.pulses.items → d ≡ get_or b.pulses.items i d → p.started ≡ d.started → map (λ (q : Pulse H). q.started) (set b.pulses.items i p) ≡ starts_of b
+  starts_kept i p d inside e k = map_kept (λ (q : Pulse H). q.started) b.pulses.items i p d inside (k ∙ ap (λ (q : Pulse H). q.started) e)
+
+  pub transactions_kept : (i : ℕ) (p d : Pulse H) → i < length b.pulses.items → d ≡ get_or b.pulses.items i d → p.transaction ≡ d.transaction → map (λ (q : Pulse H). q.transaction) (set b.pulses.items i p) ≡ transactions_of b
+  transactions_kept i p d inside e k = map_kept (λ (q : Pulse H). q.transaction) b.pulses.items i p d inside (k ∙ ap (λ (q : Pulse H). q.transaction) e)
+
+  pub transactions_set : (i : ℕ) (p : Pulse H) → map (λ (q : Pulse H). q.transaction) (set b.pulses.items i p) ≡ set (transactions_of b) i p.transaction
+  transactions_set i p = map-set (λ (q : Pulse H). q.transaction) b.pulses.items i p
+
+  -- one is marked as started
+  pub starts_set : (transaction : ℕ) (p : Pulse H) → 1 ≤ transaction → p.started ≡ true → map (λ (q : Pulse H). q.started) (set b.pulses.items (transaction - 1) p) ≡ with_started transaction (starts_of b)
+  starts_set transaction p one e = map-set (λ (q : Pulse H). q.started) b.pulses.items (transaction - 1) p ∙ ap (set (starts_of b) (transaction - 1)) e ∙ marked (starts_of b) transaction one
+
   -- what is kept there
   pub next_there : (line : ℕ) (d : Pulse H) → IsLine (beats_of b) line → d ≡ get_or b.pulses.items (line - 1) d → d.next ≡ next_at (beats_of b) line
   next_there line d own e = ap (λ (q : Pulse H). q.next) e ∙ sym (next_line (beats_of b) line own.first ∙ read_in (λ (q : Pulse H). q.next) b.pulses.items (line - 1) d 0 (pulse_there line own))
@@ -38,3 +68,12 @@ module _ {S H : Type 0} (b : Heartbeats S H) where
   -- an empty outbox
   pub outbox_there : (line : ℕ) (d : Pulse H) → IsLine (beats_of b) line → d ≡ get_or b.pulses.items (line - 1) d → record { line = line; beat = true; next = d.next; next_ask = 1; sends = [] } ≡ outbox_at line (next_at (beats_of b) line)
   outbox_there line d own e = ap (outbox_at line) (next_there line d own e)
+
+  pub transaction_there : (line : ℕ) (d : Pulse H) → IsLine (beats_of b) line → d ≡ get_or b.pulses.items (line - 1) d → d.transaction ≡ transaction_at (transactions_of b) line
+  transaction_there line d own e = ap (λ (q : Pulse H). q.transaction) e ∙ sym (transaction_line (transactions_of b) line own.first ∙ read_in (λ (q : Pulse H). q.transaction) b.pulses.items (line - 1) d 0 (pulse_there line own))
+
+  pub started_there : (transaction : ℕ) (ps : List (Pulse H)) (d : Pulse H) → 1 ≤ transaction → ps ≡ b.pulses.items → transaction - 1 < length ps → d ≡ get_or ps (transaction - 1) d → d.started ≡ was_started (starts_of b) transaction
+  started_there transaction ps d one same inside e =
+      ap (λ (q : Pulse H). q.started) e ∙ sym (read_in (λ (q : Pulse H). q.started) ps (transaction - 1) d true inside)
+      ∙ started_at (map (λ (q : Pulse H). q.started) ps) transaction one
+      ∙ ap (λ qs. was_started (map (λ (q : Pulse H). q.started) qs) transaction) same

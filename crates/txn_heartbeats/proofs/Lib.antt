@@ -8,3 +8,4 @@ pub mod Living
 pub mod Posting
 pub mod Sides
 pub mod Telling
+pub mod Started

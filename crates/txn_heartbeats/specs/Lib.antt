@@ -1,3 +1,4 @@
 pub mod Beating
 pub mod Hearts
 pub mod Standing
+pub mod Started

@@ -4,7 +4,7 @@ use crate::row::Row;
 use txn_commit::PlanFor;
 use txn_core::{Heartbeat, Status};
 use txn_heartbeat::{HeartHost, HeartbeatJob, PlanForHeartbeats};
-use txn_kv::{BatchRollbackRequest, CommitRequest, NoMemory, Outbox, PrewriteRequest};
+use txn_kv::{BatchRollbackRequest, CommitRequest, NoMemory, Outbox, PrewriteRequest, Progress};
 use txn_plan::Arrival;
 
 impl<P, Q, K> HeartHost for Clients<P, Q, K>
@@ -15,7 +15,13 @@ where
 {
     ghost use Rattle.std.specs.Prelude.{refl};
     ghost use Rattle.txn_clients.specs.Beating.{arises_when_beating};
+    ghost use Rattle.txn_clients.specs.Clients.{rows_of};
+    ghost use Rattle.txn_clients.specs.Hearts.{HeartOf, status_of};
     ghost use Rattle.txn_commit.specs.Committing.{ways};
+
+    ghost heart = { λ s. HeartOf (rows_of s) };
+
+    ghost status_at = { λ s. status_of (rows_of s) };
 
     ghost unbeaten = { λ s. refl };
 
@@ -49,13 +55,12 @@ where
         status: Status,
         now: u64,
         out: &mut Outbox,
-    ) -> Result<(), NoMemory> {
+    ) -> Result<Progress<()>, NoMemory> {
         match self.live_client(line) {
-            None => Ok(()),
+            None => Ok(Progress::Waiting),
             Some(client) => {
                 let pd = self.clients[client].client.pd();
-                job.tell(arrival, status, pd, now, out)?;
-                Ok(())
+                job.tell(arrival, status, pd, now, out)
             }
         }
     }

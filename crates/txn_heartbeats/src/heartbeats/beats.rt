@@ -1,8 +1,10 @@
 //! Heartbeats start, and are told of what comes for them.
-ghost use Rattle.std.specs.Prelude.{◌≡◌, ◌-◌, ◌<◌, ◌≤◌, ◌++◌, ◌∷◌, ◌^◌, [], IfOk, OnOk, false, length, slice_set};
+ghost use Rattle.std.specs.Prelude.{◌≡◌, ◌-◌, ◌<◌, ◌≤◌, ◌++◌, ◌∷◌, ◌^◌, [], IfOk, None, OnOk, Some, false, length, slice_set, true};
 ghost use Rattle.txn_heartbeat.specs.Hosting.{StaysSo};
+ghost use Rattle.txn_heartbeat.specs.declared.heartbeat_job.HeartbeatJob.{HeartbeatJob};
 ghost use Rattle.txn_heartbeats.specs.Beating.{AreBeats, AreTimeless, IsLine, PostsBeats, beat_ticket, posted_as, postings_of};
-ghost use Rattle.txn_heartbeats.specs.Hearts.{IsReady, beats_of, jobs_of};
+ghost use Rattle.txn_heartbeats.specs.Hearts.{IsReady, beats_of, job_at, jobs_of};
+ghost use Rattle.txn_heartbeats.specs.Started.{HasTold, StartsAsLent, starts_of, transaction_at, transactions_of, was_started};
 ghost use Rattle.txn_plan.specs.Arrivals.{MayArrive};
 ghost use Rattle.txn_side.specs.Sight.{is_live};
 
@@ -77,6 +79,8 @@ impl<S: HeartHost, H: PlanForHeartbeats> Heartbeats<S, H> {
         ensures ended { OnOk result (turn.new.ended ≡ turn.old.ended) }
         ensures beats { OnOk result (PostsBeats (length (beats_of self.old)) (beats_of self.old) turn.old.posted.items turn.new.posted.items (beats_of self.new)) }
         ensures ready { OnOk result (IsReady S.ready S.sight H.meaning self.new) }
+        ensures once { was_started (starts_of self.old) transaction ≡ true → OnOk result ((self.new ≡ self.old) × (turn.new ≡ turn.old)) }
+        ensures starts { was_started (starts_of self.old) transaction ≡ false → OnOk result (StartsAsLent (S.heart self.old.side transaction) (length (beats_of self.old)) transaction self.old self.new turn.old turn.new) }
     {
         if self.was_started(transaction) {
             return Ok(());
@@ -105,6 +109,8 @@ impl<S: HeartHost, H: PlanForHeartbeats> Heartbeats<S, H> {
         ensures beats { IfOk result (λ turn. AreBeats line (beats_of self.old) turn.posted.items (beats_of self.new)) }
         ensures dead { is_live (S.sight self.old.side) line ≡ false → IfOk result (λ turn. turn.posted.items ≡ []) }
         ensures ready { OnOk result (IsReady S.ready S.sight H.meaning self.new) }
+        ensures told { is_live (S.sight self.old.side) line ≡ true → (job : HeartbeatJob H) → job_at (jobs_of self.old) line ≡ Some job → IfOk result (HasTold H.meaning line arrival (S.status_at self.old.side (transaction_at (transactions_of self.old) line)) now job self.old self.new) }
+        ensures kept { OnOk result ((starts_of self.new ≡ starts_of self.old) × (transactions_of self.new ≡ transactions_of self.old)) }
     {
         let mut turn = Turn::new(self.alloc);
         if !self.side.is_live(line) {
@@ -116,8 +122,11 @@ impl<S: HeartHost, H: PlanForHeartbeats> Heartbeats<S, H> {
                 let transaction = self.transaction_of(line);
                 let status = self.side.status(transaction);
                 let mut out = self.outbox(line)?;
-                self.side
-                    .beat(line, &mut job, arrival, status, now, &mut out)?;
+                // Nobody waits for what became of it.
+                drop(
+                    self.side
+                        .beat(line, &mut job, arrival, status, now, &mut out)?,
+                );
                 self.keep(line, transaction, job);
                 self.post(line, out, &mut turn)?;
                 Ok(turn)
@@ -134,6 +143,8 @@ impl<S: HeartHost, H: PlanForHeartbeats> Heartbeats<S, H> {
         ensures side { OnOk result (self.new.side ≡ self.old.side) }
         ensures beats { OnOk result (beats_of self.new ≡ slice_set (beats_of self.old) (line - 1) out.next) }
         ensures jobs { OnOk result (jobs_of self.new ≡ jobs_of self.old) }
+        ensures starts { OnOk result (starts_of self.new ≡ starts_of self.old) }
+        ensures transactions { OnOk result (transactions_of self.new ≡ transactions_of self.old) }
     {
         let mut out = out;
         let sends = mem::replace(&mut out.sends, Vec::new(self.alloc));
