@@ -1,5 +1,5 @@
 -- What stands in a reply: errors of regions and of keys, and regions.
-use Rattle.std.specs.Prelude.{◌≡◌, ◌≢◌, ◌⊎◌, ℕ, Bool, true, false, not, ◌||◌, ◌==◌, List, [], ◌∷◌, ◌++◌, length, Option, Some, None, option_map, Err}
+use Rattle.std.specs.Prelude.{◌≡◌, ◌≢◌, ◌⊎◌, ⊤, ℕ, Bool, true, false, not, ◌||◌, ◌==◌, List, [], ◌∷◌, ◌++◌, length, Option, Some, None, option_map, Err}
 use Rattle.std.specs.Cmp.Lexicographic.{slice_cmp}
 use Rattle.std.specs.List.{flat_map}
 use Rattle.std.specs.Ordering.{nat_cmp, is_lt}
@@ -77,6 +77,15 @@ HasKeyError error o = IsAmong (key_errors_in o) error
 -- the lock stood in the way
 abbrev pub HasLock : LockInfo → Reply → Type 0
 HasLock lock o = HasKeyError (Locked lock) o
+
+-- no lock did
+abbrev pub HasNoLock : Reply → Type 0
+HasNoLock o = (lock : LockInfo) → HasLock lock o → ⊥
+
+-- it tells of no lock
+abbrev pub IsNoLock : KeyError → Type 0
+IsNoLock (Locked lock) = ⊥
+IsNoLock _ = ⊤
 
 -- Regions
 

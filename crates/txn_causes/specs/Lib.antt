@@ -3,3 +3,4 @@ pub mod Causes
 pub mod Heard
 pub mod Kinds
 pub mod Making
+pub mod Spent

@@ -31,28 +31,28 @@ view-RegionNotFoundInResponse id = ap view_of (sym (errors.rolls-RegionNotFoundI
 view-LeaderNotFound : (id : ℕ) → view_of (errors.LeaderNotFound id) ≡ plain (errors.LeaderNotFound id)
 view-LeaderNotFound id = ap view_of (sym (errors.rolls-LeaderNotFound id)) ∙ fold-roll-Error ErrorView view_step (layer.LeaderNotFound id)
 
-module _ (K : Heard → Type 0) where
-  pub of_loss : (t : Ticket) → PlainCause K (errors.GrpcAPI t) → HasCause K (view_of (errors.GrpcAPI t))
-  of_loss t k = subst (HasCause K) (sym (view-GrpcAPI t)) k
+module _ (K : Heard → Type 0) (S : Type 0) where
+  pub of_loss : (t : Ticket) → PlainCause K S (errors.GrpcAPI t) → HasCause K S (view_of (errors.GrpcAPI t))
+  of_loss t k = subst (HasCause K S) (sym (view-GrpcAPI t)) k
 
-  pub of_memory : HasCause K (view_of errors.OutOfMemory)
-  of_memory = subst (HasCause K) (sym view-OutOfMemory) tt
+  pub of_memory : HasCause K S (view_of errors.OutOfMemory)
+  of_memory = subst (HasCause K S) (sym view-OutOfMemory) tt
 
-  pub of_internal : (what : Internal) → InternalCause K what → HasCause K (view_of (errors.InternalError what))
-  of_internal what k = subst (HasCause K) (sym (view-InternalError what)) k
+  pub of_internal : (what : Internal) → InternalCause K what → HasCause K S (view_of (errors.InternalError what))
+  of_internal what k = subst (HasCause K S) (sym (view-InternalError what)) k
 
-  pub of_key : (key : List ℕ) → PlainCause K (errors.RegionForKeyNotFound key) → HasCause K (view_of (errors.RegionForKeyNotFound key))
-  of_key key k = subst (HasCause K) (sym (view-RegionForKeyNotFound key)) k
+  pub of_key : (key : List ℕ) → PlainCause K S (errors.RegionForKeyNotFound key) → HasCause K S (view_of (errors.RegionForKeyNotFound key))
+  of_key key k = subst (HasCause K S) (sym (view-RegionForKeyNotFound key)) k
 
-  pub of_region : (id : ℕ) → PlainCause K (errors.RegionNotFoundInResponse id) → HasCause K (view_of (errors.RegionNotFoundInResponse id))
-  of_region id k = subst (HasCause K) (sym (view-RegionNotFoundInResponse id)) k
+  pub of_region : (id : ℕ) → PlainCause K S (errors.RegionNotFoundInResponse id) → HasCause K S (view_of (errors.RegionNotFoundInResponse id))
+  of_region id k = subst (HasCause K S) (sym (view-RegionNotFoundInResponse id)) k
 
-  pub of_leader : (id : ℕ) → PlainCause K (errors.LeaderNotFound id) → HasCause K (view_of (errors.LeaderNotFound id))
-  of_leader id k = subst (HasCause K) (sym (view-LeaderNotFound id)) k
+  pub of_leader : (id : ℕ) → PlainCause K S (errors.LeaderNotFound id) → HasCause K S (view_of (errors.LeaderNotFound id))
+  of_leader id k = subst (HasCause K S) (sym (view-LeaderNotFound id)) k
 
   -- Errors that hold others
 
-  pub each_caused : (views : List ErrorView) → ((view : ErrorView) → IsAmong views view → HasCause K view) → HaveCauses K (listed views)
+  pub each_caused : (views : List ErrorView) → ((view : ErrorView) → IsAmong views view → HasCause K S view) → HaveCauses K S (listed views)
   each_caused [] causes = tt
   each_caused (view ∷ views) causes = (causes view (inl refl), each_caused views (λ other i. causes other (inr i)))
 

@@ -3,3 +3,4 @@ pub mod Lookings
 pub mod Multis
 pub mod Retrying
 pub mod Touchings
+pub mod Trying

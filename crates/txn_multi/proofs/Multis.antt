@@ -1,5 +1,5 @@
 -- Events of a plan over many regions, by those of the search of its shards and of its tasks.
-use Rattle.std.proofs.Common.{◌≡◌, inl, inr, ℕ, ◌+◌, ◌*◌, ◌≤◌, Bool, true, false, List, [], ◌∷◌, length, map, refl, sym, ap, subst, ◌∙◌, arith}
+use Rattle.std.proofs.Common.{◌≡◌, inl, inr, ℕ, ◌+◌, ◌*◌, ◌-◌, ◌≤◌, Bool, true, false, List, [], ◌∷◌, length, map, refl, sym, ap, subst, ◌∙◌, arith}
 use Rattle.std.proofs.Math.Nat.{le-max_left, le-max_right, le_refl, le_trans, max-le, mul-le-mul, mul-le-mul_right}
 use Rattle.std.proofs.lemmas.Bool.{false≢true}
 use Rattle.std.proofs.lemmas.List.{length-map}
@@ -26,7 +26,7 @@ use Rattle.txn_kv.specs.declared.message.RegionErr.{RegionErr}
 use Rattle.txn_kv.specs.declared.request.Request.{Request}
 use Rattle.txn_multi.specs.Cutting.{cut_phase, cut_waits, cutting, cutting-lawful, ArePartsOf, CutAt, IsLookUpRefused, IsPartOf, Looking, UnfoundIfErr}
 use Rattle.txn_multi.specs.Multi.{multi, multi-lawful, multi_phase, number_of, tasks_for, AfterCut, AfterTasks, Begins, IsAnswer, MultiAsks, MultiGives, MultiWaits, StandsReady}
-use Rattle.txn_multi.specs.Task.{region_task, shared, stage_left, task_for, IsOutcome, IsTaskOf}
+use Rattle.txn_multi.specs.Task.{attempts_left, limit_of, region_task, shared, stage_left, task_for, IsOutcome, IsTaskOf, Limited, TaskFits}
 use Rattle.txn_multi.specs.declared.multi_region.RetryableMultiRegion.{RetryableMultiRegion}
 use Rattle.txn_multi.specs.declared.multi_stage.MultiStage.{MultiStage}
 use Rattle.txn_multi.specs.declared.multi_stage.MultiStage.TheVariants as stage
@@ -172,44 +172,48 @@ loads_same : {S R H L : Type 0} (load : S → L) (ts : List (RegionTask S R H)) 
 loads_same load [] = refl
 loads_same {L = L} load (t ∷ ts) = ap (λ (ls : List L). load t.job ∷ ls) (loads_same load ts)
 
-parts_belong : {S A R H : Type 0} (m : Meaning S A) (is_part : S → S → Type 0) (most : S → ℕ → ℕ) (inner : S) (ts : List (RegionTask S R H)) → All (λ t. IsTaskOf m is_part most t inner) ts → All (λ (p : Part S). is_part p.plan inner) (map part_of ts)
-parts_belong {S} m is_part most inner [] a = All-nil (λ (p : Part S). is_part p.plan inner)
-parts_belong {S} {R = R} {H = H} m is_part most inner (t ∷ ts) a = All-cons (λ (p : Part S). is_part p.plan inner) (part_of t) (map part_of ts)
-    (All-head (λ (u : RegionTask S R H). IsTaskOf m is_part most u inner) t ts a).part
-    (parts_belong m is_part most inner ts (All-tail (λ (u : RegionTask S R H). IsTaskOf m is_part most u inner) t ts a))
+parts_belong : {S A R H : Type 0} (m : Meaning S A) (is_part : S → S → Type 0) (most : S → ℕ → ℕ) (whole : Limited S) (ts : List (RegionTask S R H)) → All (λ t. IsTaskOf m is_part most t whole) ts → All (λ (p : Part S). is_part p.plan whole.plan) (map part_of ts)
+parts_belong {S} m is_part most whole [] a = All-nil (λ (p : Part S). is_part p.plan whole.plan)
+parts_belong {S} {R = R} {H = H} m is_part most whole (t ∷ ts) a = All-cons (λ (p : Part S). is_part p.plan whole.plan) (part_of t) (map part_of ts)
+    (All-head (λ (u : RegionTask S R H). IsTaskOf m is_part most u whole) t ts a).part
+    (parts_belong m is_part most whole ts (All-tail (λ (u : RegionTask S R H). IsTaskOf m is_part most u whole) t ts a))
 
-parts_ended : {S R H : Type 0} (m : Meaning S (Result R Error)) (keys : R → List ErrorView) (region : R → Option RegionErr) (h : List Event) (ts : List (RegionTask S R H)) (outcomes : List (Outcome R))
-    → AllZip (λ t outcome. IsOutcome m keys region t.region t.job h outcome) ts outcomes → AllZip (λ (p : Part S) outcome. IsOutcome m keys region p.region p.plan h outcome) (map part_of ts) outcomes
-parts_ended m keys region h [] [] z = tt
-parts_ended m keys region h [] (o ∷ outcomes) z = absurd z
-parts_ended m keys region h (t ∷ ts) [] z = absurd z
-parts_ended m keys region h (t ∷ ts) (o ∷ outcomes) z = (z.0, parts_ended m keys region h ts outcomes z.1)
+parts_ended : {S R H : Type 0} (m : Meaning S (Result R Error)) (keys : R → List ErrorView) (region : R → Option RegionErr) (is_part : S → S → Type 0) (most : S → ℕ → ℕ) (whole : Limited S) (h : List Event) (ts : List (RegionTask S R H)) (outcomes : List (Outcome R))
+    → All (λ t. IsTaskOf m is_part most t whole) ts
+    → AllZip (λ t outcome. IsOutcome m keys region (limit_of t) t.region t.job h outcome) ts outcomes → AllZip (λ (p : Part S) outcome. IsOutcome m keys region whole.limit p.region p.plan h outcome) (map part_of ts) outcomes
+parts_ended m keys region is_part most whole h [] [] a z = tt
+parts_ended m keys region is_part most whole h [] (o ∷ outcomes) a z = absurd z
+parts_ended m keys region is_part most whole h (t ∷ ts) [] a z = absurd z
+parts_ended {S} {R} {H} m keys region is_part most whole h (t ∷ ts) (o ∷ outcomes) a z = (
+  subst (λ (limit : ℕ). IsOutcome m keys region limit t.region t.job h o) (All-head (λ (u : RegionTask S R H). IsTaskOf m is_part most u whole) t ts a).limit z.0,
+  parts_ended m keys region is_part most whole h ts outcomes (All-tail (λ (u : RegionTask S R H). IsTaskOf m is_part most u whole) t ts a) z.1,
+)
 
 -- The tasks for parts.
-module _ {S A R H : Type 0} (m : Meaning S A) (is_part : S → S → Type 0) (most : S → ℕ → ℕ) (inner : S) (alloc : Global) (backoff : Backoff) where
-  each_task : (P : RegionTask S R H → Type 0) → ((p : Part S) → IsPartOf m is_part most inner p.plan → P (task_for alloc backoff p)) → (parts : List (Part S)) → All (λ p. IsPartOf m is_part most inner p.plan) parts → All P (map (task_for alloc backoff) parts)
+module _ {S A R H : Type 0} (m : Meaning S A) (is_part : S → S → Type 0) (most : S → ℕ → ℕ) (inner : S) (alloc : Global) (backoff : Backoff) (before : ℕ) where
+  each_task : (P : RegionTask S R H → Type 0) → ((p : Part S) → IsPartOf m is_part most inner p.plan → P (task_for alloc backoff before p)) → (parts : List (Part S)) → All (λ p. IsPartOf m is_part most inner p.plan) parts → All P (map (task_for alloc backoff before) parts)
   each_task P f [] a = All-nil P
-  each_task P f (p ∷ ps) a = All-cons P (task_for alloc backoff p) (map (task_for alloc backoff) ps)
+  each_task P f (p ∷ ps) a = All-cons P (task_for alloc backoff before p) (map (task_for alloc backoff before) ps)
       (f p (All-head (λ (q : Part S). IsPartOf m is_part most inner q.plan) p ps a))
       (each_task P f ps (All-tail (λ (q : Part S). IsPartOf m is_part most inner q.plan) p ps a))
 
-task_loads : {S L : Type 0} (R H : Type 0) (load : S → L) (alloc : Global) (backoff : Backoff) (parts : List (Part S)) → map (λ (t : RegionTask S R H). load t.job) (map (task_for alloc backoff) parts) ≡ map (λ p. load p.plan) parts
-task_loads R H load alloc backoff [] = refl
-task_loads {L = L} R H load alloc backoff (p ∷ ps) = ap (λ (xs : List L). load p.plan ∷ xs) (task_loads R H load alloc backoff ps)
+task_loads : {S L : Type 0} (R H : Type 0) (load : S → L) (alloc : Global) (backoff : Backoff) (before : ℕ) (parts : List (Part S)) → map (λ (t : RegionTask S R H). load t.job) (map (task_for alloc backoff before) parts) ≡ map (λ p. load p.plan) parts
+task_loads R H load alloc backoff before [] = refl
+task_loads {L = L} R H load alloc backoff before (p ∷ ps) = ap (λ (xs : List L). load p.plan ∷ xs) (task_loads R H load alloc backoff before ps)
 
-pub tasks_cut : (H : Type 0) {S R L : Type 0} (m : Meaning S (Result R Error)) (is_part : S → S → Type 0) (load : S → L) (are_cut : L → List L → Type 0) (most : S → ℕ → ℕ) (inner : S) (alloc : Global) (backoff : Backoff) (parts : List (Part S)) → ArePartsOf m is_part load are_cut most inner parts
-    → are_cut (load inner) (map (λ (t : RegionTask S R H). load t.job) (map (task_for alloc backoff) parts))
-tasks_cut H {R = R} m is_part load are_cut most inner alloc backoff parts are = rw (task_loads R H load alloc backoff parts) are.cut
+pub tasks_cut : (H : Type 0) {S R L : Type 0} (m : Meaning S (Result R Error)) (is_part : S → S → Type 0) (load : S → L) (are_cut : L → List L → Type 0) (most : S → ℕ → ℕ) (inner : S) (alloc : Global) (backoff : Backoff) (before : ℕ) (parts : List (Part S)) → ArePartsOf m is_part load are_cut most inner parts
+    → are_cut (load inner) (map (λ (t : RegionTask S R H). load t.job) (map (task_for alloc backoff before) parts))
+tasks_cut H {R = R} m is_part load are_cut most inner alloc backoff before parts are = rw (task_loads R H load alloc backoff before parts) are.cut
 
-pub tasks_owe : (H : Type 0) {S R L : Type 0} (m : Meaning S (Result R Error)) (is_part : S → S → Type 0) (load : S → L) (are_cut : L → List L → Type 0) (most : S → ℕ → ℕ) (inner : S) (alloc : Global) (backoff : Backoff) (parts : List (Part S)) (n : ℕ) → ArePartsOf m is_part load are_cut most inner parts → length parts ≤ n
-    → sum_by (λ (u : RegionTask S R H). stage_left m most u.job u.stage n) (map (task_for alloc backoff) parts) ≤ shared m most inner n
-tasks_owe H {S} {R} m is_part load are_cut most inner alloc backoff parts n are few =
-    let made : List (RegionTask S R H) = map (task_for alloc backoff) parts in
+pub tasks_owe : (H : Type 0) {S R L : Type 0} (m : Meaning S (Result R Error)) (is_part : S → S → Type 0) (load : S → L) (are_cut : L → List L → Type 0) (most : S → ℕ → ℕ) (inner : S) (alloc : Global) (backoff : Backoff) (before : ℕ) (parts : List (Part S)) (n : ℕ) → ArePartsOf m is_part load are_cut most inner parts → length parts ≤ n
+    → sum_by (λ (u : RegionTask S R H). stage_left m most u.job u.stage n) (map (task_for alloc backoff before) parts) ≤ shared m most inner n
+tasks_owe H {S} {R} m is_part load are_cut most inner alloc backoff before parts n are few =
+    let made : List (RegionTask S R H) = map (task_for alloc backoff before) parts in
     let each : All (λ (u : RegionTask S R H). stage_left m most u.job u.stage n ≤ m.round inner n) made =
-    each_task {R = R} {H = H} m is_part most inner alloc backoff (λ u. stage_left m most u.job u.stage n ≤ m.round inner n) (λ p i. i.applied.less n) parts are.each in
+    each_task {R = R} {H = H} m is_part most inner alloc backoff before (λ u. stage_left m most u.job u.stage n ≤ m.round inner n) (λ p i. i.applied.less n) parts are.each in
     let sum : sum_by (λ (u : RegionTask S R H). stage_left m most u.job u.stage n) made ≤ length made * m.round inner n =
     sum_by-le (λ (u : RegionTask S R H). stage_left m most u.job u.stage n) (m.round inner n) made each in
-    let short : length made ≤ most inner n = rw (length-map parts (task_for {R = R} {H = H} alloc backoff)) (are.few n few) in
+    let short : length made ≤ most inner n = rw (length-map parts (task_for {R = R} {H = H} alloc backoff before)) (are.few n few) in
     le_trans sum (mul-le-mul_right (m.round inner n) short)
 
 -- it stands as its turn says
@@ -221,47 +225,47 @@ after_phase preserve (Ends outcomes) g turn (inr a) = rw (a.1, a.2) refl
 
 module _ {S R H L : Type 0} (m : Meaning S (Result R Error)) (keys : R → List ErrorView) (region : R → Option RegionErr) (is_part : S → S → Type 0) (load : S → L) (are_cut : L → List L → Type 0) (most : S → ℕ → ℕ) where
   -- its answer is made of how its tasks have ended
-  answers : (inner : S) (preserve : Bool) (ts : Tasks (RegionTask S R H) R) (h : List Event) (outcomes : List (Outcome R)) (v : Result (Vec (Result R Error)) Error)
-      → (tasks_for {H = H} m keys region is_part load are_cut most inner).gives ts h outcomes → IsAnswer preserve outcomes v → MultiGives m keys region is_part load are_cut inner preserve h v
-  answers inner preserve ts h outcomes v g a = inl (
+  answers : (inner : S) (limit : ℕ) (preserve : Bool) (ts : Tasks (RegionTask S R H) R) (h : List Event) (outcomes : List (Outcome R)) (v : Result (Vec (Result R Error)) Error)
+      → (tasks_for {H = H} m keys region is_part load are_cut most inner limit).gives ts h outcomes → IsAnswer preserve outcomes v → MultiGives m keys region is_part load are_cut inner limit preserve h v
+  answers inner limit preserve ts h outcomes v g a = inl (
     map part_of g.0,
     outcomes,
     record {
       cut = rw (loads_same load g.0) g.1.cut;
-      belong = parts_belong m is_part most inner g.0 g.1.belong;
-      each = parts_ended m keys region h g.0 outcomes g.1.each;
+      belong = parts_belong m is_part most (record { plan = inner; limit = limit }) g.0 g.1.belong;
+      each = parts_ended m keys region is_part most (record { plan = inner; limit = limit }) h g.0 outcomes g.1.belong g.1.each;
     },
     a,
   )
 
-  asks_so : (inner : S) (ts : Tasks (RegionTask S R H) R) (h : List Event) (r : Request) → (tasks_for {H = H} m keys region is_part load are_cut most inner).asks ts h r → MultiAsks m is_part inner h r
-  asks_so inner ts h r a = elim a.2 [ inl x ↦ inl (a.0.job, a.1.part, x) | inr x ↦ inr x ]
+  asks_so : (inner : S) (limit : ℕ) (ts : Tasks (RegionTask S R H) R) (h : List Event) (r : Request) → (tasks_for {H = H} m keys region is_part load are_cut most inner limit).asks ts h r → MultiAsks m is_part inner h r
+  asks_so inner limit ts h r a = elim a.2 [ inl x ↦ inl (a.0.job, a.1.part, x) | inr x ↦ inr x ]
 
   -- A call of its tasks.
 
   wider : (old : RetryableMultiRegion S R H) (ts ts' : Tasks (RegionTask S R H) R) (width : ℕ)
       → old.width ≤ width
-      → number_of old.tasks (tasks_for {H = H} m keys region is_part load are_cut most old.inner).width ≤ (tasks_for {H = H} m keys region is_part load are_cut most old.inner).width ts
-      → (tasks_for {H = H} m keys region is_part load are_cut most old.inner).width ts ≤ (tasks_for {H = H} m keys region is_part load are_cut most old.inner).width ts'
-      → max old.width (number_of old.tasks (tasks_for {H = H} m keys region is_part load are_cut most old.inner).width) ≤ max width ((tasks_for {H = H} m keys region is_part load are_cut most old.inner).width ts')
+      → number_of old.tasks (tasks_for {H = H} m keys region is_part load are_cut most old.inner (attempts_left old.backoff)).width ≤ (tasks_for {H = H} m keys region is_part load are_cut most old.inner (attempts_left old.backoff)).width ts
+      → (tasks_for {H = H} m keys region is_part load are_cut most old.inner (attempts_left old.backoff)).width ts ≤ (tasks_for {H = H} m keys region is_part load are_cut most old.inner (attempts_left old.backoff)).width ts'
+      → max old.width (number_of old.tasks (tasks_for {H = H} m keys region is_part load are_cut most old.inner (attempts_left old.backoff)).width) ≤ max width ((tasks_for {H = H} m keys region is_part load are_cut most old.inner (attempts_left old.backoff)).width ts')
   wider old ts ts' width wide inside further = max-le (le_trans wide (le-max_left width _)) (le_trans inside (le_trans further (le-max_right width _)))
 
-  borne : (s : RetryableMultiRegion S R H) → s.tasks ≡ None → (w : ℕ) → IfSome s.tasks (λ t. (tasks_for {H = H} m keys region is_part load are_cut most s.inner).bears t w)
+  borne : (s : RetryableMultiRegion S R H) → s.tasks ≡ None → (w : ℕ) → IfSome s.tasks (λ t. (tasks_for {H = H} m keys region is_part load are_cut most s.inner (attempts_left s.backoff)).bears t w)
   borne s none w = rw none tt
 
   lifted : {told : Told} (old : RetryableMultiRegion S R H) (ts ts' : Tasks (RegionTask S R H) R) {from to : Posted} {p : Turn (List (Outcome R))}
-      → ((h : List Event) → (multi {H = H} m keys region is_part load are_cut most).fits old from h → (tasks_for {H = H} m keys region is_part load are_cut most old.inner).fits ts from h)
-      → Tells (tasks_for {H = H} m keys region is_part load are_cut most old.inner) told ts ts' from to p
-      → Moves (MultiAsks m is_part old.inner) (λ h. (multi {H = H} m keys region is_part load are_cut most).fits old from h × told.known h) (λ h. (tasks_for {H = H} m keys region is_part load are_cut most old.inner).fits ts' to h)
-      (λ h v. (tasks_for {H = H} m keys region is_part load are_cut most old.inner).gives ts h v) told.hear from to p
-  lifted {told = told} old ts ts' fits t = Moves-map told.within (λ h f. (fits h f.0, f.1)) (λ h f k r a. asks_so old.inner ts k r a) (λ h f k w i. i) (λ h f k v g. g) t.moves
+      → ((h : List Event) → (multi {H = H} m keys region is_part load are_cut most).fits old from h → (tasks_for {H = H} m keys region is_part load are_cut most old.inner (attempts_left old.backoff)).fits ts from h)
+      → Tells (tasks_for {H = H} m keys region is_part load are_cut most old.inner (attempts_left old.backoff)) told ts ts' from to p
+      → Moves (MultiAsks m is_part old.inner) (λ h. (multi {H = H} m keys region is_part load are_cut most).fits old from h × told.known h) (λ h. (tasks_for {H = H} m keys region is_part load are_cut most old.inner (attempts_left old.backoff)).fits ts' to h)
+      (λ h v. (tasks_for {H = H} m keys region is_part load are_cut most old.inner (attempts_left old.backoff)).gives ts h v) told.hear from to p
+  lifted {told = told} old ts ts' fits t = Moves-map told.within (λ h f. (fits h f.0, f.1)) (λ h f k r a. asks_so old.inner (attempts_left old.backoff) ts k r a) (λ h f k w i. i) (λ h f k v g. g) t.moves
 
   pub tasks_told : {told : Told} (old : RetryableMultiRegion S R H) (ts ts' : Tasks (RegionTask S R H) R) (g : MultiStage S R H) (width : ℕ) {from to : Posted} (p : Turn (List (Outcome R))) {turn : Turn (Result (Vec (Result R Error)) Error)}
-      → ((h : List Event) → (multi {H = H} m keys region is_part load are_cut most).fits old from h → (tasks_for {H = H} m keys region is_part load are_cut most old.inner).fits ts from h)
-      → ((a : Awaited) → (tasks_for {H = H} m keys region is_part load are_cut most old.inner).waits ts a → (multi {H = H} m keys region is_part load are_cut most).waits old a)
+      → ((h : List Event) → (multi {H = H} m keys region is_part load are_cut most).fits old from h → (tasks_for {H = H} m keys region is_part load are_cut most old.inner (attempts_left old.backoff)).fits ts from h)
+      → ((a : Awaited) → (tasks_for {H = H} m keys region is_part load are_cut most old.inner (attempts_left old.backoff)).waits ts a → (multi {H = H} m keys region is_part load are_cut most).waits old a)
       → (p ≡ Waits → tasks_phase ts'.stage ≡ Running)
       → AfterTasks old.preserve_region_results p g turn
-      → Tells (tasks_for {H = H} m keys region is_part load are_cut most old.inner) told ts ts' from to p
+      → Tells (tasks_for {H = H} m keys region is_part load are_cut most old.inner (attempts_left old.backoff)) told ts ts' from to p
       → Tells (multi {H = H} m keys region is_part load are_cut most) told old (record old { stage = g; tasks = Some ts'; width = width }) from to turn
   tasks_told old ts ts' g width Stopped fits waits runs after t = rw (after.0, after.1) (record {
     moves = Moves-stops (lifted old ts ts' fits t) refl;
@@ -279,18 +283,18 @@ module _ {S R H L : Type 0} (m : Meaning S (Result R Error)) (keys : R → List 
     expects = record { sends = t.expects.sends; pushed = t.expects.pushed; only = λ a w. absurd w };
   })
   tasks_told old ts ts' g width (Ends outcomes) fits waits runs (inr after) t = rw (after.1, after.2) (record {
-    moves = Moves-after (lifted old ts ts' fits t) (λ h k. tt) (λ h k. answers old.inner old.preserve_region_results ts h outcomes after.0 k.1 after.3);
+    moves = Moves-after (lifted old ts ts' fits t) (λ h k. tt) (λ h k. answers old.inner (attempts_left old.backoff) old.preserve_region_results ts h outcomes after.0 k.1 after.3);
     job = record { asked = λ h r x. x; given = λ h v x. x; gave = λ h v x. x };
     expects = record { sends = t.expects.sends; pushed = t.expects.pushed; only = λ a w. absurd w };
   })
 
   pub tasks_counted : {bad fails : Bool} {weight locked : ℕ} (old : RetryableMultiRegion S R H) (ts ts' : Tasks (RegionTask S R H) R) (g : MultiStage S R H) (width : ℕ) {from to : Posted} (p : Turn (List (Outcome R))) {turn : Turn (Result (Vec (Result R Error)) Error)}
       → old.width ≤ width
-      → number_of old.tasks (tasks_for {H = H} m keys region is_part load are_cut most old.inner).width ≤ (tasks_for {H = H} m keys region is_part load are_cut most old.inner).width ts
-      → ((w : ℕ) → (multi {H = H} m keys region is_part load are_cut most).bears old w → (tasks_for {H = H} m keys region is_part load are_cut most old.inner).bears ts w)
-      → ((n : ℕ) → width ≤ n → (tasks_for {H = H} m keys region is_part load are_cut most old.inner).left ts n ≤ (multi {H = H} m keys region is_part load are_cut most).left old n)
+      → number_of old.tasks (tasks_for {H = H} m keys region is_part load are_cut most old.inner (attempts_left old.backoff)).width ≤ (tasks_for {H = H} m keys region is_part load are_cut most old.inner (attempts_left old.backoff)).width ts
+      → ((w : ℕ) → (multi {H = H} m keys region is_part load are_cut most).bears old w → (tasks_for {H = H} m keys region is_part load are_cut most old.inner (attempts_left old.backoff)).bears ts w)
+      → ((n : ℕ) → width ≤ n → (tasks_for {H = H} m keys region is_part load are_cut most old.inner (attempts_left old.backoff)).left ts n ≤ (multi {H = H} m keys region is_part load are_cut most).left old n)
       → AfterTasks old.preserve_region_results p g turn
-      → Counts (tasks_for {H = H} m keys region is_part load are_cut most old.inner) bad fails weight locked ts ts' from to p
+      → Counts (tasks_for {H = H} m keys region is_part load are_cut most old.inner (attempts_left old.backoff)) bad fails weight locked ts ts' from to p
       → Counts (multi {H = H} m keys region is_part load are_cut most) bad fails weight locked old (record old { stage = g; tasks = Some ts'; width = width }) from to turn
   tasks_counted old ts ts' g width Stopped wide inside bears left after c = rw (after.0, after.1) (record {
     spends = Spends-around (wider old ts ts' width wide inside c.spends.wider) (le-max_right width _) bears (λ w b. b) (λ n l. left n (le_trans (le-max_left width _) l)) (λ n. omega arith) (λ e. e) c.spends;
@@ -441,28 +445,33 @@ module _ {S R H L : Type 0} (m : Meaning S (Result R Error)) (keys : R → List 
     next = refl;
   }
 
-  -- each task for a part is new, and is a task of the plan
-  pub tasks_new : (inner : S) (alloc : Global) (backoff : Backoff) (parts : List (Part S)) → ArePartsOf m is_part load are_cut most inner parts
-      → All (λ t. IsNew (region_task {H = H} m keys region is_part load are_cut most) t) (map (task_for alloc backoff) parts)
-  tasks_new inner alloc backoff parts are = each_task {R = R} {H = H} m is_part most inner alloc backoff (λ u. IsNew (region_task m keys region is_part load are_cut most) u)
-      (λ p i. record { phase = refl; fits = λ o h. record { at = tt }; light = λ w. tt; ready = record { job = record { unbegun = i.applied.unbegun; ready = i.applied.ready }; at = tt } }) parts are.each
+  -- each task for a part is new, has not been tried, and is a task of the plan
+  pub tasks_new : (inner : S) (alloc : Global) (backoff : Backoff) (before : ℕ) (parts : List (Part S)) → ArePartsOf m is_part load are_cut most inner parts
+      → All (λ t. IsNew (region_task {H = H} m keys region is_part load are_cut most) t) (map (task_for alloc backoff before) parts)
+  tasks_new inner alloc backoff before parts are = each_task {R = R} {H = H} m is_part most inner alloc backoff before (λ u. IsNew (region_task m keys region is_part load are_cut most) u)
+      (λ p i. record { phase = refl; light = λ w. tt; ready = record { job = record { unbegun = i.applied.unbegun; ready = i.applied.ready }; at = tt } }) parts are.each
 
-  pub tasks_belong : (inner : S) (alloc : Global) (backoff : Backoff) (parts : List (Part S)) → ArePartsOf m is_part load are_cut most inner parts
-      → All (λ (t : RegionTask S R H). IsTaskOf m is_part most t inner) (map (task_for alloc backoff) parts)
-  tasks_belong inner alloc backoff parts are = each_task {R = R} {H = H} m is_part most inner alloc backoff (λ u. IsTaskOf m is_part most u inner)
-      (λ p i. record { part = i.belongs; less = λ n. mul-le-mul (i.fewer n) (i.applied.less n) }) parts are.each
+  pub tasks_fit : (inner : S) (alloc : Global) (backoff : Backoff) (before : ℕ) (parts : List (Part S)) (o : Posted) (h : List Event) → before ≡ backoff.current_attempts → ArePartsOf m is_part load are_cut most inner parts
+      → All (λ (t : RegionTask S R H). TaskFits m keys region t o h) (map (task_for alloc backoff before) parts)
+  tasks_fit inner alloc backoff before parts o h e are = each_task {R = R} {H = H} m is_part most inner alloc backoff before (λ u. TaskFits m keys region u o h)
+      (λ p i. record { at = let none : backoff.current_attempts - before ≡ 0 = omega arith in rw none tt }) parts are.each
+
+  pub tasks_belong : (inner : S) (alloc : Global) (backoff : Backoff) (before : ℕ) (parts : List (Part S)) → before ≡ backoff.current_attempts → ArePartsOf m is_part load are_cut most inner parts
+      → All (λ (t : RegionTask S R H). IsTaskOf m is_part most t (record { plan = inner; limit = attempts_left backoff })) (map (task_for alloc backoff before) parts)
+  tasks_belong inner alloc backoff before parts e are = each_task {R = R} {H = H} m is_part most inner alloc backoff before (λ u. IsTaskOf m is_part most u (record { plan = inner; limit = attempts_left backoff }))
+      (λ p i. record { part = i.belongs; less = λ n. mul-le-mul (i.fewer n) (i.applied.less n); limit = ap (λ (k : ℕ). backoff.max_attempts - k) e }) parts are.each
 
   -- its tasks are started
   pub begins_tasks : (s : RetryableMultiRegion S R H) (ts ts' : Tasks (RegionTask S R H) R) (g : MultiStage S R H) (width : ℕ) {from to : Posted} (p : Turn (List (Outcome R))) {turn : Turn (Result (Vec (Result R Error)) Error)}
       → s.tasks ≡ None → s.width ≤ width
       → tasks_phase ts.stage ≡ Fresh
-      → ((o : Posted) (h : List Event) → (tasks_for {H = H} m keys region is_part load are_cut most s.inner).fits ts o h)
-      → ((w : ℕ) → (tasks_for {H = H} m keys region is_part load are_cut most s.inner).bears ts w)
-      → ((n : ℕ) → width ≤ n → (tasks_for {H = H} m keys region is_part load are_cut most s.inner).left ts n ≤ shared m most s.inner n)
+      → ((o : Posted) (h : List Event) → (tasks_for {H = H} m keys region is_part load are_cut most s.inner (attempts_left s.backoff)).fits ts o h)
+      → ((w : ℕ) → (tasks_for {H = H} m keys region is_part load are_cut most s.inner (attempts_left s.backoff)).bears ts w)
+      → ((n : ℕ) → width ≤ n → (tasks_for {H = H} m keys region is_part load are_cut most s.inner (attempts_left s.backoff)).left ts n ≤ shared m most s.inner n)
       → (p ≡ Waits → tasks_phase ts'.stage ≡ Running)
       → AfterTasks s.preserve_region_results p g turn
-      → Tells (tasks_for {H = H} m keys region is_part load are_cut most s.inner) started ts ts' from to p
-      → Counts (tasks_for {H = H} m keys region is_part load are_cut most s.inner) false false 0 0 ts ts' from to p
+      → Tells (tasks_for {H = H} m keys region is_part load are_cut most s.inner (attempts_left s.backoff)) started ts ts' from to p
+      → Counts (tasks_for {H = H} m keys region is_part load are_cut most s.inner (attempts_left s.backoff)) false false 0 0 ts ts' from to p
       → Begins (multi {H = H} m keys region is_part load are_cut most) (λ h. ⊤) (record s { stage = stage.Fresh }) (record s { stage = g; tasks = Some ts'; width = width }) from to turn
   begins_tasks s ts ts' g width {from = from} p none wide fresh fits light left runs after t c = record {
     tells = tasks_told (record s { stage = stage.Fresh }) ts ts' g width p (λ h f. fits from h) (λ a w. absurd (fresh_waits ts.stage fresh w.1)) runs after t;
@@ -471,13 +480,13 @@ module _ {S R H L : Type 0} (m : Meaning S (Result R Error)) (keys : R → List 
   }
 
   -- once it was told, it may be told more
-  pub ready_after : (inner : S) (preserve : Bool) (ts' : Tasks (RegionTask S R H) R) (g : MultiStage S R H) (p : Turn (List (Outcome R))) (turn : Turn (Result (Vec (Result R Error)) Error))
-      → AfterTasks preserve p g turn → (p ≡ Waits → tasks_phase ts'.stage ≡ Running) → (tasks_for {H = H} m keys region is_part load are_cut most inner).ready ts'
-      → StandsReady (tasks_for {H = H} m keys region is_part load are_cut most inner) inner g (Some ts')
-  ready_after inner preserve ts' g Stopped turn after runs ready = rw after.1 tt
-  ready_after inner preserve ts' g Waits turn after runs ready = rw after.1 (ready, runs refl)
-  ready_after inner preserve ts' g (Ends outcomes) turn (inl after) runs ready = rw after.1 tt
-  ready_after inner preserve ts' g (Ends outcomes) turn (inr after) runs ready = rw after.2 tt
+  pub ready_after : (inner : S) (limit : ℕ) (preserve : Bool) (ts' : Tasks (RegionTask S R H) R) (g : MultiStage S R H) (p : Turn (List (Outcome R))) (turn : Turn (Result (Vec (Result R Error)) Error))
+      → AfterTasks preserve p g turn → (p ≡ Waits → tasks_phase ts'.stage ≡ Running) → (tasks_for {H = H} m keys region is_part load are_cut most inner limit).ready ts'
+      → StandsReady (tasks_for {H = H} m keys region is_part load are_cut most inner limit) inner g (Some ts')
+  ready_after inner limit preserve ts' g Stopped turn after runs ready = rw after.1 tt
+  ready_after inner limit preserve ts' g Waits turn after runs ready = rw after.1 (ready, runs refl)
+  ready_after inner limit preserve ts' g (Ends outcomes) turn (inl after) runs ready = rw after.1 tt
+  ready_after inner limit preserve ts' g (Ends outcomes) turn (inr after) runs ready = rw after.2 tt
 
   pub cut_next : {C : Type 0} (s new : RetryableMultiRegion S R H) (c' : Looking S H) (via to : Posted) (pd pd' : C) (p : Turn (Result (Vec (Part S)) Error)) (turn : Turn (Result (Vec (Result R Error)) Error))
       → s.stage ≡ stage.Stopped → AfterCut (multi {H = H} m keys region is_part load are_cut most) p c' s new via to pd pd' turn → multi_phase new.stage ≡ phase_after turn
@@ -502,10 +511,10 @@ module _ {S R H L : Type 0} (m : Meaning S (Result R Error)) (keys : R → List 
     fewer = λ n. le_refl _;
   })
 
-  pub not_waiting : (inner : S) (g : MultiStage S R H) (ts : Option (Tasks (RegionTask S R H) R)) (a : Awaited) → ((c : Looking S H) → g ≡ stage.Cutting c → ⊥) → (g ≡ stage.Running → ⊥)
-      → MultiWaits (tasks_for {H = H} m keys region is_part load are_cut most inner) g ts a → ⊥
-  not_waiting inner stage.Fresh ts a cuts runs w = w
-  not_waiting inner (stage.Cutting c) ts a cuts runs w = cuts c refl
-  not_waiting inner stage.Running ts a cuts runs w = runs refl
-  not_waiting inner stage.Over ts a cuts runs w = w
-  not_waiting inner stage.Stopped ts a cuts runs w = w
+  pub not_waiting : (inner : S) (limit : ℕ) (g : MultiStage S R H) (ts : Option (Tasks (RegionTask S R H) R)) (a : Awaited) → ((c : Looking S H) → g ≡ stage.Cutting c → ⊥) → (g ≡ stage.Running → ⊥)
+      → MultiWaits (tasks_for {H = H} m keys region is_part load are_cut most inner limit) g ts a → ⊥
+  not_waiting inner limit stage.Fresh ts a cuts runs w = w
+  not_waiting inner limit (stage.Cutting c) ts a cuts runs w = cuts c refl
+  not_waiting inner limit stage.Running ts a cuts runs w = runs refl
+  not_waiting inner limit stage.Over ts a cuts runs w = w
+  not_waiting inner limit stage.Stopped ts a cuts runs w = w

@@ -16,7 +16,7 @@ use Rattle.txn_kv.specs.declared.errors.Error.{Error}
 use Rattle.txn_kv.specs.declared.message.RegionErr.{RegionErr}
 use Rattle.txn_kv.specs.declared.request.Request.{Request}
 use Rattle.txn_multi.specs.Cutting.{cut_phase, cut_waits, cutting, cutting-lawful, CutAt, IsLookUpRefused, IsLookUpRefused-longer, IsPlacement, Looking, UnfoundIfErr}
-use Rattle.txn_multi.specs.Task.{outcome_longer, region_task, region_task-lawful, shared, stage_runs, IsOutcome, IsTaskOf}
+use Rattle.txn_multi.specs.Task.{attempts_left, outcome_longer, region_task, region_task-lawful, shared, stage_runs, IsOutcome, IsTaskOf}
 use Rattle.txn_multi.specs.declared.multi_region.RetryableMultiRegion.{RetryableMultiRegion}
 use Rattle.txn_multi.specs.declared.multi_stage.MultiStage.{MultiStage}
 use Rattle.txn_multi.specs.declared.multi_stage.MultiStage.TheVariants as stage
@@ -27,18 +27,18 @@ use Rattle.txn_tasks.specs.Lawful.{tasks-lawful}
 use Rattle.txn_tasks.specs.Tasks.{tasks_of, Outcome}
 use Rattle.txn_tasks.specs.declared.tasks.Tasks.{Tasks}
 
--- the tasks of a plan
-abbrev pub tasks_for : {S R H L : Type 0} → Meaning S (Result R Error) → (R → List ErrorView) → (R → Option RegionErr) → (S → S → Type 0) → (S → L) → (L → List L → Type 0) → (S → ℕ → ℕ) → S → Meaning (Tasks (RegionTask S R H) R) (List (Outcome R))
-tasks_for m keys region is_part load are_cut most inner =
-    tasks_of (region_task m keys region is_part load are_cut most) (λ t. load t.job) are_cut (IsTaskOf m is_part most) (λ whole n. shared m most whole n) (λ t. stage_runs t.stage) inner (load inner)
+-- the tasks of a plan with so many attempts
+abbrev pub tasks_for : {S R H L : Type 0} → Meaning S (Result R Error) → (R → List ErrorView) → (R → Option RegionErr) → (S → S → Type 0) → (S → L) → (L → List L → Type 0) → (S → ℕ → ℕ) → S → ℕ → Meaning (Tasks (RegionTask S R H) R) (List (Outcome R))
+tasks_for m keys region is_part load are_cut most inner limit =
+    tasks_of (region_task m keys region is_part load are_cut most) (λ t. load t.job) are_cut (IsTaskOf m is_part most) (λ whole n. shared m most whole.plan n) (λ t. stage_runs t.stage) (record { plan = inner; limit = limit }) (load inner)
 
 -- What it answers.
 
--- Each of some parts of a plan, which are together the whole, has ended so.
-pub record HaveEnded {S R L : Type 0} (m : Meaning S (Result R Error)) (keys : R → List ErrorView) (region : R → Option RegionErr) (is_part : S → S → Type 0) (load : S → L) (are_cut : L → List L → Type 0) (inner : S) (h : List Event) (parts : List (Part S)) (outcomes : List (Outcome R)) : Type 0 where
+-- Each of some parts of a plan with so many attempts, which are together the whole, has ended so.
+pub record HaveEnded {S R L : Type 0} (m : Meaning S (Result R Error)) (keys : R → List ErrorView) (region : R → Option RegionErr) (is_part : S → S → Type 0) (load : S → L) (are_cut : L → List L → Type 0) (inner : S) (limit : ℕ) (h : List Event) (parts : List (Part S)) (outcomes : List (Outcome R)) : Type 0 where
   pub cut : are_cut (load inner) (map (λ p. load p.plan) parts)
   pub belong : All (λ p. is_part p.plan inner) parts
-  pub each : AllZip (λ p outcome. IsOutcome m keys region p.region p.plan h outcome) parts outcomes
+  pub each : AllZip (λ p outcome. IsOutcome m keys region limit p.region p.plan h outcome) parts outcomes
 
 -- What is answered of these, in their order. Errors of tasks stand in their places where they are preserved; else the first is
 -- the answer.
@@ -49,9 +49,9 @@ IsAnswer false outcomes (Ok results) = all_or_first outcomes ≡ Ok results.item
 IsAnswer false outcomes (Err why) = all_or_first outcomes ≡ Err why
 
 -- The answer is made of how the parts have ended; or it is why the first shards were not found.
-abbrev pub MultiGives : {S R L : Type 0} → Meaning S (Result R Error) → (R → List ErrorView) → (R → Option RegionErr) → (S → S → Type 0) → (S → L) → (L → List L → Type 0) → S → Bool → List Event → Result (Vec (Result R Error)) Error → Type 0
-MultiGives {S} {R} m keys region is_part load are_cut inner preserve h v =
-    ((parts : List (Part S)) × (outcomes : List (Outcome R)) × HaveEnded m keys region is_part load are_cut inner h parts outcomes × IsAnswer preserve outcomes v)
+abbrev pub MultiGives : {S R L : Type 0} → Meaning S (Result R Error) → (R → List ErrorView) → (R → Option RegionErr) → (S → S → Type 0) → (S → L) → (L → List L → Type 0) → S → ℕ → Bool → List Event → Result (Vec (Result R Error)) Error → Type 0
+MultiGives {S} {R} m keys region is_part load are_cut inner limit preserve h v =
+    ((parts : List (Part S)) × (outcomes : List (Outcome R)) × HaveEnded m keys region is_part load are_cut inner limit h parts outcomes × IsAnswer preserve outcomes v)
     ⊎ ((why : Error) × (v ≡ Err why) × IsLookUpRefused h why)
 
 -- it sends what some part may, and look-ups
@@ -110,16 +110,16 @@ multi_left m most k inner stage.Stopped ts n = 0
 -- No new run of the whole betters its answer: its tasks make new runs themselves.
 abbrev pub multi : {S R H L : Type 0} → Meaning S (Result R Error) → (R → List ErrorView) → (R → Option RegionErr) → (S → S → Type 0) → (S → L) → (L → List L → Type 0) → (S → ℕ → ℕ) → Meaning (RetryableMultiRegion S R H) (Result (Vec (Result R Error)) Error)
 multi {S} {R} {H} {L} m keys region is_part load are_cut most = record {
-  fits = λ s o h. MultiAt m (tasks_for {H = H} m keys region is_part load are_cut most s.inner) s.inner s.stage s.tasks o h;
+  fits = λ s o h. MultiAt m (tasks_for {H = H} m keys region is_part load are_cut most s.inner (attempts_left s.backoff)) s.inner s.stage s.tasks o h;
   asks = λ s h r. MultiAsks m is_part s.inner h r;
-  gives = λ s h v. MultiGives m keys region is_part load are_cut s.inner s.preserve_region_results h v;
+  gives = λ s h v. MultiGives m keys region is_part load are_cut s.inner (attempts_left s.backoff) s.preserve_region_results h v;
   phase = λ s. multi_phase s.stage;
-  waits = λ s a. MultiWaits (tasks_for {H = H} m keys region is_part load are_cut most s.inner) s.stage s.tasks a;
-  ready = λ s. IsUnbegun m s.inner × StandsReady (tasks_for {H = H} m keys region is_part load are_cut most s.inner) s.inner s.stage s.tasks;
+  waits = λ s a. MultiWaits (tasks_for {H = H} m keys region is_part load are_cut most s.inner (attempts_left s.backoff)) s.stage s.tasks a;
+  ready = λ s. IsUnbegun m s.inner × StandsReady (tasks_for {H = H} m keys region is_part load are_cut most s.inner (attempts_left s.backoff)) s.inner s.stage s.tasks;
   round = λ s n. shared m most s.inner n;
-  left = λ s n. multi_left m most (tasks_for {H = H} m keys region is_part load are_cut most s.inner) s.inner s.stage s.tasks n;
-  width = λ s. max s.width (number_of s.tasks (tasks_for {H = H} m keys region is_part load are_cut most s.inner).width);
-  bears = λ s w. IfSome s.tasks (λ t. (tasks_for {H = H} m keys region is_part load are_cut most s.inner).bears t w);
+  left = λ s n. multi_left m most (tasks_for {H = H} m keys region is_part load are_cut most s.inner (attempts_left s.backoff)) s.inner s.stage s.tasks n;
+  width = λ s. max s.width (number_of s.tasks (tasks_for {H = H} m keys region is_part load are_cut most s.inner (attempts_left s.backoff)).width);
+  bears = λ s w. IfSome s.tasks (λ t. (tasks_for {H = H} m keys region is_part load are_cut most s.inner (attempts_left s.backoff)).bears t w);
   fails = λ v. false;
 }
 
@@ -152,78 +152,78 @@ holding None w f = f
 holding (Some x) w f = w x f
 
 module _ {S R : Type 0} (m : Meaning S (Result R Error)) (keys : R → List ErrorView) (region : R → Option RegionErr) (law : IsLawful m) where
-  ended_longer : (h longer : List Event) (parts : List (Part S)) (outcomes : List (Outcome R)) → Within h longer
-      → AllZip (λ p outcome. IsOutcome m keys region p.region p.plan h outcome) parts outcomes → AllZip (λ p outcome. IsOutcome m keys region p.region p.plan longer outcome) parts outcomes
-  ended_longer h longer [] [] w z = tt
-  ended_longer h longer [] (o ∷ outcomes) w z = absurd z
-  ended_longer h longer (p ∷ parts) [] w z = absurd z
-  ended_longer h longer (p ∷ parts) (o ∷ outcomes) w z = (outcome_longer m keys region law p.region p.plan h longer o w z.0, ended_longer h longer parts outcomes w z.1)
+  ended_longer : (limit : ℕ) (h longer : List Event) (parts : List (Part S)) (outcomes : List (Outcome R)) → Within h longer
+      → AllZip (λ p outcome. IsOutcome m keys region limit p.region p.plan h outcome) parts outcomes → AllZip (λ p outcome. IsOutcome m keys region limit p.region p.plan longer outcome) parts outcomes
+  ended_longer limit h longer [] [] w z = tt
+  ended_longer limit h longer [] (o ∷ outcomes) w z = absurd z
+  ended_longer limit h longer (p ∷ parts) [] w z = absurd z
+  ended_longer limit h longer (p ∷ parts) (o ∷ outcomes) w z = (outcome_longer m keys region law limit p.region p.plan h longer o w z.0, ended_longer limit h longer parts outcomes w z.1)
 
-  answer_longer : {L : Type 0} (is_part : S → S → Type 0) (load : S → L) (are_cut : L → List L → Type 0) (inner : S) (preserve : Bool) (h longer : List Event) (v : Result (Vec (Result R Error)) Error) → Within h longer → MultiGives m keys region is_part load are_cut inner preserve h v → MultiGives m keys region is_part load are_cut inner preserve longer v
-  answer_longer is_part load are_cut inner preserve h longer v w (inl g) = inl (g.0, g.1, record { cut = g.2.cut; belong = g.2.belong; each = ended_longer h longer g.0 g.1 w g.2.each }, g.3)
-  answer_longer is_part load are_cut inner preserve h longer v w (inr g) = inr (g.0, g.1, IsLookUpRefused-longer h longer g.0 w g.2)
+  answer_longer : {L : Type 0} (is_part : S → S → Type 0) (load : S → L) (are_cut : L → List L → Type 0) (inner : S) (limit : ℕ) (preserve : Bool) (h longer : List Event) (v : Result (Vec (Result R Error)) Error) → Within h longer → MultiGives m keys region is_part load are_cut inner limit preserve h v → MultiGives m keys region is_part load are_cut inner limit preserve longer v
+  answer_longer is_part load are_cut inner limit preserve h longer v w (inl g) = inl (g.0, g.1, record { cut = g.2.cut; belong = g.2.belong; each = ended_longer limit h longer g.0 g.1 w g.2.each }, g.3)
+  answer_longer is_part load are_cut inner limit preserve h longer v w (inr g) = inr (g.0, g.1, IsLookUpRefused-longer h longer g.0 w g.2)
 
 module _ {S R H L : Type 0} (m : Meaning S (Result R Error)) (keys : R → List ErrorView) (region : R → Option RegionErr) (is_part : S → S → Type 0) (load : S → L) (are_cut : L → List L → Type 0) (most : S → ℕ → ℕ) (law : IsLawful m) where
   looking : IsLawful (cutting {H = H} m is_part load are_cut most)
   looking = cutting-lawful m is_part load are_cut most
 
-  working : (inner : S) → IsLawful (tasks_for {H = H} m keys region is_part load are_cut most inner)
-  working inner = tasks-lawful (region_task m keys region is_part load are_cut most) (λ t. load t.job) are_cut (IsTaskOf m is_part most) (λ whole n. shared m most whole n) (λ t. stage_runs t.stage) inner (load inner) (region_task-lawful m keys region is_part load are_cut most law)
+  working : (inner : S) (limit : ℕ) → IsLawful (tasks_for {H = H} m keys region is_part load are_cut most inner limit)
+  working inner limit = tasks-lawful (region_task m keys region is_part load are_cut most) (λ t. load t.job) are_cut (IsTaskOf m is_part most) (λ whole n. shared m most whole.plan n) (λ t. stage_runs t.stage) (record { plan = inner; limit = limit }) (load inner) (region_task-lawful m keys region is_part load are_cut most law)
 
-  at_longer : (inner : S) (g : MultiStage S R H) (ts : Option (Tasks (RegionTask S R H) R)) (o p : Posted) (h longer : List Event) → IsLater o p → Within h longer
-      → MultiAt m (tasks_for {H = H} m keys region is_part load are_cut most inner) inner g ts o h → MultiAt m (tasks_for {H = H} m keys region is_part load are_cut most inner) inner g ts p longer
-  at_longer inner stage.Fresh ts o p h longer l w f = f
-  at_longer inner (stage.Cutting c) ts o p h longer l w f = (looking.fits_longer c o p h longer l w f.0, f.1)
-  at_longer inner stage.Running ts o p h longer l w f = holding ts (λ t x. ((working inner).fits_longer t o p h longer l w x.0, x.1)) f
-  at_longer inner stage.Over ts o p h longer l w f = tt
-  at_longer inner stage.Stopped ts o p h longer l w f = tt
+  at_longer : (inner : S) (limit : ℕ) (g : MultiStage S R H) (ts : Option (Tasks (RegionTask S R H) R)) (o p : Posted) (h longer : List Event) → IsLater o p → Within h longer
+      → MultiAt m (tasks_for {H = H} m keys region is_part load are_cut most inner limit) inner g ts o h → MultiAt m (tasks_for {H = H} m keys region is_part load are_cut most inner limit) inner g ts p longer
+  at_longer inner limit stage.Fresh ts o p h longer l w f = f
+  at_longer inner limit (stage.Cutting c) ts o p h longer l w f = (looking.fits_longer c o p h longer l w f.0, f.1)
+  at_longer inner limit stage.Running ts o p h longer l w f = holding ts (λ t x. ((working inner limit).fits_longer t o p h longer l w x.0, x.1)) f
+  at_longer inner limit stage.Over ts o p h longer l w f = tt
+  at_longer inner limit stage.Stopped ts o p h longer l w f = tt
 
-  more_borne : (inner : S) (ts : Option (Tasks (RegionTask S R H) R)) (w more : ℕ) → w ≤ more
-      → IfSome ts (λ t. (tasks_for {H = H} m keys region is_part load are_cut most inner).bears t w) → IfSome ts (λ t. (tasks_for {H = H} m keys region is_part load are_cut most inner).bears t more)
-  more_borne inner None w more l b = b
-  more_borne inner (Some t) w more l b = (working inner).bears_more t w more l b
+  more_borne : (inner : S) (limit : ℕ) (ts : Option (Tasks (RegionTask S R H) R)) (w more : ℕ) → w ≤ more
+      → IfSome ts (λ t. (tasks_for {H = H} m keys region is_part load are_cut most inner limit).bears t w) → IfSome ts (λ t. (tasks_for {H = H} m keys region is_part load are_cut most inner limit).bears t more)
+  more_borne inner limit None w more l b = b
+  more_borne inner limit (Some t) w more l b = (working inner limit).bears_more t w more l b
 
-  waits_running : (inner : S) (g : MultiStage S R H) (ts : Option (Tasks (RegionTask S R H) R)) (a : Awaited) → MultiWaits (tasks_for {H = H} m keys region is_part load are_cut most inner) g ts a → multi_phase g ≡ Running
-  waits_running inner stage.Fresh ts a w = absurd w
-  waits_running inner (stage.Cutting c) ts a w = refl
-  waits_running inner stage.Running ts a w = refl
-  waits_running inner stage.Over ts a w = absurd w
-  waits_running inner stage.Stopped ts a w = absurd w
+  waits_running : (inner : S) (limit : ℕ) (g : MultiStage S R H) (ts : Option (Tasks (RegionTask S R H) R)) (a : Awaited) → MultiWaits (tasks_for {H = H} m keys region is_part load are_cut most inner limit) g ts a → multi_phase g ≡ Running
+  waits_running inner limit stage.Fresh ts a w = absurd w
+  waits_running inner limit (stage.Cutting c) ts a w = refl
+  waits_running inner limit stage.Running ts a w = refl
+  waits_running inner limit stage.Over ts a w = absurd w
+  waits_running inner limit stage.Stopped ts a w = absurd w
 
-  task_waits : (inner : S) (ts : Option (Tasks (RegionTask S R H) R)) (o : Posted) (h : List Event)
-      → Holding ts (λ t. (tasks_for {H = H} m keys region is_part load are_cut most inner).fits t o h × ((tasks_for {H = H} m keys region is_part load are_cut most inner).phase t ≡ Running))
-      → (a : Awaited) × Holding ts (λ t. (tasks_for {H = H} m keys region is_part load are_cut most inner).waits t a)
-  task_waits inner None o h f = absurd f
-  task_waits inner (Some t) o h f = (working inner).waits t o h f.0 f.1
+  task_waits : (inner : S) (limit : ℕ) (ts : Option (Tasks (RegionTask S R H) R)) (o : Posted) (h : List Event)
+      → Holding ts (λ t. (tasks_for {H = H} m keys region is_part load are_cut most inner limit).fits t o h × ((tasks_for {H = H} m keys region is_part load are_cut most inner limit).phase t ≡ Running))
+      → (a : Awaited) × Holding ts (λ t. (tasks_for {H = H} m keys region is_part load are_cut most inner limit).waits t a)
+  task_waits inner limit None o h f = absurd f
+  task_waits inner limit (Some t) o h f = (working inner limit).waits t o h f.0 f.1
 
-  something : (inner : S) (g : MultiStage S R H) (ts : Option (Tasks (RegionTask S R H) R)) (o : Posted) (h : List Event)
-      → MultiAt m (tasks_for {H = H} m keys region is_part load are_cut most inner) inner g ts o h → multi_phase g ≡ Running → (a : Awaited) × MultiWaits (tasks_for {H = H} m keys region is_part load are_cut most inner) g ts a
-  something inner stage.Fresh ts o h f e = absurd (subst IsRunning (sym e) tt)
-  something inner (stage.Cutting c) ts o h f e = looking.waits c o h f.0 f.1
-  something inner stage.Running ts o h f e = task_waits inner ts o h f
-  something inner stage.Over ts o h f e = absurd (subst IsRunning (sym e) tt)
-  something inner stage.Stopped ts o h f e = absurd (subst IsRunning (sym e) tt)
+  something : (inner : S) (limit : ℕ) (g : MultiStage S R H) (ts : Option (Tasks (RegionTask S R H) R)) (o : Posted) (h : List Event)
+      → MultiAt m (tasks_for {H = H} m keys region is_part load are_cut most inner limit) inner g ts o h → multi_phase g ≡ Running → (a : Awaited) × MultiWaits (tasks_for {H = H} m keys region is_part load are_cut most inner limit) g ts a
+  something inner limit stage.Fresh ts o h f e = absurd (subst IsRunning (sym e) tt)
+  something inner limit (stage.Cutting c) ts o h f e = looking.waits c o h f.0 f.1
+  something inner limit stage.Running ts o h f e = task_waits inner limit ts o h f
+  something inner limit stage.Over ts o h f e = absurd (subst IsRunning (sym e) tt)
+  something inner limit stage.Stopped ts o h f e = absurd (subst IsRunning (sym e) tt)
 
-  task_posted : (inner : S) (ts : Option (Tasks (RegionTask S R H) R)) (o : Posted) (h : List Event) (a : Awaited)
-      → Holding ts (λ t. (tasks_for {H = H} m keys region is_part load are_cut most inner).fits t o h × ((tasks_for {H = H} m keys region is_part load are_cut most inner).phase t ≡ Running))
-      → Holding ts (λ t. (tasks_for {H = H} m keys region is_part load are_cut most inner).waits t a) → WasPosted o h a
-  task_posted inner None o h a f w = absurd f
-  task_posted inner (Some t) o h a f w = (working inner).posted t o h a f.0 w
+  task_posted : (inner : S) (limit : ℕ) (ts : Option (Tasks (RegionTask S R H) R)) (o : Posted) (h : List Event) (a : Awaited)
+      → Holding ts (λ t. (tasks_for {H = H} m keys region is_part load are_cut most inner limit).fits t o h × ((tasks_for {H = H} m keys region is_part load are_cut most inner limit).phase t ≡ Running))
+      → Holding ts (λ t. (tasks_for {H = H} m keys region is_part load are_cut most inner limit).waits t a) → WasPosted o h a
+  task_posted inner limit None o h a f w = absurd f
+  task_posted inner limit (Some t) o h a f w = (working inner limit).posted t o h a f.0 w
 
-  was_posted : (inner : S) (g : MultiStage S R H) (ts : Option (Tasks (RegionTask S R H) R)) (o : Posted) (h : List Event) (a : Awaited)
-      → MultiAt m (tasks_for {H = H} m keys region is_part load are_cut most inner) inner g ts o h → MultiWaits (tasks_for {H = H} m keys region is_part load are_cut most inner) g ts a → WasPosted o h a
-  was_posted inner stage.Fresh ts o h a f w = absurd w
-  was_posted inner (stage.Cutting c) ts o h a f w = looking.posted c o h a f.0 w
-  was_posted inner stage.Running ts o h a f w = task_posted inner ts o h a f w
-  was_posted inner stage.Over ts o h a f w = absurd w
-  was_posted inner stage.Stopped ts o h a f w = absurd w
+  was_posted : (inner : S) (limit : ℕ) (g : MultiStage S R H) (ts : Option (Tasks (RegionTask S R H) R)) (o : Posted) (h : List Event) (a : Awaited)
+      → MultiAt m (tasks_for {H = H} m keys region is_part load are_cut most inner limit) inner g ts o h → MultiWaits (tasks_for {H = H} m keys region is_part load are_cut most inner limit) g ts a → WasPosted o h a
+  was_posted inner limit stage.Fresh ts o h a f w = absurd w
+  was_posted inner limit (stage.Cutting c) ts o h a f w = looking.posted c o h a f.0 w
+  was_posted inner limit stage.Running ts o h a f w = task_posted inner limit ts o h a f w
+  was_posted inner limit stage.Over ts o h a f w = absurd w
+  was_posted inner limit stage.Stopped ts o h a f w = absurd w
 
   pub multi-lawful : IsLawful (multi {H = H} m keys region is_part load are_cut most)
   multi-lawful = record {
-    fits_longer = λ s o p h longer l w f. at_longer s.inner s.stage s.tasks o p h longer l w f;
-    gives_longer = λ s h longer v w g. answer_longer m keys region law is_part load are_cut s.inner s.preserve_region_results h longer v w g;
-    bears_more = λ s w more l b. more_borne s.inner s.tasks w more l b;
-    runs = λ s a w. waits_running s.inner s.stage s.tasks a w;
-    waits = λ s o h f e. something s.inner s.stage s.tasks o h f e;
-    posted = λ s o h a f w. was_posted s.inner s.stage s.tasks o h a f w;
+    fits_longer = λ s o p h longer l w f. at_longer s.inner (attempts_left s.backoff) s.stage s.tasks o p h longer l w f;
+    gives_longer = λ s h longer v w g. answer_longer m keys region law is_part load are_cut s.inner (attempts_left s.backoff) s.preserve_region_results h longer v w g;
+    bears_more = λ s w more l b. more_borne s.inner (attempts_left s.backoff) s.tasks w more l b;
+    runs = λ s a w. waits_running s.inner (attempts_left s.backoff) s.stage s.tasks a w;
+    waits = λ s o h f e. something s.inner (attempts_left s.backoff) s.stage s.tasks o h f e;
+    posted = λ s o h a f w. was_posted s.inner (attempts_left s.backoff) s.stage s.tasks o h a f w;
   }

@@ -103,7 +103,7 @@ pub data TaskTouches {S R H C : Type 0} (m : Meaning S (Result R Error)) (keys :
 -- where all shards were found, tasks for them were started
 abbrev pub FoundTouches : {S R H C : Type 0} → (Told → Posted → RegionTask S R H → RegionTask S R H → C → C → Type 0) → Backoff → Option (Tasks (RegionTask S R H) R) → C → C → Type 0
 FoundTouches touches backoff None old new = new ≡ old
-FoundTouches {S} touches backoff (Some ts) old new = (alloc : Global) × (parts : List (Part S)) × Starts touches (map (task_for alloc backoff) parts) old ts.tasks.items new
+FoundTouches {S} touches backoff (Some ts) old new = (alloc : Global) × (parts : List (Part S)) × Starts touches (map (task_for alloc backoff backoff.current_attempts) parts) old ts.tasks.items new
 
 -- until the tasks run, the shards are searched
 abbrev pub TasksTouch : {S R H C : Type 0} → Touch C → (Told → Posted → RegionTask S R H → RegionTask S R H → C → C → Type 0) → Told → Posted → Backoff → Option (Tasks (RegionTask S R H) R) → Option (Tasks (RegionTask S R H) R) → C → C → Type 0

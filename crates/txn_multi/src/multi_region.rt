@@ -1,6 +1,6 @@
 //! A plan over many regions.
 ghost use Rattle.std.specs.Bool.{MatchBool};
-ghost use Rattle.std.specs.Prelude.{◌≡◌, ◌<◌, ◌^◌, ⊤, Err, IfOk, None};
+ghost use Rattle.std.specs.Prelude.{◌≡◌, ◌<◌, ◌^◌, ⊤, ℕ, Err, IfOk, None};
 ghost use Rattle.txn_history.specs.Meaning.{started, Counts, Goes, IsUnbegun, Tells};
 ghost use Rattle.txn_history.specs.Phase.{phase_after, unheard};
 ghost use Rattle.txn_history.specs.Phase.Phase.{Running};
@@ -10,7 +10,7 @@ ghost use Rattle.txn_history.specs.Turn.Turn.{Ends, Waits};
 ghost use Rattle.txn_kv.specs.declared.request.Request.{Request as Asked};
 ghost use Rattle.txn_multi.specs.Cutting.{cut_phase, cut_waits, ArePartsOf, IfParts};
 ghost use Rattle.txn_multi.specs.Multi.{multi, multi-lawful, multi_phase, tasks_for, AfterCut, AfterTasks, Begins, Holding, IsAnswer};
-ghost use Rattle.txn_multi.specs.Task.{region_task, stage_runs};
+ghost use Rattle.txn_multi.specs.Task.{attempts_left, region_task, stage_runs};
 ghost use Rattle.txn_multi.specs.Touching.{FoundTouches, MultiTouches, TaskTouches, UnlessGone};
 ghost use Rattle.txn_plan.specs.Arrivals.{awaited_as, locked_told, tells_error, tells_failure, told_by, weight_told, MayArrive};
 ghost use Rattle.txn_plan.specs.Touch.{touch};
@@ -243,7 +243,8 @@ where
         ensures numbers { HasNumbers out.new }
     {
         self.width = self.width.max(parts.len());
-        let first = tasks_of(self.alloc, parts, self.backoff)?;
+        let before = self.backoff.current_attempts();
+        let first = tasks_of(self.alloc, parts, self.backoff, before)?;
         let mut tasks = Tasks::new(self.alloc, first)?;
         let turn = tasks.start(pd, now, out);
         self.tasks = Some(tasks);
@@ -260,7 +261,7 @@ where
     ) -> Turn<P>
         requires stopped { self.old.stage ≡ MultiStage.Stopped }
         requires inner { IsUnbegun P.meaning self.old.inner }
-        requires tasks { Holding self.old.tasks (λ t. (tasks_for P.meaning P.Result.key_errors_in P.Result.region_error_in P.IsPart P.load P.AreCut P.most self.old.inner).ready t × (tasks_phase t.stage ≡ Running)) }
+        requires tasks { Holding self.old.tasks (λ t. (tasks_for P.meaning P.Result.key_errors_in P.Result.region_error_in P.IsPart P.load P.AreCut P.most self.old.inner (attempts_left self.old.backoff)).ready t × (tasks_phase t.stage ≡ Running)) }
         requires arrives { MayArrive arrival }
         requires numbers { HasNumbers out.old }
         requires clock { now < 2 ^ 44 }
@@ -342,9 +343,9 @@ where
     requires arrives { MayArrive arrival }
     requires numbers { HasNumbers out.old }
     requires clock { now < 2 ^ 44 }
-    ensures tells { (inner : P) (r : Asked) → Tells (tasks_for P.meaning P.Result.key_errors_in P.Result.region_error_in P.IsPart P.load P.AreCut P.most inner) (told_by arrival out.old r) tasks.old tasks.new out.old out.new (tasks_turn result) }
+    ensures tells { (inner : P) (limit : ℕ) (r : Asked) → Tells (tasks_for P.meaning P.Result.key_errors_in P.Result.region_error_in P.IsPart P.load P.AreCut P.most inner limit) (told_by arrival out.old r) tasks.old tasks.new out.old out.new (tasks_turn result) }
     ensures goes { Goes (λ t. tasks_phase t.stage) (LeadsSomewhere tasks.old (awaited_as arrival)) tasks.old tasks.new out.old out.new pd.old pd.new (tasks_turn result) }
-    ensures counts { (inner : P) → Counts (tasks_for P.meaning P.Result.key_errors_in P.Result.region_error_in P.IsPart P.load P.AreCut P.most inner) (tells_error arrival) (tells_failure arrival) (weight_told arrival) (locked_told arrival) tasks.old tasks.new out.old out.new (tasks_turn result) }
+    ensures counts { (inner : P) (limit : ℕ) → Counts (tasks_for P.meaning P.Result.key_errors_in P.Result.region_error_in P.IsPart P.load P.AreCut P.most inner limit) (tells_error arrival) (tells_failure arrival) (weight_told arrival) (locked_told arrival) tasks.old tasks.new out.old out.new (tasks_turn result) }
     ensures client { (r : Asked) → IfKept (tasks_turn result) (Turns (TaskTouches P.meaning P.Result.key_errors_in P.Result.region_error_in (touch C.looked C.learns C.leads C.drops) (P.touches (touch C.looked C.learns C.leads C.drops))) (told_by arrival out.old r) out.old tasks.old.tasks.items tasks.new.tasks.items pd.old pd.new) }
     ensures ready { AreReady (region_task P.meaning P.Result.key_errors_in P.Result.region_error_in P.IsPart P.load P.AreCut P.most) (λ t. stage_runs t.stage) tasks.new }
     ensures numbers { HasNumbers out.new }

@@ -1,5 +1,5 @@
 //! One task of a plan over many regions.
-ghost use Rattle.std.specs.Prelude.{◌≡◌, ◌<◌, ◌^◌, ℕ, Bool, IfOk, Ok, Err, OnOk, false, map, max, true};
+ghost use Rattle.std.specs.Prelude.{◌≡◌, ◌<◌, ◌^◌, ℕ, Bool, IfOk, Ok, Err, OnOk, false, map, max, suc, true};
 ghost use Rattle.txn_history.specs.Meaning.{started, Counts, Goes, Tells};
 ghost use Rattle.txn_history.specs.Phase.{phase_after, unheard};
 ghost use Rattle.txn_history.specs.Phase.Awaited.{EndOf};
@@ -10,7 +10,7 @@ ghost use Rattle.txn_kv.specs.declared.errors.Error.TheVariants.{GrpcAPI};
 ghost use Rattle.txn_kv.specs.declared.request.Request.{Request as Asked};
 ghost use Rattle.txn_multi.specs.Cutting.{cut_phase, cut_waits, ArePartsOf, IfParts, UnfoundIfErr};
 ghost use Rattle.txn_multi.specs.Searching.{Seeks};
-ghost use Rattle.txn_multi.specs.Task.{owed, region_task, region_task-lawful, runs_running, shared, stage_phase, stage_runs, task_for, CostsOver, GoesOver, HasFailed, IsChanged, IsOutcome, IsReady, IsRefused, IsTaskOf, IsUnderWay, MayGoOn, TaskReady};
+ghost use Rattle.txn_multi.specs.Task.{limit_of, owed, region_task, region_task-lawful, runs_running, shared, stage_phase, stage_runs, task_for, tried, CostsOver, GoesOnAt, GoesOver, HaveFailedBy, IsChanged, IsOutcome, IsReady, IsRefused, IsTaskOf, IsUnderWay, Limited, MayGoOn, TaskReady};
 ghost use Rattle.txn_multi.specs.Touching.{change_after, IsHeeded, PlanTouches, TaskTouches, UnlessStopped};
 ghost use Rattle.txn_plan.specs.Arrivals.{awaited_as, locked_told, tells_error, tells_failure, told_by, weight_told, MayArrive};
 ghost use Rattle.txn_plan.specs.Touch.{touch};
@@ -44,6 +44,8 @@ pub struct RegionTask<P: ShardPlan> {
     job: P,
     region: RegionVerId,
     backoff: Backoff,
+    /// How many attempts of the backoff were used up when the whole plan began.
+    before: u32,
     stage: Stage<P>,
     /// How many parts it gave.
     width: usize,
@@ -55,13 +57,14 @@ where
     P::Result: HasKeyErrors + HasRegionError,
 {
     /// A task that is not started.
-    pub fn new(alloc: Global, part: Part<P>, backoff: Backoff) -> RegionTask<P>
-        ensures { result ≡ task_for alloc backoff part }
+    pub fn new(alloc: Global, part: Part<P>, backoff: Backoff, before: u32) -> RegionTask<P>
+        ensures { result ≡ task_for alloc backoff before part }
     {
         RegionTask {
             job: part.plan,
             region: part.region,
             backoff,
+            before,
             stage: Stage::Fresh,
             width: 0,
             alloc,
@@ -237,7 +240,7 @@ where
         requires stopped { self.old.stage ≡ Stage.Stopped }
         requires job { IsReady P.meaning self.old.job }
         requires numbers { HasNumbers out.old }
-        ensures over { GoesOver (region_task P.meaning P.Result.key_errors_in P.Result.region_error_in P.IsPart P.load P.AreCut P.most) (λ h. P.meaning.gives self.old.job h answer) self.old self.new out.old out.new (step_turn result) }
+        ensures over { GoesOver (region_task P.meaning P.Result.key_errors_in P.Result.region_error_in P.IsPart P.load P.AreCut P.most) (λ h. P.meaning.gives self.old.job h answer × (P.meaning.fails answer ≡ true → HaveFailedBy (suc (tried self.old)) out.old h)) self.old self.new out.old out.new (step_turn result) }
         ensures costs { CostsOver (region_task P.meaning P.Result.key_errors_in P.Result.region_error_in P.IsPart P.load P.AreCut P.most) (λ n. 0) (P.meaning.fails answer) self.old self.new out.old out.new (step_turn result) }
         ensures ends { P.meaning.fails answer ≡ false → IfEnds (step_turn result) IsEnd }
         ensures keeps { Keeps (region_task P.meaning P.Result.key_errors_in P.Result.region_error_in P.IsPart P.load P.AreCut P.most) (λ t. P.load t.job) P.AreCut (IsTaskOf P.meaning P.IsPart P.most) (λ t. stage_runs t.stage) self.old self.new (step_turn result) }
@@ -266,7 +269,7 @@ where
         requires stopped { self.old.stage ≡ Stage.Stopped }
         requires job { IsReady P.meaning self.old.job }
         requires numbers { HasNumbers out.old }
-        ensures over { GoesOver (region_task P.meaning P.Result.key_errors_in P.Result.region_error_in P.IsPart P.load P.AreCut P.most) (λ h. P.meaning.gives self.old.job h (Ok reply)) self.old self.new out.old out.new (step_turn result) }
+        ensures over { GoesOver (region_task P.meaning P.Result.key_errors_in P.Result.region_error_in P.IsPart P.load P.AreCut P.most) (λ h. P.meaning.gives self.old.job h (Ok reply) × (P.meaning.fails (Ok reply) ≡ true → HaveFailedBy (suc (tried self.old)) out.old h)) self.old self.new out.old out.new (step_turn result) }
         ensures costs { CostsOver (region_task P.meaning P.Result.key_errors_in P.Result.region_error_in P.IsPart P.load P.AreCut P.most) (λ n. 0) (P.meaning.fails (Ok reply)) self.old self.new out.old out.new (step_turn result) }
         ensures ends { P.meaning.fails (Ok reply) ≡ false → IfEnds (step_turn result) IsEnd }
         ensures keeps { Keeps (region_task P.meaning P.Result.key_errors_in P.Result.region_error_in P.IsPart P.load P.AreCut P.most) (λ t. P.load t.job) P.AreCut (IsTaskOf P.meaning P.IsPart P.most) (λ t. stage_runs t.stage) self.old self.new (step_turn result) }
@@ -296,7 +299,7 @@ where
         requires stopped { self.old.stage ≡ Stage.Stopped }
         requires job { IsReady P.meaning self.old.job }
         requires numbers { HasNumbers out.old }
-        ensures over { GoesOver (region_task P.meaning P.Result.key_errors_in P.Result.region_error_in P.IsPart P.load P.AreCut P.most) (λ h. IsRefused P.meaning P.Result.key_errors_in P.Result.region_error_in self.old.job h error) self.old self.new out.old out.new (step_turn result) }
+        ensures over { GoesOver (region_task P.meaning P.Result.key_errors_in P.Result.region_error_in P.IsPart P.load P.AreCut P.most) (λ h. IsRefused P.meaning P.Result.key_errors_in P.Result.region_error_in self.old.job h error × HaveFailedBy (suc (tried self.old)) out.old h) self.old self.new out.old out.new (step_turn result) }
         ensures costs { CostsOver (region_task P.meaning P.Result.key_errors_in P.Result.region_error_in P.IsPart P.load P.AreCut P.most) (λ n. 0) true self.old self.new out.old out.new (step_turn result) }
         ensures keeps { Keeps (region_task P.meaning P.Result.key_errors_in P.Result.region_error_in P.IsPart P.load P.AreCut P.most) (λ t. P.load t.job) P.AreCut (IsTaskOf P.meaning P.IsPart P.most) (λ t. stage_runs t.stage) self.old self.new (step_turn result) }
         ensures heeded { OnOk result (IsHeeded (touch C.looked C.learns C.leads C.drops) self.old.region ((on_region_error (delay_ms self.old.backoff) error self.old.region).change) pd.old pd.new) }
@@ -320,7 +323,7 @@ where
         requires stopped { self.old.stage ≡ Stage.Stopped }
         requires job { IsReady P.meaning self.old.job }
         requires numbers { HasNumbers out.old }
-        ensures over { GoesOver (region_task P.meaning P.Result.key_errors_in P.Result.region_error_in P.IsPart P.load P.AreCut P.most) (λ h. P.meaning.gives self.old.job h (Err (GrpcAPI ticket))) self.old self.new out.old out.new (step_turn result) }
+        ensures over { GoesOver (region_task P.meaning P.Result.key_errors_in P.Result.region_error_in P.IsPart P.load P.AreCut P.most) (λ h. P.meaning.gives self.old.job h (Err (GrpcAPI ticket)) × HaveFailedBy (suc (tried self.old)) out.old h) self.old self.new out.old out.new (step_turn result) }
         ensures costs { CostsOver (region_task P.meaning P.Result.key_errors_in P.Result.region_error_in P.IsPart P.load P.AreCut P.most) (λ n. 0) true self.old self.new out.old out.new (step_turn result) }
         ensures keeps { Keeps (region_task P.meaning P.Result.key_errors_in P.Result.region_error_in P.IsPart P.load P.AreCut P.most) (λ t. P.load t.job) P.AreCut (IsTaskOf P.meaning P.IsPart P.most) (λ t. stage_runs t.stage) self.old self.new (step_turn result) }
         ensures heeded { OnOk result (IsHeeded (touch C.looked C.learns C.leads C.drops) self.old.region ((on_loss (delay_ms self.old.backoff)).change) pd.old pd.new) }
@@ -345,7 +348,7 @@ where
         requires stopped { self.old.stage ≡ Stage.Stopped }
         requires job { IsReady P.meaning self.old.job }
         requires numbers { HasNumbers out.old }
-        ensures over { GoesOver (region_task P.meaning P.Result.key_errors_in P.Result.region_error_in P.IsPart P.load P.AreCut P.most) (MayGoOn P.meaning P.Result.key_errors_in P.Result.region_error_in self.old.region self.old.job failure remedy.next) self.old self.new out.old out.new (step_turn result) }
+        ensures over { GoesOver (region_task P.meaning P.Result.key_errors_in P.Result.region_error_in P.IsPart P.load P.AreCut P.most) (MayGoOn P.meaning P.Result.key_errors_in P.Result.region_error_in self.old out.old failure remedy.next) self.old self.new out.old out.new (step_turn result) }
         ensures costs { CostsOver (region_task P.meaning P.Result.key_errors_in P.Result.region_error_in P.IsPart P.load P.AreCut P.most) (λ n. 0) true self.old self.new out.old out.new (step_turn result) }
         ensures keeps { Keeps (region_task P.meaning P.Result.key_errors_in P.Result.region_error_in P.IsPart P.load P.AreCut P.most) (λ t. P.load t.job) P.AreCut (IsTaskOf P.meaning P.IsPart P.most) (λ t. stage_runs t.stage) self.old self.new (step_turn result) }
         ensures heeded { OnOk result (IsHeeded (touch C.looked C.learns C.leads C.drops) self.old.region (remedy.change) pd.old pd.new) }
@@ -369,7 +372,7 @@ where
         requires stopped { self.old.stage ≡ Stage.Stopped }
         requires job { IsReady P.meaning self.old.job }
         requires numbers { HasNumbers out.old }
-        ensures over { GoesOver (region_task P.meaning P.Result.key_errors_in P.Result.region_error_in P.IsPart P.load P.AreCut P.most) (HasFailed P.meaning P.Result.key_errors_in P.Result.region_error_in self.old.job) self.old self.new out.old out.new (step_turn result) }
+        ensures over { GoesOver (region_task P.meaning P.Result.key_errors_in P.Result.region_error_in P.IsPart P.load P.AreCut P.most) (GoesOnAt P.meaning P.Result.key_errors_in P.Result.region_error_in self.old out.old) self.old self.new out.old out.new (step_turn result) }
         ensures costs { CostsOver (region_task P.meaning P.Result.key_errors_in P.Result.region_error_in P.IsPart P.load P.AreCut P.most) (λ n. 0) true self.old self.new out.old out.new (step_turn result) }
         ensures keeps { Keeps (region_task P.meaning P.Result.key_errors_in P.Result.region_error_in P.IsPart P.load P.AreCut P.most) (λ t. P.load t.job) P.AreCut (IsTaskOf P.meaning P.IsPart P.most) (λ t. stage_runs t.stage) self.old self.new (step_turn result) }
         ensures off { stage_runs self.new.stage ≡ false }
@@ -386,7 +389,7 @@ where
         requires stopped { self.old.stage ≡ Stage.Stopped }
         requires job { IsReady P.meaning self.old.job }
         requires numbers { HasNumbers out.old }
-        ensures over { GoesOver (region_task P.meaning P.Result.key_errors_in P.Result.region_error_in P.IsPart P.load P.AreCut P.most) (HasFailed P.meaning P.Result.key_errors_in P.Result.region_error_in self.old.job) self.old self.new out.old out.new (step_turn result) }
+        ensures over { GoesOver (region_task P.meaning P.Result.key_errors_in P.Result.region_error_in P.IsPart P.load P.AreCut P.most) (GoesOnAt P.meaning P.Result.key_errors_in P.Result.region_error_in self.old out.old) self.old self.new out.old out.new (step_turn result) }
         ensures costs { CostsOver (region_task P.meaning P.Result.key_errors_in P.Result.region_error_in P.IsPart P.load P.AreCut P.most) (λ n. owed P.meaning P.most self.old.job n) false self.old self.new out.old out.new (step_turn result) }
         ensures keeps { Keeps (region_task P.meaning P.Result.key_errors_in P.Result.region_error_in P.IsPart P.load P.AreCut P.most) (λ t. P.load t.job) P.AreCut (IsTaskOf P.meaning P.IsPart P.most) (λ t. stage_runs t.stage) self.old self.new (step_turn result) }
         ensures changed { C.looked pd.old pd.new }
@@ -410,7 +413,7 @@ where
         requires stopped { self.old.stage ≡ Stage.Stopped }
         requires job { IsReady P.meaning self.old.job }
         requires parts { IfParts P.meaning P.IsPart P.load P.AreCut P.most self.old.job answer }
-        ensures over { (o : Posted) → GoesOver (region_task P.meaning P.Result.key_errors_in P.Result.region_error_in P.IsPart P.load P.AreCut P.most) (λ h. HasFailed P.meaning P.Result.key_errors_in P.Result.region_error_in self.old.job h × UnfoundIfErr h answer) self.old self.new o o (step_turn result) }
+        ensures over { (o : Posted) → GoesOver (region_task P.meaning P.Result.key_errors_in P.Result.region_error_in P.IsPart P.load P.AreCut P.most) (λ h. GoesOnAt P.meaning P.Result.key_errors_in P.Result.region_error_in self.old o h × UnfoundIfErr h answer) self.old self.new o o (step_turn result) }
         ensures costs { (o : Posted) → CostsOver (region_task P.meaning P.Result.key_errors_in P.Result.region_error_in P.IsPart P.load P.AreCut P.most) (λ n. owed P.meaning P.most self.old.job n) false self.old self.new o o (step_turn result) }
         ensures keeps { Keeps (region_task P.meaning P.Result.key_errors_in P.Result.region_error_in P.IsPart P.load P.AreCut P.most) (λ t. P.load t.job) P.AreCut (IsTaskOf P.meaning P.IsPart P.most) (λ t. stage_runs t.stage) self.old self.new (step_turn result) }
         ensures off { stage_runs self.new.stage ≡ false }
@@ -427,20 +430,20 @@ where
         requires stopped { self.old.stage ≡ Stage.Stopped }
         requires job { IsReady P.meaning self.old.job }
         requires parts { ArePartsOf P.meaning P.IsPart P.load P.AreCut P.most self.old.job parts.items }
-        ensures over { (o : Posted) → GoesOver (region_task P.meaning P.Result.key_errors_in P.Result.region_error_in P.IsPart P.load P.AreCut P.most) (HasFailed P.meaning P.Result.key_errors_in P.Result.region_error_in self.old.job) self.old self.new o o (step_turn result) }
+        ensures over { (o : Posted) → GoesOver (region_task P.meaning P.Result.key_errors_in P.Result.region_error_in P.IsPart P.load P.AreCut P.most) (GoesOnAt P.meaning P.Result.key_errors_in P.Result.region_error_in self.old o) self.old self.new o o (step_turn result) }
         ensures costs { (o : Posted) → CostsOver (region_task P.meaning P.Result.key_errors_in P.Result.region_error_in P.IsPart P.load P.AreCut P.most) (λ n. owed P.meaning P.most self.old.job n) false self.old self.new o o (step_turn result) }
         ensures keeps { Keeps (region_task P.meaning P.Result.key_errors_in P.Result.region_error_in P.IsPart P.load P.AreCut P.most) (λ t. P.load t.job) P.AreCut (IsTaskOf P.meaning P.IsPart P.most) (λ t. stage_runs t.stage) self.old self.new (step_turn result) }
         ensures off { stage_runs self.new.stage ≡ false }
         ensures ready { TaskReady P.meaning self.new }
     {
         self.width = self.width.max(parts.len());
-        let tasks = tasks_of(self.alloc, parts, self.backoff)?;
+        let tasks = tasks_of(self.alloc, parts, self.backoff, self.before)?;
         self.stage = Stage::Cut;
         Ok(Some(Step::Parts(tasks)))
     }
 
     fn end(&mut self, answer: Result<Result<P::Result>>) -> Turn<P>
-        ensures over { (o : Posted) → GoesOver (region_task P.meaning P.Result.key_errors_in P.Result.region_error_in P.IsPart P.load P.AreCut P.most) (λ h. IsOutcome P.meaning P.Result.key_errors_in P.Result.region_error_in self.old.region self.old.job h answer) self.old self.new o o (step_turn result) }
+        ensures over { (o : Posted) → GoesOver (region_task P.meaning P.Result.key_errors_in P.Result.region_error_in P.IsPart P.load P.AreCut P.most) (λ h. IsOutcome P.meaning P.Result.key_errors_in P.Result.region_error_in (limit_of self.old) self.old.region self.old.job h answer) self.old self.new o o (step_turn result) }
         ensures costs { (o : Posted) (before : ℕ → ℕ) (failed : Bool) → CostsOver (region_task P.meaning P.Result.key_errors_in P.Result.region_error_in P.IsPart P.load P.AreCut P.most) before failed self.old self.new o o (step_turn result) }
         ensures ends { IfEnds (step_turn result) IsEnd }
         ensures keeps { Keeps (region_task P.meaning P.Result.key_errors_in P.Result.region_error_in P.IsPart P.load P.AreCut P.most) (λ t. P.load t.job) P.AreCut (IsTaskOf P.meaning P.IsPart P.most) (λ t. stage_runs t.stage) self.old self.new (step_turn result) }
@@ -451,19 +454,20 @@ where
     }
 }
 
-/// A task for each part, with this backoff.
+/// A task for each part, with this backoff, of which the whole plan found so many attempts used up.
 pub fn tasks_of<P: RegionPlan>(
     alloc: Global,
     parts: Vec<Part<P>>,
     backoff: Backoff,
+    before: u32,
 ) -> std::result::Result<Vec<RegionTask<P>>, NoMemory>
 where
     P::Result: HasKeyErrors + HasRegionError,
-    ensures { IfOk result (λ tasks. tasks.items ≡ map (task_for alloc backoff) parts.items) }
+    ensures { IfOk result (λ tasks. tasks.items ≡ map (task_for alloc backoff before) parts.items) }
 {
     let mut tasks = Vec::with_capacity(alloc, parts.len())?;
     for part in parts {
-        tasks.push(RegionTask::new(alloc, part, backoff))?;
+        tasks.push(RegionTask::new(alloc, part, backoff, before))?;
     }
     Ok(tasks)
 }
@@ -516,11 +520,11 @@ where
 
     ghost AreCut = { P.AreCut };
 
-    ghost Whole = { P };
+    ghost Whole = { Limited P };
 
     ghost IsOf = { IsTaskOf P.meaning P.IsPart P.most };
 
-    ghost cost = { λ whole n. shared P.meaning P.most whole n };
+    ghost cost = { λ whole n. shared P.meaning P.most whole.plan n };
 
     ghost runs = { λ t. stage_runs t.stage };
 

@@ -28,7 +28,7 @@ use Rattle.txn_stores.specs.Aimed.{IsAimed}
 use Rattle.txn_stores.specs.AllFollows.{AllGoesOn, AreFoundIn, TasksFollow}
 use Rattle.txn_stores.specs.AllLaws.{found_longer, store_tasks-lawful}
 use Rattle.txn_stores.specs.AllStores.{all_bears, all_left, all_phase, all_stores, all_waits, ids_of, run_left, run_width, store_tasks, AllAsk, AllAt, AllFits, AllGive, AllReady, IfRun, IsAnswered, ReadyAt, TasksFit}
-use Rattle.txn_stores.specs.StoreTask.{is_running, store_of, store_task, task_at, AreStores, IsTaskOf, TaskGives}
+use Rattle.txn_stores.specs.StoreTask.{is_running, store_of, store_task, task_at, AreStores, IsTaskOf, TaskFits, TaskGives}
 use Rattle.txn_stores.specs.declared.all_stage.AllStage.{AllStage}
 use Rattle.txn_stores.specs.declared.all_stage.AllStage.TheVariants as stage
 use Rattle.txn_stores.specs.declared.all_stores.RetryableAllStores.{RetryableAllStores}
@@ -45,13 +45,15 @@ module _ {S R : Type 0} (m : Meaning S (Result R Error)) (keys : R → List Erro
   new_at : (store : Store) → IsAimed m whole (at_store store whole) → IsNew (store_task m keys region) (task_at at_store whole b alloc store)
   new_at store a = record {
     phase = refl;
-    fits = λ o h. record { at = tt };
     light = λ w. tt;
     ready = record { unbegun = a.unbegun; ready = a.ready; at = refl };
   }
 
   pub tasks_new : (stores : List Store) → ((store : Store) → IsAimed m whole (at_store store whole)) → All (λ t. IsNew (store_task m keys region) t) (map (task_at at_store whole b alloc) stores)
   tasks_new stores aim = All-map (λ t. IsNew (store_task m keys region) t) (task_at at_store whole b alloc) stores (λ k d l. new_at _ (aim _))
+
+  pub tasks_fit : (stores : List Store) (o : Posted) (h : List Event) → All (λ t. TaskFits m t o h) (map (task_at at_store whole b alloc) stores)
+  tasks_fit stores o h = All-map (λ t. TaskFits m t o h) (task_at at_store whole b alloc) stores (λ k d l. record { at = tt })
 
   pub tasks_belong : (stores : List Store) → ((store : Store) → IsAimed m whole (at_store store whole)) → All (λ t. IsTaskOf m at_store t whole) (map (task_at at_store whole b alloc) stores)
   tasks_belong stores aim = All-map (λ t. IsTaskOf m at_store t whole) (task_at at_store whole b alloc) stores (λ k d l. let a = aim _ in record { aimed = refl; less = a.less })
@@ -313,7 +315,7 @@ module _ {S R : Type 0} (m : Meaning S (Result R Error)) (keys : R → List Erro
       → ((store : Store) → IsAimed m old.inner (at_store store old.inner))
       → tasks.items ≡ map (task_at at_store old.inner b alloc) stores.items
       → tasks_phase ts.stage ≡ Fresh
-      → ((whole : S) (first : List ℕ) (o : Posted) (h : List Event) → All (λ t. IsTaskOf m at_store t whole) tasks.items → AreStores first (map store_of tasks.items) → (store_tasks m keys region at_store whole first).fits ts o h)
+      → ((whole : S) (first : List ℕ) (o : Posted) (h : List Event) → All (λ t. TaskFits m t o h) tasks.items → All (λ t. IsTaskOf m at_store t whole) tasks.items → AreStores first (map store_of tasks.items) → (store_tasks m keys region at_store whole first).fits ts o h)
       → ((whole : S) (first : List ℕ) (n : ℕ) → (store_tasks m keys region at_store whole first).left ts n ≡ sum_by (λ t. (store_task m keys region).left t n) tasks.items)
       → ((whole : S) (first : List ℕ) (w : ℕ) → All (λ t. IsTaskOf m at_store t whole) tasks.items → (store_tasks m keys region at_store whole first).bears ts w)
       → tasks_phase ts'.stage ≡ phase_after p
@@ -330,7 +332,7 @@ module _ {S R : Type 0} (m : Meaning S (Result R Error)) (keys : R → List Erro
       let cost : (n : ℕ) → (tasks_with whole stores).left ts n ≤ length stores.items * m.round whole n = λ n. rw (left whole ids n, made) (tasks_cost m keys region at_store whole b alloc stores.items n aim) in
       let law_all = store_tasks-lawful m keys region at_store whole ids law in
       let e = t.expects in record {
-        moves = follows_moves old new stores stage.Stopped ts ts' p turn runs (lifted whole stores ts ts' Within-refl (λ h k. (k, fits whole ids from h belong cut, tt)) t.moves) f;
+        moves = follows_moves old new stores stage.Stopped ts ts' p turn runs (lifted whole stores ts ts' Within-refl (λ h k. (k, fits whole ids from h (rw made (tasks_fit m keys region at_store whole b alloc stores.items from h)) belong cut, tt)) t.moves) f;
         expects = record {
           sends = e.sends;
           pushed = e.pushed;

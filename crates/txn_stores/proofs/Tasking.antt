@@ -216,10 +216,10 @@ Task-counts {m = m} {old = old} {new = new} {plan = plan} {g = g} (Ends answer) 
 
 -- What it keeps.
 
-stands_end : {S R : Type 0} (m : Meaning S (Result R Error)) (keys : R → List ErrorView) (region : R → Option RegionErr) (at_store : Store → S → S) (old : StoreTask S) (s : Step (StoreTask S) R)
-    → IsEnd s → MayStand (store_task m keys region) store_of AreStores (λ t whole. IsTaskOf m at_store t whole) old s
-stands_end m keys region at_store old (End answer) e = tt
-stands_end m keys region at_store old (Parts tasks) e = absurd e
+stands_end : {S R : Type 0} (m : Meaning S (Result R Error)) (keys : R → List ErrorView) (region : R → Option RegionErr) (at_store : Store → S → S) (old new : StoreTask S) (s : Step (StoreTask S) R)
+    → IsEnd s → MayStand (store_task m keys region) store_of AreStores (λ t whole. IsTaskOf m at_store t whole) old new s
+stands_end m keys region at_store old new (End answer) e = tt
+stands_end m keys region at_store old new (Parts tasks) e = absurd e
 
 wide_end : {S R : Type 0} {n : ℕ} (s : Step (StoreTask S) R) → IsEnd s → length (parts_in s) ≤ n
 wide_end (End answer) e = omega arith
@@ -253,7 +253,7 @@ Task-keeps {m = m} {keys = keys} {region = region} at_store {old = old} {new = n
   work = rw f.at.stage refl;
   belongs = λ w i. rw f.at.stage (record { aimed = i.aimed; less = i.less });
   rests = λ e. f.at.off;
-  stands = IfEnds-weaker turn (λ s e. stands_end m keys region at_store old s e) f.at.ends;
+  stands = IfEnds-weaker turn (λ s e. stands_end m keys region at_store old new s e) f.at.ends;
   wide = IfEnds-weaker turn (λ s e. wide_end s e) f.at.ends;
   owes = IfEnds-weaker turn (λ s e n w. owes_end (λ part. stage_left (m.left part.plan n) (m.round part.job n) part.stage) s e) f.at.ends;
 }

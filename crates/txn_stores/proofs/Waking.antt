@@ -88,16 +88,16 @@ Wake-counts m keys region b old new o n (Ends (Parts tasks)) at i = rw i.0 (reco
 is_new : {S R : Type 0} (m : Meaning S (Result R Error)) (keys : R → List ErrorView) (region : R → Option RegionErr) (b : Backoff) (t : StoreTask S) → TaskReady m t → IsNew (store_task m keys region) (again_with b t)
 is_new m keys region b t r = record {
   phase = refl;
-  fits = λ o h. record { at = tt };
   light = λ w. tt;
   ready = record { unbegun = r.unbegun; ready = r.ready; at = refl };
 }
 
-in_place : {S R : Type 0} (m : Meaning S (Result R Error)) (keys : R → List ErrorView) (region : R → Option RegionErr) (at_store : Store → S → S) (b : Backoff) (t : StoreTask S) (parts : List (StoreTask S))
+in_place : {S R : Type 0} (m : Meaning S (Result R Error)) (keys : R → List ErrorView) (region : R → Option RegionErr) (at_store : Store → S → S) (b : Backoff) (t new : StoreTask S) (parts : List (StoreTask S))
     → TaskReady m t → parts ≡ again_with b t ∷ []
-    → AreInPlace (store_task m keys region) store_of AreStores (λ u whole. IsTaskOf m at_store u whole) t parts
-in_place m keys region at_store b t parts r e = rw e (record {
+    → AreInPlace (store_task m keys region) store_of AreStores (λ u whole. IsTaskOf m at_store u whole) t new parts
+in_place m keys region at_store b t new parts r e = rw e (record {
   each = All-cons (λ part. IsNew (store_task m keys region) part) (again_with b t) [] (is_new m keys region b t r) (All-nil _);
+  fit = λ o h f. All-cons (λ part. TaskFits m part o h) (again_with b t) [] (record { at = tt }) (All-nil _);
   cut = refl;
   belong = λ w i. All-cons (λ part. IsTaskOf m at_store part w) (again_with b t) [] (record { aimed = i.aimed; less = i.less }) (All-nil _);
 })
@@ -121,7 +121,7 @@ Wake-keeps m keys region at_store b old new (Ends (Parts tasks)) r i = rw i.0 (r
   work = refl;
   belongs = λ w k. record { aimed = k.aimed; less = k.less };
   rests = λ e. refl;
-  stands = in_place m keys region at_store b old tasks.items r i.1;
+  stands = in_place m keys region at_store b old _ tasks.items r i.1;
   wide = rw i.1 (omega arith);
   owes = λ n w. rw i.1 (omega arith);
 })

@@ -51,7 +51,7 @@ impl<T: Task> Tasks<T> {
     pub fn new(alloc: Global, tasks: Vec<T>) -> std::result::Result<Tasks<T>, NoMemory>
         requires fresh { All (λ task. IsNew T.meaning task) tasks.items }
         ensures fresh { IfOk result (λ ts. tasks_phase ts.stage ≡ Fresh) }
-        ensures fits { IfOk result (λ ts. (whole : T.Whole) (first : T.Load) (o : Posted) (h : List Event) → All (λ task. T.IsOf task whole) tasks.items → T.AreCut first (map T.load tasks.items) → (tasks_of T.meaning T.load T.AreCut T.IsOf T.cost T.runs whole first).fits ts o h) }
+        ensures fits { IfOk result (λ ts. (whole : T.Whole) (first : T.Load) (o : Posted) (h : List Event) → All (λ task. T.meaning.fits task o h) tasks.items → All (λ task. T.IsOf task whole) tasks.items → T.AreCut first (map T.load tasks.items) → (tasks_of T.meaning T.load T.AreCut T.IsOf T.cost T.runs whole first).fits ts o h) }
         ensures ready { IfOk result (λ ts. AreReady T.meaning T.runs ts) }
         ensures left { IfOk result (λ ts. (whole : T.Whole) (first : T.Load) (n : ℕ) → (tasks_of T.meaning T.load T.AreCut T.IsOf T.cost T.runs whole first).left ts n ≡ sum_by (λ task. T.meaning.left task n) tasks.items) }
         ensures bears { IfOk result (λ ts. (whole : T.Whole) (first : T.Load) (w : ℕ) → All (λ task. T.IsOf task whole) tasks.items → (tasks_of T.meaning T.load T.AreCut T.IsOf T.cost T.runs whole first).bears ts w) }

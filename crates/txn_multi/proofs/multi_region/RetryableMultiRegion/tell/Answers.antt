@@ -2,6 +2,7 @@ use Rattle.std.proofs.Common.{ap, subst, sym, ◌∙◌}
 use Rattle.txn_history.specs.Meaning.{Tells}
 use Rattle.txn_history.specs.Turn.{turn_of}
 use Rattle.txn_multi.specs.Multi.{multi, multi_phase}
+use Rattle.txn_multi.specs.Task.{attempts_left}
 use Rattle.txn_multi.specs.declared.multi_stage.MultiStage.{MultiStage}
 use Rattle.txn_multi.proofs.Multis.{idle_counted, idle_told, not_waiting, Goes-idle}
 use Rattle.txn_history.specs.Phase.{unheard, Awaited}
@@ -27,7 +28,7 @@ returns-in_default g c =
     let s = c.args.self.now in
     let at = c.replace.ensures.value in
     let same = c.stay.ensures.state ∙ ap (λ (x : MultiStage _ _ _). record s { stage = x }) at in
-    let none = λ (a : Awaited). not_waiting g.P.Plan.meaning g.P.Result.HasKeyErrors.key_errors_in g.P.Result.HasRegionError.region_error_in g.P.Shardable.IsPart g.P.Shardable.load g.P.Shardable.AreCut g.P.RegionPlan.most s.inner s.stage s.tasks a (λ cut e. c.in_default.not-Cutting cut (c.replace.ensures.value ∙ e)) (λ e. c.in_default.not-Running (c.replace.ensures.value ∙ e)) in
+    let none = λ (a : Awaited). not_waiting g.P.Plan.meaning g.P.Result.HasKeyErrors.key_errors_in g.P.Result.HasRegionError.region_error_in g.P.Shardable.IsPart g.P.Shardable.load g.P.Shardable.AreCut g.P.RegionPlan.most s.inner (attempts_left s.backoff) s.stage s.tasks a (λ cut e. c.in_default.not-Cutting cut (c.replace.ensures.value ∙ e)) (λ e. c.in_default.not-Running (c.replace.ensures.value ∙ e)) in
     let turn = c.stay.ensures.turn ∙ ap (λ (x : MultiStage _ _ _). unheard (multi_phase x)) at in
     record {
       tells = λ r. idle_told g.P.Plan.meaning g.P.Result.HasKeyErrors.key_errors_in g.P.Result.HasRegionError.region_error_in g.P.Shardable.IsPart g.P.Shardable.load g.P.Shardable.AreCut g.P.RegionPlan.most g.met.P.Plan.lawful s c.stay.new.self same (λ a heard. none a) turn;

@@ -10,6 +10,7 @@ use Rattle.txn_multi.proofs.Retrying.{still_running}
 use Rattle.txn_multi.proofs.Touchings.{after_kept}
 use Rattle.txn_multi.specs.Touching.{TasksTouch, TaskTouches, UnlessGone}
 use Rattle.txn_plan.specs.Touch.{touch}
+use Rattle.txn_multi.specs.Task.{attempts_left}
 use Rattle.txn_multi.proofs.multi_region.RetryableMultiRegion.tell_tasks.Goals as goal
 use Rattle.txn_plan.specs.Arrivals.{awaited_as, locked_told, tells_error, tells_failure, told_by, weight_told}
 use Rattle.txn_tasks.specs.Tasks.{tasks_turn, LeadsSomewhere}
@@ -21,7 +22,7 @@ returns-clause-tells g c r =
     let stands = rw c.in-Some.is at c.requires.tasks in
     subst (λ (x : RetryableMultiRegion _ _ _). Tells (multi g.P.Plan.meaning g.P.Result.HasKeyErrors.key_errors_in g.P.Result.HasRegionError.region_error_in g.P.Shardable.IsPart g.P.Shardable.load g.P.Shardable.AreCut g.P.RegionPlan.most) (told_by c.args.arrival c.args.out.now r) (record s { stage = stage.Running }) x c.args.out.now c.tell-turn.new.out (turn_of c.after_tasks.result)) (sym c.after_tasks.ensures.state)
     (tasks_told g.P.Plan.meaning g.P.Result.HasKeyErrors.key_errors_in g.P.Result.HasRegionError.region_error_in g.P.Shardable.IsPart g.P.Shardable.load g.P.Shardable.AreCut g.P.RegionPlan.most (record s { stage = stage.Running }) c.in-Some.tasks c.tell-turn.new.tasks c.after_tasks.new.self.stage s.width (tasks_turn c.tell-turn.result)
-    (λ h f. let held = rw c.in-Some.is at f in held.0) (λ a w. rw c.in-Some.is w) (λ e. still_running stands.1 (rw e at c.tell-turn.ensures.goes)) c.after_tasks.ensures.after (c.tell-turn.ensures.tells s.inner r))
+    (λ h f. let held = rw c.in-Some.is at f in held.0) (λ a w. rw c.in-Some.is w) (λ e. still_running stands.1 (rw e at c.tell-turn.ensures.goes)) c.after_tasks.ensures.after (c.tell-turn.ensures.tells s.inner (attempts_left s.backoff) r))
 
 pub returns-clause-goes : goal.returns-clause-goes
 returns-clause-goes g c =
@@ -35,14 +36,14 @@ returns-clause-counts g c =
     let s = c.args.self.now in
     subst (λ (x : RetryableMultiRegion _ _ _). Counts (multi g.P.Plan.meaning g.P.Result.HasKeyErrors.key_errors_in g.P.Result.HasRegionError.region_error_in g.P.Shardable.IsPart g.P.Shardable.load g.P.Shardable.AreCut g.P.RegionPlan.most) (tells_error c.args.arrival) (tells_failure c.args.arrival) (weight_told c.args.arrival) (locked_told c.args.arrival) (record s { stage = stage.Running }) x c.args.out.now c.tell-turn.new.out (turn_of c.after_tasks.result)) (sym c.after_tasks.ensures.state)
     (tasks_counted g.P.Plan.meaning g.P.Result.HasKeyErrors.key_errors_in g.P.Result.HasRegionError.region_error_in g.P.Shardable.IsPart g.P.Shardable.load g.P.Shardable.AreCut g.P.RegionPlan.most (record s { stage = stage.Running }) c.in-Some.tasks c.tell-turn.new.tasks c.after_tasks.new.self.stage s.width (tasks_turn c.tell-turn.result)
-    (le_refl _) (rw c.in-Some.is (le_refl _)) (λ w b. rw c.in-Some.is at b) (λ n l. rw c.in-Some.is (le_refl _)) c.after_tasks.ensures.after (c.tell-turn.ensures.counts s.inner))
+    (le_refl _) (rw c.in-Some.is (le_refl _)) (λ w b. rw c.in-Some.is at b) (λ n l. rw c.in-Some.is (le_refl _)) c.after_tasks.ensures.after (c.tell-turn.ensures.counts s.inner (attempts_left s.backoff)))
 
 pub returns-clause-ready : goal.returns-clause-ready
 returns-clause-ready g c =
     let s = c.args.self.now in
     let stands = rw c.in-Some.is at c.requires.tasks in
     subst (λ (x : RetryableMultiRegion _ _ _). (multi g.P.Plan.meaning g.P.Result.HasKeyErrors.key_errors_in g.P.Result.HasRegionError.region_error_in g.P.Shardable.IsPart g.P.Shardable.load g.P.Shardable.AreCut g.P.RegionPlan.most).ready x) (sym c.after_tasks.ensures.state)
-    (c.requires.inner, ready_after g.P.Plan.meaning g.P.Result.HasKeyErrors.key_errors_in g.P.Result.HasRegionError.region_error_in g.P.Shardable.IsPart g.P.Shardable.load g.P.Shardable.AreCut g.P.RegionPlan.most s.inner s.preserve_region_results c.tell-turn.new.tasks c.after_tasks.new.self.stage (tasks_turn c.tell-turn.result) (turn_of c.after_tasks.result) c.after_tasks.ensures.after (λ e. still_running stands.1 (rw e at c.tell-turn.ensures.goes)) c.tell-turn.ensures.ready)
+    (c.requires.inner, ready_after g.P.Plan.meaning g.P.Result.HasKeyErrors.key_errors_in g.P.Result.HasRegionError.region_error_in g.P.Shardable.IsPart g.P.Shardable.load g.P.Shardable.AreCut g.P.RegionPlan.most s.inner (attempts_left s.backoff) s.preserve_region_results c.tell-turn.new.tasks c.after_tasks.new.self.stage (tasks_turn c.tell-turn.result) (turn_of c.after_tasks.result) c.after_tasks.ensures.after (λ e. still_running stands.1 (rw e at c.tell-turn.ensures.goes)) c.tell-turn.ensures.ready)
 
 pub returns-clause-client : goal.returns-clause-client
 returns-clause-client g c r =

@@ -4,10 +4,10 @@ use Rattle.txn_multi.proofs.Retrying.{begun_running, over_off_search, over_on_se
 use Rattle.txn_multi.proofs.task.RegionTask.cut.Goals as goal
 
 pub returns-in_err-job-clause-over : goal.returns-in_err-job-clause-over
-returns-in_err-job-clause-over g c = Over-stopped _ _ _ _ _ _ _ g.met.P.Plan.lawful c.args.self.now c.args.self.now refl refl c.requires.stopped (step_stopped c.from_residual.result c.from_residual.ensures.0)
+returns-in_err-job-clause-over g c = Over-stopped _ _ _ _ _ _ _ g.met.P.Plan.lawful c.args.self.now c.args.self.now refl refl refl c.requires.stopped (step_stopped c.from_residual.result c.from_residual.ensures.0)
 
 pub returns-in_err-start-clause-over : goal.returns-in_err-start-clause-over
-returns-in_err-start-clause-over g c = over_off_search _ _ _ _ _ _ _ g.met.P.Plan.lawful c.args.self.now c.args.self.now c.new-cutting.result c.start.new.self c.new-cutting.ensures.unbegun refl refl c.requires.stopped (step_stopped c.from_residual-in_err-start.result c.from_residual-in_err-start.ensures.0) c.in_err-start.ensures.tells
+returns-in_err-start-clause-over g c = over_off_search _ _ _ _ _ _ _ g.met.P.Plan.lawful c.args.self.now c.args.self.now c.new-cutting.result c.start.new.self c.new-cutting.ensures.unbegun refl refl refl c.requires.stopped (step_stopped c.from_residual-in_err-start.result c.from_residual-in_err-start.ensures.0) c.in_err-start.ensures.tells
 
 pub returns-in_err-start-clause-costs : goal.returns-in_err-start-clause-costs
 returns-in_err-start-clause-costs g c = costs_off_search _ _ _ _ _ _ _ c.args.self.now c.args.self.now c.new-cutting.result c.start.new.self refl refl (step_stopped c.from_residual-in_err-start.result c.from_residual-in_err-start.ensures.0) c.in_err-start.ensures.counts

@@ -4,7 +4,7 @@ use Rattle.txn_multi.proofs.Retrying.{on_ok, step_stopped, Over-before, Over-sto
 use Rattle.txn_multi.proofs.task.RegionTask.heed.Goals as goal
 
 pub returns-in_err-change-clause-over : goal.returns-in_err-change-clause-over
-returns-in_err-change-clause-over g c = Over-stopped _ _ _ _ _ _ _ g.met.P.Plan.lawful c.args.self.now c.args.self.now refl refl c.requires.stopped (step_stopped c.from_residual.result c.from_residual.ensures.0)
+returns-in_err-change-clause-over g c = Over-stopped _ _ _ _ _ _ _ g.met.P.Plan.lawful c.args.self.now c.args.self.now refl refl refl c.requires.stopped (step_stopped c.from_residual.result c.from_residual.ensures.0)
 
 pub returns-in-AtOnce-clause-over : goal.returns-in-AtOnce-clause-over
 returns-in-AtOnce-clause-over g c = Over-before (λ h f. rw c.in-AtOnce.is at f) c.cut.ensures.over

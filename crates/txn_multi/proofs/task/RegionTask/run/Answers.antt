@@ -11,7 +11,7 @@ use Rattle.txn_multi.proofs.task.RegionTask.run.Goals as goal
 pub returns-in_err-start-clause-tells : goal.returns-in_err-start-clause-tells
 returns-in_err-start-clause-tells g c =
     let copy : c.in_ok-plan.plan ≡ c.args.self.now.job = c.in_ok-plan.ensures in
-    tells_off_start _ _ _ _ _ _ _ g.met.P.Plan.lawful c.args.self.now c.args.self.now c.start.new.self c.requires.job.unbegun refl refl c.requires.stopped (step_stopped c.from_residual-in_err-start.result c.from_residual-in_err-start.ensures.0) (rw copy at c.in_err-start.ensures.tells)
+    tells_off_start _ _ _ _ _ _ _ g.met.P.Plan.lawful c.args.self.now c.args.self.now c.start.new.self c.requires.job.unbegun refl refl refl c.requires.stopped (step_stopped c.from_residual-in_err-start.result c.from_residual-in_err-start.ensures.0) (rw copy at c.in_err-start.ensures.tells)
 
 pub returns-in_err-start-clause-counts : goal.returns-in_err-start-clause-counts
 returns-in_err-start-clause-counts g c =
@@ -32,7 +32,7 @@ returns-in-Waiting-clause-counts g c =
 pub returns-in-Done-clause-tells : goal.returns-in-Done-clause-tells
 returns-in-Done-clause-tells g c =
     let copy : c.in_ok-plan.plan ≡ c.args.self.now.job = c.in_ok-plan.ensures in
-    tells_over_start _ _ _ _ _ _ _ g.met.P.Plan.lawful c.args.self.now c.start.new.self c.requires.job.unbegun (rw (copy, c.in-Done.is) at c.in_ok-start.ensures.tells) c.take_answer.ensures.over
+    tells_over_start _ _ _ _ _ _ _ g.met.P.Plan.lawful c.args.self.now c.start.new.self c.requires.job.unbegun (rw (copy, c.in-Done.is) at c.in_ok-start.ensures.counts) (rw (copy, c.in-Done.is) at c.in_ok-start.ensures.tells) c.take_answer.ensures.over
 
 pub returns-in-Done-clause-counts : goal.returns-in-Done-clause-counts
 returns-in-Done-clause-counts g c =

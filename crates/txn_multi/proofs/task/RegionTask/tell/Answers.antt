@@ -20,7 +20,7 @@ pub returns-in-Running-clause-counts : goal.returns-in-Running-clause-counts
 returns-in-Running-clause-counts g c = counts_at _ _ _ _ _ _ _ c.args.self.now (stage.Running c.in-Running.plan) (sym c.replace.ensures.value ∙ c.in-Running.is) c.tell_plan.ensures.counts
 
 pub returns-in-Running-clause-keeps : goal.returns-in-Running-clause-keeps
-returns-in-Running-clause-keeps g c = keeps_at _ _ _ _ _ _ _ c.args.self.now _ _ refl c.tell_plan.ensures.keeps
+returns-in-Running-clause-keeps g c = keeps_at _ _ _ _ _ _ _ c.args.self.now _ _ refl refl c.tell_plan.ensures.keeps
 
 pub returns-in-Sleeping-clause-tells : goal.returns-in-Sleeping-clause-tells
 returns-in-Sleeping-clause-tells g c r = tells_at _ _ _ _ _ _ _ c.args.self.now (stage.Sleeping c.in-Sleeping.number) (sym c.replace.ensures.value ∙ c.in-Sleeping.is) (c.tell_sleeping.ensures.tells r)
@@ -32,7 +32,7 @@ pub returns-in-Sleeping-clause-counts : goal.returns-in-Sleeping-clause-counts
 returns-in-Sleeping-clause-counts g c = counts_at _ _ _ _ _ _ _ c.args.self.now (stage.Sleeping c.in-Sleeping.number) (sym c.replace.ensures.value ∙ c.in-Sleeping.is) c.tell_sleeping.ensures.counts
 
 pub returns-in-Sleeping-clause-keeps : goal.returns-in-Sleeping-clause-keeps
-returns-in-Sleeping-clause-keeps g c = keeps_at _ _ _ _ _ _ _ c.args.self.now _ _ refl c.tell_sleeping.ensures.keeps
+returns-in-Sleeping-clause-keeps g c = keeps_at _ _ _ _ _ _ _ c.args.self.now _ _ refl refl c.tell_sleeping.ensures.keeps
 
 pub returns-in-Cutting-clause-tells : goal.returns-in-Cutting-clause-tells
 returns-in-Cutting-clause-tells g c r = tells_at _ _ _ _ _ _ _ c.args.self.now (stage.Cutting c.in-Cutting.cutting) (sym c.replace.ensures.value ∙ c.in-Cutting.is) (c.tell_cutting.ensures.tells r)
@@ -44,7 +44,7 @@ pub returns-in-Cutting-clause-counts : goal.returns-in-Cutting-clause-counts
 returns-in-Cutting-clause-counts g c = counts_at _ _ _ _ _ _ _ c.args.self.now (stage.Cutting c.in-Cutting.cutting) (sym c.replace.ensures.value ∙ c.in-Cutting.is) c.tell_cutting.ensures.counts
 
 pub returns-in-Cutting-clause-keeps : goal.returns-in-Cutting-clause-keeps
-returns-in-Cutting-clause-keeps g c = keeps_at _ _ _ _ _ _ _ c.args.self.now _ _ refl c.tell_cutting.ensures.keeps
+returns-in-Cutting-clause-keeps g c = keeps_at _ _ _ _ _ _ _ c.args.self.now _ _ refl refl c.tell_cutting.ensures.keeps
 
 pub returns-in_default-clause-tells : goal.returns-in_default-clause-tells
 returns-in_default-clause-tells g c r =

@@ -7,7 +7,7 @@ use Rattle.txn_multi.proofs.Touchings.{unless_all}
 use Rattle.txn_multi.proofs.task.RegionTask.tell_cutting.Goals as goal
 
 pub returns-in_err-tell_cutting-clause-tells : goal.returns-in_err-tell_cutting-clause-tells
-returns-in_err-tell_cutting-clause-tells g c r = tells_off_search _ _ _ _ _ _ _ g.met.P.Plan.lawful c.args.self.now c.args.self.now c.args.cutting c.tell_cutting.new.search refl refl c.requires.stopped (step_stopped c.from_residual.result c.from_residual.ensures.0) (c.in_err-tell_cutting.ensures.tells r)
+returns-in_err-tell_cutting-clause-tells g c r = tells_off_search _ _ _ _ _ _ _ g.met.P.Plan.lawful c.args.self.now c.args.self.now c.args.cutting c.tell_cutting.new.search refl refl refl c.requires.stopped (step_stopped c.from_residual.result c.from_residual.ensures.0) (c.in_err-tell_cutting.ensures.tells r)
 
 pub returns-in_err-tell_cutting-clause-goes : goal.returns-in_err-tell_cutting-clause-goes
 returns-in_err-tell_cutting-clause-goes g c = Goes-over Stopped (λ e. cc) c.requires.running c.in_err-tell_cutting.ensures.goes (rw (c.requires.stopped, step_stopped c.from_residual.result c.from_residual.ensures.0) refl)

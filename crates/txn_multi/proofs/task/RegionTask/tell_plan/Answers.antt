@@ -13,7 +13,7 @@ use Rattle.txn_retry.specs.Remedy.{delay_ms}
 use Rattle.txn_multi.proofs.task.RegionTask.tell_plan.Goals as goal
 
 pub returns-in_err-tell-clause-tells : goal.returns-in_err-tell-clause-tells
-returns-in_err-tell-clause-tells g c r = tells_off_plan _ _ _ _ _ _ _ g.met.P.Plan.lawful c.args.self.now c.args.self.now c.args.plan c.tell.new.plan c.requires.plan refl refl c.requires.stopped (step_stopped c.from_residual.result c.from_residual.ensures.0) (c.in_err-tell.ensures.tells r)
+returns-in_err-tell-clause-tells g c r = tells_off_plan _ _ _ _ _ _ _ g.met.P.Plan.lawful c.args.self.now c.args.self.now c.args.plan c.tell.new.plan c.requires.plan refl refl refl c.requires.stopped (step_stopped c.from_residual.result c.from_residual.ensures.0) (c.in_err-tell.ensures.tells r)
 
 pub returns-in_err-tell-clause-goes : goal.returns-in_err-tell-clause-goes
 returns-in_err-tell-clause-goes g c = Goes-over Stopped (λ e. cc) c.requires.plan.phase c.in_err-tell.ensures.goes (rw (c.requires.stopped, step_stopped c.from_residual.result c.from_residual.ensures.0) refl)
@@ -42,7 +42,7 @@ returns-in-Waiting-clause-ready g c = record {
 }
 
 pub returns-in-Done-clause-tells : goal.returns-in-Done-clause-tells
-returns-in-Done-clause-tells g c r = tells_over_plan _ _ _ _ _ _ _ g.met.P.Plan.lawful c.args.self.now c.args.plan c.tell.new.plan c.requires.plan (rw c.in-Done.is at (c.in_ok-tell.ensures.tells r)) c.take_answer.ensures.over
+returns-in-Done-clause-tells g c r = tells_over_plan _ _ _ _ _ _ _ g.met.P.Plan.lawful c.args.arrival r c.args.self.now c.args.plan c.tell.new.plan c.requires.plan (rw c.in-Done.is at c.in_ok-tell.ensures.goes) (rw c.in-Done.is at c.in_ok-tell.ensures.counts) (rw c.in-Done.is at (c.in_ok-tell.ensures.tells r)) c.take_answer.ensures.over
 
 pub returns-in-Done-clause-goes : goal.returns-in-Done-clause-goes
 returns-in-Done-clause-goes g c = Goes-over (Ends c.in-Done.answer) (λ e. cc) c.requires.plan.phase (rw c.in-Done.is at c.in_ok-tell.ensures.goes) c.take_answer.ensures.over.next

@@ -56,7 +56,7 @@ go_on-requires-clause-posted g c =
     omega (arith, c.len-posted.ensures, c.out.inside.sends.ok.0, view, Tells-posts c.take_time-step.ensures.tells)
 
 pub go_on-requires-clause-fresh : goal.go_on-requires-clause-fresh
-go_on-requires-clause-fresh g c = parts_fresh g.T.Task.load g.T.Task.AreCut g.T.Task.IsOf g.T.Task.meaning c.index_mut.result.now c.take_time-step.result c.take_time-step.ensures.keeps.stands
+go_on-requires-clause-fresh g c = parts_fresh g.T.Task.load g.T.Task.AreCut g.T.Task.IsOf g.T.Task.meaning c.index_mut.result.now c.take_time-step.new.self c.take_time-step.result c.take_time-step.ensures.keeps.stands
 
 pub returns-clause-tells : goal.returns-clause-tells
 returns-clause-tells g c whole first =
