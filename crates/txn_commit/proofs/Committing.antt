@@ -131,8 +131,8 @@ named_of plan s c t h same k d w = let n = k.named d w in sym n.2 ∙ same n.0 n
 module _ {P Q K A B D : Type 0} where
   -- where the commit stands, the stage in its place
   pub at_stage : (w : Ways P Q K A B D) (call : CommitterCall P Q K) (g : Stage P Q K) (c : Commits) (o : Posted) (h : List Event)
-      → call.stage ≡ g → CommitterFits w call c o h → IsAt w (version_of call.start) call.parts g c o h
-  at_stage w call g c o h e f = subst (λ x. IsAt w (version_of call.start) call.parts x c o h) e f.at
+      → call.stage ≡ g → CommitterFits w call c o h → IsAt w call.retry_options (version_of call.start) call.parts g c o h
+  at_stage w call g c o h e f = subst (λ x. IsAt w call.retry_options (version_of call.start) call.parts x c o h) e f.at
 
   pub prewriting_on : (w : Ways P Q K A B D) (call : CommitterCall P Q K) (p p' : P) (c : Commits) (told : Told) (o o' : Posted) (turn : Turn (Result A Error))
       → call.stage ≡ stage.Prewriting p
@@ -140,7 +140,7 @@ module _ {P Q K A B D : Type 0} where
       → Moves (w.prewriting.asks p) (λ h. w.prewriting.fits p o h × told.known h) (w.prewriting.fits p' o') (w.prewriting.gives p) told.hear o o' turn
       → SameJob w.prewriting.asks w.prewriting.gives p' p
       → Moves (MaySend (plan_of call.parts) (version_of call.start)) (λ h. CommitterFits w call c o h × told.known h) (CommitterFits w (record call { stage = stage.Prewriting p' }) c o')
-      (Says w.unwritten (ArePrewritten (version_of call.start) call.parts.mutations)) told.hear o o' turn
+      (Says (w.unwritten call.retry_options) (ArePrewritten (version_of call.start) call.parts.mutations)) told.hear o o' turn
   prewriting_on w call p p' c told o o' turn e hears m j =
       lift (Throughout plan s c (λ k. WasGiven k s))
       (λ h u k r i a. prewrite_may s call.parts k r u.0.formed ((at h u).way.asks k r a))
@@ -157,7 +157,7 @@ module _ {P Q K A B D : Type 0} where
       plan : Plan
       plan = plan_of call.parts
 
-      at : (h : List Event) → CommitterFits w call c o h × told.known h → IsPrewriting w.prewriting w.unwritten (version_of call.start) call.parts p c o h
+      at : (h : List Event) → CommitterFits w call c o h × told.known h → IsPrewriting w.prewriting (w.unwritten call.retry_options) (version_of call.start) call.parts p c o h
       at h u = at_stage w call (stage.Prewriting p) c o h e u.0
 
   pub rolling_on : (w : Ways P Q K A B D) (call : CommitterCall P Q K) (k k' : K) (c : Commits) (told : Told) (o o' : Posted) (turn : Turn (Result D Error))
@@ -166,7 +166,7 @@ module _ {P Q K A B D : Type 0} where
       → Moves (w.rolling.asks k) (λ h. w.rolling.fits k o h × told.known h) (w.rolling.fits k' o') (w.rolling.gives k) told.hear o o' turn
       → SameJob w.rolling.asks w.rolling.gives k' k
       → Moves (MaySend (plan_of call.parts) (version_of call.start)) (λ h. CommitterFits w call c o h × told.known h) (CommitterFits w (record call { stage = stage.RollingBackPrimary k' }) c o')
-      (Says w.unrolled (AreRolledBack (version_of call.start) (call.parts.primary ∷ []))) told.hear o o' turn
+      (Says (w.unrolled call.retry_options) (AreRolledBack (version_of call.start) (call.parts.primary ∷ []))) told.hear o o' turn
   rolling_on w call k k' c told o o' turn e hears m j =
       lift (Throughout plan s c (PrimaryFirst plan s keys))
       (λ h u x r i a. rollback_may plan s keys c x r (at h u).settled i ((at h u).way.asks x r a))
@@ -186,7 +186,7 @@ module _ {P Q K A B D : Type 0} where
       keys : List Key
       keys = call.parts.primary ∷ []
 
-      at : (h : List Event) → CommitterFits w call c o h × told.known h → IsRollingBack w.rolling w.unrolled (version_of call.start) call.parts (call.parts.primary ∷ []) k c o h
+      at : (h : List Event) → CommitterFits w call c o h × told.known h → IsRollingBack w.rolling (w.unrolled call.retry_options) (version_of call.start) call.parts (call.parts.primary ∷ []) k c o h
       at h u = at_stage w call (stage.RollingBackPrimary k) c o h e u.0
 
   pub rolling_others_on : (w : Ways P Q K A B D) (call : CommitterCall P Q K) (k k' : K) (c : Commits) (told : Told) (o o' : Posted) (turn : Turn (Result D Error))
@@ -195,7 +195,7 @@ module _ {P Q K A B D : Type 0} where
       → Moves (w.rolling.asks k) (λ h. w.rolling.fits k o h × told.known h) (w.rolling.fits k' o') (w.rolling.gives k) told.hear o o' turn
       → SameJob w.rolling.asks w.rolling.gives k' k
       → Moves (MaySend (plan_of call.parts) (version_of call.start)) (λ h. CommitterFits w call c o h × told.known h) (CommitterFits w (record call { stage = stage.RollingBackOthers k' }) c o')
-      (Says w.unrolled (AreRolledBack (version_of call.start) call.parts.secondaries)) told.hear o o' turn
+      (Says (w.unrolled call.retry_options) (AreRolledBack (version_of call.start) call.parts.secondaries)) told.hear o o' turn
   rolling_others_on w call k k' c told o o' turn e hears m j =
       lift (Throughout plan s c fact)
       (λ h u x r i a. rollback_may plan s keys c x r (at h u).0.settled (record { knows = i.knows; also = i.also.0 }) ((at h u).0.way.asks x r a))
@@ -221,7 +221,7 @@ module _ {P Q K A B D : Type 0} where
       fact_longer : (x y : List Event) → Within x y → fact x → fact y
       fact_longer x y l f = (first_longer plan s keys x y l f.0, rolled_longer plan s x y l f.1)
 
-      at : (h : List Event) → CommitterFits w call c o h × told.known h → IsRollingBack w.rolling w.unrolled (version_of call.start) call.parts call.parts.secondaries k c o h × PrimaryRolledBack (plan_of call.parts) h (version_of call.start)
+      at : (h : List Event) → CommitterFits w call c o h × told.known h → IsRollingBack w.rolling (w.unrolled call.retry_options) (version_of call.start) call.parts call.parts.secondaries k c o h × PrimaryRolledBack (plan_of call.parts) h (version_of call.start)
       at h u = at_stage w call (stage.RollingBackOthers k) c o h e u.0
 
   pub committing_on : (w : Ways P Q K A B D) (call : CommitterCall P Q K) (q q' : Q) (t : Timestamp) (c d : Commits) (told : Told) (o o' : Posted) (turn : Turn (Result B Error))
@@ -232,7 +232,7 @@ module _ {P Q K A B D : Type 0} where
       → (m : Moves (w.committing.asks q) (λ h. w.committing.fits q o h × told.known h) (w.committing.fits q' o') (w.committing.gives q) told.hear o o' turn)
       → SameJob w.committing.asks w.committing.gives q' q
       → Moves (MaySend (plan_of call.parts) (version_of call.start)) (λ h. CommitterFits w call c o h × told.known h) (CommitterFits w (record call { stage = stage.Committing q' t }) (sent o.line o.beat m.sends t d) o')
-      (Says w.uncommitted (AreCommitted (version_of call.start) (version_of t) (call.parts.primary ∷ []))) told.hear o o' turn
+      (Says (w.uncommitted call.retry_options) (AreCommitted (version_of call.start) (version_of t) (call.parts.primary ∷ []))) told.hear o o' turn
   committing_on w call q q' t c d told o o' turn e hears heard_so time m j =
       lift (Committable plan s (version_of t))
       (λ h u x r i a. commit_part_may plan s (version_of t) x r i ((at h u).way.asks x r a))
@@ -254,7 +254,7 @@ module _ {P Q K A B D : Type 0} where
       plan : Plan
       plan = plan_of call.parts
 
-      at : (h : List Event) → CommitterFits w call c o h × told.known h → IsCommitting w.committing w.uncommitted (version_of call.start) call.parts q t c o h
+      at : (h : List Event) → CommitterFits w call c o h × told.known h → IsCommitting w.committing (w.uncommitted call.retry_options) (version_of call.start) call.parts q t c o h
       at h u = at_stage w call (stage.Committing q t) c o h e u.0
 
       same : (h : List Event) → CommitterFits w call c o h × told.known h → IsSameTime d t

@@ -1,5 +1,5 @@
 -- What the plans of a commit or a rollback post is counted as that of the whole.
-use Rattle.std.proofs.Common.{◌≡◌, ◌≤◌, ℕ, ◌+◌, Bool, true, false, [], ◌∷◌, refl, sym, ap, subst, ◌∙◌, arith, max, length}
+use Rattle.std.proofs.Common.{◌≡◌, ◌≤◌, ℕ, ◌+◌, Bool, true, false, List, [], ◌∷◌, refl, sym, ap, subst, ◌∙◌, arith, max, length}
 use Rattle.std.proofs.Math.Nat.{le-add_left, le-max_left, le-max_right, le_refl, le_trans, max-le}
 use Rattle.std.proofs.lemmas.Bool.{false≢true}
 use Rattle.std.specs.Prelude.{⊤, Result, Ok}
@@ -14,6 +14,7 @@ use Rattle.txn_kv.specs.declared.request.Request.TheVariants.{BatchRollback, Com
 use Rattle.txn_kv.specs.declared.timestamp.Timestamp.{Timestamp}
 use Rattle.txn_history.proofs.Counting.{zero-right, Spends-map, Spends-next, Spends-quiet, Spends-stops}
 use Rattle.txn_history.proofs.Telling.{region_error_is_error}
+use Rattle.txn_history.specs.Event.{Event}
 use Rattle.txn_history.specs.Meaning.{Counts, IsUnbegun, Meaning}
 use Rattle.txn_history.specs.Posted.{Posted}
 use Rattle.txn_history.specs.Spends.{Spends}
@@ -191,37 +192,37 @@ module _ {P Q K A B D : Type 0} (w : Ways P Q K A B D) (costs : Costs) where
 
   -- Each stage begins.
 
-  pub prewriting_starts : (old mid : CommitterCall P Q K) (request : PrewriteRequest) (p p' : P) {from via : Posted} {turn : Turn (Result A Error)}
+  pub prewriting_starts : (old mid : CommitterCall P Q K) (request : PrewriteRequest) (p p' : P) {refuses : List Event → Error → Type 0} {from via : Posted} {turn : Turn (Result A Error)}
       → mid ≡ record old { stage = stage.Prewriting p'; width = mid.width } → call_width w old ≤ mid.width
       → request.mutations ≡ old.parts.mutations
-      → IsPlanFor w.prewriting w.unwritten costs.prewrites (Prewrite request) p
+      → IsPlanFor w.prewriting refuses costs.prewrites (Prewrite request) p
       → Counts w.prewriting false false 0 0 p p' from via turn
       → Part (λ x. ⊤) (commit_costs costs old.parts) (commit_costs costs old.parts) false false 0 0 old mid from via (is_kept turn) (failing w.prewriting.fails turn)
   prewriting_starts old mid request p p' e wide same x c =
       start_counts w.prewriting (ask_costs costs) (commit_costs costs old.parts) old mid (stage.Prewriting p') p p' e wide x.unbegun (λ n. let l = x.light n in let k : costs.prewrites (length request.mutations) n ≡ costs.prewrites (length old.parts.mutations) n = ap (λ ms. costs.prewrites (length ms) n) same in omega arith) (λ n. refl) (λ n. refl) (λ y b. b) refl c
 
-  pub committing_starts : (old mid : CommitterCall P Q K) (request : CommitRequest) (time : Timestamp) (q q' : Q) {from via : Posted} {turn : Turn (Result B Error)}
+  pub committing_starts : (old mid : CommitterCall P Q K) (request : CommitRequest) (time : Timestamp) (q q' : Q) {refuses : List Event → Error → Type 0} {from via : Posted} {turn : Turn (Result B Error)}
       → mid ≡ record old { stage = stage.Committing q' time; width = mid.width } → call_width w old ≤ mid.width
       → request.keys ≡ old.parts.primary ∷ []
-      → IsPlanFor w.committing w.uncommitted costs.commits (Commit request) q
+      → IsPlanFor w.committing refuses costs.commits (Commit request) q
       → Counts w.committing false false 0 0 q q' from via turn
       → Part (λ x. ⊤) (commit_again_costs costs) (commit_again_costs costs) false false 0 0 old mid from via (is_kept turn) (failing w.committing.fails turn)
   committing_starts old mid request time q q' e wide same x c =
       start_counts w.committing (λ n. 0) (commit_again_costs costs) old mid (stage.Committing q' time) q q' e wide x.unbegun (λ n. let l = x.light n in let k : costs.commits (length request.keys) n ≡ costs.commits 1 n = ap (λ ks. costs.commits (length ks) n) same in omega arith) (λ n. sym (zero-right _)) (λ n. sym (zero-right _)) (λ y b. b) refl c
 
-  pub rolling_starts : (old mid : CommitterCall P Q K) (request : BatchRollbackRequest) (p p' : K) {from via : Posted} {turn : Turn (Result D Error)}
+  pub rolling_starts : (old mid : CommitterCall P Q K) (request : BatchRollbackRequest) (p p' : K) {refuses : List Event → Error → Type 0} {from via : Posted} {turn : Turn (Result D Error)}
       → mid ≡ record old { stage = stage.RollingBackPrimary p'; width = mid.width } → call_width w old ≤ mid.width
       → request.keys ≡ old.parts.primary ∷ []
-      → IsPlanFor w.rolling w.unrolled costs.rollbacks (BatchRollback request) p
+      → IsPlanFor w.rolling refuses costs.rollbacks (BatchRollback request) p
       → Counts w.rolling false false 0 0 p p' from via turn
       → Part (λ x. ⊤) (rollback_costs costs old.parts) (rollback_costs costs old.parts) false false 0 0 old mid from via (is_kept turn) (failing w.rolling.fails turn)
   rolling_starts old mid request p p' e wide same x c =
       start_counts w.rolling (others_costs costs old.parts) (rollback_costs costs old.parts) old mid (stage.RollingBackPrimary p') p p' e wide x.unbegun (λ n. let l = x.light n in let k : costs.rollbacks (length request.keys) n ≡ costs.rollbacks 1 n = ap (λ ks. costs.rollbacks (length ks) n) same in omega arith) (λ n. refl) (λ n. refl) (λ y b. b) refl c
 
-  pub rolling_others_starts : (old mid : CommitterCall P Q K) (request : BatchRollbackRequest) (p p' : K) {from via : Posted} {turn : Turn (Result D Error)}
+  pub rolling_others_starts : (old mid : CommitterCall P Q K) (request : BatchRollbackRequest) (p p' : K) {refuses : List Event → Error → Type 0} {from via : Posted} {turn : Turn (Result D Error)}
       → mid ≡ record old { stage = stage.RollingBackOthers p'; width = mid.width } → call_width w old ≤ mid.width
       → request.keys ≡ old.parts.secondaries
-      → IsPlanFor w.rolling w.unrolled costs.rollbacks (BatchRollback request) p
+      → IsPlanFor w.rolling refuses costs.rollbacks (BatchRollback request) p
       → Counts w.rolling false false 0 0 p p' from via turn
       → Part (λ x. ⊤) (others_costs costs old.parts) (others_costs costs old.parts) false false 0 0 old mid from via (is_kept turn) (failing w.rolling.fails turn)
   rolling_others_starts old mid request p p' e wide same x c =

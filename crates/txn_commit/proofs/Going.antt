@@ -435,7 +435,7 @@ module _ {P Q K A B D : Type 0} (w : Ways P Q K A B D) (p : IsLawful w.prewritin
   pub call_waits : (call : CommitterCall P Q K) (c : Commits) (o : Posted) (h : List Event) → CommitterFits w call c o h → stage_phase w call.stage ≡ Running → (a : Awaited) × stage_waits w call.stage a
   call_waits call c o h f e = by call.stage f.at e
     where
-      by : (g : Stage P Q K) → IsAt w (version_of call.start) call.parts g c o h → stage_phase w g ≡ Running → (a : Awaited) × stage_waits w g a
+      by : (g : Stage P Q K) → IsAt w call.retry_options (version_of call.start) call.parts g c o h → stage_phase w g ≡ Running → (a : Awaited) × stage_waits w g a
       by (stage.Prewriting s) i e = p.waits s o h i.now e
       by (stage.Asking t) i e = time_asked-lawful.waits t o h i.now e
       by (stage.Committing s t) i e = q.waits s o h i.now e
@@ -447,7 +447,7 @@ module _ {P Q K A B D : Type 0} (w : Ways P Q K A B D) (p : IsLawful w.prewritin
   pub call_posted : (call : CommitterCall P Q K) (c : Commits) (o : Posted) (h : List Event) (a : Awaited) → CommitterFits w call c o h → stage_waits w call.stage a → WasPosted o h a
   call_posted call c o h a f x = by call.stage f.at x
     where
-      by : (g : Stage P Q K) → IsAt w (version_of call.start) call.parts g c o h → stage_waits w g a → WasPosted o h a
+      by : (g : Stage P Q K) → IsAt w call.retry_options (version_of call.start) call.parts g c o h → stage_waits w g a → WasPosted o h a
       by (stage.Prewriting s) i x = p.posted s o h a i.now x
       by (stage.Asking t) i x = time_asked-lawful.posted t o h a i.now x
       by (stage.Committing s t) i x = q.posted s o h a i.now x

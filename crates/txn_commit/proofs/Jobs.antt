@@ -22,6 +22,7 @@ use Rattle.txn_history.specs.Plan.{Key, has_key, Plan}
 use Rattle.txn_history.specs.Posted.{Posted, Within}
 use Rattle.txn_history.specs.Turn.{Turn, IfEnds, IfKept}
 use Rattle.txn_history.specs.Turn.Turn.{Stopped, Waits, Ends}
+use Rattle.txn_merge.specs.declared.retry_options.RetryOptions.{RetryOptions}
 use Rattle.txn_commit.specs.Jobs.{IsJobAt, IsOut, IsPlanned, JobFits, ReadsDone, job_phase, job_waits, others}
 use Rattle.txn_commit.specs.Plans.{AreCommitted, IsForeign, IsOfCommit, IsPlanFor, Says, committed_longer}
 use Rattle.txn_commit.specs.Sending.{MaySend, MaySendBehind, NamesNoPrimary}
@@ -75,17 +76,17 @@ read_after Waits turn' i = rw i refl
 read_after (Ends a) turn' i = rw i.1 refl
 
 module _ {Q B : Type 0} where
-  job_at : (m : Meaning Q (Result B Error)) (refuses : List Event → Error → Type 0) (plan : Plan) (keys : List Key) (job : SecondaryJob Q) (g : Stage Q) (o : Posted) (h : List Event)
-      → job.stage ≡ g → JobFits m refuses plan keys job o h → IsJobAt m refuses (version_of job.start) (version_of job.commit) keys job.keys g o h
-  job_at m refuses plan keys job g o h e f = subst (λ x. IsJobAt m refuses (version_of job.start) (version_of job.commit) keys job.keys x o h) e f.at
+  job_at : (m : Meaning Q (Result B Error)) (refuses : RetryOptions → List Event → Error → Type 0) (plan : Plan) (keys : List Key) (job : SecondaryJob Q) (g : Stage Q) (o : Posted) (h : List Event)
+      → job.stage ≡ g → JobFits m refuses plan keys job o h → IsJobAt m (refuses job.retry_options) (version_of job.start) (version_of job.commit) keys job.keys g o h
+  job_at m refuses plan keys job g o h e f = subst (λ x. IsJobAt m (refuses job.retry_options) (version_of job.start) (version_of job.commit) keys job.keys x o h) e f.at
 
-  pub job_on : (m : Meaning Q (Result B Error)) (refuses : List Event → Error → Type 0) (plan : Plan) (keys : List Key) (job : SecondaryJob Q) (q q' : Q) (told : Told) (o o' : Posted) (turn : Turn (Result B Error))
+  pub job_on : (m : Meaning Q (Result B Error)) (refuses : RetryOptions → List Event → Error → Type 0) (plan : Plan) (keys : List Key) (job : SecondaryJob Q) (q q' : Q) (told : Told) (o o' : Posted) (turn : Turn (Result B Error))
       → job.stage ≡ stage.Committing q
       → ((h : List Event) → Hears h (told.hear h))
       → Moves (m.asks q) (λ h. m.fits q o h × told.known h) (m.fits q' o') (m.gives q) told.hear o o' turn
       → SameJob m.asks m.gives q' q
       → Moves (MaySendBehind plan (version_of job.start)) (λ h. JobFits m refuses plan keys job o h × told.known h) (JobFits m refuses plan keys (record job { stage = stage.Committing q' }) o')
-      (Says refuses (AreCommitted (version_of job.start) (version_of job.commit) keys)) told.hear o o' turn
+      (Says (refuses job.retry_options) (AreCommitted (version_of job.start) (version_of job.commit) keys)) told.hear o o' turn
   job_on m refuses plan keys job q q' told o o' turn e hears x j =
       lift fact
       (λ h u k r i a. others_only plan s c keys k r u.0.apart i ((at h u).way.asks k r a))
@@ -108,13 +109,13 @@ module _ {Q B : Type 0} where
       longer : (h k : List Event) → Within h k → PrimaryCommitted plan h s c → PrimaryCommitted plan k s c
       longer = committed_longer plan s c
 
-      at : (h : List Event) → JobFits m refuses plan keys job o h × told.known h → IsOut m refuses (version_of job.start) (version_of job.commit) keys q o h
+      at : (h : List Event) → JobFits m refuses plan keys job o h × told.known h → IsOut m (refuses job.retry_options) (version_of job.start) (version_of job.commit) keys q o h
       at h u = job_at m refuses plan keys job (stage.Committing q) o h e u.0
 
-  pub job_begins : (m : Meaning Q (Result B Error)) (refuses : List Event → Error → Type 0) (costs : ℕ → ℕ → ℕ) (plan : Plan) (keys : List Key) (job : SecondaryJob Q) (kept : List Key) (q : Q) (o : Posted) (request : CommitRequest)
+  pub job_begins : (m : Meaning Q (Result B Error)) (refuses : RetryOptions → List Event → Error → Type 0) (costs : ℕ → ℕ → ℕ) (plan : Plan) (keys : List Key) (job : SecondaryJob Q) (kept : List Key) (q : Q) (o : Posted) (request : CommitRequest)
       → job.stage ≡ stage.Fresh
       → request.start_version ≡ version_of job.start → request.commit_version ≡ version_of job.commit → request.keys ≡ job.keys
-      → IsPlanFor m refuses costs (Commit request) q
+      → IsPlanFor m (refuses job.retry_options) costs (Commit request) q
       → (h : List Event) → JobFits m refuses plan keys job o h → JobFits m refuses plan keys (record job { keys = kept; stage = stage.Committing q }) o h
   job_begins m refuses costs plan keys job kept q o request d e f g x h u = record {
     apart = u.apart;
@@ -127,7 +128,7 @@ module _ {Q B : Type 0} where
 
   -- A call of its plan is a call of the job.
 
-  pub tells_on : (m : Meaning Q (Result B Error)) (refuses : List Event → Error → Type 0) (costs : ℕ → ℕ → ℕ) (plan : Plan) (keys : List Key) (job : SecondaryJob Q) (q q' : Q) (told : Told) (o o' : Posted)
+  pub tells_on : (m : Meaning Q (Result B Error)) (refuses : RetryOptions → List Event → Error → Type 0) (costs : ℕ → ℕ → ℕ) (plan : Plan) (keys : List Key) (job : SecondaryJob Q) (q q' : Q) (told : Told) (o o' : Posted)
       (turn : Turn (Result B Error)) (turn' : Turn (Result (Unit {0}) Error))
       → job.stage ≡ stage.Committing q
       → ((h : List Event) → Hears h (told.hear h))
@@ -136,8 +137,8 @@ module _ {Q B : Type 0} where
       → Tells (others m refuses costs plan keys) told job (record job { stage = stage.Committing q' }) o o' turn'
   tells_on m refuses costs plan keys job q q' told o o' turn turn' e hears i t = record {
     moves = Moves-after (job_on m refuses plan keys job q q' told o o' turn e hears t.moves t.job)
-        (read_still turn turn' (JobFits m refuses plan keys (record job { stage = stage.Committing q' }) o') (Says refuses (AreCommitted (version_of job.start) (version_of job.commit) keys)) i)
-        (read_done turn turn' (JobFits m refuses plan keys (record job { stage = stage.Committing q' }) o') refuses (AreCommitted (version_of job.start) (version_of job.commit) keys) i);
+        (read_still turn turn' (JobFits m refuses plan keys (record job { stage = stage.Committing q' }) o') (Says (refuses job.retry_options) (AreCommitted (version_of job.start) (version_of job.commit) keys)) i)
+        (read_done turn turn' (JobFits m refuses plan keys (record job { stage = stage.Committing q' }) o') (refuses job.retry_options) (AreCommitted (version_of job.start) (version_of job.commit) keys) i);
     job = record { asked = λ h r x. x; given = λ h v x. x; gave = λ h v x. x };
     expects = record { sends = t.expects.sends; pushed = t.expects.pushed; only = λ a w. subst (λ g. (job_waits m g a × (told.heard a → ⊥)) ⊎ IsPosted t.expects.sends a) (sym e) (t.expects.only a w) };
   }
@@ -157,7 +158,7 @@ module _ {Q B : Type 0} where
     next = λ this. t.next (is this) ∙ read_after turn turn' i;
   }
 
-  pub counts_on : (m : Meaning Q (Result B Error)) (refuses : List Event → Error → Type 0) (costs : ℕ → ℕ → ℕ) (plan : Plan) (keys : List Key) (job : SecondaryJob Q) (q q' : Q)
+  pub counts_on : (m : Meaning Q (Result B Error)) (refuses : RetryOptions → List Event → Error → Type 0) (costs : ℕ → ℕ → ℕ) (plan : Plan) (keys : List Key) (job : SecondaryJob Q) (q q' : Q)
       (bad fails : Bool) (weight locked : ℕ) (o o' : Posted) (turn : Turn (Result B Error)) (turn' : Turn (Result (Unit {0}) Error))
       → job.stage ≡ stage.Committing q
       → IsRead ReadsDone turn turn'
@@ -182,12 +183,12 @@ module _ {Q B : Type 0} where
 
   -- The job makes its plan, and starts it.
 
-  pub tells_no_plan : (m : Meaning Q (Result B Error)) (refuses : List Event → Error → Type 0) (costs : ℕ → ℕ → ℕ) (plan : Plan) (keys : List Key) (job mid : SecondaryJob Q) (o : Posted) (turn : Turn (Result (Unit {0}) Error))
+  pub tells_no_plan : (m : Meaning Q (Result B Error)) (refuses : RetryOptions → List Event → Error → Type 0) (costs : ℕ → ℕ → ℕ) (plan : Plan) (keys : List Key) (job mid : SecondaryJob Q) (o : Posted) (turn : Turn (Result (Unit {0}) Error))
       → turn ≡ Stopped → mid ≡ record job { keys = mid.keys; stage = stage.Stopped }
       → Tells (others m refuses costs plan keys) started job mid o o turn
   tells_no_plan m refuses costs plan keys job mid o turn e is = rw is (Tells-stopped e refl (record { asked = λ h r x. x; given = λ h v x. x; gave = λ h v x. x }) (λ a w. absurd w))
 
-  pub tells_planned : (m : Meaning Q (Result B Error)) (refuses : List Event → Error → Type 0) (costs : ℕ → ℕ → ℕ) (plan : Plan) (keys : List Key) (job mid new : SecondaryJob Q) (o o' : Posted) (turn : Turn (Result (Unit {0}) Error))
+  pub tells_planned : (m : Meaning Q (Result B Error)) (refuses : RetryOptions → List Event → Error → Type 0) (costs : ℕ → ℕ → ℕ) (plan : Plan) (keys : List Key) (job mid new : SecondaryJob Q) (o o' : Posted) (turn : Turn (Result (Unit {0}) Error))
       → job.stage ≡ stage.Fresh → IsLawful m → IsPlanned m refuses costs job mid
       → Tells (others m refuses costs plan keys) started mid new o o' turn
       → Tells (others m refuses costs plan keys) started job new o o' turn
@@ -205,7 +206,7 @@ module _ {Q B : Type 0} where
       never : (f : Phase) → f ≡ Fresh → f ≡ Running → ⊥
       never f x y = let z : Fresh ≡ Running = sym x ∙ y in cc
 
-  pub goes_planned : {C : Type 0} (m : Meaning Q (Result B Error)) (refuses : List Event → Error → Type 0) (costs : ℕ → ℕ → ℕ) (job mid new : SecondaryJob Q) (o o' : Posted) (pd pd' : C) (turn : Turn (Result (Unit {0}) Error))
+  pub goes_planned : {C : Type 0} (m : Meaning Q (Result B Error)) (refuses : RetryOptions → List Event → Error → Type 0) (costs : ℕ → ℕ → ℕ) (job mid new : SecondaryJob Q) (o o' : Posted) (pd pd' : C) (turn : Turn (Result (Unit {0}) Error))
       → job.stage ≡ stage.Fresh → IsPlanned m refuses costs job mid
       → Goes (λ (s : SecondaryJob Q). job_phase m s.stage) (job_phase m mid.stage ≡ Fresh) mid new o o' pd pd' turn
       → Goes (λ (s : SecondaryJob Q). job_phase m s.stage) (job_phase m job.stage ≡ Fresh) job new o o' pd pd' turn
@@ -220,7 +221,7 @@ module _ {Q B : Type 0} where
       fresh : job_phase m job.stage ≡ Fresh
       fresh = ap (job_phase m) e
 
-  pub counts_planned : (m : Meaning Q (Result B Error)) (refuses : List Event → Error → Type 0) (costs : ℕ → ℕ → ℕ) (plan : Plan) (keys : List Key) (job mid new : SecondaryJob Q) (o o' : Posted) (turn : Turn (Result (Unit {0}) Error))
+  pub counts_planned : (m : Meaning Q (Result B Error)) (refuses : RetryOptions → List Event → Error → Type 0) (costs : ℕ → ℕ → ℕ) (plan : Plan) (keys : List Key) (job mid new : SecondaryJob Q) (o o' : Posted) (turn : Turn (Result (Unit {0}) Error))
       → job.stage ≡ stage.Fresh → IsPlanned m refuses costs job mid
       → Counts (others m refuses costs plan keys) false false 0 0 mid new o o' turn
       → Counts (others m refuses costs plan keys) false false 0 0 job new o o' turn

@@ -4,6 +4,7 @@ use Rattle.std.specs.Prelude.{IsErr, Result, Ok, Err}
 use Rattle.std.proofs.Math.Seq.{drop-append_seam}
 use Rattle.std.proofs.lemmas.Bool.{eqb-true}
 use Rattle.std.specs.Bool.{◌==◌}
+use Rattle.txn_kv.specs.declared.backoff.Backoff.{Backoff}
 use Rattle.txn_kv.specs.declared.memory.NoMemory.{NoMemory}
 use Rattle.txn_kv.specs.Timestamp.{version_of}
 use Rattle.txn_kv.specs.declared.errors.Error.{Error}
@@ -29,6 +30,7 @@ use Rattle.txn_history.specs.Posted.{Errand, Licensed, Posted, Within, Within-af
 use Rattle.txn_history.specs.Turn.{Turn, turn_of, IfEnds, IfKept, IfKept-both, IfKept-weaker}
 use Rattle.txn_history.specs.Turn.Turn.{Stopped, Waits, Ends}
 use Rattle.txn_tso.specs.declared.stage.Stage.TheVariants.{Asked as Out_with}
+use Rattle.txn_merge.specs.declared.retry_options.RetryOptions.{RetryOptions}
 use Rattle.txn_commit.specs.Committing.{CommitterFits, CommitterGives, CommitterGoesOn, CommitterMoves, IsAsking, IsFirst, IsRolled, IsWritten, MayCommit, SendsCommits, TimeSays, Ways}
 use Rattle.txn_commit.specs.Following.{Commits, KnowsCommits, sent, undetermined}
 use Rattle.txn_commit.specs.Plans.{AreCommitted, ArePrewritten, AreRolledBack, IsAnswered, IsForeign, IsPartOf, IsPlanFor, IsUnderWay, Says, prewritten_key}
@@ -95,7 +97,7 @@ module _ {P Q K A B D : Type 0} where
   -- it ends, and says so much
   pub ends_on : (w : Ways P Q K A B D) (call new : CommitterCall P Q K) (c : Commits) (o : Posted) (known : List Event → Type 0) (v : Result CommitterAnswer Error) (turn : Turn (Result CommitterAnswer Error))
       → new ≡ record call { stage = stage.Over; width = new.width } → turn ≡ Ends v
-      → ((h : List Event) → CommitterFits w call c o h → known h → CommitterGives w (version_of call.start) call.parts h v)
+      → ((h : List Event) → CommitterFits w call c o h → known h → CommitterGives w call.retry_options (version_of call.start) call.parts h v)
       → CommitterMoves w known (λ h. h) call new c c o o turn
   ends_on w call new c o known v turn e t g = rw (e, t) (Moves-quiet refl (λ h f. at_over w call new.width c o h f.0) (λ h f. g h f.0 f.1))
 
@@ -107,7 +109,7 @@ module _ {P Q K A B D : Type 0} where
   pub goes_on_ends : {E : Type 0} (w : Ways P Q K A B D) (refuses : List Event → Error → Type 0) (says : List Event → Type 0) (call new : CommitterCall P Q K) (c : Commits) (o : Posted)
       (heard : Turn (Result E Error)) (x : Result E Error) (v : Result CommitterAnswer Error) (turn : Turn (Result CommitterAnswer Error))
       → heard ≡ Ends x → new ≡ record call { stage = stage.Over; width = new.width } → turn ≡ Ends v
-      → ((h : List Event) → CommitterFits w call c o h → Says refuses says h x → CommitterGives w (version_of call.start) call.parts h v)
+      → ((h : List Event) → CommitterFits w call c o h → Says refuses says h x → CommitterGives w call.retry_options (version_of call.start) call.parts h v)
       → CommitterGoesOn w refuses says call new c c o o heard turn
   goes_on_ends w refuses says call new c o heard x v turn e n t g = rw (e, n, t) (Moves-quiet refl (λ h f. at_over w call new.width c o h f.0) (λ h f. g h f.0 f.1))
 
@@ -180,6 +182,14 @@ ends_both : {V : Type 0} (turn : Turn V) {X Y Z : V → Type 0} → IfEnds turn 
 ends_both Stopped x y f = tt
 ends_both Waits x y f = tt
 ends_both (Ends v) x y f = f v x y
+
+-- options are two backoffs
+options_of : Backoff → Backoff → RetryOptions
+options_of region lock = record { region_backoff = region; lock_backoff = lock }
+
+pub same_options : (a b : RetryOptions) → a.region_backoff ≡ b.region_backoff → a.lock_backoff ≡ b.lock_backoff → a ≡ b
+unfolding options_of
+same_options a b e f = ap (λ x. options_of x a.lock_backoff) e ∙ ap (λ x. options_of b.region_backoff x) f
 
 -- a plan that is not begun stands for its stage
 pub way_of : {S V : Type 0} {m : Meaning S (Result V Error)} {refuses : List Event → Error → Type 0} {costs : ℕ → ℕ → ℕ} {request : Request} {p : S} (part : Request → Type 0) (answered : List Event → Type 0)
@@ -265,66 +275,70 @@ module _ {P Q K A B D : Type 0} where
       }
       says h u (Err why) g b = g
 
-  pub prewriting_begins : (w : Ways P Q K A B D) (costs : ℕ → ℕ → ℕ) (call : CommitterCall P Q K) (p : P) (c : Commits) (o : Posted) (request : PrewriteRequest)
+  pub prewriting_begins : (w : Ways P Q K A B D) (costs : ℕ → ℕ → ℕ) (call : CommitterCall P Q K) (p : P) (c : Commits) (o : Posted) {options : RetryOptions} (request : PrewriteRequest)
       → request.start_version ≡ version_of call.start → request.primary_lock ≡ call.parts.primary → request.mutations ≡ call.parts.mutations
-      → IsPlanFor w.prewriting w.unwritten costs (Prewrite request) p
+      → options ≡ call.retry_options
+      → IsPlanFor w.prewriting (w.unwritten options) costs (Prewrite request) p
       → (h : List Event) → CommitterFits w call c o h × IsFirst (version_of call.start) c h → CommitterFits w (record call { stage = stage.Prewriting p }) c o h
-  prewriting_begins w costs call p c o request e f g x h u = record {
+  prewriting_begins w costs call p c o request e f g same x h u = record {
     start = u.0.start;
     formed = u.0.formed;
     knows = u.0.knows;
     at = record {
       now = x.unbegun.fits o h;
-      way = rw (← e, ← f, ← g) (way_of _ _ (λ r b. b) (λ k b. b) x);
+      way = rw (← e, ← f, ← g, ← same) (way_of _ _ (λ r b. b) (λ k b. b) x);
       given = u.1.given;
       first = u.1.first;
     };
   }
 
-  pub committing_begins : (w : Ways P Q K A B D) (costs : ℕ → ℕ → ℕ) (call : CommitterCall P Q K) (q : Q) (t : Timestamp) (c : Commits) (o : Posted) (request : CommitRequest)
+  pub committing_begins : (w : Ways P Q K A B D) (costs : ℕ → ℕ → ℕ) (call : CommitterCall P Q K) (q : Q) (t : Timestamp) (c : Commits) (o : Posted) {options : RetryOptions} (request : CommitRequest)
       → request.start_version ≡ version_of call.start → request.commit_version ≡ version_of t → request.keys ≡ call.parts.primary ∷ []
-      → IsPlanFor w.committing w.uncommitted costs (Commit request) q
+      → options ≡ call.retry_options
+      → IsPlanFor w.committing (w.uncommitted options) costs (Commit request) q
       → (h : List Event) → CommitterFits w call c o h × MayCommit (plan_of call.parts) (version_of call.start) t c h → CommitterFits w (record call { stage = stage.Committing q t }) c o h
-  committing_begins w costs call q t c o request e f g x h u = record {
+  committing_begins w costs call q t c o request e f g same x h u = record {
     start = u.0.start;
     formed = u.0.formed;
     knows = u.0.knows;
     at = record {
       now = x.unbegun.fits o h;
-      way = rw (← e, ← f, ← g) (way_of _ _ (λ r b. b) (λ k b. b) x);
+      way = rw (← e, ← f, ← g, ← same) (way_of _ _ (λ r b. b) (λ k b. b) x);
       ready = u.1.ready;
       same = u.1.same;
     };
   }
 
-  pub rolling_begins : (w : Ways P Q K A B D) (costs : ℕ → ℕ → ℕ) (call : CommitterCall P Q K) (k : K) (c : Commits) (o : Posted) (request : BatchRollbackRequest)
+  pub rolling_begins : (w : Ways P Q K A B D) (costs : ℕ → ℕ → ℕ) (call : CommitterCall P Q K) (k : K) (c : Commits) (o : Posted) {options : RetryOptions} (request : BatchRollbackRequest)
       → request.start_version ≡ version_of call.start → request.keys ≡ call.parts.primary ∷ []
-      → IsPlanFor w.rolling w.unrolled costs (BatchRollback request) k
+      → options ≡ call.retry_options
+      → IsPlanFor w.rolling (w.unrolled options) costs (BatchRollback request) k
       → (h : List Event) → CommitterFits w call c o h × (undetermined c ≡ None) → CommitterFits w (record call { stage = stage.RollingBackPrimary k }) c o h
-  rolling_begins w costs call k c o request e f x h u = record {
+  rolling_begins w costs call k c o request e f same x h u = record {
     start = u.0.start;
     formed = u.0.formed;
     knows = u.0.knows;
     at = record {
       now = x.unbegun.fits o h;
-      way = rw (← e, ← f) (way_of _ _ (λ r b. b) (λ y b. b) x);
+      way = rw (← e, ← f, ← same) (way_of _ _ (λ r b. b) (λ y b. b) x);
       settled = u.1;
       primary_first = λ y g. inl (only call.parts.primary y g);
     };
   }
 
-  pub rolling_others_begins : (w : Ways P Q K A B D) (costs : ℕ → ℕ → ℕ) (call : CommitterCall P Q K) (k : K) (c : Commits) (o : Posted) (request : BatchRollbackRequest)
+  pub rolling_others_begins : (w : Ways P Q K A B D) (costs : ℕ → ℕ → ℕ) (call : CommitterCall P Q K) (k : K) (c : Commits) (o : Posted) {options : RetryOptions} (request : BatchRollbackRequest)
       → request.start_version ≡ version_of call.start → request.keys ≡ call.parts.secondaries
-      → IsPlanFor w.rolling w.unrolled costs (BatchRollback request) k
+      → options ≡ call.retry_options
+      → IsPlanFor w.rolling (w.unrolled options) costs (BatchRollback request) k
       → (h : List Event) → CommitterFits w call c o h × IsRolled (version_of call.start) call.parts c h → CommitterFits w (record call { stage = stage.RollingBackOthers k }) c o h
-  rolling_others_begins w costs call k c o request e f x h u = record {
+  rolling_others_begins w costs call k c o request e f same x h u = record {
     start = u.0.start;
     formed = u.0.formed;
     knows = u.0.knows;
     at = (
       record {
         now = x.unbegun.fits o h;
-        way = rw (← e, ← f) (way_of _ _ (λ r b. b) (λ y b. b) x);
+        way = rw (← e, ← f, ← same) (way_of _ _ (λ r b. b) (λ y b. b) x);
         settled = u.1.settled;
         primary_first = λ y g. inr (primary_rolled (plan_of call.parts) (version_of call.start) h u.1.rolled);
       },
@@ -349,14 +363,14 @@ module _ {P Q K A B D : Type 0} where
   }
 
   -- a plan goes on, and then the whole
-  pub then_goes_on : {E : Type 0} (w : Ways P Q K A B D) (call old new : CommitterCall P Q K) (g : Stage P Q K) (c d d' : Commits) (refuses : List Event → Error → Type 0) (answered : CommitterCall P Q K → List Event → Type 0)
+  pub then_goes_on : {E : Type 0} (w : Ways P Q K A B D) (call old new : CommitterCall P Q K) (g : Stage P Q K) (c d d' : Commits) (refuses : CommitterCall P Q K → List Event → Error → Type 0) (answered : CommitterCall P Q K → List Event → Type 0)
       (known : List Event → Type 0) (hear : List Event → List Event) (from via to : Posted) (heard : Turn (Result E Error)) (turn : Turn (Result CommitterAnswer Error))
       → old ≡ record call { stage = g; width = old.width }
-      → Moves (MaySend (plan_of call.parts) (version_of call.start)) (λ h. CommitterFits w call c from h × known h) (CommitterFits w (record call { stage = g }) d via) (Says refuses (answered (record call { stage = g; width = old.width }))) hear from via heard
-      → CommitterGoesOn w refuses (answered old) old new d d' via to heard turn
+      → Moves (MaySend (plan_of call.parts) (version_of call.start)) (λ h. CommitterFits w call c from h × known h) (CommitterFits w (record call { stage = g }) d via) (Says (refuses (record call { stage = g; width = old.width })) (answered (record call { stage = g; width = old.width }))) hear from via heard
+      → CommitterGoesOn w (refuses old) (answered old) old new d d' via to heard turn
       → CommitterMoves w known hear call new c d' from to turn
   then_goes_on w call old new g c d d' refuses answered known hear from via to heard turn e m n =
-      Moves-then (widened w call g old.width d via heard m) (subst (λ x. CommitterGoesOn w refuses (answered x) x new d d' via to heard turn) e n)
+      Moves-then (widened w call g old.width d via heard m) (subst (λ x. CommitterGoesOn w (refuses x) (answered x) x new d d' via to heard turn) e n)
 
   -- it is over, and hears nothing
   pub over_on : (w : Ways P Q K A B D) (call : CommitterCall P Q K) (c : Commits) (told : Told) (o : Posted)
@@ -373,14 +387,14 @@ module _ {P Q K A B D : Type 0} where
   -- after its call for a timestamp it waits, or ends, or commits
   pub time_waits : (w : Ways P Q K A B D) (call : CommitterCall P Q K) (c : Commits) (o : Posted) (says : List Event → Result Timestamp Error → Type 0) (heard : Turn (Result Timestamp Error))
       → heard ≡ Waits
-      → Moves (MaySend (plan_of call.parts) (version_of call.start)) (Knows heard (CommitterFits w call c o) says) (CommitterFits w call c o) (CommitterGives w (version_of call.start) call.parts) (λ h. h) o o Waits
+      → Moves (MaySend (plan_of call.parts) (version_of call.start)) (Knows heard (CommitterFits w call c o) says) (CommitterFits w call c o) (CommitterGives w call.retry_options (version_of call.start) call.parts) (λ h. h) o o Waits
   time_waits w call c o says heard e = rw e (Moves-quiet refl (λ h f. f.0) tt)
 
   pub time_ends : (w : Ways P Q K A B D) (call new : CommitterCall P Q K) (c : Commits) (o : Posted) (says : List Event → Result Timestamp Error → Type 0)
       (heard : Turn (Result Timestamp Error)) (x : Result Timestamp Error) (v : Result CommitterAnswer Error) (turn : Turn (Result CommitterAnswer Error))
       → heard ≡ Ends x → new ≡ record call { stage = stage.Over; width = new.width } → turn ≡ Ends v
-      → ((h : List Event) → CommitterFits w call c o h → says h x → CommitterGives w (version_of call.start) call.parts h v)
-      → Moves (MaySend (plan_of call.parts) (version_of call.start)) (Knows heard (CommitterFits w call c o) says) (CommitterFits w new c o) (CommitterGives w (version_of call.start) call.parts) (λ h. h) o o turn
+      → ((h : List Event) → CommitterFits w call c o h → says h x → CommitterGives w call.retry_options (version_of call.start) call.parts h v)
+      → Moves (MaySend (plan_of call.parts) (version_of call.start)) (Knows heard (CommitterFits w call c o) says) (CommitterFits w new c o) (CommitterGives w call.retry_options (version_of call.start) call.parts) (λ h. h) o o turn
   time_ends w call new c o says heard x v turn e n t g = rw (e, n, t) (Moves-quiet refl (λ h f. at_over w call new.width c o h f.0) (λ h f. g h f.0 f.1))
 
   pub time_next : (w : Ways P Q K A B D) (call new : CommitterCall P Q K) (c d : Commits) (from to : Posted) (says : List Event → Result Timestamp Error → Type 0)
@@ -388,7 +402,7 @@ module _ {P Q K A B D : Type 0} where
       → heard ≡ Ends x
       → ((h : List Event) → CommitterFits w call c from h → says h x → known h)
       → CommitterMoves w known (λ h. h) call new c d from to turn
-      → Moves (MaySend (plan_of call.parts) (version_of call.start)) (Knows heard (CommitterFits w call c from) says) (CommitterFits w new d to) (CommitterGives w (version_of call.start) call.parts) (λ h. h) from to turn
+      → Moves (MaySend (plan_of call.parts) (version_of call.start)) (Knows heard (CommitterFits w call c from) says) (CommitterFits w new d to) (CommitterGives w call.retry_options (version_of call.start) call.parts) (λ h. h) from to turn
   time_next w call new c d from to says heard x turn known e k m = rw e (Moves-before (λ h f. (f.0, k h f.0 f.1)) m)
 
   -- a Commit of the primary goes on, and what it sent is known
@@ -399,7 +413,7 @@ module _ {P Q K A B D : Type 0} where
       → d.timestamp ≡ c.timestamp
       → SendsCommits w.committing told t d d' q q' o o' turn
       → Moves (MaySend (plan_of call.parts) (version_of call.start)) (λ h. CommitterFits w call c o h × told.known h) (CommitterFits w (record call { stage = stage.Committing q' t }) d' o')
-      (Says w.uncommitted (AreCommitted (version_of call.start) (version_of t) (call.parts.primary ∷ []))) told.hear o o' turn
+      (Says (w.uncommitted call.retry_options) (AreCommitted (version_of call.start) (version_of t) (call.parts.primary ∷ []))) told.hear o o' turn
   commits_on w call q q' t c d d' told o o' turn e hears heard_so time x =
       let m = committing_on w call q q' t c d told o o' turn e hears heard_so time x.moves x.job in record {
         sends = m.sends;

@@ -13,6 +13,7 @@ use Rattle.txn_history.specs.Phase.Phase.{GivenUp}
 use Rattle.txn_history.specs.Plan.{Key, has_key, ArePlanned, Plan}
 use Rattle.txn_history.specs.Posted.{Posted, ticket_of}
 use Rattle.txn_history.specs.Turn.{Turn, IfKept}
+use Rattle.txn_merge.specs.declared.retry_options.RetryOptions.{RetryOptions}
 use Rattle.txn_commit.specs.Following.{Commits, KnowsCommits, sent, undetermined}
 use Rattle.txn_commit.specs.Plans.{AreCommitted, ArePrewritten, AreRolledBack, IsOfCommit, IsOfPrewrite, IsOfRollback, IsUnderWay, Says}
 use Rattle.txn_commit.specs.Sending.{MaySend, plan_of}
@@ -25,17 +26,18 @@ use Rattle.txn_commit.specs.declared.committer.Stage.{Stage}
 use Rattle.txn_commit.specs.declared.committer.Stage.TheVariants as stage
 use Rattle.txn_commit.specs.declared.timestamp_call.TimestampCall.{TimestampCall}
 
--- The ways in which its requests go: plans of Prewrites, of Commits and of BatchRollbacks, and what their errors rest on.
+-- The ways in which its requests go: plans of Prewrites, of Commits and of BatchRollbacks, and what the errors of those rest on
+-- that were made with these options.
 pub record Ways (P Q K A B D : Type 0) : Type 1 where
   pub prewriting : Meaning P (Result A Error)
   pub committing : Meaning Q (Result B Error)
   pub rolling : Meaning K (Result D Error)
-  pub unwritten : List Event → Error → Type 0
-  pub uncommitted : List Event → Error → Type 0
-  pub unrolled : List Event → Error → Type 0
+  pub unwritten : RetryOptions → List Event → Error → Type 0
+  pub uncommitted : RetryOptions → List Event → Error → Type 0
+  pub unrolled : RetryOptions → List Event → Error → Type 0
 
 abbrev pub ways : {P Q K A B D : Type 0} → Meaning P (Result A Error) → Meaning Q (Result B Error) → Meaning K (Result D Error)
-    → (List Event → Error → Type 0) → (List Event → Error → Type 0) → (List Event → Error → Type 0) → Ways P Q K A B D
+    → (RetryOptions → List Event → Error → Type 0) → (RetryOptions → List Event → Error → Type 0) → (RetryOptions → List Event → Error → Type 0) → Ways P Q K A B D
 ways p q k e f g = record { prewriting = p; committing = q; rolling = k; unwritten = e; uncommitted = f; unrolled = g }
 
 -- each key has one mutation, and the primary is none of the others
@@ -52,7 +54,7 @@ pub record IsReady (plan : Plan) (s c : ℕ) (h : List Event) : Type 0 where
   pub answered : Has h (Answered ask (Ok given))
   pub at : version_of given ≡ c
 
--- What has happened at each stage, for a transaction with this start and these parts.
+-- What has happened at each stage, for a transaction with this start and these parts. Its plans are made with its options.
 
 -- it prewrites: its start was given, and no Commit was sent
 pub record IsPrewriting {P A : Type 0} (m : Meaning P (Result A Error)) (refuses : List Event → Error → Type 0) (s : ℕ) (parts : CommitParts) (p : P) (c : Commits) (o : Posted) (h : List Event) : Type 0 where
@@ -83,41 +85,41 @@ pub record IsRollingBack {K D : Type 0} (m : Meaning K (Result D Error)) (refuse
   pub settled : undetermined c ≡ None
   pub primary_first : (x : Key) → has_key keys x ≡ true → (x ≡ parts.primary) ⊎ PrimaryRolledBack (plan_of parts) h s
 
-abbrev pub IsAt : {P Q K A B D : Type 0} → Ways P Q K A B D → ℕ → CommitParts → Stage P Q K → Commits → Posted → List Event → Type 0
-IsAt w s parts (stage.Prewriting p) c o h = IsPrewriting w.prewriting w.unwritten s parts p c o h
-IsAt w s parts (stage.Asking t) c o h = IsAsking s parts t c o h
-IsAt w s parts (stage.Committing q t) c o h = IsCommitting w.committing w.uncommitted s parts q t c o h
-IsAt w s parts (stage.RollingBackPrimary k) c o h = IsRollingBack w.rolling w.unrolled s parts (parts.primary ∷ []) k c o h
-IsAt w s parts (stage.RollingBackOthers k) c o h = IsRollingBack w.rolling w.unrolled s parts parts.secondaries k c o h × PrimaryRolledBack (plan_of parts) h s
-IsAt w s parts stage.Over c o h = ⊤
-IsAt w s parts stage.Stopped c o h = ⊤
+abbrev pub IsAt : {P Q K A B D : Type 0} → Ways P Q K A B D → RetryOptions → ℕ → CommitParts → Stage P Q K → Commits → Posted → List Event → Type 0
+IsAt w options s parts (stage.Prewriting p) c o h = IsPrewriting w.prewriting (w.unwritten options) s parts p c o h
+IsAt w options s parts (stage.Asking t) c o h = IsAsking s parts t c o h
+IsAt w options s parts (stage.Committing q t) c o h = IsCommitting w.committing (w.uncommitted options) s parts q t c o h
+IsAt w options s parts (stage.RollingBackPrimary k) c o h = IsRollingBack w.rolling (w.unrolled options) s parts (parts.primary ∷ []) k c o h
+IsAt w options s parts (stage.RollingBackOthers k) c o h = IsRollingBack w.rolling (w.unrolled options) s parts parts.secondaries k c o h × PrimaryRolledBack (plan_of parts) h s
+IsAt w options s parts stage.Over c o h = ⊤
+IsAt w options s parts stage.Stopped c o h = ⊤
 
 -- The call can have arisen from the history, where so much is known of the Commits of the primary.
 pub record CommitterFits {P Q K A B D : Type 0} (w : Ways P Q K A B D) (call : CommitterCall P Q K) (c : Commits) (o : Posted) (h : List Event) : Type 0 where
   pub start : HasVersion call.start
   pub formed : IsFormed call.parts
   pub knows : KnowsCommits (plan_of call.parts) (version_of call.start) c h
-  pub at : IsAt w (version_of call.start) call.parts call.stage c o h
+  pub at : IsAt w call.retry_options (version_of call.start) call.parts call.stage c o h
 
 -- What the answer stands on: the primary's Commit was answered without error; or all was prewritten and nothing is locked; or
--- each key was rolled back. An error is one of a plan, or there was no timestamp.
-abbrev pub CommitterGives : {P Q K A B D : Type 0} → Ways P Q K A B D → ℕ → CommitParts → List Event → Result CommitterAnswer Error → Type 0
-CommitterGives w s parts h (Ok (Committed t)) = PrimaryCommitted (plan_of parts) h s (version_of t)
-CommitterGives w s parts h (Ok Checked) = (parts.locks ≡ false) × ArePrewritten s parts.mutations h
-CommitterGives w s parts h (Ok RolledBack) = AreRolledBack s (parts.primary ∷ []) h × AreRolledBack s parts.secondaries h
-CommitterGives w s parts h (Err e) = (w.unwritten h e ⊎ w.uncommitted h e) ⊎ (w.unrolled h e ⊎ WasUntimed h e)
+-- each key was rolled back. An error is one of a plan that was made with these options, or there was no timestamp.
+abbrev pub CommitterGives : {P Q K A B D : Type 0} → Ways P Q K A B D → RetryOptions → ℕ → CommitParts → List Event → Result CommitterAnswer Error → Type 0
+CommitterGives w options s parts h (Ok (Committed t)) = PrimaryCommitted (plan_of parts) h s (version_of t)
+CommitterGives w options s parts h (Ok Checked) = (parts.locks ≡ false) × ArePrewritten s parts.mutations h
+CommitterGives w options s parts h (Ok RolledBack) = AreRolledBack s (parts.primary ∷ []) h × AreRolledBack s parts.secondaries h
+CommitterGives w options s parts h (Err e) = (w.unwritten options h e ⊎ w.uncommitted options h e) ⊎ (w.unrolled options h e ⊎ WasUntimed h e)
 
 -- an event call of it, in a history of which more is known
 abbrev pub CommitterMoves : {P Q K A B D : Type 0} → Ways P Q K A B D → (List Event → Type 0) → (List Event → List Event)
     → CommitterCall P Q K → CommitterCall P Q K → Commits → Commits → Posted → Posted → Turn (Result CommitterAnswer Error) → Type 0
 CommitterMoves w known hear old new c d from to turn =
-    Moves (MaySend (plan_of old.parts) (version_of old.start)) (λ h. CommitterFits w old c from h × known h) (CommitterFits w new d to) (CommitterGives w (version_of old.start) old.parts) hear from to turn
+    Moves (MaySend (plan_of old.parts) (version_of old.start)) (λ h. CommitterFits w old c from h × known h) (CommitterFits w new d to) (CommitterGives w old.retry_options (version_of old.start) old.parts) hear from to turn
 
 -- it goes on after one of its plans did, with what that one's answer says, if it has one
 abbrev pub CommitterGoesOn : {P Q K A B D E : Type 0} → Ways P Q K A B D → (List Event → Error → Type 0) → (List Event → Type 0)
     → CommitterCall P Q K → CommitterCall P Q K → Commits → Commits → Posted → Posted → Turn (Result E Error) → Turn (Result CommitterAnswer Error) → Type 0
 CommitterGoesOn w refuses says old new c d from to heard turn =
-    Moves (MaySend (plan_of old.parts) (version_of old.start)) (Knows heard (CommitterFits w old c from) (Says refuses says)) (CommitterFits w new d to) (CommitterGives w (version_of old.start) old.parts) (λ h. h) from to turn
+    Moves (MaySend (plan_of old.parts) (version_of old.start)) (Knows heard (CommitterFits w old c from) (Says refuses says)) (CommitterFits w new d to) (CommitterGives w old.retry_options (version_of old.start) old.parts) (λ h. h) from to turn
 
 -- all was prewritten, and no Commit was sent before
 pub record IsWritten (s : ℕ) (parts : CommitParts) (c : Commits) (h : List Event) : Type 0 where

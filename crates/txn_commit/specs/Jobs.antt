@@ -13,6 +13,7 @@ use Rattle.txn_history.specs.Phase.{Awaited, IsRunning, Phase}
 use Rattle.txn_history.specs.Phase.Phase.{Fresh, GivenUp, Running}
 use Rattle.txn_history.specs.Plan.{Key, has_key, Plan}
 use Rattle.txn_history.specs.Posted.{Posted, Within}
+use Rattle.txn_merge.specs.declared.retry_options.RetryOptions.{RetryOptions}
 use Rattle.txn_commit.specs.Plans.{AreCommitted, IsOfCommit, IsPlanFor, IsUnderWay, Says, committed_longer, says_longer}
 use Rattle.txn_commit.specs.Sending.{MaySendBehind}
 use Rattle.txn_commit.specs.declared.secondary_job.SecondaryJob.{SecondaryJob}
@@ -30,11 +31,11 @@ IsJobAt m refuses s c keys kept (stage.Committing q) o h = IsOut m refuses s c k
 IsJobAt m refuses s c keys kept stage.Stopped o h = ⊤
 
 -- The job of these keys can have arisen from the history: the primary's Commit was answered without error, and the primary is
--- none of them.
-pub record JobFits {Q B : Type 0} (m : Meaning Q (Result B Error)) (refuses : List Event → Error → Type 0) (plan : Plan) (keys : List Key) (job : SecondaryJob Q) (o : Posted) (h : List Event) : Type 0 where
+-- none of them. Its plan is made with its options.
+pub record JobFits {Q B : Type 0} (m : Meaning Q (Result B Error)) (refuses : RetryOptions → List Event → Error → Type 0) (plan : Plan) (keys : List Key) (job : SecondaryJob Q) (o : Posted) (h : List Event) : Type 0 where
   pub apart : (k : Key) → has_key keys k ≡ true → k ≡ plan.primary → ⊥
   pub committed : PrimaryCommitted plan h (version_of job.start) (version_of job.commit)
-  pub at : IsJobAt m refuses (version_of job.start) (version_of job.commit) keys job.keys job.stage o h
+  pub at : IsJobAt m (refuses job.retry_options) (version_of job.start) (version_of job.commit) keys job.keys job.stage o h
 
 -- Once it is started it stands where its plan does.
 
@@ -80,11 +81,11 @@ job_bears m stage.Stopped w = ⊤
 
 -- The job of these keys of a transaction that means to write so. It sends no Commit that names the primary, and answers that
 -- each of its keys was committed. Nobody runs it again.
-abbrev pub others : {Q B : Type 0} → Meaning Q (Result B Error) → (List Event → Error → Type 0) → (ℕ → ℕ → ℕ) → Plan → List Key → Meaning (SecondaryJob Q) (Result (Unit {0}) Error)
+abbrev pub others : {Q B : Type 0} → Meaning Q (Result B Error) → (RetryOptions → List Event → Error → Type 0) → (ℕ → ℕ → ℕ) → Plan → List Key → Meaning (SecondaryJob Q) (Result (Unit {0}) Error)
 others m refuses costs plan keys = record {
   fits = λ s o h. JobFits m refuses plan keys s o h;
   asks = λ s h r. MaySendBehind plan (version_of s.start) h r;
-  gives = λ s h v. Says refuses (AreCommitted (version_of s.start) (version_of s.commit) keys) h v;
+  gives = λ s h v. Says (refuses s.retry_options) (AreCommitted (version_of s.start) (version_of s.commit) keys) h v;
   phase = λ s. job_phase m s.stage;
   waits = λ s a. job_waits m s.stage a;
   ready = λ s. JobReady m s;
@@ -100,11 +101,11 @@ abbrev pub ReadsDone : {B : Type 0} → Result B Error → Result (Unit {0}) Err
 ReadsDone (Ok b) v = v ≡ Ok tt
 ReadsDone (Err e) v = v ≡ Err e
 
--- the job has made its plan, of the Commits of its keys, which is not begun
-abbrev pub IsPlanned : {Q B : Type 0} → Meaning Q (Result B Error) → (List Event → Error → Type 0) → (ℕ → ℕ → ℕ) → SecondaryJob Q → SecondaryJob Q → Type 0
+-- the job has made its plan, of the Commits of its keys and with its options, which is not begun
+abbrev pub IsPlanned : {Q B : Type 0} → Meaning Q (Result B Error) → (RetryOptions → List Event → Error → Type 0) → (ℕ → ℕ → ℕ) → SecondaryJob Q → SecondaryJob Q → Type 0
 IsPlanned {Q} m refuses costs old new = (q : Q) × (request : CommitRequest)
     × (request.start_version ≡ version_of old.start) × (request.commit_version ≡ version_of old.commit) × (request.keys ≡ old.keys)
-    × IsPlanFor m refuses costs (Commit request) q × (new ≡ record old { keys = new.keys; stage = stage.Committing q })
+    × IsPlanFor m (refuses old.retry_options) costs (Commit request) q × (new ≡ record old { keys = new.keys; stage = stage.Committing q })
 
 -- lemmas
 
@@ -135,14 +136,14 @@ module _ {Q B : Type 0} (m : Meaning Q (Result B Error)) (law : IsLawful m) wher
   was_posted refuses s c keys kept (stage.Committing q) o h a f w = law.posted q o h a f.now w
   was_posted refuses s c keys kept stage.Stopped o h a f w = absurd w
 
-  pub others-lawful : (refuses : List Event → Error → Type 0) (costs : ℕ → ℕ → ℕ) (plan : Plan) (keys : List Key)
-      → ((h longer : List Event) (e : Error) → Within h longer → refuses h e → refuses longer e)
+  pub others-lawful : (refuses : RetryOptions → List Event → Error → Type 0) (costs : ℕ → ℕ → ℕ) (plan : Plan) (keys : List Key)
+      → ((options : RetryOptions) (h longer : List Event) (e : Error) → Within h longer → refuses options h e → refuses options longer e)
       → IsLawful (others m refuses costs plan keys)
   others-lawful refuses costs plan keys longer = record {
-    fits_longer = λ s o p h k l w f. record { apart = f.apart; committed = committed_longer plan (version_of s.start) (version_of s.commit) h k w f.committed; at = at_longer refuses (version_of s.start) (version_of s.commit) keys s.keys s.stage o p h k l w f.at };
-    gives_longer = λ s h k v w g. says_longer refuses (version_of s.start) (version_of s.commit) keys longer h k v w g;
+    fits_longer = λ s o p h k l w f. record { apart = f.apart; committed = committed_longer plan (version_of s.start) (version_of s.commit) h k w f.committed; at = at_longer (refuses s.retry_options) (version_of s.start) (version_of s.commit) keys s.keys s.stage o p h k l w f.at };
+    gives_longer = λ s h k v w g. says_longer (refuses s.retry_options) (version_of s.start) (version_of s.commit) keys (longer s.retry_options) h k v w g;
     bears_more = λ s w more l b. bears_more s.stage w more l b;
     runs = λ s a w. job_runs s.stage a w;
-    waits = λ s o h f e. something refuses (version_of s.start) (version_of s.commit) keys s.keys s.stage o h f.at e;
-    posted = λ s o h a f w. was_posted refuses (version_of s.start) (version_of s.commit) keys s.keys s.stage o h a f.at w;
+    waits = λ s o h f e. something (refuses s.retry_options) (version_of s.start) (version_of s.commit) keys s.keys s.stage o h f.at e;
+    posted = λ s o h a f w. was_posted (refuses s.retry_options) (version_of s.start) (version_of s.commit) keys s.keys s.stage o h a f.at w;
   }

@@ -107,6 +107,7 @@ where
     ) -> Self
         ensures start { result.start ≡ start }
         ensures parts { result.parts ≡ parts }
+        ensures options { result.retry_options ≡ retry_options }
         ensures stage { result.stage ≡ stages.Over }
         ensures width { result.width ≡ 0 }
     {
@@ -276,7 +277,7 @@ where
     ) -> Turn
         requires numbers { HasNumbers out.old }
         requires ready { StageReady (ways P.meaning Q.meaning K.meaning P.refuses Q.refuses K.refuses) self.old.stage }
-        ensures moves { (c : Commits) (p : P) → self.old.stage ≡ stages.Prewriting p → CommitterGoesOn (ways P.meaning Q.meaning K.meaning P.refuses Q.refuses K.refuses) P.refuses (ArePrewritten (version_of self.old.start) self.old.parts.mutations) self.old self.new c c out.old out.new (turn_of (Ok progress)) (turn_of result) }
+        ensures moves { (c : Commits) (p : P) → self.old.stage ≡ stages.Prewriting p → CommitterGoesOn (ways P.meaning Q.meaning K.meaning P.refuses Q.refuses K.refuses) (P.refuses self.old.retry_options) (ArePrewritten (version_of self.old.start) self.old.parts.mutations) self.old self.new c c out.old out.new (turn_of (Ok progress)) (turn_of result) }
         ensures counts { (p : P) → self.old.stage ≡ stages.Prewriting p → CommitterCounts (ways P.meaning Q.meaning K.meaning P.refuses Q.refuses K.refuses) (costs_of P.costs Q.costs K.costs) false false 0 0 self.old self.new out.old out.new (turn_of result) }
         ensures resumes { Resumes (ways P.meaning Q.meaning K.meaning P.refuses Q.refuses K.refuses) (turn_of (Ok progress)) self.old self.new out.old out.new pd.old pd.new (turn_of result) }
         ensures version { IfEnds (turn_of result) IsInRange }
@@ -324,7 +325,7 @@ where
         requires numbers { HasNumbers out.old }
         requires clock { now < 2 ^ 44 }
         requires ready { StageReady (ways P.meaning Q.meaning K.meaning P.refuses Q.refuses K.refuses) self.old.stage }
-        ensures moves { (t : TimestampCall) → self.old.stage ≡ stages.Asking t → Moves (MaySend (plan_of self.old.parts) (version_of self.old.start)) (Knows (turn_of (Ok progress)) (CommitterFits (ways P.meaning Q.meaning K.meaning P.refuses Q.refuses K.refuses) self.old commits.old out.old) (TimeSays (plan_of self.old.parts) (version_of self.old.start))) (CommitterFits (ways P.meaning Q.meaning K.meaning P.refuses Q.refuses K.refuses) self.new commits.new out.new) (CommitterGives (ways P.meaning Q.meaning K.meaning P.refuses Q.refuses K.refuses) (version_of self.old.start) self.old.parts) (λ h. h) out.old out.new (turn_of result) }
+        ensures moves { (t : TimestampCall) → self.old.stage ≡ stages.Asking t → Moves (MaySend (plan_of self.old.parts) (version_of self.old.start)) (Knows (turn_of (Ok progress)) (CommitterFits (ways P.meaning Q.meaning K.meaning P.refuses Q.refuses K.refuses) self.old commits.old out.old) (TimeSays (plan_of self.old.parts) (version_of self.old.start))) (CommitterFits (ways P.meaning Q.meaning K.meaning P.refuses Q.refuses K.refuses) self.new commits.new out.new) (CommitterGives (ways P.meaning Q.meaning K.meaning P.refuses Q.refuses K.refuses) self.old.retry_options (version_of self.old.start) self.old.parts) (λ h. h) out.old out.new (turn_of result) }
         ensures counts { (t : TimestampCall) → self.old.stage ≡ stages.Asking t → CommitterCounts (ways P.meaning Q.meaning K.meaning P.refuses Q.refuses K.refuses) (costs_of P.costs Q.costs K.costs) false false 0 0 self.old self.new out.old out.new (turn_of result) }
         ensures resumes { Resumes (ways P.meaning Q.meaning K.meaning P.refuses Q.refuses K.refuses) (turn_of (Ok progress)) self.old self.new out.old out.new pd.old pd.new (turn_of result) }
         ensures commits { turn_of (Ok progress) ≡ Waits → commits.new ≡ commits.old }
@@ -374,7 +375,7 @@ where
     fn after_commit(&mut self, progress: Progress<Q::Result>, timestamp: Timestamp) -> Turn
         requires timestamp { HasVersion timestamp }
         requires ready { StageReady (ways P.meaning Q.meaning K.meaning P.refuses Q.refuses K.refuses) self.old.stage }
-        ensures moves { (c : Commits) (o : Posted) (q : Q) → self.old.stage ≡ stages.Committing q timestamp → CommitterGoesOn (ways P.meaning Q.meaning K.meaning P.refuses Q.refuses K.refuses) Q.refuses (AreCommitted (version_of self.old.start) (version_of timestamp) (self.old.parts.primary ∷ [])) self.old self.new c c o o (turn_of (Ok progress)) (turn_of result) }
+        ensures moves { (c : Commits) (o : Posted) (q : Q) → self.old.stage ≡ stages.Committing q timestamp → CommitterGoesOn (ways P.meaning Q.meaning K.meaning P.refuses Q.refuses K.refuses) (Q.refuses self.old.retry_options) (AreCommitted (version_of self.old.start) (version_of timestamp) (self.old.parts.primary ∷ [])) self.old self.new c c o o (turn_of (Ok progress)) (turn_of result) }
         ensures counts { (o : Posted) → CommitterCounts (ways P.meaning Q.meaning K.meaning P.refuses Q.refuses K.refuses) (costs_of P.costs Q.costs K.costs) false false 0 0 self.old self.new o o (turn_of result) }
         ensures settles { Settles (turn_of (Ok progress)) self.old self.new (turn_of result) }
         ensures version { IfEnds (turn_of result) IsInRange }
@@ -399,7 +400,7 @@ where
         requires numbers { HasNumbers out.old }
         requires clock { now < 2 ^ 44 }
         requires ready { StageReady (ways P.meaning Q.meaning K.meaning P.refuses Q.refuses K.refuses) self.old.stage }
-        ensures moves { (c : Commits) (k : K) → self.old.stage ≡ stages.RollingBackPrimary k → CommitterGoesOn (ways P.meaning Q.meaning K.meaning P.refuses Q.refuses K.refuses) K.refuses (AreRolledBack (version_of self.old.start) (self.old.parts.primary ∷ [])) self.old self.new c c out.old out.new (turn_of (Ok progress)) (turn_of result) }
+        ensures moves { (c : Commits) (k : K) → self.old.stage ≡ stages.RollingBackPrimary k → CommitterGoesOn (ways P.meaning Q.meaning K.meaning P.refuses Q.refuses K.refuses) (K.refuses self.old.retry_options) (AreRolledBack (version_of self.old.start) (self.old.parts.primary ∷ [])) self.old self.new c c out.old out.new (turn_of (Ok progress)) (turn_of result) }
         ensures counts { (k : K) → self.old.stage ≡ stages.RollingBackPrimary k → CommitterCounts (ways P.meaning Q.meaning K.meaning P.refuses Q.refuses K.refuses) (costs_of P.costs Q.costs K.costs) false false 0 0 self.old self.new out.old out.new (turn_of result) }
         ensures resumes { Resumes (ways P.meaning Q.meaning K.meaning P.refuses Q.refuses K.refuses) (turn_of (Ok progress)) self.old self.new out.old out.new pd.old pd.new (turn_of result) }
         ensures back { may_commit self.old.stage ≡ false → may_commit self.new.stage ≡ false }
@@ -441,7 +442,7 @@ where
 
     fn after_rollback(&mut self, progress: Progress<K::Result>) -> Turn
         requires ready { StageReady (ways P.meaning Q.meaning K.meaning P.refuses Q.refuses K.refuses) self.old.stage }
-        ensures moves { (c : Commits) (o : Posted) (k : K) → self.old.stage ≡ stages.RollingBackOthers k → CommitterGoesOn (ways P.meaning Q.meaning K.meaning P.refuses Q.refuses K.refuses) K.refuses (AreRolledBack (version_of self.old.start) self.old.parts.secondaries) self.old self.new c c o o (turn_of (Ok progress)) (turn_of result) }
+        ensures moves { (c : Commits) (o : Posted) (k : K) → self.old.stage ≡ stages.RollingBackOthers k → CommitterGoesOn (ways P.meaning Q.meaning K.meaning P.refuses Q.refuses K.refuses) (K.refuses self.old.retry_options) (AreRolledBack (version_of self.old.start) self.old.parts.secondaries) self.old self.new c c o o (turn_of (Ok progress)) (turn_of result) }
         ensures counts { (o : Posted) → CommitterCounts (ways P.meaning Q.meaning K.meaning P.refuses Q.refuses K.refuses) (costs_of P.costs Q.costs K.costs) false false 0 0 self.old self.new o o (turn_of result) }
         ensures settles { Settles (turn_of (Ok progress)) self.old self.new (turn_of result) }
         ensures back { may_commit self.old.stage ≡ false → may_commit self.new.stage ≡ false }
@@ -494,7 +495,7 @@ where
 
     fn rollback_plan<C: PdClient>(&self, pd: &C, keys: Items<Key>) -> Result<K, NoMemory>
         requires { HasVersion self.now.start }
-        ensures { IfOk result (IsPlanFor K.meaning K.refuses K.costs (BatchRollback (record default_batch_rollback { keys = keys; start_version = version_of self.now.start }))) }
+        ensures { IfOk result (IsPlanFor K.meaning (K.refuses self.now.retry_options) K.costs (BatchRollback (record default_batch_rollback { keys = keys; start_version = version_of self.now.start }))) }
     {
         let request = new_batch_rollback_request(keys, self.start);
         K::plan_for(self.alloc, pd, request, self.retry_options.clone()?)

@@ -60,6 +60,7 @@ impl<Q: PlanFor<CommitRequest>> SecondaryJob<Q> {
         ensures start { result.start ≡ start }
         ensures commit { result.commit ≡ commit }
         ensures keys { result.keys ≡ keys }
+        ensures options { result.retry_options ≡ retry_options }
         ensures stage { result.stage ≡ stages.Fresh }
     {
         SecondaryJob {

@@ -30,6 +30,7 @@ use Rattle.txn_commit.proofs.Posting.{Hears}
 use Rattle.txn_commit.proofs.Posting.Hears.{Nothing, One}
 use Rattle.txn_commit.proofs.Sending.{given_longer}
 use Rattle.txn_core.proofs.Naming.{named_more, names_on}
+use Rattle.txn_merge.specs.declared.retry_options.RetryOptions.{RetryOptions}
 use Rattle.txn_core.specs.Going.{BeginMoves, CallFits, CallMoves, FailsWith, IsAtWork, IsCommittedAt, IsJobFor, IsNamed, IsNewCall, IsSameCall, IsUnderWay, KnowsCall, KnowsContents, KnowsParts, MayBegin, MayGoBack, MaySendFor, MayStart, NamesReady, TakesUp, TransactionFits, TransactionGives, TransactionMoves}
 use Rattle.txn_core.specs.Status.{allows_data, has_turned_back, may_move}
 use Rattle.txn_core.specs.Transaction.{Standing, has_given_up, is_open, moved}
@@ -82,7 +83,7 @@ pub some_same : {X : Type 0} {a b : X} {o : Option X} → o ≡ Some a → o ≡
 some_same e f = let g = sym e ∙ f in cc
 
 pub may_start : {P Q K : Type 0} (old : Standing P Q K) (call : CommitterCall P Q K) (parts : CommitParts) (h : List Event)
-    → IsNewCall old.start parts call → MayBegin old parts h → MayStart (plan_of call.parts) (version_of call.start) old.commits h
+    → IsNewCall old.options.retry_options old.start parts call → MayBegin old parts h → MayStart (plan_of call.parts) (version_of call.start) old.commits h
 may_start old call parts h n m = rw (n.own, n.whole) (record { given = m.given; knows = m.knows.knows; ready = m.knows.ready })
 
 pub as_before : {P Q K : Type 0} (old mid new : Standing P Q K) → old.work ≡ Idle → mid ≡ record old { work = GaveUp } → new ≡ record mid { work = Idle } → new ≡ old
@@ -97,9 +98,9 @@ parts_more s c parts e h n k = record {
 
 module _ {P Q K A B D : Type 0} where
   -- what is known of an open call is known of what the buffer holds, which has its parts
-  knows_contents : (w : Ways P Q K A B D) (start : Timestamp) (status : Status) (contents : Contents) (c : Commits) (call : CommitterCall P Q K) (o : Posted) (h : List Event)
-      → IsUnderWay w start status contents c call o h → KnowsContents (version_of start) c h contents
-  knows_contents w start status contents c call o h u = record {
+  knows_contents : (w : Ways P Q K A B D) (options : RetryOptions) (start : Timestamp) (status : Status) (contents : Contents) (c : Commits) (call : CommitterCall P Q K) (o : Posted) (h : List Event)
+      → IsUnderWay w options start status contents c call o h → KnowsContents (version_of start) c h contents
+  knows_contents w options start status contents c call o h u = record {
     of_parts = λ parts e.
         subst (λ x. KnowsParts (version_of start) c h x) (some_same u.whole e)
         (subst (λ x. KnowsParts (version_of x) c h call.parts) u.own (record { formed = u.fits.formed; knows = u.fits.knows; ready = u.ready }));
@@ -114,7 +115,7 @@ module _ {P Q K A B D : Type 0} where
     given = f.given;
     unsent = λ a. absurd (let g = sym n ∙ a in cc);
     settled = λ a. f.settled (b a);
-    at = knows_contents w t.start t.status t.contents t.commits call o h f.under_way;
+    at = knows_contents w t.options.retry_options t.start t.status t.contents t.commits call o h f.under_way;
   })
 
   -- it waits still
@@ -129,7 +130,7 @@ module _ {P Q K A B D : Type 0} where
   pub takes_committed : (w : Ways P Q K A B D) (call : CommitterCall P Q K) (old new : Standing P Q K) (t : Timestamp) (keys : List Key) (v : ℕ) (o : Posted) (turn : Turn (Result (TxnAnswer Q) Error))
       → new ≡ record old { status = moved old.status Is_committed; work = Idle; width = v }
       → keys ≡ call.parts.secondaries
-      → IsCommittedAt new.start t keys turn
+      → IsCommittedAt new.options.retry_options new.start t keys turn
       → TakesUp w call old new o (Ends (Ok (Committed t))) turn
   takes_committed w call old new t keys v o turn e f (job, g, j) = rw g (record {
     still = λ h k. rests w old new call (moved old.status Is_committed) v o h e (stays_started old.status Is_committed k.0.under_way.started refl) (turned_committed old.status) k.0;
@@ -138,7 +139,7 @@ module _ {P Q K A B D : Type 0} where
       k.0.under_way.whole,
       record {
         primary = subst (λ (x : Timestamp). PrimaryCommitted (plan_of call.parts) h (version_of x) (version_of t)) k.0.under_way.own k.1;
-        others = subst (λ (x : List Key). IsJobFor old.start t x job) f (subst (λ (x : Timestamp). IsJobFor x t keys job) (ap (λ (x : Standing P Q K). x.start) e) j);
+        others = subst (λ (x : List Key). IsJobFor old.options.retry_options old.start t x job) f (subst (λ (x : Standing P Q K). IsJobFor x.options.retry_options x.start t keys job) e j);
       },
     );
   })
@@ -161,10 +162,10 @@ module _ {P Q K A B D : Type 0} where
     done = λ h k. inl (call.parts, k.0.under_way.whole, inr (subst (λ (x : Timestamp). AreRolledBack (version_of x) (call.parts.primary ∷ []) h × AreRolledBack (version_of x) call.parts.secondaries h) k.0.under_way.own k.1));
   }
 
-  named_fails : (w : Ways P Q K A B D) (s r : ℕ) (parts : CommitParts) (lost : Option Ticket) (h : List Event) (inner e : Error)
-      → IsNamed lost inner e → CommitterGives w s parts h (Err inner) → FailsWith w r parts lost h e
-  named_fails w s r parts None h inner e n g = rw n g
-  named_fails w s r parts (Some t) h inner e n g = (inner, n, g)
+  named_fails : (w : Ways P Q K A B D) (options : RetryOptions) (s r : ℕ) (parts : CommitParts) (lost : Option Ticket) (h : List Event) (inner e : Error)
+      → IsNamed lost inner e → CommitterGives w options s parts h (Err inner) → FailsWith w options r parts lost h e
+  named_fails w options s r parts None h inner e n g = rw n g
+  named_fails w options s r parts (Some t) h inner e n g = (inner, n, g)
 
   -- it has failed
   pub takes_failed : (w : Ways P Q K A B D) (call : CommitterCall P Q K) (old new : Standing P Q K) (inner e : Error) (v : ℕ) (o : Posted)
@@ -173,7 +174,7 @@ module _ {P Q K A B D : Type 0} where
       → TakesUp w call old new o (Ends (Err inner)) (Ends (Err e))
   takes_failed w call old new inner e v o f n = record {
     still = λ h k. rests w old new call old.status v o h f k.0.under_way.started (λ a. a) k.0;
-    done = λ h k. inl (call.parts, k.0.under_way.whole, rw f (named_fails w (version_of call.start) (version_of old.start) call.parts (undetermined old.commits) h inner e n k.1));
+    done = λ h k. inl (call.parts, k.0.under_way.whole, rw f (named_fails w old.options.retry_options (version_of call.start) (version_of old.start) call.parts (undetermined old.commits) h inner e n (subst (λ (x : RetryOptions). CommitterGives w x (version_of call.start) call.parts h (Err inner)) k.0.under_way.retries k.1)));
   }
 
   -- it gave up
@@ -189,7 +190,7 @@ module _ {P Q K A B D : Type 0} where
       → ((h : List Event) → was h → CallFits w old call from h × known h)
       → (has_turned_back old.status ≡ true → may_commit call.stage ≡ false → (d ≡ old.commits) × (may_commit call'.stage ≡ false))
       → CommitterMoves w known hear call call' old.commits d from to inner
-      → Moves (MaySendFor old.contents (version_of old.start)) was (CallFits w mid call' to) (CommitterGives w (version_of call'.start) call'.parts) hear from to inner
+      → Moves (MaySendFor old.contents (version_of old.start)) was (CallFits w mid call' to) (CommitterGives w call'.retry_options (version_of call'.start) call'.parts) hear from to inner
   lifts w call call' old mid d was known hear from to inner hears e f k b m = rw f (Moves-map
       {may = MaySend (plan_of call.parts) (version_of call.start)}
       {may' = MaySendFor old.contents (version_of old.start)}
@@ -197,8 +198,8 @@ module _ {P Q K A B D : Type 0} where
       {was' = was}
       {is = λ h. CommitterFits w call' d to h × NamesReady (plan_of call.parts) (version_of call.start) h}
       {is' = CallFits w (record old { commits = d }) call' to}
-      {gives = CommitterGives w (version_of call.start) call.parts}
-      {gives' = CommitterGives w (version_of call'.start) call'.parts}
+      {gives = CommitterGives w call.retry_options (version_of call.start) call.parts}
+      {gives' = CommitterGives w call'.retry_options (version_of call'.start) call'.parts}
       (λ h. within_heard h (hear h) (hears h))
       (λ h u. u)
       (λ h u l r x. (call.parts, (k h u).0.under_way.whole, subst (λ (s : Timestamp). MaySend (plan_of call.parts) (version_of s) l r) (k h u).0.under_way.own x))
@@ -207,6 +208,7 @@ module _ {P Q K A B D : Type 0} where
         settled = λ a. ap undetermined (b a ((k h u).0.under_way.back a)).0 ∙ (k h u).0.settled a;
         under_way = record {
           own = e.start ∙ (k h u).0.under_way.own;
+          retries = e.retries ∙ (k h u).0.under_way.retries;
           started = (k h u).0.under_way.started;
           back = λ a. (b a ((k h u).0.under_way.back a)).1;
           whole = (k h u).0.under_way.whole ∙ ap Some (sym e.parts);
@@ -214,7 +216,7 @@ module _ {P Q K A B D : Type 0} where
           fits = x.0;
         };
       })
-      (λ h u l v x. rw (e.start, e.parts) x)
+      (λ h u l v x. rw (e.start, e.parts, e.retries) x)
       (names_on hears (λ h u. (k h u).0.under_way.ready) (Moves-before (λ h u. ((k h u).0.under_way.fits, (k h u).1)) m)))
 
   -- and it goes on after it
@@ -226,20 +228,21 @@ module _ {P Q K A B D : Type 0} where
       → (has_turned_back old.status ≡ true → may_commit call.stage ≡ false → (d ≡ old.commits) × (may_commit call'.stage ≡ false))
       → CommitterMoves w known hear call call' old.commits d from to inner
       → TakesUp w call' mid new to inner turn
-      → Moves (MaySendFor old.contents (version_of old.start)) was (TransactionFits w new to) (TransactionGives w old.start old.contents new.commits) hear from to turn
+      → Moves (MaySendFor old.contents (version_of old.start)) was (TransactionFits w new to) (TransactionGives w old.options.retry_options old.start old.contents new.commits) hear from to turn
   goes_on w call call' old mid new d was known hear from to inner turn hears e f k b m t =
       let lifted = lifts w call call' old mid d was known hear from to inner hears e f k b m in
-      Moves-after lifted t.still (subst (λ (x : Standing P Q K). IfEnds turn (λ v. (h : List Event) → KnowsCall w call' mid to inner h → TransactionGives w x.start x.contents new.commits h v)) f t.done)
+      Moves-after lifted t.still (subst (λ (x : Standing P Q K). IfEnds turn (λ v. (h : List Event) → KnowsCall w call' mid to inner h → TransactionGives w x.options.retry_options x.start x.contents new.commits h v)) f t.done)
 
   -- A commit or a rollback begins.
 
   pub begin_fits : (w : Ways P Q K A B D) (old : Standing P Q K) (call : CommitterCall P Q K) (parts : CommitParts) (o : Posted) (h : List Event)
-      → HasVersion old.start → parts_of old.contents ≡ Some parts → IsNewCall old.start parts call → MayBegin old parts h → CallFits w old call o h
+      → HasVersion old.start → parts_of old.contents ≡ Some parts → IsNewCall old.options.retry_options old.start parts call → MayBegin old parts h → CallFits w old call o h
   begin_fits w old call parts o h v e n m = record {
     given = m.given;
     settled = m.settled;
     under_way = record {
       own = n.own;
+      retries = n.retries;
       started = m.started;
       back = λ a. ap may_commit n.stage;
       whole = rw n.whole e;
@@ -299,7 +302,7 @@ module _ {P Q K A B D : Type 0} where
 
   at_rest : (w : Ways P Q K A B D) (t : Standing P Q K) (o : Posted) (h : List Event) → t.work ≡ Idle → TransactionFits w t o h
       → KnowsContents (version_of t.start) t.commits h t.contents
-  at_rest w t o h e f = subst (λ (x : Work P Q K). IsAtWork w t.start t.status t.contents t.commits x o h) e f.at
+  at_rest w t o h e f = subst (λ (x : Work P Q K). IsAtWork w t.options.retry_options t.start t.status t.contents t.commits x o h) e f.at
 
   pub commits_on : (w : Ways P Q K A B D) (old mid new : Standing P Q K) (parts : CommitParts) (from to : Posted) (turn : Turn (Result (TxnAnswer Q) Error))
       → old.work ≡ Idle → mid ≡ record old { status = StartedCommit; work = GaveUp } → parts_of mid.contents ≡ Some parts
@@ -340,7 +343,7 @@ module _ {P Q K A B D : Type 0} where
       → TransactionMoves w known hear old new from to turn
   tells_open w known hear call old mid new from to turn i e m =
       let m' = subst (λ (x : Standing P Q K). CallMoves w known hear call x new from to turn) e m in
-      Moves-before (λ h u. (record { given = u.0.given; settled = u.0.settled; under_way = subst (λ (x : Work P Q K). IsAtWork w old.start old.status old.contents old.commits x from h) i u.0.at }, u.1)) m'
+      Moves-before (λ h u. (record { given = u.0.given; settled = u.0.settled; under_way = subst (λ (x : Work P Q K). IsAtWork w old.options.retry_options old.start old.status old.contents old.commits x from h) i u.0.at }, u.1)) m'
 
   fits_on : (w : Ways P Q K A B D) (t : Standing P Q K) (o : Posted) (h : List Event) (e : Event) → IsNoSending e → t.work ≡ Idle → TransactionFits w t o h → TransactionFits w t o (e ∷ h)
   fits_on w t o h e n i f = record {

@@ -24,6 +24,7 @@ use Rattle.txn_commit.specs.declared.committer.Stage.{Stage}
 use Rattle.txn_commit.specs.declared.committer.Stage.TheVariants as stage
 use Rattle.txn_commit.proofs.Sending.{acknowledged_longer, given_longer, rolled_longer}
 use Rattle.txn_core.proofs.Going.{some_same}
+use Rattle.txn_merge.specs.declared.retry_options.RetryOptions.{RetryOptions}
 use Rattle.txn_core.specs.Going.{IsAtWork, KnowsParts, NamesReady, TransactionFits}
 use Rattle.txn_core.specs.Others.{AddsNone, AddsNoPrimaryOf, AddsNothingOf, IsBeside, SendsNone}
 use Rattle.txn_core.specs.Status.{allows_data}
@@ -111,40 +112,40 @@ names_on plan s newer h n k d w = ready_on plan s d newer h (k d (named_before p
 module _ {P Q K A B D : Type 0} (w : Ways P Q K A B D) (prewriting : IsLawful w.prewriting) (committing : IsLawful w.committing) (rolling : IsLawful w.rolling) where
   -- an open call
 
-  back_on : (s : ℕ) (parts : CommitParts) (keys : List Key) (k : K) (c : Commits) (o p : Posted) (newer h : List Event) → IsLater o p
-      → IsRollingBack w.rolling w.unrolled s parts keys k c o h → IsRollingBack w.rolling w.unrolled s parts keys k c p (newer ++ h)
-  back_on s parts keys k c o p newer h l i = record {
+  back_on : (options : RetryOptions) (s : ℕ) (parts : CommitParts) (keys : List Key) (k : K) (c : Commits) (o p : Posted) (newer h : List Event) → IsLater o p
+      → IsRollingBack w.rolling (w.unrolled options) s parts keys k c o h → IsRollingBack w.rolling (w.unrolled options) s parts keys k c p (newer ++ h)
+  back_on options s parts keys k c o p newer h l i = record {
     now = rolling.fits_longer k o p h (newer ++ h) l (older newer h) i.now;
     way = i.way;
     settled = i.settled;
     primary_first = λ x m. elim (i.primary_first x m) [ inl e ↦ inl e | inr r ↦ inr (rolled_longer (plan_of parts) s h (newer ++ h) (older newer h) r) ];
   }
 
-  at_on : (s : ℕ) (parts : CommitParts) (g : Stage P Q K) (c : Commits) (o p : Posted) (newer h : List Event) → IsLater o p
-      → IsAt w s parts g c o h → IsAt w s parts g c p (newer ++ h)
-  at_on s parts (stage.Prewriting x) c o p newer h l i = record {
+  at_on : (options : RetryOptions) (s : ℕ) (parts : CommitParts) (g : Stage P Q K) (c : Commits) (o p : Posted) (newer h : List Event) → IsLater o p
+      → IsAt w options s parts g c o h → IsAt w options s parts g c p (newer ++ h)
+  at_on options s parts (stage.Prewriting x) c o p newer h l i = record {
     now = prewriting.fits_longer x o p h (newer ++ h) l (older newer h) i.now;
     way = i.way;
     given = given_longer s h (newer ++ h) (older newer h) i.given;
     first = i.first;
   }
-  at_on s parts (stage.Asking t) c o p newer h l i = record {
+  at_on options s parts (stage.Asking t) c o p newer h l i = record {
     keys = acknowledged_longer (plan_of parts) s h (newer ++ h) (older newer h) i.keys;
     given = given_longer s h (newer ++ h) (older newer h) i.given;
     first = i.first;
     now = time_asked-lawful.fits_longer t o p h (newer ++ h) l (older newer h) i.now;
     asked = λ n a. subst (λ (u : Ticket). WantedAfter (plan_of parts) (newer ++ h) s u) (sym (IsLater-ticket l n)) (wanted_on (plan_of parts) s (ticket_of o n) newer h (i.asked n a));
   }
-  at_on s parts (stage.Committing q t) c o p newer h l i = record {
+  at_on options s parts (stage.Committing q t) c o p newer h l i = record {
     now = committing.fits_longer q o p h (newer ++ h) l (older newer h) i.now;
     way = i.way;
     ready = ready_on (plan_of parts) s (version_of t) newer h i.ready;
     same = i.same;
   }
-  at_on s parts (stage.RollingBackPrimary k) c o p newer h l i = back_on s parts (parts.primary ∷ []) k c o p newer h l i
-  at_on s parts (stage.RollingBackOthers k) c o p newer h l i = (back_on s parts parts.secondaries k c o p newer h l i.0, rolled_longer (plan_of parts) s h (newer ++ h) (older newer h) i.1)
-  at_on s parts stage.Over c o p newer h l i = tt
-  at_on s parts stage.Stopped c o p newer h l i = tt
+  at_on options s parts (stage.RollingBackPrimary k) c o p newer h l i = back_on options s parts (parts.primary ∷ []) k c o p newer h l i
+  at_on options s parts (stage.RollingBackOthers k) c o p newer h l i = (back_on options s parts parts.secondaries k c o p newer h l i.0, rolled_longer (plan_of parts) s h (newer ++ h) (older newer h) i.1)
+  at_on options s parts stage.Over c o p newer h l i = tt
+  at_on options s parts stage.Stopped c o p newer h l i = tt
 
   call_on : (call : CommitterCall P Q K) (c : Commits) (o p : Posted) (newer h : List Event) → IsLater o p
       → SendsNone (CommitsPrimary (plan_of call.parts) (version_of call.start)) newer
@@ -153,7 +154,7 @@ module _ {P Q K A B D : Type 0} (w : Ways P Q K A B D) (prewriting : IsLawful w.
     start = f.start;
     formed = f.formed;
     knows = knows_on (plan_of call.parts) (version_of call.start) c newer h n f.knows;
-    at = at_on (version_of call.start) call.parts call.stage c o p newer h l f.at;
+    at = at_on call.retry_options (version_of call.start) call.parts call.stage c o p newer h l f.at;
   }
 
   -- the transaction
@@ -165,15 +166,16 @@ module _ {P Q K A B D : Type 0} (w : Ways P Q K A B D) (prewriting : IsLawful w.
     ready = names_on (plan_of parts) s newer h n k.ready;
   }
 
-  work_on : (start : Timestamp) (status : Status) (contents : Contents) (c : Commits) (work : Work P Q K) (o p : Posted) (newer h : List Event) → IsLater o p
+  work_on : (options : RetryOptions) (start : Timestamp) (status : Status) (contents : Contents) (c : Commits) (work : Work P Q K) (o p : Posted) (newer h : List Event) → IsLater o p
       → ((parts : CommitParts) → parts_of contents ≡ Some parts → SendsNone (CommitsPrimary (plan_of parts) (version_of start)) newer)
-      → IsAtWork w start status contents c work o h → IsAtWork w start status contents c work p (newer ++ h)
-  work_on start status contents c Idle o p newer h l n f = record {
+      → IsAtWork w options start status contents c work o h → IsAtWork w options start status contents c work p (newer ++ h)
+  work_on options start status contents c Idle o p newer h l n f = record {
     of_parts = λ parts e. parts_on (version_of start) c parts newer h (n parts e) (f.of_parts parts e);
     empty = f.empty;
   }
-  work_on start status contents c (Open call) o p newer h l n u = record {
+  work_on options start status contents c (Open call) o p newer h l n u = record {
     own = u.own;
+    retries = u.retries;
     started = u.started;
     back = u.back;
     whole = u.whole;
@@ -183,7 +185,7 @@ module _ {P Q K A B D : Type 0} (w : Ways P Q K A B D) (prewriting : IsLawful w.
     where
       own : SendsNone (CommitsPrimary (plan_of call.parts) (version_of call.start)) newer
       own = subst (λ (x : Timestamp). SendsNone (CommitsPrimary (plan_of call.parts) (version_of x)) newer) (sym u.own) (n call.parts u.whole)
-  work_on start status contents c GaveUp o p newer h l n f = tt
+  work_on options start status contents c GaveUp o p newer h l n f = tt
 
   grown_fits : (t : Standing P Q K) (o p : Posted) (newer h : List Event) → IsLater o p
       → (allows_data t.status ≡ true → SendsNone (λ r. r.start_version ≡ version_of t.start) newer)
@@ -193,7 +195,7 @@ module _ {P Q K A B D : Type 0} (w : Ways P Q K A B D) (prewriting : IsLawful w.
     given = given_longer (version_of t.start) h (newer ++ h) (older newer h) f.given;
     unsent = λ a. let u = f.unsent a in record { none = u.none; never = λ q r i e. u.never q r (sent_before (λ (x : CommitRequest). x.start_version ≡ version_of t.start) newer h q r (unsent a) e i) e };
     settled = f.settled;
-    at = work_on t.start t.status t.contents t.commits t.work o p newer h l unnamed f.at;
+    at = work_on t.options.retry_options t.start t.status t.contents t.commits t.work o p newer h l unnamed f.at;
   }
 
   -- no Commit of its start is new
@@ -215,5 +217,5 @@ idle_fits w t o p h i f = record {
   given = f.given;
   unsent = f.unsent;
   settled = f.settled;
-  at = subst (λ x. IsAtWork w t.start t.status t.contents t.commits x p h) (sym i) (subst (λ x. IsAtWork w t.start t.status t.contents t.commits x o h) i f.at);
+  at = subst (λ x. IsAtWork w t.options.retry_options t.start t.status t.contents t.commits x p h) (sym i) (subst (λ x. IsAtWork w t.options.retry_options t.start t.status t.contents t.commits x o h) i f.at);
 }

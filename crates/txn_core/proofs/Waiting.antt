@@ -21,6 +21,7 @@ use Rattle.txn_commit.specs.declared.committer.CommitterAnswer.{CommitterAnswer}
 use Rattle.txn_commit.specs.declared.committer.CommitterCall.{CommitterCall}
 use Rattle.txn_commit.specs.declared.secondary_job.SecondaryJob.{SecondaryJob}
 use Rattle.txn_commit.proofs.Going.{call_posted, call_waits, stage_runs, unheard_waits}
+use Rattle.txn_merge.specs.declared.retry_options.RetryOptions.{RetryOptions}
 use Rattle.txn_core.specs.Going.{HasFailed, IsAtWork, IsCommittedAt, IsJobFor, TransactionFits, TransactionReady, WorkReady}
 use Rattle.txn_core.specs.Transaction.{Standing, has_given_up, is_open}
 use Rattle.txn_core.specs.Waiting.{Follows, HandsOut, Opens, Rests, TransactionGoes, work_phase, work_waits}
@@ -43,16 +44,16 @@ runs_still phase {new = new} r g e = is_running (phase new) (λ n. n (ap phase (
 
 -- What it hands out
 
-hands_job : {Q B : Type 0} (m : Meaning Q (Result B Error)) (start t : Timestamp) (keys : List Key) (job : Option (SecondaryJob Q))
-    → HasVersion start → HasVersion t → IsJobFor start t keys job → HandsOut m (Ok (answer.Committed (Some t) job))
-hands_job m start t [] None u v j = (v, tt)
-hands_job m start t [] (Some job) u v j = absurd j
-hands_job m start t (k ∷ ks) None u v j = absurd j
-hands_job m start t (k ∷ ks) (Some job) u v j = (v, (rw j.own u, rw j.at v, rw j.stage tt))
+hands_job : {Q B : Type 0} (m : Meaning Q (Result B Error)) (options : RetryOptions) (start t : Timestamp) (keys : List Key) (job : Option (SecondaryJob Q))
+    → HasVersion start → HasVersion t → IsJobFor options start t keys job → HandsOut m (Ok (answer.Committed (Some t) job))
+hands_job m options start t [] None u v j = (v, tt)
+hands_job m options start t [] (Some job) u v j = absurd j
+hands_job m options start t (k ∷ ks) None u v j = absurd j
+hands_job m options start t (k ∷ ks) (Some job) u v j = (v, (rw j.own u, rw j.at v, rw j.stage tt))
 
-pub hands_committed : {Q B : Type 0} (m : Meaning Q (Result B Error)) (start t : Timestamp) (keys : List Key) (turn : Turn (Result (TxnAnswer Q) Error))
-    → HasVersion start → HasVersion t → IsCommittedAt start t keys turn → IfEnds turn (HandsOut m)
-hands_committed m start t keys turn u v (job, e, j) = rw e (hands_job m start t keys job u v j)
+pub hands_committed : {Q B : Type 0} (m : Meaning Q (Result B Error)) (options : RetryOptions) (start t : Timestamp) (keys : List Key) (turn : Turn (Result (TxnAnswer Q) Error))
+    → HasVersion start → HasVersion t → IsCommittedAt options start t keys turn → IfEnds turn (HandsOut m)
+hands_committed m options start t keys turn u v (job, e, j) = rw e (hands_job m options start t keys job u v j)
 
 pub hands_nothing : {Q B : Type 0} (m : Meaning Q (Result B Error)) (turn : Turn (Result (TxnAnswer Q) Error)) → HasFailed turn → IfEnds turn (HandsOut m)
 hands_nothing m Stopped f = tt
@@ -236,7 +237,7 @@ module _ {P Q K A B D : Type 0} (w : Ways P Q K A B D) (p : IsLawful w.prewritin
   pub standing_waits : (t : Standing P Q K) (o : Posted) (h : List Event) → TransactionFits w t o h → work_phase w t.work ≡ Running → (a : Awaited) × work_waits w t.work a
   standing_waits t o h f e = by t.work f.at e
     where
-      by : (g : Work P Q K) → IsAtWork w t.start t.status t.contents t.commits g o h → work_phase w g ≡ Running → (a : Awaited) × work_waits w g a
+      by : (g : Work P Q K) → IsAtWork w t.options.retry_options t.start t.status t.contents t.commits g o h → work_phase w g ≡ Running → (a : Awaited) × work_waits w g a
       by Idle i e = absurd (subst IsRunning (sym e) tt)
       by (Open call) i e = call_waits w p q k call t.commits o h i.fits e
       by GaveUp i e = absurd (subst IsRunning (sym e) tt)
@@ -244,7 +245,7 @@ module _ {P Q K A B D : Type 0} (w : Ways P Q K A B D) (p : IsLawful w.prewritin
   pub standing_posted : (t : Standing P Q K) (o : Posted) (h : List Event) (a : Awaited) → TransactionFits w t o h → work_waits w t.work a → WasPosted o h a
   standing_posted t o h a f x = by t.work f.at x
     where
-      by : (g : Work P Q K) → IsAtWork w t.start t.status t.contents t.commits g o h → work_waits w g a → WasPosted o h a
+      by : (g : Work P Q K) → IsAtWork w t.options.retry_options t.start t.status t.contents t.commits g o h → work_waits w g a → WasPosted o h a
       by Idle i x = absurd x
       by (Open call) i x = call_posted w p q k call t.commits o h a i.fits x
       by GaveUp i x = absurd x

@@ -35,6 +35,7 @@ ghost use Rattle.txn_history.specs.Plan.{Key, Plan};
 ghost use Rattle.txn_history.specs.Posted.{Errand, Licensed, Posted, Within, after};
 ghost use Rattle.txn_history.specs.Turn.{HasEnded, Turn};
 ghost use Rattle.txn_kv.specs.Timestamp.{version_of};
+ghost use Rattle.txn_merge.specs.declared.retry_options.RetryOptions.{RetryOptions};
 ghost use Rattle.txn_kv.specs.declared.errors.Error.{Error};
 ghost use Rattle.txn_kv.specs.declared.request.CommitRequest.{CommitRequest as Asked};
 ghost use Rattle.txn_kv.specs.declared.request.Request.TheVariants.{Commit};
@@ -85,8 +86,8 @@ pub fn keys_stay_in_order()
 
 /// The job that a commit hands out can have arisen so: the primary is committed, and it is of the other keys.
 pub fn jobs_arise<Q: PlanFor<CommitRequest>>()
-    ensures { (start t : Timestamp) (parts : CommitParts) (job : SecondaryJob Q) (o : Posted) (h : List Event)
-        → IsFormed parts → PrimaryCommitted (plan_of parts) h (version_of start) (version_of t) → IsJobOf start t parts.secondaries job
+    ensures { (options : RetryOptions) (start t : Timestamp) (parts : CommitParts) (job : SecondaryJob Q) (o : Posted) (h : List Event)
+        → IsFormed parts → PrimaryCommitted (plan_of parts) h (version_of start) (version_of t) → IsJobOf options start t parts.secondaries job
         → JobFits Q.meaning Q.refuses (plan_of parts) parts.secondaries job o h }
 {}
 
@@ -193,15 +194,15 @@ where
     P: PlanFor<PrewriteRequest>,
     Q: PlanFor<CommitRequest>,
     K: PlanFor<BatchRollbackRequest>,
-    ensures committed { (start t : Timestamp) (contents : Contents) (c : Followed) (h : List Event) (job : Option (SecondaryJob Q))
-        → TransactionGives (ways P.meaning Q.meaning K.meaning P.refuses Q.refuses K.refuses) start contents c h (Ok (answers.Committed (Some t) job))
+    ensures committed { (options : RetryOptions) (start t : Timestamp) (contents : Contents) (c : Followed) (h : List Event) (job : Option (SecondaryJob Q))
+        → TransactionGives (ways P.meaning Q.meaning K.meaning P.refuses Q.refuses K.refuses) options start contents c h (Ok (answers.Committed (Some t) job))
         → (parts : CommitParts) × (parts_of contents ≡ Some parts) × PrimaryCommitted (plan_of parts) h (version_of start) (version_of t) }
-    ensures job { (start t : Timestamp) (contents : Contents) (c : Followed) (o : Posted) (h : List Event) (job : SecondaryJob Q)
-        → TransactionGives (ways P.meaning Q.meaning K.meaning P.refuses Q.refuses K.refuses) start contents c h (Ok (answers.Committed (Some t) (Some job)))
+    ensures job { (options : RetryOptions) (start t : Timestamp) (contents : Contents) (c : Followed) (o : Posted) (h : List Event) (job : SecondaryJob Q)
+        → TransactionGives (ways P.meaning Q.meaning K.meaning P.refuses Q.refuses K.refuses) options start contents c h (Ok (answers.Committed (Some t) (Some job)))
         → (parts : CommitParts) × (parts_of contents ≡ Some parts) × (job.start ≡ start) × (job.commit ≡ t) × JobFits Q.meaning Q.refuses (plan_of parts) parts.secondaries job o h }
-    ensures checked { (start : Timestamp) (contents : Contents) (c : Followed) (h : List Event) (job : Option (SecondaryJob Q))
-        → TransactionGives (ways P.meaning Q.meaning K.meaning P.refuses Q.refuses K.refuses) start contents c h (Ok (answers.Committed None job)) → locks_nothing contents ≡ true }
-    ensures rolled_back { (start : Timestamp) (contents : Contents) (c : Followed) (h : List Event)
-        → TransactionGives (ways P.meaning Q.meaning K.meaning P.refuses Q.refuses K.refuses) start contents c h (Ok answers.Unit)
+    ensures checked { (options : RetryOptions) (start : Timestamp) (contents : Contents) (c : Followed) (h : List Event) (job : Option (SecondaryJob Q))
+        → TransactionGives (ways P.meaning Q.meaning K.meaning P.refuses Q.refuses K.refuses) options start contents c h (Ok (answers.Committed None job)) → locks_nothing contents ≡ true }
+    ensures rolled_back { (options : RetryOptions) (start : Timestamp) (contents : Contents) (c : Followed) (h : List Event)
+        → TransactionGives (ways P.meaning Q.meaning K.meaning P.refuses Q.refuses K.refuses) options start contents c h (Ok answers.Unit)
         → (locks_nothing contents ≡ true) ⊎ ((parts : CommitParts) × (parts_of contents ≡ Some parts) × PrimaryRolledBack (plan_of parts) h (version_of start)) }
 {}

@@ -435,13 +435,13 @@ where
 
     /// The primary is committed. A job is left for the other keys.
     fn committed(&self, timestamp: Timestamp, keys: Items<Key>) -> Progress<TxnAnswer<Q>>
-        ensures { IsCommittedAt self.now.start timestamp keys (turn_of (Ok result)) }
+        ensures { IsCommittedAt self.now.options.retry_options self.now.start timestamp keys (turn_of (Ok result)) }
     {
         Progress::Done(Ok(TxnAnswer::Committed(Some(timestamp), self.job(timestamp, keys))))
     }
 
     fn job(&self, timestamp: Timestamp, keys: Items<Key>) -> Option<SecondaryJob<Q>>
-        ensures { IsJobFor self.now.start timestamp keys result }
+        ensures { IsJobFor self.now.options.retry_options self.now.start timestamp keys result }
     {
         if keys.as_slice().is_empty() {
             return None;
@@ -482,7 +482,7 @@ where
     }
 
     fn committer(&self, parts: CommitParts) -> CommitterCall<P, Q, K>
-        ensures { IsNewCall self.now.start parts result }
+        ensures { IsNewCall self.now.options.retry_options self.now.start parts result }
     {
         CommitterCall::new(self.alloc, self.timestamp, parts, self.retries())
     }

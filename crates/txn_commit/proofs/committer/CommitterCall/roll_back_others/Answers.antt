@@ -24,10 +24,10 @@ pub returns-in_err-plan-clause-moves : goal.returns-in_err-plan-clause-moves
 returns-in_err-plan-clause-moves g c c' = Moves-stopped (stopped_is _ c.from_residual-in_err-plan.ensures.0) refl
 
 pub returns-in_err-turn-clause-moves : goal.returns-in_err-turn-clause-moves
-returns-in_err-turn-clause-moves g c c' = Moves-stops (Moves-before (λ h u. (rolling_others_begins _ _ c.args.self.now c.in_ok-plan.plan c' c.args.out.now _ (rw c.go.ensures.state refl) (c.in_ok-keys.ensures ∙ rw c.go.ensures.state refl) c.in_ok-plan.ensures h u, tt)) (rolling_others_on _ (record c.args.self.now { stage = stages.RollingBackOthers c.in_ok-plan.plan }) c.in_ok-plan.plan c.start-turn.new.self c' started c.args.out.now c.start-turn.new.out _ refl (λ h. Nothing) c.start-turn.ensures.tells.moves c.start-turn.ensures.tells.job)) (stopped_is _ c.from_residual-in_err-turn.ensures.0)
+returns-in_err-turn-clause-moves g c c' = Moves-stops (Moves-before (λ h u. (rolling_others_begins _ _ c.args.self.now c.in_ok-plan.plan c' c.args.out.now _ (rw c.go.ensures.state refl) (c.in_ok-keys.ensures ∙ rw c.go.ensures.state refl) (rw c.go.ensures.state refl) c.in_ok-plan.ensures h u, tt)) (rolling_others_on _ (record c.args.self.now { stage = stages.RollingBackOthers c.in_ok-plan.plan }) c.in_ok-plan.plan c.start-turn.new.self c' started c.args.out.now c.start-turn.new.out _ refl (λ h. Nothing) c.start-turn.ensures.tells.moves c.start-turn.ensures.tells.job)) (stopped_is _ c.from_residual-in_err-turn.ensures.0)
 
 pub returns-clause-moves : goal.returns-clause-moves
-returns-clause-moves g c c' = then_goes_on _ c.args.self.now c.go-2.new.self _ (stages.RollingBackOthers c.start-turn.new.self) c' c' c' _ (λ x. AreRolledBack (version_of x.start) x.parts.secondaries) _ _ _ _ _ _ _ (c.go-2.ensures.state ∙ rw c.go.ensures.state refl) (Moves-before (λ h u. (rolling_others_begins _ _ c.args.self.now c.in_ok-plan.plan c' c.args.out.now _ (rw c.go.ensures.state refl) (c.in_ok-keys.ensures ∙ rw c.go.ensures.state refl) c.in_ok-plan.ensures h u, tt)) (rolling_others_on _ (record c.args.self.now { stage = stages.RollingBackOthers c.in_ok-plan.plan }) c.in_ok-plan.plan c.start-turn.new.self c' started c.args.out.now c.start-turn.new.out _ refl (λ h. Nothing) c.in_ok-turn.ensures.tells.moves c.in_ok-turn.ensures.tells.job)) (c.after_rollback.ensures.moves c' _ c.start-turn.new.self (rw c.go-2.ensures.state refl))
+returns-clause-moves g c c' = then_goes_on _ c.args.self.now c.go-2.new.self _ (stages.RollingBackOthers c.start-turn.new.self) c' c' c' (λ x. g.K.PlanFor.refuses x.retry_options) (λ x. AreRolledBack (version_of x.start) x.parts.secondaries) _ _ _ _ _ _ _ (c.go-2.ensures.state ∙ rw c.go.ensures.state refl) (Moves-before (λ h u. (rolling_others_begins _ _ c.args.self.now c.in_ok-plan.plan c' c.args.out.now _ (rw c.go.ensures.state refl) (c.in_ok-keys.ensures ∙ rw c.go.ensures.state refl) (rw c.go.ensures.state refl) c.in_ok-plan.ensures h u, tt)) (rolling_others_on _ (record c.args.self.now { stage = stages.RollingBackOthers c.in_ok-plan.plan }) c.in_ok-plan.plan c.start-turn.new.self c' started c.args.out.now c.start-turn.new.out _ refl (λ h. Nothing) c.in_ok-turn.ensures.tells.moves c.in_ok-turn.ensures.tells.job)) (c.after_rollback.ensures.moves c' _ c.start-turn.new.self (rw c.go-2.ensures.state refl))
 
 pub returns-in_err-turn-clause-counts : goal.returns-in_err-turn-clause-counts
 returns-in_err-turn-clause-counts g c = stop_counts _ _ (stopped_is _ c.from_residual-in_err-turn.ensures.0) (rolling_others_starts _ _ c.args.self.now c.go-2.new.self _ c.in_ok-plan.plan c.start-turn.new.self (c.go-2.ensures.state ∙ rw c.go.ensures.state refl) (gone_wide (ways g.P.Plan.meaning g.Q.Plan.meaning g.K.Plan.meaning g.P.PlanFor.refuses g.Q.PlanFor.refuses g.K.PlanFor.refuses) (costs_of g.P.PlanFor.costs g.Q.PlanFor.costs g.K.PlanFor.costs) c.args.self.now c.go.new.self c.go-2.new.self c.go.ensures.width c.go-2.ensures.width) (c.in_ok-keys.ensures ∙ rw c.go.ensures.state refl) c.in_ok-plan.ensures c.start-turn.ensures.counts)

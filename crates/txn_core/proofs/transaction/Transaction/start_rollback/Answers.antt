@@ -13,10 +13,10 @@ pub returns-then-not-parts-clause-moves : goal.returns-then-not-parts-clause-mov
 returns-then-not-parts-clause-moves g c = rolls_nothing _ c.args.self.now c.nothing_rolled_back.new.self c.args.parts _ _ _ c.nothing_rolled_back.ensures.answer c.nothing_rolled_back.ensures.state c.requires.parts (not_locking _ c.if-not-parts.true)
 
 pub returns-in-Err-clause-moves : goal.returns-in-Err-clause-moves
-returns-in-Err-clause-moves g c = Moves-stops (lifts _ c.committer-call.result c.roll_back.new.self c.args.self.now c.args.self.now _ _ _ _ _ _ _ (λ h. Nothing) (record { start = ap (λ x. x.start) c.roll_back.ensures.job; parts = ap (λ x. x.parts) c.roll_back.ensures.job }) refl (λ h u. (begin_fits _ c.args.self.now c.committer-call.result c.args.parts _ h c.requires.start c.requires.parts c.committer-call.ensures u.0, u.1)) (λ a e. (refl, c.roll_back.ensures.back)) (c.roll_back.ensures.moves c.args.self.now.commits)) c.stop.ensures.turn
+returns-in-Err-clause-moves g c = Moves-stops (lifts _ c.committer-call.result c.roll_back.new.self c.args.self.now c.args.self.now _ _ _ _ _ _ _ (λ h. Nothing) (record { start = ap (λ x. x.start) c.roll_back.ensures.job; parts = ap (λ x. x.parts) c.roll_back.ensures.job; retries = ap (λ x. x.retry_options) c.roll_back.ensures.job }) refl (λ h u. (begin_fits _ c.args.self.now c.committer-call.result c.args.parts _ h c.requires.start c.requires.parts c.committer-call.ensures u.0, u.1)) (λ a e. (refl, c.roll_back.ensures.back)) (c.roll_back.ensures.moves c.args.self.now.commits)) c.stop.ensures.turn
 
 pub returns-in-Ok-clause-moves : goal.returns-in-Ok-clause-moves
-returns-in-Ok-clause-moves g c = goes_on _ c.committer-call.result c.roll_back.new.self c.args.self.now c.args.self.now c.go_on.new.self _ _ _ _ _ _ _ _ (λ h. Nothing) (record { start = ap (λ x. x.start) c.roll_back.ensures.job; parts = ap (λ x. x.parts) c.roll_back.ensures.job }) refl (λ h u. (begin_fits _ c.args.self.now c.committer-call.result c.args.parts _ h c.requires.start c.requires.parts c.committer-call.ensures u.0, u.1)) (λ a e. (refl, c.roll_back.ensures.back)) (rw c.in-Ok.is at (c.roll_back.ensures.moves c.args.self.now.commits)) (c.go_on.ensures.takes_up _)
+returns-in-Ok-clause-moves g c = goes_on _ c.committer-call.result c.roll_back.new.self c.args.self.now c.args.self.now c.go_on.new.self _ _ _ _ _ _ _ _ (λ h. Nothing) (record { start = ap (λ x. x.start) c.roll_back.ensures.job; parts = ap (λ x. x.parts) c.roll_back.ensures.job; retries = ap (λ x. x.retry_options) c.roll_back.ensures.job }) refl (λ h u. (begin_fits _ c.args.self.now c.committer-call.result c.args.parts _ h c.requires.start c.requires.parts c.committer-call.ensures u.0, u.1)) (λ a e. (refl, c.roll_back.ensures.back)) (rw c.in-Ok.is at (c.roll_back.ensures.moves c.args.self.now.commits)) (c.go_on.ensures.takes_up _)
 
 pub returns-then-not-parts-clause-counts : goal.returns-then-not-parts-clause-counts
 returns-then-not-parts-clause-counts g c = rest_pays _ _ c.args.self.now c.nothing_rolled_back.new.self (rw c.requires.aside refl) (rw c.nothing_rolled_back.ensures.state refl) (rw c.nothing_rolled_back.ensures.state refl)
