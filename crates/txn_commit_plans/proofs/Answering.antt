@@ -18,7 +18,7 @@ use Rattle.txn_merge.specs.Firsts.{first_seen, or_else, seen_in}
 use Rattle.txn_merge.specs.Gathered.{errors_of}
 use Rattle.txn_multi.specs.Cutting.{IsPlacement}
 use Rattle.txn_multi.specs.Multi.{IsAnswer}
-use Rattle.txn_multi.specs.Task.{IsOutcome, IsResult}
+use Rattle.txn_multi.specs.Task.{attempts_left, IsOutcome, IsResult}
 use Rattle.txn_multi.specs.declared.multi_region.RetryableMultiRegion.{RetryableMultiRegion}
 use Rattle.txn_multi.specs.declared.part.Part.{Part}
 use Rattle.txn_plan.specs.Dispatch.{dispatch, IsReplied}
@@ -84,15 +84,15 @@ module _ {R V : Type 0} (request_of : R → Request) (reply_of : V → Reply) (k
       let r = subst (λ a. IsReplied reply_of (request_of job.inner.request) h a) (not_locked g.0 v g.2) g.1 in
       record { ticket = r.0; response = v; taken = r.1; clean = i.1; placed = i.2 }
 
-  parts_answered : (h : List Event) (parts : List (Part (Shard R V))) (outcomes : List (Outcome V)) (items : List (Result V Error))
-      → AllZip (λ p outcome. IsOutcome (unlocked (dispatch request_of reply_of) locks) keys region p.region p.plan h outcome) parts outcomes
+  parts_answered : (attempts : ℕ) (h : List Event) (parts : List (Part (Shard R V))) (outcomes : List (Outcome V)) (items : List (Result V Error))
+      → AllZip (λ p outcome. IsOutcome (unlocked (dispatch request_of reply_of) locks) keys region attempts p.region p.plan h outcome) parts outcomes
       → all_or_first outcomes ≡ Ok items → AreOk items → (p : Part (Shard R V)) → IsAmong parts p → IsAnswered request_of reply_of keys region h p.plan.inner.request
-  parts_answered h [] outcomes items z e ok p i = absurd i
-  parts_answered h (q ∷ parts) [] items z e ok p i = absurd z
-  parts_answered h (q ∷ parts) (Err why ∷ outcomes) items z e ok p i = cc
-  parts_answered h (q ∷ parts) (Ok r ∷ outcomes) items z e ok p i =
+  parts_answered attempts h [] outcomes items z e ok p i = absurd i
+  parts_answered attempts h (q ∷ parts) [] items z e ok p i = absurd z
+  parts_answered attempts h (q ∷ parts) (Err why ∷ outcomes) items z e ok p i = cc
+  parts_answered attempts h (q ∷ parts) (Ok r ∷ outcomes) items z e ok p i =
       let f = after_first r (all_or_first outcomes) items e in
-      at r f.0 z.0 (subst AreOk f.2 ok) i (λ more. parts_answered h parts outcomes f.0 z.1 f.1 more p)
+      at r f.0 z.0 (subst AreOk f.2 ok) i (λ more. parts_answered attempts h parts outcomes f.0 z.1 f.1 more p)
     where
       at : (r : Result V Error) (rest : List (Result V Error)) → IsResult (unlocked (dispatch request_of reply_of) locks) keys region q.plan h r → AreOk (r ∷ rest) → IsAmong (q ∷ parts) p
           → (AreOk rest → IsAmong parts p → IsAnswered request_of reply_of keys region h p.plan.inner.request) → IsAnswered request_of reply_of keys region h p.plan.inner.request
@@ -108,7 +108,7 @@ module _ {R V H L : Type 0} (request_of : R → Request) (reply_of : V → Reply
     parts = g.0;
     cut = g.2.cut;
     belong = λ p i. all_among (λ (x : Part (Shard R V)). is_part x.plan.inner.request s.inner.inner.request) g.0 p g.2.belong i;
-    each = λ p i. parts_answered request_of reply_of keys region locks h g.0 g.1 results.items g.2.each (subst (λ b. IsAnswer b g.1 (Ok results)) e g.3) ok p i;
+    each = λ p i. parts_answered request_of reply_of keys region locks (attempts_left s.backoff) h g.0 g.1 results.items g.2.each (subst (λ b. IsAnswer b g.1 (Ok results)) e g.3) ok p i;
   }
   answered s h results e (inr w) ok = let never = w.1 in cc
 

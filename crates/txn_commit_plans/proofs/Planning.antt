@@ -27,6 +27,7 @@ use Rattle.txn_merge.specs.Firsts.{first_seen, region_in, seen_in}
 use Rattle.txn_merge.specs.Gathered.{FirstErrorOr}
 use Rattle.txn_merge.specs.KeyErrors.{no_error, no_errors, views_of_error}
 use Rattle.txn_merge.specs.Locks.{locks_of_error, locks_of_errors}
+use Rattle.txn_merge.specs.declared.retry_options.RetryOptions.{RetryOptions}
 use Rattle.txn_multi.specs.Cutting.{IsPlacement}
 use Rattle.txn_multi.specs.Few.{by_items}
 use Rattle.txn_plan.specs.Extracted.{IsAnswer}
@@ -35,8 +36,9 @@ use Rattle.txn_shard.specs.Parts.{BatchRollbackPart, CommitPart, PrewritePart}
 use Rattle.txn_shard.specs.Shards.{AreJoined, ArePieces}
 use Rattle.txn_commit.specs.Counting.{costs_of, IsOneEach}
 use Rattle.txn_commit.specs.Plans.{AreCommitted, ArePrewritten, AreRolledBack, IsForeign, IsPartOf, IsPlanFor}
-use Rattle.txn_commit_plans.specs.Failing.{HasGiven}
-use Rattle.txn_commit_plans.specs.Kinds.{collected, commit_keys, commit_plan, commits, mutations_of, prewrite_plan, prewrites, rollback_keys, rollback_plan, rollbacks, Collected, CommitPlan, Commits, PrewritePlan, Prewrites, RollbackPlan, Rollbacks}
+use Rattle.txn_commit_plans.specs.Failing.{HasGivenWith}
+use Rattle.txn_commit_plans.specs.Kinds.{collected, commit_keys, commit_plan, commit_retries, commits, mutations_of, prewrite_plan, prewrite_retries, prewrites, rollback_keys, rollback_plan, rollback_retries, rollbacks, Collected, CommitPlan, Commits, PrewritePlan, Prewrites, RollbackPlan, Rollbacks}
+use Rattle.txn_commit_plans.specs.OverRegions.{retries_of}
 use Rattle.txn_commit_plans.proofs.Answering.{answered, ok_if_clean, ok_if_collected, sends, AreAnswered}
 use Rattle.txn_commit_plans.proofs.Pieces.{among_key, key_among, key_of_part, key_stands, part_with, some_key}
 use Rattle.txn_commit_plans.proofs.Placing.{foreign}
@@ -84,14 +86,14 @@ committed request context h a k named =
     )
 
 pub plans_commit : (request : CommitRequest) (context : Option Context) (p : CommitPlan) → p.inner.inner.inner.request ≡ record request { context = context } → p.inner.preserve_region_results ≡ false
-    → IsUnbegun commit_plan p → commit_plan.ready p → IsPlanFor commit_plan (HasGiven commit_plan) by_items (Commit request) p
+    → IsUnbegun commit_plan p → commit_plan.ready p → IsPlanFor commit_plan (HasGivenWith commit_plan commit_retries (commit_retries p)) by_items (Commit request) p
 plans_commit request context p e all u r = record {
   unbegun = u;
   ready = r;
   light = λ n. subst (λ (r : CommitRequest). by_items (length r.keys) n * 1 ≤ by_items (length request.keys) n) (sym e) (light_each (length request.keys) n);
   asks = λ h q a. sent q h (sends Commit reply.Commit (λ v. views_of_error v.error) (λ v. v.region_error) (λ v. locks_of_error v.error) CommitPart commit_keys (λ whole pieces. ArePieces whole pieces) (λ r. by_items (length r.keys)) p.inner h q a);
   means = λ h v g. answers h v g.0 g.1 (whole_answer (λ (x : Vec (Result CommitResponse Error)). first_seen (seen_in (λ (y : CommitResponse). views_of_error y.error)) x.items) _ g.0 v g.2);
-  fails = λ h x g. (p, g);
+  fails = λ h x g. (p, refl, g);
 }
   where
     sent : (q : Request) (h : List Event) → ((part : CommitRequest) × CommitPart part p.inner.inner.inner.request × (q ≡ Commit part)) ⊎ IsPlacement h q → IsPartOf (Commit request) q ⊎ IsForeign h q
@@ -127,14 +129,14 @@ rolled_back request context h a k named =
     )
 
 pub plans_rollback : (request : BatchRollbackRequest) (context : Option Context) (p : RollbackPlan) → p.inner.inner.inner.request ≡ record request { context = context } → p.inner.preserve_region_results ≡ false
-    → IsUnbegun rollback_plan p → rollback_plan.ready p → IsPlanFor rollback_plan (HasGiven rollback_plan) by_items (BatchRollback request) p
+    → IsUnbegun rollback_plan p → rollback_plan.ready p → IsPlanFor rollback_plan (HasGivenWith rollback_plan rollback_retries (rollback_retries p)) by_items (BatchRollback request) p
 plans_rollback request context p e all u r = record {
   unbegun = u;
   ready = r;
   light = λ n. subst (λ (r : BatchRollbackRequest). by_items (length r.keys) n * 1 ≤ by_items (length request.keys) n) (sym e) (light_each (length request.keys) n);
   asks = λ h q a. sent q h (sends BatchRollback reply.BatchRollback (λ v. views_of_error v.error) (λ v. v.region_error) (λ v. locks_of_error v.error) BatchRollbackPart rollback_keys (λ whole pieces. AreJoined whole pieces) (λ r. by_items (length r.keys)) p.inner h q a);
   means = λ h v g. answers h v g.0 g.1 (whole_answer (λ (x : Vec (Result BatchRollbackResponse Error)). first_seen (seen_in (λ (y : BatchRollbackResponse). views_of_error y.error)) x.items) _ g.0 v g.2);
-  fails = λ h x g. (p, g);
+  fails = λ h x g. (p, refl, g);
 }
   where
     sent : (q : Request) (h : List Event) → ((part : BatchRollbackRequest) × BatchRollbackPart part p.inner.inner.inner.request × (q ≡ BatchRollback part)) ⊎ IsPlacement h q → IsPartOf (BatchRollback request) q ⊎ IsForeign h q
@@ -171,14 +173,14 @@ prewritten request context h a m among =
     }
 
 pub plans_prewrite : (request : PrewriteRequest) (context : Option Context) (p : PrewritePlan) → p.inner.inner.inner.inner.request ≡ record request { context = context } → p.inner.inner.preserve_region_results ≡ false
-    → IsUnbegun prewrite_plan p → prewrite_plan.ready p → IsPlanFor prewrite_plan (HasGiven prewrite_plan) by_items (Prewrite request) p
+    → IsUnbegun prewrite_plan p → prewrite_plan.ready p → IsPlanFor prewrite_plan (HasGivenWith prewrite_plan prewrite_retries (prewrite_retries p)) by_items (Prewrite request) p
 plans_prewrite request context p e all u r = record {
   unbegun = u;
   ready = r;
   light = λ n. subst (λ (r : PrewriteRequest). by_items (length r.mutations) n * 1 ≤ by_items (length request.mutations) n) (sym e) (light_each (length request.mutations) n);
   asks = λ h q a. sent q h (sends Prewrite reply.Prewrite (λ v. map key v.errors) (λ v. v.region_error) (λ v. locks_of_errors v.errors) PrewritePart mutations_of (λ whole pieces. AreJoined whole pieces) (λ r. by_items (length r.mutations)) p.inner.inner h q a);
   means = λ h v g. answers h v g.0 g.1 (whole_answer (λ (x : Vec PrewriteResponse). first_seen (λ (y : PrewriteResponse). map key y.errors) x.items) _ g.0 v g.2).0;
-  fails = λ h x g. (p, g);
+  fails = λ h x g. (p, refl, g);
 }
   where
     sent : (q : Request) (h : List Event) → ((part : PrewriteRequest) × PrewritePart part p.inner.inner.inner.inner.request × (q ≡ Prewrite part)) ⊎ IsPlacement h q → IsPartOf (Prewrite request) q ⊎ IsForeign h q
@@ -197,28 +199,31 @@ plans_prewrite request context p e all u r = record {
 
 -- The plans as they are made: of a request over regions, whose errors are taken out.
 
-pub made_commit : (request : CommitRequest) (context : Option Context) (s : Commits) (p : CommitPlan) → p.inner ≡ s → s.inner.inner.request ≡ record request { context = context } → s.preserve_region_results ≡ false
-    → IsUnbegun commits s → commits.ready s → IsPlanFor commit_plan (HasGiven commit_plan) by_items (Commit request) p
-made_commit request context s p e same all u r =
-    plans_commit request context p (ap (λ (x : Commits). x.inner.inner.request) e ∙ same) (ap (λ (x : Commits). x.preserve_region_results) e ∙ all)
+pub made_commit : (request : CommitRequest) (context : Option Context) (options : RetryOptions) (s : Commits) (p : CommitPlan) → p.inner ≡ s → s.inner.inner.request ≡ record request { context = context } → s.preserve_region_results ≡ false → retries_of s ≡ options
+    → IsUnbegun commits s → commits.ready s → IsPlanFor commit_plan (HasGivenWith commit_plan commit_retries options) by_items (Commit request) p
+made_commit request context options s p e same all tries u r =
+    subst (λ x. IsPlanFor commit_plan (HasGivenWith commit_plan commit_retries x) by_items (Commit request) p) (ap (λ (x : Commits). retries_of x) e ∙ tries)
+    (plans_commit request context p (ap (λ (x : Commits). x.inner.inner.request) e ∙ same) (ap (λ (x : Commits). x.preserve_region_results) e ∙ all)
     (around-unbegun commits (λ x. x.inner) (λ x. IsAnswer (λ v. first_seen (seen_in (λ (y : CommitResponse). views_of_error y.error)) v.items) (λ v. filter_map (region_in (λ (y : CommitResponse). y.region_error)) v.items)) (λ x. ⊤) (λ b. false) p (subst (IsUnbegun commits) (sym e) u))
-    (subst commits.ready (sym e) r, tt)
+    (subst commits.ready (sym e) r, tt))
 
-pub made_rollback : (request : BatchRollbackRequest) (context : Option Context) (s : Rollbacks) (p : RollbackPlan) → p.inner ≡ s → s.inner.inner.request ≡ record request { context = context } → s.preserve_region_results ≡ false
-    → IsUnbegun rollbacks s → rollbacks.ready s → IsPlanFor rollback_plan (HasGiven rollback_plan) by_items (BatchRollback request) p
-made_rollback request context s p e same all u r =
-    plans_rollback request context p (ap (λ (x : Rollbacks). x.inner.inner.request) e ∙ same) (ap (λ (x : Rollbacks). x.preserve_region_results) e ∙ all)
+pub made_rollback : (request : BatchRollbackRequest) (context : Option Context) (options : RetryOptions) (s : Rollbacks) (p : RollbackPlan) → p.inner ≡ s → s.inner.inner.request ≡ record request { context = context } → s.preserve_region_results ≡ false → retries_of s ≡ options
+    → IsUnbegun rollbacks s → rollbacks.ready s → IsPlanFor rollback_plan (HasGivenWith rollback_plan rollback_retries options) by_items (BatchRollback request) p
+made_rollback request context options s p e same all tries u r =
+    subst (λ x. IsPlanFor rollback_plan (HasGivenWith rollback_plan rollback_retries x) by_items (BatchRollback request) p) (ap (λ (x : Rollbacks). retries_of x) e ∙ tries)
+    (plans_rollback request context p (ap (λ (x : Rollbacks). x.inner.inner.request) e ∙ same) (ap (λ (x : Rollbacks). x.preserve_region_results) e ∙ all)
     (around-unbegun rollbacks (λ x. x.inner) (λ x. IsAnswer (λ v. first_seen (seen_in (λ (y : BatchRollbackResponse). views_of_error y.error)) v.items) (λ v. filter_map (region_in (λ (y : BatchRollbackResponse). y.region_error)) v.items)) (λ x. ⊤) (λ b. false) p (subst (IsUnbegun rollbacks) (sym e) u))
-    (subst rollbacks.ready (sym e) r, tt)
+    (subst rollbacks.ready (sym e) r, tt))
 
-pub made_prewrite : (request : PrewriteRequest) (context : Option Context) (s : Prewrites) (m : Collected) (p : PrewritePlan) → p.inner ≡ m → m.inner ≡ s → s.inner.inner.request ≡ record request { context = context } → s.preserve_region_results ≡ false
-    → IsUnbegun prewrites s → prewrites.ready s → IsPlanFor prewrite_plan (HasGiven prewrite_plan) by_items (Prewrite request) p
-made_prewrite request context s m p e f same all u r =
+pub made_prewrite : (request : PrewriteRequest) (context : Option Context) (options : RetryOptions) (s : Prewrites) (m : Collected) (p : PrewritePlan) → p.inner ≡ m → m.inner ≡ s → s.inner.inner.request ≡ record request { context = context } → s.preserve_region_results ≡ false → retries_of s ≡ options
+    → IsUnbegun prewrites s → prewrites.ready s → IsPlanFor prewrite_plan (HasGivenWith prewrite_plan prewrite_retries options) by_items (Prewrite request) p
+made_prewrite request context options s m p e f same all tries u r =
     let g = ap (λ (x : Collected). x.inner) e ∙ f in
-    plans_prewrite request context p (ap (λ (x : Prewrites). x.inner.inner.request) g ∙ same) (ap (λ (x : Prewrites). x.preserve_region_results) g ∙ all)
+    subst (λ x. IsPlanFor prewrite_plan (HasGivenWith prewrite_plan prewrite_retries x) by_items (Prewrite request) p) (ap (λ (x : Prewrites). retries_of x) g ∙ tries)
+    (plans_prewrite request context p (ap (λ (x : Prewrites). x.inner.inner.request) g ∙ same) (ap (λ (x : Prewrites). x.preserve_region_results) g ∙ all)
     (around-unbegun collected (λ x. x.inner) (λ x. IsAnswer (λ v. first_seen (λ (y : PrewriteResponse). map key y.errors) v.items) (λ v. filter_map (λ (y : PrewriteResponse). y.region_error) v.items)) (λ x. ⊤) (λ b. false) p
     (around-unbegun prewrites (λ x. x.inner) (λ x. IsMerged (λ results result. FirstErrorOr (λ values out. out.items ≡ values) results result)) (λ x. ⊤) (λ b. false) p.inner (subst (IsUnbegun prewrites) (sym g) u)))
-    ((subst prewrites.ready (sym g) r, tt), tt)
+    ((subst prewrites.ready (sym g) r, tt), tt))
 
 pub are_one_each : IsOneEach (costs_of by_items by_items by_items)
 are_one_each = record {

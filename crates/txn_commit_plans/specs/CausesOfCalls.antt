@@ -2,7 +2,8 @@
 use Rattle.std.specs.Prelude.{◌≡◌, ◌⊎◌, ℕ, List, [], ◌∷◌, Option, Some, None, Err, refl}
 use Rattle.std.proofs.Common.{inl, inr, subst}
 use Rattle.txn_buffer.specs.Contents.{Contents}
-use Rattle.txn_causes.specs.Causes.{HasCause}
+use Rattle.txn_causes.specs.Causes.{HasCause, has_cause_more}
+use Rattle.txn_causes.specs.Spent.{IsSpent}
 use Rattle.txn_causes.specs.Heard.{heard_in}
 use Rattle.txn_commit.specs.Committing.{CommitterGives, Ways}
 use Rattle.txn_commit.specs.Following.{first_of, or_first, undetermined, Commits, KnowsCommits, PrimaryLost, PrimarySent}
@@ -20,17 +21,21 @@ use Rattle.txn_kv.specs.declared.errors.Error.{Error}
 use Rattle.txn_kv.specs.declared.query.PdQuery.TheVariants.{Time}
 use Rattle.txn_kv.specs.declared.ticket.Ticket.{Ticket}
 use Rattle.txn_kv.specs.declared.timestamp.Timestamp.{Timestamp}
+use Rattle.txn_merge.specs.declared.retry_options.RetryOptions.{RetryOptions}
+use Rattle.txn_multi.specs.Task.{attempts_left}
 use Rattle.txn_commit_plans.specs.CausesOfLookUps.{query_failed}
+use Rattle.txn_commit_plans.specs.Failing.{IsSpentBy}
 
--- an error has its cause in what was heard, or is that with which the oracle refused an ask for a timestamp
-abbrev pub IsExplained : List Event → Error → Type 0
-IsExplained h e = HasCause (heard_in h) (view_of e) ⊎ ((ask : Ticket) × Has h (Answered ask (Err e)))
+-- An error has its cause in what was heard, where requests at regions are tried again so often; or it is that with which the oracle
+-- refused an ask for a timestamp.
+abbrev pub IsExplained : ℕ → List Event → Error → Type 0
+IsExplained attempts h e = HasCause (heard_in h) (IsSpent (heard_in h) attempts) (view_of e) ⊎ ((ask : Ticket) × Has h (Answered ask (Err e)))
 
 -- What a commit or a rollback answers that failed: such an error. Where this Commit of the primary was lost or is not refused it is
 -- not known whether the transaction is committed, and the answer says so and holds such an error.
-abbrev pub IsCallExplained : Option Ticket → List Event → Error → Type 0
-IsCallExplained None h e = IsExplained h e
-IsCallExplained (Some t) h e = (inner : Error) × (view_of e ≡ not_known (view_of inner)) × IsExplained h inner
+abbrev pub IsCallExplained : ℕ → Option Ticket → List Event → Error → Type 0
+IsCallExplained attempts None h e = IsExplained attempts h e
+IsCallExplained attempts (Some t) h e = (inner : Error) × (view_of e ≡ not_known (view_of inner)) × IsExplained attempts h inner
 
 -- What is known of the Commit of the primary that a refused rollback names: it was lost; or none was, and it is not refused.
 abbrev pub IsRefusalExplained : Plan → ℕ → Commits → Ticket → List Event → Type 0
@@ -39,34 +44,33 @@ IsRefusalExplained plan s c t h = PrimaryLost plan s h t ⊎ ((c.lost ≡ None) 
 -- lemmas
 
 -- what a call for a timestamp answers that failed
-pub untimed_explained : (h : List Event) (e : Error) → WasUntimed h e → IsExplained h e
-untimed_explained h e w = by (query_failed h Time w.0 e w.1)
-  where
-    by : HasCause (heard_in h) (view_of e) ⊎ ((Time ≡ Time) × ((ask : Ticket) × Has h (Answered ask (Err e)))) → IsExplained h e
-    by (inl k) = inl k
-    by (inr k) = inr k.1
+pub untimed_caused : (h : List Event) (e : Error) → WasUntimed h e → HasCause (heard_in h) ⊥ (view_of e) ⊎ ((ask : Ticket) × Has h (Answered ask (Err e)))
+untimed_caused h e w = elim (query_failed h Time w.0 e w.1) [ inl k ↦ inl k | inr k ↦ inr k.1 ]
+
+pub untimed_explained : (attempts : ℕ) (h : List Event) (e : Error) → WasUntimed h e → IsExplained attempts h e
+untimed_explained attempts h e w = elim (untimed_caused h e w) [ inl k ↦ inl (has_cause_more (λ x y. y) (λ never. absurd never) (view_of e) k) | inr k ↦ inr k ]
 
 module _ {P Q K A B D : Type 0} (w : Ways P Q K A B D)
-    (unwritten : (h : List Event) (e : Error) → w.unwritten h e → HasCause (heard_in h) (view_of e))
-    (uncommitted : (h : List Event) (e : Error) → w.uncommitted h e → HasCause (heard_in h) (view_of e))
-    (unrolled : (h : List Event) (e : Error) → w.unrolled h e → HasCause (heard_in h) (view_of e)) where
-  committer_explained : (s : ℕ) (parts : CommitParts) (h : List Event) (e : Error) → CommitterGives w s parts h (Err e) → IsExplained h e
-  committer_explained s parts h e (inl (inl g)) = inl (unwritten h e g)
-  committer_explained s parts h e (inl (inr g)) = inl (uncommitted h e g)
-  committer_explained s parts h e (inr (inl g)) = inl (unrolled h e g)
-  committer_explained s parts h e (inr (inr g)) = untimed_explained h e g
+    (unwritten : (options : RetryOptions) (h : List Event) (e : Error) → w.unwritten options h e → HasCause (heard_in h) (IsSpentBy options h) (view_of e))
+    (uncommitted : (options : RetryOptions) (h : List Event) (e : Error) → w.uncommitted options h e → HasCause (heard_in h) (IsSpentBy options h) (view_of e))
+    (unrolled : (options : RetryOptions) (h : List Event) (e : Error) → w.unrolled options h e → HasCause (heard_in h) (IsSpentBy options h) (view_of e)) where
+  committer_explained : (options : RetryOptions) (s : ℕ) (parts : CommitParts) (h : List Event) (e : Error) → CommitterGives w options s parts h (Err e) → IsExplained (attempts_left options.region_backoff) h e
+  committer_explained options s parts h e (inl (inl g)) = inl (unwritten options h e g)
+  committer_explained options s parts h e (inl (inr g)) = inl (uncommitted options h e g)
+  committer_explained options s parts h e (inr (inl g)) = inl (unrolled options h e g)
+  committer_explained options s parts h e (inr (inr g)) = untimed_explained (attempts_left options.region_backoff) h e g
 
-  named_explained : (s : ℕ) (parts : CommitParts) (lost : Option Ticket) (h : List Event) (e : Error) → FailsWith w s parts lost h e → IsCallExplained lost h e
-  named_explained s parts None h e g = committer_explained s parts h e g
-  named_explained s parts (Some t) h e g = (g.0, g.1, committer_explained s parts h g.0 g.2)
+  named_explained : (options : RetryOptions) (s : ℕ) (parts : CommitParts) (lost : Option Ticket) (h : List Event) (e : Error) → FailsWith w options s parts lost h e → IsCallExplained (attempts_left options.region_backoff) lost h e
+  named_explained options s parts None h e g = committer_explained options s parts h e g
+  named_explained options s parts (Some t) h e g = (g.0, g.1, committer_explained options s parts h g.0 g.2)
 
   never_nothing : (e : Error) → IsNothing {Q = Q} (Err e) → ⊥
   never_nothing e (inl n) = cc
   never_nothing e (inr n) = cc
 
-  pub call_explained : (start : Timestamp) (contents : Contents) (c : Commits) (h : List Event) (e : Error) → TransactionGives w start contents c h (Err e) → IsCallExplained (undetermined c) h e
-  call_explained start contents c h e (inl g) = named_explained (version_of start) g.0 (undetermined c) h e g.2
-  call_explained start contents c h e (inr g) = absurd (never_nothing e g.1)
+  pub call_explained : (options : RetryOptions) (start : Timestamp) (contents : Contents) (c : Commits) (h : List Event) (e : Error) → TransactionGives w options start contents c h (Err e) → IsCallExplained (attempts_left options.region_backoff) (undetermined c) h e
+  call_explained options start contents c h e (inl g) = named_explained options (version_of start) g.0 (undetermined c) h e g.2
+  call_explained options start contents c h e (inr g) = absurd (never_nothing e g.1)
 
 -- of the first of these it is known that it was sent
 first_sent : (plan : Plan) (s : ℕ) (h : List Event) (t : Ticket) (out : List Ticket) → ((u : Ticket) → IsAmong out u → PrimarySent plan s h u) → first_of out ≡ Some t → PrimarySent plan s h t

@@ -4,7 +4,7 @@ use Rattle.std.proofs.lemmas.Bool.{eqb-false}
 use Rattle.std.specs.Prelude.{◌⊎◌, ⊤, ◌==◌, if◌then◌else◌, is_none, option_map, Result, Ok, Err}
 use Rattle.txn_causes.specs.Making.{of_internal, of_key, of_leader, of_loss, of_region}
 use Rattle.txn_causes.specs.Carried.{region_in, FoundNone, FoundOther, HasBadKey, IsNoKey}
-use Rattle.txn_causes.specs.Causes.{FoundNoRegion, HasCause, HasFailed, HaveFailed, InternalCause, retries}
+use Rattle.txn_causes.specs.Causes.{has_cause_more, retries, FoundNoRegion, HasCause, HasFailed, HaveFailed, InternalCause, IsTriedOut}
 use Rattle.txn_causes.specs.Heard.{heard_in, Heard}
 use Rattle.txn_causes.specs.Heard.Heard.{TookReply}
 use Rattle.txn_causes.specs.Kinds.{IsOfKind}
@@ -76,12 +76,12 @@ module _ (K : Heard → Type 0) (t : Ticket) (asked : Request) (x : Reply) (take
   bad_key (BadPadding at) is bad = (t, asked, x, taken, (r, found, bad))
   bad_key _ is bad = absurd is
 
-  bad_region : (why : Error) → IsBadRegion r why → HasCause K (view_of why)
-  bad_region _ (reversed e) = of_internal K (ReversedRegion r.region.id) (t, asked, x, taken, (r, found, (refl, e)))
-  bad_region _ (no_epoch e) = of_internal K (NoEpoch r.region.id) (t, asked, x, taken, inl (r, found, (refl, is_nothing r.region.region_epoch e)))
-  bad_region _ (bad_start what e) = of_internal K what (bad_key what (bad_key_refusal r what (inl e)) (inl e))
-  bad_region _ (bad_end what e) = of_internal K what (bad_key what (bad_key_refusal r what (inr e)) (inr e))
-  bad_region _ (no_leader e) = of_leader K r.region.id (t, asked, x, taken, (r, found, (refl, is_nothing r.leader e)))
+  bad_region : (why : Error) → IsBadRegion r why → HasCause K ⊥ (view_of why)
+  bad_region _ (reversed e) = of_internal K ⊥ (ReversedRegion r.region.id) (t, asked, x, taken, (r, found, (refl, e)))
+  bad_region _ (no_epoch e) = of_internal K ⊥ (NoEpoch r.region.id) (t, asked, x, taken, inl (r, found, (refl, is_nothing r.region.region_epoch e)))
+  bad_region _ (bad_start what e) = of_internal K ⊥ what (bad_key what (bad_key_refusal r what (inl e)) (inl e))
+  bad_region _ (bad_end what e) = of_internal K ⊥ what (bad_key what (bad_key_refusal r what (inr e)) (inr e))
+  bad_region _ (no_leader e) = of_leader K ⊥ r.region.id (t, asked, x, taken, (r, found, (refl, is_nothing r.leader e)))
 
 -- What came of a query
 
@@ -94,32 +94,32 @@ the a b e = cc
 
 -- an answer that was taken and is refused
 module _ (h : List Event) (t : Ticket) (why : Error) where
-  by_key : (key : List ℕ) (o : GetRegionResponse) → Has h (Took t (request.GetRegion (record { region_key = key })) (reply.GetRegion o)) → (a : PdAnswer) → IsToldRegion o a → IsBadAnswer (query.Region key) a why → HasCause (heard_in h) (view_of why)
+  by_key : (key : List ℕ) (o : GetRegionResponse) → Has h (Took t (request.GetRegion (record { region_key = key })) (reply.GetRegion o)) → (a : PdAnswer) → IsToldRegion o a → IsBadAnswer (query.Region key) a why → HasCause (heard_in h) ⊥ (view_of why)
   by_key key o taken a told bad = judged (subst (λ x. IsBadAnswer (query.Region key) x why) told.1 bad)
     where
-      judged : IsBadAnswer (query.Region key) (answer.Region told.0) why → HasCause (heard_in h) (view_of why)
+      judged : IsBadAnswer (query.Region key) (answer.Region told.0) why → HasCause (heard_in h) ⊥ (view_of why)
       judged (inl spoilt) = bad_region (heard_in h) t (request.GetRegion (record { region_key = key })) (reply.GetRegion o) taken told.0 (shown o told.0 told.2 told.3) why spoilt
       judged (inr other) =
-          subst (λ x. HasCause (heard_in h) (view_of x)) (sym other.1)
-          (of_region (heard_in h) told.0.region.id (t, request.GetRegion (record { region_key = key }), reply.GetRegion o, taken, (told.0.region, told.2, refl, other.0)))
+          subst (λ x. HasCause (heard_in h) ⊥ (view_of x)) (sym other.1)
+          (of_region (heard_in h) ⊥ told.0.region.id (t, request.GetRegion (record { region_key = key }), reply.GetRegion o, taken, (told.0.region, told.2, refl, other.0)))
 
-  by_id : (id : ℕ) (o : GetRegionResponse) → Has h (Took t (request.GetRegionById (record { region_id = id })) (reply.GetRegionById o)) → (a : PdAnswer) → IsToldRegion o a → IsBadAnswer (query.RegionId id) a why → HasCause (heard_in h) (view_of why)
+  by_id : (id : ℕ) (o : GetRegionResponse) → Has h (Took t (request.GetRegionById (record { region_id = id })) (reply.GetRegionById o)) → (a : PdAnswer) → IsToldRegion o a → IsBadAnswer (query.RegionId id) a why → HasCause (heard_in h) ⊥ (view_of why)
   by_id id o taken a told bad = judged (subst (λ x. IsBadAnswer (query.RegionId id) x why) told.1 bad)
     where
       other_id : (region : Region) → o.region ≡ Some region → (told.0.region.id ≡ id → ⊥) → region.id ≢ id
       other_id region e apart same = let is : told.0.region ≡ region = cc (told.2, e) in apart (ap (λ (x : Region). x.id) is ∙ same)
 
-      judged : IsBadAnswer (query.RegionId id) (answer.Region told.0) why → HasCause (heard_in h) (view_of why)
+      judged : IsBadAnswer (query.RegionId id) (answer.Region told.0) why → HasCause (heard_in h) ⊥ (view_of why)
       judged (inl spoilt) = bad_region (heard_in h) t (request.GetRegionById (record { region_id = id })) (reply.GetRegionById o) taken told.0 (shown o told.0 told.2 told.3) why spoilt
       judged (inr other) =
-          subst (λ x. HasCause (heard_in h) (view_of x)) (sym other.1)
-          (of_region (heard_in h) id (t, request.GetRegionById (record { region_id = id }), reply.GetRegionById o, taken, (refl, λ region e. other_id region e (eqb-false told.0.region.id id other.0))))
+          subst (λ x. HasCause (heard_in h) ⊥ (view_of x)) (sym other.1)
+          (of_region (heard_in h) ⊥ id (t, request.GetRegionById (record { region_id = id }), reply.GetRegionById o, taken, (refl, λ region e. other_id region e (eqb-false told.0.region.id id other.0))))
 
   -- to the request of the query
   taken_as : (asked is : Request) (x y : Reply) → Some is ≡ Some asked → x ≡ y → Has h (Took t asked x) → Has h (Took t is y)
   taken_as asked is x y e f taken = subst (λ z. Has h (Took t is z)) f (subst (λ r. Has h (Took t r x)) (sym (the is asked e)) taken)
 
-  answer_refused : (q : PdQuery) → IsPlaceQuery q → (asked : Request) → request_of q ≡ Some asked → (x : Reply) → Has h (Took t asked x) → (a : PdAnswer) → Answers q x a → IsBadAnswer q a why → HasCause (heard_in h) (view_of why)
+  answer_refused : (q : PdQuery) → IsPlaceQuery q → (asked : Request) → request_of q ≡ Some asked → (x : Reply) → Has h (Took t asked x) → (a : PdAnswer) → Answers q x a → IsBadAnswer q a why → HasCause (heard_in h) ⊥ (view_of why)
   answer_refused (query.Region key) place asked is x taken a told bad = by_key key told.0 (taken_as asked (request.GetRegion (record { region_key = key })) x (reply.GetRegion told.0) is told.1 taken) a told.2 bad
   answer_refused (query.RegionId id) place asked is x taken a told bad = by_id id told.0 (taken_as asked (request.GetRegionById (record { region_id = id })) x (reply.GetRegionById told.0) is told.1 taken) a told.2 bad
   answer_refused (query.Store id) place asked is x taken a told bad = absurd (subst (λ y. IsBadAnswer (query.Store id) y why) told.2 bad)
@@ -144,7 +144,7 @@ unlike_reply q r x (inr u) k = let o = subst (λ y. IsOfKind y x) u.0 k in u.1 o
 -- Why a query has failed
 
 -- the request of a query is tried ten times
-query_retries : (q : PdQuery) (r : Request) → request_of q ≡ Some r → retries r ≡ 9
+query_retries : (q : PdQuery) (r : Request) → request_of q ≡ Some r → retries r ≡ Some 9
 query_retries (query.Region key) r e = ap retries (sym (the (request.GetRegion (record { region_key = key })) r e))
 query_retries (query.RegionId id) r e = ap retries (sym (the (request.GetRegionById (record { region_id = id })) r e))
 query_retries (query.Store id) r e = ap retries (sym (the (request.GetStore (record { store_id = id })) r e))
@@ -175,16 +175,16 @@ module _ (h : List Event) (q : PdQuery) where
   tried r is o zero below f = tt
   tried r is o (suc n) below f = (ticket_of o f.0, refl, f.2, one_failed r is (ticket_of o f.0) f.1 f.3, tried r is o n f.0 f.4)
 
-  as_often : (r : Request) → request_of q ≡ Some r → (o : Posted) (k : ℕ) → Calling.HaveFailed q o 9 k h → HaveFailed (heard_in h) r (ticket_of o k) (retries r)
-  as_often r is o k f = subst (HaveFailed (heard_in h) r (ticket_of o k)) (sym (query_retries q r is)) (tried r is o 9 k f)
+  as_often : (r : Request) → request_of q ≡ Some r → (o : Posted) (k : ℕ) → Calling.HaveFailed q o 9 k h → IsTriedOut (heard_in h) ⊥ r (ticket_of o k) (retries r)
+  as_often r is o k f = subst (IsTriedOut (heard_in h) ⊥ r (ticket_of o k)) (sym (query_retries q r is)) (tried r is o 9 k f)
 
   -- the tenth try found no region
-  nothing_found : (r : Request) (x : Reply) (o : Posted) (k : ℕ) → request_of q ≡ Some r → Has h (Took (ticket_of o k) r x) → HasNoRegion q x → Calling.HaveFailed q o 9 k h → HasCause (heard_in h) (view_of (not_found q))
+  nothing_found : (r : Request) (x : Reply) (o : Posted) (k : ℕ) → request_of q ≡ Some r → Has h (Took (ticket_of o k) r x) → HasNoRegion q x → Calling.HaveFailed q o 9 k h → HasCause (heard_in h) ⊥ (view_of (not_found q))
   nothing_found r x o k is taken none failed = by q r is none taken (found_none q r x is none) (as_often r is o k failed)
     where
-      by : (p : PdQuery) (s : Request) → request_of p ≡ Some s → HasNoRegion p x → Has h (Took (ticket_of o k) s x) → FoundNone s x → HaveFailed (heard_in h) s (ticket_of o k) (retries s) → HasCause (heard_in h) (view_of (not_found p))
-      by (query.Region key) s e gone had found often = of_key (heard_in h) key (subst (FoundNoRegion (heard_in h)) (sym (the (request.GetRegion (record { region_key = key })) s e)) (ticket_of o k, x, had, found, often))
-      by (query.RegionId id) s e gone had found often = of_region (heard_in h) id (ticket_of o k, request.GetRegionById (record { region_id = id }), x, subst (λ r. Has h (Took (ticket_of o k) r x)) (sym (the (request.GetRegionById (record { region_id = id })) s e)) had, subst (FoundOther id (request.GetRegionById (record { region_id = id }))) (sym gone.1) (refl, λ region f. cc (gone.2, f)))
+      by : (p : PdQuery) (s : Request) → request_of p ≡ Some s → HasNoRegion p x → Has h (Took (ticket_of o k) s x) → FoundNone s x → IsTriedOut (heard_in h) ⊥ s (ticket_of o k) (retries s) → HasCause (heard_in h) ⊥ (view_of (not_found p))
+      by (query.Region key) s e gone had found often = of_key (heard_in h) ⊥ key (subst (FoundNoRegion (heard_in h)) (sym (the (request.GetRegion (record { region_key = key })) s e)) (ticket_of o k, x, had, found, often))
+      by (query.RegionId id) s e gone had found often = of_region (heard_in h) ⊥ id (ticket_of o k, request.GetRegionById (record { region_id = id }), x, subst (λ r. Has h (Took (ticket_of o k) r x)) (sym (the (request.GetRegionById (record { region_id = id })) s e)) had, subst (FoundOther id (request.GetRegionById (record { region_id = id }))) (sym gone.1) (refl, λ region f. cc (gone.2, f)))
       by (query.Store id) s e gone had found often = absurd gone
       by query.Stores s e gone had found often = absurd gone
       by query.Time s e gone had found often = absurd gone
@@ -195,37 +195,41 @@ module _ (h : List Event) (q : PdQuery) where
   members_lost o zero below f = tt
   members_lost o (suc n) below f = (ticket_of o f.0, refl, f.1, inl f.2, members_lost o n f.0 f.3)
 
-  try_failed : (o : Posted) (k : ℕ) (why : Error) → IsFailure q (ticket_of o k) h why → Calling.HaveFailed q o 9 k h → HasCause (heard_in h) (view_of why) ⊎ ((q ≡ query.Time) × Has h (Answered (ticket_of o k) (Err why)))
-  try_failed o k why (inl f) often = inl (subst (λ x. HasCause (heard_in h) (view_of x)) (sym f.3) (of_loss (heard_in h) (ticket_of o k) (f.0, f.2, as_often f.0 f.1 o k often)))
-  try_failed o k why (inr (inl f)) often = inl (subst (λ x. HasCause (heard_in h) (view_of x)) (sym f.5) (nothing_found f.0 f.1 o k f.2 f.3 f.4 often))
+  try_failed : (o : Posted) (k : ℕ) (why : Error) → IsFailure q (ticket_of o k) h why → Calling.HaveFailed q o 9 k h → HasCause (heard_in h) ⊥ (view_of why) ⊎ ((q ≡ query.Time) × Has h (Answered (ticket_of o k) (Err why)))
+  try_failed o k why (inl f) often = inl (subst (λ x. HasCause (heard_in h) ⊥ (view_of x)) (sym f.3) (of_loss (heard_in h) ⊥ (ticket_of o k) (f.0, f.2, as_often f.0 f.1 o k often)))
+  try_failed o k why (inr (inl f)) often = inl (subst (λ x. HasCause (heard_in h) ⊥ (view_of x)) (sym f.5) (nothing_found f.0 f.1 o k f.2 f.3 f.4 often))
   try_failed o k why (inr (inr f)) often = inr f
 
   -- its error has a cause, or is that with which an ask for a timestamp was refused
-  pub query_failed : (o : Posted) (why : Error) → IsRefused q o h why → HasCause (heard_in h) (view_of why) ⊎ ((q ≡ query.Time) × ((ask : Ticket) × Has h (Answered ask (Err why))))
+  pub query_failed : (o : Posted) (why : Error) → IsRefused q o h why → HasCause (heard_in h) ⊥ (view_of why) ⊎ ((q ≡ query.Time) × ((ask : Ticket) × Has h (Answered ask (Err why))))
   query_failed o why (inl f) = asked (try_failed o f.0 why f.1 f.2)
     where
-      asked : HasCause (heard_in h) (view_of why) ⊎ ((q ≡ query.Time) × Has h (Answered (ticket_of o f.0) (Err why))) → HasCause (heard_in h) (view_of why) ⊎ ((q ≡ query.Time) × ((ask : Ticket) × Has h (Answered ask (Err why))))
+      asked : HasCause (heard_in h) ⊥ (view_of why) ⊎ ((q ≡ query.Time) × Has h (Answered (ticket_of o f.0) (Err why))) → HasCause (heard_in h) ⊥ (view_of why) ⊎ ((q ≡ query.Time) × ((ask : Ticket) × Has h (Answered ask (Err why))))
       asked (inl k) = inl k
       asked (inr k) = inr (k.0, (ticket_of o f.0, k.1))
-  query_failed o why (inr (inl f)) = inl (subst (λ x. HasCause (heard_in h) (view_of x)) (sym f.2) (of_loss (heard_in h) (ticket_of o f.0) (members, f.1, members_lost o 4 f.0 f.3)))
-  query_failed o why (inr (inr f)) = inl (subst (λ x. HasCause (heard_in h) (view_of x)) (sym f.5) (of_internal (heard_in h) WrongReply (ticket_of o f.0, f.1, f.2, f.3, unlike_reply q f.1 f.2 f.4)))
+  query_failed o why (inr (inl f)) = inl (subst (λ x. HasCause (heard_in h) ⊥ (view_of x)) (sym f.2) (of_loss (heard_in h) ⊥ (ticket_of o f.0) (members, f.1, members_lost o 4 f.0 f.3)))
+  query_failed o why (inr (inr f)) = inl (subst (λ x. HasCause (heard_in h) ⊥ (view_of x)) (sym f.5) (of_internal (heard_in h) ⊥ WrongReply (ticket_of o f.0, f.1, f.2, f.3, unlike_reply q f.1 f.2 f.4)))
 
 -- Why no place was found
 
 never_timed : (q : PdQuery) → IsPlaceQuery q → q ≡ query.Time → ⊥
 never_timed q place e = subst IsPlaceQuery e place
 
-pub look_up_refused : (h : List Event) (why : Error) → IsLookUpRefused h why → HasCause (heard_in h) (view_of why)
-look_up_refused h why r = answered r.answer r.given.1 r.refused
+look_up_failed : (h : List Event) (why : Error) → IsLookUpRefused h why → HasCause (heard_in h) ⊥ (view_of why)
+look_up_failed h why r = answered r.answer r.given.1 r.refused
   where
-    failed : (e : Error) → view_of why ≡ view_of e → HasCause (heard_in h) (view_of e) ⊎ ((r.call.query ≡ query.Time) × ((ask : Ticket) × Has h (Answered ask (Err e)))) → HasCause (heard_in h) (view_of why)
-    failed e same (inl k) = subst (HasCause (heard_in h)) (sym same) k
+    failed : (e : Error) → view_of why ≡ view_of e → HasCause (heard_in h) ⊥ (view_of e) ⊎ ((r.call.query ≡ query.Time) × ((ask : Ticket) × Has h (Answered ask (Err e)))) → HasCause (heard_in h) ⊥ (view_of why)
+    failed e same (inl k) = subst (HasCause (heard_in h) ⊥) (sym same) k
     failed e same (inr k) = absurd (never_timed r.call.query r.place k.0)
 
-    told : (a : PdAnswer) → IsTold r.call.query r.given.0 h a → IsBadAnswer r.call.query a why → HasCause (heard_in h) (view_of why)
+    told : (a : PdAnswer) → IsTold r.call.query r.given.0 h a → IsBadAnswer r.call.query a why → HasCause (heard_in h) ⊥ (view_of why)
     told a (inl g) bad = answer_refused h (ticket_of r.given.0 g.0) why r.call.query r.place g.1 g.3 g.2 g.4 a g.5 bad
     told a (inr g) bad = absurd (never_timed r.call.query r.place g.2)
 
-    answered : (v : Result PdAnswer Error) → Gives r.call r.given.0 h v → Clients.IsRefused r.call.query v why → HasCause (heard_in h) (view_of why)
+    answered : (v : Result PdAnswer Error) → Gives r.call r.given.0 h v → Clients.IsRefused r.call.query v why → HasCause (heard_in h) ⊥ (view_of why)
     answered (Ok a) g refused = told a g refused
     answered (Err e) g refused = failed e refused (query_failed h r.call.query r.given.0 e g)
+
+-- whatever is said of the backoff of the plan
+pub look_up_refused : (S : Type 0) (h : List Event) (why : Error) → IsLookUpRefused h why → HasCause (heard_in h) S (view_of why)
+look_up_refused S h why r = has_cause_more (λ x k. k) (λ (x : ⊥). absurd x) (view_of why) (look_up_failed h why r)

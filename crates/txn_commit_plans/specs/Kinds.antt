@@ -1,5 +1,5 @@
 -- The plans of a Prewrite, a Commit, a BatchRollback and a heartbeat, by what they mean.
-use Rattle.std.specs.Prelude.{◌≡◌, List, length, map, Result}
+use Rattle.std.specs.Prelude.{◌≡◌, ℕ, List, length, map, Result}
 use Rattle.std.specs.Global.{Vec}
 use Rattle.std.specs.List.{filter_map}
 use Rattle.txn_history.specs.Meaning.{IsLawful, Meaning}
@@ -22,8 +22,10 @@ use Rattle.txn_merge.specs.KeyErrors.{views_of_error}
 use Rattle.txn_merge.specs.Locks.{locks_of_error, locks_of_errors}
 use Rattle.txn_merge.specs.declared.merge.CollectError.{CollectError}
 use Rattle.txn_merge.specs.declared.merge.CollectSingle.{CollectSingle}
+use Rattle.txn_merge.specs.declared.retry_options.RetryOptions.{RetryOptions}
 use Rattle.txn_multi.specs.Few.{by_items}
 use Rattle.txn_multi.specs.Multi.{multi}
+use Rattle.txn_multi.specs.Task.{attempts_left}
 use Rattle.txn_multi.specs.declared.multi_region.RetryableMultiRegion.{RetryableMultiRegion}
 use Rattle.txn_plan.specs.Dispatch.{dispatch}
 use Rattle.txn_plan.specs.Extracted.{extracted, extracted-lawful}
@@ -35,7 +37,7 @@ use Rattle.txn_region.specs.Regions.{Key}
 use Rattle.txn_shard.specs.Order.{in_order}
 use Rattle.txn_shard.specs.Parts.{BatchRollbackPart, CommitPart, PrewritePart, TxnHeartBeatPart}
 use Rattle.txn_shard.specs.Shards.{AreJoined, ArePieces, IsAlone}
-use Rattle.txn_commit_plans.specs.OverRegions.{over_regions, over_regions-lawful, Shard}
+use Rattle.txn_commit_plans.specs.OverRegions.{over_regions, over_regions-lawful, retries_of, Shard}
 
 -- the keys of a request, and its mutations, in order
 
@@ -59,8 +61,15 @@ commits = over_regions Commit reply.Commit (λ v. views_of_error v.error) (λ v.
 abbrev pub CommitPlan : Type 0
 CommitPlan = ExtractError Commits (Vec (Result CommitResponse Error))
 
+abbrev pub commit_retries : CommitPlan → RetryOptions
+commit_retries plan = retries_of plan.inner
+
 abbrev pub commit_plan : Meaning CommitPlan (Result (Vec (Result CommitResponse Error)) Error)
 commit_plan = extracted commits (λ v. first_seen (seen_in (λ (r : CommitResponse). views_of_error r.error)) v.items) (λ v. filter_map (region_in (λ (r : CommitResponse). r.region_error)) v.items)
+
+-- how many attempts its backoff for regions has left
+abbrev pub commit_attempts : CommitPlan → ℕ
+commit_attempts p = attempts_left p.inner.backoff
 
 -- A BatchRollback
 
@@ -73,8 +82,14 @@ rollbacks = over_regions BatchRollback reply.BatchRollback (λ v. views_of_error
 abbrev pub RollbackPlan : Type 0
 RollbackPlan = ExtractError Rollbacks (Vec (Result BatchRollbackResponse Error))
 
+abbrev pub rollback_retries : RollbackPlan → RetryOptions
+rollback_retries plan = retries_of plan.inner
+
 abbrev pub rollback_plan : Meaning RollbackPlan (Result (Vec (Result BatchRollbackResponse Error)) Error)
 rollback_plan = extracted rollbacks (λ v. first_seen (seen_in (λ (r : BatchRollbackResponse). views_of_error r.error)) v.items) (λ v. filter_map (region_in (λ (r : BatchRollbackResponse). r.region_error)) v.items)
+
+abbrev pub rollback_attempts : RollbackPlan → ℕ
+rollback_attempts p = attempts_left p.inner.backoff
 
 -- A Prewrite, whose replies are collected
 
@@ -93,8 +108,14 @@ collected = merged prewrites (λ all results result. FirstErrorOr (λ values out
 abbrev pub PrewritePlan : Type 0
 PrewritePlan = ExtractError Collected (Vec PrewriteResponse)
 
+abbrev pub prewrite_retries : PrewritePlan → RetryOptions
+prewrite_retries plan = retries_of plan.inner.inner
+
 abbrev pub prewrite_plan : Meaning PrewritePlan (Result (Vec PrewriteResponse) Error)
 prewrite_plan = extracted collected (λ v. first_seen (λ (r : PrewriteResponse). map key r.errors) v.items) (λ v. filter_map (λ (r : PrewriteResponse). r.region_error) v.items)
+
+abbrev pub prewrite_attempts : PrewritePlan → ℕ
+prewrite_attempts p = attempts_left p.inner.inner.backoff
 
 -- A heartbeat, whose one reply is taken
 

@@ -8,6 +8,7 @@ use Rattle.txn_kv.specs.declared.message.LockInfo.{LockInfo}
 use Rattle.txn_kv.specs.declared.message.RegionErr.{RegionErr}
 use Rattle.txn_kv.specs.declared.reply.Reply.{Reply}
 use Rattle.txn_kv.specs.declared.request.Request.{Request}
+use Rattle.txn_merge.specs.declared.retry_options.RetryOptions.{RetryOptions}
 use Rattle.txn_multi.specs.Multi.{multi, multi-lawful}
 use Rattle.txn_multi.specs.declared.multi_region.RetryableMultiRegion.{RetryableMultiRegion}
 use Rattle.txn_plan.specs.Dispatch.{dispatch, dispatch-lawful}
@@ -23,6 +24,10 @@ abbrev pub over_regions : {R V H L : Type 0} → (R → Request) → (V → Repl
     → Meaning (RetryableMultiRegion (Shard R V) V H) (Result (Vec (Result V Error)) Error)
 over_regions request_of reply_of keys region locks is_part load are_cut most =
     multi (unlocked (dispatch request_of reply_of) locks) keys region (λ part whole. is_part part.inner.request whole.inner.request) (λ s. load s.inner.request) are_cut (λ s. most s.inner.request)
+
+-- how often it tries again, for errors of regions and losses, and for locks
+abbrev pub retries_of : {R V H : Type 0} → RetryableMultiRegion (Shard R V) V H → RetryOptions
+retries_of plan = record { region_backoff = plan.backoff; lock_backoff = plan.inner.backoff }
 
 -- lemmas
 

@@ -1,7 +1,7 @@
 ghost use Rattle.std.specs.Prelude.{◌≡◌, Err};
 ghost use Rattle.txn_commit_plans.specs.CausesOfPlans.{rollbacks_caused};
-ghost use Rattle.txn_commit_plans.specs.Failing.{HasGiven, given_caused, has_given_longer};
-ghost use Rattle.txn_commit_plans.specs.Kinds.{rollback_plan, rollback_plan-lawful};
+ghost use Rattle.txn_commit_plans.specs.Failing.{HasGivenWith, given_caused, has_given_longer};
+ghost use Rattle.txn_commit_plans.specs.Kinds.{rollback_plan, rollback_plan-lawful, rollback_retries};
 ghost use Rattle.txn_kv.specs.declared.request.BatchRollbackRequest.{BatchRollbackRequest as Sent};
 ghost use Rattle.txn_kv.specs.declared.request.Request.TheVariants.{BatchRollback};
 ghost use Rattle.txn_commit_plans.specs.OneEach.{few_by_items};
@@ -40,7 +40,7 @@ fn encoded<C: PdClient>(
 }
 
 impl PlanFor<BatchRollbackRequest> for BatchRollbackPlan {
-    ghost refuses = { HasGiven Self.Plan.meaning };
+    ghost refuses = { HasGivenWith Self.Plan.meaning rollback_retries };
 
     ghost costs = { by_items };
 
@@ -60,7 +60,7 @@ impl PlanFor<BatchRollbackRequest> for BatchRollbackPlan {
         self.plan().inner.width() as u64
     }
 
-    ghost refuses_longer = { has_given_longer Self.Plan.meaning rollback_plan-lawful };
+    ghost refuses_longer = { has_given_longer Self.Plan.meaning rollback_retries rollback_plan-lawful };
 }
 
 impl OneEach<BatchRollbackRequest> for BatchRollbackPlan {
@@ -68,5 +68,5 @@ impl OneEach<BatchRollbackRequest> for BatchRollbackPlan {
 }
 
 impl Caused<BatchRollbackRequest> for BatchRollbackPlan {
-    ghost caused = { given_caused rollback_plan rollbacks_caused };
+    ghost caused = { given_caused rollback_plan rollback_retries rollbacks_caused };
 }

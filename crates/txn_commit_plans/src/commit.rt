@@ -1,7 +1,7 @@
 ghost use Rattle.std.specs.Prelude.{◌≡◌, Err};
 ghost use Rattle.txn_commit_plans.specs.CausesOfPlans.{commits_caused};
-ghost use Rattle.txn_commit_plans.specs.Failing.{HasGiven, given_caused, has_given_longer};
-ghost use Rattle.txn_commit_plans.specs.Kinds.{commit_plan, commit_plan-lawful};
+ghost use Rattle.txn_commit_plans.specs.Failing.{HasGivenWith, given_caused, has_given_longer};
+ghost use Rattle.txn_commit_plans.specs.Kinds.{commit_plan, commit_plan-lawful, commit_retries};
 ghost use Rattle.txn_kv.specs.declared.request.CommitRequest.{CommitRequest as Sent};
 ghost use Rattle.txn_kv.specs.declared.request.Request.TheVariants.{Commit};
 ghost use Rattle.txn_commit_plans.specs.OneEach.{few_by_items};
@@ -36,7 +36,7 @@ fn encoded<C: PdClient>(alloc: Global, pd: &C, request: CommitRequest) -> Commit
 }
 
 impl PlanFor<CommitRequest> for CommitPlan {
-    ghost refuses = { HasGiven Self.Plan.meaning };
+    ghost refuses = { HasGivenWith Self.Plan.meaning commit_retries };
 
     ghost costs = { by_items };
 
@@ -56,7 +56,7 @@ impl PlanFor<CommitRequest> for CommitPlan {
         self.plan().inner.width() as u64
     }
 
-    ghost refuses_longer = { has_given_longer Self.Plan.meaning commit_plan-lawful };
+    ghost refuses_longer = { has_given_longer Self.Plan.meaning commit_retries commit_plan-lawful };
 }
 
 impl OneEach<CommitRequest> for CommitPlan {
@@ -64,5 +64,5 @@ impl OneEach<CommitRequest> for CommitPlan {
 }
 
 impl Caused<CommitRequest> for CommitPlan {
-    ghost caused = { given_caused commit_plan commits_caused };
+    ghost caused = { given_caused commit_plan commit_retries commits_caused };
 }

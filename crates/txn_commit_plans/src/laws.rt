@@ -13,14 +13,16 @@ ghost use Rattle.txn_commit.specs.Timing.{WasUntimed};
 ghost use Rattle.txn_commit.specs.declared.secondary_job.SecondaryJob.{SecondaryJob};
 ghost use Rattle.txn_commit.specs.declared.secondary_job.Stage.TheVariants.{Fresh};
 ghost use Rattle.txn_commit_plans.specs.CausesOfCalls.{IsCallExplained, IsExplained, IsRefusalExplained};
-ghost use Rattle.txn_commit_plans.specs.Failing.{FailsForCauses, HasGiven};
-ghost use Rattle.txn_commit_plans.specs.Kinds.{commit_plan, prewrite_plan, rollback_plan, CommitPlan as Committing, PrewritePlan as Prewriting, RollbackPlan as Rolling};
+ghost use Rattle.txn_commit_plans.specs.Failing.{FailsForCauses, HasGivenWith, IsSpentBy};
+ghost use Rattle.txn_commit_plans.specs.Kinds.{commit_attempts, commit_plan, commit_retries, prewrite_attempts, prewrite_plan, prewrite_retries, rollback_attempts, rollback_plan, rollback_retries, CommitPlan as Committing, PrewritePlan as Prewriting, RollbackPlan as Rolling};
 ghost use Rattle.txn_core.specs.Counting.{commit_price, errors, posted, rollback_price, weighed, Runs, Step};
 ghost use Rattle.txn_core.specs.Going.{TransactionGives};
 ghost use Rattle.txn_history.specs.Event.{Event};
 ghost use Rattle.txn_history.specs.Meaning.{IsUnbegun};
 ghost use Rattle.txn_history.specs.Plan.{Key, Plan};
+ghost use Rattle.txn_merge.specs.declared.retry_options.RetryOptions.{RetryOptions};
 ghost use Rattle.txn_multi.specs.Few.{by_items};
+ghost use Rattle.txn_multi.specs.Task.{attempts_left};
 ghost use Rattle.txn_kv.specs.ErrorView.{view_of};
 ghost use Rattle.txn_kv.specs.declared.errors.Error.{Error};
 ghost use Rattle.txn_kv.specs.declared.message.Context.{Context as Place};
@@ -43,9 +45,9 @@ use txn_kv::{BatchRollbackRequest, CommitRequest, PrewriteRequest};
 /// A plan that is not begun, and sends a request in any context to the regions of its keys, is a plan of the request: all that
 /// the request names was answered without error where the plan's answer is no error.
 pub fn plans_are_of_their_requests()
-    ensures prewrite { (request : Prewritten) (context : Option Place) (p : Prewriting) → p.inner.inner.inner.inner.request ≡ record request { context = context } → p.inner.inner.preserve_region_results ≡ false → IsUnbegun prewrite_plan p → prewrite_plan.ready p → IsPlanFor prewrite_plan (HasGiven prewrite_plan) by_items (Prewrite request) p }
-    ensures commit { (request : Committed) (context : Option Place) (p : Committing) → p.inner.inner.inner.request ≡ record request { context = context } → p.inner.preserve_region_results ≡ false → IsUnbegun commit_plan p → commit_plan.ready p → IsPlanFor commit_plan (HasGiven commit_plan) by_items (Commit request) p }
-    ensures batch_rollback { (request : RolledBack) (context : Option Place) (p : Rolling) → p.inner.inner.inner.request ≡ record request { context = context } → p.inner.preserve_region_results ≡ false → IsUnbegun rollback_plan p → rollback_plan.ready p → IsPlanFor rollback_plan (HasGiven rollback_plan) by_items (BatchRollback request) p }
+    ensures prewrite { (request : Prewritten) (context : Option Place) (p : Prewriting) → p.inner.inner.inner.inner.request ≡ record request { context = context } → p.inner.inner.preserve_region_results ≡ false → IsUnbegun prewrite_plan p → prewrite_plan.ready p → IsPlanFor prewrite_plan (HasGivenWith prewrite_plan prewrite_retries (prewrite_retries p)) by_items (Prewrite request) p }
+    ensures commit { (request : Committed) (context : Option Place) (p : Committing) → p.inner.inner.inner.request ≡ record request { context = context } → p.inner.preserve_region_results ≡ false → IsUnbegun commit_plan p → commit_plan.ready p → IsPlanFor commit_plan (HasGivenWith commit_plan commit_retries (commit_retries p)) by_items (Commit request) p }
+    ensures batch_rollback { (request : RolledBack) (context : Option Place) (p : Rolling) → p.inner.inner.inner.request ≡ record request { context = context } → p.inner.preserve_region_results ≡ false → IsUnbegun rollback_plan p → rollback_plan.ready p → IsPlanFor rollback_plan (HasGivenWith rollback_plan rollback_retries (rollback_retries p)) by_items (BatchRollback request) p }
 {}
 
 /// Each plan posts no more than one request for each key of its request, whatever it is cut into.
@@ -84,15 +86,17 @@ pub fn commits_by_plans_are_bounded()
 
 /// The job of k other keys, which is not started, posts no more than k requests.
 pub fn jobs_by_plans_are_bounded()
-    ensures { (job : SecondaryJob Committing) (plan : Plan) (n : ℕ) → job.stage ≡ Fresh → (others commit_plan (HasGiven commit_plan) by_items plan job.keys).round job n ≤ length job.keys }
+    ensures { (job : SecondaryJob Committing) (plan : Plan) (n : ℕ) → job.stage ≡ Fresh → (others commit_plan (HasGivenWith commit_plan commit_retries) by_items plan job.keys).round job n ≤ length job.keys }
 {}
 
 /// Each error of a plan has its cause in what was heard, whatever its stage: where it says that a request was lost, that was; what
-/// it says of a region, a key or a lock stands in a reply that was taken.
+/// it says of a region, a key or a lock stands in a reply that was taken. A request to a store that was lost, and an error of a
+/// region that a new try may better, it tells only once more requests of a line had failed at their regions than its backoff has
+/// attempts.
 pub fn plans_fail_for_causes()
-    ensures prewrite { FailsForCauses prewrite_plan }
-    ensures commit { FailsForCauses commit_plan }
-    ensures batch_rollback { FailsForCauses rollback_plan }
+    ensures prewrite { FailsForCauses prewrite_plan prewrite_attempts }
+    ensures commit { FailsForCauses commit_plan commit_attempts }
+    ensures batch_rollback { FailsForCauses rollback_plan rollback_attempts }
 {}
 
 /// Where a commit or a rollback fails that goes by such plans, its error has its cause in what was heard; or there was no timestamp,
@@ -103,12 +107,12 @@ where
     P: Caused<PrewriteRequest>,
     Q: Caused<CommitRequest>,
     K: Caused<BatchRollbackRequest>,
-    ensures failed { (start : Timestamp) (contents : Contents) (c : Followed) (h : List Event) (e : Error)
-        → TransactionGives (ways P.meaning Q.meaning K.meaning P.refuses Q.refuses K.refuses) start contents c h (Err e) → IsCallExplained (undetermined c) h e }
+    ensures failed { (options : RetryOptions) (start : Timestamp) (contents : Contents) (c : Followed) (h : List Event) (e : Error)
+        → TransactionGives (ways P.meaning Q.meaning K.meaning P.refuses Q.refuses K.refuses) options start contents c h (Err e) → IsCallExplained (attempts_left options.region_backoff) (undetermined c) h e }
     ensures refused { (plan : Plan) (s : ℕ) (c : Followed) (h : List Event) (t : Ticket)
         → KnowsCommits plan s c h → undetermined c ≡ Some t → IsRefusalExplained plan s c t h }
     // A call for a timestamp alone fails so, too, and so does the job of the other keys.
-    ensures untimed { (h : List Event) (e : Error) → WasUntimed h e → IsExplained h e }
+    ensures untimed { (attempts : ℕ) (h : List Event) (e : Error) → WasUntimed h e → IsExplained attempts h e }
     ensures jobs { (plan : Plan) (keys : List Key) (job : SecondaryJob Q) (h : List Event) (e : Error)
-        → (others Q.meaning Q.refuses Q.costs plan keys).gives job h (Err e) → HasCause (heard_in h) (view_of e) }
+        → (others Q.meaning Q.refuses Q.costs plan keys).gives job h (Err e) → HasCause (heard_in h) (IsSpentBy job.retry_options h) (view_of e) }
 {}

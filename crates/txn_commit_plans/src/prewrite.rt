@@ -1,7 +1,7 @@
 ghost use Rattle.std.specs.Prelude.{◌≡◌, ◌^◌, ◌-◌, Err};
 ghost use Rattle.txn_commit_plans.specs.CausesOfPlans.{prewrites_caused};
-ghost use Rattle.txn_commit_plans.specs.Failing.{HasGiven, given_caused, has_given_longer};
-ghost use Rattle.txn_commit_plans.specs.Kinds.{prewrite_plan, prewrite_plan-lawful};
+ghost use Rattle.txn_commit_plans.specs.Failing.{HasGivenWith, given_caused, has_given_longer};
+ghost use Rattle.txn_commit_plans.specs.Kinds.{prewrite_plan, prewrite_plan-lawful, prewrite_retries};
 ghost use Rattle.txn_kv.specs.declared.request.PrewriteRequest.{PrewriteRequest as Sent};
 ghost use Rattle.txn_kv.specs.declared.request.Request.TheVariants.{Prewrite};
 ghost use Rattle.txn_commit_plans.specs.OneEach.{few_by_items};
@@ -39,7 +39,7 @@ fn encoded<C: PdClient>(alloc: Global, pd: &C, request: PrewriteRequest) -> Prew
 }
 
 impl PlanFor<PrewriteRequest> for PrewritePlan {
-    ghost refuses = { HasGiven Self.Plan.meaning };
+    ghost refuses = { HasGivenWith Self.Plan.meaning prewrite_retries };
 
     ghost costs = { by_items };
 
@@ -60,7 +60,7 @@ impl PlanFor<PrewriteRequest> for PrewritePlan {
         self.plan().inner.inner.width() as u64
     }
 
-    ghost refuses_longer = { has_given_longer Self.Plan.meaning prewrite_plan-lawful };
+    ghost refuses_longer = { has_given_longer Self.Plan.meaning prewrite_retries prewrite_plan-lawful };
 }
 
 impl OneEach<PrewriteRequest> for PrewritePlan {
@@ -68,5 +68,5 @@ impl OneEach<PrewriteRequest> for PrewritePlan {
 }
 
 impl Caused<PrewriteRequest> for PrewritePlan {
-    ghost caused = { given_caused prewrite_plan prewrites_caused };
+    ghost caused = { given_caused prewrite_plan prewrite_retries prewrites_caused };
 }
