@@ -124,7 +124,7 @@ fn store_for(retry_options: &RetryOptions) -> StoreId {
 }
 
 impl PlanFor<PrewriteRequest> for Once<PrewriteRequest> {
-    ghost refuses = { λ _ _. ⊤ };
+    ghost refuses = { λ _ _ _. ⊤ };
 
     ghost costs = { λ _ _. 1 };
 
@@ -142,11 +142,11 @@ impl PlanFor<PrewriteRequest> for Once<PrewriteRequest> {
         0
     }
 
-    ghost refuses_longer = { λ h longer e w r. tt };
+    ghost refuses_longer = { λ options h longer e w r. tt };
 }
 
 impl PlanFor<CommitRequest> for Once<CommitRequest> {
-    ghost refuses = { λ _ _. ⊤ };
+    ghost refuses = { λ _ _ _. ⊤ };
 
     ghost costs = { λ _ _. 1 };
 
@@ -164,11 +164,11 @@ impl PlanFor<CommitRequest> for Once<CommitRequest> {
         0
     }
 
-    ghost refuses_longer = { λ h longer e w r. tt };
+    ghost refuses_longer = { λ options h longer e w r. tt };
 }
 
 impl PlanFor<BatchRollbackRequest> for Once<BatchRollbackRequest> {
-    ghost refuses = { λ _ _. ⊤ };
+    ghost refuses = { λ _ _ _. ⊤ };
 
     ghost costs = { λ _ _. 1 };
 
@@ -186,5 +186,5 @@ impl PlanFor<BatchRollbackRequest> for Once<BatchRollbackRequest> {
         0
     }
 
-    ghost refuses_longer = { λ h longer e w r. tt };
+    ghost refuses_longer = { λ options h longer e w r. tt };
 }

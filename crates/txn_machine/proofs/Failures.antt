@@ -8,19 +8,20 @@ use Rattle.txn_history.specs.Among.{IsAmong}
 use Rattle.txn_history.specs.Event.{Event, Has}
 use Rattle.txn_history.specs.Event.Event.{Sent}
 use Rattle.txn_lines.specs.Lines.{why_after}
+use Rattle.txn_lines.specs.declared.begin_options.BeginOptions.{BeginOptions}
 use Rattle.txn_lines.specs.declared.line.Line.{Line}
 use Rattle.txn_report.specs.declared.outcome.Outcome.TheVariants as outcomes
 use Rattle.txn_report.specs.declared.report.SentNote.{SentNote}
 use Rattle.txn_side.specs.Account.{Account, refusal}
 use Rattle.txn_side.specs.Sight.{Group, stand_at}
-use Rattle.txn_side.specs.Trace.{FailsIn, IsLonger, Refusal, RollsBack, Trace, fails_longer, with_posted}
+use Rattle.txn_side.specs.Trace.{BeginsAs, FailsIn, HowCallsFail, IsLonger, Refusal, RollsBack, Trace, fails_longer, with_posted}
 use Rattle.txn_side.specs.declared.act.Act.{Act}
 use Rattle.txn_side.specs.declared.act.Act.TheVariants.{Rollback}
 use Rattle.txn_side.specs.declared.turn.Posting.{Posting}
 use Rattle.txn_machine.specs.Accounts.{AreTakenIn, Ask, account_of, ask_of}
 use Rattle.txn_machine.specs.Causes.{AllCallsMeet, Role, ended_of, is_skipped, is_unfinished, lines_before, role_of, tells}
 use Rattle.txn_machine.specs.Causes.Role.{AsksTime, MakesClient, NoCall, UsesTransaction}
-use Rattle.txn_machine.specs.Failing.{AllCausesMeet, CanAsk, CanCall, CanRest, CauseMeets, FailsBy, HaveHeard, Rested, RestsIn, WasPosted, calls_by, calls_of, rollbacks_of, rolled, rolled_by, groups_of, trace_of}
+use Rattle.txn_machine.specs.Failing.{AllCausesMeet, CanAsk, CanCall, CanRest, CauseMeets, FailsBy, HaveHeard, Rested, RestsIn, WasPosted, begins_as, begun_by, begun_of, calls_by, calls_of, groups_of, rollbacks_of, rolled, rolled_by, trace_of}
 use Rattle.txn_machine.specs.Lists.{Lists, all_posted, followed, newest, opened, with_mail}
 use Rattle.txn_machine.specs.Rows.{Caused}
 use Rattle.txn_machine.specs.Running.{IsOrdered}
@@ -42,7 +43,8 @@ use Rattle.txn_machine.proofs.Keepings.{caused_step}
 use Rattle.txn_machine.proofs.Numberings.{line_new}
 use Rattle.txn_machine.proofs.Orders.{opened_count}
 use Rattle.txn_machine.proofs.Standings.{caused_past}
-use Rattle.txn_machine.proofs.Timing.{done_more, happened_still, noted_still, sends_more}
+use Rattle.txn_machine.proofs.Timing.{happened_still, noted_still}
+use Rattle.txn_machine.specs.Longer.{done_more, sends_more}
 
 -- What is noted, and what was told to lines.
 
@@ -123,7 +125,7 @@ module _ (line : Line) (ls : List Line) (old : Lists) (told : newest old ≡ len
   n = suc (length ls)
 
   abbrev now : Trace
-  now = record { events = happened; calls = calls_of (line ∷ ls); rollbacks = rollbacks_of (line ∷ ls); groups = groups_of old.mail.sent; posted = []; refused = refused_of (ask_of line) accounts n }
+  now = record { events = happened; calls = calls_of (line ∷ ls); begun = begun_of (line ∷ ls); rollbacks = rollbacks_of (line ∷ ls); groups = groups_of old.mail.sent; posted = []; refused = refused_of (ask_of line) accounts n }
 
   count : newest (opened old) ≡ n
   count = let a = opened_count old in let b = told in omega arith
@@ -137,6 +139,13 @@ module _ (line : Line) (ls : List Line) (old : Lists) (told : newest old ≡ len
       by (UsesTransaction b x) = inl refl
       by NoCall = tt
 
+  begins_now : BeginsAs now (newest (opened old)) (begins_as line)
+  begins_now = subst (λ k. BeginsAs now k (begins_as line)) (sym count) (by (begins_as line))
+    where
+      by : (o : Option BeginOptions) → BeginsAs (record now { begun = begun_by n o ++ begun_of ls }) n o
+      by None = tt
+      by (Some options) = inl refl
+
   ask_now : CanAsk (ask_of line) accounts (newest (opened old)) now
   ask_now = subst (λ k. CanAsk (ask_of line) accounts k now) (sym count) (by (ask_of line))
     where
@@ -148,15 +157,17 @@ module _ (line : Line) (ls : List Line) (old : Lists) (told : newest old ≡ len
   can_rest = record {
     posted = refl;
     call = call_now;
+    begins = begins_now;
     ask = ask_now;
     hear = can_hear old es ordered.sound.mail was.fates.fates folded.folds.store looks (looked line ls old told ordered good was folded new c stepped) timely.groups (λ u r h. sent_noted u r old.mail.sent old.outcomes ls h)
-        (calls_of (line ∷ ls)) (rollbacks_of (line ∷ ls)) (refused_of (ask_of line) accounts n) (own_done c.own) line (λ role. ap own_done (c.sure role) ∙ done_is (does_it line (opened old)));
+        (calls_of (line ∷ ls)) (begun_of (line ∷ ls)) (rollbacks_of (line ∷ ls)) (refused_of (ask_of line) accounts n) (own_done c.own) line (λ role. ap own_done (c.sure role) ∙ done_is (does_it line (opened old)));
   }
 
   was_longer : IsLonger (trace_of old.mail.sent old.outcomes ls) now
   was_longer = record {
     events = λ e h. done_more (own_done c.own) looks line es e h;
     calls = λ x h. among_ahead (calls_by n (role_of line)) (calls_of ls) x h;
+    begun = λ x h. among_ahead (begun_by n (begins_as line)) (begun_of ls) x h;
     rollbacks = λ x h. among_ahead (rolled_by n (ask_of line)) (rollbacks_of ls) x h;
     groups = λ g h. h;
     sent = λ u r h. elim h [ inl s ↦ inl (done_more (own_done c.own) looks line es (Sent u r) s) | inr p ↦ absurd (let low = p.2 in omega arith) ];
@@ -176,6 +187,7 @@ module _ (line : Line) (ls : List Line) (old : Lists) (told : newest old ≡ len
   now_longer posted sent = record {
     events = has;
     calls = λ x h. h;
+    begun = λ x h. h;
     rollbacks = λ x h. h;
     groups = λ g h. groups_more old.mail.sent all.mail.sent among g h;
     sent = λ u r h. elim h [ inl s ↦ inl (has (Sent u r) s) | inr p ↦ inl (posted_has u r (sent u r p)) ];
@@ -189,6 +201,7 @@ module _ (line : Line) (ls : List Line) (old : Lists) (told : newest old ≡ len
   still_longer zs low = record {
     events = same;
     calls = λ x h. h;
+    begun = λ x h. h;
     rollbacks = λ x h. h;
     groups = λ g h. groups_more old.mail.sent all.mail.sent among g h;
     sent = λ u r h. elim h [ inl s ↦ inl (same (Sent u r) s) | inr p ↦ absurd (let low = p.2 in omega arith) ];
@@ -199,7 +212,7 @@ module _ (line : Line) (ls : List Line) (old : Lists) (told : newest old ≡ len
 
   -- Why calls fail.
 
-  module _ (steps : Steps line old all) (caused : Caused (line ∷ ls) all) (taken : AreTakenIn ls old.outcomes old.ended accounts) (fails : Bool → List Event → Error → Type 0) (is : Trace → Type 0) (r : RestsIn fails is now old all) where
+  module _ (steps : Steps line old all) (caused : Caused (line ∷ ls) all) (taken : AreTakenIn ls old.outcomes old.ended accounts) (fails : HowCallsFail) (is : Trace → Type 0) (r : RestsIn fails is now old all) where
     abbrev Was : ℕ → Error → Type 0
     Was k e = FailsBy fails old.mail.sent old.outcomes old.ended ls k e
 
@@ -215,13 +228,13 @@ module _ (line : Line) (ls : List Line) (old : Lists) (told : newest old ≡ len
         let low : ended_of old.ended k ≤ length ls = let a = caused_past old ls was told k in let b = told in omega arith in
         subst (λ m. FailsIn fails (trace_of all.mail.sent all.outcomes (lines_before (line ∷ ls) (suc m))) k e) (sym same)
         (subst (λ zs. FailsIn fails (trace_of all.mail.sent all.outcomes zs) k e) (sym (before_old line ls (suc (ended_of old.ended k)) (omega (arith, low))))
-        (fails_longer (trace_of old.mail.sent old.outcomes zs) (trace_of all.mail.sent all.outcomes zs) (still_longer zs (before_few ls (suc (ended_of old.ended k)))) fails k e w))
+        (fails_longer (trace_of old.mail.sent old.outcomes zs) (trace_of all.mail.sent all.outcomes zs) (still_longer zs (before_few ls (suc (ended_of old.ended k)))) refl fails k e w))
 
     comes_so : (k : ℕ) (e : Error) → ended_of all.ended k ≡ n → FailsIn fails (with_posted r.posted now) k e → Is k e
     comes_so k e last w =
         subst (λ m. FailsIn fails (trace_of all.mail.sent all.outcomes (lines_before (line ∷ ls) (suc m))) k e) (sym last)
         (subst (λ zs. FailsIn fails (trace_of all.mail.sent all.outcomes zs) k e) (sym (before_next (line ∷ ls)))
-        (fails_longer (with_posted r.posted now) (trace_of all.mail.sent all.outcomes (line ∷ ls)) (now_longer r.posted r.sent) fails k e w))
+        (fails_longer (with_posted r.posted now) (trace_of all.mail.sent all.outcomes (line ∷ ls)) (now_longer r.posted r.sent) refl fails k e w))
 
     older : (k : ℕ) (e : Error) → k ≤ length ls → outcome_of all.outcomes k ≡ outcomes.Err e → ((outcome_of old.outcomes k ≡ outcomes.Err e) × (Was k e → Is k e)) ⊎ Is k e
     older k e low told_so = elim (changes k low) [
@@ -286,7 +299,7 @@ module _ (line : Line) (ls : List Line) (old : Lists) (told : newest old ≡ len
     causes_now : AllCausesMeet (λ k e. Was k e) old.outcomes old.ended ls → AllCausesMeet (λ k e. Is k e) all.outcomes all.ended (line ∷ ls)
     causes_now h = (line_now, causes_still ls (omega arith) was.calls h)
 
-pub heard_step : (fails : Bool → List Event → Error → Type 0) (was is : Trace → Type 0) (line : Line) (ls : List Line) (old new : Lists) (accounts : ℕ → Account) → newest old ≡ length ls → IsOrdered old → why_after ls line ≡ None → Steps line old new → Folded ls old → Caused ls old → Timely ls old
+pub heard_step : (fails : HowCallsFail) (was is : Trace → Type 0) (line : Line) (ls : List Line) (old new : Lists) (accounts : ℕ → Account) → newest old ≡ length ls → IsOrdered old → why_after ls line ≡ None → Steps line old new → Folded ls old → Caused ls old → Timely ls old
     → AreTakenIn ls old.outcomes old.ended accounts → Rested fails was is line old accounts new → ((t longer : Trace) → IsLonger t longer → was t → was longer) → ((t longer : Trace) → IsLonger t longer → is t → is longer)
     → HaveHeard was fails ls old.mail.sent old.outcomes old.ended → HaveHeard is fails (line ∷ ls) new.mail.sent new.outcomes new.ended
 heard_step fails was is line ls old new accounts told ordered good steps folded caused timely taken rested was_more is_more heard =

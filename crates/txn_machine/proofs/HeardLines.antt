@@ -1,14 +1,12 @@
 -- What the calls of a machine have heard has happened in its lines, and in one more after each step.
-use Rattle.std.proofs.Common.{◌≡◌, ℕ, true, List, [], ◌∷◌, ◌++◌, None, length, reverse, sym, ap, ◌∙◌, subst, append-nil, Bool}
+use Rattle.std.proofs.Common.{◌≡◌, ℕ, true, List, [], ◌∷◌, ◌++◌, None, length, reverse, sym, ap, ◌∙◌, subst, append-nil}
 use Rattle.std.proofs.lemmas.List.{reverse-reverse}
-use Rattle.txn_kv.specs.declared.errors.Error.{Error}
-use Rattle.txn_history.specs.Event.{Event}
 use Rattle.txn_lines.specs.Lines.{why_after}
 use Rattle.txn_lines.specs.declared.line.Line.{Line}
 use Rattle.txn_report.specs.declared.report.Report.{Report}
 use Rattle.txn_side.specs.Account.{Account}
 use Rattle.txn_side.specs.Sight.{Sight}
-use Rattle.txn_side.specs.Trace.{IsLonger, Trace}
+use Rattle.txn_side.specs.Trace.{HowCallsFail, IsLonger, Trace}
 use Rattle.txn_side.specs.Waiting.{Awaited}
 use Rattle.txn_machine.specs.Accounts.{TakenIn}
 use Rattle.txn_machine.specs.Failing.{AllCausesMeet, CausesMeetLines, FailsBy, HeardIn, Rested}
@@ -19,13 +17,13 @@ use Rattle.txn_machine.specs.declared.machine.Machine.{Machine}
 use Rattle.txn_machine.proofs.Failures.{heard_step}
 use Rattle.txn_machine.proofs.LineByLine.{none_left, turned_over}
 
-pub new_heard : {S : Type 0} (rests : S → Trace → Type 0) (fails : Bool → List Event → Error → Type 0) (m : Machine S) → ((t : Trace) → rests m.clients t) → HeardIn rests fails m []
+pub new_heard : {S : Type 0} (rests : S → Trace → Type 0) (fails : HowCallsFail) (m : Machine S) → ((t : Trace) → rests m.clients t) → HeardIn rests fails m []
 new_heard rests fails m none memory = record { rest = none _; causes = tt }
 
-pub broken_heard : {S : Type 0} (rests : S → Trace → Type 0) (fails : Bool → List Event → Error → Type 0) (m : Machine S) (lines : List Line) → m.broken ≡ true → HeardIn rests fails m lines
+pub broken_heard : {S : Type 0} (rests : S → Trace → Type 0) (fails : HowCallsFail) (m : Machine S) (lines : List Line) → m.broken ≡ true → HeardIn rests fails m lines
 broken_heard rests fails m lines broken h = absurd (let e = h.whole in cc)
 
-pub step_heard : {S : Type 0} (sight : S → Sight) (ready : S → Type 0) (waits : S → ℕ → Awaited → Type 0) (account : S → ℕ → Account) (fails : Bool → List Event → Error → Type 0) (rests : S → Trace → Type 0) (old new : Machine S) (line : Line) (before : List Line) → Steps line (lists_of sight old) (lists_of sight new)
+pub step_heard : {S : Type 0} (sight : S → Sight) (ready : S → Type 0) (waits : S → ℕ → Awaited → Type 0) (account : S → ℕ → Account) (fails : HowCallsFail) (rests : S → Trace → Type 0) (old new : Machine S) (line : Line) (before : List Line) → Steps line (lists_of sight old) (lists_of sight new)
     → Rested fails (rests old.clients) (rests new.clients) line (lists_of sight old) (account old.clients) (lists_of sight new) → ((s : S) (t longer : Trace) → IsLonger t longer → rests s t → rests s longer)
     → why_after before line ≡ None → HasMemory old → StandsFor sight ready waits old before → TakenIn account old before → HeardIn rests fails old before → HeardIn rests fails new (line ∷ before)
 step_heard sight ready waits account fails rests old new line before steps rested longer good memory stood taken heard h =
@@ -34,7 +32,7 @@ step_heard sight ready waits account fails rests old new line before steps reste
     was : Standing sight ready waits old before
     was = stood.stands memory
 
-pub report_causes : {S : Type 0} (sight : S → Sight) (rests : S → Trace → Type 0) (fails : Bool → List Event → Error → Type 0) (m : Machine S) (report : Report) (lines : List Line) → IsReportOf (lists_of sight m) report → HasMemory m → HeardIn rests fails m lines → CausesMeetLines fails lines report
+pub report_causes : {S : Type 0} (sight : S → Sight) (rests : S → Trace → Type 0) (fails : HowCallsFail) (m : Machine S) (report : Report) (lines : List Line) → IsReportOf (lists_of sight m) report → HasMemory m → HeardIn rests fails m lines → CausesMeetLines fails lines report
 report_causes sight rests fails m report lines r memory heard =
     subst (λ sent. AllCausesMeet (λ n e. FailsBy fails sent report.outcomes report.ended lines n e) report.outcomes report.ended lines) (sym r.sent)
     (subst (λ outs. AllCausesMeet (λ n e. FailsBy fails m.post.sent outs report.ended lines n e) outs report.ended lines) (sym r.outcomes)
@@ -43,7 +41,7 @@ report_causes sight rests fails m report lines r memory heard =
 -- A run of lines.
 
 -- The calls of a machine have heard what happened in the first of these lines.
-pub record HearsOn {S : Type 0} (sight : S → Sight) (ready : S → Type 0) (waits : S → ℕ → Awaited → Type 0) (account : S → ℕ → Account) (fails : Bool → List Event → Error → Type 0) (rests : S → Trace → Type 0) (m : Machine S) (all rest : List Line) : Type 0 where
+pub record HearsOn {S : Type 0} (sight : S → Sight) (ready : S → Type 0) (waits : S → ℕ → Awaited → Type 0) (account : S → ℕ → Account) (fails : HowCallsFail) (rests : S → Trace → Type 0) (m : Machine S) (all rest : List Line) : Type 0 where
   pub done : List Line
   pub stands : StandsFor sight ready waits m done
   pub taken : TakenIn account m done
@@ -51,7 +49,7 @@ pub record HearsOn {S : Type 0} (sight : S → Sight) (ready : S → Type 0) (wa
   pub good : AllGood done rest
   pub together : reverse done ++ rest ≡ all
 
-module _ {S : Type 0} (sight : S → Sight) (ready : S → Type 0) (waits : S → ℕ → Awaited → Type 0) (account : S → ℕ → Account) (fails : Bool → List Event → Error → Type 0) (rests : S → Trace → Type 0) where
+module _ {S : Type 0} (sight : S → Sight) (ready : S → Type 0) (waits : S → ℕ → Awaited → Type 0) (account : S → ℕ → Account) (fails : HowCallsFail) (rests : S → Trace → Type 0) where
   pub hears_stepped : (m m' : Machine S) (all before rest : List Line) (line : Line) → HearsOn sight ready waits account fails rests m all before → before ≡ line ∷ rest
       → ((ls : List Line) → StandsFor sight ready waits m ls → why_after ls line ≡ None → StandsFor sight ready waits m' (line ∷ ls))
       → ((ls : List Line) → StandsFor sight ready waits m ls → why_after ls line ≡ None → TakenIn account m ls → TakenIn account m' (line ∷ ls))

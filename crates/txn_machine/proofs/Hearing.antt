@@ -17,7 +17,7 @@ use Rattle.txn_post.specs.Mail.{IsMail, as_sent, can_be_served, letter_at, place
 use Rattle.txn_report.specs.declared.outcome.Outcome.{Outcome}
 use Rattle.txn_report.specs.declared.report.SentNote.{SentNote}
 use Rattle.txn_side.specs.Sight.{Group, IsOut}
-use Rattle.txn_side.specs.Trace.{Call, HasCome, Refusal, Trace}
+use Rattle.txn_side.specs.Trace.{Begin, Call, HasCome, Refusal, Trace}
 use Rattle.txn_machine.specs.Causes.{role_of}
 use Rattle.txn_machine.specs.Causes.Role.{NoCall}
 use Rattle.txn_machine.specs.Failing.{CanHear, groups_of}
@@ -115,10 +115,10 @@ among_groups (s ∷ ss) g note (inr h) ticket askers = inr (among_groups ss g no
 
 module _ (old : Lists) (es : List Event) (m : IsMail old.mail) (was : Fates es old.mail) (store : old.store ≡ store_after es)
     (looks : Ticket → Option Request) (looked : (t : Ticket) → looks t ≡ looked_up old.mail t) (groups : (g : Group) → IsOut old.sight g → IsGrouped old.mail.sent g)
-    (noted : (u : Ticket) (r : Request) → Has es (SentEvent u r) → WasAsked old.mail.sent u r) (calls : List Call) (rollbacks : List ℕ) (refused : List Refusal) where
+    (noted : (u : Ticket) (r : Request) → Has es (SentEvent u r) → WasAsked old.mail.sent u r) (calls : List Call) (begun : List Begin) (rollbacks : List ℕ) (refused : List Refusal) where
   -- the trace in which this has happened
   abbrev after : List Event → Trace
-  after fs = record { events = fs; calls = calls; rollbacks = rollbacks; groups = groups_of old.mail.sent; posted = []; refused = refused }
+  after fs = record { events = fs; calls = calls; begun = begun; rollbacks = rollbacks; groups = groups_of old.mail.sent; posted = []; refused = refused }
 
   come : (u : Ticket) (k : ℕ) (fs : List Event) (event : Request → Event) → as_sent (place_of (opened old).mail.tickets u) ≡ Some k → ((r : Request) → Has fs (SentEvent u r) → Has es (SentEvent u r))
       → ((r : Request) → looks u ≡ Some r → request_at (opened old) k ≡ r → Has fs (event r)) → HasCome (after fs) (opened old).sight u event

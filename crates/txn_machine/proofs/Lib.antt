@@ -33,6 +33,7 @@ mod Hearing
 mod Resting
 mod Arising
 mod Failures
+pub mod Begun
 mod HeardLines
 mod Origins
 mod OriginLines

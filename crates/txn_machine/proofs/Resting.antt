@@ -1,5 +1,5 @@
 -- The calls of the clients rest on what has happened, and on what their step posts.
-use Rattle.std.proofs.Common.{◌≡◌, ℕ, zero, suc, ◌<◌, ◌⊎◌, inl, inr, IfOk, List, [], ◌∷◌, Option, Some, None, Result, Ok, Err, length, get_or, refl, sym, ap, ◌∙◌, subst, arith, Bool}
+use Rattle.std.proofs.Common.{◌≡◌, ℕ, zero, suc, ◌<◌, ◌⊎◌, inl, inr, IfOk, List, [], ◌∷◌, Option, Some, None, Result, Ok, Err, length, get_or, refl, sym, ap, ◌∙◌, subst, arith}
 use Rattle.std.specs.List.{All}
 use Rattle.txn_kv.specs.declared.errors.Error.{Error}
 use Rattle.txn_kv.specs.declared.memory.NoMemory.{NoMemory}
@@ -16,7 +16,7 @@ use Rattle.txn_report.specs.declared.outcome.Outcome.TheVariants as outcomes
 use Rattle.txn_report.specs.declared.report.SentNote.{SentNote}
 use Rattle.txn_side.specs.Account.{Account, AreKept, refusal}
 use Rattle.txn_side.specs.Sight.{Sight}
-use Rattle.txn_side.specs.Trace.{EndsFor, FailsIn, HasCome, HearsOn, IsCalled, IsSend, StillRests, Trace, with_posted}
+use Rattle.txn_side.specs.Trace.{EndsFor, FailsIn, HasCome, HearsOn, HowCallsFail, IsCalled, IsSend, StillRests, Trace, with_posted}
 use Rattle.txn_side.specs.declared.turn.Ending.{Ending}
 use Rattle.txn_side.specs.declared.turn.Posting.{Posting}
 use Rattle.txn_side.specs.declared.turn.Posting.TheVariants.{Send, Sleep}
@@ -34,7 +34,7 @@ use Rattle.txn_machine.proofs.Timing.{among_last, posted_among, told_either}
 
 -- What a line makes of it.
 
-module _ (fails : Bool → List Event → Error → Type 0) (was is : Trace → Type 0) (l : Lists) (accounts : ℕ → Account) where
+module _ (fails : HowCallsFail) (was is : Trace → Type 0) (l : Lists) (accounts : ℕ → Account) where
   -- a line asks something of a transaction
   pub ask_on : (ask : Ask) (line same : Line) (r : Result Course NoMemory) → line ≡ same → ((t : Trace) → CanRest same l accounts t → IsCalled t (newest l) ask.transaction × CanAsk (Some ask) accounts (newest l) t)
       → IfOk r (λ done. RunsAsk fails was is ask (newest l) accounts done) → IfOk r (λ done. RunsOn fails was is line l accounts done)
@@ -48,7 +48,7 @@ module _ (fails : Bool → List Event → Error → Type 0) (was is : Trace → 
   heard_on line u event (Err e) come h = tt
 
 -- the reply that the clients hear is the one that the store gave
-pub handled_heard : {S : Type 0} (sight : S → Sight) (fails : Bool → List Event → Error → Type 0) (rests : S → Trace → Type 0) (from mid to : S) (u : Ticket) (reply given : Reply) (r : Result Course NoMemory) → mid ≡ from → reply ≡ given
+pub handled_heard : {S : Type 0} (sight : S → Sight) (fails : HowCallsFail) (rests : S → Trace → Type 0) (from mid to : S) (u : Ticket) (reply given : Reply) (r : Result Course NoMemory) → mid ≡ from → reply ≡ given
     → IfOk r (λ done. HearsOn fails (rests mid) (rests to) (sight mid) u (λ q. Took u q reply) done.turn) → IfOk r (λ done. HearsOn fails (rests from) (rests to) (sight from) u (λ q. Took u q given) done.turn)
 handled_heard {S = S} sight fails rests from mid to u reply given r same is h =
     subst (λ (o : Reply). IfOk r (λ done. HearsOn fails (rests from) (rests to) (sight from) u (λ q. Took u q o) done.turn)) is
@@ -90,7 +90,7 @@ own_error (Some x) l n e ends is = elim (told_either l.outcomes (newest l) n x) 
   | inr told ↦ absurd (let a = sym (ap is_answer (sym told.1 ∙ is)) ∙ ends in cc)
 ]
 
-module _ (fails : Bool → List Event → Error → Type 0) (older l : Lists) (done : Course) (can : CanTell (opened older) done l) where
+module _ (fails : HowCallsFail) (older l : Lists) (done : Course) (can : CanTell (opened older) done l) where
   abbrev own : Lists
   own = with_own done.outcome l
 
@@ -119,9 +119,9 @@ can_ask_kept None a b n t kept h = h
 can_ask_kept (Some ask) a b n t kept h = (λ e is. h.0 e (ap (λ z. refusal ask.act z) (sym (kept ask.transaction)) ∙ is), h.1)
 
 -- the parts of a step together
-pub rested_step : {S : Type 0} (fails : Bool → List Event → Error → Type 0) (rests : S → Trace → Type 0) (account : S → ℕ → Account) (line : Line) (older start l new : Lists) (done : Course) (from mid last to : S) → start ≡ opened older → new ≡ closed done l → CanTell start done l
+pub rested_step : {S : Type 0} (fails : HowCallsFail) (rests : S → Trace → Type 0) (account : S → ℕ → Account) (line : Line) (older start l new : Lists) (done : Course) (from mid last to : S) → start ≡ opened older → new ≡ closed done l → CanTell start done l
     → AreKept (account from) (account mid) → StillRests (rests from) (rests mid) → RunsOn fails (rests mid) (rests last) line start (account mid) done → to ≡ last → Rested fails (rests from) (rests to) line older (account from) new
 rested_step fails rests account line older start l new done from mid last to a b can kept still runs same =
     subst (λ x. Rested fails (rests from) (rests to) line older (account from) x) (sym b) (subst (λ s. Rested fails (rests from) (rests s) line older (account from) (closed done l)) (sym same)
     (rested_closed fails older l done (subst (λ x. CanTell x done l) a can) (rests from) (rests last) line (account from)
-    (λ t rest w. subst (λ x. RunsOn fails (rests mid) (rests last) line x (account mid) done) a runs t (record { posted = rest.posted; call = rest.call; ask = can_ask_kept (ask_of line) (account from) (account mid) (newest (opened older)) t kept rest.ask; hear = rest.hear }) (still t w))))
+    (λ t rest w. subst (λ x. RunsOn fails (rests mid) (rests last) line x (account mid) done) a runs t (record { posted = rest.posted; call = rest.call; begins = rest.begins; ask = can_ask_kept (ask_of line) (account from) (account mid) (newest (opened older)) t kept rest.ask; hear = rest.hear }) (still t w))))

@@ -34,6 +34,7 @@ use Rattle.txn_side.specs.declared.turn.Posting.{Posting}
 use Rattle.txn_side.specs.declared.turn.Posting.TheVariants.{Send, Sleep}
 use Rattle.txn_machine.specs.Causes.{Role, role_of}
 use Rattle.txn_machine.specs.Causes.Role.{AsksTime, MakesClient, NoCall, UsesTransaction}
+use Rattle.txn_machine.specs.Longer.{done_more, sends_more}
 use Rattle.txn_machine.specs.Lists.{Lists, all_ended, all_posted, at_line, ended_at, followed, newest, opened, posted_at, reply_at, request_at, request_in, with_mail}
 use Rattle.txn_machine.specs.Rows.{Caused}
 use Rattle.txn_machine.specs.Running.{IsOrdered, with_own}
@@ -89,55 +90,6 @@ posted_group at count (p ∷ ps) mail g zero x few all h e ask = grouped_more (p
 posted_group at count (p ∷ ps) mail g (suc k) x few all h e ask = posted_group at count ps (posted_at at p mail) g k x few (λ j d low. all (suc j) d (omega arith)) (omega arith) e ask
 
 -- What happened stays.
-
-serves_more : (t : Ticket) (o : Option Request) (es : List Event) (e : Event) → Has es e → Has (serves t o es) e
-serves_more t None es e h = h
-serves_more t (Some r) es e h = inr h
-
-takes_more : (t : Ticket) (o : Option Request) (es : List Event) (e : Event) → Has es e → Has (takes t o es) e
-takes_more t None es e h = h
-takes_more t (Some r) es e h = by (kept_reply es t)
-  where
-    by : (k : Option Reply) → Has (takes_it t r k es) e
-    by None = h
-    by (Some o) = inr h
-
-refuses_more : (t : Ticket) (o : Option Request) (es : List Event) (e : Event) → Has es e → Has (refuses t o es) e
-refuses_more t None es e h = h
-refuses_more t (Some r) es e h = by (busy_reply r)
-  where
-    by : (k : Option Reply) → Has (refuses_it t r k es) e
-    by None = h
-    by (Some o) = inr (inr h)
-
-loses_more : (t : Ticket) (o : Option Request) (es : List Event) (e : Event) → Has es e → Has (loses t o es) e
-loses_more t None es e h = h
-loses_more t (Some r) es e h = inr h
-
-does_more : (looks : Ticket → Option Request) (line : Line) (es : List Event) (e : Event) → Has es e → Has (does looks line es) e
-does_more looks (lines.Serve t) es e h = serves_more t (looks t) es e h
-does_more looks (lines.Answer t) es e h = takes_more t (looks t) es e h
-does_more looks (lines.Deliver t) es e h = takes_more t (looks t) (serves t (looks t) es) e (serves_more t (looks t) es e h)
-does_more looks (lines.Lose t) es e h = loses_more t (looks t) es e h
-does_more looks (lines.Busy t) es e h = refuses_more t (looks t) es e h
-does_more looks (lines.Wake t) es e h = inr h
-does_more looks (lines.Split key) es e h = inr h
-does_more looks (lines.Lead region to) es e h = inr h
-does_more looks (lines.Clock ms) es e h = inr h
-does_more looks (lines.Crash k) es e h = inr h
-does_more looks line es e h = h
-
-pub done_more : (d : Bool) (looks : Ticket → Option Request) (line : Line) (es : List Event) (e : Event) → Has es e → Has (if d then does looks line es else es) e
-done_more true looks line es e h = does_more looks line es e h
-done_more false looks line es e h = h
-
-pub sends_more : (ss : List SentNote) (n : ℕ) (es : List Event) (e : Event) → Has es e → Has (with_sends ss n es) e
-sends_more [] n es e h = h
-sends_more (s ∷ ss) n es e h = sends_more ss n (if nat_eq s.at n then SentEvent s.ticket s.request ∷ es else es) e (one (nat_eq s.at n))
-  where
-    one : (b : Bool) → Has (if b then SentEvent s.ticket s.request ∷ es else es) e
-    one true = inr h
-    one false = h
 
 timed_more : (sent more : List SentNote) (es fs : List Event) (n version : ℕ) → ((note : SentNote) → IsAmong sent note → IsAmong more note) → ((e : Event) → Has es e → Has fs e) → IsTimed sent es n version → IsTimed more fs n version
 timed_more sent more es fs n version among has w = record {

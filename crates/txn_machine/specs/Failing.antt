@@ -1,5 +1,5 @@
 -- Why calls fail: after what they had heard, which had happened by then. Lines stand here with the newest first.
-use Rattle.std.specs.Prelude.{◌≡◌, ◌⊎◌, ⊤, ℕ, Bool, true, List, [], ◌∷◌, ◌++◌, length, map, Option, Some, None}
+use Rattle.std.specs.Prelude.{◌≡◌, ◌⊎◌, ⊤, ℕ, true, List, [], ◌∷◌, ◌++◌, length, map, Option, Some, None}
 use Rattle.std.specs.List.{Any}
 use Rattle.std.proofs.Common.{suc}
 use Rattle.txn_kv.specs.declared.errors.Error.{Error}
@@ -8,8 +8,8 @@ use Rattle.txn_kv.specs.declared.request.Request.{Request}
 use Rattle.txn_kv.specs.declared.ticket.Ticket.{Ticket}
 use Rattle.txn_history.specs.Among.{IsAmong}
 use Rattle.txn_history.specs.Busy.{busy_reply}
-use Rattle.txn_history.specs.Event.{Event}
 use Rattle.txn_history.specs.Event.Event.{Lost, Took}
+use Rattle.txn_lines.specs.declared.begin_options.BeginOptions.{BeginOptions}
 use Rattle.txn_lines.specs.declared.line.Line.{Line}
 use Rattle.txn_lines.specs.declared.line.Line.TheVariants as lines
 use Rattle.txn_post.specs.Mail.{can_be_served, letter_at}
@@ -19,7 +19,7 @@ use Rattle.txn_report.specs.declared.report.Report.{Report}
 use Rattle.txn_report.specs.declared.report.SentNote.{SentNote}
 use Rattle.txn_side.specs.Account.{Account, refusal}
 use Rattle.txn_side.specs.Sight.{Group}
-use Rattle.txn_side.specs.Trace.{Call, FailsIn, HasCome, IsCalled, IsSend, RestsOn, RollsBack, Trace, with_posted}
+use Rattle.txn_side.specs.Trace.{Begin, BeginsAs, Call, FailsIn, HasCome, HowCallsFail, IsCalled, IsSend, RestsOn, RollsBack, Trace, with_posted}
 use Rattle.txn_side.specs.declared.act.Act.{Act}
 use Rattle.txn_side.specs.declared.act.Act.TheVariants.{Rollback}
 use Rattle.txn_side.specs.declared.turn.Posting.{Posting}
@@ -44,6 +44,20 @@ abbrev pub calls_of : List Line → List Call
 calls_of [] = []
 calls_of (line ∷ before) = calls_by (length (line ∷ before)) (role_of line) ++ calls_of before
 
+-- the options with which a line begins a transaction, if it begins one
+abbrev pub begins_as : Line → Option BeginOptions
+begins_as (lines.Begin client options) = Some options
+begins_as _ = None
+
+abbrev pub begun_by : ℕ → Option BeginOptions → List Begin
+begun_by n None = []
+begun_by n (Some options) = record { line = n; options = options } ∷ []
+
+-- the lines that begin a transaction
+abbrev pub begun_of : List Line → List Begin
+begun_of [] = []
+begun_of (line ∷ before) = begun_by (length (line ∷ before)) (begins_as line) ++ begun_of before
+
 -- the lines that roll a transaction back
 abbrev pub rolled : ℕ → Act → List ℕ
 rolled n Rollback = n ∷ []
@@ -62,11 +76,11 @@ groups_of sent = map (λ s. record { ticket = s.ticket; askers = s.askers }) sen
 
 -- what has happened after these lines
 abbrev pub trace_of : List SentNote → List Outcome → List Line → Trace
-trace_of sent outs script = record { events = history sent outs script; calls = calls_of script; rollbacks = rollbacks_of script; groups = groups_of sent; posted = []; refused = [] }
+trace_of sent outs script = record { events = history sent outs script; calls = calls_of script; begun = begun_of script; rollbacks = rollbacks_of script; groups = groups_of sent; posted = []; refused = [] }
 
 -- The call of line n failed with this error after what it had heard, and that had happened in the lines up to the one in whose step the
 -- outcome came.
-abbrev pub FailsBy : (Bool → List Event → Error → Type 0) → List SentNote → List Outcome → List ℕ → List Line → ℕ → Error → Type 0
+abbrev pub FailsBy : HowCallsFail → List SentNote → List Outcome → List ℕ → List Line → ℕ → Error → Type 0
 FailsBy fails sent outs ended script n e = FailsIn fails (trace_of sent outs (lines_before script (suc (ended_of ended n)))) n e
 
 -- What line n asks fails only so, unless it is refused by the account of its transaction.
@@ -80,18 +94,18 @@ AllCausesMeet Fails outs ended (line ∷ before) =
     CauseMeets Fails (λ x. account_of (λ n. outcome_of outs n) (λ n. ended_of ended n) before x) (length (line ∷ before)) (ask_of line) (outcome_of outs (length (line ∷ before))) × AllCausesMeet Fails outs ended before
 
 -- each call that fails, and is not refused, fails so
-abbrev pub CausesMeetLines : (Bool → List Event → Error → Type 0) → List Line → Report → Type 0
+abbrev pub CausesMeetLines : HowCallsFail → List Line → Report → Type 0
 CausesMeetLines fails script report = AllCausesMeet (FailsBy fails report.sent report.outcomes report.ended script) report.outcomes report.ended script
 
 -- What a machine keeps of it while the script goes on.
 
 -- what the calls of the clients have heard has happened, and each that failed had its reason there
-pub record HaveHeard (rests : Trace → Type 0) (fails : Bool → List Event → Error → Type 0) (script : List Line) (sent : List SentNote) (outs : List Outcome) (ended : List ℕ) : Type 0 where
+pub record HaveHeard (rests : Trace → Type 0) (fails : HowCallsFail) (script : List Line) (sent : List SentNote) (outs : List Outcome) (ended : List ℕ) : Type 0 where
   pub rest : rests (trace_of sent outs script)
   pub causes : AllCausesMeet (FailsBy fails sent outs ended script) outs ended script
 
 -- where memory was never wanting
-abbrev pub HeardIn : {S : Type 0} → (S → Trace → Type 0) → (Bool → List Event → Error → Type 0) → Machine S → List Line → Type 0
+abbrev pub HeardIn : {S : Type 0} → (S → Trace → Type 0) → HowCallsFail → Machine S → List Line → Type 0
 HeardIn rests fails m script = HasMemory m → HaveHeard (rests m.clients) fails script m.post.sent m.outcomes.items m.ended.items
 
 -- What a step makes of it
@@ -120,15 +134,16 @@ CanHear _ l t = ⊤
 pub record CanRest (line : Line) (l : Lists) (accounts : ℕ → Account) (t : Trace) : Type 0 where
   pub posted : t.posted ≡ []
   pub call : CanCall (role_of line) (newest l) t
+  pub begins : BeginsAs t (newest l) (begins_as line)
   pub ask : CanAsk (ask_of line) accounts (newest l) t
   pub hear : CanHear line l t
 
 -- and then the calls rest on it, once it is known what the line came to
-abbrev pub RunsOn : (Bool → List Event → Error → Type 0) → (Trace → Type 0) → (Trace → Type 0) → Line → Lists → (ℕ → Account) → Course → Type 0
+abbrev pub RunsOn : HowCallsFail → (Trace → Type 0) → (Trace → Type 0) → Line → Lists → (ℕ → Account) → Course → Type 0
 RunsOn fails was is line l accounts done = (t : Trace) → CanRest line l accounts t → RestsOn fails was is t done.turn.posted.items done.turn.ended.items
 
 -- the same of a line that asks this of a transaction
-abbrev pub RunsAsk : (Bool → List Event → Error → Type 0) → (Trace → Type 0) → (Trace → Type 0) → Ask → ℕ → (ℕ → Account) → Course → Type 0
+abbrev pub RunsAsk : HowCallsFail → (Trace → Type 0) → (Trace → Type 0) → Ask → ℕ → (ℕ → Account) → Course → Type 0
 RunsAsk fails was is ask n accounts done = (t : Trace) → t.posted ≡ [] → IsCalled t n ask.transaction → CanAsk (Some ask) accounts n t → RestsOn fails was is t done.turn.posted.items done.turn.ended.items
 
 -- And by the lists that its step left.
@@ -138,12 +153,12 @@ abbrev pub WasPosted : List Posting → Lists → Type 0
 WasPosted posted l = (u : Ticket) (r : Request) → Any (IsSend u r) posted → (s : SentNote) × IsAmong l.mail.sent s × (s.ticket ≡ u) × (s.request ≡ r) × (s.at ≡ newest l)
 
 -- the calls rest on the trace and on what was posted in the step, and each that failed in it has its reason there
-pub record RestsIn (fails : Bool → List Event → Error → Type 0) (is : Trace → Type 0) (t : Trace) (old new : Lists) : Type 0 where
+pub record RestsIn (fails : HowCallsFail) (is : Trace → Type 0) (t : Trace) (old new : Lists) : Type 0 where
   pub posted : List Posting
   pub sent : WasPosted posted new
   pub rest : is (with_posted posted t)
   pub causes : (n : ℕ) (e : Error) → outcome_of new.outcomes n ≡ Err e → (outcome_of old.outcomes n ≡ Err e) ⊎ (FailsIn fails (with_posted posted t) n e ⊎ IsAmong t.refused (record { line = n; error = e }))
 
 -- so with each trace that has all that the line tells
-abbrev pub Rested : (Bool → List Event → Error → Type 0) → (Trace → Type 0) → (Trace → Type 0) → Line → Lists → (ℕ → Account) → Lists → Type 0
+abbrev pub Rested : HowCallsFail → (Trace → Type 0) → (Trace → Type 0) → Line → Lists → (ℕ → Account) → Lists → Type 0
 Rested fails was is line old accounts new = (t : Trace) → CanRest line (opened old) accounts t → was t → RestsIn fails is t old new

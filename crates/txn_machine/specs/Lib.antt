@@ -5,6 +5,7 @@ pub mod Dues
 pub mod Failing
 pub mod Lawful
 pub mod Lists
+pub mod Longer
 pub mod Notes
 pub mod Rows
 pub mod Running

@@ -1,10 +1,10 @@
 -- What has happened in a run so far, what the calls of clients have heard of it, and what a call that fails rests on.
-use Rattle.std.specs.Prelude.{◌≡◌, ◌⊎◌, ⊤, ℕ, Bool, true, false, List, [], Option, Some, None, Result, Ok, Err}
-use Rattle.std.proofs.Common.{inl, inr}
+use Rattle.std.specs.Prelude.{◌≡◌, ◌⊎◌, ◌<◌, ⊤, ℕ, Bool, true, false, List, [], length, Option, Some, None, Result, Ok, Err}
+use Rattle.std.proofs.Common.{inl, inr, subst}
 use Rattle.std.specs.List.{All, Any}
 use Rattle.txn_kv.specs.declared.errors.Error.{Error}
 use Rattle.txn_kv.specs.declared.errors.Error.TheVariants.{InternalError}
-use Rattle.txn_kv.specs.declared.errors.Internal.TheVariants.{OracleCount, OracleEmpty, OracleLost, WrongReply}
+use Rattle.txn_kv.specs.declared.errors.Internal.TheVariants.{OracleLost, WrongReply}
 use Rattle.txn_kv.specs.declared.reply.Reply.{Reply}
 use Rattle.txn_kv.specs.declared.reply.Reply.TheVariants as replies
 use Rattle.txn_kv.specs.declared.request.Request.{Request}
@@ -16,7 +16,9 @@ use Rattle.txn_history.specs.Among.{IsAmong}
 use Rattle.txn_history.specs.Event.{Event, Has}
 use Rattle.txn_history.specs.Event.Event.{Sent, Took, Lost, Answered}
 use Rattle.txn_history.specs.Licence.{IsWithoutError}
+use Rattle.txn_lines.specs.declared.begin_options.BeginOptions.{BeginOptions}
 use Rattle.txn_report.specs.declared.outcome.Outcome.TheVariants as outcomes
+use Rattle.txn_tso.specs.Oracle.{answer}
 use Rattle.txn_side.specs.Account.{Account, refusal}
 use Rattle.txn_side.specs.Sight.{Group, IsOut, Sight}
 use Rattle.txn_side.specs.Waiting.{posted_in}
@@ -39,11 +41,18 @@ pub record Refusal : Type 0 where
   pub line : ℕ
   pub error : Error
 
--- The events that a run shows; whom what comes for a line is told; which lines roll a transaction back; the requests for timestamps
--- and whose asks they carry; what was posted since; and what was refused.
+-- a line asked for a transaction that begins with these options
+pub record Begin : Type 0 where
+  pub line : ℕ
+  pub options : BeginOptions
+
+-- The events that a run shows; whom what comes for a line is told; which lines begin a transaction, be it that they fail, and with
+-- which options; which lines roll one back; the requests for timestamps and whose asks they carry; what was posted since; and what
+-- was refused.
 pub record Trace : Type 0 where
   pub events : List Event
   pub calls : List Call
+  pub begun : List Begin
   pub rollbacks : List ℕ
   pub groups : List Group
   pub posted : List Posting
@@ -64,19 +73,29 @@ IsSentIn t u r = Has t.events (Sent u r) ⊎ Any (IsSend u r) t.posted
 abbrev pub IsCalled : Trace → ℕ → ℕ → Type 0
 IsCalled t line at = IsAmong t.calls (record { line = line; at = at })
 
+-- what stands at this line was to begin with these options
+abbrev pub IsBegunAs : Trace → ℕ → BeginOptions → Type 0
+IsBegunAs t at options = IsAmong t.begun (record { line = at; options = options })
+
+-- the line begins a transaction with these options, if it begins one
+abbrev pub BeginsAs : Trace → ℕ → Option BeginOptions → Type 0
+BeginsAs t line None = ⊤
+BeginsAs t line (Some options) = IsBegunAs t line options
+
 -- where this is asked, the line is among those that roll back
 abbrev pub RollsBack : List ℕ → ℕ → Act → Type 0
 RollsBack lines line Rollback = IsAmong lines line
 RollsBack lines line act = ⊤
 
--- with what the reply to a request for timestamps refuses those whose asks it carries
-abbrev pub Refuses : Reply → Error → Type 0
-Refuses (replies.Tso o) e = ((asked : ℕ) × (e ≡ InternalError (OracleCount asked o.count))) ⊎ (e ≡ InternalError OracleEmpty)
-Refuses o e = e ≡ InternalError WrongReply
+-- With what the reply to a request for timestamps refuses one of so many whose asks it carries: its count or its timestamp gives none to
+-- the one that has so many behind it, or it is of another kind.
+abbrev pub Refuses : ℕ → Reply → Error → Type 0
+Refuses asked (replies.Tso o) e = (behind : ℕ) × (behind < asked) × (answer o asked behind ≡ Err e)
+Refuses asked o e = e ≡ InternalError WrongReply
 
--- A request for timestamps was lost, or its reply refuses those whose asks it carries: this is the error.
-abbrev pub HasFailed : List Event → Ticket → TsoRequest → Error → Type 0
-HasFailed events u r e = (Has events (Lost u (Tso r)) × (e ≡ InternalError OracleLost)) ⊎ ((o : Reply) × Has events (Took u (Tso r) o) × Refuses o e)
+-- A request for timestamps was lost, or its reply refuses one of so many whose asks it carries: this is the error.
+abbrev pub HasFailed : List Event → Ticket → TsoRequest → ℕ → Error → Type 0
+HasFailed events u r asked e = (Has events (Lost u (Tso r)) × (e ≡ InternalError OracleLost)) ⊎ ((o : Reply) × Has events (Took u (Tso r) o) × Refuses asked o e)
 
 -- an ask of the line was refused with this error: the request that carried it failed so
 pub record IsRefusedIn (t : Trace) (line : ℕ) (e : Error) : Type 0 where
@@ -84,7 +103,7 @@ pub record IsRefusedIn (t : Trace) (line : ℕ) (e : Error) : Type 0 where
   pub among : IsAmong t.groups group
   pub asker : IsAmong group.askers line
   pub request : TsoRequest
-  pub failed : HasFailed t.events group.ticket request e
+  pub failed : HasFailed t.events group.ticket request (length group.askers) e
 
 -- What a call has heard
 
@@ -146,24 +165,30 @@ pub record HasCome (t : Trace) (s : Sight) (u : Ticket) (event : Request → Eve
 pub record IsLonger (t longer : Trace) : Type 0 where
   pub events : (e : Event) → Has t.events e → Has longer.events e
   pub calls : (c : Call) → IsAmong t.calls c → IsAmong longer.calls c
+  pub begun : (b : Begin) → IsAmong t.begun b → IsAmong longer.begun b
   pub rollbacks : (n : ℕ) → IsAmong t.rollbacks n → IsAmong longer.rollbacks n
   pub groups : (g : Group) → IsAmong t.groups g → IsAmong longer.groups g
   pub sent : (u : Ticket) (r : Request) → IsSentIn t u r → IsSentIn longer u r
 
 -- How a call fails
 
+-- With which errors a call may fail: any call, or a rollback alone. It depends on what is said of the options with which its transaction
+-- was to begin, and on what the call had heard.
+abbrev pub HowCallsFail : Type 1
+HowCallsFail = Bool → (BeginOptions → Type 0) → List Event → Error → Type 0
+
 -- The call of the line failed with this error after what it had heard, which has happened, and has come for this line: as any call
--- may, or as a rollback alone.
-pub record FailsIn (fails : Bool → List Event → Error → Type 0) (t : Trace) (line : ℕ) (e : Error) : Type 0 where
+-- may, or as a rollback alone, where what stands at `at` was to begin with such options.
+pub record FailsIn (fails : HowCallsFail) (t : Trace) (line : ℕ) (e : Error) : Type 0 where
   pub at : ℕ
   pub called : IsCalled t line at
   pub history : List Event
   pub shown : AreShown t at history
   pub own : AreOwn line history
-  pub fails_so : fails false history e ⊎ (IsAmong t.rollbacks line × fails true history e)
+  pub fails_so : fails false (IsBegunAs t at) history e ⊎ (IsAmong t.rollbacks line × fails true (IsBegunAs t at) history e)
 
 -- or it was refused
-abbrev pub EndsFor : (Bool → List Event → Error → Type 0) → Trace → Ending → Type 0
+abbrev pub EndsFor : HowCallsFail → Trace → Ending → Type 0
 EndsFor fails t ending = (e : Error) → ending.outcome ≡ outcomes.Err e → FailsIn fails t ending.line e ⊎ IsAmong t.refused (record { line = ending.line; error = e })
 
 abbrev pub ended_in : Option Turn → List Ending
@@ -171,24 +196,24 @@ ended_in None = []
 ended_in (Some turn) = turn.ended.items
 
 -- What a step makes of it, where nothing was posted before: the calls rest on what happened and what is posted, and each that fails has its reason there.
-abbrev pub RestsOn : (Bool → List Event → Error → Type 0) → (Trace → Type 0) → (Trace → Type 0) → Trace → List Posting → List Ending → Type 0
+abbrev pub RestsOn : HowCallsFail → (Trace → Type 0) → (Trace → Type 0) → Trace → List Posting → List Ending → Type 0
 RestsOn fails was is t posted ended = was t → is (with_posted posted t) × All (EndsFor fails (with_posted posted t)) ended
 
--- the newest line calls for a timestamp
-abbrev pub AsksOn : (Bool → List Event → Error → Type 0) → (Trace → Type 0) → (Trace → Type 0) → ℕ → Option Turn → Type 0
-AsksOn fails was is newest turn = (t : Trace) → t.posted ≡ [] → IsCalled t newest newest → RestsOn fails was is t (posted_in turn) (ended_in turn)
+-- the newest line calls for a timestamp, at which a transaction with these options begins, or none
+abbrev pub AsksOn : HowCallsFail → (Trace → Type 0) → (Trace → Type 0) → Option BeginOptions → ℕ → Option Turn → Type 0
+AsksOn fails was is begins newest turn = (t : Trace) → t.posted ≡ [] → IsCalled t newest newest → BeginsAs t newest begins → RestsOn fails was is t (posted_in turn) (ended_in turn)
 
 -- the newest line asks something of the transaction of line x, whose account is this
-abbrev pub ActsOn : (Bool → List Event → Error → Type 0) → (Trace → Type 0) → (Trace → Type 0) → Act → ℕ → ℕ → Account → Option Turn → Type 0
+abbrev pub ActsOn : HowCallsFail → (Trace → Type 0) → (Trace → Type 0) → Act → ℕ → ℕ → Account → Option Turn → Type 0
 ActsOn fails was is act x newest account turn =
     (t : Trace) → t.posted ≡ [] → IsCalled t newest x → ((e : Error) → refusal act account ≡ Some e → IsAmong t.refused (record { line = newest; error = e })) → RollsBack t.rollbacks newest act → RestsOn fails was is t (posted_in turn) (ended_in turn)
 
 -- clients hear of what came for a ticket
-abbrev pub HearsOn : (Bool → List Event → Error → Type 0) → (Trace → Type 0) → (Trace → Type 0) → Sight → Ticket → (Request → Event) → Turn → Type 0
+abbrev pub HearsOn : HowCallsFail → (Trace → Type 0) → (Trace → Type 0) → Sight → Ticket → (Request → Event) → Turn → Type 0
 HearsOn fails was is s u event turn = (t : Trace) → t.posted ≡ [] → HasCome t s u event → RestsOn fails was is t turn.posted.items turn.ended.items
 
 -- or that a sleep has ended
-abbrev pub WakesOn : (Bool → List Event → Error → Type 0) → (Trace → Type 0) → (Trace → Type 0) → Turn → Type 0
+abbrev pub WakesOn : HowCallsFail → (Trace → Type 0) → (Trace → Type 0) → Turn → Type 0
 WakesOn fails was is turn = (t : Trace) → t.posted ≡ [] → RestsOn fails was is t turn.posted.items turn.ended.items
 
 -- the calls rest on what they rested on
@@ -219,12 +244,16 @@ module _ (t longer : Trace) (l : IsLonger t longer) where
   shown_longer at (Answered ask (Err e)) k = (called_longer ask.line at k.0, refused_longer ask.line e k.1)
   shown_longer at e k = tt
 
-  pub fails_longer : (fails : Bool → List Event → Error → Type 0) (line : ℕ) (e : Error) → FailsIn fails t line e → FailsIn fails longer line e
-  fails_longer fails line e f = record {
+  -- the options of a transaction are those that they were
+  pub fails_longer : t.begun ≡ longer.begun → (fails : HowCallsFail) (line : ℕ) (e : Error) → FailsIn fails t line e → FailsIn fails longer line e
+  fails_longer same fails line e f = record {
     at = f.at;
     called = called_longer line f.at f.called;
     history = f.history;
     shown = λ x h. shown_longer f.at x (f.shown x h);
     own = f.own;
-    fails_so = elim f.fails_so [ inl k ↦ inl k | inr k ↦ inr (l.rollbacks line k.0, k.1) ];
+    fails_so = elim f.fails_so [ inl k ↦ inl (as_long false k) | inr k ↦ inr (l.rollbacks line k.0, as_long true k.1) ];
   }
+    where
+      as_long : (rolls : Bool) → fails rolls (IsBegunAs t f.at) f.history e → fails rolls (IsBegunAs longer f.at) f.history e
+      as_long rolls k = subst (λ (bs : List Begin). fails rolls (λ options. IsAmong bs (record { line = f.at; options = options })) f.history e) same k

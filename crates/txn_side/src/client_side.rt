@@ -16,14 +16,13 @@ use txn_lines::BeginOptions;
 ///
 /// After a call has answered `NoMemory` nothing more is said of them.
 pub trait ClientSide: Sized + Drop {
-    ghost use Rattle.std.specs.Prelude.{◌≡◌, ℕ, Bool};
+    ghost use Rattle.std.specs.Prelude.{◌≡◌, ℕ};
     ghost use Rattle.txn_side.specs.Sight.{Sight, nobody};
     ghost use Rattle.txn_side.specs.Waiting.{Awaited, IsDue, NoneWaits};
     ghost use Rattle.txn_side.specs.Account.{Account};
     ghost use Rattle.std.specs.Prelude.{List};
     ghost use Rattle.txn_history.specs.Event.{Event};
-    ghost use Rattle.txn_kv.specs.declared.errors.Error.{Error};
-    ghost use Rattle.txn_side.specs.Trace.{IsLonger, Trace};
+    ghost use Rattle.txn_side.specs.Trace.{HowCallsFail, IsLonger, Trace};
     ghost use Rattle.std.specs.Prelude.{[], ◌∷◌};
     ghost use Rattle.txn_law.specs.Run.{IsPossible};
     ghost use Rattle.txn_report.specs.declared.outcome.Outcome.{Outcome};
@@ -47,8 +46,9 @@ pub trait ClientSide: Sized + Drop {
     // How far the transaction of a line has come, and what it has taken in: nothing, where none has begun there.
     ghost account: { Self → ℕ → Account };
 
-    // With which errors a call may fail after what it has heard: any call, or a rollback alone.
-    ghost fails: { Bool → List Event → Error → Type 0 };
+    // With which errors a call may fail after what it has heard: any call, or a rollback alone, of a transaction that was to begin with
+    // these options.
+    ghost fails: { HowCallsFail };
 
     // What the calls have heard has happened.
     ghost rests: { Self → Trace → Type 0 };
@@ -122,7 +122,7 @@ pub trait ClientSide: Sized + Drop {
         ensures waits { IfOk result (λ turn. WaitsOn NoneHeard (posted_in turn) (waits self.old) (waits self.new) (sight self.old) (sight self.new)) }
         ensures ready { OnOk result (ready self.new) }
         ensures accounts { OnOk result (AreKept (account self.old) (account self.new)) }
-        ensures rests { IfOk result (AsksOn fails (rests self.old) (rests self.new) (line_count (sight self.old))) }
+        ensures rests { IfOk result (AsksOn fails (rests self.old) (rests self.new) (Some options) (line_count (sight self.old))) }
         ensures arises { IfOk result (ArisesOn (arises self.old) (arises self.new) (holds self.old) (holds self.new) (λ n. n)) };
 
     /// The newest line asks for a timestamp; none where the client has crashed.
@@ -134,7 +134,7 @@ pub trait ClientSide: Sized + Drop {
         ensures waits { IfOk result (λ turn. WaitsOn NoneHeard (posted_in turn) (waits self.old) (waits self.new) (sight self.old) (sight self.new)) }
         ensures ready { OnOk result (ready self.new) }
         ensures accounts { OnOk result (AreKept (account self.old) (account self.new)) }
-        ensures rests { IfOk result (AsksOn fails (rests self.old) (rests self.new) (line_count (sight self.old))) }
+        ensures rests { IfOk result (AsksOn fails (rests self.old) (rests self.new) None (line_count (sight self.old))) }
         ensures arises { IfOk result (ArisesOn (arises self.old) (arises self.new) (holds self.old) (holds self.new) (λ n. n)) };
 
     /// The newest line asks something of a transaction; none where its client has crashed, it has not begun, or a call of it is

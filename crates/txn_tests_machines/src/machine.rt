@@ -30,7 +30,7 @@ impl ClientSide for Nobody {
 
     ghost account = { λ s n. new_account };
 
-    ghost fails = { λ rolls heard error. ⊥ };
+    ghost fails = { λ rolls begun heard error. ⊥ };
 
     ghost rests = { λ s trace. ⊤ };
 

@@ -8,7 +8,7 @@ pub returns-clause-waits : goal.returns-clause-waits
 returns-clause-waits c = none_waits_on NoneHeard [] _ _
 
 pub returns-clause-rests : goal.returns-clause-rests
-returns-clause-rests c t posted called was = none_rests t
+returns-clause-rests c t posted called begins was = none_rests t
 
 pub returns-clause-arises : goal.returns-clause-arises
 returns-clause-arises c h was = none_arises (λ n. n) h

@@ -1,0 +1,71 @@
+-- Which lines begin a transaction, and with which options: of each line its own, and no others.
+use Rattle.std.proofs.Common.{◌≡◌, ◌≢◌, ℕ, suc, ◌+◌, ◌⊎◌, inl, inr, Bool, true, false, if◌then◌else◌, List, [], ◌∷◌, ◌++◌, Some, length, nat_eq, nat_lt, refl, sym, ap, ◌∙◌, subst, arith}
+use Rattle.std.proofs.lemmas.Bool.Decides.{nat_tests}
+use Rattle.txn_history.specs.Among.{IsAmong}
+use Rattle.txn_lines.specs.Lines.{line_at}
+use Rattle.txn_lines.specs.declared.begin_options.BeginOptions.{BeginOptions}
+use Rattle.txn_lines.specs.declared.line.Line.{Line}
+use Rattle.txn_lines.specs.declared.line.Line.TheVariants as lines
+use Rattle.txn_report.specs.declared.outcome.Outcome.{Outcome}
+use Rattle.txn_report.specs.declared.report.SentNote.{SentNote}
+use Rattle.txn_side.specs.Trace.{Begin, IsBegunAs}
+use Rattle.txn_machine.specs.Causes.{lines_before}
+use Rattle.txn_machine.specs.Failing.{begins_as, begun_by, begun_of, trace_of}
+use Rattle.txn_machine.proofs.Numberings.{line_new, line_old, line_range}
+
+either_among : {X : Type 0} (xs ys : List X) (x : X) → IsAmong (xs ++ ys) x → IsAmong xs x ⊎ IsAmong ys x
+either_among [] ys x h = inr h
+either_among (z ∷ xs) ys x (inl e) = inl (inl e)
+either_among (z ∷ xs) ys x (inr h) = elim (either_among xs ys x h) [ inl a ↦ inl (inr a) | inr a ↦ inr a ]
+
+later_among : {X : Type 0} (xs ys : List X) (x : X) → IsAmong ys x → IsAmong (xs ++ ys) x
+later_among [] ys x h = h
+later_among (z ∷ xs) ys x h = inr (later_among xs ys x h)
+
+-- of one line
+one_begins : (line : Line) (n k : ℕ) (options : BeginOptions) → IsAmong (begun_by n (begins_as line)) (record { line = k; options = options }) → (n ≡ k) × ((client : ℕ) × (line ≡ lines.Begin client options))
+one_begins (lines.Begin client given) n k options (inl e) = (ap (λ (b : Begin). b.line) e, (client, ap (λ (b : Begin). lines.Begin client b.options) e))
+one_begins (lines.Begin client given) n k options (inr h) = absurd h
+one_begins _ n k options h = absurd h
+
+-- the line that begins a transaction says with which options
+pub begun_line : (ls : List Line) (k : ℕ) (options : BeginOptions) → IsAmong (begun_of ls) (record { line = k; options = options }) → (client : ℕ) × (line_at ls k ≡ Some (lines.Begin client options))
+begun_line [] k options h = absurd h
+begun_line (l ∷ ls) k options h = elim (either_among (begun_by (suc (length ls)) (begins_as l)) (begun_of ls) (record { line = k; options = options }) h) [
+  | inl here ↦ let w = one_begins l (suc (length ls)) k options here in (w.1.0, subst (λ j. line_at (l ∷ ls) j ≡ Some (lines.Begin w.1.0 options)) w.0 (line_new l ls ∙ ap (λ x. Some x) w.1.1))
+  | inr older ↦
+      let w = begun_line ls k options older in
+      let r = line_range ls k (lines.Begin w.0 options) w.1 in
+      let apart : k ≢ suc (length ls) = λ e. omega (arith, r.1, e) in
+      (w.0, line_old l ls k apart ∙ w.1)
+]
+
+-- and each line that says so is among those that do
+pub line_begun : (ls : List Line) (k client : ℕ) (options : BeginOptions) → line_at ls k ≡ Some (lines.Begin client options) → IsAmong (begun_of ls) (record { line = k; options = options })
+line_begun [] k client options h = absurd (cc)
+line_begun (l ∷ ls) k client options h = by (nat_eq (length ls + 1) k) refl (λ g. line_begun ls k client options g) h
+  where
+    by : (b : Bool) → nat_eq (length ls + 1) k ≡ b → (line_at ls k ≡ Some (lines.Begin client options) → IsAmong (begun_of ls) (record { line = k; options = options })) → (if b then Some l else line_at ls k) ≡ Some (lines.Begin client options) → IsAmong (begun_of (l ∷ ls)) (record { line = k; options = options })
+    by true e older is =
+        let there : suc (length ls) ≡ k = grind (arith, nat_tests) in
+        let same : l ≡ lines.Begin client options = cc in
+        subst (λ j. IsAmong (begun_by (suc (length ls)) (begins_as l) ++ begun_of ls) (record { line = j; options = options })) there
+        (subst (λ x. IsAmong (begun_by (suc (length ls)) (begins_as x) ++ begun_of ls) (record { line = suc (length ls); options = options })) (sym same) (inl refl))
+    by false e older is = later_among (begun_by (suc (length ls)) (begins_as l)) (begun_of ls) (record { line = k; options = options }) (older is)
+
+-- so of what stands at a line only one choice of options is true
+pub begun_once : (sent : List SentNote) (outs : List Outcome) (script : List Line) (at : ℕ) (one other : BeginOptions) → IsBegunAs (trace_of sent outs script) at one → IsBegunAs (trace_of sent outs script) at other → one ≡ other
+begun_once sent outs script at one other a b =
+    let v = begun_line script at one a in
+    let w = begun_line script at other b in
+    let same : Some (lines.Begin v.0 one) ≡ Some (lines.Begin w.0 other) = sym v.1 ∙ w.1 in
+    cc
+
+-- what began in earlier lines began in the script
+pub begun_before : (ls : List Line) (n : ℕ) (b : Begin) → IsAmong (begun_of (lines_before ls n)) b → IsAmong (begun_of ls) b
+begun_before [] n b h = h
+begun_before (l ∷ ls) n b h = by (nat_lt (length (l ∷ ls)) n) (λ i. begun_before ls n b i) h
+  where
+    by : (t : Bool) → (IsAmong (begun_of (lines_before ls n)) b → IsAmong (begun_of ls) b) → IsAmong (begun_of (if t then l ∷ ls else lines_before ls n)) b → IsAmong (begun_of (l ∷ ls)) b
+    by true older i = i
+    by false older i = later_among (begun_by (suc (length ls)) (begins_as l)) (begun_of ls) b (older i)
