@@ -108,7 +108,7 @@ module _ {P Q K A B D : Type 0} (w : Ways P Q K A B D) where
 
   module _ (p : IsLawful w.prewriting) (q : IsLawful w.committing) (k : IsLawful w.rolling) where
     -- a commit that answers no timestamp hands out no job
-    no_job : (old new : Standing P Q K) (h : List Event) (job : SecondaryJob Q) → TransactionGives w old.start old.contents new.commits h (Ok (answer.Committed None (Some job))) → ⊥
+    no_job : (old new : Standing P Q K) (h : List Event) (job : SecondaryJob Q) → TransactionGives w old.options.retry_options old.start old.contents new.commits h (Ok (answer.Committed None (Some job))) → ⊥
     no_job old new h job (inl (parts, whole, stands)) = stands
     no_job old new h job (inr (none, nothing)) = elim nothing [ inl e ↦ (cc) | inr e ↦ (cc) ]
 

@@ -17,7 +17,7 @@ use Rattle.txn_clients.specs.Accounts.{account_at, account_in}
 use Rattle.txn_clients.specs.Failing.{CalledIn, KnowsAsk, MayKnow, outbox_of, posting_in}
 use Rattle.txn_clients.specs.Matching.{IsLine}
 use Rattle.txn_clients.specs.Rows.{Pd, stand_of, with_waits}
-use Rattle.txn_clients.specs.Waiting.{AreRunningBut, IsPrepared, IsQuiet, IsReady, IsSound, RowRuns, Steps, asks_of, book_at}
+use Rattle.txn_clients.specs.Waiting.{AreRunningBut, IsPrepared, IsQuiet, IsReady, IsSound, RowRuns, Steps, asks_of, book_at, WantedIn}
 use Rattle.txn_clients.specs.declared.clients.Clients.{Clients}
 use Rattle.txn_clients.specs.declared.row.Row.{Row}
 use Rattle.txn_clients.specs.declared.row.Row.TheVariants as row
@@ -53,12 +53,12 @@ module _ {P Q K A B D : Type 0} (w : Ways P Q K A B D) (p : IsLawful w.prewritin
   -- a call for a timestamp begins
   pub ask_steps : (trace : Option Trace) (s m t : Clients P Q K) (line c : ℕ) (b : Bool) (call : ClientCall Pd P Q K) (Heard : ℕ → Awaited → Type 0) (ps : List Posting) (es : List Ending) → IsLine (stands_of (rows_of s)) line → stand_at (stands_of (rows_of s)) line ≡ Idle
       → get_or (crashed_of s) c true ≡ false → call.stage ≡ stages.Fresh → IsUnbegun called call
-      → rows_of m ≡ set (rows_of s) (line - 1) (row.Asking c b call) → nexts_of m ≡ nexts_of s → asks_of m ≡ asks_of s → m.clients ≡ s.clients → IsReady w s → CalledIn (posting_in [] trace) line line → IsSound w (posting_in [] trace) [] s → StepsAt trace m t line c (line - 1) tells.Start Heard ps es → Steps w trace (λ n a. ⊥) ps es s t
-  ask_steps trace s m t line c b call Heard ps es is idle there fresh unbegun rows nexts asks clients ready is_called sound step =
+      → rows_of m ≡ set (rows_of s) (line - 1) (row.Asking c b call) → nexts_of m ≡ nexts_of s → asks_of m ≡ asks_of s → m.clients ≡ s.clients → IsReady w s → CalledIn (posting_in [] trace) line line → WantedIn (posting_in [] trace) line call → IsSound w (posting_in [] trace) [] s → StepsAt trace m t line c (line - 1) tells.Start Heard ps es → Steps w trace (λ n a. ⊥) ps es s t
+  ask_steps trace s m t line c b call Heard ps es is idle there fresh unbegun rows nexts asks clients ready is_called wants sound step =
       steps_from w trace s m t Heard ps es (idle_fewer w p q k s m line (row.Asking c b call) is (fresh_silent w p q k c b call fresh) rows)
       (step (ap (λ rs. client_at (stand_at (stands_of rs) line)) rows ∙ ap (λ ss. client_at (stand_at ss line)) (stands_set (rows_of s) (line - 1) (row.Asking c b call)) ∙ ap client_at (stand_same (stands_of (rows_of s)) line (Asking c b) is))
       tt
-      (asking_sound w p q k (posting_in [] trace) s m line c b call [] is idle ready.rows.matched there fresh unbegun rows nexts asks clients is_called sound)
+      (asking_sound w p q k (posting_in [] trace) s m line c b call [] is idle ready.rows.matched there fresh unbegun rows nexts asks clients is_called wants sound)
       (λ d apart. subst IsQuiet (sym (books_same s m clients d)) (ready.quiet d))
       (subst (AreRunningBut (line - 1)) (sym rows) (running_but (rows_of s) (line - 1) (row.Asking c b call) (λ i apart. ready.running i)))
       (subst (IsPrepared tells.Start) (sym (ap (λ rs. row_at rs (line - 1)) rows ∙ or_same (rows_of s) (line - 1) (row.Asking c b call) row.Plain (row_within (rows_of s) line is))) (ap stage_phase fresh)))

@@ -15,10 +15,9 @@ use Rattle.txn_history.specs.Among.{IsAmong}
 use Rattle.txn_history.specs.Turn.{IfEnds, IfEnds-weaker, IfKept, IfKept-out, Turn}
 use Rattle.txn_kv.specs.declared.outbox.Errand.TheVariants.{Send}
 use Rattle.txn_core.specs.declared.txn_answer.TxnAnswer.{TxnAnswer}
-use Rattle.txn_client.specs.declared.client_call.Wanted.{Wanted}
 use Rattle.txn_side.specs.Trace.{AreOwn, Trace}
-use Rattle.txn_clients.specs.Failing.{AnswerRests, CalledIn, CameIn, FailsAt, HasMet, IfFails, LongerIn, SentIn, ShownIn}
-use Rattle.txn_clients.specs.Resting.{called_in_longer, shown_longer}
+use Rattle.txn_clients.specs.Failing.{AnswerRests, AskRests, CalledIn, CameIn, FailsAt, HasMet, IfFails, LongerIn, SentIn, ShownIn}
+use Rattle.txn_clients.specs.Resting.{called_in_longer, shown_longer, wanted_longer}
 use Rattle.txn_clients.proofs.Showing.{among_behind, fails_by, known_so, own_after, own_heard, sent_shown, shown_after, shown_heard, unheard_ends}
 use Rattle.txn_history.specs.Turn.Turn.{Stopped, Waits, Ends}
 use Rattle.txn_plan.specs.Arrivals.{awaited_as, told_by}
@@ -29,10 +28,11 @@ use Rattle.txn_commit.specs.Committing.{Ways}
 use Rattle.txn_core.proofs.Waiting.{runs_still}
 use Rattle.txn_client.specs.Calls.{CallGives, IsAt, called, called-lawful, stage_phase, stage_waits}
 use Rattle.txn_client.specs.declared.client_answer.ClientAnswer.{ClientAnswer}
+use Rattle.txn_client.specs.declared.client_answer.ClientAnswer.TheVariants.{Begun, Time}
 use Rattle.txn_client.specs.declared.client_call.ClientCall.{ClientCall}
 use Rattle.txn_side.specs.Sight.{next_at}
 use Rattle.txn_clients.specs.Rows.{Pd, answer_in}
-use Rattle.txn_clients.specs.Waiting.{HasArisen, IsKept, IsReached, IsRisen, RowGoes, hears}
+use Rattle.txn_clients.specs.Waiting.{AskArises, HasArisen, IsKept, IsReached, IsRisen, RowGoes, WantedIn, hears}
 use Rattle.txn_clients.specs.declared.answer.Answer.TheVariants as answers
 use Rattle.txn_clients.specs.declared.row.Row.TheVariants as row
 use Rattle.txn_clients.specs.declared.told.Told.TheVariants as tells
@@ -56,66 +56,76 @@ heard_is (arrivals.Slept n) o r y f = f
 heard_is (arrivals.Time n x) o r y f = f
 
 module _ {P Q K : Type 0} where
-  pub call_later : {trace : Option Trace} {at : ℕ} (s : ClientCall Pd P Q K) (o later : Posted) (nexts news : List ℕ) → IsLater o later → IsRisen nexts news → HasArisen (λ h. IsAt s.stage o h) trace at o.line nexts → HasArisen (λ h. IsAt s.stage later h) trace at later.line news
-  call_later s o later nexts news l risen a = record {
-    history = a.history;
-    fits = called-lawful.fits_longer s o later a.history a.history l (Within-refl a.history) a.fits;
-    kept = kept_risen nexts news a.history risen a.kept;
-    shown = a.shown;
-    own = subst (λ n. AreOwn n a.history) (sym l.line) a.own;
-  }
+  pub call_later : {trace : Option Trace} {at : ℕ} (s : ClientCall Pd P Q K) (o later : Posted) (nexts news : List ℕ) → IsLater o later → IsRisen nexts news → AskArises trace at o nexts s → AskArises trace at later news s
+  call_later s o later nexts news l risen x =
+      let a = x.arisen in
+      record {
+        wanted = x.wanted;
+        arisen = record {
+          history = a.history;
+          fits = called-lawful.fits_longer s o later a.history a.history l (Within-refl a.history) a.fits;
+          kept = kept_risen nexts news a.history risen a.kept;
+          shown = a.shown;
+          own = subst (λ n. AreOwn n a.history) (sym l.line) a.own;
+        };
+      }
 
   module _ {A B D : Type 0} (w : Ways P Q K A B D) (trace longer : Option Trace) (at : ℕ) where
     -- an error that a call for a timestamp answers rests on what it has heard
-    call_fails : (line : ℕ) (x : Wanted) (h : List Event) (v : Result (ClientAnswer Pd P Q K) Error) → ShownIn longer at h → AreOwn line h → CallGives x h v → IfFails (FailsAt w longer at line) v
-    call_fails line x h (Ok v) s own gives = tt
-    call_fails line x h (Err e) s own gives = fails_by w longer at line e h s own (inl gives)
+    call_fails : (line : ℕ) (call : ClientCall Pd P Q K) (h : List Event) (v : Result (ClientAnswer Pd P Q K) Error) → ShownIn longer at h → AreOwn line h → WantedIn longer at call → CallGives call.wanted h v → AskRests w longer at line v
+    call_fails line call h (Ok (Time t)) s own wants gives = tt
+    call_fails line call h (Ok (Begun b)) s own wants gives = wants h b gives
+    call_fails line call h (Err e) s own wants gives = fails_by w longer at line e h s own (λ shows is. inl gives)
 
-    call_ends : (line : ℕ) (x : Wanted) (h : List Event) (turn : Turn (Result (ClientAnswer Pd P Q K) Error)) → ShownIn longer at h → AreOwn line h → IfEnds turn (λ v. CallGives x h v) → IfEnds turn (IfFails (FailsAt w longer at line))
-    call_ends line x h Stopped s own gives = tt
-    call_ends line x h Waits s own gives = tt
-    call_ends line x h (Ends v) s own gives = call_fails line x h v s own gives
+    call_ends : (line : ℕ) (call : ClientCall Pd P Q K) (h : List Event) (turn : Turn (Result (ClientAnswer Pd P Q K) Error)) → ShownIn longer at h → AreOwn line h → WantedIn longer at call → IfEnds turn (λ v. CallGives call.wanted h v) → IfEnds turn (AskRests w longer at line)
+    call_ends line call h Stopped s own wants gives = tt
+    call_ends line call h Waits s own wants gives = tt
+    call_ends line call h (Ends v) s own wants gives = call_fails line call h v s own wants gives
 
     abbrev Arises : ℕ → Posted → List ℕ → ClientCall Pd P Q K → Turn (Result (ClientAnswer Pd P Q K) Error) → Type 0
-    Arises line o news new turn = HasArisen (λ h. IsAt new.stage o h) longer at o.line news × IfEnds turn (IfFails (FailsAt w longer at line))
+    Arises line o news new turn = AskArises longer at o news new × IfEnds turn (AskRests w longer at line)
 
     call_moved : (told : CallTold) (old new : ClientCall Pd P Q K) (from to o : Posted) (turn : Turn (Result (ClientAnswer Pd P Q K) Error)) (nexts news : List ℕ) → HasMet trace longer from to → CalledIn trace from.line at
         → Tells called told old new from to turn → turn ≢ Stopped
         → ((h : List Event) → IsKept nexts h → IsKept nexts (told.hear h))
         → next_at nexts from.line ≤ from.next → IsRisen nexts news → to.next ≤ next_at news from.line → IsReached from to o
-        → (a : HasArisen (λ h. IsAt old.stage from h) trace at from.line nexts) → told.known a.history → ShownIn trace at (told.hear a.history) → AreOwn from.line (told.hear a.history) → Arises from.line o news new turn
-    call_moved told old new from to o turn nexts news met is_called t kept keeps low risen up reached a knows hears owns =
+        → (a : HasArisen (λ h. IsAt old.stage from h) trace at from.line nexts) → told.known a.history → ShownIn trace at (told.hear a.history) → AreOwn from.line (told.hear a.history) → WantedIn trace at old → Arises from.line o news new turn
+    call_moved told old new from to o turn nexts news met is_called t kept keeps low risen up reached a knows hears owns wants =
         let m = t.moves in
+        let still = wanted_longer trace longer at old met.longer wants in
         let after_all = after from.line from.beat (told.hear a.history) m.sends in
         let own = own_after from.line from.line from.beat (told.hear a.history) m.sends owns in
         let shown = shown_after longer at from.line from.beat (told.hear a.history) m.sends (called_in_longer trace longer from.line at met.longer is_called) (λ n store r i. met.sent n store r (subst (λ es. IsAmong es (Send n store r)) (sym m.pushed) (among_behind from.sends m.sends (Send n store r) i))) (shown_longer trace longer at (told.hear a.history) met.longer hears) in (
           record {
-            history = after_all;
-            fits = called-lawful.fits_longer new to o after_all after_all (reached_later from to o m.line m.beat reached) (Within-refl after_all) (IfKept-out turn kept m.still a.history (a.fits, knows));
-            kept = kept_posted nexts news from.line from.beat from.next from.next_ask to.next to.next_ask m.sends (told.hear a.history) low m.numbered risen up (keeps a.history a.kept);
-            shown = shown;
-            own = subst (λ n. AreOwn n after_all) (sym reached.line) own;
+            wanted = λ h b gives. still h b (t.job.given h (Ok (Begun b)) gives);
+            arisen = record {
+              history = after_all;
+              fits = called-lawful.fits_longer new to o after_all after_all (reached_later from to o m.line m.beat reached) (Within-refl after_all) (IfKept-out turn kept m.still a.history (a.fits, knows));
+              kept = kept_posted nexts news from.line from.beat from.next from.next_ask to.next to.next_ask m.sends (told.hear a.history) low m.numbered risen up (keeps a.history a.kept);
+              shown = shown;
+              own = subst (λ n. AreOwn n after_all) (sym reached.line) own;
+            };
           },
-          call_ends from.line old.wanted after_all turn shown own (IfEnds-weaker turn (λ v gives. gives a.history (a.fits, knows)) m.done),
+          call_ends from.line old after_all turn shown own still (IfEnds-weaker turn (λ v gives. gives a.history (a.fits, knows)) m.done),
         )
 
     call_unknown : {C : Type 0} (a : Arrival) (n : ℕ) (old new : ClientCall Pd P Q K) (from to o : Posted) (pd pd' : C) (turn : Turn (Result (ClientAnswer Pd P Q K) Error)) (nexts news : List ℕ) → LongerIn trace longer
         → awaited_as a ≡ ReplyTo n → Goes called.phase (stage_waits old.stage (awaited_as a)) old new from to pd pd' turn
-        → IsRisen nexts news → IsReached from to o → (x : HasArisen (λ h. IsAt old.stage from h) trace at from.line nexts) → ((r : Request) → Has x.history (Sent (ticket_of from n) r) → ⊥) → Arises from.line o news new turn
+        → IsRisen nexts news → IsReached from to o → (x : AskArises trace at from nexts old) → ((r : Request) → Has x.arisen.history (Sent (ticket_of from n) r) → ⊥) → Arises from.line o news new turn
     call_unknown a n old new from to o pd pd' turn nexts news l is goes risen reached x never = (
-      subst (λ (s : ClientCall Pd P Q K). HasArisen (λ h. IsAt s.stage o h) longer at o.line news) (sym (goes.state other))
+      subst (λ (s : ClientCall Pd P Q K). AskArises longer at o news s) (sym (goes.state other))
           (longer_call (call_later old from o nexts news (record { line = reached.line; beat = reached.beat; next = subst (λ (y : Posted). y.next ≤ o.next) (goes.outbox other) reached.next; next_ask = subst (λ (y : Posted). y.next_ask ≤ o.next_ask) (goes.outbox other) reached.next_ask }) risen x)),
-      unheard_ends turn _ (IfFails (FailsAt w longer at from.line)) (goes.deaf other),
+      unheard_ends turn _ (AskRests w longer at from.line) (goes.deaf other),
     )
       where
-        longer_call : HasArisen (λ h. IsAt old.stage o h) trace at o.line news → HasArisen (λ h. IsAt old.stage o h) longer at o.line news
-        longer_call y = record { history = y.history; fits = y.fits; kept = y.kept; shown = shown_longer trace longer at y.history l y.shown; own = y.own }
+        longer_call : AskArises trace at o news old → AskArises longer at o news old
+        longer_call y = let z = y.arisen in record { wanted = wanted_longer trace longer at old l y.wanted; arisen = record { history = z.history; fits = z.fits; kept = z.kept; shown = shown_longer trace longer at z.history l z.shown; own = z.own } }
 
         other : stage_waits old.stage (awaited_as a) → ⊥
-        other y = let s = called-lawful.posted old from x.history (ReplyTo n) x.fits (subst (stage_waits old.stage) is y) in never s.0 s.1
+        other y = let s = called-lawful.posted old from x.arisen.history (ReplyTo n) x.arisen.fits (subst (stage_waits old.stage) is y) in never s.0 s.1
 
   -- the answer that there is rests so
-  pub answer_rests : {A B D : Type 0} (w : Ways P Q K A B D) (longer : Option Trace) (at line : ℕ) (turn : Turn (Result (ClientAnswer Pd P Q K) Error)) → IfEnds turn (IfFails (FailsAt w longer at line)) → IfSome (answer_in answers.Asked turn) (AnswerRests w longer at line)
+  pub answer_rests : {A B D : Type 0} (w : Ways P Q K A B D) (longer : Option Trace) (at line : ℕ) (turn : Turn (Result (ClientAnswer Pd P Q K) Error)) → IfEnds turn (AskRests w longer at line) → IfSome (answer_in answers.Asked turn) (AnswerRests w longer at line)
   answer_rests w longer at line Stopped f = tt
   answer_rests w longer at line Waits f = tt
   answer_rests w longer at line (Ends v) f = f
@@ -131,7 +141,8 @@ module _ {P Q K : Type 0} where
         → IfKept turn (RowGoes w tells.Start (row.Asking c b old) (row.Asking c b new) from to (answer_in answers.Asked turn))
     call_starts c b old new from to pd pd' turn t goes = if_kept turn (λ kept. record {
       arises = λ trace longer at met called_so known nexts news o low risen up reached x.
-          let r = call_moved w trace longer at started old new from to o turn nexts news met called_so t kept (λ h y. y) low risen up reached x tt x.shown x.own in (r.0, answer_rests w longer at from.line turn r.1);
+          let a = x.arisen in
+          let r = call_moved w trace longer at started old new from to o turn nexts news met called_so t kept (λ h y. y) low risen up reached a tt a.shown a.own x.wanted in (r.0, answer_rests w longer at from.line turn r.1);
       expects = t.expects;
       runs = λ fresh none. goes.next fresh ∙ ap phase_after (no_answer answers.Asked turn kept none);
     })
@@ -148,14 +159,14 @@ module _ {P Q K : Type 0} where
       where
         Goal : Type 0
         Goal = (trace longer : Option Trace) (at : ℕ) → HasMet trace longer from to → CalledIn trace from.line at → CameIn trace from a
-            → (nexts news : List ℕ) (o : Posted) → next_at nexts from.line ≤ from.next → IsRisen nexts news → to.next ≤ next_at news from.line → IsReached from to o → HasArisen (λ h. IsAt old.stage from h) trace at from.line nexts → Arises w trace longer at from.line o news new turn
+            → (nexts news : List ℕ) (o : Posted) → next_at nexts from.line ≤ from.next → IsRisen nexts news → to.next ≤ next_at news from.line → IsReached from to o → AskArises trace at from nexts old → Arises w trace longer at from.line o news new turn
 
         by_reply : turn ≢ Stopped → (n : ℕ) → awaited_as a ≡ ReplyTo n
             → ((r : Request) (h : List Event) → Has h (Sent (ticket_of from n) r) → ((s : Request) → Has h (Sent (ticket_of from n) s) → s ≡ r) → (told_by a from r).known h)
             → Goal
-        by_reply kept n is knows trace longer at met called_so came nexts news o low risen up reached x = elim (sent_or_not x.history (ticket_of from n)) [
-          | inl (r, i) ↦ call_moved w trace longer at _ old new from to o turn nexts news met called_so (t r) kept (kept_heard a from r nexts) low risen up reached x (knows r x.history i (λ s j. x.kept.alone (ticket_of from n) r s i j))
-              (shown_heard trace at a from r x.history called_so came (λ m e. subst (λ j. SentIn trace (ticket_of from j) r) (one m (sym is ∙ e)) (sent_shown trace at x.history (ticket_of from n) r x.shown i)) x.shown) (own_heard a from r x.history met.calls x.own)
+        by_reply kept n is knows trace longer at met called_so came nexts news o low risen up reached x = let h = x.arisen in elim (sent_or_not h.history (ticket_of from n)) [
+          | inl (r, i) ↦ call_moved w trace longer at _ old new from to o turn nexts news met called_so (t r) kept (kept_heard a from r nexts) low risen up reached h (knows r h.history i (λ s j. h.kept.alone (ticket_of from n) r s i j))
+              (shown_heard trace at a from r h.history called_so came (λ m e. subst (λ j. SentIn trace (ticket_of from j) r) (one m (sym is ∙ e)) (sent_shown trace at h.history (ticket_of from n) r h.shown i)) h.shown) (own_heard a from r h.history met.calls h.own) x.wanted
           | inr never ↦ call_unknown w trace longer at a n old new from to o pd pd' turn nexts news met.longer is goes risen reached x never
         ]
           where
@@ -164,8 +175,8 @@ module _ {P Q K : Type 0} where
 
         -- where it is no reply and no loss
         comes : turn ≢ Stopped → {d : Arrival} → ((m : ℕ) → awaited_as d ≡ ReplyTo m → ⊥) → a ≡ d → Goal
-        comes kept {d} other e trace longer at met called_so came nexts news o low risen up reached x = call_moved w trace longer at _ old new from to o turn nexts news met called_so (t members) kept (kept_heard a from members nexts) low risen up reached x (known_so a from members x.history (λ m f. other m (sym (ap awaited_as e) ∙ f)))
-            (shown_heard trace at a from members x.history called_so came (λ m f. absurd (other m (sym (ap awaited_as e) ∙ f))) x.shown) (own_heard a from members x.history met.calls x.own)
+        comes kept {d} other e trace longer at met called_so came nexts news o low risen up reached x = let h = x.arisen in call_moved w trace longer at _ old new from to o turn nexts news met called_so (t members) kept (kept_heard a from members nexts) low risen up reached h (known_so a from members h.history (λ m f. other m (sym (ap awaited_as e) ∙ f)))
+            (shown_heard trace at a from members h.history called_so came (λ m f. absurd (other m (sym (ap awaited_as e) ∙ f))) h.shown) (own_heard a from members h.history met.calls h.own) x.wanted
 
         by : turn ≢ Stopped → (d : Arrival) → a ≡ d → Goal
         by kept (arrivals.Reply n x) e = by_reply kept n (ap awaited_as e) (λ r h i alone. subst (λ d. (told_by d from r).known h) (sym e) (record { sent = i; alone = alone }))

@@ -18,15 +18,21 @@ use Rattle.txn_side.specs.declared.act.Act.{Act}
 use Rattle.txn_side.specs.declared.act.Act.TheVariants.{Rollback}
 use Rattle.txn_clients.specs.Failing.{CalledIn, CameIn, GroupCameIn, KnowsAsk, RefusedIn, RollsBackIn, outbox_of, posting_in}
 use Rattle.txn_clients.specs.Groups.{group_by}
-use Rattle.txn_clients.specs.Waiting.{book_at}
+use Rattle.txn_clients.specs.Waiting.{book_at, WantedIn}
 use Rattle.txn_clients.specs.declared.clients.Clients.{Clients}
 use Rattle.txn_clients.proofs.Stepping.{group_there}
+use Rattle.txn_clients.specs.Rows.{Pd}
+use Rattle.txn_client.specs.declared.client_call.ClientCall.{ClientCall}
 
 -- whatever was posted since
 
 pub called_since : (trace : Option Trace) (ps : List Posting) (line at : ℕ) → CalledIn trace line at → CalledIn (posting_in ps trace) line at
 called_since None ps line at c = tt
 called_since (Some t) ps line at c = c
+
+pub wanted_since : {P Q K : Type 0} (trace : Option Trace) (ps : List Posting) (at : ℕ) (call : ClientCall Pd P Q K) → WantedIn trace at call → WantedIn (posting_in ps trace) at call
+wanted_since None ps at call wants = wants
+wanted_since (Some t) ps at call wants = wants
 
 -- without a trace nothing is asked of it
 pub rolls_untold : (line : ℕ) (act : Act) → RollsBackIn None line act

@@ -13,6 +13,7 @@ use Rattle.txn_buffer.specs.Contents.{Contents}
 use Rattle.txn_commit.specs.Committing.{Ways}
 use Rattle.txn_commit.specs.Following.{Commits}
 use Rattle.txn_commit.specs.declared.secondary_job.SecondaryJob.{SecondaryJob}
+use Rattle.txn_merge.specs.declared.retry_options.RetryOptions.{RetryOptions}
 use Rattle.txn_core.specs.Going.{IsAtWork, IsUncommitted, TransactionFits, TransactionGives}
 use Rattle.txn_core.specs.Transaction.{Standing, begun, is_open}
 use Rattle.txn_core.specs.declared.options.TransactionOptions.{TransactionOptions}
@@ -185,7 +186,7 @@ module _ {P Q K : Type 0} where
     rest_fits : (t : Standing P Q K) (o p : Posted) (h : List Event) → is_open t.work ≡ false → TransactionFits w t o h → TransactionFits w t p h
     rest_fits t o p h rests f = record { given = f.given; unsent = f.unsent; settled = f.settled; at = by t.work rests f.at }
       where
-        by : (g : Work P Q K) → is_open g ≡ false → IsAtWork w t.start t.status t.contents t.commits g o h → IsAtWork w t.start t.status t.contents t.commits g p h
+        by : (g : Work P Q K) → is_open g ≡ false → IsAtWork w t.options.retry_options t.start t.status t.contents t.commits g o h → IsAtWork w t.options.retry_options t.start t.status t.contents t.commits g p h
         by work.Idle e x = x
         by (work.Open call) e x = absurd (cc)
         by work.GaveUp e x = tt
@@ -311,10 +312,10 @@ module _ {P Q K A B D : Type 0} (w : Ways P Q K A B D) where
       left = ask_leaves askers h line c v r o leaves new came (λ n d. uncommitted w s askers rest h line n is.first unended a d)
 
   -- no job is handed out where nothing was committed
-  pub jobless : (start : Timestamp) (contents : Contents) (c : Commits) (h : List Event) (job : SecondaryJob Q) → TransactionGives w start contents c h (Ok (answer.Committed None (Some job))) → ⊥
-  jobless start contents c h job (inl x) = x.2
-  jobless start contents c h job (inr (e, inl f)) = cc
-  jobless start contents c h job (inr (e, inr f)) = cc
+  pub jobless : (options : RetryOptions) (start : Timestamp) (contents : Contents) (c : Commits) (h : List Event) (job : SecondaryJob Q) → TransactionGives w options start contents c h (Ok (answer.Committed None (Some job))) → ⊥
+  jobless options start contents c h job (inl x) = x.2
+  jobless options start contents c h job (inr (e, inl f)) = cc
+  jobless options start contents c h job (inr (e, inr f)) = cc
 
   -- the job that a call of a transaction left is behind the transaction
   job_fits : (askers : Ticket → List ℕ) (h : List Event) (line c n x : ℕ) (v : Result (TxnAnswer Q) Error) (r mine : Row P Q K) (rows : List (Row P Q K)) (p : Posted) → CallLeaves c v r → AnswerArises w askers line mine (Some (answers.Called v)) h → row_at rows x ≡ with_waits n mine → RowFits w rows p h r

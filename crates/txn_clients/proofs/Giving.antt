@@ -1,11 +1,13 @@
 -- Why those whose asks a request for timestamps carries are told that there is none.
-use Rattle.std.proofs.Common.{◌≡◌, inl, inr, ℕ, Bool, true, false, if◌then◌else◌, List, [], ◌∷◌, length, get_or, Option, Some, None, refl, sym, ap, ◌∙◌, subst}
+use Rattle.std.proofs.Common.{◌≡◌, ◌<◌, ◌≤◌, inl, inr, ℕ, suc, List, [], ◌∷◌, length, arith, get_or, Option, Some, None, refl, sym, ap, ◌∙◌, subst}
+use Rattle.std.proofs.lemmas.List.{length-map}
 use Rattle.std.proofs.lemmas.List.Elements.{All-cons, All-nil}
+use Rattle.std.proofs.Math.Nat.{le_refl}
 use Rattle.std.specs.List.{All}
 use Rattle.std.specs.Prelude.{Result, Ok, Err}
 use Rattle.txn_kv.specs.declared.errors.Error.{Error}
 use Rattle.txn_kv.specs.declared.errors.Error.TheVariants.{InternalError}
-use Rattle.txn_kv.specs.declared.errors.Internal.TheVariants.{OracleLost, WrongReply}
+use Rattle.txn_kv.specs.declared.errors.Internal.TheVariants.{OracleLost}
 use Rattle.txn_kv.specs.declared.reply.Reply.{Reply}
 use Rattle.txn_kv.specs.declared.reply.Reply.TheVariants as replies
 use Rattle.txn_kv.specs.declared.reply.TsoResponse.{TsoResponse}
@@ -22,14 +24,13 @@ use Rattle.txn_plan.specs.declared.arrival.Arrival.TheVariants as arrivals
 use Rattle.txn_side.specs.Sight.{Group}
 use Rattle.txn_side.specs.Trace.{HasFailed, IsRefusedIn, Refuses, Trace, with_posted}
 use Rattle.txn_side.specs.declared.turn.Posting.{Posting}
-use Rattle.txn_tso.specs.Oracle.{Answer, answer, answered, answers, askers_out, granted, granted_if, group_or_none, has_version, is_unlike, Oracle}
+use Rattle.txn_tso.specs.Oracle.{Answer, answer, answered, answers, askers_out, group_or_none, Oracle}
 use Rattle.txn_tso.specs.declared.asker.Asker.{Asker}
 use Rattle.txn_clients.specs.Clients.{groups_of}
 use Rattle.txn_clients.specs.Failing.{AreGivenIn, CameIn, GroupCameIn, IfFails, outbox_of, posting_in}
 use Rattle.txn_clients.specs.Groups.{group_by, lines_in}
 use Rattle.txn_clients.specs.Waiting.{IsPaired, IsThere, Takes, book_at}
 use Rattle.txn_clients.specs.declared.clients.Clients.{Clients}
-use Rattle.txn_clients.proofs.Showing.{all_map}
 use Rattle.txn_clients.proofs.Stepping.{group_there}
 use Rattle.txn_clients.proofs.Timestamps.{among_so}
 
@@ -42,28 +43,26 @@ weaker P Q (Err e) f h = f e h
 
 -- What a reply refuses
 
-either_fails : (P : Error → Type 0) (b : Bool) (x y : Result Timestamp Error) → IfFails P x → IfFails P y → IfFails P (if b then x else y)
-either_fails P true x y h k = h
-either_fails P false x y h k = k
+refused_by : (o : TsoResponse) (asked behind : ℕ) (v : Result Timestamp Error) → behind < asked → answer o asked behind ≡ v → IfFails (Refuses asked (replies.Tso o)) v
+refused_by o asked behind (Ok time) low is = tt
+refused_by o asked behind (Err e) low is = (behind, low, is)
 
-granted_refuses : (o : TsoResponse) (stamp : Option Timestamp) (asked behind : ℕ) → IfFails (Refuses (replies.Tso o)) (granted_if stamp o.count asked behind)
-granted_refuses o None asked behind = inr refl
-granted_refuses o (Some last) asked behind = either_fails (Refuses (replies.Tso o)) (has_version last) (granted last o.count asked behind) _ (either_fails (Refuses (replies.Tso o)) (is_unlike last o.count asked) _ _ (inl (asked, refl)) tt) (inr refl)
+answers_refuse : (o : TsoResponse) (asked : ℕ) (askers : List Asker) → length askers ≤ asked → All (Fails (Refuses asked (replies.Tso o))) (answers o asked askers)
+answers_refuse o asked [] low = All-nil (Fails (Refuses asked (replies.Tso o)))
+answers_refuse o asked (a ∷ rest) low =
+    let high : suc (length rest) ≤ asked = low in
+    All-cons (Fails (Refuses asked (replies.Tso o))) (a, answer o asked (length rest)) (answers o asked rest) (refused_by o asked (length rest) (answer o asked (length rest)) (omega (arith, high)) refl) (answers_refuse o asked rest (omega (arith, high)))
 
-answers_refuse : (o : TsoResponse) (asked : ℕ) (askers : List Asker) → All (Fails (Refuses (replies.Tso o))) (answers o asked askers)
-answers_refuse o asked [] = All-nil (Fails (Refuses (replies.Tso o)))
-answers_refuse o asked (a ∷ rest) = All-cons (Fails (Refuses (replies.Tso o))) (a, answer o asked (length rest)) (answers o asked rest) (granted_refuses o o.timestamp asked (length rest)) (answers_refuse o asked rest)
+-- each asker is answered
+answers_long : (o : TsoResponse) (asked : ℕ) (askers : List Asker) → length (answers o asked askers) ≡ length askers
+answers_long o asked [] = refl
+answers_long o asked (a ∷ rest) = ap suc (answers_long o asked rest)
 
-pub times_refuse : (o : TsoResponse) (oracle : Oracle) (given : List Answer) → given ≡ answered o oracle → All (Fails (Refuses (replies.Tso o))) given
-times_refuse o oracle given e = subst (All (Fails (Refuses (replies.Tso o)))) (sym e) (answers_refuse o (length (askers_out oracle)) (askers_out oracle))
-
-refuses_other : (o : Reply) → ((times : TsoResponse) → o ≡ replies.Tso times → ⊥) → (e : Error) → e ≡ InternalError WrongReply → Refuses o e
-refuses_other (replies.Tso times) other e h = absurd (other times refl)
-refuses_other o other e h = h
-
--- a reply of another kind refuses all
-pub others_refuse : (o : Reply) (given : List Answer) → ((times : TsoResponse) → o ≡ replies.Tso times → ⊥) → All (Fails (λ e. e ≡ InternalError WrongReply)) given → All (Fails (Refuses o)) given
-others_refuse o given other all = all_map (λ a h. weaker (λ e. e ≡ InternalError WrongReply) (Refuses o) a.1 (refuses_other o other) h) given all
+pub times_refuse : (o : TsoResponse) (oracle : Oracle) (given : List Answer) → given ≡ answered o oracle → All (Fails (Refuses (length given) (replies.Tso o))) given
+times_refuse o oracle given e =
+    let out = askers_out oracle in
+    subst (λ (xs : List Answer). All (Fails (Refuses (length xs) (replies.Tso o))) xs) (sym e)
+    (subst (λ (n : ℕ). All (Fails (Refuses n (replies.Tso o))) (answered o oracle)) (sym (answers_long o (length out) out)) (answers_refuse o (length out) out (le_refl (length out))))
 
 -- What those are told who asked
 
@@ -81,17 +80,17 @@ all_among P [] f = All-nil P
 all_among P (x ∷ xs) f = All-cons P x xs (f x (inl refl)) (all_among P xs (λ y i. f y (inr i)))
 
 -- an answer of the request that is out, where that failed so
-refused_one : (t : Trace) (event : Ticket → Request → Event) (Why : Error → Type 0) → ((u : Ticket) (r : TsoRequest) (e : Error) → Has t.events (event u (Tso r)) → Why e → HasFailed t.events u r e)
-    → (group : Group) (came : IsAmong t.groups group × ((r : TsoRequest) × Has t.events (event group.ticket (Tso r)))) (line : ℕ) → IsAmong group.askers line → (v : Result Timestamp Error) → IfFails Why v → IfFails (IsRefusedIn t line) v
-refused_one t event Why failed group came line among (Ok x) h = tt
-refused_one t event Why failed group came line among (Err e) h =
+refused_one : (t : Trace) (event : Ticket → Request → Event) (Why : Error → Type 0) (asked : ℕ) → ((u : Ticket) (r : TsoRequest) (e : Error) → Has t.events (event u (Tso r)) → Why e → HasFailed t.events u r asked e)
+    → (group : Group) (came : IsAmong t.groups group × ((r : TsoRequest) × Has t.events (event group.ticket (Tso r)))) → asked ≡ length group.askers → (line : ℕ) → IsAmong group.askers line → (v : Result Timestamp Error) → IfFails Why v → IfFails (IsRefusedIn t line) v
+refused_one t event Why asked failed group came all line among (Ok x) h = tt
+refused_one t event Why asked failed group came all line among (Err e) h =
     let fact = came.1 in
-    record { group = group; among = came.0; asker = among; request = fact.0; failed = failed group.ticket fact.0 e fact.1 h }
+    record { group = group; among = came.0; asker = among; request = fact.0; failed = subst (λ (n : ℕ). HasFailed t.events group.ticket fact.0 n e) all (failed group.ticket fact.0 e fact.1 h) }
 
 module _ {P Q K : Type 0} where
   -- all of them are told why, where the request that is out was lost, or its reply was taken
   pub given_in : (trace : Option Trace) (s t : Clients P Q K) (client : ℕ) (event : Ticket → Request → Event) (Why : Error → Type 0) (given : List Answer)
-      → ((u : Trace) (x : Ticket) (r : TsoRequest) (e : Error) → Has u.events (event x (Tso r)) → Why e → HasFailed u.events x r e)
+      → ((u : Trace) (x : Ticket) (r : TsoRequest) (e : Error) → Has u.events (event x (Tso r)) → Why e → HasFailed u.events x r (length given) e)
       → Takes client given s t → IsPaired (book_at s client) → GroupCameIn trace (get_or (groups_of s) client None) event → All (Fails Why) given → AreGivenIn trace given
   given_in None s t client event Why given failed takes paired came all = tt
   given_in (Some u) s t client event Why given failed takes paired came all = all_among (λ (a : Answer). IfFails (IsRefusedIn u a.0.line) a.1) given (λ a i. one a (among_so (Fails Why) given a all i) (asks a i))
@@ -102,17 +101,20 @@ module _ {P Q K : Type 0} where
       asks : (a : Answer) → IsAmong given a → IsAmong out a.0
       asks a i = subst (λ askers. IsAmong askers a.0) takes.askers (map_among (λ (b : Answer). b.0) given a i)
 
+      long : length given ≡ length (lines_in out)
+      long = sym (length-map given (λ (b : Answer). b.0)) ∙ ap length takes.askers ∙ sym (length-map out (λ (b : Asker). b.line))
+
       there : IsThere (book_at s client).ticket → (a : Answer) → IfFails Why a.1 → IsAmong out a.0 → IfFails (IsRefusedIn u a.0.line) a.1
       there (ticket, e) a h i =
           let group : Group = record { ticket = ticket; askers = lines_in out } in
-          refused_one u event Why (failed u) group (came group (group_there s.clients.items client ∙ ap (λ o. group_by o (lines_in out)) e)) a.0.line (map_among (λ (b : Asker). b.line) out a.0 i) a.1 h
+          refused_one u event Why (length given) (failed u) group (came group (group_there s.clients.items client ∙ ap (λ o. group_by o (lines_in out)) e)) long a.0.line (map_among (λ (b : Asker). b.line) out a.0 i) a.1 h
 
       one : (a : Answer) → IfFails Why a.1 → IsAmong out a.0 → IfFails (IsRefusedIn u a.0.line) a.1
       one a h i = elim paired [ inl none ↦ absurd (subst (λ o. IsAmong (group_or_none o) a.0) none i) | inr ticket ↦ there ticket a h i ]
 
   -- its reply was taken
-  pub given_taken : (trace : Option Trace) (s t : Clients P Q K) (client : ℕ) (o : Reply) (given : List Answer) → Takes client given s t → IsPaired (book_at s client) → GroupCameIn trace (get_or (groups_of s) client None) (λ u r. Took u r o) → All (Fails (Refuses o)) given → AreGivenIn trace given
-  given_taken trace s t client o given takes paired came all = given_in trace s t client (λ u r. Took u r o) (Refuses o) given (λ u x r e h why. inr (o, h, why)) takes paired came all
+  pub given_taken : (trace : Option Trace) (s t : Clients P Q K) (client : ℕ) (o : Reply) (given : List Answer) → Takes client given s t → IsPaired (book_at s client) → GroupCameIn trace (get_or (groups_of s) client None) (λ u r. Took u r o) → All (Fails (Refuses (length given) o)) given → AreGivenIn trace given
+  given_taken trace s t client o given takes paired came all = given_in trace s t client (λ u r. Took u r o) (Refuses (length given) o) given (λ u x r e h why. inr (o, h, why)) takes paired came all
 
   -- it was lost
   pub given_lost : (trace : Option Trace) (s t : Clients P Q K) (client : ℕ) (given : List Answer) → Takes client given s t → IsPaired (book_at s client) → GroupCameIn trace (get_or (groups_of s) client None) (λ u r. Lost u r) → All (Fails (λ e. e ≡ InternalError OracleLost)) given → AreGivenIn trace given

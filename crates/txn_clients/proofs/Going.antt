@@ -31,7 +31,7 @@ use Rattle.txn_clients.specs.declared.told.Told.{Told}
 use Rattle.txn_clients.specs.declared.told.Told.TheVariants as tells
 use Rattle.txn_side.specs.Trace.{Trace}
 use Rattle.txn_clients.specs.Accounts.{account_of}
-use Rattle.txn_clients.specs.Failing.{CameIn, KnowsAsk}
+use Rattle.txn_clients.specs.Failing.{CameIn, KnowsAsk, RetriesIn}
 use Rattle.txn_clients.specs.Resting.{row_longer}
 use Rattle.txn_clients.proofs.Calls.{call_later, call_rests, no_answer}
 use Rattle.txn_clients.proofs.Showing.{own_times, shown_times}
@@ -161,9 +161,10 @@ pub none_ordered : {X : Type 0} (key : X → X → Ordering) → IsStrictlySorte
 unfolding IsStrictlySortedBy
 none_ordered key = tt
 
-pub begun_arises : {P Q K A B D : Type 0} (w : Ways P Q K A B D) (b : Standing P Q K) (options : TransactionOptions) (now : ℕ) (trace : Option Trace) (at : ℕ) (o : Posted) (nexts : List ℕ) → b ≡ begun b.start options now → StandArises w trace at o nexts b
-begun_arises w b options now trace at o nexts e = subst (StandArises w trace at o nexts) (sym e) (record {
+pub begun_arises : {P Q K A B D : Type 0} (w : Ways P Q K A B D) (b : Standing P Q K) (options : TransactionOptions) (now : ℕ) (trace : Option Trace) (at : ℕ) (o : Posted) (nexts : List ℕ) → b ≡ begun b.start options now → RetriesIn trace at b.options.retry_options → StandArises w trace at o nexts b
+begun_arises w b options now trace at o nexts e retries = subst (StandArises w trace at o nexts) (sym e) (record {
   ordered = none_ordered _;
+  retries = subst (λ (t : Standing _ _ _). RetriesIn trace at t.options.retry_options) e retries;
   arisen = record {
     history = given;
     fits = begun_fits w b.start options now o given was never;

@@ -26,6 +26,7 @@ use Rattle.txn_law.proofs.Among.{map_among}
 use Rattle.txn_law.proofs.Kept.{kept}
 use Rattle.txn_law.proofs.Tickets.{sent_once, ticket_is, ticket_itself}
 use Rattle.txn_commit.specs.Committing.{Ways}
+use Rattle.txn_merge.specs.declared.retry_options.RetryOptions.{RetryOptions}
 use Rattle.txn_commit.specs.Jobs.{JobFits, others-lawful}
 use Rattle.txn_commit.specs.Sending.{plan_of}
 use Rattle.txn_commit.specs.declared.secondary_job.SecondaryJob.{SecondaryJob}
@@ -120,7 +121,7 @@ pub taken_sent : (plans : ℕ → Plan) (h : List Event) (u : Ticket) (r : Reque
 taken_sent plans h u r x run taken = took_sent plans h u r x run ((kept plans h run).taken u r x taken)
 
 -- what others post and take changes nothing that a job knows
-pub jobs_last : {Q B : Type 0} (m : Meaning Q (Result B Error)) → IsLawful m → (refuses : List Event → Error → Type 0) (costs : ℕ → ℕ → ℕ) → ((h longer : List Event) (e : Error) → Within h longer → refuses h e → refuses longer e)
+pub jobs_last : {Q B : Type 0} (m : Meaning Q (Result B Error)) → IsLawful m → (refuses : RetryOptions → List Event → Error → Type 0) (costs : ℕ → ℕ → ℕ) → ((options : RetryOptions) (h longer : List Event) (e : Error) → Within h longer → refuses options h e → refuses options longer e)
     → (plan : Plan) (keys : List Key) (job : SecondaryJob Q) (o p : Posted) (h longer : List Event) → IsLater o p → Within h longer → JobFits m refuses plan keys job o h → JobFits m refuses plan keys job p longer
 jobs_last m law refuses costs more plan keys job o p h longer l within f = (others-lawful m law refuses costs plan keys more).fits_longer job o p h longer l within f
 

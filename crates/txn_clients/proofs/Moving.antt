@@ -160,7 +160,7 @@ module _ {P Q K : Type 0} where
 
 module _ {P Q K A B D : Type 0} (w : Ways P Q K A B D) where
   -- what it answers stands on what the call gives
-  call_stands : (old new : Standing P Q K) (h : List Event) (turn : Turn (Result (TxnAnswer Q) Error)) → IfEnds turn (λ v. allows_data new.status ≡ false) → IfEnds turn (λ v. TransactionGives w old.start old.contents new.commits h v) → CallStands w old new (answer_in answers.Called turn) h
+  call_stands : (old new : Standing P Q K) (h : List Event) (turn : Turn (Result (TxnAnswer Q) Error)) → IfEnds turn (λ v. allows_data new.status ≡ false) → IfEnds turn (λ v. TransactionGives w old.options.retry_options old.start old.contents new.commits h v) → CallStands w old new (answer_in answers.Called turn) h
   call_stands old new h Stopped off g = tt
   call_stands old new h Waits off g = tt
   call_stands old new h (Ends (Err e)) off g = tt

@@ -19,6 +19,7 @@ use Rattle.txn_plan.specs.Arrivals.{told_by}
 use Rattle.txn_plan.specs.declared.arrival.Arrival.{Arrival}
 use Rattle.txn_tso.specs.Calling.{members}
 use Rattle.txn_commit.specs.Committing.{Ways}
+use Rattle.txn_merge.specs.declared.retry_options.RetryOptions.{RetryOptions}
 use Rattle.txn_commit.specs.Jobs.{JobFits, others}
 use Rattle.txn_commit.specs.Plans.{only_key}
 use Rattle.txn_commit.specs.Sending.{MaySendBehind, NamesNoPrimary}
@@ -102,7 +103,7 @@ module _ {P Q K : Type 0} where
 
 -- A job
 
-module _ {Q B : Type 0} (m : Meaning Q (Result B Error)) (refuses : List Event → Error → Type 0) (costs : ℕ → ℕ → ℕ) where
+module _ {Q B : Type 0} (m : Meaning Q (Result B Error)) (refuses : RetryOptions → List Event → Error → Type 0) (costs : ℕ → ℕ → ℕ) where
   -- What it may send says of which start it is: a Commit of no keys rests on nothing else.
   same_start : (old new : SecondaryJob Q) → SameJob (others m refuses costs (only_key []) []).asks (others m refuses costs (only_key []) []).gives new old → version_of new.start ≡ version_of old.start
   same_start old new s = (s.asked [] (Commit empty) (record { may = (refl, λ k h. absurd (no h)); others = none })).may.0
@@ -139,5 +140,5 @@ module _ {Q B : Type 0} (m : Meaning Q (Result B Error)) (refuses : List Event �
     moves = λ plan keys r. job_moved (told_by a from r) plan keys old new from to progress (t plan keys r);
   })
 
-pub job_unmoved : {Q B : Type 0} (m : Meaning Q (Result B Error)) (refuses : List Event → Error → Type 0) (told : Told) (x : Act) (job : SecondaryJob Q) (o : Posted) → told ≡ tells.Act x → JobMoves m refuses told job job o o
+pub job_unmoved : {Q B : Type 0} (m : Meaning Q (Result B Error)) (refuses : RetryOptions → List Event → Error → Type 0) (told : Told) (x : Act) (job : SecondaryJob Q) (o : Posted) → told ≡ tells.Act x → JobMoves m refuses told job job o o
 job_unmoved m refuses told x job o e = subst (λ d. JobMoves m refuses d job job o o) (sym e) (record { start = refl; moves = λ plan keys r. moved_quiet refl (λ h f. f.0) (λ h f. tt) })

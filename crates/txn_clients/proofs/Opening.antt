@@ -15,7 +15,7 @@ use Rattle.txn_tso.specs.declared.asker.Asker.{Asker}
 use Rattle.txn_clients.specs.Clients.{AreReady, crashed_of, nexts_of, row_at, rows_of, stands_of}
 use Rattle.txn_clients.specs.Matching.{AreMatched, IsLine}
 use Rattle.txn_clients.specs.Rows.{Pd, Rests, stand_of, with_waits}
-use Rattle.txn_clients.specs.Waiting.{AreCalled, IsRisen, IsSound, NoneHears, RowArises, Wants, asks_of, book_at, posted_at, voice, voice_at, wants}
+use Rattle.txn_clients.specs.Waiting.{AreCalled, IsRisen, IsSound, NoneHears, RowArises, Wants, asks_of, book_at, posted_at, voice, voice_at, wants, WantedIn}
 use Rattle.txn_clients.specs.declared.clients.Clients.{Clients}
 use Rattle.txn_clients.specs.declared.place.Place.{Place}
 use Rattle.txn_clients.specs.declared.row.Row.{Row}
@@ -70,7 +70,7 @@ module _ {P Q K : Type 0} where
     idle_fewer s t line r is silent rows n a x = wants_fewer w (rows_of s) (line - 1) r (row_within (rows_of s) line is) silent n a (subst (λ rs. Wants w rs n a) rows x)
 
     pub idle_sound : (trace : Option Trace) (s t : Clients P Q K) (line c : ℕ) (r : Row P Q K) (rest : List Asker) → IsLine (stands_of (rows_of s)) line → stand_at (stands_of (rows_of s)) line ≡ Idle → AreMatched (stands_of (rows_of s))
-        → ((a : Awaited) → wants w r a → ⊥) → ((at : ℕ) (o : Posted) (nexts : List ℕ) → RowArises w trace at o nexts r) → client_at (stand_of r) ≡ Some c → c < length (crashed_of t) → ((d x : ℕ) (a : Bool) → stand_of r ≡ Calling d x a → ⊥) → ((d : ℕ) (a : Bool) → stand_of r ≡ Asking d a → CalledIn trace line line)
+        → ((a : Awaited) → wants w r a → ⊥) → ((o : Posted) (nexts : List ℕ) → RowArises w trace line o nexts r) → client_at (stand_of r) ≡ Some c → c < length (crashed_of t) → ((d x : ℕ) (a : Bool) → stand_of r ≡ Calling d x a → ⊥) → ((d : ℕ) (a : Bool) → stand_of r ≡ Asking d a → CalledIn trace line line)
         → rows_of t ≡ set (rows_of s) (line - 1) r → nexts_of t ≡ nexts_of s → asks_of t ≡ asks_of s
         → length (crashed_of s) ≤ length (crashed_of t) → ((d : ℕ) → d < length (crashed_of s) → lives (crashed_of t) (Some d) ≡ true → lives (crashed_of s) (Some d) ≡ true) → ((d : ℕ) → book_at t d ≡ book_at s d)
         → IsSound w trace rest s → IsSound w trace rest t
@@ -124,15 +124,18 @@ module _ {P Q K : Type 0} where
     pub fresh_silent : (c : ℕ) (b : Bool) (call : ClientCall Pd P Q K) → call.stage ≡ stages.Fresh → (a : Awaited) → wants w (row.Asking c b call) a → ⊥
     fresh_silent c b call e a x = subst (λ g. stage_waits g a) e x
 
-    pub fresh_arises : (c : ℕ) (b : Bool) (call : ClientCall Pd P Q K) → IsUnbegun called call → (trace : Option Trace) (at : ℕ) (o : Posted) (nexts : List ℕ) → RowArises w trace at o nexts (row.Asking c b call)
-    fresh_arises c b call u trace at o nexts = record { history = []; fits = u.fits o []; kept = kept_nothing nexts; shown = shown_nothing trace at; own = λ e i. absurd i }
+    pub fresh_arises : (c : ℕ) (b : Bool) (call : ClientCall Pd P Q K) → IsUnbegun called call → (trace : Option Trace) (at : ℕ) → WantedIn trace at call → (o : Posted) (nexts : List ℕ) → RowArises w trace at o nexts (row.Asking c b call)
+    fresh_arises c b call u trace at wants o nexts = record {
+      wanted = wants;
+      arisen = record { history = []; fits = u.fits o []; kept = kept_nothing nexts; shown = shown_nothing trace at; own = λ e i. absurd i };
+    }
 
     pub asking_sound : (trace : Option Trace) (s t : Clients P Q K) (line c : ℕ) (b : Bool) (call : ClientCall Pd P Q K) (rest : List Asker) → IsLine (stands_of (rows_of s)) line → stand_at (stands_of (rows_of s)) line ≡ Idle → AreMatched (stands_of (rows_of s))
         → get_or (crashed_of s) c true ≡ false → call.stage ≡ stages.Fresh → IsUnbegun called call
-        → rows_of t ≡ set (rows_of s) (line - 1) (row.Asking c b call) → nexts_of t ≡ nexts_of s → asks_of t ≡ asks_of s → t.clients ≡ s.clients → CalledIn trace line line → IsSound w trace rest s → IsSound w trace rest t
-    asking_sound trace s t line c b call rest is idle matched there fresh unbegun rows nexts asks clients is_called sound =
+        → rows_of t ≡ set (rows_of s) (line - 1) (row.Asking c b call) → nexts_of t ≡ nexts_of s → asks_of t ≡ asks_of s → t.clients ≡ s.clients → CalledIn trace line line → WantedIn trace line call → IsSound w trace rest s → IsSound w trace rest t
+    asking_sound trace s t line c b call rest is idle matched there fresh unbegun rows nexts asks clients is_called wants sound =
         let same = crashed_same s t clients in
-        idle_sound trace s t line c (row.Asking c b call) rest is idle matched (fresh_silent c b call fresh) (fresh_arises c b call unbegun trace) refl (subst (λ cs. c < length cs) (sym same) (within (crashed_of s) c there)) (λ d x a e. cc) (λ d a e. is_called)
+        idle_sound trace s t line c (row.Asking c b call) rest is idle matched (fresh_silent c b call fresh) (fresh_arises c b call unbegun trace line wants) refl (subst (λ cs. c < length cs) (sym same) (within (crashed_of s) c there)) (λ d x a e. cc) (λ d a e. is_called)
         rows nexts asks (le_of (length (crashed_of s)) (length (crashed_of t)) (sym (ap length same))) (λ d h l. ap (λ cs. lives cs (Some d)) (sym same) ∙ l) (books_same s t clients) sound
 
     -- A call of a transaction begins.

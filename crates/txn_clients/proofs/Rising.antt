@@ -197,25 +197,25 @@ module _ {P Q K A B D : Type 0} (w : Ways P Q K A B D) (p : IsLawful w.prewritin
   -- What a commit answers
 
   pub stand_commits : (d n : ℕ) (old new : Standing P Q K) (from to : Posted) (h : List Event) (t : Timestamp) (job : Option (SecondaryJob Q)) → KeepsPlan old new from to → allows_data new.status ≡ false
-      → TransactionGives w old.start old.contents new.commits h (Ok (answer.Committed (Some t) job))
+      → TransactionGives w old.options.retry_options old.start old.contents new.commits h (Ok (answer.Committed (Some t) job))
       → IsCommittedSo {P = P} {Q = Q} {K = K} h (version_of t) (row.Begun d new n) × IfSome job (λ j. (o : Posted) → IsBehind {P = P} {K = K} w j o h (row.Begun d new n))
   stand_commits d n old new from to h t job keeps closed gives = ((c.0, closed, fixed ∙ c.1, subst (λ u. PrimaryCommitted (plan_of c.0) h (version_of u) (version_of t)) (sym keeps.start) c.2), behind job gives)
     where
       c : (parts : CommitParts) × (parts_of old.contents ≡ Some parts) × PrimaryCommitted (plan_of parts) h (version_of old.start) (version_of t)
-      c = ends_committed w old.start t old.contents new.commits h job gives
+      c = ends_committed w old.options.retry_options old.start t old.contents new.commits h job gives
 
       fixed : parts_of new.contents ≡ parts_of old.contents
       fixed = ap parts_of (keeps.fixed closed)
 
-      behind : (job : Option (SecondaryJob Q)) → TransactionGives w old.start old.contents new.commits h (Ok (answer.Committed (Some t) job)) → IfSome job (λ j. (o : Posted) → IsBehind {P = P} {K = K} w j o h (row.Begun d new n))
+      behind : (job : Option (SecondaryJob Q)) → TransactionGives w old.options.retry_options old.start old.contents new.commits h (Ok (answer.Committed (Some t) job)) → IfSome job (λ j. (o : Posted) → IsBehind {P = P} {K = K} w j o h (row.Begun d new n))
       behind None x = tt
-      behind (Some j) x = λ o. let e = ends_with_job w old.start t old.contents new.commits o h j x in
+      behind (Some j) x = λ o. let e = ends_with_job w old.options.retry_options old.start t old.contents new.commits o h j x in
           (e.0, ap version_of (keeps.start ∙ sym e.2), closed, fixed ∙ e.1, e.4)
 
   -- it locked nothing
-  gives_unlocked : (old new : Standing P Q K) (h : List Event) → TransactionGives w old.start old.contents new.commits h (Ok (answer.Committed None None)) → locks_nothing old.contents ≡ true
+  gives_unlocked : (old new : Standing P Q K) (h : List Event) → TransactionGives w old.options.retry_options old.start old.contents new.commits h (Ok (answer.Committed None None)) → locks_nothing old.contents ≡ true
   gives_unlocked old new h (inl (parts, whole, stands)) = ap lock_nothing whole ∙ ap not stands.0
   gives_unlocked old new h (inr (none, nothing)) = ap lock_nothing none
 
-  pub stand_unlocks : (d n : ℕ) (old new : Standing P Q K) (from to : Posted) (h : List Event) → KeepsPlan old new from to → allows_data new.status ≡ false → TransactionGives w old.start old.contents new.commits h (Ok (answer.Committed None None)) → IsCommittedUnlocked {P = P} {Q = Q} {K = K} (row.Begun d new n)
+  pub stand_unlocks : (d n : ℕ) (old new : Standing P Q K) (from to : Posted) (h : List Event) → KeepsPlan old new from to → allows_data new.status ≡ false → TransactionGives w old.options.retry_options old.start old.contents new.commits h (Ok (answer.Committed None None)) → IsCommittedUnlocked {P = P} {Q = Q} {K = K} (row.Begun d new n)
   stand_unlocks d n old new from to h keeps closed gives = (closed, ap locks_nothing (keeps.fixed closed) ∙ gives_unlocked old new h gives)

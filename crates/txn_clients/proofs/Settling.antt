@@ -37,7 +37,7 @@ use Rattle.txn_clients.specs.declared.told.Told.TheVariants as tells
 use Rattle.txn_clients.proofs.Sights.{HasSettled}
 use Rattle.txn_side.specs.Trace.{Trace}
 use Rattle.txn_side.specs.declared.turn.Ending.{Ending}
-use Rattle.txn_clients.specs.Failing.{AnswerRests, AreToldIn, CalledIn, EndsMore, FailsAt, IfFails, posting_in}
+use Rattle.txn_clients.specs.Failing.{AnswerRests, AreToldIn, CalledIn, EndsMore, FailsAt, IfFails, posting_in, AskRests}
 use Rattle.txn_clients.proofs.Showing.{ends_then, keeps_any, keeps_none, keeps_then}
 use Rattle.txn_clients.proofs.Sounding.{arisen_set, le_of, no_more, pends_split, running_set, sound_from, wants_fewer}
 use Rattle.txn_clients.proofs.Standing.{rest_silent, stand_rests}
@@ -235,20 +235,27 @@ module _ {P Q K : Type 0} where
       rests_arises trace at n c m (row.Past d) e rests o later nexts x = tt
       rests_arises trace at n c m (row.Working d job) e rests o later nexts x = tt
 
+      place_of : (line : ℕ) → 1 ≤ line → line ≡ suc (line - 1)
+      place_of line first = omega (arith, first)
+
+      placed : (trace : Option Trace) (line : ℕ) (r : Row P Q K) → 1 ≤ line → ((o : Posted) (nexts : List ℕ) → RowArises w trace line o nexts r)
+          → (o : Posted) (nexts : List ℕ) → RowArises w trace (suc (line - 1)) o nexts r
+      placed trace line r first here o nexts = subst (λ n. RowArises w trace n o nexts r) (place_of line first) (here o nexts)
+
       -- a row is set that waits for nothing
       pub one_set : (trace : Option Trace) (s t : Clients P Q K) (line : ℕ) (r : Row P Q K) → IsLine (stands_of (rows_of s)) line → rows_of t ≡ set (rows_of s) (line - 1) r → nexts_of t ≡ nexts_of s → asks_of t ≡ asks_of s
-          → ((at : ℕ) (o : Posted) (nexts : List ℕ) → RowArises w trace at o nexts r)
+          → ((o : Posted) (nexts : List ℕ) → RowArises w trace line o nexts r)
           → ((i : ℕ) → RowArises w trace (suc i) (posted_at (nexts_of s) (asks_of s) (voice_at (rows_of s) i)) (nexts_of s) (row_at (rows_of s) i))
           → (i : ℕ) → RowArises w trace (suc i) (posted_at (nexts_of t) (asks_of t) (voice_at (rows_of t) i)) (nexts_of t) (row_at (rows_of t) i)
       one_set trace s t line r is rows nexts asks here there i =
           subst (λ ns. RowArises w trace (suc i) (posted_at ns (asks_of t) (voice_at (rows_of t) i)) ns (row_at (rows_of t) i)) (sym nexts)
           (subst (λ ns. RowArises w trace (suc i) (posted_at (nexts_of s) ns (voice_at (rows_of t) i)) (nexts_of s) (row_at (rows_of t) i)) (sym asks)
           (subst (λ rs. RowArises w trace (suc i) (posted_at (nexts_of s) (asks_of s) (voice_at rs i)) (nexts_of s) (row_at rs i)) (sym rows)
-          (arisen_set w trace (rows_of s) (line - 1) r (nexts_of s) (asks_of s) (row_within (rows_of s) line is) (here _ _ _) (λ j apart. there j) i)))
+          (arisen_set w trace (rows_of s) (line - 1) r (nexts_of s) (asks_of s) (row_within (rows_of s) line is) (placed trace line r is.first here _ _) (λ j apart. there j) i)))
 
       -- the call for a timestamp that stands at a line ends
       pub asked_goes : (trace : Option Trace) (s t : Clients P Q K) (line client c : ℕ) (b : Bool) (r : Row P Q K) (rest : List Asker) (ps : List Posting) (es fs : List Ending) → IsLine (stands_of (rows_of s)) line → stand_at (stands_of (rows_of s)) line ≡ Asking c b
-          → HasSettled c (stand_of r) → RowReady w r → ((at : ℕ) (o : Posted) (nexts : List ℕ) → RowArises w (posting_in ps trace) at o nexts r)
+          → HasSettled c (stand_of r) → RowReady w r → ((o : Posted) (nexts : List ℕ) → RowArises w (posting_in ps trace) line o nexts r)
           → rows_of t ≡ set (rows_of s) (line - 1) r → nexts_of t ≡ nexts_of s → asks_of t ≡ asks_of s → t.clients ≡ s.clients → EndsMore w (posting_in ps trace) es fs
           → IsSound w (posting_in ps trace) rest s → GoesOn w trace client (λ n a. ⊥) rest ps ps es fs s t
       asked_goes trace s t line client c b r rest ps es fs is asks settled may here rows nexts same_asks clients ends sound = quiet_goes trace s t client rest ps es fs whole ends fewer (books_same s t clients)
@@ -562,10 +569,10 @@ module _ {P Q K : Type 0} where
 
   module _ {A B D : Type 0} (w : Ways P Q K A B D) where
     pub asked_rests : (trace : Option Trace) (rows : List (Row P Q K)) (line at : ℕ) (v : Result (ClientAnswer Pd P Q K) Error) (answer : Option (Answer P Q K)) → HearsFor (stands_of rows) line at (stand_at (stands_of rows) line) → IsAnswerOf {P = P} {Q = Q} {K = K} (stand_of (row_at rows at)) (answers.Asked v)
-        → answer ≡ Some (answers.Asked v) → IfSome answer (AnswerRests w trace (suc at) line) → IfFails (FailsAt w trace line line) v
+        → answer ≡ Some (answers.Asked v) → IfSome answer (AnswerRests w trace (suc at) line) → AskRests w trace line line v
     asked_rests trace rows line at v answer hears kind is rests =
         let a = asked_at rows line at v hears kind in
-        subst (λ n. IfFails (FailsAt w trace n line) v) (subst (HearsFor (stands_of rows) line at) a.stand hears) (subst (λ x. IfSome x (AnswerRests w trace (suc at) line)) is rests)
+        subst (λ n. AskRests w trace n line v) (subst (HearsFor (stands_of rows) line at) a.stand hears) (subst (λ x. IfSome x (AnswerRests w trace (suc at) line)) is rests)
 
     pub called_rests : (trace : Option Trace) (rows news : List (Row P Q K)) (line at : ℕ) (v : Result (TxnAnswer Q) Error) (answer : Option (Answer P Q K)) → stands_of news ≡ stands_of rows → HearsFor (stands_of rows) line at (stand_at (stands_of rows) line)
         → answer ≡ Some (answers.Called v) → IfSome answer (AnswerRests w trace (suc at) line) → (c x : ℕ) (b : Bool) → stand_at (stands_of news) line ≡ Calling c x b → IfFails (FailsAt w trace x line) v

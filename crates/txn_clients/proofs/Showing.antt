@@ -34,21 +34,25 @@ use Rattle.txn_commit.specs.Sending.{plan_of}
 use Rattle.txn_commit.specs.declared.commit_parts.CommitParts.{CommitParts}
 use Rattle.txn_core.specs.Going.{IsAtWork, IsNothing, TransactionFits, TransactionGives}
 use Rattle.txn_core.specs.Transaction.{Standing}
+use Rattle.txn_core.specs.declared.options.TransactionOptions.{TransactionOptions}
 use Rattle.txn_core.specs.declared.transaction.Work.{Work}
 use Rattle.txn_core.specs.declared.transaction.Work.TheVariants.{Idle, Open, GaveUp}
 use Rattle.txn_core.specs.declared.txn_answer.TxnAnswer.{TxnAnswer}
 use Rattle.txn_side.specs.Account.{Account, refusal}
 use Rattle.txn_side.specs.declared.act.Act.{Act}
-use Rattle.txn_side.specs.Trace.{fails_longer, AreOwn, EndsFor, IsLonger, IsOwn, IsSend, IsShown, Trace}
+use Rattle.txn_side.specs.Trace.{fails_longer, AreOwn, EndsFor, IsLonger, IsOwn, IsSend, IsShown, Trace, IsBegunAs}
 use Rattle.txn_side.specs.declared.turn.Posting.{Posting}
 use Rattle.std.proofs.lemmas.List.Elements.{All-append, All-cons, All-head, All-nil, All-tail}
 use Rattle.txn_report.specs.declared.outcome.Outcome.{Outcome}
 use Rattle.txn_report.specs.declared.outcome.Outcome.TheVariants as outcomes
 use Rattle.txn_side.specs.declared.turn.Ending.{Ending}
-use Rattle.txn_clients.specs.Failing.{EndsMore, HasReason, CalledIn, CameIn, FailsAt, FailsFor, HasFailedFor, IfFails, KnownTransaction, LongerIn, RefusedIn, SentIn, ShownIn, posting_in, CallRefused, KnowsAsk, RollsIn}
+use Rattle.txn_clients.specs.Failing.{EndsMore, HasReason, CalledIn, CameIn, FailsAt, FailsFor, HasFailedFor, IfFails, KnownTransaction, LongerIn, RefusedIn, SentIn, ShownIn, posting_in, CallRefused, KnowsAsk, RollsIn, AskRests, RetriesIn}
 use Rattle.txn_clients.specs.Waiting.{Keeps}
 use Rattle.txn_clients.specs.Want.{wants_memory}
 use Rattle.txn_clients.proofs.Groups.{any_ahead}
+use Rattle.txn_clients.specs.Rows.{Pd}
+use Rattle.txn_client.specs.declared.client_answer.ClientAnswer.{ClientAnswer}
+use Rattle.txn_client.specs.declared.client_answer.ClientAnswer.TheVariants.{Begun, Time}
 
 -- What was posted
 
@@ -67,16 +71,18 @@ posting_longer (Some t) ps qs k = (
   record {
     events = λ e i. i;
     calls = λ c i. i;
+    begun = λ b i. i;
     rollbacks = λ n i. i;
     groups = λ g i. i;
     sent = λ u r h. elim h [ inl i ↦ inl i | inr a ↦ inr (keeps_any (IsSend u r) ps qs k a) ];
   },
   refl,
+  refl,
 )
 
 pub longer_same : (trace : Option Trace) → LongerIn trace trace
 longer_same None = tt
-longer_same (Some t) = (record { events = λ e i. i; calls = λ c i. i; rollbacks = λ n i. i; groups = λ g i. i; sent = λ u r h. h }, refl)
+longer_same (Some t) = (record { events = λ e i. i; calls = λ c i. i; begun = λ b i. i; rollbacks = λ n i. i; groups = λ g i. i; sent = λ u r h. h }, refl, refl)
 
 pub posted_sent : (trace : Option Trace) (ps : List Posting) (u : Ticket) (r : Request) → Any (IsSend u r) ps → SentIn (posting_in ps trace) u r
 posted_sent None ps u r a = tt
@@ -216,7 +222,7 @@ module _ {P Q K A B D : Type 0} (w : Ways P Q K A B D) where
     fits_known : (parts : CommitParts) → parts_of t.contents ≡ Some parts → KnowsCommits (plan_of parts) (version_of t.start) t.commits h
     fits_known parts e = by t.work refl f.at
       where
-        by : (g : Work P Q K) → t.work ≡ g → IsAtWork w t.start t.status t.contents t.commits g o h → KnowsCommits (plan_of parts) (version_of t.start) t.commits h
+        by : (g : Work P Q K) → t.work ≡ g → IsAtWork w t.options.retry_options t.start t.status t.contents t.commits g o h → KnowsCommits (plan_of parts) (version_of t.start) t.commits h
         by Idle k at = let a = at.of_parts parts e in a.knows
         by (Open call) k at =
             let same : call.parts ≡ parts = one (sym at.whole ∙ e) in
@@ -227,10 +233,10 @@ module _ {P Q K A B D : Type 0} (w : Ways P Q K A B D) where
         by GaveUp k at = absurd (alive k)
 
     pub known_with : (parts : CommitParts) → parts_of t.contents ≡ Some parts → KnownTransaction h
-    known_with parts whole = record { start = t.start; contents = t.contents; parts = parts; whole = whole; commits = t.commits; known = fits_known parts whole }
+    known_with parts whole = record { start = t.start; retry_options = t.options.retry_options; contents = t.contents; parts = parts; whole = whole; commits = t.commits; known = fits_known parts whole }
 
     -- where its buffer holds nothing to commit, no Commit of it was lost or is out
-    empty_sent : (g : Work P Q K) → t.work ≡ g → IsAtWork w t.start t.status t.contents t.commits g o h → parts_of t.contents ≡ None → t.commits ≡ none_sent
+    empty_sent : (g : Work P Q K) → t.work ≡ g → IsAtWork w t.options.retry_options t.start t.status t.contents t.commits g o h → parts_of t.contents ≡ None → t.commits ≡ none_sent
     empty_sent Idle k at e = at.empty e
     empty_sent (Open call) k at e = absurd (no_parts call.parts (sym e ∙ at.whole))
       where
@@ -250,9 +256,9 @@ module _ {P Q K A B D : Type 0} (w : Ways P Q K A B D) where
         by (Some parts) e = (known_with parts e, left)
 
   -- an error that a call answers rests on what it has heard
-  pub fails_by : (trace : Option Trace) (at line : ℕ) (e : Error) (h : List Event) → ShownIn trace at h → AreOwn line h → HasFailedFor w false h e → FailsAt w trace at line e
+  pub fails_by : (trace : Option Trace) (at line : ℕ) (e : Error) (h : List Event) → ShownIn trace at h → AreOwn line h → ((t : Trace) → trace ≡ Some t → HasFailedFor w false (IsBegunAs t at) h e) → FailsAt w trace at line e
   fails_by None at line e h s own f = tt
-  fails_by (Some t) at line e h s own f = inl (h, s, own, inl f)
+  fails_by (Some t) at line e h s own f = inl (h, s, own, inl (f t refl))
 
   -- and of a rollback
   pub barred_by : (trace : Option Trace) (at line : ℕ) (e : Error) (h : List Event) → ShownIn trace at h → AreOwn line h → RollsIn trace line → CallRefused h e → FailsAt w trace at line e
@@ -263,18 +269,18 @@ module _ {P Q K A B D : Type 0} (w : Ways P Q K A B D) where
   refused_by None at line e why r same = tt
   refused_by (Some t) at line e why r same = inr (r e (ap Some (sym same)))
 
-  fails_gives : (trace : Option Trace) (at line : ℕ) (t : Standing P Q K) (o : Posted) (h : List Event) (v : Result (TxnAnswer Q) Error) → ShownIn trace at h → AreOwn line h → (t.work ≡ GaveUp → ⊥) → TransactionFits w t o h → TransactionGives w t.start t.contents t.commits h v → IfFails (FailsAt w trace at line) v
+  fails_gives : (trace : Option Trace) (at line : ℕ) (t : Standing P Q K) (o : Posted) (h : List Event) (v : Result (TxnAnswer Q) Error) → RetriesIn trace at t.options.retry_options → ShownIn trace at h → AreOwn line h → (t.work ≡ GaveUp → ⊥) → TransactionFits w t o h → TransactionGives w t.options.retry_options t.start t.contents t.commits h v → IfFails (FailsAt w trace at line) v
   unfolding known_with
-  fails_gives trace at line t o h (Ok v) s own alive f gives = tt
-  fails_gives trace at line t o h (Err e) s own alive f (inl (parts, whole, fails)) = fails_by trace at line e h s own (inr (record { transaction = known_with t o h alive f parts whole; fails = fails }))
-  fails_gives trace at line t o h (Err e) s own alive f (inr g) = absurd (never_nothing {Q = Q} e g.1)
+  fails_gives trace at line t o h (Ok v) retries s own alive f gives = tt
+  fails_gives trace at line t o h (Err e) retries s own alive f (inl (parts, whole, fails)) = fails_by trace at line e h s own (λ shows is. inr (record { transaction = known_with t o h alive f parts whole; retries = subst (λ (x : Option Trace). RetriesIn x at t.options.retry_options) is retries; fails = fails }))
+  fails_gives trace at line t o h (Err e) retries s own alive f (inr g) = absurd (never_nothing {Q = Q} e g.1)
 
-  pub fails_done : (trace : Option Trace) (at line : ℕ) (old new : Standing P Q K) (o : Posted) (h : List Event) (turn : Turn (Result (TxnAnswer Q) Error)) → ShownIn trace at h → AreOwn line h → ((v : Result (TxnAnswer Q) Error) → turn ≡ Ends v → new.work ≡ GaveUp → ⊥) → TransactionFits w new o h → new.start ≡ old.start → new.contents ≡ old.contents
-      → IfEnds turn (λ v. TransactionGives w old.start old.contents new.commits h v) → IfEnds turn (IfFails (FailsAt w trace at line))
-  fails_done trace at line old new o h Stopped s own alive f start contents gives = tt
-  fails_done trace at line old new o h Waits s own alive f start contents gives = tt
-  fails_done trace at line old new o h (Ends v) s own alive f start contents gives =
-      fails_gives trace at line new o h v s own (alive v refl) f (subst (λ (x : Timestamp). TransactionGives w x new.contents new.commits h v) (sym start) (subst (λ (c : Contents). TransactionGives w old.start c new.commits h v) (sym contents) gives))
+  pub fails_done : (trace : Option Trace) (at line : ℕ) (old new : Standing P Q K) (o : Posted) (h : List Event) (turn : Turn (Result (TxnAnswer Q) Error)) → RetriesIn trace at new.options.retry_options → ShownIn trace at h → AreOwn line h → ((v : Result (TxnAnswer Q) Error) → turn ≡ Ends v → new.work ≡ GaveUp → ⊥) → TransactionFits w new o h → new.start ≡ old.start → new.options ≡ old.options → new.contents ≡ old.contents
+      → IfEnds turn (λ v. TransactionGives w old.options.retry_options old.start old.contents new.commits h v) → IfEnds turn (IfFails (FailsAt w trace at line))
+  fails_done trace at line old new o h Stopped retries s own alive f start options contents gives = tt
+  fails_done trace at line old new o h Waits retries s own alive f start options contents gives = tt
+  fails_done trace at line old new o h (Ends v) retries s own alive f start options contents gives =
+      fails_gives trace at line new o h v retries s own (alive v refl) f (subst (λ (x : TransactionOptions). TransactionGives w x.retry_options new.start new.contents new.commits h v) (sym options) (subst (λ (x : Timestamp). TransactionGives w old.options.retry_options x new.contents new.commits h v) (sym start) (subst (λ (c : Contents). TransactionGives w old.options.retry_options old.start c new.commits h v) (sym contents) gives)))
 
 -- Calls that ended
 
@@ -283,9 +289,9 @@ all_map {X} {A} {B} f [] h = All-nil B
 all_map {X} {A} {B} f (x ∷ xs) h = All-cons B x xs (f x (All-head A x xs h)) (all_map f xs (All-tail A x xs h))
 
 module _ {P Q K A B D : Type 0} (w : Ways P Q K A B D) where
-  reason_in : (t longer : Trace) (e : Ending) → IsLonger t longer → longer.refused ≡ t.refused → EndsFor (FailsFor w) t e → EndsFor (FailsFor w) longer e
-  reason_in t longer ending l same f e is = elim (f e is) [
-    | inl h ↦ inl (fails_longer t longer l (FailsFor w) ending.line e h)
+  reason_in : (t longer : Trace) (e : Ending) → IsLonger t longer → longer.refused ≡ t.refused → t.begun ≡ longer.begun → EndsFor (FailsFor w) t e → EndsFor (FailsFor w) longer e
+  reason_in t longer ending l same begun f e is = elim (f e is) [
+    | inl h ↦ inl (fails_longer t longer l begun (FailsFor w) ending.line e h)
     | inr i ↦ inr (subst (λ xs. IsAmong xs (record { line = ending.line; error = e })) (sym same) i)
   ]
 
@@ -293,7 +299,7 @@ module _ {P Q K A B D : Type 0} (w : Ways P Q K A B D) where
   reason_longer None None e l f = tt
   reason_longer None (Some u) e l f = absurd l
   reason_longer (Some t) None e l f = absurd l
-  reason_longer (Some t) (Some u) e l f = reason_in t u e l.0 l.1 f
+  reason_longer (Some t) (Some u) e l f = reason_in t u e l.0 l.1 l.2 f
 
   pub ends_then : (trace : Option Trace) (qs rs : List Posting) (es fs gs : List Ending) → Keeps qs rs → EndsMore w (posting_in qs trace) es fs → EndsMore w (posting_in rs trace) fs gs → EndsMore w (posting_in rs trace) es gs
   ends_then trace qs rs es fs gs keeps f g = record {
@@ -305,6 +311,12 @@ module _ {P Q K A B D : Type 0} (w : Ways P Q K A B D) where
   -- a call ended with this
   pub one_more : (trace : Option Trace) (es fs : List Ending) (e : Ending) → fs ≡ es ++ e ∷ [] → HasReason w trace e → EndsMore w trace es fs
   one_more trace es fs e is h = record { more = e ∷ []; ended = is; each = All-cons (HasReason w trace) e [] h (All-nil (HasReason w trace)) }
+
+  -- what a call for a timestamp answers that fails
+  pub ask_fails : (trace : Option Trace) (at line : ℕ) (v : Result (ClientAnswer Pd P Q K) Error) → AskRests w trace at line v → IfFails (FailsAt w trace at line) v
+  ask_fails trace at line (Ok (Begun b)) r = tt
+  ask_fails trace at line (Ok (Time t)) r = tt
+  ask_fails trace at line (Err e) r = r
 
   -- the error of a call is the outcome of its line
   pub reason_so : {X : Type 0} (trace : Option Trace) (line at : ℕ) (o : Outcome) (v : Result X Error) → CalledIn trace line at → ((e : Error) → o ≡ outcomes.Err e → v ≡ Err e) → ((e : Error) → o ≡ outcomes.Err e → wants_memory (view_of e) ≡ false)

@@ -157,7 +157,7 @@ module _ {P Q K A B D : Type 0} (w : Ways P Q K A B D) where
     connected_sound : (trace : Option Trace) (s t : Clients P Q K) (line client : ℕ) (c : ClientState) → IsLine (stands_of (rows_of s)) line → stand_at (stands_of (rows_of s)) line ≡ Idle → client ≡ length (crashed_of s) → t.clients.items ≡ s.clients.items ++ c ∷ [] → book_of c ≡ blank → crashed_of t ≡ crashed_of s ++ false ∷ []
         → rows_of t ≡ set (rows_of s) (line - 1) (row.Client client) → nexts_of t ≡ nexts_of s → asks_of t ≡ asks_of s → AreMatched (stands_of (rows_of s)) → IsSound w trace [] s → IsSound w trace [] t
     connected_sound trace s t line client c is idle number clients new crashed rows nexts asks matched sound =
-        idle_sound w p q k trace s t line client (row.Client client) [] is idle matched (λ a x. x) (λ at o ns. tt) refl there (λ d x a e. never d x a e) (λ d a e. absurd (unasked d a e)) rows nexts asks (le_of_more long) (λ d h l. lives_more (crashed_of s) d h (subst (λ cs. lives cs (Some d) ≡ true) crashed l)) (book_more s t c clients new) sound
+        idle_sound w p q k trace s t line client (row.Client client) [] is idle matched (λ a x. x) (λ o ns. tt) refl there (λ d x a e. never d x a e) (λ d a e. absurd (unasked d a e)) rows nexts asks (le_of_more long) (λ d h l. lives_more (crashed_of s) d h (subst (λ cs. lives cs (Some d) ≡ true) crashed l)) (book_more s t c clients new) sound
       where
         never : (d x : ℕ) (a : Bool) → IsClient client ≡ Calling d x a → ⊥
         never d x a e = cc

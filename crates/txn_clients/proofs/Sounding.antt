@@ -197,7 +197,7 @@ module _ {P Q K A B D : Type 0} (w : Ways P Q K A B D) where
     row_below : (trace : Option Trace) (at : ℕ) (r : Row P Q K) (o : Posted) (nexts : List ℕ) (m : ℕ) → RowArises w trace at o nexts r → wants w r (ReplyTo m) → m < o.next
     row_below trace at row.Plain o nexts m x y = absurd y
     row_below trace at (row.Client c) o nexts m x y = absurd y
-    row_below trace at (row.Asking c b call) o nexts m x y = let s = called-lawful.posted call o x.history (ReplyTo m) x.fits y in s.2
+    row_below trace at (row.Asking c b call) o nexts m x y = let s = called-lawful.posted call o x.arisen.history (ReplyTo m) x.arisen.fits y in s.2
     row_below trace at (row.Begun c t i) o nexts m x y = let s = standing_posted w p q k t o x.arisen.history (ReplyTo m) x.arisen.fits y in s.2
     row_below trace at (row.Calling c z b) o nexts m x y = absurd y
     row_below trace at (row.Past c) o nexts m x y = absurd y

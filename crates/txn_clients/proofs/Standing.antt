@@ -40,8 +40,9 @@ use Rattle.txn_core.proofs.Ordered.{locked_ordered, written_fits, written_ordere
 use Rattle.txn_core.proofs.Others.{adds_same, idle_fits, others_fit}
 use Rattle.txn_core.proofs.Waiting.{busy_runs, runs_still, standing_posted}
 use Rattle.txn_side.specs.Sight.{next_at}
-use Rattle.txn_clients.specs.Failing.{CalledIn, CameIn, FailsAt, HasMet, IfFails, LongerIn, RefusedIn, SentIn, ShownIn, KnowsAsk, RollsIn}
-use Rattle.txn_clients.specs.Resting.{called_in_longer, shown_longer}
+use Rattle.txn_core.specs.declared.options.TransactionOptions.{TransactionOptions}
+use Rattle.txn_clients.specs.Failing.{CalledIn, CameIn, FailsAt, HasMet, IfFails, LongerIn, RefusedIn, SentIn, ShownIn, KnowsAsk, RollsIn, RetriesIn}
+use Rattle.txn_clients.specs.Resting.{called_in_longer, shown_longer, retries_longer}
 use Rattle.txn_clients.specs.Waiting.{IsKept, IsReached, IsRisen, StandArises, StandGoes}
 use Rattle.txn_clients.proofs.Cleaning.{cleaned, given_cleaned, kept_cleaned, own_cleaned, parts_cleaned, shown_cleaned, unsent_cleaned}
 use Rattle.txn_clients.proofs.Showing.{among_behind, barred_by, rolls_longer, known_so, fails_done, known_sent, own_after, own_heard, refused_by, refused_longer_in, sent_shown, shown_after, shown_heard, unheard_ends}
@@ -158,6 +159,7 @@ module _ {P Q K A B D : Type 0} (w : Ways P Q K A B D) (p : IsLawful w.prewritin
   pub stand_later : {trace : Option Trace} {at : ℕ} (t : Standing P Q K) (o later : Posted) (nexts news : List ℕ) → IsLater o later → IsRisen nexts news → StandArises w trace at o nexts t → StandArises w trace at later news t
   stand_later t o later nexts news l risen a = record {
     ordered = a.ordered;
+    retries = a.retries;
     arisen = record { history = a.arisen.history; fits = later_fits t o later a.arisen.history l a.arisen.fits; kept = kept_risen nexts news a.arisen.history risen a.arisen.kept; shown = a.arisen.shown; own = subst (λ n. AreOwn n a.arisen.history) (sym l.line) a.arisen.own };
   }
 
@@ -165,6 +167,7 @@ module _ {P Q K A B D : Type 0} (w : Ways P Q K A B D) (p : IsLawful w.prewritin
   stand_shown : (trace longer : Option Trace) (at : ℕ) (t : Standing P Q K) (o : Posted) (nexts : List ℕ) → LongerIn trace longer → StandArises w trace at o nexts t → StandArises w longer at o nexts t
   stand_shown trace longer at t o nexts l a = record {
     ordered = a.ordered;
+    retries = retries_longer trace longer at t.options.retry_options l a.retries;
     arisen = record { history = a.arisen.history; fits = a.arisen.fits; kept = a.arisen.kept; shown = shown_longer trace longer at a.arisen.history l a.arisen.shown; own = a.arisen.own };
   }
 
@@ -174,10 +177,10 @@ module _ {P Q K A B D : Type 0} (w : Ways P Q K A B D) (p : IsLawful w.prewritin
     given = given_cleaned h (version_of t.start) f.given;
     unsent = λ a. unsent_cleaned (version_of t.start) t.commits h (f.unsent a);
     settled = f.settled;
-    at = subst (λ x. IsAtWork w t.start t.status t.contents t.commits x later (cleaned h)) (sym e) (at g rests (subst (λ x. IsAtWork w t.start t.status t.contents t.commits x later h) e f.at));
+    at = subst (λ x. IsAtWork w t.options.retry_options t.start t.status t.contents t.commits x later (cleaned h)) (sym e) (at g rests (subst (λ x. IsAtWork w t.options.retry_options t.start t.status t.contents t.commits x later h) e f.at));
   }
     where
-      at : (x : Work P Q K) → is_open x ≡ false → IsAtWork w t.start t.status t.contents t.commits x later h → IsAtWork w t.start t.status t.contents t.commits x later (cleaned h)
+      at : (x : Work P Q K) → is_open x ≡ false → IsAtWork w t.options.retry_options t.start t.status t.contents t.commits x later h → IsAtWork w t.options.retry_options t.start t.status t.contents t.commits x later (cleaned h)
       at Idle shut k = record { of_parts = λ parts whole. parts_cleaned (version_of t.start) t.commits h parts (k.of_parts parts whole); empty = k.empty }
       at (Open call) shut k = absurd (cc)
       at GaveUp shut k = tt
@@ -187,11 +190,12 @@ module _ {P Q K A B D : Type 0} (w : Ways P Q K A B D) (p : IsLawful w.prewritin
     where
       by : (t.work ≡ Idle) ⊎ (t.work ≡ GaveUp) → TransactionFits w t later h
       by (inl i) = idle_fits w t o later h i f
-      by (inr g) = record { given = f.given; unsent = f.unsent; settled = f.settled; at = subst (λ x. IsAtWork w t.start t.status t.contents t.commits x later h) (sym g) tt }
+      by (inr g) = record { given = f.given; unsent = f.unsent; settled = f.settled; at = subst (λ x. IsAtWork w t.options.retry_options t.start t.status t.contents t.commits x later h) (sym g) tt }
 
   pub stand_rests : {trace : Option Trace} {at : ℕ} (t : Standing P Q K) (o later : Posted) (nexts news : List ℕ) → is_open t.work ≡ false → IsRisen nexts news → StandArises w trace at o nexts t → StandArises w trace at later news t
   stand_rests {trace} {at} t o later nexts news e risen a = record {
     ordered = a.ordered;
+    retries = a.retries;
     arisen = record {
       history = cleaned a.arisen.history;
       fits = rest_fits t o later a.arisen.history e a.arisen.fits;
@@ -228,18 +232,20 @@ module _ {P Q K A B D : Type 0} (w : Ways P Q K A B D) (p : IsLawful w.prewritin
 
   moved : (trace longer : Option Trace) (at : ℕ) (known : List Event → Type 0) (hear : List Event → List Event) (old new : Standing P Q K) (from to o : Posted) (turn : Turn (Result (TxnAnswer Q) Error)) (nexts news : List ℕ)
       → HasMet trace longer from to → CalledIn trace from.line at
-      → TransactionMoves w known hear old new from to turn → turn ≢ Stopped → Outlives new turn → new.start ≡ old.start → new.contents ≡ old.contents
+      → TransactionMoves w known hear old new from to turn → turn ≢ Stopped → Outlives new turn → new.start ≡ old.start → new.options ≡ old.options → new.contents ≡ old.contents
       → ((h : List Event) → IsKept nexts h → IsKept nexts (hear h))
       → next_at nexts from.line ≤ from.next → IsRisen nexts news → to.next ≤ next_at news from.line → IsReached from to o
       → (a : StandArises w trace at from nexts old) → known a.arisen.history → ShownIn trace at (hear a.arisen.history) → AreOwn from.line (hear a.arisen.history) → Arises longer at from.line o news new turn
-  moved trace longer at known hear old new from to o turn nexts news met called m kept alive start same keeps low risen up reached a knows hears owns =
+  moved trace longer at known hear old new from to o turn nexts news met called m kept alive start options same keeps low risen up reached a knows hears owns =
       let h = a.arisen.history in
       let after_all = after from.line from.beat (hear h) m.sends in
       let own = own_after from.line from.line from.beat (hear h) m.sends owns in
       let fits = IfKept-out turn kept m.still h (a.arisen.fits, knows) in
+      let retries = subst (λ (x : TransactionOptions). RetriesIn longer at x.retry_options) (sym options) (retries_longer trace longer at old.options.retry_options met.longer a.retries) in
       let shown = shown_after longer at from.line from.beat (hear h) m.sends (called_in_longer trace longer from.line at met.longer called) (λ n store r i. met.sent n store r (subst (λ es. IsAmong es (Send n store r)) (sym m.pushed) (among_behind from.sends m.sends (Send n store r) i))) (shown_longer trace longer at (hear h) met.longer hears) in (
         record {
           ordered = subst IsOrdered (sym same) a.ordered;
+          retries = retries;
           arisen = record {
             history = after_all;
             fits = later_fits new to o after_all (reached_later from to o m.line m.beat reached) fits;
@@ -248,7 +254,7 @@ module _ {P Q K A B D : Type 0} (w : Ways P Q K A B D) (p : IsLawful w.prewritin
             own = subst (λ n. AreOwn n after_all) (sym reached.line) own;
           };
         },
-        fails_done w longer at from.line old new to after_all turn shown own alive fits start same (IfEnds-weaker turn (λ v gives. gives h (a.arisen.fits, knows)) m.done),
+        fails_done w longer at from.line old new to after_all turn retries shown own alive fits start options same (IfEnds-weaker turn (λ v gives. gives h (a.arisen.fits, knows)) m.done),
       )
 
   -- nothing changes
@@ -275,7 +281,7 @@ module _ {P Q K A B D : Type 0} (w : Ways P Q K A B D) (p : IsLawful w.prewritin
       same : (g : Work P Q K) → old.work ≡ g → new ≡ old
       same Idle e = let d = deaf e in d.1
       same (Open call) e =
-          let at : IsAtWork w old.start old.status old.contents old.commits (Open call) from h = subst (λ y. IsAtWork w old.start old.status old.contents old.commits y from h) e x.arisen.fits.at in
+          let at : IsAtWork w old.options.retry_options old.start old.status old.contents old.commits (Open call) from h = subst (λ y. IsAtWork w old.options.retry_options old.start old.status old.contents old.commits y from h) e x.arisen.fits.at in
           goes.state other ∙ ap (λ (c : Commits). record old { commits = c }) (commits other (out ∙ none_out (plan_of call.parts) (version_of call.start) old.commits h (ticket_of from n) at.fits.knows never))
       same GaveUp e = let g = gone.after e in absurd (kept g.0)
 
@@ -291,13 +297,13 @@ module _ {P Q K A B D : Type 0} (w : Ways P Q K A B D) (p : IsLawful w.prewritin
 
   pub hears_goes : {C : Type 0} (a : Arrival) (old new : Standing P Q K) (from to : Posted) (pd pd' : C) (turn : Turn (Result (TxnAnswer Q) Error))
       → ((r : Request) → TransactionMoves w (told_by a from r).known (told_by a from r).hear old new from to turn)
-      → new.start ≡ old.start → new.contents ≡ old.contents
+      → new.start ≡ old.start → new.options ≡ old.options → new.contents ≡ old.contents
       → TransactionGoes w (work_waits w old.work (awaited_as a)) (record old { commits = new.commits }) new from to pd pd' turn
       → Expects (work_waits w old.work) (work_waits w new.work) (λ x. x ≡ awaited_as a) from to
       → ((work_waits w old.work (awaited_as a) → ⊥) → awaits a from old.commits ≡ false → new.commits ≡ old.commits)
       → (old.work ≡ Idle → (turn ≡ Waits) × (new ≡ old) × (to ≡ from)) → GivesUp old new turn → TransactionReady w old
       → IfKept turn (StandGoes w (λ x. x ≡ awaited_as a) (is_open old.work ≡ true) (λ trace. CameIn trace from a) old new from to turn)
-  hears_goes a old new from to pd pd' turn tells start same goes expects commits deaf gone ready = if_kept turn (λ kept. record {
+  hears_goes a old new from to pd pd' turn tells start options same goes expects commits deaf gone ready = if_kept turn (λ kept. record {
     arises = λ trace longer at met called came nexts news o low risen up reached x. by kept a refl trace longer at met called came nexts news o low risen up reached x;
     expects = expects;
     runs = stays_open (work_waits w old.work (awaited_as a)) old new from to pd pd' turn ready goes;
@@ -311,7 +317,7 @@ module _ {P Q K A B D : Type 0} (w : Ways P Q K A B D) (p : IsLawful w.prewritin
           → ((r : Request) (h : List Event) → Has h (Sent (ticket_of from n) r) → ((s : Request) → Has h (Sent (ticket_of from n) s) → s ≡ r) → (told_by a from r).known h)
           → Goal
       by_reply kept n is out knows trace longer at met called came nexts news o low risen up reached x = elim (sent_or_not x.arisen.history (ticket_of from n)) [
-        | inl (r, i) ↦ moved trace longer at _ _ old new from to o turn nexts news met called (tells r) kept (heard_alive _ _ new from to pd pd' turn goes) start same (kept_heard a from r nexts) low risen up reached x (knows r x.arisen.history i (λ s j. x.arisen.kept.alone (ticket_of from n) r s i j))
+        | inl (r, i) ↦ moved trace longer at _ _ old new from to o turn nexts news met called (tells r) kept (heard_alive _ _ new from to pd pd' turn goes) start options same (kept_heard a from r nexts) low risen up reached x (knows r x.arisen.history i (λ s j. x.arisen.kept.alone (ticket_of from n) r s i j))
             (shown_heard trace at a from r x.arisen.history called came (λ m e. subst (λ j. SentIn trace (ticket_of from j) r) (one m (sym is ∙ e)) (sent_shown trace at x.arisen.history (ticket_of from n) r x.arisen.shown i)) x.arisen.shown) (own_heard a from r x.arisen.history met.calls x.arisen.own)
         | inr never ↦ unknown trace longer at a n old new from to o pd pd' turn nexts news met.longer is out goes commits deaf gone kept risen reached x never
       ]
@@ -321,7 +327,7 @@ module _ {P Q K A B D : Type 0} (w : Ways P Q K A B D) (p : IsLawful w.prewritin
 
       -- where it is no reply and no loss
       comes : turn ≢ Stopped → {b : Arrival} → ((m : ℕ) → awaited_as b ≡ ReplyTo m → ⊥) → a ≡ b → Goal
-      comes kept {b} other e trace longer at met called came nexts news o low risen up reached x = moved trace longer at _ _ old new from to o turn nexts news met called (tells members) kept (heard_alive _ _ new from to pd pd' turn goes) start same (kept_heard a from members nexts) low risen up reached x (known_so a from members x.arisen.history (λ m f. other m (sym (ap awaited_as e) ∙ f)))
+      comes kept {b} other e trace longer at met called came nexts news o low risen up reached x = moved trace longer at _ _ old new from to o turn nexts news met called (tells members) kept (heard_alive _ _ new from to pd pd' turn goes) start options same (kept_heard a from members nexts) low risen up reached x (known_so a from members x.arisen.history (λ m f. other m (sym (ap awaited_as e) ∙ f)))
           (shown_heard trace at a from members x.arisen.history called came (λ m f. absurd (other m (sym (ap awaited_as e) ∙ f))) x.arisen.shown) (own_heard a from members x.arisen.history met.calls x.arisen.own)
 
       by : turn ≢ Stopped → (b : Arrival) → a ≡ b → Goal
@@ -339,14 +345,14 @@ module _ {P Q K A B D : Type 0} (w : Ways P Q K A B D) (p : IsLawful w.prewritin
   -- told of what came
   pub heard_goes : {C : Type 0} (b a : Arrival) (old new : Standing P Q K) (from to : Posted) (pd pd' : C) (turn : Turn (Result (TxnAnswer Q) Error)) → b ≡ a
       → ((r : Request) → TransactionMoves w (told_by a from r).known (told_by a from r).hear old new from to turn)
-      → new.start ≡ old.start → new.contents ≡ old.contents
+      → new.start ≡ old.start → new.options ≡ old.options → new.contents ≡ old.contents
       → TransactionGoes w (work_waits w old.work (awaited_as a)) (record old { commits = new.commits }) new from to pd pd' turn
       → Expects (work_waits w old.work) (work_waits w new.work) (λ x. x ≡ awaited_as a) from to
       → ((work_waits w old.work (awaited_as a) → ⊥) → awaits a from old.commits ≡ false → new.commits ≡ old.commits)
       → (old.work ≡ Idle → (turn ≡ Waits) × (new ≡ old) × (to ≡ from)) → GivesUp old new turn → TransactionReady w old
       → IfKept turn (StandGoes w (λ x. x ≡ awaited_as b) (is_open old.work ≡ true) (λ trace. CameIn trace from b) old new from to turn)
-  heard_goes b a old new from to pd pd' turn e tells start same goes expects commits deaf gone ready =
-      subst (λ d. IfKept turn (StandGoes w (λ x. x ≡ awaited_as d) (is_open old.work ≡ true) (λ trace. CameIn trace from d) old new from to turn)) (sym e) (hears_goes a old new from to pd pd' turn tells start same goes expects commits deaf gone ready)
+  heard_goes b a old new from to pd pd' turn e tells start options same goes expects commits deaf gone ready =
+      subst (λ d. IfKept turn (StandGoes w (λ x. x ≡ awaited_as d) (is_open old.work ≡ true) (λ trace. CameIn trace from d) old new from to turn)) (sym e) (hears_goes a old new from to pd pd' turn tells start options same goes expects commits deaf gone ready)
 
   -- It is asked for something.
 
@@ -391,6 +397,7 @@ module _ {P Q K A B D : Type 0} (w : Ways P Q K A B D) (p : IsLawful w.prewritin
           let now = keeps old.contents new.contents ends.2 x.ordered in
           record {
             ordered = now;
+            retries = subst (λ (t : Standing P Q K). RetriesIn trace at t.options.retry_options) (sym ends.1) x.retries;
             arisen = record {
               history = x.arisen.history;
               fits = subst (λ (t : Standing P Q K). TransactionFits w t o x.arisen.history) (sym ends.1) (written_fits w old new.contents o x.arisen.history (may refl) idle now x.arisen.fits);
@@ -438,15 +445,15 @@ module _ {P Q K A B D : Type 0} (w : Ways P Q K A B D) (p : IsLawful w.prewritin
 
   -- it begins a commit, or is refused
   pub commits_goes : (knows : Option Trace → Type 0) (e : Error) (b : Bool) (old new : Standing P Q K) (from to : Posted) (turn : Turn (Result (TxnAnswer Q) Error)) → (b ≡ false → Notes knows from.line (Some e))
-      → (b ≡ false → IsRefused e old new turn × (to ≡ from)) → (b ≡ true → TransactionMoves w (λ h. ⊤) (λ h. h) old new from to turn) → new.start ≡ old.start → new.contents ≡ old.contents
+      → (b ≡ false → IsRefused e old new turn × (to ≡ from)) → (b ≡ true → TransactionMoves w (λ h. ⊤) (λ h. h) old new from to turn) → new.start ≡ old.start → new.options ≡ old.options → new.contents ≡ old.contents
       → Opens w new from to turn → is_open new.work ≡ is_waiting turn
       → IfKept turn (StandGoes w (λ a. ⊥) ⊤ knows old new from to turn)
-  commits_goes knows e true old new from to turn notes refused moves start same opens busy = if_kept turn (λ kept. record {
-    arises = λ trace longer at met called known nexts news o low risen up reached x. moved trace longer at _ _ old new from to o turn nexts news met called (moves refl) kept (opened_alive new turn opens.next) start same (λ h y. y) low risen up reached x tt x.arisen.shown x.arisen.own;
+  commits_goes knows e true old new from to turn notes refused moves start options same opens busy = if_kept turn (λ kept. record {
+    arises = λ trace longer at met called known nexts news o low risen up reached x. moved trace longer at _ _ old new from to o turn nexts news met called (moves refl) kept (opened_alive new turn opens.next) start options same (λ h y. y) low risen up reached x tt x.arisen.shown x.arisen.own;
     expects = opened old new from to turn opens;
     runs = λ any f. waiting_open turn new.work busy f;
   })
-  commits_goes knows e false old new from to turn notes refused moves start same opens busy = let r = refused refl in if_kept turn (λ kept. record {
+  commits_goes knows e false old new from to turn notes refused moves start options same opens busy = let r = refused refl in if_kept turn (λ kept. record {
     arises = λ trace longer at met called known nexts news o low risen up reached x. (stays trace longer at old new from to o nexts news met.longer (refused_stays e old new turn r.0) r.1 risen reached x, refused_fails e old new trace longer at from.line turn r.0 met.longer (notes refl trace known));
     expects = opened old new from to turn opens;
     runs = λ any f. waiting_open turn new.work busy f;
@@ -462,6 +469,7 @@ module _ {P Q K A B D : Type 0} (w : Ways P Q K A B D) (p : IsLawful w.prewritin
       by (inl i) (inl j) = stays trace longer at old new from to o nexts news l (e ∙ ap (λ (y : Work P Q K). record old { work = y }) (j ∙ sym i)) f risen reached x
       by (inl i) (inr g) = subst (StandArises w longer at o news) (sym (e ∙ ap (λ (y : Work P Q K). record old { work = y }) g)) (record {
         ordered = x.ordered;
+        retries = retries_longer trace longer at old.options.retry_options l x.retries;
         arisen = record {
           history = x.arisen.history;
           fits = record { given = x.arisen.fits.given; unsent = x.arisen.fits.unsent; settled = x.arisen.fits.settled; at = tt };
@@ -482,15 +490,15 @@ module _ {P Q K A B D : Type 0} (w : Ways P Q K A B D) (p : IsLawful w.prewritin
   pub rollbacks_goes : (knows : Option Trace → Type 0) (e : Error) (b : Bool) (lost : Option Ticket) (old new : Standing P Q K) (from to : Posted) (turn : Turn (Result (TxnAnswer Q) Error)) → (b ≡ false → Notes knows from.line (Some e)) → ((trace : Option Trace) → knows trace → RollsIn trace from.line) → undetermined old.commits ≡ lost
       → (b ≡ false → IsRefused e old new turn × (to ≡ from))
       → ((t : Ticket) → b ≡ true → lost ≡ Some t → IsUndetermined t turn × (new ≡ record old { work = new.work }) × (to ≡ from))
-      → (b ≡ true → lost ≡ None → TransactionMoves w (λ h. ⊤) (λ h. h) old new from to turn) → new.start ≡ old.start → new.contents ≡ old.contents
+      → (b ≡ true → lost ≡ None → TransactionMoves w (λ h. ⊤) (λ h. h) old new from to turn) → new.start ≡ old.start → new.options ≡ old.options → new.contents ≡ old.contents
       → Opens w new from to turn → is_open new.work ≡ is_waiting turn → is_open old.work ≡ false → GivesUp old new turn
       → IfKept turn (StandGoes w (λ a. ⊥) ⊤ knows old new from to turn)
-  rollbacks_goes knows e true None old new from to turn notes rolls is_lost refused unsure moves start same opens busy rests gone =
-      commits_goes knows e true old new from to turn (λ f. absurd (cc)) (λ f. absurd (cc)) (λ f. moves refl refl) start same opens busy
-  rollbacks_goes knows e true (Some t) old new from to turn notes rolls is_lost refused unsure moves start same opens busy rests gone = let u = unsure t refl refl in if_kept turn (λ kept. record {
+  rollbacks_goes knows e true None old new from to turn notes rolls is_lost refused unsure moves start options same opens busy rests gone =
+      commits_goes knows e true old new from to turn (λ f. absurd (cc)) (λ f. absurd (cc)) (λ f. moves refl refl) start options same opens busy
+  rollbacks_goes knows e true (Some t) old new from to turn notes rolls is_lost refused unsure moves start options same opens busy rests gone = let u = unsure t refl refl in if_kept turn (λ kept. record {
     arises = λ trace longer at met called known nexts news o low risen up reached x. (left_alone trace longer at t old new from to o turn nexts news met.longer kept rests (busy ∙ ends_shut t turn u.0) gone u.1 u.2 risen reached x, unknown_fails trace longer at t old from nexts turn met.longer (rolls trace known) (λ e. let d = gone.after e in kept d.0) is_lost u.0 x);
     expects = opened old new from to turn opens;
     runs = λ any f. waiting_open turn new.work busy f;
   })
-  rollbacks_goes knows e false lost old new from to turn notes rolls is_lost refused unsure moves start same opens busy rests gone =
-      commits_goes knows e false old new from to turn notes refused (λ f. absurd (cc)) start same opens busy
+  rollbacks_goes knows e false lost old new from to turn notes rolls is_lost refused unsure moves start options same opens busy rests gone =
+      commits_goes knows e false old new from to turn notes refused (λ f. absurd (cc)) start options same opens busy

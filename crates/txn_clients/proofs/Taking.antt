@@ -44,6 +44,12 @@ use Rattle.txn_side.specs.declared.act.Act.TheVariants as acts
 use Rattle.txn_core.specs.declared.options.TransactionOptions.{TransactionOptions}
 use Rattle.txn_core.specs.declared.options.TransactionKind.TheVariants.{Optimistic}
 use Rattle.txn_clients.specs.Accounts.{BeginsNew, EndsAtOnce, HasHeard, HasTaken, IsNew, IsQuiet, TellsEnd, WantsNew, account_of, come_to, says_undetermined, stage_by, stage_of}
+use Rattle.txn_clients.specs.Failing.{BeginsIn}
+use Rattle.txn_clients.specs.Waiting.{WantedIn}
+use Rattle.txn_clients.specs.Rows.{Pd}
+use Rattle.txn_clients.specs.Options.{AreOptionsOf}
+use Rattle.txn_lines.specs.declared.begin_options.BeginOptions.{BeginOptions}
+use Rattle.txn_side.specs.Trace.{Trace}
 
 -- which of the two a flag is
 pub is_flag : (b : Bool) → (b ≡ true) ⊎ (b ≡ false)
@@ -463,6 +469,16 @@ module _ {P Q K : Type 0} where
 
   pub wants_optimistic : {C : Type 0} (call : ClientCall C P Q K) (options : TransactionOptions) → call.wanted ≡ wanted.Transaction options → options.kind ≡ Optimistic → options.read_only ≡ false → WantsNew call
   wants_optimistic {C} call options e kind writes h b gives = new_begun options kind writes b (subst (λ w. CallGives {C = C} w h (Ok (Begun b))) e gives).0
+
+  -- and its options are those that its line tells of
+  pub wants_told : (trace : Option Trace) (at : ℕ) (call : ClientCall Pd P Q K) (told : BeginOptions) (options : TransactionOptions) → call.wanted ≡ wanted.Transaction options → AreOptionsOf told options → BeginsIn trace at told → WantedIn trace at call
+  wants_told None at call told options e are begins h b gives = tt
+  wants_told (Some t) at call told options e are begins h b gives =
+      let is = (subst (λ w. CallGives {C = Pd} w h (Ok (Begun b))) e gives).0 in
+      (told, begins, ap (λ (x : Standing P Q K). x.options.retry_options) is ∙ are.retries_are)
+
+  pub wants_untold : (trace : Option Trace) (at : ℕ) (call : ClientCall Pd P Q K) → call.wanted ≡ wanted.Timestamp → WantedIn trace at call
+  wants_untold trace at call e h b gives = absurd (subst (λ w. CallGives {C = Pd} w h (Ok (Begun b))) e gives)
 
   pub wants_time : {C : Type 0} (call : ClientCall C P Q K) → call.wanted ≡ wanted.Timestamp → WantsNew call
   wants_time {C} call e h b gives = absurd (subst (λ w. CallGives {C = C} w h (Ok (Begun b))) e gives)

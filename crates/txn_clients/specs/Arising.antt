@@ -24,6 +24,7 @@ use Rattle.txn_history.specs.Plan.{Plan}
 use Rattle.txn_history.specs.Posted.{AreNumbered, Errand, Licensed, Posted, Within, after, ticket_of}
 use Rattle.txn_law.specs.Run.{IsPossible, IsRun}
 use Rattle.txn_plan.specs.Arrivals.{told_by}
+use Rattle.txn_merge.specs.declared.retry_options.RetryOptions.{RetryOptions}
 use Rattle.txn_plan.specs.declared.arrival.Arrival.TheVariants as arrivals
 use Rattle.txn_commit.specs.Committing.{Ways}
 use Rattle.txn_commit.specs.Jobs.{JobFits}
@@ -94,7 +95,7 @@ AskStands x answer h = ⊤
 
 -- and what a transaction answers that is committed, which stood so before, and is written no more
 abbrev pub CallStands : {P Q K A B D : Type 0} → Ways P Q K A B D → Standing P Q K → Standing P Q K → Option (Answer P Q K) → List Event → Type 0
-CallStands w old new (Some (answers.Called (Ok (answer.Committed t job)))) h = (allows_data new.status ≡ false) × TransactionGives w old.start old.contents new.commits h (Ok (answer.Committed t job))
+CallStands w old new (Some (answers.Called (Ok (answer.Committed t job)))) h = (allows_data new.status ≡ false) × TransactionGives w old.options.retry_options old.start old.contents new.commits h (Ok (answer.Committed t job))
 CallStands w old new answer h = ⊤
 
 -- A transaction can have arisen from the history, the keys of its buffer are in order, and it has not given up.
@@ -115,7 +116,7 @@ pub record StandMoves {P Q K A B D : Type 0} (w : Ways P Q K A B D) (told : Told
   pub moves : (r : Request) → Moved (MaySendFor old.contents (version_of old.start)) (λ h. StandFits w old from h × (told_of told from r).known h) (λ h. StandFits w new to h) (λ h. CallStands w old new answer h) (told_of told from r).hear from to
 
 -- So is a job of other keys, whatever the plan of its transaction is.
-pub record JobMoves {Q B : Type 0} (m : Meaning Q (Result B Error)) (refuses : List Event → Error → Type 0) (told : Told) (old new : SecondaryJob Q) (from to : Posted) : Type 0 where
+pub record JobMoves {Q B : Type 0} (m : Meaning Q (Result B Error)) (refuses : RetryOptions → List Event → Error → Type 0) (told : Told) (old new : SecondaryJob Q) (from to : Posted) : Type 0 where
   pub start : version_of new.start ≡ version_of old.start
   pub moves : (plan : Plan) (keys : List (List ℕ)) (r : Request) → Moved (MaySendBehind plan (version_of old.start)) (λ h. JobFits m refuses plan keys old from h × (told_of told from r).known h) (λ h. JobFits m refuses plan keys new to h) (λ h. ⊤) (told_of told from r).hear from to
 

@@ -143,7 +143,7 @@ module _ {P Q K : Type 0} where
           by (row.Asking d b call) f g =
               let arisen = subst (λ r. RowArises w None (suc i) (posted_at (nexts_of s) (asks_of s) (voice_at rows i)) (nexts_of s) r) f (ready.sound.arisen i) in
               let runs = subst RowRuns f (ready.running i) in
-              let some = called-lawful.waits call _ arisen.history arisen.fits runs in
+              let some = called-lawful.waits call _ arisen.arisen.history arisen.arisen.fits runs in
               waits_so s (suc i) c ready (ap client_at (at (row.Asking d b call) f) ∙ g) live some.0 (i, ap (λ r. voice i (stand_of r)) f, subst (λ r. wants w r some.0) (sym f) some.1)
           by (row.Begun d t m) f g = absurd (cc)
           by (row.Calling d x b) f g =

@@ -17,6 +17,7 @@ use Rattle.txn_history.specs.Among.{IsAmong}
 use Rattle.txn_history.specs.Event.{Event, Has}
 use Rattle.txn_history.specs.Event.Event.{Lost, Took}
 use Rattle.txn_history.specs.Posted.{Posted, ticket_of}
+use Rattle.txn_merge.specs.declared.retry_options.RetryOptions.{RetryOptions}
 use Rattle.txn_plan.specs.declared.arrival.Arrival.{Arrival}
 use Rattle.txn_plan.specs.declared.arrival.Arrival.TheVariants as arrivals
 use Rattle.txn_buffer.specs.Contents.{Contents}
@@ -27,16 +28,21 @@ use Rattle.txn_commit.specs.Sending.{plan_of}
 use Rattle.txn_commit.specs.Timing.{WasUntimed}
 use Rattle.txn_commit.specs.declared.commit_parts.CommitParts.{CommitParts}
 use Rattle.txn_core.specs.Going.{FailsWith}
+use Rattle.txn_lines.specs.declared.begin_options.BeginOptions.{BeginOptions}
 use Rattle.txn_side.specs.Account.{Account, refusal}
 use Rattle.txn_side.specs.declared.act.Act.{Act}
 use Rattle.txn_side.specs.declared.act.Act.TheVariants.{Rollback}
 use Rattle.txn_side.specs.Sight.{Group, Stand, stand_at}
 use Rattle.txn_side.specs.Sight.Stand.{Asking, Calling}
-use Rattle.txn_side.specs.Trace.{AreOwn, AreShown, EndsFor, IsCalled, IsLonger, IsRefusedIn, IsSentIn, Trace, with_posted}
+use Rattle.txn_side.specs.Trace.{AreOwn, AreShown, EndsFor, IsBegunAs, IsCalled, IsLonger, IsRefusedIn, IsSentIn, Trace, with_posted}
 use Rattle.txn_side.specs.declared.turn.Ending.{Ending}
 use Rattle.txn_side.specs.declared.turn.Posting.{Posting}
 use Rattle.txn_tso.specs.Oracle.{Answer as Answered}
 use Rattle.txn_clients.specs.Accounts.{account_of}
+use Rattle.txn_client.specs.declared.client_answer.ClientAnswer.{ClientAnswer}
+use Rattle.txn_client.specs.declared.client_answer.ClientAnswer.TheVariants.{Begun, Time}
+use Rattle.txn_clients.specs.Options.{retries_of}
+use Rattle.txn_clients.specs.Rows.{Pd}
 use Rattle.txn_clients.specs.Want.{wants_memory}
 use Rattle.txn_clients.specs.declared.answer.Answer.{Answer}
 use Rattle.txn_clients.specs.declared.answer.Answer.TheVariants as answers
@@ -47,19 +53,25 @@ use Rattle.txn_clients.specs.declared.told.Told.TheVariants as tells
 
 -- How a call fails
 
--- A transaction, what is committed of what its buffer holds, and what is known of the Commits of its primary.
+-- A transaction with its options, what is committed of what its buffer holds, and what is known of the Commits of its primary.
 pub record KnownTransaction (h : List Event) : Type 0 where
   pub start : Timestamp
+  pub retry_options : RetryOptions
   pub contents : Contents
   pub parts : CommitParts
   pub whole : parts_of contents ≡ Some parts
   pub commits : Commits
   pub known : KnowsCommits (plan_of parts) (version_of start) commits h
 
+-- a transaction that tries again so often began with such options
+abbrev pub AreRetriesOf : (BeginOptions → Type 0) → RetryOptions → Type 0
+AreRetriesOf begun retries = (options : BeginOptions) × begun options × (retries ≡ retries_of options)
+
 -- a commit or a rollback of it failed with this error
-pub record CallFailed {P Q K A B D : Type 0} (w : Ways P Q K A B D) (h : List Event) (e : Error) : Type 0 where
+pub record CallFailed {P Q K A B D : Type 0} (w : Ways P Q K A B D) (begun : BeginOptions → Type 0) (h : List Event) (e : Error) : Type 0 where
   pub transaction : KnownTransaction h
-  pub fails : FailsWith w (version_of transaction.start) transaction.parts (undetermined transaction.commits) h e
+  pub retries : AreRetriesOf begun transaction.retry_options
+  pub fails : FailsWith w transaction.retry_options (version_of transaction.start) transaction.parts (undetermined transaction.commits) h e
 
 -- a rollback of it was refused, since it is not known what became of this Commit of its primary
 pub record CallRefused (h : List Event) (e : Error) : Type 0 where
@@ -69,13 +81,13 @@ pub record CallRefused (h : List Event) (e : Error) : Type 0 where
   pub error : view_of e ≡ not_known (view_of (GrpcAPI ticket))
 
 -- how a call may fail, or a rollback alone; any call also where there was no timestamp
-abbrev pub HasFailedFor : {P Q K A B D : Type 0} → Ways P Q K A B D → Bool → List Event → Error → Type 0
-HasFailedFor w false h e = WasUntimed h e ⊎ CallFailed w h e
-HasFailedFor w true h e = CallRefused h e
+abbrev pub HasFailedFor : {P Q K A B D : Type 0} → Ways P Q K A B D → Bool → (BeginOptions → Type 0) → List Event → Error → Type 0
+HasFailedFor w false begun h e = WasUntimed h e ⊎ CallFailed w begun h e
+HasFailedFor w true begun h e = CallRefused h e
 
 -- With what a line fails: an error that holds want of memory is told to no line.
-pub record FailsFor {P Q K A B D : Type 0} (w : Ways P Q K A B D) (rolls : Bool) (h : List Event) (e : Error) : Type 0 where
-  pub why : HasFailedFor w rolls h e
+pub record FailsFor {P Q K A B D : Type 0} (w : Ways P Q K A B D) (rolls : Bool) (begun : BeginOptions → Type 0) (h : List Event) (e : Error) : Type 0 where
+  pub why : HasFailedFor w rolls begun h e
   pub fed : wants_memory (view_of e) ≡ false
 
 abbrev pub IfFails : {X : Type 0} → (Error → Type 0) → Result X Error → Type 0
@@ -98,8 +110,18 @@ SentIn (Some t) u r = IsSentIn t u r
 
 abbrev pub LongerIn : Option Trace → Option Trace → Type 0
 LongerIn None None = ⊤
-LongerIn (Some t) (Some longer) = IsLonger t longer × (longer.refused ≡ t.refused)
+LongerIn (Some t) (Some longer) = IsLonger t longer × (longer.refused ≡ t.refused) × (t.begun ≡ longer.begun)
 LongerIn _ _ = ⊥
+
+-- what stands at this line tries again as often as it was to
+abbrev pub RetriesIn : Option Trace → ℕ → RetryOptions → Type 0
+RetriesIn None at retries = ⊤
+RetriesIn (Some t) at retries = AreRetriesOf (IsBegunAs t at) retries
+
+-- the line begins a transaction with these options
+abbrev pub BeginsIn : Option Trace → ℕ → BeginOptions → Type 0
+BeginsIn None at options = ⊤
+BeginsIn (Some t) at options = IsBegunAs t at options
 
 -- this was posted in the step so far
 abbrev pub posting_in : List Posting → Option Trace → Option Trace
@@ -166,10 +188,16 @@ pub record HasMet (trace later : Option Trace) (from to : Posted) : Type 0 where
 -- a history that is shown as that of what stands there, and is the line's own; or it was a refusal
 abbrev pub FailsAt : {P Q K A B D : Type 0} → Ways P Q K A B D → Option Trace → ℕ → ℕ → Error → Type 0
 FailsAt w None at line e = ⊤
-FailsAt w (Some t) at line e = ((h : List Event) × AreShown t at h × AreOwn line h × (HasFailedFor w false h e ⊎ (IsAmong t.rollbacks line × HasFailedFor w true h e))) ⊎ IsAmong t.refused (record { line = line; error = e })
+FailsAt w (Some t) at line e = ((h : List Event) × AreShown t at h × AreOwn line h × (HasFailedFor w false (IsBegunAs t at) h e ⊎ (IsAmong t.rollbacks line × HasFailedFor w true (IsBegunAs t at) h e))) ⊎ IsAmong t.refused (record { line = line; error = e })
+
+-- What a call for a timestamp answers: a transaction that begins has the options that its line tells of.
+abbrev pub AskRests : {P Q K A B D : Type 0} → Ways P Q K A B D → Option Trace → ℕ → ℕ → Result (ClientAnswer Pd P Q K) Error → Type 0
+AskRests w trace at line (Ok (Begun b)) = RetriesIn trace at b.options.retry_options
+AskRests w trace at line (Ok (Time t)) = ⊤
+AskRests w trace at line (Err e) = FailsAt w trace at line e
 
 abbrev pub AnswerRests : {P Q K A B D : Type 0} → Ways P Q K A B D → Option Trace → ℕ → ℕ → Answer P Q K → Type 0
-AnswerRests w trace at line (answers.Asked v) = IfFails (FailsAt w trace at line) v
+AnswerRests w trace at line (answers.Asked v) = AskRests w trace at line v
 AnswerRests w trace at line (answers.Called v) = IfFails (FailsAt w trace at line) v
 
 abbrev pub HasReason : {P Q K A B D : Type 0} → Ways P Q K A B D → Option Trace → Ending → Type 0

@@ -16,6 +16,7 @@ use Rattle.txn_history.specs.Posted.{Posted, Within, Within-one}
 use Rattle.txn_law.specs.Part.{IsPart}
 use Rattle.txn_law.specs.Run.{IsPossible, IsRun}
 use Rattle.txn_commit.specs.Committing.{Ways}
+use Rattle.txn_merge.specs.declared.retry_options.RetryOptions.{RetryOptions}
 use Rattle.txn_commit.specs.Jobs.{IsJobAt, JobFits}
 use Rattle.txn_commit.specs.Parts.{parts_of}
 use Rattle.txn_commit.specs.Plans.{committed_longer}
@@ -116,18 +117,18 @@ draws_grow s askers rest h longer w d = record {
 -- What stands at the lines
 
 module _ {P Q K A B D : Type 0} (w : Ways P Q K A B D) (p : IsLawful w.prewriting) (q : IsLawful w.committing) (k : IsLawful w.rolling) where
-  job_at_grows : (s c : ℕ) (keys kept : List Key) (g : Stage Q) (o later : Posted) (h longer : List Event) → IsLater o later → Within h longer
-      → IsJobAt w.committing w.uncommitted s c keys kept g o h → IsJobAt w.committing w.uncommitted s c keys kept g later longer
-  job_at_grows s c keys kept stage.Fresh o later h longer l within f = f
-  job_at_grows s c keys kept (stage.Committing x) o later h longer l within f = record { now = q.fits_longer x o later h longer l within f.now; way = f.way }
-  job_at_grows s c keys kept stage.Stopped o later h longer l within f = tt
+  job_at_grows : (options : RetryOptions) (s c : ℕ) (keys kept : List Key) (g : Stage Q) (o later : Posted) (h longer : List Event) → IsLater o later → Within h longer
+      → IsJobAt w.committing (w.uncommitted options) s c keys kept g o h → IsJobAt w.committing (w.uncommitted options) s c keys kept g later longer
+  job_at_grows options s c keys kept stage.Fresh o later h longer l within f = f
+  job_at_grows options s c keys kept (stage.Committing x) o later h longer l within f = record { now = q.fits_longer x o later h longer l within f.now; way = f.way }
+  job_at_grows options s c keys kept stage.Stopped o later h longer l within f = tt
 
   pub job_grows : (plan : Plan) (keys : List Key) (job : SecondaryJob Q) (o later : Posted) (h longer : List Event) → IsLater o later → Within h longer
       → JobFits w.committing w.uncommitted plan keys job o h → JobFits w.committing w.uncommitted plan keys job later longer
   job_grows plan keys job o later h longer l within f = record {
     apart = f.apart;
     committed = committed_longer plan (version_of job.start) (version_of job.commit) h longer within f.committed;
-    at = job_at_grows (version_of job.start) (version_of job.commit) keys job.keys job.stage o later h longer l within f.at;
+    at = job_at_grows job.retry_options (version_of job.start) (version_of job.commit) keys job.keys job.stage o later h longer l within f.at;
   }
 
   -- the transaction of a job stays so where that is no longer written

@@ -7,6 +7,7 @@ pub mod Going
 pub mod Groups
 pub mod Waiting
 pub mod Due
+pub mod Options
 pub mod Failing
 pub mod Resting
 pub mod Want

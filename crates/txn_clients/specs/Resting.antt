@@ -11,13 +11,15 @@ use Rattle.txn_side.specs.Trace.{IsLonger, Trace, called_longer}
 use Rattle.txn_side.specs.Trace.{shown_longer as event_longer}
 use Rattle.txn_tso.specs.declared.asker.Asker.{Asker}
 use Rattle.txn_clients.specs.Clients.{nexts_of, row_at, rows_of, sight_of, stands_of}
-use Rattle.txn_clients.specs.Failing.{AreToldIn, CalledIn, LongerIn, ShownIn}
-use Rattle.txn_clients.specs.Rows.{stand_of}
-use Rattle.txn_clients.specs.Waiting.{Book, IsSound, RowArises, asks_of, blank, book_at, book_of, posted_at, voice_at}
+use Rattle.txn_clients.specs.Failing.{AreToldIn, CalledIn, LongerIn, ShownIn, RetriesIn}
+use Rattle.txn_clients.specs.Rows.{stand_of, Pd}
+use Rattle.txn_clients.specs.Waiting.{Book, IsSound, RowArises, asks_of, blank, book_at, book_of, posted_at, voice_at, WantedIn}
 use Rattle.txn_clients.specs.declared.client_state.ClientState.{ClientState}
 use Rattle.txn_clients.specs.declared.clients.Clients.{Clients}
 use Rattle.txn_clients.specs.declared.row.Row.{Row}
 use Rattle.txn_clients.specs.declared.row.Row.TheVariants as row
+use Rattle.txn_client.specs.declared.client_call.ClientCall.{ClientCall}
+use Rattle.txn_merge.specs.declared.retry_options.RetryOptions.{RetryOptions}
 
 -- between steps the calls rest on what a trace has, and on nothing that is yet to come
 abbrev pub RestsIn : {P Q K A B D : Type 0} → Ways P Q K A B D → Clients P Q K → Trace → Type 0
@@ -37,6 +39,15 @@ called_in_longer None (Some u) line at l c = absurd l
 called_in_longer (Some t) None line at l c = absurd l
 called_in_longer (Some t) (Some u) line at l c = called_longer t u l.0 line at c
 
+pub retries_longer : (trace longer : Option Trace) (at : ℕ) (retries : RetryOptions) → LongerIn trace longer → RetriesIn trace at retries → RetriesIn longer at retries
+retries_longer None None at retries l r = tt
+retries_longer None (Some u) at retries l r = absurd l
+retries_longer (Some t) None at retries l r = absurd l
+retries_longer (Some t) (Some u) at retries l r = (r.0, l.0.begun (record { line = at; options = r.0 }) r.1, r.2)
+
+pub wanted_longer : {P Q K : Type 0} (trace longer : Option Trace) (at : ℕ) (call : ClientCall Pd P Q K) → LongerIn trace longer → WantedIn trace at call → WantedIn longer at call
+wanted_longer trace longer at call l r h b gives = retries_longer trace longer at b.options.retry_options l (r h b gives)
+
 pub told_longer : (trace longer : Option Trace) (stands : List Stand) → LongerIn trace longer → AreToldIn trace stands → AreToldIn longer stands
 told_longer trace longer stands l a = record {
   asks = λ n c b e. called_in_longer trace longer n n l (a.asks n c b e);
@@ -47,10 +58,12 @@ module _ {P Q K A B D : Type 0} (w : Ways P Q K A B D) where
   pub row_longer : (trace longer : Option Trace) (at : ℕ) (o : Posted) (nexts : List ℕ) (r : Row P Q K) → LongerIn trace longer → RowArises w trace at o nexts r → RowArises w longer at o nexts r
   row_longer trace longer at o nexts row.Plain l x = tt
   row_longer trace longer at o nexts (row.Client c) l x = tt
-  row_longer trace longer at o nexts (row.Asking c b call) l x = record { history = x.history; fits = x.fits; kept = x.kept; shown = shown_longer trace longer at x.history l x.shown; own = x.own }
+  row_longer trace longer at o nexts (row.Asking c b call) l x =
+      let a = x.arisen in
+      record { wanted = wanted_longer trace longer at call l x.wanted; arisen = record { history = a.history; fits = a.fits; kept = a.kept; shown = shown_longer trace longer at a.history l a.shown; own = a.own } }
   row_longer trace longer at o nexts (row.Begun c t m) l x =
       let a = x.arisen in
-      record { ordered = x.ordered; arisen = record { history = a.history; fits = a.fits; kept = a.kept; shown = shown_longer trace longer at a.history l a.shown; own = a.own } }
+      record { ordered = x.ordered; retries = retries_longer trace longer at t.options.retry_options l x.retries; arisen = record { history = a.history; fits = a.fits; kept = a.kept; shown = shown_longer trace longer at a.history l a.shown; own = a.own } }
   row_longer trace longer at o nexts (row.Calling c y b) l x = tt
   row_longer trace longer at o nexts (row.Past c) l x = tt
   row_longer trace longer at o nexts (row.Working c job) l x = tt
@@ -82,13 +95,18 @@ module _ {P Q K A B D : Type 0} (w : Ways P Q K A B D) where
         unwanted = sound.unwanted;
       }
     where
+      retries_any : (at : ℕ) (retries : RetryOptions) → RetriesIn (Some t) at retries → RetriesIn (Some longer) at retries
+      retries_any at retries r = (r.0, l.begun (record { line = at; options = r.0 }) r.1, r.2)
+
       row_any : (at : ℕ) (o : Posted) (nexts : List ℕ) (r : Row P Q K) → RowArises w (Some t) at o nexts r → RowArises w (Some longer) at o nexts r
       row_any at o nexts row.Plain x = tt
       row_any at o nexts (row.Client c) x = tt
-      row_any at o nexts (row.Asking c b call) x = record { history = x.history; fits = x.fits; kept = x.kept; shown = λ e i. event_longer t longer l at e (x.shown e i); own = x.own }
+      row_any at o nexts (row.Asking c b call) x =
+          let a = x.arisen in
+          record { wanted = λ h b gives. retries_any at b.options.retry_options (x.wanted h b gives); arisen = record { history = a.history; fits = a.fits; kept = a.kept; shown = λ e i. event_longer t longer l at e (a.shown e i); own = a.own } }
       row_any at o nexts (row.Begun c b m) x =
           let a = x.arisen in
-          record { ordered = x.ordered; arisen = record { history = a.history; fits = a.fits; kept = a.kept; shown = λ e i. event_longer t longer l at e (a.shown e i); own = a.own } }
+          record { ordered = x.ordered; retries = retries_any at b.options.retry_options x.retries; arisen = record { history = a.history; fits = a.fits; kept = a.kept; shown = λ e i. event_longer t longer l at e (a.shown e i); own = a.own } }
       row_any at o nexts (row.Calling c y b) x = tt
       row_any at o nexts (row.Past c) x = tt
       row_any at o nexts (row.Working c job) x = tt

@@ -23,8 +23,9 @@ use Rattle.txn_core.specs.Going.{TransactionFits}
 use Rattle.txn_core.specs.Transaction.{IsOrdered, Standing, begun, is_open}
 use Rattle.txn_core.specs.Waiting.{work_waits}
 use Rattle.txn_core.specs.declared.options.TransactionOptions.{TransactionOptions}
-use Rattle.txn_client.specs.Calls.{IsAt, stage_phase, stage_waits}
+use Rattle.txn_client.specs.Calls.{CallGives, IsAt, stage_phase, stage_waits}
 use Rattle.txn_client.specs.declared.client_answer.ClientAnswer.TheVariants.{Begun}
+use Rattle.txn_client.specs.declared.client_call.ClientCall.{ClientCall}
 use Rattle.txn_tso.specs.Oracle.{group_or_none}
 use Rattle.txn_tso.specs.Oracle.{Answer as Answered}
 use Rattle.txn_tso.specs.declared.asker.Asker.{Asker}
@@ -41,9 +42,9 @@ use Rattle.txn_kv.specs.declared.outbox.Errand.TheVariants.{Send}
 use Rattle.txn_kv.specs.declared.ticket.Target.{Target}
 use Rattle.txn_core.specs.declared.txn_answer.TxnAnswer.{TxnAnswer}
 use Rattle.txn_history.specs.Turn.{IfEnds}
-use Rattle.txn_clients.specs.Failing.{AnswerRests, AreToldIn, CalledFor, CalledIn, HasReason, EndsMore, FailsAt, HasMet, IfFails, MayKnow, ShownIn, posting_in}
+use Rattle.txn_clients.specs.Failing.{AnswerRests, AreToldIn, CalledFor, CalledIn, HasReason, EndsMore, FailsAt, HasMet, IfFails, MayKnow, RetriesIn, ShownIn, posting_in}
 use Rattle.txn_clients.specs.Clients.{AreReady, crashed_of, nexts_of, row_at, rows_of, stands_of}
-use Rattle.txn_clients.specs.Rows.{stand_of}
+use Rattle.txn_clients.specs.Rows.{Pd, stand_of}
 use Rattle.txn_clients.specs.declared.answer.Answer.{Answer}
 use Rattle.txn_clients.specs.declared.answer.Answer.TheVariants as answers
 use Rattle.txn_clients.specs.declared.client_state.ClientState.{ClientState}
@@ -117,15 +118,25 @@ pub record HasArisen (Fits : List Event → Type 0) (trace : Option Trace) (at l
   pub shown : ShownIn trace at history
   pub own : AreOwn line history
 
--- a transaction whose buffer is in order
+-- a transaction that a call may answer has the options that its line tells of
+abbrev pub WantedIn : {P Q K : Type 0} → Option Trace → ℕ → ClientCall Pd P Q K → Type 0
+WantedIn {P} {Q} {K} trace at call = (h : List Event) (b : Standing P Q K) → CallGives {C = Pd} call.wanted h (Ok (Begun b)) → RetriesIn trace at b.options.retry_options
+
+-- a call for a timestamp
+pub record AskArises {P Q K : Type 0} (trace : Option Trace) (at : ℕ) (o : Posted) (nexts : List ℕ) (call : ClientCall Pd P Q K) : Type 0 where
+  pub wanted : WantedIn trace at call
+  pub arisen : HasArisen (λ h. IsAt call.stage o h) trace at o.line nexts
+
+-- a transaction whose buffer is in order, and that has the options that its line tells of
 pub record StandArises {P Q K A B D : Type 0} (w : Ways P Q K A B D) (trace : Option Trace) (at : ℕ) (o : Posted) (nexts : List ℕ) (t : Standing P Q K) : Type 0 where
   pub ordered : IsOrdered t.contents
+  pub retries : RetriesIn trace at t.options.retry_options
   pub arisen : HasArisen (λ h. TransactionFits w t o h) trace at o.line nexts
 
 abbrev pub RowArises : {P Q K A B D : Type 0} → Ways P Q K A B D → Option Trace → ℕ → Posted → List ℕ → Row P Q K → Type 0
 RowArises w trace at o nexts row.Plain = ⊤
 RowArises w trace at o nexts (row.Client c) = ⊤
-RowArises w trace at o nexts (row.Asking c b call) = HasArisen (λ h. IsAt call.stage o h) trace at o.line nexts
+RowArises w trace at o nexts (row.Asking c b call) = AskArises trace at o nexts call
 RowArises w trace at o nexts (row.Begun c t m) = StandArises w trace at o nexts t
 RowArises w trace at o nexts (row.Calling c x b) = ⊤
 RowArises w trace at o nexts (row.Past c) = ⊤

@@ -1,4 +1,4 @@
-ghost use Rattle.std.specs.Prelude.{◌≡◌, ◌≤◌, ◌++◌, ◌∷◌, ℕ, [], IfOk, IfSome, IsTrue, OnOk, false, map, option_map};
+ghost use Rattle.std.specs.Prelude.{◌≡◌, ◌≤◌, ◌++◌, ◌∷◌, ℕ, [], IfOk, IfSome, IsTrue, OnOk, false, length, map, option_map};
 ghost use Rattle.std.specs.List.{All};
 ghost use Rattle.txn_clients.specs.Arising.{GroupsNext};
 ghost use Rattle.txn_clients.specs.Failing.{IfFails};
@@ -120,7 +120,7 @@ impl ClientState {
         ensures times { IfOk result (λ given. All IsTimeFor given.items) }
         ensures granted { IfOk result (λ given. (times : Times) → reply ≡ replies.Tso times → given.items ≡ answered times self.old.oracle) }
         ensures refused { IfOk result (λ given. ((times : Times) → reply ≡ replies.Tso times → ⊥) → All IsRefused given.items) }
-        ensures errors { IfOk result (λ given. All (λ a. IfFails (Refuses reply) a.1) given.items) }
+        ensures errors { IfOk result (λ given. All (λ a. IfFails (Refuses (length given.items) reply) a.1) given.items) }
         ensures book { OnOk result (book_of self.new ≡ record (book_of self.old) { out = None; ticket = None }) }
         ensures askers { IfOk result (λ given. map (λ a. a.0) given.items ≡ group_or_none (book_of self.old).out) }
     {
@@ -136,7 +136,7 @@ impl ClientState {
         ensures group { OnOk result (self.new.group ≡ self.old.group) }
         ensures times { IfOk result (λ given. All IsTimeFor given.items) }
         ensures granted { IfOk result (λ given. given.items ≡ answered reply.now self.old.oracle) }
-        ensures errors { IfOk result (λ given. All (λ a. IfFails (Refuses (replies.Tso reply.now)) a.1) given.items) }
+        ensures errors { IfOk result (λ given. All (λ a. IfFails (Refuses (length given.items) (replies.Tso reply.now)) a.1) given.items) }
         ensures book { OnOk result (book_of self.new ≡ record (book_of self.old) { out = None }) }
         ensures askers { IfOk result (λ given. map (λ a. a.0) given.items ≡ group_or_none (book_of self.old).out) }
     {

@@ -11,14 +11,14 @@ ghost use Rattle.txn_clients.specs.Failing.{CalledIn, CameIn, GroupCameIn, Knows
 ghost use Rattle.txn_clients.specs.Going.{OfLine};
 ghost use Rattle.txn_history.specs.Event.Event.{Lost as Gone, Took};
 ghost use Rattle.txn_side.specs.Trace.{Trace};
+ghost use Rattle.txn_clients.specs.Options.{AreOptionsOf};
 ghost use Rattle.txn_clients.specs.Rows.{Brings, MayHear, MayTell, Tells};
-ghost use Rattle.txn_clients.specs.Waiting.{AreRunningBut, GroupsBeside, HearsAt, IsPrepared, IsQuiet, IsReady, IsSound, Steps, book_at, pends};
+ghost use Rattle.txn_clients.specs.Waiting.{AreRunningBut, GroupsBeside, HearsAt, IsPrepared, IsQuiet, IsReady, IsSound, Steps, book_at, pends, WantedIn};
 ghost use Rattle.txn_clients.specs.declared.told.Told.TheVariants.{Heard};
 ghost use Rattle.txn_commit.specs.Committing.{ways};
 ghost use Rattle.txn_history.specs.Meaning.{IsUnbegun};
 ghost use Rattle.txn_kv.specs.declared.ticket.Ticket.{Ticket as Name};
 ghost use Rattle.txn_plan.specs.Arrivals.{MayArrive};
-ghost use Rattle.txn_core.specs.declared.options.TransactionKind.TheVariants.{Optimistic};
 ghost use Rattle.txn_side.specs.Account.{AreClosed, AreKept, TakesIn};
 ghost use Rattle.txn_side.specs.Sight.{EndsAlone, Goes, IsGiven, Names, NoneGiven, commits, is_free, line_count, stand_at, with_stand, client_at, is_live};
 ghost use Rattle.txn_side.specs.Sight.Stand.{Asking, Calling, HasBegun, Idle};
@@ -41,8 +41,7 @@ use txn_side::{Act, ClientSide, Turn};
 
 /// The options of an optimistic transaction that begins so.
 fn options_of(options: BeginOptions) -> TransactionOptions
-    ensures kind { result.kind ≡ Optimistic }
-    ensures writes { result.read_only ≡ false }
+    ensures { AreOptionsOf options result }
 {
     let mut wanted = TransactionOptions::new_optimistic();
     if options.no_locks {
@@ -107,7 +106,7 @@ where
         ensures turn { IfOk result (λ turn. Goes turn.posted.items turn.ended.items (with_stand (line_count (sight_of self.old)) (Asking client begins) (sight_of self.old)) (sight_of self.new)) }
         ensures alone { IfOk result (λ turn. EndsAlone (line_count (sight_of self.old)) turn.ended.items) }
         ensures names { IfOk result (λ turn. All (Names NoneGiven) turn.ended.items) }
-        ensures steps { IfOk result (λ turn. (trace : Option Trace) → IsReady (ways P.meaning Q.meaning K.meaning P.refuses Q.refuses K.refuses) self.old → CalledIn trace (line_count (sight_of self.old)) (line_count (sight_of self.old)) → IsSound (ways P.meaning Q.meaning K.meaning P.refuses Q.refuses K.refuses) (posting_in [] trace) [] self.old → Steps (ways P.meaning Q.meaning K.meaning P.refuses Q.refuses K.refuses) trace (λ n a. ⊥) turn.posted.items turn.ended.items self.old self.new) }
+        ensures steps { IfOk result (λ turn. (trace : Option Trace) → IsReady (ways P.meaning Q.meaning K.meaning P.refuses Q.refuses K.refuses) self.old → CalledIn trace (line_count (sight_of self.old)) (line_count (sight_of self.old)) → WantedIn trace (line_count (sight_of self.old)) call → IsSound (ways P.meaning Q.meaning K.meaning P.refuses Q.refuses K.refuses) (posting_in [] trace) [] self.old → Steps (ways P.meaning Q.meaning K.meaning P.refuses Q.refuses K.refuses) trace (λ n a. ⊥) turn.posted.items turn.ended.items self.old self.new) }
         ensures ready { OnOk result (AreReady (ways P.meaning Q.meaning K.meaning P.refuses Q.refuses K.refuses) (rows_of self.new)) }
         ensures accounts { OnOk result (AreKept (account_at (rows_of self.old)) (account_at (rows_of self.new))) }
         ensures leads { IfOk result (λ turn. LeadsSent (ways P.meaning Q.meaning K.meaning P.refuses Q.refuses K.refuses) [] turn.posted.items [] turn.ended.items (λ n. n) self.old self.new) }

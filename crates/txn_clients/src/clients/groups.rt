@@ -70,7 +70,7 @@ impl<P, Q, K> Clients<P, Q, K> {
         ensures groups { OnOk result (GroupsGo [] (sight_of self.old) (sight_of self.new)) }
         ensures times { IfOk result (λ given. All IsTimeFor given.items) }
         ensures given { IfOk result (λ given. AreGiven (sight_of self.old) client reply given.items) }
-        ensures errors { IfOk result (λ given. All (λ a. IfFails (Refuses reply) a.1) given.items) }
+        ensures errors { IfOk result (λ given. All (λ a. IfFails (Refuses (length given.items) reply) a.1) given.items) }
         ensures takes { IfOk result (λ given. Takes client given.items self.old self.new) }
         ensures granted { IfOk result (λ given. (times : Times) → reply ≡ replies.Tso times → given.items ≡ answered times (oracle_of (book_at self.old client))) }
         ensures refused { IfOk result (λ given. ((times : Times) → reply ≡ replies.Tso times → ⊥) → All IsRefused given.items) }

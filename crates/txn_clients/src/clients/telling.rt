@@ -8,7 +8,7 @@ ghost use Rattle.txn_clients.specs.Accounts.{AccountsTold, AnswersNew, AnswersTo
 ghost use Rattle.txn_clients.specs.Closing.{ClosesIn, EndsCall, EndsOwn, GoesTold, HasComeTo, StandsAt, stage_after};
 ghost use Rattle.txn_clients.specs.Clients.{AreReady, HearsFor, IsLine, Listens, MayEnd, crashed_of, groups_of, nexts_of, row_at, rows_of, sight_of};
 ghost use Rattle.std.proofs.Common.{suc};
-ghost use Rattle.txn_clients.specs.Failing.{AnswerRests, CameIn, FailsAt, IfFails, MayKnow, outbox_of, posting_in};
+ghost use Rattle.txn_clients.specs.Failing.{AnswerRests, CameIn, FailsAt, IfFails, MayKnow, outbox_of, posting_in, AskRests};
 ghost use Rattle.txn_clients.specs.Going.{Advances, EndsIn, NamesIn, OfLine};
 ghost use Rattle.txn_side.specs.Trace.{Trace};
 ghost use Rattle.txn_clients.specs.Rows.{AnswerFits, AskFits, Brings, IsStamped, IsToldIn, MayHear, MayTell, Posts, Rests, Tells, stand_of};
@@ -139,7 +139,7 @@ where
         ensures alone { OnOk result (EndsIn line turn.old turn.new) }
         ensures names { OnOk result (NamesIn (OfLine line (IsStamped answer)) turn.old turn.new) }
         ensures ends { OnOk result (EndsOwn line turn.old.ended.items turn.new.ended.items) }
-        ensures waits { OnOk result (IsNewAnswer {P = P} {Q = Q} {K = K} (Asked answer) → (trace : Option Trace) (client : ℕ) (rest : List Asker) → IfFails (FailsAt (ways P.meaning Q.meaning K.meaning P.refuses Q.refuses K.refuses) (posting_in turn.old.posted.items trace) line line) answer → IsSound (ways P.meaning Q.meaning K.meaning P.refuses Q.refuses K.refuses) (posting_in turn.old.posted.items trace) rest self.old → GoesOn (ways P.meaning Q.meaning K.meaning P.refuses Q.refuses K.refuses) trace client (λ n a. ⊥) rest turn.old.posted.items turn.new.posted.items turn.old.ended.items turn.new.ended.items self.old self.new) }
+        ensures waits { OnOk result (IsNewAnswer {P = P} {Q = Q} {K = K} (Asked answer) → (trace : Option Trace) (client : ℕ) (rest : List Asker) → AskRests (ways P.meaning Q.meaning K.meaning P.refuses Q.refuses K.refuses) (posting_in turn.old.posted.items trace) line line answer → IsSound (ways P.meaning Q.meaning K.meaning P.refuses Q.refuses K.refuses) (posting_in turn.old.posted.items trace) rest self.old → GoesOn (ways P.meaning Q.meaning K.meaning P.refuses Q.refuses K.refuses) trace client (λ n a. ⊥) rest turn.old.posted.items turn.new.posted.items turn.old.ended.items turn.new.ended.items self.old self.new) }
         ensures runs { OnOk result ((c : ℕ) (b : Bool) → stand_at (sight_of self.old).stands line ≡ Asking c b → AreRunningBut (line - 1) (rows_of self.old) → AreRunning (rows_of self.new)) }
         ensures ready { OnOk result (AreReady (ways P.meaning Q.meaning K.meaning P.refuses Q.refuses K.refuses) (rows_of self.new)) }
         ensures accounts { OnOk result (AreKept (account_at (rows_of self.old)) (account_at (rows_of self.new))) }

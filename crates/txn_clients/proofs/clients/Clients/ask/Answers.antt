@@ -13,7 +13,8 @@ use Rattle.txn_clients.proofs.Accounting.{idle_line, if_on_ok, kept_at, kept_the
 use Rattle.txn_clients.proofs.Beginning.{ask_steps}
 use Rattle.std.proofs.lemmas.Result.{IfOk-weaker}
 use Rattle.txn_clients.specs.Failing.{CalledIn}
-use Rattle.txn_clients.proofs.Coming.{called_since}
+use Rattle.txn_clients.proofs.Coming.{called_since, wanted_since}
+use Rattle.txn_clients.specs.Waiting.{WantedIn}
 use Rattle.txn_clients.proofs.Timestamps.{both_if_ok}
 use Rattle.txn_clients.proofs.Stepped.{ask_leads}
 use Rattle.txn_clients.proofs.clients.Clients.ask.Goals as goal
@@ -50,9 +51,10 @@ returns-clause-accounts g c =
 
 pub returns-clause-steps : goal.returns-clause-steps
 returns-clause-steps g c = IfOk-weaker c.step.result _ _
-    (λ turn f trace ready called sound. ask_steps _ g.met.P.Plan.lawful g.met.Q.Plan.lawful g.met.K.Plan.lawful trace c.args.self.now c.set_row.new.self c.step.new.self c.newest-line.result c.args.client c.args.begins c.args.call _ turn.posted.items turn.ended.items (newest_is c.args.self.now c.newest-line.result c.requires.line c.newest-line.ensures)
+    (λ turn f trace ready called wants sound. ask_steps _ g.met.P.Plan.lawful g.met.Q.Plan.lawful g.met.K.Plan.lawful trace c.args.self.now c.set_row.new.self c.step.new.self c.newest-line.result c.args.client c.args.begins c.args.call _ turn.posted.items turn.ended.items (newest_is c.args.self.now c.newest-line.result c.requires.line c.newest-line.ensures)
     (newest_idle c.args.self.now c.newest-line.result c.newest-line.ensures (c.if-not-is_new.ensures refl)) c.requires.client c.requires.fresh c.requires.unbegun c.set_row.ensures.rows c.set_row.ensures.nexts c.set_row.ensures.asks c.set_row.ensures.clients ready
-    (called_since trace [] c.newest-line.result c.newest-line.result (subst (λ n. CalledIn trace n n) (sym c.newest-line.ensures) called)) sound (f trace))
+    (called_since trace [] c.newest-line.result c.newest-line.result (subst (λ n. CalledIn trace n n) (sym c.newest-line.ensures) called))
+    (wanted_since trace [] c.newest-line.result c.args.call (subst (λ n. WantedIn trace n c.args.call) (sym c.newest-line.ensures) wants)) sound (f trace))
     c.step.ensures.steps
 
 pub returns-clause-leads : goal.returns-clause-leads
