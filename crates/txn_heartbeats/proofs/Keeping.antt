@@ -1,6 +1,7 @@
 -- What is kept of a line's heartbeat is changed.
-use Rattle.std.proofs.Common.{◌≡◌, ℕ, suc, zero, ◌-◌, ◌<◌, ◌≤◌, Bool, true, List, [], length, map, get_or, set, None, refl, sym, ap, ◌∙◌, arith}
+use Rattle.std.proofs.Common.{◌≡◌, ℕ, suc, zero, ◌-◌, ◌<◌, ◌≤◌, Bool, true, List, [], length, map, get_or, set, Option, None, refl, sym, ap, ◌∙◌, arith}
 use Rattle.std.proofs.lemmas.List.{length-map, map-set, set-get_or}
+use Rattle.txn_heartbeat.specs.declared.heartbeat_job.HeartbeatJob.{HeartbeatJob}
 use Rattle.txn_side.specs.Sight.{next_at}
 use Rattle.txn_heartbeats.specs.Beating.{IsLine}
 use Rattle.txn_heartbeats.specs.Hearts.{beats_of, job_at, jobs_of, outbox_at}
@@ -24,6 +25,13 @@ transaction_line transactions (suc i) one = let e : suc i - 1 ≡ i = omega arit
 -- that of a line is written where it stands
 pub transaction_again : (transactions : List ℕ) (line : ℕ) → 1 ≤ line → set transactions (line - 1) (transaction_at transactions line) ≡ transactions
 transaction_again transactions line one = ap (set transactions (line - 1)) (transaction_line transactions line one) ∙ set-get_or transactions (line - 1) 0
+
+-- nothing is written where nothing stands
+pub nobody_again : {H : Type 0} (jobs : List (Option (HeartbeatJob H))) (line : ℕ) → 1 ≤ line → job_at jobs line ≡ None → set jobs (line - 1) None ≡ jobs
+nobody_again jobs zero one e = absurd (omega (arith, one))
+nobody_again {H} jobs (suc i) one e =
+    let at : suc i - 1 ≡ i = omega arith in
+    ap (λ (n : ℕ). set jobs n None) at ∙ ap (λ (o : Option (HeartbeatJob H)). set jobs i o) (sym e) ∙ set-get_or jobs i None
 
 module _ {S H : Type 0} (b : Heartbeats S H) where
   pub pulse_there : (line : ℕ) → IsLine (beats_of b) line → line - 1 < length b.pulses.items

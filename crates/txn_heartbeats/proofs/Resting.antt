@@ -1,15 +1,14 @@
 -- What calls rest on, and the accounts of transactions, where heartbeats post beside the calls.
-use Rattle.std.proofs.Common.{◌≡◌, inl, inr, ℕ, Bool, List, [], ◌++◌, length, Some, refl, sym, ap, ◌∙◌, subst, arith}
+use Rattle.std.proofs.Common.{◌≡◌, inl, inr, ℕ, List, [], ◌++◌, length, Some, refl, sym, ap, ◌∙◌, subst, arith}
 use Rattle.std.proofs.lemmas.List.Elements.{All-nil, All-weaker}
 use Rattle.std.specs.List.{All, Any}
 use Rattle.txn_history.specs.Event.{Event}
-use Rattle.txn_kv.specs.declared.errors.Error.{Error}
 use Rattle.txn_kv.specs.declared.request.Request.{Request}
 use Rattle.txn_kv.specs.declared.ticket.Ticket.{Ticket}
 use Rattle.txn_side.specs.Account.{Account, AreClosed, MayTakeIn, TakesIn, after_endings, awaited_line, closed}
 use Rattle.txn_side.specs.Sight.{Sight, Stand, stand_at}
 use Rattle.txn_side.specs.Sight.Stand.{Asking, Calling, HasBegun, Idle, IsClient, Past, Working}
-use Rattle.txn_side.specs.Trace.{ActsOn, EndsFor, HasCome, IsLonger, IsSend, RestsOn, StillRests, Trace, fails_longer, with_posted}
+use Rattle.txn_side.specs.Trace.{ActsOn, EndsFor, HasCome, HowCallsFail, IsLonger, IsSend, RestsOn, StillRests, Trace, fails_longer, with_posted}
 use Rattle.txn_side.specs.declared.act.Act.{Act}
 use Rattle.txn_side.specs.declared.turn.Ending.{Ending}
 use Rattle.txn_side.specs.declared.turn.Posting.{Posting}
@@ -26,6 +25,7 @@ longer_posted : (t : Trace) (ps qs : List Posting) → IsLonger (with_posted ps 
 longer_posted t ps qs = record {
   events = λ e h. h;
   calls = λ c i. i;
+  begun = λ b i. i;
   rollbacks = λ n i. i;
   groups = λ g i. i;
   sent = λ u r s. elim s [ inl h ↦ inl h | inr a ↦ inr (any_left (IsSend u r) ps qs a) ];
@@ -35,15 +35,16 @@ longer_nothing : (t : Trace) (ps : List Posting) → t.posted ≡ [] → IsLonge
 longer_nothing t ps none = record {
   events = λ e h. h;
   calls = λ c i. i;
+  begun = λ b i. i;
   rollbacks = λ n i. i;
   groups = λ g i. i;
   sent = λ u r s. elim s [ inl h ↦ inl h | inr a ↦ absurd (none_any (IsSend u r) t.posted none a) ];
 }
 
-module _ (fails : Bool → List Event → Error → Type 0) where
+module _ (fails : HowCallsFail) where
   ends_longer : (t : Trace) (ps qs : List Posting) (e : Ending) → EndsFor fails (with_posted ps t) e → EndsFor fails (with_posted (ps ++ qs) t) e
   ends_longer t ps qs e ends why failed = elim (ends why failed) [
-    | inl f ↦ inl (fails_longer (with_posted ps t) (with_posted (ps ++ qs) t) (longer_posted t ps qs) fails e.line why f)
+    | inl f ↦ inl (fails_longer (with_posted ps t) (with_posted (ps ++ qs) t) (longer_posted t ps qs) refl fails e.line why f)
     | inr r ↦ inr r
   ]
 

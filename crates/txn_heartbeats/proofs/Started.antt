@@ -1,6 +1,6 @@
 -- A heartbeat starts, and its job is told of something.
-use Rattle.std.proofs.Common.{◌≡◌, ℕ, ◌-◌, ◌++◌, set, Option, Some, ◌∙◌, subst}
-use Rattle.std.specs.Prelude.{Result}
+use Rattle.std.proofs.Common.{◌≡◌, ℕ, ◌-◌, ◌++◌, false, true, set, Option, None, Some, ◌∙◌, subst, sym}
+use Rattle.std.specs.Prelude.{OnOk, Ok, Result}
 use Rattle.txn_core.specs.declared.heartbeat.Heartbeat.{Heartbeat}
 use Rattle.txn_core.specs.declared.status.Status.{Status}
 use Rattle.txn_heartbeat.specs.Beats.{HasHeard, Sleeps}
@@ -14,14 +14,34 @@ use Rattle.txn_side.specs.Sight.{next_at}
 use Rattle.txn_side.specs.declared.turn.Turn.{Turn}
 use Rattle.txn_heartbeats.specs.Beating.{postings_of}
 use Rattle.txn_heartbeats.specs.Hearts.{beats_of, jobs_of, outbox_at}
-use Rattle.txn_heartbeats.specs.Started.{HasTold, Starts, StartsAsLent, starts_of, transactions_of, with_started}
+use Rattle.txn_heartbeats.specs.Started.{BeginsBeat, HasTold, Starts, StartsAsLent, starts_of, transactions_of, was_started, with_started}
 use Rattle.txn_heartbeats.specs.declared.heartbeats.Heartbeats.{Heartbeats}
 
 -- one job alone stands at a line
 pub same_stands : {X : Type 0} (o : Option X) (x y : X) → Some x ≡ o → o ≡ Some y → x ≡ y
 same_stands o x y e f = let both : Some x ≡ Some y = e ∙ f in cc
 
+pub never_none : {X : Type 0} (o : Option X) (x : X) → Some x ≡ o → o ≡ None → ⊥
+never_none o x e f = let both : Some x ≡ None = e ∙ f in cc
+
+-- what holds where it is Ok
+ok_so : {X E P : Type 0} (r : Result X E) (x : X) → r ≡ Ok x → OnOk r P → P
+ok_so {X} {E} {P} r x is k = subst (λ (y : Result X E). OnOk y P) is k
+
 module _ {S H : Type 0} where
+  pub begins_so : {X E : Type 0} (r : Result X E) (x : X) → r ≡ Ok x → (Posted : S → Turn → Type 0) (heart : S → Option Heartbeat → Type 0) (line transaction : ℕ) (old new : Heartbeats S H) (mid : S) (before after : Turn) → new.side ≡ mid → Posted mid before → after.ended ≡ before.ended
+      → (was_started (starts_of old) transaction ≡ true → OnOk r ((new ≡ record old { side = mid }) × (after ≡ before)))
+      → (was_started (starts_of old) transaction ≡ false → OnOk r (StartsAsLent (heart mid) line transaction (record old { side = mid }) new before after))
+      → BeginsBeat (Posted new.side) (heart new.side) line transaction (record old { side = new.side }) new after
+  begins_so r x is Posted heart line transaction old new mid before after same posted ended once starts =
+      subst (λ (s : S). BeginsBeat (Posted s) (heart s) line transaction (record old { side = s }) new after) (sym same) (record {
+        before = before;
+        posted = posted;
+        ended = ended;
+        once = λ e. ok_so r x is (once e);
+        starts = λ e. ok_so r x is (starts e);
+      })
+
   pub starts_lent : (heart : Option Heartbeat → Type 0) (line last transaction : ℕ) (beat : Heartbeat) (old new : Heartbeats S H) (before after : Turn) (fresh job : HeartbeatJob H) (o out : Posted) (ending : Ending (Result (Unit {0}) Error))
       → line ≡ last → heart (Some beat) → fresh.heartbeat ≡ beat → job.heartbeat ≡ fresh.heartbeat → o ≡ outbox_at line (next_at (beats_of old) line) → Sleeps fresh job o out ending
       → after.posted.items ≡ before.posted.items ++ postings_of line out.sends → jobs_of new ≡ set (jobs_of old) (line - 1) (Some job) → transactions_of new ≡ set (transactions_of old) (line - 1) transaction → starts_of new ≡ with_started transaction (starts_of old)

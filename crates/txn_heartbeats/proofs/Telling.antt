@@ -1,10 +1,9 @@
 -- What calls wait for and rest on in the steps of clients and their heartbeats, and what becomes of these where a heartbeat is told of something.
-use Rattle.std.proofs.Common.{◌≡◌, inl, inr, ℕ, Bool, true, List, [], ◌∷◌, ◌++◌, Option, Some, sym, subst}
+use Rattle.std.proofs.Common.{◌≡◌, inl, inr, ℕ, true, List, [], ◌∷◌, ◌++◌, Option, Some, sym, subst}
 use Rattle.std.specs.Prelude.{IfOk, OnOk, Ok, Err, Result}
 use Rattle.txn_heartbeat.specs.Hosting.{StaysSo}
 use Rattle.txn_history.specs.Event.{Event}
 use Rattle.txn_history.specs.Event.Event.{Sent}
-use Rattle.txn_kv.specs.declared.errors.Error.{Error}
 use Rattle.txn_kv.specs.declared.memory.NoMemory.{NoMemory}
 use Rattle.txn_kv.specs.declared.request.Request.{Request}
 use Rattle.txn_kv.specs.declared.ticket.Ticket.{Ticket}
@@ -13,7 +12,7 @@ use Rattle.txn_report.specs.declared.outcome.Outcome.{Outcome}
 use Rattle.txn_side.specs.Account.{Account}
 use Rattle.txn_side.specs.Arising.{Arises, IsBeat, IsOutside, with_postings}
 use Rattle.txn_side.specs.Sight.{Sight}
-use Rattle.txn_side.specs.Trace.{ActsOn, IsLonger, RestsOn, Trace}
+use Rattle.txn_side.specs.Trace.{ActsOn, HowCallsFail, IsLonger, RestsOn, Trace}
 use Rattle.txn_side.specs.Waiting.{Awaited, WaitsOn}
 use Rattle.txn_side.specs.declared.act.Act.{Act}
 use Rattle.txn_side.specs.declared.turn.Posting.{Posting}
@@ -45,11 +44,11 @@ module _ {S H : Type 0} (sight : S → Sight) (old new : Heartbeats S H) (u : Is
 
   -- What calls rest on
 
-  pub acts_in : (fails : Bool → List Event → Error → Type 0) (rests : S → Trace → Type 0) (act : Act) (x newest : ℕ) (account : Account) (turn : Option Turn) → ActsOn fails (rests old.side) (rests new.side) act x newest account turn
+  pub acts_in : (fails : HowCallsFail) (rests : S → Trace → Type 0) (act : Act) (x newest : ℕ) (account : Account) (turn : Option Turn) → ActsOn fails (rests old.side) (rests new.side) act x newest account turn
       → ActsOn fails (RestsIn sight rests old) (RestsIn sight rests new) act x newest account turn
   acts_in fails rests act x newest account turn acts t posted called refused rolls was = let r = acts t posted called refused rolls (was u) in ((λ v. r.0), r.1)
 
-  pub acts_started : (fails : Bool → List Event → Error → Type 0) (rests : S → Trace → Type 0) (act : Act) (x newest : ℕ) (account : Account) (mid : S) (line : ℕ) (turn later : Turn) → ((t longer : Trace) → IsLonger t longer → rests mid t → rests mid longer)
+  pub acts_started : (fails : HowCallsFail) (rests : S → Trace → Type 0) (act : Act) (x newest : ℕ) (account : Account) (mid : S) (line : ℕ) (turn later : Turn) → ((t longer : Trace) → IsLonger t longer → rests mid t → rests mid longer)
       → new.side ≡ mid → later.ended ≡ turn.ended → PostsBeats line (beats_of old) turn.posted.items later.posted.items (beats_of new) → ActsOn fails (rests old.side) (rests mid) act x newest account (Some turn) → ActsOn fails (RestsIn sight rests old) (RestsIn sight rests new) act x newest account (Some later)
   acts_started fails rests act x newest account mid line turn later longer side ended p acts =
       acts_in fails rests act x newest account (Some later)
@@ -58,7 +57,7 @@ module _ {S H : Type 0} (sight : S → Sight) (old new : Heartbeats S H) (u : Is
   -- Something was told to a heartbeat
 
   module _ (waits : S → ℕ → Awaited → Type 0) (account : S → ℕ → Account) (rests : S → Trace → Type 0) (arises : S → List Event → Type 0) (holds : S → List Event → ℕ → Outcome → Type 0) where
-    pub told_rests : (fails : Bool → List Event → Error → Type 0) → ((t longer : Trace) → IsLonger t longer → rests new.side t → rests new.side longer) → (r : Result Turn NoMemory) → OnOk r (StaysSo sight waits account rests arises holds old.side new.side) → IfOk r (λ turn. turn.ended.items ≡ [])
+    pub told_rests : (fails : HowCallsFail) → ((t longer : Trace) → IsLonger t longer → rests new.side t → rests new.side longer) → (r : Result Turn NoMemory) → OnOk r (StaysSo sight waits account rests arises holds old.side new.side) → IfOk r (λ turn. turn.ended.items ≡ [])
         → IfOk r (λ turn. (t : Trace) → t.posted ≡ [] → RestsOn fails (RestsIn sight rests old) (RestsIn sight rests new) t turn.posted.items turn.ended.items)
     told_rests fails longer (Ok turn) stays ended = λ t posted.
         rests_deaf fails (RestsIn sight rests old) (RestsIn sight rests new) (rests_longer_so sight new rests longer) t turn.posted.items turn.ended.items ended posted (λ trace was v. stays.rests_so trace (was u))

@@ -1,5 +1,5 @@
 -- Which transactions have had their heartbeats, how one starts, and what becomes of one that is told of something.
-use Rattle.std.specs.Prelude.{◌≡◌, ◌++◌, ◌-◌, ℕ, Bool, true, List, map, Option, Some, None, Result, slice_index_or, slice_set}
+use Rattle.std.specs.Prelude.{◌≡◌, ◌++◌, ◌-◌, ℕ, Bool, false, true, List, map, Option, Some, None, Result, slice_index_or, slice_set}
 use Rattle.std.proofs.Common.{zero, suc}
 use Rattle.txn_core.specs.declared.heartbeat.Heartbeat.{Heartbeat}
 use Rattle.txn_core.specs.declared.status.Status.{Status}
@@ -11,6 +11,8 @@ use Rattle.txn_history.specs.Turn.{Turn as Ending}
 use Rattle.txn_kv.specs.declared.errors.Error.{Error}
 use Rattle.txn_plan.specs.declared.arrival.Arrival.{Arrival}
 use Rattle.txn_side.specs.Sight.{next_at}
+use Rattle.txn_side.specs.declared.act.Act.{Act}
+use Rattle.txn_side.specs.declared.act.Act.TheVariants.{Commit}
 use Rattle.txn_side.specs.declared.turn.Turn.{Turn}
 use Rattle.txn_heartbeats.specs.Beating.{postings_of}
 use Rattle.txn_heartbeats.specs.Hearts.{beats_of, jobs_of, outbox_at}
@@ -63,6 +65,19 @@ pub record StartsAsLent {S H : Type 0} (heart : Option Heartbeat → Type 0) (li
   pub needed : Option Heartbeat
   pub lent : heart needed
   pub done : StartsAsNeeded needed line transaction old new before after
+
+abbrev pub is_commit : Act → Bool
+is_commit Commit = true
+is_commit _ = false
+
+-- A commit of a transaction was begun in this line, and the clients have posted what it wants: behind that its heartbeat starts as they
+-- say it needs one, unless one was started.
+pub record BeginsBeat {S H : Type 0} (Posted : Turn → Type 0) (heart : Option Heartbeat → Type 0) (line transaction : ℕ) (old new : Heartbeats S H) (after : Turn) : Type 0 where
+  pub before : Turn
+  pub posted : Posted before
+  pub ended : after.ended ≡ before.ended
+  pub once : was_started (starts_of old) transaction ≡ true → (new ≡ old) × (after ≡ before)
+  pub starts : was_started (starts_of old) transaction ≡ false → StartsAsLent heart line transaction old new before after
 
 -- The job of a line was told of something, while its transaction had come so far: what it is then stands there, and its errands are
 -- posted under the tickets of the line's heartbeat.

@@ -110,6 +110,7 @@ impl<S: HeartHost, H: PlanForHeartbeats> Heartbeats<S, H> {
         ensures dead { is_live (S.sight self.old.side) line ≡ false → IfOk result (λ turn. turn.posted.items ≡ []) }
         ensures ready { OnOk result (IsReady S.ready S.sight H.meaning self.new) }
         ensures told { is_live (S.sight self.old.side) line ≡ true → (job : HeartbeatJob H) → job_at (jobs_of self.old) line ≡ Some job → IfOk result (HasTold H.meaning line arrival (S.status_at self.old.side (transaction_at (transactions_of self.old) line)) now job self.old self.new) }
+        ensures nobody { job_at (jobs_of self.old) line ≡ None → IfOk result (λ turn. (turn.posted.items ≡ []) × (jobs_of self.new ≡ jobs_of self.old)) }
         ensures kept { OnOk result ((starts_of self.new ≡ starts_of self.old) × (transactions_of self.new ≡ transactions_of self.old)) }
     {
         let mut turn = Turn::new(self.alloc);

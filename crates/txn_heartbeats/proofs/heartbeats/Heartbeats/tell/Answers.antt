@@ -4,12 +4,12 @@ use Rattle.txn_side.specs.Sight.{next_at}
 use Rattle.txn_heartbeats.specs.Beating.{IsLine, postings_of}
 use Rattle.txn_heartbeats.specs.Hearts.{beats_of, job_at, jobs_of, outbox_at}
 use Rattle.txn_heartbeats.specs.Started.{transaction_at, transactions_of}
-use Rattle.txn_heartbeats.proofs.Keeping.{transaction_again}
+use Rattle.txn_heartbeats.proofs.Keeping.{nobody_again, transaction_again}
 use Rattle.txn_heartbeats.proofs.Living.{alive_at, alive_emptied}
 use Rattle.txn_heartbeats.proofs.Posting.{holds_so, posts_all, posts_so}
 use Rattle.txn_heartbeats.proofs.Seen.{live_line}
 use Rattle.txn_heartbeats.proofs.Sides.{beaten_ready, taken_ready}
-use Rattle.txn_heartbeats.proofs.Started.{same_stands, told_so}
+use Rattle.txn_heartbeats.proofs.Started.{never_none, same_stands, told_so}
 use Rattle.txn_heartbeats.proofs.heartbeats.Heartbeats.tell.Goals as goal
 
 pub beat-requires-clause-alive : goal.beat-requires-clause-alive
@@ -71,3 +71,13 @@ returns-in_ok-post-in-Some-clause-told g c live job at =
     c.in_ok-beat-in-Some.ensures.heard
     (c.in_ok-post-in-Some.ensures.jobs ∙ c.keep.ensures.jobs ∙ ap (λ js. set js (c.args.line - 1) (Some c.beat.new.job)) c.take_job.ensures.jobs ∙ set-set (jobs_of c.args.self.now) (c.args.line - 1) None (Some c.beat.new.job))
     (c.in_ok-post-in-Some.ensures.posted ∙ ap (λ ps. ps ++ postings_of c.args.line c.beat.new.out.sends) c.new-turn.ensures.posted)
+
+pub returns-in-None-clause-nobody : goal.returns-in-None-clause-nobody
+returns-in-None-clause-nobody g c none =
+    let own = live_line (g.S.ClientSide.sight c.args.self.now.side) (beats_of c.args.self.now) c.args.line c.requires.ready.even (sym c.is_live.ensures ∙ c.if-not-is_live.false) in (
+      c.new-turn.ensures.posted,
+      c.take_job.ensures.jobs ∙ nobody_again (jobs_of c.args.self.now) c.args.line own.first none,
+    )
+
+pub returns-in_ok-post-in-Some-clause-nobody : goal.returns-in_ok-post-in-Some-clause-nobody
+returns-in_ok-post-in-Some-clause-nobody g c none = absurd (never_none (job_at (jobs_of c.args.self.now) c.args.line) c.in-Some.job c.in-Some.ensures.job none)

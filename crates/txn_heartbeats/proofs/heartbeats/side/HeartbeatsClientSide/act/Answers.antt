@@ -1,4 +1,4 @@
-use Rattle.std.proofs.Common.{Some, refl, subst}
+use Rattle.std.proofs.Common.{false, true, length, Bool, Some, refl, subst, sym, ◌∙◌, ◌≡◌}
 use Rattle.txn_side.specs.Arising.{ArisesOn}
 use Rattle.txn_side.specs.Sight.{Acts, line_count}
 use Rattle.txn_side.specs.Trace.{ActsOn}
@@ -7,6 +7,7 @@ use Rattle.txn_heartbeats.specs.Hearts.{beats_of}
 use Rattle.txn_heartbeats.proofs.Numbers.{unused_so}
 use Rattle.txn_heartbeats.proofs.Seen.{acts_beside}
 use Rattle.txn_heartbeats.proofs.Sides.{acts_calls, acts_started, on_beside, on_started}
+use Rattle.txn_heartbeats.proofs.Started.{begins_so}
 use Rattle.txn_heartbeats.proofs.Telling as telling
 use Rattle.txn_heartbeats.proofs.heartbeats.side.HeartbeatsClientSide.act.Goals as goal
 
@@ -53,3 +54,16 @@ returns-in_ok-start_beat-in-Some-clause-arises g c =
     let calls = acts_calls c.args.act c.args.transaction (g.S.ClientSide.sight c.args.self.now.side) (g.S.ClientSide.sight c.act.new.self) (Some c.in-Some.turn) (g.met.S.HeartHost.unbeaten c.args.self.now.side) (g.met.S.HeartHost.unbeaten c.act.new.self) (subst (Acts c.args.act c.args.transaction (g.S.ClientSide.sight c.args.self.now.side) (g.S.ClientSide.sight c.act.new.self)) c.in-Some.is c.in_ok-act.ensures.turn) in
     on_started g.S.ClientSide.arises g.S.ClientSide.holds c.args.self.now c.start_beat.new.self g.met.S.HeartHost.arises_beating c.act.new.self _ (λ n. c.args.transaction) c.in-Some.turn c.start_beat.new.turn calls c.in_ok-start_beat-in-Some.ensures.side c.in_ok-start_beat-in-Some.ensures.ended c.in_ok-start_beat-in-Some.ensures.beats
     (subst (ArisesOn (g.S.ClientSide.arises c.args.self.now.side) (g.S.ClientSide.arises c.act.new.self) (g.S.ClientSide.holds c.args.self.now.side) (g.S.ClientSide.holds c.act.new.self) (λ n. c.args.transaction)) c.in-Some.is c.in_ok-act.ensures.arises)
+
+never : {b : Bool} → b ≡ false → b ≡ true → ⊥
+never f t = let both : false ≡ true = sym f ∙ t in cc
+
+pub returns-then-not-commits-clause-begins : goal.returns-then-not-commits-clause-begins
+returns-then-not-commits-clause-begins g c is = absurd (never (sym c.is_commit-commits.ensures ∙ c.if-not-commits.true) is)
+
+pub returns-in_ok-start_beat-in-Some-clause-begins : goal.returns-in_ok-start_beat-in-Some-clause-begins
+returns-in_ok-start_beat-in-Some-clause-begins g c is =
+    let sight = g.S.ClientSide.sight in
+    begins_so c.start_beat.result _ c.in_ok-start_beat-in-Some.was (λ s before. Acts c.args.act c.args.transaction (sight c.args.self.now.side) (sight s) (Some before)) (λ s. g.S.HeartHost.heart s c.args.transaction) (length (beats_of c.args.self.now)) c.args.transaction c.args.self.now c.start_beat.new.self c.act.new.self c.in-Some.turn c.start_beat.new.turn
+    c.in_ok-start_beat-in-Some.ensures.side (subst (Acts c.args.act c.args.transaction (sight c.args.self.now.side) (sight c.act.new.self)) c.in-Some.is c.in_ok-act.ensures.turn) c.in_ok-start_beat-in-Some.ensures.ended
+    c.start_beat.ensures.once c.start_beat.ensures.starts
