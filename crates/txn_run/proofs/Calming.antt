@@ -26,7 +26,7 @@ use Rattle.txn_causes.specs.Kinds.{IsOfKind}
 use Rattle.txn_clients.specs.Want.{is_memory, some_want_memory, wants_memory}
 use Rattle.txn_side.specs.Trace.{IsCalled, Trace}
 use Rattle.txn_run.specs.Calm.{FailsCalmly, IsCalm, IsGoodReply}
-use Rattle.txn_run.specs.Caused.{HeardBy, IsCaused, IsExplained, IsRollbackRefused, IsUndetermined}
+use Rattle.txn_run.specs.Caused.{HeardBy, IsCaused, IsExplained, IsSpentFor, IsRollbackRefused, IsUndetermined}
 
 no_region_error : (error : RegionErr) (r : Request) (o : Reply) → IsGoodReply r o → HasRegionError error o → ⊥
 no_region_error error r o good k = no (sym good.region_error ∙ k)
@@ -69,7 +69,7 @@ module _ (t : Trace) (at n : ℕ) (called : IsCalled t n at) (calm : IsCalm t n)
   uncaused_internal WrongReply k = never_taken (λ q o. IsOfKind q o → ⊥) (λ r o good other. other good.like) k
   uncaused_internal _ k = k
 
-  plain_wants : (error : Error) → PlainCause (HeardBy t at n) error → is_memory error ≡ true
+  plain_wants : (error : Error) → PlainCause (HeardBy t at n) (IsSpentFor t at n) error → is_memory error ≡ true
   plain_wants (GrpcAPI u) k = absurd (never_lost u k.0 k.1)
   plain_wants (RegionForKeyNotFound wanted) k = let heard = k.2 in let good = calm.good k.0 (GetRegion (record { region_key = wanted })) k.1 heard.1 heard.0 in absurd (good.found k.3)
   plain_wants (RegionNotFoundInResponse id) k = absurd (never_taken (FoundOther id) (λ r o good other. good.wanted id other) k)
@@ -87,19 +87,19 @@ module _ (t : Trace) (at n : ℕ) (called : IsCalled t n at) (calm : IsCalm t n)
   some_lock (lock ∷ found) some each = never_taken (λ q. HasLock lock) (no_key_error (Locked lock)) (each lock (inl refl))
 
   mutual
-    cause_wants : (error : ErrorView) → HasCause (HeardBy t at n) error → wants_memory error ≡ true
+    cause_wants : (error : ErrorView) → HasCause (HeardBy t at n) (IsSpentFor t at n) error → wants_memory error ≡ true
     cause_wants (plain error) k = plain_wants error k
     cause_wants (locks found) k = absurd (some_lock found k.0 k.1)
-    cause_wants (region error) k = absurd (never_taken (λ q. HasRegionError error) (no_region_error error) k)
+    cause_wants (region error) k = absurd (never_taken (λ q. HasRegionError error) (no_region_error error) k.0)
     cause_wants (undetermined inner) k = absurd k
-    cause_wants (key error) k = absurd (never_taken (λ q. HasKeyError error) (no_key_error error) k)
+    cause_wants (key error) k = absurd (never_taken (λ q. HasKeyError error) (no_key_error error) k.0)
     cause_wants (extracted errors) k = causes_want errors k.0 k.1
     cause_wants (multiple errors) k = causes_want errors k.0 k.1
     cause_wants (kv message) k = absurd k
     cause_wants (text message) k = absurd k
     cause_wants (pessimistic inner keys) k = absurd k
 
-    causes_want : (errors : ErrorViews) → AreSome errors → causes.HaveCauses (HeardBy t at n) errors → some_want_memory errors ≡ true
+    causes_want : (errors : ErrorViews) → AreSome errors → causes.HaveCauses (HeardBy t at n) (IsSpentFor t at n) errors → some_want_memory errors ≡ true
     causes_want none some k = absurd some
     causes_want (more error errors) some k = or_wants (wants_memory error) (some_want_memory errors) (cause_wants error k.0)
 

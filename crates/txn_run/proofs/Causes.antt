@@ -1,7 +1,7 @@
 -- From what a call that failed had heard to what the report tells.
-use Rattle.std.proofs.Common.{◌≡◌, ◌⊎◌, inl, inr, zero, suc, ℕ, refl, subst, arith}
+use Rattle.std.proofs.Common.{◌≡◌, ◌⊎◌, inl, inr, zero, suc, ℕ, refl, ap, ◌∙◌, subst, arith}
 use Rattle.std.specs.Global.{Vec}
-use Rattle.std.specs.Prelude.{true, false, List, [], ◌∷◌, Option, Some, None, Result, Err, reverse}
+use Rattle.std.specs.Prelude.{Bool, if◌then◌else◌, true, false, List, [], ◌∷◌, Option, Some, None, Result, Err, reverse}
 use Rattle.std.specs.List.{Any}
 use Rattle.txn_kv.specs.ErrorView.{view_of, ErrorView, ErrorViews}
 use Rattle.txn_kv.specs.ErrorView.ErrorView.{plain, locks, region, undetermined as not_known, key, extracted, multiple, kv, text, pessimistic}
@@ -28,9 +28,11 @@ use Rattle.txn_kv.specs.declared.timestamp.Timestamp.{Timestamp}
 use Rattle.txn_history.specs.Among.{IsAmong}
 use Rattle.txn_history.specs.Event.{Event, Has}
 use Rattle.txn_history.specs.Event.Event.{Sent, Took, Lost, Answered}
+use Rattle.txn_history.specs.Faults.{has_region_error}
 use Rattle.txn_history.specs.Plan.{Plan}
 use Rattle.txn_causes.specs.Carried.{listed, FoundNone, FoundOther, HasBadKey, HasKeyError, HasLock, HasNoEpoch, HasNoLeader, HasRegion, HasRegionError, IsReversed, ToldWithoutEpoch}
-use Rattle.txn_causes.specs.Causes.{FoundNoRegion, HasCause, HasFailed, HaveFailed, InternalCause, PlainCause, Taken, retries}
+use Rattle.txn_causes.specs.Causes.{FoundNoRegion, HasCause, HasFailed, HaveFailed, InternalCause, IsTriedOut, PlainCause, Taken, retries}
+use Rattle.txn_causes.specs.Spent.{HasFailedAt, HaveFailedBelow, IsSpent}
 use Rattle.txn_causes.specs.Causes as causes
 use Rattle.txn_causes.specs.Heard.{Heard, heard_in}
 use Rattle.txn_causes.specs.Heard.Heard.{TookReply, WasLost}
@@ -39,27 +41,34 @@ use Rattle.txn_buffer.specs.Contents.{Contents}
 use Rattle.txn_commit.specs.Committing.{Ways, ways}
 use Rattle.txn_commit.specs.Following.{Commits, KnowsCommits, PrimarySent, first_of, or_first, undetermined}
 use Rattle.txn_commit.specs.Sending.{plan_of}
-use Rattle.txn_commit_plans.specs.CausesOfCalls.{IsCallExplained, call_explained, untimed_explained}
+use Rattle.txn_merge.specs.declared.retry_options.RetryOptions.{RetryOptions}
+use Rattle.txn_commit_plans.specs.CausesOfCalls.{IsCallExplained, call_explained, untimed_caused}
 use Rattle.txn_commit_plans.specs.CausesOfCalls as calls
 use Rattle.txn_commit_plans.specs.CausesOfPlans.{commits_caused, prewrites_caused, rollbacks_caused}
-use Rattle.txn_commit_plans.specs.Failing.{HasGiven, given_caused}
-use Rattle.txn_commit_plans.specs.Kinds.{CommitPlan, PrewritePlan, RollbackPlan, commit_plan, prewrite_plan, rollback_plan}
+use Rattle.txn_commit_plans.specs.Failing.{HasGivenWith, given_caused}
+use Rattle.txn_commit_plans.specs.Kinds.{CommitPlan, PrewritePlan, RollbackPlan, commit_plan, commit_retries, prewrite_plan, prewrite_retries, rollback_plan, rollback_retries}
 use Rattle.txn_core.specs.Going.{TransactionGives}
-use Rattle.txn_side.specs.Trace.{AreOwn, AreShown, FailsIn, IsHarmless, IsRefusedIn, IsSend, IsSentIn, Trace}
+use Rattle.txn_side.specs.Trace.{AreOwn, AreShown, FailsIn, IsBegunAs, IsHarmless, IsRefusedIn, IsSend, IsSentIn, Trace}
 use Rattle.txn_report.specs.declared.outcome.Outcome.{Outcome}
 use Rattle.txn_report.specs.declared.report.Report.{Report}
 use Rattle.txn_lines.specs.Text.{IsScript}
 use Rattle.txn_lines.specs.declared.line.Line.{Line}
 use Rattle.txn_machine.specs.Accounts.{Ask, ask_of}
+use Rattle.txn_machine.specs.Causes.{ended_of}
 use Rattle.txn_machine.specs.Failing.{AllCausesMeet, CauseMeets, CausesMeetLines}
 use Rattle.txn_machine.specs.Lawful.{Lawful}
-use Rattle.txn_clients.specs.Failing.{CallFailed, CallRefused, FailsFor, HasFailedFor, KnownTransaction}
+use Rattle.txn_clients.specs.Options.{backoff_unless, retries_of}
+use Rattle.txn_core.specs.Options.{usual_retries}
+use Rattle.txn_multi.specs.Task.{attempts_left}
+use Rattle.txn_lines.specs.declared.begin_options.BeginOptions.{BeginOptions}
+use Rattle.txn_clients.specs.Failing.{AreRetriesOf, CallFailed, CallRefused, FailsFor, HasFailedFor, KnownTransaction}
 use Rattle.txn_run.specs.Behind.{AreBehind}
 use Rattle.txn_run.specs.Program.{RanScript}
 use Rattle.txn_run.proofs.Calming.{fails_calmly}
+use Rattle.txn_run.proofs.Matching.{lines_kind}
 use Rattle.txn_run.proofs.Refusing.{all_exact, never_caused}
 use Rattle.txn_run.proofs.Wholeness.{lines_whole}
-use Rattle.txn_run.specs.Caused.{HasCommit, HaveCauses, HeardBy, IsCaused, IsExplained, IsRollbackRefused, IsUndetermined, trace_at}
+use Rattle.txn_run.specs.Caused.{HasCommit, HaveCauses, HeardBy, IsCaused, IsExplained, IsRollbackRefused, IsUndetermined, attempts_of, trace_at}
 
 -- In a reply that says without error what was done, and in one with timestamps, no error has its cause.
 
@@ -110,7 +119,7 @@ looks_no_other id (BatchRollback r) (replies.BatchRollback o) h k = k
 looks_no_other id _ _ h k = absurd h
 
 -- So what has its cause in what was heard has it in what is shown, where each other reply is.
-module _ (K M : Heard → Type 0)
+module _ (K M : Heard → Type 0) {S Z : Type 0} (spent : S → Z)
     (took : (u : Ticket) (r : Request) (o : Reply) → K (TookReply u r o) → M (TookReply u r o) ⊎ IsHarmless r o)
     (lost : (u : Ticket) (r : Request) → K (WasLost u r) → M (WasLost u r)) where
   taken : (are : Request → Reply → Type 0) → ((r : Request) (o : Reply) → IsHarmless r o → are r o → ⊥) → Taken K are → Taken M are
@@ -124,8 +133,12 @@ module _ (K M : Heard → Type 0)
   have_failed r u zero k = tt
   have_failed r u (suc n) k = (k.0, k.1, k.2, one_failed k.0 r k.3, have_failed r k.0 n k.4)
 
+  tried_out : {A B : Type 0} → (A → B) → (r : Request) (u : Ticket) (n : Option ℕ) → IsTriedOut K A r u n → IsTriedOut M B r u n
+  tried_out becomes r u None k = becomes k
+  tried_out becomes r u (Some n) k = have_failed r u n k
+
   found_none : (r : Request) → FoundNoRegion K r → FoundNoRegion M r
-  found_none r k = elim (took k.0 r k.1 k.2) [ inl m ↦ (k.0, k.1, m, k.3, have_failed r k.0 (retries r) k.4) | inr h ↦ absurd (looks_no_none r k.1 h k.3) ]
+  found_none r k = elim (took k.0 r k.1 k.2) [ inl m ↦ (k.0, k.1, m, k.3, tried_out (λ never. never) r k.0 (retries r) k.4) | inr h ↦ absurd (looks_no_none r k.1 h k.3) ]
 
   internal : (what : Internal) → InternalCause K what → InternalCause M what
   internal (BadEnd at) k = taken (λ q. HasRegion (HasBadKey (BadEnd at))) (no_region (HasBadKey (BadEnd at))) k
@@ -135,8 +148,8 @@ module _ (K M : Heard → Type 0)
   internal WrongReply k = taken (λ q o. IsOfKind q o → ⊥) (λ r o h other. other (harmless_like r o h)) k
   internal _ k = absurd k
 
-  of_plain : (error : Error) → PlainCause K error → PlainCause M error
-  of_plain (GrpcAPI ticket) k = (k.0, lost ticket k.0 k.1, have_failed k.0 ticket (retries k.0) k.2)
+  of_plain : (error : Error) → PlainCause K S error → PlainCause M Z error
+  of_plain (GrpcAPI ticket) k = (k.0, lost ticket k.0 k.1, tried_out spent k.0 ticket (retries k.0) k.2)
   of_plain (RegionForKeyNotFound wanted) k = found_none (GetRegion (record { region_key = wanted })) k
   of_plain (RegionNotFoundInResponse id) k = taken (FoundOther id) (looks_no_other id) k
   of_plain (LeaderNotFound id) k = taken (λ q. HasRegion (HasNoLeader id)) (no_region (HasNoLeader id)) k
@@ -145,21 +158,44 @@ module _ (K M : Heard → Type 0)
   of_plain _ k = absurd k
 
   mutual
-    has_cause : (error : ErrorView) → HasCause K error → HasCause M error
+    has_cause : (error : ErrorView) → HasCause K S error → HasCause M Z error
     has_cause (plain error) k = of_plain error k
     has_cause (locks found) k = (k.0, λ lock i. taken (λ q. HasLock lock) (no_key_error (Locked lock)) (k.1 lock i))
-    has_cause (region error) k = taken (λ q. HasRegionError error) (no_region_error error) k
+    has_cause (region error) k = (taken (λ q. HasRegionError error) (no_region_error error) k.0, elim k.1 [ inl at_once ↦ inl at_once | inr s ↦ inr (spent s) ])
     has_cause (not_known inner) k = absurd k
-    has_cause (key error) k = taken (λ q. HasKeyError error) (no_key_error error) k
+    has_cause (key error) k = (taken (λ q. HasKeyError error) (no_key_error error) k.0, k.1)
     has_cause (extracted errors) k = (k.0, have_causes errors k.1)
     has_cause (multiple errors) k = (k.0, have_causes errors k.1)
     has_cause (kv message) k = absurd k
     has_cause (text message) k = absurd k
     has_cause (pessimistic inner keys) k = absurd k
 
-    have_causes : (errors : ErrorViews) → causes.HaveCauses K errors → causes.HaveCauses M errors
+    have_causes : (errors : ErrorViews) → causes.HaveCauses K S errors → causes.HaveCauses M Z errors
     have_causes none k = tt
     have_causes (more error errors) k = (has_cause error k.0, have_causes errors k.1)
+
+-- a reply of these was refused for no region
+region_unrefused : (r : Request) (o : Reply) → IsHarmless r o → has_region_error o ≡ true → ⊥
+region_unrefused (Tso r) (replies.Tso o) h e = cc
+region_unrefused (Prewrite r) (replies.Prewrite o) h e = let clean = h.0 in cc
+region_unrefused (Commit r) (replies.Commit o) h e = let clean = h.0 in cc
+region_unrefused (BatchRollback r) (replies.BatchRollback o) h e = let clean = h.0 in cc
+region_unrefused _ _ h e = absurd h
+
+-- and what failed at a region is shown
+module _ (K M : Heard → Type 0)
+    (took : (u : Ticket) (r : Request) (o : Reply) → K (TookReply u r o) → M (TookReply u r o) ⊎ IsHarmless r o)
+    (lost : (u : Ticket) (r : Request) → K (WasLost u r) → M (WasLost u r)) where
+  failed_at : (u : Ticket) → HasFailedAt K u → HasFailedAt M u
+  failed_at u (r, inl k) = (r, inl (lost u r k))
+  failed_at u (r, inr k) = elim (took u r k.0 k.1) [ inl m ↦ (r, inr (k.0, m, k.2)) | inr h ↦ absurd (region_unrefused r k.0 h k.2) ]
+
+  failed_below : (line : ℕ) (beat : Bool) (below n : ℕ) → HaveFailedBelow K line beat below n → HaveFailedBelow M line beat below n
+  failed_below line beat below zero k = tt
+  failed_below line beat below (suc n) k = (k.0, k.1, k.2, k.3, failed_at k.0 k.4, failed_below line beat k.0.number n k.5)
+
+  spent_shown : (attempts : ℕ) → IsSpent K attempts → IsSpent M attempts
+  spent_shown attempts k = (k.0, k.1, k.2, failed_below k.0 k.1 k.2 (suc attempts) k.3)
 
 -- of the first of these it is known that it was sent
 first_sent : (plan : Plan) (s : ℕ) (h : List Event) (u : Ticket) (out : List Ticket) → ((v : Ticket) → IsAmong out v → PrimarySent plan s h v) → first_of out ≡ Some u → PrimarySent plan s h u
@@ -169,20 +205,33 @@ first_sent plan s h u (v ∷ out) sent e = let same : v ≡ u = cc in subst (Pri
 none_posted : (u : Ticket) (r : Request) → Any (IsSend u r) [] → ⊥
 none_posted u r k = omega (arith, k.2)
 
+-- so often what a transaction sends is tried again, by the words of its line
+left_unless : (b : Bool) → attempts_left (backoff_unless b usual_retries.region_backoff) ≡ (if b then 0 else 10)
+left_unless true = refl
+left_unless false = refl
+
+attempts_same : (told : BeginOptions) (own : RetryOptions) → own ≡ retries_of told → attempts_left own.region_backoff ≡ attempts_of told
+attempts_same told own e = ap (λ (r : RetryOptions). attempts_left r.region_backoff) e ∙ left_unless told.no_regions
+
 -- What a call heard is shown, and came for its line
-module _ (t : Trace) (at n : ℕ) (h : List Event) (unposted : t.posted ≡ []) (shown : AreShown t at h) (own : AreOwn n h) where
+module _ (t : Trace) (at n : ℕ) (h : List Event) (unposted : t.posted ≡ []) (like : (u : Ticket) (r : Request) (o : Reply) → Has t.events (Took u r o) → IsOfKind r o) (shown : AreShown t at h) (own : AreOwn n h) where
   took_shown : (u : Ticket) (r : Request) (o : Reply) → heard_in h (TookReply u r o) → HeardBy t at n (TookReply u r o) ⊎ IsHarmless r o
-  took_shown u r o k = elim (shown (Took u r o) k) [ inl s ↦ elim (own (Took u r o) k) [ inl line ↦ inl (line, s.1) | inr harmless ↦ inr harmless ] | inr harmless ↦ inr harmless ]
+  took_shown u r o k = elim (shown (Took u r o) k) [ inl s ↦ elim (own (Took u r o) k) [ inl line ↦ inl (line, s.1, like u r o s.1) | inr harmless ↦ inr harmless ] | inr harmless ↦ inr harmless ]
 
   lost_shown : (u : Ticket) (r : Request) → heard_in h (WasLost u r) → HeardBy t at n (WasLost u r)
   lost_shown u r k = let s = shown (Lost u r) k in (s.1, elim (own (Lost u r) k) [ inl line ↦ inl line | inr commit ↦ inr (s.0, commit) ])
 
-  cause_shown : (error : ErrorView) → HasCause (heard_in h) error → HasCause (HeardBy t at n) error
-  cause_shown = has_cause (heard_in h) (HeardBy t at n) took_shown lost_shown
+  asked : (e : Error) → (ask : Ticket) × Has h (Answered ask (Err e)) → IsExplained t at n e
+  asked e k = let s = shown (Answered k.0 (Err e)) k.1 in inr (subst (λ line. IsRefusedIn t line e) (own (Answered k.0 (Err e)) k.1) s.1)
 
-  explained : (e : Error) → calls.IsExplained h e → IsExplained t at n e
-  explained e (inl k) = inl (cause_shown (view_of e) k)
-  explained e (inr k) = let s = shown (Answered k.0 (Err e)) k.1 in inr (subst (λ line. IsRefusedIn t line e) (own (Answered k.0 (Err e)) k.1) s.1)
+  -- an error of a call, where those of its transaction are tried again so often
+  explained : (options : BeginOptions) → IsBegunAs t at options → (attempts : ℕ) → attempts ≡ attempts_of options → (e : Error) → calls.IsExplained attempts h e → IsExplained t at n e
+  explained options begun attempts same e (inl k) = inl (has_cause (heard_in h) (HeardBy t at n) (λ s. (options, begun, subst (IsSpent (HeardBy t at n)) same (spent_shown (heard_in h) (HeardBy t at n) took_shown lost_shown attempts s))) took_shown lost_shown (view_of e) k)
+  explained options begun attempts same e (inr k) = asked e k
+
+  untimed : (e : Error) → HasCause (heard_in h) ⊥ (view_of e) ⊎ ((ask : Ticket) × Has h (Answered ask (Err e))) → IsExplained t at n e
+  untimed e (inl k) = inl (has_cause (heard_in h) (HeardBy t at n) (λ never. absurd never) took_shown lost_shown (view_of e) k)
+  untimed e (inr k) = asked e k
 
   sent_shown : (u : Ticket) (r : Request) → IsSentIn t u r → Has t.events (Sent u r)
   sent_shown u r (inl s) = s
@@ -215,24 +264,24 @@ module _ (t : Trace) (at n : ℕ) (h : List Event) (unposted : t.posted ≡ []) 
       }
 
   module _ {P Q K A B D : Type 0} (w : Ways P Q K A B D)
-      (failed : (start : Timestamp) (contents : Contents) (c : Commits) (h : List Event) (e : Error) → TransactionGives w start contents c h (Err e) → IsCallExplained (undetermined c) h e) where
-    call_failed : (e : Error) → CallFailed w h e → IsExplained t at n e ⊎ IsUndetermined t at n e
-    call_failed e k = let x = k.transaction in by x (undetermined x.commits) refl (failed x.start x.contents x.commits h e (inl (x.parts, x.whole, k.fails)))
+      (failed : (options : RetryOptions) (start : Timestamp) (contents : Contents) (c : Commits) (h : List Event) (e : Error) → TransactionGives w options start contents c h (Err e) → IsCallExplained (attempts_left options.region_backoff) (undetermined c) h e) where
+    call_failed : (e : Error) → CallFailed w (IsBegunAs t at) h e → IsExplained t at n e ⊎ IsUndetermined t at n e
+    call_failed e k = let x = k.transaction in by x k.retries (undetermined x.commits) refl (failed x.retry_options x.start x.contents x.commits h e (inl (x.parts, x.whole, k.fails)))
       where
-        by : (x : KnownTransaction h) (left : Option Ticket) → undetermined x.commits ≡ left → IsCallExplained left h e → IsExplained t at n e ⊎ IsUndetermined t at n e
-        by x None l g = inl (explained e g)
-        by x (Some u) l g = inr (record {
+        by : (x : KnownTransaction h) → AreRetriesOf (IsBegunAs t at) x.retry_options → (left : Option Ticket) → undetermined x.commits ≡ left → IsCallExplained (attempts_left x.retry_options.region_backoff) left h e → IsExplained t at n e ⊎ IsUndetermined t at n e
+        by x r None l g = inl (explained r.0 r.1 (attempts_left x.retry_options.region_backoff) (attempts_same r.0 x.retry_options r.2) e g)
+        by x r (Some u) l g = inr (record {
           inner = g.0;
           error = g.1;
-          explained = explained g.0 g.2;
+          explained = explained r.0 r.1 (attempts_left x.retry_options.region_backoff) (attempts_same r.0 x.retry_options r.2) g.0 g.2;
           plan = plan_of x.parts;
           start = version_of x.start;
           ticket = u;
           commit = commit_shown (plan_of x.parts) (version_of x.start) x.commits u x.known l;
         })
 
-    fails : (e : Error) → HasFailedFor w false h e → IsExplained t at n e ⊎ IsUndetermined t at n e
-    fails e (inl k) = inl (explained e (untimed_explained h e k))
+    fails : (e : Error) → HasFailedFor w false (IsBegunAs t at) h e → IsExplained t at n e ⊎ IsUndetermined t at n e
+    fails e (inl k) = inl (untimed e (untimed_caused h e k))
     fails e (inr k) = call_failed e k
 
 -- Each line
@@ -247,13 +296,13 @@ module _ {Fails Causes : ℕ → Error → Type 0} (weaker : (n : ℕ) (e : Erro
 
 -- the plans by which the clients of a run commit
 abbrev pub plans : Ways PrewritePlan CommitPlan RollbackPlan (Vec PrewriteResponse) (Vec (Result CommitResponse Error)) (Vec (Result BatchRollbackResponse Error))
-plans = ways prewrite_plan commit_plan rollback_plan (HasGiven prewrite_plan) (HasGiven commit_plan) (HasGiven rollback_plan)
+plans = ways prewrite_plan commit_plan rollback_plan (HasGivenWith prewrite_plan prewrite_retries) (HasGivenWith commit_plan commit_retries) (HasGivenWith rollback_plan rollback_retries)
 
-plans_explained : (start : Timestamp) (contents : Contents) (c : Commits) (h : List Event) (e : Error) → TransactionGives plans start contents c h (Err e) → IsCallExplained (undetermined c) h e
-plans_explained = call_explained plans (given_caused prewrite_plan prewrites_caused) (given_caused commit_plan commits_caused) (given_caused rollback_plan rollbacks_caused)
+plans_explained : (options : RetryOptions) (start : Timestamp) (contents : Contents) (c : Commits) (h : List Event) (e : Error) → TransactionGives plans options start contents c h (Err e) → IsCallExplained (attempts_left options.region_backoff) (undetermined c) h e
+plans_explained = call_explained plans (given_caused prewrite_plan prewrite_retries prewrites_caused) (given_caused commit_plan commit_retries commits_caused) (given_caused rollback_plan rollback_retries rollbacks_caused)
 
-pub have_causes_told : (script : List Line) (report : Report) → CausesMeetLines (FailsFor plans) script report → HaveCauses script report
-have_causes_told script report k = causes_meet is_caused report.outcomes report.ended script k
+pub have_causes_told : (script : List Line) (report : Report) → AreBehind plans script report → CausesMeetLines (FailsFor plans) script report → HaveCauses script report
+have_causes_told script report behind k = causes_meet is_caused report.outcomes report.ended script k
   where
     is_caused : (n : ℕ) (e : Error) → FailsIn (FailsFor plans) (trace_at script report n) n e → IsCaused (trace_at script report n) n e
     is_caused n e f = by f.fails_so
@@ -261,9 +310,12 @@ have_causes_told script report k = causes_meet is_caused report.outcomes report.
         t : Trace
         t = trace_at script report n
 
-        by : FailsFor plans false f.history e ⊎ (IsAmong t.rollbacks n × FailsFor plans true f.history e) → IsCaused t n e
-        by (inl so) = record { at = f.at; called = f.called; why = elim (fails t f.at n f.history refl f.shown f.own plans plans_explained e so.why) [ inl k ↦ inl k | inr k ↦ inr (inl k) ]; fed = so.fed }
-        by (inr (rolls, so)) = record { at = f.at; called = f.called; why = inr (inr (refused t f.at n f.history refl f.shown f.own e rolls so.why)); fed = so.fed }
+        like : (u : Ticket) (r : Request) (o : Reply) → Has t.events (Took u r o) → IsOfKind r o
+        like u r o h = lines_kind plans script report behind (suc (ended_of report.ended n)) u r o h
+
+        by : FailsFor plans false (IsBegunAs t f.at) f.history e ⊎ (IsAmong t.rollbacks n × FailsFor plans true (IsBegunAs t f.at) f.history e) → IsCaused t n e
+        by (inl so) = record { at = f.at; called = f.called; why = elim (fails t f.at n f.history refl like f.shown f.own plans plans_explained e so.why) [ inl k ↦ inl k | inr k ↦ inr (inl k) ]; fed = so.fed }
+        by (inr (rolls, so)) = record { at = f.at; called = f.called; why = inr (inr (refused t f.at n f.history refl like f.shown f.own e rolls so.why)); fed = so.fed }
 
 -- a script ran
 pub ran_script : (bytes : List ℕ) (lines items : List Line) (report : Report) → items ≡ lines → IsScript bytes lines → Lawful items report → CausesMeetLines (FailsFor plans) (reverse items) report
@@ -282,4 +334,4 @@ ran_script bytes lines items report same script lawful causes behind = record {
     as_script = subst (λ ls. Lawful ls report) same lawful
 
     told : HaveCauses (reverse lines) report
-    told = have_causes_told (reverse lines) report (subst (λ ls. CausesMeetLines (FailsFor plans) (reverse ls) report) same causes)
+    told = have_causes_told (reverse lines) report (subst (λ ls. AreBehind plans (reverse ls) report) same behind) (subst (λ ls. CausesMeetLines (FailsFor plans) (reverse ls) report) same causes)

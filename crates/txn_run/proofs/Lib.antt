@@ -5,5 +5,6 @@ mod Unlocked
 mod Wholeness
 mod Refusing
 mod Calming
+mod Matching
 mod Causes
 mod Programs

@@ -1,5 +1,6 @@
 -- Errors that come only where a line is refused.
-use Rattle.std.proofs.Common.{◌≡◌, ◌⊎◌, inl, inr, ℕ, List, [], ◌∷◌, length, Option, Some, None, refl, sym, ap, ◌∙◌, subst}
+use Rattle.std.proofs.Common.{◌≡◌, ◌⊎◌, inl, inr, ℕ, Bool, true, false, if◌then◌else◌, List, [], ◌∷◌, length, Option, Some, None, refl, sym, ap, ◌∙◌, subst}
+use Rattle.std.specs.Prelude.{Ok as Given, Err as Refused}
 use Rattle.txn_causes.specs.Causes.{HasCause, PlainCause}
 use Rattle.txn_causes.specs.Heard.{Heard}
 use Rattle.txn_kv.specs.ErrorView.{ErrorView, view_of, view_step}
@@ -12,6 +13,7 @@ use Rattle.txn_kv.specs.declared.errors.Internal.{Internal}
 use Rattle.txn_kv.specs.declared.errors.Internal.TheVariants.{OracleLost, OracleCount, OracleEmpty, WrongReply}
 use Rattle.txn_kv.specs.declared.reply.Reply.{Reply}
 use Rattle.txn_kv.specs.declared.reply.Reply.TheVariants as replies
+use Rattle.txn_kv.specs.declared.timestamp.Timestamp.{Timestamp}
 use Rattle.txn_lines.specs.declared.line.Line.{Line}
 use Rattle.txn_machine.specs.Accounts.{AccountMeets, AllAccountsMeet, AnswersIn, Ask, account_of, ask_of}
 use Rattle.txn_machine.specs.Causes.{ended_of, is_skipped}
@@ -21,18 +23,30 @@ use Rattle.txn_report.specs.declared.outcome.Outcome.{Outcome}
 use Rattle.txn_report.specs.declared.outcome.Outcome.TheVariants.{Err}
 use Rattle.txn_side.specs.Account.{Account, refusal}
 use Rattle.txn_side.specs.Trace.{IsRefusedIn, Refuses, Trace}
-use Rattle.txn_run.specs.Caused.{HeardBy, IsCaused, IsExplained, IsRollbackRefused, IsUndetermined}
+use Rattle.txn_tso.specs.Oracle.{granted, granted_if, has_version, is_unlike}
+use Rattle.txn_run.specs.Caused.{HeardBy, IsCaused, IsExplained, IsSpentFor, IsRollbackRefused, IsUndetermined}
 use Rattle.txn_run.specs.Refused.{AllRefusalsMeet, IsRefusal, RefusalMeets}
 
 -- none of them is caused by what came
 
-refuses_internal : (o : Reply) (e : Error) → Refuses o e → (what : Internal) × (e ≡ errors.InternalError what)
-refuses_internal (replies.Tso times) e (inl h) = (OracleCount h.0 times.count, h.1)
-refuses_internal (replies.Tso times) e (inr h) = (OracleEmpty, h)
-refuses_internal o e h = (WrongReply, h)
+granted_internal : (stamp : Option Timestamp) (given asked behind : ℕ) (e : Error) → granted_if stamp given asked behind ≡ Refused e → (what : Internal) × (e ≡ errors.InternalError what)
+granted_internal None given asked behind e is = (OracleEmpty, cc)
+granted_internal (Some last) given asked behind e is = by (has_version last) is
+  where
+    counted : (b : Bool) (time : Timestamp) → (if b then Refused (errors.InternalError (OracleCount asked given)) else Given time) ≡ Refused e → (what : Internal) × (e ≡ errors.InternalError what)
+    counted true time f = (OracleCount asked given, cc)
+    counted false time f = cc
+
+    by : (b : Bool) → (if b then granted last given asked behind else Refused (errors.InternalError OracleEmpty)) ≡ Refused e → (what : Internal) × (e ≡ errors.InternalError what)
+    by true f = counted (is_unlike last given asked) _ f
+    by false f = (OracleEmpty, cc)
+
+refuses_internal : (asked : ℕ) (o : Reply) (e : Error) → Refuses asked o e → (what : Internal) × (e ≡ errors.InternalError what)
+refuses_internal asked (replies.Tso times) e h = granted_internal times.timestamp times.count asked h.0 e h.2
+refuses_internal asked o e h = (WrongReply, h)
 
 refused_internal : (t : Trace) (line : ℕ) (e : Error) → IsRefusedIn t line e → (what : Internal) × (e ≡ errors.InternalError what)
-refused_internal t line e r = elim r.failed [ inl h ↦ (OracleLost, h.1) | inr h ↦ refuses_internal h.0 e h.2 ]
+refused_internal t line e r = elim r.failed [ inl h ↦ (OracleLost, h.1) | inr h ↦ refuses_internal (length r.group.askers) h.0 e h.2 ]
 
 view-OperationAfterCommitError : view_of errors.OperationAfterCommitError ≡ plain errors.OperationAfterCommitError
 view-OperationAfterCommitError = ap view_of (sym errors.rolls-OperationAfterCommitError) ∙ fold-roll-Error ErrorView view_step layer.OperationAfterCommitError
@@ -44,14 +58,14 @@ view-DuplicateKeyInsertion : view_of errors.DuplicateKeyInsertion ≡ plain erro
 view-DuplicateKeyInsertion = ap view_of (sym errors.rolls-DuplicateKeyInsertion) ∙ fold-roll-Error ErrorView view_step layer.DuplicateKeyInsertion
 
 -- an error that is seen as itself has none of the causes where it has no plain one
-never_plain : (t : Trace) (n : ℕ) (e : Error) → view_of e ≡ plain e → ((K : Heard → Type 0) → PlainCause K e → ⊥) → ((what : Internal) → e ≡ errors.InternalError what → ⊥) → IsCaused t n e → ⊥
+never_plain : (t : Trace) (n : ℕ) (e : Error) → view_of e ≡ plain e → ((K : Heard → Type 0) (S : Type 0) → PlainCause K S e → ⊥) → ((what : Internal) → e ≡ errors.InternalError what → ⊥) → IsCaused t n e → ⊥
 never_plain t n e view uncaused other c = by c.why
   where
     two : (inner : ErrorView) → plain e ≡ undetermined inner → ⊥
     two inner q = cc
 
     by : IsExplained t c.at n e ⊎ (IsUndetermined t c.at n e ⊎ IsRollbackRefused t c.at n e) → ⊥
-    by (inl (inl h)) = uncaused (HeardBy t c.at n) (subst (HasCause (HeardBy t c.at n)) view h)
+    by (inl (inl h)) = uncaused (HeardBy t c.at n) (IsSpentFor t c.at n) (subst (HasCause (HeardBy t c.at n) (IsSpentFor t c.at n)) view h)
     by (inl (inr r)) = let f = refused_internal t n e r in other f.0 f.1
     by (inr (inl u)) = two (view_of u.inner) (sym view ∙ u.error)
     by (inr (inr u)) = two (view_of (errors.GrpcAPI u.ticket)) (sym view ∙ u.error)
@@ -66,9 +80,9 @@ duplicate_key : (what : Internal) → errors.DuplicateKeyInsertion ≡ errors.In
 duplicate_key what q = cc
 
 pub never_caused : (t : Trace) (n : ℕ) (e : Error) → IsRefusal e → IsCaused t n e → ⊥
-never_caused t n errors.OperationAfterCommitError is c = never_plain t n errors.OperationAfterCommitError view-OperationAfterCommitError (λ K h. h) operation_after c
-never_caused t n errors.Unimplemented is c = never_plain t n errors.Unimplemented view-Unimplemented (λ K h. h) not_implemented c
-never_caused t n errors.DuplicateKeyInsertion is c = never_plain t n errors.DuplicateKeyInsertion view-DuplicateKeyInsertion (λ K h. h) duplicate_key c
+never_caused t n errors.OperationAfterCommitError is c = never_plain t n errors.OperationAfterCommitError view-OperationAfterCommitError (λ K S h. h) operation_after c
+never_caused t n errors.Unimplemented is c = never_plain t n errors.Unimplemented view-Unimplemented (λ K S h. h) not_implemented c
+never_caused t n errors.DuplicateKeyInsertion is c = never_plain t n errors.DuplicateKeyInsertion view-DuplicateKeyInsertion (λ K S h. h) duplicate_key c
 never_caused t n e is c = absurd is
 
 -- so a line ends with one of them only where it is refused so

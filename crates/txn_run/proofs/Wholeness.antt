@@ -367,9 +367,9 @@ module _ {P Q K A B D : Type 0} (w : Ways P Q K A B D) (script : List Line) (rep
 
       -- what is known of the Commits of its primary
       knows : (g : Work P Q K) → t.work ≡ g → KnowsCommits (plan_of parts) v t.commits h
-      knows g e = subst (λ u. KnowsCommits (plan_of parts) u t.commits h) k.start (by g (subst (λ (y : Work P Q K). IsAtWork w t.start t.status t.contents t.commits y own h) e stand_fits.1.at) (sym (ap has_given_up e) ∙ stand_fits.2))
+      knows g e = subst (λ u. KnowsCommits (plan_of parts) u t.commits h) k.start (by g (subst (λ (y : Work P Q K). IsAtWork w t.options.retry_options t.start t.status t.contents t.commits y own h) e stand_fits.1.at) (sym (ap has_given_up e) ∙ stand_fits.2))
         where
-          by : (g : Work P Q K) → IsAtWork w t.start t.status t.contents t.commits g own h → has_given_up g ≡ false → KnowsCommits (plan_of parts) (version_of t.start) t.commits h
+          by : (g : Work P Q K) → IsAtWork w t.options.retry_options t.start t.status t.contents t.commits g own h → has_given_up g ≡ false → KnowsCommits (plan_of parts) (version_of t.start) t.commits h
           by works.Idle at lives = (at.of_parts parts is).knows
           by (works.Open call) at lives = subst (λ (p : CommitParts). KnowsCommits (plan_of p) (version_of t.start) t.commits h) (some_same (sym at.whole ∙ is)) (subst (λ u. KnowsCommits (plan_of call.parts) (version_of u) t.commits h) at.own at.fits.knows)
           by works.GaveUp at lives = absurd (cc)

@@ -1,5 +1,5 @@
 -- Why calls fail: by what had come to them, of which the report tells.
-use Rattle.std.specs.Prelude.{◌≡◌, ◌⊎◌, ℕ, false, List}
+use Rattle.std.specs.Prelude.{if◌then◌else◌, ◌≡◌, ◌⊎◌, ℕ, false, List}
 use Rattle.std.proofs.Common.{suc}
 use Rattle.txn_kv.specs.ErrorView.{view_of}
 use Rattle.txn_kv.specs.ErrorView.ErrorView.{undetermined}
@@ -14,24 +14,35 @@ use Rattle.txn_history.specs.Event.Event.{Sent, Took, Lost}
 use Rattle.txn_history.specs.Plan.{Plan}
 use Rattle.txn_causes.specs.Causes.{HasCause}
 use Rattle.txn_causes.specs.Heard.{Heard}
+use Rattle.txn_causes.specs.Kinds.{IsOfKind}
 use Rattle.txn_causes.specs.Heard.Heard.{TookReply, WasLost}
+use Rattle.txn_causes.specs.Spent.{IsSpent}
 use Rattle.txn_commit.specs.Following.{CommitsPrimary}
 use Rattle.txn_clients.specs.Want.{wants_memory}
+use Rattle.txn_lines.specs.declared.begin_options.BeginOptions.{BeginOptions}
 use Rattle.txn_lines.specs.declared.line.Line.{Line}
 use Rattle.txn_machine.specs.Causes.{ended_of, lines_before}
 use Rattle.txn_machine.specs.Failing.{AllCausesMeet, trace_of}
 use Rattle.txn_report.specs.declared.report.Report.{Report}
-use Rattle.txn_side.specs.Trace.{IsCalled, IsCommit, IsFrom, IsRefusedIn, Trace}
+use Rattle.txn_side.specs.Trace.{IsBegunAs, IsCalled, IsCommit, IsFrom, IsRefusedIn, Trace}
 
--- What had come to line n: replies to requests of its own, not of its heartbeat, and losses of these. Of the transaction that stands at `at` it counts too
--- that a Commit was lost, of whichever line.
+-- What had come to line n: replies to requests of its own, not of its heartbeat, each of its request's kind, and losses of these. Of the transaction that stands
+-- at `at` it counts too that a Commit was lost, of whichever line.
 abbrev pub HeardBy : Trace → ℕ → ℕ → Heard → Type 0
-HeardBy t at n (TookReply u r o) = IsFrom n u × Has t.events (Took u r o)
+HeardBy t at n (TookReply u r o) = IsFrom n u × Has t.events (Took u r o) × IsOfKind r o
 HeardBy t at n (WasLost u r) = Has t.events (Lost u r) × (IsFrom n u ⊎ (IsCalled t u.line at × IsCommit r))
+
+-- How often requests of a transaction at regions are tried again, by the words of the line that began it.
+abbrev pub attempts_of : BeginOptions → ℕ
+attempts_of options = if options.no_regions then 0 else 10
+
+-- More of them failed than that, for line n: they were lost, or refused for their region.
+abbrev pub IsSpentFor : Trace → ℕ → ℕ → Type 0
+IsSpentFor t at n = (options : BeginOptions) × IsBegunAs t at options × IsSpent (HeardBy t at n) (attempts_of options)
 
 -- The error has its cause in that; or a request for timestamps that carried an ask of the line failed with this very error.
 abbrev pub IsExplained : Trace → ℕ → ℕ → Error → Type 0
-IsExplained t at n e = HasCause (HeardBy t at n) (view_of e) ⊎ IsRefusedIn t n e
+IsExplained t at n e = HasCause (HeardBy t at n) (IsSpentFor t at n) (view_of e) ⊎ IsRefusedIn t n e
 
 -- a line of the transaction that stands there sent a Commit of the primary with this ticket, or one was lost
 abbrev pub HasCommit : Trace → ℕ → Plan → ℕ → Ticket → Type 0
