@@ -11,8 +11,7 @@ use Rattle.txn_commit.specs.Timing.{WasUntimed}
 use Rattle.txn_commit.specs.declared.commit_parts.CommitParts.{CommitParts}
 use Rattle.txn_core.specs.Going.{FailsWith, IsNothing, TransactionGives}
 use Rattle.txn_history.specs.Among.{IsAmong}
-use Rattle.txn_history.specs.Event.{Event, Has}
-use Rattle.txn_history.specs.Event.Event.{Answered}
+use Rattle.txn_history.specs.Event.{Event}
 use Rattle.txn_history.specs.Plan.{Plan}
 use Rattle.txn_kv.specs.ErrorView.{view_of}
 use Rattle.txn_kv.specs.ErrorView.ErrorView.{undetermined as not_known}
@@ -23,13 +22,13 @@ use Rattle.txn_kv.specs.declared.ticket.Ticket.{Ticket}
 use Rattle.txn_kv.specs.declared.timestamp.Timestamp.{Timestamp}
 use Rattle.txn_merge.specs.declared.retry_options.RetryOptions.{RetryOptions}
 use Rattle.txn_multi.specs.Task.{attempts_left}
-use Rattle.txn_commit_plans.specs.CausesOfLookUps.{query_failed}
+use Rattle.txn_commit_plans.specs.CausesOfLookUps.{query_failed, HasNoTimestamp}
 use Rattle.txn_commit_plans.specs.Failing.{IsSpentBy}
 
 -- An error has its cause in what was heard, where requests at regions are tried again so often; or it is that with which the oracle
--- refused an ask for a timestamp.
+-- refused the tenth ask for a timestamp.
 abbrev pub IsExplained : ℕ → List Event → Error → Type 0
-IsExplained attempts h e = HasCause (heard_in h) (IsSpent (heard_in h) attempts) (view_of e) ⊎ ((ask : Ticket) × Has h (Answered ask (Err e)))
+IsExplained attempts h e = HasCause (heard_in h) (IsSpent (heard_in h) attempts) (view_of e) ⊎ HasNoTimestamp h e
 
 -- What a commit or a rollback answers that failed: such an error. Where this Commit of the primary was lost or is not refused it is
 -- not known whether the transaction is committed, and the answer says so and holds such an error.
@@ -44,7 +43,7 @@ IsRefusalExplained plan s c t h = PrimaryLost plan s h t ⊎ ((c.lost ≡ None) 
 -- lemmas
 
 -- what a call for a timestamp answers that failed
-pub untimed_caused : (h : List Event) (e : Error) → WasUntimed h e → HasCause (heard_in h) ⊥ (view_of e) ⊎ ((ask : Ticket) × Has h (Answered ask (Err e)))
+pub untimed_caused : (h : List Event) (e : Error) → WasUntimed h e → HasCause (heard_in h) ⊥ (view_of e) ⊎ HasNoTimestamp h e
 untimed_caused h e w = elim (query_failed h Time w.0 e w.1) [ inl k ↦ inl k | inr k ↦ inr k.1 ]
 
 pub untimed_explained : (attempts : ℕ) (h : List Event) (e : Error) → WasUntimed h e → IsExplained attempts h e

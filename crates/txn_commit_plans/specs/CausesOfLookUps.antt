@@ -143,6 +143,10 @@ unlike_reply q r x (inr u) k = let o = subst (λ y. IsOfKind y x) u.0 k in u.1 o
 
 -- Why a query has failed
 
+-- Ten asks of one line for a timestamp were refused, each under a number of its own, the last with this error.
+abbrev pub HasNoTimestamp : List Event → Error → Type 0
+HasNoTimestamp h why = (o : Posted) × (k : ℕ) × Has h (Answered (ticket_of o k) (Err why)) × Calling.HaveFailed query.Time o 9 k h
+
 -- the request of a query is tried ten times
 query_retries : (q : PdQuery) (r : Request) → request_of q ≡ Some r → retries r ≡ Some 9
 query_retries (query.Region key) r e = ap retries (sym (the (request.GetRegion (record { region_key = key })) r e))
@@ -200,13 +204,13 @@ module _ (h : List Event) (q : PdQuery) where
   try_failed o k why (inr (inl f)) often = inl (subst (λ x. HasCause (heard_in h) ⊥ (view_of x)) (sym f.5) (nothing_found f.0 f.1 o k f.2 f.3 f.4 often))
   try_failed o k why (inr (inr f)) often = inr f
 
-  -- its error has a cause, or is that with which an ask for a timestamp was refused
-  pub query_failed : (o : Posted) (why : Error) → IsRefused q o h why → HasCause (heard_in h) ⊥ (view_of why) ⊎ ((q ≡ query.Time) × ((ask : Ticket) × Has h (Answered ask (Err why))))
+  -- its error has a cause, or is that with which the tenth ask for a timestamp was refused
+  pub query_failed : (o : Posted) (why : Error) → IsRefused q o h why → HasCause (heard_in h) ⊥ (view_of why) ⊎ ((q ≡ query.Time) × HasNoTimestamp h why)
   query_failed o why (inl f) = asked (try_failed o f.0 why f.1 f.2)
     where
-      asked : HasCause (heard_in h) ⊥ (view_of why) ⊎ ((q ≡ query.Time) × Has h (Answered (ticket_of o f.0) (Err why))) → HasCause (heard_in h) ⊥ (view_of why) ⊎ ((q ≡ query.Time) × ((ask : Ticket) × Has h (Answered ask (Err why))))
+      asked : HasCause (heard_in h) ⊥ (view_of why) ⊎ ((q ≡ query.Time) × Has h (Answered (ticket_of o f.0) (Err why))) → HasCause (heard_in h) ⊥ (view_of why) ⊎ ((q ≡ query.Time) × HasNoTimestamp h why)
       asked (inl k) = inl k
-      asked (inr k) = inr (k.0, (ticket_of o f.0, k.1))
+      asked (inr k) = inr (k.0, (o, f.0, k.1, subst (λ p. Calling.HaveFailed p o 9 f.0 h) k.0 f.2))
   query_failed o why (inr (inl f)) = inl (subst (λ x. HasCause (heard_in h) ⊥ (view_of x)) (sym f.2) (of_loss (heard_in h) ⊥ (ticket_of o f.0) (members, f.1, members_lost o 4 f.0 f.3)))
   query_failed o why (inr (inr f)) = inl (subst (λ x. HasCause (heard_in h) ⊥ (view_of x)) (sym f.5) (of_internal (heard_in h) ⊥ WrongReply (ticket_of o f.0, f.1, f.2, f.3, unlike_reply q f.1 f.2 f.4)))
 
@@ -218,7 +222,7 @@ never_timed q place e = subst IsPlaceQuery e place
 look_up_failed : (h : List Event) (why : Error) → IsLookUpRefused h why → HasCause (heard_in h) ⊥ (view_of why)
 look_up_failed h why r = answered r.answer r.given.1 r.refused
   where
-    failed : (e : Error) → view_of why ≡ view_of e → HasCause (heard_in h) ⊥ (view_of e) ⊎ ((r.call.query ≡ query.Time) × ((ask : Ticket) × Has h (Answered ask (Err e)))) → HasCause (heard_in h) ⊥ (view_of why)
+    failed : (e : Error) → view_of why ≡ view_of e → HasCause (heard_in h) ⊥ (view_of e) ⊎ ((r.call.query ≡ query.Time) × HasNoTimestamp h e) → HasCause (heard_in h) ⊥ (view_of why)
     failed e same (inl k) = subst (HasCause (heard_in h) ⊥) (sym same) k
     failed e same (inr k) = absurd (never_timed r.call.query r.place k.0)
 

@@ -100,7 +100,7 @@ pub fn plans_fail_for_causes()
 {}
 
 /// Where a commit or a rollback fails that goes by such plans, its error has its cause in what was heard; or there was no timestamp,
-/// and it is the error with which the oracle refused an ask. Where a Commit of the primary was lost or is out, the answer says
+/// and it is the error with which the oracle refused the tenth ask. Where a Commit of the primary was lost or is out, the answer says
 /// that the end is not known, and holds such an error. A rollback that is refused for that names such a Commit.
 pub fn failed_calls_have_causes<P, Q, K>()
 where
