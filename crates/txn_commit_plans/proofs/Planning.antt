@@ -1,15 +1,13 @@
 -- The plans of a Prewrite, a Commit and a BatchRollback are plans of them.
-use Rattle.std.proofs.Common.{◌≡◌, inl, inr, ℕ, ◌*◌, ◌≤◌, true, false, List, [], ◌∷◌, Option, None, length, map, refl, sym, ap, subst, ◌∙◌, arith}
+use Rattle.std.proofs.Common.{◌≡◌, inl, inr, ℕ, ◌*◌, ◌≤◌, false, List, [], ◌∷◌, Option, length, map, refl, sym, ap, subst, ◌∙◌, arith}
 use Rattle.std.proofs.Math.Nat.{min-le_right}
 use Rattle.std.specs.Global.{Vec}
 use Rattle.std.specs.List.{filter_map}
 use Rattle.std.specs.Prelude.{◌⊎◌, ⊤, max, Result, Ok, Err}
-use Rattle.txn_history.specs.Among.{IsAmong}
 use Rattle.txn_history.specs.Around.{around-unbegun}
 use Rattle.txn_history.specs.Event.{Event}
 use Rattle.txn_history.specs.Meaning.{IsUnbegun}
-use Rattle.txn_history.specs.Plan.{Key, has_key}
-use Rattle.txn_kv.specs.ErrorView.{ErrorView, key, region}
+use Rattle.txn_kv.specs.ErrorView.{ErrorView, key}
 use Rattle.txn_kv.specs.declared.errors.Error.{Error}
 use Rattle.txn_kv.specs.declared.message.Context.{Context}
 use Rattle.txn_kv.specs.declared.message.RegionErr.{RegionErr}
