@@ -1,12 +1,13 @@
 -- What has happened in a run so far, what the calls of clients have heard of it, and what a call that fails rests on.
-use Rattle.std.specs.Prelude.{◌≡◌, ◌⊎◌, ◌<◌, ⊤, ℕ, Bool, true, false, List, [], length, Option, Some, None, Result, Ok, Err}
-use Rattle.std.proofs.Common.{inl, inr, subst}
+use Rattle.std.specs.Prelude.{◌≡◌, ◌⊎◌, ◌∷◌, ◌+◌, ◌<◌, ◌≤◌, ⊤, ℕ, Bool, true, false, if◌then◌else◌, List, [], length, nat_eq, Option, Some, None, Result, Ok, Err}
+use Rattle.std.proofs.Common.{inl, inr, suc, subst}
 use Rattle.std.specs.List.{All, Any}
 use Rattle.txn_kv.specs.declared.errors.Error.{Error}
 use Rattle.txn_kv.specs.declared.errors.Error.TheVariants.{InternalError}
 use Rattle.txn_kv.specs.declared.errors.Internal.TheVariants.{OracleLost, WrongReply}
 use Rattle.txn_kv.specs.declared.reply.Reply.{Reply}
 use Rattle.txn_kv.specs.declared.reply.Reply.TheVariants as replies
+use Rattle.txn_kv.specs.declared.reply.TsoResponse.{TsoResponse}
 use Rattle.txn_kv.specs.declared.request.Request.{Request}
 use Rattle.txn_kv.specs.declared.request.Request.TheVariants.{BatchRollback, Commit, Prewrite, Tso}
 use Rattle.txn_kv.specs.declared.request.TsoRequest.{TsoRequest}
@@ -47,8 +48,8 @@ pub record Begin : Type 0 where
   pub options : BeginOptions
 
 -- The events that a run shows; whom what comes for a line is told; which lines begin a transaction, be it that they fail, and with
--- which options; which lines roll one back; the requests for timestamps and whose asks they carry; what was posted since; and what
--- was refused.
+-- which options; which lines roll one back; the requests for timestamps and whose asks they carry; what was posted since; what
+-- was refused; and the lines that are still to be told that an ask was, once for each such ask.
 pub record Trace : Type 0 where
   pub events : List Event
   pub calls : List Call
@@ -57,6 +58,7 @@ pub record Trace : Type 0 where
   pub groups : List Group
   pub posted : List Posting
   pub refused : List Refusal
+  pub owed : List ℕ
 
 abbrev pub with_posted : List Posting → Trace → Trace
 with_posted posted t = record t { posted = posted }
@@ -104,6 +106,62 @@ pub record IsRefusedIn (t : Trace) (line : ℕ) (e : Error) : Type 0 where
   pub asker : IsAmong group.askers line
   pub request : TsoRequest
   pub failed : HasFailed t.events group.ticket request (length group.askers) e
+
+-- How often an ask of a line was refused.
+
+-- with the line before these where its ask is refused
+abbrev pub and_refused : Result Timestamp Error → ℕ → List ℕ → List ℕ
+and_refused (Ok x) line lines = lines
+and_refused (Err e) line lines = line ∷ lines
+
+-- the lines of these asks, of so many, to which a reply gives no timestamp, once for each ask
+abbrev pub given_none : TsoResponse → ℕ → List ℕ → List ℕ
+given_none o asked [] = []
+given_none o asked (line ∷ behind) = and_refused (answer o asked (length behind)) line (given_none o asked behind)
+
+-- those whose asks a reply refuses, of all that its request carried
+abbrev pub refused_by : Reply → List ℕ → List ℕ
+refused_by (replies.Tso o) askers = given_none o (length askers) askers
+refused_by o askers = askers
+
+-- the lines whose asks are refused as this comes for the request that carried them
+abbrev pub refused_as : Event → List ℕ → List ℕ
+refused_as (Lost u (Tso r)) askers = askers
+refused_as (Took u (Tso r) o) askers = refused_by o askers
+refused_as event askers = []
+
+-- how often the line is among these
+abbrev pub times_in : List ℕ → ℕ → ℕ
+times_in [] line = 0
+times_in (n ∷ lines) line = if nat_eq n line then suc (times_in lines line) else times_in lines line
+
+-- this came for the ticket
+abbrev pub ComesFor : Ticket → Event → Type 0
+ComesFor u (Took t r o) = t ≡ u
+ComesFor u (Lost t r) = t ≡ u
+ComesFor u event = ⊥
+
+-- So many asks of the line were refused as these events came: each is of a request that is among these, and each event is counted for
+-- one request.
+abbrev pub AreRefused : List Group → ℕ → List Event → ℕ → Type 0
+AreRefused groups line [] k = k ≡ 0
+AreRefused groups line (event ∷ events) k =
+    AreRefused groups line events k
+    ⊎ ((g : Group) × IsAmong groups g × ComesFor g.ticket event × ((j : ℕ) × (k ≡ times_in (refused_as event g.askers) line + j) × AreRefused groups line events j))
+
+-- at least so many were
+abbrev pub HasRefused : Trace → ℕ → ℕ → Type 0
+HasRefused t line n = (k : ℕ) × (n ≤ k) × AreRefused t.groups line t.events k
+
+-- at least so many were, besides those of which the line is still to be told
+abbrev pub HasRefusedBeside : Trace → ℕ → ℕ → Type 0
+HasRefusedBeside t line n = HasRefused t line (n + times_in t.owed line)
+
+-- how many refused asks a history has
+abbrev pub refused_asks : List Event → ℕ
+refused_asks [] = 0
+refused_asks (Answered ask (Err e) ∷ h) = suc (refused_asks h)
+refused_asks (e ∷ h) = refused_asks h
 
 -- What a call has heard
 
@@ -155,11 +213,20 @@ IsOwn line e = ⊤
 abbrev pub AreOwn : ℕ → List Event → Type 0
 AreOwn line h = (e : Event) → Has h e → IsOwn line e
 
--- What comes for a ticket has happened, whatever its request was. Where it is a request for timestamps that is out, the trace has it
--- with those whose asks it carries.
-pub record HasCome (t : Trace) (s : Sight) (u : Ticket) (event : Request → Event) : Type 0 where
+-- What comes for a request for timestamps has happened, and the trace has the request with those whose asks it carries. By as many as
+-- are refused so, more asks of a line are refused than before.
+pub record GroupCame (before t : Trace) (g : Group) (event : Request → Event) : Type 0 where
+  pub among : IsAmong t.groups g
+  pub request : TsoRequest
+  pub come : Has t.events (event (Tso request))
+  pub more : (line n : ℕ) → HasRefused before line n → HasRefused t line (times_in (refused_as (event (Tso request)) g.askers) line + n)
+
+-- What comes for a ticket has happened, whatever its request was, and so where that is a request for timestamps that is out. Nobody
+-- is told of it yet, or of anything before it still to be told.
+pub record HasCome (before t : Trace) (s : Sight) (u : Ticket) (event : Request → Event) : Type 0 where
+  pub told : t.owed ≡ []
   pub own : (r : Request) → IsSentIn t u r → Has t.events (event r)
-  pub group : (g : Group) → IsOut s g → g.ticket ≡ u → IsAmong t.groups g × ((r : TsoRequest) × Has t.events (event (Tso r)))
+  pub group : (g : Group) → IsOut s g → g.ticket ≡ u → GroupCame before t g event
 
 -- all that was so still is
 pub record IsLonger (t longer : Trace) : Type 0 where
@@ -169,6 +236,9 @@ pub record IsLonger (t longer : Trace) : Type 0 where
   pub rollbacks : (n : ℕ) → IsAmong t.rollbacks n → IsAmong longer.rollbacks n
   pub groups : (g : Group) → IsAmong t.groups g → IsAmong longer.groups g
   pub sent : (u : Ticket) (r : Request) → IsSentIn t u r → IsSentIn longer u r
+  pub refused : (line n : ℕ) → HasRefused t line n → HasRefused longer line n
+  -- besides those of which lines are still to be told, too
+  pub beside : (line n : ℕ) → HasRefusedBeside t line n → HasRefusedBeside longer line n
 
 -- How a call fails
 
@@ -178,13 +248,15 @@ abbrev pub HowCallsFail : Type 1
 HowCallsFail = Bool → (BeginOptions → Type 0) → List Event → Error → Type 0
 
 -- The call of the line failed with this error after what it had heard, which has happened, and has come for this line: as any call
--- may, or as a rollback alone, where what stands at `at` was to begin with such options.
+-- may, or as a rollback alone, where what stands at `at` was to begin with such options. Of the asks of the line that were refused it
+-- has heard each once at most.
 pub record FailsIn (fails : HowCallsFail) (t : Trace) (line : ℕ) (e : Error) : Type 0 where
   pub at : ℕ
   pub called : IsCalled t line at
   pub history : List Event
   pub shown : AreShown t at history
   pub own : AreOwn line history
+  pub counted : HasRefused t line (refused_asks history)
   pub fails_so : fails false (IsBegunAs t at) history e ⊎ (IsAmong t.rollbacks line × fails true (IsBegunAs t at) history e)
 
 -- or it was refused
@@ -196,8 +268,11 @@ ended_in None = []
 ended_in (Some turn) = turn.ended.items
 
 -- What a step makes of it, where nothing was posted before: the calls rest on what happened and what is posted, and each that fails has its reason there.
+abbrev pub ComesToRest : HowCallsFail → (Trace → Type 0) → Trace → List Posting → List Ending → Type 0
+ComesToRest fails is t posted ended = is (with_posted posted t) × All (EndsFor fails (with_posted posted t)) ended
+
 abbrev pub RestsOn : HowCallsFail → (Trace → Type 0) → (Trace → Type 0) → Trace → List Posting → List Ending → Type 0
-RestsOn fails was is t posted ended = was t → is (with_posted posted t) × All (EndsFor fails (with_posted posted t)) ended
+RestsOn fails was is t posted ended = was t → ComesToRest fails is t posted ended
 
 -- the newest line calls for a timestamp, at which a transaction with these options begins, or none
 abbrev pub AsksOn : HowCallsFail → (Trace → Type 0) → (Trace → Type 0) → Option BeginOptions → ℕ → Option Turn → Type 0
@@ -208,9 +283,10 @@ abbrev pub ActsOn : HowCallsFail → (Trace → Type 0) → (Trace → Type 0) �
 ActsOn fails was is act x newest account turn =
     (t : Trace) → t.posted ≡ [] → IsCalled t newest x → ((e : Error) → refusal act account ≡ Some e → IsAmong t.refused (record { line = newest; error = e })) → RollsBack t.rollbacks newest act → RestsOn fails was is t (posted_in turn) (ended_in turn)
 
--- clients hear of what came for a ticket
+-- clients hear of what came for a ticket, before which they rested on what had happened by then
 abbrev pub HearsOn : HowCallsFail → (Trace → Type 0) → (Trace → Type 0) → Sight → Ticket → (Request → Event) → Turn → Type 0
-HearsOn fails was is s u event turn = (t : Trace) → t.posted ≡ [] → HasCome t s u event → RestsOn fails was is t turn.posted.items turn.ended.items
+HearsOn fails was is s u event turn =
+    (before t : Trace) → IsLonger before t → t.posted ≡ [] → HasCome before t s u event → was before → ComesToRest fails is t turn.posted.items turn.ended.items
 
 -- or that a sleep has ended
 abbrev pub WakesOn : HowCallsFail → (Trace → Type 0) → (Trace → Type 0) → Turn → Type 0
@@ -252,6 +328,7 @@ module _ (t longer : Trace) (l : IsLonger t longer) where
     history = f.history;
     shown = λ x h. shown_longer f.at x (f.shown x h);
     own = f.own;
+    counted = l.refused line (refused_asks f.history) f.counted;
     fails_so = elim f.fails_so [ inl k ↦ inl (as_long false k) | inr k ↦ inr (l.rollbacks line k.0, as_long true k.1) ];
   }
     where

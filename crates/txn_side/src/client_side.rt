@@ -56,8 +56,8 @@ pub trait ClientSide: Sized + Drop {
     // It has, whatever happens later.
     ghost rests_longer: { (s : Self) (t longer : Trace) → IsLonger t longer → rests s t → rests s longer };
 
-    // Calls of no line have heard nothing.
-    ghost nobody_rests: { (s : Self) → sight s ≡ nobody → (t : Trace) → rests s t };
+    // Calls of no line have heard nothing, where nobody is still to be told something.
+    ghost nobody_rests: { (s : Self) → sight s ≡ nobody → (t : Trace) → t.owed ≡ [] → rests s t };
 
     // They can have arisen from this history of a run, in which each request that they posted is licensed.
     ghost arises: { Self → List Event → Type 0 };
