@@ -1,5 +1,5 @@
 -- Each line keeps what is said of the calls that fail: what they heard has happened.
-use Rattle.std.proofs.Common.{◌≡◌, ℕ, suc, ◌≤◌, ◌⊎◌, inl, inr, Bool, true, false, if◌then◌else◌, List, [], ◌∷◌, ◌++◌, Option, Some, None, length, nat_eq, nat_lt, refl, sym, ap, ◌∙◌, subst, arith}
+use Rattle.std.proofs.Common.{◌≡◌, ℕ, suc, ◌+◌, ◌≤◌, ◌⊎◌, inl, inr, Bool, true, false, if◌then◌else◌, List, [], ◌∷◌, ◌++◌, Option, Some, None, length, nat_eq, nat_lt, refl, sym, ap, ◌∙◌, subst, arith}
 use Rattle.std.proofs.lemmas.Bool.Decides.{nat_tests}
 use Rattle.txn_kv.specs.declared.errors.Error.{Error}
 use Rattle.txn_kv.specs.declared.request.Request.{Request}
@@ -42,6 +42,7 @@ use Rattle.txn_machine.proofs.Hearing.{can_hear, sent_noted}
 use Rattle.txn_machine.proofs.Keepings.{caused_step}
 use Rattle.txn_machine.proofs.Numberings.{line_new}
 use Rattle.txn_machine.proofs.Orders.{opened_count}
+use Rattle.txn_machine.proofs.Refusing.{AtLeastRefused, refused_done, refused_more, refused_sends}
 use Rattle.txn_machine.proofs.Standings.{caused_past}
 use Rattle.txn_machine.proofs.Timing.{happened_still, noted_still}
 use Rattle.txn_machine.specs.Longer.{done_more, sends_more}
@@ -125,7 +126,7 @@ module _ (line : Line) (ls : List Line) (old : Lists) (told : newest old ≡ len
   n = suc (length ls)
 
   abbrev now : Trace
-  now = record { events = happened; calls = calls_of (line ∷ ls); begun = begun_of (line ∷ ls); rollbacks = rollbacks_of (line ∷ ls); groups = groups_of old.mail.sent; posted = []; refused = refused_of (ask_of line) accounts n }
+  now = record { events = happened; calls = calls_of (line ∷ ls); begun = begun_of (line ∷ ls); rollbacks = rollbacks_of (line ∷ ls); groups = groups_of old.mail.sent; posted = []; refused = refused_of (ask_of line) accounts n; owed = [] }
 
   count : newest (opened old) ≡ n
   count = let a = opened_count old in let b = told in omega arith
@@ -153,16 +154,6 @@ module _ (line : Line) (ls : List Line) (old : Lists) (told : newest old ≡ len
       by None = tt
       by (Some ask) = (λ e is. is_refused (refusal ask.act (accounts ask.transaction)) n e is, rolls_back ask.act n (rollbacks_of ls))
 
-  can_rest : CanRest line (opened old) accounts now
-  can_rest = record {
-    posted = refl;
-    call = call_now;
-    begins = begins_now;
-    ask = ask_now;
-    hear = can_hear old es ordered.sound.mail was.fates.fates folded.folds.store looks (looked line ls old told ordered good was folded new c stepped) timely.groups (λ u r h. sent_noted u r old.mail.sent old.outcomes ls h)
-        (calls_of (line ∷ ls)) (begun_of (line ∷ ls)) (rollbacks_of (line ∷ ls)) (refused_of (ask_of line) accounts n) (own_done c.own) line (λ role. ap own_done (c.sure role) ∙ done_is (does_it line (opened old)));
-  }
-
   was_longer : IsLonger (trace_of old.mail.sent old.outcomes ls) now
   was_longer = record {
     events = λ e h. done_more (own_done c.own) looks line es e h;
@@ -171,10 +162,34 @@ module _ (line : Line) (ls : List Line) (old : Lists) (told : newest old ≡ len
     rollbacks = λ x h. among_ahead (rolled_by n (ask_of line)) (rollbacks_of ls) x h;
     groups = λ g h. h;
     sent = λ u r h. elim h [ inl s ↦ inl (done_more (own_done c.own) looks line es (Sent u r) s) | inr p ↦ absurd (let low = p.2 in omega arith) ];
+    refused = λ k m h. refused_done (groups_of old.mail.sent) k m (own_done c.own) looks line es h;
+    beside = λ k m h. refused_done (groups_of old.mail.sent) k (m + 0) (own_done c.own) looks line es h;
+  }
+
+  can_rest : CanRest line (opened old) accounts (trace_of old.mail.sent old.outcomes ls) now
+  can_rest = record {
+    longer = was_longer;
+    posted = refl;
+    call = call_now;
+    begins = begins_now;
+    ask = ask_now;
+    hear = can_hear old es ordered.sound.mail was.fates.fates folded.folds.store looks (looked line ls old told ordered good was folded new c stepped) timely.groups (λ u r h. sent_noted u r old.mail.sent old.outcomes ls h)
+        (calls_of (line ∷ ls)) (begun_of (line ∷ ls)) (rollbacks_of (line ∷ ls)) (refused_of (ask_of line) accounts n) (trace_of old.mail.sent old.outcomes ls) (λ k m h. h) (own_done c.own) line (λ role. ap own_done (c.sure role) ∙ done_is (does_it line (opened old)));
   }
 
   among : (s : SentNote) → IsAmong old.mail.sent s → IsAmong all.mail.sent s
   among s h = noted_still line ls old told ordered good was folded new c stepped s h
+
+  noted_more : (k m : ℕ) (fs : List Event) → AtLeastRefused (groups_of old.mail.sent) k m fs → AtLeastRefused (groups_of all.mail.sent) k m fs
+  noted_more k m fs h = refused_more (groups_of old.mail.sent) (groups_of all.mail.sent) (λ g. groups_more old.mail.sent all.mail.sent among g) k m fs h
+
+  now_refused : (k m : ℕ) → AtLeastRefused (groups_of old.mail.sent) k m happened → AtLeastRefused (groups_of all.mail.sent) k m (history all.mail.sent all.outcomes (line ∷ ls))
+  now_refused k m h =
+      subst (λ fs. AtLeastRefused (groups_of all.mail.sent) k m fs) (history_now line ls old told ordered good was folded new c stepped)
+      (refused_sends (groups_of all.mail.sent) k m all.mail.sent n happened (noted_more k m happened h))
+
+  still_refused : (zs : List Line) → length zs ≤ length ls → (k m : ℕ) → AtLeastRefused (groups_of old.mail.sent) k m (history old.mail.sent old.outcomes zs) → AtLeastRefused (groups_of all.mail.sent) k m (history all.mail.sent all.outcomes zs)
+  still_refused zs low k m h = subst (λ fs. AtLeastRefused (groups_of all.mail.sent) k m fs) (same_history line ls old told ordered good was folded new c stepped zs low) (noted_more k m (history old.mail.sent old.outcomes zs) h)
 
   has : (e : Event) → Has happened e → Has (history all.mail.sent all.outcomes (line ∷ ls)) e
   has e h = happened_still line ls old told ordered good was folded new c stepped e h
@@ -191,6 +206,8 @@ module _ (line : Line) (ls : List Line) (old : Lists) (told : newest old ≡ len
     rollbacks = λ x h. h;
     groups = λ g h. groups_more old.mail.sent all.mail.sent among g h;
     sent = λ u r h. elim h [ inl s ↦ inl (has (Sent u r) s) | inr p ↦ inl (posted_has u r (sent u r p)) ];
+    refused = λ k m h. now_refused k m h;
+    beside = λ k m h. now_refused k (m + 0) h;
   }
     where
       posted_has : (u : Ticket) (r : Request) → (s : SentNote) × IsAmong all.mail.sent s × (s.ticket ≡ u) × (s.request ≡ r) × (s.at ≡ newest all) → Has (history all.mail.sent all.outcomes (line ∷ ls)) (Sent u r)
@@ -205,6 +222,8 @@ module _ (line : Line) (ls : List Line) (old : Lists) (told : newest old ≡ len
     rollbacks = λ x h. h;
     groups = λ g h. groups_more old.mail.sent all.mail.sent among g h;
     sent = λ u r h. elim h [ inl s ↦ inl (same (Sent u r) s) | inr p ↦ absurd (let low = p.2 in omega arith) ];
+    refused = λ k m h. still_refused zs low k m h;
+    beside = λ k m h. still_refused zs low k (m + 0) h;
   }
     where
       same : (e : Event) → Has (history old.mail.sent old.outcomes zs) e → Has (history all.mail.sent all.outcomes zs) e
@@ -306,7 +325,7 @@ heard_step fails was is line ls old new accounts told ordered good steps folded 
     let c = course old line new steps in
     let s = subst (λ x. Stepped (length ls) line old x) c.is (stepped (length ls) old told ordered.even.stands folded.calm ordered.sound.mail line new steps) in
     let t = now line ls old told ordered good caused folded new c s timely accounts in
-    let r = subst (λ l. Rested fails was is line old accounts l) c.is rested t (can_rest line ls old told ordered good caused folded new c s timely accounts)
+    let r = subst (λ l. Rested fails was is line old accounts l) c.is rested (trace_of old.mail.sent old.outcomes ls) t (can_rest line ls old told ordered good caused folded new c s timely accounts) heard.rest
     (was_more (trace_of old.mail.sent old.outcomes ls) t (was_longer line ls old told ordered good caused folded new c s timely accounts) heard.rest) in
     subst (λ l. HaveHeard is fails (line ∷ ls) l.mail.sent l.outcomes l.ended) (sym c.is) (record {
       rest = is_more (with_posted r.posted t) (trace_of (followed c.posted c.ended c.mid).mail.sent (followed c.posted c.ended c.mid).outcomes (line ∷ ls)) (now_longer line ls old told ordered good caused folded new c s timely accounts r.posted r.sent) r.rest;

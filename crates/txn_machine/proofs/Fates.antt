@@ -13,7 +13,7 @@ use Rattle.txn_law.specs.Run.{store_after}
 use Rattle.txn_model.specs.Table.{table}
 use Rattle.txn_post.proofs.Lists.{get_last, get_old, told_within}
 use Rattle.txn_post.proofs.Naming.{named_next, named_old, named_pushed, opened_leads}
-use Rattle.txn_post.specs.Mail.{IsMail, IsNext, Mail, as_sent, as_slept, changing, delivering, is_lasting, just_sent, keeping, lane, letter_at, losing, naming, place_in, place_of, places_of, refusing, sending, sleeping, taking, ticket_at, waking}
+use Rattle.txn_post.specs.Mail.{IsMail, IsNext, Mail, as_sent, as_slept, changing, delivering, is_lasting, just_sent, keeping, lane, letter_at, losing, naming, place_in, place_of, places_of, refusing, sending, sleeping, taking, waking}
 use Rattle.txn_post.specs.Mail as mails
 use Rattle.txn_post.specs.declared.letter.Letter.{Letter}
 use Rattle.txn_post.specs.declared.post.Place.{Place}

@@ -1,5 +1,5 @@
 -- What the calls of a machine have heard has happened in its lines, and in one more after each step.
-use Rattle.std.proofs.Common.{◌≡◌, ℕ, true, List, [], ◌∷◌, ◌++◌, None, length, reverse, sym, ap, ◌∙◌, subst, append-nil}
+use Rattle.std.proofs.Common.{◌≡◌, ℕ, true, List, [], ◌∷◌, ◌++◌, None, length, reverse, refl, sym, ap, ◌∙◌, subst, append-nil}
 use Rattle.std.proofs.lemmas.List.{reverse-reverse}
 use Rattle.txn_lines.specs.Lines.{why_after}
 use Rattle.txn_lines.specs.declared.line.Line.{Line}
@@ -9,7 +9,7 @@ use Rattle.txn_side.specs.Sight.{Sight}
 use Rattle.txn_side.specs.Trace.{HowCallsFail, IsLonger, Trace}
 use Rattle.txn_side.specs.Waiting.{Awaited}
 use Rattle.txn_machine.specs.Accounts.{TakenIn}
-use Rattle.txn_machine.specs.Failing.{AllCausesMeet, CausesMeetLines, FailsBy, HeardIn, Rested}
+use Rattle.txn_machine.specs.Failing.{AllCausesMeet, CausesMeetLines, FailsBy, HeardIn, Rested, trace_of}
 use Rattle.txn_machine.specs.Lawful.{AllGood}
 use Rattle.txn_machine.specs.Running.{HasMemory, IsReportOf, Standing, StandsFor, lists_of}
 use Rattle.txn_machine.specs.Steps.{Steps}
@@ -17,8 +17,8 @@ use Rattle.txn_machine.specs.declared.machine.Machine.{Machine}
 use Rattle.txn_machine.proofs.Failures.{heard_step}
 use Rattle.txn_machine.proofs.LineByLine.{none_left, turned_over}
 
-pub new_heard : {S : Type 0} (rests : S → Trace → Type 0) (fails : HowCallsFail) (m : Machine S) → ((t : Trace) → rests m.clients t) → HeardIn rests fails m []
-new_heard rests fails m none memory = record { rest = none _; causes = tt }
+pub new_heard : {S : Type 0} (rests : S → Trace → Type 0) (fails : HowCallsFail) (m : Machine S) → ((t : Trace) → t.owed ≡ [] → rests m.clients t) → HeardIn rests fails m []
+new_heard rests fails m none memory = record { rest = none (trace_of m.post.sent m.outcomes.items []) refl; causes = tt }
 
 pub broken_heard : {S : Type 0} (rests : S → Trace → Type 0) (fails : HowCallsFail) (m : Machine S) (lines : List Line) → m.broken ≡ true → HeardIn rests fails m lines
 broken_heard rests fails m lines broken h = absurd (let e = h.whole in cc)

@@ -7,7 +7,7 @@ use Rattle.txn_kv.specs.declared.ticket.Ticket.{Ticket}
 use Rattle.txn_history.specs.Among.{IsAmong}
 use Rattle.txn_history.specs.Busy.{busy_reply}
 use Rattle.txn_history.specs.Event.{Event, Has, kept_reply}
-use Rattle.txn_history.specs.Event.Event.{Lost, Took}
+use Rattle.txn_history.specs.Event.Event.{Lost, Refused, Took}
 use Rattle.txn_history.specs.Event.Event.{Sent as SentEvent}
 use Rattle.txn_law.specs.Run.{store_after}
 use Rattle.txn_lines.specs.declared.line.Line.{Line}
@@ -17,7 +17,7 @@ use Rattle.txn_post.specs.Mail.{IsMail, as_sent, can_be_served, letter_at, place
 use Rattle.txn_report.specs.declared.outcome.Outcome.{Outcome}
 use Rattle.txn_report.specs.declared.report.SentNote.{SentNote}
 use Rattle.txn_side.specs.Sight.{Group, IsOut}
-use Rattle.txn_side.specs.Trace.{Begin, Call, HasCome, Refusal, Trace}
+use Rattle.txn_side.specs.Trace.{Begin, Call, ComesFor, HasCome, HasRefused, Refusal, Trace}
 use Rattle.txn_machine.specs.Causes.{role_of}
 use Rattle.txn_machine.specs.Causes.Role.{NoCall}
 use Rattle.txn_machine.specs.Failing.{CanHear, groups_of}
@@ -29,8 +29,9 @@ use Rattle.txn_machine.proofs.Courses.{out_there}
 use Rattle.txn_machine.proofs.Fates.{Fates}
 use Rattle.txn_machine.proofs.Finds.{looked_up}
 use Rattle.txn_machine.proofs.Folds.{asked}
+use Rattle.txn_machine.proofs.Refusing.{AtLeastRefused, IsNewest, refused_newest, refused_next, refused_served}
 use Rattle.txn_machine.proofs.Timestamps.{WasAsked}
-use Rattle.txn_machine.proofs.Timing.{answer_took, deliver_took, noted_there}
+use Rattle.txn_machine.proofs.Timing.{answer_took, deliver_took, has_newest, noted_there}
 
 -- What was sent is noted.
 
@@ -115,54 +116,84 @@ among_groups (s ∷ ss) g note (inr h) ticket askers = inr (among_groups ss g no
 
 module _ (old : Lists) (es : List Event) (m : IsMail old.mail) (was : Fates es old.mail) (store : old.store ≡ store_after es)
     (looks : Ticket → Option Request) (looked : (t : Ticket) → looks t ≡ looked_up old.mail t) (groups : (g : Group) → IsOut old.sight g → IsGrouped old.mail.sent g)
-    (noted : (u : Ticket) (r : Request) → Has es (SentEvent u r) → WasAsked old.mail.sent u r) (calls : List Call) (begun : List Begin) (rollbacks : List ℕ) (refused : List Refusal) where
+    (noted : (u : Ticket) (r : Request) → Has es (SentEvent u r) → WasAsked old.mail.sent u r) (calls : List Call) (begun : List Begin) (rollbacks : List ℕ) (refused : List Refusal)
+    (before : Trace) (counted : (line n : ℕ) → HasRefused before line n → AtLeastRefused (groups_of old.mail.sent) line n es) where
   -- the trace in which this has happened
   abbrev after : List Event → Trace
-  after fs = record { events = fs; calls = calls; begun = begun; rollbacks = rollbacks; groups = groups_of old.mail.sent; posted = []; refused = refused }
+  after fs = record { events = fs; calls = calls; begun = begun; rollbacks = rollbacks; groups = groups_of old.mail.sent; posted = []; refused = refused; owed = [] }
 
-  come : (u : Ticket) (k : ℕ) (fs : List Event) (event : Request → Event) → as_sent (place_of (opened old).mail.tickets u) ≡ Some k → ((r : Request) → Has fs (SentEvent u r) → Has es (SentEvent u r))
-      → ((r : Request) → looks u ≡ Some r → request_at (opened old) k ≡ r → Has fs (event r)) → HasCome (after fs) (opened old).sight u event
-  come u k fs event named before happen = record {
+  -- the event is the newest of these
+  abbrev Newest : List Event → Event → Type 0
+  Newest fs event = IsNewest (groups_of old.mail.sent) es fs event
+
+  come : (u : Ticket) (k : ℕ) (fs : List Event) (event : Request → Event) → as_sent (place_of (opened old).mail.tickets u) ≡ Some k → ((r : Request) → ComesFor u (event r)) → ((r : Request) → Has fs (SentEvent u r) → Has es (SentEvent u r))
+      → ((r : Request) → looks u ≡ Some r → request_at (opened old) k ≡ r → Newest fs (event r)) → HasCome before (after fs) (opened old).sight u event
+  come u k fs event named comes sent_before happen = record {
+    told = refl;
     own = λ r sent. elim sent [
-      | inl h ↦ (let w = noted u r (before r h) in by w.0 w.1 w.2 r w.3)
+      | inl h ↦ (let w = noted u r (sent_before r h) in has_newest (by w.0 w.1 w.2 r w.3).is)
       | inr p ↦ absurd (let low = p.2 in omega arith)
     ];
-    group = λ g out is. let w = groups g out in (among_groups old.mail.sent g w.note w.noted w.ticket w.askers, (w.request, by w.note w.noted (w.ticket ∙ is) (Tso w.request) w.asks));
+    group = λ g out is.
+        let w = groups g out in
+        let among = among_groups old.mail.sent g w.note w.noted w.ticket w.askers in
+        let newest = by w.note w.noted (w.ticket ∙ is) (Tso w.request) w.asks in
+        record {
+          among = among;
+          request = w.request;
+          come = has_newest newest.is;
+          more = λ line n h. refused_newest (groups_of old.mail.sent) es fs (event (Tso w.request)) g line n among (subst (λ t. ComesFor t (event (Tso w.request))) (sym is) (comes (Tso w.request))) newest (counted line n h);
+        };
   }
     where
       here : as_sent (place_of old.mail.tickets u) ≡ Some k
       here = ap as_sent (sym (opened_leads old.mail.tickets u)) ∙ named
 
-      by : (note : SentNote) → IsAmong old.mail.sent note → note.ticket ≡ u → (r : Request) → note.request ≡ r → Has fs (event r)
+      by : (note : SentNote) → IsAmong old.mail.sent note → note.ticket ≡ u → (r : Request) → note.request ≡ r → Newest fs (event r)
       by note among ticket r request =
           let there = noted_there old.mail note k m among (subst (λ v. as_sent (place_of old.mail.tickets v) ≡ Some k) (sym ticket) here) in
           let asks : request_at (opened old) k ≡ r = ap request_in there ∙ request in
           happen r (looked u ∙ asked old u k m here ∙ ap (λ q. Some q) asks) asks
 
-  refuse_took : (u : Ticket) (o : Reply) (r : Request) → looks u ≡ Some r → busy_reply r ≡ Some o → Has (refuses u (looks u) es) (Took u r o)
-  refuse_took u o r is busy = subst (λ q. Has (refuses u q es) (Took u r o)) (sym is) (subst (λ q. Has (refuses_it u r q es) (Took u r o)) (sym busy) (inl refl))
+  answer_newest : (u : Ticket) (o : Reply) (k : ℕ) → as_sent (place_of (opened old).mail.tickets u) ≡ Some k → (letter_at (opened old).mail k).awaited ≡ true → (letter_at (opened old).mail k).kept ≡ Some o
+      → (r : Request) → looks u ≡ Some r → Newest (takes u (looks u) es) (Took u r o)
+  answer_newest u o k named waits kept r is = record { mid = es; is = answer_took old es m was store looks looked groups u o k named waits kept r is; keeps = λ line n h. h }
 
-  lose_lost : (u : Ticket) (r : Request) → looks u ≡ Some r → Has (loses u (looks u) es) (Lost u r)
-  lose_lost u r is = subst (λ q. Has (loses u q es) (Lost u r)) (sym is) (inl refl)
+  deliver_newest : (u : Ticket) (k : ℕ) (r : Request) → looks u ≡ Some r → request_at (opened old) k ≡ r → Newest (takes u (looks u) (serves u (looks u) es)) (Took u r (reply_at (opened old) k))
+  deliver_newest u k r is asks = record {
+    mid = serves u (looks u) es;
+    is = deliver_took old es m was store looks looked groups u (reply_at (opened old) k) k refl r is asks;
+    keeps = λ line n h. refused_served (groups_of old.mail.sent) line n u (looks u) es h;
+  }
+
+  refuse_newest : (u : Ticket) (o : Reply) (r : Request) → looks u ≡ Some r → busy_reply r ≡ Some o → Newest (refuses u (looks u) es) (Took u r o)
+  refuse_newest u o r is busy = record {
+    mid = Refused u r o ∷ es;
+    is = ap (λ q. refuses u q es) is ∙ ap (λ q. refuses_it u r q es) busy;
+    keeps = λ line n h. refused_next (groups_of old.mail.sent) line n (Refused u r o) es h;
+  }
+
+  lose_newest : (u : Ticket) (r : Request) → looks u ≡ Some r → Newest (loses u (looks u) es) (Lost u r)
+  lose_newest u r is = record { mid = es; is = ap (λ q. loses u q es) is; keeps = λ line n h. h }
 
   -- an event that can be done is
   is_undone : (b : Bool) → false ≡ b → b ≡ true → ⊥
   is_undone b e f = absurd (cc)
 
-  pub can_hear : (d : Bool) (line : Line) → (role_of line ≡ NoCall → d ≡ does_it line (opened old)) → CanHear line (opened old) (after (if d then does looks line es else es))
+  pub can_hear : (d : Bool) (line : Line) → (role_of line ≡ NoCall → d ≡ does_it line (opened old)) → CanHear line (opened old) before (after (if d then does looks line es else es))
   can_hear true (lines.Answer u) sure = λ k o found kept.
       let there = out_there old u k found in
-      come u k (takes u (looks u) es) (λ r. Took u r o) there.0 (λ r h. takes_sent u r u (looks u) es h) (λ r is asks. answer_took old es m was store looks looked groups u o k there.0 there.1 kept r is)
+      come u k (takes u (looks u) es) (λ r. Took u r o) there.0 (λ r. refl) (λ r h. takes_sent u r u (looks u) es h) (λ r is asks. answer_newest u o k there.0 there.1 kept r is)
   can_hear true (lines.Deliver u) sure = λ k found can.
       let there = out_there old u k found in
-      come u k (takes u (looks u) (serves u (looks u) es)) (λ r. Took u r (reply_at (opened old) k)) there.0 (λ r h. serves_sent u r u (looks u) es (takes_sent u r u (looks u) (serves u (looks u) es) h))
-      (λ r is asks. deliver_took old es m was store looks looked groups u (reply_at (opened old) k) k refl r is asks)
+      come u k (takes u (looks u) (serves u (looks u) es)) (λ r. Took u r (reply_at (opened old) k)) there.0 (λ r. refl) (λ r h. serves_sent u r u (looks u) es (takes_sent u r u (looks u) (serves u (looks u) es) h))
+      (λ r is asks. deliver_newest u k r is asks)
   can_hear true (lines.Busy u) sure = λ k o found can busy.
       let there = out_there old u k found in
-      come u k (refuses u (looks u) es) (λ r. Took u r o) there.0 (λ r h. refuses_sent u r u (looks u) es h) (λ r is asks. refuse_took u o r is (ap busy_reply (sym asks) ∙ busy))
+      come u k (refuses u (looks u) es) (λ r. Took u r o) there.0 (λ r. refl) (λ r h. refuses_sent u r u (looks u) es h) (λ r is asks. refuse_newest u o r is (ap busy_reply (sym asks) ∙ busy))
   can_hear true (lines.Lose u) sure = λ k found.
       let there = out_there old u k found in
-      come u k (loses u (looks u) es) (λ r. Lost u r) there.0 (λ r h. loses_sent u r u (looks u) es h) (λ r is asks. lose_lost u r is)
+      come u k (loses u (looks u) es) (λ r. Lost u r) there.0 (λ r. refl) (λ r h. loses_sent u r u (looks u) es h) (λ r is asks. lose_newest u r is)
   can_hear false (lines.Answer u) sure = λ k o found kept.
       absurd (is_undone (does_it (lines.Answer u) (opened old)) (sure refl) (ap (λ z. test_at (λ j. is_some (letter_at (opened old).mail j).kept) z) found ∙ ap is_some kept))
   can_hear false (lines.Deliver u) sure = λ k found can.

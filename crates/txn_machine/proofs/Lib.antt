@@ -29,6 +29,7 @@ mod Accounting
 mod Noting
 mod LineByLine
 mod Takings
+mod Refusing
 mod Hearing
 mod Resting
 mod Arising

@@ -4,7 +4,7 @@ use Rattle.txn_kv.specs.declared.request.Request.TheVariants.{Tso}
 use Rattle.txn_kv.specs.declared.ticket.Ticket.{Ticket}
 use Rattle.txn_post.proofs.Lists.{told_within}
 use Rattle.txn_post.proofs.Naming.{named_next, named_old, opened_leads}
-use Rattle.txn_post.specs.Mail.{IsMail, IsNext, Mail, changing, is_lasting, just_sent, letter_at, place_of, ticket_at, waking}
+use Rattle.txn_post.specs.Mail.{IsMail, IsNext, Mail, changing, just_sent, letter_at, place_of, ticket_at, waking}
 use Rattle.txn_post.specs.Mail as mails
 use Rattle.txn_post.specs.declared.letter.Letter.{Letter}
 use Rattle.txn_post.specs.declared.post.Place.TheVariants.{Sent, Slept}

@@ -36,15 +36,15 @@ use Rattle.txn_machine.proofs.Timing.{among_last, posted_among, told_either}
 
 module _ (fails : HowCallsFail) (was is : Trace → Type 0) (l : Lists) (accounts : ℕ → Account) where
   -- a line asks something of a transaction
-  pub ask_on : (ask : Ask) (line same : Line) (r : Result Course NoMemory) → line ≡ same → ((t : Trace) → CanRest same l accounts t → IsCalled t (newest l) ask.transaction × CanAsk (Some ask) accounts (newest l) t)
+  pub ask_on : (ask : Ask) (line same : Line) (r : Result Course NoMemory) → line ≡ same → ((before t : Trace) → CanRest same l accounts before t → IsCalled t (newest l) ask.transaction × CanAsk (Some ask) accounts (newest l) t)
       → IfOk r (λ done. RunsAsk fails was is ask (newest l) accounts done) → IfOk r (λ done. RunsOn fails was is line l accounts done)
-  ask_on ask line same (Ok done) e can h = subst (λ x. RunsOn fails was is x l accounts done) (sym e) (λ t rest. let c = can t rest in h t rest.posted c.0 c.1)
+  ask_on ask line same (Ok done) e can h = subst (λ x. RunsOn fails was is x l accounts done) (sym e) (λ before t rest w. let c = can before t rest in h t rest.posted c.0 c.1)
   ask_on ask line same (Err e) f can h = tt
 
   -- the clients hear of what came for a ticket
-  pub heard_on : (line : Line) (u : Ticket) (event : Request → Event) (r : Result Course NoMemory) → ((t : Trace) → CanRest line l accounts t → HasCome t l.sight u event)
+  pub heard_on : (line : Line) (u : Ticket) (event : Request → Event) (r : Result Course NoMemory) → ((before t : Trace) → CanRest line l accounts before t → HasCome before t l.sight u event)
       → IfOk r (λ done. HearsOn fails was is l.sight u event done.turn) → IfOk r (λ done. RunsOn fails was is line l accounts done)
-  heard_on line u event (Ok done) come h = λ t rest. h t rest.posted (come t rest)
+  heard_on line u event (Ok done) come h = λ before t rest w now. h before t rest.longer rest.posted (come before t rest) w
   heard_on line u event (Err e) come h = tt
 
 -- the reply that the clients hear is the one that the store gave
@@ -110,8 +110,8 @@ module _ (fails : HowCallsFail) (older l : Lists) (done : Course) (can : CanTell
   ]
 
   rested_closed : (was is : Trace → Type 0) (line : Line) (accounts : ℕ → Account) → RunsOn fails was is line (opened older) accounts done → Rested fails was is line older accounts (closed done l)
-  rested_closed was is line accounts runs t rest w =
-      let r = runs t rest w in
+  rested_closed was is line accounts runs before t rest w now =
+      let r = runs before t rest w now in
       record { posted = done.turn.posted.items; sent = sent_now; rest = r.0; causes = cause_now t r.1 }
 
 can_ask_kept : (ask : Option Ask) (a b : ℕ → Account) (n : ℕ) (t : Trace) → AreKept a b → CanAsk ask a n t → CanAsk ask b n t
@@ -124,4 +124,4 @@ pub rested_step : {S : Type 0} (fails : HowCallsFail) (rests : S → Trace → T
 rested_step fails rests account line older start l new done from mid last to a b can kept still runs same =
     subst (λ x. Rested fails (rests from) (rests to) line older (account from) x) (sym b) (subst (λ s. Rested fails (rests from) (rests s) line older (account from) (closed done l)) (sym same)
     (rested_closed fails older l done (subst (λ x. CanTell x done l) a can) (rests from) (rests last) line (account from)
-    (λ t rest w. subst (λ x. RunsOn fails (rests mid) (rests last) line x (account mid) done) a runs t (record { posted = rest.posted; call = rest.call; begins = rest.begins; ask = can_ask_kept (ask_of line) (account from) (account mid) (newest (opened older)) t kept rest.ask; hear = rest.hear }) (still t w))))
+    (λ before t rest w now. subst (λ x. RunsOn fails (rests mid) (rests last) line x (account mid) done) a runs before t (record { longer = rest.longer; posted = rest.posted; call = rest.call; begins = rest.begins; ask = can_ask_kept (ask_of line) (account from) (account mid) (newest (opened older)) t kept rest.ask; hear = rest.hear }) (still before w) (still t now))))

@@ -1,5 +1,5 @@
 -- Each line keeps what is said of the timestamps that are answered.
-use Rattle.std.proofs.Common.{◌≡◌, ℕ, zero, suc, ◌<◌, ◌≤◌, ◌⊎◌, inl, inr, Bool, true, false, if◌then◌else◌, List, [], ◌∷◌, ◌++◌, Option, Some, None, length, get_or, set, slice_get, nat_eq, refl, sym, ap, ◌∙◌, subst, arith}
+use Rattle.std.proofs.Common.{◌≡◌, ℕ, zero, suc, ◌<◌, ◌≤◌, ◌⊎◌, inl, inr, Bool, true, false, if◌then◌else◌, List, [], ◌∷◌, ◌++◌, Option, Some, None, length, get_or, set, slice_get, refl, sym, ap, ◌∙◌, subst, arith}
 use Rattle.std.specs.List.{All}
 use Rattle.std.specs.Option.{option_map}
 use Rattle.txn_kv.specs.declared.reply.Reply.{Reply}
@@ -13,7 +13,6 @@ use Rattle.txn_history.specs.Among.{IsAmong}
 use Rattle.txn_history.specs.Busy.{busy_reply}
 use Rattle.txn_history.specs.Event.{Event, Has, kept_reply}
 use Rattle.txn_history.specs.Event.Event.{Took}
-use Rattle.txn_history.specs.Event.Event.{Sent as SentEvent}
 use Rattle.txn_law.specs.Run.{store_after}
 use Rattle.txn_lines.specs.Lines.{why_after}
 use Rattle.txn_lines.specs.declared.line.Line.{Line}
@@ -38,7 +37,7 @@ use Rattle.txn_machine.specs.Longer.{done_more, sends_more}
 use Rattle.txn_machine.specs.Lists.{Lists, all_ended, all_posted, at_line, ended_at, followed, newest, opened, posted_at, reply_at, request_at, request_in, with_mail}
 use Rattle.txn_machine.specs.Rows.{Caused}
 use Rattle.txn_machine.specs.Running.{IsOrdered, with_own}
-use Rattle.txn_machine.specs.Script.{Folded, does, find, history, loses, outcome_of, refuses, refuses_it, serves, takes, takes_it, with_sends}
+use Rattle.txn_machine.specs.Script.{Folded, does, find, history, outcome_of, refuses, serves, takes, takes_it}
 use Rattle.txn_machine.specs.Steps.{done_if}
 use Rattle.txn_machine.specs.Times.{IsGrouped, IsTimed, Timely}
 use Rattle.txn_machine.proofs.Calms.{or_ended, outcome_opened, outcome_other, same_line}
@@ -185,6 +184,10 @@ noted_there mail note k m among named =
     let same : r.0 ≡ k = cc in
     subst (λ i. slice_get mail.sent i ≡ Some note) same r.1
 
+-- the newest event has happened
+pub has_newest : {fs es : List Event} {e : Event} → fs ≡ e ∷ es → Has fs e
+has_newest {e = e} is = subst (λ xs. Has xs e) (sym is) (inl refl)
+
 module _ (old : Lists) (es : List Event) (m : IsMail old.mail) (was : Fates es old.mail) (store : old.store ≡ store_after es)
     (looks : Ticket → Option Request) (looked : (t : Ticket) → looks t ≡ looked_up old.mail t) (groups : (g : Group) → IsOut old.sight g → IsGrouped old.mail.sent g) where
   timed_by : (t : Ticket) (o : Reply) (k : ℕ) (fs : List Event) (n version : ℕ) → as_sent (place_of (opened old).mail.tickets t) ≡ Some k → IsGiven (opened old).sight t o n version
@@ -209,24 +212,24 @@ module _ (old : Lists) (es : List Event) (m : IsMail old.mail) (was : Fates es o
       }
 
   pub answer_took : (t : Ticket) (o : Reply) (k : ℕ) → as_sent (place_of (opened old).mail.tickets t) ≡ Some k → (letter_at (opened old).mail k).awaited ≡ true → (letter_at (opened old).mail k).kept ≡ Some o
-      → (r : Request) → looks t ≡ Some r → Has (takes t (looks t) es) (Took t r o)
+      → (r : Request) → looks t ≡ Some r → takes t (looks t) es ≡ Took t r o ∷ es
   answer_took t o k named waits kept r is =
       let fate = fate_of es (opened old).mail (opened_is_mail old.mail m) (fates_opened es old.mail was) t k named in
-      subst (λ q. Has (takes t q es) (Took t r o)) (sym is) (subst (λ q. Has (takes_it t r q es) (Took t r o)) (sym (fate.kept waits ∙ kept)) (inl refl))
+      ap (λ q. takes t q es) is ∙ ap (λ q. takes_it t r q es) (fate.kept waits ∙ kept)
 
-  pub deliver_took : (t : Ticket) (o : Reply) (k : ℕ) → o ≡ reply_at (opened old) k → (r : Request) → looks t ≡ Some r → request_at (opened old) k ≡ r → Has (takes t (looks t) (serves t (looks t) es)) (Took t r o)
+  pub deliver_took : (t : Ticket) (o : Reply) (k : ℕ) → o ≡ reply_at (opened old) k → (r : Request) → looks t ≡ Some r → request_at (opened old) k ≡ r → takes t (looks t) (serves t (looks t) es) ≡ Took t r o ∷ serves t (looks t) es
   deliver_took t o k reply r is asks =
       let told : o ≡ (table (store_after es) r).reply = reply ∙ ap (λ q. (table old.store q).reply) asks ∙ ap (λ (s : Store). (table s r).reply) store in
       let here : kept_reply (serves t (Some r) es) t ≡ Some o = ap (λ (b : Bool). if b then Some (table (store_after es) r).reply else kept_reply es t) (same_itself t) ∙ ap (λ x. Some x) (sym told) in
-      subst (λ q. Has (takes t q (serves t q es)) (Took t r o)) (sym is) (subst (λ q. Has (takes_it t r q (serves t (Some r) es)) (Took t r o)) (sym here) (inl refl))
+      ap (λ q. takes t q (serves t q es)) is ∙ ap (λ q. takes_it t r q (serves t (Some r) es)) here ∙ ap (λ q. Took t r o ∷ serves t q es) (sym is)
 
   none_busy : (r : Request) (q : TsoRequest) (o : Reply) → busy_reply r ≡ Some o → r ≡ Tso q → ⊥
   none_busy r q o busy asks = let a : Some o ≡ None = sym busy ∙ ap busy_reply asks in cc
 
   given_timed : (d : Bool) (line : Line) (n version : ℕ) → Given d line (opened old) n version → IsTimed old.mail.sent (if d then does looks line es else es) n version
   given_timed false line n version g = absurd g
-  given_timed true (lines.Answer t) n version g = timed_by t g.reply g.place (takes t (looks t) es) n version g.sent g.given (λ r is asks. answer_took t g.reply g.place g.sent g.is.0 g.is.1 (Tso r) is)
-  given_timed true (lines.Deliver t) n version g = timed_by t g.reply g.place (takes t (looks t) (serves t (looks t) es)) n version g.sent g.given (λ r is asks. deliver_took t g.reply g.place g.is (Tso r) is asks)
+  given_timed true (lines.Answer t) n version g = timed_by t g.reply g.place (takes t (looks t) es) n version g.sent g.given (λ r is asks. has_newest (answer_took t g.reply g.place g.sent g.is.0 g.is.1 (Tso r) is))
+  given_timed true (lines.Deliver t) n version g = timed_by t g.reply g.place (takes t (looks t) (serves t (looks t) es)) n version g.sent g.given (λ r is asks. has_newest (deliver_took t g.reply g.place g.is (Tso r) is asks))
   given_timed true (lines.Busy t) n version g = timed_by t g.reply g.place (refuses t (looks t) es) n version g.sent g.given (λ r is asks. absurd (none_busy (request_at (opened old) g.place) r g.reply g.is asks))
   given_timed true line n version g = absurd g
 

@@ -19,7 +19,7 @@ use Rattle.txn_report.specs.declared.report.Report.{Report}
 use Rattle.txn_report.specs.declared.report.SentNote.{SentNote}
 use Rattle.txn_side.specs.Account.{Account, refusal}
 use Rattle.txn_side.specs.Sight.{Group}
-use Rattle.txn_side.specs.Trace.{Begin, BeginsAs, Call, FailsIn, HasCome, HowCallsFail, IsCalled, IsSend, RestsOn, RollsBack, Trace, with_posted}
+use Rattle.txn_side.specs.Trace.{Begin, BeginsAs, Call, FailsIn, HasCome, HowCallsFail, IsCalled, IsLonger, IsSend, RestsOn, RollsBack, Trace, with_posted}
 use Rattle.txn_side.specs.declared.act.Act.{Act}
 use Rattle.txn_side.specs.declared.act.Act.TheVariants.{Rollback}
 use Rattle.txn_side.specs.declared.turn.Posting.{Posting}
@@ -76,7 +76,7 @@ groups_of sent = map (λ s. record { ticket = s.ticket; askers = s.askers }) sen
 
 -- what has happened after these lines
 abbrev pub trace_of : List SentNote → List Outcome → List Line → Trace
-trace_of sent outs script = record { events = history sent outs script; calls = calls_of script; begun = begun_of script; rollbacks = rollbacks_of script; groups = groups_of sent; posted = []; refused = [] }
+trace_of sent outs script = record { events = history sent outs script; calls = calls_of script; begun = begun_of script; rollbacks = rollbacks_of script; groups = groups_of sent; posted = []; refused = []; owed = [] }
 
 -- The call of line n failed with this error after what it had heard, and that had happened in the lines up to the one in whose step the
 -- outcome came.
@@ -122,25 +122,26 @@ abbrev pub CanAsk : Option Ask → (ℕ → Account) → ℕ → Trace → Type 
 CanAsk None accounts n t = ⊤
 CanAsk (Some ask) accounts n t = ((e : Error) → refusal ask.act (accounts ask.transaction) ≡ Some e → IsAmong t.refused (record { line = n; error = e })) × RollsBack t.rollbacks n ask.act
 
--- what comes in its step
-abbrev pub CanHear : Line → Lists → Trace → Type 0
-CanHear (lines.Answer u) l t = (place : ℕ) (o : Reply) → found_out l u ≡ Some place → (letter_at l.mail place).kept ≡ Some o → HasCome t l.sight u (λ r. Took u r o)
-CanHear (lines.Deliver u) l t = (place : ℕ) → found_out l u ≡ Some place → can_be_served l.mail place ≡ true → HasCome t l.sight u (λ r. Took u r (reply_at l place))
-CanHear (lines.Busy u) l t = (place : ℕ) (o : Reply) → found_out l u ≡ Some place → can_be_served l.mail place ≡ true → busy_reply (request_at l place) ≡ Some o → HasCome t l.sight u (λ r. Took u r o)
-CanHear (lines.Lose u) l t = (place : ℕ) → found_out l u ≡ Some place → HasCome t l.sight u (λ r. Lost u r)
-CanHear _ l t = ⊤
+-- what comes in its step, and had not before
+abbrev pub CanHear : Line → Lists → Trace → Trace → Type 0
+CanHear (lines.Answer u) l before t = (place : ℕ) (o : Reply) → found_out l u ≡ Some place → (letter_at l.mail place).kept ≡ Some o → HasCome before t l.sight u (λ r. Took u r o)
+CanHear (lines.Deliver u) l before t = (place : ℕ) → found_out l u ≡ Some place → can_be_served l.mail place ≡ true → HasCome before t l.sight u (λ r. Took u r (reply_at l place))
+CanHear (lines.Busy u) l before t = (place : ℕ) (o : Reply) → found_out l u ≡ Some place → can_be_served l.mail place ≡ true → busy_reply (request_at l place) ≡ Some o → HasCome before t l.sight u (λ r. Took u r o)
+CanHear (lines.Lose u) l before t = (place : ℕ) → found_out l u ≡ Some place → HasCome before t l.sight u (λ r. Lost u r)
+CanHear _ l before t = ⊤
 
--- the trace has all that the newest line tells the clients
-pub record CanRest (line : Line) (l : Lists) (accounts : ℕ → Account) (t : Trace) : Type 0 where
+-- the trace has all that there was before, and that the newest line tells the clients
+pub record CanRest (line : Line) (l : Lists) (accounts : ℕ → Account) (before t : Trace) : Type 0 where
+  pub longer : IsLonger before t
   pub posted : t.posted ≡ []
   pub call : CanCall (role_of line) (newest l) t
   pub begins : BeginsAs t (newest l) (begins_as line)
   pub ask : CanAsk (ask_of line) accounts (newest l) t
-  pub hear : CanHear line l t
+  pub hear : CanHear line l before t
 
 -- and then the calls rest on it, once it is known what the line came to
 abbrev pub RunsOn : HowCallsFail → (Trace → Type 0) → (Trace → Type 0) → Line → Lists → (ℕ → Account) → Course → Type 0
-RunsOn fails was is line l accounts done = (t : Trace) → CanRest line l accounts t → RestsOn fails was is t done.turn.posted.items done.turn.ended.items
+RunsOn fails was is line l accounts done = (before t : Trace) → CanRest line l accounts before t → was before → RestsOn fails was is t done.turn.posted.items done.turn.ended.items
 
 -- the same of a line that asks this of a transaction
 abbrev pub RunsAsk : HowCallsFail → (Trace → Type 0) → (Trace → Type 0) → Ask → ℕ → (ℕ → Account) → Course → Type 0
@@ -161,4 +162,4 @@ pub record RestsIn (fails : HowCallsFail) (is : Trace → Type 0) (t : Trace) (o
 
 -- so with each trace that has all that the line tells
 abbrev pub Rested : HowCallsFail → (Trace → Type 0) → (Trace → Type 0) → Line → Lists → (ℕ → Account) → Lists → Type 0
-Rested fails was is line old accounts new = (t : Trace) → CanRest line (opened old) accounts t → was t → RestsIn fails is t old new
+Rested fails was is line old accounts new = (before t : Trace) → CanRest line (opened old) accounts before t → was before → was t → RestsIn fails is t old new

@@ -36,7 +36,7 @@ impl ClientSide for Nobody {
 
     ghost rests_longer = { λ s trace longer is_longer rest. rest };
 
-    ghost nobody_rests = { λ s is_nobody trace. tt };
+    ghost nobody_rests = { λ s is_nobody trace owed. tt };
 
     ghost arises = { λ s history. ⊤ };
 

@@ -29,7 +29,7 @@ returns-in-Some-take_kept-clause-out g c =
 pub returns-in-Some-take_kept-clause-rests : goal.returns-in-Some-take_kept-clause-rests
 returns-in-Some-take_kept-clause-rests g c =
     heard_on g.S.ClientSide.fails (g.S.ClientSide.rests c.args.self.now.clients) (g.S.ClientSide.rests c.hear.new.self.clients) (lists_of g.S.ClientSide.sight c.args.self.now) (g.S.ClientSide.account c.args.self.now.clients) (Answer c.args.ticket) c.args.ticket (λ r. Took c.args.ticket r c.in-Some-take_kept.reply) c.hear.result
-    (λ t can. can.hear c.in-Some.place c.in-Some-take_kept.reply (sym c.find_out.ensures.exact ∙ c.in-Some.is) (sym c.take_kept.ensures.reply ∙ c.in-Some-take_kept.is)) c.hear.ensures.rests
+    (λ before t can. can.hear c.in-Some.place c.in-Some-take_kept.reply (sym c.find_out.ensures.exact ∙ c.in-Some.is) (sym c.take_kept.ensures.reply ∙ c.in-Some-take_kept.is)) c.hear.ensures.rests
 
 pub returns-in_default-clause-arises : goal.returns-in_default-clause-arises
 returns-in_default-clause-arises g c =

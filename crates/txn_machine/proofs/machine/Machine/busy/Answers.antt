@@ -30,7 +30,7 @@ returns-in-Some-busy_reply-clause-out g c =
 pub returns-in-Some-busy_reply-clause-rests : goal.returns-in-Some-busy_reply-clause-rests
 returns-in-Some-busy_reply-clause-rests g c =
     heard_on g.S.ClientSide.fails (g.S.ClientSide.rests c.args.self.now.clients) (g.S.ClientSide.rests c.hear.new.self.clients) (lists_of g.S.ClientSide.sight c.args.self.now) (g.S.ClientSide.account c.args.self.now.clients) (Busy c.args.ticket) c.args.ticket (λ r. Took c.args.ticket r c.in-Some-busy_reply.reply) c.hear.result
-    (λ t can. can.hear c.in-Some.place c.in-Some-busy_reply.reply (sym c.find_out.ensures.exact ∙ c.in-Some.is) (sym c.can_be_served.ensures ∙ c.if-not-can_be_served.false)
+    (λ before t can. can.hear c.in-Some.place c.in-Some-busy_reply.reply (sym c.find_out.ensures.exact ∙ c.in-Some.is) (sym c.can_be_served.ensures ∙ c.if-not-can_be_served.false)
     (ap (λ o. busy_reply (request_in o)) (there_is c.args.self.now.post.sent c.in-Some.place c.index-sent-place.result c.in-Some.ensures.found.below)
     ∙ ap (λ (ss : List SentNote). busy_reply (get_or ss c.in-Some.place c.index-sent-place.result).request) (sym c.sent.ensures.value) ∙ sym c.busy_reply.ensures ∙ c.in-Some-busy_reply.is))
     c.hear.ensures.rests

@@ -29,7 +29,7 @@ pub returns-clause-rests : goal.returns-clause-rests
 returns-clause-rests g c =
     heard_on g.S.ClientSide.fails (g.S.ClientSide.rests c.args.self.now.clients) (g.S.ClientSide.rests c.hear.new.self.clients) (lists_of g.S.ClientSide.sight c.args.self.now) (g.S.ClientSide.account c.args.self.now.clients) (Deliver c.args.ticket) c.args.ticket
     (λ r. Took c.args.ticket r (reply_at (lists_of g.S.ClientSide.sight c.args.self.now) c.in-Some.place)) c.hear.result
-    (λ t can. can.hear c.in-Some.place (sym c.find_out.ensures.exact ∙ c.in-Some.is) (sym c.can_be_served.ensures ∙ c.if-not-can_be_served.false))
+    (λ before t can. can.hear c.in-Some.place (sym c.find_out.ensures.exact ∙ c.in-Some.is) (sym c.can_be_served.ensures ∙ c.if-not-can_be_served.false))
     (handled_heard g.S.ClientSide.sight g.S.ClientSide.fails g.S.ClientSide.rests c.args.self.now.clients c.handle.new.self.clients c.hear.new.self.clients c.args.ticket c.in_ok-reply.reply _ c.hear.result c.in_ok-reply.ensures.clients c.in_ok-reply.ensures.reply c.hear.ensures.rests)
 
 pub returns-in_default-clause-arises : goal.returns-in_default-clause-arises

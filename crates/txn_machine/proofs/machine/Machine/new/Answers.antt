@@ -11,7 +11,7 @@ pub returns-clause-taken : goal.returns-clause-taken
 returns-clause-taken g c = new_taken g.S.ClientSide.account _ c.new-3.ensures.items c.new-4.ensures.items c.requires.accounts
 
 pub returns-clause-heard : goal.returns-clause-heard
-returns-clause-heard g c = new_heard g.S.ClientSide.rests g.S.ClientSide.fails _ (λ t. g.S.ClientSide.nobody_rests c.args.clients c.requires.nobody t)
+returns-clause-heard g c = new_heard g.S.ClientSide.rests g.S.ClientSide.fails _ (λ t owed. g.S.ClientSide.nobody_rests c.args.clients c.requires.nobody t owed)
 
 pub returns-clause-arisen : goal.returns-clause-arisen
 returns-clause-arisen g c = new_arisen g.S.ClientSide.arises g.S.ClientSide.holds _ (g.S.ClientSide.nobody_arises c.args.clients c.requires.ready c.requires.nobody)
