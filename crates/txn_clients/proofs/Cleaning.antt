@@ -21,7 +21,7 @@ use Rattle.txn_commit.specs.Following.{Commits, KnowsCommits, WasRefused, is_com
 use Rattle.txn_commit.specs.Sending.{plan_of}
 use Rattle.txn_commit.specs.declared.commit_parts.CommitParts.{CommitParts}
 use Rattle.txn_core.specs.Going.{IsUnsent, KnowsParts, NamesReady}
-use Rattle.txn_side.specs.Trace.{AreOwn, IsCommit, IsHarmless, IsOwn, IsShown, Trace}
+use Rattle.txn_side.specs.Trace.{AreOwn, IsCommit, IsHarmless, IsOwn, IsShown, Trace, refused_asks}
 use Rattle.txn_clients.specs.Failing.{ShownIn}
 use Rattle.txn_clients.specs.Waiting.{IsKept}
 
@@ -203,6 +203,33 @@ own_kept line (Clocked ms) x k = subst (IsOwn line) (some_same (Clocked ms) x k)
 
 pub own_cleaned : (line : ℕ) (h : List Event) → AreOwn line (cleaned h)
 own_cleaned line h x i = let f = back h x i in own_kept line f.0 x f.2
+
+-- No refused ask is kept.
+
+refused_pushed : (k : Option Event) (h : List Event) → refused_asks h ≡ 0 → ((x : Event) → k ≡ Some x → refused_asks (x ∷ h) ≡ refused_asks h) → refused_asks (push k h) ≡ 0
+refused_pushed None h none counts = none
+refused_pushed (Some x) h none counts = counts x refl ∙ none
+
+refused_kept : (e x : Event) (h : List Event) → keep e ≡ Some x → refused_asks (x ∷ h) ≡ refused_asks h
+refused_kept (Took u r o) x h k = let t = took_kept u r o x k in ap (λ y. refused_asks (y ∷ h)) t.1
+refused_kept (Lost u r) x h k = let l = lost_kept u r x k in ap (λ y. refused_asks (y ∷ h)) l.0
+refused_kept (Answered ask (Err e)) x h k = none_some x k
+refused_kept (Answered ask (Ok t)) x h k = ap (λ y. refused_asks (y ∷ h)) (sym (some_same (Answered ask (Ok t)) x k))
+refused_kept (Sent u r) x h k = ap (λ y. refused_asks (y ∷ h)) (sym (some_same (Sent u r) x k))
+refused_kept (Served u r o) x h k = ap (λ y. refused_asks (y ∷ h)) (sym (some_same (Served u r o) x k))
+refused_kept (Refused u r o) x h k = ap (λ y. refused_asks (y ∷ h)) (sym (some_same (Refused u r o) x k))
+refused_kept (Began u ms) x h k = ap (λ y. refused_asks (y ∷ h)) (sym (some_same (Began u ms) x k))
+refused_kept (Slept u) x h k = ap (λ y. refused_asks (y ∷ h)) (sym (some_same (Slept u) x k))
+refused_kept (Asked ask) x h k = ap (λ y. refused_asks (y ∷ h)) (sym (some_same (Asked ask) x k))
+refused_kept (Crashed c) x h k = ap (λ y. refused_asks (y ∷ h)) (sym (some_same (Crashed c) x k))
+refused_kept (Split key) x h k = ap (λ y. refused_asks (y ∷ h)) (sym (some_same (Split key) x k))
+refused_kept (Led region store) x h k = ap (λ y. refused_asks (y ∷ h)) (sym (some_same (Led region store) x k))
+refused_kept (Clocked ms) x h k = ap (λ y. refused_asks (y ∷ h)) (sym (some_same (Clocked ms) x k))
+
+pub refused_cleaned : (h : List Event) → refused_asks (cleaned h) ≡ 0
+unfolding cleaned
+refused_cleaned [] = refl
+refused_cleaned (e ∷ h) = refused_pushed (keep e) (cleaned h) (refused_cleaned h) (λ x k. refused_kept e x (cleaned h) k)
 
 -- and is shown where the history was
 pub shown_cleaned : (trace : Option Trace) (at : ℕ) (h : List Event) → ShownIn trace at h → ShownIn trace at (cleaned h)

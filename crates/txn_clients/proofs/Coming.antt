@@ -1,5 +1,5 @@
 -- What has come, as a trace has it.
-use Rattle.std.proofs.Common.{◌≡◌, ℕ, false, List, [], get_or, Option, Some, None, sym, ap, ◌∙◌, subst}
+use Rattle.std.proofs.Common.{◌≡◌, ◌+◌, arith, ℕ, suc, Bool, true, false, if◌then◌else◌, List, [], ◌∷◌, ◌++◌, length, nat_eq, refl, get_or, Option, Some, None, sym, ap, ◌∙◌, subst}
 use Rattle.txn_history.specs.Event.{Event, Has}
 use Rattle.txn_history.specs.Event.Event.{Lost, Took}
 use Rattle.txn_history.specs.Posted.{ticket_of}
@@ -10,14 +10,16 @@ use Rattle.txn_kv.specs.declared.request.Request.TheVariants.{Tso}
 use Rattle.txn_kv.specs.declared.ticket.Ticket.{Ticket}
 use Rattle.txn_plan.specs.declared.arrival.Arrival.TheVariants as arrivals
 use Rattle.txn_side.specs.Sight.{Group}
-use Rattle.txn_side.specs.Trace.{HasCome, IsSentIn, Trace, with_posted}
+use Rattle.txn_side.specs.Trace.{GroupCame, HasCome, HasRefused, HasRefusedBeside, IsLonger, IsSentIn, Trace, refused_as, times_in, with_posted}
+use Rattle.txn_kv.specs.declared.request.TsoRequest.{TsoRequest}
+use Rattle.txn_tso.specs.Oracle.{group_or_none}
 use Rattle.txn_side.specs.declared.turn.Posting.{Posting}
 use Rattle.txn_clients.specs.Clients.{groups_of, sight_of}
 use Rattle.txn_side.specs.Account.{Account, refusal}
 use Rattle.txn_side.specs.declared.act.Act.{Act}
 use Rattle.txn_side.specs.declared.act.Act.TheVariants.{Rollback}
-use Rattle.txn_clients.specs.Failing.{CalledIn, CameIn, GroupCameIn, KnowsAsk, RefusedIn, RollsBackIn, outbox_of, posting_in}
-use Rattle.txn_clients.specs.Groups.{group_by}
+use Rattle.txn_clients.specs.Failing.{CalledIn, CameIn, GroupCameIn, KnowsAsk, RefusedIn, RollsBackIn, outbox_of, posting_in, refused_out}
+use Rattle.txn_clients.specs.Groups.{group_by, lines_in}
 use Rattle.txn_clients.specs.Waiting.{book_at, WantedIn}
 use Rattle.txn_clients.specs.declared.clients.Clients.{Clients}
 use Rattle.txn_clients.proofs.Stepping.{group_there}
@@ -64,11 +66,55 @@ group_ticket (Some x) lines g v f h = ap (λ (y : Group). y.ticket) (sym one) �
     two : x ≡ v
     two = cc
 
-pub group_came : {P Q K : Type 0} (t : Trace) (s : Clients P Q K) (client : ℕ) (u : Ticket) (event : Ticket → Request → Event) → (book_at s client).ticket ≡ Some u → HasCome t (sight_of s) u (event u) → GroupCameIn (Some t) (get_or (groups_of s) client None) event
-group_came t s client u event e came group out =
+pub group_came : {P Q K : Type 0} (before t : Trace) (s : Clients P Q K) (client : ℕ) (u : Ticket) (event : Ticket → Request → Event) → (book_at s client).ticket ≡ Some u → HasCome before t (sight_of s) u (event u) → GroupCameIn (Some t) (get_or (groups_of s) client None) event
+group_came before t s client u event e came group out =
     let same = group_ticket (book_at s client).ticket _ group u e (sym (group_there s.clients.items client) ∙ out) in
     let fact = came.group group (client, out) same in
-    (fact.0, (fact.1.0, subst (λ v. Has t.events (event v (Tso fact.1.0))) (sym same) fact.1.1))
+    (fact.among, (fact.request, subst (λ v. Has t.events (event v (Tso fact.request))) (sym same) fact.come))
+
+-- how often a line is told of it
+times_both : (lines more : List ℕ) (n : ℕ) → times_in (lines ++ more) n ≡ times_in lines n + times_in more n
+times_both [] more n = omega arith
+times_both (line ∷ lines) more n = by (nat_eq line n) (times_both lines more n)
+  where
+    by : (b : Bool) → times_in (lines ++ more) n ≡ times_in lines n + times_in more n
+        → (if b then suc (times_in (lines ++ more) n) else times_in (lines ++ more) n) ≡ (if b then suc (times_in lines n) else times_in lines n) + times_in more n
+    by true e = omega (arith, e)
+    by false e = e
+
+-- by so many more were refused as are to be told that now
+pub group_longer : {P Q K : Type 0} (before t : Trace) (s : Clients P Q K) (client : ℕ) (u : Ticket) (event : Ticket → Request → Event) → ((v : Ticket) (q r : TsoRequest) (lines : List ℕ) → refused_as (event v (Tso q)) lines ≡ refused_as (event v (Tso r)) lines)
+    → (book_at s client).ticket ≡ Some u → IsLonger before t → HasCome before t (sight_of s) u (event u) → IsLonger before (record t { owed = refused_out event (get_or (groups_of s) client None) ++ t.owed })
+group_longer before t s client u event plain ticket l came = record {
+  events = l.events;
+  calls = l.calls;
+  begun = l.begun;
+  rollbacks = l.rollbacks;
+  groups = l.groups;
+  sent = l.sent;
+  refused = l.refused;
+  beside = λ line n h. more line n h;
+}
+  where
+    lines : List ℕ
+    lines = lines_in (group_or_none (book_at s client).out)
+
+    there : get_or (groups_of s) client None ≡ Some (record { ticket = u; askers = lines })
+    there = group_there s.clients.items client ∙ ap (λ x. group_by x lines) ticket
+
+    fact : GroupCame before t (record { ticket = u; askers = lines }) (event u)
+    fact = came.group (record { ticket = u; askers = lines }) (client, there) refl
+
+    out : refused_out event (get_or (groups_of s) client None) ≡ refused_as (event u (Tso fact.request)) lines
+    out = ap (refused_out event) there ∙ plain u (record { count = length lines }) fact.request lines
+
+    more : (line n : ℕ) → HasRefusedBeside before line n → HasRefused t line (n + times_in (refused_out event (get_or (groups_of s) client None) ++ t.owed) line)
+    more line n h =
+        let told : times_in t.owed line ≡ 0 = ap (λ xs. times_in xs line) came.told in
+        let sum = times_both (refused_out event (get_or (groups_of s) client None)) t.owed line in
+        let same : times_in (refused_out event (get_or (groups_of s) client None)) line ≡ times_in (refused_as (event u (Tso fact.request)) lines) line = ap (λ xs. times_in xs line) out in
+        let k = fact.more line (n + times_in before.owed line) h in
+        (k.0, (let enough = k.1 in omega (arith, enough, told, sum, same)), k.2)
 
 -- for another ticket
 
@@ -79,8 +125,8 @@ came_as : (t : Trace) (u : Ticket) (event : Ticket → Request → Event) (r : R
 came_as t u event r beat none own sent =
     subst (λ v. Has t.events (event v r)) (sym (ticket_plain u beat)) (own (subst (λ v. IsSentIn t v r) (ticket_plain u beat) (subst (λ ps. IsSentIn (with_posted ps t) (ticket_of (outbox_of u.line) u.number) r) (sym none) sent)))
 
-pub reply_came : {P Q K : Type 0} (t : Trace) (s : Clients P Q K) (u : Ticket) (o : Reply) → u.beat ≡ false → t.posted ≡ [] → HasCome t (sight_of s) u (λ r. Took u r o) → CameIn (posting_in [] (Some t)) (outbox_of u.line) (arrivals.Reply u.number o)
-reply_came t s u o beat none came = λ r sent. came_as t u (λ v q. Took v q o) r beat none (came.own r) sent
+pub reply_came : {P Q K : Type 0} (before t : Trace) (s : Clients P Q K) (u : Ticket) (o : Reply) → u.beat ≡ false → t.posted ≡ [] → HasCome before t (sight_of s) u (λ r. Took u r o) → CameIn (posting_in [] (Some t)) (outbox_of u.line) (arrivals.Reply u.number o)
+reply_came before t s u o beat none came = λ r sent. came_as t u (λ v q. Took v q o) r beat none (came.own r) sent
 
-pub loss_came : {P Q K : Type 0} (t : Trace) (s : Clients P Q K) (u : Ticket) → u.beat ≡ false → t.posted ≡ [] → HasCome t (sight_of s) u (λ r. Lost u r) → CameIn (posting_in [] (Some t)) (outbox_of u.line) (arrivals.Lost u.number)
-loss_came t s u beat none came = λ r sent. came_as t u (λ v q. Lost v q) r beat none (came.own r) sent
+pub loss_came : {P Q K : Type 0} (before t : Trace) (s : Clients P Q K) (u : Ticket) → u.beat ≡ false → t.posted ≡ [] → HasCome before t (sight_of s) u (λ r. Lost u r) → CameIn (posting_in [] (Some t)) (outbox_of u.line) (arrivals.Lost u.number)
+loss_came before t s u beat none came = λ r sent. came_as t u (λ v q. Lost v q) r beat none (came.own r) sent

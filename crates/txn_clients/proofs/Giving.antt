@@ -1,7 +1,7 @@
 -- Why those whose asks a request for timestamps carries are told that there is none.
-use Rattle.std.proofs.Common.{◌≡◌, ◌<◌, ◌≤◌, inl, inr, ℕ, suc, List, [], ◌∷◌, length, arith, get_or, Option, Some, None, refl, sym, ap, ◌∙◌, subst}
+use Rattle.std.proofs.Common.{◌≡◌, ◌<◌, ◌≤◌, inl, inr, ℕ, suc, List, [], ◌∷◌, ◌++◌, length, map, arith, get_or, Option, Some, None, refl, sym, ap, ◌∙◌, subst}
 use Rattle.std.proofs.lemmas.List.{length-map}
-use Rattle.std.proofs.lemmas.List.Elements.{All-cons, All-nil}
+use Rattle.std.proofs.lemmas.List.Elements.{All-cons, All-head, All-nil, All-tail}
 use Rattle.std.proofs.Math.Nat.{le_refl}
 use Rattle.std.specs.List.{All}
 use Rattle.std.specs.Prelude.{Result, Ok, Err}
@@ -22,15 +22,24 @@ use Rattle.txn_history.specs.Event.Event.{Lost, Took}
 use Rattle.txn_law.proofs.Among.{map_among}
 use Rattle.txn_plan.specs.declared.arrival.Arrival.TheVariants as arrivals
 use Rattle.txn_side.specs.Sight.{Group}
-use Rattle.txn_side.specs.Trace.{HasFailed, IsRefusedIn, Refuses, Trace, with_posted}
+use Rattle.txn_side.specs.Trace.{HasFailed, IsRefusedIn, Refuses, Trace, and_refused, given_none, refused_as, with_posted}
+use Rattle.txn_side.specs.Trace.{refused_by as refused_lines}
+use Rattle.txn_side.specs.declared.turn.Ending.{Ending}
 use Rattle.txn_side.specs.declared.turn.Posting.{Posting}
 use Rattle.txn_tso.specs.Oracle.{Answer, answer, answered, answers, askers_out, group_or_none, Oracle}
 use Rattle.txn_tso.specs.declared.asker.Asker.{Asker}
 use Rattle.txn_clients.specs.Clients.{groups_of}
-use Rattle.txn_clients.specs.Failing.{AreGivenIn, CameIn, GroupCameIn, IfFails, outbox_of, posting_in}
-use Rattle.txn_clients.specs.Groups.{group_by, lines_in}
-use Rattle.txn_clients.specs.Waiting.{IsPaired, IsThere, Takes, book_at}
+use Rattle.txn_clients.specs.Arising.{oracle_of}
+use Rattle.txn_clients.specs.Failing.{AreGivenIn, CameIn, GroupCameIn, IfFails, LongerIn, outbox_of, owing, owing_all, owing_one, posting_in, refused_of, refused_out}
+use Rattle.txn_clients.specs.Groups.{IsRefused, group_by, lines_in}
+use Rattle.txn_clients.specs.Resting.{sound_longer}
+use Rattle.txn_clients.specs.Waiting.{GoesOn, IsPaired, IsSound, IsThere, Takes, book_at, pends}
+use Rattle.txn_clients.specs.declared.told.Told.TheVariants.{Heard}
+use Rattle.txn_commit.specs.Committing.{Ways}
+use Rattle.txn_history.specs.Phase.{Awaited}
 use Rattle.txn_clients.specs.declared.clients.Clients.{Clients}
+use Rattle.txn_clients.proofs.Settling.{head_sound}
+use Rattle.txn_clients.proofs.Showing.{all_map, owing_one_longer, posting_both, reason_longer}
 use Rattle.txn_clients.proofs.Stepping.{group_there}
 use Rattle.txn_clients.proofs.Timestamps.{among_so}
 
@@ -66,14 +75,102 @@ times_refuse o oracle given e =
 
 -- What those are told who asked
 
-repacked : (t : Trace) (ps : List Posting) (line : ℕ) (e : Error) → IsRefusedIn t line e → IsRefusedIn (with_posted ps t) line e
-repacked t ps line e r = record { group = r.group; among = r.among; asker = r.asker; request = r.request; failed = r.failed }
+repacked : (t : Trace) (lines : List ℕ) (ps : List Posting) (line : ℕ) (e : Error) → IsRefusedIn t line e → IsRefusedIn (with_posted ps (record t { owed = lines ++ t.owed })) line e
+repacked t lines ps line e r = record { group = r.group; among = r.among; asker = r.asker; request = r.request; failed = r.failed }
 
 -- it has happened
-pub given_came : (trace : Option Trace) (ps : List Posting) (given : List Answer) (asker : Asker) (v : Result Timestamp Error) → AreGivenIn trace given → IsAmong given (asker, v) → CameIn (posting_in ps trace) (outbox_of asker.line) (arrivals.Time asker.ask v)
-given_came None ps given asker v all among = tt
-given_came (Some t) ps given asker v all among =
-    weaker (IsRefusedIn t asker.line) (IsRefusedIn (with_posted ps t) asker.line) v (λ e r. repacked t ps asker.line e r) (among_so (λ (a : Answer). IfFails (IsRefusedIn t a.0.line) a.1) given (asker, v) all among)
+pub given_came : (trace : Option Trace) (lines : List ℕ) (ps : List Posting) (given : List Answer) (asker : Asker) (v : Result Timestamp Error) → AreGivenIn trace given → IsAmong given (asker, v) → CameIn (posting_in ps (owing_all lines trace)) (outbox_of asker.line) (arrivals.Time asker.ask v)
+given_came None lines ps given asker v all among = tt
+given_came (Some t) lines ps given asker v all among =
+    weaker (IsRefusedIn t asker.line) (IsRefusedIn (with_posted ps (record t { owed = lines ++ t.owed })) asker.line) v (λ e r. repacked t lines ps asker.line e r) (among_so (λ (a : Answer). IfFails (IsRefusedIn t a.0.line) a.1) given (asker, v) all among)
+
+-- What is still to be told of their asks
+
+pub owing_none : (trace : Option Trace) → owing_all [] trace ≡ trace
+owing_none None = refl
+owing_none (Some t) = refl
+
+owing_first : (line : ℕ) (v : Result Timestamp Error) (lines : List ℕ) (trace : Option Trace) → owing_all (and_refused v line lines) trace ≡ owing_one v line (owing_all lines trace)
+owing_first line v lines None = refl
+owing_first line (Ok time) lines (Some t) = refl
+owing_first line (Err e) lines (Some t) = refl
+
+-- once the first was told
+pub first_told : (given : List Answer) (a : Answer) (rest : List Answer) (trace : Option Trace) → given ≡ a ∷ rest → LongerIn (owing_all (refused_of given) trace) (owing_all (refused_of rest) trace)
+first_told given a rest trace e =
+    subst (λ xs. LongerIn (owing_all (refused_of xs) trace) (owing_all (refused_of rest) trace)) (sym e)
+    (subst (λ x. LongerIn x (owing_all (refused_of rest) trace)) (sym (owing_first a.0.line a.1 (refused_of rest) trace)) (owing_one_longer a.1 a.0.line (owing_all (refused_of rest) trace)))
+
+module _ {P Q K A B D : Type 0} (w : Ways P Q K A B D) where
+  -- before it is
+  pub first_sound : (trace : Option Trace) (ps : List Posting) (s : Clients P Q K) (given : List Answer) (a : Answer) (rest : List Answer) → given ≡ a ∷ rest → IsSound w (posting_in ps (owing_all (refused_of given) trace)) (map (λ (x : Answer). x.0) given) s
+      → IsSound w (posting_in ps (owing a.0.line (Heard (arrivals.Time a.0.ask a.1)) (owing_all (refused_of rest) trace))) (pends a.0.line (Heard (arrivals.Time a.0.ask a.1)) (map (λ (x : Answer). x.0) rest)) s
+  first_sound trace ps s given a rest e sound =
+      head_sound w (posting_in ps (owing_one a.1 a.0.line (owing_all (refused_of rest) trace))) s a.0 (map (λ (x : Answer). x.0) rest)
+      (subst (λ x. IsSound w (posting_in ps x) (a.0 ∷ map (λ (x : Answer). x.0) rest) s) (owing_first a.0.line a.1 (refused_of rest) trace)
+      (subst (λ xs. IsSound w (posting_in ps (owing_all (refused_of xs) trace)) (map (λ (x : Answer). x.0) xs) s) e sound))
+
+  -- what was done before is so then, too
+  pub goes_longer : (trace longer : Option Trace) (s t : Clients P Q K) (client : ℕ) (Hears : ℕ → Awaited → Type 0) (rest : List Asker) (ps qs : List Posting) (es fs : List Ending) → LongerIn trace longer → GoesOn w trace client Hears rest ps qs es fs s t → GoesOn w longer client Hears rest ps qs es fs s t
+  goes_longer trace longer s t client Hears rest ps qs es fs l g = record {
+    sound = sound_longer w (posting_in qs trace) (posting_in qs longer) rest t (posting_both trace longer qs l) g.sound;
+    ends = record { more = g.ends.more; ended = g.ends.ended; each = all_map (λ e h. reason_longer w (posting_in qs trace) (posting_in qs longer) e (posting_both trace longer qs l) h) g.ends.more g.ends.each };
+    posted = g.posted;
+    lines = g.lines;
+    outs = g.outs;
+    tickets = g.tickets;
+    books = g.books;
+  }
+
+-- whose asks are refused where none gets a timestamp
+lines_refused : (given : List Answer) → All IsRefused given → refused_of given ≡ lines_in (map (λ (a : Answer). a.0) given)
+lines_refused [] all = refl
+lines_refused ((a, Ok time) ∷ rest) all = absurd (All-head IsRefused (a, Ok time) rest all)
+lines_refused ((a, Err e) ∷ rest) all = ap (λ lines. a.line ∷ lines) (lines_refused rest (All-tail IsRefused (a, Err e) rest all))
+
+-- and by a reply with timestamps
+times_refused : (o : TsoResponse) (asked : ℕ) (askers : List Asker) → refused_of (answers o asked askers) ≡ given_none o asked (lines_in askers)
+times_refused o asked [] = refl
+times_refused o asked (a ∷ rest) = λ i. and_refused (answer o asked (long i)) a.line (times_refused o asked rest i)
+  where
+    long : length rest ≡ length (lines_in rest)
+    long = sym (length-map rest (λ (b : Asker). b.line))
+
+reply_refused : (o : Reply) (given : List Answer) (oracle : Oracle) → map (λ (a : Answer). a.0) given ≡ askers_out oracle → ((times : TsoResponse) → o ≡ replies.Tso times → given ≡ answered times oracle) → (((times : TsoResponse) → o ≡ replies.Tso times → ⊥) → All IsRefused given)
+    → refused_of given ≡ refused_lines o (lines_in (askers_out oracle))
+reply_refused (replies.Tso times) given oracle askers granted refused =
+    ap refused_of (granted times refl) ∙ times_refused times (length (askers_out oracle)) (askers_out oracle) ∙ ap (λ n. given_none times n (lines_in (askers_out oracle))) (sym (length-map (askers_out oracle) (λ (b : Asker). b.line)))
+reply_refused o given oracle askers granted refused = lines_refused given (refused (λ times e. cc)) ∙ ap lines_in askers
+
+no_lines : (o : Reply) → refused_lines o [] ≡ []
+no_lines (replies.Tso times) = refl
+no_lines o = refl
+
+-- those of the request that is out
+none_refused : (event : Ticket → Request → Event) (refused : List ℕ → List ℕ) → ((u : Ticket) (lines : List ℕ) → refused_as (event u (Tso (record { count = length lines }))) lines ≡ refused lines) → refused [] ≡ [] → (ticket : Option Ticket) → refused_out event (group_by ticket []) ≡ []
+none_refused event refused same none None = refl
+none_refused event refused same none (Some u) = same u [] ∙ none
+
+module _ {P Q K : Type 0} where
+  out_refused : (event : Ticket → Request → Event) (refused : List ℕ → List ℕ) → ((u : Ticket) (lines : List ℕ) → refused_as (event u (Tso (record { count = length lines }))) lines ≡ refused lines) → refused [] ≡ [] → (s : Clients P Q K) (client : ℕ) (given : List Answer) → IsPaired (book_at s client)
+      → refused_of given ≡ refused (lines_in (group_or_none (book_at s client).out)) → refused_of given ≡ refused_out event (get_or (groups_of s) client None)
+  out_refused event refused same none s client given paired all = elim paired [
+    | inl unsent ↦
+        let askers = ap (λ o. lines_in (group_or_none o)) unsent in
+        all ∙ ap refused askers ∙ none ∙ sym (none_refused event refused same none (book_at s client).ticket) ∙ ap (λ lines. refused_out event (group_by (book_at s client).ticket lines)) (sym askers) ∙ ap (refused_out event) (sym (group_there s.clients.items client))
+    | inr (u, e) ↦
+        let lines = lines_in (group_or_none (book_at s client).out) in
+        all ∙ sym (same u lines) ∙ ap (λ ticket. refused_out event (group_by ticket lines)) (sym e) ∙ ap (refused_out event) (sym (group_there s.clients.items client))
+  ]
+
+  -- as its reply was taken
+  pub taken_refused : (s t : Clients P Q K) (client : ℕ) (o : Reply) (given : List Answer) → Takes client given s t → IsPaired (book_at s client) → ((times : TsoResponse) → o ≡ replies.Tso times → given ≡ answered times (oracle_of (book_at s client))) → (((times : TsoResponse) → o ≡ replies.Tso times → ⊥) → All IsRefused given)
+      → refused_of given ≡ refused_out (λ u r. Took u r o) (get_or (groups_of s) client None)
+  taken_refused s t client o given takes paired granted refused = out_refused (λ u r. Took u r o) (refused_lines o) (λ u lines. refl) (no_lines o) s client given paired (reply_refused o given (oracle_of (book_at s client)) takes.askers granted refused)
+
+  -- as it was lost
+  pub lost_refused : (s t : Clients P Q K) (client : ℕ) (given : List Answer) → Takes client given s t → IsPaired (book_at s client) → All IsRefused given → refused_of given ≡ refused_out (λ u r. Lost u r) (get_or (groups_of s) client None)
+  lost_refused s t client given takes paired refused = out_refused (λ u r. Lost u r) (λ lines. lines) (λ u lines. refl) refl s client given paired (lines_refused given refused ∙ ap lines_in takes.askers)
 
 all_among : {X : Type 0} (P : X → Type 0) (xs : List X) → ((x : X) → IsAmong xs x → P x) → All P xs
 all_among P [] f = All-nil P

@@ -31,10 +31,10 @@ use Rattle.txn_clients.specs.declared.told.Told.{Told}
 use Rattle.txn_clients.specs.declared.told.Told.TheVariants as tells
 use Rattle.txn_side.specs.Trace.{Trace}
 use Rattle.txn_clients.specs.Accounts.{account_of}
-use Rattle.txn_clients.specs.Failing.{CameIn, KnowsAsk, RetriesIn}
+use Rattle.txn_clients.specs.Failing.{CameIn, CountedIn, KnowsAsk, RetriesIn, owing}
 use Rattle.txn_clients.specs.Resting.{row_longer}
 use Rattle.txn_clients.proofs.Calls.{call_later, call_rests, no_answer}
-use Rattle.txn_clients.proofs.Showing.{own_times, shown_times}
+use Rattle.txn_clients.proofs.Showing.{longer_then, owing_longer, own_times, shown_times}
 use Rattle.txn_clients.proofs.Standing.{stand_later}
 use Rattle.std.specs.List.Sorted.{IsStrictlySortedBy}
 use Rattle.std.specs.Prelude.{IfSome}
@@ -66,7 +66,7 @@ reached_same : (from o : Posted) → IsReached from from o → IsLater from o
 reached_same from o r = record { line = r.line; beat = r.beat; next = r.next; next_ask = r.next_ask }
 
 module _ {P Q K A B D : Type 0} (w : Ways P Q K A B D) where
-  pub stand_acts : (x : Act) (c m : ℕ) (old new : Standing P Q K) (from to : Posted) (turn : Turn (Result (TxnAnswer Q) Error)) → turn ≢ Stopped → StandGoes w (λ a. ⊥) ⊤ (λ trace. KnowsAsk trace from.line x (account_of old)) old new from to turn
+  pub stand_acts : (x : Act) (c m : ℕ) (old new : Standing P Q K) (from to : Posted) (turn : Turn (Result (TxnAnswer Q) Error)) → turn ≢ Stopped → StandGoes w (λ trace. trace) (λ a. ⊥) ⊤ (λ trace. KnowsAsk trace from.line x (account_of old)) old new from to turn
       → RowGoes w (tells.Act x) (row.Begun c old m) (row.Begun c new m) from to (answer_in answers.Called turn)
   stand_acts x c m old new from to turn kept g = record {
     arises = λ trace longer at met called_so known nexts news o low risen up reached x. let r = g.arises trace longer at met called_so known nexts news o low risen up reached x in (r.0, call_rests w longer at from.line turn r.1);
@@ -74,7 +74,7 @@ module _ {P Q K A B D : Type 0} (w : Ways P Q K A B D) where
     runs = λ any none some. g.runs tt (no_answer answers.Called turn kept none);
   }
 
-  pub stand_hears : (x : Arrival) (c m : ℕ) (old new : Standing P Q K) (from to : Posted) (turn : Turn (Result (TxnAnswer Q) Error)) → turn ≢ Stopped → StandGoes w (λ a. a ≡ awaited_as x) (is_open old.work ≡ true) (λ trace. CameIn trace from x) old new from to turn
+  pub stand_hears : (x : Arrival) (c m : ℕ) (old new : Standing P Q K) (from to : Posted) (turn : Turn (Result (TxnAnswer Q) Error)) → turn ≢ Stopped → StandGoes w (owing from.line (tells.Heard x)) (λ a. a ≡ awaited_as x) (is_open old.work ≡ true) (λ trace. CameIn trace from x) old new from to turn
       → RowGoes w (tells.Heard x) (row.Begun c old m) (row.Begun c new m) from to (answer_in answers.Called turn)
   stand_hears x c m old new from to turn kept g = record {
     arises = λ trace longer at met called_so came nexts news o low risen up reached x. let r = g.arises trace longer at met called_so came nexts news o low risen up reached x in (r.0, call_rests w longer at from.line turn r.1);
@@ -103,7 +103,7 @@ module _ {P Q K A B D : Type 0} (w : Ways P Q K A B D) where
     -- nothing is done
     pub row_quiet : (told : Told) (r : Row P Q K) (o : Posted) → (IsPrepared told r → RowRuns r) → ((a : Awaited) → wants w r a → hears told a → ⊥) → RowGoes w told r r o o None
     row_quiet told r o runs deaf = record {
-      arises = λ trace longer at met called_so known nexts news later low risen up reached x. (row_longer w trace longer at later news r met.longer (row_later trace at r o later nexts news (reached_same o later reached) risen x), tt);
+      arises = λ trace longer at met called_so known nexts news later low risen up reached x. (row_longer w (owing o.line told trace) longer at later news r (longer_then (owing o.line told trace) trace longer (owing_longer o.line told trace) met.longer) (row_later (owing o.line told trace) at r o later nexts news (reached_same o later reached) risen x), tt);
       expects = Expects-quiet (λ a x. (x, deaf a x));
       runs = λ prepared none. runs prepared;
     }
@@ -139,12 +139,12 @@ module _ {P Q K A B D : Type 0} (w : Ways P Q K A B D) where
       subst (λ d. RowGoes w d (row.Asking c b old) (row.Asking c b new) from to answer) (sym e) (subst (λ o. RowGoes w (tells.Heard a) (row.Asking c b old) (row.Asking c b new) from to o) (sym f) (ok_kept progress (call_hears w c b a old new from to pd pd' (turn_of (Ok progress)) t goes)))
 
   pub stand_acted : (told : Told) (x : Act) (c m : ℕ) (old new : Standing P Q K) (from to : Posted) (progress : Progress (TxnAnswer Q)) (answer : Option (Answer P Q K)) → told ≡ tells.Act x → answer ≡ answer_in answers.Called (turn_of (Ok progress))
-      → IfKept (turn_of (Ok progress)) (StandGoes w (λ a. ⊥) ⊤ (λ trace. KnowsAsk trace from.line x (account_of old)) old new from to (turn_of (Ok progress))) → RowGoes w told (row.Begun c old m) (row.Begun c new m) from to answer
+      → IfKept (turn_of (Ok progress)) (StandGoes w (λ trace. trace) (λ a. ⊥) ⊤ (λ trace. KnowsAsk trace from.line x (account_of old)) old new from to (turn_of (Ok progress))) → RowGoes w told (row.Begun c old m) (row.Begun c new m) from to answer
   stand_acted told x c m old new from to progress answer e f g =
       subst (λ d. RowGoes w d (row.Begun c old m) (row.Begun c new m) from to answer) (sym e) (subst (λ o. RowGoes w (tells.Act x) (row.Begun c old m) (row.Begun c new m) from to o) (sym f) (stand_acts w x c m old new from to (turn_of (Ok progress)) (ok_goes progress) (ok_kept progress g)))
 
   pub stand_heard : (told : Told) (x : Arrival) (c m : ℕ) (old new : Standing P Q K) (from to : Posted) (progress : Progress (TxnAnswer Q)) (answer : Option (Answer P Q K)) → told ≡ tells.Heard x → answer ≡ answer_in answers.Called (turn_of (Ok progress))
-      → IfKept (turn_of (Ok progress)) (StandGoes w (λ a. a ≡ awaited_as x) (is_open old.work ≡ true) (λ trace. CameIn trace from x) old new from to (turn_of (Ok progress))) → RowGoes w told (row.Begun c old m) (row.Begun c new m) from to answer
+      → IfKept (turn_of (Ok progress)) (StandGoes w (owing from.line (tells.Heard x)) (λ a. a ≡ awaited_as x) (is_open old.work ≡ true) (λ trace. CameIn trace from x) old new from to (turn_of (Ok progress))) → RowGoes w told (row.Begun c old m) (row.Begun c new m) from to answer
   stand_heard told x c m old new from to progress answer e f g =
       subst (λ d. RowGoes w d (row.Begun c old m) (row.Begun c new m) from to answer) (sym e) (subst (λ o. RowGoes w (tells.Heard x) (row.Begun c old m) (row.Begun c new m) from to o) (sym f) (stand_hears w x c m old new from to (turn_of (Ok progress)) (ok_goes progress) (ok_kept progress g)))
 
@@ -161,8 +161,8 @@ pub none_ordered : {X : Type 0} (key : X → X → Ordering) → IsStrictlySorte
 unfolding IsStrictlySortedBy
 none_ordered key = tt
 
-pub begun_arises : {P Q K A B D : Type 0} (w : Ways P Q K A B D) (b : Standing P Q K) (options : TransactionOptions) (now : ℕ) (trace : Option Trace) (at : ℕ) (o : Posted) (nexts : List ℕ) → b ≡ begun b.start options now → RetriesIn trace at b.options.retry_options → StandArises w trace at o nexts b
-begun_arises w b options now trace at o nexts e retries = subst (StandArises w trace at o nexts) (sym e) (record {
+pub begun_arises : {P Q K A B D : Type 0} (w : Ways P Q K A B D) (b : Standing P Q K) (options : TransactionOptions) (now : ℕ) (trace : Option Trace) (at : ℕ) (o : Posted) (nexts : List ℕ) → b ≡ begun b.start options now → RetriesIn trace at b.options.retry_options → CountedIn trace o.line 0 → StandArises w trace at o nexts b
+begun_arises w b options now trace at o nexts e retries none = subst (StandArises w trace at o nexts) (sym e) (record {
   ordered = none_ordered _;
   retries = subst (λ (t : Standing _ _ _). RetriesIn trace at t.options.retry_options) e retries;
   arisen = record {
@@ -171,6 +171,7 @@ begun_arises w b options now trace at o nexts e retries = subst (StandArises w t
     kept = kept_took nexts _ _ _;
     shown = shown_times trace at ticket (record { count = 1 }) reply;
     own = own_times o.line ticket (record { count = 1 }) reply;
+    counted = none;
   };
 })
   where

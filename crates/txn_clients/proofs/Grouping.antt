@@ -283,6 +283,7 @@ module _ {P Q K A B D : Type 0} (w : Ways P Q K A B D) (p : IsLawful w.prewritin
     owned = λ c u e. subst (λ ss. IsOwned ss c u) (sym stands) (owned c u e);
     numbered = λ c u e. elim (named c u e) [ inl f ↦ (let l = sound.numbered c u f in let up = risen u.line in omega (arith, l, up)) | inr f ↦ f.0 ];
     unwanted = λ c u e x. elim (named c u e) [ inl f ↦ sound.unwanted c u f (subst (λ rs. Wants w rs u.line (ReplyTo u.number)) rows x) | inr f ↦ f.1 (subst (λ rs. Wants w rs u.line (ReplyTo u.number)) rows x) ];
+    owing = sound.owing;
   }
     where
       stands : stands_of (rows_of t) ≡ stands_of (rows_of s)

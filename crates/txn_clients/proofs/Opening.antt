@@ -23,7 +23,7 @@ use Rattle.txn_clients.specs.declared.row.Row.TheVariants as row
 use Rattle.txn_clients.proofs.Kept.{kept_nothing}
 use Rattle.txn_clients.proofs.Listening.{within}
 use Rattle.txn_side.specs.Trace.{Trace}
-use Rattle.txn_clients.specs.Failing.{AreToldIn, CalledIn}
+use Rattle.txn_clients.specs.Failing.{AreToldIn, CalledIn, CountedIn}
 use Rattle.txn_clients.proofs.Showing.{shown_nothing}
 use Rattle.txn_clients.proofs.Settling.{begun_asks, begun_calls, told_set, books_same, called_set, clients_set, crashed_same, one_set, rests_arises, rests_silent, rests_when_free, row_within, two_arisen, two_fewer}
 use Rattle.txn_clients.proofs.Sounding.{le_of, sound_from, wants_fewer}
@@ -124,10 +124,10 @@ module _ {P Q K : Type 0} where
     pub fresh_silent : (c : ℕ) (b : Bool) (call : ClientCall Pd P Q K) → call.stage ≡ stages.Fresh → (a : Awaited) → wants w (row.Asking c b call) a → ⊥
     fresh_silent c b call e a x = subst (λ g. stage_waits g a) e x
 
-    pub fresh_arises : (c : ℕ) (b : Bool) (call : ClientCall Pd P Q K) → IsUnbegun called call → (trace : Option Trace) (at : ℕ) → WantedIn trace at call → (o : Posted) (nexts : List ℕ) → RowArises w trace at o nexts (row.Asking c b call)
-    fresh_arises c b call u trace at wants o nexts = record {
+    pub fresh_arises : (c : ℕ) (b : Bool) (call : ClientCall Pd P Q K) → IsUnbegun called call → (trace : Option Trace) (at : ℕ) → WantedIn trace at call → ((n : ℕ) → CountedIn trace n 0) → (o : Posted) (nexts : List ℕ) → RowArises w trace at o nexts (row.Asking c b call)
+    fresh_arises c b call u trace at wants none o nexts = record {
       wanted = wants;
-      arisen = record { history = []; fits = u.fits o []; kept = kept_nothing nexts; shown = shown_nothing trace at; own = λ e i. absurd i };
+      arisen = record { history = []; fits = u.fits o []; kept = kept_nothing nexts; shown = shown_nothing trace at; own = λ e i. absurd i; counted = none o.line };
     }
 
     pub asking_sound : (trace : Option Trace) (s t : Clients P Q K) (line c : ℕ) (b : Bool) (call : ClientCall Pd P Q K) (rest : List Asker) → IsLine (stands_of (rows_of s)) line → stand_at (stands_of (rows_of s)) line ≡ Idle → AreMatched (stands_of (rows_of s))
@@ -135,7 +135,7 @@ module _ {P Q K : Type 0} where
         → rows_of t ≡ set (rows_of s) (line - 1) (row.Asking c b call) → nexts_of t ≡ nexts_of s → asks_of t ≡ asks_of s → t.clients ≡ s.clients → CalledIn trace line line → WantedIn trace line call → IsSound w trace rest s → IsSound w trace rest t
     asking_sound trace s t line c b call rest is idle matched there fresh unbegun rows nexts asks clients is_called wants sound =
         let same = crashed_same s t clients in
-        idle_sound trace s t line c (row.Asking c b call) rest is idle matched (fresh_silent c b call fresh) (fresh_arises c b call unbegun trace line wants) refl (subst (λ cs. c < length cs) (sym same) (within (crashed_of s) c there)) (λ d x a e. cc) (λ d a e. is_called)
+        idle_sound trace s t line c (row.Asking c b call) rest is idle matched (fresh_silent c b call fresh) (fresh_arises c b call unbegun trace line wants sound.owing) refl (subst (λ cs. c < length cs) (sym same) (within (crashed_of s) c there)) (λ d x a e. cc) (λ d a e. is_called)
         rows nexts asks (le_of (length (crashed_of s)) (length (crashed_of t)) (sym (ap length same))) (λ d h l. ap (λ cs. lives cs (Some d)) (sym same) ∙ l) (books_same s t clients) sound
 
     -- A call of a transaction begins.
@@ -159,7 +159,7 @@ module _ {P Q K : Type 0} where
         → rows_of t ≡ set (set (rows_of s) (x - 1) (with_waits line (row_at (rows_of s) (x - 1)))) (line - 1) (row.Calling c x b) → nexts_of t ≡ nexts_of s → asks_of t ≡ asks_of s → t.clients ≡ s.clients → CalledIn trace line x → IsSound w trace rest s → IsSound w trace rest t
     calling_sound trace s t line x c b rest is idle free ready rows nexts asks clients is_called sound =
         sound_from w trace s t rest told
-        (two_arisen w p q k trace s t line x (row.Calling c x b) (with_waits line mine) is at rows nexts asks (λ o. tt) (λ o. rests_arises w p q k trace (suc (x - 1)) line c 0 mine begun rests _ o (nexts_of s) (sound.arisen (x - 1))) sound.arisen)
+        (two_arisen w p q k trace s t line x (row.Calling c x b) (with_waits line mine) is at rows nexts asks (λ o. tt) (λ o. rests_arises w p q k trace (suc (x - 1)) line c 0 mine begun rests _ o (nexts_of s) (sound.owing o.line) (sound.arisen (x - 1))) sound.arisen)
         (subst AreCalled (sym stands) all_called) known wanted kept (books_same s t clients) (λ n. le_of (next_at (nexts_of s) n) (next_at (nexts_of t) n) (ap (λ ns. next_at ns n) (sym nexts))) (calling_fewer s t line x c b is free ready rows) sound
       where
         ss : List Stand

@@ -7,7 +7,7 @@ use Rattle.txn_kv.specs.declared.request.Request.{Request}
 use Rattle.txn_kv.specs.declared.ticket.Target.{Target}
 use Rattle.txn_side.specs.Trace.{IsSend, Trace}
 use Rattle.txn_side.specs.declared.turn.Ending.{Ending}
-use Rattle.txn_clients.specs.Failing.{AnswerRests, MayKnow, outbox_of, posting_in}
+use Rattle.txn_clients.specs.Failing.{AnswerRests, MayKnow, outbox_of, owing, posting_in}
 use Rattle.txn_history.specs.Meaning.{IsLawful}
 use Rattle.txn_history.specs.Phase.{Awaited, awaited}
 use Rattle.txn_kv.specs.declared.outbox.Errand.TheVariants.{Ask, Send, Sleep}
@@ -79,7 +79,7 @@ module _ {P Q K A B D : Type 0} (w : Ways P Q K A B D) where
         → TellsRow w told at s m from to answer → nexts_of m ≡ nexts_of s → crashed_of m ≡ crashed_of s
         → HandsOn line client sends [] ps qs m u → rows_of u ≡ rows_of m → crashed_of u ≡ crashed_of m
         → rows_of t ≡ rows_of u → nexts_of t ≡ nexts_of u → asks_of t ≡ set (asks_of u) (line - 1) to.next_ask → t.clients ≡ u.clients
-        → fs ≡ es → IsHeard (stands_of (rows_of s)) line at client → MayKnow (posting_in ps trace) (outbox_of line) told (row_at (rows_of s) at) → IsSound w (posting_in ps trace) (pends line told rest) s
+        → fs ≡ es → IsHeard (stands_of (rows_of s)) line at client → MayKnow (posting_in ps trace) (outbox_of line) told (row_at (rows_of s) at) → IsSound w (posting_in ps (owing line told trace)) (pends line told rest) s
         → GoesOn w trace client (HearsAt line told) rest ps qs es fs s t × IfSome answer (AnswerRests w (posting_in qs trace) (suc at) line)
     pushed trace s m u t told line client at rest from to answer sends ps qs es fs is inside matched begins sent posts told_row nexts crashed hands rows_u crashed_u rows_t nexts_t asks_t clients_t unended heard knows sound =
         subst (λ xs. GoesOn w trace client (HearsAt line told) rest ps qs es xs s t × IfSome answer (AnswerRests w (posting_in qs trace) (suc at) line)) (sym unended)

@@ -37,8 +37,9 @@ use Rattle.txn_clients.specs.declared.told.Told.TheVariants as tells
 use Rattle.txn_clients.proofs.Sights.{HasSettled}
 use Rattle.txn_side.specs.Trace.{Trace}
 use Rattle.txn_side.specs.declared.turn.Ending.{Ending}
-use Rattle.txn_clients.specs.Failing.{AnswerRests, AreToldIn, CalledIn, EndsMore, FailsAt, IfFails, posting_in, AskRests}
-use Rattle.txn_clients.proofs.Showing.{ends_then, keeps_any, keeps_none, keeps_then}
+use Rattle.txn_clients.specs.Failing.{AnswerRests, AreToldIn, CalledIn, CountedIn, EndsMore, FailsAt, IfFails, LongerIn, owing, posting_in, AskRests}
+use Rattle.txn_clients.specs.Resting.{sound_longer}
+use Rattle.txn_clients.proofs.Showing.{owing_longer, owing_posting, ends_then, keeps_any, keeps_none, keeps_then}
 use Rattle.txn_clients.proofs.Sounding.{arisen_set, le_of, no_more, pends_split, running_set, sound_from, wants_fewer}
 use Rattle.txn_clients.proofs.Standing.{rest_silent, stand_rests}
 use Rattle.txn_clients.proofs.Stands.{line_of, same_line, stand_other, stand_same, waited}
@@ -223,17 +224,17 @@ module _ {P Q K : Type 0} where
     }
 
     module _ (p : IsLawful w.prewriting) (q : IsLawful w.committing) (k : IsLawful w.rolling) where
-      pub rests_arises : (trace : Option Trace) (at : ℕ) (n c m : ℕ) (r : Row P Q K) → stand_of r ≡ HasBegun c m → Rests r → (o later : Posted) (nexts : List ℕ) → RowArises w trace at o nexts r → RowArises w trace at later nexts (with_waits n r)
-      rests_arises trace at n c m row.Plain e rests o later nexts x = tt
-      rests_arises trace at n c m (row.Client d) e rests o later nexts x = tt
-      rests_arises trace at n c m (row.Asking d b call) e rests o later nexts x = absurd (no e)
+      pub rests_arises : (trace : Option Trace) (at : ℕ) (n c m : ℕ) (r : Row P Q K) → stand_of r ≡ HasBegun c m → Rests r → (o later : Posted) (nexts : List ℕ) → CountedIn trace later.line 0 → RowArises w trace at o nexts r → RowArises w trace at later nexts (with_waits n r)
+      rests_arises trace at n c m row.Plain e rests o later nexts none x = tt
+      rests_arises trace at n c m (row.Client d) e rests o later nexts none x = tt
+      rests_arises trace at n c m (row.Asking d b call) e rests o later nexts none x = absurd (no e)
         where
           no : Asking d b ≡ HasBegun c m → ⊥
           no f = cc
-      rests_arises trace at n c m (row.Begun d t i) e rests o later nexts x = stand_rests w p q k t o later nexts nexts rests (λ j. le_of (next_at nexts j) (next_at nexts j) refl) x
-      rests_arises trace at n c m (row.Calling d y b) e rests o later nexts x = tt
-      rests_arises trace at n c m (row.Past d) e rests o later nexts x = tt
-      rests_arises trace at n c m (row.Working d job) e rests o later nexts x = tt
+      rests_arises trace at n c m (row.Begun d t i) e rests o later nexts none x = stand_rests w p q k t o later nexts nexts rests (λ j. le_of (next_at nexts j) (next_at nexts j) refl) none x
+      rests_arises trace at n c m (row.Calling d y b) e rests o later nexts none x = tt
+      rests_arises trace at n c m (row.Past d) e rests o later nexts none x = tt
+      rests_arises trace at n c m (row.Working d job) e rests o later nexts none x = tt
 
       place_of : (line : ℕ) → 1 ≤ line → line ≡ suc (line - 1)
       place_of line first = omega (arith, first)
@@ -384,7 +385,7 @@ module _ {P Q K : Type 0} where
 
           whole : IsSound w (posting_in ps trace) rest t
           whole = sound_from w (posting_in ps trace) s t rest told
-              (two_arisen (posting_in ps trace) s t line x r (with_waits 0 mine) is at rows nexts same_asks (λ o. here _ o (nexts_of s)) (λ o. rests_arises (posting_in ps trace) (suc (x - 1)) 0 d line mine begun rests _ o (nexts_of s) (sound.arisen (x - 1))) sound.arisen)
+              (two_arisen (posting_in ps trace) s t line x r (with_waits 0 mine) is at rows nexts same_asks (λ o. here _ o (nexts_of s)) (λ o. rests_arises (posting_in ps trace) (suc (x - 1)) 0 d line mine begun rests _ o (nexts_of s) (sound.owing o.line) (sound.arisen (x - 1))) sound.arisen)
               (subst AreCalled (sym stands) all_called)
               (λ n e f. subst (λ cs. e < length cs) (sym crashed) (sound.known n e (sym (of n) ∙ f)))
               (λ n e i f l z. (sym (of n) ∙ f, ap (λ cs. lives cs (Some e)) (sym crashed) ∙ l, fewer n (TimeOf i) z))
@@ -619,8 +620,8 @@ module _ {P Q K : Type 0} where
 
     -- nobody hears what is told
     pub unheard_goes : (trace : Option Trace) (s : Clients P Q K) (line client : ℕ) (told : Told) (rest : List Asker) (ps : List Posting) (es : List Ending) → IsLine (stands_of (rows_of s)) line → AreMatched (stands_of (rows_of s)) → NoneHears (stands_of (rows_of s)) line (stand_at (stands_of (rows_of s)) line)
-        → IsSound w (posting_in ps trace) (pends line told rest) s → GoesOn w trace client (HearsAt line told) rest ps ps es es s s
-    unheard_goes trace s line client told rest ps es is matched none sound = record {
+        → IsSound w (posting_in ps (owing line told trace)) (pends line told rest) s → GoesOn w trace client (HearsAt line told) rest ps ps es es s s
+    unheard_goes trace s line client told rest ps es is matched none owed = record {
       ends = no_more w (posting_in ps trace) es;
       sound = record {
         told = sound.told;
@@ -635,6 +636,7 @@ module _ {P Q K : Type 0} where
         owned = sound.owned;
         numbered = sound.numbered;
         unwanted = sound.unwanted;
+        owing = sound.owing;
       };
       posted = keeps_none ps;
       lines = λ n a x. inl (x, λ h. deaf n a h.0 x);
@@ -643,6 +645,9 @@ module _ {P Q K : Type 0} where
       books = λ c apart. refl;
     }
       where
+        sound : IsSound w (posting_in ps trace) (pends line told rest) s
+        sound = sound_longer w (posting_in ps (owing line told trace)) (posting_in ps trace) (pends line told rest) s (subst (λ x. LongerIn x (posting_in ps trace)) (sym (owing_posting line told ps trace)) (owing_longer line told (posting_in ps trace))) owed
+
         deaf : (n : ℕ) (a : Awaited) → n ≡ line → Wants w (rows_of s) n a → ⊥
         deaf n a e (i, v, x) = unheard_voice (stands_of (rows_of s)) line i matched (λ z. let one = is.first in omega (arith, one, z)) none (ap (voice i) (stand_read (rows_of s) i) ∙ v ∙ e)
 
@@ -658,6 +663,7 @@ module _ {P Q K : Type 0} where
       owned = sound.owned;
       numbered = sound.numbered;
       unwanted = sound.unwanted;
+      owing = sound.owing;
     }
       where
         as_head : (n i : ℕ) → HasAsk (a ∷ rest) n i → HasAsk (record { line = a.line; beat = false; ask = a.ask } ∷ rest) n i
@@ -681,4 +687,5 @@ module _ {P Q K : Type 0} where
       owned = sound.owned;
       numbered = sound.numbered;
       unwanted = sound.unwanted;
+      owing = sound.owing;
     }

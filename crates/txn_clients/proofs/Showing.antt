@@ -1,5 +1,6 @@
 -- What a trace shows of what calls hear and post, and on what the errors that they answer rest.
-use Rattle.std.proofs.Common.{◌≡◌, inl, inr, ℕ, Bool, false, List, [], ◌∷◌, ◌++◌, Option, Some, None, refl, sym, ap, ◌∙◌, subst, append-nil, append_assoc}
+use Rattle.std.proofs.Common.{◌≡◌, inl, inr, ℕ, suc, ◌+◌, Bool, true, false, if◌then◌else◌, List, [], ◌∷◌, ◌++◌, nat_eq, arith, Option, Some, None, refl, sym, ap, ◌∙◌, subst, append-nil, append_assoc}
+use Rattle.std.proofs.lemmas.Bool.Decides.{nat_tests}
 use Rattle.std.specs.List.{All, Any}
 use Rattle.std.specs.Prelude.{⊤, Result, Ok, Err}
 use Rattle.txn_kv.specs.ErrorView.{view_of}
@@ -40,15 +41,18 @@ use Rattle.txn_core.specs.declared.transaction.Work.TheVariants.{Idle, Open, Gav
 use Rattle.txn_core.specs.declared.txn_answer.TxnAnswer.{TxnAnswer}
 use Rattle.txn_side.specs.Account.{Account, refusal}
 use Rattle.txn_side.specs.declared.act.Act.{Act}
-use Rattle.txn_side.specs.Trace.{fails_longer, AreOwn, EndsFor, IsLonger, IsOwn, IsSend, IsShown, Trace, IsBegunAs}
+use Rattle.txn_side.specs.Trace.{fails_longer, AreOwn, EndsFor, HasRefused, HasRefusedBeside, IsLonger, IsOwn, IsSend, IsShown, Trace, IsBegunAs, and_refused, refused_asks, times_in}
 use Rattle.txn_side.specs.declared.turn.Posting.{Posting}
 use Rattle.std.proofs.lemmas.List.Elements.{All-append, All-cons, All-head, All-nil, All-tail}
 use Rattle.txn_report.specs.declared.outcome.Outcome.{Outcome}
 use Rattle.txn_report.specs.declared.outcome.Outcome.TheVariants as outcomes
 use Rattle.txn_side.specs.declared.turn.Ending.{Ending}
-use Rattle.txn_clients.specs.Failing.{EndsMore, HasReason, CalledIn, CameIn, FailsAt, FailsFor, HasFailedFor, IfFails, KnownTransaction, LongerIn, RefusedIn, SentIn, ShownIn, posting_in, CallRefused, KnowsAsk, RollsIn, AskRests, RetriesIn}
+use Rattle.txn_clients.specs.Failing.{EndsMore, HasReason, CalledIn, CameIn, CountedIn, FailsAt, FailsFor, HasFailedFor, IfFails, KnownTransaction, LongerIn, RefusedIn, SentIn, ShownIn, posting_in, CallRefused, HasMet, KnowsAsk, RollsIn, AskRests, RetriesIn, owing, owing_one}
+use Rattle.txn_clients.specs.Resting.{counted_longer}
 use Rattle.txn_clients.specs.Waiting.{Keeps}
 use Rattle.txn_clients.specs.Want.{wants_memory}
+use Rattle.txn_clients.specs.declared.told.Told.{Told}
+use Rattle.txn_clients.specs.declared.told.Told.TheVariants as tells
 use Rattle.txn_clients.proofs.Groups.{any_ahead}
 use Rattle.txn_clients.specs.Rows.{Pd}
 use Rattle.txn_client.specs.declared.client_answer.ClientAnswer.{ClientAnswer}
@@ -75,14 +79,148 @@ posting_longer (Some t) ps qs k = (
     rollbacks = λ n i. i;
     groups = λ g i. i;
     sent = λ u r h. elim h [ inl i ↦ inl i | inr a ↦ inr (keeps_any (IsSend u r) ps qs k a) ];
+    refused = λ line n h. h;
+    beside = λ line n h. h;
   },
   refl,
   refl,
 )
 
+-- the same was posted in both
+pub posting_both : (trace longer : Option Trace) (ps : List Posting) → LongerIn trace longer → LongerIn (posting_in ps trace) (posting_in ps longer)
+posting_both None None ps l = tt
+posting_both None (Some u) ps l = absurd l
+posting_both (Some t) None ps l = absurd l
+posting_both (Some t) (Some u) ps l = let more = l.0 in (
+  record {
+    events = more.events;
+    calls = more.calls;
+    begun = more.begun;
+    rollbacks = more.rollbacks;
+    groups = more.groups;
+    sent = λ v r h. elim h [ inl i ↦ inl (more.events (Sent v r) i) | inr a ↦ inr a ];
+    refused = more.refused;
+    beside = more.beside;
+  },
+  l.1,
+  l.2,
+)
+
 pub longer_same : (trace : Option Trace) → LongerIn trace trace
 longer_same None = tt
-longer_same (Some t) = (record { events = λ e i. i; calls = λ c i. i; begun = λ b i. i; rollbacks = λ n i. i; groups = λ g i. i; sent = λ u r h. h }, refl, refl)
+longer_same (Some t) = (record { events = λ e i. i; calls = λ c i. i; begun = λ b i. i; rollbacks = λ n i. i; groups = λ g i. i; sent = λ u r h. h; refused = λ line n h. h; beside = λ line n h. h }, refl, refl)
+
+longest : (t mid longer : Trace) → IsLonger t mid → IsLonger mid longer → IsLonger t longer
+longest t mid longer l m = record {
+  events = λ e i. m.events e (l.events e i);
+  calls = λ c i. m.calls c (l.calls c i);
+  begun = λ b i. m.begun b (l.begun b i);
+  rollbacks = λ n i. m.rollbacks n (l.rollbacks n i);
+  groups = λ g i. m.groups g (l.groups g i);
+  sent = λ u r h. m.sent u r (l.sent u r h);
+  refused = λ line n h. m.refused line n (l.refused line n h);
+  beside = λ line n h. m.beside line n (l.beside line n h);
+}
+
+pub longer_then : (trace mid longer : Option Trace) → LongerIn trace mid → LongerIn mid longer → LongerIn trace longer
+longer_then None None None l m = tt
+longer_then (Some t) (Some u) (Some v) l m = (longest t u v l.0 m.0, m.1 ∙ l.1, l.2 ∙ m.2)
+longer_then None (Some u) longer l m = absurd l
+longer_then (Some t) None longer l m = absurd l
+longer_then None None (Some v) l m = absurd m
+longer_then (Some t) (Some u) None l m = absurd m
+
+-- What is still to be told of refused asks
+
+fewer_owed : (t : Trace) (x : Result Timestamp Error) (line n k : ℕ) → HasRefused t n (k + times_in (and_refused x line t.owed) n) → HasRefusedBeside t n k
+fewer_owed t (Ok time) line n k h = h
+fewer_owed t (Err e) line n k h = by (nat_eq line n) h
+  where
+    by : (b : Bool) → HasRefused t n (k + (if b then suc (times_in t.owed n) else times_in t.owed n)) → HasRefusedBeside t n k
+    by true h = (h.0, (let enough = h.1 in omega (arith, enough)), h.2)
+    by false h = h
+
+pub owing_one_longer : (x : Result Timestamp Error) (line : ℕ) (trace : Option Trace) → LongerIn (owing_one x line trace) trace
+owing_one_longer x line None = tt
+owing_one_longer x line (Some t) =
+    (record { events = λ e i. i; calls = λ c i. i; begun = λ b i. i; rollbacks = λ n i. i; groups = λ g i. i; sent = λ u r h. h; refused = λ n k h. h; beside = λ n k h. fewer_owed t x line n k h }, refl, refl)
+
+-- once it was told
+pub owing_longer : (line : ℕ) (told : Told) (trace : Option Trace) → LongerIn (owing line told trace) trace
+owing_longer line tells.Start trace = longer_same trace
+owing_longer line (tells.Act act) trace = longer_same trace
+owing_longer line (tells.Heard (arrivals.Reply n x)) trace = longer_same trace
+owing_longer line (tells.Heard (arrivals.Lost n)) trace = longer_same trace
+owing_longer line (tells.Heard (arrivals.Slept n)) trace = longer_same trace
+owing_longer line (tells.Heard (arrivals.Time k x)) trace = owing_one_longer x line trace
+
+owing_one_posting : (x : Result Timestamp Error) (line : ℕ) (ps : List Posting) (trace : Option Trace) → posting_in ps (owing_one x line trace) ≡ owing_one x line (posting_in ps trace)
+owing_one_posting x line ps None = refl
+owing_one_posting x line ps (Some t) = refl
+
+pub owing_posting : (line : ℕ) (told : Told) (ps : List Posting) (trace : Option Trace) → posting_in ps (owing line told trace) ≡ owing line told (posting_in ps trace)
+owing_posting line tells.Start ps trace = refl
+owing_posting line (tells.Act act) ps trace = refl
+owing_posting line (tells.Heard (arrivals.Reply n x)) ps trace = refl
+owing_posting line (tells.Heard (arrivals.Lost n)) ps trace = refl
+owing_posting line (tells.Heard (arrivals.Slept n)) ps trace = refl
+owing_posting line (tells.Heard (arrivals.Time k x)) ps trace = owing_one_posting x line ps trace
+
+owed_both : (t longer : Trace) → IsLonger t longer → (x : Result Timestamp Error) (line n k : ℕ) → HasRefused t n (k + times_in (and_refused x line t.owed) n) → HasRefused longer n (k + times_in (and_refused x line longer.owed) n)
+owed_both t longer l (Ok time) line n k h = l.beside n k h
+owed_both t longer l (Err e) line n k h = by (nat_eq line n) h
+  where
+    by : (b : Bool) → HasRefused t n (k + (if b then suc (times_in t.owed n) else times_in t.owed n)) → HasRefused longer n (k + (if b then suc (times_in longer.owed n) else times_in longer.owed n))
+    by true h =
+        let more = l.beside n (suc k) (h.0, (let enough = h.1 in omega (arith, enough)), h.2) in
+        (more.0, (let enough = more.1 in omega (arith, enough)), more.2)
+    by false h = l.beside n k h
+
+owing_one_both : (x : Result Timestamp Error) (line : ℕ) (trace longer : Option Trace) → LongerIn trace longer → LongerIn (owing_one x line trace) (owing_one x line longer)
+owing_one_both x line None None l = tt
+owing_one_both x line None (Some u) l = absurd l
+owing_one_both x line (Some t) None l = absurd l
+owing_one_both x line (Some t) (Some u) l = let more = l.0 in (
+  record { events = more.events; calls = more.calls; begun = more.begun; rollbacks = more.rollbacks; groups = more.groups; sent = more.sent; refused = more.refused; beside = λ n k h. owed_both t u more x line n k h },
+  l.1,
+  l.2,
+)
+
+owing_both : (line : ℕ) (told : Told) (trace longer : Option Trace) → LongerIn trace longer → LongerIn (owing line told trace) (owing line told longer)
+owing_both line tells.Start trace longer l = l
+owing_both line (tells.Act act) trace longer l = l
+owing_both line (tells.Heard (arrivals.Reply n x)) trace longer l = l
+owing_both line (tells.Heard (arrivals.Lost n)) trace longer l = l
+owing_both line (tells.Heard (arrivals.Slept n)) trace longer l = l
+owing_both line (tells.Heard (arrivals.Time k x)) trace longer l = owing_one_both x line trace longer l
+
+-- what a row posts was sent after that, too
+pub owing_met : (told : Told) (trace longer : Option Trace) (from to : Posted) → HasMet trace longer from to → HasMet (owing from.line told trace) longer from to
+owing_met told trace longer from to met = record { calls = met.calls; longer = longer_then (owing from.line told trace) trace longer (owing_longer from.line told trace) met.longer; sent = met.sent }
+
+-- what a trace has but for that
+owing_one_called : (x : Result Timestamp Error) (n line at : ℕ) (trace : Option Trace) → CalledIn trace line at → CalledIn (owing_one x n trace) line at
+owing_one_called x n line at None c = tt
+owing_one_called x n line at (Some t) c = c
+
+pub owing_called : (n : ℕ) (told : Told) (line at : ℕ) (trace : Option Trace) → CalledIn trace line at → CalledIn (owing n told trace) line at
+owing_called n tells.Start line at trace c = c
+owing_called n (tells.Act act) line at trace c = c
+owing_called n (tells.Heard (arrivals.Reply m x)) line at trace c = c
+owing_called n (tells.Heard (arrivals.Lost m)) line at trace c = c
+owing_called n (tells.Heard (arrivals.Slept m)) line at trace c = c
+owing_called n (tells.Heard (arrivals.Time k x)) line at trace c = owing_one_called x n line at trace c
+
+owing_one_came : (x : Result Timestamp Error) (n : ℕ) (o : Posted) (k : ℕ) (trace : Option Trace) → CameIn trace o (arrivals.Time k x) → CameIn (owing_one x n trace) o (arrivals.Time k x)
+owing_one_came x n o k None c = tt
+owing_one_came (Ok time) n o k (Some t) c = tt
+owing_one_came (Err e) n o k (Some t) c = record { group = c.group; among = c.among; asker = c.asker; request = c.request; failed = c.failed }
+
+pub owing_came : (n : ℕ) (o : Posted) (a : Arrival) (trace : Option Trace) → CameIn trace o a → CameIn (owing n (tells.Heard a) trace) o a
+owing_came n o (arrivals.Reply m x) trace c = c
+owing_came n o (arrivals.Lost m) trace c = c
+owing_came n o (arrivals.Slept m) trace c = c
+owing_came n o (arrivals.Time k x) trace c = owing_one_came x n o k trace c
 
 pub posted_sent : (trace : Option Trace) (ps : List Posting) (u : Ticket) (r : Request) → Any (IsSend u r) ps → SentIn (posting_in ps trace) u r
 posted_sent None ps u r a = tt
@@ -188,6 +326,44 @@ own_heard (arrivals.Time k x) o r h calls own = own_one o.line (Answered (ticket
 pub own_times : (line : ℕ) (u : Ticket) (r : TsoRequest) (times : TsoResponse) → AreOwn line (Took u (Tso r) (replies.Tso times) ∷ [])
 own_times line u r times = own_one line (Took u (Tso r) (replies.Tso times)) [] (inr tt) (λ e i. absurd i)
 
+-- Of how many refused asks it has heard
+
+pub refused_after : (line : ℕ) (beat : Bool) (h : List Event) (sends : List Errand) → refused_asks (after line beat h sends) ≡ refused_asks h
+refused_after line beat h [] = refl
+refused_after line beat h (Send n to r ∷ rs) = refused_after line beat (posting line beat (Send n to r) ∷ h) rs
+refused_after line beat h (Sleep n ms ∷ rs) = refused_after line beat (posting line beat (Sleep n ms) ∷ h) rs
+refused_after line beat h (Ask n ∷ rs) = refused_after line beat (posting line beat (Ask n) ∷ h) rs
+
+pub counted_after : (trace : Option Trace) (line by : ℕ) (beat : Bool) (h : List Event) (sends : List Errand) → CountedIn trace line (refused_asks h) → CountedIn trace line (refused_asks (after by beat h sends))
+counted_after trace line by beat h sends c = subst (CountedIn trace line) (sym (refused_after by beat h sends)) c
+
+told_once : (t : Trace) (line n : ℕ) → HasRefused t line (n + times_in (line ∷ t.owed) line) → HasRefusedBeside t line (suc n)
+told_once t line n c = by (nat_eq line line) (grind (arith, nat_tests)) c
+  where
+    by : (b : Bool) → b ≡ true → HasRefused t line (n + (if b then suc (times_in t.owed line) else times_in t.owed line)) → HasRefusedBeside t line (suc n)
+    by true e c = (c.0, (let enough = c.1 in omega (arith, enough)), c.2)
+    by false e c = absurd (cc)
+
+counted_time : (x : Result Timestamp Error) (ask : Ticket) (line : ℕ) (trace : Option Trace) (h : List Event) → CountedIn (owing_one x line trace) line (refused_asks h) → CountedIn trace line (refused_asks (Answered ask x ∷ h))
+counted_time x ask line None h c = tt
+counted_time (Ok time) ask line (Some t) h c = c
+counted_time (Err e) ask line (Some t) h c = told_once t line (refused_asks h) c
+
+-- as the line hears of one more
+counted_heard : (a : Arrival) (o : Posted) (r : Request) (trace : Option Trace) (h : List Event) → CountedIn (owing o.line (tells.Heard a) trace) o.line (refused_asks h) → CountedIn trace o.line (refused_asks ((told_by a o r).hear h))
+counted_heard (arrivals.Reply n x) o r trace h c = c
+counted_heard (arrivals.Lost n) o r trace h c = c
+counted_heard (arrivals.Slept n) o r trace h c = c
+counted_heard (arrivals.Time k x) o r trace h c = counted_time x (ticket_of o k) o.line trace h c
+
+-- and the trace goes on
+pub counts_heard : (a : Arrival) (o : Posted) (trace longer : Option Trace) → LongerIn trace longer → (r : Request) (h : List Event) → CountedIn (owing o.line (tells.Heard a) trace) o.line (refused_asks h) → CountedIn longer o.line (refused_asks ((told_by a o r).hear h))
+counts_heard a o trace longer l r h c = counted_heard a o r longer h (counted_longer (owing o.line (tells.Heard a) trace) (owing o.line (tells.Heard a) longer) o.line (refused_asks h) (owing_both o.line (tells.Heard a) trace longer l) c)
+
+-- all of them were refused
+pub counted_refused : (t : Trace) (line n : ℕ) → HasRefusedBeside t line n → HasRefused t line n
+counted_refused t line n c = (c.0, (let enough = c.1 in omega (arith, enough)), c.2)
+
 -- Errors
 
 -- a call that is not meant answers nothing
@@ -256,31 +432,31 @@ module _ {P Q K A B D : Type 0} (w : Ways P Q K A B D) where
         by (Some parts) e = (known_with parts e, left)
 
   -- an error that a call answers rests on what it has heard
-  pub fails_by : (trace : Option Trace) (at line : ℕ) (e : Error) (h : List Event) → ShownIn trace at h → AreOwn line h → ((t : Trace) → trace ≡ Some t → HasFailedFor w false (IsBegunAs t at) h e) → FailsAt w trace at line e
-  fails_by None at line e h s own f = tt
-  fails_by (Some t) at line e h s own f = inl (h, s, own, inl (f t refl))
+  pub fails_by : (trace : Option Trace) (at line : ℕ) (e : Error) (h : List Event) → ShownIn trace at h → AreOwn line h → CountedIn trace line (refused_asks h) → ((t : Trace) → trace ≡ Some t → HasFailedFor w false (IsBegunAs t at) h e) → FailsAt w trace at line e
+  fails_by None at line e h s own counted f = tt
+  fails_by (Some t) at line e h s own counted f = inl (h, s, own, counted_refused t line (refused_asks h) counted, inl (f t refl))
 
   -- and of a rollback
-  pub barred_by : (trace : Option Trace) (at line : ℕ) (e : Error) (h : List Event) → ShownIn trace at h → AreOwn line h → RollsIn trace line → CallRefused h e → FailsAt w trace at line e
-  barred_by None at line e h s own rolls f = tt
-  barred_by (Some t) at line e h s own rolls f = inl (h, s, own, inr (rolls, f))
+  pub barred_by : (trace : Option Trace) (at line : ℕ) (e : Error) (h : List Event) → ShownIn trace at h → AreOwn line h → CountedIn trace line (refused_asks h) → RollsIn trace line → CallRefused h e → FailsAt w trace at line e
+  barred_by None at line e h s own counted rolls f = tt
+  barred_by (Some t) at line e h s own counted rolls f = inl (h, s, own, counted_refused t line (refused_asks h) counted, inr (rolls, f))
 
   pub refused_by : (trace : Option Trace) (at line : ℕ) (e why : Error) → RefusedIn trace line (Some why) → e ≡ why → FailsAt w trace at line e
   refused_by None at line e why r same = tt
   refused_by (Some t) at line e why r same = inr (r e (ap Some (sym same)))
 
-  fails_gives : (trace : Option Trace) (at line : ℕ) (t : Standing P Q K) (o : Posted) (h : List Event) (v : Result (TxnAnswer Q) Error) → RetriesIn trace at t.options.retry_options → ShownIn trace at h → AreOwn line h → (t.work ≡ GaveUp → ⊥) → TransactionFits w t o h → TransactionGives w t.options.retry_options t.start t.contents t.commits h v → IfFails (FailsAt w trace at line) v
+  fails_gives : (trace : Option Trace) (at line : ℕ) (t : Standing P Q K) (o : Posted) (h : List Event) (v : Result (TxnAnswer Q) Error) → RetriesIn trace at t.options.retry_options → ShownIn trace at h → AreOwn line h → CountedIn trace line (refused_asks h) → (t.work ≡ GaveUp → ⊥) → TransactionFits w t o h → TransactionGives w t.options.retry_options t.start t.contents t.commits h v → IfFails (FailsAt w trace at line) v
   unfolding known_with
-  fails_gives trace at line t o h (Ok v) retries s own alive f gives = tt
-  fails_gives trace at line t o h (Err e) retries s own alive f (inl (parts, whole, fails)) = fails_by trace at line e h s own (λ shows is. inr (record { transaction = known_with t o h alive f parts whole; retries = subst (λ (x : Option Trace). RetriesIn x at t.options.retry_options) is retries; fails = fails }))
-  fails_gives trace at line t o h (Err e) retries s own alive f (inr g) = absurd (never_nothing {Q = Q} e g.1)
+  fails_gives trace at line t o h (Ok v) retries s own counted alive f gives = tt
+  fails_gives trace at line t o h (Err e) retries s own counted alive f (inl (parts, whole, fails)) = fails_by trace at line e h s own counted (λ shows is. inr (record { transaction = known_with t o h alive f parts whole; retries = subst (λ (x : Option Trace). RetriesIn x at t.options.retry_options) is retries; fails = fails }))
+  fails_gives trace at line t o h (Err e) retries s own counted alive f (inr g) = absurd (never_nothing {Q = Q} e g.1)
 
-  pub fails_done : (trace : Option Trace) (at line : ℕ) (old new : Standing P Q K) (o : Posted) (h : List Event) (turn : Turn (Result (TxnAnswer Q) Error)) → RetriesIn trace at new.options.retry_options → ShownIn trace at h → AreOwn line h → ((v : Result (TxnAnswer Q) Error) → turn ≡ Ends v → new.work ≡ GaveUp → ⊥) → TransactionFits w new o h → new.start ≡ old.start → new.options ≡ old.options → new.contents ≡ old.contents
+  pub fails_done : (trace : Option Trace) (at line : ℕ) (old new : Standing P Q K) (o : Posted) (h : List Event) (turn : Turn (Result (TxnAnswer Q) Error)) → RetriesIn trace at new.options.retry_options → ShownIn trace at h → AreOwn line h → CountedIn trace line (refused_asks h) → ((v : Result (TxnAnswer Q) Error) → turn ≡ Ends v → new.work ≡ GaveUp → ⊥) → TransactionFits w new o h → new.start ≡ old.start → new.options ≡ old.options → new.contents ≡ old.contents
       → IfEnds turn (λ v. TransactionGives w old.options.retry_options old.start old.contents new.commits h v) → IfEnds turn (IfFails (FailsAt w trace at line))
-  fails_done trace at line old new o h Stopped retries s own alive f start options contents gives = tt
-  fails_done trace at line old new o h Waits retries s own alive f start options contents gives = tt
-  fails_done trace at line old new o h (Ends v) retries s own alive f start options contents gives =
-      fails_gives trace at line new o h v retries s own (alive v refl) f (subst (λ (x : TransactionOptions). TransactionGives w x.retry_options new.start new.contents new.commits h v) (sym options) (subst (λ (x : Timestamp). TransactionGives w old.options.retry_options x new.contents new.commits h v) (sym start) (subst (λ (c : Contents). TransactionGives w old.options.retry_options old.start c new.commits h v) (sym contents) gives)))
+  fails_done trace at line old new o h Stopped retries s own counted alive f start options contents gives = tt
+  fails_done trace at line old new o h Waits retries s own counted alive f start options contents gives = tt
+  fails_done trace at line old new o h (Ends v) retries s own counted alive f start options contents gives =
+      fails_gives trace at line new o h v retries s own counted (alive v refl) f (subst (λ (x : TransactionOptions). TransactionGives w x.retry_options new.start new.contents new.commits h v) (sym options) (subst (λ (x : Timestamp). TransactionGives w old.options.retry_options x new.contents new.commits h v) (sym start) (subst (λ (c : Contents). TransactionGives w old.options.retry_options old.start c new.commits h v) (sym contents) gives)))
 
 -- Calls that ended
 
@@ -323,6 +499,6 @@ module _ {P Q K A B D : Type 0} (w : Ways P Q K A B D) where
       → IfFails (FailsAt w trace at line) v → HasReason w trace (record { line = line; outcome = o })
   reason_so None line at o v called same fed f = tt
   reason_so (Some t) line at o v called same fed f = λ e is. elim (subst (IfFails (FailsAt w (Some t) at line)) (same e is) f) [
-    | inl h ↦ inl (record { at = at; called = called; history = h.0; shown = h.1; own = h.2; fails_so = elim h.3 [ inl k ↦ inl (record { why = k; fed = fed e is }) | inr k ↦ inr (k.0, record { why = k.1; fed = fed e is }) ] })
+    | inl h ↦ inl (record { at = at; called = called; history = h.0; shown = h.1; own = h.2; counted = h.3; fails_so = elim h.4 [ inl k ↦ inl (record { why = k; fed = fed e is }) | inr k ↦ inr (k.0, record { why = k.1; fed = fed e is }) ] })
     | inr i ↦ inr i
   ]

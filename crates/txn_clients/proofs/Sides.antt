@@ -219,7 +219,7 @@ new_ready {P} {Q} {K} w p q k s places clients ready = record {
   committing = q;
   rolling = k;
   rows = ready;
-  sound = nothing_rests w None s rows clients;
+  sound = nothing_rests w None s (λ n. tt) rows clients;
   running = λ i. subst (λ rs. RowRuns (row_at rs i)) (sym rows) tt;
   quiet = λ c. inl (ap (λ (b : Book). b.queue) (book c));
 }

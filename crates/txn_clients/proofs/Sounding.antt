@@ -39,9 +39,9 @@ use Rattle.txn_kv.specs.declared.request.Request.{Request}
 use Rattle.txn_kv.specs.declared.ticket.Target.{Target}
 use Rattle.txn_side.specs.Trace.{IsSend, Trace}
 use Rattle.txn_side.specs.declared.turn.Ending.{Ending}
-use Rattle.txn_clients.specs.Failing.{AnswerRests, AreToldIn, CalledFor, CalledIn, EndsMore, HasMet, HasReason, MayKnow, outbox_of, posting_in}
-use Rattle.txn_clients.specs.Resting.{row_longer, told_longer}
-use Rattle.txn_clients.proofs.Showing.{posted_sent, posting_longer}
+use Rattle.txn_clients.specs.Failing.{AnswerRests, AreToldIn, CalledFor, CalledIn, EndsMore, HasMet, HasReason, LongerIn, MayKnow, outbox_of, owing, posting_in}
+use Rattle.txn_clients.specs.Resting.{counted_longer, row_longer, told_longer}
+use Rattle.txn_clients.proofs.Showing.{longer_then, owing_longer, owing_posting, posted_sent, posting_longer}
 use Rattle.txn_clients.proofs.Going.{row_later}
 use Rattle.txn_clients.proofs.Voices.{voice_once}
 
@@ -191,6 +191,7 @@ module _ {P Q K A B D : Type 0} (w : Ways P Q K A B D) where
     owned = λ c u e. let o = sound.owned c u (ap (λ (b : Book). b.ticket) (sym (books c)) ∙ e) in record { beat = o.beat; own = kept u.line c o.own };
     numbered = λ c u e. let l = sound.numbered c u (ap (λ (b : Book). b.ticket) (sym (books c)) ∙ e) in let up = risen u.line in omega (arith, l, up);
     unwanted = λ c u e x. sound.unwanted c u (ap (λ (b : Book). b.ticket) (sym (books c)) ∙ e) (fewer u.line (ReplyTo u.number) x);
+    owing = sound.owing;
   }
 
   module _ (p : IsLawful w.prewriting) (q : IsLawful w.committing) (k : IsLawful w.rolling) where
@@ -218,11 +219,11 @@ module _ {P Q K A B D : Type 0} (w : Ways P Q K A B D) where
         → ((c : ℕ) → (book_at t c).out ≡ (book_at s c).out) → ((c : ℕ) → (book_at t c).ticket ≡ (book_at s c).ticket)
         → ((n i : ℕ) → HasAsk (book_at s client).queue n i → HasAsk (book_at t client).queue n i) → ((c : ℕ) → c ≢ client → book_at t c ≡ book_at s c)
         → MayKnow (posting_in ps trace) (outbox_of line) told (row_at (rows_of s) at)
-        → IsSound w (posting_in ps trace) (pends line told rest) s → GoesOn w trace client (HearsAt line told) rest ps qs ends ends s t × IfSome answer (AnswerRests w (posting_in qs trace) (suc at) line)
+        → IsSound w (posting_in ps (owing line told trace)) (pends line told rest) s → GoesOn w trace client (HearsAt line told) rest ps qs ends ends s t × IfSome answer (AnswerRests w (posting_in qs trace) (suc at) line)
     push_goes trace s t told line client at r rest from to answer sends ps qs ends is inside own voiced matched begins sent rows stand goes risen up asks crashed above kept done mailed outs tickets queued books knows sound = (
       record {
         sound = record {
-          told = subst (AreToldIn (posting_in qs trace)) (sym stands) (told_longer (posting_in ps trace) (posting_in qs trace) (stands_of (rows_of s)) (posting_longer trace ps qs kept) sound.told);
+          told = subst (AreToldIn (posting_in qs trace)) (sym stands) (told_longer (posting_in ps (owing line told trace)) (posting_in qs trace) (stands_of (rows_of s)) went_on sound.told);
           arisen = arisen;
           called = subst AreCalled (sym stands) sound.called;
           known = λ n c e. subst (λ cs. c < length cs) (sym crashed) (sound.known n c (ap (λ ss. client_at (stand_at ss n)) (sym stands) ∙ e));
@@ -231,6 +232,7 @@ module _ {P Q K A B D : Type 0} (w : Ways P Q K A B D) where
           owned = λ c u e. let o = sound.owned c u (sym (tickets c) ∙ e) in record { beat = o.beat; own = subst (λ ss. client_at (stand_at ss u.line) ≡ Some c) (sym stands) o.own };
           numbered = λ c u e. let l = sound.numbered c u (sym (tickets c) ∙ e) in let up = risen u.line in omega (arith, l, up);
           unwanted = λ c u e x. unwanted c u (sym (tickets c) ∙ e) x;
+          owing = λ n. counted_longer (posting_in ps (owing line told trace)) (posting_in qs trace) n 0 went_on (sound.owing n);
         };
         ends = no_more w (posting_in qs trace) ends;
         posted = kept;
@@ -244,6 +246,13 @@ module _ {P Q K A B D : Type 0} (w : Ways P Q K A B D) where
       where
         olds : List (Row P Q K)
         olds = rows_of s
+
+        -- once it was told, and then what is posted
+        once_told : LongerIn (posting_in ps (owing line told trace)) (posting_in ps trace)
+        once_told = subst (λ x. LongerIn x (posting_in ps trace)) (sym (owing_posting line told ps trace)) (owing_longer line told (posting_in ps trace))
+
+        went_on : LongerIn (posting_in ps (owing line told trace)) (posting_in qs trace)
+        went_on = longer_then (posting_in ps (owing line told trace)) (posting_in ps trace) (posting_in qs trace) once_told (posting_longer trace ps qs kept)
 
         stands : stands_of (rows_of t) ≡ stands_of (rows_of s)
         stands = ap stands_of rows ∙ stands_told olds at r inside stand
@@ -283,10 +292,12 @@ module _ {P Q K A B D : Type 0} (w : Ways P Q K A B D) where
 
         come : RowArises w (posting_in qs trace) (suc at) (posted_at (nexts_of t) (asks_of t) line) (nexts_of t) r × IfSome answer (AnswerRests w (posting_in qs trace) (suc at) from.line)
         come =
-            let before = subst (λ o. RowArises w (posting_in ps trace) (suc at) o (nexts_of s) (row_at olds at)) (sym begins) (subst (λ n. RowArises w (posting_in ps trace) (suc at) (posted_at (nexts_of s) (asks_of s) n) (nexts_of s) (row_at olds at)) v (sound.arisen at)) in
+            let before = subst (λ (o : Posted). RowArises w (owing o.line told (posting_in ps trace)) (suc at) o (nexts_of s) (row_at olds at)) (sym begins)
+            (subst (λ x. RowArises w x (suc at) (posted_at (nexts_of s) (asks_of s) line) (nexts_of s) (row_at olds at)) (owing_posting line told ps trace)
+            (subst (λ n. RowArises w (posting_in ps (owing line told trace)) (suc at) (posted_at (nexts_of s) (asks_of s) n) (nexts_of s) (row_at olds at)) v (sound.arisen at))) in
             let low = subst (λ (o : Posted). next_at (nexts_of s) o.line ≤ o.next) (sym begins) (le_of (next_at (nexts_of s) line) (next_at (nexts_of s) line) refl) in
             let high = subst (λ (o : Posted). to.next ≤ next_at (nexts_of t) o.line) (sym begins) up in
-            let called = subst (λ (o : Posted). CalledFor (posting_in ps trace) o.line (suc at) (row_at olds at)) (sym begins) (called_for (posting_in ps trace) olds line at sound.told matched some voiced) in
+            let called = subst (λ (o : Posted). CalledFor (posting_in ps trace) o.line (suc at) (row_at olds at)) (sym begins) (called_for (posting_in ps trace) olds line at (told_longer (posting_in ps (owing line told trace)) (posting_in ps trace) (stands_of olds) once_told sound.told) matched some voiced) in
             let may = subst (λ (o : Posted). MayKnow (posting_in ps trace) o told (row_at olds at)) (sym begins) (may_know_at (posting_in ps trace) line (next_at (nexts_of s) line) (next_at (asks_of s) line) [] told (row_at olds at) knows) in
             goes.arises (posting_in ps trace) (posting_in qs trace) (suc at) met called may (nexts_of s) (nexts_of t) (posted_at (nexts_of t) (asks_of t) line) low risen high reached before
 
@@ -302,7 +313,7 @@ module _ {P Q K A B D : Type 0} (w : Ways P Q K A B D) where
         }
 
         there : (i : ℕ) → i ≢ at → RowArises w (posting_in qs trace) (suc i) (posted_at (nexts_of t) (asks_of t) (voice_at olds i)) (nexts_of t) (row_at olds i)
-        there i apart = row_later w p q k (posting_in qs trace) (suc i) (row_at olds i) (posted_at (nexts_of s) (asks_of s) (voice_at olds i)) (posted_at (nexts_of t) (asks_of t) (voice_at olds i)) (nexts_of s) (nexts_of t) (later (voice_at olds i) (once i apart)) risen (row_longer w (posting_in ps trace) (posting_in qs trace) (suc i) _ _ (row_at olds i) (posting_longer trace ps qs kept) (sound.arisen i))
+        there i apart = row_later w p q k (posting_in qs trace) (suc i) (row_at olds i) (posted_at (nexts_of s) (asks_of s) (voice_at olds i)) (posted_at (nexts_of t) (asks_of t) (voice_at olds i)) (nexts_of s) (nexts_of t) (later (voice_at olds i) (once i apart)) risen (row_longer w (posting_in ps (owing line told trace)) (posting_in qs trace) (suc i) _ _ (row_at olds i) went_on (sound.arisen i))
 
         arisen : (i : ℕ) → RowArises w (posting_in qs trace) (suc i) (posted_at (nexts_of t) (asks_of t) (voice_at (rows_of t) i)) (nexts_of t) (row_at (rows_of t) i)
         arisen i = subst (λ rs. RowArises w (posting_in qs trace) (suc i) (posted_at (nexts_of t) (asks_of t) (voice_at rs i)) (nexts_of t) (row_at rs i)) (sym rows) (arisen_set w (posting_in qs trace) olds at r (nexts_of t) (asks_of t) inside here there i)

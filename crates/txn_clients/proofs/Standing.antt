@@ -41,13 +41,14 @@ use Rattle.txn_core.proofs.Others.{adds_same, idle_fits, others_fit}
 use Rattle.txn_core.proofs.Waiting.{busy_runs, runs_still, standing_posted}
 use Rattle.txn_side.specs.Sight.{next_at}
 use Rattle.txn_core.specs.declared.options.TransactionOptions.{TransactionOptions}
-use Rattle.txn_clients.specs.Failing.{CalledIn, CameIn, FailsAt, HasMet, IfFails, LongerIn, RefusedIn, SentIn, ShownIn, KnowsAsk, RollsIn, RetriesIn}
-use Rattle.txn_clients.specs.Resting.{called_in_longer, shown_longer, retries_longer}
+use Rattle.txn_clients.specs.declared.told.Told.TheVariants as tells
+use Rattle.txn_clients.specs.Failing.{CalledIn, CameIn, CountedIn, FailsAt, HasMet, IfFails, LongerIn, RefusedIn, SentIn, ShownIn, KnowsAsk, RollsIn, RetriesIn, owing}
+use Rattle.txn_clients.specs.Resting.{called_in_longer, counted_longer, shown_longer, retries_longer}
 use Rattle.txn_clients.specs.Waiting.{IsKept, IsReached, IsRisen, StandArises, StandGoes}
-use Rattle.txn_clients.proofs.Cleaning.{cleaned, given_cleaned, kept_cleaned, own_cleaned, parts_cleaned, shown_cleaned, unsent_cleaned}
-use Rattle.txn_clients.proofs.Showing.{among_behind, barred_by, rolls_longer, known_so, fails_done, known_sent, own_after, own_heard, refused_by, refused_longer_in, sent_shown, shown_after, shown_heard, unheard_ends}
+use Rattle.txn_clients.proofs.Cleaning.{cleaned, given_cleaned, kept_cleaned, own_cleaned, parts_cleaned, refused_cleaned, shown_cleaned, unsent_cleaned}
+use Rattle.txn_clients.proofs.Showing.{among_behind, barred_by, counted_after, counts_heard, owing_called, owing_came, owing_met, rolls_longer, known_so, fails_done, known_sent, own_after, own_heard, refused_by, refused_longer_in, sent_shown, shown_after, shown_heard, unheard_ends}
 use Rattle.txn_side.specs.Account.{Account}
-use Rattle.txn_side.specs.Trace.{AreOwn, Trace}
+use Rattle.txn_side.specs.Trace.{AreOwn, Trace, refused_asks}
 use Rattle.txn_side.specs.declared.act.Act.{Act}
 use Rattle.txn_kv.specs.declared.outbox.Errand.TheVariants.{Send}
 use Rattle.txn_history.specs.Among.{IsAmong}
@@ -157,10 +158,10 @@ module _ {P Q K A B D : Type 0} (w : Ways P Q K A B D) (p : IsLawful w.prewritin
   later_fits t o later h l f = others_fit w p q k t o later h h l (adds_same (λ r. r.start_version ≡ version_of t.start) h) f
 
   pub stand_later : {trace : Option Trace} {at : ℕ} (t : Standing P Q K) (o later : Posted) (nexts news : List ℕ) → IsLater o later → IsRisen nexts news → StandArises w trace at o nexts t → StandArises w trace at later news t
-  stand_later t o later nexts news l risen a = record {
+  stand_later {trace} {at} t o later nexts news l risen a = record {
     ordered = a.ordered;
     retries = a.retries;
-    arisen = record { history = a.arisen.history; fits = later_fits t o later a.arisen.history l a.arisen.fits; kept = kept_risen nexts news a.arisen.history risen a.arisen.kept; shown = a.arisen.shown; own = subst (λ n. AreOwn n a.arisen.history) (sym l.line) a.arisen.own };
+    arisen = record { history = a.arisen.history; fits = later_fits t o later a.arisen.history l a.arisen.fits; kept = kept_risen nexts news a.arisen.history risen a.arisen.kept; shown = a.arisen.shown; own = subst (λ n. AreOwn n a.arisen.history) (sym l.line) a.arisen.own; counted = subst (λ n. CountedIn trace n (refused_asks a.arisen.history)) (sym l.line) a.arisen.counted };
   }
 
   -- and in a longer trace
@@ -168,7 +169,7 @@ module _ {P Q K A B D : Type 0} (w : Ways P Q K A B D) (p : IsLawful w.prewritin
   stand_shown trace longer at t o nexts l a = record {
     ordered = a.ordered;
     retries = retries_longer trace longer at t.options.retry_options l a.retries;
-    arisen = record { history = a.arisen.history; fits = a.arisen.fits; kept = a.arisen.kept; shown = shown_longer trace longer at a.arisen.history l a.arisen.shown; own = a.arisen.own };
+    arisen = record { history = a.arisen.history; fits = a.arisen.fits; kept = a.arisen.kept; shown = shown_longer trace longer at a.arisen.history l a.arisen.shown; own = a.arisen.own; counted = counted_longer trace longer o.line (refused_asks a.arisen.history) l a.arisen.counted };
   }
 
   -- between calls, in any outbox, and with what explains no error
@@ -192,8 +193,8 @@ module _ {P Q K A B D : Type 0} (w : Ways P Q K A B D) (p : IsLawful w.prewritin
       by (inl i) = idle_fits w t o later h i f
       by (inr g) = record { given = f.given; unsent = f.unsent; settled = f.settled; at = subst (λ x. IsAtWork w t.options.retry_options t.start t.status t.contents t.commits x later h) (sym g) tt }
 
-  pub stand_rests : {trace : Option Trace} {at : ℕ} (t : Standing P Q K) (o later : Posted) (nexts news : List ℕ) → is_open t.work ≡ false → IsRisen nexts news → StandArises w trace at o nexts t → StandArises w trace at later news t
-  stand_rests {trace} {at} t o later nexts news e risen a = record {
+  pub stand_rests : {trace : Option Trace} {at : ℕ} (t : Standing P Q K) (o later : Posted) (nexts news : List ℕ) → is_open t.work ≡ false → IsRisen nexts news → CountedIn trace later.line 0 → StandArises w trace at o nexts t → StandArises w trace at later news t
+  stand_rests {trace} {at} t o later nexts news e risen none a = record {
     ordered = a.ordered;
     retries = a.retries;
     arisen = record {
@@ -202,6 +203,7 @@ module _ {P Q K A B D : Type 0} (w : Ways P Q K A B D) (p : IsLawful w.prewritin
       kept = kept_cleaned news a.arisen.history (kept_risen nexts news a.arisen.history risen a.arisen.kept);
       shown = shown_cleaned trace at a.arisen.history a.arisen.shown;
       own = own_cleaned later.line a.arisen.history;
+      counted = subst (CountedIn trace later.line) (sym (refused_cleaned a.arisen.history)) none;
     };
   }
 
@@ -235,11 +237,12 @@ module _ {P Q K A B D : Type 0} (w : Ways P Q K A B D) (p : IsLawful w.prewritin
       → TransactionMoves w known hear old new from to turn → turn ≢ Stopped → Outlives new turn → new.start ≡ old.start → new.options ≡ old.options → new.contents ≡ old.contents
       → ((h : List Event) → IsKept nexts h → IsKept nexts (hear h))
       → next_at nexts from.line ≤ from.next → IsRisen nexts news → to.next ≤ next_at news from.line → IsReached from to o
-      → (a : StandArises w trace at from nexts old) → known a.arisen.history → ShownIn trace at (hear a.arisen.history) → AreOwn from.line (hear a.arisen.history) → Arises longer at from.line o news new turn
-  moved trace longer at known hear old new from to o turn nexts news met called m kept alive start options same keeps low risen up reached a knows hears owns =
+      → (a : StandArises w trace at from nexts old) → known a.arisen.history → ShownIn trace at (hear a.arisen.history) → AreOwn from.line (hear a.arisen.history) → CountedIn longer from.line (refused_asks (hear a.arisen.history)) → Arises longer at from.line o news new turn
+  moved trace longer at known hear old new from to o turn nexts news met called m kept alive start options same keeps low risen up reached a knows hears owns counts =
       let h = a.arisen.history in
       let after_all = after from.line from.beat (hear h) m.sends in
       let own = own_after from.line from.line from.beat (hear h) m.sends owns in
+      let counted = counted_after longer from.line from.line from.beat (hear h) m.sends counts in
       let fits = IfKept-out turn kept m.still h (a.arisen.fits, knows) in
       let retries = subst (λ (x : TransactionOptions). RetriesIn longer at x.retry_options) (sym options) (retries_longer trace longer at old.options.retry_options met.longer a.retries) in
       let shown = shown_after longer at from.line from.beat (hear h) m.sends (called_in_longer trace longer from.line at met.longer called) (λ n store r i. met.sent n store r (subst (λ es. IsAmong es (Send n store r)) (sym m.pushed) (among_behind from.sends m.sends (Send n store r) i))) (shown_longer trace longer at (hear h) met.longer hears) in (
@@ -252,9 +255,10 @@ module _ {P Q K A B D : Type 0} (w : Ways P Q K A B D) (p : IsLawful w.prewritin
             kept = kept_posted nexts news from.line from.beat from.next from.next_ask to.next to.next_ask m.sends (hear h) low m.numbered risen up (keeps h a.arisen.kept);
             shown = shown;
             own = subst (λ n. AreOwn n after_all) (sym reached.line) own;
+            counted = subst (λ n. CountedIn longer n (refused_asks after_all)) (sym reached.line) counted;
           };
         },
-        fails_done w longer at from.line old new to after_all turn retries shown own alive fits start options same (IfEnds-weaker turn (λ v gives. gives h (a.arisen.fits, knows)) m.done),
+        fails_done w longer at from.line old new to after_all turn retries shown own counted alive fits start options same (IfEnds-weaker turn (λ v gives. gives h (a.arisen.fits, knows)) m.done),
       )
 
   -- nothing changes
@@ -302,23 +306,26 @@ module _ {P Q K A B D : Type 0} (w : Ways P Q K A B D) (p : IsLawful w.prewritin
       → Expects (work_waits w old.work) (work_waits w new.work) (λ x. x ≡ awaited_as a) from to
       → ((work_waits w old.work (awaited_as a) → ⊥) → awaits a from old.commits ≡ false → new.commits ≡ old.commits)
       → (old.work ≡ Idle → (turn ≡ Waits) × (new ≡ old) × (to ≡ from)) → GivesUp old new turn → TransactionReady w old
-      → IfKept turn (StandGoes w (λ x. x ≡ awaited_as a) (is_open old.work ≡ true) (λ trace. CameIn trace from a) old new from to turn)
-  hears_goes a old new from to pd pd' turn tells start options same goes expects commits deaf gone ready = if_kept turn (λ kept. record {
-    arises = λ trace longer at met called came nexts news o low risen up reached x. by kept a refl trace longer at met called came nexts news o low risen up reached x;
+      → IfKept turn (StandGoes w (owing from.line (tells.Heard a)) (λ x. x ≡ awaited_as a) (is_open old.work ≡ true) (λ trace. CameIn trace from a) old new from to turn)
+  hears_goes a old new from to pd pd' turn told start options same goes expects commits deaf gone ready = if_kept turn (λ kept. record {
+    arises = λ trace longer at met called came nexts news o low risen up reached x.
+        by kept a refl (owing from.line (tells.Heard a) trace) longer at (owing_met (tells.Heard a) trace longer from to met) (owing_called from.line (tells.Heard a) from.line at trace called) (owing_came from.line from a trace came)
+        (counts_heard a from trace longer met.longer) nexts news o low risen up reached x;
     expects = expects;
     runs = stays_open (work_waits w old.work (awaited_as a)) old new from to pd pd' turn ready goes;
   })
     where
       Goal : Type 0
       Goal = (trace longer : Option Trace) (at : ℕ) → HasMet trace longer from to → CalledIn trace from.line at → CameIn trace from a
+          → ((r : Request) (h : List Event) → CountedIn trace from.line (refused_asks h) → CountedIn longer from.line (refused_asks ((told_by a from r).hear h)))
           → (nexts news : List ℕ) (o : Posted) → next_at nexts from.line ≤ from.next → IsRisen nexts news → to.next ≤ next_at news from.line → IsReached from to o → StandArises w trace at from nexts old → Arises longer at from.line o news new turn
 
       by_reply : turn ≢ Stopped → (n : ℕ) → awaited_as a ≡ ReplyTo n → awaits a from old.commits ≡ is_out (ticket_of from n) old.commits
           → ((r : Request) (h : List Event) → Has h (Sent (ticket_of from n) r) → ((s : Request) → Has h (Sent (ticket_of from n) s) → s ≡ r) → (told_by a from r).known h)
           → Goal
-      by_reply kept n is out knows trace longer at met called came nexts news o low risen up reached x = elim (sent_or_not x.arisen.history (ticket_of from n)) [
-        | inl (r, i) ↦ moved trace longer at _ _ old new from to o turn nexts news met called (tells r) kept (heard_alive _ _ new from to pd pd' turn goes) start options same (kept_heard a from r nexts) low risen up reached x (knows r x.arisen.history i (λ s j. x.arisen.kept.alone (ticket_of from n) r s i j))
-            (shown_heard trace at a from r x.arisen.history called came (λ m e. subst (λ j. SentIn trace (ticket_of from j) r) (one m (sym is ∙ e)) (sent_shown trace at x.arisen.history (ticket_of from n) r x.arisen.shown i)) x.arisen.shown) (own_heard a from r x.arisen.history met.calls x.arisen.own)
+      by_reply kept n is out knows trace longer at met called came counts nexts news o low risen up reached x = elim (sent_or_not x.arisen.history (ticket_of from n)) [
+        | inl (r, i) ↦ moved trace longer at _ _ old new from to o turn nexts news met called (told r) kept (heard_alive _ _ new from to pd pd' turn goes) start options same (kept_heard a from r nexts) low risen up reached x (knows r x.arisen.history i (λ s j. x.arisen.kept.alone (ticket_of from n) r s i j))
+            (shown_heard trace at a from r x.arisen.history called came (λ m e. subst (λ j. SentIn trace (ticket_of from j) r) (one m (sym is ∙ e)) (sent_shown trace at x.arisen.history (ticket_of from n) r x.arisen.shown i)) x.arisen.shown) (own_heard a from r x.arisen.history met.calls x.arisen.own) (counts r x.arisen.history x.arisen.counted)
         | inr never ↦ unknown trace longer at a n old new from to o pd pd' turn nexts news met.longer is out goes commits deaf gone kept risen reached x never
       ]
         where
@@ -327,8 +334,8 @@ module _ {P Q K A B D : Type 0} (w : Ways P Q K A B D) (p : IsLawful w.prewritin
 
       -- where it is no reply and no loss
       comes : turn ≢ Stopped → {b : Arrival} → ((m : ℕ) → awaited_as b ≡ ReplyTo m → ⊥) → a ≡ b → Goal
-      comes kept {b} other e trace longer at met called came nexts news o low risen up reached x = moved trace longer at _ _ old new from to o turn nexts news met called (tells members) kept (heard_alive _ _ new from to pd pd' turn goes) start options same (kept_heard a from members nexts) low risen up reached x (known_so a from members x.arisen.history (λ m f. other m (sym (ap awaited_as e) ∙ f)))
-          (shown_heard trace at a from members x.arisen.history called came (λ m f. absurd (other m (sym (ap awaited_as e) ∙ f))) x.arisen.shown) (own_heard a from members x.arisen.history met.calls x.arisen.own)
+      comes kept {b} other e trace longer at met called came counts nexts news o low risen up reached x = moved trace longer at _ _ old new from to o turn nexts news met called (told members) kept (heard_alive _ _ new from to pd pd' turn goes) start options same (kept_heard a from members nexts) low risen up reached x (known_so a from members x.arisen.history (λ m f. other m (sym (ap awaited_as e) ∙ f)))
+          (shown_heard trace at a from members x.arisen.history called came (λ m f. absurd (other m (sym (ap awaited_as e) ∙ f))) x.arisen.shown) (own_heard a from members x.arisen.history met.calls x.arisen.own) (counts members x.arisen.history x.arisen.counted)
 
       by : turn ≢ Stopped → (b : Arrival) → a ≡ b → Goal
       by kept (arrivals.Reply n x) e = by_reply kept n (ap awaited_as e) (ap (λ b. awaits b from old.commits) e) (λ r h i alone. subst (λ b. (told_by b from r).known h) (sym e) (record { sent = i; alone = alone }))
@@ -350,9 +357,9 @@ module _ {P Q K A B D : Type 0} (w : Ways P Q K A B D) (p : IsLawful w.prewritin
       → Expects (work_waits w old.work) (work_waits w new.work) (λ x. x ≡ awaited_as a) from to
       → ((work_waits w old.work (awaited_as a) → ⊥) → awaits a from old.commits ≡ false → new.commits ≡ old.commits)
       → (old.work ≡ Idle → (turn ≡ Waits) × (new ≡ old) × (to ≡ from)) → GivesUp old new turn → TransactionReady w old
-      → IfKept turn (StandGoes w (λ x. x ≡ awaited_as b) (is_open old.work ≡ true) (λ trace. CameIn trace from b) old new from to turn)
-  heard_goes b a old new from to pd pd' turn e tells start options same goes expects commits deaf gone ready =
-      subst (λ d. IfKept turn (StandGoes w (λ x. x ≡ awaited_as d) (is_open old.work ≡ true) (λ trace. CameIn trace from d) old new from to turn)) (sym e) (hears_goes a old new from to pd pd' turn tells start options same goes expects commits deaf gone ready)
+      → IfKept turn (StandGoes w (owing from.line (tells.Heard b)) (λ x. x ≡ awaited_as b) (is_open old.work ≡ true) (λ trace. CameIn trace from b) old new from to turn)
+  heard_goes b a old new from to pd pd' turn e told start options same goes expects commits deaf gone ready =
+      subst (λ d. IfKept turn (StandGoes w (owing from.line (tells.Heard d)) (λ x. x ≡ awaited_as d) (is_open old.work ≡ true) (λ trace. CameIn trace from d) old new from to turn)) (sym e) (hears_goes a old new from to pd pd' turn told start options same goes expects commits deaf gone ready)
 
   -- It is asked for something.
 
@@ -376,7 +383,7 @@ module _ {P Q K A B D : Type 0} (w : Ways P Q K A B D) (p : IsLawful w.prewritin
 
   writes_idle : (knows : Option Trace → Type 0) (refusal : Option Error) (wrote : Contents → Contents → Type 0) (old new : Standing P Q K) (o : Posted) (turn : Turn (Result (TxnAnswer Q) Error)) → Notes knows o.line refusal
       → (refusal ≡ None → allows_data old.status ≡ true) → ((c d : Contents) → wrote c d → IsOrdered c → IsOrdered d) → WriteEnds refusal wrote old new turn → old.work ≡ Idle
-      → IfKept turn (StandGoes w (λ a. ⊥) ⊤ knows old new o o turn)
+      → IfKept turn (StandGoes w (λ trace. trace) (λ a. ⊥) ⊤ knows old new o o turn)
   writes_idle knows refusal wrote old new o Stopped notes may keeps ends idle = tt
   writes_idle knows refusal wrote old new o Waits notes may keeps ends idle = absurd ends
   writes_idle knows (Some e) wrote old new o (Ends v) notes may keeps ends idle = record {
@@ -404,6 +411,7 @@ module _ {P Q K A B D : Type 0} (w : Ways P Q K A B D) (p : IsLawful w.prewritin
               kept = x.arisen.kept;
               shown = x.arisen.shown;
               own = x.arisen.own;
+              counted = x.arisen.counted;
             };
           }
 
@@ -412,12 +420,12 @@ module _ {P Q K A B D : Type 0} (w : Ways P Q K A B D) (p : IsLawful w.prewritin
 
   pub writes_goes : (knows : Option Trace → Type 0) (refusal : Option Error) (wrote : Contents → Contents → Type 0) (old new : Standing P Q K) (from to : Posted) (turn : Turn (Result (TxnAnswer Q) Error)) → Notes knows from.line refusal
       → (refusal ≡ None → allows_data old.status ≡ true) → ((c d : Contents) → wrote c d → IsOrdered c → IsOrdered d) → WriteEnds refusal wrote old new turn → is_open old.work ≡ false → GivesUp old new turn → to ≡ from
-      → IfKept turn (StandGoes w (λ a. ⊥) ⊤ knows old new from to turn)
+      → IfKept turn (StandGoes w (λ trace. trace) (λ a. ⊥) ⊤ knows old new from to turn)
   writes_goes knows refusal wrote old new from to turn notes may keeps ends rests gone quiet = by (open_so old.work rests)
     where
-      by : (old.work ≡ Idle) ⊎ (old.work ≡ GaveUp) → IfKept turn (StandGoes w (λ a. ⊥) ⊤ knows old new from to turn)
-      by (inl idle) = subst (λ o. IfKept turn (StandGoes w (λ a. ⊥) ⊤ knows old new from o turn)) (sym quiet) (writes_idle knows refusal wrote old new from turn notes may keeps ends idle)
-      by (inr e) = gone_kept (StandGoes w (λ a. ⊥) ⊤ knows old new from to turn) old new turn e gone
+      by : (old.work ≡ Idle) ⊎ (old.work ≡ GaveUp) → IfKept turn (StandGoes w (λ trace. trace) (λ a. ⊥) ⊤ knows old new from to turn)
+      by (inl idle) = subst (λ o. IfKept turn (StandGoes w (λ trace. trace) (λ a. ⊥) ⊤ knows old new from o turn)) (sym quiet) (writes_idle knows refusal wrote old new from turn notes may keeps ends idle)
+      by (inr e) = gone_kept (StandGoes w (λ trace. trace) (λ a. ⊥) ⊤ knows old new from to turn) old new turn e gone
 
   opened : (old new : Standing P Q K) (from to : Posted) (turn : Turn (Result (TxnAnswer Q) Error)) → Opens w new from to turn → Expects (work_waits w old.work) (work_waits w new.work) (λ a. ⊥) from to
   opened old new from to turn opens = let x = opens.expects in record {
@@ -430,9 +438,9 @@ module _ {P Q K A B D : Type 0} (w : Ways P Q K A B D) (p : IsLawful w.prewritin
   waiting_open turn g e f = e ∙ ap is_waiting f
 
   -- what was asked is this
-  pub acts_as : (act is : Act) (heard : Awaited → Type 0) (busy : Type 0) (line : ℕ) (account : Account) (old new : Standing P Q K) (from to : Posted) (turn : Turn (Result (TxnAnswer Q) Error)) → act ≡ is
-      → IfKept turn (StandGoes w heard busy (λ trace. KnowsAsk trace line is account) old new from to turn) → IfKept turn (StandGoes w heard busy (λ trace. KnowsAsk trace line act account) old new from to turn)
-  acts_as act is heard busy line account old new from to turn e h = subst (λ a. IfKept turn (StandGoes w heard busy (λ trace. KnowsAsk trace line a account) old new from to turn)) (sym e) h
+  pub acts_as : (act is : Act) (owes : Option Trace → Option Trace) (heard : Awaited → Type 0) (busy : Type 0) (line : ℕ) (account : Account) (old new : Standing P Q K) (from to : Posted) (turn : Turn (Result (TxnAnswer Q) Error)) → act ≡ is
+      → IfKept turn (StandGoes w owes heard busy (λ trace. KnowsAsk trace line is account) old new from to turn) → IfKept turn (StandGoes w owes heard busy (λ trace. KnowsAsk trace line act account) old new from to turn)
+  acts_as act is owes heard busy line account old new from to turn e h = subst (λ a. IfKept turn (StandGoes w owes heard busy (λ trace. KnowsAsk trace line a account) old new from to turn)) (sym e) h
 
   refused_fails : (e : Error) (old new : Standing P Q K) (trace longer : Option Trace) (at line : ℕ) (turn : Turn (Result (TxnAnswer Q) Error)) → IsRefused e old new turn → LongerIn trace longer → RefusedIn trace line (Some e) → IfEnds turn (IfFails (FailsAt w longer at line))
   refused_fails e old new trace longer at line Stopped r l known = tt
@@ -447,9 +455,9 @@ module _ {P Q K A B D : Type 0} (w : Ways P Q K A B D) (p : IsLawful w.prewritin
   pub commits_goes : (knows : Option Trace → Type 0) (e : Error) (b : Bool) (old new : Standing P Q K) (from to : Posted) (turn : Turn (Result (TxnAnswer Q) Error)) → (b ≡ false → Notes knows from.line (Some e))
       → (b ≡ false → IsRefused e old new turn × (to ≡ from)) → (b ≡ true → TransactionMoves w (λ h. ⊤) (λ h. h) old new from to turn) → new.start ≡ old.start → new.options ≡ old.options → new.contents ≡ old.contents
       → Opens w new from to turn → is_open new.work ≡ is_waiting turn
-      → IfKept turn (StandGoes w (λ a. ⊥) ⊤ knows old new from to turn)
+      → IfKept turn (StandGoes w (λ trace. trace) (λ a. ⊥) ⊤ knows old new from to turn)
   commits_goes knows e true old new from to turn notes refused moves start options same opens busy = if_kept turn (λ kept. record {
-    arises = λ trace longer at met called known nexts news o low risen up reached x. moved trace longer at _ _ old new from to o turn nexts news met called (moves refl) kept (opened_alive new turn opens.next) start options same (λ h y. y) low risen up reached x tt x.arisen.shown x.arisen.own;
+    arises = λ trace longer at met called known nexts news o low risen up reached x. moved trace longer at _ _ old new from to o turn nexts news met called (moves refl) kept (opened_alive new turn opens.next) start options same (λ h y. y) low risen up reached x tt x.arisen.shown x.arisen.own (counted_longer trace longer from.line (refused_asks x.arisen.history) met.longer x.arisen.counted);
     expects = opened old new from to turn opens;
     runs = λ any f. waiting_open turn new.work busy f;
   })
@@ -476,6 +484,7 @@ module _ {P Q K A B D : Type 0} (w : Ways P Q K A B D) (p : IsLawful w.prewritin
           kept = kept_risen nexts news x.arisen.history risen x.arisen.kept;
           shown = shown_longer trace longer at x.arisen.history l x.arisen.shown;
           own = subst (λ n. AreOwn n x.arisen.history) (sym reached.line) x.arisen.own;
+          counted = subst (λ n. CountedIn longer n (refused_asks x.arisen.history)) (sym reached.line) (counted_longer trace longer from.line (refused_asks x.arisen.history) l x.arisen.counted);
         };
       })
 
@@ -485,14 +494,14 @@ module _ {P Q K A B D : Type 0} (w : Ways P Q K A B D) (p : IsLawful w.prewritin
   unknown_fails trace longer at t old o nexts (Ends (Ok v)) l rolls alive left u x = tt
   unknown_fails trace longer at t old o nexts (Ends (Err e)) l rolls alive left u x =
       let h = x.arisen.history in
-      barred_by w longer at o.line e h (shown_longer trace longer at h l x.arisen.shown) x.arisen.own (rolls_longer trace longer o.line l rolls) (let k = known_sent w old o h alive x.arisen.fits t left in record { transaction = k.0; ticket = t; left = k.1; error = u })
+      barred_by w longer at o.line e h (shown_longer trace longer at h l x.arisen.shown) x.arisen.own (counted_longer trace longer o.line (refused_asks h) l x.arisen.counted) (rolls_longer trace longer o.line l rolls) (let k = known_sent w old o h alive x.arisen.fits t left in record { transaction = k.0; ticket = t; left = k.1; error = u })
 
   pub rollbacks_goes : (knows : Option Trace → Type 0) (e : Error) (b : Bool) (lost : Option Ticket) (old new : Standing P Q K) (from to : Posted) (turn : Turn (Result (TxnAnswer Q) Error)) → (b ≡ false → Notes knows from.line (Some e)) → ((trace : Option Trace) → knows trace → RollsIn trace from.line) → undetermined old.commits ≡ lost
       → (b ≡ false → IsRefused e old new turn × (to ≡ from))
       → ((t : Ticket) → b ≡ true → lost ≡ Some t → IsUndetermined t turn × (new ≡ record old { work = new.work }) × (to ≡ from))
       → (b ≡ true → lost ≡ None → TransactionMoves w (λ h. ⊤) (λ h. h) old new from to turn) → new.start ≡ old.start → new.options ≡ old.options → new.contents ≡ old.contents
       → Opens w new from to turn → is_open new.work ≡ is_waiting turn → is_open old.work ≡ false → GivesUp old new turn
-      → IfKept turn (StandGoes w (λ a. ⊥) ⊤ knows old new from to turn)
+      → IfKept turn (StandGoes w (λ trace. trace) (λ a. ⊥) ⊤ knows old new from to turn)
   rollbacks_goes knows e true None old new from to turn notes rolls is_lost refused unsure moves start options same opens busy rests gone =
       commits_goes knows e true old new from to turn (λ f. absurd (cc)) (λ f. absurd (cc)) (λ f. moves refl refl) start options same opens busy
   rollbacks_goes knows e true (Some t) old new from to turn notes rolls is_lost refused unsure moves start options same opens busy rests gone = let u = unsure t refl refl in if_kept turn (λ kept. record {

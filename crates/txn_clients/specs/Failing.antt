@@ -1,5 +1,5 @@
 -- How calls fail, by what they had heard, and what a trace shows of that. Where there is no trace nothing is asked of it.
-use Rattle.std.specs.Prelude.{◌≡◌, ◌⊎◌, ⊤, ℕ, Bool, true, false, List, [], ◌++◌, Option, Some, None, Result, Ok, Err}
+use Rattle.std.specs.Prelude.{◌≡◌, ◌⊎◌, ⊤, ℕ, Bool, true, false, List, [], ◌∷◌, ◌++◌, length, Option, Some, None, Result, Ok, Err}
 use Rattle.std.specs.List.{All}
 use Rattle.txn_kv.specs.ErrorView.{view_of}
 use Rattle.txn_kv.specs.ErrorView.ErrorView.{undetermined as not_known}
@@ -34,7 +34,7 @@ use Rattle.txn_side.specs.declared.act.Act.{Act}
 use Rattle.txn_side.specs.declared.act.Act.TheVariants.{Rollback}
 use Rattle.txn_side.specs.Sight.{Group, Stand, stand_at}
 use Rattle.txn_side.specs.Sight.Stand.{Asking, Calling}
-use Rattle.txn_side.specs.Trace.{AreOwn, AreShown, EndsFor, IsBegunAs, IsCalled, IsLonger, IsRefusedIn, IsSentIn, Trace, with_posted}
+use Rattle.txn_side.specs.Trace.{AreOwn, AreShown, EndsFor, HasRefused, HasRefusedBeside, IsBegunAs, IsCalled, IsLonger, IsRefusedIn, IsSentIn, Trace, and_refused, refused_as, refused_asks, with_posted}
 use Rattle.txn_side.specs.declared.turn.Ending.{Ending}
 use Rattle.txn_side.specs.declared.turn.Posting.{Posting}
 use Rattle.txn_tso.specs.Oracle.{Answer as Answered}
@@ -108,6 +108,11 @@ abbrev pub SentIn : Option Trace → Ticket → Request → Type 0
 SentIn None u r = ⊤
 SentIn (Some t) u r = IsSentIn t u r
 
+-- at least so many asks of the line were refused, besides those of which it is still to be told
+abbrev pub CountedIn : Option Trace → ℕ → ℕ → Type 0
+CountedIn None line n = ⊤
+CountedIn (Some t) line n = HasRefusedBeside t line n
+
 abbrev pub LongerIn : Option Trace → Option Trace → Type 0
 LongerIn None None = ⊤
 LongerIn (Some t) (Some longer) = IsLonger t longer × (longer.refused ≡ t.refused) × (t.begun ≡ longer.begun)
@@ -134,6 +139,26 @@ pub record AreToldIn (trace : Option Trace) (stands : List Stand) : Type 0 where
   pub calls : (n c x : ℕ) (b : Bool) → stand_at stands n ≡ Calling c x b → CalledIn trace n x
 
 -- What is told
+
+-- once this is to be told, too
+abbrev pub owing_one : Result Timestamp Error → ℕ → Option Trace → Option Trace
+owing_one x line None = None
+owing_one x line (Some t) = Some (record t { owed = and_refused x line t.owed })
+
+-- where this is told next: a refused ask is still to be told
+abbrev pub owing : ℕ → Told → Option Trace → Option Trace
+owing line (tells.Heard (arrivals.Time k x)) trace = owing_one x line trace
+owing line told trace = trace
+
+-- the lines of those whose asks are refused
+abbrev pub refused_of : List Answered → List ℕ
+refused_of [] = []
+refused_of (a ∷ given) = and_refused a.1 a.0.line (refused_of given)
+
+-- once these lines are to be told that their asks were refused
+abbrev pub owing_all : List ℕ → Option Trace → Option Trace
+owing_all lines None = None
+owing_all lines (Some t) = Some (record t { owed = lines ++ t.owed })
 
 -- it has happened
 abbrev pub HasComeIn : Trace → Posted → Arrival → Type 0
@@ -188,7 +213,7 @@ pub record HasMet (trace later : Option Trace) (from to : Posted) : Type 0 where
 -- a history that is shown as that of what stands there, and is the line's own; or it was a refusal
 abbrev pub FailsAt : {P Q K A B D : Type 0} → Ways P Q K A B D → Option Trace → ℕ → ℕ → Error → Type 0
 FailsAt w None at line e = ⊤
-FailsAt w (Some t) at line e = ((h : List Event) × AreShown t at h × AreOwn line h × (HasFailedFor w false (IsBegunAs t at) h e ⊎ (IsAmong t.rollbacks line × HasFailedFor w true (IsBegunAs t at) h e))) ⊎ IsAmong t.refused (record { line = line; error = e })
+FailsAt w (Some t) at line e = ((h : List Event) × AreShown t at h × AreOwn line h × HasRefused t line (refused_asks h) × (HasFailedFor w false (IsBegunAs t at) h e ⊎ (IsAmong t.rollbacks line × HasFailedFor w true (IsBegunAs t at) h e))) ⊎ IsAmong t.refused (record { line = line; error = e })
 
 -- What a call for a timestamp answers: a transaction that begins has the options that its line tells of.
 abbrev pub AskRests : {P Q K A B D : Type 0} → Ways P Q K A B D → Option Trace → ℕ → ℕ → Result (ClientAnswer Pd P Q K) Error → Type 0
@@ -221,6 +246,11 @@ AreGivenIn (Some t) given = All (λ a. IfFails (IsRefusedIn t a.0.line) a.1) giv
 abbrev pub GroupCameIn : Option Trace → Option Group → (Ticket → Request → Event) → Type 0
 GroupCameIn None out event = ⊤
 GroupCameIn (Some t) out event = (g : Group) → out ≡ Some g → IsAmong t.groups g × ((r : TsoRequest) × Has t.events (event g.ticket (Tso r)))
+
+-- the lines whose asks are refused as this comes for the request for timestamps that is out
+abbrev pub refused_out : (Ticket → Request → Event) → Option Group → List ℕ
+refused_out event None = []
+refused_out event (Some g) = refused_as (event g.ticket (Tso (record { count = length g.askers }))) g.askers
 
 -- an outbox of a line
 abbrev pub outbox_of : ℕ → Posted

@@ -1,17 +1,17 @@
 -- What calls have heard stays shown as a trace goes on.
 use Rattle.std.specs.Prelude.{◌≡◌, ℕ, Bool, List, [], ◌∷◌, map, Option, Some, None, refl, slice_index_or}
-use Rattle.std.proofs.Common.{zero, suc, inl, sym, ap, ◌∙◌, subst}
+use Rattle.std.proofs.Common.{arith, zero, suc, inl, sym, ap, ◌∙◌, subst}
 use Rattle.txn_kv.specs.declared.ticket.Ticket.{Ticket}
 use Rattle.txn_history.specs.Event.{Event}
 use Rattle.txn_history.specs.Posted.{Posted}
 use Rattle.txn_commit.specs.Committing.{Ways}
 use Rattle.txn_side.specs.Sight.{Sight, Stand, client_at, nobody, stand_at}
 use Rattle.txn_side.specs.Sight.Stand.{Asking, Calling}
-use Rattle.txn_side.specs.Trace.{IsLonger, Trace, called_longer}
+use Rattle.txn_side.specs.Trace.{AreRefused, HasRefusedBeside, IsLonger, Trace, called_longer, refused_asks, times_in}
 use Rattle.txn_side.specs.Trace.{shown_longer as event_longer}
 use Rattle.txn_tso.specs.declared.asker.Asker.{Asker}
 use Rattle.txn_clients.specs.Clients.{nexts_of, row_at, rows_of, sight_of, stands_of}
-use Rattle.txn_clients.specs.Failing.{AreToldIn, CalledIn, LongerIn, ShownIn, RetriesIn}
+use Rattle.txn_clients.specs.Failing.{AreToldIn, CalledIn, CountedIn, LongerIn, ShownIn, RetriesIn}
 use Rattle.txn_clients.specs.Rows.{stand_of, Pd}
 use Rattle.txn_clients.specs.Waiting.{Book, IsSound, RowArises, asks_of, blank, book_at, book_of, posted_at, voice_at, WantedIn}
 use Rattle.txn_clients.specs.declared.client_state.ClientState.{ClientState}
@@ -48,6 +48,12 @@ retries_longer (Some t) (Some u) at retries l r = (r.0, l.0.begun (record { line
 pub wanted_longer : {P Q K : Type 0} (trace longer : Option Trace) (at : ℕ) (call : ClientCall Pd P Q K) → LongerIn trace longer → WantedIn trace at call → WantedIn longer at call
 wanted_longer trace longer at call l r h b gives = retries_longer trace longer at b.options.retry_options l (r h b gives)
 
+pub counted_longer : (trace longer : Option Trace) (line n : ℕ) → LongerIn trace longer → CountedIn trace line n → CountedIn longer line n
+counted_longer None None line n l c = tt
+counted_longer None (Some u) line n l c = absurd l
+counted_longer (Some t) None line n l c = absurd l
+counted_longer (Some t) (Some u) line n l c = let more = l.0 in more.beside line n c
+
 pub told_longer : (trace longer : Option Trace) (stands : List Stand) → LongerIn trace longer → AreToldIn trace stands → AreToldIn longer stands
 told_longer trace longer stands l a = record {
   asks = λ n c b e. called_in_longer trace longer n n l (a.asks n c b e);
@@ -60,10 +66,10 @@ module _ {P Q K A B D : Type 0} (w : Ways P Q K A B D) where
   row_longer trace longer at o nexts (row.Client c) l x = tt
   row_longer trace longer at o nexts (row.Asking c b call) l x =
       let a = x.arisen in
-      record { wanted = wanted_longer trace longer at call l x.wanted; arisen = record { history = a.history; fits = a.fits; kept = a.kept; shown = shown_longer trace longer at a.history l a.shown; own = a.own } }
+      record { wanted = wanted_longer trace longer at call l x.wanted; arisen = record { history = a.history; fits = a.fits; kept = a.kept; shown = shown_longer trace longer at a.history l a.shown; own = a.own; counted = counted_longer trace longer o.line (refused_asks a.history) l a.counted } }
   row_longer trace longer at o nexts (row.Begun c t m) l x =
       let a = x.arisen in
-      record { ordered = x.ordered; retries = retries_longer trace longer at t.options.retry_options l x.retries; arisen = record { history = a.history; fits = a.fits; kept = a.kept; shown = shown_longer trace longer at a.history l a.shown; own = a.own } }
+      record { ordered = x.ordered; retries = retries_longer trace longer at t.options.retry_options l x.retries; arisen = record { history = a.history; fits = a.fits; kept = a.kept; shown = shown_longer trace longer at a.history l a.shown; own = a.own; counted = counted_longer trace longer o.line (refused_asks a.history) l a.counted } }
   row_longer trace longer at o nexts (row.Calling c y b) l x = tt
   row_longer trace longer at o nexts (row.Past c) l x = tt
   row_longer trace longer at o nexts (row.Working c job) l x = tt
@@ -79,6 +85,7 @@ module _ {P Q K A B D : Type 0} (w : Ways P Q K A B D) where
     owned = sound.owned;
     numbered = sound.numbered;
     unwanted = sound.unwanted;
+    owing = λ n. counted_longer trace longer n 0 l (sound.owing n);
   }
 
   pub rests_when_longer : (s : Clients P Q K) (t longer : Trace) → IsLonger t longer → RestsIn w s t → RestsIn w s longer
@@ -93,6 +100,7 @@ module _ {P Q K A B D : Type 0} (w : Ways P Q K A B D) where
         owned = sound.owned;
         numbered = sound.numbered;
         unwanted = sound.unwanted;
+        owing = λ n. l.beside n 0 (sound.owing n);
       }
     where
       retries_any : (at : ℕ) (retries : RetryOptions) → RetriesIn (Some t) at retries → RetriesIn (Some longer) at retries
@@ -103,15 +111,23 @@ module _ {P Q K A B D : Type 0} (w : Ways P Q K A B D) where
       row_any at o nexts (row.Client c) x = tt
       row_any at o nexts (row.Asking c b call) x =
           let a = x.arisen in
-          record { wanted = λ h b gives. retries_any at b.options.retry_options (x.wanted h b gives); arisen = record { history = a.history; fits = a.fits; kept = a.kept; shown = λ e i. event_longer t longer l at e (a.shown e i); own = a.own } }
+          record { wanted = λ h b gives. retries_any at b.options.retry_options (x.wanted h b gives); arisen = record { history = a.history; fits = a.fits; kept = a.kept; shown = λ e i. event_longer t longer l at e (a.shown e i); own = a.own; counted = l.beside o.line (refused_asks a.history) a.counted } }
       row_any at o nexts (row.Begun c b m) x =
           let a = x.arisen in
-          record { ordered = x.ordered; retries = retries_any at b.options.retry_options x.retries; arisen = record { history = a.history; fits = a.fits; kept = a.kept; shown = λ e i. event_longer t longer l at e (a.shown e i); own = a.own } }
+          record { ordered = x.ordered; retries = retries_any at b.options.retry_options x.retries; arisen = record { history = a.history; fits = a.fits; kept = a.kept; shown = λ e i. event_longer t longer l at e (a.shown e i); own = a.own; counted = l.beside o.line (refused_asks a.history) a.counted } }
       row_any at o nexts (row.Calling c y b) x = tt
       row_any at o nexts (row.Past c) x = tt
       row_any at o nexts (row.Working c job) x = tt
 
 -- calls of no line
+
+-- where no line is still to be told
+none_refused : (t : Trace) (line : ℕ) (events : List Event) → AreRefused t.groups line events 0
+none_refused t line [] = refl
+none_refused t line (e ∷ events) = inl (none_refused t line events)
+
+none_owed : (t : Trace) (line : ℕ) → t.owed ≡ [] → HasRefusedBeside t line 0
+none_owed t line told = (0, (let none = ap (λ lines. times_in lines line) told in omega (arith, none)), none_refused t line t.events)
 
 nothing_in : {X Y : Type 0} (f : X → Y) (xs : List X) → map f xs ≡ [] → xs ≡ []
 nothing_in f [] e = refl
@@ -133,8 +149,8 @@ nobody_at zero q = cc
 nobody_at (suc n) q = cc
 
 module _ {P Q K A B D : Type 0} (w : Ways P Q K A B D) where
-  pub nothing_rests : (trace : Option Trace) (s : Clients P Q K) → rows_of s ≡ [] → s.clients.items ≡ [] → IsSound w trace [] s
-  nothing_rests trace s rows clients = record {
+  pub nothing_rests : (trace : Option Trace) (s : Clients P Q K) → ((n : ℕ) → CountedIn trace n 0) → rows_of s ≡ [] → s.clients.items ≡ [] → IsSound w trace [] s
+  nothing_rests trace s owing rows clients = record {
     told = record {
       asks = λ n c b e. absurd (never_asks n (subst (λ rs. stand_at (stands_of rs) n ≡ Asking c b) rows e));
       calls = λ n c x b e. absurd (never_calls n (subst (λ rs. stand_at (stands_of rs) n ≡ Calling c x b) rows e));
@@ -147,10 +163,11 @@ module _ {P Q K A B D : Type 0} (w : Ways P Q K A B D) where
     owned = λ c t e. absurd (none_ticket (sym (ap (λ (b : Book). b.ticket) (book c)) ∙ e));
     numbered = λ c t e. absurd (none_ticket (sym (ap (λ (b : Book). b.ticket) (book c)) ∙ e));
     unwanted = λ c t e. absurd (none_ticket (sym (ap (λ (b : Book). b.ticket) (book c)) ∙ e));
+    owing = owing;
   }
     where
       book : (c : ℕ) → book_at s c ≡ blank
       book c = ap (λ cs. slice_index_or (map book_of cs) c blank) clients
 
-  pub nobody_rests_so : (s : Clients P Q K) → sight_of s ≡ nobody → (t : Trace) → RestsIn w s t
-  nobody_rests_so s e t = nothing_rests (Some t) s (nothing_in stand_of (rows_of s) (ap (λ (v : Sight). v.stands) e)) (nothing_in (λ (c : ClientState). c.crashed) s.clients.items (ap (λ (v : Sight). v.crashed) e))
+  pub nobody_rests_so : (s : Clients P Q K) → sight_of s ≡ nobody → (t : Trace) → t.owed ≡ [] → RestsIn w s t
+  nobody_rests_so s e t told = nothing_rests (Some t) s (λ n. none_owed t n told) (nothing_in stand_of (rows_of s) (ap (λ (v : Sight). v.stands) e)) (nothing_in (λ (c : ClientState). c.crashed) s.clients.items (ap (λ (v : Sight). v.crashed) e))

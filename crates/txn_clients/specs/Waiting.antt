@@ -35,14 +35,14 @@ use Rattle.txn_side.specs.Waiting.{IsPosted}
 use Rattle.txn_side.specs.Waiting as side
 use Rattle.txn_side.specs.Waiting.Awaited.{EndOf as SideEnd, ReplyTo as SideReply}
 use Rattle.txn_side.specs.declared.turn.Posting.{Posting}
-use Rattle.txn_side.specs.Trace.{AreOwn, IsSend, Trace}
+use Rattle.txn_side.specs.Trace.{AreOwn, IsSend, Trace, refused_asks}
 use Rattle.txn_side.specs.declared.turn.Ending.{Ending}
 use Rattle.txn_kv.specs.declared.errors.Error.{Error}
 use Rattle.txn_kv.specs.declared.outbox.Errand.TheVariants.{Send}
 use Rattle.txn_kv.specs.declared.ticket.Target.{Target}
 use Rattle.txn_core.specs.declared.txn_answer.TxnAnswer.{TxnAnswer}
 use Rattle.txn_history.specs.Turn.{IfEnds}
-use Rattle.txn_clients.specs.Failing.{AnswerRests, AreToldIn, CalledFor, CalledIn, HasReason, EndsMore, FailsAt, HasMet, IfFails, MayKnow, RetriesIn, ShownIn, posting_in}
+use Rattle.txn_clients.specs.Failing.{AnswerRests, AreToldIn, CalledFor, CalledIn, CountedIn, HasReason, EndsMore, FailsAt, HasMet, IfFails, MayKnow, RetriesIn, ShownIn, owing, posting_in}
 use Rattle.txn_clients.specs.Clients.{AreReady, crashed_of, nexts_of, row_at, rows_of, stands_of}
 use Rattle.txn_clients.specs.Rows.{Pd, stand_of}
 use Rattle.txn_clients.specs.declared.answer.Answer.{Answer}
@@ -110,13 +110,14 @@ pub record IsKept (nexts : List ℕ) (h : List Event) : Type 0 where
   pub below : (t : Ticket) (r : Request) → Has h (Sent t r) → t.number < next_at nexts t.line
 
 -- It can have arisen from a history of its own, which a trace shows as that of what stands at this line. What explains an error in it
--- has come for the line in whose name it posts.
+-- has come for the line in whose name it posts, and of each refused ask of that line it has heard once at most.
 pub record HasArisen (Fits : List Event → Type 0) (trace : Option Trace) (at line : ℕ) (nexts : List ℕ) : Type 0 where
   pub history : List Event
   pub fits : Fits history
   pub kept : IsKept nexts history
   pub shown : ShownIn trace at history
   pub own : AreOwn line history
+  pub counted : CountedIn trace line (refused_asks history)
 
 -- a transaction that a call may answer has the options that its line tells of
 abbrev pub WantedIn : {P Q K : Type 0} → Option Trace → ℕ → ClientCall Pd P Q K → Type 0
@@ -173,14 +174,14 @@ pub record IsReached (from to later : Posted) : Type 0 where
 -- did and posts, and runs on where it does not answer.
 pub record RowGoes {P Q K A B D : Type 0} (w : Ways P Q K A B D) (told : Told) (old new : Row P Q K) (from to : Posted) (answer : Option (Answer P Q K)) : Type 0 where
   pub arises : (trace longer : Option Trace) (at : ℕ) → HasMet trace longer from to → CalledFor trace from.line at old → MayKnow trace from told old
-      → (nexts news : List ℕ) (o : Posted) → next_at nexts from.line ≤ from.next → IsRisen nexts news → to.next ≤ next_at news from.line → IsReached from to o → RowArises w trace at from nexts old → RowArises w longer at o news new × IfSome answer (AnswerRests w longer at from.line)
+      → (nexts news : List ℕ) (o : Posted) → next_at nexts from.line ≤ from.next → IsRisen nexts news → to.next ≤ next_at news from.line → IsReached from to o → RowArises w (owing from.line told trace) at from nexts old → RowArises w longer at o news new × IfSome answer (AnswerRests w longer at from.line)
   pub expects : Expects (wants w old) (wants w new) (hears told) from to
   pub runs : IsPrepared told old → answer ≡ None → RowRuns new
 
 -- a transaction is told of something, or asked for something where it was not busy
-pub record StandGoes {P Q K A B D : Type 0} (w : Ways P Q K A B D) (heard : Awaited → Type 0) (busy : Type 0) (knows : Option Trace → Type 0) (old new : Standing P Q K) (from to : Posted) (turn : CallTurn (Result (TxnAnswer Q) Error)) : Type 0 where
+pub record StandGoes {P Q K A B D : Type 0} (w : Ways P Q K A B D) (owes : Option Trace → Option Trace) (heard : Awaited → Type 0) (busy : Type 0) (knows : Option Trace → Type 0) (old new : Standing P Q K) (from to : Posted) (turn : CallTurn (Result (TxnAnswer Q) Error)) : Type 0 where
   pub arises : (trace longer : Option Trace) (at : ℕ) → HasMet trace longer from to → CalledIn trace from.line at → knows trace
-      → (nexts news : List ℕ) (o : Posted) → next_at nexts from.line ≤ from.next → IsRisen nexts news → to.next ≤ next_at news from.line → IsReached from to o → StandArises w trace at from nexts old → StandArises w longer at o news new × IfEnds turn (IfFails (FailsAt w longer at from.line))
+      → (nexts news : List ℕ) (o : Posted) → next_at nexts from.line ≤ from.next → IsRisen nexts news → to.next ≤ next_at news from.line → IsReached from to o → StandArises w (owes trace) at from nexts old → StandArises w longer at o news new × IfEnds turn (IfFails (FailsAt w longer at from.line))
   pub expects : Expects (work_waits w old.work) (work_waits w new.work) heard from to
   pub runs : busy → turn ≡ Waits → is_open new.work ≡ true
 
@@ -265,7 +266,8 @@ abbrev pub AreCalled : List Stand → Type 0
 AreCalled stands = (n c x : ℕ) (b : Bool) → stand_at stands n ≡ Calling c x b → stand_at stands x ≡ HasBegun c n
 
 -- Each row can have arisen from a history of its own. An ask that is waited for, of a client that has not crashed, is with its oracle, or
--- among those that are told now. Nobody waits for the number of a client's request for timestamps.
+-- among those that are told now. Nobody waits for the number of a client's request for timestamps. Only of asks that were refused are
+-- lines still to be told that.
 pub record IsSound {P Q K A B D : Type 0} (w : Ways P Q K A B D) (trace : Option Trace) (rest : List Asker) (s : Clients P Q K) : Type 0 where
   pub told : AreToldIn trace (stands_of (rows_of s))
   pub arisen : (i : ℕ) → RowArises w trace (suc i) (posted_at (nexts_of s) (asks_of s) (voice_at (rows_of s) i)) (nexts_of s) (row_at (rows_of s) i)
@@ -276,6 +278,7 @@ pub record IsSound {P Q K A B D : Type 0} (w : Ways P Q K A B D) (trace : Option
   pub owned : (c : ℕ) (t : Ticket) → (book_at s c).ticket ≡ Some t → IsOwned (stands_of (rows_of s)) c t
   pub numbered : (c : ℕ) (t : Ticket) → (book_at s c).ticket ≡ Some t → t.number < next_at (nexts_of s) t.line
   pub unwanted : (c : ℕ) (t : Ticket) → (book_at s c).ticket ≡ Some t → Wants w (rows_of s) t.line (ReplyTo t.number) → ⊥
+  pub owing : (n : ℕ) → CountedIn trace n 0
 
 abbrev pub AreRunning : {P Q K : Type 0} → List (Row P Q K) → Type 0
 AreRunning rows = (i : ℕ) → RowRuns (row_at rows i)

@@ -22,7 +22,7 @@ ghost use Rattle.txn_report.specs.declared.outcome.Outcome.TheVariants.{Err as F
 ghost use Rattle.txn_kv.specs.declared.errors.Error.{Error as Failure};
 ghost use Rattle.txn_side.specs.Trace.{Trace};
 ghost use Rattle.txn_core.specs.declared.txn_answer.TxnAnswer.TheVariants as answers;
-ghost use Rattle.txn_clients.specs.Failing.{AskRests, RetriesIn};
+ghost use Rattle.txn_clients.specs.Failing.{AskRests, CountedIn, RetriesIn};
 
 use crate::answer::Pd;
 use crate::row::Row;
@@ -73,7 +73,7 @@ where
         requires begins { BeginsNew answer }
         ensures ends { IfOk result (λ ended. AskEnds client begins ended.outcome (stand_of ended.row)) }
         ensures stamped { IfOk result (λ ended. (version : ℕ) → number_of ended.outcome ≡ Some version → IsStamped answer version) }
-        ensures arises { IfOk result (λ ended. IsNewAnswer (Asked answer) → (trace : Option Trace) (at line : ℕ) → AskRests (ways P.meaning Q.meaning K.meaning P.refuses Q.refuses K.refuses) trace at line answer → (o : Posted) (nexts : List ℕ) → RowArises (ways P.meaning Q.meaning K.meaning P.refuses Q.refuses K.refuses) trace at o nexts ended.row) }
+        ensures arises { IfOk result (λ ended. IsNewAnswer (Asked answer) → (trace : Option Trace) (at line : ℕ) → AskRests (ways P.meaning Q.meaning K.meaning P.refuses Q.refuses K.refuses) trace at line answer → ((n : ℕ) → CountedIn trace n 0) → (o : Posted) (nexts : List ℕ) → RowArises (ways P.meaning Q.meaning K.meaning P.refuses Q.refuses K.refuses) trace at o nexts ended.row) }
         ensures ready { IfOk result (λ ended. RowReady (ways P.meaning Q.meaning K.meaning P.refuses Q.refuses K.refuses) ended.row) }
         ensures account { IfOk result (λ ended. account_in ended.row ≡ new_account) }
         ensures unlike { OnErr result (EndsNoAsk begins answer) }
@@ -98,7 +98,7 @@ where
         requires new { IsNew transaction }
         ensures ends { IfOk result (λ ended. AskEnds client begins ended.outcome (stand_of ended.row)) }
         ensures stamped { IfOk result (λ ended. (version : ℕ) → number_of ended.outcome ≡ Some version → version_of transaction.start ≡ version) }
-        ensures arises { IfOk result (λ ended. IsNewAnswer {P = P} {Q = Q} {K = K} (Asked (Ok (Begun transaction))) → (trace : Option Trace) (at : ℕ) → RetriesIn trace at transaction.options.retry_options → (o : Posted) (nexts : List ℕ) → RowArises (ways P.meaning Q.meaning K.meaning P.refuses Q.refuses K.refuses) trace at o nexts ended.row) }
+        ensures arises { IfOk result (λ ended. IsNewAnswer {P = P} {Q = Q} {K = K} (Asked (Ok (Begun transaction))) → (trace : Option Trace) (at : ℕ) → RetriesIn trace at transaction.options.retry_options → ((n : ℕ) → CountedIn trace n 0) → (o : Posted) (nexts : List ℕ) → RowArises (ways P.meaning Q.meaning K.meaning P.refuses Q.refuses K.refuses) trace at o nexts ended.row) }
         ensures ready { IfOk result (λ ended. RowReady (ways P.meaning Q.meaning K.meaning P.refuses Q.refuses K.refuses) ended.row) }
         ensures account { IfOk result (λ ended. account_in ended.row ≡ new_account) }
         ensures unlike { OnErr result (begins ≡ false) }

@@ -6,7 +6,7 @@ ghost use Rattle.txn_clients.specs.declared.told.Told.TheVariants as tells;
 ghost use Rattle.std.specs.Prelude.{◌≡◌, ◌<◌, ◌^◌, IsTrue, Ok, false, ⊤, true};
 ghost use Rattle.txn_clients.specs.Accounts.{EndsCommit, HasHeard, HasTaken, IsQuiet, TellsEnd, account_of, says_undetermined, stage_of};
 ghost use Rattle.txn_clients.specs.Closing.{stage_after, status_by};
-ghost use Rattle.txn_clients.specs.Failing.{CameIn, KnowsAsk};
+ghost use Rattle.txn_clients.specs.Failing.{CameIn, KnowsAsk, owing};
 ghost use Rattle.txn_clients.specs.Rows.{IsTold};
 ghost use Rattle.txn_clients.specs.Waiting.{StandGoes};
 ghost use Rattle.txn_commit.specs.Committing.{ways};
@@ -140,7 +140,7 @@ where
     requires quiet { IsQuiet transaction.old }
     ensures told { IfKept (turn_of result) (IsTold (ways P.meaning Q.meaning K.meaning P.refuses Q.refuses K.refuses) transaction.new out.old out.new (turn_of result)) }
     ensures taken { IfKept (turn_of result) (HasTaken acts.Commit transaction.old transaction.new (turn_of result)) }
-    ensures goes { IfKept (turn_of result) (StandGoes (ways P.meaning Q.meaning K.meaning P.refuses Q.refuses K.refuses) (λ a. ⊥) ⊤ (λ trace. KnowsAsk trace out.old.line acts.Commit (account_of transaction.old)) transaction.old transaction.new out.old out.new (turn_of result)) }
+    ensures goes { IfKept (turn_of result) (StandGoes (ways P.meaning Q.meaning K.meaning P.refuses Q.refuses K.refuses) (λ trace. trace) (λ a. ⊥) ⊤ (λ trace. KnowsAsk trace out.old.line acts.Commit (account_of transaction.old)) transaction.old transaction.new out.old out.new (turn_of result)) }
     ensures moves { IfKept (turn_of result) (StandMoves (ways P.meaning Q.meaning K.meaning P.refuses Q.refuses K.refuses) (tells.Act acts.Commit) transaction.old transaction.new out.old out.new (answer_in Called (turn_of result))) }
 {
     let progress = transaction.commit(pd, now, out)?;
@@ -169,7 +169,7 @@ where
     requires quiet { IsQuiet transaction.old }
     ensures told { IfKept (turn_of result) (IsTold (ways P.meaning Q.meaning K.meaning P.refuses Q.refuses K.refuses) transaction.new out.old out.new (turn_of result)) }
     ensures taken { IfKept (turn_of result) (HasTaken acts.Rollback transaction.old transaction.new (turn_of result)) }
-    ensures goes { IfKept (turn_of result) (StandGoes (ways P.meaning Q.meaning K.meaning P.refuses Q.refuses K.refuses) (λ a. ⊥) ⊤ (λ trace. KnowsAsk trace out.old.line acts.Rollback (account_of transaction.old)) transaction.old transaction.new out.old out.new (turn_of result)) }
+    ensures goes { IfKept (turn_of result) (StandGoes (ways P.meaning Q.meaning K.meaning P.refuses Q.refuses K.refuses) (λ trace. trace) (λ a. ⊥) ⊤ (λ trace. KnowsAsk trace out.old.line acts.Rollback (account_of transaction.old)) transaction.old transaction.new out.old out.new (turn_of result)) }
     ensures moves { IfKept (turn_of result) (StandMoves (ways P.meaning Q.meaning K.meaning P.refuses Q.refuses K.refuses) (tells.Act acts.Rollback) transaction.old transaction.new out.old out.new (answer_in Called (turn_of result))) }
 {
     let before = transaction.status();
@@ -200,7 +200,7 @@ where
     requires quiet { IsQuiet transaction.old }
     ensures told { IfKept (turn_of result) (IsTold (ways P.meaning Q.meaning K.meaning P.refuses Q.refuses K.refuses) transaction.new out.old out.new (turn_of result)) }
     ensures taken { IfKept (turn_of result) (HasTaken act transaction.old transaction.new (turn_of result)) }
-    ensures goes { IfKept (turn_of result) (StandGoes (ways P.meaning Q.meaning K.meaning P.refuses Q.refuses K.refuses) (λ a. ⊥) ⊤ (λ trace. KnowsAsk trace out.old.line act (account_of transaction.old)) transaction.old transaction.new out.old out.new (turn_of result)) }
+    ensures goes { IfKept (turn_of result) (StandGoes (ways P.meaning Q.meaning K.meaning P.refuses Q.refuses K.refuses) (λ trace. trace) (λ a. ⊥) ⊤ (λ trace. KnowsAsk trace out.old.line act (account_of transaction.old)) transaction.old transaction.new out.old out.new (turn_of result)) }
     ensures moves { IfKept (turn_of result) (StandMoves (ways P.meaning Q.meaning K.meaning P.refuses Q.refuses K.refuses) (tells.Act act) transaction.old transaction.new out.old out.new (answer_in Called (turn_of result))) }
 {
     match act {
@@ -233,7 +233,7 @@ where
     requires quiet { IsQuiet transaction.old }
     ensures told { IfKept (turn_of result) (IsTold (ways P.meaning Q.meaning K.meaning P.refuses Q.refuses K.refuses) transaction.new out.old out.new (turn_of result)) }
     ensures heard { IfKept (turn_of result) (HasHeard transaction.old transaction.new (turn_of result)) }
-    ensures goes { IfKept (turn_of result) (StandGoes (ways P.meaning Q.meaning K.meaning P.refuses Q.refuses K.refuses) (λ a. a ≡ awaited_as arrival) (is_open transaction.old.work ≡ true) (λ trace. CameIn trace out.old arrival) transaction.old transaction.new out.old out.new (turn_of result)) }
+    ensures goes { IfKept (turn_of result) (StandGoes (ways P.meaning Q.meaning K.meaning P.refuses Q.refuses K.refuses) (owing out.old.line (tells.Heard arrival)) (λ a. a ≡ awaited_as arrival) (is_open transaction.old.work ≡ true) (λ trace. CameIn trace out.old arrival) transaction.old transaction.new out.old out.new (turn_of result)) }
     ensures moves { IfKept (turn_of result) (StandMoves (ways P.meaning Q.meaning K.meaning P.refuses Q.refuses K.refuses) (tells.Heard arrival) transaction.old transaction.new out.old out.new (answer_in Called (turn_of result))) }
 {
     match arrival {

@@ -4,7 +4,7 @@ ghost use Rattle.std.specs.Prelude.{◌≡◌, ◌<◌, ◌≤◌, ◌^◌, ℕ,
 ghost use Rattle.std.specs.List.{All};
 ghost use Rattle.txn_clients.specs.Accounts.{account_at};
 ghost use Rattle.txn_clients.specs.Clients.{AreGiven, AreReady, HasOut, IsLine, asks_at, crashed_of, groups_of, nexts_of, rows_of, sight_of};
-ghost use Rattle.txn_clients.specs.Failing.{AreGivenIn, GroupCameIn, IfFails, posting_in};
+ghost use Rattle.txn_clients.specs.Failing.{AreGivenIn, GroupCameIn, IfFails, owing_all, posting_in, refused_of, refused_out};
 ghost use Rattle.txn_clients.specs.Going.{Advances, NamesIn};
 ghost use Rattle.txn_history.specs.Event.Event.{Lost, Took};
 ghost use Rattle.txn_kv.specs.declared.errors.Error.TheVariants.{InternalError};
@@ -201,7 +201,7 @@ where
         ensures ready { OnOk result (AreReady (ways P.meaning Q.meaning K.meaning P.refuses Q.refuses K.refuses) (rows_of self.new)) }
         ensures accounts { OnOk result (turn.old.posted.items ≡ [] → turn.old.ended.items ≡ [] → AreClosed (sight_of self.old) turn.new.ended.items (account_at (rows_of self.old)) (account_at (rows_of self.new))) }
         ensures crashed { OnOk result (crashed_of self.new ≡ crashed_of self.old) }
-        ensures waits { OnOk result ((trace : Option Trace) → GroupCameIn trace (slice_index_or (groups_of self.old) client None) (λ u r. Took u r reply) → IsSound (ways P.meaning Q.meaning K.meaning P.refuses Q.refuses K.refuses) (posting_in turn.old.posted.items trace) [] self.old → EndsGroup (ways P.meaning Q.meaning K.meaning P.refuses Q.refuses K.refuses) trace client turn.old.posted.items turn.new.posted.items turn.old.ended.items turn.new.ended.items self.old self.new) }
+        ensures waits { OnOk result ((trace : Option Trace) → GroupCameIn trace (slice_index_or (groups_of self.old) client None) (λ u r. Took u r reply) → IsSound (ways P.meaning Q.meaning K.meaning P.refuses Q.refuses K.refuses) (posting_in turn.old.posted.items (owing_all (refused_out (λ u r. Took u r reply) (slice_index_or (groups_of self.old) client None)) trace)) [] self.old → EndsGroup (ways P.meaning Q.meaning K.meaning P.refuses Q.refuses K.refuses) trace client turn.old.posted.items turn.new.posted.items turn.old.ended.items turn.new.ended.items self.old self.new) }
         ensures runs { OnOk result (AreRunning (rows_of self.old) → AreRunning (rows_of self.new)) }
         ensures leads { OnOk result (turn.old.posted.items ≡ [] → turn.old.ended.items ≡ [] → LeadsGroup (ways P.meaning Q.meaning K.meaning P.refuses Q.refuses K.refuses) client (λ u r. Took u r reply) turn.old.posted.items turn.new.posted.items turn.old.ended.items turn.new.ended.items self.old self.new) }
     {
@@ -224,7 +224,7 @@ where
         ensures ready { OnOk result (AreReady (ways P.meaning Q.meaning K.meaning P.refuses Q.refuses K.refuses) (rows_of self.new)) }
         ensures accounts { OnOk result (turn.old.posted.items ≡ [] → turn.old.ended.items ≡ [] → AreClosed (sight_of self.old) turn.new.ended.items (account_at (rows_of self.old)) (account_at (rows_of self.new))) }
         ensures crashed { OnOk result (crashed_of self.new ≡ crashed_of self.old) }
-        ensures waits { OnOk result ((trace : Option Trace) → GroupCameIn trace (slice_index_or (groups_of self.old) client None) (λ u r. Lost u r) → IsSound (ways P.meaning Q.meaning K.meaning P.refuses Q.refuses K.refuses) (posting_in turn.old.posted.items trace) [] self.old → EndsGroup (ways P.meaning Q.meaning K.meaning P.refuses Q.refuses K.refuses) trace client turn.old.posted.items turn.new.posted.items turn.old.ended.items turn.new.ended.items self.old self.new) }
+        ensures waits { OnOk result ((trace : Option Trace) → GroupCameIn trace (slice_index_or (groups_of self.old) client None) (λ u r. Lost u r) → IsSound (ways P.meaning Q.meaning K.meaning P.refuses Q.refuses K.refuses) (posting_in turn.old.posted.items (owing_all (refused_out (λ u r. Lost u r) (slice_index_or (groups_of self.old) client None)) trace)) [] self.old → EndsGroup (ways P.meaning Q.meaning K.meaning P.refuses Q.refuses K.refuses) trace client turn.old.posted.items turn.new.posted.items turn.old.ended.items turn.new.ended.items self.old self.new) }
         ensures runs { OnOk result (AreRunning (rows_of self.old) → AreRunning (rows_of self.new)) }
         ensures leads { OnOk result (turn.old.posted.items ≡ [] → turn.old.ended.items ≡ [] → LeadsGroup (ways P.meaning Q.meaning K.meaning P.refuses Q.refuses K.refuses) client (λ u r. Lost u r) turn.old.posted.items turn.new.posted.items turn.old.ended.items turn.new.ended.items self.old self.new) }
     {
@@ -248,7 +248,7 @@ where
         ensures ready { OnOk result (AreReady (ways P.meaning Q.meaning K.meaning P.refuses Q.refuses K.refuses) (rows_of self.new)) }
         ensures accounts { OnOk result (turn.old.posted.items ≡ [] → turn.old.ended.items ≡ [] → AreClosed (sight_of self.old) turn.new.ended.items (account_at (rows_of self.old)) (account_at (rows_of self.new))) }
         ensures crashed { OnOk result (crashed_of self.new ≡ crashed_of self.old) }
-        ensures waits { OnOk result ((trace : Option Trace) → AreGivenIn trace given.items → IsSound (ways P.meaning Q.meaning K.meaning P.refuses Q.refuses K.refuses) (posting_in turn.old.posted.items trace) (map (λ a. a.0) given.items) self.old → GoesOn (ways P.meaning Q.meaning K.meaning P.refuses Q.refuses K.refuses) trace client (λ n a. ⊥) [] turn.old.posted.items turn.new.posted.items turn.old.ended.items turn.new.ended.items self.old self.new) }
+        ensures waits { OnOk result ((trace : Option Trace) → AreGivenIn trace given.items → IsSound (ways P.meaning Q.meaning K.meaning P.refuses Q.refuses K.refuses) (posting_in turn.old.posted.items (owing_all (refused_of given.items) trace)) (map (λ a. a.0) given.items) self.old → GoesOn (ways P.meaning Q.meaning K.meaning P.refuses Q.refuses K.refuses) trace client (λ n a. ⊥) [] turn.old.posted.items turn.new.posted.items turn.old.ended.items turn.new.ended.items self.old self.new) }
         ensures runs { OnOk result (AreRunning (rows_of self.old) → AreRunning (rows_of self.new)) }
         ensures leads { OnOk result (turn.old.posted.items ≡ [] → turn.old.ended.items ≡ [] → LeadsGiven (ways P.meaning Q.meaning K.meaning P.refuses Q.refuses K.refuses) given.items turn.old.posted.items turn.new.posted.items turn.old.ended.items turn.new.ended.items self.old self.new) }
     {

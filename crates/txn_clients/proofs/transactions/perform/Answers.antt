@@ -76,13 +76,13 @@ returns-in-Lock-clause-goes g c = writes_goes _ g.met.P.Plan.lawful g.met.Q.Plan
     c.lock_keys.ensures.ends c.requires.idle c.lock_keys.ensures.gives_up c.lock_keys.ensures.quiet.0
 
 pub returns-in-Commit-clause-goes : goal.returns-in-Commit-clause-goes
-returns-in-Commit-clause-goes g c = acts_as _ g.met.P.Plan.lawful g.met.Q.Plan.lawful g.met.K.Plan.lawful c.args.act acts.Commit _ _ c.args.out.now.line (account_of c.args.transaction.now) c.args.transaction.now c.commit.new.transaction c.args.out.now c.commit.new.out (turn_of c.commit.result) c.in-Commit.is c.commit.ensures.goes
+returns-in-Commit-clause-goes g c = acts_as _ g.met.P.Plan.lawful g.met.Q.Plan.lawful g.met.K.Plan.lawful c.args.act acts.Commit _ _ _ c.args.out.now.line (account_of c.args.transaction.now) c.args.transaction.now c.commit.new.transaction c.args.out.now c.commit.new.out (turn_of c.commit.result) c.in-Commit.is c.commit.ensures.goes
 
 pub returns-in-Rollback-clause-taken : goal.returns-in-Rollback-clause-taken
 returns-in-Rollback-clause-taken g c = as_act c.args.transaction.now c.roll_back.new.transaction (turn_of c.roll_back.result) acts.Rollback c.args.act c.in-Rollback.is c.roll_back.ensures.taken
 
 pub returns-in-Rollback-clause-goes : goal.returns-in-Rollback-clause-goes
-returns-in-Rollback-clause-goes g c = acts_as _ g.met.P.Plan.lawful g.met.Q.Plan.lawful g.met.K.Plan.lawful c.args.act acts.Rollback _ _ c.args.out.now.line (account_of c.args.transaction.now) c.args.transaction.now c.roll_back.new.transaction c.args.out.now c.roll_back.new.out (turn_of c.roll_back.result) c.in-Rollback.is c.roll_back.ensures.goes
+returns-in-Rollback-clause-goes g c = acts_as _ g.met.P.Plan.lawful g.met.Q.Plan.lawful g.met.K.Plan.lawful c.args.act acts.Rollback _ _ _ c.args.out.now.line (account_of c.args.transaction.now) c.args.transaction.now c.roll_back.new.transaction c.args.out.now c.roll_back.new.out (turn_of c.roll_back.result) c.in-Rollback.is c.roll_back.ensures.goes
 
 pub returns-in-Put-clause-moves : goal.returns-in-Put-clause-moves
 returns-in-Put-clause-moves g c = writes_move _ c.args.act _ _ c.args.transaction.now c.put.new.self c.args.out.now c.put.new._out (turn_of c.put.result) (λ e. may_write_so (allows_data c.args.transaction.now.status) OperationAfterCommitError e) (λ d f. written_step c.in-Put.key (λ d. after_put (write_at d c.in-Put.key) c.in-Put.value) (put_call c.in-Put.key c.in-Put.value) d f) c.put.ensures.ends c.requires.idle c.put.ensures.gives_up c.put.ensures.quiet.0

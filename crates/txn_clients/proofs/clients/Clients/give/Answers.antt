@@ -14,13 +14,13 @@ use Rattle.txn_clients.proofs.Naming.{names_quiet, names_then, names_weaker}
 use Rattle.txn_clients.proofs.Timestamps.{timed_by}
 use Rattle.txn_clients.specs.Waiting.{HearsAt, IsSound, GoesOn}
 use Rattle.txn_clients.specs.declared.told.Told.TheVariants.{Heard}
-use Rattle.txn_clients.proofs.Settling.{goes_on, head_sound, quiet_goes}
+use Rattle.txn_clients.proofs.Settling.{goes_on, quiet_goes}
 use Rattle.txn_tso.specs.Calling.{members}
 use Rattle.txn_tso.specs.Oracle.{Answer}
 use Rattle.txn_clients.proofs.Kept.{nil_so}
 use Rattle.txn_commit.specs.Committing.{ways}
-use Rattle.txn_clients.specs.Failing.{posting_in}
-use Rattle.txn_clients.proofs.Giving.{given_came}
+use Rattle.txn_clients.specs.Failing.{owing_all, posting_in, refused_of}
+use Rattle.txn_clients.proofs.Giving.{first_sound, first_told, given_came, goes_longer, owing_none}
 use Rattle.txn_clients.proofs.Sounding.{no_more}
 use Rattle.txn_clients.specs.Arising.{Arisen}
 use Rattle.txn_clients.proofs.Chaining.{leads_nothing}
@@ -35,9 +35,9 @@ loop-asker-init g c = record {
   accounts = λ posted ended. closed_so (sight_of c.args.self.now) [] c.args.turn.now.ended.items (account_at (rows_of c.args.self.now)) (account_at (rows_of c.args.self.now)) ended (nothing_closed (sight_of c.args.self.now) (account_at (rows_of c.args.self.now)) (account_at (rows_of c.args.self.now)) (λ n. refl));
   crashed = refl;
   waits = λ trace given sound.
-      let now = posting_in c.args.turn.now.posted.items trace in
-      quiet_goes _ trace c.args.self.now c.args.self.now c.args.client _ c.args.turn.now.posted.items c.args.turn.now.ended.items c.args.turn.now.ended.items (subst (λ xs. IsSound (ways g.P.Plan.meaning g.Q.Plan.meaning g.K.Plan.meaning g.P.PlanFor.refuses g.Q.PlanFor.refuses g.K.PlanFor.refuses) now (map (λ (a : Answer). a.0) xs) c.args.self.now) (sym c.into_iter-asker-iterator.ensures.into_iter_gives.0) sound)
-      (no_more _ now c.args.turn.now.ended.items) (λ n a x. x) (λ n. refl);
+      let now = c.args.turn.now.posted.items in
+      quiet_goes _ _ c.args.self.now c.args.self.now c.args.client _ now c.args.turn.now.ended.items c.args.turn.now.ended.items (subst (λ xs. IsSound (ways g.P.Plan.meaning g.Q.Plan.meaning g.K.Plan.meaning g.P.PlanFor.refuses g.Q.PlanFor.refuses g.K.PlanFor.refuses) (posting_in now (owing_all (refused_of xs) trace)) (map (λ (a : Answer). a.0) xs) c.args.self.now) (sym c.into_iter-asker-iterator.ensures.into_iter_gives.0) sound)
+      (no_more _ _ c.args.turn.now.ended.items) (λ n a x. x) (λ n. refl);
   runs = λ running. running;
   leads = λ posted ended askers h f.
       leads_nothing (ways g.P.Plan.meaning g.Q.Plan.meaning g.K.Plan.meaning g.P.PlanFor.refuses g.Q.PlanFor.refuses g.K.PlanFor.refuses) askers _ c.args.turn.now.posted.items c.args.turn.now.ended.items _ c.args.self.now h (subst (λ xs. Arisen (ways g.P.Plan.meaning g.Q.Plan.meaning g.K.Plan.meaning g.P.PlanFor.refuses g.Q.PlanFor.refuses g.K.PlanFor.refuses) c.args.self.now askers xs h) (sym c.into_iter-asker-iterator.ensures.into_iter_gives.0) f);
@@ -62,12 +62,14 @@ loop-asker-preserved g c =
       crashed = c.in_ok-tell.ensures.crashed ∙ c.loop-asker.invariant.crashed;
       waits = λ trace given sound.
           let first = c.loop-asker.invariant.waits trace given sound in
-          let now = posting_in c.loop-asker.turn.posted.items trace in
           let left = map (λ (a : Answer). a.0) c.next.new.self.rest.items in
-          let here = head_sound _ now c.loop-asker.self c.in-Some.asker left (subst (λ xs. IsSound (ways g.P.Plan.meaning g.Q.Plan.meaning g.K.Plan.meaning g.P.PlanFor.refuses g.Q.PlanFor.refuses g.K.PlanFor.refuses) now (map (λ (a : Answer). a.0) xs) c.loop-asker.self) c.in-Some.ensures.steps.0 first.sound) in
-          let came = given_came trace c.loop-asker.turn.posted.items c.args.given.items c.in-Some.asker c.in-Some.answer given here_among in
-          goes_on _ trace c.args.self.now c.loop-asker.self c.tell.new.self c.args.client (λ n a. ⊥) (HearsAt c.in-Some.asker.line (Heard (Time c.in-Some.asker.ask c.in-Some.answer))) _ left c.args.turn.now.posted.items c.loop-asker.turn.posted.items c.tell.new.turn.posted.items c.args.turn.now.ended.items c.loop-asker.turn.ended.items c.tell.new.turn.ended.items first
-          (c.in_ok-tell.ensures.waits trace c.args.client left (c.if-not-is_of.ensures.live refl) (c.if-not-is_of.ensures.own refl) came here);
+          let later = owing_all (refused_of c.next.new.self.rest.items) trace in
+          let here = first_sound (ways g.P.Plan.meaning g.Q.Plan.meaning g.K.Plan.meaning g.P.PlanFor.refuses g.Q.PlanFor.refuses g.K.PlanFor.refuses) trace c.loop-asker.turn.posted.items c.loop-asker.self c.loop-asker.asker-iterator.rest.items (c.in-Some.asker, c.in-Some.answer) c.next.new.self.rest.items c.in-Some.ensures.steps.0 first.sound in
+          let so_far = goes_longer (ways g.P.Plan.meaning g.Q.Plan.meaning g.K.Plan.meaning g.P.PlanFor.refuses g.Q.PlanFor.refuses g.K.PlanFor.refuses) (owing_all (refused_of c.loop-asker.asker-iterator.rest.items) trace) later c.args.self.now c.loop-asker.self c.args.client (λ n a. ⊥) (map (λ (a : Answer). a.0) c.loop-asker.asker-iterator.rest.items) c.args.turn.now.posted.items c.loop-asker.turn.posted.items c.args.turn.now.ended.items c.loop-asker.turn.ended.items
+          (first_told c.loop-asker.asker-iterator.rest.items (c.in-Some.asker, c.in-Some.answer) c.next.new.self.rest.items trace c.in-Some.ensures.steps.0) first in
+          let came = given_came trace (refused_of c.next.new.self.rest.items) c.loop-asker.turn.posted.items c.args.given.items c.in-Some.asker c.in-Some.answer given here_among in
+          goes_on _ later c.args.self.now c.loop-asker.self c.tell.new.self c.args.client (λ n a. ⊥) (HearsAt c.in-Some.asker.line (Heard (Time c.in-Some.asker.ask c.in-Some.answer))) _ left c.args.turn.now.posted.items c.loop-asker.turn.posted.items c.tell.new.turn.posted.items c.args.turn.now.ended.items c.loop-asker.turn.ended.items c.tell.new.turn.ended.items so_far
+          (c.in_ok-tell.ensures.waits later c.args.client left (c.if-not-is_of.ensures.live refl) (c.if-not-is_of.ensures.own refl) came here);
       runs = λ running. c.in_ok-tell.ensures.runs (c.loop-asker.invariant.runs running);
       leads = λ posted ended askers h f.
           let first = c.loop-asker.invariant.leads posted ended askers h f in
@@ -86,7 +88,8 @@ returns-clause-waits g c trace given sound =
     let rest = c.loop-asker.asker-iterator.rest in
     let none = c.in-None.ensures.steps.0 in
     let none_left = nil_so rest.items (let ok = rest.ok in omega (arith, ok, none)) in
-    subst (λ xs. GoesOn (ways g.P.Plan.meaning g.Q.Plan.meaning g.K.Plan.meaning g.P.PlanFor.refuses g.Q.PlanFor.refuses g.K.PlanFor.refuses) trace c.args.client (λ n a. ⊥) (map (λ (a : Answer). a.0) xs) c.args.turn.now.posted.items c.loop-asker.turn.posted.items c.args.turn.now.ended.items c.loop-asker.turn.ended.items c.args.self.now c.loop-asker.self) none_left (c.loop-asker.invariant.waits trace given sound)
+    subst (λ x. GoesOn (ways g.P.Plan.meaning g.Q.Plan.meaning g.K.Plan.meaning g.P.PlanFor.refuses g.Q.PlanFor.refuses g.K.PlanFor.refuses) x c.args.client (λ n a. ⊥) [] c.args.turn.now.posted.items c.loop-asker.turn.posted.items c.args.turn.now.ended.items c.loop-asker.turn.ended.items c.args.self.now c.loop-asker.self) (owing_none trace)
+    (subst (λ xs. GoesOn (ways g.P.Plan.meaning g.Q.Plan.meaning g.K.Plan.meaning g.P.PlanFor.refuses g.Q.PlanFor.refuses g.K.PlanFor.refuses) (owing_all (refused_of xs) trace) c.args.client (λ n a. ⊥) (map (λ (a : Answer). a.0) xs) c.args.turn.now.posted.items c.loop-asker.turn.posted.items c.args.turn.now.ended.items c.loop-asker.turn.ended.items c.args.self.now c.loop-asker.self) none_left (c.loop-asker.invariant.waits trace given sound))
 
 pub returns-clause-leads : goal.returns-clause-leads
 returns-clause-leads g c posted ended =

@@ -12,7 +12,7 @@ use Rattle.std.proofs.Common.{map}
 use Rattle.txn_clients.specs.Waiting.{AreRunning, GoesOn, IsSound}
 use Rattle.std.specs.Prelude.{Option}
 use Rattle.txn_side.specs.Trace.{Trace}
-use Rattle.txn_clients.specs.Failing.{AreGivenIn, posting_in}
+use Rattle.txn_clients.specs.Failing.{AreGivenIn, owing_all, posting_in, refused_of}
 use Rattle.txn_clients.proofs.Grouped.{LeadsGiving}
 use Rattle.txn_clients.proofs.clients.Clients.give.Given as goal
 
@@ -23,8 +23,8 @@ invariant-loop-asker g l = record {
   ready : AreReady (ways g.P.Plan.meaning g.Q.Plan.meaning g.K.Plan.meaning g.P.PlanFor.refuses g.Q.PlanFor.refuses g.K.PlanFor.refuses) (rows_of l.self);
   accounts : l.initial.turn.posted.items ≡ [] → l.initial.turn.ended.items ≡ [] → AreClosed (sight_of l.initial.self) l.turn.ended.items (account_at (rows_of l.initial.self)) (account_at (rows_of l.self));
   crashed : crashed_of l.self ≡ crashed_of l.initial.self;
-  waits : (trace : Option Trace) → AreGivenIn trace l.fn.given.items → IsSound (ways g.P.Plan.meaning g.Q.Plan.meaning g.K.Plan.meaning g.P.PlanFor.refuses g.Q.PlanFor.refuses g.K.PlanFor.refuses) (posting_in l.initial.turn.posted.items trace) (map (λ (a : Answer). a.0) l.fn.given.items) l.initial.self
-      → GoesOn (ways g.P.Plan.meaning g.Q.Plan.meaning g.K.Plan.meaning g.P.PlanFor.refuses g.Q.PlanFor.refuses g.K.PlanFor.refuses) trace l.client (λ n a. ⊥) (map (λ (a : Answer). a.0) l.asker-iterator.rest.items) l.initial.turn.posted.items l.turn.posted.items l.initial.turn.ended.items l.turn.ended.items l.initial.self l.self;
+  waits : (trace : Option Trace) → AreGivenIn trace l.fn.given.items → IsSound (ways g.P.Plan.meaning g.Q.Plan.meaning g.K.Plan.meaning g.P.PlanFor.refuses g.Q.PlanFor.refuses g.K.PlanFor.refuses) (posting_in l.initial.turn.posted.items (owing_all (refused_of l.fn.given.items) trace)) (map (λ (a : Answer). a.0) l.fn.given.items) l.initial.self
+      → GoesOn (ways g.P.Plan.meaning g.Q.Plan.meaning g.K.Plan.meaning g.P.PlanFor.refuses g.Q.PlanFor.refuses g.K.PlanFor.refuses) (owing_all (refused_of l.asker-iterator.rest.items) trace) l.client (λ n a. ⊥) (map (λ (a : Answer). a.0) l.asker-iterator.rest.items) l.initial.turn.posted.items l.turn.posted.items l.initial.turn.ended.items l.turn.ended.items l.initial.self l.self;
   runs : AreRunning (rows_of l.initial.self) → AreRunning (rows_of l.self);
   leads : l.initial.turn.posted.items ≡ [] → l.initial.turn.ended.items ≡ [] → LeadsGiving (ways g.P.Plan.meaning g.Q.Plan.meaning g.K.Plan.meaning g.P.PlanFor.refuses g.Q.PlanFor.refuses g.K.PlanFor.refuses) l.fn.given.items l.asker-iterator.rest.items l.initial.turn.posted.items l.turn.posted.items l.initial.turn.ended.items l.turn.ended.items l.initial.self l.self;
   times : All IsTimeFor l.asker-iterator.rest.items;

@@ -1,13 +1,13 @@
 use Rattle.txn_side.specs.Sight.{IsGiven}
-use Rattle.txn_clients.specs.Clients.{sight_of, rows_of}
+use Rattle.txn_clients.specs.Clients.{groups_of, sight_of, rows_of}
 use Rattle.txn_clients.proofs.Asking.{goes_whole}
 use Rattle.txn_clients.proofs.Naming.{named_all}
 use Rattle.txn_clients.specs.Accounts.{account_at}
-use Rattle.std.proofs.Common.{None, ap, subst, sym}
+use Rattle.std.proofs.Common.{None, ap, get_or, subst, sym}
 use Rattle.txn_clients.proofs.Accounting.{closed_kept, closed_so, kept_rows}
 use Rattle.txn_clients.proofs.Stepping.{group_steps, groups_beside}
 use Rattle.std.specs.Prelude.{[]}
-use Rattle.txn_clients.specs.Failing.{posting_in}
+use Rattle.txn_clients.specs.Failing.{owing_all, posting_in, refused_out}
 use Rattle.txn_clients.specs.Waiting.{IsSound}
 use Rattle.txn_commit.specs.Committing.{ways}
 use Rattle.txn_history.specs.Event.Event.{Took}
@@ -33,7 +33,7 @@ returns-clause-accounts g c =
 
 pub returns-clause-steps : goal.returns-clause-steps
 returns-clause-steps g c trace ready came sound =
-    let ended = c.in_ok-take_group.ensures.waits trace came (subst (λ ps. IsSound (ways g.P.Plan.meaning g.Q.Plan.meaning g.K.Plan.meaning g.P.PlanFor.refuses g.Q.PlanFor.refuses g.K.PlanFor.refuses) (posting_in ps trace) [] c.args.self.now) (sym c.new-turn.ensures.posted) sound) in
+    let ended = c.in_ok-take_group.ensures.waits trace came (subst (λ ps. IsSound (ways g.P.Plan.meaning g.Q.Plan.meaning g.K.Plan.meaning g.P.PlanFor.refuses g.Q.PlanFor.refuses g.K.PlanFor.refuses) (posting_in ps (owing_all (refused_out (λ u r. Took u r c.args.reply) (get_or (groups_of c.args.self.now) c.args.client None)) trace)) [] c.args.self.now) (sym c.new-turn.ensures.posted) sound) in
     group_steps _ trace c.args.self.now c.take_group.new.self c.send_group.new.self c.args.client c.new-turn.result.posted.items c.take_group.new.turn.posted.items c.send_group.new.turn.posted.items c.new-turn.result.ended.items c.take_group.new.turn.ended.items c.send_group.new.turn.ended.items
     c.new-turn.ensures.ended (ap (λ v. v.items) c.in_ok-send_group.ensures.ended) ended (c.in_ok-send_group.ensures.waits trace [] ended.sound) c.in_ok-send_group.ensures.rows (c.in_ok-take_group.ensures.runs ready.running) ready.quiet
 

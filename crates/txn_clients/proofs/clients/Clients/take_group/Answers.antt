@@ -1,4 +1,6 @@
-use Rattle.std.proofs.Common.{sym, ap, subst}
+use Rattle.std.proofs.Common.{map, sym, ap, subst}
+use Rattle.txn_commit.specs.Committing.{ways}
+use Rattle.txn_tso.specs.Oracle.{Answer}
 use Rattle.txn_side.specs.Sight.{IsGiven}
 use Rattle.txn_clients.specs.Clients.{of_calls, rows_of, sight_of, stands_of}
 use Rattle.txn_clients.specs.Going.{Advances, NamesIn}
@@ -9,9 +11,9 @@ use Rattle.txn_clients.proofs.Telling.{on_ok}
 use Rattle.txn_clients.proofs.Accounting.{closed_rows}
 use Rattle.txn_clients.proofs.Grouping.{take_sound}
 use Rattle.txn_clients.proofs.Stepping.{group_ends}
-use Rattle.txn_clients.specs.Waiting.{AreRunning}
-use Rattle.txn_clients.specs.Failing.{posting_in}
-use Rattle.txn_clients.proofs.Giving.{given_taken}
+use Rattle.txn_clients.specs.Waiting.{AreRunning, IsSound}
+use Rattle.txn_clients.specs.Failing.{owing_all, posting_in}
+use Rattle.txn_clients.proofs.Giving.{given_taken, taken_refused}
 use Rattle.txn_clients.proofs.Grouped.{jobs_last, taken_leads}
 use Rattle.txn_clients.proofs.clients.Clients.take_group.Goals as goal
 
@@ -43,7 +45,8 @@ returns-clause-waits g c = on_ok c.give.result
     let done = c.in_ok-given.ensures in
     let given = given_taken trace c.args.self.now c.take_times.new.self c.args.client c.args.reply c.in_ok-given.given.items done.takes (sound.paired c.args.client) came done.errors in
     group_ends _ trace c.args.self.now c.take_times.new.self c.give.new.self c.args.client c.in_ok-given.given.items c.args.turn.now.posted.items c.give.new.turn.posted.items c.args.turn.now.ended.items c.give.new.turn.ended.items done.takes done.rows
-    (f trace given (take_sound _ g.met.P.Plan.lawful g.met.Q.Plan.lawful g.met.K.Plan.lawful (posting_in c.args.turn.now.posted.items trace) c.args.self.now c.take_times.new.self c.args.client c.in_ok-given.given.items done.takes done.rows done.nexts done.crashed sound)))
+    (f trace given (subst (λ lines. IsSound (ways g.P.Plan.meaning g.Q.Plan.meaning g.K.Plan.meaning g.P.PlanFor.refuses g.Q.PlanFor.refuses g.K.PlanFor.refuses) (posting_in c.args.turn.now.posted.items (owing_all lines trace)) (map (λ (a : Answer). a.0) c.in_ok-given.given.items) c.take_times.new.self) (sym (taken_refused c.args.self.now c.take_times.new.self c.args.client c.args.reply c.in_ok-given.given.items done.takes (sound.paired c.args.client) done.granted done.refused))
+    (take_sound _ g.met.P.Plan.lawful g.met.Q.Plan.lawful g.met.K.Plan.lawful _ c.args.self.now c.take_times.new.self c.args.client c.in_ok-given.given.items done.takes done.rows done.nexts done.crashed sound))))
     c.give.ensures.waits
 
 pub returns-clause-runs : goal.returns-clause-runs

@@ -1,14 +1,17 @@
 use Rattle.txn_plan.specs.declared.arrival.Arrival.TheVariants.{Lost}
 use Rattle.txn_side.specs.Sight.{NoneGiven}
+use Rattle.txn_clients.specs.Clients.{groups_of}
+use Rattle.txn_clients.specs.Failing.{refused_out}
 use Rattle.txn_clients.specs.Going.{OfLine}
+use Rattle.txn_clients.specs.Resting.{rests_when_longer}
 use Rattle.txn_clients.specs.Rows.{Brings}
 use Rattle.txn_clients.proofs.Naming.{named_so}
 use Rattle.txn_clients.proofs.Timestamps.{both_if_ok}
-use Rattle.std.proofs.Common.{None, Some}
+use Rattle.std.proofs.Common.{◌++◌, None, Some, get_or}
 use Rattle.txn_commit.specs.Committing.{ways}
 use Rattle.std.proofs.lemmas.Result.{IfOk-weaker}
 use Rattle.txn_history.specs.Event.Event.{Lost as Gone}
-use Rattle.txn_clients.proofs.Coming.{group_came, loss_came}
+use Rattle.txn_clients.proofs.Coming.{group_came, group_longer, loss_came}
 use Rattle.txn_clients.proofs.Sides.{on_ok_if, out_ticket, waits_deaf, waits_group, waits_reply}
 use Rattle.txn_clients.proofs.Stepping.{ready_of, rested, rests_on, rests_quiet}
 use Rattle.std.proofs.Common.{refl, sym}
@@ -29,29 +32,32 @@ returns-then-is_group-clause-ready g c = on_ok_if c.miss_group.result (λ turn r
 
 pub returns-else-is_group-clause-waits : goal.returns-else-is_group-clause-waits
 returns-else-is_group-clause-waits g c live = both_if_ok c.hear.result _ _ _
-    (λ turn steps goes. waits_reply _ c.args.self.now c.hear.new.self c.args.ticket c.in-Some.client (Lost c.args.ticket.number) turn.posted.items turn.ended.items refl c.in-Some.ensures.client (c.if-is_group.ensures.not refl) c.requires.ready (steps None live c.in-Some.ensures.client c.requires.ready tt c.requires.ready.sound) goes.groups)
+    (λ turn steps goes. waits_reply _ c.args.self.now c.hear.new.self c.args.ticket c.in-Some.client (Lost c.args.ticket.number) turn.posted.items turn.ended.items refl c.in-Some.ensures.client (c.if-is_group.ensures.not refl) c.requires.ready (steps None live c.in-Some.ensures.client c.requires.ready refl tt c.requires.ready.sound) goes.groups)
     c.hear.ensures.steps c.hear.ensures.turn
 
 pub returns-else-is_group-clause-ready : goal.returns-else-is_group-clause-ready
-returns-else-is_group-clause-ready g c = on_ok_if c.hear.result (λ turn rows steps. ready_of _ c.args.self.now c.hear.new.self _ turn.posted.items turn.ended.items c.requires.ready rows (steps None (sym c.in-Some.ensures.live) c.in-Some.ensures.client c.requires.ready tt c.requires.ready.sound)) c.hear.ensures.ready c.hear.ensures.steps
+returns-else-is_group-clause-ready g c = on_ok_if c.hear.result (λ turn rows steps. ready_of _ c.args.self.now c.hear.new.self _ turn.posted.items turn.ended.items c.requires.ready rows (steps None (sym c.in-Some.ensures.live) c.in-Some.ensures.client c.requires.ready refl tt c.requires.ready.sound)) c.hear.ensures.ready c.hear.ensures.steps
 
 pub returns-then-is_group-clause-rests : goal.returns-then-is_group-clause-rests
 returns-then-is_group-clause-rests g c = IfOk-weaker c.miss_group.result _ _
-    (λ turn steps t posted came was. rests_on (ways g.P.Plan.meaning g.Q.Plan.meaning g.K.Plan.meaning g.P.PlanFor.refuses g.Q.PlanFor.refuses g.K.PlanFor.refuses) t c.args.self.now c.miss_group.new.self _ turn.posted.items turn.ended.items
-    (steps (Some t) c.requires.ready (group_came t c.args.self.now c.in-Some.client c.args.ticket (λ u r. Gone u r) (out_ticket c.args.self.now c.in-Some.client c.args.ticket (c.if-is_group.ensures.is refl)) came) (rested _ c.args.self.now t posted was)))
+    (λ turn steps before t longer posted came was. rests_on (ways g.P.Plan.meaning g.Q.Plan.meaning g.K.Plan.meaning g.P.PlanFor.refuses g.Q.PlanFor.refuses g.K.PlanFor.refuses) t c.args.self.now c.miss_group.new.self _ turn.posted.items turn.ended.items
+    (steps (Some t) c.requires.ready (group_came before t c.args.self.now c.in-Some.client c.args.ticket (λ u r. Gone u r) (out_ticket c.args.self.now c.in-Some.client c.args.ticket (c.if-is_group.ensures.is refl)) came)
+    (rested _ c.args.self.now (record t { owed = refused_out (λ u r. Gone u r) (get_or (groups_of c.args.self.now) c.in-Some.client None) ++ t.owed }) posted
+    (rests_when_longer _ c.args.self.now before (record t { owed = refused_out (λ u r. Gone u r) (get_or (groups_of c.args.self.now) c.in-Some.client None) ++ t.owed })
+    (group_longer before t c.args.self.now c.in-Some.client c.args.ticket (λ u r. Gone u r) (λ v q r lines. refl) (out_ticket c.args.self.now c.in-Some.client c.args.ticket (c.if-is_group.ensures.is refl)) longer came) was))))
     c.miss_group.ensures.steps
 
 pub returns-else-is_group-clause-rests : goal.returns-else-is_group-clause-rests
 returns-else-is_group-clause-rests g c = IfOk-weaker c.hear.result _ _
-    (λ turn steps t posted came was. rests_on (ways g.P.Plan.meaning g.Q.Plan.meaning g.K.Plan.meaning g.P.PlanFor.refuses g.Q.PlanFor.refuses g.K.PlanFor.refuses) t c.args.self.now c.hear.new.self _ turn.posted.items turn.ended.items
-    (steps (Some t) (sym c.in-Some.ensures.live) c.in-Some.ensures.client c.requires.ready (loss_came t c.args.self.now c.args.ticket c.if-ticket.false posted came) (rested _ c.args.self.now t posted was)))
+    (λ turn steps before t longer posted came was. rests_on (ways g.P.Plan.meaning g.Q.Plan.meaning g.K.Plan.meaning g.P.PlanFor.refuses g.Q.PlanFor.refuses g.K.PlanFor.refuses) t c.args.self.now c.hear.new.self _ turn.posted.items turn.ended.items
+    (steps (Some t) (sym c.in-Some.ensures.live) c.in-Some.ensures.client c.requires.ready refl (loss_came before t c.args.self.now c.args.ticket c.if-ticket.false posted came) (rested _ c.args.self.now t posted (rests_when_longer _ c.args.self.now before t longer was))))
     c.hear.ensures.steps
 
 pub returns-in-None-clause-rests : goal.returns-in-None-clause-rests
-returns-in-None-clause-rests g c t posted came was = rests_quiet (ways g.P.Plan.meaning g.Q.Plan.meaning g.K.Plan.meaning g.P.PlanFor.refuses g.Q.PlanFor.refuses g.K.PlanFor.refuses) t c.args.self.now c.new-in-None.result.posted.items c.new-in-None.result.ended.items c.new-in-None.ensures.posted c.new-in-None.ensures.ended posted was
+returns-in-None-clause-rests g c before t longer posted came was = rests_quiet (ways g.P.Plan.meaning g.Q.Plan.meaning g.K.Plan.meaning g.P.PlanFor.refuses g.Q.PlanFor.refuses g.K.PlanFor.refuses) t c.args.self.now c.new-in-None.result.posted.items c.new-in-None.result.ended.items c.new-in-None.ensures.posted c.new-in-None.ensures.ended posted (rests_when_longer _ c.args.self.now before t longer was)
 
 pub returns-then-ticket-clause-rests : goal.returns-then-ticket-clause-rests
-returns-then-ticket-clause-rests g c t posted came was = rests_quiet (ways g.P.Plan.meaning g.Q.Plan.meaning g.K.Plan.meaning g.P.PlanFor.refuses g.Q.PlanFor.refuses g.K.PlanFor.refuses) t c.args.self.now c.new.result.posted.items c.new.result.ended.items c.new.ensures.posted c.new.ensures.ended posted was
+returns-then-ticket-clause-rests g c before t longer posted came was = rests_quiet (ways g.P.Plan.meaning g.Q.Plan.meaning g.K.Plan.meaning g.P.PlanFor.refuses g.Q.PlanFor.refuses g.K.PlanFor.refuses) t c.args.self.now c.new.result.posted.items c.new.result.ended.items c.new.ensures.posted c.new.ensures.ended posted (rests_when_longer _ c.args.self.now before t longer was)
 
 pub returns-then-ticket-clause-waits : goal.returns-then-ticket-clause-waits
 returns-then-ticket-clause-waits g c live = waits_deaf (ways g.P.Plan.meaning g.Q.Plan.meaning g.K.Plan.meaning g.P.PlanFor.refuses g.Q.PlanFor.refuses g.K.PlanFor.refuses) c.args.self.now c.args.ticket c.new.result.posted.items c.if-ticket.true

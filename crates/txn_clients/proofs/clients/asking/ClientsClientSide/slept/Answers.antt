@@ -21,16 +21,16 @@ returns-in-Some-clause-given g c = named_so c.hear.result (OfLine c.args.ticket.
 
 pub returns-in-Some-clause-waits : goal.returns-in-Some-clause-waits
 returns-in-Some-clause-waits g c live = both_if_ok c.hear.result _ _ _
-    (λ turn steps goes. waits_end _ c.args.self.now c.hear.new.self c.args.ticket (Slept c.args.ticket.number) turn.posted.items turn.ended.items refl (steps None live c.in-Some.ensures.client c.requires.ready tt c.requires.ready.sound) goes.groups)
+    (λ turn steps goes. waits_end _ c.args.self.now c.hear.new.self c.args.ticket (Slept c.args.ticket.number) turn.posted.items turn.ended.items refl (steps None live c.in-Some.ensures.client c.requires.ready refl tt c.requires.ready.sound) goes.groups)
     c.hear.ensures.steps c.hear.ensures.turn
 
 pub returns-in-Some-clause-ready : goal.returns-in-Some-clause-ready
-returns-in-Some-clause-ready g c = on_ok_if c.hear.result (λ turn rows steps. ready_of _ c.args.self.now c.hear.new.self _ turn.posted.items turn.ended.items c.requires.ready rows (steps None (sym c.in-Some.ensures.live) c.in-Some.ensures.client c.requires.ready tt c.requires.ready.sound)) c.hear.ensures.ready c.hear.ensures.steps
+returns-in-Some-clause-ready g c = on_ok_if c.hear.result (λ turn rows steps. ready_of _ c.args.self.now c.hear.new.self _ turn.posted.items turn.ended.items c.requires.ready rows (steps None (sym c.in-Some.ensures.live) c.in-Some.ensures.client c.requires.ready refl tt c.requires.ready.sound)) c.hear.ensures.ready c.hear.ensures.steps
 
 pub returns-in-Some-clause-rests : goal.returns-in-Some-clause-rests
 returns-in-Some-clause-rests g c = IfOk-weaker c.hear.result _ _
     (λ turn steps t posted was. rests_on (ways g.P.Plan.meaning g.Q.Plan.meaning g.K.Plan.meaning g.P.PlanFor.refuses g.Q.PlanFor.refuses g.K.PlanFor.refuses) t c.args.self.now c.hear.new.self _ turn.posted.items turn.ended.items
-    (steps (Some t) (sym c.in-Some.ensures.live) c.in-Some.ensures.client c.requires.ready tt (rested _ c.args.self.now t posted was)))
+    (steps (Some t) (sym c.in-Some.ensures.live) c.in-Some.ensures.client c.requires.ready refl tt (rested _ c.args.self.now t posted was)))
     c.hear.ensures.steps
 
 pub returns-in-None-clause-rests : goal.returns-in-None-clause-rests
