@@ -29,6 +29,8 @@ longer_posted t ps qs = record {
   rollbacks = λ n i. i;
   groups = λ g i. i;
   sent = λ u r s. elim s [ inl h ↦ inl h | inr a ↦ inr (any_left (IsSend u r) ps qs a) ];
+  refused = λ line n h. h;
+  beside = λ line n h. h;
 }
 
 longer_nothing : (t : Trace) (ps : List Posting) → t.posted ≡ [] → IsLonger t (with_posted ps t)
@@ -39,6 +41,8 @@ longer_nothing t ps none = record {
   rollbacks = λ n i. i;
   groups = λ g i. i;
   sent = λ u r s. elim s [ inl h ↦ inl h | inr a ↦ absurd (none_any (IsSend u r) t.posted none a) ];
+  refused = λ line n h. h;
+  beside = λ line n h. h;
 }
 
 module _ (fails : HowCallsFail) where
@@ -65,8 +69,8 @@ module _ (fails : HowCallsFail) where
         subst (λ ps. RestsOn fails was is t ps later.ended.items) (sym pushed) (subst (λ v. RestsOn fails was is t (turn.posted.items ++ qs) v.items) (sym ended) (rests_then t turn.posted.items qs turn.ended.items (acts t posted called refused rolls)))
 
 -- what has come is seen without the numbers of heartbeats
-pub come_beside : (t : Trace) (s : Sight) (beats : List ℕ) (u : Ticket) (event : Request → Event) → HasCome t (with_beats beats s) u event → HasCome t s u event
-come_beside t s beats u event came = record { own = came.own; group = came.group }
+pub come_beside : (before t : Trace) (s : Sight) (beats : List ℕ) (u : Ticket) (event : Request → Event) → HasCome before t (with_beats beats s) u event → HasCome before t s u event
+come_beside before t s beats u event came = record { told = came.told; own = came.own; group = came.group }
 
 -- The accounts
 

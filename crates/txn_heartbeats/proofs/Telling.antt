@@ -12,7 +12,7 @@ use Rattle.txn_report.specs.declared.outcome.Outcome.{Outcome}
 use Rattle.txn_side.specs.Account.{Account}
 use Rattle.txn_side.specs.Arising.{Arises, IsBeat, IsOutside, with_postings}
 use Rattle.txn_side.specs.Sight.{Sight}
-use Rattle.txn_side.specs.Trace.{ActsOn, HowCallsFail, IsLonger, RestsOn, Trace}
+use Rattle.txn_side.specs.Trace.{ActsOn, HearsOn, HowCallsFail, IsLonger, Trace, WakesOn}
 use Rattle.txn_side.specs.Waiting.{Awaited, WaitsOn}
 use Rattle.txn_side.specs.declared.act.Act.{Act}
 use Rattle.txn_side.specs.declared.turn.Posting.{Posting}
@@ -21,7 +21,7 @@ use Rattle.txn_heartbeats.specs.Beating.{AreBeats, PostsBeats, with_beats}
 use Rattle.txn_heartbeats.specs.Hearts.{ArisesIn, IsUnbeaten, RestsIn, beats_of, sight_of, waits_of}
 use Rattle.txn_heartbeats.specs.Standing.{rests_longer_so}
 use Rattle.txn_heartbeats.specs.declared.heartbeats.Heartbeats.{Heartbeats}
-use Rattle.txn_heartbeats.proofs.Resting.{acts_then, rests_deaf}
+use Rattle.txn_heartbeats.proofs.Resting.{acts_then, come_beside, rests_deaf}
 use Rattle.txn_heartbeats.proofs.Seen.{waits_longer}
 use Rattle.txn_heartbeats.proofs.Sides.{told_arises}
 
@@ -48,6 +48,12 @@ module _ {S H : Type 0} (sight : S → Sight) (old new : Heartbeats S H) (u : Is
       → ActsOn fails (RestsIn sight rests old) (RestsIn sight rests new) act x newest account turn
   acts_in fails rests act x newest account turn acts t posted called refused rolls was = let r = acts t posted called refused rolls (was u) in ((λ v. r.0), r.1)
 
+  -- clients hear of what came for a call
+  pub hears_in : (fails : HowCallsFail) (rests : S → Trace → Type 0) (ticket : Ticket) (event : Request → Event) (turn : Turn) → HearsOn fails (rests old.side) (rests new.side) (sight old.side) ticket event turn
+      → HearsOn fails (RestsIn sight rests old) (RestsIn sight rests new) (sight_of sight old) ticket event turn
+  hears_in fails rests ticket event turn hears before t longer posted came was =
+      let r = hears before t longer posted (come_beside before t (sight old.side) (beats_of old) ticket event came) (was u) in ((λ v. r.0), r.1)
+
   pub acts_started : (fails : HowCallsFail) (rests : S → Trace → Type 0) (act : Act) (x newest : ℕ) (account : Account) (mid : S) (line : ℕ) (turn later : Turn) → ((t longer : Trace) → IsLonger t longer → rests mid t → rests mid longer)
       → new.side ≡ mid → later.ended ≡ turn.ended → PostsBeats line (beats_of old) turn.posted.items later.posted.items (beats_of new) → ActsOn fails (rests old.side) (rests mid) act x newest account (Some turn) → ActsOn fails (RestsIn sight rests old) (RestsIn sight rests new) act x newest account (Some later)
   acts_started fails rests act x newest account mid line turn later longer side ended p acts =
@@ -58,10 +64,17 @@ module _ {S H : Type 0} (sight : S → Sight) (old new : Heartbeats S H) (u : Is
 
   module _ (waits : S → ℕ → Awaited → Type 0) (account : S → ℕ → Account) (rests : S → Trace → Type 0) (arises : S → List Event → Type 0) (holds : S → List Event → ℕ → Outcome → Type 0) where
     pub told_rests : (fails : HowCallsFail) → ((t longer : Trace) → IsLonger t longer → rests new.side t → rests new.side longer) → (r : Result Turn NoMemory) → OnOk r (StaysSo sight waits account rests arises holds old.side new.side) → IfOk r (λ turn. turn.ended.items ≡ [])
-        → IfOk r (λ turn. (t : Trace) → t.posted ≡ [] → RestsOn fails (RestsIn sight rests old) (RestsIn sight rests new) t turn.posted.items turn.ended.items)
+        → IfOk r (WakesOn fails (RestsIn sight rests old) (RestsIn sight rests new))
     told_rests fails longer (Ok turn) stays ended = λ t posted.
         rests_deaf fails (RestsIn sight rests old) (RestsIn sight rests new) (rests_longer_so sight new rests longer) t turn.posted.items turn.ended.items ended posted (λ trace was v. stays.rests_so trace (was u))
     told_rests fails longer (Err e) stays ended = tt
+
+    -- what the calls rested on before that came they rest on still
+    pub told_hears : (fails : HowCallsFail) → ((s : S) (t longer : Trace) → IsLonger t longer → rests s t → rests s longer) → (seen : Sight) (ticket : Ticket) (event : Request → Event) (r : Result Turn NoMemory) → OnOk r (StaysSo sight waits account rests arises holds old.side new.side)
+        → IfOk r (λ turn. turn.ended.items ≡ []) → IfOk r (HearsOn fails (RestsIn sight rests old) (RestsIn sight rests new) seen ticket event)
+    told_hears fails longer seen ticket event (Ok turn) stays ended = λ before t more posted came was.
+        told_rests fails (longer new.side) (Ok turn) stays ended t posted (rests_longer_so sight old rests (longer old.side) before t more was)
+    told_hears fails longer seen ticket event (Err e) stays ended = tt
 
     module _ (beating : (s : S) (h : List Event) (t : Ticket) (r : Request) → t.beat ≡ true → IsBeat r → IsPossible h (Sent t r) → arises s h → Arises (arises s) (holds s) (holds s h) (λ n. n) (Sent t r ∷ h) [])
         (longer : (s : S) (h : List Event) (e : Event) → IsOutside e → IsPossible h e → arises s h → Arises (arises s) (holds s) (holds s h) (λ n. n) (e ∷ h) []) where

@@ -30,8 +30,8 @@ module _ {S H : Type 0} (sight : S → Sight) (b : Heartbeats S H) where
   pub nobody_waits_so : (waits : S → ℕ → Awaited → Type 0) → (sight b.side ≡ nobody → NoneWaits (waits b.side)) → sight_of sight b ≡ nobody → NoneWaits (waits_of sight waits b)
   nobody_waits_so waits none e n a w = none (nobody_inside (beats_of b) (sight b.side) w.0 e) n a w.1
 
-  pub nobody_rests_so : (rests : S → Trace → Type 0) → (sight b.side ≡ nobody → (t : Trace) → rests b.side t) → sight_of sight b ≡ nobody → (t : Trace) → RestsIn sight rests b t
-  nobody_rests_so rests all e t unbeaten = all (nobody_inside (beats_of b) (sight b.side) unbeaten e) t
+  pub nobody_rests_so : (rests : S → Trace → Type 0) → (sight b.side ≡ nobody → (t : Trace) → t.owed ≡ [] → rests b.side t) → sight_of sight b ≡ nobody → (t : Trace) → t.owed ≡ [] → RestsIn sight rests b t
+  nobody_rests_so rests all e t owed unbeaten = all (nobody_inside (beats_of b) (sight b.side) unbeaten e) t owed
 
   pub rests_longer_so : (rests : S → Trace → Type 0) → ((t longer : Trace) → IsLonger t longer → rests b.side t → rests b.side longer) → (t longer : Trace) → IsLonger t longer → RestsIn sight rests b t → RestsIn sight rests b longer
   rests_longer_so rests more t longer is r unbeaten = more t longer is (r unbeaten)

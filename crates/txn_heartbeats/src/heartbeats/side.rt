@@ -1,6 +1,6 @@
 //! What a machine asks of clients and their heartbeats.
 ghost use Rattle.std.specs.List.{All};
-ghost use Rattle.std.specs.Prelude.{◌≡◌, ◌<◌, ◌≤◌, ◌^◌, IfOk, IfSome, OnOk, Some, false, length, true};
+ghost use Rattle.std.specs.Prelude.{◌≡◌, ◌<◌, ◌≤◌, ◌^◌, [], IfOk, IfSome, None, OnOk, Some, false, length, true};
 ghost use Rattle.txn_heartbeat.specs.declared.heartbeat_job.HeartbeatJob.{HeartbeatJob};
 ghost use Rattle.txn_heartbeats.specs.Hearts.{ArisesIn, IsReady, RestsIn, beats_of, job_at, jobs_of, sight_of, waits_of};
 ghost use Rattle.txn_heartbeats.specs.Started.{BeginsBeat, HasTold, is_commit, transaction_at, transactions_of};
@@ -126,6 +126,7 @@ impl<S: HeartHost, H: PlanForHeartbeats> ClientSide for Heartbeats<S, H> {
         ensures rests { IfOk result (HearsOn S.fails (RestsIn S.sight S.rests self.old) (RestsIn S.sight S.rests self.new) (sight_of S.sight self.old) ticket (λ r. Took ticket r reply)) }
         ensures arises { IfOk result (ArisesHearing (ArisesIn S.arises self.old) (ArisesIn S.arises self.new) (S.holds self.old.side) (S.holds self.new.side) (sight_of S.sight self.old) (λ r. Took ticket r reply)) }
         ensures told { ticket.beat ≡ true → is_live (S.sight self.old.side) ticket.line ≡ true → (job : HeartbeatJob H) → job_at (jobs_of self.old) ticket.line ≡ Some job → IfOk result (HasTold H.meaning ticket.line (arrivals.Reply ticket.number reply) (S.status_at self.old.side (transaction_at (transactions_of self.old) ticket.line)) now job self.old self.new) }
+        ensures nobody { ticket.beat ≡ true → job_at (jobs_of self.old) ticket.line ≡ None → IfOk result (λ turn. (turn.posted.items ≡ []) × (jobs_of self.new ≡ jobs_of self.old)) }
         ensures alone { ticket.beat ≡ false → OnOk result (self.new ≡ record self.old { side = self.new.side }) }
     {
         if !ticket.beat {
@@ -146,6 +147,7 @@ impl<S: HeartHost, H: PlanForHeartbeats> ClientSide for Heartbeats<S, H> {
         ensures rests { IfOk result (HearsOn S.fails (RestsIn S.sight S.rests self.old) (RestsIn S.sight S.rests self.new) (sight_of S.sight self.old) ticket (λ r. Lost ticket r)) }
         ensures arises { IfOk result (ArisesHearing (ArisesIn S.arises self.old) (ArisesIn S.arises self.new) (S.holds self.old.side) (S.holds self.new.side) (sight_of S.sight self.old) (λ r. Lost ticket r)) }
         ensures told { ticket.beat ≡ true → is_live (S.sight self.old.side) ticket.line ≡ true → (job : HeartbeatJob H) → job_at (jobs_of self.old) ticket.line ≡ Some job → IfOk result (HasTold H.meaning ticket.line (arrivals.Lost ticket.number) (S.status_at self.old.side (transaction_at (transactions_of self.old) ticket.line)) now job self.old self.new) }
+        ensures nobody { ticket.beat ≡ true → job_at (jobs_of self.old) ticket.line ≡ None → IfOk result (λ turn. (turn.posted.items ≡ []) × (jobs_of self.new ≡ jobs_of self.old)) }
         ensures alone { ticket.beat ≡ false → OnOk result (self.new ≡ record self.old { side = self.new.side }) }
     {
         if !ticket.beat {
@@ -166,6 +168,7 @@ impl<S: HeartHost, H: PlanForHeartbeats> ClientSide for Heartbeats<S, H> {
         ensures rests { IfOk result (WakesOn S.fails (RestsIn S.sight S.rests self.old) (RestsIn S.sight S.rests self.new)) }
         ensures arises { IfOk result (ArisesAwake (ArisesIn S.arises self.old) (ArisesIn S.arises self.new) (S.holds self.old.side) (S.holds self.new.side) (sight_of S.sight self.old) ticket) }
         ensures told { ticket.beat ≡ true → is_live (S.sight self.old.side) ticket.line ≡ true → (job : HeartbeatJob H) → job_at (jobs_of self.old) ticket.line ≡ Some job → IfOk result (HasTold H.meaning ticket.line (arrivals.Slept ticket.number) (S.status_at self.old.side (transaction_at (transactions_of self.old) ticket.line)) now job self.old self.new) }
+        ensures nobody { ticket.beat ≡ true → job_at (jobs_of self.old) ticket.line ≡ None → IfOk result (λ turn. (turn.posted.items ≡ []) × (jobs_of self.new ≡ jobs_of self.old)) }
         ensures alone { ticket.beat ≡ false → OnOk result (self.new ≡ record self.old { side = self.new.side }) }
     {
         if !ticket.beat {

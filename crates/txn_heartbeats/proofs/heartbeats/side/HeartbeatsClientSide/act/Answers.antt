@@ -1,4 +1,5 @@
-use Rattle.std.proofs.Common.{false, true, length, Bool, Some, refl, subst, sym, ◌∙◌, ◌≡◌}
+use Rattle.std.proofs.Common.{length, Some, refl, subst, sym, ◌∙◌}
+use Rattle.std.proofs.lemmas.Bool.{false≢true}
 use Rattle.txn_side.specs.Arising.{ArisesOn}
 use Rattle.txn_side.specs.Sight.{Acts, line_count}
 use Rattle.txn_side.specs.Trace.{ActsOn}
@@ -55,11 +56,8 @@ returns-in_ok-start_beat-in-Some-clause-arises g c =
     on_started g.S.ClientSide.arises g.S.ClientSide.holds c.args.self.now c.start_beat.new.self g.met.S.HeartHost.arises_beating c.act.new.self _ (λ n. c.args.transaction) c.in-Some.turn c.start_beat.new.turn calls c.in_ok-start_beat-in-Some.ensures.side c.in_ok-start_beat-in-Some.ensures.ended c.in_ok-start_beat-in-Some.ensures.beats
     (subst (ArisesOn (g.S.ClientSide.arises c.args.self.now.side) (g.S.ClientSide.arises c.act.new.self) (g.S.ClientSide.holds c.args.self.now.side) (g.S.ClientSide.holds c.act.new.self) (λ n. c.args.transaction)) c.in-Some.is c.in_ok-act.ensures.arises)
 
-never : {b : Bool} → b ≡ false → b ≡ true → ⊥
-never f t = let both : false ≡ true = sym f ∙ t in cc
-
 pub returns-then-not-commits-clause-begins : goal.returns-then-not-commits-clause-begins
-returns-then-not-commits-clause-begins g c is = absurd (never (sym c.is_commit-commits.ensures ∙ c.if-not-commits.true) is)
+returns-then-not-commits-clause-begins g c is = absurd (false≢true (sym (sym c.is_commit-commits.ensures ∙ c.if-not-commits.true) ∙ is))
 
 pub returns-in_ok-start_beat-in-Some-clause-begins : goal.returns-in_ok-start_beat-in-Some-clause-begins
 returns-in_ok-start_beat-in-Some-clause-begins g c is =

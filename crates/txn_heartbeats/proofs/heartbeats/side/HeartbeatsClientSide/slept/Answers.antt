@@ -24,8 +24,8 @@ pub returns-clause-turn : goal.returns-clause-turn
 returns-clause-turn g c = told_goes g.S.ClientSide.sight c.args.ticket.line c.args.self.now c.tell.new.self c.tell.result (on_ok_weaker c.tell.result (λ stays. stays.sight_is) c.tell.ensures.stays) c.tell.ensures.ended c.tell.ensures.beats c.tell.ensures.dead
 
 pub returns-clause-rests : goal.returns-clause-rests
-returns-clause-rests g c = IfOk-weaker c.tell.result _ _ (λ turn rests t posted. rests t posted)
-    (told_rests g.S.ClientSide.sight c.args.self.now c.tell.new.self (g.met.S.HeartHost.unbeaten c.args.self.now.side) g.S.ClientSide.waits g.S.ClientSide.account g.S.ClientSide.rests g.S.ClientSide.arises g.S.ClientSide.holds g.S.ClientSide.fails (g.S.ClientSide.rests_longer c.tell.new.self.side) c.tell.result c.tell.ensures.stays c.tell.ensures.ended)
+returns-clause-rests g c =
+    told_rests g.S.ClientSide.sight c.args.self.now c.tell.new.self (g.met.S.HeartHost.unbeaten c.args.self.now.side) g.S.ClientSide.waits g.S.ClientSide.account g.S.ClientSide.rests g.S.ClientSide.arises g.S.ClientSide.holds g.S.ClientSide.fails (g.S.ClientSide.rests_longer c.tell.new.self.side) c.tell.result c.tell.ensures.stays c.tell.ensures.ended
 
 pub returns-clause-arises : goal.returns-clause-arises
 returns-clause-arises g c = IfOk-weaker c.tell.result _ _ (λ turn happens h. happens h (Slept c.args.ticket) tt tt)
