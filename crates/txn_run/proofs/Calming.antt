@@ -105,7 +105,7 @@ module _ (t : Trace) (at n : ℕ) (called : IsCalled t n at) (calm : IsCalm t n)
 
   unexplained : (e : Error) → IsExplained t at n e → wants_memory (view_of e) ≡ true
   unexplained e (inl k) = cause_wants (view_of e) k
-  unexplained e (inr k) = absurd (calm.timed e k)
+  unexplained e (inr k) = absurd (calm.timed e k.0)
 
 fed_so : (b : Bool) → b ≡ false → b ≡ true → ⊥
 fed_so true e f = cc

@@ -30,6 +30,7 @@ use Rattle.txn_history.specs.Event.{Event, Has}
 use Rattle.txn_history.specs.Event.Event.{Sent, Took, Lost, Answered}
 use Rattle.txn_history.specs.Faults.{has_region_error}
 use Rattle.txn_history.specs.Plan.{Plan}
+use Rattle.txn_history.specs.Posted.{ticket_of}
 use Rattle.txn_causes.specs.Carried.{listed, FoundNone, FoundOther, HasBadKey, HasKeyError, HasLock, HasNoEpoch, HasNoLeader, HasRegion, HasRegionError, IsReversed, ToldWithoutEpoch}
 use Rattle.txn_causes.specs.Causes.{FoundNoRegion, HasCause, HasFailed, HaveFailed, InternalCause, IsTriedOut, PlainCause, Taken, retries}
 use Rattle.txn_causes.specs.Spent.{HasFailedAt, HaveFailedBelow, IsSpent}
@@ -44,11 +45,12 @@ use Rattle.txn_commit.specs.Sending.{plan_of}
 use Rattle.txn_merge.specs.declared.retry_options.RetryOptions.{RetryOptions}
 use Rattle.txn_commit_plans.specs.CausesOfCalls.{IsCallExplained, call_explained, untimed_caused}
 use Rattle.txn_commit_plans.specs.CausesOfCalls as calls
+use Rattle.txn_commit_plans.specs.CausesOfLookUps.{HasNoTimestamp}
 use Rattle.txn_commit_plans.specs.CausesOfPlans.{commits_caused, prewrites_caused, rollbacks_caused}
 use Rattle.txn_commit_plans.specs.Failing.{HasGivenWith, given_caused}
 use Rattle.txn_commit_plans.specs.Kinds.{CommitPlan, PrewritePlan, RollbackPlan, commit_plan, commit_retries, prewrite_plan, prewrite_retries, rollback_plan, rollback_retries}
 use Rattle.txn_core.specs.Going.{TransactionGives}
-use Rattle.txn_side.specs.Trace.{AreOwn, AreShown, FailsIn, IsBegunAs, IsHarmless, IsRefusedIn, IsSend, IsSentIn, Trace}
+use Rattle.txn_side.specs.Trace.{AreOwn, AreShown, FailsIn, HasRefused, IsBegunAs, IsHarmless, IsRefusedIn, IsSend, IsSentIn, Trace, refused_asks}
 use Rattle.txn_report.specs.declared.outcome.Outcome.{Outcome}
 use Rattle.txn_report.specs.declared.report.Report.{Report}
 use Rattle.txn_lines.specs.Text.{IsScript}
@@ -64,6 +66,7 @@ use Rattle.txn_lines.specs.declared.begin_options.BeginOptions.{BeginOptions}
 use Rattle.txn_clients.specs.Failing.{AreRetriesOf, CallFailed, CallRefused, FailsFor, HasFailedFor, KnownTransaction}
 use Rattle.txn_run.specs.Behind.{AreBehind}
 use Rattle.txn_run.specs.Program.{RanScript}
+use Rattle.txn_run.proofs.Asking.{fewer_refused, refused_again}
 use Rattle.txn_run.proofs.Calming.{fails_calmly}
 use Rattle.txn_run.proofs.Matching.{lines_kind}
 use Rattle.txn_run.proofs.Refusing.{all_exact, never_caused}
@@ -213,23 +216,26 @@ left_unless false = refl
 attempts_same : (told : BeginOptions) (own : RetryOptions) → own ≡ retries_of told → attempts_left own.region_backoff ≡ attempts_of told
 attempts_same told own e = ap (λ (r : RetryOptions). attempts_left r.region_backoff) e ∙ left_unless told.no_regions
 
--- What a call heard is shown, and came for its line
-module _ (t : Trace) (at n : ℕ) (h : List Event) (unposted : t.posted ≡ []) (like : (u : Ticket) (r : Request) (o : Reply) → Has t.events (Took u r o) → IsOfKind r o) (shown : AreShown t at h) (own : AreOwn n h) where
+-- What a call heard is shown, and came for its line, which had no fewer asks refused than it heard of.
+module _ (t : Trace) (at n : ℕ) (h : List Event) (unposted : t.posted ≡ []) (like : (u : Ticket) (r : Request) (o : Reply) → Has t.events (Took u r o) → IsOfKind r o) (shown : AreShown t at h) (own : AreOwn n h) (counted : HasRefused t n (refused_asks h)) where
   took_shown : (u : Ticket) (r : Request) (o : Reply) → heard_in h (TookReply u r o) → HeardBy t at n (TookReply u r o) ⊎ IsHarmless r o
   took_shown u r o k = elim (shown (Took u r o) k) [ inl s ↦ elim (own (Took u r o) k) [ inl line ↦ inl (line, s.1, like u r o s.1) | inr harmless ↦ inr harmless ] | inr harmless ↦ inr harmless ]
 
   lost_shown : (u : Ticket) (r : Request) → heard_in h (WasLost u r) → HeardBy t at n (WasLost u r)
   lost_shown u r k = let s = shown (Lost u r) k in (s.1, elim (own (Lost u r) k) [ inl line ↦ inl line | inr commit ↦ inr (s.0, commit) ])
 
-  asked : (e : Error) → (ask : Ticket) × Has h (Answered ask (Err e)) → IsExplained t at n e
-  asked e k = let s = shown (Answered k.0 (Err e)) k.1 in inr (subst (λ line. IsRefusedIn t line e) (own (Answered k.0 (Err e)) k.1) s.1)
+  asked : (e : Error) → HasNoTimestamp h e → IsExplained t at n e
+  asked e k =
+      let ask = ticket_of k.0 k.1 in
+      let s = shown (Answered ask (Err e)) k.2 in
+      inr (subst (λ line. IsRefusedIn t line e) (own (Answered ask (Err e)) k.2) s.1, fewer_refused t n (refused_asks h) 10 (refused_again k.0 h 9 k.1 e k.2 k.3) counted)
 
   -- an error of a call, where those of its transaction are tried again so often
   explained : (options : BeginOptions) → IsBegunAs t at options → (attempts : ℕ) → attempts ≡ attempts_of options → (e : Error) → calls.IsExplained attempts h e → IsExplained t at n e
   explained options begun attempts same e (inl k) = inl (has_cause (heard_in h) (HeardBy t at n) (λ s. (options, begun, subst (IsSpent (HeardBy t at n)) same (spent_shown (heard_in h) (HeardBy t at n) took_shown lost_shown attempts s))) took_shown lost_shown (view_of e) k)
   explained options begun attempts same e (inr k) = asked e k
 
-  untimed : (e : Error) → HasCause (heard_in h) ⊥ (view_of e) ⊎ ((ask : Ticket) × Has h (Answered ask (Err e))) → IsExplained t at n e
+  untimed : (e : Error) → HasCause (heard_in h) ⊥ (view_of e) ⊎ HasNoTimestamp h e → IsExplained t at n e
   untimed e (inl k) = inl (has_cause (heard_in h) (HeardBy t at n) (λ never. absurd never) took_shown lost_shown (view_of e) k)
   untimed e (inr k) = asked e k
 
@@ -314,8 +320,8 @@ have_causes_told script report behind k = causes_meet is_caused report.outcomes 
         like u r o h = lines_kind plans script report behind (suc (ended_of report.ended n)) u r o h
 
         by : FailsFor plans false (IsBegunAs t f.at) f.history e ⊎ (IsAmong t.rollbacks n × FailsFor plans true (IsBegunAs t f.at) f.history e) → IsCaused t n e
-        by (inl so) = record { at = f.at; called = f.called; why = elim (fails t f.at n f.history refl like f.shown f.own plans plans_explained e so.why) [ inl k ↦ inl k | inr k ↦ inr (inl k) ]; fed = so.fed }
-        by (inr (rolls, so)) = record { at = f.at; called = f.called; why = inr (inr (refused t f.at n f.history refl like f.shown f.own e rolls so.why)); fed = so.fed }
+        by (inl so) = record { at = f.at; called = f.called; why = elim (fails t f.at n f.history refl like f.shown f.own f.counted plans plans_explained e so.why) [ inl k ↦ inl k | inr k ↦ inr (inl k) ]; fed = so.fed }
+        by (inr (rolls, so)) = record { at = f.at; called = f.called; why = inr (inr (refused t f.at n f.history refl like f.shown f.own f.counted e rolls so.why)); fed = so.fed }
 
 -- a script ran
 pub ran_script : (bytes : List ℕ) (lines items : List Line) (report : Report) → items ≡ lines → IsScript bytes lines → Lawful items report → CausesMeetLines (FailsFor plans) (reverse items) report

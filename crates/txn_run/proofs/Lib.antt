@@ -6,5 +6,6 @@ mod Wholeness
 mod Refusing
 mod Calming
 mod Matching
+mod Asking
 mod Causes
 mod Programs

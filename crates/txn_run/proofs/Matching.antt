@@ -1,5 +1,5 @@
 -- In a run each reply is of its request's kind, and so is each that a script shows.
-use Rattle.std.proofs.Common.{◌≡◌, ◌⊎◌, inl, inr, ℕ, Bool, true, false, List, [], ◌∷◌, Option, Some, None, refl, sym, ap, subst}
+use Rattle.std.proofs.Common.{◌≡◌, inl, inr, ℕ, Bool, true, false, List, [], ◌∷◌, Option, Some, None, refl, sym, subst}
 use Rattle.std.specs.Prelude.{if◌then◌else◌, length, nat_lt}
 use Rattle.txn_kv.specs.declared.message.KeyError.{KeyError}
 use Rattle.txn_kv.specs.declared.message.RegionErr.{RegionErr}
@@ -30,7 +30,7 @@ use Rattle.txn_commit.specs.Committing.{Ways}
 use Rattle.txn_law.specs.Run.{IsPossible, IsRun, store_after}
 use Rattle.txn_lines.specs.declared.line.Line.{Line}
 use Rattle.txn_machine.specs.Causes.{lines_before}
-use Rattle.txn_machine.specs.Script.{does, find, history, is_done, outcome_of}
+use Rattle.txn_machine.specs.Script.{find, history, is_done, outcome_of}
 use Rattle.txn_machine.specs.Longer.{done_more, sends_more}
 use Rattle.txn_model.specs.Commit.{commit_by}
 use Rattle.txn_model.specs.PessimisticLock.{pessimistic_lock_by}

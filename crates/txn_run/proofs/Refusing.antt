@@ -66,7 +66,7 @@ never_plain t n e view uncaused other c = by c.why
 
     by : IsExplained t c.at n e ⊎ (IsUndetermined t c.at n e ⊎ IsRollbackRefused t c.at n e) → ⊥
     by (inl (inl h)) = uncaused (HeardBy t c.at n) (IsSpentFor t c.at n) (subst (HasCause (HeardBy t c.at n) (IsSpentFor t c.at n)) view h)
-    by (inl (inr r)) = let f = refused_internal t n e r in other f.0 f.1
+    by (inl (inr r)) = let f = refused_internal t n e r.0 in other f.0 f.1
     by (inr (inl u)) = two (view_of u.inner) (sym view ∙ u.error)
     by (inr (inr u)) = two (view_of (errors.GrpcAPI u.ticket)) (sym view ∙ u.error)
 

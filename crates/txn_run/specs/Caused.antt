@@ -24,7 +24,7 @@ use Rattle.txn_lines.specs.declared.line.Line.{Line}
 use Rattle.txn_machine.specs.Causes.{ended_of, lines_before}
 use Rattle.txn_machine.specs.Failing.{AllCausesMeet, trace_of}
 use Rattle.txn_report.specs.declared.report.Report.{Report}
-use Rattle.txn_side.specs.Trace.{IsBegunAs, IsCalled, IsCommit, IsFrom, IsRefusedIn, Trace}
+use Rattle.txn_side.specs.Trace.{HasRefused, IsBegunAs, IsCalled, IsCommit, IsFrom, IsRefusedIn, Trace}
 
 -- What had come to line n: replies to requests of its own, not of its heartbeat, each of its request's kind, and losses of these. Of the transaction that stands
 -- at `at` it counts too that a Commit was lost, of whichever line.
@@ -40,9 +40,14 @@ attempts_of options = if options.no_regions then 0 else 10
 abbrev pub IsSpentFor : Trace → ℕ → ℕ → Type 0
 IsSpentFor t at n = (options : BeginOptions) × IsBegunAs t at options × IsSpent (HeardBy t at n) (attempts_of options)
 
--- The error has its cause in that; or a request for timestamps that carried an ask of the line failed with this very error.
+-- Ten asks of the line for a timestamp were refused, each at a place of its own among those that a request for timestamps carried, which
+-- was lost or whose reply gives that place none; and one was with this very error.
+abbrev pub HasNoTimestamp : Trace → ℕ → Error → Type 0
+HasNoTimestamp t n e = IsRefusedIn t n e × HasRefused t n 10
+
+-- The error has its cause in that; or there was no timestamp.
 abbrev pub IsExplained : Trace → ℕ → ℕ → Error → Type 0
-IsExplained t at n e = HasCause (HeardBy t at n) (IsSpentFor t at n) (view_of e) ⊎ IsRefusedIn t n e
+IsExplained t at n e = HasCause (HeardBy t at n) (IsSpentFor t at n) (view_of e) ⊎ HasNoTimestamp t n e
 
 -- a line of the transaction that stands there sent a Commit of the primary with this ticket, or one was lost
 abbrev pub HasCommit : Trace → ℕ → Plan → ℕ → Ticket → Type 0
