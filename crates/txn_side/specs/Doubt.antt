@@ -1,0 +1,50 @@
+-- Whether a transaction is in doubt, and what a call of it that fails says of that.
+use Rattle.std.specs.Prelude.{◌≡◌, ◌≢◌, ◌⊎◌, ⊤, ℕ, true, List}
+use Rattle.txn_kv.specs.declared.errors.Error.{Error}
+use Rattle.txn_kv.specs.declared.errors.Error.TheVariants.{DuplicateKeyInsertion, OperationAfterCommitError, Unimplemented}
+use Rattle.txn_kv.specs.declared.reply.Reply.{Reply}
+use Rattle.txn_kv.specs.declared.request.CommitRequest.{CommitRequest}
+use Rattle.txn_kv.specs.declared.request.PrewriteRequest.{PrewriteRequest}
+use Rattle.txn_kv.specs.declared.request.Request.TheVariants.{Commit, Prewrite}
+use Rattle.txn_kv.specs.declared.ticket.Ticket.{Ticket}
+use Rattle.txn_history.specs.Event.{Event, Has}
+use Rattle.txn_history.specs.Event.Event.{Lost, Sent, Took}
+use Rattle.txn_history.specs.Plan.{has_key}
+use Rattle.txn_report.specs.declared.outcome.Outcome.{Outcome}
+use Rattle.txn_report.specs.declared.outcome.Outcome.TheVariants as outcomes
+use Rattle.txn_report.specs.declared.outcome.Payload.TheVariants.{Number}
+use Rattle.txn_side.specs.Account.{is_undetermined}
+
+-- A Commit of the primary of the transaction that began at s was lost, and no reply to it was taken, so it may have been done. The primary
+-- is the key that the Prewrites of s name so.
+pub record IsInDoubt (s : ℕ) (h : List Event) : Type 0 where
+  pub written : Ticket
+  pub prewrite : PrewriteRequest
+  pub sent : Has h (Sent written (Prewrite prewrite))
+  pub start : prewrite.start_version ≡ s
+  pub ticket : Ticket
+  pub commit : CommitRequest
+  pub lost : Has h (Lost ticket (Commit commit))
+  pub untaken : (o : Reply) → Has h (Took ticket (Commit commit) o) → ⊥
+  pub same : commit.start_version ≡ s
+  pub primary : has_key commit.keys prewrite.primary_lock ≡ true
+
+-- with these a line is refused by how far its transaction has come, and by what it has written
+abbrev pub IsRefusal : Error → Type 0
+IsRefusal OperationAfterCommitError = ⊤
+IsRefusal Unimplemented = ⊤
+IsRefusal DuplicateKeyInsertion = ⊤
+IsRefusal _ = ⊥
+
+-- The error says that the transaction that began at s is in doubt, where it is; or the line was refused.
+abbrev pub SaysDoubt : List Event → ℕ → Error → Type 0
+SaysDoubt h s e = IsRefusal e ⊎ (IsInDoubt s h → is_undetermined e ≡ true)
+
+-- so does what a call answered, if it failed
+abbrev pub TellsDoubt : List Event → ℕ → Outcome → Type 0
+TellsDoubt h s (outcomes.Err e) = SaysDoubt h s e
+TellsDoubt h s o = ⊤
+
+-- The call of line n answered so of the transaction that stands at line x. A line that stands for itself calls none.
+abbrev pub SpeaksOf : (ℕ → Outcome → Type 0) → List Event → ℕ → ℕ → Outcome → Type 0
+SpeaksOf held h x n o = x ≢ n → (s : ℕ) → held x (outcomes.Ok (Number s)) → TellsDoubt h s o
