@@ -28,6 +28,14 @@ before_next (z ∷ zs) =
     let on : nat_lt (suc (length zs)) (suc (suc (length zs))) ≡ true = grind (arith, nat_tests) in
     ap (λ (b : Bool). if b then z ∷ zs else lines_before zs (suc (suc (length zs)))) on
 
+pub before_few : (ls : List Line) (n : ℕ) → length (lines_before ls n) ≤ length ls
+before_few [] n = omega arith
+before_few (l ∷ ls) n = by (nat_lt (length (l ∷ ls)) n) (before_few ls n)
+  where
+    by : (b : Bool) → length (lines_before ls n) ≤ length ls → length (if b then l ∷ ls else lines_before ls n) ≤ length (l ∷ ls)
+    by true h = omega arith
+    by false h = omega arith
+
 pub before_old : (line : Line) (ls : List Line) (n : ℕ) → n ≤ suc (length ls) → lines_before (line ∷ ls) n ≡ lines_before ls n
 before_old line ls n low =
     let off : nat_lt (suc (length ls)) n ≡ false = grind (arith, nat_tests) in

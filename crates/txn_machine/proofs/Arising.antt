@@ -1,5 +1,5 @@
 -- The clients go on from each history that they can have arisen from, by what a line does and what they post then.
-use Rattle.std.proofs.Common.{◌≡◌, ℕ, suc, ◌⊎◌, inl, inr, Bool, true, false, ◌&&◌, if◌then◌else◌, IfOk, List, [], ◌∷◌, Option, Some, None, Result, Ok, Err, length, is_some, nat_eq, refl, sym, ap, ◌∙◌, subst, arith}
+use Rattle.std.proofs.Common.{◌≡◌, ℕ, suc, ◌⊎◌, inl, inr, Bool, true, false, ◌&&◌, if◌then◌else◌, IfOk, List, [], ◌∷◌, Option, Some, None, Result, Ok, Err, length, is_some, nat_eq, slice_index_or, refl, sym, ap, ◌∙◌, subst, arith}
 use Rattle.std.proofs.lemmas.Bool.Decides.{nat_tests}
 use Rattle.std.specs.List.{All}
 use Rattle.txn_kv.specs.declared.memory.NoMemory.{NoMemory}
@@ -18,16 +18,17 @@ use Rattle.txn_model.specs.Table.{table}
 use Rattle.txn_post.specs.Mail.{Mail, can_be_served, found_unserved, letter_at}
 use Rattle.txn_report.specs.declared.outcome.Outcome.{Outcome}
 use Rattle.txn_report.specs.declared.outcome.Outcome.TheVariants as outcomes
-use Rattle.txn_report.specs.declared.outcome.Payload.{Payload}
-use Rattle.txn_side.specs.Arising.{Arises, ArisesAwake, ArisesHearing, ArisesOn, IsOutside, StillArises, with_posting, with_postings}
-use Rattle.txn_side.specs.Sight.{Sight, is_live}
+use Rattle.txn_report.specs.declared.outcome.Payload.TheVariants.{Number}
+use Rattle.txn_side.specs.Arising.{Arises, ArisesAwake, ArisesHearing, ArisesOn, IsOutside, StillArises, answered_at, with_posting, with_postings}
+use Rattle.txn_side.specs.Doubt.{SpeaksOf}
+use Rattle.txn_side.specs.Sight.{Sight, is_live, stand_at}
 use Rattle.txn_side.specs.declared.turn.Ending.{Ending}
 use Rattle.txn_side.specs.declared.turn.Posting.{Posting}
 use Rattle.txn_side.specs.declared.turn.Posting.TheVariants.{Send, Sleep}
 use Rattle.txn_side.specs.declared.turn.Turn.{Turn}
-use Rattle.txn_machine.specs.Arising.{Arisen, GoesIn, GoesOn, IsRight, Knows, RunsTo, happens}
-use Rattle.txn_machine.specs.Causes.{role_of}
-use Rattle.txn_machine.specs.Causes.Role.{MakesClient, NoCall}
+use Rattle.txn_machine.specs.Arising.{ActsTo, Arisen, GoesIn, GoesOn, IsRight, Knows, RunsTo, Speaks, happens}
+use Rattle.txn_machine.specs.Causes.{Role, role_of}
+use Rattle.txn_machine.specs.Causes.Role.{AsksTime, MakesClient, NoCall, UsesTransaction}
 use Rattle.txn_machine.specs.Lists.{Lists, all_ended, all_posted, ended_at, newest, opened, posted_at, reply_at, request_at, with_mail}
 use Rattle.txn_machine.specs.Running.{closed, with_own}
 use Rattle.txn_machine.specs.Script.{AllBefore, does, loses, outcome_of, refuses, refuses_it, serves, takes, takes_it, with_sends}
@@ -42,9 +43,23 @@ use Rattle.txn_machine.proofs.Orders.{line_length}
 use Rattle.txn_machine.proofs.Staying.{own_mail}
 use Rattle.txn_machine.proofs.Timing.{told_either}
 
+-- What a call says of the doubt of what stood right before, it says too where less stood so.
+
+speaks_before : (held later : ℕ → Outcome → Type 0) → ((x : ℕ) (o : Outcome) → held x o → later x o) → (h : List Event) (x n : ℕ) (o : Outcome) → SpeaksOf later h x n o → SpeaksOf held h x n o
+speaks_before held later kept h x n o speaks = λ other s began. speaks other s (kept x (outcomes.Ok (Number s)) began)
+
+speaks_so : (held later : ℕ → Outcome → Type 0) → ((x : ℕ) (o : Outcome) → held x o → later x o) → (role : Role) (s : Sight) (h : List Event) (n : ℕ) (o : Outcome) → Speaks role s later h n o → Speaks role s held h n o
+speaks_so held later kept MakesClient s h n o speaks = tt
+speaks_so held later kept (AsksTime b k) s h n o speaks = tt
+speaks_so held later kept (UsesTransaction b x) s h n o speaks = speaks_before held later kept h x n o speaks
+speaks_so held later kept NoCall s h n o speaks = speaks_before held later kept h (answered_at n (stand_at s.stands n)) n o speaks
+
+all_speak : (held later : ℕ → Outcome → Type 0) → ((x : ℕ) (o : Outcome) → held x o → later x o) → (role : Role) (s : Sight) (h : List Event) (es : List Ending) → All (λ (e : Ending). Speaks role s later h e.line e.outcome) es → All (λ (e : Ending). Speaks role s held h e.line e.outcome) es
+all_speak held later kept role s h es speak = λ k d low. let e = slice_index_or es k d in speaks_so held later kept role s h e.line e.outcome (speak k d low)
+
 -- Nothing has happened.
 pub arises_same : (was : List Event → Type 0) (held : List Event → ℕ → Outcome → Type 0) → StillArises was was held held
-arises_same was held h w = record { now = w; kept = λ x o k. k; answers = λ k d low. absurd (omega arith) }
+arises_same was held h w = record { now = w; kept = λ x o k. k; answers = λ k d low. absurd (omega arith); doubts = λ k d low. absurd (omega arith) }
 
 -- the clients did not do anything of their own
 pub still_moved : {S : Type 0} (arises : S → List Event → Type 0) (holds : S → List Event → ℕ → Outcome → Type 0) (from to : S) → to ≡ from → StillArises (arises from) (arises to) (holds from) (holds to)
@@ -63,9 +78,9 @@ module _ (was is : List Event → Type 0) (held holds : List Event → ℕ → O
       subst (λ (ps : List Posting). GoesOn is holds (held h) (role_of line) l.sight (with_postings ps (happens looks line l h)) done.turn.ended.items) (sym posted)
       (subst (λ (es : List Ending). GoesOn is holds (held h) (role_of line) l.sight (happens looks line l h) es) (sym ended)
       (elim (comes looks h knows) [
-        | inl same ↦ subst (λ fs. GoesOn is holds (held h) (role_of line) l.sight fs []) (sym same) (let a = still h w in record { now = a.now; kept = a.kept; answers = λ k d low. absurd (omega arith) })
+        | inl same ↦ subst (λ fs. GoesOn is holds (held h) (role_of line) l.sight fs []) (sym same) (let a = still h w in record { now = a.now; kept = a.kept; answers = λ k d low. absurd (omega arith); doubts = λ k d low. absurd (omega arith) })
         | inr e ↦ subst (λ fs. GoesOn is holds (held h) (role_of line) l.sight fs []) (sym e.1)
-            (let a = still h w in let b = longer h e.0 e.2 e.3 a.now in record { now = b.now; kept = λ x o k. b.kept x o (a.kept x o k); answers = λ k d low. absurd (omega arith) })
+            (let a = still h w in let b = longer h e.0 e.2 e.3 a.now in record { now = b.now; kept = λ x o k. b.kept x o (a.kept x o k); answers = λ k d low. absurd (omega arith); doubts = λ k d low. absurd (omega arith) })
       ]))
 
 -- Calls.
@@ -83,7 +98,17 @@ module _ (was is : List Event → Type 0) (held holds : List Event → ℕ → O
   pub connected_to : (l : Lists) → done.turn.posted.items ≡ [] → StillArises was is held holds → RunsTo was is held holds lines.Client l done
   connected_to l posted still looks h knows w =
       subst (λ (ps : List Posting). GoesOn is holds (held h) MakesClient l.sight (with_postings ps h) done.turn.ended.items) (sym posted)
-      (let a = still h w in record { now = a.now; kept = a.kept; answers = λ k d low. tt })
+      (let a = still h w in record { now = a.now; kept = a.kept; answers = λ k d low. tt; doubts = λ k d low. tt })
+
+-- so it goes on in a line that asks something of a transaction, and does nothing itself
+pub acted_to : (was is : List Event → Type 0) (held holds : List Event → ℕ → Outcome → Type 0) (line same : Line) (commits : Bool) (x : ℕ) (l : Lists) (r : Result Course NoMemory) → line ≡ same → role_of same ≡ UsesTransaction commits x
+    → ((looks : Ticket → Option Request) (h : List Event) → happens looks same l h ≡ h) → IfOk r (λ done. ActsTo was is held holds x done) → IfOk r (λ done. RunsTo was is held holds line l done)
+acted_to was is held holds line same commits x l (Ok done) e role calm a = subst (λ z. RunsTo was is held holds z l done) (sym e) (λ looks h knows w.
+    let z = a h w in
+    subst (λ r. GoesOn is holds (held h) r l.sight (with_postings done.turn.posted.items (happens looks same l h)) done.turn.ended.items) (sym role)
+    (subst (λ fs. GoesOn is holds (held h) (UsesTransaction commits x) l.sight (with_postings done.turn.posted.items fs) done.turn.ended.items) (sym (calm looks h))
+    (record { now = z.now; kept = z.kept; answers = z.answers; doubts = z.doubts })))
+acted_to was is held holds line same commits x l (Err f) e role calm a = tt
 
 -- the clients hear of what comes of the request of a ticket, after a history from which they can have arisen too
 pub record Comes (was : List Event → Type 0) (held : List Event → ℕ → Outcome → Type 0) (line : Line) (l : Lists) (event : Request → Event) (looks : Ticket → Option Request) (h : List Event) : Type 0 where
@@ -101,14 +126,19 @@ module _ (was is : List Event → Type 0) (held holds : List Event → ℕ → O
   came_so done h looks e past role here kept z =
       subst (λ r. GoesOn is holds (held h) r l.sight (with_postings done.turn.posted.items (happens looks line l h)) done.turn.ended.items) (sym role)
       (subst (λ fs. GoesOn is holds (held h) NoCall l.sight (with_postings done.turn.posted.items fs) done.turn.ended.items) (sym here)
-      (record { now = z.now; kept = λ x o k. z.kept x o (kept x o k); answers = z.answers }))
+      (record {
+        now = z.now;
+        kept = λ x o k. z.kept x o (kept x o k);
+        answers = z.answers;
+        doubts = all_speak (held h) (held past) kept NoCall l.sight (with_postings done.turn.posted.items (e ∷ past)) done.turn.ended.items z.doubts;
+      }))
 
   pub hears_to : (event : Request → Event) (r : Result Course NoMemory) → role_of line ≡ NoCall → ((looks : Ticket → Option Request) (h : List Event) → Knows l looks h → was h → Comes was held line l event looks h)
       → IfOk r (λ done. ArisesHearing was is held holds l.sight event done.turn) → IfOk r (λ done. RunsTo was is held holds line l done)
   hears_to event (Ok done) role comes a = λ looks h knows w.
       let b = comes looks h knows w in
       let z = a b.past b.request b.possible b.arisen in
-      came_so done h looks (event b.request) b.past role b.is b.kept (record { now = z.now; kept = z.kept; answers = z.answers })
+      came_so done h looks (event b.request) b.past role b.is b.kept (record { now = z.now; kept = z.kept; answers = z.answers; doubts = z.doubts })
   hears_to event (Err e) role comes a = tt
 
   -- the same of a turn that the line came to
@@ -120,7 +150,7 @@ module _ (was is : List Event → Type 0) (held holds : List Event → ℕ → O
       → ArisesAwake was is held holds l.sight t turn → RunsTo was is held holds line l done
   woken_to t turn done same role here a looks h knows w =
       let z = subst (λ (x : Turn). ArisesAwake was is held holds l.sight t x) (sym same) a h w in
-      came_so done h looks (Slept t) h role (here looks h) (λ x o k. k) (record { now = z.now; kept = z.kept; answers = z.answers })
+      came_so done h looks (Slept t) h role (here looks h) (λ x o k. k) (record { now = z.now; kept = z.kept; answers = z.answers; doubts = z.doubts })
 
 -- What each line does.
 
@@ -246,22 +276,23 @@ sends_posted at (p ∷ ps) mail es = sends_posted at ps (posted_at at p mail) es
         sends_push mail.sent (record { ticket = t; at = at; to = to; request = r; askers = askers }) at es ∙ ap (λ (b : Bool). if b then Sent t r ∷ with_sends mail.sent at es else with_sends mail.sent at es) now
     one (Sleep t) = refl
 
--- what a line answers was told in the step, or stood there before
-ended_ok : (Right : ℕ → Outcome → Type 0) (es : List Ending) (l : Lists) (n : ℕ) (p : Payload) → All (λ (e : Ending). Right e.line e.outcome) es → outcome_of (all_ended es l).outcomes n ≡ outcomes.Ok p → (outcome_of l.outcomes n ≡ outcomes.Ok p) ⊎ Right n (outcomes.Ok p)
-ended_ok Right [] l n p all is = inl is
-ended_ok Right (e ∷ es) l n p all is = elim (ended_ok Right es (ended_at e.line e.outcome l) n p (λ k d low. all (suc k) d (omega arith)) is) [
+-- what stands at a line was told in the step, or stood there before
+ended_either : (Right : ℕ → Outcome → Type 0) (es : List Ending) (l : Lists) (n : ℕ) (o : Outcome) → All (λ (e : Ending). Right e.line e.outcome) es → outcome_of (all_ended es l).outcomes n ≡ o → (outcome_of l.outcomes n ≡ o) ⊎ Right n o
+ended_either Right [] l n o all is = inl is
+ended_either Right (e ∷ es) l n o all is = elim (ended_either Right es (ended_at e.line e.outcome l) n o (λ k d low. all (suc k) d (omega arith)) is) [
   | inl f ↦ elim (told_either l.outcomes e.line n e.outcome) [
     | inl was ↦ inl (sym was ∙ f)
-    | inr told ↦ inr (subst (λ k. Right k (outcomes.Ok p)) told.0 (subst (λ o. Right e.line o) (sym told.1 ∙ f) (all 0 e (omega arith))))
+    | inr told ↦ inr (subst (λ k. Right k o) told.0 (subst (λ p. Right e.line p) (sym told.1 ∙ f) (all 0 e (omega arith))))
   ]
   | inr now ↦ inr now
 ]
 
-own_ok : (own : Option Outcome) (l : Lists) (n : ℕ) (p : Payload) → OwnEnds own → outcome_of (with_own own l).outcomes n ≡ outcomes.Ok p → outcome_of l.outcomes n ≡ outcomes.Ok p
-own_ok None l n p ends is = is
-own_ok (Some x) l n p ends is = elim (told_either l.outcomes (newest l) n x) [
+-- what comes in a line itself answers no call
+own_before : (own : Option Outcome) (l : Lists) (n : ℕ) (o : Outcome) → OwnEnds own → is_answer o ≡ true → outcome_of (with_own own l).outcomes n ≡ o → outcome_of l.outcomes n ≡ o
+own_before None l n o ends answers is = is
+own_before (Some x) l n o ends answers is = elim (told_either l.outcomes (newest l) n x) [
   | inl was ↦ sym was ∙ is
-  | inr told ↦ absurd (let a = sym (ap is_answer (sym told.1 ∙ is)) ∙ ends in cc)
+  | inr told ↦ absurd (let a = sym answers ∙ sym (ap is_answer (sym told.1 ∙ is)) ∙ ends in cc)
 ]
 
 own_newest : (own : Option Outcome) (l : Lists) → newest (with_own own l) ≡ newest l
@@ -289,16 +320,22 @@ module _ (older l : Lists) (done : Course) (can : CanTell (opened older) done l)
       ∙ ap (λ gs. with_postings done.turn.posted.items gs)
       (ap (λ (x : Mail). with_sends x.sent n fs) (own_mail done.outcome l) ∙ ap (λ ss. with_sends ss n fs) can.sent ∙ sends_none (opened older).mail.sent n fs before)
 
+  -- what a line answers was told in the step, or before
+  answer_either : (Right : ℕ → Outcome → Type 0) (k : ℕ) (o : Outcome) → is_answer o ≡ true → All (λ (e : Ending). Right e.line e.outcome) done.turn.ended.items → outcome_of (closed done l).outcomes k ≡ o → (outcome_of older.outcomes k ≡ o) ⊎ Right k o
+  answer_either Right k o answers all is = elim (ended_either Right done.turn.ended.items mid k o all is) [
+    | inl was ↦ inl (sym (outcome_opened older.outcomes k) ∙ ap (λ os. outcome_of os k) (sym can.outcomes) ∙ own_before done.outcome l k o can.own answers was)
+    | inr now ↦ inr now
+  ]
+
   arisen_closed : (was is : List Event → Type 0) (held holds : List Event → ℕ → Outcome → Type 0) (line : Line) → RunsTo was is held holds line (opened older) done → Arisen was is held holds line older (closed done l)
   arisen_closed was is held holds line runs looks h knows w =
       let r = runs looks h knows w in
-      subst (λ fs. GoesIn is holds (held h) (role_of line) (opened older).sight fs older (closed done l)) (sym (sends_now (happens looks line (opened older) h) knows.before)) (record {
+      let fs = with_postings done.turn.posted.items (happens looks line (opened older) h) in
+      subst (λ gs. GoesIn is holds (held h) (role_of line) (opened older).sight gs older (closed done l)) (sym (sends_now (happens looks line (opened older) h) knows.before)) (record {
         now = r.now;
         kept = r.kept;
-        answers = λ k p is. elim (ended_ok (λ k o. IsRight (role_of line) (opened older).sight (holds (with_postings done.turn.posted.items (happens looks line (opened older) h))) k o) done.turn.ended.items mid k p r.answers is) [
-          | inl was ↦ inl (sym (outcome_opened older.outcomes k) ∙ ap (λ os. outcome_of os k) (sym can.outcomes) ∙ own_ok done.outcome l k p can.own was)
-          | inr now ↦ inr now
-        ];
+        answers = λ k p is. answer_either (λ k o. IsRight (role_of line) (opened older).sight (holds fs) k o) k (outcomes.Ok p) refl r.answers is;
+        doubts = λ k e is. answer_either (λ k o. Speaks (role_of line) (opened older).sight (held h) fs k o) k (outcomes.Err e) refl r.doubts is;
       })
 
 -- the parts of a step together
@@ -310,4 +347,9 @@ arisen_step arises holds line older start l new done from mid last to a b can st
     (λ looks h knows w.
     let s = still h w in
     let r = subst (λ x. RunsTo (arises mid) (arises last) (holds mid) (holds last) line x done) a runs looks h knows s.now in
-    record { now = r.now; kept = λ x o k. r.kept x o (s.kept x o k); answers = r.answers })))
+    record {
+      now = r.now;
+      kept = λ x o k. r.kept x o (s.kept x o k);
+      answers = r.answers;
+      doubts = all_speak (holds from h) (holds mid h) s.kept (role_of line) (opened older).sight (with_postings done.turn.posted.items (happens looks line (opened older) h)) done.turn.ended.items r.doubts;
+    })))

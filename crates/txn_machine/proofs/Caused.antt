@@ -23,7 +23,7 @@ use Rattle.txn_machine.proofs.Courses.{Begins, Course, Falls, IsAsked, IsCalled,
 use Rattle.txn_machine.proofs.Folds.{ended_sight}
 use Rattle.txn_machine.proofs.Goings.{Change, Written, gone_change, gone_rows, skipped_stays, written}
 use Rattle.txn_machine.proofs.Idles.{IsBegin, Names, client_there, crash_names, free_is, live_is, names}
-use Rattle.txn_machine.proofs.Numberings.{has_line, ended_opened, ended_other, ended_same, line_range, stand_set}
+use Rattle.txn_machine.proofs.Numberings.{has_line, ended_opened, ended_other, ended_same, line_new, line_range, stand_set}
 use Rattle.txn_machine.proofs.Orders.{line_length, opened_count}
 
 pub done_is : (d : Bool) → is_done (done_if d) ≡ d
@@ -381,6 +381,13 @@ module _ (line : Line) (ls : List Line) (old : Lists) (told : newest old ≡ len
   new_place = elim (changes (suc (length ls))) [
     | inl h ↦ elim (own_place c.own refl) [ inl a ↦ inl (h.1 ∙ a) | inr a ↦ inr (h.1 ∙ a) ]
     | inr h ↦ inr h.1
+  ]
+
+  -- the outcome of the newest line, if it is there, came in its own step
+  pub new_ended : is_unfinished (o3 (suc (length ls))) ≡ false → e3 (suc (length ls)) ≡ suc (length ls)
+  new_ended over = elim new_place [
+    | inl none ↦ absurd (let a = sym over ∙ (end_rows.ended (suc (length ls)) line (line_new line ls)).unfinished in let b : nat_eq (e3 (suc (length ls))) 0 ≡ true = grind (arith, nat_tests) in cc)
+    | inr here ↦ here
   ]
 
   pub known_same : (k : ℕ) → k ≤ suc (length ls) → (j : ℕ) → known_of (e3 j) k (o3 j) ≡ known_of (e j) k (o j)

@@ -115,7 +115,7 @@ open_call n act None o e waits answers = record { free = refl; call = by (is_wri
     by false q = refl
 open_call n act (Some why) o e waits answers = absurd (let h = ap is_unfinished answers.0 in cc)
 
-unfinished_unskipped : (o : Outcome) → is_unfinished o ≡ true → is_skipped o ≡ false
+pub unfinished_unskipped : (o : Outcome) → is_unfinished o ≡ true → is_skipped o ≡ false
 unfinished_unskipped (Ok p) h = refl
 unfinished_unskipped (Err e) h = refl
 unfinished_unskipped Unfinished h = refl

@@ -1,5 +1,5 @@
 -- Each line keeps what is said of the calls that fail: what they heard has happened.
-use Rattle.std.proofs.Common.{◌≡◌, ℕ, suc, ◌+◌, ◌≤◌, ◌⊎◌, inl, inr, Bool, true, false, if◌then◌else◌, List, [], ◌∷◌, ◌++◌, Option, Some, None, length, nat_eq, nat_lt, refl, sym, ap, ◌∙◌, subst, arith}
+use Rattle.std.proofs.Common.{◌≡◌, ℕ, suc, ◌+◌, ◌≤◌, ◌⊎◌, inl, inr, Bool, true, if◌then◌else◌, List, [], ◌∷◌, ◌++◌, Option, Some, None, length, nat_eq, refl, sym, ap, ◌∙◌, subst, arith}
 use Rattle.std.proofs.lemmas.Bool.Decides.{nat_tests}
 use Rattle.txn_kv.specs.declared.errors.Error.{Error}
 use Rattle.txn_kv.specs.declared.request.Request.{Request}
@@ -29,18 +29,16 @@ use Rattle.txn_machine.specs.Script.{Folded, does, find, history, outcome_of, wi
 use Rattle.txn_machine.specs.Steps.{Steps, does_it}
 use Rattle.txn_machine.specs.Times.{Timely}
 use Rattle.txn_machine.proofs.Accounting.{QuietBy, calm_was, change, quiet_by}
-use Rattle.txn_machine.proofs.Alive.{before_next, before_old}
+use Rattle.txn_machine.proofs.Alive.{before_few, before_next, before_old}
 use Rattle.txn_machine.proofs.Calms.{outcome_past}
 use Rattle.txn_machine.proofs.Carried.{history_now, looked, same_history}
-use Rattle.txn_machine.proofs.Caused.{done_is, mid_count}
+use Rattle.txn_machine.proofs.Caused.{done_is, mid_count, new_ended}
 use Rattle.txn_machine.proofs.Closings.{RoleBy, asked_same, role_by}
 use Rattle.txn_machine.proofs.Courses.{Course, course, own_done}
 use Rattle.txn_machine.proofs.Credits.{all_count}
 use Rattle.txn_machine.proofs.Folds.{Stepped, stepped}
 use Rattle.txn_machine.proofs.Goings.{Change}
 use Rattle.txn_machine.proofs.Hearing.{can_hear, sent_noted}
-use Rattle.txn_machine.proofs.Keepings.{caused_step}
-use Rattle.txn_machine.proofs.Numberings.{line_new}
 use Rattle.txn_machine.proofs.Orders.{opened_count}
 use Rattle.txn_machine.proofs.Refusing.{AtLeastRefused, refused_done, refused_more, refused_sends}
 use Rattle.txn_machine.proofs.Standings.{caused_past}
@@ -70,14 +68,6 @@ sends_has (z ∷ ss) n es s (inl e) at =
     sends_more ss n (if nat_eq z.at n then Sent z.ticket z.request ∷ es else es) (Sent s.ticket s.request)
     (subst (λ (b : Bool). Has (if b then Sent z.ticket z.request ∷ es else es) (Sent s.ticket s.request)) (sym here) (inl (ap (λ (x : SentNote). Sent x.ticket x.request) e)))
 sends_has (z ∷ ss) n es s (inr h) at = sends_has ss n (if nat_eq z.at n then Sent z.ticket z.request ∷ es else es) s h at
-
-before_few : (ls : List Line) (n : ℕ) → length (lines_before ls n) ≤ length ls
-before_few [] n = omega arith
-before_few (l ∷ ls) n = by (nat_lt (length (l ∷ ls)) n) (before_few ls n)
-  where
-    by : (b : Bool) → length (lines_before ls n) ≤ length ls → length (if b then l ∷ ls else lines_before ls n) ≤ length (l ∷ ls)
-    by true h = omega arith
-    by false h = omega arith
 
 -- What is refused at once.
 
@@ -231,7 +221,7 @@ module _ (line : Line) (ls : List Line) (old : Lists) (told : newest old ≡ len
 
   -- Why calls fail.
 
-  module _ (steps : Steps line old all) (caused : Caused (line ∷ ls) all) (taken : AreTakenIn ls old.outcomes old.ended accounts) (fails : HowCallsFail) (is : Trace → Type 0) (r : RestsIn fails is now old all) where
+  module _ (steps : Steps line old all) (taken : AreTakenIn ls old.outcomes old.ended accounts) (fails : HowCallsFail) (is : Trace → Type 0) (r : RestsIn fails is now old all) where
     abbrev Was : ℕ → Error → Type 0
     Was k e = FailsBy fails old.mail.sent old.outcomes old.ended ls k e
 
@@ -286,13 +276,7 @@ module _ (line : Line) (ls : List Line) (old : Lists) (told : newest old ≡ len
 
     -- the newest line
     ended_here : (e : Error) → outcome_of all.outcomes n ≡ outcomes.Err e → ended_of all.ended n ≡ n
-    ended_here e told_so =
-        let h = caused.rows.ended n line (line_new line ls) in
-        let a : nat_eq (ended_of all.ended n) 0 ≡ false = sym h.unfinished ∙ ap is_unfinished told_so in
-        let some : 1 ≤ ended_of all.ended n = grind (arith, nat_tests) in
-        let low = h.past some in
-        let high = h.within in
-        omega (arith, low, high)
+    ended_here e told_so = new_ended line ls old told ordered.even good was.rows new c (ap is_unfinished told_so)
 
     newest_so : (e : Error) → outcome_of all.outcomes n ≡ outcomes.Err e → Is n e ⊎ IsAmong (refused_of (ask_of line) accounts n) (record { line = n; error = e })
     newest_so e told_so = elim (r.causes n e told_so) [
@@ -329,6 +313,5 @@ heard_step fails was is line ls old new accounts told ordered good steps folded 
     (was_more (trace_of old.mail.sent old.outcomes ls) t (was_longer line ls old told ordered good caused folded new c s timely accounts) heard.rest) in
     subst (λ l. HaveHeard is fails (line ∷ ls) l.mail.sent l.outcomes l.ended) (sym c.is) (record {
       rest = is_more (with_posted r.posted t) (trace_of (followed c.posted c.ended c.mid).mail.sent (followed c.posted c.ended c.mid).outcomes (line ∷ ls)) (now_longer line ls old told ordered good caused folded new c s timely accounts r.posted r.sent) r.rest;
-      causes = causes_now line ls old told ordered good caused folded new c s timely accounts (subst (λ l. Steps line old l) c.is steps)
-          (subst (λ l. Caused (line ∷ ls) l) c.is (caused_step line ls old new told ordered good steps folded caused)) taken fails is r heard.causes;
+      causes = causes_now line ls old told ordered good caused folded new c s timely accounts (subst (λ l. Steps line old l) c.is steps) taken fails is r heard.causes;
     })

@@ -36,6 +36,7 @@ mod Arising
 mod Failures
 pub mod Begun
 mod HeardLines
+mod Doubting
 mod Origins
 mod OriginLines
 pub mod Scripts

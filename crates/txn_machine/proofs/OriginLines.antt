@@ -22,7 +22,7 @@ use Rattle.txn_machine.proofs.LineByLine.{none_left, turned_over}
 use Rattle.txn_machine.proofs.Origins.{arisen_on}
 
 pub new_arisen : {S : Type 0} (arises : S → List Event → Type 0) (holds : S → List Event → ℕ → Outcome → Type 0) (m : Machine S) → arises m.clients [] → ArisenIn arises holds m []
-new_arisen arises holds m none memory = record { now = none; answers = tt }
+new_arisen arises holds m none memory = record { now = none; answers = tt; doubts = λ n x s e f. absurd (let a = f.there in cc) }
 
 pub broken_arisen : {S : Type 0} (arises : S → List Event → Type 0) (holds : S → List Event → ℕ → Outcome → Type 0) (m : Machine S) (lines : List Line) → m.broken ≡ true → ArisenIn arises holds m lines
 broken_arisen arises holds m lines broken h = absurd (let e = h.whole in cc)
@@ -39,8 +39,9 @@ module _ {S : Type 0} (sight : S → Sight) (ready : S → Type 0) (waits : S �
   pub report_arisen : (m : Machine S) (report : Report) (lines : List Line) → IsReportOf (lists_of sight m) report → HasMemory m → StandsFor sight ready waits m lines → TakenIn account m lines → ArisenIn arises holds m lines → ArisenLines sight arises holds account lines report
   report_arisen m report lines r memory stood taken arisen = record {
     clients = m.clients;
-    arisen = subst (λ sent. HaveArisen (arises m.clients) (holds m.clients) lines sent report.outcomes) (sym r.sent)
-        (subst (λ outs. HaveArisen (arises m.clients) (holds m.clients) lines m.post.sent outs) (sym r.outcomes) (arisen memory));
+    arisen = subst (λ sent. HaveArisen (arises m.clients) (holds m.clients) lines sent report.outcomes report.ended) (sym r.sent)
+        (subst (λ outs. HaveArisen (arises m.clients) (holds m.clients) lines m.post.sent outs report.ended) (sym r.outcomes)
+        (subst (λ ends. HaveArisen (arises m.clients) (holds m.clients) lines m.post.sent m.outcomes.items ends) (sym r.ended) (arisen memory)));
     taken = λ x. subst (λ outs. account m.clients x ≡ account_of (λ n. outcome_of outs n) (λ n. ended_of report.ended n) lines x) (sym r.outcomes)
         (subst (λ ends. account m.clients x ≡ account_of (λ n. outcome_of m.outcomes.items n) (λ n. ended_of ends n) lines x) (sym r.ended) ((taken memory).accounts_are x));
     rows = λ n line e. subst (λ outs. IsRow (role_of line) (outcome_of outs n) (stand_at (sight m.clients).stands n)) (sym r.outcomes) (was.caused.rows.rows n line e);

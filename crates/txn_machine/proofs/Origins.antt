@@ -17,7 +17,7 @@ use Rattle.txn_report.specs.declared.outcome.Outcome.TheVariants.{Ok, Err, Unfin
 use Rattle.txn_report.specs.declared.outcome.Payload.{Payload}
 use Rattle.txn_side.specs.Arising.{answered_at}
 use Rattle.txn_side.specs.Sight.{stand_at}
-use Rattle.txn_machine.specs.Arising.{AllHold, Arisen, GoesIn, HaveArisen, HoldsBy, IsRight, Knows, happens}
+use Rattle.txn_machine.specs.Arising.{AllHold, AllSpeak, Arisen, GoesIn, HaveArisen, HoldsBy, IsRight, Knows, happens}
 use Rattle.txn_machine.specs.Causes.{Role, is_unfinished, role_of, tells}
 use Rattle.txn_machine.specs.Causes.Role.{AsksTime, MakesClient, NoCall, UsesTransaction}
 use Rattle.txn_machine.specs.Lists.{Lists, all_posted, followed, newest, opened, request_at, request_in, with_mail}
@@ -32,6 +32,7 @@ use Rattle.txn_machine.proofs.Carried.{history_now, looked}
 use Rattle.txn_machine.proofs.Caused.{done_is, mid_count}
 use Rattle.txn_machine.proofs.Courses.{Course, course, out_there, own_done}
 use Rattle.txn_machine.proofs.Credits.{all_count}
+use Rattle.txn_machine.proofs.Doubting.{speak_now, tells_none}
 use Rattle.txn_machine.proofs.Fates.{fate_of, fates_opened}
 use Rattle.txn_machine.proofs.Finds.{looked_up, request_by}
 use Rattle.txn_machine.proofs.Folds.{Stepped, asked, stepped}
@@ -116,15 +117,6 @@ module _ (holds : ℕ → Outcome → Type 0) (n : ℕ) where
   row_holds (Works x v c) p waits h = absurd (cc)
   row_holds (CallFailed b x c e) p waits h = absurd (cc)
   row_holds (CallSkipped b x) p waits h = absurd (cc)
-
--- a line in whose step clients hear of something is no call
-tells_none : (line : Line) → tells line ≡ true → role_of line ≡ NoCall
-tells_none (lines.Answer t) h = refl
-tells_none (lines.Deliver t) h = refl
-tells_none (lines.Lose t) h = refl
-tells_none (lines.Busy t) h = refl
-tells_none (lines.Wake t) h = refl
-tells_none _ h = absurd (cc)
 
 -- a call does nothing, whether it is done or not
 did_same : (looks : Ticket → Option Request) (line : Line) (es : List Event) (a b : Bool) → (role_of line ≡ NoCall → a ≡ b) → (if a then does looks line es else es) ≡ (if b then does looks line es else es)
@@ -229,15 +221,19 @@ module _ (line : Line) (ls : List Line) (old : Lists) (told : newest old ≡ len
         by (UsesTransaction b x) p h = h
         by NoCall p h = tt
 
-    arisen_now : AllHold (held past) old.outcomes ls → HaveArisen is holds (line ∷ ls) all.mail.sent all.outcomes
-    arisen_now h = record { now = r.now; answers = (newest_holds, all_still ls (omega arith) (λ j z there. there) h) }
+    arisen_now : AllHold (held past) old.outcomes ls → AllSpeak old.mail.sent old.outcomes old.ended ls → HaveArisen is holds (line ∷ ls) all.mail.sent all.outcomes all.ended
+    arisen_now h speak = record {
+      now = r.now;
+      answers = (newest_holds, all_still ls (omega arith) (λ j z there. there) h);
+      doubts = speak_now line ls old told ordered good was folded new c stepped steps (held past) h r.doubts speak;
+    }
 
 pub arisen_on : (was is : List Event → Type 0) (held holds : List Event → ℕ → Outcome → Type 0) (line : Line) (ls : List Line) (old new : Lists) → newest old ≡ length ls → IsOrdered old → why_after ls line ≡ None → Steps line old new → Folded ls old → Caused ls old
-    → Arisen was is held holds line old new → HaveArisen was held ls old.mail.sent old.outcomes → HaveArisen is holds (line ∷ ls) new.mail.sent new.outcomes
+    → Arisen was is held holds line old new → HaveArisen was held ls old.mail.sent old.outcomes old.ended → HaveArisen is holds (line ∷ ls) new.mail.sent new.outcomes new.ended
 arisen_on was is held holds line ls old new told ordered good steps folded caused arisen h =
     let c = course old line new steps in
     let s = subst (λ x. Stepped (length ls) line old x) c.is (stepped (length ls) old told ordered.even.stands folded.calm ordered.sound.mail line new steps) in
     let r = subst (λ l. Arisen was is held holds line old l) c.is arisen (looks line ls old told ordered good caused folded new c s) (history old.mail.sent old.outcomes ls) (knows_past line ls old told ordered good caused folded new c s) h.now in
-    subst (λ l. HaveArisen is holds (line ∷ ls) l.mail.sent l.outcomes) (sym c.is)
+    subst (λ l. HaveArisen is holds (line ∷ ls) l.mail.sent l.outcomes l.ended) (sym c.is)
     (arisen_now line ls old told ordered good caused folded new c s (subst (λ l. Steps line old l) c.is steps) is held holds
-    (subst (λ fs. GoesIn is holds (held (history old.mail.sent old.outcomes ls)) (role_of line) (opened old).sight fs old (followed c.posted c.ended c.mid)) (history_is line ls old told ordered good caused folded new c s) r) h.answers)
+    (subst (λ fs. GoesIn is holds (held (history old.mail.sent old.outcomes ls)) (role_of line) (opened old).sight fs old (followed c.posted c.ended c.mid)) (history_is line ls old told ordered good caused folded new c s) r) h.answers h.doubts)

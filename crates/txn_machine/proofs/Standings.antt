@@ -229,7 +229,7 @@ report_folds l report script r f = record {
     same = λ i. history (sym r.sent i) (sym r.outcomes i) script
 
 -- Each row answers what its call may.
-row_answers : (r : Row) → answers (role_in r) (outcome_in r) ≡ true
+pub row_answers : (r : Row) → answers (role_in r) (outcome_in r) ≡ true
 row_answers (Made c) = refl
 row_answers (AskWaits b k c) = refl
 row_answers (Begun k v c m) = refl

@@ -1,6 +1,8 @@
 -- Which clients can have arisen from the history of a report, and what their calls answered. Lines stand here with the newest first.
-use Rattle.std.specs.Prelude.{◌≡◌, ◌⊎◌, ⊤, ℕ, if◌then◌else◌, List, [], ◌∷◌, length, Option, Some, None}
+use Rattle.std.specs.Prelude.{◌≡◌, ◌⊎◌, ⊤, ℕ, Bool, if◌then◌else◌, List, [], ◌∷◌, length, Option, Some, None}
+use Rattle.std.proofs.Common.{suc}
 use Rattle.std.specs.List.{All}
+use Rattle.txn_kv.specs.declared.errors.Error.{Error}
 use Rattle.txn_kv.specs.declared.reply.Reply.{Reply}
 use Rattle.txn_kv.specs.declared.request.Request.{Request}
 use Rattle.txn_kv.specs.declared.ticket.Ticket.{Ticket}
@@ -11,17 +13,19 @@ use Rattle.txn_lines.specs.Lines.{line_at}
 use Rattle.txn_lines.specs.declared.line.Line.{Line}
 use Rattle.txn_post.specs.Mail.{letter_at}
 use Rattle.txn_report.specs.declared.outcome.Outcome.{Outcome}
-use Rattle.txn_report.specs.declared.outcome.Outcome.TheVariants.{Ok}
+use Rattle.txn_report.specs.declared.outcome.Outcome.TheVariants.{Ok, Err}
 use Rattle.txn_report.specs.declared.outcome.Payload.{Payload}
+use Rattle.txn_report.specs.declared.outcome.Payload.TheVariants.{Number}
 use Rattle.txn_report.specs.declared.report.Report.{Report}
 use Rattle.txn_report.specs.declared.report.SentNote.{SentNote}
 use Rattle.txn_side.specs.Account.{Account}
 use Rattle.txn_side.specs.Arising.{Arises, answered_at, with_postings}
+use Rattle.txn_side.specs.Doubt.{SaysDoubt, SpeaksOf}
 use Rattle.txn_side.specs.Sight.{Sight, stand_at}
 use Rattle.txn_side.specs.Sight.Stand.{Idle}
 use Rattle.txn_side.specs.declared.turn.Ending.{Ending}
 use Rattle.txn_machine.specs.Accounts.{account_of}
-use Rattle.txn_machine.specs.Causes.{Role, ended_of, role_of}
+use Rattle.txn_machine.specs.Causes.{Role, ended_of, lines_before, role_of}
 use Rattle.txn_machine.specs.Causes.Role.{AsksTime, MakesClient, NoCall, UsesTransaction}
 use Rattle.txn_machine.specs.Lists.{Lists, newest, opened, request_at}
 use Rattle.txn_machine.specs.Rows.{IsRow}
@@ -41,20 +45,35 @@ abbrev pub AllHold : (ℕ → Outcome → Type 0) → List Outcome → List Line
 AllHold holds outs [] = ⊤
 AllHold holds outs (line ∷ before) = HoldsBy holds (length (line ∷ before)) (role_of line) (outcome_of outs (length (line ∷ before))) × AllHold holds outs before
 
--- the clients can have arisen from the history of these lines, and what calls answered is right
-pub record HaveArisen (arises : List Event → Type 0) (holds : List Event → ℕ → Outcome → Type 0) (script : List Line) (sent : List SentNote) (outs : List Outcome) : Type 0 where
+-- The line asks something of the transaction of line x, which began at s, and fails with this error.
+pub record FailsOf (script : List Line) (outs : List Outcome) (n x s : ℕ) (e : Error) : Type 0 where
+  pub commits : Bool
+  pub line : Line
+  pub there : line_at script n ≡ Some line
+  pub role : role_of line ≡ UsesTransaction commits x
+  pub began : outcome_of outs x ≡ Ok (Number s)
+  pub failed : outcome_of outs n ≡ Err e
+
+-- Each line that fails so says that its transaction is in doubt, where that was by what had happened in the lines up to the one in whose
+-- step the outcome came.
+abbrev pub AllSpeak : List SentNote → List Outcome → List ℕ → List Line → Type 0
+AllSpeak sent outs ended script = (n x s : ℕ) (e : Error) → FailsOf script outs n x s e → SaysDoubt (history sent outs (lines_before script (suc (ended_of ended n)))) s e
+
+-- the clients can have arisen from the history of these lines, and what calls answered is right, and was when it came
+pub record HaveArisen (arises : List Event → Type 0) (holds : List Event → ℕ → Outcome → Type 0) (script : List Line) (sent : List SentNote) (outs : List Outcome) (ended : List ℕ) : Type 0 where
   pub now : arises (history sent outs script)
   pub answers : AllHold (holds (history sent outs script)) outs script
+  pub doubts : AllSpeak sent outs ended script
 
 -- where memory was never wanting
 abbrev pub ArisenIn : {S : Type 0} → (S → List Event → Type 0) → (S → List Event → ℕ → Outcome → Type 0) → Machine S → List Line → Type 0
-ArisenIn arises holds m script = HasMemory m → HaveArisen (arises m.clients) (holds m.clients) script m.post.sent m.outcomes.items
+ArisenIn arises holds m script = HasMemory m → HaveArisen (arises m.clients) (holds m.clients) script m.post.sent m.outcomes.items m.ended.items
 
 -- Clients that can have arisen so are behind the report: their transactions have taken in what the lines tell, and each stands where a line
 -- began it.
 pub record ArisenLines {S : Type 0} (sight : S → Sight) (arises : S → List Event → Type 0) (holds : S → List Event → ℕ → Outcome → Type 0) (account : S → ℕ → Account) (script : List Line) (report : Report) : Type 0 where
   pub clients : S
-  pub arisen : HaveArisen (arises clients) (holds clients) script report.sent report.outcomes
+  pub arisen : HaveArisen (arises clients) (holds clients) script report.sent report.outcomes report.ended
   pub taken : (x : ℕ) → account clients x ≡ account_of (λ n. outcome_of report.outcomes n) (λ n. ended_of report.ended n) script x
   pub rows : (n : ℕ) (line : Line) → line_at script n ≡ Some line → IsRow (role_of line) (outcome_of report.outcomes n) (stand_at (sight clients).stands n)
   pub none : (n : ℕ) → line_at script n ≡ None → stand_at (sight clients).stands n ≡ Idle
@@ -82,11 +101,20 @@ IsRight (AsksTime begins client) s holds n o = holds n o
 IsRight (UsesTransaction commits x) s holds n o = holds x o
 IsRight NoCall s holds n o = holds (answered_at n (stand_at s.stands n)) o
 
--- The clients can have arisen from this history. What was right still is, and so is what the calls answered that ended in the step.
+-- and so says of the doubt of what stands there, if it failed
+abbrev pub Speaks : Role → Sight → (ℕ → Outcome → Type 0) → List Event → ℕ → Outcome → Type 0
+Speaks MakesClient s held h n o = ⊤
+Speaks (AsksTime begins client) s held h n o = ⊤
+Speaks (UsesTransaction commits x) s held h n o = SpeaksOf held h x n o
+Speaks NoCall s held h n o = SpeaksOf held h (answered_at n (stand_at s.stands n)) n o
+
+-- The clients can have arisen from this history. What was right still is, and so is what the calls answered that ended in the step; each
+-- that failed says whether its transaction is in doubt then.
 pub record GoesOn (arises : List Event → Type 0) (holds : List Event → ℕ → Outcome → Type 0) (held : ℕ → Outcome → Type 0) (role : Role) (s : Sight) (h : List Event) (ended : List Ending) : Type 0 where
   pub now : arises h
   pub kept : (x : ℕ) (o : Outcome) → held x o → holds h x o
   pub answers : All (λ (e : Ending). IsRight role s (holds h) e.line e.outcome) ended
+  pub doubts : All (λ (e : Ending). Speaks role s held h e.line e.outcome) ended
 
 -- so it goes with each history of which the lists say so much, by what the newest line does and what is posted then
 abbrev pub RunsTo : (List Event → Type 0) → (List Event → Type 0) → (List Event → ℕ → Outcome → Type 0) → (List Event → ℕ → Outcome → Type 0) → Line → Lists → Course → Type 0
@@ -99,11 +127,12 @@ ActsTo was is held holds x done = (h : List Event) → was h → Arises is holds
 
 -- And by the lists that its step left.
 
--- what a line answers is right, or it was answered before
+-- what a line answers is right, and says whether its transaction is in doubt, or it was answered before
 pub record GoesIn (arises : List Event → Type 0) (holds : List Event → ℕ → Outcome → Type 0) (held : ℕ → Outcome → Type 0) (role : Role) (s : Sight) (h : List Event) (old new : Lists) : Type 0 where
   pub now : arises h
   pub kept : (x : ℕ) (o : Outcome) → held x o → holds h x o
   pub answers : (n : ℕ) (p : Payload) → outcome_of new.outcomes n ≡ Ok p → (outcome_of old.outcomes n ≡ Ok p) ⊎ IsRight role s (holds h) n (Ok p)
+  pub doubts : (n : ℕ) (e : Error) → outcome_of new.outcomes n ≡ Err e → (outcome_of old.outcomes n ≡ Err e) ⊎ Speaks role s held h n (Err e)
 
 -- by what the line does and what was sent in its step
 abbrev pub Arisen : (List Event → Type 0) → (List Event → Type 0) → (List Event → ℕ → Outcome → Type 0) → (List Event → ℕ → Outcome → Type 0) → Line → Lists → Lists → Type 0

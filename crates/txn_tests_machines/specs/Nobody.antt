@@ -1,6 +1,6 @@
 -- Where there are no clients, no call waits.
 use Rattle.std.specs.Prelude.{◌≡◌, ⊤, ℕ, List, [], ◌∷◌, Option, Some, None, map, refl}
-use Rattle.std.proofs.Common.{zero, suc, sym, ap, ◌∙◌, subst}
+use Rattle.std.proofs.Common.{zero, suc, sym, ap, ◌∙◌, subst, arith}
 use Rattle.txn_history.specs.Event.{Event}
 use Rattle.txn_side.specs.Arising.{Arises}
 use Rattle.txn_side.specs.Sight.{Sight, stand_at}
@@ -30,4 +30,4 @@ none_due lines n c waits live = absurd (subst IsNothing (sym (ap waiting_at (idl
 
 -- they can have arisen from each history
 pub none_arises : (at : ℕ → ℕ) (h : List Event) → Arises (λ fs. ⊤) (λ fs x o. ⊤) (λ x o. ⊤) at h []
-none_arises at h = record { now = tt; kept = λ x o k. tt; answers = λ k d low. tt }
+none_arises at h = record { now = tt; kept = λ x o k. tt; answers = λ k d low. tt; doubts = λ k d low. absurd (omega arith) }
