@@ -7,7 +7,9 @@ use Rattle.txn_kv.specs.declared.request.Request.{Request}
 use Rattle.txn_kv.specs.declared.ticket.Ticket.{Ticket}
 use Rattle.txn_history.specs.Event.{Event}
 use Rattle.txn_history.specs.Meaning.{IsLawful}
+use Rattle.txn_history.specs.Plan.{Plan}
 use Rattle.txn_history.specs.Posted.{AreNumbered, Errand, Licensed, Posted, Within, Within-after, Within-trans, after}
+use Rattle.txn_law.specs.Run.{IsRun}
 use Rattle.txn_commit.specs.Committing.{Ways}
 use Rattle.txn_commit.specs.Jobs.{JobFits}
 use Rattle.txn_commit.specs.Sending.{MaySendBehind, plan_of}
@@ -29,7 +31,7 @@ use Rattle.txn_tso.specs.Oracle.{Answer as Answered_to}
 use Rattle.txn_clients.specs.Arising.{AnswerArises, Anyhow, Arisen, CallStands, CanCome, HandsAll, JobMoves, KeepsPlan, Leads, LeadsEnded, LeadsPushed, MovesRow, RowFits, RowMoves, StandFits, StandMoves, askers_of, heard_by, pends_answer, postings_of, told_of}
 use Rattle.txn_clients.specs.Clients.{nexts_of, row_at, rows_of, stands_of}
 use Rattle.txn_clients.specs.Failing.{outbox_of}
-use Rattle.txn_clients.specs.Growing.{drawn_grows}
+use Rattle.txn_clients.specs.Growing.{drawn_grows, plans_in, some_run}
 use Rattle.txn_clients.specs.Matching.{IsLine}
 use Rattle.txn_clients.specs.Rows.{IsToldIn, Pd, Posts, stand_of}
 use Rattle.txn_clients.specs.Waiting.{Book, HandsOn, IsAnswerOf, IsNumberedTo, TellsRow, asks_of, blank, book_at, posted_at, voice, voice_at}
@@ -40,6 +42,7 @@ use Rattle.txn_clients.specs.declared.row.Row.{Row}
 use Rattle.txn_clients.specs.declared.row.Row.TheVariants as row
 use Rattle.txn_clients.specs.declared.told.Told.{Told}
 use Rattle.txn_clients.specs.declared.told.Told.TheVariants as tells
+use Rattle.txn_clients.proofs.Doubting.{settled_speaks}
 use Rattle.txn_clients.proofs.Grouping.{numbered_end}
 use Rattle.txn_clients.proofs.Leading.{Handed, Rises, drawn_told, hear_same, heard, known_of, leads_now, leads_weaker}
 use Rattle.txn_clients.proofs.Rising.{MayAsk, asking_rises, has_job, stand_commits, stand_rises, stand_unlocks, working_rises}
@@ -112,14 +115,15 @@ module _ {P Q K A B D : Type 0} (w : Ways P Q K A B D) where
     no_job old new h job (inl (parts, whole, stands)) = stands
     no_job old new h job (inr (none, nothing)) = elim nothing [ inl e ↦ (cc) | inr e ↦ (cc) ]
 
-    stand_arises : (askers : Ticket → List ℕ) (line c d m n : ℕ) (old new : Standing P Q K) (from to : Posted) (later : List Event) (answer : Option (Answer P Q K)) → IfSome answer (IsAnswerOf (HasBegun c m)) → KeepsPlan old new from to
+    stand_arises : (plans : ℕ → Plan) (askers : Ticket → List ℕ) (line c d m n : ℕ) (old new : Standing P Q K) (from to : Posted) (later : List Event) (answer : Option (Answer P Q K)) → IsRun plans later → IfSome answer (IsAnswerOf (HasBegun c m)) → KeepsPlan old new from to
         → CallStands w old new answer later → AnswerArises w askers line (row.Begun d new n) answer later
-    stand_arises askers line c d m n old new from to later None kind keeps stands = tt
-    stand_arises askers line c d m n old new from to later (Some (answers.Asked v)) kind keeps stands = absurd kind
-    stand_arises askers line c d m n old new from to later (Some (answers.Called (Ok (answer.Committed (Some t) job)))) kind keeps stands = stand_commits w p q k d n old new from to later t job keeps stands.0 stands.1
-    stand_arises askers line c d m n old new from to later (Some (answers.Called (Ok (answer.Committed None (Some job))))) kind keeps stands = no_job old new later job stands.1
-    stand_arises askers line c d m n old new from to later (Some (answers.Called (Ok (answer.Committed None None)))) kind keeps stands = stand_unlocks w p q k d n old new from to later keeps stands.0 stands.1
-    stand_arises askers line c d m n old new from to later (Some (answers.Called v)) kind keeps stands = tt
+    stand_arises plans askers line c d m n old new from to later None run kind keeps stands = tt
+    stand_arises plans askers line c d m n old new from to later (Some (answers.Asked v)) run kind keeps stands = absurd kind
+    stand_arises plans askers line c d m n old new from to later (Some (answers.Called (Ok (answer.Committed (Some t) job)))) run kind keeps stands = stand_commits w p q k d n old new from to later t job keeps stands.0 stands.1
+    stand_arises plans askers line c d m n old new from to later (Some (answers.Called (Ok (answer.Committed None (Some job))))) run kind keeps stands = no_job old new later job stands.1
+    stand_arises plans askers line c d m n old new from to later (Some (answers.Called (Ok (answer.Committed None None)))) run kind keeps stands = stand_unlocks w p q k d n old new from to later keeps stands.0 stands.1
+    stand_arises plans askers line c d m n old new from to later (Some (answers.Called (Err e))) run kind keeps stands = settled_speaks plans later d n new e run stands
+    stand_arises plans askers line c d m n old new from to later (Some (answers.Called v)) run kind keeps stands = tt
 
     module _ (s t : Clients P Q K) (told : Told) (line client at : ℕ) (to : Posted) (said : Option (Answer P Q K)) (ps qs : List Posting) (es fs : List Ending) (inside : at < length (rows_of s)) (is : IsLine (stands_of (rows_of s)) line)
         (posted : qs ≡ ps ++ postings_of line to.sends) (ended : fs ≡ es) (stamped : IfSome said (IsToldIn told))
@@ -174,7 +178,7 @@ module _ {P Q K A B D : Type 0} (w : Ways P Q K A B D) where
           let fits = subst (λ xs. StandFits w new to (after line false hear xs)) (sym x.pushed) (x.still h was) in
           led (row.Begun d new n) handed (voices_of (row.Begun c old m) (row.Begun d new n) at_old stand) (x.line, x.beat)
           (stand_rises w p q k (rows_of s) line at c d m n old new from to hear inside now.apart at_old refl moves.keeps (subst (λ xs. Licensed (MaySendFor old.contents (version_of old.start)) line false hear xs) (sym x.pushed) (x.licensed h was)) fits)
-          (λ y. stand_arises askers line c d m n old new from to later said kind moves.keeps (subst (λ xs. CallStands w old new said (after line false hear xs)) (sym x.pushed) (x.stands h was)))
+          (λ y. stand_arises (plans_in (rows_of t)) askers line c d m n old new from to later said (some_run w t askers rest later y) kind moves.keeps (subst (λ xs. CallStands w old new said (after line false hear xs)) (sym x.pushed) (x.stands h was)))
 
       led_working : (c d : ℕ) (old new : SecondaryJob Q) → row_at (rows_of s) at ≡ row.Working c old → JobMoves w.committing w.uncommitted told old new from to → stand_of {P = P} {Q = Q} {K = K} (row.Working d new) ≡ stand_of {P = P} {Q = Q} {K = K} (row.Working c old)
           → IfSome said (IsAnswerOf (Working c)) → Handed s t line client at (set (rows_of s) at (row.Working d new)) to → Goal

@@ -3,9 +3,11 @@ use Rattle.std.proofs.Common.{◌≡◌, inl, inr, ℕ, Bool, true, false, List,
 use Rattle.std.proofs.lemmas.Bool.Decides.{nat_tests}
 use Rattle.std.proofs.lemmas.List.Elements.{All-append, All-cons, All-head, All-nil, All-tail, All-weaker}
 use Rattle.std.specs.List.{All}
+use Rattle.txn_kv.specs.declared.request.Request.{Request}
 use Rattle.txn_kv.specs.declared.ticket.Ticket.{Ticket}
 use Rattle.txn_history.specs.Among.{IsAmong}
-use Rattle.txn_history.specs.Event.{Event}
+use Rattle.txn_history.specs.Event.{Event, Has}
+use Rattle.txn_history.specs.Event.Event.{Lost}
 use Rattle.txn_history.specs.Posted.{Within, Within-refl, Within-trans}
 use Rattle.txn_commit.specs.Committing.{Ways}
 use Rattle.txn_report.specs.declared.outcome.Outcome.{Outcome}
@@ -16,11 +18,12 @@ use Rattle.txn_side.specs.declared.turn.Ending.{Ending}
 use Rattle.txn_side.specs.declared.turn.Posting.{Posting}
 use Rattle.txn_trace.specs.Seeing.{seen}
 use Rattle.txn_tso.specs.Oracle.{Answer as Answered}
-use Rattle.txn_clients.specs.Arising.{Anyhow, Arisen, EndsRight, HoldsAt, KeepRight, Leads, heard_by}
+use Rattle.txn_clients.specs.Arising.{Anyhow, Arisen, EndSpeaks, EndsRight, HoldsAt, KeepRight, Leads, heard_by}
 use Rattle.txn_clients.specs.Growing.{right_same}
 use Rattle.txn_clients.specs.Clients.{rows_of, stands_of}
 use Rattle.txn_clients.specs.declared.clients.Clients.{Clients}
 use Rattle.txn_clients.specs.declared.row.Row.{Row}
+use Rattle.txn_clients.proofs.Doubting.{end_speaks_on, none_lost}
 use Rattle.txn_clients.proofs.Sights.{HasSettled, ask_settles, outcomes_append}
 
 -- What is posted, in two parts
@@ -94,21 +97,23 @@ module _ {P Q K : Type 0} where
   -- What ended right
 
   pub ends_none : (at : ℕ → ℕ) (t : Clients P Q K) (h : List Event) (es fs : List Ending) → fs ≡ es → EndsRight at t h es fs
-  ends_none at t h es fs e = record { more = []; ended = e ∙ sym (append-nil es); each = All-nil _ }
+  ends_none at t h es fs e = record { more = []; ended = e ∙ sym (append-nil es); each = All-nil _; doubts = All-nil _ }
 
   pub ends_at : (at later_at : ℕ → ℕ) (t : Clients P Q K) (h : List Event) (es fs : List Ending) → (f : EndsRight later_at t h es fs) → ((e : Ending) → IsAmong f.more e → later_at e.line ≡ at e.line) → EndsRight at t h es fs
   ends_at at later_at t h es fs f same = record {
     more = f.more;
     ended = f.ended;
     each = all_by (λ (e : Ending). HoldsAt (rows_of t) h (later_at e.line) e.outcome) (λ (e : Ending). HoldsAt (rows_of t) h (at e.line) e.outcome) f.more (λ e i right. subst (λ x. HoldsAt (rows_of t) h x e.outcome) (same e i) right) f.each;
+    doubts = all_by (λ (e : Ending). EndSpeaks (rows_of t) h (later_at e.line) e.line e.outcome) (λ (e : Ending). EndSpeaks (rows_of t) h (at e.line) e.line e.outcome) f.more (λ e i speaks. subst (λ x. EndSpeaks (rows_of t) h x e.line e.outcome) (same e i) speaks) f.doubts;
   }
 
-  -- it stays right
-  pub ends_on : (at : ℕ → ℕ) (s t : Clients P Q K) (h longer : List Event) (es fs : List Ending) → Within h longer → KeepRight (rows_of s) (rows_of t) → EndsRight at s h es fs → EndsRight at t longer es fs
-  ends_on at s t h longer es fs within kept f = record {
+  -- it stays right, where no loss is new
+  pub ends_on : (at : ℕ → ℕ) (s t : Clients P Q K) (h longer : List Event) (es fs : List Ending) → Within h longer → ((u : Ticket) (r : Request) → Has longer (Lost u r) → Has h (Lost u r)) → KeepRight (rows_of s) (rows_of t) → EndsRight at s h es fs → EndsRight at t longer es fs
+  ends_on at s t h longer es fs within unlost kept f = record {
     more = f.more;
     ended = f.ended;
     each = All-weaker (λ (e : Ending). HoldsAt (rows_of s) h (at e.line) e.outcome) (λ (e : Ending). HoldsAt (rows_of t) longer (at e.line) e.outcome) (λ e right. kept (at e.line) e.outcome h longer within right) f.more f.each;
+    doubts = All-weaker (λ (e : Ending). EndSpeaks (rows_of s) h (at e.line) e.line e.outcome) (λ (e : Ending). EndSpeaks (rows_of t) longer (at e.line) e.line e.outcome) (λ e speaks. end_speaks_on h longer within unlost (rows_of s) (rows_of t) (at e.line) e.line e.outcome kept speaks) f.more f.doubts;
   }
 
   pub ends_then : (at : ℕ → ℕ) (t : Clients P Q K) (h : List Event) (es fs gs : List Ending) → EndsRight at t h es fs → EndsRight at t h fs gs → EndsRight at t h es gs
@@ -116,6 +121,7 @@ module _ {P Q K : Type 0} where
     more = f.more ++ g.more;
     ended = g.ended ∙ ap (λ xs. xs ++ g.more) f.ended ∙ append_assoc es f.more g.more;
     each = All-append (λ (e : Ending). HoldsAt (rows_of t) h (at e.line) e.outcome) f.more g.more f.each g.each;
+    doubts = All-append (λ (e : Ending). EndSpeaks (rows_of t) h (at e.line) e.line e.outcome) f.more g.more f.doubts g.doubts;
   }
 
   module _ {A B D : Type 0} (w : Ways P Q K A B D) where
@@ -146,7 +152,7 @@ module _ {P Q K : Type 0} where
       within = Within-trans h f.later g.later f.within g.within;
       arisen = g.arisen;
       kept = kept_then (rows_of s) (rows_of m) (rows_of t) f.kept g.kept;
-      ends = ends_then at t g.later es fs gs (ends_on at m t f.later g.later es fs g.within g.kept f.ends) (ends_at at later_at t g.later fs gs g.ends same);
+      ends = ends_then at t g.later es fs gs (ends_on at m t f.later g.later es fs g.within (none_lost g.more f.later g.later g.shows) g.kept f.ends) (ends_at at later_at t g.later fs gs g.ends same);
       then = g.then;
     }
 
@@ -162,7 +168,7 @@ module _ {P Q K : Type 0} where
       within = Within-trans h f.later g.later f.within g.within;
       arisen = g.arisen;
       kept = kept_then (rows_of s) (rows_of m) (rows_of t) f.kept g.kept;
-      ends = subst (EndsRight at t g.later es) (sym e) (ends_on at m t f.later g.later es fs g.within g.kept f.ends);
+      ends = subst (EndsRight at t g.later es) (sym e) (ends_on at m t f.later g.later es fs g.within (none_lost g.more f.later g.later g.shows) g.kept f.ends);
       then = g.then;
     }
 

@@ -40,7 +40,7 @@ use Rattle.txn_trace.specs.Seeing.{seen}
 use Rattle.txn_trace.proofs.Drawn.{draw_given, draws_line}
 use Rattle.txn_tso.specs.Oracle.{Answer as Answered}
 use Rattle.txn_clients.specs.Accounts.{outcome_by}
-use Rattle.txn_clients.specs.Arising.{AnswerArises, Anyhow, Arisen, BeganAt, CallCame, HasPlan, HasStart, HavePlans, HoldsAt, HoldsOf, IsBehind, IsCommittedSo, IsCommittedUnlocked, KeepRight, Leads, LeadsEnded, RowFits, StandFits, heard_by, oracle_of, ticket_or}
+use Rattle.txn_clients.specs.Arising.{AnswerArises, Anyhow, Arisen, BeganAt, CallCame, EndSpeaks, HasPlan, HasStart, HavePlans, HoldsAt, HoldsOf, IsBehind, IsCommittedSo, IsCommittedUnlocked, KeepRight, Leads, LeadsEnded, RowFits, SpeaksRight, StandFits, heard_by, oracle_of, ticket_or}
 use Rattle.txn_clients.specs.Clients.{nexts_of, row_at, rows_of, stands_of}
 use Rattle.txn_clients.specs.Ended.{AskLeaves, CallLeaves}
 use Rattle.txn_clients.specs.Growing.{committed_grows, drawn_apart, plans_in, some_run, suc_same}
@@ -52,6 +52,7 @@ use Rattle.txn_clients.specs.declared.clients.Clients.{Clients}
 use Rattle.txn_clients.specs.declared.row.Row.{Row}
 use Rattle.txn_clients.specs.declared.row.Row.TheVariants as row
 use Rattle.txn_clients.proofs.Chaining.{kept_then}
+use Rattle.txn_clients.proofs.Doubting.{speaks_line, speaks_own, speaks_waits}
 use Rattle.txn_clients.proofs.Going.{none_ordered}
 use Rattle.txn_clients.proofs.Settling.{books_same, row_within}
 use Rattle.txn_clients.proofs.Stands.{line_of, or_other, or_same, same_line}
@@ -273,8 +274,8 @@ module _ {P Q K A B D : Type 0} (w : Ways P Q K A B D) where
 
   -- one call ends
   ended_one : (askers : Ticket → List ℕ) (rest : List Answered) (s t : Clients P Q K) (h : List Event) (line x : ℕ) (o : Outcome) (ps : List Posting) (es fs : List Ending) → heard_by s line ≡ x → fs ≡ es ++ record { line = line; outcome = o } ∷ []
-      → Arisen w t askers rest h → KeepRight (rows_of s) (rows_of t) → HoldsAt (rows_of t) h x o → Leads w askers rest ps ps es fs (heard_by s) s t (seen h) h Anyhow
-  ended_one askers rest s t h line x o ps es fs heard ended a kept right = record {
+      → Arisen w t askers rest h → KeepRight (rows_of s) (rows_of t) → HoldsAt (rows_of t) h x o → EndSpeaks (rows_of t) h x line o → Leads w askers rest ps ps es fs (heard_by s) s t (seen h) h Anyhow
+  ended_one askers rest s t h line x o ps es fs heard ended a kept right speaks = record {
     later = h;
     more = [];
     posted = sym (append-nil ps);
@@ -286,6 +287,7 @@ module _ {P Q K A B D : Type 0} (w : Ways P Q K A B D) where
       more = record { line = line; outcome = o } ∷ [];
       ended = ended;
       each = All-cons (λ (e : Ending). HoldsAt (rows_of t) h (heard_by s e.line) e.outcome) (record { line = line; outcome = o }) [] (subst (λ n. HoldsAt (rows_of t) h n o) (sym heard) right) (All-nil (λ (e : Ending). HoldsAt (rows_of t) h (heard_by s e.line) e.outcome));
+      doubts = All-cons (λ (e : Ending). EndSpeaks (rows_of t) h (heard_by s e.line) e.line e.outcome) (record { line = line; outcome = o }) [] (subst (λ n. EndSpeaks (rows_of t) h n line o) (sym heard) speaks) (All-nil (λ (e : Ending). EndSpeaks (rows_of t) h (heard_by s e.line) e.line e.outcome));
     };
     then = tt;
   }
@@ -301,6 +303,7 @@ module _ {P Q K A B D : Type 0} (w : Ways P Q K A B D) where
       (left.fits (set (rows_of s) (line - 1) r) (posted_at (nexts_of s) (asks_of s) (voice (line - 1) (stand_of r)))) a)
       (subst (KeepRight (rows_of s)) (sym rows) (right_unended (rows_of s) (line - 1) r within unended))
       (subst (λ rs. HoldsAt rs h line o) (sym rows) (holds_line (set (rows_of s) (line - 1) r) h line o is.first (subst (HoldsOf h o) (sym (or_same (rows_of s) (line - 1) r row.Plain within)) left.right)))
+      (speaks_own (rows_of t) h line o)
     where
       within : line - 1 < length (rows_of s)
       within = row_within (rows_of s) line is
@@ -343,6 +346,15 @@ module _ {P Q K A B D : Type 0} (w : Ways P Q K A B D) where
   called_holds askers h line true (Ok v) r came = tt
   called_holds askers h line false (Ok v) r came = tt
 
+  called_speaks : (askers : Ticket → List ℕ) (h : List Event) (line x : ℕ) (b : Bool) (v : Result (TxnAnswer Q) Error) (mine : Row P Q K) (rows : List (Row P Q K)) → 1 ≤ x → row_at rows (x - 1) ≡ with_waits 0 mine → AnswerArises w askers line mine (Some (answers.Called v)) h → EndSpeaks rows h x line (outcome_by b v)
+  called_speaks askers h line x b (Err e) mine rows one here came = λ apart. speaks_line rows h x e one (subst (SpeaksRight h e) (sym here) (speaks_waits 0 h e mine came))
+  called_speaks askers h line x true (Ok (answer.Committed t job)) mine rows one here came = tt
+  called_speaks askers h line x false (Ok (answer.Committed t job)) mine rows one here came = tt
+  called_speaks askers h line x true (Ok answer.Unit) mine rows one here came = tt
+  called_speaks askers h line x false (Ok answer.Unit) mine rows one here came = tt
+  called_speaks askers h line x true (Ok v) mine rows one here came = tt
+  called_speaks askers h line x false (Ok v) mine rows one here came = tt
+
   waits_holds : (n : ℕ) (h : List Event) (o : Outcome) (r : Row P Q K) → HoldsOf h o r → HoldsOf h o (with_waits n r)
   waits_holds n h o r x = right_by o h h r (with_waits n r) (λ v. waits_began n v r) (λ v. waits_committed n h v r) (waits_unlocked n r) x
 
@@ -362,6 +374,7 @@ module _ {P Q K A B D : Type 0} (w : Ways P Q K A B D) where
       (subst (KeepRight (rows_of m)) (sym rows) (right_unended (rows_of m) (line - 1) r within_m unended)))
       (subst (λ rs. HoldsAt rs h x o) (sym rows) (holds_line (set (rows_of m) (line - 1) r) h x o at.first
       (subst (HoldsOf h o) (sym (or_other (rows_of m) (line - 1) (x - 1) r row.Plain apart ∙ mine_m)) (waits_holds 0 h o mine (subst (λ y. HoldsOf h y mine) (sym outcome) (called_holds askers h line b v mine here))))))
+      (subst (λ y. EndSpeaks (rows_of t) h x line y) (sym outcome) (called_speaks askers h line x b v mine (rows_of t) at.first (ap (λ rs. row_at rs (x - 1)) rows ∙ or_other (rows_of m) (line - 1) (x - 1) r row.Plain apart ∙ mine_m) here))
     where
       mine : Row P Q K
       mine = row_at (rows_of s) (x - 1)

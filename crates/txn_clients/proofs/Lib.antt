@@ -40,6 +40,7 @@ pub mod Unmoved
 pub mod Shown
 pub mod Moving
 pub mod MovingRows
+pub mod Doubting
 pub mod Chaining
 pub mod Ended
 pub mod ToldParts

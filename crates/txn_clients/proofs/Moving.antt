@@ -2,22 +2,26 @@
 use Rattle.std.proofs.Common.{◌≡◌, ◌≢◌, ◌⊎◌, inl, inr, Bool, true, false, if◌then◌else◌, List, [], Option, Some, None, is_some, refl, sym, ap, ◌∙◌, subst, append-nil}
 use Rattle.std.specs.Prelude.{⊤, Result, Ok, Err}
 use Rattle.txn_kv.specs.Timestamp.{version_of}
+use Rattle.txn_kv.specs.ErrorView.{view_of}
 use Rattle.txn_kv.specs.declared.errors.Error.{Error}
+use Rattle.txn_kv.specs.declared.errors.Error.TheVariants.{GrpcAPI}
 use Rattle.txn_kv.specs.declared.request.Request.{Request}
 use Rattle.txn_kv.specs.declared.ticket.Ticket.{Ticket}
 use Rattle.txn_history.specs.Event.{Event}
 use Rattle.txn_history.specs.Moves.{Moves}
 use Rattle.txn_history.specs.Phase.{phase_after}
-use Rattle.txn_history.specs.Posted.{Posted}
+use Rattle.txn_history.specs.Posted.{Posted, after}
 use Rattle.txn_history.specs.Turn.{IfEnds, IfEnds-weaker, IfKept, IfKept-all, IfKept-out, IfKept-stopped, IfKept-weaker, Turn}
 use Rattle.txn_history.specs.Turn.Turn.{Stopped, Waits, Ends}
 use Rattle.txn_plan.specs.Arrivals.{told_by}
 use Rattle.txn_plan.specs.declared.arrival.Arrival.{Arrival}
 use Rattle.txn_buffer.specs.Contents.{Contents}
 use Rattle.txn_commit.specs.Committing.{Ways}
-use Rattle.txn_commit.specs.Following.{undetermined}
+use Rattle.txn_commit.specs.Following.{KnowsCommits, undetermined}
 use Rattle.txn_commit.specs.Parts.{parts_of}
-use Rattle.txn_core.specs.Going.{IsUndetermined, MaySendFor, TransactionFits, TransactionGives, TransactionMoves}
+use Rattle.txn_commit.specs.Sending.{plan_of}
+use Rattle.txn_commit.specs.declared.commit_parts.CommitParts.{CommitParts}
+use Rattle.txn_core.specs.Going.{FailsWith, IsAtWork, IsNothing, IsUndetermined, MaySendFor, TransactionFits, TransactionGives, TransactionMoves}
 use Rattle.txn_core.specs.Status.{after_commit, allows_commit, allows_data, allows_rollback, status_step}
 use Rattle.txn_core.specs.Status.Became.{commits}
 use Rattle.txn_core.specs.Transaction.{GivesUp, IsOrdered, IsRefused, Standing, WriteEnds, commit_outcome, has_given_up, is_open, is_waiting, moved_by, rolled_status}
@@ -28,14 +32,16 @@ use Rattle.txn_core.specs.declared.transaction.Work.TheVariants.{Idle, Open, Gav
 use Rattle.txn_core.specs.declared.txn_answer.TxnAnswer.{TxnAnswer}
 use Rattle.txn_core.specs.declared.txn_answer.TxnAnswer.TheVariants as answer
 use Rattle.txn_core.proofs.Ordered.{written_fits}
+use Rattle.txn_side.specs.Account.{is_undetermined}
+use Rattle.txn_side.specs.Doubt.{IsRefusal}
 use Rattle.txn_side.specs.declared.act.Act.{Act}
 use Rattle.txn_clients.specs.Accounts.{IsQuiet}
-use Rattle.txn_clients.specs.Arising.{CallStands, KeepsPlan, Moved, StandFits, StandMoves}
+use Rattle.txn_clients.specs.Arising.{CallStands, IsSettled, KeepsPlan, Moved, StandFits, StandMoves}
 use Rattle.txn_clients.specs.Rows.{answer_in}
 use Rattle.txn_clients.specs.declared.answer.Answer.TheVariants as answers
 use Rattle.txn_clients.specs.declared.told.Told.TheVariants as tells
 use Rattle.txn_clients.proofs.Standing.{ends_shut, if_kept, open_so, refused_stays}
-use Rattle.txn_clients.proofs.Taking.{begins, commit_off, is_flag, moved_off, no_flag}
+use Rattle.txn_clients.proofs.Taking.{begins, commit_off, is_flag, moved_off, no_flag, undetermined_is}
 
 -- Histories
 
@@ -159,33 +165,62 @@ module _ {P Q K : Type 0} where
 -- What a transaction is told
 
 module _ {P Q K A B D : Type 0} (w : Ways P Q K A B D) where
+  -- what a transaction that lives knows of the Commits of its primary
+  knows_commits : (t : Standing P Q K) (o : Posted) (h : List Event) (parts : CommitParts) → parts_of t.contents ≡ Some parts → StandFits w t o h → KnowsCommits (plan_of parts) (version_of t.start) t.commits h
+  knows_commits t o h parts whole fits = by t.work fits.1.at fits.2
+    where
+      by : (g : Work P Q K) → IsAtWork w t.options.retry_options t.start t.status t.contents t.commits g o h → has_given_up g ≡ false → KnowsCommits (plan_of parts) (version_of t.start) t.commits h
+      by Idle at lives = (at.of_parts parts whole).knows
+      by (Open call) at lives =
+          let same : call.parts ≡ parts = let both = sym at.whole ∙ whole in cc in
+          subst (λ (p : CommitParts). KnowsCommits (plan_of p) (version_of t.start) t.commits h) same (subst (λ s. KnowsCommits (plan_of call.parts) (version_of s) t.commits h) at.own at.fits.knows)
+      by GaveUp at lives = absurd (cc)
+
+  -- an error that it ends with says that it is in doubt, where one of them was lost or is not refused
+  error_gives : (old new : Standing P Q K) (to : Posted) (h : List Event) (e : Error) → new.contents ≡ old.contents → StandFits w new to h → allows_data new.status ≡ false
+      → TransactionGives w old.options.retry_options old.start old.contents new.commits h (Err e) → IsRefusal e ⊎ ((is_undetermined e ≡ true) ⊎ IsSettled new h)
+  error_gives old new to h e same fits off (inr (none, nothing)) = absurd (no nothing)
+    where
+      no : IsNothing {Q = Q} (Err e) → ⊥
+      no (inl f) = cc
+      no (inr f) = cc
+  error_gives old new to h e same fits off (inl (parts, whole, fails)) = inr (by (undetermined new.commits) refl fails)
+    where
+      now : parts_of new.contents ≡ Some parts
+      now = ap parts_of same ∙ whole
+
+      by : (u : Option Ticket) → undetermined new.commits ≡ u → FailsWith w old.options.retry_options (version_of old.start) parts u h e → (is_undetermined e ≡ true) ⊎ IsSettled new h
+      by (Some t) is f = inl (undetermined_is e (view_of f.0) f.1)
+      by None is f = inr (record { parts = parts; closed = off; whole = now; knows = knows_commits new to h parts now fits; none = is })
+
   -- what it answers stands on what the call gives
-  call_stands : (old new : Standing P Q K) (h : List Event) (turn : Turn (Result (TxnAnswer Q) Error)) → IfEnds turn (λ v. allows_data new.status ≡ false) → IfEnds turn (λ v. TransactionGives w old.options.retry_options old.start old.contents new.commits h v) → CallStands w old new (answer_in answers.Called turn) h
-  call_stands old new h Stopped off g = tt
-  call_stands old new h Waits off g = tt
-  call_stands old new h (Ends (Err e)) off g = tt
-  call_stands old new h (Ends (Ok (answer.Committed t job))) off g = (off, g)
-  call_stands old new h (Ends (Ok answer.Unit)) off g = tt
-  call_stands old new h (Ends (Ok (answer.Value v))) off g = tt
-  call_stands old new h (Ends (Ok (answer.Exists b))) off g = tt
-  call_stands old new h (Ends (Ok (answer.Pairs ps))) off g = tt
-  call_stands old new h (Ends (Ok (answer.Keys ks))) off g = tt
-  call_stands old new h (Ends (Ok (answer.Ttl n))) off g = tt
+  call_stands : (old new : Standing P Q K) (to : Posted) (h : List Event) (turn : Turn (Result (TxnAnswer Q) Error)) → new.contents ≡ old.contents → StandFits w new to h → IfEnds turn (λ v. allows_data new.status ≡ false)
+      → IfEnds turn (λ v. TransactionGives w old.options.retry_options old.start old.contents new.commits h v) → CallStands w old new (answer_in answers.Called turn) h
+  call_stands old new to h Stopped same fits off g = tt
+  call_stands old new to h Waits same fits off g = tt
+  call_stands old new to h (Ends (Err e)) same fits off g = error_gives old new to h e same fits off g
+  call_stands old new to h (Ends (Ok (answer.Committed t job))) same fits off g = (off, g)
+  call_stands old new to h (Ends (Ok answer.Unit)) same fits off g = tt
+  call_stands old new to h (Ends (Ok (answer.Value v))) same fits off g = tt
+  call_stands old new to h (Ends (Ok (answer.Exists b))) same fits off g = tt
+  call_stands old new to h (Ends (Ok (answer.Pairs ps))) same fits off g = tt
+  call_stands old new to h (Ends (Ok (answer.Keys ks))) same fits off g = tt
+  call_stands old new to h (Ends (Ok (answer.Ttl n))) same fits off g = tt
 
-  -- and nothing is said of an error
-  error_stands : (old new : Standing P Q K) (h : List Event) (v : Result (TxnAnswer Q) Error) (e : Error) → v ≡ Err e → CallStands w old new (Some (answers.Called v)) h
-  error_stands old new h v e f = subst (λ (x : Result (TxnAnswer Q) Error). CallStands w old new (Some (answers.Called x)) h) (sym f) tt
+  -- of a refusal nothing else is said
+  error_stands : (old new : Standing P Q K) (h : List Event) (v : Result (TxnAnswer Q) Error) (e : Error) → IsRefusal e → v ≡ Err e → CallStands w old new (Some (answers.Called v)) h
+  error_stands old new h v e refusal f = subst (λ (x : Result (TxnAnswer Q) Error). CallStands w old new (Some (answers.Called x)) h) (sym f) (inl refusal)
 
-  refused_stands : (e : Error) (old new : Standing P Q K) (h : List Event) (turn : Turn (Result (TxnAnswer Q) Error)) → IsRefused e old new turn → CallStands w old new (answer_in answers.Called turn) h
-  refused_stands e old new h Stopped r = tt
-  refused_stands e old new h Waits r = tt
-  refused_stands e old new h (Ends v) r = error_stands old new h v e r.0
+  refused_stands : (e : Error) (old new : Standing P Q K) (h : List Event) (turn : Turn (Result (TxnAnswer Q) Error)) → IsRefusal e → IsRefused e old new turn → CallStands w old new (answer_in answers.Called turn) h
+  refused_stands e old new h Stopped refusal r = tt
+  refused_stands e old new h Waits refusal r = tt
+  refused_stands e old new h (Ends v) refusal r = error_stands old new h v e refusal r.0
 
   unknown_stands : (t : Ticket) (old new : Standing P Q K) (h : List Event) (turn : Turn (Result (TxnAnswer Q) Error)) → IsUndetermined t turn → CallStands w old new (answer_in answers.Called turn) h
   unknown_stands t old new h Stopped u = tt
   unknown_stands t old new h Waits u = tt
   unknown_stands t old new h (Ends (Ok v)) u = absurd u
-  unknown_stands t old new h (Ends (Err e)) u = tt
+  unknown_stands t old new h (Ends (Err e)) u = inr (inl (undetermined_is e (view_of (GrpcAPI t)) u))
 
   stand_same : (old new : Standing P Q K) (from to : Posted) (h : List Event) → new ≡ old → to ≡ from → StandFits w old from h → StandFits w new to h
   stand_same old new from to h e f x = subst (λ (t : Standing P Q K). StandFits w t to h) (sym e) (subst (λ (o : Posted). StandFits w old o h) (sym f) x)
@@ -220,9 +255,12 @@ module _ {P Q K A B D : Type 0} (w : Ways P Q K A B D) where
     beat = m.beat;
     numbered = m.numbered;
     licensed = λ h x. m.licensed h (x.0.1, x.1);
-    still = λ h x. (subst IsOrdered (sym same) x.0.0, IfKept-out turn kept m.still h (x.0.1, x.1), lives x.0.2);
-    stands = λ h x. call_stands old new _ turn off (IfEnds-weaker turn (λ v g. g h (x.0.1, x.1)) m.done);
+    still = λ h x. fits h x;
+    stands = λ h x. call_stands old new to _ turn same (fits h x) off (IfEnds-weaker turn (λ v g. g h (x.0.1, x.1)) m.done);
   }
+    where
+      fits : (h : List Event) → StandFits w old from h × known h → StandFits w new to (after from.line from.beat (hear h) m.sends)
+      fits h x = (subst IsOrdered (sym same) x.0.0, IfKept-out turn kept m.still h (x.0.1, x.1), lives x.0.2)
 
   -- It is asked for something.
 
@@ -241,35 +279,35 @@ module _ {P Q K A B D : Type 0} (w : Ways P Q K A B D) where
       subst (λ (t : Standing P Q K). StandFits w t to h) (sym e) (now, written_fits w old contents to h on idle now (subst (λ (o : Posted). TransactionFits w old o h) (sym quiet) x.1), x.2)
 
   writes_so : (act : Act) (refusal : Option Error) (wrote : Contents → Contents → Type 0) (old new : Standing P Q K) (from to : Posted) (turn : Turn (Result (TxnAnswer Q) Error))
-      → (refusal ≡ None → allows_data old.status ≡ true) → ((c d : Contents) → wrote c d → IsOrdered c → IsOrdered d) → WriteEnds refusal wrote old new turn → to ≡ from → old.work ≡ Idle
+      → (refusal ≡ None → allows_data old.status ≡ true) → ((e : Error) → refusal ≡ Some e → IsRefusal e) → ((c d : Contents) → wrote c d → IsOrdered c → IsOrdered d) → WriteEnds refusal wrote old new turn → to ≡ from → old.work ≡ Idle
       → IfKept turn (StandMoves w (tells.Act act) old new from to (answer_in answers.Called turn))
-  writes_so act refusal wrote old new from to Stopped may keeps ends quiet idle = tt
-  writes_so act refusal wrote old new from to Waits may keeps ends quiet idle = absurd ends
-  writes_so act (Some e) wrote old new from to (Ends v) may keeps ends quiet idle = asked_same act old new from to (Ends v) ends.1 quiet (λ h. error_stands old new h v e ends.0)
-  writes_so act None wrote old new from to (Ends v) may keeps ends quiet idle = asked act old new from to (Ends v) (keeps_written old new from to ends.1 (may refl) quiet)
+  writes_so act refusal wrote old new from to Stopped may refuses keeps ends quiet idle = tt
+  writes_so act refusal wrote old new from to Waits may refuses keeps ends quiet idle = absurd ends
+  writes_so act (Some e) wrote old new from to (Ends v) may refuses keeps ends quiet idle = asked_same act old new from to (Ends v) ends.1 quiet (λ h. error_stands old new h v e (refuses e refl) ends.0)
+  writes_so act None wrote old new from to (Ends v) may refuses keeps ends quiet idle = asked act old new from to (Ends v) (keeps_written old new from to ends.1 (may refl) quiet)
       (moved_quiet quiet (λ h x. written_stands old new new.contents from to h ends.1 (may refl) idle (keeps old.contents new.contents ends.2) quiet x.0)
       (λ h x. subst (λ (a : Result (TxnAnswer Q) Error). CallStands w old new (Some (answers.Called a)) h) (sym ends.0) tt))
 
   -- a write ends at once
   pub writes_move : (act : Act) (refusal : Option Error) (wrote : Contents → Contents → Type 0) (old new : Standing P Q K) (from to : Posted) (turn : Turn (Result (TxnAnswer Q) Error))
-      → (refusal ≡ None → allows_data old.status ≡ true) → ((c d : Contents) → wrote c d → IsOrdered c → IsOrdered d) → WriteEnds refusal wrote old new turn → is_open old.work ≡ false → GivesUp old new turn → to ≡ from
+      → (refusal ≡ None → allows_data old.status ≡ true) → ((e : Error) → refusal ≡ Some e → IsRefusal e) → ((c d : Contents) → wrote c d → IsOrdered c → IsOrdered d) → WriteEnds refusal wrote old new turn → is_open old.work ≡ false → GivesUp old new turn → to ≡ from
       → IfKept turn (StandMoves w (tells.Act act) old new from to (answer_in answers.Called turn))
-  writes_move act refusal wrote old new from to turn may keeps ends rests gives quiet = by (open_so old.work rests)
+  writes_move act refusal wrote old new from to turn may refuses keeps ends rests gives quiet = by (open_so old.work rests)
     where
       by : (old.work ≡ Idle) ⊎ (old.work ≡ GaveUp) → IfKept turn (StandMoves w (tells.Act act) old new from to (answer_in answers.Called turn))
-      by (inl idle) = writes_so act refusal wrote old new from to turn may keeps ends quiet idle
+      by (inl idle) = writes_so act refusal wrote old new from to turn may refuses keeps ends quiet idle
       by (inr e) = IfKept-stopped turn _ (gives.after e).0
 
   -- a commit begins, or is refused
-  pub commits_move : (act : Act) (e : Error) (old new : Standing P Q K) (from to : Posted) (turn : Turn (Result (TxnAnswer Q) Error)) → is_open old.work ≡ false
+  pub commits_move : (act : Act) (e : Error) (old new : Standing P Q K) (from to : Posted) (turn : Turn (Result (TxnAnswer Q) Error)) → IsRefusal e → is_open old.work ≡ false
       → (allows_commit old.status ≡ false → IsRefused e old new turn × (to ≡ from))
       → (allows_commit old.status ≡ true → TransactionMoves w (λ h. ⊤) (λ h. h) old new from to turn)
       → (old.work ≡ Idle → new.status ≡ status_step old.status (commits (commit_outcome turn) (is_some (parts_of old.contents))))
       → new ≡ record old { status = new.status; commits = new.commits; work = new.work; width = new.width } → GivesUp old new turn → Opens w new from to turn
       → IfKept turn (StandMoves w (tells.Act act) old new from to (answer_in answers.Called turn))
-  commits_move act e old new from to turn idle refused moves status kept gives opens = if_kept turn (λ alive. elim (is_flag (allows_commit old.status)) [
+  commits_move act e old new from to turn refusal idle refused moves status kept gives opens = if_kept turn (λ alive. elim (is_flag (allows_commit old.status)) [
     | inl may ↦ asked act old new from to turn (IfKept-out turn alive keeps) (stand_moved (λ h. ⊤) (λ h. h) old new from to turn alive (λ x. opened_lives new.work turn alive opens.next) contents (ends_all turn (IfKept-out turn alive (off_commit old new turn idle may status gives))) (moves may))
-    | inr bars ↦ let r = refused bars in asked_same act old new from to turn (refused_stays e old new turn r.0) r.1 (λ h. refused_stands e old new h turn r.0)
+    | inr bars ↦ let r = refused bars in asked_same act old new from to turn (refused_stays e old new turn r.0) r.1 (λ h. refused_stands e old new h turn refusal r.0)
   ])
     where
       contents : new.contents ≡ old.contents
@@ -289,16 +327,16 @@ module _ {P Q K A B D : Type 0} (w : Ways P Q K A B D) where
       by (inl i) (inr g) = absurd (let no = sym (ap has_given_up g) ∙ opened_lives new.work turn alive opens.next in cc)
 
   -- and so does a rollback
-  pub rollbacks_move : (act : Act) (e : Error) (old new : Standing P Q K) (from to : Posted) (turn : Turn (Result (TxnAnswer Q) Error)) → is_open old.work ≡ false
+  pub rollbacks_move : (act : Act) (e : Error) (old new : Standing P Q K) (from to : Posted) (turn : Turn (Result (TxnAnswer Q) Error)) → IsRefusal e → is_open old.work ≡ false
       → (allows_rollback old.status ≡ false → IsRefused e old new turn × (to ≡ from))
       → ((t : Ticket) → allows_rollback old.status ≡ true → undetermined old.commits ≡ Some t → IsUndetermined t turn × (new ≡ record old { work = new.work }) × (to ≡ from))
       → (allows_rollback old.status ≡ true → undetermined old.commits ≡ None → TransactionMoves w (λ h. ⊤) (λ h. h) old new from to turn)
       → (old.work ≡ Idle → new.status ≡ rolled_status old.status (is_some (undetermined old.commits)) turn)
       → new ≡ record old { status = new.status; commits = new.commits; work = new.work; width = new.width } → GivesUp old new turn → Opens w new from to turn → is_open new.work ≡ is_waiting turn
       → IfKept turn (StandMoves w (tells.Act act) old new from to (answer_in answers.Called turn))
-  rollbacks_move act e old new from to turn idle refused unknown moves status kept gives opens busy = if_kept turn (λ alive. elim (is_flag (allows_rollback old.status)) [
+  rollbacks_move act e old new from to turn refusal idle refused unknown moves status kept gives opens busy = if_kept turn (λ alive. elim (is_flag (allows_rollback old.status)) [
     | inl may ↦ by alive may (undetermined old.commits) refl
-    | inr bars ↦ let r = refused bars in asked_same act old new from to turn (refused_stays e old new turn r.0) r.1 (λ h. refused_stands e old new h turn r.0)
+    | inr bars ↦ let r = refused bars in asked_same act old new from to turn (refused_stays e old new turn r.0) r.1 (λ h. refused_stands e old new h turn refusal r.0)
   ])
     where
       contents : new.contents ≡ old.contents

@@ -8,8 +8,9 @@ use Rattle.txn_kv.specs.declared.request.Request.{Request}
 use Rattle.txn_kv.specs.declared.ticket.Ticket.{Ticket}
 use Rattle.txn_history.specs.Event.{Event}
 use Rattle.txn_history.specs.Event.Event.{Lost, Slept, Took}
+use Rattle.txn_history.specs.Plan.{Plan}
 use Rattle.txn_history.specs.Posted.{Within}
-use Rattle.txn_law.specs.Run.{IsPossible}
+use Rattle.txn_law.specs.Run.{IsPossible, IsRun}
 use Rattle.txn_plan.specs.declared.arrival.Arrival.TheVariants as arrivals
 use Rattle.txn_commit.specs.Committing.{Ways}
 use Rattle.txn_commit.specs.Sending.{plan_of}
@@ -17,18 +18,21 @@ use Rattle.txn_report.specs.declared.outcome.Outcome.{Outcome}
 use Rattle.txn_report.specs.declared.outcome.Outcome.TheVariants as outcomes
 use Rattle.txn_report.specs.declared.outcome.Payload.TheVariants as payloads
 use Rattle.txn_side.specs.Arising.{Arises, IsOutside, with_postings}
+use Rattle.txn_side.specs.Doubt.{SpeaksOf}
 use Rattle.txn_side.specs.Sight.{client_at, stand_at}
 use Rattle.txn_side.specs.declared.turn.Ending.{Ending}
 use Rattle.txn_side.specs.declared.turn.Posting.{Posting}
 use Rattle.txn_trace.specs.Seeing.{seen}
 use Rattle.txn_trace.proofs.Seen.{committed_so, had_seen, seen_had, took_seen}
-use Rattle.txn_clients.specs.Arising.{AreLawful, Arisen, ArisenFrom, HoldsAt, HoldsOf, IsCommittedSo, LeadsWith, StepsGroup, StepsTold, heard_by}
+use Rattle.txn_clients.specs.Arising.{AreLawful, Arisen, ArisenFrom, HavePlans, HoldsAt, HoldsOf, IsCommittedSo, LeadsWith, StepsGroup, StepsTold, heard_by}
 use Rattle.txn_clients.specs.Clients.{HasOut, rows_of, row_at, sight_of, stands_of}
+use Rattle.txn_clients.specs.Growing.{plans_found, plans_in, some_run}
 use Rattle.txn_clients.specs.Unmoved.{arises_when_longer, possible_unseen}
 use Rattle.txn_clients.specs.declared.clients.Clients.{Clients}
 use Rattle.txn_clients.specs.declared.row.Row.{Row}
 use Rattle.txn_clients.specs.declared.row.Row.TheVariants as row
 use Rattle.txn_clients.specs.declared.told.Told.TheVariants as tells
+use Rattle.txn_clients.proofs.Doubting.{speaks_of}
 use Rattle.txn_clients.proofs.Sides.{out_ticket}
 
 -- What is right after a history is right after what is shown of it.
@@ -70,18 +74,32 @@ module _ {P Q K A B D : Type 0} (w : Ways P Q K A B D) where
       → Arises (ArisenFrom w t) (λ h x o. HoldsAt (rows_of t) h x o) (λ x o. HoldsAt (rows_of s) before x o) at (with_postings posted shown) ended
   arises_by s t posted ended at shown h before is laws (askers, l) = record {
     now = (laws, askers, l.later, shows, l.arisen);
-    kept = λ x o k. subst (λ g. HoldsAt (rows_of t) g x o) shows (l.kept x o (seen h) (seen l.later) (within_shown h l.later l.within) (subst (λ g. HoldsAt (rows_of s) g x o) is k));
+    kept = λ x o k. subst (λ g. HoldsAt (rows_of t) g x o) shows (still x o k);
     answers = subst (λ es. All (λ (e : Ending). HoldsAt (rows_of t) (with_postings posted shown) (at e.line) e.outcome) es) (sym l.ends.ended)
         (all_as l.ends.more (λ e k. subst (λ g. HoldsAt (rows_of t) g (at e.line) e.outcome) shows (holds_shown l.later (rows_of t) (at e.line) e.outcome k)) l.ends.each);
+    doubts = subst (λ es. All (λ (e : Ending). SpeaksOf (λ x o. HoldsAt (rows_of s) before x o) (with_postings posted shown) (at e.line) e.line e.outcome) es) (sym l.ends.ended)
+        (all_as l.ends.more (λ e speaks. subst (λ g. SpeaksOf (λ x o. HoldsAt (rows_of s) before x o) g (at e.line) e.line e.outcome) shows (speaks_of plans l.later run (rows_of t) (λ x o. HoldsAt (rows_of s) before x o) (at e.line) e.line e.outcome have still speaks)) l.ends.doubts);
   }
     where
       shows : seen l.later ≡ with_postings posted shown
       shows = l.shows ∙ ap (λ ps. with_postings ps shown) (sym l.posted)
 
+      still : (x : ℕ) (o : Outcome) → HoldsAt (rows_of s) before x o → HoldsAt (rows_of t) (seen l.later) x o
+      still x o k = l.kept x o (seen h) (seen l.later) (within_shown h l.later l.within) (subst (λ g. HoldsAt (rows_of s) g x o) is k)
+
+      plans : ℕ → Plan
+      plans = plans_in (rows_of t)
+
+      have : HavePlans plans (rows_of t)
+      have = plans_found (rows_of t) l.arisen.apart
+
+      run : IsRun plans l.later
+      run = some_run w t askers [] l.later l.arisen
+
   -- Nothing happens to a client that is gone, or to nobody.
 
   pub passes_by : (s : Clients P Q K) (at : ℕ → ℕ) (e : Event) (h : List Event) → IsOutside e → IsPossible h e → ArisenFrom w s h → Arises (ArisenFrom w s) (λ h x o. HoldsAt (rows_of s) h x o) (λ x o. HoldsAt (rows_of s) h x o) at (e ∷ h) []
-  passes_by s at e h out may a = let r = arises_when_longer w s h e out may a in record { now = r.now; kept = r.kept; answers = All-nil _ }
+  passes_by s at e h out may a = let r = arises_when_longer w s h e out may a in record { now = r.now; kept = r.kept; answers = All-nil _; doubts = All-nil _ }
 
   -- nobody hears of it, and nothing is posted
   pub passes_quietly : (s : Clients P Q K) (posted : List Posting) (ended : List Ending) (at : ℕ → ℕ) (e : Event) (h : List Event) → posted ≡ [] → ended ≡ [] → IsOutside e → IsPossible h e → ArisenFrom w s h
@@ -92,7 +110,7 @@ module _ {P Q K A B D : Type 0} (w : Ways P Q K A B D) where
 
   -- nothing happens at all
   pub arises_still : (s : Clients P Q K) (at : ℕ → ℕ) (h : List Event) → ArisenFrom w s h → Arises (ArisenFrom w s) (λ h x o. HoldsAt (rows_of s) h x o) (λ x o. HoldsAt (rows_of s) h x o) at h []
-  arises_still s at h a = record { now = a; kept = λ x o k. k; answers = All-nil _ }
+  arises_still s at h a = record { now = a; kept = λ x o k. k; answers = All-nil _; doubts = All-nil _ }
 
   -- the line calls
   pub arises_sent : (s t : Clients P Q K) (posted : List Posting) (ended : List Ending) (at : ℕ → ℕ) (h : List Event)

@@ -60,7 +60,7 @@ pub no_flag : (b : Bool) → b ≡ true → b ≡ false → ⊥
 no_flag b p q = cc
 
 -- an error whose view says so
-undetermined_is : (e : Error) (v : ErrorView) → view_of e ≡ not_known v → is_undetermined e ≡ true
+pub undetermined_is : (e : Error) (v : ErrorView) → view_of e ≡ not_known v → is_undetermined e ≡ true
 undetermined_is e v h = ap is_undetermined_view h
 
 -- What is refused.

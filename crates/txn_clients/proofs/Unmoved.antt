@@ -198,6 +198,7 @@ module _ {P Q K A B D : Type 0} (w : Ways P Q K A B D) (p : IsLawful w.prewritin
     now = (laws, askers, g, shows, arisen_alike w p q k s t askers [] g rows nexts asks books a);
     kept = λ x o. holds_follows h (rows_of s) (rows_of t) follows x o;
     answers = All-nil _;
+    doubts = All-nil _;
   }
 
   -- one line more
@@ -236,4 +237,4 @@ module _ {P Q K A B D : Type 0} (w : Ways P Q K A B D) (p : IsLawful w.prewritin
 
 module _ {P Q K A B D : Type 0} (w : Ways P Q K A B D) where
   pub unmoved_arises : (s : Clients P Q K) → StillArises (ArisenFrom w s) (ArisenFrom w s) (λ h x o. HoldsAt (rows_of s) h x o) (λ h x o. HoldsAt (rows_of s) h x o)
-  unmoved_arises s h a = record { now = a; kept = λ x o k. k; answers = All-nil _ }
+  unmoved_arises s h a = record { now = a; kept = λ x o k. k; answers = All-nil _; doubts = All-nil _ }

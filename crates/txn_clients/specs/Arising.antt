@@ -1,11 +1,12 @@
 -- What clients can have arisen from: one history of a whole run, in which each request that they posted is licensed. It has what a run
 -- shows, and the sleeps that began, the asks for timestamps and their answers between.
-use Rattle.std.specs.Prelude.{IfSome, ◌≡◌, ◌≢◌, ◌⊎◌, ⊤, ℕ, Bool, true, false, List, [], ◌∷◌, ◌++◌, ◌-◌, map, Option, Some, None, Result, Ok, slice_set}
+use Rattle.std.specs.Prelude.{IfSome, ◌≡◌, ◌≢◌, ◌⊎◌, ⊤, ℕ, Bool, true, false, List, [], ◌∷◌, ◌++◌, ◌-◌, map, Option, Some, None, Result, Ok, Err, slice_set}
 use Rattle.std.proofs.Common.{suc, zero}
 use Rattle.std.specs.List.{All}
 use Rattle.txn_kv.specs.Timestamp.{version_of}
 use Rattle.txn_kv.specs.declared.errors.Error.{Error}
 use Rattle.txn_kv.specs.declared.outbox.Errand.TheVariants.{Ask, Send, Sleep}
+use Rattle.txn_kv.specs.declared.reply.Reply.{Reply}
 use Rattle.txn_kv.specs.declared.request.CommitRequest.{CommitRequest}
 use Rattle.txn_kv.specs.declared.request.Request.{Request}
 use Rattle.txn_kv.specs.declared.request.PessimisticLockRequest.{PessimisticLockRequest}
@@ -27,6 +28,7 @@ use Rattle.txn_plan.specs.Arrivals.{told_by}
 use Rattle.txn_merge.specs.declared.retry_options.RetryOptions.{RetryOptions}
 use Rattle.txn_plan.specs.declared.arrival.Arrival.TheVariants as arrivals
 use Rattle.txn_commit.specs.Committing.{Ways}
+use Rattle.txn_commit.specs.Following.{CommitsPrimary, KnowsCommits, undetermined}
 use Rattle.txn_commit.specs.Jobs.{JobFits}
 use Rattle.txn_commit.specs.Parts.{parts_of}
 use Rattle.txn_commit.specs.Sending.{MaySendBehind, plan_of}
@@ -42,7 +44,9 @@ use Rattle.txn_client.specs.declared.client_answer.ClientAnswer.TheVariants.{Beg
 use Rattle.txn_report.specs.declared.outcome.Outcome.{Outcome}
 use Rattle.txn_report.specs.declared.outcome.Outcome.TheVariants as outcomes
 use Rattle.txn_report.specs.declared.outcome.Payload.TheVariants as payloads
+use Rattle.txn_side.specs.Account.{is_undetermined}
 use Rattle.txn_side.specs.Arising.{answered_at, with_postings}
+use Rattle.txn_side.specs.Doubt.{IsRefusal}
 use Rattle.txn_side.specs.Sight.{client_at, next_at, stand_at}
 use Rattle.txn_side.specs.Sight.Stand.{Calling}
 use Rattle.txn_side.specs.declared.turn.Ending.{Ending}
@@ -93,9 +97,19 @@ abbrev pub AskStands : {P Q K : Type 0} → Wanted → Option (Answer P Q K) →
 AskStands x (Some (answers.Asked v)) h = CallGives x h v
 AskStands x answer h = ⊤
 
--- and what a transaction answers that is committed, which stood so before, and is written no more
+-- As far as a transaction knows, and it knows of each Commit of its primary, none was lost. It is written no more.
+pub record IsSettled {P Q K : Type 0} (t : Standing P Q K) (h : List Event) : Type 0 where
+  pub parts : CommitParts
+  pub closed : allows_data t.status ≡ false
+  pub whole : parts_of t.contents ≡ Some parts
+  pub knows : KnowsCommits (plan_of parts) (version_of t.start) t.commits h
+  pub none : undetermined t.commits ≡ None
+
+-- and what a transaction answers that is committed, which stood so before, and is written no more; or that fails: it was refused, or
+-- says that it is in doubt, or is in none
 abbrev pub CallStands : {P Q K A B D : Type 0} → Ways P Q K A B D → Standing P Q K → Standing P Q K → Option (Answer P Q K) → List Event → Type 0
 CallStands w old new (Some (answers.Called (Ok (answer.Committed t job)))) h = (allows_data new.status ≡ false) × TransactionGives w old.options.retry_options old.start old.contents new.commits h (Ok (answer.Committed t job))
+CallStands w old new (Some (answers.Called (Err e))) h = IsRefusal e ⊎ ((is_undetermined e ≡ true) ⊎ IsSettled new h)
 CallStands w old new answer h = ⊤
 
 -- A transaction can have arisen from the history, the keys of its buffer are in order, and it has not given up.
@@ -229,6 +243,24 @@ abbrev pub HoldsAt : {P Q K : Type 0} → List (Row P Q K) → List Event → �
 HoldsAt rows h zero o = ⊤
 HoldsAt rows h (suc i) o = HoldsOf h o (row_at rows i)
 
+-- Of each Commit of the primary of this transaction that was lost a reply was taken, too. The transaction is written no more.
+abbrev pub IsUndoubted : {P Q K : Type 0} → List Event → Row P Q K → Type 0
+IsUndoubted h (row.Begun c t m) = (parts : CommitParts) × (allows_data t.status ≡ false) × (parts_of t.contents ≡ Some parts) × ((u : Ticket) (r : CommitRequest) → Has h (Lost u (Commit r)) → CommitsPrimary (plan_of parts) (version_of t.start) r → (o : Reply) × Has h (Took u (Commit r) o))
+IsUndoubted h r = ⊥
+
+-- What a call of it that fails says is right then. In a longer history it need not be.
+abbrev pub SpeaksRight : {P Q K : Type 0} → List Event → Error → Row P Q K → Type 0
+SpeaksRight h e r = IsRefusal e ⊎ ((is_undetermined e ≡ true) ⊎ IsUndoubted h r)
+
+abbrev pub SpeaksRightAt : {P Q K : Type 0} → List (Row P Q K) → List Event → ℕ → Error → Type 0
+SpeaksRightAt rows h zero e = ⊥
+SpeaksRightAt rows h (suc i) e = SpeaksRight h e (row_at rows i)
+
+-- so of what is answered line n, of the transaction that stands at line x, if it is another
+abbrev pub EndSpeaks : {P Q K : Type 0} → List (Row P Q K) → List Event → ℕ → ℕ → Outcome → Type 0
+EndSpeaks rows h x n (outcomes.Err e) = x ≢ n → SpeaksRightAt rows h x e
+EndSpeaks rows h x n o = ⊤
+
 -- What was right of the rows stays so, in each longer history.
 abbrev pub KeepRight : {P Q K : Type 0} → List (Row P Q K) → List (Row P Q K) → Type 0
 KeepRight olds news = (x : ℕ) (o : Outcome) (h longer : List Event) → Within h longer → HoldsAt olds h x o → HoldsAt news longer x o
@@ -254,12 +286,13 @@ CanCome (tells.Heard (arrivals.Lost n)) o r h = IsPossible h (Lost (ticket_of o 
 CanCome told o r h = ⊤
 
 -- What a row answers: a transaction begins at what its line drew; a commit says where its primary is committed, and hands out the job
--- of the other keys, or that nothing was locked.
+-- of the other keys, or that nothing was locked; and a call that fails says whether it is in doubt.
 abbrev pub AnswerArises : {P Q K A B D : Type 0} → Ways P Q K A B D → (Ticket → List ℕ) → ℕ → Row P Q K → Option (Answer P Q K) → List Event → Type 0
 AnswerArises w askers line r (Some (answers.Asked (Ok (Begun b)))) h = IsDrawn askers h line (version_of b.start)
 AnswerArises w askers line r (Some (answers.Called (Ok (answer.Committed (Some t) job)))) h = IsCommittedSo h (version_of t) r × IfSome job (λ j. (o : Posted) → IsBehind w j o h r)
 AnswerArises w askers line r (Some (answers.Called (Ok (answer.Committed None None)))) h = IsCommittedUnlocked r
 AnswerArises w askers line r (Some (answers.Called (Ok (answer.Committed None (Some job))))) h = ⊥
+AnswerArises w askers line r (Some (answers.Called (Err e))) h = SpeaksRight h e r
 AnswerArises w askers line r answer h = ⊤
 
 -- Parts of a step
@@ -268,11 +301,12 @@ AnswerArises w askers line r answer h = ⊤
 abbrev pub heard_by : {P Q K : Type 0} → Clients P Q K → ℕ → ℕ
 heard_by s n = answered_at n (stand_at (stands_of (rows_of s)) n)
 
--- each that ended in a part answered what is right of what stands there
+-- each that ended in a part answered what is right of what stands there, and said then whether that is in doubt
 pub record EndsRight {P Q K : Type 0} (at : ℕ → ℕ) (t : Clients P Q K) (h : List Event) (before over : List Ending) : Type 0 where
   pub more : List Ending
   pub ended : over ≡ before ++ more
   pub each : All (λ (e : Ending). HoldsAt (rows_of t) h (at e.line) e.outcome) more
+  pub doubts : All (λ (e : Ending). EndSpeaks (rows_of t) h (at e.line) e.line e.outcome) more
 
 -- A part of a step leads on from the history before it: behind that are what was heard, of which a run shows so much, and what was
 -- posted then. The clients can have arisen from the whole.

@@ -88,6 +88,7 @@ module _ {P Q K A B D : Type 0} (w : Ways P Q K A B D) where
     now = (laws, askers, Sent t r ∷ g, ap (λ x. Sent t r ∷ x) shows, arisen_beating s askers [] g t r laws.prewriting laws.committing laws.rolling beat beats unused a);
     kept = λ x o. right_same (rows_of s) x o h (Sent t r ∷ h) (λ y i. inr i);
     answers = All-nil _;
+    doubts = All-nil _;
   }
     where
       unused : IsUnused g t

@@ -102,4 +102,5 @@ module _ {P Q K A B D : Type 0} (w : Ways P Q K A B D) where
     now = (laws, askers, e ∷ g, shows_outside e g out ∙ ap (λ x. e ∷ x) shows, arisen_outside w laws.prewriting laws.committing laws.rolling s askers [] g e out (possible_unseen e g out (subst (λ x. IsPossible x e) (sym shows) may)) a);
     kept = λ x o. right_same (rows_of s) x o h (e ∷ h) (λ y i. inr i);
     answers = All-nil _;
+    doubts = All-nil _;
   }

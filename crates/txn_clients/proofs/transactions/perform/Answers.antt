@@ -4,7 +4,7 @@ use Rattle.std.proofs.Common.{◌∙◌, ap, is_none, refl, sym}
 use Rattle.txn_kv.specs.declared.errors.Error.TheVariants.{DuplicateKeyInsertion, OperationAfterCommitError, Unimplemented}
 use Rattle.txn_history.specs.Turn.{turn_of}
 use Rattle.txn_buffer.specs.Contents.{known_at, known_value, write_at}
-use Rattle.txn_core.specs.Transaction.{insert_refusal, mutate_refusal, write_refusal}
+use Rattle.txn_core.specs.Transaction.{all_put_or_delete, insert_refusal, mutate_refusal, refused_unless, write_refusal}
 use Rattle.txn_side.specs.Account.{locked_all, mutated_all}
 use Rattle.txn_side.specs.declared.act.Act.TheVariants as acts
 use Rattle.txn_clients.specs.Accounts.{account_of}
@@ -14,6 +14,7 @@ use Rattle.txn_clients.proofs.Showing.{notes_so}
 use Rattle.txn_clients.proofs.Taking.{all_locked, all_mutated, as_act, insert_refused, mutate_refused, taken_write, write_refused}
 use Rattle.txn_buffer.specs.Writes.{after_delete, after_insert, after_put, delete_call, insert_call, put_call}
 use Rattle.txn_clients.proofs.Standing.{acts_as, locked_steps, may_write, may_write_so, mutated_steps, writes_goes, written_step}
+use Rattle.txn_clients.proofs.Doubting.{or_refuses, unless_refuses}
 use Rattle.txn_clients.proofs.Moving.{acts_move, writes_move}
 use Rattle.txn_clients.proofs.transactions.perform.Goals as goal
 
@@ -85,19 +86,19 @@ pub returns-in-Rollback-clause-goes : goal.returns-in-Rollback-clause-goes
 returns-in-Rollback-clause-goes g c = acts_as _ g.met.P.Plan.lawful g.met.Q.Plan.lawful g.met.K.Plan.lawful c.args.act acts.Rollback _ _ _ c.args.out.now.line (account_of c.args.transaction.now) c.args.transaction.now c.roll_back.new.transaction c.args.out.now c.roll_back.new.out (turn_of c.roll_back.result) c.in-Rollback.is c.roll_back.ensures.goes
 
 pub returns-in-Put-clause-moves : goal.returns-in-Put-clause-moves
-returns-in-Put-clause-moves g c = writes_move _ c.args.act _ _ c.args.transaction.now c.put.new.self c.args.out.now c.put.new._out (turn_of c.put.result) (λ e. may_write_so (allows_data c.args.transaction.now.status) OperationAfterCommitError e) (λ d f. written_step c.in-Put.key (λ d. after_put (write_at d c.in-Put.key) c.in-Put.value) (put_call c.in-Put.key c.in-Put.value) d f) c.put.ensures.ends c.requires.idle c.put.ensures.gives_up c.put.ensures.quiet.0
+returns-in-Put-clause-moves g c = writes_move _ c.args.act _ _ c.args.transaction.now c.put.new.self c.args.out.now c.put.new._out (turn_of c.put.result) (λ e. may_write_so (allows_data c.args.transaction.now.status) OperationAfterCommitError e) (λ e f. unless_refuses (allows_data c.args.transaction.now.status) OperationAfterCommitError e tt f) (λ d f. written_step c.in-Put.key (λ d. after_put (write_at d c.in-Put.key) c.in-Put.value) (put_call c.in-Put.key c.in-Put.value) d f) c.put.ensures.ends c.requires.idle c.put.ensures.gives_up c.put.ensures.quiet.0
 
 pub returns-in-Insert-clause-moves : goal.returns-in-Insert-clause-moves
-returns-in-Insert-clause-moves g c = writes_move _ c.args.act _ _ c.args.transaction.now c.insert.new.self c.args.out.now c.insert.new._out (turn_of c.insert.result) (λ e. may_write (allows_data c.args.transaction.now.status) OperationAfterCommitError _ e) (λ d f. written_step c.in-Insert.key (λ d. after_insert (write_at d c.in-Insert.key) c.in-Insert.value) (insert_call c.in-Insert.key c.in-Insert.value) d f) c.insert.ensures.ends c.requires.idle c.insert.ensures.gives_up c.insert.ensures.quiet.0
+returns-in-Insert-clause-moves g c = writes_move _ c.args.act _ _ c.args.transaction.now c.insert.new.self c.args.out.now c.insert.new._out (turn_of c.insert.result) (λ e. may_write (allows_data c.args.transaction.now.status) OperationAfterCommitError _ e) (λ e f. or_refuses (refused_unless (allows_data c.args.transaction.now.status) OperationAfterCommitError) (refused_unless (is_none (known_value (known_at c.args.transaction.now.contents c.in-Insert.key))) DuplicateKeyInsertion) e (λ d g. unless_refuses (allows_data c.args.transaction.now.status) OperationAfterCommitError d tt g) (λ d g. unless_refuses (is_none (known_value (known_at c.args.transaction.now.contents c.in-Insert.key))) DuplicateKeyInsertion d tt g) f) (λ d f. written_step c.in-Insert.key (λ d. after_insert (write_at d c.in-Insert.key) c.in-Insert.value) (insert_call c.in-Insert.key c.in-Insert.value) d f) c.insert.ensures.ends c.requires.idle c.insert.ensures.gives_up c.insert.ensures.quiet.0
 
 pub returns-in-Delete-clause-moves : goal.returns-in-Delete-clause-moves
-returns-in-Delete-clause-moves g c = writes_move _ c.args.act _ _ c.args.transaction.now c.delete.new.self c.args.out.now c.delete.new._out (turn_of c.delete.result) (λ e. may_write_so (allows_data c.args.transaction.now.status) OperationAfterCommitError e) (λ d f. written_step c.in-Delete.key (λ d. after_delete d.is_pessimistic (write_at d c.in-Delete.key)) (delete_call c.in-Delete.key) d f) c.delete.ensures.ends c.requires.idle c.delete.ensures.gives_up c.delete.ensures.quiet.0
+returns-in-Delete-clause-moves g c = writes_move _ c.args.act _ _ c.args.transaction.now c.delete.new.self c.args.out.now c.delete.new._out (turn_of c.delete.result) (λ e. may_write_so (allows_data c.args.transaction.now.status) OperationAfterCommitError e) (λ e f. unless_refuses (allows_data c.args.transaction.now.status) OperationAfterCommitError e tt f) (λ d f. written_step c.in-Delete.key (λ d. after_delete d.is_pessimistic (write_at d c.in-Delete.key)) (delete_call c.in-Delete.key) d f) c.delete.ensures.ends c.requires.idle c.delete.ensures.gives_up c.delete.ensures.quiet.0
 
 pub returns-in-Mutate-clause-moves : goal.returns-in-Mutate-clause-moves
-returns-in-Mutate-clause-moves g c = writes_move _ c.args.act _ _ c.args.transaction.now c.batch_mutate.new.self c.args.out.now c.batch_mutate.new._out (turn_of c.batch_mutate.result) (λ e. may_write (allows_data c.args.transaction.now.status) OperationAfterCommitError _ e) (λ d f. mutated_steps _ d f) c.batch_mutate.ensures.ends c.requires.idle c.batch_mutate.ensures.gives_up c.batch_mutate.ensures.quiet.0
+returns-in-Mutate-clause-moves g c = writes_move _ c.args.act _ _ c.args.transaction.now c.batch_mutate.new.self c.args.out.now c.batch_mutate.new._out (turn_of c.batch_mutate.result) (λ e. may_write (allows_data c.args.transaction.now.status) OperationAfterCommitError _ e) (λ e f. or_refuses (refused_unless (allows_data c.args.transaction.now.status) OperationAfterCommitError) (refused_unless (all_put_or_delete c.into_vec.result.items) Unimplemented) e (λ d g. unless_refuses (allows_data c.args.transaction.now.status) OperationAfterCommitError d tt g) (λ d g. unless_refuses (all_put_or_delete c.into_vec.result.items) Unimplemented d tt g) f) (λ d f. mutated_steps _ d f) c.batch_mutate.ensures.ends c.requires.idle c.batch_mutate.ensures.gives_up c.batch_mutate.ensures.quiet.0
 
 pub returns-in-Lock-clause-moves : goal.returns-in-Lock-clause-moves
-returns-in-Lock-clause-moves g c = writes_move _ c.args.act _ _ c.args.transaction.now c.lock_keys.new.self c.args.out.now c.lock_keys.new._out (turn_of c.lock_keys.result) (λ e. may_write_so (allows_data c.args.transaction.now.status) OperationAfterCommitError e) (λ d f. locked_steps _ d f) c.lock_keys.ensures.ends c.requires.idle c.lock_keys.ensures.gives_up c.lock_keys.ensures.quiet.0
+returns-in-Lock-clause-moves g c = writes_move _ c.args.act _ _ c.args.transaction.now c.lock_keys.new.self c.args.out.now c.lock_keys.new._out (turn_of c.lock_keys.result) (λ e. may_write_so (allows_data c.args.transaction.now.status) OperationAfterCommitError e) (λ e f. unless_refuses (allows_data c.args.transaction.now.status) OperationAfterCommitError e tt f) (λ d f. locked_steps _ d f) c.lock_keys.ensures.ends c.requires.idle c.lock_keys.ensures.gives_up c.lock_keys.ensures.quiet.0
 
 pub returns-in-Commit-clause-moves : goal.returns-in-Commit-clause-moves
 returns-in-Commit-clause-moves g c = acts_move _ c.args.act acts.Commit c.args.transaction.now c.commit.new.transaction c.args.out.now c.commit.new.out (turn_of c.commit.result) c.in-Commit.is c.commit.ensures.moves

@@ -27,4 +27,4 @@ returns-clause-goes g c = rollbacks_goes _ g.met.P.Plan.lawful g.met.Q.Plan.lawf
     (λ bars. notes_so c.args.out.now.line Rollback (account_of c.args.transaction.now) _ (rollback_barred c.args.transaction.now c.requires.quiet bars)) (λ trace k. k.1) refl c.in_ok-progress.ensures.refused c.in_ok-progress.ensures.undetermined c.in_ok-progress.ensures.moves (ap (λ t. t.start) c.in_ok-progress.ensures.kept) (ap (λ t. t.options) c.in_ok-progress.ensures.kept) (ap (λ t. t.contents) c.in_ok-progress.ensures.kept) c.in_ok-progress.ensures.opens c.in_ok-progress.ensures.busy c.requires.idle c.in_ok-progress.ensures.gives_up
 
 pub returns-clause-moves : goal.returns-clause-moves
-returns-clause-moves g c = rollbacks_move _ Rollback OperationAfterCommitError c.args.transaction.now c.rollback.new.self c.args.out.now c.rollback.new.out (turn_of (Ok c.in_ok-progress.progress)) c.requires.idle c.in_ok-progress.ensures.refused c.in_ok-progress.ensures.undetermined c.in_ok-progress.ensures.moves c.in_ok-progress.ensures.status c.in_ok-progress.ensures.kept c.in_ok-progress.ensures.gives_up c.in_ok-progress.ensures.opens c.in_ok-progress.ensures.busy
+returns-clause-moves g c = rollbacks_move _ Rollback OperationAfterCommitError c.args.transaction.now c.rollback.new.self c.args.out.now c.rollback.new.out (turn_of (Ok c.in_ok-progress.progress)) tt c.requires.idle c.in_ok-progress.ensures.refused c.in_ok-progress.ensures.undetermined c.in_ok-progress.ensures.moves c.in_ok-progress.ensures.status c.in_ok-progress.ensures.kept c.in_ok-progress.ensures.gives_up c.in_ok-progress.ensures.opens c.in_ok-progress.ensures.busy

@@ -1,0 +1,195 @@
+-- Whether a transaction is in doubt, and that a call of it that fails says so.
+use Rattle.std.proofs.Common.{◌≡◌, ◌≢◌, ◌⊎◌, inl, inr, ℕ, zero, suc, ◌-◌, ◌≤◌, Bool, true, false, List, [], ◌∷◌, Option, Some, None, refl, sym, ap, ◌∙◌, subst}
+use Rattle.txn_kv.specs.Timestamp.{version_of}
+use Rattle.txn_kv.specs.declared.errors.Error.{Error}
+use Rattle.txn_kv.specs.declared.reply.CommitResponse.{CommitResponse}
+use Rattle.txn_kv.specs.declared.reply.Reply.{Reply}
+use Rattle.txn_kv.specs.declared.reply.Reply.TheVariants as replies
+use Rattle.txn_kv.specs.declared.request.CommitRequest.{CommitRequest}
+use Rattle.txn_kv.specs.declared.request.PrewriteRequest.{PrewriteRequest}
+use Rattle.txn_kv.specs.declared.request.Request.{Request}
+use Rattle.txn_kv.specs.declared.request.Request.TheVariants.{Commit, Prewrite}
+use Rattle.txn_kv.specs.declared.ticket.Ticket.{Ticket}
+use Rattle.txn_history.specs.Event.{Event, Has}
+use Rattle.txn_history.specs.Event.Event.{Lost, Sent, Took}
+use Rattle.txn_history.specs.Licence.{PrimaryCommitted}
+use Rattle.txn_history.specs.Plan.{Key, Plan, has_key}
+use Rattle.txn_history.specs.Posted.{Within, Within-refl}
+use Rattle.txn_law.specs.Run.{IsAllowed, IsPossible, IsRun}
+use Rattle.txn_commit.specs.Following.{CommitsPrimary}
+use Rattle.txn_commit.specs.Parts.{parts_of}
+use Rattle.txn_commit.specs.Sending.{plan_of}
+use Rattle.txn_commit.specs.declared.commit_parts.CommitParts.{CommitParts}
+use Rattle.txn_commit.proofs.Keys.{has_only, only}
+use Rattle.txn_commit.proofs.Sending.{settled_refused}
+use Rattle.txn_core.specs.Transaction.{Standing, or_refused, refused_unless}
+use Rattle.txn_report.specs.declared.outcome.Outcome.{Outcome}
+use Rattle.txn_report.specs.declared.outcome.Outcome.TheVariants as outcomes
+use Rattle.txn_report.specs.declared.outcome.Payload.TheVariants as payloads
+use Rattle.txn_side.specs.Account.{is_undetermined}
+use Rattle.txn_side.specs.Arising.{with_postings}
+use Rattle.txn_side.specs.Doubt.{IsInDoubt, IsRefusal, SaysDoubt, SpeaksOf}
+use Rattle.txn_side.specs.declared.turn.Posting.{Posting}
+use Rattle.txn_side.specs.declared.turn.Posting.TheVariants.{Send, Sleep}
+use Rattle.txn_trace.specs.Seeing.{seen}
+use Rattle.txn_trace.proofs.Seen.{had_seen, seen_had}
+use Rattle.txn_clients.specs.Arising.{BeganAt, EndSpeaks, HasPlan, HavePlans, HoldsAt, IsCommittedSo, IsSettled, IsUndoubted, KeepRight, SpeaksRight, SpeaksRightAt}
+use Rattle.txn_clients.specs.Clients.{row_at}
+use Rattle.txn_clients.specs.Rows.{with_waits}
+use Rattle.txn_clients.specs.declared.row.Row.{Row}
+use Rattle.txn_clients.specs.declared.row.Row.TheVariants as row
+use Rattle.txn_clients.proofs.Telling.{hears_own}
+
+-- Refusals
+
+some_same : {X : Type 0} {a b : X} → Some a ≡ Some b → a ≡ b
+some_same e = cc
+
+none_some : {X : Type 0} (x : X) → None ≡ Some x → ⊥
+none_some x e = cc
+
+pub unless_refuses : (b : Bool) (f e : Error) → IsRefusal f → refused_unless b f ≡ Some e → IsRefusal e
+unless_refuses true f e r h = absurd (none_some e h)
+unless_refuses false f e r h = subst IsRefusal (some_same h) r
+
+pub or_refuses : (o later : Option Error) (e : Error) → ((d : Error) → o ≡ Some d → IsRefusal d) → ((d : Error) → later ≡ Some d → IsRefusal d) → or_refused o later ≡ Some e → IsRefusal e
+or_refuses None later e first then h = then e h
+or_refuses (Some d) later e first then h = first e h
+
+-- What a run tells of what was sent
+
+-- what was lost was sent
+lost_sent : (plans : ℕ → Plan) (h : List Event) (t : Ticket) (r : Request) → IsRun plans h → Has h (Lost t r) → Has h (Sent t r)
+lost_sent plans [] t r run i = absurd i
+lost_sent plans (e ∷ h) t r run (inl f) = let was : IsPossible h (Lost t r) = subst (IsPossible h) f run.0 in inr was
+lost_sent plans (e ∷ h) t r run (inr i) = inr (lost_sent plans h t r run.2 i)
+
+-- a Prewrite names the primary of the plan of its start
+prewrite_names : (plans : ℕ → Plan) (h : List Event) (t : Ticket) (r : PrewriteRequest) → IsRun plans h → Has h (Sent t (Prewrite r)) → r.primary_lock ≡ (plans r.start_version).primary
+prewrite_names plans [] t r run i = absurd i
+prewrite_names plans (e ∷ h) t r run (inl f) = let may : IsAllowed plans h (Sent t (Prewrite r)) = subst (IsAllowed plans h) f run.1 in may.1.primary
+prewrite_names plans (e ∷ h) t r run (inr i) = prewrite_names plans h t r run.2 i
+
+-- Nothing that is posted is lost by that.
+
+lost_before : (ps : List Posting) (h : List Event) (t : Ticket) (r : Request) → Has (with_postings ps h) (Lost t r) → Has h (Lost t r)
+lost_before [] h t r i = i
+lost_before (Send u to q askers ∷ ps) h t r i = elim (lost_before ps (Sent u q ∷ h) t r i) [ inl e ↦ absurd (cc) | inr j ↦ j ]
+lost_before (Sleep u ∷ ps) h t r i = lost_before ps h t r i
+
+pub none_lost : (ps : List Posting) (h later : List Event) → seen later ≡ with_postings ps (seen h) → (t : Ticket) (r : Request) → Has later (Lost t r) → Has h (Lost t r)
+none_lost ps h later shows t r i =
+    let before = lost_before ps (seen h) t r (subst (λ g. Has g (Lost t r)) shows (had_seen later (Lost t r) tt i)) in
+    let was = seen_had h (Lost t r) before in
+    was.0
+
+-- A history in which nothing has happened but that a Commit of one key was answered without error: what is committed by it has this
+-- start, and this primary.
+
+abbrev alone : ℕ → Key → CommitRequest
+alone s k = record { context = None; keys = k ∷ []; start_version = s; commit_version = 0 }
+
+abbrev fine : CommitResponse
+fine = record { region_error = None; error = None; commit_version = 0 }
+
+abbrev committed_alone : ℕ → Key → List Event
+committed_alone s k = Took (record { line = 0; beat = false; number = 0 }) (Commit (alone s k)) (replies.Commit fine) ∷ []
+
+took_same : (t u : Ticket) (q r : CommitRequest) (o p : Reply) → Took t (Commit q) o ≡ Took u (Commit r) p → q ≡ r
+took_same t u q r o p e = cc
+
+named_alone : (s c v : ℕ) (k : Key) (plan : Plan) → PrimaryCommitted plan (committed_alone s k) c v → (c ≡ s) × (plan.primary ≡ k)
+named_alone s c v k plan (t, r, o, inl taken, without, start, at, primary) =
+    let same = took_same _ t (alone s k) r (replies.Commit fine) (replies.Commit o) taken in
+    (sym start ∙ ap (λ (q : CommitRequest). q.start_version) (sym same), only k plan.primary (subst (λ (q : CommitRequest). has_key q.keys plan.primary ≡ true) (sym same) primary))
+named_alone s c v k plan (t, r, o, inr none, without, start, at, primary) = absurd none
+
+-- What is right of a row
+
+module _ {P Q K : Type 0} where
+  -- of what a settled transaction has sent each Commit of its primary was refused
+  settled_undoubted : (plans : ℕ → Plan) (h : List Event) (c n : ℕ) (t : Standing P Q K) → IsRun plans h → IsSettled t h → IsUndoubted {P = P} {Q = Q} {K = K} h (row.Begun c t n)
+  settled_undoubted plans h c n t run s = (
+    s.parts,
+    s.closed,
+    s.whole,
+    λ u r lost commits.
+        let refused = settled_refused (plan_of s.parts) (version_of t.start) t.commits h s.none s.knows u r (lost_sent plans h u (Commit r) run lost) commits in
+        (refused.0, refused.1),
+  )
+
+  pub settled_speaks : (plans : ℕ → Plan) (h : List Event) (c n : ℕ) (t : Standing P Q K) (e : Error) → IsRun plans h → IsRefusal e ⊎ ((is_undetermined e ≡ true) ⊎ IsSettled t h) → SpeaksRight {P = P} {Q = Q} {K = K} h e (row.Begun c t n)
+  settled_speaks plans h c n t e run (inl refused) = inl refused
+  settled_speaks plans h c n t e run (inr (inl says)) = inr (inl says)
+  settled_speaks plans h c n t e run (inr (inr settled)) = inr (inr (settled_undoubted plans h c n t run settled))
+
+  -- it waits for another line
+  undoubted_waits : (n : ℕ) (h : List Event) (r : Row P Q K) → IsUndoubted h r → IsUndoubted h (with_waits n r)
+  undoubted_waits n h (row.Begun c t m) x = x
+  undoubted_waits n h r x = x
+
+  pub speaks_waits : (n : ℕ) (h : List Event) (e : Error) (r : Row P Q K) → SpeaksRight h e r → SpeaksRight h e (with_waits n r)
+  speaks_waits n h e r (inl refused) = inl refused
+  speaks_waits n h e r (inr (inl says)) = inr (inl says)
+  speaks_waits n h e r (inr (inr clear)) = inr (inr (undoubted_waits n h r clear))
+
+  pub speaks_line : (rows : List (Row P Q K)) (h : List Event) (line : ℕ) (e : Error) → 1 ≤ line → SpeaksRight h e (row_at rows (line - 1)) → SpeaksRightAt rows h line e
+  speaks_line rows h line e one x = subst (λ n. SpeaksRightAt rows h n e) (hears_own line one) x
+
+  -- a line that stands for itself calls no transaction
+  pub speaks_own : (rows : List (Row P Q K)) (h : List Event) (line : ℕ) (o : Outcome) → EndSpeaks rows h line line o
+  speaks_own rows h line (outcomes.Err e) = λ apart. absurd (apart refl)
+  speaks_own rows h line o = tt
+
+  -- It stays so where no loss is new: a row that keeps what was right of it keeps its start and its primary.
+
+  module _ (h longer : List Event) (within : Within h longer) (unlost : (t : Ticket) (r : Request) → Has longer (Lost t r) → Has h (Lost t r)) where
+    undoubted_as : (s : ℕ) (k : Key) (new : Row P Q K) → IsCommittedSo (committed_alone s k) 0 new
+        → ((u : Ticket) (r : CommitRequest) → Has longer (Lost u (Commit r)) → r.start_version ≡ s → has_key r.keys k ≡ true → (o : Reply) × Has longer (Took u (Commit r) o)) → IsUndoubted longer new
+    undoubted_as s k (row.Begun c t m) (parts, closed, whole, committed) took =
+        let same = named_alone s (version_of t.start) 0 k (plan_of parts) committed in
+        (parts, closed, whole, λ u r lost commits. took u r lost (commits.start ∙ same.0) (subst (λ p. has_key r.keys p ≡ true) same.1 commits.primary))
+    undoubted_as s k new x took = absurd x
+
+    undoubted_on : (old new : Row P Q K) → ((g : List Event) → IsCommittedSo g 0 old → IsCommittedSo g 0 new) → IsUndoubted h old → IsUndoubted longer new
+    undoubted_on (row.Begun c t m) new kept (parts, closed, whole, took) =
+        undoubted_as (version_of t.start) parts.primary new
+        (kept (committed_alone (version_of t.start) parts.primary) (parts, closed, whole, (_, alone (version_of t.start) parts.primary, fine, inl refl, (refl, refl), refl, refl, has_only parts.primary)))
+        (λ u r lost start primary. let was = took u r (unlost u (Commit r) lost) (record { start = start; primary = primary }) in (was.0, within _ was.1))
+    undoubted_on old new kept x = absurd x
+
+    speaks_on : (olds news : List (Row P Q K)) (x : ℕ) (e : Error) → KeepRight olds news → SpeaksRightAt olds h x e → SpeaksRightAt news longer x e
+    speaks_on olds news zero e kept s = s
+    speaks_on olds news (suc i) e kept (inl refused) = inl refused
+    speaks_on olds news (suc i) e kept (inr (inl says)) = inr (inl says)
+    speaks_on olds news (suc i) e kept (inr (inr clear)) =
+        inr (inr (undoubted_on (row_at olds i) (row_at news i) (λ g x. kept (suc i) (outcomes.Ok (payloads.Commit (Some 0))) g g (Within-refl g) x) clear))
+
+    pub end_speaks_on : (olds news : List (Row P Q K)) (x n : ℕ) (o : Outcome) → KeepRight olds news → EndSpeaks olds h x n o → EndSpeaks news longer x n o
+    end_speaks_on olds news x n (outcomes.Err e) kept s = λ apart. speaks_on olds news x e kept (s apart)
+    end_speaks_on olds news x n o kept s = tt
+
+  -- What a machine sees of it: a transaction of which this is right is not in doubt.
+
+  module _ (plans : ℕ → Plan) (h : List Event) (run : IsRun plans h) where
+    not_doubted : (rows : List (Row P Q K)) (i v : ℕ) (r : Row P Q K) → HavePlans plans rows → row_at rows i ≡ r → BeganAt v r → IsUndoubted h r → IsInDoubt v (seen h) → ⊥
+    not_doubted rows i v (row.Begun c t m) have e began (parts, closed, whole, took) d =
+        let sent = seen_had h (Sent d.written (Prewrite d.prewrite)) d.sent in
+        let planned = subst (λ (r : Row P Q K). HasPlan plans r) e (have i) closed parts whole in
+        let primary : d.prewrite.primary_lock ≡ parts.primary =
+        prewrite_names plans h d.written d.prewrite run sent.0 ∙ ap (λ s. (plans s).primary) (d.start ∙ sym began) ∙ ap (λ (p : Plan). p.primary) planned in
+        let lost = seen_had h (Lost d.ticket (Commit d.commit)) d.lost in
+        let taken = took d.ticket d.commit lost.0 (record { start = d.same ∙ sym began; primary = subst (λ p. has_key d.commit.keys p ≡ true) primary d.primary }) in
+        d.untaken taken.0 (had_seen h (Took d.ticket (Commit d.commit) taken.0) tt taken.1)
+    not_doubted rows i v r have e began clear d = clear
+
+    says_doubt : (rows : List (Row P Q K)) (x v : ℕ) (e : Error) → HavePlans plans rows → HoldsAt rows (seen h) x (outcomes.Ok (payloads.Number v)) → SpeaksRightAt rows h x e → SaysDoubt (seen h) v e
+    says_doubt rows zero v e have began s = absurd s
+    says_doubt rows (suc i) v e have began (inl refused) = inl refused
+    says_doubt rows (suc i) v e have began (inr (inl says)) = inr (λ d. says)
+    says_doubt rows (suc i) v e have began (inr (inr clear)) = inr (λ d. absurd (not_doubted rows i v (row_at rows i) have refl began clear d))
+
+    -- so what a call answered tells of it what it has to
+    pub speaks_of : (rows : List (Row P Q K)) (held : ℕ → Outcome → Type 0) (x n : ℕ) (o : Outcome) → HavePlans plans rows → ((y : ℕ) (p : Outcome) → held y p → HoldsAt rows (seen h) y p) → EndSpeaks rows h x n o → SpeaksOf held (seen h) x n o
+    speaks_of rows held x n (outcomes.Err e) have kept s = λ apart v began. says_doubt rows x v e have (kept x (outcomes.Ok (payloads.Number v)) began) (s apart)
+    speaks_of rows held x n o have kept s = λ apart v began. tt
