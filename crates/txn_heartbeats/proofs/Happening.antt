@@ -2,12 +2,16 @@
 use Rattle.std.proofs.Common.{◌≡◌, inl, inr, ℕ, ◌+◌, ◌<◌, true, false, List, [], ◌∷◌, ◌++◌, refl, sym, ap, ◌∙◌, subst, arith}
 use Rattle.std.proofs.lemmas.List.Elements.{All-weaker}
 use Rattle.txn_history.specs.Event.{Event}
-use Rattle.txn_history.specs.Event.Event.{Sent}
+use Rattle.txn_history.specs.Event.Event.{Lost, Sent}
+use Rattle.txn_kv.specs.declared.request.PrewriteRequest.{PrewriteRequest}
 use Rattle.txn_kv.specs.declared.request.Request.{Request}
+use Rattle.txn_kv.specs.declared.request.Request.TheVariants as requests
 use Rattle.txn_kv.specs.declared.ticket.Ticket.{Ticket}
 use Rattle.txn_law.specs.Run.{IsPossible, IsUnused}
 use Rattle.txn_report.specs.declared.outcome.Outcome.{Outcome}
+use Rattle.txn_report.specs.declared.outcome.Outcome.TheVariants as outcomes
 use Rattle.txn_side.specs.Arising.{Arises, IsBeat, with_posting, with_postings}
+use Rattle.txn_side.specs.Doubt.{IsInDoubt, SpeaksOf, TellsDoubt}
 use Rattle.txn_side.specs.Sight.{next_at, ticket_in, with_next}
 use Rattle.txn_side.specs.declared.turn.Ending.{Ending}
 use Rattle.txn_side.specs.declared.turn.Posting.{Posting}
@@ -67,6 +71,44 @@ fresh_unused line from h t named fresh q has = absurd (omega (arith, below))
     below : next_at from line < next_at from line
     below = subst (λ (v : Ticket). v.number < next_at from v.line) named (fresh t q has (ap (λ (v : Ticket). v.beat) named))
 
+-- What is in doubt: what heartbeats post is no Prewrite, and no loss, so it puts no transaction in doubt.
+
+beat_prewrites : (t u : Ticket) (r : Request) (q : PrewriteRequest) → IsBeat r → Sent t r ≡ Sent u (requests.Prewrite q) → ⊥
+beat_prewrites t u r q beat e = subst IsBeat (sent_same e) beat
+  where
+    sent_same : Sent t r ≡ Sent u (requests.Prewrite q) → r ≡ requests.Prewrite q
+    sent_same same = cc
+
+sent_lost : (t u : Ticket) (r q : Request) → Sent t r ≡ Lost u q → ⊥
+sent_lost t u r q e = cc
+
+doubt_sent : (s : ℕ) (h : List Event) (t : Ticket) (r : Request) → IsBeat r → IsInDoubt s (Sent t r ∷ h) → IsInDoubt s h
+doubt_sent s h t r beat d = record {
+  written = d.written;
+  prewrite = d.prewrite;
+  sent = elim d.sent [ inl same ↦ absurd (beat_prewrites t d.written r d.prewrite beat same) | inr was ↦ was ];
+  start = d.start;
+  ticket = d.ticket;
+  commit = d.commit;
+  lost = elim d.lost [ inl same ↦ absurd (sent_lost t d.ticket r (requests.Commit d.commit) same) | inr was ↦ was ];
+  untaken = λ o took. d.untaken o (inr took);
+  same = d.same;
+  primary = d.primary;
+}
+
+doubt_before : (line : ℕ) (from to : List ℕ) (ps : List Posting) (h : List Event) (s : ℕ) → AreBeats line from ps to → IsInDoubt s (with_postings ps h) → IsInDoubt s h
+doubt_before line from to [] h s b d = d
+doubt_before line from to (Sleep t ∷ ps) h s b d = doubt_before line (with_next from line) to ps h s b.1 d
+doubt_before line from to (Send t target r askers ∷ ps) h s b d = doubt_sent s h t r b.0.beats.0 (doubt_before line (with_next from line) to ps (Sent t r ∷ h) s b.1 d)
+
+tells_still : (h longer : List Event) (s : ℕ) (o : Outcome) → (IsInDoubt s longer → IsInDoubt s h) → TellsDoubt h s o → TellsDoubt longer s o
+tells_still h longer s (outcomes.Err e) before told = elim told [ inl refused ↦ inl refused | inr says ↦ inr (λ d. says (before d)) ]
+tells_still h longer s o before told = tt
+
+-- what a call said before that of the doubt of a transaction is right still
+speaks_still : (line : ℕ) (from to : List ℕ) (ps : List Posting) (held : ℕ → Outcome → Type 0) (h : List Event) (x n : ℕ) (o : Outcome) → AreBeats line from ps to → SpeaksOf held h x n o → SpeaksOf held (with_postings ps h) x n o
+speaks_still line from to ps held h x n o b speaks = λ other s began. tells_still h (with_postings ps h) s o (doubt_before line from to ps h s b) (speaks other s began)
+
 -- What a heartbeat posts
 
 -- They can have arisen from the history with these postings, and what was right is right still.
@@ -94,4 +136,5 @@ module _ (arises : List Event → Type 0) (holds : List Event → ℕ → Outcom
         now = (more.now, more.fresh);
         kept = λ x o k. more.kept x o (a.kept x o k);
         answers = All-weaker (λ e. holds (with_postings ps h) (at e.line) e.outcome) (λ e. holds (with_postings qs (with_postings ps h)) (at e.line) e.outcome) (λ e k. more.kept (at e.line) e.outcome k) es a.answers;
+        doubts = All-weaker (λ e. SpeaksOf held (with_postings ps h) (at e.line) e.line e.outcome) (λ e. SpeaksOf held (with_postings qs (with_postings ps h)) (at e.line) e.line e.outcome) (λ e k. speaks_still line from to qs held (with_postings ps h) (at e.line) e.line e.outcome b k) es a.doubts;
       })

@@ -18,11 +18,13 @@ use Rattle.txn_law.specs.Run.{IsPossible}
 use Rattle.txn_report.specs.declared.outcome.Outcome.{Outcome}
 use Rattle.txn_side.specs.Account.{Account}
 use Rattle.txn_side.specs.Arising.{Arises, ArisesAwake, ArisesHearing, ArisesOn, IsBeat, IsOutside, with_postings}
+use Rattle.txn_side.specs.Doubt.{SpeaksOf}
 use Rattle.txn_side.specs.Sight.{Acts, Asks, Goes, Sight, commits, is_live, line_count, opened, with_stand}
 use Rattle.txn_side.specs.Sight.Stand.{Asking, Calling, HasBegun, Idle}
 use Rattle.txn_side.specs.Trace.{Trace}
 use Rattle.txn_side.specs.Waiting.{Awaited, posted_in}
 use Rattle.txn_side.specs.declared.act.Act.{Act}
+use Rattle.txn_side.specs.declared.turn.Ending.{Ending}
 use Rattle.txn_side.specs.declared.turn.Turn.{Turn}
 use Rattle.txn_heartbeats.specs.Beating.{AreBeats, AreFresh, IsLine, PostsBeats, with_beats}
 use Rattle.txn_heartbeats.specs.Hearts.{ArisesIn, AreAlive, IsReady, IsUnbeaten, beats_of, jobs_of, outbox_at, sight_of}
@@ -131,6 +133,7 @@ module _ {S H : Type 0} (arises : S → List Event → Type 0) (holds : S → Li
         now = record { side = r.now; fresh = fresh_calls (beats_of new) (posted_in turn) h calls (subst (λ bs. AreFresh bs h) (sym same) a.fresh) };
         kept = r.kept;
         answers = r.answers;
+        doubts = r.doubts;
       }
 
   pub hearing_beside : (s : Sight) (event : Request → Event) (turn : Turn) → ((r : Request) → IsOutside (event r)) → AreCalls turn.posted.items → beats_of new ≡ beats_of old → ArisesHearing (arises old.side) (arises new.side) (holds old.side) (holds new.side) s event turn
@@ -141,6 +144,7 @@ module _ {S H : Type 0} (arises : S → List Event → Type 0) (holds : S → Li
         now = record { side = done.now; fresh = fresh_calls (beats_of new) turn.posted.items (event r ∷ h) calls (fresh_outside (beats_of new) h (event r) (outside r) (subst (λ bs. AreFresh bs h) (sym same) a.fresh)) };
         kept = done.kept;
         answers = done.answers;
+        doubts = done.doubts;
       }
 
   pub awake_beside : (s : Sight) (t : Ticket) (turn : Turn) → AreCalls turn.posted.items → beats_of new ≡ beats_of old → ArisesAwake (arises old.side) (arises new.side) (holds old.side) (holds new.side) s t turn
@@ -151,6 +155,7 @@ module _ {S H : Type 0} (arises : S → List Event → Type 0) (holds : S → Li
         now = record { side = done.now; fresh = fresh_calls (beats_of new) turn.posted.items (Slept t ∷ h) calls (fresh_outside (beats_of new) h (Slept t) tt (subst (λ bs. AreFresh bs h) (sym same) a.fresh)) };
         kept = done.kept;
         answers = done.answers;
+        doubts = done.doubts;
       }
 
   module _ (beating : (s : S) (h : List Event) (t : Ticket) (r : Request) → t.beat ≡ true → IsBeat r → IsPossible h (Sent t r) → arises s h → Arises (arises s) (holds s) (holds s h) (λ n. n) (Sent t r ∷ h) []) where
@@ -165,6 +170,7 @@ module _ {S H : Type 0} (arises : S → List Event → Type 0) (holds : S → Li
           now = record { side = subst (λ s. arises s (with_postings (turn.posted.items ++ p.posted) h)) (sym side) then.now.0; fresh = then.now.1 };
           kept = λ x o k. subst (λ s. holds s (with_postings (turn.posted.items ++ p.posted) h) x o) (sym side) (then.kept x o k);
           answers = subst (λ s. All (λ e. holds s (with_postings (turn.posted.items ++ p.posted) h) (at e.line) e.outcome) turn.ended.items) (sym side) then.answers;
+          doubts = then.doubts;
         }))
 
     module _ (longer : (s : S) (h : List Event) (e : Event) → IsOutside e → IsPossible h e → arises s h → Arises (arises s) (holds s) (holds s h) (λ n. n) (e ∷ h) []) where
@@ -179,4 +185,5 @@ module _ {S H : Type 0} (arises : S → List Event → Type 0) (holds : S → Li
             now = record { side = more.now; fresh = more.fresh };
             kept = λ x o k. more.kept x o (lent.kept x o (heard.kept x o k));
             answers = All-nil _;
+            doubts = All-nil (λ (d : Ending). SpeaksOf (holds old.side h) (with_postings turn.posted.items (e ∷ h)) (at d.line) d.line d.outcome);
           })
