@@ -66,8 +66,10 @@ use Rattle.txn_lines.specs.declared.begin_options.BeginOptions.{BeginOptions}
 use Rattle.txn_clients.specs.Failing.{AreRetriesOf, CallFailed, CallRefused, FailsFor, HasFailedFor, KnownTransaction}
 use Rattle.txn_run.specs.Behind.{AreBehind}
 use Rattle.txn_run.specs.Program.{RanScript}
+use Rattle.txn_run.specs.Refused.{AreExact}
 use Rattle.txn_run.proofs.Asking.{fewer_refused, refused_again}
 use Rattle.txn_run.proofs.Calming.{fails_calmly}
+use Rattle.txn_run.proofs.Doubting.{told_of_doubt}
 use Rattle.txn_run.proofs.Matching.{lines_kind}
 use Rattle.txn_run.proofs.Refusing.{all_exact, never_caused}
 use Rattle.txn_run.proofs.Wholeness.{lines_whole}
@@ -331,13 +333,20 @@ ran_script bytes lines items report same script lawful causes behind = record {
   script = script;
   lawful = as_script;
   causes = told;
-  exact = all_exact (λ n e. IsCaused (trace_at (reverse lines) report n) n e) (λ n e is c. never_caused (trace_at (reverse lines) report n) n e is c) report.outcomes report.ended (reverse lines) as_script.accounts told;
+  doubts = told_of_doubt (reverse lines) report as_script.events stands.arisen.doubts exact;
+  exact = exact;
   calm = causes_meet (λ n e c. fails_calmly (trace_at (reverse lines) report n) n e c) report.outcomes report.ended (reverse lines) told;
-  whole = lines_whole plans (reverse lines) report (subst (λ ls. AreBehind plans (reverse ls) report) same behind) as_script.folded as_script.told as_script.events as_script.accounts;
+  whole = lines_whole plans (reverse lines) report stands as_script.folded as_script.told as_script.events as_script.accounts;
 }
   where
     as_script : Lawful lines report
     as_script = subst (λ ls. Lawful ls report) same lawful
 
+    stands : AreBehind plans (reverse lines) report
+    stands = subst (λ ls. AreBehind plans (reverse ls) report) same behind
+
     told : HaveCauses (reverse lines) report
-    told = have_causes_told (reverse lines) report (subst (λ ls. AreBehind plans (reverse ls) report) same behind) (subst (λ ls. CausesMeetLines (FailsFor plans) (reverse ls) report) same causes)
+    told = have_causes_told (reverse lines) report stands (subst (λ ls. CausesMeetLines (FailsFor plans) (reverse ls) report) same causes)
+
+    exact : AreExact (reverse lines) report
+    exact = all_exact (λ n e. IsCaused (trace_at (reverse lines) report n) n e) (λ n e is c. never_caused (trace_at (reverse lines) report n) n e is c) report.outcomes report.ended (reverse lines) as_script.accounts told

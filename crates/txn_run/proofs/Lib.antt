@@ -1,5 +1,6 @@
 mod Behind
 mod ServedOnce
+mod LostOrTaken
 mod Stages
 mod Unlocked
 mod Wholeness
@@ -7,5 +8,6 @@ mod Refusing
 mod Calming
 mod Matching
 mod Asking
+mod Doubting
 mod Causes
 mod Programs

@@ -22,10 +22,11 @@ use Rattle.txn_machine.specs.Script.{outcome_of}
 use Rattle.txn_report.specs.declared.outcome.Outcome.{Outcome}
 use Rattle.txn_report.specs.declared.outcome.Outcome.TheVariants.{Err}
 use Rattle.txn_side.specs.Account.{Account, refusal}
+use Rattle.txn_side.specs.Doubt.{IsRefusal}
 use Rattle.txn_side.specs.Trace.{IsRefusedIn, Refuses, Trace}
 use Rattle.txn_tso.specs.Oracle.{granted, granted_if, has_version, is_unlike}
 use Rattle.txn_run.specs.Caused.{HeardBy, IsCaused, IsExplained, IsSpentFor, IsRollbackRefused, IsUndetermined}
-use Rattle.txn_run.specs.Refused.{AllRefusalsMeet, IsRefusal, RefusalMeets}
+use Rattle.txn_run.specs.Refused.{AllRefusalsMeet, RefusalMeets}
 
 -- none of them is caused by what came
 

@@ -40,7 +40,7 @@ served_ticket u t q r p o e = cc
 refused_ticket : (u t : Ticket) (q r : Request) (p o : Reply) → Refused u q p ≡ Refused t r o → u ≡ t
 refused_ticket u t q r p o e = cc
 
-alike : (u t : Ticket) → u ≡ t → same_ticket u t ≡ true
+pub alike : (u t : Ticket) → u ≡ t → same_ticket u t ≡ true
 alike u t e = subst (λ v. same_ticket u v ≡ true) e (ticket_itself u)
 
 is_served_so : (es : List Event) (t : Ticket) (r : Request) (o : Reply) → Has es (Served t r o) → is_served es t ≡ true
@@ -111,7 +111,7 @@ module _ (es : List Event) (t : Ticket) (unserved : is_served es t ≡ false) (i
 
 -- What lines do
 
-both : (a b : Bool) → (a && b) ≡ true → (a ≡ true) × (b ≡ true)
+pub both : (a b : Bool) → (a && b) ≡ true → (a ≡ true) × (b ≡ true)
 both true true e = (refl, refl)
 both true false e = absurd (cc)
 both false b e = absurd (cc)
@@ -155,7 +155,7 @@ refuses_once t (Some r) es unserved i = by (busy_reply r)
     by None = i
     by (Some x) = aside_once (Refused t r x ∷ es) (Took t r x) tt (refused_once es t unserved i r x)
 
-done_so : (b : Bool) (o : Outcome) → o ≡ done_if b → is_done o ≡ true → b ≡ true
+pub done_so : (b : Bool) (o : Outcome) → o ≡ done_if b → is_done o ≡ true → b ≡ true
 done_so true o e done = refl
 done_so false o e done = absurd (let no = sym (ap is_done e) ∙ done in cc)
 

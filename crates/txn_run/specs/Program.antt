@@ -13,6 +13,7 @@ use Rattle.txn_report.specs.Text.{text_of_report}
 use Rattle.txn_stream.specs.Bytes.{Rose, ReadsAll}
 use Rattle.txn_run.specs.Calm.{AreCalm}
 use Rattle.txn_run.specs.Caused.{HaveCauses}
+use Rattle.txn_run.specs.Doubt.{AreToldOfDoubt}
 use Rattle.txn_run.specs.Refused.{AreExact}
 use Rattle.txn_run.specs.Whole.{AreWhole}
 use Rattle.txn_run.specs.declared.program.End.{End}
@@ -36,6 +37,8 @@ pub record RanScript (bytes : List ℕ) (report : Report) : Type 0 where
   pub lawful : Lawful lines report
   -- and each call that failed has its cause
   pub causes : HaveCauses (reverse lines) report
+  -- a call of a transaction that is in doubt fails with an error that says so
+  pub doubts : AreToldOfDoubt (reverse lines) report
   -- one is refused only by how far its transaction has come, and by what it has written
   pub exact : AreExact (reverse lines) report
   -- and one with which nothing went wrong does not fail

@@ -1,7 +1,6 @@
 -- Which errors come only where a line is refused.
-use Rattle.std.specs.Prelude.{◌≡◌, ⊤, ℕ, List, [], ◌∷◌, length, Option, Some, None}
+use Rattle.std.specs.Prelude.{◌≡◌, ℕ, List, [], ◌∷◌, length, Option, Some, None}
 use Rattle.txn_kv.specs.declared.errors.Error.{Error}
-use Rattle.txn_kv.specs.declared.errors.Error.TheVariants.{DuplicateKeyInsertion, OperationAfterCommitError, Unimplemented}
 use Rattle.txn_lines.specs.declared.line.Line.{Line}
 use Rattle.txn_machine.specs.Accounts.{Ask, account_of, ask_of}
 use Rattle.txn_machine.specs.Causes.{ended_of}
@@ -10,15 +9,9 @@ use Rattle.txn_report.specs.declared.outcome.Outcome.{Outcome}
 use Rattle.txn_report.specs.declared.outcome.Outcome.TheVariants.{Err}
 use Rattle.txn_report.specs.declared.report.Report.{Report}
 use Rattle.txn_side.specs.Account.{Account, refusal}
+use Rattle.txn_side.specs.Doubt.{IsRefusal}
 
--- with these a line is refused by how far its transaction has come, and by what it has written
-abbrev pub IsRefusal : Error → Type 0
-IsRefusal OperationAfterCommitError = ⊤
-IsRefusal Unimplemented = ⊤
-IsRefusal DuplicateKeyInsertion = ⊤
-IsRefusal _ = ⊥
-
--- what a line asks ends with one of them only where it is refused so
+-- what a line asks ends with a refusal only where it is refused so
 abbrev pub RefusalMeets : (ℕ → Account) → Option Ask → Outcome → Type 0
 RefusalMeets accounts None o = (e : Error) → IsRefusal e → o ≡ Err e → ⊥
 RefusalMeets accounts (Some ask) o = (e : Error) → IsRefusal e → o ≡ Err e → refusal ask.act (accounts ask.transaction) ≡ Some e

@@ -1,0 +1,138 @@
+-- A call of a transaction of which a Commit was lost fails with an error that says so.
+use Rattle.std.proofs.Common.{◌≡◌, ◌≢◌, ◌⊎◌, inl, inr, ℕ, suc, Bool, true, false, if◌then◌else◌, List, [], ◌∷◌, ◌++◌, length, Option, Some, None, nat_lt, refl, sym, ap, ◌∙◌, subst, arith}
+use Rattle.txn_kv.specs.declared.errors.Error.{Error}
+use Rattle.txn_history.specs.Among.{IsAmong}
+use Rattle.txn_history.specs.Event.{Event}
+use Rattle.txn_kv.specs.declared.request.Request.TheVariants.{Commit}
+use Rattle.txn_lines.specs.Lines.{line_at}
+use Rattle.txn_lines.specs.declared.line.Line.{Line}
+use Rattle.txn_machine.specs.Accounts.{Ask, account_of, ask_of}
+use Rattle.txn_machine.specs.Arising.{AllSpeak}
+use Rattle.txn_machine.specs.Causes.{EventsMeetLines, Role, ended_of, lines_before, role_of}
+use Rattle.txn_machine.specs.Causes.Role.{AsksTime, MakesClient, NoCall, UsesTransaction}
+use Rattle.txn_machine.specs.Failing.{AllCausesMeet, CauseMeets, calls_by, calls_of}
+use Rattle.txn_machine.specs.Script.{history, outcome_of}
+use Rattle.txn_machine.proofs.Numberings.{line_new, line_old, line_range}
+use Rattle.txn_report.specs.declared.outcome.Outcome.{Outcome}
+use Rattle.txn_report.specs.declared.outcome.Outcome.TheVariants.{Ok, Err}
+use Rattle.txn_report.specs.declared.outcome.Payload.TheVariants.{Number}
+use Rattle.txn_report.specs.declared.report.Report.{Report}
+use Rattle.txn_side.specs.Account.{Account, is_undetermined}
+use Rattle.txn_side.specs.Doubt.{IsInDoubt, IsRefusal}
+use Rattle.txn_side.specs.Trace.{Call}
+use Rattle.txn_run.specs.Doubt.{AreToldOfDoubt, HasLostCommit, TellsOfDoubt}
+use Rattle.txn_run.specs.Refused.{AllRefusalsMeet, AreExact, RefusalMeets}
+use Rattle.txn_run.proofs.LostOrTaken.{AreLostOrTaken, history_apart_by}
+
+-- Which lines call, and whom.
+
+either_among : (xs ys : List Call) (c : Call) → IsAmong (xs ++ ys) c → IsAmong xs c ⊎ IsAmong ys c
+either_among [] ys c h = inr h
+either_among (x ∷ xs) ys c (inl e) = inl (inl e)
+either_among (x ∷ xs) ys c (inr h) = elim (either_among xs ys c h) [ inl a ↦ inl (inr a) | inr a ↦ inr a ]
+
+later_among : (xs ys : List Call) (c : Call) → IsAmong ys c → IsAmong (xs ++ ys) c
+later_among [] ys c h = h
+later_among (x ∷ xs) ys c h = inr (later_among xs ys c h)
+
+-- a line calls for itself alone
+one_calls : (n : ℕ) (role : Role) (c : Call) → IsAmong (calls_by n role) c → n ≡ c.line
+one_calls n MakesClient c h = absurd h
+one_calls n (AsksTime begins client) c (inl e) = ap (λ (x : Call). x.line) e
+one_calls n (AsksTime begins client) c (inr h) = absurd h
+one_calls n (UsesTransaction commits x) c (inl e) = ap (λ (x : Call). x.line) e
+one_calls n (UsesTransaction commits x) c (inr h) = absurd h
+one_calls n NoCall c h = absurd h
+
+-- the line of this number is there, and calls so
+record CallsSo (script : List Line) (c : Call) : Type 0 where
+  line : Line
+  there : line_at script c.line ≡ Some line
+  calls : IsAmong (calls_by c.line (role_of line)) c
+
+calls_so : (script : List Line) (c : Call) → IsAmong (calls_of script) c → CallsSo script c
+calls_so [] c h = absurd h
+calls_so (l ∷ before) c h = elim (either_among (calls_by (suc (length before)) (role_of l)) (calls_of before) c h) [ inl here ↦ newest here (one_calls (suc (length before)) (role_of l) c here) | inr older ↦ earlier (calls_so before c older) ]
+  where
+    newest : IsAmong (calls_by (suc (length before)) (role_of l)) c → suc (length before) ≡ c.line → CallsSo (l ∷ before) c
+    newest here is = record {
+      line = l;
+      there = subst (λ n. line_at (l ∷ before) n ≡ Some l) is (line_new l before);
+      calls = subst (λ n. IsAmong (calls_by n (role_of l)) c) is here;
+    }
+
+    earlier : CallsSo before c → CallsSo (l ∷ before) c
+    earlier k =
+        let most = (line_range before c.line k.line k.there).1 in
+        let apart : c.line ≢ suc (length before) = λ e. omega (arith, most, e) in
+        record { line = k.line; there = line_old l before c.line apart ∙ k.there; calls = k.calls }
+
+-- what called in earlier lines calls in the script
+called_before : (script : List Line) (n : ℕ) (c : Call) → IsAmong (calls_of (lines_before script n)) c → IsAmong (calls_of script) c
+called_before [] n c h = h
+called_before (l ∷ before) n c h = by (nat_lt (length (l ∷ before)) n) (λ k. called_before before n c k) h
+  where
+    by : (b : Bool) → (IsAmong (calls_of (lines_before before n)) c → IsAmong (calls_of before) c) → IsAmong (calls_of (if b then l ∷ before else lines_before before n)) c → IsAmong (calls_of (l ∷ before)) c
+    by true older k = k
+    by false older k = later_among (calls_by (suc (length before)) (role_of l)) (calls_of before) c (older k)
+
+-- A line that asks something of a transaction, and is not refused, says so. One that calls for a timestamp is none that has begun, for it
+-- failed.
+
+began_failed : (s : ℕ) (e : Error) → ◌≡◌ {A = Outcome} (Ok (Number s)) (Err e) → ⊥
+began_failed s e is = cc
+
+-- of a Commit that was lost no reply was taken
+lost_in_doubt : (s : ℕ) (h : List Event) → AreLostOrTaken h → HasLostCommit s h → IsInDoubt s h
+lost_in_doubt s h apart l = record {
+  written = l.written;
+  prewrite = l.prewrite;
+  sent = l.sent;
+  start = l.start;
+  ticket = l.ticket;
+  commit = l.commit;
+  lost = l.lost;
+  untaken = λ o took. apart.apart l.ticket (Commit l.commit) (Commit l.commit) o l.lost took;
+  same = l.same;
+  primary = l.primary;
+}
+
+tells_doubt : (script : List Line) (report : Report) → EventsMeetLines script report → AllSpeak report.sent report.outcomes report.ended script → (n : ℕ) (e : Error) → outcome_of report.outcomes n ≡ Err e → (IsRefusal e → ⊥) → TellsOfDoubt script report n e
+tells_doubt script report events speak n e failed unrefused x s began called lost = by (role_of caller.line) refl caller.calls
+  where
+    caller : CallsSo script (record { line = n; at = x })
+    caller = calls_so script (record { line = n; at = x }) (called_before script (suc (ended_of report.ended n)) (record { line = n; at = x }) called)
+
+    doubt : IsInDoubt s (history report.sent report.outcomes (lines_before script (suc (ended_of report.ended n))))
+    doubt = lost_in_doubt s _ (history_apart_by report.sent report.sleeps report.outcomes report.ended script (suc (ended_of report.ended n)) events) lost
+
+    other : n ≡ x → ⊥
+    other same = began_failed s e (sym began.3 ∙ subst (λ k. outcome_of report.outcomes k ≡ Err e) same failed)
+
+    says : (commits : Bool) → role_of caller.line ≡ UsesTransaction commits x → is_undetermined e ≡ true
+    says commits role = elim (speak n x s e (record { commits = commits; line = caller.line; there = caller.there; role = role; began = began.3; failed = failed })) [ inl refused ↦ absurd (unrefused refused) | inr tells ↦ tells doubt ]
+
+    by : (role : Role) → role_of caller.line ≡ role → IsAmong (calls_by n role) (record { line = n; at = x }) → is_undetermined e ≡ true
+    by MakesClient is h = absurd h
+    by (AsksTime begins client) is (inl same) = absurd (other (ap (λ (c : Call). c.at) same))
+    by (AsksTime begins client) is (inr h) = absurd h
+    by (UsesTransaction commits y) is (inl same) = says commits (is ∙ ap (λ (c : Call). UsesTransaction commits c.at) same)
+    by (UsesTransaction commits y) is (inr h) = absurd h
+    by NoCall is h = absurd h
+
+-- So it is of each line whose account does not refuse it, for no other is refused.
+
+refused_none : (e : Error) → ◌≡◌ {A = Option Error} None (Some e) → ⊥
+refused_none e is = cc
+
+module _ (Tells : ℕ → Error → Type 0) (outs : List Outcome) (ended : List ℕ) (tells : (n : ℕ) (e : Error) → outcome_of outs n ≡ Err e → (IsRefusal e → ⊥) → Tells n e) where
+  one_told : (accounts : ℕ → Account) (n : ℕ) (ask : Option Ask) → RefusalMeets accounts ask (outcome_of outs n) → CauseMeets Tells accounts n ask (outcome_of outs n)
+  one_told accounts n None exact = λ e failed. tells n e failed (λ is. exact e is failed)
+  one_told accounts n (Some ask) exact = λ free e failed. tells n e failed (λ is. refused_none e (sym free ∙ exact e is failed))
+
+  all_told : (script : List Line) → AllRefusalsMeet outs ended script → AllCausesMeet Tells outs ended script
+  all_told [] exact = tt
+  all_told (line ∷ before) exact = (one_told (λ x. account_of (λ n. outcome_of outs n) (λ n. ended_of ended n) before x) (length (line ∷ before)) (ask_of line) exact.0, all_told before exact.1)
+
+pub told_of_doubt : (script : List Line) (report : Report) → EventsMeetLines script report → AllSpeak report.sent report.outcomes report.ended script → AreExact script report → AreToldOfDoubt script report
+told_of_doubt script report events speak exact = all_told (λ n e. TellsOfDoubt script report n e) report.outcomes report.ended (tells_doubt script report events speak) script exact
