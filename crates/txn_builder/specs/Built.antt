@@ -1,5 +1,5 @@
 -- A request that is sent to one store.
-use Rattle.std.specs.Prelude.{◌≡◌, ℕ, Option, Some, Result, Ok}
+use Rattle.std.specs.Prelude.{◌≡◌, Some, Ok}
 use Rattle.txn_kv.specs.Region.{context_of}
 use Rattle.txn_kv.specs.declared.message.Context.{Context}
 use Rattle.txn_kv.specs.declared.request.Request.{Request}

@@ -11,7 +11,7 @@ use Rattle.txn_kv.specs.declared.ticket.Ticket.{Ticket}
 use Rattle.txn_history.specs.Among.{IsAmong}
 use Rattle.txn_history.specs.Event.{Event}
 use Rattle.txn_history.specs.Event.Event.{Sent}
-use Rattle.txn_history.specs.Licence.{PrimaryCommitted, PrimaryRolledBack, PrewriteLicence, WasGiven}
+use Rattle.txn_history.specs.Licence.{PrimaryRolledBack, WasGiven}
 use Rattle.txn_history.specs.Meaning.{Meaning, Told}
 use Rattle.txn_history.specs.Moves.{Moves, SameJob}
 use Rattle.txn_history.specs.Plan.{Key, has_key, ArePlanned, Plan}

@@ -1,10 +1,9 @@
 -- What the plans of a commit or a rollback post is counted as that of the whole.
-use Rattle.std.proofs.Common.{◌≡◌, ◌≤◌, ℕ, ◌+◌, Bool, true, false, List, [], ◌∷◌, refl, sym, ap, subst, ◌∙◌, arith, max, length}
-use Rattle.std.proofs.Math.Nat.{le-add_left, le-max_left, le-max_right, le_refl, le_trans, max-le}
+use Rattle.std.proofs.Common.{◌≡◌, ◌≤◌, ℕ, ◌+◌, Bool, true, false, List, [], ◌∷◌, refl, sym, ap, subst, arith, max, length}
+use Rattle.std.proofs.Math.Nat.{le-max_left, le-max_right, le_refl, le_trans, max-le}
 use Rattle.std.proofs.lemmas.Bool.{false≢true}
 use Rattle.std.specs.Prelude.{⊤, Result, Ok}
 use Rattle.txn_kv.specs.declared.errors.Error.{Error}
-use Rattle.txn_kv.specs.declared.memory.NoMemory.{NoMemory}
 use Rattle.txn_kv.specs.declared.progress.Progress.{Progress}
 use Rattle.txn_kv.specs.declared.progress.Progress.TheVariants.{Waiting, Done}
 use Rattle.txn_kv.specs.declared.request.BatchRollbackRequest.{BatchRollbackRequest}

@@ -1,5 +1,5 @@
 -- Where a commit or a rollback stands as its plans go on, and what it waits for.
-use Rattle.std.proofs.Common.{◌≡◌, ◌≢◌, ◌⊎◌, inl, inr, ℕ, ◌+◌, ◌++◌, Bool, true, false, List, [], ◌∷◌, refl, sym, ap, subst, ◌∙◌, arith, drop, length}
+use Rattle.std.proofs.Common.{◌≡◌, ◌≢◌, ◌⊎◌, inl, inr, ℕ, Bool, true, false, List, [], ◌∷◌, refl, sym, ap, subst, ◌∙◌, arith, drop, length}
 use Rattle.std.specs.Prelude.{◌<◌, ◌||◌, Result, cond, if◌then◌else◌, not}
 use Rattle.std.proofs.Math.Seq.{drop-length}
 use Rattle.std.specs.List.{list_any}
@@ -10,12 +10,12 @@ use Rattle.txn_kv.specs.declared.request.Request.{Request}
 use Rattle.txn_kv.specs.declared.ticket.Ticket.{Ticket}
 use Rattle.txn_kv.specs.declared.timestamp.Timestamp.{Timestamp}
 use Rattle.txn_history.specs.Event.{Event, same_ticket}
-use Rattle.txn_history.specs.Meaning.{Expects, Goes, GoesOn, IsLawful, IsUnbegun, Meaning, WasPosted}
+use Rattle.txn_history.specs.Meaning.{Expects, Goes, IsLawful, IsUnbegun, Meaning, WasPosted}
 use Rattle.txn_history.specs.Phase.{Awaited, IsPosted, IsRunning, Phase, phase_after, unheard}
 use Rattle.txn_history.specs.Phase.Awaited.{TimeOf}
 use Rattle.txn_history.specs.Phase.Phase.{Fresh, GivenUp, Over, Running}
 use Rattle.txn_history.specs.Posted.{Posted, ticket_of}
-use Rattle.txn_history.specs.Turn.{HasEnded, IfKept, IfKept-all, IfKept-out, IfKept-stopped, Turn}
+use Rattle.txn_history.specs.Turn.{HasEnded, IfKept-all, IfKept-out, IfKept-stopped, Turn}
 use Rattle.txn_history.specs.Turn.Turn.{Stopped, Waits, Ends}
 use Rattle.txn_history.proofs.Telling.{Expects-quiet, Expects-then, Goes-then}
 use Rattle.txn_tso.specs.declared.stage.Stage.{Stage as Call_stage}

@@ -1,26 +1,22 @@
 -- A plan that sends its request to one store, once, and takes the errors out of the reply, is a plan of the request.
 use Rattle.std.proofs.Common.{◌≡◌, inl, inr, ℕ, false, List, [], ◌∷◌, Option, Some, None, map, refl, sym, ap, subst, ◌∙◌}
 use Rattle.std.proofs.Math.Nat.{le_refl}
-use Rattle.std.specs.Prelude.{⊤, true, Result, Ok, Err}
+use Rattle.std.specs.Prelude.{⊤, Result, Ok, Err}
 use Rattle.txn_history.specs.Around.{around-unbegun}
 use Rattle.txn_history.specs.Event.{Event, Has}
 use Rattle.txn_history.specs.Event.Event.{Took}
-use Rattle.txn_history.specs.Meaning.{IsUnbegun}
 use Rattle.txn_kv.specs.ErrorView.{ErrorView, key, region}
 use Rattle.txn_kv.specs.declared.errors.Error.{Error}
-use Rattle.txn_kv.specs.declared.message.KeyError.{KeyError}
 use Rattle.txn_kv.specs.declared.message.RegionErr.{RegionErr}
-use Rattle.txn_kv.specs.declared.reply.BatchRollbackResponse.{BatchRollbackResponse}
 use Rattle.txn_kv.specs.declared.reply.CommitResponse.{CommitResponse}
 use Rattle.txn_kv.specs.declared.reply.PrewriteResponse.{PrewriteResponse}
 use Rattle.txn_kv.specs.declared.reply.Reply.{Reply}
 use Rattle.txn_kv.specs.declared.ticket.Ticket.{Ticket}
 use Rattle.txn_kv.specs.declared.request.Request.{Request}
 use Rattle.txn_kv.specs.declared.reply.Reply.TheVariants as reply
-use Rattle.txn_kv.specs.declared.request.BatchRollbackRequest.{BatchRollbackRequest}
 use Rattle.txn_kv.specs.declared.request.CommitRequest.{CommitRequest}
 use Rattle.txn_kv.specs.declared.request.PrewriteRequest.{PrewriteRequest}
-use Rattle.txn_kv.specs.declared.request.Request.TheVariants.{BatchRollback, Commit, Prewrite}
+use Rattle.txn_kv.specs.declared.request.Request.TheVariants.{Commit, Prewrite}
 use Rattle.txn_merge.specs.Extracted.{views_in}
 use Rattle.txn_merge.specs.KeyErrors.{no_error, no_errors, views_of_error}
 use Rattle.txn_merge.specs.RegionErrors.{listed}

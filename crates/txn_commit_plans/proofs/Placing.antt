@@ -4,7 +4,7 @@ use Rattle.txn_history.specs.Event.{Event}
 use Rattle.txn_kv.specs.declared.query.PdQuery.{PdQuery}
 use Rattle.txn_kv.specs.declared.query.PdQuery.TheVariants.{Region, RegionId, Store, Stores, Time, Safepoint}
 use Rattle.txn_kv.specs.declared.request.Request.{Request}
-use Rattle.txn_kv.specs.declared.request.Request.TheVariants.{GetRegion, GetRegionById, GetStore, GetAllStores, UpdateGcSafePoint, Members}
+use Rattle.txn_kv.specs.declared.request.Request.TheVariants.{GetRegion, GetRegionById, GetStore, GetAllStores, UpdateGcSafePoint}
 use Rattle.txn_commit.specs.Plans.{IsForeign}
 use Rattle.txn_multi.specs.Cutting.{IsPlacement}
 use Rattle.txn_tso.specs.Placement.{request_of}

@@ -1,5 +1,5 @@
 -- Where a transaction stands, what it waits for, and that what it hands out may be started.
-use Rattle.std.specs.Prelude.{◌≡◌, ⊤, IfSome, Bool, false, Result, Ok, Err}
+use Rattle.std.specs.Prelude.{◌≡◌, ⊤, IfSome, Result, Ok, Err}
 use Rattle.txn_kv.specs.Timestamp.{HasVersion}
 use Rattle.txn_kv.specs.declared.errors.Error.{Error}
 use Rattle.txn_history.specs.Meaning.{Expects, Goes, Meaning}

@@ -1,5 +1,5 @@
 -- What the calls of a plan over many regions, and of its tasks, make of the client.
-use Rattle.std.proofs.Common.{◌≡◌, ◌≢◌, ◌⊎◌, inl, inr, ℕ, Bool, true, false, List, [], ◌∷◌, refl, sym}
+use Rattle.std.proofs.Common.{◌≡◌, ◌≢◌, ◌⊎◌, inl, inr, ℕ, Bool, false, List, [], ◌∷◌, refl, sym}
 use Rattle.std.proofs.lemmas.Bool.{false≢true}
 use Rattle.std.specs.Global.{Vec}
 use Rattle.std.specs.Prelude.{OnOk, Option, Some, None, Result, Ok, Err}
@@ -23,7 +23,7 @@ use Rattle.txn_multi.specs.Multi.{AfterCut, AfterTasks}
 use Rattle.txn_multi.specs.Searching.{Seeks}
 use Rattle.txn_multi.specs.Task.{stage_phase, stage_runs}
 use Rattle.txn_multi.specs.Touching.{change_after, change_replied, IsHeeded, PlanTouches, StageTouches, TaskTouches, TasksTouch, UnlessGone, UnlessStopped}
-use Rattle.txn_multi.specs.Touching.TaskTouches.{acts, idle}
+use Rattle.txn_multi.specs.Touching.TaskTouches.{acts}
 use Rattle.txn_multi.specs.declared.multi_region.RetryableMultiRegion.{RetryableMultiRegion}
 use Rattle.txn_multi.specs.declared.multi_stage.MultiStage.{MultiStage}
 use Rattle.txn_multi.specs.declared.multi_stage.MultiStage.TheVariants as multi_stage

@@ -2,7 +2,7 @@
 use Rattle.std.proofs.Common.{◌≡◌, inl, inr, ℕ, ◌+◌, ◌-◌, ◌<◌, ◌≤◌, Bool, true, false, List, ◌++◌, suc, refl, sym, ap, subst, ◌∙◌, arith}
 use Rattle.std.proofs.Math.Nat.{le_refl, le_trans}
 use Rattle.std.proofs.lemmas.Bool.{cases_lt, false≢true, leb-true}
-use Rattle.std.specs.Prelude.{if◌then◌else◌, Option, Some, None, Result}
+use Rattle.std.specs.Prelude.{if◌then◌else◌, Some, None}
 use Rattle.txn_causes.specs.Heard.{heard_in, heard_longer}
 use Rattle.txn_causes.specs.Spent.{failed_below_fewer, failed_below_more, failed_below_one_more, failed_below_wider, HasFailedAt, HaveFailedBelow, IsSpent}
 use Rattle.txn_history.specs.Event.{Event}

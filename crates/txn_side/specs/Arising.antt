@@ -1,5 +1,5 @@
 -- What clients can have arisen from: the history that a run shows, with the newest event first.
-use Rattle.std.specs.Prelude.{◌≡◌, ⊤, ℕ, List, [], ◌∷◌, Option}
+use Rattle.std.specs.Prelude.{⊤, ℕ, List, [], ◌∷◌, Option}
 use Rattle.std.specs.List.{All}
 use Rattle.txn_kv.specs.declared.request.Request.{Request}
 use Rattle.txn_kv.specs.declared.request.Request.TheVariants as requests

@@ -10,7 +10,7 @@ use Rattle.txn_commit.specs.Committing.{ways}
 use Rattle.txn_commit.specs.Counting.{costs_of}
 use Rattle.txn_commit.proofs.Counting.{committing_starts, gave_up_counts, gone_wide, is_kept_so, then_counts}
 use Rattle.txn_history.proofs.Telling.{is_kept_ok}
-use Rattle.txn_commit.proofs.Going.{opens_gives_up, opens_stopped, opens_then, relays_after, relays_kept, resumes_settled}
+use Rattle.txn_commit.proofs.Going.{opens_gives_up, opens_stopped, opens_then, relays_after, resumes_settled}
 use Rattle.txn_commit.proofs.committer.CommitterCall.commit_primary.Goals as goal
 
 pub returns-in_err-primary_alone-clause-moves : goal.returns-in_err-primary_alone-clause-moves

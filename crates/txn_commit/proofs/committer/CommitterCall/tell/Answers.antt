@@ -11,7 +11,7 @@ use Rattle.txn_commit.proofs.Counting.{asking_counts, committing_counts, failure
 use Rattle.txn_history.proofs.Telling.{is_kept_ok}
 use Rattle.txn_tso.specs.Calling.{members}
 use Rattle.txn_commit.specs.Timing.{time_asked}
-use Rattle.txn_commit.proofs.Going.{asks_still, expects_gives_up, expects_idle, expects_stops, expects_then, goes_gives_up, goes_idle, goes_stops, goes_then, heard_other, relays_goes, relays_kept, resumes_settled, unheard_waits}
+use Rattle.txn_commit.proofs.Going.{asks_still, expects_gives_up, expects_idle, expects_stops, expects_then, goes_gives_up, goes_idle, goes_stops, goes_then, heard_other, relays_goes, resumes_settled, unheard_waits}
 use Rattle.txn_commit.proofs.committer.CommitterCall.tell.Goals as goal
 use Rattle.txn_plan.specs.Arrivals.{awaited_as, told_by}
 

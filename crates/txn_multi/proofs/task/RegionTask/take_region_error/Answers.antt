@@ -1,5 +1,4 @@
 use Rattle.std.proofs.Common.{refl, ap, sym}
-use Rattle.txn_retry.specs.Remedy.{delay_ms}
 use Rattle.txn_retry.specs.declared.remedy.Remedy.{Remedy}
 use Rattle.txn_multi.proofs.Retrying.{keeps_at, may_refuse, same_task, step_stopped, Over-before, Over-mid, Over-stopped, on_ok_weaker}
 use Rattle.txn_multi.proofs.Trying.{same_limit}

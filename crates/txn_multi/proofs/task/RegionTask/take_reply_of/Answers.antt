@@ -3,7 +3,7 @@ use Rattle.std.specs.Prelude.{None, Some}
 use Rattle.std.proofs.lemmas.Bool.{false≢true}
 use Rattle.txn_kv.specs.ErrorView.{listed}
 use Rattle.txn_kv.specs.ErrorView.ErrorView.{multiple}
-use Rattle.txn_multi.proofs.Retrying.{step_stopped, view-multiple, Over-before, Over-stopped, on_ok, on_ok_weaker}
+use Rattle.txn_multi.proofs.Retrying.{step_stopped, view-multiple, Over-before, Over-stopped, on_ok}
 use Rattle.txn_multi.proofs.Touchings.{kept_keys}
 use Rattle.txn_multi.proofs.task.RegionTask.take_reply_of.Goals as goal
 
