@@ -1,4 +1,4 @@
-ghost use Rattle.std.specs.Prelude.{◌≡◌, ◌<◌, ◌++◌, IfSome, OnErr, OnOk, drop, filter, length, not};
+ghost use Rattle.std.specs.Prelude.{◌≡◌, ◌<◌, ◌++◌, IfSome, OnErr, OnOk, drop, filter, is_some, length, not};
 ghost use Rattle.txn_history.specs.Event.{same_ticket};
 ghost use Rattle.txn_kv.specs.Timestamp.{HasVersion};
 ghost use Rattle.txn_commit.specs.Following.{answered, commit_tickets, heard, is_commit, is_done, is_out, lost, none_sent, sent, undetermined, without};
@@ -110,6 +110,13 @@ impl PrimaryCommits {
             self.timestamp = Some(timestamp);
         }
         Ok(())
+    }
+
+    /// Whether one was lost.
+    pub fn has_lost(&self) -> bool
+        ensures { result ≡ is_some self.now.lost }
+    {
+        self.lost.is_some()
     }
 
     /// One that was lost, or that is not refused: it may have committed the transaction.

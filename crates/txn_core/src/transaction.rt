@@ -566,6 +566,13 @@ where
         self.commits.timestamp()
     }
 
+    /// Whether a Commit of the primary was lost.
+    pub fn has_lost_commit(&self) -> bool
+        ensures { result ≡ is_some self.now.commits.lost }
+    {
+        self.commits.has_lost()
+    }
+
     /// A Commit of the primary that was lost, or that is not refused: by it the transaction may be committed.
     pub fn lost_commit(&self) -> Option<Ticket>
         ensures { result ≡ undetermined self.now.commits }

@@ -96,6 +96,7 @@ fn a_commit_is_followed_until_it_is_refused(rt: HostRuntime) {
     let (mut commits, out) = sent(&rt, alloc);
     assert!(rt; commits.timestamp() == Some(second()));
     assert!(rt; commits.undetermined() == Some(ticket(2)));
+    assert!(rt; !commits.has_lost());
     commits.take(ticket(2), &reply(&rt, alloc, "committed"));
     assert!(rt; commits.undetermined() == Some(ticket(2)));
     let reply = reply(&rt, alloc, "no_lock");
@@ -110,4 +111,5 @@ fn a_commit_that_was_lost_stays_so(rt: HostRuntime) {
     commits.lose(ticket(2));
     commits.take(ticket(2), &reply(&rt, alloc, "no_lock"));
     assert!(rt; commits.undetermined() == Some(ticket(2)));
+    assert!(rt; commits.has_lost());
 }

@@ -162,6 +162,7 @@ where
             "close" => shown(rt, alloc, &self.close()),
             "status" => shown(rt, alloc, &self.txn.status()),
             "lost_commit" => shown(rt, alloc, &self.txn.lost_commit()),
+            "has_lost_commit" => shown(rt, alloc, &self.txn.has_lost_commit()),
             "heartbeat" => self.heartbeat(rt, alloc),
             _ => self.see_turn(rt, alloc, step),
         }

@@ -140,8 +140,11 @@ commit 6 -> open; Prewrite 1 under a for 3250: Put a Put b
 prewritten 1 -> open; Ask 1
 lost_commit -> None
 given 1 -> open; Commit 1 at 2: a
+lost_commit -> Some(Ticket { line: 6, beat: false, number: 2 })
+has_lost_commit -> false
 lost 2 -> UndeterminedError(GrpcAPI(Ticket { line: 6, beat: false, number: 2 }))
 lost_commit -> Some(Ticket { line: 6, beat: false, number: 2 })
+has_lost_commit -> true
 rollback 12 -> UndeterminedError(GrpcAPI(Ticket { line: 6, beat: false, number: 2 }))
 commit 13 -> open; Commit 1 at 2: a
 lost 1 -> UndeterminedError(GrpcAPI(Ticket { line: 13, beat: false, number: 1 }))
