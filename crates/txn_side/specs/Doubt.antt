@@ -15,19 +15,23 @@ use Rattle.txn_report.specs.declared.outcome.Outcome.TheVariants as outcomes
 use Rattle.txn_report.specs.declared.outcome.Payload.TheVariants.{Number}
 use Rattle.txn_side.specs.Account.{is_undetermined}
 
--- A Commit of the primary of the transaction that began at s was lost, and no reply to it was taken, so it may have been done. The primary
--- is the key that the Prewrites of s name so.
-pub record IsInDoubt (s : ℕ) (h : List Event) : Type 0 where
-  pub written : Ticket
-  pub prewrite : PrewriteRequest
-  pub sent : Has h (Sent written (Prewrite prewrite))
-  pub start : prewrite.start_version ≡ s
+-- a Prewrite of s was sent
+abbrev pub WasWritten : ℕ → List Event → Type 0
+WasWritten s h = (u : Ticket) × (r : PrewriteRequest) × Has h (Sent u (Prewrite r)) × (r.start_version ≡ s)
+
+-- A Commit of the primary of the transaction that began at s was lost: it names what each Prewrite of s names as its primary.
+pub record HasLostCommit (s : ℕ) (h : List Event) : Type 0 where
   pub ticket : Ticket
   pub commit : CommitRequest
   pub lost : Has h (Lost ticket (Commit commit))
-  pub untaken : (o : Reply) → Has h (Took ticket (Commit commit) o) → ⊥
   pub same : commit.start_version ≡ s
-  pub primary : has_key commit.keys prewrite.primary_lock ≡ true
+  pub primary : (u : Ticket) (r : PrewriteRequest) → Has h (Sent u (Prewrite r)) → r.start_version ≡ s → has_key commit.keys r.primary_lock ≡ true
+
+-- and no reply to it was taken, so it may have been done
+pub record IsInDoubt (s : ℕ) (h : List Event) : Type 0 where
+  pub written : WasWritten s h
+  pub left : HasLostCommit s h
+  pub untaken : (o : Reply) → Has h (Took left.ticket (Commit left.commit) o) → ⊥
 
 -- with these a line is refused by how far its transaction has come, and by what it has written
 abbrev pub IsRefusal : Error → Type 0
@@ -36,9 +40,14 @@ IsRefusal Unimplemented = ⊤
 IsRefusal DuplicateKeyInsertion = ⊤
 IsRefusal _ = ⊥
 
--- The error says that the transaction that began at s is in doubt, where it is; or the line was refused.
+-- The error says that the transaction that began at s is in doubt where it is, and only where a Commit of its primary was lost.
+pub record SaysWhether (h : List Event) (s : ℕ) (e : Error) : Type 0 where
+  pub always : IsInDoubt s h → is_undetermined e ≡ true
+  pub only : is_undetermined e ≡ true → HasLostCommit s h
+
+-- so it does, or the line was refused
 abbrev pub SaysDoubt : List Event → ℕ → Error → Type 0
-SaysDoubt h s e = IsRefusal e ⊎ (IsInDoubt s h → is_undetermined e ≡ true)
+SaysDoubt h s e = IsRefusal e ⊎ SaysWhether h s e
 
 -- so does what a call answered, if it failed
 abbrev pub TellsDoubt : List Event → ℕ → Outcome → Type 0
