@@ -13,12 +13,12 @@ use Rattle.txn_machine.specs.Causes.{lines_before}
 use Rattle.txn_machine.specs.Failing.{begins_as, begun_by, begun_of, trace_of}
 use Rattle.txn_machine.proofs.Numberings.{line_new, line_old, line_range}
 
-either_among : {X : Type 0} (xs ys : List X) (x : X) → IsAmong (xs ++ ys) x → IsAmong xs x ⊎ IsAmong ys x
+pub either_among : {X : Type 0} (xs ys : List X) (x : X) → IsAmong (xs ++ ys) x → IsAmong xs x ⊎ IsAmong ys x
 either_among [] ys x h = inr h
 either_among (z ∷ xs) ys x (inl e) = inl (inl e)
 either_among (z ∷ xs) ys x (inr h) = elim (either_among xs ys x h) [ inl a ↦ inl (inr a) | inr a ↦ inr a ]
 
-later_among : {X : Type 0} (xs ys : List X) (x : X) → IsAmong ys x → IsAmong (xs ++ ys) x
+pub later_among : {X : Type 0} (xs ys : List X) (x : X) → IsAmong ys x → IsAmong (xs ++ ys) x
 later_among [] ys x h = h
 later_among (z ∷ xs) ys x h = inr (later_among xs ys x h)
 

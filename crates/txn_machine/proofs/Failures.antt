@@ -30,6 +30,7 @@ use Rattle.txn_machine.specs.Steps.{Steps, does_it}
 use Rattle.txn_machine.specs.Times.{Timely}
 use Rattle.txn_machine.proofs.Accounting.{QuietBy, calm_was, change, quiet_by}
 use Rattle.txn_machine.proofs.Alive.{before_few, before_next, before_old}
+use Rattle.txn_machine.proofs.Begun.{later_among}
 use Rattle.txn_machine.proofs.Calms.{outcome_past}
 use Rattle.txn_machine.proofs.Carried.{history_now, looked, same_history}
 use Rattle.txn_machine.proofs.Caused.{done_is, mid_count, new_ended}
@@ -46,10 +47,6 @@ use Rattle.txn_machine.proofs.Timing.{happened_still, noted_still}
 use Rattle.txn_machine.specs.Longer.{done_more, sends_more}
 
 -- What is noted, and what was told to lines.
-
-among_ahead : {X : Type 0} (xs ys : List X) (x : X) → IsAmong ys x → IsAmong (xs ++ ys) x
-among_ahead [] ys x h = h
-among_ahead (z ∷ xs) ys x h = inr (among_ahead xs ys x h)
 
 groups_more : (sent more : List SentNote) → ((s : SentNote) → IsAmong sent s → IsAmong more s) → (g : Group) → IsAmong (groups_of sent) g → IsAmong (groups_of more) g
 groups_more [] more among g h = absurd h
@@ -147,9 +144,9 @@ module _ (line : Line) (ls : List Line) (old : Lists) (told : newest old ≡ len
   was_longer : IsLonger (trace_of old.mail.sent old.outcomes ls) now
   was_longer = record {
     events = λ e h. done_more (own_done c.own) looks line es e h;
-    calls = λ x h. among_ahead (calls_by n (role_of line)) (calls_of ls) x h;
-    begun = λ x h. among_ahead (begun_by n (begins_as line)) (begun_of ls) x h;
-    rollbacks = λ x h. among_ahead (rolled_by n (ask_of line)) (rollbacks_of ls) x h;
+    calls = λ x h. later_among (calls_by n (role_of line)) (calls_of ls) x h;
+    begun = λ x h. later_among (begun_by n (begins_as line)) (begun_of ls) x h;
+    rollbacks = λ x h. later_among (rolled_by n (ask_of line)) (rollbacks_of ls) x h;
     groups = λ g h. h;
     sent = λ u r h. elim h [ inl s ↦ inl (done_more (own_done c.own) looks line es (Sent u r) s) | inr p ↦ absurd (let low = p.2 in omega arith) ];
     refused = λ k m h. refused_done (groups_of old.mail.sent) k m (own_done c.own) looks line es h;
