@@ -1,5 +1,5 @@
 -- Whether a transaction is in doubt, and that a call of it that fails says so.
-use Rattle.std.proofs.Common.{◌≡◌, ◌≢◌, ◌⊎◌, inl, inr, ℕ, zero, suc, ◌-◌, ◌≤◌, Bool, true, false, List, [], ◌∷◌, Option, Some, None, refl, sym, ap, ◌∙◌, subst}
+use Rattle.std.proofs.Common.{◌≡◌, ◌⊎◌, inl, inr, ℕ, zero, suc, ◌-◌, ◌≤◌, Bool, true, false, List, [], ◌∷◌, Option, Some, None, refl, sym, ap, ◌∙◌, subst}
 use Rattle.txn_kv.specs.Timestamp.{version_of}
 use Rattle.txn_kv.specs.declared.errors.Error.{Error}
 use Rattle.txn_kv.specs.declared.reply.CommitResponse.{CommitResponse}
@@ -16,28 +16,29 @@ use Rattle.txn_history.specs.Licence.{PrimaryCommitted}
 use Rattle.txn_history.specs.Plan.{Key, Plan, has_key}
 use Rattle.txn_history.specs.Posted.{Within, Within-refl}
 use Rattle.txn_law.specs.Run.{IsAllowed, IsPossible, IsRun}
-use Rattle.txn_commit.specs.Following.{CommitsPrimary}
 use Rattle.txn_commit.specs.Parts.{parts_of}
 use Rattle.txn_commit.specs.Sending.{plan_of}
 use Rattle.txn_commit.specs.declared.commit_parts.CommitParts.{CommitParts}
 use Rattle.txn_commit.proofs.Keys.{has_only, only}
 use Rattle.txn_commit.proofs.Sending.{settled_refused}
+use Rattle.txn_core.specs.Status.{allows_data}
 use Rattle.txn_core.specs.Transaction.{Standing, or_refused, refused_unless}
 use Rattle.txn_report.specs.declared.outcome.Outcome.{Outcome}
 use Rattle.txn_report.specs.declared.outcome.Outcome.TheVariants as outcomes
 use Rattle.txn_report.specs.declared.outcome.Payload.TheVariants as payloads
 use Rattle.txn_side.specs.Account.{is_undetermined}
 use Rattle.txn_side.specs.Arising.{with_postings}
-use Rattle.txn_side.specs.Doubt.{IsInDoubt, IsRefusal, SaysDoubt, SpeaksOf}
+use Rattle.txn_side.specs.Doubt.{HasLostCommit, IsInDoubt, IsRefusal, SaysDoubt, SpeaksOf}
 use Rattle.txn_side.specs.declared.turn.Posting.{Posting}
 use Rattle.txn_side.specs.declared.turn.Posting.TheVariants.{Send, Sleep}
 use Rattle.txn_trace.specs.Seeing.{seen}
 use Rattle.txn_trace.proofs.Seen.{had_seen, seen_had}
-use Rattle.txn_clients.specs.Arising.{BeganAt, EndSpeaks, HasPlan, HavePlans, HoldsAt, IsCommittedSo, IsSettled, IsUndoubted, KeepRight, SpeaksRight, SpeaksRightAt}
+use Rattle.txn_clients.specs.Arising.{BeganAt, EndSpeaks, HasPlan, HavePlans, HoldsAt, IsCommittedSo, HasLostOne, IsDoubted, IsSettled, IsUndoubted, KeepRight, SpeaksRight, SpeaksRightAt}
 use Rattle.txn_clients.specs.Clients.{row_at}
 use Rattle.txn_clients.specs.Rows.{with_waits}
 use Rattle.txn_clients.specs.declared.row.Row.{Row}
 use Rattle.txn_clients.specs.declared.row.Row.TheVariants as row
+use Rattle.txn_clients.proofs.Taking.{no_flag}
 use Rattle.txn_clients.proofs.Telling.{hears_own}
 
 -- Refusals
@@ -118,20 +119,24 @@ module _ {P Q K : Type 0} where
         (refused.0, refused.1),
   )
 
-  pub settled_speaks : (plans : ℕ → Plan) (h : List Event) (c n : ℕ) (t : Standing P Q K) (e : Error) → IsRun plans h → IsRefusal e ⊎ ((is_undetermined e ≡ true) ⊎ IsSettled t h) → SpeaksRight {P = P} {Q = Q} {K = K} h e (row.Begun c t n)
+  pub settled_speaks : (plans : ℕ → Plan) (h : List Event) (c n : ℕ) (t : Standing P Q K) (e : Error) → IsRun plans h → IsRefusal e ⊎ (((is_undetermined e ≡ true) × HasLostOne t h) ⊎ ((is_undetermined e ≡ false) × IsSettled t h)) → SpeaksRight {P = P} {Q = Q} {K = K} h e (row.Begun c t n)
   settled_speaks plans h c n t e run (inl refused) = inl refused
-  settled_speaks plans h c n t e run (inr (inl says)) = inr (inl says)
-  settled_speaks plans h c n t e run (inr (inr settled)) = inr (inr (settled_undoubted plans h c n t run settled))
+  settled_speaks plans h c n t e run (inr (inl lost)) = inr (inl lost)
+  settled_speaks plans h c n t e run (inr (inr settled)) = inr (inr (settled.0, settled_undoubted plans h c n t run settled.1))
 
   -- it waits for another line
   undoubted_waits : (n : ℕ) (h : List Event) (r : Row P Q K) → IsUndoubted h r → IsUndoubted h (with_waits n r)
   undoubted_waits n h (row.Begun c t m) x = x
   undoubted_waits n h r x = x
 
+  doubted_waits : (n : ℕ) (h : List Event) (r : Row P Q K) → IsDoubted h r → IsDoubted h (with_waits n r)
+  doubted_waits n h (row.Begun c t m) x = x
+  doubted_waits n h r x = x
+
   pub speaks_waits : (n : ℕ) (h : List Event) (e : Error) (r : Row P Q K) → SpeaksRight h e r → SpeaksRight h e (with_waits n r)
   speaks_waits n h e r (inl refused) = inl refused
-  speaks_waits n h e r (inr (inl says)) = inr (inl says)
-  speaks_waits n h e r (inr (inr clear)) = inr (inr (undoubted_waits n h r clear))
+  speaks_waits n h e r (inr (inl lost)) = inr (inl (lost.0, doubted_waits n h r lost.1))
+  speaks_waits n h e r (inr (inr clear)) = inr (inr (clear.0, undoubted_waits n h r clear.1))
 
   pub speaks_line : (rows : List (Row P Q K)) (h : List Event) (line : ℕ) (e : Error) → 1 ≤ line → SpeaksRight h e (row_at rows (line - 1)) → SpeaksRightAt rows h line e
   speaks_line rows h line e one x = subst (λ n. SpeaksRightAt rows h n e) (hears_own line one) x
@@ -158,12 +163,31 @@ module _ {P Q K : Type 0} where
         (λ u r lost start primary. let was = took u r (unlost u (Commit r) lost) (record { start = start; primary = primary }) in (was.0, within _ was.1))
     undoubted_on old new kept x = absurd x
 
+    doubted_as : (s : ℕ) (k : Key) (new : Row P Q K) → IsCommittedSo (committed_alone s k) 0 new → (u : Ticket) (r : CommitRequest) → Has longer (Lost u (Commit r)) → r.start_version ≡ s → has_key r.keys k ≡ true → IsDoubted longer new
+    doubted_as s k (row.Begun c t m) (parts, closed, whole, committed) u r lost start primary =
+        let same = named_alone s (version_of t.start) 0 k (plan_of parts) committed in
+        record {
+          parts = parts;
+          closed = closed;
+          whole = whole;
+          ticket = u;
+          lost = (r, lost, record { start = start ∙ sym same.0; primary = subst (λ p. has_key r.keys p ≡ true) (sym same.1) primary });
+        }
+    doubted_as s k new x u r lost start primary = absurd x
+
+    doubted_on : (old new : Row P Q K) → ((g : List Event) → IsCommittedSo g 0 old → IsCommittedSo g 0 new) → IsDoubted h old → IsDoubted longer new
+    doubted_on (row.Begun c t m) new kept l =
+        doubted_as (version_of t.start) l.parts.primary new
+        (kept (committed_alone (version_of t.start) l.parts.primary) (l.parts, l.closed, l.whole, (_, alone (version_of t.start) l.parts.primary, fine, inl refl, (refl, refl), refl, refl, has_only l.parts.primary)))
+        l.ticket l.lost.0 (within _ l.lost.1) l.lost.2.start l.lost.2.primary
+    doubted_on old new kept l = absurd l
+
     speaks_on : (olds news : List (Row P Q K)) (x : ℕ) (e : Error) → KeepRight olds news → SpeaksRightAt olds h x e → SpeaksRightAt news longer x e
     speaks_on olds news zero e kept s = s
     speaks_on olds news (suc i) e kept (inl refused) = inl refused
-    speaks_on olds news (suc i) e kept (inr (inl says)) = inr (inl says)
+    speaks_on olds news (suc i) e kept (inr (inl lost)) = inr (inl (lost.0, doubted_on (row_at olds i) (row_at news i) (λ g x. kept (suc i) (outcomes.Ok (payloads.Commit (Some 0))) g g (Within-refl g) x) lost.1))
     speaks_on olds news (suc i) e kept (inr (inr clear)) =
-        inr (inr (undoubted_on (row_at olds i) (row_at news i) (λ g x. kept (suc i) (outcomes.Ok (payloads.Commit (Some 0))) g g (Within-refl g) x) clear))
+        inr (inr (clear.0, undoubted_on (row_at olds i) (row_at news i) (λ g x. kept (suc i) (outcomes.Ok (payloads.Commit (Some 0))) g g (Within-refl g) x) clear.1))
 
     pub end_speaks_on : (olds news : List (Row P Q K)) (x n : ℕ) (o : Outcome) → KeepRight olds news → EndSpeaks olds h x n o → EndSpeaks news longer x n o
     end_speaks_on olds news x n (outcomes.Err e) kept s = λ apart. speaks_on olds news x e kept (s apart)
@@ -172,22 +196,40 @@ module _ {P Q K : Type 0} where
   -- What a machine sees of it: a transaction of which this is right is not in doubt.
 
   module _ (plans : ℕ → Plan) (h : List Event) (run : IsRun plans h) where
+    -- whatever a Prewrite of it names is its primary
+    names_primary : (rows : List (Row P Q K)) (i c m : ℕ) (t : Standing P Q K) (parts : CommitParts) (u : Ticket) (r : PrewriteRequest) → HavePlans plans rows → row_at rows i ≡ row.Begun c t m → allows_data t.status ≡ false → parts_of t.contents ≡ Some parts
+        → Has (seen h) (Sent u (Prewrite r)) → r.start_version ≡ version_of t.start → r.primary_lock ≡ parts.primary
+    names_primary rows i c m t parts u r have e closed whole sent start =
+        let was = seen_had h (Sent u (Prewrite r)) sent in
+        let planned = subst (λ (r : Row P Q K). HasPlan plans r) e (have i) closed parts whole in
+        prewrite_names plans h u r run was.0 ∙ ap (λ s. (plans s).primary) start ∙ ap (λ (p : Plan). p.primary) planned
+
     not_doubted : (rows : List (Row P Q K)) (i v : ℕ) (r : Row P Q K) → HavePlans plans rows → row_at rows i ≡ r → BeganAt v r → IsUndoubted h r → IsInDoubt v (seen h) → ⊥
     not_doubted rows i v (row.Begun c t m) have e began (parts, closed, whole, took) d =
-        let sent = seen_had h (Sent d.written (Prewrite d.prewrite)) d.sent in
-        let planned = subst (λ (r : Row P Q K). HasPlan plans r) e (have i) closed parts whole in
-        let primary : d.prewrite.primary_lock ≡ parts.primary =
-        prewrite_names plans h d.written d.prewrite run sent.0 ∙ ap (λ s. (plans s).primary) (d.start ∙ sym began) ∙ ap (λ (p : Plan). p.primary) planned in
-        let lost = seen_had h (Lost d.ticket (Commit d.commit)) d.lost in
-        let taken = took d.ticket d.commit lost.0 (record { start = d.same ∙ sym began; primary = subst (λ p. has_key d.commit.keys p ≡ true) primary d.primary }) in
-        d.untaken taken.0 (had_seen h (Took d.ticket (Commit d.commit) taken.0) tt taken.1)
+        let l = d.left in
+        let p = d.written in
+        let primary : p.1.primary_lock ≡ parts.primary = names_primary rows i c m t parts p.0 p.1 have e closed whole p.2 (p.3 ∙ sym began) in
+        let lost = seen_had h (Lost l.ticket (Commit l.commit)) l.lost in
+        let taken = took l.ticket l.commit lost.0 (record { start = l.same ∙ sym began; primary = subst (λ p. has_key l.commit.keys p ≡ true) primary (l.primary p.0 p.1 p.2 p.3) }) in
+        d.untaken taken.0 (had_seen h (Took l.ticket (Commit l.commit) taken.0) tt taken.1)
     not_doubted rows i v r have e began clear d = clear
+
+    -- and one of which a Commit was lost has lost one
+    lost_commit : (rows : List (Row P Q K)) (i v : ℕ) (r : Row P Q K) → HavePlans plans rows → row_at rows i ≡ r → BeganAt v r → IsDoubted h r → HasLostCommit v (seen h)
+    lost_commit rows i v (row.Begun c t m) have e began l = record {
+      ticket = l.ticket;
+      commit = l.lost.0;
+      lost = had_seen h (Lost l.ticket (Commit l.lost.0)) tt l.lost.1;
+      same = l.lost.2.start ∙ began;
+      primary = λ u r sent start. subst (λ p. has_key l.lost.0.keys p ≡ true) (sym (names_primary rows i c m t l.parts u r have e l.closed l.whole sent (start ∙ sym began))) l.lost.2.primary;
+    }
+    lost_commit rows i v r have e began l = absurd l
 
     says_doubt : (rows : List (Row P Q K)) (x v : ℕ) (e : Error) → HavePlans plans rows → HoldsAt rows (seen h) x (outcomes.Ok (payloads.Number v)) → SpeaksRightAt rows h x e → SaysDoubt (seen h) v e
     says_doubt rows zero v e have began s = absurd s
     says_doubt rows (suc i) v e have began (inl refused) = inl refused
-    says_doubt rows (suc i) v e have began (inr (inl says)) = inr (λ d. says)
-    says_doubt rows (suc i) v e have began (inr (inr clear)) = inr (λ d. absurd (not_doubted rows i v (row_at rows i) have refl began clear d))
+    says_doubt rows (suc i) v e have began (inr (inl lost)) = inr (record { always = λ d. lost.0; only = λ says. lost_commit rows i v (row_at rows i) have refl began lost.1 })
+    says_doubt rows (suc i) v e have began (inr (inr clear)) = inr (record { always = λ d. absurd (not_doubted rows i v (row_at rows i) have refl began clear.1 d); only = λ says. absurd (no_flag (is_undetermined e) says clear.0) })
 
     -- so what a call answered tells of it what it has to
     pub speaks_of : (rows : List (Row P Q K)) (held : ℕ → Outcome → Type 0) (x n : ℕ) (o : Outcome) → HavePlans plans rows → ((y : ℕ) (p : Outcome) → held y p → HoldsAt rows (seen h) y p) → EndSpeaks rows h x n o → SpeaksOf held (seen h) x n o

@@ -17,7 +17,7 @@ use Rattle.txn_plan.specs.Arrivals.{told_by}
 use Rattle.txn_plan.specs.declared.arrival.Arrival.{Arrival}
 use Rattle.txn_buffer.specs.Contents.{Contents}
 use Rattle.txn_commit.specs.Committing.{Ways}
-use Rattle.txn_commit.specs.Following.{KnowsCommits, undetermined}
+use Rattle.txn_commit.specs.Following.{Commits, KnowsCommits, none_sent, undetermined}
 use Rattle.txn_commit.specs.Parts.{parts_of}
 use Rattle.txn_commit.specs.Sending.{plan_of}
 use Rattle.txn_commit.specs.declared.commit_parts.CommitParts.{CommitParts}
@@ -35,8 +35,8 @@ use Rattle.txn_core.proofs.Ordered.{written_fits}
 use Rattle.txn_side.specs.Account.{is_undetermined}
 use Rattle.txn_side.specs.Doubt.{IsRefusal}
 use Rattle.txn_side.specs.declared.act.Act.{Act}
-use Rattle.txn_clients.specs.Accounts.{IsQuiet}
-use Rattle.txn_clients.specs.Arising.{CallStands, IsSettled, KeepsPlan, Moved, StandFits, StandMoves}
+use Rattle.txn_clients.specs.Accounts.{IsQuiet, SaysLoss}
+use Rattle.txn_clients.specs.Arising.{CallStands, HasLostOne, IsSettled, KeepsPlan, Moved, StandFits, StandMoves}
 use Rattle.txn_clients.specs.Rows.{answer_in}
 use Rattle.txn_clients.specs.declared.answer.Answer.TheVariants as answers
 use Rattle.txn_clients.specs.declared.told.Told.TheVariants as tells
@@ -176,36 +176,63 @@ module _ {P Q K A B D : Type 0} (w : Ways P Q K A B D) where
           subst (λ (p : CommitParts). KnowsCommits (plan_of p) (version_of t.start) t.commits h) same (subst (λ s. KnowsCommits (plan_of call.parts) (version_of s) t.commits h) at.own at.fits.knows)
       by GaveUp at lives = absurd (cc)
 
-  -- an error that it ends with says that it is in doubt, where one of them was lost or is not refused
-  error_gives : (old new : Standing P Q K) (to : Posted) (h : List Event) (e : Error) → new.contents ≡ old.contents → StandFits w new to h → allows_data new.status ≡ false
-      → TransactionGives w old.options.retry_options old.start old.contents new.commits h (Err e) → IsRefusal e ⊎ ((is_undetermined e ≡ true) ⊎ IsSettled new h)
-  error_gives old new to h e same fits off (inr (none, nothing)) = absurd (no nothing)
+  -- where one of them was lost it has something to commit
+  has_parts : (t : Standing P Q K) (o : Posted) (h : List Event) → StandFits w t o h → is_some t.commits.lost ≡ true → (parts : CommitParts) × (parts_of t.contents ≡ Some parts)
+  has_parts t o h fits some = by t.work fits.1.at fits.2 (parts_of t.contents) refl
+    where
+      none : t.commits ≡ none_sent → ⊥
+      none e = let no = sym some ∙ ap (λ (c : Commits). is_some c.lost) e in cc
+
+      by : (g : Work P Q K) → IsAtWork w t.options.retry_options t.start t.status t.contents t.commits g o h → has_given_up g ≡ false → (found : Option CommitParts) → parts_of t.contents ≡ found → (parts : CommitParts) × (parts_of t.contents ≡ Some parts)
+      by g at lives (Some parts) e = (parts, e)
+      by Idle at lives None e = absurd (none (at.empty e))
+      by (Open call) at lives None e = absurd (let no = sym e ∙ at.whole in cc)
+      by GaveUp at lives None e = absurd (cc)
+
+  -- and may be written no more
+  closed_lost : (t : Standing P Q K) (o : Posted) (h : List Event) → StandFits w t o h → is_some t.commits.lost ≡ true → allows_data t.status ≡ false
+  closed_lost t o h fits some = elim (is_flag (allows_data t.status)) [
+    | inl on ↦ let u = fits.1.unsent on in absurd (let no = sym some ∙ ap (λ (c : Commits). is_some c.lost) u.none in cc)
+    | inr off ↦ off
+  ]
+
+  lost_one : (t : Standing P Q K) (o : Posted) (h : List Event) → StandFits w t o h → is_some t.commits.lost ≡ true → HasLostOne t h
+  lost_one t o h fits some = let p = has_parts t o h fits some in by p.0 p.1 t.commits.lost refl some
+    where
+      by : (parts : CommitParts) → parts_of t.contents ≡ Some parts → (lost : Option Ticket) → t.commits.lost ≡ lost → is_some lost ≡ true → HasLostOne t h
+      by parts whole None e holds = absurd (cc)
+      by parts whole (Some u) e holds = let k = knows_commits t o h parts whole fits in record { parts = parts; closed = closed_lost t o h fits some; whole = whole; ticket = u; lost = k.losing u e }
+
+  -- an error that it ends with says that it is in doubt where one of them was lost or is not refused
+  error_gives : (old new : Standing P Q K) (to : Posted) (h : List Event) (e : Error) → new.contents ≡ old.contents → StandFits w new to h → allows_data new.status ≡ false → (is_undetermined e ≡ true → is_some new.commits.lost ≡ true)
+      → TransactionGives w old.options.retry_options old.start old.contents new.commits h (Err e) → CallStands w old new (Some (answers.Called (Err e))) h
+  error_gives old new to h e same fits off says (inr (none, nothing)) = absurd (no nothing)
     where
       no : IsNothing {Q = Q} (Err e) → ⊥
       no (inl f) = cc
       no (inr f) = cc
-  error_gives old new to h e same fits off (inl (parts, whole, fails)) = inr (by (undetermined new.commits) refl fails)
+  error_gives old new to h e same fits off says (inl (parts, whole, fails)) = inr (elim (is_flag (is_undetermined e)) [ inl told ↦ inl (told, lost_one new to h fits (says told)) | inr untold ↦ inr (untold, settled untold (undetermined new.commits) refl fails) ])
     where
       now : parts_of new.contents ≡ Some parts
       now = ap parts_of same ∙ whole
 
-      by : (u : Option Ticket) → undetermined new.commits ≡ u → FailsWith w old.options.retry_options (version_of old.start) parts u h e → (is_undetermined e ≡ true) ⊎ IsSettled new h
-      by (Some t) is f = inl (undetermined_is e (view_of f.0) f.1)
-      by None is f = inr (record { parts = parts; closed = off; whole = now; knows = knows_commits new to h parts now fits; none = is })
+      settled : is_undetermined e ≡ false → (u : Option Ticket) → undetermined new.commits ≡ u → FailsWith w old.options.retry_options (version_of old.start) parts u h e → IsSettled new h
+      settled untold (Some t) is f = absurd (no_flag (is_undetermined e) (undetermined_is e (view_of f.0) f.1) untold)
+      settled untold None is f = record { parts = parts; closed = off; whole = now; knows = knows_commits new to h parts now fits; none = is }
 
   -- what it answers stands on what the call gives
-  call_stands : (old new : Standing P Q K) (to : Posted) (h : List Event) (turn : Turn (Result (TxnAnswer Q) Error)) → new.contents ≡ old.contents → StandFits w new to h → IfEnds turn (λ v. allows_data new.status ≡ false)
+  call_stands : (old new : Standing P Q K) (to : Posted) (h : List Event) (turn : Turn (Result (TxnAnswer Q) Error)) → new.contents ≡ old.contents → StandFits w new to h → IfEnds turn (λ v. allows_data new.status ≡ false) → SaysLoss turn new
       → IfEnds turn (λ v. TransactionGives w old.options.retry_options old.start old.contents new.commits h v) → CallStands w old new (answer_in answers.Called turn) h
-  call_stands old new to h Stopped same fits off g = tt
-  call_stands old new to h Waits same fits off g = tt
-  call_stands old new to h (Ends (Err e)) same fits off g = error_gives old new to h e same fits off g
-  call_stands old new to h (Ends (Ok (answer.Committed t job))) same fits off g = (off, g)
-  call_stands old new to h (Ends (Ok answer.Unit)) same fits off g = tt
-  call_stands old new to h (Ends (Ok (answer.Value v))) same fits off g = tt
-  call_stands old new to h (Ends (Ok (answer.Exists b))) same fits off g = tt
-  call_stands old new to h (Ends (Ok (answer.Pairs ps))) same fits off g = tt
-  call_stands old new to h (Ends (Ok (answer.Keys ks))) same fits off g = tt
-  call_stands old new to h (Ends (Ok (answer.Ttl n))) same fits off g = tt
+  call_stands old new to h Stopped same fits off says g = tt
+  call_stands old new to h Waits same fits off says g = tt
+  call_stands old new to h (Ends (Err e)) same fits off says g = error_gives old new to h e same fits off says g
+  call_stands old new to h (Ends (Ok (answer.Committed t job))) same fits off says g = (off, g)
+  call_stands old new to h (Ends (Ok answer.Unit)) same fits off says g = tt
+  call_stands old new to h (Ends (Ok (answer.Value v))) same fits off says g = tt
+  call_stands old new to h (Ends (Ok (answer.Exists b))) same fits off says g = tt
+  call_stands old new to h (Ends (Ok (answer.Pairs ps))) same fits off says g = tt
+  call_stands old new to h (Ends (Ok (answer.Keys ks))) same fits off says g = tt
+  call_stands old new to h (Ends (Ok (answer.Ttl n))) same fits off says g = tt
 
   -- of a refusal nothing else is said
   error_stands : (old new : Standing P Q K) (h : List Event) (v : Result (TxnAnswer Q) Error) (e : Error) → IsRefusal e → v ≡ Err e → CallStands w old new (Some (answers.Called v)) h
@@ -216,11 +243,11 @@ module _ {P Q K A B D : Type 0} (w : Ways P Q K A B D) where
   refused_stands e old new h Waits refusal r = tt
   refused_stands e old new h (Ends v) refusal r = error_stands old new h v e refusal r.0
 
-  unknown_stands : (t : Ticket) (old new : Standing P Q K) (h : List Event) (turn : Turn (Result (TxnAnswer Q) Error)) → IsUndetermined t turn → CallStands w old new (answer_in answers.Called turn) h
-  unknown_stands t old new h Stopped u = tt
-  unknown_stands t old new h Waits u = tt
-  unknown_stands t old new h (Ends (Ok v)) u = absurd u
-  unknown_stands t old new h (Ends (Err e)) u = inr (inl (undetermined_is e (view_of (GrpcAPI t)) u))
+  unknown_stands : (t : Ticket) (old new : Standing P Q K) (to : Posted) (h : List Event) (turn : Turn (Result (TxnAnswer Q) Error)) → StandFits w new to h → SaysLoss turn new → IsUndetermined t turn → CallStands w old new (answer_in answers.Called turn) h
+  unknown_stands t old new to h Stopped fits says u = tt
+  unknown_stands t old new to h Waits fits says u = tt
+  unknown_stands t old new to h (Ends (Ok v)) fits says u = absurd u
+  unknown_stands t old new to h (Ends (Err e)) fits says u = let told = undetermined_is e (view_of (GrpcAPI t)) u in inr (inl (told, lost_one new to h fits (says told)))
 
   stand_same : (old new : Standing P Q K) (from to : Posted) (h : List Event) → new ≡ old → to ≡ from → StandFits w old from h → StandFits w new to h
   stand_same old new from to h e f x = subst (λ (t : Standing P Q K). StandFits w t to h) (sym e) (subst (λ (o : Posted). StandFits w old o h) (sym f) x)
@@ -246,9 +273,9 @@ module _ {P Q K A B D : Type 0} (w : Ways P Q K A B D) where
           ap has_given_up (sym e ∙ ap (λ (t : Standing P Q K). t.work) (goes.state never)) ∙ lives
 
   -- it goes on, in a history of which so much is known
-  stand_moved : (known : List Event → Type 0) (hear : List Event → List Event) (old new : Standing P Q K) (from to : Posted) (turn : Turn (Result (TxnAnswer Q) Error)) → turn ≢ Stopped → (has_given_up old.work ≡ false → has_given_up new.work ≡ false) → new.contents ≡ old.contents → IfEnds turn (λ v. allows_data new.status ≡ false) → TransactionMoves w known hear old new from to turn
+  stand_moved : (known : List Event → Type 0) (hear : List Event → List Event) (old new : Standing P Q K) (from to : Posted) (turn : Turn (Result (TxnAnswer Q) Error)) → turn ≢ Stopped → (has_given_up old.work ≡ false → has_given_up new.work ≡ false) → new.contents ≡ old.contents → IfEnds turn (λ v. allows_data new.status ≡ false) → SaysLoss turn new → TransactionMoves w known hear old new from to turn
       → Moved (MaySendFor old.contents (version_of old.start)) (λ h. StandFits w old from h × known h) (λ h. StandFits w new to h) (λ h. CallStands w old new (answer_in answers.Called turn) h) hear from to
-  stand_moved known hear old new from to turn kept lives same off m = record {
+  stand_moved known hear old new from to turn kept lives same off says m = record {
     sends = m.sends;
     pushed = m.pushed;
     line = m.line;
@@ -256,7 +283,7 @@ module _ {P Q K A B D : Type 0} (w : Ways P Q K A B D) where
     numbered = m.numbered;
     licensed = λ h x. m.licensed h (x.0.1, x.1);
     still = λ h x. fits h x;
-    stands = λ h x. call_stands old new to _ turn same (fits h x) off (IfEnds-weaker turn (λ v g. g h (x.0.1, x.1)) m.done);
+    stands = λ h x. call_stands old new to _ turn same (fits h x) off says (IfEnds-weaker turn (λ v g. g h (x.0.1, x.1)) m.done);
   }
     where
       fits : (h : List Event) → StandFits w old from h × known h → StandFits w new to (after from.line from.beat (hear h) m.sends)
@@ -303,10 +330,10 @@ module _ {P Q K A B D : Type 0} (w : Ways P Q K A B D) where
       → (allows_commit old.status ≡ false → IsRefused e old new turn × (to ≡ from))
       → (allows_commit old.status ≡ true → TransactionMoves w (λ h. ⊤) (λ h. h) old new from to turn)
       → (old.work ≡ Idle → new.status ≡ status_step old.status (commits (commit_outcome turn) (is_some (parts_of old.contents))))
-      → new ≡ record old { status = new.status; commits = new.commits; work = new.work; width = new.width } → GivesUp old new turn → Opens w new from to turn
+      → new ≡ record old { status = new.status; commits = new.commits; work = new.work; width = new.width } → GivesUp old new turn → Opens w new from to turn → SaysLoss turn new
       → IfKept turn (StandMoves w (tells.Act act) old new from to (answer_in answers.Called turn))
-  commits_move act e old new from to turn refusal idle refused moves status kept gives opens = if_kept turn (λ alive. elim (is_flag (allows_commit old.status)) [
-    | inl may ↦ asked act old new from to turn (IfKept-out turn alive keeps) (stand_moved (λ h. ⊤) (λ h. h) old new from to turn alive (λ x. opened_lives new.work turn alive opens.next) contents (ends_all turn (IfKept-out turn alive (off_commit old new turn idle may status gives))) (moves may))
+  commits_move act e old new from to turn refusal idle refused moves status kept gives opens says = if_kept turn (λ alive. elim (is_flag (allows_commit old.status)) [
+    | inl may ↦ asked act old new from to turn (IfKept-out turn alive keeps) (stand_moved (λ h. ⊤) (λ h. h) old new from to turn alive (λ x. opened_lives new.work turn alive opens.next) contents (ends_all turn (IfKept-out turn alive (off_commit old new turn idle may status gives))) says (moves may))
     | inr bars ↦ let r = refused bars in asked_same act old new from to turn (refused_stays e old new turn r.0) r.1 (λ h. refused_stands e old new h turn refusal r.0)
   ])
     where
@@ -332,9 +359,9 @@ module _ {P Q K A B D : Type 0} (w : Ways P Q K A B D) where
       → ((t : Ticket) → allows_rollback old.status ≡ true → undetermined old.commits ≡ Some t → IsUndetermined t turn × (new ≡ record old { work = new.work }) × (to ≡ from))
       → (allows_rollback old.status ≡ true → undetermined old.commits ≡ None → TransactionMoves w (λ h. ⊤) (λ h. h) old new from to turn)
       → (old.work ≡ Idle → new.status ≡ rolled_status old.status (is_some (undetermined old.commits)) turn)
-      → new ≡ record old { status = new.status; commits = new.commits; work = new.work; width = new.width } → GivesUp old new turn → Opens w new from to turn → is_open new.work ≡ is_waiting turn
+      → new ≡ record old { status = new.status; commits = new.commits; work = new.work; width = new.width } → GivesUp old new turn → Opens w new from to turn → is_open new.work ≡ is_waiting turn → SaysLoss turn new
       → IfKept turn (StandMoves w (tells.Act act) old new from to (answer_in answers.Called turn))
-  rollbacks_move act e old new from to turn refusal idle refused unknown moves status kept gives opens busy = if_kept turn (λ alive. elim (is_flag (allows_rollback old.status)) [
+  rollbacks_move act e old new from to turn refusal idle refused unknown moves status kept gives opens busy says = if_kept turn (λ alive. elim (is_flag (allows_rollback old.status)) [
     | inl may ↦ by alive may (undetermined old.commits) refl
     | inr bars ↦ let r = refused bars in asked_same act old new from to turn (refused_stays e old new turn r.0) r.1 (λ h. refused_stands e old new h turn refusal r.0)
   ])
@@ -346,9 +373,11 @@ module _ {P Q K A B D : Type 0} (w : Ways P Q K A B D) where
       keeps = keeps_rollback old new from to turn idle (λ bars. let r = refused bars in (refused_stays e old new turn r.0, r.1)) (λ t may u. let r = unknown t may u in (r.1, r.2)) status (ap (λ (t : Standing P Q K). t.start) kept) contents gives
 
       by : turn ≢ Stopped → allows_rollback old.status ≡ true → (o : Option Ticket) → undetermined old.commits ≡ o → StandMoves w (tells.Act act) old new from to (answer_in answers.Called turn)
-      by alive may (Some t) u = let r = unknown t may u in asked act old new from to turn (IfKept-out turn alive keeps)
-          (moved_quiet r.2 (λ h x. left_fits old new from to turn h alive idle (busy ∙ ends_shut t turn r.0) opens r.1 r.2 x.0) (λ h x. unknown_stands t old new h turn r.0))
-      by alive may None u = asked act old new from to turn (IfKept-out turn alive keeps) (stand_moved (λ h. ⊤) (λ h. h) old new from to turn alive (λ x. opened_lives new.work turn alive opens.next) contents (ends_all turn (IfKept-out turn alive (off_rollback old new turn idle may u status gives))) (moves may u))
+      by alive may (Some t) u =
+          let r = unknown t may u in
+          let fits : (h : List Event) → StandFits w old from h × ⊤ → StandFits w new to h = λ h x. left_fits old new from to turn h alive idle (busy ∙ ends_shut t turn r.0) opens r.1 r.2 x.0 in
+          asked act old new from to turn (IfKept-out turn alive keeps) (moved_quiet r.2 fits (λ h x. unknown_stands t old new to h turn (fits h x) says r.0))
+      by alive may None u = asked act old new from to turn (IfKept-out turn alive keeps) (stand_moved (λ h. ⊤) (λ h. h) old new from to turn alive (λ x. opened_lives new.work turn alive opens.next) contents (ends_all turn (IfKept-out turn alive (off_rollback old new turn idle may u status gives))) says (moves may u))
 
   -- what was asked is this
   pub acts_move : (act is : Act) (old new : Standing P Q K) (from to : Posted) (turn : Turn (Result (TxnAnswer Q) Error)) → act ≡ is
@@ -358,20 +387,20 @@ module _ {P Q K A B D : Type 0} (w : Ways P Q K A B D) where
   -- It hears of something.
 
   hears_move : (a : Arrival) (old new : Standing P Q K) (from to : Posted) (turn : Turn (Result (TxnAnswer Q) Error)) → (turn ≢ Stopped → has_given_up old.work ≡ false → has_given_up new.work ≡ false)
-      → ((r : Request) → TransactionMoves w (told_by a from r).known (told_by a from r).hear old new from to turn) → new.contents ≡ old.contents → IfKept turn (KeepsPlan old new from to) → IfKept turn (IfEnds turn (λ v. allows_data new.status ≡ false))
+      → ((r : Request) → TransactionMoves w (told_by a from r).known (told_by a from r).hear old new from to turn) → new.contents ≡ old.contents → IfKept turn (KeepsPlan old new from to) → IfKept turn (IfEnds turn (λ v. allows_data new.status ≡ false)) → SaysLoss turn new
       → IfKept turn (StandMoves w (tells.Heard a) old new from to (answer_in answers.Called turn))
-  hears_move a old new from to turn lives told same keeps off = if_kept turn (λ alive. record {
+  hears_move a old new from to turn lives told same keeps off says = if_kept turn (λ alive. record {
     keeps = IfKept-out turn alive keeps;
-    moves = λ r. stand_moved (told_by a from r).known (told_by a from r).hear old new from to turn alive (lives alive) same (IfKept-out turn alive off) (told r);
+    moves = λ r. stand_moved (told_by a from r).known (told_by a from r).hear old new from to turn alive (lives alive) same (IfKept-out turn alive off) says (told r);
   })
 
   -- what came is this
   pub heard_moves : {C : Type 0} (b a : Arrival) (meant : Type 0) (old new : Standing P Q K) (from to : Posted) (pd pd' : C) (turn : Turn (Result (TxnAnswer Q) Error)) → b ≡ a → TransactionGoes w meant (record old { commits = new.commits }) new from to pd pd' turn
       → ((r : Request) → TransactionMoves w (told_by a from r).known (told_by a from r).hear old new from to turn) → IsQuiet old → new.status ≡ moved_by old.status turn
-      → new ≡ record old { status = new.status; commits = new.commits; work = new.work; width = new.width } → GivesUp old new turn → (old.work ≡ Idle → (turn ≡ Waits) × (new ≡ old) × (to ≡ from))
+      → new ≡ record old { status = new.status; commits = new.commits; work = new.work; width = new.width } → GivesUp old new turn → (old.work ≡ Idle → (turn ≡ Waits) × (new ≡ old) × (to ≡ from)) → SaysLoss turn new
       → IfKept turn (StandMoves w (tells.Heard b) old new from to (answer_in answers.Called turn))
-  heard_moves b a meant old new from to pd pd' turn e goes told quiet status kept gives deaf =
+  heard_moves b a meant old new from to pd pd' turn e goes told quiet status kept gives deaf says =
       let contents : new.contents ≡ old.contents = ap (λ (t : Standing P Q K). t.contents) kept in
       subst (λ d. IfKept turn (StandMoves w (tells.Heard d) old new from to (answer_in answers.Called turn))) (sym e)
       (hears_move a old new from to turn (λ alive. heard_lives meant old new from to pd pd' turn alive goes) told contents (keeps_heard old new from to turn quiet status (ap (λ (t : Standing P Q K). t.start) kept) contents gives deaf)
-      (off_heard old new turn quiet status gives (λ e. (deaf e).0)))
+      (off_heard old new turn quiet status gives (λ e. (deaf e).0)) says)

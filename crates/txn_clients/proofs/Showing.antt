@@ -29,7 +29,7 @@ use Rattle.txn_plan.specs.declared.arrival.Arrival.{Arrival}
 use Rattle.txn_plan.specs.declared.arrival.Arrival.TheVariants as arrivals
 use Rattle.txn_buffer.specs.Contents.{Contents}
 use Rattle.txn_commit.specs.Committing.{Ways}
-use Rattle.txn_commit.specs.Following.{KnowsCommits, none_sent, undetermined}
+use Rattle.txn_commit.specs.Following.{Commits, KnowsCommits, none_sent}
 use Rattle.txn_commit.specs.Parts.{parts_of}
 use Rattle.txn_commit.specs.Sending.{plan_of}
 use Rattle.txn_commit.specs.declared.commit_parts.CommitParts.{CommitParts}
@@ -420,16 +420,16 @@ module _ {P Q K A B D : Type 0} (w : Ways P Q K A B D) where
         no_parts parts q = cc
     empty_sent GaveUp k at e = absurd (alive k)
 
-    pub known_sent : (u : Ticket) → undetermined t.commits ≡ Some u → (k : KnownTransaction h) × (undetermined k.commits ≡ Some u)
+    pub known_lost : (u : Ticket) → t.commits.lost ≡ Some u → (k : KnownTransaction h) × (k.commits.lost ≡ Some u)
     unfolding known_with
-    known_sent u left = by (parts_of t.contents) refl
+    known_lost u lost = by (parts_of t.contents) refl
       where
         no_ticket : ◌≡◌ {A = Option Ticket} None (Some u) → ⊥
         no_ticket q = cc
 
-        by : (found : Option CommitParts) → parts_of t.contents ≡ found → (k : KnownTransaction h) × (undetermined k.commits ≡ Some u)
-        by None e = absurd (no_ticket (sym (ap undetermined (empty_sent t.work refl f.at e)) ∙ left))
-        by (Some parts) e = (known_with parts e, left)
+        by : (found : Option CommitParts) → parts_of t.contents ≡ found → (k : KnownTransaction h) × (k.commits.lost ≡ Some u)
+        by None e = absurd (no_ticket (sym (ap (λ (c : Commits). c.lost) (empty_sent t.work refl f.at e)) ∙ lost))
+        by (Some parts) e = (known_with parts e, lost)
 
   -- an error that a call answers rests on what it has heard
   pub fails_by : (trace : Option Trace) (at line : ℕ) (e : Error) (h : List Event) → ShownIn trace at h → AreOwn line h → CountedIn trace line (refused_asks h) → ((t : Trace) → trace ≡ Some t → HasFailedFor w false (IsBegunAs t at) h e) → FailsAt w trace at line e

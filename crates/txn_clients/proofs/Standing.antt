@@ -1,5 +1,5 @@
 -- A transaction goes on, and can have arisen from a history of its own.
-use Rattle.std.proofs.Common.{◌≡◌, ◌≢◌, ◌⊎◌, inl, inr, ℕ, ◌≤◌, Bool, true, false, List, [], ◌∷◌, Option, Some, None, refl, sym, ap, ◌∙◌, subst}
+use Rattle.std.proofs.Common.{◌≡◌, ◌≢◌, ◌⊎◌, inl, inr, ℕ, ◌≤◌, Bool, true, false, List, [], ◌∷◌, Option, Some, None, is_some, refl, sym, ap, ◌∙◌, subst}
 use Rattle.std.specs.Prelude.{⊤, Result, Ok, Err}
 use Rattle.txn_kv.specs.Timestamp.{version_of}
 use Rattle.txn_kv.specs.declared.errors.Error.{Error}
@@ -26,7 +26,7 @@ use Rattle.txn_tso.specs.Calling.{members}
 use Rattle.txn_buffer.specs.Contents.{Contents, locked, mutated_by, with_write, write_at}
 use Rattle.txn_buffer.specs.Writes.{Write, WriteCall, after_delete, after_put}
 use Rattle.txn_commit.specs.Committing.{Ways}
-use Rattle.txn_commit.specs.Following.{Commits, awaits, is_out, undetermined}
+use Rattle.txn_commit.specs.Following.{Commits, awaits, is_out, or_first, undetermined}
 use Rattle.txn_commit.specs.Sending.{plan_of}
 use Rattle.txn_core.specs.Going.{IsAtWork, IsUndetermined, TransactionFits, TransactionMoves, TransactionReady}
 use Rattle.txn_core.specs.Status.{allows_data}
@@ -44,10 +44,11 @@ use Rattle.txn_core.specs.declared.options.TransactionOptions.{TransactionOption
 use Rattle.txn_clients.specs.declared.told.Told.TheVariants as tells
 use Rattle.txn_clients.specs.Failing.{CalledIn, CameIn, CountedIn, FailsAt, HasMet, IfFails, LongerIn, RefusedIn, SentIn, ShownIn, KnowsAsk, RollsIn, RetriesIn, owing}
 use Rattle.txn_clients.specs.Resting.{called_in_longer, counted_longer, shown_longer, retries_longer}
+use Rattle.txn_clients.specs.Accounts.{SaysLoss}
 use Rattle.txn_clients.specs.Waiting.{IsKept, IsReached, IsRisen, StandArises, StandGoes}
 use Rattle.txn_clients.proofs.Cleaning.{cleaned, given_cleaned, kept_cleaned, own_cleaned, parts_cleaned, refused_cleaned, shown_cleaned, unsent_cleaned}
-use Rattle.txn_clients.proofs.Showing.{among_behind, barred_by, counted_after, counts_heard, owing_called, owing_came, owing_met, rolls_longer, known_so, fails_done, known_sent, own_after, own_heard, refused_by, refused_longer_in, sent_shown, shown_after, shown_heard, unheard_ends}
-use Rattle.txn_side.specs.Account.{Account}
+use Rattle.txn_clients.proofs.Showing.{among_behind, barred_by, counted_after, counts_heard, owing_called, owing_came, owing_met, rolls_longer, known_so, fails_done, known_lost, own_after, own_heard, refused_by, refused_longer_in, sent_shown, shown_after, shown_heard, unheard_ends}
+use Rattle.txn_side.specs.Account.{Account, is_undetermined_view}
 use Rattle.txn_side.specs.Trace.{AreOwn, Trace, refused_asks}
 use Rattle.txn_side.specs.declared.act.Act.{Act}
 use Rattle.txn_kv.specs.declared.outbox.Errand.TheVariants.{Send}
@@ -488,26 +489,35 @@ module _ {P Q K A B D : Type 0} (w : Ways P Q K A B D) (p : IsLawful w.prewritin
         };
       })
 
-  unknown_fails : (trace longer : Option Trace) (at : ℕ) (t : Ticket) (old : Standing P Q K) (o : Posted) (nexts : List ℕ) (turn : Turn (Result (TxnAnswer Q) Error)) → LongerIn trace longer → RollsIn trace o.line → (old.work ≡ GaveUp → ⊥) → undetermined old.commits ≡ Some t → IsUndetermined t turn → StandArises w trace at o nexts old → IfEnds turn (IfFails (FailsAt w longer at o.line))
-  unknown_fails trace longer at t old o nexts Stopped l rolls alive left u x = tt
-  unknown_fails trace longer at t old o nexts Waits l rolls alive left u x = tt
-  unknown_fails trace longer at t old o nexts (Ends (Ok v)) l rolls alive left u x = tt
-  unknown_fails trace longer at t old o nexts (Ends (Err e)) l rolls alive left u x =
+  -- of those that may have committed it the first that was lost is named
+  lost_first : (c : Commits) (t : Ticket) → is_some c.lost ≡ true → undetermined c ≡ Some t → c.lost ≡ Some t
+  lost_first c t some left = by c.lost refl some left
+    where
+      by : (lost : Option Ticket) → c.lost ≡ lost → is_some lost ≡ true → or_first lost c.out ≡ Some t → c.lost ≡ Some t
+      by None e holds first = absurd (cc)
+      by (Some u) e holds first = e ∙ first
+
+  unknown_fails : (trace longer : Option Trace) (at : ℕ) (t : Ticket) (old : Standing P Q K) (o : Posted) (nexts : List ℕ) (turn : Turn (Result (TxnAnswer Q) Error)) → LongerIn trace longer → RollsIn trace o.line → (old.work ≡ GaveUp → ⊥) → undetermined old.commits ≡ Some t → SaysLoss turn old → IsUndetermined t turn → StandArises w trace at o nexts old → IfEnds turn (IfFails (FailsAt w longer at o.line))
+  unknown_fails trace longer at t old o nexts Stopped l rolls alive left says u x = tt
+  unknown_fails trace longer at t old o nexts Waits l rolls alive left says u x = tt
+  unknown_fails trace longer at t old o nexts (Ends (Ok v)) l rolls alive left says u x = tt
+  unknown_fails trace longer at t old o nexts (Ends (Err e)) l rolls alive left says u x =
       let h = x.arisen.history in
-      barred_by w longer at o.line e h (shown_longer trace longer at h l x.arisen.shown) x.arisen.own (counted_longer trace longer o.line (refused_asks h) l x.arisen.counted) (rolls_longer trace longer o.line l rolls) (let k = known_sent w old o h alive x.arisen.fits t left in record { transaction = k.0; ticket = t; left = k.1; error = u })
+      let k = known_lost w old o h alive x.arisen.fits t (lost_first old.commits t (says (ap is_undetermined_view u)) left) in
+      barred_by w longer at o.line e h (shown_longer trace longer at h l x.arisen.shown) x.arisen.own (counted_longer trace longer o.line (refused_asks h) l x.arisen.counted) (rolls_longer trace longer o.line l rolls) (record { transaction = k.0; ticket = t; left = k.1; error = u })
 
   pub rollbacks_goes : (knows : Option Trace → Type 0) (e : Error) (b : Bool) (lost : Option Ticket) (old new : Standing P Q K) (from to : Posted) (turn : Turn (Result (TxnAnswer Q) Error)) → (b ≡ false → Notes knows from.line (Some e)) → ((trace : Option Trace) → knows trace → RollsIn trace from.line) → undetermined old.commits ≡ lost
       → (b ≡ false → IsRefused e old new turn × (to ≡ from))
       → ((t : Ticket) → b ≡ true → lost ≡ Some t → IsUndetermined t turn × (new ≡ record old { work = new.work }) × (to ≡ from))
       → (b ≡ true → lost ≡ None → TransactionMoves w (λ h. ⊤) (λ h. h) old new from to turn) → new.start ≡ old.start → new.options ≡ old.options → new.contents ≡ old.contents
-      → Opens w new from to turn → is_open new.work ≡ is_waiting turn → is_open old.work ≡ false → GivesUp old new turn
+      → Opens w new from to turn → is_open new.work ≡ is_waiting turn → is_open old.work ≡ false → GivesUp old new turn → SaysLoss turn new
       → IfKept turn (StandGoes w (λ trace. trace) (λ a. ⊥) ⊤ knows old new from to turn)
-  rollbacks_goes knows e true None old new from to turn notes rolls is_lost refused unsure moves start options same opens busy rests gone =
+  rollbacks_goes knows e true None old new from to turn notes rolls is_lost refused unsure moves start options same opens busy rests gone says =
       commits_goes knows e true old new from to turn (λ f. absurd (cc)) (λ f. absurd (cc)) (λ f. moves refl refl) start options same opens busy
-  rollbacks_goes knows e true (Some t) old new from to turn notes rolls is_lost refused unsure moves start options same opens busy rests gone = let u = unsure t refl refl in if_kept turn (λ kept. record {
-    arises = λ trace longer at met called known nexts news o low risen up reached x. (left_alone trace longer at t old new from to o turn nexts news met.longer kept rests (busy ∙ ends_shut t turn u.0) gone u.1 u.2 risen reached x, unknown_fails trace longer at t old from nexts turn met.longer (rolls trace known) (λ e. let d = gone.after e in kept d.0) is_lost u.0 x);
+  rollbacks_goes knows e true (Some t) old new from to turn notes rolls is_lost refused unsure moves start options same opens busy rests gone says = let u = unsure t refl refl in if_kept turn (λ kept. record {
+    arises = λ trace longer at met called known nexts news o low risen up reached x. (left_alone trace longer at t old new from to o turn nexts news met.longer kept rests (busy ∙ ends_shut t turn u.0) gone u.1 u.2 risen reached x, unknown_fails trace longer at t old from nexts turn met.longer (rolls trace known) (λ e. let d = gone.after e in kept d.0) is_lost (λ told. ap (λ (y : Standing P Q K). is_some y.commits.lost) (sym u.1) ∙ says told) u.0 x);
     expects = opened old new from to turn opens;
     runs = λ any f. waiting_open turn new.work busy f;
   })
-  rollbacks_goes knows e false lost old new from to turn notes rolls is_lost refused unsure moves start options same opens busy rests gone =
+  rollbacks_goes knows e false lost old new from to turn notes rolls is_lost refused unsure moves start options same opens busy rests gone says =
       commits_goes knows e false old new from to turn notes refused (λ f. absurd (cc)) start options same opens busy

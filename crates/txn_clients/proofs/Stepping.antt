@@ -13,7 +13,7 @@ use Rattle.txn_history.specs.Phase.{Awaited}
 use Rattle.txn_commit.specs.Committing.{Ways}
 use Rattle.txn_kv.specs.declared.ticket.Ticket.{Ticket}
 use Rattle.txn_side.specs.Sight.{Group, GroupsGo, IsAsk, IsOut}
-use Rattle.txn_side.specs.Waiting.{HearsEnd, HearsReply, NoneHeard, WaitsOn}
+use Rattle.txn_side.specs.Waiting.{WaitsOn}
 use Rattle.txn_side.specs.Waiting as side
 use Rattle.txn_side.specs.Waiting.Awaited.{EndOf as SideEnd, ReplyTo as SideReply}
 use Rattle.txn_side.specs.declared.turn.Posting.{Posting}

@@ -150,6 +150,10 @@ says_undetermined Waits = false
 says_undetermined (Ends (Ok v)) = false
 says_undetermined (Ends (Err e)) = is_undetermined e
 
+-- it says so only where a Commit of its primary was lost
+abbrev pub SaysLoss : {P Q K : Type 0} → Turn (Result (TxnAnswer Q) Error) → Standing P Q K → Type 0
+SaysLoss turn t = says_undetermined turn ≡ true → is_some t.commits.lost ≡ true
+
 -- a commit ends with no other answer
 abbrev pub EndsCommit : {Q : Type 0} → Result (TxnAnswer Q) Error → Type 0
 EndsCommit (Err e) = ⊤

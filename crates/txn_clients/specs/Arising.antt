@@ -28,7 +28,7 @@ use Rattle.txn_plan.specs.Arrivals.{told_by}
 use Rattle.txn_merge.specs.declared.retry_options.RetryOptions.{RetryOptions}
 use Rattle.txn_plan.specs.declared.arrival.Arrival.TheVariants as arrivals
 use Rattle.txn_commit.specs.Committing.{Ways}
-use Rattle.txn_commit.specs.Following.{CommitsPrimary, KnowsCommits, undetermined}
+use Rattle.txn_commit.specs.Following.{CommitsPrimary, KnowsCommits, PrimaryLost, undetermined}
 use Rattle.txn_commit.specs.Jobs.{JobFits}
 use Rattle.txn_commit.specs.Parts.{parts_of}
 use Rattle.txn_commit.specs.Sending.{MaySendBehind, plan_of}
@@ -97,6 +97,14 @@ abbrev pub AskStands : {P Q K : Type 0} → Wanted → Option (Answer P Q K) →
 AskStands x (Some (answers.Asked v)) h = CallGives x h v
 AskStands x answer h = ⊤
 
+-- A Commit of its primary was lost, as the transaction knows. It is written no more.
+pub record HasLostOne {P Q K : Type 0} (t : Standing P Q K) (h : List Event) : Type 0 where
+  pub parts : CommitParts
+  pub closed : allows_data t.status ≡ false
+  pub whole : parts_of t.contents ≡ Some parts
+  pub ticket : Ticket
+  pub lost : PrimaryLost (plan_of parts) (version_of t.start) h ticket
+
 -- As far as a transaction knows, and it knows of each Commit of its primary, none was lost. It is written no more.
 pub record IsSettled {P Q K : Type 0} (t : Standing P Q K) (h : List Event) : Type 0 where
   pub parts : CommitParts
@@ -106,10 +114,10 @@ pub record IsSettled {P Q K : Type 0} (t : Standing P Q K) (h : List Event) : Ty
   pub none : undetermined t.commits ≡ None
 
 -- and what a transaction answers that is committed, which stood so before, and is written no more; or that fails: it was refused, or
--- says that it is in doubt, or is in none
+-- says that it is in doubt, and a Commit of its primary was lost, or it says no such thing, and is in none
 abbrev pub CallStands : {P Q K A B D : Type 0} → Ways P Q K A B D → Standing P Q K → Standing P Q K → Option (Answer P Q K) → List Event → Type 0
 CallStands w old new (Some (answers.Called (Ok (answer.Committed t job)))) h = (allows_data new.status ≡ false) × TransactionGives w old.options.retry_options old.start old.contents new.commits h (Ok (answer.Committed t job))
-CallStands w old new (Some (answers.Called (Err e))) h = IsRefusal e ⊎ ((is_undetermined e ≡ true) ⊎ IsSettled new h)
+CallStands w old new (Some (answers.Called (Err e))) h = IsRefusal e ⊎ (((is_undetermined e ≡ true) × HasLostOne new h) ⊎ ((is_undetermined e ≡ false) × IsSettled new h))
 CallStands w old new answer h = ⊤
 
 -- A transaction can have arisen from the history, the keys of its buffer are in order, and it has not given up.
@@ -248,9 +256,14 @@ abbrev pub IsUndoubted : {P Q K : Type 0} → List Event → Row P Q K → Type 
 IsUndoubted h (row.Begun c t m) = (parts : CommitParts) × (allows_data t.status ≡ false) × (parts_of t.contents ≡ Some parts) × ((u : Ticket) (r : CommitRequest) → Has h (Lost u (Commit r)) → CommitsPrimary (plan_of parts) (version_of t.start) r → (o : Reply) × Has h (Took u (Commit r) o))
 IsUndoubted h r = ⊥
 
+-- a Commit of the primary of this transaction was lost
+abbrev pub IsDoubted : {P Q K : Type 0} → List Event → Row P Q K → Type 0
+IsDoubted h (row.Begun c t m) = HasLostOne t h
+IsDoubted h r = ⊥
+
 -- What a call of it that fails says is right then. In a longer history it need not be.
 abbrev pub SpeaksRight : {P Q K : Type 0} → List Event → Error → Row P Q K → Type 0
-SpeaksRight h e r = IsRefusal e ⊎ ((is_undetermined e ≡ true) ⊎ IsUndoubted h r)
+SpeaksRight h e r = IsRefusal e ⊎ (((is_undetermined e ≡ true) × IsDoubted h r) ⊎ ((is_undetermined e ≡ false) × IsUndoubted h r))
 
 abbrev pub SpeaksRightAt : {P Q K : Type 0} → List (Row P Q K) → List Event → ℕ → Error → Type 0
 SpeaksRightAt rows h zero e = ⊥

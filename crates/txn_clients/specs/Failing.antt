@@ -73,11 +73,11 @@ pub record CallFailed {P Q K A B D : Type 0} (w : Ways P Q K A B D) (begun : Beg
   pub retries : AreRetriesOf begun transaction.retry_options
   pub fails : FailsWith w transaction.retry_options (version_of transaction.start) transaction.parts (undetermined transaction.commits) h e
 
--- a rollback of it was refused, since it is not known what became of this Commit of its primary
+-- a rollback of it was refused, since this Commit of its primary was lost
 pub record CallRefused (h : List Event) (e : Error) : Type 0 where
   pub transaction : KnownTransaction h
   pub ticket : Ticket
-  pub left : undetermined transaction.commits ≡ Some ticket
+  pub left : transaction.commits.lost ≡ Some ticket
   pub error : view_of e ≡ not_known (view_of (GrpcAPI ticket))
 
 -- how a call may fail, or a rollback alone; any call also where there was no timestamp

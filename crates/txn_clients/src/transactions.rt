@@ -4,7 +4,7 @@ ghost use Rattle.txn_clients.specs.Rows.{answer_in};
 ghost use Rattle.txn_clients.specs.declared.answer.Answer.TheVariants.{Called};
 ghost use Rattle.txn_clients.specs.declared.told.Told.TheVariants as tells;
 ghost use Rattle.std.specs.Prelude.{◌≡◌, ◌<◌, ◌^◌, IsTrue, Ok, false, ⊤, true};
-ghost use Rattle.txn_clients.specs.Accounts.{EndsCommit, HasHeard, HasTaken, IsQuiet, TellsEnd, account_of, says_undetermined, stage_of};
+ghost use Rattle.txn_clients.specs.Accounts.{EndsCommit, HasHeard, HasTaken, IsQuiet, SaysLoss, TellsEnd, account_of, says_undetermined, stage_of};
 ghost use Rattle.txn_clients.specs.Closing.{stage_after, status_by};
 ghost use Rattle.txn_clients.specs.Failing.{CameIn, KnowsAsk, owing};
 ghost use Rattle.txn_clients.specs.Rows.{IsTold};
@@ -41,6 +41,23 @@ fn fits_status<Q>(progress: &Progress<TxnAnswer<Q>>, before: Status, after: Stat
     match progress {
         Progress::Waiting => true,
         Progress::Done(answer) => !says_undetermined(answer) || after == before,
+    }
+}
+
+/// Whether a Commit of the primary was lost, where the answer says that it is not known whether the transaction is committed.
+fn fits_loss<P, Q, K>(
+    progress: &Progress<TxnAnswer<Q>>,
+    transaction: &Transaction<Pd, P, Q, K>,
+) -> bool
+where
+    P: PlanFor<PrewriteRequest>,
+    Q: PlanFor<CommitRequest>,
+    K: PlanFor<BatchRollbackRequest>,
+    ensures { IsTrue result → SaysLoss (turn_of (Ok progress.now)) transaction.now }
+{
+    match progress {
+        Progress::Waiting => true,
+        Progress::Done(answer) => !says_undetermined(answer) || transaction.has_lost_commit(),
     }
 }
 
@@ -144,8 +161,8 @@ where
     ensures moves { IfKept (turn_of result) (StandMoves (ways P.meaning Q.meaning K.meaning P.refuses Q.refuses K.refuses) (tells.Act acts.Commit) transaction.old transaction.new out.old out.new (answer_in Called (turn_of result))) }
 {
     let progress = transaction.commit(pd, now, out)?;
-    // It answers that its end is not known exactly where a Commit was lost or is not refused: no plan makes it say otherwise.
-    if !tells_progress(&progress, transaction) {
+    // It answers that its end is not known exactly where a Commit was lost: no plan makes it say otherwise.
+    if !tells_progress(&progress, transaction) || !fits_loss(&progress, transaction) {
         return Err(NoMemory);
     }
     Ok(progress)
@@ -174,8 +191,8 @@ where
 {
     let before = transaction.status();
     let progress = transaction.rollback(pd, now, out)?;
-    // Only a rollback that is refused answers that it is not known, and leaves the status.
-    if !fits_status(&progress, before, transaction.status()) {
+    // Only a rollback that is refused answers that it is not known, since a Commit was lost, and leaves the status.
+    if !fits_status(&progress, before, transaction.status()) || !fits_loss(&progress, transaction) {
         return Err(NoMemory);
     }
     Ok(progress)
@@ -235,6 +252,36 @@ where
     ensures heard { IfKept (turn_of result) (HasHeard transaction.old transaction.new (turn_of result)) }
     ensures goes { IfKept (turn_of result) (StandGoes (ways P.meaning Q.meaning K.meaning P.refuses Q.refuses K.refuses) (owing out.old.line (tells.Heard arrival)) (λ a. a ≡ awaited_as arrival) (is_open transaction.old.work ≡ true) (λ trace. CameIn trace out.old arrival) transaction.old transaction.new out.old out.new (turn_of result)) }
     ensures moves { IfKept (turn_of result) (StandMoves (ways P.meaning Q.meaning K.meaning P.refuses Q.refuses K.refuses) (tells.Heard arrival) transaction.old transaction.new out.old out.new (answer_in Called (turn_of result))) }
+{
+    let progress = tell(transaction, arrival, pd, now, out)?;
+    // Each Commit of the primary was answered or lost by then: no plan ends before.
+    if !fits_loss(&progress, transaction) {
+        return Err(NoMemory);
+    }
+    Ok(progress)
+}
+
+/// A transaction is told of something.
+fn tell<P, Q, K>(
+    transaction: &mut Transaction<Pd, P, Q, K>,
+    arrival: Arrival,
+    pd: &mut Pd,
+    now: u64,
+    out: &mut Outbox,
+) -> Result<Progress<TxnAnswer<Q>>, NoMemory>
+where
+    P: PlanFor<PrewriteRequest>,
+    Q: PlanFor<CommitRequest>,
+    K: PlanFor<BatchRollbackRequest>,
+    requires ready { TransactionReady (ways P.meaning Q.meaning K.meaning P.refuses Q.refuses K.refuses) transaction.old }
+    requires arrives { MayArrive arrival }
+    requires numbers { HasNumbers out.old }
+    requires clock { now < 2 ^ 44 }
+    requires quiet { IsQuiet transaction.old }
+    ensures told { IfKept (turn_of result) (IsTold (ways P.meaning Q.meaning K.meaning P.refuses Q.refuses K.refuses) transaction.new out.old out.new (turn_of result)) }
+    ensures heard { IfKept (turn_of result) (HasHeard transaction.old transaction.new (turn_of result)) }
+    ensures goes { IfKept (turn_of result) (StandGoes (ways P.meaning Q.meaning K.meaning P.refuses Q.refuses K.refuses) (owing out.old.line (tells.Heard arrival)) (λ a. a ≡ awaited_as arrival) (is_open transaction.old.work ≡ true) (λ trace. CameIn trace out.old arrival) transaction.old transaction.new out.old out.new (turn_of result)) }
+    ensures moves { SaysLoss (turn_of result) transaction.new → IfKept (turn_of result) (StandMoves (ways P.meaning Q.meaning K.meaning P.refuses Q.refuses K.refuses) (tells.Heard arrival) transaction.old transaction.new out.old out.new (answer_in Called (turn_of result))) }
 {
     match arrival {
         Arrival::Reply { number, reply } => transaction.take_reply(pd, now, number, reply, out),

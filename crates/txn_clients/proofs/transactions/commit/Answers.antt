@@ -26,4 +26,4 @@ returns-clause-goes g c = commits_goes _ g.met.P.Plan.lawful g.met.Q.Plan.lawful
     (λ bars. notes_so c.args.out.now.line Commit (account_of c.args.transaction.now) _ (commit_barred c.args.transaction.now c.requires.quiet bars)) c.in_ok-progress.ensures.refused c.in_ok-progress.ensures.moves (ap (λ t. t.start) c.in_ok-progress.ensures.kept) (ap (λ t. t.options) c.in_ok-progress.ensures.kept) (ap (λ t. t.contents) c.in_ok-progress.ensures.kept) c.in_ok-progress.ensures.opens c.in_ok-progress.ensures.busy
 
 pub returns-clause-moves : goal.returns-clause-moves
-returns-clause-moves g c = commits_move _ Commit OperationAfterCommitError c.args.transaction.now c.commit.new.self c.args.out.now c.commit.new.out (turn_of (Ok c.in_ok-progress.progress)) tt c.requires.idle c.in_ok-progress.ensures.refused c.in_ok-progress.ensures.moves c.in_ok-progress.ensures.status c.in_ok-progress.ensures.kept c.in_ok-progress.ensures.gives_up c.in_ok-progress.ensures.opens
+returns-clause-moves g c = commits_move _ Commit OperationAfterCommitError c.args.transaction.now c.commit.new.self c.args.out.now c.commit.new.out (turn_of (Ok c.in_ok-progress.progress)) tt c.requires.idle c.in_ok-progress.ensures.refused c.in_ok-progress.ensures.moves c.in_ok-progress.ensures.status c.in_ok-progress.ensures.kept c.in_ok-progress.ensures.gives_up c.in_ok-progress.ensures.opens (c.if-not-fits_loss.ensures refl)
