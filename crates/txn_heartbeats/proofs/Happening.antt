@@ -1,7 +1,7 @@
 -- What has happened in a run, where heartbeats post beside the calls.
 use Rattle.std.proofs.Common.{◌≡◌, inl, inr, ℕ, ◌+◌, ◌<◌, true, false, List, [], ◌∷◌, ◌++◌, refl, sym, ap, ◌∙◌, subst, arith}
 use Rattle.std.proofs.lemmas.List.Elements.{All-weaker}
-use Rattle.txn_history.specs.Event.{Event}
+use Rattle.txn_history.specs.Event.{Event, Has}
 use Rattle.txn_history.specs.Event.Event.{Lost, Sent}
 use Rattle.txn_kv.specs.declared.request.PrewriteRequest.{PrewriteRequest}
 use Rattle.txn_kv.specs.declared.request.Request.{Request}
@@ -11,7 +11,7 @@ use Rattle.txn_law.specs.Run.{IsPossible, IsUnused}
 use Rattle.txn_report.specs.declared.outcome.Outcome.{Outcome}
 use Rattle.txn_report.specs.declared.outcome.Outcome.TheVariants as outcomes
 use Rattle.txn_side.specs.Arising.{Arises, IsBeat, with_posting, with_postings}
-use Rattle.txn_side.specs.Doubt.{IsInDoubt, SpeaksOf, TellsDoubt}
+use Rattle.txn_side.specs.Doubt.{HasLostCommit, IsInDoubt, SpeaksOf, TellsDoubt}
 use Rattle.txn_side.specs.Sight.{next_at, ticket_in, with_next}
 use Rattle.txn_side.specs.declared.turn.Ending.{Ending}
 use Rattle.txn_side.specs.declared.turn.Posting.{Posting}
@@ -71,7 +71,7 @@ fresh_unused line from h t named fresh q has = absurd (omega (arith, below))
     below : next_at from line < next_at from line
     below = subst (λ (v : Ticket). v.number < next_at from v.line) named (fresh t q has (ap (λ (v : Ticket). v.beat) named))
 
--- What is in doubt: what heartbeats post is no Prewrite, and no loss, so it puts no transaction in doubt.
+-- What is in doubt: what heartbeats post is no Prewrite, and no loss, so it puts no transaction in doubt, and none out of it.
 
 beat_prewrites : (t u : Ticket) (r : Request) (q : PrewriteRequest) → IsBeat r → Sent t r ≡ Sent u (requests.Prewrite q) → ⊥
 beat_prewrites t u r q beat e = subst IsBeat (sent_same e) beat
@@ -82,18 +82,36 @@ beat_prewrites t u r q beat e = subst IsBeat (sent_same e) beat
 sent_lost : (t u : Ticket) (r q : Request) → Sent t r ≡ Lost u q → ⊥
 sent_lost t u r q e = cc
 
+-- with a Prewrite and a loss that are not of a heartbeat
+prewrite_before : (h : List Event) (t : Ticket) (r : Request) → IsBeat r → (u : Ticket) (q : PrewriteRequest) → Has (Sent t r ∷ h) (Sent u (requests.Prewrite q)) → Has h (Sent u (requests.Prewrite q))
+prewrite_before h t r beat u q has = elim has [ inl same ↦ absurd (beat_prewrites t u r q beat same) | inr was ↦ was ]
+
+lost_before : (h : List Event) (t : Ticket) (r : Request) (u : Ticket) (q : Request) → Has (Sent t r ∷ h) (Lost u q) → Has h (Lost u q)
+lost_before h t r u q has = elim has [ inl same ↦ absurd (sent_lost t u r q same) | inr was ↦ was ]
+
 doubt_sent : (s : ℕ) (h : List Event) (t : Ticket) (r : Request) → IsBeat r → IsInDoubt s (Sent t r ∷ h) → IsInDoubt s h
-doubt_sent s h t r beat d = record {
-  written = d.written;
-  prewrite = d.prewrite;
-  sent = elim d.sent [ inl same ↦ absurd (beat_prewrites t d.written r d.prewrite beat same) | inr was ↦ was ];
-  start = d.start;
-  ticket = d.ticket;
-  commit = d.commit;
-  lost = elim d.lost [ inl same ↦ absurd (sent_lost t d.ticket r (requests.Commit d.commit) same) | inr was ↦ was ];
-  untaken = λ o took. d.untaken o (inr took);
-  same = d.same;
-  primary = d.primary;
+doubt_sent s h t r beat d =
+    let w = d.written in
+    let l = d.left in
+    record {
+      written = (w.0, w.1, prewrite_before h t r beat w.0 w.1 w.2, w.3);
+      left = record {
+        ticket = l.ticket;
+        commit = l.commit;
+        lost = lost_before h t r l.ticket (requests.Commit l.commit) l.lost;
+        same = l.same;
+        primary = λ u q has. l.primary u q (inr has);
+      };
+      untaken = λ o took. d.untaken o (inr took);
+    }
+
+loss_sent : (s : ℕ) (h : List Event) (t : Ticket) (r : Request) → IsBeat r → HasLostCommit s h → HasLostCommit s (Sent t r ∷ h)
+loss_sent s h t r beat l = record {
+  ticket = l.ticket;
+  commit = l.commit;
+  lost = inr l.lost;
+  same = l.same;
+  primary = λ u q has. l.primary u q (prewrite_before h t r beat u q has);
 }
 
 doubt_before : (line : ℕ) (from to : List ℕ) (ps : List Posting) (h : List Event) (s : ℕ) → AreBeats line from ps to → IsInDoubt s (with_postings ps h) → IsInDoubt s h
@@ -101,13 +119,18 @@ doubt_before line from to [] h s b d = d
 doubt_before line from to (Sleep t ∷ ps) h s b d = doubt_before line (with_next from line) to ps h s b.1 d
 doubt_before line from to (Send t target r askers ∷ ps) h s b d = doubt_sent s h t r b.0.beats.0 (doubt_before line (with_next from line) to ps (Sent t r ∷ h) s b.1 d)
 
-tells_still : (h longer : List Event) (s : ℕ) (o : Outcome) → (IsInDoubt s longer → IsInDoubt s h) → TellsDoubt h s o → TellsDoubt longer s o
-tells_still h longer s (outcomes.Err e) before told = elim told [ inl refused ↦ inl refused | inr says ↦ inr (λ d. says (before d)) ]
-tells_still h longer s o before told = tt
+loss_after : (line : ℕ) (from to : List ℕ) (ps : List Posting) (h : List Event) (s : ℕ) → AreBeats line from ps to → HasLostCommit s h → HasLostCommit s (with_postings ps h)
+loss_after line from to [] h s b l = l
+loss_after line from to (Sleep t ∷ ps) h s b l = loss_after line (with_next from line) to ps h s b.1 l
+loss_after line from to (Send t target r askers ∷ ps) h s b l = loss_after line (with_next from line) to ps (Sent t r ∷ h) s b.1 (loss_sent s h t r b.0.beats.0 l)
+
+tells_still : (h longer : List Event) (s : ℕ) (o : Outcome) → (IsInDoubt s longer → IsInDoubt s h) → (HasLostCommit s h → HasLostCommit s longer) → TellsDoubt h s o → TellsDoubt longer s o
+tells_still h longer s (outcomes.Err e) before after told = elim told [ inl refused ↦ inl refused | inr says ↦ inr (record { always = λ d. says.always (before d); only = λ is. after (says.only is) }) ]
+tells_still h longer s o before after told = tt
 
 -- what a call said before that of the doubt of a transaction is right still
 speaks_still : (line : ℕ) (from to : List ℕ) (ps : List Posting) (held : ℕ → Outcome → Type 0) (h : List Event) (x n : ℕ) (o : Outcome) → AreBeats line from ps to → SpeaksOf held h x n o → SpeaksOf held (with_postings ps h) x n o
-speaks_still line from to ps held h x n o b speaks = λ other s began. tells_still h (with_postings ps h) s o (doubt_before line from to ps h s b) (speaks other s began)
+speaks_still line from to ps held h x n o b speaks = λ other s began. tells_still h (with_postings ps h) s o (doubt_before line from to ps h s b) (loss_after line from to ps h s b) (speaks other s began)
 
 -- What a heartbeat posts
 
