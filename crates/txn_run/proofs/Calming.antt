@@ -15,7 +15,7 @@ use Rattle.txn_kv.specs.declared.message.RegionErr.{RegionErr}
 use Rattle.txn_kv.specs.declared.message.RegionErr.TheVariants.{EpochNotMatch}
 use Rattle.txn_kv.specs.declared.reply.Reply.{Reply}
 use Rattle.txn_kv.specs.declared.request.Request.{Request}
-use Rattle.txn_kv.specs.declared.request.Request.TheVariants.{GetRegion}
+use Rattle.txn_kv.specs.declared.request.Request.TheVariants.{Commit, GetRegion}
 use Rattle.txn_kv.specs.declared.ticket.Ticket.{Ticket}
 use Rattle.txn_history.specs.Among.{IsAmong}
 use Rattle.txn_causes.specs.Carried.{FoundOther, HasBadKey, HasKeyError, HasLock, HasNoEpoch, HasNoLeader, HasRegion, HasRegionError, IsReversed, ToldWithoutEpoch}
@@ -25,7 +25,7 @@ use Rattle.txn_causes.specs.Heard.Heard.{WasLost}
 use Rattle.txn_causes.specs.Kinds.{IsOfKind}
 use Rattle.txn_clients.specs.Want.{is_memory, some_want_memory, wants_memory}
 use Rattle.txn_side.specs.Trace.{IsCalled, Trace}
-use Rattle.txn_run.specs.Calm.{FailsCalmly, IsCalm, IsGoodReply}
+use Rattle.txn_run.specs.Calm.{IsCalm, IsGoodReply, IsNotCalm}
 use Rattle.txn_run.specs.Caused.{HeardBy, IsCaused, IsExplained, IsSpentFor, IsRollbackRefused, IsUndetermined}
 
 no_region_error : (error : RegionErr) (r : Request) (o : Reply) → IsGoodReply r o → HasRegionError error o → ⊥
@@ -111,10 +111,10 @@ fed_so : (b : Bool) → b ≡ false → b ≡ true → ⊥
 fed_so true e f = cc
 fed_so false e f = cc
 
-pub fails_calmly : (t : Trace) (n : ℕ) (e : Error) → IsCaused t n e → FailsCalmly t n e
-fails_calmly t n e c calm = (c.at, c.called, by c.why)
+pub not_calm : (t : Trace) (n : ℕ) (e : Error) → IsCaused t n e → IsNotCalm t n e
+not_calm t n e c calm = by c.why
   where
-    by : IsExplained t c.at n e ⊎ (IsUndetermined t c.at n e ⊎ IsRollbackRefused t c.at n e) → IsRollbackRefused t c.at n e
-    by (inl k) = absurd (fed_so (wants_memory (view_of e)) c.fed (unexplained t c.at n c.called calm e k))
-    by (inr (inl k)) = absurd (fed_so (wants_memory (view_of e)) c.fed (ap wants_memory k.error ∙ unexplained t c.at n c.called calm k.inner k.explained))
-    by (inr (inr k)) = k
+    by : IsExplained t c.at n e ⊎ (IsUndetermined t c.at n e ⊎ IsRollbackRefused t c.at n e) → ⊥
+    by (inl k) = fed_so (wants_memory (view_of e)) c.fed (unexplained t c.at n c.called calm e k)
+    by (inr (inl k)) = fed_so (wants_memory (view_of e)) c.fed (ap wants_memory k.error ∙ unexplained t c.at n c.called calm k.inner k.explained)
+    by (inr (inr k)) = calm.settled c.at k.ticket (Commit k.commit) c.called k.lost k.sent tt

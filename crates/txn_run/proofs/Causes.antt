@@ -1,12 +1,10 @@
 -- From what a call that failed had heard to what the report tells.
-use Rattle.std.proofs.Common.{◌≡◌, ◌⊎◌, inl, inr, zero, suc, ℕ, refl, ap, ◌∙◌, subst, arith}
+use Rattle.std.proofs.Common.{◌≡◌, ◌⊎◌, inl, inr, zero, suc, ℕ, refl, ap, ◌∙◌, subst}
 use Rattle.std.specs.Global.{Vec}
 use Rattle.std.specs.Prelude.{Bool, if◌then◌else◌, true, false, List, [], ◌∷◌, Option, Some, None, Result, Err, reverse}
-use Rattle.std.specs.List.{Any}
 use Rattle.txn_kv.specs.ErrorView.{view_of, ErrorView, ErrorViews}
 use Rattle.txn_kv.specs.ErrorView.ErrorView.{plain, locks, region, undetermined as not_known, key, extracted, multiple, kv, text, pessimistic}
 use Rattle.txn_kv.specs.ErrorView.ErrorViews.{none, more}
-use Rattle.txn_kv.specs.Timestamp.{version_of}
 use Rattle.txn_kv.specs.declared.errors.Error.{Error}
 use Rattle.txn_kv.specs.declared.errors.Error.TheVariants.{GrpcAPI, RegionForKeyNotFound, RegionNotFoundInResponse, LeaderNotFound, InternalError, OutOfMemory}
 use Rattle.txn_kv.specs.declared.errors.Internal.{Internal}
@@ -27,9 +25,8 @@ use Rattle.txn_kv.specs.declared.ticket.Ticket.{Ticket}
 use Rattle.txn_kv.specs.declared.timestamp.Timestamp.{Timestamp}
 use Rattle.txn_history.specs.Among.{IsAmong}
 use Rattle.txn_history.specs.Event.{Event, Has}
-use Rattle.txn_history.specs.Event.Event.{Sent, Took, Lost, Answered}
+use Rattle.txn_history.specs.Event.Event.{Took, Lost, Answered}
 use Rattle.txn_history.specs.Faults.{has_region_error}
-use Rattle.txn_history.specs.Plan.{Plan}
 use Rattle.txn_history.specs.Posted.{ticket_of}
 use Rattle.txn_causes.specs.Carried.{listed, FoundNone, FoundOther, HasBadKey, HasKeyError, HasLock, HasNoEpoch, HasNoLeader, HasRegion, HasRegionError, IsReversed, ToldWithoutEpoch}
 use Rattle.txn_causes.specs.Causes.{FoundNoRegion, HasCause, HasFailed, HaveFailed, InternalCause, IsTriedOut, PlainCause, Taken, retries}
@@ -40,8 +37,7 @@ use Rattle.txn_causes.specs.Heard.Heard.{TookReply, WasLost}
 use Rattle.txn_causes.specs.Kinds.{IsOfKind}
 use Rattle.txn_buffer.specs.Contents.{Contents}
 use Rattle.txn_commit.specs.Committing.{Ways, ways}
-use Rattle.txn_commit.specs.Following.{Commits, KnowsCommits, PrimarySent, first_of, or_first, undetermined}
-use Rattle.txn_commit.specs.Sending.{plan_of}
+use Rattle.txn_commit.specs.Following.{Commits, undetermined}
 use Rattle.txn_merge.specs.declared.retry_options.RetryOptions.{RetryOptions}
 use Rattle.txn_commit_plans.specs.CausesOfCalls.{IsCallExplained, call_explained, untimed_caused}
 use Rattle.txn_commit_plans.specs.CausesOfCalls as calls
@@ -50,7 +46,7 @@ use Rattle.txn_commit_plans.specs.CausesOfPlans.{commits_caused, prewrites_cause
 use Rattle.txn_commit_plans.specs.Failing.{HasGivenWith, given_caused}
 use Rattle.txn_commit_plans.specs.Kinds.{CommitPlan, PrewritePlan, RollbackPlan, commit_plan, commit_retries, prewrite_plan, prewrite_retries, rollback_plan, rollback_retries}
 use Rattle.txn_core.specs.Going.{TransactionGives}
-use Rattle.txn_side.specs.Trace.{AreOwn, AreShown, FailsIn, HasRefused, IsBegunAs, IsHarmless, IsRefusedIn, IsSend, IsSentIn, Trace, refused_asks}
+use Rattle.txn_side.specs.Trace.{AreOwn, AreShown, FailsIn, HasRefused, IsBegunAs, IsHarmless, IsRefusedIn, Trace, refused_asks}
 use Rattle.txn_report.specs.declared.outcome.Outcome.{Outcome}
 use Rattle.txn_report.specs.declared.report.Report.{Report}
 use Rattle.txn_lines.specs.Text.{IsScript}
@@ -68,12 +64,12 @@ use Rattle.txn_run.specs.Behind.{AreBehind}
 use Rattle.txn_run.specs.Program.{RanScript}
 use Rattle.txn_run.specs.Refused.{AreExact}
 use Rattle.txn_run.proofs.Asking.{fewer_refused, refused_again}
-use Rattle.txn_run.proofs.Calming.{fails_calmly}
+use Rattle.txn_run.proofs.Calming.{not_calm}
 use Rattle.txn_run.proofs.Doubting.{told_of_doubt}
 use Rattle.txn_run.proofs.Matching.{lines_kind}
 use Rattle.txn_run.proofs.Refusing.{all_exact, never_caused}
 use Rattle.txn_run.proofs.Wholeness.{lines_whole}
-use Rattle.txn_run.specs.Caused.{HasCommit, HaveCauses, HeardBy, IsCaused, IsExplained, IsRollbackRefused, IsUndetermined, attempts_of, trace_at}
+use Rattle.txn_run.specs.Caused.{HaveCauses, HeardBy, IsCaused, IsExplained, IsRollbackRefused, IsUndetermined, attempts_of, trace_at}
 
 -- In a reply that says without error what was done, and in one with timestamps, no error has its cause.
 
@@ -202,14 +198,6 @@ module _ (K M : Heard → Type 0)
   spent_shown : (attempts : ℕ) → IsSpent K attempts → IsSpent M attempts
   spent_shown attempts k = (k.0, k.1, k.2, failed_below k.0 k.1 k.2 (suc attempts) k.3)
 
--- of the first of these it is known that it was sent
-first_sent : (plan : Plan) (s : ℕ) (h : List Event) (u : Ticket) (out : List Ticket) → ((v : Ticket) → IsAmong out v → PrimarySent plan s h v) → first_of out ≡ Some u → PrimarySent plan s h u
-first_sent plan s h u [] sent e = cc
-first_sent plan s h u (v ∷ out) sent e = let same : v ≡ u = cc in subst (PrimarySent plan s h) same (sent v (inl refl))
-
-none_posted : (u : Ticket) (r : Request) → Any (IsSend u r) [] → ⊥
-none_posted u r k = omega (arith, k.2)
-
 -- so often what a transaction sends is tried again, by the words of its line
 left_unless : (b : Bool) → attempts_left (backoff_unless b usual_retries.region_backoff) ≡ (if b then 0 else 10)
 left_unless true = refl
@@ -219,7 +207,7 @@ attempts_same : (told : BeginOptions) (own : RetryOptions) → own ≡ retries_o
 attempts_same told own e = ap (λ (r : RetryOptions). attempts_left r.region_backoff) e ∙ left_unless told.no_regions
 
 -- What a call heard is shown, and came for its line, which had no fewer asks refused than it heard of.
-module _ (t : Trace) (at n : ℕ) (h : List Event) (unposted : t.posted ≡ []) (like : (u : Ticket) (r : Request) (o : Reply) → Has t.events (Took u r o) → IsOfKind r o) (shown : AreShown t at h) (own : AreOwn n h) (counted : HasRefused t n (refused_asks h)) where
+module _ (t : Trace) (at n : ℕ) (h : List Event) (like : (u : Ticket) (r : Request) (o : Reply) → Has t.events (Took u r o) → IsOfKind r o) (shown : AreShown t at h) (own : AreOwn n h) (counted : HasRefused t n (refused_asks h)) where
   took_shown : (u : Ticket) (r : Request) (o : Reply) → heard_in h (TookReply u r o) → HeardBy t at n (TookReply u r o) ⊎ IsHarmless r o
   took_shown u r o k = elim (shown (Took u r o) k) [ inl s ↦ elim (own (Took u r o) k) [ inl line ↦ inl (line, s.1, like u r o s.1) | inr harmless ↦ inr harmless ] | inr harmless ↦ inr harmless ]
 
@@ -241,52 +229,21 @@ module _ (t : Trace) (at n : ℕ) (h : List Event) (unposted : t.posted ≡ []) 
   untimed e (inl k) = inl (has_cause (heard_in h) (HeardBy t at n) (λ never. absurd never) took_shown lost_shown (view_of e) k)
   untimed e (inr k) = asked e k
 
-  sent_shown : (u : Ticket) (r : Request) → IsSentIn t u r → Has t.events (Sent u r)
-  sent_shown u r (inl s) = s
-  sent_shown u r (inr s) = absurd (none_posted u r (subst (Any (IsSend u r)) unposted s))
-
-  commit_shown : (plan : Plan) (start : ℕ) (c : Commits) (u : Ticket) → KnowsCommits plan start c h → undetermined c ≡ Some u → HasCommit t at plan start u
-  commit_shown plan start c u k left = by c.lost refl left
-    where
-      by : (first : Option Ticket) → c.lost ≡ first → or_first first c.out ≡ Some u → HasCommit t at plan start u
-      by None l f =
-          let p = first_sent plan start h u c.out k.waiting f in
-          let s = shown (Sent u (Commit p.0)) p.1 in
-          (s.0, (p.0, p.2, inl (sent_shown u (Commit p.0) s.1)))
-      by (Some first) l f =
-          let same : first ≡ u = cc in
-          let p = k.losing u (subst (λ x. c.lost ≡ Some x) same l) in
-          let s = shown (Lost u (Commit p.0)) p.1 in
-          (s.0, (p.0, p.2, inr s.1))
-
   refused : (e : Error) → IsAmong t.rollbacks n → CallRefused h e → IsRollbackRefused t at n e
   refused e rolls k =
-      let x = k.transaction in
-      record {
-        rollback = rolls;
-        plan = plan_of x.parts;
-        start = version_of x.start;
-        ticket = k.ticket;
-        error = k.error;
-        commit = commit_shown (plan_of x.parts) (version_of x.start) x.commits k.ticket x.known k.left;
-      }
+      let known = k.transaction.known in
+      let lost = known.losing k.ticket k.left in
+      let s = shown (Lost k.ticket (Commit lost.0)) lost.1 in
+      record { rollback = rolls; ticket = k.ticket; error = k.error; sent = s.0; commit = lost.0; lost = s.1 }
 
   module _ {P Q K A B D : Type 0} (w : Ways P Q K A B D)
       (failed : (options : RetryOptions) (start : Timestamp) (contents : Contents) (c : Commits) (h : List Event) (e : Error) → TransactionGives w options start contents c h (Err e) → IsCallExplained (attempts_left options.region_backoff) (undetermined c) h e) where
     call_failed : (e : Error) → CallFailed w (IsBegunAs t at) h e → IsExplained t at n e ⊎ IsUndetermined t at n e
-    call_failed e k = let x = k.transaction in by x k.retries (undetermined x.commits) refl (failed x.retry_options x.start x.contents x.commits h e (inl (x.parts, x.whole, k.fails)))
+    call_failed e k = let x = k.transaction in by x k.retries (undetermined x.commits) (failed x.retry_options x.start x.contents x.commits h e (inl (x.parts, x.whole, k.fails)))
       where
-        by : (x : KnownTransaction h) → AreRetriesOf (IsBegunAs t at) x.retry_options → (left : Option Ticket) → undetermined x.commits ≡ left → IsCallExplained (attempts_left x.retry_options.region_backoff) left h e → IsExplained t at n e ⊎ IsUndetermined t at n e
-        by x r None l g = inl (explained r.0 r.1 (attempts_left x.retry_options.region_backoff) (attempts_same r.0 x.retry_options r.2) e g)
-        by x r (Some u) l g = inr (record {
-          inner = g.0;
-          error = g.1;
-          explained = explained r.0 r.1 (attempts_left x.retry_options.region_backoff) (attempts_same r.0 x.retry_options r.2) g.0 g.2;
-          plan = plan_of x.parts;
-          start = version_of x.start;
-          ticket = u;
-          commit = commit_shown (plan_of x.parts) (version_of x.start) x.commits u x.known l;
-        })
+        by : (x : KnownTransaction h) → AreRetriesOf (IsBegunAs t at) x.retry_options → (left : Option Ticket) → IsCallExplained (attempts_left x.retry_options.region_backoff) left h e → IsExplained t at n e ⊎ IsUndetermined t at n e
+        by x r None g = inl (explained r.0 r.1 (attempts_left x.retry_options.region_backoff) (attempts_same r.0 x.retry_options r.2) e g)
+        by x r (Some u) g = inr (record { inner = g.0; error = g.1; explained = explained r.0 r.1 (attempts_left x.retry_options.region_backoff) (attempts_same r.0 x.retry_options r.2) g.0 g.2 })
 
     fails : (e : Error) → HasFailedFor w false (IsBegunAs t at) h e → IsExplained t at n e ⊎ IsUndetermined t at n e
     fails e (inl k) = inl (untimed e (untimed_caused h e k))
@@ -322,8 +279,8 @@ have_causes_told script report behind k = causes_meet is_caused report.outcomes 
         like u r o h = lines_kind plans script report behind (suc (ended_of report.ended n)) u r o h
 
         by : FailsFor plans false (IsBegunAs t f.at) f.history e ⊎ (IsAmong t.rollbacks n × FailsFor plans true (IsBegunAs t f.at) f.history e) → IsCaused t n e
-        by (inl so) = record { at = f.at; called = f.called; why = elim (fails t f.at n f.history refl like f.shown f.own f.counted plans plans_explained e so.why) [ inl k ↦ inl k | inr k ↦ inr (inl k) ]; fed = so.fed }
-        by (inr (rolls, so)) = record { at = f.at; called = f.called; why = inr (inr (refused t f.at n f.history refl like f.shown f.own f.counted e rolls so.why)); fed = so.fed }
+        by (inl so) = record { at = f.at; called = f.called; why = elim (fails t f.at n f.history like f.shown f.own f.counted plans plans_explained e so.why) [ inl k ↦ inl k | inr k ↦ inr (inl k) ]; fed = so.fed }
+        by (inr (rolls, so)) = record { at = f.at; called = f.called; why = inr (inr (refused t f.at n f.history like f.shown f.own f.counted e rolls so.why)); fed = so.fed }
 
 -- a script ran
 pub ran_script : (bytes : List ℕ) (lines items : List Line) (report : Report) → items ≡ lines → IsScript bytes lines → Lawful items report → CausesMeetLines (FailsFor plans) (reverse items) report
@@ -335,7 +292,7 @@ ran_script bytes lines items report same script lawful causes behind = record {
   causes = told;
   doubts = told_of_doubt (reverse lines) report as_script.events stands.arisen.doubts exact;
   exact = exact;
-  calm = causes_meet (λ n e c. fails_calmly (trace_at (reverse lines) report n) n e c) report.outcomes report.ended (reverse lines) told;
+  calm = causes_meet (λ n e c. not_calm (trace_at (reverse lines) report n) n e c) report.outcomes report.ended (reverse lines) told;
   whole = lines_whole plans (reverse lines) report stands as_script.folded as_script.told as_script.events as_script.accounts;
 }
   where

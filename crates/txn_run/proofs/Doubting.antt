@@ -1,5 +1,5 @@
--- A call of a transaction of which a Commit was lost fails with an error that says so.
-use Rattle.std.proofs.Common.{◌≡◌, ◌≢◌, ◌⊎◌, inl, inr, ℕ, suc, Bool, true, false, if◌then◌else◌, List, [], ◌∷◌, ◌++◌, length, Option, Some, None, nat_lt, refl, sym, ap, ◌∙◌, subst, arith}
+-- A call of a transaction fails with an error that says whether a Commit of its primary was lost.
+use Rattle.std.proofs.Common.{◌≡◌, ◌≢◌, inl, inr, ℕ, suc, Bool, true, false, if◌then◌else◌, List, [], ◌∷◌, length, Option, Some, None, nat_lt, refl, sym, ap, ◌∙◌, subst, arith}
 use Rattle.txn_kv.specs.declared.errors.Error.{Error}
 use Rattle.txn_history.specs.Among.{IsAmong}
 use Rattle.txn_history.specs.Event.{Event}
@@ -12,28 +12,20 @@ use Rattle.txn_machine.specs.Causes.{EventsMeetLines, Role, ended_of, lines_befo
 use Rattle.txn_machine.specs.Causes.Role.{AsksTime, MakesClient, NoCall, UsesTransaction}
 use Rattle.txn_machine.specs.Failing.{AllCausesMeet, CauseMeets, calls_by, calls_of}
 use Rattle.txn_machine.specs.Script.{history, outcome_of}
+use Rattle.txn_machine.proofs.Begun.{either_among, later_among}
 use Rattle.txn_machine.proofs.Numberings.{line_new, line_old, line_range}
 use Rattle.txn_report.specs.declared.outcome.Outcome.{Outcome}
 use Rattle.txn_report.specs.declared.outcome.Outcome.TheVariants.{Ok, Err}
 use Rattle.txn_report.specs.declared.outcome.Payload.TheVariants.{Number}
 use Rattle.txn_report.specs.declared.report.Report.{Report}
-use Rattle.txn_side.specs.Account.{Account, is_undetermined}
-use Rattle.txn_side.specs.Doubt.{IsInDoubt, IsRefusal}
+use Rattle.txn_side.specs.Account.{Account}
+use Rattle.txn_side.specs.Doubt.{HasLostCommit, IsInDoubt, IsRefusal, SaysWhether, WasWritten}
 use Rattle.txn_side.specs.Trace.{Call}
-use Rattle.txn_run.specs.Doubt.{AreToldOfDoubt, HasLostCommit, TellsOfDoubt}
+use Rattle.txn_run.specs.Doubt.{AreToldOfDoubt, TellsOfDoubt, TellsWhether}
 use Rattle.txn_run.specs.Refused.{AllRefusalsMeet, AreExact, RefusalMeets}
 use Rattle.txn_run.proofs.LostOrTaken.{AreLostOrTaken, history_apart_by}
 
 -- Which lines call, and whom.
-
-either_among : (xs ys : List Call) (c : Call) → IsAmong (xs ++ ys) c → IsAmong xs c ⊎ IsAmong ys c
-either_among [] ys c h = inr h
-either_among (x ∷ xs) ys c (inl e) = inl (inl e)
-either_among (x ∷ xs) ys c (inr h) = elim (either_among xs ys c h) [ inl a ↦ inl (inr a) | inr a ↦ inr a ]
-
-later_among : (xs ys : List Call) (c : Call) → IsAmong ys c → IsAmong (xs ++ ys) c
-later_among [] ys c h = h
-later_among (x ∷ xs) ys c h = inr (later_among xs ys c h)
 
 -- a line calls for itself alone
 one_calls : (n : ℕ) (role : Role) (c : Call) → IsAmong (calls_by n role) c → n ≡ c.line
@@ -76,47 +68,46 @@ called_before (l ∷ before) n c h = by (nat_lt (length (l ∷ before)) n) (λ k
     by true older k = k
     by false older k = later_among (calls_by (suc (length before)) (role_of l)) (calls_of before) c (older k)
 
--- A line that asks something of a transaction, and is not refused, says so. One that calls for a timestamp is none that has begun, for it
--- failed.
+-- A line that asks something of a transaction, and is not refused, says so exactly. One that calls for a timestamp is none that has begun,
+-- for it failed.
 
 began_failed : (s : ℕ) (e : Error) → ◌≡◌ {A = Outcome} (Ok (Number s)) (Err e) → ⊥
 began_failed s e is = cc
 
 -- of a Commit that was lost no reply was taken
-lost_in_doubt : (s : ℕ) (h : List Event) → AreLostOrTaken h → HasLostCommit s h → IsInDoubt s h
-lost_in_doubt s h apart l = record {
-  written = l.written;
-  prewrite = l.prewrite;
-  sent = l.sent;
-  start = l.start;
-  ticket = l.ticket;
-  commit = l.commit;
-  lost = l.lost;
+lost_in_doubt : (s : ℕ) (h : List Event) → AreLostOrTaken h → WasWritten s h → HasLostCommit s h → IsInDoubt s h
+lost_in_doubt s h apart written l = record {
+  written = written;
+  left = l;
   untaken = λ o took. apart.apart l.ticket (Commit l.commit) (Commit l.commit) o l.lost took;
-  same = l.same;
-  primary = l.primary;
 }
 
 tells_doubt : (script : List Line) (report : Report) → EventsMeetLines script report → AllSpeak report.sent report.outcomes report.ended script → (n : ℕ) (e : Error) → outcome_of report.outcomes n ≡ Err e → (IsRefusal e → ⊥) → TellsOfDoubt script report n e
-tells_doubt script report events speak n e failed unrefused x s began called lost = by (role_of caller.line) refl caller.calls
+tells_doubt script report events speak n e failed unrefused x s began called = by (role_of caller.line) refl caller.calls
   where
     caller : CallsSo script (record { line = n; at = x })
     caller = calls_so script (record { line = n; at = x }) (called_before script (suc (ended_of report.ended n)) (record { line = n; at = x }) called)
 
-    doubt : IsInDoubt s (history report.sent report.outcomes (lines_before script (suc (ended_of report.ended n))))
-    doubt = lost_in_doubt s _ (history_apart_by report.sent report.sleeps report.outcomes report.ended script (suc (ended_of report.ended n)) events) lost
+    happened : List Event
+    happened = history report.sent report.outcomes (lines_before script (suc (ended_of report.ended n)))
+
+    apart : AreLostOrTaken happened
+    apart = history_apart_by report.sent report.sleeps report.outcomes report.ended script (suc (ended_of report.ended n)) events
+
+    whether : SaysWhether happened s e → TellsWhether happened s e
+    whether says = record { always = λ written lost. says.always (lost_in_doubt s happened apart written lost); only = says.only }
 
     other : n ≡ x → ⊥
     other same = began_failed s e (sym began.3 ∙ subst (λ k. outcome_of report.outcomes k ≡ Err e) same failed)
 
-    says : (commits : Bool) → role_of caller.line ≡ UsesTransaction commits x → is_undetermined e ≡ true
-    says commits role = elim (speak n x s e (record { commits = commits; line = caller.line; there = caller.there; role = role; began = began.3; failed = failed })) [ inl refused ↦ absurd (unrefused refused) | inr tells ↦ tells doubt ]
+    tells : (commits : Bool) → role_of caller.line ≡ UsesTransaction commits x → TellsWhether happened s e
+    tells commits role = elim (speak n x s e (record { commits = commits; line = caller.line; there = caller.there; role = role; began = began.3; failed = failed })) [ inl refused ↦ absurd (unrefused refused) | inr says ↦ whether says ]
 
-    by : (role : Role) → role_of caller.line ≡ role → IsAmong (calls_by n role) (record { line = n; at = x }) → is_undetermined e ≡ true
+    by : (role : Role) → role_of caller.line ≡ role → IsAmong (calls_by n role) (record { line = n; at = x }) → TellsWhether happened s e
     by MakesClient is h = absurd h
     by (AsksTime begins client) is (inl same) = absurd (other (ap (λ (c : Call). c.at) same))
     by (AsksTime begins client) is (inr h) = absurd h
-    by (UsesTransaction commits y) is (inl same) = says commits (is ∙ ap (λ (c : Call). UsesTransaction commits c.at) same)
+    by (UsesTransaction commits y) is (inl same) = tells commits (is ∙ ap (λ (c : Call). UsesTransaction commits c.at) same)
     by (UsesTransaction commits y) is (inr h) = absurd h
     by NoCall is h = absurd h
 

@@ -14,7 +14,7 @@ use Rattle.txn_lines.specs.declared.line.Line.{Line}
 use Rattle.txn_machine.specs.Failing.{AllCausesMeet}
 use Rattle.txn_report.specs.declared.report.Report.{Report}
 use Rattle.txn_side.specs.Trace.{IsCalled, IsCommit, IsFrom, IsRefusedIn, Trace}
-use Rattle.txn_run.specs.Caused.{IsRollbackRefused, trace_at}
+use Rattle.txn_run.specs.Caused.{trace_at}
 
 -- a region record that lacks nothing: its end is above its start, it has an epoch and a leader, and its bounds are keys
 pub record IsGoodRecord (r : RegionWithLeader) : Type 0 where
@@ -40,10 +40,10 @@ pub record IsCalm (t : Trace) (n : ℕ) : Type 0 where
   pub good : (u : Ticket) (r : Request) (o : Reply) → Has t.events (Took u r o) → IsFrom n u → IsGoodReply r o
   pub settled : (at : ℕ) (u : Ticket) (r : Request) → IsCalled t n at → Has t.events (Lost u r) → IsCalled t u.line at → IsCommit r → ⊥
 
--- Such a line fails only where it rolls back, and is refused for a Commit that is still out.
-abbrev pub FailsCalmly : Trace → ℕ → Error → Type 0
-FailsCalmly t n e = IsCalm t n → (at : ℕ) × IsCalled t n at × IsRollbackRefused t at n e
+-- A line that fails is none of these.
+abbrev pub IsNotCalm : Trace → ℕ → Error → Type 0
+IsNotCalm t n e = IsCalm t n → ⊥
 
 -- so of each line whose account does not refuse it, by what had come to it when it ended
 abbrev pub AreCalm : List Line → Report → Type 0
-AreCalm script report = AllCausesMeet (λ n e. FailsCalmly (trace_at script report n) n e) report.outcomes report.ended script
+AreCalm script report = AllCausesMeet (λ n e. IsNotCalm (trace_at script report n) n e) report.outcomes report.ended script

@@ -10,14 +10,12 @@ use Rattle.txn_kv.specs.declared.request.Request.TheVariants.{Commit}
 use Rattle.txn_kv.specs.declared.ticket.Ticket.{Ticket}
 use Rattle.txn_history.specs.Among.{IsAmong}
 use Rattle.txn_history.specs.Event.{Has}
-use Rattle.txn_history.specs.Event.Event.{Sent, Took, Lost}
-use Rattle.txn_history.specs.Plan.{Plan}
+use Rattle.txn_history.specs.Event.Event.{Took, Lost}
 use Rattle.txn_causes.specs.Causes.{HasCause}
 use Rattle.txn_causes.specs.Heard.{Heard}
 use Rattle.txn_causes.specs.Kinds.{IsOfKind}
 use Rattle.txn_causes.specs.Heard.Heard.{TookReply, WasLost}
 use Rattle.txn_causes.specs.Spent.{IsSpent}
-use Rattle.txn_commit.specs.Following.{CommitsPrimary}
 use Rattle.txn_clients.specs.Want.{wants_memory}
 use Rattle.txn_lines.specs.declared.begin_options.BeginOptions.{BeginOptions}
 use Rattle.txn_lines.specs.declared.line.Line.{Line}
@@ -49,28 +47,20 @@ HasNoTimestamp t n e = IsRefusedIn t n e × HasRefused t n 10
 abbrev pub IsExplained : Trace → ℕ → ℕ → Error → Type 0
 IsExplained t at n e = HasCause (HeardBy t at n) (IsSpentFor t at n) (view_of e) ⊎ HasNoTimestamp t n e
 
--- a line of the transaction that stands there sent a Commit of the primary with this ticket, or one was lost
-abbrev pub HasCommit : Trace → ℕ → Plan → ℕ → Ticket → Type 0
-HasCommit t at plan start u = IsCalled t u.line at × ((r : CommitRequest) × CommitsPrimary plan start r × (Has t.events (Sent u (Commit r)) ⊎ Has t.events (Lost u (Commit r))))
-
--- By such a Commit the transaction may be committed. The error says so, and holds the one with which the call ended.
+-- The error says that it is not known whether the transaction is committed, and holds the one with which the call ended.
 pub record IsUndetermined (t : Trace) (at n : ℕ) (e : Error) : Type 0 where
   pub inner : Error
   pub error : view_of e ≡ undetermined (view_of inner)
   pub explained : IsExplained t at n inner
-  pub plan : Plan
-  pub start : ℕ
-  pub ticket : Ticket
-  pub commit : HasCommit t at plan start ticket
 
--- The line rolls back, which is refused for such a Commit, and the error names it.
+-- The line rolls back, which is refused since this Commit was lost, which a line of the transaction sent.
 pub record IsRollbackRefused (t : Trace) (at n : ℕ) (e : Error) : Type 0 where
   pub rollback : IsAmong t.rollbacks n
-  pub plan : Plan
-  pub start : ℕ
   pub ticket : Ticket
   pub error : view_of e ≡ undetermined (view_of (GrpcAPI ticket))
-  pub commit : HasCommit t at plan start ticket
+  pub sent : IsCalled t ticket.line at
+  pub commit : CommitRequest
+  pub lost : Has t.events (Lost ticket (Commit commit))
 
 -- so the call of line n failed, with an error that holds no want of memory
 pub record IsCaused (t : Trace) (n : ℕ) (e : Error) : Type 0 where
