@@ -18,7 +18,7 @@ use Rattle.txn_history.specs.Event.{Event, Has, bool_eq, same_ticket}
 use Rattle.txn_history.specs.Event.Event.{Sent, Took, Lost}
 use Rattle.txn_history.specs.Meaning.{IsSent}
 use Rattle.txn_history.specs.Plan.{Plan}
-use Rattle.txn_commit.specs.Following.{Commits, CommitsPrimary, IsRefusal, KnowsCommits, PrimaryLost, PrimarySent, answered, is_done, is_out, lost, or_ticket, without}
+use Rattle.txn_commit.specs.Following.{Commits, CommitsPrimary, IsRefusal, KnowsCommits, PrimarySent, answered, is_done, is_out, lost, or_ticket, without}
 
 -- tickets
 
@@ -88,9 +88,6 @@ out_among t (x ∷ ts) h = by (same_ticket x t) refl h (out_among t ts)
 pub sent_more : (plan : Plan) (s : ℕ) (e : Event) (h : List Event) (t : Ticket) → PrimarySent plan s h t → PrimarySent plan s (e ∷ h) t
 sent_more plan s e h t w = (w.0, inr w.1, w.2)
 
-pub lost_more : (plan : Plan) (s : ℕ) (e : Event) (h : List Event) (t : Ticket) → PrimaryLost plan s h t → PrimaryLost plan s (e ∷ h) t
-lost_more plan s e h t w = (w.0, inr w.1, w.2)
-
 -- an event other than a sent request changes nothing
 abbrev pub IsNoSending : Event → Type 0
 IsNoSending e = (t : Ticket) (r : Request) → e ≡ Sent t r → ⊥
@@ -104,7 +101,7 @@ knows_more plan s c e h never k = record {
   named = λ d w. k.named d (w.0, w.1, sent_before e h w.0 (Commit w.1) never w.2, w.3, w.4, w.5);
   since = λ t f. let w = k.since t f in (w.0, w.1, inr w.2, w.3, w.4, w.5);
   waiting = λ t a. sent_more plan s e h t (k.waiting t a);
-  losing = λ t l. lost_more plan s e h t (k.losing t l);
+  losing = λ t l. sent_more plan s e h t (k.losing t l);
   all = λ t r g p. elim (k.all t r (sent_before e h t (Commit r) never g) p) [
     | inl w ↦ inl (w.0, inr w.1, w.2)
     | inr w ↦ inr w
@@ -120,9 +117,6 @@ lost_no_sending t q u r e = cc
 
 took_is : (t u : Ticket) (q r : Request) (o : Reply) → u ≡ t → r ≡ q → Took t q o ≡ Took u r o
 took_is t u q r o e f = λ i. Took (sym e i) (sym f i) o
-
-lost_is : (t : Ticket) (q r : Request) → r ≡ q → Lost t q ≡ Lost t r
-lost_is t q r f = λ i. Lost t (sym f i)
 
 -- the request that was sent with the ticket is this one
 only_one : (t u : Ticket) (q r : Request) (h : List Event) → IsSent t q h → Has h (Sent u r) → u ≡ t → r ≡ q
@@ -176,22 +170,16 @@ some_lost : (o : Option Ticket) (t : Ticket) → or_ticket o t ≢ None
 some_lost None t e = cc
 some_lost (Some u) t e = cc
 
-first_lost : (plan : Plan) (s : ℕ) (h : List Event) (o : Option Ticket) (t : Ticket) → ((u : Ticket) → o ≡ Some u → PrimaryLost plan s h u) → PrimaryLost plan s h t → (u : Ticket) → or_ticket o t ≡ Some u → PrimaryLost plan s h u
-first_lost plan s h None t old new u e = subst (PrimaryLost plan s h) (let f : t ≡ u = cc in f) new
+first_lost : (plan : Plan) (s : ℕ) (h : List Event) (o : Option Ticket) (t : Ticket) → ((u : Ticket) → o ≡ Some u → PrimarySent plan s h u) → PrimarySent plan s h t → (u : Ticket) → or_ticket o t ≡ Some u → PrimarySent plan s h u
+first_lost plan s h None t old new u e = subst (PrimarySent plan s h) (let f : t ≡ u = cc in f) new
 first_lost plan s h (Some f) t old new u e = old u e
 
 pub knows_lost : (plan : Plan) (s : ℕ) (c : Commits) (t : Ticket) (q : Request) (h : List Event)
-    → IsSent t q h → KnowsCommits plan s c h → KnowsCommits plan s (lost t c) (Lost t q ∷ h)
-knows_lost plan s c t q h known k = by (is_out t c) refl
+    → KnowsCommits plan s c h → KnowsCommits plan s (lost t c) (Lost t q ∷ h)
+knows_lost plan s c t q h k = by (is_out t c) refl
   where
-    never : IsNoSending (Lost t q)
-    never = lost_no_sending t q
-
     m : KnowsCommits plan s c (Lost t q ∷ h)
-    m = knows_more plan s c (Lost t q) h never k
-
-    new : IsAmong c.out t → PrimaryLost plan s (Lost t q ∷ h) t
-    new a = let w = k.waiting t a in (w.0, inl (lost_is t q (Commit w.0) (known.alone (Commit w.0) w.1)), w.2)
+    m = knows_more plan s c (Lost t q) h (lost_no_sending t q) k
 
     by : (b : Bool) → is_out t c ≡ b → KnowsCommits plan s (if b then record c { out = without t c.out; lost = or_ticket c.lost t } else c) (Lost t q ∷ h)
     by false e = m
@@ -199,7 +187,7 @@ knows_lost plan s c t q h known k = by (is_out t c) refl
       named = m.named;
       since = m.since;
       waiting = λ u a. m.waiting u (among_without t c.out u a);
-      losing = first_lost plan s (Lost t q ∷ h) c.lost t m.losing (new (out_among t c.out e));
+      losing = first_lost plan s (Lost t q ∷ h) c.lost t m.losing (m.waiting t (out_among t c.out e));
       all = λ u r g p. elim (m.all u r g p) [
         | inl w ↦ inl w
         | inr w ↦ inr (inl (some_lost c.lost t))

@@ -1,6 +1,6 @@
 -- Where a commit or a rollback stands as its plans go on, and what it waits for.
 use Rattle.std.proofs.Common.{◌≡◌, ◌≢◌, ◌⊎◌, inl, inr, ℕ, Bool, true, false, List, [], ◌∷◌, refl, sym, ap, subst, ◌∙◌, arith, drop, length}
-use Rattle.std.specs.Prelude.{◌<◌, ◌||◌, Result, cond, if◌then◌else◌, not}
+use Rattle.std.specs.Prelude.{⊤, ◌<◌, ◌||◌, Result, cond, if◌then◌else◌, not}
 use Rattle.std.proofs.Math.Seq.{drop-length}
 use Rattle.std.specs.List.{list_any}
 use Rattle.txn_kv.specs.Timestamp.{version_of}
@@ -21,14 +21,18 @@ use Rattle.txn_history.proofs.Telling.{Expects-quiet, Expects-then, Goes-then}
 use Rattle.txn_tso.specs.declared.stage.Stage.{Stage as Call_stage}
 use Rattle.txn_tso.specs.declared.stage.Stage.TheVariants as tso
 use Rattle.txn_commit.specs.Committing.{CommitterFits, IsAt, Ways}
-use Rattle.txn_commit.specs.Following.{Commits, awaits, heard, is_done, is_out, lost, or_ticket, sent, without}
+use Rattle.txn_commit.specs.Following.{Commits, IsFollowed, KnowsCommits, awaits, heard, is_done, is_out, lost, or_ticket, sent, without}
 use Rattle.txn_commit.specs.Going.{CommitterExpects, CommitterGoes, Opens, Relays, Resumes, Settles, stage_phase, stage_waits}
+use Rattle.txn_commit.specs.Sending.{plan_of}
 use Rattle.txn_commit.specs.Timing.{HasBegun, time_asked, time_asked-lawful}
+use Rattle.txn_commit.specs.declared.commit_parts.CommitParts.{CommitParts}
 use Rattle.txn_commit.specs.declared.committer.CommitterAnswer.{CommitterAnswer}
 use Rattle.txn_commit.specs.declared.committer.CommitterCall.{CommitterCall}
 use Rattle.txn_commit.specs.declared.committer.Stage.{Stage}
 use Rattle.txn_commit.specs.declared.committer.Stage.TheVariants as stage
 use Rattle.txn_commit.specs.declared.timestamp_call.TimestampCall.{TimestampCall}
+use Rattle.txn_commit.proofs.Sending.{settled_out, unsent_out}
+use Rattle.txn_merge.specs.declared.retry_options.RetryOptions.{RetryOptions}
 use Rattle.txn_plan.specs.Arrivals.{awaited_as, told_by}
 use Rattle.txn_plan.specs.LookUp.{call_phase}
 use Rattle.txn_plan.specs.declared.arrival.Arrival.{Arrival}
@@ -124,6 +128,16 @@ heard_other (arrival.Reply n x) o c e = by (is_done c.timestamp x)
 heard_other (arrival.Lost n) o c e = lost_other _ c e
 heard_other (arrival.Slept n) o c e = refl
 heard_other (arrival.Time n x) o c e = refl
+
+-- where none is out nothing is heard of one
+none_awaits : (a : Arrival) (o : Posted) (c : Commits) → c.out ≡ [] → awaits a o c ≡ false
+none_awaits (arrival.Reply n x) o c e = rw e refl
+none_awaits (arrival.Lost n) o c e = rw e refl
+none_awaits (arrival.Slept n) o c e = refl
+none_awaits (arrival.Time n x) o c e = refl
+
+followed_unheard : (a : Arrival) (o : Posted) (c d : Commits) → c.out ≡ [] → IsFollowed o c d → IsFollowed o (heard a o c) d
+followed_unheard a o c d e i = subst (λ x. IsFollowed o x d) (sym (heard_other a o c (none_awaits a o c e))) i
 
 -- where nothing is posted no Commit was sent
 pub quiet_sent : (from to : Posted) (n : ℕ) (t : Timestamp) (c : Commits) → n ≡ length from.sends → to ≡ from → sent to.line to.beat (drop n to.sends) t c ≡ c
@@ -420,6 +434,29 @@ module _ {P Q K A B D : Type 0} (w : Ways P Q K A B D) where
       next = stands_so mid s' e ∙ (i ∙ (ap phase_after f ∙ sym (ap phase_after h)));
       expects = begun mid s s' from via e law u x;
     }
+
+-- while the call sends no Commit of the primary, none is out
+abbrev pub IsElsewhere : {P Q K : Type 0} → Stage P Q K → Type 0
+IsElsewhere (stage.Committing q t) = ⊥
+IsElsewhere stage.Over = ⊥
+IsElsewhere stage.Stopped = ⊥
+IsElsewhere g = ⊤
+
+module _ {P Q K A B D : Type 0} (w : Ways P Q K A B D) where
+  out_at : (options : RetryOptions) (s : ℕ) (parts : CommitParts) (g : Stage P Q K) (c : Commits) (o : Posted) (h : List Event)
+      → IsElsewhere g → KnowsCommits (plan_of parts) s c h → IsAt w options s parts g c o h → c.out ≡ []
+  out_at options s parts (stage.Prewriting x) c o h e k i = unsent_out (plan_of parts) s c h i.first k
+  out_at options s parts (stage.Asking t) c o h e k i = unsent_out (plan_of parts) s c h i.first k
+  out_at options s parts (stage.Committing q t) c o h e k i = absurd e
+  out_at options s parts (stage.RollingBackPrimary x) c o h e k i = settled_out c i.settled
+  out_at options s parts (stage.RollingBackOthers x) c o h e k i = settled_out c i.0.settled
+  out_at options s parts stage.Over c o h e k i = absurd e
+  out_at options s parts stage.Stopped c o h e k i = absurd e
+
+  -- so it hears of none
+  pub followed_elsewhere : (call : CommitterCall P Q K) (g : Stage P Q K) (a : Arrival) (c d : Commits) (o : Posted) (h : List Event)
+      → call.stage ≡ g → IsElsewhere g → CommitterFits w call c o h → IsFollowed o c d → IsFollowed o (heard a o c) d
+  followed_elsewhere call g a c d o h e i f k = followed_unheard a o c d (out_at call.retry_options (version_of call.start) call.parts call.stage c o h (subst IsElsewhere (sym e) i) f.knows f.at) k
 
 -- A commit or a rollback waits for something exactly while it runs, and that was posted.
 module _ {P Q K A B D : Type 0} (w : Ways P Q K A B D) (p : IsLawful w.prewriting) (q : IsLawful w.committing) (k : IsLawful w.rolling) where

@@ -14,9 +14,9 @@ use Rattle.txn_history.specs.Event.{Event}
 use Rattle.txn_history.specs.Event.Event.{Sent, Took, Lost, Slept, Began, Asked, Answered}
 use Rattle.txn_history.specs.Plan.{Plan}
 use Rattle.txn_history.specs.Posted.{Errand, Licensed, Posted, after, posting, ticket_of}
-use Rattle.txn_commit.specs.Following.{Commits, CommitsPrimary, KnowsCommits, and_sent, and_ticket, answered, commit_tickets, heard, is_commit, is_done, is_out, lost, or_ticket, sent, without}
+use Rattle.txn_commit.specs.Following.{Commits, CommitsPrimary, IsFollowed, KnowsCommits, and_sent, and_ticket, answered, commit_tickets, heard, is_commit, is_done, is_out, lost, or_ticket, sent, without}
 use Rattle.txn_commit.specs.Plans.{IsForeign, IsOfCommit}
-use Rattle.txn_commit.proofs.Following.{IsNoSending, knows_answered, knows_lost, knows_more, lost_more, sent_more}
+use Rattle.txn_commit.proofs.Following.{IsNoSending, knows_answered, knows_lost, knows_more, sent_more}
 use Rattle.txn_commit.proofs.Sending.{IsNoCommit, commits_primary, knows_quiet}
 use Rattle.txn_plan.specs.Arrivals.{told_by}
 use Rattle.txn_plan.specs.declared.arrival.Arrival.{Arrival}
@@ -41,7 +41,7 @@ heard_keeps inv q h k (One e n) i = q h e n i
 pub knows_heard : (plan : Plan) (s : ℕ) (c : Commits) (a : Arrival) (o : Posted) (r : Request) (h : List Event)
     → (told_by a o r).known h → KnowsCommits plan s c h → KnowsCommits plan s (heard a o c) ((told_by a o r).hear h)
 knows_heard plan s c (arrival.Reply n x) o r h known k = knows_answered plan s c (ticket_of o n) r x h known k
-knows_heard plan s c (arrival.Lost n) o r h known k = knows_lost plan s c (ticket_of o n) r h known k
+knows_heard plan s c (arrival.Lost n) o r h known k = knows_lost plan s c (ticket_of o n) r h k
 knows_heard plan s c (arrival.Slept n) o r h known k = knows_more plan s c (Slept (ticket_of o n)) h (λ t q e. cc) k
 knows_heard plan s c (arrival.Time n x) o r h known k = knows_more plan s c (Answered (ticket_of o n) _) h (λ t q e. cc) k
 
@@ -73,11 +73,10 @@ and_sent_step : (t : Ticket) (ts : List Ticket) (time : Timestamp) (c : Commits)
 and_sent_step t [] time c = refl
 and_sent_step t (u ∷ us) time c = ap (λ (x : List Ticket). record c { timestamp = Some time; out = x }) (append_assoc c.out (t ∷ []) (u ∷ us))
 
-among_append : (xs : List Ticket) (t u : Ticket) → IsAmong (xs ++ t ∷ []) u → IsAmong xs u ⊎ (t ≡ u)
-among_append [] t u (inl e) = inr e
-among_append [] t u (inr a) = absurd a
-among_append (x ∷ xs) t u (inl e) = inl (inl e)
-among_append (x ∷ xs) t u (inr a) = elim (among_append xs t u a) [ inl b ↦ inl (inr b) | inr e ↦ inr e ]
+among_append : (xs ys : List Ticket) (u : Ticket) → IsAmong (xs ++ ys) u → IsAmong xs u ⊎ IsAmong ys u
+among_append [] ys u a = inr a
+among_append (x ∷ xs) ys u (inl e) = inl (inl e)
+among_append (x ∷ xs) ys u (inr a) = elim (among_append xs ys u a) [ inl b ↦ inl (inr b) | inr b ↦ inr b ]
 
 among_first : (xs : List Ticket) (t u : Ticket) → IsAmong xs u → IsAmong (xs ++ t ∷ []) u
 among_first [] t u a = absurd a
@@ -100,11 +99,11 @@ knows_one plan s c t q time h v p same k = record {
     | inr g ↦ let n = k.named d (w.0, w.1, g, w.3, w.4, w.5) in (time, refl, sym (same n.0 n.1) ∙ n.2)
   ];
   since = λ u f. let g : time ≡ u = cc in (t, q, inl refl, p.start, v ∙ ap version_of g, p.primary);
-  waiting = λ u a. elim (among_append c.out t u a) [
+  waiting = λ u a. elim (among_append c.out (t ∷ []) u a) [
     | inl b ↦ sent_more plan s (Sent t (Commit q)) h u (k.waiting u b)
-    | inr e ↦ (q, inl (ap (λ x. Sent x (Commit q)) e), p)
+    | inr b ↦ elim b [ inl e ↦ (q, inl (ap (λ x. Sent x (Commit q)) e), p) | inr f ↦ absurd f ]
   ];
-  losing = λ u l. lost_more plan s (Sent t (Commit q)) h u (k.losing u l);
+  losing = λ u l. sent_more plan s (Sent t (Commit q)) h u (k.losing u l);
   all = λ u r g w. elim g [
     | inl f ↦ inr (inr (subst (λ x. IsAmong (c.out ++ t ∷ []) x) (commit_is t u q r f).0 (among_last c.out t)))
     | inr g ↦ elim (k.all u r g w) [
@@ -161,3 +160,30 @@ sent_time line beat rs time c same = by (commit_tickets line beat rs)
     by : (ts : List Ticket) → IsSameTime (and_sent ts time c) time
     by [] = same
     by (t ∷ ts) = λ u f. let g : time ≡ u = cc in ap version_of (sym g)
+
+-- what is out once these were posted was out, or was posted
+
+pub followed_same : (o : Posted) (c : Commits) → IsFollowed o c c
+followed_same o c = record { lost = refl; out = λ t a. inl a }
+
+-- the line and its kind alone are what counts of an outbox
+pub followed_as : (from o : Posted) (c d : Commits) → from.line ≡ o.line → from.beat ≡ o.beat → IsFollowed from c d → IsFollowed o c d
+followed_as from o c d e f i = record { lost = i.lost; out = λ t a. elim (i.out t a) [ inl b ↦ inl b | inr w ↦ inr (w.0, w.1 ∙ (λ j. record { line = e j; beat = f j; number = w.0 })) ] }
+
+posted_as : (o : Posted) (rs : List Errand) (t : Ticket) → IsAmong (commit_tickets o.line o.beat rs) t → (n : ℕ) × (t ≡ ticket_of o n)
+posted_as o [] t a = absurd a
+posted_as o (Sleep n ms ∷ rs) t a = posted_as o rs t a
+posted_as o (Ask n ∷ rs) t a = posted_as o rs t a
+posted_as o (Send n to r ∷ rs) t a = by (is_commit r) a (posted_as o rs t)
+  where
+    by : (b : Bool) → IsAmong (and_ticket b (ticket_of o n) (commit_tickets o.line o.beat rs)) t → (IsAmong (commit_tickets o.line o.beat rs) t → (m : ℕ) × (t ≡ ticket_of o m)) → (m : ℕ) × (t ≡ ticket_of o m)
+    by true (inl e) rest = (n, sym e)
+    by true (inr i) rest = rest i
+    by false i rest = rest i
+
+pub followed_sent : (o : Posted) (rs : List Errand) (time : Timestamp) (c : Commits) → IsFollowed o c (sent o.line o.beat rs time c)
+followed_sent o rs time c = by (commit_tickets o.line o.beat rs) (posted_as o rs)
+  where
+    by : (ts : List Ticket) → ((t : Ticket) → IsAmong ts t → (n : ℕ) × (t ≡ ticket_of o n)) → IsFollowed o c (and_sent ts time c)
+    by [] p = followed_same o c
+    by (t ∷ ts) p = record { lost = refl; out = λ u a. elim (among_append c.out (t ∷ ts) u a) [ inl b ↦ inl b | inr b ↦ inr (p u b) ] }

@@ -16,7 +16,7 @@ use Rattle.txn_commit.specs.Committing.{IsReady}
 use Rattle.txn_commit.specs.Following.{Commits, CommitsPrimary, KnowsCommits, WasRefused, undetermined}
 use Rattle.txn_commit.specs.Plans.{IsForeign, IsOfCommit, IsOfPrewrite, IsOfRollback}
 use Rattle.txn_commit.specs.Sending.{MaySend, PrimaryMayGo}
-use Rattle.txn_commit.proofs.Following.{IsNoSending, lost_more, sent_more}
+use Rattle.txn_commit.proofs.Following.{IsNoSending, sent_more}
 use Rattle.txn_commit.proofs.Keys.{has_only, only}
 
 -- what is sent to settle the locks of others rests on no plan
@@ -82,7 +82,7 @@ knows_quiet plan s c t r h n k = record {
   named = λ d w. k.named d (w.0, w.1, commit_before t w.0 r w.1 h n w.2, w.3, w.4, w.5);
   since = λ u f. let w = k.since u f in (w.0, w.1, inr w.2, w.3, w.4, w.5);
   waiting = λ u a. sent_more plan s (Sent t r) h u (k.waiting u a);
-  losing = λ u l. lost_more plan s (Sent t r) h u (k.losing u l);
+  losing = λ u l. sent_more plan s (Sent t r) h u (k.losing u l);
   all = λ u q g p. elim (k.all u q (commit_before t u r q h n g) p) [
     | inl w ↦ inl (w.0, inr w.1, w.2)
     | inr w ↦ inr w
@@ -95,6 +95,20 @@ none_out : (lost : Option Ticket) (out : List Ticket) → undetermined (record {
 none_out None [] e = (refl, refl)
 none_out None (t ∷ ts) e = absurd (cc)
 none_out (Some t) out e = absurd (cc)
+
+pub settled_out : (c : Commits) → undetermined c ≡ None → c.out ≡ []
+settled_out c u = (none_out c.lost c.out u).1
+
+-- and where none was sent, none is out
+pub unsent_out : (plan : Plan) (s : ℕ) (c : Commits) (h : List Event) → c.timestamp ≡ None → KnowsCommits plan s c h → c.out ≡ []
+unsent_out plan s c h e k = by c.out refl
+  where
+    by : (ts : List Ticket) → c.out ≡ ts → c.out ≡ []
+    by [] f = f
+    by (t ∷ ts) f =
+        let w = k.waiting t (subst (λ us. IsAmong us t) (sym f) (inl refl)) in
+        let n = k.named w.0.commit_version (t, w.0, w.1, w.2.start, refl, w.2.primary) in
+        absurd (let g = sym e ∙ n.1 in cc)
 
 pub settled_refused : (plan : Plan) (s : ℕ) (c : Commits) (h : List Event) → undetermined c ≡ None → KnowsCommits plan s c h → (t : Ticket) (r : CommitRequest) → Has h (Sent t (Commit r)) → CommitsPrimary plan s r → WasRefused h t r
 settled_refused plan s c h u k t r g p = let n = none_out c.lost c.out u in

@@ -1,5 +1,5 @@
 -- A commit or a rollback from one stage to the next.
-use Rattle.std.proofs.Common.{◌≡◌, inl, inr, ℕ, Bool, true, List, [], ◌∷◌, None, refl, sym, ap, subst, ◌∙◌, length, drop, arith}
+use Rattle.std.proofs.Common.{◌≡◌, ◌≢◌, inl, inr, ℕ, Bool, true, List, [], ◌∷◌, None, refl, sym, ap, subst, ◌∙◌, length, drop, arith}
 use Rattle.std.specs.Prelude.{IsErr, Result, Ok, Err}
 use Rattle.std.proofs.Math.Seq.{drop-append_seam}
 use Rattle.std.proofs.lemmas.Bool.{eqb-true}
@@ -27,12 +27,12 @@ use Rattle.txn_history.specs.Phase.{IsPosted, awaited}
 use Rattle.txn_history.specs.Phase.Awaited.{TimeOf}
 use Rattle.txn_history.specs.Plan.{Key, Plan}
 use Rattle.txn_history.specs.Posted.{Errand, Licensed, Posted, Within, Within-after, after, posting, ticket_of}
-use Rattle.txn_history.specs.Turn.{Turn, turn_of, IfEnds, IfKept, IfKept-both, IfKept-weaker}
+use Rattle.txn_history.specs.Turn.{Turn, turn_of, IfEnds, IfKept, IfKept-both, IfKept-out, IfKept-weaker}
 use Rattle.txn_history.specs.Turn.Turn.{Stopped, Waits, Ends}
 use Rattle.txn_tso.specs.declared.stage.Stage.TheVariants.{Asked as Out_with}
 use Rattle.txn_merge.specs.declared.retry_options.RetryOptions.{RetryOptions}
 use Rattle.txn_commit.specs.Committing.{CommitterFits, CommitterGives, CommitterGoesOn, CommitterMoves, IsAsking, IsFirst, IsRolled, IsWritten, MayCommit, SendsCommits, TimeSays, Ways}
-use Rattle.txn_commit.specs.Following.{Commits, KnowsCommits, sent, undetermined}
+use Rattle.txn_commit.specs.Following.{Commits, IsFollowed, KnowsCommits, sent, undetermined}
 use Rattle.txn_commit.specs.Plans.{AreCommitted, ArePrewritten, AreRolledBack, IsAnswered, IsForeign, IsPartOf, IsPlanFor, IsUnderWay, Says, prewritten_key}
 use Rattle.txn_commit.specs.Sending.{MaySend, plan_of}
 use Rattle.txn_commit.specs.Timing.{AsksTime, HasAsked, HasBegun, IsAnswerOf, time_asked}
@@ -46,7 +46,7 @@ use Rattle.txn_commit.specs.declared.timestamp_call.TimestampCall.{TimestampCall
 use Rattle.txn_commit.proofs.Committing.{Throughout, at_stage, committing_on, throughout_more}
 use Rattle.txn_commit.proofs.Following.{knows_more}
 use Rattle.txn_commit.proofs.Keys.{has_only, locks_key, only}
-use Rattle.txn_commit.proofs.Posting.{Hears, heard_keeps, hears_told}
+use Rattle.txn_commit.proofs.Posting.{Hears, followed_sent, heard_keeps, hears_told}
 use Rattle.txn_commit.proofs.Sending.{IsNoCommit, acknowledged_longer, foreign_may, given_longer, knows_quiet, licensed_lift}
 use Rattle.txn_plan.specs.Arrivals.{told_by}
 use Rattle.txn_plan.specs.declared.arrival.Arrival.{Arrival}
@@ -89,6 +89,11 @@ rolled_primary plan s h r k g = rw (only plan.primary k g) (r.0, r.1, r.2, r.3, 
 pub none_left : (s : ℕ) (ks : List Key) (h : List Event) → (length ks == 0) ≡ true → AreRolledBack s ks h
 none_left s [] h e k g = absurd (cc)
 none_left s (x ∷ ks) h e k g = absurd (let f = eqb-true (length (x ∷ ks)) 0 e in omega arith)
+
+-- what is out then was out, or was posted
+pub followed_sends : {S V : Type 0} {m : Meaning S V} {told : Told} {t : Timestamp} {c d : Commits} {old new : S} {from to : Posted} {turn : Turn V}
+    → turn ≢ Stopped → SendsCommits m told t c d old new from to turn → IsFollowed from c d
+followed_sends {t} {c} {from} {turn} n x = rw (IfKept-out turn n x.follows) (followed_sent from x.moves.sends t c)
 
 module _ {P Q K A B D : Type 0} where
   at_over : (w : Ways P Q K A B D) (call : CommitterCall P Q K) (n : ℕ) (c : Commits) (o : Posted) (h : List Event) → CommitterFits w call c o h → CommitterFits w (record call { stage = stage.Over; width = n }) c o h

@@ -96,6 +96,11 @@ abbrev pub or_first : Option Ticket → List Ticket → Option Ticket
 or_first (Some t) out = Some t
 or_first None out = first_of out
 
+-- What is known then, after an outbox of this line and kind posted: what was marked as lost is what was, and each that is out was out or was posted.
+pub record IsFollowed (o : Posted) (was is : Commits) : Type 0 where
+  pub lost : is.lost ≡ was.lost
+  pub out : (t : Ticket) → IsAmong is.out t → IsAmong was.out t ⊎ ((n : ℕ) × (t ≡ ticket_of o n))
+
 -- one that was lost, or that is not refused: it may have committed the transaction
 abbrev pub undetermined : Commits → Option Ticket
 undetermined c = or_first c.lost c.out
@@ -124,12 +129,12 @@ IsRefusal r o = ⊤
 abbrev pub WasRefused : List Event → Ticket → CommitRequest → Type 0
 WasRefused h t r = (o : Reply) × Has h (Took t (Commit r) o) × IsRefusal r o
 
--- Each that was sent names the one timestamp, and one was sent that does. What is out was sent, and the first that was lost was. Each that was sent was
+-- Each that was sent names the one timestamp, and one was sent that does. What is out was sent, and so was the first that was lost. Each that was sent was
 -- refused, or is out, or one was lost.
 pub record KnowsCommits (plan : Plan) (s : ℕ) (c : Commits) (h : List Event) : Type 0 where
   pub named : (d : ℕ) → WasNamed plan h s d → (t : Timestamp) × (c.timestamp ≡ Some t) × (version_of t ≡ d)
   pub since : (t : Timestamp) → c.timestamp ≡ Some t → WasNamed plan h s (version_of t)
   pub waiting : (t : Ticket) → IsAmong c.out t → PrimarySent plan s h t
-  pub losing : (t : Ticket) → c.lost ≡ Some t → PrimaryLost plan s h t
+  pub losing : (t : Ticket) → c.lost ≡ Some t → PrimarySent plan s h t
   pub all : (t : Ticket) (r : CommitRequest) → Has h (Sent t (Commit r)) → CommitsPrimary plan s r
       → WasRefused h t r ⊎ ((c.lost ≢ None) ⊎ IsAmong c.out t)

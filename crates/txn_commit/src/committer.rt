@@ -1,9 +1,10 @@
-ghost use Rattle.std.specs.Prelude.{◌≡◌, ◌≢◌, ◌<◌, ◌^◌, ◌∷◌, [], IfOk, None, Ok, false, true};
+ghost use Rattle.std.specs.Prelude.{◌≡◌, ◌≢◌, ◌<◌, ◌^◌, ◌∷◌, [], IfOk, List, None, Ok, false, true};
+ghost use Rattle.txn_history.specs.Event.{Event};
 ghost use Rattle.txn_history.specs.Meaning.{started, Counts};
 ghost use Rattle.txn_history.specs.Moves.{Knows, Moves};
-ghost use Rattle.txn_history.specs.Phase.Phase.{Fresh as Unbegun, GivenUp};
+ghost use Rattle.txn_history.specs.Phase.Phase.{Fresh as Unbegun, GivenUp, Running};
 ghost use Rattle.txn_history.specs.Posted.{HasNumbers, Posted};
-ghost use Rattle.txn_history.specs.Turn.{turn_of, IfEnds};
+ghost use Rattle.txn_history.specs.Turn.{turn_of, IfEnds, IfKept};
 ghost use Rattle.txn_history.specs.Turn.Turn.{Ends, Stopped as Stops, Waits};
 ghost use Rattle.txn_kv.specs.Timestamp.{HasVersion, version_of};
 ghost use Rattle.txn_kv.specs.declared.request.Request.{Request as Asked};
@@ -11,8 +12,8 @@ ghost use Rattle.txn_kv.specs.declared.request.Request.TheVariants.{BatchRollbac
 ghost use Rattle.txn_request.specs.Defaults.{default_batch_rollback};
 ghost use Rattle.txn_commit.specs.Committing.{CommitterFits, CommitterGives, CommitterGoesOn, CommitterMoves, IsFirst, IsInRange, IsRolled, IsWritten, MayCommit, SendsCommits, StageReady, TimeSays, ways};
 ghost use Rattle.txn_commit.specs.Counting.{Begins, CommitterCounts, ask_costs, call_width, commit_again_costs, commit_costs, costs_of, others_costs, rollback_costs, stage_width};
-ghost use Rattle.txn_commit.specs.Following.{Commits, awaits, heard, undetermined};
-ghost use Rattle.txn_commit.specs.Going.{CommitterExpects, CommitterGoes, Opens, Relays, Resumes, Settles, may_commit, stage_waits};
+ghost use Rattle.txn_commit.specs.Following.{Commits, IsFollowed, awaits, heard, undetermined};
+ghost use Rattle.txn_commit.specs.Going.{CommitterExpects, CommitterGoes, Opens, Relays, Resumes, Settles, may_commit, stage_phase, stage_waits};
 ghost use Rattle.txn_commit.specs.Plans.{AreCommitted, ArePrewritten, AreRolledBack, IsPlanFor};
 ghost use Rattle.txn_commit.specs.Sending.{MaySend, plan_of};
 ghost use Rattle.txn_commit.specs.Timing.{HasVersionIfDone};
@@ -184,6 +185,7 @@ where
         ensures moves { CommitterMoves (ways P.meaning Q.meaning K.meaning P.refuses Q.refuses K.refuses) (MayCommit (plan_of self.old.parts) (version_of self.old.start) timestamp commits.old) (λ h. h) self.old self.new commits.old commits.new out.old out.new (turn_of result) }
         ensures counts { Begins (ways P.meaning Q.meaning K.meaning P.refuses Q.refuses K.refuses) (costs_of P.costs Q.costs K.costs) (commit_again_costs (costs_of P.costs Q.costs K.costs)) self.old self.new out.old out.new (turn_of result) }
         ensures opens { Opens (ways P.meaning Q.meaning K.meaning P.refuses Q.refuses K.refuses) self.new out.old out.new (turn_of result) }
+        ensures follows { IfKept (turn_of result) (IsFollowed out.old commits.old commits.new) }
         ensures version { IfEnds (turn_of result) IsInRange }
         ensures job { self.new ≡ record self.old { stage = self.new.stage; width = self.new.width } }
         ensures ready { StageReady (ways P.meaning Q.meaning K.meaning P.refuses Q.refuses K.refuses) self.new.stage }
@@ -233,6 +235,7 @@ where
         ensures goes { CommitterGoes (ways P.meaning Q.meaning K.meaning P.refuses Q.refuses K.refuses) (stage_waits (ways P.meaning Q.meaning K.meaning P.refuses Q.refuses K.refuses) self.old.stage (awaited_as arrival)) self.old self.new out.old out.new pd.old pd.new (turn_of result) }
         ensures expects { CommitterExpects (ways P.meaning Q.meaning K.meaning P.refuses Q.refuses K.refuses) (λ a. a ≡ awaited_as arrival) self.old self.new out.old out.new }
         ensures commits { (stage_waits (ways P.meaning Q.meaning K.meaning P.refuses Q.refuses K.refuses) self.old.stage (awaited_as arrival) → ⊥) → awaits arrival out.old commits.old ≡ false → commits.new ≡ commits.old }
+        ensures follows { (h : List Event) → stage_phase (ways P.meaning Q.meaning K.meaning P.refuses Q.refuses K.refuses) self.old.stage ≡ Running → CommitterFits (ways P.meaning Q.meaning K.meaning P.refuses Q.refuses K.refuses) self.old commits.old out.old h → IfKept (turn_of result) (IsFollowed out.old (heard arrival out.old commits.old) commits.new) }
         ensures back { may_commit self.old.stage ≡ false → (commits.new ≡ commits.old) × (may_commit self.new.stage ≡ false) }
         ensures version { IfEnds (turn_of result) IsInRange }
         ensures job { self.new ≡ record self.old { stage = self.new.stage; width = self.new.width } }
@@ -329,6 +332,7 @@ where
         ensures counts { (t : TimestampCall) → self.old.stage ≡ stages.Asking t → CommitterCounts (ways P.meaning Q.meaning K.meaning P.refuses Q.refuses K.refuses) (costs_of P.costs Q.costs K.costs) false false 0 0 self.old self.new out.old out.new (turn_of result) }
         ensures resumes { Resumes (ways P.meaning Q.meaning K.meaning P.refuses Q.refuses K.refuses) (turn_of (Ok progress)) self.old self.new out.old out.new pd.old pd.new (turn_of result) }
         ensures commits { turn_of (Ok progress) ≡ Waits → commits.new ≡ commits.old }
+        ensures follows { IfKept (turn_of result) (IsFollowed out.old commits.old commits.new) }
         ensures version { IfEnds (turn_of result) IsInRange }
         ensures job { self.new ≡ record self.old { stage = self.new.stage; width = self.new.width } }
         ensures ready { StageReady (ways P.meaning Q.meaning K.meaning P.refuses Q.refuses K.refuses) self.new.stage }
@@ -356,6 +360,7 @@ where
         ensures moves { CommitterMoves (ways P.meaning Q.meaning K.meaning P.refuses Q.refuses K.refuses) (MayCommit (plan_of self.old.parts) (version_of self.old.start) timestamp commits.old) (λ h. h) self.old self.new commits.old commits.new out.old out.new (turn_of result) }
         ensures counts { Begins (ways P.meaning Q.meaning K.meaning P.refuses Q.refuses K.refuses) (costs_of P.costs Q.costs K.costs) (commit_again_costs (costs_of P.costs Q.costs K.costs)) self.old self.new out.old out.new (turn_of result) }
         ensures opens { Opens (ways P.meaning Q.meaning K.meaning P.refuses Q.refuses K.refuses) self.new out.old out.new (turn_of result) }
+        ensures follows { IfKept (turn_of result) (IsFollowed out.old commits.old commits.new) }
         ensures version { IfEnds (turn_of result) IsInRange }
         ensures job { self.new ≡ record self.old { stage = self.new.stage; width = self.new.width } }
         ensures ready { StageReady (ways P.meaning Q.meaning K.meaning P.refuses Q.refuses K.refuses) self.new.stage }

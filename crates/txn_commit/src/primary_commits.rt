@@ -112,6 +112,13 @@ impl PrimaryCommits {
         Ok(())
     }
 
+    /// How many are neither refused nor lost.
+    pub fn count_out(&self) -> usize
+        ensures { result ≡ length self.now.out }
+    {
+        self.out.len()
+    }
+
     /// Whether one was lost.
     pub fn has_lost(&self) -> bool
         ensures { result ≡ is_some self.now.lost }

@@ -1,12 +1,12 @@
 -- The errors of a transaction's calls have their causes in what was heard, where those of its plans have.
 use Rattle.std.specs.Prelude.{◌≡◌, ◌⊎◌, ℕ, List, [], ◌∷◌, Option, Some, None, Err, refl}
-use Rattle.std.proofs.Common.{inl, inr, subst}
+use Rattle.std.proofs.Common.{inl, inr, subst, ap, ◌∙◌}
 use Rattle.txn_buffer.specs.Contents.{Contents}
 use Rattle.txn_causes.specs.Causes.{HasCause, has_cause_more}
 use Rattle.txn_causes.specs.Spent.{IsSpent}
 use Rattle.txn_causes.specs.Heard.{heard_in}
 use Rattle.txn_commit.specs.Committing.{CommitterGives, Ways}
-use Rattle.txn_commit.specs.Following.{first_of, or_first, undetermined, Commits, KnowsCommits, PrimaryLost, PrimarySent}
+use Rattle.txn_commit.specs.Following.{first_of, or_first, undetermined, Commits, KnowsCommits, PrimarySent}
 use Rattle.txn_commit.specs.Timing.{WasUntimed}
 use Rattle.txn_commit.specs.declared.commit_parts.CommitParts.{CommitParts}
 use Rattle.txn_core.specs.Going.{FailsWith, IsNothing, TransactionGives}
@@ -35,10 +35,6 @@ IsExplained attempts h e = HasCause (heard_in h) (IsSpent (heard_in h) attempts)
 abbrev pub IsCallExplained : ℕ → Option Ticket → List Event → Error → Type 0
 IsCallExplained attempts None h e = IsExplained attempts h e
 IsCallExplained attempts (Some t) h e = (inner : Error) × (view_of e ≡ not_known (view_of inner)) × IsExplained attempts h inner
-
--- What is known of the Commit of the primary that a refused rollback names: it was lost; or none was, and it is not refused.
-abbrev pub IsRefusalExplained : Plan → ℕ → Commits → Ticket → List Event → Type 0
-IsRefusalExplained plan s c t h = PrimaryLost plan s h t ⊎ ((c.lost ≡ None) × PrimarySent plan s h t)
 
 -- lemmas
 
@@ -76,9 +72,10 @@ first_sent : (plan : Plan) (s : ℕ) (h : List Event) (t : Ticket) (out : List T
 first_sent plan s h t [] sent e = cc
 first_sent plan s h t (u ∷ out) sent e = let same : u ≡ t = cc in subst (PrimarySent plan s h) same (sent u (inl refl))
 
-pub refusal_explained : (plan : Plan) (s : ℕ) (c : Commits) (h : List Event) (t : Ticket) → KnowsCommits plan s c h → undetermined c ≡ Some t → IsRefusalExplained plan s c t h
-refusal_explained plan s c h t k u = by c.lost refl u
+-- and so was the Commit of the primary that a refused rollback names
+pub refusal_sent : (plan : Plan) (s : ℕ) (c : Commits) (h : List Event) (t : Ticket) → KnowsCommits plan s c h → undetermined c ≡ Some t → PrimarySent plan s h t
+refusal_sent plan s c h t k u = by c.lost refl u
   where
-    by : (lost : Option Ticket) → c.lost ≡ lost → or_first lost c.out ≡ Some t → IsRefusalExplained plan s c t h
-    by None l f = inr (l, first_sent plan s h t c.out k.waiting f)
-    by (Some first) l f = let same : first ≡ t = cc in inl (subst (PrimaryLost plan s h) same (k.losing first l))
+    by : (lost : Option Ticket) → c.lost ≡ lost → or_first lost c.out ≡ Some t → PrimarySent plan s h t
+    by None l f = first_sent plan s h t c.out k.waiting f
+    by (Some first) l f = let same : first ≡ t = cc in k.losing t (l ∙ ap Some same)

@@ -5,14 +5,14 @@ ghost use Rattle.txn_causes.specs.Causes.{HasCause};
 ghost use Rattle.txn_causes.specs.Heard.{heard_in};
 ghost use Rattle.txn_commit.specs.Committing.{ways};
 ghost use Rattle.txn_commit.specs.Counting.{costs_of, IsOneEach};
-ghost use Rattle.txn_commit.specs.Following.{Commits as Followed, KnowsCommits, undetermined};
+ghost use Rattle.txn_commit.specs.Following.{Commits as Followed, KnowsCommits, PrimarySent, undetermined};
 ghost use Rattle.txn_commit.specs.Jobs.{others};
 ghost use Rattle.txn_commit.specs.Parts.{parts_of};
 ghost use Rattle.txn_commit.specs.Plans.{IsPlanFor};
 ghost use Rattle.txn_commit.specs.Timing.{WasUntimed};
 ghost use Rattle.txn_commit.specs.declared.secondary_job.SecondaryJob.{SecondaryJob};
 ghost use Rattle.txn_commit.specs.declared.secondary_job.Stage.TheVariants.{Fresh};
-ghost use Rattle.txn_commit_plans.specs.CausesOfCalls.{IsCallExplained, IsExplained, IsRefusalExplained};
+ghost use Rattle.txn_commit_plans.specs.CausesOfCalls.{IsCallExplained, IsExplained};
 ghost use Rattle.txn_commit_plans.specs.Failing.{FailsForCauses, HasGivenWith, IsSpentBy};
 ghost use Rattle.txn_commit_plans.specs.Kinds.{commit_attempts, commit_plan, commit_retries, prewrite_attempts, prewrite_plan, prewrite_retries, rollback_attempts, rollback_plan, rollback_retries, CommitPlan as Committing, PrewritePlan as Prewriting, RollbackPlan as Rolling};
 ghost use Rattle.txn_core.specs.Counting.{commit_price, errors, posted, rollback_price, weighed, Runs, Step};
@@ -101,7 +101,8 @@ pub fn plans_fail_for_causes()
 
 /// Where a commit or a rollback fails that goes by such plans, its error has its cause in what was heard; or there was no timestamp,
 /// and it is the error with which the oracle refused the tenth ask. Where a Commit of the primary was lost or is out, the answer says
-/// that the end is not known, and holds such an error. A rollback that is refused for that names such a Commit.
+/// that the end is not known, and holds such an error. A rollback that is refused for that names a Commit of the primary that was
+/// sent.
 pub fn failed_calls_have_causes<P, Q, K>()
 where
     P: Caused<PrewriteRequest>,
@@ -110,7 +111,7 @@ where
     ensures failed { (options : RetryOptions) (start : Timestamp) (contents : Contents) (c : Followed) (h : List Event) (e : Error)
         → TransactionGives (ways P.meaning Q.meaning K.meaning P.refuses Q.refuses K.refuses) options start contents c h (Err e) → IsCallExplained (attempts_left options.region_backoff) (undetermined c) h e }
     ensures refused { (plan : Plan) (s : ℕ) (c : Followed) (h : List Event) (t : Ticket)
-        → KnowsCommits plan s c h → undetermined c ≡ Some t → IsRefusalExplained plan s c t h }
+        → KnowsCommits plan s c h → undetermined c ≡ Some t → PrimarySent plan s h t }
     // A call for a timestamp alone fails so, too, and so does the job of the other keys.
     ensures untimed { (attempts : ℕ) (h : List Event) (e : Error) → WasUntimed h e → IsExplained attempts h e }
     ensures jobs { (plan : Plan) (keys : List Key) (job : SecondaryJob Q) (h : List Event) (e : Error)

@@ -1,5 +1,5 @@
 -- A commit or a rollback of a transaction: from the open call to the transaction around it.
-use Rattle.std.proofs.Common.{◌≡◌, inl, inr, ℕ, Bool, true, false, List, [], ◌∷◌, Option, Some, None, refl, sym, ap, subst, ◌∙◌}
+use Rattle.std.proofs.Common.{◌≡◌, ◌≢◌, inl, inr, ℕ, Bool, true, false, List, [], ◌∷◌, Option, Some, None, refl, sym, ap, subst, ◌∙◌}
 use Rattle.std.specs.Prelude.{⊤, Result, Ok, Err, if◌then◌else◌, not}
 use Rattle.txn_kv.specs.Timestamp.{HasVersion, version_of}
 use Rattle.txn_kv.specs.declared.errors.Error.{Error}
@@ -12,11 +12,11 @@ use Rattle.txn_history.specs.Licence.{PrimaryCommitted}
 use Rattle.txn_history.specs.Moves.{Moves, Moves-after, Moves-before, Moves-map, Moves-quiet}
 use Rattle.txn_history.specs.Plan.{Key, Plan}
 use Rattle.txn_history.specs.Posted.{Posted, Within}
-use Rattle.txn_history.specs.Turn.{Turn, IfEnds}
+use Rattle.txn_history.specs.Turn.{Turn, IfEnds, IfKept, IfKept-out}
 use Rattle.txn_history.specs.Turn.Turn.{Stopped, Waits, Ends}
 use Rattle.txn_buffer.specs.Contents.{Contents}
 use Rattle.txn_commit.specs.Committing.{CommitterFits, CommitterGives, CommitterMoves, MayCommit, Ways}
-use Rattle.txn_commit.specs.Following.{Commits, undetermined}
+use Rattle.txn_commit.specs.Following.{Commits, IsFollowed, heard, undetermined}
 use Rattle.txn_commit.specs.Going.{may_commit}
 use Rattle.txn_commit.specs.Parts.{parts_of}
 use Rattle.txn_commit.specs.Plans.{ArePrewritten, AreRolledBack}
@@ -345,6 +345,15 @@ module _ {P Q K A B D : Type 0} where
       let m' = subst (λ (x : Standing P Q K). CallMoves w known hear call x new from to turn) e m in
       Moves-before (λ h u. (record { given = u.0.given; settled = u.0.settled; under_way = subst (λ (x : Work P Q K). IsAtWork w old.options.retry_options old.start old.status old.contents old.commits x from h) i u.0.at }, u.1)) m'
 
+  -- what it knows of the Commits of its primary changes as its open call says
+  pub followed_open : (w : Ways P Q K A B D) (a : Arrival) (call : CommitterCall P Q K) (old mid new : Standing P Q K) (o : Posted) (turn : Turn (Result (TxnAnswer Q) Error)) (h : List Event)
+      → old.work ≡ Open call → mid ≡ record old { work = GaveUp }
+      → (CallFits w mid call o h → IfKept turn (IsFollowed o (heard a o mid.commits) new.commits))
+      → TransactionFits w old o h → IfKept turn (IsFollowed o (heard a o old.commits) new.commits)
+  followed_open w a call old mid new o turn h i e k f =
+      let k' = subst (λ (x : Standing P Q K). CallFits w x call o h → IfKept turn (IsFollowed o (heard a o x.commits) new.commits)) e k in
+      k' (record { given = f.given; settled = f.settled; under_way = subst (λ (x : Work P Q K). IsAtWork w old.options.retry_options old.start old.status old.contents old.commits x o h) i f.at })
+
   fits_on : (w : Ways P Q K A B D) (t : Standing P Q K) (o : Posted) (h : List Event) (e : Event) → IsNoSending e → t.work ≡ Idle → TransactionFits w t o h → TransactionFits w t o (e ∷ h)
   fits_on w t o h e n i f = record {
     given = given_longer (version_of t.start) h (e ∷ h) (λ x y. inr y) f.given;
@@ -367,6 +376,10 @@ module _ {P Q K A B D : Type 0} where
       → old.work ≡ Idle → mid ≡ record old { work = GaveUp } → new ≡ record mid { work = Idle } → turn ≡ Waits
       → TransactionMoves w (told_by a o r).known (told_by a o r).hear old new o o turn
   tells_idle w a r old mid new o turn i e n t = rw (t, as_before old mid new i e n) (Moves-quiet refl (λ h u. fits_told w old o h a r i u.0) tt)
+
+-- where its call did not give up, what that one says is so
+pub followed_on : {V : Type 0} (turn : Turn V) (o : Posted) (c d e : Commits) → turn ≢ Stopped → e ≡ d → IfKept turn (IsFollowed o c d) → IsFollowed o c e
+followed_on turn o c d e n f k = rw f (IfKept-out turn n k)
 
 pub idle_work : {P Q K : Type 0} (w : Work P Q K) → is_open w ≡ false → has_given_up w ≡ false → w ≡ Idle
 idle_work Idle o g = refl

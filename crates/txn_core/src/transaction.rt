@@ -1,7 +1,7 @@
-ghost use Rattle.std.specs.Prelude.{◌≡◌, ◌<◌, ◌^◌, ⊤, IfOk, IfSome, None, Some, Ok, Err, false, max, true, is_some};
+ghost use Rattle.std.specs.Prelude.{◌≡◌, ◌<◌, ◌^◌, ⊤, IfOk, IfSome, None, Some, Ok, Err, false, length, max, true, is_some};
 ghost use Rattle.txn_history.specs.Phase.Phase.{Running};
 ghost use Rattle.txn_history.specs.Posted.{HasNumbers, Posted};
-ghost use Rattle.txn_history.specs.Turn.{HasEnded, IfEnds, turn_of};
+ghost use Rattle.txn_history.specs.Turn.{HasEnded, IfEnds, IfKept, turn_of};
 ghost use Rattle.txn_history.specs.Turn.Turn.{Ends, Stopped, Waits};
 ghost use Rattle.txn_kv.specs.ErrorView.{view_of};
 ghost use Rattle.txn_kv.specs.ErrorView.ErrorView.{undetermined as not_known};
@@ -10,7 +10,7 @@ ghost use Rattle.txn_kv.specs.declared.errors.Error.TheVariants.{OperationAfterC
 ghost use Rattle.txn_kv.specs.declared.ticket.Ticket.{Ticket as Named};
 ghost use Rattle.txn_commit.specs.Committing.{CommitterMoves, IsInRange, MayCommit, StageReady, ways};
 ghost use Rattle.txn_commit.specs.Counting.{Begins, call_width, commit_again_costs, costs_of};
-ghost use Rattle.txn_commit.specs.Following.{undetermined};
+ghost use Rattle.txn_commit.specs.Following.{IsFollowed, undetermined};
 ghost use Rattle.txn_commit.specs.Going.{Opens as CallOpens, stage_phase};
 ghost use Rattle.txn_commit.specs.Parts.{parts_of};
 ghost use Rattle.txn_commit.specs.Sending.{plan_of};
@@ -158,6 +158,7 @@ where
         ensures counts { TransactionBegins (ways P.meaning Q.meaning K.meaning P.refuses Q.refuses K.refuses) (costs_of P.costs Q.costs K.costs) (commit_price (costs_of P.costs Q.costs K.costs) (parts_of self.old.contents) self.old.commits.timestamp) self.old self.new out.old out.new (turn_of result) }
         ensures status { self.old.work ≡ works.Idle → self.new.status ≡ status_step self.old.status (commits (commit_outcome (turn_of result)) (is_some (parts_of self.old.contents))) }
         ensures kept { self.new ≡ record self.old { status = self.new.status; commits = self.new.commits; work = self.new.work; width = self.new.width } }
+        ensures follows { IfKept (turn_of result) (IsFollowed out.old self.old.commits self.new.commits) }
         ensures gives_up { GivesUp self.old self.new (turn_of result) }
         ensures busy { is_open self.new.work ≡ is_waiting (turn_of result) }
         ensures opens { Opens (ways P.meaning Q.meaning K.meaning P.refuses Q.refuses K.refuses) self.new out.old out.new (turn_of result) }
@@ -229,6 +230,7 @@ where
         ensures counts { TransactionBegins (ways P.meaning Q.meaning K.meaning P.refuses Q.refuses K.refuses) (costs_of P.costs Q.costs K.costs) (commit_price (costs_of P.costs Q.costs K.costs) (Some parts) self.old.commits.timestamp) self.old self.new out.old out.new (turn_of result) }
         ensures status { self.new.status ≡ moved_by self.old.status (turn_of result) }
         ensures kept { self.new ≡ record self.old { status = self.new.status; commits = self.new.commits; work = self.new.work; width = self.new.width } }
+        ensures follows { IfKept (turn_of result) (IsFollowed out.old self.old.commits self.new.commits) }
         ensures stops { turn_of result ≡ Stopped → self.new.work ≡ works.GaveUp }
         ensures busy { is_open self.new.work ≡ is_waiting (turn_of result) }
         ensures opens { Opens (ways P.meaning Q.meaning K.meaning P.refuses Q.refuses K.refuses) self.new out.old out.new (turn_of result) }
@@ -259,6 +261,7 @@ where
         ensures counts { Begins (ways P.meaning Q.meaning K.meaning P.refuses Q.refuses K.refuses) (costs_of P.costs Q.costs K.costs) (commit_price (costs_of P.costs Q.costs K.costs) (Some call.old.parts) self.old.commits.timestamp) call.old call.new out.old out.new (turn_of result) }
         ensures job { IsSameCall call.old call.new }
         ensures kept { self.new ≡ record self.old { commits = self.new.commits } }
+        ensures follows { IfKept (turn_of result) (IsFollowed out.old self.old.commits self.new.commits) }
         ensures opens { CallOpens (ways P.meaning Q.meaning K.meaning P.refuses Q.refuses K.refuses) call.new out.old out.new (turn_of result) }
         ensures version { IfEnds (turn_of result) IsInRange }
         ensures ready { StageReady (ways P.meaning Q.meaning K.meaning P.refuses Q.refuses K.refuses) call.new.stage }
@@ -289,6 +292,7 @@ where
         ensures counts { Begins (ways P.meaning Q.meaning K.meaning P.refuses Q.refuses K.refuses) (costs_of P.costs Q.costs K.costs) (commit_again_costs (costs_of P.costs Q.costs K.costs)) call.old call.new out.old out.new (turn_of result) }
         ensures job { IsSameCall call.old call.new }
         ensures kept { self.new ≡ record self.old { commits = self.new.commits } }
+        ensures follows { IfKept (turn_of result) (IsFollowed out.old self.old.commits self.new.commits) }
         ensures opens { CallOpens (ways P.meaning Q.meaning K.meaning P.refuses Q.refuses K.refuses) call.new out.old out.new (turn_of result) }
         ensures version { IfEnds (turn_of result) IsInRange }
         ensures ready { StageReady (ways P.meaning Q.meaning K.meaning P.refuses Q.refuses K.refuses) call.new.stage }
@@ -564,6 +568,13 @@ where
         ensures version { IfSome result HasVersion }
     {
         self.commits.timestamp()
+    }
+
+    /// How many Commits of the primary are neither refused nor lost.
+    pub fn count_commits_out(&self) -> usize
+        ensures { result ≡ length self.now.commits.out }
+    {
+        self.commits.count_out()
     }
 
     /// Whether a Commit of the primary was lost.

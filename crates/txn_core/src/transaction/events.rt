@@ -1,22 +1,23 @@
 //! What comes to a transaction: replies and losses of its requests, the ends of its sleeps, and timestamps.
-ghost use Rattle.std.specs.Prelude.{◌≡◌, ◌<◌, ◌^◌, false, is_err, true};
+ghost use Rattle.std.specs.Prelude.{◌≡◌, ◌<◌, ◌^◌, List, false, is_err, true};
+ghost use Rattle.txn_history.specs.Event.{Event};
 ghost use Rattle.txn_history.specs.Faults.{has_error, has_region_error};
 ghost use Rattle.txn_history.specs.Meaning.{Expects};
 ghost use Rattle.txn_history.specs.Phase.Awaited.{EndOf, ReplyTo, TimeOf};
 ghost use Rattle.txn_history.specs.Phase.Phase.{Running};
 ghost use Rattle.txn_history.specs.Posted.{HasNumbers, ticket_of};
 ghost use Rattle.txn_history.specs.Spends.{locked_of, weight_of};
-ghost use Rattle.txn_history.specs.Turn.{IfEnds, turn_of};
+ghost use Rattle.txn_history.specs.Turn.{IfEnds, IfKept, turn_of};
 ghost use Rattle.txn_history.specs.Turn.Turn.{Stopped, Waits};
 ghost use Rattle.txn_kv.specs.Timestamp.{HasVersion};
 ghost use Rattle.txn_kv.specs.declared.request.Request.{Request as Asked};
 ghost use Rattle.txn_plan.specs.Answered.{IsTimeAnswer};
-ghost use Rattle.txn_commit.specs.Committing.{CommitterMoves, IsInRange, StageReady, ways};
+ghost use Rattle.txn_commit.specs.Committing.{CommitterFits, CommitterMoves, IsInRange, StageReady, ways};
 ghost use Rattle.txn_commit.specs.Counting.{CommitterCounts, costs_of};
-ghost use Rattle.txn_commit.specs.Following.{awaits, is_out};
+ghost use Rattle.txn_commit.specs.Following.{IsFollowed, awaits, heard, is_out};
 ghost use Rattle.txn_commit.specs.Going.{CommitterExpects, CommitterGoes, may_commit, stage_phase, stage_waits};
 ghost use Rattle.txn_core.specs.Counting.{OpenCounts, TransactionCounts};
-ghost use Rattle.txn_core.specs.Going.{CallMoves, IsSameCall, TransactionMoves, TransactionReady};
+ghost use Rattle.txn_core.specs.Going.{CallFits, CallMoves, IsSameCall, TransactionFits, TransactionMoves, TransactionReady};
 ghost use Rattle.txn_core.specs.Transaction.{GivesUp, is_open, is_waiting, moved_by};
 ghost use Rattle.txn_core.specs.Waiting.{HandsOut, TransactionGoes, work_waits};
 ghost use Rattle.txn_core.specs.declared.transaction.Work.TheVariants as works;
@@ -59,6 +60,7 @@ where
         ensures goes { TransactionGoes (ways P.meaning Q.meaning K.meaning P.refuses Q.refuses K.refuses) (work_waits (ways P.meaning Q.meaning K.meaning P.refuses Q.refuses K.refuses) self.old.work (ReplyTo number)) (record self.old { commits = self.new.commits }) self.new out.old out.new pd.old pd.new (turn_of result) }
         ensures expects { Expects (work_waits (ways P.meaning Q.meaning K.meaning P.refuses Q.refuses K.refuses) self.old.work) (work_waits (ways P.meaning Q.meaning K.meaning P.refuses Q.refuses K.refuses) self.new.work) (λ a. a ≡ ReplyTo number) out.old out.new }
         ensures commits { (work_waits (ways P.meaning Q.meaning K.meaning P.refuses Q.refuses K.refuses) self.old.work (ReplyTo number) → ⊥) → is_out (ticket_of out.old number) self.old.commits ≡ false → self.new.commits ≡ self.old.commits }
+        ensures follows { (h : List Event) → is_open self.old.work ≡ true → TransactionFits (ways P.meaning Q.meaning K.meaning P.refuses Q.refuses K.refuses) self.old out.old h → IfKept (turn_of result) (IsFollowed out.old (heard (arrivals.Reply number reply) out.old self.old.commits) self.new.commits) }
         ensures job { IfEnds (turn_of result) (HandsOut Q.meaning) }
         ensures ready { TransactionReady (ways P.meaning Q.meaning K.meaning P.refuses Q.refuses K.refuses) self.new }
         ensures numbers { HasNumbers out.new }
@@ -79,6 +81,7 @@ where
         ensures goes { TransactionGoes (ways P.meaning Q.meaning K.meaning P.refuses Q.refuses K.refuses) (work_waits (ways P.meaning Q.meaning K.meaning P.refuses Q.refuses K.refuses) self.old.work (ReplyTo number)) (record self.old { commits = self.new.commits }) self.new out.old out.new pd.old pd.new (turn_of result) }
         ensures expects { Expects (work_waits (ways P.meaning Q.meaning K.meaning P.refuses Q.refuses K.refuses) self.old.work) (work_waits (ways P.meaning Q.meaning K.meaning P.refuses Q.refuses K.refuses) self.new.work) (λ a. a ≡ ReplyTo number) out.old out.new }
         ensures commits { (work_waits (ways P.meaning Q.meaning K.meaning P.refuses Q.refuses K.refuses) self.old.work (ReplyTo number) → ⊥) → is_out (ticket_of out.old number) self.old.commits ≡ false → self.new.commits ≡ self.old.commits }
+        ensures follows { (h : List Event) → is_open self.old.work ≡ true → TransactionFits (ways P.meaning Q.meaning K.meaning P.refuses Q.refuses K.refuses) self.old out.old h → IfKept (turn_of result) (IsFollowed out.old (heard (arrivals.Lost number) out.old self.old.commits) self.new.commits) }
         ensures job { IfEnds (turn_of result) (HandsOut Q.meaning) }
         ensures ready { TransactionReady (ways P.meaning Q.meaning K.meaning P.refuses Q.refuses K.refuses) self.new }
         ensures numbers { HasNumbers out.new }
@@ -99,6 +102,7 @@ where
         ensures goes { TransactionGoes (ways P.meaning Q.meaning K.meaning P.refuses Q.refuses K.refuses) (work_waits (ways P.meaning Q.meaning K.meaning P.refuses Q.refuses K.refuses) self.old.work (EndOf number)) (record self.old { commits = self.new.commits }) self.new out.old out.new pd.old pd.new (turn_of result) }
         ensures expects { Expects (work_waits (ways P.meaning Q.meaning K.meaning P.refuses Q.refuses K.refuses) self.old.work) (work_waits (ways P.meaning Q.meaning K.meaning P.refuses Q.refuses K.refuses) self.new.work) (λ a. a ≡ EndOf number) out.old out.new }
         ensures commits { (work_waits (ways P.meaning Q.meaning K.meaning P.refuses Q.refuses K.refuses) self.old.work (EndOf number) → ⊥) → self.new.commits ≡ self.old.commits }
+        ensures follows { (h : List Event) → is_open self.old.work ≡ true → TransactionFits (ways P.meaning Q.meaning K.meaning P.refuses Q.refuses K.refuses) self.old out.old h → IfKept (turn_of result) (IsFollowed out.old (heard (arrivals.Slept number) out.old self.old.commits) self.new.commits) }
         ensures job { IfEnds (turn_of result) (HandsOut Q.meaning) }
         ensures ready { TransactionReady (ways P.meaning Q.meaning K.meaning P.refuses Q.refuses K.refuses) self.new }
         ensures numbers { HasNumbers out.new }
@@ -127,6 +131,7 @@ where
         ensures goes { TransactionGoes (ways P.meaning Q.meaning K.meaning P.refuses Q.refuses K.refuses) (work_waits (ways P.meaning Q.meaning K.meaning P.refuses Q.refuses K.refuses) self.old.work (TimeOf ask)) (record self.old { commits = self.new.commits }) self.new out.old out.new pd.old pd.new (turn_of result) }
         ensures expects { Expects (work_waits (ways P.meaning Q.meaning K.meaning P.refuses Q.refuses K.refuses) self.old.work) (work_waits (ways P.meaning Q.meaning K.meaning P.refuses Q.refuses K.refuses) self.new.work) (λ a. a ≡ TimeOf ask) out.old out.new }
         ensures commits { (work_waits (ways P.meaning Q.meaning K.meaning P.refuses Q.refuses K.refuses) self.old.work (TimeOf ask) → ⊥) → self.new.commits ≡ self.old.commits }
+        ensures follows { (h : List Event) → is_open self.old.work ≡ true → TransactionFits (ways P.meaning Q.meaning K.meaning P.refuses Q.refuses K.refuses) self.old out.old h → IfKept (turn_of result) (IsFollowed out.old (heard (arrivals.Time ask answer) out.old self.old.commits) self.new.commits) }
         ensures job { IfEnds (turn_of result) (HandsOut Q.meaning) }
         ensures ready { TransactionReady (ways P.meaning Q.meaning K.meaning P.refuses Q.refuses K.refuses) self.new }
         ensures numbers { HasNumbers out.new }
@@ -148,6 +153,7 @@ where
         ensures goes { TransactionGoes (ways P.meaning Q.meaning K.meaning P.refuses Q.refuses K.refuses) (work_waits (ways P.meaning Q.meaning K.meaning P.refuses Q.refuses K.refuses) self.old.work (awaited_as arrival)) (record self.old { commits = self.new.commits }) self.new out.old out.new pd.old pd.new (turn_of result) }
         ensures expects { Expects (work_waits (ways P.meaning Q.meaning K.meaning P.refuses Q.refuses K.refuses) self.old.work) (work_waits (ways P.meaning Q.meaning K.meaning P.refuses Q.refuses K.refuses) self.new.work) (λ a. a ≡ awaited_as arrival) out.old out.new }
         ensures commits { (work_waits (ways P.meaning Q.meaning K.meaning P.refuses Q.refuses K.refuses) self.old.work (awaited_as arrival) → ⊥) → awaits arrival out.old self.old.commits ≡ false → self.new.commits ≡ self.old.commits }
+        ensures follows { (h : List Event) → is_open self.old.work ≡ true → TransactionFits (ways P.meaning Q.meaning K.meaning P.refuses Q.refuses K.refuses) self.old out.old h → IfKept (turn_of result) (IsFollowed out.old (heard arrival out.old self.old.commits) self.new.commits) }
         ensures job { IfEnds (turn_of result) (HandsOut Q.meaning) }
         ensures ready { TransactionReady (ways P.meaning Q.meaning K.meaning P.refuses Q.refuses K.refuses) self.new }
         ensures numbers { HasNumbers out.new }
@@ -183,6 +189,7 @@ where
         ensures goes { TransactionGoes (ways P.meaning Q.meaning K.meaning P.refuses Q.refuses K.refuses) (stage_waits (ways P.meaning Q.meaning K.meaning P.refuses Q.refuses K.refuses) call.stage (awaited_as arrival)) (record self.old { work = works.Open call; commits = self.new.commits }) self.new out.old out.new pd.old pd.new (turn_of result) }
         ensures expects { Expects (stage_waits (ways P.meaning Q.meaning K.meaning P.refuses Q.refuses K.refuses) call.stage) (work_waits (ways P.meaning Q.meaning K.meaning P.refuses Q.refuses K.refuses) self.new.work) (λ a. a ≡ awaited_as arrival) out.old out.new }
         ensures commits { (stage_waits (ways P.meaning Q.meaning K.meaning P.refuses Q.refuses K.refuses) call.stage (awaited_as arrival) → ⊥) → awaits arrival out.old self.old.commits ≡ false → self.new.commits ≡ self.old.commits }
+        ensures follows { (h : List Event) → CallFits (ways P.meaning Q.meaning K.meaning P.refuses Q.refuses K.refuses) self.old call out.old h → IfKept (turn_of result) (IsFollowed out.old (heard arrival out.old self.old.commits) self.new.commits) }
         ensures job { IfEnds (turn_of result) (HandsOut Q.meaning) }
         ensures ready { TransactionReady (ways P.meaning Q.meaning K.meaning P.refuses Q.refuses K.refuses) self.new }
         ensures numbers { HasNumbers out.new }
@@ -214,6 +221,7 @@ where
         ensures goes { CommitterGoes (ways P.meaning Q.meaning K.meaning P.refuses Q.refuses K.refuses) (stage_waits (ways P.meaning Q.meaning K.meaning P.refuses Q.refuses K.refuses) call.old.stage (awaited_as arrival)) call.old call.new out.old out.new pd.old pd.new (turn_of result) }
         ensures expects { CommitterExpects (ways P.meaning Q.meaning K.meaning P.refuses Q.refuses K.refuses) (λ a. a ≡ awaited_as arrival) call.old call.new out.old out.new }
         ensures commits { (stage_waits (ways P.meaning Q.meaning K.meaning P.refuses Q.refuses K.refuses) call.old.stage (awaited_as arrival) → ⊥) → awaits arrival out.old self.old.commits ≡ false → self.new.commits ≡ self.old.commits }
+        ensures follows { (h : List Event) → stage_phase (ways P.meaning Q.meaning K.meaning P.refuses Q.refuses K.refuses) call.old.stage ≡ Running → CommitterFits (ways P.meaning Q.meaning K.meaning P.refuses Q.refuses K.refuses) call.old self.old.commits out.old h → IfKept (turn_of result) (IsFollowed out.old (heard arrival out.old self.old.commits) self.new.commits) }
         ensures back { may_commit call.old.stage ≡ false → (self.new.commits ≡ self.old.commits) × (may_commit call.new.stage ≡ false) }
         ensures version { IfEnds (turn_of result) IsInRange }
         ensures ready { StageReady (ways P.meaning Q.meaning K.meaning P.refuses Q.refuses K.refuses) call.new.stage }

@@ -5,4 +5,4 @@ pub returns-clause-answered : goal.returns-clause-answered
 returns-clause-answered c = knows_answered
 
 pub returns-clause-lost : goal.returns-clause-lost
-returns-clause-lost c = knows_lost
+returns-clause-lost c plan s commits t q h known k = knows_lost plan s commits t q h k

@@ -1,5 +1,5 @@
 use Rattle.txn_commit.specs.Committing.{ways}
-use Rattle.txn_commit_plans.specs.CausesOfCalls.{call_explained, refusal_explained, untimed_explained}
+use Rattle.txn_commit_plans.specs.CausesOfCalls.{call_explained, refusal_sent, untimed_explained}
 use Rattle.txn_commit_plans.proofs.laws.failed_calls_have_causes.Goals as goal
 
 pub returns-clause-failed : goal.returns-clause-failed
@@ -7,7 +7,7 @@ returns-clause-failed g c options start contents d h e x =
     call_explained (ways g.P.Plan.meaning g.Q.Plan.meaning g.K.Plan.meaning g.P.PlanFor.refuses g.Q.PlanFor.refuses g.K.PlanFor.refuses) g.met.P.Caused.caused g.met.Q.Caused.caused g.met.K.Caused.caused options start contents d h e x
 
 pub returns-clause-refused : goal.returns-clause-refused
-returns-clause-refused g c = refusal_explained
+returns-clause-refused g c = refusal_sent
 
 pub returns-clause-untimed : goal.returns-clause-untimed
 returns-clause-untimed g c = untimed_explained

@@ -1,6 +1,8 @@
 use Rattle.std.proofs.Common.{inr}
+use Rattle.txn_history.specs.Turn.{IfKept-all}
 use Rattle.txn_commit.specs.declared.committer.Stage.TheVariants as stages
 use Rattle.txn_commit.proofs.Committing.{at_stage}
+use Rattle.txn_commit.proofs.Posting.{followed_same}
 use Rattle.txn_commit.proofs.Stages.{ends_is, time_ends, time_next, time_waits, waits_is}
 use Rattle.txn_commit.proofs.Counting.{next_counts}
 use Rattle.std.proofs.Math.Nat.{le-add_left}
@@ -30,3 +32,9 @@ returns-in-Done-Err-clause-resumes g c = resumes_over _ c.args.self.now c.end.ne
 
 pub returns-in-Done-Ok-clause-commits : goal.returns-in-Done-Ok-clause-commits
 returns-in-Done-Ok-clause-commits g c e = absurd (never_waits (ends_is c.in-Done-Ok.is c.in-Done-Ok.field-0-is) e)
+
+pub returns-in-Waiting-clause-follows : goal.returns-in-Waiting-clause-follows
+returns-in-Waiting-clause-follows g c = followed_same c.args.out.now c.args.commits.now
+
+pub returns-in-Done-Err-clause-follows : goal.returns-in-Done-Err-clause-follows
+returns-in-Done-Err-clause-follows g c = IfKept-all _ (followed_same c.args.out.now c.args.commits.now)

@@ -2,10 +2,11 @@ use Rattle.std.proofs.Common.{◌∙◌, [], ◌∷◌, refl}
 use Rattle.txn_kv.specs.Timestamp.{version_of}
 use Rattle.txn_history.specs.Meaning.{started}
 use Rattle.txn_history.specs.Moves.{Moves-before, Moves-stopped, Moves-stops}
+use Rattle.txn_history.specs.Turn.{IfKept-all, IfKept-stopped}
 use Rattle.txn_commit.specs.Plans.{AreCommitted}
 use Rattle.txn_commit.specs.declared.committer.Stage.TheVariants as stages
 use Rattle.txn_commit.proofs.Posting.Hears.{Nothing}
-use Rattle.txn_commit.proofs.Stages.{commits_on, committing_begins, stopped_is, then_goes_on, same_options}
+use Rattle.txn_commit.proofs.Stages.{commits_on, committing_begins, followed_sends, stopped_is, then_goes_on, same_options}
 use Rattle.txn_commit.specs.Committing.{ways}
 use Rattle.txn_commit.specs.Counting.{costs_of}
 use Rattle.txn_commit.proofs.Counting.{committing_starts, gave_up_counts, gone_wide, is_kept_so, then_counts}
@@ -45,3 +46,9 @@ returns-in-Ok-clause-opens g c = opens_then _ g.Q.Plan.meaning (λ q. stages.Com
     (relays_after (is_kept_ok c.in-Ok.progress) (rw c.in-Ok.is at c.start_commit-turn.ensures.relays) c.in_ok-plan.ensures.unbegun.phase)
     c.start_commit-turn.ensures.sends.expects
     (resumes_settled _ c.go-2.new.self c.after_commit.new.self c.start_commit-turn.new.out (tt {0}) _ _ (is_kept_ok c.in-Ok.progress) c.after_commit.ensures.settles)
+
+pub returns-in-Ok-clause-follows : goal.returns-in-Ok-clause-follows
+returns-in-Ok-clause-follows g c = IfKept-all _ (followed_sends (is_kept_ok c.in-Ok.progress) (rw c.in-Ok.is at c.start_commit-turn.ensures.sends))
+
+pub returns-in-Err-clause-follows : goal.returns-in-Err-clause-follows
+returns-in-Err-clause-follows g c = IfKept-stopped _ _ c.give_up.ensures.turn

@@ -1,17 +1,18 @@
 use Rattle.txn_commit.specs.declared.committer.Stage.TheVariants as stages
-use Rattle.std.proofs.Common.{◌∙◌, refl}
+use Rattle.std.proofs.Common.{◌∙◌, ap, refl, sym}
 use Rattle.txn_history.specs.Moves.{Moves-stopped, Moves-stops, Moves-then}
-use Rattle.txn_history.specs.Turn.{turn_of}
+use Rattle.txn_history.specs.Turn.{IfKept-all, IfKept-stopped, IfKept-weaker, turn_of}
 use Rattle.txn_commit.specs.Committing.{ways}
 use Rattle.txn_commit.specs.Following.{heard}
+use Rattle.txn_commit.specs.Going.{stage_phase}
 use Rattle.txn_commit.proofs.Committing.{prewriting_on, rolling_on, rolling_others_on}
-use Rattle.txn_commit.proofs.Posting.{heard_time, hears_told, knows_heard}
-use Rattle.txn_commit.proofs.Stages.{asking_on, commits_on, over_on, stopped_is}
+use Rattle.txn_commit.proofs.Posting.{followed_as, followed_same, heard_time, hears_told, knows_heard}
+use Rattle.txn_commit.proofs.Stages.{asking_on, commits_on, followed_sends, over_on, stopped_is}
 use Rattle.txn_commit.proofs.Counting.{asking_counts, committing_counts, failure_is_error, gave_up_counts, idle_counts, is_kept_so, prewriting_counts, rolling_counts, rolling_others_counts, stop_counts, then_counts}
 use Rattle.txn_history.proofs.Telling.{is_kept_ok}
 use Rattle.txn_tso.specs.Calling.{members}
 use Rattle.txn_commit.specs.Timing.{time_asked}
-use Rattle.txn_commit.proofs.Going.{asks_still, expects_gives_up, expects_idle, expects_stops, expects_then, goes_gives_up, goes_idle, goes_stops, goes_then, heard_other, relays_goes, resumes_settled, unheard_waits}
+use Rattle.txn_commit.proofs.Going.{asks_still, expects_gives_up, expects_idle, expects_stops, expects_then, followed_elsewhere, goes_gives_up, goes_idle, goes_stops, goes_then, heard_other, relays_goes, resumes_settled, unheard_waits}
 use Rattle.txn_commit.proofs.committer.CommitterCall.tell.Goals as goal
 use Rattle.txn_plan.specs.Arrivals.{awaited_as, told_by}
 
@@ -167,3 +168,27 @@ returns-in-Over-clause-expects g c = expects_idle (ways g.P.Plan.meaning g.Q.Pla
 
 pub returns-in-Stopped-clause-expects : goal.returns-in-Stopped-clause-expects
 returns-in-Stopped-clause-expects g c = expects_idle (ways g.P.Plan.meaning g.Q.Plan.meaning g.K.Plan.meaning g.P.PlanFor.refuses g.Q.PlanFor.refuses g.K.PlanFor.refuses) c.args.self.now stages.Stopped _ _ c.in-Stopped.is (λ a x. x)
+
+pub returns-in_ok-progress-in-Prewriting-clause-follows : goal.returns-in_ok-progress-in-Prewriting-clause-follows
+returns-in_ok-progress-in-Prewriting-clause-follows g c k runs f = IfKept-all _ (followed_elsewhere (ways g.P.Plan.meaning g.Q.Plan.meaning g.K.Plan.meaning g.P.PlanFor.refuses g.Q.PlanFor.refuses g.K.PlanFor.refuses) c.args.self.now (stages.Prewriting c.in-Prewriting.plan) c.args.arrival c.args.commits.now c.args.commits.now c.args.out.now k c.in-Prewriting.is tt f (followed_same c.args.out.now c.args.commits.now))
+
+pub returns-in_ok-progress-in-RollingBackPrimary-clause-follows : goal.returns-in_ok-progress-in-RollingBackPrimary-clause-follows
+returns-in_ok-progress-in-RollingBackPrimary-clause-follows g c k runs f = IfKept-all _ (followed_elsewhere (ways g.P.Plan.meaning g.Q.Plan.meaning g.K.Plan.meaning g.P.PlanFor.refuses g.Q.PlanFor.refuses g.K.PlanFor.refuses) c.args.self.now (stages.RollingBackPrimary c.in-RollingBackPrimary.plan) c.args.arrival c.args.commits.now c.args.commits.now c.args.out.now k c.in-RollingBackPrimary.is tt f (followed_same c.args.out.now c.args.commits.now))
+
+pub returns-in_ok-progress-in-RollingBackOthers-clause-follows : goal.returns-in_ok-progress-in-RollingBackOthers-clause-follows
+returns-in_ok-progress-in-RollingBackOthers-clause-follows g c k runs f = IfKept-all _ (followed_elsewhere (ways g.P.Plan.meaning g.Q.Plan.meaning g.K.Plan.meaning g.P.PlanFor.refuses g.Q.PlanFor.refuses g.K.PlanFor.refuses) c.args.self.now (stages.RollingBackOthers c.in-RollingBackOthers.plan) c.args.arrival c.args.commits.now c.args.commits.now c.args.out.now k c.in-RollingBackOthers.is tt f (followed_same c.args.out.now c.args.commits.now))
+
+pub returns-in-Err-clause-follows : goal.returns-in-Err-clause-follows
+returns-in-Err-clause-follows g c k runs f = IfKept-stopped _ _ c.give_up.ensures.turn
+
+pub returns-in-Err-tell_commit-clause-follows : goal.returns-in-Err-tell_commit-clause-follows
+returns-in-Err-tell_commit-clause-follows g c k runs f = IfKept-stopped _ _ c.give_up-in-Err-tell_commit.ensures.turn
+
+pub returns-in-Ok-clause-follows : goal.returns-in-Ok-clause-follows
+returns-in-Ok-clause-follows g c k runs f = let m = (c.tell-in-Asking.ensures.tells members).moves in IfKept-weaker _ (λ i. followed_elsewhere (ways g.P.Plan.meaning g.Q.Plan.meaning g.K.Plan.meaning g.P.PlanFor.refuses g.Q.PlanFor.refuses g.K.PlanFor.refuses) c.args.self.now (stages.Asking c.in-Asking.call) c.args.arrival c.args.commits.now c.after_time.new.commits c.args.out.now k c.in-Asking.is tt f (followed_as c.tell-in-Asking.new.out c.args.out.now c.args.commits.now c.after_time.new.commits m.line m.beat i)) c.after_time.ensures.follows
+
+pub returns-in-Ok-tell_commit-clause-follows : goal.returns-in-Ok-tell_commit-clause-follows
+returns-in-Ok-tell_commit-clause-follows g c k runs f = IfKept-all _ (followed_sends (is_kept_ok c.in-Ok-tell_commit.progress) (rw c.in-Ok-tell_commit.is at (c.tell_commit.ensures.sends members)))
+
+pub returns-in-Over-clause-follows : goal.returns-in-Over-clause-follows
+returns-in-Over-clause-follows g c k runs f = absurd (let e = sym (ap (stage_phase (ways g.P.Plan.meaning g.Q.Plan.meaning g.K.Plan.meaning g.P.PlanFor.refuses g.Q.PlanFor.refuses g.K.PlanFor.refuses)) c.in-Over.is) ∙ runs in cc)

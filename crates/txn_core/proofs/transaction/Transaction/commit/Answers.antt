@@ -1,6 +1,9 @@
-use Rattle.std.proofs.Common.{◌∙◌, refl, sym}
+use Rattle.std.proofs.Common.{◌∙◌, refl, sym, ap, subst}
 use Rattle.txn_history.specs.Moves.{Moves-stopped}
 use Rattle.txn_history.proofs.Telling.{turn_stopped}
+use Rattle.txn_history.specs.Turn.{IfKept-all}
+use Rattle.txn_commit.specs.Following.{IsFollowed}
+use Rattle.txn_commit.proofs.Posting.{followed_same}
 use Rattle.txn_core.proofs.Counting.{commits_counts, rest_pays}
 use Rattle.txn_core.proofs.Going.{commits_nothing, commits_on, idle_work}
 use Rattle.txn_core.proofs.Waiting.{gone_work, opens_rests, rests_gone, rests_idle}
@@ -50,3 +53,13 @@ returns-then-not-allows_commit-clause-job g c = rw c.refused.ensures tt
 
 pub returns-in-None-clause-job : goal.returns-in-None-clause-job
 returns-in-None-clause-job g c = rw c.nothing_committed.ensures.answer (tt, tt)
+
+pub returns-then-not-allows_commit-clause-follows : goal.returns-then-not-allows_commit-clause-follows
+returns-then-not-allows_commit-clause-follows g c = IfKept-all _ (followed_same c.args.out.now c.args.self.now.commits)
+
+pub returns-in-None-clause-follows : goal.returns-in-None-clause-follows
+returns-in-None-clause-follows g c =
+    IfKept-all _ (subst (λ d. IsFollowed c.args.out.now c.args.self.now.commits d) (sym (ap (λ t. t.commits) c.nothing_committed.ensures.state ∙ ap (λ t. t.commits) c.begin.ensures)) (followed_same c.args.out.now c.args.self.now.commits))
+
+pub returns-in-Some-clause-follows : goal.returns-in-Some-clause-follows
+returns-in-Some-clause-follows g c = rw c.begin.ensures at c.start_commit.ensures.follows

@@ -1,10 +1,10 @@
-use Rattle.std.proofs.Common.{◌∙◌, refl, sym}
+use Rattle.std.proofs.Common.{◌∙◌, ap, refl, sym}
 use Rattle.txn_history.specs.Moves.{Moves-stops}
 use Rattle.txn_commit.proofs.Posting.Hears.{Nothing}
-use Rattle.txn_history.specs.Turn.{turn_of}
+use Rattle.txn_history.specs.Turn.{IfKept-all, IfKept-stopped, turn_of}
 use Rattle.txn_commit.proofs.Counting.{is_kept_so}
 use Rattle.txn_core.proofs.Counting.{begin_counts, commit_priced, kept_of_ok, lets_go, never_kept}
-use Rattle.txn_core.proofs.Going.{begin_fits, goes_on, lifts, may_start}
+use Rattle.txn_core.proofs.Going.{begin_fits, followed_on, goes_on, lifts, may_start}
 use Rattle.txn_history.proofs.Telling.{is_kept_ok}
 use Rattle.txn_core.proofs.Waiting.{opens_call, opens_gone}
 use Rattle.txn_core.proofs.transaction.Transaction.start_commit.Goals as goal
@@ -29,3 +29,9 @@ returns-in-Err-clause-opens g c = opens_gone _ c.start_call.new.call _ c.stop.ne
 
 pub returns-in-Err-clause-job : goal.returns-in-Err-clause-job
 returns-in-Err-clause-job g c = rw c.stop.ensures.turn tt
+
+pub returns-in-Ok-clause-follows : goal.returns-in-Ok-clause-follows
+returns-in-Ok-clause-follows g c = IfKept-all _ (followed_on (turn_of c.start_call.result) c.args.out.now c.args.self.now.commits c.start_call.new.self.commits c.go_on.new.self.commits (rw c.in-Ok.is (is_kept_ok c.in-Ok.progress)) (ap (λ t. t.commits) c.go_on.ensures.kept) c.start_call.ensures.follows)
+
+pub returns-in-Err-clause-follows : goal.returns-in-Err-clause-follows
+returns-in-Err-clause-follows g c = IfKept-stopped _ _ c.stop.ensures.turn

@@ -1,10 +1,11 @@
 use Rattle.std.proofs.Common.{◌∙◌, refl, sym}
 use Rattle.txn_history.specs.Moves.{Moves-stopped}
 use Rattle.txn_core.proofs.Counting.{rest_pays, tells_counts}
-use Rattle.txn_core.proofs.Going.{tells_idle, tells_open}
+use Rattle.txn_core.proofs.Going.{followed_open, tells_idle, tells_open}
 use Rattle.std.proofs.Common.{ap}
 use Rattle.txn_core.proofs.Going.{as_before}
 use Rattle.txn_core.proofs.Waiting.{commits_open, expects_open, expects_still, goes_open, goes_still}
+use Rattle.txn_core.specs.Transaction.{is_open}
 use Rattle.txn_core.specs.declared.transaction.Work.TheVariants as works
 use Rattle.txn_plan.specs.Arrivals.{awaited_as}
 use Rattle.txn_commit.specs.Committing.{ways}
@@ -57,3 +58,9 @@ returns-in-GaveUp-clause-commits g c other out = ap (λ t. t.commits) c.take_wor
 
 pub returns-in-Idle-clause-job : goal.returns-in-Idle-clause-job
 returns-in-Idle-clause-job g c = rw c.wait.ensures.answer tt
+
+pub returns-in-Idle-clause-follows : goal.returns-in-Idle-clause-follows
+returns-in-Idle-clause-follows g c h busy f = absurd (let e = sym (ap is_open (sym c.take_work.ensures.work ∙ c.in-Idle.is)) ∙ busy in cc)
+
+pub returns-in-Open-clause-follows : goal.returns-in-Open-clause-follows
+returns-in-Open-clause-follows g c h busy f = followed_open (ways g.P.Plan.meaning g.Q.Plan.meaning g.K.Plan.meaning g.P.PlanFor.refuses g.Q.PlanFor.refuses g.K.PlanFor.refuses) c.args.arrival c.in-Open.call c.args.self.now c.take_work.new.self c.tell_call.new.self c.args.out.now _ h (sym c.take_work.ensures.work ∙ c.in-Open.is) c.take_work.ensures.state (c.tell_call.ensures.follows h) f

@@ -1,10 +1,10 @@
 use Rattle.std.proofs.Common.{◌∙◌, refl}
 use Rattle.txn_history.specs.Moves.{Moves-stops}
-use Rattle.txn_history.specs.Turn.{turn_of}
+use Rattle.txn_history.specs.Turn.{IfKept-all, IfKept-stopped, turn_of}
 use Rattle.txn_commit.proofs.Counting.{is_kept_so}
 use Rattle.txn_commit.proofs.Posting.{hears_told}
 use Rattle.txn_core.proofs.Counting.{kept_of_ok, lets_go, never_kept, open_counts}
-use Rattle.txn_core.proofs.Going.{goes_on, lifts}
+use Rattle.txn_core.proofs.Going.{followed_on, goes_on, lifts}
 use Rattle.std.proofs.Common.{ap}
 use Rattle.txn_history.proofs.Telling.{is_kept_ok}
 use Rattle.txn_core.proofs.Waiting.{expects_call, expects_gone, goes_call, goes_gone}
@@ -43,3 +43,9 @@ returns-in-Err-clause-commits g c other out = ap (λ t. t.commits) c.stop.ensure
 
 pub returns-in-Err-clause-job : goal.returns-in-Err-clause-job
 returns-in-Err-clause-job g c = rw c.stop.ensures.turn tt
+
+pub returns-in-Ok-clause-follows : goal.returns-in-Ok-clause-follows
+returns-in-Ok-clause-follows g c h f = IfKept-all _ (followed_on (turn_of c.tell_open.result) c.args.out.now _ c.tell_open.new.self.commits c.go_on.new.self.commits (rw c.in-Ok.is (is_kept_ok c.in-Ok.progress)) (ap (λ t. t.commits) c.go_on.ensures.kept) (c.tell_open.ensures.follows h c.requires.runs f.under_way.fits))
+
+pub returns-in-Err-clause-follows : goal.returns-in-Err-clause-follows
+returns-in-Err-clause-follows g c h f = IfKept-stopped _ _ c.stop.ensures.turn
