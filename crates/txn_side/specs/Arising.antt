@@ -8,7 +8,7 @@ use Rattle.txn_history.specs.Event.{Event}
 use Rattle.txn_history.specs.Event.Event.{Answered, Asked, Began, Sent, Slept}
 use Rattle.txn_law.specs.Run.{IsPossible}
 use Rattle.txn_report.specs.declared.outcome.Outcome.{Outcome}
-use Rattle.txn_side.specs.Doubt.{SpeaksOf}
+use Rattle.txn_side.specs.Doubt.{CallOf, SpeaksOf, itself}
 use Rattle.txn_side.specs.Sight.{Sight, Stand, stand_at}
 use Rattle.txn_side.specs.Sight.Stand.{Calling}
 use Rattle.txn_side.specs.Trace.{ended_in}
@@ -52,24 +52,24 @@ with_postings (p ∷ ps) h = with_postings ps (with_posting p h)
 -- What a step makes of it
 
 -- where it stands of what a line's call answers: at the line of its transaction, if it has one
-abbrev pub answered_at : ℕ → Stand → ℕ
-answered_at n (Calling c x b) = x
-answered_at n _ = n
+abbrev pub answered_at : ℕ → Stand → CallOf
+answered_at n (Calling c x b) = record { at = x; commits = b }
+answered_at n _ = itself n
 
 -- The clients can have arisen from the history after a step. What was right of what stands at a line still is, and so is what the calls
 -- answered that ended in it. One that failed says of a transaction that had begun that it is in doubt, where it is then.
-pub record Arises (arises : List Event → Type 0) (holds : List Event → ℕ → Outcome → Type 0) (held : ℕ → Outcome → Type 0) (at : ℕ → ℕ) (h : List Event) (ended : List Ending) : Type 0 where
+pub record Arises (arises : List Event → Type 0) (holds : List Event → ℕ → Outcome → Type 0) (held : ℕ → Outcome → Type 0) (at : ℕ → CallOf) (h : List Event) (ended : List Ending) : Type 0 where
   pub now : arises h
   pub kept : (x : ℕ) (o : Outcome) → held x o → holds h x o
-  pub answers : All (λ e. holds h (at e.line) e.outcome) ended
+  pub answers : All (λ e. holds h (at e.line).at e.outcome) ended
   pub doubts : All (λ e. SpeaksOf held h (at e.line) e.line e.outcome) ended
 
 -- nothing has happened
 abbrev pub StillArises : (List Event → Type 0) → (List Event → Type 0) → (List Event → ℕ → Outcome → Type 0) → (List Event → ℕ → Outcome → Type 0) → Type 0
-StillArises was is held holds = (h : List Event) → was h → Arises is holds (held h) (λ n. n) h []
+StillArises was is held holds = (h : List Event) → was h → Arises is holds (held h) itself h []
 
 -- a line has called, and posted so much
-abbrev pub ArisesOn : (List Event → Type 0) → (List Event → Type 0) → (List Event → ℕ → Outcome → Type 0) → (List Event → ℕ → Outcome → Type 0) → (ℕ → ℕ) → Option Turn → Type 0
+abbrev pub ArisesOn : (List Event → Type 0) → (List Event → Type 0) → (List Event → ℕ → Outcome → Type 0) → (List Event → ℕ → Outcome → Type 0) → (ℕ → CallOf) → Option Turn → Type 0
 ArisesOn was is held holds at turn = (h : List Event) → was h → Arises is holds (held h) at (with_postings (posted_in turn) h) (ended_in turn)
 
 -- this came of the request of a ticket, and then so much was posted

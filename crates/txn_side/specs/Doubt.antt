@@ -1,7 +1,9 @@
 -- Whether a transaction is in doubt, and what a call of it that fails says of that.
-use Rattle.std.specs.Prelude.{◌≡◌, ◌≢◌, ◌⊎◌, ⊤, ℕ, true, List}
+use Rattle.std.specs.Prelude.{◌≡◌, ◌≢◌, ◌⊎◌, ◌∷◌, ◌++◌, ⊤, ℕ, Bool, true, false, List}
+use Rattle.txn_kv.specs.ErrorView.{view_of}
+use Rattle.txn_kv.specs.ErrorView.ErrorView.{undetermined}
 use Rattle.txn_kv.specs.declared.errors.Error.{Error}
-use Rattle.txn_kv.specs.declared.errors.Error.TheVariants.{DuplicateKeyInsertion, OperationAfterCommitError, Unimplemented}
+use Rattle.txn_kv.specs.declared.errors.Error.TheVariants.{DuplicateKeyInsertion, GrpcAPI, OperationAfterCommitError, Unimplemented}
 use Rattle.txn_kv.specs.declared.reply.Reply.{Reply}
 use Rattle.txn_kv.specs.declared.request.CommitRequest.{CommitRequest}
 use Rattle.txn_kv.specs.declared.request.PrewriteRequest.{PrewriteRequest}
@@ -33,6 +35,22 @@ pub record IsInDoubt (s : ℕ) (h : List Event) : Type 0 where
   pub left : HasLostCommit s h
   pub untaken : (o : Reply) → Has h (Took left.ticket (Commit left.commit) o) → ⊥
 
+-- The ticket is that of the first such Commit: of each other that was lost before, a reply was taken.
+pub record IsFirstLost (s : ℕ) (h : List Event) (ticket : Ticket) : Type 0 where
+  pub commit : CommitRequest
+  pub newer : List Event
+  pub older : List Event
+  pub splits : h ≡ newer ++ Lost ticket (Commit commit) ∷ older
+  pub same : commit.start_version ≡ s
+  pub primary : (u : Ticket) (r : PrewriteRequest) → Has h (Sent u (Prewrite r)) → r.start_version ≡ s → has_key commit.keys r.primary_lock ≡ true
+  pub first : WasWritten s older → (l : HasLostCommit s older) → l.ticket ≢ ticket → (o : Reply) × Has older (Took l.ticket (Commit l.commit) o)
+
+-- the error says that it is not known whether the transaction is committed, since that one was lost
+pub record NamesFirst (s : ℕ) (h : List Event) (e : Error) : Type 0 where
+  pub ticket : Ticket
+  pub error : view_of e ≡ undetermined (view_of (GrpcAPI ticket))
+  pub first : IsFirstLost s h ticket
+
 -- with these a line is refused by how far its transaction has come, and by what it has written
 abbrev pub IsRefusal : Error → Type 0
 IsRefusal OperationAfterCommitError = ⊤
@@ -40,20 +58,31 @@ IsRefusal Unimplemented = ⊤
 IsRefusal DuplicateKeyInsertion = ⊤
 IsRefusal _ = ⊥
 
--- The error says that the transaction that began at s is in doubt where it is, and only where a Commit of its primary was lost.
-pub record SaysWhether (h : List Event) (s : ℕ) (e : Error) : Type 0 where
+-- The error says that the transaction that began at s is in doubt where it is, and only where a Commit of its primary was lost; and the
+-- one of a call that does not commit it names the first of these.
+pub record SaysWhether (h : List Event) (s : ℕ) (commits : Bool) (e : Error) : Type 0 where
   pub always : IsInDoubt s h → is_undetermined e ≡ true
   pub only : is_undetermined e ≡ true → HasLostCommit s h
+  pub names : commits ≡ false → is_undetermined e ≡ true → NamesFirst s h e
 
 -- so it does, or the line was refused
-abbrev pub SaysDoubt : List Event → ℕ → Error → Type 0
-SaysDoubt h s e = IsRefusal e ⊎ SaysWhether h s e
+abbrev pub SaysDoubt : List Event → ℕ → Bool → Error → Type 0
+SaysDoubt h s commits e = IsRefusal e ⊎ SaysWhether h s commits e
 
 -- so does what a call answered, if it failed
-abbrev pub TellsDoubt : List Event → ℕ → Outcome → Type 0
-TellsDoubt h s (outcomes.Err e) = SaysDoubt h s e
-TellsDoubt h s o = ⊤
+abbrev pub TellsDoubt : List Event → ℕ → Bool → Outcome → Type 0
+TellsDoubt h s commits (outcomes.Err e) = SaysDoubt h s commits e
+TellsDoubt h s commits o = ⊤
 
--- The call of line n answered so of the transaction that stands at line x. A line that stands for itself calls none.
-abbrev pub SpeaksOf : (ℕ → Outcome → Type 0) → List Event → ℕ → ℕ → Outcome → Type 0
-SpeaksOf held h x n o = x ≢ n → (s : ℕ) → held x (outcomes.Ok (Number s)) → TellsDoubt h s o
+-- Where it stands of what a line's call answers, and whether the call commits that.
+pub record CallOf : Type 0 where
+  pub at : ℕ
+  pub commits : Bool
+
+-- at the line itself, which is no call of a transaction
+abbrev pub itself : ℕ → CallOf
+itself n = record { at = n; commits = false }
+
+-- The call of line n answered so of the transaction that stands there. A line that stands for itself calls none.
+abbrev pub SpeaksOf : (ℕ → Outcome → Type 0) → List Event → CallOf → ℕ → Outcome → Type 0
+SpeaksOf held h call n o = call.at ≢ n → (s : ℕ) → held call.at (outcomes.Ok (Number s)) → TellsDoubt h s call.commits o

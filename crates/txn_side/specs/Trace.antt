@@ -1,10 +1,13 @@
 -- What has happened in a run so far, what the calls of clients have heard of it, and what a call that fails rests on.
-use Rattle.std.specs.Prelude.{◌≡◌, ◌⊎◌, ◌∷◌, ◌+◌, ◌<◌, ◌≤◌, ⊤, ℕ, Bool, true, false, if◌then◌else◌, List, [], length, nat_eq, Option, Some, None, Result, Ok, Err}
-use Rattle.std.proofs.Common.{inl, inr, suc, subst}
+use Rattle.std.specs.Prelude.{IfSome, ◌≡◌, ◌⊎◌, ◌∷◌, ◌+◌, ◌<◌, ◌≤◌, ⊤, ℕ, Bool, true, false, if◌then◌else◌, List, [], length, nat_eq, Option, Some, None, Result, Ok, Err}
+use Rattle.std.proofs.Common.{inl, inr, suc, subst, sym, ◌∙◌}
 use Rattle.std.specs.List.{All, Any}
+use Rattle.txn_kv.specs.ErrorView.{ErrorView, view_of}
+use Rattle.txn_kv.specs.ErrorView.ErrorView.{plain, undetermined}
 use Rattle.txn_kv.specs.declared.errors.Error.{Error}
 use Rattle.txn_kv.specs.declared.errors.Error.TheVariants.{InternalError}
-use Rattle.txn_kv.specs.declared.errors.Internal.TheVariants.{OracleLost, WrongReply}
+use Rattle.txn_kv.specs.declared.errors.Internal.{Internal}
+use Rattle.txn_kv.specs.declared.errors.Internal.TheVariants.{OracleCount, OracleEmpty, OracleLost, WrongReply}
 use Rattle.txn_kv.specs.declared.reply.Reply.{Reply}
 use Rattle.txn_kv.specs.declared.reply.Reply.TheVariants as replies
 use Rattle.txn_kv.specs.declared.reply.TsoResponse.{TsoResponse}
@@ -49,9 +52,11 @@ pub record Begin : Type 0 where
 
 -- The events that a run shows; whom what comes for a line is told; which lines begin a transaction, be it that they fail, and with
 -- which options; which lines roll one back; the requests for timestamps and whose asks they carry; what was posted since; what
--- was refused; and the lines that are still to be told that an ask was, once for each such ask.
+-- was refused; and the lines that are still to be told that an ask was, once for each such ask. `came` is the ticket for which something
+-- came in the newest line, if something did.
 pub record Trace : Type 0 where
   pub events : List Event
+  pub came : Option Ticket
   pub calls : List Call
   pub begun : List Begin
   pub rollbacks : List ℕ
@@ -106,6 +111,38 @@ pub record IsRefusedIn (t : Trace) (line : ℕ) (e : Error) : Type 0 where
   pub asker : IsAmong group.askers line
   pub request : TsoRequest
   pub failed : HasFailed t.events group.ticket request (length group.askers) e
+
+-- What came in the newest line refused it, so it was refused for the last time so far.
+pub record IsRefusedNow (t : Trace) (line : ℕ) (e : Error) : Type 0 where
+  pub refused : IsRefusedIn t line e
+  pub now : t.came ≡ Some refused.group.ticket
+
+-- why there is no timestamp
+abbrev pub untimed : Internal → Option Internal
+untimed OracleLost = Some OracleLost
+untimed (OracleCount asked given) = Some (OracleCount asked given)
+untimed OracleEmpty = Some OracleEmpty
+untimed _ = None
+
+abbrev pub untimed_by : Error → Option Internal
+untimed_by (InternalError what) = untimed what
+untimed_by _ = None
+
+abbrev pub untimed_alone : ErrorView → Option Internal
+untimed_alone (plain e) = untimed_by e
+untimed_alone _ = None
+
+-- where an error says so, or the one that it holds as the end of a call that is not known
+abbrev pub untimed_view : ErrorView → Option Internal
+untimed_view (undetermined inner) = untimed_alone inner
+untimed_view view = untimed_alone view
+
+abbrev pub untimed_of : Error → Option Internal
+untimed_of e = untimed_view (view_of e)
+
+-- an error that says so says with what an ask of the line was refused last
+abbrev pub LastTold : Trace → ℕ → Error → Type 0
+LastTold t line e = IfSome (untimed_of e) (λ what. IsRefusedNow t line (InternalError what))
 
 -- How often an ask of a line was refused.
 
@@ -201,11 +238,10 @@ IsCommit r = ⊥
 abbrev pub IsFrom : ℕ → Ticket → Type 0
 IsFrom line u = (u.line ≡ line) × (u.beat ≡ false)
 
--- Came it for this line? Of the earlier lines of a transaction only this much is known where an error is explained: that Commits of it
--- were lost, and what explains no error.
+-- Came it for this line? Of the earlier lines of a transaction nothing is known, where an error is explained, but what explains none.
 abbrev pub IsOwn : ℕ → Event → Type 0
 IsOwn line (Took u r o) = IsFrom line u ⊎ IsHarmless r o
-IsOwn line (Lost u r) = IsFrom line u ⊎ IsCommit r
+IsOwn line (Lost u r) = IsFrom line u
 IsOwn line (Answered ask (Ok x)) = ⊤
 IsOwn line (Answered ask (Err e)) = ask.line ≡ line
 IsOwn line e = ⊤
@@ -224,6 +260,7 @@ pub record GroupCame (before t : Trace) (g : Group) (event : Request → Event) 
 -- What comes for a ticket has happened, whatever its request was, and so where that is a request for timestamps that is out. Nobody
 -- is told of it yet, or of anything before it still to be told.
 pub record HasCome (before t : Trace) (s : Sight) (u : Ticket) (event : Request → Event) : Type 0 where
+  pub now : t.came ≡ Some u
   pub told : t.owed ≡ []
   pub own : (r : Request) → IsSentIn t u r → Has t.events (event r)
   pub group : (g : Group) → IsOut s g → g.ticket ≡ u → GroupCame before t g event
@@ -247,9 +284,16 @@ pub record IsLonger (t longer : Trace) : Type 0 where
 abbrev pub HowCallsFail : Type 1
 HowCallsFail = Bool → (BeginOptions → Type 0) → List Event → Error → Type 0
 
+-- The line rolls back, and fails so after what is known of its transaction, which stands at `at`, and has happened, be it for other lines.
+pub record IsBarredIn (fails : HowCallsFail) (t : Trace) (at line : ℕ) (e : Error) : Type 0 where
+  pub rolls : IsAmong t.rollbacks line
+  pub known : List Event
+  pub shown : AreShown t at known
+  pub fails_so : fails true (IsBegunAs t at) known e
+
 -- The call of the line failed with this error after what it had heard, which has happened, and has come for this line: as any call
--- may, or as a rollback alone, where what stands at `at` was to begin with such options. Of the asks of the line that were refused it
--- has heard each once at most.
+-- may, where what stands at `at` was to begin with such options; or as a rollback alone. Of the asks of the line that were refused it
+-- has heard each once at most, and where it failed for want of a timestamp it is with the last of them.
 pub record FailsIn (fails : HowCallsFail) (t : Trace) (line : ℕ) (e : Error) : Type 0 where
   pub at : ℕ
   pub called : IsCalled t line at
@@ -257,7 +301,8 @@ pub record FailsIn (fails : HowCallsFail) (t : Trace) (line : ℕ) (e : Error) :
   pub shown : AreShown t at history
   pub own : AreOwn line history
   pub counted : HasRefused t line (refused_asks history)
-  pub fails_so : fails false (IsBegunAs t at) history e ⊎ (IsAmong t.rollbacks line × fails true (IsBegunAs t at) history e)
+  pub last : LastTold t line e
+  pub fails_so : fails false (IsBegunAs t at) history e ⊎ IsBarredIn fails t at line e
 
 -- or it was refused
 abbrev pub EndsFor : HowCallsFail → Trace → Ending → Type 0
@@ -309,6 +354,18 @@ module _ (t longer : Trace) (l : IsLonger t longer) where
     failed = elim r.failed [ inl h ↦ inl (l.events _ h.0, h.1) | inr h ↦ inr (h.0, l.events _ h.1, h.2) ];
   }
 
+  -- where nothing came since
+  pub now_longer : t.came ≡ longer.came → (line : ℕ) (e : Error) → IsRefusedNow t line e → IsRefusedNow longer line e
+  unfolding refused_longer
+  now_longer same line e r = record { refused = refused_longer line e r.refused; now = sym same ∙ r.now }
+
+  pub last_longer : t.came ≡ longer.came → (line : ℕ) (e : Error) → LastTold t line e → LastTold longer line e
+  last_longer same line e told = by (untimed_of e) told
+    where
+      by : (what : Option Internal) → IfSome what (λ w. IsRefusedNow t line (InternalError w)) → IfSome what (λ w. IsRefusedNow longer line (InternalError w))
+      by None r = tt
+      by (Some w) r = now_longer same line (InternalError w) r
+
   pub called_longer : (line at : ℕ) → IsCalled t line at → IsCalled longer line at
   called_longer line at c = l.calls (record { line = line; at = at }) c
 
@@ -320,17 +377,21 @@ module _ (t longer : Trace) (l : IsLonger t longer) where
   shown_longer at (Answered ask (Err e)) k = (called_longer ask.line at k.0, refused_longer ask.line e k.1)
   shown_longer at e k = tt
 
-  -- the options of a transaction are those that they were
-  pub fails_longer : t.begun ≡ longer.begun → (fails : HowCallsFail) (line : ℕ) (e : Error) → FailsIn fails t line e → FailsIn fails longer line e
-  fails_longer same fails line e f = record {
+  -- the options of a transaction are those that they were, and nothing came since
+  pub fails_longer : t.begun ≡ longer.begun → t.came ≡ longer.came → (fails : HowCallsFail) (line : ℕ) (e : Error) → FailsIn fails t line e → FailsIn fails longer line e
+  fails_longer same quiet fails line e f = record {
     at = f.at;
     called = called_longer line f.at f.called;
     history = f.history;
     shown = λ x h. shown_longer f.at x (f.shown x h);
     own = f.own;
     counted = l.refused line (refused_asks f.history) f.counted;
-    fails_so = elim f.fails_so [ inl k ↦ inl (as_long false k) | inr k ↦ inr (l.rollbacks line k.0, as_long true k.1) ];
+    last = last_longer quiet line e f.last;
+    fails_so = elim f.fails_so [
+      | inl k ↦ inl (as_long false f.history k)
+      | inr k ↦ inr (record { rolls = l.rollbacks line k.rolls; known = k.known; shown = λ x h. shown_longer f.at x (k.shown x h); fails_so = as_long true k.known k.fails_so })
+    ];
   }
     where
-      as_long : (rolls : Bool) → fails rolls (IsBegunAs t f.at) f.history e → fails rolls (IsBegunAs longer f.at) f.history e
-      as_long rolls k = subst (λ (bs : List Begin). fails rolls (λ options. IsAmong bs (record { line = f.at; options = options })) f.history e) same k
+      as_long : (rolls : Bool) (h : List Event) → fails rolls (IsBegunAs t f.at) h e → fails rolls (IsBegunAs longer f.at) h e
+      as_long rolls h k = subst (λ (bs : List Begin). fails rolls (λ options. IsAmong bs (record { line = f.at; options = options })) h e) same k

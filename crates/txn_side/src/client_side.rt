@@ -2,7 +2,8 @@ ghost use Rattle.std.specs.List.{All};
 ghost use Rattle.std.specs.Prelude.{◌≡◌, ◌<◌, ◌≤◌, ◌^◌, ℕ, [], IfOk, OnOk, false, true};
 ghost use Rattle.txn_side.specs.Account.{AreClosed, AreKept, MayTakeIn};
 ghost use Rattle.txn_side.specs.Arising.{ArisesAwake, ArisesHearing, ArisesOn, StillArises};
-ghost use Rattle.txn_side.specs.Sight.{Acts, Asks, Goes, IsGiven, Names, NoneGiven, connected, crash, is_live, line_count, opened};
+ghost use Rattle.txn_side.specs.Doubt.{itself};
+ghost use Rattle.txn_side.specs.Sight.{Acts, Asks, Goes, IsGiven, Names, NoneGiven, commits, connected, crash, is_live, line_count, opened};
 ghost use Rattle.txn_history.specs.Event.Event.{Lost, Took};
 ghost use Rattle.txn_side.specs.Trace.{ActsOn, AsksOn, HearsOn, StillRests, WakesOn};
 ghost use Rattle.txn_side.specs.Waiting.{HearsEnd, HearsReply, NoneHeard, WaitsOn, posted_in};
@@ -27,6 +28,7 @@ pub trait ClientSide: Sized + Drop {
     ghost use Rattle.txn_law.specs.Run.{IsPossible};
     ghost use Rattle.txn_report.specs.declared.outcome.Outcome.{Outcome};
     ghost use Rattle.txn_side.specs.Arising.{Arises, IsOutside};
+    ghost use Rattle.txn_side.specs.Doubt.{itself};
 
     // What stands at each line, which clients have crashed, and how far the numbers of each line have come.
     ghost sight: { Self → Sight };
@@ -69,7 +71,7 @@ pub trait ClientSide: Sized + Drop {
     ghost nobody_arises: { (s : Self) → ready s → sight s ≡ nobody → arises s [] };
 
     // What comes from outside changes nothing of them.
-    ghost arises_longer: { (s : Self) (h : List Event) (e : Event) → IsOutside e → IsPossible h e → arises s h → Arises (arises s) (holds s) (holds s h) (λ n. n) (e ∷ h) [] };
+    ghost arises_longer: { (s : Self) (h : List Event) (e : Event) → IsOutside e → IsPossible h e → arises s h → Arises (arises s) (holds s) (holds s h) itself (e ∷ h) [] };
 
     /// One line more, at which nothing stands.
     fn open(&mut self) -> Result<(), NoMemory>
@@ -123,7 +125,7 @@ pub trait ClientSide: Sized + Drop {
         ensures ready { OnOk result (ready self.new) }
         ensures accounts { OnOk result (AreKept (account self.old) (account self.new)) }
         ensures rests { IfOk result (AsksOn fails (rests self.old) (rests self.new) (Some options) (line_count (sight self.old))) }
-        ensures arises { IfOk result (ArisesOn (arises self.old) (arises self.new) (holds self.old) (holds self.new) (λ n. n)) };
+        ensures arises { IfOk result (ArisesOn (arises self.old) (arises self.new) (holds self.old) (holds self.new) itself) };
 
     /// The newest line asks for a timestamp; none where the client has crashed.
     fn timestamp(&mut self, client: u64, now: u64) -> Result<Option<Turn>, NoMemory>
@@ -135,7 +137,7 @@ pub trait ClientSide: Sized + Drop {
         ensures ready { OnOk result (ready self.new) }
         ensures accounts { OnOk result (AreKept (account self.old) (account self.new)) }
         ensures rests { IfOk result (AsksOn fails (rests self.old) (rests self.new) None (line_count (sight self.old))) }
-        ensures arises { IfOk result (ArisesOn (arises self.old) (arises self.new) (holds self.old) (holds self.new) (λ n. n)) };
+        ensures arises { IfOk result (ArisesOn (arises self.old) (arises self.new) (holds self.old) (holds self.new) itself) };
 
     /// The newest line asks something of a transaction; none where its client has crashed, it has not begun, or a call of it is
     /// open.
@@ -148,7 +150,7 @@ pub trait ClientSide: Sized + Drop {
         ensures ready { OnOk result (ready self.new) }
         ensures accounts { IfOk result (MayTakeIn act transaction (line_count (sight self.old)) (account self.old) (account self.new)) }
         ensures rests { IfOk result (ActsOn fails (rests self.old) (rests self.new) act transaction (line_count (sight self.old)) (account self.old transaction)) }
-        ensures arises { IfOk result (ArisesOn (arises self.old) (arises self.new) (holds self.old) (holds self.new) (λ n. transaction)) };
+        ensures arises { IfOk result (ArisesOn (arises self.old) (arises self.new) (holds self.old) (holds self.new) (λ n. record { at = transaction; commits = commits act })) };
 
     /// A reply comes: to the call of the ticket's line, or from the oracle to those who asked, none of whom gets a timestamp but that
     /// of its place. Nothing is done where the line's client has crashed.
