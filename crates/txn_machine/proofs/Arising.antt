@@ -20,7 +20,7 @@ use Rattle.txn_report.specs.declared.outcome.Outcome.{Outcome}
 use Rattle.txn_report.specs.declared.outcome.Outcome.TheVariants as outcomes
 use Rattle.txn_report.specs.declared.outcome.Payload.TheVariants.{Number}
 use Rattle.txn_side.specs.Arising.{Arises, ArisesAwake, ArisesHearing, ArisesOn, IsOutside, StillArises, answered_at, with_posting, with_postings}
-use Rattle.txn_side.specs.Doubt.{SpeaksOf}
+use Rattle.txn_side.specs.Doubt.{CallOf, SpeaksOf, itself}
 use Rattle.txn_side.specs.Sight.{Sight, is_live, stand_at}
 use Rattle.txn_side.specs.declared.turn.Ending.{Ending}
 use Rattle.txn_side.specs.declared.turn.Posting.{Posting}
@@ -45,13 +45,13 @@ use Rattle.txn_machine.proofs.Timing.{told_either}
 
 -- What a call says of the doubt of what stood right before, it says too where less stood so.
 
-speaks_before : (held later : ℕ → Outcome → Type 0) → ((x : ℕ) (o : Outcome) → held x o → later x o) → (h : List Event) (x n : ℕ) (o : Outcome) → SpeaksOf later h x n o → SpeaksOf held h x n o
-speaks_before held later kept h x n o speaks = λ other s began. speaks other s (kept x (outcomes.Ok (Number s)) began)
+speaks_before : (held later : ℕ → Outcome → Type 0) → ((x : ℕ) (o : Outcome) → held x o → later x o) → (h : List Event) (call : CallOf) (n : ℕ) (o : Outcome) → SpeaksOf later h call n o → SpeaksOf held h call n o
+speaks_before held later kept h call n o speaks = λ other s began. speaks other s (kept call.at (outcomes.Ok (Number s)) began)
 
 speaks_so : (held later : ℕ → Outcome → Type 0) → ((x : ℕ) (o : Outcome) → held x o → later x o) → (role : Role) (s : Sight) (h : List Event) (n : ℕ) (o : Outcome) → Speaks role s later h n o → Speaks role s held h n o
 speaks_so held later kept MakesClient s h n o speaks = tt
 speaks_so held later kept (AsksTime b k) s h n o speaks = tt
-speaks_so held later kept (UsesTransaction b x) s h n o speaks = speaks_before held later kept h x n o speaks
+speaks_so held later kept (UsesTransaction b x) s h n o speaks = speaks_before held later kept h (record { at = x; commits = b }) n o speaks
 speaks_so held later kept NoCall s h n o speaks = speaks_before held later kept h (answered_at n (stand_at s.stands n)) n o speaks
 
 all_speak : (held later : ℕ → Outcome → Type 0) → ((x : ℕ) (o : Outcome) → held x o → later x o) → (role : Role) (s : Sight) (h : List Event) (es : List Ending) → All (λ (e : Ending). Speaks role s later h e.line e.outcome) es → All (λ (e : Ending). Speaks role s held h e.line e.outcome) es
@@ -72,7 +72,7 @@ module _ (was is : List Event → Type 0) (held holds : List Event → ℕ → O
   abbrev Brings : (Ticket → Option Request) → List Event → Type 0
   Brings looks h = (happens looks line l h ≡ h) ⊎ ((e : Event) × (happens looks line l h ≡ e ∷ h) × IsOutside e × IsPossible h e)
 
-  pub outside_to : done.turn.posted.items ≡ [] → done.turn.ended.items ≡ [] → StillArises was is held holds → ((h : List Event) (e : Event) → IsOutside e → IsPossible h e → is h → Arises is holds (holds h) (λ n. n) (e ∷ h) [])
+  pub outside_to : done.turn.posted.items ≡ [] → done.turn.ended.items ≡ [] → StillArises was is held holds → ((h : List Event) (e : Event) → IsOutside e → IsPossible h e → is h → Arises is holds (holds h) itself (e ∷ h) [])
       → ((looks : Ticket → Option Request) (h : List Event) → Knows l looks h → Brings looks h) → RunsTo was is held holds line l done
   outside_to posted ended still longer comes looks h knows w =
       subst (λ (ps : List Posting). GoesOn is holds (held h) (role_of line) l.sight (with_postings ps (happens looks line l h)) done.turn.ended.items) (sym posted)
@@ -86,7 +86,7 @@ module _ (was is : List Event → Type 0) (held holds : List Event → ℕ → O
 -- Calls.
 
 module _ (was is : List Event → Type 0) (held holds : List Event → ℕ → Outcome → Type 0) (done : Course) where
-  pub called_to : (at : ℕ → ℕ) (turn : Option Turn) → done.turn.posted.items ≡ posted_in turn → done.turn.ended.items ≡ ended_in turn → ArisesOn was is held holds at turn → (h : List Event) → was h → Arises is holds (held h) at (with_postings done.turn.posted.items h) done.turn.ended.items
+  pub called_to : (at : ℕ → CallOf) (turn : Option Turn) → done.turn.posted.items ≡ posted_in turn → done.turn.ended.items ≡ ended_in turn → ArisesOn was is held holds at turn → (h : List Event) → was h → Arises is holds (held h) at (with_postings done.turn.posted.items h) done.turn.ended.items
   called_to at turn posted ended a h w =
       subst (λ (ps : List Posting). Arises is holds (held h) at (with_postings ps h) done.turn.ended.items) (sym posted)
       (subst (λ (es : List Ending). Arises is holds (held h) at (with_postings (posted_in turn) h) es) (sym ended) (by turn a))
@@ -102,7 +102,7 @@ module _ (was is : List Event → Type 0) (held holds : List Event → ℕ → O
 
 -- so it goes on in a line that asks something of a transaction, and does nothing itself
 pub acted_to : (was is : List Event → Type 0) (held holds : List Event → ℕ → Outcome → Type 0) (line same : Line) (commits : Bool) (x : ℕ) (l : Lists) (r : Result Course NoMemory) → line ≡ same → role_of same ≡ UsesTransaction commits x
-    → ((looks : Ticket → Option Request) (h : List Event) → happens looks same l h ≡ h) → IfOk r (λ done. ActsTo was is held holds x done) → IfOk r (λ done. RunsTo was is held holds line l done)
+    → ((looks : Ticket → Option Request) (h : List Event) → happens looks same l h ≡ h) → IfOk r (λ done. ActsTo was is held holds commits x done) → IfOk r (λ done. RunsTo was is held holds line l done)
 acted_to was is held holds line same commits x l (Ok done) e role calm a = subst (λ z. RunsTo was is held holds z l done) (sym e) (λ looks h knows w.
     let z = a h w in
     subst (λ r. GoesOn is holds (held h) r l.sight (with_postings done.turn.posted.items (happens looks same l h)) done.turn.ended.items) (sym role)
@@ -220,7 +220,7 @@ module _ (l : Lists) (looks : Ticket → Option Request) (h : List Event) where
       is = ap (λ (z : Option ℕ). if test_at (λ j. true) z then loses t (looks t) h else h) found ∙ ap (λ (z : Option Request). loses t z h) (knows.asked t place found);
     }
 
-    module _ (longer : (h : List Event) (e : Event) → IsOutside e → IsPossible h e → was h → Arises was held (held h) (λ n. n) (e ∷ h) []) (can : can_be_served l.mail place ≡ true) where
+    module _ (longer : (h : List Event) (e : Event) → IsOutside e → IsPossible h e → was h → Arises was held (held h) itself (e ∷ h) []) (can : can_be_served l.mail place ≡ true) where
       pub deliver_comes : Comes was held (lines.Deliver t) l (λ r. Took t r (reply_at l place)) looks h
       deliver_comes =
           let r = request_at l place in

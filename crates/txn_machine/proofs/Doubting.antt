@@ -113,22 +113,22 @@ module _ (line : Line) (ls : List Line) (old : Lists) (told : newest old ≡ len
   all_newest : newest all ≡ n
   all_newest = all_count c.ended (with_mail (all_posted (newest c.mid) c.posted c.mid.mail) c.mid) ∙ mid_count line ls old told ordered.even good was.rows new c
 
-  -- a line says of doubt by the lines up to the one in whose step it ended
-  abbrev Says : ℕ → ℕ → Error → Type 0
-  Says k s e = SaysDoubt (history all.mail.sent all.outcomes (lines_before (line ∷ ls) (suc (ended_of all.ended k)))) s e
+  -- a line says of doubt by the lines up to the one in whose step it ended, and by whether it commits
+  abbrev Says : ℕ → ℕ → Bool → Error → Type 0
+  Says k s b e = SaysDoubt (history all.mail.sent all.outcomes (lines_before (line ∷ ls) (suc (ended_of all.ended k)))) s b e
 
-  says_still : (k s : ℕ) (e : Error) → ended_of all.ended k ≡ ended_of old.ended k → SaysDoubt (history old.mail.sent old.outcomes (lines_before ls (suc (ended_of old.ended k)))) s e → Says k s e
-  says_still k s e same says =
+  says_still : (k s : ℕ) (b : Bool) (e : Error) → ended_of all.ended k ≡ ended_of old.ended k → SaysDoubt (history old.mail.sent old.outcomes (lines_before ls (suc (ended_of old.ended k)))) s b e → Says k s b e
+  says_still k s b e same says =
       let m = suc (ended_of old.ended k) in
-      let low : m ≤ suc (length ls) = let a = caused_past old ls was told k in let b = told in omega arith in
-      subst (λ j. SaysDoubt (history all.mail.sent all.outcomes (lines_before (line ∷ ls) (suc j))) s e) (sym same)
-      (subst (λ zs. SaysDoubt (history all.mail.sent all.outcomes zs) s e) (sym (before_old line ls m low))
-      (subst (λ fs. SaysDoubt fs s e) (same_history line ls old told ordered good was folded new c stepped (lines_before ls m) (before_few ls m)) says))
+      let low : m ≤ suc (length ls) = let a = caused_past old ls was told k in let d = told in omega arith in
+      subst (λ j. SaysDoubt (history all.mail.sent all.outcomes (lines_before (line ∷ ls) (suc j))) s b e) (sym same)
+      (subst (λ zs. SaysDoubt (history all.mail.sent all.outcomes zs) s b e) (sym (before_old line ls m low))
+      (subst (λ fs. SaysDoubt fs s b e) (same_history line ls old told ordered good was folded new c stepped (lines_before ls m) (before_few ls m)) says))
 
-  says_now : (k s : ℕ) (e : Error) → ended_of all.ended k ≡ n → SaysDoubt now s e → Says k s e
-  says_now k s e last says =
-      subst (λ j. SaysDoubt (history all.mail.sent all.outcomes (lines_before (line ∷ ls) (suc j))) s e) (sym last)
-      (subst (λ zs. SaysDoubt (history all.mail.sent all.outcomes zs) s e) (sym (before_next (line ∷ ls))) says)
+  says_now : (k s : ℕ) (b : Bool) (e : Error) → ended_of all.ended k ≡ n → SaysDoubt now s b e → Says k s b e
+  says_now k s b e last says =
+      subst (λ j. SaysDoubt (history all.mail.sent all.outcomes (lines_before (line ∷ ls) (suc j))) s b e) (sym last)
+      (subst (λ zs. SaysDoubt (history all.mail.sent all.outcomes zs) s b e) (sym (before_next (line ∷ ls))) says)
 
   module _ (steps : Steps line old all) (held : ℕ → Outcome → Type 0) (right : AllHold held old.outcomes ls)
       (told_now : (k : ℕ) (e : Error) → outcome_of all.outcomes k ≡ Err e → (outcome_of old.outcomes k ≡ Err e) ⊎ Speaks (role_of line) (opened old).sight held now k (Err e)) (before : AllSpeak old.mail.sent old.outcomes old.ended ls) where
@@ -153,36 +153,39 @@ module _ (line : Line) (ls : List Line) (old : Lists) (told : newest old ≡ len
 
     -- a call of an earlier line that ends in the step
     module _ (k x s : ℕ) (e : Error) (f : FailsOf (line ∷ ls) all.outcomes k x s e) (there : line_at ls k ≡ Some f.line) where
-      heard : is_unfinished (outcome_of old.outcomes k) ≡ true → (b : Bool) → tells line ≡ b → Speaks (role_of line) (opened old).sight held now k (Err e) → SaysDoubt now s e
+      heard : is_unfinished (outcome_of old.outcomes k) ≡ true → (b : Bool) → tells line ≡ b → Speaks (role_of line) (opened old).sight held now k (Err e) → SaysDoubt now s f.commits e
       heard waits false quiet speaks = absurd (let a = sym waits ∙ ap is_unfinished (sym (stays line ls old all told all_newest ordered good steps was quiet k (line_range ls k f.line there).1).0 ∙ f.failed) in cc)
       heard waits true told_so speaks =
           let row : IsRow (role_of f.line) (outcome_of old.outcomes k) (stand_at old.sight.stands k) = was.rows.rows k f.line there in
           let call = waiting_row row.row f.commits x (row.is ∙ f.role) (ap is_unfinished row.outcome ∙ waits) in
-          let at : answered_at k (stand_at (opened old).sight.stands k) ≡ x = ap (λ stand. answered_at k stand) (stand_opened old.sight.stands k ∙ sym row.at ∙ call.1) in
           let begun = called_began old.outcomes old.ended ls k x f.commits f.line there f.role (unfinished_unskipped (outcome_of old.outcomes k) waits) was.calls in
           let apart : x ≢ k = λ same. absurd (let a = sym (ok_over (outcome_of old.outcomes x) begun) ∙ subst (λ j. is_unfinished (outcome_of old.outcomes j) ≡ true) (sym same) waits in cc) in
           let of_it : SpeaksOf held now (answered_at k (stand_at (opened old).sight.stands k)) k (Err e) = subst (λ role. Speaks role (opened old).sight held now k (Err e)) (tells_none line told_so) speaks in
-          subst (λ y. SpeaksOf held now y k (Err e)) at of_it apart s (began_held x s (began_before x s begun f.began))
+          let of_call : SpeaksOf held now (record { at = x; commits = f.commits }) k (Err e) = subst (λ stand. SpeaksOf held now (answered_at k stand) k (Err e)) (stand_opened old.sight.stands k ∙ sym row.at ∙ call.1) of_it in
+          of_call apart s (began_held x s (began_before x s begun f.began))
 
-      older : Says k s e
+      older : Says k s f.commits e
       older = elim (change line ls old all told all_newest ordered good steps was k (line_range ls k f.line there).1) [
         | inl same ↦
             let failed : outcome_of old.outcomes k ≡ Err e = sym same.0 ∙ f.failed in
             let begun = called_began old.outcomes old.ended ls k x f.commits f.line there f.role (ap is_skipped failed) was.calls in
-            says_still k s e same.1 (before k x s e (record { commits = f.commits; line = f.line; there = there; role = f.role; began = began_before x s begun f.began; failed = failed }))
+            says_still k s f.commits e same.1 (before k x s e (record { commits = f.commits; line = f.line; there = there; role = f.role; began = began_before x s begun f.began; failed = failed }))
         | inr changed ↦ elim (told_now k e f.failed) [
           | inl failed ↦ absurd (let a = sym (ap is_unfinished failed) ∙ changed.0 in cc)
-          | inr speaks ↦ says_now k s e changed.1 (heard changed.0 (tells line) refl speaks)
+          | inr speaks ↦ says_now k s f.commits e changed.1 (heard changed.0 (tells line) refl speaks)
         ]
       ]
 
     -- the newest line
-    module _ (x s : ℕ) (e : Error) (f : FailsOf (line ∷ ls) all.outcomes n x s e) where
+    module _ (k x s : ℕ) (e : Error) (f : FailsOf (line ∷ ls) all.outcomes k x s e) (here : k ≡ n) where
       same_role : role_of line ≡ UsesTransaction f.commits x
       same_role =
-          let is : ◌≡◌ {A = Option Line} (Some line) (Some f.line) = sym (line_new line ls) ∙ f.there in
+          let is : ◌≡◌ {A = Option Line} (Some line) (Some f.line) = sym (line_new line ls) ∙ ap (λ j. line_at (line ∷ ls) j) (sym here) ∙ f.there in
           let same : line ≡ f.line = cc in
           ap (λ l. role_of l) same ∙ f.role
+
+      failed_now : outcome_of all.outcomes n ≡ Err e
+      failed_now = ap (λ j. outcome_of all.outcomes j) (sym here) ∙ f.failed
 
       quiet : tells line ≡ false
       quiet = by (tells line) refl
@@ -191,22 +194,23 @@ module _ (line : Line) (ls : List Line) (old : Lists) (told : newest old ≡ len
           by true q = absurd (let a = sym (tells_none line q) ∙ same_role in cc)
           by false q = refl
 
-      own_says : Speaks (role_of line) (opened old).sight held now n (Err e) → SaysDoubt now s e
+      own_says : Speaks (role_of line) (opened old).sight held now n (Err e) → SaysDoubt now s f.commits e
       own_says speaks =
           let named : IsBegin (line_at ls x) = subst (λ r. Names ls r) same_role (names ls line good) in
           let low : x ≤ length ls = (line_range ls x (lines.Begin named.client named.options) named.is).1 in
           let began : outcome_of old.outcomes x ≡ Ok (Number s) = sym (stays line ls old all told all_newest ordered good steps was quiet x low).0 ∙ f.began in
-          let of_it : SpeaksOf held now x n (Err e) = subst (λ r. Speaks r (opened old).sight held now n (Err e)) same_role speaks in
-          of_it (λ same. absurd (omega arith)) s (began_held x s began)
+          let of_it : SpeaksOf held now (record { at = x; commits = f.commits }) n (Err e) = subst (λ r. Speaks r (opened old).sight held now n (Err e)) same_role speaks in
+          let apart : x ≢ n = λ same. absurd (omega arith) in
+          of_it apart s (began_held x s began)
 
-      newest_says : Says n s e
-      newest_says = elim (told_now n e f.failed) [
+      newest_says : Says n s f.commits e
+      newest_says = elim (told_now n e failed_now) [
         | inl failed ↦ absurd (let a = sym (outcome_past old.outcomes (length ls) told) ∙ failed in cc)
-        | inr speaks ↦ says_now n s e (new_ended line ls old told ordered.even good was.rows new c (ap is_unfinished f.failed)) (own_says speaks)
+        | inr speaks ↦ says_now n s f.commits e (new_ended line ls old told ordered.even good was.rows new c (ap is_unfinished failed_now)) (own_says speaks)
       ]
 
     pub speak_now : AllSpeak all.mail.sent all.outcomes all.ended (line ∷ ls)
     speak_now k x s e f = elim (same_line n k) [
-      | inl here ↦ subst (λ j. Says j s e) (sym here) (newest_says x s e (subst (λ j. FailsOf (line ∷ ls) all.outcomes j x s e) here f))
+      | inl here ↦ subst (λ j. Says j s f.commits e) (sym here) (newest_says k x s e f here)
       | inr far ↦ older k x s e f (sym (line_old line ls k far) ∙ f.there)
     ]

@@ -21,7 +21,7 @@ use Rattle.txn_side.specs.declared.turn.Posting.{Posting}
 use Rattle.txn_machine.specs.Accounts.{AreTakenIn, Ask, account_of, ask_of}
 use Rattle.txn_machine.specs.Causes.{AllCallsMeet, Role, ended_of, is_skipped, is_unfinished, lines_before, role_of, tells}
 use Rattle.txn_machine.specs.Causes.Role.{AsksTime, MakesClient, NoCall, UsesTransaction}
-use Rattle.txn_machine.specs.Failing.{AllCausesMeet, CanAsk, CanCall, CanRest, CauseMeets, FailsBy, HaveHeard, Rested, RestsIn, WasPosted, begins_as, begun_by, begun_of, calls_by, calls_of, groups_of, rollbacks_of, rolled, rolled_by, trace_of}
+use Rattle.txn_machine.specs.Failing.{AllCausesMeet, CanAsk, CanCall, CanRest, CauseMeets, FailsBy, HaveHeard, Rested, RestsIn, WasPosted, begins_as, begun_by, begun_of, calls_by, calls_of, came_of, groups_of, rollbacks_of, rolled, rolled_by, trace_of}
 use Rattle.txn_machine.specs.Lists.{Lists, all_posted, followed, newest, opened, with_mail}
 use Rattle.txn_machine.specs.Rows.{Caused}
 use Rattle.txn_machine.specs.Running.{IsOrdered}
@@ -113,7 +113,7 @@ module _ (line : Line) (ls : List Line) (old : Lists) (told : newest old ≡ len
   n = suc (length ls)
 
   abbrev now : Trace
-  now = record { events = happened; calls = calls_of (line ∷ ls); begun = begun_of (line ∷ ls); rollbacks = rollbacks_of (line ∷ ls); groups = groups_of old.mail.sent; posted = []; refused = refused_of (ask_of line) accounts n; owed = [] }
+  now = record { events = happened; came = came_of (line ∷ ls); calls = calls_of (line ∷ ls); begun = begun_of (line ∷ ls); rollbacks = rollbacks_of (line ∷ ls); groups = groups_of old.mail.sent; posted = []; refused = refused_of (ask_of line) accounts n; owed = [] }
 
   count : newest (opened old) ≡ n
   count = let a = opened_count old in let b = told in omega arith
@@ -234,13 +234,13 @@ module _ (line : Line) (ls : List Line) (old : Lists) (told : newest old ≡ len
         let low : ended_of old.ended k ≤ length ls = let a = caused_past old ls was told k in let b = told in omega arith in
         subst (λ m. FailsIn fails (trace_of all.mail.sent all.outcomes (lines_before (line ∷ ls) (suc m))) k e) (sym same)
         (subst (λ zs. FailsIn fails (trace_of all.mail.sent all.outcomes zs) k e) (sym (before_old line ls (suc (ended_of old.ended k)) (omega (arith, low))))
-        (fails_longer (trace_of old.mail.sent old.outcomes zs) (trace_of all.mail.sent all.outcomes zs) (still_longer zs (before_few ls (suc (ended_of old.ended k)))) refl fails k e w))
+        (fails_longer (trace_of old.mail.sent old.outcomes zs) (trace_of all.mail.sent all.outcomes zs) (still_longer zs (before_few ls (suc (ended_of old.ended k)))) refl refl fails k e w))
 
     comes_so : (k : ℕ) (e : Error) → ended_of all.ended k ≡ n → FailsIn fails (with_posted r.posted now) k e → Is k e
     comes_so k e last w =
         subst (λ m. FailsIn fails (trace_of all.mail.sent all.outcomes (lines_before (line ∷ ls) (suc m))) k e) (sym last)
         (subst (λ zs. FailsIn fails (trace_of all.mail.sent all.outcomes zs) k e) (sym (before_next (line ∷ ls)))
-        (fails_longer (with_posted r.posted now) (trace_of all.mail.sent all.outcomes (line ∷ ls)) (now_longer r.posted r.sent) refl fails k e w))
+        (fails_longer (with_posted r.posted now) (trace_of all.mail.sent all.outcomes (line ∷ ls)) (now_longer r.posted r.sent) refl refl fails k e w))
 
     older : (k : ℕ) (e : Error) → k ≤ length ls → outcome_of all.outcomes k ≡ outcomes.Err e → ((outcome_of old.outcomes k ≡ outcomes.Err e) × (Was k e → Is k e)) ⊎ Is k e
     older k e low told_so = elim (changes k low) [

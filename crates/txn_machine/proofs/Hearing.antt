@@ -20,7 +20,7 @@ use Rattle.txn_side.specs.Sight.{Group, IsOut}
 use Rattle.txn_side.specs.Trace.{Begin, Call, ComesFor, HasCome, HasRefused, Refusal, Trace}
 use Rattle.txn_machine.specs.Causes.{role_of}
 use Rattle.txn_machine.specs.Causes.Role.{NoCall}
-use Rattle.txn_machine.specs.Failing.{CanHear, groups_of}
+use Rattle.txn_machine.specs.Failing.{CanHear, came_by, groups_of}
 use Rattle.txn_machine.specs.Lists.{Lists, opened, reply_at, request_at, request_in}
 use Rattle.txn_machine.specs.Script.{does, history, is_done, loses, outcome_of, refuses, refuses_it, serves, takes, takes_it, with_sends}
 use Rattle.txn_machine.specs.Steps.{does_it, test_at}
@@ -119,16 +119,17 @@ module _ (old : Lists) (es : List Event) (m : IsMail old.mail) (was : Fates es o
     (noted : (u : Ticket) (r : Request) → Has es (SentEvent u r) → WasAsked old.mail.sent u r) (calls : List Call) (begun : List Begin) (rollbacks : List ℕ) (refused : List Refusal)
     (before : Trace) (counted : (line n : ℕ) → HasRefused before line n → AtLeastRefused (groups_of old.mail.sent) line n es) where
   -- the trace in which this has happened
-  abbrev after : List Event → Trace
-  after fs = record { events = fs; calls = calls; begun = begun; rollbacks = rollbacks; groups = groups_of old.mail.sent; posted = []; refused = refused; owed = [] }
+  abbrev after : Option Ticket → List Event → Trace
+  after came fs = record { events = fs; came = came; calls = calls; begun = begun; rollbacks = rollbacks; groups = groups_of old.mail.sent; posted = []; refused = refused; owed = [] }
 
   -- the event is the newest of these
   abbrev Newest : List Event → Event → Type 0
   Newest fs event = IsNewest (groups_of old.mail.sent) es fs event
 
   come : (u : Ticket) (k : ℕ) (fs : List Event) (event : Request → Event) → as_sent (place_of (opened old).mail.tickets u) ≡ Some k → ((r : Request) → ComesFor u (event r)) → ((r : Request) → Has fs (SentEvent u r) → Has es (SentEvent u r))
-      → ((r : Request) → looks u ≡ Some r → request_at (opened old) k ≡ r → Newest fs (event r)) → HasCome before (after fs) (opened old).sight u event
+      → ((r : Request) → looks u ≡ Some r → request_at (opened old) k ≡ r → Newest fs (event r)) → HasCome before (after (Some u) fs) (opened old).sight u event
   come u k fs event named comes sent_before happen = record {
+    now = refl;
     told = refl;
     own = λ r sent. elim sent [
       | inl h ↦ (let w = noted u r (sent_before r h) in has_newest (by w.0 w.1 w.2 r w.3).is)
@@ -180,7 +181,7 @@ module _ (old : Lists) (es : List Event) (m : IsMail old.mail) (was : Fates es o
   is_undone : (b : Bool) → false ≡ b → b ≡ true → ⊥
   is_undone b e f = absurd (cc)
 
-  pub can_hear : (d : Bool) (line : Line) → (role_of line ≡ NoCall → d ≡ does_it line (opened old)) → CanHear line (opened old) before (after (if d then does looks line es else es))
+  pub can_hear : (d : Bool) (line : Line) → (role_of line ≡ NoCall → d ≡ does_it line (opened old)) → CanHear line (opened old) before (after (came_by line) (if d then does looks line es else es))
   can_hear true (lines.Answer u) sure = λ k o found kept.
       let there = out_there old u k found in
       come u k (takes u (looks u) es) (λ r. Took u r o) there.0 (λ r. refl) (λ r h. takes_sent u r u (looks u) es h) (λ r is asks. answer_newest u o k there.0 there.1 kept r is)

@@ -103,7 +103,7 @@ module _ (holds : ℕ → Outcome → Type 0) (n : ℕ) where
   holds_still later kept (UsesTransaction b x) p h = kept x (Ok p) h
 
   -- what the clients tell a line whose call waits
-  row_holds : (row : Row) (p : Payload) → is_unfinished (outcome_in row) ≡ true → holds (answered_at n (stand_in row)) (Ok p) → HoldsBy holds n (role_in row) (Ok p)
+  row_holds : (row : Row) (p : Payload) → is_unfinished (outcome_in row) ≡ true → holds (answered_at n (stand_in row)).at (Ok p) → HoldsBy holds n (role_in row) (Ok p)
   row_holds (AskWaits b k c) p waits h = h
   row_holds (CallWaits b x c) p waits h = h
   row_holds (Made c) p waits h = tt
@@ -197,10 +197,10 @@ module _ (line : Line) (ls : List Line) (old : Lists) (told : newest old ≡ len
         by : (p : Payload) → is_unfinished (outcome_of old.outcomes k) ≡ true → outcome_of all.outcomes k ≡ Ok p → (b : Bool) → tells line ≡ b → IsRight (role_of line) (opened old).sight (holds now) k (Ok p) → HoldsBy (holds now) k (role_of z) (Ok p)
         by p waits is_ok false quiet right = absurd (let a = sym waits ∙ ap is_unfinished (sym (stays line ls old all told all_newest ordered good steps was quiet k low).0 ∙ is_ok) in cc)
         by p waits is_ok true told_so right =
-            let stands : holds now (answered_at k (stand_at (opened old).sight.stands k)) (Ok p) = subst (λ role. IsRight role (opened old).sight (holds now) k (Ok p)) (tells_none line told_so) right in
+            let stands : holds now (answered_at k (stand_at (opened old).sight.stands k)).at (Ok p) = subst (λ role. IsRight role (opened old).sight (holds now) k (Ok p)) (tells_none line told_so) right in
             subst (λ role. HoldsBy (holds now) k role (Ok p)) row.is
             (row_holds (holds now) k row.row p (ap is_unfinished row.outcome ∙ waits)
-            (subst (λ s. holds now (answered_at k s) (Ok p)) (stand_opened old.sight.stands k ∙ sym row.at) stands))
+            (subst (λ s. holds now (answered_at k s).at (Ok p)) (stand_opened old.sight.stands k ∙ sym row.at) stands))
 
     all_still : (zs : List Line) → length zs ≤ length ls → ((j : ℕ) (z : Line) → line_at zs j ≡ Some z → line_at ls j ≡ Some z) → AllHold (held past) old.outcomes zs → AllHold (holds now) all.outcomes zs
     all_still [] low part h = tt

@@ -55,9 +55,9 @@ pub record FailsOf (script : List Line) (outs : List Outcome) (n x s : ℕ) (e :
   pub failed : outcome_of outs n ≡ Err e
 
 -- Each line that fails so says that its transaction is in doubt, where that was by what had happened in the lines up to the one in whose
--- step the outcome came.
+-- step the outcome came; and one that does not commit it names the first Commit of its primary that was lost.
 abbrev pub AllSpeak : List SentNote → List Outcome → List ℕ → List Line → Type 0
-AllSpeak sent outs ended script = (n x s : ℕ) (e : Error) → FailsOf script outs n x s e → SaysDoubt (history sent outs (lines_before script (suc (ended_of ended n)))) s e
+AllSpeak sent outs ended script = (n x s : ℕ) (e : Error) (f : FailsOf script outs n x s e) → SaysDoubt (history sent outs (lines_before script (suc (ended_of ended n)))) s f.commits e
 
 -- the clients can have arisen from the history of these lines, and what calls answered is right, and was when it came
 pub record HaveArisen (arises : List Event → Type 0) (holds : List Event → ℕ → Outcome → Type 0) (script : List Line) (sent : List SentNote) (outs : List Outcome) (ended : List ℕ) : Type 0 where
@@ -99,13 +99,13 @@ abbrev pub IsRight : Role → Sight → (ℕ → Outcome → Type 0) → ℕ →
 IsRight MakesClient s holds n o = ⊤
 IsRight (AsksTime begins client) s holds n o = holds n o
 IsRight (UsesTransaction commits x) s holds n o = holds x o
-IsRight NoCall s holds n o = holds (answered_at n (stand_at s.stands n)) o
+IsRight NoCall s holds n o = holds (answered_at n (stand_at s.stands n)).at o
 
 -- and so says of the doubt of what stands there, if it failed
 abbrev pub Speaks : Role → Sight → (ℕ → Outcome → Type 0) → List Event → ℕ → Outcome → Type 0
 Speaks MakesClient s held h n o = ⊤
 Speaks (AsksTime begins client) s held h n o = ⊤
-Speaks (UsesTransaction commits x) s held h n o = SpeaksOf held h x n o
+Speaks (UsesTransaction commits x) s held h n o = SpeaksOf held h (record { at = x; commits = commits }) n o
 Speaks NoCall s held h n o = SpeaksOf held h (answered_at n (stand_at s.stands n)) n o
 
 -- The clients can have arisen from this history. What was right still is, and so is what the calls answered that ended in the step; each
@@ -121,9 +121,9 @@ abbrev pub RunsTo : (List Event → Type 0) → (List Event → Type 0) → (Lis
 RunsTo was is held holds line l done =
     (looks : Ticket → Option Request) (h : List Event) → Knows l looks h → was h → GoesOn is holds (held h) (role_of line) l.sight (with_postings done.turn.posted.items (happens looks line l h)) done.turn.ended.items
 
--- the same of a line that asks something of the transaction of line x
-abbrev pub ActsTo : (List Event → Type 0) → (List Event → Type 0) → (List Event → ℕ → Outcome → Type 0) → (List Event → ℕ → Outcome → Type 0) → ℕ → Course → Type 0
-ActsTo was is held holds x done = (h : List Event) → was h → Arises is holds (held h) (λ n. x) (with_postings done.turn.posted.items h) done.turn.ended.items
+-- the same of a line that asks something of the transaction of line x, which commits it or does not
+abbrev pub ActsTo : (List Event → Type 0) → (List Event → Type 0) → (List Event → ℕ → Outcome → Type 0) → (List Event → ℕ → Outcome → Type 0) → Bool → ℕ → Course → Type 0
+ActsTo was is held holds commits x done = (h : List Event) → was h → Arises is holds (held h) (λ n. record { at = x; commits = commits }) (with_postings done.turn.posted.items h) done.turn.ended.items
 
 -- And by the lists that its step left.
 

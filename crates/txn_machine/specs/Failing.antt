@@ -71,12 +71,25 @@ abbrev pub rollbacks_of : List Line → List ℕ
 rollbacks_of [] = []
 rollbacks_of (line ∷ before) = rolled_by (length (line ∷ before)) (ask_of line) ++ rollbacks_of before
 
+-- the ticket for which something comes in a line, if something does
+abbrev pub came_by : Line → Option Ticket
+came_by (lines.Answer u) = Some u
+came_by (lines.Deliver u) = Some u
+came_by (lines.Busy u) = Some u
+came_by (lines.Lose u) = Some u
+came_by _ = None
+
+-- in the newest of these
+abbrev pub came_of : List Line → Option Ticket
+came_of [] = None
+came_of (line ∷ before) = came_by line
+
 abbrev pub groups_of : List SentNote → List Group
 groups_of sent = map (λ s. record { ticket = s.ticket; askers = s.askers }) sent
 
 -- what has happened after these lines
 abbrev pub trace_of : List SentNote → List Outcome → List Line → Trace
-trace_of sent outs script = record { events = history sent outs script; calls = calls_of script; begun = begun_of script; rollbacks = rollbacks_of script; groups = groups_of sent; posted = []; refused = []; owed = [] }
+trace_of sent outs script = record { events = history sent outs script; came = came_of script; calls = calls_of script; begun = begun_of script; rollbacks = rollbacks_of script; groups = groups_of sent; posted = []; refused = []; owed = [] }
 
 -- The call of line n failed with this error after what it had heard, and that had happened in the lines up to the one in whose step the
 -- outcome came.

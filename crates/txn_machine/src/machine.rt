@@ -18,7 +18,7 @@ ghost use Rattle.txn_post.specs.Mail.{IsNext};
 ghost use Rattle.txn_report.specs.OutcomeView.{view_of_outcome};
 ghost use Rattle.txn_side.specs.Account.{AreKept, AreNew};
 ghost use Rattle.txn_side.specs.Arising.{StillArises};
-ghost use Rattle.txn_side.specs.Sight.{Acts, nobody, ticket_in};
+ghost use Rattle.txn_side.specs.Sight.{Acts, commits, nobody, ticket_in};
 ghost use Rattle.txn_side.specs.Trace.{StillRests};
 
 mod events;
@@ -333,7 +333,7 @@ impl<S: ClientSide> Machine<S> {
         ensures ready { OnOk result (S.ready self.new.clients) }
         ensures takes { IfOk result (AsksIt (record { transaction = transaction; act = act }) (newest (lists_of S.sight self.old)) (S.account self.old.clients) (S.account self.new.clients)) }
         ensures rests { IfOk result (RunsAsk S.fails (S.rests self.old.clients) (S.rests self.new.clients) (record { transaction = transaction; act = act }) (newest (lists_of S.sight self.old)) (S.account self.old.clients)) }
-        ensures arises { IfOk result (ActsTo (S.arises self.old.clients) (S.arises self.new.clients) (S.holds self.old.clients) (S.holds self.new.clients) transaction) }
+        ensures arises { IfOk result (ActsTo (S.arises self.old.clients) (S.arises self.new.clients) (S.holds self.old.clients) (S.holds self.new.clients) (commits act) transaction) }
     {
         let turn = self.clients.act(transaction, act, self.store.clock())?;
         Ok(self.called(turn))

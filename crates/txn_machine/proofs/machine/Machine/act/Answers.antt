@@ -3,6 +3,7 @@ use Rattle.txn_machine.specs.Running.{lists_of}
 use Rattle.txn_machine.proofs.Staying.{acts_out}
 use Rattle.txn_machine.proofs.Telling.{leaves_same, tell_acts}
 use Rattle.txn_side.specs.Account.{MayTakeIn}
+use Rattle.txn_side.specs.Sight.{commits}
 use Rattle.txn_machine.proofs.Arising.{called_to}
 use Rattle.txn_machine.proofs.machine.Machine.act.Goals as goal
 
@@ -21,4 +22,4 @@ returns-clause-takes g c = record {
 }
 
 pub returns-clause-arises : goal.returns-clause-arises
-returns-clause-arises g c h w = called_to (g.S.ClientSide.arises c.args.self.now.clients) (g.S.ClientSide.arises c.act.new.self) (g.S.ClientSide.holds c.args.self.now.clients) (g.S.ClientSide.holds c.act.new.self) c.called.result (λ n. c.args.transaction) c.in_ok-turn.turn c.called.ensures.posted c.called.ensures.ended c.in_ok-turn.ensures.arises h w
+returns-clause-arises g c h w = called_to (g.S.ClientSide.arises c.args.self.now.clients) (g.S.ClientSide.arises c.act.new.self) (g.S.ClientSide.holds c.args.self.now.clients) (g.S.ClientSide.holds c.act.new.self) c.called.result (λ n. record { at = c.args.transaction; commits = commits c.args.act }) c.in_ok-turn.turn c.called.ensures.posted c.called.ensures.ended c.in_ok-turn.ensures.arises h w

@@ -1,4 +1,5 @@
 use Rattle.std.proofs.Common.{false, refl}
+use Rattle.txn_side.specs.Doubt.{itself}
 use Rattle.txn_machine.specs.Running.{lists_of}
 use Rattle.txn_machine.proofs.Staying.{asks_out}
 use Rattle.txn_machine.proofs.Telling.{leaves_same, tell_asks}
@@ -13,5 +14,5 @@ returns-clause-out g c = asks_out (g.S.ClientSide.waits c.args.self.now.clients)
 
 pub returns-clause-arises : goal.returns-clause-arises
 returns-clause-arises g c looks h knows w =
-    let a = called_to (g.S.ClientSide.arises c.args.self.now.clients) (g.S.ClientSide.arises c.timestamp.new.self) (g.S.ClientSide.holds c.args.self.now.clients) (g.S.ClientSide.holds c.timestamp.new.self) c.called.result (λ n. n) c.in_ok-turn.turn c.called.ensures.posted c.called.ensures.ended c.in_ok-turn.ensures.arises h w in
+    let a = called_to (g.S.ClientSide.arises c.args.self.now.clients) (g.S.ClientSide.arises c.timestamp.new.self) (g.S.ClientSide.holds c.args.self.now.clients) (g.S.ClientSide.holds c.timestamp.new.self) c.called.result itself c.in_ok-turn.turn c.called.ensures.posted c.called.ensures.ended c.in_ok-turn.ensures.arises h w in
     record { now = a.now; kept = a.kept; answers = a.answers; doubts = λ k d low. tt }
