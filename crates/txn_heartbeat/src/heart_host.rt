@@ -25,6 +25,7 @@ pub trait HeartHost: ClientSide {
     ghost use Rattle.txn_kv.specs.declared.ticket.Ticket.{Ticket};
     ghost use Rattle.txn_law.specs.Run.{IsPossible};
     ghost use Rattle.txn_side.specs.Arising.{Arises, IsBeat};
+    ghost use Rattle.txn_side.specs.Doubt.{itself};
 
     // This is what the heartbeat of the transaction of a line needs, or it is none, where it needs nothing.
     ghost heart: { Self → ℕ → Option Heartbeat → Type 0 };
@@ -70,5 +71,5 @@ pub trait HeartHost: ClientSide {
     ghost unbeaten: { (s : Self) → (Self.ClientSide.sight s).nexts.beats ≡ map (λ (n : ℕ). 1) (Self.ClientSide.sight s).nexts.calls };
 
     // What a heartbeat sends changes nothing of them.
-    ghost arises_beating: { (s : Self) (h : List Event) (t : Ticket) (r : Request) → t.beat ≡ true → IsBeat r → IsPossible h (Sent t r) → Self.ClientSide.arises s h → Arises (Self.ClientSide.arises s) (Self.ClientSide.holds s) (Self.ClientSide.holds s h) (λ n. n) (Sent t r ∷ h) [] };
+    ghost arises_beating: { (s : Self) (h : List Event) (t : Ticket) (r : Request) → t.beat ≡ true → IsBeat r → IsPossible h (Sent t r) → Self.ClientSide.arises s h → Arises (Self.ClientSide.arises s) (Self.ClientSide.holds s) (Self.ClientSide.holds s h) itself (Sent t r ∷ h) [] };
 }

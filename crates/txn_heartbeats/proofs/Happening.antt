@@ -1,8 +1,9 @@
 -- What has happened in a run, where heartbeats post beside the calls.
-use Rattle.std.proofs.Common.{◌≡◌, inl, inr, ℕ, ◌+◌, ◌<◌, true, false, List, [], ◌∷◌, ◌++◌, refl, sym, ap, ◌∙◌, subst, arith}
+use Rattle.std.proofs.Common.{◌≡◌, inl, inr, ℕ, ◌+◌, ◌<◌, Bool, true, false, List, [], ◌∷◌, ◌++◌, refl, sym, ap, ◌∙◌, subst, arith}
 use Rattle.std.proofs.lemmas.List.Elements.{All-weaker}
 use Rattle.txn_history.specs.Event.{Event, Has}
 use Rattle.txn_history.specs.Event.Event.{Lost, Sent}
+use Rattle.txn_kv.specs.declared.errors.Error.{Error}
 use Rattle.txn_kv.specs.declared.request.PrewriteRequest.{PrewriteRequest}
 use Rattle.txn_kv.specs.declared.request.Request.{Request}
 use Rattle.txn_kv.specs.declared.request.Request.TheVariants as requests
@@ -11,7 +12,7 @@ use Rattle.txn_law.specs.Run.{IsPossible, IsUnused}
 use Rattle.txn_report.specs.declared.outcome.Outcome.{Outcome}
 use Rattle.txn_report.specs.declared.outcome.Outcome.TheVariants as outcomes
 use Rattle.txn_side.specs.Arising.{Arises, IsBeat, with_posting, with_postings}
-use Rattle.txn_side.specs.Doubt.{HasLostCommit, IsInDoubt, SpeaksOf, TellsDoubt}
+use Rattle.txn_side.specs.Doubt.{CallOf, HasLostCommit, IsFirstLost, IsInDoubt, NamesFirst, SpeaksOf, TellsDoubt, itself}
 use Rattle.txn_side.specs.Sight.{next_at, ticket_in, with_next}
 use Rattle.txn_side.specs.declared.turn.Ending.{Ending}
 use Rattle.txn_side.specs.declared.turn.Posting.{Posting}
@@ -114,23 +115,53 @@ loss_sent s h t r beat l = record {
   primary = λ u q has. l.primary u q (prewrite_before h t r beat u q has);
 }
 
+-- the first Commit that was lost is the first still
+first_sent : (s : ℕ) (h : List Event) (t : Ticket) (r : Request) → IsBeat r → (ticket : Ticket) → IsFirstLost s h ticket → IsFirstLost s (Sent t r ∷ h) ticket
+first_sent s h t r beat ticket l = record {
+  commit = l.commit;
+  newer = Sent t r ∷ l.newer;
+  older = l.older;
+  splits = ap (λ fs. Sent t r ∷ fs) l.splits;
+  same = l.same;
+  primary = λ u q has. l.primary u q (prewrite_before h t r beat u q has);
+  first = l.first;
+}
+
+names_sent : (s : ℕ) (e : Error) (h : List Event) (t : Ticket) (r : Request) → IsBeat r → NamesFirst s h e → NamesFirst s (Sent t r ∷ h) e
+names_sent s e h t r beat n = record { ticket = n.ticket; error = n.error; first = first_sent s h t r beat n.ticket n.first }
+
 doubt_before : (line : ℕ) (from to : List ℕ) (ps : List Posting) (h : List Event) (s : ℕ) → AreBeats line from ps to → IsInDoubt s (with_postings ps h) → IsInDoubt s h
 doubt_before line from to [] h s b d = d
 doubt_before line from to (Sleep t ∷ ps) h s b d = doubt_before line (with_next from line) to ps h s b.1 d
 doubt_before line from to (Send t target r askers ∷ ps) h s b d = doubt_sent s h t r b.0.beats.0 (doubt_before line (with_next from line) to ps (Sent t r ∷ h) s b.1 d)
 
-loss_after : (line : ℕ) (from to : List ℕ) (ps : List Posting) (h : List Event) (s : ℕ) → AreBeats line from ps to → HasLostCommit s h → HasLostCommit s (with_postings ps h)
-loss_after line from to [] h s b l = l
-loss_after line from to (Sleep t ∷ ps) h s b l = loss_after line (with_next from line) to ps h s b.1 l
-loss_after line from to (Send t target r askers ∷ ps) h s b l = loss_after line (with_next from line) to ps (Sent t r ∷ h) s b.1 (loss_sent s h t r b.0.beats.0 l)
+-- what stays with each request of a heartbeat stays with all that one posts
+stays_after : (P : List Event → Type 0) → ((h : List Event) (t : Ticket) (r : Request) → IsBeat r → P h → P (Sent t r ∷ h)) → (line : ℕ) (from to : List ℕ) (ps : List Posting) (h : List Event) → AreBeats line from ps to → P h → P (with_postings ps h)
+stays_after P sent line from to [] h b p = p
+stays_after P sent line from to (Sleep t ∷ ps) h b p = stays_after P sent line (with_next from line) to ps h b.1 p
+stays_after P sent line from to (Send t target r askers ∷ ps) h b p = stays_after P sent line (with_next from line) to ps (Sent t r ∷ h) b.1 (sent h t r b.0.beats.0 p)
 
-tells_still : (h longer : List Event) (s : ℕ) (o : Outcome) → (IsInDoubt s longer → IsInDoubt s h) → (HasLostCommit s h → HasLostCommit s longer) → TellsDoubt h s o → TellsDoubt longer s o
-tells_still h longer s (outcomes.Err e) before after told = elim told [ inl refused ↦ inl refused | inr says ↦ inr (record { always = λ d. says.always (before d); only = λ is. after (says.only is) }) ]
-tells_still h longer s o before after told = tt
+loss_after : (line : ℕ) (from to : List ℕ) (ps : List Posting) (h : List Event) (s : ℕ) → AreBeats line from ps to → HasLostCommit s h → HasLostCommit s (with_postings ps h)
+loss_after line from to ps h s b l = stays_after (λ g. HasLostCommit s g) (loss_sent s) line from to ps h b l
+
+names_after : (line : ℕ) (from to : List ℕ) (ps : List Posting) (h : List Event) (s : ℕ) (e : Error) → AreBeats line from ps to → NamesFirst s h e → NamesFirst s (with_postings ps h) e
+names_after line from to ps h s e b n = stays_after (λ g. NamesFirst s g e) (names_sent s e) line from to ps h b n
+
+tells_still : (h longer : List Event) (s : ℕ) (commits : Bool) (o : Outcome) → (IsInDoubt s longer → IsInDoubt s h) → (HasLostCommit s h → HasLostCommit s longer) → ((e : Error) → NamesFirst s h e → NamesFirst s longer e) → TellsDoubt h s commits o → TellsDoubt longer s commits o
+tells_still h longer s commits (outcomes.Err e) before after named told = elim told [
+  | inl refused ↦ inl refused
+  | inr says ↦ inr (record {
+    always = λ d. says.always (before d);
+    only = λ is. after (says.only is);
+    names = λ other is. named e (says.names other is);
+  })
+]
+tells_still h longer s commits o before after named told = tt
 
 -- what a call said before that of the doubt of a transaction is right still
-speaks_still : (line : ℕ) (from to : List ℕ) (ps : List Posting) (held : ℕ → Outcome → Type 0) (h : List Event) (x n : ℕ) (o : Outcome) → AreBeats line from ps to → SpeaksOf held h x n o → SpeaksOf held (with_postings ps h) x n o
-speaks_still line from to ps held h x n o b speaks = λ other s began. tells_still h (with_postings ps h) s o (doubt_before line from to ps h s b) (loss_after line from to ps h s b) (speaks other s began)
+speaks_still : (line : ℕ) (from to : List ℕ) (ps : List Posting) (held : ℕ → Outcome → Type 0) (h : List Event) (call : CallOf) (n : ℕ) (o : Outcome) → AreBeats line from ps to → SpeaksOf held h call n o → SpeaksOf held (with_postings ps h) call n o
+speaks_still line from to ps held h call n o b speaks = λ other s began.
+    tells_still h (with_postings ps h) s call.commits o (doubt_before line from to ps h s b) (loss_after line from to ps h s b) (λ e. names_after line from to ps h s e b) (speaks other s began)
 
 -- What a heartbeat posts
 
@@ -141,7 +172,7 @@ pub record GoOn (arises : List Event → Type 0) (holds : List Event → ℕ →
   pub kept : (x : ℕ) (o : Outcome) → holds before x o → holds later x o
 
 module _ (arises : List Event → Type 0) (holds : List Event → ℕ → Outcome → Type 0)
-    (beating : (h : List Event) (t : Ticket) (r : Request) → t.beat ≡ true → IsBeat r → IsPossible h (Sent t r) → arises h → Arises arises holds (holds h) (λ n. n) (Sent t r ∷ h) []) where
+    (beating : (h : List Event) (t : Ticket) (r : Request) → t.beat ≡ true → IsBeat r → IsPossible h (Sent t r) → arises h → Arises arises holds (holds h) itself (Sent t r ∷ h) []) where
   pub beats_arise : (line : ℕ) (from to : List ℕ) (ps : List Posting) (h : List Event) → AreBeats line from ps to → arises h → AreFresh from h → GoOn arises holds to h (with_postings ps h)
   beats_arise line from to [] h e a fresh = record { now = a; fresh = subst (λ bs. AreFresh bs h) (sym e) fresh; kept = λ x o k. k }
   beats_arise line from to (Sleep t ∷ ps) h b a fresh = beats_arise line (with_next from line) to ps h b.1 a (fresh_raised line from h b.0.own fresh)
@@ -151,13 +182,13 @@ module _ (arises : List Event → Type 0) (holds : List Event → ℕ → Outcom
       record { now = rest.now; fresh = rest.fresh; kept = λ x o k. rest.kept x o (one.kept x o k) }
 
   -- after a step of the clients, of which calls ended
-  pub arises_then : (line : ℕ) (from to : List ℕ) (ps qs : List Posting) (es : List Ending) (held : ℕ → Outcome → Type 0) (at : ℕ → ℕ) (h : List Event) → AreBeats line from qs to → AreFresh from (with_postings ps h) → Arises arises holds held at (with_postings ps h) es
+  pub arises_then : (line : ℕ) (from to : List ℕ) (ps qs : List Posting) (es : List Ending) (held : ℕ → Outcome → Type 0) (at : ℕ → CallOf) (h : List Event) → AreBeats line from qs to → AreFresh from (with_postings ps h) → Arises arises holds held at (with_postings ps h) es
       → Arises (λ g. arises g × AreFresh to g) holds held at (with_postings (ps ++ qs) h) es
   arises_then line from to ps qs es held at h b fresh a =
       let more = beats_arise line from to qs (with_postings ps h) b a.now fresh in
       subst (λ g. Arises (λ g. arises g × AreFresh to g) holds held at g es) (sym (postings_then ps qs h)) (record {
         now = (more.now, more.fresh);
         kept = λ x o k. more.kept x o (a.kept x o k);
-        answers = All-weaker (λ e. holds (with_postings ps h) (at e.line) e.outcome) (λ e. holds (with_postings qs (with_postings ps h)) (at e.line) e.outcome) (λ e k. more.kept (at e.line) e.outcome k) es a.answers;
+        answers = All-weaker (λ e. holds (with_postings ps h) (at e.line).at e.outcome) (λ e. holds (with_postings qs (with_postings ps h)) (at e.line).at e.outcome) (λ e k. more.kept (at e.line).at e.outcome k) es a.answers;
         doubts = All-weaker (λ e. SpeaksOf held (with_postings ps h) (at e.line) e.line e.outcome) (λ e. SpeaksOf held (with_postings qs (with_postings ps h)) (at e.line) e.line e.outcome) (λ e k. speaks_still line from to qs held (with_postings ps h) (at e.line) e.line e.outcome b k) es a.doubts;
       })

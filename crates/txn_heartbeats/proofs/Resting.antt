@@ -48,7 +48,7 @@ longer_nothing t ps none = record {
 module _ (fails : HowCallsFail) where
   ends_longer : (t : Trace) (ps qs : List Posting) (e : Ending) → EndsFor fails (with_posted ps t) e → EndsFor fails (with_posted (ps ++ qs) t) e
   ends_longer t ps qs e ends why failed = elim (ends why failed) [
-    | inl f ↦ inl (fails_longer (with_posted ps t) (with_posted (ps ++ qs) t) (longer_posted t ps qs) refl fails e.line why f)
+    | inl f ↦ inl (fails_longer (with_posted ps t) (with_posted (ps ++ qs) t) (longer_posted t ps qs) refl refl fails e.line why f)
     | inr r ↦ inr r
   ]
 
@@ -70,7 +70,7 @@ module _ (fails : HowCallsFail) where
 
 -- what has come is seen without the numbers of heartbeats
 pub come_beside : (before t : Trace) (s : Sight) (beats : List ℕ) (u : Ticket) (event : Request → Event) → HasCome before t (with_beats beats s) u event → HasCome before t s u event
-come_beside before t s beats u event came = record { told = came.told; own = came.own; group = came.group }
+come_beside before t s beats u event came = record { now = came.now; told = came.told; own = came.own; group = came.group }
 
 -- The accounts
 

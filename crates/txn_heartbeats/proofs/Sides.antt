@@ -18,7 +18,7 @@ use Rattle.txn_law.specs.Run.{IsPossible}
 use Rattle.txn_report.specs.declared.outcome.Outcome.{Outcome}
 use Rattle.txn_side.specs.Account.{Account}
 use Rattle.txn_side.specs.Arising.{Arises, ArisesAwake, ArisesHearing, ArisesOn, IsBeat, IsOutside, with_postings}
-use Rattle.txn_side.specs.Doubt.{SpeaksOf}
+use Rattle.txn_side.specs.Doubt.{CallOf, SpeaksOf, itself}
 use Rattle.txn_side.specs.Sight.{Acts, Asks, Goes, Sight, commits, is_live, line_count, opened, with_stand}
 use Rattle.txn_side.specs.Sight.Stand.{Asking, Calling, HasBegun, Idle}
 use Rattle.txn_side.specs.Trace.{Trace}
@@ -125,7 +125,7 @@ module _ {S H : Type 0} (sight : S → Sight) where
 
 module _ {S H : Type 0} (arises : S → List Event → Type 0) (holds : S → List Event → ℕ → Outcome → Type 0) (old new : Heartbeats S H) where
   -- calls alone have posted
-  pub on_beside : (at : ℕ → ℕ) (turn : Option Turn) → AreCalls (posted_in turn) → beats_of new ≡ beats_of old → ArisesOn (arises old.side) (arises new.side) (holds old.side) (holds new.side) at turn
+  pub on_beside : (at : ℕ → CallOf) (turn : Option Turn) → AreCalls (posted_in turn) → beats_of new ≡ beats_of old → ArisesOn (arises old.side) (arises new.side) (holds old.side) (holds new.side) at turn
       → ArisesOn (ArisesIn arises old) (ArisesIn arises new) (holds old.side) (holds new.side) at turn
   on_beside at turn calls same on h a =
       let r = on h a.side in
@@ -158,9 +158,9 @@ module _ {S H : Type 0} (arises : S → List Event → Type 0) (holds : S → Li
         doubts = done.doubts;
       }
 
-  module _ (beating : (s : S) (h : List Event) (t : Ticket) (r : Request) → t.beat ≡ true → IsBeat r → IsPossible h (Sent t r) → arises s h → Arises (arises s) (holds s) (holds s h) (λ n. n) (Sent t r ∷ h) []) where
+  module _ (beating : (s : S) (h : List Event) (t : Ticket) (r : Request) → t.beat ≡ true → IsBeat r → IsPossible h (Sent t r) → arises s h → Arises (arises s) (holds s) (holds s h) itself (Sent t r ∷ h) []) where
     -- a heartbeat has started after what a call did
-    pub on_started : (mid : S) (line : ℕ) (at : ℕ → ℕ) (turn later : Turn) → AreCalls turn.posted.items → new.side ≡ mid → later.ended ≡ turn.ended → PostsBeats line (beats_of old) turn.posted.items later.posted.items (beats_of new)
+    pub on_started : (mid : S) (line : ℕ) (at : ℕ → CallOf) (turn later : Turn) → AreCalls turn.posted.items → new.side ≡ mid → later.ended ≡ turn.ended → PostsBeats line (beats_of old) turn.posted.items later.posted.items (beats_of new)
         → ArisesOn (arises old.side) (arises mid) (holds old.side) (holds mid) at (Some turn) → ArisesOn (ArisesIn arises old) (ArisesIn arises new) (holds old.side) (holds new.side) at (Some later)
     on_started mid line at turn later calls side ended p on h a =
         let first = on h a.side in
@@ -169,13 +169,13 @@ module _ {S H : Type 0} (arises : S → List Event → Type 0) (holds : S → Li
         (subst (λ v. Arises (ArisesIn arises new) (holds new.side) (holds old.side h) at (with_postings (turn.posted.items ++ p.posted) h) v.items) (sym ended) (record {
           now = record { side = subst (λ s. arises s (with_postings (turn.posted.items ++ p.posted) h)) (sym side) then.now.0; fresh = then.now.1 };
           kept = λ x o k. subst (λ s. holds s (with_postings (turn.posted.items ++ p.posted) h) x o) (sym side) (then.kept x o k);
-          answers = subst (λ s. All (λ e. holds s (with_postings (turn.posted.items ++ p.posted) h) (at e.line) e.outcome) turn.ended.items) (sym side) then.answers;
+          answers = subst (λ s. All (λ e. holds s (with_postings (turn.posted.items ++ p.posted) h) (at e.line).at e.outcome) turn.ended.items) (sym side) then.answers;
           doubts = then.doubts;
         }))
 
-    module _ (longer : (s : S) (h : List Event) (e : Event) → IsOutside e → IsPossible h e → arises s h → Arises (arises s) (holds s) (holds s h) (λ n. n) (e ∷ h) []) where
+    module _ (longer : (s : S) (h : List Event) (e : Event) → IsOutside e → IsPossible h e → arises s h → Arises (arises s) (holds s) (holds s h) itself (e ∷ h) []) where
       -- a heartbeat has heard of something
-      pub told_arises : (sight : S → Sight) (waits : S → ℕ → Awaited → Type 0) (account : S → ℕ → Account) (rests : S → Trace → Type 0) (line : ℕ) (at : ℕ → ℕ) (turn : Turn) (h : List Event) (e : Event) → IsOutside e → IsPossible h e → StaysSo sight waits account rests arises holds old.side new.side
+      pub told_arises : (sight : S → Sight) (waits : S → ℕ → Awaited → Type 0) (account : S → ℕ → Account) (rests : S → Trace → Type 0) (line : ℕ) (at : ℕ → CallOf) (turn : Turn) (h : List Event) (e : Event) → IsOutside e → IsPossible h e → StaysSo sight waits account rests arises holds old.side new.side
           → turn.ended.items ≡ [] → AreBeats line (beats_of old) turn.posted.items (beats_of new) → ArisesIn arises old h → Arises (ArisesIn arises new) (holds new.side) (holds old.side h) at (with_postings turn.posted.items (e ∷ h)) turn.ended.items
       told_arises sight waits account rests line at turn h e outside may stays ended beats a =
           let heard = longer old.side h e outside may a.side in

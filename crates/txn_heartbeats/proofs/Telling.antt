@@ -11,6 +11,7 @@ use Rattle.txn_law.specs.Run.{IsPossible}
 use Rattle.txn_report.specs.declared.outcome.Outcome.{Outcome}
 use Rattle.txn_side.specs.Account.{Account}
 use Rattle.txn_side.specs.Arising.{Arises, IsBeat, IsOutside, with_postings}
+use Rattle.txn_side.specs.Doubt.{CallOf, itself}
 use Rattle.txn_side.specs.Sight.{Sight}
 use Rattle.txn_side.specs.Trace.{ActsOn, HearsOn, HowCallsFail, IsLonger, Trace, WakesOn}
 use Rattle.txn_side.specs.Waiting.{Awaited, WaitsOn}
@@ -76,9 +77,9 @@ module _ {S H : Type 0} (sight : S → Sight) (old new : Heartbeats S H) (u : Is
         told_rests fails (longer new.side) (Ok turn) stays ended t posted (rests_longer_so sight old rests (longer old.side) before t more was)
     told_hears fails longer seen ticket event (Err e) stays ended = tt
 
-    module _ (beating : (s : S) (h : List Event) (t : Ticket) (r : Request) → t.beat ≡ true → IsBeat r → IsPossible h (Sent t r) → arises s h → Arises (arises s) (holds s) (holds s h) (λ n. n) (Sent t r ∷ h) [])
-        (longer : (s : S) (h : List Event) (e : Event) → IsOutside e → IsPossible h e → arises s h → Arises (arises s) (holds s) (holds s h) (λ n. n) (e ∷ h) []) where
-      pub told_happens : (line : ℕ) (at : ℕ → ℕ) (r : Result Turn NoMemory) → OnOk r (StaysSo sight waits account rests arises holds old.side new.side) → IfOk r (λ turn. turn.ended.items ≡ []) → IfOk r (λ turn. AreBeats line (beats_of old) turn.posted.items (beats_of new))
+    module _ (beating : (s : S) (h : List Event) (t : Ticket) (r : Request) → t.beat ≡ true → IsBeat r → IsPossible h (Sent t r) → arises s h → Arises (arises s) (holds s) (holds s h) itself (Sent t r ∷ h) [])
+        (longer : (s : S) (h : List Event) (e : Event) → IsOutside e → IsPossible h e → arises s h → Arises (arises s) (holds s) (holds s h) itself (e ∷ h) []) where
+      pub told_happens : (line : ℕ) (at : ℕ → CallOf) (r : Result Turn NoMemory) → OnOk r (StaysSo sight waits account rests arises holds old.side new.side) → IfOk r (λ turn. turn.ended.items ≡ []) → IfOk r (λ turn. AreBeats line (beats_of old) turn.posted.items (beats_of new))
           → IfOk r (λ turn. (h : List Event) (e : Event) → IsOutside e → IsPossible h e → ArisesIn arises old h → Arises (ArisesIn arises new) (holds new.side) (holds old.side h) at (with_postings turn.posted.items (e ∷ h)) turn.ended.items)
       told_happens line at (Ok turn) stays ended beats = λ h e outside may a. told_arises arises holds old new beating longer sight waits account rests line at turn h e outside may stays ended beats a
       told_happens line at (Err e) stays ended beats = tt

@@ -9,6 +9,7 @@ use Rattle.txn_kv.specs.declared.request.Request.{Request}
 use Rattle.txn_kv.specs.declared.ticket.Ticket.{Ticket}
 use Rattle.txn_report.specs.declared.outcome.Outcome.{Outcome}
 use Rattle.txn_side.specs.Arising.{Arises, IsOutside}
+use Rattle.txn_side.specs.Doubt.{itself}
 use Rattle.txn_side.specs.Sight.{Sight, nobody}
 use Rattle.txn_side.specs.Trace.{IsLonger, Trace}
 use Rattle.txn_side.specs.Waiting.{Awaited, IsDue, NoneWaits}
@@ -55,8 +56,8 @@ module _ {S H : Type 0} (arises : S → List Event → Type 0) (holds : S → Li
   pub nobody_arises_so : {A : Type 0} (ready : S → Type 0) (sight : S → Sight) (m : Meaning H (Result A Error)) → (ready b.side → sight b.side ≡ nobody → arises b.side []) → IsReady ready sight m b → sight_of sight b ≡ nobody → ArisesIn arises b []
   nobody_arises_so ready sight m all r e = record { side = all r.side (nobody_inside (beats_of b) (sight b.side) r.unbeaten e); fresh = nothing_fresh (beats_of b) }
 
-  pub arises_outside : (h : List Event) (e : Event) → IsOutside e → ArisesIn arises b h → Arises (arises b.side) (holds b.side) (holds b.side h) (λ n. n) (e ∷ h) []
-      → Arises (ArisesIn arises b) (holds b.side) (holds b.side h) (λ n. n) (e ∷ h) []
+  pub arises_outside : (h : List Event) (e : Event) → IsOutside e → ArisesIn arises b h → Arises (arises b.side) (holds b.side) (holds b.side h) itself (e ∷ h) []
+      → Arises (ArisesIn arises b) (holds b.side) (holds b.side h) itself (e ∷ h) []
   arises_outside h e outside was side = record {
     now = record { side = side.now; fresh = fresh_outside (beats_of b) h e outside was.fresh };
     kept = side.kept;

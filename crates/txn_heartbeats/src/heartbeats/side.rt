@@ -8,7 +8,7 @@ ghost use Rattle.txn_history.specs.Event.Event.{Lost, Took};
 ghost use Rattle.txn_plan.specs.declared.arrival.Arrival.TheVariants as arrivals;
 ghost use Rattle.txn_side.specs.Account.{AreClosed, MayTakeIn};
 ghost use Rattle.txn_side.specs.Arising.{ArisesAwake, ArisesHearing, ArisesOn};
-ghost use Rattle.txn_side.specs.Sight.{Acts, Goes, IsGiven, Names, NoneGiven, is_live, line_count};
+ghost use Rattle.txn_side.specs.Sight.{Acts, Goes, IsGiven, Names, NoneGiven, commits, is_live, line_count};
 ghost use Rattle.txn_side.specs.Trace.{ActsOn, HearsOn, WakesOn};
 ghost use Rattle.txn_side.specs.Waiting.{HearsEnd, HearsReply, NoneHeard, WaitsOn, posted_in};
 
@@ -98,7 +98,7 @@ impl<S: HeartHost, H: PlanForHeartbeats> ClientSide for Heartbeats<S, H> {
         ensures ready { OnOk result (IsReady S.ready S.sight H.meaning self.new) }
         ensures accounts { IfOk result (MayTakeIn act transaction (line_count (sight_of S.sight self.old)) (S.account self.old.side) (S.account self.new.side)) }
         ensures rests { IfOk result (ActsOn S.fails (RestsIn S.sight S.rests self.old) (RestsIn S.sight S.rests self.new) act transaction (line_count (sight_of S.sight self.old)) (S.account self.old.side transaction)) }
-        ensures arises { IfOk result (ArisesOn (ArisesIn S.arises self.old) (ArisesIn S.arises self.new) (S.holds self.old.side) (S.holds self.new.side) (λ n. transaction)) }
+        ensures arises { IfOk result (ArisesOn (ArisesIn S.arises self.old) (ArisesIn S.arises self.new) (S.holds self.old.side) (S.holds self.new.side) (λ n. record { at = transaction; commits = commits act })) }
         ensures begins { is_commit act ≡ true → IfOk result (λ turn. IfSome turn (BeginsBeat (λ before. Acts act transaction (S.sight self.old.side) (S.sight self.new.side) (Some before)) (S.heart self.new.side transaction) (length (beats_of self.old)) transaction (record self.old { side = self.new.side }) self.new)) }
         ensures alone { is_commit act ≡ false → OnOk result (self.new ≡ record self.old { side = self.new.side }) }
     {

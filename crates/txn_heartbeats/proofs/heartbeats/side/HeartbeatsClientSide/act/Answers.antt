@@ -1,7 +1,7 @@
 use Rattle.std.proofs.Common.{length, Some, refl, subst, sym, ◌∙◌}
 use Rattle.std.proofs.lemmas.Bool.{false≢true}
 use Rattle.txn_side.specs.Arising.{ArisesOn}
-use Rattle.txn_side.specs.Sight.{Acts, line_count}
+use Rattle.txn_side.specs.Sight.{Acts, commits, line_count}
 use Rattle.txn_side.specs.Trace.{ActsOn}
 use Rattle.txn_side.specs.Waiting.{NoneHeard, WaitsOn, posted_in}
 use Rattle.txn_heartbeats.specs.Hearts.{beats_of}
@@ -30,8 +30,8 @@ returns-then-not-commits-clause-rests g c =
 pub returns-then-not-commits-clause-arises : goal.returns-then-not-commits-clause-arises
 returns-then-not-commits-clause-arises g c =
     let calls = acts_calls c.args.act c.args.transaction (g.S.ClientSide.sight c.args.self.now.side) (g.S.ClientSide.sight c.act.new.self) (Some c.in-Some.turn) (g.met.S.HeartHost.unbeaten c.args.self.now.side) (g.met.S.HeartHost.unbeaten c.act.new.self) (subst (Acts c.args.act c.args.transaction (g.S.ClientSide.sight c.args.self.now.side) (g.S.ClientSide.sight c.act.new.self)) c.in-Some.is c.in_ok-act.ensures.turn) in
-    on_beside g.S.ClientSide.arises g.S.ClientSide.holds c.args.self.now (record c.args.self.now { side = c.act.new.self }) (λ n. c.args.transaction) (Some c.in-Some.turn) calls refl
-    (subst (ArisesOn (g.S.ClientSide.arises c.args.self.now.side) (g.S.ClientSide.arises c.act.new.self) (g.S.ClientSide.holds c.args.self.now.side) (g.S.ClientSide.holds c.act.new.self) (λ n. c.args.transaction)) c.in-Some.is c.in_ok-act.ensures.arises)
+    on_beside g.S.ClientSide.arises g.S.ClientSide.holds c.args.self.now (record c.args.self.now { side = c.act.new.self }) (λ n. record { at = c.args.transaction; commits = commits c.args.act }) (Some c.in-Some.turn) calls refl
+    (subst (ArisesOn (g.S.ClientSide.arises c.args.self.now.side) (g.S.ClientSide.arises c.act.new.self) (g.S.ClientSide.holds c.args.self.now.side) (g.S.ClientSide.holds c.act.new.self) (λ n. record { at = c.args.transaction; commits = commits c.args.act })) c.in-Some.is c.in_ok-act.ensures.arises)
 
 pub returns-in_ok-start_beat-in-Some-clause-turn : goal.returns-in_ok-start_beat-in-Some-clause-turn
 returns-in_ok-start_beat-in-Some-clause-turn g c =
@@ -53,8 +53,8 @@ returns-in_ok-start_beat-in-Some-clause-rests g c =
 pub returns-in_ok-start_beat-in-Some-clause-arises : goal.returns-in_ok-start_beat-in-Some-clause-arises
 returns-in_ok-start_beat-in-Some-clause-arises g c =
     let calls = acts_calls c.args.act c.args.transaction (g.S.ClientSide.sight c.args.self.now.side) (g.S.ClientSide.sight c.act.new.self) (Some c.in-Some.turn) (g.met.S.HeartHost.unbeaten c.args.self.now.side) (g.met.S.HeartHost.unbeaten c.act.new.self) (subst (Acts c.args.act c.args.transaction (g.S.ClientSide.sight c.args.self.now.side) (g.S.ClientSide.sight c.act.new.self)) c.in-Some.is c.in_ok-act.ensures.turn) in
-    on_started g.S.ClientSide.arises g.S.ClientSide.holds c.args.self.now c.start_beat.new.self g.met.S.HeartHost.arises_beating c.act.new.self _ (λ n. c.args.transaction) c.in-Some.turn c.start_beat.new.turn calls c.in_ok-start_beat-in-Some.ensures.side c.in_ok-start_beat-in-Some.ensures.ended c.in_ok-start_beat-in-Some.ensures.beats
-    (subst (ArisesOn (g.S.ClientSide.arises c.args.self.now.side) (g.S.ClientSide.arises c.act.new.self) (g.S.ClientSide.holds c.args.self.now.side) (g.S.ClientSide.holds c.act.new.self) (λ n. c.args.transaction)) c.in-Some.is c.in_ok-act.ensures.arises)
+    on_started g.S.ClientSide.arises g.S.ClientSide.holds c.args.self.now c.start_beat.new.self g.met.S.HeartHost.arises_beating c.act.new.self _ (λ n. record { at = c.args.transaction; commits = commits c.args.act }) c.in-Some.turn c.start_beat.new.turn calls c.in_ok-start_beat-in-Some.ensures.side c.in_ok-start_beat-in-Some.ensures.ended c.in_ok-start_beat-in-Some.ensures.beats
+    (subst (ArisesOn (g.S.ClientSide.arises c.args.self.now.side) (g.S.ClientSide.arises c.act.new.self) (g.S.ClientSide.holds c.args.self.now.side) (g.S.ClientSide.holds c.act.new.self) (λ n. record { at = c.args.transaction; commits = commits c.args.act })) c.in-Some.is c.in_ok-act.ensures.arises)
 
 pub returns-then-not-commits-clause-begins : goal.returns-then-not-commits-clause-begins
 returns-then-not-commits-clause-begins g c is = absurd (false≢true (sym (sym c.is_commit-commits.ensures ∙ c.if-not-commits.true) ∙ is))

@@ -1,5 +1,6 @@
 use Rattle.std.proofs.Common.{false, refl}
 use Rattle.std.proofs.lemmas.Result.{IfOk-weaker}
+use Rattle.txn_side.specs.Doubt.{itself}
 use Rattle.txn_heartbeats.specs.Hearts.{beats_of}
 use Rattle.txn_heartbeats.proofs.Numbers.{unused_so}
 use Rattle.txn_heartbeats.proofs.Seen.{asks_beside}
@@ -13,6 +14,6 @@ returns-clause-turn g c = IfOk-weaker c.timestamp.result _ _
 
 pub returns-clause-arises : goal.returns-clause-arises
 returns-clause-arises g c = both_if_ok c.timestamp.result _ _ _
-    (λ turn asks on. on_beside g.S.ClientSide.arises g.S.ClientSide.holds c.args.self.now (record c.args.self.now { side = c.timestamp.new.self }) (λ n. n) turn
+    (λ turn asks on. on_beside g.S.ClientSide.arises g.S.ClientSide.holds c.args.self.now (record c.args.self.now { side = c.timestamp.new.self }) itself turn
     (asks_calls false c.args.client (g.S.ClientSide.sight c.args.self.now.side) (g.S.ClientSide.sight c.timestamp.new.self) turn (g.met.S.HeartHost.unbeaten c.args.self.now.side) (g.met.S.HeartHost.unbeaten c.timestamp.new.self) asks) refl on)
     c.timestamp.ensures.turn c.timestamp.ensures.arises
