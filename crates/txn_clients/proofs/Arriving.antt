@@ -28,7 +28,7 @@ use Rattle.txn_side.specs.declared.turn.Posting.{Posting}
 use Rattle.txn_trace.specs.Seeing.{seen}
 use Rattle.txn_tso.specs.Calling.{members}
 use Rattle.txn_tso.specs.Oracle.{Answer as Answered_to}
-use Rattle.txn_clients.specs.Arising.{AnswerArises, Anyhow, Arisen, CallStands, CanCome, HandsAll, JobMoves, KeepsPlan, Leads, LeadsEnded, LeadsPushed, MovesRow, RowFits, RowMoves, StandFits, StandMoves, askers_of, heard_by, pends_answer, postings_of, told_of}
+use Rattle.txn_clients.specs.Arising.{AnswerArises, Anyhow, Arisen, CallStands, CanCome, HandsAll, JobMoves, KeepsPlan, Leads, LeadsEnded, LeadsPushed, MovesRow, RowFits, RowMoves, StandFits, StandMoves, askers_of, heard_by, pends_answer, postings_of, told_of, TurnsBack, TurnsRow}
 use Rattle.txn_clients.specs.Clients.{nexts_of, row_at, rows_of, stands_of}
 use Rattle.txn_clients.specs.Failing.{outbox_of}
 use Rattle.txn_clients.specs.Growing.{drawn_grows, plans_in, some_run}
@@ -92,22 +92,22 @@ handed_so w s m u t told line client at new to answer sends ps qs is sent posts 
 module _ {P Q K A B D : Type 0} (w : Ways P Q K A B D) where
   -- What it answers
 
-  asked_arises : (told : Told) (s : Clients P Q K) (askers : Ticket → List ℕ) (rest : List Answered_to) (line : ℕ) (h later : List Event) (r : Row P Q K) (v : Result (ClientAnswer Pd P Q K) Error) → IsToldIn told (answers.Asked v) → Within h later
-      → Arisen w s askers (pends_answer line told rest) h → AnswerArises w askers line r (Some (answers.Asked v)) later
-  asked_arises told s askers rest line h later r (Ok (Begun b)) stamped within a = drawn_grows askers h later line (version_of b.start) within (drawn_told w told s askers rest line (version_of b.start) h (stamped (version_of b.start) refl) a)
-  asked_arises told s askers rest line h later r (Ok (Time t)) stamped within a = tt
-  asked_arises told s askers rest line h later r (Err e) stamped within a = tt
+  asked_arises : (turns : Type 0) (told : Told) (s : Clients P Q K) (askers : Ticket → List ℕ) (rest : List Answered_to) (line : ℕ) (h later : List Event) (r : Row P Q K) (v : Result (ClientAnswer Pd P Q K) Error) → IsToldIn told (answers.Asked v) → Within h later
+      → Arisen w s askers (pends_answer line told rest) h → AnswerArises w turns askers line r (Some (answers.Asked v)) later
+  asked_arises turns told s askers rest line h later r (Ok (Begun b)) stamped within a = drawn_grows askers h later line (version_of b.start) within (drawn_told w told s askers rest line (version_of b.start) h (stamped (version_of b.start) refl) a)
+  asked_arises turns told s askers rest line h later r (Ok (Time t)) stamped within a = tt
+  asked_arises turns told s askers rest line h later r (Err e) stamped within a = tt
 
-  asking_arises : (told : Told) (s : Clients P Q K) (askers : Ticket → List ℕ) (rest : List Answered_to) (line c : ℕ) (b : Bool) (h later : List Event) (r : Row P Q K) (answer : Option (Answer P Q K)) → IfSome answer (IsAnswerOf (Asking c b)) → IfSome answer (IsToldIn told) → Within h later
-      → Arisen w s askers (pends_answer line told rest) h → AnswerArises w askers line r answer later
-  asking_arises told s askers rest line c b h later r None kind stamped within a = tt
-  asking_arises told s askers rest line c b h later r (Some (answers.Asked v)) kind stamped within a = asked_arises told s askers rest line h later r v stamped within a
-  asking_arises told s askers rest line c b h later r (Some (answers.Called v)) kind stamped within a = absurd kind
+  asking_arises : (turns : Type 0) (told : Told) (s : Clients P Q K) (askers : Ticket → List ℕ) (rest : List Answered_to) (line c : ℕ) (b : Bool) (h later : List Event) (r : Row P Q K) (answer : Option (Answer P Q K)) → IfSome answer (IsAnswerOf (Asking c b)) → IfSome answer (IsToldIn told) → Within h later
+      → Arisen w s askers (pends_answer line told rest) h → AnswerArises w turns askers line r answer later
+  asking_arises turns told s askers rest line c b h later r None kind stamped within a = tt
+  asking_arises turns told s askers rest line c b h later r (Some (answers.Asked v)) kind stamped within a = asked_arises turns told s askers rest line h later r v stamped within a
+  asking_arises turns told s askers rest line c b h later r (Some (answers.Called v)) kind stamped within a = absurd kind
 
-  working_arises : (askers : Ticket → List ℕ) (line c : ℕ) (later : List Event) (r : Row P Q K) (answer : Option (Answer P Q K)) → IfSome answer (IsAnswerOf (Working c)) → AnswerArises w askers line r answer later
-  working_arises askers line c later r None kind = tt
-  working_arises askers line c later r (Some (answers.Asked v)) kind = absurd kind
-  working_arises askers line c later r (Some (answers.Called v)) kind = absurd kind
+  working_arises : (turns : Type 0) (askers : Ticket → List ℕ) (line c : ℕ) (later : List Event) (r : Row P Q K) (answer : Option (Answer P Q K)) → IfSome answer (IsAnswerOf (Working c)) → AnswerArises w turns askers line r answer later
+  working_arises turns askers line c later r None kind = tt
+  working_arises turns askers line c later r (Some (answers.Asked v)) kind = absurd kind
+  working_arises turns askers line c later r (Some (answers.Called v)) kind = absurd kind
 
   module _ (p : IsLawful w.prewriting) (q : IsLawful w.committing) (k : IsLawful w.rolling) where
     -- a commit that answers no timestamp hands out no job
@@ -115,15 +115,15 @@ module _ {P Q K A B D : Type 0} (w : Ways P Q K A B D) where
     no_job old new h job (inl (parts, whole, stands)) = stands
     no_job old new h job (inr (none, nothing)) = elim nothing [ inl e ↦ (cc) | inr e ↦ (cc) ]
 
-    stand_arises : (plans : ℕ → Plan) (askers : Ticket → List ℕ) (line c d m n : ℕ) (old new : Standing P Q K) (from to : Posted) (later : List Event) (answer : Option (Answer P Q K)) → IsRun plans later → IfSome answer (IsAnswerOf (HasBegun c m)) → KeepsPlan old new from to
-        → CallStands w old new answer later → AnswerArises w askers line (row.Begun d new n) answer later
-    stand_arises plans askers line c d m n old new from to later None run kind keeps stands = tt
-    stand_arises plans askers line c d m n old new from to later (Some (answers.Asked v)) run kind keeps stands = absurd kind
-    stand_arises plans askers line c d m n old new from to later (Some (answers.Called (Ok (answer.Committed (Some t) job)))) run kind keeps stands = stand_commits w p q k d n old new from to later t job keeps stands.0 stands.1
-    stand_arises plans askers line c d m n old new from to later (Some (answers.Called (Ok (answer.Committed None (Some job))))) run kind keeps stands = no_job old new later job stands.1
-    stand_arises plans askers line c d m n old new from to later (Some (answers.Called (Ok (answer.Committed None None)))) run kind keeps stands = stand_unlocks w p q k d n old new from to later keeps stands.0 stands.1
-    stand_arises plans askers line c d m n old new from to later (Some (answers.Called (Err e))) run kind keeps stands = settled_speaks plans later d n new e run stands
-    stand_arises plans askers line c d m n old new from to later (Some (answers.Called v)) run kind keeps stands = tt
+    stand_arises : (told : Told) (plans : ℕ → Plan) (askers : Ticket → List ℕ) (line c d m n : ℕ) (old new : Standing P Q K) (from to : Posted) (later : List Event) (answer : Option (Answer P Q K)) → IsRun plans later → IfSome answer (IsAnswerOf (HasBegun c m)) → KeepsPlan old new from to
+        → CallStands w told old new answer later → AnswerArises w (TurnsBack told new) askers line (row.Begun d new n) answer later
+    stand_arises told plans askers line c d m n old new from to later None run kind keeps stands = tt
+    stand_arises told plans askers line c d m n old new from to later (Some (answers.Asked v)) run kind keeps stands = absurd kind
+    stand_arises told plans askers line c d m n old new from to later (Some (answers.Called (Ok (answer.Committed (Some t) job)))) run kind keeps stands = stand_commits w p q k d n old new from to later t job keeps stands.0 stands.1
+    stand_arises told plans askers line c d m n old new from to later (Some (answers.Called (Ok (answer.Committed None (Some job))))) run kind keeps stands = no_job old new later job stands.1
+    stand_arises told plans askers line c d m n old new from to later (Some (answers.Called (Ok (answer.Committed None None)))) run kind keeps stands = stand_unlocks w p q k d n old new from to later keeps stands.0 stands.1
+    stand_arises told plans askers line c d m n old new from to later (Some (answers.Called (Err e))) run kind keeps stands = settled_speaks plans later d n new (TurnsBack told new) e run stands
+    stand_arises told plans askers line c d m n old new from to later (Some (answers.Called v)) run kind keeps stands = tt
 
     module _ (s t : Clients P Q K) (told : Told) (line client at : ℕ) (to : Posted) (said : Option (Answer P Q K)) (ps qs : List Posting) (es fs : List Ending) (inside : at < length (rows_of s)) (is : IsLine (stands_of (rows_of s)) line)
         (posted : qs ≡ ps ++ postings_of line to.sends) (ended : fs ≡ es) (stamped : IfSome said (IsToldIn told))
@@ -138,7 +138,7 @@ module _ {P Q K A B D : Type 0} (w : Ways P Q K A B D) where
       later = after line false hear to.sends
 
       abbrev Goal : Type 0
-      Goal = Leads w askers rest ps qs es fs (heard_by s) s t (seen ((told_of told (outbox_of line) r).hear h)) h (AnswerArises w askers line (row_at (rows_of t) at) said)
+      Goal = Leads w askers rest ps qs es fs (heard_by s) s t (seen ((told_of told (outbox_of line) r).hear h)) h (AnswerArises w (TurnsRow told (row_at (rows_of t) at)) askers line (row_at (rows_of t) at) said)
 
       now : Arisen w s askers rest hear
       now = heard w p q k told s askers rest line (nexts_of s) (asks_of s) r h may a
@@ -153,10 +153,10 @@ module _ {P Q K A B D : Type 0} (w : Ways P Q K A B D) where
       before old e = subst (RowFits w (rows_of s) from h) e (subst (λ n. RowFits w (rows_of s) (posted_at (nexts_of s) (asks_of s) n) h (row_at (rows_of s) at)) voiced (a.rows at))
 
       led : (new : Row P Q K) → Handed s t line client at (set (rows_of s) at new) to → voice at (stand_of new) ≡ line → (to.line ≡ line) × (to.beat ≡ false) → Rises w (rows_of s) line at new to hear
-          → (Arisen w t askers rest later → AnswerArises w askers line new said later) → Goal
-      led new handed voices own rises then = subst (λ g. Leads w askers rest ps qs es fs (heard_by s) s t (seen g) h (AnswerArises w askers line (row_at (rows_of t) at) said)) (hear_same told line (nexts_of s) (asks_of s) r h)
-          (leads_now w s t line client at new to hear inside handed rises voices own (AnswerArises w askers line (row_at (rows_of t) at) said) askers rest h ps qs es fs posted ended within now
-          (λ x. subst (λ y. AnswerArises w askers line y said later) (sym (ap (λ rs. row_at rs at) handed.rows ∙ or_same (rows_of s) at new row.Plain inside)) (then x)))
+          → (Arisen w t askers rest later → AnswerArises w (TurnsRow told new) askers line new said later) → Goal
+      led new handed voices own rises then = subst (λ g. Leads w askers rest ps qs es fs (heard_by s) s t (seen g) h (AnswerArises w (TurnsRow told (row_at (rows_of t) at)) askers line (row_at (rows_of t) at) said)) (hear_same told line (nexts_of s) (asks_of s) r h)
+          (leads_now w s t line client at new to hear inside handed rises voices own (AnswerArises w (TurnsRow told (row_at (rows_of t) at)) askers line (row_at (rows_of t) at) said) askers rest h ps qs es fs posted ended within now
+          (λ x. subst (λ y. AnswerArises w (TurnsRow told y) askers line y said later) (sym (ap (λ rs. row_at rs at) handed.rows ∙ or_same (rows_of s) at new row.Plain inside)) (then x)))
 
       voices_of : (old new : Row P Q K) → row_at (rows_of s) at ≡ old → stand_of new ≡ stand_of old → voice at (stand_of new) ≡ line
       voices_of old new e stand = ap (voice at) stand ∙ ap (λ x. voice at (stand_of x)) (sym e) ∙ voiced
@@ -168,7 +168,7 @@ module _ {P Q K A B D : Type 0} (w : Ways P Q K A B D) where
           let was : IsAt old.stage from h × (told_of told from r).known h = (before (row.Asking c b old) at_old, known) in
           led (row.Asking d e new) handed (voices_of (row.Asking c b old) (row.Asking d e new) at_old stand) (m.line, m.beat)
           (asking_rises w p q k (rows_of s) line at c d b e old new to hear at_old (subst (λ xs. Licensed MayAsk line false hear xs) (sym m.pushed) (m.licensed h was)) (subst (λ xs. IsAt new.stage to (after line false hear xs)) (sym m.pushed) (m.still h was)))
-          (λ x. asking_arises told s askers rest line c b h later (row.Asking d e new) said kind stamped (Within-trans h hear later within (Within-after line false hear to.sends)) a)
+          (λ x. asking_arises (TurnsRow told (row.Asking d e new)) told s askers rest line c b h later (row.Asking d e new) said kind stamped (Within-trans h hear later within (Within-after line false hear to.sends)) a)
 
       led_stand : (c d m n : ℕ) (old new : Standing P Q K) → row_at (rows_of s) at ≡ row.Begun c old m → StandMoves w told old new from to said → stand_of (row.Begun d new n) ≡ stand_of (row.Begun c old m)
           → IfSome said (IsAnswerOf (HasBegun c m)) → Handed s t line client at (set (rows_of s) at (row.Begun d new n)) to → Goal
@@ -178,7 +178,7 @@ module _ {P Q K A B D : Type 0} (w : Ways P Q K A B D) where
           let fits = subst (λ xs. StandFits w new to (after line false hear xs)) (sym x.pushed) (x.still h was) in
           led (row.Begun d new n) handed (voices_of (row.Begun c old m) (row.Begun d new n) at_old stand) (x.line, x.beat)
           (stand_rises w p q k (rows_of s) line at c d m n old new from to hear inside now.apart at_old refl moves.keeps (subst (λ xs. Licensed (MaySendFor old.contents (version_of old.start)) line false hear xs) (sym x.pushed) (x.licensed h was)) fits)
-          (λ y. stand_arises (plans_in (rows_of t)) askers line c d m n old new from to later said (some_run w t askers rest later y) kind moves.keeps (subst (λ xs. CallStands w old new said (after line false hear xs)) (sym x.pushed) (x.stands h was)))
+          (λ y. stand_arises told (plans_in (rows_of t)) askers line c d m n old new from to later said (some_run w t askers rest later y) kind moves.keeps (subst (λ xs. CallStands w told old new said (after line false hear xs)) (sym x.pushed) (x.stands h was)))
 
       led_working : (c d : ℕ) (old new : SecondaryJob Q) → row_at (rows_of s) at ≡ row.Working c old → JobMoves w.committing w.uncommitted told old new from to → stand_of {P = P} {Q = Q} {K = K} (row.Working d new) ≡ stand_of {P = P} {Q = Q} {K = K} (row.Working c old)
           → IfSome said (IsAnswerOf (Working c)) → Handed s t line client at (set (rows_of s) at (row.Working d new)) to → Goal
@@ -191,7 +191,7 @@ module _ {P Q K A B D : Type 0} (w : Ways P Q K A B D) where
           (working_rises w p q k (rows_of s) line at c d behind.0 old new from to h hear inside now.apart at_old job moves.start
           (subst (λ xs. Licensed (MaySendBehind (plan_of job.parts) (version_of old.start)) line false hear xs) (sym x.pushed) (x.licensed h was))
           (subst (λ xs. JobFits w.committing w.uncommitted (plan_of job.parts) job.parts.secondaries new to (after line false hear xs)) (sym x.pushed) (x.still h was)))
-          (λ y. working_arises askers line c later (row.Working d new) said kind)
+          (λ y. working_arises (TurnsRow {P = P} {Q = Q} {K = K} told (row.Working d new)) askers line c later (row.Working d new) said kind)
 
       silent : (old : Row P Q K) → row_at (rows_of s) at ≡ old → voice at (stand_of old) ≡ 0 → Goal
       silent old e none = absurd (let one = is.first in let v : voice at (stand_of old) ≡ line = ap (λ x. voice at (stand_of x)) (sym e) ∙ voiced in omega (arith, one, v, none))
@@ -235,5 +235,5 @@ module _ {P Q K A B D : Type 0} (w : Ways P Q K A B D) where
     pub job_leads : (s t : Clients P Q K) (line client c : ℕ) (said : Option (Answer P Q K)) (ps qs : List Posting) (es fs : List Ending) → IsLine (stands_of (rows_of s)) line → stand_of (row_at (rows_of s) (line - 1)) ≡ Working c
         → LeadsPushed w tells.Start line (line - 1) client said ps qs es fs s t → client_at (stand_at (stands_of (rows_of s)) line) ≡ Some client → LeadsEnded w (λ askers h. ⊤) ps qs es fs s t
     job_leads s t line client c said ps qs es fs is job pushed own askers rest h came a =
-        leads_weaker w askers rest ps qs es fs (heard_by s) s t (seen h) h (AnswerArises w askers line (row_at (rows_of t) (line - 1)) said) Anyhow (λ g x. tt)
+        leads_weaker w askers rest ps qs es fs (heard_by s) s t (seen h) h (AnswerArises w (TurnsRow tells.Start (row_at (rows_of t) (line - 1))) askers line (row_at (rows_of t) (line - 1)) said) Anyhow (λ g x. tt)
         (pushed askers rest h members (job_heard (rows_of s) line client c is own job) tt a)

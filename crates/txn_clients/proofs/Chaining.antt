@@ -11,6 +11,7 @@ use Rattle.txn_history.specs.Event.Event.{Lost}
 use Rattle.txn_history.specs.Posted.{Within, Within-refl, Within-trans}
 use Rattle.txn_commit.specs.Committing.{Ways}
 use Rattle.txn_report.specs.declared.outcome.Outcome.{Outcome}
+use Rattle.txn_side.specs.Doubt.{CallOf, itself}
 use Rattle.txn_side.specs.Arising.{answered_at, with_posting, with_postings}
 use Rattle.txn_side.specs.Sight.{AskEnds, CallEnds, LineGoes, Stand, StaysOrEnds, outcomes_of, stand_at}
 use Rattle.txn_side.specs.Sight.Stand.{Asking, Calling, HasBegun, Idle, IsClient, Past, Working}
@@ -23,8 +24,9 @@ use Rattle.txn_clients.specs.Growing.{right_same}
 use Rattle.txn_clients.specs.Clients.{rows_of, stands_of}
 use Rattle.txn_clients.specs.declared.clients.Clients.{Clients}
 use Rattle.txn_clients.specs.declared.row.Row.{Row}
-use Rattle.txn_clients.proofs.Doubting.{end_speaks_on, none_lost}
+use Rattle.txn_clients.proofs.Doubting.{end_speaks_on, none_lost, shown_front}
 use Rattle.txn_clients.proofs.Sights.{HasSettled, ask_settles, outcomes_append}
+use Rattle.txn_clients.specs.First.{Front}
 
 -- What is posted, in two parts
 
@@ -53,17 +55,17 @@ ended_some (x ∷ es) e i = by (λ j. ended_some es e j) (nat_eq x.line e.line) 
 
 -- What answers a line stands where it stood, where the line ends later.
 
-settled_own : (n c : ℕ) (s : Stand) → HasSettled c s → answered_at n s ≡ n
+settled_own : (n c : ℕ) (s : Stand) → HasSettled c s → answered_at n s ≡ itself n
 settled_own n c s (inl e) = ap (answered_at n) e
 settled_own n c s (inr (inl e)) = ap (answered_at n) e
 settled_own n c s (inr (inr e)) = ap (answered_at n) e
 
-ask_own : (n c : ℕ) (b : Bool) (os : List Outcome) (mid : Stand) → StaysOrEnds (Asking c b) (AskEnds c b) os mid → answered_at n mid ≡ n
+ask_own : (n c : ℕ) (b : Bool) (os : List Outcome) (mid : Stand) → StaysOrEnds (Asking c b) (AskEnds c b) os mid → answered_at n mid ≡ itself n
 ask_own n c b [] mid h = ap (answered_at n) h
 ask_own n c b (o ∷ []) mid h = settled_own n c mid (ask_settles c b o mid h)
 ask_own n c b (o ∷ p ∷ os) mid h = absurd h
 
-call_own : (n c x : ℕ) (b : Bool) (os more : List Outcome) (o : Outcome) (mid new : Stand) → StaysOrEnds (Calling c x b) (CallEnds c b) os mid → StaysOrEnds (Calling c x b) (CallEnds c b) (os ++ o ∷ more) new → answered_at n mid ≡ x
+call_own : (n c x : ℕ) (b : Bool) (os more : List Outcome) (o : Outcome) (mid new : Stand) → StaysOrEnds (Calling c x b) (CallEnds c b) os mid → StaysOrEnds (Calling c x b) (CallEnds c b) (os ++ o ∷ more) new → answered_at n mid ≡ record { at = x; commits = b }
 call_own n c x b [] more o mid new h k = ap (answered_at n) h
 call_own n c x b (p ∷ []) more o mid new h k = absurd k
 call_own n c x b (p ∷ q ∷ os) more o mid new h k = absurd h
@@ -96,37 +98,37 @@ module _ {P Q K : Type 0} where
 
   -- What ended right
 
-  pub ends_none : (at : ℕ → ℕ) (t : Clients P Q K) (h : List Event) (es fs : List Ending) → fs ≡ es → EndsRight at t h es fs
+  pub ends_none : (at : ℕ → CallOf) (t : Clients P Q K) (h : List Event) (es fs : List Ending) → fs ≡ es → EndsRight at t h es fs
   ends_none at t h es fs e = record { more = []; ended = e ∙ sym (append-nil es); each = All-nil _; doubts = All-nil _ }
 
-  pub ends_at : (at later_at : ℕ → ℕ) (t : Clients P Q K) (h : List Event) (es fs : List Ending) → (f : EndsRight later_at t h es fs) → ((e : Ending) → IsAmong f.more e → later_at e.line ≡ at e.line) → EndsRight at t h es fs
+  pub ends_at : (at later_at : ℕ → CallOf) (t : Clients P Q K) (h : List Event) (es fs : List Ending) → (f : EndsRight later_at t h es fs) → ((e : Ending) → IsAmong f.more e → later_at e.line ≡ at e.line) → EndsRight at t h es fs
   ends_at at later_at t h es fs f same = record {
     more = f.more;
     ended = f.ended;
-    each = all_by (λ (e : Ending). HoldsAt (rows_of t) h (later_at e.line) e.outcome) (λ (e : Ending). HoldsAt (rows_of t) h (at e.line) e.outcome) f.more (λ e i right. subst (λ x. HoldsAt (rows_of t) h x e.outcome) (same e i) right) f.each;
+    each = all_by (λ (e : Ending). HoldsAt (rows_of t) h (later_at e.line).at e.outcome) (λ (e : Ending). HoldsAt (rows_of t) h (at e.line).at e.outcome) f.more (λ e i right. subst (λ (x : CallOf). HoldsAt (rows_of t) h x.at e.outcome) (same e i) right) f.each;
     doubts = all_by (λ (e : Ending). EndSpeaks (rows_of t) h (later_at e.line) e.line e.outcome) (λ (e : Ending). EndSpeaks (rows_of t) h (at e.line) e.line e.outcome) f.more (λ e i speaks. subst (λ x. EndSpeaks (rows_of t) h x e.line e.outcome) (same e i) speaks) f.doubts;
   }
 
   -- it stays right, where no loss is new
-  pub ends_on : (at : ℕ → ℕ) (s t : Clients P Q K) (h longer : List Event) (es fs : List Ending) → Within h longer → ((u : Ticket) (r : Request) → Has longer (Lost u r) → Has h (Lost u r)) → KeepRight (rows_of s) (rows_of t) → EndsRight at s h es fs → EndsRight at t longer es fs
-  ends_on at s t h longer es fs within unlost kept f = record {
+  pub ends_on : (at : ℕ → CallOf) (s t : Clients P Q K) (h longer : List Event) (es fs : List Ending) → Within h longer → ((u : Ticket) (r : Request) → Has longer (Lost u r) → Has h (Lost u r)) → Front (seen h) (seen longer) → KeepRight (rows_of s) (rows_of t) → EndsRight at s h es fs → EndsRight at t longer es fs
+  ends_on at s t h longer es fs within unlost front kept f = record {
     more = f.more;
     ended = f.ended;
-    each = All-weaker (λ (e : Ending). HoldsAt (rows_of s) h (at e.line) e.outcome) (λ (e : Ending). HoldsAt (rows_of t) longer (at e.line) e.outcome) (λ e right. kept (at e.line) e.outcome h longer within right) f.more f.each;
-    doubts = All-weaker (λ (e : Ending). EndSpeaks (rows_of s) h (at e.line) e.line e.outcome) (λ (e : Ending). EndSpeaks (rows_of t) longer (at e.line) e.line e.outcome) (λ e speaks. end_speaks_on h longer within unlost (rows_of s) (rows_of t) (at e.line) e.line e.outcome kept speaks) f.more f.doubts;
+    each = All-weaker (λ (e : Ending). HoldsAt (rows_of s) h (at e.line).at e.outcome) (λ (e : Ending). HoldsAt (rows_of t) longer (at e.line).at e.outcome) (λ e right. kept (at e.line).at e.outcome h longer within right) f.more f.each;
+    doubts = All-weaker (λ (e : Ending). EndSpeaks (rows_of s) h (at e.line) e.line e.outcome) (λ (e : Ending). EndSpeaks (rows_of t) longer (at e.line) e.line e.outcome) (λ e speaks. end_speaks_on h longer within unlost front (rows_of s) (rows_of t) (at e.line) e.line e.outcome kept speaks) f.more f.doubts;
   }
 
-  pub ends_then : (at : ℕ → ℕ) (t : Clients P Q K) (h : List Event) (es fs gs : List Ending) → EndsRight at t h es fs → EndsRight at t h fs gs → EndsRight at t h es gs
+  pub ends_then : (at : ℕ → CallOf) (t : Clients P Q K) (h : List Event) (es fs gs : List Ending) → EndsRight at t h es fs → EndsRight at t h fs gs → EndsRight at t h es gs
   ends_then at t h es fs gs f g = record {
     more = f.more ++ g.more;
     ended = g.ended ∙ ap (λ xs. xs ++ g.more) f.ended ∙ append_assoc es f.more g.more;
-    each = All-append (λ (e : Ending). HoldsAt (rows_of t) h (at e.line) e.outcome) f.more g.more f.each g.each;
+    each = All-append (λ (e : Ending). HoldsAt (rows_of t) h (at e.line).at e.outcome) f.more g.more f.each g.each;
     doubts = All-append (λ (e : Ending). EndSpeaks (rows_of t) h (at e.line) e.line e.outcome) f.more g.more f.doubts g.doubts;
   }
 
   module _ {A B D : Type 0} (w : Ways P Q K A B D) where
     -- nothing is done
-    pub leads_nothing : (askers : Ticket → List ℕ) (rest : List Answered) (ps : List Posting) (es : List Ending) (at : ℕ → ℕ) (s : Clients P Q K) (h : List Event) → Arisen w s askers rest h → Leads w askers rest ps ps es es at s s (seen h) h Anyhow
+    pub leads_nothing : (askers : Ticket → List ℕ) (rest : List Answered) (ps : List Posting) (es : List Ending) (at : ℕ → CallOf) (s : Clients P Q K) (h : List Event) → Arisen w s askers rest h → Leads w askers rest ps ps es es at s s (seen h) h Anyhow
     leads_nothing askers rest ps es at s h arisen = record {
       later = h;
       more = [];
@@ -140,7 +142,7 @@ module _ {P Q K : Type 0} where
     }
 
     -- one part after another, where the lines that end in the second are answered where they stood before the first
-    pub leads_then : (askers more_askers : Ticket → List ℕ) (rest left : List Answered) (ps qs rs : List Posting) (es fs gs : List Ending) (at later_at : ℕ → ℕ) (s m t : Clients P Q K) (shown h : List Event) (First Then : List Event → Type 0)
+    pub leads_then : (askers more_askers : Ticket → List ℕ) (rest left : List Answered) (ps qs rs : List Posting) (es fs gs : List Ending) (at later_at : ℕ → CallOf) (s m t : Clients P Q K) (shown h : List Event) (First Then : List Event → Type 0)
         → (f : Leads w askers rest ps qs es fs at s m shown h First) (g : Leads w more_askers left qs rs fs gs later_at m t (seen f.later) f.later Then)
         → ((e : Ending) → IsAmong g.ends.more e → later_at e.line ≡ at e.line)
         → Leads w more_askers left ps rs es gs at s t shown h Then
@@ -152,12 +154,12 @@ module _ {P Q K : Type 0} where
       within = Within-trans h f.later g.later f.within g.within;
       arisen = g.arisen;
       kept = kept_then (rows_of s) (rows_of m) (rows_of t) f.kept g.kept;
-      ends = ends_then at t g.later es fs gs (ends_on at m t f.later g.later es fs g.within (none_lost g.more f.later g.later g.shows) g.kept f.ends) (ends_at at later_at t g.later fs gs g.ends same);
+      ends = ends_then at t g.later es fs gs (ends_on at m t f.later g.later es fs g.within (none_lost g.more f.later g.later g.shows) (shown_front g.more f.later g.later g.shows) g.kept f.ends) (ends_at at later_at t g.later fs gs g.ends same);
       then = g.then;
     }
 
     -- and where none ends in the second
-    pub leads_unended : (askers more_askers : Ticket → List ℕ) (rest left : List Answered) (ps qs rs : List Posting) (es fs gs : List Ending) (at later_at : ℕ → ℕ) (s m t : Clients P Q K) (shown h : List Event) (First Then : List Event → Type 0)
+    pub leads_unended : (askers more_askers : Ticket → List ℕ) (rest left : List Answered) (ps qs rs : List Posting) (es fs gs : List Ending) (at later_at : ℕ → CallOf) (s m t : Clients P Q K) (shown h : List Event) (First Then : List Event → Type 0)
         → gs ≡ fs → (f : Leads w askers rest ps qs es fs at s m shown h First) (g : Leads w more_askers left qs rs fs gs later_at m t (seen f.later) f.later Then)
         → Leads w more_askers left ps rs es gs at s t shown h Then
     leads_unended askers more_askers rest left ps qs rs es fs gs at later_at s m t shown h First Then e f g = record {
@@ -168,12 +170,12 @@ module _ {P Q K : Type 0} where
       within = Within-trans h f.later g.later f.within g.within;
       arisen = g.arisen;
       kept = kept_then (rows_of s) (rows_of m) (rows_of t) f.kept g.kept;
-      ends = subst (EndsRight at t g.later es) (sym e) (ends_on at m t f.later g.later es fs g.within (none_lost g.more f.later g.later g.shows) g.kept f.ends);
+      ends = subst (EndsRight at t g.later es) (sym e) (ends_on at m t f.later g.later es fs g.within (none_lost g.more f.later g.later g.shows) (shown_front g.more f.later g.later g.shows) g.kept f.ends);
       then = g.then;
     }
 
     -- a part of which more was known before, and less is asked after it
-    pub leads_from : (askers : Ticket → List ℕ) (rest : List Answered) (ps qs : List Posting) (es fs : List Ending) (at : ℕ → ℕ) (s m t : Clients P Q K) (shown h k : List Event) (Then Then' : List Event → Type 0)
+    pub leads_from : (askers : Ticket → List ℕ) (rest : List Answered) (ps qs : List Posting) (es fs : List Ending) (at : ℕ → CallOf) (s m t : Clients P Q K) (shown h k : List Event) (Then Then' : List Event → Type 0)
         → Within h k → KeepRight (rows_of s) (rows_of m) → ((later : List Event) → Then later → Then' later) → Leads w askers rest ps qs es fs at m t shown k Then → Leads w askers rest ps qs es fs at s t shown h Then'
     leads_from askers rest ps qs es fs at s m t shown h k Then Then' within kept weaker f = record {
       later = f.later;
@@ -188,7 +190,7 @@ module _ {P Q K : Type 0} where
     }
 
     -- what answers a line stands there under another name
-    pub leads_at : (askers : Ticket → List ℕ) (rest : List Answered) (ps qs : List Posting) (es fs : List Ending) (at later_at : ℕ → ℕ) (s t : Clients P Q K) (shown h : List Event) (Then : List Event → Type 0)
+    pub leads_at : (askers : Ticket → List ℕ) (rest : List Answered) (ps qs : List Posting) (es fs : List Ending) (at later_at : ℕ → CallOf) (s t : Clients P Q K) (shown h : List Event) (Then : List Event → Type 0)
         → (f : Leads w askers rest ps qs es fs later_at s t shown h Then) → ((e : Ending) → IsAmong f.ends.more e → later_at e.line ≡ at e.line) → Leads w askers rest ps qs es fs at s t shown h Then
     leads_at askers rest ps qs es fs at later_at s t shown h Then f same = record {
       later = f.later;

@@ -1,5 +1,5 @@
--- What a transaction keeps of its history when a call of another line begins: what explains no error, and the Commits that were lost.
--- The reply to a Commit is taken as one without error, since only that there was one counts then.
+-- What a transaction keeps of its history when a call of another line begins: what explains no error. The reply to a Commit is taken as
+-- one without error, since only that there was one counts then.
 use Rattle.std.proofs.Common.{◌≡◌, ◌≢◌, ◌⊎◌, inl, inr, suc, ℕ, Bool, true, false, List, [], ◌∷◌, Option, Some, None, refl, sym, ap, ◌∙◌, subst, arith}
 use Rattle.std.specs.Prelude.{◌&&◌, is_none, Ok, Err}
 use Rattle.txn_kv.specs.Timestamp.{version_of}
@@ -21,7 +21,7 @@ use Rattle.txn_commit.specs.Following.{Commits, KnowsCommits, WasRefused, is_com
 use Rattle.txn_commit.specs.Sending.{plan_of}
 use Rattle.txn_commit.specs.declared.commit_parts.CommitParts.{CommitParts}
 use Rattle.txn_core.specs.Going.{IsUnsent, KnowsParts, NamesReady}
-use Rattle.txn_side.specs.Trace.{AreOwn, IsCommit, IsHarmless, IsOwn, IsShown, Trace, refused_asks}
+use Rattle.txn_side.specs.Trace.{AreOwn, IsHarmless, IsOwn, IsShown, Trace, refused_asks}
 use Rattle.txn_clients.specs.Failing.{ShownIn}
 use Rattle.txn_clients.specs.Waiting.{IsKept}
 
@@ -49,14 +49,10 @@ kept_took u r o true b = Some (Took u r (fine r))
 kept_took u r o false true = Some (Took u r o)
 kept_took u r o false false = None
 
-abbrev kept_lost : Ticket → Request → Bool → Option Event
-kept_lost u r true = Some (Lost u r)
-kept_lost u r false = None
-
 -- what is kept of an event
 abbrev keep : Event → Option Event
 keep (Took u r o) = kept_took u r o (is_commit r) (is_fine r o)
-keep (Lost u r) = kept_lost u r (is_commit r)
+keep (Lost u r) = None
 keep (Answered ask (Err e)) = None
 keep e = Some e
 
@@ -137,16 +133,9 @@ took_kept u r o x k = by (is_commit r) refl (is_fine r o) refl k
     by false b true g e = (o, sym (some_same (Took u r o) x e), fine_harmless r o g)
     by false b false g e = none_some x e
 
-lost_kept : (u : Ticket) (r : Request) (x : Event) → keep (Lost u r) ≡ Some x → (x ≡ Lost u r) × (is_commit r ≡ true)
-lost_kept u r x k = by (is_commit r) refl k
-  where
-    by : (b : Bool) → is_commit r ≡ b → kept_lost u r b ≡ Some x → (x ≡ Lost u r) × (is_commit r ≡ true)
-    by true b e = (sym (some_same (Lost u r) x e), b)
-    by false b e = none_some x e
-
 kept_as : (e x : Event) → keep e ≡ Some x → IsKeptAs e x
 kept_as (Took u r o) x k = let t = took_kept u r o x k in inr (u, r, t.0, t.1, t.2)
-kept_as (Lost u r) x k = let l = lost_kept u r x k in inl (sym l.0)
+kept_as (Lost u r) x k = none_some x k
 kept_as (Answered ask (Err e)) x k = none_some x k
 kept_as (Answered ask (Ok t)) x k = inl (some_same (Answered ask (Ok t)) x k)
 kept_as (Sent u r) x k = inl (some_same (Sent u r) x k)
@@ -181,13 +170,9 @@ kept_cleaned nexts h k = record {
 }
 
 -- it explains an error of no line
-commit_is : (r : Request) → is_commit r ≡ true → IsCommit r
-commit_is (Commit r) e = tt
-commit_is _ e = absurd (cc)
-
 own_kept : (line : ℕ) (e x : Event) → keep e ≡ Some x → IsOwn line x
 own_kept line (Took u r o) x k = let t = took_kept u r o x k in subst (IsOwn line) (sym t.1) (inr t.2)
-own_kept line (Lost u r) x k = let l = lost_kept u r x k in subst (IsOwn line) (sym l.0) (inr (commit_is r l.1))
+own_kept line (Lost u r) x k = none_some x k
 own_kept line (Answered ask (Err e)) x k = none_some x k
 own_kept line (Answered ask (Ok t)) x k = subst (IsOwn line) (some_same (Answered ask (Ok t)) x k) tt
 own_kept line (Sent u r) x k = subst (IsOwn line) (some_same (Sent u r) x k) tt
@@ -212,7 +197,7 @@ refused_pushed (Some x) h none counts = counts x refl ∙ none
 
 refused_kept : (e x : Event) (h : List Event) → keep e ≡ Some x → refused_asks (x ∷ h) ≡ refused_asks h
 refused_kept (Took u r o) x h k = let t = took_kept u r o x k in ap (λ y. refused_asks (y ∷ h)) t.1
-refused_kept (Lost u r) x h k = let l = lost_kept u r x k in ap (λ y. refused_asks (y ∷ h)) l.0
+refused_kept (Lost u r) x h k = none_some x k
 refused_kept (Answered ask (Err e)) x h k = none_some x k
 refused_kept (Answered ask (Ok t)) x h k = ap (λ y. refused_asks (y ∷ h)) (sym (some_same (Answered ask (Ok t)) x k))
 refused_kept (Sent u r) x h k = ap (λ y. refused_asks (y ∷ h)) (sym (some_same (Sent u r) x k))
@@ -304,7 +289,7 @@ module _ (plan : Plan) (s : ℕ) where
     named = λ d n. k.named d (named_back h d n);
     since = λ t e. named_forth h (version_of t) (k.since t e);
     waiting = λ t i. let p = k.waiting t i in (p.0, sent_forth h t (Commit p.0) p.1, p.2);
-    losing = λ t e. let p = k.losing t e in (p.0, forth h (Lost t (Commit p.0)) (Lost t (Commit p.0)) refl p.1, p.2);
+    losing = λ t e. let p = k.losing t e in (p.0, sent_forth h t (Commit p.0) p.1, p.2);
     all = λ t r sent primary. answered t r (k.all t r (sent_back h t (Commit r) sent) primary);
   }
     where

@@ -70,7 +70,7 @@ pub group_came : {P Q K : Type 0} (before t : Trace) (s : Clients P Q K) (client
 group_came before t s client u event e came group out =
     let same = group_ticket (book_at s client).ticket _ group u e (sym (group_there s.clients.items client) ∙ out) in
     let fact = came.group group (client, out) same in
-    (fact.among, (fact.request, subst (λ v. Has t.events (event v (Tso fact.request))) (sym same) fact.come))
+    (fact.among, (fact.request, subst (λ v. Has t.events (event v (Tso fact.request))) (sym same) fact.come), came.now ∙ ap (λ v. Some v) (sym same))
 
 -- how often a line is told of it
 times_both : (lines more : List ℕ) (n : ℕ) → times_in (lines ++ more) n ≡ times_in lines n + times_in more n

@@ -33,6 +33,7 @@ use Rattle.txn_side.specs.Sight.{next_at, stand_at}
 use Rattle.txn_side.specs.Sight.Stand.{Asking, Calling, HasBegun, Idle}
 use Rattle.txn_side.specs.declared.turn.Ending.{Ending}
 use Rattle.txn_side.specs.declared.turn.Posting.{Posting}
+use Rattle.txn_side.specs.Doubt.{CallOf, itself}
 use Rattle.txn_trace.specs.Answering.{OracleFits}
 use Rattle.txn_trace.specs.Drawing.{IsDrawn}
 use Rattle.txn_trace.specs.Posting.{IsFreshFor}
@@ -51,6 +52,7 @@ use Rattle.txn_clients.specs.declared.answer.Answer.TheVariants as answers
 use Rattle.txn_clients.specs.declared.clients.Clients.{Clients}
 use Rattle.txn_clients.specs.declared.row.Row.{Row}
 use Rattle.txn_clients.specs.declared.row.Row.TheVariants as row
+use Rattle.txn_clients.proofs.Marking.{no_mark}
 use Rattle.txn_clients.proofs.Chaining.{kept_then}
 use Rattle.txn_clients.proofs.Doubting.{speaks_line, speaks_own, speaks_waits}
 use Rattle.txn_clients.proofs.Going.{none_ordered}
@@ -199,7 +201,7 @@ module _ {P Q K : Type 0} where
       where
         no : Asking d b ≡ HasBegun c m → ⊥
         no f = cc
-    rest_row n c m rows news o p h (row.Begun d t i) e rests x = (x.0, rest_fits t o p h rests x.1, x.2)
+    rest_row n c m rows news o p h (row.Begun d t i) e rests x = (x.0, rest_fits t o p h rests x.1, x.2, x.3)
     rest_row n c m rows news o p h (row.Calling d y b) e rests x = tt
     rest_row n c m rows news o p h (row.Past d) e rests x = tt
     rest_row n c m rows news o p h (row.Working d job) e rests x = absurd (cc)
@@ -258,14 +260,14 @@ module _ {P Q K A B D : Type 0} (w : Ways P Q K A B D) where
   begun_leaves : (askers : Ticket → List ℕ) (h : List Event) (line c : ℕ) (b : Standing P Q K) (options : TransactionOptions) (now : ℕ) → b ≡ begun b.start options now → IsDrawn askers h line (version_of b.start) → IsUncommitted (version_of b.start) h → Leaves askers h line (row.Begun c b 0) (outcomes.Ok (payloads.Number (version_of b.start)))
   begun_leaves askers h line c b options now e drawn never = record {
     drawn = λ v same. subst (IsDrawn askers h line) same drawn;
-    fits = λ rows p. subst (λ (y : Standing P Q K). StandFits w y p h) (sym e) (none_ordered _, begun_fits w b.start options now p h (draw_given askers h line (version_of b.start) drawn) never, refl);
+    fits = λ rows p. subst (λ (y : Standing P Q K). StandFits w y p h) (sym e) (none_ordered _, begun_fits w b.start options now p h (draw_given askers h line (version_of b.start) drawn) never, refl, λ parts whole u lost. no_mark u lost);
     right = refl;
   }
 
   past_leaves : (askers : Ticket → List ℕ) (h : List Event) (line c : ℕ) (r : Row P Q K) (o : Outcome) → r ≡ row.Past c → HoldsOf {P = P} {Q = Q} {K = K} h o (row.Past c) → Leaves askers h line r o
   past_leaves askers h line c r o e right = subst (λ y. Leaves askers h line y o) (sym e) (record { drawn = λ v x. absurd x; fits = λ rows p. tt; right = right })
 
-  ask_leaves : (askers : Ticket → List ℕ) (h : List Event) (line c : ℕ) (v : Result (ClientAnswer Pd P Q K) Error) (r : Row P Q K) (o : Outcome) → AskLeaves c v r o → IsNewAnswer {P = P} {Q = Q} {K = K} (answers.Asked v) → AnswerArises w askers line row.Plain (Some (answers.Asked v)) h
+  ask_leaves : (askers : Ticket → List ℕ) (h : List Event) (line c : ℕ) (v : Result (ClientAnswer Pd P Q K) Error) (r : Row P Q K) (o : Outcome) → AskLeaves c v r o → IsNewAnswer {P = P} {Q = Q} {K = K} (answers.Asked v) → AnswerArises w ⊥ askers line row.Plain (Some (answers.Asked v)) h
       → ((n : ℕ) → IsDrawn askers h line n → IsUncommitted n h) → Leaves askers h line r o
   ask_leaves askers h line c (Ok (Begun b)) r o (e, f) (options, now, new) came never =
       subst (λ y. Leaves askers h line y o) (sym e) (subst (Leaves askers h line (row.Begun c b 0)) (sym f) (begun_leaves askers h line c b options now new came (never (version_of b.start) came)))
@@ -273,8 +275,8 @@ module _ {P Q K A B D : Type 0} (w : Ways P Q K A B D) where
   ask_leaves askers h line c (Err why) r o (e, f) new came never = past_leaves askers h line c r o e (subst (λ y. HoldsOf {P = P} {Q = Q} {K = K} h y (row.Past c)) (sym f) tt)
 
   -- one call ends
-  ended_one : (askers : Ticket → List ℕ) (rest : List Answered) (s t : Clients P Q K) (h : List Event) (line x : ℕ) (o : Outcome) (ps : List Posting) (es fs : List Ending) → heard_by s line ≡ x → fs ≡ es ++ record { line = line; outcome = o } ∷ []
-      → Arisen w t askers rest h → KeepRight (rows_of s) (rows_of t) → HoldsAt (rows_of t) h x o → EndSpeaks (rows_of t) h x line o → Leads w askers rest ps ps es fs (heard_by s) s t (seen h) h Anyhow
+  ended_one : (askers : Ticket → List ℕ) (rest : List Answered) (s t : Clients P Q K) (h : List Event) (line : ℕ) (x : CallOf) (o : Outcome) (ps : List Posting) (es fs : List Ending) → heard_by s line ≡ x → fs ≡ es ++ record { line = line; outcome = o } ∷ []
+      → Arisen w t askers rest h → KeepRight (rows_of s) (rows_of t) → HoldsAt (rows_of t) h x.at o → EndSpeaks (rows_of t) h x line o → Leads w askers rest ps ps es fs (heard_by s) s t (seen h) h Anyhow
   ended_one askers rest s t h line x o ps es fs heard ended a kept right speaks = record {
     later = h;
     more = [];
@@ -286,7 +288,7 @@ module _ {P Q K A B D : Type 0} (w : Ways P Q K A B D) where
     ends = record {
       more = record { line = line; outcome = o } ∷ [];
       ended = ended;
-      each = All-cons (λ (e : Ending). HoldsAt (rows_of t) h (heard_by s e.line) e.outcome) (record { line = line; outcome = o }) [] (subst (λ n. HoldsAt (rows_of t) h n o) (sym heard) right) (All-nil (λ (e : Ending). HoldsAt (rows_of t) h (heard_by s e.line) e.outcome));
+      each = All-cons (λ (e : Ending). HoldsAt (rows_of t) h (heard_by s e.line).at e.outcome) (record { line = line; outcome = o }) [] (subst (λ (n : CallOf). HoldsAt (rows_of t) h n.at o) (sym heard) right) (All-nil (λ (e : Ending). HoldsAt (rows_of t) h (heard_by s e.line).at e.outcome));
       doubts = All-cons (λ (e : Ending). EndSpeaks (rows_of t) h (heard_by s e.line) e.line e.outcome) (record { line = line; outcome = o }) [] (subst (λ n. EndSpeaks (rows_of t) h n line o) (sym heard) speaks) (All-nil (λ (e : Ending). EndSpeaks (rows_of t) h (heard_by s e.line) e.line e.outcome));
     };
     then = tt;
@@ -295,9 +297,9 @@ module _ {P Q K A B D : Type 0} (w : Ways P Q K A B D) where
   -- the call for a timestamp that stands at a line ends
   pub ask_ends : (s t : Clients P Q K) (line c : ℕ) (b : Bool) (call : ClientCall Pd P Q K) (r : Row P Q K) (o : Outcome) (v : Result (ClientAnswer Pd P Q K) Error) (ps : List Posting) (es fs : List Ending) → IsLine (stands_of (rows_of s)) line → row_at (rows_of s) (line - 1) ≡ row.Asking c b call
       → rows_of t ≡ set (rows_of s) (line - 1) r → nexts_of t ≡ nexts_of s → asks_of t ≡ asks_of s → t.clients ≡ s.clients → AskLeaves c v r o → fs ≡ es ++ record { line = line; outcome = o } ∷ [] → IsNewAnswer {P = P} {Q = Q} {K = K} (answers.Asked v)
-      → LeadsEnded w (λ askers h. AnswerArises w askers line row.Plain (Some (answers.Asked v)) h) ps ps es fs s t
+      → LeadsEnded w (λ askers h. AnswerArises w ⊥ askers line row.Plain (Some (answers.Asked v)) h) ps ps es fs s t
   ask_ends s t line c b call r o v ps es fs is there rows nexts asks clients leaves ended new askers rest h came a =
-      ended_one askers rest s t h line line o ps es fs (ap (answered_at line) (stands_at (rows_of s) line (row.Asking c b call) is there)) ended
+      ended_one askers rest s t h line (itself line) o ps es fs (ap (answered_at line) (stands_at (rows_of s) line (row.Asking c b call) is there)) ended
       (arisen_set w s t askers rest h (line - 1) r within rows nexts asks clients
       (unended_replaced w askers h (line - 1) (row_at (rows_of s) (line - 1)) r unended (λ n x. subst (λ m. IsDrawn askers h m n) (sym (hears_own line is.first)) (left.drawn n x)))
       (left.fits (set (rows_of s) (line - 1) r) (posted_at (nexts_of s) (asks_of s) (voice (line - 1) (stand_of r)))) a)
@@ -321,12 +323,12 @@ module _ {P Q K A B D : Type 0} (w : Ways P Q K A B D) where
   jobless options start contents c h job (inr (e, inr f)) = cc
 
   -- the job that a call of a transaction left is behind the transaction
-  job_fits : (askers : Ticket → List ℕ) (h : List Event) (line c n x : ℕ) (v : Result (TxnAnswer Q) Error) (r mine : Row P Q K) (rows : List (Row P Q K)) (p : Posted) → CallLeaves c v r → AnswerArises w askers line mine (Some (answers.Called v)) h → row_at rows x ≡ with_waits n mine → RowFits w rows p h r
-  job_fits askers h line c n x (Ok (answer.Committed (Some t) (Some job))) r mine rows p e came here = subst (RowFits w rows p h) (sym e) (x, subst (IsBehind w job p h) (sym here) (waits_behind w n job p h mine (came.1 p)))
-  job_fits askers h line c n x (Ok (answer.Committed None (Some job))) r mine rows p e came here = absurd came
-  job_fits askers h line c n x (Ok (answer.Committed t None)) r mine rows p e came here = subst (RowFits w rows p h) (sym e) tt
-  job_fits askers h line c n x (Ok v) r mine rows p e came here = subst (RowFits w rows p h) (sym e) tt
-  job_fits askers h line c n x (Err why) r mine rows p e came here = subst (RowFits w rows p h) (sym e) tt
+  job_fits : (askers : Ticket → List ℕ) (h : List Event) (line c n x : ℕ) (v : Result (TxnAnswer Q) Error) (r mine : Row P Q K) (rows : List (Row P Q K)) (p : Posted) → CallLeaves c v r → (turns : Type 0) → AnswerArises w turns askers line mine (Some (answers.Called v)) h → row_at rows x ≡ with_waits n mine → RowFits w rows p h r
+  job_fits askers h line c n x (Ok (answer.Committed (Some t) (Some job))) r mine rows p e turns came here = subst (RowFits w rows p h) (sym e) (x, subst (IsBehind w job p h) (sym here) (waits_behind w n job p h mine (came.1 p)))
+  job_fits askers h line c n x (Ok (answer.Committed None (Some job))) r mine rows p e turns came here = absurd came
+  job_fits askers h line c n x (Ok (answer.Committed t None)) r mine rows p e turns came here = subst (RowFits w rows p h) (sym e) tt
+  job_fits askers h line c n x (Ok v) r mine rows p e turns came here = subst (RowFits w rows p h) (sym e) tt
+  job_fits askers h line c n x (Err why) r mine rows p e turns came here = subst (RowFits w rows p h) (sym e) tt
 
   job_unstarted : (c : ℕ) (v : Result (TxnAnswer Q) Error) (r : Row P Q K) → CallLeaves c v r → (n : ℕ) → HasStart n r → ⊥
   job_unstarted c (Ok (answer.Committed t (Some job))) r e n x = subst (HasStart n) e x
@@ -334,20 +336,20 @@ module _ {P Q K A B D : Type 0} (w : Ways P Q K A B D) where
   job_unstarted c (Ok v) r e n x = subst (HasStart n) e x
   job_unstarted c (Err why) r e n x = subst (HasStart n) e x
 
-  called_holds : (askers : Ticket → List ℕ) (h : List Event) (line : ℕ) (b : Bool) (v : Result (TxnAnswer Q) Error) (r : Row P Q K) → AnswerArises w askers line r (Some (answers.Called v)) h → HoldsOf h (outcome_by b v) r
-  called_holds askers h line b (Err e) r came = tt
-  called_holds askers h line true (Ok (answer.Committed (Some t) (Some job))) r came = came.0
-  called_holds askers h line true (Ok (answer.Committed (Some t) None)) r came = came.0
-  called_holds askers h line true (Ok (answer.Committed None None)) r came = came
-  called_holds askers h line true (Ok (answer.Committed None (Some job))) r came = absurd came
-  called_holds askers h line false (Ok (answer.Committed t job)) r came = tt
-  called_holds askers h line true (Ok answer.Unit) r came = tt
-  called_holds askers h line false (Ok answer.Unit) r came = tt
-  called_holds askers h line true (Ok v) r came = tt
-  called_holds askers h line false (Ok v) r came = tt
+  called_holds : (askers : Ticket → List ℕ) (h : List Event) (line : ℕ) (b : Bool) (v : Result (TxnAnswer Q) Error) (r : Row P Q K) (turns : Type 0) → AnswerArises w turns askers line r (Some (answers.Called v)) h → HoldsOf h (outcome_by b v) r
+  called_holds askers h line b (Err e) r turns came = tt
+  called_holds askers h line true (Ok (answer.Committed (Some t) (Some job))) r turns came = came.0
+  called_holds askers h line true (Ok (answer.Committed (Some t) None)) r turns came = came.0
+  called_holds askers h line true (Ok (answer.Committed None None)) r turns came = came
+  called_holds askers h line true (Ok (answer.Committed None (Some job))) r turns came = absurd came
+  called_holds askers h line false (Ok (answer.Committed t job)) r turns came = tt
+  called_holds askers h line true (Ok answer.Unit) r turns came = tt
+  called_holds askers h line false (Ok answer.Unit) r turns came = tt
+  called_holds askers h line true (Ok v) r turns came = tt
+  called_holds askers h line false (Ok v) r turns came = tt
 
-  called_speaks : (askers : Ticket → List ℕ) (h : List Event) (line x : ℕ) (b : Bool) (v : Result (TxnAnswer Q) Error) (mine : Row P Q K) (rows : List (Row P Q K)) → 1 ≤ x → row_at rows (x - 1) ≡ with_waits 0 mine → AnswerArises w askers line mine (Some (answers.Called v)) h → EndSpeaks rows h x line (outcome_by b v)
-  called_speaks askers h line x b (Err e) mine rows one here came = λ apart. speaks_line rows h x e one (subst (SpeaksRight h e) (sym here) (speaks_waits 0 h e mine came))
+  called_speaks : (askers : Ticket → List ℕ) (h : List Event) (line x : ℕ) (b : Bool) (v : Result (TxnAnswer Q) Error) (mine : Row P Q K) (rows : List (Row P Q K)) → 1 ≤ x → row_at rows (x - 1) ≡ with_waits 0 mine → AnswerArises w (b ≡ false) askers line mine (Some (answers.Called v)) h → EndSpeaks rows h (record { at = x; commits = b }) line (outcome_by b v)
+  called_speaks askers h line x b (Err e) mine rows one here came = λ apart. speaks_line rows h x (b ≡ false) e one (subst (SpeaksRight h (b ≡ false) e) (sym here) (speaks_waits 0 h (b ≡ false) e mine came))
   called_speaks askers h line x true (Ok (answer.Committed t job)) mine rows one here came = tt
   called_speaks askers h line x false (Ok (answer.Committed t job)) mine rows one here came = tt
   called_speaks askers h line x true (Ok answer.Unit) mine rows one here came = tt
@@ -364,17 +366,17 @@ module _ {P Q K A B D : Type 0} (w : Ways P Q K A B D) where
       → rows_of t ≡ set (rows_of m) (line - 1) r → nexts_of t ≡ nexts_of m → asks_of t ≡ asks_of m → t.clients ≡ m.clients → CallLeaves c v r → o ≡ outcome_by b v → fs ≡ es ++ record { line = line; outcome = o } ∷ []
       → LeadsEnded w (CallCame w s line (Some (answers.Called v))) ps ps es fs s t
   call_ends s m t line x c d b r o v ps es fs is there waits rests rows_m nexts_m asks_m clients_m rows nexts asks clients leaves outcome ended askers rest h came a =
-      ended_one askers rest s t h line x o ps es fs (ap (answered_at line) calls) ended
+      ended_one askers rest s t h line (record { at = x; commits = b }) o ps es fs (ap (answered_at line) calls) ended
       (arisen_set w m t askers rest h (line - 1) r within_m rows nexts asks clients
       (unended_replaced w askers h (line - 1) (row_at (rows_of m) (line - 1)) r unended (λ n y. absurd (job_unstarted c v r leaves n y)))
-      (job_fits askers h line c 0 (x - 1) v r mine (set (rows_of m) (line - 1) r) (posted_at (nexts_of m) (asks_of m) (voice (line - 1) (stand_of r))) leaves here (or_other (rows_of m) (line - 1) (x - 1) r row.Plain apart ∙ mine_m))
+      (job_fits askers h line c 0 (x - 1) v r mine (set (rows_of m) (line - 1) r) (posted_at (nexts_of m) (asks_of m) (voice (line - 1) (stand_of r))) leaves (b ≡ false) here (or_other (rows_of m) (line - 1) (x - 1) r row.Plain apart ∙ mine_m))
       first)
       (kept_then (rows_of s) (rows_of m) (rows_of t)
       (subst (KeepRight (rows_of s)) (sym rows_m) (right_waits (rows_of s) (x - 1) 0 within_x))
       (subst (KeepRight (rows_of m)) (sym rows) (right_unended (rows_of m) (line - 1) r within_m unended)))
       (subst (λ rs. HoldsAt rs h x o) (sym rows) (holds_line (set (rows_of m) (line - 1) r) h x o at.first
-      (subst (HoldsOf h o) (sym (or_other (rows_of m) (line - 1) (x - 1) r row.Plain apart ∙ mine_m)) (waits_holds 0 h o mine (subst (λ y. HoldsOf h y mine) (sym outcome) (called_holds askers h line b v mine here))))))
-      (subst (λ y. EndSpeaks (rows_of t) h x line y) (sym outcome) (called_speaks askers h line x b v mine (rows_of t) at.first (ap (λ rs. row_at rs (x - 1)) rows ∙ or_other (rows_of m) (line - 1) (x - 1) r row.Plain apart ∙ mine_m) here))
+      (subst (HoldsOf h o) (sym (or_other (rows_of m) (line - 1) (x - 1) r row.Plain apart ∙ mine_m)) (waits_holds 0 h o mine (subst (λ y. HoldsOf h y mine) (sym outcome) (called_holds askers h line b v mine (b ≡ false) here))))))
+      (subst (λ y. EndSpeaks (rows_of t) h (record { at = x; commits = b }) line y) (sym outcome) (called_speaks askers h line x b v mine (rows_of t) at.first (ap (λ rs. row_at rs (x - 1)) rows ∙ or_other (rows_of m) (line - 1) (x - 1) r row.Plain apart ∙ mine_m) here))
     where
       mine : Row P Q K
       mine = row_at (rows_of s) (x - 1)
@@ -412,7 +414,7 @@ module _ {P Q K A B D : Type 0} (w : Ways P Q K A B D) where
       unended : IsUnended (row_at (rows_of m) (line - 1))
       unended = subst IsUnended (sym (ap (λ rs. row_at rs (line - 1)) rows_m ∙ or_other (rows_of s) (x - 1) (line - 1) (with_waits 0 mine) row.Plain (λ e. apart (sym e)) ∙ there)) tt
 
-      here : AnswerArises w askers line mine (Some (answers.Called v)) h
+      here : AnswerArises w (b ≡ false) askers line mine (Some (answers.Called v)) h
       here = came c x b calls
 
       first : Arisen w m askers rest h

@@ -22,7 +22,7 @@ use Rattle.txn_history.specs.Event.Event.{Lost, Took}
 use Rattle.txn_law.proofs.Among.{map_among}
 use Rattle.txn_plan.specs.declared.arrival.Arrival.TheVariants as arrivals
 use Rattle.txn_side.specs.Sight.{Group}
-use Rattle.txn_side.specs.Trace.{HasFailed, IsRefusedIn, Refuses, Trace, and_refused, given_none, refused_as, with_posted}
+use Rattle.txn_side.specs.Trace.{HasFailed, IsRefusedNow, Refuses, Trace, and_refused, given_none, refused_as, with_posted}
 use Rattle.txn_side.specs.Trace.{refused_by as refused_lines}
 use Rattle.txn_side.specs.declared.turn.Ending.{Ending}
 use Rattle.txn_side.specs.declared.turn.Posting.{Posting}
@@ -75,14 +75,14 @@ times_refuse o oracle given e =
 
 -- What those are told who asked
 
-repacked : (t : Trace) (lines : List ℕ) (ps : List Posting) (line : ℕ) (e : Error) → IsRefusedIn t line e → IsRefusedIn (with_posted ps (record t { owed = lines ++ t.owed })) line e
-repacked t lines ps line e r = record { group = r.group; among = r.among; asker = r.asker; request = r.request; failed = r.failed }
+repacked : (t : Trace) (lines : List ℕ) (ps : List Posting) (line : ℕ) (e : Error) → IsRefusedNow t line e → IsRefusedNow (with_posted ps (record t { owed = lines ++ t.owed })) line e
+repacked t lines ps line e n = let r = n.refused in record { refused = record { group = r.group; among = r.among; asker = r.asker; request = r.request; failed = r.failed }; now = n.now }
 
 -- it has happened
 pub given_came : (trace : Option Trace) (lines : List ℕ) (ps : List Posting) (given : List Answer) (asker : Asker) (v : Result Timestamp Error) → AreGivenIn trace given → IsAmong given (asker, v) → CameIn (posting_in ps (owing_all lines trace)) (outbox_of asker.line) (arrivals.Time asker.ask v)
 given_came None lines ps given asker v all among = tt
 given_came (Some t) lines ps given asker v all among =
-    weaker (IsRefusedIn t asker.line) (IsRefusedIn (with_posted ps (record t { owed = lines ++ t.owed })) asker.line) v (λ e r. repacked t lines ps asker.line e r) (among_so (λ (a : Answer). IfFails (IsRefusedIn t a.0.line) a.1) given (asker, v) all among)
+    weaker (IsRefusedNow t asker.line) (IsRefusedNow (with_posted ps (record t { owed = lines ++ t.owed })) asker.line) v (λ e r. repacked t lines ps asker.line e r) (among_so (λ (a : Answer). IfFails (IsRefusedNow t a.0.line) a.1) given (asker, v) all among)
 
 -- What is still to be told of their asks
 
@@ -178,11 +178,14 @@ all_among P (x ∷ xs) f = All-cons P x xs (f x (inl refl)) (all_among P xs (λ 
 
 -- an answer of the request that is out, where that failed so
 refused_one : (t : Trace) (event : Ticket → Request → Event) (Why : Error → Type 0) (asked : ℕ) → ((u : Ticket) (r : TsoRequest) (e : Error) → Has t.events (event u (Tso r)) → Why e → HasFailed t.events u r asked e)
-    → (group : Group) (came : IsAmong t.groups group × ((r : TsoRequest) × Has t.events (event group.ticket (Tso r)))) → asked ≡ length group.askers → (line : ℕ) → IsAmong group.askers line → (v : Result Timestamp Error) → IfFails Why v → IfFails (IsRefusedIn t line) v
+    → (group : Group) (came : IsAmong t.groups group × ((r : TsoRequest) × Has t.events (event group.ticket (Tso r))) × (t.came ≡ Some group.ticket)) → asked ≡ length group.askers → (line : ℕ) → IsAmong group.askers line → (v : Result Timestamp Error) → IfFails Why v → IfFails (IsRefusedNow t line) v
 refused_one t event Why asked failed group came all line among (Ok x) h = tt
 refused_one t event Why asked failed group came all line among (Err e) h =
     let fact = came.1 in
-    record { group = group; among = came.0; asker = among; request = fact.0; failed = subst (λ (n : ℕ). HasFailed t.events group.ticket fact.0 n e) all (failed group.ticket fact.0 e fact.1 h) }
+    record {
+      refused = record { group = group; among = came.0; asker = among; request = fact.0; failed = subst (λ (n : ℕ). HasFailed t.events group.ticket fact.0 n e) all (failed group.ticket fact.0 e fact.1 h) };
+      now = came.2;
+    }
 
 module _ {P Q K : Type 0} where
   -- all of them are told why, where the request that is out was lost, or its reply was taken
@@ -190,7 +193,7 @@ module _ {P Q K : Type 0} where
       → ((u : Trace) (x : Ticket) (r : TsoRequest) (e : Error) → Has u.events (event x (Tso r)) → Why e → HasFailed u.events x r (length given) e)
       → Takes client given s t → IsPaired (book_at s client) → GroupCameIn trace (get_or (groups_of s) client None) event → All (Fails Why) given → AreGivenIn trace given
   given_in None s t client event Why given failed takes paired came all = tt
-  given_in (Some u) s t client event Why given failed takes paired came all = all_among (λ (a : Answer). IfFails (IsRefusedIn u a.0.line) a.1) given (λ a i. one a (among_so (Fails Why) given a all i) (asks a i))
+  given_in (Some u) s t client event Why given failed takes paired came all = all_among (λ (a : Answer). IfFails (IsRefusedNow u a.0.line) a.1) given (λ a i. one a (among_so (Fails Why) given a all i) (asks a i))
     where
       out : List Asker
       out = group_or_none (book_at s client).out
@@ -201,12 +204,12 @@ module _ {P Q K : Type 0} where
       long : length given ≡ length (lines_in out)
       long = sym (length-map given (λ (b : Answer). b.0)) ∙ ap length takes.askers ∙ sym (length-map out (λ (b : Asker). b.line))
 
-      there : IsThere (book_at s client).ticket → (a : Answer) → IfFails Why a.1 → IsAmong out a.0 → IfFails (IsRefusedIn u a.0.line) a.1
+      there : IsThere (book_at s client).ticket → (a : Answer) → IfFails Why a.1 → IsAmong out a.0 → IfFails (IsRefusedNow u a.0.line) a.1
       there (ticket, e) a h i =
           let group : Group = record { ticket = ticket; askers = lines_in out } in
           refused_one u event Why (length given) (failed u) group (came group (group_there s.clients.items client ∙ ap (λ o. group_by o (lines_in out)) e)) long a.0.line (map_among (λ (b : Asker). b.line) out a.0 i) a.1 h
 
-      one : (a : Answer) → IfFails Why a.1 → IsAmong out a.0 → IfFails (IsRefusedIn u a.0.line) a.1
+      one : (a : Answer) → IfFails Why a.1 → IsAmong out a.0 → IfFails (IsRefusedNow u a.0.line) a.1
       one a h i = elim paired [ inl none ↦ absurd (subst (λ o. IsAmong (group_or_none o) a.0) none i) | inr ticket ↦ there ticket a h i ]
 
   -- its reply was taken

@@ -33,6 +33,7 @@ use Rattle.txn_side.specs.Trace.{Trace}
 use Rattle.txn_clients.specs.Accounts.{account_of}
 use Rattle.txn_clients.specs.Failing.{CameIn, CountedIn, KnowsAsk, RetriesIn, owing}
 use Rattle.txn_clients.specs.Resting.{row_longer}
+use Rattle.txn_clients.proofs.Marking.{no_mark}
 use Rattle.txn_clients.proofs.Calls.{call_later, call_rests, no_answer}
 use Rattle.txn_clients.proofs.Showing.{longer_then, owing_longer, own_times, shown_times}
 use Rattle.txn_clients.proofs.Standing.{stand_later}
@@ -165,6 +166,7 @@ pub begun_arises : {P Q K A B D : Type 0} (w : Ways P Q K A B D) (b : Standing P
 begun_arises w b options now trace at o nexts e retries none = subst (StandArises w trace at o nexts) (sym e) (record {
   ordered = none_ordered _;
   retries = subst (λ (t : Standing _ _ _). RetriesIn trace at t.options.retry_options) e retries;
+  marked = λ parts whole u lost. no_mark u lost;
   arisen = record {
     history = given;
     fits = begun_fits w b.start options now o given was never;

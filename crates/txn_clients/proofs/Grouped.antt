@@ -33,6 +33,7 @@ use Rattle.txn_commit.specs.declared.secondary_job.SecondaryJob.{SecondaryJob}
 use Rattle.txn_core.specs.Others.{IsBeside}
 use Rattle.txn_core.proofs.Others.{adds_event, others_fit}
 use Rattle.txn_client.specs.Calls.{called-lawful}
+use Rattle.txn_side.specs.Doubt.{CallOf}
 use Rattle.txn_side.specs.Sight.{Goes, LineGoes, next_at, stand_at}
 use Rattle.txn_side.specs.declared.turn.Ending.{Ending}
 use Rattle.txn_side.specs.declared.turn.Posting.{Posting}
@@ -50,6 +51,7 @@ use Rattle.txn_tso.specs.Oracle.{Answer, Oracle, answered, answers, askers_out, 
 use Rattle.txn_tso.specs.declared.asker.Asker.{Asker}
 use Rattle.txn_clients.specs.Arising.{Anyhow, Arisen, GroupsNext, HasStart, HavePlans, IsBehind, Leads, LeadsGiven, LeadsGroup, LeadsSent, PostsGroup, RowFits, heard_by, oracle_of, ticket_or}
 use Rattle.txn_clients.specs.Clients.{crashed_of, nexts_of, row_at, rows_of, sight_of, stands_of}
+use Rattle.txn_clients.specs.First.{first_front}
 use Rattle.txn_clients.specs.Groups.{IsError, IsRefused}
 use Rattle.txn_clients.specs.Rows.{Pd}
 use Rattle.txn_clients.specs.Waiting.{Book, IsRisen, SendsGroup, Takes, asks_of, blank, book_at, book_of, posted_at, voice_at}
@@ -157,7 +159,7 @@ module _ {P Q K A B D : Type 0} (w : Ways P Q K A B D) where
     row_on rows o p h e row.Plain l beside f = tt
     row_on rows o p h e (row.Client c) l beside f = tt
     row_on rows o p h e (row.Asking c b call) l beside f = (called-lawful {C = Pd} {P = P} {Q = Q} {K = K}).fits_longer call o p h (e ∷ h) l (Within-one e h) f
-    row_on rows o p h e (row.Begun c t m) l beside f = (f.0, others_fit w prewriting committing rolling t o p h (e ∷ h) l (adds_event (version_of t.start) e h (beside (version_of t.start))) f.1, f.2)
+    row_on rows o p h e (row.Begun c t m) l beside f = (f.0, others_fit w prewriting committing rolling t o p h (e ∷ h) l (adds_event (version_of t.start) e h (beside (version_of t.start))) f.1, f.2, λ parts whole u lost. first_front (version_of t.start) parts.primary h (e ∷ h) u (e ∷ [], refl) (f.3 parts whole u lost))
     row_on rows o p h e (row.Calling c x b) l beside f = tt
     row_on rows o p h e (row.Past c) l beside f = tt
     row_on rows o p h e (row.Working c job) l beside f = (f.0, behind_on job o p h (e ∷ h) (row_at rows f.0) l (Within-one e h) f.1)
@@ -357,7 +359,7 @@ module _ {P Q K A B D : Type 0} (w : Ways P Q K A B D) where
             others u (λ same. unused sent.0 (subst (λ v. Has h (Sent v sent.0)) (sym same) sent.1)) ∙ f.draws.groups c u group ticketed grouped
 
     -- or none does
-    pub none_sends : (s t : Clients P Q K) (client : ℕ) (ps : List Posting) (es : List Ending) (at : ℕ → ℕ) → GroupsNext None (book_at s client) (book_at t client) → ((c : ℕ) → c ≢ client → book_at t c ≡ book_at s c)
+    pub none_sends : (s t : Clients P Q K) (client : ℕ) (ps : List Posting) (es : List Ending) (at : ℕ → CallOf) → GroupsNext None (book_at s client) (book_at t client) → ((c : ℕ) → c ≢ client → book_at t c ≡ book_at s c)
         → rows_of t ≡ rows_of s → nexts_of t ≡ nexts_of s → asks_of t ≡ asks_of s → LeadsSent w ps ps es es at s t
     none_sends s t client ps es at next books rows nexts asks askers h f = (
       askers,
@@ -378,7 +380,7 @@ module _ {P Q K A B D : Type 0} (w : Ways P Q K A B D) where
         same c (inl e) = ap (book_at t) e ∙ next.none refl ∙ ap (book_at s) (sym e)
         same c (inr apart) = books c apart
 
-    pub group_sends : (s m t : Clients P Q K) (client : ℕ) (request : TsoRequest) (lines : List ℕ) (ps qs : List Posting) (es fs : List Ending) (at : ℕ → ℕ) → GroupsNext (Some request) (book_at s client) (book_at m client) → ((c : ℕ) → c ≢ client → book_at m c ≡ book_at s c)
+    pub group_sends : (s m t : Clients P Q K) (client : ℕ) (request : TsoRequest) (lines : List ℕ) (ps qs : List Posting) (es fs : List Ending) (at : ℕ → CallOf) → GroupsNext (Some request) (book_at s client) (book_at m client) → ((c : ℕ) → c ≢ client → book_at m c ≡ book_at s c)
         → rows_of m ≡ rows_of s → nexts_of m ≡ nexts_of s → asks_of m ≡ asks_of s → SendsGroup client ps qs m t → PostsGroup client request lines ps qs t → rows_of t ≡ rows_of m → fs ≡ es → LeadsSent w ps qs es fs at s t
     group_sends s m t client request lines ps qs es fs at next books rows nexts asks sends posts rows_too ended askers h f =
         let noted = map (λ (a : Asker). a.line) (group_or_none (book_at t client).out) in (

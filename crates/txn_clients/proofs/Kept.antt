@@ -61,7 +61,7 @@ sent_or_not (e ∷ h) t = by (sent_here e t) (sent_or_not h t)
     by (inr other) (inr never) = inr (λ r i. elim i [ inl x ↦ other r x | inr y ↦ never r y ])
 
 -- what is out of the Commits was sent
-out_among : (t : Ticket) (ts : List Ticket) → list_any (λ u. same_ticket u t) ts ≡ true → IsAmong ts t
+pub out_among : (t : Ticket) (ts : List Ticket) → list_any (λ u. same_ticket u t) ts ≡ true → IsAmong ts t
 out_among t [] h = falsely h
 out_among t (x ∷ ts) h = by (same_ticket x t) refl h (out_among t ts)
   where

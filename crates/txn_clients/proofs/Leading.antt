@@ -26,6 +26,7 @@ use Rattle.txn_commit.specs.Committing.{Ways}
 use Rattle.txn_commit.specs.Sending.{MaySend}
 use Rattle.txn_commit.specs.declared.secondary_job.SecondaryJob.{SecondaryJob}
 use Rattle.txn_report.specs.declared.outcome.Outcome.{Outcome}
+use Rattle.txn_side.specs.Doubt.{CallOf}
 use Rattle.txn_side.specs.Arising.{with_postings}
 use Rattle.txn_side.specs.Sight.{next_at}
 use Rattle.txn_side.specs.declared.turn.Ending.{Ending}
@@ -365,7 +366,7 @@ module _ {P Q K A B D : Type 0} (w : Ways P Q K A B D) (s t : Clients P Q K) (li
 
 -- Parts of a step
 
-module _ {P Q K A B D : Type 0} (w : Ways P Q K A B D) (askers : Ticket → List ℕ) (rest : List Answered_to) (ps qs : List Posting) (es fs : List Ending) (where_it_stands : ℕ → ℕ) (s t : Clients P Q K) where
+module _ {P Q K A B D : Type 0} (w : Ways P Q K A B D) (askers : Ticket → List ℕ) (rest : List Answered_to) (ps qs : List Posting) (es fs : List Ending) (where_it_stands : ℕ → CallOf) (s t : Clients P Q K) where
   pub leads_weaker : (shown h : List Event) (Then More : List Event → Type 0) → ((g : List Event) → Then g → More g) → Leads w askers rest ps qs es fs where_it_stands s t shown h Then → Leads w askers rest ps qs es fs where_it_stands s t shown h More
   leads_weaker shown h Then More weaker l = record {
     later = l.later;
@@ -380,7 +381,7 @@ module _ {P Q K A B D : Type 0} (w : Ways P Q K A B D) (askers : Ticket → List
   }
 
 -- nothing is done
-pub leads_nothing : {P Q K A B D : Type 0} (w : Ways P Q K A B D) (askers : Ticket → List ℕ) (rest : List Answered_to) (ps : List Posting) (es : List Ending) (where_it_stands : ℕ → ℕ) (s : Clients P Q K) (h : List Event) → Arisen w s askers rest h
+pub leads_nothing : {P Q K A B D : Type 0} (w : Ways P Q K A B D) (askers : Ticket → List ℕ) (rest : List Answered_to) (ps : List Posting) (es : List Ending) (where_it_stands : ℕ → CallOf) (s : Clients P Q K) (h : List Event) → Arisen w s askers rest h
     → Leads w askers rest ps ps es es where_it_stands s s (seen h) h Anyhow
 leads_nothing w askers rest ps es where_it_stands s h a = record {
   later = h;

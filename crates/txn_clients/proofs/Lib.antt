@@ -38,6 +38,8 @@ pub mod Rising
 pub mod Arriving
 pub mod Unmoved
 pub mod Shown
+pub mod Marking
+pub mod Turning
 pub mod Moving
 pub mod MovingRows
 pub mod Doubting

@@ -32,11 +32,13 @@ use Rattle.txn_trace.proofs.Lines.{IsLicensedInRun}
 use Rattle.txn_tso.specs.Calling.{members}
 use Rattle.txn_clients.specs.Arising.{StandFits, HasPlan, HasStart, HoldsOf, IsBehind, IsCommittedSo, IsCommittedUnlocked, KeepsPlan, RowFits}
 use Rattle.txn_clients.specs.Clients.{row_at}
+use Rattle.txn_clients.specs.First.{first_front}
 use Rattle.txn_clients.specs.Growing.{AddsNoCommit, AreApart, commits_before, job_grows, row_grows, row_stays}
 use Rattle.txn_clients.specs.Rows.{Pd}
 use Rattle.txn_clients.specs.declared.row.Row.{Row}
 use Rattle.txn_clients.specs.declared.row.Row.TheVariants as row
 use Rattle.txn_clients.proofs.Leading.{Rises, locks_before, may_ask, may_transact, none_commits}
+use Rattle.txn_clients.proofs.Marking.{after_front}
 use Rattle.txn_clients.proofs.Stands.{or_other, or_same, same_line}
 
 -- A call for a timestamp asks for nothing but the members.
@@ -121,7 +123,7 @@ module _ {P Q K A B D : Type 0} (w : Ways P Q K A B D) (p : IsLawful w.prewritin
     behind = λ job o g x. stand_behind c d m n old new from to job o g keeps (subst (IsBehind w job o g) was x);
     right = λ o g x. stand_right c d m n old new from to o g keeps (subst (HoldsOf g o) was x);
     licensed = λ plans have. stand_licensed line d n old new from to plans h empty keeps (subst (HasPlan plans) here (have at)) licensed;
-    fits = λ later l. (fits.0, others_fit w p q k new to later _ _ l (adds_same _ (after line false h to.sends)) fits.1, fits.2);
+    fits = λ later l. (fits.0, others_fit w p q k new to later _ _ l (adds_same _ (after line false h to.sends)) fits.1, fits.2, fits.3);
     others = λ i other o later l f. row_grows w p q k olds o later h (after line false h to.sends) (row_at olds i) l (Within-after line false h to.sends)
         (λ v b. others_add old.contents v (version_of old.start) line false h to.sends (λ e. other (apart i at v b (subst (HasStart v) (sym was) e))) licensed) f;
     owns = λ t r i. elim (commits_own old.contents (version_of old.start) line false h to.sends t r licensed i) [
@@ -159,6 +161,7 @@ module _ {P Q K A B D : Type 0} (w : Ways P Q K A B D) (p : IsLawful w.prewritin
       others_fit_still w p q k t parts u later g (after line false g sends) closed whole l
           (job_adds (plan_of parts) (version_of t.start) line false g sends (subst (λ v. Licensed (MaySendBehind (plan_of parts) v) line false g sends) (sym start) licensed)) f.1,
       f.2,
+      λ whole' own u' e. first_front (version_of t.start) whole'.primary g (after line false g sends) u' (after_front line false g sends) (f.3 whole' own u' e),
     );
   }
   has_job job o h (row.Calling c x y) b = absurd b

@@ -2,15 +2,19 @@
 use Rattle.std.proofs.Common.{◌≡◌, inl, inr, ℕ, suc, ◌+◌, Bool, true, false, if◌then◌else◌, List, [], ◌∷◌, ◌++◌, nat_eq, arith, Option, Some, None, refl, sym, ap, ◌∙◌, subst, append-nil, append_assoc}
 use Rattle.std.proofs.lemmas.Bool.Decides.{nat_tests}
 use Rattle.std.specs.List.{All, Any}
-use Rattle.std.specs.Prelude.{⊤, Result, Ok, Err}
+use Rattle.std.specs.Prelude.{IfSome, ⊤, Result, Ok, Err}
 use Rattle.txn_kv.specs.ErrorView.{view_of}
+use Rattle.txn_kv.specs.ErrorView.ErrorView.{undetermined as not_known}
 use Rattle.txn_kv.specs.Timestamp.{version_of}
 use Rattle.txn_kv.specs.declared.errors.Error.{Error}
+use Rattle.txn_kv.specs.declared.errors.Error.TheVariants.{GrpcAPI, InternalError}
+use Rattle.txn_kv.specs.declared.errors.Internal.{Internal}
+use Rattle.txn_kv.specs.declared.errors.Internal.TheVariants.{OracleCount, OracleEmpty, OracleLost}
 use Rattle.txn_kv.specs.declared.outbox.Errand.TheVariants.{Ask, Send, Sleep}
 use Rattle.txn_kv.specs.declared.reply.Reply.TheVariants as replies
 use Rattle.txn_kv.specs.declared.reply.TsoResponse.{TsoResponse}
 use Rattle.txn_kv.specs.declared.request.Request.{Request}
-use Rattle.txn_kv.specs.declared.request.Request.TheVariants.{Tso}
+use Rattle.txn_kv.specs.declared.request.Request.TheVariants.{Commit, Tso}
 use Rattle.txn_kv.specs.declared.request.TsoRequest.{TsoRequest}
 use Rattle.txn_kv.specs.declared.ticket.Target.{Target}
 use Rattle.txn_kv.specs.declared.ticket.Ticket.{Ticket}
@@ -29,6 +33,7 @@ use Rattle.txn_plan.specs.declared.arrival.Arrival.{Arrival}
 use Rattle.txn_plan.specs.declared.arrival.Arrival.TheVariants as arrivals
 use Rattle.txn_buffer.specs.Contents.{Contents}
 use Rattle.txn_commit.specs.Committing.{Ways}
+use Rattle.txn_commit.proofs.Following.{IsNoSending, knows_more}
 use Rattle.txn_commit.specs.Following.{Commits, KnowsCommits, none_sent}
 use Rattle.txn_commit.specs.Parts.{parts_of}
 use Rattle.txn_commit.specs.Sending.{plan_of}
@@ -41,16 +46,17 @@ use Rattle.txn_core.specs.declared.transaction.Work.TheVariants.{Idle, Open, Gav
 use Rattle.txn_core.specs.declared.txn_answer.TxnAnswer.{TxnAnswer}
 use Rattle.txn_side.specs.Account.{Account, refusal}
 use Rattle.txn_side.specs.declared.act.Act.{Act}
-use Rattle.txn_side.specs.Trace.{fails_longer, AreOwn, EndsFor, HasRefused, HasRefusedBeside, IsLonger, IsOwn, IsSend, IsShown, Trace, IsBegunAs, and_refused, refused_asks, times_in}
+use Rattle.txn_side.specs.Trace.{fails_longer, AreOwn, EndsFor, HasRefused, HasRefusedBeside, IsLonger, IsOwn, IsRefusedNow, IsSend, IsShown, Trace, IsBegunAs, and_refused, now_longer, refused_asks, times_in, untimed, untimed_by, untimed_of, with_posted}
 use Rattle.txn_side.specs.declared.turn.Posting.{Posting}
 use Rattle.std.proofs.lemmas.List.Elements.{All-append, All-cons, All-head, All-nil, All-tail}
 use Rattle.txn_report.specs.declared.outcome.Outcome.{Outcome}
 use Rattle.txn_report.specs.declared.outcome.Outcome.TheVariants as outcomes
 use Rattle.txn_side.specs.declared.turn.Ending.{Ending}
-use Rattle.txn_clients.specs.Failing.{EndsMore, HasReason, CalledIn, CameIn, CountedIn, FailsAt, FailsFor, HasFailedFor, IfFails, KnownTransaction, LongerIn, RefusedIn, SentIn, ShownIn, posting_in, CallRefused, HasMet, KnowsAsk, RollsIn, AskRests, RetriesIn, owing, owing_one}
+use Rattle.txn_clients.specs.Failing.{EndsMore, HasReason, CalledIn, CameIn, CountedIn, FailsAt, FailsFor, HasFailedFor, IfFails, KnownTransaction, LongerIn, RefusedIn, SentIn, ShownIn, posting_in, HasMet, IsToldLast, KnowsAsk, LastIn, MarkedIn, MayKnow, RollsIn, AskRests, RetriesIn, owing, owing_one, untimed_told}
 use Rattle.txn_clients.specs.Resting.{counted_longer}
 use Rattle.txn_clients.specs.Waiting.{Keeps}
 use Rattle.txn_clients.specs.Want.{wants_memory}
+use Rattle.txn_clients.specs.declared.row.Row.{Row}
 use Rattle.txn_clients.specs.declared.told.Told.{Told}
 use Rattle.txn_clients.specs.declared.told.Told.TheVariants as tells
 use Rattle.txn_clients.proofs.Groups.{any_ahead}
@@ -84,6 +90,7 @@ posting_longer (Some t) ps qs k = (
   },
   refl,
   refl,
+  refl,
 )
 
 -- the same was posted in both
@@ -104,11 +111,12 @@ posting_both (Some t) (Some u) ps l = let more = l.0 in (
   },
   l.1,
   l.2,
+  l.3,
 )
 
 pub longer_same : (trace : Option Trace) → LongerIn trace trace
 longer_same None = tt
-longer_same (Some t) = (record { events = λ e i. i; calls = λ c i. i; begun = λ b i. i; rollbacks = λ n i. i; groups = λ g i. i; sent = λ u r h. h; refused = λ line n h. h; beside = λ line n h. h }, refl, refl)
+longer_same (Some t) = (record { events = λ e i. i; calls = λ c i. i; begun = λ b i. i; rollbacks = λ n i. i; groups = λ g i. i; sent = λ u r h. h; refused = λ line n h. h; beside = λ line n h. h }, refl, refl, refl)
 
 longest : (t mid longer : Trace) → IsLonger t mid → IsLonger mid longer → IsLonger t longer
 longest t mid longer l m = record {
@@ -124,7 +132,7 @@ longest t mid longer l m = record {
 
 pub longer_then : (trace mid longer : Option Trace) → LongerIn trace mid → LongerIn mid longer → LongerIn trace longer
 longer_then None None None l m = tt
-longer_then (Some t) (Some u) (Some v) l m = (longest t u v l.0 m.0, m.1 ∙ l.1, l.2 ∙ m.2)
+longer_then (Some t) (Some u) (Some v) l m = (longest t u v l.0 m.0, m.1 ∙ l.1, l.2 ∙ m.2, l.3 ∙ m.3)
 longer_then None (Some u) longer l m = absurd l
 longer_then (Some t) None longer l m = absurd l
 longer_then None None (Some v) l m = absurd m
@@ -143,7 +151,7 @@ fewer_owed t (Err e) line n k h = by (nat_eq line n) h
 pub owing_one_longer : (x : Result Timestamp Error) (line : ℕ) (trace : Option Trace) → LongerIn (owing_one x line trace) trace
 owing_one_longer x line None = tt
 owing_one_longer x line (Some t) =
-    (record { events = λ e i. i; calls = λ c i. i; begun = λ b i. i; rollbacks = λ n i. i; groups = λ g i. i; sent = λ u r h. h; refused = λ n k h. h; beside = λ n k h. fewer_owed t x line n k h }, refl, refl)
+    (record { events = λ e i. i; calls = λ c i. i; begun = λ b i. i; rollbacks = λ n i. i; groups = λ g i. i; sent = λ u r h. h; refused = λ n k h. h; beside = λ n k h. fewer_owed t x line n k h }, refl, refl, refl)
 
 -- once it was told
 pub owing_longer : (line : ℕ) (told : Told) (trace : Option Trace) → LongerIn (owing line told trace) trace
@@ -184,6 +192,7 @@ owing_one_both x line (Some t) (Some u) l = let more = l.0 in (
   record { events = more.events; calls = more.calls; begun = more.begun; rollbacks = more.rollbacks; groups = more.groups; sent = more.sent; refused = more.refused; beside = λ n k h. owed_both t u more x line n k h },
   l.1,
   l.2,
+  l.3,
 )
 
 owing_both : (line : ℕ) (told : Told) (trace longer : Option Trace) → LongerIn trace longer → LongerIn (owing line told trace) (owing line told longer)
@@ -214,7 +223,7 @@ owing_called n (tells.Heard (arrivals.Time k x)) line at trace c = owing_one_cal
 owing_one_came : (x : Result Timestamp Error) (n : ℕ) (o : Posted) (k : ℕ) (trace : Option Trace) → CameIn trace o (arrivals.Time k x) → CameIn (owing_one x n trace) o (arrivals.Time k x)
 owing_one_came x n o k None c = tt
 owing_one_came (Ok time) n o k (Some t) c = tt
-owing_one_came (Err e) n o k (Some t) c = record { group = c.group; among = c.among; asker = c.asker; request = c.request; failed = c.failed }
+owing_one_came (Err e) n o k (Some t) c = let r = c.refused in record { refused = record { group = r.group; among = r.among; asker = r.asker; request = r.request; failed = r.failed }; now = c.now }
 
 pub owing_came : (n : ℕ) (o : Posted) (a : Arrival) (trace : Option Trace) → CameIn trace o a → CameIn (owing n (tells.Heard a) trace) o a
 owing_came n o (arrivals.Reply m x) trace c = c
@@ -278,7 +287,7 @@ shown_after trace at line beat h (Ask n ∷ rs) called sent s =
 event_heard : (trace : Option Trace) (at : ℕ) (o : Posted) (k : ℕ) (x : Result Timestamp Error) → CalledIn trace o.line at → CameIn trace o (arrivals.Time k x) → EventIn trace at (Answered (ticket_of o k) x)
 event_heard None at o k x c came = tt
 event_heard (Some t) at o k (Ok x) c came = tt
-event_heard (Some t) at o k (Err e) c came = (c, came)
+event_heard (Some t) at o k (Err e) c came = (c, came.refused)
 
 pub shown_heard : (trace : Option Trace) (at : ℕ) (a : Arrival) (o : Posted) (r : Request) (h : List Event) → CalledIn trace o.line at → CameIn trace o a
     → ((n : ℕ) → awaited_as a ≡ ReplyTo n → SentIn trace (ticket_of o n) r) → ShownIn trace at h → ShownIn trace at ((told_by a o r).hear h)
@@ -319,7 +328,7 @@ answered_own o k (Err e) = refl
 -- as the line hears something
 pub own_heard : (a : Arrival) (o : Posted) (r : Request) (h : List Event) → o.beat ≡ false → AreOwn o.line h → AreOwn o.line ((told_by a o r).hear h)
 own_heard (arrivals.Reply n x) o r h calls own = own_one o.line (Took (ticket_of o n) r x) h (inl (refl, calls)) own
-own_heard (arrivals.Lost n) o r h calls own = own_one o.line (Lost (ticket_of o n) r) h (inl (refl, calls)) own
+own_heard (arrivals.Lost n) o r h calls own = own_one o.line (Lost (ticket_of o n) r) h (refl, calls) own
 own_heard (arrivals.Slept n) o r h calls own = own_one o.line (Slept (ticket_of o n)) h tt own
 own_heard (arrivals.Time k x) o r h calls own = own_one o.line (Answered (ticket_of o k) x) h (answered_own o k x) own
 
@@ -385,6 +394,9 @@ rolls_longer None (Some u) line l r = absurd l
 rolls_longer (Some t) None line l r = absurd l
 rolls_longer (Some t) (Some u) line l r = let more = l.0 in more.rollbacks line r
 
+lost_sends_none : (u : Ticket) (r : Request) → IsNoSending (Lost u r)
+lost_sends_none u r v q e = cc
+
 -- what is known of what is asked says with what it is refused
 pub notes_so : (line : ℕ) (act : Act) (account : Account) (noted : Option Error) → refusal act account ≡ noted → (trace : Option Trace) → KnowsAsk trace line act account → RefusedIn trace line noted
 notes_so line act account noted e trace k = subst (RefusedIn trace line) e k.0
@@ -395,7 +407,7 @@ never_nothing e n = elim n [ inl q ↦ (cc) | inr q ↦ (cc) ]
 module _ {P Q K A B D : Type 0} (w : Ways P Q K A B D) where
   -- what is known of a transaction that has not given up
   module _ (t : Standing P Q K) (o : Posted) (h : List Event) (alive : t.work ≡ GaveUp → ⊥) (f : TransactionFits w t o h) where
-    fits_known : (parts : CommitParts) → parts_of t.contents ≡ Some parts → KnowsCommits (plan_of parts) (version_of t.start) t.commits h
+    pub fits_known : (parts : CommitParts) → parts_of t.contents ≡ Some parts → KnowsCommits (plan_of parts) (version_of t.start) t.commits h
     fits_known parts e = by t.work refl f.at
       where
         by : (g : Work P Q K) → t.work ≡ g → IsAtWork w t.options.retry_options t.start t.status t.contents t.commits g o h → KnowsCommits (plan_of parts) (version_of t.start) t.commits h
@@ -420,26 +432,42 @@ module _ {P Q K A B D : Type 0} (w : Ways P Q K A B D) where
         no_parts parts q = cc
     empty_sent GaveUp k at e = absurd (alive k)
 
-    pub known_lost : (u : Ticket) → t.commits.lost ≡ Some u → (k : KnownTransaction h) × (k.commits.lost ≡ Some u)
-    unfolding known_with
-    known_lost u lost = by (parts_of t.contents) refl
+    -- it is not rolled back where it marks one as lost, which was
+    pub barred_by : (u : Ticket) → t.commits.lost ≡ Some u → (trace : Option Trace) (at line : ℕ) (e : Error) → view_of e ≡ not_known (view_of (GrpcAPI u)) → ShownIn trace at h → AreOwn line h → CountedIn trace line (refused_asks h) → RollsIn trace line → MarkedIn trace at t → FailsAt w trace at line e
+    barred_by u lost None at line e says s own counted rolls marked = tt
+    barred_by u lost (Some x) at line e says s own counted rolls marked = by (parts_of t.contents) refl
       where
         no_ticket : ◌≡◌ {A = Option Ticket} None (Some u) → ⊥
         no_ticket q = cc
 
-        by : (found : Option CommitParts) → parts_of t.contents ≡ found → (k : KnownTransaction h) × (k.commits.lost ≡ Some u)
-        by None e = absurd (no_ticket (sym (ap (λ (c : Commits). c.lost) (empty_sent t.work refl f.at e)) ∙ lost))
-        by (Some parts) e = (known_with parts e, lost)
+        by : (found : Option CommitParts) → parts_of t.contents ≡ found → FailsAt w (Some x) at line e
+        by None q = absurd (no_ticket (sym (ap (λ (c : Commits). c.lost) (empty_sent t.work refl f.at q)) ∙ lost))
+        by (Some parts) q =
+            let k = marked parts q u lost in
+            let event = Lost u (Commit k.0) in
+            inl (
+              h,
+              s,
+              own,
+              counted_refused x line (refused_asks h) counted,
+              inr (
+                rolls,
+                event ∷ h,
+                shown_one (Some x) at event h k.1 s,
+                record {
+                  transaction = record { start = t.start; retry_options = t.options.retry_options; contents = t.contents; parts = parts; whole = q; commits = t.commits; known = knows_more (plan_of parts) (version_of t.start) t.commits event h (lost_sends_none u (Commit k.0)) (fits_known parts q) };
+                  ticket = u;
+                  left = lost;
+                  lost = (k.0, inl refl, k.2);
+                  error = says;
+                },
+              ),
+            )
 
   -- an error that a call answers rests on what it has heard
   pub fails_by : (trace : Option Trace) (at line : ℕ) (e : Error) (h : List Event) → ShownIn trace at h → AreOwn line h → CountedIn trace line (refused_asks h) → ((t : Trace) → trace ≡ Some t → HasFailedFor w false (IsBegunAs t at) h e) → FailsAt w trace at line e
   fails_by None at line e h s own counted f = tt
   fails_by (Some t) at line e h s own counted f = inl (h, s, own, counted_refused t line (refused_asks h) counted, inl (f t refl))
-
-  -- and of a rollback
-  pub barred_by : (trace : Option Trace) (at line : ℕ) (e : Error) (h : List Event) → ShownIn trace at h → AreOwn line h → CountedIn trace line (refused_asks h) → RollsIn trace line → CallRefused h e → FailsAt w trace at line e
-  barred_by None at line e h s own counted rolls f = tt
-  barred_by (Some t) at line e h s own counted rolls f = inl (h, s, own, counted_refused t line (refused_asks h) counted, inr (rolls, f))
 
   pub refused_by : (trace : Option Trace) (at line : ℕ) (e why : Error) → RefusedIn trace line (Some why) → e ≡ why → FailsAt w trace at line e
   refused_by None at line e why r same = tt
@@ -458,6 +486,38 @@ module _ {P Q K A B D : Type 0} (w : Ways P Q K A B D) where
   fails_done trace at line old new o h (Ends v) retries s own counted alive f start options contents gives =
       fails_gives trace at line new o h v retries s own counted (alive v refl) f (subst (λ (x : TransactionOptions). TransactionGives w x.retry_options new.start new.contents new.commits h v) (sym options) (subst (λ (x : Timestamp). TransactionGives w old.options.retry_options x new.contents new.commits h v) (sym start) (subst (λ (c : Contents). TransactionGives w old.options.retry_options old.start c new.commits h v) (sym contents) gives)))
 
+-- Why there is no timestamp
+
+untimed_same : (what is : Internal) → untimed what ≡ Some is → what ≡ is
+untimed_same OracleLost is e = cc
+untimed_same (OracleCount asked given) is e = cc
+untimed_same OracleEmpty is e = cc
+untimed_same _ is e = absurd (cc)
+
+untimed_internal : (e : Error) (is : Internal) → untimed_by e ≡ Some is → e ≡ InternalError is
+untimed_internal (InternalError what) is h = ap (λ x. InternalError x) (untimed_same what is h)
+untimed_internal _ is h = absurd (cc)
+
+-- what is told of it came now
+told_last : {P Q K : Type 0} (t : Trace) (o : Posted) (told : Told) (r : Row P Q K) (is : Internal) → MayKnow (Some t) o told r → untimed_told told ≡ Some is → IsRefusedNow t o.line (InternalError is)
+told_last t o tells.Start r is knows e = absurd (cc)
+told_last t o (tells.Act act) r is knows e = absurd (cc)
+told_last t o (tells.Heard (arrivals.Reply n x)) r is knows e = absurd (cc)
+told_last t o (tells.Heard (arrivals.Lost n)) r is knows e = absurd (cc)
+told_last t o (tells.Heard (arrivals.Slept n)) r is knows e = absurd (cc)
+told_last t o (tells.Heard (arrivals.Time k (Ok x))) r is knows e = absurd (cc)
+told_last t o (tells.Heard (arrivals.Time k (Err why))) r is knows e = subst (IsRefusedNow t o.line) (untimed_internal why is e) knows
+
+-- so an error that says it says what came last, and still does as more is posted
+pub says_last : {P Q K X : Type 0} (trace : Option Trace) (ps qs : List Posting) (o : Posted) (told : Told) (r : Row P Q K) (v : Result X Error) → MayKnow (posting_in ps trace) o told r → Keeps ps qs → IfFails (IsToldLast (untimed_told told)) v → IfFails (LastIn (posting_in qs trace) o.line) v
+says_last trace ps qs o told r (Ok x) knows keeps is = tt
+says_last None ps qs o told r (Err e) knows keeps is = tt
+says_last (Some t) ps qs o told r (Err e) knows keeps is = by (untimed_of e) is
+  where
+    by : (what : Option Internal) → IfSome what (λ w. untimed_told told ≡ Some w) → IfSome what (λ w. IsRefusedNow (with_posted qs t) o.line (InternalError w))
+    by None same = tt
+    by (Some w) same = let l = posting_longer (Some t) ps qs keeps in now_longer (with_posted ps t) (with_posted qs t) l.0 refl o.line (InternalError w) (told_last (with_posted ps t) o told r w knows same)
+
 -- Calls that ended
 
 pub all_map : {X : Type 0} {A B : X → Type 0} → ((x : X) → A x → B x) → (xs : List X) → All A xs → All B xs
@@ -465,9 +525,9 @@ all_map {X} {A} {B} f [] h = All-nil B
 all_map {X} {A} {B} f (x ∷ xs) h = All-cons B x xs (f x (All-head A x xs h)) (all_map f xs (All-tail A x xs h))
 
 module _ {P Q K A B D : Type 0} (w : Ways P Q K A B D) where
-  reason_in : (t longer : Trace) (e : Ending) → IsLonger t longer → longer.refused ≡ t.refused → t.begun ≡ longer.begun → EndsFor (FailsFor w) t e → EndsFor (FailsFor w) longer e
-  reason_in t longer ending l same begun f e is = elim (f e is) [
-    | inl h ↦ inl (fails_longer t longer l begun (FailsFor w) ending.line e h)
+  reason_in : (t longer : Trace) (e : Ending) → IsLonger t longer → longer.refused ≡ t.refused → t.begun ≡ longer.begun → t.came ≡ longer.came → EndsFor (FailsFor w) t e → EndsFor (FailsFor w) longer e
+  reason_in t longer ending l same begun came f e is = elim (f e is) [
+    | inl h ↦ inl (fails_longer t longer l begun came (FailsFor w) ending.line e h)
     | inr i ↦ inr (subst (λ xs. IsAmong xs (record { line = ending.line; error = e })) (sym same) i)
   ]
 
@@ -475,7 +535,7 @@ module _ {P Q K A B D : Type 0} (w : Ways P Q K A B D) where
   reason_longer None None e l f = tt
   reason_longer None (Some u) e l f = absurd l
   reason_longer (Some t) None e l f = absurd l
-  reason_longer (Some t) (Some u) e l f = reason_in t u e l.0 l.1 l.2 f
+  reason_longer (Some t) (Some u) e l f = reason_in t u e l.0 l.1 l.2 l.3 f
 
   pub ends_then : (trace : Option Trace) (qs rs : List Posting) (es fs gs : List Ending) → Keeps qs rs → EndsMore w (posting_in qs trace) es fs → EndsMore w (posting_in rs trace) fs gs → EndsMore w (posting_in rs trace) es gs
   ends_then trace qs rs es fs gs keeps f g = record {
@@ -496,9 +556,9 @@ module _ {P Q K A B D : Type 0} (w : Ways P Q K A B D) where
 
   -- the error of a call is the outcome of its line
   pub reason_so : {X : Type 0} (trace : Option Trace) (line at : ℕ) (o : Outcome) (v : Result X Error) → CalledIn trace line at → ((e : Error) → o ≡ outcomes.Err e → v ≡ Err e) → ((e : Error) → o ≡ outcomes.Err e → wants_memory (view_of e) ≡ false)
-      → IfFails (FailsAt w trace at line) v → HasReason w trace (record { line = line; outcome = o })
-  reason_so None line at o v called same fed f = tt
-  reason_so (Some t) line at o v called same fed f = λ e is. elim (subst (IfFails (FailsAt w (Some t) at line)) (same e is) f) [
-    | inl h ↦ inl (record { at = at; called = called; history = h.0; shown = h.1; own = h.2; counted = h.3; fails_so = elim h.4 [ inl k ↦ inl (record { why = k; fed = fed e is }) | inr k ↦ inr (k.0, record { why = k.1; fed = fed e is }) ] })
+      → IfFails (FailsAt w trace at line) v → IfFails (LastIn trace line) v → HasReason w trace (record { line = line; outcome = o })
+  reason_so None line at o v called same fed f last = tt
+  reason_so (Some t) line at o v called same fed f last = λ e is. elim (subst (IfFails (FailsAt w (Some t) at line)) (same e is) f) [
+    | inl h ↦ inl (record { at = at; called = called; history = h.0; shown = h.1; own = h.2; counted = h.3; last = subst (IfFails (LastIn (Some t) line)) (same e is) last; fails_so = elim h.4 [ inl k ↦ inl (record { why = k; fed = fed e is }) | inr k ↦ inr (record { rolls = k.0; known = k.1; shown = k.2; fails_so = record { why = k.3; fed = fed e is } }) ] })
     | inr i ↦ inr i
   ]

@@ -18,7 +18,7 @@ use Rattle.txn_report.specs.declared.outcome.Outcome.{Outcome}
 use Rattle.txn_report.specs.declared.outcome.Outcome.TheVariants as outcomes
 use Rattle.txn_report.specs.declared.outcome.Payload.TheVariants as payloads
 use Rattle.txn_side.specs.Arising.{Arises, IsOutside, with_postings}
-use Rattle.txn_side.specs.Doubt.{SpeaksOf}
+use Rattle.txn_side.specs.Doubt.{CallOf, SpeaksOf}
 use Rattle.txn_side.specs.Sight.{client_at, stand_at}
 use Rattle.txn_side.specs.declared.turn.Ending.{Ending}
 use Rattle.txn_side.specs.declared.turn.Posting.{Posting}
@@ -70,13 +70,13 @@ all_as {X} {A} {B} xs f a = λ k x e. f (get_or xs k x) (a k x e)
 
 module _ {P Q K A B D : Type 0} (w : Ways P Q K A B D) where
   -- where a step leads on, the clients have arisen from what is shown then
-  pub arises_by : (s t : Clients P Q K) (posted : List Posting) (ended : List Ending) (at : ℕ → ℕ) (shown h before : List Event) → before ≡ seen h → AreLawful w → LeadsWith w [] posted [] ended at s t shown h
+  pub arises_by : (s t : Clients P Q K) (posted : List Posting) (ended : List Ending) (at : ℕ → CallOf) (shown h before : List Event) → before ≡ seen h → AreLawful w → LeadsWith w [] posted [] ended at s t shown h
       → Arises (ArisenFrom w t) (λ h x o. HoldsAt (rows_of t) h x o) (λ x o. HoldsAt (rows_of s) before x o) at (with_postings posted shown) ended
   arises_by s t posted ended at shown h before is laws (askers, l) = record {
     now = (laws, askers, l.later, shows, l.arisen);
     kept = λ x o k. subst (λ g. HoldsAt (rows_of t) g x o) shows (still x o k);
-    answers = subst (λ es. All (λ (e : Ending). HoldsAt (rows_of t) (with_postings posted shown) (at e.line) e.outcome) es) (sym l.ends.ended)
-        (all_as l.ends.more (λ e k. subst (λ g. HoldsAt (rows_of t) g (at e.line) e.outcome) shows (holds_shown l.later (rows_of t) (at e.line) e.outcome k)) l.ends.each);
+    answers = subst (λ es. All (λ (e : Ending). HoldsAt (rows_of t) (with_postings posted shown) (at e.line).at e.outcome) es) (sym l.ends.ended)
+        (all_as l.ends.more (λ e k. subst (λ g. HoldsAt (rows_of t) g (at e.line).at e.outcome) shows (holds_shown l.later (rows_of t) (at e.line).at e.outcome k)) l.ends.each);
     doubts = subst (λ es. All (λ (e : Ending). SpeaksOf (λ x o. HoldsAt (rows_of s) before x o) (with_postings posted shown) (at e.line) e.line e.outcome) es) (sym l.ends.ended)
         (all_as l.ends.more (λ e speaks. subst (λ g. SpeaksOf (λ x o. HoldsAt (rows_of s) before x o) g (at e.line) e.line e.outcome) shows (speaks_of plans l.later run (rows_of t) (λ x o. HoldsAt (rows_of s) before x o) (at e.line) e.line e.outcome have still speaks)) l.ends.doubts);
   }
@@ -98,22 +98,22 @@ module _ {P Q K A B D : Type 0} (w : Ways P Q K A B D) where
 
   -- Nothing happens to a client that is gone, or to nobody.
 
-  pub passes_by : (s : Clients P Q K) (at : ℕ → ℕ) (e : Event) (h : List Event) → IsOutside e → IsPossible h e → ArisenFrom w s h → Arises (ArisenFrom w s) (λ h x o. HoldsAt (rows_of s) h x o) (λ x o. HoldsAt (rows_of s) h x o) at (e ∷ h) []
+  pub passes_by : (s : Clients P Q K) (at : ℕ → CallOf) (e : Event) (h : List Event) → IsOutside e → IsPossible h e → ArisenFrom w s h → Arises (ArisenFrom w s) (λ h x o. HoldsAt (rows_of s) h x o) (λ x o. HoldsAt (rows_of s) h x o) at (e ∷ h) []
   passes_by s at e h out may a = let r = arises_when_longer w s h e out may a in record { now = r.now; kept = r.kept; answers = All-nil _; doubts = All-nil _ }
 
   -- nobody hears of it, and nothing is posted
-  pub passes_quietly : (s : Clients P Q K) (posted : List Posting) (ended : List Ending) (at : ℕ → ℕ) (e : Event) (h : List Event) → posted ≡ [] → ended ≡ [] → IsOutside e → IsPossible h e → ArisenFrom w s h
+  pub passes_quietly : (s : Clients P Q K) (posted : List Posting) (ended : List Ending) (at : ℕ → CallOf) (e : Event) (h : List Event) → posted ≡ [] → ended ≡ [] → IsOutside e → IsPossible h e → ArisenFrom w s h
       → Arises (ArisenFrom w s) (λ h x o. HoldsAt (rows_of s) h x o) (λ x o. HoldsAt (rows_of s) h x o) at (with_postings posted (e ∷ h)) ended
   passes_quietly s posted ended at e h none over out may a =
       subst (λ ps. Arises (ArisenFrom w s) (λ h x o. HoldsAt (rows_of s) h x o) (λ x o. HoldsAt (rows_of s) h x o) at (with_postings ps (e ∷ h)) ended) (sym none)
       (subst (λ es. Arises (ArisenFrom w s) (λ h x o. HoldsAt (rows_of s) h x o) (λ x o. HoldsAt (rows_of s) h x o) at (e ∷ h) es) (sym over) (passes_by s at e h out may a))
 
   -- nothing happens at all
-  pub arises_still : (s : Clients P Q K) (at : ℕ → ℕ) (h : List Event) → ArisenFrom w s h → Arises (ArisenFrom w s) (λ h x o. HoldsAt (rows_of s) h x o) (λ x o. HoldsAt (rows_of s) h x o) at h []
+  pub arises_still : (s : Clients P Q K) (at : ℕ → CallOf) (h : List Event) → ArisenFrom w s h → Arises (ArisenFrom w s) (λ h x o. HoldsAt (rows_of s) h x o) (λ x o. HoldsAt (rows_of s) h x o) at h []
   arises_still s at h a = record { now = a; kept = λ x o k. k; answers = All-nil _; doubts = All-nil _ }
 
   -- the line calls
-  pub arises_sent : (s t : Clients P Q K) (posted : List Posting) (ended : List Ending) (at : ℕ → ℕ) (h : List Event)
+  pub arises_sent : (s t : Clients P Q K) (posted : List Posting) (ended : List Ending) (at : ℕ → CallOf) (h : List Event)
       → ((askers : Ticket → List ℕ) (h : List Event) → Arisen w s askers [] h → LeadsWith w [] posted [] ended at s t (seen h) h) → ArisenFrom w s h
       → Arises (ArisenFrom w t) (λ h x o. HoldsAt (rows_of t) h x o) (λ x o. HoldsAt (rows_of s) h x o) at (with_postings posted h) ended
   arises_sent s t posted ended at h leads (laws, askers, g, shows, a) =
@@ -134,17 +134,17 @@ module _ {P Q K A B D : Type 0} (w : Ways P Q K A B D) where
     pub arises_replied : (x : Reply) (r : Request) → StepsTold w (tells.Heard (arrivals.Reply u.number x)) u.line client posted ended s t → IsPossible h (Took u r x) → ArisenFrom w s h → Next (Took u r x ∷ h)
     arises_replied x r steps may (laws, askers, g, shows, a) =
         subst (λ (v : Ticket). Next (Took v r x ∷ h)) is_named (subst (λ y. Next (Took named r x ∷ y)) shows
-        (arises_by s t posted ended (heard_by s) (Took named r x ∷ seen g) g h (sym shows) laws (steps askers g r own (possible_unseen (Took named r x) g tt (subst (λ (v : Ticket). IsPossible (seen g) (Took v r x)) (sym is_named) (subst (λ y. IsPossible y (Took u r x)) (sym shows) may))) a)))
+        (arises_by s t posted ended (heard_by s) (Took named r x ∷ seen g) g h (sym shows) laws (steps askers g r tt own (possible_unseen (Took named r x) g tt (subst (λ (v : Ticket). IsPossible (seen g) (Took v r x)) (sym is_named) (subst (λ y. IsPossible y (Took u r x)) (sym shows) may))) a)))
 
     pub arises_lost : (r : Request) → StepsTold w (tells.Heard (arrivals.Lost u.number)) u.line client posted ended s t → IsPossible h (Lost u r) → ArisenFrom w s h → Next (Lost u r ∷ h)
     arises_lost r steps may (laws, askers, g, shows, a) =
         subst (λ (v : Ticket). Next (Lost v r ∷ h)) is_named (subst (λ y. Next (Lost named r ∷ y)) shows
-        (arises_by s t posted ended (heard_by s) (Lost named r ∷ seen g) g h (sym shows) laws (steps askers g r own (possible_unseen (Lost named r) g tt (subst (λ (v : Ticket). IsPossible (seen g) (Lost v r)) (sym is_named) (subst (λ y. IsPossible y (Lost u r)) (sym shows) may))) a)))
+        (arises_by s t posted ended (heard_by s) (Lost named r ∷ seen g) g h (sym shows) laws (steps askers g r tt own (possible_unseen (Lost named r) g tt (subst (λ (v : Ticket). IsPossible (seen g) (Lost v r)) (sym is_named) (subst (λ y. IsPossible y (Lost u r)) (sym shows) may))) a)))
 
     pub arises_slept : (r : Request) → StepsTold w (tells.Heard (arrivals.Slept u.number)) u.line client posted ended s t → ArisenFrom w s h → Next (Slept u ∷ h)
     arises_slept r steps (laws, askers, g, shows, a) =
         subst (λ (v : Ticket). Next (Slept v ∷ h)) is_named (subst (λ y. Next (Slept named ∷ y)) shows
-        (arises_by s t posted ended (heard_by s) (Slept named ∷ seen g) g h (sym shows) laws (steps askers g r own tt a)))
+        (arises_by s t posted ended (heard_by s) (Slept named ∷ seen g) g h (sym shows) laws (steps askers g r tt own tt a)))
 
   -- or for its client's request for timestamps
   pub arises_group : (s t : Clients P Q K) (u : Ticket) (client : ℕ) (event : Ticket → Request → Event) (r : Request) (posted : List Posting) (ended : List Ending) (h : List Event) → IsOutside (event u r) → HasOut (sight_of s) client u

@@ -16,7 +16,7 @@ use Rattle.txn_history.specs.Phase.{Awaited, IsRunning, Phase, phase_after, unhe
 use Rattle.txn_history.specs.Phase.Awaited.{ReplyTo, EndOf, TimeOf}
 use Rattle.txn_history.specs.Phase.Phase.{Fresh, GivenUp, Over, Running}
 use Rattle.txn_history.specs.Posted.{Posted, after, ticket_of}
-use Rattle.txn_history.specs.Turn.{IfEnds, IfEnds-weaker, IfKept, IfKept-out, Turn}
+use Rattle.txn_history.specs.Turn.{IfEnds, IfEnds-weaker, IfKept, IfKept-all, IfKept-out, Turn}
 use Rattle.txn_history.specs.Turn.Turn.{Stopped, Waits, Ends}
 use Rattle.txn_history.proofs.Telling.{Expects-quiet}
 use Rattle.txn_plan.specs.Arrivals.{awaited_as, told_by}
@@ -26,7 +26,8 @@ use Rattle.txn_tso.specs.Calling.{members}
 use Rattle.txn_buffer.specs.Contents.{Contents, locked, mutated_by, with_write, write_at}
 use Rattle.txn_buffer.specs.Writes.{Write, WriteCall, after_delete, after_put}
 use Rattle.txn_commit.specs.Committing.{Ways}
-use Rattle.txn_commit.specs.Following.{Commits, awaits, is_out, or_first, undetermined}
+use Rattle.txn_commit.specs.Following.{Commits, IsFollowed, awaits, heard, is_out, or_first, undetermined}
+use Rattle.txn_commit.specs.Parts.{parts_of}
 use Rattle.txn_commit.specs.Sending.{plan_of}
 use Rattle.txn_core.specs.Going.{IsAtWork, IsUndetermined, TransactionFits, TransactionMoves, TransactionReady}
 use Rattle.txn_core.specs.Status.{allows_data}
@@ -42,12 +43,13 @@ use Rattle.txn_core.proofs.Waiting.{busy_runs, runs_still, standing_posted}
 use Rattle.txn_side.specs.Sight.{next_at}
 use Rattle.txn_core.specs.declared.options.TransactionOptions.{TransactionOptions}
 use Rattle.txn_clients.specs.declared.told.Told.TheVariants as tells
-use Rattle.txn_clients.specs.Failing.{CalledIn, CameIn, CountedIn, FailsAt, HasMet, IfFails, LongerIn, RefusedIn, SentIn, ShownIn, KnowsAsk, RollsIn, RetriesIn, owing}
-use Rattle.txn_clients.specs.Resting.{called_in_longer, counted_longer, shown_longer, retries_longer}
+use Rattle.txn_clients.specs.Failing.{CalledIn, CameIn, CountedIn, FailsAt, HasMet, IfFails, LongerIn, LostIn, MarkedIn, RefusedIn, SentIn, ShownIn, KnowsAsk, RollsIn, RetriesIn, owing}
+use Rattle.txn_clients.specs.Resting.{called_in_longer, counted_longer, lost_longer, marked_longer, shown_longer, retries_longer}
 use Rattle.txn_clients.specs.Accounts.{SaysLoss}
 use Rattle.txn_clients.specs.Waiting.{IsKept, IsReached, IsRisen, StandArises, StandGoes}
 use Rattle.txn_clients.proofs.Cleaning.{cleaned, given_cleaned, kept_cleaned, own_cleaned, parts_cleaned, refused_cleaned, shown_cleaned, unsent_cleaned}
-use Rattle.txn_clients.proofs.Showing.{among_behind, barred_by, counted_after, counts_heard, owing_called, owing_came, owing_met, rolls_longer, known_so, fails_done, known_lost, own_after, own_heard, refused_by, refused_longer_in, sent_shown, shown_after, shown_heard, unheard_ends}
+use Rattle.txn_clients.proofs.Marking.{lost_came, marked_same, marks, none_marked}
+use Rattle.txn_clients.proofs.Showing.{among_behind, barred_by, counted_after, counts_heard, owing_called, owing_came, owing_met, rolls_longer, known_so, fails_done, fits_known, own_after, own_heard, refused_by, refused_longer_in, sent_shown, shown_after, shown_heard, unheard_ends}
 use Rattle.txn_side.specs.Account.{Account, is_undetermined_view}
 use Rattle.txn_side.specs.Trace.{AreOwn, Trace, refused_asks}
 use Rattle.txn_side.specs.declared.act.Act.{Act}
@@ -138,6 +140,14 @@ ends_shut t Stopped u = refl
 ends_shut t Waits u = absurd u
 ends_shut t (Ends v) u = refl
 
+-- of those that may have committed it the first that was lost is named
+pub lost_first : (c : Commits) (t : Ticket) → is_some c.lost ≡ true → undetermined c ≡ Some t → c.lost ≡ Some t
+lost_first c t some left = by c.lost refl some left
+  where
+    by : (lost : Option Ticket) → c.lost ≡ lost → is_some lost ≡ true → or_first lost c.out ≡ Some t → c.lost ≡ Some t
+    by None e holds first = absurd (cc)
+    by (Some u) e holds first = e ∙ first
+
 module _ {P Q K : Type 0} where
   pub refused_stays : (e : Error) (old new : Standing P Q K) (turn : Turn (Result (TxnAnswer Q) Error)) → IsRefused e old new turn → new ≡ old
   refused_stays e old new Stopped r = r
@@ -162,6 +172,7 @@ module _ {P Q K A B D : Type 0} (w : Ways P Q K A B D) (p : IsLawful w.prewritin
   stand_later {trace} {at} t o later nexts news l risen a = record {
     ordered = a.ordered;
     retries = a.retries;
+    marked = a.marked;
     arisen = record { history = a.arisen.history; fits = later_fits t o later a.arisen.history l a.arisen.fits; kept = kept_risen nexts news a.arisen.history risen a.arisen.kept; shown = a.arisen.shown; own = subst (λ n. AreOwn n a.arisen.history) (sym l.line) a.arisen.own; counted = subst (λ n. CountedIn trace n (refused_asks a.arisen.history)) (sym l.line) a.arisen.counted };
   }
 
@@ -170,6 +181,7 @@ module _ {P Q K A B D : Type 0} (w : Ways P Q K A B D) (p : IsLawful w.prewritin
   stand_shown trace longer at t o nexts l a = record {
     ordered = a.ordered;
     retries = retries_longer trace longer at t.options.retry_options l a.retries;
+    marked = marked_longer trace longer at t l a.marked;
     arisen = record { history = a.arisen.history; fits = a.arisen.fits; kept = a.arisen.kept; shown = shown_longer trace longer at a.arisen.history l a.arisen.shown; own = a.arisen.own; counted = counted_longer trace longer o.line (refused_asks a.arisen.history) l a.arisen.counted };
   }
 
@@ -198,6 +210,7 @@ module _ {P Q K A B D : Type 0} (w : Ways P Q K A B D) (p : IsLawful w.prewritin
   stand_rests {trace} {at} t o later nexts news e risen none a = record {
     ordered = a.ordered;
     retries = a.retries;
+    marked = a.marked;
     arisen = record {
       history = cleaned a.arisen.history;
       fits = rest_fits t o later a.arisen.history e a.arisen.fits;
@@ -238,8 +251,8 @@ module _ {P Q K A B D : Type 0} (w : Ways P Q K A B D) (p : IsLawful w.prewritin
       → TransactionMoves w known hear old new from to turn → turn ≢ Stopped → Outlives new turn → new.start ≡ old.start → new.options ≡ old.options → new.contents ≡ old.contents
       → ((h : List Event) → IsKept nexts h → IsKept nexts (hear h))
       → next_at nexts from.line ≤ from.next → IsRisen nexts news → to.next ≤ next_at news from.line → IsReached from to o
-      → (a : StandArises w trace at from nexts old) → known a.arisen.history → ShownIn trace at (hear a.arisen.history) → AreOwn from.line (hear a.arisen.history) → CountedIn longer from.line (refused_asks (hear a.arisen.history)) → Arises longer at from.line o news new turn
-  moved trace longer at known hear old new from to o turn nexts news met called m kept alive start options same keeps low risen up reached a knows hears owns counts =
+      → (a : StandArises w trace at from nexts old) → known a.arisen.history → ShownIn trace at (hear a.arisen.history) → AreOwn from.line (hear a.arisen.history) → CountedIn longer from.line (refused_asks (hear a.arisen.history)) → MarkedIn longer at new → Arises longer at from.line o news new turn
+  moved trace longer at known hear old new from to o turn nexts news met called m kept alive start options same keeps low risen up reached a knows hears owns counts marked =
       let h = a.arisen.history in
       let after_all = after from.line from.beat (hear h) m.sends in
       let own = own_after from.line from.line from.beat (hear h) m.sends owns in
@@ -250,6 +263,7 @@ module _ {P Q K A B D : Type 0} (w : Ways P Q K A B D) (p : IsLawful w.prewritin
         record {
           ordered = subst IsOrdered (sym same) a.ordered;
           retries = retries;
+          marked = marked;
           arisen = record {
             history = after_all;
             fits = later_fits new to o after_all (reached_later from to o m.line m.beat reached) fits;
@@ -307,8 +321,9 @@ module _ {P Q K A B D : Type 0} (w : Ways P Q K A B D) (p : IsLawful w.prewritin
       → Expects (work_waits w old.work) (work_waits w new.work) (λ x. x ≡ awaited_as a) from to
       → ((work_waits w old.work (awaited_as a) → ⊥) → awaits a from old.commits ≡ false → new.commits ≡ old.commits)
       → (old.work ≡ Idle → (turn ≡ Waits) × (new ≡ old) × (to ≡ from)) → GivesUp old new turn → TransactionReady w old
+      → ((h : List Event) → is_open old.work ≡ true → TransactionFits w old from h → IfKept turn (IsFollowed from (heard a from old.commits) new.commits))
       → IfKept turn (StandGoes w (owing from.line (tells.Heard a)) (λ x. x ≡ awaited_as a) (is_open old.work ≡ true) (λ trace. CameIn trace from a) old new from to turn)
-  hears_goes a old new from to pd pd' turn told start options same goes expects commits deaf gone ready = if_kept turn (λ kept. record {
+  hears_goes a old new from to pd pd' turn told start options same goes expects commits deaf gone ready follows = if_kept turn (λ kept. record {
     arises = λ trace longer at met called came nexts news o low risen up reached x.
         by kept a refl (owing from.line (tells.Heard a) trace) longer at (owing_met (tells.Heard a) trace longer from to met) (owing_called from.line (tells.Heard a) from.line at trace called) (owing_came from.line from a trace came)
         (counts_heard a from trace longer met.longer) nexts news o low risen up reached x;
@@ -321,12 +336,22 @@ module _ {P Q K A B D : Type 0} (w : Ways P Q K A B D) (p : IsLawful w.prewritin
           → ((r : Request) (h : List Event) → CountedIn trace from.line (refused_asks h) → CountedIn longer from.line (refused_asks ((told_by a from r).hear h)))
           → (nexts news : List ℕ) (o : Posted) → next_at nexts from.line ≤ from.next → IsRisen nexts news → to.next ≤ next_at news from.line → IsReached from to o → StandArises w trace at from nexts old → Arises longer at from.line o news new turn
 
+      marked : turn ≢ Stopped → (trace longer : Option Trace) (at : ℕ) (nexts : List ℕ) → LongerIn trace longer → CameIn trace from a → StandArises w trace at from nexts old → MarkedIn longer at new
+      marked kept trace longer at nexts l came x parts whole u e =
+          let f = x.arisen.fits in
+          let before = ap parts_of (sym same) ∙ whole in
+          let lost : LostIn trace at (plan_of parts) (version_of old.start) u = elim (marks w a old new from to turn follows deaf gone kept x.arisen.history f u e) [
+            | inl is ↦ x.marked parts before u is
+            | inr m ↦ lost_came (plan_of parts) (version_of old.start) old.commits a from trace at x.arisen.history u (fits_known w old from x.arisen.history (λ g. let d = gone.after g in kept d.0) f parts before) x.arisen.shown came m.0
+          ] in
+          subst (λ s. LostIn longer at (plan_of parts) (version_of s) u) (sym start) (lost_longer trace longer at (plan_of parts) (version_of old.start) u l lost)
+
       by_reply : turn ≢ Stopped → (n : ℕ) → awaited_as a ≡ ReplyTo n → awaits a from old.commits ≡ is_out (ticket_of from n) old.commits
           → ((r : Request) (h : List Event) → Has h (Sent (ticket_of from n) r) → ((s : Request) → Has h (Sent (ticket_of from n) s) → s ≡ r) → (told_by a from r).known h)
           → Goal
       by_reply kept n is out knows trace longer at met called came counts nexts news o low risen up reached x = elim (sent_or_not x.arisen.history (ticket_of from n)) [
         | inl (r, i) ↦ moved trace longer at _ _ old new from to o turn nexts news met called (told r) kept (heard_alive _ _ new from to pd pd' turn goes) start options same (kept_heard a from r nexts) low risen up reached x (knows r x.arisen.history i (λ s j. x.arisen.kept.alone (ticket_of from n) r s i j))
-            (shown_heard trace at a from r x.arisen.history called came (λ m e. subst (λ j. SentIn trace (ticket_of from j) r) (one m (sym is ∙ e)) (sent_shown trace at x.arisen.history (ticket_of from n) r x.arisen.shown i)) x.arisen.shown) (own_heard a from r x.arisen.history met.calls x.arisen.own) (counts r x.arisen.history x.arisen.counted)
+            (shown_heard trace at a from r x.arisen.history called came (λ m e. subst (λ j. SentIn trace (ticket_of from j) r) (one m (sym is ∙ e)) (sent_shown trace at x.arisen.history (ticket_of from n) r x.arisen.shown i)) x.arisen.shown) (own_heard a from r x.arisen.history met.calls x.arisen.own) (counts r x.arisen.history x.arisen.counted) (marked kept trace longer at nexts met.longer came x)
         | inr never ↦ unknown trace longer at a n old new from to o pd pd' turn nexts news met.longer is out goes commits deaf gone kept risen reached x never
       ]
         where
@@ -336,7 +361,7 @@ module _ {P Q K A B D : Type 0} (w : Ways P Q K A B D) (p : IsLawful w.prewritin
       -- where it is no reply and no loss
       comes : turn ≢ Stopped → {b : Arrival} → ((m : ℕ) → awaited_as b ≡ ReplyTo m → ⊥) → a ≡ b → Goal
       comes kept {b} other e trace longer at met called came counts nexts news o low risen up reached x = moved trace longer at _ _ old new from to o turn nexts news met called (told members) kept (heard_alive _ _ new from to pd pd' turn goes) start options same (kept_heard a from members nexts) low risen up reached x (known_so a from members x.arisen.history (λ m f. other m (sym (ap awaited_as e) ∙ f)))
-          (shown_heard trace at a from members x.arisen.history called came (λ m f. absurd (other m (sym (ap awaited_as e) ∙ f))) x.arisen.shown) (own_heard a from members x.arisen.history met.calls x.arisen.own) (counts members x.arisen.history x.arisen.counted)
+          (shown_heard trace at a from members x.arisen.history called came (λ m f. absurd (other m (sym (ap awaited_as e) ∙ f))) x.arisen.shown) (own_heard a from members x.arisen.history met.calls x.arisen.own) (counts members x.arisen.history x.arisen.counted) (marked kept trace longer at nexts met.longer came x)
 
       by : turn ≢ Stopped → (b : Arrival) → a ≡ b → Goal
       by kept (arrivals.Reply n x) e = by_reply kept n (ap awaited_as e) (ap (λ b. awaits b from old.commits) e) (λ r h i alone. subst (λ b. (told_by b from r).known h) (sym e) (record { sent = i; alone = alone }))
@@ -358,9 +383,10 @@ module _ {P Q K A B D : Type 0} (w : Ways P Q K A B D) (p : IsLawful w.prewritin
       → Expects (work_waits w old.work) (work_waits w new.work) (λ x. x ≡ awaited_as a) from to
       → ((work_waits w old.work (awaited_as a) → ⊥) → awaits a from old.commits ≡ false → new.commits ≡ old.commits)
       → (old.work ≡ Idle → (turn ≡ Waits) × (new ≡ old) × (to ≡ from)) → GivesUp old new turn → TransactionReady w old
+      → ((h : List Event) → is_open old.work ≡ true → TransactionFits w old from h → IfKept turn (IsFollowed from (heard a from old.commits) new.commits))
       → IfKept turn (StandGoes w (owing from.line (tells.Heard b)) (λ x. x ≡ awaited_as b) (is_open old.work ≡ true) (λ trace. CameIn trace from b) old new from to turn)
-  heard_goes b a old new from to pd pd' turn e told start options same goes expects commits deaf gone ready =
-      subst (λ d. IfKept turn (StandGoes w (owing from.line (tells.Heard d)) (λ x. x ≡ awaited_as d) (is_open old.work ≡ true) (λ trace. CameIn trace from d) old new from to turn)) (sym e) (hears_goes a old new from to pd pd' turn told start options same goes expects commits deaf gone ready)
+  heard_goes b a old new from to pd pd' turn e told start options same goes expects commits deaf gone ready follows =
+      subst (λ d. IfKept turn (StandGoes w (owing from.line (tells.Heard d)) (λ x. x ≡ awaited_as d) (is_open old.work ≡ true) (λ trace. CameIn trace from d) old new from to turn)) (sym e) (hears_goes a old new from to pd pd' turn told start options same goes expects commits deaf gone ready follows)
 
   -- It is asked for something.
 
@@ -406,6 +432,7 @@ module _ {P Q K A B D : Type 0} (w : Ways P Q K A B D) (p : IsLawful w.prewritin
           record {
             ordered = now;
             retries = subst (λ (t : Standing P Q K). RetriesIn trace at t.options.retry_options) (sym ends.1) x.retries;
+            marked = λ parts whole u e. none_marked w old o x.arisen.history u (may refl) x.arisen.fits (ap (λ (t : Standing P Q K). t.commits.lost) (sym ends.1) ∙ e);
             arisen = record {
               history = x.arisen.history;
               fits = subst (λ (t : Standing P Q K). TransactionFits w t o x.arisen.history) (sym ends.1) (written_fits w old new.contents o x.arisen.history (may refl) idle now x.arisen.fits);
@@ -455,14 +482,15 @@ module _ {P Q K A B D : Type 0} (w : Ways P Q K A B D) (p : IsLawful w.prewritin
   -- it begins a commit, or is refused
   pub commits_goes : (knows : Option Trace → Type 0) (e : Error) (b : Bool) (old new : Standing P Q K) (from to : Posted) (turn : Turn (Result (TxnAnswer Q) Error)) → (b ≡ false → Notes knows from.line (Some e))
       → (b ≡ false → IsRefused e old new turn × (to ≡ from)) → (b ≡ true → TransactionMoves w (λ h. ⊤) (λ h. h) old new from to turn) → new.start ≡ old.start → new.options ≡ old.options → new.contents ≡ old.contents
-      → Opens w new from to turn → is_open new.work ≡ is_waiting turn
+      → Opens w new from to turn → is_open new.work ≡ is_waiting turn → IfKept turn (new.commits.lost ≡ old.commits.lost)
       → IfKept turn (StandGoes w (λ trace. trace) (λ a. ⊥) ⊤ knows old new from to turn)
-  commits_goes knows e true old new from to turn notes refused moves start options same opens busy = if_kept turn (λ kept. record {
-    arises = λ trace longer at met called known nexts news o low risen up reached x. moved trace longer at _ _ old new from to o turn nexts news met called (moves refl) kept (opened_alive new turn opens.next) start options same (λ h y. y) low risen up reached x tt x.arisen.shown x.arisen.own (counted_longer trace longer from.line (refused_asks x.arisen.history) met.longer x.arisen.counted);
+  commits_goes knows e true old new from to turn notes refused moves start options same opens busy lost = if_kept turn (λ kept. record {
+    arises = λ trace longer at met called known nexts news o low risen up reached x. moved trace longer at _ _ old new from to o turn nexts news met called (moves refl) kept (opened_alive new turn opens.next) start options same (λ h y. y) low risen up reached x tt x.arisen.shown x.arisen.own (counted_longer trace longer from.line (refused_asks x.arisen.history) met.longer x.arisen.counted)
+        (marked_same trace longer at old new met.longer same start (IfKept-out turn kept lost) x.marked);
     expects = opened old new from to turn opens;
     runs = λ any f. waiting_open turn new.work busy f;
   })
-  commits_goes knows e false old new from to turn notes refused moves start options same opens busy = let r = refused refl in if_kept turn (λ kept. record {
+  commits_goes knows e false old new from to turn notes refused moves start options same opens busy lost = let r = refused refl in if_kept turn (λ kept. record {
     arises = λ trace longer at met called known nexts news o low risen up reached x. (stays trace longer at old new from to o nexts news met.longer (refused_stays e old new turn r.0) r.1 risen reached x, refused_fails e old new trace longer at from.line turn r.0 met.longer (notes refl trace known));
     expects = opened old new from to turn opens;
     runs = λ any f. waiting_open turn new.work busy f;
@@ -479,6 +507,7 @@ module _ {P Q K A B D : Type 0} (w : Ways P Q K A B D) (p : IsLawful w.prewritin
       by (inl i) (inr g) = subst (StandArises w longer at o news) (sym (e ∙ ap (λ (y : Work P Q K). record old { work = y }) g)) (record {
         ordered = x.ordered;
         retries = retries_longer trace longer at old.options.retry_options l x.retries;
+        marked = marked_longer trace longer at old l x.marked;
         arisen = record {
           history = x.arisen.history;
           fits = record { given = x.arisen.fits.given; unsent = x.arisen.fits.unsent; settled = x.arisen.fits.settled; at = tt };
@@ -489,35 +518,27 @@ module _ {P Q K A B D : Type 0} (w : Ways P Q K A B D) (p : IsLawful w.prewritin
         };
       })
 
-  -- of those that may have committed it the first that was lost is named
-  lost_first : (c : Commits) (t : Ticket) → is_some c.lost ≡ true → undetermined c ≡ Some t → c.lost ≡ Some t
-  lost_first c t some left = by c.lost refl some left
-    where
-      by : (lost : Option Ticket) → c.lost ≡ lost → is_some lost ≡ true → or_first lost c.out ≡ Some t → c.lost ≡ Some t
-      by None e holds first = absurd (cc)
-      by (Some u) e holds first = e ∙ first
-
   unknown_fails : (trace longer : Option Trace) (at : ℕ) (t : Ticket) (old : Standing P Q K) (o : Posted) (nexts : List ℕ) (turn : Turn (Result (TxnAnswer Q) Error)) → LongerIn trace longer → RollsIn trace o.line → (old.work ≡ GaveUp → ⊥) → undetermined old.commits ≡ Some t → SaysLoss turn old → IsUndetermined t turn → StandArises w trace at o nexts old → IfEnds turn (IfFails (FailsAt w longer at o.line))
   unknown_fails trace longer at t old o nexts Stopped l rolls alive left says u x = tt
   unknown_fails trace longer at t old o nexts Waits l rolls alive left says u x = tt
   unknown_fails trace longer at t old o nexts (Ends (Ok v)) l rolls alive left says u x = tt
   unknown_fails trace longer at t old o nexts (Ends (Err e)) l rolls alive left says u x =
       let h = x.arisen.history in
-      let k = known_lost w old o h alive x.arisen.fits t (lost_first old.commits t (says (ap is_undetermined_view u)) left) in
-      barred_by w longer at o.line e h (shown_longer trace longer at h l x.arisen.shown) x.arisen.own (counted_longer trace longer o.line (refused_asks h) l x.arisen.counted) (rolls_longer trace longer o.line l rolls) (record { transaction = k.0; ticket = t; left = k.1; error = u })
+      barred_by w old o h alive x.arisen.fits t (lost_first old.commits t (says (ap is_undetermined_view u)) left) longer at o.line e u (shown_longer trace longer at h l x.arisen.shown) x.arisen.own (counted_longer trace longer o.line (refused_asks h) l x.arisen.counted)
+      (rolls_longer trace longer o.line l rolls) (marked_longer trace longer at old l x.marked)
 
   pub rollbacks_goes : (knows : Option Trace → Type 0) (e : Error) (b : Bool) (lost : Option Ticket) (old new : Standing P Q K) (from to : Posted) (turn : Turn (Result (TxnAnswer Q) Error)) → (b ≡ false → Notes knows from.line (Some e)) → ((trace : Option Trace) → knows trace → RollsIn trace from.line) → undetermined old.commits ≡ lost
       → (b ≡ false → IsRefused e old new turn × (to ≡ from))
       → ((t : Ticket) → b ≡ true → lost ≡ Some t → IsUndetermined t turn × (new ≡ record old { work = new.work }) × (to ≡ from))
       → (b ≡ true → lost ≡ None → TransactionMoves w (λ h. ⊤) (λ h. h) old new from to turn) → new.start ≡ old.start → new.options ≡ old.options → new.contents ≡ old.contents
-      → Opens w new from to turn → is_open new.work ≡ is_waiting turn → is_open old.work ≡ false → GivesUp old new turn → SaysLoss turn new
+      → Opens w new from to turn → is_open new.work ≡ is_waiting turn → is_open old.work ≡ false → GivesUp old new turn → SaysLoss turn new → new.commits ≡ old.commits
       → IfKept turn (StandGoes w (λ trace. trace) (λ a. ⊥) ⊤ knows old new from to turn)
-  rollbacks_goes knows e true None old new from to turn notes rolls is_lost refused unsure moves start options same opens busy rests gone says =
-      commits_goes knows e true old new from to turn (λ f. absurd (cc)) (λ f. absurd (cc)) (λ f. moves refl refl) start options same opens busy
-  rollbacks_goes knows e true (Some t) old new from to turn notes rolls is_lost refused unsure moves start options same opens busy rests gone says = let u = unsure t refl refl in if_kept turn (λ kept. record {
+  rollbacks_goes knows e true None old new from to turn notes rolls is_lost refused unsure moves start options same opens busy rests gone says commits =
+      commits_goes knows e true old new from to turn (λ f. absurd (cc)) (λ f. absurd (cc)) (λ f. moves refl refl) start options same opens busy (IfKept-all turn (ap (λ (c : Commits). c.lost) commits))
+  rollbacks_goes knows e true (Some t) old new from to turn notes rolls is_lost refused unsure moves start options same opens busy rests gone says commits = let u = unsure t refl refl in if_kept turn (λ kept. record {
     arises = λ trace longer at met called known nexts news o low risen up reached x. (left_alone trace longer at t old new from to o turn nexts news met.longer kept rests (busy ∙ ends_shut t turn u.0) gone u.1 u.2 risen reached x, unknown_fails trace longer at t old from nexts turn met.longer (rolls trace known) (λ e. let d = gone.after e in kept d.0) is_lost (λ told. ap (λ (y : Standing P Q K). is_some y.commits.lost) (sym u.1) ∙ says told) u.0 x);
     expects = opened old new from to turn opens;
     runs = λ any f. waiting_open turn new.work busy f;
   })
-  rollbacks_goes knows e false lost old new from to turn notes rolls is_lost refused unsure moves start options same opens busy rests gone says =
-      commits_goes knows e false old new from to turn notes refused (λ f. absurd (cc)) start options same opens busy
+  rollbacks_goes knows e false lost old new from to turn notes rolls is_lost refused unsure moves start options same opens busy rests gone says commits =
+      commits_goes knows e false old new from to turn notes refused (λ f. absurd (cc)) start options same opens busy (IfKept-all turn (ap (λ (c : Commits). c.lost) commits))

@@ -11,13 +11,14 @@ use Rattle.txn_client.specs.Calls.{IsAt}
 use Rattle.txn_client.specs.declared.client_call.ClientCall.{ClientCall}
 use Rattle.txn_client.specs.declared.client_call.Stage.TheVariants as stages
 use Rattle.txn_tso.specs.Calling.{members}
+use Rattle.txn_side.specs.Doubt.{CallOf, itself}
 use Rattle.txn_side.specs.Arising.{answered_at}
-use Rattle.txn_side.specs.Sight.{EndsAlone, client_at, stand_at}
+use Rattle.txn_side.specs.Sight.{EndsAlone, client_at, stand_at, commits}
 use Rattle.txn_side.specs.Sight.Stand.{Asking, Calling, HasBegun, Idle}
 use Rattle.txn_side.specs.declared.act.Act.{Act}
 use Rattle.txn_side.specs.declared.turn.Ending.{Ending}
 use Rattle.txn_side.specs.declared.turn.Posting.{Posting}
-use Rattle.txn_clients.specs.Arising.{Anyhow, KeepRight, LeadsGroup, LeadsSent, LeadsTold, LeadsWith, StepsGroup, StepsTold, heard_by}
+use Rattle.txn_clients.specs.Arising.{Anyhow, KeepRight, LeadsGroup, LeadsSent, LeadsTold, LeadsWith, StepsGroup, StepsTold, heard_by, AsksSo}
 use Rattle.txn_clients.specs.Clients.{AreReady, nexts_of, row_at, rows_of, stands_of}
 use Rattle.txn_clients.specs.Matching.{IsLine}
 use Rattle.txn_clients.specs.Rows.{Pd, stand_of, with_waits}
@@ -58,8 +59,8 @@ module _ {P Q K : Type 0} where
     -- a part, and then the group that goes out
 
     pub told_steps : (told : Told) (line client : ℕ) (s m t : Clients P Q K) (ps qs rs : List Posting) (es fs gs : List Ending) → ps ≡ [] → es ≡ [] → gs ≡ fs → LeadsTold w told line client ps qs es fs s m → LeadsSent w qs rs fs gs (heard_by m) m t → StepsTold w told line client rs gs s t
-    told_steps told line client s m t ps qs rs es fs gs none empty unended f g askers h r own can a =
-        let first = subst (λ xs. LeadsTold w told line client xs qs [] fs s m) none (subst (λ xs. LeadsTold w told line client ps qs xs fs s m) empty f) askers [] h r own can a in
+    told_steps told line client s m t ps qs rs es fs gs none empty unended f g askers h r fits own can a =
+        let first = subst (λ xs. LeadsTold w told line client xs qs [] fs s m) none (subst (λ xs. LeadsTold w told line client ps qs xs fs s m) empty f) askers [] h r fits own can a in
         let next = g askers first.later first.arisen in
         (next.0, leads_unended w askers next.0 [] [] [] qs rs [] fs gs (heard_by s) (heard_by m) s m t _ h Anyhow Anyhow unended first next.1)
 
@@ -71,7 +72,7 @@ module _ {P Q K : Type 0} where
 
     -- A call begins
 
-    begins_with : (s m t : Clients P Q K) (line : ℕ) (at : ℕ → ℕ) (shown h : List Event) (ps : List Posting) (es : List Ending) → heard_by m line ≡ at line → EndsAlone line es → KeepRight (rows_of s) (rows_of m) → LeadsWith w [] ps [] es (heard_by m) m t shown h → LeadsWith w [] ps [] es at s t shown h
+    begins_with : (s m t : Clients P Q K) (line : ℕ) (at : ℕ → CallOf) (shown h : List Event) (ps : List Posting) (es : List Ending) → heard_by m line ≡ at line → EndsAlone line es → KeepRight (rows_of s) (rows_of m) → LeadsWith w [] ps [] es (heard_by m) m t shown h → LeadsWith w [] ps [] es at s t shown h
     begins_with s m t line at shown h ps es heard alone kept f =
         let from = leads_from w f.0 [] [] ps [] es (heard_by m) s m t shown h h Anyhow Anyhow (Within-refl h) kept (λ later y. y) f.1 in (
           f.0,
@@ -81,10 +82,10 @@ module _ {P Q K : Type 0} where
         )
 
     pub ask_leads : (s m t : Clients P Q K) (line c : ℕ) (b : Bool) (call : ClientCall Pd P Q K) (ps : List Posting) (es : List Ending) → IsLine (stands_of (rows_of s)) line → stand_at (stands_of (rows_of s)) line ≡ Idle → call.stage ≡ stages.Fresh
-        → rows_of m ≡ set (rows_of s) (line - 1) (row.Asking c b call) → nexts_of m ≡ nexts_of s → asks_of m ≡ asks_of s → m.clients ≡ s.clients → EndsAlone line es → StepsTold w tells.Start line c ps es m t → LeadsSent w [] ps [] es (λ n. n) s t
+        → rows_of m ≡ set (rows_of s) (line - 1) (row.Asking c b call) → nexts_of m ≡ nexts_of s → asks_of m ≡ asks_of s → m.clients ≡ s.clients → EndsAlone line es → StepsTold w tells.Start line c ps es m t → LeadsSent w [] ps [] es itself s t
     ask_leads s m t line c b call ps es is idle fresh rows nexts asks clients alone f askers h a =
-        begins_with s m t line (λ n. n) _ h ps es (ap (answered_at line) stands) alone (subst (KeepRight (rows_of s)) (sym rows) (right_unended (rows_of s) (line - 1) (row.Asking c b call) within unended))
-        (f askers h members (ap client_at stands) tt
+        begins_with s m t line itself _ h ps es (ap (answered_at line) stands) alone (subst (KeepRight (rows_of s)) (sym rows) (right_unended (rows_of s) (line - 1) (row.Asking c b call) within unended))
+        (f askers h members tt (ap client_at stands) tt
         (arisen_set w s m askers [] h (line - 1) (row.Asking c b call) within rows nexts asks clients (unended_replaced w askers h (line - 1) (row_at (rows_of s) (line - 1)) (row.Asking c b call) unended (λ n y. absurd y)) (subst (λ g. IsAt g (posted_at (nexts_of s) (asks_of s) (voice (line - 1) (Asking c b))) h) (sym fresh) tt) a))
       where
         within : line - 1 < length (rows_of s)
@@ -98,13 +99,13 @@ module _ {P Q K : Type 0} where
 
     pub call_leads : (s m n t : Clients P Q K) (line x c : ℕ) (b : Bool) (act : Act) (ps : List Posting) (es : List Ending) → IsLine (stands_of (rows_of s)) line → stand_at (stands_of (rows_of s)) line ≡ Idle → stand_at (stands_of (rows_of s)) x ≡ HasBegun c 0 → AreReady w (rows_of s)
         → rows_of m ≡ set (rows_of s) (x - 1) (with_waits line (row_at (rows_of s) (x - 1))) → nexts_of m ≡ nexts_of s → asks_of m ≡ asks_of s → m.clients ≡ s.clients
-        → rows_of n ≡ set (rows_of m) (line - 1) (row.Calling c x b) → nexts_of n ≡ nexts_of m → asks_of n ≡ asks_of m → n.clients ≡ m.clients → EndsAlone line es → StepsTold w (tells.Act act) line c ps es n t → LeadsSent w [] ps [] es (λ i. x) s t
-    call_leads s m n t line x c b act ps es is idle free ready rows_m nexts_m asks_m clients_m rows nexts asks clients alone f askers h a =
-        begins_with s n t line (λ i. x) _ h ps es (ap (answered_at line) stands) alone
+        → rows_of n ≡ set (rows_of m) (line - 1) (row.Calling c x b) → nexts_of n ≡ nexts_of m → asks_of n ≡ asks_of m → n.clients ≡ m.clients → EndsAlone line es → b ≡ commits act → StepsTold w (tells.Act act) line c ps es n t → LeadsSent w [] ps [] es (λ i. record { at = x; commits = commits act }) s t
+    call_leads s m n t line x c b act ps es is idle free ready rows_m nexts_m asks_m clients_m rows nexts asks clients alone kind f askers h a =
+        begins_with s n t line (λ i. record { at = x; commits = commits act }) _ h ps es (ap (answered_at line) (stands ∙ ap (λ flag. Calling c x flag) kind)) alone
         (kept_then (rows_of s) (rows_of m) (rows_of n)
         (subst (KeepRight (rows_of s)) (sym rows_m) (right_waits (rows_of s) (x - 1) line within_x))
         (subst (KeepRight (rows_of m)) (sym rows) (right_unended (rows_of m) (line - 1) (row.Calling c x b) within_m unended)))
-        (f askers h members (ap client_at stands) tt
+        (f askers h members (subst (AsksSo act) (sym stands) kind) (ap client_at stands) tt
         (arisen_set w m n askers [] h (line - 1) (row.Calling c x b) within_m rows nexts asks clients (unended_replaced w askers h (line - 1) (row_at (rows_of m) (line - 1)) (row.Calling c x b) unended (λ i y. absurd y)) tt
         (arisen_set w s m askers [] h (x - 1) (with_waits line mine) within_x rows_m nexts_m asks_m clients_m
         (waits_replaced w askers h (x - 1) line mine (a.draws.starts (x - 1)))

@@ -1,5 +1,5 @@
 -- How far the transactions that stand at the lines have come, and what they have taken in.
-use Rattle.std.specs.Prelude.{◌≡◌, ◌≢◌, ⊤, ℕ, Bool, true, false, List, Option, Some, None, Result, Ok, Err, is_some, option_map, slice_index_or}
+use Rattle.std.specs.Prelude.{◌≡◌, ◌≢◌, ⊤, ℕ, Bool, true, false, List, Option, Some, None, Result, Ok, Err, is_some, option_map, slice_index_or, length, ◌≤◌}
 use Rattle.std.proofs.Common.{zero, suc}
 use Rattle.txn_kv.specs.ErrorView.{view_of}
 use Rattle.txn_kv.specs.Timestamp.{version_of}
@@ -32,6 +32,8 @@ use Rattle.txn_clients.specs.declared.row.Row.{Row}
 use Rattle.txn_clients.specs.declared.row.Row.TheVariants as row
 use Rattle.txn_clients.specs.declared.told.Told.{Told}
 use Rattle.txn_clients.specs.declared.told.Told.TheVariants as tells
+use Rattle.txn_plan.specs.declared.arrival.Arrival.{Arrival}
+use Rattle.txn_plan.specs.declared.arrival.Arrival.TheVariants as arrivals
 
 -- A transaction
 
@@ -153,6 +155,13 @@ says_undetermined (Ends (Err e)) = is_undetermined e
 -- it says so only where a Commit of its primary was lost
 abbrev pub SaysLoss : {P Q K : Type 0} → Turn (Result (TxnAnswer Q) Error) → Standing P Q K → Type 0
 SaysLoss turn t = says_undetermined turn ≡ true → is_some t.commits.lost ≡ true
+
+-- One Commit of its primary is out at most where one is lost, but where one was lost before.
+abbrev pub IsAlone : {P Q K : Type 0} → Arrival → Standing P Q K → Type 0
+IsAlone (arrivals.Reply n x) t = ⊤
+IsAlone (arrivals.Lost n) t = is_some t.commits.lost ≡ false → length t.commits.out ≤ 1
+IsAlone (arrivals.Slept n) t = ⊤
+IsAlone (arrivals.Time n x) t = ⊤
 
 -- a commit ends with no other answer
 abbrev pub EndsCommit : {Q : Type 0} → Result (TxnAnswer Q) Error → Type 0

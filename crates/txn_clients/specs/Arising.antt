@@ -4,7 +4,10 @@ use Rattle.std.specs.Prelude.{IfSome, ◌≡◌, ◌≢◌, ◌⊎◌, ⊤, ℕ,
 use Rattle.std.proofs.Common.{suc, zero}
 use Rattle.std.specs.List.{All}
 use Rattle.txn_kv.specs.Timestamp.{version_of}
+use Rattle.txn_kv.specs.ErrorView.{view_of}
+use Rattle.txn_kv.specs.ErrorView.ErrorView.{undetermined as not_known}
 use Rattle.txn_kv.specs.declared.errors.Error.{Error}
+use Rattle.txn_kv.specs.declared.errors.Error.TheVariants.{GrpcAPI}
 use Rattle.txn_kv.specs.declared.outbox.Errand.TheVariants.{Ask, Send, Sleep}
 use Rattle.txn_kv.specs.declared.reply.Reply.{Reply}
 use Rattle.txn_kv.specs.declared.request.CommitRequest.{CommitRequest}
@@ -35,7 +38,7 @@ use Rattle.txn_commit.specs.Sending.{MaySendBehind, plan_of}
 use Rattle.txn_commit.specs.declared.commit_parts.CommitParts.{CommitParts}
 use Rattle.txn_commit.specs.declared.secondary_job.SecondaryJob.{SecondaryJob}
 use Rattle.txn_core.specs.Going.{MaySendFor, TransactionFits, TransactionGives}
-use Rattle.txn_core.specs.Status.{allows_data}
+use Rattle.txn_core.specs.Status.{allows_data, has_turned_back}
 use Rattle.txn_core.specs.Transaction.{IsOrdered, Standing, has_given_up, locks_nothing}
 use Rattle.txn_core.specs.declared.txn_answer.TxnAnswer.TheVariants as answer
 use Rattle.txn_client.specs.Calls.{CallGives, IsAt}
@@ -46,9 +49,10 @@ use Rattle.txn_report.specs.declared.outcome.Outcome.TheVariants as outcomes
 use Rattle.txn_report.specs.declared.outcome.Payload.TheVariants as payloads
 use Rattle.txn_side.specs.Account.{is_undetermined}
 use Rattle.txn_side.specs.Arising.{answered_at, with_postings}
-use Rattle.txn_side.specs.Doubt.{IsRefusal}
-use Rattle.txn_side.specs.Sight.{client_at, next_at, stand_at}
+use Rattle.txn_side.specs.Doubt.{CallOf, IsRefusal}
+use Rattle.txn_side.specs.Sight.{Stand, client_at, commits, next_at, stand_at}
 use Rattle.txn_side.specs.Sight.Stand.{Calling}
+use Rattle.txn_side.specs.declared.act.Act.{Act}
 use Rattle.txn_side.specs.declared.turn.Ending.{Ending}
 use Rattle.txn_side.specs.declared.turn.Posting.{Posting}
 use Rattle.txn_side.specs.declared.turn.Posting.TheVariants as postings
@@ -62,6 +66,7 @@ use Rattle.txn_tso.specs.Oracle.{Answer as Answered}
 use Rattle.txn_tso.specs.declared.asker.Asker.{Asker}
 use Rattle.txn_clients.specs.Clients.{nexts_of, row_at, rows_of, stands_of}
 use Rattle.txn_clients.specs.Failing.{outbox_of}
+use Rattle.txn_clients.specs.First.{LostFirst}
 use Rattle.txn_clients.specs.Rows.{stand_of}
 use Rattle.txn_clients.specs.Waiting.{Book, IsHeard, asks_of, book_at, posted_at, voice_at}
 use Rattle.txn_clients.specs.declared.answer.Answer.{Answer}
@@ -113,16 +118,36 @@ pub record IsSettled {P Q K : Type 0} (t : Standing P Q K) (h : List Event) : Ty
   pub knows : KnowsCommits (plan_of parts) (version_of t.start) t.commits h
   pub none : undetermined t.commits ≡ None
 
--- and what a transaction answers that is committed, which stood so before, and is written no more; or that fails: it was refused, or
--- says that it is in doubt, and a Commit of its primary was lost, or it says no such thing, and is in none
-abbrev pub CallStands : {P Q K A B D : Type 0} → Ways P Q K A B D → Standing P Q K → Standing P Q K → Option (Answer P Q K) → List Event → Type 0
-CallStands w old new (Some (answers.Called (Ok (answer.Committed t job)))) h = (allows_data new.status ≡ false) × TransactionGives w old.options.retry_options old.start old.contents new.commits h (Ok (answer.Committed t job))
-CallStands w old new (Some (answers.Called (Err e))) h = IsRefusal e ⊎ (((is_undetermined e ≡ true) × HasLostOne new h) ⊎ ((is_undetermined e ≡ false) × IsSettled new h))
-CallStands w old new answer h = ⊤
+-- An error says that it is not known whether the transaction is committed, since that one was lost. It is written no more.
+pub record NamesLost {P Q K : Type 0} (t : Standing P Q K) (h : List Event) (e : Error) : Type 0 where
+  pub parts : CommitParts
+  pub closed : allows_data t.status ≡ false
+  pub whole : parts_of t.contents ≡ Some parts
+  pub ticket : Ticket
+  pub error : view_of e ≡ not_known (view_of (GrpcAPI ticket))
+  pub first : LostFirst (version_of t.start) parts.primary h ticket
 
--- A transaction can have arisen from the history, the keys of its buffer are in order, and it has not given up.
+-- what it was told was of a call that does not commit it
+abbrev pub TurnsBack : {P Q K : Type 0} → Told → Standing P Q K → Type 0
+TurnsBack tells.Start t = ⊤
+TurnsBack (tells.Act act) t = commits act ≡ false
+TurnsBack (tells.Heard a) t = has_turned_back t.status ≡ true
+
+-- and what a transaction answers that is committed, which stood so before, and is written no more; or that fails: it was refused, or
+-- says that it is in doubt, and a Commit of its primary was lost, which it names if it does not commit; or it says no such thing, and is
+-- in none
+abbrev pub CallStands : {P Q K A B D : Type 0} → Ways P Q K A B D → Told → Standing P Q K → Standing P Q K → Option (Answer P Q K) → List Event → Type 0
+CallStands w told old new (Some (answers.Called (Ok (answer.Committed t job)))) h = (allows_data new.status ≡ false) × TransactionGives w old.options.retry_options old.start old.contents new.commits h (Ok (answer.Committed t job))
+CallStands w told old new (Some (answers.Called (Err e))) h = IsRefusal e ⊎ (((is_undetermined e ≡ true) × HasLostOne new h × (TurnsBack told new → NamesLost new h e)) ⊎ ((is_undetermined e ≡ false) × IsSettled new h))
+CallStands w told old new answer h = ⊤
+
+-- the Commit of its primary that a transaction marks as lost was the first
+abbrev pub IsMarked : {P Q K : Type 0} → Standing P Q K → List Event → Type 0
+IsMarked t h = (parts : CommitParts) → parts_of t.contents ≡ Some parts → (u : Ticket) → t.commits.lost ≡ Some u → LostFirst (version_of t.start) parts.primary h u
+
+-- A transaction can have arisen from the history, the keys of its buffer are in order, it has not given up, and what it marks is right.
 abbrev pub StandFits : {P Q K A B D : Type 0} → Ways P Q K A B D → Standing P Q K → Posted → List Event → Type 0
-StandFits w t o h = IsOrdered t.contents × TransactionFits w t o h × (has_given_up t.work ≡ false)
+StandFits w t o h = IsOrdered t.contents × TransactionFits w t o h × (has_given_up t.work ≡ false) × IsMarked t h
 
 -- A transaction stays itself. Once it may be written no more that stays so, and what it writes is what it wrote before; and only then does
 -- it post anything.
@@ -135,7 +160,7 @@ pub record KeepsPlan {P Q K : Type 0} (old new : Standing P Q K) (from to : Post
 -- A transaction is told of something: what it posts, and what it and its answer can have arisen from.
 pub record StandMoves {P Q K A B D : Type 0} (w : Ways P Q K A B D) (told : Told) (old new : Standing P Q K) (from to : Posted) (answer : Option (Answer P Q K)) : Type 0 where
   pub keeps : KeepsPlan old new from to
-  pub moves : (r : Request) → Moved (MaySendFor old.contents (version_of old.start)) (λ h. StandFits w old from h × (told_of told from r).known h) (λ h. StandFits w new to h) (λ h. CallStands w old new answer h) (told_of told from r).hear from to
+  pub moves : (r : Request) → Moved (MaySendFor old.contents (version_of old.start)) (λ h. StandFits w old from h × (told_of told from r).known h) (λ h. StandFits w new to h) (λ h. CallStands w told old new answer h) (told_of told from r).hear from to
 
 -- So is a job of other keys, whatever the plan of its transaction is.
 pub record JobMoves {Q B : Type 0} (m : Meaning Q (Result B Error)) (refuses : RetryOptions → List Event → Error → Type 0) (told : Told) (old new : SecondaryJob Q) (from to : Posted) : Type 0 where
@@ -261,18 +286,24 @@ abbrev pub IsDoubted : {P Q K : Type 0} → List Event → Row P Q K → Type 0
 IsDoubted h (row.Begun c t m) = HasLostOne t h
 IsDoubted h r = ⊥
 
--- What a call of it that fails says is right then. In a longer history it need not be.
-abbrev pub SpeaksRight : {P Q K : Type 0} → List Event → Error → Row P Q K → Type 0
-SpeaksRight h e r = IsRefusal e ⊎ (((is_undetermined e ≡ true) × IsDoubted h r) ⊎ ((is_undetermined e ≡ false) × IsUndoubted h r))
+-- the error names the first that was lost, as a run shows
+abbrev pub IsNamedBy : {P Q K : Type 0} → List Event → Error → Row P Q K → Type 0
+IsNamedBy h e (row.Begun c t m) = NamesLost t (seen h) e
+IsNamedBy h e r = ⊥
 
-abbrev pub SpeaksRightAt : {P Q K : Type 0} → List (Row P Q K) → List Event → ℕ → Error → Type 0
-SpeaksRightAt rows h zero e = ⊥
-SpeaksRightAt rows h (suc i) e = SpeaksRight h e (row_at rows i)
+-- What a call of it that fails says is right then, and one that `turns` back names the Commit that was lost first. In a longer history it
+-- need not be.
+abbrev pub SpeaksRight : {P Q K : Type 0} → List Event → Type 0 → Error → Row P Q K → Type 0
+SpeaksRight h turns e r = IsRefusal e ⊎ (((is_undetermined e ≡ true) × IsDoubted h r × (turns → IsNamedBy h e r)) ⊎ ((is_undetermined e ≡ false) × IsUndoubted h r))
 
--- so of what is answered line n, of the transaction that stands at line x, if it is another
-abbrev pub EndSpeaks : {P Q K : Type 0} → List (Row P Q K) → List Event → ℕ → ℕ → Outcome → Type 0
-EndSpeaks rows h x n (outcomes.Err e) = x ≢ n → SpeaksRightAt rows h x e
-EndSpeaks rows h x n o = ⊤
+abbrev pub SpeaksRightAt : {P Q K : Type 0} → List (Row P Q K) → List Event → ℕ → Type 0 → Error → Type 0
+SpeaksRightAt rows h zero turns e = ⊥
+SpeaksRightAt rows h (suc i) turns e = SpeaksRight h turns e (row_at rows i)
+
+-- so of what is answered line n, of the transaction that stands at another line
+abbrev pub EndSpeaks : {P Q K : Type 0} → List (Row P Q K) → List Event → CallOf → ℕ → Outcome → Type 0
+EndSpeaks rows h call n (outcomes.Err e) = call.at ≢ n → SpeaksRightAt rows h call.at (call.commits ≡ false) e
+EndSpeaks rows h call n o = ⊤
 
 -- What was right of the rows stays so, in each longer history.
 abbrev pub KeepRight : {P Q K : Type 0} → List (Row P Q K) → List (Row P Q K) → Type 0
@@ -300,30 +331,45 @@ CanCome told o r h = ⊤
 
 -- What a row answers: a transaction begins at what its line drew; a commit says where its primary is committed, and hands out the job
 -- of the other keys, or that nothing was locked; and a call that fails says whether it is in doubt.
-abbrev pub AnswerArises : {P Q K A B D : Type 0} → Ways P Q K A B D → (Ticket → List ℕ) → ℕ → Row P Q K → Option (Answer P Q K) → List Event → Type 0
-AnswerArises w askers line r (Some (answers.Asked (Ok (Begun b)))) h = IsDrawn askers h line (version_of b.start)
-AnswerArises w askers line r (Some (answers.Called (Ok (answer.Committed (Some t) job)))) h = IsCommittedSo h (version_of t) r × IfSome job (λ j. (o : Posted) → IsBehind w j o h r)
-AnswerArises w askers line r (Some (answers.Called (Ok (answer.Committed None None)))) h = IsCommittedUnlocked r
-AnswerArises w askers line r (Some (answers.Called (Ok (answer.Committed None (Some job))))) h = ⊥
-AnswerArises w askers line r (Some (answers.Called (Err e))) h = SpeaksRight h e r
-AnswerArises w askers line r answer h = ⊤
+abbrev pub AnswerArises : {P Q K A B D : Type 0} → Ways P Q K A B D → Type 0 → (Ticket → List ℕ) → ℕ → Row P Q K → Option (Answer P Q K) → List Event → Type 0
+AnswerArises w turns askers line r (Some (answers.Asked (Ok (Begun b)))) h = IsDrawn askers h line (version_of b.start)
+AnswerArises w turns askers line r (Some (answers.Called (Ok (answer.Committed (Some t) job)))) h = IsCommittedSo h (version_of t) r × IfSome job (λ j. (o : Posted) → IsBehind w j o h r)
+AnswerArises w turns askers line r (Some (answers.Called (Ok (answer.Committed None None)))) h = IsCommittedUnlocked r
+AnswerArises w turns askers line r (Some (answers.Called (Ok (answer.Committed None (Some job))))) h = ⊥
+AnswerArises w turns askers line r (Some (answers.Called (Err e))) h = SpeaksRight h turns e r
+AnswerArises w turns askers line r answer h = ⊤
+
+-- what is told to a row is of a call that does not commit its transaction
+abbrev pub TurnsRow : {P Q K : Type 0} → Told → Row P Q K → Type 0
+TurnsRow told (row.Begun c t m) = TurnsBack told t
+TurnsRow told r = ⊤
+
+-- the call of a line asks what is told, if that is asked now
+abbrev pub AsksSo : Act → Stand → Type 0
+AsksSo act (Calling c x b) = b ≡ commits act
+AsksSo act s = ⊤
+
+abbrev pub FitsCall : Told → Stand → Type 0
+FitsCall tells.Start s = ⊤
+FitsCall (tells.Act act) s = AsksSo act s
+FitsCall (tells.Heard a) s = ⊤
 
 -- Parts of a step
 
 -- where it stands of what a line's call answers
-abbrev pub heard_by : {P Q K : Type 0} → Clients P Q K → ℕ → ℕ
+abbrev pub heard_by : {P Q K : Type 0} → Clients P Q K → ℕ → CallOf
 heard_by s n = answered_at n (stand_at (stands_of (rows_of s)) n)
 
 -- each that ended in a part answered what is right of what stands there, and said then whether that is in doubt
-pub record EndsRight {P Q K : Type 0} (at : ℕ → ℕ) (t : Clients P Q K) (h : List Event) (before over : List Ending) : Type 0 where
+pub record EndsRight {P Q K : Type 0} (at : ℕ → CallOf) (t : Clients P Q K) (h : List Event) (before over : List Ending) : Type 0 where
   pub more : List Ending
   pub ended : over ≡ before ++ more
-  pub each : All (λ (e : Ending). HoldsAt (rows_of t) h (at e.line) e.outcome) more
+  pub each : All (λ (e : Ending). HoldsAt (rows_of t) h (at e.line).at e.outcome) more
   pub doubts : All (λ (e : Ending). EndSpeaks (rows_of t) h (at e.line) e.line e.outcome) more
 
 -- A part of a step leads on from the history before it: behind that are what was heard, of which a run shows so much, and what was
 -- posted then. The clients can have arisen from the whole.
-pub record Leads {P Q K A B D : Type 0} (w : Ways P Q K A B D) (askers : Ticket → List ℕ) (rest : List Answered) (from to : List Posting) (ended over : List Ending) (at : ℕ → ℕ) (s t : Clients P Q K) (shown h : List Event) (Then : List Event → Type 0) : Type 0 where
+pub record Leads {P Q K A B D : Type 0} (w : Ways P Q K A B D) (askers : Ticket → List ℕ) (rest : List Answered) (from to : List Posting) (ended over : List Ending) (at : ℕ → CallOf) (s t : Clients P Q K) (shown h : List Event) (Then : List Event → Type 0) : Type 0 where
   pub later : List Event
   pub more : List Posting
   pub posted : to ≡ from ++ more
@@ -339,7 +385,7 @@ abbrev pub Anyhow : List Event → Type 0
 Anyhow h = ⊤
 
 -- The next group of a client may go out in it, with lines of its own.
-abbrev pub LeadsWith : {P Q K A B D : Type 0} → Ways P Q K A B D → List Posting → List Posting → List Ending → List Ending → (ℕ → ℕ) → Clients P Q K → Clients P Q K → List Event → List Event → Type 0
+abbrev pub LeadsWith : {P Q K A B D : Type 0} → Ways P Q K A B D → List Posting → List Posting → List Ending → List Ending → (ℕ → CallOf) → Clients P Q K → Clients P Q K → List Event → List Event → Type 0
 LeadsWith w from to ended over at s t shown h = (askers : Ticket → List ℕ) × Leads w askers [] from to ended over at s t shown h Anyhow
 
 -- What is handed on
@@ -386,12 +432,12 @@ pub record PostsGroup {P Q K : Type 0} (client : ℕ) (request : TsoRequest) (li
 abbrev pub LeadsPushed : {P Q K A B D : Type 0} → Ways P Q K A B D → Told → ℕ → ℕ → ℕ → Option (Answer P Q K) → List Posting → List Posting → List Ending → List Ending → Clients P Q K → Clients P Q K → Type 0
 LeadsPushed w told line at client answer from to ended over s t =
     (askers : Ticket → List ℕ) (rest : List Answered) (h : List Event) (r : Request) → IsHeard (stands_of (rows_of s)) line at client → CanCome told (outbox_of line) r h → Arisen w s askers (pends_answer line told rest) h
-    → Leads w askers rest from to ended over (heard_by s) s t (seen ((told_of told (outbox_of line) r).hear h)) h (AnswerArises w askers line (row_at (rows_of t) at) answer)
+    → Leads w askers rest from to ended over (heard_by s) s t (seen ((told_of told (outbox_of line) r).hear h)) h (AnswerArises w (TurnsRow told (row_at (rows_of t) at)) askers line (row_at (rows_of t) at) answer)
 
 -- and the call of the line may have ended
 abbrev pub LeadsTold : {P Q K A B D : Type 0} → Ways P Q K A B D → Told → ℕ → ℕ → List Posting → List Posting → List Ending → List Ending → Clients P Q K → Clients P Q K → Type 0
 LeadsTold w told line client from to ended over s t =
-    (askers : Ticket → List ℕ) (rest : List Answered) (h : List Event) (r : Request) → client_at (stand_at (stands_of (rows_of s)) line) ≡ Some client → CanCome told (outbox_of line) r h → Arisen w s askers (pends_answer line told rest) h
+    (askers : Ticket → List ℕ) (rest : List Answered) (h : List Event) (r : Request) → FitsCall told (stand_at (stands_of (rows_of s)) line) → client_at (stand_at (stands_of (rows_of s)) line) ≡ Some client → CanCome told (outbox_of line) r h → Arisen w s askers (pends_answer line told rest) h
     → Leads w askers rest from to ended over (heard_by s) s t (seen ((told_of told (outbox_of line) r).hear h)) h Anyhow
 
 -- a call ended with an answer that has arisen so
@@ -401,7 +447,7 @@ LeadsEnded w Came from to ended over s t =
 
 -- an answer of the call of a line, to a transaction that stands elsewhere
 abbrev pub CallCame : {P Q K A B D : Type 0} → Ways P Q K A B D → Clients P Q K → ℕ → Option (Answer P Q K) → (Ticket → List ℕ) → List Event → Type 0
-CallCame w s line answer askers h = (c x : ℕ) (b : Bool) → stand_at (stands_of (rows_of s)) line ≡ Calling c x b → AnswerArises w askers line (row_at (rows_of s) (x - 1)) answer h
+CallCame w s line answer askers h = (c x : ℕ) (b : Bool) → stand_at (stands_of (rows_of s)) line ≡ Calling c x b → AnswerArises w (b ≡ false) askers line (row_at (rows_of s) (x - 1)) answer h
 
 -- those of a group are told these answers
 abbrev pub LeadsGiven : {P Q K A B D : Type 0} → Ways P Q K A B D → List Answered → List Posting → List Posting → List Ending → List Ending → Clients P Q K → Clients P Q K → Type 0
@@ -414,14 +460,14 @@ LeadsGroup w client event from to ended over s t =
     (askers : Ticket → List ℕ) (h : List Event) (u : Ticket) (r : Request) → (book_at s client).ticket ≡ Some u → IsPossible h (event u r) → Arisen w s askers [] h → Leads w askers [] from to ended over (heard_by s) s t (event u r ∷ seen h) h Anyhow
 
 -- the next group of a client may go out
-abbrev pub LeadsSent : {P Q K A B D : Type 0} → Ways P Q K A B D → List Posting → List Posting → List Ending → List Ending → (ℕ → ℕ) → Clients P Q K → Clients P Q K → Type 0
+abbrev pub LeadsSent : {P Q K A B D : Type 0} → Ways P Q K A B D → List Posting → List Posting → List Ending → List Ending → (ℕ → CallOf) → Clients P Q K → Clients P Q K → Type 0
 LeadsSent w from to ended over at s t = (askers : Ticket → List ℕ) (h : List Event) → Arisen w s askers [] h → LeadsWith w from to ended over at s t (seen h) h
 
 -- Whole steps
 
 abbrev pub StepsTold : {P Q K A B D : Type 0} → Ways P Q K A B D → Told → ℕ → ℕ → List Posting → List Ending → Clients P Q K → Clients P Q K → Type 0
 StepsTold w told line client posted ended s t =
-    (askers : Ticket → List ℕ) (h : List Event) (r : Request) → client_at (stand_at (stands_of (rows_of s)) line) ≡ Some client → CanCome told (outbox_of line) r h → Arisen w s askers (pends_answer line told []) h
+    (askers : Ticket → List ℕ) (h : List Event) (r : Request) → FitsCall told (stand_at (stands_of (rows_of s)) line) → client_at (stand_at (stands_of (rows_of s)) line) ≡ Some client → CanCome told (outbox_of line) r h → Arisen w s askers (pends_answer line told []) h
     → LeadsWith w [] posted [] ended (heard_by s) s t (seen ((told_of told (outbox_of line) r).hear h)) h
 
 abbrev pub StepsGroup : {P Q K A B D : Type 0} → Ways P Q K A B D → ℕ → (Ticket → Request → Event) → List Posting → List Ending → Clients P Q K → Clients P Q K → Type 0

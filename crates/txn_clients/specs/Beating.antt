@@ -16,6 +16,7 @@ use Rattle.txn_history.specs.Plan.{Plan}
 use Rattle.txn_history.specs.Posted.{Within-one}
 use Rattle.txn_law.specs.Run.{IsCovered, IsPossible, IsUnused}
 use Rattle.txn_commit.specs.Committing.{Ways}
+use Rattle.txn_side.specs.Doubt.{itself}
 use Rattle.txn_side.specs.Arising.{Arises, IsBeat}
 use Rattle.txn_trace.specs.Posting.{IsFreshFor}
 use Rattle.txn_trace.proofs.Fitting.{fits_more}
@@ -83,7 +84,7 @@ module _ {P Q K A B D : Type 0} (w : Ways P Q K A B D) where
 
   -- A heartbeat sends this with a ticket of its own.
   pub arises_when_beating : (s : Clients P Q K) (h : List Event) (t : Ticket) (r : Request) → t.beat ≡ true → IsBeat r → IsPossible h (Sent t r) → ArisenFrom w s h
-      → Arises (ArisenFrom w s) (λ h x o. HoldsAt (rows_of s) h x o) (λ x o. HoldsAt (rows_of s) h x o) (λ n. n) (Sent t r ∷ h) []
+      → Arises (ArisenFrom w s) (λ h x o. HoldsAt (rows_of s) h x o) (λ x o. HoldsAt (rows_of s) h x o) itself (Sent t r ∷ h) []
   arises_when_beating s h t r beat beats may (laws, askers, g, shows, a) = record {
     now = (laws, askers, Sent t r ∷ g, ap (λ x. Sent t r ∷ x) shows, arisen_beating s askers [] g t r laws.prewriting laws.committing laws.rolling beat beats unused a);
     kept = λ x o. right_same (rows_of s) x o h (Sent t r ∷ h) (λ y i. inr i);

@@ -1,14 +1,16 @@
 -- How calls fail, by what they had heard, and what a trace shows of that. Where there is no trace nothing is asked of it.
-use Rattle.std.specs.Prelude.{◌≡◌, ◌⊎◌, ⊤, ℕ, Bool, true, false, List, [], ◌∷◌, ◌++◌, length, Option, Some, None, Result, Ok, Err}
+use Rattle.std.specs.Prelude.{IfSome, ◌≡◌, ◌⊎◌, ⊤, ℕ, Bool, true, false, List, [], ◌∷◌, ◌++◌, length, Option, Some, None, Result, Ok, Err}
 use Rattle.std.specs.List.{All}
 use Rattle.txn_kv.specs.ErrorView.{view_of}
 use Rattle.txn_kv.specs.ErrorView.ErrorView.{undetermined as not_known}
 use Rattle.txn_kv.specs.Timestamp.{version_of}
 use Rattle.txn_kv.specs.declared.errors.Error.{Error}
 use Rattle.txn_kv.specs.declared.errors.Error.TheVariants.{GrpcAPI}
+use Rattle.txn_kv.specs.declared.errors.Internal.{Internal}
 use Rattle.txn_kv.specs.declared.outbox.Errand.TheVariants.{Send}
+use Rattle.txn_kv.specs.declared.request.CommitRequest.{CommitRequest}
 use Rattle.txn_kv.specs.declared.request.Request.{Request}
-use Rattle.txn_kv.specs.declared.request.Request.TheVariants.{Tso}
+use Rattle.txn_kv.specs.declared.request.Request.TheVariants.{Commit, Tso}
 use Rattle.txn_kv.specs.declared.request.TsoRequest.{TsoRequest}
 use Rattle.txn_kv.specs.declared.ticket.Target.{Target}
 use Rattle.txn_kv.specs.declared.ticket.Ticket.{Ticket}
@@ -16,25 +18,27 @@ use Rattle.txn_kv.specs.declared.timestamp.Timestamp.{Timestamp}
 use Rattle.txn_history.specs.Among.{IsAmong}
 use Rattle.txn_history.specs.Event.{Event, Has}
 use Rattle.txn_history.specs.Event.Event.{Lost, Took}
+use Rattle.txn_history.specs.Plan.{Plan}
 use Rattle.txn_history.specs.Posted.{Posted, ticket_of}
 use Rattle.txn_merge.specs.declared.retry_options.RetryOptions.{RetryOptions}
 use Rattle.txn_plan.specs.declared.arrival.Arrival.{Arrival}
 use Rattle.txn_plan.specs.declared.arrival.Arrival.TheVariants as arrivals
 use Rattle.txn_buffer.specs.Contents.{Contents}
 use Rattle.txn_commit.specs.Committing.{Ways}
-use Rattle.txn_commit.specs.Following.{Commits, KnowsCommits, undetermined}
+use Rattle.txn_commit.specs.Following.{Commits, CommitsPrimary, KnowsCommits, PrimaryLost, undetermined}
 use Rattle.txn_commit.specs.Parts.{parts_of}
 use Rattle.txn_commit.specs.Sending.{plan_of}
 use Rattle.txn_commit.specs.Timing.{WasUntimed}
 use Rattle.txn_commit.specs.declared.commit_parts.CommitParts.{CommitParts}
 use Rattle.txn_core.specs.Going.{FailsWith}
+use Rattle.txn_core.specs.Transaction.{Standing}
 use Rattle.txn_lines.specs.declared.begin_options.BeginOptions.{BeginOptions}
 use Rattle.txn_side.specs.Account.{Account, refusal}
 use Rattle.txn_side.specs.declared.act.Act.{Act}
 use Rattle.txn_side.specs.declared.act.Act.TheVariants.{Rollback}
 use Rattle.txn_side.specs.Sight.{Group, Stand, stand_at}
 use Rattle.txn_side.specs.Sight.Stand.{Asking, Calling}
-use Rattle.txn_side.specs.Trace.{AreOwn, AreShown, EndsFor, HasRefused, HasRefusedBeside, IsBegunAs, IsCalled, IsLonger, IsRefusedIn, IsSentIn, Trace, and_refused, refused_as, refused_asks, with_posted}
+use Rattle.txn_side.specs.Trace.{AreOwn, AreShown, EndsFor, HasRefused, HasRefusedBeside, IsBegunAs, IsCalled, IsLonger, IsRefusedNow, IsSentIn, IsShown, LastTold, Trace, and_refused, refused_as, refused_asks, untimed_by, untimed_of, with_posted}
 use Rattle.txn_side.specs.declared.turn.Ending.{Ending}
 use Rattle.txn_side.specs.declared.turn.Posting.{Posting}
 use Rattle.txn_tso.specs.Oracle.{Answer as Answered}
@@ -78,6 +82,7 @@ pub record CallRefused (h : List Event) (e : Error) : Type 0 where
   pub transaction : KnownTransaction h
   pub ticket : Ticket
   pub left : transaction.commits.lost ≡ Some ticket
+  pub lost : PrimaryLost (plan_of transaction.parts) (version_of transaction.start) h ticket
   pub error : view_of e ≡ not_known (view_of (GrpcAPI ticket))
 
 -- how a call may fail, or a rollback alone; any call also where there was no timestamp
@@ -115,7 +120,7 @@ CountedIn (Some t) line n = HasRefusedBeside t line n
 
 abbrev pub LongerIn : Option Trace → Option Trace → Type 0
 LongerIn None None = ⊤
-LongerIn (Some t) (Some longer) = IsLonger t longer × (longer.refused ≡ t.refused) × (t.begun ≡ longer.begun)
+LongerIn (Some t) (Some longer) = IsLonger t longer × (longer.refused ≡ t.refused) × (t.begun ≡ longer.begun) × (t.came ≡ longer.came)
 LongerIn _ _ = ⊥
 
 -- what stands at this line tries again as often as it was to
@@ -127,6 +132,15 @@ RetriesIn (Some t) at retries = AreRetriesOf (IsBegunAs t at) retries
 abbrev pub BeginsIn : Option Trace → ℕ → BeginOptions → Type 0
 BeginsIn None at options = ⊤
 BeginsIn (Some t) at options = IsBegunAs t at options
+
+-- this Commit of the primary of such a transaction, which stands at the line, was lost
+abbrev pub LostIn : Option Trace → ℕ → Plan → ℕ → Ticket → Type 0
+LostIn None at plan s u = ⊤
+LostIn (Some t) at plan s u = (r : CommitRequest) × IsShown t at (Lost u (Commit r)) × CommitsPrimary plan s r
+
+-- so was the one that the transaction marks as lost
+abbrev pub MarkedIn : {P Q K : Type 0} → Option Trace → ℕ → Standing P Q K → Type 0
+MarkedIn trace at t = (parts : CommitParts) → parts_of t.contents ≡ Some parts → (u : Ticket) → t.commits.lost ≡ Some u → LostIn trace at (plan_of parts) (version_of t.start) u
 
 -- this was posted in the step so far
 abbrev pub posting_in : List Posting → Option Trace → Option Trace
@@ -165,7 +179,7 @@ abbrev pub HasComeIn : Trace → Posted → Arrival → Type 0
 HasComeIn t o (arrivals.Reply n x) = (r : Request) → IsSentIn t (ticket_of o n) r → Has t.events (Took (ticket_of o n) r x)
 HasComeIn t o (arrivals.Lost n) = (r : Request) → IsSentIn t (ticket_of o n) r → Has t.events (Lost (ticket_of o n) r)
 HasComeIn t o (arrivals.Slept n) = ⊤
-HasComeIn t o (arrivals.Time k x) = IfFails (IsRefusedIn t o.line) x
+HasComeIn t o (arrivals.Time k x) = IfFails (IsRefusedNow t o.line) x
 
 abbrev pub CameIn : Option Trace → Posted → Arrival → Type 0
 CameIn None o a = ⊤
@@ -210,10 +224,14 @@ pub record HasMet (trace later : Option Trace) (from to : Posted) : Type 0 where
 
 -- What an error rests on
 
--- a history that is shown as that of what stands there, and is the line's own; or it was a refusal
+-- a history that is shown as that of what stands there, where the line rolls back
+abbrev pub IsBarredAt : {P Q K A B D : Type 0} → Ways P Q K A B D → Trace → ℕ → ℕ → Error → Type 0
+IsBarredAt w t at line e = IsAmong t.rollbacks line × (known : List Event) × AreShown t at known × HasFailedFor w true (IsBegunAs t at) known e
+
+-- or one that is the line's own, too; or it was a refusal
 abbrev pub FailsAt : {P Q K A B D : Type 0} → Ways P Q K A B D → Option Trace → ℕ → ℕ → Error → Type 0
 FailsAt w None at line e = ⊤
-FailsAt w (Some t) at line e = ((h : List Event) × AreShown t at h × AreOwn line h × HasRefused t line (refused_asks h) × (HasFailedFor w false (IsBegunAs t at) h e ⊎ (IsAmong t.rollbacks line × HasFailedFor w true (IsBegunAs t at) h e))) ⊎ IsAmong t.refused (record { line = line; error = e })
+FailsAt w (Some t) at line e = ((h : List Event) × AreShown t at h × AreOwn line h × HasRefused t line (refused_asks h) × (HasFailedFor w false (IsBegunAs t at) h e ⊎ IsBarredAt w t at line e)) ⊎ IsAmong t.refused (record { line = line; error = e })
 
 -- What a call for a timestamp answers: a transaction that begins has the options that its line tells of.
 abbrev pub AskRests : {P Q K A B D : Type 0} → Ways P Q K A B D → Option Trace → ℕ → ℕ → Result (ClientAnswer Pd P Q K) Error → Type 0
@@ -235,17 +253,33 @@ pub record EndsMore {P Q K A B D : Type 0} (w : Ways P Q K A B D) (trace : Optio
   pub ended : to ≡ from ++ more
   pub each : All (HasReason w trace) more
 
+-- Why there is no timestamp
+
+-- what is told of it
+abbrev pub untimed_told : Told → Option Internal
+untimed_told (tells.Heard (arrivals.Time k (Err e))) = untimed_by e
+untimed_told told = None
+
+-- an error that says it says what is told now
+abbrev pub IsToldLast : Option Internal → Error → Type 0
+IsToldLast told e = IfSome (untimed_of e) (λ what. told ≡ Some what)
+
+-- and it was the line's last refusal so far
+abbrev pub LastIn : Option Trace → ℕ → Error → Type 0
+LastIn None line e = ⊤
+LastIn (Some t) line e = LastTold t line e
+
 -- Groups of asks
 
 -- each that is told that there is no timestamp is told why
 abbrev pub AreGivenIn : Option Trace → List Answered → Type 0
 AreGivenIn None given = ⊤
-AreGivenIn (Some t) given = All (λ a. IfFails (IsRefusedIn t a.0.line) a.1) given
+AreGivenIn (Some t) given = All (λ a. IfFails (IsRefusedNow t a.0.line) a.1) given
 
 -- what came for the request for timestamps that is out has happened, and the trace has the group
 abbrev pub GroupCameIn : Option Trace → Option Group → (Ticket → Request → Event) → Type 0
 GroupCameIn None out event = ⊤
-GroupCameIn (Some t) out event = (g : Group) → out ≡ Some g → IsAmong t.groups g × ((r : TsoRequest) × Has t.events (event g.ticket (Tso r)))
+GroupCameIn (Some t) out event = (g : Group) → out ≡ Some g → IsAmong t.groups g × ((r : TsoRequest) × Has t.events (event g.ticket (Tso r))) × (t.came ≡ Some g.ticket)
 
 -- the lines whose asks are refused as this comes for the request for timestamps that is out
 abbrev pub refused_out : (Ticket → Request → Event) → Option Group → List ℕ

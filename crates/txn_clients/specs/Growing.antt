@@ -26,6 +26,7 @@ use Rattle.txn_commit.specs.declared.secondary_job.SecondaryJob.{SecondaryJob}
 use Rattle.txn_commit.specs.declared.secondary_job.Stage.{Stage}
 use Rattle.txn_commit.specs.declared.secondary_job.Stage.TheVariants as stage
 use Rattle.txn_core.specs.Others.{AddsNone, AddsNothingOf}
+use Rattle.txn_clients.specs.First.{first_front}
 use Rattle.txn_core.proofs.Others.{adds_further, adds_one, adds_within, newer_or_older, others_fit}
 use Rattle.txn_client.specs.Calls.{called-lawful}
 use Rattle.txn_report.specs.declared.outcome.Outcome.{Outcome}
@@ -147,7 +148,7 @@ module _ {P Q K A B D : Type 0} (w : Ways P Q K A B D) (p : IsLawful w.prewritin
   row_grows rows o later h longer row.Plain l within none f = tt
   row_grows rows o later h longer (row.Client c) l within none f = tt
   row_grows rows o later h longer (row.Asking c b call) l within none f = called-lawful.fits_longer call o later h longer l within f
-  row_grows rows o later h longer (row.Begun c t m) l within none f = (f.0, others_fit w p q k t o later h longer l (none (version_of t.start) refl) f.1, f.2)
+  row_grows rows o later h longer (row.Begun c t m) l within none f = (f.0, others_fit w p q k t o later h longer l (none (version_of t.start) refl) f.1, f.2, λ parts whole u e. let n = none (version_of t.start) refl in first_front (version_of t.start) parts.primary h longer u (n.newer, n.grown) (f.3 parts whole u e))
   row_grows rows o later h longer (row.Calling c x b) l within none f = tt
   row_grows rows o later h longer (row.Past c) l within none f = tt
   row_grows rows o later h longer (row.Working c job) l within none f = (f.0, behind_grows job o later h longer (row_at rows f.0) l within f.1)

@@ -9,6 +9,7 @@ pub mod Waiting
 pub mod Due
 pub mod Options
 pub mod Failing
+pub mod First
 pub mod Resting
 pub mod Want
 pub mod Arising

@@ -1,17 +1,23 @@
 -- What calls have heard stays shown as a trace goes on.
 use Rattle.std.specs.Prelude.{◌≡◌, ℕ, Bool, List, [], ◌∷◌, map, Option, Some, None, refl, slice_index_or}
 use Rattle.std.proofs.Common.{arith, zero, suc, inl, sym, ap, ◌∙◌, subst}
+use Rattle.txn_kv.specs.Timestamp.{version_of}
+use Rattle.txn_kv.specs.declared.request.Request.TheVariants.{Commit}
 use Rattle.txn_kv.specs.declared.ticket.Ticket.{Ticket}
 use Rattle.txn_history.specs.Event.{Event}
+use Rattle.txn_history.specs.Event.Event.{Lost}
+use Rattle.txn_history.specs.Plan.{Plan}
 use Rattle.txn_history.specs.Posted.{Posted}
 use Rattle.txn_commit.specs.Committing.{Ways}
+use Rattle.txn_commit.specs.Sending.{plan_of}
+use Rattle.txn_core.specs.Transaction.{Standing}
 use Rattle.txn_side.specs.Sight.{Sight, Stand, client_at, nobody, stand_at}
 use Rattle.txn_side.specs.Sight.Stand.{Asking, Calling}
 use Rattle.txn_side.specs.Trace.{AreRefused, HasRefusedBeside, IsLonger, Trace, called_longer, refused_asks, times_in}
 use Rattle.txn_side.specs.Trace.{shown_longer as event_longer}
 use Rattle.txn_tso.specs.declared.asker.Asker.{Asker}
 use Rattle.txn_clients.specs.Clients.{nexts_of, row_at, rows_of, sight_of, stands_of}
-use Rattle.txn_clients.specs.Failing.{AreToldIn, CalledIn, CountedIn, LongerIn, ShownIn, RetriesIn}
+use Rattle.txn_clients.specs.Failing.{AreToldIn, CalledIn, CountedIn, LongerIn, LostIn, MarkedIn, ShownIn, RetriesIn}
 use Rattle.txn_clients.specs.Rows.{stand_of, Pd}
 use Rattle.txn_clients.specs.Waiting.{Book, IsSound, RowArises, asks_of, blank, book_at, book_of, posted_at, voice_at, WantedIn}
 use Rattle.txn_clients.specs.declared.client_state.ClientState.{ClientState}
@@ -45,6 +51,16 @@ retries_longer None (Some u) at retries l r = absurd l
 retries_longer (Some t) None at retries l r = absurd l
 retries_longer (Some t) (Some u) at retries l r = (r.0, l.0.begun (record { line = at; options = r.0 }) r.1, r.2)
 
+-- a Commit of a transaction's primary was lost
+pub lost_longer : (trace longer : Option Trace) (at : ℕ) (plan : Plan) (s : ℕ) (u : Ticket) → LongerIn trace longer → LostIn trace at plan s u → LostIn longer at plan s u
+lost_longer None None at plan s u l k = tt
+lost_longer None (Some v) at plan s u l k = absurd l
+lost_longer (Some t) None at plan s u l k = absurd l
+lost_longer (Some t) (Some v) at plan s u l k = (k.0, event_longer t v l.0 at (Lost u (Commit k.0)) k.1, k.2)
+
+pub marked_longer : {P Q K : Type 0} (trace longer : Option Trace) (at : ℕ) (t : Standing P Q K) → LongerIn trace longer → MarkedIn trace at t → MarkedIn longer at t
+marked_longer trace longer at t l m parts whole u e = lost_longer trace longer at (plan_of parts) (version_of t.start) u l (m parts whole u e)
+
 pub wanted_longer : {P Q K : Type 0} (trace longer : Option Trace) (at : ℕ) (call : ClientCall Pd P Q K) → LongerIn trace longer → WantedIn trace at call → WantedIn longer at call
 wanted_longer trace longer at call l r h b gives = retries_longer trace longer at b.options.retry_options l (r h b gives)
 
@@ -69,7 +85,7 @@ module _ {P Q K A B D : Type 0} (w : Ways P Q K A B D) where
       record { wanted = wanted_longer trace longer at call l x.wanted; arisen = record { history = a.history; fits = a.fits; kept = a.kept; shown = shown_longer trace longer at a.history l a.shown; own = a.own; counted = counted_longer trace longer o.line (refused_asks a.history) l a.counted } }
   row_longer trace longer at o nexts (row.Begun c t m) l x =
       let a = x.arisen in
-      record { ordered = x.ordered; retries = retries_longer trace longer at t.options.retry_options l x.retries; arisen = record { history = a.history; fits = a.fits; kept = a.kept; shown = shown_longer trace longer at a.history l a.shown; own = a.own; counted = counted_longer trace longer o.line (refused_asks a.history) l a.counted } }
+      record { ordered = x.ordered; retries = retries_longer trace longer at t.options.retry_options l x.retries; marked = marked_longer trace longer at t l x.marked; arisen = record { history = a.history; fits = a.fits; kept = a.kept; shown = shown_longer trace longer at a.history l a.shown; own = a.own; counted = counted_longer trace longer o.line (refused_asks a.history) l a.counted } }
   row_longer trace longer at o nexts (row.Calling c y b) l x = tt
   row_longer trace longer at o nexts (row.Past c) l x = tt
   row_longer trace longer at o nexts (row.Working c job) l x = tt
@@ -114,7 +130,7 @@ module _ {P Q K A B D : Type 0} (w : Ways P Q K A B D) where
           record { wanted = λ h b gives. retries_any at b.options.retry_options (x.wanted h b gives); arisen = record { history = a.history; fits = a.fits; kept = a.kept; shown = λ e i. event_longer t longer l at e (a.shown e i); own = a.own; counted = l.beside o.line (refused_asks a.history) a.counted } }
       row_any at o nexts (row.Begun c b m) x =
           let a = x.arisen in
-          record { ordered = x.ordered; retries = retries_any at b.options.retry_options x.retries; arisen = record { history = a.history; fits = a.fits; kept = a.kept; shown = λ e i. event_longer t longer l at e (a.shown e i); own = a.own; counted = l.beside o.line (refused_asks a.history) a.counted } }
+          record { ordered = x.ordered; retries = retries_any at b.options.retry_options x.retries; marked = λ parts whole u e. let k = x.marked parts whole u e in (k.0, event_longer t longer l at (Lost u (Commit k.0)) k.1, k.2); arisen = record { history = a.history; fits = a.fits; kept = a.kept; shown = λ e i. event_longer t longer l at e (a.shown e i); own = a.own; counted = l.beside o.line (refused_asks a.history) a.counted } }
       row_any at o nexts (row.Calling c y b) x = tt
       row_any at o nexts (row.Past c) x = tt
       row_any at o nexts (row.Working c job) x = tt

@@ -8,6 +8,7 @@ use Rattle.txn_law.specs.Run.{IsPossible}
 use Rattle.txn_model.specs.Store.{Store}
 use Rattle.txn_model.specs.Table.{table}
 use Rattle.txn_commit.specs.Committing.{Ways}
+use Rattle.txn_side.specs.Doubt.{itself}
 use Rattle.txn_side.specs.Arising.{Arises, IsOutside}
 use Rattle.txn_side.specs.Sight.{Sight, nobody}
 use Rattle.txn_trace.specs.Answering.{OracleFits}
@@ -97,7 +98,7 @@ possible_unseen (Led region store) h out may = tt
 possible_unseen (Clocked ms) h out may = tt
 
 module _ {P Q K A B D : Type 0} (w : Ways P Q K A B D) where
-  pub arises_when_longer : (s : Clients P Q K) (h : List Event) (e : Event) → IsOutside e → IsPossible h e → ArisenFrom w s h → Arises (ArisenFrom w s) (λ h x o. HoldsAt (rows_of s) h x o) (λ x o. HoldsAt (rows_of s) h x o) (λ n. n) (e ∷ h) []
+  pub arises_when_longer : (s : Clients P Q K) (h : List Event) (e : Event) → IsOutside e → IsPossible h e → ArisenFrom w s h → Arises (ArisenFrom w s) (λ h x o. HoldsAt (rows_of s) h x o) (λ x o. HoldsAt (rows_of s) h x o) itself (e ∷ h) []
   arises_when_longer s h e out may (laws, askers, g, shows, a) = record {
     now = (laws, askers, e ∷ g, shows_outside e g out ∙ ap (λ x. e ∷ x) shows, arisen_outside w laws.prewriting laws.committing laws.rolling s askers [] g e out (possible_unseen e g out (subst (λ x. IsPossible x e) (sym shows) may)) a);
     kept = λ x o. right_same (rows_of s) x o h (e ∷ h) (λ y i. inr i);

@@ -42,7 +42,7 @@ use Rattle.txn_kv.specs.declared.outbox.Errand.TheVariants.{Send}
 use Rattle.txn_kv.specs.declared.ticket.Target.{Target}
 use Rattle.txn_core.specs.declared.txn_answer.TxnAnswer.{TxnAnswer}
 use Rattle.txn_history.specs.Turn.{IfEnds}
-use Rattle.txn_clients.specs.Failing.{AnswerRests, AreToldIn, CalledFor, CalledIn, CountedIn, HasReason, EndsMore, FailsAt, HasMet, IfFails, MayKnow, RetriesIn, ShownIn, owing, posting_in}
+use Rattle.txn_clients.specs.Failing.{AnswerRests, AreToldIn, CalledFor, CalledIn, CountedIn, HasReason, EndsMore, FailsAt, HasMet, IfFails, MarkedIn, MayKnow, RetriesIn, ShownIn, owing, posting_in}
 use Rattle.txn_clients.specs.Clients.{AreReady, crashed_of, nexts_of, row_at, rows_of, stands_of}
 use Rattle.txn_clients.specs.Rows.{Pd, stand_of}
 use Rattle.txn_clients.specs.declared.answer.Answer.{Answer}
@@ -128,10 +128,12 @@ pub record AskArises {P Q K : Type 0} (trace : Option Trace) (at : ℕ) (o : Pos
   pub wanted : WantedIn trace at call
   pub arisen : HasArisen (λ h. IsAt call.stage o h) trace at o.line nexts
 
--- a transaction whose buffer is in order, and that has the options that its line tells of
+-- a transaction whose buffer is in order, and that has the options that its line tells of; which Commit of its primary was lost first it
+-- knows from whatever line of it
 pub record StandArises {P Q K A B D : Type 0} (w : Ways P Q K A B D) (trace : Option Trace) (at : ℕ) (o : Posted) (nexts : List ℕ) (t : Standing P Q K) : Type 0 where
   pub ordered : IsOrdered t.contents
   pub retries : RetriesIn trace at t.options.retry_options
+  pub marked : MarkedIn trace at t
   pub arisen : HasArisen (λ h. TransactionFits w t o h) trace at o.line nexts
 
 abbrev pub RowArises : {P Q K A B D : Type 0} → Ways P Q K A B D → Option Trace → ℕ → Posted → List ℕ → Row P Q K → Type 0

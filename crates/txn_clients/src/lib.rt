@@ -10,6 +10,7 @@ mod row;
 pub mod send;
 mod told;
 mod transactions;
+mod untimed;
 mod want;
 
 pub use clients::Clients;

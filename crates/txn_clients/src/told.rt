@@ -1,6 +1,10 @@
 ghost use Rattle.std.specs.Prelude.{◌≡◌};
 ghost use Rattle.txn_clients.specs.Accounts.{is_heard};
+ghost use Rattle.txn_clients.specs.Failing.{untimed_told};
+ghost use Rattle.txn_clients.specs.declared.told.Told.TheVariants.{Heard};
 
+use crate::untimed::untimed_by;
+use txn_kv::Internal;
 use txn_plan::Arrival;
 use txn_side::Act;
 
@@ -20,5 +24,30 @@ impl Told {
         ensures { result ≡ is_heard self.now }
     {
         matches!(self, Told::Heard(_))
+    }
+
+    /// Why no timestamp comes, where that is what is told.
+    pub fn untimed(&self) -> Option<Internal>
+        ensures { result ≡ untimed_told self.now }
+    {
+        match self {
+            Told::Heard(arrival) => untimed_in(arrival),
+            Told::Start => None,
+            Told::Act(_) => None,
+        }
+    }
+}
+
+fn untimed_in(arrival: &Arrival) -> Option<Internal>
+    ensures { result ≡ untimed_told (Heard arrival.now) }
+{
+    match arrival {
+        Arrival::Time { answer, .. } => match answer {
+            Ok(_) => None,
+            Err(error) => untimed_by(error),
+        },
+        Arrival::Reply { .. } => None,
+        Arrival::Lost { .. } => None,
+        Arrival::Slept { .. } => None,
     }
 }

@@ -4,7 +4,7 @@ ghost use Rattle.txn_clients.specs.Rows.{answer_in};
 ghost use Rattle.txn_clients.specs.declared.answer.Answer.TheVariants.{Called};
 ghost use Rattle.txn_clients.specs.declared.told.Told.TheVariants as tells;
 ghost use Rattle.std.specs.Prelude.{◌≡◌, ◌<◌, ◌^◌, IsTrue, Ok, false, ⊤, true};
-ghost use Rattle.txn_clients.specs.Accounts.{EndsCommit, HasHeard, HasTaken, IsQuiet, SaysLoss, TellsEnd, account_of, says_undetermined, stage_of};
+ghost use Rattle.txn_clients.specs.Accounts.{EndsCommit, HasHeard, HasTaken, IsAlone, IsQuiet, SaysLoss, TellsEnd, account_of, says_undetermined, stage_of};
 ghost use Rattle.txn_clients.specs.Closing.{stage_after, status_by};
 ghost use Rattle.txn_clients.specs.Failing.{CameIn, KnowsAsk, owing};
 ghost use Rattle.txn_clients.specs.Rows.{IsTold};
@@ -58,6 +58,24 @@ where
     match progress {
         Progress::Waiting => true,
         Progress::Done(answer) => !says_undetermined(answer) || transaction.has_lost_commit(),
+    }
+}
+
+/// Whether no Commit of the primary is out beside the one that is lost, where none was lost before.
+fn is_alone<P, Q, K>(arrival: &Arrival, transaction: &Transaction<Pd, P, Q, K>) -> bool
+where
+    P: PlanFor<PrewriteRequest>,
+    Q: PlanFor<CommitRequest>,
+    K: PlanFor<BatchRollbackRequest>,
+    ensures { IsTrue result → IsAlone arrival.now transaction.now }
+{
+    match arrival {
+        Arrival::Lost { .. } => {
+            transaction.has_lost_commit() || transaction.count_commits_out() <= 1
+        }
+        Arrival::Reply { .. } => true,
+        Arrival::Slept { .. } => true,
+        Arrival::Time { .. } => true,
     }
 }
 
@@ -253,6 +271,10 @@ where
     ensures goes { IfKept (turn_of result) (StandGoes (ways P.meaning Q.meaning K.meaning P.refuses Q.refuses K.refuses) (owing out.old.line (tells.Heard arrival)) (λ a. a ≡ awaited_as arrival) (is_open transaction.old.work ≡ true) (λ trace. CameIn trace out.old arrival) transaction.old transaction.new out.old out.new (turn_of result)) }
     ensures moves { IfKept (turn_of result) (StandMoves (ways P.meaning Q.meaning K.meaning P.refuses Q.refuses K.refuses) (tells.Heard arrival) transaction.old transaction.new out.old out.new (answer_in Called (turn_of result))) }
 {
+    // One Commit of the primary is out at a time.
+    if !is_alone(&arrival, transaction) {
+        return Err(NoMemory);
+    }
     let progress = tell(transaction, arrival, pd, now, out)?;
     // Each Commit of the primary was answered or lost by then: no plan ends before.
     if !fits_loss(&progress, transaction) {
@@ -281,7 +303,7 @@ where
     ensures told { IfKept (turn_of result) (IsTold (ways P.meaning Q.meaning K.meaning P.refuses Q.refuses K.refuses) transaction.new out.old out.new (turn_of result)) }
     ensures heard { IfKept (turn_of result) (HasHeard transaction.old transaction.new (turn_of result)) }
     ensures goes { IfKept (turn_of result) (StandGoes (ways P.meaning Q.meaning K.meaning P.refuses Q.refuses K.refuses) (owing out.old.line (tells.Heard arrival)) (λ a. a ≡ awaited_as arrival) (is_open transaction.old.work ≡ true) (λ trace. CameIn trace out.old arrival) transaction.old transaction.new out.old out.new (turn_of result)) }
-    ensures moves { SaysLoss (turn_of result) transaction.new → IfKept (turn_of result) (StandMoves (ways P.meaning Q.meaning K.meaning P.refuses Q.refuses K.refuses) (tells.Heard arrival) transaction.old transaction.new out.old out.new (answer_in Called (turn_of result))) }
+    ensures moves { SaysLoss (turn_of result) transaction.new → IsAlone arrival transaction.old → IfKept (turn_of result) (StandMoves (ways P.meaning Q.meaning K.meaning P.refuses Q.refuses K.refuses) (tells.Heard arrival) transaction.old transaction.new out.old out.new (answer_in Called (turn_of result))) }
 {
     match arrival {
         Arrival::Reply { number, reply } => transaction.take_reply(pd, now, number, reply, out),

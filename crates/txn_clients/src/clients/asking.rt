@@ -19,6 +19,7 @@ ghost use Rattle.txn_commit.specs.Committing.{ways};
 ghost use Rattle.txn_history.specs.Meaning.{IsUnbegun};
 ghost use Rattle.txn_kv.specs.declared.ticket.Ticket.{Ticket as Name};
 ghost use Rattle.txn_plan.specs.Arrivals.{MayArrive};
+ghost use Rattle.txn_side.specs.Doubt.{itself};
 ghost use Rattle.txn_side.specs.Account.{AreClosed, AreKept, TakesIn};
 ghost use Rattle.txn_side.specs.Sight.{EndsAlone, Goes, IsGiven, Names, NoneGiven, commits, is_free, line_count, stand_at, with_stand, client_at, is_live};
 ghost use Rattle.txn_side.specs.Sight.Stand.{Asking, Calling, HasBegun, Idle};
@@ -109,7 +110,7 @@ where
         ensures steps { IfOk result (λ turn. (trace : Option Trace) → IsReady (ways P.meaning Q.meaning K.meaning P.refuses Q.refuses K.refuses) self.old → CalledIn trace (line_count (sight_of self.old)) (line_count (sight_of self.old)) → WantedIn trace (line_count (sight_of self.old)) call → IsSound (ways P.meaning Q.meaning K.meaning P.refuses Q.refuses K.refuses) (posting_in [] trace) [] self.old → Steps (ways P.meaning Q.meaning K.meaning P.refuses Q.refuses K.refuses) trace (λ n a. ⊥) turn.posted.items turn.ended.items self.old self.new) }
         ensures ready { OnOk result (AreReady (ways P.meaning Q.meaning K.meaning P.refuses Q.refuses K.refuses) (rows_of self.new)) }
         ensures accounts { OnOk result (AreKept (account_at (rows_of self.old)) (account_at (rows_of self.new))) }
-        ensures leads { IfOk result (λ turn. LeadsSent (ways P.meaning Q.meaning K.meaning P.refuses Q.refuses K.refuses) [] turn.posted.items [] turn.ended.items (λ n. n) self.old self.new) }
+        ensures leads { IfOk result (λ turn. LeadsSent (ways P.meaning Q.meaning K.meaning P.refuses Q.refuses K.refuses) [] turn.posted.items [] turn.ended.items itself self.old self.new) }
     {
         // A call begins where nothing stands.
         if !self.is_new() {
@@ -174,7 +175,7 @@ where
         ensures steps { IfOk result (λ turn. (trace : Option Trace) → IsReady (ways P.meaning Q.meaning K.meaning P.refuses Q.refuses K.refuses) self.old → CalledIn trace (line_count (sight_of self.old)) transaction → KnowsAsk trace (line_count (sight_of self.old)) act (account_at (rows_of self.old) transaction) → IsSound (ways P.meaning Q.meaning K.meaning P.refuses Q.refuses K.refuses) (posting_in [] trace) [] self.old → Steps (ways P.meaning Q.meaning K.meaning P.refuses Q.refuses K.refuses) trace (λ n a. ⊥) turn.posted.items turn.ended.items self.old self.new) }
         ensures ready { OnOk result (AreReady (ways P.meaning Q.meaning K.meaning P.refuses Q.refuses K.refuses) (rows_of self.new)) }
         ensures takes { IfOk result (λ turn. TakesIn act transaction (line_count (sight_of self.old)) (account_at (rows_of self.old)) (account_at (rows_of self.new)) turn.ended.items) }
-        ensures leads { IfOk result (λ turn. LeadsSent (ways P.meaning Q.meaning K.meaning P.refuses Q.refuses K.refuses) [] turn.posted.items [] turn.ended.items (λ n. transaction) self.old self.new) }
+        ensures leads { IfOk result (λ turn. LeadsSent (ways P.meaning Q.meaning K.meaning P.refuses Q.refuses K.refuses) [] turn.posted.items [] turn.ended.items (λ n. record { at = transaction; commits = commits act }) self.old self.new) }
     {
         // A call begins where nothing stands.
         if !self.is_new() {

@@ -8,7 +8,7 @@ ghost use Rattle.txn_clients.specs.Accounts.{AccountsTold, AnswersNew, AnswersTo
 ghost use Rattle.txn_clients.specs.Closing.{ClosesIn, EndsCall, EndsOwn, GoesTold, HasComeTo, StandsAt, stage_after};
 ghost use Rattle.txn_clients.specs.Clients.{AreReady, HearsFor, IsLine, Listens, MayEnd, crashed_of, groups_of, nexts_of, row_at, rows_of, sight_of};
 ghost use Rattle.std.proofs.Common.{suc};
-ghost use Rattle.txn_clients.specs.Failing.{AnswerRests, CameIn, FailsAt, IfFails, MayKnow, outbox_of, owing, posting_in, AskRests};
+ghost use Rattle.txn_clients.specs.Failing.{AnswerRests, CameIn, FailsAt, IfFails, LastIn, MayKnow, outbox_of, owing, posting_in, AskRests};
 ghost use Rattle.txn_clients.specs.Going.{Advances, EndsIn, NamesIn, OfLine};
 ghost use Rattle.txn_side.specs.Trace.{Trace};
 ghost use Rattle.txn_clients.specs.Rows.{AnswerFits, AskFits, Brings, IsStamped, IsToldIn, MayHear, MayTell, Posts, Rests, Tells, stand_of};
@@ -30,6 +30,7 @@ use crate::endings::Ended;
 use crate::row::Row;
 use crate::told::Told;
 use crate::transactions::has_come_to;
+use crate::untimed::is_told_last;
 use std::mem;
 use txn_client::ClientAnswer;
 use txn_commit::PlanFor;
@@ -139,12 +140,12 @@ where
         ensures alone { OnOk result (EndsIn line turn.old turn.new) }
         ensures names { OnOk result (NamesIn (OfLine line (IsStamped answer)) turn.old turn.new) }
         ensures ends { OnOk result (EndsOwn line turn.old.ended.items turn.new.ended.items) }
-        ensures waits { OnOk result (IsNewAnswer {P = P} {Q = Q} {K = K} (Asked answer) → (trace : Option Trace) (client : ℕ) (rest : List Asker) → AskRests (ways P.meaning Q.meaning K.meaning P.refuses Q.refuses K.refuses) (posting_in turn.old.posted.items trace) line line answer → IsSound (ways P.meaning Q.meaning K.meaning P.refuses Q.refuses K.refuses) (posting_in turn.old.posted.items trace) rest self.old → GoesOn (ways P.meaning Q.meaning K.meaning P.refuses Q.refuses K.refuses) trace client (λ n a. ⊥) rest turn.old.posted.items turn.new.posted.items turn.old.ended.items turn.new.ended.items self.old self.new) }
+        ensures waits { OnOk result (IsNewAnswer {P = P} {Q = Q} {K = K} (Asked answer) → (trace : Option Trace) (client : ℕ) (rest : List Asker) → AskRests (ways P.meaning Q.meaning K.meaning P.refuses Q.refuses K.refuses) (posting_in turn.old.posted.items trace) line line answer → IfFails (LastIn (posting_in turn.old.posted.items trace) line) answer → IsSound (ways P.meaning Q.meaning K.meaning P.refuses Q.refuses K.refuses) (posting_in turn.old.posted.items trace) rest self.old → GoesOn (ways P.meaning Q.meaning K.meaning P.refuses Q.refuses K.refuses) trace client (λ n a. ⊥) rest turn.old.posted.items turn.new.posted.items turn.old.ended.items turn.new.ended.items self.old self.new) }
         ensures runs { OnOk result ((c : ℕ) (b : Bool) → stand_at (sight_of self.old).stands line ≡ Asking c b → AreRunningBut (line - 1) (rows_of self.old) → AreRunning (rows_of self.new)) }
         ensures ready { OnOk result (AreReady (ways P.meaning Q.meaning K.meaning P.refuses Q.refuses K.refuses) (rows_of self.new)) }
         ensures accounts { OnOk result (AreKept (account_at (rows_of self.old)) (account_at (rows_of self.new))) }
         ensures crashed { OnOk result (crashed_of self.new ≡ crashed_of self.old) }
-        ensures leads { OnOk result (IsNewAnswer {P = P} {Q = Q} {K = K} (Asked answer) → LeadsEnded (ways P.meaning Q.meaning K.meaning P.refuses Q.refuses K.refuses) (λ askers h. AnswerArises (ways P.meaning Q.meaning K.meaning P.refuses Q.refuses K.refuses) askers line Plain (Some (Asked answer)) h) turn.old.posted.items turn.new.posted.items turn.old.ended.items turn.new.ended.items self.old self.new) }
+        ensures leads { OnOk result (IsNewAnswer {P = P} {Q = Q} {K = K} (Asked answer) → LeadsEnded (ways P.meaning Q.meaning K.meaning P.refuses Q.refuses K.refuses) (λ askers h. AnswerArises (ways P.meaning Q.meaning K.meaning P.refuses Q.refuses K.refuses) ⊥ askers line Plain (Some (Asked answer)) h) turn.old.posted.items turn.new.posted.items turn.old.ended.items turn.new.ended.items self.old self.new) }
     {
         match self.row(line) {
             Row::Asking { client, begins, .. } => {
@@ -175,7 +176,7 @@ where
         ensures advances { OnOk result (Advances turn.old turn.new (sight_of self.old) (sight_of self.new)) }
         ensures alone { OnOk result (EndsIn line turn.old turn.new) }
         ensures names { OnOk result (NamesIn NoneGiven turn.old turn.new) }
-        ensures waits { OnOk result ((trace : Option Trace) (client : ℕ) (rest : List Asker) → ((c x : ℕ) (b : Bool) → stand_at (sight_of self.old).stands line ≡ Calling c x b → IfFails (FailsAt (ways P.meaning Q.meaning K.meaning P.refuses Q.refuses K.refuses) (posting_in turn.old.posted.items trace) x line) answer) → IsSound (ways P.meaning Q.meaning K.meaning P.refuses Q.refuses K.refuses) (posting_in turn.old.posted.items trace) rest self.old → GoesOn (ways P.meaning Q.meaning K.meaning P.refuses Q.refuses K.refuses) trace client (λ n a. ⊥) rest turn.old.posted.items turn.new.posted.items turn.old.ended.items turn.new.ended.items self.old self.new) }
+        ensures waits { OnOk result ((trace : Option Trace) (client : ℕ) (rest : List Asker) → ((c x : ℕ) (b : Bool) → stand_at (sight_of self.old).stands line ≡ Calling c x b → IfFails (FailsAt (ways P.meaning Q.meaning K.meaning P.refuses Q.refuses K.refuses) (posting_in turn.old.posted.items trace) x line) answer) → IfFails (LastIn (posting_in turn.old.posted.items trace) line) answer → IsSound (ways P.meaning Q.meaning K.meaning P.refuses Q.refuses K.refuses) (posting_in turn.old.posted.items trace) rest self.old → GoesOn (ways P.meaning Q.meaning K.meaning P.refuses Q.refuses K.refuses) trace client (λ n a. ⊥) rest turn.old.posted.items turn.new.posted.items turn.old.ended.items turn.new.ended.items self.old self.new) }
         ensures runs { OnOk result ((c x : ℕ) (b : Bool) → stand_at (sight_of self.old).stands line ≡ Calling c x b → AreRunningBut (x - 1) (rows_of self.old) → AreRunning (rows_of self.new)) }
         ensures clients { OnOk result ((c : ℕ) → client_at (stand_at (sight_of self.old).stands line) ≡ Some c → client_at (stand_at (sight_of self.new).stands line) ≡ Some c) }
         ensures live { OnOk result (is_live (sight_of self.new) line ≡ true) }
@@ -311,11 +312,16 @@ where
         ensures leads { OnOk result (LeadsTold (ways P.meaning Q.meaning K.meaning P.refuses Q.refuses K.refuses) told line listener.client turn.old.posted.items turn.new.posted.items turn.old.ended.items turn.new.ended.items self.old self.new) }
     {
         let heard = told.is_heard();
+        let untimed = told.untimed();
         match self.push(line, listener, told, now, turn)? {
             None => Ok(()),
-            Some(Answer::Asked(answer)) => self.end_ask(line, answer, turn),
+            Some(Answer::Asked(answer)) => {
+                is_told_last(&answer, &untimed)?;
+                self.end_ask(line, answer, turn)
+            }
             Some(Answer::Called(answer)) => {
                 self.come_to(heard, line, listener.at, &answer)?;
+                is_told_last(&answer, &untimed)?;
                 self.end_call(line, answer, turn)?;
                 self.start_job(line, listener.client, now, turn)
             }

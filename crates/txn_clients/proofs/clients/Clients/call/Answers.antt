@@ -70,5 +70,5 @@ pub returns-clause-leads : goal.returns-clause-leads
 returns-clause-leads g c = both_if_ok c.step.result _ _ _
     (λ turn alone f. call_leads _ c.args.self.now c.set_waits.new.self c.set_row.new.self c.step.new.self c.newest-line.result c.args.transaction c.args.client c.is_commit.result c.args.act turn.posted.items turn.ended.items (newest_is c.args.self.now c.newest-line.result c.requires.line c.newest-line.ensures)
     (newest_idle c.args.self.now c.newest-line.result c.newest-line.ensures (c.if-not-is_new.ensures refl)) c.requires.transaction c.requires.ready c.set_waits.ensures.rows c.set_waits.ensures.nexts c.set_waits.ensures.asks c.set_waits.ensures.clients
-    c.set_row.ensures.rows c.set_row.ensures.nexts c.set_row.ensures.asks c.set_row.ensures.clients alone f)
+    c.set_row.ensures.rows c.set_row.ensures.nexts c.set_row.ensures.asks c.set_row.ensures.clients alone c.is_commit.ensures f)
     c.step.ensures.alone c.step.ensures.leads

@@ -47,14 +47,14 @@ pub returns-in_default-clause-accounts : goal.returns-in_default-clause-accounts
 returns-in_default-clause-accounts g c n = refl
 
 pub returns-in_ok-push-in-Asking-clause-waits : goal.returns-in_ok-push-in-Asking-clause-waits
-returns-in_ok-push-in-Asking-clause-waits g c new trace client rest fails sound =
+returns-in_ok-push-in-Asking-clause-waits g c new trace client rest fails last sound =
     let asks = stands_at (rows_of c.args.self.now) c.args.line (row.Asking c.in-Asking.client c.in-Asking.begins c.in-Asking.call) c.requires.line (sym c.row.ensures ∙ c.in-Asking.is) in
     let now = posting_in c.args.turn.now.posted.items trace in
     asked_goes _ g.met.P.Plan.lawful g.met.Q.Plan.lawful g.met.K.Plan.lawful trace c.args.self.now c.set_row.new.self c.args.line client c.in-Asking.client c.in-Asking.begins c.in_ok-ended-in-Asking.ended.row rest c.args.turn.now.posted.items c.args.turn.now.ended.items c.push.new.self.items
     c.requires.line asks (ask_settles c.in-Asking.client c.in-Asking.begins c.in_ok-ended-in-Asking.ended.outcome (stand_of c.in_ok-ended-in-Asking.ended.row) c.in_ok-ended-in-Asking.ensures.ends) c.in_ok-ended-in-Asking.ensures.ready (c.in_ok-ended-in-Asking.ensures.arises new now c.args.line c.args.line fails sound.owing)
     c.set_row.ensures.rows c.set_row.ensures.nexts c.set_row.ensures.asks c.set_row.ensures.clients
     (one_more _ now c.args.turn.now.ended.items c.push.new.self.items (record { line = c.args.line; outcome = c.in_ok-ended-in-Asking.ended.outcome }) c.in_ok-push-in-Asking.ensures.items
-    (reason_so _ now c.args.line c.args.line c.in_ok-ended-in-Asking.ended.outcome c.args.answer (sound.told.asks c.args.line c.in-Asking.client c.in-Asking.begins asks) c.in_ok-ended-in-Asking.ensures.failed c.in_ok-ended-in-Asking.ensures.fed (ask_fails _ now c.args.line c.args.line c.args.answer fails))) sound
+    (reason_so _ now c.args.line c.args.line c.in_ok-ended-in-Asking.ended.outcome c.args.answer (sound.told.asks c.args.line c.in-Asking.client c.in-Asking.begins asks) c.in_ok-ended-in-Asking.ensures.failed c.in_ok-ended-in-Asking.ensures.fed (ask_fails _ now c.args.line c.args.line c.args.answer fails) last)) sound
 
 pub returns-in_ok-push-in-Asking-clause-runs : goal.returns-in_ok-push-in-Asking-clause-runs
 returns-in_ok-push-in-Asking-clause-runs g c d b e but =
@@ -62,7 +62,7 @@ returns-in_ok-push-in-Asking-clause-runs g c d b e but =
     (settled_runs c.in-Asking.client c.in_ok-ended-in-Asking.ended.row (ask_settles c.in-Asking.client c.in-Asking.begins c.in_ok-ended-in-Asking.ended.outcome (stand_of c.in_ok-ended-in-Asking.ended.row) c.in_ok-ended-in-Asking.ensures.ends)))
 
 pub returns-in_default-clause-waits : goal.returns-in_default-clause-waits
-returns-in_default-clause-waits g c new trace client rest fails sound =
+returns-in_default-clause-waits g c new trace client rest fails last sound =
     quiet_goes _ trace c.args.self.now c.args.self.now client rest c.args.turn.now.posted.items c.args.turn.now.ended.items c.args.turn.now.ended.items sound (no_more _ (posting_in c.args.turn.now.posted.items trace) c.args.turn.now.ended.items) (λ n a x. x) (λ n. refl)
 
 pub returns-in_default-clause-runs : goal.returns-in_default-clause-runs

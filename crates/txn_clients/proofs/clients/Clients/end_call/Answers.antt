@@ -63,7 +63,7 @@ returns-in_default-clause-ends g c = ends_other c.row.result.now c.args.line (st
     (stand_of_line (rows_of c.args.self.now) c.args.line c.requires.line.first ∙ ap stand_of (sym c.row.ensures)) c.in_default.not-Calling
 
 pub returns-in_ok-push-in-Calling-clause-waits : goal.returns-in_ok-push-in-Calling-clause-waits
-returns-in_ok-push-in-Calling-clause-waits g c trace client rest fails sound =
+returns-in_ok-push-in-Calling-clause-waits g c trace client rest fails last sound =
     let calls = stands_at (rows_of c.args.self.now) c.args.line (row.Calling c.in-Calling.client c.in-Calling.transaction c.in-Calling.commits) c.requires.line (sym c.row.ensures ∙ c.in-Calling.is) in
     let may = subst (MayEnd (rows_of c.args.self.now) c.args.line) calls c.requires.may in
     let now = posting_in c.args.turn.now.posted.items trace in
@@ -73,7 +73,7 @@ returns-in_ok-push-in-Calling-clause-waits g c trace client rest fails sound =
     (c.set_row.ensures.rows ∙ ap (λ rs. set rs (c.args.line - 1) c.in_ok-ended-in-Calling.ended.row) c.set_waits.ensures.rows) (c.set_row.ensures.nexts ∙ c.set_waits.ensures.nexts) (c.set_row.ensures.asks ∙ c.set_waits.ensures.asks) (c.set_row.ensures.clients ∙ c.set_waits.ensures.clients)
     (one_more _ now c.args.turn.now.ended.items c.push.new.self.items (record { line = c.args.line; outcome = c.in_ok-ended-in-Calling.ended.outcome }) c.in_ok-push-in-Calling.ensures.items
     (reason_so _ now c.args.line c.in-Calling.transaction c.in_ok-ended-in-Calling.ended.outcome c.args.answer (sound.told.calls c.args.line c.in-Calling.client c.in-Calling.transaction c.in-Calling.commits calls) c.in_ok-ended-in-Calling.ensures.failed c.in_ok-ended-in-Calling.ensures.fed
-    (fails c.in-Calling.client c.in-Calling.transaction c.in-Calling.commits calls))) sound
+    (fails c.in-Calling.client c.in-Calling.transaction c.in-Calling.commits calls) last)) sound
 
 pub returns-in_ok-push-in-Calling-clause-runs : goal.returns-in_ok-push-in-Calling-clause-runs
 returns-in_ok-push-in-Calling-clause-runs g c d x b e but =
@@ -91,7 +91,7 @@ returns-in_ok-push-in-Calling-clause-clients g c d e =
     (c.set_row.ensures.rows ∙ ap (λ rs. set rs (c.args.line - 1) c.in_ok-ended-in-Calling.ended.row) c.set_waits.ensures.rows)
 
 pub returns-in_default-clause-waits : goal.returns-in_default-clause-waits
-returns-in_default-clause-waits g c trace client rest fails sound =
+returns-in_default-clause-waits g c trace client rest fails last sound =
     quiet_goes _ trace c.args.self.now c.args.self.now client rest c.args.turn.now.posted.items c.args.turn.now.ended.items c.args.turn.now.ended.items sound (no_more _ (posting_in c.args.turn.now.posted.items trace) c.args.turn.now.ended.items) (λ n a x. x) (λ n. refl)
 
 pub returns-in_default-clause-runs : goal.returns-in_default-clause-runs

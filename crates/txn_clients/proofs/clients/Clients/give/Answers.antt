@@ -78,7 +78,7 @@ loop-asker-preserved g c =
           (advances_all c.args.turn.now c.loop-asker.turn (sight_of c.args.self.now) (sight_of c.loop-asker.self) posted ended c.loop-asker.invariant.advances)
           (advances_all c.args.turn.now c.tell.new.turn (sight_of c.args.self.now) (sight_of c.tell.new.self) posted ended (advances_then c.args.turn.now c.loop-asker.turn c.tell.new.turn (sight_of c.args.self.now) (sight_of c.loop-asker.self) (sight_of c.tell.new.self) c.loop-asker.invariant.advances c.in_ok-tell.ensures.advances))
           first
-          (c.in_ok-tell.ensures.leads c.args.client askers c.next.new.self.rest.items first.later members (c.if-not-is_of.ensures.own refl) tt here);
+          (c.in_ok-tell.ensures.leads c.args.client askers c.next.new.self.rest.items first.later members tt (c.if-not-is_of.ensures.own refl) tt here);
       times = All-tail IsTimeFor (c.in-Some.asker, c.in-Some.answer) c.next.new.self.rest.items (subst (All IsTimeFor) c.in-Some.ensures.steps.0 c.loop-asker.invariant.times);
       rest = λ a among. c.loop-asker.invariant.rest a (subst (λ xs. IsAmong xs a) (sym c.in-Some.ensures.steps.0) (inr among));
     }

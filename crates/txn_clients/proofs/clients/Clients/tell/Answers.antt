@@ -49,4 +49,4 @@ pub returns-in-None-clause-leads : goal.returns-in-None-clause-leads
 returns-in-None-clause-leads g c client = unheard_leads _ g.met.P.Plan.lawful g.met.Q.Plan.lawful g.met.K.Plan.lawful c.args.self.now c.args.line client c.args.arrival c.args.turn.now.posted.items c.args.turn.now.ended.items
 
 pub returns-in-Some-clause-leads : goal.returns-in-Some-clause-leads
-returns-in-Some-clause-leads g c = on_ok c.go.result (λ f client askers rest h r own can arisen. f askers rest h r c.in-Some.ensures.own can arisen) c.go.ensures.leads
+returns-in-Some-clause-leads g c = on_ok c.go.result (λ f client askers rest h r fits own can arisen. f askers rest h r tt c.in-Some.ensures.own can arisen) c.go.ensures.leads

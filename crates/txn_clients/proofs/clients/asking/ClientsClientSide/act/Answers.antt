@@ -1,6 +1,6 @@
 use Rattle.txn_commit.specs.Committing.{ways}
 use Rattle.std.proofs.Common.{None, Some}
-use Rattle.txn_side.specs.Sight.{line_count}
+use Rattle.txn_side.specs.Sight.{line_count, commits}
 use Rattle.txn_clients.specs.Clients.{sight_of}
 use Rattle.txn_clients.proofs.Coming.{rolls_untold}
 use Rattle.txn_clients.proofs.Sides.{waits_none}
@@ -25,7 +25,7 @@ pub returns-in-None-clause-rests : goal.returns-in-None-clause-rests
 returns-in-None-clause-rests g c t posted called refused rolls was = rests_still (ways g.P.Plan.meaning g.Q.Plan.meaning g.K.Plan.meaning g.P.PlanFor.refuses g.Q.PlanFor.refuses g.K.PlanFor.refuses) t c.args.self.now c.args.self.now posted was
 
 pub returns-in-None-clause-arises : goal.returns-in-None-clause-arises
-returns-in-None-clause-arises g c h a = arises_still (ways g.P.Plan.meaning g.Q.Plan.meaning g.K.Plan.meaning g.P.PlanFor.refuses g.Q.PlanFor.refuses g.K.PlanFor.refuses) c.args.self.now (λ n. c.args.transaction) h a
+returns-in-None-clause-arises g c h a = arises_still (ways g.P.Plan.meaning g.Q.Plan.meaning g.K.Plan.meaning g.P.PlanFor.refuses g.Q.PlanFor.refuses g.K.PlanFor.refuses) c.args.self.now (λ n. record { at = c.args.transaction; commits = commits c.args.act }) h a
 
 pub returns-in_ok-call-in-Some-clause-arises : goal.returns-in_ok-call-in-Some-clause-arises
-returns-in_ok-call-in-Some-clause-arises g c h a = arises_sent (ways g.P.Plan.meaning g.Q.Plan.meaning g.K.Plan.meaning g.P.PlanFor.refuses g.Q.PlanFor.refuses g.K.PlanFor.refuses) c.args.self.now c.call.new.self c.in_ok-call-in-Some.field-0.posted.items c.in_ok-call-in-Some.field-0.ended.items (λ n. c.args.transaction) h c.in_ok-call-in-Some.ensures.leads a
+returns-in_ok-call-in-Some-clause-arises g c h a = arises_sent (ways g.P.Plan.meaning g.Q.Plan.meaning g.K.Plan.meaning g.P.PlanFor.refuses g.Q.PlanFor.refuses g.K.PlanFor.refuses) c.args.self.now c.call.new.self c.in_ok-call-in-Some.field-0.posted.items c.in_ok-call-in-Some.field-0.ended.items (λ n. record { at = c.args.transaction; commits = commits c.args.act }) h c.in_ok-call-in-Some.ensures.leads a

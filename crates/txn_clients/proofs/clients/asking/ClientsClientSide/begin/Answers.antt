@@ -1,5 +1,6 @@
 use Rattle.txn_commit.specs.Committing.{ways}
 use Rattle.std.proofs.Common.{None, Some}
+use Rattle.txn_side.specs.Doubt.{itself}
 use Rattle.txn_clients.proofs.Sides.{waits_none}
 use Rattle.txn_clients.proofs.Stepping.{ready_of, rested, rests_on, rests_still}
 use Rattle.txn_clients.proofs.Taking.{wants_optimistic, wants_told}
@@ -28,7 +29,7 @@ pub returns-in-None-clause-rests : goal.returns-in-None-clause-rests
 returns-in-None-clause-rests g c t posted called begins was = rests_still (ways g.P.Plan.meaning g.Q.Plan.meaning g.K.Plan.meaning g.P.PlanFor.refuses g.Q.PlanFor.refuses g.K.PlanFor.refuses) t c.args.self.now c.args.self.now posted was
 
 pub returns-in-None-clause-arises : goal.returns-in-None-clause-arises
-returns-in-None-clause-arises g c h a = arises_still (ways g.P.Plan.meaning g.Q.Plan.meaning g.K.Plan.meaning g.P.PlanFor.refuses g.Q.PlanFor.refuses g.K.PlanFor.refuses) c.args.self.now (λ n. n) h a
+returns-in-None-clause-arises g c h a = arises_still (ways g.P.Plan.meaning g.Q.Plan.meaning g.K.Plan.meaning g.P.PlanFor.refuses g.Q.PlanFor.refuses g.K.PlanFor.refuses) c.args.self.now itself h a
 
 pub returns-in_ok-ask-in-Some-clause-arises : goal.returns-in_ok-ask-in-Some-clause-arises
-returns-in_ok-ask-in-Some-clause-arises g c h a = arises_sent (ways g.P.Plan.meaning g.Q.Plan.meaning g.K.Plan.meaning g.P.PlanFor.refuses g.Q.PlanFor.refuses g.K.PlanFor.refuses) c.args.self.now c.ask.new.self c.in_ok-ask-in-Some.field-0.posted.items c.in_ok-ask-in-Some.field-0.ended.items (λ n. n) h c.in_ok-ask-in-Some.ensures.leads a
+returns-in_ok-ask-in-Some-clause-arises g c h a = arises_sent (ways g.P.Plan.meaning g.Q.Plan.meaning g.K.Plan.meaning g.P.PlanFor.refuses g.Q.PlanFor.refuses g.K.PlanFor.refuses) c.args.self.now c.ask.new.self c.in_ok-ask-in-Some.field-0.posted.items c.in_ok-ask-in-Some.field-0.ended.items itself h c.in_ok-ask-in-Some.ensures.leads a
