@@ -24,7 +24,7 @@ use Rattle.txn_causes.specs.Causes as causes
 use Rattle.txn_causes.specs.Heard.Heard.{WasLost}
 use Rattle.txn_causes.specs.Kinds.{IsOfKind}
 use Rattle.txn_clients.specs.Want.{is_memory, some_want_memory, wants_memory}
-use Rattle.txn_side.specs.Trace.{IsCalled, Trace}
+use Rattle.txn_side.specs.Trace.{Trace}
 use Rattle.txn_run.specs.Calm.{IsCalm, IsGoodReply, IsNotCalm}
 use Rattle.txn_run.specs.Caused.{HeardBy, IsCaused, IsExplained, IsSpentFor, IsRollbackRefused, IsUndetermined}
 
@@ -53,15 +53,14 @@ epoch_record : (id : ℕ) (r : Request) (o : Reply) → IsGoodReply r o → HasR
 epoch_record id r o good (inl (x, at, is)) = let fine = good.record_in x at in fine.epoch is.1
 epoch_record id r o good (inr k) = no_region_error (EpochNotMatch k.0) r o good k.2
 
-module _ (t : Trace) (at n : ℕ) (called : IsCalled t n at) (calm : IsCalm t n) where
-  never_lost : (u : Ticket) (r : Request) → HeardBy t at n (WasLost u r) → ⊥
-  never_lost u r (lost, inl line) = calm.kept u r lost line
-  never_lost u r (lost, inr commit) = calm.settled at u r called lost commit.0 commit.1
+module _ (t : Trace) (at n : ℕ) (calm : IsCalm t n) where
+  never_lost : (u : Ticket) (r : Request) → HeardBy t n (WasLost u r) → ⊥
+  never_lost u r (line, lost) = calm.kept u r lost line
 
-  never_taken : (are : Request → Reply → Type 0) → ((r : Request) (o : Reply) → IsGoodReply r o → are r o → ⊥) → Taken (HeardBy t at n) are → ⊥
+  never_taken : (are : Request → Reply → Type 0) → ((r : Request) (o : Reply) → IsGoodReply r o → are r o → ⊥) → Taken (HeardBy t n) are → ⊥
   never_taken are never k = let heard = k.3 in never k.1 k.2 (calm.good k.0 k.1 k.2 heard.1 heard.0) k.4
 
-  uncaused_internal : (what : Internal) → InternalCause (HeardBy t at n) what → ⊥
+  uncaused_internal : (what : Internal) → InternalCause (HeardBy t n) what → ⊥
   uncaused_internal (BadEnd place) k = never_taken (λ q. HasRegion (HasBadKey (BadEnd place))) (key_record (BadEnd place)) k
   uncaused_internal (BadPadding place) k = never_taken (λ q. HasRegion (HasBadKey (BadPadding place))) (key_record (BadPadding place)) k
   uncaused_internal (ReversedRegion id) k = never_taken (λ q. HasRegion (IsReversed id)) (upright_record id) k
@@ -69,7 +68,7 @@ module _ (t : Trace) (at n : ℕ) (called : IsCalled t n at) (calm : IsCalm t n)
   uncaused_internal WrongReply k = never_taken (λ q o. IsOfKind q o → ⊥) (λ r o good other. other good.like) k
   uncaused_internal _ k = k
 
-  plain_wants : (error : Error) → PlainCause (HeardBy t at n) (IsSpentFor t at n) error → is_memory error ≡ true
+  plain_wants : (error : Error) → PlainCause (HeardBy t n) (IsSpentFor t at n) error → is_memory error ≡ true
   plain_wants (GrpcAPI u) k = absurd (never_lost u k.0 k.1)
   plain_wants (RegionForKeyNotFound wanted) k = let heard = k.2 in let good = calm.good k.0 (GetRegion (record { region_key = wanted })) k.1 heard.1 heard.0 in absurd (good.found k.3)
   plain_wants (RegionNotFoundInResponse id) k = absurd (never_taken (FoundOther id) (λ r o good other. good.wanted id other) k)
@@ -82,12 +81,12 @@ module _ (t : Trace) (at n : ℕ) (called : IsCalled t n at) (calm : IsCalm t n)
   or_wants true b e = refl
   or_wants false b e = absurd (cc)
 
-  some_lock : (found : List LockInfo) → found ≢ [] → ((lock : LockInfo) → IsAmong found lock → Taken (HeardBy t at n) (λ q. HasLock lock)) → ⊥
+  some_lock : (found : List LockInfo) → found ≢ [] → ((lock : LockInfo) → IsAmong found lock → Taken (HeardBy t n) (λ q. HasLock lock)) → ⊥
   some_lock [] some each = some refl
   some_lock (lock ∷ found) some each = never_taken (λ q. HasLock lock) (no_key_error (Locked lock)) (each lock (inl refl))
 
   mutual
-    cause_wants : (error : ErrorView) → HasCause (HeardBy t at n) (IsSpentFor t at n) error → wants_memory error ≡ true
+    cause_wants : (error : ErrorView) → HasCause (HeardBy t n) (IsSpentFor t at n) error → wants_memory error ≡ true
     cause_wants (plain error) k = plain_wants error k
     cause_wants (locks found) k = absurd (some_lock found k.0 k.1)
     cause_wants (region error) k = absurd (never_taken (λ q. HasRegionError error) (no_region_error error) k.0)
@@ -99,13 +98,13 @@ module _ (t : Trace) (at n : ℕ) (called : IsCalled t n at) (calm : IsCalm t n)
     cause_wants (text message) k = absurd k
     cause_wants (pessimistic inner keys) k = absurd k
 
-    causes_want : (errors : ErrorViews) → AreSome errors → causes.HaveCauses (HeardBy t at n) (IsSpentFor t at n) errors → some_want_memory errors ≡ true
+    causes_want : (errors : ErrorViews) → AreSome errors → causes.HaveCauses (HeardBy t n) (IsSpentFor t at n) errors → some_want_memory errors ≡ true
     causes_want none some k = absurd some
     causes_want (more error errors) some k = or_wants (wants_memory error) (some_want_memory errors) (cause_wants error k.0)
 
   unexplained : (e : Error) → IsExplained t at n e → wants_memory (view_of e) ≡ true
   unexplained e (inl k) = cause_wants (view_of e) k
-  unexplained e (inr k) = absurd (calm.timed e k.0)
+  unexplained e (inr k) = absurd (calm.timed e k.0.refused)
 
 fed_so : (b : Bool) → b ≡ false → b ≡ true → ⊥
 fed_so true e f = cc
@@ -115,6 +114,6 @@ pub not_calm : (t : Trace) (n : ℕ) (e : Error) → IsCaused t n e → IsNotCal
 not_calm t n e c calm = by c.why
   where
     by : IsExplained t c.at n e ⊎ (IsUndetermined t c.at n e ⊎ IsRollbackRefused t c.at n e) → ⊥
-    by (inl k) = fed_so (wants_memory (view_of e)) c.fed (unexplained t c.at n c.called calm e k)
-    by (inr (inl k)) = fed_so (wants_memory (view_of e)) c.fed (ap wants_memory k.error ∙ unexplained t c.at n c.called calm k.inner k.explained)
-    by (inr (inr k)) = calm.settled c.at k.ticket (Commit k.commit) c.called k.lost k.sent tt
+    by (inl k) = fed_so (wants_memory (view_of e)) c.fed (unexplained t c.at n calm e k)
+    by (inr (inl k)) = fed_so (wants_memory (view_of e)) c.fed (ap wants_memory k.error ∙ unexplained t c.at n calm k.inner k.explained)
+    by (inr (inr k)) = calm.settled k.rollback c.at k.ticket (Commit k.commit) c.called k.lost k.sent tt

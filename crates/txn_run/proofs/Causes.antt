@@ -1,7 +1,7 @@
 -- From what a call that failed had heard to what the report tells.
-use Rattle.std.proofs.Common.{◌≡◌, ◌⊎◌, inl, inr, zero, suc, ℕ, refl, ap, ◌∙◌, subst}
+use Rattle.std.proofs.Common.{◌≡◌, ◌⊎◌, inl, inr, zero, suc, ℕ, refl, sym, ap, ◌∙◌, subst}
 use Rattle.std.specs.Global.{Vec}
-use Rattle.std.specs.Prelude.{Bool, if◌then◌else◌, true, false, List, [], ◌∷◌, Option, Some, None, Result, Err, reverse}
+use Rattle.std.specs.Prelude.{IfSome, Bool, if◌then◌else◌, true, false, List, [], ◌∷◌, Option, Some, None, Result, Err, reverse}
 use Rattle.txn_kv.specs.ErrorView.{view_of, ErrorView, ErrorViews}
 use Rattle.txn_kv.specs.ErrorView.ErrorView.{plain, locks, region, undetermined as not_known, key, extracted, multiple, kv, text, pessimistic}
 use Rattle.txn_kv.specs.ErrorView.ErrorViews.{none, more}
@@ -46,7 +46,7 @@ use Rattle.txn_commit_plans.specs.CausesOfPlans.{commits_caused, prewrites_cause
 use Rattle.txn_commit_plans.specs.Failing.{HasGivenWith, given_caused}
 use Rattle.txn_commit_plans.specs.Kinds.{CommitPlan, PrewritePlan, RollbackPlan, commit_plan, commit_retries, prewrite_plan, prewrite_retries, rollback_plan, rollback_retries}
 use Rattle.txn_core.specs.Going.{TransactionGives}
-use Rattle.txn_side.specs.Trace.{AreOwn, AreShown, FailsIn, HasRefused, IsBegunAs, IsHarmless, IsRefusedIn, Trace, refused_asks}
+use Rattle.txn_side.specs.Trace.{AreOwn, AreShown, FailsIn, HasRefused, IsBarredIn, IsBegunAs, IsHarmless, IsRefusedIn, IsRefusedNow, LastTold, Trace, refused_asks, untimed_by, untimed_view}
 use Rattle.txn_report.specs.declared.outcome.Outcome.{Outcome}
 use Rattle.txn_report.specs.declared.report.Report.{Report}
 use Rattle.txn_lines.specs.Text.{IsScript}
@@ -59,7 +59,7 @@ use Rattle.txn_clients.specs.Options.{backoff_unless, retries_of}
 use Rattle.txn_core.specs.Options.{usual_retries}
 use Rattle.txn_multi.specs.Task.{attempts_left}
 use Rattle.txn_lines.specs.declared.begin_options.BeginOptions.{BeginOptions}
-use Rattle.txn_clients.specs.Failing.{AreRetriesOf, CallFailed, CallRefused, FailsFor, HasFailedFor, KnownTransaction}
+use Rattle.txn_clients.specs.Failing.{AreRetriesOf, CallFailed, FailsFor, HasFailedFor, KnownTransaction}
 use Rattle.txn_run.specs.Behind.{AreBehind}
 use Rattle.txn_run.specs.Program.{RanScript}
 use Rattle.txn_run.specs.Refused.{AreExact}
@@ -67,7 +67,7 @@ use Rattle.txn_run.proofs.Asking.{fewer_refused, refused_again}
 use Rattle.txn_run.proofs.Calming.{not_calm}
 use Rattle.txn_run.proofs.Doubting.{told_of_doubt}
 use Rattle.txn_run.proofs.Matching.{lines_kind}
-use Rattle.txn_run.proofs.Refusing.{all_exact, never_caused}
+use Rattle.txn_run.proofs.Refusing.{all_exact, never_caused, refused_untimed, view-InternalError}
 use Rattle.txn_run.proofs.Wholeness.{lines_whole}
 use Rattle.txn_run.specs.Caused.{HaveCauses, HeardBy, IsCaused, IsExplained, IsRollbackRefused, IsUndetermined, attempts_of, trace_at}
 
@@ -206,48 +206,68 @@ left_unless false = refl
 attempts_same : (told : BeginOptions) (own : RetryOptions) → own ≡ retries_of told → attempts_left own.region_backoff ≡ attempts_of told
 attempts_same told own e = ap (λ (r : RetryOptions). attempts_left r.region_backoff) e ∙ left_unless told.no_regions
 
+-- an error that says why there is no timestamp says what came last, itself or within another
+says_alone : (t : Trace) (n : ℕ) (e : Error) → LastTold t n e → IfSome (untimed_by e) (λ what. IsRefusedNow t n (InternalError what))
+says_alone t n (InternalError what) last = subst (λ view. IfSome (untimed_view view) (λ w. IsRefusedNow t n (InternalError w))) (view-InternalError what) last
+says_alone t n _ last = tt
+
+says_inside : (t : Trace) (n : ℕ) (e inner : Error) → view_of e ≡ not_known (view_of inner) → LastTold t n e → IfSome (untimed_by inner) (λ what. IsRefusedNow t n (InternalError what))
+says_inside t n e (InternalError what) same last = subst (λ view. IfSome (untimed_view view) (λ w. IsRefusedNow t n (InternalError w))) (same ∙ ap not_known (view-InternalError what)) last
+says_inside t n e _ same last = tt
+
 -- What a call heard is shown, and came for its line, which had no fewer asks refused than it heard of.
 module _ (t : Trace) (at n : ℕ) (h : List Event) (like : (u : Ticket) (r : Request) (o : Reply) → Has t.events (Took u r o) → IsOfKind r o) (shown : AreShown t at h) (own : AreOwn n h) (counted : HasRefused t n (refused_asks h)) where
-  took_shown : (u : Ticket) (r : Request) (o : Reply) → heard_in h (TookReply u r o) → HeardBy t at n (TookReply u r o) ⊎ IsHarmless r o
+  took_shown : (u : Ticket) (r : Request) (o : Reply) → heard_in h (TookReply u r o) → HeardBy t n (TookReply u r o) ⊎ IsHarmless r o
   took_shown u r o k = elim (shown (Took u r o) k) [ inl s ↦ elim (own (Took u r o) k) [ inl line ↦ inl (line, s.1, like u r o s.1) | inr harmless ↦ inr harmless ] | inr harmless ↦ inr harmless ]
 
-  lost_shown : (u : Ticket) (r : Request) → heard_in h (WasLost u r) → HeardBy t at n (WasLost u r)
-  lost_shown u r k = let s = shown (Lost u r) k in (s.1, elim (own (Lost u r) k) [ inl line ↦ inl line | inr commit ↦ inr (s.0, commit) ])
+  lost_shown : (u : Ticket) (r : Request) → heard_in h (WasLost u r) → HeardBy t n (WasLost u r)
+  lost_shown u r k = let s = shown (Lost u r) k in (own (Lost u r) k, s.1)
 
-  asked : (e : Error) → HasNoTimestamp h e → IsExplained t at n e
-  asked e k =
+  -- what it says of a timestamp came last
+  abbrev Says : Error → Type 0
+  Says e = IfSome (untimed_by e) (λ what. IsRefusedNow t n (InternalError what))
+
+  now_so : (e : Error) → Says e → IsRefusedIn t n e → IsRefusedNow t n e
+  now_so e says r =
+      let u = refused_untimed t n e like r in
+      subst (IsRefusedNow t n) (sym u.1) (subst (λ what. IfSome what (λ w. IsRefusedNow t n (InternalError w))) u.2 (subst Says u.1 says))
+
+  asked : (e : Error) → Says e → HasNoTimestamp h e → IsExplained t at n e
+  asked e says k =
       let ask = ticket_of k.0 k.1 in
       let s = shown (Answered ask (Err e)) k.2 in
-      inr (subst (λ line. IsRefusedIn t line e) (own (Answered ask (Err e)) k.2) s.1, fewer_refused t n (refused_asks h) 10 (refused_again k.0 h 9 k.1 e k.2 k.3) counted)
+      inr (now_so e says (subst (λ line. IsRefusedIn t line e) (own (Answered ask (Err e)) k.2) s.1), fewer_refused t n (refused_asks h) 10 (refused_again k.0 h 9 k.1 e k.2 k.3) counted)
 
   -- an error of a call, where those of its transaction are tried again so often
-  explained : (options : BeginOptions) → IsBegunAs t at options → (attempts : ℕ) → attempts ≡ attempts_of options → (e : Error) → calls.IsExplained attempts h e → IsExplained t at n e
-  explained options begun attempts same e (inl k) = inl (has_cause (heard_in h) (HeardBy t at n) (λ s. (options, begun, subst (IsSpent (HeardBy t at n)) same (spent_shown (heard_in h) (HeardBy t at n) took_shown lost_shown attempts s))) took_shown lost_shown (view_of e) k)
-  explained options begun attempts same e (inr k) = asked e k
+  explained : (options : BeginOptions) → IsBegunAs t at options → (attempts : ℕ) → attempts ≡ attempts_of options → (e : Error) → Says e → calls.IsExplained attempts h e → IsExplained t at n e
+  explained options begun attempts same e says (inl k) = inl (has_cause (heard_in h) (HeardBy t n) (λ s. (options, begun, subst (IsSpent (HeardBy t n)) same (spent_shown (heard_in h) (HeardBy t n) took_shown lost_shown attempts s))) took_shown lost_shown (view_of e) k)
+  explained options begun attempts same e says (inr k) = asked e says k
 
-  untimed : (e : Error) → HasCause (heard_in h) ⊥ (view_of e) ⊎ HasNoTimestamp h e → IsExplained t at n e
-  untimed e (inl k) = inl (has_cause (heard_in h) (HeardBy t at n) (λ never. absurd never) took_shown lost_shown (view_of e) k)
-  untimed e (inr k) = asked e k
-
-  refused : (e : Error) → IsAmong t.rollbacks n → CallRefused h e → IsRollbackRefused t at n e
-  refused e rolls k =
-      let known = k.transaction.known in
-      let lost = known.losing k.ticket k.left in
-      let s = shown (Lost k.ticket (Commit lost.0)) lost.1 in
-      record { rollback = rolls; ticket = k.ticket; error = k.error; sent = s.0; commit = lost.0; lost = s.1 }
+  untimed : (e : Error) → Says e → HasCause (heard_in h) ⊥ (view_of e) ⊎ HasNoTimestamp h e → IsExplained t at n e
+  untimed e says (inl k) = inl (has_cause (heard_in h) (HeardBy t n) (λ never. absurd never) took_shown lost_shown (view_of e) k)
+  untimed e says (inr k) = asked e says k
 
   module _ {P Q K A B D : Type 0} (w : Ways P Q K A B D)
       (failed : (options : RetryOptions) (start : Timestamp) (contents : Contents) (c : Commits) (h : List Event) (e : Error) → TransactionGives w options start contents c h (Err e) → IsCallExplained (attempts_left options.region_backoff) (undetermined c) h e) where
-    call_failed : (e : Error) → CallFailed w (IsBegunAs t at) h e → IsExplained t at n e ⊎ IsUndetermined t at n e
-    call_failed e k = let x = k.transaction in by x k.retries (undetermined x.commits) (failed x.retry_options x.start x.contents x.commits h e (inl (x.parts, x.whole, k.fails)))
+    call_failed : (e : Error) → LastTold t n e → CallFailed w (IsBegunAs t at) h e → IsExplained t at n e ⊎ IsUndetermined t at n e
+    call_failed e last k = let x = k.transaction in by x k.retries (undetermined x.commits) (failed x.retry_options x.start x.contents x.commits h e (inl (x.parts, x.whole, k.fails)))
       where
         by : (x : KnownTransaction h) → AreRetriesOf (IsBegunAs t at) x.retry_options → (left : Option Ticket) → IsCallExplained (attempts_left x.retry_options.region_backoff) left h e → IsExplained t at n e ⊎ IsUndetermined t at n e
-        by x r None g = inl (explained r.0 r.1 (attempts_left x.retry_options.region_backoff) (attempts_same r.0 x.retry_options r.2) e g)
-        by x r (Some u) g = inr (record { inner = g.0; error = g.1; explained = explained r.0 r.1 (attempts_left x.retry_options.region_backoff) (attempts_same r.0 x.retry_options r.2) g.0 g.2 })
+        by x r None g = inl (explained r.0 r.1 (attempts_left x.retry_options.region_backoff) (attempts_same r.0 x.retry_options r.2) e (says_alone t n e last) g)
+        by x r (Some u) g = inr (record { inner = g.0; error = g.1; explained = explained r.0 r.1 (attempts_left x.retry_options.region_backoff) (attempts_same r.0 x.retry_options r.2) g.0 (says_inside t n e g.0 g.1 last) g.2 })
 
-    fails : (e : Error) → HasFailedFor w false (IsBegunAs t at) h e → IsExplained t at n e ⊎ IsUndetermined t at n e
-    fails e (inl k) = inl (untimed e (untimed_caused h e k))
-    fails e (inr k) = call_failed e k
+    fails : (e : Error) → LastTold t n e → HasFailedFor w false (IsBegunAs t at) h e → IsExplained t at n e ⊎ IsUndetermined t at n e
+    fails e last (inl k) = inl (untimed e (says_alone t n e last) (untimed_caused h e k))
+    fails e last (inr k) = call_failed e last k
+
+-- A rollback that is refused names a Commit that was lost.
+refused : {P Q K A B D : Type 0} (w : Ways P Q K A B D) (t : Trace) (at n : ℕ) (e : Error) → IsBarredIn (FailsFor w) t at n e → IsRollbackRefused t at n e
+refused w t at n e b =
+    let k = b.fails_so in
+    let why = k.why in
+    let lost = why.lost in
+    let s = b.shown (Lost why.ticket (Commit lost.0)) lost.1 in
+    record { rollback = b.rolls; ticket = why.ticket; error = why.error; sent = s.0; commit = lost.0; lost = s.1 }
 
 -- Each line
 module _ {Fails Causes : ℕ → Error → Type 0} (weaker : (n : ℕ) (e : Error) → Fails n e → Causes n e) where
@@ -278,9 +298,9 @@ have_causes_told script report behind k = causes_meet is_caused report.outcomes 
         like : (u : Ticket) (r : Request) (o : Reply) → Has t.events (Took u r o) → IsOfKind r o
         like u r o h = lines_kind plans script report behind (suc (ended_of report.ended n)) u r o h
 
-        by : FailsFor plans false (IsBegunAs t f.at) f.history e ⊎ (IsAmong t.rollbacks n × FailsFor plans true (IsBegunAs t f.at) f.history e) → IsCaused t n e
-        by (inl so) = record { at = f.at; called = f.called; why = elim (fails t f.at n f.history like f.shown f.own f.counted plans plans_explained e so.why) [ inl k ↦ inl k | inr k ↦ inr (inl k) ]; fed = so.fed }
-        by (inr (rolls, so)) = record { at = f.at; called = f.called; why = inr (inr (refused t f.at n f.history like f.shown f.own f.counted e rolls so.why)); fed = so.fed }
+        by : FailsFor plans false (IsBegunAs t f.at) f.history e ⊎ IsBarredIn (FailsFor plans) t f.at n e → IsCaused t n e
+        by (inl so) = record { at = f.at; called = f.called; why = elim (fails t f.at n f.history like f.shown f.own f.counted plans plans_explained e f.last so.why) [ inl k ↦ inl k | inr k ↦ inr (inl k) ]; fed = so.fed }
+        by (inr b) = let so = b.fails_so in record { at = f.at; called = f.called; why = inr (inr (refused plans t f.at n e b)); fed = so.fed }
 
 -- a script ran
 pub ran_script : (bytes : List ℕ) (lines items : List Line) (report : Report) → items ≡ lines → IsScript bytes lines → Lawful items report → CausesMeetLines (FailsFor plans) (reverse items) report

@@ -1,11 +1,15 @@
 -- A call of a transaction fails with an error that says whether a Commit of its primary was lost.
-use Rattle.std.proofs.Common.{◌≡◌, ◌≢◌, inl, inr, ℕ, suc, Bool, true, false, if◌then◌else◌, List, [], ◌∷◌, length, Option, Some, None, nat_lt, refl, sym, ap, ◌∙◌, subst, arith}
+use Rattle.std.proofs.Common.{◌≡◌, ◌≢◌, ◌⊎◌, ◌++◌, inl, inr, ℕ, suc, Bool, true, false, if◌then◌else◌, List, [], ◌∷◌, length, Option, Some, None, nat_lt, refl, sym, ap, ◌∙◌, subst, arith}
 use Rattle.txn_kv.specs.declared.errors.Error.{Error}
 use Rattle.txn_history.specs.Among.{IsAmong}
-use Rattle.txn_history.specs.Event.{Event}
+use Rattle.txn_history.specs.Event.{Event, Has, same_ticket}
+use Rattle.txn_history.specs.Event.Event.{Lost, Took}
 use Rattle.txn_kv.specs.declared.request.Request.TheVariants.{Commit}
+use Rattle.txn_kv.specs.declared.ticket.Ticket.{Ticket}
+use Rattle.txn_commit.proofs.Following.{ticket_is}
 use Rattle.txn_lines.specs.Lines.{line_at}
 use Rattle.txn_lines.specs.declared.line.Line.{Line}
+use Rattle.txn_lines.specs.declared.line.Line.TheVariants.{Rollback}
 use Rattle.txn_machine.specs.Accounts.{Ask, account_of, ask_of}
 use Rattle.txn_machine.specs.Arising.{AllSpeak}
 use Rattle.txn_machine.specs.Causes.{EventsMeetLines, Role, ended_of, lines_before, role_of}
@@ -19,11 +23,12 @@ use Rattle.txn_report.specs.declared.outcome.Outcome.TheVariants.{Ok, Err}
 use Rattle.txn_report.specs.declared.outcome.Payload.TheVariants.{Number}
 use Rattle.txn_report.specs.declared.report.Report.{Report}
 use Rattle.txn_side.specs.Account.{Account}
-use Rattle.txn_side.specs.Doubt.{HasLostCommit, IsInDoubt, IsRefusal, SaysWhether, WasWritten}
+use Rattle.txn_side.specs.Doubt.{HasLostCommit, IsFirstLost, IsInDoubt, IsRefusal, NamesFirst, SaysWhether, WasWritten}
 use Rattle.txn_side.specs.Trace.{Call}
-use Rattle.txn_run.specs.Doubt.{AreToldOfDoubt, TellsOfDoubt, TellsWhether}
+use Rattle.txn_run.specs.Doubt.{AreToldOfDoubt, NamesLost, TellsOfDoubt, TellsWhether}
 use Rattle.txn_run.specs.Refused.{AllRefusalsMeet, AreExact, RefusalMeets}
 use Rattle.txn_run.proofs.LostOrTaken.{AreLostOrTaken, history_apart_by}
+use Rattle.txn_run.proofs.ServedOnce.{alike}
 
 -- Which lines call, and whom.
 
@@ -82,6 +87,43 @@ lost_in_doubt s h apart written l = record {
   untaken = λ o took. apart.apart l.ticket (Commit l.commit) (Commit l.commit) o l.lost took;
 }
 
+-- tickets that are not told apart are one
+told_apart : (a b : Ticket) → (a ≡ b) ⊎ (a ≢ b)
+told_apart a b = by (same_ticket a b) refl
+  where
+    by : (alike : Bool) → same_ticket a b ≡ alike → (a ≡ b) ⊎ (a ≢ b)
+    by true e = inl (ticket_is a b e)
+    by false e = inr (λ same. absurd (let no = sym (alike a b same) ∙ e in cc))
+
+-- the first of which a reply was taken of each other is the first of all
+first_of_all : (s : ℕ) (h : List Event) (e : Error) → AreLostOrTaken h → NamesFirst s h e → NamesLost s h e
+first_of_all s h e apart n = record {
+  ticket = n.ticket;
+  error = n.error;
+  first = record {
+    commit = f.commit;
+    newer = f.newer;
+    older = f.older;
+    splits = f.splits;
+    same = f.same;
+    primary = f.primary;
+    first = λ written l. elim (told_apart l.ticket n.ticket) [
+      | inl same ↦ same
+      | inr other ↦ (let taken = f.first written l other in absurd (apart.apart l.ticket (Commit l.commit) (Commit l.commit) taken.0 (older (Lost l.ticket (Commit l.commit)) l.lost) (older (Took l.ticket (Commit l.commit) taken.0) taken.1)))
+    ];
+  };
+}
+  where
+    f : IsFirstLost s h n.ticket
+    f = n.first
+
+    behind : (newer g : List Event) (x : Event) → Has g x → Has (newer ++ g) x
+    behind [] g x i = i
+    behind (y ∷ newer) g x i = inr (behind newer g x i)
+
+    older : (x : Event) → Has f.older x → Has h x
+    older x i = subst (λ g. Has g x) (sym f.splits) (behind f.newer (Lost n.ticket (Commit f.commit) ∷ f.older) x (inr i))
+
 tells_doubt : (script : List Line) (report : Report) → EventsMeetLines script report → AllSpeak report.sent report.outcomes report.ended script → (n : ℕ) (e : Error) → outcome_of report.outcomes n ≡ Err e → (IsRefusal e → ⊥) → TellsOfDoubt script report n e
 tells_doubt script report events speak n e failed unrefused x s began called = by (role_of caller.line) refl caller.calls
   where
@@ -94,16 +136,26 @@ tells_doubt script report events speak n e failed unrefused x s began called = b
     apart : AreLostOrTaken happened
     apart = history_apart_by report.sent report.sleeps report.outcomes report.ended script (suc (ended_of report.ended n)) events
 
-    whether : SaysWhether happened s e → TellsWhether happened s e
-    whether says = record { always = λ written lost. says.always (lost_in_doubt s happened apart written lost); only = says.only }
+    Tells : Type 0
+    Tells = TellsWhether happened s (line_at script n ≡ Some (Rollback x)) e
+
+    whether : (commits : Bool) → (line_at script n ≡ Some (Rollback x) → commits ≡ false) → SaysWhether happened s commits e → Tells
+    whether commits rolls says = record { always = λ written lost. says.always (lost_in_doubt s happened apart written lost); only = says.only; names = λ back so. first_of_all s happened e apart (says.names (rolls back) so) }
 
     other : n ≡ x → ⊥
     other same = began_failed s e (sym began.3 ∙ subst (λ k. outcome_of report.outcomes k ≡ Err e) same failed)
 
-    tells : (commits : Bool) → role_of caller.line ≡ UsesTransaction commits x → TellsWhether happened s e
-    tells commits role = elim (speak n x s e (record { commits = commits; line = caller.line; there = caller.there; role = role; began = began.3; failed = failed })) [ inl refused ↦ absurd (unrefused refused) | inr says ↦ whether says ]
+    rolled : (commits : Bool) → role_of caller.line ≡ UsesTransaction commits x → line_at script n ≡ Some (Rollback x) → commits ≡ false
+    rolled commits role back =
+        let is : ◌≡◌ {A = Option Line} (Some (Rollback x)) (Some caller.line) = sym back ∙ caller.there in
+        let same : Rollback x ≡ caller.line = cc in
+        let roles : UsesTransaction false x ≡ UsesTransaction commits x = ap (λ l. role_of l) same ∙ role in
+        cc
 
-    by : (role : Role) → role_of caller.line ≡ role → IsAmong (calls_by n role) (record { line = n; at = x }) → TellsWhether happened s e
+    tells : (commits : Bool) → role_of caller.line ≡ UsesTransaction commits x → Tells
+    tells commits role = elim (speak n x s e (record { commits = commits; line = caller.line; there = caller.there; role = role; began = began.3; failed = failed })) [ inl refused ↦ absurd (unrefused refused) | inr says ↦ whether commits (rolled commits role) says ]
+
+    by : (role : Role) → role_of caller.line ≡ role → IsAmong (calls_by n role) (record { line = n; at = x }) → Tells
     by MakesClient is h = absurd h
     by (AsksTime begins client) is (inl same) = absurd (other (ap (λ (c : Call). c.at) same))
     by (AsksTime begins client) is (inr h) = absurd h

@@ -3,6 +3,9 @@ use Rattle.std.proofs.Common.{◌≡◌, ◌⊎◌, inl, inr, ℕ, Bool, true, f
 use Rattle.std.specs.Prelude.{Ok as Given, Err as Refused}
 use Rattle.txn_causes.specs.Causes.{HasCause, PlainCause}
 use Rattle.txn_causes.specs.Heard.{Heard}
+use Rattle.txn_causes.specs.Kinds.{IsOfKind}
+use Rattle.txn_history.specs.Event.{Has}
+use Rattle.txn_history.specs.Event.Event.{Took}
 use Rattle.txn_kv.specs.ErrorView.{ErrorView, view_of, view_step}
 use Rattle.txn_kv.specs.ErrorView.ErrorView.{plain, undetermined}
 use Rattle.txn_kv.specs.declared.errors.Error.{Error}
@@ -13,6 +16,9 @@ use Rattle.txn_kv.specs.declared.errors.Internal.{Internal}
 use Rattle.txn_kv.specs.declared.errors.Internal.TheVariants.{OracleLost, OracleCount, OracleEmpty, WrongReply}
 use Rattle.txn_kv.specs.declared.reply.Reply.{Reply}
 use Rattle.txn_kv.specs.declared.reply.Reply.TheVariants as replies
+use Rattle.txn_kv.specs.declared.request.Request.{Request}
+use Rattle.txn_kv.specs.declared.request.Request.TheVariants.{Tso}
+use Rattle.txn_kv.specs.declared.ticket.Ticket.{Ticket}
 use Rattle.txn_kv.specs.declared.timestamp.Timestamp.{Timestamp}
 use Rattle.txn_lines.specs.declared.line.Line.{Line}
 use Rattle.txn_machine.specs.Accounts.{AccountMeets, AllAccountsMeet, AnswersIn, Ask, account_of, ask_of}
@@ -23,31 +29,47 @@ use Rattle.txn_report.specs.declared.outcome.Outcome.{Outcome}
 use Rattle.txn_report.specs.declared.outcome.Outcome.TheVariants.{Err}
 use Rattle.txn_side.specs.Account.{Account, refusal}
 use Rattle.txn_side.specs.Doubt.{IsRefusal}
-use Rattle.txn_side.specs.Trace.{IsRefusedIn, Refuses, Trace}
+use Rattle.txn_side.specs.Trace.{IsRefusedIn, Refuses, Trace, untimed}
 use Rattle.txn_tso.specs.Oracle.{granted, granted_if, has_version, is_unlike}
 use Rattle.txn_run.specs.Caused.{HeardBy, IsCaused, IsExplained, IsSpentFor, IsRollbackRefused, IsUndetermined}
 use Rattle.txn_run.specs.Refused.{AllRefusalsMeet, RefusalMeets}
 
 -- none of them is caused by what came
 
-granted_internal : (stamp : Option Timestamp) (given asked behind : ℕ) (e : Error) → granted_if stamp given asked behind ≡ Refused e → (what : Internal) × (e ≡ errors.InternalError what)
-granted_internal None given asked behind e is = (OracleEmpty, cc)
-granted_internal (Some last) given asked behind e is = by (has_version last) is
+-- why there is no timestamp, as a reply says it
+abbrev SaysUntimed : Error → Type 0
+SaysUntimed e = (what : Internal) × (e ≡ errors.InternalError what) × (untimed what ≡ Some what)
+
+granted_untimed : (stamp : Option Timestamp) (given asked behind : ℕ) (e : Error) → granted_if stamp given asked behind ≡ Refused e → SaysUntimed e
+granted_untimed None given asked behind e is = (OracleEmpty, cc, refl)
+granted_untimed (Some last) given asked behind e is = by (has_version last) is
   where
-    counted : (b : Bool) (time : Timestamp) → (if b then Refused (errors.InternalError (OracleCount asked given)) else Given time) ≡ Refused e → (what : Internal) × (e ≡ errors.InternalError what)
-    counted true time f = (OracleCount asked given, cc)
+    counted : (b : Bool) (time : Timestamp) → (if b then Refused (errors.InternalError (OracleCount asked given)) else Given time) ≡ Refused e → SaysUntimed e
+    counted true time f = (OracleCount asked given, cc, refl)
     counted false time f = cc
 
-    by : (b : Bool) → (if b then granted last given asked behind else Refused (errors.InternalError OracleEmpty)) ≡ Refused e → (what : Internal) × (e ≡ errors.InternalError what)
+    by : (b : Bool) → (if b then granted last given asked behind else Refused (errors.InternalError OracleEmpty)) ≡ Refused e → SaysUntimed e
     by true f = counted (is_unlike last given asked) _ f
-    by false f = (OracleEmpty, cc)
+    by false f = (OracleEmpty, cc, refl)
 
 refuses_internal : (asked : ℕ) (o : Reply) (e : Error) → Refuses asked o e → (what : Internal) × (e ≡ errors.InternalError what)
-refuses_internal asked (replies.Tso times) e h = granted_internal times.timestamp times.count asked h.0 e h.2
+refuses_internal asked (replies.Tso times) e h = let s = granted_untimed times.timestamp times.count asked h.0 e h.2 in (s.0, s.1)
 refuses_internal asked o e h = (WrongReply, h)
+
+-- so a line whose ask was refused by a loss, or by a reply of the request's kind
+pub refused_untimed : (t : Trace) (line : ℕ) (e : Error) → ((u : Ticket) (r : Request) (o : Reply) → Has t.events (Took u r o) → IsOfKind r o) → IsRefusedIn t line e → SaysUntimed e
+refused_untimed t line e like r = elim r.failed [ inl h ↦ (OracleLost, h.1, refl) | inr h ↦ by h.0 h.2 (like r.group.ticket (Tso r.request) h.0 h.1) ]
+  where
+    by : (o : Reply) → Refuses (length r.group.askers) o e → IsOfKind (Tso r.request) o → SaysUntimed e
+    by o refuses kind =
+        let h = subst (λ x. Refuses (length r.group.askers) x e) kind.1 refuses in
+        granted_untimed kind.0.timestamp kind.0.count (length r.group.askers) h.0 e h.2
 
 refused_internal : (t : Trace) (line : ℕ) (e : Error) → IsRefusedIn t line e → (what : Internal) × (e ≡ errors.InternalError what)
 refused_internal t line e r = elim r.failed [ inl h ↦ (OracleLost, h.1) | inr h ↦ refuses_internal (length r.group.askers) h.0 e h.2 ]
+
+pub view-InternalError : (what : Internal) → view_of (errors.InternalError what) ≡ plain (errors.InternalError what)
+view-InternalError what = ap view_of (sym (errors.rolls-InternalError what)) ∙ fold-roll-Error ErrorView view_step (layer.InternalError what)
 
 view-OperationAfterCommitError : view_of errors.OperationAfterCommitError ≡ plain errors.OperationAfterCommitError
 view-OperationAfterCommitError = ap view_of (sym errors.rolls-OperationAfterCommitError) ∙ fold-roll-Error ErrorView view_step layer.OperationAfterCommitError
@@ -66,8 +88,8 @@ never_plain t n e view uncaused other c = by c.why
     two inner q = cc
 
     by : IsExplained t c.at n e ⊎ (IsUndetermined t c.at n e ⊎ IsRollbackRefused t c.at n e) → ⊥
-    by (inl (inl h)) = uncaused (HeardBy t c.at n) (IsSpentFor t c.at n) (subst (HasCause (HeardBy t c.at n) (IsSpentFor t c.at n)) view h)
-    by (inl (inr r)) = let f = refused_internal t n e r.0 in other f.0 f.1
+    by (inl (inl h)) = uncaused (HeardBy t n) (IsSpentFor t c.at n) (subst (HasCause (HeardBy t n) (IsSpentFor t c.at n)) view h)
+    by (inl (inr r)) = let f = refused_internal t n e r.0.refused in other f.0 f.1
     by (inr (inl u)) = two (view_of u.inner) (sym view ∙ u.error)
     by (inr (inr u)) = two (view_of (errors.GrpcAPI u.ticket)) (sym view ∙ u.error)
 

@@ -6,6 +6,7 @@ use Rattle.txn_kv.specs.declared.region.RegionWithLeader.{RegionWithLeader}
 use Rattle.txn_kv.specs.declared.reply.Reply.{Reply}
 use Rattle.txn_kv.specs.declared.request.Request.{Request}
 use Rattle.txn_kv.specs.declared.ticket.Ticket.{Ticket}
+use Rattle.txn_history.specs.Among.{IsAmong}
 use Rattle.txn_history.specs.Event.{Has}
 use Rattle.txn_history.specs.Event.Event.{Took, Lost}
 use Rattle.txn_causes.specs.Carried.{key_errors_in, region_error_in, region_in, is_reversed, FoundNone, FoundOther, HasBadKey}
@@ -32,13 +33,13 @@ pub record IsGoodReply (r : Request) (o : Reply) : Type 0 where
   pub wanted : (id : ℕ) → FoundOther id r o → ⊥
   pub record_in : (x : RegionWithLeader) → region_in o ≡ Some x → IsGoodRecord x
 
--- No request of line n itself was lost, be its heartbeat as it may, and no request for timestamps that carried an ask of it failed; each reply to it was good. Nor was a
--- Commit of its transaction lost, of whichever line.
+-- No request of line n itself was lost, be its heartbeat as it may, and no request for timestamps that carried an ask of it failed; each reply to it was good. Where it
+-- rolls back, no Commit of its transaction was lost either, of whichever line.
 pub record IsCalm (t : Trace) (n : ℕ) : Type 0 where
   pub kept : (u : Ticket) (r : Request) → Has t.events (Lost u r) → IsFrom n u → ⊥
   pub timed : (e : Error) → IsRefusedIn t n e → ⊥
   pub good : (u : Ticket) (r : Request) (o : Reply) → Has t.events (Took u r o) → IsFrom n u → IsGoodReply r o
-  pub settled : (at : ℕ) (u : Ticket) (r : Request) → IsCalled t n at → Has t.events (Lost u r) → IsCalled t u.line at → IsCommit r → ⊥
+  pub settled : IsAmong t.rollbacks n → (at : ℕ) (u : Ticket) (r : Request) → IsCalled t n at → Has t.events (Lost u r) → IsCalled t u.line at → IsCommit r → ⊥
 
 -- A line that fails is none of these.
 abbrev pub IsNotCalm : Trace → ℕ → Error → Type 0

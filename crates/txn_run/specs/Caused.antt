@@ -22,13 +22,12 @@ use Rattle.txn_lines.specs.declared.line.Line.{Line}
 use Rattle.txn_machine.specs.Causes.{ended_of, lines_before}
 use Rattle.txn_machine.specs.Failing.{AllCausesMeet, trace_of}
 use Rattle.txn_report.specs.declared.report.Report.{Report}
-use Rattle.txn_side.specs.Trace.{HasRefused, IsBegunAs, IsCalled, IsCommit, IsFrom, IsRefusedIn, Trace}
+use Rattle.txn_side.specs.Trace.{HasRefused, IsBegunAs, IsCalled, IsFrom, IsRefusedNow, Trace}
 
--- What had come to line n: replies to requests of its own, not of its heartbeat, each of its request's kind, and losses of these. Of the transaction that stands
--- at `at` it counts too that a Commit was lost, of whichever line.
-abbrev pub HeardBy : Trace → ℕ → ℕ → Heard → Type 0
-HeardBy t at n (TookReply u r o) = IsFrom n u × Has t.events (Took u r o) × IsOfKind r o
-HeardBy t at n (WasLost u r) = Has t.events (Lost u r) × (IsFrom n u ⊎ (IsCalled t u.line at × IsCommit r))
+-- What had come to line n: replies to requests of its own, not of its heartbeat, each of its request's kind, and losses of these.
+abbrev pub HeardBy : Trace → ℕ → Heard → Type 0
+HeardBy t n (TookReply u r o) = IsFrom n u × Has t.events (Took u r o) × IsOfKind r o
+HeardBy t n (WasLost u r) = IsFrom n u × Has t.events (Lost u r)
 
 -- How often requests of a transaction at regions are tried again, by the words of the line that began it.
 abbrev pub attempts_of : BeginOptions → ℕ
@@ -36,16 +35,16 @@ attempts_of options = if options.no_regions then 0 else 10
 
 -- More of them failed than that, for line n: they were lost, or refused for their region.
 abbrev pub IsSpentFor : Trace → ℕ → ℕ → Type 0
-IsSpentFor t at n = (options : BeginOptions) × IsBegunAs t at options × IsSpent (HeardBy t at n) (attempts_of options)
+IsSpentFor t at n = (options : BeginOptions) × IsBegunAs t at options × IsSpent (HeardBy t n) (attempts_of options)
 
 -- Ten asks of the line for a timestamp were refused, each at a place of its own among those that a request for timestamps carried, which
--- was lost or whose reply gives that place none; and one was with this very error.
+-- was lost or whose reply gives that place none; and the last was with this very error: that came in the step in which the call ended.
 abbrev pub HasNoTimestamp : Trace → ℕ → Error → Type 0
-HasNoTimestamp t n e = IsRefusedIn t n e × HasRefused t n 10
+HasNoTimestamp t n e = IsRefusedNow t n e × HasRefused t n 10
 
 -- The error has its cause in that; or there was no timestamp.
 abbrev pub IsExplained : Trace → ℕ → ℕ → Error → Type 0
-IsExplained t at n e = HasCause (HeardBy t at n) (IsSpentFor t at n) (view_of e) ⊎ HasNoTimestamp t n e
+IsExplained t at n e = HasCause (HeardBy t n) (IsSpentFor t at n) (view_of e) ⊎ HasNoTimestamp t n e
 
 -- The error says that it is not known whether the transaction is committed, and holds the one with which the call ended.
 pub record IsUndetermined (t : Trace) (at n : ℕ) (e : Error) : Type 0 where
