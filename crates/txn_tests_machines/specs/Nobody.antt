@@ -3,6 +3,7 @@ use Rattle.std.specs.Prelude.{◌≡◌, ⊤, ℕ, List, [], ◌∷◌, Option, 
 use Rattle.std.proofs.Common.{zero, suc, sym, ap, ◌∙◌, subst, arith}
 use Rattle.txn_history.specs.Event.{Event}
 use Rattle.txn_side.specs.Arising.{Arises}
+use Rattle.txn_side.specs.Doubt.{CallOf}
 use Rattle.txn_side.specs.Sight.{Sight, stand_at}
 use Rattle.txn_side.specs.Sight.Stand.{Idle}
 use Rattle.txn_side.specs.Waiting.{Awaited, IsDue, waiting_at}
@@ -29,5 +30,5 @@ pub none_due : (lines : List ℕ) → IsDue none (nobody_at lines)
 none_due lines n c waits live = absurd (subst IsNothing (sym (ap waiting_at (idle_at lines n)) ∙ waits) tt)
 
 -- they can have arisen from each history
-pub none_arises : (at : ℕ → ℕ) (h : List Event) → Arises (λ fs. ⊤) (λ fs x o. ⊤) (λ x o. ⊤) at h []
+pub none_arises : (at : ℕ → CallOf) (h : List Event) → Arises (λ fs. ⊤) (λ fs x o. ⊤) (λ x o. ⊤) at h []
 none_arises at h = record { now = tt; kept = λ x o k. tt; answers = λ k d low. tt; doubts = λ k d low. absurd (omega arith) }

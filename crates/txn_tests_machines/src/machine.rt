@@ -1,4 +1,5 @@
 ghost use Rattle.std.specs.Prelude.{◌≡◌, ◌∷◌, []};
+ghost use Rattle.txn_side.specs.Doubt.{itself};
 ghost use Rattle.txn_tests_machines.specs.Nobody.{nobody_at, none, none_arises, none_due};
 
 use crate::fixtures::assert_shown;
@@ -44,7 +45,7 @@ impl ClientSide for Nobody {
 
     ghost nobody_arises = { λ s ready is_nobody. tt };
 
-    ghost arises_longer = { λ s history event is_outside possible arisen. none_arises (λ n. n) (event ∷ history) };
+    ghost arises_longer = { λ s history event is_outside possible arisen. none_arises itself (event ∷ history) };
 
     fn open(&mut self) -> Result<(), NoMemory> {
         self.lines.push(0)?;

@@ -99,9 +99,11 @@ fn a_commit_is_followed_until_it_is_refused(rt: HostRuntime) {
     assert!(rt; !commits.has_lost());
     commits.take(ticket(2), &reply(&rt, alloc, "committed"));
     assert!(rt; commits.undetermined() == Some(ticket(2)));
+    assert!(rt; commits.count_out() == 1);
     let reply = reply(&rt, alloc, "no_lock");
     commits.hear(&Arrival::Reply { number: 2, reply }, &out);
     assert!(rt; commits.undetermined().is_none());
+    assert!(rt; commits.count_out() == 0);
 }
 
 #[test]

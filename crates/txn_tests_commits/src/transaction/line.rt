@@ -162,6 +162,7 @@ where
             "close" => shown(rt, alloc, &self.close()),
             "status" => shown(rt, alloc, &self.txn.status()),
             "lost_commit" => shown(rt, alloc, &self.txn.lost_commit()),
+            "count_commits_out" => shown(rt, alloc, &self.txn.count_commits_out()),
             "has_lost_commit" => shown(rt, alloc, &self.txn.has_lost_commit()),
             "heartbeat" => self.heartbeat(rt, alloc),
             _ => self.see_turn(rt, alloc, step),

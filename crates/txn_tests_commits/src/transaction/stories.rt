@@ -142,9 +142,11 @@ lost_commit -> None
 given 1 -> open; Commit 1 at 2: a
 lost_commit -> Some(Ticket { line: 6, beat: false, number: 2 })
 has_lost_commit -> false
+count_commits_out -> 1
 lost 2 -> UndeterminedError(GrpcAPI(Ticket { line: 6, beat: false, number: 2 }))
 lost_commit -> Some(Ticket { line: 6, beat: false, number: 2 })
 has_lost_commit -> true
+count_commits_out -> 0
 rollback 12 -> UndeterminedError(GrpcAPI(Ticket { line: 6, beat: false, number: 2 }))
 commit 13 -> open; Commit 1 at 2: a
 lost 1 -> UndeterminedError(GrpcAPI(Ticket { line: 13, beat: false, number: 1 }))

@@ -1,6 +1,7 @@
 use Rattle.std.specs.Prelude.{[]}
 use Rattle.txn_side.specs.Waiting.{NoneHeard}
 use Rattle.txn_tests_machines.proofs.Waits.{none_rests, none_waits_on}
+use Rattle.txn_side.specs.Doubt.{itself}
 use Rattle.txn_tests_machines.specs.Nobody.{none_arises}
 use Rattle.txn_tests_machines.proofs.machine.NobodyClientSide.timestamp.Goals as goal
 
@@ -11,4 +12,4 @@ pub returns-clause-rests : goal.returns-clause-rests
 returns-clause-rests c t posted called begins was = none_rests t
 
 pub returns-clause-arises : goal.returns-clause-arises
-returns-clause-arises c h was = none_arises (λ n. n) h
+returns-clause-arises c h was = none_arises itself h
