@@ -43,7 +43,7 @@ use Rattle.txn_clients.specs.declared.row.Row.{Row}
 use Rattle.txn_clients.specs.declared.row.Row.TheVariants as row
 use Rattle.txn_clients.proofs.Taking.{no_flag}
 use Rattle.txn_clients.proofs.Telling.{hears_own}
-use Rattle.txn_clients.specs.First.{Front, LostFirst, first_front}
+use Rattle.txn_clients.specs.First.{Front, IsFirstLostOfPrimary, first_front}
 use Rattle.txn_clients.proofs.Marking.{first_older, first_seen, postings_front}
 
 -- Refusals
@@ -220,7 +220,7 @@ module _ {P Q K : Type 0} where
         l.ticket l.lost.0 (within _ l.lost.1) l.lost.2.start l.lost.2.primary
     doubted_on old new kept l = absurd l
 
-    named_as : (s : ℕ) (k : Key) (e : Error) (new : Row P Q K) → IsCommittedSo (committed_alone s k) 0 new → (u : Ticket) → view_of e ≡ not_known (view_of (GrpcAPI u)) → LostFirst s k (seen longer) u → IsNamedBy longer e new
+    named_as : (s : ℕ) (k : Key) (e : Error) (new : Row P Q K) → IsCommittedSo (committed_alone s k) 0 new → (u : Ticket) → view_of e ≡ not_known (view_of (GrpcAPI u)) → IsFirstLostOfPrimary s k (seen longer) u → IsNamedBy longer e new
     named_as s k e (row.Begun c t m) (parts, closed, whole, committed) u error first =
         let same = named_alone s (version_of t.start) 0 k (plan_of parts) committed in
         record {
@@ -229,7 +229,7 @@ module _ {P Q K : Type 0} where
           whole = whole;
           ticket = u;
           error = error;
-          first = subst (λ v. LostFirst v parts.primary (seen longer) u) (sym same.0) (subst (λ p. LostFirst s p (seen longer) u) (sym same.1) first);
+          first = subst (λ v. IsFirstLostOfPrimary v parts.primary (seen longer) u) (sym same.0) (subst (λ p. IsFirstLostOfPrimary s p (seen longer) u) (sym same.1) first);
         }
     named_as s k e new x u error first = absurd x
 
@@ -301,7 +301,7 @@ module _ {P Q K : Type 0} where
       };
     }
       where
-        l : LostFirst (version_of t.start) n.parts.primary (seen h) n.ticket
+        l : IsFirstLostOfPrimary (version_of t.start) n.parts.primary (seen h) n.ticket
         l = n.first
 
         splits : seen h ≡ (l.newer ++ Lost n.ticket (Commit l.request) ∷ []) ++ l.older

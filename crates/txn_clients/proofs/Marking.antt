@@ -1,6 +1,6 @@
 -- Which Commit of its primary a transaction marks as lost, as it hears of something.
 use Rattle.std.proofs.Common.{◌≡◌, ◌≢◌, ◌⊎◌, inl, inr, ℕ, Bool, true, false, if◌then◌else◌, List, [], ◌∷◌, ◌++◌, ◌≤◌, length, Option, Some, None, is_some, refl, sym, ap, ◌∙◌, subst, append_assoc, arith}
-use Rattle.std.specs.Prelude.{⊤, Result}
+use Rattle.std.specs.Prelude.{Result}
 use Rattle.txn_kv.specs.Timestamp.{version_of}
 use Rattle.txn_kv.specs.declared.errors.Error.{Error}
 use Rattle.txn_kv.specs.declared.outbox.Errand.{Errand}
@@ -40,7 +40,7 @@ use Rattle.txn_trace.proofs.Seen.{had_seen, seen_had}
 use Rattle.txn_clients.specs.Accounts.{IsAlone}
 use Rattle.txn_clients.specs.Arising.{IsMarked}
 use Rattle.txn_clients.specs.Failing.{CameIn, LongerIn, LostIn, MarkedIn, ShownIn}
-use Rattle.txn_clients.specs.First.{Front, LostFirst, first_front}
+use Rattle.txn_clients.specs.First.{Front, IsFirstLostOfPrimary, first_front}
 use Rattle.txn_clients.specs.Resting.{marked_longer}
 
 -- What is marked where something was heard: what was before, or what was out and is lost now.
@@ -113,10 +113,10 @@ has_behind [] h e i = i
 has_behind (x ∷ newer) h e i = inr (has_behind newer h e i)
 
 -- it was lost, then
-pub first_lost : (s : ℕ) (k : Key) (h : List Event) (u : Ticket) (l : LostFirst s k h u) → Has h (Lost u (Commit l.request))
+pub first_lost : (s : ℕ) (k : Key) (h : List Event) (u : Ticket) (l : IsFirstLostOfPrimary s k h u) → Has h (Lost u (Commit l.request))
 first_lost s k h u l = subst (λ g. Has g (Lost u (Commit l.request))) (sym l.splits) (has_behind l.newer (Lost u (Commit l.request) ∷ l.older) (Lost u (Commit l.request)) (inl refl))
 
-pub first_older : (s : ℕ) (k : Key) (h : List Event) (u : Ticket) (l : LostFirst s k h u) (e : Event) → Has l.older e → Has h e
+pub first_older : (s : ℕ) (k : Key) (h : List Event) (u : Ticket) (l : IsFirstLostOfPrimary s k h u) (e : Event) → Has l.older e → Has h e
 first_older s k h u l e i = subst (λ g. Has g e) (sym l.splits) (has_behind l.newer (Lost u (Commit l.request) ∷ l.older) e (inr i))
 
 seen_append : (a b : List Event) → seen (a ++ b) ≡ seen a ++ seen b
@@ -127,7 +127,7 @@ seen_append (Answered a x ∷ es) b = seen_append es b
 seen_append (x ∷ es) b = ap (λ g. x ∷ g) (seen_append es b)
 
 -- as a run shows it
-pub first_seen : (s : ℕ) (k : Key) (h : List Event) (u : Ticket) → LostFirst s k h u → LostFirst s k (seen h) u
+pub first_seen : (s : ℕ) (k : Key) (h : List Event) (u : Ticket) → IsFirstLostOfPrimary s k h u → IsFirstLostOfPrimary s k (seen h) u
 first_seen s k h u l = record {
   request = l.request;
   newer = seen l.newer;
@@ -152,7 +152,7 @@ alone_out (x ∷ y ∷ rest) u v few i j = absurd (omega (arith, few))
 
 -- The one that is out, and that the transaction hears was lost, is lost first.
 pub lost_heard : (plan : Plan) (s : ℕ) (c : Commits) (a : Arrival) (o : Posted) (r : Request) (h : List Event) (u : Ticket) → c.lost ≡ None → length c.out ≤ 1 → KnowsCommits plan s c h → (told_by a o r).known h
-    → (n : ℕ) × (a ≡ arrivals.Lost n) × (ticket_of o n ≡ u) × IsAmong c.out u → LostFirst s plan.primary ((told_by a o r).hear h) u
+    → (n : ℕ) × (a ≡ arrivals.Lost n) × (ticket_of o n ≡ u) × IsAmong c.out u → IsFirstLostOfPrimary s plan.primary ((told_by a o r).hear h) u
 lost_heard plan s c a o r h u none few k known (n, is, same, out) = by (k.waiting u out)
   where
     before : (v : Ticket) (p : CommitRequest) → v ≢ u → Has h (Sent v (Commit p)) → Has h (Lost v (Commit p)) → p.start_version ≡ s → has_key p.keys plan.primary ≡ true → (x : Reply) × Has h (Took v (Commit p) x)
@@ -161,11 +161,11 @@ lost_heard plan s c a o r h u none few k known (n, is, same, out) = by (k.waitin
       | inr left ↦ elim left [ inl some ↦ absurd (some none) | inr i ↦ absurd (other (alone_out c.out u v few out i)) ]
     ]
 
-    by : PrimarySent plan s h u → LostFirst s plan.primary ((told_by a o r).hear h) u
+    by : PrimarySent plan s h u → IsFirstLostOfPrimary s plan.primary ((told_by a o r).hear h) u
     by (q, sent, commits) =
         let told = subst (λ b. (told_by b o r).known h) is known in
         let one : Commit q ≡ r = told.alone (Commit q) (subst (λ t. Has h (Sent t (Commit q))) (sym same) sent) in
-        subst (λ b. LostFirst s plan.primary ((told_by b o r).hear h) u) (sym is) (record {
+        subst (λ b. IsFirstLostOfPrimary s plan.primary ((told_by b o r).hear h) u) (sym is) (record {
           request = q;
           newer = [];
           older = h;
@@ -178,14 +178,14 @@ lost_heard plan s c a o r h u none few k known (n, is, same, out) = by (k.waitin
 module _ {P Q K : Type 0} where
   -- where as much is marked as before
   pub marked_kept : (old new : Standing P Q K) (h : List Event) → new.contents ≡ old.contents → new.start ≡ old.start → new.commits.lost ≡ old.commits.lost → IsMarked old h → IsMarked new h
-  marked_kept old new h contents start lost m parts whole u e = subst (λ s. LostFirst (version_of s) parts.primary h u) (sym start) (m parts (ap parts_of (sym contents) ∙ whole) u (sym lost ∙ e))
+  marked_kept old new h contents start lost m parts whole u e = subst (λ s. IsFirstLostOfPrimary (version_of s) parts.primary h u) (sym start) (m parts (ap parts_of (sym contents) ∙ whole) u (sym lost ∙ e))
 
   -- and where that which was out is lost now
   pub marked_heard : (a : Arrival) (o : Posted) (r : Request) (old new : Standing P Q K) (h : List Event) → new.contents ≡ old.contents → new.start ≡ old.start → IsAlone a old → ((u : Ticket) → new.commits.lost ≡ Some u → Marks a o old.commits u)
       → ((parts : CommitParts) → parts_of old.contents ≡ Some parts → KnowsCommits (plan_of parts) (version_of old.start) old.commits h) → (told_by a o r).known h → IsMarked old h → IsMarked new ((told_by a o r).hear h)
   marked_heard a o r old new h contents start alone marks knows known m parts whole u e =
       let before = ap parts_of (sym contents) ∙ whole in
-      subst (λ s. LostFirst (version_of s) parts.primary ((told_by a o r).hear h) u) (sym start) (elim (marks u e) [
+      subst (λ s. IsFirstLostOfPrimary (version_of s) parts.primary ((told_by a o r).hear h) u) (sym start) (elim (marks u e) [
         | inl is ↦ first_front (version_of old.start) parts.primary h ((told_by a o r).hear h) u (heard_front a o r h) (m parts before u is)
         | inr now ↦ lost_heard (plan_of parts) (version_of old.start) old.commits a o r h u now.1 (subst (λ b. IsAlone b old) now.0.1 alone (ap is_some now.1)) (knows parts before) known now.0
       ])

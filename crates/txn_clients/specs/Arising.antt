@@ -66,7 +66,7 @@ use Rattle.txn_tso.specs.Oracle.{Answer as Answered}
 use Rattle.txn_tso.specs.declared.asker.Asker.{Asker}
 use Rattle.txn_clients.specs.Clients.{nexts_of, row_at, rows_of, stands_of}
 use Rattle.txn_clients.specs.Failing.{outbox_of}
-use Rattle.txn_clients.specs.First.{LostFirst}
+use Rattle.txn_clients.specs.First.{IsFirstLostOfPrimary}
 use Rattle.txn_clients.specs.Rows.{stand_of}
 use Rattle.txn_clients.specs.Waiting.{Book, IsHeard, asks_of, book_at, posted_at, voice_at}
 use Rattle.txn_clients.specs.declared.answer.Answer.{Answer}
@@ -125,7 +125,7 @@ pub record NamesLost {P Q K : Type 0} (t : Standing P Q K) (h : List Event) (e :
   pub whole : parts_of t.contents ≡ Some parts
   pub ticket : Ticket
   pub error : view_of e ≡ not_known (view_of (GrpcAPI ticket))
-  pub first : LostFirst (version_of t.start) parts.primary h ticket
+  pub first : IsFirstLostOfPrimary (version_of t.start) parts.primary h ticket
 
 -- what it was told was of a call that does not commit it
 abbrev pub TurnsBack : {P Q K : Type 0} → Told → Standing P Q K → Type 0
@@ -143,7 +143,7 @@ CallStands w told old new answer h = ⊤
 
 -- the Commit of its primary that a transaction marks as lost was the first
 abbrev pub IsMarked : {P Q K : Type 0} → Standing P Q K → List Event → Type 0
-IsMarked t h = (parts : CommitParts) → parts_of t.contents ≡ Some parts → (u : Ticket) → t.commits.lost ≡ Some u → LostFirst (version_of t.start) parts.primary h u
+IsMarked t h = (parts : CommitParts) → parts_of t.contents ≡ Some parts → (u : Ticket) → t.commits.lost ≡ Some u → IsFirstLostOfPrimary (version_of t.start) parts.primary h u
 
 -- A transaction can have arisen from the history, the keys of its buffer are in order, it has not given up, and what it marks is right.
 abbrev pub StandFits : {P Q K A B D : Type 0} → Ways P Q K A B D → Standing P Q K → Posted → List Event → Type 0

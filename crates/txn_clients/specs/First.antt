@@ -10,7 +10,7 @@ use Rattle.txn_history.specs.Event.Event.{Lost, Sent, Took}
 use Rattle.txn_history.specs.Plan.{Key, has_key}
 
 -- The first Commit of this primary that was lost, of a transaction that began at s: of each other that was lost before, a reply was taken.
-pub record LostFirst (s : ℕ) (primary : Key) (h : List Event) (ticket : Ticket) : Type 0 where
+pub record IsFirstLostOfPrimary (s : ℕ) (primary : Key) (h : List Event) (ticket : Ticket) : Type 0 where
   pub request : CommitRequest
   pub newer : List Event
   pub older : List Event
@@ -25,7 +25,7 @@ Front h longer = (newer : List Event) × (longer ≡ newer ++ h)
 
 -- lemmas
 
-pub first_front : (s : ℕ) (k : Key) (h longer : List Event) (u : Ticket) → Front h longer → LostFirst s k h u → LostFirst s k longer u
+pub first_front : (s : ℕ) (k : Key) (h longer : List Event) (u : Ticket) → Front h longer → IsFirstLostOfPrimary s k h u → IsFirstLostOfPrimary s k longer u
 first_front s k h longer u f l = record {
   request = l.request;
   newer = f.0 ++ l.newer;

@@ -12,7 +12,7 @@ use Rattle.txn_law.specs.Run.{IsPossible, IsUnused}
 use Rattle.txn_report.specs.declared.outcome.Outcome.{Outcome}
 use Rattle.txn_report.specs.declared.outcome.Outcome.TheVariants as outcomes
 use Rattle.txn_side.specs.Arising.{Arises, IsBeat, with_posting, with_postings}
-use Rattle.txn_side.specs.Doubt.{CallOf, HasLostCommit, IsFirstLost, IsInDoubt, NamesFirst, SpeaksOf, TellsDoubt, itself}
+use Rattle.txn_side.specs.Doubt.{CallOf, HasLostCommit, IsFirstLostUntaken, IsInDoubt, NamesFirst, SpeaksOf, TellsDoubt, itself}
 use Rattle.txn_side.specs.Sight.{next_at, ticket_in, with_next}
 use Rattle.txn_side.specs.declared.turn.Ending.{Ending}
 use Rattle.txn_side.specs.declared.turn.Posting.{Posting}
@@ -116,7 +116,7 @@ loss_sent s h t r beat l = record {
 }
 
 -- the first Commit that was lost is the first still
-first_sent : (s : ℕ) (h : List Event) (t : Ticket) (r : Request) → IsBeat r → (ticket : Ticket) → IsFirstLost s h ticket → IsFirstLost s (Sent t r ∷ h) ticket
+first_sent : (s : ℕ) (h : List Event) (t : Ticket) (r : Request) → IsBeat r → (ticket : Ticket) → IsFirstLostUntaken s h ticket → IsFirstLostUntaken s (Sent t r ∷ h) ticket
 first_sent s h t r beat ticket l = record {
   commit = l.commit;
   newer = Sent t r ∷ l.newer;

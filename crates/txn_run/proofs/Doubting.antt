@@ -23,7 +23,7 @@ use Rattle.txn_report.specs.declared.outcome.Outcome.TheVariants.{Ok, Err}
 use Rattle.txn_report.specs.declared.outcome.Payload.TheVariants.{Number}
 use Rattle.txn_report.specs.declared.report.Report.{Report}
 use Rattle.txn_side.specs.Account.{Account}
-use Rattle.txn_side.specs.Doubt.{HasLostCommit, IsFirstLost, IsInDoubt, IsRefusal, NamesFirst, SaysWhether, WasWritten}
+use Rattle.txn_side.specs.Doubt.{HasLostCommit, IsFirstLostUntaken, IsInDoubt, IsRefusal, NamesFirst, SaysWhether, WasWritten}
 use Rattle.txn_side.specs.Trace.{Call}
 use Rattle.txn_run.specs.Doubt.{AreToldOfDoubt, NamesLost, TellsOfDoubt, TellsWhether}
 use Rattle.txn_run.specs.Refused.{AllRefusalsMeet, AreExact, RefusalMeets}
@@ -114,7 +114,7 @@ first_of_all s h e apart n = record {
   };
 }
   where
-    f : IsFirstLost s h n.ticket
+    f : IsFirstLostUntaken s h n.ticket
     f = n.first
 
     behind : (newer g : List Event) (x : Event) → Has g x → Has (newer ++ g) x

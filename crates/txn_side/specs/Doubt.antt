@@ -35,8 +35,8 @@ pub record IsInDoubt (s : ℕ) (h : List Event) : Type 0 where
   pub left : HasLostCommit s h
   pub untaken : (o : Reply) → Has h (Took left.ticket (Commit left.commit) o) → ⊥
 
--- The ticket is that of the first such Commit: of each other that was lost before, a reply was taken.
-pub record IsFirstLost (s : ℕ) (h : List Event) (ticket : Ticket) : Type 0 where
+-- The ticket is that of the first such Commit of which no reply was taken: of each other that was lost before, one was.
+pub record IsFirstLostUntaken (s : ℕ) (h : List Event) (ticket : Ticket) : Type 0 where
   pub commit : CommitRequest
   pub newer : List Event
   pub older : List Event
@@ -49,7 +49,7 @@ pub record IsFirstLost (s : ℕ) (h : List Event) (ticket : Ticket) : Type 0 whe
 pub record NamesFirst (s : ℕ) (h : List Event) (e : Error) : Type 0 where
   pub ticket : Ticket
   pub error : view_of e ≡ undetermined (view_of (GrpcAPI ticket))
-  pub first : IsFirstLost s h ticket
+  pub first : IsFirstLostUntaken s h ticket
 
 -- with these a line is refused by how far its transaction has come, and by what it has written
 abbrev pub IsRefusal : Error → Type 0
