@@ -75,7 +75,7 @@ without_among t (x ∷ ts) u (inr a) = by (not (same_ticket x t)) (without_among
     by true (inr r) = inr (inr r)
     by false (inr r) = inr r
 
-out_among : (t : Ticket) (ts : List Ticket) → list_any (λ u. same_ticket u t) ts ≡ true → IsAmong ts t
+pub out_among : (t : Ticket) (ts : List Ticket) → list_any (λ u. same_ticket u t) ts ≡ true → IsAmong ts t
 out_among t [] h = absurd (cc)
 out_among t (x ∷ ts) h = by (same_ticket x t) refl h (out_among t ts)
   where

@@ -5,6 +5,7 @@ pub mod Going
 pub mod Jobs
 pub mod Keys
 pub mod Licences
+pub mod Losing
 pub mod Once
 pub mod Planned
 pub mod Posting

@@ -120,6 +120,10 @@ PrimarySent plan s h t = (r : CommitRequest) × Has h (Sent t (Commit r)) × Com
 abbrev pub PrimaryLost : Plan → ℕ → List Event → Ticket → Type 0
 PrimaryLost plan s h t = (r : CommitRequest) × Has h (Lost t (Commit r)) × CommitsPrimary plan s r
 
+-- so was the one that is marked as lost
+abbrev pub MarksLost : Plan → ℕ → Commits → List Event → Type 0
+MarksLost plan s c h = (t : Ticket) → c.lost ≡ Some t → PrimaryLost plan s h t
+
 -- the reply does not say that what was sent is committed
 abbrev pub IsRefusal : CommitRequest → Reply → Type 0
 IsRefusal r (replies.Commit o) = o.region_error ≡ None → o.error ≡ None → o.commit_version ≢ r.commit_version

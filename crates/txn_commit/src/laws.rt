@@ -8,7 +8,7 @@ ghost use Rattle.txn_history.specs.Meaning.{IsSent, WasPosted};
 ghost use Rattle.txn_history.specs.Phase.{Awaited};
 ghost use Rattle.txn_history.specs.Phase.Phase.{Running};
 ghost use Rattle.txn_history.specs.Plan.{ArePlanned, Key, Plan, has_key};
-ghost use Rattle.txn_history.specs.Posted.{Posted};
+ghost use Rattle.txn_history.specs.Posted.{Posted, Within};
 ghost use Rattle.txn_kv.specs.Timestamp.{version_of};
 ghost use Rattle.txn_kv.specs.declared.reply.Reply.{Reply};
 ghost use Rattle.txn_kv.specs.declared.request.Request.{Request};
@@ -20,7 +20,7 @@ ghost use Rattle.txn_kv.specs.declared.ticket.Ticket.{Ticket};
 ghost use Rattle.txn_kv.specs.declared.timestamp.Timestamp.{Timestamp};
 ghost use Rattle.txn_commit.specs.Committing.{CommitterFits, ways};
 ghost use Rattle.txn_commit.specs.Counting.{Costs, IsOneEach, commit_costs, rollback_costs};
-ghost use Rattle.txn_commit.specs.Following.{Commits, CommitsPrimary, KnowsCommits, WasRefused, answered, awaits, heard, lost, undetermined};
+ghost use Rattle.txn_commit.specs.Following.{Commits, CommitsPrimary, IsFollowed, KnowsCommits, MarksLost, WasRefused, answered, awaits, heard, lost, none_sent, undetermined};
 ghost use Rattle.txn_commit.specs.Going.{stage_phase, stage_waits};
 ghost use Rattle.txn_commit.specs.Parts.{AreDistinct, parts_of};
 ghost use Rattle.txn_commit.specs.Plans.{IsForeign};
@@ -28,6 +28,7 @@ ghost use Rattle.txn_commit.specs.Sending.{MaySend, plan_of};
 ghost use Rattle.txn_commit.specs.declared.commit_parts.CommitParts.{CommitParts};
 ghost use Rattle.txn_commit.specs.declared.committer.CommitterCall.{CommitterCall};
 ghost use Rattle.txn_commit.specs.declared.committer.Stage.{Stage};
+ghost use Rattle.txn_plan.specs.Arrivals.{told_by};
 ghost use Rattle.txn_plan.specs.declared.arrival.Arrival.{Arrival};
 
 use crate::plan_for::PlanFor;
@@ -37,6 +38,15 @@ use txn_kv::{BatchRollbackRequest, CommitRequest, PrewriteRequest};
 pub fn commits_are_followed()
     ensures answered { (plan : Plan) (s : ℕ) (c : Commits) (t : Ticket) (q : Request) (o : Reply) (h : List Event) → IsSent t q h → KnowsCommits plan s c h → KnowsCommits plan s (answered t o c) (Took t q o ∷ h) }
     ensures lost { (plan : Plan) (s : ℕ) (c : Commits) (t : Ticket) (q : Request) (h : List Event) → IsSent t q h → KnowsCommits plan s c h → KnowsCommits plan s (lost t c) (Lost t q ∷ h) }
+{}
+
+/// What is marked as lost was lost, in each history that keeps what was. So it is at first; and it stays so as what comes is heard, and by
+/// what each call of a commit makes of the marks besides (clause `follows`).
+pub fn marks_are_losses()
+    ensures none { (plan : Plan) (s : ℕ) (h : List Event) → MarksLost plan s none_sent h }
+    ensures longer { (plan : Plan) (s : ℕ) (c : Commits) (h longer : List Event) → Within h longer → MarksLost plan s c h → MarksLost plan s c longer }
+    ensures heard { (plan : Plan) (s : ℕ) (c : Commits) (a : Arrival) (o : Posted) (r : Request) (h : List Event) → (told_by a o r).known h → KnowsCommits plan s c h → MarksLost plan s c h → MarksLost plan s (heard a o c) ((told_by a o r).hear h) }
+    ensures followed { (plan : Plan) (s : ℕ) (was is : Commits) (o : Posted) (h : List Event) → IsFollowed o was is → MarksLost plan s was h → MarksLost plan s is h }
 {}
 
 /// Where it is known that the transaction is not committed, each Commit of its primary was refused.

@@ -6,7 +6,7 @@ use Rattle.txn_causes.specs.Causes.{HasCause, has_cause_more}
 use Rattle.txn_causes.specs.Spent.{IsSpent}
 use Rattle.txn_causes.specs.Heard.{heard_in}
 use Rattle.txn_commit.specs.Committing.{CommitterGives, Ways}
-use Rattle.txn_commit.specs.Following.{first_of, or_first, undetermined, Commits, KnowsCommits, PrimarySent}
+use Rattle.txn_commit.specs.Following.{first_of, or_first, undetermined, Commits, KnowsCommits, MarksLost, PrimaryLost, PrimarySent}
 use Rattle.txn_commit.specs.Timing.{WasUntimed}
 use Rattle.txn_commit.specs.declared.commit_parts.CommitParts.{CommitParts}
 use Rattle.txn_core.specs.Going.{FailsWith, IsNothing, TransactionGives}
@@ -79,3 +79,7 @@ refusal_sent plan s c h t k u = by c.lost refl u
     by : (lost : Option Ticket) → c.lost ≡ lost → or_first lost c.out ≡ Some t → PrimarySent plan s h t
     by None l f = first_sent plan s h t c.out k.waiting f
     by (Some first) l f = let same : first ≡ t = cc in k.losing t (l ∙ ap Some same)
+
+-- one that is marked as lost is named, and was lost
+pub marked_named : (plan : Plan) (s : ℕ) (c : Commits) (h : List Event) (t : Ticket) → MarksLost plan s c h → c.lost ≡ Some t → (undetermined c ≡ Some t) × PrimaryLost plan s h t
+marked_named plan s c h t m e = (ap (λ l. or_first l c.out) e, m t e)

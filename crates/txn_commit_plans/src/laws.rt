@@ -5,7 +5,7 @@ ghost use Rattle.txn_causes.specs.Causes.{HasCause};
 ghost use Rattle.txn_causes.specs.Heard.{heard_in};
 ghost use Rattle.txn_commit.specs.Committing.{ways};
 ghost use Rattle.txn_commit.specs.Counting.{costs_of, IsOneEach};
-ghost use Rattle.txn_commit.specs.Following.{Commits as Followed, KnowsCommits, PrimarySent, undetermined};
+ghost use Rattle.txn_commit.specs.Following.{Commits as Followed, KnowsCommits, MarksLost, PrimaryLost, PrimarySent, undetermined};
 ghost use Rattle.txn_commit.specs.Jobs.{others};
 ghost use Rattle.txn_commit.specs.Parts.{parts_of};
 ghost use Rattle.txn_commit.specs.Plans.{IsPlanFor};
@@ -102,7 +102,7 @@ pub fn plans_fail_for_causes()
 /// Where a commit or a rollback fails that goes by such plans, its error has its cause in what was heard; or there was no timestamp,
 /// and it is the error with which the oracle refused the tenth ask. Where a Commit of the primary was lost or is out, the answer says
 /// that the end is not known, and holds such an error. A rollback that is refused for that names a Commit of the primary that was
-/// sent.
+/// sent, and one that was lost, where one is marked so.
 pub fn failed_calls_have_causes<P, Q, K>()
 where
     P: Caused<PrewriteRequest>,
@@ -112,6 +112,9 @@ where
         → TransactionGives (ways P.meaning Q.meaning K.meaning P.refuses Q.refuses K.refuses) options start contents c h (Err e) → IsCallExplained (attempts_left options.region_backoff) (undetermined c) h e }
     ensures refused { (plan : Plan) (s : ℕ) (c : Followed) (h : List Event) (t : Ticket)
         → KnowsCommits plan s c h → undetermined c ≡ Some t → PrimarySent plan s h t }
+    // One that is marked as lost is the one that is named, and was lost.
+    ensures marked { (plan : Plan) (s : ℕ) (c : Followed) (h : List Event) (t : Ticket)
+        → MarksLost plan s c h → c.lost ≡ Some t → (undetermined c ≡ Some t) × PrimaryLost plan s h t }
     // A call for a timestamp alone fails so, too, and so does the job of the other keys.
     ensures untimed { (attempts : ℕ) (h : List Event) (e : Error) → WasUntimed h e → IsExplained attempts h e }
     ensures jobs { (plan : Plan) (keys : List Key) (job : SecondaryJob Q) (h : List Event) (e : Error)
