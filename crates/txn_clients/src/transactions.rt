@@ -3,6 +3,7 @@ ghost use Rattle.txn_clients.specs.Arising.{StandMoves};
 ghost use Rattle.txn_clients.specs.Rows.{answer_in};
 ghost use Rattle.txn_clients.specs.declared.answer.Answer.TheVariants.{Called};
 ghost use Rattle.txn_clients.specs.declared.told.Told.TheVariants as tells;
+ghost use Rattle.std.specs.Bool.{MatchBool};
 ghost use Rattle.std.specs.Prelude.{◌≡◌, ◌<◌, ◌^◌, IsTrue, Ok, false, ⊤, true};
 ghost use Rattle.txn_clients.specs.Accounts.{EndsCommit, HasHeard, HasTaken, IsAlone, IsQuiet, SaysLoss, TellsEnd, account_of, says_undetermined, stage_of};
 ghost use Rattle.txn_clients.specs.Closing.{stage_after, status_by};
@@ -67,7 +68,7 @@ where
     P: PlanFor<PrewriteRequest>,
     Q: PlanFor<CommitRequest>,
     K: PlanFor<BatchRollbackRequest>,
-    ensures { IsTrue result → IsAlone arrival.now transaction.now }
+    ensures { MatchBool result (IsAlone arrival.now transaction.now) (IsAlone arrival.now transaction.now → ⊥) }
 {
     match arrival {
         Arrival::Lost { .. } => {

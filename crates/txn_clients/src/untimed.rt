@@ -1,5 +1,6 @@
 //! Errors that say why there is no timestamp.
-ghost use Rattle.std.specs.Prelude.{◌≡◌, IsTrue, OnOk, Some};
+ghost use Rattle.std.specs.Bool.{MatchBool};
+ghost use Rattle.std.specs.Prelude.{◌≡◌, None, OnErr, OnOk, Some};
 ghost use Rattle.txn_clients.specs.Failing.{IfFails, IsToldLast};
 ghost use Rattle.txn_kv.specs.ErrorView.{view_of};
 ghost use Rattle.txn_side.specs.Trace.{untimed, untimed_alone, untimed_by, untimed_of};
@@ -51,7 +52,7 @@ fn untimed_of(error: &Error) -> Option<Internal>
 }
 
 fn is_same(a: &Internal, b: &Internal) -> bool
-    ensures { IsTrue result → a.now ≡ b.now }
+    ensures { MatchBool result (a.now ≡ b.now) (a.now ≡ b.now → untimed b.now ≡ None) }
 {
     match (a, b) {
         (Internal::OracleLost, Internal::OracleLost) => true,
@@ -68,7 +69,7 @@ fn is_same(a: &Internal, b: &Internal) -> bool
 }
 
 fn is_told(what: &Internal, told: &Option<Internal>) -> bool
-    ensures { IsTrue result → told.now ≡ Some what.now }
+    ensures { MatchBool result (told.now ≡ Some what.now) (told.now ≡ Some what.now → untimed what.now ≡ None) }
 {
     match told {
         Some(now) => is_same(now, what),
@@ -78,7 +79,8 @@ fn is_told(what: &Internal, told: &Option<Internal>) -> bool
 
 /// An answer that says why there is no timestamp says what is told now: the last ask that is refused ends its call.
 pub fn is_told_last<X>(answer: &txn_kv::Result<X>, told: &Option<Internal>) -> Result<(), NoMemory>
-    ensures { OnOk result (IfFails (IsToldLast told.now) answer.now) }
+    ensures ok { OnOk result (IfFails (IsToldLast told.now) answer.now) }
+    ensures err { OnErr result (IfFails (IsToldLast told.now) answer.now → ⊥) }
 {
     match answer {
         Ok(_) => Ok(()),

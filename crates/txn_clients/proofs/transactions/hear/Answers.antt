@@ -11,4 +11,4 @@ pub returns-clause-goes : goal.returns-clause-goes
 returns-clause-goes g c = c.in_ok-progress.ensures.goes
 
 pub returns-clause-moves : goal.returns-clause-moves
-returns-clause-moves g c = c.in_ok-progress.ensures.moves (c.if-not-fits_loss.ensures refl) (c.if-not-is_alone.ensures refl)
+returns-clause-moves g c = c.in_ok-progress.ensures.moves (c.if-not-fits_loss.ensures refl) c.if-not-is_alone.ensures

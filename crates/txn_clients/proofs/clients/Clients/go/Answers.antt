@@ -106,7 +106,7 @@ returns-in-Some-Asked-clause-waits g c = on_ok c.end_ask.result
     let new = some_at c.in_ok-push.field-0 c.in-Some-Asked.field-0 IsNewAnswer c.in-Some-Asked.is c.in_ok-push.ensures.new in
     let kind = subst (IsAnswerOf (stand_of (row_at (rows_of c.args.self.now) c.args.listener.at))) c.in-Some-Asked.field-0-is (some_at c.in_ok-push.field-0 c.in-Some-Asked.field-0 (IsAnswerOf (stand_of (row_at (rows_of c.args.self.now) c.args.listener.at))) c.in-Some-Asked.is c.in_ok-push.ensures.kind) in
     let why = asked_rests _ (posting_in c.push.new.turn.posted.items trace) (rows_of c.args.self.now) c.args.line c.args.listener.at c.in-Some-Asked.answer c.in_ok-push.field-0 c.requires.listens.hears kind (c.in-Some-Asked.is ∙ ap (λ x. Some x) c.in-Some-Asked.field-0-is) pushed.1 in
-    let told = subst (λ u. IfFails (IsToldLast u) c.in-Some-Asked.answer) c.untimed-untimed.ensures c.in_ok-is_told_last-in-Some-Asked.ensures in
+    let told = subst (λ u. IfFails (IsToldLast u) c.in-Some-Asked.answer) c.untimed-untimed.ensures c.in_ok-is_told_last-in-Some-Asked.ensures.ok in
     let last = says_last trace c.args.turn.now.posted.items c.push.new.turn.posted.items (outbox_of c.args.line) c.args.told (row_at (rows_of c.args.self.now) c.args.listener.at) c.in-Some-Asked.answer knows pushed.0.posted told in
     goes_on _ trace c.args.self.now c.push.new.self c.end_ask.new.self c.args.listener.client _ _ rest rest c.args.turn.now.posted.items c.push.new.turn.posted.items c.end_ask.new.turn.posted.items c.args.turn.now.ended.items c.push.new.turn.ended.items c.end_ask.new.turn.ended.items pushed.0
     (f (subst IsNewAnswer c.in-Some-Asked.field-0-is new) trace c.args.listener.client rest why last pushed.0.sound))
@@ -127,7 +127,7 @@ returns-clause-waits g c = on_ok c.start_job.result
     let pushed = c.in_ok-push.ensures.waits trace rest (record { own = own; voiced = hears_voice (stands_of (rows_of c.args.self.now)) c.args.line c.args.listener.at c.requires.listens.hears }) knows sound in
     let first = pushed.0 in
     let why = called_rests _ (posting_in c.push.new.turn.posted.items trace) (rows_of c.args.self.now) (rows_of c.push.new.self) c.args.line c.args.listener.at c.in-Some-Called.answer c.in_ok-push.field-0 c.in_ok-push.ensures.stands c.requires.listens.hears (c.in-Some-Called.is ∙ ap (λ x. Some x) c.in-Some-Called.field-0-is) pushed.1 in
-    let told = subst (λ u. IfFails (IsToldLast u) c.in-Some-Called.answer) c.untimed-untimed.ensures c.in_ok-is_told_last-in-Some-Called.ensures in
+    let told = subst (λ u. IfFails (IsToldLast u) c.in-Some-Called.answer) c.untimed-untimed.ensures c.in_ok-is_told_last-in-Some-Called.ensures.ok in
     let last = says_last trace c.args.turn.now.posted.items c.push.new.turn.posted.items (outbox_of c.args.line) c.args.told (row_at (rows_of c.args.self.now) c.args.listener.at) c.in-Some-Called.answer knows first.posted told in
     let ended = c.in_ok-end_call-in-Some-Called.ensures.waits trace c.args.listener.client rest why last first.sound in
     let mine = c.in_ok-end_call-in-Some-Called.ensures.clients c.args.listener.client (ap (λ ss. client_at (stand_at ss c.args.line)) c.in_ok-push.ensures.stands ∙ own) in
