@@ -1,6 +1,8 @@
 -- How a run of a script, and of the program, ends.
-use Rattle.std.specs.Prelude.{◌≡◌, ℕ, ◌<◌, List, length, Option, reverse, take}
+use Rattle.std.specs.Prelude.{◌≡◌, ℕ, ◌<◌, true, List, length, Option, reverse, take}
 use Rattle.std.specs.Io.KnownBytes.{Consumes, IsAtEnd, Appends}
+use Rattle.std.specs.List.{All}
+use Rattle.txn_alike.specs.Alike.{AreAlike}
 use Rattle.txn_script.specs.Text as first_path
 use Rattle.txn_script.specs.declared.line.Line as first
 use Rattle.txn_first.specs.Lawful as headline
@@ -9,6 +11,7 @@ use Rattle.txn_lines.specs.declared.line.Line.{Line}
 use Rattle.txn_lines.specs.declared.script.Why.{Why}
 use Rattle.txn_machine.specs.Lawful.{Lawful}
 use Rattle.txn_report.specs.declared.report.Report.{Report}
+use Rattle.txn_report.specs.declared.report.SleepNote.{SleepNote}
 use Rattle.txn_report.specs.Text.{text_of_report}
 use Rattle.txn_stream.specs.Bytes.{Rose, ReadsAll}
 use Rattle.txn_run.specs.Calm.{AreCalm}
@@ -46,25 +49,28 @@ pub record RanScript (bytes : List ℕ) (report : Report) : Type 0 where
   -- each transaction is whole at one commit timestamp or not there at all, as its commits and its rollbacks answered
   pub whole : AreWhole (reverse lines) report
 
--- the bytes are no script of the first path
-abbrev pub IsOther : List ℕ → Type 0
-IsOther bytes = (lines : List first.Line) → first_path.IsScript bytes lines → ⊥
+-- The lines ran on the machine of the first path, too, of whose report more is promised, and the two reports tell the same. No call sleeps, but
+-- its heartbeat may.
+pub record IsConfirmed (lines : List first.Line) (report : Report) : Type 0 where
+  pub machine : Report
+  pub lawful : headline.Lawful lines machine
+  pub alike : AreAlike machine report
+  pub awake : All (λ (s : SleepNote). s.ticket.beat ≡ true) report.sleeps
 
--- Of a script of the first path the report says all that is promised of these, and of another what is promised of every script.
+-- so of a script of the first path
+abbrev pub IsConfirmedIfFirst : List ℕ → Report → Type 0
+IsConfirmedIfFirst bytes report = (lines : List first.Line) → first_path.IsScript bytes lines → IsConfirmed lines report
+
+-- The report says what is promised of every script, and of one of the first path it is confirmed.
 pub record Ran (bytes : List ℕ) (report : Report) : Type 0 where
-  pub first : (lines : List first.Line) → first_path.IsScript bytes lines → headline.Lawful lines report
-  pub other : IsOther bytes → RanScript bytes report
-
--- the first bad line of bytes that are no script
-pub record IsBadScript (bytes : List ℕ) (line : ℕ) (why : Why) : Type 0 where
-  pub bad : IsFirstBad bytes line why
-  pub other : IsOther bytes
+  pub every : RanScript bytes report
+  pub first : IsConfirmedIfFirst bytes report
 
 -- how the run of a script of these bytes ends
 abbrev pub EndOfScript : List ℕ → End → Type 0
 EndOfScript bytes (Done report) = Ran bytes report
 EndOfScript bytes BadWords = ⊥
-EndOfScript bytes (BadLine line why) = IsBadScript bytes line why
+EndOfScript bytes (BadLine line why) = IsFirstBad bytes line why
 EndOfScript bytes ReadFault = ⊥
 EndOfScript bytes (WriteFault written) = ⊥
 EndOfScript bytes OutOfMemory = Unit {0}
@@ -73,10 +79,6 @@ EndOfScript bytes OutOfMemory = Unit {0}
 abbrev pub StopOfLines : List ℕ → ScriptStop → Type 0
 StopOfLines bytes (Bad bad) = IsFirstBad bytes bad.line bad.why
 StopOfLines bytes Memory = Unit {0}
-
-abbrev pub StopOfScript : List ℕ → ScriptStop → Type 0
-StopOfScript bytes (Bad bad) = IsBadScript bytes bad.line bad.why
-StopOfScript bytes Memory = Unit {0}
 
 -- what became of the text of a report
 abbrev pub Wrote : Report → Option (List ℕ) → Option (List ℕ) → ℕ → ℕ → End → Type 0
@@ -112,7 +114,7 @@ pub record FoundBad (e : Edges) (line : ℕ) (why : Why) : Type 0 where
   pub unfailed : e.read_faults_after ≡ e.read_faults
   pub bytes : List ℕ
   pub read : ReadsAll e.left e.left_after bytes
-  pub bad : IsBadScript bytes line why
+  pub bad : IsFirstBad bytes line why
 
 -- no read failed, and the sink took the first bytes of the text of a report for the source's script, and then failed
 pub record CutShort (e : Edges) (taken : ℕ) : Type 0 where

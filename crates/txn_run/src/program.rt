@@ -1,9 +1,11 @@
-ghost use Rattle.std.specs.Prelude.{◌≡◌, ◌<◌, [], IfOk, MatchResult, vec_len};
-ghost use Rattle.txn_run.specs.Program.{status_of_end, Ran, RanScript, EndOfScript, StopOfLines, StopOfScript, Edges, EndOfRun, WritesNothing, Wrote};
+ghost use Rattle.std.specs.Prelude.{◌≡◌, ◌<◌, [], MatchResult, OnOk, vec_len};
+ghost use Rattle.txn_first.specs.Lawful.{AllGood};
+ghost use Rattle.txn_run.specs.Program.{status_of_end, Ran, RanScript, EndOfScript, IsConfirmed, IsConfirmedIfFirst, StopOfLines, Edges, EndOfRun, WritesNothing, Wrote};
 ghost use Rattle.txn_run.specs.declared.program.ScriptStop.TheVariants.{Bad, Memory};
 
 use crate::over::run_over;
 use std::alloc::Global;
+use txn_alike::{are_alike, are_beats};
 use txn_commit_plans::{BatchRollbackPlan, CommitPlan, PrewritePlan};
 use txn_kv::NoMemory;
 use txn_lines::{BadAt, Why, parse_script};
@@ -75,14 +77,40 @@ fn run_lines_of(alloc: Global, bytes: &[u8]) -> Result<Report, ScriptStop>
     }
 }
 
-/// Runs the script of these bytes: one of the first path by a machine of its own, and every other over the clients of the library.
-fn run_bytes(alloc: Global, bytes: &[u8]) -> Result<Report, ScriptStop>
-    ensures { MatchResult result (Ran bytes.now) (StopOfScript bytes.now) }
+/// Runs lines of the first path on the machine of the first path, which has to tell the same as the report.
+fn confirm_lines(
+    alloc: Global,
+    lines: Vec<txn_script::Line>,
+    report: &Report,
+) -> Result<(), NoMemory>
+    requires { AllGood [] lines.items }
+    ensures { OnOk result (IsConfirmed lines.items report.now) }
+{
+    let first = txn_first::run_lines(alloc, lines)?;
+    if are_alike(alloc, &first, report)? && are_beats(report.sleeps.as_slice()) {
+        Ok(())
+    } else {
+        Err(NoMemory)
+    }
+}
+
+/// Has a report confirmed, where the bytes are a script of the first path.
+fn confirm(alloc: Global, bytes: &[u8], report: &Report) -> Result<(), NoMemory>
+    ensures { OnOk result (IsConfirmedIfFirst bytes.now report.now) }
 {
     match txn_script::parse_script(alloc, bytes)? {
-        Ok(script) => Ok(txn_first::run_lines(alloc, script.lines.into_vec())?),
-        Err(_) => run_lines_of(alloc, bytes),
+        Ok(script) => confirm_lines(alloc, script.lines.into_vec(), report),
+        Err(_) => Ok(()),
     }
+}
+
+/// Runs the script of these bytes, and has its report confirmed where it is of the first path.
+fn run_bytes(alloc: Global, bytes: &[u8]) -> Result<Report, ScriptStop>
+    ensures { MatchResult result (Ran bytes.now) (StopOfLines bytes.now) }
+{
+    let report = run_lines_of(alloc, bytes)?;
+    confirm(alloc, bytes, &report)?;
+    Ok(report)
 }
 
 /// Runs the script of these bytes.
