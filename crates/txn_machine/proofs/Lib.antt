@@ -20,6 +20,7 @@ mod Timestamps
 mod Alive
 mod Keepings
 mod Outs
+mod Listing
 mod Staying
 mod Due
 mod Standings

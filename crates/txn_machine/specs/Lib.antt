@@ -7,6 +7,7 @@ pub mod Lawful
 pub mod Lists
 pub mod Longer
 pub mod Notes
+pub mod Outs
 pub mod Rows
 pub mod Running
 pub mod Script

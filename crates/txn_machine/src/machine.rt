@@ -9,6 +9,7 @@ ghost use Rattle.txn_machine.specs.Dues.{DuesLines, StayOut};
 ghost use Rattle.txn_machine.specs.Failing.{CausesMeetLines, HeardIn, Rested, RunsAsk, RunsOn};
 ghost use Rattle.txn_machine.specs.Lists.{Lists, all_ended, all_posted, ended_at, newest, opened, outright, posted_at, with_mail};
 ghost use Rattle.txn_machine.specs.Notes.{AreNoted};
+ghost use Rattle.txn_machine.specs.Outs.{AreOutAfter};
 ghost use Rattle.txn_machine.specs.Running.{CanClose, CanPost, CanStep, HasMemory, IsEven, IsFine, IsOrdered, IsReportOf, KeepOut, LedTo, Stands, StandsFor, closed, lists_of, outs_at, outs_until, with_own};
 ghost use Rattle.txn_machine.specs.Script.{FoldsLines, outcome_of};
 ghost use Rattle.txn_machine.specs.Steps.{Calls, Does, Steps, called, ended_in, posted_in};
@@ -16,6 +17,7 @@ ghost use Rattle.txn_machine.specs.Times.{TimesLines};
 ghost use Rattle.txn_machine.specs.Told.{ArePast, CanTell, IsNote, IsNoteOf, OwnEnds, ending_at, view_of_ending};
 ghost use Rattle.txn_post.specs.Mail.{IsNext};
 ghost use Rattle.txn_report.specs.OutcomeView.{view_of_outcome};
+ghost use Rattle.txn_report.specs.declared.report.Report.{Report as Reported};
 ghost use Rattle.txn_side.specs.Account.{AreKept, AreNew};
 ghost use Rattle.txn_side.specs.Arising.{StillArises};
 ghost use Rattle.txn_side.specs.Sight.{Acts, commits, nobody, ticket_in};
@@ -462,10 +464,11 @@ impl<S: ClientSide> Machine<S> {
         self.post.push_outs(line, outs)
     }
 
-    /// Every ticket that is out, by line and number.
+    /// Every ticket that is out, by line and number: those that are out by the report that the machine would give now.
     pub fn outs(&self) -> Result<Vec<Ticket>, NoMemory>
         requires { Stands S.sight S.ready S.waits self.now }
-        ensures { IfOk result (λ outs. outs.items ≡ outs_until (lists_of S.sight self.now) (newest (lists_of S.sight self.now))) }
+        ensures lists { IfOk result (λ outs. outs.items ≡ outs_until (lists_of S.sight self.now) (newest (lists_of S.sight self.now))) }
+        ensures told { IfOk result (λ outs. (lines : List Line) (report : Reported) → StandsFor S.sight S.ready S.waits self.now lines → IsReportOf (lists_of S.sight self.now) report → AreOutAfter lines report outs.items) }
     {
         let mut outs = Vec::new(self.alloc);
         for line in 0..self.outcomes.len() {

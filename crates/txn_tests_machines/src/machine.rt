@@ -129,6 +129,8 @@ fn a_machine_runs_line_by_line(rt: HostRuntime) {
         &second,
         "StepNote { place: 2, outcome: Skipped, sent: Items { vec: [] }, ended: Items { vec: [] } }",
     );
+    let outs = machine.outs().expect(&rt, "memory");
+    assert_eq!(rt; outs.len(), 0);
 }
 
 #[test]
