@@ -30,8 +30,8 @@ fn have_same_text(alloc: Global, one: &Report, another: &Report) -> Result<bool,
     Ok(all_alike(text.as_slice(), other.as_slice()))
 }
 
-/// Whether two reports tell the same: of outcomes, of what was sent but for the requests themselves, of what was served, and of the
-/// store what is printed. It may be denied of reports with errors other than that of a call after a commit.
+/// Whether two reports tell the same: of outcomes, of what was sent, of what was served, and of the store what is printed. It may be
+/// denied of reports with errors other than that of a call after a commit, or with requests that no script of the first path sends.
 pub fn are_alike(alloc: Global, one: &Report, another: &Report) -> Result<bool, NoMemory>
     ensures { IfOk result (λ yes. IsTrue yes → AreAlike one.now another.now) }
 {
