@@ -1,11 +1,11 @@
 -- Calls whose clause rests on what is known over a history alone.
-use Rattle.std.proofs.Common.{◌≡◌, ◌++◌, List, [], ◌∷◌, refl, sym, subst, ◌∙◌}
+use Rattle.std.proofs.Common.{◌≡◌, ◌++◌, List, sym, subst, ◌∙◌}
 use Rattle.std.proofs.lemmas.List.{append_cancel_left}
 use Rattle.txn_kv.specs.declared.request.Request.{Request}
 use Rattle.txn_history.specs.Event.{Event}
 use Rattle.txn_history.specs.Moves.{Moves}
 use Rattle.txn_history.specs.Posted.{Errand, Posted, after, AreNumbered, Licensed}
-use Rattle.txn_history.specs.Turn.{Turn, IfEnds, IfKept}
+use Rattle.txn_history.specs.Turn.{Turn}
 use Rattle.txn_history.specs.Turn.Turn.{Stopped, Waits, Ends}
 
 -- these errands were posted

@@ -5,3 +5,4 @@ pub mod Showing
 pub mod Telling
 pub mod Around
 pub mod Knowing
+pub mod Foreign

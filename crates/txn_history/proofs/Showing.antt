@@ -7,20 +7,20 @@ use Rattle.txn_kv.specs.declared.message.PbPair.{PbPair}
 use Rattle.txn_kv.specs.declared.reply.Reply.{Reply}
 use Rattle.txn_kv.specs.declared.reply.Reply.TheVariants as reply
 use Rattle.txn_history.specs.Among.{IsAmong}
-use Rattle.txn_history.specs.Licence.{ErrorShows, PairsShow, ErrorsShow, ShowsLock}
+use Rattle.txn_history.specs.Replies.{ErrorShows, PairsShow, ErrorsShow, ShowsLock}
 use Rattle.txn_history.specs.Spends.{lock_of, locks_of_errors, locks_of_pairs, listed, locks_in}
 
-among_append : {X : Type 0} (xs ys : List X) (x : X) → IsAmong (xs ++ ys) x → IsAmong xs x ⊎ IsAmong ys x
+pub among_append : {X : Type 0} (xs ys : List X) (x : X) → IsAmong (xs ++ ys) x → IsAmong xs x ⊎ IsAmong ys x
 among_append [] ys x a = inr a
 among_append (z ∷ xs) ys x (inl a) = inl (inl a)
 among_append (z ∷ xs) ys x (inr a) = elim (among_append xs ys x a) [ inl b ↦ inl (inr b) | inr b ↦ inr b ]
 
-among_first : {X : Type 0} (xs ys : List X) (x : X) → IsAmong xs x → IsAmong (xs ++ ys) x
+pub among_first : {X : Type 0} (xs ys : List X) (x : X) → IsAmong xs x → IsAmong (xs ++ ys) x
 among_first [] ys x a = absurd a
 among_first (z ∷ xs) ys x (inl a) = inl a
 among_first (z ∷ xs) ys x (inr a) = inr (among_first xs ys x a)
 
-among_second : {X : Type 0} (xs ys : List X) (x : X) → IsAmong ys x → IsAmong (xs ++ ys) x
+pub among_second : {X : Type 0} (xs ys : List X) (x : X) → IsAmong ys x → IsAmong (xs ++ ys) x
 among_second [] ys x a = a
 among_second (z ∷ xs) ys x a = inr (among_second xs ys x a)
 
@@ -69,9 +69,13 @@ listed_shown (reply.Get o) l a = of_error o.error l a
 listed_shown (reply.BatchGet o) l a = of_pairs o.pairs l a
 listed_shown (reply.Scan o) l a = of_pairs o.pairs l a
 listed_shown (reply.Prewrite o) l a = of_errors o.errors l a
-listed_shown (reply.PessimisticLock o) l a = of_errors o.errors l a
+listed_shown (reply.Commit o) l a = of_error o.error l a
 listed_shown (reply.Cleanup o) l a = of_error o.error l a
+listed_shown (reply.BatchRollback o) l a = of_error o.error l a
+listed_shown (reply.PessimisticRollback o) l a = of_errors o.errors l a
+listed_shown (reply.PessimisticLock o) l a = of_errors o.errors l a
 listed_shown (reply.ScanLock o) l a = a
+listed_shown (reply.TxnHeartBeat o) l a = of_error o.error l a
 listed_shown (reply.CheckTxnStatus o) l a = elim (among_append (listed o.lock_info) (lock_of o.error) l a) [ inl b ↦ inl (by o.lock_info b) | inr b ↦ inr (of_error o.error l b) ]
   where
     by : (x : Option LockInfo) → IsAmong (listed x) l → x ≡ Some l
@@ -86,9 +90,13 @@ shown_listed (reply.Get o) l a = to_error o.error l a
 shown_listed (reply.BatchGet o) l a = to_pairs o.pairs l a.0 a.1 a.2
 shown_listed (reply.Scan o) l a = to_pairs o.pairs l a.0 a.1 a.2
 shown_listed (reply.Prewrite o) l a = to_errors o.errors l a.0 a.1 a.2
-shown_listed (reply.PessimisticLock o) l a = to_errors o.errors l a.0 a.1 a.2
+shown_listed (reply.Commit o) l a = to_error o.error l a
 shown_listed (reply.Cleanup o) l a = to_error o.error l a
+shown_listed (reply.BatchRollback o) l a = to_error o.error l a
+shown_listed (reply.PessimisticRollback o) l a = to_errors o.errors l a.0 a.1 a.2
+shown_listed (reply.PessimisticLock o) l a = to_errors o.errors l a.0 a.1 a.2
 shown_listed (reply.ScanLock o) l a = a
+shown_listed (reply.TxnHeartBeat o) l a = to_error o.error l a
 shown_listed (reply.CheckTxnStatus o) l a = elim a [ inl b ↦ among_first (listed o.lock_info) (lock_of o.error) l (subst (λ x. IsAmong (listed x) l) (sym b) (inl refl)) | inr b ↦ among_second (listed o.lock_info) (lock_of o.error) l (to_error o.error l b) ]
 shown_listed (reply.CheckSecondaryLocks o) l a = a
 shown_listed _ l a = absurd a

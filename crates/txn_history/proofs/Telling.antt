@@ -1,8 +1,8 @@
 -- Calls of states, and of states around them.
 use Rattle.std.proofs.Common.{◌≡◌, ◌≢◌, ◌⊎◌, inl, inr, ℕ, ◌+◌, ◌≤◌, Bool, true, List, [], ◌∷◌, ◌++◌, refl, sym, ap, ◌∙◌, append-nil, append_assoc}
-use Rattle.std.proofs.Math.Nat.{le_refl, le_trans}
+use Rattle.std.proofs.Math.Nat.{le_trans}
 use Rattle.std.proofs.lemmas.Bool.{false≢true}
-use Rattle.std.specs.Prelude.{⊤, IsErr, Result, Ok, Err}
+use Rattle.std.specs.Prelude.{IsErr, Result, Ok, Err}
 use Rattle.txn_kv.specs.declared.memory.NoMemory.{NoMemory}
 use Rattle.txn_kv.specs.declared.progress.Progress.{Progress}
 use Rattle.txn_kv.specs.declared.progress.Progress.TheVariants.{Waiting, Done}

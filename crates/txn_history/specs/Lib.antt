@@ -1,7 +1,10 @@
 pub mod Among
 pub mod Busy
 pub mod Event
+pub mod Replies
+pub mod Decided
 pub mod Licence
+pub mod Foreign
 pub mod Plan
 pub mod Posted
 pub mod Turn

@@ -1,13 +1,9 @@
 -- What a request has to rest on when it is sent: what was sent and taken before it.
-use Rattle.std.specs.Prelude.{◌≡◌, ◌≢◌, ◌⊎◌, ℕ, ◌+◌, ◌<◌, ◌≤◌, true, false, List, [], ◌∷◌, Option, Some, None}
-use Rattle.txn_kv.specs.Timestamp.{version_of}
-use Rattle.txn_kv.specs.declared.timestamp.Timestamp.{Timestamp}
+use Rattle.std.specs.Prelude.{◌≡◌, ◌≢◌, ◌⊎◌, ℕ, ◌<◌, ◌≤◌, true, false, List, [], ◌∷◌, Some}
 use Rattle.txn_kv.specs.declared.ticket.Ticket.{Ticket}
-use Rattle.txn_kv.specs.declared.message.KeyError.{KeyError}
-use Rattle.txn_kv.specs.declared.message.KeyError.TheVariants as refused
 use Rattle.txn_kv.specs.declared.message.LockInfo.{LockInfo}
 use Rattle.txn_kv.specs.declared.message.Op.TheVariants as op
-use Rattle.txn_kv.specs.declared.message.PbPair.{PbPair}
+use Rattle.txn_kv.specs.declared.message.Mutation.{Mutation}
 use Rattle.txn_kv.specs.declared.message.TxnInfo.{TxnInfo}
 use Rattle.txn_kv.specs.declared.request.Request.{Request}
 use Rattle.txn_kv.specs.declared.request.Request.TheVariants.{Get, BatchGet, Scan, Prewrite, Commit, Cleanup, BatchRollback, PessimisticRollback, PessimisticLock, ResolveLock, ScanLock, TxnHeartBeat, CheckTxnStatus, CheckSecondaryLocks, UnsafeDestroyRange, GetRegion, GetRegionById, GetStore, GetAllStores, UpdateGcSafePoint, Tso, Members}
@@ -18,66 +14,20 @@ use Rattle.txn_kv.specs.declared.request.PessimisticRollbackRequest.{Pessimistic
 use Rattle.txn_kv.specs.declared.request.PessimisticLockRequest.{PessimisticLockRequest}
 use Rattle.txn_kv.specs.declared.request.ResolveLockRequest.{ResolveLockRequest}
 use Rattle.txn_kv.specs.declared.request.TsoRequest.{TsoRequest}
+use Rattle.txn_kv.specs.declared.request.CheckTxnStatusRequest.{CheckTxnStatusRequest}
 use Rattle.txn_kv.specs.declared.reply.Reply.{Reply}
 use Rattle.txn_kv.specs.declared.reply.Reply.TheVariants as reply
 use Rattle.txn_kv.specs.declared.reply.PrewriteResponse.{PrewriteResponse}
 use Rattle.txn_kv.specs.declared.reply.CommitResponse.{CommitResponse}
 use Rattle.txn_kv.specs.declared.reply.BatchRollbackResponse.{BatchRollbackResponse}
-use Rattle.txn_kv.specs.declared.reply.CheckTxnStatusResponse.{CheckTxnStatusResponse}
 use Rattle.txn_kv.specs.declared.reply.TsoResponse.{TsoResponse}
 use Rattle.txn_history.specs.Among.{IsAmong}
 use Rattle.txn_history.specs.Event.{Event, Has}
 use Rattle.txn_history.specs.Event.Event.{Sent, Took, Asked}
-use Rattle.txn_history.specs.Plan.{Key, has_key, Content, Plan, ArePlanned, LocksKey}
-
--- What a reply tells.
-
--- a reply without error
-abbrev pub IsWithoutError : Reply → Type 0
-IsWithoutError (reply.Get o) = (o.region_error ≡ None) × (o.error ≡ None)
-IsWithoutError (reply.BatchGet o) = (o.region_error ≡ None) × (o.error ≡ None) × ((p : PbPair) → IsAmong o.pairs p → p.error ≡ None)
-IsWithoutError (reply.Scan o) = (o.region_error ≡ None) × (o.error ≡ None) × ((p : PbPair) → IsAmong o.pairs p → p.error ≡ None)
-IsWithoutError (reply.Prewrite o) = (o.region_error ≡ None) × (o.errors ≡ [])
-IsWithoutError (reply.Commit o) = (o.region_error ≡ None) × (o.error ≡ None)
-IsWithoutError (reply.Cleanup o) = (o.region_error ≡ None) × (o.error ≡ None)
-IsWithoutError (reply.BatchRollback o) = (o.region_error ≡ None) × (o.error ≡ None)
-IsWithoutError (reply.PessimisticRollback o) = (o.region_error ≡ None) × (o.errors ≡ [])
-IsWithoutError (reply.PessimisticLock o) = (o.region_error ≡ None) × (o.errors ≡ [])
-IsWithoutError (reply.ResolveLock o) = (o.region_error ≡ None) × (o.error ≡ None)
-IsWithoutError (reply.ScanLock o) = (o.region_error ≡ None) × (o.error ≡ None)
-IsWithoutError (reply.TxnHeartBeat o) = (o.region_error ≡ None) × (o.error ≡ None)
-IsWithoutError (reply.CheckTxnStatus o) = (o.region_error ≡ None) × (o.error ≡ None)
-IsWithoutError (reply.CheckSecondaryLocks o) = (o.region_error ≡ None) × (o.error ≡ None)
-IsWithoutError (reply.UnsafeDestroyRange o) = (o.region_error ≡ None) × (o.error ≡ [])
-IsWithoutError _ = Unit {0}
-
--- a timestamp is one of those that the oracle gave
-abbrev pub GivesTimestamp : TsoResponse → ℕ → Type 0
-GivesTimestamp o c = (t : Timestamp) × (o.timestamp ≡ Some t) × (c ≤ version_of t) × (version_of t < c + o.count)
-
--- a reply shows a lock: as the reason of a refusal, or as what was asked for
-abbrev pub ErrorShows : Option KeyError → LockInfo → Type 0
-ErrorShows (Some (refused.Locked x)) l = x ≡ l
-ErrorShows (Some (refused.PrimaryMismatch x)) l = x ≡ l
-ErrorShows _ l = ⊥
-
-abbrev pub PairsShow : List PbPair → LockInfo → Type 0
-PairsShow ps l = (p : PbPair) × IsAmong ps p × ErrorShows p.error l
-
-abbrev pub ErrorsShow : List KeyError → LockInfo → Type 0
-ErrorsShow es l = (e : KeyError) × IsAmong es e × ErrorShows (Some e) l
-
-abbrev pub ShowsLock : Reply → LockInfo → Type 0
-ShowsLock (reply.Get o) l = ErrorShows o.error l
-ShowsLock (reply.BatchGet o) l = PairsShow o.pairs l
-ShowsLock (reply.Scan o) l = PairsShow o.pairs l
-ShowsLock (reply.Prewrite o) l = ErrorsShow o.errors l
-ShowsLock (reply.PessimisticLock o) l = ErrorsShow o.errors l
-ShowsLock (reply.Cleanup o) l = ErrorShows o.error l
-ShowsLock (reply.ScanLock o) l = IsAmong o.locks l
-ShowsLock (reply.CheckTxnStatus o) l = (o.lock_info ≡ Some l) ⊎ ErrorShows o.error l
-ShowsLock (reply.CheckSecondaryLocks o) l = IsAmong o.locks l
-ShowsLock _ l = ⊥
+use Rattle.txn_history.specs.Plan.{Key, has_key, Content, Plan, is_spread, AreDistinct, ArePlanned, IsListed, LocksKey}
+use Rattle.txn_history.specs.Plan.Way.{TwoPhases, Spread}
+pub use Rattle.txn_history.specs.Replies.{IsWithoutError, GivesTimestamp, ErrorShows, PairsShow, ErrorsShow, ShowsLock}
+pub use Rattle.txn_history.specs.Decided.{WasShownAt, WasMet, IsPrewriteOp, WasShown, LockWasShown, PrimaryWasShown, BoundWasShown, TellsStatus, Decides, WasTold, WasChecked, WasSeenCommitted, WasMissed, WasDecided}
 
 -- What was sent and taken.
 
@@ -85,7 +35,19 @@ ShowsLock _ l = ⊥
 abbrev pub WasGiven : List Event → ℕ → Type 0
 WasGiven es c = (t : Ticket) × (r : TsoRequest) × (o : TsoResponse) × (d : ℕ) × Has es (Took t (Tso r) (reply.Tso o)) × GivesTimestamp o d × (c ≤ d)
 
--- a Prewrite of s that locks the key was answered without error
+-- A Prewrite of s with a mutation of the key, a check or one that locks it, was answered without error.
+pub record IsPassed (es : List Event) (s : ℕ) (k : Key) : Type 0 where
+  pub ticket : Ticket
+  pub request : PrewriteRequest
+  pub response : PrewriteResponse
+  pub taken : Has es (Took ticket (Prewrite request) (reply.Prewrite response))
+  pub fine : IsWithoutError (reply.Prewrite response)
+  pub start : request.start_version ≡ s
+  pub mutation : Mutation
+  pub names : IsAmong request.mutations mutation
+  pub key : mutation.key ≡ k
+
+-- a Prewrite of s that locks the key, and does not commit all at once, was answered without error
 pub record IsAcknowledged (es : List Event) (s : ℕ) (k : Key) : Type 0 where
   pub ticket : Ticket
   pub request : PrewriteRequest
@@ -94,12 +56,39 @@ pub record IsAcknowledged (es : List Event) (s : ℕ) (k : Key) : Type 0 where
   pub fine : IsWithoutError (reply.Prewrite response)
   pub start : request.start_version ≡ s
   pub locks : LocksKey request.mutations k
+  pub locking : request.try_one_pc ≡ false
 
--- each key that s writes was acknowledged
-abbrev pub AllAcknowledged : Plan → List Event → ℕ → Type 0
-AllAcknowledged plan es s = (k : Key) (x : Content) → plan.writes k ≡ Some x → IsAcknowledged es s k
+-- each key that s writes was acknowledged, and each that it checks passed
+pub record AllAcknowledged (plan : Plan) (es : List Event) (s : ℕ) : Type 0 where
+  pub locked : (k : Key) (x : Content) → plan.writes k ≡ Some x → IsAcknowledged es s k
+  pub checked : (k : Key) → plan.ops k ≡ Some op.CheckNotExists → IsPassed es s k
 
--- A commit timestamp was asked for with this ticket, after s was given and each key that it writes was acknowledged. Without
+-- such a Prewrite was answered with this bound of its locks
+pub record IsBounded (es : List Event) (s : ℕ) (k : Key) (b : ℕ) : Type 0 where
+  pub ticket : Ticket
+  pub request : PrewriteRequest
+  pub response : PrewriteResponse
+  pub taken : Has es (Took ticket (Prewrite request) (reply.Prewrite response))
+  pub fine : IsWithoutError (reply.Prewrite response)
+  pub start : request.start_version ≡ s
+  pub locks : LocksKey request.mutations k
+  pub locking : request.try_one_pc ≡ false
+  pub bound : response.min_commit_ts ≡ b
+
+-- Each key that s writes was answered a bound that is not 0, and c is the greatest: s is committed at c without another request.
+pub record WasSettled (plan : Plan) (es : List Event) (s c : ℕ) : Type 0 where
+  pub each : (k : Key) (x : Content) → plan.writes k ≡ Some x → (b : ℕ) × IsBounded es s k b × (0 < b) × (b ≤ c)
+  pub greatest : (k : Key) × IsBounded es s k c
+
+-- a Prewrite of s that commits all at once was answered with c: s is committed at c
+abbrev pub WasOnePhase : List Event → ℕ → ℕ → Type 0
+WasOnePhase es s c = (t : Ticket) × (r : PrewriteRequest) × (o : PrewriteResponse) × Has es (Took t (Prewrite r) (reply.Prewrite o)) × IsWithoutError (reply.Prewrite o) × (r.start_version ≡ s) × (r.try_one_pc ≡ true) × (o.one_pc_commit_ts ≡ c)
+
+-- a bound of 0 was answered: s goes on in two phases
+abbrev pub FellBack : List Event → ℕ → Type 0
+FellBack es s = (k : Key) × IsBounded es s k 0
+
+-- A commit timestamp was asked for with this ticket, after s was given and all was acknowledged. Without
 -- the start a commit could come at or below it: `above` and `none_between` fall, and `reads_repeat` where a read passes over
 -- the lock of a later start.
 abbrev pub AskedAfter : Plan → List Event → ℕ → Ticket → Type 0
@@ -119,7 +108,7 @@ SentAfterAsk (e ∷ es) a t = ((r : TsoRequest) × (e ≡ Sent t (Tso r)) × Has
 abbrev pub WasTimed : List Event → Ticket → ℕ → Type 0
 WasTimed es a c = (t : Ticket) × (r : TsoRequest) × (o : TsoResponse) × SentAfterAsk es a t × Has es (Took t (Tso r) (reply.Tso o)) × GivesTimestamp o c
 
--- an ask for a timestamp was made after s was given and each key that it writes was acknowledged
+-- an ask for a timestamp was made after s was given and all was acknowledged
 abbrev pub WantedAfter : Plan → List Event → ℕ → Ticket → Type 0
 WantedAfter plan [] s a = ⊥
 WantedAfter plan (e ∷ es) s a = ((e ≡ Asked a) × AllAcknowledged plan es s × WasGiven es s) ⊎ WantedAfter plan es s a
@@ -136,40 +125,9 @@ PrimaryCommitted plan es s c = (t : Ticket) × (r : CommitRequest) × (o : Commi
 abbrev pub PrimaryRolledBack : Plan → List Event → ℕ → Type 0
 PrimaryRolledBack plan es s = (t : Ticket) × (r : BatchRollbackRequest) × (o : BatchRollbackResponse) × Has es (Took t (BatchRollback r) (reply.BatchRollback o)) × IsWithoutError (reply.BatchRollback o) × (r.start_version ≡ s) × (has_key r.keys plan.primary ≡ true)
 
-abbrev pub IsPrewriteOp : LockInfo → Type 0
-IsPrewriteOp l = l.lock_type ≢ op.PessimisticLock
-
--- a taken reply showed a prewrite lock of s with this primary
-pub record WasShown (es : List Event) (s : ℕ) (p : Key) : Type 0 where
-  pub ticket : Ticket
-  pub request : Request
-  pub answer : Reply
-  pub lock : LockInfo
-  pub taken : Has es (Took ticket request answer)
-  pub shows : ShowsLock answer lock
-  pub prewrite : IsPrewriteOp lock
-  pub start : lock.lock_version ≡ s
-  pub primary : lock.primary_lock ≡ p
-
--- a status told that s is committed at c, or for 0 that it is rolled back
-abbrev pub TellsStatus : CheckTxnStatusResponse → ℕ → Type 0
-TellsStatus o c = (o.region_error ≡ None) × (o.error ≡ None) × (o.lock_ttl ≡ 0) × (o.commit_version ≡ c)
-
--- a reply about the primary p told that s is committed at c, or for 0 that it is rolled back
-abbrev pub Decides : Request → Reply → Key → ℕ → ℕ → Type 0
-Decides (Cleanup r) (reply.Cleanup o) p s c = IsWithoutError (reply.Cleanup o) × (r.key ≡ p) × (r.start_version ≡ s) × (o.commit_version ≡ c)
-Decides (CheckTxnStatus r) (reply.CheckTxnStatus o) p s c = TellsStatus o c × (r.primary_key ≡ p) × (r.lock_ts ≡ s) × ((0 < c) ⊎ (r.resolving_pessimistic_lock ≡ false))
-Decides _ _ p s c = ⊥
-
--- a taken reply about the primary that a lock of s named told so
-pub record WasDecided (es : List Event) (s c : ℕ) : Type 0 where
-  pub primary : Key
-  pub shown : WasShown es s primary
-  pub ticket : Ticket
-  pub request : Request
-  pub answer : Reply
-  pub taken : Has es (Took ticket request answer)
-  pub decides : Decides request answer primary s c
+-- it asks for an async commit, or to commit all at once
+abbrev pub IsFlagged : PrewriteRequest → Type 0
+IsFlagged r = (r.use_async_commit ≡ true) ⊎ (r.try_one_pc ≡ true)
 
 -- no Prewrite of s was sent
 abbrev pub IsUnwritten : List Event → ℕ → Type 0
@@ -179,24 +137,34 @@ IsUnwritten es s = (t : Ticket) (r : PrewriteRequest) → Has es (Sent t (Prewri
 abbrev pub CommitsAnswered : Plan → List Event → ℕ → Type 0
 CommitsAnswered plan es s = (t : Ticket) (r : CommitRequest) → Has es (Sent t (Commit r)) → r.start_version ≡ s → has_key r.keys plan.primary ≡ true → (o : Reply) × Has es (Took t (Commit r) o)
 
--- a taken reply showed the key locked by s
-abbrev pub WasShownAt : List Event → ℕ → Key → Type 0
-WasShownAt es s k = (t : Ticket) × (r : Request) × (o : Reply) × (l : LockInfo) × Has es (Took t r o) × ShowsLock o l × (l.lock_version ≡ s) × (l.key ≡ k)
-
 -- a PessimisticLock of s was sent that names the key
 abbrev pub TriedToLock : List Event → ℕ → Key → Type 0
 TriedToLock es s k = (t : Ticket) × (r : PessimisticLockRequest) × Has es (Sent t (PessimisticLock r)) × (r.start_version ≡ s) × LocksKey r.mutations k
 
 -- Licences, one for each kind of request. Beside each stands which conclusion of `txn_law` falls without it.
 
--- Without the first, two keys of one transaction could hang on two primaries, and without the second a key could get
+-- Without `primary`, two keys of one transaction could hang on two primaries, and without `planned` a key could get
 -- another value, or one that the transaction doesn't mean to write: `whole` falls with either, and with it all that was
--- answered (`fits`, `committed`).
+-- answered (`fits`, `committed`). That a key stands in it once, and always with the same op, serves what a reader of the log
+-- may rely on: no law of the store rests on it.
+-- Without `way` a key of a spread transaction could be locked without a bound, and be settled by its primary alone. Without
+-- `named` a resolver could take a part of the keys for all. Without `at_once` a part of the keys could be committed in one
+-- phase, or a transaction that means to be committed in two (`named`, `served`). Without `above` a pessimistic lock that is served
+-- late could stand on a committed key. Without `unrolled` what is rolled back could be settled afterwards. `whole` falls with each.
+-- Without the start in `given` a bound could be at the start itself: `above` and `none_between` fall. That the for-update
+-- timestamp was given is for a reader of the log: no law of the store rests on it.
 pub record PrewriteLicence (plan : Plan) (es : List Event) (r : PrewriteRequest) : Type 0 where
   pub primary : r.primary_lock ≡ plan.primary
   pub planned : ArePlanned plan r.mutations
+  pub once : AreDistinct r.mutations
+  pub way : r.use_async_commit ≡ is_spread plan.way
+  pub named : (ks : List Key) → plan.way ≡ Spread ks → IsListed plan ks × (LocksKey r.mutations plan.primary → r.secondaries ≡ ks)
+  pub at_once : r.try_one_pc ≡ true → (plan.one_phase ≡ true) × ((x : Content) × (plan.writes plan.primary ≡ Some x)) × ((k : Key) (x : Content) → plan.writes k ≡ Some x → LocksKey r.mutations k)
+  pub given : WasGiven es r.start_version × WasGiven es r.for_update_ts
+  pub above : IsFlagged r → (t : Ticket) (q : PessimisticLockRequest) → Has es (Sent t (PessimisticLock q)) → q.start_version ≡ r.start_version → q.for_update_ts ≤ r.for_update_ts
+  pub unrolled : is_spread plan.way ≡ true → (t : Ticket) (q : BatchRollbackRequest) → Has es (Sent t (BatchRollback q)) → q.start_version ≡ r.start_version → ⊥
 
--- The primary is committed where all keys are acknowledged, at a timestamp that was asked for afterwards, and always at
+-- The primary is committed where all is acknowledged, checks too, at a timestamp that was asked for afterwards, and always at
 -- the same one. Without the first a key could be left out, and be rolled back or locked by another: `whole` falls. Without
 -- the second a commit could come at or below the timestamp of a read that missed it, or below its start: `reads_repeat`,
 -- `above` and `none_between` fall. Without the third a second Commit at another timestamp would be answered without error,
@@ -208,14 +176,27 @@ pub record PrimaryCommitLicence (plan : Plan) (es : List Event) (s c : ℕ) : Ty
 
 -- Another key is committed where the primary's commit was answered without error. Without it a key could be committed
 -- whose primary is rolled back later: `whole` and `rolled_stays` fall.
-abbrev pub CommitLicence : Plan → List Event → CommitRequest → Type 0
-CommitLicence plan es r = (k : Key) → has_key r.keys k ≡ true → ((k ≡ plan.primary) × PrimaryCommitLicence plan es r.start_version r.commit_version) ⊎ ((k ≢ plan.primary) × PrimaryCommitted plan es r.start_version r.commit_version)
+abbrev pub KeyCommitLicence : Plan → List Event → CommitRequest → Key → Type 0
+KeyCommitLicence plan es r k = ((k ≡ plan.primary) × PrimaryCommitLicence plan es r.start_version r.commit_version) ⊎ ((k ≢ plan.primary) × PrimaryCommitted plan es r.start_version r.commit_version)
 
--- The primary is rolled back first. Without it a key could be rolled back whose primary is committed later: `whole` falls.
+-- In two phases each key has its licence, also once a bound of 0 fell back to them. A spread transaction is committed where it
+-- is settled, at its greatest bound.
+abbrev pub CommitLicence : Plan → List Event → CommitRequest → Type 0
+CommitLicence plan es r = (((plan.way ≡ TwoPhases) ⊎ FellBack es r.start_version) × ((k : Key) → has_key r.keys k ≡ true → KeyCommitLicence plan es r k)) ⊎ ((is_spread plan.way ≡ true) × WasSettled plan es r.start_version r.commit_version)
+
+-- A key that s writes stood in no Prewrite but such as were answered with an error. As each is served once, it is never locked.
+pub record IsStuck (plan : Plan) (es : List Event) (s : ℕ) : Type 0 where
+  pub key : Key
+  pub content : Content
+  pub written : plan.writes key ≡ Some content
+  pub failed : (t : Ticket) (r : PrewriteRequest) → Has es (Sent t (Prewrite r)) → r.start_version ≡ s → LocksKey r.mutations key → (o : Reply) × Has es (Took t (Prewrite r) o) × (IsWithoutError o → ⊥)
+
+-- In two phases the primary is rolled back first. Without it a key could be rolled back whose primary is committed later. A
+-- spread transaction is rolled back only where it cannot be settled any more. `whole` falls without either.
 -- That each commit was answered serves what a rollback answers to its caller: no law of the store rests on it.
 pub record BatchRollbackLicence (plan : Plan) (es : List Event) (r : BatchRollbackRequest) : Type 0 where
   pub answered : CommitsAnswered plan es r.start_version
-  pub primary_first : (k : Key) → has_key r.keys k ≡ true → (k ≡ plan.primary) ⊎ PrimaryRolledBack plan es r.start_version
+  pub undone : ((plan.way ≡ TwoPhases) × ((k : Key) → has_key r.keys k ≡ true → (k ≡ plan.primary) ⊎ PrimaryRolledBack plan es r.start_version)) ⊎ ((is_spread plan.way ≡ true) × IsStuck plan es r.start_version)
 
 -- The timestamp was given before, and no key was prewritten. Without either a late lock could stand on a committed key, and
 -- its expiry would record a committed start as rolled back: `whole` falls. Without the first a value that it returns could
@@ -234,11 +215,16 @@ abbrev pub settled_starts : ResolveLockRequest → List TxnInfo → List TxnInfo
 settled_starts r [] = record { txn = r.start_version; status = r.commit_version } ∷ []
 settled_starts r (i ∷ is) = i ∷ is
 
--- Each start is settled as its primary was told to be. Without it a lock could be rolled back whose primary is committed, or
--- committed whose primary is rolled back: `whole` and `rolled_stays` fall. Without the lock that named the primary, the reply
--- could be about another key, and they fall as well.
+-- Each start is settled as it was told to be, by its primary or by all its keys. Without it a lock could be rolled back whose
+-- primary is committed, or committed whose primary is rolled back: `whole` and `rolled_stays` fall. Without the lock that named
+-- the primary, the reply could be about another key, and they fall as well.
 abbrev pub ResolveLockLicence : List Event → ResolveLockRequest → Type 0
 ResolveLockLicence es r = (i : TxnInfo) → IsAmong (settled_starts r r.txn_infos) i → WasDecided es i.txn i.status
+
+-- A forced status takes an async lock away where it has expired: it is asked only of a start of which a lock that is none was
+-- shown. Without it a spread start could be rolled back that is settled: `whole` falls.
+abbrev pub StatusLicence : List Event → CheckTxnStatusRequest → Type 0
+StatusLicence es r = r.force_sync_commit ≡ true → (l : LockInfo) × LockWasShown es r.lock_ts l × (l.use_async_commit ≡ false)
 
 -- A read is at a timestamp that was given before. Without it a later commit could come below it: `reads_repeat` falls.
 abbrev pub IsLicensed : (ℕ → Plan) → List Event → Request → Type 0
@@ -254,7 +240,7 @@ IsLicensed plans es (PessimisticLock r) = PessimisticLockLicence es r
 IsLicensed plans es (ResolveLock r) = ResolveLockLicence es r
 IsLicensed plans es (ScanLock r) = Unit {0}
 IsLicensed plans es (TxnHeartBeat r) = Unit {0}
-IsLicensed plans es (CheckTxnStatus r) = Unit {0}
+IsLicensed plans es (CheckTxnStatus r) = StatusLicence es r
 IsLicensed plans es (CheckSecondaryLocks r) = Unit {0}
 IsLicensed plans es (UnsafeDestroyRange r) = Unit {0}
 IsLicensed plans es (GetRegion r) = Unit {0}

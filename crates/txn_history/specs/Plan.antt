@@ -1,5 +1,5 @@
 -- What a transaction means to write.
-use Rattle.std.specs.Prelude.{◌≡◌, ℕ, Bool, nat_eq, List, Option, Some, None}
+use Rattle.std.specs.Prelude.{◌≡◌, ◌⊎◌, ⊤, ℕ, Bool, true, false, nat_eq, List, [], ◌∷◌, Option, Some, None}
 use Rattle.std.specs.List.{list_any}
 use Rattle.std.specs.Cmp.Lexicographic.{pointwise}
 use Rattle.txn_history.specs.Among.{IsAmong}
@@ -34,14 +34,44 @@ content_by CheckNotExists v = None
 abbrev pub content_of : Mutation → Option Content
 content_of m = content_by m.op m.value
 
--- the primary of a transaction, and what it writes to each key that it locks
+-- The way in which a transaction commits.
+pub data Way : Type 0 where
+  -- in two phases, settled by its primary
+  TwoPhases : Way
+  -- spread over its keys, settled by all of them: the primary and these secondaries
+  Spread : (secondaries : List Key) → Way
+
+abbrev pub is_spread : Way → Bool
+is_spread TwoPhases = false
+is_spread (Spread ks) = true
+
+-- What a transaction means to do.
 pub record Plan : Type 0 where
   pub primary : Key
+  -- the op with which it prewrites each key, checks included
+  pub ops : Key → Option Op
+  -- what it writes to each key that it locks
   pub writes : Key → Option Content
+  pub way : Way
+  -- its Prewrites may commit all at once
+  pub one_phase : Bool
+
+-- a mutation is that of the plan at its key
+abbrev pub IsPlanned : Plan → Mutation → Type 0
+IsPlanned plan m = (plan.ops m.key ≡ Some m.op) × ((x : Content) → content_of m ≡ Some x → plan.writes m.key ≡ Some x)
 
 -- the mutations are those of the plan
 abbrev pub ArePlanned : Plan → List Mutation → Type 0
-ArePlanned plan ms = (m : Mutation) (x : Content) → IsAmong ms m → content_of m ≡ Some x → plan.writes m.key ≡ Some x
+ArePlanned plan ms = (m : Mutation) → IsAmong ms m → IsPlanned plan m
+
+-- no two mutations are of one key
+abbrev pub AreDistinct : List Mutation → Type 0
+AreDistinct [] = ⊤
+AreDistinct (m ∷ ms) = ((n : Mutation) → IsAmong ms n → key_eq m.key n.key ≡ false) × AreDistinct ms
+
+-- the primary and these keys are those that it writes
+abbrev pub IsListed : Plan → List Key → Type 0
+IsListed plan ks = ((k : Key) (x : Content) → plan.writes k ≡ Some x → (k ≡ plan.primary) ⊎ IsAmong ks k) × ((x : Content) × (plan.writes plan.primary ≡ Some x)) × ((k : Key) → IsAmong ks k → (x : Content) × (plan.writes k ≡ Some x))
 
 -- some mutation locks the key
 abbrev pub LocksKey : List Mutation → Key → Type 0
