@@ -9,10 +9,11 @@
 //! | `get KEY VERSION`, `bget VERSION KEY..` | Get, BatchGet |
 //! | `scan START END LIMIT VERSION`, and `keys` and `down` behind it | Scan, with keys alone, reversed |
 //! | `prewrite START PRIMARY TTL FOR_UPDATE MUTATION..` | Prewrite; a mutation is `OP:KEY` or `OP:KEY=VALUE`, and `OP!:..` where its flag is true |
+//! | `async ..`, `once ..`, `asynconce ..` | the same with use_async_commit, with try_one_pc, with both; in each a word `also:KEY` names a secondary |
 //! | `commit START COMMIT KEY..`, `cleanup START KEY`, `rollback START KEY..` | Commit, Cleanup, BatchRollback |
 //! | `lock START PRIMARY TTL FOR_UPDATE MUTATION..`, `lockread ..` | PessimisticLock; the latter asks for values. The op `absent` asserts that there is none |
 //! | `unlock START FOR_UPDATE KEY..` | PessimisticRollback |
-//! | `status PRIMARY START NOW`, and `missing` and `resolving` behind it | CheckTxnStatus, that rolls back what is missing, that resolves a pessimistic lock |
+//! | `status PRIMARY START NOW`, and `missing`, `resolving` and `forced` behind it | CheckTxnStatus, that rolls back what is missing, that resolves a pessimistic lock, that is forced |
 //! | `secondaries START KEY..`, `beat START PRIMARY TTL` | CheckSecondaryLocks, TxnHeartBeat |
 //! | `resolve START COMMIT`, `resolves START=COMMIT..` | ResolveLock |
 //! | `locks START END VERSION LIMIT`, `destroy START END` | ScanLock, UnsafeDestroyRange |
@@ -20,7 +21,9 @@
 //! | `split KEY`, `lead REGION STORE`, `clock MILLISECONDS` | none |
 //! | `via REGION STORE CONF VERSION`, `via nothing` | none: the context from here on, where `-` leaves the peer or the epoch out |
 //!
-//! A line of a reply has the request's word and what the reply says, errors by the names of their variants. What a case
+//! A line of a reply has the request's word and what the reply says, errors by the names of their variants. A Prewrite says
+//! its bound and the timestamp at which it committed where they are not 0. An async lock shows its bound, and a lock its
+//! secondaries. What a case
 //! leaves is a line for each lock, commit and rolled start, and one for the numbers that are not 0.
 #![tactic(auto)]
 

@@ -23,7 +23,7 @@ fn status(
         caller_start_ts: 0,
         current_ts,
         rollback_if_not_exist: has(words, "missing"),
-        force_sync_commit: false,
+        force_sync_commit: has(words, "forced"),
         resolving_pessimistic_lock: has(words, "resolving"),
     })
 }

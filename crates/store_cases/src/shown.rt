@@ -2,8 +2,9 @@
 
 use std::fmt;
 use txn_kv::{
-    CheckSecondaryLocksResponse, CheckTxnStatusResponse, GetRegionResponse, HexRepr, KeyError,
-    LockInfo, PbPair, PessimisticLockResponse, Region, RegionErr, Reply, StoreMeta, TsoResponse,
+    CheckSecondaryLocksResponse, CheckTxnStatusResponse, GetRegionResponse, HexRepr, Key, KeyError,
+    LockInfo, PbPair, PessimisticLockResponse, PrewriteResponse, Region, RegionErr, Reply,
+    StoreMeta, TsoResponse,
 };
 use txn_model::{Cell, Lock, Write};
 
@@ -35,6 +36,23 @@ impl fmt::Display for ShownBytes<'_> {
     }
 }
 
+/// The bound of an async lock.
+fn bound<W: fmt::Write>(f: &mut fmt::Formatter<W>, is_async: bool, bound: u64) -> fmt::Result {
+    if is_async {
+        write!(f, " async {bound}")
+    } else {
+        Ok(())
+    }
+}
+
+/// The secondaries that a lock names.
+fn also<W: fmt::Write>(f: &mut fmt::Formatter<W>, keys: &[Key]) -> fmt::Result {
+    for key in keys {
+        write!(f, " also {}", ShownBytes(key.as_slice()))?;
+    }
+    Ok(())
+}
+
 #[derive(Clone, Copy)]
 struct ShownInfo<'a>(&'a LockInfo);
 
@@ -48,7 +66,9 @@ impl fmt::Display for ShownInfo<'_> {
             "{key} {:?} {} {primary}",
             info.lock_type, info.lock_version
         )?;
-        write!(f, " ttl {} for {}", info.lock_ttl, info.lock_for_update_ts)
+        write!(f, " ttl {} for {}", info.lock_ttl, info.lock_for_update_ts)?;
+        bound(f, info.use_async_commit, info.min_commit_ts)?;
+        also(f, info.secondaries.as_slice())
     }
 }
 
@@ -180,6 +200,20 @@ fn number_unless<W: fmt::Write>(
     } else {
         write!(f, " {number}")
     }
+}
+
+fn prewritten<W: fmt::Write>(f: &mut fmt::Formatter<W>, reply: &PrewriteResponse) -> fmt::Result {
+    if refused(f, &reply.region_error, reply.errors.as_slice())? {
+        return Ok(());
+    }
+    write!(f, " ok")?;
+    if reply.min_commit_ts > 0 {
+        write!(f, " bound {}", reply.min_commit_ts)?;
+    }
+    if reply.one_pc_commit_ts > 0 {
+        write!(f, " once {}", reply.one_pc_commit_ts)?;
+    }
+    Ok(())
 }
 
 fn pairs<W: fmt::Write>(f: &mut fmt::Formatter<W>, pairs: &[PbPair]) -> fmt::Result {
@@ -317,10 +351,7 @@ struct ShownChange<'a>(&'a Reply);
 impl fmt::Display for ShownChange<'_> {
     fn fmt<W: fmt::Write>(&self, f: &mut fmt::Formatter<W>) -> fmt::Result {
         match self.0 {
-            Reply::Prewrite(r) => {
-                let is_refused = refused(f, &r.region_error, r.errors.as_slice())?;
-                ok_unless(f, is_refused)
-            }
+            Reply::Prewrite(r) => prewritten(f, r),
             Reply::PessimisticRollback(r) => {
                 let is_refused = refused(f, &r.region_error, r.errors.as_slice())?;
                 ok_unless(f, is_refused)
@@ -384,11 +415,14 @@ fn lock_line<W: fmt::Write>(f: &mut fmt::Formatter<W>, key: &[u8], lock: &Lock) 
         lock.kind,
         lock.start
     )?;
-    writeln!(
+    write!(
         f,
         " {primary} {value} ttl {} for {}",
         lock.ttl, lock.for_update
-    )
+    )?;
+    bound(f, lock.use_async, lock.min_commit)?;
+    also(f, lock.secondaries.as_slice())?;
+    writeln!(f)
 }
 
 fn commit_line<W: fmt::Write>(f: &mut fmt::Formatter<W>, key: &[u8], write: &Write) -> fmt::Result {

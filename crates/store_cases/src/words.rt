@@ -115,16 +115,36 @@ fn mutation(alloc: Global, word: &str) -> Result<Mutation, Fault> {
 pub fn mutations(alloc: Global, words: &[&str], from: usize) -> Result<Items<Mutation>, Fault> {
     let mut mutations = Items::new(alloc);
     for word in rest(words, from) {
-        mutations.push(mutation(alloc, word)?)?;
+        if secondary(word).is_none() {
+            mutations.push(mutation(alloc, word)?)?;
+        }
     }
     Ok(mutations)
+}
+
+/// The key of `also:KEY`.
+fn secondary<'a>(word: &'a str) -> Option<&'a str> {
+    word.strip_prefix("also:")
+}
+
+/// The keys of the words `also:KEY`.
+pub fn secondaries(alloc: Global, words: &[&str], from: usize) -> Result<Items<Key>, Fault> {
+    let mut keys = Items::new(alloc);
+    for word in rest(words, from) {
+        if let Some(key) = secondary(word) {
+            keys.push(Key::from(bytes(alloc, key)?))?;
+        }
+    }
+    Ok(keys)
 }
 
 /// For each mutation whether its op is written with `!`.
 pub fn flags(alloc: Global, words: &[&str], from: usize) -> Result<Items<bool>, Fault> {
     let mut flags = Items::new(alloc);
     for word in rest(words, from) {
-        flags.push(word.contains('!'))?;
+        if secondary(word).is_none() {
+            flags.push(word.contains('!'))?;
+        }
     }
     Ok(flags)
 }

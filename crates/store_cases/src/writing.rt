@@ -3,10 +3,10 @@ ghost use Rattle.std.specs.Prelude.{IfOk};
 ghost use Rattle.store_cases.specs.Serving.{IsServable};
 
 use crate::fault::Fault;
-use crate::words::{flags, key, keys, mutations, number, word};
+use crate::words::{flags, key, keys, mutations, number, secondaries, word};
 use std::alloc::Global;
 use txn_kv::{
-    BatchRollbackRequest, CleanupRequest, CommitRequest, Context, Items, PrewriteRequest, Request,
+    BatchRollbackRequest, CleanupRequest, CommitRequest, Context, PrewriteRequest, Request,
     UnsafeDestroyRangeRequest,
 };
 
@@ -15,6 +15,7 @@ fn prewrite(
     here: Option<Context>,
     words: &[&str],
 ) -> Result<PrewriteRequest, Fault> {
+    let name = word(words, 0)?;
     let start_version = number(words, 1)?;
     let lock_ttl = number(words, 3)?;
     let for_update_ts = number(words, 4)?;
@@ -27,9 +28,9 @@ fn prewrite(
         txn_size: 0,
         for_update_ts,
         is_pessimistic_lock: flags(alloc, words, 5)?,
-        use_async_commit: false,
-        try_one_pc: false,
-        secondaries: Items::new(alloc),
+        use_async_commit: name == "async" || name == "asynconce",
+        try_one_pc: name == "once" || name == "asynconce",
+        secondaries: secondaries(alloc, words, 5)?,
     })
 }
 
@@ -87,7 +88,9 @@ pub fn writing(
     ensures { IfOk result IsServable }
 {
     let request = match word(words, 0)? {
-        "prewrite" => Request::Prewrite(prewrite(alloc, here, words)?),
+        "prewrite" | "async" | "once" | "asynconce" => {
+            Request::Prewrite(prewrite(alloc, here, words)?)
+        }
         "commit" => Request::Commit(commit(alloc, here, words)?),
         "cleanup" => Request::Cleanup(cleanup(alloc, here, words)?),
         "rollback" => Request::BatchRollback(rollback(alloc, here, words)?),

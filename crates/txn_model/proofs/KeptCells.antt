@@ -1,5 +1,5 @@
 -- Cells stay in the order of their keys, and none is empty.
-use Rattle.std.proofs.Common.{List, [], ◌∷◌, Option, Some, None, not, refl}
+use Rattle.std.proofs.Common.{Bool, true, false, if◌then◌else◌, List, [], ◌∷◌, Option, Some, None, not, refl}
 use Rattle.txn_kv.specs.declared.message.KeyError.{KeyError}
 use Rattle.txn_kv.specs.declared.message.RegionErr.{RegionErr}
 use Rattle.txn_kv.specs.declared.request.BatchGetRequest.{BatchGetRequest}
@@ -27,26 +27,31 @@ use Rattle.txn_model.specs.Commit.{commit_by, first_commit_error, committed}
 use Rattle.txn_model.specs.Locks.{commit_of}
 use Rattle.txn_model.specs.PessimisticLock.{pessimistic_lock_by, pessimistic_errors, locked_for_update}
 use Rattle.txn_model.specs.Placement.{region_check}
-use Rattle.txn_model.specs.Prewrite.{prewrite_by, prewrite_errors, prewrite_cell, mutation_keys}
+use Rattle.txn_model.specs.Prewrite.{least_bound, prewrite_by, prewrite_errors, passed_commit, one_phase_by, locking_by, prewrite_cell, land_cell, mutation_keys}
 use Rattle.txn_model.specs.Ranges.{in_range}
 use Rattle.txn_model.specs.Read.{get_by, batch_get_by, scan_by}
 use Rattle.txn_model.specs.Resolve.{resolve_lock_by, scan_lock_by}
-use Rattle.txn_model.specs.Rollback.{batch_rollback_by, first_rollback_error, cleanup_by, pessimistic_rollback_by, released_by}
-use Rattle.txn_model.specs.Settle.{rolled_back, mismatched_lock, lock_of_start}
+use Rattle.txn_model.specs.Rollback.{batch_rollback_by, first_rollback_error, cleanup_refusal, cleanup_by, pessimistic_rollback_by, released_by}
+use Rattle.txn_model.specs.Settle.{rolled_back, lock_of_start}
 use Rattle.txn_model.specs.Status.{Finding, finding, status_cell, check_txn_status_by, check_secondary_locks_by, missing_rolled_back, txn_heart_beat_by, with_lock, longer_lived}
 use Rattle.txn_model.specs.Store.{Store}
 use Rattle.txn_model.specs.Table.{table}
 use Rattle.txn_model.proofs.CellLists.{kept_changed}
 use Rattle.txn_model.proofs.Filtering.{kept_filter}
-use Rattle.txn_model.proofs.Locking.{prewrite_key}
+use Rattle.txn_model.proofs.Folding.{prewrite_key, land_key}
 use Rattle.txn_model.proofs.Ruling.{rule_keeps_keys, status_keeps_keys}
 use Rattle.txn_model.proofs.Settled.{kept_settled}
 use Rattle.txn_model.proofs.Unlocking.{commit_key_same}
 
-prewrite_kept : (e : Option RegionErr) (es : List KeyError) (st : Store) (r : PrewriteRequest) → AreKept st.cells → AreKept (prewrite_by e es st r).store.cells
-prewrite_kept (Some e) es st r kept = kept
-prewrite_kept None (e ∷ es) st r kept = kept
-prewrite_kept None [] st r kept = kept_changed (mutation_keys r.mutations) (prewrite_cell r r.mutations) (prewrite_key r r.mutations) st.cells kept.in_order
+prewrite_kept : (e : Option RegionErr) (es : List KeyError) (w : Option Write) (st : Store) (r : PrewriteRequest) → AreKept st.cells → AreKept (prewrite_by e es w st r).store.cells
+prewrite_kept (Some e) es w st r kept = kept
+prewrite_kept None (e ∷ es) w st r kept = kept
+prewrite_kept None [] w st r kept = by r.try_one_pc w
+  where
+    by : (b : Bool) (v : Option Write) → AreKept (if b then one_phase_by v st r else locking_by st r).store.cells
+    by true (Some v) = kept
+    by true None = kept_changed (mutation_keys r.mutations) (land_cell r (least_bound st r) r.mutations) (land_key r (least_bound st r) r.mutations) st.cells kept.in_order
+    by false v = kept_changed (mutation_keys r.mutations) (prewrite_cell r (least_bound st r) r.mutations) (prewrite_key r (least_bound st r) r.mutations) st.cells kept.in_order
 
 commit_kept : (e : Option RegionErr) (o : Option KeyError) (st : Store) (r : CommitRequest) → AreKept st.cells → AreKept (commit_by e o st r).store.cells
 commit_kept (Some e) o st r kept = kept
@@ -74,7 +79,7 @@ batch_rollback_kept (Some e) o st r kept = kept
 batch_rollback_kept None (Some e) st r kept = kept
 batch_rollback_kept None None st r kept = kept_changed r.keys (rolled_back r.start_version) (rule_keeps_keys (RollBack r.start_version)) st.cells kept.in_order
 
-cleanup_kept : (e : Option RegionErr) (l : Option Lock) (w : Option Write) (st : Store) (r : CleanupRequest) → AreKept st.cells → AreKept (cleanup_by e l w st r).store.cells
+cleanup_kept : (e : Option RegionErr) (l : Option KeyError) (w : Option Write) (st : Store) (r : CleanupRequest) → AreKept st.cells → AreKept (cleanup_by e l w st r).store.cells
 cleanup_kept (Some e) l w st r kept = kept
 cleanup_kept None (Some l) w st r kept = kept
 cleanup_kept None None (Some w) st r kept = kept
@@ -110,9 +115,9 @@ pub kept_after : (st : Store) (r : Request) → AreKept st.cells → AreKept (ta
 kept_after st (Get r) kept = get_kept (region_check st.regions r.context) st r kept
 kept_after st (BatchGet r) kept = batch_get_kept (region_check st.regions r.context) st r kept
 kept_after st (Scan r) kept = scan_kept (region_check st.regions r.context) st r kept
-kept_after st (Prewrite r) kept = prewrite_kept (region_check st.regions r.context) (prewrite_errors st.cells r r.mutations r.is_pessimistic_lock) st r kept
+kept_after st (Prewrite r) kept = prewrite_kept (region_check st.regions r.context) (prewrite_errors st.cells r r.mutations r.is_pessimistic_lock) (passed_commit st.cells r.start_version r.mutations) st r kept
 kept_after st (Commit r) kept = commit_kept (region_check st.regions r.context) (first_commit_error st.cells r r.keys) st r kept
-kept_after st (Cleanup r) kept = let c = cell_at st.cells r.key in cleanup_kept (region_check st.regions r.context) (mismatched_lock r.key r.start_version c.lock) (commit_of c.commits r.start_version) st r kept
+kept_after st (Cleanup r) kept = let c = cell_at st.cells r.key in cleanup_kept (region_check st.regions r.context) (cleanup_refusal r.key r.start_version c.lock) (commit_of c.commits r.start_version) st r kept
 kept_after st (BatchRollback r) kept = batch_rollback_kept (region_check st.regions r.context) (first_rollback_error st.cells r.start_version r.keys) st r kept
 kept_after st (PessimisticRollback r) kept = pessimistic_rollback_kept (region_check st.regions r.context) st r kept
 kept_after st (PessimisticLock r) kept = pessimistic_lock_kept (region_check st.regions r.context) (pessimistic_errors st.cells r) st r kept

@@ -1,11 +1,14 @@
 pub mod CellLists
 mod Changing
 mod Filtering
+pub mod Folding
 pub mod KeptCells
 pub mod Keys
+mod Landed
 pub mod Lengthening
 pub mod Locking
 mod Mapping
+mod Opening
 pub mod OrderlyCells
 pub mod Orders
 pub mod PlacesInOrder

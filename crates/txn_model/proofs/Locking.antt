@@ -1,6 +1,6 @@
 -- A prewrite, mutation by mutation.
 use Rattle.std.proofs.Common.{◌≡◌, ℕ, suc, zero, ◌+◌, ◌<◌, ◌≤◌, Bool, true, false, if◌then◌else◌, List, [], ◌∷◌, ◌++◌, drop, reverse, length, get_or, set, Option, Some, None, refl, sym, ap, ◌∙◌, arith, append_assoc, append-nil}
-use Rattle.std.specs.Prelude.{option_to_list, ◌||◌}
+use Rattle.std.specs.Prelude.{option_to_list, is_some, not, ◌&&◌, ◌||◌}
 use Rattle.std.specs.List.{insert}
 use Rattle.std.proofs.lemmas.List.{drop_more, drop-drop, reverse-append}
 use Rattle.txn_kv.specs.declared.message.KeyError.{KeyError}
@@ -9,23 +9,26 @@ use Rattle.txn_kv.specs.declared.request.PrewriteRequest.{PrewriteRequest}
 use Rattle.txn_model.specs.declared.cell.Cell.{Cell}
 use Rattle.txn_model.specs.declared.cell.Kind.{Kind}
 use Rattle.txn_model.specs.declared.prewrite.Placing.{Placing}
-use Rattle.txn_model.specs.Cells.{Key, key_eq, has_key, cell_at, changed_at, AreKept}
-use Rattle.txn_model.specs.Locks.{owns}
-use Rattle.txn_model.specs.Prewrite.{kind_of, placed, prewrite_cell, mutation_keys, first_flag, prewrite_error, prewrite_errors}
+use Rattle.txn_model.specs.Cells.{Key, key_eq, cell_at, changed_at, AreKept}
+use Rattle.txn_model.specs.Prewrite.{kind_of, placed, place, prewrite_cell, mutation_keys, first_flag, prewrite_error, prewrite_errors}
 use Rattle.txn_model.specs.Placings.{placing_of, placings, locked, all_locked}
+use Rattle.txn_model.specs.Locks.{owns, commit_of}
 use Rattle.txn_model.specs.Places.{IsAt, IsGapFor}
-use Rattle.txn_model.proofs.CellLists.{key_of_cell, same_cells, kept_changed, cell_changed, KeepsKeys}
+use Rattle.txn_model.specs.Status.{is_missing}
+use Rattle.txn_model.proofs.CellLists.{key_of_cell}
+use Rattle.txn_model.proofs.Changing.{changes_are}
+use Rattle.txn_model.proofs.Folding.{stands, prewrite_key, folded}
 use Rattle.txn_model.proofs.PlacesInOrder.{changed_set, changed_insert, kept_set, kept_insert, full_read}
 
 -- the lock set at a place
-pub locked_set : (cs : List Cell) (p : Placing) (at : ℕ) (c : Cell) → AreKept cs → IsAt cs p.key at → c ≡ get_or cs at c → owns c.lock p.lock.start ≡ false → (j : Key) → cell_at (set cs at (record { key = c.key; lock = Some p.lock; commits = c.commits; rolled = c.rolled })) j ≡ (if key_eq p.key j then locked p (cell_at cs j) else cell_at cs j)
+pub locked_set : (cs : List Cell) (p : Placing) (at : ℕ) (c : Cell) → AreKept cs → IsAt cs p.key at → c ≡ get_or cs at c → stands c p.lock.start ≡ false → (j : Key) → cell_at (set cs at (record { key = c.key; lock = Some p.lock; commits = c.commits; rolled = c.rolled })) j ≡ (if key_eq p.key j then locked p (cell_at cs j) else cell_at cs j)
 locked_set cs p at c kept is read free = changed_set cs p.key at c _ (locked p) kept.in_order is read (rw free refl) (ap (λ x. x.key) read ∙ is.has_key c)
 
 pub kept_locked_set : (cs : List Cell) (p : Placing) (at : ℕ) (c : Cell) → AreKept cs → IsAt cs p.key at → c ≡ get_or cs at c → AreKept (set cs at (record { key = c.key; lock = Some p.lock; commits = c.commits; rolled = c.rolled }))
 kept_locked_set cs p at c kept is read = kept_set cs p.key at _ kept is (ap (λ x. x.key) read ∙ is.has_key c) refl
 
 -- the lock left alone
-pub locked_same : (cs : List Cell) (p : Placing) (at : ℕ) (c : Cell) → AreKept cs → IsAt cs p.key at → c ≡ get_or cs at c → owns c.lock p.lock.start ≡ true → (j : Key) → cell_at (set cs at c) j ≡ (if key_eq p.key j then locked p (cell_at cs j) else cell_at cs j)
+pub locked_same : (cs : List Cell) (p : Placing) (at : ℕ) (c : Cell) → AreKept cs → IsAt cs p.key at → c ≡ get_or cs at c → stands c p.lock.start ≡ true → (j : Key) → cell_at (set cs at c) j ≡ (if key_eq p.key j then locked p (cell_at cs j) else cell_at cs j)
 locked_same cs p at c kept is read held = changed_set cs p.key at c c (locked p) kept.in_order is read (rw held refl) (ap (λ x. x.key) read ∙ is.has_key c)
 
 pub kept_same : (cs : List Cell) (k : Key) (at : ℕ) (c : Cell) → AreKept cs → IsAt cs k at → c ≡ get_or cs at c → AreKept (set cs at c)
@@ -37,6 +40,15 @@ locked_insert cs p at gap = changed_insert cs p.key at _ (locked p) gap refl ref
 
 pub kept_locked_insert : (cs : List Cell) (p : Placing) (at : ℕ) → AreKept cs → IsGapFor cs p.key at → AreKept (insert cs at (record { key = p.key; lock = Some p.lock; commits = []; rolled = [] }))
 kept_locked_insert cs p at kept gap = kept_insert cs p.key at _ kept gap refl refl
+
+-- where the start is missing, neither its prewrite lock nor its commit stands
+pub missing_stands : (c : Cell) (s : ℕ) → stands c s ≡ not (is_missing s c)
+missing_stands c s = by (owns c.lock s) (is_some (commit_of c.commits s))
+  where
+    by : (a b : Bool) → (a || b) ≡ not (not a && not b)
+    by true b = refl
+    by false true = refl
+    by false false = refl
 
 -- one lock more in a row of them
 pub locked_next : (before rest : List Placing) (p : Placing) → before ≡ rest ++ p ∷ [] → (cs ds : List Cell) → ((j : Key) → cell_at ds j ≡ (if key_eq p.key j then locked p (cell_at cs j) else cell_at cs j)) → (j : Key) → all_locked (reverse rest) (cell_at ds j) ≡ all_locked (reverse before) (cell_at cs j)
@@ -82,8 +94,8 @@ pushed_one done next o e some grows = grows ∙ ap (λ x. done ++ option_to_list
 pub pushed_none : (done next : List KeyError) (o : Option KeyError) → o ≡ None → next ≡ done → next ≡ done ++ option_to_list o
 pushed_none done next o none same = same ∙ (sym (append-nil done) ∙ ap (λ x. done ++ option_to_list x) (sym none))
 
-pub placings_more : (r : PrewriteRequest) (ms : List Mutation) (i : ℕ) (m : Mutation) → i < length ms → m ≡ get_or ms i m → placings r (drop i ms) ≡ placing_of r m (kind_of m.op) ++ placings r (drop (i + 1) ms)
-placings_more r ms i m l e = ap (placings r) (drop_more ms i m l ∙ ap (λ x. x ∷ drop (i + 1) ms) (sym e))
+pub placings_more : (r : PrewriteRequest) (n : ℕ) (ms : List Mutation) (i : ℕ) (m : Mutation) → i < length ms → m ≡ get_or ms i m → placings r n (drop i ms) ≡ placing_of r n m (kind_of m.op) ++ placings r n (drop (i + 1) ms)
+placings_more r n ms i m l e = ap (placings r n) (drop_more ms i m l ∙ ap (λ x. x ∷ drop (i + 1) ms) (sym e))
 
 -- the mutations of a cell
 
@@ -91,60 +103,24 @@ all_locked-append : (ps qs : List Placing) (c : Cell) → all_locked (ps ++ qs) 
 all_locked-append [] qs c = refl
 all_locked-append (p ∷ ps) qs c = all_locked-append ps qs (if key_eq p.key c.key then locked p c else c)
 
-one_placed : (r : PrewriteRequest) (m : Mutation) (o : Option Kind) (c : Cell) → all_locked (placing_of r m o) c ≡ (if key_eq m.key c.key then placed r m.value o c else c)
-one_placed r m None c = by (key_eq m.key c.key)
+one_placed : (r : PrewriteRequest) (n : ℕ) (m : Mutation) (o : Option Kind) (c : Cell) → all_locked (placing_of r n m o) c ≡ (if key_eq m.key c.key then placed r n m.value o c else c)
+one_placed r n m None c = by (key_eq m.key c.key)
   where
     by : (b : Bool) → c ≡ (if b then c else c)
     by true = refl
     by false = refl
-one_placed r m (Some kind) c = refl
+one_placed r n m (Some kind) c = refl
 
 -- the locks that are made ready do what the mutations do
-pub all_locked_is : (r : PrewriteRequest) (ms : List Mutation) (c : Cell) → all_locked (placings r ms) c ≡ prewrite_cell r ms c
-all_locked_is r [] c = refl
-all_locked_is r (m ∷ ms) c =
-    all_locked-append (placing_of r m (kind_of m.op)) (placings r ms) c
-    ∙ (ap (all_locked (placings r ms)) (one_placed r m (kind_of m.op) c)
-    ∙ all_locked_is r ms (if key_eq m.key c.key then placed r m.value (kind_of m.op) c else c))
-
-placed_key : (r : PrewriteRequest) (v : List ℕ) (o : Option Kind) (c : Cell) → (placed r v o c).key ≡ c.key
-placed_key r v None c = refl
-placed_key r v (Some kind) c = by (owns c.lock r.start_version)
-  where
-    by : (b : Bool) → (if b then c else record { key = c.key; lock = Some (Rattle.txn_model.specs.Prewrite.lock_of r v kind); commits = c.commits; rolled = c.rolled }).key ≡ c.key
-    by true = refl
-    by false = refl
-
-if_key : (b : Bool) (x y : Cell) → x.key ≡ y.key → (if b then x else y).key ≡ y.key
-if_key true x y e = e
-if_key false x y e = refl
-
-pub prewrite_key : (r : PrewriteRequest) (ms : List Mutation) → KeepsKeys (prewrite_cell r ms)
-prewrite_key r [] c = refl
-prewrite_key r (m ∷ ms) c = prewrite_key r ms (if key_eq m.key c.key then placed r m.value (kind_of m.op) c else c) ∙ if_key (key_eq m.key c.key) (placed r m.value (kind_of m.op) c) c (placed_key r m.value (kind_of m.op) c)
-
--- the cell of another key stays
-pub prewrite_other : (r : PrewriteRequest) (ms : List Mutation) (c : Cell) → has_key (mutation_keys ms) c.key ≡ false → prewrite_cell r ms c ≡ c
-prewrite_other r [] c h = refl
-prewrite_other r (m ∷ ms) c h = by (key_eq m.key c.key) h (prewrite_other r ms c)
-  where
-    by : (b : Bool) → (b || has_key (mutation_keys ms) c.key) ≡ false → (has_key (mutation_keys ms) c.key ≡ false → prewrite_cell r ms c ≡ c) → prewrite_cell r ms (if b then placed r m.value (kind_of m.op) c else c) ≡ c
-    by true h later = absurd (cc)
-    by false h later = later h
-
-pub prewritten : (r : PrewriteRequest) (ms : List Mutation) (cs : List Cell) (j : Key) → (if has_key (mutation_keys ms) j then prewrite_cell r ms (cell_at cs j) else cell_at cs j) ≡ prewrite_cell r ms (cell_at cs j)
-prewritten r ms cs j = by (has_key (mutation_keys ms) j) refl
-  where
-    by : (b : Bool) → has_key (mutation_keys ms) j ≡ b → (if b then prewrite_cell r ms (cell_at cs j) else cell_at cs j) ≡ prewrite_cell r ms (cell_at cs j)
-    by true e = refl
-    by false e = sym (prewrite_other r ms (cell_at cs j) (ap (has_key (mutation_keys ms)) (key_of_cell cs j) ∙ e))
+pub all_locked_is : (r : PrewriteRequest) (n : ℕ) (ms : List Mutation) (c : Cell) → all_locked (placings r n ms) c ≡ prewrite_cell r n ms c
+all_locked_is r n [] c = refl
+all_locked_is r n (m ∷ ms) c =
+    all_locked-append (placing_of r n m (kind_of m.op)) (placings r n ms) c
+    ∙ (ap (all_locked (placings r n ms)) (one_placed r n m (kind_of m.op) c)
+    ∙ all_locked_is r n ms (if key_eq m.key c.key then placed r n m.value (kind_of m.op) c else c))
 
 -- cells that show at each key what the locks make of it are those of the table
-pub locked_is_changed : (r : PrewriteRequest) (cs ds : List Cell) → AreKept cs → AreKept ds → ((j : Key) → cell_at ds j ≡ all_locked (placings r r.mutations) (cell_at cs j)) → ds ≡ changed_at (mutation_keys r.mutations) (prewrite_cell r r.mutations) cs
-locked_is_changed r cs ds old new locks =
-    let keys = mutation_keys r.mutations in
-    let f = prewrite_cell r r.mutations in
-    let keeps = prewrite_key r r.mutations in
-    let after = kept_changed keys f keeps cs old.in_order in
-    same_cells ds (changed_at keys f cs) new.in_order new.none_empty after.in_order after.none_empty
-    (λ j. locks j ∙ (all_locked_is r r.mutations (cell_at cs j) ∙ sym (cell_changed keys f keeps cs old.in_order j ∙ prewritten r r.mutations cs j)))
+pub locked_is_changed : (r : PrewriteRequest) (n : ℕ) (cs ds : List Cell) → AreKept cs → AreKept ds → ((j : Key) → cell_at ds j ≡ all_locked (placings r n r.mutations) (cell_at cs j)) → ds ≡ changed_at (mutation_keys r.mutations) (prewrite_cell r n r.mutations) cs
+locked_is_changed r n cs ds old new locks =
+    changes_are (mutation_keys r.mutations) (prewrite_cell r n r.mutations) (prewrite_key r n r.mutations) cs ds old new
+    (λ j. locks j ∙ (all_locked_is r n r.mutations (cell_at cs j) ∙ sym (folded (place r n) r.mutations cs j)))

@@ -1,10 +1,9 @@
 -- The cells of every key stay orderly under what the functions of this crate do to them.
-use Rattle.std.proofs.Common.{◌≡◌, ℕ, suc, zero, ◌<◌, Bool, true, false, List, [], ◌∷◌, length, get_or, None, nat_lt, refl, sym, ap, ◌∙◌, subst, arith}
+use Rattle.std.proofs.Common.{◌≡◌, ◌⊎◌, inl, inr, ℕ, suc, zero, ◌<◌, Bool, true, false, List, [], ◌∷◌, length, get_or, nat_lt, refl, sym, ap, ◌∙◌, subst, arith}
 use Rattle.std.specs.Prelude.{if◌then◌else◌}
 use Rattle.txn_kv.specs.declared.message.TxnInfo.{TxnInfo}
 use Rattle.txn_kv.specs.declared.request.PessimisticLockRequest.{PessimisticLockRequest}
 use Rattle.txn_kv.specs.declared.request.PrewriteRequest.{PrewriteRequest}
-use Rattle.txn_kv.specs.declared.request.Request.TheVariants.{Prewrite}
 use Rattle.txn_kv.specs.declared.request.ResolveLockRequest.{ResolveLockRequest}
 use Rattle.txn_model.specs.declared.cell.Cell.{Cell}
 use Rattle.txn_model.specs.declared.region.StoredRegion.{StoredRegion}
@@ -16,7 +15,7 @@ use Rattle.txn_model.specs.Destroy.{cells_outside}
 use Rattle.txn_model.specs.Locks.{owns}
 use Rattle.txn_model.specs.Orderly.{CommitsAscend, IsOrderly, AreOrderly}
 use Rattle.txn_model.specs.PessimisticLock.{raised_lock, locked_for_update}
-use Rattle.txn_model.specs.Prewrite.{prewrite_errors, prewrite_cell, mutation_keys}
+use Rattle.txn_model.specs.Prewrite.{prewrite_errors, prewrite_cell, land_cell, mutation_keys}
 use Rattle.txn_model.specs.Places.{IsAt}
 use Rattle.txn_model.specs.Ranges.{in_range, cells_in}
 use Rattle.txn_model.specs.Resolve.{infos, settled, all_settled, is_in_context}
@@ -31,8 +30,10 @@ use Rattle.txn_model.proofs.Keys.{same_key}
 use Rattle.txn_model.proofs.PlacesInOrder.{cell_found}
 use Rattle.txn_model.proofs.Ruling.{rule_keeps_keys}
 use Rattle.txn_model.proofs.Settled.{in_region_keys}
-use Rattle.txn_model.proofs.StepRows.{in_region, region_none, outside_at, raised_kind, row_prewrite}
-use Rattle.txn_model.proofs.Steps.{orderly_none, orderly_rolled, orderly_committed, orderly_released, orderly_held, orderly_after}
+use Rattle.txn_model.proofs.StepRows.{in_region, region_none, outside_at, raised_kind}
+use Rattle.txn_model.proofs.Steps.{orderly_none, orderly_rolled, orderly_committed, orderly_released, orderly_held, orderly_placed, orderly_landed}
+use Rattle.txn_model.proofs.Folding.{prewrite_key, land_key}
+use Rattle.txn_model.proofs.Opening.{IsPlaced, IsLanded, key_placed, key_landed}
 use Rattle.txn_model.proofs.Unlocking.{commit_key_same}
 
 orderly_if : (b : Bool) (c d : Cell) → IsOrderly c → IsOrderly d → IsOrderly (if b then c else d)
@@ -114,8 +115,26 @@ commits_at cs i c o ordered l e =
     any_cell (x ∷ xs) zero a b m = refl
     any_cell (x ∷ xs) (suc j) a b m = any_cell xs j a b (omega arith)
 
--- where no mutation has an error, the prewrite locks keep cells orderly
-pub orderly_prewrites : (r : PrewriteRequest) (cs : List Cell) → AreInOrder cs → AreOrderly cs → prewrite_errors cs r r.mutations r.is_pessimistic_lock ≡ [] → AreOrderly (changed_at (mutation_keys r.mutations) (prewrite_cell r r.mutations) cs)
-orderly_prewrites r cs o i free k =
-    let st : Store = record opening { cells = cs } in
-    orderly_after st (Prewrite r) k (cell_at cs k) (cell_at (changed_at (mutation_keys r.mutations) (prewrite_cell r r.mutations) cs) k) (i k) (row_prewrite st r o None [] free k)
+-- where no mutation has an error, the prewrite locks keep cells orderly, and so do commits that are made at once
+module _ (r : PrewriteRequest) (n : ℕ) (cs : List Cell) (o : AreInOrder cs) (i : AreOrderly cs) (free : prewrite_errors cs r r.mutations r.is_pessimistic_lock ≡ []) where
+  pub orderly_prewrites : AreOrderly (changed_at (mutation_keys r.mutations) (prewrite_cell r n r.mutations) cs)
+  orderly_prewrites k = subst IsOrderly (sym (cell_changed (mutation_keys r.mutations) (prewrite_cell r n r.mutations) (prewrite_key r n r.mutations) cs o k)) (by (has_key (mutation_keys r.mutations) k) refl)
+    where
+      here : (prewrite_cell r n r.mutations (cell_at cs k) ≡ cell_at cs k) ⊎ IsPlaced r (cell_at cs k) (prewrite_cell r n r.mutations (cell_at cs k)) → IsOrderly (prewrite_cell r n r.mutations (cell_at cs k))
+      here (inl e) = subst IsOrderly (sym e) (i k)
+      here (inr p) = subst IsOrderly (sym p.so) (orderly_placed p.lock (cell_at cs k) p.opened (i k))
+
+      by : (b : Bool) → has_key (mutation_keys r.mutations) k ≡ b → IsOrderly (if b then prewrite_cell r n r.mutations (cell_at cs k) else cell_at cs k)
+      by true e = here (key_placed r n cs free k e)
+      by false e = i k
+
+  pub orderly_lands : r.try_one_pc ≡ true → AreOrderly (changed_at (mutation_keys r.mutations) (land_cell r n r.mutations) cs)
+  orderly_lands once k = subst IsOrderly (sym (cell_changed (mutation_keys r.mutations) (land_cell r n r.mutations) (land_key r n r.mutations) cs o k)) (by (has_key (mutation_keys r.mutations) k) refl)
+    where
+      here : (land_cell r n r.mutations (cell_at cs k) ≡ cell_at cs k) ⊎ IsLanded r n (cell_at cs k) (land_cell r n r.mutations (cell_at cs k)) → IsOrderly (land_cell r n r.mutations (cell_at cs k))
+      here (inl e) = subst IsOrderly (sym e) (i k)
+      here (inr p) = subst IsOrderly (sym p.so) (orderly_landed p.lock n (cell_at cs k) p.opened p.unowned (i k))
+
+      by : (b : Bool) → has_key (mutation_keys r.mutations) k ≡ b → IsOrderly (if b then land_cell r n r.mutations (cell_at cs k) else cell_at cs k)
+      by true e = here (key_landed r n cs free k e once)
+      by false e = i k

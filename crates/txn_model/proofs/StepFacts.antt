@@ -12,11 +12,11 @@ use Rattle.txn_model.specs.Locks.{has_start, is_prewrite, owns, holds, commit_of
 use Rattle.txn_model.specs.Orderly.{IsOrderly}
 use Rattle.txn_model.specs.Settle.{rolled_back, released}
 use Rattle.txn_model.specs.Status.{longer_lived}
-use Rattle.txn_model.specs.Steps.{PrewritesAt, CommitsAt, RollsBackAt, ReleasesAt, DestroysAt, StandsOn, commit_from, PrewriteLockBecomes, PessimisticLockBecomes}
+use Rattle.txn_model.specs.Steps.{PrewritesAt, LandsAt, CommitsAt, RollsBackAt, ReleasesAt, DestroysAt, StandsOn, commit_from, PrewriteLockBecomes, PessimisticLockBecomes}
 use Rattle.txn_model.specs.Store.{Store}
 use Rattle.txn_model.proofs.Orders.{has_with_start, commit_of_with}
 use Rattle.txn_model.proofs.Steps.{CellStep, held, placed_lock}
-use Rattle.txn_model.proofs.Steps.CellStep.{Same, Places, Recorded, Made, Released, Held, Renewed, Destroyed}
+use Rattle.txn_model.proofs.Steps.CellStep.{Same, Places, Lands, Recorded, Made, Released, Held, Renewed, Destroyed}
 
 -- What stays.
 
@@ -62,6 +62,7 @@ module _ (st : Store) (r : Request) (k : Key) (c d : Cell) (i : IsOrderly c) (st
           on : (b : Bool) → commit_of (if b then c else held l c).commits s ≡ Some w
           on true = h
           on false = h
+      by x (Lands l n a e v) = inl (let none = a.uncommitted e in let more = commit_of_with (record { start = l.start; commit = n; kind = l.kind; value = l.value }) c.commits s none in grind (arith, nat_tests))
       by x (Recorded t v) = inl h
       by x (Made t n v) = inl (by_commit (λ y. commit_of y.commits s ≡ Some w) t n c h (λ l e f p.
           let u : owns c.lock t ≡ true = grind (arith, nat_tests) in
@@ -84,6 +85,7 @@ module _ (st : Store) (r : Request) (k : Key) (c d : Cell) (i : IsOrderly c) (st
           on : (b : Bool) → has_start (if b then c else held l c).rolled s ≡ true
           on true = h
           on false = h
+      by x (Lands l n a e v) = inl h
       by x (Recorded t v) = inl (has_with_start t c.rolled s ∙ on (nat_eq t s))
         where
           on : (b : Bool) → (b || has_start c.rolled s) ≡ true
@@ -97,21 +99,38 @@ module _ (st : Store) (r : Request) (k : Key) (c d : Cell) (i : IsOrderly c) (st
 
   -- What comes.
 
-  -- a commit comes of an own prewrite lock, by a request that commits it
-  pub commit_comes : (s : ℕ) (w : Write) → commit_of d.commits s ≡ Some w → (commit_of c.commits s ≡ Some w) ⊎ ((l : Lock) × (c.lock ≡ Some l) × (is_prewrite l.kind ≡ true) × (w ≡ commit_from l w.commit) × (l.start ≡ s) × CommitsAt st r k s w.commit)
+  -- a commit that is there was there; or comes of an own prewrite lock, by a request that commits it; or is made at once,
+  -- where its start was neither rolled back nor locked nor committed
+  abbrev CommitComes : ℕ → Write → Type 0
+  CommitComes s w =
+      (commit_of c.commits s ≡ Some w)
+      ⊎ ((l : Lock) × (c.lock ≡ Some l) × (is_prewrite l.kind ≡ true) × (w ≡ commit_from l w.commit) × (l.start ≡ s) × CommitsAt st r k s w.commit)
+      ⊎ (LandsAt st r k s w.commit × (has_start c.rolled s ≡ false) × (owns c.lock s ≡ false) × (commit_of c.commits s ≡ None))
+
+  pub commit_comes : (s : ℕ) (w : Write) → commit_of d.commits s ≡ Some w → CommitComes s w
   commit_comes s w h = by d step h
     where
-      by : (x : Cell) → CellStep st r k c x → commit_of x.commits s ≡ Some w → (commit_of c.commits s ≡ Some w) ⊎ ((l : Lock) × (c.lock ≡ Some l) × (is_prewrite l.kind ≡ true) × (w ≡ commit_from l w.commit) × (l.start ≡ s) × CommitsAt st r k s w.commit)
+      by : (x : Cell) → CellStep st r k c x → commit_of x.commits s ≡ Some w → CommitComes s w
       by x Same g = inl g
       by x (Places l p a v) g = inl (on (owns c.lock l.start) g)
         where
           on : (b : Bool) → commit_of (if b then c else held l c).commits s ≡ Some w → commit_of c.commits s ≡ Some w
           on true q = q
           on false q = q
-      by x (Recorded t v) g = inl g
-      by x (Made t n v) g = by_commit (λ y. commit_of y.commits s ≡ Some w → (commit_of c.commits s ≡ Some w) ⊎ ((l : Lock) × (c.lock ≡ Some l) × (is_prewrite l.kind ≡ true) × (w ≡ commit_from l w.commit) × (l.start ≡ s) × CommitsAt st r k s w.commit)) t n c (λ q. inl q) (λ l e f p q. on l e f p q) g
+      by x (Lands l n a e v) g = on (nat_eq l.start s) refl (sym (commit_of_with (record { start = l.start; commit = n; kind = l.kind; value = l.value }) c.commits s (a.uncommitted e)) ∙ g)
         where
-          on : (l : Lock) → c.lock ≡ Some l → l.start ≡ t → is_prewrite l.kind ≡ true → commit_of (with_commit (record { start = t; commit = n; kind = l.kind; value = l.value }) c.commits) s ≡ Some w → (commit_of c.commits s ≡ Some w) ⊎ ((m : Lock) × (c.lock ≡ Some m) × (is_prewrite m.kind ≡ true) × (w ≡ commit_from m w.commit) × (m.start ≡ s) × CommitsAt st r k s w.commit)
+          on : (b : Bool) → nat_eq l.start s ≡ b → cond b (Some (record { start = l.start; commit = n; kind = l.kind; value = l.value })) (commit_of c.commits s) ≡ Some w → CommitComes s w
+          on true z q =
+              let same : l.start ≡ s = grind (arith, nat_tests) in
+              let is : (let x : Write = record { start = l.start; commit = n; kind = l.kind; value = l.value } in x) ≡ w = cc in
+              let at : n ≡ w.commit = ap (λ (x : Write). x.commit) is in
+              let was = subst (λ t. (has_start c.rolled t ≡ false) × (owns c.lock t ≡ false) × (commit_of c.commits t ≡ None)) same (a.unrolled, e, a.uncommitted e) in
+              inr (inr (subst (λ t. LandsAt st r k s t) at (subst (λ t. LandsAt st r k t n) same v), was.0, was.1, was.2))
+          on false z q = inl q
+      by x (Recorded t v) g = inl g
+      by x (Made t n v) g = by_commit (λ y. commit_of y.commits s ≡ Some w → CommitComes s w) t n c (λ q. inl q) (λ l e f p q. on l e f p q) g
+        where
+          on : (l : Lock) → c.lock ≡ Some l → l.start ≡ t → is_prewrite l.kind ≡ true → commit_of (with_commit (record { start = t; commit = n; kind = l.kind; value = l.value }) c.commits) s ≡ Some w → CommitComes s w
           on l e f p q =
               let new : Write = record { start = t; commit = n; kind = l.kind; value = l.value } in
               let u : owns c.lock t ≡ true = grind (arith, nat_tests) in
@@ -119,15 +138,15 @@ module _ (st : Store) (r : Request) (k : Key) (c d : Cell) (i : IsOrderly c) (st
               let more : cond (nat_eq t s) (Some new) (commit_of c.commits s) ≡ Some w = sym (commit_of_with new c.commits s none) ∙ q in
               which (nat_eq t s) refl more
             where
-              which : (b : Bool) → nat_eq t s ≡ b → cond b (Some (record { start = t; commit = n; kind = l.kind; value = l.value })) (commit_of c.commits s) ≡ Some w → (commit_of c.commits s ≡ Some w) ⊎ ((m : Lock) × (c.lock ≡ Some m) × (is_prewrite m.kind ≡ true) × (w ≡ commit_from m w.commit) × (m.start ≡ s) × CommitsAt st r k s w.commit)
+              which : (b : Bool) → nat_eq t s ≡ b → cond b (Some (record { start = t; commit = n; kind = l.kind; value = l.value })) (commit_of c.commits s) ≡ Some w → CommitComes s w
               which true z o =
                   let same : t ≡ s = grind (arith, nat_tests) in
                   let is : (let x : Write = record { start = t; commit = n; kind = l.kind; value = l.value } in x) ≡ w = cc in
                   let at : n ≡ w.commit = ap (λ (x : Write). x.commit) is in
                   let writes : commit_from l n ≡ w = ap (λ z. let x : Write = record { start = z; commit = n; kind = l.kind; value = l.value } in x) f ∙ is in
-                  inr (l, e, p, sym writes ∙ ap (commit_from l) at, f ∙ same, subst (λ m. CommitsAt st r k s m) at (subst (λ z. CommitsAt st r k z n) same v))
+                  inr (inl (l, e, p, sym writes ∙ ap (commit_from l) at, f ∙ same, subst (λ m. CommitsAt st r k s m) at (subst (λ z. CommitsAt st r k z n) same v)))
               which false z o = inl o
-      by x (Released t v) g = by_release (λ y. commit_of y.commits s ≡ Some w → (commit_of c.commits s ≡ Some w) ⊎ ((l : Lock) × (c.lock ≡ Some l) × (is_prewrite l.kind ≡ true) × (w ≡ commit_from l w.commit) × (l.start ≡ s) × CommitsAt st r k s w.commit)) t c (λ q. inl q) (λ l e f p q. inl q) g
+      by x (Released t v) g = by_release (λ y. commit_of y.commits s ≡ Some w → CommitComes s w) t c (λ q. inl q) (λ l e f p q. inl q) g
       by x (Held l p a v) g = inl g
       by x (Renewed l n e) g = inl g
       by x (Destroyed v) g = absurd (cc)
@@ -143,6 +162,7 @@ module _ (st : Store) (r : Request) (k : Key) (c d : Cell) (i : IsOrderly c) (st
           on : (b : Bool) → has_start (if b then c else held l c).rolled s ≡ true → has_start c.rolled s ≡ true
           on true q = q
           on false q = q
+      by x (Lands l n a e v) g = inl g
       by x (Recorded t v) g = on (nat_eq t s) refl (sym (has_with_start t c.rolled s) ∙ g)
         where
           on : (b : Bool) → nat_eq t s ≡ b → (b || has_start c.rolled s) ≡ true → (has_start c.rolled s ≡ true) ⊎ RollsBackAt st r k s
@@ -167,6 +187,7 @@ module _ (st : Store) (r : Request) (k : Key) (c d : Cell) (i : IsOrderly c) (st
           on false e q =
               let same : l.start ≡ s = grind (arith, nat_tests) in
               inr (subst (λ z. PrewritesAt r k z × (has_start c.rolled z ≡ false) × (commit_of c.commits z ≡ None)) same (v, a.unrolled, a.uncommitted e))
+      by x (Lands l n a e v) g = absurd (cc)
       by x (Recorded t v) g = inl (on c.lock refl g)
         where
           on : (o : Option Lock) → c.lock ≡ o → owns (if holds o t then None else o) s ≡ true → owns c.lock s ≡ true
@@ -185,7 +206,7 @@ module _ (st : Store) (r : Request) (k : Key) (c d : Cell) (i : IsOrderly c) (st
   -- What becomes of locks.
 
   stands_same : (l : Lock) (x : Cell) → x.lock ≡ Some l → StandsOn l x
-  stands_same l x e = record { lock = l; here = e; start = refl; primary = refl; kind = refl; value = refl; min_commit = refl }
+  stands_same l x e = record { lock = l; here = e; start = refl; primary = refl; kind = refl; value = refl; min_commit = refl; use_async = refl; secondaries = refl }
 
   pub prewrite_becomes : (l : Lock) → c.lock ≡ Some l → is_prewrite l.kind ≡ true → PrewriteLockBecomes st r k l d
   prewrite_becomes l e p = by d step
@@ -197,6 +218,7 @@ module _ (st : Store) (r : Request) (k : Key) (c d : Cell) (i : IsOrderly c) (st
           let own : owns c.lock n.start ≡ true = rw e (grind (arith, nat_tests)) in
           let is : placed_lock n c ≡ c = rw own refl in
           subst (PrewriteLockBecomes st r k l) (sym is) (inl (stands_same l c e))
+      by x (Lands n t a f v) = absurd (let start = a.unlocked l e in let own : owns c.lock n.start ≡ true = rw e (grind (arith, nat_tests)) in cc)
       by x (Recorded s v) = on (nat_eq l.start s) refl
         where
           on : (b : Bool) → nat_eq l.start s ≡ b → PrewriteLockBecomes st r k l (rolled_back s c)
@@ -220,7 +242,7 @@ module _ (st : Store) (r : Request) (k : Key) (c d : Cell) (i : IsOrderly c) (st
       by x (Held m q a v) = absurd (let z = (a l e).1 in cc)
       by x (Renewed m n f) =
           let same : m ≡ l = cc in
-          inl (record { lock = longer_lived n m; here = refl; start = ap (λ (y : Lock). y.start) same; primary = ap (λ (y : Lock). y.primary) same; kind = ap (λ (y : Lock). y.kind) same; value = ap (λ (y : Lock). y.value) same; min_commit = ap (λ (y : Lock). y.min_commit) same })
+          inl (record { lock = longer_lived n m; here = refl; start = ap (λ (y : Lock). y.start) same; primary = ap (λ (y : Lock). y.primary) same; kind = ap (λ (y : Lock). y.kind) same; value = ap (λ (y : Lock). y.value) same; min_commit = ap (λ (y : Lock). y.min_commit) same; use_async = ap (λ (y : Lock). y.use_async) same; secondaries = ap (λ (y : Lock). y.secondaries) same })
       by x (Destroyed v) = inr (inr (inr v))
 
   pub pessimistic_becomes : (l : Lock) → c.lock ≡ Some l → is_prewrite l.kind ≡ false → PessimisticLockBecomes st r k l d
@@ -240,18 +262,23 @@ module _ (st : Store) (r : Request) (k : Key) (c d : Cell) (i : IsOrderly c) (st
           let here : PessimisticLockBecomes st r k l (held n c) = inl (grind (arith, nat_tests), λ g. subst (λ z. PrewritesAt r k z) (sym start) v) in
           let is : placed_lock n c ≡ held n c = rw own refl in
           subst (PessimisticLockBecomes st r k l) (sym is) here
+      by x (Lands n t a f v) =
+          let start = a.unlocked l e in
+          let w : Write = record { start = n.start; commit = t; kind = n.kind; value = n.value } in
+          let there : commit_of (with_commit w c.commits) l.start ≡ Some w = commit_of_with w c.commits l.start (a.uncommitted f) ∙ grind (arith, nat_tests) in
+          inr (inl (w, subst (λ z. LandsAt st r k z t) (sym start) v, there))
       by x (Recorded s v) = on (nat_eq l.start s) refl
         where
           on : (b : Bool) → nat_eq l.start s ≡ b → PessimisticLockBecomes st r k l (rolled_back s c)
           on true f =
               let same : s ≡ l.start = grind (arith, nat_tests) in
-              inr (inl (subst (λ z. RollsBackAt st r k z) same v, has_with_start s c.rolled l.start ∙ grind (arith, nat_tests)))
+              inr (inr (inl (subst (λ z. RollsBackAt st r k z) same v, has_with_start s c.rolled l.start ∙ grind (arith, nat_tests))))
           on false f = stays (rolled_back s c) (rw (e, f) refl)
       by x (Made s n v) = by_commit (PessimisticLockBecomes st r k l) s n c (stays c e) (λ m f g q. absurd (let same : l ≡ m = cc in let z : is_prewrite m.kind ≡ false = subst (λ (y : Lock). is_prewrite y.kind ≡ false) same p in cc))
       by x (Released s v) = by_release (PessimisticLockBecomes st r k l) s c (stays c e) (λ m f g q.
           let same : m ≡ l = cc in
           let start : s ≡ l.start = sym g ∙ ap (λ (y : Lock). y.start) same in
-          inr (inr (inl (subst (λ z. ReleasesAt st r k z) start v, refl))))
+          inr (inr (inr (inl (subst (λ z. ReleasesAt st r k z) start v, refl)))))
       by x (Held m q a v) =
           let start = (a l e).0 in
           inl (grind (arith, nat_tests), λ g. absurd (on (nat_eq m.start l.start) g))
@@ -268,7 +295,7 @@ module _ (st : Store) (r : Request) (k : Key) (c d : Cell) (i : IsOrderly c) (st
           on : (b : Bool) → is_prewrite m.kind ≡ false → (b && is_prewrite m.kind) ≡ true → ⊥
           on true a g = cc
           on false a g = cc
-      by x (Destroyed v) = inr (inr (inr v))
+      by x (Destroyed v) = inr (inr (inr (inr v)))
 
   -- a start that is rolled back gets neither a prewrite lock nor a commit
   pub rolled_gets_nothing : (s : ℕ) → has_start c.rolled s ≡ true → (owns d.lock s ≡ false) × (commit_of c.commits s ≡ None → commit_of d.commits s ≡ None)
@@ -285,5 +312,6 @@ module _ (st : Store) (r : Request) (k : Key) (c d : Cell) (i : IsOrderly c) (st
       commit None e n = refl
       commit (Some w) e n = absurd (elim (commit_comes s w e) [
         | inl g ↦ cc
-        | inr g ↦ unowned (let a = g.1 in let b = g.2 in let f = g.4 in grind (arith, nat_tests))
+        | inr (inl g) ↦ unowned (let a = g.1 in let b = g.2 in let f = g.4 in grind (arith, nat_tests))
+        | inr (inr g) ↦ (let f = g.1 in cc)
       ])

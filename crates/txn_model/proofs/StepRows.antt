@@ -1,12 +1,11 @@
 -- Each row of the request table changes the cell of each key by a step that its request may make.
-use Rattle.std.proofs.Common.{◌≡◌, ℕ, ◌⊎◌, inl, inr, Bool, true, false, not, ◌&&◌, ◌||◌, List, [], ◌∷◌, ◌++◌, Option, Some, None, nat_eq, nat_lt, refl, sym, ap, ◌∙◌, subst, arith}
-use Rattle.std.specs.Prelude.{if◌then◌else◌, option_to_list, drop}
+use Rattle.std.proofs.Common.{◌≡◌, ℕ, ◌⊎◌, inl, inr, Bool, true, false, not, ◌&&◌, ◌||◌, List, [], ◌∷◌, Option, Some, None, nat_eq, nat_lt, refl, sym, ap, ◌∙◌, subst, arith}
+use Rattle.std.specs.Prelude.{if◌then◌else◌}
 use Rattle.std.specs.List.{filter_map, cons_option}
 use Rattle.std.proofs.lemmas.Bool.Decides.{nat_tests}
 use Rattle.txn_kv.specs.declared.message.KeyError.{KeyError}
 use Rattle.txn_kv.specs.declared.message.KeyError.TheVariants as errors
 use Rattle.txn_kv.specs.declared.message.Mutation.{Mutation}
-use Rattle.txn_kv.specs.declared.message.Op.{Op}
 use Rattle.txn_kv.specs.declared.message.RegionErr.{RegionErr}
 use Rattle.txn_kv.specs.declared.message.TxnInfo.{TxnInfo}
 use Rattle.txn_kv.specs.declared.request.Request.{Request}
@@ -27,7 +26,6 @@ use Rattle.txn_kv.specs.declared.request.ScanRequest.{ScanRequest}
 use Rattle.txn_kv.specs.declared.request.TxnHeartBeatRequest.{TxnHeartBeatRequest}
 use Rattle.txn_kv.specs.declared.request.UnsafeDestroyRangeRequest.{UnsafeDestroyRangeRequest}
 use Rattle.txn_model.specs.declared.cell.Cell.{Cell}
-use Rattle.txn_model.specs.declared.cell.Kind.{Kind}
 use Rattle.txn_model.specs.declared.cell.Lock.{Lock}
 use Rattle.txn_model.specs.declared.cell.Write.{Write}
 use Rattle.txn_model.specs.declared.rule.Rule.TheVariants.{RollBack, RollBackMissing, ReleaseUpTo}
@@ -37,24 +35,25 @@ use Rattle.txn_model.specs.Destroy.{cells_outside}
 use Rattle.txn_model.specs.Locks.{has_start, is_prewrite, owns, holds, commit_of, lock_info}
 use Rattle.txn_model.specs.PessimisticLock.{newest_conflict, held_conflict, pessimistic_error, pessimistic_errors, raised_lock, locked_for_update, pessimistic_lock_by}
 use Rattle.txn_model.specs.Placement.{region_check}
-use Rattle.txn_model.specs.Prewrite.{prewrite_error, lock_conflict, conflict, first_flag, prewrite_errors, kind_of, lock_of, placed, prewrite_cell, mutation_keys, prewrite_by}
+use Rattle.txn_model.specs.Prewrite.{least_bound, prewrite_errors, passed_commit, prewrite_cell, land_cell, prewritten_cells, landed_cells, mutation_keys, one_phase_by, locking_by, prewrite_by}
 use Rattle.txn_model.specs.Ranges.{in_range}
 use Rattle.txn_model.specs.Read.{get_by, batch_get_by, scan_by}
 use Rattle.txn_model.specs.Resolve.{infos, settled, all_settled, is_in_context, resolve_lock_by, scan_lock_by}
-use Rattle.txn_model.specs.Rollback.{batch_rollback_by, first_rollback_error, cleanup_by, pessimistic_rollback_by, released_by, is_for_update_by}
-use Rattle.txn_model.specs.Settle.{rolled_back, released, unlocked, mismatched_lock, lock_of_start}
+use Rattle.txn_model.specs.Rollback.{batch_rollback_by, first_rollback_error, cleanup_refusal, cleanup_by, pessimistic_rollback_by, released_by, is_for_update_by}
+use Rattle.txn_model.specs.Settle.{rolled_back, released, unlocked, lock_of_start}
 use Rattle.txn_model.specs.Status.{Finding, finding, status_cell, goes_unrecorded, check_txn_status_by, is_missing, missing_rolled_back, check_secondary_locks_by, longer_lived, with_lock, txn_heart_beat_by}
 use Rattle.txn_model.specs.Status.Finding.{Mismatched, Expired, Live, IsCommitted, IsRolledBack, Nothing}
 use Rattle.txn_model.specs.Steps.{has_info}
 use Rattle.txn_model.specs.Store.{Store}
 use Rattle.txn_model.specs.Table.{table}
 use Rattle.txn_model.proofs.CellLists.{KeepsKeys, key_of_cell, cell_changed, cell_each}
+use Rattle.txn_model.proofs.Folding.{prewrite_key, land_key}
 use Rattle.txn_model.proofs.Keys.{same_key}
-use Rattle.txn_model.proofs.Locking.{prewrite_key}
+use Rattle.txn_model.proofs.Opening.{IsPlaced, IsLanded, key_placed, key_landed}
 use Rattle.txn_model.proofs.Ruling.{rule_keeps_keys, status_keeps_keys}
 use Rattle.txn_model.proofs.Settled.{in_region_keys}
-use Rattle.txn_model.proofs.Steps.{CellStep, IsOpen, IsClear, held, placed_lock}
-use Rattle.txn_model.proofs.Steps.CellStep.{Same, Places, Recorded, Made, Released, Held, Renewed, Destroyed}
+use Rattle.txn_model.proofs.Steps.{CellStep, IsClear}
+use Rattle.txn_model.proofs.Steps.CellStep.{Same, Places, Lands, Recorded, Made, Released, Held, Renewed, Destroyed}
 use Rattle.txn_model.proofs.Unlocking.{commit_key_same}
 
 -- each cell goes by a step
@@ -81,91 +80,30 @@ only_key p k h = by (key_eq p k) refl h
 
 -- Prewrite
 
-no_commit : (r : PrewriteRequest) (m : Mutation) (flag held : Bool) (ws : List Write) (o : Option Write) → commit_of ws r.start_version ≡ o → conflict r m flag held ws ≡ None → commit_of ws r.start_version ≡ None
-no_commit r m flag held ws None e h = e
-no_commit r m flag held ws (Some w) e h = grind (arith, nat_tests)
+module _ (st : Store) (r : PrewriteRequest) (o : AreInOrder st.cells) (free : prewrite_errors st.cells r r.mutations r.is_pessimistic_lock ≡ []) where
+  row_locks : r.try_one_pc ≡ false → RowStep st (Prewrite r) (prewritten_cells st r)
+  row_locks later = row_changed st (Prewrite r) (mutation_keys r.mutations) (prewrite_cell r (least_bound st r) r.mutations) (prewrite_key r (least_bound st r) r.mutations) o (λ k a. by k a (key_placed r (least_bound st r) st.cells free k a))
+    where
+      by : (k : Key) → has_key (mutation_keys r.mutations) k ≡ true → (prewrite_cell r (least_bound st r) r.mutations (cell_at st.cells k) ≡ cell_at st.cells k) ⊎ IsPlaced r (cell_at st.cells k) (prewrite_cell r (least_bound st r) r.mutations (cell_at st.cells k)) → CellStep st (Prewrite r) k (cell_at st.cells k) (prewrite_cell r (least_bound st r) r.mutations (cell_at st.cells k))
+      by k a (inl e) = subst (CellStep st (Prewrite r) k (cell_at st.cells k)) (sym e) Same
+      by k a (inr p) = subst (CellStep st (Prewrite r) k (cell_at st.cells k)) (sym p.so) (Places p.lock p.kind p.opened (p.start, a, later))
 
--- a mutation without error finds its cell open
-open_cell : (r : PrewriteRequest) (m : Mutation) (flag : Bool) (c : Cell) → prewrite_error r m flag c ≡ None → IsOpen c r.start_version
-open_cell r m flag c h = by_rolled (has_start c.rolled r.start_version) refl h
+  row_lands : r.try_one_pc ≡ true → RowStep st (Prewrite r) (landed_cells st r)
+  row_lands once = row_changed st (Prewrite r) (mutation_keys r.mutations) (land_cell r (least_bound st r) r.mutations) (land_key r (least_bound st r) r.mutations) o (λ k a. by k a (key_landed r (least_bound st r) st.cells free k a once))
+    where
+      by : (k : Key) → has_key (mutation_keys r.mutations) k ≡ true → (land_cell r (least_bound st r) r.mutations (cell_at st.cells k) ≡ cell_at st.cells k) ⊎ IsLanded r (least_bound st r) (cell_at st.cells k) (land_cell r (least_bound st r) r.mutations (cell_at st.cells k)) → CellStep st (Prewrite r) k (cell_at st.cells k) (land_cell r (least_bound st r) r.mutations (cell_at st.cells k))
+      by k a (inl e) = subst (CellStep st (Prewrite r) k (cell_at st.cells k)) (sym e) Same
+      by k a (inr p) = subst (CellStep st (Prewrite r) k (cell_at st.cells k)) (sym p.so) (Lands p.lock (least_bound st r) p.opened p.unowned (p.start, refl, a, once))
+
+pub row_prewrite : (st : Store) (r : PrewriteRequest) → AreInOrder st.cells → (e : Option RegionErr) (es : List KeyError) (w : Option Write) → prewrite_errors st.cells r r.mutations r.is_pessimistic_lock ≡ es → RowStep st (Prewrite r) (prewrite_by e es w st r).store.cells
+row_prewrite st r o (Some e) es w h = row_same st (Prewrite r)
+row_prewrite st r o None (x ∷ xs) w h = row_same st (Prewrite r)
+row_prewrite st r o None [] w h = by r.try_one_pc refl w
   where
-    by_lock : has_start c.rolled r.start_version ≡ false → (o : Option Lock) → c.lock ≡ o → lock_conflict r m flag c.commits o ≡ None → IsOpen c r.start_version
-    by_lock a None e g = record {
-      unrolled = a;
-      uncommitted = λ f. no_commit r m flag false c.commits (commit_of c.commits r.start_version) refl g;
-      unlocked = λ l f. absurd (cc);
-    }
-    by_lock a (Some l) e g = by_own (nat_eq l.start r.start_version) (is_prewrite l.kind) refl refl g
-      where
-        by_own : (x y : Bool) → nat_eq l.start r.start_version ≡ x → is_prewrite l.kind ≡ y → (if x then (if y then None else conflict r m flag true c.commits) else Some (errors.Locked (lock_info m.key l))) ≡ None → IsOpen c r.start_version
-        by_own true true u v g = record { unrolled = a; uncommitted = λ f. grind (arith, nat_tests); unlocked = λ n f. grind (arith, nat_tests) }
-        by_own true false u v g = record { unrolled = a; uncommitted = λ f. no_commit r m flag true c.commits (commit_of c.commits r.start_version) refl g; unlocked = λ n f. grind (arith, nat_tests) }
-        by_own false y u v g = absurd (cc)
-
-    by_rolled : (x : Bool) → has_start c.rolled r.start_version ≡ x → (if x then Some (errors.Abort m.key r.start_version 0) else lock_conflict r m flag c.commits c.lock) ≡ None → IsOpen c r.start_version
-    by_rolled true e g = absurd (cc)
-    by_rolled false e g = by_lock e c.lock refl g
-
--- where no mutation has an error, the cell of each key is open
-open_key : (cs : List Cell) (r : PrewriteRequest) (ms : List Mutation) (fs : List Bool) (k : Key) → prewrite_errors cs r ms fs ≡ [] → has_key (mutation_keys ms) k ≡ true → IsOpen (cell_at cs k) r.start_version
-open_key cs r [] fs k h g = absurd (cc)
-open_key cs r (m ∷ ms) fs k h g = by_error (λ e f. open_key cs r ms (drop 1 fs) k e f) (prewrite_error r m (first_flag fs) (cell_at cs m.key)) (key_eq m.key k) refl refl h g
-  where
-    by_error : (prewrite_errors cs r ms (drop 1 fs) ≡ [] → has_key (mutation_keys ms) k ≡ true → IsOpen (cell_at cs k) r.start_version) → (o : Option KeyError) (b : Bool) → prewrite_error r m (first_flag fs) (cell_at cs m.key) ≡ o → key_eq m.key k ≡ b → option_to_list o ++ prewrite_errors cs r ms (drop 1 fs) ≡ [] → (b || has_key (mutation_keys ms) k) ≡ true → IsOpen (cell_at cs k) r.start_version
-    by_error rest (Some x) b e f u v = absurd (cc)
-    by_error rest None true e f u v = subst (λ q. IsOpen (cell_at cs q) r.start_version) (same_key m.key k f) (open_cell r m (first_flag fs) (cell_at cs m.key) e)
-    by_error rest None false e f u v = rest u v
-
-owned_mutation : (r : PrewriteRequest) (v : List ℕ) (o : Option Kind) (c : Cell) → owns c.lock r.start_version ≡ true → placed r v o c ≡ c
-owned_mutation r v None c h = refl
-owned_mutation r v (Some kind) c h = rw h refl
-
-owned_stays : (r : PrewriteRequest) (ms : List Mutation) (c : Cell) → owns c.lock r.start_version ≡ true → prewrite_cell r ms c ≡ c
-owned_stays r [] c h = refl
-owned_stays r (m ∷ ms) c h = ap (prewrite_cell r ms) (by (key_eq m.key c.key)) ∙ owned_stays r ms c h
-  where
-    by : (b : Bool) → (if b then placed r m.value (kind_of m.op) c else c) ≡ c
-    by true = owned_mutation r m.value (kind_of m.op) c h
-    by false = refl
-
-kind_prewrites : (o : Op) (kind : Kind) → kind_of o ≡ Some kind → is_prewrite kind ≡ true
-kind_prewrites o kind h = grind arith
-
--- the mutations leave the cell, or one of them locks it
-abbrev IsPlaced : PrewriteRequest → Cell → Cell → Type 0
-IsPlaced r c d = (d ≡ c) ⊎ ((l : Lock) × (l.start ≡ r.start_version) × (is_prewrite l.kind ≡ true) × (d ≡ placed_lock l c))
-
-prewrite_is : (r : PrewriteRequest) (ms : List Mutation) (c : Cell) → IsPlaced r c (prewrite_cell r ms c)
-prewrite_is r [] c = inl refl
-prewrite_is r (m ∷ ms) c = by_key (prewrite_is r ms c) (key_eq m.key c.key)
-  where
-    by_owner : (kind : Kind) → is_prewrite kind ≡ true → (b : Bool) → owns c.lock r.start_version ≡ b → IsPlaced r c (prewrite_cell r ms (placed r m.value (Some kind) c))
-    by_owner kind f true g = inl (ap (prewrite_cell r ms) (owned_mutation r m.value (Some kind) c g) ∙ owned_stays r ms c g)
-    by_owner kind f false g =
-        let l = lock_of r m.value kind in
-        let mine : owns (held l c).lock r.start_version ≡ true = grind (arith, nat_tests) in
-        let so : placed r m.value (Some kind) c ≡ held l c = rw g refl in
-        let also : placed_lock l c ≡ held l c = rw g refl in
-        inr (l, refl, f, ap (prewrite_cell r ms) so ∙ (owned_stays r ms (held l c) mine ∙ sym also))
-
-    by_kind : IsPlaced r c (prewrite_cell r ms c) → (o : Option Kind) → kind_of m.op ≡ o → IsPlaced r c (prewrite_cell r ms (placed r m.value o c))
-    by_kind rest None f = rest
-    by_kind rest (Some kind) f = by_owner kind (kind_prewrites m.op kind f) (owns c.lock r.start_version) refl
-
-    by_key : IsPlaced r c (prewrite_cell r ms c) → (b : Bool) → IsPlaced r c (prewrite_cell r ms (if b then placed r m.value (kind_of m.op) c else c))
-    by_key rest true = by_kind rest (kind_of m.op) refl
-    by_key rest false = rest
-
-pub row_prewrite : (st : Store) (r : PrewriteRequest) → AreInOrder st.cells → (e : Option RegionErr) (es : List KeyError) → prewrite_errors st.cells r r.mutations r.is_pessimistic_lock ≡ es → RowStep st (Prewrite r) (prewrite_by e es st r).store.cells
-row_prewrite st r o (Some e) es h = row_same st (Prewrite r)
-row_prewrite st r o None (x ∷ xs) h = row_same st (Prewrite r)
-row_prewrite st r o None [] h = row_changed st (Prewrite r) (mutation_keys r.mutations) (prewrite_cell r r.mutations) (prewrite_key r r.mutations) o (λ k a. by k a (prewrite_is r r.mutations (cell_at st.cells k)))
-  where
-    by : (k : Key) → has_key (mutation_keys r.mutations) k ≡ true → IsPlaced r (cell_at st.cells k) (prewrite_cell r r.mutations (cell_at st.cells k)) → CellStep st (Prewrite r) k (cell_at st.cells k) (prewrite_cell r r.mutations (cell_at st.cells k))
-    by k a (inl e) = subst (CellStep st (Prewrite r) k (cell_at st.cells k)) (sym e) Same
-    by k a (inr p) =
-        let free = open_key st.cells r r.mutations r.is_pessimistic_lock k h a in
-        subst (CellStep st (Prewrite r) k (cell_at st.cells k)) (sym p.3) (Places p.0 p.2 (subst (IsOpen (cell_at st.cells k)) (sym p.1) free) (p.1, a))
+    by : (b : Bool) → r.try_one_pc ≡ b → (v : Option Write) → RowStep st (Prewrite r) (if b then one_phase_by v st r else locking_by st r).store.cells
+    by true e (Some v) = row_same st (Prewrite r)
+    by true e None = row_lands st r o h e
+    by false e v = row_locks st r o h e
 
 -- PessimisticLock
 
@@ -346,9 +284,9 @@ row_batch_rollback st r o (Some e) x = row_same st (BatchRollback r)
 row_batch_rollback st r o None (Some x) = row_same st (BatchRollback r)
 row_batch_rollback st r o None None = row_changed st (BatchRollback r) r.keys (rolled_back r.start_version) (rule_keeps_keys (RollBack r.start_version)) o (λ k a. Recorded r.start_version (refl, a))
 
-row_cleanup : (st : Store) (r : CleanupRequest) → AreInOrder st.cells → (e : Option RegionErr) (l : Option Lock) (w : Option Write) → RowStep st (Cleanup r) (cleanup_by e l w st r).store.cells
-row_cleanup st r o (Some e) l w = row_same st (Cleanup r)
-row_cleanup st r o None (Some l) w = row_same st (Cleanup r)
+row_cleanup : (st : Store) (r : CleanupRequest) → AreInOrder st.cells → (e : Option RegionErr) (x : Option KeyError) (w : Option Write) → RowStep st (Cleanup r) (cleanup_by e x w st r).store.cells
+row_cleanup st r o (Some e) x w = row_same st (Cleanup r)
+row_cleanup st r o None (Some x) w = row_same st (Cleanup r)
 row_cleanup st r o None None (Some w) = row_same st (Cleanup r)
 row_cleanup st r o None None None = row_changed st (Cleanup r) (r.key ∷ []) (rolled_back r.start_version) (rule_keeps_keys (RollBack r.start_version)) o (λ k a. Recorded r.start_version (refl, only_key r.key k a))
 
@@ -406,9 +344,9 @@ pub row : (st : Store) (r : Request) → AreInOrder st.cells → RowStep st r (t
 row st (Get r) o = row_get st r (region_check st.regions r.context)
 row st (BatchGet r) o = row_batch_get st r (region_check st.regions r.context)
 row st (Scan r) o = row_scan st r (region_check st.regions r.context)
-row st (Prewrite r) o = row_prewrite st r o (region_check st.regions r.context) (prewrite_errors st.cells r r.mutations r.is_pessimistic_lock) refl
+row st (Prewrite r) o = row_prewrite st r o (region_check st.regions r.context) (prewrite_errors st.cells r r.mutations r.is_pessimistic_lock) (passed_commit st.cells r.start_version r.mutations) refl
 row st (Commit r) o = row_commit st r o (region_check st.regions r.context) (first_commit_error st.cells r r.keys)
-row st (Cleanup r) o = row_cleanup st r o (region_check st.regions r.context) (mismatched_lock r.key r.start_version (cell_at st.cells r.key).lock) (commit_of (cell_at st.cells r.key).commits r.start_version)
+row st (Cleanup r) o = row_cleanup st r o (region_check st.regions r.context) (cleanup_refusal r.key r.start_version (cell_at st.cells r.key).lock) (commit_of (cell_at st.cells r.key).commits r.start_version)
 row st (BatchRollback r) o = row_batch_rollback st r o (region_check st.regions r.context) (first_rollback_error st.cells r.start_version r.keys)
 row st (PessimisticRollback r) o = row_pessimistic_rollback st r o (region_check st.regions r.context)
 row st (PessimisticLock r) o = row_pessimistic_lock st r o (region_check st.regions r.context) (pessimistic_errors st.cells r) refl

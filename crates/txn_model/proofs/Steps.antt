@@ -12,7 +12,7 @@ use Rattle.txn_model.specs.Locks.{has_start, is_prewrite, owns, holds, commit_of
 use Rattle.txn_model.specs.Orderly.{IsOrderly}
 use Rattle.txn_model.specs.Settle.{with_start, rolled_back, released, unlocked}
 use Rattle.txn_model.specs.Status.{longer_lived, with_lock}
-use Rattle.txn_model.specs.Steps.{PrewritesAt, LocksAt, CommitsAt, RollsBackAt, ReleasesAt, DestroysAt}
+use Rattle.txn_model.specs.Steps.{PrewritesAt, LandsAt, LocksAt, CommitsAt, RollsBackAt, ReleasesAt, DestroysAt}
 use Rattle.txn_model.specs.Store.{Store}
 use Rattle.txn_model.proofs.Orders.{ascend_with, differ_with, start_with, has_with_start}
 
@@ -23,6 +23,10 @@ held l c = record { key = c.key; lock = Some l; commits = c.commits; rolled = c.
 -- a lock is set, unless its start holds a prewrite lock
 abbrev pub placed_lock : Lock → Cell → Cell
 placed_lock l c = if owns c.lock l.start then c else held l c
+
+-- the lock, as a commit at n that is made at once
+abbrev pub landed_lock : Lock → ℕ → Cell → Cell
+landed_lock l n c = record { key = c.key; lock = None; commits = with_commit (record { start = l.start; commit = n; kind = l.kind; value = l.value }) c.commits; rolled = c.rolled }
 
 -- a prewrite may lock here
 pub record IsOpen (c : Cell) (s : ℕ) : Type 0 where
@@ -37,6 +41,7 @@ IsClear c s = (l : Lock) → c.lock ≡ Some l → (l.start ≡ s) × (is_prewri
 pub data CellStep (st : Store) (r : Request) (k : Key) (c : Cell) : Cell → Type 0 where
   Same : CellStep st r k c c
   Places : (l : Lock) → is_prewrite l.kind ≡ true → IsOpen c l.start → PrewritesAt r k l.start → CellStep st r k c (placed_lock l c)
+  Lands : (l : Lock) (n : ℕ) → IsOpen c l.start → owns c.lock l.start ≡ false → LandsAt st r k l.start n → CellStep st r k c (landed_lock l n c)
   Recorded : (s : ℕ) → RollsBackAt st r k s → CellStep st r k c (rolled_back s c)
   Made : (s n : ℕ) → CommitsAt st r k s n → CellStep st r k c (committed s n c)
   Released : (s : ℕ) → ReleasesAt st r k s → CellStep st r k c (released s c)
@@ -49,7 +54,7 @@ pub data CellStep (st : Store) (r : Request) (k : Key) (c : Cell) : Cell → Typ
 pub orderly_none : (k : Key) → IsOrderly (no_cell k)
 orderly_none k = record { commits = tt; once = tt; rolled = tt; free = λ s h. absurd (cc) }
 
-orderly_placed : (l : Lock) (c : Cell) → IsOpen c l.start → IsOrderly c → IsOrderly (placed_lock l c)
+pub orderly_placed : (l : Lock) (c : Cell) → IsOpen c l.start → IsOrderly c → IsOrderly (placed_lock l c)
 orderly_placed l c h i = by (owns c.lock l.start) refl
   where
     by : (b : Bool) → owns c.lock l.start ≡ b → IsOrderly (if b then c else held l c)
@@ -59,6 +64,16 @@ orderly_placed l c h i = by (owns c.lock l.start) refl
       once = i.once;
       rolled = i.rolled;
       free = λ s g. let a = h.unrolled in let b = h.uncommitted e in grind (arith, nat_tests);
+    }
+
+pub orderly_landed : (l : Lock) (n : ℕ) (c : Cell) → IsOpen c l.start → owns c.lock l.start ≡ false → IsOrderly c → IsOrderly (landed_lock l n c)
+orderly_landed l n c h e i =
+    let w : Write = record { start = l.start; commit = n; kind = l.kind; value = l.value } in
+    record {
+      commits = ascend_with w c.commits i.commits;
+      once = differ_with w c.commits (h.uncommitted e) i.once;
+      rolled = i.rolled;
+      free = λ t g. absurd (cc);
     }
 
 pub orderly_rolled : (s : ℕ) (c : Cell) → IsOrderly c → IsOrderly (rolled_back s c)
@@ -122,6 +137,7 @@ orderly_renewed l ttl c e i = record { commits = i.commits; once = i.once; rolle
 pub orderly_after : (st : Store) (r : Request) (k : Key) (c d : Cell) → IsOrderly c → CellStep st r k c d → IsOrderly d
 orderly_after st r k c d i Same = i
 orderly_after st r k c d i (Places l p a w) = orderly_placed l c a i
+orderly_after st r k c d i (Lands l n a e w) = orderly_landed l n c a e i
 orderly_after st r k c d i (Recorded s w) = orderly_rolled s c i
 orderly_after st r k c d i (Made s n w) = orderly_committed s n c i
 orderly_after st r k c d i (Released s w) = orderly_released s c i

@@ -37,16 +37,16 @@ use Rattle.txn_model.specs.Locks.{has_start, is_prewrite, owns, commit_of}
 use Rattle.txn_model.specs.Orderly.{AreOrderly}
 use Rattle.txn_model.specs.PessimisticLock.{pessimistic_lock_by, pessimistic_errors}
 use Rattle.txn_model.specs.Placement.{region_check, next_timestamp, first_from, last_timestamp}
-use Rattle.txn_model.specs.Prewrite.{prewrite_by, prewrite_errors}
+use Rattle.txn_model.specs.Prewrite.{prewrite_by, prewrite_errors, passed_commit, one_phase_by, locking_by}
 use Rattle.txn_model.specs.Read.{read_at, read_pair, told_value, get_by, batch_get_by, scan_by}
 use Rattle.txn_model.specs.Refusals.{region_error_in, refuses, read_timestamp}
 use Rattle.txn_model.specs.Resolve.{resolve_lock_by, scan_lock_by}
-use Rattle.txn_model.specs.Rollback.{batch_rollback_by, first_rollback_error, cleanup_by, pessimistic_rollback_by}
+use Rattle.txn_model.specs.Rollback.{batch_rollback_by, first_rollback_error, cleanup_refusal, cleanup_by, pessimistic_rollback_by}
 use Rattle.txn_model.specs.Served.{last_by, last_after}
-use Rattle.txn_model.specs.Settle.{lock_of_start, mismatched_lock, rolled_back}
+use Rattle.txn_model.specs.Settle.{lock_of_start, rolled_back}
 use Rattle.txn_model.specs.Status.{Finding, finding, status_cell, status_reply, status_told, no_status, check_txn_status_by, check_secondary_locks_by, txn_heart_beat_by}
 use Rattle.txn_model.specs.Status.Finding.{Mismatched, Expired, Live, IsCommitted, IsRolledBack, Nothing}
-use Rattle.txn_model.specs.Steps.{PrewritesAt, CommitsAt, RollsBackAt, DestroysAt, commit_from, PrewriteLockBecomes, PessimisticLockBecomes}
+use Rattle.txn_model.specs.Steps.{PrewritesAt, LandsAt, CommitsAt, RollsBackAt, DestroysAt, commit_from, PrewriteLockBecomes, PessimisticLockBecomes}
 use Rattle.txn_model.specs.Store.{Store, opening}
 use Rattle.txn_model.specs.Table.{table}
 use Rattle.txn_model.proofs.CellLists.{KeepsKeys, kept_changed, cell_changed, same_cells}
@@ -71,7 +71,7 @@ module _ (st : Store) (r : Request) (kept : AreKept st.cells) (orderly : AreOrde
   pub rollback_stays : (s : ℕ) → has_start (cell_at st.cells k).rolled s ≡ true → (has_start (cell_at (table st r).store.cells k).rolled s ≡ true) ⊎ DestroysAt r k
   rollback_stays = facts.rollback_stays st r k (cell_at st.cells k) (cell_at (table st r).store.cells k) (orderly k) (row st r kept.in_order k)
 
-  pub commit_comes : (s : ℕ) (w : Write) → commit_of (cell_at (table st r).store.cells k).commits s ≡ Some w → (commit_of (cell_at st.cells k).commits s ≡ Some w) ⊎ ((l : Lock) × ((cell_at st.cells k).lock ≡ Some l) × (is_prewrite l.kind ≡ true) × (w ≡ commit_from l w.commit) × (l.start ≡ s) × CommitsAt st r k s w.commit)
+  pub commit_comes : (s : ℕ) (w : Write) → commit_of (cell_at (table st r).store.cells k).commits s ≡ Some w → (commit_of (cell_at st.cells k).commits s ≡ Some w) ⊎ ((l : Lock) × ((cell_at st.cells k).lock ≡ Some l) × (is_prewrite l.kind ≡ true) × (w ≡ commit_from l w.commit) × (l.start ≡ s) × CommitsAt st r k s w.commit) ⊎ (LandsAt st r k s w.commit × (has_start (cell_at st.cells k).rolled s ≡ false) × (owns (cell_at st.cells k).lock s ≡ false) × (commit_of (cell_at st.cells k).commits s ≡ None))
   commit_comes = facts.commit_comes st r k (cell_at st.cells k) (cell_at (table st r).store.cells k) (orderly k) (row st r kept.in_order k)
 
   pub rollback_comes : (s : ℕ) → has_start (cell_at (table st r).store.cells k).rolled s ≡ true → (has_start (cell_at st.cells k).rolled s ≡ true) ⊎ RollsBackAt st r k s
@@ -134,11 +134,11 @@ unchanged ks f cs kept same =
 reads_nothing : (st : Store) → st ≡ read_at 0 st
 reads_nothing st = let same : st.max_read ≡ max st.max_read 0 = omega arith in λ i. record st { max_read = same i }
 
-cleanup_refusal : (e : Option RegionErr) (l : Option Lock) (w : Option Write) (st : Store) (r : CleanupRequest) → (refuses (cleanup_by e l w st r).reply ≡ true → (cleanup_by e l w st r).store ≡ read_at 0 st) × ((x : RegionErr) → region_error_in (cleanup_by e l w st r).reply ≡ Some x → (cleanup_by e l w st r).store ≡ st)
-cleanup_refusal (Some e) l w st r = (λ h. reads_nothing st, λ x h. refl)
-cleanup_refusal None (Some l) w st r = (λ h. reads_nothing st, λ x h. refl)
-cleanup_refusal None None (Some w) st r = (λ h. reads_nothing st, λ x h. refl)
-cleanup_refusal None None None st r = (λ h. absurd (cc), λ x h. absurd (cc))
+cleanup_refused : (e : Option RegionErr) (o : Option KeyError) (w : Option Write) (st : Store) (r : CleanupRequest) → (refuses (cleanup_by e o w st r).reply ≡ true → (cleanup_by e o w st r).store ≡ read_at 0 st) × ((x : RegionErr) → region_error_in (cleanup_by e o w st r).reply ≡ Some x → (cleanup_by e o w st r).store ≡ st)
+cleanup_refused (Some e) o w st r = (λ h. reads_nothing st, λ x h. refl)
+cleanup_refused None (Some o) w st r = (λ h. reads_nothing st, λ x h. refl)
+cleanup_refused None None (Some w) st r = (λ h. reads_nothing st, λ x h. refl)
+cleanup_refused None None None st r = (λ h. absurd (cc), λ x h. absurd (cc))
 
 commit_refusal : (e : Option RegionErr) (o : Option KeyError) (st : Store) (r : CommitRequest) → (refuses (commit_by e o st r).reply ≡ true → (commit_by e o st r).store ≡ read_at 0 st) × ((x : RegionErr) → region_error_in (commit_by e o st r).reply ≡ Some x → (commit_by e o st r).store ≡ st)
 commit_refusal (Some e) o st r = (λ h. reads_nothing st, λ x h. refl)
@@ -150,10 +150,20 @@ batch_rollback_refusal (Some e) o st r = (λ h. reads_nothing st, λ x h. refl)
 batch_rollback_refusal None (Some o) st r = (λ h. reads_nothing st, λ x h. refl)
 batch_rollback_refusal None None st r = (λ h. absurd (cc), λ x h. absurd (cc))
 
-prewrite_refusal : (e : Option RegionErr) (es : List KeyError) (st : Store) (r : PrewriteRequest) → (refuses (prewrite_by e es st r).reply ≡ true → (prewrite_by e es st r).store ≡ read_at 0 st) × ((x : RegionErr) → region_error_in (prewrite_by e es st r).reply ≡ Some x → (prewrite_by e es st r).store ≡ st)
-prewrite_refusal (Some e) es st r = (λ h. reads_nothing st, λ x h. refl)
-prewrite_refusal None (y ∷ ys) st r = (λ h. reads_nothing st, λ x h. refl)
-prewrite_refusal None [] st r = (λ h. absurd (cc), λ x h. absurd (cc))
+prewrite_refusal : (e : Option RegionErr) (es : List KeyError) (w : Option Write) (st : Store) (r : PrewriteRequest) → (refuses (prewrite_by e es w st r).reply ≡ true → (prewrite_by e es w st r).store ≡ read_at 0 st) × ((x : RegionErr) → region_error_in (prewrite_by e es w st r).reply ≡ Some x → (prewrite_by e es w st r).store ≡ st)
+prewrite_refusal (Some e) es w st r = (λ h. reads_nothing st, λ x h. refl)
+prewrite_refusal None (y ∷ ys) w st r = (λ h. reads_nothing st, λ x h. refl)
+prewrite_refusal None [] w st r = (λ h. absurd (none r.try_one_pc w h), λ x h. absurd (nowhere x r.try_one_pc w h))
+  where
+    none : (b : Bool) (v : Option Write) → refuses (if b then one_phase_by v st r else locking_by st r).reply ≡ true → ⊥
+    none true (Some v) h = cc
+    none true None h = cc
+    none false v h = cc
+
+    nowhere : (x : RegionErr) (b : Bool) (v : Option Write) → region_error_in (if b then one_phase_by v st r else locking_by st r).reply ≡ Some x → ⊥
+    nowhere x true (Some v) h = cc
+    nowhere x true None h = cc
+    nowhere x false v h = cc
 
 pessimistic_lock_refusal : (e : Option RegionErr) (es : List KeyError) (st : Store) (r : PessimisticLockRequest) → (refuses (pessimistic_lock_by e es st r).reply ≡ true → (pessimistic_lock_by e es st r).store ≡ read_at r.for_update_ts st) × ((x : RegionErr) → region_error_in (pessimistic_lock_by e es st r).reply ≡ Some x → (pessimistic_lock_by e es st r).store ≡ st)
 pessimistic_lock_refusal (Some e) es st r = (λ h. absurd (cc), λ x h. refl)
@@ -233,9 +243,9 @@ refusal : (st : Store) (r : Request) → AreKept st.cells → (refuses (table st
 refusal st (Get r) kept = get_refusal (region_check st.regions r.context) st r
 refusal st (BatchGet r) kept = batch_get_refusal (region_check st.regions r.context) st r
 refusal st (Scan r) kept = scan_refusal (region_check st.regions r.context) st r
-refusal st (Prewrite r) kept = prewrite_refusal (region_check st.regions r.context) (prewrite_errors st.cells r r.mutations r.is_pessimistic_lock) st r
+refusal st (Prewrite r) kept = prewrite_refusal (region_check st.regions r.context) (prewrite_errors st.cells r r.mutations r.is_pessimistic_lock) (passed_commit st.cells r.start_version r.mutations) st r
 refusal st (Commit r) kept = commit_refusal (region_check st.regions r.context) (first_commit_error st.cells r r.keys) st r
-refusal st (Cleanup r) kept = cleanup_refusal (region_check st.regions r.context) (mismatched_lock r.key r.start_version (cell_at st.cells r.key).lock) (commit_of (cell_at st.cells r.key).commits r.start_version) st r
+refusal st (Cleanup r) kept = cleanup_refused (region_check st.regions r.context) (cleanup_refusal r.key r.start_version (cell_at st.cells r.key).lock) (commit_of (cell_at st.cells r.key).commits r.start_version) st r
 refusal st (BatchRollback r) kept = batch_rollback_refusal (region_check st.regions r.context) (first_rollback_error st.cells r.start_version r.keys) st r
 refusal st (PessimisticRollback r) kept = pessimistic_rollback_refusal (region_check st.regions r.context) st r
 refusal st (PessimisticLock r) kept = pessimistic_lock_refusal (region_check st.regions r.context) (pessimistic_errors st.cells r) st r

@@ -19,6 +19,10 @@ is_prewrite Del = true
 is_prewrite LockOnly = true
 is_prewrite Pessimistic = false
 
+-- an async lock of a prewrite: it has a bound, and is settled with all other keys of its start
+abbrev pub is_async_lock : Lock → Bool
+is_async_lock l = l.use_async && is_prewrite l.kind
+
 -- the start holds a prewrite lock
 abbrev pub owns : Option Lock → ℕ → Bool
 owns None s = false

@@ -1,7 +1,7 @@
 -- BatchRollback, Cleanup and PessimisticRollback.
-use Rattle.std.specs.Prelude.{ℕ, Bool, false, if◌then◌else◌, List, [], ◌∷◌, Option, Some, None, nat_le}
+use Rattle.std.specs.Prelude.{ℕ, Bool, false, if◌then◌else◌, List, [], ◌∷◌, Option, Some, None, nat_eq, nat_le}
 use Rattle.txn_kv.specs.declared.message.KeyError.{KeyError}
-use Rattle.txn_kv.specs.declared.message.KeyError.TheVariants.{Abort, PrimaryMismatch}
+use Rattle.txn_kv.specs.declared.message.KeyError.TheVariants.{Abort, Locked, PrimaryMismatch}
 use Rattle.txn_kv.specs.declared.message.RegionErr.{RegionErr}
 use Rattle.txn_kv.specs.declared.request.BatchRollbackRequest.{BatchRollbackRequest}
 use Rattle.txn_kv.specs.declared.request.CleanupRequest.{CleanupRequest}
@@ -10,9 +10,9 @@ use Rattle.txn_kv.specs.declared.reply.Reply.TheVariants.{BatchRollback, Cleanup
 use Rattle.txn_model.specs.declared.cell.Cell.{Cell}
 use Rattle.txn_model.specs.declared.cell.Lock.{Lock}
 use Rattle.txn_model.specs.declared.cell.Write.{Write}
-use Rattle.txn_model.specs.Cells.{Key, cell_at, changed_at}
-use Rattle.txn_model.specs.Locks.{commit_of, or_earlier, lock_info}
-use Rattle.txn_model.specs.Settle.{rolled_back, released, mismatched_lock}
+use Rattle.txn_model.specs.Cells.{Key, key_eq, cell_at, changed_at}
+use Rattle.txn_model.specs.Locks.{commit_of, or_earlier, lock_info, is_async_lock}
+use Rattle.txn_model.specs.Settle.{rolled_back, released}
 use Rattle.txn_model.specs.Placement.{region_check}
 use Rattle.txn_model.specs.Store.{Store}
 use Rattle.txn_model.specs.Handled.{Handled}
@@ -45,10 +45,15 @@ batch_rollback_row st r = batch_rollback_by (region_check st.regions r.context) 
 
 -- Cleanup
 
--- first hit: a lock of the start under another primary, a commit of the start; else it is rolled back
-abbrev pub cleanup_by : Option RegionErr → Option Lock → Option Write → Store → CleanupRequest → Handled
-cleanup_by (Some e) l w st r = record { store = st; reply = Cleanup (record { region_error = Some e; error = None; commit_version = 0 }) }
-cleanup_by None (Some l) w st r = record { store = st; reply = Cleanup (record { region_error = None; error = Some (PrimaryMismatch (lock_info r.key l)); commit_version = 0 }) }
+-- a lock of the start under another primary, or an async one, which its primary alone cannot settle
+abbrev pub cleanup_refusal : Key → ℕ → Option Lock → Option KeyError
+cleanup_refusal p s None = None
+cleanup_refusal p s (Some l) = if nat_eq l.start s then (if key_eq l.primary p then (if is_async_lock l then Some (Locked (lock_info p l)) else None) else Some (PrimaryMismatch (lock_info p l))) else None
+
+-- first hit: such a lock, a commit of the start; else it is rolled back
+abbrev pub cleanup_by : Option RegionErr → Option KeyError → Option Write → Store → CleanupRequest → Handled
+cleanup_by (Some e) x w st r = record { store = st; reply = Cleanup (record { region_error = Some e; error = None; commit_version = 0 }) }
+cleanup_by None (Some x) w st r = record { store = st; reply = Cleanup (record { region_error = None; error = Some x; commit_version = 0 }) }
 cleanup_by None None (Some w) st r = record { store = st; reply = Cleanup (record { region_error = None; error = None; commit_version = w.commit }) }
 cleanup_by None None None st r = record {
   store = record st { cells = changed_at (r.key ∷ []) (rolled_back r.start_version) st.cells };
@@ -56,7 +61,7 @@ cleanup_by None None None st r = record {
 }
 
 abbrev pub cleanup_at : Cell → Store → CleanupRequest → Handled
-cleanup_at c st r = cleanup_by (region_check st.regions r.context) (mismatched_lock r.key r.start_version c.lock) (commit_of c.commits r.start_version) st r
+cleanup_at c st r = cleanup_by (region_check st.regions r.context) (cleanup_refusal r.key r.start_version c.lock) (commit_of c.commits r.start_version) st r
 
 abbrev pub cleanup_row : Store → CleanupRequest → Handled
 cleanup_row st r = cleanup_at (cell_at st.cells r.key) st r

@@ -27,11 +27,11 @@ use Rattle.txn_model.specs.Commit.{commit_by, first_commit_error}
 use Rattle.txn_model.specs.Locks.{commit_of}
 use Rattle.txn_model.specs.PessimisticLock.{pessimistic_lock_by, pessimistic_errors}
 use Rattle.txn_model.specs.Placement.{region_check, next_timestamp, first_from, last_timestamp}
-use Rattle.txn_model.specs.Prewrite.{prewrite_by, prewrite_errors}
+use Rattle.txn_model.specs.Prewrite.{prewrite_by, prewrite_errors, passed_commit, one_phase_by, locking_by, prewritten_cells, landed_cells}
 use Rattle.txn_model.specs.Read.{read_at, get_by, batch_get_by, scan_by}
 use Rattle.txn_model.specs.Resolve.{resolve_lock_by, scan_lock_by}
-use Rattle.txn_model.specs.Rollback.{batch_rollback_by, first_rollback_error, cleanup_by, pessimistic_rollback_by}
-use Rattle.txn_model.specs.Settle.{lock_of_start, mismatched_lock}
+use Rattle.txn_model.specs.Rollback.{batch_rollback_by, first_rollback_error, cleanup_refusal, cleanup_by, pessimistic_rollback_by}
+use Rattle.txn_model.specs.Settle.{lock_of_start}
 use Rattle.txn_model.specs.Status.{Finding, finding, txn_heart_beat_by, check_txn_status_by, check_secondary_locks_by}
 use Rattle.txn_model.specs.Store.{Store}
 use Rattle.txn_model.specs.Table.{table, CanServe}
@@ -67,19 +67,24 @@ scan_stays : (e : Option RegionErr) (st : Store) (r : ScanRequest) → OthersSta
 scan_stays (Some e) st r = (with_cells st (scan_by (Some e) st r).store.cells, refl)
 scan_stays None st r = (after_read st r.version (scan_by None st r).store.cells, refl)
 
-prewrite_stays : (e : Option RegionErr) (errors : List KeyError) (st : Store) (r : PrewriteRequest) → OthersStay st (prewrite_by e errors st r).store × ((prewrite_by e errors st r).store.last ≡ st.last)
-prewrite_stays (Some e) errors st r = (with_cells st (prewrite_by (Some e) errors st r).store.cells, refl)
-prewrite_stays None (x ∷ xs) st r = (with_cells st (prewrite_by None (x ∷ xs) st r).store.cells, refl)
-prewrite_stays None [] st r = (with_cells st (prewrite_by None [] st r).store.cells, refl)
+prewrite_stays : (e : Option RegionErr) (errors : List KeyError) (w : Option Write) (st : Store) (r : PrewriteRequest) → OthersStay st (prewrite_by e errors w st r).store × ((prewrite_by e errors w st r).store.last ≡ st.last)
+prewrite_stays (Some e) errors w st r = (with_cells st st.cells, refl)
+prewrite_stays None (x ∷ xs) w st r = (with_cells st st.cells, refl)
+prewrite_stays None [] w st r = by r.try_one_pc w
+  where
+    by : (b : Bool) (v : Option Write) → OthersStay st (if b then one_phase_by v st r else locking_by st r).store × ((if b then one_phase_by v st r else locking_by st r).store.last ≡ st.last)
+    by true (Some v) = (with_cells st st.cells, refl)
+    by true None = (with_cells st (landed_cells st r), refl)
+    by false v = (with_cells st (prewritten_cells st r), refl)
 
 commit_stays : (e : Option RegionErr) (error : Option KeyError) (st : Store) (r : CommitRequest) → OthersStay st (commit_by e error st r).store × ((commit_by e error st r).store.last ≡ st.last)
 commit_stays (Some e) error st r = (with_cells st (commit_by (Some e) error st r).store.cells, refl)
 commit_stays None (Some x) st r = (with_cells st (commit_by None (Some x) st r).store.cells, refl)
 commit_stays None None st r = (with_cells st (commit_by None None st r).store.cells, refl)
 
-cleanup_stays : (e : Option RegionErr) (lock : Option Lock) (write : Option Write) (st : Store) (r : CleanupRequest) → OthersStay st (cleanup_by e lock write st r).store × ((cleanup_by e lock write st r).store.last ≡ st.last)
-cleanup_stays (Some e) l w st r = (with_cells st (cleanup_by (Some e) l w st r).store.cells, refl)
-cleanup_stays None (Some l) w st r = (with_cells st (cleanup_by None (Some l) w st r).store.cells, refl)
+cleanup_stays : (e : Option RegionErr) (x : Option KeyError) (write : Option Write) (st : Store) (r : CleanupRequest) → OthersStay st (cleanup_by e x write st r).store × ((cleanup_by e x write st r).store.last ≡ st.last)
+cleanup_stays (Some e) x w st r = (with_cells st (cleanup_by (Some e) x w st r).store.cells, refl)
+cleanup_stays None (Some x) w st r = (with_cells st (cleanup_by None (Some x) w st r).store.cells, refl)
 cleanup_stays None None (Some w) st r = (with_cells st (cleanup_by None None (Some w) st r).store.cells, refl)
 cleanup_stays None None None st r = (with_cells st (cleanup_by None None None st r).store.cells, refl)
 
@@ -122,9 +127,9 @@ pub others_stay : (st : Store) (r : Request) → OthersStay st (table st r).stor
 others_stay st (Get r) = (get_stays (region_check st.regions r.context) st r).0
 others_stay st (BatchGet r) = (batch_get_stays (region_check st.regions r.context) st r).0
 others_stay st (Scan r) = (scan_stays (region_check st.regions r.context) st r).0
-others_stay st (Prewrite r) = (prewrite_stays (region_check st.regions r.context) (prewrite_errors st.cells r r.mutations r.is_pessimistic_lock) st r).0
+others_stay st (Prewrite r) = (prewrite_stays (region_check st.regions r.context) (prewrite_errors st.cells r r.mutations r.is_pessimistic_lock) (passed_commit st.cells r.start_version r.mutations) st r).0
 others_stay st (Commit r) = (commit_stays (region_check st.regions r.context) (first_commit_error st.cells r r.keys) st r).0
-others_stay st (Cleanup r) = (cleanup_stays (region_check st.regions r.context) (mismatched_lock r.key r.start_version (cell_at st.cells r.key).lock) (commit_of (cell_at st.cells r.key).commits r.start_version) st r).0
+others_stay st (Cleanup r) = (cleanup_stays (region_check st.regions r.context) (cleanup_refusal r.key r.start_version (cell_at st.cells r.key).lock) (commit_of (cell_at st.cells r.key).commits r.start_version) st r).0
 others_stay st (BatchRollback r) = (batch_rollback_stays (region_check st.regions r.context) (first_rollback_error st.cells r.start_version r.keys) st r).0
 others_stay st (PessimisticRollback r) = (pessimistic_rollback_stays (region_check st.regions r.context) st r).0
 others_stay st (PessimisticLock r) = (pessimistic_lock_stays (region_check st.regions r.context) (pessimistic_errors st.cells r) st r).0
@@ -147,9 +152,9 @@ pub last_after : (st : Store) (r : Request) → (table st r).store.last ≡ last
 last_after st (Get r) = (get_stays (region_check st.regions r.context) st r).1
 last_after st (BatchGet r) = (batch_get_stays (region_check st.regions r.context) st r).1
 last_after st (Scan r) = (scan_stays (region_check st.regions r.context) st r).1
-last_after st (Prewrite r) = (prewrite_stays (region_check st.regions r.context) (prewrite_errors st.cells r r.mutations r.is_pessimistic_lock) st r).1
+last_after st (Prewrite r) = (prewrite_stays (region_check st.regions r.context) (prewrite_errors st.cells r r.mutations r.is_pessimistic_lock) (passed_commit st.cells r.start_version r.mutations) st r).1
 last_after st (Commit r) = (commit_stays (region_check st.regions r.context) (first_commit_error st.cells r r.keys) st r).1
-last_after st (Cleanup r) = (cleanup_stays (region_check st.regions r.context) (mismatched_lock r.key r.start_version (cell_at st.cells r.key).lock) (commit_of (cell_at st.cells r.key).commits r.start_version) st r).1
+last_after st (Cleanup r) = (cleanup_stays (region_check st.regions r.context) (cleanup_refusal r.key r.start_version (cell_at st.cells r.key).lock) (commit_of (cell_at st.cells r.key).commits r.start_version) st r).1
 last_after st (BatchRollback r) = (batch_rollback_stays (region_check st.regions r.context) (first_rollback_error st.cells r.start_version r.keys) st r).1
 last_after st (PessimisticRollback r) = (pessimistic_rollback_stays (region_check st.regions r.context) st r).1
 last_after st (PessimisticLock r) = (pessimistic_lock_stays (region_check st.regions r.context) (pessimistic_errors st.cells r) st r).1

@@ -1,8 +1,7 @@
 -- What rolls a start back at a cell, and what else takes its lock away.
-use Rattle.std.specs.Prelude.{ℕ, not, ◌&&◌, if◌then◌else◌, List, [], ◌∷◌, Option, Some, None, nat_eq, nat_lt}
+use Rattle.std.specs.Prelude.{ℕ, ◌&&◌, if◌then◌else◌, List, [], ◌∷◌, Option, Some, None, nat_eq, nat_lt}
 use Rattle.txn_model.specs.declared.cell.Cell.{Cell}
 use Rattle.txn_model.specs.declared.cell.Lock.{Lock}
-use Rattle.txn_model.specs.Cells.{Key, key_eq}
 use Rattle.txn_model.specs.Locks.{is_prewrite, owns, holds}
 
 -- the starts with one more, ascending and each once
@@ -31,8 +30,3 @@ lock_of_start s (Some l) = if nat_eq l.start s then Some l else None
 abbrev pub own_prewrite_lock : ℕ → Option Lock → Option Lock
 own_prewrite_lock s None = None
 own_prewrite_lock s (Some l) = if nat_eq l.start s && is_prewrite l.kind then Some l else None
-
--- a lock of the start that names another primary than this key
-abbrev pub mismatched_lock : Key → ℕ → Option Lock → Option Lock
-mismatched_lock p s None = None
-mismatched_lock p s (Some l) = if nat_eq l.start s && not (key_eq l.primary p) then Some l else None

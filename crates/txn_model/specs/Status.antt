@@ -15,7 +15,7 @@ use Rattle.txn_model.specs.declared.cell.Cell.{Cell}
 use Rattle.txn_model.specs.declared.cell.Lock.{Lock}
 use Rattle.txn_model.specs.declared.cell.Write.{Write}
 use Rattle.txn_model.specs.Cells.{Key, key_eq, cell_at, changed_at}
-use Rattle.txn_model.specs.Locks.{has_start, is_prewrite, owns, commit_of, or_earlier, lock_info}
+use Rattle.txn_model.specs.Locks.{has_start, is_prewrite, owns, commit_of, or_earlier, lock_info, is_async_lock}
 use Rattle.txn_model.specs.Settle.{rolled_back, released, lock_of_start, own_prewrite_lock}
 use Rattle.txn_model.specs.Placement.{region_check}
 use Rattle.txn_model.specs.Store.{Store}
@@ -44,9 +44,13 @@ unlocked_finding (Some w) rolled = IsCommitted w
 unlocked_finding None true = IsRolledBack
 unlocked_finding None false = Nothing
 
+-- an async lock is over only where the request is forced
+abbrev pub is_over : CheckTxnStatusRequest → Lock → Bool
+is_over r l = is_expired r.current_ts l && (r.force_sync_commit || not (is_async_lock l))
+
 abbrev pub locked_finding : CheckTxnStatusRequest → Option Lock → Cell → Finding
 locked_finding r None c = unlocked_finding (commit_of c.commits r.lock_ts) (has_start c.rolled r.lock_ts)
-locked_finding r (Some l) c = if key_eq l.primary r.primary_key then (if is_expired r.current_ts l then Expired l else Live l) else Mismatched l
+locked_finding r (Some l) c = if key_eq l.primary r.primary_key then (if is_over r l then Expired l else Live l) else Mismatched l
 
 abbrev pub finding : CheckTxnStatusRequest → Cell → Finding
 finding r c = locked_finding r (lock_of_start r.lock_ts c.lock) c

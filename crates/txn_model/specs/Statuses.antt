@@ -5,10 +5,10 @@ use Rattle.txn_model.specs.declared.cell.Lock.{Lock}
 use Rattle.txn_model.specs.declared.rule.Rule.{Rule}
 use Rattle.txn_model.specs.declared.rule.Rule.TheVariants.{RollBack, Release, Stay}
 use Rattle.txn_model.specs.Cells.{key_eq}
-use Rattle.txn_model.specs.Status.{Finding, Mismatched, Expired, Live, IsCommitted, IsRolledBack, Nothing, is_expired, goes_unrecorded}
+use Rattle.txn_model.specs.Status.{Finding, Mismatched, Expired, Live, IsCommitted, IsRolledBack, Nothing, is_over, goes_unrecorded}
 
 abbrev pub found_lock : CheckTxnStatusRequest → Lock → Finding
-found_lock r l = if key_eq l.primary r.primary_key then (if is_expired r.current_ts l then Expired l else Live l) else Mismatched l
+found_lock r l = if key_eq l.primary r.primary_key then (if is_over r l then Expired l else Live l) else Mismatched l
 
 abbrev pub status_rule : CheckTxnStatusRequest → Finding → Rule
 status_rule r (Mismatched l) = Stay

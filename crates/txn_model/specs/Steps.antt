@@ -1,5 +1,5 @@
 -- What one request may do at a key, and what may become of a lock there.
-use Rattle.std.specs.Prelude.{◌≡◌, ◌⊎◌, ℕ, ◌<◌, Bool, true, ◌&&◌, List, Some, None, nat_eq}
+use Rattle.std.specs.Prelude.{◌≡◌, ◌⊎◌, ℕ, ◌<◌, Bool, true, false, ◌&&◌, List, Some, None, nat_eq}
 use Rattle.std.specs.List.{list_any}
 use Rattle.txn_kv.specs.declared.message.TxnInfo.{TxnInfo}
 use Rattle.txn_kv.specs.declared.request.Request.{Request}
@@ -9,7 +9,7 @@ use Rattle.txn_model.specs.declared.cell.Lock.{Lock}
 use Rattle.txn_model.specs.declared.cell.Write.{Write}
 use Rattle.txn_model.specs.Cells.{Key, has_key}
 use Rattle.txn_model.specs.Locks.{has_start, owns, holds, commit_of}
-use Rattle.txn_model.specs.Prewrite.{mutation_keys}
+use Rattle.txn_model.specs.Prewrite.{least_bound, mutation_keys}
 use Rattle.txn_model.specs.Ranges.{in_range}
 use Rattle.txn_model.specs.Resolve.{infos, is_in_context}
 use Rattle.txn_model.specs.Store.{Store}
@@ -20,8 +20,13 @@ has_info is s n = list_any (λ i. nat_eq i.txn s && nat_eq i.status n) is
 
 -- the request sets prewrite locks of the start, at the key
 abbrev pub PrewritesAt : Request → Key → ℕ → Type 0
-PrewritesAt (Prewrite r) k s = (s ≡ r.start_version) × (has_key (mutation_keys r.mutations) k ≡ true)
+PrewritesAt (Prewrite r) k s = (s ≡ r.start_version) × (has_key (mutation_keys r.mutations) k ≡ true) × (r.try_one_pc ≡ false)
 PrewritesAt _ k s = ⊥
+
+-- the request commits the start at the key at once, without a prewrite lock before, at timestamp n
+abbrev pub LandsAt : Store → Request → Key → ℕ → ℕ → Type 0
+LandsAt st (Prewrite r) k s n = (s ≡ r.start_version) × (n ≡ least_bound st r) × (has_key (mutation_keys r.mutations) k ≡ true) × (r.try_one_pc ≡ true)
+LandsAt st _ k s n = ⊥
 
 -- the request sets pessimistic locks of the start, at the key
 abbrev pub LocksAt : Request → Key → ℕ → Type 0
@@ -64,6 +69,8 @@ pub record StandsOn (l : Lock) (c : Cell) : Type 0 where
   pub kind : lock.kind ≡ l.kind
   pub value : lock.value ≡ l.value
   pub min_commit : lock.min_commit ≡ l.min_commit
+  pub use_async : lock.use_async ≡ l.use_async
+  pub secondaries : lock.secondaries ≡ l.secondaries
 
 -- the commit that a lock becomes at timestamp n
 abbrev pub commit_from : Lock → ℕ → Write
@@ -79,10 +86,11 @@ PrewriteLockBecomes st r k l d =
     ⊎ DestroysAt r k
 
 -- The same of a pessimistic lock: its start still holds a lock, which is a prewrite lock only after its own prewrite; its
--- start is rolled back; it is released; or all of the key was destroyed.
+-- start is committed at once; its start is rolled back; it is released; or all of the key was destroyed.
 abbrev pub PessimisticLockBecomes : Store → Request → Key → Lock → Cell → Type 0
 PessimisticLockBecomes st r k l d =
     ((holds d.lock l.start ≡ true) × (owns d.lock l.start ≡ true → PrewritesAt r k l.start))
+    ⊎ ((w : Write) × LandsAt st r k l.start w.commit × (commit_of d.commits l.start ≡ Some w))
     ⊎ (RollsBackAt st r k l.start × (has_start d.rolled l.start ≡ true))
     ⊎ (ReleasesAt st r k l.start × (d.lock ≡ None))
     ⊎ DestroysAt r k

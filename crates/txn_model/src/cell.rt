@@ -1,6 +1,6 @@
 ghost use Rattle.std.specs.Prelude.{◌≡◌, IfOk};
 ghost use Rattle.txn_model.specs.Cells.{no_cell, is_empty_cell};
-ghost use Rattle.txn_model.specs.Locks.{is_prewrite, is_written, op_of, lock_info};
+ghost use Rattle.txn_model.specs.Locks.{is_prewrite, is_written, op_of, lock_info, is_async_lock};
 
 use std::alloc::Global;
 use txn_kv::{Items, Key, LockInfo, NoMemory, Op, Value};
@@ -61,7 +61,8 @@ pub struct Lock {
     pub secondaries: Items<Key>,
 }
 
-fn copied_keys(alloc: Global, keys: &[Key]) -> Result<Items<Key>, NoMemory>
+/// The same keys, in new memory.
+pub fn copied_keys(alloc: Global, keys: &[Key]) -> Result<Items<Key>, NoMemory>
     ensures { IfOk result (λ copies. copies ≡ keys.now) }
 {
     let mut copies = Items::new(alloc);
@@ -72,6 +73,30 @@ fn copied_keys(alloc: Global, keys: &[Key]) -> Result<Items<Key>, NoMemory>
 }
 
 impl Lock {
+    /// A prewrite lock with a bound, which is settled with all other keys of its start.
+    pub fn is_async(&self) -> bool
+        ensures { result ≡ is_async_lock self.now }
+    {
+        self.use_async && self.kind.is_prewrite()
+    }
+
+    /// The same lock, in new memory.
+    pub fn try_clone(&self, alloc: Global) -> Result<Lock, NoMemory>
+        ensures { IfOk result (λ copy. copy ≡ self.now) }
+    {
+        Ok(Lock {
+            start: self.start,
+            primary: self.primary.try_clone()?,
+            kind: self.kind,
+            value: self.value.try_clone()?,
+            ttl: self.ttl,
+            for_update: self.for_update,
+            min_commit: self.min_commit,
+            use_async: self.use_async,
+            secondaries: copied_keys(alloc, self.secondaries.as_slice())?,
+        })
+    }
+
     /// The lock at this key, as a reply shows it.
     pub fn info(&self, alloc: Global, key: &Key) -> Result<LockInfo, NoMemory>
         ensures { IfOk result (λ info. info ≡ lock_info key.now self.now) }

@@ -17,7 +17,7 @@ ghost use Rattle.txn_model.specs.Orderly.{AreOrderly};
 ghost use Rattle.txn_model.specs.Read.{read_at};
 ghost use Rattle.txn_model.specs.Refusals.{read_timestamp, refuses, region_error_in};
 ghost use Rattle.txn_model.specs.Served.{OthersStay};
-ghost use Rattle.txn_model.specs.Steps.{CommitsAt, DestroysAt, PessimisticLockBecomes, PrewriteLockBecomes, PrewritesAt, RollsBackAt, commit_from};
+ghost use Rattle.txn_model.specs.Steps.{CommitsAt, DestroysAt, LandsAt, PessimisticLockBecomes, PrewriteLockBecomes, PrewritesAt, RollsBackAt, commit_from};
 ghost use Rattle.txn_model.specs.Store.{Store, opening};
 ghost use Rattle.txn_model.specs.Table.{table};
 
@@ -40,8 +40,8 @@ pub fn commits_and_rollbacks_stay()
 {}
 
 /// How locks leave their keys: a prewrite lock as the commit of its start, at the timestamp of the request that commits it,
-/// or by a request that rolls its start back; a pessimistic lock also by giving way to a prewrite lock of its start, or by
-/// being released.
+/// or by a request that rolls its start back; a pessimistic lock also by giving way to a prewrite lock or a commit of its
+/// start, or by being released.
 pub fn locks_leave()
     ensures prewrite { (st : Store) (r : Request) → AreKept st.cells → AreOrderly st.cells → (k : Key) (l : Lock) →
         (cell_at st.cells k).lock ≡ Some l → is_prewrite l.kind ≡ true →
@@ -52,14 +52,16 @@ pub fn locks_leave()
 {}
 
 /// How what is kept of a key comes there: a prewrite lock by a prewrite of its start, which was neither rolled back nor
-/// committed; a commit of a prewrite lock, by a request that commits it; a rolled start by a request that rolls it back.
+/// committed; a commit of a prewrite lock, by a request that commits it, or at once, by a prewrite of its start, which was
+/// neither rolled back nor locked nor committed; a rolled start by a request that rolls it back.
 pub fn what_is_kept_comes()
     ensures prewrite_locks { (st : Store) (r : Request) → AreKept st.cells → AreOrderly st.cells → (k : Key) (s : ℕ) →
         owns (cell_at (table st r).store.cells k).lock s ≡ true → (owns (cell_at st.cells k).lock s ≡ true)
         ⊎ (PrewritesAt r k s × (has_start (cell_at st.cells k).rolled s ≡ false) × (commit_of (cell_at st.cells k).commits s ≡ None)) }
     ensures commits { (st : Store) (r : Request) → AreKept st.cells → AreOrderly st.cells → (k : Key) (s : ℕ) (w : Write) →
         commit_of (cell_at (table st r).store.cells k).commits s ≡ Some w → (commit_of (cell_at st.cells k).commits s ≡ Some w)
-        ⊎ ((l : Lock) × ((cell_at st.cells k).lock ≡ Some l) × (is_prewrite l.kind ≡ true) × (w ≡ commit_from l w.commit) × (l.start ≡ s) × CommitsAt st r k s w.commit) }
+        ⊎ ((l : Lock) × ((cell_at st.cells k).lock ≡ Some l) × (is_prewrite l.kind ≡ true) × (w ≡ commit_from l w.commit) × (l.start ≡ s) × CommitsAt st r k s w.commit)
+        ⊎ (LandsAt st r k s w.commit × (has_start (cell_at st.cells k).rolled s ≡ false) × (owns (cell_at st.cells k).lock s ≡ false) × (commit_of (cell_at st.cells k).commits s ≡ None)) }
     ensures rollbacks { (st : Store) (r : Request) → AreKept st.cells → AreOrderly st.cells → (k : Key) (s : ℕ) →
         has_start (cell_at (table st r).store.cells k).rolled s ≡ true →
         (has_start (cell_at st.cells k).rolled s ≡ true) ⊎ RollsBackAt st r k s }

@@ -1,6 +1,7 @@
 //! The model store: what a request does to it, and what it replies.
 #![tactic(auto)]
 
+mod bounds;
 pub mod cell;
 mod cells;
 mod change;
@@ -9,6 +10,7 @@ mod commits;
 mod destroy;
 mod facts;
 mod heart_beat;
+mod landing;
 mod lead;
 mod pessimistic;
 mod placement;

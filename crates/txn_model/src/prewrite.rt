@@ -1,13 +1,15 @@
-//! Prewrite: a lock on each key, where nothing stands in the way.
-ghost use Rattle.std.specs.Prelude.{◌≡◌, [], ℕ, ◌+◌, ◌^◌, ◌<◌, ◌≤◌, List, if◌then◌else◌, IfOk, OnOk, OnErr, option_to_list, drop, vec_len, vec_capacity};
+//! Prewrite: a lock on each key, where nothing stands in the way, with its bound where it is async.
+ghost use Rattle.std.specs.Prelude.{◌≡◌, [], ℕ, false, Some, None, ◌+◌, ◌^◌, ◌<◌, ◌≤◌, List, if◌then◌else◌, IfOk, OnOk, OnErr, option_to_list, drop, vec_len, vec_capacity};
 ghost use Rattle.txn_model.specs.Cells.{AreInOrder, AreKept, Key, key_eq, cell_at, changed_at};
 ghost use Rattle.txn_model.specs.Orderly.{AreOrderly, CommitsAscend};
-ghost use Rattle.txn_model.specs.Prewrite.{kind_of, wants_absent, conflict, first_flag, prewrite_error, prewrite_errors, lock_of, mutation_keys, prewrite_cell};
+ghost use Rattle.txn_kv.specs.declared.message.KeyError.TheVariants.{Abort, WriteConflict};
+ghost use Rattle.txn_model.specs.Prewrite.{kind_of, wants_absent, passes_commit, conflict, first_flag, prewrite_error, prewrite_errors, lock_of, mutation_keys, prewrite_cell};
 ghost use Rattle.txn_model.specs.Placings.{placing_of, placings, locked, all_locked};
 
-use crate::cell::{Cell, Kind, Lock, Write};
-use crate::cells::{find, insert_within, owns, search};
+use crate::cell::{Cell, Kind, Lock, Write, copied_keys};
+use crate::cells::{find, insert_within, search};
 use crate::commits::{commit_of, has_value, newest_commit};
+use crate::rule::is_missing;
 use std::alloc::Global;
 use txn_kv::{Items, Key, KeyError, Mutation, NoMemory, Op, PrewriteRequest, Value};
 
@@ -26,7 +28,7 @@ fn wants_absent(op: Op) -> bool
 }
 
 /// The kind of the lock that a mutation sets, if it sets one.
-fn kind_of(op: Op) -> Option<Kind>
+pub fn kind_of(op: Op) -> Option<Kind>
     ensures { result ≡ kind_of op }
 {
     match op {
@@ -35,6 +37,31 @@ fn kind_of(op: Op) -> Option<Kind>
         Op::Lock | Op::Rollback | Op::PessimisticLock => Some(Kind::Lock),
         Op::CheckNotExists => None,
     }
+}
+
+/// A commit of the start is passed over.
+fn passes_commit(request: &PrewriteRequest) -> bool
+    ensures { result ≡ passes_commit request.now }
+{
+    request.use_async_commit || request.try_one_pc
+}
+
+/// An own commit stands in the way, unless it is passed over.
+fn committed_error(
+    request: &PrewriteRequest,
+    mutation: &Mutation,
+    commit: u64,
+) -> Result<Option<KeyError>, NoMemory>
+    ensures { IfOk result (λ error. error ≡ (if passes_commit request.now then None else Some (WriteConflict mutation.now.key request.now.start_version commit))) }
+{
+    if passes_commit(request) {
+        return Ok(None);
+    }
+    Ok(Some(KeyError::WriteConflict {
+        key: mutation.key.try_clone()?,
+        start: request.start_version,
+        commit,
+    }))
 }
 
 /// What stands in the way among the commits. `held`: the start holds a pessimistic lock; `flag`: it must.
@@ -50,12 +77,7 @@ fn conflict(
 {
     let start = request.start_version;
     if let Some(write) = commit_of(commits, start) {
-        let commit = write.commit;
-        return Ok(Some(KeyError::WriteConflict {
-            key: mutation.key.try_clone()?,
-            start,
-            commit,
-        }));
+        return committed_error(request, mutation, write.commit);
     }
     if flag {
         if held {
@@ -76,6 +98,20 @@ fn conflict(
     if wants_absent(mutation.op) && has_value(commits, u64::MAX) {
         return Ok(Some(KeyError::AlreadyExist {
             key: mutation.key.try_clone()?,
+        }));
+    }
+    Ok(None)
+}
+
+/// An own prewrite lock stands in the way of commits that are made at once.
+fn held_error(request: &PrewriteRequest, mutation: &Mutation) -> Result<Option<KeyError>, NoMemory>
+    ensures { IfOk result (λ error. error ≡ (if request.now.try_one_pc then Some (Abort mutation.now.key request.now.start_version 0) else None)) }
+{
+    if request.try_one_pc {
+        return Ok(Some(KeyError::Abort {
+            key: mutation.key.try_clone()?,
+            start: request.start_version,
+            commit: 0,
         }));
     }
     Ok(None)
@@ -107,7 +143,7 @@ fn prewrite_error(
                 return Ok(Some(KeyError::Locked(lock.info(alloc, &mutation.key)?)));
             }
             if lock.kind.is_prewrite() {
-                return Ok(None);
+                return held_error(request, mutation);
             }
             conflict(request, mutation, flag, true, cell.commits.as_slice())
         }
@@ -165,10 +201,11 @@ pub fn prewrite_errors(
 fn lock_of(
     alloc: Global,
     request: &PrewriteRequest,
+    bound: u64,
     value: &Value,
     kind: Kind,
 ) -> Result<Lock, NoMemory>
-    ensures { IfOk result (λ lock. lock ≡ lock_of request.now value.now kind) }
+    ensures { IfOk result (λ lock. lock ≡ lock_of request.now bound value.now kind) }
 {
     Ok(Lock {
         start: request.start_version,
@@ -177,9 +214,9 @@ fn lock_of(
         value: value.try_clone()?,
         ttl: request.lock_ttl,
         for_update: request.for_update_ts,
-        min_commit: 0,
-        use_async: false,
-        secondaries: Items::new(alloc),
+        min_commit: if request.use_async_commit { bound } else { 0 },
+        use_async: request.use_async_commit,
+        secondaries: copied_keys(alloc, request.secondaries.as_slice())?,
     })
 }
 
@@ -187,13 +224,14 @@ fn lock_of(
 fn placing_of(
     alloc: Global,
     request: &PrewriteRequest,
+    bound: u64,
     mutation: &Mutation,
 ) -> Result<Option<Placing>, NoMemory>
-    ensures { IfOk result (λ placing. option_to_list placing ≡ placing_of request.now mutation.now (kind_of mutation.now.op)) }
+    ensures { IfOk result (λ placing. option_to_list placing ≡ placing_of request.now bound mutation.now (kind_of mutation.now.op)) }
 {
     match kind_of(mutation.op) {
         Some(kind) => {
-            let lock = lock_of(alloc, request, &mutation.value, kind)?;
+            let lock = lock_of(alloc, request, bound, &mutation.value, kind)?;
             let key = mutation.key.try_clone()?;
             Ok(Some(Placing { key, lock }))
         }
@@ -202,19 +240,23 @@ fn placing_of(
 }
 
 /// The locks that a request's mutations set.
-pub fn placings(alloc: Global, request: &PrewriteRequest) -> Result<Vec<Placing>, NoMemory>
-    ensures { IfOk result (λ all. all.items ≡ placings request.now request.now.mutations) }
+pub fn placings(
+    alloc: Global,
+    request: &PrewriteRequest,
+    bound: u64,
+) -> Result<Vec<Placing>, NoMemory>
+    ensures { IfOk result (λ all. all.items ≡ placings request.now bound request.now.mutations) }
 {
     let mut all = Vec::new(alloc);
     for mutation in request.mutations.as_slice() {
-        if let Some(placing) = placing_of(alloc, request, mutation)? {
+        if let Some(placing) = placing_of(alloc, request, bound, mutation)? {
             all.push(placing)?;
         }
     }
     Ok(all)
 }
 
-/// Sets a lock, unless its start holds a prewrite lock there. There is room for one more cell.
+/// Sets a lock, unless its start holds a prewrite lock or is committed there. There is room for one more cell.
 fn set_lock(cells: &mut Vec<Cell>, placing: Placing)
     requires kept { AreKept cells.old.items }
     requires room { vec_len cells.old < vec_capacity cells.old }
@@ -226,7 +268,7 @@ fn set_lock(cells: &mut Vec<Cell>, placing: Placing)
     match search(cells.as_slice(), &placing.key) {
         Ok(at) => {
             let cell = &mut cells[at];
-            if !owns(&cell.lock, placing.lock.start) {
+            if is_missing(placing.lock.start, cell) {
                 cell.lock = Some(placing.lock);
             }
         }
@@ -244,6 +286,8 @@ pub fn set_locks(cells: &mut Vec<Cell>, mut placings: Vec<Placing>)
     requires room { vec_len cells.old + vec_len placings ≤ vec_capacity cells.old }
     ensures cells { (k : Key) → cell_at cells.new.items k ≡ all_locked placings.items (cell_at cells.old.items k) }
     ensures kept { AreKept cells.new.items }
+    ensures len { vec_len cells.new ≤ vec_len cells.old + vec_len placings }
+    ensures capacity { vec_capacity cells.old ≤ vec_capacity cells.new }
 {
     placings.reverse();
     while let Some(placing) = placings.pop() {
@@ -251,17 +295,22 @@ pub fn set_locks(cells: &mut Vec<Cell>, mut placings: Vec<Placing>)
     }
 }
 
-/// Sets the locks of a request's mutations.
-pub fn lock_all(cells: &mut Vec<Cell>, request: &PrewriteRequest) -> Result<(), NoMemory>
+/// Sets the locks of a request's mutations, with this bound where they are async.
+pub fn lock_all(
+    cells: &mut Vec<Cell>,
+    request: &PrewriteRequest,
+    bound: u64,
+) -> Result<(), NoMemory>
     requires kept { AreKept cells.old.items }
     requires ordered { AreOrderly cells.old.items }
+    requires locks { request.now.try_one_pc ≡ false }
     requires free { prewrite_errors cells.old.items request.now request.now.mutations request.now.is_pessimistic_lock ≡ [] }
-    ensures ok { OnOk result (cells.new.items ≡ changed_at (mutation_keys request.now.mutations) (prewrite_cell request.now request.now.mutations) cells.old.items) }
+    ensures ok { OnOk result (cells.new.items ≡ changed_at (mutation_keys request.now.mutations) (prewrite_cell request.now bound request.now.mutations) cells.old.items) }
     ensures kept { AreKept cells.new.items }
     ensures ordered { AreOrderly cells.new.items }
     ensures err { OnErr result (cells.new.items ≡ cells.old.items) }
 {
-    let ready = placings(*cells.allocator(), request)?;
+    let ready = placings(*cells.allocator(), request, bound)?;
     cells.reserve(ready.len())?;
     set_locks(cells, ready);
     Ok(())

@@ -1,12 +1,11 @@
 //! Why a start can't be rolled back.
 ghost use Rattle.std.specs.Prelude.{◌≡◌, IfOk};
-ghost use Rattle.std.specs.Option.{option_copied};
 ghost use Rattle.txn_model.specs.Cells.{AreInOrder, cell_at};
-ghost use Rattle.txn_model.specs.Rollback.{rollback_error, first_rollback_error};
-ghost use Rattle.txn_model.specs.Settle.{mismatched_lock};
+ghost use Rattle.txn_model.specs.Rollback.{rollback_error, first_rollback_error, cleanup_refusal};
 
 use crate::cell::{Cell, Lock};
 use crate::cells::{commit_at, find};
+use std::alloc::Global;
 use txn_kv::{Key, KeyError, NoMemory};
 
 /// A key where the start is committed can't be rolled back.
@@ -41,29 +40,45 @@ pub fn first_rollback_error(
     Ok(None)
 }
 
-/// A lock of a start that names another primary than this key.
-fn mismatched_lock<'a>(lock: &'a Option<Lock>, primary: &Key, start: u64) -> Option<&'a Lock>
-    ensures { option_copied result ≡ mismatched_lock primary.now start lock.now }
+/// Why a lock of the start can't be cleaned up at its primary: it names another one, or is async.
+fn cleanup_refusal(
+    alloc: Global,
+    primary: &Key,
+    start: u64,
+    lock: &Option<Lock>,
+) -> Result<Option<KeyError>, NoMemory>
+    ensures { IfOk result (λ error. error ≡ cleanup_refusal primary.now start lock.now) }
 {
     match lock {
         Some(lock) => {
-            if lock.start == start && lock.primary != *primary {
-                Some(lock)
-            } else {
-                None
+            if lock.start != start {
+                return Ok(None);
             }
+            if lock.primary != *primary {
+                let info = lock.info(alloc, primary)?;
+                return Ok(Some(KeyError::PrimaryMismatch(info)));
+            }
+            if lock.is_async() {
+                return Ok(Some(KeyError::Locked(lock.info(alloc, primary)?)));
+            }
+            Ok(None)
         }
-        None => None,
+        None => Ok(None),
     }
 }
 
-/// The lock of a start at a key that names another primary.
-pub fn mismatched_at<'a>(cells: &'a [Cell], key: &Key, start: u64) -> Option<&'a Lock>
+/// Why a start can't be cleaned up at a key, by its lock there.
+pub fn refusal_at(
+    alloc: Global,
+    cells: &[Cell],
+    key: &Key,
+    start: u64,
+) -> Result<Option<KeyError>, NoMemory>
     requires { AreInOrder cells.now }
-    ensures { option_copied result ≡ mismatched_lock key.now start (cell_at cells.now key.now).lock }
+    ensures { IfOk result (λ error. error ≡ cleanup_refusal key.now start (cell_at cells.now key.now).lock) }
 {
     match find(cells, key) {
-        Some(cell) => mismatched_lock(&cell.lock, key, start),
-        None => None,
+        Some(cell) => cleanup_refusal(alloc, key, start, &cell.lock),
+        None => Ok(None),
     }
 }

@@ -1,11 +1,11 @@
 //! What became of a start at its primary, and what a check of it does.
-ghost use Rattle.std.specs.Prelude.{◌≡◌, ◌∷◌, [], IfOk, OnOk, OnErr};
+ghost use Rattle.std.specs.Prelude.{◌≡◌, ◌∷◌, [], Some, IfOk, OnOk, OnErr};
 ghost use Rattle.std.specs.Option.{option_copied};
 ghost use Rattle.txn_model.specs.Cells.{AreInOrder, AreKept, cell_at, changed_at};
 ghost use Rattle.txn_model.specs.Locks.{has_start};
 ghost use Rattle.txn_model.specs.Orderly.{AreOrderly};
 ghost use Rattle.txn_model.specs.Statuses.{found_lock, status_rule};
-ghost use Rattle.txn_model.specs.Status.{is_expired, finding, unlocked_finding, goes_unrecorded, status_cell, status_told, status_reply};
+ghost use Rattle.txn_model.specs.Status.{is_expired, is_over, finding, unlocked_finding, goes_unrecorded, status_cell, no_status, status_told, status_reply};
 
 use crate::cell::{Cell, Lock, Write};
 use crate::cells::{find, lock_of_start};
@@ -24,6 +24,13 @@ fn is_expired(now: u64, lock: &Lock) -> bool
 {
     let life = (now / MILLISECOND).saturating_sub(lock.start / MILLISECOND);
     now == u64::MAX || lock.ttl <= life
+}
+
+/// An expired lock is over, and an async one only where the request is forced.
+fn is_over(request: &CheckTxnStatusRequest, lock: &Lock) -> bool
+    ensures { result ≡ is_over request.now lock.now }
+{
+    is_expired(request.current_ts, lock) && (request.force_sync_commit || !lock.is_async())
 }
 
 /// An expired pessimistic lock that is being resolved goes unrecorded.
@@ -51,6 +58,19 @@ fn status_told(
     }
 }
 
+fn status_refused(error: KeyError) -> CheckTxnStatusResponse
+    ensures { result ≡ record no_status { error = Some error } }
+{
+    CheckTxnStatusResponse {
+        region_error: None,
+        error: Some(error),
+        lock_ttl: 0,
+        commit_version: 0,
+        action: Action::NoAction,
+        lock_info: None,
+    }
+}
+
 /// The reply where the start holds this lock.
 fn locked_reply(
     alloc: Global,
@@ -61,11 +81,10 @@ fn locked_reply(
 {
     let key = &request.primary_key;
     if lock.primary != *key {
-        let mut reply = status_told(0, 0, Action::NoAction, None);
-        reply.error = Some(KeyError::PrimaryMismatch(lock.info(alloc, key)?));
-        return Ok(reply);
+        let info = lock.info(alloc, key)?;
+        return Ok(status_refused(KeyError::PrimaryMismatch(info)));
     }
-    if !is_expired(request.current_ts, lock) {
+    if !is_over(request, lock) {
         let info = lock.info(alloc, key)?;
         return Ok(status_told(lock.ttl, 0, Action::NoAction, Some(info)));
     }
@@ -95,12 +114,10 @@ fn unlocked_reply(
     if request.rollback_if_not_exist {
         return Ok(status_told(0, 0, Action::LockNotExistRollback, None));
     }
-    let mut reply = status_told(0, 0, Action::NoAction, None);
-    reply.error = Some(KeyError::TxnNotFound {
+    Ok(status_refused(KeyError::TxnNotFound {
         key: request.primary_key.try_clone()?,
         start: request.lock_ts,
-    });
-    Ok(reply)
+    }))
 }
 
 fn is_rolled_back(cell: &Cell, start: u64) -> bool
@@ -149,7 +166,7 @@ fn locked_rule(request: &CheckTxnStatusRequest, lock: &Lock) -> Rule
     if lock.primary != request.primary_key {
         return Rule::Stay;
     }
-    if !is_expired(request.current_ts, lock) {
+    if !is_over(request, lock) {
         return Rule::Stay;
     }
     if goes_unrecorded(request, lock) {

@@ -3,9 +3,11 @@ ghost use Rattle.txn_model.specs.Cells.{AreKept};
 ghost use Rattle.txn_model.specs.Orderly.{AreOrderly};
 ghost use Rattle.txn_model.specs.Regions.{at_clock, can_lead, can_split, lead, split};
 ghost use Rattle.txn_model.specs.Store.{opening, store_up};
-ghost use Rattle.txn_model.specs.Table.{table, prewrite_row, commit_row, tso_row, update_gc_safe_point_row, CanCount, CanServe};
+ghost use Rattle.txn_model.specs.Table.{table, commit_row, CanServe};
 
+mod driver;
 mod locks;
+mod prewrites;
 mod reads;
 mod rollbacks;
 mod statuses;
@@ -13,19 +15,14 @@ mod statuses;
 use crate::cell::Cell;
 use crate::commit::{commit_all, first_error};
 use crate::lead::{can_lead, lead_region};
-use crate::placement::{
-    last_timestamp, region_error, told_region, told_region_with_id, told_store, told_stores,
-};
-use crate::prewrite::{lock_all, prewrite_errors};
+use crate::placement::region_error;
 use crate::region::StoredRegion;
 use crate::split::{split_region, starts_at};
 use std::alloc::Global;
 use std::marker::Model;
 use txn_kv::{
-    CommitRequest, CommitResponse, GetAllStoresResponse, GetStoreResponse, Items, Key,
-    MembersResponse, NoMemory, PrewriteRequest, PrewriteResponse, RegionEpoch, Reply, Request,
-    StoreId, StoreMeta, StoreState, Text, Timestamp, TimestampExt, TsoRequest, TsoResponse,
-    UpdateGcSafePointRequest, UpdateGcSafePointResponse,
+    CommitRequest, CommitResponse, Items, Key, MembersResponse, NoMemory, RegionEpoch, Reply,
+    Request, StoreId, StoreMeta, StoreState, Text,
 };
 
 /// The store of a run: cells in the order of their keys, regions and stores, the clock in milliseconds, and the last
@@ -141,90 +138,33 @@ impl ModelStore {
         self.safepoint
     }
 
-    /// Sets a lock on each mutated key, if none conflicts.
-    fn prewrite(&mut self, request: &PrewriteRequest) -> Result<PrewriteResponse, NoMemory>
-        ensures reply { IfOk result (λ reply. Reply.Prewrite reply ≡ (prewrite_row self.old request.now).reply) }
-        ensures store { OnOk result (self.new ≡ (prewrite_row self.old request.now).store) }
-        ensures err { OnErr result (self.new ≡ self.old) }
-    {
-        let alloc = *self.cells.allocator();
-        let region_error = region_error(alloc, self.regions.as_slice(), request.context)?;
-        if region_error.is_some() {
-            return Ok(PrewriteResponse {
-                region_error,
-                errors: Items::new(alloc),
-                min_commit_ts: 0,
-                one_pc_commit_ts: 0,
-            });
-        }
-        let errors = prewrite_errors(alloc, self.cells.as_slice(), request)?;
-        if errors.len() == 0 {
-            lock_all(&mut self.cells, request)?;
-        }
-        Ok(PrewriteResponse {
-            region_error: None,
-            errors,
-            min_commit_ts: 0,
-            one_pc_commit_ts: 0,
-        })
-    }
-
     /// Makes commits of the locks that a start holds.
-    fn commit(&mut self, request: &CommitRequest) -> Result<CommitResponse, NoMemory>
-        ensures reply { IfOk result (λ reply. Reply.Commit reply ≡ (commit_row self.old request.now).reply) }
+    fn commit(&mut self, request: &CommitRequest) -> Result<Reply, NoMemory>
+        ensures reply { IfOk result (λ reply. reply ≡ (commit_row self.old request.now).reply) }
         ensures store { OnOk result (self.new ≡ (commit_row self.old request.now).store) }
         ensures err { OnErr result (self.new ≡ self.old) }
     {
         let alloc = *self.cells.allocator();
-        let region_error = region_error(alloc, self.regions.as_slice(), request.context)?;
-        if region_error.is_some() {
-            return Ok(CommitResponse {
-                region_error,
+        if let Some(error) = region_error(alloc, self.regions.as_slice(), request.context)? {
+            return Ok(Reply::Commit(CommitResponse {
+                region_error: Some(error),
                 error: None,
                 commit_version: 0,
-            });
+            }));
         }
-        let error = first_error(alloc, self.cells.as_slice(), request)?;
-        if error.is_some() {
-            return Ok(CommitResponse {
+        if let Some(error) = first_error(alloc, self.cells.as_slice(), request)? {
+            return Ok(Reply::Commit(CommitResponse {
                 region_error: None,
-                error,
+                error: Some(error),
                 commit_version: 0,
-            });
+            }));
         }
         commit_all(&mut self.cells, request)?;
-        Ok(CommitResponse {
+        Ok(Reply::Commit(CommitResponse {
             region_error: None,
             error: None,
             commit_version: request.commit_version,
-        })
-    }
-
-    /// The last of the next `count` timestamps.
-    fn tso(&mut self, request: TsoRequest) -> TsoResponse
-        requires { CanCount self.old request }
-        ensures reply { Reply.Tso result ≡ (tso_row self.old request).reply }
-        ensures store { self.new ≡ (tso_row self.old request).store }
-    {
-        self.last = last_timestamp(self.last, self.clock, request.count);
-        TsoResponse {
-            count: request.count,
-            timestamp: Some(Timestamp::from_version(self.last)),
-        }
-    }
-
-    /// The safe point becomes the greater.
-    fn update_gc_safe_point(
-        &mut self,
-        request: UpdateGcSafePointRequest,
-    ) -> UpdateGcSafePointResponse
-        ensures reply { Reply.UpdateGcSafePoint result ≡ (update_gc_safe_point_row self.old request).reply }
-        ensures store { self.new ≡ (update_gc_safe_point_row self.old request).store }
-    {
-        self.safepoint = self.safepoint.max(request.safe_point);
-        UpdateGcSafePointResponse {
-            new_safe_point: self.safepoint,
-        }
+        }))
     }
 
     /// Sets the clock, in milliseconds.
@@ -269,57 +209,27 @@ impl ModelStore {
         ensures err { OnErr result (self.new ≡ self.old) }
     {
         match request {
-            Request::Get(request) => Ok(Reply::Get(self.get(request)?)),
-            Request::BatchGet(request) => Ok(Reply::BatchGet(self.batch_get(request)?)),
-            Request::Scan(request) => Ok(Reply::Scan(self.scan(request)?)),
-            Request::Prewrite(request) => Ok(Reply::Prewrite(self.prewrite(request)?)),
-            Request::Commit(request) => Ok(Reply::Commit(self.commit(request)?)),
-            Request::Cleanup(request) => Ok(Reply::Cleanup(self.cleanup(request)?)),
-            Request::BatchRollback(request) => {
-                Ok(Reply::BatchRollback(self.batch_rollback(request)?))
-            }
-            Request::PessimisticRollback(request) => Ok(Reply::PessimisticRollback(
-                self.pessimistic_rollback(request)?,
-            )),
-            Request::PessimisticLock(request) => {
-                Ok(Reply::PessimisticLock(self.pessimistic_lock(request)?))
-            }
-            Request::ResolveLock(request) => Ok(Reply::ResolveLock(self.resolve_lock(request)?)),
-            Request::ScanLock(request) => Ok(Reply::ScanLock(self.scan_lock(request)?)),
-            Request::TxnHeartBeat(request) => Ok(Reply::TxnHeartBeat(self.txn_heart_beat(
-                request,
-            )?)),
-            Request::CheckTxnStatus(request) => {
-                Ok(Reply::CheckTxnStatus(self.check_txn_status(request)?))
-            }
-            Request::CheckSecondaryLocks(request) => Ok(Reply::CheckSecondaryLocks(
-                self.check_secondary_locks(request)?,
-            )),
-            Request::UnsafeDestroyRange(request) => Ok(Reply::UnsafeDestroyRange(
-                self.unsafe_destroy_range(request),
-            )),
-            Request::GetRegion(request) => Ok(Reply::GetRegion(told_region(
-                self.regions.as_slice(),
-                &request.region_key,
-            )?)),
-            Request::GetRegionById(request) => Ok(Reply::GetRegionById(told_region_with_id(
-                self.regions.as_slice(),
-                request.region_id,
-            )?)),
-            Request::GetStore(request) => {
-                let alloc = *self.cells.allocator();
-                let store = told_store(alloc, self.stores.as_slice(), request.store_id)?;
-                Ok(Reply::GetStore(GetStoreResponse { store }))
-            }
-            Request::GetAllStores(_) => {
-                let alloc = *self.cells.allocator();
-                let stores = told_stores(alloc, self.stores.as_slice())?;
-                Ok(Reply::GetAllStores(GetAllStoresResponse { stores }))
-            }
-            Request::UpdateGcSafePoint(request) => Ok(Reply::UpdateGcSafePoint(
-                self.update_gc_safe_point(*request),
-            )),
-            Request::Tso(request) => Ok(Reply::Tso(self.tso(*request))),
+            Request::Get(request) => self.get(request),
+            Request::BatchGet(request) => self.batch_get(request),
+            Request::Scan(request) => self.scan(request),
+            Request::Prewrite(request) => self.prewrite(request),
+            Request::Commit(request) => self.commit(request),
+            Request::Cleanup(request) => self.cleanup(request),
+            Request::BatchRollback(request) => self.batch_rollback(request),
+            Request::PessimisticRollback(request) => self.pessimistic_rollback(request),
+            Request::PessimisticLock(request) => self.pessimistic_lock(request),
+            Request::ResolveLock(request) => self.resolve_lock(request),
+            Request::ScanLock(request) => self.scan_lock(request),
+            Request::TxnHeartBeat(request) => self.txn_heart_beat(request),
+            Request::CheckTxnStatus(request) => self.check_txn_status(request),
+            Request::CheckSecondaryLocks(request) => self.check_secondary_locks(request),
+            Request::UnsafeDestroyRange(request) => Ok(self.unsafe_destroy_range(request)),
+            Request::GetRegion(request) => self.get_region(request),
+            Request::GetRegionById(request) => self.get_region_by_id(*request),
+            Request::GetStore(request) => self.get_store(*request),
+            Request::GetAllStores(request) => self.get_all_stores(*request),
+            Request::UpdateGcSafePoint(request) => Ok(self.update_gc_safe_point(*request)),
+            Request::Tso(request) => Ok(self.tso(*request)),
             Request::Members(_) => Ok(Reply::Members(MembersResponse)),
         }
     }

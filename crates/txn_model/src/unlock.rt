@@ -126,7 +126,8 @@ fn commit_key(
 
 fn undo(cells: &mut Vec<Cell>, unlocked: Unlocked)
     requires { CanUndo unlocked cells.old.items }
-    ensures { cells.new.items ≡ undone unlocked cells.old.items }
+    ensures cells { cells.new.items ≡ undone unlocked cells.old.items }
+    ensures capacity { vec_capacity cells.old ≤ vec_capacity cells.new }
 {
     let alloc = *cells.allocator();
     relock(
@@ -140,7 +141,8 @@ fn undo(cells: &mut Vec<Cell>, unlocked: Unlocked)
 /// Undoes commits, the last first.
 fn undo_all(cells: &mut Vec<Cell>, mut done: Vec<Unlocked>)
     requires { CanUndoAll (reverse done.items) cells.old.items }
-    ensures { cells.new.items ≡ all_undone (reverse done.items) cells.old.items }
+    ensures cells { cells.new.items ≡ all_undone (reverse done.items) cells.old.items }
+    ensures capacity { vec_capacity cells.old ≤ vec_capacity cells.new }
 {
     while let Some(unlocked) = done.pop() {
         undo(cells, unlocked);
@@ -190,7 +192,8 @@ pub fn commit_each(cells: &mut Vec<Cell>, commitments: &[Commitment]) -> Result<
     ensures ok { OnOk result ((k : Key) → cell_at cells.new.items k ≡ all_committed commitments.now (cell_at cells.old.items k)) }
     ensures kept { AreKept cells.new.items }
     ensures err { OnErr result (cells.new.items ≡ cells.old.items) }
-    ensures room { OnOk result ((vec_len cells.new ≡ vec_len cells.old) × (vec_capacity cells.old ≤ vec_capacity cells.new)) }
+    ensures len { vec_len cells.new ≡ vec_len cells.old }
+    ensures capacity { vec_capacity cells.old ≤ vec_capacity cells.new }
 {
     let mut done = Vec::with_capacity(*cells.allocator(), commitments.len())?;
     for one in commitments {

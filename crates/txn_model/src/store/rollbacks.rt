@@ -5,12 +5,12 @@ ghost use Rattle.txn_model.specs.Table.{batch_rollback_row, cleanup_row, pessimi
 
 use crate::cells::commit_at;
 use crate::placement::region_error;
-use crate::rollback::{first_rollback_error, mismatched_at};
+use crate::rollback::{first_rollback_error, refusal_at};
 use crate::rule::{Rule, change_all, change_one};
 use crate::store::ModelStore;
 use txn_kv::{
-    BatchRollbackRequest, BatchRollbackResponse, CleanupRequest, CleanupResponse, Items, KeyError,
-    NoMemory, PessimisticRollbackRequest, PessimisticRollbackResponse,
+    BatchRollbackRequest, BatchRollbackResponse, CleanupRequest, CleanupResponse, Items, NoMemory,
+    PessimisticRollbackRequest, PessimisticRollbackResponse, Reply,
 };
 
 impl ModelStore {
@@ -18,96 +18,92 @@ impl ModelStore {
     pub(crate) fn batch_rollback(
         &mut self,
         request: &BatchRollbackRequest,
-    ) -> Result<BatchRollbackResponse, NoMemory>
-        ensures reply { IfOk result (λ reply. BatchRollback reply ≡ (batch_rollback_row self.old request.now).reply) }
+    ) -> Result<Reply, NoMemory>
+        ensures reply { IfOk result (λ reply. reply ≡ (batch_rollback_row self.old request.now).reply) }
         ensures store { OnOk result (self.new ≡ (batch_rollback_row self.old request.now).store) }
         ensures err { OnErr result (self.new ≡ self.old) }
     {
         let alloc = *self.cells.allocator();
-        let region_error = region_error(alloc, self.regions.as_slice(), request.context)?;
-        if region_error.is_some() {
-            return Ok(BatchRollbackResponse {
-                region_error,
+        if let Some(error) = region_error(alloc, self.regions.as_slice(), request.context)? {
+            return Ok(Reply::BatchRollback(BatchRollbackResponse {
+                region_error: Some(error),
                 error: None,
-            });
+            }));
         }
         let start = request.start_version;
         let keys = request.keys.as_slice();
-        let error = first_rollback_error(self.cells.as_slice(), start, keys)?;
-        if error.is_some() {
-            return Ok(BatchRollbackResponse {
+        if let Some(error) = first_rollback_error(self.cells.as_slice(), start, keys)? {
+            return Ok(Reply::BatchRollback(BatchRollbackResponse {
                 region_error: None,
-                error,
-            });
+                error: Some(error),
+            }));
         }
         change_all(&mut self.cells, Rule::RollBack(start), keys)?;
-        Ok(BatchRollbackResponse {
+        Ok(Reply::BatchRollback(BatchRollbackResponse {
             region_error: None,
             error: None,
-        })
+        }))
     }
 
-    /// Rolls a start back at its primary, unless it is committed there.
-    pub(crate) fn cleanup(&mut self, request: &CleanupRequest) -> Result<CleanupResponse, NoMemory>
-        ensures reply { IfOk result (λ reply. Cleanup reply ≡ (cleanup_row self.old request.now).reply) }
+    /// Rolls a start back at its primary, unless it is committed or has an async lock there.
+    pub(crate) fn cleanup(&mut self, request: &CleanupRequest) -> Result<Reply, NoMemory>
+        ensures reply { IfOk result (λ reply. reply ≡ (cleanup_row self.old request.now).reply) }
         ensures store { OnOk result (self.new ≡ (cleanup_row self.old request.now).store) }
         ensures err { OnErr result (self.new ≡ self.old) }
     {
         let alloc = *self.cells.allocator();
-        let region_error = region_error(alloc, self.regions.as_slice(), request.context)?;
-        if region_error.is_some() {
-            return Ok(CleanupResponse {
-                region_error,
+        if let Some(error) = region_error(alloc, self.regions.as_slice(), request.context)? {
+            return Ok(Reply::Cleanup(CleanupResponse {
+                region_error: Some(error),
                 error: None,
                 commit_version: 0,
-            });
+            }));
         }
         let key = &request.key;
         let start = request.start_version;
-        if let Some(lock) = mismatched_at(self.cells.as_slice(), key, start) {
-            return Ok(CleanupResponse {
+        if let Some(error) = refusal_at(alloc, self.cells.as_slice(), key, start)? {
+            return Ok(Reply::Cleanup(CleanupResponse {
                 region_error: None,
-                error: Some(KeyError::PrimaryMismatch(lock.info(alloc, key)?)),
+                error: Some(error),
                 commit_version: 0,
-            });
+            }));
         }
         if let Some(write) = commit_at(self.cells.as_slice(), key, start) {
-            return Ok(CleanupResponse {
+            return Ok(Reply::Cleanup(CleanupResponse {
                 region_error: None,
                 error: None,
                 commit_version: write.commit,
-            });
+            }));
         }
         change_one(&mut self.cells, Rule::RollBack(start), key)?;
-        Ok(CleanupResponse {
+        Ok(Reply::Cleanup(CleanupResponse {
             region_error: None,
             error: None,
             commit_version: 0,
-        })
+        }))
     }
 
     /// Takes away the pessimistic locks of a start on keys.
     pub(crate) fn pessimistic_rollback(
         &mut self,
         request: &PessimisticRollbackRequest,
-    ) -> Result<PessimisticRollbackResponse, NoMemory>
-        ensures reply { IfOk result (λ reply. PessimisticRollback reply ≡ (pessimistic_rollback_row self.old request.now).reply) }
+    ) -> Result<Reply, NoMemory>
+        ensures reply { IfOk result (λ reply. reply ≡ (pessimistic_rollback_row self.old request.now).reply) }
         ensures store { OnOk result (self.new ≡ (pessimistic_rollback_row self.old request.now).store) }
         ensures err { OnErr result (self.new ≡ self.old) }
     {
         let alloc = *self.cells.allocator();
-        let region_error = region_error(alloc, self.regions.as_slice(), request.context)?;
-        if region_error.is_some() {
-            return Ok(PessimisticRollbackResponse {
-                region_error,
+        if let Some(error) = region_error(alloc, self.regions.as_slice(), request.context)? {
+            return Ok(Reply::PessimisticRollback(PessimisticRollbackResponse {
+                region_error: Some(error),
                 errors: Items::new(alloc),
-            });
+            }));
         }
         let rule = Rule::ReleaseUpTo(request.start_version, request.for_update_ts);
         change_all(&mut self.cells, rule, request.keys.as_slice())?;
-        Ok(PessimisticRollbackResponse {
+        Ok(Reply::PessimisticRollback(PessimisticRollbackResponse {
             region_error: None,
             errors: Items::new(alloc),
-        })
+        }))
     }
 }

@@ -13,7 +13,8 @@ use crate::status::{settle_status, status_reply};
 use crate::store::ModelStore;
 use txn_kv::{
     Action, CheckSecondaryLocksRequest, CheckSecondaryLocksResponse, CheckTxnStatusRequest,
-    CheckTxnStatusResponse, Items, KeyError, NoMemory, TxnHeartBeatRequest, TxnHeartBeatResponse,
+    CheckTxnStatusResponse, Items, KeyError, NoMemory, Reply, TxnHeartBeatRequest,
+    TxnHeartBeatResponse,
 };
 
 impl ModelStore {
@@ -21,60 +22,55 @@ impl ModelStore {
     pub(crate) fn check_txn_status(
         &mut self,
         request: &CheckTxnStatusRequest,
-    ) -> Result<CheckTxnStatusResponse, NoMemory>
-        ensures reply { IfOk result (λ reply. CheckTxnStatus reply ≡ (check_txn_status_row self.old request.now).reply) }
+    ) -> Result<Reply, NoMemory>
+        ensures reply { IfOk result (λ reply. reply ≡ (check_txn_status_row self.old request.now).reply) }
         ensures store { OnOk result (self.new ≡ (check_txn_status_row self.old request.now).store) }
         ensures err { OnErr result (self.new ≡ self.old) }
     {
         let alloc = *self.cells.allocator();
-        let region_error = region_error(alloc, self.regions.as_slice(), request.context)?;
-        if region_error.is_some() {
-            return Ok(CheckTxnStatusResponse {
-                region_error,
+        if let Some(error) = region_error(alloc, self.regions.as_slice(), request.context)? {
+            return Ok(Reply::CheckTxnStatus(CheckTxnStatusResponse {
+                region_error: Some(error),
                 error: None,
                 lock_ttl: 0,
                 commit_version: 0,
                 action: Action::NoAction,
                 lock_info: None,
-            });
+            }));
         }
         self.check_status(request)
     }
 
     /// The same, where the region is in order.
-    fn check_status(
-        &mut self,
-        request: &CheckTxnStatusRequest,
-    ) -> Result<CheckTxnStatusResponse, NoMemory>
-        ensures reply { IfOk result (λ reply. reply ≡ status_reply request.now (finding request.now (cell_at self.old.cells request.now.primary_key))) }
+    fn check_status(&mut self, request: &CheckTxnStatusRequest) -> Result<Reply, NoMemory>
+        ensures reply { IfOk result (λ reply. reply ≡ CheckTxnStatus (status_reply request.now (finding request.now (cell_at self.old.cells request.now.primary_key)))) }
         ensures store { OnOk result (self.new ≡ (check_txn_status_by None (finding request.now (cell_at self.old.cells request.now.primary_key)) self.old request.now).store) }
         ensures err { OnErr result (self.new ≡ self.old) }
     {
         let alloc = *self.cells.allocator();
         let reply = status_reply(alloc, self.cells.as_slice(), request)?;
         settle_status(&mut self.cells, request)?;
-        Ok(reply)
+        Ok(Reply::CheckTxnStatus(reply))
     }
 
     /// What became of a start at its secondaries. Where it is missing, it is rolled back.
     pub(crate) fn check_secondary_locks(
         &mut self,
         request: &CheckSecondaryLocksRequest,
-    ) -> Result<CheckSecondaryLocksResponse, NoMemory>
-        ensures reply { IfOk result (λ reply. CheckSecondaryLocks reply ≡ (check_secondary_locks_row self.old request.now).reply) }
+    ) -> Result<Reply, NoMemory>
+        ensures reply { IfOk result (λ reply. reply ≡ (check_secondary_locks_row self.old request.now).reply) }
         ensures store { OnOk result (self.new ≡ (check_secondary_locks_row self.old request.now).store) }
         ensures err { OnErr result (self.new ≡ self.old) }
     {
         let alloc = *self.cells.allocator();
-        let region_error = region_error(alloc, self.regions.as_slice(), request.context)?;
-        if region_error.is_some() {
-            return Ok(CheckSecondaryLocksResponse {
-                region_error,
+        if let Some(error) = region_error(alloc, self.regions.as_slice(), request.context)? {
+            return Ok(Reply::CheckSecondaryLocks(CheckSecondaryLocksResponse {
+                region_error: Some(error),
                 error: None,
                 locks: Items::new(alloc),
                 commit_ts: 0,
                 missing: false,
-            });
+            }));
         }
         let start = request.start_version;
         let keys = request.keys.as_slice();
@@ -82,49 +78,48 @@ impl ModelStore {
         let commit_ts = first_commit(self.cells.as_slice(), start, keys);
         let missing = any_missing(self.cells.as_slice(), start, keys);
         change_all(&mut self.cells, Rule::RollBackMissing(start), keys)?;
-        Ok(CheckSecondaryLocksResponse {
+        Ok(Reply::CheckSecondaryLocks(CheckSecondaryLocksResponse {
             region_error: None,
             error: None,
             locks,
             commit_ts,
             missing,
-        })
+        }))
     }
 
     /// Lengthens the life of the lock that a start holds at its primary.
     pub(crate) fn txn_heart_beat(
         &mut self,
         request: &TxnHeartBeatRequest,
-    ) -> Result<TxnHeartBeatResponse, NoMemory>
-        ensures reply { IfOk result (λ reply. TxnHeartBeat reply ≡ (txn_heart_beat_row self.old request.now).reply) }
+    ) -> Result<Reply, NoMemory>
+        ensures reply { IfOk result (λ reply. reply ≡ (txn_heart_beat_row self.old request.now).reply) }
         ensures store { OnOk result (self.new ≡ (txn_heart_beat_row self.old request.now).store) }
         ensures err { OnErr result (self.new ≡ self.old) }
     {
         let alloc = *self.cells.allocator();
-        let region_error = region_error(alloc, self.regions.as_slice(), request.context)?;
-        if region_error.is_some() {
-            return Ok(TxnHeartBeatResponse {
-                region_error,
+        if let Some(error) = region_error(alloc, self.regions.as_slice(), request.context)? {
+            return Ok(Reply::TxnHeartBeat(TxnHeartBeatResponse {
+                region_error: Some(error),
                 error: None,
                 lock_ttl: 0,
-            });
+            }));
         }
         let key = &request.primary_lock;
         let start = request.start_version;
         match lengthen(&mut self.cells, key, start, request.advise_lock_ttl) {
-            Some(lock_ttl) => Ok(TxnHeartBeatResponse {
+            Some(lock_ttl) => Ok(Reply::TxnHeartBeat(TxnHeartBeatResponse {
                 region_error: None,
                 error: None,
                 lock_ttl,
-            }),
-            None => Ok(TxnHeartBeatResponse {
+            })),
+            None => Ok(Reply::TxnHeartBeat(TxnHeartBeatResponse {
                 region_error: None,
                 error: Some(KeyError::TxnNotFound {
                     key: key.try_clone()?,
                     start,
                 }),
                 lock_ttl: 0,
-            }),
+            })),
         }
     }
 }

@@ -7,6 +7,8 @@ abbrev pub invariant-loop-placing : goal.invariant-loop-placing
 invariant-loop-placing l = record {
   kept : AreKept l.cells.items;
   room : vec_len l.cells + vec_len l.placings ≤ vec_capacity l.cells;
+  capacity : vec_capacity l.initial.cells ≤ vec_capacity l.cells;
+  few : vec_len l.cells + vec_len l.placings ≤ vec_len l.initial.cells + vec_len l.initial.placings;
   cells : (k : Key) → all_locked (reverse l.placings.items) (cell_at l.cells.items k) ≡ all_locked (reverse l.initial.placings.items) (cell_at l.initial.cells.items k);
 }
 
