@@ -9,7 +9,6 @@ use Rattle.txn_kv.specs.declared.request.PessimisticLockRequest.{PessimisticLock
 use Rattle.txn_history.specs.Among.{IsAmong}
 use Rattle.txn_history.specs.Event.{Event, Has}
 use Rattle.txn_history.specs.Event.Event.{Sent, Served}
-use Rattle.txn_history.specs.Plan.{Key, Content, Plan}
 use Rattle.txn_model.specs.declared.cell.Cell.{Cell}
 use Rattle.txn_model.specs.declared.cell.Lock.{Lock}
 use Rattle.txn_model.specs.declared.cell.Write.{Write}
@@ -18,19 +17,25 @@ use Rattle.txn_model.specs.Commit.{committed, commit_lock}
 use Rattle.txn_model.specs.Locks.{is_prewrite, owns, holds, newest_commit, with_commit}
 use Rattle.txn_model.specs.Settle.{rolled_back, unlocked}
 use Rattle.txn_model.specs.Status.{longer_lived, with_lock}
-use Rattle.txn_model.specs.Table.{table}
-use Rattle.txn_law.specs.Run.{IsOptimistic, IsRun, store_after}
 use Rattle.txn_law.specs.Sound.{IsSound}
-use Rattle.txn_law.specs.Whole.{content, HasCommit, HasLock, IsWholeAt}
-use Rattle.txn_law.proofs.Answered.{own_phase, warrant_named}
-use Rattle.txn_law.proofs.Kept.{Inv, kept, timely, passes}
-use Rattle.txn_law.proofs.Moves.{CellStep, May}
-use Rattle.txn_law.proofs.Moves.CellStep.{Same, Places, Recorded, Made, Released, Held, Renewed}
-use Rattle.txn_law.proofs.Phases.{phase, placed, held, has_with}
+use Rattle.txn_law.proofs.Phases.{placed, held, has_with, sound_placed}
 use Rattle.txn_law.proofs.Phases.Phase.{Locked}
 use Rattle.txn_law.proofs.Phases.Move.{Commits}
-use Rattle.txn_law.proofs.Replies.{phases}
-use Rattle.txn_law.proofs.Rows.{row}
+use Rattle.txn_history.specs.Plan.{Key, Content, Plan, Way}
+use Rattle.txn_history.specs.Plan.Way.{TwoPhases, Spread}
+use Rattle.txn_model.specs.Prewrite.{least_bound}
+use Rattle.txn_model.specs.Table.{table}
+use Rattle.txn_law.specs.Run.{store_after, IsRun, IsUnserved, IsRoomy, IsOptimistic}
+use Rattle.txn_law.specs.Whole.{content, HasCommit, HasLock, IsWholeAt}
+use Rattle.txn_law.proofs.Moves.{May, CellStep, SetBy, bound_in}
+use Rattle.txn_law.proofs.Moves.CellStep.{Same, Places, Landed, Recorded, Made, Released, Held, Renewed}
+use Rattle.txn_law.proofs.Replies.{phases, lock_is_phase}
+use Rattle.txn_law.proofs.Invariant.{NamedBy, IsBarred, HangIn, IsAbove, Inv}
+use Rattle.txn_law.proofs.Taken.{hang, settled_above}
+use Rattle.txn_law.proofs.Stepping.{step, warrant}
+use Rattle.txn_law.proofs.Kept.{kept, passes}
+use Rattle.txn_law.proofs.Bounds.{bounds, owner, same_lock, above_start, above_update}
+use Rattle.txn_kv.specs.declared.reply.Reply.{Reply}
 
 -- a time up to which a lock of s looked for commits: its start, or the time of a pessimistic lock of it
 abbrev pub Bound : List Event → ℕ → ℕ → Type 0
@@ -68,9 +73,6 @@ kept_lock s c l h = by (holds c.lock s) h
     by : (b : Bool) → (if b then None else c.lock) ≡ Some l → c.lock ≡ Some l
     by true e = absurd (cc)
     by false e = e
-
-same_lock : (l n : Lock) → Some l ≡ Some n → l ≡ n
-same_lock l n e = cc
 
 with_lock_apart : (es : List Event) (c : Cell) (l : Lock) → LooksPast es l (newest_commit c.commits) → IsApart es c → IsApart es (with_lock l c)
 with_lock_apart es c l b a = record { below = λ n h. subst (λ (q : Lock). LooksPast es q (newest_commit c.commits)) (same_lock l n h) b; apart = a.apart }
@@ -135,37 +137,54 @@ committed_apart es c s n i f a = by_lock c.lock refl
     by_lock (Some l) e = by_own l e (nat_eq l.start s && is_prewrite l.kind) refl
 
 -- each change of a cell by a request that was sent, whose commits are above what their locks looked at
-apart_after : (es : List Event) (t : Ticket) (r : Request) → Has es (Sent t r) → (k : Key) (c d : Cell) → IsSound c → ((s n : ℕ) (l : Lock) → May r k s (phase c s) (Commits n) → c.lock ≡ Some l → (nat_eq l.start s && is_prewrite l.kind) ≡ true → (b : ℕ) → Bound es s b → b < n) → CellStep r k c d → IsApart es c → IsApart es d
-apart_after es t r sent k c d i f Same a = a
-apart_after es t r sent k c d i f (Places l e o m) a = placed_apart es c l o.newest a
-apart_after es t r sent k c d i f (Recorded s o m) a = less_lock es c (rolled_back s c).lock (rolled_back s c).rolled (kept_lock s c) a
-apart_after es t r sent k c d i f (Made s n m) a = committed_apart es c s n i (λ l e own. f s n l m e own) a
-apart_after es t r sent k c d i f (Released s) a = by (owns c.lock s)
+apart_after : (es : List Event) (t : Ticket) (b : ℕ) (r : Request) → Has es (Sent t r) → (k : Key) (c d : Cell) → IsSound c → ((s n : ℕ) (l : Lock) → May r k s c (Commits n) → c.lock ≡ Some l → (nat_eq l.start s && is_prewrite l.kind) ≡ true → (y : ℕ) → Bound es s y → y < n) → ((l : Lock) → SetBy r b true l → (y : ℕ) → Bound es l.start y → y < b) → CellStep b r k c d → IsApart es c → IsApart es d
+apart_after es t b r sent k c d i f g Same a = a
+apart_after es t b r sent k c d i f g (Places l e o m v w) a = placed_apart es c l o.newest a
+apart_after es t b r sent k c d i f g (Landed l e o m v w) a = committed_apart es (placed l c) l.start b (sound_placed l c o i) (λ n h own y. g l v y) (placed_apart es c l o.newest a)
+apart_after es t b r sent k c d i f g (Recorded s o m) a = less_lock es c (rolled_back s c).lock (rolled_back s c).rolled (kept_lock s c) a
+apart_after es t b r sent k c d i f g (Made s n m) a = committed_apart es c s n i (λ l e own. f s n l m e own) a
+apart_after es t b r sent k c d i f g (Released s) a = by (owns c.lock s)
   where
-    by : (b : Bool) → IsApart es (if b then c else unlocked s c)
+    by : (x : Bool) → IsApart es (if x then c else unlocked s c)
     by true = a
     by false = less_lock es c (unlocked s c).lock c.rolled (kept_lock s c) a
-apart_after es t r sent k c d i f (Held l e o m) a = with_lock_apart es c l (m.0.for_update_ts, inr (t, m.0, subst (λ z. Has es (Sent t z)) m.1 sent, m.2, refl), m.3) a
-apart_after es t r sent k c d i f (Renewed l n e) a = with_lock_apart es c (longer_lived n l) (a.below l e) a
+apart_after es t b r sent k c d i f g (Held l e o m) a = with_lock_apart es c l (m.0.for_update_ts, inr (t, m.0, subst (λ z. Has es (Sent t z)) m.1 sent, m.2, refl), m.3) a
+apart_after es t b r sent k c d i f g (Renewed l n e) a = with_lock_apart es c (longer_lived n l) (a.below l e) a
 
-module _ (plans : ℕ → Plan) (es : List Event) (i : Inv plans es) where
+module _ (plans : ℕ → Plan) (es : List Event) (i : Inv plans es) (t : Ticket) (r : Request) (o : Reply) (sent : Has es (Sent t r)) (unserved : IsUnserved es t) (room : IsRoomy (store_after es)) where
+  above_of : (s n : ℕ) (k : Key) → May r k s (cell_at (store_after es).cells k) (Commits n) → (way : Way) → (plans s).way ≡ way → IsAbove (plans s) es s n
+  above_of s n k m TwoPhases w = elim named [ inl g ↦ (i.named s n g.0).1 | inr g ↦ (i.landed s n w g).1 ]
+    where
+      named : NamedBy (plans s) es s n
+      named = elim (warrant plans es i t r o sent unserved s k (Commits n) m TwoPhases w) [
+        | inl g ↦ g.2
+        | inr g ↦ (subst (λ v. HangIn (plans s) v (NamedBy (plans s) es s) (IsBarred es s) (phases (store_after es) s) (bounds es s)) w (i.hang s)).named n g
+      ]
+  above_of s n k m (Spread ks) w = settled_above plans es i s ks n w (warrant plans es i t r o sent unserved s k (Commits n) m (Spread ks) w)
+
   -- the commits of a request that was sent are above what their locks looked at
-  above_bound : (t : Ticket) (r : Request) → Has es (Sent t r) → (k : Key) (s n : ℕ) (l : Lock) → May r k s (phase (cell_at (store_after es).cells k) s) (Commits n) → (cell_at (store_after es).cells k).lock ≡ Some l → (nat_eq l.start s && is_prewrite l.kind) ≡ true → (b : ℕ) → Bound es s b → b < n
-  above_bound t r h k s n l m e own b bound = elim bound [
+  above_bound : (k : Key) (s n : ℕ) (l : Lock) → May r k s (cell_at (store_after es).cells k) (Commits n) → (cell_at (store_after es).cells k).lock ≡ Some l → (nat_eq l.start s && is_prewrite l.kind) ≡ true → (y : ℕ) → Bound es s y → y < n
+  above_bound k s n l m e own y bound = elim bound [
     | inl d ↦ (let a = above.0 in omega (arith, a, d))
-    | inr d ↦ (let a = above.1 k (content l.kind l.value) ((i.coherent s).locked k l.primary (content l.kind l.value) here).1 d.0 d.1 d.2 d.3 in let z = d.4 in omega (arith, a, z))
+    | inr d ↦ (let a = above.1 k (content l.kind l.value) ((hang plans es i s).locked k l.primary (content l.kind l.value) here).1 d.0 d.1 d.2 d.3 in let z = d.4 in omega (arith, a, z))
   ]
     where
-      parts : (x y : Bool) → (x && y) ≡ true → (x ≡ true) × (y ≡ true)
-      parts true true g = (refl, refl)
-      parts true false g = absurd (cc)
-      parts false y g = absurd (cc)
-
       here : phases (store_after es) s k ≡ Locked l.primary (content l.kind l.value)
-      here = let w = parts (nat_eq l.start s) (is_prewrite l.kind) own in own_phase s (cell_at (store_after es).cells k) l (i.sound k) e w.0 w.1
+      here = let w = owner l s own in subst (λ u. phases (store_after es) u k ≡ Locked l.primary (content l.kind l.value)) w.0 (lock_is_phase (cell_at (store_after es).cells k) l (i.sound k) e w.1)
 
-      above : (s < n) × ((q : Key) (x : Content) → (plans s).writes q ≡ Some x → (u : Ticket) (p : PessimisticLockRequest) → Has es (Sent u (PessimisticLock p)) → p.start_version ≡ s → p.for_update_ts < n)
-      above = (i.named s n (warrant_named plans es i t r h k s n l.primary (content l.kind l.value) here (subst (λ o. May r k s o (Commits n)) here m))).1
+      above : IsAbove (plans s) es s n
+      above = above_of s n k m (plans s).way refl
+
+  landed_bound : (l : Lock) → SetBy r (bound_in (store_after es) r) true l → (y : ℕ) → Bound es l.start y → y < bound_in (store_after es) r
+  landed_bound l v y bound =
+      let q = v.0 in
+      let f = i.prewrites t q (subst (λ z. Has es (Sent t z)) v.1 sent) in
+      let same : bound_in (store_after es) r ≡ least_bound (store_after es) q = ap (bound_in (store_after es)) v.1 in
+      let start = v.6 in
+      elim bound [
+        | inl d ↦ (let a = above_start (store_after es) q room f.start_low in omega (arith, a, d, same, start))
+        | inr d ↦ (let a = above_update (store_after es) q d.1.for_update_ts room (i.reads d.0 (PessimisticLock d.1) d.2) (f.above (inr v.2) d.0 d.1 d.2 (d.3 ∙ start)) in let x = d.4 in omega (arith, a, x, same))
+      ]
 
 apart_kept : (plans : ℕ → Plan) (es : List Event) → IsRun plans es → (k : Key) → IsApart es (cell_at (store_after es).cells k)
 apart_kept plans [] run k = record { below = λ l h. absurd (cc); apart = λ v w h. absurd h }
@@ -173,8 +192,7 @@ apart_kept plans (Sent n r ∷ es) run k = apart_more es (Sent n r) (cell_at (st
 apart_kept plans (Served n r o ∷ es) run k =
     let i = kept plans es run.2 in
     let st = store_after es in
-    let step = (row st r (i.warranted n r run.0.0).0 (timely plans es i n r run.0.0) i.in_order).step k (i.sound k) in
-    apart_more es (Served n r o) (cell_at (table st r).store.cells k) (apart_after es n r run.0.0 k (cell_at st.cells k) (cell_at (table st r).store.cells k) (i.sound k) (λ s c l m e own. above_bound plans es i n r run.0.0 k s c l m e own) step (apart_kept plans es run.2 k))
+    apart_more es (Served n r o) (cell_at (table st r).store.cells k) (apart_after es n (bound_in st r) r run.0.0 k (cell_at st.cells k) (cell_at (table st r).store.cells k) (i.sound k) (λ s c l m e own. above_bound plans es i n r o run.0.0 run.0.2 run.0.3 k s c l m e own) (λ l v. landed_bound plans es i n r o run.0.0 run.0.2 run.0.3 l v) (step plans es i n r o run.0.0 run.0.2 k) (apart_kept plans es run.2 k))
 apart_kept plans (e ∷ es) run k = apart_more es e (cell_at (store_after (e ∷ es)).cells k) (subst (λ cs. IsApart es (cell_at cs k)) (sym (passes es e tt).cells) (apart_kept plans es run.2 k))
 
 -- no key of a whole optimistic start has a commit of another start between

@@ -9,7 +9,7 @@ use Rattle.txn_history.specs.Event.Event.{Asked, Answered}
 use Rattle.txn_history.specs.Licence.{AllAcknowledged, AskedAfter, SentAfterAsk, WantedAfter, WasAskedFor, WasGiven, WasTimed}
 use Rattle.txn_history.specs.Plan.{Plan}
 use Rattle.txn_law.specs.Run.{IsPossible, IsRun}
-use Rattle.txn_law.proofs.Kept.{acknowledged_more, given_more}
+use Rattle.txn_law.proofs.Sent.{acknowledged_more, given_more}
 
 timed_more : (es : List Event) (e : Event) (a : Ticket) (c : ℕ) → WasTimed es a c → WasTimed (e ∷ es) a c
 timed_more es e a c w = (w.0, w.1, w.2, inr w.3, inr w.4, w.5)

@@ -1,5 +1,5 @@
 -- Each timestamp that is given is above the store's last one, which never falls. So none is given twice.
-use Rattle.std.proofs.Common.{◌≡◌, ℕ, ◌<◌, ◌≤◌, inl, inr, List, [], ◌∷◌, refl, sym, subst, arith}
+use Rattle.std.proofs.Common.{◌≡◌, ℕ, ◌<◌, ◌≤◌, inl, inr, List, [], ◌∷◌, sym, subst, arith}
 use Rattle.txn_kv.specs.declared.ticket.Ticket.{Ticket}
 use Rattle.txn_kv.specs.declared.request.Request.TheVariants.{Tso}
 use Rattle.txn_kv.specs.declared.request.TsoRequest.{TsoRequest}
@@ -11,7 +11,9 @@ use Rattle.txn_history.specs.Licence.{GivesTimestamp, WasGiven}
 use Rattle.txn_history.specs.Plan.{Plan}
 use Rattle.txn_law.specs.Part.{CameSince, IsPart}
 use Rattle.txn_law.specs.Run.{IsRun, IsUnused, store_after}
-use Rattle.txn_law.proofs.Kept.{given_last, kept, last_stays, passes, served_time}
+use Rattle.txn_law.proofs.Clocks.{last_stays}
+use Rattle.txn_law.proofs.Kept.{kept, passes}
+use Rattle.txn_law.proofs.Taken.{given_last, served_time}
 use Rattle.txn_law.proofs.Replies.{timestamps_rise}
 use Rattle.txn_law.proofs.StaysGone.{law_since, run_part}
 
@@ -30,7 +32,7 @@ above_last : (plans : ℕ → Plan) (es : List Event) (t : Ticket) (r : TsoReque
 above_last plans es t r o c run g = (timestamps_rise (store_after es) r o c (sym run.0.1) g).0
 
 served_at_most : (plans : ℕ → Plan) (es : List Event) → IsRun plans es → (t : Ticket) (r : TsoRequest) (o : TsoResponse) (c : ℕ) → Has es (Served t (Tso r) (reply.Tso o)) → GivesTimestamp o c → c ≤ (store_after es).last
-served_at_most plans es run t r o c h g = (((kept plans es run).means t (Tso r) (reply.Tso o) h).gives r o c refl refl g).1
+served_at_most plans es run t r o c h g = ((kept plans es run).means t (Tso r) (reply.Tso o) h c g).1
 
 pub law_at_most : (plans : ℕ → Plan) (es : List Event) → IsRun plans es → (t : Ticket) (r : TsoRequest) (o : TsoResponse) → Has es (Took t (Tso r) (reply.Tso o)) → (c : ℕ) → GivesTimestamp o c → c ≤ (store_after es).last
 law_at_most plans es run t r o h c g = served_at_most plans es run t r o c (served_time plans es (kept plans es run) t r o h) g

@@ -1,5 +1,5 @@
 -- Where a lock comes from.
-use Rattle.std.proofs.Common.{◌≡◌, ◌≢◌, ℕ, ◌<◌, ◌≤◌, ◌⊎◌, max, inl, inr, Bool, true, false, ◌&&◌, List, [], ◌∷◌, Option, Some, None, nat_eq, nat_le, refl, sym, ap, ◌∙◌, subst, subst₂, arith}
+use Rattle.std.proofs.Common.{◌≡◌, ◌≢◌, ℕ, ◌<◌, ◌≤◌, ◌⊎◌, max, inl, inr, Bool, true, false, List, [], ◌∷◌, Option, Some, None, nat_le, refl, sym, ap, ◌∙◌, subst, subst₂, arith}
 use Rattle.std.specs.Prelude.{if◌then◌else◌}
 use Rattle.std.proofs.lemmas.Bool.Decides.{nat_tests}
 use Rattle.txn_kv.specs.declared.ticket.Ticket.{Ticket}
@@ -18,8 +18,7 @@ use Rattle.txn_history.specs.Plan.{Key, Content, Plan, has_key, LocksKey}
 use Rattle.txn_model.specs.declared.cell.Cell.{Cell}
 use Rattle.txn_model.specs.declared.cell.Lock.{Lock}
 use Rattle.txn_model.specs.Cells.{cell_at, AreInOrder}
-use Rattle.txn_model.specs.Commit.{commit_lock}
-use Rattle.txn_model.specs.Locks.{is_prewrite, owns, holds, with_commit}
+use Rattle.txn_model.specs.Locks.{is_prewrite, owns, holds}
 use Rattle.txn_model.specs.PessimisticLock.{raised_lock}
 use Rattle.txn_model.specs.Placement.{region_check}
 use Rattle.txn_model.specs.Prewrite.{mutation_keys}
@@ -31,16 +30,19 @@ use Rattle.txn_model.proofs.CellLists.{cell_changed}
 use Rattle.txn_law.specs.Part.{IsPart, CameSince, LocksForUpdate, WasGivenBack}
 use Rattle.txn_law.specs.Run.{IsRun, store_after}
 use Rattle.txn_law.specs.Whole.{content, KeyCommitted}
-use Rattle.txn_law.proofs.Kept.{kept, passes, timely}
-use Rattle.txn_law.proofs.Moves.{CellStep, May}
-use Rattle.txn_law.proofs.Moves.CellStep.{Same, Places, Recorded, Made, Released, Held, Renewed}
-use Rattle.txn_law.proofs.Phases.{Phase, phase, held, IsClear}
+use Rattle.txn_law.proofs.Kept.{kept, passes}
+use Rattle.txn_law.proofs.Bounds.{taken_away, commit_lock_from, commit_takes, same_lock}
+use Rattle.txn_law.proofs.Stepping.{step}
+use Rattle.txn_law.proofs.Taken.{hang}
+use Rattle.txn_law.proofs.Moves.{CellStep, May, may_lock, bound_in}
+use Rattle.txn_law.proofs.Moves.CellStep.{Same, Places, Landed, Recorded, Made, Released, Held, Renewed}
+use Rattle.txn_law.proofs.Phases.{placed, held, IsClear}
 use Rattle.txn_law.proofs.Phases.Phase.{Locked}
 use Rattle.txn_law.proofs.Phases.Move.{Locks}
 use Rattle.txn_law.proofs.Replies.{phases, lock_is_phase, changed_cell}
-use Rattle.txn_law.proofs.Rows.{row, for_update_keeps}
+use Rattle.txn_law.proofs.Rows.{for_update_keeps}
 use Rattle.txn_law.proofs.StaysGone.{run_part, since_more}
-use Rattle.txn_law.proofs.Wholes.{law_unlocked}
+use Rattle.txn_law.proofs.Unlocked.{key_unlocked}
 
 -- a lock of s for this for-update timestamp stands in the cell
 abbrev pub Stands : Cell → ℕ → ℕ → Type 0
@@ -50,27 +52,8 @@ Stands c s f = (n : Lock) × (c.lock ≡ Some n) × (n.start ≡ s) × (n.for_up
 abbrev pub Sets : Request → Key → ℕ → ℕ → Type 0
 Sets r k s f = ((q : PrewriteRequest) × (r ≡ Prewrite q) × (q.start_version ≡ s) × LocksKey q.mutations k) ⊎ ((q : PessimisticLockRequest) × (r ≡ PessimisticLock q) × LocksForUpdate q s k × (f ≡ q.for_update_ts))
 
-same_lock : (l n : Lock) → Some l ≡ Some n → l ≡ n
-same_lock l n e = cc
-
-stood_as : (c : Cell) (o : Option Lock) (l : Lock) → o ≡ Some l → ((n : Lock) → o ≡ Some n → c.lock ≡ Some n) → Stands c l.start l.for_update
-stood_as c o l e f = (l, f l e, refl, refl)
-
-prewrite_sets : (r : Request) (k : Key) (s : ℕ) (b : Phase) (q : Key) (y : Content) (f : ℕ) → May r k s b (Locks q y) → Sets r k s f
-prewrite_sets (Prewrite p) k s b q y f m = inl (p, refl, sym m.0, (m.2, y, m.3, m.4, m.5))
-prewrite_sets _ k s b q y f m = absurd m
-
-taken_away : (b : Bool) (c : Cell) (n : Lock) → (if b then None else c.lock) ≡ Some n → c.lock ≡ Some n
-taken_away true c n e = absurd (cc)
-taken_away false c n e = e
-
-committed_lock : (s n : ℕ) (o : Option Lock) (c : Cell) (l : Lock) → c.lock ≡ o → (commit_lock s n o c).lock ≡ Some l → c.lock ≡ Some l
-committed_lock s n None c l e h = h
-committed_lock s n (Some m) c l e h = by (nat_eq m.start s && is_prewrite m.kind) h
-  where
-    by : (b : Bool) → (if b then record { key = c.key; lock = None; commits = with_commit (record { start = s; commit = n; kind = m.kind; value = m.value }) c.commits; rolled = c.rolled } else c).lock ≡ Some l → c.lock ≡ Some l
-    by true g = absurd (cc)
-    by false g = g
+prewrite_sets : (r : Request) (k : Key) (s : ℕ) (c : Cell) (q : Key) (y : Content) (f : ℕ) → May r k s c (Locks q y) → Sets r k s f
+prewrite_sets r k s c q y f m = let w = may_lock r k s c q y m in inl (w.0, w.1, sym w.2, (w.3.0, y, w.3.1, w.3.2, w.3.3))
 
 raised_sets : (q : PessimisticLockRequest) (k : Key) (c : Cell) (l : Lock) → IsClear c l.start → q.start_version ≡ l.start → has_key (mutation_keys q.mutations) k ≡ true → l ≡ raised_lock q c.lock → Stands c l.start l.for_update ⊎ Sets (PessimisticLock q) k l.start l.for_update
 raised_sets q k c l clear start key is = by c.lock refl is
@@ -84,22 +67,23 @@ raised_sets q k c l clear start key is = by c.lock refl is
     by (Some n) e g = by_time n e (ap (λ (x : Lock). x.for_update) g) (nat_le n.for_update q.for_update_ts) refl
 
 -- a lock that is there was there, or the request set it
-lock_from : (r : Request) (k : Key) (c d : Cell) → CellStep r k c d → (l : Lock) → d.lock ≡ Some l → Stands c l.start l.for_update ⊎ Sets r k l.start l.for_update
-lock_from r k c d Same l h = inl (l, h, refl, refl)
-lock_from r k c d (Places n e a m) l h = by (owns c.lock n.start) h
+lock_from : (at : ℕ) (r : Request) (k : Key) (c d : Cell) → CellStep at r k c d → (l : Lock) → d.lock ≡ Some l → Stands c l.start l.for_update ⊎ Sets r k l.start l.for_update
+lock_from at r k c d Same l h = inl (l, h, refl, refl)
+lock_from at r k c d (Places n e a m v f) l h = by (owns c.lock n.start) h
   where
     by : (b : Bool) → (if b then c else held n c).lock ≡ Some l → Stands c l.start l.for_update ⊎ Sets r k l.start l.for_update
     by true g = inl (l, g, refl, refl)
-    by false g = inr (subst (λ (x : Lock). Sets r k x.start x.for_update) (same_lock n l g) (prewrite_sets r k n.start (phase c n.start) n.primary (content n.kind n.value) n.for_update m))
-lock_from r k c d (Recorded s a m) l h = inl (l, taken_away (holds c.lock s) c l h, refl, refl)
-lock_from r k c d (Made s n m) l h = inl (l, committed_lock s n c.lock c l refl h, refl, refl)
-lock_from r k c d (Released s) l h = by (owns c.lock s) h
+    by false g = inr (subst (λ (x : Lock). Sets r k x.start x.for_update) (same_lock n l g) (prewrite_sets r k n.start c n.primary (content n.kind n.value) n.for_update m))
+lock_from at r k c d (Landed n e a m v f) l h = absurd (commit_takes n.start at (placed n c) l n (rw f refl) refl e h)
+lock_from at r k c d (Recorded s a m) l h = inl (l, taken_away (holds c.lock s) c l h, refl, refl)
+lock_from at r k c d (Made s n m) l h = inl (l, commit_lock_from s n c.lock c l refl h, refl, refl)
+lock_from at r k c d (Released s) l h = by (owns c.lock s) h
   where
     by : (b : Bool) → (if b then c else unlocked s c).lock ≡ Some l → Stands c l.start l.for_update ⊎ Sets r k l.start l.for_update
     by true g = inl (l, g, refl, refl)
     by false g = inl (l, taken_away (holds c.lock s) c l g, refl, refl)
-lock_from r k c d (Held n e a m) l h = subst (λ (x : Lock). Stands c x.start x.for_update ⊎ Sets r k x.start x.for_update) (same_lock n l h) (subst (λ z. Stands c n.start n.for_update ⊎ Sets z k n.start n.for_update) (sym m.1) (raised_sets m.0 k c n a m.2 m.4 m.5))
-lock_from r k c d (Renewed n ttl e) l h = inl (n, e, ap (λ (x : Lock). x.start) (same_lock (record n { ttl = max n.ttl ttl }) l h), ap (λ (x : Lock). x.for_update) (same_lock (record n { ttl = max n.ttl ttl }) l h))
+lock_from at r k c d (Held n e a m) l h = subst (λ (x : Lock). Stands c x.start x.for_update ⊎ Sets r k x.start x.for_update) (same_lock n l h) (subst (λ z. Stands c n.start n.for_update ⊎ Sets z k n.start n.for_update) (sym m.1) (raised_sets m.0 k c n a m.2 m.4 m.5))
+lock_from at r k c d (Renewed n ttl e) l h = inl (n, e, ap (λ (x : Lock). x.start) (same_lock (record n { ttl = max n.ttl ttl }) l h), ap (λ (x : Lock). x.for_update) (same_lock (record n { ttl = max n.ttl ttl }) l h))
 
 -- a lock that stands in the end stood at first, or was set since
 abbrev WasSetSince : List Event → List Event → Key → ℕ → ℕ → Type 0
@@ -113,10 +97,9 @@ came_from plans [] first run h k s f l = inl (subst (λ p. Stands (cell_at (stor
 came_from plans (e ∷ es) first run (inl h) k s f l = inl (subst (λ p. Stands (cell_at (store_after p).cells k) s f) (sym h) l)
 came_from plans (Sent t r ∷ es) first run (inr h) k s f l = elim (came_from plans es first run.2 h k s f l) [ inl a ↦ inl a | inr a ↦ inr (later_set es first (Sent t r) k s f a) ]
 came_from plans (Served t r o ∷ es) first run (inr h) k s f l =
-    let i = kept plans es run.2 in
     let st = store_after es in
-    let step = (row st r (i.warranted t r run.0.0).0 (timely plans es i t r run.0.0) i.in_order).step k (i.sound k) in
-    elim (subst₂ (λ x y. Stands (cell_at st.cells k) x y ⊎ Sets r k x y) l.2 l.3 (lock_from r k (cell_at st.cells k) (cell_at (table st r).store.cells k) step l.0 l.1)) [
+    let now = step plans es (kept plans es run.2) t r o run.0.0 run.0.2 k in
+    elim (subst₂ (λ x y. Stands (cell_at st.cells k) x y ⊎ Sets r k x y) l.2 l.3 (lock_from (bound_in st r) r k (cell_at st.cells k) (cell_at (table st r).store.cells k) now l.0 l.1)) [
       | inl a ↦ elim (came_from plans es first run.2 h k s f a) [ inl b ↦ inl b | inr b ↦ inr (later_set es first (Served t r o) k s f b) ]
       | inr a ↦ inr (t, r, o, (es, inl refl, h), a)
     ]
@@ -135,7 +118,8 @@ no_part (e ∷ es) = inr (no_part es)
 unplanned : (plans : ℕ → Plan) (es : List Event) → IsRun plans es → (s : ℕ) (k : Key) → (plans s).writes k ≡ None → (t : Ticket) (q : PrewriteRequest) (o : Reply) → Has es (Served t (Prewrite q) o) → q.start_version ≡ s → LocksKey q.mutations k → ⊥
 unplanned plans es run s k none t q o h e w =
     let i = kept plans es run in
-    let planned = ((i.warranted t (Prewrite q) (i.sent t (Prewrite q) o h)).1 k s (Phase.Free) (Locks q.primary_lock w.1) (sym e, refl, w.0, w.2, w.3, w.4) (λ p x f. absurd (cc))).1 in
+    let facts = i.prewrites t q (i.sent t (Prewrite q) o h) in
+    let planned = subst₂ (λ u z. (plans u).writes z ≡ Some w.1) e w.3 ((facts.planned w.0 w.2).1 w.1 w.4) in
     absurd (cc)
 
 -- and a lock there is a pessimistic one
@@ -147,7 +131,7 @@ not_prewritten plans es run s k none l h e = by (is_prewrite l.kind) refl
     by true f =
         let i = kept plans es run in
         let here = subst (λ u. phases (store_after es) u k ≡ Locked l.primary (content l.kind l.value)) e (lock_is_phase (cell_at (store_after es).cells k) l (i.sound k) h f) in
-        let planned = ((i.coherent s).locked k l.primary (content l.kind l.value) here).1 in
+        let planned = ((hang plans es i s).locked k l.primary (content l.kind l.value) here).1 in
         absurd (cc)
 
 -- what a PessimisticRollback leaves of a pessimistic lock is for a later for-update timestamp
@@ -220,5 +204,5 @@ pub law_no_lock_left : (plans : ℕ → Plan) (es : List Event) → IsRun plans 
 law_no_lock_left plans es run s all others k l h e = by ((plans s).writes k) refl
   where
     by : (o : Option Content) → (plans s).writes k ≡ o → ⊥
-    by (Some x) f = let w = all k x f in law_unlocked plans es run w.0 w.1 w.2 w.3 w.4 k w.6 l h (e ∙ sym w.5)
+    by (Some x) f = key_unlocked plans es run s k (all k x f) l h e
     by None f = elim (others k f) [ inl n ↦ unasked plans es run s k l f n h e | inr w ↦ given_back plans es run s k l f w h e ]

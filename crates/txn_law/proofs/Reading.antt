@@ -23,7 +23,7 @@ use Rattle.txn_history.specs.Among.{IsAmong}
 use Rattle.txn_history.specs.Plan.{Key}
 use Rattle.txn_model.specs.declared.cell.Cell.{Cell}
 use Rattle.txn_model.specs.declared.cell.Lock.{Lock}
-use Rattle.txn_model.specs.Cells.{no_cell, cell_at, AreInOrder}
+use Rattle.txn_model.specs.Cells.{cell_at, AreInOrder}
 use Rattle.txn_model.specs.Locks.{value_at, lock_info, is_written}
 use Rattle.txn_model.specs.Placement.{region_check}
 use Rattle.txn_model.specs.Ranges.{in_range, cells_in}
@@ -49,10 +49,6 @@ none_read c t None e h = (e, by (value_at c.commits t) h)
 
 pub read_none : (c : Cell) (t : ℕ) → read_pair t c ≡ None → IsClearAt t c × (value_at c.commits t ≡ None)
 read_none c t h = none_read c t (lock_before t c.lock) refl h
-
-pair_in : Option PbPair → PbPair → PbPair
-pair_in None q = q
-pair_in (Some p) q = p
 
 same_pair : (p q : PbPair) → Some p ≡ Some q → p ≡ q
 same_pair p q e = cc
@@ -144,9 +140,6 @@ scanned_among r cs c a h = by r.reverse h
     by : (b : Bool) → (if b then in_range r.end_key r.start_key c.key else in_range r.start_key r.end_key c.key) ≡ true → IsAmong (if b then reverse (cells_in r.end_key r.start_key cs) else cells_in r.start_key r.end_key cs) c
     by true g = reverse_among (cells_in r.end_key r.start_key cs) c (filter_among (λ (d : Cell). in_range r.end_key r.start_key d.key) cs c a g)
     by false g = filter_among (λ (d : Cell). in_range r.start_key r.end_key d.key) cs c a g
-
-no_cell_reads : (k : Key) (t : ℕ) → read_pair t (no_cell k) ≡ None
-no_cell_reads k t = refl
 
 scan_told : (e : Option RegionErr) (st : Store) (r : ScanRequest) (k : Key) (t : ℕ) → AreInOrder st.cells → Reads (Scan r) (scan_by e st r).reply k t → Told st (Scan r) (scan_by e st r).reply k t
 scan_told (Some e) st r k t o h = absurd (cc h.1)

@@ -1,5 +1,5 @@
 -- Each row of the request table changes each cell by a step that its request may make.
-use Rattle.std.proofs.Common.{◌≡◌, ℕ, Bool, true, false, not, ◌&&◌, ◌||◌, List, [], ◌∷◌, Option, Some, None, nat_eq, refl, sym, subst, arith, ◌<◌, ◌≤◌, inl, inr, nat_lt}
+use Rattle.std.proofs.Common.{◌≡◌, ℕ, Bool, true, false, not, ◌&&◌, ◌||◌, List, [], ◌∷◌, Option, Some, None, nat_eq, refl, sym, subst, arith, ◌<◌, ◌≤◌, ◌⊎◌, inl, inr, nat_lt}
 use Rattle.std.specs.Prelude.{if◌then◌else◌, is_some}
 use Rattle.std.proofs.lemmas.Bool.Decides.{nat_tests}
 use Rattle.txn_kv.specs.declared.message.KeyError.{KeyError}
@@ -20,7 +20,6 @@ use Rattle.txn_kv.specs.declared.request.CheckTxnStatusRequest.{CheckTxnStatusRe
 use Rattle.txn_kv.specs.declared.request.CheckSecondaryLocksRequest.{CheckSecondaryLocksRequest}
 use Rattle.txn_history.specs.Among.{IsAmong}
 use Rattle.txn_kv.specs.declared.message.Mutation.{Mutation}
-use Rattle.txn_kv.specs.declared.message.KeyError.TheVariants as errors
 use Rattle.std.specs.List.{filter_map, cons_option}
 use Rattle.txn_history.specs.Plan.{Key, Content, has_key}
 use Rattle.txn_model.specs.declared.cell.Cell.{Cell}
@@ -28,15 +27,15 @@ use Rattle.txn_model.specs.declared.cell.Lock.{Lock}
 use Rattle.txn_model.specs.declared.cell.Write.{Write}
 use Rattle.txn_model.specs.Cells.{key_eq, cell_at, AreInOrder}
 use Rattle.txn_model.specs.Commit.{commit_by, first_commit_error, committed}
-use Rattle.txn_model.specs.Locks.{has_start, is_prewrite, owns, holds, commit_of, newest_commit, or_earlier, lock_info}
+use Rattle.txn_model.specs.Locks.{has_start, is_prewrite, owns, holds, commit_of, newest_commit, or_earlier, lock_info, is_async_lock}
 use Rattle.txn_model.specs.Placement.{region_check}
-use Rattle.txn_model.specs.Prewrite.{prewrite_errors, mutation_keys}
+use Rattle.txn_model.specs.Prewrite.{mutation_keys, prewrite_errors, passed_commit}
+use Rattle.txn_model.specs.Rollback.{cleanup_refusal, cleanup_by, batch_rollback_by, first_rollback_error, committed_error, pessimistic_rollback_by, released_by, is_for_update_by}
+use Rattle.txn_model.specs.Status.{is_over, locked_finding, finding, Finding, unlocked_finding, status_cell, is_expired, goes_unrecorded, check_txn_status_by, is_missing, missing_rolled_back, check_secondary_locks_by, longer_lived, with_lock, txn_heart_beat_by}
 use Rattle.txn_model.specs.PessimisticLock.{asserts_absence, value_for_update, newest_conflict, held_conflict, pessimistic_error, pessimistic_errors, raised_lock, locked_for_update, pessimistic_lock_by}
 use Rattle.txn_model.specs.Read.{get_by, batch_get_by, scan_by}
 use Rattle.txn_model.specs.Resolve.{scan_lock_by}
-use Rattle.txn_model.specs.Rollback.{batch_rollback_by, first_rollback_error, committed_error, cleanup_by, pessimistic_rollback_by, released_by, is_for_update_by}
-use Rattle.txn_model.specs.Settle.{rolled_back, released, lock_of_start, mismatched_lock}
-use Rattle.txn_model.specs.Status.{Finding, finding, locked_finding, unlocked_finding, status_cell, is_expired, goes_unrecorded, check_txn_status_by, is_missing, missing_rolled_back, check_secondary_locks_by, longer_lived, with_lock, txn_heart_beat_by}
+use Rattle.txn_model.specs.Settle.{rolled_back, released, lock_of_start}
 use Rattle.txn_model.specs.Status.Finding.{Mismatched, Expired, Live, IsCommitted, IsRolledBack, Nothing}
 use Rattle.txn_model.specs.Store.{Store}
 use Rattle.txn_model.specs.Table.{table}
@@ -46,10 +45,11 @@ use Rattle.txn_law.specs.Run.{IsCovered}
 use Rattle.txn_law.specs.Sound.{IsTimely}
 use Rattle.txn_law.proofs.Phases.{phase, IsSound, IsClear}
 use Rattle.txn_law.proofs.Phases.Phase.{Locked}
-use Rattle.txn_law.proofs.Moves.{Names, CellStep, RowStep, row_same, row_changed, if_cell}
+use Rattle.txn_law.proofs.Moves.{Names, IsPlainOf, CellStep, RowStep, row_same, row_changed, if_cell}
 use Rattle.txn_law.proofs.Moves.CellStep.{Same, Held, Recorded, Made, Released, Renewed}
 use Rattle.txn_law.proofs.Prewriting.{row_prewrite}
 use Rattle.txn_law.proofs.Settling.{commit_keeps, release_keeps, row_resolve}
+use Rattle.txn_kv.specs.declared.message.KeyError.TheVariants as errors
 
 -- the only key of a list
 pub only_key : (p k : Key) → has_key (p ∷ []) k ≡ true → k ≡ p
@@ -101,28 +101,38 @@ row_batch_rollback st r o None None h = row_changed st (BatchRollback r) r.keys 
 
 -- Cleanup
 
-matched_names : (c : Cell) (p : Key) (s : ℕ) → mismatched_lock p s c.lock ≡ None → Names (phase c s) p
+matched_names : (c : Cell) (p : Key) (s : ℕ) → cleanup_refusal p s c.lock ≡ None → Names (phase c s) p
 matched_names c p s h q x e = by_lock c.lock refl
   where
     by_lock : (o : Option Lock) → c.lock ≡ o → q ≡ p
     by_lock None d = grind (arith, nat_tests)
     by_lock (Some l) d = grind (arith, nat_tests, same_key l.primary p)
 
-row_cleanup : (st : Store) (r : CleanupRequest) → AreInOrder st.cells → (e : Option RegionErr) (lock : Option Lock) (write : Option Write) → mismatched_lock r.key r.start_version (cell_at st.cells r.key).lock ≡ lock → commit_of (cell_at st.cells r.key).commits r.start_version ≡ write → RowStep st (Cleanup r) (cleanup_by e lock write st r).store.cells
-row_cleanup st r o (Some e) l w a b = row_same st (Cleanup r) o
-row_cleanup st r o None (Some l) w a b = row_same st (Cleanup r) o
+matched_plain : (c : Cell) (p : Key) (s : ℕ) → cleanup_refusal p s c.lock ≡ None → IsPlainOf c s
+matched_plain c p s h l e o = by (nat_eq l.start s) (key_eq l.primary p) l.use_async (is_prewrite l.kind) refl o (rw e at h)
+  where
+    by : (a b d k : Bool) → l.use_async ≡ d → (a && k) ≡ true → (if a then (if b then (if d && k then Some (errors.Locked (lock_info p l)) else None) else Some (errors.PrimaryMismatch (lock_info p l))) else None) ≡ None → l.use_async ≡ false
+    by true true true true u g z = absurd (cc)
+    by true true true false u g z = absurd (cc)
+    by true true false k u g z = u
+    by true false d k u g z = absurd (cc)
+    by false b d k u g z = absurd (cc)
+
+row_cleanup : (st : Store) (r : CleanupRequest) → AreInOrder st.cells → (e : Option RegionErr) (x : Option KeyError) (write : Option Write) → cleanup_refusal r.key r.start_version (cell_at st.cells r.key).lock ≡ x → commit_of (cell_at st.cells r.key).commits r.start_version ≡ write → RowStep st (Cleanup r) (cleanup_by e x write st r).store.cells
+row_cleanup st r o (Some e) x w a b = row_same st (Cleanup r) o
+row_cleanup st r o None (Some x) w a b = row_same st (Cleanup r) o
 row_cleanup st r o None None (Some w) a b = row_same st (Cleanup r) o
 row_cleanup st r o None None None a b = row_changed st (Cleanup r) (r.key ∷ []) (rolled_back r.start_version) (rolled_keeps r.start_version) o (λ k g i. by k (only_key r.key k g))
   where
-    by : (k : Key) → k ≡ r.key → CellStep (Cleanup r) k (cell_at st.cells k) (rolled_back r.start_version (cell_at st.cells k))
-    by k e = Recorded r.start_version (subst (λ q. commit_of (cell_at st.cells q).commits r.start_version ≡ None) (sym e) b) (refl, e, subst (λ q. Names (phase (cell_at st.cells q) r.start_version) r.key) (sym e) (matched_names (cell_at st.cells r.key) r.key r.start_version a))
+    by : (k : Key) → k ≡ r.key → CellStep 0 (Cleanup r) k (cell_at st.cells k) (rolled_back r.start_version (cell_at st.cells k))
+    by k e = Recorded r.start_version (subst (λ q. commit_of (cell_at st.cells q).commits r.start_version ≡ None) (sym e) b) (refl, e, subst (λ q. Names (phase (cell_at st.cells q) r.start_version) r.key) (sym e) (matched_names (cell_at st.cells r.key) r.key r.start_version a), subst (λ q. IsPlainOf (cell_at st.cells q) r.start_version) (sym e) (matched_plain (cell_at st.cells r.key) r.key r.start_version a))
 
 -- CheckTxnStatus: what its finding says of the cell
 
 abbrev pub FindsIn : CheckTxnStatusRequest → Cell → Finding → Type 0
-FindsIn r c (Expired l) = (c.lock ≡ Some l) × (l.start ≡ r.lock_ts) × (l.primary ≡ r.primary_key)
+FindsIn r c (Expired l) = (c.lock ≡ Some l) × (l.start ≡ r.lock_ts) × (l.primary ≡ r.primary_key) × ((r.force_sync_commit ≡ true) ⊎ (is_async_lock l ≡ false))
 FindsIn r c (Mismatched l) = c.lock ≡ Some l
-FindsIn r c (Live l) = (c.lock ≡ Some l) × (is_expired r.current_ts l ≡ false)
+FindsIn r c (Live l) = c.lock ≡ Some l
 FindsIn r c (IsCommitted w) = commit_of c.commits r.lock_ts ≡ Some w
 FindsIn r c IsRolledBack = has_start c.rolled r.lock_ts ≡ true
 FindsIn r c Nothing = (commit_of c.commits r.lock_ts ≡ None) × (holds c.lock r.lock_ts ≡ false)
@@ -132,16 +142,25 @@ unlocked_finds r c h (Some w) b e f = e
 unlocked_finds r c h None true e f = f
 unlocked_finds r c h None false e f = (e, h)
 
-lock_finds : (r : CheckTxnStatusRequest) (c : Cell) (l : Lock) → c.lock ≡ Some l → l.start ≡ r.lock_ts → (a b : Bool) → key_eq l.primary r.primary_key ≡ a → is_expired r.current_ts l ≡ b → FindsIn r c (if a then (if b then Expired l else Live l) else Mismatched l)
-lock_finds r c l e f true true g h = (e, f, same_key l.primary r.primary_key g)
-lock_finds r c l e f true false g h = (e, h)
+over_plain : (r : CheckTxnStatusRequest) (l : Lock) → is_over r l ≡ true → (r.force_sync_commit ≡ true) ⊎ (is_async_lock l ≡ false)
+over_plain r l h = by (is_expired r.current_ts l) r.force_sync_commit (is_async_lock l) refl refl h
+  where
+    by : (a b d : Bool) → r.force_sync_commit ≡ b → is_async_lock l ≡ d → (a && (b || not d)) ≡ true → (r.force_sync_commit ≡ true) ⊎ (is_async_lock l ≡ false)
+    by a true d e f g = inl e
+    by a false false e f g = inr f
+    by true false true e f g = absurd (cc)
+    by false false true e f g = absurd (cc)
+
+lock_finds : (r : CheckTxnStatusRequest) (c : Cell) (l : Lock) → c.lock ≡ Some l → l.start ≡ r.lock_ts → (a b : Bool) → key_eq l.primary r.primary_key ≡ a → is_over r l ≡ b → FindsIn r c (if a then (if b then Expired l else Live l) else Mismatched l)
+lock_finds r c l e f true true g h = (e, f, same_key l.primary r.primary_key g, over_plain r l h)
+lock_finds r c l e f true false g h = e
 lock_finds r c l e f false b g h = e
 
 pub finds : (r : CheckTxnStatusRequest) (c : Cell) → FindsIn r c (finding r c)
 finds r c = by_lock c.lock refl
   where
     by_start : (l : Lock) → c.lock ≡ Some l → (b : Bool) → nat_eq l.start r.lock_ts ≡ b → FindsIn r c (locked_finding r (if b then Some l else None) c)
-    by_start l e true f = lock_finds r c l e (grind (arith, nat_tests)) (key_eq l.primary r.primary_key) (is_expired r.current_ts l) refl refl
+    by_start l e true f = lock_finds r c l e (grind (arith, nat_tests)) (key_eq l.primary r.primary_key) (is_over r l) refl refl
     by_start l e false f = unlocked_finds r c (rw e f) (commit_of c.commits r.lock_ts) (has_start c.rolled r.lock_ts) refl refl
 
     by_lock : (o : Option Lock) → c.lock ≡ o → FindsIn r c (locked_finding r (lock_of_start r.lock_ts o) c)
@@ -161,15 +180,31 @@ free_names c p s e q x h = by_lock c.lock refl
 found_uncommitted : (c : Cell) (l : Lock) (s : ℕ) → IsSound c → c.lock ≡ Some l → l.start ≡ s → commit_of c.commits s ≡ None
 found_uncommitted c l s i e f = (i.lock s (rw e (grind (arith, nat_tests)))).1
 
-row_expired : (r : CheckTxnStatusRequest) (k : Key) (c : Cell) (l : Lock) → IsSound c → k ≡ r.primary_key → FindsIn r c (Expired l) → (b : Bool) → CellStep (CheckTxnStatus r) k c (if b then released r.lock_ts c else rolled_back r.lock_ts c)
-row_expired r k c l i e d true = Released r.lock_ts
-row_expired r k c l i e d false = Recorded r.lock_ts (found_uncommitted c l r.lock_ts i d.0 d.1) (refl, e, found_names c l r.primary_key r.lock_ts d.0 d.2)
+found_plain : (c : Cell) (l m : Lock) (s : ℕ) → c.lock ≡ Some l → is_async_lock l ≡ false → c.lock ≡ Some m → owns (Some m) s ≡ true → m.use_async ≡ false
+found_plain c l m s e f g o = let same : l ≡ m = cc in by m.use_async (is_prewrite m.kind) (nat_eq m.start s) refl (subst (λ z. is_async_lock z ≡ false) same f) o
+  where
+    by : (a b d : Bool) → m.use_async ≡ a → (a && b) ≡ false → (d && b) ≡ true → m.use_async ≡ false
+    by false b d u v w = u
+    by true true d u v w = absurd (cc)
+    by true false true u v w = absurd (cc)
+    by true false false u v w = absurd (cc)
 
-row_missing : (r : CheckTxnStatusRequest) (k : Key) (c : Cell) → k ≡ r.primary_key → FindsIn r c Nothing → (b : Bool) → CellStep (CheckTxnStatus r) k c (if b then rolled_back r.lock_ts c else c)
-row_missing r k c e d true = Recorded r.lock_ts d.0 (refl, e, free_names c r.primary_key r.lock_ts d.1)
+free_plain : (c : Cell) (s : ℕ) → holds c.lock s ≡ false → IsPlainOf c s
+free_plain c s h l e o = absurd (by (nat_eq l.start s) (is_prewrite l.kind) o (rw e at h))
+  where
+    by : (a b : Bool) → (a && b) ≡ true → a ≡ false → ⊥
+    by true b u v = cc
+    by false b u v = cc
+
+row_expired : (r : CheckTxnStatusRequest) (k : Key) (c : Cell) (l : Lock) → IsSound c → k ≡ r.primary_key → FindsIn r c (Expired l) → (b : Bool) → CellStep 0 (CheckTxnStatus r) k c (if b then released r.lock_ts c else rolled_back r.lock_ts c)
+row_expired r k c l i e d true = Released r.lock_ts
+row_expired r k c l i e d false = Recorded r.lock_ts (found_uncommitted c l r.lock_ts i d.0 d.1) (refl, e, found_names c l r.primary_key r.lock_ts d.0 d.2, elim d.3 [ inl f ↦ inl f | inr f ↦ inr (λ m g o. found_plain c l m r.lock_ts d.0 f g o) ])
+
+row_missing : (r : CheckTxnStatusRequest) (k : Key) (c : Cell) → k ≡ r.primary_key → FindsIn r c Nothing → (b : Bool) → CellStep 0 (CheckTxnStatus r) k c (if b then rolled_back r.lock_ts c else c)
+row_missing r k c e d true = Recorded r.lock_ts d.0 (refl, e, free_names c r.primary_key r.lock_ts d.1, inr (free_plain c r.lock_ts d.1))
 row_missing r k c e d false = Same
 
-row_found : (r : CheckTxnStatusRequest) (k : Key) (c : Cell) → IsSound c → k ≡ r.primary_key → (f : Finding) → FindsIn r c f → CellStep (CheckTxnStatus r) k c (status_cell r f c)
+row_found : (r : CheckTxnStatusRequest) (k : Key) (c : Cell) → IsSound c → k ≡ r.primary_key → (f : Finding) → FindsIn r c f → CellStep 0 (CheckTxnStatus r) k c (status_cell r f c)
 row_found r k c i e (Mismatched l) d = Same
 row_found r k c i e (Expired l) d = row_expired r k c l i e d (goes_unrecorded r l)
 row_found r k c i e (Live l) d = Same
@@ -214,7 +249,7 @@ not_owned c s h q x e = by_lock c.lock refl
     by_lock None d = grind (arith, nat_tests)
     by_lock (Some l) d = grind (arith, nat_tests)
 
-missing_keeps : (s : ℕ) → KeepsKeys (missing_rolled_back s)
+pub missing_keeps : (s : ℕ) → KeepsKeys (missing_rolled_back s)
 missing_keeps s c = by (is_missing s c)
   where
     by : (b : Bool) → (if b then rolled_back s c else c).key ≡ c.key
@@ -223,7 +258,7 @@ missing_keeps s c = by (is_missing s c)
 
 row_secondary : (st : Store) (r : CheckSecondaryLocksRequest) → AreInOrder st.cells → (e : Option RegionErr) → RowStep st (CheckSecondaryLocks r) (check_secondary_locks_by e st r).store.cells
 row_secondary st r o (Some e) = row_same st (CheckSecondaryLocks r) o
-row_secondary st r o None = row_changed st (CheckSecondaryLocks r) r.keys (missing_rolled_back r.start_version) (missing_keeps r.start_version) o (λ k a i. if_cell (CellStep (CheckSecondaryLocks r) k (cell_at st.cells k)) (is_missing r.start_version (cell_at st.cells k)) (cell_at st.cells k) (rolled_back r.start_version (cell_at st.cells k)) Same (λ e. let h = missing_uncommitted r.start_version (cell_at st.cells k) e in Recorded r.start_version h.0 (refl, not_owned (cell_at st.cells k) r.start_version h.1)))
+row_secondary st r o None = row_changed st (CheckSecondaryLocks r) r.keys (missing_rolled_back r.start_version) (missing_keeps r.start_version) o (λ k a i. if_cell (CellStep 0 (CheckSecondaryLocks r) k (cell_at st.cells k)) (is_missing r.start_version (cell_at st.cells k)) (cell_at st.cells k) (rolled_back r.start_version (cell_at st.cells k)) Same (λ e. let h = missing_uncommitted r.start_version (cell_at st.cells k) e in Recorded r.start_version h.0 (refl, not_owned (cell_at st.cells k) r.start_version h.1)))
 
 -- PessimisticRollback
 
@@ -236,7 +271,7 @@ for_update_keeps s f c = by (is_for_update_by f c.lock)
 
 row_pessimistic_rollback : (st : Store) (r : PessimisticRollbackRequest) → AreInOrder st.cells → (e : Option RegionErr) → RowStep st (PessimisticRollback r) (pessimistic_rollback_by e st r).store.cells
 row_pessimistic_rollback st r o (Some e) = row_same st (PessimisticRollback r) o
-row_pessimistic_rollback st r o None = row_changed st (PessimisticRollback r) r.keys (released_by r.start_version r.for_update_ts) (for_update_keeps r.start_version r.for_update_ts) o (λ k a i. if_cell (CellStep (PessimisticRollback r) k (cell_at st.cells k)) (is_for_update_by r.for_update_ts (cell_at st.cells k).lock) (cell_at st.cells k) (released r.start_version (cell_at st.cells k)) Same (λ e. Released r.start_version))
+row_pessimistic_rollback st r o None = row_changed st (PessimisticRollback r) r.keys (released_by r.start_version r.for_update_ts) (for_update_keeps r.start_version r.for_update_ts) o (λ k a i. if_cell (CellStep 0 (PessimisticRollback r) k (cell_at st.cells k)) (is_for_update_by r.for_update_ts (cell_at st.cells k).lock) (cell_at st.cells k) (released r.start_version (cell_at st.cells k)) Same (λ e. Released r.start_version))
 
 -- TxnHeartBeat
 
@@ -341,7 +376,7 @@ row_pessimistic_lock st r timely o (Some e) es h = row_same st (PessimisticLock 
 row_pessimistic_lock st r timely o None (x ∷ xs) h = row_same st (PessimisticLock r) o
 row_pessimistic_lock st r timely o None [] h = row_changed st (PessimisticLock r) (mutation_keys r.mutations) (locked_for_update r) (for_update_lock_keeps r) o (λ k a i. by k a i (mutation_of_key r.mutations k a))
   where
-    by : (k : Key) → has_key (mutation_keys r.mutations) k ≡ true → IsSound (cell_at st.cells k) → (m : Mutation) × IsAmong r.mutations m × (m.key ≡ k) → CellStep (PessimisticLock r) k (cell_at st.cells k) (locked_for_update r (cell_at st.cells k))
+    by : (k : Key) → has_key (mutation_keys r.mutations) k ≡ true → IsSound (cell_at st.cells k) → (m : Mutation) × IsAmong r.mutations m × (m.key ≡ k) → CellStep 0 (PessimisticLock r) k (cell_at st.cells k) (locked_for_update r (cell_at st.cells k))
     by k a i w =
         let passed = none_mapped (λ (q : Mutation). pessimistic_error r q (cell_at st.cells q.key)) r.mutations w.0 h w.1 in
         let here = subst (λ q. pessimistic_error r w.0 (cell_at st.cells q) ≡ None) w.2 passed in
@@ -352,9 +387,9 @@ pub row : (st : Store) (r : Request) → IsCovered r → IsTimely st r → AreIn
 row st (Get r) h t o = row_get st r o (region_check st.regions r.context)
 row st (BatchGet r) h t o = row_batch_get st r o (region_check st.regions r.context)
 row st (Scan r) h t o = row_scan st r o (region_check st.regions r.context)
-row st (Prewrite r) h t o = row_prewrite st r o (region_check st.regions r.context) (prewrite_errors st.cells r r.mutations r.is_pessimistic_lock) refl
+row st (Prewrite r) h t o = row_prewrite st r o (region_check st.regions r.context) (prewrite_errors st.cells r r.mutations r.is_pessimistic_lock) (passed_commit st.cells r.start_version r.mutations) refl
 row st (Commit r) h t o = row_commit st r o (region_check st.regions r.context) (first_commit_error st.cells r r.keys)
-row st (Cleanup r) h t o = row_cleanup st r o (region_check st.regions r.context) (mismatched_lock r.key r.start_version (cell_at st.cells r.key).lock) (commit_of (cell_at st.cells r.key).commits r.start_version) refl refl
+row st (Cleanup r) h t o = row_cleanup st r o (region_check st.regions r.context) (cleanup_refusal r.key r.start_version (cell_at st.cells r.key).lock) (commit_of (cell_at st.cells r.key).commits r.start_version) refl refl
 row st (BatchRollback r) h t o = row_batch_rollback st r o (region_check st.regions r.context) (first_rollback_error st.cells r.start_version r.keys) refl
 row st (PessimisticRollback r) h t o = row_pessimistic_rollback st r o (region_check st.regions r.context)
 row st (PessimisticLock r) h t o = row_pessimistic_lock st r t o (region_check st.regions r.context) (pessimistic_errors st.cells r) refl

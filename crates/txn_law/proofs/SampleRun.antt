@@ -1,49 +1,22 @@
 -- The sample run meets what is asked of a run.
-use Rattle.std.proofs.Common.{◌≡◌, inl, inr, Bool, true, false, ◌||◌, List, [], ◌∷◌, Some, None, refl, sym, ap, ◌∙◌, subst, arith}
-use Rattle.std.specs.Prelude.{if◌then◌else◌}
-use Rattle.txn_kv.specs.declared.message.Mutation.{Mutation}
-use Rattle.txn_kv.specs.declared.message.TxnInfo.{TxnInfo}
-use Rattle.txn_kv.specs.declared.request.Request.{Request}
-use Rattle.txn_kv.specs.declared.request.Request.TheVariants.{Commit}
-use Rattle.txn_kv.specs.declared.request.CommitRequest.{CommitRequest}
+use Rattle.std.proofs.Common.{◌≡◌, inl, inr, Bool, true, false, ◌||◌, List, [], ◌∷◌, refl, sym, ◌∙◌, subst, arith}
 use Rattle.txn_kv.specs.declared.ticket.Ticket.{Ticket}
+use Rattle.txn_kv.specs.declared.message.TxnInfo.{TxnInfo}
+use Rattle.txn_kv.specs.declared.request.Request.TheVariants.{Commit}
 use Rattle.txn_history.specs.Event.{Event, Has}
-use Rattle.txn_history.specs.Event.Event.{Sent, Took, Asked}
+use Rattle.txn_history.specs.Event.Event.{Took, Asked}
 use Rattle.txn_history.specs.Licence.{AllAcknowledged, WasGiven, WasDecided, PrimaryCommitLicence}
-use Rattle.txn_history.specs.Plan.{Key, key_eq, Content, content_of, LocksKey, ArePlanned}
-use Rattle.txn_model.proofs.Keys.{same_key, key_itself}
-use Rattle.txn_law.specs.Run.{IsRun, store_after}
-use Rattle.txn_law.specs.Whole.{HasCommit}
+use Rattle.txn_history.specs.Plan.{key_eq}
+use Rattle.txn_history.specs.Plan.Way.{TwoPhases}
+use Rattle.txn_model.specs.declared.cell.Kind.TheVariants as kinds
 use Rattle.txn_model.specs.Cells.{cell_at}
-use Rattle.txn_model.specs.declared.cell.Kind.TheVariants.{Put}
-use Rattle.txn_law.specs.Sample.{first_key, second_key, put, put_of, sample_plans, ticket, tso, prewrite, get_second, cleanup_first, gave_1, gave_3, prewritten, locked, decided, second_lock, sample, after_1, after_2, after_3, after_4, after_5, after_6, after_7, after_8, after_9, after_10, after_11, after_12, after_13, after_14, after_15, after_16, after_17, after_18, after_19, after_20, after_21, after_22, after_23, after_24, after_25, after_26, after_27, after_28, after_29, after_30, after_31, after_32, after_33, after_34, after_35, after_36, after_37, after_38, asked_6, answered_9, lost_13}
+use Rattle.txn_law.specs.Run.{IsRun, store_after}
+use Rattle.txn_law.specs.Sample.{first_key, second_key, put_of, sample_plans, put_first, put_second, lock_shown, ticket, tso, prewrite, get_second, cleanup_first, gave_1, gave_3, prewritten, locked, decided, after_1, after_2, after_3, after_4, after_5, after_6, asked_6, after_7, after_8, after_9, answered_9, after_10, after_11, after_12, after_13, lost_13, after_14, after_15, after_16, after_17, after_18, after_19, after_20, after_21, after_22, after_23, after_24, after_25, after_26, after_27, after_28, after_29, after_30, after_31, after_32, after_33, after_34, after_35, after_36, after_37, after_38, sample}
+use Rattle.txn_law.specs.Whole.{HasCommit}
 use Rattle.txn_law.proofs.Rows.{only_key}
-use Rattle.txn_law.proofs.Tickets.{unused}
-
-differ : ◌≡◌ {A = Key} second_key first_key → ⊥
-differ e = let f : key_eq second_key first_key ≡ true = subst (λ q. key_eq second_key q ≡ true) e (key_itself second_key) in absurd (cc)
-
--- no commit was sent
-abbrev is_commit : Request → Bool
-is_commit (Commit r) = true
-is_commit _ = false
-
-abbrev commits_sent : List Event → Bool
-commits_sent [] = false
-commits_sent (Sent t r ∷ es) = is_commit r || commits_sent es
-commits_sent (_ ∷ es) = commits_sent es
-
-sent_is : (u t : Ticket) (q r : Request) → Sent u q ≡ Sent t r → q ≡ r
-sent_is u t q r e = cc
-
-none_sent : (es : List Event) → commits_sent es ≡ false → (t : Ticket) (r : CommitRequest) → Has es (Sent t (Commit r)) → ⊥
-none_sent [] f t r h = h
-none_sent (Sent u q ∷ es) f t r h = by (is_commit q) refl f (λ g. none_sent es g t r)
-  where
-    by : (x : Bool) → is_commit q ≡ x → (x || commits_sent es) ≡ false → (commits_sent es ≡ false → Has es (Sent t (Commit r)) → ⊥) → ⊥
-    by true e g rest = absurd (cc)
-    by false e g rest = elim h [ inl w ↦ absurd (let z = ap is_commit (sent_is u t q (Commit r) w) in cc) | inr v ↦ rest g v ]
-none_sent (_ ∷ es) f t r h = elim h [ inl w ↦ absurd (cc) | inr v ↦ none_sent es f t r v ]
+use Rattle.txn_law.proofs.Samples.{differ, none_sent, locked_keys, both_planned, both_distinct, given_by, prewrite_licence}
+use Rattle.txn_law.proofs.Tickets.{unused, unserved}
+use Rattle.txn_law.proofs.Lone.{puts_check_nothing}
 
 abbrev asks_made : List Event → Bool
 asks_made [] = false
@@ -55,24 +28,14 @@ no_ask [] f a h = h
 no_ask (Asked b ∷ es) f a h = absurd (cc)
 no_ask (_ ∷ es) f a h = elim h [ inl w ↦ absurd (cc) | inr v ↦ no_ask es f a v ]
 
-locked_keys : (k : Key) (x : Content) → (sample_plans 1).writes k ≡ Some x → LocksKey (put first_key (7 ∷ []) ∷ put second_key (8 ∷ []) ∷ []) k
-locked_keys k x h = by (key_eq first_key k) (key_eq second_key k) refl refl h
-  where
-    by : (u v : Bool) → key_eq first_key k ≡ u → key_eq second_key k ≡ v → (if u then Some (put_of (7 ∷ [])) else (if v then Some (put_of (8 ∷ [])) else None)) ≡ Some x → LocksKey (put first_key (7 ∷ []) ∷ put second_key (8 ∷ []) ∷ []) k
-    by true v e f g = (put first_key (7 ∷ []), put_of (7 ∷ []), inl refl, same_key first_key k e, refl)
-    by false true e f g = (put second_key (8 ∷ []), put_of (8 ∷ []), inr (inl refl), same_key second_key k f, refl)
-    by false false e f g = absurd (cc)
-
 acknowledged : (es : List Event) → Has es (Took (ticket 2) prewrite prewritten) → AllAcknowledged (sample_plans 1) es 1
-acknowledged es h k x w = record { ticket = ticket 2; request = _; response = _; taken = h; fine = (refl, refl); start = refl; locks = locked_keys k x w }
-
-planned : ArePlanned (sample_plans 1) (put first_key (7 ∷ []) ∷ put second_key (8 ∷ []) ∷ [])
-planned m x (inl e) h = subst (λ (q : Mutation). content_of q ≡ Some x → (sample_plans 1).writes q.key ≡ Some x) e (λ g. g) h
-planned m x (inr (inl e)) h = subst (λ (q : Mutation). content_of q ≡ Some x → (sample_plans 1).writes q.key ≡ Some x) e (λ g. g) h
-planned m x (inr (inr e)) h = absurd e
+acknowledged es h = record {
+  locked = λ k x w. record { ticket = ticket 2; request = _; response = _; taken = h; fine = (refl, refl); start = refl; locks = locked_keys TwoPhases false k x w; locking = refl };
+  checked = λ k w. absurd (puts_check_nothing (key_eq first_key k || key_eq second_key k) w);
+}
 
 given_1 : (es : List Event) → Has es (Took (ticket 1) tso gave_1) → WasGiven es 1
-given_1 es h = (ticket 1, _, _, 1, h, (_, refl, omega arith, omega arith), omega arith)
+given_1 es h = given_by es 1 (omega arith) h
 
 given_3 : (es : List Event) → Has es (Took (ticket 6) tso gave_3) → WasGiven es 3
 given_3 es h = (ticket 6, _, _, 3, h, (_, refl, omega arith, omega arith), omega arith)
@@ -81,34 +44,34 @@ primary_licence : PrimaryCommitLicence (sample_plans 1) answered_9 1 2
 primary_licence = record {
   ready = acknowledged answered_9 (inr (inr (inr (inr (inr (inl refl))))));
   asked = (ticket 3, _, _, inr (inr (inr (inl (_, refl, acknowledged asked_6 (inr (inl refl)), given_1 asked_6 (inr (inr (inr (inr (inl refl))))))))), inr (inl refl), (_, refl, omega arith, omega arith));
-  same = λ d w. absurd (none_sent answered_9 refl w.0 w.1 w.2);
+  same = λ d w. absurd (none_sent answered_9 refl w.0 (Commit w.1) refl w.2);
 }
 
 resolved_so : WasDecided after_22 1 2
-resolved_so = record {
+resolved_so = inl (record {
   primary = first_key;
-  shown = record { ticket = ticket 7; request = get_second; answer = locked; lock = second_lock; taken = inr (inr (inr (inl refl))); shows = refl; prewrite = λ e. absurd (cc); start = refl; primary = refl };
+  shown = record { ticket = ticket 7; request = get_second; answer = locked; lock = lock_shown false 0 second_key []; taken = inr (inr (inr (inl refl))); shows = refl; prewrite = λ e. absurd (cc); start = refl; primary = refl };
   ticket = ticket 8;
   request = cleanup_first;
   answer = decided;
   taken = inl refl;
   decides = ((refl, refl), refl, refl, refl);
-}
+})
 
 run_1 : IsRun sample_plans after_1
 run_1 = (unused [] (ticket 1) refl, (tt, tt), tt)
 
 run_2 : IsRun sample_plans after_2
-run_2 = ((inl refl, refl), tt, run_1)
+run_2 = ((inl refl, refl, unserved after_1 (ticket 1) refl refl, omega arith), tt, run_1)
 
 run_3 : IsRun sample_plans after_3
 run_3 = (inl (inl refl), tt, run_2)
 
 run_4 : IsRun sample_plans after_4
-run_4 = (unused after_3 (ticket 2) refl, (tt, record { primary = refl; planned = planned }), run_3)
+run_4 = (unused after_3 (ticket 2) refl, (tt, prewrite_licence TwoPhases false after_3 (put_first ∷ put_second ∷ []) [] refl (inl refl) (both_planned TwoPhases false) both_distinct (λ qs w. absurd (cc)) (λ e. absurd (cc))), run_3)
 
 run_5 : IsRun sample_plans after_5
-run_5 = ((inl refl, refl), tt, run_4)
+run_5 = ((inl refl, refl, unserved after_4 (ticket 2) refl refl, omega arith), tt, run_4)
 
 run_6 : IsRun sample_plans after_6
 run_6 = (inl (inl refl), tt, run_5)
@@ -120,7 +83,7 @@ run_7 : IsRun sample_plans after_7
 run_7 = (unused asked_6 (ticket 3) refl, (tt, tt), run_asked)
 
 run_8 : IsRun sample_plans after_8
-run_8 = ((inl refl, refl), tt, run_7)
+run_8 = ((inl refl, refl, unserved after_7 (ticket 3) refl refl, omega arith), tt, run_7)
 
 run_9 : IsRun sample_plans after_9
 run_9 = (inl (inl refl), tt, run_8)
@@ -129,16 +92,16 @@ run_answered : IsRun sample_plans answered_9
 run_answered = ((ticket 3, _, _, inr (inr (inl (_, refl, inl refl))), inl refl, (_, refl, omega arith, omega arith)), tt, run_9)
 
 run_10 : IsRun sample_plans after_10
-run_10 = (unused answered_9 (ticket 4) refl, (tt, λ k h. inl (only_key first_key k h, primary_licence)), run_answered)
+run_10 = (unused answered_9 (ticket 4) refl, (tt, inl (inl refl, λ k h. inl (only_key first_key k h, primary_licence))), run_answered)
 
 run_11 : IsRun sample_plans after_11
-run_11 = ((inl refl, refl), tt, run_10)
+run_11 = ((inl refl, refl, unserved after_10 (ticket 4) refl refl, omega arith), tt, run_10)
 
 run_12 : IsRun sample_plans after_12
 run_12 = (inl (inl refl), tt, run_11)
 
 run_13 : IsRun sample_plans after_13
-run_13 = (unused after_12 (ticket 5) refl, (tt, λ k h. inr ((λ e. differ (sym (only_key second_key k h) ∙ e)), (ticket 4, _, _, inl refl, (refl, refl), refl, refl, refl))), run_12)
+run_13 = (unused after_12 (ticket 5) refl, (tt, inl (inl refl, λ k h. inr ((λ e. differ (sym (only_key second_key k h) ∙ e)), (ticket 4, _, _, inl refl, (refl, refl), refl, refl, refl)))), run_12)
 
 run_lost : IsRun sample_plans lost_13
 run_lost = (inl refl, tt, run_13)
@@ -147,7 +110,7 @@ run_14 : IsRun sample_plans after_14
 run_14 = (unused lost_13 (ticket 6) refl, (tt, tt), run_lost)
 
 run_15 : IsRun sample_plans after_15
-run_15 = ((inl refl, refl), tt, run_14)
+run_15 = ((inl refl, refl, unserved after_14 (ticket 6) refl refl, omega arith), tt, run_14)
 
 run_16 : IsRun sample_plans after_16
 run_16 = (inl (inl refl), tt, run_15)
@@ -156,7 +119,7 @@ run_17 : IsRun sample_plans after_17
 run_17 = (unused after_16 (ticket 7) refl, (tt, given_3 after_16 (inl refl)), run_16)
 
 run_18 : IsRun sample_plans after_18
-run_18 = ((inl refl, refl), tt, run_17)
+run_18 = ((inl refl, refl, unserved after_17 (ticket 7) refl refl, omega arith), tt, run_17)
 
 run_19 : IsRun sample_plans after_19
 run_19 = (inl (inl refl), tt, run_18)
@@ -165,7 +128,7 @@ run_20 : IsRun sample_plans after_20
 run_20 = (unused after_19 (ticket 8) refl, (tt, tt), run_19)
 
 run_21 : IsRun sample_plans after_21
-run_21 = ((inl refl, refl), tt, run_20)
+run_21 = ((inl refl, refl, unserved after_20 (ticket 8) refl refl, omega arith), tt, run_20)
 
 run_22 : IsRun sample_plans after_22
 run_22 = (inl (inl refl), tt, run_21)
@@ -174,7 +137,7 @@ run_23 : IsRun sample_plans after_23
 run_23 = (unused after_22 (ticket 9) refl, (tt, λ i h. elim h [ inl e ↦ subst (λ (j : TxnInfo). WasDecided after_22 j.txn j.status) e resolved_so | inr e ↦ absurd e ]), run_22)
 
 run_24 : IsRun sample_plans after_24
-run_24 = ((inl refl, refl), tt, run_23)
+run_24 = ((inl refl, refl, unserved after_23 (ticket 9) refl refl, omega arith), tt, run_23)
 
 run_25 : IsRun sample_plans after_25
 run_25 = (inl (inl refl), tt, run_24)
@@ -183,19 +146,19 @@ run_26 : IsRun sample_plans after_26
 run_26 = (unused after_25 (ticket 10) refl, (tt, given_3 after_25 (inr (inr (inr (inr (inr (inr (inr (inr (inr (inl refl))))))))))), run_25)
 
 run_27 : IsRun sample_plans after_27
-run_27 = ((inl refl, refl), tt, run_26)
+run_27 = ((inl refl, refl, unserved after_26 (ticket 10) refl refl, omega arith), tt, run_26)
 
 run_28 : IsRun sample_plans after_28
 run_28 = (inl (inl refl), tt, run_27)
 
 run_29 : IsRun sample_plans after_29
-run_29 = ((inr (inr (inr (inr (inr (inr (inr (inr (inr (inr (inr (inr (inr (inr (inr (inr (inl refl)))))))))))))))), refl), tt, run_28)
+run_29 = ((inr (inr (inr (inr (inr (inr (inr (inr (inr (inr (inr (inr (inr (inr (inr (inr (inl refl)))))))))))))))), refl, unserved after_28 (ticket 5) refl refl, omega arith), tt, run_28)
 
 run_30 : IsRun sample_plans after_30
 run_30 = (unused after_29 (ticket 11) refl, (tt, given_3 after_29 (inr (inr (inr (inr (inr (inr (inr (inr (inr (inr (inr (inr (inr (inl refl))))))))))))))), run_29)
 
 run_31 : IsRun sample_plans after_31
-run_31 = ((inl refl, refl), tt, run_30)
+run_31 = ((inl refl, refl, unserved after_30 (ticket 11) refl refl), tt, run_30)
 
 run_32 : IsRun sample_plans after_32
 run_32 = (inr (inl refl), tt, run_31)
@@ -222,7 +185,7 @@ pub sample_runs : IsRun sample_plans sample
 sample_runs = run_38
 
 pub first_committed : HasCommit (cell_at (store_after sample).cells first_key) 1 2 (put_of (7 ∷ []))
-first_committed = record { write = record { start = 1; commit = 2; kind = Put; value = 7 ∷ [] }; among = inl refl; start = refl; commit = refl; writes = refl }
+first_committed = record { write = record { start = 1; commit = 2; kind = kinds.Put; value = 7 ∷ [] }; among = inl refl; start = refl; commit = refl; writes = refl }
 
 pub second_committed : HasCommit (cell_at (store_after sample).cells second_key) 1 2 (put_of (8 ∷ []))
-second_committed = record { write = record { start = 1; commit = 2; kind = Put; value = 8 ∷ [] }; among = inl refl; start = refl; commit = refl; writes = refl }
+second_committed = record { write = record { start = 1; commit = 2; kind = kinds.Put; value = 8 ∷ [] }; among = inl refl; start = refl; commit = refl; writes = refl }

@@ -91,22 +91,22 @@ held_unlocks i c h = by (owns c.lock i.txn) (nat_lt 0 i.status) refl
 held_uncommitted : (c : Cell) (s : ℕ) → IsSound c → holds c.lock s ≡ true → commit_of c.commits s ≡ None
 held_uncommitted c s i h = (i.lock s h).1
 
-one_settled : (r : ResolveLockRequest) (k : Key) (i : TxnInfo) (c : Cell) → IsAmong (infos r) i → IsSound c → CellStep (ResolveLock r) k c (settled i c)
+one_settled : (r : ResolveLockRequest) (k : Key) (i : TxnInfo) (c : Cell) → IsAmong (infos r) i → IsSound c → CellStep 0 (ResolveLock r) k c (settled i c)
 one_settled r k i c a sound = by (owns c.lock i.txn) (nat_lt 0 i.status) refl refl
   where
-    by : (x y : Bool) → owns c.lock i.txn ≡ x → nat_lt 0 i.status ≡ y → CellStep (ResolveLock r) k c (if x then (if y then committed i.txn i.status c else rolled_back i.txn c) else released i.txn c)
+    by : (x y : Bool) → owns c.lock i.txn ≡ x → nat_lt 0 i.status ≡ y → CellStep 0 (ResolveLock r) k c (if x then (if y then committed i.txn i.status c else rolled_back i.txn c) else released i.txn c)
     by true true e f = Made i.txn i.status (i, a, refl, refl, grind (arith, nat_tests))
     by true false e f = Recorded i.txn (held_uncommitted c i.txn sound (owner_holds c.lock i.txn e)) (i, a, refl, grind (arith, nat_tests))
     by false y e f = Released i.txn
 
 -- the first that names the lock's start settles it, and the others leave the cell
-settle_step : (r : ResolveLockRequest) (k : Key) (is : List TxnInfo) (c : Cell) → ((i : TxnInfo) → IsAmong is i → IsAmong (infos r) i) → IsSound c → CellStep (ResolveLock r) k c (all_settled is c)
+settle_step : (r : ResolveLockRequest) (k : Key) (is : List TxnInfo) (c : Cell) → ((i : TxnInfo) → IsAmong is i → IsAmong (infos r) i) → IsSound c → CellStep 0 (ResolveLock r) k c (all_settled is c)
 settle_step r k [] c a sound = Same
 settle_step r k (i ∷ is) c a sound = by (settle_step r k is c (λ j w. a j (inr w)) sound) (holds c.lock i.txn) refl
   where
-    by : CellStep (ResolveLock r) k c (all_settled is c) → (b : Bool) → holds c.lock i.txn ≡ b → CellStep (ResolveLock r) k c (all_settled is (settled i c))
-    by rest true e = subst (CellStep (ResolveLock r) k c) (sym (none_settled is (settled i c) (held_unlocks i c e))) (one_settled r k i c (a i (inl refl)) sound)
-    by rest false e = subst (λ d. CellStep (ResolveLock r) k c (all_settled is d)) (sym (not_held i c e)) rest
+    by : CellStep 0 (ResolveLock r) k c (all_settled is c) → (b : Bool) → holds c.lock i.txn ≡ b → CellStep 0 (ResolveLock r) k c (all_settled is (settled i c))
+    by rest true e = subst (CellStep 0 (ResolveLock r) k c) (sym (none_settled is (settled i c) (held_unlocks i c e))) (one_settled r k i c (a i (inl refl)) sound)
+    by rest false e = subst (λ d. CellStep 0 (ResolveLock r) k c (all_settled is d)) (sym (not_held i c e)) rest
 
 abbrev pub in_region : Store → ResolveLockRequest → Cell → Cell
 in_region st r c = if is_in_context st.regions r.context c.key then all_settled (infos r) c else c
@@ -129,5 +129,5 @@ pub row_resolve : (st : Store) (r : ResolveLockRequest) → AreInOrder st.cells 
 row_resolve st r o (Some e) = row_same st (ResolveLock r) o
 row_resolve st r o None = record {
   in_order = order_each (in_region st r) (region_keeps st r) st.cells o;
-  step = λ k i. subst (CellStep (ResolveLock r) k (cell_at st.cells k)) (sym (cell_each (in_region st r) (region_keeps st r) st.cells k o (λ h. region_none st r k))) (if_cell (CellStep (ResolveLock r) k (cell_at st.cells k)) (is_in_context st.regions r.context (cell_at st.cells k).key) (cell_at st.cells k) (all_settled (infos r) (cell_at st.cells k)) Same (λ e. settle_step r k (infos r) (cell_at st.cells k) (λ j w. w) i));
+  step = λ k i. subst (CellStep 0 (ResolveLock r) k (cell_at st.cells k)) (sym (cell_each (in_region st r) (region_keeps st r) st.cells k o (λ h. region_none st r k))) (if_cell (CellStep 0 (ResolveLock r) k (cell_at st.cells k)) (is_in_context st.regions r.context (cell_at st.cells k).key) (cell_at st.cells k) (all_settled (infos r) (cell_at st.cells k)) Same (λ e. settle_step r k (infos r) (cell_at st.cells k) (λ j w. w) i));
 }

@@ -1,12 +1,9 @@
 -- A lock that a reply shows stood in the store that gave it.
-use Rattle.std.proofs.Common.{◌≡◌, ℕ, ◌-◌, ◌^◌, inl, inr, Bool, true, false, not, ◌&&◌, List, [], ◌∷◌, Option, Some, None, nat_eq, nat_lt, nat_le, refl, sym, ap, ◌∙◌, subst}
+use Rattle.std.proofs.Common.{◌≡◌, ℕ, ◌-◌, ◌^◌, inl, inr, Bool, true, false, ◌&&◌, List, [], ◌∷◌, Option, Some, None, nat_eq, nat_lt, nat_le, refl, sym, ap, ◌∙◌, subst}
 use Rattle.std.specs.Prelude.{if◌then◌else◌, is_some, take, reverse, drop}
 use Rattle.std.specs.List.{filter_map}
 use Rattle.txn_kv.specs.declared.message.KeyError.{KeyError}
-use Rattle.txn_kv.specs.declared.message.KeyError.TheVariants as errors
 use Rattle.txn_kv.specs.declared.message.LockInfo.{LockInfo}
-use Rattle.txn_kv.specs.declared.message.Action.TheVariants as actions
-use Rattle.txn_kv.specs.declared.reply.Reply.TheVariants as reply
 use Rattle.txn_kv.specs.declared.message.Mutation.{Mutation}
 use Rattle.txn_kv.specs.declared.message.PbPair.{PbPair}
 use Rattle.txn_kv.specs.declared.message.RegionErr.{RegionErr}
@@ -33,23 +30,27 @@ use Rattle.txn_model.specs.declared.cell.Cell.{Cell}
 use Rattle.txn_model.specs.declared.cell.Lock.{Lock}
 use Rattle.txn_model.specs.declared.cell.Write.{Write}
 use Rattle.txn_model.specs.Cells.{key_eq, cell_at, AreInOrder}
-use Rattle.txn_model.specs.Commit.{commit_by, first_commit_error}
-use Rattle.txn_model.specs.Locks.{has_start, is_prewrite, is_written, commit_of, newest_commit, value_at, lock_info}
+use Rattle.txn_model.specs.Commit.{commit_by, first_commit_error, commit_error, commit_conflict, uncommitted}
+use Rattle.txn_model.specs.Locks.{has_start, is_prewrite, is_written, commit_of, newest_commit, value_at, lock_info, is_async_lock, or_earlier}
 use Rattle.txn_model.specs.Placement.{region_check}
-use Rattle.txn_model.specs.Prewrite.{prewrite_error, lock_conflict, conflict, first_flag, prewrite_errors, prewrite_by, wants_absent}
+use Rattle.txn_model.specs.Prewrite.{first_flag, wants_absent, passes_commit, prewrite_error, lock_conflict, conflict, prewrite_errors, prewrite_by, one_phase_by, locking_by, passed_commit}
+use Rattle.txn_model.specs.Rollback.{cleanup_refusal, cleanup_by, batch_rollback_by, first_rollback_error, rollback_error, committed_error, pessimistic_rollback_by}
+use Rattle.txn_model.specs.Status.{finding, Finding, status_told, no_status, check_txn_status_by, shown_lock, check_secondary_locks_by, txn_heart_beat_by}
+use Rattle.txn_model.proofs.CellLists.{key_of_cell}
 use Rattle.txn_model.specs.Ranges.{in_range, cells_in}
 use Rattle.txn_model.specs.PessimisticLock.{asserts_absence, value_for_update, newest_conflict, held_conflict, pessimistic_error, pessimistic_errors, pessimistic_lock_by}
 use Rattle.txn_model.specs.Read.{lock_before, pair_of_value, pair_of, read_pair, told_value, get_by, batch_get_by, scanned_cells, without_value, scan_by}
 use Rattle.txn_model.specs.Resolve.{lock_until, locks_until, scan_lock_by, resolve_lock_by}
-use Rattle.txn_model.specs.Rollback.{batch_rollback_by, first_rollback_error, cleanup_by, pessimistic_rollback_by}
-use Rattle.txn_model.specs.Settle.{own_prewrite_lock, lock_of_start, mismatched_lock}
-use Rattle.txn_model.specs.Status.{Finding, finding, status_told, no_status, check_txn_status_by, shown_lock, check_secondary_locks_by, txn_heart_beat_by}
+use Rattle.txn_model.specs.Settle.{own_prewrite_lock, lock_of_start}
 use Rattle.txn_model.specs.Status.Finding.{Mismatched, Expired, Live, IsCommitted, IsRolledBack, Nothing}
 use Rattle.txn_model.specs.Store.{Store}
 use Rattle.txn_model.specs.Table.{table}
 use Rattle.txn_law.specs.Run.{IsCovered}
 use Rattle.txn_law.proofs.Among.{among_map, among_filter_map, among_filter, among_take, among_reverse, among_option, cell_among}
 use Rattle.txn_law.proofs.Rows.{FindsIn, finds}
+use Rattle.txn_kv.specs.declared.message.KeyError.TheVariants as errors
+use Rattle.txn_kv.specs.declared.message.Action.TheVariants as actions
+use Rattle.txn_kv.specs.declared.reply.Reply.TheVariants as reply
 
 -- the lock stands at a key of these cells
 pub record Stood (cs : List Cell) (l : LockInfo) : Type 0 where
@@ -58,6 +59,7 @@ pub record Stood (cs : List Cell) (l : LockInfo) : Type 0 where
   pub lock : Lock
   pub here : (cell_at cs at).lock ≡ Some lock
   pub shown : lock_info key lock ≡ l
+  pub same : key ≡ at
 
 -- reads
 
@@ -77,7 +79,7 @@ pair_shows t c p l e h = by_lock c.lock refl e
     by_lock (Some m) d g = by_test m d (is_written m.kind && nat_le m.start t) g
 
 pair_stood : (cs : List Cell) (k : Key) (t : ℕ) (p : PbPair) (l : LockInfo) → read_pair t (cell_at cs k) ≡ Some p → ErrorShows p.error l → Stood cs l
-pair_stood cs k t p l e h = let w = pair_shows t (cell_at cs k) p l e h in record { at = k; key = (cell_at cs k).key; lock = w.0; here = w.1; shown = w.2 }
+pair_stood cs k t p l e h = let w = pair_shows t (cell_at cs k) p l e h in record { at = k; key = (cell_at cs k).key; lock = w.0; here = w.1; shown = w.2; same = key_of_cell cs k }
 
 get_shows : (e : Option RegionErr) (st : Store) (r : GetRequest) (l : LockInfo) → ShowsLock (get_by e st r).reply l → Stood st.cells l
 get_shows (Some e) st r l h = absurd h
@@ -130,16 +132,24 @@ other_conflicts r m flag own ws l h = by_commit (commit_of ws r.start_version) r
     by_flag false o g = by_newest (nat_lt r.start_version (newest_commit ws)) (wants_absent m.op && is_some (value_at ws (2 ^ 64 - 1))) g
 
     by_commit : (o : Option Write) → commit_of ws r.start_version ≡ o → ErrorShows (conflict r m flag own ws) l → ⊥
-    by_commit (Some w) e g = rw e at g
+    by_commit (Some w) e g = by_passed (passes_commit r) (rw e at g)
+      where
+        by_passed : (b : Bool) → ErrorShows (if b then None else Some (errors.WriteConflict m.key r.start_version w.commit)) l → ⊥
+        by_passed true z = z
+        by_passed false z = z
     by_commit None e g = by_flag flag own (rw e at g)
 
 mutation_shows : (cs : List Cell) (r : PrewriteRequest) (m : Mutation) (flag : Bool) (l : LockInfo) → ErrorShows (prewrite_error r m flag (cell_at cs m.key)) l → Stood cs l
 mutation_shows cs r m flag l h = by_rolled (has_start (cell_at cs m.key).rolled r.start_version) h
   where
-    by_own : (n : Lock) → (cell_at cs m.key).lock ≡ Some n → (a b : Bool) → ErrorShows (if a then (if b then None else conflict r m flag true (cell_at cs m.key).commits) else Some (errors.Locked (lock_info m.key n))) l → Stood cs l
-    by_own n e true true g = absurd g
+    by_own : (n : Lock) → (cell_at cs m.key).lock ≡ Some n → (a b : Bool) → ErrorShows (if a then (if b then (if r.try_one_pc then Some (errors.Abort m.key r.start_version 0) else None) else conflict r m flag true (cell_at cs m.key).commits) else Some (errors.Locked (lock_info m.key n))) l → Stood cs l
+    by_own n e true true g = absurd (by_once r.try_one_pc g)
+      where
+        by_once : (b : Bool) → ErrorShows (if b then Some (errors.Abort m.key r.start_version 0) else None) l → ⊥
+        by_once true z = z
+        by_once false z = z
     by_own n e true false g = absurd (other_conflicts r m flag true (cell_at cs m.key).commits l g)
-    by_own n e false b g = record { at = m.key; key = m.key; lock = n; here = e; shown = g }
+    by_own n e false b g = record { at = m.key; key = m.key; lock = n; here = e; shown = g; same = refl }
 
     by_lock : (o : Option Lock) → (cell_at cs m.key).lock ≡ o → ErrorShows (lock_conflict r m flag (cell_at cs m.key).commits o) l → Stood cs l
     by_lock None e g = absurd (other_conflicts r m flag false (cell_at cs m.key).commits l g)
@@ -156,10 +166,15 @@ errors_show cs r (m ∷ ms) fs x l a h = elim (among_option (prewrite_error r m 
   | inr b ↦ errors_show cs r ms (drop 1 fs) x l b h
 ]
 
-prewrite_shows : (e : Option RegionErr) (es : List KeyError) (st : Store) (r : PrewriteRequest) (l : LockInfo) → prewrite_errors st.cells r r.mutations r.is_pessimistic_lock ≡ es → ShowsLock (prewrite_by e es st r).reply l → Stood st.cells l
-prewrite_shows (Some e) es st r l d h = absurd h.1
-prewrite_shows None [] st r l d h = absurd h.1
-prewrite_shows None (x ∷ xs) st r l d h = errors_show st.cells r r.mutations r.is_pessimistic_lock h.0 l (subst (λ o. IsAmong o h.0) (sym d) h.1) h.2
+prewrite_shows : (e : Option RegionErr) (es : List KeyError) (w : Option Write) (st : Store) (r : PrewriteRequest) (l : LockInfo) → prewrite_errors st.cells r r.mutations r.is_pessimistic_lock ≡ es → ShowsLock (prewrite_by e es w st r).reply l → Stood st.cells l
+prewrite_shows (Some e) es w st r l d h = absurd h.1
+prewrite_shows None [] w st r l d h = absurd (by r.try_one_pc w h)
+  where
+    by : (b : Bool) (v : Option Write) → ShowsLock (if b then one_phase_by v st r else locking_by st r).reply l → ⊥
+    by true None g = g.1
+    by true (Some v) g = g.1
+    by false v g = g.1
+prewrite_shows None (x ∷ xs) w st r l d h = errors_show st.cells r r.mutations r.is_pessimistic_lock h.0 l (subst (λ o. IsAmong o h.0) (sym d) h.1) h.2
 
 -- PessimisticLock
 
@@ -177,7 +192,7 @@ tried_shows cs r m l h = by_rolled (has_start (cell_at cs m.key).rolled r.start_
     by_own : (n : Lock) → (cell_at cs m.key).lock ≡ Some n → (a b : Bool) → ErrorShows (if a then (if b then Some (errors.Abort m.key r.start_version 0) else newest_conflict r m (cell_at cs m.key)) else Some (errors.Locked (lock_info m.key n))) l → Stood cs l
     by_own n e true true g = absurd g
     by_own n e true false g = absurd (no_newest r m (cell_at cs m.key) l g)
-    by_own n e false b g = record { at = m.key; key = m.key; lock = n; here = e; shown = g }
+    by_own n e false b g = record { at = m.key; key = m.key; lock = n; here = e; shown = g; same = refl }
 
     by_lock : (o : Option Lock) → (cell_at cs m.key).lock ≡ o → ErrorShows (held_conflict r m (cell_at cs m.key) o) l → Stood cs l
     by_lock None e g = absurd (no_newest r m (cell_at cs m.key) l g)
@@ -196,19 +211,52 @@ pessimistic_lock_shows None (x ∷ xs) st r l d h =
 
 -- the others
 
-commit_shows : (e : Option RegionErr) (x : Option KeyError) (st : Store) (r : CommitRequest) (l : LockInfo) → ShowsLock (commit_by e x st r).reply l → ⊥
-commit_shows (Some e) x st r l h = h
-commit_shows None (Some x) st r l h = h
-commit_shows None None st r l h = h
+commit_error_hides : (r : CommitRequest) (k : Key) (c : Cell) (l : LockInfo) → ErrorShows (commit_error r k c) l → ⊥
+commit_error_hides r k c l h = by_lock c.lock h
+  where
+    by_commit : (b : Bool) → ErrorShows (if b then None else Some (errors.TxnLockNotFound k)) l → ⊥
+    by_commit true g = g
+    by_commit false g = g
 
-rollback_shows : (e : Option RegionErr) (x : Option KeyError) (st : Store) (r : BatchRollbackRequest) (l : LockInfo) → ShowsLock (batch_rollback_by e x st r).reply l → ⊥
-rollback_shows (Some e) x st r l h = h
-rollback_shows None (Some x) st r l h = h
-rollback_shows None None st r l h = h
+    by_own : (m : Lock) (a b : Bool) → ErrorShows (if a then (if b then Some (errors.CommitTsExpired k m.min_commit) else None) else uncommitted r k c) l → ⊥
+    by_own m true true g = g
+    by_own m true false g = g
+    by_own m false b g = by_commit (is_some (commit_of c.commits r.start_version)) g
+
+    by_lock : (o : Option Lock) → ErrorShows (commit_conflict r k c o) l → ⊥
+    by_lock None g = by_commit (is_some (commit_of c.commits r.start_version)) g
+    by_lock (Some m) g = by_own m (nat_eq m.start r.start_version && is_prewrite m.kind) (nat_lt r.commit_version m.min_commit) g
+
+-- the first of two errors shows what one of them shows
+first_hides : (x y : Option KeyError) (l : LockInfo) → (ErrorShows x l → ⊥) → (ErrorShows y l → ⊥) → ErrorShows (or_earlier x y) l → ⊥
+first_hides None y l f g h = g h
+first_hides (Some x) y l f g h = f h
+
+first_commit_hides : (cs : List Cell) (r : CommitRequest) (ks : List Key) (l : LockInfo) → ErrorShows (first_commit_error cs r ks) l → ⊥
+first_commit_hides cs r [] l h = h
+first_commit_hides cs r (k ∷ ks) l h = first_hides (commit_error r k (cell_at cs k)) (first_commit_error cs r ks) l (commit_error_hides r k (cell_at cs k) l) (first_commit_hides cs r ks l) h
+
+commit_shows : (e : Option RegionErr) (x : Option KeyError) (st : Store) (r : CommitRequest) (l : LockInfo) → first_commit_error st.cells r r.keys ≡ x → ShowsLock (commit_by e x st r).reply l → ⊥
+commit_shows (Some e) x st r l d h = h
+commit_shows None (Some x) st r l d h = first_commit_hides st.cells r r.keys l (subst (λ o. ErrorShows o l) (sym d) h)
+commit_shows None None st r l d h = h
+
+committed_hides : (k : Key) (o : Option Write) (l : LockInfo) → ErrorShows (committed_error k o) l → ⊥
+committed_hides k None l h = h
+committed_hides k (Some w) l h = h
+
+first_rollback_hides : (cs : List Cell) (s : ℕ) (ks : List Key) (l : LockInfo) → ErrorShows (first_rollback_error cs s ks) l → ⊥
+first_rollback_hides cs s [] l h = h
+first_rollback_hides cs s (k ∷ ks) l h = first_hides (rollback_error s k (cell_at cs k)) (first_rollback_error cs s ks) l (committed_hides k (commit_of (cell_at cs k).commits s) l) (first_rollback_hides cs s ks l) h
+
+rollback_shows : (e : Option RegionErr) (x : Option KeyError) (st : Store) (r : BatchRollbackRequest) (l : LockInfo) → first_rollback_error st.cells r.start_version r.keys ≡ x → ShowsLock (batch_rollback_by e x st r).reply l → ⊥
+rollback_shows (Some e) x st r l d h = h
+rollback_shows None (Some x) st r l d h = first_rollback_hides st.cells r.start_version r.keys l (subst (λ o. ErrorShows o l) (sym d) h)
+rollback_shows None None st r l d h = h
 
 release_shows : (e : Option RegionErr) (st : Store) (r : PessimisticRollbackRequest) (l : LockInfo) → ShowsLock (pessimistic_rollback_by e st r).reply l → ⊥
-release_shows (Some e) st r l h = h
-release_shows None st r l h = h
+release_shows (Some e) st r l h = h.1
+release_shows None st r l h = h.1
 
 resolve_shows : (e : Option RegionErr) (st : Store) (r : ResolveLockRequest) (l : LockInfo) → ShowsLock (resolve_lock_by e st r).reply l → ⊥
 resolve_shows (Some e) st r l h = h
@@ -219,17 +267,19 @@ heart_beat_shows (Some e) o st r l h = h
 heart_beat_shows None None st r l h = h
 heart_beat_shows None (Some m) st r l h = h
 
-mismatch_found : (p : Key) (s : ℕ) (o : Option Lock) (m : Lock) → mismatched_lock p s o ≡ Some m → o ≡ Some m
-mismatch_found p s None m h = absurd (cc)
-mismatch_found p s (Some n) m h = by (nat_eq n.start s && not (key_eq n.primary p)) h
+refusal_shows : (p : Key) (s : ℕ) (o : Option Lock) (x : KeyError) (l : LockInfo) → cleanup_refusal p s o ≡ Some x → ErrorShows (Some x) l → (m : Lock) × (o ≡ Some m) × (lock_info p m ≡ l)
+refusal_shows p s None x l h g = absurd (cc)
+refusal_shows p s (Some m) x l h g = by (nat_eq m.start s) (key_eq m.primary p) (is_async_lock m) h
   where
-    by : (b : Bool) → (if b then Some n else None) ≡ Some m → Some n ≡ Some m
-    by true e = e
-    by false e = absurd (cc)
+    by : (a b d : Bool) → (if a then (if b then (if d then Some (errors.Locked (lock_info p m)) else None) else Some (errors.PrimaryMismatch (lock_info p m))) else None) ≡ Some x → (n : Lock) × (Some m ≡ Some n) × (lock_info p n ≡ l)
+    by true true true e = (m, refl, (let same : errors.Locked (lock_info p m) ≡ x = cc in subst (λ z. ErrorShows (Some z) l) (sym same) g))
+    by true true false e = absurd (cc)
+    by true false d e = (m, refl, (let same : errors.PrimaryMismatch (lock_info p m) ≡ x = cc in subst (λ z. ErrorShows (Some z) l) (sym same) g))
+    by false b d e = absurd (cc)
 
-cleanup_shows : (e : Option RegionErr) (o : Option Lock) (w : Option Write) (st : Store) (r : CleanupRequest) (l : LockInfo) → mismatched_lock r.key r.start_version (cell_at st.cells r.key).lock ≡ o → ShowsLock (cleanup_by e o w st r).reply l → Stood st.cells l
-cleanup_shows (Some e) o w st r l d h = absurd h
-cleanup_shows None (Some m) w st r l d h = record { at = r.key; key = r.key; lock = m; here = mismatch_found r.key r.start_version (cell_at st.cells r.key).lock m d; shown = h }
+cleanup_shows : (e : Option RegionErr) (x : Option KeyError) (w : Option Write) (st : Store) (r : CleanupRequest) (l : LockInfo) → cleanup_refusal r.key r.start_version (cell_at st.cells r.key).lock ≡ x → ShowsLock (cleanup_by e x w st r).reply l → Stood st.cells l
+cleanup_shows (Some e) x w st r l d h = absurd h
+cleanup_shows None (Some x) w st r l d h = let f = refusal_shows r.key r.start_version (cell_at st.cells r.key).lock x l d h in record { at = r.key; key = r.key; lock = f.0; here = f.1; shown = f.2; same = refl }
 cleanup_shows None None (Some w) st r l d h = absurd h
 cleanup_shows None None None st r l d h = absurd h
 
@@ -248,13 +298,13 @@ scan_lock_shows None st r l o h =
     let w = among_filter_map (λ (c : Cell). lock_until r.max_version c.key c.lock) cs l (among_take r.limit (locks_until r.max_version cs) l h) in
     let f = lock_until_found r.max_version w.0.key w.0.lock l w.2 in
     let same = cell_among st.cells w.0 o (among_filter (λ (d : Cell). in_range r.start_key r.end_key d.key) st.cells w.0 w.1) in
-    record { at = w.0.key; key = w.0.key; lock = f.0; here = ap (λ (c : Cell). c.lock) same ∙ f.1; shown = f.2 }
+    record { at = w.0.key; key = w.0.key; lock = f.0; here = ap (λ (c : Cell). c.lock) same ∙ f.1; shown = f.2; same = refl }
 
 status_shows : (e : Option RegionErr) (f : Finding) (st : Store) (r : CheckTxnStatusRequest) (l : LockInfo) → FindsIn r (cell_at st.cells r.primary_key) f → ShowsLock (check_txn_status_by e f st r).reply l → Stood st.cells l
 status_shows (Some e) f st r l d h = absurd (elim h [ inl a ↦ absurd (cc) | inr a ↦ a ])
-status_shows None (Mismatched m) st r l d h = record { at = r.primary_key; key = r.primary_key; lock = m; here = d; shown = elim h [ inl a ↦ absurd (cc) | inr a ↦ a ] }
+status_shows None (Mismatched m) st r l d h = record { at = r.primary_key; key = r.primary_key; lock = m; here = d; shown = elim h [ inl a ↦ absurd (cc) | inr a ↦ a ]; same = refl }
 status_shows None (Expired m) st r l d h = absurd (elim h [ inl a ↦ absurd (cc) | inr a ↦ a ])
-status_shows None (Live m) st r l d h = record { at = r.primary_key; key = r.primary_key; lock = m; here = d.0; shown = elim h [ inl a ↦ cc | inr a ↦ absurd a ] }
+status_shows None (Live m) st r l d h = record { at = r.primary_key; key = r.primary_key; lock = m; here = d; shown = elim h [ inl a ↦ cc | inr a ↦ absurd a ]; same = refl }
 status_shows None (IsCommitted w) st r l d h = absurd (elim h [ inl a ↦ absurd (cc) | inr a ↦ a ])
 status_shows None IsRolledBack st r l d h = absurd (elim h [ inl a ↦ absurd (cc) | inr a ↦ a ])
 status_shows None Nothing st r l d h = absurd (by r.resolving_pessimistic_lock r.rollback_if_not_exist h)
@@ -277,16 +327,16 @@ secondary_shows (Some e) st r l h = absurd h
 secondary_shows None st r l h =
     let w = among_filter_map (λ (k : Key). shown_lock k (own_prewrite_lock r.start_version (cell_at st.cells k).lock)) r.keys l h in
     let f = own_found r.start_version w.0 (cell_at st.cells w.0).lock l w.2 in
-    record { at = w.0; key = w.0; lock = f.0; here = f.1; shown = f.2 }
+    record { at = w.0; key = w.0; lock = f.0; here = f.1; shown = f.2; same = refl }
 
 pub shown_stood : (st : Store) (r : Request) → IsCovered r → AreInOrder st.cells → (l : LockInfo) → ShowsLock (table st r).reply l → Stood st.cells l
 shown_stood st (Get r) c o l h = get_shows (region_check st.regions r.context) st r l h
 shown_stood st (BatchGet r) c o l h = batch_get_shows (region_check st.regions r.context) st r l h
 shown_stood st (Scan r) c o l h = scan_shows (region_check st.regions r.context) st r l o h
-shown_stood st (Prewrite r) c o l h = prewrite_shows (region_check st.regions r.context) (prewrite_errors st.cells r r.mutations r.is_pessimistic_lock) st r l refl h
-shown_stood st (Commit r) c o l h = absurd (commit_shows (region_check st.regions r.context) (first_commit_error st.cells r r.keys) st r l h)
-shown_stood st (Cleanup r) c o l h = cleanup_shows (region_check st.regions r.context) (mismatched_lock r.key r.start_version (cell_at st.cells r.key).lock) (commit_of (cell_at st.cells r.key).commits r.start_version) st r l refl h
-shown_stood st (BatchRollback r) c o l h = absurd (rollback_shows (region_check st.regions r.context) (first_rollback_error st.cells r.start_version r.keys) st r l h)
+shown_stood st (Prewrite r) c o l h = prewrite_shows (region_check st.regions r.context) (prewrite_errors st.cells r r.mutations r.is_pessimistic_lock) (passed_commit st.cells r.start_version r.mutations) st r l refl h
+shown_stood st (Commit r) c o l h = absurd (commit_shows (region_check st.regions r.context) (first_commit_error st.cells r r.keys) st r l refl h)
+shown_stood st (Cleanup r) c o l h = cleanup_shows (region_check st.regions r.context) (cleanup_refusal r.key r.start_version (cell_at st.cells r.key).lock) (commit_of (cell_at st.cells r.key).commits r.start_version) st r l refl h
+shown_stood st (BatchRollback r) c o l h = absurd (rollback_shows (region_check st.regions r.context) (first_rollback_error st.cells r.start_version r.keys) st r l refl h)
 shown_stood st (PessimisticRollback r) c o l h = absurd (release_shows (region_check st.regions r.context) st r l h)
 shown_stood st (PessimisticLock r) c o l h = pessimistic_lock_shows (region_check st.regions r.context) (pessimistic_errors st.cells r) st r l refl h
 shown_stood st (ResolveLock r) c o l h = absurd (resolve_shows (region_check st.regions r.context) st r l h)

@@ -16,7 +16,6 @@ use Rattle.txn_kv.specs.declared.reply.ScanLockResponse.{ScanLockResponse}
 use Rattle.txn_kv.specs.declared.message.TxnInfo.{TxnInfo}
 use Rattle.txn_kv.specs.declared.request.Request.{Request}
 use Rattle.txn_kv.specs.declared.request.Request.TheVariants.{ScanLock, ResolveLock, Prewrite}
-use Rattle.txn_kv.specs.declared.request.PrewriteRequest.{PrewriteRequest}
 use Rattle.txn_kv.specs.declared.request.ResolveLockRequest.{ResolveLockRequest}
 use Rattle.txn_kv.specs.declared.reply.Reply.{Reply}
 use Rattle.txn_kv.specs.declared.reply.ResolveLockResponse.{ResolveLockResponse}
@@ -26,7 +25,7 @@ use Rattle.std.proofs.lemmas.Bool.Decides.{nat_tests}
 use Rattle.txn_history.specs.Busy.{busy_reply}
 use Rattle.txn_history.specs.Event.{Event, Has}
 use Rattle.txn_model.specs.declared.cell.Lock.{Lock}
-use Rattle.txn_model.specs.Locks.{is_prewrite, holds, lock_info}
+use Rattle.txn_model.specs.Locks.{holds, lock_info}
 use Rattle.txn_history.specs.Event.Event.{Sent, Served, Took}
 use Rattle.txn_history.specs.Plan.{Key, Content, Plan}
 use Rattle.txn_model.specs.declared.cell.Cell.{Cell}
@@ -34,13 +33,13 @@ use Rattle.txn_model.specs.Cells.{cell_at, key_cmp, AreInOrder}
 use Rattle.txn_law.specs.Part.{IsPart, IsLockedBy, CameSince, NonePrewrittenSince, LooksAt, ShowsLockAt, WasResolvedSince, WasCleanedSince}
 use Rattle.txn_law.specs.Run.{IsRun, IsUnused, store_after}
 use Rattle.txn_law.specs.Whole.{content}
-use Rattle.txn_law.proofs.Coherent.{commit_stays, rollback_stays, lock_goes}
-use Rattle.txn_law.proofs.Kept.{NamedBy, kept, changes, passes, timely, settled_infos}
-use Rattle.txn_law.proofs.Moves.{May, Outcome, outcome}
+use Rattle.txn_law.proofs.Kept.{kept, served_outcome, passes}
+use Rattle.txn_law.proofs.Taken.{settled_infos}
+use Rattle.txn_law.proofs.Bounds.{own_lock}
+use Rattle.txn_law.proofs.Moves.{May, may_lock, bound_in, Outcome}
 use Rattle.txn_law.proofs.Phases.{Phase, Move, Goes, phase}
 use Rattle.txn_law.proofs.Phases.Phase.{Free, Locked, Committed, RolledBack}
 use Rattle.txn_law.proofs.Phases.Move.{Locks, Commits, Rolls}
-use Rattle.txn_law.proofs.Rows.{row}
 use Rattle.txn_law.proofs.Settling.{not_held, none_settled, held_unlocks, in_region, region_keeps, region_none}
 use Rattle.std.specs.List.{filter_map}
 use Rattle.std.specs.declared.cmp.Ordering.TheVariants.{Less}
@@ -58,17 +57,30 @@ run_part plans [] part run h = subst (IsRun plans) (sym h) tt
 run_part plans (e ∷ es) part run (inl h) = subst (IsRun plans) (sym h) run
 run_part plans (e ∷ es) part run (inr h) = run_part plans es part run.2 h
 
+over_goes : (n : ℕ) (r : Request) (k : Key) (s : ℕ) (c : Cell) (o after : Phase) → phase c s ≡ o → Outcome n r k s c after → IsOver o → IsOver after
+over_goes n r k s c o after e (inl h) w = subst IsOver (sym (h ∙ e)) w
+over_goes n r k s c o after e (inr (inl h)) (inl w) = absurd (subst (λ b. Goes b h.0 after) (e ∙ w.2) h.2)
+over_goes n r k s c o after e (inr (inl h)) (inr w) = absurd (subst (λ b. Goes b h.0 after) (e ∙ w) h.2)
+over_goes n r k s c o after e (inr (inr h)) (inl w) = absurd (let a = h.3 in let b = w.2 in cc)
+over_goes n r k s c o after e (inr (inr h)) (inr w) = absurd (let a = h.3 in cc)
+
+begun_goes : (n : ℕ) (r : Request) (k : Key) (s : ℕ) (c : Cell) (after : Phase) (p : Key) (x : Content) → phase c s ≡ Locked p x → Outcome n r k s c after → IsBegun (Locked p x) after
+begun_goes n r k s c after p x e (inl h) = inl (h ∙ e)
+begun_goes n r k s c after p x e (inr (inl h)) = by h.0 (subst (λ b. Goes b h.0 after) e h.2)
+  where
+    by : (m : Move) → Goes (Locked p x) m after → IsBegun (Locked p x) after
+    by (Locks q y) g = absurd g
+    by (Commits d) g = inr (inl (d, x, g))
+    by Rolls g = inr (inr g)
+begun_goes n r k s c after p x e (inr (inr h)) = absurd (let a = h.3 in cc)
+
 over_stays : (plans : ℕ → Plan) (es part : List Event) → IsRun plans es → IsPart es part → (s : ℕ) (k : Key) → IsOver (phases (store_after part) s k) → IsOver (phases (store_after es) s k)
 over_stays plans [] part run h s k o = subst (λ p. IsOver (phases (store_after p) s k)) h o
 over_stays plans (e ∷ es) part run (inl h) s k o = subst (λ p. IsOver (phases (store_after p) s k)) h o
 over_stays plans (Sent t r ∷ es) part run (inr h) s k o = over_stays plans es part run.2 h s k o
 over_stays plans (Served t r a ∷ es) part run (inr h) s k o =
-    let ch = changes plans es (kept plans es run.2) t r run.0.0 s k in
-    let next = phases (store_after (Served t r a ∷ es)) s k in
-    elim (over_stays plans es part run.2 h s k o) [
-      | inl w ↦ inl (w.0, w.1, commit_stays (plans s) (NamedBy (plans s) es s) (phases (store_after es) s) k next w.0 w.1 ch w.2)
-      | inr w ↦ inr (rollback_stays (plans s) (NamedBy (plans s) es s) (phases (store_after es) s) k next ch w)
-    ]
+    let st = store_after es in
+    over_goes (bound_in st r) r k s (cell_at st.cells k) (phases st s k) (phases (table st r).store s k) refl (served_outcome plans es t r a run s k) (over_stays plans es part run.2 h s k o)
 over_stays plans (e ∷ es) part run (inr h) s k o = subst (λ cs. IsOver (phase (cell_at cs k) s)) (sym (passes es e tt).cells) (over_stays plans es part run.2 h s k o)
 
 begun_stays : (plans : ℕ → Plan) (es part : List Event) → IsRun plans es → IsPart es part → (s : ℕ) (k p : Key) (x : Content) → phases (store_after part) s k ≡ Locked p x → IsBegun (Locked p x) (phases (store_after es) s k)
@@ -76,35 +88,19 @@ begun_stays plans [] part run h s k p x o = inl (subst (λ q. phases (store_afte
 begun_stays plans (e ∷ es) part run (inl h) s k p x o = inl (subst (λ q. phases (store_after q) s k ≡ Locked p x) h o)
 begun_stays plans (Sent t r ∷ es) part run (inr h) s k p x o = begun_stays plans es part run.2 h s k p x o
 begun_stays plans (Served t r a ∷ es) part run (inr h) s k p x o =
-    let ch = changes plans es (kept plans es run.2) t r run.0.0 s k in
-    let next = phases (store_after (Served t r a ∷ es)) s k in
+    let st = store_after es in
+    let now = served_outcome plans es t r a run s k in
     elim (begun_stays plans es part run.2 h s k p x o) [
-      | inl w ↦ elim (lock_goes (plans s) (NamedBy (plans s) es s) (phases (store_after es) s) k next p x ch w) [
-        | inl v ↦ inl v
-        | inr v ↦ elim v [ inl u ↦ inr (inl (u.0, x, u.1)) | inr u ↦ inr (inr u.0) ]
-      ]
-      | inr w ↦ inr (elim w [
-        | inl v ↦ inl (v.0, v.1, commit_stays (plans s) (NamedBy (plans s) es s) (phases (store_after es) s) k next v.0 v.1 ch v.2)
-        | inr v ↦ inr (rollback_stays (plans s) (NamedBy (plans s) es s) (phases (store_after es) s) k next ch v)
-      ])
+      | inl w ↦ begun_goes (bound_in st r) r k s (cell_at st.cells k) (phases (table st r).store s k) p x w now
+      | inr w ↦ inr (over_goes (bound_in st r) r k s (cell_at st.cells k) (phases st s k) (phases (table st r).store s k) refl now w)
     ]
 begun_stays plans (e ∷ es) part run (inr h) s k p x o = subst (λ cs. IsBegun (Locked p x) (phase (cell_at cs k) s)) (sym (passes es e tt).cells) (begun_stays plans es part run.2 h s k p x o)
 
 locked_phase : (plans : ℕ → Plan) (es : List Event) → IsRun plans es → (s : ℕ) (k : Key) → (l : IsLockedBy (cell_at (store_after es).cells k) s) → phases (store_after es) s k ≡ Locked l.lock.primary (content l.lock.kind l.lock.value)
 locked_phase plans es run s k l = subst (λ u. phases (store_after es) u k ≡ Locked l.lock.primary (content l.lock.kind l.lock.value)) l.start (lock_is_phase (cell_at (store_after es).cells k) l.lock ((kept plans es run).sound k) l.here l.prewrite)
 
-no_lock : (c : Cell) (s : ℕ) (p : Key) (x : Content) → c.lock ≡ None → phase c s ≡ Locked p x → ⊥
-no_lock c s p x e h = grind (arith, nat_tests)
-
-own_lock : (c : Cell) (s : ℕ) (p : Key) (x : Content) (l : Lock) → c.lock ≡ Some l → phase c s ≡ Locked p x → (l.start ≡ s) × (is_prewrite l.kind ≡ true)
-own_lock c s p x l e h = grind (arith, nat_tests)
-
 owned_lock : (c : Cell) (s : ℕ) (p : Key) (x : Content) → phase c s ≡ Locked p x → IsLockedBy c s
-owned_lock c s p x h = by_lock c.lock refl
-  where
-    by_lock : (o : Option Lock) → c.lock ≡ o → IsLockedBy c s
-    by_lock None e = absurd (no_lock c s p x e h)
-    by_lock (Some l) e = let w = own_lock c s p x l e h in record { lock = l; here = e; start = w.0; prewrite = w.1 }
+owned_lock c s p x h = let o = own_lock c s p x h in record { lock = o.lock; here = o.here; start = o.start; prewrite = o.prewrite }
 
 not_over : (o : Phase) (p : Key) (x : Content) → o ≡ Locked p x → IsOver o → ⊥
 not_over o p x e (inl w) = let v = w.2 in absurd (cc)
@@ -252,22 +248,19 @@ law_cleaned plans es first run h s k a w b = law_resolved plans es first run h s
 
 -- A prewrite lock comes by a Prewrite alone.
 
-lock_came : (r : Request) (k : Key) (s : ℕ) (before after : Phase) (p : Key) (x : Content) → Outcome r k s before after → after ≡ Locked p x → (before ≡ Locked p x) ⊎ ((q : Key) × (y : Content) × May r k s before (Locks q y))
-lock_came r k s before after p x (inl h) e = inl (sym h ∙ e)
-lock_came r k s before after p x (inr h) e = by before h.0 h.1 h.2
+lock_came : (n : ℕ) (r : Request) (k : Key) (s : ℕ) (c : Cell) (after : Phase) (p : Key) (x : Content) → Outcome n r k s c after → after ≡ Locked p x → (phase c s ≡ Locked p x) ⊎ ((q : Key) × (y : Content) × May r k s c (Locks q y))
+lock_came n r k s c after p x (inl h) e = inl (sym h ∙ e)
+lock_came n r k s c after p x (inr (inr h)) e = absurd (let a = h.4 in cc)
+lock_came n r k s c after p x (inr (inl h)) e = by (phase c s) h.0 h.1 h.2
   where
-    by : (b : Phase) (m : Move) → May r k s b m → Goes b m after → (b ≡ Locked p x) ⊎ ((q : Key) × (y : Content) × May r k s b (Locks q y))
+    by : (b : Phase) (m : Move) → May r k s c m → Goes b m after → (b ≡ Locked p x) ⊎ ((q : Key) × (y : Content) × May r k s c (Locks q y))
     by b (Locks q y) w g = inr (q, y, w)
-    by Free (Commits n) w g = absurd g
+    by Free (Commits d) w g = absurd g
     by Free Rolls w g = absurd (cc)
-    by (Locked q y) (Commits n) w g = absurd (cc)
+    by (Locked q y) (Commits d) w g = absurd (cc)
     by (Locked q y) Rolls w g = absurd (cc)
-    by (Committed n y) m w g = absurd g
+    by (Committed d y) m w g = absurd g
     by RolledBack m w g = absurd g
-
-prewrites : (r : Request) (k : Key) (s : ℕ) (b : Phase) (q : Key) (y : Content) → May r k s b (Locks q y) → (p : PrewriteRequest) × (r ≡ Prewrite p) × (p.start_version ≡ s)
-prewrites (Prewrite p) k s b q y m = (p, refl, sym m.0)
-prewrites _ k s b q y m = absurd m
 
 pub since_more : (es first : List Event) (e f : Event) → CameSince es first f → CameSince (e ∷ es) first f
 since_more es first e f h = (h.0, inr h.1, h.2)
@@ -277,12 +270,10 @@ stood_since plans [] first run h s k p x n o = subst (λ q. phases (store_after 
 stood_since plans (e ∷ es) first run (inl h) s k p x n o = subst (λ q. phases (store_after q) s k ≡ Locked p x) (sym h) o
 stood_since plans (Sent t r ∷ es) first run (inr h) s k p x n o = stood_since plans es first run.2 h s k p x (λ u q a w. n u q a (since_more es first (Sent t r) (Served u (Prewrite q) a) w)) o
 stood_since plans (Served t r a ∷ es) first run (inr h) s k p x n o =
-    let i = kept plans es run.2 in
     let st = store_after es in
-    let came = outcome r k s (cell_at st.cells k) (cell_at (table st r).store.cells k) (i.sound k) ((row st r (i.warranted t r run.0.0).0 (timely plans es i t r run.0.0) i.in_order).step k (i.sound k)) in
-    elim (lock_came r k s (phases st s k) (phases (table st r).store s k) p x came o) [
+    elim (lock_came (bound_in st r) r k s (cell_at st.cells k) (phases (table st r).store s k) p x (served_outcome plans es t r a run s k) o) [
       | inl b ↦ stood_since plans es first run.2 h s k p x (λ u q c w. n u q c (since_more es first (Served t r a) (Served u (Prewrite q) c) w)) b
-      | inr b ↦ absurd (let w = prewrites r k s (phases st s k) b.0 b.1 b.2 in n t w.0 a (es, inl (λ j. Served t (sym w.1 j) a ∷ es), h) w.2)
+      | inr b ↦ absurd (let w = may_lock r k s (cell_at st.cells k) b.0 b.1 b.2 in n t w.0 a (es, inl (λ j. Served t (sym w.1 j) a ∷ es), h) (sym w.2))
     ]
 stood_since plans (e ∷ es) first run (inr h) s k p x n o = stood_since plans es first run.2 h s k p x (λ u q a w. n u q a (since_more es first e (Served u (Prewrite q) a) w)) (subst (λ cs. phase (cell_at cs k) s ≡ Locked p x) (passes es e tt).cells o)
 

@@ -1,15 +1,14 @@
--- From what was sent, kept and taken under a ticket to the events of the run.
-use Rattle.txn_law.proofs.Kept.{kept}
+-- From what was sent under a ticket, and whether it was handled, to the events of the run.
 use Rattle.txn_history.specs.Plan.{Plan}
-use Rattle.std.proofs.Common.{◌≡◌, ℕ, inl, inr, Bool, true, false, ◌&&◌, List, [], ◌∷◌, Some, None, nat_eq, refl, subst, arith, sym, ◌∙◌}
+use Rattle.std.proofs.Common.{◌≡◌, ℕ, inl, inr, Bool, true, false, ◌&&◌, ◌||◌, List, [], ◌∷◌, Some, None, nat_eq, refl, subst, arith, sym, ◌∙◌}
 use Rattle.std.specs.Prelude.{if◌then◌else◌}
 use Rattle.std.proofs.lemmas.Bool.Decides.{nat_tests}
 use Rattle.txn_kv.specs.declared.ticket.Ticket.{Ticket}
 use Rattle.txn_kv.specs.declared.request.Request.{Request}
 use Rattle.txn_kv.specs.declared.reply.Reply.{Reply}
-use Rattle.txn_history.specs.Event.{Event, Has, bool_eq, same_ticket, sent_request, kept_reply, taken_reply}
-use Rattle.txn_history.specs.Event.Event.{Sent, Served, Took}
-use Rattle.txn_law.specs.Run.{IsUnused, IsRun}
+use Rattle.txn_history.specs.Event.{Event, Has, bool_eq, same_ticket, sent_request, kept_reply, is_refused}
+use Rattle.txn_history.specs.Event.Event.{Sent, Served, Refused}
+use Rattle.txn_law.specs.Run.{IsUnused, IsUnserved, IsRun}
 
 same_bool : (x y : Bool) → bool_eq x y ≡ true → x ≡ y
 same_bool true true h = refl
@@ -54,6 +53,35 @@ unused (Sent u q ∷ es) t h r g = by (same_ticket u t) refl h (λ f. unused es 
     by false e f rest = elim g [ inl w ↦ absurd (let z : same_ticket u t ≡ true = subst (λ v. same_ticket u v ≡ true) (sent_ticket u t q r w) (ticket_itself u) in cc) | inr v ↦ rest f v ]
 unused (_ ∷ es) t h r g = elim g [ inl w ↦ absurd (cc) | inr v ↦ unused es t h r v ]
 
+served_ticket : (u t : Ticket) (q r : Request) (p o : Reply) → Served u q p ≡ Served t r o → u ≡ t
+served_ticket u t q r p o e = cc
+
+refused_ticket : (u t : Ticket) (q r : Request) (p o : Reply) → Refused u q p ≡ Refused t r o → u ≡ t
+refused_ticket u t q r p o e = cc
+
+not_served : (es : List Event) (t : Ticket) → kept_reply es t ≡ None → (r : Request) (o : Reply) → Has es (Served t r o) → ⊥
+not_served [] t h r o g = g
+not_served (Served u q p ∷ es) t h r o g = by (same_ticket u t) refl h (λ f. not_served es t f r o)
+  where
+    by : (x : Bool) → same_ticket u t ≡ x → (if x then Some p else kept_reply es t) ≡ None → (kept_reply es t ≡ None → Has es (Served t r o) → ⊥) → ⊥
+    by true e f rest = absurd (cc)
+    by false e f rest = elim g [ inl w ↦ absurd (let z : same_ticket u t ≡ true = subst (λ v. same_ticket u v ≡ true) (served_ticket u t q r p o w) (ticket_itself u) in cc) | inr v ↦ rest f v ]
+not_served (_ ∷ es) t h r o g = elim g [ inl w ↦ absurd (cc) | inr v ↦ not_served es t h r o v ]
+
+not_refused : (es : List Event) (t : Ticket) → is_refused es t ≡ false → (r : Request) (o : Reply) → Has es (Refused t r o) → ⊥
+not_refused [] t h r o g = g
+not_refused (Refused u q p ∷ es) t h r o g = by (same_ticket u t) refl h (λ f. not_refused es t f r o)
+  where
+    by : (x : Bool) → same_ticket u t ≡ x → (x || is_refused es t) ≡ false → (is_refused es t ≡ false → Has es (Refused t r o) → ⊥) → ⊥
+    by true e f rest = absurd (cc)
+    by false e f rest = elim g [ inl w ↦ absurd (let z : same_ticket u t ≡ true = subst (λ v. same_ticket u v ≡ true) (refused_ticket u t q r p o w) (ticket_itself u) in cc) | inr v ↦ rest f v ]
+not_refused (_ ∷ es) t h r o g = elim g [ inl w ↦ absurd (cc) | inr v ↦ not_refused es t h r o v ]
+
+-- a ticket that has no reply, and was not refused, is unserved
+pub unserved : (es : List Event) (t : Ticket) → kept_reply es t ≡ None → is_refused es t ≡ false → IsUnserved es t
+unserved es t h g r o (inl w) = not_served es t h r o w
+unserved es t h g r o (inr w) = not_refused es t g r o w
+
 -- what was sent under a ticket stands among the events
 pub was_sent : (es : List Event) (t : Ticket) (r : Request) → sent_request es t ≡ Some r → Has es (Sent t r)
 was_sent [] t r h = absurd (cc)
@@ -64,25 +92,7 @@ was_sent (Sent u q ∷ es) t r h = by (same_ticket u t) refl h (was_sent es t r)
     by false e f rest = inr (rest f)
 was_sent (_ ∷ es) t r h = inr (was_sent es t r h)
 
-pub was_served : (es : List Event) (t : Ticket) (o : Reply) → kept_reply es t ≡ Some o → (r : Request) × Has es (Served t r o)
-was_served [] t o h = absurd (cc)
-was_served (Served u q p ∷ es) t o h = by (same_ticket u t) refl h (was_served es t o)
-  where
-    by : (x : Bool) → same_ticket u t ≡ x → (if x then Some p else kept_reply es t) ≡ Some o → (kept_reply es t ≡ Some o → (r : Request) × Has es (Served t r o)) → (r : Request) × Has (Served u q p ∷ es) (Served t r o)
-    by true e f rest = (q, inl (let same = ticket_is u t e in let also : p ≡ o = cc in λ i. Served (same i) q (also i)))
-    by false e f rest = let w = rest f in (w.0, inr w.1)
-was_served (_ ∷ es) t o h = let w = was_served es t o h in (w.0, inr w.1)
-
-pub was_taken : (es : List Event) (t : Ticket) (o : Reply) → taken_reply es t ≡ Some o → (r : Request) × Has es (Took t r o)
-was_taken [] t o h = absurd (cc)
-was_taken (Took u q p ∷ es) t o h = by (same_ticket u t) refl h (was_taken es t o)
-  where
-    by : (x : Bool) → same_ticket u t ≡ x → (if x then Some p else taken_reply es t) ≡ Some o → (taken_reply es t ≡ Some o → (r : Request) × Has es (Took t r o)) → (r : Request) × Has (Took u q p ∷ es) (Took t r o)
-    by true e f rest = (q, inl (let same = ticket_is u t e in let also : p ≡ o = cc in λ i. Took (same i) q (also i)))
-    by false e f rest = let w = rest f in (w.0, inr w.1)
-was_taken (_ ∷ es) t o h = let w = was_taken es t o h in (w.0, inr w.1)
-
--- In a run each ticket has one request, so a kept reply may be taken for the request that was sent.
+-- In a run each ticket has one request.
 
 sent_request_is : (u t : Ticket) (q r : Request) → Sent u q ≡ Sent t r → (u ≡ t) × (q ≡ r)
 sent_request_is u t q r e = (cc, cc)
@@ -100,8 +110,3 @@ sent_once plans (Sent u p ∷ es) run t q r h g = elim h [
   ]
 ]
 sent_once plans (_ ∷ es) run t q r h g = elim h [ inl e ↦ absurd (cc) | inr a ↦ elim g [ inl f ↦ absurd (cc) | inr b ↦ sent_once plans es run.2 t q r a b ] ]
-
-pub kept_for : (plans : ℕ → Plan) (es : List Event) → IsRun plans es → (t : Ticket) (r : Request) (o : Reply) → Has es (Sent t r) → kept_reply es t ≡ Some o → Has es (Served t r o)
-kept_for plans es run t r o h k =
-    let w = was_served es t o k in
-    subst (λ q. Has es (Served t q o)) (sent_once plans es run t w.0 r ((kept plans es run).sent t w.0 o w.1) h) w.1

@@ -1,7 +1,9 @@
 pub mod Lone
+pub mod OnePhaseSample
 pub mod Part
 pub mod Reads
 pub mod Run
 pub mod Sample
 pub mod Sound
+pub mod SpreadSample
 pub mod Whole

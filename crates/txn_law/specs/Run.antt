@@ -1,6 +1,7 @@
 -- A run: what happened may happen, and every request is licensed when it is sent.
 use Rattle.txn_kv.specs.declared.request.PessimisticLockRequest.{PessimisticLockRequest}
-use Rattle.std.specs.Prelude.{◌≡◌, ◌⊎◌, ℕ, List, [], ◌∷◌, Some, Ok, Err}
+use Rattle.std.specs.Prelude.{◌≡◌, ◌⊎◌, ℕ, ◌+◌, ◌^◌, ◌<◌, List, [], ◌∷◌, Some, Ok, Err}
+use Rattle.txn_kv.specs.declared.reply.Reply.{Reply}
 use Rattle.txn_kv.specs.Timestamp.{version_of}
 use Rattle.txn_kv.specs.declared.request.Request.{Request}
 use Rattle.txn_kv.specs.declared.request.Request.TheVariants.{UnsafeDestroyRange, PessimisticLock}
@@ -28,15 +29,23 @@ store_after (_ ∷ es) = store_after es
 abbrev pub IsUnused : List Event → Ticket → Type 0
 IsUnused es t = (r : Request) → Has es (Sent t r) → ⊥
 
--- Each ticket is used once, a request is served after it was sent, and a reply is taken after it was given. A timestamp
--- that an ask is answered is one that a Tso gave which was sent after the ask. Nothing else is asked for: a
--- request may be served more than once, and after it was refused or lost; a reply may be taken after it was lost, or after
--- its client crashed; regions change and the clock goes as they like.
+-- it was neither served nor refused
+abbrev pub IsUnserved : List Event → Ticket → Type 0
+IsUnserved es t = (r : Request) (o : Reply) → Has es (Served t r o) ⊎ Has es (Refused t r o) → ⊥
+
+-- the next timestamp fits 64 bits
+abbrev pub IsRoomy : Store → Type 0
+IsRoomy st = 1 + st.last < 2 ^ 64
+
+-- Each ticket is used once. A request is handled once at most, after it was sent: it is served, or the store is too busy and it
+-- never is. A reply is taken after it was given. A timestamp that an ask is answered is one that a Tso gave which was sent after
+-- the ask. Nothing else is asked for: a request may be served after it was lost; a reply may be taken after it was lost, or
+-- after its client crashed; regions change and the clock goes as they like.
 abbrev pub IsPossible : List Event → Event → Type 0
 IsPossible es (Sent t r) = IsUnused es t
-IsPossible es (Served t r o) = Has es (Sent t r) × (o ≡ (table (store_after es) r).reply)
+IsPossible es (Served t r o) = Has es (Sent t r) × (o ≡ (table (store_after es) r).reply) × IsUnserved es t × IsRoomy (store_after es)
 IsPossible es (Took t r o) = Has es (Served t r o) ⊎ Has es (Refused t r o)
-IsPossible es (Refused t r o) = Has es (Sent t r) × (busy_reply r ≡ Some o)
+IsPossible es (Refused t r o) = Has es (Sent t r) × (busy_reply r ≡ Some o) × IsUnserved es t
 IsPossible es (Lost t r) = Has es (Sent t r)
 IsPossible es (Began t ms) = Unit {0}
 IsPossible es (Slept t) = Unit {0}

@@ -1,7 +1,7 @@
 -- A run of one transaction that commits two keys: its second Commit is lost and comes late, after a reader found the lock,
 -- asked about the primary, and resolved it. Then a read is refused, a region is split and led elsewhere, the clock goes on and
 -- a client is gone.
-use Rattle.std.specs.Prelude.{ℕ, false, pos, List, [], ◌∷◌, Option, Some, None, Ok, if◌then◌else◌}
+use Rattle.std.specs.Prelude.{ℕ, Bool, false, pos, List, [], ◌∷◌, Option, Some, None, Ok, ◌||◌, if◌then◌else◌}
 use Rattle.txn_kv.specs.declared.message.ApiVersion.TheVariants.{V1}
 use Rattle.txn_kv.specs.declared.message.Assertion.TheVariants.{None as NoAssertion}
 use Rattle.txn_kv.specs.declared.message.Context.{Context}
@@ -13,12 +13,14 @@ use Rattle.txn_kv.specs.declared.message.RegionErr.TheVariants.{ServerIsBusy}
 use Rattle.txn_kv.specs.declared.timestamp.Timestamp.{Timestamp}
 use Rattle.txn_kv.specs.declared.request.Request.{Request}
 use Rattle.txn_kv.specs.declared.request.Request.TheVariants.{Get, Prewrite, Commit, Cleanup, ResolveLock, Tso}
+use Rattle.txn_kv.specs.declared.request.PrewriteRequest.{PrewriteRequest}
 use Rattle.txn_kv.specs.declared.reply.Reply.{Reply}
 use Rattle.txn_kv.specs.declared.reply.Reply.TheVariants as reply
 use Rattle.txn_kv.specs.declared.ticket.Ticket.{Ticket}
 use Rattle.txn_history.specs.Event.{Event}
 use Rattle.txn_history.specs.Event.Event.{Sent, Served, Took, Refused, Lost, Began, Slept, Asked, Answered, Crashed, Split, Led, Clocked}
-use Rattle.txn_history.specs.Plan.{Key, key_eq, Plan}
+use Rattle.txn_history.specs.Plan.{Key, key_eq, Plan, Way}
+use Rattle.txn_history.specs.Plan.Way.{TwoPhases}
 pub use Rattle.txn_law.specs.Lone.{put_of}
 
 abbrev pub first_key : Key
@@ -27,9 +29,18 @@ first_key = 97 ∷ []
 abbrev pub second_key : Key
 second_key = 98 ∷ []
 
--- what the transaction means to write
+-- A transaction that puts a value to each of two keys, in this way, and all at once where it may.
+abbrev pub sample_plan : Way → Bool → Plan
+sample_plan way once = record {
+  primary = first_key;
+  ops = λ k. if key_eq first_key k || key_eq second_key k then Some Put else None;
+  writes = λ k. if key_eq first_key k then Some (put_of (7 ∷ [])) else (if key_eq second_key k then Some (put_of (8 ∷ [])) else None);
+  way = way;
+  one_phase = once;
+}
+
 abbrev pub sample_plans : ℕ → Plan
-sample_plans s = record { primary = first_key; writes = λ k. if key_eq first_key k then Some (put_of (7 ∷ [])) else (if key_eq second_key k then Some (put_of (8 ∷ [])) else None) }
+sample_plans s = sample_plan TwoPhases false
 
 abbrev pub here : Option Context
 here = Some (record { region_id = 1; region_epoch = Some (record { conf_ver = 1; version = 1 }); peer = Some (record { id = 1; store_id = 1 }); api_version = V1 })
@@ -37,8 +48,19 @@ here = Some (record { region_id = 1; region_epoch = Some (record { conf_ver = 1;
 abbrev pub put : Key → List ℕ → Mutation
 put k v = record { op = Put; key = k; value = v; assertion = NoAssertion }
 
-abbrev pub second_lock : LockInfo
-second_lock = record { key = second_key; primary_lock = first_key; lock_version = 1; lock_ttl = 3000; lock_type = Put; lock_for_update_ts = 0; use_async_commit = false; min_commit_ts = 0; secondaries = [] }
+abbrev pub put_first : Mutation
+put_first = put first_key (7 ∷ [])
+
+abbrev pub put_second : Mutation
+put_second = put second_key (8 ∷ [])
+
+-- a Prewrite of some of them
+abbrev pub prewrite_of : Bool → Bool → List Mutation → List Key → PrewriteRequest
+prewrite_of async once ms ks = record { context = here; mutations = ms; primary_lock = first_key; start_version = 1; lock_ttl = 3000; txn_size = 2; for_update_ts = 0; is_pessimistic_lock = []; use_async_commit = async; try_one_pc = once; secondaries = ks }
+
+-- a lock, as a reply shows it
+abbrev pub lock_shown : Bool → ℕ → Key → List Key → LockInfo
+lock_shown async bound k ks = record { key = k; primary_lock = first_key; lock_version = 1; lock_ttl = 3000; lock_type = Put; lock_for_update_ts = 0; use_async_commit = async; min_commit_ts = bound; secondaries = ks }
 
 abbrev pub ticket : ℕ → Ticket
 ticket n = record { line = n; beat = false; number = 1 }
@@ -47,7 +69,7 @@ abbrev pub tso : Request
 tso = Tso (record { count = 1 })
 
 abbrev pub prewrite : Request
-prewrite = Prewrite (record { context = here; mutations = put first_key (7 ∷ []) ∷ put second_key (8 ∷ []) ∷ []; primary_lock = first_key; start_version = 1; lock_ttl = 3000; txn_size = 2; for_update_ts = 0; is_pessimistic_lock = []; use_async_commit = false; try_one_pc = false; secondaries = [] })
+prewrite = Prewrite (prewrite_of false false (put_first ∷ put_second ∷ []) [])
 
 abbrev pub commit_first : Request
 commit_first = Commit (record { context = here; keys = first_key ∷ []; start_version = 1; commit_version = 2 })
@@ -83,7 +105,7 @@ abbrev pub committed : Reply
 committed = reply.Commit (record { region_error = None; error = None; commit_version = 2 })
 
 abbrev pub locked : Reply
-locked = reply.Get (record { region_error = None; error = Some (errors.Locked second_lock); value = []; not_found = false })
+locked = reply.Get (record { region_error = None; error = Some (errors.Locked (lock_shown false 0 second_key [])); value = []; not_found = false })
 
 abbrev pub too_busy : Reply
 too_busy = reply.Get (record { region_error = Some ServerIsBusy; error = None; value = []; not_found = false })

@@ -1,4 +1,4 @@
-use Rattle.txn_law.proofs.Kept.{last_stays}
+use Rattle.txn_law.proofs.Clocks.{last_stays}
 use Rattle.txn_law.proofs.OneRequest.{opening_sound, sound_next, commit_there, lock_there, rollback_there, prewrite_unrolled}
 use Rattle.txn_law.proofs.Replies.{timestamps_rise}
 use Rattle.txn_law.proofs.request.one_request.Goals as goal

@@ -1,4 +1,5 @@
-use Rattle.txn_law.proofs.Wholes.{law_decided, law_fits, law_whole, law_committed, law_rolled_back, law_rolled_stays, law_no_lock, law_above, law_named, law_served, law_one, law_unlocked, law_recorded}
+use Rattle.txn_law.proofs.Unlocked.{law_no_lock, law_unlocked, law_recorded}
+use Rattle.txn_law.proofs.Wholes.{law_by_primary, law_whole, one_whole, law_fits, law_committed, law_settled, law_one_phase, law_decided, law_rolled_back, law_rolled_stays, law_above, law_named, law_served, law_one}
 use Rattle.txn_law.proofs.Origins.{law_no_lock_left}
 use Rattle.txn_law.proofs.whole.whole_or_nothing.Goals as goal
 
@@ -43,3 +44,15 @@ returns-clause-decided c = law_decided
 
 pub returns-clause-no_lock_left : goal.returns-clause-no_lock_left
 returns-clause-no_lock_left c = law_no_lock_left
+
+pub returns-clause-one_time : goal.returns-clause-one_time
+returns-clause-one_time c = one_whole
+
+pub returns-clause-settled : goal.returns-clause-settled
+returns-clause-settled c = law_settled
+
+pub returns-clause-one_phase : goal.returns-clause-one_phase
+returns-clause-one_phase c = law_one_phase
+
+pub returns-clause-by_primary : goal.returns-clause-by_primary
+returns-clause-by_primary c = law_by_primary
