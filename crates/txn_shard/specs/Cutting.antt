@@ -54,7 +54,7 @@ piece_in_order key items piece before behind j =
     in_order_same key piece (ascends_left key piece (joined behind) (ascends_right key (joined before) (piece ++ joined behind)
     (subst (Ascends key) (sym j ∙ flat_map-append (λ l. l) before (piece ∷ behind)) (ascends_in_order key items))))
 
-among_left : {X : Type 0} (xs ys : List X) (x : X) → IsAmong xs x → IsAmong (xs ++ ys) x
+pub among_left : {X : Type 0} (xs ys : List X) (x : X) → IsAmong xs x → IsAmong (xs ++ ys) x
 among_left [] ys x i = absurd i
 among_left (y ∷ xs) ys x (inl e) = inl e
 among_left (y ∷ xs) ys x (inr i) = inr (among_left xs ys x i)

@@ -1,5 +1,6 @@
 pub mod Batches
 pub mod Cutting
+pub mod Distinct
 pub mod Next
 pub mod Order
 pub mod Parting

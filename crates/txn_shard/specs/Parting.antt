@@ -4,6 +4,7 @@ use Rattle.std.specs.Prelude.{Option, None, IfSome, map, take, drop}
 use Rattle.std.proofs.lemmas.List.Elements.{All-nil}
 use Rattle.std.specs.List.{All}
 use Rattle.txn_history.specs.Among.{IsAmong}
+use Rattle.txn_history.specs.Plan.{AreDistinct}
 use Rattle.txn_kv.specs.declared.message.Mutation.{Mutation}
 use Rattle.txn_kv.specs.declared.request.BatchGetRequest.{BatchGetRequest}
 use Rattle.txn_kv.specs.declared.request.BatchRollbackRequest.{BatchRollbackRequest}
@@ -21,6 +22,7 @@ use Rattle.txn_kv.specs.declared.request.TxnHeartBeatRequest.{TxnHeartBeatReques
 use Rattle.txn_region.specs.Regions.{Key}
 use Rattle.txn_shard.specs.Batches.{joined}
 use Rattle.txn_shard.specs.Cutting.{piece_among, piece_inside, some_piece}
+use Rattle.txn_shard.specs.Distinct.{piece_distinct}
 use Rattle.txn_shard.specs.Order.{in_order}
 use Rattle.txn_shard.specs.Parts.{range_by, scan_range, lock_range, GetPart, CleanupPart, TxnHeartBeatPart, CheckTxnStatusPart, BatchGetPart, BatchRollbackPart, PessimisticRollbackPart, CheckSecondaryLocksPart, CommitPart, PrewritePart, PessimisticLockPart, ScanPart, ScanLockPart}
 use Rattle.txn_shard.specs.Shards.{AreJoined, AreEnded, ArePieces, IsAlone, IsAt, IsFresh, IsShard, KeyIsFound, KeyLiesIn, KeysAreFound, KeysLieIn, Range, RangeIsFound, RangeLiesIn, PartIsFound, holds, shards_of, IsPartition}
@@ -129,11 +131,14 @@ CommitPart-part a b c p q = (p.0 ∙ ap (λ (r : CommitRequest). record r { cont
 
 pub PrewritePart-applied : (old new : PrewriteRequest) (shard : List Mutation) (before behind : List (List Mutation)) → AreJoined (in_order (λ mutation. mutation.key) old.mutations) (before ++ shard ∷ behind) → new ≡ record old { context = new.context; mutations = shard } → PrewritePart new old
 PrewritePart-applied old new shard before behind cut e =
-    let same = ap (λ (r : PrewriteRequest). r.mutations) e in
-    (e ∙ ap (λ items. record old { context = new.context; mutations = items }) (sym same), λ x among. piece_among (λ mutation. mutation.key) old.mutations shard before behind cut x (subst (λ items. IsAmong items x) same among))
+    let same = ap (λ (r : PrewriteRequest). r.mutations) e in (
+      e ∙ ap (λ items. record old { context = new.context; mutations = items }) (sym same),
+      (λ x among. piece_among (λ mutation. mutation.key) old.mutations shard before behind cut x (subst (λ items. IsAmong items x) same among)),
+      λ distinct. subst AreDistinct (sym same) (piece_distinct old.mutations shard before behind cut distinct),
+    )
 
 pub PrewritePart-part : (a b c : PrewriteRequest) → PrewritePart a b → PrewritePart b c → PrewritePart a c
-PrewritePart-part a b c p q = (p.0 ∙ ap (λ (r : PrewriteRequest). record r { context = a.context; mutations = a.mutations }) q.0, λ x among. q.1 x (p.1 x among))
+PrewritePart-part a b c p q = (p.0 ∙ ap (λ (r : PrewriteRequest). record r { context = a.context; mutations = a.mutations }) q.0, (λ x among. q.1 x (p.1 x among)), λ distinct. p.2 (q.2 distinct))
 
 pub PessimisticLockPart-applied : (old new : PessimisticLockRequest) (shard : List Mutation) (before behind : List (List Mutation)) → AreJoined (in_order (λ mutation. mutation.key) old.mutations) (before ++ shard ∷ behind) → new ≡ record old { context = new.context; mutations = shard } → PessimisticLockPart new old
 PessimisticLockPart-applied old new shard before behind cut e =

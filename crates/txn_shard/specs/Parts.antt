@@ -2,6 +2,7 @@
 use Rattle.std.proofs.Common.{◌≡◌, ◌≢◌, Bool, true, false, List, []}
 use Rattle.std.specs.Prelude.{Option, Some, Ok}
 use Rattle.txn_history.specs.Among.{IsAmong}
+use Rattle.txn_history.specs.Plan.{AreDistinct}
 use Rattle.txn_kv.specs.Region.{context_of}
 use Rattle.txn_kv.specs.Request.{keeping_version}
 use Rattle.txn_kv.specs.declared.message.Context.{Context}
@@ -81,8 +82,9 @@ CommitPart p w = (p ≡ record w { context = p.context; keys = p.keys }) × AreA
 
 -- Mutations
 
+-- in which no key comes twice, where none does in the other one
 abbrev pub PrewritePart : PrewriteRequest → PrewriteRequest → Type 0
-PrewritePart p w = (p ≡ record w { context = p.context; mutations = p.mutations }) × AreAmong p.mutations w.mutations
+PrewritePart p w = (p ≡ record w { context = p.context; mutations = p.mutations }) × AreAmong p.mutations w.mutations × (AreDistinct w.mutations → AreDistinct p.mutations)
 
 abbrev pub PessimisticLockPart : PessimisticLockRequest → PessimisticLockRequest → Type 0
 PessimisticLockPart p w = (p ≡ record w { context = p.context; mutations = p.mutations }) × AreAmong p.mutations w.mutations

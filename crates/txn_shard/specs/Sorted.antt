@@ -66,7 +66,7 @@ pub ascends_right : {X : Type 0} (key : X → Key) (xs ys : List X) → Ascends 
 ascends_right key [] ys a = a
 ascends_right key (x ∷ xs) ys a = ascends_right key xs ys a.1
 
-among_placed : {X : Type 0} (key : X → Key) (x : X) (ys : List X) (w : X) → IsAmong (placed key x ys) w → IsAmong (x ∷ ys) w
+pub among_placed : {X : Type 0} (key : X → Key) (x : X) (ys : List X) (w : X) → IsAmong (placed key x ys) w → IsAmong (x ∷ ys) w
 among_placed key x [] w i = i
 among_placed {X} key x (y ∷ ys) w i = by (comes_before key y x) i (among_placed key x ys w)
   where

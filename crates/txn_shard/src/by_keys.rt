@@ -455,7 +455,7 @@ impl Shardable for PrewriteRequest {
 
     ghost applied_part = { λ old new shard store before behind cut applied. PrewritePart-applied old new shard before behind cut applied.1 };
 
-    ghost part_itself = { λ request. (refl, λ x among. among) };
+    ghost part_itself = { λ request. (refl, (λ x among. among), λ distinct. distinct) };
 
     ghost part_of_part = { PrewritePart-part };
 }
