@@ -226,9 +226,18 @@ where
                 let turn = call.tell(arrival, pd, now, out);
                 self.go_on(turn, now)
             }
-            Stage::Fresh => Ok(Progress::Waiting),
-            Stage::Over => Ok(Progress::Waiting),
-            Stage::Stopped => Err(NoMemory),
+            Stage::Fresh => {
+                drop(arrival);
+                Ok(Progress::Waiting)
+            }
+            Stage::Over => {
+                drop(arrival);
+                Ok(Progress::Waiting)
+            }
+            Stage::Stopped => {
+                drop(arrival);
+                Err(NoMemory)
+            }
         }
     }
 

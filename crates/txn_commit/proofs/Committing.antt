@@ -1,9 +1,10 @@
 -- The calls of a commit's or a rollback's plans as calls of the whole.
-use Rattle.std.proofs.Common.{◌≡◌, ◌⊎◌, inl, inr, ℕ, true, List, [], ◌∷◌, None, sym, subst, ◌∙◌}
+use Rattle.std.proofs.Common.{◌≡◌, ◌⊎◌, inl, inr, ℕ, Bool, true, false, List, [], ◌∷◌, None, refl, sym, ap, subst, ◌∙◌}
+use Rattle.std.proofs.lemmas.Bool.{false≢true}
 use Rattle.std.specs.Prelude.{Result, Ok, Err}
 use Rattle.txn_kv.specs.Timestamp.{version_of}
 use Rattle.txn_kv.specs.declared.errors.Error.{Error}
-use Rattle.txn_kv.specs.declared.message.Mutation.{Mutation}
+use Rattle.txn_kv.specs.declared.request.PrewriteRequest.{PrewriteRequest}
 use Rattle.txn_kv.specs.declared.request.Request.{Request}
 use Rattle.txn_kv.specs.declared.request.Request.TheVariants.{Prewrite, Commit, BatchRollback}
 use Rattle.txn_kv.specs.declared.timestamp.Timestamp.{Timestamp}
@@ -14,20 +15,23 @@ use Rattle.txn_history.specs.Event.Event.{Sent}
 use Rattle.txn_history.specs.Licence.{PrimaryRolledBack, WasGiven}
 use Rattle.txn_history.specs.Meaning.{Meaning, Told}
 use Rattle.txn_history.specs.Moves.{Moves, SameJob}
-use Rattle.txn_history.specs.Plan.{Key, has_key, ArePlanned, Plan}
+use Rattle.txn_history.specs.Plan.{Key, has_key, AreDistinct, Plan}
+use Rattle.txn_history.specs.Plan.Way.{TwoPhases}
 use Rattle.txn_history.specs.Posted.{Errand, Licensed, Posted, Within, after}
 use Rattle.txn_history.specs.Turn.{Turn, IfEnds-weaker, IfKept-weaker}
-use Rattle.txn_commit.specs.Committing.{CommitterFits, IsAt, IsCommitting, IsFormed, IsPrewriting, IsReady, IsRollingBack, Ways}
+use Rattle.txn_commit.specs.Committing.{CommitterFits, IsAllPrewritten, IsAt, IsCommitting, IsFormed, IsPrewriting, IsWhole, IsReady, IsRollingBack, Ways}
 use Rattle.txn_commit.specs.Following.{Commits, KnowsCommits, sent}
-use Rattle.txn_commit.specs.Plans.{AreCommitted, ArePrewritten, AreRolledBack, IsForeign, IsOfCommit, IsOfPrewrite, IsOfRollback, IsUnderWay, Says}
+use Rattle.txn_history.specs.Foreign.{IsForeign}
+use Rattle.txn_commit.specs.Plans.{AreCommitted, ArePrewritten, AreRolledBack, IsOfCommit, IsOfPrewrite, IsOfRollback, IsUnderWay, Says}
 use Rattle.txn_commit.specs.Sending.{MaySend, plan_of}
 use Rattle.txn_commit.specs.declared.commit_parts.CommitParts.{CommitParts}
 use Rattle.txn_commit.specs.declared.committer.CommitterCall.{CommitterCall}
 use Rattle.txn_commit.specs.declared.committer.Stage.{Stage}
 use Rattle.txn_commit.specs.declared.committer.Stage.TheVariants as stage
 use Rattle.txn_commit.proofs.Following.{IsNoSending, knows_more}
+use Rattle.txn_commit.proofs.Planned.{parts_planned}
 use Rattle.txn_commit.proofs.Posting.{Hears, IsSameTime, heard_keeps, knows_sent, sent_time}
-use Rattle.txn_commit.proofs.Sending.{IsNamed, commit_may, foreign_may, given_longer, knows_quiet, licensed_lift, named_more, named_quiet, named_sent, prewrite_no_commit, ready_more, rollback_no_commit, rolled_longer, settled_answered}
+use Rattle.txn_commit.proofs.Sending.{IsNamed, commit_may, foreign_may, given_longer, given_zero, knows_quiet, licensed_lift, named_more, named_quiet, named_sent, prewrite_no_commit, ready_more, rollback_no_commit, rolled_longer, settled_answered}
 
 -- a plan that went on is still under way
 pub under_way_on : {S A : Type 0} {m : Meaning S (Result A Error)} {refuses : List Event → Error → Type 0} {part : Request → Type 0} {answered : List Event → Type 0} {old new : S}
@@ -67,13 +71,41 @@ lift {asks} {may} {hear} {from} {turn} inv f p q w m i g = record {
 
 -- Prewrites
 
-planned_part : (plan : Plan) (ms part : List Mutation) → ArePlanned plan ms → ((m : Mutation) → IsAmong part m → IsAmong ms m) → ArePlanned plan part
-planned_part plan ms part p w m x a e = p m x (w m a) e
+not_so : (b : Bool) → b ≡ false → b ≡ true → ⊥
+not_so b e f = absurd (false≢true (sym e ∙ f))
 
-prewrite_may : (s : ℕ) (parts : CommitParts) (h : List Event) (r : Request) → IsFormed parts → IsOfPrewrite s parts.primary parts.mutations r ⊎ IsForeign h r → MaySend (plan_of parts) s h r
-prewrite_may s parts h r f (inr g) = foreign_may (plan_of parts) s h r g
-prewrite_may s parts h (Prewrite r) f (inl w) = (w.0, record { primary = w.1; planned = planned_part (plan_of parts) parts.mutations r.mutations f.planned w.2 })
-prewrite_may s parts h _ f (inl w) = absurd w
+prewrite_may : (s : ℕ) (parts : CommitParts) (whole : PrewriteRequest) (h : List Event) (r : Request) → IsFormed parts → IsWhole s parts whole → WasGiven h s → IsOfPrewrite whole r ⊎ IsForeign h r → MaySend (plan_of parts) s h r
+prewrite_may s parts whole h r f is g (inr o) = foreign_may (plan_of parts) s h r o
+prewrite_may s parts whole h (Prewrite r) f is g (inl w) = (
+  start,
+  record {
+    primary = ap (λ (x : PrewriteRequest). x.primary_lock) w.0 ∙ is.primary;
+    planned = λ m a. parts_planned parts f.once m (subst (λ ms. IsAmong ms m) is.mutations (w.1 m a));
+    once = w.2 (subst AreDistinct (sym is.mutations) f.once);
+    way = flag;
+    named = λ ks e. cc;
+    at_once = λ e. absurd (not_so r.try_one_pc single e);
+    given = (subst (WasGiven h) (sym start) g, subst (WasGiven h) (sym (ap (λ (x : PrewriteRequest). x.for_update_ts) w.0 ∙ is.optimistic)) (given_zero s h g));
+    above = λ flagged. absurd (elim flagged [ inl e ↦ not_so r.use_async_commit flag e | inr e ↦ not_so r.try_one_pc single e ]);
+    unrolled = λ e. absurd (false≢true e);
+  },
+)
+  where
+    start : r.start_version ≡ s
+    start = ap (λ (x : PrewriteRequest). x.start_version) w.0 ∙ is.start
+
+    flag : r.use_async_commit ≡ false
+    flag = ap (λ (x : PrewriteRequest). x.use_async_commit) w.0 ∙ is.primary_settles
+
+    single : r.try_one_pc ≡ false
+    single = ap (λ (x : PrewriteRequest). x.try_one_pc) w.0 ∙ is.locking
+prewrite_may s parts whole h _ f is g (inl w) = absurd w
+
+-- what the plan of the whole answers
+all_prewritten : {A : Type 0} (refuses : List Event → Error → Type 0) {s : ℕ} {parts : CommitParts} {whole : PrewriteRequest} → IsWhole s parts whole
+    → (h : List Event) (v : Result A Error) → Says refuses (ArePrewritten whole) h v → Says refuses (IsAllPrewritten s parts) h v
+all_prewritten refuses {whole = whole} is h (Ok v) g = record { whole = whole; is = is; each = g }
+all_prewritten refuses is h (Err e) g = g
 
 pub record Throughout (plan : Plan) (s : ℕ) (c : Commits) (fact : List Event → Type 0) (k : List Event) : Type 0 where
   pub knows : KnowsCommits plan s c k
@@ -91,17 +123,17 @@ PrimaryFirst plan s keys k = (x : Key) → has_key keys x ≡ true → (x ≡ pl
 first_longer : (plan : Plan) (s : ℕ) (keys : List Key) (h k : List Event) → Within h k → PrimaryFirst plan s keys h → PrimaryFirst plan s keys k
 first_longer plan s keys h k w f x g = elim (f x g) [ inl e ↦ inl e | inr r ↦ inr (rolled_longer plan s h k w r) ]
 
-rollback_may : (plan : Plan) (s : ℕ) (keys : List Key) (c : Commits) (h : List Event) (r : Request) → Rattle.txn_commit.specs.Following.undetermined c ≡ None
+rollback_may : (plan : Plan) (s : ℕ) (keys : List Key) (c : Commits) (h : List Event) (r : Request) → plan.way ≡ TwoPhases → Rattle.txn_commit.specs.Following.undetermined c ≡ None
     → Throughout plan s c (PrimaryFirst plan s keys) h → IsOfRollback s keys r ⊎ IsForeign h r → MaySend plan s h r
-rollback_may plan s keys c h r u t (inr g) = foreign_may plan s h r g
-rollback_may plan s keys c h (BatchRollback r) u t (inl w) = (
+rollback_may plan s keys c h r way u t (inr g) = foreign_may plan s h r g
+rollback_may plan s keys c h (BatchRollback r) way u t (inl w) = (
   w.0,
   record {
     answered = subst (λ x. Rattle.txn_history.specs.Licence.CommitsAnswered plan h x) (sym w.0) (settled_answered plan s c h u t.knows);
-    primary_first = λ k g. elim (t.also k (w.1 k g)) [ inl e ↦ inl e | inr b ↦ inr (subst (λ x. PrimaryRolledBack plan h x) (sym w.0) b) ];
+    undone = inl (way, λ k g. elim (t.also k (w.1 k g)) [ inl e ↦ inl e | inr b ↦ inr (subst (λ x. PrimaryRolledBack plan h x) (sym w.0) b) ]);
   },
 )
-rollback_may plan s keys c h _ u t (inl w) = absurd w
+rollback_may plan s keys c h _ way u t (inl w) = absurd w
 
 -- Commits
 
@@ -112,10 +144,10 @@ pub record Committable (plan : Plan) (s c : ℕ) (k : List Event) : Type 0 where
 committable_more : (plan : Plan) (s c : ℕ) (k : List Event) (e : Event) → IsNoSending e → Committable plan s c k → Committable plan s c (e ∷ k)
 committable_more plan s c k e n i = record { ready = ready_more plan s c e k i.ready; named = named_more plan s c e k n i.named }
 
-commit_part_may : (plan : Plan) (s c : ℕ) (h : List Event) (r : Request) → Committable plan s c h → IsOfCommit s c (plan.primary ∷ []) r ⊎ IsForeign h r → MaySend plan s h r
-commit_part_may plan s c h r i (inr g) = foreign_may plan s h r g
-commit_part_may plan s c h (Commit r) i (inl w) = commit_may plan s c h r i.ready i.named w
-commit_part_may plan s c h _ i (inl w) = absurd w
+commit_part_may : (plan : Plan) (s c : ℕ) (h : List Event) (r : Request) → plan.way ≡ TwoPhases → Committable plan s c h → IsOfCommit s c (plan.primary ∷ []) r ⊎ IsForeign h r → MaySend plan s h r
+commit_part_may plan s c h r way i (inr g) = foreign_may plan s h r g
+commit_part_may plan s c h (Commit r) way i (inl w) = commit_may plan s c h r way i.ready i.named w
+commit_part_may plan s c h _ way i (inl w) = absurd w
 
 named_foreign : (plan : Plan) (s c : ℕ) (t : Ticket) (r : Request) (h : List Event) → IsForeign h r → IsNamed plan s c h → IsNamed plan s c (Sent t r ∷ h)
 named_foreign plan s c t r h g n = named_quiet plan s c t r h (λ q e. subst (λ x. IsForeign h x) e g) n
@@ -140,16 +172,16 @@ module _ {P Q K A B D : Type 0} where
       → Moves (w.prewriting.asks p) (λ h. w.prewriting.fits p o h × told.known h) (w.prewriting.fits p' o') (w.prewriting.gives p) told.hear o o' turn
       → SameJob w.prewriting.asks w.prewriting.gives p' p
       → Moves (MaySend (plan_of call.parts) (version_of call.start)) (λ h. CommitterFits w call c o h × told.known h) (CommitterFits w (record call { stage = stage.Prewriting p' }) c o')
-      (Says (w.unwritten call.retry_options) (ArePrewritten (version_of call.start) call.parts.mutations)) told.hear o o' turn
+      (Says (w.unwritten call.retry_options) (IsAllPrewritten (version_of call.start) call.parts)) told.hear o o' turn
   prewriting_on w call p p' c told o o' turn e hears m j =
       lift (Throughout plan s c (λ k. WasGiven k s))
-      (λ h u k r i a. prewrite_may s call.parts k r u.0.formed ((at h u).way.asks k r a))
-      (λ h u k t r i a. record { knows = knows_quiet plan s c t r k (prewrite_no_commit s call.parts.primary call.parts.mutations k r ((at h u).way.asks k r a)) i.knows; also = given_longer s k (Sent t r ∷ k) (λ x g. inr g) i.also })
+      (λ h u k r i a. prewrite_may s call.parts (at h u).whole k r u.0.formed (at h u).is i.also ((at h u).way.asks k r a))
+      (λ h u k t r i a. record { knows = knows_quiet plan s c t r k (prewrite_no_commit (at h u).whole k r ((at h u).way.asks k r a)) i.knows; also = given_longer s k (Sent t r ∷ k) (λ x g. inr g) i.also })
       (throughout_more plan s c (λ k. WasGiven k s) (given_longer s))
       (λ h u. (((at h u).now, u.1), heard_keeps (Throughout plan s c (λ k. WasGiven k s)) (throughout_more plan s c (λ k. WasGiven k s) (given_longer s)) h (told.hear h) (hears h) (record { knows = u.0.knows; also = (at h u).given })))
       m
-      (λ h u f i. record { start = u.0.start; formed = u.0.formed; knows = i.knows; at = record { now = f; way = under_way_on j (at h u).way; given = i.also; first = (at h u).first } })
-      (λ h u k v g. says (at h u).way k v g)
+      (λ h u f i. record { start = u.0.start; formed = u.0.formed; knows = i.knows; at = record { now = f; whole = (at h u).whole; is = (at h u).is; way = under_way_on j (at h u).way; given = i.also; first = (at h u).first } })
+      (λ h u k v g. all_prewritten (w.unwritten call.retry_options) (at h u).is k v (says (at h u).way k v g))
     where
       s : ℕ
       s = version_of call.start
@@ -169,7 +201,7 @@ module _ {P Q K A B D : Type 0} where
       (Says (w.unrolled call.retry_options) (AreRolledBack (version_of call.start) (call.parts.primary ∷ []))) told.hear o o' turn
   rolling_on w call k k' c told o o' turn e hears m j =
       lift (Throughout plan s c (PrimaryFirst plan s keys))
-      (λ h u x r i a. rollback_may plan s keys c x r (at h u).settled i ((at h u).way.asks x r a))
+      (λ h u x r i a. rollback_may plan s keys c x r refl (at h u).settled i ((at h u).way.asks x r a))
       (λ h u x t r i a. record { knows = knows_quiet plan s c t r x (rollback_no_commit s keys x r ((at h u).way.asks x r a)) i.knows; also = first_longer plan s keys x (Sent t r ∷ x) (λ y g. inr g) i.also })
       (throughout_more plan s c (PrimaryFirst plan s keys) (first_longer plan s keys))
       (λ h u. (((at h u).now, u.1), heard_keeps (Throughout plan s c (PrimaryFirst plan s keys)) (throughout_more plan s c (PrimaryFirst plan s keys) (first_longer plan s keys)) h (told.hear h) (hears h) (record { knows = u.0.knows; also = (at h u).primary_first })))
@@ -198,7 +230,7 @@ module _ {P Q K A B D : Type 0} where
       (Says (w.unrolled call.retry_options) (AreRolledBack (version_of call.start) call.parts.secondaries)) told.hear o o' turn
   rolling_others_on w call k k' c told o o' turn e hears m j =
       lift (Throughout plan s c fact)
-      (λ h u x r i a. rollback_may plan s keys c x r (at h u).0.settled (record { knows = i.knows; also = i.also.0 }) ((at h u).0.way.asks x r a))
+      (λ h u x r i a. rollback_may plan s keys c x r refl (at h u).0.settled (record { knows = i.knows; also = i.also.0 }) ((at h u).0.way.asks x r a))
       (λ h u x t r i a. record { knows = knows_quiet plan s c t r x (rollback_no_commit s keys x r ((at h u).0.way.asks x r a)) i.knows; also = fact_longer x (Sent t r ∷ x) (λ y g. inr g) i.also })
       (throughout_more plan s c fact fact_longer)
       (λ h u. (((at h u).0.now, u.1), heard_keeps (Throughout plan s c fact) (throughout_more plan s c fact fact_longer) h (told.hear h) (hears h) (record { knows = u.0.knows; also = ((at h u).0.primary_first, (at h u).1) })))
@@ -235,7 +267,7 @@ module _ {P Q K A B D : Type 0} where
       (Says (w.uncommitted call.retry_options) (AreCommitted (version_of call.start) (version_of t) (call.parts.primary ∷ []))) told.hear o o' turn
   committing_on w call q q' t c d told o o' turn e hears heard_so time m j =
       lift (Committable plan s (version_of t))
-      (λ h u x r i a. commit_part_may plan s (version_of t) x r i ((at h u).way.asks x r a))
+      (λ h u x r i a. commit_part_may plan s (version_of t) x r refl i ((at h u).way.asks x r a))
       (λ h u x n r i a. commit_part_on plan s (version_of t) x n r i ((at h u).way.asks x r a))
       (committable_more plan s (version_of t))
       (λ h u. (((at h u).now, u.1), heard_keeps (Committable plan s (version_of t)) (committable_more plan s (version_of t)) h (told.hear h) (hears h) (record { ready = (at h u).ready; named = named_of plan s c t h (at h u).same u.0.knows })))

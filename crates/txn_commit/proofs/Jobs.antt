@@ -19,12 +19,14 @@ use Rattle.txn_history.specs.Moves.{Knows, Moves, Moves-after, Moves-before, Sam
 use Rattle.txn_history.specs.Phase.{Awaited, IsPosted, Phase, phase_after, unheard}
 use Rattle.txn_history.specs.Phase.Phase.{Fresh, GivenUp, Over, Running}
 use Rattle.txn_history.specs.Plan.{Key, has_key, Plan}
+use Rattle.txn_history.specs.Plan.Way.{TwoPhases}
 use Rattle.txn_history.specs.Posted.{Posted, Within}
 use Rattle.txn_history.specs.Turn.{Turn, IfEnds, IfKept}
 use Rattle.txn_history.specs.Turn.Turn.{Stopped, Waits, Ends}
 use Rattle.txn_merge.specs.declared.retry_options.RetryOptions.{RetryOptions}
 use Rattle.txn_commit.specs.Jobs.{IsJobAt, IsOut, IsPlanned, JobFits, ReadsDone, job_phase, job_waits, others}
-use Rattle.txn_commit.specs.Plans.{AreCommitted, IsForeign, IsOfCommit, IsPlanFor, Says, committed_longer}
+use Rattle.txn_history.specs.Foreign.{IsForeign}
+use Rattle.txn_commit.specs.Plans.{AreCommitted, IsOfCommit, IsPlanFor, Says, committed_longer}
 use Rattle.txn_commit.specs.Sending.{MaySend, MaySendBehind, NamesNoPrimary}
 use Rattle.txn_commit.specs.declared.secondary_job.SecondaryJob.{SecondaryJob}
 use Rattle.txn_commit.specs.declared.secondary_job.Stage.{Stage}
@@ -34,18 +36,18 @@ use Rattle.txn_commit.proofs.Posting.{Hears, heard_keeps}
 use Rattle.txn_commit.proofs.Sending.{foreign_may}
 use Rattle.txn_commit.proofs.Stages.{way_of}
 
-others_may : (plan : Plan) (s c : ℕ) (keys : List Key) (h : List Event) (r : Request) → ((k : Key) → has_key keys k ≡ true → k ≡ plan.primary → ⊥) → PrimaryCommitted plan h s c
+others_may : (plan : Plan) (s c : ℕ) (keys : List Key) (h : List Event) (r : Request) → plan.way ≡ TwoPhases → ((k : Key) → has_key keys k ≡ true → k ≡ plan.primary → ⊥) → PrimaryCommitted plan h s c
     → IsOfCommit s c keys r ⊎ IsForeign h r → MaySend plan s h r
-others_may plan s c keys h r apart p (inr g) = foreign_may plan s h r g
-others_may plan s c keys h (Commit r) apart p (inl w) = (w.0, λ k g. inr (apart k (w.2 k g), subst (λ x. PrimaryCommitted plan h x r.commit_version) (sym w.0) (subst (λ y. PrimaryCommitted plan h s y) (sym w.1) p)))
-others_may plan s c keys h _ apart p (inl w) = absurd w
+others_may plan s c keys h r way apart p (inr g) = foreign_may plan s h r g
+others_may plan s c keys h (Commit r) way apart p (inl w) = (w.0, way, λ k g. inr (apart k (w.2 k g), subst (λ x. PrimaryCommitted plan h x r.commit_version) (sym w.0) (subst (λ y. PrimaryCommitted plan h s y) (sym w.1) p)))
+others_may plan s c keys h _ way apart p (inl w) = absurd w
 
 no_primary : (plan : Plan) (s c : ℕ) (keys : List Key) (h : List Event) (r : Request) → ((k : Key) → has_key keys k ≡ true → k ≡ plan.primary → ⊥) → IsOfCommit s c keys r ⊎ IsForeign h r → NamesNoPrimary plan r
 no_primary plan s c keys h r apart a q e k = elim (subst (λ x. IsOfCommit s c keys x ⊎ IsForeign h x) e a) [ inl w ↦ apart plan.primary (w.2 plan.primary k) refl | inr f ↦ f ]
 
-others_only : (plan : Plan) (s c : ℕ) (keys : List Key) (h : List Event) (r : Request) → ((k : Key) → has_key keys k ≡ true → k ≡ plan.primary → ⊥) → PrimaryCommitted plan h s c
+others_only : (plan : Plan) (s c : ℕ) (keys : List Key) (h : List Event) (r : Request) → plan.way ≡ TwoPhases → ((k : Key) → has_key keys k ≡ true → k ≡ plan.primary → ⊥) → PrimaryCommitted plan h s c
     → IsOfCommit s c keys r ⊎ IsForeign h r → MaySendBehind plan s h r
-others_only plan s c keys h r apart p a = record { may = others_may plan s c keys h r apart p a; others = no_primary plan s c keys h r apart a }
+others_only plan s c keys h r way apart p a = record { may = others_may plan s c keys h r way apart p a; others = no_primary plan s c keys h r apart a }
 
 -- what the answer of its plan says is what its own says
 read_says : {B : Type 0} (refuses : List Event → Error → Type 0) (answered : List Event → Type 0) (v : Result B Error) (b : Result (Unit {0}) Error) (h : List Event) → ReadsDone v b → Says refuses answered h v → Says refuses answered h b
@@ -89,12 +91,12 @@ module _ {Q B : Type 0} where
       (Says (refuses job.retry_options) (AreCommitted (version_of job.start) (version_of job.commit) keys)) told.hear o o' turn
   job_on m refuses plan keys job q q' told o o' turn e hears x j =
       lift fact
-      (λ h u k r i a. others_only plan s c keys k r u.0.apart i ((at h u).way.asks k r a))
+      (λ h u k r i a. others_only plan s c keys k r u.0.way u.0.apart i ((at h u).way.asks k r a))
       (λ h u k t r i a. longer k (Sent t r ∷ k) (λ y g. inr g) i)
       (λ k x n i. longer k (x ∷ k) (λ y g. inr g) i)
       (λ h u. (((at h u).now, u.1), heard_keeps fact (λ k x n i. longer k (x ∷ k) (λ y g. inr g) i) h (told.hear h) (hears h) u.0.committed))
       x
-      (λ h u f i. record { apart = u.0.apart; committed = i; at = record { now = f; way = under_way_on j (at h u).way } })
+      (λ h u f i. record { way = u.0.way; apart = u.0.apart; committed = i; at = record { now = f; way = under_way_on j (at h u).way } })
       (λ h u k v g. says (at h u).way k v g)
     where
       s : ℕ
@@ -118,6 +120,7 @@ module _ {Q B : Type 0} where
       → IsPlanFor m (refuses job.retry_options) costs (Commit request) q
       → (h : List Event) → JobFits m refuses plan keys job o h → JobFits m refuses plan keys (record job { keys = kept; stage = stage.Committing q }) o h
   job_begins m refuses costs plan keys job kept q o request d e f g x h u = record {
+    way = u.way;
     apart = u.apart;
     committed = u.committed;
     at = record {

@@ -61,10 +61,10 @@ once_prewrites request store p e = record {
 }
   where
     of_request : (r : Request) → r ≡ Prewrite request → IsPartOf (Prewrite request) r
-    of_request r f = rw f (refl, refl, λ m a. a)
+    of_request r f = rw f (refl, (λ m a. a), λ d. d)
 
-    prewritten : (h : List Event) (v : PrewriteResponse) → (t : Ticket) × Has h (Took t (Prewrite request) (reply.Prewrite v)) × (map key v.errors ≡ []) × (map region (listed v.region_error) ≡ []) → ArePrewritten request.start_version request.mutations h
-    prewritten h v (t, taken, ks, rs) m among = record { ticket = t; request = request; response = v; taken = taken; fine = (none_listed v.region_error rs, sym (no_errors v.errors ks)); start = refl; names = among }
+    prewritten : (h : List Event) (v : PrewriteResponse) → (t : Ticket) × Has h (Took t (Prewrite request) (reply.Prewrite v)) × (map key v.errors ≡ []) × (map region (listed v.region_error) ≡ []) → ArePrewritten request h
+    prewritten h v (t, taken, ks, rs) m among = record { ticket = t; request = request; response = v; taken = taken; fine = (none_listed v.region_error rs, sym (no_errors v.errors ks)); alike = refl; names = among }
 
 pub once_commits : (request : CommitRequest) (store : ℕ) (p : ExtractError (Dispatch CommitRequest CommitResponse) CommitResponse) → p.inner ≡ unsent request (Some store)
     → IsPlanFor (extracted (dispatch Commit reply.Commit) (λ v. views_of_error v.error) (λ v. listed v.region_error)) (λ h e. ⊤) (λ k n. 1) (Commit request) p

@@ -4,9 +4,9 @@ use Rattle.std.specs.Prelude.{if◌then◌else◌, not, filter, cond, option_map
 use Rattle.txn_buffer.specs.Contents.{Contents, mutations}
 use Rattle.txn_kv.specs.declared.message.Mutation.{Mutation}
 use Rattle.txn_history.specs.Among.{IsAmong}
-use Rattle.txn_history.specs.Plan.{ArePlanned, Key, key_eq, has_key, Content, content_of}
-use Rattle.txn_commit.specs.Parts.{AreDistinct, locking_keys, named_primary, parts_of, parts_under, secondary_keys}
-use Rattle.txn_commit.specs.Sending.{content_at, plan_of}
+use Rattle.txn_history.specs.Plan.{AreDistinct, ArePlanned, Key, key_eq, has_key, Content, content_of}
+use Rattle.txn_commit.specs.Parts.{locking_keys, named_primary, parts_of, parts_under, secondary_keys}
+use Rattle.txn_commit.specs.Sending.{content_at, op_at, plan_of}
 use Rattle.txn_commit.specs.declared.commit_parts.CommitParts.{CommitParts}
 use Rattle.txn_commit.proofs.Keys.{key_itself}
 
@@ -40,5 +40,10 @@ content_planned [] d m x a e = absurd a
 content_planned (n ∷ ms) d m x (inl f) e = subst (λ (y : Mutation). content_of y ≡ Some x → content_at (n ∷ ms) y.key ≡ Some x) f (λ g. ap (λ b. if b then content_of n else content_at ms n.key) (key_itself n.key) ∙ g) e
 content_planned (n ∷ ms) d m x (inr a) e = ap (λ b. if b then content_of n else content_at ms m.key) (d.0 m a) ∙ content_planned ms d.1 m x a e
 
+op_planned : (ms : List Mutation) → AreDistinct ms → (m : Mutation) → IsAmong ms m → op_at ms m.key ≡ Some m.op
+op_planned [] d m a = absurd a
+op_planned (n ∷ ms) d m (inl f) = subst (λ (y : Mutation). op_at (n ∷ ms) y.key ≡ Some y.op) f (ap (λ b. if b then Some n.op else op_at ms n.key) (key_itself n.key))
+op_planned (n ∷ ms) d m (inr a) = ap (λ b. if b then Some n.op else op_at ms m.key) (d.0 m a) ∙ op_planned ms d.1 m a
+
 pub parts_planned : (parts : CommitParts) → AreDistinct parts.mutations → ArePlanned (plan_of parts) parts.mutations
-parts_planned parts d m x a e = content_planned parts.mutations d m x a e
+parts_planned parts d m a = (op_planned parts.mutations d m a, λ x e. content_planned parts.mutations d m x a e)

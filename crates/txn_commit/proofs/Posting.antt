@@ -15,7 +15,8 @@ use Rattle.txn_history.specs.Event.Event.{Sent, Took, Lost, Slept, Began, Asked,
 use Rattle.txn_history.specs.Plan.{Plan}
 use Rattle.txn_history.specs.Posted.{Errand, Licensed, Posted, after, posting, ticket_of}
 use Rattle.txn_commit.specs.Following.{Commits, CommitsPrimary, IsFollowed, KnowsCommits, and_sent, and_ticket, answered, commit_tickets, heard, is_commit, is_done, is_out, lost, or_ticket, sent, without}
-use Rattle.txn_commit.specs.Plans.{IsForeign, IsOfCommit}
+use Rattle.txn_history.specs.Foreign.{IsForeign}
+use Rattle.txn_commit.specs.Plans.{IsOfCommit}
 use Rattle.txn_commit.proofs.Following.{IsNoSending, knows_answered, knows_lost, knows_more, sent_more}
 use Rattle.txn_commit.proofs.Sending.{IsNoCommit, commits_primary, knows_quiet}
 use Rattle.txn_plan.specs.Arrivals.{told_by}

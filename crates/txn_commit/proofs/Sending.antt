@@ -1,8 +1,8 @@
 -- What the plans of a transaction send may be sent.
-use Rattle.std.proofs.Common.{◌≡◌, ◌⊎◌, inl, inr, ℕ, Bool, true, List, [], ◌∷◌, Option, Some, None, refl, sym, ap, subst, ◌∙◌}
+use Rattle.std.proofs.Common.{◌≡◌, ◌⊎◌, inl, inr, ℕ, Bool, true, List, [], ◌∷◌, Option, Some, None, refl, sym, ap, subst, ◌∙◌, arith}
 use Rattle.txn_kv.specs.declared.outbox.Errand.TheVariants.{Send, Sleep, Ask}
-use Rattle.txn_kv.specs.declared.message.Mutation.{Mutation}
 use Rattle.txn_kv.specs.declared.request.CommitRequest.{CommitRequest}
+use Rattle.txn_kv.specs.declared.request.PrewriteRequest.{PrewriteRequest}
 use Rattle.txn_kv.specs.declared.request.Request.{Request}
 use Rattle.txn_kv.specs.declared.request.Request.TheVariants.{Get, BatchGet, Scan, Prewrite, Commit, Cleanup, BatchRollback, PessimisticRollback, PessimisticLock, ResolveLock, ScanLock, TxnHeartBeat, CheckTxnStatus, CheckSecondaryLocks, UnsafeDestroyRange, GetRegion, GetRegionById, GetStore, GetAllStores, UpdateGcSafePoint, Tso, Members}
 use Rattle.txn_kv.specs.declared.ticket.Ticket.{Ticket}
@@ -11,10 +11,12 @@ use Rattle.txn_history.specs.Event.{Event, Has}
 use Rattle.txn_history.specs.Event.Event.{Sent, Began, Asked}
 use Rattle.txn_history.specs.Licence.{AllAcknowledged, CommitsAnswered, PrimaryRolledBack, WantedAfter, WasGiven, WasNamed}
 use Rattle.txn_history.specs.Plan.{Key, has_key, Plan}
+use Rattle.txn_history.specs.Plan.Way.{TwoPhases}
 use Rattle.txn_history.specs.Posted.{Errand, Licensed, Within, after, posting}
 use Rattle.txn_commit.specs.Committing.{IsReady}
 use Rattle.txn_commit.specs.Following.{Commits, CommitsPrimary, KnowsCommits, WasRefused, undetermined}
-use Rattle.txn_commit.specs.Plans.{IsForeign, IsOfCommit, IsOfPrewrite, IsOfRollback}
+use Rattle.txn_history.specs.Foreign.{IsForeign}
+use Rattle.txn_commit.specs.Plans.{IsOfCommit, IsOfPrewrite, IsOfRollback}
 use Rattle.txn_commit.specs.Sending.{MaySend, PrimaryMayGo}
 use Rattle.txn_commit.proofs.Following.{IsNoSending, sent_more}
 use Rattle.txn_commit.proofs.Keys.{has_only, only}
@@ -40,7 +42,7 @@ foreign_may plan s h (GetRegion r) f = f
 foreign_may plan s h (GetRegionById r) f = f
 foreign_may plan s h (GetStore r) f = f
 foreign_may plan s h (GetAllStores r) f = f
-foreign_may plan s h (UpdateGcSafePoint r) f = f
+foreign_may plan s h (UpdateGcSafePoint r) f = absurd f
 foreign_may plan s h (Tso r) f = f
 foreign_may plan s h (Members r) f = f
 
@@ -67,8 +69,8 @@ licensed_lift asks may inv m p q line beat h (Ask n ∷ rs) i l =
 abbrev pub IsNoCommit : Request → Type 0
 IsNoCommit r = (q : CommitRequest) → r ≡ Commit q → ⊥
 
-pub prewrite_no_commit : (s : ℕ) (p : Key) (ms : List Mutation) (h : List Event) (r : Request) → IsOfPrewrite s p ms r ⊎ IsForeign h r → IsNoCommit r
-prewrite_no_commit s p ms h r a q e = elim (subst (λ x. IsOfPrewrite s p ms x ⊎ IsForeign h x) e a) [ inl f ↦ f | inr f ↦ f ]
+pub prewrite_no_commit : (whole : PrewriteRequest) (h : List Event) (r : Request) → IsOfPrewrite whole r ⊎ IsForeign h r → IsNoCommit r
+prewrite_no_commit whole h r a q e = elim (subst (λ x. IsOfPrewrite whole x ⊎ IsForeign h x) e a) [ inl f ↦ f | inr f ↦ f ]
 
 pub rollback_no_commit : (s : ℕ) (ks : List Key) (h : List Event) (r : Request) → IsOfRollback s ks r ⊎ IsForeign h r → IsNoCommit r
 rollback_no_commit s ks h r a q e = elim (subst (λ x. IsOfRollback s ks x ⊎ IsForeign h x) e a) [ inl f ↦ f | inr f ↦ f ]
@@ -126,18 +128,36 @@ settled_answered plan s c h u k t r g e f = let w = settled_refused plan s c h u
 -- facts of the history stay true as it grows
 
 pub acknowledged_longer : (plan : Plan) (s : ℕ) (h k : List Event) → Within h k → AllAcknowledged plan h s → AllAcknowledged plan k s
-acknowledged_longer plan s h k w a key x e = let g = a key x e in record {
-  ticket = g.ticket;
-  request = g.request;
-  response = g.response;
-  taken = w _ g.taken;
-  fine = g.fine;
-  start = g.start;
-  locks = g.locks;
+acknowledged_longer plan s h k w a = record {
+  locked = λ key x e. let g = a.locked key x e in record {
+    ticket = g.ticket;
+    request = g.request;
+    response = g.response;
+    taken = w _ g.taken;
+    fine = g.fine;
+    start = g.start;
+    locks = g.locks;
+    locking = g.locking;
+  };
+  checked = λ key e. let g = a.checked key e in record {
+    ticket = g.ticket;
+    request = g.request;
+    response = g.response;
+    taken = w _ g.taken;
+    fine = g.fine;
+    start = g.start;
+    mutation = g.mutation;
+    names = g.names;
+    key = g.key;
+  };
 }
 
 pub given_longer : (s : ℕ) (h k : List Event) → Within h k → WasGiven h s → WasGiven k s
 given_longer s h k w g = (g.0, g.1, g.2, g.3, w _ g.4, g.5, g.6)
+
+-- where something was given, so was 0
+pub given_zero : (s : ℕ) (h : List Event) → WasGiven h s → WasGiven h 0
+given_zero s h g = (g.0, g.1, g.2, g.3, g.4, g.5, omega arith)
 
 pub wanted_more : (plan : Plan) (s : ℕ) (a : Ticket) (e : Event) (h : List Event) → WantedAfter plan h s a → WantedAfter plan (e ∷ h) s a
 wanted_more plan s a e h w = inr w
@@ -186,8 +206,8 @@ commits_primary plan s c q w = let some = w.3 plan.primary (has_only plan.primar
   primary = subst (λ k. has_key q.keys k ≡ true) (only plan.primary some.0 (w.2 some.0 some.1)) some.1;
 }
 
-pub commit_may : (plan : Plan) (s c : ℕ) (h : List Event) (q : CommitRequest) → IsReady plan s c h → IsNamed plan s c h → IsOfCommit s c (plan.primary ∷ []) (Commit q) → MaySend plan s h (Commit q)
-commit_may plan s c h q r n w = (w.0, λ k g. inl (only plan.primary k (w.2 k g), may))
+pub commit_may : (plan : Plan) (s c : ℕ) (h : List Event) (q : CommitRequest) → plan.way ≡ TwoPhases → IsReady plan s c h → IsNamed plan s c h → IsOfCommit s c (plan.primary ∷ []) (Commit q) → MaySend plan s h (Commit q)
+commit_may plan s c h q way r n w = (w.0, way, λ k g. inl (only plan.primary k (w.2 k g), may))
   where
     go : PrimaryMayGo plan h s c
     go = record { ready = r.keys; ask = r.ask; time = r.given; wanted = r.wanted; answered = r.answered; at = r.at; same = n }

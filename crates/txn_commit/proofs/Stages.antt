@@ -1,5 +1,5 @@
 -- A commit or a rollback from one stage to the next.
-use Rattle.std.proofs.Common.{◌≡◌, ◌≢◌, inl, inr, ℕ, Bool, true, List, [], ◌∷◌, None, refl, sym, ap, subst, ◌∙◌, length, drop, arith}
+use Rattle.std.proofs.Common.{◌≡◌, ◌≢◌, ◌⊎◌, inl, inr, ℕ, Bool, true, List, [], ◌∷◌, Some, None, refl, sym, ap, subst, ◌∙◌, length, drop, arith}
 use Rattle.std.specs.Prelude.{IsErr, Result, Ok, Err}
 use Rattle.std.proofs.Math.Seq.{drop-append_seam}
 use Rattle.std.proofs.lemmas.Bool.{eqb-true}
@@ -11,6 +11,7 @@ use Rattle.txn_kv.specs.declared.errors.Error.{Error}
 use Rattle.txn_kv.specs.declared.progress.Progress.{Progress}
 use Rattle.txn_kv.specs.declared.progress.Progress.TheVariants.{Waiting, Done}
 use Rattle.txn_kv.specs.declared.outbox.Errand.TheVariants.{Send, Sleep, Ask}
+use Rattle.txn_kv.specs.declared.message.Op.TheVariants.{CheckNotExists}
 use Rattle.txn_kv.specs.declared.request.BatchRollbackRequest.{BatchRollbackRequest}
 use Rattle.txn_kv.specs.declared.request.CommitRequest.{CommitRequest}
 use Rattle.txn_kv.specs.declared.request.PrewriteRequest.{PrewriteRequest}
@@ -20,21 +21,23 @@ use Rattle.txn_kv.specs.declared.ticket.Ticket.{Ticket}
 use Rattle.txn_kv.specs.declared.timestamp.Timestamp.{Timestamp}
 use Rattle.txn_history.specs.Event.{Event}
 use Rattle.txn_history.specs.Event.Event.{Sent, Asked, Answered}
-use Rattle.txn_history.specs.Licence.{AllAcknowledged, PrimaryCommitted, PrimaryRolledBack, WantedAfter, WasGiven}
+use Rattle.txn_history.specs.Licence.{AllAcknowledged, IsAcknowledged, IsPassed, PrimaryCommitted, PrimaryRolledBack, WantedAfter, WasGiven}
 use Rattle.txn_history.specs.Meaning.{Meaning, Tells, Told}
-use Rattle.txn_history.specs.Moves.{Knows, Moves, Moves-asked, Moves-before, Moves-quiet, Moves-then}
+use Rattle.txn_history.specs.Moves.{Knows, Moves, Moves-asked, Moves-before, Moves-quiet, Moves-then, SameJob}
 use Rattle.txn_history.specs.Phase.{IsPosted, awaited}
 use Rattle.txn_history.specs.Phase.Awaited.{TimeOf}
-use Rattle.txn_history.specs.Plan.{Key, Plan}
+use Rattle.txn_history.specs.Among.{IsAmong}
+use Rattle.txn_history.specs.Plan.{Key, Content, LocksKey, Plan}
 use Rattle.txn_history.specs.Posted.{Errand, Licensed, Posted, Within, Within-after, after, posting, ticket_of}
 use Rattle.txn_history.specs.Turn.{Turn, turn_of, IfEnds, IfKept, IfKept-both, IfKept-out, IfKept-weaker}
 use Rattle.txn_history.specs.Turn.Turn.{Stopped, Waits, Ends}
 use Rattle.txn_tso.specs.declared.stage.Stage.TheVariants.{Asked as Out_with}
 use Rattle.txn_merge.specs.declared.retry_options.RetryOptions.{RetryOptions}
-use Rattle.txn_commit.specs.Committing.{CommitterFits, CommitterGives, CommitterGoesOn, CommitterMoves, IsAsking, IsFirst, IsRolled, IsWritten, MayCommit, SendsCommits, TimeSays, Ways}
+use Rattle.txn_commit.specs.Committing.{CommitterFits, CommitterGives, CommitterGoesOn, CommitterMoves, IsAllPrewritten, IsAsking, IsFirst, IsRolled, IsWhole, IsWritten, MayCommit, SendsCommits, TimeSays, Ways, whole_of}
 use Rattle.txn_commit.specs.Following.{Commits, IsFollowed, KnowsCommits, sent, undetermined}
-use Rattle.txn_commit.specs.Plans.{AreCommitted, ArePrewritten, AreRolledBack, IsAnswered, IsForeign, IsPartOf, IsPlanFor, IsUnderWay, Says, prewritten_key}
-use Rattle.txn_commit.specs.Sending.{MaySend, plan_of}
+use Rattle.txn_history.specs.Foreign.{IsForeign}
+use Rattle.txn_commit.specs.Plans.{AreCommitted, AreRolledBack, IsAnswered, IsOfPrewrite, IsPartOf, IsPlanFor, IsUnderWay, PrewritesOnly, Says, prewritten_key, prewritten_passed}
+use Rattle.txn_commit.specs.Sending.{MaySend, content_at, op_at, plan_of}
 use Rattle.txn_commit.specs.Timing.{AsksTime, HasAsked, HasBegun, IsAnswerOf, time_asked}
 use Rattle.txn_commit.proofs.Timing.{IsTimed, TimeTells, time_tells}
 use Rattle.txn_commit.specs.declared.commit_parts.CommitParts.{CommitParts}
@@ -45,7 +48,7 @@ use Rattle.txn_commit.specs.declared.committer.Stage.TheVariants as stage
 use Rattle.txn_commit.specs.declared.timestamp_call.TimestampCall.{TimestampCall}
 use Rattle.txn_commit.proofs.Committing.{Throughout, at_stage, committing_on, throughout_more}
 use Rattle.txn_commit.proofs.Following.{knows_more}
-use Rattle.txn_commit.proofs.Keys.{has_only, locks_key, only}
+use Rattle.txn_commit.proofs.Keys.{has_only, locks_key, names_key, only}
 use Rattle.txn_commit.proofs.Posting.{Hears, followed_sent, heard_keeps, hears_told}
 use Rattle.txn_commit.proofs.Sending.{IsNoCommit, acknowledged_longer, foreign_may, given_longer, knows_quiet, licensed_lift}
 use Rattle.txn_plan.specs.Arrivals.{told_by}
@@ -71,9 +74,28 @@ pub sent_since : {V : Type 0} {may : List Event → Request → Type 0} {was is 
     (m : Moves may was is gives hear from to turn) (t : Timestamp) (c : Commits) (n : ℕ) → n ≡ length from.sends → sent to.line to.beat (drop n to.sends) t c ≡ sent from.line from.beat m.sends t c
 sent_since {from} m t c n e = rw (m.line, m.beat, m.pushed, e, drop-append_seam from.sends m.sends) refl
 
--- all was prewritten, so each key that is written was acknowledged
-pub all_acknowledged : (s : ℕ) (parts : CommitParts) (h : List Event) → ArePrewritten s parts.mutations h → AllAcknowledged (plan_of parts) h s
-all_acknowledged s parts h w k x e = prewritten_key s parts.mutations h k w (locks_key parts.mutations k x e)
+-- all was prewritten, so each key that is written was acknowledged, and each that is checked has passed
+pub all_acknowledged : (s : ℕ) (parts : CommitParts) (h : List Event) → IsAllPrewritten s parts h → AllAcknowledged (plan_of parts) h s
+all_acknowledged s parts h w = record { locked = locked; checked = checked }
+  where
+    locked : (k : Key) (x : Content) → content_at parts.mutations k ≡ Some x → IsAcknowledged h s k
+    locked k x e = subst (λ y. IsAcknowledged h y k) w.is.start (prewritten_key w.whole h k w.each w.is.locking (subst (λ ms. LocksKey ms k) (sym w.is.mutations) (locks_key parts.mutations k x e)))
+
+    checked : (k : Key) → op_at parts.mutations k ≡ Some CheckNotExists → IsPassed h s k
+    checked k e =
+        let m = names_key parts.mutations k CheckNotExists e in
+        subst (λ y. IsPassed h y k) w.is.start (subst (IsPassed h w.whole.start_version) m.2 (prewritten_passed w.whole h m.0 w.each (subst (λ ms. IsAmong ms m.0) (sym w.is.mutations) m.1)))
+
+-- the request that is made of the parts is the whole
+pub is_whole : (s ttl : ℕ) (parts : CommitParts) (request : PrewriteRequest) → request ≡ whole_of parts s ttl → IsWhole s parts request
+is_whole s ttl parts request e = record {
+  start = ap (λ (r : PrewriteRequest). r.start_version) e;
+  primary = ap (λ (r : PrewriteRequest). r.primary_lock) e;
+  mutations = ap (λ (r : PrewriteRequest). r.mutations) e;
+  primary_settles = ap (λ (r : PrewriteRequest). r.use_async_commit) e;
+  locking = ap (λ (r : PrewriteRequest). r.try_one_pc) e;
+  optimistic = ap (λ (r : PrewriteRequest). r.for_update_ts) e;
+}
 
 -- the primary is one of the keys that were committed, or rolled back
 pub primary_committed : (plan : Plan) (s c : ℕ) (h : List Event) → AreCommitted s c (plan.primary ∷ []) h → PrimaryCommitted plan h s c
@@ -206,6 +228,24 @@ way_of part answered f g x = record {
   fails = x.fails;
 }
 
+-- a plan of the whole, which went on
+pub prewrites_only : {S V : Type 0} {m : Meaning S (Result V Error)} {refuses : List Event → Error → Type 0} {costs : ℕ → ℕ → ℕ} {request : PrewriteRequest} {p q : S} (whole : PrewriteRequest)
+    → request ≡ whole → IsPlanFor m refuses costs (Prewrite request) p → SameJob m.asks m.gives q p → PrewritesOnly m whole q
+prewrites_only whole e x j h r a = subst (λ w. IsOfPrewrite w r ⊎ IsForeign h r) e (x.asks h r (j.asked h r a))
+
+-- the plan of a stage, and stages without it
+pub prewriting_same : {P Q K : Type 0} {g : Stage P Q K} {p q : P} → g ≡ stage.Prewriting p → g ≡ stage.Prewriting q → p ≡ q
+prewriting_same e f = let s = sym e ∙ f in cc
+
+pub over_elsewhere : {P Q K : Type 0} {g : Stage P Q K} (p : P) → g ≡ stage.Over → g ≡ stage.Prewriting p → ⊥
+over_elsewhere p e f = let s = sym e ∙ f in cc
+
+pub stopped_elsewhere : {P Q K : Type 0} {g : Stage P Q K} (p : P) → g ≡ stage.Stopped → g ≡ stage.Prewriting p → ⊥
+stopped_elsewhere p e f = let s = sym e ∙ f in cc
+
+pub asking_elsewhere : {P Q K : Type 0} {g : Stage P Q K} (t : TimestampCall) (p : P) → g ≡ stage.Asking t → g ≡ stage.Prewriting p → ⊥
+asking_elsewhere t p e f = let s = sym e ∙ f in cc
+
 module _ {P Q K A B D : Type 0} where
   -- the call for the timestamp goes on
   pub asking_on : (w : Ways P Q K A B D) (call : CommitterCall P Q K) (t t' : TimestampCall) (c : Commits) (a : Arrival) (r : Request) (o o' : Posted) (turn : Turn (Result Timestamp Error))
@@ -281,17 +321,19 @@ module _ {P Q K A B D : Type 0} where
       says h u (Err why) g b = g
 
   pub prewriting_begins : (w : Ways P Q K A B D) (costs : ℕ → ℕ → ℕ) (call : CommitterCall P Q K) (p : P) (c : Commits) (o : Posted) {options : RetryOptions} (request : PrewriteRequest)
-      → request.start_version ≡ version_of call.start → request.primary_lock ≡ call.parts.primary → request.mutations ≡ call.parts.mutations
+      → IsWhole (version_of call.start) call.parts request
       → options ≡ call.retry_options
       → IsPlanFor w.prewriting (w.unwritten options) costs (Prewrite request) p
       → (h : List Event) → CommitterFits w call c o h × IsFirst (version_of call.start) c h → CommitterFits w (record call { stage = stage.Prewriting p }) c o h
-  prewriting_begins w costs call p c o request e f g same x h u = record {
+  prewriting_begins w costs call p c o request is same x h u = record {
     start = u.0.start;
     formed = u.0.formed;
     knows = u.0.knows;
     at = record {
       now = x.unbegun.fits o h;
-      way = rw (← e, ← f, ← g, ← same) (way_of _ _ (λ r b. b) (λ k b. b) x);
+      whole = request;
+      is = is;
+      way = rw (← same) (way_of _ _ (λ r b. b) (λ k b. b) x);
       given = u.1.given;
       first = u.1.first;
     };

@@ -1,7 +1,8 @@
 -- A commit or a rollback in a run: what has happened where it stands, and what its answer stands on.
-use Rattle.std.specs.Prelude.{◌≡◌, ◌≢◌, ◌⊎◌, ⊤, ℕ, true, false, List, [], ◌∷◌, Some, None, Result, Ok, Err}
+use Rattle.std.specs.Prelude.{◌≡◌, ◌≢◌, ◌⊎◌, ⊤, ℕ, ◌^◌, ◌-◌, true, false, List, [], ◌∷◌, Some, None, Result, Ok, Err}
 use Rattle.txn_kv.specs.Timestamp.{HasVersion, version_of}
 use Rattle.txn_kv.specs.declared.errors.Error.{Error}
+use Rattle.txn_kv.specs.declared.request.PrewriteRequest.{PrewriteRequest}
 use Rattle.txn_kv.specs.declared.ticket.Ticket.{Ticket}
 use Rattle.txn_kv.specs.declared.timestamp.Timestamp.{Timestamp}
 use Rattle.txn_history.specs.Event.{Event, Has}
@@ -10,9 +11,10 @@ use Rattle.txn_history.specs.Licence.{AllAcknowledged, PrimaryCommitted, Primary
 use Rattle.txn_history.specs.Meaning.{Expects, Meaning, Told}
 use Rattle.txn_history.specs.Moves.{Knows, Moves, SameJob}
 use Rattle.txn_history.specs.Phase.Phase.{GivenUp}
-use Rattle.txn_history.specs.Plan.{Key, has_key, ArePlanned, Plan}
+use Rattle.txn_history.specs.Plan.{Key, has_key, AreDistinct, Plan}
 use Rattle.txn_history.specs.Posted.{Posted, ticket_of}
 use Rattle.txn_history.specs.Turn.{Turn, IfKept}
+use Rattle.txn_request.specs.Defaults.{default_prewrite}
 use Rattle.txn_merge.specs.declared.retry_options.RetryOptions.{RetryOptions}
 use Rattle.txn_commit.specs.Following.{Commits, KnowsCommits, sent, undetermined}
 use Rattle.txn_commit.specs.Plans.{AreCommitted, ArePrewritten, AreRolledBack, IsOfCommit, IsOfPrewrite, IsOfRollback, IsUnderWay, Says}
@@ -42,7 +44,7 @@ ways p q k e f g = record { prewriting = p; committing = q; rolling = k; unwritt
 
 -- each key has one mutation, and the primary is none of the others
 pub record IsFormed (parts : CommitParts) : Type 0 where
-  pub planned : ArePlanned (plan_of parts) parts.mutations
+  pub once : AreDistinct parts.mutations
   pub apart : (k : Key) → has_key parts.secondaries k ≡ true → k ≡ parts.primary → ⊥
 
 -- The timestamp was asked for after all keys were acknowledged, and this is what that ask was answered.
@@ -54,12 +56,33 @@ pub record IsReady (plan : Plan) (s c : ℕ) (h : List Event) : Type 0 where
   pub answered : Has h (Answered ask (Ok given))
   pub at : version_of given ≡ c
 
+-- The one Prewrite of all: it locks in two phases, and for no lock that it holds already.
+pub record IsWhole (s : ℕ) (parts : CommitParts) (whole : PrewriteRequest) : Type 0 where
+  pub start : whole.start_version ≡ s
+  pub primary : whole.primary_lock ≡ parts.primary
+  pub mutations : whole.mutations ≡ parts.mutations
+  pub primary_settles : whole.use_async_commit ≡ false
+  pub locking : whole.try_one_pc ≡ false
+  pub optimistic : whole.for_update_ts ≡ 0
+
+-- as it is made, under locks that live so long
+abbrev pub whole_of : CommitParts → ℕ → ℕ → PrewriteRequest
+whole_of parts s ttl = record default_prewrite { mutations = parts.mutations; primary_lock = parts.primary; start_version = s; lock_ttl = ttl; txn_size = 2 ^ 64 - 1 }
+
+-- all was prewritten
+pub record IsAllPrewritten (s : ℕ) (parts : CommitParts) (h : List Event) : Type 0 where
+  pub whole : PrewriteRequest
+  pub is : IsWhole s parts whole
+  pub each : ArePrewritten whole h
+
 -- What has happened at each stage, for a transaction with this start and these parts. Its plans are made with its options.
 
 -- it prewrites: its start was given, and no Commit was sent
 pub record IsPrewriting {P A : Type 0} (m : Meaning P (Result A Error)) (refuses : List Event → Error → Type 0) (s : ℕ) (parts : CommitParts) (p : P) (c : Commits) (o : Posted) (h : List Event) : Type 0 where
   pub now : m.fits p o h
-  pub way : IsUnderWay m refuses (IsOfPrewrite s parts.primary parts.mutations) (ArePrewritten s parts.mutations) p
+  pub whole : PrewriteRequest
+  pub is : IsWhole s parts whole
+  pub way : IsUnderWay m refuses (IsOfPrewrite whole) (ArePrewritten whole) p
   pub given : WasGiven h s
   pub first : c.timestamp ≡ None
 
@@ -105,7 +128,7 @@ pub record CommitterFits {P Q K A B D : Type 0} (w : Ways P Q K A B D) (call : C
 -- each key was rolled back. An error is one of a plan that was made with these options, or there was no timestamp.
 abbrev pub CommitterGives : {P Q K A B D : Type 0} → Ways P Q K A B D → RetryOptions → ℕ → CommitParts → List Event → Result CommitterAnswer Error → Type 0
 CommitterGives w options s parts h (Ok (Committed t)) = PrimaryCommitted (plan_of parts) h s (version_of t)
-CommitterGives w options s parts h (Ok Checked) = (parts.locks ≡ false) × ArePrewritten s parts.mutations h
+CommitterGives w options s parts h (Ok Checked) = (parts.locks ≡ false) × IsAllPrewritten s parts h
 CommitterGives w options s parts h (Ok RolledBack) = AreRolledBack s (parts.primary ∷ []) h × AreRolledBack s parts.secondaries h
 CommitterGives w options s parts h (Err e) = (w.unwritten options h e ⊎ w.uncommitted options h e) ⊎ (w.unrolled options h e ⊎ WasUntimed h e)
 
@@ -125,7 +148,7 @@ CommitterGoesOn w refuses says old new c d from to heard turn =
 pub record IsWritten (s : ℕ) (parts : CommitParts) (c : Commits) (h : List Event) : Type 0 where
   pub given : WasGiven h s
   pub first : c.timestamp ≡ None
-  pub keys : ArePrewritten s parts.mutations h
+  pub keys : IsAllPrewritten s parts h
 
 -- the primary was rolled back, when each Commit of it was answered
 pub record IsRolled (s : ℕ) (parts : CommitParts) (c : Commits) (h : List Event) : Type 0 where

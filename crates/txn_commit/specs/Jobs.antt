@@ -12,6 +12,7 @@ use Rattle.txn_history.specs.Meaning.{IsLawful, Meaning, WasPosted}
 use Rattle.txn_history.specs.Phase.{Awaited, IsRunning, Phase}
 use Rattle.txn_history.specs.Phase.Phase.{Fresh, GivenUp, Running}
 use Rattle.txn_history.specs.Plan.{Key, has_key, Plan}
+use Rattle.txn_history.specs.Plan.Way.{TwoPhases}
 use Rattle.txn_history.specs.Posted.{Posted, Within}
 use Rattle.txn_merge.specs.declared.retry_options.RetryOptions.{RetryOptions}
 use Rattle.txn_commit.specs.Plans.{AreCommitted, IsOfCommit, IsPlanFor, IsUnderWay, Says, committed_longer, says_longer}
@@ -30,9 +31,10 @@ IsJobAt m refuses s c keys kept stage.Fresh o h = kept ≡ keys
 IsJobAt m refuses s c keys kept (stage.Committing q) o h = IsOut m refuses s c keys q o h
 IsJobAt m refuses s c keys kept stage.Stopped o h = ⊤
 
--- The job of these keys can have arisen from the history: the primary's Commit was answered without error, and the primary is
+-- The job of these keys can have arisen from the history: the transaction commits in two phases, the primary's Commit was answered without error, and the primary is
 -- none of them. Its plan is made with its options.
 pub record JobFits {Q B : Type 0} (m : Meaning Q (Result B Error)) (refuses : RetryOptions → List Event → Error → Type 0) (plan : Plan) (keys : List Key) (job : SecondaryJob Q) (o : Posted) (h : List Event) : Type 0 where
+  pub way : plan.way ≡ TwoPhases
   pub apart : (k : Key) → has_key keys k ≡ true → k ≡ plan.primary → ⊥
   pub committed : PrimaryCommitted plan h (version_of job.start) (version_of job.commit)
   pub at : IsJobAt m (refuses job.retry_options) (version_of job.start) (version_of job.commit) keys job.keys job.stage o h
@@ -140,7 +142,7 @@ module _ {Q B : Type 0} (m : Meaning Q (Result B Error)) (law : IsLawful m) wher
       → ((options : RetryOptions) (h longer : List Event) (e : Error) → Within h longer → refuses options h e → refuses options longer e)
       → IsLawful (others m refuses costs plan keys)
   others-lawful refuses costs plan keys longer = record {
-    fits_longer = λ s o p h k l w f. record { apart = f.apart; committed = committed_longer plan (version_of s.start) (version_of s.commit) h k w f.committed; at = at_longer (refuses s.retry_options) (version_of s.start) (version_of s.commit) keys s.keys s.stage o p h k l w f.at };
+    fits_longer = λ s o p h k l w f. record { way = f.way; apart = f.apart; committed = committed_longer plan (version_of s.start) (version_of s.commit) h k w f.committed; at = at_longer (refuses s.retry_options) (version_of s.start) (version_of s.commit) keys s.keys s.stage o p h k l w f.at };
     gives_longer = λ s h k v w g. says_longer (refuses s.retry_options) (version_of s.start) (version_of s.commit) keys (longer s.retry_options) h k v w g;
     bears_more = λ s w more l b. bears_more s.stage w more l b;
     runs = λ s a w. job_runs s.stage a w;

@@ -1,8 +1,7 @@
 -- The parts of a commit: what of a buffer is prewritten, under which primary, and which keys are then committed.
-use Rattle.std.specs.Prelude.{◌≡◌, ⊤, Bool, false, not, List, [], ◌∷◌, map, filter, Option, Some, None, is_some, option_map}
+use Rattle.std.specs.Prelude.{Bool, not, List, [], ◌∷◌, map, filter, Option, Some, None, is_some, option_map}
 use Rattle.txn_buffer.specs.Contents.{Contents, commit_primary, mutations}
 use Rattle.txn_kv.specs.declared.message.Mutation.{Mutation}
-use Rattle.txn_history.specs.Among.{IsAmong}
 use Rattle.txn_history.specs.Plan.{Key, key_eq, content_of}
 use Rattle.txn_commit.specs.declared.commit_parts.CommitParts.{CommitParts}
 
@@ -38,8 +37,3 @@ parts_under contents primary = record {
 
 abbrev pub parts_of : Contents → Option CommitParts
 parts_of contents = option_map (parts_under contents) (named_primary contents (mutations contents.entries))
-
--- no key is mutated twice
-abbrev pub AreDistinct : List Mutation → Type 0
-AreDistinct [] = ⊤
-AreDistinct (m ∷ ms) = ((n : Mutation) → IsAmong ms n → key_eq m.key n.key ≡ false) × AreDistinct ms

@@ -1,16 +1,19 @@
 -- What a transaction may send while it commits or rolls back.
-use Rattle.std.specs.Prelude.{◌≡◌, ◌≢◌, ◌⊎◌, ℕ, true, if◌then◌else◌, List, [], ◌∷◌, Option, None, Ok}
+use Rattle.std.specs.Prelude.{◌≡◌, ◌≢◌, ◌⊎◌, ℕ, true, false, if◌then◌else◌, List, [], ◌∷◌, Option, Some, None, Ok}
 use Rattle.txn_kv.specs.Timestamp.{version_of}
 use Rattle.txn_kv.specs.declared.message.Mutation.{Mutation}
+use Rattle.txn_kv.specs.declared.message.Op.{Op}
 use Rattle.txn_kv.specs.declared.request.CommitRequest.{CommitRequest}
 use Rattle.txn_kv.specs.declared.request.Request.{Request}
-use Rattle.txn_kv.specs.declared.request.Request.TheVariants.{Prewrite, Commit, BatchRollback, PessimisticLock, UnsafeDestroyRange}
+use Rattle.txn_kv.specs.declared.request.Request.TheVariants.{Prewrite, Commit, BatchRollback}
 use Rattle.txn_kv.specs.declared.ticket.Ticket.{Ticket}
 use Rattle.txn_kv.specs.declared.timestamp.Timestamp.{Timestamp}
 use Rattle.txn_history.specs.Event.{Event, Has}
 use Rattle.txn_history.specs.Event.Event.{Answered}
-use Rattle.txn_history.specs.Licence.{AllAcknowledged, BatchRollbackLicence, IsLicensed, PrewriteLicence, PrimaryCommitted, WantedAfter, WasNamed}
+use Rattle.txn_history.specs.Foreign.{IsForeign}
+use Rattle.txn_history.specs.Licence.{AllAcknowledged, BatchRollbackLicence, PrewriteLicence, PrimaryCommitted, WantedAfter, WasNamed}
 use Rattle.txn_history.specs.Plan.{Key, key_eq, has_key, Content, content_of, Plan}
+use Rattle.txn_history.specs.Plan.Way.{TwoPhases}
 use Rattle.txn_commit.specs.declared.commit_parts.CommitParts.{CommitParts}
 
 -- What the transaction means to write
@@ -20,8 +23,13 @@ abbrev pub content_at : List Mutation → Key → Option Content
 content_at [] key = None
 content_at (m ∷ ms) key = if key_eq m.key key then content_of m else content_at ms key
 
+-- and with which op it is prewritten
+abbrev pub op_at : List Mutation → Key → Option Op
+op_at [] key = None
+op_at (m ∷ ms) key = if key_eq m.key key then Some m.op else op_at ms key
+
 abbrev pub plan_of : CommitParts → Plan
-plan_of parts = record { primary = parts.primary; writes = content_at parts.mutations }
+plan_of parts = record { primary = parts.primary; ops = op_at parts.mutations; writes = content_at parts.mutations; way = TwoPhases; one_phase = false }
 
 -- What may be sent
 
@@ -40,15 +48,13 @@ abbrev pub CommitMayGo : Plan → List Event → CommitRequest → Type 0
 CommitMayGo plan h r = (k : Key) → has_key r.keys k ≡ true
     → ((k ≡ plan.primary) × PrimaryMayGo plan h r.start_version r.commit_version) ⊎ ((k ≢ plan.primary) × PrimaryCommitted plan h r.start_version r.commit_version)
 
--- Of its own start it sends what the licences allow under its plan. What it sends for others, to settle a lock that it met,
--- rests on no plan. It asks for no pessimistic lock. It destroys no range: that would take away what others committed.
+-- Of its own start it sends what the licences allow under its plan, Commits in two phases alone. What it sends besides, to find
+-- its way or to settle a lock that it met, rests on no plan: it asks for no pessimistic lock, and destroys no range.
 abbrev pub MaySend : Plan → ℕ → List Event → Request → Type 0
 MaySend plan s h (Prewrite r) = (r.start_version ≡ s) × PrewriteLicence plan h r
-MaySend plan s h (Commit r) = (r.start_version ≡ s) × CommitMayGo plan h r
+MaySend plan s h (Commit r) = (r.start_version ≡ s) × (plan.way ≡ TwoPhases) × CommitMayGo plan h r
 MaySend plan s h (BatchRollback r) = (r.start_version ≡ s) × BatchRollbackLicence plan h r
-MaySend plan s h (PessimisticLock r) = ⊥
-MaySend plan s h (UnsafeDestroyRange r) = ⊥
-MaySend plan s h r = IsLicensed (λ _. plan) h r
+MaySend plan s h r = IsForeign h r
 
 -- The job behind a commit sends the like, but no Commit that names the primary.
 

@@ -10,11 +10,11 @@ ghost use Rattle.txn_kv.specs.Timestamp.{HasVersion, version_of};
 ghost use Rattle.txn_kv.specs.declared.request.Request.{Request as Asked};
 ghost use Rattle.txn_kv.specs.declared.request.Request.TheVariants.{BatchRollback};
 ghost use Rattle.txn_request.specs.Defaults.{default_batch_rollback};
-ghost use Rattle.txn_commit.specs.Committing.{CommitterFits, CommitterGives, CommitterGoesOn, CommitterMoves, IsFirst, IsInRange, IsRolled, IsWritten, MayCommit, SendsCommits, StageReady, TimeSays, ways};
+ghost use Rattle.txn_commit.specs.Committing.{CommitterFits, CommitterGives, CommitterGoesOn, CommitterMoves, IsAllPrewritten, IsFirst, IsInRange, IsRolled, IsWritten, MayCommit, SendsCommits, StageReady, TimeSays, ways, whole_of};
 ghost use Rattle.txn_commit.specs.Counting.{Begins, CommitterCounts, ask_costs, call_width, commit_again_costs, commit_costs, costs_of, others_costs, rollback_costs, stage_width};
 ghost use Rattle.txn_commit.specs.Following.{Commits, IsFollowed, awaits, heard, undetermined};
 ghost use Rattle.txn_commit.specs.Going.{CommitterExpects, CommitterGoes, Opens, Relays, Resumes, Settles, may_commit, stage_phase, stage_waits};
-ghost use Rattle.txn_commit.specs.Plans.{AreCommitted, ArePrewritten, AreRolledBack, IsPlanFor};
+ghost use Rattle.txn_commit.specs.Plans.{AreCommitted, AreRolledBack, IsPlanFor, PrewritesOnly};
 ghost use Rattle.txn_commit.specs.Sending.{MaySend, plan_of};
 ghost use Rattle.txn_commit.specs.Timing.{HasVersionIfDone};
 ghost use Rattle.txn_commit.specs.declared.committer.Stage.TheVariants as stages;
@@ -136,7 +136,7 @@ where
         self.parts.secondaries
     }
 
-    /// Begins to commit: prewrites all, under locks that live so long.
+    /// Begins to commit: prewrites all, under locks that live so long. Until all is prewritten each Prewrite is a part of the one for all.
     pub fn prewrite<C: PdClient>(
         &mut self,
         pd: &mut C,
@@ -152,6 +152,7 @@ where
         ensures opens { Opens (ways P.meaning Q.meaning K.meaning P.refuses Q.refuses K.refuses) self.new out.old out.new (turn_of result) }
         ensures version { IfEnds (turn_of result) IsInRange }
         ensures job { self.new ≡ record self.old { stage = self.new.stage; width = self.new.width } }
+        ensures parts { (p : P) → self.new.stage ≡ stages.Prewriting p → PrewritesOnly P.meaning (whole_of self.old.parts (version_of self.old.start) ttl) p }
         ensures ready { StageReady (ways P.meaning Q.meaning K.meaning P.refuses Q.refuses K.refuses) self.new.stage }
         ensures numbers { HasNumbers out.new }
     {
@@ -266,8 +267,14 @@ where
                 let progress = arrival.tell(plan, pd, now, out)?;
                 self.after_rollback(progress)
             }
-            Stage::Over => Ok(Progress::Waiting),
-            Stage::Stopped => Err(NoMemory),
+            Stage::Over => {
+                drop(arrival);
+                Ok(Progress::Waiting)
+            }
+            Stage::Stopped => {
+                drop(arrival);
+                Err(NoMemory)
+            }
         }
     }
 
@@ -280,11 +287,12 @@ where
     ) -> Turn
         requires numbers { HasNumbers out.old }
         requires ready { StageReady (ways P.meaning Q.meaning K.meaning P.refuses Q.refuses K.refuses) self.old.stage }
-        ensures moves { (c : Commits) (p : P) → self.old.stage ≡ stages.Prewriting p → CommitterGoesOn (ways P.meaning Q.meaning K.meaning P.refuses Q.refuses K.refuses) (P.refuses self.old.retry_options) (ArePrewritten (version_of self.old.start) self.old.parts.mutations) self.old self.new c c out.old out.new (turn_of (Ok progress)) (turn_of result) }
+        ensures moves { (c : Commits) (p : P) → self.old.stage ≡ stages.Prewriting p → CommitterGoesOn (ways P.meaning Q.meaning K.meaning P.refuses Q.refuses K.refuses) (P.refuses self.old.retry_options) (IsAllPrewritten (version_of self.old.start) self.old.parts) self.old self.new c c out.old out.new (turn_of (Ok progress)) (turn_of result) }
         ensures counts { (p : P) → self.old.stage ≡ stages.Prewriting p → CommitterCounts (ways P.meaning Q.meaning K.meaning P.refuses Q.refuses K.refuses) (costs_of P.costs Q.costs K.costs) false false 0 0 self.old self.new out.old out.new (turn_of result) }
         ensures resumes { Resumes (ways P.meaning Q.meaning K.meaning P.refuses Q.refuses K.refuses) (turn_of (Ok progress)) self.old self.new out.old out.new pd.old pd.new (turn_of result) }
         ensures version { IfEnds (turn_of result) IsInRange }
         ensures job { self.new ≡ record self.old { stage = self.new.stage; width = self.new.width } }
+        ensures stays { (p : P) → self.new.stage ≡ stages.Prewriting p → self.old.stage ≡ stages.Prewriting p }
         ensures ready { StageReady (ways P.meaning Q.meaning K.meaning P.refuses Q.refuses K.refuses) self.new.stage }
         ensures numbers { HasNumbers out.new }
     {
@@ -303,6 +311,7 @@ where
         ensures opens { Opens (ways P.meaning Q.meaning K.meaning P.refuses Q.refuses K.refuses) self.new out.old out.new (turn_of result) }
         ensures version { IfEnds (turn_of result) IsInRange }
         ensures job { self.new ≡ record self.old { stage = self.new.stage; width = self.new.width } }
+        ensures on { (p : P) → self.new.stage ≡ stages.Prewriting p → ⊥ }
         ensures ready { StageReady (ways P.meaning Q.meaning K.meaning P.refuses Q.refuses K.refuses) self.new.stage }
         ensures numbers { HasNumbers out.new }
     {

@@ -200,8 +200,14 @@ impl<Q: PlanFor<CommitRequest>> SecondaryJob<Q> {
                 let turn = arrival.tell(plan, pd, now, out);
                 read(turn)
             }
-            Stage::Fresh => Ok(Progress::Waiting),
-            Stage::Stopped => Err(NoMemory),
+            Stage::Fresh => {
+                drop(arrival);
+                Ok(Progress::Waiting)
+            }
+            Stage::Stopped => {
+                drop(arrival);
+                Err(NoMemory)
+            }
         }
     }
 

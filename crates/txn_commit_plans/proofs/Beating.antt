@@ -9,10 +9,11 @@ use Rattle.txn_kv.specs.declared.message.Context.{Context}
 use Rattle.txn_kv.specs.declared.query.PdQuery.{PdQuery}
 use Rattle.txn_kv.specs.declared.query.PdQuery.TheVariants.{Region, RegionId, Safepoint, Store, Stores, Time}
 use Rattle.txn_kv.specs.declared.request.Request.{Request}
-use Rattle.txn_kv.specs.declared.request.Request.TheVariants.{GetAllStores, GetRegion, GetRegionById, GetStore, TxnHeartBeat, UpdateGcSafePoint}
+use Rattle.txn_kv.specs.declared.request.Request.TheVariants.{GetRegion, GetRegionById, GetStore, TxnHeartBeat}
 use Rattle.txn_kv.specs.declared.request.TxnHeartBeatRequest.{TxnHeartBeatRequest}
 use Rattle.txn_merge.specs.Gathered.{single_of}
 use Rattle.txn_multi.specs.Cutting.{IsPlacement}
+use Rattle.txn_region.specs.Clients.{IsPlaceQuery}
 use Rattle.txn_plan.specs.Merged.{IsMerged}
 use Rattle.txn_shard.specs.Parts.{TxnHeartBeatPart}
 use Rattle.txn_tso.specs.Placement.{request_of}
@@ -23,16 +24,16 @@ use Rattle.txn_commit_plans.specs.Kinds.{beats, heartbeat_plan, Beats, Heartbeat
 the : (a b : Request) → Some a ≡ Some b → a ≡ b
 the a b e = cc
 
-queried : (q : PdQuery) (r : Request) → request_of q ≡ Some r → IsLookUp r
-queried (Region key) r e = subst IsLookUp (the (GetRegion (record { region_key = key })) r e) tt
-queried (RegionId id) r e = subst IsLookUp (the (GetRegionById (record { region_id = id })) r e) tt
-queried (Store id) r e = subst IsLookUp (the (GetStore (record { store_id = id })) r e) tt
-queried Stores r e = subst IsLookUp (the (GetAllStores (record {})) r e) tt
-queried Time r e = cc
-queried (Safepoint at) r e = subst IsLookUp (the (UpdateGcSafePoint (record { safe_point = at })) r e) tt
+queried : (q : PdQuery) (r : Request) → IsPlaceQuery q → request_of q ≡ Some r → IsLookUp r
+queried (Region key) r p e = subst IsLookUp (the (GetRegion (record { region_key = key })) r e) tt
+queried (RegionId id) r p e = subst IsLookUp (the (GetRegionById (record { region_id = id })) r e) tt
+queried (Store id) r p e = subst IsLookUp (the (GetStore (record { store_id = id })) r e) tt
+queried Stores r p e = absurd p
+queried Time r p e = absurd p
+queried (Safepoint at) r p e = absurd p
 
 looked_up : (h : List Event) (r : Request) → IsPlacement h r → IsLookUp r
-looked_up h r (inl p) = queried p.0 r p.1
+looked_up h r (inl p) = queried p.0 r p.1 p.2
 looked_up h r (inr e) = subst IsLookUp (sym e) tt
 
 -- and the heartbeat itself

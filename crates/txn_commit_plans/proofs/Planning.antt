@@ -33,7 +33,8 @@ use Rattle.txn_plan.specs.Merged.{IsMerged}
 use Rattle.txn_shard.specs.Parts.{BatchRollbackPart, CommitPart, PrewritePart}
 use Rattle.txn_shard.specs.Shards.{AreJoined, ArePieces}
 use Rattle.txn_commit.specs.Counting.{costs_of, IsOneEach}
-use Rattle.txn_commit.specs.Plans.{AreCommitted, ArePrewritten, AreRolledBack, IsForeign, IsPartOf, IsPlanFor}
+use Rattle.txn_history.specs.Foreign.{IsForeign}
+use Rattle.txn_commit.specs.Plans.{AreCommitted, ArePrewritten, AreRolledBack, IsPartOf, IsPlanFor}
 use Rattle.txn_commit_plans.specs.Failing.{HasGivenWith}
 use Rattle.txn_commit_plans.specs.Kinds.{collected, commit_keys, commit_plan, commit_retries, commits, mutations_of, prewrite_plan, prewrite_retries, prewrites, rollback_keys, rollback_plan, rollback_retries, rollbacks, Collected, CommitPlan, Commits, PrewritePlan, Prewrites, RollbackPlan, Rollbacks}
 use Rattle.txn_commit_plans.specs.OverRegions.{retries_of}
@@ -151,11 +152,11 @@ plans_rollback request context p e all u r = record {
 -- A Prewrite
 
 prewrite_part : (request : PrewriteRequest) (context : Option Context) (q : PrewriteRequest) → PrewritePart q (record request { context = context }) → IsPartOf (Prewrite request) (Prewrite q)
-prewrite_part request context q i = (ap (λ (r : PrewriteRequest). r.start_version) i.0, ap (λ (r : PrewriteRequest). r.primary_lock) i.0, λ m a. i.1 m a)
+prewrite_part request context q i = (i.0, i.1, i.2)
 
 prewritten : (request : PrewriteRequest) (context : Option Context) (h : List Event)
     → AreAnswered Prewrite reply.Prewrite (λ (v : PrewriteResponse). map key v.errors) (λ v. v.region_error) PrewritePart mutations_of (λ whole pieces. AreJoined whole pieces) h (record request { context = context })
-    → ArePrewritten request.start_version request.mutations h
+    → ArePrewritten request h
 prewritten request context h a m among =
     let f = part_with (λ mutation. mutation.key) (λ p. p.plan.inner.request.mutations) request.mutations a.parts m a.cut among in
     let i = a.belong f.0 f.1 in
@@ -166,7 +167,7 @@ prewritten request context h a m among =
       response = e.response;
       taken = e.taken;
       fine = (e.placed, sym (no_errors e.response.errors e.clean));
-      start = ap (λ (r : PrewriteRequest). r.start_version) i.0;
+      alike = i.0;
       names = f.2;
     }
 
@@ -186,13 +187,13 @@ plans_prewrite request context p e all u r = record {
     sent q h (inr f) = inr (foreign h q f)
 
     gathered : (h : List Event) (v : Vec PrewriteResponse) (a : Result (Vec (Result PrewriteResponse Error)) Error) → prewrites.gives p.inner.inner h a
-        → IsMerged (λ results result. FirstErrorOr (λ values out. out.items ≡ values) results result) a (Ok v) → ArePrewritten request.start_version request.mutations h
+        → IsMerged (λ results result. FirstErrorOr (λ values out. out.items ≡ values) results result) a (Ok v) → ArePrewritten request h
     gathered h v (Ok results) g m =
         prewritten request context h (subst (λ x. AreAnswered Prewrite reply.Prewrite (λ (y : PrewriteResponse). map key y.errors) (λ y. y.region_error) PrewritePart mutations_of (λ whole pieces. AreJoined whole pieces) h x) e
         (answered Prewrite reply.Prewrite (λ y. map key y.errors) (λ y. y.region_error) (λ y. locks_of_errors y.errors) PrewritePart mutations_of (λ whole pieces. AreJoined whole pieces) (λ r. by_items (length r.mutations)) p.inner.inner h results all g (ok_if_collected results.items m.0)))
     gathered h v (Err why) g m = cc
 
-    answers : (h : List Event) (v : Vec PrewriteResponse) (b : Result (Vec PrewriteResponse) Error) → collected.gives p.inner h b → b ≡ Ok v → ArePrewritten request.start_version request.mutations h
+    answers : (h : List Event) (v : Vec PrewriteResponse) (b : Result (Vec PrewriteResponse) Error) → collected.gives p.inner h b → b ≡ Ok v → ArePrewritten request h
     answers h v b g w = let f = subst (λ x. collected.gives p.inner h x) w g in gathered h v f.0 f.1 f.2
 
 -- The plans as they are made: of a request over regions, whose errors are taken out.

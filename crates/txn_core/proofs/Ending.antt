@@ -1,5 +1,5 @@
 -- What the answers of a transaction say.
-use Rattle.std.proofs.Common.{◌≡◌, ◌⊎◌, inl, inr, ℕ, Bool, true, false, List, [], ◌∷◌, Option, Some, None, ap, ◌∙◌}
+use Rattle.std.proofs.Common.{◌≡◌, ◌⊎◌, inl, inr, ℕ, Bool, true, false, List, [], ◌∷◌, Option, Some, None, refl, ap, ◌∙◌}
 use Rattle.std.specs.Prelude.{Ok, not}
 use Rattle.txn_kv.specs.Timestamp.{version_of}
 use Rattle.txn_kv.specs.declared.timestamp.Timestamp.{Timestamp}
@@ -57,7 +57,7 @@ module _ {P Q K A B D : Type 0} (w : Ways P Q K A B D) where
       by : (parts : CommitParts) × (parts_of contents ≡ Some parts) × IsCommitted options start t parts (Some job) h
           → (parts : CommitParts) × (parts_of contents ≡ Some parts) × (job.start ≡ start) × (job.commit ≡ t) × JobFits w.committing w.uncommitted (plan_of parts) parts.secondaries job o h
       by (parts, e, is) = let j = the_job options start t parts.secondaries job is.others in
-          (parts, e, j.own, j.at, record { apart = parts_apart contents parts e; committed = rw (j.own, j.at) is.primary; at = rw j.stage j.names })
+          (parts, e, j.own, j.at, record { way = refl; apart = parts_apart contents parts e; committed = rw (j.own, j.at) is.primary; at = rw j.stage j.names })
 
   pub ends_checked : (options : RetryOptions) (start : Timestamp) (contents : Contents) (c : Commits) (h : List Event) (job : Option (SecondaryJob Q)) → TransactionGives w options start contents c h (Ok (answer.Committed None job)) → locks_nothing contents ≡ true
   ends_checked options start contents c h None (inl (parts, e, s)) = nothing_locks contents parts e s.0

@@ -15,11 +15,11 @@ use Rattle.txn_history.specs.Posted.{Posted, Within}
 use Rattle.txn_history.specs.Turn.{Turn, IfEnds, IfKept, IfKept-out}
 use Rattle.txn_history.specs.Turn.Turn.{Stopped, Waits, Ends}
 use Rattle.txn_buffer.specs.Contents.{Contents}
-use Rattle.txn_commit.specs.Committing.{CommitterFits, CommitterGives, CommitterMoves, MayCommit, Ways}
+use Rattle.txn_commit.specs.Committing.{CommitterFits, CommitterGives, CommitterMoves, IsAllPrewritten, MayCommit, Ways}
 use Rattle.txn_commit.specs.Following.{Commits, IsFollowed, heard, undetermined}
 use Rattle.txn_commit.specs.Going.{may_commit}
 use Rattle.txn_commit.specs.Parts.{parts_of}
-use Rattle.txn_commit.specs.Plans.{ArePrewritten, AreRolledBack}
+use Rattle.txn_commit.specs.Plans.{AreRolledBack}
 use Rattle.txn_commit.specs.Sending.{MaySend, plan_of}
 use Rattle.txn_commit.specs.declared.commit_parts.CommitParts.{CommitParts}
 use Rattle.txn_commit.specs.declared.committer.CommitterAnswer.{CommitterAnswer}
@@ -150,7 +150,7 @@ module _ {P Q K A B D : Type 0} where
       → TakesUp w call old new o (Ends (Ok Checked)) (Ends (Ok (answer.Committed None None)))
   takes_checked w call old new v o e = record {
     still = λ h k. rests w old new call (moved old.status Is_committed) v o h e (stays_started old.status Is_committed k.0.under_way.started refl) (turned_committed old.status) k.0;
-    done = λ h k. inl (call.parts, k.0.under_way.whole, (k.1.0, subst (λ (x : Timestamp). ArePrewritten (version_of x) call.parts.mutations h) k.0.under_way.own k.1.1));
+    done = λ h k. inl (call.parts, k.0.under_way.whole, (k.1.0, subst (λ (x : Timestamp). IsAllPrewritten (version_of x) call.parts h) k.0.under_way.own k.1.1));
   }
 
   -- all was rolled back

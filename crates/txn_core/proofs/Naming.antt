@@ -28,7 +28,7 @@ named_more plan s e h n k d w = elim w.2 [
 
 -- a Commit that names the primary is licensed where its timestamp was asked for last
 primary_ready : (plan : Plan) (s : ℕ) (h : List Event) (q : CommitRequest) → MaySend plan s h (Commit q) → has_key q.keys plan.primary ≡ true → q.start_version ≡ s → IsReady plan s q.commit_version h
-primary_ready plan s h q m k e = elim (m.1 plan.primary k) [
+primary_ready plan s h q m k e = elim (m.2 plan.primary k) [
   | inl g ↦ subst (λ x. IsReady plan x q.commit_version h) e (record { keys = g.1.ready; ask = g.1.ask; given = g.1.time; wanted = g.1.wanted; answered = g.1.answered; at = g.1.at })
   | inr g ↦ absurd (g.0 refl)
 ]

@@ -12,15 +12,15 @@ use Rattle.std.proofs.lemmas.Cmp.{nat_list_cmp_total}
 use Rattle.std.proofs.lemmas.Map.{keys-set_value}
 use Rattle.txn_kv.specs.declared.message.Mutation.{Mutation}
 use Rattle.txn_history.specs.Among.{IsAmong}
-use Rattle.txn_history.specs.Plan.{Plan, key_eq}
+use Rattle.txn_history.specs.Plan.{AreDistinct, Plan, key_eq}
 use Rattle.txn_buffer.specs.declared.entry.Entry.{Entry}
 use Rattle.txn_buffer.specs.declared.entry.Entry.TheVariants as entry
 use Rattle.txn_buffer.specs.Contents.{Contents, entry_at, entry_of, lock_step, locked, locked_at, mutations, mutations_of, sets_primary, with_primary, with_write}
 use Rattle.txn_commit.specs.Committing.{IsFormed, Ways}
-use Rattle.txn_commit.specs.Parts.{AreDistinct, named_primary, parts_of, parts_under}
+use Rattle.txn_commit.specs.Parts.{named_primary, parts_of, parts_under}
 use Rattle.txn_commit.specs.declared.commit_parts.CommitParts.{CommitParts}
 use Rattle.txn_commit.proofs.Keys.{same_key}
-use Rattle.txn_commit.proofs.Planned.{parts_apart, parts_planned}
+use Rattle.txn_commit.proofs.Planned.{parts_apart}
 use Rattle.txn_kv.specs.Timestamp.{version_of}
 use Rattle.txn_kv.specs.declared.timestamp.Timestamp.{Timestamp}
 use Rattle.txn_history.specs.Event.{Event}
@@ -112,7 +112,7 @@ own_mutations contents parts e = by (named_primary contents (mutations contents.
 -- what a buffer whose keys are in order means to commit is well formed
 pub formed : (contents : Contents) (parts : CommitParts) → IsStrictlySortedBy (slice_cmp nat_cmp) (keys_of contents.entries) → parts_of contents ≡ Some parts → IsFormed parts
 formed contents parts s e = record {
-  planned = parts_planned parts (subst AreDistinct (sym (own_mutations contents parts e)) (distinct contents.entries s));
+  once = subst AreDistinct (sym (own_mutations contents parts e)) (distinct contents.entries s);
   apart = parts_apart contents parts e;
 }
 

@@ -125,6 +125,8 @@ module _ {P Q K A B D : Type 0} (w : Ways P Q K A B D) (prewriting : IsLawful w.
       → IsAt w options s parts g c o h → IsAt w options s parts g c p (newer ++ h)
   at_on options s parts (stage.Prewriting x) c o p newer h l i = record {
     now = prewriting.fits_longer x o p h (newer ++ h) l (older newer h) i.now;
+    whole = i.whole;
+    is = i.is;
     way = i.way;
     given = given_longer s h (newer ++ h) (older newer h) i.given;
     first = i.first;

@@ -21,11 +21,11 @@ use Rattle.txn_history.specs.Turn.{Turn, IfEnds, IfKept}
 use Rattle.txn_history.specs.Turn.Turn.{Stopped, Waits, Ends}
 use Rattle.txn_buffer.specs.Contents.{Contents}
 use Rattle.txn_merge.specs.declared.retry_options.RetryOptions.{RetryOptions}
-use Rattle.txn_commit.specs.Committing.{CommitterFits, CommitterGives, IsFormed, IsReady, StageReady, Ways}
+use Rattle.txn_commit.specs.Committing.{CommitterFits, CommitterGives, IsAllPrewritten, IsFormed, IsReady, StageReady, Ways}
 use Rattle.txn_commit.specs.Following.{Commits, KnowsCommits, none_sent, undetermined}
 use Rattle.txn_commit.specs.Going.{may_commit, stage_phase}
 use Rattle.txn_commit.specs.Parts.{parts_of}
-use Rattle.txn_commit.specs.Plans.{ArePrewritten, AreRolledBack}
+use Rattle.txn_commit.specs.Plans.{AreRolledBack}
 use Rattle.txn_commit.specs.Sending.{MaySend, plan_of}
 use Rattle.txn_commit.specs.declared.commit_parts.CommitParts.{CommitParts}
 use Rattle.txn_commit.specs.declared.committer.CommitterAnswer.{CommitterAnswer}
@@ -155,7 +155,7 @@ FailsWith w options s parts (Some t) h e = (inner : Error) × (view_of e ≡ not
 
 abbrev pub StandsOn : {P Q K A B D : Type 0} → Ways P Q K A B D → RetryOptions → Timestamp → CommitParts → Commits → List Event → Result (TxnAnswer Q) Error → Type 0
 StandsOn w options start parts c h (Ok (answer.Committed (Some t) job)) = IsCommitted options start t parts job h
-StandsOn w options start parts c h (Ok (answer.Committed None None)) = (parts.locks ≡ false) × ArePrewritten (version_of start) parts.mutations h
+StandsOn w options start parts c h (Ok (answer.Committed None None)) = (parts.locks ≡ false) × IsAllPrewritten (version_of start) parts h
 StandsOn w options start parts c h (Ok answer.Unit) = (parts.locks ≡ false) ⊎ (AreRolledBack (version_of start) (parts.primary ∷ []) h × AreRolledBack (version_of start) parts.secondaries h)
 StandsOn w options start parts c h (Err e) = FailsWith w options (version_of start) parts (undetermined c) h e
 StandsOn w options start parts c h _ = ⊥

@@ -101,8 +101,10 @@ impl<H: PlanForHeartbeats> HeartbeatJob<H> {
         match &mut self.stage {
             Stage::Sleeping { number } => {
                 if !arrival.is_end_of(*number) {
+                    drop(arrival);
                     return Ok(Progress::Waiting);
                 }
+                drop(arrival);
                 if status.is_end() {
                     self.stage = Stage::Over;
                     return Ok(Progress::Done(Ok(())));
@@ -113,8 +115,14 @@ impl<H: PlanForHeartbeats> HeartbeatJob<H> {
                 let turn = arrival.tell(plan, pd, now, out);
                 self.go_on(turn, out)
             }
-            Stage::Fresh | Stage::Over => Ok(Progress::Waiting),
-            Stage::Stopped => Err(NoMemory),
+            Stage::Fresh | Stage::Over => {
+                drop(arrival);
+                Ok(Progress::Waiting)
+            }
+            Stage::Stopped => {
+                drop(arrival);
+                Err(NoMemory)
+            }
         }
     }
 

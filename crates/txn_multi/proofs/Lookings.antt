@@ -148,9 +148,9 @@ held_runs call (search.Resting c n) i = refl
 held_runs call search.Over i = absurd i
 held_runs call search.Stopped i = absurd i
 
-MayAsk-place : (s : PdCall) (h : List Event) (r : Request) → MayAsk s h r → IsPlacement h r
-MayAsk-place s h r (inl a) = inl (s.query, a)
-MayAsk-place s h r (inr a) = inr a
+MayAsk-place : (s : PdCall) → IsPlaceQuery s.query → (h : List Event) (r : Request) → MayAsk s h r → IsPlacement h r
+MayAsk-place s place h r (inl a) = inl (s.query, place, a)
+MayAsk-place s place h r (inr a) = inr a
 
 -- Why not all shards were found, from what the client refuses. Want of memory is another matter.
 pub unfound_learnt : (call : PdCall) (answer : Result PdAnswer Error) (h : List Event) (why : Error) → IsPlaceQuery call.query → looked_up.gives call h answer
@@ -265,10 +265,10 @@ module _ {S A H L : Type 0} (m : Meaning S A) (is_part : S → S → Type 0) (lo
   }
 
   lifted : {told : Told} (old : Looking S H) {call call' : PdCall} {from via : Posted} {p : Turn (Result PdAnswer Error)}
-      → Holds call old.stage → Tells looked_up told call call' from via p
+      → Holds call old.stage → IsPlaceQuery call.query → Tells looked_up told call call' from via p
       → Moves IsPlacement (λ h. CutAt old.stage from h × told.known h) (λ h. CallFits call' via h) (λ h v. looked_up.gives call' h v) told.hear from via p
-  lifted {told = told} old {call = call} {from = from} held t =
-      Moves-map told.within (λ h f. (held_fits call old.stage from h held f.0, f.1)) (λ h f k r a. MayAsk-place call k r a) (λ h f k w i. i) (λ h f k v g. t.job.gave k v g) t.moves
+  lifted {told = told} old {call = call} {from = from} held place t =
+      Moves-map told.within (λ h f. (held_fits call old.stage from h held f.0, f.1)) (λ h f k r a. MayAsk-place call place k r a) (λ h f k w i. i) (λ h f k v g. t.job.gave k v g) t.moves
 
   -- an event of the look-up is an event of the search
   pub heard : {told : Told} {old mid new : Looking S H} {a : Awaited} {call call' : PdCall} {from via to : Posted} {p : Turn (Result PdAnswer Error)} {turn : Turn (Result (Vec (Part S)) Error)}
@@ -282,7 +282,7 @@ module _ {S A H L : Type 0} (m : Meaning S A) (is_part : S → S → Type 0) (lo
       let first : Expects (cut_waits old.stage) (call_waits call'.stage) told.heard from via =
       record { sends = e.sends; pushed = e.pushed; only = λ b w. elim (e.only b w) [ inl x ↦ inl (held_waits call old.stage b taken.held x.0, x.1) | inr x ↦ inr x ] } in
       record {
-        moves = Moves-then (lifted old taken.held t) (subst (λ (q : S). Moves IsPlacement (Knows p (λ h. CallFits call' via h) (λ h v. looked_up.gives call' h v)) (λ h. CutAt new.stage to h) (λ h. GivesParts m is_part load are_cut most q h) (λ h. h) via to turn) plan s.moves);
+        moves = Moves-then (lifted old taken.held taken.place t) (subst (λ (q : S). Moves IsPlacement (Knows p (λ h. CallFits call' via h) (λ h v. looked_up.gives call' h v)) (λ h. CutAt new.stage to h) (λ h. GivesParts m is_part load are_cut most q h) (λ h. h) via to turn) plan s.moves);
         job = record { asked = λ h r x. x; given = λ h v g. rw (s.plan ∙ plan) at g; gave = λ h v g. rw (s.plan ∙ plan) g };
         expects = Expects-then first s.expects;
       }
@@ -326,7 +326,7 @@ module _ {S A H L : Type 0} (m : Meaning S A) (is_part : S → S → Type 0) (lo
       → LooksOn m is_part load are_cut most (λ h. ⊤) (λ a. ⊥) old new from to turn
   asked {call = call} {call' = call'} {from = from} {to = to} p q place e kept t spent s =
       after_call kept
-      (Moves-map Within-refl (λ h k. (rw e (let u = fresh-unbegun q in u.fits from h), tt)) (λ h f k r a. MayAsk-place call k r a) (λ h f k w i. i) (λ h f k v g. tt) t.moves)
+      (Moves-map Within-refl (λ h k. (rw e (let u = fresh-unbegun q in u.fits from h), tt)) (λ h f k r a. MayAsk-place call (subst (λ (c : PdCall). IsPlaceQuery c.query) (sym e) place) k r a) (λ h f k w i. i) (λ h f k v g. tt) t.moves)
       (let x = t.expects in record { sends = x.sends; pushed = x.pushed; only = λ a w. elim (x.only a w) [ inl y ↦ absurd (rw e at y.0) | inr y ↦ inr y ] })
       (calls_none false call call' from to p (asks_none call.query (rw e place)) spent)
       (let y = spent.stopped_rests in omega arith)

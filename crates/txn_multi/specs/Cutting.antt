@@ -80,9 +80,9 @@ abbrev pub AreWithin : {S : Type 0} → ℕ → Result (Vec (Part S)) Error → 
 AreWithin n (Ok parts) = length parts.items ≤ n
 AreWithin n (Err why) = ⊤
 
--- a request to the placement driver
+-- a request to the placement driver: for a region, a store or the members
 abbrev pub IsPlacement : List Event → Request → Type 0
-IsPlacement h r = ((q : PdQuery) × (request_of q ≡ Some r)) ⊎ (r ≡ members)
+IsPlacement h r = ((q : PdQuery) × IsPlaceQuery q × (request_of q ≡ Some r)) ⊎ (r ≡ members)
 
 -- the look-up that is out can have arisen from the history, and waits under this number
 abbrev pub CutAt : CutStage → Posted → List Event → Type 0

@@ -141,7 +141,10 @@ where
         match mem::replace(&mut self.stage, MultiStage::Stopped) {
             MultiStage::Cutting(cutting) => self.tell_cutting(cutting, arrival, pd, now, out),
             MultiStage::Running => self.tell_tasks(arrival, pd, now, out),
-            stage => self.stay(stage),
+            stage => {
+                drop(arrival);
+                self.stay(stage)
+            }
         }
     }
 

@@ -131,7 +131,10 @@ where
             Stage::Running(plan) => self.tell_plan(plan, arrival, pd, now, out),
             Stage::Sleeping(number) => self.tell_sleeping(number, arrival, pd, now, out),
             Stage::Cutting(cutting) => self.tell_cutting(cutting, arrival, pd, now, out),
-            stage => self.stay(stage),
+            stage => {
+                drop(arrival);
+                self.stay(stage)
+            }
         }
     }
 
@@ -190,8 +193,10 @@ where
         ensures numbers { HasNumbers out.new }
     {
         if arrival.is_end_of(number) {
+            drop(arrival);
             return self.cut(pd, now, out);
         }
+        drop(arrival);
         self.stage = Stage::Sleeping(number);
         Ok(None)
     }

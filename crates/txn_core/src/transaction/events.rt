@@ -159,9 +159,15 @@ where
         ensures numbers { HasNumbers out.new }
     {
         match self.take_work() {
-            Work::Idle => Ok(self.wait()),
+            Work::Idle => {
+                drop(arrival);
+                Ok(self.wait())
+            }
             Work::Open(call) => self.tell_call(call, arrival, pd, now, out),
-            Work::GaveUp => Err(NoMemory),
+            Work::GaveUp => {
+                drop(arrival);
+                Err(NoMemory)
+            }
         }
     }
 

@@ -1,7 +1,7 @@
-use Rattle.std.proofs.Common.{inl}
+use Rattle.std.proofs.Common.{inl, refl}
 use Rattle.txn_commit.specs.declared.committer.Stage.TheVariants as stages
 use Rattle.txn_commit.proofs.Committing.{at_stage}
-use Rattle.txn_commit.proofs.Stages.{ends_is, goes_on_ends, goes_on_next, goes_on_waits, waits_is}
+use Rattle.txn_commit.proofs.Stages.{ends_is, goes_on_ends, goes_on_next, goes_on_waits, over_elsewhere, waits_is}
 use Rattle.txn_commit.proofs.Counting.{next_counts}
 use Rattle.std.proofs.Math.Nat.{le-add_left}
 use Rattle.txn_commit.proofs.Going.{resumes_next, resumes_over, resumes_waits}
@@ -27,3 +27,9 @@ returns-in-Done-Ok-clause-resumes g c = resumes_next _ c.args.self.now c.ask.new
 
 pub returns-clause-resumes : goal.returns-clause-resumes
 returns-clause-resumes g c = resumes_over _ c.args.self.now c.end.new.self _ _ _ _ _ _ (ends_is c.in-Done-Err.is c.in-Done-Err.field-0-is) c.end.ensures.state c.end.ensures.turn
+
+pub returns-in-Done-Ok-clause-stays : goal.returns-in-Done-Ok-clause-stays
+returns-in-Done-Ok-clause-stays g c p e = absurd (c.ask.ensures.on p e)
+
+pub returns-clause-stays : goal.returns-clause-stays
+returns-clause-stays g c p e = absurd (over_elsewhere p (rw c.end.ensures.state refl) e)

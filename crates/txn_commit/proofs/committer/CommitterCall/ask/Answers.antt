@@ -1,5 +1,5 @@
 use Rattle.txn_history.specs.Moves.{Moves-stopped}
-use Rattle.txn_commit.proofs.Stages.{asks_on, ends_on, stopped_is}
+use Rattle.txn_commit.proofs.Stages.{asking_elsewhere, asks_on, ends_on, over_elsewhere, stopped_elsewhere, stopped_is}
 use Rattle.std.proofs.Common.{refl}
 use Rattle.txn_commit.proofs.Going.{opens_asks, opens_over, opens_stopped}
 use Rattle.txn_commit.proofs.committer.CommitterCall.ask.Goals as goal
@@ -21,3 +21,12 @@ returns-in_err-call-clause-opens g c = opens_stopped _ c.args.self.now c.go.new.
 
 pub returns-clause-opens : goal.returns-clause-opens
 returns-clause-opens g c = opens_asks _ c.go-2.new.self c.in_ok-call.call _ _ (rw c.go-2.ensures.state refl) c.in_ok-call.ensures.ok
+
+pub returns-then-not-self-clause-on : goal.returns-then-not-self-clause-on
+returns-then-not-self-clause-on g c p e = over_elsewhere p (rw c.end.ensures.state refl) e
+
+pub returns-in_err-call-clause-on : goal.returns-in_err-call-clause-on
+returns-in_err-call-clause-on g c p e = stopped_elsewhere p (rw c.go.ensures.state refl) e
+
+pub returns-clause-on : goal.returns-clause-on
+returns-clause-on g c p e = asking_elsewhere c.in_ok-call.call p (rw c.go-2.ensures.state refl) e
