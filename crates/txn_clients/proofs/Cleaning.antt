@@ -14,8 +14,8 @@ use Rattle.txn_kv.specs.declared.ticket.Ticket.{Ticket}
 use Rattle.txn_history.specs.Among.{IsAmong}
 use Rattle.txn_history.specs.Event.{Event, Has}
 use Rattle.txn_history.specs.Event.Event.{Answered, Asked, Began, Clocked, Crashed, Led, Lost, Refused, Sent, Served, Slept, Split, Took}
-use Rattle.txn_history.specs.Licence.{AllAcknowledged, IsWithoutError, WantedAfter, WasGiven, WasNamed}
-use Rattle.txn_history.specs.Plan.{Plan}
+use Rattle.txn_history.specs.Licence.{AllAcknowledged, IsAcknowledged, IsPassed, IsWithoutError, WantedAfter, WasGiven, WasNamed}
+use Rattle.txn_history.specs.Plan.{Key, Plan}
 use Rattle.txn_commit.specs.Committing.{IsReady}
 use Rattle.txn_commit.specs.Following.{Commits, KnowsCommits, WasRefused, is_commit}
 use Rattle.txn_commit.specs.Sending.{plan_of}
@@ -242,18 +242,37 @@ prewrite_kept u r o (region, errors) = by (is_none o.region_error) (no_errors o.
     by false b e f = absurd (cc)
 
 module _ (plan : Plan) (s : ℕ) where
+  -- each of its Prewrites that was answered without error
+  prewrite_cleaned : (h : List Event) (t : Ticket) (r : PrewriteRequest) (o : PrewriteResponse) → IsWithoutError (replies.Prewrite o) → Has h (Took t (Prewrite r) (replies.Prewrite o)) → Has (cleaned h) (Took t (Prewrite r) (replies.Prewrite o))
+  prewrite_cleaned h t r o without taken = forth h (Took t (Prewrite r) (replies.Prewrite o)) (Took t (Prewrite r) (replies.Prewrite o)) (prewrite_kept t r o without) taken
+
+  locked_cleaned : (h : List Event) (k : Key) → IsAcknowledged h s k → IsAcknowledged (cleaned h) s k
+  locked_cleaned h k a = record {
+    ticket = a.ticket;
+    request = a.request;
+    response = a.response;
+    taken = prewrite_cleaned h a.ticket a.request a.response a.fine a.taken;
+    fine = a.fine;
+    start = a.start;
+    locks = a.locks;
+    locking = a.locking;
+  }
+
+  passed_cleaned : (h : List Event) (k : Key) → IsPassed h s k → IsPassed (cleaned h) s k
+  passed_cleaned h k a = record {
+    ticket = a.ticket;
+    request = a.request;
+    response = a.response;
+    taken = prewrite_cleaned h a.ticket a.request a.response a.fine a.taken;
+    fine = a.fine;
+    start = a.start;
+    mutation = a.mutation;
+    names = a.names;
+    key = a.key;
+  }
+
   acknowledged_cleaned : (h : List Event) → AllAcknowledged plan h s → AllAcknowledged plan (cleaned h) s
-  acknowledged_cleaned h all k x e =
-      let a = all k x e in
-      record {
-        ticket = a.ticket;
-        request = a.request;
-        response = a.response;
-        taken = forth h (Took a.ticket (Prewrite a.request) (replies.Prewrite a.response)) (Took a.ticket (Prewrite a.request) (replies.Prewrite a.response)) (prewrite_kept a.ticket a.request a.response a.fine) a.taken;
-        fine = a.fine;
-        start = a.start;
-        locks = a.locks;
-      }
+  acknowledged_cleaned h all = record { locked = λ k x e. locked_cleaned h k (all.locked k x e); checked = λ k e. passed_cleaned h k (all.checked k e) }
 
   wanted_pushed : (k : Option Event) (h : List Event) (ask : Ticket) → WantedAfter plan h s ask → WantedAfter plan (push k h) s ask
   wanted_pushed None h ask w = w

@@ -106,7 +106,7 @@ module _ {P Q K : Type 0} where
 module _ {Q B : Type 0} (m : Meaning Q (Result B Error)) (refuses : RetryOptions → List Event → Error → Type 0) (costs : ℕ → ℕ → ℕ) where
   -- What it may send says of which start it is: a Commit of no keys rests on nothing else.
   same_start : (old new : SecondaryJob Q) → SameJob (others m refuses costs (only_key []) []).asks (others m refuses costs (only_key []) []).gives new old → version_of new.start ≡ version_of old.start
-  same_start old new s = (s.asked [] (Commit empty) (record { may = (refl, λ k h. absurd (no h)); others = none })).may.0
+  same_start old new s = (s.asked [] (Commit empty) (record { may = (refl, refl, λ k h. absurd (no h)); others = none })).may.0
     where
       empty : CommitRequest
       empty = record { context = None; keys = []; start_version = version_of new.start; commit_version = 0 }

@@ -12,6 +12,7 @@ use Rattle.txn_history.specs.Event.Event.{Asked, Began, Sent}
 use Rattle.txn_history.specs.Later.{IsLater, IsLater-refl}
 use Rattle.txn_history.specs.Meaning.{IsLawful}
 use Rattle.txn_history.specs.Plan.{Key, Plan}
+use Rattle.txn_history.specs.Plan.Way.{TwoPhases}
 use Rattle.txn_history.specs.Posted.{Posted, Within, Within-one}
 use Rattle.txn_law.specs.Part.{IsPart}
 use Rattle.txn_law.specs.Run.{IsPossible, IsRun}
@@ -127,6 +128,7 @@ module _ {P Q K A B D : Type 0} (w : Ways P Q K A B D) (p : IsLawful w.prewritin
   pub job_grows : (plan : Plan) (keys : List Key) (job : SecondaryJob Q) (o later : Posted) (h longer : List Event) → IsLater o later → Within h longer
       → JobFits w.committing w.uncommitted plan keys job o h → JobFits w.committing w.uncommitted plan keys job later longer
   job_grows plan keys job o later h longer l within f = record {
+    way = f.way;
     apart = f.apart;
     committed = committed_longer plan (version_of job.start) (version_of job.commit) h longer within f.committed;
     at = job_at_grows job.retry_options (version_of job.start) (version_of job.commit) keys job.keys job.stage o later h longer l within f.at;
@@ -225,7 +227,7 @@ abbrev pub AreApart : {P Q K : Type 0} → List (Row P Q K) → Type 0
 AreApart rows = (i j v : ℕ) → HasStart v (row_at rows i) → HasStart v (row_at rows j) → i ≡ j
 
 abbrev pub unplanned : Plan
-unplanned = record { primary = []; writes = λ k. None }
+unplanned = record { primary = []; ops = λ k. None; writes = λ k. None; way = TwoPhases; one_phase = false }
 
 abbrev pub plan_or : Option CommitParts → Plan
 plan_or None = unplanned

@@ -2,9 +2,10 @@
 use Rattle.std.proofs.Common.{◌≡◌, inl, inr, ℕ, false, List, [], ◌∷◌, map, Some, None, refl, sym, ap, ◌∙◌, subst}
 use Rattle.std.specs.Prelude.{slice_index_or}
 use Rattle.std.proofs.lemmas.List.Elements.{All-nil}
+use Rattle.txn_kv.specs.declared.ticket.Ticket.{Ticket}
 use Rattle.txn_history.specs.Event.{Event}
 use Rattle.txn_history.specs.Event.Event.{Sent, Served, Took, Refused, Lost, Began, Slept, Asked, Answered, Crashed, Split, Led, Clocked}
-use Rattle.txn_law.specs.Run.{IsPossible}
+use Rattle.txn_law.specs.Run.{IsPossible, IsRoomy, IsUnserved}
 use Rattle.txn_model.specs.Store.{Store}
 use Rattle.txn_model.specs.Table.{table}
 use Rattle.txn_commit.specs.Committing.{Ways}
@@ -15,7 +16,7 @@ use Rattle.txn_trace.specs.Answering.{OracleFits}
 use Rattle.txn_trace.specs.Seeing.{seen}
 use Rattle.txn_trace.proofs.Fitting.{fits_idle}
 use Rattle.txn_trace.proofs.Lines.{fresh_none}
-use Rattle.txn_trace.proofs.Seen.{seen_had, seen_store}
+use Rattle.txn_trace.proofs.Seen.{had_seen, seen_had, seen_store}
 use Rattle.txn_clients.specs.Arising.{Arisen, ArisenFrom, HasStart, HoldsAt, RowFits, oracle_of, ticket_or}
 use Rattle.txn_clients.specs.Clients.{nexts_of, row_at, rows_of, sight_of}
 use Rattle.txn_clients.specs.Growing.{arisen_outside, right_same}
@@ -79,17 +80,23 @@ shows_outside (Split key) h out = refl
 shows_outside (Led region store) h out = refl
 shows_outside (Clocked ms) h out = refl
 
+unserved_unseen : (h : List Event) (t : Ticket) → IsUnserved (seen h) t → IsUnserved h t
+unserved_unseen h t u r o (inl i) = u r o (inl (had_seen h (Served t r o) tt i))
+unserved_unseen h t u r o (inr i) = u r o (inr (had_seen h (Refused t r o) tt i))
+
 pub possible_unseen : (e : Event) (h : List Event) → IsOutside e → IsPossible (seen h) e → IsPossible h e
 possible_unseen (Sent t r) h out may = absurd out
 possible_unseen (Began t ms) h out may = absurd out
 possible_unseen (Asked a) h out may = absurd out
 possible_unseen (Answered a x) h out may = absurd out
-possible_unseen (Served t r o) h out may = let s = seen_had h (Sent t r) may.0 in (s.0, may.1 ∙ ap (λ (st : Store). (table st r).reply) (seen_store h))
+possible_unseen (Served t r o) h out may =
+    let s = seen_had h (Sent t r) may.0 in
+    (s.0, may.1 ∙ ap (λ (st : Store). (table st r).reply) (seen_store h), unserved_unseen h t may.2, subst (λ (st : Store). IsRoomy st) (seen_store h) may.3)
 possible_unseen (Took t r o) h out may = elim may [
   | inl k ↦ let s = seen_had h (Served t r o) k in inl s.0
   | inr k ↦ let s = seen_had h (Refused t r o) k in inr s.0
 ]
-possible_unseen (Refused t r o) h out may = let s = seen_had h (Sent t r) may.0 in (s.0, may.1)
+possible_unseen (Refused t r o) h out may = let s = seen_had h (Sent t r) may.0 in (s.0, may.1, unserved_unseen h t may.2)
 possible_unseen (Lost t r) h out may = let s = seen_had h (Sent t r) may in s.0
 possible_unseen (Slept t) h out may = tt
 possible_unseen (Crashed c) h out may = tt

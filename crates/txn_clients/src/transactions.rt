@@ -274,6 +274,7 @@ where
 {
     // One Commit of the primary is out at a time.
     if !is_alone(&arrival, transaction) {
+        drop(arrival);
         return Err(NoMemory);
     }
     let progress = tell(transaction, arrival, pd, now, out)?;

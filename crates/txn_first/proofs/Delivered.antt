@@ -6,7 +6,7 @@ use Rattle.txn_kv.specs.declared.reply.Reply.{Reply}
 use Rattle.txn_kv.specs.declared.ticket.Ticket.{Ticket}
 use Rattle.txn_kv.specs.declared.ticket.Target.{Target}
 use Rattle.txn_kv.specs.declared.ticket.Target.TheVariants.{Placement}
-use Rattle.txn_history.specs.Event.{Event, sent_request, taken_reply, is_out, is_served}
+use Rattle.txn_history.specs.Event.{Event, sent_request, taken_reply, is_out, is_refused, is_served, kept_reply}
 use Rattle.txn_history.specs.Event.Event.{Sent, Served, Took}
 use Rattle.txn_script.specs.Lines.{line_at, why_after}
 use Rattle.txn_script.specs.declared.line.Line.{Line}
@@ -32,7 +32,7 @@ use Rattle.txn_first.proofs.Lists.{get_old}
 use Rattle.std.proofs.lemmas.Option.{slice_get-get_or}
 use Rattle.txn_first.proofs.Mails.{mail_ended, mail_sent}
 use Rattle.txn_first.proofs.Lists.{position_fresh}
-use Rattle.txn_first.proofs.Histories.{outcome_old}
+use Rattle.txn_first.proofs.Histories.{none_refused, outcome_old}
 use Rattle.txn_first.proofs.Lines.{outcome_other, line_within}
 use Rattle.txn_first.proofs.Opens.{IsQuietLine, last_outcome, old_row}
 use Rattle.txn_first.proofs.Extends.{Extends, extends_open, extends_send, extends_then, close, asks_push}
@@ -63,10 +63,10 @@ use Rattle.txn_history.specs.Event.{Has}
 use Rattle.txn_history.specs.Licence.{AskedAfter, WasGiven, PrimaryCommitted, CommitLicence, IsLicensed}
 use Rattle.txn_history.specs.Plan.{Key, has_key}
 use Rattle.txn_law.specs.Lone.{lone_plan, PutsAlone}
-use Rattle.txn_law.specs.Run.{IsUnused, IsCovered}
-use Rattle.txn_law.proofs.Kept.{asked_ready}
+use Rattle.txn_law.specs.Run.{IsCovered, IsRoomy, IsUnserved, IsUnused, store_after}
+use Rattle.txn_law.proofs.Sent.{asked_ready}
 use Rattle.txn_law.proofs.Lone.{lone_prewrite, lone_ready, lone_commit}
-use Rattle.txn_law.proofs.Tickets.{unused}
+use Rattle.txn_law.proofs.Tickets.{unused, unserved as untouched}
 use Rattle.txn_first.specs.declared.transaction.Place.{Place}
 use Rattle.txn_first.specs.declared.transaction.Status.TheVariants.{StartedCommit}
 use Rattle.txn_first.specs.Commit.{prewrite_request, commit_request}
@@ -114,6 +114,10 @@ asked_last start put (Stage_committing place c) r e = refl
 -- a Prewrite puts the one key
 puts_alone : (start : ℕ) (put : Write) (place : Place) (k v : List ℕ) → put.key ≡ k → put.value ≡ v → PutsAlone (prewrite_request start put place).mutations k v
 puts_alone start put place k v f g = record { mutation = record { op = Put_op; key = put.key; value = put.value; assertion = No_assertion }; is = refl; op = refl; key = f; value = g }
+
+-- where a timestamp was given, 0 is at most one that was
+nothing_given : (es : List Event) (s : ℕ) → WasGiven es s → WasGiven es 0
+nothing_given es s w = (w.0, w.1, w.2, w.3, w.4, w.5, omega arith)
 
 has_itself : (k : Key) → has_key (k ∷ []) k ≡ true
 has_itself k = let e = key_itself k in rw e refl
@@ -163,7 +167,17 @@ module _ (es : List Event) (l : Lists) (ls : List Line) (t : Ticket) (p : ℕ) (
       is ∙ sym (ap (λ (b : Bool). if b then Done else Skipped) both)
 
   delivered : Licensed (Took t (request_at l.sent p) (table l.store (request_at l.sent p)).reply ∷ Served t (request_at l.sent p) (table l.store (request_at l.sent p)).reply ∷ es) l.rows l.outcomes
-  delivered = licensed_delivered es l.rows l.outcomes t (request_at l.sent p) (table l.store (request_at l.sent p)).reply asked (ap (λ st. (table st (request_at l.sent p)).reply) s.mail.stored) s.licensed
+  delivered = licensed_delivered es l.rows l.outcomes t (request_at l.sent p) (table l.store (request_at l.sent p)).reply asked (ap (λ st. (table st (request_at l.sent p)).reply) s.mail.stored) never_handled room s.licensed
+    where
+      no_reply : (x : Option Reply) → is_some x ≡ false → x ≡ None
+      no_reply None e = refl
+      no_reply (Some y) e = absurd (cc)
+
+      never_handled : IsUnserved es t
+      never_handled = untouched es t (no_reply (kept_reply es t) unserved) (sym (ap (λ h. is_refused h t) s.mail.is) ∙ none_refused l.sent l.outcomes ls t)
+
+      room : IsRoomy (store_after es)
+      room = subst (λ (st : Store). IsRoomy st) s.mail.stored (let a = s.fits.lone.last in let b = s.fits.lone.few in omega arith)
 
   -- The lists once the request is handled.
   handling : Lists
@@ -438,6 +452,10 @@ module _ (es : List Event) (l : Lists) (ls : List Line) (t : Ticket) (p : ℕ) (
                 let h = delivered in
                 kept d (h.answered n d (pushed_commit l.outcomes Done n d refl (sym (outcome_other (l.outcomes ++ Done ∷ []) t.line n (Ok (Committed_at (Some c))) first elsewhere) ∙ e)))
 
+    -- its start was given
+    start_given : WasGiven (Took t (request_at l.sent p) (table l.store (request_at l.sent p)).reply ∷ Served t (request_at l.sent p) (table l.store (request_at l.sent p)).reply ∷ es) a.t.start
+    start_given = let h = delivered in h.given a.x a.t a.running
+
     commit_answered : StandsSo (passed (handled (opened l Plain Done (length l.outcomes + 1)) p t) t.line (reply_at l p)) (Deliver t ∷ ls)
     commit_answered = by_stage a.call.stage refl
       where
@@ -481,7 +499,7 @@ module _ (es : List Event) (l : Lists) (ls : List Line) (t : Ticket) (p : ℕ) (
             let held = subst (λ z. StageCells l.store.cells a.t.start a.put z) e cells in
             let stored : (table l.store (request_at l.sent p)).store ≡ l.store = ap (λ q. (table l.store q).store) is in
             let replied : reply_at l p ≡ Got_store (record { store = store_with_id l.store.stores place.store }) = ap (λ q. (table l.store q).reply) is in
-            goes (Prewriting place) (To_store place.store) (ap is_last e) (sym (ap (λ z. stage_number z + 1) e)) (λ k v f g. lone_prewrite k v (Took t (request_at l.sent p) (table l.store (request_at l.sent p)).reply ∷ Served t (request_at l.sent p) (table l.store (request_at l.sent p)).reply ∷ es) (prewrite_request a.t.start a.put place) f (puts_alone a.t.start a.put place k v f g)) (λ tk. tt) (ap (λ z. z.regions) stored) (ap (λ z. z.clock) stored) (let b = ap (λ z. z.last) stored in let c = s.fits.lone.last in omega arith) (ap (λ z. z.cells) stored ∙ held.0, held.1)
+            goes (Prewriting place) (To_store place.store) (ap is_last e) (sym (ap (λ z. stage_number z + 1) e)) (λ k v f g. lone_prewrite k v (Took t (request_at l.sent p) (table l.store (request_at l.sent p)).reply ∷ Served t (request_at l.sent p) (table l.store (request_at l.sent p)).reply ∷ es) (prewrite_request a.t.start a.put place) f (puts_alone a.t.start a.put place k v f g) refl refl (start_given, nothing_given (Took t (request_at l.sent p) (table l.store (request_at l.sent p)).reply ∷ Served t (request_at l.sent p) (table l.store (request_at l.sent p)).reply ∷ es) a.t.start start_given)) (λ tk. tt) (ap (λ z. z.regions) stored) (ap (λ z. z.clock) stored) (let b = ap (λ z. z.last) stored in let c = s.fits.lone.last in omega arith) (ap (λ z. z.cells) stored ∙ held.0, held.1)
             (ap (λ z. stage_turned a.t a.call.line z (reply_at l p)) e ∙ ap (λ z. stage_turned a.t a.call.line (FindingStore place) z) replied ∙ ap (λ z. found_store a.t a.call.line place z) a.puts)
         by_stage (Prewriting place) e =
             let held = subst (λ z. StageCells l.store.cells a.t.start a.put z) e cells in
@@ -490,7 +508,7 @@ module _ (es : List Event) (l : Lists) (ls : List Line) (t : Ticket) (p : ℕ) (
             let stored : (table l.store (request_at l.sent p)).store ≡ record l.store { cells = locked_cells a.t.start a.put } = ap (λ q. (table l.store q).store) is ∙ ap (λ z. z.store) done in
             let replied : reply_at l p ≡ Prewrote (record { region_error = None; errors = []; min_commit_ts = 0; one_pc_commit_ts = 0 }) = ap (λ q. (table l.store q).reply) is ∙ ap (λ z. z.reply) done in
             goes (Stamping place) Placement (ap is_last e) (sym (ap (λ z. stage_number z + 1) e)) (λ k v f g. tt)
-            (λ tk. inl (record { count = 1 }, refl, lone_ready a.put.key a.put.value (Took t (request_at l.sent p) (table l.store (request_at l.sent p)).reply ∷ Served t (request_at l.sent p) (table l.store (request_at l.sent p)).reply ∷ es) a.t.start t (prewrite_request a.t.start a.put here) (record { region_error = None; errors = []; min_commit_ts = 0; one_pc_commit_ts = 0 }) (inl (λ i. Took t (is i) (replied i))) (refl, refl) refl (puts_alone a.t.start a.put here a.put.key a.put.value refl refl), (let h = delivered in h.given a.x a.t a.running)))
+            (λ tk. inl (record { count = 1 }, refl, lone_ready a.put.key a.put.value (Took t (request_at l.sent p) (table l.store (request_at l.sent p)).reply ∷ Served t (request_at l.sent p) (table l.store (request_at l.sent p)).reply ∷ es) a.t.start t (prewrite_request a.t.start a.put here) (record { region_error = None; errors = []; min_commit_ts = 0; one_pc_commit_ts = 0 }) (inl (λ i. Took t (is i) (replied i))) (refl, refl) refl (puts_alone a.t.start a.put here a.put.key a.put.value refl refl) refl, start_given))
             (ap (λ z. z.regions) stored) (ap (λ z. z.clock) stored) (let b = ap (λ z. z.last) stored in let c = s.fits.lone.last in omega arith) (ap (λ z. z.cells) stored, held.1)
             (ap (λ z. stage_turned a.t a.call.line z (reply_at l p)) e ∙ ap (λ z. stage_turned a.t a.call.line (Prewriting place) z) replied)
         by_stage (Stamping place) e =

@@ -1,15 +1,17 @@
 -- Histories while a script goes on.
 use Rattle.std.proofs.Common.{◌≡◌, ◌≢◌, ℕ, zero, suc, ◌<◌, ◌≤◌, Bool, true, false, ◌&&◌, if◌then◌else◌, List, [], ◌∷◌, ◌++◌, Option, Some, None, length, get_or, set, slice_get, nat_eq, nat_lt, refl, sym, ap, ◌∙◌, subst, arith}
 use Rattle.std.proofs.lemmas.Bool.Decides.{nat_tests}
+use Rattle.txn_kv.specs.declared.reply.Reply.{Reply}
 use Rattle.txn_kv.specs.declared.request.Request.{Request}
 use Rattle.txn_kv.specs.declared.ticket.Ticket.{Ticket}
-use Rattle.txn_history.specs.Event.{Event, same_ticket}
+use Rattle.txn_history.specs.Event.{Event, is_refused, kept_reply, same_ticket}
 use Rattle.txn_history.specs.Event.Event.{Sent}
 use Rattle.txn_script.specs.declared.line.Line.{Line}
+use Rattle.txn_script.specs.declared.line.Line.TheVariants.{Deliver}
 use Rattle.txn_report.specs.declared.outcome.Outcome.{Outcome}
 use Rattle.txn_report.specs.declared.outcome.Outcome.TheVariants.{Unfinished}
 use Rattle.txn_report.specs.declared.report.SentNote.{SentNote}
-use Rattle.txn_first.specs.Script.{outcome_of, is_done, find, does, with_sends, history}
+use Rattle.txn_first.specs.Script.{outcome_of, is_done, find, does, history, serves, takes, takes_it, with_sends}
 use Rattle.txn_first.specs.Stands.{AllBefore}
 use Rattle.txn_first.proofs.Lists.{or_pushed, or_same, or_other, get_is_or, get_within}
 
@@ -112,3 +114,37 @@ history_same sent sent' outs outs' (l ∷ ls) a b c =
     let body : (if is_done (outcome_of outs (suc (length ls))) then does f l (history sent outs ls) else history sent outs ls) ≡ (if is_done (outcome_of outs' (suc (length ls))) then does g l (history sent' outs' ls) else history sent' outs' ls) =
     λ i. if a (suc (length ls)) (omega arith) i then does (looks i) l (h i) else h i in
     c (suc (length ls)) (omega arith) _ ∙ ap (λ x. with_sends sent' (suc (length ls)) x) body
+
+-- No store is too busy for a request of a script.
+
+sends_refused : (ss : List SentNote) (n : ℕ) (es : List Event) (t : Ticket) → is_refused (with_sends ss n es) t ≡ is_refused es t
+sends_refused [] n es t = refl
+sends_refused (s ∷ ss) n es t = sends_refused ss n _ t ∙ by (nat_eq s.at n)
+  where
+    by : (b : Bool) → is_refused (if b then Sent s.ticket s.request ∷ es else es) t ≡ is_refused es t
+    by true = refl
+    by false = refl
+
+serves_refused : (u : Ticket) (o : Option Request) (es : List Event) (t : Ticket) → is_refused (serves u o es) t ≡ is_refused es t
+serves_refused u None es t = refl
+serves_refused u (Some r) es t = refl
+
+takes_refused : (u : Ticket) (o : Option Request) (es : List Event) (t : Ticket) → is_refused (takes u o es) t ≡ is_refused es t
+takes_refused u None es t = refl
+takes_refused u (Some r) es t = by (kept_reply es u)
+  where
+    by : (o : Option Reply) → is_refused (takes_it u r o es) t ≡ is_refused es t
+    by None = refl
+    by (Some x) = refl
+
+does_refused : (looks : Ticket → Option Request) (l : Line) (es : List Event) (t : Ticket) → is_refused (does looks l es) t ≡ is_refused es t
+does_refused looks (Deliver u) es t = takes_refused u (looks u) (serves u (looks u) es) t ∙ serves_refused u (looks u) es t
+does_refused looks _ es t = refl
+
+pub none_refused : (sent : List SentNote) (outs : List Outcome) (ls : List Line) (t : Ticket) → is_refused (history sent outs ls) t ≡ false
+none_refused sent outs [] t = refl
+none_refused sent outs (l ∷ ls) t = sends_refused sent (length (l ∷ ls)) _ t ∙ by (is_done (outcome_of outs (length (l ∷ ls)))) ∙ none_refused sent outs ls t
+  where
+    by : (b : Bool) → is_refused (if b then does (λ u. find sent (length (l ∷ ls)) u) l (history sent outs ls) else history sent outs ls) t ≡ is_refused (history sent outs ls) t
+    by true = does_refused (λ u. find sent (length (l ∷ ls)) u) l (history sent outs ls) t
+    by false = refl

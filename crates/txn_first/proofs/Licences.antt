@@ -12,7 +12,7 @@ use Rattle.txn_history.specs.Licence.{WasGiven, IsLicensed}
 use Rattle.txn_history.specs.Plan.{Key}
 use Rattle.txn_model.specs.Table.{table}
 use Rattle.txn_law.specs.Lone.{lone_plan}
-use Rattle.txn_law.specs.Run.{store_after, IsUnused, IsCovered}
+use Rattle.txn_law.specs.Run.{store_after, IsRoomy, IsUnserved, IsUnused, IsCovered}
 use Rattle.txn_law.proofs.Tickets.{was_sent}
 use Rattle.txn_report.specs.declared.outcome.Outcome.{Outcome}
 use Rattle.txn_report.specs.declared.outcome.Outcome.TheVariants.{Ok, Unfinished}
@@ -214,9 +214,9 @@ licensed_sent es rows outs t q unused covered licence owner s = record {
 }
 
 -- a request is handled, and its reply is taken
-pub licensed_delivered : (es : List Event) (rows : List Row) (outs : List Outcome) (t : Ticket) (r : Request) (o : Reply) → sent_request es t ≡ Some r → o ≡ (table (store_after es) r).reply → Licensed es rows outs → Licensed (Took t r o ∷ Served t r o ∷ es) rows outs
-licensed_delivered es rows outs t r o sent gave s = record {
-  run = λ k v a. (inl (inl refl), tt, ((was_sent es t r sent, gave), tt, s.run k v a));
+pub licensed_delivered : (es : List Event) (rows : List Row) (outs : List Outcome) (t : Ticket) (r : Request) (o : Reply) → sent_request es t ≡ Some r → o ≡ (table (store_after es) r).reply → IsUnserved es t → IsRoomy (store_after es) → Licensed es rows outs → Licensed (Took t r o ∷ Served t r o ∷ es) rows outs
+licensed_delivered es rows outs t r o sent gave unserved room s = record {
+  run = λ k v a. (inl (inl refl), tt, ((was_sent es t r sent, gave, unserved, room), tt, s.run k v a));
   given = λ x u e. given_more (Served t r o ∷ es) (Took t r o) u.start (given_more es (Served t r o) u.start (s.given x u e));
   owned = λ u q h. elim h [ inl e ↦ absurd (cc) | inr g ↦ elim g [ inl e ↦ absurd (cc) | inr z ↦ s.owned u q z ] ];
   answered = λ n c e. committed_more (Served t r o ∷ es) (Took t r o) rows c (committed_more es (Served t r o) rows c (s.answered n c e));

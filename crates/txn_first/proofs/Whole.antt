@@ -8,16 +8,18 @@ use Rattle.txn_kv.specs.declared.request.PrewriteRequest.{PrewriteRequest}
 use Rattle.txn_kv.specs.declared.reply.Reply.TheVariants as reply
 use Rattle.txn_history.specs.Among.{IsAmong}
 use Rattle.txn_history.specs.Event.{Event, Has, sent_request}
-use Rattle.txn_history.specs.Event.Event.{Sent, Served, Took}
+use Rattle.txn_history.specs.Event.Event.{Sent}
 use Rattle.txn_history.specs.Licence.{PrewriteLicence, PrimaryCommitted, WasNamed, IsLicensed}
 use Rattle.txn_history.specs.Plan.{Plan}
 use Rattle.txn_model.proofs.Keys.{key_itself}
+use Rattle.txn_model.specs.Cells.{cell_at}
 use Rattle.txn_law.specs.Lone.{put_of, lone_plan}
 use Rattle.txn_law.specs.Run.{IsRun}
-use Rattle.txn_law.specs.Whole.{IsWholeAt, FitsAnswers}
-use Rattle.txn_law.proofs.Kept.{sent_taken, kept}
+use Rattle.txn_law.specs.Whole.{HasCommit, IsWholeAt, FitsAnswers}
+use Rattle.txn_law.proofs.Kept.{kept}
+use Rattle.txn_law.proofs.Taken.{sent_taken}
 use Rattle.txn_law.proofs.Tickets.{unused, was_sent, sent_once}
-use Rattle.txn_law.proofs.Wholes.{law_fits}
+use Rattle.txn_law.proofs.Wholes.{law_by_primary, law_fits, law_named}
 use Rattle.txn_script.specs.Lines.{line_at}
 use Rattle.txn_script.specs.declared.line.Line.{Line}
 use Rattle.txn_script.specs.declared.line.Line.TheVariants.{Blank, Client, Begin, Put, Commit, Deliver}
@@ -40,7 +42,7 @@ use Rattle.txn_first.specs.Causes.{is_skipped, is_commit_at, status_of, status_a
 use Rattle.txn_first.specs.Rowed.{writes_in, CommitFits, CallFits, IsBegun}
 use Rattle.txn_first.specs.Stands.{request_of, request_in, StandsAt}
 use Rattle.txn_first.specs.Licensed.{is_committing, is_committed, has_committed}
-use Rattle.txn_first.specs.Whole.{content_at, IsPrimary, may_be_committed, FitsCommits}
+use Rattle.txn_first.specs.Whole.{IsPrimary, may_be_committed, plan_of, FitsCommits}
 use Rattle.txn_first.proofs.Lines.{line_new, line_old, line_within, one_begin}
 use Rattle.txn_first.proofs.Licences.{same_row}
 
@@ -216,20 +218,23 @@ module _ (es : List Event) (l : Lists) (lines : List Line) (s : StandsAt es l li
       written_fits =
           let f : FitsAnswers (lone_plan p.key p.value) es l.store.cells t.start = subst (λ z. FitsAnswers (lone_plan p.key p.value) es z.cells t.start) (sym s.mail.stored) (law_fits (λ z. lone_plan p.key p.value) es plan_run t.start) in
           elim f [
-            | inl a ↦ inl (a.0, λ n d e. a.1 d (told n d e.1))
+            | inl a ↦ inl (a.0, λ n d e. a.1 d (inl (told n d e.1)))
             | inr a ↦ (
-                let w = a.3 in
+                let here = subst (λ z. IsWholeAt (lone_plan p.key p.value) z.cells t.start a.0) s.mail.stored a.1 in
+                let w = law_named (λ z. lone_plan p.key p.value) es plan_run t.start a.0 refl refl here in
+                let c = law_by_primary (λ z. lone_plan p.key p.value) es plan_run t.start a.0 refl here in
                 let o = s.licensed.owned w.0 w.1 w.2 in
                 let m = may_be (subst (λ u. has_committed u ≡ true) (alone x o.0 t o.1 at o.2) o.3) in
                 inr (
                   a.0,
                   record {
                     primary = p.key;
-                    named = primary a.0 a.3;
+                    named = primary a.0 w;
                     whole = let h = s.fits.rowed.fits x (Running t) at in
-                        subst (λ ws. IsWholeAt (record { primary = p.key; writes = content_at ws }) l.store.cells t.start a.0) (sym (h.writes ∙ ap writes_in puts)) a.1;
+                        subst (λ ws. IsWholeAt (plan_of p.key ws) l.store.cells t.start a.0) (sym (h.writes ∙ ap writes_in puts)) a.1;
+                    committed = (c.0, subst (λ z. HasCommit (cell_at z.cells p.key) t.start a.0 c.0) (sym s.mail.stored) c.1);
                   },
-                  λ n d e. a.2 d (told n d e.1),
+                  λ n d e. a.2 d (inl (told n d e.1)),
                   m.0,
                   m.1,
                   m.2,
@@ -240,14 +245,17 @@ module _ (es : List Event) (l : Lists) (lines : List Line) (s : StandsAt es l li
     -- it writes nothing, so it answers no timestamp
     empty_fits : t.put ≡ None → FitsCommits lines l.sent l.outcomes l.store.cells x t.start
     empty_fits empty =
-        let f : FitsAnswers (lone_plan [] []) es l.store.cells t.start = subst (λ z. FitsAnswers (lone_plan [] []) es z.cells t.start) (sym s.mail.stored) (law_fits (λ z. lone_plan [] []) es (s.licensed.run [] [] (λ y u q e g h. absurd (no_put y u q e g))) t.start) in
+        let f : FitsAnswers (lone_plan [] []) es l.store.cells t.start = subst (λ z. FitsAnswers (lone_plan [] []) es z.cells t.start) (sym s.mail.stored) (law_fits (λ z. lone_plan [] []) es empty_run t.start) in
         elim f [
           | inl a ↦ inl (a.0, λ n d e. unanswered n d e.1)
-          | inr a ↦ absurd (let w = a.3 in let o = s.licensed.owned w.0 w.1 w.2 in uncommitted (subst (λ u. has_committed u ≡ true) (alone x o.0 t o.1 at o.2) o.3))
+          | inr a ↦ absurd (let w = law_named (λ z. lone_plan [] []) es empty_run t.start a.0 refl refl (subst (λ z. IsWholeAt (lone_plan [] []) z.cells t.start a.0) s.mail.stored a.1) in let o = s.licensed.owned w.0 w.1 w.2 in uncommitted (subst (λ u. has_committed u ≡ true) (alone x o.0 t o.1 at o.2) o.3))
         ]
       where
         no_put : (y : ℕ) (u : Transaction) (q : Write) → row_at l.rows y ≡ Some (Running u) → u.put ≡ Some q → ⊥
         no_put y u q e g = let z : Some q ≡ None = sym g ∙ ap (λ w. w.put) (alone x y t u at e) ∙ empty in cc
+
+        empty_run : IsRun (λ z. lone_plan [] []) es
+        empty_run = s.licensed.run [] [] (λ y u q e g h. absurd (no_put y u q e g))
 
         unanswered : (n d : ℕ) → outcome_of l.outcomes n ≡ Ok (Committed_at (Some d)) → ⊥
         unanswered n d e = let h = s.licensed.answered n d e in no_put h.x h.t h.put h.running h.puts

@@ -2,13 +2,17 @@
 -- first.
 use Rattle.std.specs.Prelude.{◌≡◌, ◌⊎◌, ℕ, Bool, true, false, if◌then◌else◌, List, [], ◌∷◌, Option, Some, None, is_some}
 use Rattle.txn_kv.specs.ErrorView.{undetermined}
+use Rattle.txn_kv.specs.declared.message.Op.{Op}
+use Rattle.txn_kv.specs.declared.message.Op.TheVariants.{Put}
 use Rattle.txn_kv.specs.declared.request.PrewriteRequest.{PrewriteRequest}
 use Rattle.txn_kv.specs.declared.request.Request.TheVariants.{Prewrite}
 use Rattle.txn_history.specs.Among.{IsAmong}
-use Rattle.txn_history.specs.Plan.{Key, key_eq, Content}
+use Rattle.txn_history.specs.Plan.{Key, key_eq, Content, Plan}
+use Rattle.txn_history.specs.Plan.Way.{TwoPhases}
+use Rattle.txn_model.specs.Cells.{cell_at}
 use Rattle.txn_model.specs.declared.cell.Cell.{Cell}
 use Rattle.txn_law.specs.Lone.{put_of}
-use Rattle.txn_law.specs.Whole.{IsWholeAt, IsAbsent}
+use Rattle.txn_law.specs.Whole.{HasCommit, IsWholeAt, IsAbsent}
 use Rattle.txn_script.specs.Lines.{line_at}
 use Rattle.txn_script.specs.declared.line.Line.{Line}
 use Rattle.txn_script.specs.declared.line.Line.TheVariants.{Begin, Commit}
@@ -27,6 +31,15 @@ abbrev pub content_at : List Written → Key → Option Content
 content_at [] k = None
 content_at (w ∷ ws) k = if key_eq w.key k then Some (put_of w.value) else content_at ws k
 
+-- and with which op
+abbrev pub op_at : List Written → Key → Option Op
+op_at [] k = None
+op_at (w ∷ ws) k = if key_eq w.key k then Some Put else op_at ws k
+
+-- what a transaction with these writes means to do under a primary: it puts them, in two phases
+abbrev pub plan_of : Key → List Written → Plan
+plan_of p ws = record { primary = p; ops = op_at ws; writes = content_at ws; way = TwoPhases; one_phase = false }
+
 -- p is the primary that the sent Prewrites of start s name
 pub record IsPrimary (sent : List SentNote) (s : ℕ) (p : Key) : Type 0 where
   pub some : (n : SentNote) × (r : PrewriteRequest) × IsAmong sent n × (n.request ≡ Prewrite r) × (r.start_version ≡ s)
@@ -37,7 +50,8 @@ pub record IsPrimary (sent : List SentNote) (s : ℕ) (p : Key) : Type 0 where
 pub record IsWhole (lines : List Line) (sent : List SentNote) (outs : List Outcome) (cells : List Cell) (x s c : ℕ) : Type 0 where
   pub primary : Key
   pub named : IsPrimary sent s primary
-  pub whole : IsWholeAt (record { primary = primary; writes = content_at (writes_of (outcome_of outs) x lines) }) cells s c
+  pub whole : IsWholeAt (plan_of primary (writes_of (outcome_of outs) x lines)) cells s c
+  pub committed : (content : Content) × HasCommit (cell_at cells primary) s c content
 
 -- a commit line of x that answered timestamp d
 abbrev pub AnsweredAt : List Line → List Outcome → ℕ → ℕ → ℕ → Type 0

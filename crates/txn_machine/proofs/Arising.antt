@@ -9,13 +9,13 @@ use Rattle.txn_kv.specs.declared.ticket.Ticket.{Ticket}
 use Rattle.txn_history.specs.Busy.{busy_reply}
 use Rattle.txn_history.specs.Event.{Event, kept_reply}
 use Rattle.txn_history.specs.Event.Event.{Clocked, Crashed, Led, Lost, Refused, Sent, Served, Slept, Split, Took}
-use Rattle.txn_law.specs.Run.{IsPossible, store_after}
+use Rattle.txn_law.specs.Run.{IsPossible, IsRoomy, store_after}
 use Rattle.txn_lines.specs.declared.line.Line.{Line}
 use Rattle.txn_lines.specs.declared.line.Line.TheVariants as lines
 use Rattle.txn_model.specs.Regions.{can_lead, can_split}
 use Rattle.txn_model.specs.Store.{Store}
 use Rattle.txn_model.specs.Table.{table}
-use Rattle.txn_post.specs.Mail.{Mail, can_be_served, found_unserved, letter_at}
+use Rattle.txn_post.specs.Mail.{Mail, as_sent, can_be_served, found_awaited, found_unserved, is_awaited, letter_at, only, place_of}
 use Rattle.txn_report.specs.declared.outcome.Outcome.{Outcome}
 use Rattle.txn_report.specs.declared.outcome.Outcome.TheVariants as outcomes
 use Rattle.txn_report.specs.declared.outcome.Payload.TheVariants.{Number}
@@ -36,6 +36,7 @@ use Rattle.txn_machine.specs.Steps.{does_it, ended_in, found_out, posted_in, tes
 use Rattle.txn_machine.specs.Told.{CanTell, OwnEnds, is_answer}
 use Rattle.txn_machine.specs.declared.done.Done.{Done as Course}
 use Rattle.txn_machine.proofs.Calms.{outcome_opened}
+use Rattle.txn_machine.proofs.Courses.{only_there}
 use Rattle.txn_machine.proofs.Fates.{sends_none}
 use Rattle.txn_machine.proofs.Finds.{same_itself, sends_push}
 use Rattle.txn_machine.proofs.Folds.{ended_mail}
@@ -154,17 +155,31 @@ module _ (was is : List Event → Type 0) (held holds : List Event → ℕ → O
 
 -- What each line does.
 
+-- the store of the history has room as well
+room_after : (l : Lists) (looks : Ticket → Option Request) (h : List Event) → Knows l looks h → IsRoomy (store_after h)
+room_after l looks h knows = subst (λ (s : Store). IsRoomy s) knows.store knows.room
+
+-- a request that is out, and can be served, is found so
+unserved_there : (l : Lists) (t : Ticket) (place : ℕ) → found_out l t ≡ Some place → can_be_served l.mail place ≡ true → found_unserved l.mail t ≡ Some place
+unserved_there l t place found can = by (is_live l.sight t.line) found
+  where
+    by : (b : Bool) → (if b then found_awaited l.mail t else None) ≡ Some place → found_unserved l.mail t ≡ Some place
+    by true e =
+        ap (λ o. only (can_be_served l.mail) o) (only_there (is_awaited l.mail) (as_sent (place_of l.mail.tickets t)) place e).0
+        ∙ ap (λ (b : Bool). if b then Some place else None) can
+    by false e = absurd (cc)
+
 module _ (l : Lists) (looks : Ticket → Option Request) (h : List Event) where
   abbrev Outside : Line → Type 0
   Outside line = (happens looks line l h ≡ h) ⊎ ((e : Event) × (happens looks line l h ≡ e ∷ h) × IsOutside e × IsPossible h e)
 
   pub serve_comes : (t : Ticket) → Knows l looks h → Outside (lines.Serve t)
-  serve_comes t knows = by (test_at (λ k. true) (found_unserved l.mail t)) (looks t) refl
+  serve_comes t knows = by (found_unserved l.mail t) refl (looks t) refl
     where
-      by : (b : Bool) (o : Option Request) → looks t ≡ o → ((if b then serves t o h else h) ≡ h) ⊎ ((e : Event) × ((if b then serves t o h else h) ≡ e ∷ h) × IsOutside e × IsPossible h e)
-      by false o e = inl refl
-      by true None e = inl refl
-      by true (Some r) e = inr (Served t r (table (store_after h) r).reply, refl, tt, (knows.sent t r e, refl))
+      by : (place : Option ℕ) → found_unserved l.mail t ≡ place → (o : Option Request) → looks t ≡ o → ((if test_at (λ k. true) place then serves t o h else h) ≡ h) ⊎ ((e : Event) × ((if test_at (λ k. true) place then serves t o h else h) ≡ e ∷ h) × IsOutside e × IsPossible h e)
+      by None f o e = inl refl
+      by (Some k) f None e = inl refl
+      by (Some k) f (Some r) e = inr (Served t r (table (store_after h) r).reply, refl, tt, (knows.sent t r e, refl, knows.unserved t k f, room_after l looks h knows))
 
   pub split_comes : (key : List ℕ) → Outside (lines.Split key)
   split_comes key = by (can_split l.store key)
@@ -227,7 +242,7 @@ module _ (l : Lists) (looks : Ticket → Option Request) (h : List Event) where
           let o = (table (store_after h) r).reply in
           let given : o ≡ reply_at l place = ap (λ (s : Store). (table s (request_at l place)).reply) (sym knows.store) in
           let here : kept_reply (Served t r o ∷ h) t ≡ Some (reply_at l place) = ap (λ (b : Bool). if b then Some o else kept_reply h t) (same_itself t) ∙ ap (λ z. Some z) given in
-          let a = longer h (Served t r o) tt (knows.sent t r (knows.asked t place found), refl) w in
+          let a = longer h (Served t r o) tt (knows.sent t r (knows.asked t place found), refl, knows.unserved t place (unserved_there l t place found can), room_after l looks h knows) w in
           record {
             request = r;
             past = Served t r o ∷ h;
@@ -243,7 +258,7 @@ module _ (l : Lists) (looks : Ticket → Option Request) (h : List Event) where
       pub busy_comes : (o : Reply) → busy_reply (request_at l place) ≡ Some o → Comes was held (lines.Busy t) l (λ r. Took t r o) looks h
       busy_comes o busy =
           let r = request_at l place in
-          let a = longer h (Refused t r o) tt (knows.sent t r (knows.asked t place found), busy) w in
+          let a = longer h (Refused t r o) tt (knows.sent t r (knows.asked t place found), busy, knows.unserved t place (unserved_there l t place found can)) w in
           record {
             request = r;
             past = Refused t r o ∷ h;

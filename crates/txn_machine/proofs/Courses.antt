@@ -158,7 +158,7 @@ line_stays n (Working c) = (refl, refl)
 sight_stays : (s : Sight) → Goes [] [] s s
 sight_stays s = record { crashed = refl; count = refl; lines = λ n. line_stays n (stand_at s.stands n); live = λ k d h. absurd (omega arith); posting = λ k d h. absurd (omega arith); numbers = refl; askers = λ k d h. absurd (omega arith); groups = λ g out. inl out }
 
-only_there : (p : ℕ → Bool) (o : Option ℕ) (k : ℕ) → only p o ≡ Some k → (o ≡ Some k) × (p k ≡ true)
+pub only_there : (p : ℕ → Bool) (o : Option ℕ) (k : ℕ) → only p o ≡ Some k → (o ≡ Some k) × (p k ≡ true)
 only_there p None k e = absurd (cc)
 only_there p (Some j) k e = by (p j) refl e
   where

@@ -1,19 +1,18 @@
 -- The tickets that a machine lists as out are those that are out by its report.
-use Rattle.std.proofs.Common.{◌≡◌, ◌≢◌, ℕ, zero, suc, ◌+◌, ◌<◌, ◌≤◌, ◌⊎◌, inl, inr, Bool, true, false, not, ◌&&◌, ◌||◌, if◌then◌else◌, List, [], ◌∷◌, ◌++◌, Option, Some, None, length, get_or, slice_get, is_some, refl, sym, ap, ◌∙◌, subst, arith}
+use Rattle.std.proofs.Common.{◌≡◌, ℕ, zero, suc, ◌+◌, ◌<◌, ◌≤◌, ◌⊎◌, inl, inr, Bool, true, false, not, ◌&&◌, ◌||◌, if◌then◌else◌, List, [], ◌∷◌, ◌++◌, Option, Some, None, length, slice_get, is_some, refl, sym, ap, ◌∙◌, subst, arith}
 use Rattle.std.specs.Option.{option_to_list}
 use Rattle.txn_kv.specs.declared.ticket.Ticket.{Ticket}
 use Rattle.txn_history.specs.Among.{IsAmong}
 use Rattle.txn_history.specs.Event.{Event, is_awaited, is_lost, taken_reply}
 use Rattle.txn_lines.specs.declared.line.Line.{Line}
-use Rattle.txn_post.specs.Mail.{IsMail, Mail, as_slept, is_lasting, is_out, lane, letter_at, out_at, outs_among, outs_of, place_in, place_of, places_of, ticket_at}
-use Rattle.txn_post.specs.Mail as mails
+use Rattle.txn_post.specs.Mail.{IsMail, Mail, as_slept, is_lasting, is_out, lane, out_at, outs_among, outs_of, place_in, place_of, places_of, ticket_at}
 use Rattle.txn_post.specs.declared.post.Place.{Place}
 use Rattle.txn_post.specs.declared.post.Place.TheVariants.{Sent, Slept}
 use Rattle.txn_report.specs.declared.report.Report.{Report}
-use Rattle.txn_side.specs.Sight.{client_at, is_live, lives, stand_at}
-use Rattle.txn_machine.specs.Causes.{began, client_of, ended_of, hears, is_woken}
+use Rattle.txn_side.specs.Sight.{is_live, stand_at}
+use Rattle.txn_machine.specs.Causes.{began, ended_of, hears, is_woken}
 use Rattle.txn_machine.specs.Lists.{Lists, newest}
-use Rattle.txn_machine.specs.Outs.{AreInOrder, AreOutAfter, ComesBefore, is_out_after, is_out_by}
+use Rattle.txn_machine.specs.Outs.{AreInOrder, AreOutAfter, ComesBefore, is_out_by}
 use Rattle.txn_machine.specs.Outs.ComesBefore.{earlier, heartbeat, smaller}
 use Rattle.txn_machine.specs.Rows.{Caused, Fate, IsUnsent}
 use Rattle.txn_machine.specs.Running.{IsOrdered, IsReportOf, outs_at, outs_until}

@@ -1,17 +1,18 @@
 -- Each line keeps what is said of the clients that can have arisen from the history, and of what calls answered.
-use Rattle.std.proofs.Common.{◌≡◌, ℕ, suc, ◌≤◌, inl, inr, Bool, true, false, if◌then◌else◌, List, [], ◌∷◌, Option, Some, None, length, refl, sym, ap, ◌∙◌, subst, arith}
+use Rattle.std.proofs.Common.{◌≡◌, ℕ, suc, ◌≤◌, inl, inr, Bool, true, false, not, ◌&&◌, if◌then◌else◌, List, [], ◌∷◌, Option, Some, None, length, is_some, refl, sym, ap, ◌∙◌, subst, arith}
 use Rattle.txn_kv.specs.declared.reply.Reply.{Reply}
 use Rattle.txn_kv.specs.declared.request.Request.{Request}
 use Rattle.txn_kv.specs.declared.ticket.Ticket.{Ticket}
 use Rattle.txn_history.specs.Event.{Event, Has, kept_reply}
 use Rattle.txn_history.specs.Event.Event.{Sent, Served}
-use Rattle.txn_law.proofs.Tickets.{was_sent}
+use Rattle.txn_law.specs.Run.{IsUnserved}
+use Rattle.txn_law.proofs.Tickets.{unserved, was_sent}
 use Rattle.txn_lines.specs.Lines.{line_at, why_after}
 use Rattle.txn_lines.specs.declared.line.Line.{Line}
 use Rattle.txn_lines.specs.declared.line.Line.TheVariants as lines
 use Rattle.txn_post.proofs.Mails.{opened_is_mail}
 use Rattle.txn_post.proofs.Naming.{opened_leads}
-use Rattle.txn_post.specs.Mail.{IsMail, as_sent, letter_at, place_of}
+use Rattle.txn_post.specs.Mail.{IsMail, as_sent, can_be_served, found_unserved, letter_at, place_of}
 use Rattle.txn_report.specs.declared.outcome.Outcome.{Outcome}
 use Rattle.txn_report.specs.declared.outcome.Outcome.TheVariants.{Ok, Err, Unfinished, Done, Skipped}
 use Rattle.txn_report.specs.declared.outcome.Payload.{Payload}
@@ -23,14 +24,14 @@ use Rattle.txn_machine.specs.Causes.Role.{AsksTime, MakesClient, NoCall, UsesTra
 use Rattle.txn_machine.specs.Lists.{Lists, all_posted, followed, newest, opened, request_at, request_in, with_mail}
 use Rattle.txn_machine.specs.Rows.{Caused, IsRow, Row, outcome_in, role_in, stand_in}
 use Rattle.txn_machine.specs.Rows.Row.{Acted, AskFailed, AskSkipped, AskWaits, Begun, CallFailed, CallSkipped, CallWaits, Happened, Made, Over, Timed, Works}
-use Rattle.txn_machine.specs.Running.{IsOrdered}
+use Rattle.txn_machine.specs.Running.{IsOrdered, IsSound}
 use Rattle.txn_machine.specs.Script.{AllBefore, Folded, does, find, history, outcome_of, with_sends}
 use Rattle.txn_machine.specs.Steps.{Steps, does_it}
 use Rattle.txn_machine.proofs.Accounting.{change, stays}
 use Rattle.txn_machine.proofs.Calms.{outcome_past, stand_opened}
 use Rattle.txn_machine.proofs.Carried.{history_now, looked}
 use Rattle.txn_machine.proofs.Caused.{done_is, mid_count}
-use Rattle.txn_machine.proofs.Courses.{Course, course, out_there, own_done}
+use Rattle.txn_machine.proofs.Courses.{Course, course, only_there, out_there, own_done}
 use Rattle.txn_machine.proofs.Credits.{all_count}
 use Rattle.txn_machine.proofs.Doubting.{speak_now, tells_none}
 use Rattle.txn_machine.proofs.Fates.{fate_of, fates_opened}
@@ -43,9 +44,12 @@ use Rattle.txn_machine.proofs.Timing.{noted_there}
 
 -- What the lists say of the history.
 
-module _ (old : Lists) (ls : List Line) (told : newest old ≡ length ls) (m : IsMail old.mail) (was : Caused ls old) (folded : Folded ls old) (looks : Ticket → Option Request) (looked_so : (t : Ticket) → looks t ≡ looked_up old.mail t) where
+module _ (old : Lists) (ls : List Line) (told : newest old ≡ length ls) (sound : IsSound old) (was : Caused ls old) (folded : Folded ls old) (looks : Ticket → Option Request) (looked_so : (t : Ticket) → looks t ≡ looked_up old.mail t) where
   abbrev es : List Event
   es = history old.mail.sent old.outcomes ls
+
+  m : IsMail old.mail
+  m = sound.mail
 
   there_old : (t : Ticket) (k : ℕ) → as_sent (place_of (opened old).mail.tickets t) ≡ Some k → as_sent (place_of old.mail.tickets t) ≡ Some k
   there_old t k named = ap as_sent (sym (opened_leads old.mail.tickets t)) ∙ named
@@ -70,6 +74,21 @@ module _ (old : Lists) (ls : List Line) (told : newest old ≡ length ls) (m : I
       let request : served.0 ≡ request_at (opened old) k = sym noted.3 ∙ sym (ap request_in place) in
       (reply, subst (λ q. Has es (Served t q o)) request served.1)
 
+  never_came : (t : Ticket) (k : ℕ) → found_unserved (opened old).mail t ≡ Some k → IsUnserved es t
+  never_came t k found =
+      let f = fate_of es old.mail m was.fates.fates t k (there_old t k (only_there (λ j. can_be_served (opened old).mail j) (as_sent (place_of (opened old).mail.tickets t)) k found).0) in
+      let can = neither (letter_at old.mail k).served (letter_at old.mail k).refused (only_there (λ j. can_be_served (opened old).mail j) (as_sent (place_of (opened old).mail.tickets t)) k found).1 in
+      unserved es t (no_reply (kept_reply es t) (f.served ∙ can.0)) (f.refused ∙ can.1)
+    where
+      no_reply : (x : Option Reply) → is_some x ≡ false → x ≡ None
+      no_reply None e = refl
+      no_reply (Some y) e = absurd (cc)
+
+      neither : (a b : Bool) → (not a && not b) ≡ true → (a ≡ false) × (b ≡ false)
+      neither false false e = (refl, refl)
+      neither false true e = absurd (cc)
+      neither true b e = absurd (cc)
+
   knows : Knows (opened old) looks es
   knows = record {
     before = subst (λ k. AllBefore k old.mail.sent) (let a = opened_count old in let b = told in omega arith) folded.before;
@@ -77,6 +96,8 @@ module _ (old : Lists) (ls : List Line) (told : newest old ≡ length ls) (m : I
     sent = request_sent;
     asked = λ t k found. let there = out_there old t k found in looked_so t ∙ asked old t k m (there_old t k there.0);
     kept = λ t k o found kept. let there = out_there old t k found in reply_kept t k o there.0 there.1 kept;
+    unserved = never_came;
+    room = let a = sound.last in let b = sound.few in omega arith;
   }
 
 -- What calls answered.
@@ -170,7 +191,7 @@ module _ (line : Line) (ls : List Line) (old : Lists) (told : newest old ≡ len
   all_newest = all_count c.ended (with_mail (all_posted (newest c.mid) c.posted c.mid.mail) c.mid) ∙ mid_count line ls old told ordered.even good was.rows new c
 
   knows_past : Knows (opened old) looks past
-  knows_past = knows old ls told ordered.sound.mail was folded looks (looked line ls old told ordered good was folded new c stepped)
+  knows_past = knows old ls told ordered.sound was folded looks (looked line ls old told ordered good was folded new c stepped)
 
   history_is : with_sends all.mail.sent (newest (opened old)) (happens looks line (opened old) past) ≡ now
   history_is =

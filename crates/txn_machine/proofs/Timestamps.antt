@@ -15,7 +15,8 @@ use Rattle.txn_history.specs.Event.{Event, Has, kept_reply, same_ticket}
 use Rattle.txn_history.specs.Event.Event.{Served, Took}
 use Rattle.txn_history.specs.Event.Event.{Sent as SentEvent}
 use Rattle.txn_history.specs.Licence.{GivesTimestamp}
-use Rattle.txn_law.proofs.Kept.{last_stays, passes}
+use Rattle.txn_law.proofs.Clocks.{last_stays}
+use Rattle.txn_law.proofs.Kept.{passes}
 use Rattle.txn_law.proofs.Replies.{timestamps_rise}
 use Rattle.txn_law.specs.Run.{store_after}
 use Rattle.txn_lines.specs.declared.line.Line.{Line}

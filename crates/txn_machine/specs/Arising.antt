@@ -8,10 +8,10 @@ use Rattle.txn_kv.specs.declared.request.Request.{Request}
 use Rattle.txn_kv.specs.declared.ticket.Ticket.{Ticket}
 use Rattle.txn_history.specs.Event.{Event, Has, kept_reply}
 use Rattle.txn_history.specs.Event.Event.{Sent, Served}
-use Rattle.txn_law.specs.Run.{store_after}
+use Rattle.txn_law.specs.Run.{IsRoomy, IsUnserved, store_after}
 use Rattle.txn_lines.specs.Lines.{line_at}
 use Rattle.txn_lines.specs.declared.line.Line.{Line}
-use Rattle.txn_post.specs.Mail.{letter_at}
+use Rattle.txn_post.specs.Mail.{found_unserved, letter_at}
 use Rattle.txn_report.specs.declared.outcome.Outcome.{Outcome}
 use Rattle.txn_report.specs.declared.outcome.Outcome.TheVariants.{Ok, Err}
 use Rattle.txn_report.specs.declared.outcome.Payload.{Payload}
@@ -80,8 +80,8 @@ pub record ArisenLines {S : Type 0} (sight : S → Sight) (arises : S → List E
 
 -- What a step makes of it
 
--- What the lists say of the history up to their newest line: its store, the request that was sent with each ticket, and the reply that is
--- kept of one that is out.
+-- What the lists say of the history up to their newest line: its store, the request that was sent with each ticket, the reply that is
+-- kept of one that is out, and which can still be served.
 pub record Knows (l : Lists) (looks : Ticket → Option Request) (h : List Event) : Type 0 where
   -- no request was sent in the newest line yet
   pub before : AllBefore (newest l) l.mail.sent
@@ -89,6 +89,10 @@ pub record Knows (l : Lists) (looks : Ticket → Option Request) (h : List Event
   pub sent : (t : Ticket) (r : Request) → looks t ≡ Some r → Has h (Sent t r)
   pub asked : (t : Ticket) (place : ℕ) → found_out l t ≡ Some place → looks t ≡ Some (request_at l place)
   pub kept : (t : Ticket) (place : ℕ) (o : Reply) → found_out l t ≡ Some place → (letter_at l.mail place).kept ≡ Some o → (kept_reply h t ≡ Some o) × Has h (Served t (request_at l place) o)
+  -- what can be served was neither served nor refused
+  pub unserved : (t : Ticket) (place : ℕ) → found_unserved l.mail t ≡ Some place → IsUnserved h t
+  -- the store has room for the next timestamp
+  pub room : IsRoomy l.store
 
 -- what the newest line does, if it is done
 abbrev pub happens : (Ticket → Option Request) → Line → Lists → List Event → List Event

@@ -313,7 +313,7 @@ ran_script bytes lines items report same script lawful causes behind = record {
   doubts = told_of_doubt (reverse lines) report as_script.events stands.arisen.doubts exact;
   exact = exact;
   calm = causes_meet (λ n e c. not_calm (trace_at (reverse lines) report n) n e c) report.outcomes report.ended (reverse lines) told;
-  whole = lines_whole plans (reverse lines) report stands as_script.folded as_script.told as_script.events as_script.accounts;
+  whole = lines_whole plans (reverse lines) report stands as_script.folded as_script.told as_script.accounts;
 }
   where
     as_script : Lawful lines report

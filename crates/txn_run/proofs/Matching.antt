@@ -34,7 +34,7 @@ use Rattle.txn_machine.specs.Script.{find, history, is_done, outcome_of}
 use Rattle.txn_machine.specs.Longer.{done_more, sends_more}
 use Rattle.txn_model.specs.Commit.{commit_by}
 use Rattle.txn_model.specs.PessimisticLock.{pessimistic_lock_by}
-use Rattle.txn_model.specs.Prewrite.{prewrite_by}
+use Rattle.txn_model.specs.Prewrite.{locking_by, one_phase_by, prewrite_by}
 use Rattle.txn_model.specs.Read.{batch_get_by, get_by, scan_by}
 use Rattle.txn_model.specs.Resolve.{resolve_lock_by, scan_lock_by}
 use Rattle.txn_model.specs.Rollback.{batch_rollback_by, cleanup_by, pessimistic_rollback_by}
@@ -81,10 +81,15 @@ check_secondary_locks_kind : (refused : Option RegionErr) (st : Store) (r : Chec
 check_secondary_locks_kind (Some e) st r = (_, refl)
 check_secondary_locks_kind None st r = (_, refl)
 
-prewrite_kind : (refused : Option RegionErr) (errors : List KeyError) (st : Store) (r : PrewriteRequest) → IsOfKind (request.Prewrite r) (prewrite_by refused errors st r).reply
-prewrite_kind (Some x) errors st r = (_, refl)
-prewrite_kind None [] st r = (_, refl)
-prewrite_kind None (e ∷ es) st r = (_, refl)
+prewrite_kind : (refused : Option RegionErr) (errors : List KeyError) (passed : Option Write) (st : Store) (r : PrewriteRequest) → IsOfKind (request.Prewrite r) (prewrite_by refused errors passed st r).reply
+prewrite_kind (Some x) errors passed st r = (_, refl)
+prewrite_kind None (e ∷ es) passed st r = (_, refl)
+prewrite_kind None [] passed st r = by r.try_one_pc passed
+  where
+    by : (b : Bool) (o : Option Write) → IsOfKind (request.Prewrite r) (if b then one_phase_by o st r else locking_by st r).reply
+    by true None = (_, refl)
+    by true (Some w) = (_, refl)
+    by false o = (_, refl)
 
 commit_kind : (refused : Option RegionErr) (error : Option KeyError) (st : Store) (r : CommitRequest) → IsOfKind (request.Commit r) (commit_by refused error st r).reply
 commit_kind (Some x) error st r = (_, refl)
@@ -106,9 +111,9 @@ txn_heart_beat_kind (Some x) lock st r = (_, refl)
 txn_heart_beat_kind None None st r = (_, refl)
 txn_heart_beat_kind None (Some e) st r = (_, refl)
 
-cleanup_kind : (refused : Option RegionErr) (lock : Option Lock) (write : Option Write) (st : Store) (r : CleanupRequest) → IsOfKind (request.Cleanup r) (cleanup_by refused lock write st r).reply
-cleanup_kind (Some e) lock write st r = (_, refl)
-cleanup_kind None (Some l) write st r = (_, refl)
+cleanup_kind : (refused : Option RegionErr) (error : Option KeyError) (write : Option Write) (st : Store) (r : CleanupRequest) → IsOfKind (request.Cleanup r) (cleanup_by refused error write st r).reply
+cleanup_kind (Some e) error write st r = (_, refl)
+cleanup_kind None (Some x) write st r = (_, refl)
 cleanup_kind None None (Some x) st r = (_, refl)
 cleanup_kind None None None st r = (_, refl)
 
@@ -120,7 +125,7 @@ served_kind : (st : Store) (r : Request) → IsOfKind r (table st r).reply
 served_kind st (request.Get r) = get_kind _ st r
 served_kind st (request.BatchGet r) = batch_get_kind _ st r
 served_kind st (request.Scan r) = scan_kind _ st r
-served_kind st (request.Prewrite r) = prewrite_kind _ _ st r
+served_kind st (request.Prewrite r) = prewrite_kind _ _ _ st r
 served_kind st (request.Commit r) = commit_kind _ _ st r
 served_kind st (request.Cleanup r) = cleanup_kind _ _ _ st r
 served_kind st (request.BatchRollback r) = batch_rollback_kind _ _ st r

@@ -1,5 +1,5 @@
 -- A commit that locks no key writes nothing.
-use Rattle.std.proofs.Common.{◌≡◌, ℕ, Bool, true, false, List, [], ◌∷◌, Option, Some, None, is_some, not, refl, sym, ap, ◌∙◌, subst}
+use Rattle.std.proofs.Common.{◌≡◌, inl, inr, ℕ, Bool, true, false, List, [], ◌∷◌, Option, Some, None, is_some, not, refl, sym, ap, ◌∙◌, subst}
 use Rattle.std.specs.Prelude.{if◌then◌else◌, option_map}
 use Rattle.txn_buffer.specs.Contents.{Contents, commit_primary_or, entry_at, first_locking, is_locking_at, mutations}
 use Rattle.txn_buffer.specs.declared.entry.Entry.{Entry}
@@ -51,9 +51,13 @@ unlocked_plan contents parts is unlocked k = by (named_primary contents (mutatio
 
 -- and nothing is whole by it
 pub unlocked_never : (contents : Contents) (parts : CommitParts) (cells : List Cell) (s c : ℕ) → parts_of contents ≡ Some parts → locks_nothing contents ≡ true → IsWholeAt (plan_of parts) cells s c → ⊥
-unlocked_never contents parts cells s c is unlocked w =
-    let p = w.primary.1 in
-    none_some _ (sym (unlocked_plan contents parts is unlocked parts.primary) ∙ (w.others parts.primary p.write p.among p.start).1)
+unlocked_never contents parts cells s c is unlocked w = elim w.decided [
+  | inl p ↦ unwritten parts.primary _ (w.others parts.primary p.1.write p.1.among p.1.start).1
+  | inr spread ↦ unwritten spread.greatest.0 spread.greatest.1 spread.greatest.2
+]
   where
     none_some : (x : Content) → None ≡ Some x → ⊥
     none_some x e = cc
+
+    unwritten : (k : Key) (x : Content) → (plan_of parts).writes k ≡ Some x → ⊥
+    unwritten k x e = none_some x (sym (unlocked_plan contents parts is unlocked k) ∙ e)

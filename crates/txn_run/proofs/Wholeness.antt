@@ -7,14 +7,16 @@ use Rattle.txn_kv.specs.declared.request.Request.TheVariants.{Commit, Pessimisti
 use Rattle.txn_history.specs.Among.{IsAmong}
 use Rattle.txn_history.specs.Event.{Event, Has}
 use Rattle.txn_history.specs.Event.Event.{Sent, Took}
-use Rattle.txn_history.specs.Licence.{PrimaryCommitted, WasNamed}
+use Rattle.txn_history.specs.Licence.{PrimaryCommitted}
 use Rattle.txn_history.specs.Plan.{Content, Plan}
+use Rattle.txn_history.specs.Plan.Way.{TwoPhases}
 use Rattle.txn_history.specs.Posted.{Posted}
 use Rattle.txn_law.specs.Run.{IsOptimistic, IsRun, store_after}
-use Rattle.txn_law.specs.Whole.{FitsAnswers, IsAbsent, IsWholeAt, PrimaryServed}
+use Rattle.txn_law.specs.Whole.{FitsAnswers, HasCommit, IsAbsent, IsWholeAt, PrimaryServed}
 use Rattle.txn_law.proofs.Apart.{law_between}
 use Rattle.txn_law.proofs.Kept.{kept}
-use Rattle.txn_law.proofs.Wholes.{law_above, law_fits, law_served}
+use Rattle.txn_law.proofs.Wholes.{law_above, law_by_primary, law_fits, law_named, law_served}
+use Rattle.txn_model.specs.Cells.{cell_at}
 use Rattle.txn_model.specs.Store.{Store}
 use Rattle.txn_model.specs.declared.cell.Cell.{Cell}
 use Rattle.txn_commit.specs.Committing.{Ways}
@@ -36,7 +38,7 @@ use Rattle.txn_lines.specs.declared.line.Line.{Line}
 use Rattle.txn_lines.specs.declared.line.Line.TheVariants as lines
 use Rattle.txn_machine.specs.Accounts.{AccountsMeetLines}
 use Rattle.txn_machine.specs.Arising.{AllHold, HoldsBy}
-use Rattle.txn_machine.specs.Causes.{EventsMeetLines, Role, TellsLines, answers, ended_of, role_of}
+use Rattle.txn_machine.specs.Causes.{Role, TellsLines, answers, ended_of, role_of}
 use Rattle.txn_machine.specs.Causes.Role.{AsksTime, UsesTransaction}
 use Rattle.txn_machine.specs.Rows.{IsRow, outcome_in, role_in, stand_in}
 use Rattle.txn_machine.specs.Rows.{Row as Kind}
@@ -66,23 +68,24 @@ use Rattle.txn_clients.specs.declared.row.Row.{Row}
 use Rattle.txn_clients.specs.declared.row.Row.TheVariants as row
 use Rattle.txn_run.specs.Behind.{AreBehind}
 use Rattle.txn_run.specs.Whole.{AreWhole, BeganAt, CommitAnswered, CommitAnsweredNone, FitsCommits, IsAlone, MayBeDone, MayHaveCommitted, RollbackAnswered, account_in}
-use Rattle.txn_run.proofs.ServedOnce.{AreServedOnce, done_unrefused, history_once}
+use Rattle.txn_run.proofs.ServedOnce.{done_unrefused}
 use Rattle.txn_run.proofs.Stages.{CommitCame, IsAtEnd, Tells, stage_tells, stays_rolled}
 use Rattle.txn_run.proofs.Unlocked.{unlocked_never}
 
 -- A plan that writes nothing
 
 abbrev no_plan : Plan
-no_plan = record { primary = []; writes = λ k. None }
+no_plan = record { primary = []; ops = λ k. None; writes = λ k. None; way = TwoPhases; one_phase = false }
 
 nothing_written : (x : Content) → None ≡ Some x → ⊥
 nothing_written x e = cc
 
 -- nothing is whole by it
 never_whole : (cells : List Cell) (s c : ℕ) → IsWholeAt no_plan cells s c → ⊥
-never_whole cells s c w =
-    let p = w.primary.1 in
-    nothing_written _ (w.others [] p.write p.among p.start).1
+never_whole cells s c w = elim w.decided [
+  | inl p ↦ nothing_written _ (w.others [] p.1.write p.1.among p.1.start).1
+  | inr spread ↦ nothing_written spread.greatest.1 spread.greatest.2
+]
 
 -- it is the plan of this start, beside the others
 abbrev without : ℕ → (ℕ → Plan) → ℕ → Plan
@@ -205,7 +208,7 @@ module _ {P Q K A B D : Type 0} (w : Ways P Q K A B D) (script : List Line) (rep
     (folds : report.store ≡ store_after (history report.sent report.outcomes script))
     (plans : ℕ → Plan) (are : HavePlans plans (rows_of s))
     (apart : (i j v : ℕ) → HasStart v (row_at (rows_of s) i) → HasStart v (row_at (rows_of s) j) → i ≡ j)
-    (once : AreServedOnce (history report.sent report.outcomes script)) (undone : (n x : ℕ) → line_at script n ≡ Some (lines.Commit x) → outcome_of report.outcomes n ≢ outcomes.Done)
+    (undone : (n x : ℕ) → line_at script n ≡ Some (lines.Commit x) → outcome_of report.outcomes n ≢ outcomes.Done)
     (accounted : AccountsMeetLines script report) where
   abbrev shown : List Event
   shown = history report.sent report.outcomes script
@@ -357,6 +360,10 @@ module _ {P Q K A B D : Type 0} (w : Ways P Q K A B D) (script : List Line) (rep
     planned_so : (parts : CommitParts) → allows_data t.status ≡ false → parts_of t.contents ≡ Some parts → plans v ≡ plan_of parts
     planned_so parts closed is = ap plans (sym k.start) ∙ subst (λ (r : Row P Q K). HasPlan plans r) k.here (are k.place) closed parts is
 
+    -- what is whole in the report is so by the law
+    whole_there : (parts : CommitParts) → plans v ≡ plan_of parts → (c : ℕ) → IsWholeAt (plan_of parts) cells v c → IsWholeAt (plans v) (store_after shown).cells v c
+    whole_there parts planned c whole = subst (λ (st : Store). IsWholeAt (plans v) st.cells v c) folds (subst (λ (p : Plan). IsWholeAt p cells v c) (sym planned) whole)
+
     -- Where it is whole, some commit of it may have done that.
     module _ (parts : CommitParts) (closed : allows_data t.status ≡ false) (is : parts_of t.contents ≡ Some parts) (c : ℕ) (whole : IsWholeAt (plan_of parts) cells v c) where
       abbrev own : Posted
@@ -378,12 +385,12 @@ module _ {P Q K A B D : Type 0} (w : Ways P Q K A B D) (script : List Line) (rep
       served =
           let planned = planned_so parts closed is in
           subst (λ (p : Plan). PrimaryServed p shown v c) planned
-          (law_served plans shown shown_run v c (subst (λ (st : Store). IsWholeAt (plans v) st.cells v c) folds (subst (λ (p : Plan). IsWholeAt p cells v c) (sym planned) whole)))
+          (law_served plans shown shown_run v c (ap (λ (p : Plan). p.way) planned) (ap (λ (p : Plan). p.one_phase) planned) (whole_there parts planned c whole))
 
       -- a Commit of its primary was lost, or is not refused
       never_settled : undetermined t.commits ≡ None → ⊥
       never_settled none = elim ((knows t.work refl).all served.ticket served.request sent (record { start = served.start; primary = served.primary })) [
-        | inl refused ↦ done_unrefused plans shown shown_run once served.ticket served.request served.request served.response served.served served.fine served.says (refused.0, subst (λ es. Has es (Took served.ticket (Commit served.request) refused.0)) shows (had_seen h _ tt refused.1), refused.2)
+        | inl refused ↦ done_unrefused plans shown shown_run served.ticket served.request served.request served.response served.served served.fine served.says (refused.0, subst (λ es. Has es (Took served.ticket (Commit served.request) refused.0)) shows (had_seen h _ tt refused.1), refused.2)
         | inr left ↦ elim left [ inl lost ↦ lost settled.0 | inr out ↦ subst (λ ts. IsAmong ts served.ticket) settled.1 out ]
       ]
         where
@@ -426,8 +433,13 @@ module _ {P Q K A B D : Type 0} (w : Ways P Q K A B D) (script : List Line) (rep
 
     bound : (parts : CommitParts) → allows_data t.status ≡ false → parts_of t.contents ≡ Some parts → FitsCommits script report x v
     bound parts closed is = elim (subst (λ (p : Plan). FitsAnswers p shown cells v) planned (fits plans are v)) [
-      | inl a ↦ inl (a.0, λ n d c. let q = commits n d c in a.1 d (same_plan d q))
-      | inr b ↦ inr (b.0, record { parts = parts; wrote = sym (ap parts_of contents_are) ∙ is; whole = b.1; above = above b.0 b.3; alone = alone b.0 b.1 }, (λ n d c. let q = commits n d c in b.2 d (same_plan d q)), may_have_committed parts closed is b.0 b.1)
+      | inl a ↦ inl (a.0, λ n d c. let q = commits n d c in a.1 d (inl (same_plan d q)))
+      | inr b ↦ inr (
+        b.0,
+        record { parts = parts; wrote = sym (ap parts_of contents_are) ∙ is; whole = b.1; primary = primary b.0 b.1; above = above b.0 b.1; alone = alone b.0 b.1 },
+        (λ n d c. let q = commits n d c in b.2 d (inl (same_plan d q))),
+        may_have_committed parts closed is b.0 b.1,
+      )
     ]
       where
         planned : plans v ≡ plan_of parts
@@ -438,10 +450,17 @@ module _ {P Q K A B D : Type 0} (w : Ways P Q K A B D) (script : List Line) (rep
 
         alone : (c : ℕ) → IsWholeAt (plan_of parts) cells v c → IsAlone (plan_of parts) cells v c
         alone c whole = subst (λ (p : Plan). IsAlone p cells v c) planned (subst (λ (st : Store). IsAlone (plans v) st.cells v c) (sym folds)
-            (law_between plans shown shown_run v c optimistic (subst (λ (st : Store). IsWholeAt (plans v) st.cells v c) folds (subst (λ (p : Plan). IsWholeAt p cells v c) (sym planned) whole))))
+            (law_between plans shown shown_run v c optimistic (whole_there parts planned c whole)))
 
-        above : (c : ℕ) → WasNamed (plan_of parts) shown v c → v < c
-        above c named = law_above plans shown shown_run v c (subst (λ (p : Plan). WasNamed p shown v c) (sym planned) named)
+        above : (c : ℕ) → IsWholeAt (plan_of parts) cells v c → v < c
+        above c whole = law_above plans shown shown_run v c
+            (law_named plans shown shown_run v c (ap (λ (p : Plan). p.way) planned) (ap (λ (p : Plan). p.one_phase) planned) (whole_there parts planned c whole))
+
+        -- it commits in two phases, so its primary holds the commit
+        primary : (c : ℕ) → IsWholeAt (plan_of parts) cells v c → (x : Content) × HasCommit (cell_at cells parts.primary) v c x
+        primary c whole = subst (λ (p : Plan). (x : Content) × HasCommit (cell_at cells p.primary) v c x) planned
+            (subst (λ (st : Store). (x : Content) × HasCommit (cell_at st.cells (plans v).primary) v c x) (sym folds)
+            (law_by_primary plans shown shown_run v c (ap (λ (p : Plan). p.way) planned) (whole_there parts planned c whole)))
 
         same_plan : (d : ℕ) → IsCommittedSo {P = P} {Q = Q} {K = K} shown d (row.Begun k.client t k.waits) → PrimaryCommitted (plan_of parts) shown v d
         same_plan d q =
@@ -511,10 +530,9 @@ module _ {P Q K A B D : Type 0} (w : Ways P Q K A B D) (script : List Line) (rep
 
 -- So it is where clients that can have arisen from the lines are behind the report.
 pub lines_whole : {P Q K A B D : Type 0} (w : Ways P Q K A B D) (script : List Line) (report : Report)
-    → AreBehind w script report → FoldsLines script report → TellsLines script report → EventsMeetLines script report → AccountsMeetLines script report → AreWhole script report
-lines_whole w script report a folds told events accounted =
+    → AreBehind w script report → FoldsLines script report → TellsLines script report → AccountsMeetLines script report → AreWhole script report
+lines_whole w script report a folds told accounted =
     let now = a.arisen.now in
     are_whole w script report a.clients now.1 now.2 now.3 now.4 a.arisen.answers a.taken a.rows a.none folds.store (plans_in (rows_of a.clients)) (plans_found (rows_of a.clients) now.4.apart) now.4.apart
-    (history_once report.sent report.sleeps report.outcomes report.ended script events)
     (λ n x there done. let kind = told.kinds n (lines.Commit x) there in let no = sym (ap (answers (UsesTransaction true x)) done) ∙ kind in absurd (cc))
     accounted

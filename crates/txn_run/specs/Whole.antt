@@ -7,7 +7,7 @@ use Rattle.txn_commit.specs.declared.commit_parts.CommitParts.{CommitParts}
 use Rattle.txn_core.specs.Transaction.{locks_nothing}
 use Rattle.txn_history.specs.Among.{IsAmong}
 use Rattle.txn_history.specs.Plan.{Content, Key, Plan}
-use Rattle.txn_law.specs.Whole.{IsAbsent, IsWholeAt}
+use Rattle.txn_law.specs.Whole.{HasCommit, IsAbsent, IsWholeAt}
 use Rattle.txn_lines.specs.Lines.{line_at}
 use Rattle.txn_lines.specs.declared.begin_options.BeginOptions.{BeginOptions}
 use Rattle.txn_lines.specs.declared.line.Line.{Line}
@@ -66,6 +66,7 @@ pub record IsWhole (script : List Line) (report : Report) (x s c : ℕ) : Type 0
   pub parts : CommitParts
   pub wrote : parts_of (account_in script report x).contents ≡ Some parts
   pub whole : IsWholeAt (plan_of parts) report.store.cells s c
+  pub primary : (content : Content) × HasCommit (cell_at report.store.cells parts.primary) s c content
   pub above : s < c
   pub alone : IsAlone (plan_of parts) report.store.cells s c
 

@@ -17,7 +17,8 @@ use Rattle.txn_history.specs.Licence.{GivesTimestamp, WasGiven}
 use Rattle.txn_history.specs.Plan.{Plan}
 use Rattle.txn_history.specs.Posted.{Within}
 use Rattle.txn_law.specs.Run.{IsRun, store_after}
-use Rattle.txn_law.proofs.Kept.{kept, served_time}
+use Rattle.txn_law.proofs.Kept.{kept}
+use Rattle.txn_law.proofs.Taken.{served_time}
 use Rattle.txn_law.proofs.Replies.{timestamps_rise}
 use Rattle.txn_tso.specs.Oracle.{Oracle, answer, answered, askers_out}
 use Rattle.txn_tso.specs.declared.asker.Asker.{Asker}
@@ -34,7 +35,7 @@ rises : (plans : ℕ → Plan) (e : Event) (es : List Event) → IsRun plans (e 
 rises plans e es run t r o c h g u q p d k f =
     let now : IsRun plans (Served t (Tso r) (reply.Tso o) ∷ es) = subst (λ x. IsRun plans (x ∷ es)) h run in
     let a = (timestamps_rise (store_after es) r o c (sym now.0.1) g).0 in
-    let b = (((kept plans es run.2).means u (Tso q) (reply.Tso p) k).gives q p d refl refl f).1 in
+    let b = ((kept plans es run.2).means u (Tso q) (reply.Tso p) k d f).1 in
     omega (arith, a, b)
 
 served_same : (t u : Ticket) (r q : TsoRequest) (o p : TsoResponse) → Served t (Tso r) (reply.Tso o) ≡ Served u (Tso q) (reply.Tso p) → (t ≡ u) × (o ≡ p)

@@ -1,6 +1,6 @@
 ghost use Rattle.std.specs.Prelude.{◌≡◌, ◌↔◌, ℕ, List};
 ghost use Rattle.txn_history.specs.Event.{Event, Has, is_awaited, is_lost, is_out, is_refused, is_served, kept_reply, sent_request, taken_reply};
-ghost use Rattle.txn_history.specs.Licence.{AllAcknowledged, IsLicensed, PrimaryCommitted, PrimaryRolledBack, WasAskedFor, WasDecided, WasGiven, WasNamed};
+ghost use Rattle.txn_history.specs.Licence.{AllAcknowledged, IsLicensed, PrimaryCommitted, PrimaryRolledBack, WasAskedFor, WasDecided, WasGiven, WasNamed, WasOnePhase, WasSettled};
 ghost use Rattle.txn_history.specs.Plan.{Key, Plan};
 ghost use Rattle.txn_kv.specs.declared.request.Request.{Request};
 ghost use Rattle.txn_kv.specs.declared.ticket.Ticket.{Ticket};
@@ -31,6 +31,8 @@ pub fn what_is_seen_is_a_run()
     ensures named { (plan : Plan) (h : List Event) (s c : ℕ) → WasNamed plan h s c ↔ WasNamed plan (seen h) s c }
     ensures committed { (plan : Plan) (h : List Event) (s c : ℕ) → PrimaryCommitted plan h s c ↔ PrimaryCommitted plan (seen h) s c }
     ensures key_committed { (h : List Event) (s : ℕ) (k : Key) → KeyCommitted h s k ↔ KeyCommitted (seen h) s k }
+    ensures settled { (plan : Plan) (h : List Event) (s c : ℕ) → WasSettled plan h s c ↔ WasSettled plan (seen h) s c }
+    ensures one_phase { (h : List Event) (s c : ℕ) → WasOnePhase h s c ↔ WasOnePhase (seen h) s c }
     ensures rolled_back { (plan : Plan) (h : List Event) (s : ℕ) → PrimaryRolledBack plan h s ↔ PrimaryRolledBack plan (seen h) s }
     ensures decided { (h : List Event) (s c : ℕ) → WasDecided h s c ↔ WasDecided (seen h) s c }
     ensures licensed { (plans : ℕ → Plan) (h : List Event) (r : Request) → IsLicensed plans h r ↔ IsLicensed plans (seen h) r }

@@ -57,7 +57,10 @@ where
         out: &mut Outbox,
     ) -> Result<Progress<()>, NoMemory> {
         match self.live_client(line) {
-            None => Ok(Progress::Waiting),
+            None => {
+                drop(arrival);
+                Ok(Progress::Waiting)
+            }
             Some(client) => {
                 let pd = self.clients[client].client.pd();
                 job.tell(arrival, status, pd, now, out)

@@ -115,10 +115,14 @@ impl<S: HeartHost, H: PlanForHeartbeats> Heartbeats<S, H> {
     {
         let mut turn = Turn::new(self.alloc);
         if !self.side.is_live(line) {
+            drop(arrival);
             return Ok(turn);
         }
         match self.take_job(line) {
-            None => Ok(turn),
+            None => {
+                drop(arrival);
+                Ok(turn)
+            }
             Some(mut job) => {
                 let transaction = self.transaction_of(line);
                 let status = self.side.status(transaction);

@@ -1,4 +1,4 @@
-use Rattle.txn_trace.proofs.Seen.{acknowledged_so, asked_for_so, committed_so, decided_so, given_so, had_seen, key_committed_so, licensed_so, named_so, rolled_back_so, seen_awaited, seen_had, seen_kept, seen_lost, seen_out, seen_refused, seen_runs, seen_sent, seen_served, seen_store, seen_taken, seen_took, seen_tells, tells_seen, took_seen}
+use Rattle.txn_trace.proofs.Seen.{acknowledged_so, asked_for_so, committed_so, decided_so, given_so, had_seen, key_committed_so, licensed_so, named_so, one_phase_so, rolled_back_so, seen_awaited, seen_had, seen_kept, seen_lost, seen_out, seen_refused, seen_runs, seen_sent, seen_served, seen_store, seen_taken, seen_took, seen_tells, tells_seen, took_seen, settled_so}
 use Rattle.txn_trace.specs.Seeing.{seen}
 use Rattle.txn_trace.proofs.view.what_is_seen_is_a_run.Goals as goal
 
@@ -55,6 +55,12 @@ returns-clause-committed c plan h s n = (committed_so plan h (seen h) s n (took_
 
 pub returns-clause-key_committed : goal.returns-clause-key_committed
 returns-clause-key_committed c h s k = (key_committed_so h (seen h) s k (took_seen h), key_committed_so (seen h) h s k (seen_took h))
+
+pub returns-clause-settled : goal.returns-clause-settled
+returns-clause-settled c plan h s n = (settled_so plan h (seen h) s n (took_seen h), settled_so plan (seen h) h s n (seen_took h))
+
+pub returns-clause-one_phase : goal.returns-clause-one_phase
+returns-clause-one_phase c h s n = (one_phase_so h (seen h) s n (took_seen h), one_phase_so (seen h) h s n (seen_took h))
 
 pub returns-clause-rolled_back : goal.returns-clause-rolled_back
 returns-clause-rolled_back c plan h s = (rolled_back_so plan h (seen h) s (took_seen h), rolled_back_so plan (seen h) h s (seen_took h))
