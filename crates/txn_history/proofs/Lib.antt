@@ -6,3 +6,5 @@ pub mod Telling
 pub mod Around
 pub mod Knowing
 pub mod Foreign
+pub mod Stepping
+pub mod Arriving

@@ -17,3 +17,5 @@ pub mod Faults
 pub mod Phase
 pub mod Meaning
 pub mod Around
+pub mod Steps
+pub mod Arrivals

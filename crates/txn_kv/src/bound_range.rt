@@ -11,10 +11,19 @@ use std::alloc::Global;
 use std::ops::{Bound, Range, RangeFrom, RangeFull, RangeInclusive, RangeTo, RangeToInclusive};
 
 /// A range of keys by its two bounds.
-#[derive(Debug, PartialEq, Eq, Drop)]
+#[derive(Debug, PartialEq, Eq)]
 pub struct BoundRange {
     pub from: Bound<Key>,
     pub to: Bound<Key>,
+}
+
+/// By one call: a derived drop is opened at each exit that holds such a value, in each crate above.
+impl Drop for BoundRange {
+    fn drop(self) {
+        let BoundRange { from, to } = self;
+        drop(from);
+        drop(to);
+    }
 }
 
 impl BoundRange {
@@ -202,6 +211,6 @@ impl From<KeyRange> for BoundRange {
     ghost from_gives = { λ keys range. (range.from ≡ lower_bound keys.start_key) × (range.to ≡ upper_bound keys.end_key) × (start_of range.from ≡ keys.start_key) × (end_of range.to ≡ Some keys.end_key) };
 
     fn from(keys: KeyRange) -> BoundRange {
-        BoundRange::from((keys.start_key, keys.end_key))
+        BoundRange::from(keys.into_keys())
     }
 }

@@ -11,7 +11,7 @@ use crate::try_clone::TryClone;
 use std::alloc::Global;
 
 /// What went wrong inside the client or at a server that keeps to no protocol.
-#[derive(Debug, PartialEq, Eq, Drop)]
+#[derive(Debug, PartialEq, Eq)]
 pub enum Internal {
     /// An encoded key whose group at `at` has no marker.
     BadEnd {
@@ -51,6 +51,31 @@ pub enum Internal {
     },
 }
 
+/// By one call, here and below: a derived drop is opened at each exit that holds such a value, in each crate above.
+impl Drop for Internal {
+    fn drop(self) {
+        match self {
+            Internal::UnlikeCache { kept, read } => {
+                drop(kept);
+                drop(read);
+            }
+            Internal::BadEnd { at: _ } => {}
+            Internal::BadPadding { at: _ } => {}
+            Internal::ReversedRegion { id: _ } => {}
+            Internal::NoEpoch { id: _ } => {}
+            Internal::OracleLost => {}
+            Internal::OracleCount { asked: _, given: _ } => {}
+            Internal::OracleEmpty => {}
+            Internal::WrongReply => {}
+            Internal::Shape {
+                expected: _,
+                given: _,
+            } => {}
+            Internal::OddStatus => {}
+        }
+    }
+}
+
 impl TryClone for Internal {
     fn try_clone(&self) -> std::result::Result<Internal, NoMemory> {
         Ok(match self {
@@ -79,7 +104,7 @@ impl TryClone for Internal {
 }
 
 /// Why a call of the client ends without its answer.
-#[derive(Debug, Drop, thiserror::Error)]
+#[derive(Debug, thiserror::Error)]
 pub enum Error {
     #[error("Unimplemented feature")]
     Unimplemented,
@@ -136,6 +161,39 @@ pub enum Error {
     },
     #[error("out of memory")]
     OutOfMemory,
+}
+
+impl Drop for Error {
+    fn drop(self) {
+        match self {
+            Error::ResolveLockError(locks) => drop(locks),
+            Error::RegionError(error) => drop(error),
+            Error::UndeterminedError(inner) => drop(inner),
+            Error::KeyError(error) => drop(error),
+            Error::ExtractedErrors(errors) => drop(errors),
+            Error::MultipleKeyErrors(errors) => drop(errors),
+            Error::RegionForKeyNotFound { key } => drop(key),
+            Error::KvError { message } => drop(message),
+            Error::InternalError { what } => drop(what),
+            Error::StringError(message) => drop(message),
+            Error::PessimisticLockError {
+                inner,
+                success_keys,
+            } => {
+                drop(inner);
+                drop(success_keys);
+            }
+            Error::Unimplemented => {}
+            Error::DuplicateKeyInsertion => {}
+            Error::OperationAfterCommitError => {}
+            Error::OnePcFailure => {}
+            Error::NoPrimaryKey => {}
+            Error::GrpcAPI(_) => {}
+            Error::RegionNotFoundInResponse { region_id: _ } => {}
+            Error::LeaderNotFound { region_id: _ } => {}
+            Error::OutOfMemory => {}
+        }
+    }
 }
 
 /// What a call of the client answers.

@@ -7,9 +7,17 @@ use std::alloc::Global;
 use std::marker::Model;
 
 /// A vector that contracts see as the list of its items.
-#[derive(Debug, Drop)]
+#[derive(Debug)]
 pub struct Items<T> {
     vec: Vec<T>,
+}
+
+/// By one call: a derived drop is opened at each exit that holds such a value, in each crate above.
+impl<T: Drop> Drop for Items<T> {
+    fn drop(self) {
+        let Items { vec } = self;
+        drop(vec);
+    }
 }
 
 /// The bytes of a value.
@@ -44,7 +52,8 @@ impl<T> Items<T> {
     pub fn into_vec(self) -> Vec<T>
         ensures { result.items ≡ self }
     {
-        self.vec
+        let Items { vec } = self;
+        vec
     }
 
     pub fn as_slice(&self) -> &[T]

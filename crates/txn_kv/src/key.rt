@@ -19,9 +19,16 @@ use std::marker::Model;
 use std::ops::Bound;
 
 /// A key of the store: a list of bytes, ordered as such lists are.
-#[derive(Drop)]
 pub struct Key {
     bytes: Vec<u8>,
+}
+
+/// By one call: a derived drop is opened at each exit that holds such a value, in each crate above.
+impl Drop for Key {
+    fn drop(self) {
+        let Key { bytes } = self;
+        drop(bytes);
+    }
 }
 
 impl Model for Key {
@@ -73,7 +80,7 @@ impl Key {
     pub(crate) fn into_next(self) -> Result<Key, NoMemory>
         ensures { IfOk result (λ key. key ≡ next_key self) }
     {
-        let mut bytes = self.bytes;
+        let Key { mut bytes } = self;
         bytes.push(0)?;
         Ok(Key { bytes })
     }
@@ -83,7 +90,7 @@ impl Key {
         ensures bound { result ≡ lower_bound self }
         ensures key { start_of result ≡ self }
     {
-        let mut bytes = self.bytes;
+        let Key { mut bytes } = self;
         if bytes.as_slice().last() == Some(&0) {
             bytes.pop();
             Bound::Excluded(Key { bytes })
@@ -97,13 +104,20 @@ impl Key {
         ensures bound { result ≡ upper_bound self }
         ensures key { end_of result ≡ Some self }
     {
-        let mut bytes = self.bytes;
+        let Key { mut bytes } = self;
         if bytes.as_slice().last() == Some(&0) {
             bytes.pop();
             Bound::Included(Key { bytes })
         } else {
             Bound::Excluded(Key { bytes })
         }
+    }
+
+    fn into_bytes(self) -> Vec<u8>
+        ensures { result.items ≡ self }
+    {
+        let Key { bytes } = self;
+        bytes
     }
 
     /// The same key, in new memory.
@@ -128,7 +142,7 @@ impl From<Key> for Vec<u8> {
     ghost from_gives = { λ key vec. vec.items ≡ key };
 
     fn from(key: Key) -> Vec<u8> {
-        key.bytes
+        key.into_bytes()
     }
 }
 

@@ -12,8 +12,17 @@ use crate::try_clone::TryClone;
 use std::fmt;
 
 /// A key and its value.
-#[derive(PartialEq, Eq, Drop)]
+#[derive(PartialEq, Eq)]
 pub struct KvPair(pub Key, pub Value);
+
+/// By one call: a derived drop is opened at each exit that holds such a value, in each crate above.
+impl Drop for KvPair {
+    fn drop(self) {
+        let KvPair(key, value) = self;
+        drop(key);
+        drop(value);
+    }
+}
 
 impl KvPair {
     pub fn new(key: Key, value: Value) -> KvPair
@@ -38,13 +47,24 @@ impl KvPair {
     pub fn into_key(self) -> Key
         ensures { result ≡ self.0 }
     {
-        self.0
+        let KvPair(key, _value) = self;
+        key
     }
 
     pub fn into_value(self) -> Value
         ensures { result ≡ self.1 }
     {
-        self.1
+        let KvPair(_key, value) = self;
+        value
+    }
+
+    /// A pair is taken apart by its own methods alone.
+    pub fn into_parts(self) -> (Key, Value)
+        ensures key { result.0 ≡ self.0 }
+        ensures value { result.1 ≡ self.1 }
+    {
+        let KvPair(key, value) = self;
+        (key, value)
     }
 
     /// The key, for writing.
@@ -96,7 +116,7 @@ impl From<KvPair> for (Key, Value) {
     ghost from_gives = { λ pair parts. (parts.0 ≡ pair.0) × (parts.1 ≡ pair.1) };
 
     fn from(pair: KvPair) -> (Key, Value) {
-        (pair.0, pair.1)
+        pair.into_parts()
     }
 }
 
@@ -104,7 +124,7 @@ impl From<KvPair> for Key {
     ghost from_gives = { λ pair key. key ≡ pair.0 };
 
     fn from(pair: KvPair) -> Key {
-        pair.0
+        pair.into_key()
     }
 }
 
@@ -113,7 +133,8 @@ impl From<PbPair> for KvPair {
     ghost from_gives = { λ message pair. (pair.0 ≡ message.key) × (pair.1 ≡ message.value) };
 
     fn from(message: PbPair) -> KvPair {
-        KvPair(message.key, message.value)
+        let (_error, key, value) = message.into_parts();
+        KvPair(key, value)
     }
 }
 
@@ -123,10 +144,11 @@ impl From<KvPair> for PbPair {
     ghost from_gives = { λ pair message. (message.error ≡ None) × (message.key ≡ pair.0) × (message.value ≡ pair.1) };
 
     fn from(pair: KvPair) -> PbPair {
+        let (key, value) = pair.into_parts();
         PbPair {
             error: None,
-            key: pair.0,
-            value: pair.1,
+            key,
+            value,
         }
     }
 }

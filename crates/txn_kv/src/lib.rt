@@ -1,6 +1,7 @@
 //! Keys, values, timestamps, errors and the messages of the transaction client and its servers.
 #![tactic(auto)]
 
+pub mod arrival;
 pub mod backoff;
 pub mod bound_range;
 pub mod codec;
@@ -29,6 +30,7 @@ pub mod ticket;
 pub mod timestamp;
 pub mod try_clone;
 
+pub use arrival::Arrival;
 pub use backoff::Backoff;
 pub use backoff::BackoffKind;
 pub use backoff::DEFAULT_REGION_BACKOFF;

@@ -1,4 +1,4 @@
-ghost use Rattle.std.specs.Prelude.{◌≡◌};
+ghost use Rattle.std.specs.Prelude.{◌≡◌, ◌≢◌, MatchResult};
 
 use crate::items::{Items, Value};
 use crate::key::Key;
@@ -21,12 +21,42 @@ pub struct RegionEpoch {
 }
 
 /// A range of keys that moves as one. An empty end is unbounded.
-#[derive(Debug, PartialEq, Eq, Drop)]
+#[derive(Debug, PartialEq, Eq)]
 pub struct Region {
     pub id: u64,
     pub start_key: Key,
     pub end_key: Key,
     pub region_epoch: Option<RegionEpoch>,
+}
+
+/// By one call, here and below: a derived drop is opened at each exit that holds such a value, in each crate above.
+impl Drop for Region {
+    fn drop(self) {
+        let Region {
+            id: _,
+            start_key,
+            end_key,
+            region_epoch: _,
+        } = self;
+        drop(start_key);
+        drop(end_key);
+    }
+}
+
+impl Region {
+    /// The start and the end.
+    pub fn into_keys(self) -> (Key, Key)
+        ensures start { result.0 ≡ self.start_key }
+        ensures end { result.1 ≡ self.end_key }
+    {
+        let Region {
+            id: _,
+            start_key,
+            end_key,
+            region_epoch: _,
+        } = self;
+        (start_key, end_key)
+    }
 }
 
 impl TryClone for Region {
@@ -48,10 +78,18 @@ pub enum StoreState {
     Tombstone,
 }
 
-#[derive(Debug, PartialEq, Eq, Drop)]
+#[derive(Debug, PartialEq, Eq)]
 pub struct StoreLabel {
     pub key: Text,
     pub value: Text,
+}
+
+impl Drop for StoreLabel {
+    fn drop(self) {
+        let StoreLabel { key, value } = self;
+        drop(key);
+        drop(value);
+    }
 }
 
 impl TryClone for StoreLabel {
@@ -64,12 +102,25 @@ impl TryClone for StoreLabel {
 }
 
 /// What the placement driver knows of a store.
-#[derive(Debug, PartialEq, Eq, Drop)]
+#[derive(Debug, PartialEq, Eq)]
 pub struct StoreMeta {
     pub id: u64,
     pub address: Text,
     pub state: StoreState,
     pub labels: Items<StoreLabel>,
+}
+
+impl Drop for StoreMeta {
+    fn drop(self) {
+        let StoreMeta {
+            id: _,
+            address,
+            state: _,
+            labels,
+        } = self;
+        drop(address);
+        drop(labels);
+    }
 }
 
 impl TryClone for StoreMeta {
@@ -101,10 +152,29 @@ pub struct Context {
 }
 
 /// A range of keys, the end left out. An empty end is unbounded.
-#[derive(Debug, PartialEq, Eq, Drop)]
+#[derive(Debug, PartialEq, Eq)]
 pub struct KeyRange {
     pub start_key: Key,
     pub end_key: Key,
+}
+
+impl Drop for KeyRange {
+    fn drop(self) {
+        let KeyRange { start_key, end_key } = self;
+        drop(start_key);
+        drop(end_key);
+    }
+}
+
+impl KeyRange {
+    /// The start and the end.
+    pub fn into_keys(self) -> (Key, Key)
+        ensures start { result.0 ≡ self.start_key }
+        ensures end { result.1 ≡ self.end_key }
+    {
+        let KeyRange { start_key, end_key } = self;
+        (start_key, end_key)
+    }
 }
 
 impl TryClone for KeyRange {
@@ -149,12 +219,47 @@ pub enum Assertion {
     NotExist,
 }
 
-#[derive(Debug, PartialEq, Eq, Drop)]
+#[derive(Debug, PartialEq, Eq)]
 pub struct Mutation {
     pub op: Op,
     pub key: Key,
     pub value: Value,
     pub assertion: Assertion,
+}
+
+impl Drop for Mutation {
+    fn drop(self) {
+        let Mutation {
+            op: _,
+            key,
+            value,
+            assertion: _,
+        } = self;
+        drop(key);
+        drop(value);
+    }
+}
+
+impl Mutation {
+    /// The key and the value.
+    pub fn into_parts(self) -> (Key, Value)
+        ensures key { result.0 ≡ self.key }
+        ensures value { result.1 ≡ self.value }
+    {
+        let Mutation {
+            op: _,
+            key,
+            value,
+            assertion: _,
+        } = self;
+        (key, value)
+    }
+
+    pub fn into_key(self) -> Key
+        ensures { result ≡ self.key }
+    {
+        self.into_parts().0
+    }
 }
 
 impl TryClone for Mutation {
@@ -177,7 +282,7 @@ impl AsRef<Key> for Mutation {
 }
 
 /// A lock, as a reply shows it. `lock_version` is the start of its transaction, `lock_ttl` is in milliseconds.
-#[derive(Debug, PartialEq, Eq, Drop)]
+#[derive(Debug, PartialEq, Eq)]
 pub struct LockInfo {
     pub key: Key,
     pub primary_lock: Key,
@@ -188,6 +293,25 @@ pub struct LockInfo {
     pub use_async_commit: bool,
     pub min_commit_ts: u64,
     pub secondaries: Items<Key>,
+}
+
+impl Drop for LockInfo {
+    fn drop(self) {
+        let LockInfo {
+            key,
+            primary_lock,
+            lock_version: _,
+            lock_ttl: _,
+            lock_type: _,
+            lock_for_update_ts: _,
+            use_async_commit: _,
+            min_commit_ts: _,
+            secondaries,
+        } = self;
+        drop(key);
+        drop(primary_lock);
+        drop(secondaries);
+    }
 }
 
 impl TryClone for LockInfo {
@@ -207,11 +331,32 @@ impl TryClone for LockInfo {
 }
 
 /// A key and its value, or why the key could not be read.
-#[derive(Debug, PartialEq, Eq, Drop)]
+#[derive(Debug, PartialEq, Eq)]
 pub struct PbPair {
     pub error: Option<KeyError>,
     pub key: Key,
     pub value: Value,
+}
+
+impl Drop for PbPair {
+    fn drop(self) {
+        let PbPair { error, key, value } = self;
+        drop(error);
+        drop(key);
+        drop(value);
+    }
+}
+
+impl PbPair {
+    /// The error, the key and the value.
+    pub fn into_parts(self) -> (Option<KeyError>, Key, Value)
+        ensures error { result.0 ≡ self.error }
+        ensures key { result.1 ≡ self.key }
+        ensures value { result.2 ≡ self.value }
+    {
+        let PbPair { error, key, value } = self;
+        (error, key, value)
+    }
 }
 
 impl TryClone for PbPair {
@@ -237,7 +382,7 @@ pub enum Action {
 }
 
 /// Why a store refuses a request at a key.
-#[derive(Debug, PartialEq, Eq, Drop)]
+#[derive(Debug, PartialEq, Eq)]
 pub enum KeyError {
     Locked(LockInfo),
     Abort { key: Key, start: u64, commit: u64 },
@@ -248,6 +393,42 @@ pub enum KeyError {
     CommitTsExpired { key: Key, bound: u64 },
     TxnNotFound { key: Key, start: u64 },
     PrimaryMismatch(LockInfo),
+}
+
+impl Drop for KeyError {
+    fn drop(self) {
+        match self {
+            KeyError::Locked(lock) => drop(lock),
+            KeyError::Abort {
+                key,
+                start: _,
+                commit: _,
+            } => drop(key),
+            KeyError::WriteConflict {
+                key,
+                start: _,
+                commit: _,
+            } => drop(key),
+            KeyError::AlreadyExist { key } => drop(key),
+            KeyError::PessimisticLockNotFound { key } => drop(key),
+            KeyError::TxnLockNotFound { key } => drop(key),
+            KeyError::CommitTsExpired { key, bound: _ } => drop(key),
+            KeyError::TxnNotFound { key, start: _ } => drop(key),
+            KeyError::PrimaryMismatch(lock) => drop(lock),
+        }
+    }
+}
+
+impl KeyError {
+    /// The lock in the way, or the error where it is another.
+    pub fn into_locked(self) -> Result<LockInfo, KeyError>
+        ensures { MatchResult result (λ lock. self ≡ KeyError.Locked lock) (λ other. (other ≡ self) × ((lock : LockInfo) → self ≢ KeyError.Locked lock)) }
+    {
+        match self {
+            KeyError::Locked(lock) => Ok(lock),
+            other => Err(other),
+        }
+    }
 }
 
 impl TryClone for KeyError {
@@ -287,7 +468,7 @@ impl TryClone for KeyError {
 }
 
 /// Why a store refuses a request for its region.
-#[derive(Debug, PartialEq, Eq, Drop)]
+#[derive(Debug, PartialEq, Eq)]
 pub enum RegionErr {
     NotLeader {
         region_id: u64,
@@ -305,6 +486,25 @@ pub enum RegionErr {
     RaftEntryTooLarge,
     MaxTimestampNotSynced,
     Unknown,
+}
+
+impl Drop for RegionErr {
+    fn drop(self) {
+        match self {
+            RegionErr::EpochNotMatch { current_regions } => drop(current_regions),
+            RegionErr::NotLeader {
+                region_id: _,
+                leader: _,
+            } => {}
+            RegionErr::RegionNotFound { region_id: _ } => {}
+            RegionErr::StoreNotMatch => {}
+            RegionErr::StaleCommand => {}
+            RegionErr::ServerIsBusy => {}
+            RegionErr::RaftEntryTooLarge => {}
+            RegionErr::MaxTimestampNotSynced => {}
+            RegionErr::Unknown => {}
+        }
+    }
 }
 
 impl TryClone for RegionErr {

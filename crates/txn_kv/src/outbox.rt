@@ -28,13 +28,26 @@ pub enum Errand {
 
 /// Where the calls of a line, or of its heartbeat, put what they want done, the oldest first. `next` is the number of the next
 /// request or sleep, and `next_ask` that of the next ask.
-#[derive(Drop)]
 pub struct Outbox {
     pub line: u64,
     pub beat: bool,
     pub next: u64,
     pub next_ask: u64,
     pub sends: Vec<Errand>,
+}
+
+/// By one call: a derived drop is opened at each exit that holds such a value, in each crate above.
+impl Drop for Outbox {
+    fn drop(self) {
+        let Outbox {
+            line: _,
+            beat: _,
+            next: _,
+            next_ask: _,
+            sends,
+        } = self;
+        drop(sends);
+    }
 }
 
 impl Model for Outbox {

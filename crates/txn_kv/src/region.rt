@@ -20,10 +20,18 @@ pub struct RegionVerId {
 }
 
 /// A region and its leader, with keys that are not encoded.
-#[derive(Debug, PartialEq, Eq, Drop)]
+#[derive(Debug, PartialEq, Eq)]
 pub struct RegionWithLeader {
     pub region: Region,
     pub leader: Option<Peer>,
+}
+
+/// By one call: a derived drop is opened at each exit that holds such a value, in each crate above.
+impl Drop for RegionWithLeader {
+    fn drop(self) {
+        let RegionWithLeader { region, leader: _ } = self;
+        drop(region);
+    }
 }
 
 impl RegionWithLeader {
@@ -32,6 +40,14 @@ impl RegionWithLeader {
         ensures leader { result.leader ≡ leader }
     {
         RegionWithLeader { region, leader }
+    }
+
+    pub fn into_parts(self) -> (Region, Option<Peer>)
+        ensures region { result.0 ≡ self.region }
+        ensures leader { result.1 ≡ self.leader }
+    {
+        let RegionWithLeader { region, leader } = self;
+        (region, leader)
     }
 
     /// Whether the key lies in the region. An empty end is unbounded.

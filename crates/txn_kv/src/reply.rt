@@ -7,7 +7,7 @@ use crate::text::Text;
 use crate::timestamp::Timestamp;
 use crate::try_clone::TryClone;
 
-#[derive(Debug, PartialEq, Eq, Drop)]
+#[derive(Debug, PartialEq, Eq)]
 pub struct GetResponse {
     pub region_error: Option<RegionErr>,
     pub error: Option<KeyError>,
@@ -15,7 +15,37 @@ pub struct GetResponse {
     pub not_found: bool,
 }
 
+/// By one call, here and below: a derived drop is opened at each exit that holds such a value, in each crate above.
+impl Drop for GetResponse {
+    fn drop(self) {
+        let GetResponse {
+            region_error,
+            error,
+            value,
+            not_found: _,
+        } = self;
+        drop(region_error);
+        drop(error);
+        drop(value);
+    }
+}
+
 impl GetResponse {
+    /// A reply is taken apart by its own methods alone, as those below.
+    pub fn into_value(self) -> Value
+        ensures { result ≡ self.value }
+    {
+        let GetResponse {
+            region_error,
+            error,
+            value,
+            not_found: _,
+        } = self;
+        drop(region_error);
+        drop(error);
+        value
+    }
+
     /// The same reply, in new memory.
     pub fn try_clone(&self) -> Result<GetResponse, NoMemory>
         ensures { IfOk result (λ copy. copy ≡ self.now) }
@@ -30,14 +60,40 @@ impl GetResponse {
 }
 
 /// A pair for each asked key that has a value, or whose lock stands in the way.
-#[derive(Debug, PartialEq, Eq, Drop)]
+#[derive(Debug, PartialEq, Eq)]
 pub struct BatchGetResponse {
     pub region_error: Option<RegionErr>,
     pub error: Option<KeyError>,
     pub pairs: Items<PbPair>,
 }
 
+impl Drop for BatchGetResponse {
+    fn drop(self) {
+        let BatchGetResponse {
+            region_error,
+            error,
+            pairs,
+        } = self;
+        drop(region_error);
+        drop(error);
+        drop(pairs);
+    }
+}
+
 impl BatchGetResponse {
+    pub fn into_pairs(self) -> Items<PbPair>
+        ensures { result ≡ self.pairs }
+    {
+        let BatchGetResponse {
+            region_error,
+            error,
+            pairs,
+        } = self;
+        drop(region_error);
+        drop(error);
+        pairs
+    }
+
     /// The same reply, in new memory.
     pub fn try_clone(&self) -> Result<BatchGetResponse, NoMemory>
         ensures { IfOk result (λ copy. copy ≡ self.now) }
@@ -50,14 +106,40 @@ impl BatchGetResponse {
     }
 }
 
-#[derive(Debug, PartialEq, Eq, Drop)]
+#[derive(Debug, PartialEq, Eq)]
 pub struct ScanResponse {
     pub region_error: Option<RegionErr>,
     pub error: Option<KeyError>,
     pub pairs: Items<PbPair>,
 }
 
+impl Drop for ScanResponse {
+    fn drop(self) {
+        let ScanResponse {
+            region_error,
+            error,
+            pairs,
+        } = self;
+        drop(region_error);
+        drop(error);
+        drop(pairs);
+    }
+}
+
 impl ScanResponse {
+    pub fn into_pairs(self) -> Items<PbPair>
+        ensures { result ≡ self.pairs }
+    {
+        let ScanResponse {
+            region_error,
+            error,
+            pairs,
+        } = self;
+        drop(region_error);
+        drop(error);
+        pairs
+    }
+
     /// The same reply, in new memory.
     pub fn try_clone(&self) -> Result<ScanResponse, NoMemory>
         ensures { IfOk result (λ copy. copy ≡ self.now) }
@@ -70,12 +152,25 @@ impl ScanResponse {
     }
 }
 
-#[derive(Debug, PartialEq, Eq, Drop)]
+#[derive(Debug, PartialEq, Eq)]
 pub struct PrewriteResponse {
     pub region_error: Option<RegionErr>,
     pub errors: Items<KeyError>,
     pub min_commit_ts: u64,
     pub one_pc_commit_ts: u64,
+}
+
+impl Drop for PrewriteResponse {
+    fn drop(self) {
+        let PrewriteResponse {
+            region_error,
+            errors,
+            min_commit_ts: _,
+            one_pc_commit_ts: _,
+        } = self;
+        drop(region_error);
+        drop(errors);
+    }
 }
 
 impl PrewriteResponse {
@@ -92,11 +187,23 @@ impl PrewriteResponse {
     }
 }
 
-#[derive(Debug, PartialEq, Eq, Drop)]
+#[derive(Debug, PartialEq, Eq)]
 pub struct CommitResponse {
     pub region_error: Option<RegionErr>,
     pub error: Option<KeyError>,
     pub commit_version: u64,
+}
+
+impl Drop for CommitResponse {
+    fn drop(self) {
+        let CommitResponse {
+            region_error,
+            error,
+            commit_version: _,
+        } = self;
+        drop(region_error);
+        drop(error);
+    }
 }
 
 impl CommitResponse {
@@ -113,11 +220,23 @@ impl CommitResponse {
 }
 
 /// `commit_version` is 0 where the start is rolled back.
-#[derive(Debug, PartialEq, Eq, Drop)]
+#[derive(Debug, PartialEq, Eq)]
 pub struct CleanupResponse {
     pub region_error: Option<RegionErr>,
     pub error: Option<KeyError>,
     pub commit_version: u64,
+}
+
+impl Drop for CleanupResponse {
+    fn drop(self) {
+        let CleanupResponse {
+            region_error,
+            error,
+            commit_version: _,
+        } = self;
+        drop(region_error);
+        drop(error);
+    }
 }
 
 impl CleanupResponse {
@@ -133,10 +252,21 @@ impl CleanupResponse {
     }
 }
 
-#[derive(Debug, PartialEq, Eq, Drop)]
+#[derive(Debug, PartialEq, Eq)]
 pub struct BatchRollbackResponse {
     pub region_error: Option<RegionErr>,
     pub error: Option<KeyError>,
+}
+
+impl Drop for BatchRollbackResponse {
+    fn drop(self) {
+        let BatchRollbackResponse {
+            region_error,
+            error,
+        } = self;
+        drop(region_error);
+        drop(error);
+    }
 }
 
 impl BatchRollbackResponse {
@@ -151,10 +281,21 @@ impl BatchRollbackResponse {
     }
 }
 
-#[derive(Debug, PartialEq, Eq, Drop)]
+#[derive(Debug, PartialEq, Eq)]
 pub struct PessimisticRollbackResponse {
     pub region_error: Option<RegionErr>,
     pub errors: Items<KeyError>,
+}
+
+impl Drop for PessimisticRollbackResponse {
+    fn drop(self) {
+        let PessimisticRollbackResponse {
+            region_error,
+            errors,
+        } = self;
+        drop(region_error);
+        drop(errors);
+    }
 }
 
 impl PessimisticRollbackResponse {
@@ -170,7 +311,7 @@ impl PessimisticRollbackResponse {
 }
 
 /// Values and flags stand in the order of the mutations, where they were asked for.
-#[derive(Debug, PartialEq, Eq, Drop)]
+#[derive(Debug, PartialEq, Eq)]
 pub struct PessimisticLockResponse {
     pub region_error: Option<RegionErr>,
     pub errors: Items<KeyError>,
@@ -178,7 +319,37 @@ pub struct PessimisticLockResponse {
     pub not_founds: Items<bool>,
 }
 
+impl Drop for PessimisticLockResponse {
+    fn drop(self) {
+        let PessimisticLockResponse {
+            region_error,
+            errors,
+            values,
+            not_founds,
+        } = self;
+        drop(region_error);
+        drop(errors);
+        drop(values);
+        drop(not_founds);
+    }
+}
+
 impl PessimisticLockResponse {
+    pub fn into_values(self) -> (Items<Value>, Items<bool>)
+        ensures values { result.0 ≡ self.values }
+        ensures not_founds { result.1 ≡ self.not_founds }
+    {
+        let PessimisticLockResponse {
+            region_error,
+            errors,
+            values,
+            not_founds,
+        } = self;
+        drop(region_error);
+        drop(errors);
+        (values, not_founds)
+    }
+
     /// The same reply, in new memory.
     pub fn try_clone(&self) -> Result<PessimisticLockResponse, NoMemory>
         ensures { IfOk result (λ copy. copy ≡ self.now) }
@@ -192,10 +363,21 @@ impl PessimisticLockResponse {
     }
 }
 
-#[derive(Debug, PartialEq, Eq, Drop)]
+#[derive(Debug, PartialEq, Eq)]
 pub struct ResolveLockResponse {
     pub region_error: Option<RegionErr>,
     pub error: Option<KeyError>,
+}
+
+impl Drop for ResolveLockResponse {
+    fn drop(self) {
+        let ResolveLockResponse {
+            region_error,
+            error,
+        } = self;
+        drop(region_error);
+        drop(error);
+    }
 }
 
 impl ResolveLockResponse {
@@ -210,14 +392,40 @@ impl ResolveLockResponse {
     }
 }
 
-#[derive(Debug, PartialEq, Eq, Drop)]
+#[derive(Debug, PartialEq, Eq)]
 pub struct ScanLockResponse {
     pub region_error: Option<RegionErr>,
     pub error: Option<KeyError>,
     pub locks: Items<LockInfo>,
 }
 
+impl Drop for ScanLockResponse {
+    fn drop(self) {
+        let ScanLockResponse {
+            region_error,
+            error,
+            locks,
+        } = self;
+        drop(region_error);
+        drop(error);
+        drop(locks);
+    }
+}
+
 impl ScanLockResponse {
+    pub fn into_locks(self) -> Items<LockInfo>
+        ensures { result ≡ self.locks }
+    {
+        let ScanLockResponse {
+            region_error,
+            error,
+            locks,
+        } = self;
+        drop(region_error);
+        drop(error);
+        locks
+    }
+
     /// The same reply, in new memory.
     pub fn try_clone(&self) -> Result<ScanLockResponse, NoMemory>
         ensures { IfOk result (λ copy. copy ≡ self.now) }
@@ -230,11 +438,23 @@ impl ScanLockResponse {
     }
 }
 
-#[derive(Debug, PartialEq, Eq, Drop)]
+#[derive(Debug, PartialEq, Eq)]
 pub struct TxnHeartBeatResponse {
     pub region_error: Option<RegionErr>,
     pub error: Option<KeyError>,
     pub lock_ttl: u64,
+}
+
+impl Drop for TxnHeartBeatResponse {
+    fn drop(self) {
+        let TxnHeartBeatResponse {
+            region_error,
+            error,
+            lock_ttl: _,
+        } = self;
+        drop(region_error);
+        drop(error);
+    }
 }
 
 impl TxnHeartBeatResponse {
@@ -250,7 +470,7 @@ impl TxnHeartBeatResponse {
     }
 }
 
-#[derive(Debug, PartialEq, Eq, Drop)]
+#[derive(Debug, PartialEq, Eq)]
 pub struct CheckTxnStatusResponse {
     pub region_error: Option<RegionErr>,
     pub error: Option<KeyError>,
@@ -260,7 +480,39 @@ pub struct CheckTxnStatusResponse {
     pub lock_info: Option<LockInfo>,
 }
 
+impl Drop for CheckTxnStatusResponse {
+    fn drop(self) {
+        let CheckTxnStatusResponse {
+            region_error,
+            error,
+            lock_ttl: _,
+            commit_version: _,
+            action: _,
+            lock_info,
+        } = self;
+        drop(region_error);
+        drop(error);
+        drop(lock_info);
+    }
+}
+
 impl CheckTxnStatusResponse {
+    pub fn into_lock_info(self) -> Option<LockInfo>
+        ensures { result ≡ self.lock_info }
+    {
+        let CheckTxnStatusResponse {
+            region_error,
+            error,
+            lock_ttl: _,
+            commit_version: _,
+            action: _,
+            lock_info,
+        } = self;
+        drop(region_error);
+        drop(error);
+        lock_info
+    }
+
     /// The same reply, in new memory.
     pub fn try_clone(&self) -> Result<CheckTxnStatusResponse, NoMemory>
         ensures { IfOk result (λ copy. copy ≡ self.now) }
@@ -277,13 +529,28 @@ impl CheckTxnStatusResponse {
 }
 
 /// `missing` is true where the start is rolled back on some key.
-#[derive(Debug, PartialEq, Eq, Drop)]
+#[derive(Debug, PartialEq, Eq)]
 pub struct CheckSecondaryLocksResponse {
     pub region_error: Option<RegionErr>,
     pub error: Option<KeyError>,
     pub locks: Items<LockInfo>,
     pub commit_ts: u64,
     pub missing: bool,
+}
+
+impl Drop for CheckSecondaryLocksResponse {
+    fn drop(self) {
+        let CheckSecondaryLocksResponse {
+            region_error,
+            error,
+            locks,
+            commit_ts: _,
+            missing: _,
+        } = self;
+        drop(region_error);
+        drop(error);
+        drop(locks);
+    }
 }
 
 impl CheckSecondaryLocksResponse {
@@ -302,10 +569,21 @@ impl CheckSecondaryLocksResponse {
 }
 
 /// `error` is empty where the range is gone.
-#[derive(Debug, PartialEq, Eq, Drop)]
+#[derive(Debug, PartialEq, Eq)]
 pub struct UnsafeDestroyRangeResponse {
     pub region_error: Option<RegionErr>,
     pub error: Text,
+}
+
+impl Drop for UnsafeDestroyRangeResponse {
+    fn drop(self) {
+        let UnsafeDestroyRangeResponse {
+            region_error,
+            error,
+        } = self;
+        drop(region_error);
+        drop(error);
+    }
 }
 
 impl UnsafeDestroyRangeResponse {
@@ -321,13 +599,28 @@ impl UnsafeDestroyRangeResponse {
 }
 
 /// The asked region, if there is one, with encoded keys.
-#[derive(Debug, PartialEq, Eq, Drop)]
+#[derive(Debug, PartialEq, Eq)]
 pub struct GetRegionResponse {
     pub region: Option<Region>,
     pub leader: Option<Peer>,
 }
 
+impl Drop for GetRegionResponse {
+    fn drop(self) {
+        let GetRegionResponse { region, leader: _ } = self;
+        drop(region);
+    }
+}
+
 impl GetRegionResponse {
+    pub fn into_parts(self) -> (Option<Region>, Option<Peer>)
+        ensures region { result.0 ≡ self.region }
+        ensures leader { result.1 ≡ self.leader }
+    {
+        let GetRegionResponse { region, leader } = self;
+        (region, leader)
+    }
+
     /// The same reply, in new memory.
     pub fn try_clone(&self) -> Result<GetRegionResponse, NoMemory>
         ensures { IfOk result (λ copy. copy ≡ self.now) }
@@ -339,12 +632,26 @@ impl GetRegionResponse {
     }
 }
 
-#[derive(Debug, PartialEq, Eq, Drop)]
+#[derive(Debug, PartialEq, Eq)]
 pub struct GetStoreResponse {
     pub store: StoreMeta,
 }
 
+impl Drop for GetStoreResponse {
+    fn drop(self) {
+        let GetStoreResponse { store } = self;
+        drop(store);
+    }
+}
+
 impl GetStoreResponse {
+    pub fn into_store(self) -> StoreMeta
+        ensures { result ≡ self.store }
+    {
+        let GetStoreResponse { store } = self;
+        store
+    }
+
     /// The same reply, in new memory.
     pub fn try_clone(&self) -> Result<GetStoreResponse, NoMemory>
         ensures { IfOk result (λ copy. copy ≡ self.now) }
@@ -355,12 +662,26 @@ impl GetStoreResponse {
     }
 }
 
-#[derive(Debug, PartialEq, Eq, Drop)]
+#[derive(Debug, PartialEq, Eq)]
 pub struct GetAllStoresResponse {
     pub stores: Items<StoreMeta>,
 }
 
+impl Drop for GetAllStoresResponse {
+    fn drop(self) {
+        let GetAllStoresResponse { stores } = self;
+        drop(stores);
+    }
+}
+
 impl GetAllStoresResponse {
+    pub fn into_stores(self) -> Items<StoreMeta>
+        ensures { result ≡ self.stores }
+    {
+        let GetAllStoresResponse { stores } = self;
+        stores
+    }
+
     /// The same reply, in new memory.
     pub fn try_clone(&self) -> Result<GetAllStoresResponse, NoMemory>
         ensures { IfOk result (λ copy. copy ≡ self.now) }

@@ -8,11 +8,23 @@ use crate::message::{ApiVersion, Context, Mutation, TxnInfo};
 use crate::try_clone::TryClone;
 
 /// Asks for the value of a key at a version.
-#[derive(Debug, PartialEq, Eq, Drop)]
+#[derive(Debug, PartialEq, Eq)]
 pub struct GetRequest {
     pub context: Option<Context>,
     pub key: Key,
     pub version: u64,
+}
+
+/// By one call, here and below: a derived drop is opened at each exit that holds such a value, in each crate above.
+impl Drop for GetRequest {
+    fn drop(self) {
+        let GetRequest {
+            context: _,
+            key,
+            version: _,
+        } = self;
+        drop(key);
+    }
 }
 
 impl GetRequest {
@@ -29,11 +41,22 @@ impl GetRequest {
 }
 
 /// Asks for the values of keys at a version.
-#[derive(Debug, PartialEq, Eq, Drop)]
+#[derive(Debug, PartialEq, Eq)]
 pub struct BatchGetRequest {
     pub context: Option<Context>,
     pub keys: Items<Key>,
     pub version: u64,
+}
+
+impl Drop for BatchGetRequest {
+    fn drop(self) {
+        let BatchGetRequest {
+            context: _,
+            keys,
+            version: _,
+        } = self;
+        drop(keys);
+    }
 }
 
 impl BatchGetRequest {
@@ -51,7 +74,7 @@ impl BatchGetRequest {
 
 /// Asks for the first `limit` pairs of a range at a version. Where `reverse`, the range is below `start_key` and from `end_key`
 /// on, and the pairs descend.
-#[derive(Debug, PartialEq, Eq, Drop)]
+#[derive(Debug, PartialEq, Eq)]
 pub struct ScanRequest {
     pub context: Option<Context>,
     pub start_key: Key,
@@ -60,6 +83,22 @@ pub struct ScanRequest {
     pub key_only: bool,
     pub version: u64,
     pub reverse: bool,
+}
+
+impl Drop for ScanRequest {
+    fn drop(self) {
+        let ScanRequest {
+            context: _,
+            start_key,
+            end_key,
+            limit: _,
+            key_only: _,
+            version: _,
+            reverse: _,
+        } = self;
+        drop(start_key);
+        drop(end_key);
+    }
 }
 
 impl ScanRequest {
@@ -80,7 +119,7 @@ impl ScanRequest {
 }
 
 /// Locks each mutated key, if none conflicts. `lock_ttl` is in milliseconds.
-#[derive(Debug, PartialEq, Eq, Drop)]
+#[derive(Debug, PartialEq, Eq)]
 pub struct PrewriteRequest {
     pub context: Option<Context>,
     pub mutations: Items<Mutation>,
@@ -93,6 +132,28 @@ pub struct PrewriteRequest {
     pub use_async_commit: bool,
     pub try_one_pc: bool,
     pub secondaries: Items<Key>,
+}
+
+impl Drop for PrewriteRequest {
+    fn drop(self) {
+        let PrewriteRequest {
+            context: _,
+            mutations,
+            primary_lock,
+            start_version: _,
+            lock_ttl: _,
+            txn_size: _,
+            for_update_ts: _,
+            is_pessimistic_lock,
+            use_async_commit: _,
+            try_one_pc: _,
+            secondaries,
+        } = self;
+        drop(mutations);
+        drop(primary_lock);
+        drop(is_pessimistic_lock);
+        drop(secondaries);
+    }
 }
 
 impl PrewriteRequest {
@@ -117,12 +178,24 @@ impl PrewriteRequest {
 }
 
 /// Makes commits of the locks that a start holds on these keys.
-#[derive(Debug, PartialEq, Eq, Drop)]
+#[derive(Debug, PartialEq, Eq)]
 pub struct CommitRequest {
     pub context: Option<Context>,
     pub keys: Items<Key>,
     pub start_version: u64,
     pub commit_version: u64,
+}
+
+impl Drop for CommitRequest {
+    fn drop(self) {
+        let CommitRequest {
+            context: _,
+            keys,
+            start_version: _,
+            commit_version: _,
+        } = self;
+        drop(keys);
+    }
 }
 
 impl CommitRequest {
@@ -140,11 +213,22 @@ impl CommitRequest {
 }
 
 /// Rolls a start back at its primary, unless it is committed there.
-#[derive(Debug, PartialEq, Eq, Drop)]
+#[derive(Debug, PartialEq, Eq)]
 pub struct CleanupRequest {
     pub context: Option<Context>,
     pub key: Key,
     pub start_version: u64,
+}
+
+impl Drop for CleanupRequest {
+    fn drop(self) {
+        let CleanupRequest {
+            context: _,
+            key,
+            start_version: _,
+        } = self;
+        drop(key);
+    }
 }
 
 impl CleanupRequest {
@@ -161,11 +245,22 @@ impl CleanupRequest {
 }
 
 /// Rolls a start back on these keys.
-#[derive(Debug, PartialEq, Eq, Drop)]
+#[derive(Debug, PartialEq, Eq)]
 pub struct BatchRollbackRequest {
     pub context: Option<Context>,
     pub keys: Items<Key>,
     pub start_version: u64,
+}
+
+impl Drop for BatchRollbackRequest {
+    fn drop(self) {
+        let BatchRollbackRequest {
+            context: _,
+            keys,
+            start_version: _,
+        } = self;
+        drop(keys);
+    }
 }
 
 impl BatchRollbackRequest {
@@ -182,12 +277,24 @@ impl BatchRollbackRequest {
 }
 
 /// Takes away the pessimistic locks that a start holds on these keys.
-#[derive(Debug, PartialEq, Eq, Drop)]
+#[derive(Debug, PartialEq, Eq)]
 pub struct PessimisticRollbackRequest {
     pub context: Option<Context>,
     pub keys: Items<Key>,
     pub start_version: u64,
     pub for_update_ts: u64,
+}
+
+impl Drop for PessimisticRollbackRequest {
+    fn drop(self) {
+        let PessimisticRollbackRequest {
+            context: _,
+            keys,
+            start_version: _,
+            for_update_ts: _,
+        } = self;
+        drop(keys);
+    }
 }
 
 impl PessimisticRollbackRequest {
@@ -205,7 +312,7 @@ impl PessimisticRollbackRequest {
 }
 
 /// Locks keys before they are written, if none has a commit above `for_update_ts`.
-#[derive(Debug, PartialEq, Eq, Drop)]
+#[derive(Debug, PartialEq, Eq)]
 pub struct PessimisticLockRequest {
     pub context: Option<Context>,
     pub mutations: Items<Mutation>,
@@ -217,6 +324,25 @@ pub struct PessimisticLockRequest {
     pub wait_timeout: i64,
     pub return_values: bool,
     pub min_commit_ts: u64,
+}
+
+impl Drop for PessimisticLockRequest {
+    fn drop(self) {
+        let PessimisticLockRequest {
+            context: _,
+            mutations,
+            primary_lock,
+            start_version: _,
+            lock_ttl: _,
+            for_update_ts: _,
+            is_first_lock: _,
+            wait_timeout: _,
+            return_values: _,
+            min_commit_ts: _,
+        } = self;
+        drop(mutations);
+        drop(primary_lock);
+    }
 }
 
 impl PessimisticLockRequest {
@@ -241,12 +367,24 @@ impl PessimisticLockRequest {
 
 /// Settles the locks of starts in a region: those of `txn_infos`, or the one of `start_version` where that list is empty.
 /// A start with a commit version of 0 is rolled back.
-#[derive(Debug, PartialEq, Eq, Drop)]
+#[derive(Debug, PartialEq, Eq)]
 pub struct ResolveLockRequest {
     pub context: Option<Context>,
     pub start_version: u64,
     pub commit_version: u64,
     pub txn_infos: Items<TxnInfo>,
+}
+
+impl Drop for ResolveLockRequest {
+    fn drop(self) {
+        let ResolveLockRequest {
+            context: _,
+            start_version: _,
+            commit_version: _,
+            txn_infos,
+        } = self;
+        drop(txn_infos);
+    }
 }
 
 impl ResolveLockRequest {
@@ -264,13 +402,27 @@ impl ResolveLockRequest {
 }
 
 /// Asks for the first `limit` locks of a range with a start of at most `max_version`.
-#[derive(Debug, PartialEq, Eq, Drop)]
+#[derive(Debug, PartialEq, Eq)]
 pub struct ScanLockRequest {
     pub context: Option<Context>,
     pub start_key: Key,
     pub end_key: Key,
     pub max_version: u64,
     pub limit: u32,
+}
+
+impl Drop for ScanLockRequest {
+    fn drop(self) {
+        let ScanLockRequest {
+            context: _,
+            start_key,
+            end_key,
+            max_version: _,
+            limit: _,
+        } = self;
+        drop(start_key);
+        drop(end_key);
+    }
 }
 
 impl ScanLockRequest {
@@ -289,12 +441,24 @@ impl ScanLockRequest {
 }
 
 /// Lengthens the life of a primary lock.
-#[derive(Debug, PartialEq, Eq, Drop)]
+#[derive(Debug, PartialEq, Eq)]
 pub struct TxnHeartBeatRequest {
     pub context: Option<Context>,
     pub primary_lock: Key,
     pub start_version: u64,
     pub advise_lock_ttl: u64,
+}
+
+impl Drop for TxnHeartBeatRequest {
+    fn drop(self) {
+        let TxnHeartBeatRequest {
+            context: _,
+            primary_lock,
+            start_version: _,
+            advise_lock_ttl: _,
+        } = self;
+        drop(primary_lock);
+    }
 }
 
 impl TxnHeartBeatRequest {
@@ -313,7 +477,7 @@ impl TxnHeartBeatRequest {
 
 /// Asks at the primary what became of the transaction that started at `lock_ts`, and rolls it back where its lock is
 /// expired.
-#[derive(Debug, PartialEq, Eq, Drop)]
+#[derive(Debug, PartialEq, Eq)]
 pub struct CheckTxnStatusRequest {
     pub context: Option<Context>,
     pub primary_key: Key,
@@ -323,6 +487,22 @@ pub struct CheckTxnStatusRequest {
     pub rollback_if_not_exist: bool,
     pub force_sync_commit: bool,
     pub resolving_pessimistic_lock: bool,
+}
+
+impl Drop for CheckTxnStatusRequest {
+    fn drop(self) {
+        let CheckTxnStatusRequest {
+            context: _,
+            primary_key,
+            lock_ts: _,
+            caller_start_ts: _,
+            current_ts: _,
+            rollback_if_not_exist: _,
+            force_sync_commit: _,
+            resolving_pessimistic_lock: _,
+        } = self;
+        drop(primary_key);
+    }
 }
 
 impl CheckTxnStatusRequest {
@@ -344,11 +524,22 @@ impl CheckTxnStatusRequest {
 }
 
 /// Asks for the locks that a start holds on these keys, and rolls it back where it holds none.
-#[derive(Debug, PartialEq, Eq, Drop)]
+#[derive(Debug, PartialEq, Eq)]
 pub struct CheckSecondaryLocksRequest {
     pub context: Option<Context>,
     pub keys: Items<Key>,
     pub start_version: u64,
+}
+
+impl Drop for CheckSecondaryLocksRequest {
+    fn drop(self) {
+        let CheckSecondaryLocksRequest {
+            context: _,
+            keys,
+            start_version: _,
+        } = self;
+        drop(keys);
+    }
 }
 
 impl CheckSecondaryLocksRequest {
@@ -365,11 +556,23 @@ impl CheckSecondaryLocksRequest {
 }
 
 /// Takes away all that the store keeps of a range.
-#[derive(Debug, PartialEq, Eq, Drop)]
+#[derive(Debug, PartialEq, Eq)]
 pub struct UnsafeDestroyRangeRequest {
     pub context: Option<Context>,
     pub start_key: Key,
     pub end_key: Key,
+}
+
+impl Drop for UnsafeDestroyRangeRequest {
+    fn drop(self) {
+        let UnsafeDestroyRangeRequest {
+            context: _,
+            start_key,
+            end_key,
+        } = self;
+        drop(start_key);
+        drop(end_key);
+    }
 }
 
 impl UnsafeDestroyRangeRequest {
@@ -386,9 +589,16 @@ impl UnsafeDestroyRangeRequest {
 }
 
 /// Asks for the region that holds an encoded key.
-#[derive(Debug, PartialEq, Eq, Drop)]
+#[derive(Debug, PartialEq, Eq)]
 pub struct GetRegionRequest {
     pub region_key: Key,
+}
+
+impl Drop for GetRegionRequest {
+    fn drop(self) {
+        let GetRegionRequest { region_key } = self;
+        drop(region_key);
+    }
 }
 
 impl GetRegionRequest {

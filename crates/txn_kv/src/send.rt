@@ -1,5 +1,6 @@
 //! Each type of this crate can move between threads.
 
+use crate::arrival::Arrival;
 use crate::backoff::Backoff;
 use crate::bound_range::BoundRange;
 use crate::errors::{Error, Internal};
@@ -57,6 +58,7 @@ pub fn messages_can_move() {
 
 /// What a call hands out, and what it is answered, does.
 pub fn progress_can_move() {
+    can_move::<Arrival>();
     can_move::<Errand>();
     can_move::<Outbox>();
     can_move::<PdQuery>();

@@ -6,9 +6,17 @@ use crate::memory::NoMemory;
 use std::marker::Model;
 
 /// A string that contracts see as its bytes.
-#[derive(Debug, Drop)]
+#[derive(Debug)]
 pub struct Text {
     string: String,
+}
+
+/// By one call: a derived drop is opened at each exit that holds such a value, in each crate above.
+impl Drop for Text {
+    fn drop(self) {
+        let Text { string } = self;
+        drop(string);
+    }
 }
 
 impl Model for Text {
@@ -37,7 +45,8 @@ impl Text {
     pub fn into_string(self) -> String
         ensures { string_bytes result ≡ self }
     {
-        self.string
+        let Text { string } = self;
+        string
     }
 
     /// The same text, in new memory.
