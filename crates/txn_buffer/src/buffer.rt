@@ -192,8 +192,11 @@ impl Buffer {
         ensures why { IfErr result (λ error. MatchOption (mutated self.old mutation) (error ≡ Unimplemented) (λ _. error ≡ OutOfMemory)) }
     {
         match mutation.op {
-            Op::Put => Ok(self.put(mutation.key, mutation.value)?),
-            Op::Del => Ok(self.delete(mutation.key)?),
+            Op::Put => {
+                let (key, value) = mutation.into_parts();
+                Ok(self.put(key, value)?)
+            }
+            Op::Del => Ok(self.delete(mutation.into_key())?),
             _ => Err(Error::Unimplemented),
         }
     }
@@ -355,7 +358,7 @@ impl Buffer {
         ensures undo { unfilled_all self.new keys.new.items ≡ unfilled_all self.old keys.old.items }
         ensures why { IfErr result (IsUnlike (known_at self.old pair.0) (Some pair.1)) }
     {
-        let KvPair(key, value) = pair;
+        let (key, value) = pair.into_parts();
         if !self.missing(&key) {
             return self.check(&key, Some(value));
         }

@@ -48,7 +48,8 @@ fn by_key(alloc: Global, pairs: Vec<KvPair>) -> Result<BTreeMap<Key, Value>, NoM
 {
     let mut map = BTreeMap::new(alloc);
     for pair in pairs {
-        map.insert(pair.0, pair.1)?;
+        let (key, value) = pair.into_parts();
+        map.insert(key, value)?;
     }
     Ok(map)
 }

@@ -11,12 +11,20 @@ use txn_kv::{
     ScanResponse, UnsafeDestroyRangeResponse,
 };
 
+/// The key and the value of a pair.
+fn paired(pair: PbPair) -> KvPair
+    ensures { result ≡ pair_of pair }
+{
+    let (_error, key, value) = pair.into_parts();
+    KvPair(key, value)
+}
+
 /// Adds pairs, without what a store says of an error at their keys.
 fn add_pairs(pairs: &mut Vec<KvPair>, more: Items<PbPair>) -> std::result::Result<(), NoMemory>
     ensures { OnOk result (pairs.new.items ≡ pairs.old.items ++ map pair_of more) }
 {
     for pair in more.into_vec() {
-        pairs.push(KvPair(pair.key, pair.value))?;
+        pairs.push(paired(pair))?;
     }
     Ok(())
 }
@@ -29,7 +37,7 @@ fn join_gets(
 {
     let mut pairs = Vec::new(alloc);
     for reply in replies {
-        add_pairs(&mut pairs, reply.pairs)?;
+        add_pairs(&mut pairs, reply.into_pairs())?;
     }
     Ok(pairs)
 }
@@ -42,7 +50,7 @@ fn join_scans(
 {
     let mut pairs = Vec::new(alloc);
     for reply in replies {
-        add_pairs(&mut pairs, reply.pairs)?;
+        add_pairs(&mut pairs, reply.into_pairs())?;
     }
     Ok(pairs)
 }
@@ -55,7 +63,7 @@ fn join_locks(
 {
     let mut locks = Vec::new(alloc);
     for reply in replies {
-        locks.append(&mut reply.locks.into_vec())?;
+        locks.append(&mut reply.into_locks().into_vec())?;
     }
     Ok(locks)
 }

@@ -42,7 +42,7 @@ fn add_keys(keys: &mut Vec<Key>, mutations: Vec<Mutation>) -> std::result::Resul
     ensures { OnOk result (keys.new.items ≡ keys.old.items ++ map (λ mutation. mutation.key) mutations.items) }
 {
     for mutation in mutations {
-        keys.push(mutation.key)?;
+        keys.push(mutation.into_key())?;
     }
     Ok(())
 }
@@ -87,7 +87,7 @@ fn add_nonempty(
             return Ok(());
         };
         if !value.as_slice().is_empty() {
-            pairs.push(KvPair(mutation.key, value))?;
+            pairs.push(KvPair(mutation.into_key(), value))?;
         }
     }
     Ok(())
@@ -112,7 +112,7 @@ fn add_unflagged(
             return Ok(());
         };
         if !not_found {
-            pairs.push(KvPair(mutation.key, value))?;
+            pairs.push(KvPair(mutation.into_key(), value))?;
         }
     }
     Ok(())
@@ -138,8 +138,9 @@ fn add_found(pairs: &mut Vec<KvPair>, shard: Locked) -> std::result::Result<(), 
 {
     let ResponseWithShard(reply, mutations) = shard;
     let mutations = mutations.into_vec();
-    let values = reply.values.into_vec();
-    let not_founds = reply.not_founds.into_vec();
+    let (values, not_founds) = reply.into_values();
+    let values = values.into_vec();
+    let not_founds = not_founds.into_vec();
     if not_founds.is_empty() {
         add_nonempty(pairs, mutations, values)
     } else {

@@ -263,9 +263,8 @@ fn first_errors<T: HasKeyErrors>(
     ensures left { OnOk result (first_seen T.key_errors_in items.old ≡ [] → items.new ≡ items.old) }
 {
     for item in items.iter_mut() {
-        let found = item.key_errors(alloc)?;
-        if found.is_some() {
-            return Ok(found);
+        if let Some(errors) = item.key_errors(alloc)? {
+            return Ok(Some(errors));
         }
     }
     Ok(None)

@@ -42,7 +42,7 @@ impl Process<GetResponse> for DefaultProcessor {
         if reply.not_found {
             Ok(None)
         } else {
-            Ok(Some(reply.value))
+            Ok(Some(reply.into_value()))
         }
     }
 }

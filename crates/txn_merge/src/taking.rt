@@ -15,10 +15,7 @@ use txn_kv::{Error, Items, KeyError, LockInfo, NoMemory, PbPair, Text};
 fn into_lock(error: KeyError) -> Result<LockInfo, KeyError>
     ensures { MatchResult result (λ lock. lock_in error ≡ Some lock) (λ other. (other ≡ error) × (lock_in error ≡ None)) }
 {
-    match error {
-        KeyError::Locked(lock) => Ok(lock),
-        other => Err(other),
-    }
+    error.into_locked()
 }
 
 /// Takes an error out where it is that of a lock.

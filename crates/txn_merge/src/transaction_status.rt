@@ -28,14 +28,14 @@ impl TransactionStatus {
     pub fn from_response(response: CheckTxnStatusResponse) -> Result<TransactionStatus>
         ensures { result ≡ status_in response }
     {
-        let kind = TransactionStatusKind::from_parts(
-            response.commit_version,
-            response.lock_ttl,
-            response.lock_info,
-        )?;
+        let commit_version = response.commit_version;
+        let lock_ttl = response.lock_ttl;
+        let action = response.action;
+        let lock_info = response.into_lock_info();
+        let kind = TransactionStatusKind::from_parts(commit_version, lock_ttl, lock_info)?;
         Ok(TransactionStatus {
             kind,
-            action: response.action,
+            action,
             is_expired: false,
         })
     }

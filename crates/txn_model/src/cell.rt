@@ -48,7 +48,7 @@ impl Kind {
 }
 
 /// A lock of the transaction with this start, with its time to live in milliseconds.
-#[derive(Debug, PartialEq, Eq, Drop)]
+#[derive(Debug, PartialEq, Eq)]
 pub struct Lock {
     pub start: u64,
     pub primary: Key,
@@ -59,6 +59,26 @@ pub struct Lock {
     pub min_commit: u64,
     pub use_async: bool,
     pub secondaries: Items<Key>,
+}
+
+/// By one call, here and below: a derived drop is opened at each exit that holds such a value, in each crate above.
+impl Drop for Lock {
+    fn drop(self) {
+        let Lock {
+            start: _,
+            primary,
+            kind: _,
+            value,
+            ttl: _,
+            for_update: _,
+            min_commit: _,
+            use_async: _,
+            secondaries,
+        } = self;
+        drop(primary);
+        drop(value);
+        drop(secondaries);
+    }
 }
 
 /// The same keys, in new memory.
@@ -125,12 +145,27 @@ pub struct Write {
 }
 
 /// What the store keeps of a key: commits in the order of `commit`, and the starts that were rolled back, ascending.
-#[derive(Debug, PartialEq, Eq, Drop)]
+#[derive(Debug, PartialEq, Eq)]
 pub struct Cell {
     pub key: Key,
     pub lock: Option<Lock>,
     pub commits: Items<Write>,
     pub rolled: Items<u64>,
+}
+
+impl Drop for Cell {
+    fn drop(self) {
+        let Cell {
+            key,
+            lock,
+            commits,
+            rolled,
+        } = self;
+        drop(key);
+        drop(lock);
+        drop(commits);
+        drop(rolled);
+    }
 }
 
 impl Cell {

@@ -8,7 +8,7 @@ use crate::cells::{insert_within, search};
 use txn_kv::{Items, Key};
 
 /// What becomes of a lock.
-#[derive(Debug, Drop)]
+#[derive(Drop)]
 pub enum LockChange {
     Stays,
     Goes,
@@ -17,7 +17,7 @@ pub enum LockChange {
 
 /// A change that is ready to be made at a key: what becomes of the lock, and the starts that are rolled back, where
 /// they are others.
-#[derive(Debug, Drop)]
+#[derive(Drop)]
 pub struct Change {
     pub key: Key,
     pub lock: LockChange,
@@ -58,17 +58,19 @@ pub fn make_change(cells: &mut Vec<Cell>, change: Change)
     ensures len { vec_len cells.new ≤ vec_len cells.old + 1 }
     ensures capacity { vec_capacity cells.old ≤ vec_capacity cells.new }
 {
-    match search(cells.as_slice(), &change.key) {
+    let Change { key, lock, rolled } = change;
+    match search(cells.as_slice(), &key) {
         Ok(at) => {
+            drop(key);
             let cell = &mut cells[at];
-            make(cell, change.lock, change.rolled);
+            make(cell, lock, rolled);
             if cell.is_empty() {
                 drop(cells.remove(at));
             }
         }
         Err(at) => {
-            let mut cell = Cell::empty(*cells.allocator(), change.key);
-            make(&mut cell, change.lock, change.rolled);
+            let mut cell = Cell::empty(*cells.allocator(), key);
+            make(&mut cell, lock, rolled);
             if !cell.is_empty() {
                 insert_within(cells, at, cell);
             }

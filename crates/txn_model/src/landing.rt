@@ -38,8 +38,8 @@ fn back(alloc: Global, cells: &[Cell], key: &Key) -> Result<Change, NoMemory>
     ensures { IfOk result (λ change. change ≡ back key.now (cell_at cells.now key.now)) }
 {
     Ok(Change {
-        lock: lock_back(alloc, cells, key)?,
         key: key.try_clone()?,
+        lock: lock_back(alloc, cells, key)?,
         rolled: None,
     })
 }

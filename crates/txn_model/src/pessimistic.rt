@@ -98,7 +98,7 @@ fn error_among(
     match find(cells, &mutation.key) {
         Some(cell) => pessimistic_error(alloc, request, mutation, cell),
         None => {
-            let empty = Cell::empty(alloc, mutation.key.try_clone()?);
+            let empty = Cell::empty(alloc, Key::empty(alloc));
             pessimistic_error(alloc, request, mutation, &empty)
         }
     }
@@ -241,12 +241,13 @@ fn locking(
     requires { AreInOrder cells.now }
     ensures { IfOk result (λ change. change ≡ locking request.now key.now (cell_at cells.now key.now)) }
 {
+    let key_copy = key.try_clone()?;
     let lock = match find(cells, key) {
         Some(cell) => raised_lock(alloc, request, &cell.lock)?,
         None => raised_lock(alloc, request, &None)?,
     };
     Ok(Change {
-        key: key.try_clone()?,
+        key: key_copy,
         lock: LockChange::Becomes(lock),
         rolled: None,
     })

@@ -14,7 +14,7 @@ use std::alloc::Global;
 use txn_kv::{Items, Key, KeyError, Mutation, NoMemory, Op, PrewriteRequest, Value};
 
 /// A lock that is ready to be set at a key.
-#[derive(Debug, Drop)]
+#[derive(Drop)]
 pub struct Placing {
     pub key: Key,
     pub lock: Lock,
@@ -231,8 +231,8 @@ fn placing_of(
 {
     match kind_of(mutation.op) {
         Some(kind) => {
-            let lock = lock_of(alloc, request, bound, &mutation.value, kind)?;
             let key = mutation.key.try_clone()?;
+            let lock = lock_of(alloc, request, bound, &mutation.value, kind)?;
             Ok(Some(Placing { key, lock }))
         }
         None => Ok(None),
@@ -265,16 +265,18 @@ fn set_lock(cells: &mut Vec<Cell>, placing: Placing)
     ensures len { vec_len cells.new ≤ vec_len cells.old + 1 }
     ensures capacity { vec_capacity cells.old ≤ vec_capacity cells.new }
 {
-    match search(cells.as_slice(), &placing.key) {
+    let Placing { key, lock } = placing;
+    match search(cells.as_slice(), &key) {
         Ok(at) => {
+            drop(key);
             let cell = &mut cells[at];
-            if is_missing(placing.lock.start, cell) {
-                cell.lock = Some(placing.lock);
+            if is_missing(lock.start, cell) {
+                cell.lock = Some(lock);
             }
         }
         Err(at) => {
-            let mut cell = Cell::empty(*cells.allocator(), placing.key);
-            cell.lock = Some(placing.lock);
+            let mut cell = Cell::empty(*cells.allocator(), key);
+            cell.lock = Some(lock);
             insert_within(cells, at, cell);
         }
     }

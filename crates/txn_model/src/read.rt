@@ -36,9 +36,10 @@ pub fn value_at(commits: &[Write], at: u64) -> Result<Option<Value>, NoMemory>
 fn locked_pair(alloc: Global, key: &Key, lock: &Lock) -> Result<Option<PbPair>, NoMemory>
     ensures { IfOk result (λ pair. pair ≡ Some (record { error = Some (Locked (lock_info key.now lock.now)); key = key.now; value = [] })) }
 {
+    let key_copy = key.try_clone()?;
     Ok(Some(PbPair {
         error: Some(KeyError::Locked(lock.info(alloc, key)?)),
-        key: key.try_clone()?,
+        key: key_copy,
         value: Items::new(alloc),
     }))
 }
@@ -95,12 +96,15 @@ pub fn told_value(alloc: Global, pair: Option<PbPair>) -> GetResponse
     ensures { result ≡ told_value pair }
 {
     match pair {
-        Some(pair) => GetResponse {
-            region_error: None,
-            error: pair.error,
-            value: pair.value,
-            not_found: false,
-        },
+        Some(pair) => {
+            let (error, _key, value) = pair.into_parts();
+            GetResponse {
+                region_error: None,
+                error,
+                value,
+                not_found: false,
+            }
+        }
         None => GetResponse {
             region_error: None,
             error: None,

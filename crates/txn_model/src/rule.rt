@@ -15,7 +15,7 @@ use std::alloc::Global;
 use txn_kv::{Items, Key, NoMemory};
 
 /// What becomes of the cell of a key. Each but the last is of a start, the first of the numbers.
-#[derive(Clone, Copy, Debug)]
+#[derive(Clone, Copy)]
 pub enum Rule {
     /// It is rolled back.
     RollBack(u64),
@@ -128,7 +128,7 @@ fn change_at(alloc: Global, cells: &[Cell], rule: Rule, key: &Key) -> Result<Cha
     match find(cells, key) {
         Some(cell) => change_of(alloc, rule, key, cell),
         None => {
-            let empty = Cell::empty(alloc, key.try_clone()?);
+            let empty = Cell::empty(alloc, Key::empty(alloc));
             change_of(alloc, rule, key, &empty)
         }
     }

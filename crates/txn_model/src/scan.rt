@@ -18,9 +18,10 @@ fn shown(alloc: Global, key_only: bool, pair: PbPair) -> PbPair
     ensures { result ≡ shown key_only pair }
 {
     if key_only {
+        let (error, key, _value) = pair.into_parts();
         PbPair {
-            error: pair.error,
-            key: pair.key,
+            error,
+            key,
             value: Items::new(alloc),
         }
     } else {

@@ -1,4 +1,4 @@
-ghost use Rattle.std.specs.Prelude.{◌≡◌, ◌<◌, ◌^◌, IfOk, OnOk, OnErr};
+ghost use Rattle.std.specs.Prelude.{◌≡◌, ◌++◌, ◌∷◌, [], ◌<◌, ◌^◌, IfOk, OnOk, OnErr};
 ghost use Rattle.txn_model.specs.Cells.{AreKept};
 ghost use Rattle.txn_model.specs.Orderly.{AreOrderly};
 ghost use Rattle.txn_model.specs.Regions.{at_clock, can_lead, can_split, lead, split};
@@ -27,7 +27,7 @@ use txn_kv::{
 
 /// The store of a run: cells in the order of their keys, regions and stores, the clock in milliseconds, and the last
 /// timestamp of the oracle.
-#[derive(Debug, Drop)]
+#[derive(Debug)]
 pub struct ModelStore {
     cells: Vec<Cell>,
     regions: Vec<StoredRegion>,
@@ -36,6 +36,24 @@ pub struct ModelStore {
     last: u64,
     max_read: u64,
     safepoint: u64,
+}
+
+/// By one call: a derived drop is opened at each exit that holds such a value, in each crate above.
+impl Drop for ModelStore {
+    fn drop(self) {
+        let ModelStore {
+            cells,
+            regions,
+            stores,
+            clock: _,
+            last: _,
+            max_read: _,
+            safepoint: _,
+        } = self;
+        drop(cells);
+        drop(regions);
+        drop(stores);
+    }
 }
 
 impl Model for ModelStore {
@@ -58,16 +76,18 @@ impl Model for ModelStore {
     ghost invariant = { λ s. IsInOrder s.cells.items s.regions.items s.clock };
 }
 
-/// A store that is up.
-fn store_up(alloc: Global, id: u64, name: &str) -> Result<StoreMeta, NoMemory>
-    ensures { IfOk result (λ store. store ≡ store_up id name.now) }
+/// One store more, which is up.
+fn add_store(stores: &mut Vec<StoreMeta>, id: u64, name: &str) -> Result<(), NoMemory>
+    ensures { OnOk result (stores.new.items ≡ stores.old.items ++ store_up id name.now ∷ []) }
 {
-    Ok(StoreMeta {
+    let alloc = *stores.allocator();
+    stores.push(StoreMeta {
         id,
         address: Text::from_string(String::from_str(alloc, name)?),
         state: StoreState::Up,
         labels: Items::new(alloc),
-    })
+    })?;
+    Ok(())
 }
 
 impl ModelStore {
@@ -87,9 +107,9 @@ impl ModelStore {
             leader: 1,
         })?;
         let mut stores = Vec::new(alloc);
-        stores.push(store_up(alloc, 1, "s1")?)?;
-        stores.push(store_up(alloc, 2, "s2")?)?;
-        stores.push(store_up(alloc, 3, "s3")?)?;
+        add_store(&mut stores, 1, "s1")?;
+        add_store(&mut stores, 2, "s2")?;
+        add_store(&mut stores, 3, "s3")?;
         Ok(ModelStore {
             cells: Vec::new(alloc),
             regions,

@@ -14,7 +14,7 @@ use txn_kv::{Items, Key, NoMemory};
 
 /// A lock that became a commit: the place of its cell, the place of the commit, which has the lock's value, and the
 /// lock without it.
-#[derive(Debug, Drop)]
+#[derive(Drop)]
 pub struct Unlocked {
     pub at: usize,
     pub place: usize,
@@ -22,7 +22,7 @@ pub struct Unlocked {
 }
 
 /// A lock of a start at a key that is to become a commit at this timestamp.
-#[derive(Debug, Drop)]
+#[derive(Drop)]
 pub struct Commitment {
     pub key: Key,
     pub start: u64,

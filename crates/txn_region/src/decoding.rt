@@ -44,13 +44,10 @@ pub(crate) fn decode_region(
     if !enable_mvcc_codec {
         return Ok(region);
     }
-    let RegionWithLeader { region, leader } = region;
-    let Region {
-        id,
-        start_key,
-        end_key,
-        region_epoch,
-    } = region;
+    let (region, leader) = region.into_parts();
+    let id = region.id;
+    let region_epoch = region.region_epoch;
+    let (start_key, end_key) = region.into_keys();
     let region = Region {
         id,
         start_key: decode_key(start_key)?,

@@ -124,7 +124,7 @@ fn cut_last(
         ranges.push(range)?;
         return Ok(());
     }
-    let KeyRange { start_key, end_key } = range;
+    let (start_key, end_key) = range.into_keys();
     group.push(KeyRange {
         start_key,
         end_key: region.end_key().try_clone()?,

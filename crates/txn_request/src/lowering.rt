@@ -8,9 +8,9 @@ use crate::requests;
 use std::alloc::Global;
 use txn_kv::{
     BatchGetRequest, BatchRollbackRequest, BoundRange, CommitRequest, GetRequest, Items, Key,
-    KeyRange, Mutation, NoMemory, Op, PessimisticLock, PessimisticLockRequest,
-    PessimisticRollbackRequest, PrewriteRequest, ScanLockRequest, ScanRequest, Timestamp,
-    TimestampExt, TxnHeartBeatRequest, UnsafeDestroyRangeRequest, Value,
+    Mutation, NoMemory, Op, PessimisticLock, PessimisticLockRequest, PessimisticRollbackRequest,
+    PrewriteRequest, ScanLockRequest, ScanRequest, Timestamp, TimestampExt, TxnHeartBeatRequest,
+    UnsafeDestroyRangeRequest, Value,
 };
 
 pub fn new_get_request(key: Key, timestamp: Timestamp) -> GetRequest
@@ -40,7 +40,7 @@ pub fn new_scan_request(
     ensures { IfOk result (λ request. request ≡ record default_scan { start_key = if reverse then end_key_of range else start_key_of range; end_key = if reverse then start_key_of range else end_key_of range; limit = limit; key_only = key_only; version = version_of timestamp; reverse = reverse }) }
 {
     let version = timestamp.version();
-    let KeyRange { start_key, end_key } = range.into_key_range(alloc)?;
+    let (start_key, end_key) = range.into_key_range(alloc)?.into_keys();
     Ok(requests::new_scan_request(start_key, end_key, version, limit, key_only, reverse))
 }
 
@@ -178,7 +178,7 @@ pub fn new_scan_lock_request(
     ensures { IfOk result (λ request. request ≡ record default_scan_lock { start_key = start_key_of range; end_key = end_key_of range; max_version = version_of safepoint; limit = limit }) }
 {
     let max_version = safepoint.version();
-    let KeyRange { start_key, end_key } = range.into_key_range(alloc)?;
+    let (start_key, end_key) = range.into_key_range(alloc)?.into_keys();
     Ok(requests::new_scan_lock_request(start_key, end_key, max_version, limit))
 }
 
@@ -199,6 +199,6 @@ pub fn new_unsafe_destroy_range_request(
 ) -> Result<UnsafeDestroyRangeRequest, NoMemory>
     ensures { IfOk result (λ request. request ≡ record default_unsafe_destroy_range { start_key = start_key_of range; end_key = end_key_of range }) }
 {
-    let KeyRange { start_key, end_key } = range.into_key_range(alloc)?;
+    let (start_key, end_key) = range.into_key_range(alloc)?.into_keys();
     Ok(requests::new_unsafe_destroy_range_request(start_key, end_key))
 }

@@ -128,11 +128,10 @@ pub fn new_pessimistic_prewrite_request(
     ensures { IfOk result (λ request. request ≡ record default_prewrite { mutations = mutations; primary_lock = primary_lock; start_version = start_version; lock_ttl = lock_ttl; txn_size = 2 ^ 64 - 1; for_update_ts = for_update_ts; is_pessimistic_lock = replicate (length mutations) true }) }
 {
     let flags = vec![in alloc; true; mutations.len()]?;
-    Ok(PrewriteRequest {
-        is_pessimistic_lock: Items::from_vec(flags),
-        for_update_ts,
-        ..new_prewrite_request(alloc, mutations, primary_lock, start_version, lock_ttl)
-    })
+    let mut request = new_prewrite_request(alloc, mutations, primary_lock, start_version, lock_ttl);
+    request.is_pessimistic_lock = Items::from_vec(flags);
+    request.for_update_ts = for_update_ts;
+    Ok(request)
 }
 
 pub fn new_commit_request(

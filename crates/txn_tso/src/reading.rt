@@ -17,7 +17,7 @@ pub enum Reading {
 fn read_region(told: GetRegionResponse) -> Reading
     ensures { IsRegionRead told result }
 {
-    let GetRegionResponse { region, leader } = told;
+    let (region, leader) = told.into_parts();
     match region {
         Some(region) => Reading::Answer(PdAnswer::Region(RegionWithLeader::new(region, leader))),
         None => Reading::Nothing,
@@ -38,11 +38,11 @@ pub fn read(query: &PdQuery, reply: Reply) -> Reading
             Err(_) => Reading::Unlike,
         },
         PdQuery::Store(_) => match reply.into_get_store() {
-            Ok(told) => Reading::Answer(PdAnswer::Store(told.store)),
+            Ok(told) => Reading::Answer(PdAnswer::Store(told.into_store())),
             Err(_) => Reading::Unlike,
         },
         PdQuery::Stores => match reply.into_get_all_stores() {
-            Ok(told) => Reading::Answer(PdAnswer::Stores(told.stores.into_vec())),
+            Ok(told) => Reading::Answer(PdAnswer::Stores(told.into_stores().into_vec())),
             Err(_) => Reading::Unlike,
         },
         PdQuery::Time => Reading::Unlike,

@@ -42,6 +42,7 @@ impl ModelStore {
                 not_founds: Items::new(alloc),
             }));
         }
+        drop(errors);
         let values = values_for_update(alloc, self.cells.as_slice(), request)?;
         let not_founds = not_founds(alloc, self.cells.as_slice(), request)?;
         lock_for_update(&mut self.cells, request)?;

@@ -44,6 +44,7 @@ impl ModelStore {
         if errors.len() > 0 {
             return Ok(told(errors, 0, 0));
         }
+        drop(errors);
         if request.try_one_pc {
             self.prewrite_at_once(alloc, request)
         } else {
