@@ -9,7 +9,7 @@ ghost use Rattle.txn_plan.specs.Dispatch.{dispatch, dispatch-lawful, stage_phase
 use crate::copy_request::CopyRequest;
 use crate::plan::Plan;
 use crate::stage::Stage;
-use txn_kv::{Error, NoMemory, Outbox, Progress, Reply, StoreId, Target, Timestamp};
+use txn_kv::{Arrival, Error, NoMemory, Outbox, Progress, StoreId, Target};
 use txn_region::PdClient;
 
 /// Sends one request to one store, once.
@@ -108,54 +108,34 @@ where
         Ok(Progress::Waiting)
     }
 
-    fn take_reply<C: PdClient>(
+    fn tell<C: PdClient>(
         &mut self,
         _pd: &mut C,
         _now: u64,
-        number: u64,
-        reply: Reply,
-        _out: &mut Outbox,
-    ) -> Result<Progress<R::Response>, NoMemory> {
-        if !self.is_out(number) {
-            return self.stay();
-        }
-        self.stage = Stage::Over;
-        Ok(Progress::Done(R::response(reply)))
-    }
-
-    fn lost<C: PdClient>(
-        &mut self,
-        _pd: &mut C,
-        _now: u64,
-        number: u64,
+        arrival: Arrival,
         out: &mut Outbox,
     ) -> Result<Progress<R::Response>, NoMemory> {
-        if !self.is_out(number) {
-            return self.stay();
+        match arrival {
+            Arrival::Reply { number, reply } => {
+                if !self.is_out(number) {
+                    return self.stay();
+                }
+                self.stage = Stage::Over;
+                Ok(Progress::Done(R::response(reply)))
+            },
+            Arrival::Lost { number } => {
+                if !self.is_out(number) {
+                    return self.stay();
+                }
+                self.stage = Stage::Over;
+                Ok(Progress::Done(Err(Error::GrpcAPI(out.ticket(number)))))
+            },
+            Arrival::Slept { number: _ } => self.stay(),
+            Arrival::Time { ask: _, answer } => {
+                drop(answer);
+                self.stay()
+            },
         }
-        self.stage = Stage::Over;
-        Ok(Progress::Done(Err(Error::GrpcAPI(out.ticket(number)))))
-    }
-
-    fn slept<C: PdClient>(
-        &mut self,
-        _pd: &mut C,
-        _now: u64,
-        _number: u64,
-        _out: &mut Outbox,
-    ) -> Result<Progress<R::Response>, NoMemory> {
-        self.stay()
-    }
-
-    fn take_time<C: PdClient>(
-        &mut self,
-        _pd: &mut C,
-        _now: u64,
-        _ask: u64,
-        _answer: txn_kv::Result<Timestamp>,
-        _out: &mut Outbox,
-    ) -> Result<Progress<R::Response>, NoMemory> {
-        self.stay()
     }
 
     ghost lawful = { dispatch-lawful R.request_of R.reply_of };

@@ -6,7 +6,7 @@ ghost use Rattle.txn_plan.specs.Merged.{merged, merged-lawful, IsMerged};
 use crate::plan::Plan;
 use std::alloc::Global;
 use std::marker::PhantomData;
-use txn_kv::{NoMemory, Outbox, Progress, Reply, Timestamp, TryClone};
+use txn_kv::{Arrival, NoMemory, Outbox, Progress, TryClone};
 use txn_merge::Merge;
 use txn_region::PdClient;
 
@@ -93,49 +93,14 @@ where
         self.read(turn)
     }
 
-    fn take_reply<C: PdClient>(
+    fn tell<C: PdClient>(
         &mut self,
         pd: &mut C,
         now: u64,
-        number: u64,
-        reply: Reply,
+        arrival: Arrival,
         out: &mut Outbox,
     ) -> Result<Progress<M::Out>, NoMemory> {
-        let turn = self.inner.take_reply(pd, now, number, reply, out);
-        self.read(turn)
-    }
-
-    fn lost<C: PdClient>(
-        &mut self,
-        pd: &mut C,
-        now: u64,
-        number: u64,
-        out: &mut Outbox,
-    ) -> Result<Progress<M::Out>, NoMemory> {
-        let turn = self.inner.lost(pd, now, number, out);
-        self.read(turn)
-    }
-
-    fn slept<C: PdClient>(
-        &mut self,
-        pd: &mut C,
-        now: u64,
-        number: u64,
-        out: &mut Outbox,
-    ) -> Result<Progress<M::Out>, NoMemory> {
-        let turn = self.inner.slept(pd, now, number, out);
-        self.read(turn)
-    }
-
-    fn take_time<C: PdClient>(
-        &mut self,
-        pd: &mut C,
-        now: u64,
-        ask: u64,
-        answer: txn_kv::Result<Timestamp>,
-        out: &mut Outbox,
-    ) -> Result<Progress<M::Out>, NoMemory> {
-        let turn = self.inner.take_time(pd, now, ask, answer, out);
+        let turn = self.inner.tell(pd, now, arrival, out);
         self.read(turn)
     }
 

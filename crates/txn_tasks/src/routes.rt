@@ -2,12 +2,13 @@
 ghost use Rattle.std.specs.Prelude.{◌≡◌, IfNone, OnErr, OnOk};
 ghost use Rattle.txn_history.specs.Phase.{awaited};
 ghost use Rattle.txn_history.specs.Phase.Awaited.{EndOf, ReplyTo, TimeOf};
+ghost use Rattle.txn_history.specs.Arrivals.{awaited_as};
 ghost use Rattle.txn_tasks.specs.Routes.{nowhere, route, AddsOnly, AreNoted, IsPut, IsTaken};
 
 use std::alloc::Global;
 use std::collections::BTreeMap;
 use std::marker::Model;
-use txn_kv::{Errand, NoMemory};
+use txn_kv::{Arrival, Errand, NoMemory};
 
 /// The tasks of a plan by what they wait for: the reply to a request and the end of a sleep by its number, and the answer to
 /// an ask by the number of the ask.
@@ -92,5 +93,19 @@ impl Routes {
         ensures none { IfNone result (self.new ≡ self.old) }
     {
         self.asks.remove(&ask)
+    }
+
+    /// The task that waits for this, and waits for it no more.
+    pub fn take(&mut self, arrival: &Arrival) -> Option<usize>
+        ensures task { result ≡ route self.old (awaited_as arrival.now) }
+        ensures taken { IsTaken (awaited_as arrival.now) self.old self.new }
+        ensures none { IfNone result (self.new ≡ self.old) }
+    {
+        match arrival {
+            Arrival::Reply { number, .. } => self.take_reply(*number),
+            Arrival::Lost { number } => self.take_reply(*number),
+            Arrival::Slept { number } => self.take_sleep(*number),
+            Arrival::Time { ask, .. } => self.take_ask(*ask),
+        }
     }
 }

@@ -1,18 +1,15 @@
 //! What the tasks of a plan have in common.
-ghost use Rattle.std.specs.Prelude.{◌≡◌, ◌≤◌, ◌<◌, ◌^◌, ◌++◌, ◌∷◌, [], List, ℕ, true, false, is_err};
-ghost use Rattle.txn_history.specs.Faults.{has_error, has_region_error};
-ghost use Rattle.txn_history.specs.Meaning.{missed, replied, started, timed, woken, Counts, Goes, IsLawful, Meaning, Tells};
-ghost use Rattle.txn_history.specs.Phase.Awaited.{EndOf, ReplyTo, TimeOf};
+ghost use Rattle.std.specs.Prelude.{◌≡◌, ◌≤◌, ◌<◌, ◌^◌, ◌++◌, ◌∷◌, [], List, ℕ, true, false};
+ghost use Rattle.txn_history.specs.Meaning.{started, Counts, Goes, IsLawful, Meaning, Tells};
 ghost use Rattle.txn_history.specs.Phase.Phase.{Fresh, Running};
-ghost use Rattle.txn_history.specs.Posted.{HasNumbers, ticket_of};
-ghost use Rattle.txn_history.specs.Spends.{locked_of, weight_of};
+ghost use Rattle.txn_history.specs.Posted.{HasNumbers};
 ghost use Rattle.txn_history.specs.Turn.{IfEnds};
-ghost use Rattle.txn_kv.specs.declared.request.Request.{Request as Asked};
-ghost use Rattle.txn_plan.specs.Answered.{IsTimeAnswer};
+ghost use Rattle.txn_history.specs.Arrivals.{arrives, MayArrive};
 ghost use Rattle.txn_plan.specs.Touch.{touch};
+ghost use Rattle.txn_history.specs.Steps.{IsCallable, Steps};
 ghost use Rattle.txn_tasks.specs.Step.{step_turn, IsEnd, Keeps};
 
-use txn_kv::{NoMemory, Outbox, Reply, Result, Timestamp};
+use txn_kv::{Arrival, NoMemory, Outbox, Result};
 use txn_region::PdClient;
 
 /// How a task ends: with an error of its own or the result of its part, or with tasks that stand in its place.
@@ -78,88 +75,19 @@ pub trait Task: Sized + Drop {
         ensures ready { meaning.ready self.new }
         ensures numbers { HasNumbers out.new };
 
-    /// The reply to the request of this number came.
-    fn take_reply<C: PdClient>(
+    /// Takes what came.
+    fn tell<C: PdClient>(
         &mut self,
         pd: &mut C,
         now: u64,
-        number: u64,
-        reply: Reply,
+        arrival: Arrival,
         out: &mut Outbox,
     ) -> std::result::Result<Option<Step<Self, Self::Answer>>, NoMemory>
-        requires ready { meaning.ready self.old }
-        requires numbers { HasNumbers out.old }
-        requires clock { now < 2 ^ 44 }
-        ensures tells { (r : Asked) → Tells meaning (replied (ticket_of out.old number) r reply) self.old self.new out.old out.new (step_turn result) }
-        ensures goes { Goes meaning.phase (meaning.waits self.old (ReplyTo number)) self.old self.new out.old out.new pd.old pd.new (step_turn result) }
-        ensures counts { Counts meaning (has_error reply) (has_region_error reply) (weight_of reply) (locked_of reply) self.old self.new out.old out.new (step_turn result) }
-        ensures client { (r : Asked) → touches (touch C.looked C.learns C.leads C.drops) (replied (ticket_of out.old number) r reply) out.old self.old self.new pd.old pd.new }
+        requires callable { IsCallable meaning self.old out.old now }
+        requires arrives { MayArrive arrival }
+        ensures steps { Steps meaning (touches (touch C.looked C.learns C.leads C.drops)) (arrives arrival out.old) self.old self.new out.old out.new pd.old pd.new (step_turn result) }
         ensures keeps { Keeps meaning load AreCut IsOf runs self.old self.new (step_turn result) }
-        ensures off { runs self.old ≡ false → runs self.new ≡ false }
-        ensures ready { meaning.ready self.new }
-        ensures numbers { HasNumbers out.new };
-
-    /// No reply to the request of this number will come.
-    fn lost<C: PdClient>(
-        &mut self,
-        pd: &mut C,
-        now: u64,
-        number: u64,
-        out: &mut Outbox,
-    ) -> std::result::Result<Option<Step<Self, Self::Answer>>, NoMemory>
-        requires ready { meaning.ready self.old }
-        requires numbers { HasNumbers out.old }
-        requires clock { now < 2 ^ 44 }
-        ensures tells { (r : Asked) → Tells meaning (missed (ticket_of out.old number) r) self.old self.new out.old out.new (step_turn result) }
-        ensures goes { Goes meaning.phase (meaning.waits self.old (ReplyTo number)) self.old self.new out.old out.new pd.old pd.new (step_turn result) }
-        ensures counts { Counts meaning true true 0 0 self.old self.new out.old out.new (step_turn result) }
-        ensures client { (r : Asked) → touches (touch C.looked C.learns C.leads C.drops) (missed (ticket_of out.old number) r) out.old self.old self.new pd.old pd.new }
-        ensures keeps { Keeps meaning load AreCut IsOf runs self.old self.new (step_turn result) }
-        ensures off { runs self.old ≡ false → runs self.new ≡ false }
-        ensures ready { meaning.ready self.new }
-        ensures numbers { HasNumbers out.new };
-
-    /// The sleep of this number has ended.
-    fn slept<C: PdClient>(
-        &mut self,
-        pd: &mut C,
-        now: u64,
-        number: u64,
-        out: &mut Outbox,
-    ) -> std::result::Result<Option<Step<Self, Self::Answer>>, NoMemory>
-        requires ready { meaning.ready self.old }
-        requires numbers { HasNumbers out.old }
-        requires clock { now < 2 ^ 44 }
-        ensures tells { Tells meaning (woken (ticket_of out.old number)) self.old self.new out.old out.new (step_turn result) }
-        ensures goes { Goes meaning.phase (meaning.waits self.old (EndOf number)) self.old self.new out.old out.new pd.old pd.new (step_turn result) }
-        ensures counts { Counts meaning false false 0 0 self.old self.new out.old out.new (step_turn result) }
-        ensures client { touches (touch C.looked C.learns C.leads C.drops) (woken (ticket_of out.old number)) out.old self.old self.new pd.old pd.new }
-        ensures keeps { Keeps meaning load AreCut IsOf runs self.old self.new (step_turn result) }
-        ensures off { runs self.old ≡ false → runs self.new ≡ false }
-        ensures ready { meaning.ready self.new }
-        ensures numbers { HasNumbers out.new };
-
-    /// The ask of this number was answered, by the oracle of the client.
-    fn take_time<C: PdClient>(
-        &mut self,
-        pd: &mut C,
-        now: u64,
-        ask: u64,
-        answer: Result<Timestamp>,
-        out: &mut Outbox,
-    ) -> std::result::Result<Option<Step<Self, Self::Answer>>, NoMemory>
-        requires ready { meaning.ready self.old }
-        requires answer { IsTimeAnswer answer }
-        requires numbers { HasNumbers out.old }
-        requires clock { now < 2 ^ 44 }
-        ensures tells { Tells meaning (timed (ticket_of out.old ask) answer) self.old self.new out.old out.new (step_turn result) }
-        ensures goes { Goes meaning.phase (meaning.waits self.old (TimeOf ask)) self.old self.new out.old out.new pd.old pd.new (step_turn result) }
-        ensures counts { Counts meaning (is_err answer) false 0 0 self.old self.new out.old out.new (step_turn result) }
-        ensures client { touches (touch C.looked C.learns C.leads C.drops) (timed (ticket_of out.old ask) answer) out.old self.old self.new pd.old pd.new }
-        ensures keeps { Keeps meaning load AreCut IsOf runs self.old self.new (step_turn result) }
-        ensures off { runs self.old ≡ false → runs self.new ≡ false }
-        ensures ready { meaning.ready self.new }
-        ensures numbers { HasNumbers out.new };
+        ensures off { runs self.old ≡ false → runs self.new ≡ false };
 
     ghost lawful: { IsLawful meaning };
 

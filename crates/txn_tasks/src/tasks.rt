@@ -1,34 +1,31 @@
 //! The tasks of a plan, sixteen of which run at once.
-ghost use Rattle.std.specs.Prelude.{◌≡◌, ◌≢◌, ◌≤◌, ◌<◌, ◌^◌, ◌++◌, drop, IfOk, IfSome, List, None, Ok, OnOk, Option, false, is_err, length, map, true, ℕ};
+ghost use Rattle.std.specs.Prelude.{◌≡◌, ◌≢◌, ◌≤◌, ◌<◌, ◌^◌, ◌++◌, drop, IfOk, IfSome, List, None, Ok, OnOk, Option, false, length, map, true, ℕ};
 ghost use Rattle.std.specs.Bool.{MatchBool};
 ghost use Rattle.std.proofs.Math.ListN.{get_or};
 ghost use Rattle.std.specs.List.{count_by, sum_by, All};
 ghost use Rattle.txn_history.specs.Event.{Event};
-ghost use Rattle.txn_history.specs.Faults.{has_error, has_region_error};
-ghost use Rattle.txn_history.specs.Meaning.{missed, replied, started, timed, woken, Counts, Goes, Tells};
+ghost use Rattle.txn_history.specs.Meaning.{started, Counts, Goes, Tells};
 ghost use Rattle.txn_history.specs.Moves.{Knows};
 ghost use Rattle.txn_history.specs.Phase.{phase_after, unheard};
-ghost use Rattle.txn_history.specs.Phase.Awaited.{EndOf, ReplyTo, TimeOf};
 ghost use Rattle.txn_history.specs.Phase.Phase.{Fresh};
-ghost use Rattle.txn_history.specs.Posted.{ticket_of, HasNumbers, Posted};
-ghost use Rattle.txn_history.specs.Spends.{locked_of, weight_of};
+ghost use Rattle.txn_history.specs.Posted.{HasNumbers, Posted};
 ghost use Rattle.txn_history.specs.Turn.{IfEnds, IfKept};
-ghost use Rattle.txn_kv.specs.declared.request.Request.{Request as Asked};
-ghost use Rattle.txn_plan.specs.Answered.{IsTimeAnswer};
+ghost use Rattle.txn_history.specs.Arrivals.{arrives, awaited_as, MayArrive};
 ghost use Rattle.txn_plan.specs.Touch.{touch};
 ghost use Rattle.txn_retry.specs.Place.{next_task};
 ghost use Rattle.txn_tasks.specs.Settled.{ended, rested, waiting, Begins, Continues, Finds, GoesOnSo, HasEndedSo, HasGiven, IsMore, IsSettled};
 ghost use Rattle.txn_tasks.specs.Step.{parts_in, step_turn, IsNew};
 ghost use Rattle.txn_tasks.specs.declared.step.Step.{Step};
 ghost use Rattle.txn_tasks.specs.Tasks.{left_at, sum_left, tasks_of, tasks_phase, tasks_turn, AllFit, AreReady, BearAll, LeadsSomewhere};
-ghost use Rattle.txn_tasks.specs.Turns.{Starts, Turns};
+ghost use Rattle.txn_tasks.specs.TasksStep.{TasksStep};
+ghost use Rattle.txn_tasks.specs.Turns.{Starts};
 
 use crate::routes::Routes;
 use crate::stage::Stage;
 use crate::step::{Step, Task};
 use std::alloc::Global;
 use std::mem;
-use txn_kv::{NoMemory, Outbox, Reply, Result, Timestamp};
+use txn_kv::{Arrival, NoMemory, Outbox, Result};
 use txn_region::PdClient;
 use txn_retry::Queue;
 
@@ -97,48 +94,17 @@ impl<T: Task> Tasks<T> {
         }
     }
 
-    /// The task that waits for this reply. Until the event is through they stand as if memory was wanting, and stay so if it
-    /// is.
-    fn find_reply(&mut self, number: u64) -> Option<usize>
+    /// The task that waits for this. Until the event is through they stand as if memory was wanting, and stay so if it is.
+    fn find(&mut self, arrival: &Arrival) -> Option<usize>
         requires ready { AreReady T.meaning T.runs self.old }
-        ensures finds { Finds (ReplyTo number) result self.old self.new }
+        ensures finds { Finds (awaited_as arrival.now) result self.old self.new }
         ensures within { IfSome result (λ at. at < length self.new.tasks.items) }
         ensures ready { AreReady T.meaning T.runs self.new }
     {
         if !self.is_running() {
             return None;
         }
-        let at = self.routes.take_reply(number)?;
-        self.stage = Stage::GivenUp;
-        Some(at)
-    }
-
-    /// The like for the end of a sleep.
-    fn find_sleep(&mut self, number: u64) -> Option<usize>
-        requires ready { AreReady T.meaning T.runs self.old }
-        ensures finds { Finds (EndOf number) result self.old self.new }
-        ensures within { IfSome result (λ at. at < length self.new.tasks.items) }
-        ensures ready { AreReady T.meaning T.runs self.new }
-    {
-        if !self.is_running() {
-            return None;
-        }
-        let at = self.routes.take_sleep(number)?;
-        self.stage = Stage::GivenUp;
-        Some(at)
-    }
-
-    /// The like for the answer to an ask.
-    fn find_ask(&mut self, ask: u64) -> Option<usize>
-        requires ready { AreReady T.meaning T.runs self.old }
-        ensures finds { Finds (TimeOf ask) result self.old self.new }
-        ensures within { IfSome result (λ at. at < length self.new.tasks.items) }
-        ensures ready { AreReady T.meaning T.runs self.new }
-    {
-        if !self.is_running() {
-            return None;
-        }
-        let at = self.routes.take_ask(ask)?;
+        let at = self.routes.take(arrival)?;
         self.stage = Stage::GivenUp;
         Some(at)
     }
@@ -164,114 +130,25 @@ impl<T: Task> Tasks<T> {
         self.start_waiting(pd, now, out)
     }
 
-    /// The reply to the request of this number came.
-    pub fn take_reply<C: PdClient>(
+    /// Takes what came.
+    pub fn tell<C: PdClient>(
         &mut self,
         pd: &mut C,
         now: u64,
-        number: u64,
-        reply: Reply,
+        arrival: Arrival,
         out: &mut Outbox,
     ) -> Turn<T>
         requires ready { AreReady T.meaning T.runs self.old }
         requires numbers { HasNumbers out.old }
         requires clock { now < 2 ^ 44 }
-        ensures tells { (whole : T.Whole) (first : T.Load) → (r : Asked) → Tells (tasks_of T.meaning T.load T.AreCut T.IsOf T.cost T.runs whole first) (replied (ticket_of out.old number) r reply) self.old self.new out.old out.new (tasks_turn result) }
-        ensures goes { Goes (λ (s : Tasks T T.Answer). tasks_phase s.stage) (LeadsSomewhere self.old (ReplyTo number)) self.old self.new out.old out.new pd.old pd.new (tasks_turn result) }
-        ensures counts { (whole : T.Whole) (first : T.Load) → Counts (tasks_of T.meaning T.load T.AreCut T.IsOf T.cost T.runs whole first) (has_error reply) (has_region_error reply) (weight_of reply) (locked_of reply) self.old self.new out.old out.new (tasks_turn result) }
-        ensures client { (r : Asked) → IfKept (tasks_turn result) (Turns (T.touches (touch C.looked C.learns C.leads C.drops)) (replied (ticket_of out.old number) r reply) out.old self.old.tasks.items self.new.tasks.items pd.old pd.new) }
-        ensures few { count_by T.runs self.new.tasks.items ≤ 16 }
-        ensures ready { AreReady T.meaning T.runs self.new }
-        ensures numbers { HasNumbers out.new }
+        requires arrives { MayArrive arrival }
+        ensures { TasksStep T.meaning T.load T.AreCut T.IsOf T.cost T.runs (T.touches (touch C.looked C.learns C.leads C.drops)) (arrives arrival out.old) self.old self.new out.old out.new pd.old pd.new (tasks_turn result) }
     {
-        let Some(at) = self.find_reply(number) else {
+        let Some(at) = self.find(&arrival) else {
             return self.stay();
         };
         let posted = out.sends.len();
-        let step = self.tasks[at].take_reply(pd, now, number, reply, out);
-        self.go_on(at, posted, step, pd, now, out)
-    }
-
-    /// No reply to the request of this number will come.
-    pub fn lost<C: PdClient>(
-        &mut self,
-        pd: &mut C,
-        now: u64,
-        number: u64,
-        out: &mut Outbox,
-    ) -> Turn<T>
-        requires ready { AreReady T.meaning T.runs self.old }
-        requires numbers { HasNumbers out.old }
-        requires clock { now < 2 ^ 44 }
-        ensures tells { (whole : T.Whole) (first : T.Load) → (r : Asked) → Tells (tasks_of T.meaning T.load T.AreCut T.IsOf T.cost T.runs whole first) (missed (ticket_of out.old number) r) self.old self.new out.old out.new (tasks_turn result) }
-        ensures goes { Goes (λ (s : Tasks T T.Answer). tasks_phase s.stage) (LeadsSomewhere self.old (ReplyTo number)) self.old self.new out.old out.new pd.old pd.new (tasks_turn result) }
-        ensures counts { (whole : T.Whole) (first : T.Load) → Counts (tasks_of T.meaning T.load T.AreCut T.IsOf T.cost T.runs whole first) true true 0 0 self.old self.new out.old out.new (tasks_turn result) }
-        ensures client { (r : Asked) → IfKept (tasks_turn result) (Turns (T.touches (touch C.looked C.learns C.leads C.drops)) (missed (ticket_of out.old number) r) out.old self.old.tasks.items self.new.tasks.items pd.old pd.new) }
-        ensures few { count_by T.runs self.new.tasks.items ≤ 16 }
-        ensures ready { AreReady T.meaning T.runs self.new }
-        ensures numbers { HasNumbers out.new }
-    {
-        let Some(at) = self.find_reply(number) else {
-            return self.stay();
-        };
-        let posted = out.sends.len();
-        let step = self.tasks[at].lost(pd, now, number, out);
-        self.go_on(at, posted, step, pd, now, out)
-    }
-
-    /// The sleep of this number has ended.
-    pub fn slept<C: PdClient>(
-        &mut self,
-        pd: &mut C,
-        now: u64,
-        number: u64,
-        out: &mut Outbox,
-    ) -> Turn<T>
-        requires ready { AreReady T.meaning T.runs self.old }
-        requires numbers { HasNumbers out.old }
-        requires clock { now < 2 ^ 44 }
-        ensures tells { (whole : T.Whole) (first : T.Load) → Tells (tasks_of T.meaning T.load T.AreCut T.IsOf T.cost T.runs whole first) (woken (ticket_of out.old number)) self.old self.new out.old out.new (tasks_turn result) }
-        ensures goes { Goes (λ (s : Tasks T T.Answer). tasks_phase s.stage) (LeadsSomewhere self.old (EndOf number)) self.old self.new out.old out.new pd.old pd.new (tasks_turn result) }
-        ensures counts { (whole : T.Whole) (first : T.Load) → Counts (tasks_of T.meaning T.load T.AreCut T.IsOf T.cost T.runs whole first) false false 0 0 self.old self.new out.old out.new (tasks_turn result) }
-        ensures client { IfKept (tasks_turn result) (Turns (T.touches (touch C.looked C.learns C.leads C.drops)) (woken (ticket_of out.old number)) out.old self.old.tasks.items self.new.tasks.items pd.old pd.new) }
-        ensures few { count_by T.runs self.new.tasks.items ≤ 16 }
-        ensures ready { AreReady T.meaning T.runs self.new }
-        ensures numbers { HasNumbers out.new }
-    {
-        let Some(at) = self.find_sleep(number) else {
-            return self.stay();
-        };
-        let posted = out.sends.len();
-        let step = self.tasks[at].slept(pd, now, number, out);
-        self.go_on(at, posted, step, pd, now, out)
-    }
-
-    /// The ask of this number was answered, by the oracle of the client.
-    pub fn take_time<C: PdClient>(
-        &mut self,
-        pd: &mut C,
-        now: u64,
-        ask: u64,
-        answer: Result<Timestamp>,
-        out: &mut Outbox,
-    ) -> Turn<T>
-        requires ready { AreReady T.meaning T.runs self.old }
-        requires numbers { HasNumbers out.old }
-        requires clock { now < 2 ^ 44 }
-        requires answer { IsTimeAnswer answer }
-        ensures tells { (whole : T.Whole) (first : T.Load) → Tells (tasks_of T.meaning T.load T.AreCut T.IsOf T.cost T.runs whole first) (timed (ticket_of out.old ask) answer) self.old self.new out.old out.new (tasks_turn result) }
-        ensures goes { Goes (λ (s : Tasks T T.Answer). tasks_phase s.stage) (LeadsSomewhere self.old (TimeOf ask)) self.old self.new out.old out.new pd.old pd.new (tasks_turn result) }
-        ensures counts { (whole : T.Whole) (first : T.Load) → Counts (tasks_of T.meaning T.load T.AreCut T.IsOf T.cost T.runs whole first) (is_err answer) false 0 0 self.old self.new out.old out.new (tasks_turn result) }
-        ensures client { IfKept (tasks_turn result) (Turns (T.touches (touch C.looked C.learns C.leads C.drops)) (timed (ticket_of out.old ask) answer) out.old self.old.tasks.items self.new.tasks.items pd.old pd.new) }
-        ensures few { count_by T.runs self.new.tasks.items ≤ 16 }
-        ensures ready { AreReady T.meaning T.runs self.new }
-        ensures numbers { HasNumbers out.new }
-    {
-        let Some(at) = self.find_ask(ask) else {
-            return self.stay();
-        };
-        let posted = out.sends.len();
-        let step = self.tasks[at].take_time(pd, now, ask, answer, out);
+        let step = self.tasks[at].tell(pd, now, arrival, out);
         self.go_on(at, posted, step, pd, now, out)
     }
 

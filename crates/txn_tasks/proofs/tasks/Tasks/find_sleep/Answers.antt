@@ -1,6 +1,0 @@
-use Rattle.std.proofs.Common.{sym}
-use Rattle.txn_history.specs.Phase.Awaited.{EndOf}
-use Rattle.txn_tasks.proofs.tasks.Tasks.find_sleep.Goals as goal
-
-pub returns-clause-within : goal.returns-clause-within
-returns-clause-within g c = c.requires.ready.leads (EndOf c.args.number) c.in_ok-at.at (sym c.in_ok-at.ensures.task)
