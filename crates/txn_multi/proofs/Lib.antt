@@ -1,6 +1,10 @@
+pub mod Begun
 pub mod Costs
 pub mod Lookings
 pub mod Multis
+pub mod MultiSteps
 pub mod Retrying
+pub mod Searching
+pub mod TaskSteps
 pub mod Touchings
 pub mod Trying

@@ -9,7 +9,7 @@ use Rattle.std.proofs.lemmas.List.Elements.{All-cons, All-head, All-nil, All-tai
 use Rattle.txn_history.specs.Event.{Event}
 use Rattle.txn_history.specs.Meaning.{started, Counts, Expects, IsUnbegun, Meaning, Tells, Told}
 use Rattle.txn_history.specs.Moves.{Knows, Moves, Moves-before, Moves-map, Moves-quiet, Moves-then}
-use Rattle.txn_history.specs.Phase.{Awaited, unheard}
+use Rattle.txn_history.specs.Phase.{Awaited}
 use Rattle.txn_history.specs.Phase.Awaited.{EndOf, ReplyTo}
 use Rattle.txn_history.specs.Phase.Phase.{Running}
 use Rattle.txn_history.specs.Posted.{Posted, Within-refl}
@@ -17,7 +17,7 @@ use Rattle.txn_history.specs.Spends.{Spends, calls, sleeps, spare}
 use Rattle.txn_history.specs.Turn.{is_kept, IfEnds, IfKept-out, Turn}
 use Rattle.txn_history.specs.Turn.Turn.{Stopped, Waits, Ends}
 use Rattle.txn_history.proofs.Counting.{spare-more}
-use Rattle.txn_history.proofs.Telling.{Expects-quiet, Expects-then, Tells-idle}
+use Rattle.txn_history.proofs.Telling.{Expects-quiet, Expects-then}
 use Rattle.txn_kv.specs.declared.errors.Error.{Error}
 use Rattle.txn_kv.specs.declared.errors.Error.TheVariants.{OutOfMemory}
 use Rattle.txn_kv.specs.declared.query.PdAnswer.{PdAnswer}
@@ -29,7 +29,7 @@ use Rattle.txn_plan.specs.LookUp.{call_waits, fresh-unbegun, looked_up}
 use Rattle.txn_plan.proofs.LastPosted.{calls_none, never_fails, one_awaited}
 use Rattle.txn_region.specs.Clients.{IsPlaceQuery, IsRefused, OrStarved}
 use Rattle.txn_region.specs.declared.store.RegionStore.{RegionStore}
-use Rattle.txn_multi.specs.Cutting.{cut_phase, cut_waits, cutting, cutting-lawful, AreApplied, ArePartsOf, AreWithin, CutAt, GivesParts, IfParts, IsLookUpRefused, IsPartOf, IsPlacement, Looking, UnfoundIfErr}
+use Rattle.txn_multi.specs.Cutting.{cut_phase, cut_waits, cutting, AreApplied, ArePartsOf, AreWithin, CutAt, GivesParts, IfParts, IsLookUpRefused, IsPartOf, IsPlacement, Looking, UnfoundIfErr}
 use Rattle.txn_multi.specs.Few.{AreFew}
 use Rattle.txn_multi.specs.Searching.{Holds, IsTaken, LooksOn}
 use Rattle.txn_multi.specs.declared.cut_stage.CutStage.{CutStage}
@@ -331,12 +331,3 @@ module _ {S A H L : Type 0} (m : Meaning S A) (is_part : S → S → Type 0) (lo
       (calls_none false call call' from to p (asks_none call.query (rw e place)) spent)
       (let y = spent.stopped_rests in omega arith)
       s
-
-  -- an event that is not for the search
-  pub unmoved : {told : Told} {old new : Looking S H} {o : Posted} {turn : Turn (Result (Vec (Part S)) Error)} (a : Awaited)
-      → ((b : Awaited) → told.heard b → b ≡ a)
-      → (new ≡ old) × (cut_waits old.stage a → ⊥)
-      → turn ≡ unheard (cut_phase new.stage)
-      → Tells (cutting m is_part load are_cut most) told old new o o turn
-  unmoved {told = told} {old = old} {turn = turn} a heard stays e =
-      rw stays.0 (Tells-idle (cutting-lawful m is_part load are_cut most) (λ b h w. stays.1 (rw (heard b h) at w)) (rw stays.0 at e))

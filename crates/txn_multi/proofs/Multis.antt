@@ -9,23 +9,23 @@ use Rattle.std.specs.Global.{Global, Vec}
 use Rattle.std.specs.List.{sum_by, All, AllZip}
 use Rattle.std.specs.Prelude.{⊤, max, IfSome, Option, Some, None, Result, Err}
 use Rattle.txn_history.specs.Event.{Event}
-use Rattle.txn_history.specs.Meaning.{further, started, Counts, Goes, IsLawful, IsUnbegun, Meaning, Tells, Told}
+use Rattle.txn_history.specs.Meaning.{further, started, Counts, Goes, IsUnbegun, Meaning, Tells, Told}
 use Rattle.txn_history.specs.Moves.{Moves, Moves-after, Moves-map, Moves-quiet, Moves-stops}
-use Rattle.txn_history.specs.Phase.{phase_after, unheard, Awaited, Phase}
+use Rattle.txn_history.specs.Phase.{phase_after, unheard, Awaited}
 use Rattle.txn_history.specs.Phase.Phase.{Fresh, Running}
 use Rattle.txn_history.specs.Posted.{Posted}
 use Rattle.txn_history.specs.Spends.{Spends}
-use Rattle.txn_history.specs.Turn.{failing, Turn}
+use Rattle.txn_history.specs.Turn.{Turn}
 use Rattle.txn_history.specs.Turn.Turn.{Ends, Stopped, Waits}
 use Rattle.txn_history.proofs.Counting.{spare-le, Spends-quiet}
-use Rattle.txn_history.proofs.Telling.{Counts-then, Expects-quiet, Tells-idle, Tells-stopped, Tells-then}
+use Rattle.txn_history.proofs.Telling.{Counts-then, Expects-quiet, Tells-stopped, Tells-then}
 use Rattle.txn_kv.specs.ErrorView.{ErrorView}
 use Rattle.txn_kv.specs.declared.backoff.Backoff.{Backoff}
 use Rattle.txn_kv.specs.declared.errors.Error.{Error}
 use Rattle.txn_kv.specs.declared.message.RegionErr.{RegionErr}
 use Rattle.txn_kv.specs.declared.request.Request.{Request}
 use Rattle.txn_multi.specs.Cutting.{cut_phase, cut_waits, cutting, cutting-lawful, ArePartsOf, CutAt, IsLookUpRefused, IsPartOf, Looking, UnfoundIfErr}
-use Rattle.txn_multi.specs.Multi.{multi, multi-lawful, multi_phase, number_of, tasks_for, AfterCut, AfterTasks, Begins, IsAnswer, MultiAsks, MultiGives, MultiWaits, StandsReady}
+use Rattle.txn_multi.specs.Multi.{multi, multi_phase, number_of, tasks_for, AfterCut, AfterTasks, Begins, IsAnswer, MultiAsks, MultiGives, MultiWaits, StandsReady}
 use Rattle.txn_multi.specs.Task.{attempts_left, limit_of, region_task, shared, stage_left, task_for, IsOutcome, IsTaskOf, Limited, TaskFits}
 use Rattle.txn_multi.specs.declared.multi_region.RetryableMultiRegion.{RetryableMultiRegion}
 use Rattle.txn_multi.specs.declared.multi_stage.MultiStage.{MultiStage}
@@ -93,11 +93,6 @@ Spends-gone s = record {
   stopped_rests = s.stopped_rests;
 }
 
-never_fails : {A : Type 0} (turn : Turn A) → failing (λ v. false) turn ≡ false
-never_fails Stopped = refl
-never_fails Waits = refl
-never_fails (Ends v) = refl
-
 -- What is owed may be written otherwise.
 Spends-owing : {was is : ℕ → Type 0} {before before' after round : ℕ → ℕ} {bad fails : Bool} {weight locked width width' : ℕ} {from to : Posted} {kept failed : Bool}
     → ((n : ℕ) → before' n ≡ before n)
@@ -138,17 +133,6 @@ fresh_running e = cc
 
 fresh_waits : (g : Together) → tasks_phase g ≡ Fresh → g ≡ together.Running → ⊥
 fresh_waits g e w = fresh_running (sym e ∙ ap tasks_phase w)
-
--- an event that is not meant for a state
-pub Goes-idle : {S A C : Type 0} {phase : S → Phase} {meant : Type 0} {s new : S} {o : Posted} {pd : C} {turn : Turn A}
-    → new ≡ s → (meant → ⊥) → turn ≡ unheard (phase s) → Goes phase meant s new o o pd pd turn
-Goes-idle same none e = record {
-  deaf = λ other. e;
-  state = λ other. same;
-  outbox = λ other. refl;
-  client = λ other. refl;
-  next = λ this. absurd (none this);
-}
 
 -- only a plan that was not started is fresh
 pub fresh_only : {S R H : Type 0} (g : MultiStage S R H) → multi_phase g ≡ Fresh → g ≡ stage.Fresh
@@ -497,19 +481,6 @@ module _ {S R H L : Type 0} (m : Meaning S (Result R Error)) (keys : R → List 
   -- a search that was not begun waits for nothing
   pub unbegun_waits : (c : Looking S H) (a : Awaited) → IsUnbegun (cutting {H = H} m is_part load are_cut most) c → cut_waits c.stage a → ⊥
   unbegun_waits c a u w = let law = cutting-lawful {H = H} m is_part load are_cut most in fresh_running (sym u.phase ∙ law.runs c a w)
-
-  -- It is told of something that is not meant for it.
-  pub idle_told : IsLawful m → {told : Told} (s new : RetryableMultiRegion S R H) {o : Posted} {turn : Turn (Result (Vec (Result R Error)) Error)}
-      → new ≡ s → ((a : Awaited) → told.heard a → (multi {H = H} m keys region is_part load are_cut most).waits s a → ⊥) → turn ≡ unheard (multi_phase s.stage)
-      → Tells (multi {H = H} m keys region is_part load are_cut most) told s new o o turn
-  idle_told law s new same deaf e = rw same (Tells-idle (multi-lawful m keys region is_part load are_cut most law) deaf e)
-
-  pub idle_counted : IsLawful m → {bad fails : Bool} {weight locked : ℕ} (s new : RetryableMultiRegion S R H) {o : Posted} (turn : Turn (Result (Vec (Result R Error)) Error))
-      → new ≡ s → Counts (multi {H = H} m keys region is_part load are_cut most) bad fails weight locked s new o o turn
-  idle_counted law {weight = weight} s new turn same = rw same (record {
-    spends = Spends-quiet (λ f. absurd (false≢true (sym (never_fails turn) ∙ f))) (λ w b. let l = multi-lawful {H = H} m keys region is_part load are_cut most law in l.bears_more s w (w + weight) (omega arith) b) (λ n. le_refl _);
-    fewer = λ n. le_refl _;
-  })
 
   pub not_waiting : (inner : S) (limit : ℕ) (g : MultiStage S R H) (ts : Option (Tasks (RegionTask S R H) R)) (a : Awaited) → ((c : Looking S H) → g ≡ stage.Cutting c → ⊥) → (g ≡ stage.Running → ⊥)
       → MultiWaits (tasks_for {H = H} m keys region is_part load are_cut most inner limit) g ts a → ⊥

@@ -1,5 +1,5 @@
 -- Events of one task of a plan over many regions, by those of its plan and of the search of its shards.
-use Rattle.std.proofs.Common.{◌≡◌, ◌≢◌, ◌⊎◌, inl, inr, ℕ, suc, ◌+◌, ◌*◌, ◌-◌, ◌≤◌, Bool, true, false, List, [], ◌∷◌, ◌++◌, length, map, refl, sym, ap, subst, ◌∙◌, arith}
+use Rattle.std.proofs.Common.{◌≡◌, ◌≢◌, ◌⊎◌, inl, inr, ℕ, suc, ◌+◌, ◌*◌, ◌-◌, ◌≤◌, true, false, List, [], ◌∷◌, ◌++◌, length, map, refl, sym, ap, subst, ◌∙◌, arith}
 use Rattle.std.proofs.Math.Nat.{le_refl, le-max_right, le_trans, mul-le-mul, mul-le-mul_right}
 use Rattle.std.proofs.lemmas.Bool.{false≢true}
 use Rattle.std.proofs.lemmas.List.{length-map}
@@ -19,7 +19,7 @@ use Rattle.txn_history.specs.Phase.Phase.{Fresh, GivenUp, Over, Running}
 use Rattle.txn_history.specs.Posted.{Posted, ticket_of, Within-one, Within-refl, Within-trans}
 use Rattle.txn_history.specs.Turn.{IfEnds, IfEnds-weaker, Turn}
 use Rattle.txn_history.specs.Turn.Turn.{Ends, Stopped, Waits}
-use Rattle.txn_history.proofs.Telling.{region_error_is_error, Expects-quiet, Expects-then}
+use Rattle.txn_history.proofs.Telling.{Expects-quiet, Expects-then}
 use Rattle.txn_kv.specs.ErrorView.{ErrorView, listed, view_of, view_step}
 use Rattle.txn_kv.specs.ErrorView.ErrorView.{multiple}
 use Rattle.txn_kv.specs.Errors.{IsRegionError}
@@ -43,9 +43,8 @@ use Rattle.txn_multi.specs.declared.part.Part.{Part}
 use Rattle.txn_multi.specs.declared.stage.Stage.{Stage}
 use Rattle.txn_multi.specs.declared.stage.Stage.TheVariants as stage
 use Rattle.txn_multi.specs.declared.task.RegionTask.{RegionTask}
-use Rattle.txn_plan.specs.Arrivals.{awaited_as, locked_told, tells_error, tells_failure, told_by, weight_told}
-use Rattle.txn_plan.specs.declared.arrival.Arrival.{Arrival}
-use Rattle.txn_plan.specs.declared.arrival.Arrival.TheVariants as arrival
+use Rattle.txn_history.specs.Arrivals.{awaited_as, tells_error, tells_failure, told_by}
+use Rattle.txn_kv.specs.declared.arrival.Arrival.{Arrival}
 use Rattle.txn_retry.specs.Remedy.{after, delay_ms, on_loss, on_region_error}
 use Rattle.txn_retry.specs.declared.remedy.Next.{Next}
 use Rattle.txn_retry.specs.declared.remedy.Next.TheVariants as next
@@ -78,35 +77,6 @@ loss_drops drops leads used (Some ms) x = x
 pub loss_waits : (delay : Option ℕ) → (on_loss delay).next ≡ next.AtOnce → ⊥
 loss_waits None e = cc
 loss_waits (Some ms) e = cc
-
--- What it is told of.
-
--- what is heard is what was waited for
-pub heard_is : (x : Arrival) (o : Posted) (r : Request) (a : Awaited) → (told_by x o r).heard a → a ≡ awaited_as x
-heard_is (arrival.Reply n x) o r a e = e
-heard_is (arrival.Lost n) o r a e = e
-heard_is (arrival.Slept n) o r a e = e
-heard_is (arrival.Time n x) o r a e = e
-
--- a failure is an error
-pub failure_is_bad : (x : Arrival) → tells_failure x ≡ true → tells_error x ≡ true
-failure_is_bad (arrival.Reply n x) e = region_error_is_error x e
-failure_is_bad (arrival.Lost n) e = refl
-failure_is_bad (arrival.Slept n) e = absurd (false≢true e)
-failure_is_bad (arrival.Time n x) e = absurd (false≢true e)
-
-pub record IsNoError (x : Arrival) : Type 0 where
-  pub good : tells_error x ≡ false
-  pub fine : tells_failure x ≡ false
-  pub light : weight_told x ≡ 0
-  pub free : locked_told x ≡ 0
-
--- the end of a sleep tells of no error
-pub end_is_no_error : (x : Arrival) (n : ℕ) → awaited_as x ≡ EndOf n → IsNoError x
-end_is_no_error (arrival.Reply k x) n e = cc
-end_is_no_error (arrival.Lost k) n e = cc
-end_is_no_error (arrival.Slept k) n e = record { good = refl; fine = refl; light = refl; free = refl }
-end_is_no_error (arrival.Time k x) n e = cc
 
 -- What it tells, of any state.
 
@@ -246,12 +216,6 @@ no_end Running P = tt
 no_end Over P = tt
 no_end GivenUp P = tt
 
--- an event of a task that stands at a stage
-pub goes_at : {S A R H B C : Type 0} (m : Meaning S A) (a : Awaited) (t : RegionTask S R H) (g : Stage S R H) {new : RegionTask S R H} {from to : Posted} {pd pd' : C} {turn : Turn B} → t.stage ≡ g
-    → Goes (λ (x : RegionTask S R H). stage_phase x.stage) (StageWaits m g a) (record t { stage = g }) new from to pd pd' turn
-    → Goes (λ (x : RegionTask S R H). stage_phase x.stage) (StageWaits m t.stage a) t new from to pd pd' turn
-goes_at {R = R} {H = H} m a t g {new} {from} {to} {pd} {pd'} {turn} e s = subst (λ (x : Stage _ R H). Goes (λ (y : RegionTask _ R H). stage_phase y.stage) (StageWaits m x a) (record t { stage = x }) new from to pd pd' turn) (sym e) s
-
 -- The tasks for parts.
 module _ {S A R H : Type 0} (m : Meaning S A) (is_part : S → S → Type 0) (most : S → ℕ → ℕ) (job : S) (alloc : Global) (backoff : Backoff) (before : ℕ) where
   each_made : (P : RegionTask S R H → Type 0) → ((p : Part S) → IsPartOf m is_part most job p.plan → P (task_for alloc backoff before p)) → (parts : List (Part S)) → All (λ p. IsPartOf m is_part most job p.plan) parts → All P (map (task_for alloc backoff before) parts)
@@ -329,17 +293,6 @@ module _ {S R H L : Type 0} (m : Meaning S (Result R Error)) (keys : R → List 
   keeps_idle t Running = record { work = refl; belongs = λ w is. is; rests = λ e. absurd e; stands = tt; wide = tt; owes = tt }
   keeps_idle t Over = record { work = refl; belongs = λ w is. is; rests = λ e. absurd e; stands = tt; wide = tt; owes = tt }
   keeps_idle t GivenUp = record { work = refl; belongs = λ w is. is; rests = λ e. absurd e; stands = tt; wide = tt; owes = tt }
-
-  -- events of a task that stands at a stage
-  pub tells_at : {told : Told} (t : RegionTask S R H) (g : Stage S R H) {new : RegionTask S R H} {from to : Posted} {turn : Turn (Step (RegionTask S R H) R)} → t.stage ≡ g
-      → Tells (region_task m keys region is_part load are_cut most) told (record t { stage = g }) new from to turn
-      → Tells (region_task m keys region is_part load are_cut most) told t new from to turn
-  tells_at {told} t g {new} {from} {to} {turn} e s = subst (λ (x : Stage S R H). Tells (region_task m keys region is_part load are_cut most) told (record t { stage = x }) new from to turn) (sym e) s
-
-  pub counts_at : {bad fails : Bool} {weight locked : ℕ} (t : RegionTask S R H) (g : Stage S R H) {new : RegionTask S R H} {from to : Posted} {turn : Turn (Step (RegionTask S R H) R)} → t.stage ≡ g
-      → Counts (region_task m keys region is_part load are_cut most) bad fails weight locked (record t { stage = g }) new from to turn
-      → Counts (region_task m keys region is_part load are_cut most) bad fails weight locked t new from to turn
-  counts_at {bad} {fails} {weight} {locked} t g {new} {from} {to} {turn} e s = subst (λ (x : Stage S R H). Counts (region_task m keys region is_part load are_cut most) bad fails weight locked (record t { stage = x }) new from to turn) (sym e) s
 
   -- it gives tasks for its parts
   pub over_given : (t : RegionTask S R H) (width : ℕ) (alloc : Global) (parts : List (Part S)) (tasks : Vec (RegionTask S R H)) {o : Posted}

@@ -19,9 +19,9 @@ use Rattle.txn_kv.specs.Backoff.{after_attempt, is_spent}
 use Rattle.txn_kv.specs.declared.backoff.Backoff.{Backoff}
 use Rattle.txn_kv.specs.declared.request.Request.{Request}
 use Rattle.txn_multi.specs.Task.{HaveFailedBefore, HaveFailedBy}
-use Rattle.txn_plan.specs.Arrivals.{awaited_as, tells_failure, told_by}
-use Rattle.txn_plan.specs.declared.arrival.Arrival.{Arrival}
-use Rattle.txn_plan.specs.declared.arrival.Arrival.TheVariants as arrival
+use Rattle.txn_history.specs.Arrivals.{awaited_as, tells_failure, told_by}
+use Rattle.txn_kv.specs.declared.arrival.Arrival.{Arrival}
+use Rattle.txn_kv.specs.declared.arrival.Arrival.TheVariants as arrival
 use Rattle.txn_retry.specs.Remedy.{after, delay_ms}
 use Rattle.txn_tasks.proofs.Posting.{posted_from}
 use Rattle.txn_tasks.proofs.Telling.{since}

@@ -1,7 +1,9 @@
 pub mod Cutting
 pub mod Few
 pub mod Multi
+pub mod MultiSteps
 pub mod Searching
 pub mod Shown
 pub mod Task
+pub mod TaskSteps
 pub mod Touching

@@ -1,5 +1,5 @@
 -- What the search of a plan's shards does in each of its steps.
-use Rattle.std.specs.Prelude.{◌≡◌, ◌⊎◌, ⊤, ℕ, ◌≤◌, List, Result}
+use Rattle.std.specs.Prelude.{◌≡◌, ◌⊎◌, ⊤, ℕ, ◌≤◌, Bool, false, true, List, Result}
 use Rattle.std.specs.Global.{Vec}
 use Rattle.txn_history.specs.Event.{Event}
 use Rattle.txn_history.specs.Meaning.{Expects, Meaning}
@@ -8,11 +8,14 @@ use Rattle.txn_history.specs.Phase.{phase_after, Awaited}
 use Rattle.txn_history.specs.Phase.Awaited.{EndOf, ReplyTo}
 use Rattle.txn_history.specs.Posted.{Posted}
 use Rattle.txn_history.specs.Spends.{calls, sleeps}
-use Rattle.txn_history.specs.Turn.{IfEnds, Turn}
+use Rattle.txn_history.specs.Steps.{News, Steps}
+use Rattle.txn_history.specs.Turn.{IfEnds, IfKept, Turn}
+use Rattle.txn_kv.specs.declared.arrival.Arrival.{Arrival}
+use Rattle.txn_kv.specs.declared.arrival.Arrival.TheVariants as arrival
 use Rattle.txn_kv.specs.declared.errors.Error.{Error}
 use Rattle.txn_kv.specs.declared.query.PdAnswer.{PdAnswer}
 use Rattle.txn_kv.specs.declared.query.PdQuery.{PdQuery}
-use Rattle.txn_multi.specs.Cutting.{cut_phase, cut_waits, AreWithin, CutAt, GivesParts, IfParts, IsPlacement, Looking}
+use Rattle.txn_multi.specs.Cutting.{cut_phase, cut_waits, cutting, AreWithin, CutAt, GivesParts, IfParts, IsPlacement, Looking}
 use Rattle.txn_multi.specs.declared.cut_stage.CutStage.{CutStage}
 use Rattle.txn_multi.specs.declared.cut_stage.CutStage.TheVariants as stage
 use Rattle.txn_multi.specs.declared.part.Part.{Part}
@@ -70,3 +73,18 @@ pub record HasLearnt {C : Type 0} (t : Touch C) (old new : C) : Type 0 where
 -- The client was looked at alone, and was told at most what came of one query.
 abbrev pub Seeks : {C : Type 0} → Touch C → C → C → Type 0
 Seeks t old new = t.looked old new ⊎ HasLearnt t old new
+
+-- a request was lost
+abbrev pub tells_loss : Arrival → Bool
+tells_loss (arrival.Reply n x) = false
+tells_loss (arrival.Lost n) = true
+tells_loss (arrival.Slept n) = false
+tells_loss (arrival.Time n x) = false
+
+-- What an event of the search does.
+pub record SearchSteps {S A H L C : Type 0} (m : Meaning S A) (is_part : S → S → Type 0) (load : S → L) (are_cut : L → List L → Type 0) (most : S → ℕ → ℕ) (t : Touch C) (news : News)
+    (old new : Looking S H) (from to : Posted) (pd pd' : C) (turn : Turn (Result (Vec (Part S)) Error)) : Type 0 where
+  pub steps : Steps (cutting m is_part load are_cut most) (λ told o c c' x y. IfKept turn (Seeks t x y)) news old new from to pd pd' turn
+  pub parts : IfEnds turn (IfParts m is_part load are_cut most old.plan)
+  pub wide : IfEnds turn (AreWithin new.width)
+  pub plan : new.plan ≡ old.plan

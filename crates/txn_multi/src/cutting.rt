@@ -1,26 +1,26 @@
 //! A plan whose request is being cut into shards.
 ghost use Rattle.std.specs.Bool.{MatchBool};
 ghost use Rattle.std.specs.List.{All};
-ghost use Rattle.std.specs.Prelude.{◌≡◌, ◌≤◌, ◌++◌, ◌∷◌, [], ⊤, IfErr, IfOk, IfSome, MatchOption, None, Ok, OnOk, false, length, map, true};
-ghost use Rattle.txn_history.specs.Faults.{has_error, has_region_error};
-ghost use Rattle.txn_history.specs.Meaning.{missed, replied, started, woken, Counts, Goes, IsUnbegun, Tells};
+ghost use Rattle.std.specs.Prelude.{◌≡◌, ◌≤◌, ◌++◌, ◌∷◌, [], ⊤, ℕ, IfErr, IfOk, IfSome, MatchOption, None, Ok, OnOk, false, length, map};
+ghost use Rattle.txn_history.specs.Arrivals.{arrives, awaited_as, told_by};
+ghost use Rattle.txn_history.specs.Meaning.{started, Counts, Goes, IsUnbegun, Tells};
 ghost use Rattle.txn_history.specs.Moves.{Knows};
 ghost use Rattle.txn_history.specs.Phase.{unheard};
-ghost use Rattle.txn_history.specs.Phase.Awaited.{EndOf, ReplyTo};
+ghost use Rattle.txn_history.specs.Phase.Awaited.{EndOf, ReplyTo, TimeOf};
 ghost use Rattle.txn_history.specs.Phase.Phase.{Fresh};
-ghost use Rattle.txn_history.specs.Posted.{HasNumbers, Posted, ticket_of};
-ghost use Rattle.txn_history.specs.Spends.{locked_of, weight_of};
+ghost use Rattle.txn_history.specs.Posted.{HasNumbers, Posted};
 ghost use Rattle.txn_history.specs.Turn.{turn_of, IfEnds, IfKept};
 ghost use Rattle.txn_history.specs.Turn.Turn.{Ends, Stopped, Waits};
 ghost use Rattle.txn_kv.specs.declared.errors.Error.TheVariants.{OutOfMemory};
 ghost use Rattle.txn_kv.specs.declared.request.Request.{Request as Asked};
 ghost use Rattle.txn_multi.specs.Cutting.{cut_phase, cut_waits, cutting, AreApplied, AreUsable, AreWithin, IfParts, IsLookUpRefused};
-ghost use Rattle.txn_multi.specs.Searching.{Holds, IsTaken, LooksOn, Seeks};
+ghost use Rattle.txn_multi.specs.Searching.{tells_loss, Holds, IsTaken, LooksOn, SearchSteps, Seeks};
 ghost use Rattle.txn_plan.specs.LookUp.{call_waits, looked_up, AwaitsLast};
 ghost use Rattle.txn_plan.specs.Touch.{touch};
 ghost use Rattle.txn_region.specs.Clients.{IsPlaceQuery, IsUsable, OrStarved};
 ghost use Rattle.txn_shard.specs.Shards.{shards_of};
 ghost use Rattle.txn_tso.specs.Calling.{CallFits};
+ghost use Rattle.txn_tso.specs.Counting.{CallSpends};
 
 use crate::cut_stage::CutStage;
 use crate::part::Part;
@@ -28,12 +28,12 @@ use crate::region_plan::RegionPlan;
 use std::alloc::Global;
 use std::marker::Model;
 use std::mem;
-use txn_kv::{Errand, Error, NoMemory, Outbox, PdAnswer, PdQuery, Progress, Reply, Result};
+use txn_kv::{Arrival, Errand, Error, NoMemory, Outbox, PdAnswer, PdQuery, Progress, Result};
 use txn_merge::{HasKeyErrors, HasRegionError};
 use txn_plan::ShardPlan;
 use txn_region::{PdClient, RegionStore};
 use txn_shard::ShardList;
-use txn_tso::PdCall;
+use txn_tso::{PdCall, RetryClient};
 
 /// What an event of a state answers.
 type Turn<T> = std::result::Result<Progress<T>, NoMemory>;
@@ -107,94 +107,28 @@ where
         }
     }
 
-    /// The reply to the request of this number came.
-    pub fn take_reply<C: PdClient>(
+    /// Takes what came.
+    pub fn tell<C: PdClient>(
         &mut self,
         pd: &mut C,
         now: u64,
-        number: u64,
-        reply: Reply,
+        arrival: Arrival,
         out: &mut Outbox,
     ) -> Turn<Vec<Part<P>>>
         requires ready { IsUnbegun P.meaning self.old.plan }
         requires numbers { HasNumbers out.old }
-        ensures tells { (r : Asked) → Tells (cutting P.meaning P.IsPart P.load P.AreCut P.most) (replied (ticket_of out.old number) r reply) self.old self.new out.old out.new (turn_of result) }
-        ensures goes { Goes (λ c. cut_phase c.stage) (cut_waits self.old.stage (ReplyTo number)) self.old self.new out.old out.new pd.old pd.new (turn_of result) }
-        ensures counts { Counts (cutting P.meaning P.IsPart P.load P.AreCut P.most) (has_error reply) (has_region_error reply) (weight_of reply) (locked_of reply) self.old self.new out.old out.new (turn_of result) }
-        ensures parts { IfEnds (turn_of result) (IfParts P.meaning P.IsPart P.load P.AreCut P.most self.old.plan) }
-        ensures wide { IfEnds (turn_of result) (AreWithin self.new.width) }
-        ensures plan { self.new.plan ≡ self.old.plan }
-        ensures client { IfKept (turn_of result) (Seeks (touch C.looked C.learns C.leads C.drops) pd.old pd.new) }
-        ensures ready { IsUnbegun P.meaning self.new.plan }
-        ensures numbers { HasNumbers out.new }
+        ensures { SearchSteps P.meaning P.IsPart P.load P.AreCut P.most (touch C.looked C.learns C.leads C.drops) (arrives arrival out.old) self.old self.new out.old out.new pd.old pd.new (turn_of result) }
     {
-        match self.take_asking(number) {
+        match self.take_out(&arrival) {
             Some(call) => {
                 let mut call = call;
-                let turn = call.take_reply(pd.retry_client(), now, number, reply, out);
+                let turn = tell_call(&mut call, pd.retry_client(), now, arrival, out);
                 self.hear(call, turn, pd, now, out)
             }
-            None => self.stay(),
-        }
-    }
-
-    /// No reply to the request of this number will come.
-    pub fn lost<C: PdClient>(
-        &mut self,
-        pd: &mut C,
-        now: u64,
-        number: u64,
-        out: &mut Outbox,
-    ) -> Turn<Vec<Part<P>>>
-        requires ready { IsUnbegun P.meaning self.old.plan }
-        requires numbers { HasNumbers out.old }
-        ensures tells { (r : Asked) → Tells (cutting P.meaning P.IsPart P.load P.AreCut P.most) (missed (ticket_of out.old number) r) self.old self.new out.old out.new (turn_of result) }
-        ensures goes { Goes (λ c. cut_phase c.stage) (cut_waits self.old.stage (ReplyTo number)) self.old self.new out.old out.new pd.old pd.new (turn_of result) }
-        ensures counts { Counts (cutting P.meaning P.IsPart P.load P.AreCut P.most) true true 0 0 self.old self.new out.old out.new (turn_of result) }
-        ensures parts { IfEnds (turn_of result) (IfParts P.meaning P.IsPart P.load P.AreCut P.most self.old.plan) }
-        ensures wide { IfEnds (turn_of result) (AreWithin self.new.width) }
-        ensures plan { self.new.plan ≡ self.old.plan }
-        ensures client { IfKept (turn_of result) (Seeks (touch C.looked C.learns C.leads C.drops) pd.old pd.new) }
-        ensures ready { IsUnbegun P.meaning self.new.plan }
-        ensures numbers { HasNumbers out.new }
-    {
-        match self.take_asking(number) {
-            Some(call) => {
-                let mut call = call;
-                let turn = call.lost(pd.retry_client(), now, number, out);
-                self.hear(call, turn, pd, now, out)
+            None => {
+                drop(arrival);
+                self.stay()
             }
-            None => self.stay(),
-        }
-    }
-
-    /// The sleep of this number has ended.
-    pub fn slept<C: PdClient>(
-        &mut self,
-        pd: &mut C,
-        now: u64,
-        number: u64,
-        out: &mut Outbox,
-    ) -> Turn<Vec<Part<P>>>
-        requires ready { IsUnbegun P.meaning self.old.plan }
-        requires numbers { HasNumbers out.old }
-        ensures tells { Tells (cutting P.meaning P.IsPart P.load P.AreCut P.most) (woken (ticket_of out.old number)) self.old self.new out.old out.new (turn_of result) }
-        ensures goes { Goes (λ c. cut_phase c.stage) (cut_waits self.old.stage (EndOf number)) self.old self.new out.old out.new pd.old pd.new (turn_of result) }
-        ensures counts { Counts (cutting P.meaning P.IsPart P.load P.AreCut P.most) false false 0 0 self.old self.new out.old out.new (turn_of result) }
-        ensures parts { IfEnds (turn_of result) (IfParts P.meaning P.IsPart P.load P.AreCut P.most self.old.plan) }
-        ensures wide { IfEnds (turn_of result) (AreWithin self.new.width) }
-        ensures plan { self.new.plan ≡ self.old.plan }
-        ensures client { IfKept (turn_of result) (Seeks (touch C.looked C.learns C.leads C.drops) pd.old pd.new) }
-        ensures ready { IsUnbegun P.meaning self.new.plan }
-        ensures numbers { HasNumbers out.new }
-    {
-        match self.take_resting(number) {
-            Some(call) => {
-                let mut call = call;
-                let turn = call.slept(pd.retry_client(), now, number, out);
-                self.hear(call, turn, pd, now, out)
-            }
-            None => self.stay(),
         }
     }
 
@@ -205,12 +139,24 @@ where
     }
 
     /// What comes of an event that is not for this state. The connection is lent to no look-up then.
-    pub(crate) fn stay(&self) -> Turn<Vec<Part<P>>>
+    fn stay(&self) -> Turn<Vec<Part<P>>>
         ensures { turn_of result ≡ unheard (cut_phase self.now.stage) }
     {
         match self.stage {
             CutStage::Stopped => Err(NoMemory),
             _ => Ok(Progress::Waiting),
+        }
+    }
+
+    /// Takes the look-up that waits for this. None waits for a timestamp.
+    fn take_out(&mut self, arrival: &Arrival) -> Option<PdCall>
+        ensures { MatchOption result ((self.new ≡ self.old) × (cut_waits self.old.stage (awaited_as arrival.now) → ⊥)) (IsTaken (awaited_as arrival.now) self.old self.new) }
+    {
+        match arrival {
+            Arrival::Reply { number, .. } => self.take_asking(*number),
+            Arrival::Lost { number } => self.take_asking(*number),
+            Arrival::Slept { number } => self.take_resting(*number),
+            Arrival::Time { .. } => None,
         }
     }
 
@@ -385,9 +331,9 @@ where
         ensures on { (o : Posted) → LooksOn P.meaning P.IsPart P.load P.AreCut P.most (λ h. OrStarved (IsLookUpRefused h) error) (λ a. ⊥) self.old self.new o o (turn_of result) }
         ensures kept { IfKept (turn_of result) (error ≡ OutOfMemory → ⊥) }
     {
-        match error {
+        match &error {
             Error::OutOfMemory => Err(NoMemory),
-            error => self.answer(Err(error)),
+            _ => self.answer(Err(error)),
         }
     }
 
@@ -397,6 +343,35 @@ where
     {
         self.stage = CutStage::Over;
         Ok(Progress::Done(answer))
+    }
+}
+
+/// A look-up takes what it waits for, which is no answer to an ask.
+fn tell_call(
+    call: &mut PdCall,
+    client: &mut RetryClient,
+    now: u64,
+    arrival: Arrival,
+    out: &mut Outbox,
+) -> Turn<PdAnswer>
+    requires place { IsPlaceQuery call.old.query }
+    requires waits { call_waits call.old.stage (awaited_as arrival) }
+    requires untimed { (ask : ℕ) → awaited_as arrival ≡ TimeOf ask → ⊥ }
+    requires numbers { HasNumbers out.old }
+    ensures tells { (r : Asked) → Tells looked_up (told_by arrival out.old r) call.old call.new out.old out.new (turn_of result) }
+    ensures spends { CallSpends call.old call.new (tells_loss arrival) out.old out.new (turn_of result) }
+    ensures waits { turn_of result ≡ Waits → AwaitsLast call.new out.new }
+    ensures job { call.new.query ≡ call.old.query }
+    ensures numbers { HasNumbers out.new }
+{
+    match arrival {
+        Arrival::Reply { number, reply } => call.take_reply(client, now, number, reply, out),
+        Arrival::Lost { number } => call.lost(client, now, number, out),
+        Arrival::Slept { number } => call.slept(client, now, number, out),
+        Arrival::Time { ask: _, answer } => {
+            drop(answer);
+            unreachable!()
+        }
     }
 }
 

@@ -1,23 +1,21 @@
 //! A plan over many regions.
 ghost use Rattle.std.specs.Bool.{MatchBool};
 ghost use Rattle.std.specs.Prelude.{◌≡◌, ◌<◌, ◌^◌, ⊤, ℕ, Err, IfOk, None};
-ghost use Rattle.txn_history.specs.Meaning.{started, Counts, Goes, IsUnbegun, Tells};
+ghost use Rattle.txn_history.specs.Meaning.{started, IsUnbegun};
 ghost use Rattle.txn_history.specs.Phase.{phase_after, unheard};
 ghost use Rattle.txn_history.specs.Phase.Phase.{Running};
-ghost use Rattle.txn_history.specs.Posted.{HasNumbers, Posted};
+ghost use Rattle.txn_history.specs.Posted.{HasNumbers};
 ghost use Rattle.txn_history.specs.Turn.{turn_of, IfEnds, IfKept};
 ghost use Rattle.txn_history.specs.Turn.Turn.{Ends, Waits};
-ghost use Rattle.txn_kv.specs.declared.request.Request.{Request as Asked};
-ghost use Rattle.txn_multi.specs.Cutting.{cut_phase, cut_waits, ArePartsOf, IfParts};
+ghost use Rattle.txn_multi.specs.Cutting.{cut_phase, ArePartsOf, IfParts};
 ghost use Rattle.txn_multi.specs.Multi.{multi, multi-lawful, multi_phase, tasks_for, AfterCut, AfterTasks, Begins, Holding, IsAnswer};
-ghost use Rattle.txn_multi.specs.Task.{attempts_left, region_task, stage_runs};
+ghost use Rattle.txn_multi.specs.MultiSteps.{MultiSteps};
+ghost use Rattle.txn_multi.specs.Task.{attempts_left};
 ghost use Rattle.txn_multi.specs.Touching.{FoundTouches, MultiTouches, TaskTouches, UnlessGone};
-ghost use Rattle.txn_plan.specs.Arrivals.{awaited_as, locked_told, tells_error, tells_failure, told_by, weight_told, MayArrive};
+ghost use Rattle.txn_history.specs.Arrivals.{arrives, MayArrive};
 ghost use Rattle.txn_plan.specs.Touch.{touch};
-ghost use Rattle.txn_tasks.specs.Tasks.{tasks_phase, tasks_turn, AreReady, LeadsSomewhere};
-ghost use Rattle.txn_tasks.specs.Turns.{Turns};
+ghost use Rattle.txn_tasks.specs.Tasks.{tasks_phase, tasks_turn};
 
-use crate::arrival::tell_cutting;
 use crate::cutting::Cutting;
 use crate::multi_stage::MultiStage;
 use crate::part::Part;
@@ -25,10 +23,10 @@ use crate::region_plan::RegionPlan;
 use crate::task::{RegionTask, most_parts, tasks_of};
 use std::alloc::Global;
 use std::mem;
-use txn_kv::{Backoff, NoMemory, Outbox, Progress, Reply, Result, Timestamp};
+use txn_kv::{Arrival, Backoff, NoMemory, Outbox, Progress, Result};
 use txn_merge::has_key_errors::HasKeyErrors;
 use txn_merge::has_region_error::HasRegionError;
-use txn_plan::{Arrival, Plan, ShardPlan};
+use txn_plan::{Plan, ShardPlan};
 use txn_region::PdClient;
 use txn_retry::{all_or_first, keep_all};
 use txn_tasks::Tasks;
@@ -119,35 +117,6 @@ where
         }
     }
 
-    /// It is told of something.
-    fn tell<C: PdClient>(
-        &mut self,
-        arrival: Arrival,
-        pd: &mut C,
-        now: u64,
-        out: &mut Outbox,
-    ) -> Turn<P>
-        requires ready { (multi P.meaning P.Result.key_errors_in P.Result.region_error_in P.IsPart P.load P.AreCut P.most).ready self.old }
-        requires arrives { MayArrive arrival }
-        requires numbers { HasNumbers out.old }
-        requires clock { now < 2 ^ 44 }
-        ensures tells { (r : Asked) → Tells (multi P.meaning P.Result.key_errors_in P.Result.region_error_in P.IsPart P.load P.AreCut P.most) (told_by arrival out.old r) self.old self.new out.old out.new (turn_of result) }
-        ensures goes { Goes (multi P.meaning P.Result.key_errors_in P.Result.region_error_in P.IsPart P.load P.AreCut P.most).phase ((multi P.meaning P.Result.key_errors_in P.Result.region_error_in P.IsPart P.load P.AreCut P.most).waits self.old (awaited_as arrival)) self.old self.new out.old out.new pd.old pd.new (turn_of result) }
-        ensures counts { Counts (multi P.meaning P.Result.key_errors_in P.Result.region_error_in P.IsPart P.load P.AreCut P.most) (tells_error arrival) (tells_failure arrival) (weight_told arrival) (locked_told arrival) self.old self.new out.old out.new (turn_of result) }
-        ensures client { (r : Asked) → MultiTouches (touch C.looked C.learns C.leads C.drops) (TaskTouches P.meaning P.Result.key_errors_in P.Result.region_error_in (touch C.looked C.learns C.leads C.drops) (P.touches (touch C.looked C.learns C.leads C.drops))) (told_by arrival out.old r) out.old self.old self.new pd.old pd.new }
-        ensures ready { (multi P.meaning P.Result.key_errors_in P.Result.region_error_in P.IsPart P.load P.AreCut P.most).ready self.new }
-        ensures numbers { HasNumbers out.new }
-    {
-        match mem::replace(&mut self.stage, MultiStage::Stopped) {
-            MultiStage::Cutting(cutting) => self.tell_cutting(cutting, arrival, pd, now, out),
-            MultiStage::Running => self.tell_tasks(arrival, pd, now, out),
-            stage => {
-                drop(arrival);
-                self.stay(stage)
-            }
-        }
-    }
-
     /// Looks for the shards of a copy of the plan.
     fn begin<C: PdClient>(&mut self, pd: &mut C, now: u64, out: &mut Outbox) -> Turn<P>
         requires stopped { self.old.stage ≡ MultiStage.Stopped }
@@ -166,13 +135,13 @@ where
         self.after_cut(cutting, turn, pd, now, out)
     }
 
-    /// The search of its shards is told of something.
+    /// The search of its shards takes what came.
     fn tell_cutting<C: PdClient>(
         &mut self,
         cutting: Cutting<P>,
-        arrival: Arrival,
         pd: &mut C,
         now: u64,
+        arrival: Arrival,
         out: &mut Outbox,
     ) -> Turn<P>
         requires stopped { self.old.stage ≡ MultiStage.Stopped }
@@ -182,15 +151,10 @@ where
         requires running { cut_phase cutting.stage ≡ Running }
         requires numbers { HasNumbers out.old }
         requires clock { now < 2 ^ 44 }
-        ensures tells { (r : Asked) → Tells (multi P.meaning P.Result.key_errors_in P.Result.region_error_in P.IsPart P.load P.AreCut P.most) (told_by arrival out.old r) (record self.old { stage = MultiStage.Cutting cutting }) self.new out.old out.new (turn_of result) }
-        ensures goes { Goes (multi P.meaning P.Result.key_errors_in P.Result.region_error_in P.IsPart P.load P.AreCut P.most).phase (cut_waits cutting.stage (awaited_as arrival)) (record self.old { stage = MultiStage.Cutting cutting }) self.new out.old out.new pd.old pd.new (turn_of result) }
-        ensures counts { Counts (multi P.meaning P.Result.key_errors_in P.Result.region_error_in P.IsPart P.load P.AreCut P.most) (tells_error arrival) (tells_failure arrival) (weight_told arrival) (locked_told arrival) (record self.old { stage = MultiStage.Cutting cutting }) self.new out.old out.new (turn_of result) }
-        ensures client { (r : Asked) → MultiTouches (touch C.looked C.learns C.leads C.drops) (TaskTouches P.meaning P.Result.key_errors_in P.Result.region_error_in (touch C.looked C.learns C.leads C.drops) (P.touches (touch C.looked C.learns C.leads C.drops))) (told_by arrival out.old r) out.old self.old self.new pd.old pd.new }
-        ensures ready { (multi P.meaning P.Result.key_errors_in P.Result.region_error_in P.IsPart P.load P.AreCut P.most).ready self.new }
-        ensures numbers { HasNumbers out.new }
+        ensures { MultiSteps P.meaning P.Result.key_errors_in P.Result.region_error_in P.IsPart P.load P.AreCut P.most (touch C.looked C.learns C.leads C.drops) (P.touches (touch C.looked C.learns C.leads C.drops)) (arrives arrival out.old) (record self.old { stage = MultiStage.Cutting cutting }) self.new out.old out.new pd.old pd.new (turn_of result) }
     {
         let mut cutting = cutting;
-        let turn = tell_cutting(arrival, &mut cutting, pd, now, out);
+        let turn = cutting.tell(pd, now, arrival, out);
         self.after_cut(cutting, turn, pd, now, out)
     }
 
@@ -254,12 +218,12 @@ where
         self.after_tasks(turn)
     }
 
-    /// Its tasks are told of something.
+    /// Its tasks take what came.
     fn tell_tasks<C: PdClient>(
         &mut self,
-        arrival: Arrival,
         pd: &mut C,
         now: u64,
+        arrival: Arrival,
         out: &mut Outbox,
     ) -> Turn<P>
         requires stopped { self.old.stage ≡ MultiStage.Stopped }
@@ -268,17 +232,12 @@ where
         requires arrives { MayArrive arrival }
         requires numbers { HasNumbers out.old }
         requires clock { now < 2 ^ 44 }
-        ensures tells { (r : Asked) → Tells (multi P.meaning P.Result.key_errors_in P.Result.region_error_in P.IsPart P.load P.AreCut P.most) (told_by arrival out.old r) (record self.old { stage = MultiStage.Running }) self.new out.old out.new (turn_of result) }
-        ensures goes { Goes (multi P.meaning P.Result.key_errors_in P.Result.region_error_in P.IsPart P.load P.AreCut P.most).phase (Holding self.old.tasks (λ t. LeadsSomewhere t (awaited_as arrival))) (record self.old { stage = MultiStage.Running }) self.new out.old out.new pd.old pd.new (turn_of result) }
-        ensures counts { Counts (multi P.meaning P.Result.key_errors_in P.Result.region_error_in P.IsPart P.load P.AreCut P.most) (tells_error arrival) (tells_failure arrival) (weight_told arrival) (locked_told arrival) (record self.old { stage = MultiStage.Running }) self.new out.old out.new (turn_of result) }
-        ensures client { (r : Asked) → MultiTouches (touch C.looked C.learns C.leads C.drops) (TaskTouches P.meaning P.Result.key_errors_in P.Result.region_error_in (touch C.looked C.learns C.leads C.drops) (P.touches (touch C.looked C.learns C.leads C.drops))) (told_by arrival out.old r) out.old self.old self.new pd.old pd.new }
-        ensures ready { (multi P.meaning P.Result.key_errors_in P.Result.region_error_in P.IsPart P.load P.AreCut P.most).ready self.new }
-        ensures numbers { HasNumbers out.new }
+        ensures { MultiSteps P.meaning P.Result.key_errors_in P.Result.region_error_in P.IsPart P.load P.AreCut P.most (touch C.looked C.learns C.leads C.drops) (P.touches (touch C.looked C.learns C.leads C.drops)) (arrives arrival out.old) (record self.old { stage = MultiStage.Running }) self.new out.old out.new pd.old pd.new (turn_of result) }
     {
         let Some(tasks) = &mut self.tasks else {
             unreachable!()
         };
-        let turn = tell(tasks, arrival, pd, now, out);
+        let turn = tasks.tell(pd, now, arrival, out);
         self.after_tasks(turn)
     }
 
@@ -332,35 +291,6 @@ where
     }
 }
 
-/// Tells tasks of something.
-fn tell<P: RegionPlan, C: PdClient>(
-    tasks: &mut Tasks<RegionTask<P>>,
-    arrival: Arrival,
-    pd: &mut C,
-    now: u64,
-    out: &mut Outbox,
-) -> TasksTurn<P>
-where
-    P::Result: HasKeyErrors + HasRegionError,
-    requires ready { AreReady (region_task P.meaning P.Result.key_errors_in P.Result.region_error_in P.IsPart P.load P.AreCut P.most) (λ t. stage_runs t.stage) tasks.old }
-    requires arrives { MayArrive arrival }
-    requires numbers { HasNumbers out.old }
-    requires clock { now < 2 ^ 44 }
-    ensures tells { (inner : P) (limit : ℕ) (r : Asked) → Tells (tasks_for P.meaning P.Result.key_errors_in P.Result.region_error_in P.IsPart P.load P.AreCut P.most inner limit) (told_by arrival out.old r) tasks.old tasks.new out.old out.new (tasks_turn result) }
-    ensures goes { Goes (λ t. tasks_phase t.stage) (LeadsSomewhere tasks.old (awaited_as arrival)) tasks.old tasks.new out.old out.new pd.old pd.new (tasks_turn result) }
-    ensures counts { (inner : P) (limit : ℕ) → Counts (tasks_for P.meaning P.Result.key_errors_in P.Result.region_error_in P.IsPart P.load P.AreCut P.most inner limit) (tells_error arrival) (tells_failure arrival) (weight_told arrival) (locked_told arrival) tasks.old tasks.new out.old out.new (tasks_turn result) }
-    ensures client { (r : Asked) → IfKept (tasks_turn result) (Turns (TaskTouches P.meaning P.Result.key_errors_in P.Result.region_error_in (touch C.looked C.learns C.leads C.drops) (P.touches (touch C.looked C.learns C.leads C.drops))) (told_by arrival out.old r) out.old tasks.old.tasks.items tasks.new.tasks.items pd.old pd.new) }
-    ensures ready { AreReady (region_task P.meaning P.Result.key_errors_in P.Result.region_error_in P.IsPart P.load P.AreCut P.most) (λ t. stage_runs t.stage) tasks.new }
-    ensures numbers { HasNumbers out.new }
-{
-    match arrival {
-        Arrival::Reply { number, reply } => tasks.take_reply(pd, now, number, reply, out),
-        Arrival::Lost { number } => tasks.lost(pd, now, number, out),
-        Arrival::Slept { number } => tasks.slept(pd, now, number, out),
-        Arrival::Time { ask, answer } => tasks.take_time(pd, now, ask, answer, out),
-    }
-}
-
 impl<P: RegionPlan> Plan for RetryableMultiRegion<P>
 where
     P::Result: HasKeyErrors + HasRegionError,
@@ -394,46 +324,21 @@ where
         }
     }
 
-    fn take_reply<C: PdClient>(
+    fn tell<C: PdClient>(
         &mut self,
         pd: &mut C,
         now: u64,
-        number: u64,
-        reply: Reply,
+        arrival: Arrival,
         out: &mut Outbox,
     ) -> Turn<P> {
-        self.tell(Arrival::Reply { number, reply }, pd, now, out)
-    }
-
-    fn lost<C: PdClient>(
-        &mut self,
-        pd: &mut C,
-        now: u64,
-        number: u64,
-        out: &mut Outbox,
-    ) -> Turn<P> {
-        self.tell(Arrival::Lost { number }, pd, now, out)
-    }
-
-    fn slept<C: PdClient>(
-        &mut self,
-        pd: &mut C,
-        now: u64,
-        number: u64,
-        out: &mut Outbox,
-    ) -> Turn<P> {
-        self.tell(Arrival::Slept { number }, pd, now, out)
-    }
-
-    fn take_time<C: PdClient>(
-        &mut self,
-        pd: &mut C,
-        now: u64,
-        ask: u64,
-        answer: Result<Timestamp>,
-        out: &mut Outbox,
-    ) -> Turn<P> {
-        self.tell(Arrival::Time { ask, answer }, pd, now, out)
+        match mem::replace(&mut self.stage, MultiStage::Stopped) {
+            MultiStage::Cutting(cutting) => self.tell_cutting(cutting, pd, now, arrival, out),
+            MultiStage::Running => self.tell_tasks(pd, now, arrival, out),
+            stage => {
+                drop(arrival);
+                self.stay(stage)
+            }
+        }
     }
 
     ghost lawful = { multi-lawful P.meaning P.Result.key_errors_in P.Result.region_error_in P.IsPart P.load P.AreCut P.most P.lawful };

@@ -1,24 +1,21 @@
 //! One task of a plan over many regions.
 ghost use Rattle.std.specs.Prelude.{◌≡◌, ◌<◌, ◌^◌, ℕ, Bool, IfOk, Ok, Err, OnOk, false, map, max, suc, true};
-ghost use Rattle.txn_history.specs.Meaning.{started, Counts, Goes, Tells};
+ghost use Rattle.txn_history.specs.Meaning.{started, Counts, Tells};
 ghost use Rattle.txn_history.specs.Phase.{phase_after, unheard};
-ghost use Rattle.txn_history.specs.Phase.Awaited.{EndOf};
 ghost use Rattle.txn_history.specs.Phase.Phase.{Fresh, Running};
 ghost use Rattle.txn_history.specs.Posted.{HasNumbers, Posted};
 ghost use Rattle.txn_history.specs.Turn.{IfEnds};
 ghost use Rattle.txn_kv.specs.declared.errors.Error.TheVariants.{GrpcAPI};
-ghost use Rattle.txn_kv.specs.declared.request.Request.{Request as Asked};
-ghost use Rattle.txn_multi.specs.Cutting.{cut_phase, cut_waits, ArePartsOf, IfParts, UnfoundIfErr};
-ghost use Rattle.txn_multi.specs.Searching.{Seeks};
+ghost use Rattle.txn_multi.specs.Cutting.{cut_phase, ArePartsOf, IfParts, UnfoundIfErr};
 ghost use Rattle.txn_multi.specs.Task.{limit_of, owed, region_task, region_task-lawful, runs_running, shared, stage_phase, stage_runs, task_for, tried, CostsOver, GoesOnAt, GoesOver, HaveFailedBy, IsChanged, IsOutcome, IsReady, IsRefused, IsTaskOf, IsUnderWay, Limited, MayGoOn, TaskReady};
-ghost use Rattle.txn_multi.specs.Touching.{change_after, IsHeeded, PlanTouches, TaskTouches, UnlessStopped};
-ghost use Rattle.txn_plan.specs.Arrivals.{awaited_as, locked_told, tells_error, tells_failure, told_by, weight_told, MayArrive};
+ghost use Rattle.txn_multi.specs.TaskSteps.{TaskSteps};
+ghost use Rattle.txn_multi.specs.Touching.{change_after, IsHeeded, PlanTouches, TaskTouches};
+ghost use Rattle.txn_history.specs.Arrivals.{arrives, MayArrive};
 ghost use Rattle.txn_plan.specs.Touch.{touch};
 ghost use Rattle.txn_retry.specs.Remedy.{delay_ms, on_loss, on_region_error};
 ghost use Rattle.txn_tasks.specs.Step.{step_turn, IsEnd, Keeps};
 ghost use Rattle.txn_tasks.specs.Tasks.{greatest};
 
-use crate::arrival::tell_cutting;
 use crate::cutting::Cutting;
 use crate::part::Part;
 use crate::region_plan::RegionPlan;
@@ -26,11 +23,11 @@ use crate::stage::Stage;
 use std::alloc::Global;
 use std::mem;
 use txn_kv::{
-    Backoff, Error, Internal, NoMemory, Outbox, Progress, RegionErr, RegionVerId, Reply, Result,
-    Ticket, Timestamp,
+    Arrival, Backoff, Error, Internal, NoMemory, Outbox, Progress, RegionErr, RegionVerId, Result,
+    Ticket,
 };
 use txn_merge::{HasKeyErrors, HasRegionError};
-use txn_plan::{Arrival, Plan, ShardPlan};
+use txn_plan::{Plan, ShardPlan};
 use txn_region::PdClient;
 use txn_retry::{CacheChange, Next, Remedy, on_loss, on_region_error};
 use txn_tasks::{Step, Task};
@@ -106,45 +103,13 @@ where
         }
     }
 
-    /// It is told of something.
-    fn tell<C: PdClient>(
-        &mut self,
-        arrival: Arrival,
-        pd: &mut C,
-        now: u64,
-        out: &mut Outbox,
-    ) -> Turn<P>
-        requires ready { TaskReady P.meaning self.old }
-        requires arrives { MayArrive arrival }
-        requires numbers { HasNumbers out.old }
-        requires clock { now < 2 ^ 44 }
-        ensures tells { (r : Asked) → Tells (region_task P.meaning P.Result.key_errors_in P.Result.region_error_in P.IsPart P.load P.AreCut P.most) (told_by arrival out.old r) self.old self.new out.old out.new (step_turn result) }
-        ensures goes { Goes (region_task P.meaning P.Result.key_errors_in P.Result.region_error_in P.IsPart P.load P.AreCut P.most).phase ((region_task P.meaning P.Result.key_errors_in P.Result.region_error_in P.IsPart P.load P.AreCut P.most).waits self.old (awaited_as arrival)) self.old self.new out.old out.new pd.old pd.new (step_turn result) }
-        ensures counts { Counts (region_task P.meaning P.Result.key_errors_in P.Result.region_error_in P.IsPart P.load P.AreCut P.most) (tells_error arrival) (tells_failure arrival) (weight_told arrival) (locked_told arrival) self.old self.new out.old out.new (step_turn result) }
-        ensures keeps { Keeps (region_task P.meaning P.Result.key_errors_in P.Result.region_error_in P.IsPart P.load P.AreCut P.most) (λ t. P.load t.job) P.AreCut (IsTaskOf P.meaning P.IsPart P.most) (λ t. stage_runs t.stage) self.old self.new (step_turn result) }
-        ensures client { (r : Asked) → TaskTouches P.meaning P.Result.key_errors_in P.Result.region_error_in (touch C.looked C.learns C.leads C.drops) (P.touches (touch C.looked C.learns C.leads C.drops)) (told_by arrival out.old r) out.old self.old self.new pd.old pd.new }
-        ensures off { stage_runs self.old.stage ≡ false → stage_runs self.new.stage ≡ false }
-        ensures ready { TaskReady P.meaning self.new }
-        ensures numbers { HasNumbers out.new }
-    {
-        match mem::replace(&mut self.stage, Stage::Stopped) {
-            Stage::Running(plan) => self.tell_plan(plan, arrival, pd, now, out),
-            Stage::Sleeping(number) => self.tell_sleeping(number, arrival, pd, now, out),
-            Stage::Cutting(cutting) => self.tell_cutting(cutting, arrival, pd, now, out),
-            stage => {
-                drop(arrival);
-                self.stay(stage)
-            }
-        }
-    }
-
-    /// Its plan is told of something.
+    /// Its plan takes what came.
     fn tell_plan<C: PdClient>(
         &mut self,
         plan: P,
-        arrival: Arrival,
         pd: &mut C,
         now: u64,
+        arrival: Arrival,
         out: &mut Outbox,
     ) -> Turn<P>
         requires stopped { self.old.stage ≡ Stage.Stopped }
@@ -153,16 +118,10 @@ where
         requires arrives { MayArrive arrival }
         requires numbers { HasNumbers out.old }
         requires clock { now < 2 ^ 44 }
-        ensures tells { (r : Asked) → Tells (region_task P.meaning P.Result.key_errors_in P.Result.region_error_in P.IsPart P.load P.AreCut P.most) (told_by arrival out.old r) (record self.old { stage = Stage.Running plan }) self.new out.old out.new (step_turn result) }
-        ensures goes { Goes (region_task P.meaning P.Result.key_errors_in P.Result.region_error_in P.IsPart P.load P.AreCut P.most).phase (P.meaning.waits plan (awaited_as arrival)) (record self.old { stage = Stage.Running plan }) self.new out.old out.new pd.old pd.new (step_turn result) }
-        ensures counts { Counts (region_task P.meaning P.Result.key_errors_in P.Result.region_error_in P.IsPart P.load P.AreCut P.most) (tells_error arrival) (tells_failure arrival) (weight_told arrival) (locked_told arrival) (record self.old { stage = Stage.Running plan }) self.new out.old out.new (step_turn result) }
-        ensures keeps { Keeps (region_task P.meaning P.Result.key_errors_in P.Result.region_error_in P.IsPart P.load P.AreCut P.most) (λ t. P.load t.job) P.AreCut (IsTaskOf P.meaning P.IsPart P.most) (λ t. stage_runs t.stage) self.old self.new (step_turn result) }
-        ensures client { (r : Asked) → PlanTouches P.meaning P.Result.key_errors_in P.Result.region_error_in (touch C.looked C.learns C.leads C.drops) (P.touches (touch C.looked C.learns C.leads C.drops)) (told_by arrival out.old r) out.old self.old.region (delay_ms self.old.backoff) plan self.new.stage pd.old pd.new }
-        ensures ready { TaskReady P.meaning self.new }
-        ensures numbers { HasNumbers out.new }
+        ensures { TaskSteps P.meaning P.Result.key_errors_in P.Result.region_error_in P.IsPart P.load P.AreCut P.most (touch C.looked C.learns C.leads C.drops) (P.touches (touch C.looked C.learns C.leads C.drops)) (arrives arrival out.old) (record self.old { stage = Stage.Running plan }) self.new out.old out.new pd.old pd.new (step_turn result) }
     {
         let mut plan = plan;
-        match arrival.tell(&mut plan, pd, now, out)? {
+        match plan.tell(pd, now, arrival, out)? {
             Progress::Waiting => {
                 self.stage = Stage::Running(plan);
                 Ok(None)
@@ -175,22 +134,15 @@ where
     fn tell_sleeping<C: PdClient>(
         &mut self,
         number: u64,
-        arrival: Arrival,
         pd: &mut C,
         now: u64,
+        arrival: Arrival,
         out: &mut Outbox,
     ) -> Turn<P>
         requires stopped { self.old.stage ≡ Stage.Stopped }
         requires job { IsReady P.meaning self.old.job }
         requires numbers { HasNumbers out.old }
-        ensures tells { (r : Asked) → Tells (region_task P.meaning P.Result.key_errors_in P.Result.region_error_in P.IsPart P.load P.AreCut P.most) (told_by arrival out.old r) (record self.old { stage = Stage.Sleeping number }) self.new out.old out.new (step_turn result) }
-        ensures goes { Goes (region_task P.meaning P.Result.key_errors_in P.Result.region_error_in P.IsPart P.load P.AreCut P.most).phase (awaited_as arrival ≡ EndOf number) (record self.old { stage = Stage.Sleeping number }) self.new out.old out.new pd.old pd.new (step_turn result) }
-        ensures counts { Counts (region_task P.meaning P.Result.key_errors_in P.Result.region_error_in P.IsPart P.load P.AreCut P.most) (tells_error arrival) (tells_failure arrival) (weight_told arrival) (locked_told arrival) (record self.old { stage = Stage.Sleeping number }) self.new out.old out.new (step_turn result) }
-        ensures keeps { Keeps (region_task P.meaning P.Result.key_errors_in P.Result.region_error_in P.IsPart P.load P.AreCut P.most) (λ t. P.load t.job) P.AreCut (IsTaskOf P.meaning P.IsPart P.most) (λ t. stage_runs t.stage) self.old self.new (step_turn result) }
-        ensures changed { C.looked pd.old pd.new }
-        ensures off { stage_runs self.new.stage ≡ false }
-        ensures ready { TaskReady P.meaning self.new }
-        ensures numbers { HasNumbers out.new }
+        ensures { TaskSteps P.meaning P.Result.key_errors_in P.Result.region_error_in P.IsPart P.load P.AreCut P.most (touch C.looked C.learns C.leads C.drops) (P.touches (touch C.looked C.learns C.leads C.drops)) (arrives arrival out.old) (record self.old { stage = Stage.Sleeping number }) self.new out.old out.new pd.old pd.new (step_turn result) }
     {
         if arrival.is_end_of(number) {
             drop(arrival);
@@ -201,13 +153,13 @@ where
         Ok(None)
     }
 
-    /// Its look-ups are told of something.
+    /// Its look-ups take what came.
     fn tell_cutting<C: PdClient>(
         &mut self,
         cutting: Cutting<P>,
-        arrival: Arrival,
         pd: &mut C,
         now: u64,
+        arrival: Arrival,
         out: &mut Outbox,
     ) -> Turn<P>
         requires stopped { self.old.stage ≡ Stage.Stopped }
@@ -215,17 +167,10 @@ where
         requires same { cutting.plan ≡ self.old.job }
         requires running { cut_phase cutting.stage ≡ Running }
         requires numbers { HasNumbers out.old }
-        ensures tells { (r : Asked) → Tells (region_task P.meaning P.Result.key_errors_in P.Result.region_error_in P.IsPart P.load P.AreCut P.most) (told_by arrival out.old r) (record self.old { stage = Stage.Cutting cutting }) self.new out.old out.new (step_turn result) }
-        ensures goes { Goes (region_task P.meaning P.Result.key_errors_in P.Result.region_error_in P.IsPart P.load P.AreCut P.most).phase (cut_waits cutting.stage (awaited_as arrival)) (record self.old { stage = Stage.Cutting cutting }) self.new out.old out.new pd.old pd.new (step_turn result) }
-        ensures counts { Counts (region_task P.meaning P.Result.key_errors_in P.Result.region_error_in P.IsPart P.load P.AreCut P.most) (tells_error arrival) (tells_failure arrival) (weight_told arrival) (locked_told arrival) (record self.old { stage = Stage.Cutting cutting }) self.new out.old out.new (step_turn result) }
-        ensures keeps { Keeps (region_task P.meaning P.Result.key_errors_in P.Result.region_error_in P.IsPart P.load P.AreCut P.most) (λ t. P.load t.job) P.AreCut (IsTaskOf P.meaning P.IsPart P.most) (λ t. stage_runs t.stage) self.old self.new (step_turn result) }
-        ensures client { UnlessStopped self.new.stage (Seeks (touch C.looked C.learns C.leads C.drops) pd.old pd.new) }
-        ensures off { stage_runs self.new.stage ≡ false }
-        ensures ready { TaskReady P.meaning self.new }
-        ensures numbers { HasNumbers out.new }
+        ensures { TaskSteps P.meaning P.Result.key_errors_in P.Result.region_error_in P.IsPart P.load P.AreCut P.most (touch C.looked C.learns C.leads C.drops) (P.touches (touch C.looked C.learns C.leads C.drops)) (arrives arrival out.old) (record self.old { stage = Stage.Cutting cutting }) self.new out.old out.new pd.old pd.new (step_turn result) }
     {
         let mut cutting = cutting;
-        match tell_cutting(arrival, &mut cutting, pd, now, out)? {
+        match cutting.tell(pd, now, arrival, out)? {
             Progress::Waiting => {
                 self.stage = Stage::Cutting(cutting);
                 Ok(None)
@@ -256,9 +201,9 @@ where
     {
         match answer {
             Ok(reply) => self.take_reply_of(reply, pd, now, out),
-            Err(error) => match error {
-                Error::GrpcAPI(ticket) => self.take_loss(ticket, pd, now, out),
-                error => self.end(Err(error)),
+            Err(error) => match &error {
+                Error::GrpcAPI(ticket) => self.take_loss(*ticket, pd, now, out),
+                _ => self.end(Err(error)),
             },
         }
     }
@@ -544,46 +489,22 @@ where
         }
     }
 
-    fn take_reply<C: PdClient>(
+    fn tell<C: PdClient>(
         &mut self,
         pd: &mut C,
         now: u64,
-        number: u64,
-        reply: Reply,
+        arrival: Arrival,
         out: &mut Outbox,
     ) -> Turn<P> {
-        self.tell(Arrival::Reply { number, reply }, pd, now, out)
-    }
-
-    fn lost<C: PdClient>(
-        &mut self,
-        pd: &mut C,
-        now: u64,
-        number: u64,
-        out: &mut Outbox,
-    ) -> Turn<P> {
-        self.tell(Arrival::Lost { number }, pd, now, out)
-    }
-
-    fn slept<C: PdClient>(
-        &mut self,
-        pd: &mut C,
-        now: u64,
-        number: u64,
-        out: &mut Outbox,
-    ) -> Turn<P> {
-        self.tell(Arrival::Slept { number }, pd, now, out)
-    }
-
-    fn take_time<C: PdClient>(
-        &mut self,
-        pd: &mut C,
-        now: u64,
-        ask: u64,
-        answer: Result<Timestamp>,
-        out: &mut Outbox,
-    ) -> Turn<P> {
-        self.tell(Arrival::Time { ask, answer }, pd, now, out)
+        match mem::replace(&mut self.stage, Stage::Stopped) {
+            Stage::Running(plan) => self.tell_plan(plan, pd, now, arrival, out),
+            Stage::Sleeping(number) => self.tell_sleeping(number, pd, now, arrival, out),
+            Stage::Cutting(cutting) => self.tell_cutting(cutting, pd, now, arrival, out),
+            stage => {
+                drop(arrival);
+                self.stay(stage)
+            }
+        }
     }
 
     ghost lawful = { region_task-lawful P.meaning P.Result.key_errors_in P.Result.region_error_in P.IsPart P.load P.AreCut P.most P.lawful };

@@ -37,10 +37,8 @@ pub enum Refusal {
 }
 
 fn listed(rt: &impl Abort, alloc: Global, region_epoch: Option<RegionEpoch>) -> Items<Region> {
-    let region = Region {
-        region_epoch,
-        ..region(1, Key::empty(alloc), Key::empty(alloc))
-    };
+    let mut region = region(1, Key::empty(alloc), Key::empty(alloc));
+    region.region_epoch = region_epoch;
     Items::from_vec(vec![in alloc; region].expect(rt, "memory"))
 }
 
