@@ -1,16 +1,16 @@
--- The calls of a plan that is refused for locks are those of the plan.
-use Rattle.std.proofs.Common.{◌≡◌, ℕ, Bool, true, ap, inl, inr}
+-- A call of a plan that is refused for locks is one of the plan.
+use Rattle.std.proofs.Common.{◌≡◌, Bool, true, ap, inl, inr}
 use Rattle.std.proofs.lemmas.Bool.{false≢true}
 use Rattle.std.specs.Prelude.{⊤, List, Result, Ok, Err}
 use Rattle.txn_kv.specs.declared.errors.Error.{Error}
 use Rattle.txn_kv.specs.declared.errors.Error.TheVariants.{OutOfMemory, ResolveLockError}
 use Rattle.txn_kv.specs.declared.message.LockInfo.{LockInfo}
 use Rattle.txn_history.specs.Around.{IsRead}
-use Rattle.txn_history.specs.Meaning.{Counts, Goes, Meaning, Tells, Told}
-use Rattle.txn_history.specs.Phase.{Phase}
+use Rattle.txn_history.specs.Meaning.{Meaning, Told}
 use Rattle.txn_history.specs.Posted.{Posted}
+use Rattle.txn_history.specs.Steps.{News, Steps}
 use Rattle.txn_history.specs.Turn.{Turn}
-use Rattle.txn_history.proofs.Around.{Counts-around, Goes-around, Tells-around}
+use Rattle.txn_history.proofs.Stepping.{Steps-around}
 use Rattle.txn_resolve.specs.Unlocked.{error_fails, unlocked, unlocked_fails, IsRefusedFor, IsUnlocked, LocksOr}
 use Rattle.txn_resolve.specs.declared.resolve_lock.ResolveLock.{ResolveLock}
 
@@ -34,23 +34,15 @@ fails_with fails locks_in (Ok reply) b (inl e) f = absurd (false≢true (rw e at
 fails_with fails locks_in (Ok reply) b (inr l) f = locks_or_fails fails (locks_in reply) reply b l f
 fails_with fails locks_in (Err error) b p f = same_error fails error (rw p at f)
 
-pub tells : {S A : Type 0} (m : Meaning S (Result A Error)) (locks_in : A → List LockInfo)
-    {told : Told} {old : ResolveLock S A} {new : S} {from to : Posted} {turn : Turn (Result A Error)} {turn' : Turn (Result A Error)}
+pub steps : {S A C : Type 0} (m : Meaning S (Result A Error)) (locks_in : A → List LockInfo)
+    {touches : Told → Posted → S → S → C → C → Type 0} {news : News} {old : ResolveLock S A} {new : S} {from to : Posted} {pd pd' : C} {turn : Turn (Result A Error)} {turn' : Turn (Result A Error)}
     → IsRead (IsUnlocked locks_in) turn turn'
-    → Tells m told old.inner new from to turn
-    → Tells (unlocked m locks_in) told old (record old { inner = new }) from to turn'
-tells m locks_in i t = Tells-around m (λ s. s.inner) (λ s. IsUnlocked locks_in) (λ s. ⊤) (unlocked_fails m.fails) (λ a b r. r) (λ a b r. r) i t
-
-pub goes : {S A C : Type 0} (phase : S → Phase) (locks_in : A → List LockInfo)
-    {meant : Type 0} {old : ResolveLock S A} {new : S} {from to : Posted} {pd pd' : C} {turn : Turn (Result A Error)} {turn' : Turn (Result A Error)}
-    → IsRead (IsUnlocked locks_in) turn turn'
-    → Goes phase meant old.inner new from to pd pd' turn
-    → Goes (λ (s : ResolveLock S A). phase s.inner) meant old (record old { inner = new }) from to pd pd' turn'
-goes {S} phase locks_in {old} i t = Goes-around phase (λ s. s.inner) (IsUnlocked locks_in) (λ e. ap (λ (s : S). record old { inner = s }) e) i t
-
-pub counts : {S A : Type 0} (m : Meaning S (Result A Error)) (locks_in : A → List LockInfo)
-    {bad fails : Bool} {weight locked : ℕ} {old : ResolveLock S A} {new : S} {from to : Posted} {turn : Turn (Result A Error)} {turn' : Turn (Result A Error)}
-    → IsRead (IsUnlocked locks_in) turn turn'
-    → Counts m bad fails weight locked old.inner new from to turn
-    → Counts (unlocked m locks_in) bad fails weight locked old (record old { inner = new }) from to turn'
-counts m locks_in {turn} i t = Counts-around m (λ s. s.inner) (λ s. IsUnlocked locks_in) (λ s. ⊤) (unlocked_fails m.fails) turn (fails_with m.fails locks_in) i t
+    → Steps m touches news old.inner new from to pd pd' turn
+    → Steps (unlocked m locks_in) (λ told o s t x y. touches told o s.inner t.inner x y) news old (record old { inner = new }) from to pd pd' turn'
+steps {S} m locks_in {touches = touches} {old = old} i s = Steps-around m (λ s. s.inner) (λ s. IsUnlocked locks_in) (λ s. ⊤) (unlocked_fails m.fails) touches (record {
+  given = λ a b r. r;
+  gave = λ a b r. r;
+  same = ap (λ (s : S). record old { inner = s });
+  passes = fails_with m.fails locks_in;
+  called = tt;
+}) i s

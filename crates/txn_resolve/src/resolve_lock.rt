@@ -4,7 +4,7 @@ ghost use Rattle.txn_history.specs.Turn.{turn_of};
 ghost use Rattle.txn_resolve.specs.Unlocked.{unlocked, unlocked-lawful, IsUnlocked, LocksOr};
 
 use std::alloc::Global;
-use txn_kv::{Backoff, Error, NoMemory, Outbox, Progress, Reply, Timestamp};
+use txn_kv::{Arrival, Backoff, Error, NoMemory, Outbox, Progress};
 use txn_merge::HasLocks;
 use txn_plan::Plan;
 use txn_region::PdClient;
@@ -97,49 +97,14 @@ where
         self.read(turn)
     }
 
-    fn take_reply<C: PdClient>(
+    fn tell<C: PdClient>(
         &mut self,
         pd: &mut C,
         now: u64,
-        number: u64,
-        reply: Reply,
+        arrival: Arrival,
         out: &mut Outbox,
     ) -> Result<Progress<P::Result>, NoMemory> {
-        let turn = self.inner.take_reply(pd, now, number, reply, out);
-        self.read(turn)
-    }
-
-    fn lost<C: PdClient>(
-        &mut self,
-        pd: &mut C,
-        now: u64,
-        number: u64,
-        out: &mut Outbox,
-    ) -> Result<Progress<P::Result>, NoMemory> {
-        let turn = self.inner.lost(pd, now, number, out);
-        self.read(turn)
-    }
-
-    fn slept<C: PdClient>(
-        &mut self,
-        pd: &mut C,
-        now: u64,
-        number: u64,
-        out: &mut Outbox,
-    ) -> Result<Progress<P::Result>, NoMemory> {
-        let turn = self.inner.slept(pd, now, number, out);
-        self.read(turn)
-    }
-
-    fn take_time<C: PdClient>(
-        &mut self,
-        pd: &mut C,
-        now: u64,
-        ask: u64,
-        answer: txn_kv::Result<Timestamp>,
-        out: &mut Outbox,
-    ) -> Result<Progress<P::Result>, NoMemory> {
-        let turn = self.inner.take_time(pd, now, ask, answer, out);
+        let turn = self.inner.tell(pd, now, arrival, out);
         self.read(turn)
     }
 

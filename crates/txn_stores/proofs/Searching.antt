@@ -1,21 +1,26 @@
 -- The look-up of all stores, call by call.
-use Rattle.std.proofs.Common.{◌≡◌, ◌≢◌, inl, inr, ℕ, ◌+◌, ◌≤◌, Bool, true, false, List, refl, sym, ap, subst, arith}
+use Rattle.std.proofs.Common.{◌≡◌, ◌≢◌, inl, inr, ℕ, ◌+◌, ◌≤◌, Bool, false, List, refl, sym, ap, subst, arith}
 use Rattle.std.specs.Prelude.{⊤, Result, Ok, Err}
 use Rattle.std.specs.Global.{Vec}
 use Rattle.std.proofs.Math.Nat.{le_refl, le_trans}
 use Rattle.std.proofs.lemmas.Bool.{false≢true}
+use Rattle.txn_history.specs.Arrivals.{arrives, awaited_as}
 use Rattle.txn_history.specs.Event.{Event}
 use Rattle.txn_history.specs.Meaning.{started, Counts, Expects, Tells, Told}
 use Rattle.txn_history.specs.Moves.{Moves-before, Moves-map, Moves-quiet, Moves-then}
 use Rattle.txn_history.specs.Phase.{Awaited, unheard}
-use Rattle.txn_history.specs.Phase.Awaited.{EndOf, ReplyTo}
-use Rattle.txn_history.specs.Phase.Phase.{Running}
-use Rattle.txn_history.specs.Posted.{Posted, Within-refl}
+use Rattle.txn_history.specs.Phase.Awaited.{EndOf, ReplyTo, TimeOf}
+use Rattle.txn_history.specs.Phase.Phase.{Fresh, Running}
+use Rattle.txn_history.specs.Posted.{HasNumbers, Posted, Within-refl}
 use Rattle.txn_history.specs.Spends.{Spends, calls, sleeps, spare}
+use Rattle.txn_history.specs.Steps.{begins, Steps}
 use Rattle.txn_history.specs.Turn.{is_kept, IfKept-out, Turn}
 use Rattle.txn_history.specs.Turn.Turn.{Stopped, Waits, Ends}
-use Rattle.txn_history.proofs.Counting.{spare-more}
-use Rattle.txn_history.proofs.Telling.{Expects-quiet, Expects-then, Tells-idle}
+use Rattle.txn_history.proofs.Arriving.{Steps-deaf}
+use Rattle.txn_history.proofs.Numbering.{Moves-numbers}
+use Rattle.txn_history.proofs.Stepping.{Goes-meant, Steps-idle}
+use Rattle.txn_history.proofs.Telling.{Expects-quiet, Expects-then}
+use Rattle.txn_kv.specs.declared.arrival.Arrival.{Arrival}
 use Rattle.txn_kv.specs.declared.errors.Error.{Error}
 use Rattle.txn_kv.specs.declared.errors.Error.TheVariants.{OutOfMemory}
 use Rattle.txn_kv.specs.declared.query.PdAnswer.{PdAnswer}
@@ -25,7 +30,7 @@ use Rattle.txn_plan.specs.LookUp.{call_waits, fresh-unbegun, looked_up}
 use Rattle.txn_plan.proofs.LastPosted.{calls_none, never_fails, one_awaited}
 use Rattle.txn_region.specs.Clients as clients
 use Rattle.txn_region.specs.declared.store.Store.{Store}
-use Rattle.txn_stores.specs.Search.{search_phase, search_waits, searching, searching-lawful, GivesStores, Holds, IsHeard, IsOut, IsRefusal, IsSearched, IsTaken, SearchAt, SearchesOn}
+use Rattle.txn_stores.specs.Search.{search_phase, search_waits, searching, searching-lawful, GivesStores, Holds, IsHeard, IsOut, IsRefusal, IsSearched, IsTaken, Looks, SearchAt, SearchesOn}
 use Rattle.txn_stores.specs.declared.search_stage.SearchStage.{SearchStage}
 use Rattle.txn_stores.specs.declared.search_stage.SearchStage.TheVariants as search
 use Rattle.txn_stores.specs.declared.store_search.StoreSearch.{StoreSearch}
@@ -160,19 +165,6 @@ counted {bad = bad} {fails = fails} {weight = weight} {locked = locked} {from = 
   fewer = λ n. le_refl 0;
 }
 
--- so far the search asked no store, and it goes on so after an event of its look-up
-pub counted_after : {bad bad' fails : Bool} {weight locked : ℕ} {old mid new : StoreSearch} {a : Awaited} {call : PdCall} {from via to : Posted} {turn : Turn (Result (Vec Store) Error)} {known : List Event → Type 0} {was : Awaited → Type 0}
-    (call' : PdCall) (p : Turn (Result PdAnswer Error))
-    → (bad ≡ true → fails ≡ true)
-    → IsTaken a old mid call
-    → CallSpends call call' bad from via p
-    → SearchesOn known was new via to turn
-    → Counts searching bad' fails weight locked old new from to turn
-counted_after {bad = bad} {fails = fails} {call = call} {from = from} {via = via} call' p f taken spent s =
-    counted
-    (le_trans s.calls (calls_none bad call call' from via p (ap asks_of taken.query) spent))
-    (let x = s.sleeps in let y = spent.stopped_rests in let z = spare-more bad fails false 1 f in omega arith)
-
 -- it sends its first try
 pub asked : {new : StoreSearch} {call call' : PdCall} {from to : Posted} {turn : Turn (Result (Vec Store) Error)} (p : Turn (Result PdAnswer Error))
     → call ≡ fresh query.Stores → p ≢ Stopped
@@ -194,14 +186,66 @@ asked {call = call} {call' = call'} {from = from} {to = to} p e kept t spent s =
       sleeps = let y = spent.stopped_rests in let z = s.sleeps in omega arith;
     }
 
--- an event that is not for the search
-pub unmoved : {told : Told} {old new : StoreSearch} {o : Posted} {turn : Turn (Result (Vec Store) Error)} (a : Awaited)
-    → ((b : Awaited) → told.heard b → b ≡ a)
-    → (new ≡ old) × (search_waits old.stage a → ⊥)
+-- what came is for its look-up
+pub Search-steps : {C : Type 0} (a : Arrival) {old mid new : StoreSearch} {call call' : PdCall} {from via to : Posted} {pd pd' : C} {p : Turn (Result PdAnswer Error)} {turn : Turn (Result (Vec Store) Error)}
+    → IsTaken (awaited_as a) old mid call
+    → Looks a call call' from via p
+    → SearchesOn (λ h. IsHeard call' p via h) (call_waits call'.stage) new via to turn
+    → Steps searching (λ told o s t x y. ⊤) (arrives a from) old new from to pd pd' turn
+unfolding arrives
+Search-steps a taken l s = record {
+  tells = λ r. heard taken (l.tells r) s;
+  goes = Goes-meant taken.waits s.next;
+  counts = counted (le_trans s.calls l.calls) (le_trans s.sleeps l.sleeps);
+  client = λ r. tt;
+  ready = s.ready;
+  numbers = Moves-numbers s.moves l.numbers;
+}
+
+-- what came is not for it
+pub Search-deaf : {C : Type 0} (a : Arrival) {old new : StoreSearch} {o : Posted} {pd : C} {turn : Turn (Result (Vec Store) Error)}
+    → IsOut old.stage → HasNumbers o
+    → (new ≡ old) × (search_waits old.stage (awaited_as a) → ⊥)
     → turn ≡ unheard (search_phase new.stage)
-    → Tells searching told old new o o turn
-unmoved {told = told} {old = old} {turn = turn} a heard stays e =
-    rw stays.0 (Tells-idle searching-lawful (λ b h w. stays.1 (rw (heard b h) at w)) (rw stays.0 at e))
+    → Steps searching (λ told o s t x y. ⊤) (arrives a o) old new o o pd pd turn
+Search-deaf a ready numbers stays e = rw stays.0 (Steps-deaf a searching-lawful stays.1 (rw stays.0 at e) (λ r. tt) ready numbers)
+
+-- it begins
+pub Search-begins : {C : Type 0} {old new : StoreSearch} {from to : Posted} {pd pd' : C} {turn : Turn (Result (Vec Store) Error)}
+    → HasNumbers from
+    → old.stage ≡ search.Fresh
+    → SearchesOn (λ h. ⊤) (λ a. ⊥) new from to turn
+    → Steps searching (λ told o s t x y. ⊤) begins old new from to pd pd' turn
+unfolding begins
+Search-begins numbers fresh s = let e = s.expects in record {
+  tells = λ r. record {
+    moves = Moves-before (λ h k. tt) s.moves;
+    job = record { asked = λ h q x. x; given = λ h v g. g; gave = λ h v g. g };
+    expects = record { sends = e.sends; pushed = e.pushed; only = λ a w. elim (e.only a w) [ inl x ↦ absurd x.0 | inr x ↦ inr x ] };
+  };
+  goes = Goes-meant (ap search_phase fresh) s.next;
+  counts = counted s.calls (let x = s.sleeps in omega arith);
+  client = λ r. tt;
+  ready = s.ready;
+  numbers = Moves-numbers s.moves numbers;
+}
+
+-- it has begun before
+pub Search-begun : {C : Type 0} {old : StoreSearch} {o : Posted} {pd : C} {turn : Turn (Result (Vec Store) Error)}
+    → IsOut old.stage → HasNumbers o
+    → (search_phase old.stage ≡ Fresh → ⊥)
+    → turn ≡ unheard (search_phase old.stage)
+    → Steps searching (λ told o s t x y. ⊤) begins old old o o pd pd turn
+unfolding begins
+Search-begun ready numbers other e = Steps-idle searching-lawful other (λ r a heard w. heard) e (λ r. tt) ready numbers
+
+-- it waits for no timestamp
+pub never_timed : (g : SearchStage) (ask : ℕ) → search_waits g (TimeOf ask) → ⊥
+never_timed search.Fresh ask w = w
+never_timed (search.Asking call n) ask w = cc
+never_timed (search.Resting call n) ask w = cc
+never_timed search.Over ask w = w
+never_timed search.Stopped ask w = w
 
 -- it rests on less
 pub from_less : {known more : List Event → Type 0} {was : Awaited → Type 0} {new : StoreSearch} {from to : Posted} {turn : Turn (Result (Vec Store) Error)}

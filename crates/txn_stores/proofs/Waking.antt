@@ -1,27 +1,33 @@
 -- A task whose sleep has ended, and calls that are not for a task.
-use Rattle.std.proofs.Common.{◌≡◌, ◌≢◌, inl, inr, ℕ, false, List, [], ◌∷◌, refl, sym, ap, subst, ◌∙◌, arith}
+use Rattle.std.proofs.Common.{◌≡◌, ◌≢◌, inl, inr, ℕ, false, List, [], ◌∷◌, refl, ap, subst, ◌∙◌, arith}
 use Rattle.std.proofs.Math.Nat.{le_refl}
 use Rattle.std.proofs.lemmas.Bool.{false≢true}
 use Rattle.std.proofs.lemmas.List.Elements.{All-cons, All-nil}
-use Rattle.std.specs.Prelude.{Option, Result}
+use Rattle.std.specs.Prelude.{⊤, Option, Result}
+use Rattle.txn_history.proofs.Arriving.{ends_sleep, Steps-deaf}
 use Rattle.txn_history.proofs.Counting.{Spends-quiet}
 use Rattle.txn_history.proofs.Telling.{Tells-quiet, Tells-stopped}
+use Rattle.txn_history.specs.Arrivals.{arrives, awaited_as}
 use Rattle.txn_history.specs.Event.{Event}
-use Rattle.txn_history.specs.Event.Event.{Slept}
+use Rattle.txn_history.specs.Event.Event.{Slept as HasSlept}
 use Rattle.txn_history.specs.Meaning.{woken, Counts, Goes, IsLawful, Meaning, Tells}
-use Rattle.txn_history.specs.Phase.{phase_after, Awaited}
-use Rattle.txn_history.specs.Phase.Awaited.{EndOf, ReplyTo, TimeOf}
-use Rattle.txn_history.specs.Posted.{Posted, ticket_of, Within-one}
+use Rattle.txn_history.specs.Phase.{phase_after, unheard, Awaited}
+use Rattle.txn_history.specs.Phase.Awaited.{EndOf}
+use Rattle.txn_history.specs.Posted.{HasNumbers, Posted, ticket_of, Within-one}
+use Rattle.txn_history.specs.Steps.{Steps}
 use Rattle.txn_history.specs.Turn.{Turn}
 use Rattle.txn_history.specs.Turn.Turn.{Stopped, Waits, Ends}
 use Rattle.txn_kv.specs.ErrorView.{ErrorView}
+use Rattle.txn_kv.specs.declared.arrival.Arrival.{Arrival}
+use Rattle.txn_kv.specs.declared.arrival.Arrival.TheVariants.{Slept}
 use Rattle.txn_kv.specs.declared.backoff.Backoff.{Backoff}
 use Rattle.txn_kv.specs.declared.errors.Error.{Error}
 use Rattle.txn_kv.specs.declared.message.RegionErr.{RegionErr}
 use Rattle.txn_region.specs.declared.store.Store.{Store}
 use Rattle.txn_stores.proofs.Tasking.{same_task}
-use Rattle.txn_stores.specs.Settling.{again_with, IsGiven}
+use Rattle.txn_stores.specs.Settling.{again_with, IsGiven, IsWoken}
 use Rattle.txn_stores.specs.StoreTask.{is_running, stage_phase, stage_waits, store_of, store_task, AreStores, IsAsleep, IsLost, IsTaskOf, StageFits, TaskFits, TaskReady}
+use Rattle.txn_stores.specs.TaskLaws.{store_task-lawful}
 use Rattle.txn_stores.specs.declared.stage.Stage.{Stage}
 use Rattle.txn_stores.specs.declared.stage.Stage.TheVariants as stage
 use Rattle.txn_stores.specs.declared.store_task.StoreTask.{StoreTask}
@@ -34,7 +40,7 @@ asleep : {S R : Type 0} (m : Meaning S (Result R Error)) (t : StoreTask S) (n : 
     → t.stage ≡ stage.Sleeping n b → TaskFits m t o h → IsAsleep (IsLost m t.job) t.backoff b n o h
 asleep m t n b o h at f = subst (λ (g : Stage). StageFits m t g o h) at f.at
 
-pub Wake-tells : {S R : Type 0} (m : Meaning S (Result R Error)) (keys : R → List ErrorView) (region : R → Option RegionErr) → IsLawful m
+Wake-tells : {S R : Type 0} (m : Meaning S (Result R Error)) (keys : R → List ErrorView) (region : R → Option RegionErr) → IsLawful m
     → (b : Backoff) (old new : StoreTask S) (o : Posted) (n : ℕ) (turn : Turn (Step (StoreTask S) R))
     → old.stage ≡ stage.Sleeping n b
     → IsGiven b old new turn
@@ -47,7 +53,7 @@ Wake-tells m keys region law b old new o n (Ends (Parts tasks)) at i = rw i.0 (T
     (λ h f. let s = asleep m old n b o h at f.0 in (
       i.1 ∙ ap (λ x. again_with x old ∷ []) s.goes_on,
       record {
-        loss = (s.loss.0, law.gives_longer old.job h (Slept (ticket_of o n) ∷ h) _ (Within-one _ h) s.loss.1);
+        loss = (s.loss.0, law.gives_longer old.job h (HasSlept (ticket_of o n) ∷ h) _ (Within-one _ h) s.loss.1);
         slept = record { ticket = ticket_of o n; ms = s.ms; delay = s.delay; began = inr s.began; slept = inl refl };
       },
     ))
@@ -60,7 +66,7 @@ given_phase b old new Waits i = absurd i
 given_phase b old new (Ends (End answer)) i = absurd i
 given_phase b old new (Ends (Parts tasks)) i = rw i.0 refl
 
-pub Wake-goes : {S R C : Type 0} (m : Meaning S (Result R Error)) (keys : R → List ErrorView) (region : R → Option RegionErr)
+Wake-goes : {S R C : Type 0} (m : Meaning S (Result R Error)) (keys : R → List ErrorView) (region : R → Option RegionErr)
     (b : Backoff) (old new : StoreTask S) (o : Posted) (pd : C) (n : ℕ) (turn : Turn (Step (StoreTask S) R))
     → old.stage ≡ stage.Sleeping n b
     → IsGiven b old new turn
@@ -74,7 +80,7 @@ Wake-goes m keys region b old new o pd n turn at i =
       next = λ this. given_phase b old new turn i;
     }
 
-pub Wake-counts : {S R : Type 0} (m : Meaning S (Result R Error)) (keys : R → List ErrorView) (region : R → Option RegionErr)
+Wake-counts : {S R : Type 0} (m : Meaning S (Result R Error)) (keys : R → List ErrorView) (region : R → Option RegionErr)
     (b : Backoff) (old new : StoreTask S) (o : Posted) (n : ℕ) (turn : Turn (Step (StoreTask S) R))
     → old.stage ≡ stage.Sleeping n b
     → IsGiven b old new turn
@@ -126,7 +132,7 @@ Wake-keeps m keys region at_store b old new (Ends (Parts tasks)) r i = rw i.0 (r
   owes = λ n w. rw i.1 (omega arith);
 })
 
-pub Wake-ready : {S R : Type 0} (m : Meaning S (Result R Error)) (b : Backoff) (old new : StoreTask S) (turn : Turn (Step (StoreTask S) R))
+Wake-ready : {S R : Type 0} (m : Meaning S (Result R Error)) (b : Backoff) (old new : StoreTask S) (turn : Turn (Step (StoreTask S) R))
     → TaskReady m old → IsGiven b old new turn → TaskReady m new
 Wake-ready m b old new Stopped r i = rw i (record { unbegun = r.unbegun; ready = r.ready; at = tt })
 Wake-ready m b old new Waits r i = absurd i
@@ -139,31 +145,47 @@ Wake-off b old new Waits i = absurd i
 Wake-off b old new (Ends (End answer)) i = absurd i
 Wake-off b old new (Ends (Parts tasks)) i = rw i.0 refl
 
--- calls that are not for it
+-- its sleep has ended
+wake_at : {S R C : Type 0} (m : Meaning S (Result R Error)) (keys : R → List ErrorView) (region : R → Option RegionErr) → IsLawful m
+    → (b : Backoff) (old new : StoreTask S) (o : Posted) (pd : C) (n : ℕ) (turn : Turn (Step (StoreTask S) R))
+    → TaskReady m old → HasNumbers o
+    → old.stage ≡ stage.Sleeping n b
+    → IsGiven b old new turn
+    → Steps (store_task m keys region) (λ told from s t x y. ⊤) (arrives (Slept n) o) old new o o pd pd turn
+unfolding arrives
+wake_at m keys region law b old new o pd n turn ready numbers at i = record {
+  tells = λ r. Wake-tells m keys region law b old new o n turn at i;
+  goes = Wake-goes m keys region b old new o pd n turn at i;
+  counts = Wake-counts m keys region b old new o n turn at i;
+  client = λ r. tt;
+  ready = Wake-ready m b old new turn ready i;
+  numbers = numbers;
+}
 
-pub not_reply : (waits : Awaited → Type 0) (g : Stage) (n : ℕ) → g ≢ stage.Running → (a : Awaited) → a ≡ ReplyTo n → stage_waits waits g a → ⊥
-not_reply waits stage.Fresh n other a e w = w
-not_reply waits stage.Running n other a e w = other refl
-not_reply waits (stage.Sleeping k b) n other a e w = let s : ReplyTo n ≡ EndOf k = sym e ∙ w in cc
-not_reply waits stage.Again n other a e w = w
-not_reply waits stage.Over n other a e w = w
-not_reply waits stage.Stopped n other a e w = w
+pub Wake-steps : {S R C : Type 0} (m : Meaning S (Result R Error)) (keys : R → List ErrorView) (region : R → Option RegionErr) → IsLawful m
+    → (a : Arrival) (b : Backoff) {old new : StoreTask S} {o : Posted} {pd : C} {turn : Turn (Step (StoreTask S) R)}
+    → TaskReady m old → HasNumbers o
+    → IsWoken b old.stage a
+    → IsGiven b old new turn
+    → Steps (store_task m keys region) (λ told from s t x y. ⊤) (arrives a o) old new o o pd pd turn
+Wake-steps m keys region law a b {old = old} {new = new} {o = o} {pd = pd} {turn = turn} ready numbers w i = rw w.2 (wake_at m keys region law b old new o pd w.0 turn ready numbers w.1 i)
 
-pub not_time : (waits : Awaited → Type 0) (g : Stage) (n : ℕ) → g ≢ stage.Running → (a : Awaited) → a ≡ TimeOf n → stage_waits waits g a → ⊥
-not_time waits stage.Fresh n other a e w = w
-not_time waits stage.Running n other a e w = other refl
-not_time waits (stage.Sleeping k b) n other a e w = let s : TimeOf n ≡ EndOf k = sym e ∙ w in cc
-not_time waits stage.Again n other a e w = w
-not_time waits stage.Over n other a e w = w
-not_time waits stage.Stopped n other a e w = w
+-- what came is not for it
 
-same_end : {k n : ℕ} → EndOf n ≡ EndOf k → k ≡ n
-same_end e = cc
+not_for : (waits : Awaited → Type 0) (g : Stage) (a : Arrival) → g ≢ stage.Running → ((n : ℕ) (b : Backoff) → g ≡ stage.Sleeping n b → a ≢ Slept n) → stage_waits waits g (awaited_as a) → ⊥
+not_for waits stage.Fresh a other awake w = w
+not_for waits stage.Running a other awake w = other refl
+not_for waits (stage.Sleeping n b) a other awake w = awake n b refl (ends_sleep a n w)
+not_for waits stage.Again a other awake w = w
+not_for waits stage.Over a other awake w = w
+not_for waits stage.Stopped a other awake w = w
 
-pub not_end : (waits : Awaited → Type 0) (g : Stage) (n : ℕ) → g ≢ stage.Running → ((b : Backoff) → g ≢ stage.Sleeping n b) → (a : Awaited) → a ≡ EndOf n → stage_waits waits g a → ⊥
-not_end waits stage.Fresh n other awake a e w = w
-not_end waits stage.Running n other awake a e w = other refl
-not_end waits (stage.Sleeping k b) n other awake a e w = awake b (ap (λ x. stage.Sleeping x b) (same_end (sym e ∙ w)))
-not_end waits stage.Again n other awake a e w = w
-not_end waits stage.Over n other awake a e w = w
-not_end waits stage.Stopped n other awake a e w = w
+pub Deaf-steps : {S R C : Type 0} (m : Meaning S (Result R Error)) (keys : R → List ErrorView) (region : R → Option RegionErr) → IsLawful m
+    → (a : Arrival) {t : StoreTask S} {o : Posted} {pd : C} {turn : Turn (Step (StoreTask S) R)}
+    → TaskReady m t → HasNumbers o
+    → t.stage ≢ stage.Running
+    → ((n : ℕ) (b : Backoff) → t.stage ≡ stage.Sleeping n b → a ≢ Slept n)
+    → turn ≡ unheard (stage_phase t.stage)
+    → Steps (store_task m keys region) (λ told from s t x y. ⊤) (arrives a o) t t o o pd pd turn
+Deaf-steps m keys region law a {t = t} ready numbers other awake e =
+    Steps-deaf a (store_task-lawful m keys region law) (not_for (m.waits t.plan) t.stage a other awake) e (λ r. tt) ready numbers

@@ -1,26 +1,29 @@
 -- The look-up of all stores.
-use Rattle.std.specs.Prelude.{◌≡◌, ◌≢◌, ◌⊎◌, ⊤, ℕ, ◌≤◌, false, List, map, Result, Ok, Err, refl}
+use Rattle.std.specs.Prelude.{◌≡◌, ◌≢◌, ◌⊎◌, ⊤, ℕ, ◌+◌, ◌≤◌, false, List, map, Result, Ok, Err, refl}
 use Rattle.std.proofs.Common.{subst, sym}
 use Rattle.std.specs.Global.{Vec}
 use Rattle.std.specs.List.{filter}
+use Rattle.txn_history.specs.Arrivals.{tells_failure, told_by}
 use Rattle.txn_history.specs.Event.{Event}
 use Rattle.txn_history.specs.Later.{IsLater}
-use Rattle.txn_history.specs.Meaning.{Expects, IsLawful, Meaning, WasPosted}
+use Rattle.txn_history.specs.Meaning.{Expects, IsLawful, Meaning, Tells, WasPosted}
 use Rattle.txn_history.specs.Moves.{Knows, Moves}
 use Rattle.txn_history.specs.Phase.{phase_after, Awaited, IsRunning, Phase}
 use Rattle.txn_history.specs.Phase.Awaited.{EndOf, ReplyTo}
 use Rattle.txn_history.specs.Phase.Phase.{Fresh, GivenUp, Over, Running}
-use Rattle.txn_history.specs.Posted.{Posted, Within}
-use Rattle.txn_history.specs.Spends.{calls, sleeps}
+use Rattle.txn_history.specs.Posted.{HasNumbers, Posted, Within}
+use Rattle.txn_history.specs.Spends.{calls, sleeps, spare}
 use Rattle.txn_history.specs.Turn.{Turn}
 use Rattle.txn_history.specs.Turn.Turn.{Stopped, Waits, Ends}
+use Rattle.txn_kv.specs.declared.arrival.Arrival.{Arrival}
 use Rattle.txn_kv.specs.declared.errors.Error.{Error}
 use Rattle.txn_kv.specs.declared.errors.Error.TheVariants.{OutOfMemory}
 use Rattle.txn_kv.specs.declared.message.StoreMeta.{StoreMeta}
 use Rattle.txn_kv.specs.declared.query.PdAnswer.{PdAnswer}
 use Rattle.txn_kv.specs.declared.query.PdAnswer.TheVariants as answer
 use Rattle.txn_kv.specs.declared.query.PdQuery.TheVariants as query
-use Rattle.txn_plan.specs.LookUp.{call_waits, looked_up, looked_up-lawful}
+use Rattle.txn_kv.specs.declared.request.Request.{Request}
+use Rattle.txn_plan.specs.LookUp.{call_waits, looked_up, looked_up-lawful, AwaitsLast}
 use Rattle.txn_region.specs.Clients.{IsRefused}
 use Rattle.txn_region.specs.Stores.{is_valid_store}
 use Rattle.txn_region.specs.declared.store.Store.{Store}
@@ -125,6 +128,16 @@ abbrev pub IsRefusal : Error → StoreSearch → Turn (Result (Vec Store) Error)
 IsRefusal e new Stopped = new.stage ≡ stage.Stopped
 IsRefusal e new Waits = ⊥
 IsRefusal e new (Ends v) = (new.stage ≡ stage.Over) × (v ≡ Err e) × (e ≢ OutOfMemory)
+
+-- The look-up took what came. While it goes on, it waits for what it posted last; no call of a store is made, and a sleep is
+-- begun only after a failure.
+pub record Looks (a : Arrival) (old new : PdCall) (from to : Posted) (turn : Turn (Result PdAnswer Error)) : Type 0 where
+  pub tells : (r : Request) → Tells looked_up (told_by a from r) old new from to turn
+  pub waits : turn ≡ Waits → AwaitsLast new to
+  pub query : new.query ≡ old.query
+  pub calls : calls to ≤ calls from
+  pub sleeps : sleeps to ≤ sleeps from + spare (tells_failure a) false 1
+  pub numbers : HasNumbers to
 
 -- lemmas
 

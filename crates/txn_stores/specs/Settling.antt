@@ -1,5 +1,5 @@
 -- What a task does once its plan has answered, or has not.
-use Rattle.std.specs.Prelude.{◌≡◌, ⊤, Bool, false, List, [], ◌∷◌, Option, Result}
+use Rattle.std.specs.Prelude.{◌≡◌, ⊤, ℕ, Bool, false, List, [], ◌∷◌, Option, Result}
 use Rattle.txn_history.specs.Event.{Event}
 use Rattle.txn_history.specs.Meaning.{Expects, Meaning}
 use Rattle.txn_history.specs.Moves.{Moves}
@@ -9,10 +9,13 @@ use Rattle.txn_history.specs.Spends.{Spends}
 use Rattle.txn_history.specs.Turn.{is_kept, IfEnds, Turn}
 use Rattle.txn_history.specs.Turn.Turn.{Stopped, Waits, Ends}
 use Rattle.txn_kv.specs.ErrorView.{ErrorView}
+use Rattle.txn_kv.specs.declared.arrival.Arrival.{Arrival}
+use Rattle.txn_kv.specs.declared.arrival.Arrival.TheVariants.{Slept}
 use Rattle.txn_kv.specs.declared.backoff.Backoff.{Backoff}
 use Rattle.txn_kv.specs.declared.errors.Error.{Error}
 use Rattle.txn_kv.specs.declared.message.RegionErr.{RegionErr}
 use Rattle.txn_stores.specs.StoreTask.{is_running, stage_left, stage_phase, stage_waits, task_width, IfRuns, StageReady, TaskFits, TaskGives}
+use Rattle.txn_stores.specs.declared.stage.Stage.{Stage}
 use Rattle.txn_stores.specs.declared.stage.Stage.TheVariants as stage
 use Rattle.txn_stores.specs.declared.store_task.StoreTask.{StoreTask}
 use Rattle.txn_tasks.specs.Step.{IsEnd}
@@ -43,6 +46,10 @@ pub record Follows {S R : Type 0} (m : Meaning S (Result R Error)) (keys : R →
 -- the task with this backoff, not started
 abbrev pub again_with : {S : Type 0} → Backoff → StoreTask S → StoreTask S
 again_with b t = record { job = t.job; plan = t.job; store = t.store; backoff = b; stage = stage.Fresh; alloc = t.alloc }
+
+-- this ends its sleep, after which the task with this backoff stands in its place
+abbrev pub IsWoken : Backoff → Stage → Arrival → Type 0
+IsWoken b g a = (n : ℕ) × (g ≡ stage.Sleeping n b) × (a ≡ Slept n)
 
 -- the task with this backoff stands in its place, or it gives up
 abbrev pub IsGiven : {S A : Type 0} → Backoff → StoreTask S → StoreTask S → Turn (Step (StoreTask S) A) → Type 0

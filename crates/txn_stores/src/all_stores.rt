@@ -16,7 +16,7 @@ use crate::store_plan::StorePlan;
 use crate::store_search::StoreSearch;
 use crate::store_task::StoreTask;
 use std::alloc::Global;
-use txn_kv::{Backoff, NoMemory, Outbox, Progress, Reply, Result, Timestamp};
+use txn_kv::{Arrival, Backoff, NoMemory, Outbox, Progress, Result};
 use txn_merge::{HasKeyErrors, HasRegionError};
 use txn_plan::Plan;
 use txn_region::{PdClient, Store};
@@ -209,93 +209,29 @@ where
         self.after_search(turn, pd, now, out)
     }
 
-    fn take_reply<C: PdClient>(
+    fn tell<C: PdClient>(
         &mut self,
         pd: &mut C,
         now: u64,
-        number: u64,
-        reply: Reply,
+        arrival: Arrival,
         out: &mut Outbox,
     ) -> Turn<P> {
         match self.stage {
             AllStage::Searching => {
-                let turn = self.search.take_reply(pd, now, number, reply, out);
+                let turn = self.search.tell(pd, now, arrival, out);
                 self.after_search(turn, pd, now, out)
             }
             AllStage::Running => match &mut self.run {
                 Some(run) => {
-                    let turn = run.tasks.take_reply(pd, now, number, reply, out);
+                    let turn = run.tasks.tell(pd, now, arrival, out);
                     self.after_tasks(turn)
                 }
                 None => unreachable!(),
             },
-            _ => self.stay(),
-        }
-    }
-
-    fn lost<C: PdClient>(
-        &mut self,
-        pd: &mut C,
-        now: u64,
-        number: u64,
-        out: &mut Outbox,
-    ) -> Turn<P> {
-        match self.stage {
-            AllStage::Searching => {
-                let turn = self.search.lost(pd, now, number, out);
-                self.after_search(turn, pd, now, out)
+            _ => {
+                drop(arrival);
+                self.stay()
             }
-            AllStage::Running => match &mut self.run {
-                Some(run) => {
-                    let turn = run.tasks.lost(pd, now, number, out);
-                    self.after_tasks(turn)
-                }
-                None => unreachable!(),
-            },
-            _ => self.stay(),
-        }
-    }
-
-    fn slept<C: PdClient>(
-        &mut self,
-        pd: &mut C,
-        now: u64,
-        number: u64,
-        out: &mut Outbox,
-    ) -> Turn<P> {
-        match self.stage {
-            AllStage::Searching => {
-                let turn = self.search.slept(pd, now, number, out);
-                self.after_search(turn, pd, now, out)
-            }
-            AllStage::Running => match &mut self.run {
-                Some(run) => {
-                    let turn = run.tasks.slept(pd, now, number, out);
-                    self.after_tasks(turn)
-                }
-                None => unreachable!(),
-            },
-            _ => self.stay(),
-        }
-    }
-
-    fn take_time<C: PdClient>(
-        &mut self,
-        pd: &mut C,
-        now: u64,
-        ask: u64,
-        answer: Result<Timestamp>,
-        out: &mut Outbox,
-    ) -> Turn<P> {
-        match self.stage {
-            AllStage::Running => match &mut self.run {
-                Some(run) => {
-                    let turn = run.tasks.take_time(pd, now, ask, answer, out);
-                    self.after_tasks(turn)
-                }
-                None => unreachable!(),
-            },
-            _ => self.stay(),
         }
     }
 

@@ -1,31 +1,30 @@
 //! The look-up of all stores.
 ghost use Rattle.std.specs.Bool.{MatchBool};
-ghost use Rattle.std.specs.Prelude.{◌≡◌, ⊤, IfErr, IfOk, MatchOption, false, map, true};
-ghost use Rattle.txn_history.specs.Faults.{has_error, has_region_error};
-ghost use Rattle.txn_history.specs.Meaning.{missed, replied, started, woken, Counts, Goes, IsUnbegun, Tells};
+ghost use Rattle.std.specs.Prelude.{◌≡◌, ⊤, IfErr, IfOk, MatchOption, map};
+ghost use Rattle.txn_history.specs.Arrivals.{arrives, awaited_as};
+ghost use Rattle.txn_history.specs.Meaning.{IsUnbegun};
 ghost use Rattle.txn_history.specs.Phase.{unheard};
 ghost use Rattle.txn_history.specs.Phase.Awaited.{EndOf, ReplyTo};
 ghost use Rattle.txn_history.specs.Phase.Phase.{Fresh};
-ghost use Rattle.txn_history.specs.Posted.{HasNumbers, Posted, ticket_of};
-ghost use Rattle.txn_history.specs.Spends.{locked_of, weight_of};
+ghost use Rattle.txn_history.specs.Posted.{HasNumbers, Posted};
+ghost use Rattle.txn_history.specs.Steps.{begins, Steps};
 ghost use Rattle.txn_history.specs.Turn.{turn_of};
 ghost use Rattle.txn_history.specs.Turn.Turn.{Ends, Stopped, Waits};
 ghost use Rattle.txn_kv.specs.declared.query.PdQuery.TheVariants as query;
-ghost use Rattle.txn_kv.specs.declared.request.Request.{Request as Asked};
 ghost use Rattle.txn_plan.specs.LookUp.{call_waits, looked_up, AwaitsLast};
 ghost use Rattle.txn_region.specs.Clients.{IsRefused, OrStarved};
-ghost use Rattle.txn_stores.specs.Search.{search_phase, search_waits, searching, stores_in, Holds, IsHeard, IsOut, IsRefusal, IsSearched, IsTaken, SearchesOn};
+ghost use Rattle.txn_stores.specs.Search.{search_phase, search_waits, searching, stores_in, Holds, IsHeard, IsOut, IsRefusal, IsSearched, IsTaken, Looks, SearchesOn};
 ghost use Rattle.txn_tso.specs.Placement.{fresh};
 
 use crate::search_stage::SearchStage;
 use std::alloc::Global;
 use std::mem;
 use txn_kv::{
-    Errand, Error, Internal, NoMemory, Outbox, PdAnswer, PdQuery, Progress, Reply, Result,
+    Arrival, Errand, Error, Internal, NoMemory, Outbox, PdAnswer, PdQuery, Progress, Result,
     StoreMeta,
 };
 use txn_region::{PdClient, Store, is_valid_tikv_store};
-use txn_tso::PdCall;
+use txn_tso::{PdCall, RetryClient};
 
 /// What an event answers.
 type Turn<T> = std::result::Result<Progress<T>, NoMemory>;
@@ -61,14 +60,11 @@ impl StoreSearch {
         Ok(StoreSearch::new(self.alloc))
     }
 
+    /// Begins. Nothing is said of what it makes of the client.
     pub fn start<C: PdClient>(&mut self, pd: &mut C, now: u64, out: &mut Outbox) -> Turn<Vec<Store>>
         requires ready { IsOut self.old.stage }
         requires numbers { HasNumbers out.old }
-        ensures tells { Tells searching started self.old self.new out.old out.new (turn_of result) }
-        ensures goes { Goes searching.phase (search_phase self.old.stage ≡ Fresh) self.old self.new out.old out.new pd.old pd.new (turn_of result) }
-        ensures counts { Counts searching false false 0 0 self.old self.new out.old out.new (turn_of result) }
-        ensures ready { IsOut self.new.stage }
-        ensures numbers { HasNumbers out.new }
+        ensures { Steps searching (λ told from old new x y. ⊤) begins self.old self.new out.old out.new pd.old pd.new (turn_of result) }
     {
         if self.is_fresh() {
             self.stage = SearchStage::Stopped;
@@ -78,82 +74,28 @@ impl StoreSearch {
         }
     }
 
-    /// The reply to the request of this number came.
-    pub fn take_reply<C: PdClient>(
+    /// Takes what came. It never waits for a timestamp.
+    pub fn tell<C: PdClient>(
         &mut self,
         pd: &mut C,
         now: u64,
-        number: u64,
-        reply: Reply,
+        arrival: Arrival,
         out: &mut Outbox,
     ) -> Turn<Vec<Store>>
         requires ready { IsOut self.old.stage }
         requires numbers { HasNumbers out.old }
-        ensures tells { (r : Asked) → Tells searching (replied (ticket_of out.old number) r reply) self.old self.new out.old out.new (turn_of result) }
-        ensures goes { Goes searching.phase (search_waits self.old.stage (ReplyTo number)) self.old self.new out.old out.new pd.old pd.new (turn_of result) }
-        ensures counts { Counts searching (has_error reply) (has_region_error reply) (weight_of reply) (locked_of reply) self.old self.new out.old out.new (turn_of result) }
-        ensures ready { IsOut self.new.stage }
-        ensures numbers { HasNumbers out.new }
+        ensures { Steps searching (λ told from old new x y. ⊤) (arrives arrival out.old) self.old self.new out.old out.new pd.old pd.new (turn_of result) }
     {
-        match self.take_asking(number) {
+        match self.take_call(&arrival) {
             Some(call) => {
                 let mut call = call;
-                let turn = call.take_reply(pd.retry_client(), now, number, reply, out);
+                let turn = tell_call(&mut call, pd.retry_client(), now, arrival, out);
                 self.hear(call, turn, pd, out)
             }
-            None => self.stay(),
-        }
-    }
-
-    /// No reply to the request of this number will come.
-    pub fn lost<C: PdClient>(
-        &mut self,
-        pd: &mut C,
-        now: u64,
-        number: u64,
-        out: &mut Outbox,
-    ) -> Turn<Vec<Store>>
-        requires ready { IsOut self.old.stage }
-        requires numbers { HasNumbers out.old }
-        ensures tells { (r : Asked) → Tells searching (missed (ticket_of out.old number) r) self.old self.new out.old out.new (turn_of result) }
-        ensures goes { Goes searching.phase (search_waits self.old.stage (ReplyTo number)) self.old self.new out.old out.new pd.old pd.new (turn_of result) }
-        ensures counts { Counts searching true true 0 0 self.old self.new out.old out.new (turn_of result) }
-        ensures ready { IsOut self.new.stage }
-        ensures numbers { HasNumbers out.new }
-    {
-        match self.take_asking(number) {
-            Some(call) => {
-                let mut call = call;
-                let turn = call.lost(pd.retry_client(), now, number, out);
-                self.hear(call, turn, pd, out)
+            None => {
+                drop(arrival);
+                self.stay()
             }
-            None => self.stay(),
-        }
-    }
-
-    /// The sleep of this number has ended.
-    pub fn slept<C: PdClient>(
-        &mut self,
-        pd: &mut C,
-        now: u64,
-        number: u64,
-        out: &mut Outbox,
-    ) -> Turn<Vec<Store>>
-        requires ready { IsOut self.old.stage }
-        requires numbers { HasNumbers out.old }
-        ensures tells { Tells searching (woken (ticket_of out.old number)) self.old self.new out.old out.new (turn_of result) }
-        ensures goes { Goes searching.phase (search_waits self.old.stage (EndOf number)) self.old self.new out.old out.new pd.old pd.new (turn_of result) }
-        ensures counts { Counts searching false false 0 0 self.old self.new out.old out.new (turn_of result) }
-        ensures ready { IsOut self.new.stage }
-        ensures numbers { HasNumbers out.new }
-    {
-        match self.take_resting(number) {
-            Some(call) => {
-                let mut call = call;
-                let turn = call.slept(pd.retry_client(), now, number, out);
-                self.hear(call, turn, pd, out)
-            }
-            None => self.stay(),
         }
     }
 
@@ -164,12 +106,25 @@ impl StoreSearch {
     }
 
     /// What comes of an event that is not for this state. The connection is lent to no look-up then.
-    pub(crate) fn stay(&self) -> Turn<Vec<Store>>
+    fn stay(&self) -> Turn<Vec<Store>>
         ensures { turn_of result ≡ unheard (search_phase self.now.stage) }
     {
         match self.stage {
             SearchStage::Stopped => Err(NoMemory),
             _ => Ok(Progress::Waiting),
+        }
+    }
+
+    /// Takes the look-up that waits for this.
+    fn take_call(&mut self, arrival: &Arrival) -> Option<PdCall>
+        requires { IsOut self.old.stage }
+        ensures { MatchOption result ((self.new ≡ self.old) × (search_waits self.old.stage (awaited_as arrival.now) → ⊥)) (IsTaken (awaited_as arrival.now) self.old self.new) }
+    {
+        match arrival {
+            Arrival::Reply { number, reply: _ } => self.take_asking(*number),
+            Arrival::Lost { number } => self.take_asking(*number),
+            Arrival::Slept { number } => self.take_resting(*number),
+            Arrival::Time { ask: _, answer: _ } => None,
         }
     }
 
@@ -277,9 +232,9 @@ impl StoreSearch {
         requires stopped { self.old.stage ≡ SearchStage.Stopped }
         ensures { IsRefusal error self.new (turn_of result) }
     {
-        match error {
+        match &error {
             Error::OutOfMemory => Err(NoMemory),
-            error => self.end(Err(error)),
+            _ => self.end(Err(error)),
         }
     }
 
@@ -292,6 +247,27 @@ impl StoreSearch {
     }
 }
 
+/// Tells a look-up that asks for no timestamp what it waits for.
+fn tell_call(
+    call: &mut PdCall,
+    client: &mut RetryClient,
+    now: u64,
+    arrival: Arrival,
+    out: &mut Outbox,
+) -> Turn<PdAnswer>
+    requires query { call.old.query ≡ query.Stores }
+    requires waits { call_waits call.old.stage (awaited_as arrival) }
+    requires numbers { HasNumbers out.old }
+    ensures { Looks arrival call.old call.new out.old out.new (turn_of result) }
+{
+    match arrival {
+        Arrival::Reply { number, reply } => call.take_reply(client, now, number, reply, out),
+        Arrival::Lost { number } => call.lost(client, now, number, out),
+        Arrival::Slept { number } => call.slept(client, now, number, out),
+        Arrival::Time { ask, answer } => call.take_time(client, now, ask, answer, out),
+    }
+}
+
 /// A look-up that was begun has no answer yet.
 fn pass_over(_progress: Progress<PdAnswer>) {}
 
@@ -301,8 +277,11 @@ fn take_stores(alloc: Global, answer: Result<PdAnswer>, learnt: Result<()>) -> R
     ensures { IsSearched answer result }
 {
     learnt?;
-    match answer? {
-        PdAnswer::Stores(all) => Ok(valid_stores(alloc, all)?),
+    match &mut answer? {
+        PdAnswer::Stores(all) => {
+            let all = mem::replace(all, Vec::new(alloc));
+            Ok(valid_stores(alloc, all)?)
+        }
         _ => Err(Error::InternalError {
             what: Internal::WrongReply,
         }),

@@ -11,7 +11,7 @@ ghost use Rattle.txn_kv.specs.declared.backoff.Backoff.{Backoff as NextBackoff};
 ghost use Rattle.txn_kv.specs.declared.errors.Error.TheVariants.{GrpcAPI};
 ghost use Rattle.txn_kv.specs.declared.ticket.Ticket.{Ticket as LostTicket};
 ghost use Rattle.txn_retry.specs.Remedy.{after, delay_ms};
-ghost use Rattle.txn_stores.specs.Settling.{again_with, Follows, IsGiven, Settles};
+ghost use Rattle.txn_stores.specs.Settling.{again_with, Follows, IsGiven, IsWoken, Settles};
 ghost use Rattle.txn_stores.specs.StoreTask.{is_running, stage_phase, task_at, store_of, store_task, AreStores, IsTaken, IsTaskOf};
 ghost use Rattle.txn_stores.specs.TaskLaws.{running_phase, store_task-lawful, stores_again, stores_whole};
 ghost use Rattle.txn_tasks.specs.Step.{step_turn};
@@ -20,7 +20,7 @@ ghost use Rattle.txn_tasks.specs.declared.step.Step.TheVariants.{End};
 use crate::stage::Stage;
 use crate::store_plan::StorePlan;
 use std::alloc::Global;
-use txn_kv::{Backoff, Error, NoMemory, Outbox, Progress, Reply, Result, Ticket, Timestamp};
+use txn_kv::{Arrival, Backoff, Error, NoMemory, Outbox, Progress, Result, Ticket};
 use txn_merge::{HasKeyErrors, HasRegionError};
 use txn_plan::Plan;
 use txn_region::{PdClient, Store};
@@ -194,15 +194,18 @@ where
         matches!(self.stage, Stage::Fresh)
     }
 
-    /// The backoff of the task that stands in its place, where it sleeps under this number.
-    fn woken_by(&self, number: u64) -> Option<Backoff>
-        ensures { MatchOption result ((b : NextBackoff) → self.now.stage ≢ Stage.Sleeping number b) (λ b. self.now.stage ≡ Stage.Sleeping number b) }
+    /// The backoff of the task that stands in its place, where this ends its sleep.
+    fn woken_by(&self, arrival: &Arrival) -> Option<Backoff>
+        ensures { MatchOption result ((number : ℕ) (b : NextBackoff) → self.now.stage ≡ Stage.Sleeping number b → arrival.now ≢ Arrival.Slept number) (λ b. IsWoken b self.now.stage arrival.now) }
     {
         match self.stage {
-            Stage::Sleeping {
-                number: sleep,
-                backoff,
-            } => { if sleep == number { Some(backoff) } else { None } }
+            Stage::Sleeping { number, backoff } => {
+                if arrival.is_end_of(number) {
+                    Some(backoff)
+                } else {
+                    None
+                }
+            }
             _ => None,
         }
     }
@@ -256,64 +259,22 @@ where
         self.after_plan(turn, out)
     }
 
-    fn take_reply<C: PdClient>(
+    fn tell<C: PdClient>(
         &mut self,
         pd: &mut C,
         now: u64,
-        number: u64,
-        reply: Reply,
+        arrival: Arrival,
         out: &mut Outbox,
     ) -> Turn<P> {
-        if !self.is_under_way() {
-            return self.stay();
-        }
-        let turn = self.plan.take_reply(pd, now, number, reply, out);
-        self.after_plan(turn, out)
-    }
-
-    fn lost<C: PdClient>(
-        &mut self,
-        pd: &mut C,
-        now: u64,
-        number: u64,
-        out: &mut Outbox,
-    ) -> Turn<P> {
-        if !self.is_under_way() {
-            return self.stay();
-        }
-        let turn = self.plan.lost(pd, now, number, out);
-        self.after_plan(turn, out)
-    }
-
-    fn slept<C: PdClient>(
-        &mut self,
-        pd: &mut C,
-        now: u64,
-        number: u64,
-        out: &mut Outbox,
-    ) -> Turn<P> {
-        if let Some(backoff) = self.woken_by(number) {
+        if let Some(backoff) = self.woken_by(&arrival) {
+            drop(arrival);
             return self.give_again(backoff);
         }
         if !self.is_under_way() {
+            drop(arrival);
             return self.stay();
         }
-        let turn = self.plan.slept(pd, now, number, out);
-        self.after_plan(turn, out)
-    }
-
-    fn take_time<C: PdClient>(
-        &mut self,
-        pd: &mut C,
-        now: u64,
-        ask: u64,
-        answer: Result<Timestamp>,
-        out: &mut Outbox,
-    ) -> Turn<P> {
-        if !self.is_under_way() {
-            return self.stay();
-        }
-        let turn = self.plan.take_time(pd, now, ask, answer, out);
+        let turn = self.plan.tell(pd, now, arrival, out);
         self.after_plan(turn, out)
     }
 

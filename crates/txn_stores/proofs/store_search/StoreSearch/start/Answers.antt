@@ -1,10 +1,8 @@
-use Rattle.txn_history.proofs.Numbering.{Moves-numbers}
-use Rattle.txn_history.proofs.Telling.{Tells-idle}
-use Rattle.txn_stores.specs.Search.{searching-lawful}
+use Rattle.txn_stores.proofs.Searching.{Search-begins, Search-begun}
 use Rattle.txn_stores.proofs.store_search.StoreSearch.start.Goals as goal
 
-pub returns-then-is_fresh-clause-numbers : goal.returns-then-is_fresh-clause-numbers
-returns-then-is_fresh-clause-numbers g c = let s = c.ask.ensures.on in Moves-numbers s.moves c.requires.numbers
+pub returns-then-is_fresh : goal.returns-then-is_fresh
+returns-then-is_fresh g c = Search-begins c.requires.numbers c.if-is_fresh.ensures c.ask.ensures.on
 
-pub returns-else-is_fresh-clause-tells : goal.returns-else-is_fresh-clause-tells
-returns-else-is_fresh-clause-tells g c = Tells-idle searching-lawful (λ a heard w. heard) c.stay.ensures
+pub returns-else-is_fresh : goal.returns-else-is_fresh
+returns-else-is_fresh g c = Search-begun c.requires.ready c.requires.numbers c.if-is_fresh.ensures c.stay.ensures
