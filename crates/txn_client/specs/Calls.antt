@@ -22,8 +22,8 @@ use Rattle.txn_tso.specs.Longer.{gives_longer}
 use Rattle.txn_tso.specs.Placement.{fresh}
 use Rattle.txn_commit.specs.Committing.{Ways}
 use Rattle.txn_commit.specs.Timing.{HasBegun, WasUntimed, time_asked, time_asked-lawful}
-use Rattle.txn_plan.specs.declared.arrival.Arrival.{Arrival}
-use Rattle.txn_plan.specs.declared.arrival.Arrival.TheVariants as arrivals
+use Rattle.txn_kv.specs.declared.arrival.Arrival.{Arrival}
+use Rattle.txn_kv.specs.declared.arrival.Arrival.TheVariants as arrivals
 use Rattle.txn_commit.specs.declared.timestamp_call.TimestampCall.{TimestampCall}
 use Rattle.txn_core.specs.Going.{TransactionReady}
 use Rattle.txn_core.specs.Transaction.{begun}

@@ -1,18 +1,13 @@
-ghost use Rattle.std.specs.Prelude.{◌≡◌, ◌<◌, ◌^◌, IfOk, false, is_err, true};
+ghost use Rattle.std.specs.Prelude.{◌≡◌, ◌<◌, ◌^◌, IfOk, false};
 ghost use Rattle.std.specs.Bool.{MatchBool};
-ghost use Rattle.txn_history.specs.Faults.{has_error, has_region_error};
-ghost use Rattle.txn_history.specs.Meaning.{missed, replied, started, timed, woken, Counts, Goes, IsUnbegun, Tells};
+ghost use Rattle.txn_history.specs.Meaning.{started, Counts, Goes, IsUnbegun, Tells};
 ghost use Rattle.txn_history.specs.Phase.{unheard};
-ghost use Rattle.txn_history.specs.Phase.Awaited.{EndOf, ReplyTo, TimeOf};
 ghost use Rattle.txn_history.specs.Phase.Phase.{Fresh as Unbegun};
-ghost use Rattle.txn_history.specs.Posted.{HasNumbers, ticket_of};
-ghost use Rattle.txn_history.specs.Spends.{locked_of, weight_of};
+ghost use Rattle.txn_history.specs.Posted.{HasNumbers};
 ghost use Rattle.txn_history.specs.Turn.{turn_of, IfEnds};
 ghost use Rattle.txn_kv.specs.declared.request.Request.{Request as Asked};
-ghost use Rattle.txn_plan.specs.Answered.{IsTimeAnswer};
-ghost use Rattle.txn_plan.specs.Arrivals.{MayArrive, awaited_as, locked_told, tells_error, tells_failure, told_by, weight_told};
+ghost use Rattle.txn_history.specs.Arrivals.{MayArrive, awaited_as, locked_told, tells_error, tells_failure, told_by, weight_told};
 ghost use Rattle.txn_commit.specs.Committing.{ways};
-ghost use Rattle.txn_plan.specs.declared.arrival.Arrival.TheVariants as arrivals;
 ghost use Rattle.txn_client.specs.Calls.{called, made, stage_phase, stage_waits, AnswerReady, Asks, CallReady, Follows, IsEnded, IsMade, IsMadeOf, IsNewCall};
 ghost use Rattle.txn_client.specs.declared.client_call.Stage.TheVariants as stages;
 ghost use Rattle.txn_client.specs.declared.client_call.Wanted.TheVariants as wants;
@@ -23,10 +18,9 @@ use std::marker::PhantomData;
 use txn_commit::{PlanFor, TimestampCall};
 use txn_core::{Transaction, TransactionOptions};
 use txn_kv::{
-    BatchRollbackRequest, CommitRequest, NoMemory, Outbox, PrewriteRequest, Progress, Reply,
+    Arrival, BatchRollbackRequest, CommitRequest, NoMemory, Outbox, PrewriteRequest, Progress,
     Timestamp,
 };
-use txn_plan::Arrival;
 use txn_region::PdClient;
 
 type Turn<C, P, Q, K> = Result<Progress<ClientAnswer<C, P, Q, K>>, NoMemory>;
@@ -108,97 +102,6 @@ where
             return self.stay();
         }
         self.ask(pd, now, out)
-    }
-
-    /// The reply to the request of this number came.
-    pub fn take_reply<D: PdClient>(
-        &mut self,
-        pd: &mut D,
-        now: u64,
-        number: u64,
-        reply: Reply,
-        out: &mut Outbox,
-    ) -> Turn<C, P, Q, K>
-        requires ready { CallReady self.old.stage }
-        requires numbers { HasNumbers out.old }
-        requires clock { now < 2 ^ 44 }
-        ensures tells { (r : Asked) → Tells called (replied (ticket_of out.old number) r reply) self.old self.new out.old out.new (turn_of result) }
-        ensures goes { Goes called.phase (stage_waits self.old.stage (ReplyTo number)) self.old self.new out.old out.new pd.old pd.new (turn_of result) }
-        ensures counts { Counts called (has_error reply) (has_region_error reply) (weight_of reply) (locked_of reply) self.old self.new out.old out.new (turn_of result) }
-        ensures made { IfEnds (turn_of result) (IsMadeOf self.old.wanted now (arrivals.Reply number reply)) }
-        ensures answer { IfEnds (turn_of result) (AnswerReady (ways P.meaning Q.meaning K.meaning P.refuses Q.refuses K.refuses)) }
-        ensures ready { CallReady self.new.stage }
-        ensures numbers { HasNumbers out.new }
-    {
-        self.tell(Arrival::Reply { number, reply }, pd, now, out)
-    }
-
-    /// No reply to the request of this number will come.
-    pub fn lost<D: PdClient>(
-        &mut self,
-        pd: &mut D,
-        now: u64,
-        number: u64,
-        out: &mut Outbox,
-    ) -> Turn<C, P, Q, K>
-        requires ready { CallReady self.old.stage }
-        requires numbers { HasNumbers out.old }
-        requires clock { now < 2 ^ 44 }
-        ensures tells { (r : Asked) → Tells called (missed (ticket_of out.old number) r) self.old self.new out.old out.new (turn_of result) }
-        ensures goes { Goes called.phase (stage_waits self.old.stage (ReplyTo number)) self.old self.new out.old out.new pd.old pd.new (turn_of result) }
-        ensures counts { Counts called true true 0 0 self.old self.new out.old out.new (turn_of result) }
-        ensures made { IfEnds (turn_of result) (IsMadeOf self.old.wanted now (arrivals.Lost number)) }
-        ensures answer { IfEnds (turn_of result) (AnswerReady (ways P.meaning Q.meaning K.meaning P.refuses Q.refuses K.refuses)) }
-        ensures ready { CallReady self.new.stage }
-        ensures numbers { HasNumbers out.new }
-    {
-        self.tell(Arrival::Lost { number }, pd, now, out)
-    }
-
-    /// The sleep of this number has ended.
-    pub fn slept<D: PdClient>(
-        &mut self,
-        pd: &mut D,
-        now: u64,
-        number: u64,
-        out: &mut Outbox,
-    ) -> Turn<C, P, Q, K>
-        requires ready { CallReady self.old.stage }
-        requires numbers { HasNumbers out.old }
-        requires clock { now < 2 ^ 44 }
-        ensures tells { Tells called (woken (ticket_of out.old number)) self.old self.new out.old out.new (turn_of result) }
-        ensures goes { Goes called.phase (stage_waits self.old.stage (EndOf number)) self.old self.new out.old out.new pd.old pd.new (turn_of result) }
-        ensures counts { Counts called false false 0 0 self.old self.new out.old out.new (turn_of result) }
-        ensures made { IfEnds (turn_of result) (IsMadeOf self.old.wanted now (arrivals.Slept number)) }
-        ensures answer { IfEnds (turn_of result) (AnswerReady (ways P.meaning Q.meaning K.meaning P.refuses Q.refuses K.refuses)) }
-        ensures ready { CallReady self.new.stage }
-        ensures numbers { HasNumbers out.new }
-    {
-        self.tell(Arrival::Slept { number }, pd, now, out)
-    }
-
-    /// The ask of this number was answered, by the oracle of the client.
-    pub fn take_time<D: PdClient>(
-        &mut self,
-        pd: &mut D,
-        now: u64,
-        ask: u64,
-        answer: txn_kv::Result<Timestamp>,
-        out: &mut Outbox,
-    ) -> Turn<C, P, Q, K>
-        requires ready { CallReady self.old.stage }
-        requires answer { IsTimeAnswer answer }
-        requires numbers { HasNumbers out.old }
-        requires clock { now < 2 ^ 44 }
-        ensures tells { Tells called (timed (ticket_of out.old ask) answer) self.old self.new out.old out.new (turn_of result) }
-        ensures goes { Goes called.phase (stage_waits self.old.stage (TimeOf ask)) self.old self.new out.old out.new pd.old pd.new (turn_of result) }
-        ensures counts { Counts called (is_err answer) false 0 0 self.old self.new out.old out.new (turn_of result) }
-        ensures made { IfEnds (turn_of result) (IsMadeOf self.old.wanted now (arrivals.Time ask answer)) }
-        ensures answer { IfEnds (turn_of result) (AnswerReady (ways P.meaning Q.meaning K.meaning P.refuses Q.refuses K.refuses)) }
-        ensures ready { CallReady self.new.stage }
-        ensures numbers { HasNumbers out.new }
-    {
-        self.tell(Arrival::Time { ask, answer }, pd, now, out)
     }
 
     /// It is told of something.

@@ -33,10 +33,10 @@ use Rattle.txn_commit.specs.declared.committer.Stage.TheVariants as stage
 use Rattle.txn_commit.specs.declared.timestamp_call.TimestampCall.{TimestampCall}
 use Rattle.txn_commit.proofs.Sending.{settled_out, unsent_out}
 use Rattle.txn_merge.specs.declared.retry_options.RetryOptions.{RetryOptions}
-use Rattle.txn_plan.specs.Arrivals.{awaited_as, told_by}
+use Rattle.txn_history.specs.Arrivals.{awaited_as, told_by}
 use Rattle.txn_plan.specs.LookUp.{call_phase}
-use Rattle.txn_plan.specs.declared.arrival.Arrival.{Arrival}
-use Rattle.txn_plan.specs.declared.arrival.Arrival.TheVariants as arrival
+use Rattle.txn_kv.specs.declared.arrival.Arrival.{Arrival}
+use Rattle.txn_kv.specs.declared.arrival.Arrival.TheVariants as arrival
 
 -- Turns and phases
 

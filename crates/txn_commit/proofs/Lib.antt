@@ -12,3 +12,4 @@ pub mod Posting
 pub mod Sending
 pub mod Stages
 pub mod Timing
+pub mod Told

@@ -10,9 +10,9 @@ use Rattle.txn_history.specs.Event.Event.{Lost}
 use Rattle.txn_history.specs.Meaning.{IsSent}
 use Rattle.txn_history.specs.Plan.{Plan}
 use Rattle.txn_history.specs.Posted.{Posted, Within, Within-one, ticket_of}
-use Rattle.txn_plan.specs.Arrivals.{told_by}
-use Rattle.txn_plan.specs.declared.arrival.Arrival.{Arrival}
-use Rattle.txn_plan.specs.declared.arrival.Arrival.TheVariants as arrivals
+use Rattle.txn_history.specs.Arrivals.{told_by}
+use Rattle.txn_kv.specs.declared.arrival.Arrival.{Arrival}
+use Rattle.txn_kv.specs.declared.arrival.Arrival.TheVariants as arrivals
 use Rattle.txn_commit.specs.Following.{Commits, IsFollowed, KnowsCommits, MarksLost, PrimaryLost, answered, heard, is_done, is_out, lost, or_ticket, without}
 use Rattle.txn_commit.proofs.Following.{out_among}
 

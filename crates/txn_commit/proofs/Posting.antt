@@ -19,9 +19,9 @@ use Rattle.txn_history.specs.Foreign.{IsForeign}
 use Rattle.txn_commit.specs.Plans.{IsOfCommit}
 use Rattle.txn_commit.proofs.Following.{IsNoSending, knows_answered, knows_lost, knows_more, sent_more}
 use Rattle.txn_commit.proofs.Sending.{IsNoCommit, commits_primary, knows_quiet}
-use Rattle.txn_plan.specs.Arrivals.{told_by}
-use Rattle.txn_plan.specs.declared.arrival.Arrival.{Arrival}
-use Rattle.txn_plan.specs.declared.arrival.Arrival.TheVariants as arrival
+use Rattle.txn_history.specs.Arrivals.{told_by}
+use Rattle.txn_kv.specs.declared.arrival.Arrival.{Arrival}
+use Rattle.txn_kv.specs.declared.arrival.Arrival.TheVariants as arrival
 
 -- what was heard is one event, and no sending; or nothing was heard
 pub data Hears (h : List Event) : List Event → Type 0 where

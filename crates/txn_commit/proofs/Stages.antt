@@ -51,8 +51,8 @@ use Rattle.txn_commit.proofs.Following.{knows_more}
 use Rattle.txn_commit.proofs.Keys.{has_only, locks_key, names_key, only}
 use Rattle.txn_commit.proofs.Posting.{Hears, followed_sent, heard_keeps, hears_told}
 use Rattle.txn_commit.proofs.Sending.{IsNoCommit, acknowledged_longer, foreign_may, given_longer, knows_quiet, licensed_lift}
-use Rattle.txn_plan.specs.Arrivals.{told_by}
-use Rattle.txn_plan.specs.declared.arrival.Arrival.{Arrival}
+use Rattle.txn_history.specs.Arrivals.{told_by}
+use Rattle.txn_kv.specs.declared.arrival.Arrival.{Arrival}
 
 pub waits_is : {V : Type 0} {p : Progress V} → p ≡ Waiting → turn_of (Ok p) ≡ Waits
 waits_is e = rw e refl

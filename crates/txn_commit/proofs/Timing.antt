@@ -25,7 +25,7 @@ use Rattle.txn_commit.specs.Timing.{HasAsked, IsAnswerOf, IsToldTo, ReadsTime, W
 use Rattle.txn_history.specs.Foreign.{IsForeign}
 use Rattle.txn_commit.specs.declared.timestamp_call.TimestampCall.{TimestampCall}
 use Rattle.txn_plan.proofs.LookingUp.{deaf_answer, deaf_reply, deaf_waking, either, goes, tells, tells_of, went, went_answer, went_loss, went_reply, went_waking}
-use Rattle.txn_plan.specs.declared.arrival.Arrival.{Arrival}
+use Rattle.txn_kv.specs.declared.arrival.Arrival.{Arrival}
 use Rattle.txn_plan.specs.LookUp.{call_waits, looked_up}
 use Rattle.txn_tso.specs.Calling.{members, CallFits, Gives, IsRefused, IsTold, MayAsk, MayBe}
 use Rattle.txn_tso.specs.Heeding.{hears_answer, hears_reply, hears_waking, CallHeeds}

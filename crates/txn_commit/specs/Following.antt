@@ -17,8 +17,8 @@ use Rattle.txn_history.specs.Event.Event.{Sent, Took, Lost}
 use Rattle.txn_history.specs.Licence.{WasNamed}
 use Rattle.txn_history.specs.Plan.{Plan, has_key}
 use Rattle.txn_history.specs.Posted.{Posted, ticket_of}
-use Rattle.txn_plan.specs.declared.arrival.Arrival.{Arrival}
-use Rattle.txn_plan.specs.declared.arrival.Arrival.TheVariants.{Reply as Reply_came, Lost as Was_lost, Slept as Has_slept, Time as Time_came}
+use Rattle.txn_kv.specs.declared.arrival.Arrival.{Arrival}
+use Rattle.txn_kv.specs.declared.arrival.Arrival.TheVariants.{Reply as Reply_came, Lost as Was_lost, Slept as Has_slept, Time as Time_came}
 
 -- the timestamp that they name, once one was sent; those that are neither refused nor lost; and the first that was lost
 pub record Commits : Type 0 where

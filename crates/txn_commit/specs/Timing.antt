@@ -20,8 +20,8 @@ use Rattle.txn_plan.specs.LookUp.{looked_up, looked_up-lawful}
 use Rattle.txn_tso.specs.Calling.{IsRefused}
 use Rattle.txn_tso.specs.declared.stage.Stage.TheVariants.{Asked, Stopped}
 use Rattle.txn_commit.specs.declared.timestamp_call.TimestampCall.{TimestampCall}
-use Rattle.txn_plan.specs.declared.arrival.Arrival.{Arrival}
-use Rattle.txn_plan.specs.declared.arrival.Arrival.TheVariants as arrivals
+use Rattle.txn_kv.specs.declared.arrival.Arrival.{Arrival}
+use Rattle.txn_kv.specs.declared.arrival.Arrival.TheVariants as arrivals
 
 -- what the answer to its query is read as
 abbrev pub ReadsTime : Result PdAnswer Error → Result Timestamp Error → Type 0

@@ -18,7 +18,7 @@ ghost use Rattle.txn_commit.specs.Plans.{AreCommitted, AreRolledBack, IsPlanFor,
 ghost use Rattle.txn_commit.specs.Sending.{MaySend, plan_of};
 ghost use Rattle.txn_commit.specs.Timing.{HasVersionIfDone};
 ghost use Rattle.txn_commit.specs.declared.committer.Stage.TheVariants as stages;
-ghost use Rattle.txn_plan.specs.Arrivals.{MayArrive, awaited_as, locked_told, tells_error, tells_failure, told_by, weight_told};
+ghost use Rattle.txn_history.specs.Arrivals.{MayArrive, awaited_as, locked_told, tells_error, tells_failure, told_by, weight_told};
 
 use crate::commit_parts::CommitParts;
 use crate::plan_for::PlanFor;
@@ -26,11 +26,11 @@ use crate::primary_commits::{PrimaryCommits, count_posted};
 use crate::timestamp_call::TimestampCall;
 use std::alloc::Global;
 use txn_kv::{
-    BatchRollbackRequest, CommitRequest, Error, Items, Key, NoMemory, Outbox, PrewriteRequest,
-    Progress, Timestamp,
+    Arrival, BatchRollbackRequest, CommitRequest, Error, Items, Key, NoMemory, Outbox,
+    PrewriteRequest, Progress, Timestamp,
 };
 use txn_merge::RetryOptions;
-use txn_plan::{Arrival, Plan};
+use txn_plan::Plan;
 use txn_region::PdClient;
 use txn_request::lowering::{new_batch_rollback_request, new_commit_request, new_prewrite_request};
 
@@ -245,7 +245,7 @@ where
     {
         match &mut self.stage {
             Stage::Prewriting(plan) => {
-                let progress = arrival.tell(plan, pd, now, out)?;
+                let progress = plan.tell(pd, now, arrival, out)?;
                 self.after_prewrite(progress, pd, now, out)
             }
             Stage::Asking(call) => match call.tell(arrival, pd, now, out) {
@@ -260,11 +260,11 @@ where
                 }
             }
             Stage::RollingBackPrimary(plan) => {
-                let progress = arrival.tell(plan, pd, now, out)?;
+                let progress = plan.tell(pd, now, arrival, out)?;
                 self.after_primary_rollback(progress, pd, now, out)
             }
             Stage::RollingBackOthers(plan) => {
-                let progress = arrival.tell(plan, pd, now, out)?;
+                let progress = plan.tell(pd, now, arrival, out)?;
                 self.after_rollback(progress)
             }
             Stage::Over => {
@@ -565,7 +565,7 @@ fn tell_commit<Q: Plan, C: PdClient>(
 {
     commits.hear(&arrival, out);
     let had = count_posted(out);
-    let progress = arrival.tell(plan, pd, now, out)?;
+    let progress = plan.tell(pd, now, arrival, out)?;
     commits.send(out, had, timestamp)?;
     Ok(progress)
 }

@@ -28,8 +28,8 @@ ghost use Rattle.txn_commit.specs.Sending.{MaySend, plan_of};
 ghost use Rattle.txn_commit.specs.declared.commit_parts.CommitParts.{CommitParts};
 ghost use Rattle.txn_commit.specs.declared.committer.CommitterCall.{CommitterCall};
 ghost use Rattle.txn_commit.specs.declared.committer.Stage.{Stage};
-ghost use Rattle.txn_plan.specs.Arrivals.{told_by};
-ghost use Rattle.txn_plan.specs.declared.arrival.Arrival.{Arrival};
+ghost use Rattle.txn_history.specs.Arrivals.{told_by};
+ghost use Rattle.txn_kv.specs.declared.arrival.Arrival.{Arrival};
 
 use crate::plan_for::PlanFor;
 use txn_kv::{BatchRollbackRequest, CommitRequest, PrewriteRequest};

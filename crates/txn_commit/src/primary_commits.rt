@@ -5,8 +5,7 @@ ghost use Rattle.txn_commit.specs.Following.{answered, commit_tickets, heard, is
 
 use std::alloc::Global;
 use std::marker::Model;
-use txn_kv::{Errand, NoMemory, Outbox, Reply, Request, Ticket, Timestamp, TimestampExt};
-use txn_plan::Arrival;
+use txn_kv::{Arrival, Errand, NoMemory, Outbox, Reply, Request, Ticket, Timestamp, TimestampExt};
 
 /// The Commits of a transaction's primary: the timestamp that all of them name, once one was sent, and what became of them.
 #[derive(Debug, Drop)]

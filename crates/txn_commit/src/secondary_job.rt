@@ -1,27 +1,21 @@
-ghost use Rattle.std.specs.Prelude.{◌≡◌, ◌<◌, ◌^◌, List, OnErr, OnOk, false, is_err, true};
+ghost use Rattle.std.specs.Prelude.{◌≡◌, ◌<◌, ◌^◌, List, OnErr, OnOk, false};
 ghost use Rattle.std.specs.Bool.{MatchBool};
 ghost use Rattle.txn_history.specs.Around.{IsRead};
-ghost use Rattle.txn_history.specs.Faults.{has_error, has_region_error};
-ghost use Rattle.txn_history.specs.Meaning.{missed, replied, started, timed, woken, Counts, Goes, Tells};
-ghost use Rattle.txn_history.specs.Phase.Awaited.{EndOf, ReplyTo, TimeOf};
+ghost use Rattle.txn_history.specs.Meaning.{started, Counts, Goes, Tells};
 ghost use Rattle.txn_history.specs.Phase.Phase.{Fresh as Unbegun};
 ghost use Rattle.txn_history.specs.Plan.{Key as Name, Plan as Writing};
-ghost use Rattle.txn_history.specs.Posted.{HasNumbers, ticket_of};
-ghost use Rattle.txn_history.specs.Spends.{locked_of, weight_of};
+ghost use Rattle.txn_history.specs.Posted.{HasNumbers};
 ghost use Rattle.txn_history.specs.Turn.{turn_of};
-ghost use Rattle.txn_kv.specs.Timestamp.{HasVersion, version_of};
 ghost use Rattle.txn_kv.specs.declared.request.Request.{Request as Asked};
 ghost use Rattle.txn_commit.specs.Jobs.{IsPlanned, JobReady, ReadsDone, job_phase, job_waits, others};
-ghost use Rattle.txn_plan.specs.Answered.{IsTimeAnswer};
 ghost use Rattle.txn_commit.specs.declared.secondary_job.Stage.TheVariants as stages;
-ghost use Rattle.txn_plan.specs.Arrivals.{MayArrive, awaited_as, locked_told, tells_error, tells_failure, told_by, weight_told};
+ghost use Rattle.txn_history.specs.Arrivals.{MayArrive, awaited_as, locked_told, tells_error, tells_failure, told_by, weight_told};
 
 use crate::plan_for::PlanFor;
 use std::alloc::Global;
 use std::mem;
-use txn_kv::{CommitRequest, Items, Key, NoMemory, Outbox, Progress, Reply, Timestamp};
+use txn_kv::{Arrival, CommitRequest, Items, Key, NoMemory, Outbox, Progress, Timestamp};
 use txn_merge::RetryOptions;
-use txn_plan::Arrival;
 use txn_region::PdClient;
 use txn_request::lowering::new_commit_request;
 
@@ -104,79 +98,6 @@ impl<Q: PlanFor<CommitRequest>> SecondaryJob<Q> {
         self.begin(pd, now, out)
     }
 
-    pub fn take_reply<C: PdClient>(
-        &mut self,
-        pd: &mut C,
-        now: u64,
-        number: u64,
-        reply: Reply,
-        out: &mut Outbox,
-    ) -> Turn
-        requires ready { JobReady Q.meaning self.old }
-        requires numbers { HasNumbers out.old }
-        requires clock { now < 2 ^ 44 }
-        ensures tells { (plan : Writing) (keys : List Name) (r : Asked) → Tells (others Q.meaning Q.refuses Q.costs plan keys) (replied (ticket_of out.old number) r reply) self.old self.new out.old out.new (turn_of result) }
-        ensures goes { Goes (λ (s : SecondaryJob Q). job_phase Q.meaning s.stage) (job_waits Q.meaning self.old.stage (ReplyTo number)) self.old self.new out.old out.new pd.old pd.new (turn_of result) }
-        ensures counts { (plan : Writing) (keys : List Name) → Counts (others Q.meaning Q.refuses Q.costs plan keys) (has_error reply) (has_region_error reply) (weight_of reply) (locked_of reply) self.old self.new out.old out.new (turn_of result) }
-        ensures ready { JobReady Q.meaning self.new }
-        ensures numbers { HasNumbers out.new }
-    {
-        self.tell(Arrival::Reply { number, reply }, pd, now, out)
-    }
-
-    pub fn lost<C: PdClient>(&mut self, pd: &mut C, now: u64, number: u64, out: &mut Outbox) -> Turn
-        requires ready { JobReady Q.meaning self.old }
-        requires numbers { HasNumbers out.old }
-        requires clock { now < 2 ^ 44 }
-        ensures tells { (plan : Writing) (keys : List Name) (r : Asked) → Tells (others Q.meaning Q.refuses Q.costs plan keys) (missed (ticket_of out.old number) r) self.old self.new out.old out.new (turn_of result) }
-        ensures goes { Goes (λ (s : SecondaryJob Q). job_phase Q.meaning s.stage) (job_waits Q.meaning self.old.stage (ReplyTo number)) self.old self.new out.old out.new pd.old pd.new (turn_of result) }
-        ensures counts { (plan : Writing) (keys : List Name) → Counts (others Q.meaning Q.refuses Q.costs plan keys) true true 0 0 self.old self.new out.old out.new (turn_of result) }
-        ensures ready { JobReady Q.meaning self.new }
-        ensures numbers { HasNumbers out.new }
-    {
-        self.tell(Arrival::Lost { number }, pd, now, out)
-    }
-
-    pub fn slept<C: PdClient>(
-        &mut self,
-        pd: &mut C,
-        now: u64,
-        number: u64,
-        out: &mut Outbox,
-    ) -> Turn
-        requires ready { JobReady Q.meaning self.old }
-        requires numbers { HasNumbers out.old }
-        requires clock { now < 2 ^ 44 }
-        ensures tells { (plan : Writing) (keys : List Name) → Tells (others Q.meaning Q.refuses Q.costs plan keys) (woken (ticket_of out.old number)) self.old self.new out.old out.new (turn_of result) }
-        ensures goes { Goes (λ (s : SecondaryJob Q). job_phase Q.meaning s.stage) (job_waits Q.meaning self.old.stage (EndOf number)) self.old self.new out.old out.new pd.old pd.new (turn_of result) }
-        ensures counts { (plan : Writing) (keys : List Name) → Counts (others Q.meaning Q.refuses Q.costs plan keys) false false 0 0 self.old self.new out.old out.new (turn_of result) }
-        ensures ready { JobReady Q.meaning self.new }
-        ensures numbers { HasNumbers out.new }
-    {
-        self.tell(Arrival::Slept { number }, pd, now, out)
-    }
-
-    pub fn take_time<C: PdClient>(
-        &mut self,
-        pd: &mut C,
-        now: u64,
-        ask: u64,
-        answer: txn_kv::Result<Timestamp>,
-        out: &mut Outbox,
-    ) -> Turn
-        requires ready { JobReady Q.meaning self.old }
-        requires answer { IsTimeAnswer answer }
-        requires numbers { HasNumbers out.old }
-        requires clock { now < 2 ^ 44 }
-        ensures tells { (plan : Writing) (keys : List Name) → Tells (others Q.meaning Q.refuses Q.costs plan keys) (timed (ticket_of out.old ask) answer) self.old self.new out.old out.new (turn_of result) }
-        ensures goes { Goes (λ (s : SecondaryJob Q). job_phase Q.meaning s.stage) (job_waits Q.meaning self.old.stage (TimeOf ask)) self.old self.new out.old out.new pd.old pd.new (turn_of result) }
-        ensures counts { (plan : Writing) (keys : List Name) → Counts (others Q.meaning Q.refuses Q.costs plan keys) (is_err answer) false 0 0 self.old self.new out.old out.new (turn_of result) }
-        ensures ready { JobReady Q.meaning self.new }
-        ensures numbers { HasNumbers out.new }
-    {
-        self.tell(Arrival::Time { ask, answer }, pd, now, out)
-    }
-
     /// It is told of something.
     pub fn tell<C: PdClient>(
         &mut self,
@@ -197,7 +118,7 @@ impl<Q: PlanFor<CommitRequest>> SecondaryJob<Q> {
     {
         match &mut self.stage {
             Stage::Committing(plan) => {
-                let turn = arrival.tell(plan, pd, now, out);
+                let turn = plan.tell(pd, now, arrival, out);
                 read(turn)
             }
             Stage::Fresh => {

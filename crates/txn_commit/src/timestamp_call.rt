@@ -7,10 +7,9 @@ ghost use Rattle.txn_kv.specs.declared.request.Request.{Request as Asked};
 ghost use Rattle.txn_plan.specs.LookUp.{looked_up};
 ghost use Rattle.txn_tso.specs.declared.stage.Stage.TheVariants.{Stopped};
 ghost use Rattle.txn_commit.specs.Timing.{HasBegun, HasVersionIfDone, IsAnswerOf, IsToldTo, ReadsTime, time_asked};
-ghost use Rattle.txn_plan.specs.Arrivals.{MayArrive, awaited_as, locked_told, tells_error, tells_failure, told_by, weight_told};
+ghost use Rattle.txn_history.specs.Arrivals.{MayArrive, awaited_as, locked_told, tells_error, tells_failure, told_by, weight_told};
 
-use txn_kv::{Error, Internal, NoMemory, Outbox, PdAnswer, PdQuery, Progress, Timestamp};
-use txn_plan::Arrival;
+use txn_kv::{Arrival, Error, Internal, NoMemory, Outbox, PdAnswer, PdQuery, Progress, Timestamp};
 use txn_region::PdClient;
 use txn_tso::PdCall;
 
@@ -106,12 +105,11 @@ fn read(turn: Result<Progress<PdAnswer>, NoMemory>) -> Result<Progress<Timestamp
 fn time_of(answer: txn_kv::Result<PdAnswer>) -> txn_kv::Result<Timestamp>
     ensures { ReadsTime answer result }
 {
-    match answer {
-        Ok(PdAnswer::Time(timestamp)) => Ok(timestamp),
-        Ok(_) => Err(Error::InternalError {
+    match &answer? {
+        PdAnswer::Time(timestamp) => Ok(*timestamp),
+        _ => Err(Error::InternalError {
             what: Internal::WrongReply,
         }),
-        Err(error) => Err(error),
     }
 }
 

@@ -40,9 +40,9 @@ use Rattle.txn_core.specs.declared.transaction.Work.{Work}
 use Rattle.txn_core.specs.declared.transaction.Work.TheVariants.{Idle, Open, GaveUp}
 use Rattle.txn_core.specs.declared.txn_answer.TxnAnswer.{TxnAnswer}
 use Rattle.txn_core.specs.declared.txn_answer.TxnAnswer.TheVariants as answer
-use Rattle.txn_plan.specs.Arrivals.{told_by}
-use Rattle.txn_plan.specs.declared.arrival.Arrival.{Arrival}
-use Rattle.txn_plan.specs.declared.arrival.Arrival.TheVariants as arrival
+use Rattle.txn_history.specs.Arrivals.{told_by}
+use Rattle.txn_kv.specs.declared.arrival.Arrival.{Arrival}
+use Rattle.txn_kv.specs.declared.arrival.Arrival.TheVariants as arrival
 
 -- a status that allows no data moves to none that does
 pub stays_started : (s next : Status) → allows_data s ≡ false → allows_data next ≡ false → allows_data (moved s next) ≡ false

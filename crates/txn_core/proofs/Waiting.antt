@@ -29,7 +29,7 @@ use Rattle.txn_core.specs.declared.transaction.Work.{Work}
 use Rattle.txn_core.specs.declared.transaction.Work.TheVariants.{Idle, Open, GaveUp}
 use Rattle.txn_core.specs.declared.txn_answer.TxnAnswer.{TxnAnswer}
 use Rattle.txn_core.specs.declared.txn_answer.TxnAnswer.TheVariants as answer
-use Rattle.txn_plan.specs.declared.arrival.Arrival.{Arrival}
+use Rattle.txn_kv.specs.declared.arrival.Arrival.{Arrival}
 
 is_running : (p : Phase) → ((p ≡ Running → ⊥) → ⊥) → p ≡ Running
 is_running Fresh n = absurd (n (λ (q : Fresh ≡ Running). cc))

@@ -6,8 +6,8 @@ use std::alloc::Global;
 use std::marker::Model;
 use txn_commit::PlanFor;
 use txn_kv::{
-    BatchRollbackRequest, CommitRequest, NoMemory, Outbox, PrewriteRequest, Progress, Reply,
-    StoreId, Timestamp,
+    Arrival, BatchRollbackRequest, CommitRequest, NoMemory, Outbox, PrewriteRequest, Progress,
+    StoreId,
 };
 use txn_merge::{HasKeyErrors, HasRegionErrors, RetryOptions};
 use txn_plan::{CopyRequest, Dispatch, ExtractError, Plan};
@@ -50,46 +50,14 @@ impl<P: Plan> Plan for Own<P> {
         self.plan.start(pd, now, out)
     }
 
-    fn take_reply<C: PdClient>(
+    fn tell<C: PdClient>(
         &mut self,
         pd: &mut C,
         now: u64,
-        number: u64,
-        reply: Reply,
+        arrival: Arrival,
         out: &mut Outbox,
     ) -> Result<Progress<P::Result>, NoMemory> {
-        self.plan.take_reply(pd, now, number, reply, out)
-    }
-
-    fn lost<C: PdClient>(
-        &mut self,
-        pd: &mut C,
-        now: u64,
-        number: u64,
-        out: &mut Outbox,
-    ) -> Result<Progress<P::Result>, NoMemory> {
-        self.plan.lost(pd, now, number, out)
-    }
-
-    fn slept<C: PdClient>(
-        &mut self,
-        pd: &mut C,
-        now: u64,
-        number: u64,
-        out: &mut Outbox,
-    ) -> Result<Progress<P::Result>, NoMemory> {
-        self.plan.slept(pd, now, number, out)
-    }
-
-    fn take_time<C: PdClient>(
-        &mut self,
-        pd: &mut C,
-        now: u64,
-        ask: u64,
-        answer: txn_kv::Result<Timestamp>,
-        out: &mut Outbox,
-    ) -> Result<Progress<P::Result>, NoMemory> {
-        self.plan.take_time(pd, now, ask, answer, out)
+        self.plan.tell(pd, now, arrival, out)
     }
 
     ghost lawful = { P.lawful };

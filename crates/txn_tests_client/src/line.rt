@@ -2,7 +2,7 @@
 ghost use Rattle.std.specs.Prelude.{IfOk};
 ghost use Rattle.txn_client.specs.Calls.{CallReady};
 ghost use Rattle.txn_kv.specs.Timestamp.{HasVersion};
-ghost use Rattle.txn_plan.specs.Answered.{IsTimeAnswer};
+ghost use Rattle.txn_history.specs.Arrivals.{IsTimeAnswer};
 
 use std::alloc::Global;
 use std::marker::Model;
@@ -12,7 +12,7 @@ use txn_commit::PlanFor;
 use txn_core::{CheckLevel, Transaction, TransactionOptions};
 use txn_fakes::NoClient;
 use txn_kv::{
-    BatchRollbackRequest, CommitRequest, Errand, Error, Internal, NoMemory, Outbox,
+    Arrival, BatchRollbackRequest, CommitRequest, Errand, Error, Internal, NoMemory, Outbox,
     PrewriteRequest, Progress, Timestamp,
 };
 use txn_region::{ApiV1TxnCodec, PdRpcClient};
@@ -92,8 +92,11 @@ where
         let turn = match step.split_once(' ') {
             Some((verb, ask)) => {
                 let ask = ask.parse::<u64>().expect(rt, "a number");
-                self.call
-                    .take_time(&mut self.pd, 5, ask, time(verb), &mut self.out)
+                let arrival = Arrival::Time {
+                    ask,
+                    answer: time(verb),
+                };
+                self.call.tell(arrival, &mut self.pd, 5, &mut self.out)
             }
             None => self.call.start(&mut self.pd, 5, &mut self.out),
         };

@@ -1,13 +1,13 @@
 //! What stores answer, and which timestamp the oracle gives.
 ghost use Rattle.txn_kv.specs.Timestamp.{HasVersion};
-ghost use Rattle.txn_plan.specs.Arrivals.{MayArrive};
+ghost use Rattle.txn_history.specs.Arrivals.{MayArrive};
 
 use std::alloc::Global;
 use std::process::Abort;
 use txn_kv::{
-    BatchRollbackResponse, CommitResponse, Items, Key, KeyError, PrewriteResponse, Reply, Timestamp,
+    Arrival, BatchRollbackResponse, CommitResponse, Items, Key, KeyError, PrewriteResponse, Reply,
+    Timestamp,
 };
-use txn_plan::Arrival;
 
 /// The first timestamp of the oracle.
 pub fn first() -> Timestamp

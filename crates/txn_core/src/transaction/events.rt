@@ -1,36 +1,29 @@
 //! What comes to a transaction: replies and losses of its requests, the ends of its sleeps, and timestamps.
-ghost use Rattle.std.specs.Prelude.{◌≡◌, ◌<◌, ◌^◌, List, false, is_err, true};
+ghost use Rattle.std.specs.Prelude.{◌≡◌, ◌<◌, ◌^◌, List, false, true};
 ghost use Rattle.txn_history.specs.Event.{Event};
-ghost use Rattle.txn_history.specs.Faults.{has_error, has_region_error};
 ghost use Rattle.txn_history.specs.Meaning.{Expects};
-ghost use Rattle.txn_history.specs.Phase.Awaited.{EndOf, ReplyTo, TimeOf};
 ghost use Rattle.txn_history.specs.Phase.Phase.{Running};
-ghost use Rattle.txn_history.specs.Posted.{HasNumbers, ticket_of};
-ghost use Rattle.txn_history.specs.Spends.{locked_of, weight_of};
+ghost use Rattle.txn_history.specs.Posted.{HasNumbers};
 ghost use Rattle.txn_history.specs.Turn.{IfEnds, IfKept, turn_of};
 ghost use Rattle.txn_history.specs.Turn.Turn.{Stopped, Waits};
 ghost use Rattle.txn_kv.specs.Timestamp.{HasVersion};
 ghost use Rattle.txn_kv.specs.declared.request.Request.{Request as Asked};
-ghost use Rattle.txn_plan.specs.Answered.{IsTimeAnswer};
 ghost use Rattle.txn_commit.specs.Committing.{CommitterFits, CommitterMoves, IsInRange, StageReady, ways};
 ghost use Rattle.txn_commit.specs.Counting.{CommitterCounts, costs_of};
-ghost use Rattle.txn_commit.specs.Following.{IsFollowed, awaits, heard, is_out};
+ghost use Rattle.txn_commit.specs.Following.{IsFollowed, awaits, heard};
 ghost use Rattle.txn_commit.specs.Going.{CommitterExpects, CommitterGoes, may_commit, stage_phase, stage_waits};
 ghost use Rattle.txn_core.specs.Counting.{OpenCounts, TransactionCounts};
 ghost use Rattle.txn_core.specs.Going.{CallFits, CallMoves, IsSameCall, TransactionFits, TransactionMoves, TransactionReady};
 ghost use Rattle.txn_core.specs.Transaction.{GivesUp, is_open, is_waiting, moved_by};
 ghost use Rattle.txn_core.specs.Waiting.{HandsOut, TransactionGoes, work_waits};
 ghost use Rattle.txn_core.specs.declared.transaction.Work.TheVariants as works;
-ghost use Rattle.txn_plan.specs.Arrivals.{MayArrive, awaited_as, locked_told, tells_error, tells_failure, told_by, weight_told};
-ghost use Rattle.txn_plan.specs.declared.arrival.Arrival.TheVariants as arrivals;
+ghost use Rattle.txn_history.specs.Arrivals.{MayArrive, awaited_as, locked_told, tells_error, tells_failure, told_by, weight_told};
 
 use crate::transaction::{Transaction, Turn, Work};
 use txn_commit::{CommitterAnswer, CommitterCall, PlanFor};
 use txn_kv::{
-    BatchRollbackRequest, CommitRequest, NoMemory, Outbox, PrewriteRequest, Progress, Reply,
-    Timestamp,
+    Arrival, BatchRollbackRequest, CommitRequest, NoMemory, Outbox, PrewriteRequest, Progress,
 };
-use txn_plan::Arrival;
 use txn_region::PdClient;
 
 impl<C, P, Q, K> Transaction<C, P, Q, K>
@@ -40,106 +33,8 @@ where
     Q: PlanFor<CommitRequest>,
     K: PlanFor<BatchRollbackRequest>,
 {
-    pub fn take_reply(
-        &mut self,
-        pd: &mut C,
-        now: u64,
-        number: u64,
-        reply: Reply,
-        out: &mut Outbox,
-    ) -> Turn<Q>
-        requires ready { TransactionReady (ways P.meaning Q.meaning K.meaning P.refuses Q.refuses K.refuses) self.old }
-        requires numbers { HasNumbers out.old }
-        requires clock { now < 2 ^ 44 }
-        ensures tells { (r : Asked) → TransactionMoves (ways P.meaning Q.meaning K.meaning P.refuses Q.refuses K.refuses) (told_by (arrivals.Reply number reply) out.old r).known (told_by (arrivals.Reply number reply) out.old r).hear self.old self.new out.old out.new (turn_of result) }
-        ensures counts { TransactionCounts (ways P.meaning Q.meaning K.meaning P.refuses Q.refuses K.refuses) (costs_of P.costs Q.costs K.costs) (has_error reply) (has_region_error reply) (weight_of reply) (locked_of reply) self.old self.new out.old out.new (turn_of result) }
-        ensures status { self.new.status ≡ moved_by self.old.status (turn_of result) }
-        ensures kept { self.new ≡ record self.old { status = self.new.status; commits = self.new.commits; work = self.new.work; width = self.new.width } }
-        ensures gives_up { GivesUp self.old self.new (turn_of result) }
-        ensures deaf { self.old.work ≡ works.Idle → (turn_of result ≡ Waits) × (self.new ≡ self.old) × (out.new ≡ out.old) }
-        ensures goes { TransactionGoes (ways P.meaning Q.meaning K.meaning P.refuses Q.refuses K.refuses) (work_waits (ways P.meaning Q.meaning K.meaning P.refuses Q.refuses K.refuses) self.old.work (ReplyTo number)) (record self.old { commits = self.new.commits }) self.new out.old out.new pd.old pd.new (turn_of result) }
-        ensures expects { Expects (work_waits (ways P.meaning Q.meaning K.meaning P.refuses Q.refuses K.refuses) self.old.work) (work_waits (ways P.meaning Q.meaning K.meaning P.refuses Q.refuses K.refuses) self.new.work) (λ a. a ≡ ReplyTo number) out.old out.new }
-        ensures commits { (work_waits (ways P.meaning Q.meaning K.meaning P.refuses Q.refuses K.refuses) self.old.work (ReplyTo number) → ⊥) → is_out (ticket_of out.old number) self.old.commits ≡ false → self.new.commits ≡ self.old.commits }
-        ensures follows { (h : List Event) → is_open self.old.work ≡ true → TransactionFits (ways P.meaning Q.meaning K.meaning P.refuses Q.refuses K.refuses) self.old out.old h → IfKept (turn_of result) (IsFollowed out.old (heard (arrivals.Reply number reply) out.old self.old.commits) self.new.commits) }
-        ensures job { IfEnds (turn_of result) (HandsOut Q.meaning) }
-        ensures ready { TransactionReady (ways P.meaning Q.meaning K.meaning P.refuses Q.refuses K.refuses) self.new }
-        ensures numbers { HasNumbers out.new }
-    {
-        self.tell(Arrival::Reply { number, reply }, pd, now, out)
-    }
-
-    pub fn lost(&mut self, pd: &mut C, now: u64, number: u64, out: &mut Outbox) -> Turn<Q>
-        requires ready { TransactionReady (ways P.meaning Q.meaning K.meaning P.refuses Q.refuses K.refuses) self.old }
-        requires numbers { HasNumbers out.old }
-        requires clock { now < 2 ^ 44 }
-        ensures tells { (r : Asked) → TransactionMoves (ways P.meaning Q.meaning K.meaning P.refuses Q.refuses K.refuses) (told_by (arrivals.Lost number) out.old r).known (told_by (arrivals.Lost number) out.old r).hear self.old self.new out.old out.new (turn_of result) }
-        ensures counts { TransactionCounts (ways P.meaning Q.meaning K.meaning P.refuses Q.refuses K.refuses) (costs_of P.costs Q.costs K.costs) true true 0 0 self.old self.new out.old out.new (turn_of result) }
-        ensures status { self.new.status ≡ moved_by self.old.status (turn_of result) }
-        ensures kept { self.new ≡ record self.old { status = self.new.status; commits = self.new.commits; work = self.new.work; width = self.new.width } }
-        ensures gives_up { GivesUp self.old self.new (turn_of result) }
-        ensures deaf { self.old.work ≡ works.Idle → (turn_of result ≡ Waits) × (self.new ≡ self.old) × (out.new ≡ out.old) }
-        ensures goes { TransactionGoes (ways P.meaning Q.meaning K.meaning P.refuses Q.refuses K.refuses) (work_waits (ways P.meaning Q.meaning K.meaning P.refuses Q.refuses K.refuses) self.old.work (ReplyTo number)) (record self.old { commits = self.new.commits }) self.new out.old out.new pd.old pd.new (turn_of result) }
-        ensures expects { Expects (work_waits (ways P.meaning Q.meaning K.meaning P.refuses Q.refuses K.refuses) self.old.work) (work_waits (ways P.meaning Q.meaning K.meaning P.refuses Q.refuses K.refuses) self.new.work) (λ a. a ≡ ReplyTo number) out.old out.new }
-        ensures commits { (work_waits (ways P.meaning Q.meaning K.meaning P.refuses Q.refuses K.refuses) self.old.work (ReplyTo number) → ⊥) → is_out (ticket_of out.old number) self.old.commits ≡ false → self.new.commits ≡ self.old.commits }
-        ensures follows { (h : List Event) → is_open self.old.work ≡ true → TransactionFits (ways P.meaning Q.meaning K.meaning P.refuses Q.refuses K.refuses) self.old out.old h → IfKept (turn_of result) (IsFollowed out.old (heard (arrivals.Lost number) out.old self.old.commits) self.new.commits) }
-        ensures job { IfEnds (turn_of result) (HandsOut Q.meaning) }
-        ensures ready { TransactionReady (ways P.meaning Q.meaning K.meaning P.refuses Q.refuses K.refuses) self.new }
-        ensures numbers { HasNumbers out.new }
-    {
-        self.tell(Arrival::Lost { number }, pd, now, out)
-    }
-
-    pub fn slept(&mut self, pd: &mut C, now: u64, number: u64, out: &mut Outbox) -> Turn<Q>
-        requires ready { TransactionReady (ways P.meaning Q.meaning K.meaning P.refuses Q.refuses K.refuses) self.old }
-        requires numbers { HasNumbers out.old }
-        requires clock { now < 2 ^ 44 }
-        ensures tells { (r : Asked) → TransactionMoves (ways P.meaning Q.meaning K.meaning P.refuses Q.refuses K.refuses) (told_by (arrivals.Slept number) out.old r).known (told_by (arrivals.Slept number) out.old r).hear self.old self.new out.old out.new (turn_of result) }
-        ensures counts { TransactionCounts (ways P.meaning Q.meaning K.meaning P.refuses Q.refuses K.refuses) (costs_of P.costs Q.costs K.costs) false false 0 0 self.old self.new out.old out.new (turn_of result) }
-        ensures status { self.new.status ≡ moved_by self.old.status (turn_of result) }
-        ensures kept { self.new ≡ record self.old { status = self.new.status; commits = self.new.commits; work = self.new.work; width = self.new.width } }
-        ensures gives_up { GivesUp self.old self.new (turn_of result) }
-        ensures deaf { self.old.work ≡ works.Idle → (turn_of result ≡ Waits) × (self.new ≡ self.old) × (out.new ≡ out.old) }
-        ensures goes { TransactionGoes (ways P.meaning Q.meaning K.meaning P.refuses Q.refuses K.refuses) (work_waits (ways P.meaning Q.meaning K.meaning P.refuses Q.refuses K.refuses) self.old.work (EndOf number)) (record self.old { commits = self.new.commits }) self.new out.old out.new pd.old pd.new (turn_of result) }
-        ensures expects { Expects (work_waits (ways P.meaning Q.meaning K.meaning P.refuses Q.refuses K.refuses) self.old.work) (work_waits (ways P.meaning Q.meaning K.meaning P.refuses Q.refuses K.refuses) self.new.work) (λ a. a ≡ EndOf number) out.old out.new }
-        ensures commits { (work_waits (ways P.meaning Q.meaning K.meaning P.refuses Q.refuses K.refuses) self.old.work (EndOf number) → ⊥) → self.new.commits ≡ self.old.commits }
-        ensures follows { (h : List Event) → is_open self.old.work ≡ true → TransactionFits (ways P.meaning Q.meaning K.meaning P.refuses Q.refuses K.refuses) self.old out.old h → IfKept (turn_of result) (IsFollowed out.old (heard (arrivals.Slept number) out.old self.old.commits) self.new.commits) }
-        ensures job { IfEnds (turn_of result) (HandsOut Q.meaning) }
-        ensures ready { TransactionReady (ways P.meaning Q.meaning K.meaning P.refuses Q.refuses K.refuses) self.new }
-        ensures numbers { HasNumbers out.new }
-    {
-        self.tell(Arrival::Slept { number }, pd, now, out)
-    }
-
-    pub fn take_time(
-        &mut self,
-        pd: &mut C,
-        now: u64,
-        ask: u64,
-        answer: txn_kv::Result<Timestamp>,
-        out: &mut Outbox,
-    ) -> Turn<Q>
-        requires ready { TransactionReady (ways P.meaning Q.meaning K.meaning P.refuses Q.refuses K.refuses) self.old }
-        requires answer { IsTimeAnswer answer }
-        requires numbers { HasNumbers out.old }
-        requires clock { now < 2 ^ 44 }
-        ensures tells { (r : Asked) → TransactionMoves (ways P.meaning Q.meaning K.meaning P.refuses Q.refuses K.refuses) (told_by (arrivals.Time ask answer) out.old r).known (told_by (arrivals.Time ask answer) out.old r).hear self.old self.new out.old out.new (turn_of result) }
-        ensures counts { TransactionCounts (ways P.meaning Q.meaning K.meaning P.refuses Q.refuses K.refuses) (costs_of P.costs Q.costs K.costs) (is_err answer) false 0 0 self.old self.new out.old out.new (turn_of result) }
-        ensures status { self.new.status ≡ moved_by self.old.status (turn_of result) }
-        ensures kept { self.new ≡ record self.old { status = self.new.status; commits = self.new.commits; work = self.new.work; width = self.new.width } }
-        ensures gives_up { GivesUp self.old self.new (turn_of result) }
-        ensures deaf { self.old.work ≡ works.Idle → (turn_of result ≡ Waits) × (self.new ≡ self.old) × (out.new ≡ out.old) }
-        ensures goes { TransactionGoes (ways P.meaning Q.meaning K.meaning P.refuses Q.refuses K.refuses) (work_waits (ways P.meaning Q.meaning K.meaning P.refuses Q.refuses K.refuses) self.old.work (TimeOf ask)) (record self.old { commits = self.new.commits }) self.new out.old out.new pd.old pd.new (turn_of result) }
-        ensures expects { Expects (work_waits (ways P.meaning Q.meaning K.meaning P.refuses Q.refuses K.refuses) self.old.work) (work_waits (ways P.meaning Q.meaning K.meaning P.refuses Q.refuses K.refuses) self.new.work) (λ a. a ≡ TimeOf ask) out.old out.new }
-        ensures commits { (work_waits (ways P.meaning Q.meaning K.meaning P.refuses Q.refuses K.refuses) self.old.work (TimeOf ask) → ⊥) → self.new.commits ≡ self.old.commits }
-        ensures follows { (h : List Event) → is_open self.old.work ≡ true → TransactionFits (ways P.meaning Q.meaning K.meaning P.refuses Q.refuses K.refuses) self.old out.old h → IfKept (turn_of result) (IsFollowed out.old (heard (arrivals.Time ask answer) out.old self.old.commits) self.new.commits) }
-        ensures job { IfEnds (turn_of result) (HandsOut Q.meaning) }
-        ensures ready { TransactionReady (ways P.meaning Q.meaning K.meaning P.refuses Q.refuses K.refuses) self.new }
-        ensures numbers { HasNumbers out.new }
-    {
-        self.tell(Arrival::Time { ask, answer }, pd, now, out)
-    }
-
-    fn tell(&mut self, arrival: Arrival, pd: &mut C, now: u64, out: &mut Outbox) -> Turn<Q>
+    /// It is told of something.
+    pub fn tell(&mut self, arrival: Arrival, pd: &mut C, now: u64, out: &mut Outbox) -> Turn<Q>
         requires ready { TransactionReady (ways P.meaning Q.meaning K.meaning P.refuses Q.refuses K.refuses) self.old }
         requires arrives { MayArrive arrival }
         requires numbers { HasNumbers out.old }

@@ -191,8 +191,11 @@ fn mutate(buffer: &mut Buffer, mutation: Mutation) -> Result<(), NoMemory>
     ensures step { OnOk result (writes buffer.new ≡ after_call buffer.old.is_pessimistic (writes buffer.old) (call_by mutation.op mutation.key mutation.value)) }
 {
     match mutation.op {
-        Op::Put => buffer.put(mutation.key, mutation.value),
-        _ => buffer.delete(mutation.key),
+        Op::Put => {
+            let (key, value) = mutation.into_parts();
+            buffer.put(key, value)
+        }
+        _ => buffer.delete(mutation.into_key()),
     }
 }
 

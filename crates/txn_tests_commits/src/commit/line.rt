@@ -8,7 +8,7 @@ use txn_commit::{
     CommitParts, CommitterAnswer, CommitterCall, PlanFor, PrimaryCommits, SecondaryJob,
 };
 use txn_fakes::NoClient;
-use txn_kv::{BatchRollbackRequest, CommitRequest, Outbox, PrewriteRequest, Progress};
+use txn_kv::{Arrival, BatchRollbackRequest, CommitRequest, Outbox, PrewriteRequest, Progress};
 use txn_merge::RetryOptions;
 
 /// The transaction starts at 1.
@@ -96,9 +96,8 @@ where
     /// The third request of the line is the job's, and is answered.
     fn end_job(&mut self, rt: &impl Abort, alloc: Global) -> Progress<()> {
         let reply = reply(rt, alloc, "committed");
-        let turn = self
-            .job
-            .take_reply(&mut self.pd, 0, 3, reply, &mut self.out);
+        let arrival = Arrival::Reply { number: 3, reply };
+        let turn = self.job.tell(arrival, &mut self.pd, 0, &mut self.out);
         turn.expect(rt, "memory")
     }
 

@@ -4,8 +4,7 @@ use std::alloc::Global;
 use std::process::Abort;
 use txn_buffer::Buffer;
 use txn_commit::{CommitParts, PrimaryCommits};
-use txn_kv::{CommitRequest, Items, Key, Outbox, Request, Target, Ticket, Value};
-use txn_plan::Arrival;
+use txn_kv::{Arrival, CommitRequest, Items, Key, Outbox, Request, Target, Ticket, Value};
 
 fn key(rt: &impl Abort, alloc: Global, name: &str) -> Key {
     Key::from(name.as_bytes().to_vec(alloc).expect(rt, "memory"))

@@ -1,6 +1,7 @@
 //! A transaction with its client and its outbox.
 ghost use Rattle.std.specs.Prelude.{◌≡◌, false};
 ghost use Rattle.txn_core.specs.Transaction.{is_open};
+ghost use Rattle.txn_history.specs.Arrivals.{MayArrive};
 ghost use Rattle.txn_kv.specs.Timestamp.{HasVersion};
 
 use crate::words::{answer_text, push_errands, shown};
@@ -11,8 +12,8 @@ use txn_commit::PlanFor;
 use txn_core::{CloseAnswer, Transaction, TransactionOptions, TxnAnswer};
 use txn_fakes::NoClient;
 use txn_kv::{
-    BatchRollbackRequest, CommitRequest, Error, Internal, Key, Mutation, Outbox, PrewriteRequest,
-    Progress, Reply, Timestamp, Value,
+    Arrival, BatchRollbackRequest, CommitRequest, Error, Internal, Key, Mutation, Outbox,
+    PrewriteRequest, Progress, Reply, Timestamp, Value,
 };
 /// The transaction began at 100 ms, and all its calls are made at 350 ms.
 #[derive(Drop)]
@@ -119,30 +120,30 @@ where
         turn.expect(rt, "memory")
     }
 
-    pub fn reply(&mut self, rt: &impl Abort, number: u64, reply: Reply) -> Progress<TxnAnswer<Q>> {
-        let turn = self
-            .txn
-            .take_reply(&mut self.pd, 350, number, reply, &mut self.out);
+    fn tell(&mut self, rt: &impl Abort, arrival: Arrival) -> Progress<TxnAnswer<Q>>
+        requires { MayArrive arrival }
+    {
+        let turn = self.txn.tell(arrival, &mut self.pd, 350, &mut self.out);
         turn.expect(rt, "memory")
+    }
+
+    pub fn reply(&mut self, rt: &impl Abort, number: u64, reply: Reply) -> Progress<TxnAnswer<Q>> {
+        self.tell(rt, Arrival::Reply { number, reply })
     }
 
     pub fn lose(&mut self, rt: &impl Abort, number: u64) -> Progress<TxnAnswer<Q>> {
-        let turn = self.txn.lost(&mut self.pd, 350, number, &mut self.out);
-        turn.expect(rt, "memory")
+        self.tell(rt, Arrival::Lost { number })
     }
 
     pub fn wake(&mut self, rt: &impl Abort, number: u64) -> Progress<TxnAnswer<Q>> {
-        let turn = self.txn.slept(&mut self.pd, 350, number, &mut self.out);
-        turn.expect(rt, "memory")
+        self.tell(rt, Arrival::Slept { number })
     }
 
     pub fn give(&mut self, rt: &impl Abort, ask: u64, time: Timestamp) -> Progress<TxnAnswer<Q>>
         requires { HasVersion time }
     {
-        let turn = self
-            .txn
-            .take_time(&mut self.pd, 350, ask, Ok(time), &mut self.out);
-        turn.expect(rt, "memory")
+        let answer = Ok(time);
+        self.tell(rt, Arrival::Time { ask, answer })
     }
 
     /// The oracle gives no timestamp.
@@ -150,10 +151,8 @@ where
         let lost = Error::InternalError {
             what: Internal::OracleLost,
         };
-        let turn = self
-            .txn
-            .take_time(&mut self.pd, 350, ask, Err(lost), &mut self.out);
-        turn.expect(rt, "memory")
+        let answer = Err(lost);
+        self.tell(rt, Arrival::Time { ask, answer })
     }
 
     /// What is seen of a step: what is answered, and what is posted.

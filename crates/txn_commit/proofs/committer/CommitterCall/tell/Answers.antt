@@ -13,11 +13,12 @@ use Rattle.txn_history.proofs.Telling.{is_kept_ok}
 use Rattle.txn_tso.specs.Calling.{members}
 use Rattle.txn_commit.specs.Timing.{time_asked}
 use Rattle.txn_commit.proofs.Going.{asks_still, expects_gives_up, expects_idle, expects_stops, expects_then, followed_elsewhere, goes_gives_up, goes_idle, goes_stops, goes_then, heard_other, relays_goes, resumes_settled, unheard_waits}
+use Rattle.txn_commit.proofs.Told.{counts_of, goes_of, tells_of}
 use Rattle.txn_commit.proofs.committer.CommitterCall.tell.Goals as goal
-use Rattle.txn_plan.specs.Arrivals.{awaited_as, told_by}
+use Rattle.txn_history.specs.Arrivals.{awaited_as, told_by}
 
 pub returns-in_err-progress-in-Prewriting-clause-moves : goal.returns-in_err-progress-in-Prewriting-clause-moves
-returns-in_err-progress-in-Prewriting-clause-moves g c r = Moves-stops (prewriting_on _ c.args.self.now c.in-Prewriting.plan c.tell.new.plan c.args.commits.now (told_by c.args.arrival c.args.out.now r) c.args.out.now _ _ c.in-Prewriting.is (hears_told c.args.arrival c.args.out.now r) (c.tell.ensures.tells r).moves (c.tell.ensures.tells r).job) (stopped_is _ c.from_residual.ensures.0)
+returns-in_err-progress-in-Prewriting-clause-moves g c r = Moves-stops (prewriting_on _ c.args.self.now c.in-Prewriting.plan c.tell.new.self c.args.commits.now (told_by c.args.arrival c.args.out.now r) c.args.out.now _ _ c.in-Prewriting.is (hears_told c.args.arrival c.args.out.now r) (tells_of c.args.arrival c.tell.ensures r).moves (tells_of c.args.arrival c.tell.ensures r).job) (stopped_is _ c.from_residual.ensures.0)
 
 pub returns-in-Err-clause-moves : goal.returns-in-Err-clause-moves
 returns-in-Err-clause-moves g c r = Moves-stops (asking_on _ c.args.self.now c.in-Asking.call c.tell-in-Asking.new.self c.args.commits.now c.args.arrival r c.args.out.now _ _ c.in-Asking.is (rw c.in-Asking.is at c.requires.ready).1 (c.tell-in-Asking.ensures.tells r) c.tell-in-Asking.ensures.answer) c.give_up.ensures.turn
@@ -26,13 +27,13 @@ pub returns-in-Err-tell_commit-clause-moves : goal.returns-in-Err-tell_commit-cl
 returns-in-Err-tell_commit-clause-moves g c r = Moves-stops (commits_on _ c.args.self.now c.in-Committing.plan c.tell_commit.new.plan c.in-Committing.timestamp c.args.commits.now (heard c.args.arrival c.args.out.now c.args.commits.now) c.tell_commit.new.commits (told_by c.args.arrival c.args.out.now r) c.args.out.now _ _ c.in-Committing.is (hears_told c.args.arrival c.args.out.now r) (λ h n k. knows_heard _ _ c.args.commits.now c.args.arrival c.args.out.now r h n k) (heard_time c.args.arrival c.args.out.now c.args.commits.now) (c.tell_commit.ensures.sends r)) c.give_up-in-Err-tell_commit.ensures.turn
 
 pub returns-in_err-progress-in-RollingBackPrimary-clause-moves : goal.returns-in_err-progress-in-RollingBackPrimary-clause-moves
-returns-in_err-progress-in-RollingBackPrimary-clause-moves g c r = Moves-stops (rolling_on _ c.args.self.now c.in-RollingBackPrimary.plan c.tell-in-RollingBackPrimary.new.plan c.args.commits.now (told_by c.args.arrival c.args.out.now r) c.args.out.now _ _ c.in-RollingBackPrimary.is (hears_told c.args.arrival c.args.out.now r) (c.tell-in-RollingBackPrimary.ensures.tells r).moves (c.tell-in-RollingBackPrimary.ensures.tells r).job) (stopped_is _ c.from_residual-in_err-progress-in-RollingBackPrimary.ensures.0)
+returns-in_err-progress-in-RollingBackPrimary-clause-moves g c r = Moves-stops (rolling_on _ c.args.self.now c.in-RollingBackPrimary.plan c.tell-in-RollingBackPrimary.new.self c.args.commits.now (told_by c.args.arrival c.args.out.now r) c.args.out.now _ _ c.in-RollingBackPrimary.is (hears_told c.args.arrival c.args.out.now r) (tells_of c.args.arrival c.tell-in-RollingBackPrimary.ensures r).moves (tells_of c.args.arrival c.tell-in-RollingBackPrimary.ensures r).job) (stopped_is _ c.from_residual-in_err-progress-in-RollingBackPrimary.ensures.0)
 
 pub returns-in_err-progress-in-RollingBackOthers-clause-moves : goal.returns-in_err-progress-in-RollingBackOthers-clause-moves
-returns-in_err-progress-in-RollingBackOthers-clause-moves g c r = Moves-stops (rolling_others_on _ c.args.self.now c.in-RollingBackOthers.plan c.tell-in-RollingBackOthers.new.plan c.args.commits.now (told_by c.args.arrival c.args.out.now r) c.args.out.now _ _ c.in-RollingBackOthers.is (hears_told c.args.arrival c.args.out.now r) (c.tell-in-RollingBackOthers.ensures.tells r).moves (c.tell-in-RollingBackOthers.ensures.tells r).job) (stopped_is _ c.from_residual-in_err-progress-in-RollingBackOthers.ensures.0)
+returns-in_err-progress-in-RollingBackOthers-clause-moves g c r = Moves-stops (rolling_others_on _ c.args.self.now c.in-RollingBackOthers.plan c.tell-in-RollingBackOthers.new.self c.args.commits.now (told_by c.args.arrival c.args.out.now r) c.args.out.now _ _ c.in-RollingBackOthers.is (hears_told c.args.arrival c.args.out.now r) (tells_of c.args.arrival c.tell-in-RollingBackOthers.ensures r).moves (tells_of c.args.arrival c.tell-in-RollingBackOthers.ensures r).job) (stopped_is _ c.from_residual-in_err-progress-in-RollingBackOthers.ensures.0)
 
 pub returns-in_ok-progress-in-Prewriting-clause-moves : goal.returns-in_ok-progress-in-Prewriting-clause-moves
-returns-in_ok-progress-in-Prewriting-clause-moves g c r = Moves-then (prewriting_on _ c.args.self.now c.in-Prewriting.plan c.tell.new.plan c.args.commits.now (told_by c.args.arrival c.args.out.now r) c.args.out.now _ _ c.in-Prewriting.is (hears_told c.args.arrival c.args.out.now r) (c.in_ok-progress-in-Prewriting.ensures.tells r).moves (c.in_ok-progress-in-Prewriting.ensures.tells r).job) (c.after_prewrite.ensures.moves c.args.commits.now c.tell.new.plan refl)
+returns-in_ok-progress-in-Prewriting-clause-moves g c r = Moves-then (prewriting_on _ c.args.self.now c.in-Prewriting.plan c.tell.new.self c.args.commits.now (told_by c.args.arrival c.args.out.now r) c.args.out.now _ _ c.in-Prewriting.is (hears_told c.args.arrival c.args.out.now r) (tells_of c.args.arrival c.in_ok-progress-in-Prewriting.ensures r).moves (tells_of c.args.arrival c.in_ok-progress-in-Prewriting.ensures r).job) (c.after_prewrite.ensures.moves c.args.commits.now c.tell.new.self refl)
 
 pub returns-in-Ok-clause-moves : goal.returns-in-Ok-clause-moves
 returns-in-Ok-clause-moves g c r = Moves-then (rw c.in-Ok.is at (asking_on (ways g.P.Plan.meaning g.Q.Plan.meaning g.K.Plan.meaning g.P.PlanFor.refuses g.Q.PlanFor.refuses g.K.PlanFor.refuses) c.args.self.now c.in-Asking.call c.tell-in-Asking.new.self c.args.commits.now c.args.arrival r c.args.out.now c.tell-in-Asking.new.out (turn_of c.tell-in-Asking.result) c.in-Asking.is (rw c.in-Asking.is at c.requires.ready).1 (c.tell-in-Asking.ensures.tells r) c.tell-in-Asking.ensures.answer)) (c.after_time.ensures.moves c.tell-in-Asking.new.self refl)
@@ -41,10 +42,10 @@ pub returns-in-Ok-tell_commit-clause-moves : goal.returns-in-Ok-tell_commit-clau
 returns-in-Ok-tell_commit-clause-moves g c r = Moves-then (commits_on _ c.args.self.now c.in-Committing.plan c.tell_commit.new.plan c.in-Committing.timestamp c.args.commits.now (heard c.args.arrival c.args.out.now c.args.commits.now) c.tell_commit.new.commits (told_by c.args.arrival c.args.out.now r) c.args.out.now _ _ c.in-Committing.is (hears_told c.args.arrival c.args.out.now r) (λ h n k. knows_heard _ _ c.args.commits.now c.args.arrival c.args.out.now r h n k) (heard_time c.args.arrival c.args.out.now c.args.commits.now) (rw c.in-Ok-tell_commit.is at (c.tell_commit.ensures.sends r))) (c.after_commit.ensures.moves c.tell_commit.new.commits _ c.tell_commit.new.plan refl)
 
 pub returns-in_ok-progress-in-RollingBackPrimary-clause-moves : goal.returns-in_ok-progress-in-RollingBackPrimary-clause-moves
-returns-in_ok-progress-in-RollingBackPrimary-clause-moves g c r = Moves-then (rolling_on _ c.args.self.now c.in-RollingBackPrimary.plan c.tell-in-RollingBackPrimary.new.plan c.args.commits.now (told_by c.args.arrival c.args.out.now r) c.args.out.now _ _ c.in-RollingBackPrimary.is (hears_told c.args.arrival c.args.out.now r) (c.in_ok-progress-in-RollingBackPrimary.ensures.tells r).moves (c.in_ok-progress-in-RollingBackPrimary.ensures.tells r).job) (c.after_primary_rollback.ensures.moves c.args.commits.now c.tell-in-RollingBackPrimary.new.plan refl)
+returns-in_ok-progress-in-RollingBackPrimary-clause-moves g c r = Moves-then (rolling_on _ c.args.self.now c.in-RollingBackPrimary.plan c.tell-in-RollingBackPrimary.new.self c.args.commits.now (told_by c.args.arrival c.args.out.now r) c.args.out.now _ _ c.in-RollingBackPrimary.is (hears_told c.args.arrival c.args.out.now r) (tells_of c.args.arrival c.in_ok-progress-in-RollingBackPrimary.ensures r).moves (tells_of c.args.arrival c.in_ok-progress-in-RollingBackPrimary.ensures r).job) (c.after_primary_rollback.ensures.moves c.args.commits.now c.tell-in-RollingBackPrimary.new.self refl)
 
 pub returns-in_ok-progress-in-RollingBackOthers-clause-moves : goal.returns-in_ok-progress-in-RollingBackOthers-clause-moves
-returns-in_ok-progress-in-RollingBackOthers-clause-moves g c r = Moves-then (rolling_others_on _ c.args.self.now c.in-RollingBackOthers.plan c.tell-in-RollingBackOthers.new.plan c.args.commits.now (told_by c.args.arrival c.args.out.now r) c.args.out.now _ _ c.in-RollingBackOthers.is (hears_told c.args.arrival c.args.out.now r) (c.in_ok-progress-in-RollingBackOthers.ensures.tells r).moves (c.in_ok-progress-in-RollingBackOthers.ensures.tells r).job) (c.after_rollback.ensures.moves c.args.commits.now _ c.tell-in-RollingBackOthers.new.plan refl)
+returns-in_ok-progress-in-RollingBackOthers-clause-moves g c r = Moves-then (rolling_others_on _ c.args.self.now c.in-RollingBackOthers.plan c.tell-in-RollingBackOthers.new.self c.args.commits.now (told_by c.args.arrival c.args.out.now r) c.args.out.now _ _ c.in-RollingBackOthers.is (hears_told c.args.arrival c.args.out.now r) (tells_of c.args.arrival c.in_ok-progress-in-RollingBackOthers.ensures r).moves (tells_of c.args.arrival c.in_ok-progress-in-RollingBackOthers.ensures r).job) (c.after_rollback.ensures.moves c.args.commits.now _ c.tell-in-RollingBackOthers.new.self refl)
 
 pub returns-in-Over-clause-moves : goal.returns-in-Over-clause-moves
 returns-in-Over-clause-moves g c r = over_on _ c.args.self.now c.args.commits.now (told_by c.args.arrival c.args.out.now r) c.args.out.now c.in-Over.is (hears_told c.args.arrival c.args.out.now r)
@@ -53,10 +54,10 @@ pub returns-in-Stopped-clause-moves : goal.returns-in-Stopped-clause-moves
 returns-in-Stopped-clause-moves g c r = Moves-stopped refl refl
 
 pub returns-in_err-progress-in-Prewriting-clause-counts : goal.returns-in_err-progress-in-Prewriting-clause-counts
-returns-in_err-progress-in-Prewriting-clause-counts g c = stop_counts _ _ (stopped_is _ c.from_residual.ensures.0) (prewriting_counts _ _ c.args.self.now c.in-Prewriting.plan c.tell.new.plan c.in-Prewriting.is c.tell.ensures.counts)
+returns-in_err-progress-in-Prewriting-clause-counts g c = stop_counts _ _ (stopped_is _ c.from_residual.ensures.0) (prewriting_counts _ _ c.args.self.now c.in-Prewriting.plan c.tell.new.self c.in-Prewriting.is (counts_of c.args.arrival c.tell.ensures))
 
 pub returns-in_ok-progress-in-Prewriting-clause-counts : goal.returns-in_ok-progress-in-Prewriting-clause-counts
-returns-in_ok-progress-in-Prewriting-clause-counts g c = then_counts _ _ (failure_is_error c.args.arrival) (is_kept_so c.in_ok-progress-in-Prewriting.progress) (prewriting_counts _ _ c.args.self.now c.in-Prewriting.plan c.tell.new.plan c.in-Prewriting.is c.in_ok-progress-in-Prewriting.ensures.counts) (c.after_prewrite.ensures.counts c.tell.new.plan refl)
+returns-in_ok-progress-in-Prewriting-clause-counts g c = then_counts _ _ (failure_is_error c.args.arrival) (is_kept_so c.in_ok-progress-in-Prewriting.progress) (prewriting_counts _ _ c.args.self.now c.in-Prewriting.plan c.tell.new.self c.in-Prewriting.is (counts_of c.args.arrival c.in_ok-progress-in-Prewriting.ensures)) (c.after_prewrite.ensures.counts c.tell.new.self refl)
 
 pub returns-in-Err-tell_commit-clause-counts : goal.returns-in-Err-tell_commit-clause-counts
 returns-in-Err-tell_commit-clause-counts g c = gave_up_counts _ _ c.give_up-in-Err-tell_commit.ensures.turn c.give_up-in-Err-tell_commit.ensures.state c.give_up-in-Err-tell_commit.ensures.width (committing_counts _ _ c.args.self.now c.in-Committing.plan c.tell_commit.new.plan c.in-Committing.timestamp c.in-Committing.is c.tell_commit.ensures.counts)
@@ -65,16 +66,16 @@ pub returns-in-Ok-tell_commit-clause-counts : goal.returns-in-Ok-tell_commit-cla
 returns-in-Ok-tell_commit-clause-counts g c = then_counts _ _ (failure_is_error c.args.arrival) (rw c.in-Ok-tell_commit.is (is_kept_so c.in-Ok-tell_commit.progress)) (committing_counts _ _ c.args.self.now c.in-Committing.plan c.tell_commit.new.plan c.in-Committing.timestamp c.in-Committing.is c.tell_commit.ensures.counts) (c.after_commit.ensures.counts _)
 
 pub returns-in_err-progress-in-RollingBackPrimary-clause-counts : goal.returns-in_err-progress-in-RollingBackPrimary-clause-counts
-returns-in_err-progress-in-RollingBackPrimary-clause-counts g c = stop_counts _ _ (stopped_is _ c.from_residual-in_err-progress-in-RollingBackPrimary.ensures.0) (rolling_counts _ _ c.args.self.now c.in-RollingBackPrimary.plan c.tell-in-RollingBackPrimary.new.plan c.in-RollingBackPrimary.is c.tell-in-RollingBackPrimary.ensures.counts)
+returns-in_err-progress-in-RollingBackPrimary-clause-counts g c = stop_counts _ _ (stopped_is _ c.from_residual-in_err-progress-in-RollingBackPrimary.ensures.0) (rolling_counts _ _ c.args.self.now c.in-RollingBackPrimary.plan c.tell-in-RollingBackPrimary.new.self c.in-RollingBackPrimary.is (counts_of c.args.arrival c.tell-in-RollingBackPrimary.ensures))
 
 pub returns-in_ok-progress-in-RollingBackPrimary-clause-counts : goal.returns-in_ok-progress-in-RollingBackPrimary-clause-counts
-returns-in_ok-progress-in-RollingBackPrimary-clause-counts g c = then_counts _ _ (failure_is_error c.args.arrival) (is_kept_so c.in_ok-progress-in-RollingBackPrimary.progress) (rolling_counts _ _ c.args.self.now c.in-RollingBackPrimary.plan c.tell-in-RollingBackPrimary.new.plan c.in-RollingBackPrimary.is c.in_ok-progress-in-RollingBackPrimary.ensures.counts) (c.after_primary_rollback.ensures.counts c.tell-in-RollingBackPrimary.new.plan refl)
+returns-in_ok-progress-in-RollingBackPrimary-clause-counts g c = then_counts _ _ (failure_is_error c.args.arrival) (is_kept_so c.in_ok-progress-in-RollingBackPrimary.progress) (rolling_counts _ _ c.args.self.now c.in-RollingBackPrimary.plan c.tell-in-RollingBackPrimary.new.self c.in-RollingBackPrimary.is (counts_of c.args.arrival c.in_ok-progress-in-RollingBackPrimary.ensures)) (c.after_primary_rollback.ensures.counts c.tell-in-RollingBackPrimary.new.self refl)
 
 pub returns-in_err-progress-in-RollingBackOthers-clause-counts : goal.returns-in_err-progress-in-RollingBackOthers-clause-counts
-returns-in_err-progress-in-RollingBackOthers-clause-counts g c = stop_counts _ _ (stopped_is _ c.from_residual-in_err-progress-in-RollingBackOthers.ensures.0) (rolling_others_counts _ _ c.args.self.now c.in-RollingBackOthers.plan c.tell-in-RollingBackOthers.new.plan c.in-RollingBackOthers.is c.tell-in-RollingBackOthers.ensures.counts)
+returns-in_err-progress-in-RollingBackOthers-clause-counts g c = stop_counts _ _ (stopped_is _ c.from_residual-in_err-progress-in-RollingBackOthers.ensures.0) (rolling_others_counts _ _ c.args.self.now c.in-RollingBackOthers.plan c.tell-in-RollingBackOthers.new.self c.in-RollingBackOthers.is (counts_of c.args.arrival c.tell-in-RollingBackOthers.ensures))
 
 pub returns-in_ok-progress-in-RollingBackOthers-clause-counts : goal.returns-in_ok-progress-in-RollingBackOthers-clause-counts
-returns-in_ok-progress-in-RollingBackOthers-clause-counts g c = then_counts _ _ (failure_is_error c.args.arrival) (is_kept_so c.in_ok-progress-in-RollingBackOthers.progress) (rolling_others_counts _ _ c.args.self.now c.in-RollingBackOthers.plan c.tell-in-RollingBackOthers.new.plan c.in-RollingBackOthers.is c.in_ok-progress-in-RollingBackOthers.ensures.counts) (c.after_rollback.ensures.counts _)
+returns-in_ok-progress-in-RollingBackOthers-clause-counts g c = then_counts _ _ (failure_is_error c.args.arrival) (is_kept_so c.in_ok-progress-in-RollingBackOthers.progress) (rolling_others_counts _ _ c.args.self.now c.in-RollingBackOthers.plan c.tell-in-RollingBackOthers.new.self c.in-RollingBackOthers.is (counts_of c.args.arrival c.in_ok-progress-in-RollingBackOthers.ensures)) (c.after_rollback.ensures.counts _)
 
 pub returns-in-Ok-clause-counts : goal.returns-in-Ok-clause-counts
 returns-in-Ok-clause-counts g c = then_counts _ _ (failure_is_error c.args.arrival) (rw c.in-Ok.is (is_kept_so c.in-Ok.progress)) (asking_counts _ _ c.args.self.now c.in-Asking.call c.tell-in-Asking.new.self c.in-Asking.is c.tell-in-Asking.ensures.counts) (c.after_time.ensures.counts c.tell-in-Asking.new.self refl)
@@ -89,40 +90,40 @@ pub returns-in-Stopped-clause-counts : goal.returns-in-Stopped-clause-counts
 returns-in-Stopped-clause-counts g c = idle_counts _ _ c.args.self.now stages.Stopped _ _ _ _ _ _ c.in-Stopped.is (λ m. tt)
 
 pub returns-in_err-progress-in-Prewriting-clause-goes : goal.returns-in_err-progress-in-Prewriting-clause-goes
-returns-in_err-progress-in-Prewriting-clause-goes g c = goes_stops (ways g.P.Plan.meaning g.Q.Plan.meaning g.K.Plan.meaning g.P.PlanFor.refuses g.Q.PlanFor.refuses g.K.PlanFor.refuses) g.P.Plan.meaning (λ p. stages.Prewriting p) (λ s. refl) (λ s a x. x) (λ s a x. x) c.args.self.now c.in-Prewriting.plan c.tell.new.plan (awaited_as c.args.arrival) _ _ _ _ _ _ c.in-Prewriting.is refl (stopped_is _ c.from_residual.ensures.0) c.in_err-progress-in-Prewriting.ensures.goes
+returns-in_err-progress-in-Prewriting-clause-goes g c = goes_stops (ways g.P.Plan.meaning g.Q.Plan.meaning g.K.Plan.meaning g.P.PlanFor.refuses g.Q.PlanFor.refuses g.K.PlanFor.refuses) g.P.Plan.meaning (λ p. stages.Prewriting p) (λ s. refl) (λ s a x. x) (λ s a x. x) c.args.self.now c.in-Prewriting.plan c.tell.new.self (awaited_as c.args.arrival) _ _ _ _ _ _ c.in-Prewriting.is refl (stopped_is _ c.from_residual.ensures.0) (goes_of c.args.arrival c.in_err-progress-in-Prewriting.ensures)
 
 pub returns-in_ok-progress-in-Prewriting-clause-goes : goal.returns-in_ok-progress-in-Prewriting-clause-goes
-returns-in_ok-progress-in-Prewriting-clause-goes g c = goes_then (ways g.P.Plan.meaning g.Q.Plan.meaning g.K.Plan.meaning g.P.PlanFor.refuses g.Q.PlanFor.refuses g.K.PlanFor.refuses) g.P.Plan.meaning (λ p. stages.Prewriting p) (λ s. refl) (λ s a x. x) (λ s a x. x) c.args.self.now c.after_prewrite.new.self c.in-Prewriting.plan c.tell.new.plan (awaited_as c.args.arrival) _ _ _ _ _ _ _ _ c.in-Prewriting.is (is_kept_ok c.in_ok-progress-in-Prewriting.progress) c.in_ok-progress-in-Prewriting.ensures.goes c.after_prewrite.ensures.resumes
+returns-in_ok-progress-in-Prewriting-clause-goes g c = goes_then (ways g.P.Plan.meaning g.Q.Plan.meaning g.K.Plan.meaning g.P.PlanFor.refuses g.Q.PlanFor.refuses g.K.PlanFor.refuses) g.P.Plan.meaning (λ p. stages.Prewriting p) (λ s. refl) (λ s a x. x) (λ s a x. x) c.args.self.now c.after_prewrite.new.self c.in-Prewriting.plan c.tell.new.self (awaited_as c.args.arrival) _ _ _ _ _ _ _ _ c.in-Prewriting.is (is_kept_ok c.in_ok-progress-in-Prewriting.progress) (goes_of c.args.arrival c.in_ok-progress-in-Prewriting.ensures) c.after_prewrite.ensures.resumes
 
 pub returns-in_err-progress-in-Prewriting-clause-expects : goal.returns-in_err-progress-in-Prewriting-clause-expects
-returns-in_err-progress-in-Prewriting-clause-expects g c = expects_stops (ways g.P.Plan.meaning g.Q.Plan.meaning g.K.Plan.meaning g.P.PlanFor.refuses g.Q.PlanFor.refuses g.K.PlanFor.refuses) g.P.Plan.meaning (λ p. stages.Prewriting p) (λ s. refl) (λ s a x. x) (λ s a x. x) c.args.self.now c.in-Prewriting.plan c.tell.new.plan c.args.arrival members _ _ c.in-Prewriting.is (c.in_err-progress-in-Prewriting.ensures.tells members).expects
+returns-in_err-progress-in-Prewriting-clause-expects g c = expects_stops (ways g.P.Plan.meaning g.Q.Plan.meaning g.K.Plan.meaning g.P.PlanFor.refuses g.Q.PlanFor.refuses g.K.PlanFor.refuses) g.P.Plan.meaning (λ p. stages.Prewriting p) (λ s. refl) (λ s a x. x) (λ s a x. x) c.args.self.now c.in-Prewriting.plan c.tell.new.self c.args.arrival members _ _ c.in-Prewriting.is (tells_of c.args.arrival c.in_err-progress-in-Prewriting.ensures members).expects
 
 pub returns-in_ok-progress-in-Prewriting-clause-expects : goal.returns-in_ok-progress-in-Prewriting-clause-expects
-returns-in_ok-progress-in-Prewriting-clause-expects g c = expects_then (ways g.P.Plan.meaning g.Q.Plan.meaning g.K.Plan.meaning g.P.PlanFor.refuses g.Q.PlanFor.refuses g.K.PlanFor.refuses) g.P.Plan.meaning (λ p. stages.Prewriting p) (λ s. refl) (λ s a x. x) (λ s a x. x) c.args.self.now c.after_prewrite.new.self c.in-Prewriting.plan c.tell.new.plan c.args.arrival members _ _ _ _ _ _ _ c.in-Prewriting.is (c.in_ok-progress-in-Prewriting.ensures.tells members).expects c.after_prewrite.ensures.resumes
+returns-in_ok-progress-in-Prewriting-clause-expects g c = expects_then (ways g.P.Plan.meaning g.Q.Plan.meaning g.K.Plan.meaning g.P.PlanFor.refuses g.Q.PlanFor.refuses g.K.PlanFor.refuses) g.P.Plan.meaning (λ p. stages.Prewriting p) (λ s. refl) (λ s a x. x) (λ s a x. x) c.args.self.now c.after_prewrite.new.self c.in-Prewriting.plan c.tell.new.self c.args.arrival members _ _ _ _ _ _ _ c.in-Prewriting.is (tells_of c.args.arrival c.in_ok-progress-in-Prewriting.ensures members).expects c.after_prewrite.ensures.resumes
 
 pub returns-in_err-progress-in-RollingBackPrimary-clause-goes : goal.returns-in_err-progress-in-RollingBackPrimary-clause-goes
-returns-in_err-progress-in-RollingBackPrimary-clause-goes g c = goes_stops (ways g.P.Plan.meaning g.Q.Plan.meaning g.K.Plan.meaning g.P.PlanFor.refuses g.Q.PlanFor.refuses g.K.PlanFor.refuses) g.K.Plan.meaning (λ p. stages.RollingBackPrimary p) (λ s. refl) (λ s a x. x) (λ s a x. x) c.args.self.now c.in-RollingBackPrimary.plan c.tell-in-RollingBackPrimary.new.plan (awaited_as c.args.arrival) _ _ _ _ _ _ c.in-RollingBackPrimary.is refl (stopped_is _ c.from_residual-in_err-progress-in-RollingBackPrimary.ensures.0) c.in_err-progress-in-RollingBackPrimary.ensures.goes
+returns-in_err-progress-in-RollingBackPrimary-clause-goes g c = goes_stops (ways g.P.Plan.meaning g.Q.Plan.meaning g.K.Plan.meaning g.P.PlanFor.refuses g.Q.PlanFor.refuses g.K.PlanFor.refuses) g.K.Plan.meaning (λ p. stages.RollingBackPrimary p) (λ s. refl) (λ s a x. x) (λ s a x. x) c.args.self.now c.in-RollingBackPrimary.plan c.tell-in-RollingBackPrimary.new.self (awaited_as c.args.arrival) _ _ _ _ _ _ c.in-RollingBackPrimary.is refl (stopped_is _ c.from_residual-in_err-progress-in-RollingBackPrimary.ensures.0) (goes_of c.args.arrival c.in_err-progress-in-RollingBackPrimary.ensures)
 
 pub returns-in_ok-progress-in-RollingBackPrimary-clause-goes : goal.returns-in_ok-progress-in-RollingBackPrimary-clause-goes
-returns-in_ok-progress-in-RollingBackPrimary-clause-goes g c = goes_then (ways g.P.Plan.meaning g.Q.Plan.meaning g.K.Plan.meaning g.P.PlanFor.refuses g.Q.PlanFor.refuses g.K.PlanFor.refuses) g.K.Plan.meaning (λ p. stages.RollingBackPrimary p) (λ s. refl) (λ s a x. x) (λ s a x. x) c.args.self.now c.after_primary_rollback.new.self c.in-RollingBackPrimary.plan c.tell-in-RollingBackPrimary.new.plan (awaited_as c.args.arrival) _ _ _ _ _ _ _ _ c.in-RollingBackPrimary.is (is_kept_ok c.in_ok-progress-in-RollingBackPrimary.progress) c.in_ok-progress-in-RollingBackPrimary.ensures.goes c.after_primary_rollback.ensures.resumes
+returns-in_ok-progress-in-RollingBackPrimary-clause-goes g c = goes_then (ways g.P.Plan.meaning g.Q.Plan.meaning g.K.Plan.meaning g.P.PlanFor.refuses g.Q.PlanFor.refuses g.K.PlanFor.refuses) g.K.Plan.meaning (λ p. stages.RollingBackPrimary p) (λ s. refl) (λ s a x. x) (λ s a x. x) c.args.self.now c.after_primary_rollback.new.self c.in-RollingBackPrimary.plan c.tell-in-RollingBackPrimary.new.self (awaited_as c.args.arrival) _ _ _ _ _ _ _ _ c.in-RollingBackPrimary.is (is_kept_ok c.in_ok-progress-in-RollingBackPrimary.progress) (goes_of c.args.arrival c.in_ok-progress-in-RollingBackPrimary.ensures) c.after_primary_rollback.ensures.resumes
 
 pub returns-in_err-progress-in-RollingBackPrimary-clause-expects : goal.returns-in_err-progress-in-RollingBackPrimary-clause-expects
-returns-in_err-progress-in-RollingBackPrimary-clause-expects g c = expects_stops (ways g.P.Plan.meaning g.Q.Plan.meaning g.K.Plan.meaning g.P.PlanFor.refuses g.Q.PlanFor.refuses g.K.PlanFor.refuses) g.K.Plan.meaning (λ p. stages.RollingBackPrimary p) (λ s. refl) (λ s a x. x) (λ s a x. x) c.args.self.now c.in-RollingBackPrimary.plan c.tell-in-RollingBackPrimary.new.plan c.args.arrival members _ _ c.in-RollingBackPrimary.is (c.in_err-progress-in-RollingBackPrimary.ensures.tells members).expects
+returns-in_err-progress-in-RollingBackPrimary-clause-expects g c = expects_stops (ways g.P.Plan.meaning g.Q.Plan.meaning g.K.Plan.meaning g.P.PlanFor.refuses g.Q.PlanFor.refuses g.K.PlanFor.refuses) g.K.Plan.meaning (λ p. stages.RollingBackPrimary p) (λ s. refl) (λ s a x. x) (λ s a x. x) c.args.self.now c.in-RollingBackPrimary.plan c.tell-in-RollingBackPrimary.new.self c.args.arrival members _ _ c.in-RollingBackPrimary.is (tells_of c.args.arrival c.in_err-progress-in-RollingBackPrimary.ensures members).expects
 
 pub returns-in_ok-progress-in-RollingBackPrimary-clause-expects : goal.returns-in_ok-progress-in-RollingBackPrimary-clause-expects
-returns-in_ok-progress-in-RollingBackPrimary-clause-expects g c = expects_then (ways g.P.Plan.meaning g.Q.Plan.meaning g.K.Plan.meaning g.P.PlanFor.refuses g.Q.PlanFor.refuses g.K.PlanFor.refuses) g.K.Plan.meaning (λ p. stages.RollingBackPrimary p) (λ s. refl) (λ s a x. x) (λ s a x. x) c.args.self.now c.after_primary_rollback.new.self c.in-RollingBackPrimary.plan c.tell-in-RollingBackPrimary.new.plan c.args.arrival members _ _ _ _ _ _ _ c.in-RollingBackPrimary.is (c.in_ok-progress-in-RollingBackPrimary.ensures.tells members).expects c.after_primary_rollback.ensures.resumes
+returns-in_ok-progress-in-RollingBackPrimary-clause-expects g c = expects_then (ways g.P.Plan.meaning g.Q.Plan.meaning g.K.Plan.meaning g.P.PlanFor.refuses g.Q.PlanFor.refuses g.K.PlanFor.refuses) g.K.Plan.meaning (λ p. stages.RollingBackPrimary p) (λ s. refl) (λ s a x. x) (λ s a x. x) c.args.self.now c.after_primary_rollback.new.self c.in-RollingBackPrimary.plan c.tell-in-RollingBackPrimary.new.self c.args.arrival members _ _ _ _ _ _ _ c.in-RollingBackPrimary.is (tells_of c.args.arrival c.in_ok-progress-in-RollingBackPrimary.ensures members).expects c.after_primary_rollback.ensures.resumes
 
 pub returns-in_err-progress-in-RollingBackOthers-clause-goes : goal.returns-in_err-progress-in-RollingBackOthers-clause-goes
-returns-in_err-progress-in-RollingBackOthers-clause-goes g c = goes_stops (ways g.P.Plan.meaning g.Q.Plan.meaning g.K.Plan.meaning g.P.PlanFor.refuses g.Q.PlanFor.refuses g.K.PlanFor.refuses) g.K.Plan.meaning (λ p. stages.RollingBackOthers p) (λ s. refl) (λ s a x. x) (λ s a x. x) c.args.self.now c.in-RollingBackOthers.plan c.tell-in-RollingBackOthers.new.plan (awaited_as c.args.arrival) _ _ _ _ _ _ c.in-RollingBackOthers.is refl (stopped_is _ c.from_residual-in_err-progress-in-RollingBackOthers.ensures.0) c.in_err-progress-in-RollingBackOthers.ensures.goes
+returns-in_err-progress-in-RollingBackOthers-clause-goes g c = goes_stops (ways g.P.Plan.meaning g.Q.Plan.meaning g.K.Plan.meaning g.P.PlanFor.refuses g.Q.PlanFor.refuses g.K.PlanFor.refuses) g.K.Plan.meaning (λ p. stages.RollingBackOthers p) (λ s. refl) (λ s a x. x) (λ s a x. x) c.args.self.now c.in-RollingBackOthers.plan c.tell-in-RollingBackOthers.new.self (awaited_as c.args.arrival) _ _ _ _ _ _ c.in-RollingBackOthers.is refl (stopped_is _ c.from_residual-in_err-progress-in-RollingBackOthers.ensures.0) (goes_of c.args.arrival c.in_err-progress-in-RollingBackOthers.ensures)
 
 pub returns-in_ok-progress-in-RollingBackOthers-clause-goes : goal.returns-in_ok-progress-in-RollingBackOthers-clause-goes
-returns-in_ok-progress-in-RollingBackOthers-clause-goes g c = goes_then (ways g.P.Plan.meaning g.Q.Plan.meaning g.K.Plan.meaning g.P.PlanFor.refuses g.Q.PlanFor.refuses g.K.PlanFor.refuses) g.K.Plan.meaning (λ p. stages.RollingBackOthers p) (λ s. refl) (λ s a x. x) (λ s a x. x) c.args.self.now c.after_rollback.new.self c.in-RollingBackOthers.plan c.tell-in-RollingBackOthers.new.plan (awaited_as c.args.arrival) _ _ _ _ _ _ _ _ c.in-RollingBackOthers.is (is_kept_ok c.in_ok-progress-in-RollingBackOthers.progress) c.in_ok-progress-in-RollingBackOthers.ensures.goes (resumes_settled _ _ c.after_rollback.new.self c.tell-in-RollingBackOthers.new.out c.tell-in-RollingBackOthers.new.pd _ _ (is_kept_ok c.in_ok-progress-in-RollingBackOthers.progress) c.after_rollback.ensures.settles)
+returns-in_ok-progress-in-RollingBackOthers-clause-goes g c = goes_then (ways g.P.Plan.meaning g.Q.Plan.meaning g.K.Plan.meaning g.P.PlanFor.refuses g.Q.PlanFor.refuses g.K.PlanFor.refuses) g.K.Plan.meaning (λ p. stages.RollingBackOthers p) (λ s. refl) (λ s a x. x) (λ s a x. x) c.args.self.now c.after_rollback.new.self c.in-RollingBackOthers.plan c.tell-in-RollingBackOthers.new.self (awaited_as c.args.arrival) _ _ _ _ _ _ _ _ c.in-RollingBackOthers.is (is_kept_ok c.in_ok-progress-in-RollingBackOthers.progress) (goes_of c.args.arrival c.in_ok-progress-in-RollingBackOthers.ensures) (resumes_settled _ _ c.after_rollback.new.self c.tell-in-RollingBackOthers.new.out c.tell-in-RollingBackOthers.new.pd _ _ (is_kept_ok c.in_ok-progress-in-RollingBackOthers.progress) c.after_rollback.ensures.settles)
 
 pub returns-in_err-progress-in-RollingBackOthers-clause-expects : goal.returns-in_err-progress-in-RollingBackOthers-clause-expects
-returns-in_err-progress-in-RollingBackOthers-clause-expects g c = expects_stops (ways g.P.Plan.meaning g.Q.Plan.meaning g.K.Plan.meaning g.P.PlanFor.refuses g.Q.PlanFor.refuses g.K.PlanFor.refuses) g.K.Plan.meaning (λ p. stages.RollingBackOthers p) (λ s. refl) (λ s a x. x) (λ s a x. x) c.args.self.now c.in-RollingBackOthers.plan c.tell-in-RollingBackOthers.new.plan c.args.arrival members _ _ c.in-RollingBackOthers.is (c.in_err-progress-in-RollingBackOthers.ensures.tells members).expects
+returns-in_err-progress-in-RollingBackOthers-clause-expects g c = expects_stops (ways g.P.Plan.meaning g.Q.Plan.meaning g.K.Plan.meaning g.P.PlanFor.refuses g.Q.PlanFor.refuses g.K.PlanFor.refuses) g.K.Plan.meaning (λ p. stages.RollingBackOthers p) (λ s. refl) (λ s a x. x) (λ s a x. x) c.args.self.now c.in-RollingBackOthers.plan c.tell-in-RollingBackOthers.new.self c.args.arrival members _ _ c.in-RollingBackOthers.is (tells_of c.args.arrival c.in_err-progress-in-RollingBackOthers.ensures members).expects
 
 pub returns-in_ok-progress-in-RollingBackOthers-clause-expects : goal.returns-in_ok-progress-in-RollingBackOthers-clause-expects
-returns-in_ok-progress-in-RollingBackOthers-clause-expects g c = expects_then (ways g.P.Plan.meaning g.Q.Plan.meaning g.K.Plan.meaning g.P.PlanFor.refuses g.Q.PlanFor.refuses g.K.PlanFor.refuses) g.K.Plan.meaning (λ p. stages.RollingBackOthers p) (λ s. refl) (λ s a x. x) (λ s a x. x) c.args.self.now c.after_rollback.new.self c.in-RollingBackOthers.plan c.tell-in-RollingBackOthers.new.plan c.args.arrival members _ _ _ _ _ _ _ c.in-RollingBackOthers.is (c.in_ok-progress-in-RollingBackOthers.ensures.tells members).expects (resumes_settled _ _ c.after_rollback.new.self c.tell-in-RollingBackOthers.new.out c.tell-in-RollingBackOthers.new.pd _ _ (is_kept_ok c.in_ok-progress-in-RollingBackOthers.progress) c.after_rollback.ensures.settles)
+returns-in_ok-progress-in-RollingBackOthers-clause-expects g c = expects_then (ways g.P.Plan.meaning g.Q.Plan.meaning g.K.Plan.meaning g.P.PlanFor.refuses g.Q.PlanFor.refuses g.K.PlanFor.refuses) g.K.Plan.meaning (λ p. stages.RollingBackOthers p) (λ s. refl) (λ s a x. x) (λ s a x. x) c.args.self.now c.after_rollback.new.self c.in-RollingBackOthers.plan c.tell-in-RollingBackOthers.new.self c.args.arrival members _ _ _ _ _ _ _ c.in-RollingBackOthers.is (tells_of c.args.arrival c.in_ok-progress-in-RollingBackOthers.ensures members).expects (resumes_settled _ _ c.after_rollback.new.self c.tell-in-RollingBackOthers.new.out c.tell-in-RollingBackOthers.new.pd _ _ (is_kept_ok c.in_ok-progress-in-RollingBackOthers.progress) c.after_rollback.ensures.settles)
 
 pub returns-in-Ok-clause-goes : goal.returns-in-Ok-clause-goes
 returns-in-Ok-clause-goes g c = goes_then (ways g.P.Plan.meaning g.Q.Plan.meaning g.K.Plan.meaning g.P.PlanFor.refuses g.Q.PlanFor.refuses g.K.PlanFor.refuses) time_asked (λ t. stages.Asking t) (λ s. refl) (λ s a x. x) (λ s a x. x) c.args.self.now c.after_time.new.self c.in-Asking.call c.tell-in-Asking.new.self (awaited_as c.args.arrival) _ _ _ _ _ _ _ _ c.in-Asking.is (is_kept_ok c.in-Ok.progress) (rw c.in-Ok.is at c.tell-in-Asking.ensures.goes) c.after_time.ensures.resumes

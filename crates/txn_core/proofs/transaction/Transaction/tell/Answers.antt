@@ -7,7 +7,7 @@ use Rattle.txn_core.proofs.Going.{as_before}
 use Rattle.txn_core.proofs.Waiting.{commits_open, expects_open, expects_still, goes_open, goes_still}
 use Rattle.txn_core.specs.Transaction.{is_open}
 use Rattle.txn_core.specs.declared.transaction.Work.TheVariants as works
-use Rattle.txn_plan.specs.Arrivals.{awaited_as}
+use Rattle.txn_history.specs.Arrivals.{awaited_as}
 use Rattle.txn_commit.specs.Committing.{ways}
 use Rattle.txn_core.proofs.transaction.Transaction.tell.Goals as goal
 
