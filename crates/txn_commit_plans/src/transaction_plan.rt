@@ -1,7 +1,7 @@
 ghost use Rattle.std.specs.Prelude.{◌≡◌};
 
 use std::marker::Model;
-use txn_kv::{NoMemory, Outbox, Progress, Reply, Timestamp};
+use txn_kv::{Arrival, NoMemory, Outbox, Progress};
 use txn_plan::Plan;
 use txn_region::PdClient;
 
@@ -56,46 +56,14 @@ impl<P: Plan> Plan for TransactionPlan<P> {
         self.inner.start(pd, now, out)
     }
 
-    fn take_reply<C: PdClient>(
+    fn tell<C: PdClient>(
         &mut self,
         pd: &mut C,
         now: u64,
-        number: u64,
-        reply: Reply,
+        arrival: Arrival,
         out: &mut Outbox,
     ) -> Result<Progress<P::Result>, NoMemory> {
-        self.inner.take_reply(pd, now, number, reply, out)
-    }
-
-    fn lost<C: PdClient>(
-        &mut self,
-        pd: &mut C,
-        now: u64,
-        number: u64,
-        out: &mut Outbox,
-    ) -> Result<Progress<P::Result>, NoMemory> {
-        self.inner.lost(pd, now, number, out)
-    }
-
-    fn slept<C: PdClient>(
-        &mut self,
-        pd: &mut C,
-        now: u64,
-        number: u64,
-        out: &mut Outbox,
-    ) -> Result<Progress<P::Result>, NoMemory> {
-        self.inner.slept(pd, now, number, out)
-    }
-
-    fn take_time<C: PdClient>(
-        &mut self,
-        pd: &mut C,
-        now: u64,
-        ask: u64,
-        answer: txn_kv::Result<Timestamp>,
-        out: &mut Outbox,
-    ) -> Result<Progress<P::Result>, NoMemory> {
-        self.inner.take_time(pd, now, ask, answer, out)
+        self.inner.tell(pd, now, arrival, out)
     }
 
     ghost lawful = { P.lawful };

@@ -20,9 +20,10 @@ use Rattle.txn_history.specs.Phase.Awaited.{EndOf}
 use Rattle.txn_history.specs.Plan.{Key}
 use Rattle.txn_history.specs.Posted.{AreNumbered-append, Errand, Licensed, Posted, after, posting, ticket_of}
 use Rattle.txn_history.specs.Turn.{IfKept, IfKept-all, IfKept-weaker, Turn}
-use Rattle.txn_plan.specs.Arrivals.{awaited_as, told_by}
-use Rattle.txn_plan.specs.declared.arrival.Arrival.{Arrival}
-use Rattle.txn_plan.specs.declared.arrival.Arrival.TheVariants as arrivals
+use Rattle.txn_history.specs.Arrivals.{arrives, awaited_as, told_by}
+use Rattle.txn_history.specs.Steps.{begins, Steps}
+use Rattle.txn_kv.specs.declared.arrival.Arrival.{Arrival}
+use Rattle.txn_kv.specs.declared.arrival.Arrival.TheVariants as arrivals
 use Rattle.txn_heartbeat.specs.Beats.{beat_at, Beats, Ended, HasHeard, IsAlive, IsBeatOf, IsBeating, IsErrandOf, IsLookUp, IsPlanForBeats, IsSentAs, SendsBeat, StageLives, StaysAsleep, TellsBeat}
 use Rattle.txn_heartbeat.specs.Beats.{GoesOn as JobGoesOn}
 use Rattle.txn_heartbeat.specs.declared.heartbeat_job.HeartbeatJob.{HeartbeatJob}
@@ -122,19 +123,20 @@ module _ {S A : Type 0} where
 
   pub told_on : {C : Type 0} (m : Meaning S (Result A Error)) (beat : Heartbeat) (a : Arrival) (p p' : S) (o o' : Posted) (pd pd' : C) (turn : Turn (Result A Error))
       → IsLawful m → IsBeating m beat.primary (version_of beat.start) p o
-      → ((r : Request) → Tells m (told_by a o r) p p' o o' turn)
-      → Goes m.phase (m.waits p (awaited_as a)) p p' o o' pd pd' turn
-      → m.ready p' → LivesOn m beat p' o o' turn
-  told_on m beat a p p' o o' pd pd' turn law b tells goes ready = by (known_or_not m law a beat.primary (version_of beat.start) p o b)
+      → {touches : Told → Posted → S → S → C → C → Type 0} → Steps m touches (arrives a o) p p' o o' pd pd' turn
+      → LivesOn m beat p' o o' turn
+  unfolding arrives
+  told_on m beat a p p' o o' pd pd' turn law b s = by (known_or_not m law a beat.primary (version_of beat.start) p o b)
     where
       by : ((r : Request) × (told_by a o r).known b.history) ⊎ (m.waits p (awaited_as a) → ⊥) → LivesOn m beat p' o o' turn
-      by (inl (r, known)) = meant m beat (told_by a o r) p p' o o' turn (λ h k. own_heard a o r o.line o.beat o.next h k) b known (tells r) ready
-      by (inr other) = unmeant m beat (m.waits p (awaited_as a)) p p' o o' pd pd' turn b other goes
+      by (inl (r, known)) = meant m beat (told_by a o r) p p' o o' turn (λ h k. own_heard a o r o.line o.beat o.next h k) b known (s.tells r) s.ready
+      by (inr other) = unmeant m beat (m.waits p (awaited_as a)) p p' o o' pd pd' turn b other s.goes
 
   -- a plan that is started
-  pub started_on : (m : Meaning S (Result A Error)) (beat : Heartbeat) (now : ℕ) (p p' : S) (o o' : Posted) (turn : Turn (Result A Error))
-      → IsPlanForBeats m (beat_at beat now) p → Tells m started p p' o o' turn → m.ready p' → LivesOn m beat p' o o' turn
-  started_on m beat now p p' o o' turn is t ready = meant m beat started p p' o o' turn (λ h k. k) begun tt t ready
+  pub started_on : {C : Type 0} (m : Meaning S (Result A Error)) (beat : Heartbeat) (now : ℕ) (p p' : S) (o o' : Posted) (pd pd' : C) (turn : Turn (Result A Error))
+      → IsPlanForBeats m (beat_at beat now) p → {touches : Told → Posted → S → S → C → C → Type 0} → Steps m touches begins p p' o o' pd pd' turn → LivesOn m beat p' o o' turn
+  unfolding begins
+  started_on m beat now p p' o o' pd pd' turn is s = meant m beat started p p' o o' turn (λ h k. k) begun tt (s.tells (Members (record {}))) s.ready
     where
       sent : (r : Request) → IsSentAs (beat_at beat now) r ⊎ IsLookUp r → IsBeatOf beat.primary (version_of beat.start) r ⊎ IsLookUp r
       sent (TxnHeartBeat q) (inl i) = inl (
@@ -175,18 +177,20 @@ pub beats_on : {X : Type 0} (r : Result X NoMemory) (beat : Heartbeat) {from via
 beats_on (Ok v) beat to s t = beats_then beat s t
 beats_on (Err e) beat to s t = tt
 
-pub sends_beat : {S A X : Type 0} (m : Meaning S (Result A Error)) (now : ℕ) (old new : HeartbeatJob S) (fresh plan : S) (from via to : Posted) (inner : Turn (Result A Error)) (r : Result X NoMemory) (turn : Turn (Result (Unit {0}) Error))
-    → IsPlanForBeats m (beat_at old.heartbeat now) fresh → Tells m started fresh plan from via inner → OnOk r (JobGoesOn inner (record old { stage = stage.Beating plan }) new via to turn)
+pub sends_beat : {S A C X : Type 0} (m : Meaning S (Result A Error)) (now : ℕ) (old new : HeartbeatJob S) (fresh plan : S) (from via to : Posted) (pd pd' : C) (inner : Turn (Result A Error)) (r : Result X NoMemory) (turn : Turn (Result (Unit {0}) Error))
+    → IsPlanForBeats m (beat_at old.heartbeat now) fresh → {touches : Told → Posted → S → S → C → C → Type 0} → Steps m touches begins fresh plan from via pd pd' inner → OnOk r (JobGoesOn inner (record old { stage = stage.Beating plan }) new via to turn)
     → OnOk r (SendsBeat m now old new from to turn)
-sends_beat m now old new fresh plan from via to inner (Ok v) turn is t g = record { fresh = fresh; is = is; plan = plan; via = via; inner = inner; tells = t; goes = g }
-sends_beat m now old new fresh plan from via to inner (Err e) turn is t g = tt
+unfolding begins
+sends_beat m now old new fresh plan from via to pd pd' inner (Ok v) turn is s g = record { fresh = fresh; is = is; plan = plan; via = via; inner = inner; tells = s.tells (Members (record {})); goes = g }
+sends_beat m now old new fresh plan from via to pd pd' inner (Err e) turn is s g = tt
 
 pub tells_beat : {S A C X : Type 0} (m : Meaning S (Result A Error)) (arrival : Arrival) (p : S) (old new : HeartbeatJob S) (plan : S) (from via to : Posted) (pd pd' : C) (inner : Turn (Result A Error)) (r : Result X NoMemory) (turn : Turn (Result (Unit {0}) Error))
-    → ((r : Request) → Tells m (told_by arrival from r) p plan from via inner) → Goes m.phase (m.waits p (awaited_as arrival)) p plan from via pd pd' inner
+    → {touches : Told → Posted → S → S → C → C → Type 0} → Steps m touches (arrives arrival from) p plan from via pd pd' inner
     → OnOk r (JobGoesOn inner (record old { stage = stage.Beating plan }) new via to turn)
     → OnOk r (TellsBeat m arrival p old new from to turn)
-tells_beat m arrival p old new plan from via to pd pd' inner (Ok v) turn t h g = record { plan = plan; via = via; inner = inner; tells = t; deaf = λ other. (h.deaf other, h.state other, h.outbox other); goes = g }
-tells_beat m arrival p old new plan from via to pd pd' inner (Err e) turn t h g = tt
+unfolding arrives
+tells_beat m arrival p old new plan from via to pd pd' inner (Ok v) turn s g = record { plan = plan; via = via; inner = inner; tells = s.tells; deaf = λ other. (s.goes.deaf other, s.goes.state other, s.goes.outbox other); goes = g }
+tells_beat m arrival p old new plan from via to pd pd' inner (Err e) turn s g = tt
 
 -- what is said of its plan is said of it under any name
 pub of_its_plan : {S : Type 0} (P : S → Type 0) (g : Stage S) (p q : S) → g ≡ stage.Beating p → g ≡ stage.Beating q → P p → P q

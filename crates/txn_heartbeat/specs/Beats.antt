@@ -20,8 +20,8 @@ use Rattle.txn_kv.specs.declared.request.Request.{Request}
 use Rattle.txn_kv.specs.declared.request.Request.TheVariants.{GetRegion, GetRegionById, GetStore, GetAllStores, Members, TxnHeartBeat, UpdateGcSafePoint}
 use Rattle.txn_kv.specs.declared.request.TxnHeartBeatRequest.{TxnHeartBeatRequest}
 use Rattle.txn_kv.specs.declared.ticket.Ticket.{Ticket}
-use Rattle.txn_plan.specs.Arrivals.{awaited_as, told_by}
-use Rattle.txn_plan.specs.declared.arrival.Arrival.{Arrival}
+use Rattle.txn_history.specs.Arrivals.{awaited_as, told_by}
+use Rattle.txn_kv.specs.declared.arrival.Arrival.{Arrival}
 use Rattle.txn_heartbeat.specs.declared.heartbeat_job.HeartbeatJob.{HeartbeatJob}
 use Rattle.txn_heartbeat.specs.declared.heartbeat_job.Stage.{Stage}
 use Rattle.txn_heartbeat.specs.declared.heartbeat_job.Stage.TheVariants as stage

@@ -4,14 +4,13 @@ ghost use Rattle.txn_heartbeat.specs.Hosting.{StaysSo};
 ghost use Rattle.txn_history.specs.Posted.{HasNumbers};
 ghost use Rattle.txn_history.specs.Turn.{turn_of};
 ghost use Rattle.txn_kv.specs.Timestamp.{HasVersion};
-ghost use Rattle.txn_plan.specs.Arrivals.{MayArrive};
+ghost use Rattle.txn_history.specs.Arrivals.{MayArrive};
 ghost use Rattle.txn_side.specs.Sight.{is_live};
 
 use crate::heartbeat_job::HeartbeatJob;
 use crate::plan_for_heartbeats::PlanForHeartbeats;
 use txn_core::{Heartbeat, Status};
-use txn_kv::{NoMemory, Outbox, Progress};
-use txn_plan::Arrival;
+use txn_kv::{Arrival, NoMemory, Outbox, Progress};
 use txn_side::ClientSide;
 
 /// Clients that post nothing of heartbeats themselves, and lend them what they need.

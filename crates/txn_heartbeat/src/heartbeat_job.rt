@@ -6,13 +6,12 @@ ghost use Rattle.txn_history.specs.Phase.Awaited.{EndOf};
 ghost use Rattle.txn_history.specs.Posted.{HasNumbers};
 ghost use Rattle.txn_history.specs.Turn.{IfKept, turn_of};
 ghost use Rattle.txn_kv.specs.Timestamp.{HasVersion};
-ghost use Rattle.txn_plan.specs.Arrivals.{MayArrive, awaited_as};
+ghost use Rattle.txn_history.specs.Arrivals.{MayArrive, awaited_as};
 
 use crate::plan_for_heartbeats::PlanForHeartbeats;
 use std::alloc::Global;
 use txn_core::{Heartbeat, Status};
-use txn_kv::{NoMemory, Outbox, Progress};
-use txn_plan::Arrival;
+use txn_kv::{Arrival, NoMemory, Outbox, Progress};
 use txn_region::PdClient;
 use txn_request::lowering::new_heart_beat_request;
 
@@ -112,7 +111,7 @@ impl<H: PlanForHeartbeats> HeartbeatJob<H> {
                 self.beat(pd, now, out)
             }
             Stage::Beating { plan } => {
-                let turn = arrival.tell(plan, pd, now, out);
+                let turn = plan.tell(pd, now, arrival, out);
                 self.go_on(turn, out)
             }
             Stage::Fresh | Stage::Over => {
