@@ -2,12 +2,15 @@
 use Rattle.std.proofs.Common.{◌≡◌, ℕ, ◌+◌, ◌<◌, Bool, true, false, cond, eqb, leb, ltb, ◌&&◌, List, [], ◌∷◌, ◌++◌, length, reverse, Option, Some, None, Ok, Err, refl, sym, ap, subst, ◌∙◌, append_assoc, arith}
 use Rattle.std.proofs.lemmas.Bool.{lt-leb}
 use Rattle.std.proofs.lemmas.List.{append-nil, reverse-append, reverse-reverse, length-reverse}
+use Rattle.txn_lines.specs.Deeds.{deed_of}
+use Rattle.txn_lines.specs.declared.deed.Deed.{Deed}
+use Rattle.txn_lines.specs.declared.deed.Deed.TheVariants.{Connect, Happens}
+use Rattle.txn_lines.specs.declared.happening.Happening.TheVariants.{Clock, Split}
 use Rattle.txn_lines.specs.declared.line.Line.{Line}
-use Rattle.txn_lines.specs.declared.line.Line.TheVariants as lines
 use Rattle.txn_lines.specs.declared.line_kinds.LineKind.{LineKind}
 use Rattle.txn_lines.specs.declared.script.Why.{Why}
 use Rattle.txn_lines.specs.declared.script.Why.TheVariants.{TooMany, TooLong, Word, NotEarlier, Kind, EmptySplit, ClockHigh, ClockFalls, Clients}
-use Rattle.txn_lines.specs.Lines.{max_lines, max_clients, max_clock, named_by, line_at, is_line_of, why_named, clients_in, clock_in, why_alone, or_else, why_after}
+use Rattle.txn_lines.specs.Lines.{max_lines, max_clients, max_clock, named_by, line_at, is_line_of, why_named, clients_in, clock_in, why_alone, why_by, or_else, why_after}
 use Rattle.txn_lines.specs.Reading.{cut_at}
 use Rattle.txn_lines.specs.Text.{text_lines, IsReading, IsGood, IsBad, AreGood, IsScript, IsFirstBad}
 use Rattle.txn_lines.proofs.Cuts.{IsFree, IsCut, cut_is}
@@ -85,11 +88,14 @@ named_of_line before None = tt
 named_of_line before (Some named) =
     either_of_line (leb 1 named.0 && leb named.0 (length before)) _ (Some NotEarlier) (either_of_line (is_line_of named.1 (line_at before named.0)) None (Some Kind) tt tt) tt
 
+by_deed : (clients clock : ℕ) (deed : Deed) → IsOfLine (why_by clients clock deed)
+by_deed clients clock (Happens (Split key)) = either_of_line (eqb (length key) 0) (Some EmptySplit) None tt tt
+by_deed clients clock (Happens (Clock ms)) = either_of_line (leb max_clock ms) (Some ClockHigh) _ tt (either_of_line (ltb ms clock) (Some ClockFalls) None tt tt)
+by_deed clients clock Connect = either_of_line (leb max_clients clients) (Some Clients) None tt tt
+by_deed clients clock _ = tt
+
 alone_of_line : (clients clock : ℕ) (line : Line) → IsOfLine (why_alone clients clock line)
-alone_of_line clients clock (lines.Split key) = either_of_line (eqb (length key) 0) (Some EmptySplit) None tt tt
-alone_of_line clients clock (lines.Clock ms) = either_of_line (leb max_clock ms) (Some ClockHigh) _ tt (either_of_line (ltb ms clock) (Some ClockFalls) None tt tt)
-alone_of_line clients clock lines.Client = either_of_line (leb max_clients clients) (Some Clients) None tt tt
-alone_of_line clients clock _ = tt
+alone_of_line clients clock line = by_deed clients clock (deed_of line)
 
 first_of_line : (first later : Option Why) → IsOfLine first → IsOfLine later → IsOfLine (or_else first later)
 first_of_line None later h k = k

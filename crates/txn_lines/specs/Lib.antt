@@ -1,3 +1,4 @@
+pub mod Deeds
 pub mod Grammar
 pub mod Kinds
 pub mod Lines

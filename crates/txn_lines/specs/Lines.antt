@@ -1,7 +1,10 @@
 -- The lines of a script so far, the newest first, and why one line more is bad.
 use Rattle.std.specs.Prelude.{ℕ, ◌+◌, Bool, true, false, ◌&&◌, ◌==◌, if◌then◌else◌, List, [], ◌∷◌, length, Option, Some, None, nat_eq, nat_le, nat_lt}
+use Rattle.txn_lines.specs.Deeds.{begins, deed_of}
+use Rattle.txn_lines.specs.declared.deed.Deed.{Deed}
+use Rattle.txn_lines.specs.declared.deed.Deed.TheVariants.{Ask, Connect, Happens, Nothing, Use}
+use Rattle.txn_lines.specs.declared.happening.Happening.TheVariants.{Clock, Crash, Split}
 use Rattle.txn_lines.specs.declared.line.Line.{Line}
-use Rattle.txn_lines.specs.declared.line.Line.TheVariants as lines
 use Rattle.txn_lines.specs.declared.line_kinds.LineKind.{LineKind}
 use Rattle.txn_lines.specs.declared.line_kinds.LineKind.TheVariants as kinds
 use Rattle.txn_lines.specs.declared.script.Why.{Why}
@@ -9,10 +12,13 @@ use Rattle.txn_lines.specs.declared.script.Why.TheVariants.{TooMany, NotEarlier,
 
 -- ---- the lines that a line names
 
+abbrev pub kind_by : Deed → LineKind
+kind_by Connect = kinds.Client
+kind_by (Ask client act) = if begins act then kinds.Begin else kinds.Other
+kind_by _ = kinds.Other
+
 abbrev pub kind_of : Line → LineKind
-kind_of lines.Client = kinds.Client
-kind_of (lines.Begin client options) = kinds.Begin
-kind_of _ = kinds.Other
+kind_of line = kind_by (deed_of line)
 
 abbrev pub is_kind : LineKind → LineKind → Bool
 is_kind kinds.Client kinds.Client = true
@@ -21,18 +27,14 @@ is_kind kinds.Other kinds.Other = true
 is_kind _ _ = false
 
 -- the number of the line that a line names, and of which kind that has to be
+abbrev pub named_in : Deed → Option (ℕ × LineKind)
+named_in (Ask client act) = Some (client, kinds.Client)
+named_in (Use transaction act) = Some (transaction, kinds.Begin)
+named_in (Happens (Crash client)) = Some (client, kinds.Client)
+named_in _ = None
+
 abbrev pub named_by : Line → Option (ℕ × LineKind)
-named_by (lines.Begin client options) = Some (client, kinds.Client)
-named_by (lines.Timestamp client) = Some (client, kinds.Client)
-named_by (lines.Crash client) = Some (client, kinds.Client)
-named_by (lines.Put transaction key value) = Some (transaction, kinds.Begin)
-named_by (lines.Insert transaction key value) = Some (transaction, kinds.Begin)
-named_by (lines.Delete transaction key) = Some (transaction, kinds.Begin)
-named_by (lines.Mutate transaction mutations) = Some (transaction, kinds.Begin)
-named_by (lines.Lock transaction keys) = Some (transaction, kinds.Begin)
-named_by (lines.Commit transaction) = Some (transaction, kinds.Begin)
-named_by (lines.Rollback transaction) = Some (transaction, kinds.Begin)
-named_by _ = None
+named_by line = named_in (deed_of line)
 
 -- the line of this number, counted from 1
 abbrev pub line_at : List Line → ℕ → Option Line
@@ -66,9 +68,12 @@ clients_in [] = 0
 clients_in (line ∷ before) = if is_kind kinds.Client (kind_of line) then clients_in before + 1 else clients_in before
 
 -- the clock after a line, from the clock before it
+abbrev pub clock_by : Deed → ℕ → ℕ
+clock_by (Happens (Clock ms)) before = ms
+clock_by _ before = before
+
 abbrev pub clock_after : Line → ℕ → ℕ
-clock_after (lines.Clock ms) before = ms
-clock_after _ before = before
+clock_after line before = clock_by (deed_of line) before
 
 abbrev pub clock_in : List Line → ℕ
 clock_in [] = 0
@@ -78,11 +83,14 @@ abbrev pub why_clock : ℕ → ℕ → Option Why
 why_clock so_far ms = if nat_le max_clock ms then Some ClockHigh else if nat_lt ms so_far then Some ClockFalls else None
 
 -- the reason that lies in a line itself, after so many clients and at this clock
+abbrev pub why_by : ℕ → ℕ → Deed → Option Why
+why_by clients clock (Happens (Split key)) = if length key == 0 then Some EmptySplit else None
+why_by clients clock (Happens (Clock ms)) = why_clock clock ms
+why_by clients clock Connect = if nat_le max_clients clients then Some Clients else None
+why_by clients clock _ = None
+
 abbrev pub why_alone : ℕ → ℕ → Line → Option Why
-why_alone clients clock (lines.Split key) = if length key == 0 then Some EmptySplit else None
-why_alone clients clock (lines.Clock ms) = why_clock clock ms
-why_alone clients clock lines.Client = if nat_le max_clients clients then Some Clients else None
-why_alone clients clock _ = None
+why_alone clients clock line = why_by clients clock (deed_of line)
 
 -- ---- why a line is bad
 

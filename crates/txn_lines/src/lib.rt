@@ -1,8 +1,12 @@
 //! Scripts: the lines that a user writes, their grammar, and why a line is bad.
 #![tactic(auto)]
 
+pub mod act;
 pub mod begin_options;
+pub mod client_act;
+pub mod deed;
 mod fields;
+pub mod happening;
 pub mod laws;
 pub mod line;
 pub mod line_kinds;
@@ -14,7 +18,11 @@ pub mod send;
 mod stop;
 mod words;
 
+pub use act::Act;
 pub use begin_options::BeginOptions;
+pub use client_act::ClientAct;
+pub use deed::Deed;
+pub use happening::Happening;
 pub use line::Line;
 pub use line_kinds::{LineKind, LineKinds};
 pub use parser::parse_line;

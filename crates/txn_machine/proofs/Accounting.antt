@@ -2,12 +2,14 @@
 use Rattle.std.proofs.Common.{◌≡◌, ◌≢◌, ℕ, suc, ◌≤◌, ◌⊎◌, inl, inr, Bool, true, false, not, List, [], ◌∷◌, Option, Some, None, length, nat_eq, refl, sym, ap, ◌∙◌, subst, arith}
 use Rattle.std.proofs.lemmas.Bool.Decides.{nat_tests}
 use Rattle.txn_lines.specs.Lines.{why_after}
+use Rattle.txn_lines.specs.Deeds.{deed_of}
+use Rattle.txn_lines.specs.declared.deed.Deed.{Deed}
+use Rattle.txn_lines.specs.declared.deed.Deed.TheVariants as deeds
 use Rattle.txn_lines.specs.declared.line.Line.{Line}
-use Rattle.txn_lines.specs.declared.line.Line.TheVariants as lines
 use Rattle.txn_report.specs.declared.outcome.Outcome.{Outcome}
 use Rattle.txn_side.specs.Account.{Account, AreNew, after_act, awaited_line, refusal}
 use Rattle.txn_side.specs.Sight.{EndsAlone, line_count, stand_at}
-use Rattle.txn_machine.specs.Accounts.{AccountMeets, AnswersIn, AreTakenIn, Ask, Credited, CreditedBy, WasAskedIf, account_of, after_line, after_step, ask_of, closed_if}
+use Rattle.txn_machine.specs.Accounts.{AccountMeets, AnswersIn, AreTakenIn, Ask, Credited, CreditedBy, WasAskedIf, account_of, after_line, after_step, ask_for, ask_of, closed_if}
 use Rattle.txn_machine.specs.Causes.{Role, ended_of, is_skipped, role_of, tells}
 use Rattle.txn_machine.specs.Causes.Role.{AsksTime, MakesClient, NoCall, UsesTransaction}
 use Rattle.txn_machine.specs.Lists.{Lists, followed, newest, opened}
@@ -57,15 +59,9 @@ abbrev pub QuietBy : Option Ask → Bool → Type 0
 QuietBy None told = Unit {0}
 QuietBy (Some ask) told = told ≡ false
 
-pub quiet_by : (line : Line) → QuietBy (ask_of line) (tells line)
-quiet_by (lines.Put x key value) = refl
-quiet_by (lines.Insert x key value) = refl
-quiet_by (lines.Delete x key) = refl
-quiet_by (lines.Mutate x mutations) = refl
-quiet_by (lines.Lock x keys) = refl
-quiet_by (lines.Commit x) = refl
-quiet_by (lines.Rollback x) = refl
-quiet_by line = tt
+pub quiet_by : (deed : Deed) → QuietBy (ask_for deed) (tells deed)
+quiet_by (deeds.Use x act) = refl
+quiet_by deed = tt
 
 -- A step.
 
@@ -73,8 +69,8 @@ pub taken_nothing : (accounts : ℕ → Account) → AreNew accounts → AreTake
 taken_nothing accounts new = record { accounts_are = new; meets = tt }
 
 module _ (line : Line) (ls : List Line) (old new : Lists) (told : newest old ≡ length ls) (count : newest new ≡ suc (length ls)) (ordered : IsOrdered old) (good : why_after ls line ≡ None) (steps : Steps line old new) (caused : Caused ls old) where
-  c : courses.Course line old new
-  c = course old line new steps
+  c : courses.Course (deed_of line) old new
+  c = course old (deed_of line) new steps
 
   abbrev all : Lists
   all = followed c.posted c.ended c.mid
@@ -90,7 +86,7 @@ module _ (line : Line) (ls : List Line) (old new : Lists) (told : newest old ≡
   change j low = subst (λ (l : Lists). Change (suc (length ls)) (outcome_of old.outcomes j) (ended_of old.ended j) (outcome_of l.outcomes j) (ended_of l.ended j)) (sym c.is) (changed j (λ e. absurd (omega arith)))
 
   -- no call of an earlier line ends where the clients hear of nothing
-  alone : tells line ≡ false → EndsAlone (suc (length ls)) c.ended
+  alone : tells (deed_of line) ≡ false → EndsAlone (suc (length ls)) c.ended
   alone quiet = by (role_of line) c.begins
     where
       none : c.ended ≡ [] → EndsAlone (suc (length ls)) c.ended
@@ -99,13 +95,13 @@ module _ (line : Line) (ls : List Line) (old new : Lists) (told : newest old ≡
       own : EndsAlone (line_count (opened old).sight) c.ended → EndsAlone (suc (length ls)) c.ended
       own h = subst (λ n. EndsAlone n c.ended) (lined line ls old told ordered.even good caused.rows new c) h
 
-      by : (r : Role) → Begins r line c.own c.ended (opened old).sight c.from → EndsAlone (suc (length ls)) c.ended
+      by : (r : Role) → Begins r (deed_of line) c.own c.ended (opened old).sight c.from → EndsAlone (suc (length ls)) c.ended
       by MakesClient h = none h.none
       by (AsksTime b k) h = elim h [ inl i ↦ none i.none | inr a ↦ own a.alone ]
       by (UsesTransaction b x) h = elim h [ inl i ↦ none i.none | inr a ↦ own a.alone ]
       by NoCall h = elim h.ends [ inl is ↦ none is | inr t ↦ absurd (let a = t.1 in cc) ]
 
-  pub stays : tells line ≡ false → (j : ℕ) → j ≤ length ls → (outcome_of new.outcomes j ≡ outcome_of old.outcomes j) × (ended_of new.ended j ≡ ended_of old.ended j)
+  pub stays : tells (deed_of line) ≡ false → (j : ℕ) → j ≤ length ls → (outcome_of new.outcomes j ≡ outcome_of old.outcomes j) × (ended_of new.ended j ≡ ended_of old.ended j)
   stays quiet j low =
       let far : j ≢ suc (length ls) = λ here. absurd (omega arith) in
       let k = apart line ls old told ordered.even good caused.rows new c j far in
@@ -121,7 +117,7 @@ module _ (line : Line) (ls : List Line) (old new : Lists) (told : newest old ≡
 
   module _ (a b : ℕ → Account) (was : AreTakenIn ls old.outcomes old.ended a) where
     -- where no call of an earlier line ends
-    pub calm_was : tells line ≡ false → (x : ℕ) → a x ≡ after x
+    pub calm_was : tells (deed_of line) ≡ false → (x : ℕ) → a x ≡ after x
     calm_was quiet x = was.accounts_are x ∙ sym (all_same ls old.outcomes new.outcomes old.ended new.ended (λ n. stand_at old.sight.stands n) old.sight.crashed caused.rows change (stays quiet) ls (omega arith) x)
 
     gone_now : (x : ℕ) → after_step old.sight new x (a x) ≡ after x
@@ -130,14 +126,14 @@ module _ (line : Line) (ls : List Line) (old new : Lists) (told : newest old ≡
         ∙ ap (gone ls old.outcomes new.outcomes old.ended new.ended (λ n. stand_at old.sight.stands n) old.sight.crashed caused.rows change x) (was.accounts_are x)
         ∙ sym (accounts_gone ls old.outcomes new.outcomes old.ended new.ended (λ n. stand_at old.sight.stands n) old.sight.crashed caused.rows change caused.calls was.meets x)
 
-    line_now : (ask : Option Ask) (heard : Bool) → tells line ≡ heard → QuietBy ask heard → CreditedBy ask heard old.sight a b new → Keeps ask b
+    line_now : (ask : Option Ask) (heard : Bool) → tells (deed_of line) ≡ heard → QuietBy ask heard → CreditedBy ask heard old.sight a b new → Keeps ask b
     line_now None true q quiet h = (λ x. h x ∙ gone_now x, tt)
     line_now None false q quiet h = (λ x. h x ∙ calm_was q x, tt)
     line_now (Some ask) heard q quiet h = asked_now (suc (length ls)) new count a b (λ x. after x) (calm_was (q ∙ quiet)) ask h
 
-    pub taken_step : Credited line old.sight a b new → AreTakenIn (line ∷ ls) new.outcomes new.ended b
+    pub taken_step : Credited (deed_of line) old.sight a b new → AreTakenIn (line ∷ ls) new.outcomes new.ended b
     taken_step credited =
-        let here = line_now (ask_of line) (tells line) refl (quiet_by line) credited in
+        let here = line_now (ask_of line) (tells (deed_of line)) refl (quiet_by (deed_of line)) credited in
         record {
           accounts_are = here.0;
           meets = (here.1, accounts_still ls old.outcomes new.outcomes old.ended new.ended (λ n. stand_at old.sight.stands n) old.sight.crashed caused.rows change ls (omega arith) caused.calls was.meets);

@@ -3,6 +3,7 @@ use Rattle.std.proofs.Common.{◌≡◌, ◌≢◌, ℕ, suc, ◌<◌, ◌≤◌
 use Rattle.std.proofs.lemmas.Bool.Decides.{nat_tests}
 use Rattle.std.specs.List.{All, filter}
 use Rattle.txn_lines.specs.Lines.{why_after}
+use Rattle.txn_lines.specs.Deeds.{deed_of}
 use Rattle.txn_lines.specs.declared.line.Line.{Line}
 use Rattle.txn_report.specs.declared.outcome.Outcome.{Outcome}
 use Rattle.txn_side.specs.Sight.{client_at, is_live, lives, outcomes_of, stand_at}
@@ -83,7 +84,7 @@ has_some crashed (Some c) h = (c, refl)
 module _ (line : Line) (ls : List Line) (old : Lists) (told : newest old ≡ length ls) (even : IsEven old) (good : why_after ls line ≡ None)
     (was : AreRows ls (λ n. outcome_of old.outcomes n) (λ n. ended_of old.ended n) (λ n. stand_at old.sight.stands n) old.sight.crashed)
     (live : AllLive ls (λ n. outcome_of old.outcomes n) (λ n. ended_of old.ended n))
-    (new : Lists) (c : Course line old new) where
+    (new : Lists) (c : Course (deed_of line) old new) where
   abbrev o : ℕ → Outcome
   o n = outcome_of old.outcomes n
 
@@ -119,7 +120,7 @@ module _ (line : Line) (ls : List Line) (old : Lists) (told : newest old ≡ len
       let none = not_true (is_crashed o2 (line ∷ ls) (client_of (line ∷ ls) n)) (sym flag ∙ h) in
       let here = ap (λ z. is_crashed o2 (line ∷ ls) z) (sym (client_old line ls n far)) ∙ none in
       sym (crashed_before line ls o o2 e e2 (λ j. stand_at old.sight.stands j) old.sight.crashed was (apart line ls old told even good was new c) (client_of ls n))
-      ∙ or_none (crashes line (client_of ls n) && is_done (o2 (suc (length ls)))) (is_crashed o2 ls (client_of ls n)) here
+      ∙ or_none (crashes (deed_of line) (client_of ls n) && is_done (o2 (suc (length ls)))) (is_crashed o2 ls (client_of ls n)) here
 
   pub live_now : AllLive (line ∷ ls) o3 e3
   live_now n l there after = elim (same_line (suc (length ls)) n) [

@@ -2,6 +2,8 @@
 use Rattle.std.proofs.Common.{◌≡◌, ℕ, suc, ◌⊎◌, inl, inr, Bool, true, false, ◌&&◌, if◌then◌else◌, IfOk, List, [], ◌∷◌, Option, Some, None, Result, Ok, Err, length, is_some, nat_eq, slice_index_or, refl, sym, ap, ◌∙◌, subst, arith}
 use Rattle.std.proofs.lemmas.Bool.Decides.{nat_tests}
 use Rattle.std.specs.List.{All}
+use Rattle.txn_lines.specs.declared.line.Line.{Line}
+use Rattle.txn_lines.specs.Deeds.{deed_of}
 use Rattle.txn_kv.specs.declared.memory.NoMemory.{NoMemory}
 use Rattle.txn_kv.specs.declared.reply.Reply.{Reply}
 use Rattle.txn_kv.specs.declared.request.Request.{Request}
@@ -10,8 +12,9 @@ use Rattle.txn_history.specs.Busy.{busy_reply}
 use Rattle.txn_history.specs.Event.{Event, kept_reply}
 use Rattle.txn_history.specs.Event.Event.{Clocked, Crashed, Led, Lost, Refused, Sent, Served, Slept, Split, Took}
 use Rattle.txn_law.specs.Run.{IsPossible, IsRoomy, store_after}
-use Rattle.txn_lines.specs.declared.line.Line.{Line}
-use Rattle.txn_lines.specs.declared.line.Line.TheVariants as lines
+use Rattle.txn_lines.specs.declared.deed.Deed.{Deed}
+use Rattle.txn_lines.specs.declared.deed.Deed.TheVariants as deeds
+use Rattle.txn_lines.specs.declared.happening.Happening.TheVariants as happenings
 use Rattle.txn_model.specs.Regions.{can_lead, can_split}
 use Rattle.txn_model.specs.Store.{Store}
 use Rattle.txn_model.specs.Table.{table}
@@ -26,8 +29,8 @@ use Rattle.txn_side.specs.declared.turn.Ending.{Ending}
 use Rattle.txn_side.specs.declared.turn.Posting.{Posting}
 use Rattle.txn_side.specs.declared.turn.Posting.TheVariants.{Send, Sleep}
 use Rattle.txn_side.specs.declared.turn.Turn.{Turn}
-use Rattle.txn_machine.specs.Arising.{ActsTo, Arisen, GoesIn, GoesOn, IsRight, Knows, RunsTo, Speaks, happens}
-use Rattle.txn_machine.specs.Causes.{Role, role_of}
+use Rattle.txn_machine.specs.Arising.{Arisen, GoesIn, GoesOn, IsRight, Knows, RunsTo, Speaks, happens}
+use Rattle.txn_machine.specs.Causes.{Role, role_for}
 use Rattle.txn_machine.specs.Causes.Role.{AsksTime, MakesClient, NoCall, UsesTransaction}
 use Rattle.txn_machine.specs.Lists.{Lists, all_ended, all_posted, ended_at, newest, opened, posted_at, reply_at, request_at, with_mail}
 use Rattle.txn_machine.specs.Running.{closed, with_own}
@@ -66,21 +69,21 @@ arises_same was held h w = record { now = w; kept = λ x o k. k; answers = λ k 
 pub still_moved : {S : Type 0} (arises : S → List Event → Type 0) (holds : S → List Event → ℕ → Outcome → Type 0) (from to : S) → to ≡ from → StillArises (arises from) (arises to) (holds from) (holds to)
 still_moved {S = S} arises holds from to same = subst (λ (s : S). StillArises (arises from) (arises s) (holds from) (holds s)) (sym same) (arises_same (arises from) (holds from))
 
-module _ (was is : List Event → Type 0) (held holds : List Event → ℕ → Outcome → Type 0) (line : Line) (l : Lists) (done : Course) where
+module _ (was is : List Event → Type 0) (held holds : List Event → ℕ → Outcome → Type 0) (deed : Deed) (l : Lists) (done : Course) where
   -- Lines in which the clients do no more than to stay as they are, or to fall.
 
   -- the line does nothing, or what comes from outside
   abbrev Brings : (Ticket → Option Request) → List Event → Type 0
-  Brings looks h = (happens looks line l h ≡ h) ⊎ ((e : Event) × (happens looks line l h ≡ e ∷ h) × IsOutside e × IsPossible h e)
+  Brings looks h = (happens looks deed l h ≡ h) ⊎ ((e : Event) × (happens looks deed l h ≡ e ∷ h) × IsOutside e × IsPossible h e)
 
   pub outside_to : done.turn.posted.items ≡ [] → done.turn.ended.items ≡ [] → StillArises was is held holds → ((h : List Event) (e : Event) → IsOutside e → IsPossible h e → is h → Arises is holds (holds h) itself (e ∷ h) [])
-      → ((looks : Ticket → Option Request) (h : List Event) → Knows l looks h → Brings looks h) → RunsTo was is held holds line l done
+      → ((looks : Ticket → Option Request) (h : List Event) → Knows l looks h → Brings looks h) → RunsTo was is held holds deed l done
   outside_to posted ended still longer comes looks h knows w =
-      subst (λ (ps : List Posting). GoesOn is holds (held h) (role_of line) l.sight (with_postings ps (happens looks line l h)) done.turn.ended.items) (sym posted)
-      (subst (λ (es : List Ending). GoesOn is holds (held h) (role_of line) l.sight (happens looks line l h) es) (sym ended)
+      subst (λ (ps : List Posting). GoesOn is holds (held h) (role_for deed) l.sight (with_postings ps (happens looks deed l h)) done.turn.ended.items) (sym posted)
+      (subst (λ (es : List Ending). GoesOn is holds (held h) (role_for deed) l.sight (happens looks deed l h) es) (sym ended)
       (elim (comes looks h knows) [
-        | inl same ↦ subst (λ fs. GoesOn is holds (held h) (role_of line) l.sight fs []) (sym same) (let a = still h w in record { now = a.now; kept = a.kept; answers = λ k d low. absurd (omega arith); doubts = λ k d low. absurd (omega arith) })
-        | inr e ↦ subst (λ fs. GoesOn is holds (held h) (role_of line) l.sight fs []) (sym e.1)
+        | inl same ↦ subst (λ fs. GoesOn is holds (held h) (role_for deed) l.sight fs []) (sym same) (let a = still h w in record { now = a.now; kept = a.kept; answers = λ k d low. absurd (omega arith); doubts = λ k d low. absurd (omega arith) })
+        | inr e ↦ subst (λ fs. GoesOn is holds (held h) (role_for deed) l.sight fs []) (sym e.1)
             (let a = still h w in let b = longer h e.0 e.2 e.3 a.now in record { now = b.now; kept = λ x o k. b.kept x o (a.kept x o k); answers = λ k d low. absurd (omega arith); doubts = λ k d low. absurd (omega arith) })
       ]))
 
@@ -96,36 +99,26 @@ module _ (was is : List Event → Type 0) (held holds : List Event → ℕ → O
       by None b = b h w
       by (Some t) b = b h w
 
-  pub connected_to : (l : Lists) → done.turn.posted.items ≡ [] → StillArises was is held holds → RunsTo was is held holds lines.Client l done
+  pub connected_to : (l : Lists) → done.turn.posted.items ≡ [] → StillArises was is held holds → RunsTo was is held holds deeds.Connect l done
   connected_to l posted still looks h knows w =
       subst (λ (ps : List Posting). GoesOn is holds (held h) MakesClient l.sight (with_postings ps h) done.turn.ended.items) (sym posted)
       (let a = still h w in record { now = a.now; kept = a.kept; answers = λ k d low. tt; doubts = λ k d low. tt })
 
--- so it goes on in a line that asks something of a transaction, and does nothing itself
-pub acted_to : (was is : List Event → Type 0) (held holds : List Event → ℕ → Outcome → Type 0) (line same : Line) (commits : Bool) (x : ℕ) (l : Lists) (r : Result Course NoMemory) → line ≡ same → role_of same ≡ UsesTransaction commits x
-    → ((looks : Ticket → Option Request) (h : List Event) → happens looks same l h ≡ h) → IfOk r (λ done. ActsTo was is held holds commits x done) → IfOk r (λ done. RunsTo was is held holds line l done)
-acted_to was is held holds line same commits x l (Ok done) e role calm a = subst (λ z. RunsTo was is held holds z l done) (sym e) (λ looks h knows w.
-    let z = a h w in
-    subst (λ r. GoesOn is holds (held h) r l.sight (with_postings done.turn.posted.items (happens looks same l h)) done.turn.ended.items) (sym role)
-    (subst (λ fs. GoesOn is holds (held h) (UsesTransaction commits x) l.sight (with_postings done.turn.posted.items fs) done.turn.ended.items) (sym (calm looks h))
-    (record { now = z.now; kept = z.kept; answers = z.answers; doubts = z.doubts })))
-acted_to was is held holds line same commits x l (Err f) e role calm a = tt
-
 -- the clients hear of what comes of the request of a ticket, after a history from which they can have arisen too
-pub record Comes (was : List Event → Type 0) (held : List Event → ℕ → Outcome → Type 0) (line : Line) (l : Lists) (event : Request → Event) (looks : Ticket → Option Request) (h : List Event) : Type 0 where
+pub record Comes (was : List Event → Type 0) (held : List Event → ℕ → Outcome → Type 0) (deed : Deed) (l : Lists) (event : Request → Event) (looks : Ticket → Option Request) (h : List Event) : Type 0 where
   pub request : Request
   pub past : List Event
   pub arisen : was past
   pub kept : (x : ℕ) (o : Outcome) → held h x o → held past x o
   pub possible : IsPossible past (event request)
-  pub is : happens looks line l h ≡ event request ∷ past
+  pub is : happens looks deed l h ≡ event request ∷ past
 
-module _ (was is : List Event → Type 0) (held holds : List Event → ℕ → Outcome → Type 0) (line : Line) (l : Lists) where
+module _ (was is : List Event → Type 0) (held holds : List Event → ℕ → Outcome → Type 0) (deed : Deed) (l : Lists) where
   -- what the clients make of the one event by which a line is done
-  came_so : (done : Course) (h : List Event) (looks : Ticket → Option Request) (e : Event) (past : List Event) → role_of line ≡ NoCall → happens looks line l h ≡ e ∷ past → ((x : ℕ) (o : Outcome) → held h x o → held past x o)
-      → GoesOn is holds (held past) NoCall l.sight (with_postings done.turn.posted.items (e ∷ past)) done.turn.ended.items → GoesOn is holds (held h) (role_of line) l.sight (with_postings done.turn.posted.items (happens looks line l h)) done.turn.ended.items
+  came_so : (done : Course) (h : List Event) (looks : Ticket → Option Request) (e : Event) (past : List Event) → role_for deed ≡ NoCall → happens looks deed l h ≡ e ∷ past → ((x : ℕ) (o : Outcome) → held h x o → held past x o)
+      → GoesOn is holds (held past) NoCall l.sight (with_postings done.turn.posted.items (e ∷ past)) done.turn.ended.items → GoesOn is holds (held h) (role_for deed) l.sight (with_postings done.turn.posted.items (happens looks deed l h)) done.turn.ended.items
   came_so done h looks e past role here kept z =
-      subst (λ r. GoesOn is holds (held h) r l.sight (with_postings done.turn.posted.items (happens looks line l h)) done.turn.ended.items) (sym role)
+      subst (λ r. GoesOn is holds (held h) r l.sight (with_postings done.turn.posted.items (happens looks deed l h)) done.turn.ended.items) (sym role)
       (subst (λ fs. GoesOn is holds (held h) NoCall l.sight (with_postings done.turn.posted.items fs) done.turn.ended.items) (sym here)
       (record {
         now = z.now;
@@ -134,8 +127,8 @@ module _ (was is : List Event → Type 0) (held holds : List Event → ℕ → O
         doubts = all_speak (held h) (held past) kept NoCall l.sight (with_postings done.turn.posted.items (e ∷ past)) done.turn.ended.items z.doubts;
       }))
 
-  pub hears_to : (event : Request → Event) (r : Result Course NoMemory) → role_of line ≡ NoCall → ((looks : Ticket → Option Request) (h : List Event) → Knows l looks h → was h → Comes was held line l event looks h)
-      → IfOk r (λ done. ArisesHearing was is held holds l.sight event done.turn) → IfOk r (λ done. RunsTo was is held holds line l done)
+  pub hears_to : (event : Request → Event) (r : Result Course NoMemory) → role_for deed ≡ NoCall → ((looks : Ticket → Option Request) (h : List Event) → Knows l looks h → was h → Comes was held deed l event looks h)
+      → IfOk r (λ done. ArisesHearing was is held holds l.sight event done.turn) → IfOk r (λ done. RunsTo was is held holds deed l done)
   hears_to event (Ok done) role comes a = λ looks h knows w.
       let b = comes looks h knows w in
       let z = a b.past b.request b.possible b.arisen in
@@ -143,12 +136,12 @@ module _ (was is : List Event → Type 0) (held holds : List Event → ℕ → O
   hears_to event (Err e) role comes a = tt
 
   -- the same of a turn that the line came to
-  pub heard_to : (event : Request → Event) (turn : Turn) (done : Course) → done.turn ≡ turn → role_of line ≡ NoCall → ((looks : Ticket → Option Request) (h : List Event) → Knows l looks h → was h → Comes was held line l event looks h)
-      → ArisesHearing was is held holds l.sight event turn → RunsTo was is held holds line l done
+  pub heard_to : (event : Request → Event) (turn : Turn) (done : Course) → done.turn ≡ turn → role_for deed ≡ NoCall → ((looks : Ticket → Option Request) (h : List Event) → Knows l looks h → was h → Comes was held deed l event looks h)
+      → ArisesHearing was is held holds l.sight event turn → RunsTo was is held holds deed l done
   heard_to event turn done same role comes a = hears_to event (Ok done) role comes (subst (λ (t : Turn). ArisesHearing was is held holds l.sight event t) (sym same) a)
 
-  pub woken_to : (t : Ticket) (turn : Turn) (done : Course) → done.turn ≡ turn → role_of line ≡ NoCall → ((looks : Ticket → Option Request) (h : List Event) → happens looks line l h ≡ Slept t ∷ h)
-      → ArisesAwake was is held holds l.sight t turn → RunsTo was is held holds line l done
+  pub woken_to : (t : Ticket) (turn : Turn) (done : Course) → done.turn ≡ turn → role_for deed ≡ NoCall → ((looks : Ticket → Option Request) (h : List Event) → happens looks deed l h ≡ Slept t ∷ h)
+      → ArisesAwake was is held holds l.sight t turn → RunsTo was is held holds deed l done
   woken_to t turn done same role here a looks h knows w =
       let z = subst (λ (x : Turn). ArisesAwake was is held holds l.sight t x) (sym same) a h w in
       came_so done h looks (Slept t) h role (here looks h) (λ x o k. k) (record { now = z.now; kept = z.kept; answers = z.answers; doubts = z.doubts })
@@ -170,10 +163,10 @@ unserved_there l t place found can = by (is_live l.sight t.line) found
     by false e = absurd (cc)
 
 module _ (l : Lists) (looks : Ticket → Option Request) (h : List Event) where
-  abbrev Outside : Line → Type 0
-  Outside line = (happens looks line l h ≡ h) ⊎ ((e : Event) × (happens looks line l h ≡ e ∷ h) × IsOutside e × IsPossible h e)
+  abbrev Outside : Deed → Type 0
+  Outside deed = (happens looks deed l h ≡ h) ⊎ ((e : Event) × (happens looks deed l h ≡ e ∷ h) × IsOutside e × IsPossible h e)
 
-  pub serve_comes : (t : Ticket) → Knows l looks h → Outside (lines.Serve t)
+  pub serve_comes : (t : Ticket) → Knows l looks h → Outside (deeds.Happens (happenings.Serve t))
   serve_comes t knows = by (found_unserved l.mail t) refl (looks t) refl
     where
       by : (place : Option ℕ) → found_unserved l.mail t ≡ place → (o : Option Request) → looks t ≡ o → ((if test_at (λ k. true) place then serves t o h else h) ≡ h) ⊎ ((e : Event) × ((if test_at (λ k. true) place then serves t o h else h) ≡ e ∷ h) × IsOutside e × IsPossible h e)
@@ -181,24 +174,24 @@ module _ (l : Lists) (looks : Ticket → Option Request) (h : List Event) where
       by (Some k) f None e = inl refl
       by (Some k) f (Some r) e = inr (Served t r (table (store_after h) r).reply, refl, tt, (knows.sent t r e, refl, knows.unserved t k f, room_after l looks h knows))
 
-  pub split_comes : (key : List ℕ) → Outside (lines.Split key)
+  pub split_comes : (key : List ℕ) → Outside (deeds.Happens (happenings.Split key))
   split_comes key = by (can_split l.store key)
     where
       by : (b : Bool) → ((if b then Split key ∷ h else h) ≡ h) ⊎ ((e : Event) × ((if b then Split key ∷ h else h) ≡ e ∷ h) × IsOutside e × IsPossible h e)
       by false = inl refl
       by true = inr (Split key, refl, tt, tt)
 
-  pub lead_comes : (region store : ℕ) → Outside (lines.Lead region store)
+  pub lead_comes : (region store : ℕ) → Outside (deeds.Happens (happenings.Lead region store))
   lead_comes region store = by (can_lead l.store region store)
     where
       by : (b : Bool) → ((if b then Led region store ∷ h else h) ≡ h) ⊎ ((e : Event) × ((if b then Led region store ∷ h else h) ≡ e ∷ h) × IsOutside e × IsPossible h e)
       by false = inl refl
       by true = inr (Led region store, refl, tt, tt)
 
-  pub clock_comes : (ms : ℕ) → Outside (lines.Clock ms)
+  pub clock_comes : (ms : ℕ) → Outside (deeds.Happens (happenings.Clock ms))
   clock_comes ms = inr (Clocked ms, refl, tt, tt)
 
-  pub crash_comes : (client : ℕ) → Outside (lines.Crash client)
+  pub crash_comes : (client : ℕ) → Outside (deeds.Happens (happenings.Crash client))
   crash_comes client = by (is_live l.sight client)
     where
       by : (b : Bool) → ((if b then Crashed client ∷ h else h) ≡ h) ⊎ ((e : Event) × ((if b then Crashed client ∷ h else h) ≡ e ∷ h) × IsOutside e × IsPossible h e)
@@ -206,11 +199,11 @@ module _ (l : Lists) (looks : Ticket → Option Request) (h : List Event) where
       by true = inr (Crashed client, refl, tt, tt)
 
   -- an event that could do nothing
-  pub missed : (line : Line) → does_it line l ≡ false → Outside line
-  missed line cannot = inl (ap (λ (b : Bool). if b then does looks line h else h) cannot)
+  pub missed : (deed : Deed) → does_it deed l ≡ false → Outside deed
+  missed deed cannot = inl (ap (λ (b : Bool). if b then does looks deed h else h) cannot)
 
   module _ (was : List Event → Type 0) (held : List Event → ℕ → Outcome → Type 0) (knows : Knows l looks h) (w : was h) (t : Ticket) (place : ℕ) (found : found_out l t ≡ Some place) where
-    pub answer_comes : (o : Reply) → (letter_at l.mail place).kept ≡ Some o → Comes was held (lines.Answer t) l (λ r. Took t r o) looks h
+    pub answer_comes : (o : Reply) → (letter_at l.mail place).kept ≡ Some o → Comes was held (deeds.Happens (happenings.Answer t)) l (λ r. Took t r o) looks h
     answer_comes o kept =
         let k = knows.kept t place o found kept in
         record {
@@ -225,7 +218,7 @@ module _ (l : Lists) (looks : Ticket → Option Request) (h : List Event) where
               ∙ ap (λ (z : Option Reply). takes_it t (request_at l place) z h) k.0;
         }
 
-    pub lose_comes : Comes was held (lines.Lose t) l (λ r. Lost t r) looks h
+    pub lose_comes : Comes was held (deeds.Happens (happenings.Lose t)) l (λ r. Lost t r) looks h
     lose_comes = record {
       request = request_at l place;
       past = h;
@@ -236,7 +229,7 @@ module _ (l : Lists) (looks : Ticket → Option Request) (h : List Event) where
     }
 
     module _ (longer : (h : List Event) (e : Event) → IsOutside e → IsPossible h e → was h → Arises was held (held h) itself (e ∷ h) []) (can : can_be_served l.mail place ≡ true) where
-      pub deliver_comes : Comes was held (lines.Deliver t) l (λ r. Took t r (reply_at l place)) looks h
+      pub deliver_comes : Comes was held (deeds.Happens (happenings.Deliver t)) l (λ r. Took t r (reply_at l place)) looks h
       deliver_comes =
           let r = request_at l place in
           let o = (table (store_after h) r).reply in
@@ -255,7 +248,7 @@ module _ (l : Lists) (looks : Ticket → Option Request) (h : List Event) where
                 ∙ ap (λ (z : Option Reply). takes_it t r z (Served t r o ∷ h)) here;
           }
 
-      pub busy_comes : (o : Reply) → busy_reply (request_at l place) ≡ Some o → Comes was held (lines.Busy t) l (λ r. Took t r o) looks h
+      pub busy_comes : (o : Reply) → busy_reply (request_at l place) ≡ Some o → Comes was held (deeds.Happens (happenings.Busy t)) l (λ r. Took t r o) looks h
       busy_comes o busy =
           let r = request_at l place in
           let a = longer h (Refused t r o) tt (knows.sent t r (knows.asked t place found), busy, knows.unserved t place (unserved_there l t place found can)) w in
@@ -342,29 +335,29 @@ module _ (older l : Lists) (done : Course) (can : CanTell (opened older) done l)
     | inr now ↦ inr now
   ]
 
-  arisen_closed : (was is : List Event → Type 0) (held holds : List Event → ℕ → Outcome → Type 0) (line : Line) → RunsTo was is held holds line (opened older) done → Arisen was is held holds line older (closed done l)
-  arisen_closed was is held holds line runs looks h knows w =
+  arisen_closed : (was is : List Event → Type 0) (held holds : List Event → ℕ → Outcome → Type 0) (deed : Deed) → RunsTo was is held holds deed (opened older) done → Arisen was is held holds deed older (closed done l)
+  arisen_closed was is held holds deed runs looks h knows w =
       let r = runs looks h knows w in
-      let fs = with_postings done.turn.posted.items (happens looks line (opened older) h) in
-      subst (λ gs. GoesIn is holds (held h) (role_of line) (opened older).sight gs older (closed done l)) (sym (sends_now (happens looks line (opened older) h) knows.before)) (record {
+      let fs = with_postings done.turn.posted.items (happens looks deed (opened older) h) in
+      subst (λ gs. GoesIn is holds (held h) (role_for deed) (opened older).sight gs older (closed done l)) (sym (sends_now (happens looks deed (opened older) h) knows.before)) (record {
         now = r.now;
         kept = r.kept;
-        answers = λ k p is. answer_either (λ k o. IsRight (role_of line) (opened older).sight (holds fs) k o) k (outcomes.Ok p) refl r.answers is;
-        doubts = λ k e is. answer_either (λ k o. Speaks (role_of line) (opened older).sight (held h) fs k o) k (outcomes.Err e) refl r.doubts is;
+        answers = λ k p is. answer_either (λ k o. IsRight (role_for deed) (opened older).sight (holds fs) k o) k (outcomes.Ok p) refl r.answers is;
+        doubts = λ k e is. answer_either (λ k o. Speaks (role_for deed) (opened older).sight (held h) fs k o) k (outcomes.Err e) refl r.doubts is;
       })
 
 -- the parts of a step together
-pub arisen_step : {S : Type 0} (arises : S → List Event → Type 0) (holds : S → List Event → ℕ → Outcome → Type 0) (line : Line) (older start l new : Lists) (done : Course) (from mid last to : S) → start ≡ opened older → new ≡ closed done l → CanTell start done l
-    → StillArises (arises from) (arises mid) (holds from) (holds mid) → RunsTo (arises mid) (arises last) (holds mid) (holds last) line start done → to ≡ last → Arisen (arises from) (arises to) (holds from) (holds to) line older new
-arisen_step arises holds line older start l new done from mid last to a b can still runs same =
-    subst (λ x. Arisen (arises from) (arises to) (holds from) (holds to) line older x) (sym b) (subst (λ s. Arisen (arises from) (arises s) (holds from) (holds s) line older (closed done l)) (sym same)
-    (arisen_closed older l done (subst (λ x. CanTell x done l) a can) (arises from) (arises last) (holds from) (holds last) line
+pub arisen_step : {S : Type 0} (arises : S → List Event → Type 0) (holds : S → List Event → ℕ → Outcome → Type 0) (line : Line) (deed : Deed) (older start l new : Lists) (done : Course) (from mid last to : S) → deed ≡ deed_of line → start ≡ opened older → new ≡ closed done l → CanTell start done l
+    → StillArises (arises from) (arises mid) (holds from) (holds mid) → RunsTo (arises mid) (arises last) (holds mid) (holds last) deed start done → to ≡ last → Arisen (arises from) (arises to) (holds from) (holds to) (deed_of line) older new
+arisen_step arises holds line deed older start l new done from mid last to is a b can still runs same =
+    subst (λ d. Arisen (arises from) (arises to) (holds from) (holds to) d older new) is (subst (λ x. Arisen (arises from) (arises to) (holds from) (holds to) deed older x) (sym b) (subst (λ s. Arisen (arises from) (arises s) (holds from) (holds s) deed older (closed done l)) (sym same)
+    (arisen_closed older l done (subst (λ x. CanTell x done l) a can) (arises from) (arises last) (holds from) (holds last) deed
     (λ looks h knows w.
     let s = still h w in
-    let r = subst (λ x. RunsTo (arises mid) (arises last) (holds mid) (holds last) line x done) a runs looks h knows s.now in
+    let r = subst (λ x. RunsTo (arises mid) (arises last) (holds mid) (holds last) deed x done) a runs looks h knows s.now in
     record {
       now = r.now;
       kept = λ x o k. r.kept x o (s.kept x o k);
       answers = r.answers;
-      doubts = all_speak (holds from h) (holds mid h) s.kept (role_of line) (opened older).sight (with_postings done.turn.posted.items (happens looks line (opened older) h)) done.turn.ended.items r.doubts;
-    })))
+      doubts = all_speak (holds from h) (holds mid h) s.kept (role_for deed) (opened older).sight (with_postings done.turn.posted.items (happens looks deed (opened older) h)) done.turn.ended.items r.doubts;
+    }))))

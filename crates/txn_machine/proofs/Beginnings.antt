@@ -2,6 +2,7 @@
 use Rattle.std.proofs.Common.{◌≡◌, ◌≢◌, ℕ, suc, ◌+◌, ◌<◌, ◌≤◌, ◌⊎◌, inl, inr, Bool, true, false, ◌&&◌, ◌||◌, if◌then◌else◌, List, [], ◌∷◌, ◌++◌, Option, Some, None, length, nat_eq, slice_index_or, refl, sym, ap, ◌∙◌, subst, arith, length-append}
 use Rattle.std.proofs.lemmas.Bool.Decides.{nat_tests}
 use Rattle.txn_lines.specs.Lines.{line_at}
+use Rattle.txn_lines.specs.Deeds.{deed_of}
 use Rattle.txn_lines.specs.declared.line.Line.{Line}
 use Rattle.txn_report.specs.declared.outcome.Outcome.{Outcome}
 use Rattle.txn_side.specs.Sight.{Stand, client_at}
@@ -148,11 +149,11 @@ module _ (line : Line) (ls : List Line) (o o2 : ℕ → Outcome) (e e2 : ℕ →
         ap st (client_old line ls n (λ here. absurd (let a = ap client_at (sym (ap st here ∙ nothing_new.at)) in cc)))
         ∙ was.woven.clients n c h
 
-    calm_line : ((c : ℕ) → crashes line c ≡ false) → (c : ℕ) → is_crashed o2 (line ∷ ls) c ≡ is_crashed o ls c
+    calm_line : ((c : ℕ) → crashes (deed_of line) c ≡ false) → (c : ℕ) → is_crashed o2 (line ∷ ls) c ≡ is_crashed o ls c
     calm_line calm c = ap (λ (b : Bool). b && is_done (o2 (suc (length ls))) || is_crashed o2 ls c) (calm c) ∙ crashed_before c
 
     -- nothing stands at the new line
-    pub woven_idle : (crashed2 : List Bool) → length crashed2 ≡ length crashed → ((n c : ℕ) → st n ≡ IsClient c → slice_index_or crashed2 c true ≡ is_crashed o2 (line ∷ ls) n) → ((n : ℕ) → length (line ∷ ls) < n → crashes line n ≡ false) → AreWoven (line ∷ ls) o2 st crashed2
+    pub woven_idle : (crashed2 : List Bool) → length crashed2 ≡ length crashed → ((n c : ℕ) → st n ≡ IsClient c → slice_index_or crashed2 c true ≡ is_crashed o2 (line ∷ ls) n) → ((n : ℕ) → length (line ∷ ls) < n → crashes (deed_of line) n ≡ false) → AreWoven (line ∷ ls) o2 st crashed2
     woven_idle crashed2 count flags far = record {
       calling = was.woven.calling;
       called = was.woven.called;
@@ -163,10 +164,10 @@ module _ (line : Line) (ls : List Line) (o o2 : ℕ → Outcome) (e e2 : ℕ →
       ahead = λ n h. ap (λ (b : Bool). b && is_done (o2 (suc (length ls))) || is_crashed o2 ls n) (far n h) ∙ crashed_before n ∙ was.woven.ahead n (omega arith);
     }
 
-    pub woven_calm : ((c : ℕ) → crashes line c ≡ false) → AreWoven (line ∷ ls) o2 st crashed
+    pub woven_calm : ((c : ℕ) → crashes (deed_of line) c ≡ false) → AreWoven (line ∷ ls) o2 st crashed
     woven_calm calm = woven_idle crashed refl (λ n c h. was.woven.flags n c h ∙ sym (calm_line calm n)) (λ n h. calm n)
 
-    module _ (calm : (c : ℕ) → crashes line c ≡ false) (st2 : ℕ → Stand) (other : (j : ℕ) → j ≢ suc (length ls) → st2 j ≡ st j) where
+    module _ (calm : (c : ℕ) → crashes (deed_of line) c ≡ false) (st2 : ℕ → Stand) (other : (j : ℕ) → j ≢ suc (length ls) → st2 j ≡ st j) where
       kept : (j : ℕ) (s : Stand) → st j ≡ s → s ≢ Idle → st2 j ≡ s
       kept j s h some = other j (not_new j s h some) ∙ h
 
@@ -259,7 +260,7 @@ module _ (line : Line) (ls : List Line) (o o2 : ℕ → Outcome) (e e2 : ℕ →
           clients n c h (inr far) = kept (client_of (line ∷ ls) n) (IsClient c) (client_before n c (ap client_at (sym (other n far)) ∙ h)) (λ i. cc)
 
     -- the new line calls a transaction
-    pub woven_act : ((c : ℕ) → crashes line c ≡ false) → (st2 : ℕ → Stand) (d y : ℕ) (b : Bool) → role_of line ≡ UsesTransaction b y → st y ≡ HasBegun d 0 → st2 y ≡ HasBegun d (suc (length ls)) → st2 (suc (length ls)) ≡ Calling d y b
+    pub woven_act : ((c : ℕ) → crashes (deed_of line) c ≡ false) → (st2 : ℕ → Stand) (d y : ℕ) (b : Bool) → role_of line ≡ UsesTransaction b y → st y ≡ HasBegun d 0 → st2 y ≡ HasBegun d (suc (length ls)) → st2 (suc (length ls)) ≡ Calling d y b
         → ((j : ℕ) → j ≢ suc (length ls) → j ≢ y → st2 j ≡ st j) → AreWoven (line ∷ ls) o2 st2 crashed
     woven_act calm st2 d y b role free at_y here other = record {
       calling = λ n c x a h. calling n c x a h (same_line (suc (length ls)) n);

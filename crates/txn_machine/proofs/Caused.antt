@@ -2,6 +2,10 @@
 use Rattle.std.proofs.Common.{◌≡◌, ◌≢◌, ℕ, suc, ◌-◌, ◌≤◌, ◌⊎◌, inl, inr, Bool, true, false, not, ◌&&◌, ◌||◌, if◌then◌else◌, List, [], ◌∷◌, ◌++◌, Option, Some, None, length, set, nat_eq, nat_lt, slice_index_or, refl, sym, ap, ◌∙◌, subst, arith, length-append, length-set}
 use Rattle.std.proofs.lemmas.Bool.Decides.{nat_tests}
 use Rattle.txn_lines.specs.Lines.{line_at, why_after}
+use Rattle.txn_lines.specs.Deeds.{deed_of}
+use Rattle.txn_lines.specs.declared.deed.Deed.{Deed}
+use Rattle.txn_lines.specs.declared.deed.Deed.TheVariants as deeds
+use Rattle.txn_lines.specs.declared.happening.Happening.TheVariants as happenings
 use Rattle.txn_lines.specs.declared.line.Line.{Line}
 use Rattle.txn_lines.specs.declared.line.Line.TheVariants as lines
 use Rattle.txn_report.specs.declared.outcome.Outcome.{Outcome}
@@ -9,7 +13,7 @@ use Rattle.txn_report.specs.declared.outcome.Outcome.TheVariants.{Done, Err, Ok,
 use Rattle.txn_report.specs.declared.outcome.Payload.TheVariants.{Unit as Nothing}
 use Rattle.txn_side.specs.Sight.{EndsAlone, Sight, Stand, client_at, connected, crash, free, is_free, is_live, line_count, lives, outcomes_of, stand_at, with_stand, without}
 use Rattle.txn_side.specs.Sight.Stand.{Asking, Calling, HasBegun, Idle, IsClient}
-use Rattle.txn_machine.specs.Causes.{AllCallsMeet, CallMeets, Role, can_end, comes_at_once, crashes, ended_of, ends_at, is_crashed, is_idle, is_skipped, is_unfinished, known, known_of, may_wait, role_of}
+use Rattle.txn_machine.specs.Causes.{AllCallsMeet, CallMeets, Role, can_end, comes_at_once, crashes, ended_of, ends_at, is_crashed, is_idle, is_skipped, is_unfinished, known, known_of, may_wait, role_for, role_of}
 use Rattle.txn_machine.specs.Causes.Role.{AsksTime, MakesClient, NoCall, UsesTransaction}
 use Rattle.txn_machine.specs.Lists.{Lists, all_posted, at_line, followed, newest, opened, with_mail}
 use Rattle.txn_machine.specs.Rows.{AreRows, AreWoven, Row, outcome_in, role_in, stand_in}
@@ -63,28 +67,28 @@ known_past e n o most h = by (nat_eq e 0) refl
 
 -- The lists as the line itself leaves them.
 
-crash_calm : (line : Line) (c : ℕ) → role_of line ≢ NoCall → crashes line c ≡ false
-crash_calm (lines.Crash k) c h = absurd (h refl)
-crash_calm line c h = refl
+crash_calm : (deed : Deed) (c : ℕ) → role_for deed ≢ NoCall → crashes deed c ≡ false
+crash_calm (deeds.Happens (happenings.Crash k)) c h = absurd (h refl)
+crash_calm deed c h = refl
 
-calm_falls : (line : Line) (done : Bool) (s from : Sight) → ((k : ℕ) → line ≢ lines.Crash k) → Falls line done s from → from ≡ s
-calm_falls (lines.Crash k) done s from h f = absurd (h k refl)
-calm_falls line done s from h f = f
+calm_falls : (deed : Deed) (done : Bool) (s from : Sight) → ((k : ℕ) → deed ≢ deeds.Happens (happenings.Crash k)) → Falls deed done s from → from ≡ s
+calm_falls (deeds.Happens (happenings.Crash k)) done s from h f = absurd (h k refl)
+calm_falls deed done s from h f = f
 
-no_crash : (line : Line) (c : ℕ) → ((k : ℕ) → line ≢ lines.Crash k) → crashes line c ≡ false
-no_crash (lines.Crash k) c h = absurd (h k refl)
-no_crash line c h = refl
+no_crash : (deed : Deed) (c : ℕ) → ((k : ℕ) → deed ≢ deeds.Happens (happenings.Crash k)) → crashes deed c ≡ false
+no_crash (deeds.Happens (happenings.Crash k)) c h = absurd (h k refl)
+no_crash deed c h = refl
 
-which_crash : (line : Line) → ((k : ℕ) × (line ≡ lines.Crash k)) ⊎ ((k : ℕ) → line ≢ lines.Crash k)
-which_crash (lines.Crash k) = inl (k, refl)
-which_crash line = inr (λ k e. cc)
+which_crash : (deed : Deed) → ((k : ℕ) × (deed ≡ deeds.Happens (happenings.Crash k))) ⊎ ((k : ℕ) → deed ≢ deeds.Happens (happenings.Crash k))
+which_crash (deeds.Happens (happenings.Crash k)) = inl (k, refl)
+which_crash deed = inr (λ k e. cc)
 
-crash_falls : (line : Line) (k : ℕ) (done : Bool) (s from : Sight) → line ≡ lines.Crash k → Falls line done s from → (done ≡ is_live s k) × (from ≡ crash k s)
-crash_falls line k done s from e f = subst (λ l. Falls l done s from) e f
+crash_falls : (deed : Deed) (k : ℕ) (done : Bool) (s from : Sight) → deed ≡ deeds.Happens (happenings.Crash k) → Falls deed done s from → (done ≡ is_live s k) × (from ≡ crash k s)
+crash_falls deed k done s from e f = subst (λ l. Falls l done s from) e f
 
 module _ (line : Line) (ls : List Line) (old : Lists) (told : newest old ≡ length ls) (even : IsEven old) (good : why_after ls line ≡ None)
     (was : AreRows ls (λ n. outcome_of old.outcomes n) (λ n. ended_of old.ended n) (λ n. stand_at old.sight.stands n) old.sight.crashed)
-    (new : Lists) (c : Course line old new) where
+    (new : Lists) (c : Course (deed_of line) old new) where
   abbrev o : ℕ → Outcome
   o n = outcome_of old.outcomes n
 
@@ -183,8 +187,8 @@ module _ (line : Line) (ls : List Line) (old : Lists) (told : newest old ≡ len
   pub set_other : (x : Stand) (j : ℕ) → j ≢ suc (length ls) → stand_at (set s.stands (line_count s - 1) x) j ≡ st j
   set_other x j far = stand_other s.stands (line_count s) j x (let a = lined in omega arith) (λ h. far (h ∙ lined)) ∙ stand_opened old.sight.stands j
 
-  calm : role_of line ≢ NoCall → (k : ℕ) → crashes line k ≡ false
-  calm role k = crash_calm line k role
+  calm : role_of line ≢ NoCall → (k : ℕ) → crashes (deed_of line) k ≡ false
+  calm role k = crash_calm (deed_of line) k role
 
   -- nothing stands at the line, and these have crashed
   idle_rows : (r : Row) (x : Outcome) (crashed : List Bool) → c.own ≡ Some x → is_unfinished x ≡ false → role_in r ≡ role_of line → outcome_in r ≡ x → stand_in r ≡ Idle → AreWoven (line ∷ ls) o2 st crashed → AreRows (line ∷ ls) o2 e2 (λ n. stand_at s.stands n) crashed
@@ -192,7 +196,7 @@ module _ (line : Line) (ls : List Line) (old : Lists) (told : newest old ≡ len
       (begun_rows line ls o o2 e e2 st old.sight.crashed was apart st crashed (λ j far. inl refl)
       (opens_some r x (st (suc (length ls))) own role wait outcome (at ∙ sym (nothing_new line ls o o2 e e2 st old.sight.crashed was apart).at)) woven)
 
-  calm_woven : ((k : ℕ) → crashes line k ≡ false) → AreWoven (line ∷ ls) o2 st old.sight.crashed
+  calm_woven : ((k : ℕ) → crashes (deed_of line) k ≡ false) → AreWoven (line ∷ ls) o2 st old.sight.crashed
   calm_woven h = woven_calm line ls o o2 e e2 st old.sight.crashed was apart h
 
   skipped_rows : (r : Row) → role_in r ≡ role_of line → outcome_in r ≡ Skipped → stand_in r ≡ Idle → role_of line ≢ NoCall → (can : Bool) → IsIdle can c.own c.ended s c.from → Rows2 c.from
@@ -259,10 +263,10 @@ module _ (line : Line) (ls : List Line) (old : Lists) (told : newest old ≡ len
         | inr off ↦ inl (other j far off)
       ]
 
-  fallen : (k d : ℕ) → line ≡ lines.Crash k → line_at ls k ≡ Some lines.Client → st k ≡ IsClient d → (done : Bool) → c.own ≡ Some (done_if done) → done ≡ is_live s k → AreWoven (line ∷ ls) o2 st (set old.sight.crashed d true)
+  fallen : (k d : ℕ) → deed_of line ≡ deeds.Happens (happenings.Crash k) → line_at ls k ≡ Some lines.Client → st k ≡ IsClient d → (done : Bool) → c.own ≡ Some (done_if done) → done ≡ is_live s k → AreWoven (line ∷ ls) o2 st (set old.sight.crashed d true)
   fallen k d is named there done own live = woven_idle line ls o o2 e e2 st old.sight.crashed was apart (set old.sight.crashed d true) (length-set old.sight.crashed d true) (λ n a h. flags n a h (same_line k n)) (λ n h. off n (λ z. absurd (let q = (line_range ls k lines.Client named).1 in omega arith)))
     where
-      off : (n : ℕ) → n ≢ k → crashes line n ≡ false
+      off : (n : ℕ) → n ≢ k → crashes (deed_of line) n ≡ false
       off n far = ap (λ l. crashes l n) is ∙ (let q : nat_eq k n ≡ false = grind (arith, nat_tests) in q)
 
       happened : is_done (o2 (suc (length ls))) ≡ not (is_crashed o ls k)
@@ -281,7 +285,7 @@ module _ (line : Line) (ls : List Line) (old : Lists) (told : newest old ≡ len
       flags : (n a : ℕ) → st n ≡ IsClient a → (n ≡ k) ⊎ (n ≢ k) → slice_index_or (set old.sight.crashed d true) a true ≡ is_crashed o2 (line ∷ ls) n
       flags n a h (inl z) =
           let same : a ≡ d = client_is a d (sym h ∙ ap st z ∙ there) in
-          let at : crashes line n ≡ true = (λ i. crashes (is i) (z i)) ∙ (let q : nat_eq k k ≡ true = grind (arith, nat_tests) in q) in
+          let at : crashes (deed_of line) n ≡ true = (λ i. crashes (is i) (z i)) ∙ (let q : nat_eq k k ≡ true = grind (arith, nat_tests) in q) in
           let left : slice_index_or (set old.sight.crashed d true) a true ≡ true = ap (λ q. slice_index_or (set old.sight.crashed d true) q true) same ∙ or_same old.sight.crashed d true true (was.woven.below k d there) in
           let right : is_crashed o2 (line ∷ ls) n ≡ true = (λ i. at i && happened i || before n i) ∙ ap (λ q. true && not (is_crashed o ls k) || is_crashed o ls q) z ∙ either (is_crashed o ls k) in
           left ∙ sym right
@@ -289,15 +293,15 @@ module _ (line : Line) (ls : List Line) (old : Lists) (told : newest old ≡ len
           let right : is_crashed o2 (line ∷ ls) n ≡ is_crashed o ls n = λ i. off n far i && is_done (o2 (suc (length ls))) || before n i in
           or_other old.sight.crashed d a true true (λ z. far (was.woven.one n k d (h ∙ ap (λ q. IsClient q) z) there)) ∙ was.woven.flags n a h ∙ sym right
 
-  event_rows : role_of line ≡ NoCall → IsEvent line c.own c.ended s c.from → Rows2 c.from
-  event_rows role h = elim (which_crash line) [
+  event_rows : role_of line ≡ NoCall → IsEvent (deed_of line) c.own c.ended s c.from → Rows2 c.from
+  event_rows role h = elim (which_crash (deed_of line)) [
     | inl k ↦
-        let f = crash_falls line k.0 h.done s c.from k.1 h.falls in
-        let named = crash_names ls k.0 (subst (λ l. why_after ls l ≡ None) k.1 good) in
+        let f = crash_falls (deed_of line) k.0 h.done s c.from k.1 h.falls in
+        let named = crash_names ls line k.0 good k.1 in
         let there = client_there ls o e st old.sight.crashed was k.0 named in
         let gone : without (client_at (stand_at s.stands k.0)) old.sight.crashed ≡ set old.sight.crashed there.client true = ap (λ z. without (client_at z) old.sight.crashed) (stand_opened old.sight.stands k.0 ∙ there.is) in
         subst Rows2 (sym f.1) (subst (λ z. AreRows (line ∷ ls) o2 e2 (λ n. stand_at s.stands n) z) (sym gone) (rows (set old.sight.crashed there.client true) (fallen k.0 there.client k.1 named there.is h.done h.is f.0)))
-    | inr other ↦ subst Rows2 (sym (calm_falls line h.done s c.from other h.falls)) (rows old.sight.crashed (calm_woven (λ k. no_crash line k other)))
+    | inr other ↦ subst Rows2 (sym (calm_falls (deed_of line) h.done s c.from other h.falls)) (rows old.sight.crashed (calm_woven (λ k. no_crash (deed_of line) k other)))
   ]
     where
       rows : (crashed : List Bool) → AreWoven (line ∷ ls) o2 st crashed → AreRows (line ∷ ls) o2 e2 (λ n. stand_at s.stands n) crashed
@@ -306,7 +310,7 @@ module _ (line : Line) (ls : List Line) (old : Lists) (told : newest old ≡ len
   pub mid_rows : Rows2 c.from
   mid_rows = by (role_of line) refl (names ls line good) c.begins
     where
-      by : (r : Role) → role_of line ≡ r → Names ls r → Begins r line c.own c.ended s c.from → Rows2 c.from
+      by : (r : Role) → role_of line ≡ r → Names ls r → Begins r (deed_of line) c.own c.ended s c.from → Rows2 c.from
       by MakesClient role named h = made_rows role h
       by (AsksTime b k) role named h = elim h [
         | inl i ↦ skipped_rows (AskSkipped b k) (sym role) refl refl (λ z. let q = sym role ∙ z in cc) (is_live s k) i
@@ -314,7 +318,7 @@ module _ (line : Line) (ls : List Line) (old : Lists) (told : newest old ≡ len
       ]
       by (UsesTransaction b x) role named h = elim h [
         | inl i ↦ skipped_rows (CallSkipped b x) (sym role) refl refl (λ z. let q = sym role ∙ z in cc) (is_free s x) i
-        | inr a ↦ let range = line_range ls x (lines.Begin named.client named.options) named.is in called_rows b x role range.0 range.1 a
+        | inr a ↦ let range = line_range ls x named.line named.is in called_rows b x role range.0 range.1 a
       ]
       by NoCall role named h = event_rows role h
 
@@ -346,7 +350,7 @@ module _ (line : Line) (ls : List Line) (old : Lists) (told : newest old ≡ len
   ending : EndsAlone (suc (length ls)) c.ended ⊎ (ends_at (line ∷ ls) o2 (suc (length ls)) ≡ true)
   ending = by (role_of line) refl c.begins
     where
-      by : (r : Role) → role_of line ≡ r → Begins r line c.own c.ended s c.from → EndsAlone (suc (length ls)) c.ended ⊎ (ends_at (line ∷ ls) o2 (suc (length ls)) ≡ true)
+      by : (r : Role) → role_of line ≡ r → Begins r (deed_of line) c.own c.ended s c.from → EndsAlone (suc (length ls)) c.ended ⊎ (ends_at (line ∷ ls) o2 (suc (length ls)) ≡ true)
       by MakesClient role h = inl (ends_none h.none)
       by (AsksTime b k) role h = elim h [ inl i ↦ inl (ends_none i.none) | inr a ↦ inl (ends_own a.alone) ]
       by (UsesTransaction b x) role h = elim h [ inl i ↦ inl (ends_none i.none) | inr a ↦ inl (ends_own a.alone) ]
@@ -431,7 +435,7 @@ module _ (line : Line) (ls : List Line) (old : Lists) (told : newest old ≡ len
   skips : CallMeets o ls (role_of line) (o2 (suc (length ls)))
   skips = by (role_of line) refl (names ls line good) c.begins
     where
-      by : (r : Role) → role_of line ≡ r → Names ls r → Begins r line c.own c.ended s c.from → CallMeets o ls r (o2 (suc (length ls)))
+      by : (r : Role) → role_of line ≡ r → Names ls r → Begins r (deed_of line) c.own c.ended s c.from → CallMeets o ls r (o2 (suc (length ls)))
       by MakesClient role named h = ap is_skipped (some_here (Ok Nothing) h.is).0
       by (AsksTime b k) role named h = elim h [
         | inl i ↦ idle_so (is_live s k) (is_crashed o ls k) i (live_now k named)

@@ -3,8 +3,10 @@ use Rattle.std.proofs.Common.{◌≡◌, ℕ, zero, suc, ◌≤◌, inl, inr, Bo
 use Rattle.std.proofs.lemmas.Bool.Decides.{nat_tests}
 use Rattle.txn_kv.specs.declared.errors.Error.{Error}
 use Rattle.txn_lines.specs.Lines.{line_at}
+use Rattle.txn_lines.specs.Deeds.{deed_of}
+use Rattle.txn_lines.specs.declared.deed.Deed.{Deed}
+use Rattle.txn_lines.specs.declared.deed.Deed.TheVariants as deeds
 use Rattle.txn_lines.specs.declared.line.Line.{Line}
-use Rattle.txn_lines.specs.declared.line.Line.TheVariants as lines
 use Rattle.txn_report.specs.declared.outcome.Outcome.{Outcome}
 use Rattle.txn_report.specs.declared.outcome.Outcome.TheVariants.{Done, Err, Ok, Skipped, Unfinished}
 use Rattle.txn_report.specs.declared.outcome.Payload.TheVariants.{Unit as Nothing, Number, Commit as Committed}
@@ -12,10 +14,10 @@ use Rattle.txn_side.specs.Account.{Account, Status, after_act, awaited_line, clo
 use Rattle.txn_side.specs.Account.Status.{StartedRollback}
 use Rattle.txn_side.specs.Sight.{Stand, commits}
 use Rattle.txn_side.specs.Sight.Stand.{Asking, Calling, HasBegun, Idle, IsClient, Past, Working}
-use Rattle.txn_side.specs.declared.act.Act.{Act}
-use Rattle.txn_side.specs.declared.act.Act.TheVariants as acts
-use Rattle.txn_machine.specs.Accounts.{AccountMeets, AllAccountsMeet, AnswersIn, Ask, account_of, after_line, ask_of, closed_if}
-use Rattle.txn_machine.specs.Causes.{AllCallsMeet, CallMeets, Role, client_of, ended_of, is_busy, is_crashed, is_ok, is_skipped, is_unfinished, known, known_of, role_of, uses}
+use Rattle.txn_lines.specs.declared.act.Act.{Act}
+use Rattle.txn_side.proofs.Making.{made_later}
+use Rattle.txn_machine.specs.Accounts.{AccountMeets, AllAccountsMeet, AnswersIn, Ask, account_of, after_line, ask_for, ask_of, closed_if}
+use Rattle.txn_machine.specs.Causes.{AllCallsMeet, CallMeets, Role, client_of, ended_of, is_busy, is_crashed, is_ok, is_skipped, is_unfinished, known, known_of, role_for, role_of, uses}
 use Rattle.txn_machine.specs.Causes.Role.{UsesTransaction}
 use Rattle.txn_machine.specs.Rows.{AreRows}
 use Rattle.txn_machine.specs.Script.{outcome_of}
@@ -31,28 +33,12 @@ abbrev pub RoleBy : Option Ask → Role → Type 0
 RoleBy None role = (x : ℕ) → uses role x ≡ false
 RoleBy (Some ask) role = role ≡ UsesTransaction (commits ask.act) ask.transaction
 
-pub role_by : (line : Line) → RoleBy (ask_of line) (role_of line)
-role_by (lines.Put x key value) = refl
-role_by (lines.Insert x key value) = refl
-role_by (lines.Delete x key) = refl
-role_by (lines.Mutate x mutations) = refl
-role_by (lines.Lock x keys) = refl
-role_by (lines.Commit x) = refl
-role_by (lines.Rollback x) = refl
-role_by lines.Blank = λ x. refl
-role_by lines.Client = λ x. refl
-role_by (lines.Begin client options) = λ x. refl
-role_by (lines.Timestamp client) = λ x. refl
-role_by (lines.Serve t) = λ x. refl
-role_by (lines.Answer t) = λ x. refl
-role_by (lines.Deliver t) = λ x. refl
-role_by (lines.Lose t) = λ x. refl
-role_by (lines.Busy t) = λ x. refl
-role_by (lines.Wake t) = λ x. refl
-role_by (lines.Split key) = λ x. refl
-role_by (lines.Lead region store) = λ x. refl
-role_by (lines.Clock ms) = λ x. refl
-role_by (lines.Crash client) = λ x. refl
+pub role_by : (deed : Deed) → RoleBy (ask_for deed) (role_for deed)
+role_by (deeds.Use x act) = refl
+role_by deeds.Nothing = λ x. refl
+role_by deeds.Connect = λ x. refl
+role_by (deeds.Ask client act) = λ x. refl
+role_by (deeds.Happens what) = λ x. refl
 
 module _ (ask : Ask) (n x : ℕ) (o : Outcome) (e : ℕ) (account : Account) where
   pub line_apart : nat_eq ask.transaction x ≡ false → after_line (Some ask) n x o e account ≡ account
@@ -73,34 +59,13 @@ module _ (ask : Ask) (n x : ℕ) (o : Outcome) (e : ℕ) (account : Account) whe
 
 -- A call that ends later.
 
--- a rollback that ends later leaves the same status wherever it began
-rolled_again : (s : Status) (o : Outcome) → rolled_by false s o ≡ rolled_by false StartedRollback o
-rolled_again s (Ok Nothing) = refl
-rolled_again s (Ok (Number v)) = refl
-rolled_again s (Ok (Committed t)) = refl
-rolled_again s (Err e) = refl
-rolled_again s Unfinished = refl
-rolled_again s Done = refl
-rolled_again s Skipped = refl
-
 -- a call that was open and then ends makes of the account what it makes at once
 closed_later : (act : Act) (b : Bool) (o : Outcome) (account : Account) → refusal act account ≡ None → is_write act ≡ false → commits act ≡ b → closed_by b o (after_act act false Unfinished account) ≡ after_act act false o account
 closed_later act b o account free call same =
-    ap (closed_by b o) (made Unfinished) ∙ by act b call same ∙ sym (made o)
+    ap (closed_by b o) (made Unfinished) ∙ made_later act b o account call same ∙ sym (made o)
   where
     made : (p : Outcome) → after_act act false p account ≡ made_by act false p account
     made p = ap (λ why. unless_refused why account (made_by act false p account)) free
-
-    by : (act : Act) (b : Bool) → is_write act ≡ false → commits act ≡ b → closed_by b o (made_by act false Unfinished account) ≡ made_by act false o account
-    by acts.Commit true h k = refl
-    by acts.Commit false h k = absurd (cc)
-    by acts.Rollback true h k = absurd (cc)
-    by acts.Rollback false h k = ap (λ s. record account { status = s }) (sym (rolled_again account.status o))
-    by (acts.Put key value) b h k = absurd (cc)
-    by (acts.Insert key value) b h k = absurd (cc)
-    by (acts.Delete key) b h k = absurd (cc)
-    by (acts.Mutate mutations) b h k = absurd (cc)
-    by (acts.Lock keys) b h k = absurd (cc)
 
 -- what is open is neither refused nor a write
 record IsOpen (act : Act) (why : Option Error) : Type 0 where
@@ -192,7 +157,7 @@ module _ (ls : List Line) (outs outs2 : List Outcome) (ended ended2 : List ℕ) 
     -- and where none of the transaction is open
     calm_same : (zs : List Line) → length zs ≤ length ls → (x : ℕ) → is_busy (λ n. o n) zs x ≡ false → after zs x ≡ before zs x
     calm_same [] low x calm = refl
-    calm_same (z ∷ zs) low x calm = by (ask_of z) (role_by z) (calm_same zs (omega arith) x parts.1)
+    calm_same (z ∷ zs) low x calm = by (ask_of z) (role_by (deed_of z)) (calm_same zs (omega arith) x parts.1)
       where
         n : ℕ
         n = suc (length zs)
@@ -239,7 +204,7 @@ module _ (ls : List Line) (outs outs2 : List Outcome) (ended ended2 : List ℕ) 
 
     pub accounts_still : (zs : List Line) → length zs ≤ length ls → AllCallsMeet outs ended zs → AllAccountsMeet outs ended zs → AllAccountsMeet outs2 ended2 zs
     accounts_still [] low calls meets = tt
-    accounts_still (z ∷ zs) low calls meets = (by (ask_of z) (role_by z) meets.0, accounts_still zs (omega arith) calls.1 meets.1)
+    accounts_still (z ∷ zs) low calls meets = (by (ask_of z) (role_by (deed_of z)) meets.0, accounts_still zs (omega arith) calls.1 meets.1)
       where
         n : ℕ
         n = suc (length zs)
@@ -331,7 +296,7 @@ module _ (ls : List Line) (outs outs2 : List Outcome) (ended ended2 : List ℕ) 
     busy_gone : (zs : List Line) → length zs ≤ length ls → ((j : ℕ) (l : Line) → line_at zs j ≡ Some l → line_at ls j ≡ Some l) → AllCallsMeet outs ended zs → AllAccountsMeet outs ended zs → (x : ℕ) → is_busy (λ n. o n) zs x ≡ true → after zs x ≡ gone x (before zs x)
     busy_gone [] low among calls meets x busy = absurd (cc)
     busy_gone (z ∷ zs) low among calls meets x busy =
-        by (ask_of z) (role_by z) meets.0
+        by (ask_of z) (role_by (deed_of z)) meets.0
         (λ h. busy_gone zs (omega arith) (λ j l there. let most = (line_range zs j l there).1 in among j l (line_old z zs j (λ here. absurd (omega arith)) ∙ there)) calls.1 meets.1 x h)
       where
         n : ℕ

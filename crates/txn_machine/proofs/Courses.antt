@@ -4,8 +4,10 @@ use Rattle.std.specs.List.{All}
 use Rattle.txn_kv.specs.declared.reply.Reply.{Reply}
 use Rattle.txn_kv.specs.declared.ticket.Ticket.{Ticket}
 use Rattle.txn_history.specs.Busy.{busy_reply}
-use Rattle.txn_lines.specs.declared.line.Line.{Line}
-use Rattle.txn_lines.specs.declared.line.Line.TheVariants as lines
+use Rattle.txn_lines.specs.Deeds.{begins}
+use Rattle.txn_lines.specs.declared.deed.Deed.{Deed}
+use Rattle.txn_lines.specs.declared.deed.Deed.TheVariants as deeds
+use Rattle.txn_lines.specs.declared.happening.Happening.TheVariants as happenings
 use Rattle.txn_model.specs.Regions.{at_clock, can_lead, can_split, lead, split}
 use Rattle.txn_post.specs.Mail.{Mail, as_sent, as_slept, can_be_served, changing, delivering, found_awaited, found_lasting, found_unserved, is_awaited, is_lasting, keeping, letter_at, losing, only, place_of, refusing, taking, waking}
 use Rattle.txn_post.specs.declared.letter.Letter.{Letter}
@@ -14,17 +16,16 @@ use Rattle.txn_report.specs.declared.outcome.Outcome.TheVariants.{Done, Ok, Skip
 use Rattle.txn_report.specs.declared.outcome.Payload.TheVariants.{Unit as Nothing}
 use Rattle.txn_side.specs.Sight.{Acts, Asks, EndsAlone, Goes, IsGiven, LineGoes, Names, NoneGiven, Sight, Stand, client_at, commits, connected, crash, is_free, is_live, line_count, stand_at, with_stand}
 use Rattle.txn_side.specs.Sight.Stand.{Asking, Calling, HasBegun, Idle, IsClient, Past, Working}
-use Rattle.txn_side.specs.declared.act.Act.{Act}
-use Rattle.txn_side.specs.declared.act.Act.TheVariants as acts
+use Rattle.txn_lines.specs.declared.act.Act.{Act}
 use Rattle.txn_side.specs.declared.turn.Ending.{Ending}
 use Rattle.txn_side.specs.declared.turn.Posting.{Posting}
 use Rattle.txn_side.specs.declared.turn.Turn.{Turn}
-use Rattle.txn_machine.specs.Causes.{Role, role_of, tells}
+use Rattle.txn_machine.specs.Causes.{Role, role_for, tells}
 use Rattle.txn_machine.specs.Causes.Role.{AsksTime, MakesClient, NoCall, UsesTransaction}
 use Rattle.txn_machine.specs.Lists.{Lists, fated, followed, handled, opened, outright, reply_at, request_at, with_mail, with_sight, with_store}
 use Rattle.txn_machine.specs.Running.{with_own}
 use Rattle.txn_machine.specs.Script.{is_done}
-use Rattle.txn_machine.specs.Steps.{Answers, AtPlace, Delivers, Hears, IfServable, IsBusy, Loses, Refuses, Serves, Steps, Takes, Wakes, called, does_it, done_if, found_asleep, found_out, skipped, test_at}
+use Rattle.txn_machine.specs.Steps.{Answers, AtPlace, Delivers, Does, Hears, IfServable, IsBusy, Loses, Refuses, Serves, Takes, Wakes, called, does_it, done_if, found_asleep, found_out, skipped, test_at}
 
 -- it is skipped, and the clients stay as they were
 pub record IsIdle (can : Bool) (own : Option Outcome) (ended : List Ending) (s from : Sight) : Type 0 where
@@ -50,26 +51,26 @@ pub record IsCalled (x : ℕ) (b : Bool) (own : Option Outcome) (ended : List En
   pub alone : EndsAlone (line_count s) ended
 
 -- a client that a line names is gone
-abbrev pub Falls : Line → Bool → Sight → Sight → Type 0
-Falls (lines.Crash k) d s from = (d ≡ is_live s k) × (from ≡ crash k s)
-Falls line d s from = from ≡ s
+abbrev pub Falls : Deed → Bool → Sight → Sight → Type 0
+Falls (deeds.Happens (happenings.Crash k)) d s from = (d ≡ is_live s k) × (from ≡ crash k s)
+Falls deed d s from = from ≡ s
 
-pub record IsEvent (line : Line) (own : Option Outcome) (ended : List Ending) (s from : Sight) : Type 0 where
+pub record IsEvent (deed : Deed) (own : Option Outcome) (ended : List Ending) (s from : Sight) : Type 0 where
   pub done : Bool
   pub is : own ≡ Some (done_if done)
-  pub falls : Falls line done s from
-  pub ends : (ended ≡ []) ⊎ ((done ≡ true) × (tells line ≡ true))
+  pub falls : Falls deed done s from
+  pub ends : (ended ≡ []) ⊎ ((done ≡ true) × (tells deed ≡ true))
 
 pub record IsMade (own : Option Outcome) (ended : List Ending) (s from : Sight) : Type 0 where
   pub is : own ≡ Some (Ok Nothing)
   pub begun : from ≡ connected s
   pub none : ended ≡ []
 
-abbrev pub Begins : Role → Line → Option Outcome → List Ending → Sight → Sight → Type 0
-Begins MakesClient line own ended s from = IsMade own ended s from
-Begins (AsksTime b k) line own ended s from = IsIdle (is_live s k) own ended s from ⊎ IsAsked k b own ended s from
-Begins (UsesTransaction b x) line own ended s from = IsIdle (is_free s x) own ended s from ⊎ IsCalled x b own ended s from
-Begins NoCall line own ended s from = IsEvent line own ended s from
+abbrev pub Begins : Role → Deed → Option Outcome → List Ending → Sight → Sight → Type 0
+Begins MakesClient deed own ended s from = IsMade own ended s from
+Begins (AsksTime b k) deed own ended s from = IsIdle (is_live s k) own ended s from ⊎ IsAsked k b own ended s from
+Begins (UsesTransaction b x) deed own ended s from = IsIdle (is_free s x) own ended s from ⊎ IsCalled x b own ended s from
+Begins NoCall deed own ended s from = IsEvent deed own ended s from
 
 -- What an event does.
 
@@ -100,15 +101,15 @@ pub record Wakened (t : Ticket) (l : Lists) (mail : Mail) : Type 0 where
   pub is : mail ≡ waking place l.mail
 
 -- what a line that is done, or not, makes of the mail
-abbrev pub MailGoes : Bool → Line → Lists → Mail → Type 0
-MailGoes false line l mail = mail ≡ l.mail
-MailGoes true (lines.Serve t) l mail = Changes t (λ k. keeping (reply_at l k)) l mail
-MailGoes true (lines.Answer t) l mail = Answered t l mail
-MailGoes true (lines.Deliver t) l mail = Changes t (λ k. delivering) l mail
-MailGoes true (lines.Lose t) l mail = Changes t (λ k. losing) l mail
-MailGoes true (lines.Busy t) l mail = Busied t l mail
-MailGoes true (lines.Wake t) l mail = Wakened t l mail
-MailGoes true line l mail = mail ≡ l.mail
+abbrev pub MailGoes : Bool → Deed → Lists → Mail → Type 0
+MailGoes false deed l mail = mail ≡ l.mail
+MailGoes true (deeds.Happens (happenings.Serve t)) l mail = Changes t (λ k. keeping (reply_at l k)) l mail
+MailGoes true (deeds.Happens (happenings.Answer t)) l mail = Answered t l mail
+MailGoes true (deeds.Happens (happenings.Deliver t)) l mail = Changes t (λ k. delivering) l mail
+MailGoes true (deeds.Happens (happenings.Lose t)) l mail = Changes t (λ k. losing) l mail
+MailGoes true (deeds.Happens (happenings.Busy t)) l mail = Busied t l mail
+MailGoes true (deeds.Happens (happenings.Wake t)) l mail = Wakened t l mail
+MailGoes true deed l mail = mail ≡ l.mail
 
 -- a reply to the request that the ticket names, of which the clients are told, gives a line a timestamp
 pub record IsTold (Replies : ℕ → Reply → Type 0) (t : Ticket) (l : Lists) (n version : ℕ) : Type 0 where
@@ -119,19 +120,19 @@ pub record IsTold (Replies : ℕ → Reply → Type 0) (t : Ticket) (l : Lists) 
   pub given : IsGiven l.sight t reply n version
 
 -- what a line that is done, or not, gives a line
-abbrev pub Given : Bool → Line → Lists → ℕ → ℕ → Type 0
-Given false line l n version = ⊥
-Given true (lines.Answer t) l n version = IsTold (λ k o. ((letter_at l.mail k).awaited ≡ true) × ((letter_at l.mail k).kept ≡ Some o)) t l n version
-Given true (lines.Deliver t) l n version = IsTold (λ k o. o ≡ reply_at l k) t l n version
-Given true (lines.Busy t) l n version = IsTold (λ k o. busy_reply (request_at l k) ≡ Some o) t l n version
-Given true line l n version = ⊥
+abbrev pub Given : Bool → Deed → Lists → ℕ → ℕ → Type 0
+Given false deed l n version = ⊥
+Given true (deeds.Happens (happenings.Answer t)) l n version = IsTold (λ k o. ((letter_at l.mail k).awaited ≡ true) × ((letter_at l.mail k).kept ≡ Some o)) t l n version
+Given true (deeds.Happens (happenings.Deliver t)) l n version = IsTold (λ k o. o ≡ reply_at l k) t l n version
+Given true (deeds.Happens (happenings.Busy t)) l n version = IsTold (λ k o. busy_reply (request_at l k) ≡ Some o) t l n version
+Given true deed l n version = ⊥
 
 abbrev pub own_done : Option Outcome → Bool
 own_done None = false
 own_done (Some o) = is_done o
 
 -- The line begins from the lists that were, and what it comes to is followed by what the clients do.
-pub record Course (line : Line) (old new : Lists) : Type 0 where
+pub record Course (deed : Deed) (old new : Lists) : Type 0 where
   pub own : Option Outcome
   pub mid : Lists
   pub posted : List Posting
@@ -141,10 +142,10 @@ pub record Course (line : Line) (old new : Lists) : Type 0 where
   pub outcomes : mid.outcomes ≡ (with_own own (opened old)).outcomes
   pub ends : mid.ended ≡ (with_own own (opened old)).ended
   pub goes : Goes posted ended from mid.sight
-  pub begins : Begins (role_of line) line own ended (opened old).sight from
-  pub sure : role_of line ≡ NoCall → own ≡ Some (done_if (does_it line (opened old)))
-  pub mails : MailGoes (own_done own) line (opened old) mid.mail
-  pub times : All (Names (Given (own_done own) line (opened old))) ended
+  pub begins : Begins (role_for deed) deed own ended (opened old).sight from
+  pub sure : role_for deed ≡ NoCall → own ≡ Some (done_if (does_it deed (opened old)))
+  pub mails : MailGoes (own_done own) deed (opened old) mid.mail
+  pub times : All (Names (Given (own_done own) deed (opened old))) ended
 
 line_stays : (n : ℕ) (s : Stand) → LineGoes [] n s s
 line_stays n Idle = (refl, refl)
@@ -168,9 +169,9 @@ only_there p (Some j) k e = by (p j) refl e
 
 module _ (old : Lists) where
   -- the outcome comes at once, and the clients do nothing more
-  at_once : (line : Line) (y new : Lists) (o : Outcome) → new ≡ outright o y → y.outcomes ≡ (opened old).outcomes → y.ended ≡ (opened old).ended → Begins (role_of line) line (Some o) [] (opened old).sight y.sight
-      → (role_of line ≡ NoCall → ◌≡◌ {A = Option Outcome} (Some o) (Some (done_if (does_it line (opened old))))) → MailGoes (is_done o) line (opened old) y.mail → Course line old new
-  at_once line y new o is outs ends begins sure mails = record {
+  at_once : (deed : Deed) (y new : Lists) (o : Outcome) → new ≡ outright o y → y.outcomes ≡ (opened old).outcomes → y.ended ≡ (opened old).ended → Begins (role_for deed) deed (Some o) [] (opened old).sight y.sight
+      → (role_for deed ≡ NoCall → ◌≡◌ {A = Option Outcome} (Some o) (Some (done_if (does_it deed (opened old))))) → MailGoes (is_done o) deed (opened old) y.mail → Course deed old new
+  at_once deed y new o is outs ends begins sure mails = record {
     own = Some o;
     mid = outright o y;
     posted = [];
@@ -187,14 +188,14 @@ module _ (old : Lists) where
   }
 
   -- an event that could do nothing
-  missed : (line : Line) (new : Lists) → role_of line ≡ NoCall → ((s : Sight) → Falls line false s s) → does_it line (opened old) ≡ false → new ≡ skipped (opened old) → Course line old new
-  missed line new role falls cannot is = at_once line (opened old) new Skipped is refl refl
-      (subst (λ r. Begins r line (Some Skipped) [] (opened old).sight (opened old).sight) (sym role) (record { done = false; is = refl; falls = falls (opened old).sight; ends = inl refl }))
+  missed : (deed : Deed) (new : Lists) → role_for deed ≡ NoCall → ((s : Sight) → Falls deed false s s) → does_it deed (opened old) ≡ false → new ≡ skipped (opened old) → Course deed old new
+  missed deed new role falls cannot is = at_once deed (opened old) new Skipped is refl refl
+      (subst (λ r. Begins r deed (Some Skipped) [] (opened old).sight (opened old).sight) (sym role) (record { done = false; is = refl; falls = falls (opened old).sight; ends = inl refl }))
       (λ r. ap (λ b. Some (done_if b)) (sym cannot)) refl
 
   -- an event of which the clients hear
-  heard : (Gives : ℕ → ℕ → Type 0) (line : Line) (y new : Lists) → ((n version : ℕ) → Gives n version → Given true line (opened old) n version) → role_of line ≡ NoCall → ((s : Sight) → Falls line true s s) → tells line ≡ true → y.outcomes ≡ (opened old).outcomes → y.ended ≡ (opened old).ended → y.sight ≡ (opened old).sight → does_it line (opened old) ≡ true → MailGoes true line (opened old) y.mail → Hears Gives y new → Course line old new
-  heard Gives line y new gives role falls tell outs ends sight can mails c = record {
+  heard : (Gives : ℕ → ℕ → Type 0) (deed : Deed) (y new : Lists) → ((n version : ℕ) → Gives n version → Given true deed (opened old) n version) → role_for deed ≡ NoCall → ((s : Sight) → Falls deed true s s) → tells deed ≡ true → y.outcomes ≡ (opened old).outcomes → y.ended ≡ (opened old).ended → y.sight ≡ (opened old).sight → does_it deed (opened old) ≡ true → MailGoes true deed (opened old) y.mail → Hears Gives y new → Course deed old new
+  heard Gives deed y new gives role falls tell outs ends sight can mails c = record {
     own = Some Done;
     mid = outright Done (with_sight c.sight y);
     posted = c.posted;
@@ -204,18 +205,18 @@ module _ (old : Lists) where
     outcomes = ap (λ os. (outright Done (record y { outcomes = os })).outcomes) outs;
     ends = λ i. (outright Done (record y { outcomes = outs i; ended = ends i })).ended;
     goes = c.goes;
-    begins = subst (λ r. Begins r line (Some Done) c.ended (opened old).sight y.sight) (sym role)
-        (record { done = true; is = refl; falls = subst (λ s. Falls line true (opened old).sight s) (sym sight) (falls (opened old).sight); ends = inr (refl, tell) });
+    begins = subst (λ r. Begins r deed (Some Done) c.ended (opened old).sight y.sight) (sym role)
+        (record { done = true; is = refl; falls = subst (λ s. Falls deed true (opened old).sight s) (sym sight) (falls (opened old).sight); ends = inr (refl, tell) });
     sure = λ r. ap (λ b. Some (done_if b)) (sym can);
     mails = mails;
     times = λ k d low version e. gives (get_or c.ended k d).line version (c.times k d low version e);
   }
 
-  asks : (line : Line) (b : Bool) (k : ℕ) (new : Lists) (s : Sight) (turn : Option Turn) → role_of line ≡ AsksTime b k → Asks b k (opened old).sight s turn → new ≡ called turn (with_sight s (opened old)) → Course line old new
-  asks line b k new s None role a is = at_once line (with_sight s (opened old)) new Skipped is refl refl
-      (subst (λ r. Begins r line (Some Skipped) [] (opened old).sight s) (sym role) (inl (record { is = refl; cannot = a.0; same = a.1; none = refl })))
+  asks : (deed : Deed) (b : Bool) (k : ℕ) (new : Lists) (s : Sight) (turn : Option Turn) → role_for deed ≡ AsksTime b k → Asks b k (opened old).sight s turn → new ≡ called turn (with_sight s (opened old)) → Course deed old new
+  asks deed b k new s None role a is = at_once deed (with_sight s (opened old)) new Skipped is refl refl
+      (subst (λ r. Begins r deed (Some Skipped) [] (opened old).sight s) (sym role) (inl (record { is = refl; cannot = a.0; same = a.1; none = refl })))
       (λ r. absurd (let z = sym role ∙ r in cc)) refl
-  asks line b k new s (Some turn) role a is = record {
+  asks deed b k new s (Some turn) role a is = record {
     own = None;
     mid = with_sight s (opened old);
     posted = turn.posted.items;
@@ -225,18 +226,18 @@ module _ (old : Lists) where
     outcomes = refl;
     ends = refl;
     goes = a.3;
-    begins = subst (λ r. Begins r line None turn.ended.items (opened old).sight (with_stand (line_count (opened old).sight) (Asking a.0 b) (opened old).sight)) (sym role)
+    begins = subst (λ r. Begins r deed None turn.ended.items (opened old).sight (with_stand (line_count (opened old).sight) (Asking a.0 b) (opened old).sight)) (sym role)
         (inr (record { client = a.0; is = refl; there = a.1; can = a.2; begun = refl; alone = a.4 }));
     sure = λ r. absurd (let z = sym role ∙ r in cc);
     mails = refl;
     times = a.5;
   }
 
-  acts_so : (line : Line) (act : Act) (b : Bool) (x : ℕ) (new : Lists) (s : Sight) (turn : Option Turn) → role_of line ≡ UsesTransaction b x → commits act ≡ b → Acts act x (opened old).sight s turn → new ≡ called turn (with_sight s (opened old)) → Course line old new
-  acts_so line act b x new s None role kind a is = at_once line (with_sight s (opened old)) new Skipped is refl refl
-      (subst (λ r. Begins r line (Some Skipped) [] (opened old).sight s) (sym role) (inl (record { is = refl; cannot = a.0; same = a.1; none = refl })))
+  acts_so : (deed : Deed) (act : Act) (b : Bool) (x : ℕ) (new : Lists) (s : Sight) (turn : Option Turn) → role_for deed ≡ UsesTransaction b x → commits act ≡ b → Acts act x (opened old).sight s turn → new ≡ called turn (with_sight s (opened old)) → Course deed old new
+  acts_so deed act b x new s None role kind a is = at_once deed (with_sight s (opened old)) new Skipped is refl refl
+      (subst (λ r. Begins r deed (Some Skipped) [] (opened old).sight s) (sym role) (inl (record { is = refl; cannot = a.0; same = a.1; none = refl })))
       (λ r. absurd (let z = sym role ∙ r in cc)) refl
-  acts_so line act b x new s (Some turn) role kind a is = record {
+  acts_so deed act b x new s (Some turn) role kind a is = record {
     own = None;
     mid = with_sight s (opened old);
     posted = turn.posted.items;
@@ -246,7 +247,7 @@ module _ (old : Lists) where
     outcomes = refl;
     ends = refl;
     goes = subst (λ (k : Bool). Goes turn.posted.items turn.ended.items (with_stand (line_count (opened old).sight) (Calling a.0 x k) (with_stand x (HasBegun a.0 (line_count (opened old).sight)) (opened old).sight)) s) kind a.3;
-    begins = subst (λ r. Begins r line None turn.ended.items (opened old).sight calling) (sym role)
+    begins = subst (λ r. Begins r deed None turn.ended.items (opened old).sight calling) (sym role)
         (inr (record { client = a.0; is = refl; free = a.1; can = a.2; begun = refl; alone = a.4 }));
     sure = λ r. absurd (let z = sym role ∙ r in cc);
     mails = refl;
@@ -271,95 +272,88 @@ module _ (old : Lists) where
       by true f = (only_there (λ j. is_lasting (opened old).mail j) (as_slept (place_of (opened old).mail.tickets t)) k f).0
       by false f = absurd (cc)
 
-  answers : (t : Ticket) (o : Option ℕ) (new : Lists) → found_out (opened old) t ≡ o → AtPlace o (Answers t) (opened old) new → Course (lines.Answer t) old new
-  answers t None new e h = missed (lines.Answer t) new refl (λ s. refl) (ap (λ z. test_at (λ k. is_some (letter_at (opened old).mail k).kept) z) e) h
+  answers : (t : Ticket) (o : Option ℕ) (new : Lists) → found_out (opened old) t ≡ o → AtPlace o (Answers t) (opened old) new → Course (deeds.Happens (happenings.Answer t)) old new
+  answers t None new e h = missed (deeds.Happens (happenings.Answer t)) new refl (λ s. refl) (ap (λ z. test_at (λ k. is_some (letter_at (opened old).mail k).kept) z) e) h
   answers t (Some place) new e h = by (letter_at (opened old).mail place).kept refl h
     where
-      can : does_it (lines.Answer t) (opened old) ≡ is_some (letter_at (opened old).mail place).kept
+      can : does_it (deeds.Happens (happenings.Answer t)) (opened old) ≡ is_some (letter_at (opened old).mail place).kept
       can = ap (λ z. test_at (λ k. is_some (letter_at (opened old).mail k).kept) z) e
 
-      by : (kept : Option Reply) → (letter_at (opened old).mail place).kept ≡ kept → Takes t place kept (opened old) new → Course (lines.Answer t) old new
-      by None k g = missed (lines.Answer t) new refl (λ s. refl) (can ∙ ap is_some k) g
-      by (Some o) k g = heard (IsGiven (opened old).sight t o) (lines.Answer t) (fated taking place (opened old)) new
+      by : (kept : Option Reply) → (letter_at (opened old).mail place).kept ≡ kept → Takes t place kept (opened old) new → Course (deeds.Happens (happenings.Answer t)) old new
+      by None k g = missed (deeds.Happens (happenings.Answer t)) new refl (λ s. refl) (can ∙ ap is_some k) g
+      by (Some o) k g = heard (IsGiven (opened old).sight t o) (deeds.Happens (happenings.Answer t)) (fated taking place (opened old)) new
           (λ n version given. let there = out_there t place e in record { place = place; sent = there.0; reply = o; is = (there.1, k); given = given }) refl (λ s. refl) refl refl refl refl (can ∙ ap is_some k)
           (let there = out_there t place e in record { place = place; sent = there.0; awaited = there.1; reply = o; kept = k; is = refl }) g
 
-  delivers : (t : Ticket) (o : Option ℕ) (new : Lists) → found_out (opened old) t ≡ o → AtPlace o (Delivers t) (opened old) new → Course (lines.Deliver t) old new
-  delivers t None new e h = missed (lines.Deliver t) new refl (λ s. refl) (ap (λ z. test_at (λ k. can_be_served (opened old).mail k) z) e) h
+  delivers : (t : Ticket) (o : Option ℕ) (new : Lists) → found_out (opened old) t ≡ o → AtPlace o (Delivers t) (opened old) new → Course (deeds.Happens (happenings.Deliver t)) old new
+  delivers t None new e h = missed (deeds.Happens (happenings.Deliver t)) new refl (λ s. refl) (ap (λ z. test_at (λ k. can_be_served (opened old).mail k) z) e) h
   delivers t (Some place) new e h = by (can_be_served (opened old).mail place) refl h
     where
-      can : does_it (lines.Deliver t) (opened old) ≡ can_be_served (opened old).mail place
+      can : does_it (deeds.Happens (happenings.Deliver t)) (opened old) ≡ can_be_served (opened old).mail place
       can = ap (λ z. test_at (λ k. can_be_served (opened old).mail k) z) e
 
-      by : (b : Bool) → can_be_served (opened old).mail place ≡ b → IfServable b (λ l x. Hears (IsGiven l.sight t (reply_at l place)) (fated delivering place (handled t place l)) x) (opened old) new → Course (lines.Deliver t) old new
-      by false k g = missed (lines.Deliver t) new refl (λ s. refl) (can ∙ k) g
-      by true k g = heard (IsGiven (opened old).sight t (reply_at (opened old) place)) (lines.Deliver t) (fated delivering place (handled t place (opened old))) new
+      by : (b : Bool) → can_be_served (opened old).mail place ≡ b → IfServable b (λ l x. Hears (IsGiven l.sight t (reply_at l place)) (fated delivering place (handled t place l)) x) (opened old) new → Course (deeds.Happens (happenings.Deliver t)) old new
+      by false k g = missed (deeds.Happens (happenings.Deliver t)) new refl (λ s. refl) (can ∙ k) g
+      by true k g = heard (IsGiven (opened old).sight t (reply_at (opened old) place)) (deeds.Happens (happenings.Deliver t)) (fated delivering place (handled t place (opened old))) new
           (λ n version given. record { place = place; sent = (out_there t place e).0; reply = reply_at (opened old) place; is = refl; given = given }) refl (λ s. refl) refl refl refl refl (can ∙ k)
           (record { place = place; sent = (out_there t place e).0; is = refl }) g
 
-  busies : (t : Ticket) (o : Option ℕ) (new : Lists) → found_out (opened old) t ≡ o → AtPlace o (IsBusy t) (opened old) new → Course (lines.Busy t) old new
-  busies t None new e h = missed (lines.Busy t) new refl (λ s. refl) (ap (λ z. test_at (λ k. can_be_served (opened old).mail k && is_some (busy_reply (request_at (opened old) k))) z) e) h
+  busies : (t : Ticket) (o : Option ℕ) (new : Lists) → found_out (opened old) t ≡ o → AtPlace o (IsBusy t) (opened old) new → Course (deeds.Happens (happenings.Busy t)) old new
+  busies t None new e h = missed (deeds.Happens (happenings.Busy t)) new refl (λ s. refl) (ap (λ z. test_at (λ k. can_be_served (opened old).mail k && is_some (busy_reply (request_at (opened old) k))) z) e) h
   busies t (Some place) new e h = by (can_be_served (opened old).mail place) refl h
     where
-      can : does_it (lines.Busy t) (opened old) ≡ (can_be_served (opened old).mail place && is_some (busy_reply (request_at (opened old) place)))
+      can : does_it (deeds.Happens (happenings.Busy t)) (opened old) ≡ (can_be_served (opened old).mail place && is_some (busy_reply (request_at (opened old) place)))
       can = ap (λ z. test_at (λ k. can_be_served (opened old).mail k && is_some (busy_reply (request_at (opened old) k))) z) e
 
-      refuses : (reply : Option Reply) → can_be_served (opened old).mail place ≡ true → busy_reply (request_at (opened old) place) ≡ reply → Refuses t place reply (opened old) new → Course (lines.Busy t) old new
-      refuses None k r g = missed (lines.Busy t) new refl (λ s. refl) (can ∙ (λ i. k i && is_some (r i))) g
-      refuses (Some o) k r g = heard (IsGiven (opened old).sight t o) (lines.Busy t) (fated refusing place (opened old)) new
+      refuses : (reply : Option Reply) → can_be_served (opened old).mail place ≡ true → busy_reply (request_at (opened old) place) ≡ reply → Refuses t place reply (opened old) new → Course (deeds.Happens (happenings.Busy t)) old new
+      refuses None k r g = missed (deeds.Happens (happenings.Busy t)) new refl (λ s. refl) (can ∙ (λ i. k i && is_some (r i))) g
+      refuses (Some o) k r g = heard (IsGiven (opened old).sight t o) (deeds.Happens (happenings.Busy t)) (fated refusing place (opened old)) new
           (λ n version given. record { place = place; sent = (out_there t place e).0; reply = o; is = r; given = given }) refl (λ s. refl) refl refl refl refl (can ∙ (λ i. k i && is_some (r i)))
           (record { place = place; sent = (out_there t place e).0; reply = o; busy = r; is = refl }) g
 
-      by : (b : Bool) → can_be_served (opened old).mail place ≡ b → IfServable b (λ l x. Refuses t place (busy_reply (request_at l place)) l x) (opened old) new → Course (lines.Busy t) old new
-      by false k g = missed (lines.Busy t) new refl (λ s. refl) (can ∙ ap (λ b. b && is_some (busy_reply (request_at (opened old) place))) k) g
+      by : (b : Bool) → can_be_served (opened old).mail place ≡ b → IfServable b (λ l x. Refuses t place (busy_reply (request_at l place)) l x) (opened old) new → Course (deeds.Happens (happenings.Busy t)) old new
+      by false k g = missed (deeds.Happens (happenings.Busy t)) new refl (λ s. refl) (can ∙ ap (λ b. b && is_some (busy_reply (request_at (opened old) place))) k) g
       by true k g = refuses (busy_reply (request_at (opened old) place)) k refl g
 
-  loses : (t : Ticket) (o : Option ℕ) (new : Lists) → found_out (opened old) t ≡ o → AtPlace o Loses (opened old) new → Course (lines.Lose t) old new
-  loses t None new e h = missed (lines.Lose t) new refl (λ s. refl) (ap (λ z. test_at (λ k. true) z) e) h
-  loses t (Some place) new e h = heard NoneGiven (lines.Lose t) (fated losing place (opened old)) new (λ n version given. absurd given) refl (λ s. refl) refl refl refl refl (ap (λ z. test_at (λ k. true) z) e) (record { place = place; sent = (out_there t place e).0; is = refl }) h
+  loses : (t : Ticket) (o : Option ℕ) (new : Lists) → found_out (opened old) t ≡ o → AtPlace o Loses (opened old) new → Course (deeds.Happens (happenings.Lose t)) old new
+  loses t None new e h = missed (deeds.Happens (happenings.Lose t)) new refl (λ s. refl) (ap (λ z. test_at (λ k. true) z) e) h
+  loses t (Some place) new e h = heard NoneGiven (deeds.Happens (happenings.Lose t)) (fated losing place (opened old)) new (λ n version given. absurd given) refl (λ s. refl) refl refl refl refl (ap (λ z. test_at (λ k. true) z) e) (record { place = place; sent = (out_there t place e).0; is = refl }) h
 
-  wakes : (t : Ticket) (o : Option ℕ) (new : Lists) → found_asleep (opened old) t ≡ o → AtPlace o Wakes (opened old) new → Course (lines.Wake t) old new
-  wakes t None new e h = missed (lines.Wake t) new refl (λ s. refl) (ap (λ z. test_at (λ k. true) z) e) h
-  wakes t (Some place) new e h = heard NoneGiven (lines.Wake t) (with_mail (waking place (opened old).mail) (opened old)) new (λ n version given. absurd given) refl (λ s. refl) refl refl refl refl (ap (λ z. test_at (λ k. true) z) e) (record { place = place; slept = asleep_there t place e; is = refl }) h
+  wakes : (t : Ticket) (o : Option ℕ) (new : Lists) → found_asleep (opened old) t ≡ o → AtPlace o Wakes (opened old) new → Course (deeds.Happens (happenings.Wake t)) old new
+  wakes t None new e h = missed (deeds.Happens (happenings.Wake t)) new refl (λ s. refl) (ap (λ z. test_at (λ k. true) z) e) h
+  wakes t (Some place) new e h = heard NoneGiven (deeds.Happens (happenings.Wake t)) (with_mail (waking place (opened old).mail) (opened old)) new (λ n version given. absurd given) refl (λ s. refl) refl refl refl refl (ap (λ z. test_at (λ k. true) z) e) (record { place = place; slept = asleep_there t place e; is = refl }) h
 
-  serves : (t : Ticket) (o : Option ℕ) (new : Lists) → found_unserved (opened old).mail t ≡ o → AtPlace o (Serves t) (opened old) new → Course (lines.Serve t) old new
-  serves t None new e h = missed (lines.Serve t) new refl (λ s. refl) (ap (λ z. test_at (λ k. true) z) e) h
-  serves t (Some place) new e h = at_once (lines.Serve t) (fated (keeping (reply_at (opened old) place)) place (handled t place (opened old))) new Done h refl refl (record { done = true; is = refl; falls = refl; ends = inl refl })
+  serves : (t : Ticket) (o : Option ℕ) (new : Lists) → found_unserved (opened old).mail t ≡ o → AtPlace o (Serves t) (opened old) new → Course (deeds.Happens (happenings.Serve t)) old new
+  serves t None new e h = missed (deeds.Happens (happenings.Serve t)) new refl (λ s. refl) (ap (λ z. test_at (λ k. true) z) e) h
+  serves t (Some place) new e h = at_once (deeds.Happens (happenings.Serve t)) (fated (keeping (reply_at (opened old) place)) place (handled t place (opened old))) new Done h refl refl (record { done = true; is = refl; falls = refl; ends = inl refl })
       (λ r. ap (λ b. Some (done_if b)) (sym (ap (λ z. test_at (λ k. true) z) e)))
       (record { place = place; sent = (only_there (λ j. can_be_served (opened old).mail j) (as_sent (place_of (opened old).mail.tickets t)) place e).0; is = refl })
 
   -- an event that is not about a ticket
-  split_mail : (d : Bool) (key : List ℕ) → MailGoes (is_done (done_if d)) (lines.Split key) (opened old) (opened old).mail
+  split_mail : (d : Bool) (key : List ℕ) → MailGoes (is_done (done_if d)) (deeds.Happens (happenings.Split key)) (opened old) (opened old).mail
   split_mail true key = refl
   split_mail false key = refl
 
-  lead_mail : (d : Bool) (region store : ℕ) → MailGoes (is_done (done_if d)) (lines.Lead region store) (opened old) (opened old).mail
+  lead_mail : (d : Bool) (region store : ℕ) → MailGoes (is_done (done_if d)) (deeds.Happens (happenings.Lead region store)) (opened old) (opened old).mail
   lead_mail true region store = refl
   lead_mail false region store = refl
 
-  crash_mail : (d : Bool) (client : ℕ) → MailGoes (is_done (done_if d)) (lines.Crash client) (opened old) (opened old).mail
+  crash_mail : (d : Bool) (client : ℕ) → MailGoes (is_done (done_if d)) (deeds.Happens (happenings.Crash client)) (opened old) (opened old).mail
   crash_mail true client = refl
   crash_mail false client = refl
 
-  pub course : (line : Line) (new : Lists) → Steps line old new → Course line old new
-  course lines.Blank new s = at_once lines.Blank (opened old) new Done s refl refl (record { done = true; is = refl; falls = refl; ends = inl refl }) (λ r. refl) refl
-  course lines.Client new s = at_once lines.Client (with_sight (connected (opened old).sight) (opened old)) new (Ok Nothing) s refl refl (record { is = refl; begun = refl; none = refl }) (λ r. absurd (cc)) refl
-  course (lines.Begin client options) new s = asks (lines.Begin client options) true client new s.sight s.turn refl s.begins s.is
-  course (lines.Timestamp client) new s = asks (lines.Timestamp client) false client new s.sight s.turn refl s.begins s.is
-  course (lines.Put x key value) new s = acts_so (lines.Put x key value) (acts.Put key value) false x new s.sight s.turn refl refl s.begins s.is
-  course (lines.Insert x key value) new s = acts_so (lines.Insert x key value) (acts.Insert key value) false x new s.sight s.turn refl refl s.begins s.is
-  course (lines.Delete x key) new s = acts_so (lines.Delete x key) (acts.Delete key) false x new s.sight s.turn refl refl s.begins s.is
-  course (lines.Mutate x mutations) new s = acts_so (lines.Mutate x mutations) (acts.Mutate mutations) false x new s.sight s.turn refl refl s.begins s.is
-  course (lines.Lock x keys) new s = acts_so (lines.Lock x keys) (acts.Lock keys) false x new s.sight s.turn refl refl s.begins s.is
-  course (lines.Commit x) new s = acts_so (lines.Commit x) acts.Commit true x new s.sight s.turn refl refl s.begins s.is
-  course (lines.Rollback x) new s = acts_so (lines.Rollback x) acts.Rollback false x new s.sight s.turn refl refl s.begins s.is
-  course (lines.Serve t) new s = serves t (found_unserved (opened old).mail t) new refl s
-  course (lines.Answer t) new s = answers t (found_out (opened old) t) new refl s
-  course (lines.Deliver t) new s = delivers t (found_out (opened old) t) new refl s
-  course (lines.Lose t) new s = loses t (found_out (opened old) t) new refl s
-  course (lines.Busy t) new s = busies t (found_out (opened old) t) new refl s
-  course (lines.Wake t) new s = wakes t (found_asleep (opened old) t) new refl s
-  course (lines.Split key) new s = at_once (lines.Split key) (with_store (split old.store key) (opened old)) new (done_if (can_split old.store key)) s refl refl (record { done = can_split old.store key; is = refl; falls = refl; ends = inl refl }) (λ r. refl) (split_mail (can_split old.store key) key)
-  course (lines.Lead region store) new s = at_once (lines.Lead region store) (with_store (lead old.store region store) (opened old)) new (done_if (can_lead old.store region store)) s refl refl (record { done = can_lead old.store region store; is = refl; falls = refl; ends = inl refl }) (λ r. refl) (lead_mail (can_lead old.store region store) region store)
-  course (lines.Clock ms) new s = at_once (lines.Clock ms) (with_store (at_clock old.store ms) (opened old)) new Done s refl refl (record { done = true; is = refl; falls = refl; ends = inl refl }) (λ r. refl) refl
-  course (lines.Crash client) new s = at_once (lines.Crash client) (with_sight (crash client (opened old).sight) (opened old)) new (done_if (is_live (opened old).sight client)) s refl refl (record { done = is_live (opened old).sight client; is = refl; falls = (refl, refl); ends = inl refl }) (λ r. refl) (crash_mail (is_live (opened old).sight client) client)
+  pub course : (deed : Deed) (new : Lists) → Does deed (opened old) new → Course deed old new
+  course deeds.Nothing new s = at_once deeds.Nothing (opened old) new Done s refl refl (record { done = true; is = refl; falls = refl; ends = inl refl }) (λ r. refl) refl
+  course deeds.Connect new s = at_once deeds.Connect (with_sight (connected (opened old).sight) (opened old)) new (Ok Nothing) s refl refl (record { is = refl; begun = refl; none = refl }) (λ r. absurd (cc)) refl
+  course (deeds.Ask client act) new s = asks (deeds.Ask client act) (begins act) client new s.sight s.turn refl s.begins s.is
+  course (deeds.Use x act) new s = acts_so (deeds.Use x act) act (commits act) x new s.sight s.turn refl refl s.begins s.is
+  course (deeds.Happens (happenings.Serve t)) new s = serves t (found_unserved (opened old).mail t) new refl s
+  course (deeds.Happens (happenings.Answer t)) new s = answers t (found_out (opened old) t) new refl s
+  course (deeds.Happens (happenings.Deliver t)) new s = delivers t (found_out (opened old) t) new refl s
+  course (deeds.Happens (happenings.Lose t)) new s = loses t (found_out (opened old) t) new refl s
+  course (deeds.Happens (happenings.Busy t)) new s = busies t (found_out (opened old) t) new refl s
+  course (deeds.Happens (happenings.Wake t)) new s = wakes t (found_asleep (opened old) t) new refl s
+  course (deeds.Happens (happenings.Split key)) new s = at_once (deeds.Happens (happenings.Split key)) (with_store (split old.store key) (opened old)) new (done_if (can_split old.store key)) s refl refl (record { done = can_split old.store key; is = refl; falls = refl; ends = inl refl }) (λ r. refl) (split_mail (can_split old.store key) key)
+  course (deeds.Happens (happenings.Lead region store)) new s = at_once (deeds.Happens (happenings.Lead region store)) (with_store (lead old.store region store) (opened old)) new (done_if (can_lead old.store region store)) s refl refl (record { done = can_lead old.store region store; is = refl; falls = refl; ends = inl refl }) (λ r. refl) (lead_mail (can_lead old.store region store) region store)
+  course (deeds.Happens (happenings.Clock ms)) new s = at_once (deeds.Happens (happenings.Clock ms)) (with_store (at_clock old.store ms) (opened old)) new Done s refl refl (record { done = true; is = refl; falls = refl; ends = inl refl }) (λ r. refl) refl
+  course (deeds.Happens (happenings.Crash client)) new s = at_once (deeds.Happens (happenings.Crash client)) (with_sight (crash client (opened old).sight) (opened old)) new (done_if (is_live (opened old).sight client)) s refl refl (record { done = is_live (opened old).sight client; is = refl; falls = (refl, refl); ends = inl refl }) (λ r. refl) (crash_mail (is_live (opened old).sight client) client)

@@ -1,8 +1,10 @@
 -- What a step makes of the accounts, by the lists that it leaves.
 use Rattle.std.proofs.Common.{◌≡◌, ◌≢◌, ℕ, suc, ◌+◌, ◌≤◌, ◌<◌, Bool, true, false, not, List, [], ◌∷◌, Option, Some, None, length, nat_eq, refl, sym, ap, ◌∙◌, subst, arith, length-append}
 use Rattle.std.proofs.lemmas.Bool.Decides.{nat_tests}
-use Rattle.txn_kv.specs.declared.errors.Error.{Error}
 use Rattle.txn_lines.specs.declared.line.Line.{Line}
+use Rattle.txn_lines.specs.Deeds.{deed_of}
+use Rattle.txn_kv.specs.declared.errors.Error.{Error}
+use Rattle.txn_lines.specs.declared.deed.Deed.{Deed}
 use Rattle.txn_report.specs.declared.outcome.Outcome.{Outcome}
 use Rattle.txn_report.specs.declared.outcome.Outcome.TheVariants.{Done, Err, Ok, Skipped, Unfinished}
 use Rattle.txn_report.specs.declared.outcome.Payload.TheVariants.{Unit as Nothing}
@@ -10,12 +12,12 @@ use Rattle.txn_side.specs.Account.{Account, AnswersAtOnce, AreKept, MayTakeIn, T
 use Rattle.txn_side.specs.Account as sides
 use Rattle.txn_side.specs.Sight.{Sight, Stand, outcomes_of, stand_at}
 use Rattle.txn_side.specs.Sight.Stand.{Asking, Calling, HasBegun, Idle, IsClient, Past, Working}
-use Rattle.txn_side.specs.declared.act.Act.{Act}
-use Rattle.txn_side.specs.declared.act.Act.TheVariants as acts
+use Rattle.txn_lines.specs.declared.act.Act.{Act}
 use Rattle.txn_side.specs.declared.turn.Ending.{Ending}
 use Rattle.txn_side.specs.declared.turn.Posting.{Posting}
 use Rattle.txn_side.specs.declared.turn.Turn.{Turn}
-use Rattle.txn_machine.specs.Accounts.{AnswersIn, Ask, ClosesIf, Credited, CreditedBy, Credits, CreditsBy, WasAskedIf, WereClosedIf, ask_of, closed_if, own_by}
+use Rattle.txn_side.proofs.Making.{made_open}
+use Rattle.txn_machine.specs.Accounts.{AnswersIn, Ask, ClosesIf, Credited, CreditedBy, Credits, CreditsBy, WasAskedIf, WereClosedIf, ask_for, closed_if, own_by}
 use Rattle.txn_machine.specs.Causes.{ended_of, is_skipped, tells}
 use Rattle.txn_machine.specs.Lists.{Lists, all_ended, all_posted, ended_at, followed, newest, opened, outright, with_mail}
 use Rattle.txn_machine.specs.Running.{IsOrdered, closed, with_own}
@@ -64,16 +66,7 @@ answer_unskipped Skipped h = absurd (cc)
 
 -- what is open yet is as if it had begun in an earlier line
 still_open : (act : Act) (account : Account) → after_act act true Unfinished account ≡ after_act act false Unfinished account
-still_open act account = ap (λ new. unless_refused (refusal act account) account new) (by act)
-  where
-    by : (act : Act) → made_by act true Unfinished account ≡ made_by act false Unfinished account
-    by (acts.Put key value) = refl
-    by (acts.Insert key value) = refl
-    by (acts.Delete key) = refl
-    by (acts.Mutate mutations) = refl
-    by (acts.Lock keys) = refl
-    by acts.Commit = refl
-    by acts.Rollback = refl
+still_open act account = ap (λ new. unless_refused (refusal act account) account new) (made_open act account)
 
 module _ (l : Lists) (some : 1 ≤ newest l) (even : length l.ended ≡ newest l) (unfinished : outcome_of l.outcomes (newest l) ≡ Unfinished) (none : ended_of l.ended (newest l) ≡ 0) (ask : Ask) (a b : ℕ → Account) (posted : List Posting) where
   skips : (o : Outcome) (ended : List Ending) → ◌≡◌ {A = Option Outcome} (Some o) (Some Skipped) → ended ≡ [] → AreKept a b → CreditedBy (Some ask) false l.sight a b (followed posted ended (with_own (Some o) l))
@@ -248,9 +241,9 @@ module _ (older l : Lists) (done : Course) (ordered : IsOrdered older) (past : A
       (subst (λ k. MayTakeIn ask.act ask.transaction k a b h.turn) (sym (ap (λ os. length os) can.outcomes)) h.takes)
 
 -- the parts of a step together
-pub credited_step : {S : Type 0} (account : S → ℕ → Account) (line : Line) (older start l new : Lists) (done : Course) (from mid last to : S) → start ≡ opened older → new ≡ closed done l → IsOrdered older → ArePast older → CanTell start done l
-    → AreKept (account from) (account mid) → Credits line start (account mid) (account last) done → to ≡ last → Credited line older.sight (account from) (account to) new
-credited_step account line older start l new done from mid last to a b ordered past can kept credits same =
-    subst (λ x. Credited line older.sight (account from) (account to) x) (sym b) (subst (λ s. Credited line older.sight (account from) (account s) (closed done l)) (sym same)
-    (credited_closed older l done ordered past (subst (λ x. CanTell x done l) a can) (ask_of line) (tells line) (account from) (account last)
-    (credits_after (ask_of line) (tells line) (opened older) (account from) (account mid) (account last) done kept (subst (λ x. Credits line x (account mid) (account last) done) a credits))))
+pub credited_step : {S : Type 0} (account : S → ℕ → Account) (line : Line) (deed : Deed) (older start l new : Lists) (done : Course) (from mid last to : S) → deed ≡ deed_of line → start ≡ opened older → new ≡ closed done l → IsOrdered older → ArePast older → CanTell start done l
+    → AreKept (account from) (account mid) → Credits deed start (account mid) (account last) done → to ≡ last → Credited (deed_of line) older.sight (account from) (account to) new
+credited_step account line deed older start l new done from mid last to is a b ordered past can kept credits same =
+    subst (λ d. Credited d older.sight (account from) (account to) new) is (subst (λ x. Credited deed older.sight (account from) (account to) x) (sym b) (subst (λ s. Credited deed older.sight (account from) (account s) (closed done l)) (sym same)
+    (credited_closed older l done ordered past (subst (λ x. CanTell x done l) a can) (ask_for deed) (tells deed) (account from) (account last)
+    (credits_after (ask_for deed) (tells deed) (opened older) (account from) (account mid) (account last) done kept (subst (λ x. Credits deed x (account mid) (account last) done) a credits)))))

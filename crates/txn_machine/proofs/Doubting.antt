@@ -3,8 +3,10 @@ use Rattle.std.proofs.Common.{◌≡◌, ◌≢◌, ℕ, suc, ◌≤◌, ◌⊎�
 use Rattle.txn_kv.specs.declared.errors.Error.{Error}
 use Rattle.txn_history.specs.Event.{Event}
 use Rattle.txn_lines.specs.Lines.{line_at, why_after}
+use Rattle.txn_lines.specs.Deeds.{deed_of}
+use Rattle.txn_lines.specs.declared.deed.Deed.{Deed}
+use Rattle.txn_lines.specs.declared.deed.Deed.TheVariants as deeds
 use Rattle.txn_lines.specs.declared.line.Line.{Line}
-use Rattle.txn_lines.specs.declared.line.Line.TheVariants as lines
 use Rattle.txn_report.specs.declared.outcome.Outcome.{Outcome}
 use Rattle.txn_report.specs.declared.outcome.Outcome.TheVariants.{Ok, Err, Unfinished, Done, Skipped}
 use Rattle.txn_report.specs.declared.outcome.Payload.TheVariants.{Number}
@@ -12,7 +14,7 @@ use Rattle.txn_side.specs.Arising.{answered_at}
 use Rattle.txn_side.specs.Doubt.{SaysDoubt, SpeaksOf}
 use Rattle.txn_side.specs.Sight.{stand_at}
 use Rattle.txn_machine.specs.Arising.{AllHold, AllSpeak, FailsOf, HoldsBy, Speaks}
-use Rattle.txn_machine.specs.Causes.{AllCallsMeet, CallMeets, Role, answers, client_of, ended_of, is_busy, is_crashed, is_ok, is_skipped, is_unfinished, known, known_of, lines_before, role_of, tells}
+use Rattle.txn_machine.specs.Causes.{AllCallsMeet, CallMeets, Role, answers, client_of, ended_of, is_busy, is_crashed, is_ok, is_skipped, is_unfinished, known, known_of, lines_before, role_for, role_of, tells}
 use Rattle.txn_machine.specs.Causes.Role.{AsksTime, MakesClient, NoCall, UsesTransaction}
 use Rattle.txn_machine.specs.Lists.{Lists, all_posted, followed, newest, opened, with_mail}
 use Rattle.txn_machine.specs.Rows.{Caused, IsRow}
@@ -33,12 +35,8 @@ use Rattle.txn_machine.proofs.Numberings.{has_line, line_new, line_old, line_ran
 use Rattle.txn_machine.proofs.Standings.{caused_past, row_answers}
 
 -- a line in whose step clients hear of something is no call
-pub tells_none : (line : Line) → tells line ≡ true → role_of line ≡ NoCall
-tells_none (lines.Answer t) h = refl
-tells_none (lines.Deliver t) h = refl
-tells_none (lines.Lose t) h = refl
-tells_none (lines.Busy t) h = refl
-tells_none (lines.Wake t) h = refl
+pub tells_none : (deed : Deed) → tells deed ≡ true → role_for deed ≡ NoCall
+tells_none (deeds.Happens what) h = refl
 tells_none _ h = absurd (cc)
 
 -- What is known of the transaction that a line calls.
@@ -100,7 +98,7 @@ time_holds holds x s NoCall kind h = absurd (cc)
 -- The step.
 
 module _ (line : Line) (ls : List Line) (old : Lists) (told : newest old ≡ length ls) (ordered : IsOrdered old) (good : why_after ls line ≡ None) (was : Caused ls old) (folded : Folded ls old)
-    (new : Lists) (c : Course line old new) (stepped : Stepped (length ls) line old (followed c.posted c.ended c.mid)) where
+    (new : Lists) (c : Course (deed_of line) old new) (stepped : Stepped (length ls) (deed_of line) old (followed c.posted c.ended c.mid)) where
   abbrev all : Lists
   all = followed c.posted c.ended c.mid
 
@@ -153,14 +151,14 @@ module _ (line : Line) (ls : List Line) (old : Lists) (told : newest old ≡ len
 
     -- a call of an earlier line that ends in the step
     module _ (k x s : ℕ) (e : Error) (f : FailsOf (line ∷ ls) all.outcomes k x s e) (there : line_at ls k ≡ Some f.line) where
-      heard : is_unfinished (outcome_of old.outcomes k) ≡ true → (b : Bool) → tells line ≡ b → Speaks (role_of line) (opened old).sight held now k (Err e) → SaysDoubt now s f.commits e
+      heard : is_unfinished (outcome_of old.outcomes k) ≡ true → (b : Bool) → tells (deed_of line) ≡ b → Speaks (role_of line) (opened old).sight held now k (Err e) → SaysDoubt now s f.commits e
       heard waits false quiet speaks = absurd (let a = sym waits ∙ ap is_unfinished (sym (stays line ls old all told all_newest ordered good steps was quiet k (line_range ls k f.line there).1).0 ∙ f.failed) in cc)
       heard waits true told_so speaks =
           let row : IsRow (role_of f.line) (outcome_of old.outcomes k) (stand_at old.sight.stands k) = was.rows.rows k f.line there in
           let call = waiting_row row.row f.commits x (row.is ∙ f.role) (ap is_unfinished row.outcome ∙ waits) in
           let begun = called_began old.outcomes old.ended ls k x f.commits f.line there f.role (unfinished_unskipped (outcome_of old.outcomes k) waits) was.calls in
           let apart : x ≢ k = λ same. absurd (let a = sym (ok_over (outcome_of old.outcomes x) begun) ∙ subst (λ j. is_unfinished (outcome_of old.outcomes j) ≡ true) (sym same) waits in cc) in
-          let of_it : SpeaksOf held now (answered_at k (stand_at (opened old).sight.stands k)) k (Err e) = subst (λ role. Speaks role (opened old).sight held now k (Err e)) (tells_none line told_so) speaks in
+          let of_it : SpeaksOf held now (answered_at k (stand_at (opened old).sight.stands k)) k (Err e) = subst (λ role. Speaks role (opened old).sight held now k (Err e)) (tells_none (deed_of line) told_so) speaks in
           let of_call : SpeaksOf held now (record { at = x; commits = f.commits }) k (Err e) = subst (λ stand. SpeaksOf held now (answered_at k stand) k (Err e)) (stand_opened old.sight.stands k ∙ sym row.at ∙ call.1) of_it in
           of_call apart s (began_held x s (began_before x s begun f.began))
 
@@ -172,7 +170,7 @@ module _ (line : Line) (ls : List Line) (old : Lists) (told : newest old ≡ len
             says_still k s f.commits e same.1 (before k x s e (record { commits = f.commits; line = f.line; there = there; role = f.role; began = began_before x s begun f.began; failed = failed }))
         | inr changed ↦ elim (told_now k e f.failed) [
           | inl failed ↦ absurd (let a = sym (ap is_unfinished failed) ∙ changed.0 in cc)
-          | inr speaks ↦ says_now k s f.commits e changed.1 (heard changed.0 (tells line) refl speaks)
+          | inr speaks ↦ says_now k s f.commits e changed.1 (heard changed.0 (tells (deed_of line)) refl speaks)
         ]
       ]
 
@@ -187,17 +185,17 @@ module _ (line : Line) (ls : List Line) (old : Lists) (told : newest old ≡ len
       failed_now : outcome_of all.outcomes n ≡ Err e
       failed_now = ap (λ j. outcome_of all.outcomes j) (sym here) ∙ f.failed
 
-      quiet : tells line ≡ false
-      quiet = by (tells line) refl
+      quiet : tells (deed_of line) ≡ false
+      quiet = by (tells (deed_of line)) refl
         where
-          by : (b : Bool) → tells line ≡ b → b ≡ false
-          by true q = absurd (let a = sym (tells_none line q) ∙ same_role in cc)
+          by : (b : Bool) → tells (deed_of line) ≡ b → b ≡ false
+          by true q = absurd (let a = sym (tells_none (deed_of line) q) ∙ same_role in cc)
           by false q = refl
 
       own_says : Speaks (role_of line) (opened old).sight held now n (Err e) → SaysDoubt now s f.commits e
       own_says speaks =
           let named : IsBegin (line_at ls x) = subst (λ r. Names ls r) same_role (names ls line good) in
-          let low : x ≤ length ls = (line_range ls x (lines.Begin named.client named.options) named.is).1 in
+          let low : x ≤ length ls = (line_range ls x named.line named.is).1 in
           let began : outcome_of old.outcomes x ≡ Ok (Number s) = sym (stays line ls old all told all_newest ordered good steps was quiet x low).0 ∙ f.began in
           let of_it : SpeaksOf held now (record { at = x; commits = f.commits }) n (Err e) = subst (λ r. Speaks r (opened old).sight held now n (Err e)) same_role speaks in
           let apart : x ≢ n = λ same. absurd (omega arith) in

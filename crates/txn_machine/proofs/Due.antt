@@ -4,6 +4,7 @@ use Rattle.std.proofs.lemmas.Bool.Decides.{nat_tests}
 use Rattle.txn_kv.specs.declared.ticket.Ticket.{Ticket}
 use Rattle.txn_history.specs.Event.{Event, is_awaited}
 use Rattle.txn_lines.specs.Lines.{line_at, why_after}
+use Rattle.txn_lines.specs.Deeds.{deed_of}
 use Rattle.txn_lines.specs.declared.line.Line.{Line}
 use Rattle.txn_post.specs.Mail.{IsMail, as_sent, as_slept, place_of}
 use Rattle.txn_report.specs.declared.outcome.Outcome.{Outcome}
@@ -134,7 +135,7 @@ due_same asleep sleeping seen know script es fs a b c h =
     subst (λ (s : Ticket → Bool). IsDue s know script fs) a (subst (λ (s : ℕ → Outcome). IsDue asleep s script fs) b (subst (λ (s : List Event). IsDue asleep seen script s) c h))
 
 module _ (line : Line) (ls : List Line) (old : Lists) (told : newest old ≡ length ls) (ordered : IsOrdered old) (good : why_after ls line ≡ None) (was : Caused ls old) (folded : Folded ls old)
-    (new : Lists) (c : Course line old new) (stepped : Stepped (length ls) line old (followed c.posted c.ended c.mid)) where
+    (new : Lists) (c : Course (deed_of line) old new) (stepped : Stepped (length ls) (deed_of line) old (followed c.posted c.ended c.mid)) where
   abbrev all : Lists
   all = followed c.posted c.ended c.mid
 
@@ -154,8 +155,8 @@ module _ (line : Line) (ls : List Line) (old : Lists) (told : newest old ≡ len
 pub due_step : (line : Line) (ls : List Line) (old new : Lists) (waits : ℕ → Awaited → Type 0) → newest old ≡ length ls → IsOrdered old → why_after ls line ≡ None → Steps line old new → Folded ls old → Caused ls old
     → Dues old.mail.sent old.mail.sleeps old.outcomes old.ended ls → IsMail new.mail → Caused (line ∷ ls) new → Timely (line ∷ ls) new → AreOut waits new → sides.IsDue waits new.sight → AreDue waits (line ∷ ls) new
 due_step line ls old new waits told ordered good steps folded was dues mail caused timely out due =
-    let c = course old line new steps in
-    let s = subst (λ x. Stepped (length ls) line old x) c.is (stepped (length ls) old told ordered.even.stands folded.calm ordered.sound.mail line new steps) in
+    let c = course old (deed_of line) new steps in
+    let s = subst (λ x. Stepped (length ls) (deed_of line) old x) c.is (stepped (length ls) old told ordered.even.stands folded.calm ordered.sound.mail (deed_of line) new steps) in
     record {
       out = out;
       dues = (

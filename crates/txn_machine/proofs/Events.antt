@@ -4,16 +4,18 @@ use Rattle.txn_kv.specs.declared.ticket.Ticket.{Ticket}
 use Rattle.txn_history.specs.Busy.{busy_reply}
 use Rattle.txn_history.specs.Event.{Event, is_awaited, is_lost, is_refused, is_served, taken_reply}
 use Rattle.txn_law.specs.Run.{store_after}
-use Rattle.txn_lines.specs.Lines.{why_after}
+use Rattle.txn_lines.specs.Lines.{named_in, why_named}
+use Rattle.txn_lines.specs.declared.deed.Deed.{Deed}
+use Rattle.txn_lines.specs.declared.deed.Deed.TheVariants as deeds
+use Rattle.txn_lines.specs.declared.happening.Happening.TheVariants as happenings
 use Rattle.txn_lines.specs.declared.line.Line.{Line}
-use Rattle.txn_lines.specs.declared.line.Line.TheVariants as lines
 use Rattle.txn_model.specs.Regions.{can_lead, can_split}
 use Rattle.txn_post.specs.Mail.{as_sent, as_slept, can_be_served, found_awaited, found_lasting, found_unserved, is_awaited as awaits, is_lasting, letter_at, only, place_of}
 use Rattle.txn_post.specs.declared.post.Place.{Place}
 use Rattle.txn_post.specs.declared.post.Place.TheVariants.{Sent, Slept}
 use Rattle.txn_report.specs.declared.outcome.Outcome.{Outcome}
 use Rattle.txn_side.specs.Sight.{Stand, client_at, is_live, lives, stand_at}
-use Rattle.txn_machine.specs.Causes.{EventMeets, can_refuse, hears, is_refusable, is_servable, is_woken, role_of}
+use Rattle.txn_machine.specs.Causes.{EventMeets, can_refuse, hears, is_refusable, is_servable, is_woken, role_for}
 use Rattle.txn_machine.specs.Causes.Role.{NoCall}
 use Rattle.txn_machine.specs.Lists.{Lists, opened, request_at, request_in}
 use Rattle.txn_machine.specs.Rows.{AreOwned, AreRows, Fate, IsFate, IsUnsent}
@@ -22,7 +24,7 @@ use Rattle.txn_machine.specs.Steps.{does_it, done_if, found_asleep, found_out, t
 use Rattle.txn_post.proofs.Naming.{opened_leads}
 use Rattle.txn_machine.proofs.Calms.{stand_opened}
 use Rattle.txn_machine.proofs.Fates.{Fates}
-use Rattle.txn_machine.proofs.Idles.{crash_names, live_is, live_of}
+use Rattle.txn_machine.proofs.Idles.{names_client, live_is, live_of}
 
 -- What the mail finds.
 
@@ -149,25 +151,18 @@ module _ (ls : List Line) (old : Lists) (e : ℕ → ℕ) (was : AreRows ls (λ 
       awake : (t : Ticket) → place_of old.mail.tickets t ≡ None → false ≡ asleep t && not (is_woken es t)
       awake t e = ap (λ z. z && not (is_woken es t)) (sym (slept t ∙ ap (λ z. is_some (as_slept z)) e))
 
-      pub event_meets : (line : Line) (x : Outcome) → why_after ls line ≡ None → (role_of line ≡ NoCall → x ≡ done_if (does_it line (opened old))) → EventMeets asleep o ls es line x
-      event_meets lines.Blank x good is = is refl
-      event_meets (lines.Serve t) x good is = is refl ∙ ap done_if (unserved_is es old t fates)
-      event_meets (lines.Answer t) x good is = exact t (is_awaited es t && is_served es t) (does_it (lines.Answer t) (opened old)) x (is refl) (answer_is es old t fates) (λ e. unsent_and t (is_served es t) e)
-      event_meets (lines.Deliver t) x good is = exact t (is_awaited es t && is_servable es t) (does_it (lines.Deliver t) (opened old)) x (is refl) (deliver_is es old t fates) (λ e. unsent_and t (is_servable es t) e)
-      event_meets (lines.Lose t) x good is = exact t (is_awaited es t) (does_it (lines.Lose t) (opened old)) x (is refl) (lose_is es old t fates) (λ e. unsent t e)
-      event_meets (lines.Busy t) x good is = exact t (is_awaited es t && (is_servable es t && is_refusable es t)) (does_it (lines.Busy t) (opened old)) x (is refl) (busy_is es old t fates) (λ e. unsent_and t (is_servable es t && is_refusable es t) e)
-      event_meets (lines.Wake t) x good is = exact t (asleep t && not (is_woken es t)) (does_it (lines.Wake t) (opened old)) x (is refl) (wake_is es old t fates (asleep t) (slept t)) (λ e. awake t e)
-      event_meets (lines.Split key) x good is = is refl ∙ ap (λ s. done_if (can_split s key)) store
-      event_meets (lines.Lead region to) x good is = is refl ∙ ap (λ s. done_if (can_lead s region to)) store
-      event_meets (lines.Clock ms) x good is = is refl
-      event_meets (lines.Crash k) x good is = is refl ∙ ap done_if (live_opened k ∙ live_is ls o e st old.sight.crashed was k (crash_names ls k good))
-      event_meets lines.Client x good is = tt
-      event_meets (lines.Begin c options) x good is = tt
-      event_meets (lines.Timestamp c) x good is = tt
-      event_meets (lines.Put y k v) x good is = tt
-      event_meets (lines.Insert y k v) x good is = tt
-      event_meets (lines.Delete y k) x good is = tt
-      event_meets (lines.Mutate y ms) x good is = tt
-      event_meets (lines.Lock y ks) x good is = tt
-      event_meets (lines.Commit y) x good is = tt
-      event_meets (lines.Rollback y) x good is = tt
+      pub event_meets : (deed : Deed) (x : Outcome) → why_named ls (named_in deed) ≡ None → (role_for deed ≡ NoCall → x ≡ done_if (does_it deed (opened old))) → EventMeets asleep o ls es deed x
+      event_meets deeds.Nothing x good is = is refl
+      event_meets (deeds.Happens (happenings.Serve t)) x good is = is refl ∙ ap done_if (unserved_is es old t fates)
+      event_meets (deeds.Happens (happenings.Answer t)) x good is = exact t (is_awaited es t && is_served es t) (does_it (deeds.Happens (happenings.Answer t)) (opened old)) x (is refl) (answer_is es old t fates) (λ e. unsent_and t (is_served es t) e)
+      event_meets (deeds.Happens (happenings.Deliver t)) x good is = exact t (is_awaited es t && is_servable es t) (does_it (deeds.Happens (happenings.Deliver t)) (opened old)) x (is refl) (deliver_is es old t fates) (λ e. unsent_and t (is_servable es t) e)
+      event_meets (deeds.Happens (happenings.Lose t)) x good is = exact t (is_awaited es t) (does_it (deeds.Happens (happenings.Lose t)) (opened old)) x (is refl) (lose_is es old t fates) (λ e. unsent t e)
+      event_meets (deeds.Happens (happenings.Busy t)) x good is = exact t (is_awaited es t && (is_servable es t && is_refusable es t)) (does_it (deeds.Happens (happenings.Busy t)) (opened old)) x (is refl) (busy_is es old t fates) (λ e. unsent_and t (is_servable es t && is_refusable es t) e)
+      event_meets (deeds.Happens (happenings.Wake t)) x good is = exact t (asleep t && not (is_woken es t)) (does_it (deeds.Happens (happenings.Wake t)) (opened old)) x (is refl) (wake_is es old t fates (asleep t) (slept t)) (λ e. awake t e)
+      event_meets (deeds.Happens (happenings.Split key)) x good is = is refl ∙ ap (λ s. done_if (can_split s key)) store
+      event_meets (deeds.Happens (happenings.Lead region to)) x good is = is refl ∙ ap (λ s. done_if (can_lead s region to)) store
+      event_meets (deeds.Happens (happenings.Clock ms)) x good is = is refl
+      event_meets (deeds.Happens (happenings.Crash k)) x good is = is refl ∙ ap done_if (live_opened k ∙ live_is ls o e st old.sight.crashed was k (names_client ls k good))
+      event_meets deeds.Connect x good is = tt
+      event_meets (deeds.Ask client act) x good is = tt
+      event_meets (deeds.Use y act) x good is = tt

@@ -9,14 +9,15 @@ use Rattle.txn_history.specs.Event.{Event, Has}
 use Rattle.txn_history.specs.Event.Event.{Sent}
 use Rattle.txn_lines.specs.Lines.{why_after}
 use Rattle.txn_lines.specs.declared.begin_options.BeginOptions.{BeginOptions}
+use Rattle.txn_lines.specs.Deeds.{deed_of}
 use Rattle.txn_lines.specs.declared.line.Line.{Line}
 use Rattle.txn_report.specs.declared.outcome.Outcome.TheVariants as outcomes
 use Rattle.txn_report.specs.declared.report.SentNote.{SentNote}
 use Rattle.txn_side.specs.Account.{Account, refusal}
 use Rattle.txn_side.specs.Sight.{Group, stand_at}
 use Rattle.txn_side.specs.Trace.{BeginsAs, FailsIn, HowCallsFail, IsLonger, Refusal, RollsBack, Trace, fails_longer, with_posted}
-use Rattle.txn_side.specs.declared.act.Act.{Act}
-use Rattle.txn_side.specs.declared.act.Act.TheVariants.{Rollback}
+use Rattle.txn_lines.specs.declared.act.Act.{Act}
+use Rattle.txn_lines.specs.declared.act.Act.TheVariants.{Rollback}
 use Rattle.txn_side.specs.declared.turn.Posting.{Posting}
 use Rattle.txn_machine.specs.Accounts.{AreTakenIn, Ask, account_of, ask_of}
 use Rattle.txn_machine.specs.Causes.{AllCallsMeet, Role, ended_of, is_skipped, is_unfinished, lines_before, role_of, tells}
@@ -96,7 +97,7 @@ rolls_back _ n before = tt
 -- The trace of what has happened by the step of the newest line, before the clients do anything.
 
 module _ (line : Line) (ls : List Line) (old : Lists) (told : newest old ≡ length ls) (ordered : IsOrdered old) (good : why_after ls line ≡ None) (was : Caused ls old) (folded : Folded ls old)
-    (new : Lists) (c : Course line old new) (stepped : Stepped (length ls) line old (followed c.posted c.ended c.mid)) (timely : Timely ls old) (accounts : ℕ → Account) where
+    (new : Lists) (c : Course (deed_of line) old new) (stepped : Stepped (length ls) (deed_of line) old (followed c.posted c.ended c.mid)) (timely : Timely ls old) (accounts : ℕ → Account) where
   abbrev all : Lists
   all = followed c.posted c.ended c.mid
 
@@ -107,7 +108,7 @@ module _ (line : Line) (ls : List Line) (old : Lists) (told : newest old ≡ len
   looks t = find all.mail.sent (suc (length ls)) t
 
   abbrev happened : List Event
-  happened = if own_done c.own then does looks line es else es
+  happened = if own_done c.own then does looks (deed_of line) es else es
 
   abbrev n : ℕ
   n = suc (length ls)
@@ -127,8 +128,8 @@ module _ (line : Line) (ls : List Line) (old : Lists) (told : newest old ≡ len
       by (UsesTransaction b x) = inl refl
       by NoCall = tt
 
-  begins_now : BeginsAs now (newest (opened old)) (begins_as line)
-  begins_now = subst (λ k. BeginsAs now k (begins_as line)) (sym count) (by (begins_as line))
+  begins_now : BeginsAs now (newest (opened old)) (begins_as (deed_of line))
+  begins_now = subst (λ k. BeginsAs now k (begins_as (deed_of line))) (sym count) (by (begins_as (deed_of line)))
     where
       by : (o : Option BeginOptions) → BeginsAs (record now { begun = begun_by n o ++ begun_of ls }) n o
       by None = tt
@@ -143,17 +144,17 @@ module _ (line : Line) (ls : List Line) (old : Lists) (told : newest old ≡ len
 
   was_longer : IsLonger (trace_of old.mail.sent old.outcomes ls) now
   was_longer = record {
-    events = λ e h. done_more (own_done c.own) looks line es e h;
+    events = λ e h. done_more (own_done c.own) looks (deed_of line) es e h;
     calls = λ x h. later_among (calls_by n (role_of line)) (calls_of ls) x h;
-    begun = λ x h. later_among (begun_by n (begins_as line)) (begun_of ls) x h;
+    begun = λ x h. later_among (begun_by n (begins_as (deed_of line))) (begun_of ls) x h;
     rollbacks = λ x h. later_among (rolled_by n (ask_of line)) (rollbacks_of ls) x h;
     groups = λ g h. h;
-    sent = λ u r h. elim h [ inl s ↦ inl (done_more (own_done c.own) looks line es (Sent u r) s) | inr p ↦ absurd (let low = p.2 in omega arith) ];
-    refused = λ k m h. refused_done (groups_of old.mail.sent) k m (own_done c.own) looks line es h;
-    beside = λ k m h. refused_done (groups_of old.mail.sent) k (m + 0) (own_done c.own) looks line es h;
+    sent = λ u r h. elim h [ inl s ↦ inl (done_more (own_done c.own) looks (deed_of line) es (Sent u r) s) | inr p ↦ absurd (let low = p.2 in omega arith) ];
+    refused = λ k m h. refused_done (groups_of old.mail.sent) k m (own_done c.own) looks (deed_of line) es h;
+    beside = λ k m h. refused_done (groups_of old.mail.sent) k (m + 0) (own_done c.own) looks (deed_of line) es h;
   }
 
-  can_rest : CanRest line (opened old) accounts (trace_of old.mail.sent old.outcomes ls) now
+  can_rest : CanRest (deed_of line) (opened old) accounts (trace_of old.mail.sent old.outcomes ls) now
   can_rest = record {
     longer = was_longer;
     posted = refl;
@@ -161,7 +162,7 @@ module _ (line : Line) (ls : List Line) (old : Lists) (told : newest old ≡ len
     begins = begins_now;
     ask = ask_now;
     hear = can_hear old es ordered.sound.mail was.fates.fates folded.folds.store looks (looked line ls old told ordered good was folded new c stepped) timely.groups (λ u r h. sent_noted u r old.mail.sent old.outcomes ls h)
-        (calls_of (line ∷ ls)) (begun_of (line ∷ ls)) (rollbacks_of (line ∷ ls)) (refused_of (ask_of line) accounts n) (trace_of old.mail.sent old.outcomes ls) (λ k m h. h) (own_done c.own) line (λ role. ap own_done (c.sure role) ∙ done_is (does_it line (opened old)));
+        (calls_of (line ∷ ls)) (begun_of (line ∷ ls)) (rollbacks_of (line ∷ ls)) (refused_of (ask_of line) accounts n) (trace_of old.mail.sent old.outcomes ls) (λ k m h. h) (own_done c.own) (deed_of line) (λ role. ap own_done (c.sure role) ∙ done_is (does_it (deed_of line) (opened old)));
   }
 
   among : (s : SentNote) → IsAmong old.mail.sent s → IsAmong all.mail.sent s
@@ -256,7 +257,7 @@ module _ (line : Line) (ls : List Line) (old : Lists) (told : newest old ≡ len
 
     causes_still : (zs : List Line) → length zs ≤ length ls → AllCallsMeet old.outcomes old.ended zs → AllCausesMeet (λ k e. Was k e) old.outcomes old.ended zs → AllCausesMeet (λ k e. Is k e) all.outcomes all.ended zs
     causes_still [] low calls h = tt
-    causes_still (z ∷ zs) low calls h = (by (ask_of z) (role_by z) h.0, causes_still zs (omega arith) calls.1 h.1)
+    causes_still (z ∷ zs) low calls h = (by (ask_of z) (role_by (deed_of z)) h.0, causes_still zs (omega arith) calls.1 h.1)
       where
         m : ℕ
         m = suc (length zs)
@@ -282,9 +283,9 @@ module _ (line : Line) (ls : List Line) (old : Lists) (told : newest old ≡ len
     ]
 
     line_now : CauseMeets (λ k e. Is k e) (λ x. account_of (λ j. outcome_of all.outcomes j) (λ j. ended_of all.ended j) ls x) n (ask_of line) (outcome_of all.outcomes n)
-    line_now = by (ask_of line) (quiet_by line) newest_so
+    line_now = by (ask_of line) (quiet_by (deed_of line)) newest_so
       where
-        by : (a : Option Ask) → QuietBy a (tells line) → ((e : Error) → outcome_of all.outcomes n ≡ outcomes.Err e → Is n e ⊎ IsAmong (refused_of a accounts n) (record { line = n; error = e }))
+        by : (a : Option Ask) → QuietBy a (tells (deed_of line)) → ((e : Error) → outcome_of all.outcomes n ≡ outcomes.Err e → Is n e ⊎ IsAmong (refused_of a accounts n) (record { line = n; error = e }))
             → CauseMeets (λ k e. Is k e) (λ x. account_of (λ j. outcome_of all.outcomes j) (λ j. ended_of all.ended j) ls x) n a (outcome_of all.outcomes n)
         by None quiet h = λ e told_so. elim (h e told_so) [ inl i ↦ i | inr x ↦ absurd x ]
         by (Some ask) quiet h = λ free e told_so. elim (h e told_so) [
@@ -300,13 +301,13 @@ module _ (line : Line) (ls : List Line) (old : Lists) (told : newest old ≡ len
     causes_now h = (line_now, causes_still ls (omega arith) was.calls h)
 
 pub heard_step : (fails : HowCallsFail) (was is : Trace → Type 0) (line : Line) (ls : List Line) (old new : Lists) (accounts : ℕ → Account) → newest old ≡ length ls → IsOrdered old → why_after ls line ≡ None → Steps line old new → Folded ls old → Caused ls old → Timely ls old
-    → AreTakenIn ls old.outcomes old.ended accounts → Rested fails was is line old accounts new → ((t longer : Trace) → IsLonger t longer → was t → was longer) → ((t longer : Trace) → IsLonger t longer → is t → is longer)
+    → AreTakenIn ls old.outcomes old.ended accounts → Rested fails was is (deed_of line) old accounts new → ((t longer : Trace) → IsLonger t longer → was t → was longer) → ((t longer : Trace) → IsLonger t longer → is t → is longer)
     → HaveHeard was fails ls old.mail.sent old.outcomes old.ended → HaveHeard is fails (line ∷ ls) new.mail.sent new.outcomes new.ended
 heard_step fails was is line ls old new accounts told ordered good steps folded caused timely taken rested was_more is_more heard =
-    let c = course old line new steps in
-    let s = subst (λ x. Stepped (length ls) line old x) c.is (stepped (length ls) old told ordered.even.stands folded.calm ordered.sound.mail line new steps) in
+    let c = course old (deed_of line) new steps in
+    let s = subst (λ x. Stepped (length ls) (deed_of line) old x) c.is (stepped (length ls) old told ordered.even.stands folded.calm ordered.sound.mail (deed_of line) new steps) in
     let t = now line ls old told ordered good caused folded new c s timely accounts in
-    let r = subst (λ l. Rested fails was is line old accounts l) c.is rested (trace_of old.mail.sent old.outcomes ls) t (can_rest line ls old told ordered good caused folded new c s timely accounts) heard.rest
+    let r = subst (λ l. Rested fails was is (deed_of line) old accounts l) c.is rested (trace_of old.mail.sent old.outcomes ls) t (can_rest line ls old told ordered good caused folded new c s timely accounts) heard.rest
     (was_more (trace_of old.mail.sent old.outcomes ls) t (was_longer line ls old told ordered good caused folded new c s timely accounts) heard.rest) in
     subst (λ l. HaveHeard is fails (line ∷ ls) l.mail.sent l.outcomes l.ended) (sym c.is) (record {
       rest = is_more (with_posted r.posted t) (trace_of (followed c.posted c.ended c.mid).mail.sent (followed c.posted c.ended c.mid).outcomes (line ∷ ls)) (now_longer line ls old told ordered good caused folded new c s timely accounts r.posted r.sent) r.rest;

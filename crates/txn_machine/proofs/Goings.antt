@@ -3,6 +3,7 @@ use Rattle.std.proofs.Common.{◌≡◌, ◌≢◌, ℕ, suc, ◌<◌, ◌≤◌
 use Rattle.std.proofs.lemmas.Bool.Decides.{nat_tests}
 use Rattle.std.specs.List.{filter}
 use Rattle.txn_lines.specs.Lines.{line_at}
+use Rattle.txn_lines.specs.Deeds.{deed_of}
 use Rattle.txn_lines.specs.declared.line.Line.{Line}
 use Rattle.txn_report.specs.declared.outcome.Outcome.{Outcome}
 use Rattle.txn_report.specs.declared.outcome.Outcome.TheVariants.{Done, Err, Ok, Skipped, Unfinished}
@@ -294,7 +295,7 @@ pub ends_same : (seen know : ℕ → Outcome) (e : ℕ) → is_done (seen e) ≡
 ends_same seen know e a [] = refl
 ends_same seen know e a (l ∷ ls) =
     let before = ends_same seen know e a ls in
-    λ i. if nat_eq (suc (length ls)) e then tells l && a i else before i
+    λ i. if nat_eq (suc (length ls)) e then tells (deed_of l) && a i else before i
 
 -- where calls of one line only end, none of another does
 pub alone_none : (es : List Ending) (line n : ℕ) → EndsAlone line es → n ≢ line → outcomes_of n es ≡ []

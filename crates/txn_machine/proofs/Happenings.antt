@@ -8,8 +8,9 @@ use Rattle.txn_history.specs.Event.{Event, kept_reply, same_ticket}
 use Rattle.txn_history.specs.Event.Event.{Clocked, Crashed, Led, Refused, Split}
 use Rattle.txn_history.specs.Event.Event.{Slept as Woke}
 use Rattle.txn_law.specs.Run.{store_after}
-use Rattle.txn_lines.specs.declared.line.Line.{Line}
-use Rattle.txn_lines.specs.declared.line.Line.TheVariants as lines
+use Rattle.txn_lines.specs.declared.deed.Deed.{Deed}
+use Rattle.txn_lines.specs.declared.deed.Deed.TheVariants as deeds
+use Rattle.txn_lines.specs.declared.happening.Happening.TheVariants as happenings
 use Rattle.txn_model.specs.Store.{Store}
 use Rattle.txn_model.specs.Table.{table}
 use Rattle.txn_post.proofs.Mails.{changed_is_mail, opened_is_mail, waked_is_mail}
@@ -74,25 +75,25 @@ module _ (l : Lists) (mail : Mail) (m : IsMail l.mail) where
   keeps_wake : (place : ℕ) → mail ≡ waking place l.mail → Keeps l mail
   keeps_wake place e = subst (λ x. Keeps l x) (sym e) (record { is = waked_is_mail place l.mail m; tickets = refl; sent = refl; sleeps = refl })
 
-  pub mail_keeps : (d : Bool) (line : Line) → MailGoes d line l mail → Keeps l mail
-  mail_keeps false line g = keeps_same g
-  mail_keeps true (lines.Serve t) g = keeps_change (keeping (reply_at l g.place)) g.place g.is
-  mail_keeps true (lines.Answer t) g = keeps_change taking g.place g.is
-  mail_keeps true (lines.Deliver t) g = keeps_change delivering g.place g.is
-  mail_keeps true (lines.Lose t) g = keeps_change losing g.place g.is
-  mail_keeps true (lines.Busy t) g = keeps_change refusing g.place g.is
-  mail_keeps true (lines.Wake t) g = keeps_wake g.place g.is
-  mail_keeps true line g = keeps_same g
+  pub mail_keeps : (d : Bool) (deed : Deed) → MailGoes d deed l mail → Keeps l mail
+  mail_keeps false deed g = keeps_same g
+  mail_keeps true (deeds.Happens (happenings.Serve t)) g = keeps_change (keeping (reply_at l g.place)) g.place g.is
+  mail_keeps true (deeds.Happens (happenings.Answer t)) g = keeps_change taking g.place g.is
+  mail_keeps true (deeds.Happens (happenings.Deliver t)) g = keeps_change delivering g.place g.is
+  mail_keeps true (deeds.Happens (happenings.Lose t)) g = keeps_change losing g.place g.is
+  mail_keeps true (deeds.Happens (happenings.Busy t)) g = keeps_change refusing g.place g.is
+  mail_keeps true (deeds.Happens (happenings.Wake t)) g = keeps_wake g.place g.is
+  mail_keeps true deed g = keeps_same g
 
-pub from_nexts : (r : Role) (line : Line) (own : Option Outcome) (ended : List Ending) (s from : Sight) → Begins r line own ended s from → from.nexts ≡ s.nexts
-from_nexts MakesClient line own ended s from h = ap (λ (x : Sight). x.nexts) h.begun
-from_nexts (AsksTime b k) line own ended s from h = elim h [ inl i ↦ ap (λ (x : Sight). x.nexts) i.same | inr i ↦ ap (λ (x : Sight). x.nexts) i.begun ]
-from_nexts (UsesTransaction b x) line own ended s from h = elim h [ inl i ↦ ap (λ (x : Sight). x.nexts) i.same | inr i ↦ ap (λ (x : Sight). x.nexts) i.begun ]
-from_nexts NoCall line own ended s from h = falls line h.done h.falls
+pub from_nexts : (r : Role) (deed : Deed) (own : Option Outcome) (ended : List Ending) (s from : Sight) → Begins r deed own ended s from → from.nexts ≡ s.nexts
+from_nexts MakesClient deed own ended s from h = ap (λ (x : Sight). x.nexts) h.begun
+from_nexts (AsksTime b k) deed own ended s from h = elim h [ inl i ↦ ap (λ (x : Sight). x.nexts) i.same | inr i ↦ ap (λ (x : Sight). x.nexts) i.begun ]
+from_nexts (UsesTransaction b x) deed own ended s from h = elim h [ inl i ↦ ap (λ (x : Sight). x.nexts) i.same | inr i ↦ ap (λ (x : Sight). x.nexts) i.begun ]
+from_nexts NoCall deed own ended s from h = falls deed h.done h.falls
   where
-    falls : (line : Line) (d : Bool) → Falls line d s from → from.nexts ≡ s.nexts
-    falls (lines.Crash k) d f = ap (λ (x : Sight). x.nexts) f.1
-    falls line d f = ap (λ (x : Sight). x.nexts) f
+    falls : (deed : Deed) (d : Bool) → Falls deed d s from → from.nexts ≡ s.nexts
+    falls (deeds.Happens (happenings.Crash k)) d f = ap (λ (x : Sight). x.nexts) f.1
+    falls deed d f = ap (λ (x : Sight). x.nexts) f
 
 -- What a line makes of the fates.
 
@@ -116,8 +117,8 @@ module _ (old : Lists) (es : List Event) (mail : Mail) (m : IsMail old.mail) (wa
   changed_fates : (t : Ticket) (fs : List Event) (k : ℕ) (change : Letter → Letter) → ((u : Ticket) → same_ticket t u ≡ false → Same es fs u) → as_sent (place_of (opened old).mail.tickets t) ≡ Some k → IsFate fs t (request_in (slice_get old.mail.sent k)) (change (letter_at old.mail k)) → mail ≡ changing change k (opened old).mail → Fates fs mail
   changed_fates t fs k change others named own e = subst (λ x. Fates fs x) (sym e) (fates_changed es (opened old).mail opened_mail opened_fates t fs others k change named own)
 
-  done_fates : (line : Line) → MailGoes true line (opened old) mail → Fates (does looks line es) mail
-  done_fates (lines.Serve t) g =
+  done_fates : (deed : Deed) → MailGoes true deed (opened old) mail → Fates (does looks deed es) mail
+  done_fates (deeds.Happens (happenings.Serve t)) g =
       let r = request_in (slice_get old.mail.sent g.place) in
       let reply : (table (store_after es) r).reply ≡ reply_at (opened old) g.place = ap (λ (s : Store). (table s (request_in (slice_get old.mail.sent g.place))).reply) (sym store) in
       changed_fates t (serves t (looks t) es) g.place (keeping (reply_at (opened old) g.place)) (λ u q. serves_apart t u q (looks t) es) g.sent
@@ -125,43 +126,33 @@ module _ (old : Lists) (es : List Event) (mail : Mail) (m : IsMail old.mail) (wa
       (subst (λ o. IsFate (serves t (Some (request_in (slice_get old.mail.sent g.place))) es) t (request_in (slice_get old.mail.sent g.place)) (keeping o (letter_at old.mail g.place))) reply
       (serve_fate t (request_in (slice_get old.mail.sent g.place)) es (letter_at old.mail g.place) (own_fate t g.place g.sent) _)))
       g.is
-  done_fates (lines.Answer t) g =
+  done_fates (deeds.Happens (happenings.Answer t)) g =
       changed_fates t (takes t (looks t) es) g.place taking (λ u q. takes_apart t u q (looks t) es) g.sent
       (subst (λ o. IsFate (takes t o es) t (request_in (slice_get old.mail.sent g.place)) (taking (letter_at old.mail g.place))) (sym (request_is t g.place g.sent))
       (answer_fate t (request_in (slice_get old.mail.sent g.place)) es (letter_at old.mail g.place) (own_fate t g.place g.sent) g.reply g.awaited g.kept))
       g.is
-  done_fates (lines.Deliver t) g =
+  done_fates (deeds.Happens (happenings.Deliver t)) g =
       changed_fates t (takes t (looks t) (serves t (looks t) es)) g.place delivering (λ u q. same_then es (serves t (looks t) es) (takes t (looks t) (serves t (looks t) es)) u (serves_apart t u q (looks t) es) (takes_apart t u q (looks t) (serves t (looks t) es))) g.sent
       (subst (λ o. IsFate (takes t o (serves t o es)) t (request_in (slice_get old.mail.sent g.place)) (delivering (letter_at old.mail g.place))) (sym (request_is t g.place g.sent))
       (deliver_fate t (request_in (slice_get old.mail.sent g.place)) es (letter_at old.mail g.place) (own_fate t g.place g.sent)))
       g.is
-  done_fates (lines.Lose t) g =
+  done_fates (deeds.Happens (happenings.Lose t)) g =
       changed_fates t (loses t (looks t) es) g.place losing (λ u q. loses_apart t u q (looks t) es) g.sent
       (subst (λ o. IsFate (loses t o es) t (request_in (slice_get old.mail.sent g.place)) (losing (letter_at old.mail g.place))) (sym (request_is t g.place g.sent))
       (lose_fate t (request_in (slice_get old.mail.sent g.place)) es (letter_at old.mail g.place) (own_fate t g.place g.sent)))
       g.is
-  done_fates (lines.Busy t) g =
+  done_fates (deeds.Happens (happenings.Busy t)) g =
       changed_fates t (refuses t (looks t) es) g.place refusing (λ u q. refuses_apart t u q (looks t) es) g.sent
       (subst (λ o. IsFate (refuses t o es) t (request_in (slice_get old.mail.sent g.place)) (refusing (letter_at old.mail g.place))) (sym (request_is t g.place g.sent))
       (refuse_fate t (request_in (slice_get old.mail.sent g.place)) es (letter_at old.mail g.place) (own_fate t g.place g.sent) g.reply g.busy))
       g.is
-  done_fates (lines.Wake t) g = subst (λ x. Fates (Woke t ∷ es) x) (sym g.is) (fates_woken es (opened old).mail opened_mail opened_fates t g.place g.slept)
-  done_fates (lines.Split key) g = same_fates (Split key ∷ es) (λ t. record { sent = refl; kept = refl; taken = refl; refused = refl; lost = refl; woken = refl }) g
-  done_fates (lines.Lead region to) g = same_fates (Led region to ∷ es) (λ t. record { sent = refl; kept = refl; taken = refl; refused = refl; lost = refl; woken = refl }) g
-  done_fates (lines.Clock ms) g = same_fates (Clocked ms ∷ es) (λ t. record { sent = refl; kept = refl; taken = refl; refused = refl; lost = refl; woken = refl }) g
-  done_fates (lines.Crash k) g = same_fates (Crashed k ∷ es) (λ t. record { sent = refl; kept = refl; taken = refl; refused = refl; lost = refl; woken = refl }) g
-  done_fates lines.Blank g = same_fates es (λ t. same_none es t) g
-  done_fates lines.Client g = same_fates es (λ t. same_none es t) g
-  done_fates (lines.Begin c options) g = same_fates es (λ t. same_none es t) g
-  done_fates (lines.Timestamp c) g = same_fates es (λ t. same_none es t) g
-  done_fates (lines.Put x k v) g = same_fates es (λ t. same_none es t) g
-  done_fates (lines.Insert x k v) g = same_fates es (λ t. same_none es t) g
-  done_fates (lines.Delete x k) g = same_fates es (λ t. same_none es t) g
-  done_fates (lines.Mutate x ms) g = same_fates es (λ t. same_none es t) g
-  done_fates (lines.Lock x ks) g = same_fates es (λ t. same_none es t) g
-  done_fates (lines.Commit x) g = same_fates es (λ t. same_none es t) g
-  done_fates (lines.Rollback x) g = same_fates es (λ t. same_none es t) g
+  done_fates (deeds.Happens (happenings.Wake t)) g = subst (λ x. Fates (Woke t ∷ es) x) (sym g.is) (fates_woken es (opened old).mail opened_mail opened_fates t g.place g.slept)
+  done_fates (deeds.Happens (happenings.Split key)) g = same_fates (Split key ∷ es) (λ t. record { sent = refl; kept = refl; taken = refl; refused = refl; lost = refl; woken = refl }) g
+  done_fates (deeds.Happens (happenings.Lead region to)) g = same_fates (Led region to ∷ es) (λ t. record { sent = refl; kept = refl; taken = refl; refused = refl; lost = refl; woken = refl }) g
+  done_fates (deeds.Happens (happenings.Clock ms)) g = same_fates (Clocked ms ∷ es) (λ t. record { sent = refl; kept = refl; taken = refl; refused = refl; lost = refl; woken = refl }) g
+  done_fates (deeds.Happens (happenings.Crash k)) g = same_fates (Crashed k ∷ es) (λ t. record { sent = refl; kept = refl; taken = refl; refused = refl; lost = refl; woken = refl }) g
+  done_fates deed g = same_fates es (λ t. same_none es t) g
 
-  pub event_fates : (d : Bool) (line : Line) → MailGoes d line (opened old) mail → Fates (if d then does looks line es else es) mail
-  event_fates true line g = done_fates line g
-  event_fates false line g = same_fates es (λ t. same_none es t) g
+  pub event_fates : (d : Bool) (deed : Deed) → MailGoes d deed (opened old) mail → Fates (if d then does looks deed es else es) mail
+  event_fates true deed g = done_fates deed g
+  event_fates false deed g = same_fates es (λ t. same_none es t) g

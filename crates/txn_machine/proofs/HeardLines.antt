@@ -2,6 +2,7 @@
 use Rattle.std.proofs.Common.{◌≡◌, ℕ, true, List, [], ◌∷◌, ◌++◌, None, length, reverse, refl, sym, ap, ◌∙◌, subst, append-nil}
 use Rattle.std.proofs.lemmas.List.{reverse-reverse}
 use Rattle.txn_lines.specs.Lines.{why_after}
+use Rattle.txn_lines.specs.Deeds.{deed_of}
 use Rattle.txn_lines.specs.declared.line.Line.{Line}
 use Rattle.txn_report.specs.declared.report.Report.{Report}
 use Rattle.txn_side.specs.Account.{Account}
@@ -24,7 +25,7 @@ pub broken_heard : {S : Type 0} (rests : S → Trace → Type 0) (fails : HowCal
 broken_heard rests fails m lines broken h = absurd (let e = h.whole in cc)
 
 pub step_heard : {S : Type 0} (sight : S → Sight) (ready : S → Type 0) (waits : S → ℕ → Awaited → Type 0) (account : S → ℕ → Account) (fails : HowCallsFail) (rests : S → Trace → Type 0) (old new : Machine S) (line : Line) (before : List Line) → Steps line (lists_of sight old) (lists_of sight new)
-    → Rested fails (rests old.clients) (rests new.clients) line (lists_of sight old) (account old.clients) (lists_of sight new) → ((s : S) (t longer : Trace) → IsLonger t longer → rests s t → rests s longer)
+    → Rested fails (rests old.clients) (rests new.clients) (deed_of line) (lists_of sight old) (account old.clients) (lists_of sight new) → ((s : S) (t longer : Trace) → IsLonger t longer → rests s t → rests s longer)
     → why_after before line ≡ None → HasMemory old → StandsFor sight ready waits old before → TakenIn account old before → HeardIn rests fails old before → HeardIn rests fails new (line ∷ before)
 step_heard sight ready waits account fails rests old new line before steps rested longer good memory stood taken heard h =
     heard_step fails (rests old.clients) (rests new.clients) line before (lists_of sight old) (lists_of sight new) (account old.clients) was.told was.ordered good steps was.folded was.caused was.timely (taken memory) rested (longer old.clients) (longer new.clients) (heard memory)

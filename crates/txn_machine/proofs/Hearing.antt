@@ -10,15 +10,18 @@ use Rattle.txn_history.specs.Event.{Event, Has, kept_reply}
 use Rattle.txn_history.specs.Event.Event.{Lost, Refused, Took}
 use Rattle.txn_history.specs.Event.Event.{Sent as SentEvent}
 use Rattle.txn_law.specs.Run.{store_after}
+use Rattle.txn_lines.specs.Deeds.{deed_of}
+use Rattle.txn_lines.specs.declared.deed.Deed.{Deed}
+use Rattle.txn_lines.specs.declared.deed.Deed.TheVariants as deeds
+use Rattle.txn_lines.specs.declared.happening.Happening.TheVariants as happenings
 use Rattle.txn_lines.specs.declared.line.Line.{Line}
-use Rattle.txn_lines.specs.declared.line.Line.TheVariants as lines
 use Rattle.txn_post.proofs.Naming.{opened_leads}
 use Rattle.txn_post.specs.Mail.{IsMail, as_sent, can_be_served, letter_at, place_of}
 use Rattle.txn_report.specs.declared.outcome.Outcome.{Outcome}
 use Rattle.txn_report.specs.declared.report.SentNote.{SentNote}
 use Rattle.txn_side.specs.Sight.{Group, IsOut}
 use Rattle.txn_side.specs.Trace.{Begin, Call, ComesFor, HasCome, HasRefused, Refusal, Trace}
-use Rattle.txn_machine.specs.Causes.{role_of}
+use Rattle.txn_machine.specs.Causes.{role_for}
 use Rattle.txn_machine.specs.Causes.Role.{NoCall}
 use Rattle.txn_machine.specs.Failing.{CanHear, came_by, groups_of}
 use Rattle.txn_machine.specs.Lists.{Lists, opened, reply_at, request_at, request_in}
@@ -70,22 +73,22 @@ module _ (u : Ticket) (r : Request) where
   apart_sent e es far (inr h) = h
 
   -- a line itself sends nothing
-  does_sent : (looks : Ticket → Option Request) (line : Line) (es : List Event) → Has (does looks line es) (SentEvent u r) → Has es (SentEvent u r)
-  does_sent looks (lines.Serve t) es h = serves_sent t (looks t) es h
-  does_sent looks (lines.Answer t) es h = takes_sent t (looks t) es h
-  does_sent looks (lines.Deliver t) es h = serves_sent t (looks t) es (takes_sent t (looks t) (serves t (looks t) es) h)
-  does_sent looks (lines.Lose t) es h = loses_sent t (looks t) es h
-  does_sent looks (lines.Busy t) es h = refuses_sent t (looks t) es h
-  does_sent looks (lines.Wake t) es h = apart_sent _ es (λ e. cc) h
-  does_sent looks (lines.Split key) es h = apart_sent _ es (λ e. cc) h
-  does_sent looks (lines.Lead region to) es h = apart_sent _ es (λ e. cc) h
-  does_sent looks (lines.Clock ms) es h = apart_sent _ es (λ e. cc) h
-  does_sent looks (lines.Crash k) es h = apart_sent _ es (λ e. cc) h
-  does_sent looks line es h = h
+  does_sent : (looks : Ticket → Option Request) (deed : Deed) (es : List Event) → Has (does looks deed es) (SentEvent u r) → Has es (SentEvent u r)
+  does_sent looks (deeds.Happens (happenings.Serve t)) es h = serves_sent t (looks t) es h
+  does_sent looks (deeds.Happens (happenings.Answer t)) es h = takes_sent t (looks t) es h
+  does_sent looks (deeds.Happens (happenings.Deliver t)) es h = serves_sent t (looks t) es (takes_sent t (looks t) (serves t (looks t) es) h)
+  does_sent looks (deeds.Happens (happenings.Lose t)) es h = loses_sent t (looks t) es h
+  does_sent looks (deeds.Happens (happenings.Busy t)) es h = refuses_sent t (looks t) es h
+  does_sent looks (deeds.Happens (happenings.Wake t)) es h = apart_sent _ es (λ e. cc) h
+  does_sent looks (deeds.Happens (happenings.Split key)) es h = apart_sent _ es (λ e. cc) h
+  does_sent looks (deeds.Happens (happenings.Lead region to)) es h = apart_sent _ es (λ e. cc) h
+  does_sent looks (deeds.Happens (happenings.Clock ms)) es h = apart_sent _ es (λ e. cc) h
+  does_sent looks (deeds.Happens (happenings.Crash k)) es h = apart_sent _ es (λ e. cc) h
+  does_sent looks deed es h = h
 
-  done_sent : (d : Bool) (looks : Ticket → Option Request) (line : Line) (es : List Event) → Has (if d then does looks line es else es) (SentEvent u r) → Has es (SentEvent u r)
-  done_sent true looks line es h = does_sent looks line es h
-  done_sent false looks line es h = h
+  done_sent : (d : Bool) (looks : Ticket → Option Request) (deed : Deed) (es : List Event) → Has (if d then does looks deed es else es) (SentEvent u r) → Has es (SentEvent u r)
+  done_sent true looks deed es h = does_sent looks deed es h
+  done_sent false looks deed es h = h
 
   sends_sent : (ss : List SentNote) (n : ℕ) (es : List Event) → Has (with_sends ss n es) (SentEvent u r) → WasAsked ss u r ⊎ Has es (SentEvent u r)
   sends_sent [] n es h = inr h
@@ -103,7 +106,7 @@ module _ (u : Ticket) (r : Request) where
   sent_noted sent outs [] h = absurd h
   sent_noted sent outs (l ∷ ls) h = elim (sends_sent sent (length (l ∷ ls)) _ h) [
     | inl w ↦ w
-    | inr g ↦ sent_noted sent outs ls (done_sent (is_done (outcome_of outs (length (l ∷ ls)))) _ l (history sent outs ls) g)
+    | inr g ↦ sent_noted sent outs ls (done_sent (is_done (outcome_of outs (length (l ∷ ls)))) _ (deed_of l) (history sent outs ls) g)
   ]
 
 -- A group that is noted is among those of the notes.
@@ -181,26 +184,26 @@ module _ (old : Lists) (es : List Event) (m : IsMail old.mail) (was : Fates es o
   is_undone : (b : Bool) → false ≡ b → b ≡ true → ⊥
   is_undone b e f = absurd (cc)
 
-  pub can_hear : (d : Bool) (line : Line) → (role_of line ≡ NoCall → d ≡ does_it line (opened old)) → CanHear line (opened old) before (after (came_by line) (if d then does looks line es else es))
-  can_hear true (lines.Answer u) sure = λ k o found kept.
+  pub can_hear : (d : Bool) (deed : Deed) → (role_for deed ≡ NoCall → d ≡ does_it deed (opened old)) → CanHear deed (opened old) before (after (came_by deed) (if d then does looks deed es else es))
+  can_hear true (deeds.Happens (happenings.Answer u)) sure = λ k o found kept.
       let there = out_there old u k found in
       come u k (takes u (looks u) es) (λ r. Took u r o) there.0 (λ r. refl) (λ r h. takes_sent u r u (looks u) es h) (λ r is asks. answer_newest u o k there.0 there.1 kept r is)
-  can_hear true (lines.Deliver u) sure = λ k found can.
+  can_hear true (deeds.Happens (happenings.Deliver u)) sure = λ k found can.
       let there = out_there old u k found in
       come u k (takes u (looks u) (serves u (looks u) es)) (λ r. Took u r (reply_at (opened old) k)) there.0 (λ r. refl) (λ r h. serves_sent u r u (looks u) es (takes_sent u r u (looks u) (serves u (looks u) es) h))
       (λ r is asks. deliver_newest u k r is asks)
-  can_hear true (lines.Busy u) sure = λ k o found can busy.
+  can_hear true (deeds.Happens (happenings.Busy u)) sure = λ k o found can busy.
       let there = out_there old u k found in
       come u k (refuses u (looks u) es) (λ r. Took u r o) there.0 (λ r. refl) (λ r h. refuses_sent u r u (looks u) es h) (λ r is asks. refuse_newest u o r is (ap busy_reply (sym asks) ∙ busy))
-  can_hear true (lines.Lose u) sure = λ k found.
+  can_hear true (deeds.Happens (happenings.Lose u)) sure = λ k found.
       let there = out_there old u k found in
       come u k (loses u (looks u) es) (λ r. Lost u r) there.0 (λ r. refl) (λ r h. loses_sent u r u (looks u) es h) (λ r is asks. lose_newest u r is)
-  can_hear false (lines.Answer u) sure = λ k o found kept.
-      absurd (is_undone (does_it (lines.Answer u) (opened old)) (sure refl) (ap (λ z. test_at (λ j. is_some (letter_at (opened old).mail j).kept) z) found ∙ ap is_some kept))
-  can_hear false (lines.Deliver u) sure = λ k found can.
-      absurd (is_undone (does_it (lines.Deliver u) (opened old)) (sure refl) (ap (λ z. test_at (λ j. can_be_served (opened old).mail j) z) found ∙ can))
-  can_hear false (lines.Busy u) sure = λ k o found can busy.
-      absurd (is_undone (does_it (lines.Busy u) (opened old)) (sure refl) (ap (λ z. test_at (λ j. can_be_served (opened old).mail j && is_some (busy_reply (request_at (opened old) j))) z) found ∙ (λ i. can i && is_some (busy i))))
-  can_hear false (lines.Lose u) sure = λ k found.
-      absurd (is_undone (does_it (lines.Lose u) (opened old)) (sure refl) (ap (λ z. test_at (λ j. true) z) found))
-  can_hear d line sure = tt
+  can_hear false (deeds.Happens (happenings.Answer u)) sure = λ k o found kept.
+      absurd (is_undone (does_it (deeds.Happens (happenings.Answer u)) (opened old)) (sure refl) (ap (λ z. test_at (λ j. is_some (letter_at (opened old).mail j).kept) z) found ∙ ap is_some kept))
+  can_hear false (deeds.Happens (happenings.Deliver u)) sure = λ k found can.
+      absurd (is_undone (does_it (deeds.Happens (happenings.Deliver u)) (opened old)) (sure refl) (ap (λ z. test_at (λ j. can_be_served (opened old).mail j) z) found ∙ can))
+  can_hear false (deeds.Happens (happenings.Busy u)) sure = λ k o found can busy.
+      absurd (is_undone (does_it (deeds.Happens (happenings.Busy u)) (opened old)) (sure refl) (ap (λ z. test_at (λ j. can_be_served (opened old).mail j && is_some (busy_reply (request_at (opened old) j))) z) found ∙ (λ i. can i && is_some (busy i))))
+  can_hear false (deeds.Happens (happenings.Lose u)) sure = λ k found.
+      absurd (is_undone (does_it (deeds.Happens (happenings.Lose u)) (opened old)) (sure refl) (ap (λ z. test_at (λ j. true) z) found))
+  can_hear d deed sure = tt

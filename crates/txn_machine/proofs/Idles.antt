@@ -1,8 +1,11 @@
 -- When a call can do nothing, by what stands at the lines and by the lines.
 use Rattle.std.proofs.Common.{◌≡◌, ℕ, zero, suc, ◌≤◌, Bool, true, false, not, ◌&&◌, ◌||◌, if◌then◌else◌, List, Option, Some, None, length, nat_eq, nat_le, refl, sym, ap, ◌∙◌, subst, arith}
 use Rattle.std.proofs.lemmas.Bool.Decides.{nat_tests}
-use Rattle.txn_lines.specs.Lines.{clients_in, clock_in, is_line_of, line_at, max_lines, named_by, or_else, why_after, why_alone, why_named}
-use Rattle.txn_lines.specs.declared.begin_options.BeginOptions.{BeginOptions}
+use Rattle.txn_lines.specs.Lines.{clients_in, clock_in, is_kind, is_line_of, kind_by, line_at, max_lines, named_by, named_in, or_else, why_after, why_alone, why_named}
+use Rattle.txn_lines.specs.Deeds.{begins, deed_of}
+use Rattle.txn_lines.specs.declared.deed.Deed.{Deed}
+use Rattle.txn_lines.specs.declared.deed.Deed.TheVariants as deeds
+use Rattle.txn_lines.specs.declared.happening.Happening.TheVariants as happenings
 use Rattle.txn_lines.specs.declared.line.Line.{Line}
 use Rattle.txn_lines.specs.declared.line.Line.TheVariants as lines
 use Rattle.txn_lines.specs.declared.line_kinds.LineKind.{LineKind}
@@ -12,7 +15,7 @@ use Rattle.txn_lines.specs.declared.script.Why.TheVariants.{TooMany, NotEarlier,
 use Rattle.txn_report.specs.declared.outcome.Outcome.{Outcome}
 use Rattle.txn_side.specs.Sight.{Stand, client_at, free, lives}
 use Rattle.txn_side.specs.Sight.Stand.{Calling, HasBegun, IsClient}
-use Rattle.txn_machine.specs.Causes.{Role, client_of, is_busy, is_crashed, is_idle, is_ok, is_unfinished, role_of, uses}
+use Rattle.txn_machine.specs.Causes.{Role, client_of, is_busy, is_crashed, is_idle, is_ok, is_unfinished, role_for, role_of, uses}
 use Rattle.txn_machine.specs.Causes.Role.{AsksTime, MakesClient, NoCall, UsesTransaction}
 use Rattle.txn_machine.specs.Rows.{AreRows, Row, outcome_in, role_in, stand_in}
 use Rattle.txn_machine.specs.Rows.Row.{Acted, AskFailed, AskSkipped, AskWaits, Begun, CallFailed, CallSkipped, CallWaits, Happened, Made, Over, Timed, Works}
@@ -20,7 +23,7 @@ use Rattle.txn_machine.proofs.Numberings.{Waiting, busy_waits, line_range, waits
 
 -- What a line that is not bad names.
 
-good_named : (before : List Line) (line : Line) → why_after before line ≡ None → why_named before (named_by line) ≡ None
+pub good_named : (before : List Line) (line : Line) → why_after before line ≡ None → why_named before (named_by line) ≡ None
 good_named before line e = by (nat_le max_lines (length before)) e
   where
     first : (a b : Option Why) → or_else a b ≡ None → a ≡ None
@@ -47,15 +50,25 @@ client_line (Some line) h = absurd (cc)
 
 -- it begins a transaction
 pub record IsBegin (o : Option Line) : Type 0 where
+  pub line : Line
   pub client : ℕ
-  pub options : BeginOptions
-  pub is : o ≡ Some (lines.Begin client options)
+  pub is : o ≡ Some line
+  pub role : role_of line ≡ AsksTime true client
+
+begin_deed : (deed : Deed) → is_kind kinds.Begin (kind_by deed) ≡ true → (client : ℕ) × (role_for deed ≡ AsksTime true client)
+begin_deed (deeds.Ask client act) h = (client, by (begins act) h)
+  where
+    by : (b : Bool) → is_kind kinds.Begin (if b then kinds.Begin else kinds.Other) ≡ true → AsksTime b client ≡ AsksTime true client
+    by true h = refl
+    by false h = absurd (cc)
+begin_deed deeds.Nothing h = absurd (cc)
+begin_deed deeds.Connect h = absurd (cc)
+begin_deed (deeds.Use x act) h = absurd (cc)
+begin_deed (deeds.Happens what) h = absurd (cc)
 
 begin_line : (o : Option Line) → is_line_of kinds.Begin o ≡ true → IsBegin o
 begin_line None h = absurd (cc)
-begin_line (Some (lines.Begin c options)) h = record { client = c; options = options; is = refl }
-begin_line (Some lines.Client) h = absurd (cc)
-begin_line (Some line) h = absurd (cc)
+begin_line (Some line) h = let w = begin_deed (deed_of line) h in record { line = line; client = w.0; is = refl; role = w.1 }
 
 abbrev pub Names : List Line → Role → Type 0
 Names before MakesClient = Unit {0}
@@ -63,40 +76,24 @@ Names before (AsksTime b k) = line_at before k ≡ Some lines.Client
 Names before (UsesTransaction b x) = IsBegin (line_at before x)
 Names before NoCall = Unit {0}
 
-names_client : (before : List Line) (k : ℕ) → why_named before (Some (k, kinds.Client)) ≡ None → line_at before k ≡ Some lines.Client
+pub names_client : (before : List Line) (k : ℕ) → why_named before (Some (k, kinds.Client)) ≡ None → line_at before k ≡ Some lines.Client
 names_client before k h = client_line (line_at before k) (is_named before k kinds.Client h)
 
 names_begin : (before : List Line) (x : ℕ) → why_named before (Some (x, kinds.Begin)) ≡ None → IsBegin (line_at before x)
 names_begin before x h = begin_line (line_at before x) (is_named before x kinds.Begin h)
 
-named : (before : List Line) (line : Line) → why_named before (named_by line) ≡ None → Names before (role_of line)
-named before (lines.Begin c options) h = names_client before c h
-named before (lines.Timestamp c) h = names_client before c h
-named before (lines.Put x k v) h = names_begin before x h
-named before (lines.Insert x k v) h = names_begin before x h
-named before (lines.Delete x k) h = names_begin before x h
-named before (lines.Mutate x ms) h = names_begin before x h
-named before (lines.Lock x ks) h = names_begin before x h
-named before (lines.Commit x) h = names_begin before x h
-named before (lines.Rollback x) h = names_begin before x h
-named before lines.Client h = tt
-named before lines.Blank h = tt
-named before (lines.Serve t) h = tt
-named before (lines.Answer t) h = tt
-named before (lines.Deliver t) h = tt
-named before (lines.Lose t) h = tt
-named before (lines.Busy t) h = tt
-named before (lines.Wake t) h = tt
-named before (lines.Split k) h = tt
-named before (lines.Lead r s) h = tt
-named before (lines.Clock ms) h = tt
-named before (lines.Crash c) h = tt
+named : (before : List Line) (deed : Deed) → why_named before (named_in deed) ≡ None → Names before (role_for deed)
+named before (deeds.Ask client act) h = names_client before client h
+named before (deeds.Use x act) h = names_begin before x h
+named before deeds.Nothing h = tt
+named before deeds.Connect h = tt
+named before (deeds.Happens what) h = tt
 
 pub names : (before : List Line) (line : Line) → why_after before line ≡ None → Names before (role_of line)
-names before line h = named before line (good_named before line h)
+names before line h = named before (deed_of line) (good_named before line h)
 
-pub crash_names : (before : List Line) (k : ℕ) → why_after before (lines.Crash k) ≡ None → line_at before k ≡ Some lines.Client
-crash_names before k h = names_client before k (good_named before (lines.Crash k) h)
+pub crash_names : (before : List Line) (line : Line) (k : ℕ) → why_after before line ≡ None → deed_of line ≡ deeds.Happens (happenings.Crash k) → line_at before k ≡ Some lines.Client
+crash_names before line k h is = names_client before k (subst (λ d. why_named before (named_in d) ≡ None) is (good_named before line h))
 
 -- What stands there.
 
@@ -226,8 +223,8 @@ module _ (ls : List Line) (seen : ℕ → Outcome) (e : ℕ → ℕ) (st : ℕ �
 
   pub free_is : (b : Bool) (x : ℕ) → IsBegin (line_at ls x) → lives crashed (client_at (st x)) && free (st x) ≡ not (is_idle seen ls (UsesTransaction b x))
   free_is b x begins =
-      let r = was.rows x (lines.Begin begins.client begins.options) begins.is in
-      ap (λ s. lives crashed (client_at s) && free s) (sym r.at) ∙ by r.row r.is (sym r.at) ∙ ap (λ o. not (is_crashed seen ls (client_of ls x) || not (is_ok o) || is_busy seen ls x)) r.outcome
+      let r = was.rows x begins.line begins.is in
+      ap (λ s. lives crashed (client_at s) && free s) (sym r.at) ∙ by r.row (r.is ∙ begins.role) (sym r.at) ∙ ap (λ o. not (is_crashed seen ls (client_of ls x) || not (is_ok o) || is_busy seen ls x)) r.outcome
     where
       none : (z : Bool) (p q : Bool) → z && false ≡ not (p || true || q)
       none true true q = refl

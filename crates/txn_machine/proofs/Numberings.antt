@@ -2,6 +2,7 @@
 use Rattle.std.proofs.Common.{◌≡◌, ◌≢◌, ℕ, zero, suc, ◌+◌, ◌-◌, ◌<◌, ◌≤◌, ◌⊎◌, inl, inr, Bool, true, false, ◌&&◌, ◌||◌, if◌then◌else◌, List, [], ◌∷◌, ◌++◌, Option, Some, None, length, set, nat_eq, refl, sym, ap, ◌∙◌, subst, arith}
 use Rattle.std.proofs.lemmas.Bool.Decides.{nat_tests}
 use Rattle.txn_lines.specs.Lines.{line_at}
+use Rattle.txn_lines.specs.Deeds.{deed_of}
 use Rattle.txn_lines.specs.declared.line.Line.{Line}
 use Rattle.txn_report.specs.declared.outcome.Outcome.{Outcome}
 use Rattle.txn_side.specs.Sight.{Stand, stand_at}
@@ -61,7 +62,7 @@ crashed_same seen know [] same c = refl
 crashed_same seen know (l ∷ ls) same c =
     let now = same (suc (length ls)) (omega arith) in
     let before = crashed_same seen know ls (λ j h. same j (omega arith)) c in
-    λ i. crashes l c && now i || before i
+    λ i. crashes (deed_of l) c && now i || before i
 
 -- Calls of a transaction.
 

@@ -6,9 +6,11 @@ use Rattle.txn_kv.specs.declared.request.Request.{Request}
 use Rattle.txn_kv.specs.declared.request.Request.TheVariants.{Tso}
 use Rattle.txn_kv.specs.declared.ticket.Ticket.{Ticket}
 use Rattle.txn_history.specs.Busy.{busy_reply}
+use Rattle.txn_lines.specs.Deeds.{begins}
 use Rattle.txn_lines.specs.Lines.{max_lines}
-use Rattle.txn_lines.specs.declared.line.Line.{Line}
-use Rattle.txn_lines.specs.declared.line.Line.TheVariants as lines
+use Rattle.txn_lines.specs.declared.deed.Deed.{Deed}
+use Rattle.txn_lines.specs.declared.deed.Deed.TheVariants as deeds
+use Rattle.txn_lines.specs.declared.happening.Happening.TheVariants as happenings
 use Rattle.txn_model.specs.Regions.{at_clock, can_lead, can_split, lead, led_by, split, split_at, unused_id}
 use Rattle.txn_model.specs.Served.{last_after, last_small, others_stay}
 use Rattle.txn_model.specs.Store.{Store}
@@ -21,14 +23,13 @@ use Rattle.txn_report.specs.declared.outcome.Payload.TheVariants.{Unit as Nothin
 use Rattle.txn_report.specs.declared.report.SentNote.{SentNote}
 use Rattle.txn_side.specs.Sight.{Acts, AskFor, ArePosted, Asks, IsGiven, Sight, connected, crash, line_count}
 use Rattle.txn_side.specs.Sight.Stand.{Asking, HasBegun, Idle}
-use Rattle.txn_side.specs.declared.act.Act.{Act}
-use Rattle.txn_side.specs.declared.act.Act.TheVariants as acts
+use Rattle.txn_lines.specs.declared.act.Act.{Act}
 use Rattle.txn_side.specs.declared.turn.Ending.{Ending}
 use Rattle.txn_side.specs.declared.turn.Posting.{Posting}
 use Rattle.txn_side.specs.declared.turn.Turn.{Turn}
 use Rattle.txn_machine.specs.Lists.{Lists, all_ended, all_posted, at_line, ended_at, fated, followed, handled, newest, opened, outright, reply_at, request_in, with_mail, with_sight, with_store}
 use Rattle.txn_machine.specs.Running.{AreNumbered, CameInOrder, IsEven, IsFine, IsOrdered, IsSound}
-use Rattle.txn_machine.specs.Steps.{Answers, AtPlace, Calls, Delivers, Hears, IfServable, IsBusy, Loses, Refuses, Serves, Steps, Takes, Wakes, called, found_asleep, found_out, skipped}
+use Rattle.txn_machine.specs.Steps.{Answers, AtPlace, Calls, Delivers, Does, Hears, IfServable, IsBusy, Loses, Refuses, Serves, Takes, Wakes, called, found_asleep, found_out, skipped}
 use Rattle.txn_machine.proofs.Coming.{order_all, order_opened}
 use Rattle.txn_machine.proofs.Numbers.{asks_all, lines_stay, mail_all, numbered_all, numbered_opened}
 use Rattle.txn_post.proofs.Mails.{changed_is_mail, opened_is_mail, waked_is_mail}
@@ -314,29 +315,22 @@ module _ (old : Lists) (room : newest old < max_lines) (was : IsOrdered old) whe
   delivers_keeps t None new e = skips_keeps (opened old) new e now
   delivers_keeps t (Some place) new c = delivers_if t (can_be_served (opened old).mail place) place new c
 
-  pub steps_keep : (line : Line) (new : Lists) → IsFine line → Steps line old new → Stays (newest old + 1) new
-  steps_keep lines.Blank new fine s = is_keeps _ new s (outright_keeps Done (opened old) now)
-  steps_keep lines.Client new fine s = is_keeps _ new s (outright_keeps (Ok Nothing) _ (sight_keeps (connected (opened old).sight) (opened old) (length-set (opened old).sight.stands _ _ ∙ now.ordered.even.stands) refl now))
-  steps_keep (lines.Begin client options) new fine s = calls_asks true client (opened old) new s now
-  steps_keep (lines.Timestamp client) new fine s = calls_asks false client (opened old) new s now
-  steps_keep (lines.Put x key value) new fine s = calls_acts (acts.Put key value) x (opened old) new s now
-  steps_keep (lines.Insert x key value) new fine s = calls_acts (acts.Insert key value) x (opened old) new s now
-  steps_keep (lines.Delete x key) new fine s = calls_acts (acts.Delete key) x (opened old) new s now
-  steps_keep (lines.Mutate x mutations) new fine s = calls_acts (acts.Mutate mutations) x (opened old) new s now
-  steps_keep (lines.Lock x keys) new fine s = calls_acts (acts.Lock keys) x (opened old) new s now
-  steps_keep (lines.Commit x) new fine s = calls_acts acts.Commit x (opened old) new s now
-  steps_keep (lines.Rollback x) new fine s = calls_acts acts.Rollback x (opened old) new s now
-  steps_keep (lines.Serve t) new fine s = serves_keeps t (found_unserved (opened old).mail t) new s
-  steps_keep (lines.Answer t) new fine s = answers_keeps t (found_out (opened old) t) (opened old) new s now
-  steps_keep (lines.Deliver t) new fine s = delivers_keeps t (found_out (opened old) t) new s
-  steps_keep (lines.Lose t) new fine s = loses_keeps (found_out (opened old) t) (opened old) new s now
-  steps_keep (lines.Busy t) new fine s = busy_keeps t (found_out (opened old) t) (opened old) new s now
-  steps_keep (lines.Wake t) new fine s = wakes_keeps (found_asleep (opened old) t) (opened old) new s now
-  steps_keep (lines.Split key) new fine s =
+  pub steps_keep : (deed : Deed) (new : Lists) → IsFine deed → Does deed (opened old) new → Stays (newest old + 1) new
+  steps_keep deeds.Nothing new fine s = is_keeps _ new s (outright_keeps Done (opened old) now)
+  steps_keep deeds.Connect new fine s = is_keeps _ new s (outright_keeps (Ok Nothing) _ (sight_keeps (connected (opened old).sight) (opened old) (length-set (opened old).sight.stands _ _ ∙ now.ordered.even.stands) refl now))
+  steps_keep (deeds.Ask client act) new fine s = calls_asks (begins act) client (opened old) new s now
+  steps_keep (deeds.Use x act) new fine s = calls_acts act x (opened old) new s now
+  steps_keep (deeds.Happens (happenings.Serve t)) new fine s = serves_keeps t (found_unserved (opened old).mail t) new s
+  steps_keep (deeds.Happens (happenings.Answer t)) new fine s = answers_keeps t (found_out (opened old) t) (opened old) new s now
+  steps_keep (deeds.Happens (happenings.Deliver t)) new fine s = delivers_keeps t (found_out (opened old) t) new s
+  steps_keep (deeds.Happens (happenings.Lose t)) new fine s = loses_keeps (found_out (opened old) t) (opened old) new s now
+  steps_keep (deeds.Happens (happenings.Busy t)) new fine s = busy_keeps t (found_out (opened old) t) (opened old) new s now
+  steps_keep (deeds.Happens (happenings.Wake t)) new fine s = wakes_keeps (found_asleep (opened old) t) (opened old) new s now
+  steps_keep (deeds.Happens (happenings.Split key)) new fine s =
       let stays = split_stays old.store key in
       is_keeps _ new s (outright_keeps _ _ (stored_keeps (split old.store key) (opened old) stays.0 (subst (λ n. n < 2 ^ 44) (sym stays.1) now.ordered.sound.clock) now))
-  steps_keep (lines.Lead region store) new fine s =
+  steps_keep (deeds.Happens (happenings.Lead region store)) new fine s =
       let stays = lead_stays old.store region store in
       is_keeps _ new s (outright_keeps _ _ (stored_keeps (lead old.store region store) (opened old) stays.0 (subst (λ n. n < 2 ^ 44) (sym stays.1) now.ordered.sound.clock) now))
-  steps_keep (lines.Clock ms) new fine s = is_keeps _ new s (outright_keeps Done _ (stored_keeps (at_clock old.store ms) (opened old) refl fine now))
-  steps_keep (lines.Crash client) new fine s = is_keeps _ new s (outright_keeps _ _ (sight_keeps (crash client (opened old).sight) (opened old) now.ordered.even.stands refl now))
+  steps_keep (deeds.Happens (happenings.Clock ms)) new fine s = is_keeps _ new s (outright_keeps Done _ (stored_keeps (at_clock old.store ms) (opened old) refl fine now))
+  steps_keep (deeds.Happens (happenings.Crash client)) new fine s = is_keeps _ new s (outright_keeps _ _ (sight_keeps (crash client (opened old).sight) (opened old) now.ordered.even.stands refl now))

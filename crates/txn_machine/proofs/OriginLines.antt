@@ -3,6 +3,7 @@ use Rattle.std.proofs.Common.{◌≡◌, ℕ, true, List, [], ◌∷◌, ◌++�
 use Rattle.std.proofs.lemmas.List.{reverse-reverse}
 use Rattle.txn_history.specs.Event.{Event}
 use Rattle.txn_lines.specs.Lines.{why_after}
+use Rattle.txn_lines.specs.Deeds.{deed_of}
 use Rattle.txn_lines.specs.declared.line.Line.{Line}
 use Rattle.txn_report.specs.declared.outcome.Outcome.{Outcome}
 use Rattle.txn_report.specs.declared.report.Report.{Report}
@@ -28,7 +29,7 @@ pub broken_arisen : {S : Type 0} (arises : S → List Event → Type 0) (holds :
 broken_arisen arises holds m lines broken h = absurd (let e = h.whole in cc)
 
 pub step_arisen : {S : Type 0} (sight : S → Sight) (ready : S → Type 0) (waits : S → ℕ → Awaited → Type 0) (arises : S → List Event → Type 0) (holds : S → List Event → ℕ → Outcome → Type 0) (old new : Machine S) (line : Line) (before : List Line) → Steps line (lists_of sight old) (lists_of sight new)
-    → Arisen (arises old.clients) (arises new.clients) (holds old.clients) (holds new.clients) line (lists_of sight old) (lists_of sight new) → why_after before line ≡ None → HasMemory old → StandsFor sight ready waits old before → ArisenIn arises holds old before → ArisenIn arises holds new (line ∷ before)
+    → Arisen (arises old.clients) (arises new.clients) (holds old.clients) (holds new.clients) (deed_of line) (lists_of sight old) (lists_of sight new) → why_after before line ≡ None → HasMemory old → StandsFor sight ready waits old before → ArisenIn arises holds old before → ArisenIn arises holds new (line ∷ before)
 step_arisen sight ready waits arises holds old new line before steps goes good memory stood arisen h =
     arisen_on (arises old.clients) (arises new.clients) (holds old.clients) (holds new.clients) line before (lists_of sight old) (lists_of sight new) was.told was.ordered good steps was.folded was.caused goes (arisen memory)
   where

@@ -8,8 +8,10 @@ use Rattle.txn_history.specs.Event.Event.{Sent, Served}
 use Rattle.txn_law.specs.Run.{IsUnserved}
 use Rattle.txn_law.proofs.Tickets.{unserved, was_sent}
 use Rattle.txn_lines.specs.Lines.{line_at, why_after}
+use Rattle.txn_lines.specs.Deeds.{deed_of}
+use Rattle.txn_lines.specs.declared.deed.Deed.{Deed}
+use Rattle.txn_lines.specs.declared.deed.Deed.TheVariants as deeds
 use Rattle.txn_lines.specs.declared.line.Line.{Line}
-use Rattle.txn_lines.specs.declared.line.Line.TheVariants as lines
 use Rattle.txn_post.proofs.Mails.{opened_is_mail}
 use Rattle.txn_post.proofs.Naming.{opened_leads}
 use Rattle.txn_post.specs.Mail.{IsMail, as_sent, can_be_served, found_unserved, letter_at, place_of}
@@ -19,7 +21,7 @@ use Rattle.txn_report.specs.declared.outcome.Payload.{Payload}
 use Rattle.txn_side.specs.Arising.{answered_at}
 use Rattle.txn_side.specs.Sight.{stand_at}
 use Rattle.txn_machine.specs.Arising.{AllHold, AllSpeak, Arisen, GoesIn, HaveArisen, HoldsBy, IsRight, Knows, happens}
-use Rattle.txn_machine.specs.Causes.{Role, is_unfinished, role_of, tells}
+use Rattle.txn_machine.specs.Causes.{Role, is_unfinished, role_for, role_of, tells}
 use Rattle.txn_machine.specs.Causes.Role.{AsksTime, MakesClient, NoCall, UsesTransaction}
 use Rattle.txn_machine.specs.Lists.{Lists, all_posted, followed, newest, opened, request_at, request_in, with_mail}
 use Rattle.txn_machine.specs.Rows.{Caused, IsRow, Row, outcome_in, role_in, stand_in}
@@ -140,8 +142,8 @@ module _ (holds : ℕ → Outcome → Type 0) (n : ℕ) where
   row_holds (CallSkipped b x) p waits h = absurd (cc)
 
 -- a call does nothing, whether it is done or not
-did_same : (looks : Ticket → Option Request) (line : Line) (es : List Event) (a b : Bool) → (role_of line ≡ NoCall → a ≡ b) → (if a then does looks line es else es) ≡ (if b then does looks line es else es)
-did_same looks line es a b same = by line same
+did_same : (looks : Ticket → Option Request) (deed : Deed) (es : List Event) (a b : Bool) → (role_for deed ≡ NoCall → a ≡ b) → (if a then does looks deed es else es) ≡ (if b then does looks deed es else es)
+did_same looks deed es a b same = by deed same
   where
     either : (a b : Bool) → (if a then es else es) ≡ (if b then es else es)
     either true true = refl
@@ -149,26 +151,17 @@ did_same looks line es a b same = by line same
     either false true = refl
     either false false = refl
 
-    alike : (line : Line) → a ≡ b → (if a then does looks line es else es) ≡ (if b then does looks line es else es)
-    alike line e = ap (λ (z : Bool). if z then does looks line es else es) e
+    alike : (deed : Deed) → a ≡ b → (if a then does looks deed es else es) ≡ (if b then does looks deed es else es)
+    alike deed e = ap (λ (z : Bool). if z then does looks deed es else es) e
 
-    by : (line : Line) → (role_of line ≡ NoCall → a ≡ b) → (if a then does looks line es else es) ≡ (if b then does looks line es else es)
-    by (lines.Serve t) h = alike (lines.Serve t) (h refl)
-    by (lines.Answer t) h = alike (lines.Answer t) (h refl)
-    by (lines.Deliver t) h = alike (lines.Deliver t) (h refl)
-    by (lines.Lose t) h = alike (lines.Lose t) (h refl)
-    by (lines.Busy t) h = alike (lines.Busy t) (h refl)
-    by (lines.Wake t) h = alike (lines.Wake t) (h refl)
-    by (lines.Split key) h = alike (lines.Split key) (h refl)
-    by (lines.Lead region to) h = alike (lines.Lead region to) (h refl)
-    by (lines.Clock ms) h = alike (lines.Clock ms) (h refl)
-    by (lines.Crash client) h = alike (lines.Crash client) (h refl)
-    by line h = either a b
+    by : (deed : Deed) → (role_for deed ≡ NoCall → a ≡ b) → (if a then does looks deed es else es) ≡ (if b then does looks deed es else es)
+    by (deeds.Happens what) h = alike (deeds.Happens what) (h refl)
+    by deed h = either a b
 
 -- The step.
 
 module _ (line : Line) (ls : List Line) (old : Lists) (told : newest old ≡ length ls) (ordered : IsOrdered old) (good : why_after ls line ≡ None) (was : Caused ls old) (folded : Folded ls old)
-    (new : Lists) (c : Course line old new) (stepped : Stepped (length ls) line old (followed c.posted c.ended c.mid)) where
+    (new : Lists) (c : Course (deed_of line) old new) (stepped : Stepped (length ls) (deed_of line) old (followed c.posted c.ended c.mid)) where
   abbrev all : Lists
   all = followed c.posted c.ended c.mid
 
@@ -193,10 +186,10 @@ module _ (line : Line) (ls : List Line) (old : Lists) (told : newest old ≡ len
   knows_past : Knows (opened old) looks past
   knows_past = knows old ls told ordered.sound was folded looks (looked line ls old told ordered good was folded new c stepped)
 
-  history_is : with_sends all.mail.sent (newest (opened old)) (happens looks line (opened old) past) ≡ now
+  history_is : with_sends all.mail.sent (newest (opened old)) (happens looks (deed_of line) (opened old) past) ≡ now
   history_is =
-      ap (λ k. with_sends all.mail.sent k (happens looks line (opened old) past)) count
-      ∙ ap (λ fs. with_sends all.mail.sent n fs) (did_same looks line past (does_it line (opened old)) (own_done c.own) (λ role. sym (ap own_done (c.sure role) ∙ done_is (does_it line (opened old)))))
+      ap (λ k. with_sends all.mail.sent k (happens looks (deed_of line) (opened old) past)) count
+      ∙ ap (λ fs. with_sends all.mail.sent n fs) (did_same looks (deed_of line) past (does_it (deed_of line) (opened old)) (own_done c.own) (λ role. sym (ap own_done (c.sure role) ∙ done_is (does_it (deed_of line) (opened old)))))
       ∙ history_now line ls old told ordered good was folded new c stepped
 
   module _ (steps : Steps line old all) (is : List Event → Type 0) (held holds : List Event → ℕ → Outcome → Type 0) (r : GoesIn is holds (held past) (role_of line) (opened old).sight now old all) where
@@ -205,7 +198,7 @@ module _ (line : Line) (ls : List Line) (old : Lists) (told : newest old ≡ len
       | inl same ↦ holds_still (held past) k (holds now) r.kept (role_of z) p (subst (λ o. HoldsBy (held past) k (role_of z) o) (sym same.0 ∙ is_ok) h)
       | inr changed ↦ elim (r.answers k p is_ok) [
         | inl before ↦ absurd (let a = sym (ap is_unfinished before) ∙ changed.0 in cc)
-        | inr right ↦ by p changed.0 is_ok (tells line) refl right
+        | inr right ↦ by p changed.0 is_ok (tells (deed_of line)) refl right
       ]
     ])
       where
@@ -215,10 +208,10 @@ module _ (line : Line) (ls : List Line) (old : Lists) (told : newest old ≡ len
         row : IsRow (role_of z) (outcome_of old.outcomes k) (stand_at old.sight.stands k)
         row = was.rows.rows k z there
 
-        by : (p : Payload) → is_unfinished (outcome_of old.outcomes k) ≡ true → outcome_of all.outcomes k ≡ Ok p → (b : Bool) → tells line ≡ b → IsRight (role_of line) (opened old).sight (holds now) k (Ok p) → HoldsBy (holds now) k (role_of z) (Ok p)
+        by : (p : Payload) → is_unfinished (outcome_of old.outcomes k) ≡ true → outcome_of all.outcomes k ≡ Ok p → (b : Bool) → tells (deed_of line) ≡ b → IsRight (role_of line) (opened old).sight (holds now) k (Ok p) → HoldsBy (holds now) k (role_of z) (Ok p)
         by p waits is_ok false quiet right = absurd (let a = sym waits ∙ ap is_unfinished (sym (stays line ls old all told all_newest ordered good steps was quiet k low).0 ∙ is_ok) in cc)
         by p waits is_ok true told_so right =
-            let stands : holds now (answered_at k (stand_at (opened old).sight.stands k)).at (Ok p) = subst (λ role. IsRight role (opened old).sight (holds now) k (Ok p)) (tells_none line told_so) right in
+            let stands : holds now (answered_at k (stand_at (opened old).sight.stands k)).at (Ok p) = subst (λ role. IsRight role (opened old).sight (holds now) k (Ok p)) (tells_none (deed_of line) told_so) right in
             subst (λ role. HoldsBy (holds now) k role (Ok p)) row.is
             (row_holds (holds now) k row.row p (ap is_unfinished row.outcome ∙ waits)
             (subst (λ s. holds now (answered_at k s).at (Ok p)) (stand_opened old.sight.stands k ∙ sym row.at) stands))
@@ -250,11 +243,11 @@ module _ (line : Line) (ls : List Line) (old : Lists) (told : newest old ≡ len
     }
 
 pub arisen_on : (was is : List Event → Type 0) (held holds : List Event → ℕ → Outcome → Type 0) (line : Line) (ls : List Line) (old new : Lists) → newest old ≡ length ls → IsOrdered old → why_after ls line ≡ None → Steps line old new → Folded ls old → Caused ls old
-    → Arisen was is held holds line old new → HaveArisen was held ls old.mail.sent old.outcomes old.ended → HaveArisen is holds (line ∷ ls) new.mail.sent new.outcomes new.ended
+    → Arisen was is held holds (deed_of line) old new → HaveArisen was held ls old.mail.sent old.outcomes old.ended → HaveArisen is holds (line ∷ ls) new.mail.sent new.outcomes new.ended
 arisen_on was is held holds line ls old new told ordered good steps folded caused arisen h =
-    let c = course old line new steps in
-    let s = subst (λ x. Stepped (length ls) line old x) c.is (stepped (length ls) old told ordered.even.stands folded.calm ordered.sound.mail line new steps) in
-    let r = subst (λ l. Arisen was is held holds line old l) c.is arisen (looks line ls old told ordered good caused folded new c s) (history old.mail.sent old.outcomes ls) (knows_past line ls old told ordered good caused folded new c s) h.now in
+    let c = course old (deed_of line) new steps in
+    let s = subst (λ x. Stepped (length ls) (deed_of line) old x) c.is (stepped (length ls) old told ordered.even.stands folded.calm ordered.sound.mail (deed_of line) new steps) in
+    let r = subst (λ l. Arisen was is held holds (deed_of line) old l) c.is arisen (looks line ls old told ordered good caused folded new c s) (history old.mail.sent old.outcomes ls) (knows_past line ls old told ordered good caused folded new c s) h.now in
     subst (λ l. HaveArisen is holds (line ∷ ls) l.mail.sent l.outcomes l.ended) (sym c.is)
     (arisen_now line ls old told ordered good caused folded new c s (subst (λ l. Steps line old l) c.is steps) is held holds
     (subst (λ fs. GoesIn is holds (held (history old.mail.sent old.outcomes ls)) (role_of line) (opened old).sight fs old (followed c.posted c.ended c.mid)) (history_is line ls old told ordered good caused folded new c s) r) h.answers h.doubts)

@@ -3,8 +3,11 @@ use Rattle.std.proofs.Common.{◌≡◌, ◌≢◌, ℕ, suc, ◌-◌, ◌≤◌
 use Rattle.std.specs.List.{All}
 use Rattle.txn_kv.specs.declared.ticket.Ticket.{Ticket}
 use Rattle.txn_lines.specs.Lines.{why_after}
+use Rattle.txn_lines.specs.Deeds.{deed_of}
+use Rattle.txn_lines.specs.declared.deed.Deed.{Deed}
+use Rattle.txn_lines.specs.declared.deed.Deed.TheVariants as deeds
+use Rattle.txn_lines.specs.declared.happening.Happening.TheVariants as happenings
 use Rattle.txn_lines.specs.declared.line.Line.{Line}
-use Rattle.txn_lines.specs.declared.line.Line.TheVariants as lines
 use Rattle.txn_post.proofs.Mails.{opened_is_mail}
 use Rattle.txn_post.proofs.Naming.{named_pushed, opened_leads}
 use Rattle.txn_post.specs.Mail.{IsMail, IsNext, Mail, place_of}
@@ -47,14 +50,14 @@ pub has_client : (crashed : List Bool) (o : Option ℕ) → lives crashed o ≡ 
 has_client crashed None h = absurd (cc)
 has_client crashed (Some c) h = (c, refl)
 
-falls_stands : (line : Line) (d : Bool) (s from : Sight) → Falls line d s from → from.stands ≡ s.stands
-falls_stands (lines.Crash k) d s from f = ap (λ (x : Sight). x.stands) f.1
-falls_stands line d s from f = ap (λ (x : Sight). x.stands) f
+falls_stands : (deed : Deed) (d : Bool) (s from : Sight) → Falls deed d s from → from.stands ≡ s.stands
+falls_stands (deeds.Happens (happenings.Crash k)) d s from f = ap (λ (x : Sight). x.stands) f.1
+falls_stands deed d s from f = ap (λ (x : Sight). x.stands) f
 
 module _ (line : Line) (ls : List Line) (old : Lists) (told : newest old ≡ length ls) (ordered : IsOrdered old) (good : why_after ls line ≡ None)
     (was : AreRows ls (λ n. outcome_of old.outcomes n) (λ n. ended_of old.ended n) (λ n. stand_at old.sight.stands n) old.sight.crashed)
     (owned : AreOwned old.mail old.sight.stands)
-    (new : Lists) (c : Course line old new) where
+    (new : Lists) (c : Course (deed_of line) old new) where
   abbrev st : ℕ → Stand
   st n = stand_at old.sight.stands n
 
@@ -92,7 +95,7 @@ module _ (line : Line) (ls : List Line) (old : Lists) (told : newest old ≡ len
       so : (x : Sight) → c.from ≡ x → Stays x.stands → Stays c.from.stands
       so x is h = subst (λ (z : Sight). Stays z.stands) (sym is) h
 
-      by : (r : Role) → Names ls r → Begins r line c.own c.ended s c.from → Stays c.from.stands
+      by : (r : Role) → Names ls r → Begins r (deed_of line) c.own c.ended s c.from → Stays c.from.stands
       by MakesClient named h = so (connected s) h.begun (from_set (IsClient (length old.sight.crashed)))
       by (AsksTime b k) named h = elim h [
         | inl i ↦ so s i.same from_opened
@@ -101,10 +104,10 @@ module _ (line : Line) (ls : List Line) (old : Lists) (told : newest old ≡ len
       by (UsesTransaction b x) named h = elim h [
         | inl i ↦ so s i.same from_opened
         | inr a ↦
-            let range = line_range ls x (lines.Begin named.client named.options) named.is in
+            let range = line_range ls x named.line named.is in
             so (with_stand (line_count s) (Calling a.client x b) (with_stand x (HasBegun a.client (line_count s)) s)) a.begun (from_called b x range.0 range.1 a)
       ]
-      by NoCall named h = subst Stays (sym (falls_stands line h.done s c.from h.falls)) from_opened
+      by NoCall named h = subst Stays (sym (falls_stands (deed_of line) h.done s c.from h.falls)) from_opened
 
   abbrev Has : List Stand → ℕ → Type 0
   Has stands n = (k : ℕ) × (client_at (stand_at stands n) ≡ Some k)
@@ -125,10 +128,10 @@ module _ (line : Line) (ls : List Line) (old : Lists) (told : newest old ≡ len
   all = followed c.posted c.ended c.mid
 
   keeps : Keeps (opened old) c.mid.mail
-  keeps = mail_keeps (opened old) c.mid.mail (opened_is_mail old.mail ordered.sound.mail) (own_done c.own) line c.mails
+  keeps = mail_keeps (opened old) c.mid.mail (opened_is_mail old.mail ordered.sound.mail) (own_done c.own) (deed_of line) c.mails
 
   numbered : AreNumbered c.mid.mail.tickets c.from.nexts
-  numbered = subst (λ ts. AreNumbered ts c.from.nexts) (sym keeps.tickets) (subst (λ ns. AreNumbered (opened old).mail.tickets ns) (sym (from_nexts (role_of line) line c.own c.ended (opened old).sight c.from c.begins)) (numbered_opened old.mail.tickets old.sight.nexts ordered.even.numbered))
+  numbered = subst (λ ts. AreNumbered ts c.from.nexts) (sym keeps.tickets) (subst (λ ns. AreNumbered (opened old).mail.tickets ns) (sym (from_nexts (role_of line) (deed_of line) c.own c.ended (opened old).sight c.from c.begins)) (numbered_opened old.mail.tickets old.sight.nexts ordered.even.numbered))
 
   posting_has : All (λ (p : Posting). Has c.mid.sight.stands (ticket_in p).line) c.posted
   posting_has k d low = mid_has (ticket_in (get_or c.posted k d)).line (has_client c.from.crashed (client_at (stand_at c.from.stands (ticket_in (get_or c.posted k d)).line)) (c.goes.posting k d low))

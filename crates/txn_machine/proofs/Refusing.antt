@@ -4,7 +4,7 @@ use Rattle.txn_kv.specs.declared.request.Request.{Request}
 use Rattle.txn_kv.specs.declared.ticket.Ticket.{Ticket}
 use Rattle.txn_history.specs.Among.{IsAmong}
 use Rattle.txn_history.specs.Event.{Event}
-use Rattle.txn_lines.specs.declared.line.Line.{Line}
+use Rattle.txn_lines.specs.declared.deed.Deed.{Deed}
 use Rattle.txn_report.specs.declared.report.SentNote.{SentNote}
 use Rattle.txn_side.specs.Sight.{Group}
 use Rattle.txn_side.specs.Trace.{AreRefused, ComesFor, refused_as, times_in}
@@ -23,8 +23,8 @@ module _ (groups : List Group) (line n : ℕ) where
   pub refused_served : (t : Ticket) (o : Option Request) (es : List Event) → AtLeastRefused groups line n es → AtLeastRefused groups line n (serves t o es)
   refused_served t o es h = serves_keeps (AtLeastRefused groups line n) refused_next t o es h
 
-  pub refused_done : (d : Bool) (looks : Ticket → Option Request) (l : Line) (es : List Event) → AtLeastRefused groups line n es → AtLeastRefused groups line n (if d then does looks l es else es)
-  refused_done d looks l es h = done_keeps (AtLeastRefused groups line n) refused_next d looks l es h
+  pub refused_done : (d : Bool) (looks : Ticket → Option Request) (deed : Deed) (es : List Event) → AtLeastRefused groups line n es → AtLeastRefused groups line n (if d then does looks deed es else es)
+  refused_done d looks deed es h = done_keeps (AtLeastRefused groups line n) refused_next d looks deed es h
 
   pub refused_sends : (ss : List SentNote) (at : ℕ) (es : List Event) → AtLeastRefused groups line n es → AtLeastRefused groups line n (with_sends ss at es)
   refused_sends ss at es h = sends_keeps (AtLeastRefused groups line n) refused_next ss at es h

@@ -1,6 +1,8 @@
 -- The calls of the clients rest on what has happened, and on what their step posts.
 use Rattle.std.proofs.Common.{◌≡◌, ℕ, zero, suc, ◌<◌, ◌⊎◌, inl, inr, IfOk, List, [], ◌∷◌, Option, Some, None, Result, Ok, Err, length, get_or, refl, sym, ap, ◌∙◌, subst, arith}
 use Rattle.std.specs.List.{All}
+use Rattle.txn_lines.specs.declared.line.Line.{Line}
+use Rattle.txn_lines.specs.Deeds.{deed_of}
 use Rattle.txn_kv.specs.declared.errors.Error.{Error}
 use Rattle.txn_kv.specs.declared.memory.NoMemory.{NoMemory}
 use Rattle.txn_kv.specs.declared.reply.Reply.{Reply}
@@ -9,22 +11,26 @@ use Rattle.txn_kv.specs.declared.ticket.Ticket.{Ticket}
 use Rattle.txn_history.specs.Among.{IsAmong}
 use Rattle.txn_history.specs.Event.{Event}
 use Rattle.txn_history.specs.Event.Event.{Took}
-use Rattle.txn_lines.specs.declared.line.Line.{Line}
+use Rattle.txn_lines.specs.declared.act.Act.{Act}
+use Rattle.txn_lines.specs.declared.deed.Deed.{Deed}
+use Rattle.txn_lines.specs.declared.deed.Deed.TheVariants as deeds
 use Rattle.txn_post.specs.Mail.{Mail}
 use Rattle.txn_report.specs.declared.outcome.Outcome.{Outcome}
 use Rattle.txn_report.specs.declared.outcome.Outcome.TheVariants as outcomes
 use Rattle.txn_report.specs.declared.report.SentNote.{SentNote}
 use Rattle.txn_side.specs.Account.{Account, AreKept, refusal}
 use Rattle.txn_side.specs.Sight.{Sight}
-use Rattle.txn_side.specs.Trace.{EndsFor, FailsIn, HasCome, HearsOn, HowCallsFail, IsCalled, IsSend, StillRests, Trace, with_posted}
+use Rattle.txn_side.specs.Trace.{ActsOn, EndsFor, FailsIn, HasCome, HearsOn, HowCallsFail, IsSend, RestsOn, StillRests, Trace, with_posted}
 use Rattle.txn_side.specs.declared.turn.Ending.{Ending}
 use Rattle.txn_side.specs.declared.turn.Posting.{Posting}
 use Rattle.txn_side.specs.declared.turn.Posting.TheVariants.{Send, Sleep}
-use Rattle.txn_machine.specs.Accounts.{Ask, ask_of}
-use Rattle.txn_machine.specs.Failing.{CanAsk, CanRest, Rested, RunsAsk, RunsOn, WasPosted}
+use Rattle.txn_side.specs.declared.turn.Turn.{Turn}
+use Rattle.txn_machine.specs.Accounts.{Ask, ask_for}
+use Rattle.txn_machine.specs.Failing.{CanAsk, CanRest, Rested, RunsOn, WasPosted}
 use Rattle.txn_machine.specs.Lists.{Lists, all_ended, all_posted, ended_at, newest, opened, posted_at, with_mail}
 use Rattle.txn_machine.specs.Running.{closed, with_own}
 use Rattle.txn_machine.specs.Script.{outcome_of}
+use Rattle.txn_machine.specs.Steps.{ended_in, posted_in}
 use Rattle.txn_machine.specs.Told.{CanTell, OwnEnds, is_answer}
 use Rattle.txn_machine.specs.declared.done.Done.{Done as Course}
 use Rattle.txn_machine.proofs.Calms.{outcome_opened}
@@ -36,16 +42,21 @@ use Rattle.txn_machine.proofs.Timing.{among_last, posted_among, told_either}
 
 module _ (fails : HowCallsFail) (was is : Trace → Type 0) (l : Lists) (accounts : ℕ → Account) where
   -- a line asks something of a transaction
-  pub ask_on : (ask : Ask) (line same : Line) (r : Result Course NoMemory) → line ≡ same → ((before t : Trace) → CanRest same l accounts before t → IsCalled t (newest l) ask.transaction × CanAsk (Some ask) accounts (newest l) t)
-      → IfOk r (λ done. RunsAsk fails was is ask (newest l) accounts done) → IfOk r (λ done. RunsOn fails was is line l accounts done)
-  ask_on ask line same (Ok done) e can h = subst (λ x. RunsOn fails was is x l accounts done) (sym e) (λ before t rest w. let c = can before t rest in h t rest.posted c.0 c.1)
-  ask_on ask line same (Err e) f can h = tt
+  pub used_on : (x : ℕ) (act : Act) (n : ℕ) (turn : Option Turn) (done : Course) → n ≡ newest l → done.turn.posted.items ≡ posted_in turn → done.turn.ended.items ≡ ended_in turn
+      → ActsOn fails was is act x n (accounts x) turn → RunsOn fails was is (deeds.Use x act) l accounts done
+  used_on x act n turn done count posted ended h before t rest w =
+      subst (λ (ps : List Posting). RestsOn fails was is t ps done.turn.ended.items) (sym posted)
+      (subst (λ (es : List Ending). RestsOn fails was is t (posted_in turn) es) (sym ended) (by turn (subst (λ k. ActsOn fails was is act x k (accounts x) turn) count h)))
+    where
+      by : (o : Option Turn) → ActsOn fails was is act x (newest l) (accounts x) o → RestsOn fails was is t (posted_in o) (ended_in o)
+      by None a = a t rest.posted rest.call rest.ask.0 rest.ask.1
+      by (Some u) a = a t rest.posted rest.call rest.ask.0 rest.ask.1
 
   -- the clients hear of what came for a ticket
-  pub heard_on : (line : Line) (u : Ticket) (event : Request → Event) (r : Result Course NoMemory) → ((before t : Trace) → CanRest line l accounts before t → HasCome before t l.sight u event)
-      → IfOk r (λ done. HearsOn fails was is l.sight u event done.turn) → IfOk r (λ done. RunsOn fails was is line l accounts done)
-  heard_on line u event (Ok done) come h = λ before t rest w now. h before t rest.longer rest.posted (come before t rest) w
-  heard_on line u event (Err e) come h = tt
+  pub heard_on : (deed : Deed) (u : Ticket) (event : Request → Event) (r : Result Course NoMemory) → ((before t : Trace) → CanRest deed l accounts before t → HasCome before t l.sight u event)
+      → IfOk r (λ done. HearsOn fails was is l.sight u event done.turn) → IfOk r (λ done. RunsOn fails was is deed l accounts done)
+  heard_on deed u event (Ok done) come h = λ before t rest w now. h before t rest.longer rest.posted (come before t rest) w
+  heard_on deed u event (Err e) come h = tt
 
 -- the reply that the clients hear is the one that the store gave
 pub handled_heard : {S : Type 0} (sight : S → Sight) (fails : HowCallsFail) (rests : S → Trace → Type 0) (from mid to : S) (u : Ticket) (reply given : Reply) (r : Result Course NoMemory) → mid ≡ from → reply ≡ given
@@ -109,8 +120,8 @@ module _ (fails : HowCallsFail) (older l : Lists) (done : Course) (can : CanTell
     | inr now ↦ inr now
   ]
 
-  rested_closed : (was is : Trace → Type 0) (line : Line) (accounts : ℕ → Account) → RunsOn fails was is line (opened older) accounts done → Rested fails was is line older accounts (closed done l)
-  rested_closed was is line accounts runs before t rest w now =
+  rested_closed : (was is : Trace → Type 0) (deed : Deed) (accounts : ℕ → Account) → RunsOn fails was is deed (opened older) accounts done → Rested fails was is deed older accounts (closed done l)
+  rested_closed was is deed accounts runs before t rest w now =
       let r = runs before t rest w now in
       record { posted = done.turn.posted.items; sent = sent_now; rest = r.0; causes = cause_now t r.1 }
 
@@ -119,9 +130,9 @@ can_ask_kept None a b n t kept h = h
 can_ask_kept (Some ask) a b n t kept h = (λ e is. h.0 e (ap (λ z. refusal ask.act z) (sym (kept ask.transaction)) ∙ is), h.1)
 
 -- the parts of a step together
-pub rested_step : {S : Type 0} (fails : HowCallsFail) (rests : S → Trace → Type 0) (account : S → ℕ → Account) (line : Line) (older start l new : Lists) (done : Course) (from mid last to : S) → start ≡ opened older → new ≡ closed done l → CanTell start done l
-    → AreKept (account from) (account mid) → StillRests (rests from) (rests mid) → RunsOn fails (rests mid) (rests last) line start (account mid) done → to ≡ last → Rested fails (rests from) (rests to) line older (account from) new
-rested_step fails rests account line older start l new done from mid last to a b can kept still runs same =
-    subst (λ x. Rested fails (rests from) (rests to) line older (account from) x) (sym b) (subst (λ s. Rested fails (rests from) (rests s) line older (account from) (closed done l)) (sym same)
-    (rested_closed fails older l done (subst (λ x. CanTell x done l) a can) (rests from) (rests last) line (account from)
-    (λ before t rest w now. subst (λ x. RunsOn fails (rests mid) (rests last) line x (account mid) done) a runs before t (record { longer = rest.longer; posted = rest.posted; call = rest.call; begins = rest.begins; ask = can_ask_kept (ask_of line) (account from) (account mid) (newest (opened older)) t kept rest.ask; hear = rest.hear }) (still before w) (still t now))))
+pub rested_step : {S : Type 0} (fails : HowCallsFail) (rests : S → Trace → Type 0) (account : S → ℕ → Account) (line : Line) (deed : Deed) (older start l new : Lists) (done : Course) (from mid last to : S) → deed ≡ deed_of line → start ≡ opened older → new ≡ closed done l → CanTell start done l
+    → AreKept (account from) (account mid) → StillRests (rests from) (rests mid) → RunsOn fails (rests mid) (rests last) deed start (account mid) done → to ≡ last → Rested fails (rests from) (rests to) (deed_of line) older (account from) new
+rested_step fails rests account line deed older start l new done from mid last to is a b can kept still runs same =
+    subst (λ d. Rested fails (rests from) (rests to) d older (account from) new) is (subst (λ x. Rested fails (rests from) (rests to) deed older (account from) x) (sym b) (subst (λ s. Rested fails (rests from) (rests s) deed older (account from) (closed done l)) (sym same)
+    (rested_closed fails older l done (subst (λ x. CanTell x done l) a can) (rests from) (rests last) deed (account from)
+    (λ before t rest w now. subst (λ x. RunsOn fails (rests mid) (rests last) deed x (account mid) done) a runs before t (record { longer = rest.longer; posted = rest.posted; call = rest.call; begins = rest.begins; ask = can_ask_kept (ask_for deed) (account from) (account mid) (newest (opened older)) t kept rest.ask; hear = rest.hear }) (still before w) (still t now)))))

@@ -2,9 +2,12 @@
 use Rattle.std.proofs.Common.{◌≡◌, ℕ, zero, suc, ◌+◌, ◌^◌, ◌<◌, ◌≤◌, inl, inr, Bool, true, false, if◌then◌else◌, List, [], ◌∷◌, Option, Some, None, length, reverse, nat_le, nat_lt, refl, sym, ap, ◌∙◌, subst, arith}
 use Rattle.std.proofs.lemmas.Bool.Decides.{nat_tests}
 use Rattle.txn_lines.specs.Kinds.{kinds_of}
-use Rattle.txn_lines.specs.Lines.{clients_in, clock_in, max_clock, max_lines, named_by, or_else, why_after, why_alone, why_clock, why_named}
+use Rattle.txn_lines.specs.Lines.{clients_in, clock_in, max_clock, max_lines, named_by, or_else, why_after, why_alone, why_by, why_clock, why_named}
+use Rattle.txn_lines.specs.Deeds.{deed_of}
+use Rattle.txn_lines.specs.declared.deed.Deed.{Deed}
+use Rattle.txn_lines.specs.declared.deed.Deed.TheVariants as deeds
+use Rattle.txn_lines.specs.declared.happening.Happening.TheVariants as happenings
 use Rattle.txn_lines.specs.declared.line.Line.{Line}
-use Rattle.txn_lines.specs.declared.line.Line.TheVariants as lines
 use Rattle.txn_lines.specs.declared.script.Why.{Why}
 use Rattle.txn_lines.specs.declared.script.Why.TheVariants.{TooMany, ClockHigh, ClockFalls}
 use Rattle.txn_model.specs.Store.{opening}
@@ -64,9 +67,12 @@ fine_clock so_far ms e = by (nat_le max_clock ms) refl e
     by true e h = absurd (cc)
     by false e h = grind (arith, nat_tests)
 
-pub good_fine : (before : List Line) (line : Line) → why_after before line ≡ None → IsFine line
-good_fine before (lines.Clock ms) e = fine_clock (clock_in before) ms (good_alone before (lines.Clock ms) e)
-good_fine before line e = tt
+fine_deed : (clients clock : ℕ) (deed : Deed) → why_by clients clock deed ≡ None → IsFine deed
+fine_deed clients clock (deeds.Happens (happenings.Clock ms)) e = fine_clock clock ms e
+fine_deed clients clock deed e = tt
+
+pub good_fine : (before : List Line) (line : Line) → why_after before line ≡ None → IsFine (deed_of line)
+good_fine before line e = fine_deed (clients_in before) (clock_in before) (deed_of line) (good_alone before line e)
 
 -- No lines.
 
@@ -185,7 +191,7 @@ step_stands sight ready waits old new line before steps able kinds good stays du
     was = stood.stands memory
 
     next : Stays (newest (lists_of sight old) + 1) (lists_of sight new)
-    next = steps_keep (lists_of sight old) (few_lines sight ready waits old before line good was) was.ordered line (lists_of sight new) (good_fine before line good) steps
+    next = steps_keep (lists_of sight old) (few_lines sight ready waits old before line good was) was.ordered (deed_of line) (lists_of sight new) (good_fine before line good) steps
 
     caused : Caused (line ∷ before) (lists_of sight new)
     caused = caused_step line before (lists_of sight old) (lists_of sight new) was.told was.ordered good steps was.folded was.caused
@@ -214,8 +220,8 @@ opened_ordered l m e room h = subst (λ x. IsOrdered x) (sym e) (opened_keeps l 
 pub opened_some : (l m : Lists) → m ≡ opened l → 1 ≤ newest m
 opened_some l m e = subst (λ x. 1 ≤ newest x) (sym e) (let a = opened_count l in omega arith)
 
-pub step_lists : (line : Line) (old start over new : Lists) (done : Course) → start ≡ opened old → Does line start (closed done over) → new ≡ closed done over → Steps line old new
-step_lists line old start over new done a b c = subst (λ x. Does line (opened old) x) (sym c) (subst (λ x. Does line x (closed done over)) a b)
+pub step_lists : (line : Line) (deed : Deed) (old start over new : Lists) (done : Course) → deed ≡ deed_of line → start ≡ opened old → Does deed start (closed done over) → new ≡ closed done over → Steps line old new
+step_lists line deed old start over new done is a b c = subst (λ d. Does d (opened old) new) is (subst (λ x. Does deed (opened old) x) (sym c) (subst (λ x. Does deed x (closed done over)) a b))
 
 -- The report.
 

@@ -12,7 +12,7 @@ use Rattle.txn_side.specs.Sight.{Acts, ArePosted, Asks, Goes, IsOut, Nexts, Sigh
 use Rattle.txn_side.specs.Waiting.{Awaited, HearsEnd, HearsReply, NoneHeard, WaitsOn}
 use Rattle.txn_side.specs.Waiting as waiting
 use Rattle.txn_side.specs.Waiting.Awaited.{EndOf, ReplyTo}
-use Rattle.txn_side.specs.declared.act.Act.{Act}
+use Rattle.txn_lines.specs.declared.act.Act.{Act}
 use Rattle.txn_side.specs.declared.turn.Posting.{Posting}
 use Rattle.txn_side.specs.declared.turn.Turn.{Turn}
 use Rattle.txn_machine.specs.Dues.{AreOut, IsAskedIn, IsAwaitedIn, StayOut}

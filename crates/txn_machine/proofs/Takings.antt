@@ -2,6 +2,7 @@
 use Rattle.std.proofs.Common.{◌≡◌, ℕ, ◌+◌, true, List, [], ◌∷◌, ◌++◌, None, length, reverse, sym, ap, ◌∙◌, subst, arith, append-nil}
 use Rattle.std.proofs.lemmas.List.{reverse-reverse}
 use Rattle.txn_lines.specs.Lines.{why_after}
+use Rattle.txn_lines.specs.Deeds.{deed_of}
 use Rattle.txn_lines.specs.declared.line.Line.{Line}
 use Rattle.txn_report.specs.declared.outcome.Outcome.{Outcome}
 use Rattle.txn_report.specs.declared.report.Report.{Report}
@@ -25,7 +26,7 @@ new_taken account m outcomes ended new memory = subst (λ outs. AreTakenIn [] ou
 pub broken_taken : {S : Type 0} (account : S → ℕ → Account) (m : Machine S) (lines : List Line) → m.broken ≡ true → TakenIn account m lines
 broken_taken account m lines broken h = absurd (let e = h.whole in cc)
 
-pub step_taken : {S : Type 0} (sight : S → Sight) (ready : S → Type 0) (waits : S → ℕ → Awaited → Type 0) (account : S → ℕ → Account) (old new : Machine S) (line : Line) (before : List Line) → Steps line (lists_of sight old) (lists_of sight new) → Credited line (sight old.clients) (account old.clients) (account new.clients) (lists_of sight new)
+pub step_taken : {S : Type 0} (sight : S → Sight) (ready : S → Type 0) (waits : S → ℕ → Awaited → Type 0) (account : S → ℕ → Account) (old new : Machine S) (line : Line) (before : List Line) → Steps line (lists_of sight old) (lists_of sight new) → Credited (deed_of line) (sight old.clients) (account old.clients) (account new.clients) (lists_of sight new)
     → why_after before line ≡ None → HasMemory old → StandsFor sight ready waits old before → TakenIn account old before → TakenIn account new (line ∷ before)
 step_taken sight ready waits account old new line before steps credited good memory stood taken h =
     taken_step line before (lists_of sight old) (lists_of sight new) was.told (let a = next.count in let b = was.told in omega arith) was.ordered good steps was.caused (account old.clients) (account new.clients) (taken memory) credited
@@ -34,7 +35,7 @@ step_taken sight ready waits account old new line before steps credited good mem
     was = stood.stands memory
 
     next : Stays (newest (lists_of sight old) + 1) (lists_of sight new)
-    next = steps_keep (lists_of sight old) (few_lines sight ready waits old before line good was) was.ordered line (lists_of sight new) (good_fine before line good) steps
+    next = steps_keep (lists_of sight old) (few_lines sight ready waits old before line good was) was.ordered (deed_of line) (lists_of sight new) (good_fine before line good) steps
 
 pub report_accounts : {S : Type 0} (account : S → ℕ → Account) (m : Machine S) (outs : List Outcome) (ended : List ℕ) (lines : List Line) → outs ≡ m.outcomes.items → ended ≡ m.ended.items → HasMemory m → TakenIn account m lines → AllAccountsMeet outs ended lines
 report_accounts account m outs ended lines outcomes ends memory taken =

@@ -13,7 +13,7 @@ use Rattle.txn_report.specs.declared.report.SentNote.{SentNote}
 use Rattle.txn_report.specs.declared.report.SleepNote.{SleepNote}
 use Rattle.txn_side.specs.Sight.{Acts, AskEnds, Asks, CallEnds, Goes, LineGoes, Sight, Stand, StaysOrEnds, commits, line_count, outcomes_of, stand_at, ticket_in, with_stand}
 use Rattle.txn_side.specs.Sight.Stand.{Asking, Calling, HasBegun, Idle, IsClient, Past, Working}
-use Rattle.txn_side.specs.declared.act.Act.{Act}
+use Rattle.txn_lines.specs.declared.act.Act.{Act}
 use Rattle.txn_side.specs.declared.turn.Ending.{Ending}
 use Rattle.txn_side.specs.declared.turn.Posting.{Posting}
 use Rattle.txn_side.specs.declared.turn.Posting.TheVariants.{Send, Sleep}

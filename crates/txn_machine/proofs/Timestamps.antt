@@ -19,8 +19,11 @@ use Rattle.txn_law.proofs.Clocks.{last_stays}
 use Rattle.txn_law.proofs.Kept.{passes}
 use Rattle.txn_law.proofs.Replies.{timestamps_rise}
 use Rattle.txn_law.specs.Run.{store_after}
+use Rattle.txn_lines.specs.Deeds.{deed_of}
+use Rattle.txn_lines.specs.declared.deed.Deed.{Deed}
+use Rattle.txn_lines.specs.declared.deed.Deed.TheVariants as deeds
+use Rattle.txn_lines.specs.declared.happening.Happening.TheVariants as happenings
 use Rattle.txn_lines.specs.declared.line.Line.{Line}
-use Rattle.txn_lines.specs.declared.line.Line.TheVariants as lines
 use Rattle.txn_model.specs.Table.{table}
 use Rattle.txn_post.specs.Mail.{IsMail, Mail}
 use Rattle.txn_post.specs.declared.post.Place.TheVariants.{Sent}
@@ -94,18 +97,18 @@ module _ (sent : List SentNote) where
   loses_fit t None es f = f
   loses_fit t (Some r) es f = (tt, f)
 
-  does_fit : (n : ℕ) (line : Line) (es : List Event) → AllFit sent es → AllFit sent (does (λ t. find sent n t) line es)
-  does_fit n (lines.Serve t) es f = serves_fit t n es f
-  does_fit n (lines.Answer t) es f = takes_fit t (find sent n t) es f
-  does_fit n (lines.Deliver t) es f = takes_fit t (find sent n t) (serves t (find sent n t) es) (serves_fit t n es f)
-  does_fit n (lines.Lose t) es f = loses_fit t (find sent n t) es f
-  does_fit n (lines.Busy t) es f = refuses_fit t (find sent n t) es f
-  does_fit n (lines.Wake t) es f = (tt, f)
-  does_fit n (lines.Split key) es f = (tt, f)
-  does_fit n (lines.Lead region to) es f = (tt, f)
-  does_fit n (lines.Clock ms) es f = (tt, f)
-  does_fit n (lines.Crash k) es f = (tt, f)
-  does_fit n line es f = f
+  does_fit : (n : ℕ) (deed : Deed) (es : List Event) → AllFit sent es → AllFit sent (does (λ t. find sent n t) deed es)
+  does_fit n (deeds.Happens (happenings.Serve t)) es f = serves_fit t n es f
+  does_fit n (deeds.Happens (happenings.Answer t)) es f = takes_fit t (find sent n t) es f
+  does_fit n (deeds.Happens (happenings.Deliver t)) es f = takes_fit t (find sent n t) (serves t (find sent n t) es) (serves_fit t n es f)
+  does_fit n (deeds.Happens (happenings.Lose t)) es f = loses_fit t (find sent n t) es f
+  does_fit n (deeds.Happens (happenings.Busy t)) es f = refuses_fit t (find sent n t) es f
+  does_fit n (deeds.Happens (happenings.Wake t)) es f = (tt, f)
+  does_fit n (deeds.Happens (happenings.Split key)) es f = (tt, f)
+  does_fit n (deeds.Happens (happenings.Lead region to)) es f = (tt, f)
+  does_fit n (deeds.Happens (happenings.Clock ms)) es f = (tt, f)
+  does_fit n (deeds.Happens (happenings.Crash k)) es f = (tt, f)
+  does_fit n deed es f = f
 
   sends_fit : (ss : List SentNote) (n : ℕ) (es : List Event) → AllFit sent es → AllFit sent (with_sends ss n es)
   sends_fit [] n es f = f
@@ -119,8 +122,8 @@ module _ (sent : List SentNote) where
   history_fit outs [] = tt
   history_fit outs (l ∷ ls) = sends_fit sent (length (l ∷ ls)) _ (one (is_done (outcome_of outs (length (l ∷ ls)))) (history_fit outs ls))
     where
-      one : (b : Bool) → AllFit sent (history sent outs ls) → AllFit sent (if b then does (λ t. find sent (length (l ∷ ls)) t) l (history sent outs ls) else history sent outs ls)
-      one true f = does_fit (length (l ∷ ls)) l (history sent outs ls) f
+      one : (b : Bool) → AllFit sent (history sent outs ls) → AllFit sent (if b then does (λ t. find sent (length (l ∷ ls)) t) (deed_of l) (history sent outs ls) else history sent outs ls)
+      one true f = does_fit (length (l ∷ ls)) (deed_of l) (history sent outs ls) f
       one false f = f
 
   -- Of what fits.

@@ -15,8 +15,11 @@ use Rattle.txn_history.specs.Event.{Event, Has, kept_reply}
 use Rattle.txn_history.specs.Event.Event.{Took}
 use Rattle.txn_law.specs.Run.{store_after}
 use Rattle.txn_lines.specs.Lines.{why_after}
+use Rattle.txn_lines.specs.Deeds.{deed_of}
+use Rattle.txn_lines.specs.declared.deed.Deed.{Deed}
+use Rattle.txn_lines.specs.declared.deed.Deed.TheVariants as deeds
+use Rattle.txn_lines.specs.declared.happening.Happening.TheVariants as happenings
 use Rattle.txn_lines.specs.declared.line.Line.{Line}
-use Rattle.txn_lines.specs.declared.line.Line.TheVariants as lines
 use Rattle.txn_model.specs.Store.{Store}
 use Rattle.txn_model.specs.Table.{table}
 use Rattle.txn_post.proofs.Mails.{opened_is_mail}
@@ -148,22 +151,22 @@ some_number : (own : Option Outcome) (a x : Outcome) → own ≡ Some a → numb
 some_number own a x is none e = let same : a ≡ x = cc in sym (ap number_of same) ∙ none
 
 -- no line names one at once
-no_number : (r : Role) (line : Line) (own : Option Outcome) (ended : List Ending) (s from : Sight) → Begins r line own ended s from → (x : Outcome) → own ≡ Some x → number_of x ≡ None
-no_number MakesClient line own ended s from h x e = some_number own (Ok Nothing) x h.is refl e
-no_number (AsksTime b k) line own ended s from h x e = elim h [ inl i ↦ some_number own Skipped x i.is refl e | inr a ↦ absurd (let i = a.is in cc) ]
-no_number (UsesTransaction b k) line own ended s from h x e = elim h [ inl i ↦ some_number own Skipped x i.is refl e | inr a ↦ absurd (let i = a.is in cc) ]
-no_number NoCall line own ended s from h x e = some_number own (done_if h.done) x h.is (done_number h.done) e
+no_number : (r : Role) (deed : Deed) (own : Option Outcome) (ended : List Ending) (s from : Sight) → Begins r deed own ended s from → (x : Outcome) → own ≡ Some x → number_of x ≡ None
+no_number MakesClient deed own ended s from h x e = some_number own (Ok Nothing) x h.is refl e
+no_number (AsksTime b k) deed own ended s from h x e = elim h [ inl i ↦ some_number own Skipped x i.is refl e | inr a ↦ absurd (let i = a.is in cc) ]
+no_number (UsesTransaction b k) deed own ended s from h x e = elim h [ inl i ↦ some_number own Skipped x i.is refl e | inr a ↦ absurd (let i = a.is in cc) ]
+no_number NoCall deed own ended s from h x e = some_number own (done_if h.done) x h.is (done_number h.done) e
 
 -- a line itself brings no group out
-from_out : (g : Group) (r : Role) (line : Line) (own : Option Outcome) (ended : List Ending) (s from : Sight) → Begins r line own ended s from → IsOut from g → IsOut s g
-from_out g MakesClient line own ended s from h out = let o = subst (λ (x : Sight). IsOut x g) h.begun out in (o.0, sym (or_ended s.groups None o.0) ∙ o.1)
-from_out g (AsksTime b k) line own ended s from h out = elim h [ inl i ↦ subst (λ (x : Sight). IsOut x g) i.same out | inr a ↦ subst (λ (x : Sight). IsOut x g) a.begun out ]
-from_out g (UsesTransaction b k) line own ended s from h out = elim h [ inl i ↦ subst (λ (x : Sight). IsOut x g) i.same out | inr a ↦ subst (λ (x : Sight). IsOut x g) a.begun out ]
-from_out g NoCall line own ended s from h out = falls line h.done h.falls
+from_out : (g : Group) (r : Role) (deed : Deed) (own : Option Outcome) (ended : List Ending) (s from : Sight) → Begins r deed own ended s from → IsOut from g → IsOut s g
+from_out g MakesClient deed own ended s from h out = let o = subst (λ (x : Sight). IsOut x g) h.begun out in (o.0, sym (or_ended s.groups None o.0) ∙ o.1)
+from_out g (AsksTime b k) deed own ended s from h out = elim h [ inl i ↦ subst (λ (x : Sight). IsOut x g) i.same out | inr a ↦ subst (λ (x : Sight). IsOut x g) a.begun out ]
+from_out g (UsesTransaction b k) deed own ended s from h out = elim h [ inl i ↦ subst (λ (x : Sight). IsOut x g) i.same out | inr a ↦ subst (λ (x : Sight). IsOut x g) a.begun out ]
+from_out g NoCall deed own ended s from h out = falls deed h.done h.falls
   where
-    falls : (line : Line) (d : Bool) → Falls line d s from → IsOut s g
-    falls (lines.Crash k) d f = subst (λ (x : Sight). IsOut x g) f.1 out
-    falls line d f = subst (λ (x : Sight). IsOut x g) f out
+    falls : (deed : Deed) (d : Bool) → Falls deed d s from → IsOut s g
+    falls (deeds.Happens (happenings.Crash k)) d f = subst (λ (x : Sight). IsOut x g) f.1 out
+    falls deed d f = subst (λ (x : Sight). IsOut x g) f out
 
 -- What a line gives was asked for, and its reply is taken.
 
@@ -226,17 +229,17 @@ module _ (old : Lists) (es : List Event) (m : IsMail old.mail) (was : Fates es o
   none_busy : (r : Request) (q : TsoRequest) (o : Reply) → busy_reply r ≡ Some o → r ≡ Tso q → ⊥
   none_busy r q o busy asks = let a : Some o ≡ None = sym busy ∙ ap busy_reply asks in cc
 
-  given_timed : (d : Bool) (line : Line) (n version : ℕ) → Given d line (opened old) n version → IsTimed old.mail.sent (if d then does looks line es else es) n version
-  given_timed false line n version g = absurd g
-  given_timed true (lines.Answer t) n version g = timed_by t g.reply g.place (takes t (looks t) es) n version g.sent g.given (λ r is asks. has_newest (answer_took t g.reply g.place g.sent g.is.0 g.is.1 (Tso r) is))
-  given_timed true (lines.Deliver t) n version g = timed_by t g.reply g.place (takes t (looks t) (serves t (looks t) es)) n version g.sent g.given (λ r is asks. has_newest (deliver_took t g.reply g.place g.is (Tso r) is asks))
-  given_timed true (lines.Busy t) n version g = timed_by t g.reply g.place (refuses t (looks t) es) n version g.sent g.given (λ r is asks. absurd (none_busy (request_at (opened old) g.place) r g.reply g.is asks))
-  given_timed true line n version g = absurd g
+  given_timed : (d : Bool) (deed : Deed) (n version : ℕ) → Given d deed (opened old) n version → IsTimed old.mail.sent (if d then does looks deed es else es) n version
+  given_timed false deed n version g = absurd g
+  given_timed true (deeds.Happens (happenings.Answer t)) n version g = timed_by t g.reply g.place (takes t (looks t) es) n version g.sent g.given (λ r is asks. has_newest (answer_took t g.reply g.place g.sent g.is.0 g.is.1 (Tso r) is))
+  given_timed true (deeds.Happens (happenings.Deliver t)) n version g = timed_by t g.reply g.place (takes t (looks t) (serves t (looks t) es)) n version g.sent g.given (λ r is asks. has_newest (deliver_took t g.reply g.place g.is (Tso r) is asks))
+  given_timed true (deeds.Happens (happenings.Busy t)) n version g = timed_by t g.reply g.place (refuses t (looks t) es) n version g.sent g.given (λ r is asks. absurd (none_busy (request_at (opened old) g.place) r g.reply g.is asks))
+  given_timed true deed n version g = absurd g
 
 -- The step.
 
 module _ (line : Line) (ls : List Line) (old : Lists) (told : newest old ≡ length ls) (ordered : IsOrdered old) (good : why_after ls line ≡ None) (was : Caused ls old) (folded : Folded ls old)
-    (new : Lists) (c : Course line old new) (stepped : Stepped (length ls) line old (followed c.posted c.ended c.mid)) where
+    (new : Lists) (c : Course (deed_of line) old new) (stepped : Stepped (length ls) (deed_of line) old (followed c.posted c.ended c.mid)) where
   abbrev all : Lists
   all = followed c.posted c.ended c.mid
 
@@ -247,7 +250,7 @@ module _ (line : Line) (ls : List Line) (old : Lists) (told : newest old ≡ len
   looks t = find all.mail.sent (suc (length ls)) t
 
   abbrev happened : List Event
-  happened = if own_done c.own then does looks line es else es
+  happened = if own_done c.own then does looks (deed_of line) es else es
 
   abbrev fs : List Event
   fs = history all.mail.sent all.outcomes (line ∷ ls)
@@ -272,20 +275,20 @@ module _ (line : Line) (ls : List Line) (old : Lists) (told : newest old ≡ len
 
     group_now : (g : Group) → IsOut all.sight g → IsGrouped all.mail.sent g
     group_now g out = elim (c.goes.groups g (subst (λ x. IsOut x g) sight_is out)) [
-      | inl o ↦ grouped_more old.mail.sent all.mail.sent g noted_still (timely.groups g (from_out g (role_of line) line c.own c.ended (opened old).sight c.from c.begins o))
+      | inl o ↦ grouped_more old.mail.sent all.mail.sent g noted_still (timely.groups g (from_out g (role_of line) (deed_of line) c.own c.ended (opened old).sight c.from c.begins o))
       | inr a ↦ subst (λ (x : Mail). IsGrouped x.sent g) (sym posted_mail) (posted_group (suc (length ls)) (line_count c.from) c.posted c.mid.mail g a.0 a.1 many c.goes.askers a.2 a.3 a.4)
     ]
 
     number_before : (n version : ℕ) → number_of (outcome_of c.mid.outcomes n) ≡ Some version → number_of (outcome_of old.outcomes n) ≡ Some version
     number_before n version e =
         sym (ap number_of (outcome_opened old.outcomes n))
-        ∙ own_number c.own (opened old) n version (no_number (role_of line) line c.own c.ended (opened old).sight c.from c.begins) (sym (ap (λ os. number_of (outcome_of os n)) c.outcomes) ∙ e)
+        ∙ own_number c.own (opened old) n version (no_number (role_of line) (deed_of line) c.own c.ended (opened old).sight c.from c.begins) (sym (ap (λ os. number_of (outcome_of os n)) c.outcomes) ∙ e)
 
     time_now : (n version : ℕ) → number_of (outcome_of all.outcomes n) ≡ Some version → IsTimed all.mail.sent fs n version
-    time_now n version e = elim (ended_number (Given (own_done c.own) line (opened old)) c.ended (with_mail (all_posted (newest c.mid) c.posted c.mid.mail) c.mid) n version c.times e) [
-      | inl f ↦ timed_more old.mail.sent all.mail.sent es fs n version noted_still (λ x h. happened_still x (done_more (own_done c.own) looks line es x h)) (timely.times n version (number_before n version f))
+    time_now n version e = elim (ended_number (Given (own_done c.own) (deed_of line) (opened old)) c.ended (with_mail (all_posted (newest c.mid) c.posted c.mid.mail) c.mid) n version c.times e) [
+      | inl f ↦ timed_more old.mail.sent all.mail.sent es fs n version noted_still (λ x h. happened_still x (done_more (own_done c.own) looks (deed_of line) es x h)) (timely.times n version (number_before n version f))
       | inr g ↦ timed_more old.mail.sent all.mail.sent happened fs n version noted_still happened_still
-          (given_timed old es ordered.sound.mail was.fates.fates folded.folds.store looks (looked line ls old told ordered good was folded new c stepped) timely.groups (own_done c.own) line n version g)
+          (given_timed old es ordered.sound.mail was.fates.fates folded.folds.store looks (looked line ls old told ordered good was folded new c stepped) timely.groups (own_done c.own) (deed_of line) n version g)
     ]
 
     pub timely_now : Timely (line ∷ ls) all

@@ -2,8 +2,11 @@
 -- stand here with the newest first.
 use Rattle.std.specs.Prelude.{◌≡◌, ◌≢◌, ℕ, Bool, true, false, not, ◌&&◌, if◌then◌else◌, List, [], ◌∷◌, length, Option, Some, None, nat_eq}
 use Rattle.txn_kv.specs.declared.errors.Error.{Error}
+use Rattle.txn_lines.specs.Deeds.{deed_of}
+use Rattle.txn_lines.specs.declared.act.Act.{Act}
+use Rattle.txn_lines.specs.declared.deed.Deed.{Deed}
+use Rattle.txn_lines.specs.declared.deed.Deed.TheVariants as deeds
 use Rattle.txn_lines.specs.declared.line.Line.{Line}
-use Rattle.txn_lines.specs.declared.line.Line.TheVariants as lines
 use Rattle.txn_report.specs.declared.outcome.Outcome.{Outcome}
 use Rattle.txn_report.specs.declared.outcome.Outcome.TheVariants.{Ok, Err, Skipped}
 use Rattle.txn_report.specs.declared.outcome.Payload.TheVariants.{Unit as Nothing}
@@ -11,8 +14,6 @@ use Rattle.txn_report.specs.declared.report.Report.{Report}
 use Rattle.txn_side.specs.Account.{Account, AreClosed, AreKept, MayTakeIn, after_act, awaited_line, closed_by, is_write, new_account, refusal}
 use Rattle.txn_side.specs.Sight.{Sight, Stand, stand_at}
 use Rattle.txn_side.specs.Sight.Stand.{Calling}
-use Rattle.txn_side.specs.declared.act.Act.{Act}
-use Rattle.txn_side.specs.declared.act.Act.TheVariants as acts
 use Rattle.txn_side.specs.declared.turn.Turn.{Turn}
 use Rattle.txn_machine.specs.Causes.{ended_of, is_skipped, tells}
 use Rattle.txn_machine.specs.Lists.{Lists, newest}
@@ -27,18 +28,12 @@ pub record Ask : Type 0 where
   pub transaction : ℕ
   pub act : Act
 
-abbrev pub asks_of : ℕ → Act → Option Ask
-asks_of x act = Some (record { transaction = x; act = act })
+abbrev pub ask_for : Deed → Option Ask
+ask_for (deeds.Use x act) = Some (record { transaction = x; act = act })
+ask_for deed = None
 
 abbrev pub ask_of : Line → Option Ask
-ask_of (lines.Put x key value) = asks_of x (acts.Put key value)
-ask_of (lines.Insert x key value) = asks_of x (acts.Insert key value)
-ask_of (lines.Delete x key) = asks_of x (acts.Delete key)
-ask_of (lines.Mutate x mutations) = asks_of x (acts.Mutate mutations)
-ask_of (lines.Lock x keys) = asks_of x (acts.Lock keys)
-ask_of (lines.Commit x) = asks_of x acts.Commit
-ask_of (lines.Rollback x) = asks_of x acts.Rollback
-ask_of _ = None
+ask_of line = ask_for (deed_of line)
 
 -- it is asked of the transaction of line x, in a line that was not skipped
 abbrev pub is_asked : Ask → ℕ → Outcome → Bool
@@ -106,8 +101,8 @@ CreditsBy None told l old new done = ClosesIf told l.sight old new done
 CreditsBy (Some ask) told l old new done = AsksIt ask (newest l) old new done
 
 -- what the newest line makes of the accounts, once it is known what it came to
-abbrev pub Credits : Line → Lists → (ℕ → Account) → (ℕ → Account) → Course → Type 0
-Credits line l old new done = CreditsBy (ask_of line) (tells line) l old new done
+abbrev pub Credits : Deed → Lists → (ℕ → Account) → (ℕ → Account) → Course → Type 0
+Credits deed l old new done = CreditsBy (ask_for deed) (tells deed) l old new done
 
 -- And by the lists that its step left.
 
@@ -138,5 +133,5 @@ abbrev pub CreditedBy : Option Ask → Bool → Sight → (ℕ → Account) → 
 CreditedBy None told s old new l = WereClosedIf told s old new l
 CreditedBy (Some ask) told s old new l = WasAskedIf (not (is_skipped (outcome_of l.outcomes (newest l)))) ask old new l
 
-abbrev pub Credited : Line → Sight → (ℕ → Account) → (ℕ → Account) → Lists → Type 0
-Credited line s old new l = CreditedBy (ask_of line) (tells line) s old new l
+abbrev pub Credited : Deed → Sight → (ℕ → Account) → (ℕ → Account) → Lists → Type 0
+Credited deed s old new l = CreditedBy (ask_for deed) (tells deed) s old new l

@@ -10,6 +10,7 @@ use Rattle.txn_history.specs.Event.{Event, Has, kept_reply}
 use Rattle.txn_history.specs.Event.Event.{Sent, Served}
 use Rattle.txn_law.specs.Run.{IsRoomy, IsUnserved, store_after}
 use Rattle.txn_lines.specs.Lines.{line_at}
+use Rattle.txn_lines.specs.declared.deed.Deed.{Deed}
 use Rattle.txn_lines.specs.declared.line.Line.{Line}
 use Rattle.txn_post.specs.Mail.{found_unserved, letter_at}
 use Rattle.txn_report.specs.declared.outcome.Outcome.{Outcome}
@@ -25,7 +26,7 @@ use Rattle.txn_side.specs.Sight.{Sight, stand_at}
 use Rattle.txn_side.specs.Sight.Stand.{Idle}
 use Rattle.txn_side.specs.declared.turn.Ending.{Ending}
 use Rattle.txn_machine.specs.Accounts.{account_of}
-use Rattle.txn_machine.specs.Causes.{Role, ended_of, lines_before, role_of}
+use Rattle.txn_machine.specs.Causes.{Role, ended_of, lines_before, role_for, role_of}
 use Rattle.txn_machine.specs.Causes.Role.{AsksTime, MakesClient, NoCall, UsesTransaction}
 use Rattle.txn_machine.specs.Lists.{Lists, newest, opened, request_at}
 use Rattle.txn_machine.specs.Rows.{IsRow}
@@ -95,8 +96,8 @@ pub record Knows (l : Lists) (looks : Ticket → Option Request) (h : List Event
   pub room : IsRoomy l.store
 
 -- what the newest line does, if it is done
-abbrev pub happens : (Ticket → Option Request) → Line → Lists → List Event → List Event
-happens looks line l h = if does_it line l then does looks line h else h
+abbrev pub happens : (Ticket → Option Request) → Deed → Lists → List Event → List Event
+happens looks deed l h = if does_it deed l then does looks deed h else h
 
 -- what is told to a line in the step of a line of this role is right of what stands there
 abbrev pub IsRight : Role → Sight → (ℕ → Outcome → Type 0) → ℕ → Outcome → Type 0
@@ -121,13 +122,9 @@ pub record GoesOn (arises : List Event → Type 0) (holds : List Event → ℕ �
   pub doubts : All (λ (e : Ending). Speaks role s held h e.line e.outcome) ended
 
 -- so it goes with each history of which the lists say so much, by what the newest line does and what is posted then
-abbrev pub RunsTo : (List Event → Type 0) → (List Event → Type 0) → (List Event → ℕ → Outcome → Type 0) → (List Event → ℕ → Outcome → Type 0) → Line → Lists → Course → Type 0
-RunsTo was is held holds line l done =
-    (looks : Ticket → Option Request) (h : List Event) → Knows l looks h → was h → GoesOn is holds (held h) (role_of line) l.sight (with_postings done.turn.posted.items (happens looks line l h)) done.turn.ended.items
-
--- the same of a line that asks something of the transaction of line x, which commits it or does not
-abbrev pub ActsTo : (List Event → Type 0) → (List Event → Type 0) → (List Event → ℕ → Outcome → Type 0) → (List Event → ℕ → Outcome → Type 0) → Bool → ℕ → Course → Type 0
-ActsTo was is held holds commits x done = (h : List Event) → was h → Arises is holds (held h) (λ n. record { at = x; commits = commits }) (with_postings done.turn.posted.items h) done.turn.ended.items
+abbrev pub RunsTo : (List Event → Type 0) → (List Event → Type 0) → (List Event → ℕ → Outcome → Type 0) → (List Event → ℕ → Outcome → Type 0) → Deed → Lists → Course → Type 0
+RunsTo was is held holds deed l done =
+    (looks : Ticket → Option Request) (h : List Event) → Knows l looks h → was h → GoesOn is holds (held h) (role_for deed) l.sight (with_postings done.turn.posted.items (happens looks deed l h)) done.turn.ended.items
 
 -- And by the lists that its step left.
 
@@ -139,6 +136,6 @@ pub record GoesIn (arises : List Event → Type 0) (holds : List Event → ℕ �
   pub doubts : (n : ℕ) (e : Error) → outcome_of new.outcomes n ≡ Err e → (outcome_of old.outcomes n ≡ Err e) ⊎ Speaks role s held h n (Err e)
 
 -- by what the line does and what was sent in its step
-abbrev pub Arisen : (List Event → Type 0) → (List Event → Type 0) → (List Event → ℕ → Outcome → Type 0) → (List Event → ℕ → Outcome → Type 0) → Line → Lists → Lists → Type 0
-Arisen was is held holds line old new =
-    (looks : Ticket → Option Request) (h : List Event) → Knows (opened old) looks h → was h → GoesIn is holds (held h) (role_of line) (opened old).sight (with_sends new.mail.sent (newest (opened old)) (happens looks line (opened old) h)) old new
+abbrev pub Arisen : (List Event → Type 0) → (List Event → Type 0) → (List Event → ℕ → Outcome → Type 0) → (List Event → ℕ → Outcome → Type 0) → Deed → Lists → Lists → Type 0
+Arisen was is held holds deed old new =
+    (looks : Ticket → Option Request) (h : List Event) → Knows (opened old) looks h → was h → GoesIn is holds (held h) (role_for deed) (opened old).sight (with_sends new.mail.sent (newest (opened old)) (happens looks deed (opened old) h)) old new

@@ -9,8 +9,11 @@ use Rattle.txn_history.specs.Event.{Event, is_awaited, is_refused, is_served, sa
 use Rattle.txn_history.specs.Event.Event.{Slept}
 use Rattle.txn_law.specs.Run.{store_after}
 use Rattle.txn_lines.specs.Lines.{line_at}
+use Rattle.txn_lines.specs.Deeds.{begins, deed_of}
+use Rattle.txn_lines.specs.declared.deed.Deed.{Deed}
+use Rattle.txn_lines.specs.declared.deed.Deed.TheVariants as deeds
+use Rattle.txn_lines.specs.declared.happening.Happening.TheVariants as happenings
 use Rattle.txn_lines.specs.declared.line.Line.{Line}
-use Rattle.txn_lines.specs.declared.line.Line.TheVariants as lines
 use Rattle.txn_model.specs.Regions.{can_lead, can_split}
 use Rattle.txn_report.specs.declared.outcome.Outcome.{Outcome}
 use Rattle.txn_report.specs.declared.outcome.Outcome.TheVariants.{Ok, Err, Unfinished, Done, Skipped}
@@ -19,6 +22,7 @@ use Rattle.txn_report.specs.declared.outcome.Payload.TheVariants.{Unit as Nothin
 use Rattle.txn_report.specs.declared.report.Report.{Report}
 use Rattle.txn_report.specs.declared.report.SentNote.{SentNote}
 use Rattle.txn_report.specs.declared.report.SleepNote.{SleepNote}
+use Rattle.txn_side.specs.Sight.{commits}
 use Rattle.txn_machine.specs.Script.{history, is_done, outcome_of}
 use Rattle.txn_machine.specs.Steps.{done_if}
 
@@ -34,28 +38,15 @@ pub data Role : Type 0 where
   -- an event, a comment or an empty line
   NoCall : Role
 
+abbrev pub role_for : Deed → Role
+role_for deeds.Nothing = NoCall
+role_for deeds.Connect = MakesClient
+role_for (deeds.Ask client act) = AsksTime (begins act) client
+role_for (deeds.Use x act) = UsesTransaction (commits act) x
+role_for (deeds.Happens what) = NoCall
+
 abbrev pub role_of : Line → Role
-role_of lines.Blank = NoCall
-role_of lines.Client = MakesClient
-role_of (lines.Begin client options) = AsksTime true client
-role_of (lines.Timestamp client) = AsksTime false client
-role_of (lines.Put x key value) = UsesTransaction false x
-role_of (lines.Insert x key value) = UsesTransaction false x
-role_of (lines.Delete x key) = UsesTransaction false x
-role_of (lines.Mutate x mutations) = UsesTransaction false x
-role_of (lines.Lock x keys) = UsesTransaction false x
-role_of (lines.Commit x) = UsesTransaction true x
-role_of (lines.Rollback x) = UsesTransaction false x
-role_of (lines.Serve t) = NoCall
-role_of (lines.Answer t) = NoCall
-role_of (lines.Deliver t) = NoCall
-role_of (lines.Lose t) = NoCall
-role_of (lines.Busy t) = NoCall
-role_of (lines.Wake t) = NoCall
-role_of (lines.Split key) = NoCall
-role_of (lines.Lead region store) = NoCall
-role_of (lines.Clock ms) = NoCall
-role_of (lines.Crash client) = NoCall
+role_of line = role_for (deed_of line)
 
 -- a call that need not end in its own line
 abbrev pub may_wait : Role → Bool
@@ -64,13 +55,13 @@ may_wait (AsksTime begins client) = true
 may_wait (UsesTransaction commits x) = true
 may_wait NoCall = false
 
--- in the step of such a line the clients hear of something
-abbrev pub tells : Line → Bool
-tells (lines.Answer t) = true
-tells (lines.Deliver t) = true
-tells (lines.Lose t) = true
-tells (lines.Busy t) = true
-tells (lines.Wake t) = true
+-- in the step of a line that asks this the clients hear of something
+abbrev pub tells : Deed → Bool
+tells (deeds.Happens (happenings.Answer t)) = true
+tells (deeds.Happens (happenings.Deliver t)) = true
+tells (deeds.Happens (happenings.Lose t)) = true
+tells (deeds.Happens (happenings.Busy t)) = true
+tells (deeds.Happens (happenings.Wake t)) = true
 tells _ = false
 
 -- Outcomes.
@@ -142,7 +133,7 @@ TellsLines script report = AreTold script report.outcomes report.ended
 
 -- in the step of such a line calls of earlier lines may end: it tells the clients something, and is done
 abbrev pub can_end : Line → Outcome → Bool
-can_end line o = tells line && is_done o
+can_end line o = tells (deed_of line) && is_done o
 
 -- line e is such a line
 abbrev pub ends_at : List Line → (ℕ → Outcome) → ℕ → Bool
@@ -183,14 +174,14 @@ abbrev pub client_of : List Line → ℕ → ℕ
 client_of [] n = 0
 client_of (line ∷ before) n = if nat_eq (length (line ∷ before)) n then client_by n (λ m. client_of before m) (role_of line) else client_of before n
 
-abbrev pub crashes : Line → ℕ → Bool
-crashes (lines.Crash client) c = nat_eq client c
+abbrev pub crashes : Deed → ℕ → Bool
+crashes (deeds.Happens (happenings.Crash client)) c = nat_eq client c
 crashes _ c = false
 
 -- the client of line c has crashed
 abbrev pub is_crashed : (ℕ → Outcome) → List Line → ℕ → Bool
 is_crashed seen [] c = false
-is_crashed seen (line ∷ before) c = crashes line c && is_done (seen (length (line ∷ before))) || is_crashed seen before c
+is_crashed seen (line ∷ before) c = crashes (deed_of line) c && is_done (seen (length (line ∷ before))) || is_crashed seen before c
 
 abbrev pub uses : Role → ℕ → Bool
 uses (UsesTransaction commits y) x = nat_eq y x
@@ -261,23 +252,23 @@ abbrev pub hears : (ℕ → Outcome) → List Line → Ticket → Bool
 hears seen before t = not (is_crashed seen before (client_of before t.line))
 
 -- an event is done just where it can be, and else skipped; of some tickets a sleep began before
-abbrev pub EventMeets : (Ticket → Bool) → (ℕ → Outcome) → List Line → List Event → Line → Outcome → Type 0
-EventMeets asleep seen before es lines.Blank o = o ≡ Done
-EventMeets asleep seen before es (lines.Serve t) o = o ≡ done_if (is_servable es t)
-EventMeets asleep seen before es (lines.Answer t) o = o ≡ done_if (hears seen before t && (is_awaited es t && is_served es t))
-EventMeets asleep seen before es (lines.Deliver t) o = o ≡ done_if (hears seen before t && (is_awaited es t && is_servable es t))
-EventMeets asleep seen before es (lines.Lose t) o = o ≡ done_if (hears seen before t && is_awaited es t)
-EventMeets asleep seen before es (lines.Busy t) o = o ≡ done_if (hears seen before t && (is_awaited es t && (is_servable es t && is_refusable es t)))
-EventMeets asleep seen before es (lines.Wake t) o = o ≡ done_if (hears seen before t && (asleep t && not (is_woken es t)))
-EventMeets asleep seen before es (lines.Split key) o = o ≡ done_if (can_split (store_after es) key)
-EventMeets asleep seen before es (lines.Lead region store) o = o ≡ done_if (can_lead (store_after es) region store)
-EventMeets asleep seen before es (lines.Clock ms) o = o ≡ Done
-EventMeets asleep seen before es (lines.Crash client) o = o ≡ done_if (not (is_crashed seen before client))
-EventMeets asleep seen before es line o = Unit {0}
+abbrev pub EventMeets : (Ticket → Bool) → (ℕ → Outcome) → List Line → List Event → Deed → Outcome → Type 0
+EventMeets asleep seen before es deeds.Nothing o = o ≡ Done
+EventMeets asleep seen before es (deeds.Happens (happenings.Serve t)) o = o ≡ done_if (is_servable es t)
+EventMeets asleep seen before es (deeds.Happens (happenings.Answer t)) o = o ≡ done_if (hears seen before t && (is_awaited es t && is_served es t))
+EventMeets asleep seen before es (deeds.Happens (happenings.Deliver t)) o = o ≡ done_if (hears seen before t && (is_awaited es t && is_servable es t))
+EventMeets asleep seen before es (deeds.Happens (happenings.Lose t)) o = o ≡ done_if (hears seen before t && is_awaited es t)
+EventMeets asleep seen before es (deeds.Happens (happenings.Busy t)) o = o ≡ done_if (hears seen before t && (is_awaited es t && (is_servable es t && is_refusable es t)))
+EventMeets asleep seen before es (deeds.Happens (happenings.Wake t)) o = o ≡ done_if (hears seen before t && (asleep t && not (is_woken es t)))
+EventMeets asleep seen before es (deeds.Happens (happenings.Split key)) o = o ≡ done_if (can_split (store_after es) key)
+EventMeets asleep seen before es (deeds.Happens (happenings.Lead region store)) o = o ≡ done_if (can_lead (store_after es) region store)
+EventMeets asleep seen before es (deeds.Happens (happenings.Clock ms)) o = o ≡ Done
+EventMeets asleep seen before es (deeds.Happens (happenings.Crash client)) o = o ≡ done_if (not (is_crashed seen before client))
+EventMeets asleep seen before es deed o = Unit {0}
 
 abbrev pub AllEventsMeet : List SentNote → List SleepNote → List Outcome → List ℕ → List Line → Type 0
 AllEventsMeet sent sleeps outs ended [] = Unit {0}
-AllEventsMeet sent sleeps outs ended (line ∷ before) = EventMeets (λ t. began sleeps (length (line ∷ before)) t) (known outs ended (length (line ∷ before))) before (history sent outs before) line (outcome_of outs (length (line ∷ before))) × AllEventsMeet sent sleeps outs ended before
+AllEventsMeet sent sleeps outs ended (line ∷ before) = EventMeets (λ t. began sleeps (length (line ∷ before)) t) (known outs ended (length (line ∷ before))) before (history sent outs before) (deed_of line) (outcome_of outs (length (line ∷ before))) × AllEventsMeet sent sleeps outs ended before
 
 abbrev pub EventsMeetLines : List Line → Report → Type 0
 EventsMeetLines script report = AllEventsMeet report.sent report.sleeps report.outcomes report.ended script

@@ -10,8 +10,13 @@ use Rattle.txn_history.specs.Among.{IsAmong}
 use Rattle.txn_history.specs.Busy.{busy_reply}
 use Rattle.txn_history.specs.Event.Event.{Lost, Took}
 use Rattle.txn_lines.specs.declared.begin_options.BeginOptions.{BeginOptions}
+use Rattle.txn_lines.specs.Deeds.{begins_with, deed_of}
+use Rattle.txn_lines.specs.declared.act.Act.{Act}
+use Rattle.txn_lines.specs.declared.act.Act.TheVariants.{Rollback}
+use Rattle.txn_lines.specs.declared.deed.Deed.{Deed}
+use Rattle.txn_lines.specs.declared.deed.Deed.TheVariants as deeds
+use Rattle.txn_lines.specs.declared.happening.Happening.TheVariants as happenings
 use Rattle.txn_lines.specs.declared.line.Line.{Line}
-use Rattle.txn_lines.specs.declared.line.Line.TheVariants as lines
 use Rattle.txn_post.specs.Mail.{can_be_served, letter_at}
 use Rattle.txn_report.specs.declared.outcome.Outcome.{Outcome}
 use Rattle.txn_report.specs.declared.outcome.Outcome.TheVariants.{Err}
@@ -20,11 +25,9 @@ use Rattle.txn_report.specs.declared.report.SentNote.{SentNote}
 use Rattle.txn_side.specs.Account.{Account, refusal}
 use Rattle.txn_side.specs.Sight.{Group}
 use Rattle.txn_side.specs.Trace.{Begin, BeginsAs, Call, FailsIn, HasCome, HowCallsFail, IsCalled, IsLonger, IsSend, RestsOn, RollsBack, Trace, with_posted}
-use Rattle.txn_side.specs.declared.act.Act.{Act}
-use Rattle.txn_side.specs.declared.act.Act.TheVariants.{Rollback}
 use Rattle.txn_side.specs.declared.turn.Posting.{Posting}
-use Rattle.txn_machine.specs.Accounts.{Ask, account_of, ask_of}
-use Rattle.txn_machine.specs.Causes.{Role, ended_of, lines_before, role_of}
+use Rattle.txn_machine.specs.Accounts.{Ask, account_of, ask_for, ask_of}
+use Rattle.txn_machine.specs.Causes.{Role, ended_of, lines_before, role_for, role_of}
 use Rattle.txn_machine.specs.Causes.Role.{AsksTime, MakesClient, NoCall, UsesTransaction}
 use Rattle.txn_machine.specs.Lists.{Lists, newest, opened, reply_at, request_at}
 use Rattle.txn_machine.specs.Running.{HasMemory}
@@ -45,8 +48,8 @@ calls_of [] = []
 calls_of (line ∷ before) = calls_by (length (line ∷ before)) (role_of line) ++ calls_of before
 
 -- the options with which a line begins a transaction, if it begins one
-abbrev pub begins_as : Line → Option BeginOptions
-begins_as (lines.Begin client options) = Some options
+abbrev pub begins_as : Deed → Option BeginOptions
+begins_as (deeds.Ask client act) = begins_with act
 begins_as _ = None
 
 abbrev pub begun_by : ℕ → Option BeginOptions → List Begin
@@ -56,7 +59,7 @@ begun_by n (Some options) = record { line = n; options = options } ∷ []
 -- the lines that begin a transaction
 abbrev pub begun_of : List Line → List Begin
 begun_of [] = []
-begun_of (line ∷ before) = begun_by (length (line ∷ before)) (begins_as line) ++ begun_of before
+begun_of (line ∷ before) = begun_by (length (line ∷ before)) (begins_as (deed_of line)) ++ begun_of before
 
 -- the lines that roll a transaction back
 abbrev pub rolled : ℕ → Act → List ℕ
@@ -72,17 +75,17 @@ rollbacks_of [] = []
 rollbacks_of (line ∷ before) = rolled_by (length (line ∷ before)) (ask_of line) ++ rollbacks_of before
 
 -- the ticket for which something comes in a line, if something does
-abbrev pub came_by : Line → Option Ticket
-came_by (lines.Answer u) = Some u
-came_by (lines.Deliver u) = Some u
-came_by (lines.Busy u) = Some u
-came_by (lines.Lose u) = Some u
+abbrev pub came_by : Deed → Option Ticket
+came_by (deeds.Happens (happenings.Answer u)) = Some u
+came_by (deeds.Happens (happenings.Deliver u)) = Some u
+came_by (deeds.Happens (happenings.Busy u)) = Some u
+came_by (deeds.Happens (happenings.Lose u)) = Some u
 came_by _ = None
 
 -- in the newest of these
 abbrev pub came_of : List Line → Option Ticket
 came_of [] = None
-came_of (line ∷ before) = came_by line
+came_of (line ∷ before) = came_by (deed_of line)
 
 abbrev pub groups_of : List SentNote → List Group
 groups_of sent = map (λ s. record { ticket = s.ticket; askers = s.askers }) sent
@@ -136,29 +139,25 @@ CanAsk None accounts n t = ⊤
 CanAsk (Some ask) accounts n t = ((e : Error) → refusal ask.act (accounts ask.transaction) ≡ Some e → IsAmong t.refused (record { line = n; error = e })) × RollsBack t.rollbacks n ask.act
 
 -- what comes in its step, and had not before
-abbrev pub CanHear : Line → Lists → Trace → Trace → Type 0
-CanHear (lines.Answer u) l before t = (place : ℕ) (o : Reply) → found_out l u ≡ Some place → (letter_at l.mail place).kept ≡ Some o → HasCome before t l.sight u (λ r. Took u r o)
-CanHear (lines.Deliver u) l before t = (place : ℕ) → found_out l u ≡ Some place → can_be_served l.mail place ≡ true → HasCome before t l.sight u (λ r. Took u r (reply_at l place))
-CanHear (lines.Busy u) l before t = (place : ℕ) (o : Reply) → found_out l u ≡ Some place → can_be_served l.mail place ≡ true → busy_reply (request_at l place) ≡ Some o → HasCome before t l.sight u (λ r. Took u r o)
-CanHear (lines.Lose u) l before t = (place : ℕ) → found_out l u ≡ Some place → HasCome before t l.sight u (λ r. Lost u r)
+abbrev pub CanHear : Deed → Lists → Trace → Trace → Type 0
+CanHear (deeds.Happens (happenings.Answer u)) l before t = (place : ℕ) (o : Reply) → found_out l u ≡ Some place → (letter_at l.mail place).kept ≡ Some o → HasCome before t l.sight u (λ r. Took u r o)
+CanHear (deeds.Happens (happenings.Deliver u)) l before t = (place : ℕ) → found_out l u ≡ Some place → can_be_served l.mail place ≡ true → HasCome before t l.sight u (λ r. Took u r (reply_at l place))
+CanHear (deeds.Happens (happenings.Busy u)) l before t = (place : ℕ) (o : Reply) → found_out l u ≡ Some place → can_be_served l.mail place ≡ true → busy_reply (request_at l place) ≡ Some o → HasCome before t l.sight u (λ r. Took u r o)
+CanHear (deeds.Happens (happenings.Lose u)) l before t = (place : ℕ) → found_out l u ≡ Some place → HasCome before t l.sight u (λ r. Lost u r)
 CanHear _ l before t = ⊤
 
 -- the trace has all that there was before, and that the newest line tells the clients
-pub record CanRest (line : Line) (l : Lists) (accounts : ℕ → Account) (before t : Trace) : Type 0 where
+pub record CanRest (deed : Deed) (l : Lists) (accounts : ℕ → Account) (before t : Trace) : Type 0 where
   pub longer : IsLonger before t
   pub posted : t.posted ≡ []
-  pub call : CanCall (role_of line) (newest l) t
-  pub begins : BeginsAs t (newest l) (begins_as line)
-  pub ask : CanAsk (ask_of line) accounts (newest l) t
-  pub hear : CanHear line l before t
+  pub call : CanCall (role_for deed) (newest l) t
+  pub begins : BeginsAs t (newest l) (begins_as deed)
+  pub ask : CanAsk (ask_for deed) accounts (newest l) t
+  pub hear : CanHear deed l before t
 
 -- and then the calls rest on it, once it is known what the line came to
-abbrev pub RunsOn : HowCallsFail → (Trace → Type 0) → (Trace → Type 0) → Line → Lists → (ℕ → Account) → Course → Type 0
-RunsOn fails was is line l accounts done = (before t : Trace) → CanRest line l accounts before t → was before → RestsOn fails was is t done.turn.posted.items done.turn.ended.items
-
--- the same of a line that asks this of a transaction
-abbrev pub RunsAsk : HowCallsFail → (Trace → Type 0) → (Trace → Type 0) → Ask → ℕ → (ℕ → Account) → Course → Type 0
-RunsAsk fails was is ask n accounts done = (t : Trace) → t.posted ≡ [] → IsCalled t n ask.transaction → CanAsk (Some ask) accounts n t → RestsOn fails was is t done.turn.posted.items done.turn.ended.items
+abbrev pub RunsOn : HowCallsFail → (Trace → Type 0) → (Trace → Type 0) → Deed → Lists → (ℕ → Account) → Course → Type 0
+RunsOn fails was is deed l accounts done = (before t : Trace) → CanRest deed l accounts before t → was before → RestsOn fails was is t done.turn.posted.items done.turn.ended.items
 
 -- And by the lists that its step left.
 
@@ -174,5 +173,5 @@ pub record RestsIn (fails : HowCallsFail) (is : Trace → Type 0) (t : Trace) (o
   pub causes : (n : ℕ) (e : Error) → outcome_of new.outcomes n ≡ Err e → (outcome_of old.outcomes n ≡ Err e) ⊎ (FailsIn fails (with_posted posted t) n e ⊎ IsAmong t.refused (record { line = n; error = e }))
 
 -- so with each trace that has all that the line tells
-abbrev pub Rested : HowCallsFail → (Trace → Type 0) → (Trace → Type 0) → Line → Lists → (ℕ → Account) → Lists → Type 0
-Rested fails was is line old accounts new = (before t : Trace) → CanRest line (opened old) accounts before t → was before → was t → RestsIn fails is t old new
+abbrev pub Rested : HowCallsFail → (Trace → Type 0) → (Trace → Type 0) → Deed → Lists → (ℕ → Account) → Lists → Type 0
+Rested fails was is deed old accounts new = (before t : Trace) → CanRest deed (opened old) accounts before t → was before → was t → RestsIn fails is t old new

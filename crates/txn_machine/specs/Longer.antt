@@ -6,8 +6,9 @@ use Rattle.txn_kv.specs.declared.ticket.Ticket.{Ticket}
 use Rattle.txn_history.specs.Busy.{busy_reply}
 use Rattle.txn_history.specs.Event.{Event, Has, kept_reply}
 use Rattle.txn_history.specs.Event.Event.{Sent as SentEvent}
-use Rattle.txn_lines.specs.declared.line.Line.{Line}
-use Rattle.txn_lines.specs.declared.line.Line.TheVariants as lines
+use Rattle.txn_lines.specs.declared.deed.Deed.{Deed}
+use Rattle.txn_lines.specs.declared.deed.Deed.TheVariants as deeds
+use Rattle.txn_lines.specs.declared.happening.Happening.TheVariants as happenings
 use Rattle.txn_report.specs.declared.report.SentNote.{SentNote}
 use Rattle.txn_machine.specs.Script.{does, loses, refuses, refuses_it, serves, takes, takes_it, with_sends}
 
@@ -37,22 +38,22 @@ module _ (Holds : List Event → Type 0) (next : (e : Event) (es : List Event) �
   loses_keeps t None es h = h
   loses_keeps t (Some r) es h = next _ es h
 
-  does_keeps : (looks : Ticket → Option Request) (line : Line) (es : List Event) → Holds es → Holds (does looks line es)
-  does_keeps looks (lines.Serve t) es h = serves_keeps t (looks t) es h
-  does_keeps looks (lines.Answer t) es h = takes_keeps t (looks t) es h
-  does_keeps looks (lines.Deliver t) es h = takes_keeps t (looks t) (serves t (looks t) es) (serves_keeps t (looks t) es h)
-  does_keeps looks (lines.Lose t) es h = loses_keeps t (looks t) es h
-  does_keeps looks (lines.Busy t) es h = refuses_keeps t (looks t) es h
-  does_keeps looks (lines.Wake t) es h = next _ es h
-  does_keeps looks (lines.Split key) es h = next _ es h
-  does_keeps looks (lines.Lead region to) es h = next _ es h
-  does_keeps looks (lines.Clock ms) es h = next _ es h
-  does_keeps looks (lines.Crash k) es h = next _ es h
-  does_keeps looks line es h = h
+  does_keeps : (looks : Ticket → Option Request) (deed : Deed) (es : List Event) → Holds es → Holds (does looks deed es)
+  does_keeps looks (deeds.Happens (happenings.Serve t)) es h = serves_keeps t (looks t) es h
+  does_keeps looks (deeds.Happens (happenings.Answer t)) es h = takes_keeps t (looks t) es h
+  does_keeps looks (deeds.Happens (happenings.Deliver t)) es h = takes_keeps t (looks t) (serves t (looks t) es) (serves_keeps t (looks t) es h)
+  does_keeps looks (deeds.Happens (happenings.Lose t)) es h = loses_keeps t (looks t) es h
+  does_keeps looks (deeds.Happens (happenings.Busy t)) es h = refuses_keeps t (looks t) es h
+  does_keeps looks (deeds.Happens (happenings.Wake t)) es h = next _ es h
+  does_keeps looks (deeds.Happens (happenings.Split key)) es h = next _ es h
+  does_keeps looks (deeds.Happens (happenings.Lead region to)) es h = next _ es h
+  does_keeps looks (deeds.Happens (happenings.Clock ms)) es h = next _ es h
+  does_keeps looks (deeds.Happens (happenings.Crash k)) es h = next _ es h
+  does_keeps looks deed es h = h
 
-  pub done_keeps : (d : Bool) (looks : Ticket → Option Request) (line : Line) (es : List Event) → Holds es → Holds (if d then does looks line es else es)
-  done_keeps true looks line es h = does_keeps looks line es h
-  done_keeps false looks line es h = h
+  pub done_keeps : (d : Bool) (looks : Ticket → Option Request) (deed : Deed) (es : List Event) → Holds es → Holds (if d then does looks deed es else es)
+  done_keeps true looks deed es h = does_keeps looks deed es h
+  done_keeps false looks deed es h = h
 
   pub sends_keeps : (ss : List SentNote) (n : ℕ) (es : List Event) → Holds es → Holds (with_sends ss n es)
   sends_keeps [] n es h = h
@@ -62,8 +63,8 @@ module _ (Holds : List Event → Type 0) (next : (e : Event) (es : List Event) �
       one true = next _ es h
       one false = h
 
-pub done_more : (d : Bool) (looks : Ticket → Option Request) (line : Line) (es : List Event) (e : Event) → Has es e → Has (if d then does looks line es else es) e
-done_more d looks line es e h = done_keeps (λ fs. Has fs e) (λ x fs has. inr has) d looks line es h
+pub done_more : (d : Bool) (looks : Ticket → Option Request) (deed : Deed) (es : List Event) (e : Event) → Has es e → Has (if d then does looks deed es else es) e
+done_more d looks deed es e h = done_keeps (λ fs. Has fs e) (λ x fs has. inr has) d looks deed es h
 
 pub sends_more : (ss : List SentNote) (n : ℕ) (es : List Event) (e : Event) → Has es e → Has (with_sends ss n es) e
 sends_more ss n es e h = sends_keeps (λ fs. Has fs e) (λ x fs has. inr has) ss n es h

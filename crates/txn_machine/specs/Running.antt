@@ -5,8 +5,10 @@ use Rattle.std.proofs.Common.{zero, suc}
 use Rattle.txn_kv.specs.declared.ticket.Ticket.{Ticket}
 use Rattle.txn_lines.specs.Kinds.{kinds_of}
 use Rattle.txn_lines.specs.Lines.{max_lines, why_after}
+use Rattle.txn_lines.specs.declared.deed.Deed.{Deed}
+use Rattle.txn_lines.specs.declared.deed.Deed.TheVariants.{Happens}
+use Rattle.txn_lines.specs.declared.happening.Happening.TheVariants.{Clock}
 use Rattle.txn_lines.specs.declared.line.Line.{Line}
-use Rattle.txn_lines.specs.declared.line.Line.TheVariants.{Clock}
 use Rattle.txn_post.specs.Mail.{IsMail, Mail, Tickets, lane, outs_of, places_of}
 use Rattle.txn_post.specs.declared.post.Place.{Place}
 use Rattle.txn_post.specs.declared.post.Place.TheVariants.{Sent, Slept}
@@ -128,9 +130,9 @@ pub record IsReportOf (l : Lists) (report : Report) : Type 0 where
   pub store : report.store ≡ l.store
 
 -- a clock is one that the store can be set to
-abbrev pub IsFine : Line → Type 0
-IsFine (Clock ms) = ms < 2 ^ 44
-IsFine line = Unit {0}
+abbrev pub IsFine : Deed → Type 0
+IsFine (Happens (Clock ms)) = ms < 2 ^ 44
+IsFine deed = Unit {0}
 
 -- How a step comes to its end
 

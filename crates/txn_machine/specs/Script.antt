@@ -8,8 +8,11 @@ use Rattle.txn_history.specs.Busy.{busy_reply}
 use Rattle.txn_history.specs.Event.{Event, kept_reply, same_ticket}
 use Rattle.txn_history.specs.Event.Event.{Clocked, Crashed, Led, Lost, Refused, Sent, Served, Slept, Split, Took}
 use Rattle.txn_law.specs.Run.{store_after}
+use Rattle.txn_lines.specs.Deeds.{deed_of}
+use Rattle.txn_lines.specs.declared.deed.Deed.{Deed}
+use Rattle.txn_lines.specs.declared.deed.Deed.TheVariants as deeds
+use Rattle.txn_lines.specs.declared.happening.Happening.TheVariants as happenings
 use Rattle.txn_lines.specs.declared.line.Line.{Line}
-use Rattle.txn_lines.specs.declared.line.Line.TheVariants as lines
 use Rattle.txn_model.specs.Store.{Store}
 use Rattle.txn_model.specs.Table.{table}
 use Rattle.txn_report.specs.declared.outcome.Outcome.{Outcome}
@@ -65,29 +68,19 @@ abbrev pub loses : Ticket → Option Request → List Event → List Event
 loses t None es = es
 loses t (Some r) es = Lost t r ∷ es
 
--- what a line does that is Done; clients are named by the lines that made them
-abbrev pub does : (Ticket → Option Request) → Line → List Event → List Event
-does looks lines.Blank es = es
-does looks lines.Client es = es
-does looks (lines.Begin client options) es = es
-does looks (lines.Timestamp client) es = es
-does looks (lines.Put x key value) es = es
-does looks (lines.Insert x key value) es = es
-does looks (lines.Delete x key) es = es
-does looks (lines.Mutate x mutations) es = es
-does looks (lines.Lock x keys) es = es
-does looks (lines.Commit x) es = es
-does looks (lines.Rollback x) es = es
-does looks (lines.Serve t) es = serves t (looks t) es
-does looks (lines.Answer t) es = takes t (looks t) es
-does looks (lines.Deliver t) es = takes t (looks t) (serves t (looks t) es)
-does looks (lines.Lose t) es = loses t (looks t) es
-does looks (lines.Busy t) es = refuses t (looks t) es
-does looks (lines.Wake t) es = Slept t ∷ es
-does looks (lines.Split key) es = Split key ∷ es
-does looks (lines.Lead region store) es = Led region store ∷ es
-does looks (lines.Clock ms) es = Clocked ms ∷ es
-does looks (lines.Crash client) es = Crashed client ∷ es
+-- what a line makes of the history that asks this, and is Done; clients are named by the lines that made them
+abbrev pub does : (Ticket → Option Request) → Deed → List Event → List Event
+does looks (deeds.Happens (happenings.Serve t)) es = serves t (looks t) es
+does looks (deeds.Happens (happenings.Answer t)) es = takes t (looks t) es
+does looks (deeds.Happens (happenings.Deliver t)) es = takes t (looks t) (serves t (looks t) es)
+does looks (deeds.Happens (happenings.Lose t)) es = loses t (looks t) es
+does looks (deeds.Happens (happenings.Busy t)) es = refuses t (looks t) es
+does looks (deeds.Happens (happenings.Wake t)) es = Slept t ∷ es
+does looks (deeds.Happens (happenings.Split key)) es = Split key ∷ es
+does looks (deeds.Happens (happenings.Lead region store)) es = Led region store ∷ es
+does looks (deeds.Happens (happenings.Clock ms)) es = Clocked ms ∷ es
+does looks (deeds.Happens (happenings.Crash client)) es = Crashed client ∷ es
+does looks deed es = es
 
 -- what was sent in the step of line n
 abbrev pub with_sends : List SentNote → ℕ → List Event → List Event
@@ -97,7 +90,7 @@ with_sends (s ∷ ss) n es = with_sends ss n (if nat_eq s.at n then Sent s.ticke
 -- The history of a script: what was served, taken, refused, lost and sent, and what came from outside, line by line.
 abbrev pub history : List SentNote → List Outcome → List Line → List Event
 history sent outs [] = []
-history sent outs (l ∷ ls) = with_sends sent (length (l ∷ ls)) (if is_done (outcome_of outs (length (l ∷ ls))) then does (λ t. find sent (length (l ∷ ls)) t) l (history sent outs ls) else history sent outs ls)
+history sent outs (l ∷ ls) = with_sends sent (length (l ∷ ls)) (if is_done (outcome_of outs (length (l ∷ ls))) then does (λ t. find sent (length (l ∷ ls)) t) (deed_of l) (history sent outs ls) else history sent outs ls)
 
 -- the tickets that were served, the newest first
 abbrev pub served_tickets : List Event → List Ticket

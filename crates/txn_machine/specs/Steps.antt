@@ -4,15 +4,17 @@ use Rattle.std.specs.List.{All}
 use Rattle.txn_kv.specs.declared.reply.Reply.{Reply}
 use Rattle.txn_kv.specs.declared.ticket.Ticket.{Ticket}
 use Rattle.txn_history.specs.Busy.{busy_reply}
+use Rattle.txn_lines.specs.Deeds.{begins, deed_of}
+use Rattle.txn_lines.specs.declared.deed.Deed.{Deed}
+use Rattle.txn_lines.specs.declared.deed.Deed.TheVariants as deeds
+use Rattle.txn_lines.specs.declared.happening.Happening.TheVariants as happenings
 use Rattle.txn_lines.specs.declared.line.Line.{Line}
-use Rattle.txn_lines.specs.declared.line.Line.TheVariants as lines
 use Rattle.txn_model.specs.Regions.{at_clock, can_lead, can_split, lead, split}
 use Rattle.txn_post.specs.Mail.{can_be_served, delivering, found_awaited, found_lasting, found_unserved, keeping, letter_at, losing, refusing, taking, waking}
 use Rattle.txn_report.specs.declared.outcome.Outcome.{Outcome}
 use Rattle.txn_report.specs.declared.outcome.Outcome.TheVariants.{Done, Ok, Skipped}
 use Rattle.txn_report.specs.declared.outcome.Payload.TheVariants.{Unit as Nothing}
 use Rattle.txn_side.specs.Sight.{Acts, Asks, Goes, IsGiven, Names, NoneGiven, Sight, connected, crash, is_live}
-use Rattle.txn_side.specs.declared.act.Act.TheVariants as acts
 use Rattle.txn_side.specs.declared.turn.Ending.{Ending}
 use Rattle.txn_side.specs.declared.turn.Posting.{Posting}
 use Rattle.txn_side.specs.declared.turn.Turn.{Turn}
@@ -107,46 +109,39 @@ test_at test None = false
 test_at test (Some k) = test k
 
 -- an event is done
-abbrev pub does_it : Line → Lists → Bool
-does_it lines.Blank l = true
-does_it (lines.Serve t) l = test_at (λ k. true) (found_unserved l.mail t)
-does_it (lines.Answer t) l = test_at (λ k. is_some (letter_at l.mail k).kept) (found_out l t)
-does_it (lines.Deliver t) l = test_at (λ k. can_be_served l.mail k) (found_out l t)
-does_it (lines.Lose t) l = test_at (λ k. true) (found_out l t)
-does_it (lines.Busy t) l = test_at (λ k. can_be_served l.mail k && is_some (busy_reply (request_at l k))) (found_out l t)
-does_it (lines.Wake t) l = test_at (λ k. true) (found_asleep l t)
-does_it (lines.Split key) l = can_split l.store key
-does_it (lines.Lead region store) l = can_lead l.store region store
-does_it (lines.Clock ms) l = true
-does_it (lines.Crash client) l = is_live l.sight client
-does_it line l = false
+abbrev pub does_it : Deed → Lists → Bool
+does_it deeds.Nothing l = true
+does_it (deeds.Happens (happenings.Serve t)) l = test_at (λ k. true) (found_unserved l.mail t)
+does_it (deeds.Happens (happenings.Answer t)) l = test_at (λ k. is_some (letter_at l.mail k).kept) (found_out l t)
+does_it (deeds.Happens (happenings.Deliver t)) l = test_at (λ k. can_be_served l.mail k) (found_out l t)
+does_it (deeds.Happens (happenings.Lose t)) l = test_at (λ k. true) (found_out l t)
+does_it (deeds.Happens (happenings.Busy t)) l = test_at (λ k. can_be_served l.mail k && is_some (busy_reply (request_at l k))) (found_out l t)
+does_it (deeds.Happens (happenings.Wake t)) l = test_at (λ k. true) (found_asleep l t)
+does_it (deeds.Happens (happenings.Split key)) l = can_split l.store key
+does_it (deeds.Happens (happenings.Lead region store)) l = can_lead l.store region store
+does_it (deeds.Happens (happenings.Clock ms)) l = true
+does_it (deeds.Happens (happenings.Crash client)) l = is_live l.sight client
+does_it deed l = false
 
 -- Lines
 
--- what the newest line does
-abbrev pub Does : Line → Lists → Lists → Type 0
-Does lines.Blank l new = new ≡ outright Done l
-Does lines.Client l new = new ≡ outright (Ok Nothing) (with_sight (connected l.sight) l)
-Does (lines.Begin client options) l new = Calls (Asks true client) l new
-Does (lines.Timestamp client) l new = Calls (Asks false client) l new
-Does (lines.Put x key value) l new = Calls (Acts (acts.Put key value) x) l new
-Does (lines.Insert x key value) l new = Calls (Acts (acts.Insert key value) x) l new
-Does (lines.Delete x key) l new = Calls (Acts (acts.Delete key) x) l new
-Does (lines.Mutate x mutations) l new = Calls (Acts (acts.Mutate mutations) x) l new
-Does (lines.Lock x keys) l new = Calls (Acts (acts.Lock keys) x) l new
-Does (lines.Commit x) l new = Calls (Acts acts.Commit x) l new
-Does (lines.Rollback x) l new = Calls (Acts acts.Rollback x) l new
-Does (lines.Serve t) l new = AtPlace (found_unserved l.mail t) (Serves t) l new
-Does (lines.Answer t) l new = AtPlace (found_out l t) (Answers t) l new
-Does (lines.Deliver t) l new = AtPlace (found_out l t) (Delivers t) l new
-Does (lines.Lose t) l new = AtPlace (found_out l t) Loses l new
-Does (lines.Busy t) l new = AtPlace (found_out l t) (IsBusy t) l new
-Does (lines.Wake t) l new = AtPlace (found_asleep l t) Wakes l new
-Does (lines.Split key) l new = new ≡ outright (done_if (can_split l.store key)) (with_store (split l.store key) l)
-Does (lines.Lead region store) l new = new ≡ outright (done_if (can_lead l.store region store)) (with_store (lead l.store region store) l)
-Does (lines.Clock ms) l new = new ≡ outright Done (with_store (at_clock l.store ms) l)
-Does (lines.Crash client) l new = new ≡ outright (done_if (is_live l.sight client)) (with_sight (crash client l.sight) l)
+-- what the newest line does that asks this
+abbrev pub Does : Deed → Lists → Lists → Type 0
+Does deeds.Nothing l new = new ≡ outright Done l
+Does deeds.Connect l new = new ≡ outright (Ok Nothing) (with_sight (connected l.sight) l)
+Does (deeds.Ask client act) l new = Calls (Asks (begins act) client) l new
+Does (deeds.Use x act) l new = Calls (Acts act x) l new
+Does (deeds.Happens (happenings.Serve t)) l new = AtPlace (found_unserved l.mail t) (Serves t) l new
+Does (deeds.Happens (happenings.Answer t)) l new = AtPlace (found_out l t) (Answers t) l new
+Does (deeds.Happens (happenings.Deliver t)) l new = AtPlace (found_out l t) (Delivers t) l new
+Does (deeds.Happens (happenings.Lose t)) l new = AtPlace (found_out l t) Loses l new
+Does (deeds.Happens (happenings.Busy t)) l new = AtPlace (found_out l t) (IsBusy t) l new
+Does (deeds.Happens (happenings.Wake t)) l new = AtPlace (found_asleep l t) Wakes l new
+Does (deeds.Happens (happenings.Split key)) l new = new ≡ outright (done_if (can_split l.store key)) (with_store (split l.store key) l)
+Does (deeds.Happens (happenings.Lead region store)) l new = new ≡ outright (done_if (can_lead l.store region store)) (with_store (lead l.store region store) l)
+Does (deeds.Happens (happenings.Clock ms)) l new = new ≡ outright Done (with_store (at_clock l.store ms) l)
+Does (deeds.Happens (happenings.Crash client)) l new = new ≡ outright (done_if (is_live l.sight client)) (with_sight (crash client l.sight) l)
 
 -- one line more
 abbrev pub Steps : Line → Lists → Lists → Type 0
-Steps line old new = Does line (opened old) new
+Steps line old new = Does (deed_of line) (opened old) new

@@ -1,18 +1,19 @@
 ghost use Rattle.std.specs.List.Sorted.{IsNonDecreasing, IsPermutation};
 ghost use Rattle.std.specs.Prelude.{◌≡◌, ◌+◌, ◌++◌, ◌∷◌, ◌<◌, ◌≤◌, [], IfOk, List, OnErr, OnOk, None, Some, length, map};
+ghost use Rattle.txn_lines.specs.Deeds.{deed_of};
 ghost use Rattle.txn_lines.specs.Kinds.{kinds_of};
 ghost use Rattle.txn_lines.specs.Lines.{max_lines, why_after};
-ghost use Rattle.txn_machine.specs.Accounts.{AccountsMeetLines, AsksIt, Credited, Credits, TakenIn, own_by};
-ghost use Rattle.txn_machine.specs.Arising.{ActsTo, Arisen, ArisenIn, ArisenLines, RunsTo};
+ghost use Rattle.txn_machine.specs.Accounts.{AccountsMeetLines, Credited, Credits, TakenIn, own_by};
+ghost use Rattle.txn_machine.specs.Arising.{Arisen, ArisenIn, ArisenLines, RunsTo};
 ghost use Rattle.txn_machine.specs.Causes.{CallsMeetLines, EndsLines, EventsMeetLines, LivesLines, TellsLines};
 ghost use Rattle.txn_machine.specs.Dues.{DuesLines, StayOut};
-ghost use Rattle.txn_machine.specs.Failing.{CausesMeetLines, HeardIn, Rested, RunsAsk, RunsOn};
+ghost use Rattle.txn_machine.specs.Failing.{CausesMeetLines, HeardIn, Rested, RunsOn};
 ghost use Rattle.txn_machine.specs.Lists.{Lists, all_ended, all_posted, ended_at, newest, opened, outright, posted_at, with_mail};
 ghost use Rattle.txn_machine.specs.Notes.{AreNoted};
 ghost use Rattle.txn_machine.specs.Outs.{AreOutAfter};
 ghost use Rattle.txn_machine.specs.Running.{CanClose, CanPost, CanStep, HasMemory, IsEven, IsFine, IsOrdered, IsReportOf, KeepOut, LedTo, Stands, StandsFor, closed, lists_of, outs_at, outs_until, with_own};
 ghost use Rattle.txn_machine.specs.Script.{FoldsLines, outcome_of};
-ghost use Rattle.txn_machine.specs.Steps.{Calls, Does, Steps, called, ended_in, posted_in};
+ghost use Rattle.txn_machine.specs.Steps.{Does, Steps, called, ended_in, posted_in};
 ghost use Rattle.txn_machine.specs.Times.{TimesLines};
 ghost use Rattle.txn_machine.specs.Told.{ArePast, CanTell, IsNote, IsNoteOf, OwnEnds, ending_at, view_of_ending};
 ghost use Rattle.txn_post.specs.Mail.{IsNext};
@@ -20,7 +21,7 @@ ghost use Rattle.txn_report.specs.OutcomeView.{view_of_outcome};
 ghost use Rattle.txn_report.specs.declared.report.Report.{Report as Reported};
 ghost use Rattle.txn_side.specs.Account.{AreKept, AreNew};
 ghost use Rattle.txn_side.specs.Arising.{StillArises};
-ghost use Rattle.txn_side.specs.Sight.{Acts, commits, nobody, ticket_in};
+ghost use Rattle.txn_side.specs.Sight.{nobody, ticket_in};
 ghost use Rattle.txn_side.specs.Trace.{StillRests};
 
 mod events;
@@ -30,11 +31,11 @@ use crate::note::StepNote;
 use std::alloc::Global;
 use std::mem::replace;
 use txn_kv::{Items, NoMemory, Ticket};
-use txn_lines::{BeginOptions, Line, LineKinds, Why};
+use txn_lines::{Act, ClientAct, Deed, Line, LineKinds, Why};
 use txn_model::ModelStore;
 use txn_post::Post;
 use txn_report::{Outcome, Payload, Report};
-use txn_side::{Act, ClientSide, Ending, Posting, Turn};
+use txn_side::{ClientSide, Ending, Posting, Turn};
 
 /// A machine that runs a script line by line.
 #[derive(Drop)]
@@ -139,14 +140,14 @@ impl<S: ClientSide> Machine<S> {
         requires ready { S.ready self.old.clients }
         requires ordered { IsOrdered (lists_of S.sight self.old) }
         requires room { newest (lists_of S.sight self.old) < max_lines }
-        requires fine { IsFine line }
+        requires fine { IsFine (deed_of line) }
         requires past { ArePast (lists_of S.sight self.old) }
         ensures lists { OnOk result (Steps line (lists_of S.sight self.old) (lists_of S.sight self.new)) }
         ensures out { OnOk result (StayOut (S.waits self.old.clients) (S.waits self.new.clients) (lists_of S.sight self.old) (lists_of S.sight self.new)) }
         ensures ready { OnOk result (S.ready self.new.clients) }
-        ensures credited { OnOk result (Credited line (S.sight self.old.clients) (S.account self.old.clients) (S.account self.new.clients) (lists_of S.sight self.new)) }
-        ensures rests { OnOk result (Rested S.fails (S.rests self.old.clients) (S.rests self.new.clients) line (lists_of S.sight self.old) (S.account self.old.clients) (lists_of S.sight self.new)) }
-        ensures arises { OnOk result (Arisen (S.arises self.old.clients) (S.arises self.new.clients) (S.holds self.old.clients) (S.holds self.new.clients) line (lists_of S.sight self.old) (lists_of S.sight self.new)) }
+        ensures credited { OnOk result (Credited (deed_of line) (S.sight self.old.clients) (S.account self.old.clients) (S.account self.new.clients) (lists_of S.sight self.new)) }
+        ensures rests { OnOk result (Rested S.fails (S.rests self.old.clients) (S.rests self.new.clients) (deed_of line) (lists_of S.sight self.old) (S.account self.old.clients) (lists_of S.sight self.new)) }
+        ensures arises { OnOk result (Arisen (S.arises self.old.clients) (S.arises self.new.clients) (S.holds self.old.clients) (S.holds self.new.clients) (deed_of line) (lists_of S.sight self.old) (lists_of S.sight self.new)) }
         ensures kinds { OnOk result ((lines : List Line) → self.old.kinds ≡ kinds_of lines → self.new.kinds ≡ kinds_of (line ∷ lines)) }
         ensures note { IfOk result (λ note. IsNote (lists_of S.sight self.new) note) }
     {
@@ -154,7 +155,7 @@ impl<S: ClientSide> Machine<S> {
         let mut kinds = replace(&mut self.kinds, LineKinds::new(self.alloc));
         kinds.push(&line)?;
         self.open()?;
-        let done = self.run(line)?;
+        let done = self.run(line.deed())?;
         let note = self.close(done)?;
         self.kinds = kinds;
         Ok(note)
@@ -184,54 +185,27 @@ impl<S: ClientSide> Machine<S> {
         Ok(())
     }
 
-    /// The newest line does what it says.
-    fn run(&mut self, line: Line) -> Result<Done, NoMemory>
+    /// The newest line does what it asks.
+    fn run(&mut self, deed: Deed) -> Result<Done, NoMemory>
         requires ready { S.ready self.old.clients }
         requires ordered { IsOrdered (lists_of S.sight self.old) }
         requires some { 1 ≤ newest (lists_of S.sight self.old) }
-        requires fine { IsFine line }
-        ensures does { IfOk result (λ done. Does line (lists_of S.sight self.old) (closed done (lists_of S.sight self.new))) }
+        requires fine { IsFine deed }
+        ensures does { IfOk result (λ done. Does deed (lists_of S.sight self.old) (closed done (lists_of S.sight self.new))) }
         ensures can { IfOk result (λ done. CanClose done (lists_of S.sight self.new)) }
         ensures tells { IfOk result (λ done. CanTell (lists_of S.sight self.old) done (lists_of S.sight self.new)) }
         ensures out { IfOk result (λ done. KeepOut (S.waits self.old.clients) (S.waits self.new.clients) (lists_of S.sight self.old) done (lists_of S.sight self.new)) }
         ensures ready { OnOk result (S.ready self.new.clients) }
-        ensures credits { IfOk result (Credits line (lists_of S.sight self.old) (S.account self.old.clients) (S.account self.new.clients)) }
-        ensures rests { IfOk result (RunsOn S.fails (S.rests self.old.clients) (S.rests self.new.clients) line (lists_of S.sight self.old) (S.account self.old.clients)) }
-        ensures arises { IfOk result (RunsTo (S.arises self.old.clients) (S.arises self.new.clients) (S.holds self.old.clients) (S.holds self.new.clients) line (lists_of S.sight self.old)) }
+        ensures credits { IfOk result (Credits deed (lists_of S.sight self.old) (S.account self.old.clients) (S.account self.new.clients)) }
+        ensures rests { IfOk result (RunsOn S.fails (S.rests self.old.clients) (S.rests self.new.clients) deed (lists_of S.sight self.old) (S.account self.old.clients)) }
+        ensures arises { IfOk result (RunsTo (S.arises self.old.clients) (S.arises self.new.clients) (S.holds self.old.clients) (S.holds self.new.clients) deed (lists_of S.sight self.old)) }
     {
-        match line {
-            Line::Blank => Ok(self.outright(Outcome::Done)),
-            Line::Client => self.connect(),
-            Line::Begin { client, options } => self.begin(client, options),
-            Line::Timestamp { client } => self.timestamp(client),
-            Line::Put {
-                transaction,
-                key,
-                value,
-            } => self.act(transaction, Act::Put(key, value)),
-            Line::Insert {
-                transaction,
-                key,
-                value,
-            } => self.act(transaction, Act::Insert(key, value)),
-            Line::Delete { transaction, key } => self.act(transaction, Act::Delete(key)),
-            Line::Mutate {
-                transaction,
-                mutations,
-            } => self.act(transaction, Act::Mutate(mutations)),
-            Line::Lock { transaction, keys } => self.act(transaction, Act::Lock(keys)),
-            Line::Commit { transaction } => self.act(transaction, Act::Commit),
-            Line::Rollback { transaction } => self.act(transaction, Act::Rollback),
-            Line::Serve { ticket } => self.serve(ticket),
-            Line::Answer { ticket } => self.answer(ticket),
-            Line::Deliver { ticket } => self.deliver(ticket),
-            Line::Lose { ticket } => self.lose(ticket),
-            Line::Busy { ticket } => self.busy(ticket),
-            Line::Wake { ticket } => self.wake(ticket),
-            Line::Split { key } => self.split(key),
-            Line::Lead { region, store } => self.lead(region, store),
-            Line::Clock { ms } => self.set_clock(ms),
-            Line::Crash { client } => self.crash(client),
+        match deed {
+            Deed::Nothing => Ok(self.outright(Outcome::Done)),
+            Deed::Connect => self.connect(),
+            Deed::Ask(client, act) => self.call(client, act),
+            Deed::Use(transaction, act) => self.act(transaction, act),
+            Deed::Happens(what) => self.befall(what),
         }
     }
 
@@ -270,14 +244,14 @@ impl<S: ClientSide> Machine<S> {
         requires ready { S.ready self.old.clients }
         requires ordered { IsOrdered (lists_of S.sight self.old) }
         requires some { 1 ≤ newest (lists_of S.sight self.old) }
-        ensures does { IfOk result (λ done. Does Line.Client (lists_of S.sight self.old) (closed done (lists_of S.sight self.new))) }
+        ensures does { IfOk result (λ done. Does Deed.Connect (lists_of S.sight self.old) (closed done (lists_of S.sight self.new))) }
         ensures can { IfOk result (λ done. CanClose done (lists_of S.sight self.new)) }
         ensures tells { IfOk result (λ done. CanTell (lists_of S.sight self.old) done (lists_of S.sight self.new)) }
         ensures out { IfOk result (λ done. KeepOut (S.waits self.old.clients) (S.waits self.new.clients) (lists_of S.sight self.old) done (lists_of S.sight self.new)) }
         ensures ready { OnOk result (S.ready self.new.clients) }
         ensures accounts { OnOk result (AreKept (S.account self.old.clients) (S.account self.new.clients)) }
-        ensures rests { IfOk result (RunsOn S.fails (S.rests self.old.clients) (S.rests self.new.clients) Line.Client (lists_of S.sight self.old) (S.account self.old.clients)) }
-        ensures arises { IfOk result (RunsTo (S.arises self.old.clients) (S.arises self.new.clients) (S.holds self.old.clients) (S.holds self.new.clients) Line.Client (lists_of S.sight self.old)) }
+        ensures rests { IfOk result (RunsOn S.fails (S.rests self.old.clients) (S.rests self.new.clients) Deed.Connect (lists_of S.sight self.old) (S.account self.old.clients)) }
+        ensures arises { IfOk result (RunsTo (S.arises self.old.clients) (S.arises self.new.clients) (S.holds self.old.clients) (S.holds self.new.clients) Deed.Connect (lists_of S.sight self.old)) }
     {
         self.clients.connect(self.store.clock())?;
         let mut turn = Turn::new(self.alloc);
@@ -288,38 +262,21 @@ impl<S: ClientSide> Machine<S> {
         Ok(self.called(Some(turn)))
     }
 
-    fn begin(&mut self, client: u64, options: BeginOptions) -> Result<Done, NoMemory>
+    /// The line asks something of a client.
+    fn call(&mut self, client: u64, act: ClientAct) -> Result<Done, NoMemory>
         requires ready { S.ready self.old.clients }
         requires ordered { IsOrdered (lists_of S.sight self.old) }
         requires some { 1 ≤ newest (lists_of S.sight self.old) }
-        ensures does { IfOk result (λ done. Does (Line.Begin client options) (lists_of S.sight self.old) (closed done (lists_of S.sight self.new))) }
+        ensures does { IfOk result (λ done. Does (Deed.Ask client act) (lists_of S.sight self.old) (closed done (lists_of S.sight self.new))) }
         ensures can { IfOk result (λ done. CanClose done (lists_of S.sight self.new)) }
         ensures tells { IfOk result (λ done. CanTell (lists_of S.sight self.old) done (lists_of S.sight self.new)) }
         ensures out { IfOk result (λ done. KeepOut (S.waits self.old.clients) (S.waits self.new.clients) (lists_of S.sight self.old) done (lists_of S.sight self.new)) }
         ensures ready { OnOk result (S.ready self.new.clients) }
         ensures accounts { OnOk result (AreKept (S.account self.old.clients) (S.account self.new.clients)) }
-        ensures rests { IfOk result (RunsOn S.fails (S.rests self.old.clients) (S.rests self.new.clients) (Line.Begin client options) (lists_of S.sight self.old) (S.account self.old.clients)) }
-        ensures arises { IfOk result (RunsTo (S.arises self.old.clients) (S.arises self.new.clients) (S.holds self.old.clients) (S.holds self.new.clients) (Line.Begin client options) (lists_of S.sight self.old)) }
+        ensures rests { IfOk result (RunsOn S.fails (S.rests self.old.clients) (S.rests self.new.clients) (Deed.Ask client act) (lists_of S.sight self.old) (S.account self.old.clients)) }
+        ensures arises { IfOk result (RunsTo (S.arises self.old.clients) (S.arises self.new.clients) (S.holds self.old.clients) (S.holds self.new.clients) (Deed.Ask client act) (lists_of S.sight self.old)) }
     {
-        let now = self.store.clock();
-        let turn = self.clients.begin(client, options, now)?;
-        Ok(self.called(turn))
-    }
-
-    fn timestamp(&mut self, client: u64) -> Result<Done, NoMemory>
-        requires ready { S.ready self.old.clients }
-        requires ordered { IsOrdered (lists_of S.sight self.old) }
-        requires some { 1 ≤ newest (lists_of S.sight self.old) }
-        ensures does { IfOk result (λ done. Does (Line.Timestamp client) (lists_of S.sight self.old) (closed done (lists_of S.sight self.new))) }
-        ensures can { IfOk result (λ done. CanClose done (lists_of S.sight self.new)) }
-        ensures tells { IfOk result (λ done. CanTell (lists_of S.sight self.old) done (lists_of S.sight self.new)) }
-        ensures out { IfOk result (λ done. KeepOut (S.waits self.old.clients) (S.waits self.new.clients) (lists_of S.sight self.old) done (lists_of S.sight self.new)) }
-        ensures ready { OnOk result (S.ready self.new.clients) }
-        ensures accounts { OnOk result (AreKept (S.account self.old.clients) (S.account self.new.clients)) }
-        ensures rests { IfOk result (RunsOn S.fails (S.rests self.old.clients) (S.rests self.new.clients) (Line.Timestamp client) (lists_of S.sight self.old) (S.account self.old.clients)) }
-        ensures arises { IfOk result (RunsTo (S.arises self.old.clients) (S.arises self.new.clients) (S.holds self.old.clients) (S.holds self.new.clients) (Line.Timestamp client) (lists_of S.sight self.old)) }
-    {
-        let turn = self.clients.timestamp(client, self.store.clock())?;
+        let turn = self.clients.call(client, act, self.store.clock())?;
         Ok(self.called(turn))
     }
 
@@ -328,14 +285,14 @@ impl<S: ClientSide> Machine<S> {
         requires ready { S.ready self.old.clients }
         requires ordered { IsOrdered (lists_of S.sight self.old) }
         requires some { 1 ≤ newest (lists_of S.sight self.old) }
-        ensures does { IfOk result (λ done. Calls (Acts act transaction) (lists_of S.sight self.old) (closed done (lists_of S.sight self.new))) }
+        ensures does { IfOk result (λ done. Does (Deed.Use transaction act) (lists_of S.sight self.old) (closed done (lists_of S.sight self.new))) }
         ensures can { IfOk result (λ done. CanClose done (lists_of S.sight self.new)) }
         ensures tells { IfOk result (λ done. CanTell (lists_of S.sight self.old) done (lists_of S.sight self.new)) }
         ensures out { IfOk result (λ done. KeepOut (S.waits self.old.clients) (S.waits self.new.clients) (lists_of S.sight self.old) done (lists_of S.sight self.new)) }
         ensures ready { OnOk result (S.ready self.new.clients) }
-        ensures takes { IfOk result (AsksIt (record { transaction = transaction; act = act }) (newest (lists_of S.sight self.old)) (S.account self.old.clients) (S.account self.new.clients)) }
-        ensures rests { IfOk result (RunsAsk S.fails (S.rests self.old.clients) (S.rests self.new.clients) (record { transaction = transaction; act = act }) (newest (lists_of S.sight self.old)) (S.account self.old.clients)) }
-        ensures arises { IfOk result (ActsTo (S.arises self.old.clients) (S.arises self.new.clients) (S.holds self.old.clients) (S.holds self.new.clients) (commits act) transaction) }
+        ensures credits { IfOk result (Credits (Deed.Use transaction act) (lists_of S.sight self.old) (S.account self.old.clients) (S.account self.new.clients)) }
+        ensures rests { IfOk result (RunsOn S.fails (S.rests self.old.clients) (S.rests self.new.clients) (Deed.Use transaction act) (lists_of S.sight self.old) (S.account self.old.clients)) }
+        ensures arises { IfOk result (RunsTo (S.arises self.old.clients) (S.arises self.new.clients) (S.holds self.old.clients) (S.holds self.new.clients) (Deed.Use transaction act) (lists_of S.sight self.old)) }
     {
         let turn = self.clients.act(transaction, act, self.store.clock())?;
         Ok(self.called(turn))

@@ -14,8 +14,8 @@ use Rattle.txn_report.specs.declared.outcome.Outcome.TheVariants.{Ok, Err, Unfin
 use Rattle.txn_report.specs.declared.outcome.Payload.TheVariants.{Unit as Nothing, Commit as CommittedAt}
 use Rattle.txn_side.specs.Sight.{Sight, Stand, outcomes_of, stand_at}
 use Rattle.txn_side.specs.Sight.Stand.{Calling, HasBegun}
-use Rattle.txn_side.specs.declared.act.Act.{Act}
-use Rattle.txn_side.specs.declared.act.Act.TheVariants as acts
+use Rattle.txn_lines.specs.declared.act.Act.{Act}
+use Rattle.txn_lines.specs.declared.act.Act.TheVariants as acts
 use Rattle.txn_side.specs.declared.turn.Ending.{Ending}
 use Rattle.txn_side.specs.declared.turn.Turn.{Turn}
 

@@ -1,5 +1,6 @@
 ghost use Rattle.std.specs.List.{All};
-ghost use Rattle.std.specs.Prelude.{◌≡◌, ◌<◌, ◌≤◌, ◌^◌, ℕ, [], IfOk, OnOk, false, true};
+ghost use Rattle.std.specs.Prelude.{◌≡◌, ◌<◌, ◌≤◌, ◌^◌, ℕ, [], IfOk, OnOk, true};
+ghost use Rattle.txn_lines.specs.Deeds.{begins, begins_with};
 ghost use Rattle.txn_side.specs.Account.{AreClosed, AreKept, MayTakeIn};
 ghost use Rattle.txn_side.specs.Arising.{ArisesAwake, ArisesHearing, ArisesOn, StillArises};
 ghost use Rattle.txn_side.specs.Doubt.{itself};
@@ -8,10 +9,9 @@ ghost use Rattle.txn_history.specs.Event.Event.{Lost, Took};
 ghost use Rattle.txn_side.specs.Trace.{ActsOn, AsksOn, HearsOn, StillRests, WakesOn};
 ghost use Rattle.txn_side.specs.Waiting.{HearsEnd, HearsReply, NoneHeard, WaitsOn, posted_in};
 
-use crate::act::Act;
 use crate::turn::Turn;
 use txn_kv::{NoMemory, Reply, Request, Ticket};
-use txn_lines::BeginOptions;
+use txn_lines::{Act, ClientAct};
 
 /// The clients of a run, whatever they are made of. Lines are counted from 1. The clock is in milliseconds.
 ///
@@ -110,33 +110,16 @@ pub trait ClientSide: Sized + Drop {
         ensures rests { StillRests (rests self.old) (rests self.new) }
         ensures arises { StillArises (arises self.old) (arises self.new) (holds self.old) (holds self.new) };
 
-    /// The newest line begins a transaction of a line's client; none where that has crashed.
-    fn begin(
-        &mut self,
-        client: u64,
-        options: BeginOptions,
-        now: u64,
-    ) -> Result<Option<Turn>, NoMemory>
+    /// The newest line asks something of a line's client; nothing where that has crashed.
+    fn call(&mut self, client: u64, act: ClientAct, now: u64) -> Result<Option<Turn>, NoMemory>
         requires ready { ready self.old }
         requires line { 1 ≤ line_count (sight self.old) }
         requires clock { now < 2 ^ 44 }
-        ensures turn { IfOk result (Asks true client (sight self.old) (sight self.new)) }
+        ensures turn { IfOk result (Asks (begins act) client (sight self.old) (sight self.new)) }
         ensures waits { IfOk result (λ turn. WaitsOn NoneHeard (posted_in turn) (waits self.old) (waits self.new) (sight self.old) (sight self.new)) }
         ensures ready { OnOk result (ready self.new) }
         ensures accounts { OnOk result (AreKept (account self.old) (account self.new)) }
-        ensures rests { IfOk result (AsksOn fails (rests self.old) (rests self.new) (Some options) (line_count (sight self.old))) }
-        ensures arises { IfOk result (ArisesOn (arises self.old) (arises self.new) (holds self.old) (holds self.new) itself) };
-
-    /// The newest line asks for a timestamp; none where the client has crashed.
-    fn timestamp(&mut self, client: u64, now: u64) -> Result<Option<Turn>, NoMemory>
-        requires ready { ready self.old }
-        requires line { 1 ≤ line_count (sight self.old) }
-        requires clock { now < 2 ^ 44 }
-        ensures turn { IfOk result (Asks false client (sight self.old) (sight self.new)) }
-        ensures waits { IfOk result (λ turn. WaitsOn NoneHeard (posted_in turn) (waits self.old) (waits self.new) (sight self.old) (sight self.new)) }
-        ensures ready { OnOk result (ready self.new) }
-        ensures accounts { OnOk result (AreKept (account self.old) (account self.new)) }
-        ensures rests { IfOk result (AsksOn fails (rests self.old) (rests self.new) None (line_count (sight self.old))) }
+        ensures rests { IfOk result (AsksOn fails (rests self.old) (rests self.new) (begins_with act) (line_count (sight self.old))) }
         ensures arises { IfOk result (ArisesOn (arises self.old) (arises self.new) (holds self.old) (holds self.new) itself) };
 
     /// The newest line asks something of a transaction; none where its client has crashed, it has not begun, or a call of it is

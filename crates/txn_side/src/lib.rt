@@ -2,11 +2,9 @@
 //! their calls have ended.
 #![tactic(auto)]
 
-pub mod act;
 pub mod client_side;
 pub mod send;
 pub mod turn;
 
-pub use act::Act;
 pub use client_side::ClientSide;
 pub use turn::{Ending, Posting, Turn};

@@ -5,9 +5,9 @@ ghost use Rattle.txn_tests_machines.specs.Nobody.{nobody_at, none, none_arises, 
 use crate::fixtures::assert_shown;
 use std::alloc::Global;
 use txn_kv::{NoMemory, Reply, Request, Ticket};
-use txn_lines::{BeginOptions, Line};
+use txn_lines::{Act, ClientAct, Line};
 use txn_machine::*;
-use txn_side::{Act, ClientSide, Turn};
+use txn_side::{ClientSide, Turn};
 
 /// The clients of a run that has none.
 #[derive(Drop)]
@@ -64,16 +64,7 @@ impl ClientSide for Nobody {
         false
     }
 
-    fn begin(
-        &mut self,
-        _client: u64,
-        _options: BeginOptions,
-        _now: u64,
-    ) -> Result<Option<Turn>, NoMemory> {
-        Ok(None)
-    }
-
-    fn timestamp(&mut self, _client: u64, _now: u64) -> Result<Option<Turn>, NoMemory> {
+    fn call(&mut self, _client: u64, _act: ClientAct, _now: u64) -> Result<Option<Turn>, NoMemory> {
         Ok(None)
     }
 

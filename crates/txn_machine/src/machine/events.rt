@@ -7,10 +7,11 @@ ghost use Rattle.txn_side.specs.Arising.{ArisesHearing};
 ghost use Rattle.txn_side.specs.Sight.{IsGiven, is_live};
 ghost use Rattle.txn_side.specs.Trace.{HearsOn};
 ghost use Rattle.txn_side.specs.Waiting.{HearsReply, WaitsOn};
+ghost use Rattle.txn_machine.specs.Accounts.{Credits};
 ghost use Rattle.txn_machine.specs.Arising.{RunsTo};
 ghost use Rattle.txn_machine.specs.Failing.{RunsOn};
 ghost use Rattle.txn_machine.specs.Lists.{Lists, handled, newest, outright, reply_at};
-ghost use Rattle.txn_machine.specs.Running.{CanClose, IsEven, IsOrdered, KeepOut, closed, lists_of};
+ghost use Rattle.txn_machine.specs.Running.{CanClose, IsEven, IsFine, IsOrdered, KeepOut, closed, lists_of};
 ghost use Rattle.txn_machine.specs.Steps.{Does, Hears, done_if, found_asleep, found_out};
 ghost use Rattle.txn_machine.specs.Told.{CanTell, OwnEnds};
 
@@ -18,11 +19,40 @@ use crate::busy::busy_reply;
 use crate::done::Done;
 use crate::machine::Machine;
 use txn_kv::{Key, NoMemory, Reply, Ticket};
-use txn_lines::Line;
+use txn_lines::{Deed, Happening};
 use txn_report::Outcome;
 use txn_side::{ClientSide, Turn};
 
 impl<S: ClientSide> Machine<S> {
+    /// Something happens that no client asked for.
+    pub(crate) fn befall(&mut self, what: Happening) -> Result<Done, NoMemory>
+        requires ready { S.ready self.old.clients }
+        requires ordered { IsOrdered (lists_of S.sight self.old) }
+        requires some { 1 ≤ newest (lists_of S.sight self.old) }
+        requires fine { IsFine (Deed.Happens what) }
+        ensures does { IfOk result (λ done. Does (Deed.Happens what) (lists_of S.sight self.old) (closed done (lists_of S.sight self.new))) }
+        ensures can { IfOk result (λ done. CanClose done (lists_of S.sight self.new)) }
+        ensures tells { IfOk result (λ done. CanTell (lists_of S.sight self.old) done (lists_of S.sight self.new)) }
+        ensures out { IfOk result (λ done. KeepOut (S.waits self.old.clients) (S.waits self.new.clients) (lists_of S.sight self.old) done (lists_of S.sight self.new)) }
+        ensures ready { OnOk result (S.ready self.new.clients) }
+        ensures credits { IfOk result (Credits (Deed.Happens what) (lists_of S.sight self.old) (S.account self.old.clients) (S.account self.new.clients)) }
+        ensures rests { IfOk result (RunsOn S.fails (S.rests self.old.clients) (S.rests self.new.clients) (Deed.Happens what) (lists_of S.sight self.old) (S.account self.old.clients)) }
+        ensures arises { IfOk result (RunsTo (S.arises self.old.clients) (S.arises self.new.clients) (S.holds self.old.clients) (S.holds self.new.clients) (Deed.Happens what) (lists_of S.sight self.old)) }
+    {
+        match what {
+            Happening::Serve(ticket) => self.serve(ticket),
+            Happening::Answer(ticket) => self.answer(ticket),
+            Happening::Deliver(ticket) => self.deliver(ticket),
+            Happening::Lose(ticket) => self.lose(ticket),
+            Happening::Busy(ticket) => self.busy(ticket),
+            Happening::Wake(ticket) => self.wake(ticket),
+            Happening::Split(key) => self.split(key),
+            Happening::Lead(region, store) => self.lead(region, store),
+            Happening::Clock(ms) => self.set_clock(ms),
+            Happening::Crash(client) => self.crash(client),
+        }
+    }
+
     /// The event is done, or could do nothing.
     fn happened(&self, done: bool) -> Done
         ensures closed { (l : Lists) → closed result l ≡ outright (done_if done) l }
@@ -85,18 +115,18 @@ impl<S: ClientSide> Machine<S> {
     }
 
     /// The store handles a request, also after it was lost or its client crashed.
-    pub(crate) fn serve(&mut self, ticket: Ticket) -> Result<Done, NoMemory>
+    fn serve(&mut self, ticket: Ticket) -> Result<Done, NoMemory>
         requires ready { S.ready self.old.clients }
         requires ordered { IsOrdered (lists_of S.sight self.old) }
         requires some { 1 ≤ newest (lists_of S.sight self.old) }
-        ensures does { IfOk result (λ done. Does (Line.Serve ticket) (lists_of S.sight self.old) (closed done (lists_of S.sight self.new))) }
+        ensures does { IfOk result (λ done. Does (Deed.Happens (Happening.Serve ticket)) (lists_of S.sight self.old) (closed done (lists_of S.sight self.new))) }
         ensures can { IfOk result (λ done. CanClose done (lists_of S.sight self.new)) }
         ensures tells { IfOk result (λ done. CanTell (lists_of S.sight self.old) done (lists_of S.sight self.new)) }
         ensures out { IfOk result (λ done. KeepOut (S.waits self.old.clients) (S.waits self.new.clients) (lists_of S.sight self.old) done (lists_of S.sight self.new)) }
         ensures ready { OnOk result (S.ready self.new.clients) }
         ensures accounts { OnOk result (AreKept (S.account self.old.clients) (S.account self.new.clients)) }
-        ensures rests { IfOk result (RunsOn S.fails (S.rests self.old.clients) (S.rests self.new.clients) (Line.Serve ticket) (lists_of S.sight self.old) (S.account self.old.clients)) }
-        ensures arises { IfOk result (RunsTo (S.arises self.old.clients) (S.arises self.new.clients) (S.holds self.old.clients) (S.holds self.new.clients) (Line.Serve ticket) (lists_of S.sight self.old)) }
+        ensures rests { IfOk result (RunsOn S.fails (S.rests self.old.clients) (S.rests self.new.clients) (Deed.Happens (Happening.Serve ticket)) (lists_of S.sight self.old) (S.account self.old.clients)) }
+        ensures arises { IfOk result (RunsTo (S.arises self.old.clients) (S.arises self.new.clients) (S.holds self.old.clients) (S.holds self.new.clients) (Deed.Happens (Happening.Serve ticket)) (lists_of S.sight self.old)) }
     {
         let Some(place) = self.post.find_unserved(&ticket) else {
             return Ok(self.happened(false));
@@ -107,18 +137,18 @@ impl<S: ClientSide> Machine<S> {
     }
 
     /// The client takes the reply that the store gave.
-    pub(crate) fn answer(&mut self, ticket: Ticket) -> Result<Done, NoMemory>
+    fn answer(&mut self, ticket: Ticket) -> Result<Done, NoMemory>
         requires ready { S.ready self.old.clients }
         requires ordered { IsOrdered (lists_of S.sight self.old) }
         requires some { 1 ≤ newest (lists_of S.sight self.old) }
-        ensures does { IfOk result (λ done. Does (Line.Answer ticket) (lists_of S.sight self.old) (closed done (lists_of S.sight self.new))) }
+        ensures does { IfOk result (λ done. Does (Deed.Happens (Happening.Answer ticket)) (lists_of S.sight self.old) (closed done (lists_of S.sight self.new))) }
         ensures can { IfOk result (λ done. CanClose done (lists_of S.sight self.new)) }
         ensures tells { IfOk result (λ done. CanTell (lists_of S.sight self.old) done (lists_of S.sight self.new)) }
         ensures out { IfOk result (λ done. KeepOut (S.waits self.old.clients) (S.waits self.new.clients) (lists_of S.sight self.old) done (lists_of S.sight self.new)) }
         ensures ready { OnOk result (S.ready self.new.clients) }
         ensures accounts { IfOk result (λ done. AreClosed (S.sight self.old.clients) done.turn.ended.items (S.account self.old.clients) (S.account self.new.clients)) }
-        ensures rests { IfOk result (RunsOn S.fails (S.rests self.old.clients) (S.rests self.new.clients) (Line.Answer ticket) (lists_of S.sight self.old) (S.account self.old.clients)) }
-        ensures arises { IfOk result (RunsTo (S.arises self.old.clients) (S.arises self.new.clients) (S.holds self.old.clients) (S.holds self.new.clients) (Line.Answer ticket) (lists_of S.sight self.old)) }
+        ensures rests { IfOk result (RunsOn S.fails (S.rests self.old.clients) (S.rests self.new.clients) (Deed.Happens (Happening.Answer ticket)) (lists_of S.sight self.old) (S.account self.old.clients)) }
+        ensures arises { IfOk result (RunsTo (S.arises self.old.clients) (S.arises self.new.clients) (S.holds self.old.clients) (S.holds self.new.clients) (Deed.Happens (Happening.Answer ticket)) (lists_of S.sight self.old)) }
     {
         let Some(place) = self.find_out(&ticket) else {
             return Ok(self.happened(false));
@@ -130,18 +160,18 @@ impl<S: ClientSide> Machine<S> {
     }
 
     /// The store handles a request, and the client takes the reply.
-    pub(crate) fn deliver(&mut self, ticket: Ticket) -> Result<Done, NoMemory>
+    fn deliver(&mut self, ticket: Ticket) -> Result<Done, NoMemory>
         requires ready { S.ready self.old.clients }
         requires ordered { IsOrdered (lists_of S.sight self.old) }
         requires some { 1 ≤ newest (lists_of S.sight self.old) }
-        ensures does { IfOk result (λ done. Does (Line.Deliver ticket) (lists_of S.sight self.old) (closed done (lists_of S.sight self.new))) }
+        ensures does { IfOk result (λ done. Does (Deed.Happens (Happening.Deliver ticket)) (lists_of S.sight self.old) (closed done (lists_of S.sight self.new))) }
         ensures can { IfOk result (λ done. CanClose done (lists_of S.sight self.new)) }
         ensures tells { IfOk result (λ done. CanTell (lists_of S.sight self.old) done (lists_of S.sight self.new)) }
         ensures out { IfOk result (λ done. KeepOut (S.waits self.old.clients) (S.waits self.new.clients) (lists_of S.sight self.old) done (lists_of S.sight self.new)) }
         ensures ready { OnOk result (S.ready self.new.clients) }
         ensures accounts { IfOk result (λ done. AreClosed (S.sight self.old.clients) done.turn.ended.items (S.account self.old.clients) (S.account self.new.clients)) }
-        ensures rests { IfOk result (RunsOn S.fails (S.rests self.old.clients) (S.rests self.new.clients) (Line.Deliver ticket) (lists_of S.sight self.old) (S.account self.old.clients)) }
-        ensures arises { IfOk result (RunsTo (S.arises self.old.clients) (S.arises self.new.clients) (S.holds self.old.clients) (S.holds self.new.clients) (Line.Deliver ticket) (lists_of S.sight self.old)) }
+        ensures rests { IfOk result (RunsOn S.fails (S.rests self.old.clients) (S.rests self.new.clients) (Deed.Happens (Happening.Deliver ticket)) (lists_of S.sight self.old) (S.account self.old.clients)) }
+        ensures arises { IfOk result (RunsTo (S.arises self.old.clients) (S.arises self.new.clients) (S.holds self.old.clients) (S.holds self.new.clients) (Deed.Happens (Happening.Deliver ticket)) (lists_of S.sight self.old)) }
     {
         let Some(place) = self.find_out(&ticket) else {
             return Ok(self.happened(false));
@@ -155,18 +185,18 @@ impl<S: ClientSide> Machine<S> {
     }
 
     /// The client is told by a store that it is too busy.
-    pub(crate) fn busy(&mut self, ticket: Ticket) -> Result<Done, NoMemory>
+    fn busy(&mut self, ticket: Ticket) -> Result<Done, NoMemory>
         requires ready { S.ready self.old.clients }
         requires ordered { IsOrdered (lists_of S.sight self.old) }
         requires some { 1 ≤ newest (lists_of S.sight self.old) }
-        ensures does { IfOk result (λ done. Does (Line.Busy ticket) (lists_of S.sight self.old) (closed done (lists_of S.sight self.new))) }
+        ensures does { IfOk result (λ done. Does (Deed.Happens (Happening.Busy ticket)) (lists_of S.sight self.old) (closed done (lists_of S.sight self.new))) }
         ensures can { IfOk result (λ done. CanClose done (lists_of S.sight self.new)) }
         ensures tells { IfOk result (λ done. CanTell (lists_of S.sight self.old) done (lists_of S.sight self.new)) }
         ensures out { IfOk result (λ done. KeepOut (S.waits self.old.clients) (S.waits self.new.clients) (lists_of S.sight self.old) done (lists_of S.sight self.new)) }
         ensures ready { OnOk result (S.ready self.new.clients) }
         ensures accounts { IfOk result (λ done. AreClosed (S.sight self.old.clients) done.turn.ended.items (S.account self.old.clients) (S.account self.new.clients)) }
-        ensures rests { IfOk result (RunsOn S.fails (S.rests self.old.clients) (S.rests self.new.clients) (Line.Busy ticket) (lists_of S.sight self.old) (S.account self.old.clients)) }
-        ensures arises { IfOk result (RunsTo (S.arises self.old.clients) (S.arises self.new.clients) (S.holds self.old.clients) (S.holds self.new.clients) (Line.Busy ticket) (lists_of S.sight self.old)) }
+        ensures rests { IfOk result (RunsOn S.fails (S.rests self.old.clients) (S.rests self.new.clients) (Deed.Happens (Happening.Busy ticket)) (lists_of S.sight self.old) (S.account self.old.clients)) }
+        ensures arises { IfOk result (RunsTo (S.arises self.old.clients) (S.arises self.new.clients) (S.holds self.old.clients) (S.holds self.new.clients) (Deed.Happens (Happening.Busy ticket)) (lists_of S.sight self.old)) }
     {
         let Some(place) = self.find_out(&ticket) else {
             return Ok(self.happened(false));
@@ -204,18 +234,18 @@ impl<S: ClientSide> Machine<S> {
     }
 
     /// The client is told that no reply will come.
-    pub(crate) fn lose(&mut self, ticket: Ticket) -> Result<Done, NoMemory>
+    fn lose(&mut self, ticket: Ticket) -> Result<Done, NoMemory>
         requires ready { S.ready self.old.clients }
         requires ordered { IsOrdered (lists_of S.sight self.old) }
         requires some { 1 ≤ newest (lists_of S.sight self.old) }
-        ensures does { IfOk result (λ done. Does (Line.Lose ticket) (lists_of S.sight self.old) (closed done (lists_of S.sight self.new))) }
+        ensures does { IfOk result (λ done. Does (Deed.Happens (Happening.Lose ticket)) (lists_of S.sight self.old) (closed done (lists_of S.sight self.new))) }
         ensures can { IfOk result (λ done. CanClose done (lists_of S.sight self.new)) }
         ensures tells { IfOk result (λ done. CanTell (lists_of S.sight self.old) done (lists_of S.sight self.new)) }
         ensures out { IfOk result (λ done. KeepOut (S.waits self.old.clients) (S.waits self.new.clients) (lists_of S.sight self.old) done (lists_of S.sight self.new)) }
         ensures ready { OnOk result (S.ready self.new.clients) }
         ensures accounts { IfOk result (λ done. AreClosed (S.sight self.old.clients) done.turn.ended.items (S.account self.old.clients) (S.account self.new.clients)) }
-        ensures rests { IfOk result (RunsOn S.fails (S.rests self.old.clients) (S.rests self.new.clients) (Line.Lose ticket) (lists_of S.sight self.old) (S.account self.old.clients)) }
-        ensures arises { IfOk result (RunsTo (S.arises self.old.clients) (S.arises self.new.clients) (S.holds self.old.clients) (S.holds self.new.clients) (Line.Lose ticket) (lists_of S.sight self.old)) }
+        ensures rests { IfOk result (RunsOn S.fails (S.rests self.old.clients) (S.rests self.new.clients) (Deed.Happens (Happening.Lose ticket)) (lists_of S.sight self.old) (S.account self.old.clients)) }
+        ensures arises { IfOk result (RunsTo (S.arises self.old.clients) (S.arises self.new.clients) (S.holds self.old.clients) (S.holds self.new.clients) (Deed.Happens (Happening.Lose ticket)) (lists_of S.sight self.old)) }
     {
         let Some(place) = self.find_out(&ticket) else {
             return Ok(self.happened(false));
@@ -228,18 +258,18 @@ impl<S: ClientSide> Machine<S> {
     }
 
     /// A sleep ends.
-    pub(crate) fn wake(&mut self, ticket: Ticket) -> Result<Done, NoMemory>
+    fn wake(&mut self, ticket: Ticket) -> Result<Done, NoMemory>
         requires ready { S.ready self.old.clients }
         requires ordered { IsOrdered (lists_of S.sight self.old) }
         requires some { 1 ≤ newest (lists_of S.sight self.old) }
-        ensures does { IfOk result (λ done. Does (Line.Wake ticket) (lists_of S.sight self.old) (closed done (lists_of S.sight self.new))) }
+        ensures does { IfOk result (λ done. Does (Deed.Happens (Happening.Wake ticket)) (lists_of S.sight self.old) (closed done (lists_of S.sight self.new))) }
         ensures can { IfOk result (λ done. CanClose done (lists_of S.sight self.new)) }
         ensures tells { IfOk result (λ done. CanTell (lists_of S.sight self.old) done (lists_of S.sight self.new)) }
         ensures out { IfOk result (λ done. KeepOut (S.waits self.old.clients) (S.waits self.new.clients) (lists_of S.sight self.old) done (lists_of S.sight self.new)) }
         ensures ready { OnOk result (S.ready self.new.clients) }
         ensures accounts { IfOk result (λ done. AreClosed (S.sight self.old.clients) done.turn.ended.items (S.account self.old.clients) (S.account self.new.clients)) }
-        ensures rests { IfOk result (RunsOn S.fails (S.rests self.old.clients) (S.rests self.new.clients) (Line.Wake ticket) (lists_of S.sight self.old) (S.account self.old.clients)) }
-        ensures arises { IfOk result (RunsTo (S.arises self.old.clients) (S.arises self.new.clients) (S.holds self.old.clients) (S.holds self.new.clients) (Line.Wake ticket) (lists_of S.sight self.old)) }
+        ensures rests { IfOk result (RunsOn S.fails (S.rests self.old.clients) (S.rests self.new.clients) (Deed.Happens (Happening.Wake ticket)) (lists_of S.sight self.old) (S.account self.old.clients)) }
+        ensures arises { IfOk result (RunsTo (S.arises self.old.clients) (S.arises self.new.clients) (S.holds self.old.clients) (S.holds self.new.clients) (Deed.Happens (Happening.Wake ticket)) (lists_of S.sight self.old)) }
     {
         let Some(place) = self.find_asleep(&ticket) else {
             return Ok(self.happened(false));
@@ -249,70 +279,70 @@ impl<S: ClientSide> Machine<S> {
         Ok(self.came(turn))
     }
 
-    pub(crate) fn split(&mut self, key: Key) -> Result<Done, NoMemory>
+    fn split(&mut self, key: Key) -> Result<Done, NoMemory>
         requires ready { S.ready self.old.clients }
         requires ordered { IsOrdered (lists_of S.sight self.old) }
         requires some { 1 ≤ newest (lists_of S.sight self.old) }
-        ensures does { IfOk result (λ done. Does (Line.Split key) (lists_of S.sight self.old) (closed done (lists_of S.sight self.new))) }
+        ensures does { IfOk result (λ done. Does (Deed.Happens (Happening.Split key)) (lists_of S.sight self.old) (closed done (lists_of S.sight self.new))) }
         ensures can { IfOk result (λ done. CanClose done (lists_of S.sight self.new)) }
         ensures tells { IfOk result (λ done. CanTell (lists_of S.sight self.old) done (lists_of S.sight self.new)) }
         ensures out { IfOk result (λ done. KeepOut (S.waits self.old.clients) (S.waits self.new.clients) (lists_of S.sight self.old) done (lists_of S.sight self.new)) }
         ensures ready { OnOk result (S.ready self.new.clients) }
         ensures accounts { OnOk result (AreKept (S.account self.old.clients) (S.account self.new.clients)) }
-        ensures rests { IfOk result (RunsOn S.fails (S.rests self.old.clients) (S.rests self.new.clients) (Line.Split key) (lists_of S.sight self.old) (S.account self.old.clients)) }
-        ensures arises { IfOk result (RunsTo (S.arises self.old.clients) (S.arises self.new.clients) (S.holds self.old.clients) (S.holds self.new.clients) (Line.Split key) (lists_of S.sight self.old)) }
+        ensures rests { IfOk result (RunsOn S.fails (S.rests self.old.clients) (S.rests self.new.clients) (Deed.Happens (Happening.Split key)) (lists_of S.sight self.old) (S.account self.old.clients)) }
+        ensures arises { IfOk result (RunsTo (S.arises self.old.clients) (S.arises self.new.clients) (S.holds self.old.clients) (S.holds self.new.clients) (Deed.Happens (Happening.Split key)) (lists_of S.sight self.old)) }
     {
         let done = self.store.split(&key)?;
         Ok(self.happened(done))
     }
 
-    pub(crate) fn lead(&mut self, region: u64, store: u64) -> Result<Done, NoMemory>
+    fn lead(&mut self, region: u64, store: u64) -> Result<Done, NoMemory>
         requires ready { S.ready self.old.clients }
         requires ordered { IsOrdered (lists_of S.sight self.old) }
         requires some { 1 ≤ newest (lists_of S.sight self.old) }
-        ensures does { IfOk result (λ done. Does (Line.Lead region store) (lists_of S.sight self.old) (closed done (lists_of S.sight self.new))) }
+        ensures does { IfOk result (λ done. Does (Deed.Happens (Happening.Lead region store)) (lists_of S.sight self.old) (closed done (lists_of S.sight self.new))) }
         ensures can { IfOk result (λ done. CanClose done (lists_of S.sight self.new)) }
         ensures tells { IfOk result (λ done. CanTell (lists_of S.sight self.old) done (lists_of S.sight self.new)) }
         ensures out { IfOk result (λ done. KeepOut (S.waits self.old.clients) (S.waits self.new.clients) (lists_of S.sight self.old) done (lists_of S.sight self.new)) }
         ensures ready { OnOk result (S.ready self.new.clients) }
         ensures accounts { OnOk result (AreKept (S.account self.old.clients) (S.account self.new.clients)) }
-        ensures rests { IfOk result (RunsOn S.fails (S.rests self.old.clients) (S.rests self.new.clients) (Line.Lead region store) (lists_of S.sight self.old) (S.account self.old.clients)) }
-        ensures arises { IfOk result (RunsTo (S.arises self.old.clients) (S.arises self.new.clients) (S.holds self.old.clients) (S.holds self.new.clients) (Line.Lead region store) (lists_of S.sight self.old)) }
+        ensures rests { IfOk result (RunsOn S.fails (S.rests self.old.clients) (S.rests self.new.clients) (Deed.Happens (Happening.Lead region store)) (lists_of S.sight self.old) (S.account self.old.clients)) }
+        ensures arises { IfOk result (RunsTo (S.arises self.old.clients) (S.arises self.new.clients) (S.holds self.old.clients) (S.holds self.new.clients) (Deed.Happens (Happening.Lead region store)) (lists_of S.sight self.old)) }
     {
         let done = self.store.lead(region, store);
         Ok(self.happened(done))
     }
 
-    pub(crate) fn set_clock(&mut self, ms: u64) -> Result<Done, NoMemory>
+    fn set_clock(&mut self, ms: u64) -> Result<Done, NoMemory>
         requires ready { S.ready self.old.clients }
         requires ordered { IsOrdered (lists_of S.sight self.old) }
         requires some { 1 ≤ newest (lists_of S.sight self.old) }
         requires fine { ms < 2 ^ 44 }
-        ensures does { IfOk result (λ done. Does (Line.Clock ms) (lists_of S.sight self.old) (closed done (lists_of S.sight self.new))) }
+        ensures does { IfOk result (λ done. Does (Deed.Happens (Happening.Clock ms)) (lists_of S.sight self.old) (closed done (lists_of S.sight self.new))) }
         ensures can { IfOk result (λ done. CanClose done (lists_of S.sight self.new)) }
         ensures tells { IfOk result (λ done. CanTell (lists_of S.sight self.old) done (lists_of S.sight self.new)) }
         ensures out { IfOk result (λ done. KeepOut (S.waits self.old.clients) (S.waits self.new.clients) (lists_of S.sight self.old) done (lists_of S.sight self.new)) }
         ensures ready { OnOk result (S.ready self.new.clients) }
         ensures accounts { OnOk result (AreKept (S.account self.old.clients) (S.account self.new.clients)) }
-        ensures rests { IfOk result (RunsOn S.fails (S.rests self.old.clients) (S.rests self.new.clients) (Line.Clock ms) (lists_of S.sight self.old) (S.account self.old.clients)) }
-        ensures arises { IfOk result (RunsTo (S.arises self.old.clients) (S.arises self.new.clients) (S.holds self.old.clients) (S.holds self.new.clients) (Line.Clock ms) (lists_of S.sight self.old)) }
+        ensures rests { IfOk result (RunsOn S.fails (S.rests self.old.clients) (S.rests self.new.clients) (Deed.Happens (Happening.Clock ms)) (lists_of S.sight self.old) (S.account self.old.clients)) }
+        ensures arises { IfOk result (RunsTo (S.arises self.old.clients) (S.arises self.new.clients) (S.holds self.old.clients) (S.holds self.new.clients) (Deed.Happens (Happening.Clock ms)) (lists_of S.sight self.old)) }
     {
         self.store.set_clock(ms);
         Ok(self.happened(true))
     }
 
-    pub(crate) fn crash(&mut self, client: u64) -> Result<Done, NoMemory>
+    fn crash(&mut self, client: u64) -> Result<Done, NoMemory>
         requires ready { S.ready self.old.clients }
         requires ordered { IsOrdered (lists_of S.sight self.old) }
         requires some { 1 ≤ newest (lists_of S.sight self.old) }
-        ensures does { IfOk result (λ done. Does (Line.Crash client) (lists_of S.sight self.old) (closed done (lists_of S.sight self.new))) }
+        ensures does { IfOk result (λ done. Does (Deed.Happens (Happening.Crash client)) (lists_of S.sight self.old) (closed done (lists_of S.sight self.new))) }
         ensures can { IfOk result (λ done. CanClose done (lists_of S.sight self.new)) }
         ensures tells { IfOk result (λ done. CanTell (lists_of S.sight self.old) done (lists_of S.sight self.new)) }
         ensures out { IfOk result (λ done. KeepOut (S.waits self.old.clients) (S.waits self.new.clients) (lists_of S.sight self.old) done (lists_of S.sight self.new)) }
         ensures ready { OnOk result (S.ready self.new.clients) }
         ensures accounts { OnOk result (AreKept (S.account self.old.clients) (S.account self.new.clients)) }
-        ensures rests { IfOk result (RunsOn S.fails (S.rests self.old.clients) (S.rests self.new.clients) (Line.Crash client) (lists_of S.sight self.old) (S.account self.old.clients)) }
-        ensures arises { IfOk result (RunsTo (S.arises self.old.clients) (S.arises self.new.clients) (S.holds self.old.clients) (S.holds self.new.clients) (Line.Crash client) (lists_of S.sight self.old)) }
+        ensures rests { IfOk result (RunsOn S.fails (S.rests self.old.clients) (S.rests self.new.clients) (Deed.Happens (Happening.Crash client)) (lists_of S.sight self.old) (S.account self.old.clients)) }
+        ensures arises { IfOk result (RunsTo (S.arises self.old.clients) (S.arises self.new.clients) (S.holds self.old.clients) (S.holds self.new.clients) (Deed.Happens (Happening.Crash client)) (lists_of S.sight self.old)) }
     {
         let done = self.clients.crash(client);
         Ok(self.happened(done))

@@ -5,6 +5,7 @@ use Rattle.txn_machine.proofs.Telling.{leaves_same, tell_acts}
 use Rattle.txn_side.specs.Account.{MayTakeIn}
 use Rattle.txn_side.specs.Sight.{commits}
 use Rattle.txn_machine.proofs.Arising.{called_to}
+use Rattle.txn_machine.proofs.Resting.{used_on}
 use Rattle.txn_machine.proofs.machine.Machine.act.Goals as goal
 
 pub returns-clause-tells : goal.returns-clause-tells
@@ -13,13 +14,18 @@ returns-clause-tells g c = tell_acts (lists_of g.S.ClientSide.sight c.args.self.
 pub returns-clause-out : goal.returns-clause-out
 returns-clause-out g c = acts_out (g.S.ClientSide.waits c.args.self.now.clients) _ (lists_of g.S.ClientSide.sight c.args.self.now) _ _ c.args.act c.args.transaction c.in_ok-turn.turn c.in_ok-turn.ensures.turn c.in_ok-turn.ensures.waits c.called.ensures.posted refl c.requires.ordered
 
-pub returns-clause-takes : goal.returns-clause-takes
-returns-clause-takes g c = record {
+pub returns-clause-credits : goal.returns-clause-credits
+returns-clause-credits g c = record {
   turn = c.in_ok-turn.turn;
   takes = subst (λ k. MayTakeIn c.args.act c.args.transaction k (g.S.ClientSide.account c.args.self.now.clients) (g.S.ClientSide.account c.act.new.self) c.in_ok-turn.turn) c.requires.ordered.even.stands c.in_ok-turn.ensures.accounts;
   own = c.called.ensures.outcome;
   ended = c.called.ensures.ended;
 }
 
+pub returns-clause-rests : goal.returns-clause-rests
+returns-clause-rests g c = used_on g.S.ClientSide.fails (g.S.ClientSide.rests c.args.self.now.clients) (g.S.ClientSide.rests c.act.new.self) (lists_of g.S.ClientSide.sight c.args.self.now) (g.S.ClientSide.account c.args.self.now.clients) c.args.transaction c.args.act _ c.in_ok-turn.turn c.called.result c.requires.ordered.even.stands c.called.ensures.posted c.called.ensures.ended c.in_ok-turn.ensures.rests
+
 pub returns-clause-arises : goal.returns-clause-arises
-returns-clause-arises g c h w = called_to (g.S.ClientSide.arises c.args.self.now.clients) (g.S.ClientSide.arises c.act.new.self) (g.S.ClientSide.holds c.args.self.now.clients) (g.S.ClientSide.holds c.act.new.self) c.called.result (λ n. record { at = c.args.transaction; commits = commits c.args.act }) c.in_ok-turn.turn c.called.ensures.posted c.called.ensures.ended c.in_ok-turn.ensures.arises h w
+returns-clause-arises g c looks h knows w =
+    let a = called_to (g.S.ClientSide.arises c.args.self.now.clients) (g.S.ClientSide.arises c.act.new.self) (g.S.ClientSide.holds c.args.self.now.clients) (g.S.ClientSide.holds c.act.new.self) c.called.result (λ n. record { at = c.args.transaction; commits = commits c.args.act }) c.in_ok-turn.turn c.called.ensures.posted c.called.ensures.ended c.in_ok-turn.ensures.arises h w in
+    record { now = a.now; kept = a.kept; answers = a.answers; doubts = a.doubts }

@@ -4,7 +4,8 @@ use Rattle.txn_machine.specs.Running.{lists_of}
 use Rattle.txn_machine.proofs.Telling.{tell_came}
 use Rattle.txn_machine.proofs.Staying.{live_out, lost_out, rest_out}
 use Rattle.txn_history.specs.Event.Event.{Lost}
-use Rattle.txn_lines.specs.declared.line.Line.TheVariants.{Lose}
+use Rattle.txn_lines.specs.declared.deed.Deed.TheVariants.{Happens}
+use Rattle.txn_lines.specs.declared.happening.Happening.TheVariants.{Lose}
 use Rattle.txn_machine.specs.Steps.{test_at}
 use Rattle.txn_machine.proofs.Arising.{arises_same, heard_to, lose_comes, missed, outside_to}
 use Rattle.txn_machine.proofs.machine.Machine.lose.Goals as goal
@@ -22,10 +23,10 @@ returns-clause-out g c =
 
 pub returns-in_default-clause-arises : goal.returns-in_default-clause-arises
 returns-in_default-clause-arises g c =
-    outside_to (g.S.ClientSide.arises c.args.self.now.clients) (g.S.ClientSide.arises c.args.self.now.clients) (g.S.ClientSide.holds c.args.self.now.clients) (g.S.ClientSide.holds c.args.self.now.clients) (Lose c.args.ticket) (lists_of g.S.ClientSide.sight c.args.self.now) c.happened.result c.happened.ensures.nothing c.happened.ensures.ended
-    (arises_same (g.S.ClientSide.arises c.args.self.now.clients) (g.S.ClientSide.holds c.args.self.now.clients)) (λ h e. g.S.ClientSide.arises_longer c.args.self.now.clients h e) (λ looks h knows. missed (lists_of g.S.ClientSide.sight c.args.self.now) looks h (Lose c.args.ticket) (ap (λ (o : Option ℕ). test_at (λ k. true) o) (sym c.find_out.ensures.exact ∙ c.in_default.is)))
+    outside_to (g.S.ClientSide.arises c.args.self.now.clients) (g.S.ClientSide.arises c.args.self.now.clients) (g.S.ClientSide.holds c.args.self.now.clients) (g.S.ClientSide.holds c.args.self.now.clients) (Happens (Lose c.args.ticket)) (lists_of g.S.ClientSide.sight c.args.self.now) c.happened.result c.happened.ensures.nothing c.happened.ensures.ended
+    (arises_same (g.S.ClientSide.arises c.args.self.now.clients) (g.S.ClientSide.holds c.args.self.now.clients)) (λ h e. g.S.ClientSide.arises_longer c.args.self.now.clients h e) (λ looks h knows. missed (lists_of g.S.ClientSide.sight c.args.self.now) looks h (Happens (Lose c.args.ticket)) (ap (λ (o : Option ℕ). test_at (λ k. true) o) (sym c.find_out.ensures.exact ∙ c.in_default.is)))
 
 pub returns-clause-arises : goal.returns-clause-arises
 returns-clause-arises g c =
-    heard_to (g.S.ClientSide.arises c.args.self.now.clients) (g.S.ClientSide.arises c.lost.new.self) (g.S.ClientSide.holds c.args.self.now.clients) (g.S.ClientSide.holds c.lost.new.self) (Lose c.args.ticket) (lists_of g.S.ClientSide.sight c.args.self.now) (λ r. Lost c.args.ticket r) c.in_ok-turn.turn c.came.result c.came.ensures.turn refl
+    heard_to (g.S.ClientSide.arises c.args.self.now.clients) (g.S.ClientSide.arises c.lost.new.self) (g.S.ClientSide.holds c.args.self.now.clients) (g.S.ClientSide.holds c.lost.new.self) (Happens (Lose c.args.ticket)) (lists_of g.S.ClientSide.sight c.args.self.now) (λ r. Lost c.args.ticket r) c.in_ok-turn.turn c.came.result c.came.ensures.turn refl
     (λ looks h knows w. lose_comes (lists_of g.S.ClientSide.sight c.args.self.now) looks h (g.S.ClientSide.arises c.args.self.now.clients) (g.S.ClientSide.holds c.args.self.now.clients) knows w c.args.ticket c.in-Some.place (sym c.find_out.ensures.exact ∙ c.in-Some.is)) c.in_ok-turn.ensures.arises

@@ -3,7 +3,8 @@ use Rattle.txn_post.specs.Mail.{Mail}
 use Rattle.txn_machine.specs.Lists.{Lists, newest}
 use Rattle.txn_machine.specs.Running.{lists_of}
 use Rattle.txn_machine.proofs.Staying.{rest_out, served_out}
-use Rattle.txn_lines.specs.declared.line.Line.TheVariants.{Serve}
+use Rattle.txn_lines.specs.declared.deed.Deed.TheVariants.{Happens}
+use Rattle.txn_lines.specs.declared.happening.Happening.TheVariants.{Serve}
 use Rattle.txn_machine.proofs.Arising.{arises_same, outside_to, serve_comes, still_moved}
 use Rattle.txn_machine.proofs.Numbers.{can_end}
 use Rattle.txn_machine.proofs.machine.Machine.serve.Goals as goal
@@ -23,10 +24,10 @@ returns-clause-out g c =
 
 pub returns-in_default-clause-arises : goal.returns-in_default-clause-arises
 returns-in_default-clause-arises g c =
-    outside_to (g.S.ClientSide.arises c.args.self.now.clients) (g.S.ClientSide.arises c.args.self.now.clients) (g.S.ClientSide.holds c.args.self.now.clients) (g.S.ClientSide.holds c.args.self.now.clients) (Serve c.args.ticket) (lists_of g.S.ClientSide.sight c.args.self.now) c.happened.result c.happened.ensures.nothing c.happened.ensures.ended
+    outside_to (g.S.ClientSide.arises c.args.self.now.clients) (g.S.ClientSide.arises c.args.self.now.clients) (g.S.ClientSide.holds c.args.self.now.clients) (g.S.ClientSide.holds c.args.self.now.clients) (Happens (Serve c.args.ticket)) (lists_of g.S.ClientSide.sight c.args.self.now) c.happened.result c.happened.ensures.nothing c.happened.ensures.ended
     (arises_same (g.S.ClientSide.arises c.args.self.now.clients) (g.S.ClientSide.holds c.args.self.now.clients)) (λ h e. g.S.ClientSide.arises_longer c.args.self.now.clients h e) (λ looks h knows. serve_comes (lists_of g.S.ClientSide.sight c.args.self.now) looks h c.args.ticket knows)
 
 pub returns-clause-arises : goal.returns-clause-arises
 returns-clause-arises g c =
-    outside_to (g.S.ClientSide.arises c.args.self.now.clients) (g.S.ClientSide.arises c.handle.new.self.clients) (g.S.ClientSide.holds c.args.self.now.clients) (g.S.ClientSide.holds c.handle.new.self.clients) (Serve c.args.ticket) (lists_of g.S.ClientSide.sight c.args.self.now) c.happened-2.result c.happened-2.ensures.nothing c.happened-2.ensures.ended
+    outside_to (g.S.ClientSide.arises c.args.self.now.clients) (g.S.ClientSide.arises c.handle.new.self.clients) (g.S.ClientSide.holds c.args.self.now.clients) (g.S.ClientSide.holds c.handle.new.self.clients) (Happens (Serve c.args.ticket)) (lists_of g.S.ClientSide.sight c.args.self.now) c.happened-2.result c.happened-2.ensures.nothing c.happened-2.ensures.ended
     (still_moved g.S.ClientSide.arises g.S.ClientSide.holds c.args.self.now.clients c.handle.new.self.clients c.in_ok-reply.ensures.clients) (λ h e. g.S.ClientSide.arises_longer c.handle.new.self.clients h e) (λ looks h knows. serve_comes (lists_of g.S.ClientSide.sight c.args.self.now) looks h c.args.ticket knows)

@@ -1,5 +1,6 @@
 use Rattle.std.proofs.Common.{refl}
-use Rattle.txn_lines.specs.declared.line.Line.TheVariants.{Split}
+use Rattle.txn_lines.specs.declared.deed.Deed.TheVariants.{Happens}
+use Rattle.txn_lines.specs.declared.happening.Happening.TheVariants.{Split}
 use Rattle.txn_machine.specs.Running.{lists_of}
 use Rattle.txn_machine.proofs.Staying.{rest_out}
 use Rattle.txn_machine.proofs.Arising.{arises_same, outside_to, split_comes}
@@ -10,5 +11,5 @@ returns-clause-out g c = rest_out (g.S.ClientSide.waits c.args.self.now.clients)
 
 pub returns-clause-arises : goal.returns-clause-arises
 returns-clause-arises g c =
-    outside_to (g.S.ClientSide.arises c.args.self.now.clients) (g.S.ClientSide.arises c.args.self.now.clients) (g.S.ClientSide.holds c.args.self.now.clients) (g.S.ClientSide.holds c.args.self.now.clients) (Split c.args.key) (lists_of g.S.ClientSide.sight c.args.self.now) c.happened.result c.happened.ensures.nothing c.happened.ensures.ended
+    outside_to (g.S.ClientSide.arises c.args.self.now.clients) (g.S.ClientSide.arises c.args.self.now.clients) (g.S.ClientSide.holds c.args.self.now.clients) (g.S.ClientSide.holds c.args.self.now.clients) (Happens (Split c.args.key)) (lists_of g.S.ClientSide.sight c.args.self.now) c.happened.result c.happened.ensures.nothing c.happened.ensures.ended
     (arises_same (g.S.ClientSide.arises c.args.self.now.clients) (g.S.ClientSide.holds c.args.self.now.clients)) (λ h e. g.S.ClientSide.arises_longer c.args.self.now.clients h e) (λ looks h knows. split_comes (lists_of g.S.ClientSide.sight c.args.self.now) looks h c.args.key)

@@ -4,7 +4,8 @@ use Rattle.txn_machine.specs.Running.{lists_of}
 use Rattle.txn_machine.proofs.Telling.{tell_came}
 use Rattle.txn_machine.proofs.Staying.{live_asleep, rest_out, slept_out}
 use Rattle.txn_history.specs.Event.Event.{Slept}
-use Rattle.txn_lines.specs.declared.line.Line.TheVariants.{Wake}
+use Rattle.txn_lines.specs.declared.deed.Deed.TheVariants.{Happens}
+use Rattle.txn_lines.specs.declared.happening.Happening.TheVariants.{Wake}
 use Rattle.txn_machine.specs.Steps.{test_at}
 use Rattle.txn_machine.proofs.Arising.{arises_same, missed, outside_to, woken_to}
 use Rattle.txn_machine.proofs.machine.Machine.wake.Goals as goal
@@ -23,10 +24,10 @@ returns-clause-out g c =
 
 pub returns-in_default-clause-arises : goal.returns-in_default-clause-arises
 returns-in_default-clause-arises g c =
-    outside_to (g.S.ClientSide.arises c.args.self.now.clients) (g.S.ClientSide.arises c.args.self.now.clients) (g.S.ClientSide.holds c.args.self.now.clients) (g.S.ClientSide.holds c.args.self.now.clients) (Wake c.args.ticket) (lists_of g.S.ClientSide.sight c.args.self.now) c.happened.result c.happened.ensures.nothing c.happened.ensures.ended
-    (arises_same (g.S.ClientSide.arises c.args.self.now.clients) (g.S.ClientSide.holds c.args.self.now.clients)) (λ h e. g.S.ClientSide.arises_longer c.args.self.now.clients h e) (λ looks h knows. missed (lists_of g.S.ClientSide.sight c.args.self.now) looks h (Wake c.args.ticket) (ap (λ (o : Option ℕ). test_at (λ k. true) o) (sym c.find_asleep.ensures.exact ∙ c.in_default.is)))
+    outside_to (g.S.ClientSide.arises c.args.self.now.clients) (g.S.ClientSide.arises c.args.self.now.clients) (g.S.ClientSide.holds c.args.self.now.clients) (g.S.ClientSide.holds c.args.self.now.clients) (Happens (Wake c.args.ticket)) (lists_of g.S.ClientSide.sight c.args.self.now) c.happened.result c.happened.ensures.nothing c.happened.ensures.ended
+    (arises_same (g.S.ClientSide.arises c.args.self.now.clients) (g.S.ClientSide.holds c.args.self.now.clients)) (λ h e. g.S.ClientSide.arises_longer c.args.self.now.clients h e) (λ looks h knows. missed (lists_of g.S.ClientSide.sight c.args.self.now) looks h (Happens (Wake c.args.ticket)) (ap (λ (o : Option ℕ). test_at (λ k. true) o) (sym c.find_asleep.ensures.exact ∙ c.in_default.is)))
 
 pub returns-clause-arises : goal.returns-clause-arises
 returns-clause-arises g c =
-    woken_to (g.S.ClientSide.arises c.args.self.now.clients) (g.S.ClientSide.arises c.slept.new.self) (g.S.ClientSide.holds c.args.self.now.clients) (g.S.ClientSide.holds c.slept.new.self) (Wake c.args.ticket) (lists_of g.S.ClientSide.sight c.args.self.now) c.args.ticket c.in_ok-turn.turn c.came.result c.came.ensures.turn refl
+    woken_to (g.S.ClientSide.arises c.args.self.now.clients) (g.S.ClientSide.arises c.slept.new.self) (g.S.ClientSide.holds c.args.self.now.clients) (g.S.ClientSide.holds c.slept.new.self) (Happens (Wake c.args.ticket)) (lists_of g.S.ClientSide.sight c.args.self.now) c.args.ticket c.in_ok-turn.turn c.came.result c.came.ensures.turn refl
     (λ looks h. ap (λ (o : Option ℕ). if test_at (λ k. true) o then Slept c.args.ticket ∷ h else h) (sym c.find_asleep.ensures.exact ∙ c.in-Some.is)) c.in_ok-turn.ensures.arises
