@@ -10,7 +10,7 @@ use Rattle.txn_kv.specs.declared.progress.Progress.{Progress}
 use Rattle.txn_kv.specs.declared.progress.Progress.TheVariants.{Waiting, Done}
 use Rattle.txn_history.specs.Turn.{IfEnds, IfKept, Turn as Course, turn_of}
 use Rattle.txn_history.specs.Turn.Turn.{Stopped, Waits, Ends}
-use Rattle.txn_plan.specs.declared.arrival.Arrival.{Arrival}
+use Rattle.txn_kv.specs.declared.arrival.Arrival.{Arrival}
 use Rattle.txn_core.specs.Transaction.{Standing}
 use Rattle.txn_core.specs.declared.txn_answer.TxnAnswer.{TxnAnswer}
 use Rattle.txn_core.specs.declared.txn_answer.TxnAnswer.TheVariants as answer
@@ -26,8 +26,8 @@ use Rattle.txn_side.specs.Account as side
 use Rattle.txn_side.specs.Sight.{AskEnds, CallEnds, EndsAlone, Goes, LineGoes, Sight, Stand, StaysOrEnds, commits, outcomes_of, stand_at, still_open}
 use Rattle.txn_side.specs.declared.turn.Posting.{Posting}
 use Rattle.txn_side.specs.Sight.Stand.{Asking, Calling, HasBegun, Idle, IsClient, Past, Working}
-use Rattle.txn_side.specs.declared.act.Act.{Act}
-use Rattle.txn_side.specs.declared.act.Act.TheVariants as acts
+use Rattle.txn_lines.specs.declared.act.Act.{Act}
+use Rattle.txn_lines.specs.declared.act.Act.TheVariants as acts
 use Rattle.txn_side.specs.declared.turn.Ending.{Ending}
 use Rattle.txn_clients.specs.Accounts.{AccountTold, AccountsTold, AnswersAsk, AnswersNew, AnswersSo, AnswersTold, EndsAtOnce, HasHeard, HasTaken, RowTold, WantsNew, account_at, account_in, account_of, is_heard, outcome_by, outcome_in}
 use Rattle.txn_clients.specs.Closing.{Closes, ClosesIn, ComesTo, EndsBy, EndsCall, EndsOwn, GoesTold, HasComeTo, StandsAt, ends_so, stage_after}

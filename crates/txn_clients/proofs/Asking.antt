@@ -9,7 +9,7 @@ use Rattle.txn_client.specs.declared.client_call.ClientCall.{ClientCall}
 use Rattle.txn_core.specs.Transaction.{Standing}
 use Rattle.txn_side.specs.Sight.{Goes, Sight, Stand, client_at, connected, crash, free, is_free, is_live, line_count, stand_at, with_stand, without}
 use Rattle.txn_side.specs.Sight.Stand.{Asking, Calling, HasBegun, Idle, IsClient}
-use Rattle.txn_side.specs.declared.act.Act.{Act}
+use Rattle.txn_lines.specs.declared.act.Act.{Act}
 use Rattle.txn_side.specs.declared.turn.Turn.{Turn}
 use Rattle.txn_clients.specs.Accounts.{WantsNew}
 use Rattle.txn_clients.specs.Clients.{AreReady, IsLine, Listens, crashed_of, groups_of, nexts_of, row_at, rows_of, sight_of, stands_of}

@@ -20,9 +20,9 @@ use Rattle.txn_clients.specs.Failing.{AnswerRests, AskRests, CalledIn, CameIn, C
 use Rattle.txn_clients.specs.Resting.{called_in_longer, counted_longer, shown_longer, wanted_longer}
 use Rattle.txn_clients.proofs.Showing.{among_behind, counted_after, counts_heard, owing_called, owing_came, owing_met, fails_by, known_so, own_after, own_heard, sent_shown, shown_after, shown_heard, unheard_ends}
 use Rattle.txn_history.specs.Turn.Turn.{Stopped, Waits, Ends}
-use Rattle.txn_plan.specs.Arrivals.{awaited_as, told_by}
-use Rattle.txn_plan.specs.declared.arrival.Arrival.{Arrival}
-use Rattle.txn_plan.specs.declared.arrival.Arrival.TheVariants as arrivals
+use Rattle.txn_history.specs.Arrivals.{awaited_as, told_by}
+use Rattle.txn_kv.specs.declared.arrival.Arrival.{Arrival}
+use Rattle.txn_kv.specs.declared.arrival.Arrival.TheVariants as arrivals
 use Rattle.txn_tso.specs.Calling.{members}
 use Rattle.txn_commit.specs.Committing.{Ways}
 use Rattle.txn_core.proofs.Waiting.{runs_still}

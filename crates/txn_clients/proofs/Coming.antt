@@ -8,7 +8,7 @@ use Rattle.txn_kv.specs.declared.reply.Reply.{Reply}
 use Rattle.txn_kv.specs.declared.request.Request.{Request}
 use Rattle.txn_kv.specs.declared.request.Request.TheVariants.{Tso}
 use Rattle.txn_kv.specs.declared.ticket.Ticket.{Ticket}
-use Rattle.txn_plan.specs.declared.arrival.Arrival.TheVariants as arrivals
+use Rattle.txn_kv.specs.declared.arrival.Arrival.TheVariants as arrivals
 use Rattle.txn_side.specs.Sight.{Group}
 use Rattle.txn_side.specs.Trace.{GroupCame, HasCome, HasRefused, HasRefusedBeside, IsLonger, IsSentIn, Trace, refused_as, times_in, with_posted}
 use Rattle.txn_kv.specs.declared.request.TsoRequest.{TsoRequest}
@@ -16,8 +16,8 @@ use Rattle.txn_tso.specs.Oracle.{group_or_none}
 use Rattle.txn_side.specs.declared.turn.Posting.{Posting}
 use Rattle.txn_clients.specs.Clients.{groups_of, sight_of}
 use Rattle.txn_side.specs.Account.{Account, refusal}
-use Rattle.txn_side.specs.declared.act.Act.{Act}
-use Rattle.txn_side.specs.declared.act.Act.TheVariants.{Rollback}
+use Rattle.txn_lines.specs.declared.act.Act.{Act}
+use Rattle.txn_lines.specs.declared.act.Act.TheVariants.{Rollback}
 use Rattle.txn_clients.specs.Failing.{CalledIn, CameIn, GroupCameIn, KnowsAsk, RefusedIn, RollsBackIn, outbox_of, posting_in, refused_out}
 use Rattle.txn_clients.specs.Groups.{group_by, lines_in}
 use Rattle.txn_clients.specs.Waiting.{book_at, WantedIn}

@@ -20,7 +20,7 @@ use Rattle.txn_history.specs.Among.{IsAmong}
 use Rattle.txn_history.specs.Event.{Event, Has}
 use Rattle.txn_history.specs.Event.Event.{Lost, Took}
 use Rattle.txn_law.proofs.Among.{map_among}
-use Rattle.txn_plan.specs.declared.arrival.Arrival.TheVariants as arrivals
+use Rattle.txn_kv.specs.declared.arrival.Arrival.TheVariants as arrivals
 use Rattle.txn_side.specs.Sight.{Group}
 use Rattle.txn_side.specs.Trace.{HasFailed, IsRefusedNow, Refuses, Trace, and_refused, given_none, refused_as, with_posted}
 use Rattle.txn_side.specs.Trace.{refused_by as refused_lines}

@@ -13,14 +13,14 @@ use Rattle.txn_history.specs.Posted.{Posted}
 use Rattle.txn_history.specs.Turn.{IfKept, Turn, turn_of}
 use Rattle.txn_history.specs.Turn.Turn.{Stopped}
 use Rattle.txn_history.proofs.Telling.{Expects-quiet}
-use Rattle.txn_plan.specs.Arrivals.{awaited_as}
-use Rattle.txn_plan.specs.declared.arrival.Arrival.{Arrival}
+use Rattle.txn_history.specs.Arrivals.{awaited_as}
+use Rattle.txn_kv.specs.declared.arrival.Arrival.{Arrival}
 use Rattle.txn_commit.specs.Committing.{Ways}
 use Rattle.txn_commit.specs.declared.secondary_job.SecondaryJob.{SecondaryJob}
 use Rattle.txn_core.specs.Transaction.{Standing, is_open}
 use Rattle.txn_core.specs.declared.txn_answer.TxnAnswer.{TxnAnswer}
 use Rattle.txn_client.specs.declared.client_call.ClientCall.{ClientCall}
-use Rattle.txn_side.specs.declared.act.Act.{Act}
+use Rattle.txn_lines.specs.declared.act.Act.{Act}
 use Rattle.txn_clients.specs.Rows.{Pd, Posts, answer_in}
 use Rattle.txn_clients.specs.Waiting.{IsPrepared, IsReached, IsRisen, RowArises, RowGoes, RowRuns, StandGoes, hears, wants}
 use Rattle.txn_clients.specs.declared.answer.Answer.{Answer}
@@ -50,7 +50,7 @@ use Rattle.txn_history.specs.Event.Event.{Took}
 use Rattle.txn_history.specs.Licence.{WasGiven}
 use Rattle.txn_history.specs.Meaning.{Goes, Tells as CallTells, started}
 use Rattle.txn_history.specs.Turn.{IfEnds}
-use Rattle.txn_plan.specs.Arrivals.{told_by}
+use Rattle.txn_history.specs.Arrivals.{told_by}
 use Rattle.txn_core.specs.Going.{IsUncommitted}
 use Rattle.txn_core.specs.Transaction.{begun}
 use Rattle.txn_core.specs.declared.options.TransactionOptions.{TransactionOptions}

@@ -10,9 +10,9 @@ use Rattle.txn_history.specs.Event.{Event, Has, same_ticket}
 use Rattle.txn_history.specs.Event.Event.{Sent, Served, Took, Refused, Lost, Began, Slept, Asked, Answered, Crashed, Split, Led, Clocked}
 use Rattle.txn_history.specs.Plan.{Plan}
 use Rattle.txn_history.specs.Posted.{AreNumbered, Errand, Posted, after}
-use Rattle.txn_plan.specs.Arrivals.{told_by}
-use Rattle.txn_plan.specs.declared.arrival.Arrival.{Arrival}
-use Rattle.txn_plan.specs.declared.arrival.Arrival.TheVariants as arrivals
+use Rattle.txn_history.specs.Arrivals.{told_by}
+use Rattle.txn_kv.specs.declared.arrival.Arrival.{Arrival}
+use Rattle.txn_kv.specs.declared.arrival.Arrival.TheVariants as arrivals
 use Rattle.txn_commit.specs.Following.{Commits, KnowsCommits, is_out}
 use Rattle.txn_commit.proofs.Following.{ticket_is, ticket_itself}
 use Rattle.txn_side.specs.Sight.{next_at}

@@ -21,7 +21,7 @@ use Rattle.txn_history.specs.Plan.{Plan}
 use Rattle.txn_history.specs.Posted.{AreNumbered, Errand, Licensed, Posted, Within, Within-after, Within-refl, Within-trans, after, posting, ticket_of}
 use Rattle.txn_law.specs.Run.{IsCovered, IsPossible, IsRun}
 use Rattle.txn_law.proofs.Tickets.{sent_once}
-use Rattle.txn_plan.specs.declared.arrival.Arrival.TheVariants as arrivals
+use Rattle.txn_kv.specs.declared.arrival.Arrival.TheVariants as arrivals
 use Rattle.txn_commit.specs.Committing.{Ways}
 use Rattle.txn_commit.specs.Sending.{MaySend}
 use Rattle.txn_commit.specs.declared.secondary_job.SecondaryJob.{SecondaryJob}

@@ -16,9 +16,9 @@ use Rattle.txn_history.specs.Plan.{Key, Plan, has_key}
 use Rattle.txn_history.specs.Posted.{Posted, after, posting, ticket_of}
 use Rattle.txn_history.specs.Turn.{IfKept, IfKept-out, Turn}
 use Rattle.txn_history.specs.Turn.Turn.{Stopped, Waits}
-use Rattle.txn_plan.specs.Arrivals.{told_by}
-use Rattle.txn_plan.specs.declared.arrival.Arrival.{Arrival}
-use Rattle.txn_plan.specs.declared.arrival.Arrival.TheVariants as arrivals
+use Rattle.txn_history.specs.Arrivals.{told_by}
+use Rattle.txn_kv.specs.declared.arrival.Arrival.{Arrival}
+use Rattle.txn_kv.specs.declared.arrival.Arrival.TheVariants as arrivals
 use Rattle.txn_commit.specs.Committing.{Ways}
 use Rattle.txn_commit.specs.Following.{Commits, IsFollowed, KnowsCommits, PrimarySent, heard, is_done, is_out, or_ticket, without}
 use Rattle.txn_commit.specs.Parts.{parts_of}

@@ -14,8 +14,8 @@ use Rattle.txn_history.specs.Phase.{phase_after}
 use Rattle.txn_history.specs.Posted.{Posted, after}
 use Rattle.txn_history.specs.Turn.{IfEnds, IfEnds-weaker, IfKept, IfKept-all, IfKept-out, IfKept-stopped, IfKept-weaker, Turn}
 use Rattle.txn_history.specs.Turn.Turn.{Stopped, Waits, Ends}
-use Rattle.txn_plan.specs.Arrivals.{told_by}
-use Rattle.txn_plan.specs.declared.arrival.Arrival.{Arrival}
+use Rattle.txn_history.specs.Arrivals.{told_by}
+use Rattle.txn_kv.specs.declared.arrival.Arrival.{Arrival}
 use Rattle.txn_buffer.specs.Contents.{Contents}
 use Rattle.txn_commit.specs.Committing.{Ways}
 use Rattle.txn_commit.specs.Following.{Commits, IsFollowed, KnowsCommits, heard, none_sent, undetermined, or_first}
@@ -36,7 +36,7 @@ use Rattle.txn_core.proofs.Ordered.{written_fits}
 use Rattle.txn_side.specs.Account.{is_undetermined}
 use Rattle.txn_side.specs.Doubt.{IsRefusal}
 use Rattle.txn_side.specs.Sight.{commits as commits_act}
-use Rattle.txn_side.specs.declared.act.Act.{Act}
+use Rattle.txn_lines.specs.declared.act.Act.{Act}
 use Rattle.txn_clients.specs.Accounts.{IsQuiet, SaysLoss, IsAlone}
 use Rattle.txn_clients.specs.Arising.{CallStands, HasLostOne, IsMarked, IsSettled, KeepsPlan, Moved, StandFits, StandMoves, NamesLost, TurnsBack}
 use Rattle.txn_clients.specs.Rows.{answer_in}

@@ -15,8 +15,8 @@ use Rattle.txn_history.specs.Plan.{Plan, has_key}
 use Rattle.txn_history.specs.Posted.{Posted}
 use Rattle.txn_history.specs.Turn.{IfEnds, IfKept, Turn, turn_of}
 use Rattle.txn_history.specs.Turn.Turn.{Stopped, Waits, Ends}
-use Rattle.txn_plan.specs.Arrivals.{told_by}
-use Rattle.txn_plan.specs.declared.arrival.Arrival.{Arrival}
+use Rattle.txn_history.specs.Arrivals.{told_by}
+use Rattle.txn_kv.specs.declared.arrival.Arrival.{Arrival}
 use Rattle.txn_tso.specs.Calling.{members}
 use Rattle.txn_commit.specs.Committing.{Ways}
 use Rattle.txn_merge.specs.declared.retry_options.RetryOptions.{RetryOptions}
@@ -30,7 +30,7 @@ use Rattle.txn_client.specs.Calls.{CallGives, IsAt, called}
 use Rattle.txn_client.specs.declared.client_answer.ClientAnswer.{ClientAnswer}
 use Rattle.txn_client.specs.declared.client_call.ClientCall.{ClientCall}
 use Rattle.txn_client.specs.declared.client_call.Wanted.{Wanted}
-use Rattle.txn_side.specs.declared.act.Act.{Act}
+use Rattle.txn_lines.specs.declared.act.Act.{Act}
 use Rattle.txn_clients.specs.Arising.{AskStands, JobMoves, Moved, MovesRow, RowMoves, StandMoves}
 use Rattle.txn_clients.specs.Clients.{rows_of}
 use Rattle.txn_clients.specs.Rows.{Pd, answer_in, stand_of}

@@ -28,9 +28,9 @@ use Rattle.txn_history.specs.Phase.Phase.{Fresh, GivenUp, Over, Running}
 use Rattle.txn_history.specs.Posted.{Errand, Posted, after, posting, ticket_of}
 use Rattle.txn_history.specs.Turn.{IfEnds, Turn}
 use Rattle.txn_history.specs.Turn.Turn.{Stopped, Waits, Ends}
-use Rattle.txn_plan.specs.Arrivals.{awaited_as, told_by}
-use Rattle.txn_plan.specs.declared.arrival.Arrival.{Arrival}
-use Rattle.txn_plan.specs.declared.arrival.Arrival.TheVariants as arrivals
+use Rattle.txn_history.specs.Arrivals.{awaited_as, told_by}
+use Rattle.txn_kv.specs.declared.arrival.Arrival.{Arrival}
+use Rattle.txn_kv.specs.declared.arrival.Arrival.TheVariants as arrivals
 use Rattle.txn_buffer.specs.Contents.{Contents}
 use Rattle.txn_commit.specs.Committing.{Ways}
 use Rattle.txn_commit.proofs.Following.{IsNoSending, knows_more}
@@ -45,7 +45,7 @@ use Rattle.txn_core.specs.declared.transaction.Work.{Work}
 use Rattle.txn_core.specs.declared.transaction.Work.TheVariants.{Idle, Open, GaveUp}
 use Rattle.txn_core.specs.declared.txn_answer.TxnAnswer.{TxnAnswer}
 use Rattle.txn_side.specs.Account.{Account, refusal}
-use Rattle.txn_side.specs.declared.act.Act.{Act}
+use Rattle.txn_lines.specs.declared.act.Act.{Act}
 use Rattle.txn_side.specs.Trace.{fails_longer, AreOwn, EndsFor, HasRefused, HasRefusedBeside, IsLonger, IsOwn, IsRefusedNow, IsSend, IsShown, Trace, IsBegunAs, and_refused, now_longer, refused_asks, times_in, untimed, untimed_by, untimed_of, with_posted}
 use Rattle.txn_side.specs.declared.turn.Posting.{Posting}
 use Rattle.std.proofs.lemmas.List.Elements.{All-append, All-cons, All-head, All-nil, All-tail}

@@ -11,7 +11,7 @@ use Rattle.txn_history.specs.Event.Event.{Lost, Slept, Took}
 use Rattle.txn_history.specs.Plan.{Plan}
 use Rattle.txn_history.specs.Posted.{Within}
 use Rattle.txn_law.specs.Run.{IsPossible, IsRun}
-use Rattle.txn_plan.specs.declared.arrival.Arrival.TheVariants as arrivals
+use Rattle.txn_kv.specs.declared.arrival.Arrival.TheVariants as arrivals
 use Rattle.txn_commit.specs.Committing.{Ways}
 use Rattle.txn_commit.specs.Sending.{plan_of}
 use Rattle.txn_report.specs.declared.outcome.Outcome.{Outcome}

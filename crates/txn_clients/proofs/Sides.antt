@@ -7,8 +7,8 @@ use Rattle.txn_kv.specs.declared.ticket.Ticket.{Ticket}
 use Rattle.txn_history.specs.Meaning.{IsLawful}
 use Rattle.txn_history.specs.Phase.{Awaited}
 use Rattle.txn_history.specs.Phase.Awaited.{ReplyTo, EndOf}
-use Rattle.txn_plan.specs.Arrivals.{awaited_as}
-use Rattle.txn_plan.specs.declared.arrival.Arrival.{Arrival}
+use Rattle.txn_history.specs.Arrivals.{awaited_as}
+use Rattle.txn_kv.specs.declared.arrival.Arrival.{Arrival}
 use Rattle.txn_commit.specs.Committing.{Ways}
 use Rattle.txn_side.specs.Sight.{Group, GroupsGo, IsOut, client_at, lives, stand_at}
 use Rattle.txn_side.specs.Sight.Stand.{Asking, Calling, HasBegun, Idle, IsClient}

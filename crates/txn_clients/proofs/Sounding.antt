@@ -8,7 +8,7 @@ use Rattle.txn_history.specs.Phase.{Awaited}
 use Rattle.txn_history.specs.Phase.{IsPosted as IsErrand}
 use Rattle.txn_history.specs.Phase.Awaited.{ReplyTo, EndOf, TimeOf}
 use Rattle.txn_history.specs.Posted.{Errand, Posted}
-use Rattle.txn_plan.specs.declared.arrival.Arrival.TheVariants as arrivals
+use Rattle.txn_kv.specs.declared.arrival.Arrival.TheVariants as arrivals
 use Rattle.txn_commit.specs.Committing.{Ways}
 use Rattle.txn_core.proofs.Waiting.{standing_posted}
 use Rattle.txn_client.specs.Calls.{called-lawful}

@@ -19,9 +19,9 @@ use Rattle.txn_history.specs.Posted.{Posted, after, ticket_of}
 use Rattle.txn_history.specs.Turn.{IfEnds, IfEnds-weaker, IfKept, IfKept-all, IfKept-out, Turn}
 use Rattle.txn_history.specs.Turn.Turn.{Stopped, Waits, Ends}
 use Rattle.txn_history.proofs.Telling.{Expects-quiet}
-use Rattle.txn_plan.specs.Arrivals.{awaited_as, told_by}
-use Rattle.txn_plan.specs.declared.arrival.Arrival.{Arrival}
-use Rattle.txn_plan.specs.declared.arrival.Arrival.TheVariants as arrivals
+use Rattle.txn_history.specs.Arrivals.{awaited_as, told_by}
+use Rattle.txn_kv.specs.declared.arrival.Arrival.{Arrival}
+use Rattle.txn_kv.specs.declared.arrival.Arrival.TheVariants as arrivals
 use Rattle.txn_tso.specs.Calling.{members}
 use Rattle.txn_buffer.specs.Contents.{Contents, locked, mutated_by, with_write, write_at}
 use Rattle.txn_buffer.specs.Writes.{Write, WriteCall, after_delete, after_put}
@@ -52,7 +52,7 @@ use Rattle.txn_clients.proofs.Marking.{lost_came, marked_same, marks, none_marke
 use Rattle.txn_clients.proofs.Showing.{among_behind, barred_by, counted_after, counts_heard, owing_called, owing_came, owing_met, rolls_longer, known_so, fails_done, fits_known, own_after, own_heard, refused_by, refused_longer_in, sent_shown, shown_after, shown_heard, unheard_ends}
 use Rattle.txn_side.specs.Account.{Account, is_undetermined_view}
 use Rattle.txn_side.specs.Trace.{AreOwn, Trace, refused_asks}
-use Rattle.txn_side.specs.declared.act.Act.{Act}
+use Rattle.txn_lines.specs.declared.act.Act.{Act}
 use Rattle.txn_kv.specs.declared.outbox.Errand.TheVariants.{Send}
 use Rattle.txn_history.specs.Among.{IsAmong}
 use Rattle.txn_clients.proofs.Kept.{kept_heard, kept_posted, kept_risen, none_out, sent_or_not}

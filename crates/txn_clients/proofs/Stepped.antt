@@ -15,7 +15,7 @@ use Rattle.txn_side.specs.Doubt.{CallOf, itself}
 use Rattle.txn_side.specs.Arising.{answered_at}
 use Rattle.txn_side.specs.Sight.{EndsAlone, client_at, stand_at, commits}
 use Rattle.txn_side.specs.Sight.Stand.{Asking, Calling, HasBegun, Idle}
-use Rattle.txn_side.specs.declared.act.Act.{Act}
+use Rattle.txn_lines.specs.declared.act.Act.{Act}
 use Rattle.txn_side.specs.declared.turn.Ending.{Ending}
 use Rattle.txn_side.specs.declared.turn.Posting.{Posting}
 use Rattle.txn_clients.specs.Arising.{Anyhow, KeepRight, LeadsGroup, LeadsSent, LeadsTold, LeadsWith, StepsGroup, StepsTold, heard_by, AsksSo}

@@ -16,7 +16,7 @@ use Rattle.txn_history.specs.Turn.Turn.{Stopped, Waits, Ends}
 use Rattle.txn_buffer.specs.Contents.{Contents, mutated, mutations}
 use Rattle.txn_commit.specs.Parts.{named_primary, parts_of, parts_under}
 use Rattle.txn_commit.specs.Following.{none_sent, undetermined}
-use Rattle.txn_plan.specs.declared.arrival.Arrival.{Arrival}
+use Rattle.txn_kv.specs.declared.arrival.Arrival.{Arrival}
 use Rattle.txn_core.specs.Options.{is_pessimistic}
 use Rattle.txn_core.specs.Status.{after_commit, allows_commit, allows_data, allows_rollback, may_move, status_step}
 use Rattle.txn_core.specs.Going.{IsUndetermined}
@@ -39,8 +39,8 @@ use Rattle.txn_side.specs.Account.{Account, Status as Stage, after_act, all_put_
 use Rattle.txn_side.specs.Account as side
 use Rattle.txn_report.specs.declared.outcome.Outcome.{Outcome}
 use Rattle.txn_side.specs.Sight as sights
-use Rattle.txn_side.specs.declared.act.Act.{Act}
-use Rattle.txn_side.specs.declared.act.Act.TheVariants as acts
+use Rattle.txn_lines.specs.declared.act.Act.{Act}
+use Rattle.txn_lines.specs.declared.act.Act.TheVariants as acts
 use Rattle.txn_core.specs.declared.options.TransactionOptions.{TransactionOptions}
 use Rattle.txn_core.specs.declared.options.TransactionKind.TheVariants.{Optimistic}
 use Rattle.txn_clients.specs.Accounts.{BeginsNew, EndsAtOnce, HasHeard, HasTaken, IsNew, IsQuiet, TellsEnd, WantsNew, account_of, come_to, says_undetermined, stage_by, stage_of}

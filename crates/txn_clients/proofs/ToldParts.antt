@@ -8,8 +8,8 @@ use Rattle.txn_history.specs.Event.Event.{Answered, Lost, Slept, Took}
 use Rattle.txn_history.specs.Meaning.{IsLawful}
 use Rattle.txn_history.specs.Posted.{Within-one, Within-refl, ticket_of}
 use Rattle.txn_law.specs.Run.{IsPossible}
-use Rattle.txn_plan.specs.declared.arrival.Arrival.{Arrival}
-use Rattle.txn_plan.specs.declared.arrival.Arrival.TheVariants as arrivals
+use Rattle.txn_kv.specs.declared.arrival.Arrival.{Arrival}
+use Rattle.txn_kv.specs.declared.arrival.Arrival.TheVariants as arrivals
 use Rattle.txn_commit.specs.Committing.{Ways}
 use Rattle.txn_core.specs.declared.txn_answer.TxnAnswer.{TxnAnswer}
 use Rattle.txn_client.specs.declared.client_answer.ClientAnswer.{ClientAnswer}

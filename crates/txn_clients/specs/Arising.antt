@@ -27,9 +27,9 @@ use Rattle.txn_history.specs.Meaning.{Told as CallTold}
 use Rattle.txn_history.specs.Plan.{Plan}
 use Rattle.txn_history.specs.Posted.{AreNumbered, Errand, Licensed, Posted, Within, after, ticket_of}
 use Rattle.txn_law.specs.Run.{IsPossible, IsRun}
-use Rattle.txn_plan.specs.Arrivals.{told_by}
+use Rattle.txn_history.specs.Arrivals.{told_by}
 use Rattle.txn_merge.specs.declared.retry_options.RetryOptions.{RetryOptions}
-use Rattle.txn_plan.specs.declared.arrival.Arrival.TheVariants as arrivals
+use Rattle.txn_kv.specs.declared.arrival.Arrival.TheVariants as arrivals
 use Rattle.txn_commit.specs.Committing.{Ways}
 use Rattle.txn_commit.specs.Following.{CommitsPrimary, KnowsCommits, PrimaryLost, undetermined}
 use Rattle.txn_commit.specs.Jobs.{JobFits}
@@ -52,7 +52,7 @@ use Rattle.txn_side.specs.Arising.{answered_at, with_postings}
 use Rattle.txn_side.specs.Doubt.{CallOf, IsRefusal}
 use Rattle.txn_side.specs.Sight.{Stand, client_at, commits, next_at, stand_at}
 use Rattle.txn_side.specs.Sight.Stand.{Calling}
-use Rattle.txn_side.specs.declared.act.Act.{Act}
+use Rattle.txn_lines.specs.declared.act.Act.{Act}
 use Rattle.txn_side.specs.declared.turn.Ending.{Ending}
 use Rattle.txn_side.specs.declared.turn.Posting.{Posting}
 use Rattle.txn_side.specs.declared.turn.Posting.TheVariants as postings

@@ -21,8 +21,8 @@ use Rattle.txn_history.specs.Event.Event.{Lost, Took}
 use Rattle.txn_history.specs.Plan.{Plan}
 use Rattle.txn_history.specs.Posted.{Posted, ticket_of}
 use Rattle.txn_merge.specs.declared.retry_options.RetryOptions.{RetryOptions}
-use Rattle.txn_plan.specs.declared.arrival.Arrival.{Arrival}
-use Rattle.txn_plan.specs.declared.arrival.Arrival.TheVariants as arrivals
+use Rattle.txn_kv.specs.declared.arrival.Arrival.{Arrival}
+use Rattle.txn_kv.specs.declared.arrival.Arrival.TheVariants as arrivals
 use Rattle.txn_buffer.specs.Contents.{Contents}
 use Rattle.txn_commit.specs.Committing.{Ways}
 use Rattle.txn_commit.specs.Following.{Commits, CommitsPrimary, KnowsCommits, PrimaryLost, undetermined}
@@ -34,8 +34,8 @@ use Rattle.txn_core.specs.Going.{FailsWith}
 use Rattle.txn_core.specs.Transaction.{Standing}
 use Rattle.txn_lines.specs.declared.begin_options.BeginOptions.{BeginOptions}
 use Rattle.txn_side.specs.Account.{Account, refusal}
-use Rattle.txn_side.specs.declared.act.Act.{Act}
-use Rattle.txn_side.specs.declared.act.Act.TheVariants.{Rollback}
+use Rattle.txn_lines.specs.declared.act.Act.{Act}
+use Rattle.txn_lines.specs.declared.act.Act.TheVariants.{Rollback}
 use Rattle.txn_side.specs.Sight.{Group, Stand, stand_at}
 use Rattle.txn_side.specs.Sight.Stand.{Asking, Calling}
 use Rattle.txn_side.specs.Trace.{AreOwn, AreShown, EndsFor, HasRefused, HasRefusedBeside, IsBegunAs, IsCalled, IsLonger, IsRefusedNow, IsSentIn, IsShown, LastTold, Trace, and_refused, refused_as, refused_asks, untimed_by, untimed_of, with_posted}

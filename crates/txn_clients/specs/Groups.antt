@@ -7,7 +7,7 @@ use Rattle.txn_kv.specs.declared.errors.Internal.{Internal}
 use Rattle.txn_kv.specs.declared.errors.Internal.TheVariants.{OracleLost, WrongReply}
 use Rattle.txn_kv.specs.declared.ticket.Ticket.{Ticket}
 use Rattle.txn_kv.specs.declared.timestamp.Timestamp.{Timestamp}
-use Rattle.txn_plan.specs.Answered.{IsTimeAnswer}
+use Rattle.txn_history.specs.Arrivals.{IsTimeAnswer}
 use Rattle.txn_side.specs.Sight.{Group}
 use Rattle.txn_tso.specs.Oracle.{Answer, askers_out}
 use Rattle.txn_tso.specs.declared.asker.Asker.{Asker}

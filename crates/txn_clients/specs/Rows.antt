@@ -6,9 +6,9 @@ use Rattle.txn_kv.specs.declared.timestamp.Timestamp.{Timestamp}
 use Rattle.txn_history.specs.Posted.{AreNumbered, Errand, Posted}
 use Rattle.txn_history.specs.Turn.{IfEnds, Turn}
 use Rattle.txn_history.specs.Turn.Turn.{Stopped, Waits, Ends}
-use Rattle.txn_plan.specs.Arrivals.{MayArrive}
-use Rattle.txn_plan.specs.declared.arrival.Arrival.{Arrival}
-use Rattle.txn_plan.specs.declared.arrival.Arrival.TheVariants as arrivals
+use Rattle.txn_history.specs.Arrivals.{MayArrive}
+use Rattle.txn_kv.specs.declared.arrival.Arrival.{Arrival}
+use Rattle.txn_kv.specs.declared.arrival.Arrival.TheVariants as arrivals
 use Rattle.txn_region.specs.declared.codec.ApiV1TxnCodec.{ApiV1TxnCodec}
 use Rattle.txn_region.specs.declared.pd_rpc_client.PdRpcClient.{PdRpcClient}
 use Rattle.txn_commit.specs.Committing.{Ways}

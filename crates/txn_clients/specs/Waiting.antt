@@ -16,8 +16,8 @@ use Rattle.txn_history.specs.Phase.Phase.{Fresh, Running}
 use Rattle.txn_history.specs.Posted.{AreNumbered, Errand, Posted}
 use Rattle.txn_history.specs.Turn.{Turn as CallTurn}
 use Rattle.txn_history.specs.Turn.Turn.{Waits}
-use Rattle.txn_plan.specs.Arrivals.{awaited_as}
-use Rattle.txn_plan.specs.declared.arrival.Arrival.TheVariants as arrivals
+use Rattle.txn_history.specs.Arrivals.{awaited_as}
+use Rattle.txn_kv.specs.declared.arrival.Arrival.TheVariants as arrivals
 use Rattle.txn_commit.specs.Committing.{Ways}
 use Rattle.txn_core.specs.Going.{TransactionFits}
 use Rattle.txn_core.specs.Transaction.{IsOrdered, Standing, begun, is_open}

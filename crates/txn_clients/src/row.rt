@@ -19,7 +19,7 @@ use txn_client::ClientCall;
 use txn_commit::{PlanFor, SecondaryJob};
 use txn_core::Transaction;
 use txn_kv::{BatchRollbackRequest, CommitRequest, NoMemory, Outbox, PrewriteRequest};
-use txn_side::Act;
+use txn_lines::Act;
 
 /// What stands at a line. Clients are counted from 0, and lines from 1.
 #[derive(Drop)]

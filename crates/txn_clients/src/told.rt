@@ -4,9 +4,8 @@ ghost use Rattle.txn_clients.specs.Failing.{untimed_told};
 ghost use Rattle.txn_clients.specs.declared.told.Told.TheVariants.{Heard};
 
 use crate::untimed::untimed_by;
-use txn_kv::Internal;
-use txn_plan::Arrival;
-use txn_side::Act;
+use txn_kv::{Arrival, Internal};
+use txn_lines::Act;
 
 /// What is told to what stands at a line.
 #[derive(Drop)]

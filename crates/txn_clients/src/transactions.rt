@@ -16,17 +16,17 @@ ghost use Rattle.txn_core.specs.Transaction.{is_open};
 ghost use Rattle.txn_history.specs.Posted.{HasNumbers};
 ghost use Rattle.txn_history.specs.Turn.{IfEnds, IfKept, turn_of};
 ghost use Rattle.txn_history.specs.Turn.Turn.{Ends};
-ghost use Rattle.txn_plan.specs.Arrivals.{MayArrive, awaited_as};
-ghost use Rattle.txn_side.specs.declared.act.Act.TheVariants as acts;
+ghost use Rattle.txn_history.specs.Arrivals.{MayArrive, awaited_as};
+ghost use Rattle.txn_lines.specs.declared.act.Act.TheVariants as acts;
 
 use crate::answer::Pd;
 use txn_commit::PlanFor;
 use txn_core::{Status, Transaction, TxnAnswer};
 use txn_kv::{
-    BatchRollbackRequest, CommitRequest, Error, NoMemory, Outbox, PrewriteRequest, Progress,
+    Arrival, BatchRollbackRequest, CommitRequest, Error, NoMemory, Outbox, PrewriteRequest,
+    Progress,
 };
-use txn_plan::Arrival;
-use txn_side::Act;
+use txn_lines::Act;
 
 /// Whether the answer says that it is not known whether the transaction is committed.
 fn says_undetermined<Q>(answer: &txn_kv::Result<TxnAnswer<Q>>) -> bool
@@ -307,10 +307,5 @@ where
     ensures goes { IfKept (turn_of result) (StandGoes (ways P.meaning Q.meaning K.meaning P.refuses Q.refuses K.refuses) (owing out.old.line (tells.Heard arrival)) (λ a. a ≡ awaited_as arrival) (is_open transaction.old.work ≡ true) (λ trace. CameIn trace out.old arrival) transaction.old transaction.new out.old out.new (turn_of result)) }
     ensures moves { SaysLoss (turn_of result) transaction.new → IsAlone arrival transaction.old → IfKept (turn_of result) (StandMoves (ways P.meaning Q.meaning K.meaning P.refuses Q.refuses K.refuses) (tells.Heard arrival) transaction.old transaction.new out.old out.new (answer_in Called (turn_of result))) }
 {
-    match arrival {
-        Arrival::Reply { number, reply } => transaction.take_reply(pd, now, number, reply, out),
-        Arrival::Lost { number } => transaction.lost(pd, now, number, out),
-        Arrival::Slept { number } => transaction.slept(pd, now, number, out),
-        Arrival::Time { ask, answer } => transaction.take_time(pd, now, ask, answer, out),
-    }
+    transaction.tell(arrival, pd, now, out)
 }

@@ -9,7 +9,7 @@ use Rattle.txn_side.specs.Account.{Account, AreClosed, MayTakeIn, TakesIn, after
 use Rattle.txn_side.specs.Sight.{Sight, Stand, stand_at}
 use Rattle.txn_side.specs.Sight.Stand.{Asking, Calling, HasBegun, Idle, IsClient, Past, Working}
 use Rattle.txn_side.specs.Trace.{ActsOn, EndsFor, HasCome, HowCallsFail, IsLonger, IsSend, RestsOn, StillRests, Trace, fails_longer, with_posted}
-use Rattle.txn_side.specs.declared.act.Act.{Act}
+use Rattle.txn_lines.specs.declared.act.Act.{Act}
 use Rattle.txn_side.specs.declared.turn.Ending.{Ending}
 use Rattle.txn_side.specs.declared.turn.Posting.{Posting}
 use Rattle.txn_side.specs.declared.turn.Turn.{Turn}

@@ -10,7 +10,7 @@ use Rattle.txn_side.specs.Sight.{Acts, Asks, AskersAre, EndsAlone, Goes, IsAsk, 
 use Rattle.txn_side.specs.Sight.Stand.{Asking, Calling, HasBegun, Idle, IsClient, Past, Working}
 use Rattle.txn_side.specs.Waiting.{Awaited, HearsEnd, HearsReply, WaitsOn}
 use Rattle.txn_side.specs.Waiting.Awaited.{ReplyTo}
-use Rattle.txn_side.specs.declared.act.Act.{Act}
+use Rattle.txn_lines.specs.declared.act.Act.{Act}
 use Rattle.txn_side.specs.declared.turn.Ending.{Ending}
 use Rattle.txn_side.specs.declared.turn.Posting.{Posting}
 use Rattle.txn_side.specs.declared.turn.Turn.{Turn}

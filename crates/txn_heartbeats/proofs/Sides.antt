@@ -23,7 +23,7 @@ use Rattle.txn_side.specs.Sight.{Acts, Asks, Goes, Sight, commits, is_live, line
 use Rattle.txn_side.specs.Sight.Stand.{Asking, Calling, HasBegun, Idle}
 use Rattle.txn_side.specs.Trace.{Trace}
 use Rattle.txn_side.specs.Waiting.{Awaited, posted_in}
-use Rattle.txn_side.specs.declared.act.Act.{Act}
+use Rattle.txn_lines.specs.declared.act.Act.{Act}
 use Rattle.txn_side.specs.declared.turn.Ending.{Ending}
 use Rattle.txn_side.specs.declared.turn.Turn.{Turn}
 use Rattle.txn_heartbeats.specs.Beating.{AreBeats, AreFresh, IsLine, PostsBeats, with_beats}

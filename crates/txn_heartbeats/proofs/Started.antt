@@ -9,7 +9,7 @@ use Rattle.txn_history.specs.Meaning.{Meaning}
 use Rattle.txn_history.specs.Posted.{Posted}
 use Rattle.txn_history.specs.Turn.{Turn as Ending}
 use Rattle.txn_kv.specs.declared.errors.Error.{Error}
-use Rattle.txn_plan.specs.declared.arrival.Arrival.{Arrival}
+use Rattle.txn_kv.specs.declared.arrival.Arrival.{Arrival}
 use Rattle.txn_side.specs.Sight.{next_at}
 use Rattle.txn_side.specs.declared.turn.Turn.{Turn}
 use Rattle.txn_heartbeats.specs.Beating.{postings_of}

@@ -15,7 +15,7 @@ use Rattle.txn_side.specs.Doubt.{CallOf, itself}
 use Rattle.txn_side.specs.Sight.{Sight}
 use Rattle.txn_side.specs.Trace.{ActsOn, HearsOn, HowCallsFail, IsLonger, Trace, WakesOn}
 use Rattle.txn_side.specs.Waiting.{Awaited, WaitsOn}
-use Rattle.txn_side.specs.declared.act.Act.{Act}
+use Rattle.txn_lines.specs.declared.act.Act.{Act}
 use Rattle.txn_side.specs.declared.turn.Posting.{Posting}
 use Rattle.txn_side.specs.declared.turn.Turn.{Turn}
 use Rattle.txn_heartbeats.specs.Beating.{AreBeats, PostsBeats, with_beats}

@@ -9,10 +9,10 @@ use Rattle.txn_history.specs.Meaning.{Meaning}
 use Rattle.txn_history.specs.Posted.{Posted}
 use Rattle.txn_history.specs.Turn.{Turn as Ending}
 use Rattle.txn_kv.specs.declared.errors.Error.{Error}
-use Rattle.txn_plan.specs.declared.arrival.Arrival.{Arrival}
+use Rattle.txn_kv.specs.declared.arrival.Arrival.{Arrival}
 use Rattle.txn_side.specs.Sight.{next_at}
-use Rattle.txn_side.specs.declared.act.Act.{Act}
-use Rattle.txn_side.specs.declared.act.Act.TheVariants.{Commit}
+use Rattle.txn_lines.specs.declared.act.Act.{Act}
+use Rattle.txn_lines.specs.declared.act.Act.TheVariants.{Commit}
 use Rattle.txn_side.specs.declared.turn.Turn.{Turn}
 use Rattle.txn_heartbeats.specs.Beating.{postings_of}
 use Rattle.txn_heartbeats.specs.Hearts.{beats_of, jobs_of, outbox_at}

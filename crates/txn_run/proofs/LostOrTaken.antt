@@ -8,6 +8,7 @@ use Rattle.txn_history.specs.Busy.{busy_reply}
 use Rattle.txn_history.specs.Event.{Event, Has, is_awaited, is_lost, kept_reply, same_ticket, sent_request, taken_reply}
 use Rattle.txn_history.specs.Event.Event.{Clocked, Crashed, Led, Lost, Refused, Sent, Served, Slept, Split, Took}
 use Rattle.txn_law.specs.Run.{store_after}
+use Rattle.txn_lines.specs.Deeds.{deed_of}
 use Rattle.txn_lines.specs.declared.line.Line.{Line}
 use Rattle.txn_lines.specs.declared.line.Line.TheVariants as lines
 use Rattle.txn_machine.specs.Causes.{AllEventsMeet, EventMeets, began, hears, known, lines_before}
@@ -138,7 +139,7 @@ refuses_apart t (Some r) es new i = by (busy_reply r)
     by None = i
     by (Some x) = took_apart (Refused t r x ∷ es) t r x (aside_unanswered es (Refused t r x) t tt new) (aside_apart es (Refused t r x) tt i)
 
-line_apart : (asleep : Ticket → Bool) (seen : ℕ → Outcome) (before : List Line) (looks : Ticket → Option Request) (es : List Event) (line : Line) (o : Outcome) → EventMeets asleep seen before es line o → is_done o ≡ true → AreLostOrTaken es → AreLostOrTaken (does looks line es)
+line_apart : (asleep : Ticket → Bool) (seen : ℕ → Outcome) (before : List Line) (looks : Ticket → Option Request) (es : List Event) (line : Line) (o : Outcome) → EventMeets asleep seen before es (deed_of line) o → is_done o ≡ true → AreLostOrTaken es → AreLostOrTaken (does looks (deed_of line) es)
 line_apart asleep seen before looks es (lines.Serve t) o meets done i = serves_aside t (looks t) es i
 line_apart asleep seen before looks es (lines.Answer t) o meets done i = takes_apart t (looks t) es (unanswered es t (both (is_awaited es t) _ (both (hears seen before t) _ (done_so _ o meets done)).1).0) i
 line_apart asleep seen before looks es (lines.Deliver t) o meets done i =
@@ -164,7 +165,7 @@ module _ (sent : List SentNote) (sleeps : List SleepNote) (outs : List Outcome) 
       looks : Ticket → Option Request
       looks t = find sent newest t
 
-      by : (b : Bool) → is_done (outcome_of outs newest) ≡ b → AreLostOrTaken (history sent outs before) → AreLostOrTaken (if b then does looks line (history sent outs before) else history sent outs before)
+      by : (b : Bool) → is_done (outcome_of outs newest) ≡ b → AreLostOrTaken (history sent outs before) → AreLostOrTaken (if b then does looks (deed_of line) (history sent outs before) else history sent outs before)
       by true e i = line_apart (λ t. began sleeps newest t) (known outs ended newest) before looks (history sent outs before) line (outcome_of outs newest) meets.0 e i
       by false e i = i
 

@@ -29,6 +29,7 @@ use Rattle.txn_causes.specs.Kinds.{IsOfKind}
 use Rattle.txn_commit.specs.Committing.{Ways}
 use Rattle.txn_law.specs.Run.{IsPossible, IsRun, store_after}
 use Rattle.txn_lines.specs.declared.line.Line.{Line}
+use Rattle.txn_lines.specs.Deeds.{deed_of}
 use Rattle.txn_machine.specs.Causes.{lines_before}
 use Rattle.txn_machine.specs.Script.{find, history, is_done, outcome_of}
 use Rattle.txn_machine.specs.Longer.{done_more, sends_more}
@@ -207,7 +208,7 @@ before_more sent outs (line ∷ before) k e h = by (nat_lt (length (line ∷ bef
 
     by : (b : Bool) → Has (history sent outs (if b then line ∷ before else lines_before before k)) e → (Has (history sent outs (lines_before before k)) e → Has (history sent outs before) e) → Has (history sent outs (line ∷ before)) e
     by true i more = i
-    by false i more = sends_more sent n _ e (done_more (is_done (outcome_of outs n)) (λ t. find sent n t) line (history sent outs before) e (more i))
+    by false i more = sends_more sent n _ e (done_more (is_done (outcome_of outs n)) (λ t. find sent n t) (deed_of line) (history sent outs before) e (more i))
 
 -- each reply that was taken by a line is of its request's kind
 pub lines_kind : {P Q K A B D : Type 0} (w : Ways P Q K A B D) (script : List Line) (report : Report) → AreBehind w script report

@@ -16,8 +16,8 @@ use Rattle.txn_report.specs.declared.outcome.Outcome.TheVariants.{Ok, Err, Unfin
 use Rattle.txn_report.specs.declared.outcome.Payload.TheVariants.{Unit as Nothing, Commit as CommittedAt}
 use Rattle.txn_side.specs.Account.{Account, Status, after_act, allows, committed_by, has_prewritten, is_refused, is_undetermined, made_by, or_refused, own_refusal, refusal, refused_unless, rolled_by, unless_refused}
 use Rattle.txn_side.specs.Account.Status.{Active, Committing, StartedCommit, Undetermined, Committed, StartedRollback, RolledBack}
-use Rattle.txn_side.specs.declared.act.Act.{Act}
-use Rattle.txn_side.specs.declared.act.Act.TheVariants as acts
+use Rattle.txn_lines.specs.declared.act.Act.{Act}
+use Rattle.txn_lines.specs.declared.act.Act.TheVariants as acts
 use Rattle.txn_run.specs.Whole.{MayBeDone}
 
 -- a commit is at its end, with a timestamp or without one

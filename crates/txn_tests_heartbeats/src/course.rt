@@ -5,8 +5,8 @@ use std::alloc::Global;
 use std::marker::Model;
 use std::process::Abort;
 use txn_kv::{Key, Request, Ticket, TsoRequest, Value};
-use txn_lines::BeginOptions;
-use txn_side::{Act, ClientSide, Turn};
+use txn_lines::{Act, BeginOptions, ClientAct};
+use txn_side::{ClientSide, Turn};
 
 /// All that is done is done at 10300 ms.
 #[derive(Drop)]
@@ -81,7 +81,8 @@ impl<S: ClientSide> Course<S> {
                 None
             }
             "begin" => {
-                let turn = self.clients.begin(line, BeginOptions::default(), 10_300);
+                let begin = ClientAct::Begin(BeginOptions::default());
+                let turn = self.clients.call(line, begin, 10_300);
                 turn.expect(rt, "memory")
             }
             "put" => {

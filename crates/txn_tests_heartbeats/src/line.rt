@@ -1,6 +1,6 @@
 //! The job of a heartbeat, with its client and its outbox.
 ghost use Rattle.txn_kv.specs.Timestamp.{HasVersion};
-ghost use Rattle.txn_plan.specs.Arrivals.{MayArrive};
+ghost use Rattle.txn_history.specs.Arrivals.{MayArrive};
 
 use crate::replies::reply;
 use crate::words::push_errand;
@@ -9,8 +9,7 @@ use std::marker::Model;
 use std::process::Abort;
 use txn_core::{Heartbeat, Status};
 use txn_heartbeat::{HeartbeatJob, PlanForHeartbeats};
-use txn_kv::{Outbox, Progress};
-use txn_plan::Arrival;
+use txn_kv::{Arrival, Outbox, Progress};
 use txn_region::{ApiV1TxnCodec, PdRpcClient};
 
 /// All that comes does at 10300 ms.

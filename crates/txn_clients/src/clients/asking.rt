@@ -18,7 +18,7 @@ ghost use Rattle.txn_clients.specs.declared.told.Told.TheVariants.{Heard};
 ghost use Rattle.txn_commit.specs.Committing.{ways};
 ghost use Rattle.txn_history.specs.Meaning.{IsUnbegun};
 ghost use Rattle.txn_kv.specs.declared.ticket.Ticket.{Ticket as Name};
-ghost use Rattle.txn_plan.specs.Arrivals.{MayArrive};
+ghost use Rattle.txn_history.specs.Arrivals.{MayArrive};
 ghost use Rattle.txn_side.specs.Doubt.{itself};
 ghost use Rattle.txn_side.specs.Account.{AreClosed, AreKept, TakesIn};
 ghost use Rattle.txn_side.specs.Sight.{EndsAlone, Goes, IsGiven, Names, NoneGiven, commits, is_free, line_count, stand_at, with_stand, client_at, is_live};
@@ -34,11 +34,10 @@ use txn_client::ClientCall;
 use txn_commit::PlanFor;
 use txn_core::TransactionOptions;
 use txn_kv::{
-    BatchRollbackRequest, CommitRequest, NoMemory, PrewriteRequest, Reply, Request, Ticket,
+    Arrival, BatchRollbackRequest, CommitRequest, NoMemory, PrewriteRequest, Reply, Request, Ticket,
 };
-use txn_lines::BeginOptions;
-use txn_plan::Arrival;
-use txn_side::{Act, ClientSide, Turn};
+use txn_lines::{Act, BeginOptions, ClientAct};
+use txn_side::{ClientSide, Turn};
 
 /// The options of an optimistic transaction that begins so.
 fn options_of(options: BeginOptions) -> TransactionOptions
@@ -333,30 +332,21 @@ where
         }
     }
 
-    fn begin(
-        &mut self,
-        client: u64,
-        options: BeginOptions,
-        now: u64,
-    ) -> Result<Option<Turn>, NoMemory> {
+    fn call(&mut self, client: u64, act: ClientAct, now: u64) -> Result<Option<Turn>, NoMemory> {
         match self.live_client(client) {
             None => Ok(None),
-            Some(client) => {
-                let call = self.clients[client]
-                    .client
-                    .begin_with_options(options_of(options))?;
-                Ok(Some(self.ask(client, true, call, now)?))
-            }
-        }
-    }
-
-    fn timestamp(&mut self, client: u64, now: u64) -> Result<Option<Turn>, NoMemory> {
-        match self.live_client(client) {
-            None => Ok(None),
-            Some(client) => {
-                let call = self.clients[client].client.current_timestamp()?;
-                Ok(Some(self.ask(client, false, call, now)?))
-            }
+            Some(client) => match act {
+                ClientAct::Begin(options) => {
+                    let call = self.clients[client]
+                        .client
+                        .begin_with_options(options_of(options))?;
+                    Ok(Some(self.ask(client, true, call, now)?))
+                }
+                ClientAct::Timestamp => {
+                    let call = self.clients[client].client.current_timestamp()?;
+                    Ok(Some(self.ask(client, false, call, now)?))
+                }
+            },
         }
     }
 

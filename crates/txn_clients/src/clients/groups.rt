@@ -27,9 +27,9 @@ use crate::clients::Clients;
 use crate::clients::posting::ticket_of;
 use txn_commit::PlanFor;
 use txn_kv::{
-    BatchRollbackRequest, CommitRequest, NoMemory, PrewriteRequest, Reply, Request, Target, Ticket,
+    Arrival, BatchRollbackRequest, CommitRequest, NoMemory, PrewriteRequest, Reply, Request,
+    Target, Ticket,
 };
-use txn_plan::Arrival;
 use txn_side::{Posting, Turn};
 
 impl<P, Q, K> Clients<P, Q, K> {

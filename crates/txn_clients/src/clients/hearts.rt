@@ -4,8 +4,9 @@ use crate::row::Row;
 use txn_commit::PlanFor;
 use txn_core::{Heartbeat, Status};
 use txn_heartbeat::{HeartHost, HeartbeatJob, PlanForHeartbeats};
-use txn_kv::{BatchRollbackRequest, CommitRequest, NoMemory, Outbox, PrewriteRequest, Progress};
-use txn_plan::Arrival;
+use txn_kv::{
+    Arrival, BatchRollbackRequest, CommitRequest, NoMemory, Outbox, PrewriteRequest, Progress,
+};
 
 impl<P, Q, K> HeartHost for Clients<P, Q, K>
 where

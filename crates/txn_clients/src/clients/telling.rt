@@ -18,7 +18,7 @@ ghost use Rattle.txn_clients.specs.declared.told.Told.TheVariants.{Heard, Start}
 ghost use Rattle.txn_commit.specs.Committing.{ways};
 ghost use Rattle.txn_core.specs.Waiting.{HandsOut};
 ghost use Rattle.txn_history.specs.Posted.{HasNumbers};
-ghost use Rattle.txn_plan.specs.Arrivals.{MayArrive};
+ghost use Rattle.txn_history.specs.Arrivals.{MayArrive};
 ghost use Rattle.txn_side.specs.Account.{AreKept};
 ghost use Rattle.txn_side.specs.Sight.{NoneGiven, is_live, stand_at, client_at};
 ghost use Rattle.txn_side.specs.Sight.Stand.{HasBegun, Asking, Calling, Working};
@@ -35,8 +35,7 @@ use std::mem;
 use txn_client::ClientAnswer;
 use txn_commit::PlanFor;
 use txn_core::TxnAnswer;
-use txn_kv::{BatchRollbackRequest, CommitRequest, NoMemory, Outbox, PrewriteRequest};
-use txn_plan::Arrival;
+use txn_kv::{Arrival, BatchRollbackRequest, CommitRequest, NoMemory, Outbox, PrewriteRequest};
 use txn_side::{Ending, Turn};
 
 impl<P, Q, K> Clients<P, Q, K>

@@ -5,15 +5,14 @@ ghost use Rattle.txn_heartbeat.specs.declared.heartbeat_job.HeartbeatJob.{Heartb
 ghost use Rattle.txn_heartbeats.specs.Beating.{AreBeats, AreTimeless, IsLine, PostsBeats, beat_ticket, posted_as, postings_of};
 ghost use Rattle.txn_heartbeats.specs.Hearts.{IsReady, beats_of, job_at, jobs_of};
 ghost use Rattle.txn_heartbeats.specs.Started.{HasTold, StartsAsLent, starts_of, transaction_at, transactions_of, was_started};
-ghost use Rattle.txn_plan.specs.Arrivals.{MayArrive};
+ghost use Rattle.txn_history.specs.Arrivals.{MayArrive};
 ghost use Rattle.txn_side.specs.Sight.{is_live};
 
 use crate::heartbeats::Heartbeats;
 use std::alloc::Global;
 use std::mem;
 use txn_heartbeat::{HeartHost, HeartbeatJob, PlanForHeartbeats};
-use txn_kv::{Errand, Items, NoMemory, Outbox, Ticket};
-use txn_plan::Arrival;
+use txn_kv::{Arrival, Errand, Items, NoMemory, Outbox, Ticket};
 use txn_side::{Posting, Turn};
 
 /// Posts one thing that the heartbeat of a line wants done.

@@ -5,7 +5,7 @@ ghost use Rattle.txn_heartbeat.specs.declared.heartbeat_job.HeartbeatJob.{Heartb
 ghost use Rattle.txn_heartbeats.specs.Hearts.{ArisesIn, IsReady, RestsIn, beats_of, job_at, jobs_of, sight_of, waits_of};
 ghost use Rattle.txn_heartbeats.specs.Started.{BeginsBeat, HasTold, is_commit, transaction_at, transactions_of};
 ghost use Rattle.txn_history.specs.Event.Event.{Lost, Took};
-ghost use Rattle.txn_plan.specs.declared.arrival.Arrival.TheVariants as arrivals;
+ghost use Rattle.txn_kv.specs.declared.arrival.Arrival.TheVariants as arrivals;
 ghost use Rattle.txn_side.specs.Account.{AreClosed, MayTakeIn};
 ghost use Rattle.txn_side.specs.Arising.{ArisesAwake, ArisesHearing, ArisesOn};
 ghost use Rattle.txn_side.specs.Sight.{Acts, Goes, IsGiven, Names, NoneGiven, commits, is_live, line_count};
@@ -15,10 +15,9 @@ ghost use Rattle.txn_side.specs.Waiting.{HearsEnd, HearsReply, NoneHeard, WaitsO
 use crate::heartbeats::Heartbeats;
 use crate::pulse::Pulse;
 use txn_heartbeat::{HeartHost, PlanForHeartbeats};
-use txn_kv::{NoMemory, Reply, Request, Ticket};
-use txn_lines::BeginOptions;
-use txn_plan::Arrival;
-use txn_side::{Act, ClientSide, Turn};
+use txn_kv::{Arrival, NoMemory, Reply, Request, Ticket};
+use txn_lines::{Act, ClientAct};
+use txn_side::{ClientSide, Turn};
 
 fn is_commit(act: &Act) -> bool
     ensures { result ≡ is_commit act.now }
@@ -76,17 +75,8 @@ impl<S: HeartHost, H: PlanForHeartbeats> ClientSide for Heartbeats<S, H> {
         self.side.crash(line)
     }
 
-    fn begin(
-        &mut self,
-        client: u64,
-        options: BeginOptions,
-        now: u64,
-    ) -> Result<Option<Turn>, NoMemory> {
-        self.side.begin(client, options, now)
-    }
-
-    fn timestamp(&mut self, client: u64, now: u64) -> Result<Option<Turn>, NoMemory> {
-        self.side.timestamp(client, now)
+    fn call(&mut self, client: u64, act: ClientAct, now: u64) -> Result<Option<Turn>, NoMemory> {
+        self.side.call(client, act, now)
     }
 
     fn act(&mut self, transaction: u64, act: Act, now: u64) -> Result<Option<Turn>, NoMemory>

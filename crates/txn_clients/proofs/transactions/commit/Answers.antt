@@ -11,7 +11,7 @@ use Rattle.txn_clients.proofs.Standing.{commits_goes}
 use Rattle.txn_clients.proofs.Taking.{commit_barred, taken_commit}
 use Rattle.txn_clients.specs.Accounts.{account_of}
 use Rattle.txn_clients.specs.Failing.{KnowsAsk}
-use Rattle.txn_side.specs.declared.act.Act.TheVariants.{Commit}
+use Rattle.txn_lines.specs.declared.act.Act.TheVariants.{Commit}
 use Rattle.txn_clients.proofs.transactions.commit.Goals as goal
 
 pub returns-clause-told : goal.returns-clause-told

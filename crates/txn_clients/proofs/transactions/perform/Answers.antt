@@ -6,7 +6,7 @@ use Rattle.txn_history.specs.Turn.{turn_of}
 use Rattle.txn_buffer.specs.Contents.{known_at, known_value, write_at}
 use Rattle.txn_core.specs.Transaction.{all_put_or_delete, insert_refusal, mutate_refusal, refused_unless, write_refusal}
 use Rattle.txn_side.specs.Account.{locked_all, mutated_all}
-use Rattle.txn_side.specs.declared.act.Act.TheVariants as acts
+use Rattle.txn_lines.specs.declared.act.Act.TheVariants as acts
 use Rattle.txn_clients.specs.Accounts.{account_of}
 use Rattle.txn_clients.specs.Failing.{KnowsAsk}
 use Rattle.txn_side.specs.Account.{refusal}

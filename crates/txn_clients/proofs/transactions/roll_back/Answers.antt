@@ -8,7 +8,7 @@ use Rattle.txn_clients.proofs.Rows.{posts_rollback, told_call}
 use Rattle.txn_clients.proofs.Standing.{rollbacks_goes}
 use Rattle.txn_clients.specs.Accounts.{account_of}
 use Rattle.txn_clients.specs.Failing.{KnowsAsk}
-use Rattle.txn_side.specs.declared.act.Act.TheVariants.{Rollback}
+use Rattle.txn_lines.specs.declared.act.Act.TheVariants.{Rollback}
 use Rattle.txn_clients.proofs.Showing.{notes_so}
 use Rattle.txn_clients.proofs.Taking.{rollback_barred, taken_rollback}
 use Rattle.txn_clients.proofs.Moving.{rollbacks_move}

@@ -2,7 +2,7 @@ use Rattle.std.proofs.Common.{arith, ◌∙◌, ◌++◌, ◌∷◌, [], inl, in
 use Rattle.std.proofs.lemmas.List.Elements.{All-tail}
 use Rattle.std.specs.List.{All}
 use Rattle.txn_history.specs.Among.{IsAmong}
-use Rattle.txn_plan.specs.declared.arrival.Arrival.TheVariants.{Time}
+use Rattle.txn_kv.specs.declared.arrival.Arrival.TheVariants.{Time}
 use Rattle.txn_clients.specs.Accounts.{account_at}
 use Rattle.txn_clients.specs.Clients.{rows_of, sight_of}
 use Rattle.txn_clients.specs.Going.{OfLine}

@@ -1,4 +1,4 @@
-use Rattle.txn_plan.specs.declared.arrival.Arrival.TheVariants.{Lost}
+use Rattle.txn_kv.specs.declared.arrival.Arrival.TheVariants.{Lost}
 use Rattle.txn_side.specs.Sight.{NoneGiven}
 use Rattle.txn_clients.specs.Clients.{groups_of}
 use Rattle.txn_clients.specs.Failing.{refused_out}

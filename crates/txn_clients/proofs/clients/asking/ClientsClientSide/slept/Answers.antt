@@ -1,4 +1,4 @@
-use Rattle.txn_plan.specs.declared.arrival.Arrival.TheVariants.{Slept}
+use Rattle.txn_kv.specs.declared.arrival.Arrival.TheVariants.{Slept}
 use Rattle.txn_side.specs.Sight.{NoneGiven}
 use Rattle.txn_clients.specs.Going.{OfLine}
 use Rattle.txn_clients.specs.Rows.{Brings}

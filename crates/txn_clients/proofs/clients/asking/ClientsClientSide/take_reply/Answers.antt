@@ -1,6 +1,6 @@
 use Rattle.std.proofs.Common.{refl, sym}
 use Rattle.std.proofs.lemmas.Result.{IfOk-weaker}
-use Rattle.txn_plan.specs.declared.arrival.Arrival.TheVariants.{Reply}
+use Rattle.txn_kv.specs.declared.arrival.Arrival.TheVariants.{Reply}
 use Rattle.txn_side.specs.Sight.{IsGiven}
 use Rattle.txn_clients.specs.Clients.{groups_of, sight_of}
 use Rattle.txn_clients.specs.Failing.{refused_out}
