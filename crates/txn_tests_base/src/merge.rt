@@ -1,4 +1,0 @@
-mod fixtures;
-mod merging;
-mod statuses;
-mod taken_out;

@@ -1,4 +1,0 @@
-mod fixtures;
-mod lowered;
-mod made;
-mod responses;

@@ -1,4 +1,0 @@
-mod cache;
-mod clients;
-mod codecs;
-mod grouping;

@@ -1,3 +1,0 @@
-mod oracle;
-mod placement;
-mod playing;
