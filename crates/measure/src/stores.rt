@@ -1,49 +1,12 @@
-//! Serves pairs of a Prewrite and a Commit to a model store, over half as many keys, and then as many Gets, for measuring.
-//!
-//! Its words are how many pairs, and the order in which keys come: `rising`, or `scattered`. It prints how many keys were
-//! committed and how many values were read.
-#![tactic(auto)]
-
-use std::alloc::{AllocError, AllocFailed, Global};
-use std::process::ExitCode;
-use std::{env, io};
+//! Serves pairs of a Prewrite and a Commit to a model store, over half as many keys, and then as many Gets. It prints how many
+//! keys were committed and how many values were read.
+use crate::fault::Fault;
+use std::alloc::Global;
 use txn_kv::{
     ApiVersion, Assertion, CommitRequest, Context, GetRequest, Items, Key, Mutation, NoMemory, Op,
     Peer, PrewriteRequest, RegionEpoch, Reply, Request,
 };
 use txn_model::ModelStore;
-
-/// Why the program stops.
-#[derive(Debug, Drop)]
-enum Fault {
-    Words,
-    NoMemory,
-    Io(io::Error),
-}
-
-impl From<NoMemory> for Fault {
-    fn from(_error: NoMemory) -> Fault {
-        Fault::NoMemory
-    }
-}
-
-impl From<AllocError> for Fault {
-    fn from(_error: AllocError) -> Fault {
-        Fault::NoMemory
-    }
-}
-
-impl<T: Drop> From<AllocFailed<T>> for Fault {
-    fn from(_error: AllocFailed<T>) -> Fault {
-        Fault::NoMemory
-    }
-}
-
-impl From<io::Error> for Fault {
-    fn from(error: io::Error) -> Fault {
-        Fault::Io(error)
-    }
-}
 
 fn here() -> Option<Context> {
     Some(Context {
@@ -130,7 +93,7 @@ fn read(store: &mut ModelStore, key: Key) -> Result<bool, Fault> {
     }
 }
 
-fn serve(rt: &HostRuntime, pairs: u32, is_scattered: bool) -> Result<(), Fault> {
+pub fn serve(rt: &HostRuntime, pairs: u32, is_scattered: bool) -> Result<(), Fault> {
     let alloc = rt.alloc();
     let keys = (pairs / 2).max(1);
     let mut store = ModelStore::new(alloc)?;
@@ -152,28 +115,4 @@ fn serve(rt: &HostRuntime, pairs: u32, is_scattered: bool) -> Result<(), Fault> 
         store.cells().len()
     )?;
     Ok(())
-}
-
-fn run(rt: &HostRuntime) -> Result<(), Fault> {
-    let mut words = Vec::new(rt.alloc());
-    for word in env::args(rt)?.skip(1) {
-        words.push(word)?;
-    }
-    if words.len() != 2 {
-        return Err(Fault::Words);
-    }
-    let Ok(pairs) = words[0].as_str().parse::<u32>() else {
-        return Err(Fault::Words);
-    };
-    serve(rt, pairs, words[1].as_str() == "scattered")
-}
-
-fn main(rt: HostRuntime) -> ExitCode {
-    match run(&rt) {
-        Ok(()) => ExitCode::SUCCESS,
-        Err(fault) => {
-            let _ = eprintln!(rt; "{fault:?}");
-            ExitCode::FAILURE
-        }
-    }
 }

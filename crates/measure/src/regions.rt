@@ -1,9 +1,6 @@
-//! Looks keys up in a region cache: `measure_regions REGIONS LOOKUPS`, or ids, with a third word `id`. It prints how many
-//! were found, and is there to be timed.
-#![tactic(auto)]
-
+//! Looks keys or ids up in a region cache. It prints how many were found.
+use crate::fault::Fault;
 use std::alloc::Global;
-use std::{env, io};
 use txn_kv::{Key, NoMemory, Region, RegionEpoch, RegionWithLeader, Result};
 use txn_region::{Look, RegionCache};
 
@@ -67,30 +64,20 @@ fn found_by_id(cache: &mut RegionCache, regions: u32, look_ups: u64) -> Result<u
     Ok(found)
 }
 
-fn found(alloc: Global, regions: u32, look_ups: u64, by_id: bool) -> Result<u64> {
+/// Fills a cache and looks up in it.
+pub fn look_up(
+    rt: &HostRuntime,
+    regions: u32,
+    look_ups: u64,
+    by_id: bool,
+) -> std::result::Result<(), Fault> {
+    let alloc = rt.alloc();
     let mut cache = filled(alloc, regions)?;
-    if by_id {
-        found_by_id(&mut cache, regions, look_ups)
+    let found = if by_id {
+        found_by_id(&mut cache, regions, look_ups)?
     } else {
-        found_by_key(alloc, &mut cache, regions, look_ups)
-    }
-}
-
-/// The number that the next word spells, or 0.
-fn number(word: Option<String>) -> u32 {
-    match word {
-        Some(word) => word.as_str().parse::<u32>().unwrap_or(0),
-        None => 0,
-    }
-}
-
-fn main(rt: HostRuntime) -> io::Result<()> {
-    let mut words = env::args(&rt)?.skip(1);
-    let regions = number(words.next());
-    let look_ups = number(words.next());
-    let by_id = words.next().is_some();
-    match found(rt.alloc(), regions, u64::from(look_ups), by_id) {
-        Ok(found) => println!(rt; "{found}"),
-        Err(error) => println!(rt; "{error}"),
-    }
+        found_by_key(alloc, &mut cache, regions, look_ups)?
+    };
+    println!(rt; "{found}")?;
+    Ok(())
 }
