@@ -16,7 +16,7 @@ use Rattle.txn_kv.specs.declared.message.Region.{Region}
 use Rattle.txn_kv.specs.declared.message.RegionErr.{RegionErr}
 use Rattle.txn_kv.specs.declared.message.RegionErr.TheVariants.{EpochNotMatch}
 use Rattle.txn_kv.specs.declared.region.RegionWithLeader.{RegionWithLeader}
-use Rattle.txn_kv.specs.declared.reply.GetRegionResponse.{GetRegionResponse}
+use Rattle.txn_kv.specs.declared.reply.cluster.GetRegionResponse.{GetRegionResponse}
 use Rattle.txn_kv.specs.declared.reply.Reply.{Reply}
 use Rattle.txn_kv.specs.declared.reply.Reply.TheVariants as reply
 use Rattle.txn_kv.specs.declared.request.Request.{Request}

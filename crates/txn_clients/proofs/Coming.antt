@@ -11,7 +11,7 @@ use Rattle.txn_kv.specs.declared.ticket.Ticket.{Ticket}
 use Rattle.txn_kv.specs.declared.arrival.Arrival.TheVariants as arrivals
 use Rattle.txn_side.specs.Sight.{Group}
 use Rattle.txn_side.specs.Trace.{GroupCame, HasCome, HasRefused, HasRefusedBeside, IsLonger, IsSentIn, Trace, refused_as, times_in, with_posted}
-use Rattle.txn_kv.specs.declared.request.TsoRequest.{TsoRequest}
+use Rattle.txn_kv.specs.declared.request.cluster.TsoRequest.{TsoRequest}
 use Rattle.txn_tso.specs.Oracle.{group_or_none}
 use Rattle.txn_side.specs.declared.turn.Posting.{Posting}
 use Rattle.txn_clients.specs.Clients.{groups_of, sight_of}

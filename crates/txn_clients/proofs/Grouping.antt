@@ -22,7 +22,7 @@ use Rattle.txn_side.specs.Waiting.Awaited.{EndOf as SideEnd, ReplyTo as SideRepl
 use Rattle.txn_side.specs.declared.turn.Posting.{Posting}
 use Rattle.txn_tso.specs.Oracle.{Answer, Oracle, group_or_none, next_request, with_next_group}
 use Rattle.txn_tso.specs.declared.asker.Asker.{Asker}
-use Rattle.txn_kv.specs.declared.request.TsoRequest.{TsoRequest}
+use Rattle.txn_kv.specs.declared.request.cluster.TsoRequest.{TsoRequest}
 use Rattle.txn_clients.specs.Clients.{crashed_of, nexts_of, row_at, rows_of, sight_of, stands_of}
 use Rattle.txn_clients.specs.Matching.{IsLine}
 use Rattle.txn_clients.specs.Going.{next_after}

@@ -4,7 +4,7 @@ use Rattle.std.specs.Prelude.{IfOk, ⊤, Result, Ok, Err}
 use Rattle.txn_kv.specs.Timestamp.{version_of}
 use Rattle.txn_kv.specs.declared.errors.Error.{Error}
 use Rattle.txn_kv.specs.declared.progress.Progress.{Progress}
-use Rattle.txn_kv.specs.declared.request.CommitRequest.{CommitRequest}
+use Rattle.txn_kv.specs.declared.request.commits.CommitRequest.{CommitRequest}
 use Rattle.txn_kv.specs.declared.request.Request.{Request}
 use Rattle.txn_kv.specs.declared.request.Request.TheVariants.{Commit}
 use Rattle.txn_history.specs.Event.{Event}

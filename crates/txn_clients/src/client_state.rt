@@ -9,7 +9,7 @@ ghost use Rattle.txn_side.specs.Trace.{Refuses};
 ghost use Rattle.txn_clients.specs.Waiting.{Regroups, blank, book_of};
 ghost use Rattle.txn_side.specs.Sight.{AskFor};
 ghost use Rattle.txn_kv.specs.declared.reply.Reply.TheVariants as replies;
-ghost use Rattle.txn_kv.specs.declared.reply.TsoResponse.{TsoResponse as Times};
+ghost use Rattle.txn_kv.specs.declared.reply.cluster.TsoResponse.{TsoResponse as Times};
 ghost use Rattle.txn_kv.specs.declared.request.Request.TheVariants.{Tso};
 ghost use Rattle.txn_tso.specs.Oracle.{answered, group_or_none};
 

@@ -4,7 +4,7 @@ use Rattle.std.proofs.lemmas.Bool.{false≢true}
 use Rattle.std.specs.Prelude.{Result, Ok, Err}
 use Rattle.txn_kv.specs.Timestamp.{version_of}
 use Rattle.txn_kv.specs.declared.errors.Error.{Error}
-use Rattle.txn_kv.specs.declared.request.PrewriteRequest.{PrewriteRequest}
+use Rattle.txn_kv.specs.declared.request.commits.PrewriteRequest.{PrewriteRequest}
 use Rattle.txn_kv.specs.declared.request.Request.{Request}
 use Rattle.txn_kv.specs.declared.request.Request.TheVariants.{Prewrite, Commit, BatchRollback}
 use Rattle.txn_kv.specs.declared.timestamp.Timestamp.{Timestamp}

@@ -3,7 +3,7 @@ use Rattle.std.specs.Prelude.{◌≡◌, ◌≤◌, ⊤, ℕ, true, false, List,
 use Rattle.std.proofs.Common.{subst, sym}
 use Rattle.txn_kv.specs.Timestamp.{HasVersion, version_of}
 use Rattle.txn_kv.specs.declared.errors.Error.{Error}
-use Rattle.txn_kv.specs.declared.request.CommitRequest.{CommitRequest}
+use Rattle.txn_kv.specs.declared.request.commits.CommitRequest.{CommitRequest}
 use Rattle.txn_kv.specs.declared.request.Request.TheVariants.{Commit}
 use Rattle.txn_history.specs.Event.{Event}
 use Rattle.txn_history.specs.Later.{IsLater}

@@ -10,7 +10,7 @@ use Rattle.txn_kv.specs.declared.query.PdQuery.{PdQuery}
 use Rattle.txn_kv.specs.declared.query.PdQuery.TheVariants.{Region, RegionId, Safepoint, Store, Stores, Time}
 use Rattle.txn_kv.specs.declared.request.Request.{Request}
 use Rattle.txn_kv.specs.declared.request.Request.TheVariants.{GetRegion, GetRegionById, GetStore, TxnHeartBeat}
-use Rattle.txn_kv.specs.declared.request.TxnHeartBeatRequest.{TxnHeartBeatRequest}
+use Rattle.txn_kv.specs.declared.request.commits.TxnHeartBeatRequest.{TxnHeartBeatRequest}
 use Rattle.txn_merge.specs.Gathered.{single_of}
 use Rattle.txn_multi.specs.Cutting.{IsPlacement}
 use Rattle.txn_region.specs.Clients.{IsPlaceQuery}

@@ -11,13 +11,13 @@ use Rattle.txn_kv.specs.ErrorView.{ErrorView, key}
 use Rattle.txn_kv.specs.declared.errors.Error.{Error}
 use Rattle.txn_kv.specs.declared.message.Context.{Context}
 use Rattle.txn_kv.specs.declared.message.RegionErr.{RegionErr}
-use Rattle.txn_kv.specs.declared.reply.BatchRollbackResponse.{BatchRollbackResponse}
-use Rattle.txn_kv.specs.declared.reply.CommitResponse.{CommitResponse}
-use Rattle.txn_kv.specs.declared.reply.PrewriteResponse.{PrewriteResponse}
+use Rattle.txn_kv.specs.declared.reply.commits.BatchRollbackResponse.{BatchRollbackResponse}
+use Rattle.txn_kv.specs.declared.reply.commits.CommitResponse.{CommitResponse}
+use Rattle.txn_kv.specs.declared.reply.commits.PrewriteResponse.{PrewriteResponse}
 use Rattle.txn_kv.specs.declared.reply.Reply.TheVariants as reply
-use Rattle.txn_kv.specs.declared.request.BatchRollbackRequest.{BatchRollbackRequest}
-use Rattle.txn_kv.specs.declared.request.CommitRequest.{CommitRequest}
-use Rattle.txn_kv.specs.declared.request.PrewriteRequest.{PrewriteRequest}
+use Rattle.txn_kv.specs.declared.request.commits.BatchRollbackRequest.{BatchRollbackRequest}
+use Rattle.txn_kv.specs.declared.request.commits.CommitRequest.{CommitRequest}
+use Rattle.txn_kv.specs.declared.request.commits.PrewriteRequest.{PrewriteRequest}
 use Rattle.txn_kv.specs.declared.request.Request.{Request}
 use Rattle.txn_kv.specs.declared.request.Request.TheVariants.{BatchRollback, Commit, Prewrite}
 use Rattle.txn_merge.specs.Extracted.{views_in}

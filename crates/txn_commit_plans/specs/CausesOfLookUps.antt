@@ -22,7 +22,7 @@ use Rattle.txn_kv.specs.declared.query.PdAnswer.TheVariants as answer
 use Rattle.txn_kv.specs.declared.query.PdQuery.{PdQuery}
 use Rattle.txn_kv.specs.declared.query.PdQuery.TheVariants as query
 use Rattle.txn_kv.specs.declared.region.RegionWithLeader.{RegionWithLeader}
-use Rattle.txn_kv.specs.declared.reply.GetRegionResponse.{GetRegionResponse}
+use Rattle.txn_kv.specs.declared.reply.cluster.GetRegionResponse.{GetRegionResponse}
 use Rattle.txn_kv.specs.declared.reply.Reply.{Reply}
 use Rattle.txn_kv.specs.declared.reply.Reply.TheVariants as reply
 use Rattle.txn_kv.specs.declared.request.Request.{Request}

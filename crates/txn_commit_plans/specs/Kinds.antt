@@ -6,16 +6,16 @@ use Rattle.txn_history.specs.Meaning.{IsLawful, Meaning}
 use Rattle.txn_kv.specs.ErrorView.{key}
 use Rattle.txn_kv.specs.declared.errors.Error.{Error}
 use Rattle.txn_kv.specs.declared.message.Mutation.{Mutation}
-use Rattle.txn_kv.specs.declared.reply.BatchRollbackResponse.{BatchRollbackResponse}
-use Rattle.txn_kv.specs.declared.reply.CommitResponse.{CommitResponse}
-use Rattle.txn_kv.specs.declared.reply.PrewriteResponse.{PrewriteResponse}
+use Rattle.txn_kv.specs.declared.reply.commits.BatchRollbackResponse.{BatchRollbackResponse}
+use Rattle.txn_kv.specs.declared.reply.commits.CommitResponse.{CommitResponse}
+use Rattle.txn_kv.specs.declared.reply.commits.PrewriteResponse.{PrewriteResponse}
 use Rattle.txn_kv.specs.declared.reply.Reply.TheVariants as reply
-use Rattle.txn_kv.specs.declared.reply.TxnHeartBeatResponse.{TxnHeartBeatResponse}
-use Rattle.txn_kv.specs.declared.request.BatchRollbackRequest.{BatchRollbackRequest}
-use Rattle.txn_kv.specs.declared.request.CommitRequest.{CommitRequest}
-use Rattle.txn_kv.specs.declared.request.PrewriteRequest.{PrewriteRequest}
+use Rattle.txn_kv.specs.declared.reply.commits.TxnHeartBeatResponse.{TxnHeartBeatResponse}
+use Rattle.txn_kv.specs.declared.request.commits.BatchRollbackRequest.{BatchRollbackRequest}
+use Rattle.txn_kv.specs.declared.request.commits.CommitRequest.{CommitRequest}
+use Rattle.txn_kv.specs.declared.request.commits.PrewriteRequest.{PrewriteRequest}
 use Rattle.txn_kv.specs.declared.request.Request.TheVariants.{BatchRollback, Commit, Prewrite, TxnHeartBeat}
-use Rattle.txn_kv.specs.declared.request.TxnHeartBeatRequest.{TxnHeartBeatRequest}
+use Rattle.txn_kv.specs.declared.request.commits.TxnHeartBeatRequest.{TxnHeartBeatRequest}
 use Rattle.txn_merge.specs.Firsts.{first_seen, region_in, seen_in}
 use Rattle.txn_merge.specs.Gathered.{FirstErrorOr, single_of}
 use Rattle.txn_merge.specs.KeyErrors.{views_of_error}

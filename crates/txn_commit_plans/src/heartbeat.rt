@@ -1,6 +1,6 @@
 ghost use Rattle.std.specs.Prelude.{◌≡◌};
 ghost use Rattle.txn_kv.specs.declared.request.Request.TheVariants.{TxnHeartBeat};
-ghost use Rattle.txn_kv.specs.declared.request.TxnHeartBeatRequest.{TxnHeartBeatRequest as Sent};
+ghost use Rattle.txn_kv.specs.declared.request.commits.TxnHeartBeatRequest.{TxnHeartBeatRequest as Sent};
 ghost use Rattle.txn_request.specs.Defaults.{default_txn_heart_beat};
 
 use crate::transaction_plan::TransactionPlan;

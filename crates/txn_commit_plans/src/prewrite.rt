@@ -2,7 +2,7 @@ ghost use Rattle.std.specs.Prelude.{◌≡◌, ◌^◌, ◌-◌, Err};
 ghost use Rattle.txn_commit_plans.specs.CausesOfPlans.{prewrites_caused};
 ghost use Rattle.txn_commit_plans.specs.Failing.{HasGivenWith, given_caused, has_given_longer};
 ghost use Rattle.txn_commit_plans.specs.Kinds.{prewrite_plan, prewrite_plan-lawful, prewrite_retries};
-ghost use Rattle.txn_kv.specs.declared.request.PrewriteRequest.{PrewriteRequest as Sent};
+ghost use Rattle.txn_kv.specs.declared.request.commits.PrewriteRequest.{PrewriteRequest as Sent};
 ghost use Rattle.txn_kv.specs.declared.request.Request.TheVariants.{Prewrite};
 ghost use Rattle.txn_commit_plans.specs.OneEach.{few_by_items};
 ghost use Rattle.txn_multi.specs.Few.{by_items};

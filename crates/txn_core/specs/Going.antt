@@ -5,7 +5,7 @@ use Rattle.txn_kv.specs.ErrorView.ErrorView.{undetermined as not_known}
 use Rattle.txn_kv.specs.Timestamp.{HasVersion, version_of}
 use Rattle.txn_kv.specs.declared.errors.Error.{Error}
 use Rattle.txn_kv.specs.declared.errors.Error.TheVariants.{GrpcAPI}
-use Rattle.txn_kv.specs.declared.request.CommitRequest.{CommitRequest}
+use Rattle.txn_kv.specs.declared.request.commits.CommitRequest.{CommitRequest}
 use Rattle.txn_kv.specs.declared.request.Request.{Request}
 use Rattle.txn_kv.specs.declared.request.Request.TheVariants.{Commit}
 use Rattle.txn_kv.specs.declared.ticket.Ticket.{Ticket}

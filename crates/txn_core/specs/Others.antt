@@ -1,6 +1,6 @@
 -- Others send and take beside a transaction: a history that grows, with no Commit of it among what is new.
 use Rattle.std.specs.Prelude.{◌≡◌, ◌≢◌, ⊤, ℕ, List, ◌++◌}
-use Rattle.txn_kv.specs.declared.request.CommitRequest.{CommitRequest}
+use Rattle.txn_kv.specs.declared.request.commits.CommitRequest.{CommitRequest}
 use Rattle.txn_kv.specs.declared.request.Request.TheVariants.{Commit}
 use Rattle.txn_kv.specs.declared.ticket.Ticket.{Ticket}
 use Rattle.txn_history.specs.Event.{Event, Has}

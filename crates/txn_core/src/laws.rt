@@ -37,7 +37,7 @@ ghost use Rattle.txn_history.specs.Turn.{HasEnded, Turn};
 ghost use Rattle.txn_kv.specs.Timestamp.{version_of};
 ghost use Rattle.txn_merge.specs.declared.retry_options.RetryOptions.{RetryOptions};
 ghost use Rattle.txn_kv.specs.declared.errors.Error.{Error};
-ghost use Rattle.txn_kv.specs.declared.request.CommitRequest.{CommitRequest as Asked};
+ghost use Rattle.txn_kv.specs.declared.request.commits.CommitRequest.{CommitRequest as Asked};
 ghost use Rattle.txn_kv.specs.declared.request.Request.TheVariants.{Commit};
 ghost use Rattle.txn_kv.specs.declared.ticket.Ticket.{Ticket};
 ghost use Rattle.txn_kv.specs.declared.timestamp.Timestamp.{Timestamp};

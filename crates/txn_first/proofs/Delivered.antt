@@ -58,7 +58,7 @@ use Rattle.txn_kv.specs.Versions.{version_of-timestamp_of}
 use Rattle.txn_kv.specs.declared.message.Op.TheVariants.{Put as Put_op}
 use Rattle.txn_kv.specs.declared.message.Assertion.TheVariants.{None as No_assertion}
 use Rattle.txn_kv.specs.declared.request.Request.TheVariants.{Commit as Commit_request}
-use Rattle.txn_kv.specs.declared.request.CommitRequest.{CommitRequest}
+use Rattle.txn_kv.specs.declared.request.commits.CommitRequest.{CommitRequest}
 use Rattle.txn_history.specs.Event.{Has}
 use Rattle.txn_history.specs.Licence.{AskedAfter, WasGiven, PrimaryCommitted, CommitLicence, IsLicensed}
 use Rattle.txn_history.specs.Plan.{Key, has_key}

@@ -4,7 +4,7 @@ use Rattle.std.specs.Cmp.Lexicographic.{pointwise}
 use Rattle.txn_kv.specs.declared.ticket.Ticket.{Ticket}
 use Rattle.txn_kv.specs.declared.errors.Error.TheVariants.{OperationAfterCommitError}
 use Rattle.txn_kv.specs.declared.request.Request.TheVariants.{Tso}
-use Rattle.txn_kv.specs.declared.request.TsoRequest.{TsoRequest}
+use Rattle.txn_kv.specs.declared.request.cluster.TsoRequest.{TsoRequest}
 use Rattle.txn_history.specs.Event.{Event, sent_request, is_out, is_served}
 use Rattle.txn_script.specs.Lines.{line_at}
 use Rattle.txn_script.specs.declared.line.Line.{Line}

@@ -18,7 +18,7 @@ use Rattle.txn_kv.specs.declared.errors.Error.{Error}
 use Rattle.txn_kv.specs.declared.outbox.Errand.TheVariants as errands
 use Rattle.txn_kv.specs.declared.request.Request.{Request}
 use Rattle.txn_kv.specs.declared.request.Request.TheVariants.{GetRegion, GetRegionById, GetStore, GetAllStores, Members, TxnHeartBeat, UpdateGcSafePoint}
-use Rattle.txn_kv.specs.declared.request.TxnHeartBeatRequest.{TxnHeartBeatRequest}
+use Rattle.txn_kv.specs.declared.request.commits.TxnHeartBeatRequest.{TxnHeartBeatRequest}
 use Rattle.txn_kv.specs.declared.ticket.Ticket.{Ticket}
 use Rattle.txn_history.specs.Arrivals.{awaited_as, told_by}
 use Rattle.txn_kv.specs.declared.arrival.Arrival.{Arrival}

@@ -2,11 +2,11 @@
 use Rattle.std.specs.Prelude.{◌≡◌, ◌≢◌, ◌⊎◌, ℕ, ◌<◌, ◌≤◌, true, false, List, None}
 use Rattle.txn_kv.specs.declared.message.LockInfo.{LockInfo}
 use Rattle.txn_kv.specs.declared.message.Op.TheVariants as op
-use Rattle.txn_kv.specs.declared.reply.CheckSecondaryLocksResponse.{CheckSecondaryLocksResponse}
-use Rattle.txn_kv.specs.declared.reply.CheckTxnStatusResponse.{CheckTxnStatusResponse}
+use Rattle.txn_kv.specs.declared.reply.locks.CheckSecondaryLocksResponse.{CheckSecondaryLocksResponse}
+use Rattle.txn_kv.specs.declared.reply.locks.CheckTxnStatusResponse.{CheckTxnStatusResponse}
 use Rattle.txn_kv.specs.declared.reply.Reply.{Reply}
 use Rattle.txn_kv.specs.declared.reply.Reply.TheVariants as reply
-use Rattle.txn_kv.specs.declared.request.CheckSecondaryLocksRequest.{CheckSecondaryLocksRequest}
+use Rattle.txn_kv.specs.declared.request.locks.CheckSecondaryLocksRequest.{CheckSecondaryLocksRequest}
 use Rattle.txn_kv.specs.declared.request.Request.{Request}
 use Rattle.txn_kv.specs.declared.request.Request.TheVariants.{Cleanup, CheckTxnStatus, CheckSecondaryLocks}
 use Rattle.txn_kv.specs.declared.ticket.Ticket.{Ticket}

@@ -23,7 +23,7 @@ use Rattle.txn_law.proofs.Phases.Move.{Locks}
 use Rattle.txn_law.proofs.Moves.{May, CellStep, SetBy}
 use Rattle.txn_law.proofs.Moves.CellStep.{Same, Places, Landed, Recorded, Made, Released, Held, Renewed}
 use Rattle.txn_model.specs.Prewrite.{least_bound}
-use Rattle.txn_kv.specs.declared.request.PrewriteRequest.{PrewriteRequest}
+use Rattle.txn_kv.specs.declared.request.commits.PrewriteRequest.{PrewriteRequest}
 use Rattle.txn_model.specs.Store.{Store}
 
 abbrev pub lock_bound : Option Lock → Option ℕ

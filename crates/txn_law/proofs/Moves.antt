@@ -1,5 +1,5 @@
 -- What a request may do to the phase of a start at a key, and what it does to a cell.
-use Rattle.txn_kv.specs.declared.request.PessimisticLockRequest.{PessimisticLockRequest}
+use Rattle.txn_kv.specs.declared.request.locks.PessimisticLockRequest.{PessimisticLockRequest}
 use Rattle.std.proofs.Common.{◌≡◌, ◌≢◌, ℕ, ◌⊎◌, inl, inr, Bool, true, false, List, Option, Some, None, refl, sym, subst, ◌≤◌, ◌∙◌, nat_eq, arith}
 use Rattle.std.specs.Prelude.{if◌then◌else◌}
 use Rattle.txn_kv.specs.declared.message.Mutation.{Mutation}
@@ -13,7 +13,7 @@ use Rattle.txn_model.specs.declared.cell.Lock.{Lock}
 use Rattle.txn_model.specs.Cells.{cell_at, changed_at, AreInOrder}
 use Rattle.txn_model.specs.Commit.{committed}
 use Rattle.txn_model.specs.Locks.{is_prewrite, owns, commit_of, newest_commit}
-use Rattle.txn_kv.specs.declared.request.PrewriteRequest.{PrewriteRequest}
+use Rattle.txn_kv.specs.declared.request.commits.PrewriteRequest.{PrewriteRequest}
 use Rattle.txn_model.specs.Prewrite.{least_bound, mutation_keys}
 use Rattle.std.proofs.lemmas.Bool.Decides.{nat_tests}
 use Rattle.txn_model.specs.PessimisticLock.{raised_lock}

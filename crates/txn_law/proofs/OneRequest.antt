@@ -8,7 +8,7 @@ use Rattle.txn_kv.specs.declared.message.Mutation.{Mutation}
 use Rattle.txn_kv.specs.declared.message.RegionErr.{RegionErr}
 use Rattle.txn_kv.specs.declared.request.Request.{Request}
 use Rattle.txn_kv.specs.declared.request.Request.TheVariants.{Prewrite}
-use Rattle.txn_kv.specs.declared.request.PrewriteRequest.{PrewriteRequest}
+use Rattle.txn_kv.specs.declared.request.commits.PrewriteRequest.{PrewriteRequest}
 use Rattle.txn_history.specs.Among.{IsAmong}
 use Rattle.txn_history.specs.Licence.{IsWithoutError}
 use Rattle.txn_history.specs.Plan.{Key}

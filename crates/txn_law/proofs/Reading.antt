@@ -4,7 +4,7 @@ use Rattle.txn_model.specs.Prewrite.{mutation_keys}
 use Rattle.txn_model.specs.PessimisticLock.{value_for_update, values_for_update, value_or_empty, raised_lock, locked_for_update, pessimistic_lock_by, pessimistic_errors}
 use Rattle.txn_kv.specs.declared.message.KeyError.{KeyError}
 use Rattle.txn_kv.specs.declared.message.Mutation.{Mutation}
-use Rattle.txn_kv.specs.declared.request.PessimisticLockRequest.{PessimisticLockRequest}
+use Rattle.txn_kv.specs.declared.request.locks.PessimisticLockRequest.{PessimisticLockRequest}
 use Rattle.std.proofs.Common.{◌≡◌, ℕ, ◌<◌, inl, inr, Bool, true, false, List, [], Option, Some, None, length, refl, sym, ap, ◌∙◌, subst, subst₂, ◌&&◌, ◌∷◌, nat_le, arith}
 use Rattle.std.proofs.lemmas.Bool.Decides.{nat_tests}
 use Rattle.std.specs.Prelude.{if◌then◌else◌, map, take, reverse, is_none}
@@ -14,9 +14,9 @@ use Rattle.txn_kv.specs.declared.message.PbPair.{PbPair}
 use Rattle.txn_kv.specs.declared.message.RegionErr.{RegionErr}
 use Rattle.txn_kv.specs.declared.request.Request.{Request}
 use Rattle.txn_kv.specs.declared.request.Request.TheVariants.{Get, BatchGet, Scan, PessimisticLock}
-use Rattle.txn_kv.specs.declared.request.GetRequest.{GetRequest}
-use Rattle.txn_kv.specs.declared.request.BatchGetRequest.{BatchGetRequest}
-use Rattle.txn_kv.specs.declared.request.ScanRequest.{ScanRequest}
+use Rattle.txn_kv.specs.declared.request.reads.GetRequest.{GetRequest}
+use Rattle.txn_kv.specs.declared.request.reads.BatchGetRequest.{BatchGetRequest}
+use Rattle.txn_kv.specs.declared.request.reads.ScanRequest.{ScanRequest}
 use Rattle.txn_kv.specs.declared.reply.Reply.{Reply}
 use Rattle.txn_kv.specs.declared.reply.Reply.TheVariants as reply
 use Rattle.txn_history.specs.Among.{IsAmong}

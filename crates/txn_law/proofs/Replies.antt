@@ -8,16 +8,16 @@ use Rattle.txn_kv.specs.declared.message.KeyError.{KeyError}
 use Rattle.txn_kv.specs.declared.message.RegionErr.{RegionErr}
 use Rattle.txn_kv.specs.declared.request.Request.{Request}
 use Rattle.txn_kv.specs.declared.request.Request.TheVariants.{Prewrite, Commit, Cleanup, BatchRollback, CheckTxnStatus, CheckSecondaryLocks, Tso}
-use Rattle.txn_kv.specs.declared.request.BatchRollbackRequest.{BatchRollbackRequest}
-use Rattle.txn_kv.specs.declared.request.CleanupRequest.{CleanupRequest}
-use Rattle.txn_kv.specs.declared.request.CommitRequest.{CommitRequest}
-use Rattle.txn_kv.specs.declared.request.CheckTxnStatusRequest.{CheckTxnStatusRequest}
-use Rattle.txn_kv.specs.declared.request.CheckSecondaryLocksRequest.{CheckSecondaryLocksRequest}
-use Rattle.txn_kv.specs.declared.request.PrewriteRequest.{PrewriteRequest}
-use Rattle.txn_kv.specs.declared.request.TsoRequest.{TsoRequest}
+use Rattle.txn_kv.specs.declared.request.commits.BatchRollbackRequest.{BatchRollbackRequest}
+use Rattle.txn_kv.specs.declared.request.locks.CleanupRequest.{CleanupRequest}
+use Rattle.txn_kv.specs.declared.request.commits.CommitRequest.{CommitRequest}
+use Rattle.txn_kv.specs.declared.request.locks.CheckTxnStatusRequest.{CheckTxnStatusRequest}
+use Rattle.txn_kv.specs.declared.request.locks.CheckSecondaryLocksRequest.{CheckSecondaryLocksRequest}
+use Rattle.txn_kv.specs.declared.request.commits.PrewriteRequest.{PrewriteRequest}
+use Rattle.txn_kv.specs.declared.request.cluster.TsoRequest.{TsoRequest}
 use Rattle.txn_kv.specs.declared.reply.Reply.{Reply}
-use Rattle.txn_kv.specs.declared.reply.PrewriteResponse.{PrewriteResponse}
-use Rattle.txn_kv.specs.declared.reply.TsoResponse.{TsoResponse}
+use Rattle.txn_kv.specs.declared.reply.commits.PrewriteResponse.{PrewriteResponse}
+use Rattle.txn_kv.specs.declared.reply.cluster.TsoResponse.{TsoResponse}
 use Rattle.txn_history.specs.Busy.{busy_reply}
 use Rattle.txn_history.specs.Licence.{IsWithoutError, GivesTimestamp, TellsStatus}
 use Rattle.txn_history.specs.Plan.{Key, Content, Plan, has_key, LocksKey, Way}

@@ -6,18 +6,18 @@ use Rattle.txn_kv.specs.declared.message.KeyError.{KeyError}
 use Rattle.txn_kv.specs.declared.message.RegionErr.{RegionErr}
 use Rattle.txn_kv.specs.declared.request.Request.{Request}
 use Rattle.txn_kv.specs.declared.request.Request.TheVariants.{Get, BatchGet, Scan, Prewrite, Commit, Cleanup, BatchRollback, PessimisticRollback, PessimisticLock, ResolveLock, ScanLock, TxnHeartBeat, CheckTxnStatus, CheckSecondaryLocks, UnsafeDestroyRange, GetRegion, GetRegionById, GetStore, GetAllStores, UpdateGcSafePoint, Tso, Members}
-use Rattle.txn_kv.specs.declared.request.GetRequest.{GetRequest}
-use Rattle.txn_kv.specs.declared.request.BatchGetRequest.{BatchGetRequest}
-use Rattle.txn_kv.specs.declared.request.ScanRequest.{ScanRequest}
-use Rattle.txn_kv.specs.declared.request.ScanLockRequest.{ScanLockRequest}
-use Rattle.txn_kv.specs.declared.request.CommitRequest.{CommitRequest}
-use Rattle.txn_kv.specs.declared.request.CleanupRequest.{CleanupRequest}
-use Rattle.txn_kv.specs.declared.request.BatchRollbackRequest.{BatchRollbackRequest}
-use Rattle.txn_kv.specs.declared.request.PessimisticLockRequest.{PessimisticLockRequest}
-use Rattle.txn_kv.specs.declared.request.PessimisticRollbackRequest.{PessimisticRollbackRequest}
-use Rattle.txn_kv.specs.declared.request.TxnHeartBeatRequest.{TxnHeartBeatRequest}
-use Rattle.txn_kv.specs.declared.request.CheckTxnStatusRequest.{CheckTxnStatusRequest}
-use Rattle.txn_kv.specs.declared.request.CheckSecondaryLocksRequest.{CheckSecondaryLocksRequest}
+use Rattle.txn_kv.specs.declared.request.reads.GetRequest.{GetRequest}
+use Rattle.txn_kv.specs.declared.request.reads.BatchGetRequest.{BatchGetRequest}
+use Rattle.txn_kv.specs.declared.request.reads.ScanRequest.{ScanRequest}
+use Rattle.txn_kv.specs.declared.request.locks.ScanLockRequest.{ScanLockRequest}
+use Rattle.txn_kv.specs.declared.request.commits.CommitRequest.{CommitRequest}
+use Rattle.txn_kv.specs.declared.request.locks.CleanupRequest.{CleanupRequest}
+use Rattle.txn_kv.specs.declared.request.commits.BatchRollbackRequest.{BatchRollbackRequest}
+use Rattle.txn_kv.specs.declared.request.locks.PessimisticLockRequest.{PessimisticLockRequest}
+use Rattle.txn_kv.specs.declared.request.locks.PessimisticRollbackRequest.{PessimisticRollbackRequest}
+use Rattle.txn_kv.specs.declared.request.commits.TxnHeartBeatRequest.{TxnHeartBeatRequest}
+use Rattle.txn_kv.specs.declared.request.locks.CheckTxnStatusRequest.{CheckTxnStatusRequest}
+use Rattle.txn_kv.specs.declared.request.locks.CheckSecondaryLocksRequest.{CheckSecondaryLocksRequest}
 use Rattle.txn_history.specs.Among.{IsAmong}
 use Rattle.txn_kv.specs.declared.message.Mutation.{Mutation}
 use Rattle.std.specs.List.{filter_map, cons_option}

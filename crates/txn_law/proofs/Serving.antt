@@ -6,12 +6,12 @@ use Rattle.txn_kv.specs.declared.message.LockInfo.{LockInfo}
 use Rattle.txn_kv.specs.declared.message.RegionErr.{RegionErr}
 use Rattle.txn_kv.specs.declared.request.Request.{Request}
 use Rattle.txn_kv.specs.declared.request.Request.TheVariants.{Prewrite, Commit, ResolveLock}
-use Rattle.txn_kv.specs.declared.request.CommitRequest.{CommitRequest}
-use Rattle.txn_kv.specs.declared.request.PrewriteRequest.{PrewriteRequest}
-use Rattle.txn_kv.specs.declared.request.ResolveLockRequest.{ResolveLockRequest}
+use Rattle.txn_kv.specs.declared.request.commits.CommitRequest.{CommitRequest}
+use Rattle.txn_kv.specs.declared.request.commits.PrewriteRequest.{PrewriteRequest}
+use Rattle.txn_kv.specs.declared.request.locks.ResolveLockRequest.{ResolveLockRequest}
 use Rattle.txn_kv.specs.declared.reply.Reply.{Reply}
 use Rattle.txn_kv.specs.declared.reply.Reply.TheVariants as reply
-use Rattle.txn_kv.specs.declared.reply.CommitResponse.{CommitResponse}
+use Rattle.txn_kv.specs.declared.reply.commits.CommitResponse.{CommitResponse}
 use Rattle.txn_history.specs.Among.{IsAmong}
 use Rattle.txn_history.specs.Event.{Event, Has}
 use Rattle.txn_history.specs.Event.Event.{Sent, Served}

@@ -5,7 +5,7 @@ use Rattle.std.proofs.lemmas.Bool.Decides.{nat_tests}
 use Rattle.txn_kv.specs.declared.message.RegionErr.{RegionErr}
 use Rattle.txn_kv.specs.declared.message.TxnInfo.{TxnInfo}
 use Rattle.txn_kv.specs.declared.request.Request.TheVariants.{ResolveLock}
-use Rattle.txn_kv.specs.declared.request.ResolveLockRequest.{ResolveLockRequest}
+use Rattle.txn_kv.specs.declared.request.locks.ResolveLockRequest.{ResolveLockRequest}
 use Rattle.txn_history.specs.Among.{IsAmong}
 use Rattle.txn_history.specs.Plan.{Key}
 use Rattle.txn_model.specs.declared.cell.Cell.{Cell}

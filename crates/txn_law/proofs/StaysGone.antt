@@ -12,14 +12,14 @@ use Rattle.txn_history.specs.Among.{IsAmong}
 use Rattle.txn_kv.specs.declared.ticket.Ticket.{Ticket}
 use Rattle.txn_kv.specs.declared.message.RegionErr.{RegionErr}
 use Rattle.txn_kv.specs.declared.message.LockInfo.{LockInfo}
-use Rattle.txn_kv.specs.declared.reply.ScanLockResponse.{ScanLockResponse}
+use Rattle.txn_kv.specs.declared.reply.locks.ScanLockResponse.{ScanLockResponse}
 use Rattle.txn_kv.specs.declared.message.TxnInfo.{TxnInfo}
 use Rattle.txn_kv.specs.declared.request.Request.{Request}
 use Rattle.txn_kv.specs.declared.request.Request.TheVariants.{ScanLock, ResolveLock, Prewrite}
-use Rattle.txn_kv.specs.declared.request.ResolveLockRequest.{ResolveLockRequest}
+use Rattle.txn_kv.specs.declared.request.locks.ResolveLockRequest.{ResolveLockRequest}
 use Rattle.txn_kv.specs.declared.reply.Reply.{Reply}
-use Rattle.txn_kv.specs.declared.reply.ResolveLockResponse.{ResolveLockResponse}
-use Rattle.txn_kv.specs.declared.request.ScanLockRequest.{ScanLockRequest}
+use Rattle.txn_kv.specs.declared.reply.locks.ResolveLockResponse.{ResolveLockResponse}
+use Rattle.txn_kv.specs.declared.request.locks.ScanLockRequest.{ScanLockRequest}
 use Rattle.std.proofs.Common.{◌≡◌, ℕ, ◌⊎◌, inl, inr, true, List, [], ◌∷◌, Option, Some, None, refl, sym, subst, arith, ◌<◌, ◌≤◌, Bool, false, nat_le, ap, ◌∙◌}
 use Rattle.std.proofs.lemmas.Bool.Decides.{nat_tests}
 use Rattle.txn_history.specs.Busy.{busy_reply}

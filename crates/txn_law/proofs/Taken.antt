@@ -5,10 +5,10 @@ use Rattle.txn_kv.specs.declared.message.LockInfo.{LockInfo}
 use Rattle.txn_kv.specs.declared.message.TxnInfo.{TxnInfo}
 use Rattle.txn_kv.specs.declared.request.Request.{Request}
 use Rattle.txn_kv.specs.declared.request.Request.TheVariants.{Get, BatchGet, Scan, Prewrite, Commit, Cleanup, BatchRollback, PessimisticRollback, ResolveLock, ScanLock, TxnHeartBeat, CheckTxnStatus, CheckSecondaryLocks, UnsafeDestroyRange, Tso, PessimisticLock}
-use Rattle.txn_kv.specs.declared.request.ResolveLockRequest.{ResolveLockRequest}
-use Rattle.txn_kv.specs.declared.request.TsoRequest.{TsoRequest}
+use Rattle.txn_kv.specs.declared.request.locks.ResolveLockRequest.{ResolveLockRequest}
+use Rattle.txn_kv.specs.declared.request.cluster.TsoRequest.{TsoRequest}
 use Rattle.txn_kv.specs.declared.reply.Reply.{Reply}
-use Rattle.txn_kv.specs.declared.reply.TsoResponse.{TsoResponse}
+use Rattle.txn_kv.specs.declared.reply.cluster.TsoResponse.{TsoResponse}
 use Rattle.txn_history.specs.Among.{IsAmong}
 use Rattle.txn_history.specs.Busy.{busy_reply}
 use Rattle.txn_history.specs.Event.{Event, Has}

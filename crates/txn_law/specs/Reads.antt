@@ -7,7 +7,7 @@ use Rattle.std.specs.Prelude.{◌≡◌, ◌≢◌, ◌⊎◌, ℕ, ◌<◌, Boo
 use Rattle.txn_kv.specs.declared.message.PbPair.{PbPair}
 use Rattle.txn_kv.specs.declared.request.Request.{Request}
 use Rattle.txn_kv.specs.declared.request.Request.TheVariants.{Get, BatchGet, Scan, PessimisticLock}
-use Rattle.txn_kv.specs.declared.request.ScanRequest.{ScanRequest}
+use Rattle.txn_kv.specs.declared.request.reads.ScanRequest.{ScanRequest}
 use Rattle.txn_kv.specs.declared.reply.Reply.{Reply}
 use Rattle.txn_kv.specs.declared.reply.Reply.TheVariants as reply
 use Rattle.txn_history.specs.Among.{IsAmong}

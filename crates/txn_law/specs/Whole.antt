@@ -1,10 +1,10 @@
 -- A transaction is whole at one commit timestamp, or not at all.
 use Rattle.txn_kv.specs.declared.ticket.Ticket.{Ticket}
-use Rattle.txn_kv.specs.declared.request.CommitRequest.{CommitRequest}
+use Rattle.txn_kv.specs.declared.request.commits.CommitRequest.{CommitRequest}
 use Rattle.txn_kv.specs.declared.request.Request.TheVariants.{Commit, Prewrite}
-use Rattle.txn_kv.specs.declared.request.PrewriteRequest.{PrewriteRequest}
-use Rattle.txn_kv.specs.declared.reply.CommitResponse.{CommitResponse}
-use Rattle.txn_kv.specs.declared.reply.PrewriteResponse.{PrewriteResponse}
+use Rattle.txn_kv.specs.declared.request.commits.PrewriteRequest.{PrewriteRequest}
+use Rattle.txn_kv.specs.declared.reply.commits.CommitResponse.{CommitResponse}
+use Rattle.txn_kv.specs.declared.reply.commits.PrewriteResponse.{PrewriteResponse}
 use Rattle.txn_kv.specs.declared.reply.Reply.TheVariants as reply
 use Rattle.txn_history.specs.Event.{Event, Has}
 use Rattle.txn_history.specs.Event.Event.{Served, Took}

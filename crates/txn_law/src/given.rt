@@ -1,9 +1,9 @@
 ghost use Rattle.std.specs.Prelude.{◌≡◌, ◌≢◌, ◌<◌, ◌≤◌, ℕ, List};
 ghost use Rattle.txn_kv.specs.declared.ticket.Ticket.{Ticket};
 ghost use Rattle.txn_kv.specs.declared.request.Request.TheVariants.{Tso};
-ghost use Rattle.txn_kv.specs.declared.request.TsoRequest.{TsoRequest};
+ghost use Rattle.txn_kv.specs.declared.request.cluster.TsoRequest.{TsoRequest};
 ghost use Rattle.txn_kv.specs.declared.reply.Reply.TheVariants as reply;
-ghost use Rattle.txn_kv.specs.declared.reply.TsoResponse.{TsoResponse};
+ghost use Rattle.txn_kv.specs.declared.reply.cluster.TsoResponse.{TsoResponse};
 ghost use Rattle.txn_history.specs.Event.{Event, Has};
 ghost use Rattle.txn_history.specs.Event.Event.{Took};
 ghost use Rattle.txn_history.specs.Licence.{GivesTimestamp, WasGiven};

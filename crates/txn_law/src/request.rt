@@ -2,10 +2,10 @@ ghost use Rattle.std.specs.Prelude.{◌≡◌, ◌<◌, ◌≤◌, ℕ, true, fa
 ghost use Rattle.txn_kv.specs.declared.message.Mutation.{Mutation};
 ghost use Rattle.txn_kv.specs.declared.request.Request.{Request};
 ghost use Rattle.txn_kv.specs.declared.request.Request.TheVariants.{Prewrite, Tso as TsoAsked};
-ghost use Rattle.txn_kv.specs.declared.request.PrewriteRequest.{PrewriteRequest};
-ghost use Rattle.txn_kv.specs.declared.request.TsoRequest.{TsoRequest};
+ghost use Rattle.txn_kv.specs.declared.request.commits.PrewriteRequest.{PrewriteRequest};
+ghost use Rattle.txn_kv.specs.declared.request.cluster.TsoRequest.{TsoRequest};
 ghost use Rattle.txn_kv.specs.declared.reply.Reply.TheVariants.{Tso as TsoGiven};
-ghost use Rattle.txn_kv.specs.declared.reply.TsoResponse.{TsoResponse};
+ghost use Rattle.txn_kv.specs.declared.reply.cluster.TsoResponse.{TsoResponse};
 ghost use Rattle.txn_history.specs.Among.{IsAmong};
 ghost use Rattle.txn_history.specs.Licence.{IsWithoutError, GivesTimestamp};
 ghost use Rattle.txn_history.specs.Plan.{Key};

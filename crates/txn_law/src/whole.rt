@@ -1,13 +1,13 @@
 ghost use Rattle.std.specs.Prelude.{◌≡◌, ◌≢◌, ◌⊎◌, ◌<◌, ℕ, true, false, List, Some, None};
 ghost use Rattle.txn_kv.specs.declared.ticket.Ticket.{Ticket};
 ghost use Rattle.txn_kv.specs.declared.request.Request.TheVariants.{Commit, BatchRollback, PessimisticLock};
-ghost use Rattle.txn_kv.specs.declared.request.PessimisticLockRequest.{PessimisticLockRequest};
-ghost use Rattle.txn_kv.specs.declared.request.CommitRequest.{CommitRequest};
-ghost use Rattle.txn_kv.specs.declared.request.BatchRollbackRequest.{BatchRollbackRequest};
+ghost use Rattle.txn_kv.specs.declared.request.locks.PessimisticLockRequest.{PessimisticLockRequest};
+ghost use Rattle.txn_kv.specs.declared.request.commits.CommitRequest.{CommitRequest};
+ghost use Rattle.txn_kv.specs.declared.request.commits.BatchRollbackRequest.{BatchRollbackRequest};
 ghost use Rattle.txn_kv.specs.declared.reply.Reply.{Reply};
 ghost use Rattle.txn_kv.specs.declared.reply.Reply.TheVariants as reply;
-ghost use Rattle.txn_kv.specs.declared.reply.CommitResponse.{CommitResponse};
-ghost use Rattle.txn_kv.specs.declared.reply.BatchRollbackResponse.{BatchRollbackResponse};
+ghost use Rattle.txn_kv.specs.declared.reply.commits.CommitResponse.{CommitResponse};
+ghost use Rattle.txn_kv.specs.declared.reply.commits.BatchRollbackResponse.{BatchRollbackResponse};
 ghost use Rattle.txn_history.specs.Event.{Event, Has};
 ghost use Rattle.txn_history.specs.Event.Event.{Served, Took};
 ghost use Rattle.txn_history.specs.Licence.{IsWithoutError, WasDecided, WasNamed, WasOnePhase, WasSettled, PrimaryCommitted, PrimaryRolledBack};

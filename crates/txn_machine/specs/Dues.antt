@@ -2,7 +2,7 @@
 use Rattle.std.specs.Prelude.{◌≡◌, ◌⊎◌, ℕ, ◌≤◌, Bool, true, false, List, [], ◌∷◌, length, Some}
 use Rattle.std.proofs.Common.{suc}
 use Rattle.txn_kv.specs.declared.request.Request.TheVariants.{Tso}
-use Rattle.txn_kv.specs.declared.request.TsoRequest.{TsoRequest}
+use Rattle.txn_kv.specs.declared.request.cluster.TsoRequest.{TsoRequest}
 use Rattle.txn_kv.specs.declared.ticket.Ticket.{Ticket}
 use Rattle.txn_history.specs.Event.{Event, is_awaited, sent_request}
 use Rattle.txn_lines.specs.declared.line.Line.{Line}

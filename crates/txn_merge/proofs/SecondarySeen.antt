@@ -3,7 +3,7 @@ use Rattle.std.proofs.Common.{◌≡◌, ◌==◌, ℕ, max, Bool, true, false, 
 use Rattle.std.specs.Prelude.{◌||◌}
 use Rattle.std.specs.List.{list_any}
 use Rattle.std.proofs.lemmas.Bool.Decides.{nat_tests}
-use Rattle.txn_kv.specs.declared.reply.CheckSecondaryLocksResponse.{CheckSecondaryLocksResponse}
+use Rattle.txn_kv.specs.declared.reply.locks.CheckSecondaryLocksResponse.{CheckSecondaryLocksResponse}
 use Rattle.txn_merge.specs.Secondary.{after_reply, any_plain, bounds, finished, first_named, greatest, named_timestamp, nothing_seen, status_of}
 use Rattle.txn_merge.specs.declared.secondary_locks_status.Seen.{Seen}
 

@@ -4,9 +4,9 @@ use Rattle.std.specs.List.{flat_map}
 use Rattle.txn_kv.specs.declared.kvpair.KvPair.{KvPair}
 use Rattle.txn_kv.specs.declared.message.PbPair.{PbPair}
 use Rattle.txn_kv.specs.declared.message.LockInfo.{LockInfo}
-use Rattle.txn_kv.specs.declared.reply.BatchGetResponse.{BatchGetResponse}
-use Rattle.txn_kv.specs.declared.reply.ScanResponse.{ScanResponse}
-use Rattle.txn_kv.specs.declared.reply.ScanLockResponse.{ScanLockResponse}
+use Rattle.txn_kv.specs.declared.reply.reads.BatchGetResponse.{BatchGetResponse}
+use Rattle.txn_kv.specs.declared.reply.reads.ScanResponse.{ScanResponse}
+use Rattle.txn_kv.specs.declared.reply.locks.ScanLockResponse.{ScanLockResponse}
 
 -- a pair as a reply has it, without its error
 abbrev pub pair_of : PbPair → KvPair

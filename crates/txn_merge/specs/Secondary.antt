@@ -4,7 +4,7 @@ use Rattle.std.specs.List.{list_any}
 use Rattle.txn_kv.specs.Timestamp.{timestamp_of}
 use Rattle.txn_kv.specs.declared.errors.Error.{Error}
 use Rattle.txn_kv.specs.declared.message.LockInfo.{LockInfo}
-use Rattle.txn_kv.specs.declared.reply.CheckSecondaryLocksResponse.{CheckSecondaryLocksResponse}
+use Rattle.txn_kv.specs.declared.reply.locks.CheckSecondaryLocksResponse.{CheckSecondaryLocksResponse}
 use Rattle.txn_kv.specs.declared.timestamp.Timestamp.{Timestamp}
 use Rattle.txn_merge.specs.Gathered.{shape, values_of}
 use Rattle.txn_merge.specs.declared.secondary_locks_status.SecondaryLocksStatus.{SecondaryLocksStatus}

@@ -6,7 +6,7 @@ use Rattle.txn_kv.specs.declared.errors.Error.{Error}
 use Rattle.txn_kv.specs.ErrorView.{pessimistic, view_of}
 use Rattle.txn_kv.specs.declared.kvpair.KvPair.{KvPair}
 use Rattle.txn_kv.specs.declared.message.Mutation.{Mutation}
-use Rattle.txn_kv.specs.declared.reply.PessimisticLockResponse.{PessimisticLockResponse}
+use Rattle.txn_kv.specs.declared.reply.locks.PessimisticLockResponse.{PessimisticLockResponse}
 use Rattle.txn_merge.specs.Gathered.{errors_of, first, shape, values_of}
 use Rattle.txn_merge.specs.declared.response_with_shard.ResponseWithShard.{ResponseWithShard}
 

@@ -7,7 +7,7 @@ use Rattle.txn_kv.specs.declared.errors.Internal.TheVariants.{OddStatus}
 use Rattle.txn_kv.specs.declared.message.Action.{Action}
 use Rattle.txn_kv.specs.declared.message.Action.TheVariants.{NoAction, TtlExpireRollback, LockNotExistRollback, MinCommitTsPushed, TtlExpirePessimisticRollback, LockNotExistDoNothing}
 use Rattle.txn_kv.specs.declared.message.LockInfo.{LockInfo}
-use Rattle.txn_kv.specs.declared.reply.CheckTxnStatusResponse.{CheckTxnStatusResponse}
+use Rattle.txn_kv.specs.declared.reply.locks.CheckTxnStatusResponse.{CheckTxnStatusResponse}
 use Rattle.txn_kv.specs.declared.timestamp.Timestamp.{Timestamp}
 use Rattle.txn_merge.specs.declared.transaction_status.TransactionStatus.{TransactionStatus}
 use Rattle.txn_merge.specs.declared.transaction_status.TransactionStatusKind.{TransactionStatusKind}

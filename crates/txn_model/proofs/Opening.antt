@@ -5,7 +5,7 @@ use Rattle.std.proofs.lemmas.Bool.Decides.{nat_tests}
 use Rattle.txn_kv.specs.declared.message.KeyError.{KeyError}
 use Rattle.txn_kv.specs.declared.message.KeyError.TheVariants as errors
 use Rattle.txn_kv.specs.declared.message.Mutation.{Mutation}
-use Rattle.txn_kv.specs.declared.request.PrewriteRequest.{PrewriteRequest}
+use Rattle.txn_kv.specs.declared.request.commits.PrewriteRequest.{PrewriteRequest}
 use Rattle.txn_model.specs.declared.cell.Cell.{Cell}
 use Rattle.txn_model.specs.declared.cell.Lock.{Lock}
 use Rattle.txn_model.specs.declared.cell.Write.{Write}

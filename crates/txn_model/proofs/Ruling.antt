@@ -9,7 +9,7 @@ use Rattle.txn_model.specs.Changes.{made, made_by, all_made}
 use Rattle.txn_model.specs.Locks.{owns, holds}
 use Rattle.txn_model.specs.Rollback.{is_for_update_by}
 use Rattle.txn_model.specs.Rules.{changed_by, change_of, rolling_back, unlocking, goes_if}
-use Rattle.txn_kv.specs.declared.request.CheckTxnStatusRequest.{CheckTxnStatusRequest}
+use Rattle.txn_kv.specs.declared.request.locks.CheckTxnStatusRequest.{CheckTxnStatusRequest}
 use Rattle.txn_model.specs.Settle.{with_start, rolled_back, released}
 use Rattle.txn_model.specs.Status.{is_missing, Finding, Mismatched, Expired, Live, IsCommitted, IsRolledBack, Nothing, goes_unrecorded, status_cell}
 use Rattle.txn_model.specs.Statuses.{status_rule}

@@ -3,7 +3,7 @@ use Rattle.std.specs.Prelude.{ℕ, ◌&&◌, if◌then◌else◌, List, [], ◌�
 use Rattle.txn_kv.specs.declared.message.KeyError.{KeyError}
 use Rattle.txn_kv.specs.declared.message.KeyError.TheVariants.{TxnLockNotFound, CommitTsExpired}
 use Rattle.txn_kv.specs.declared.message.RegionErr.{RegionErr}
-use Rattle.txn_kv.specs.declared.request.CommitRequest.{CommitRequest}
+use Rattle.txn_kv.specs.declared.request.commits.CommitRequest.{CommitRequest}
 use Rattle.txn_kv.specs.declared.reply.Reply.TheVariants.{Commit}
 use Rattle.txn_model.specs.declared.cell.Cell.{Cell}
 use Rattle.txn_model.specs.declared.cell.Lock.{Lock}

@@ -1,6 +1,6 @@
 -- UnsafeDestroyRange: all that is kept of a range goes, whatever its regions are.
 use Rattle.std.specs.Prelude.{not, List, [], None, filter}
-use Rattle.txn_kv.specs.declared.request.UnsafeDestroyRangeRequest.{UnsafeDestroyRangeRequest}
+use Rattle.txn_kv.specs.declared.request.cluster.UnsafeDestroyRangeRequest.{UnsafeDestroyRangeRequest}
 use Rattle.txn_kv.specs.declared.reply.Reply.TheVariants.{UnsafeDestroyRange}
 use Rattle.txn_model.specs.declared.cell.Cell.{Cell}
 use Rattle.txn_model.specs.Cells.{Key}

@@ -1,6 +1,6 @@
 -- What a PessimisticLock makes ready at a key.
 use Rattle.std.specs.Prelude.{None}
-use Rattle.txn_kv.specs.declared.request.PessimisticLockRequest.{PessimisticLockRequest}
+use Rattle.txn_kv.specs.declared.request.locks.PessimisticLockRequest.{PessimisticLockRequest}
 use Rattle.txn_model.specs.declared.cell.Cell.{Cell}
 use Rattle.txn_model.specs.declared.change.Change.{Change}
 use Rattle.txn_model.specs.declared.change.LockChange.TheVariants.{Becomes}

@@ -9,14 +9,14 @@ use Rattle.txn_kv.specs.declared.message.RegionErr.{RegionErr}
 use Rattle.txn_kv.specs.declared.message.RegionErr.TheVariants.{NotLeader, RegionNotFound, EpochNotMatch}
 use Rattle.txn_kv.specs.declared.message.StoreMeta.{StoreMeta}
 use Rattle.txn_kv.specs.declared.message.StoreState.TheVariants.{Tombstone}
-use Rattle.txn_kv.specs.declared.request.GetRegionRequest.{GetRegionRequest}
-use Rattle.txn_kv.specs.declared.request.GetRegionByIdRequest.{GetRegionByIdRequest}
-use Rattle.txn_kv.specs.declared.request.GetStoreRequest.{GetStoreRequest}
-use Rattle.txn_kv.specs.declared.request.GetAllStoresRequest.{GetAllStoresRequest}
-use Rattle.txn_kv.specs.declared.request.UpdateGcSafePointRequest.{UpdateGcSafePointRequest}
-use Rattle.txn_kv.specs.declared.request.MembersRequest.{MembersRequest}
-use Rattle.txn_kv.specs.declared.request.TsoRequest.{TsoRequest}
-use Rattle.txn_kv.specs.declared.reply.GetRegionResponse.{GetRegionResponse}
+use Rattle.txn_kv.specs.declared.request.cluster.GetRegionRequest.{GetRegionRequest}
+use Rattle.txn_kv.specs.declared.request.cluster.GetRegionByIdRequest.{GetRegionByIdRequest}
+use Rattle.txn_kv.specs.declared.request.cluster.GetStoreRequest.{GetStoreRequest}
+use Rattle.txn_kv.specs.declared.request.cluster.GetAllStoresRequest.{GetAllStoresRequest}
+use Rattle.txn_kv.specs.declared.request.cluster.UpdateGcSafePointRequest.{UpdateGcSafePointRequest}
+use Rattle.txn_kv.specs.declared.request.cluster.MembersRequest.{MembersRequest}
+use Rattle.txn_kv.specs.declared.request.cluster.TsoRequest.{TsoRequest}
+use Rattle.txn_kv.specs.declared.reply.cluster.GetRegionResponse.{GetRegionResponse}
 use Rattle.txn_kv.specs.declared.reply.Reply.TheVariants.{GetRegion, GetRegionById, GetStore, GetAllStores, UpdateGcSafePoint, Tso, Members}
 use Rattle.txn_kv.specs.Codec.{encoded}
 use Rattle.txn_kv.specs.Timestamp.{timestamp_of}

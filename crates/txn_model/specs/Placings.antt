@@ -1,7 +1,7 @@
 -- What a prewrite makes ready before it changes a cell.
 use Rattle.std.specs.Prelude.{ℕ, ◌||◌, if◌then◌else◌, List, [], ◌∷◌, ◌++◌, Option, Some, None, is_some}
 use Rattle.txn_kv.specs.declared.message.Mutation.{Mutation}
-use Rattle.txn_kv.specs.declared.request.PrewriteRequest.{PrewriteRequest}
+use Rattle.txn_kv.specs.declared.request.commits.PrewriteRequest.{PrewriteRequest}
 use Rattle.txn_model.specs.declared.cell.Cell.{Cell}
 use Rattle.txn_model.specs.declared.cell.Kind.{Kind}
 use Rattle.txn_model.specs.declared.cell.Lock.{Lock}

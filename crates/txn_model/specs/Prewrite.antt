@@ -7,7 +7,7 @@ use Rattle.txn_kv.specs.declared.message.RegionErr.{RegionErr}
 use Rattle.txn_kv.specs.declared.message.Mutation.{Mutation}
 use Rattle.txn_kv.specs.declared.message.Op.{Op}
 use Rattle.txn_kv.specs.declared.message.Op.TheVariants.{Put, Del, Lock as LockOp, Rollback, Insert, PessimisticLock, CheckNotExists}
-use Rattle.txn_kv.specs.declared.request.PrewriteRequest.{PrewriteRequest}
+use Rattle.txn_kv.specs.declared.request.commits.PrewriteRequest.{PrewriteRequest}
 use Rattle.txn_kv.specs.declared.reply.Reply.TheVariants.{Prewrite}
 use Rattle.txn_model.specs.declared.cell.Cell.{Cell}
 use Rattle.txn_model.specs.declared.cell.Kind.{Kind}

@@ -4,10 +4,10 @@ use Rattle.std.specs.List.{filter_map}
 use Rattle.txn_kv.specs.declared.message.KeyError.TheVariants.{Locked}
 use Rattle.txn_kv.specs.declared.message.PbPair.{PbPair}
 use Rattle.txn_kv.specs.declared.message.RegionErr.{RegionErr}
-use Rattle.txn_kv.specs.declared.request.GetRequest.{GetRequest}
-use Rattle.txn_kv.specs.declared.request.BatchGetRequest.{BatchGetRequest}
-use Rattle.txn_kv.specs.declared.request.ScanRequest.{ScanRequest}
-use Rattle.txn_kv.specs.declared.reply.GetResponse.{GetResponse}
+use Rattle.txn_kv.specs.declared.request.reads.GetRequest.{GetRequest}
+use Rattle.txn_kv.specs.declared.request.reads.BatchGetRequest.{BatchGetRequest}
+use Rattle.txn_kv.specs.declared.request.reads.ScanRequest.{ScanRequest}
+use Rattle.txn_kv.specs.declared.reply.reads.GetResponse.{GetResponse}
 use Rattle.txn_kv.specs.declared.reply.Reply.TheVariants.{Get, BatchGet, Scan}
 use Rattle.txn_model.specs.declared.cell.Cell.{Cell}
 use Rattle.txn_model.specs.declared.cell.Lock.{Lock}

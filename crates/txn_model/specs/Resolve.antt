@@ -5,8 +5,8 @@ use Rattle.txn_kv.specs.declared.message.Context.{Context}
 use Rattle.txn_kv.specs.declared.message.LockInfo.{LockInfo}
 use Rattle.txn_kv.specs.declared.message.RegionErr.{RegionErr}
 use Rattle.txn_kv.specs.declared.message.TxnInfo.{TxnInfo}
-use Rattle.txn_kv.specs.declared.request.ResolveLockRequest.{ResolveLockRequest}
-use Rattle.txn_kv.specs.declared.request.ScanLockRequest.{ScanLockRequest}
+use Rattle.txn_kv.specs.declared.request.locks.ResolveLockRequest.{ResolveLockRequest}
+use Rattle.txn_kv.specs.declared.request.locks.ScanLockRequest.{ScanLockRequest}
 use Rattle.txn_kv.specs.declared.reply.Reply.TheVariants.{ResolveLock, ScanLock}
 use Rattle.txn_model.specs.declared.cell.Cell.{Cell}
 use Rattle.txn_model.specs.declared.cell.Lock.{Lock}

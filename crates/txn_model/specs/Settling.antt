@@ -1,7 +1,7 @@
 -- What a ResolveLock makes ready: the locks that become commits, and what becomes of the others.
 use Rattle.std.specs.Prelude.{Bool, ◌&&◌, if◌then◌else◌, List, [], ◌∷◌, ◌++◌, Option, Some, None, find, nat_eq, nat_lt}
 use Rattle.txn_kv.specs.declared.message.TxnInfo.{TxnInfo}
-use Rattle.txn_kv.specs.declared.request.ResolveLockRequest.{ResolveLockRequest}
+use Rattle.txn_kv.specs.declared.request.locks.ResolveLockRequest.{ResolveLockRequest}
 use Rattle.txn_model.specs.declared.cell.Cell.{Cell}
 use Rattle.txn_model.specs.declared.cell.Lock.{Lock}
 use Rattle.txn_model.specs.declared.change.Change.{Change}

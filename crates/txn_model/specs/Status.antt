@@ -6,10 +6,10 @@ use Rattle.txn_kv.specs.declared.message.Action.TheVariants.{NoAction, TtlExpire
 use Rattle.txn_kv.specs.declared.message.KeyError.TheVariants.{PrimaryMismatch, TxnNotFound}
 use Rattle.txn_kv.specs.declared.message.LockInfo.{LockInfo}
 use Rattle.txn_kv.specs.declared.message.RegionErr.{RegionErr}
-use Rattle.txn_kv.specs.declared.request.CheckTxnStatusRequest.{CheckTxnStatusRequest}
-use Rattle.txn_kv.specs.declared.request.CheckSecondaryLocksRequest.{CheckSecondaryLocksRequest}
-use Rattle.txn_kv.specs.declared.request.TxnHeartBeatRequest.{TxnHeartBeatRequest}
-use Rattle.txn_kv.specs.declared.reply.CheckTxnStatusResponse.{CheckTxnStatusResponse}
+use Rattle.txn_kv.specs.declared.request.locks.CheckTxnStatusRequest.{CheckTxnStatusRequest}
+use Rattle.txn_kv.specs.declared.request.locks.CheckSecondaryLocksRequest.{CheckSecondaryLocksRequest}
+use Rattle.txn_kv.specs.declared.request.commits.TxnHeartBeatRequest.{TxnHeartBeatRequest}
+use Rattle.txn_kv.specs.declared.reply.locks.CheckTxnStatusResponse.{CheckTxnStatusResponse}
 use Rattle.txn_kv.specs.declared.reply.Reply.TheVariants.{CheckTxnStatus, CheckSecondaryLocks, TxnHeartBeat}
 use Rattle.txn_model.specs.declared.cell.Cell.{Cell}
 use Rattle.txn_model.specs.declared.cell.Lock.{Lock}

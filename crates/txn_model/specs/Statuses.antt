@@ -1,6 +1,6 @@
 -- What a check of a start finds where the start holds a lock, and what becomes of the cell.
 use Rattle.std.specs.Prelude.{not, ◌&&◌, if◌then◌else◌}
-use Rattle.txn_kv.specs.declared.request.CheckTxnStatusRequest.{CheckTxnStatusRequest}
+use Rattle.txn_kv.specs.declared.request.locks.CheckTxnStatusRequest.{CheckTxnStatusRequest}
 use Rattle.txn_model.specs.declared.cell.Lock.{Lock}
 use Rattle.txn_model.specs.declared.rule.Rule.{Rule}
 use Rattle.txn_model.specs.declared.rule.Rule.TheVariants.{RollBack, Release, Stay}

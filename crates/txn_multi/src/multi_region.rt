@@ -9,10 +9,11 @@ ghost use Rattle.txn_history.specs.Turn.{turn_of, IfEnds, IfKept};
 ghost use Rattle.txn_history.specs.Turn.Turn.{Ends, Waits};
 ghost use Rattle.txn_multi.specs.Cutting.{cut_phase, ArePartsOf, IfParts};
 ghost use Rattle.txn_multi.specs.Multi.{multi, multi-lawful, multi_phase, tasks_for, AfterCut, AfterTasks, Begins, Holding, IsAnswer};
-ghost use Rattle.txn_multi.specs.MultiSteps.{MultiSteps};
+ghost use Rattle.txn_multi.specs.MultiSteps.{Takes};
 ghost use Rattle.txn_multi.specs.Task.{attempts_left};
 ghost use Rattle.txn_multi.specs.Touching.{FoundTouches, MultiTouches, TaskTouches, UnlessGone};
-ghost use Rattle.txn_history.specs.Arrivals.{arrives, MayArrive};
+ghost use Rattle.txn_multi.specs.declared.multi_stage.MultiStage.TheVariants as at;
+ghost use Rattle.txn_history.specs.Arrivals.{MayArrive};
 ghost use Rattle.txn_plan.specs.Touch.{touch};
 ghost use Rattle.txn_tasks.specs.Tasks.{tasks_phase, tasks_turn};
 
@@ -151,7 +152,7 @@ where
         requires running { cut_phase cutting.stage ≡ Running }
         requires numbers { HasNumbers out.old }
         requires clock { now < 2 ^ 44 }
-        ensures { MultiSteps P.meaning P.Result.key_errors_in P.Result.region_error_in P.IsPart P.load P.AreCut P.most (touch C.looked C.learns C.leads C.drops) (P.touches (touch C.looked C.learns C.leads C.drops)) (arrives arrival out.old) (record self.old { stage = MultiStage.Cutting cutting }) self.new out.old out.new pd.old pd.new (turn_of result) }
+        ensures { Takes P.meaning P.Result.key_errors_in P.Result.region_error_in P.IsPart P.load P.AreCut P.most P.touches (touch C.looked C.learns C.leads C.drops) arrival (at.Cutting cutting) self.old self.new out.old out.new pd.old pd.new result }
     {
         let mut cutting = cutting;
         let turn = cutting.tell(pd, now, arrival, out);
@@ -232,7 +233,7 @@ where
         requires arrives { MayArrive arrival }
         requires numbers { HasNumbers out.old }
         requires clock { now < 2 ^ 44 }
-        ensures { MultiSteps P.meaning P.Result.key_errors_in P.Result.region_error_in P.IsPart P.load P.AreCut P.most (touch C.looked C.learns C.leads C.drops) (P.touches (touch C.looked C.learns C.leads C.drops)) (arrives arrival out.old) (record self.old { stage = MultiStage.Running }) self.new out.old out.new pd.old pd.new (turn_of result) }
+        ensures { Takes P.meaning P.Result.key_errors_in P.Result.region_error_in P.IsPart P.load P.AreCut P.most P.touches (touch C.looked C.learns C.leads C.drops) arrival at.Running self.old self.new out.old out.new pd.old pd.new result }
     {
         let Some(tasks) = &mut self.tasks else {
             unreachable!()

@@ -8,9 +8,10 @@ ghost use Rattle.txn_history.specs.Turn.{IfEnds};
 ghost use Rattle.txn_kv.specs.declared.errors.Error.TheVariants.{GrpcAPI};
 ghost use Rattle.txn_multi.specs.Cutting.{cut_phase, ArePartsOf, IfParts, UnfoundIfErr};
 ghost use Rattle.txn_multi.specs.Task.{limit_of, owed, region_task, region_task-lawful, runs_running, shared, stage_phase, stage_runs, task_for, tried, CostsOver, GoesOnAt, GoesOver, HaveFailedBy, IsChanged, IsOutcome, IsReady, IsRefused, IsTaskOf, IsUnderWay, Limited, MayGoOn, TaskReady};
-ghost use Rattle.txn_multi.specs.TaskSteps.{TaskSteps};
+ghost use Rattle.txn_multi.specs.TaskSteps.{Takes};
 ghost use Rattle.txn_multi.specs.Touching.{change_after, IsHeeded, PlanTouches, TaskTouches};
-ghost use Rattle.txn_history.specs.Arrivals.{arrives, MayArrive};
+ghost use Rattle.txn_multi.specs.declared.stage.Stage.TheVariants as at;
+ghost use Rattle.txn_history.specs.Arrivals.{MayArrive};
 ghost use Rattle.txn_plan.specs.Touch.{touch};
 ghost use Rattle.txn_retry.specs.Remedy.{delay_ms, on_loss, on_region_error};
 ghost use Rattle.txn_tasks.specs.Step.{step_turn, IsEnd, Keeps};
@@ -118,7 +119,7 @@ where
         requires arrives { MayArrive arrival }
         requires numbers { HasNumbers out.old }
         requires clock { now < 2 ^ 44 }
-        ensures { TaskSteps P.meaning P.Result.key_errors_in P.Result.region_error_in P.IsPart P.load P.AreCut P.most (touch C.looked C.learns C.leads C.drops) (P.touches (touch C.looked C.learns C.leads C.drops)) (arrives arrival out.old) (record self.old { stage = Stage.Running plan }) self.new out.old out.new pd.old pd.new (step_turn result) }
+        ensures { Takes P.meaning P.Result.key_errors_in P.Result.region_error_in P.IsPart P.load P.AreCut P.most P.touches (touch C.looked C.learns C.leads C.drops) arrival (at.Running plan) self.old self.new out.old out.new pd.old pd.new result }
     {
         let mut plan = plan;
         match plan.tell(pd, now, arrival, out)? {
@@ -142,7 +143,7 @@ where
         requires stopped { self.old.stage ≡ Stage.Stopped }
         requires job { IsReady P.meaning self.old.job }
         requires numbers { HasNumbers out.old }
-        ensures { TaskSteps P.meaning P.Result.key_errors_in P.Result.region_error_in P.IsPart P.load P.AreCut P.most (touch C.looked C.learns C.leads C.drops) (P.touches (touch C.looked C.learns C.leads C.drops)) (arrives arrival out.old) (record self.old { stage = Stage.Sleeping number }) self.new out.old out.new pd.old pd.new (step_turn result) }
+        ensures { Takes P.meaning P.Result.key_errors_in P.Result.region_error_in P.IsPart P.load P.AreCut P.most P.touches (touch C.looked C.learns C.leads C.drops) arrival (at.Sleeping number) self.old self.new out.old out.new pd.old pd.new result }
     {
         if arrival.is_end_of(number) {
             drop(arrival);
@@ -167,7 +168,7 @@ where
         requires same { cutting.plan ≡ self.old.job }
         requires running { cut_phase cutting.stage ≡ Running }
         requires numbers { HasNumbers out.old }
-        ensures { TaskSteps P.meaning P.Result.key_errors_in P.Result.region_error_in P.IsPart P.load P.AreCut P.most (touch C.looked C.learns C.leads C.drops) (P.touches (touch C.looked C.learns C.leads C.drops)) (arrives arrival out.old) (record self.old { stage = Stage.Cutting cutting }) self.new out.old out.new pd.old pd.new (step_turn result) }
+        ensures { Takes P.meaning P.Result.key_errors_in P.Result.region_error_in P.IsPart P.load P.AreCut P.most P.touches (touch C.looked C.learns C.leads C.drops) arrival (at.Cutting cutting) self.old self.new out.old out.new pd.old pd.new result }
     {
         let mut cutting = cutting;
         match cutting.tell(pd, now, arrival, out)? {

@@ -12,14 +12,14 @@ use Rattle.txn_history.specs.Licence.{CommitLicence, IsLicensed, IsStuck, Primar
 use Rattle.txn_history.specs.Plan.{Key, key_eq, has_key, LocksKey, Plan, is_spread}
 use Rattle.txn_history.specs.Plan.Way.{TwoPhases}
 use Rattle.txn_kv.specs.declared.message.Mutation.{Mutation}
-use Rattle.txn_kv.specs.declared.request.BatchGetRequest.{BatchGetRequest}
-use Rattle.txn_kv.specs.declared.request.BatchRollbackRequest.{BatchRollbackRequest}
-use Rattle.txn_kv.specs.declared.request.CommitRequest.{CommitRequest}
-use Rattle.txn_kv.specs.declared.request.GetRequest.{GetRequest}
-use Rattle.txn_kv.specs.declared.request.PessimisticLockRequest.{PessimisticLockRequest}
-use Rattle.txn_kv.specs.declared.request.PessimisticRollbackRequest.{PessimisticRollbackRequest}
-use Rattle.txn_kv.specs.declared.request.PrewriteRequest.{PrewriteRequest}
-use Rattle.txn_kv.specs.declared.request.ScanRequest.{ScanRequest}
+use Rattle.txn_kv.specs.declared.request.reads.BatchGetRequest.{BatchGetRequest}
+use Rattle.txn_kv.specs.declared.request.commits.BatchRollbackRequest.{BatchRollbackRequest}
+use Rattle.txn_kv.specs.declared.request.commits.CommitRequest.{CommitRequest}
+use Rattle.txn_kv.specs.declared.request.reads.GetRequest.{GetRequest}
+use Rattle.txn_kv.specs.declared.request.locks.PessimisticLockRequest.{PessimisticLockRequest}
+use Rattle.txn_kv.specs.declared.request.locks.PessimisticRollbackRequest.{PessimisticRollbackRequest}
+use Rattle.txn_kv.specs.declared.request.commits.PrewriteRequest.{PrewriteRequest}
+use Rattle.txn_kv.specs.declared.request.reads.ScanRequest.{ScanRequest}
 use Rattle.txn_kv.specs.declared.request.Request.TheVariants.{Get, BatchGet, Scan, Prewrite, Commit, BatchRollback, PessimisticRollback, PessimisticLock}
 use Rattle.txn_region.specs.Regions.{key_cmp}
 use Rattle.txn_region.proofs.Order.{same_if_equal}

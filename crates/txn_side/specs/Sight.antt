@@ -5,7 +5,7 @@ use Rattle.std.proofs.Common.{zero, suc}
 use Rattle.txn_kv.specs.Timestamp.{version_of}
 use Rattle.txn_kv.specs.declared.reply.Reply.{Reply}
 use Rattle.txn_kv.specs.declared.reply.Reply.TheVariants as replies
-use Rattle.txn_kv.specs.declared.reply.TsoResponse.{TsoResponse}
+use Rattle.txn_kv.specs.declared.reply.cluster.TsoResponse.{TsoResponse}
 use Rattle.txn_kv.specs.declared.request.Request.{Request}
 use Rattle.txn_kv.specs.declared.request.Request.TheVariants.{Tso}
 use Rattle.txn_kv.specs.declared.ticket.Ticket.{Ticket}

@@ -4,9 +4,9 @@ use Rattle.std.specs.Prelude.{Result, Ok, Err}
 use Rattle.txn_kv.specs.Timestamp.{version_of}
 use Rattle.txn_kv.specs.declared.errors.Error.{Error}
 use Rattle.txn_kv.specs.declared.reply.Reply.TheVariants as reply
-use Rattle.txn_kv.specs.declared.reply.TsoResponse.{TsoResponse}
+use Rattle.txn_kv.specs.declared.reply.cluster.TsoResponse.{TsoResponse}
 use Rattle.txn_kv.specs.declared.request.Request.TheVariants.{Tso}
-use Rattle.txn_kv.specs.declared.request.TsoRequest.{TsoRequest}
+use Rattle.txn_kv.specs.declared.request.cluster.TsoRequest.{TsoRequest}
 use Rattle.txn_kv.specs.declared.ticket.Ticket.{Ticket}
 use Rattle.txn_kv.specs.declared.timestamp.Timestamp.{Timestamp}
 use Rattle.txn_history.specs.Among.{IsAmong}

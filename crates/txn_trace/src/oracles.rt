@@ -4,7 +4,7 @@ ghost use Rattle.txn_history.specs.Event.{Event, Has};
 ghost use Rattle.txn_history.specs.Event.Event.{Asked, Sent};
 ghost use Rattle.txn_history.specs.Posted.{Errand, after};
 ghost use Rattle.txn_kv.specs.declared.request.Request.TheVariants.{Tso};
-ghost use Rattle.txn_kv.specs.declared.request.TsoRequest.{TsoRequest};
+ghost use Rattle.txn_kv.specs.declared.request.cluster.TsoRequest.{TsoRequest};
 ghost use Rattle.txn_kv.specs.declared.ticket.Ticket.{Ticket};
 ghost use Rattle.txn_law.specs.Part.{IsPart};
 ghost use Rattle.txn_tso.specs.Oracle.{Oracle, askers_out, idle, next_request, with_next_group};

@@ -8,12 +8,12 @@ use Rattle.txn_kv.specs.declared.query.PdAnswer.TheVariants as answer
 use Rattle.txn_kv.specs.declared.query.PdQuery.{PdQuery}
 use Rattle.txn_kv.specs.declared.query.PdQuery.TheVariants.{Region, RegionId, Store, Stores, Time, Safepoint}
 use Rattle.txn_kv.specs.declared.region.RegionWithLeader.{RegionWithLeader}
-use Rattle.txn_kv.specs.declared.reply.GetAllStoresResponse.{GetAllStoresResponse}
-use Rattle.txn_kv.specs.declared.reply.GetRegionResponse.{GetRegionResponse}
-use Rattle.txn_kv.specs.declared.reply.GetStoreResponse.{GetStoreResponse}
+use Rattle.txn_kv.specs.declared.reply.cluster.GetAllStoresResponse.{GetAllStoresResponse}
+use Rattle.txn_kv.specs.declared.reply.cluster.GetRegionResponse.{GetRegionResponse}
+use Rattle.txn_kv.specs.declared.reply.cluster.GetStoreResponse.{GetStoreResponse}
 use Rattle.txn_kv.specs.declared.reply.Reply.{Reply}
 use Rattle.txn_kv.specs.declared.reply.Reply.TheVariants as reply
-use Rattle.txn_kv.specs.declared.reply.UpdateGcSafePointResponse.{UpdateGcSafePointResponse}
+use Rattle.txn_kv.specs.declared.reply.cluster.UpdateGcSafePointResponse.{UpdateGcSafePointResponse}
 use Rattle.txn_kv.specs.declared.request.Request.{Request}
 use Rattle.txn_kv.specs.declared.request.Request.TheVariants.{GetRegion, GetRegionById, GetStore, GetAllStores, UpdateGcSafePoint}
 use Rattle.txn_tso.specs.declared.pd_call.PdCall.{PdCall}

@@ -9,7 +9,7 @@ use Rattle.txn_kv.specs.declared.outbox.Errand.TheVariants.{Send, Sleep, Ask}
 use Rattle.txn_kv.specs.declared.query.PdAnswer.{PdAnswer}
 use Rattle.txn_kv.specs.declared.query.PdAnswer.TheVariants as answer
 use Rattle.txn_kv.specs.declared.query.PdQuery.{PdQuery}
-use Rattle.txn_kv.specs.declared.reply.MembersResponse.{MembersResponse}
+use Rattle.txn_kv.specs.declared.reply.cluster.MembersResponse.{MembersResponse}
 use Rattle.txn_kv.specs.declared.reply.Reply.{Reply}
 use Rattle.txn_kv.specs.declared.reply.Reply.TheVariants as reply
 use Rattle.txn_kv.specs.declared.request.Request.{Request}

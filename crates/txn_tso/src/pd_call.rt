@@ -1,6 +1,6 @@
 ghost use Rattle.std.specs.Prelude.{◌≡◌, ◌≢◌, ◌∷◌, None, Some, IfOk, is_err, true, false};
 ghost use Rattle.std.specs.Bool.{MatchBool};
-ghost use Rattle.txn_kv.specs.declared.reply.MembersResponse.{MembersResponse};
+ghost use Rattle.txn_kv.specs.declared.reply.cluster.MembersResponse.{MembersResponse};
 ghost use Rattle.txn_kv.specs.declared.errors.Error.TheVariants.{GrpcAPI};
 ghost use Rattle.txn_kv.specs.declared.request.Request.{Request as Asked};
 ghost use Rattle.txn_history.specs.Event.Event.{Took, Lost, Slept, Answered};

@@ -14,7 +14,7 @@ ghost use Rattle.txn_clients.specs.Groups.{IsRefused, IsTimeFor, IsTimed};
 ghost use Rattle.txn_clients.specs.Waiting.{AreRunning, EndsGroup, GoesOn, IsSound, RegroupsAt, SendsGroup, SendsOn, SetsTicket, Takes, book_at};
 ghost use Rattle.txn_commit.specs.Committing.{ways};
 ghost use Rattle.txn_kv.specs.declared.reply.Reply.TheVariants as replies;
-ghost use Rattle.txn_kv.specs.declared.reply.TsoResponse.{TsoResponse as Times};
+ghost use Rattle.txn_kv.specs.declared.reply.cluster.TsoResponse.{TsoResponse as Times};
 ghost use Rattle.txn_kv.specs.declared.request.Request.TheVariants.{Tso};
 ghost use Rattle.txn_kv.specs.declared.ticket.Ticket.{Ticket as Name};
 ghost use Rattle.txn_side.specs.Account.{AreClosed};

@@ -9,7 +9,7 @@ ghost use Rattle.txn_clients.specs.Waiting.{AsksOne, HandsOn, PostsOne, asks_of,
 ghost use Rattle.txn_history.specs.Posted.{HasNumbers};
 ghost use Rattle.txn_history.specs.Posted.{Errand as Wanted};
 ghost use Rattle.txn_kv.specs.declared.request.Request.TheVariants.{Tso};
-ghost use Rattle.txn_kv.specs.declared.request.TsoRequest.{TsoRequest as Asks};
+ghost use Rattle.txn_kv.specs.declared.request.cluster.TsoRequest.{TsoRequest as Asks};
 ghost use Rattle.txn_side.specs.Sight.{AskersAre, HasAskers, IsNext, is_live, line_count, next_at, ticket_in, with_next};
 ghost use Rattle.std.specs.List.{Any};
 ghost use Rattle.txn_side.specs.Trace.{IsSend};

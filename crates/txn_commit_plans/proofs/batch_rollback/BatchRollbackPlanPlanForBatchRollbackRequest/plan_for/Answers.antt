@@ -1,6 +1,6 @@
 use Rattle.std.proofs.Common.{ap, ◌∙◌}
-use Rattle.txn_kv.specs.declared.reply.BatchRollbackResponse.{BatchRollbackResponse}
-use Rattle.txn_kv.specs.declared.request.BatchRollbackRequest.{BatchRollbackRequest}
+use Rattle.txn_kv.specs.declared.reply.commits.BatchRollbackResponse.{BatchRollbackResponse}
+use Rattle.txn_kv.specs.declared.request.commits.BatchRollbackRequest.{BatchRollbackRequest}
 use Rattle.txn_plan.specs.declared.dispatch.Dispatch.{Dispatch}
 use Rattle.txn_commit.proofs.Stages.{same_options}
 use Rattle.txn_commit_plans.specs.Kinds.{RollbackPlan}

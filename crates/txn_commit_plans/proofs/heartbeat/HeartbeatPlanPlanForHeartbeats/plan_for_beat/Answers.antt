@@ -1,6 +1,6 @@
 use Rattle.std.proofs.Common.{ap, ◌∙◌}
-use Rattle.txn_kv.specs.declared.reply.TxnHeartBeatResponse.{TxnHeartBeatResponse}
-use Rattle.txn_kv.specs.declared.request.TxnHeartBeatRequest.{TxnHeartBeatRequest}
+use Rattle.txn_kv.specs.declared.reply.commits.TxnHeartBeatResponse.{TxnHeartBeatResponse}
+use Rattle.txn_kv.specs.declared.request.commits.TxnHeartBeatRequest.{TxnHeartBeatRequest}
 use Rattle.txn_plan.specs.declared.dispatch.Dispatch.{Dispatch}
 use Rattle.txn_commit_plans.specs.Kinds.{Beats, HeartbeatPlan}
 use Rattle.txn_commit_plans.proofs.Beating.{made_heartbeat}

@@ -1,6 +1,6 @@
 use Rattle.std.proofs.Common.{ap, ◌∙◌}
-use Rattle.txn_kv.specs.declared.reply.PrewriteResponse.{PrewriteResponse}
-use Rattle.txn_kv.specs.declared.request.PrewriteRequest.{PrewriteRequest}
+use Rattle.txn_kv.specs.declared.reply.commits.PrewriteResponse.{PrewriteResponse}
+use Rattle.txn_kv.specs.declared.request.commits.PrewriteRequest.{PrewriteRequest}
 use Rattle.txn_plan.specs.declared.dispatch.Dispatch.{Dispatch}
 use Rattle.txn_commit.proofs.Stages.{same_options}
 use Rattle.txn_commit_plans.specs.Kinds.{PrewritePlan}
