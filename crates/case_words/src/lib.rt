@@ -16,11 +16,13 @@
 //! row then prints another line than the one that it is compared with.
 #![tactic(auto)]
 
+pub mod fault;
 pub mod keyed;
 pub mod numbers;
 pub mod rows;
 pub mod words;
 
+pub use fault::Fault;
 pub use keyed::{bytes, key, key_or_none, keys, pair, pairs, value};
 pub use numbers::{flag, number, number_in, small};
 pub use rows::{Rows, run, say, show};

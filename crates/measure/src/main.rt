@@ -4,11 +4,10 @@
 //! - `regions REGIONS LOOKUPS`, and a fourth word `id` where ids are looked up.
 #![tactic(auto)]
 
-mod fault;
 mod regions;
 mod stores;
 
-use crate::fault::Fault;
+use case_words::Fault;
 use std::env;
 use std::process::ExitCode;
 

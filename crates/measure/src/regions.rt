@@ -1,5 +1,5 @@
 //! Looks keys or ids up in a region cache. It prints how many were found.
-use crate::fault::Fault;
+use case_words::Fault;
 use std::alloc::Global;
 use txn_kv::{Key, NoMemory, Region, RegionEpoch, RegionWithLeader, Result};
 use txn_region::{Look, RegionCache};

@@ -1,6 +1,6 @@
 //! Serves pairs of a Prewrite and a Commit to a model store, over half as many keys, and then as many Gets. It prints how many
 //! keys were committed and how many values were read.
-use crate::fault::Fault;
+use case_words::Fault;
 use std::alloc::Global;
 use txn_kv::{
     ApiVersion, Assertion, CommitRequest, Context, GetRequest, Items, Key, Mutation, NoMemory, Op,

@@ -27,7 +27,6 @@
 //! leaves is a line for each lock, commit and rolled start, and one for the numbers that are not 0.
 #![tactic(auto)]
 
-mod fault;
 mod locking;
 mod placing;
 mod reading;
@@ -37,7 +36,7 @@ mod shown;
 mod words;
 mod writing;
 
-use fault::Fault;
+use case_words::Fault;
 use session::Session;
 use std::process::ExitCode;
 use words::words;

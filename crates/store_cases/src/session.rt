@@ -2,7 +2,6 @@
 ghost use Rattle.std.specs.Prelude.{IfOk};
 ghost use Rattle.store_cases.specs.Serving.{IsServable};
 
-use crate::fault::Fault;
 use crate::locking::locking;
 use crate::placing::{moving, placing, timing};
 use crate::reading::reading;
@@ -10,6 +9,7 @@ use crate::settling::settling;
 use crate::shown::{ShownCell, ShownReply};
 use crate::words::{number, number_or_none, word};
 use crate::writing::writing;
+use case_words::Fault;
 use std::alloc::Global;
 use txn_kv::{ApiVersion, Context, Peer, RegionEpoch, Reply, Request};
 use txn_model::ModelStore;

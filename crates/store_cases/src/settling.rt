@@ -2,8 +2,8 @@
 ghost use Rattle.std.specs.Prelude.{IfOk};
 ghost use Rattle.store_cases.specs.Serving.{IsServable};
 
-use crate::fault::Fault;
 use crate::words::{has, infos, key, keys, number, word};
+use case_words::Fault;
 use std::alloc::Global;
 use txn_kv::{
     CheckSecondaryLocksRequest, CheckTxnStatusRequest, Context, Items, Request, ResolveLockRequest,

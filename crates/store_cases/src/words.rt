@@ -1,6 +1,6 @@
 //! The words of a line.
 
-use crate::fault::Fault;
+use case_words::Fault;
 use std::alloc::Global;
 use txn_kv::{Assertion, Items, Key, Mutation, NoMemory, Op, TxnInfo, Value};
 

@@ -2,8 +2,8 @@
 ghost use Rattle.std.specs.Prelude.{IfOk};
 ghost use Rattle.store_cases.specs.Serving.{IsServable};
 
-use crate::fault::Fault;
 use crate::words::{flags, key, keys, mutations, number, secondaries, word};
+use case_words::Fault;
 use std::alloc::Global;
 use txn_kv::{
     BatchRollbackRequest, CleanupRequest, CommitRequest, Context, PrewriteRequest, Request,

@@ -1,13 +1,15 @@
 use std::alloc::{AllocError, AllocFailed};
 use std::io;
-use txn_kv::NoMemory;
+use txn_kv::{Error, NoMemory};
 
-/// Why the program stops.
+/// Why a program stops.
 #[derive(Debug, Drop)]
 pub enum Fault {
-    /// A line is none of those that it knows.
+    /// A line or a word is none of those that it knows.
     Words,
     NoMemory,
+    /// What it tries or times answers this error.
+    Client(Error),
     Io(io::Error),
 }
 
@@ -32,5 +34,11 @@ impl<T: Drop> From<AllocFailed<T>> for Fault {
 impl From<io::Error> for Fault {
     fn from(error: io::Error) -> Fault {
         Fault::Io(error)
+    }
+}
+
+impl From<Error> for Fault {
+    fn from(error: Error) -> Fault {
+        Fault::Client(error)
     }
 }
