@@ -53,6 +53,3 @@ failed_below_fewer K line beat below (suc fewer) (suc n) l k = (k.0, k.1, k.2, k
 -- one more, under a number above theirs
 pub failed_below_one_more : (K : Heard → Type 0) (t : Ticket) (n : ℕ) → HasFailedAt K t → HaveFailedBelow K t.line t.beat t.number n → HaveFailedBelow K t.line t.beat (suc t.number) (suc n)
 failed_below_one_more K t n f k = (t, refl, refl, omega arith, f, k)
-
-pub spent_fewer : (K : Heard → Type 0) (fewer attempts : ℕ) → fewer ≤ attempts → IsSpent K attempts → IsSpent K fewer
-spent_fewer K fewer attempts l k = (k.0, k.1, k.2, failed_below_fewer K k.0 k.1 k.2 (suc fewer) (suc attempts) (omega (arith, l)) k.3)

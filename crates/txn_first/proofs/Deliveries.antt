@@ -1,5 +1,5 @@
 -- What the delivery of a reply makes of the row of the transaction, of what is out, and of the outcomes.
-use Rattle.std.proofs.Common.{◌≡◌, ◌≢◌, ℕ, suc, ◌-◌, ◌≤◌, inl, inr, Bool, true, false, List, [], ◌∷◌, ◌++◌, Option, Some, None, length, set, is_some, nat_eq, refl, sym, ap, ◌∙◌, subst, arith, length-append, length-set}
+use Rattle.std.proofs.Common.{◌≡◌, ◌≢◌, ℕ, suc, ◌-◌, ◌≤◌, inl, inr, Bool, true, false, List, [], ◌∷◌, ◌++◌, Some, None, length, set, is_some, nat_eq, refl, sym, ap, ◌∙◌, subst, arith, length-append, length-set}
 use Rattle.std.proofs.lemmas.Bool.Decides.{nat_tests}
 use Rattle.txn_kv.specs.declared.request.Request.{Request}
 use Rattle.txn_kv.specs.declared.reply.Reply.{Reply}
@@ -28,9 +28,6 @@ use Rattle.txn_first.proofs.Knowns.{times_open, times_set}
 use Rattle.txn_first.proofs.Lines.{line_within, row_same, row_other, row_put, outcome_same, outcome_other, good_few, one_begin, status_same, writes_same, status_ended}
 use Rattle.txn_first.proofs.Opens.{IsQuietLine, old_outcome, old_row, last_outcome, rowed_quiet}
 use Rattle.txn_first.proofs.Ones.{OtherRow, others_old, rowed_one, NoneOut, awaited_none, sent_is, awaited_sent, taken_none_out}
-
-same_running : (t u : Transaction) → ◌≡◌ {A = Option Row} (Some (Running t)) (Some (Running u)) → t ≡ u
-same_running t u e = cc
 
 module _ (es : List Event) (t : Ticket) (r : Request) (o : Reply) (ls : List Line) (store : Store) (rows : List Row) (outs : List Outcome) (ended : List ℕ)
     (good : why_after ls (Deliver t) ≡ None) (out : is_out es t ≡ true) (f : Fits es ls store rows outs ended) where

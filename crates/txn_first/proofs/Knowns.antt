@@ -26,9 +26,6 @@ known_late e n o h =
     at_false true = refl
     at_false false = refl
 
-known_zero : (n : ℕ) (o : Outcome) → known_of 0 n o ≡ Unfinished
-known_zero n o = refl
-
 known_unfinished : (e n : ℕ) → known_of e n Unfinished ≡ Unfinished
 known_unfinished e n = same (nat_lt 0 e && nat_lt e n)
   where

@@ -28,7 +28,7 @@ use Rattle.txn_first.specs.declared.transaction.Status.TheVariants.{Active, Star
 use Rattle.txn_first.specs.declared.transaction.Sending.{Sending}
 use Rattle.txn_first.specs.declared.transaction.Turn.{Turn}
 use Rattle.txn_first.specs.Posting.{position, places_of, place_in, note_of}
-use Rattle.txn_first.specs.Lists.{Lists, lists_of, opened, row_at, row_set, sent_by, ended_by, followed, next_of, ask_one, standing_in, written_in, puts_by, commit_starts, commits_by, handled, reply_at, start_in, begun, advanced, passed_in, passed, waits, delivers_at, stepped, IsSound}
+use Rattle.txn_first.specs.Lists.{Lists, lists_of, opened, row_at, row_set, sent_by, ended_by, followed, next_of, ask_one, standing_in, written_in, puts_by, commit_starts, commits_by, handled, reply_at, start_in, begun, advanced, passed_in, passed, waits, delivers_at, stepped}
 use Rattle.txn_first.specs.Commit.{turned, started}
 use Rattle.txn_first.specs.Script.{outcome_of, history, served_tickets}
 use Rattle.txn_first.specs.Rowed.{AllCame}
@@ -38,7 +38,6 @@ use Rattle.txn_first.specs.Causes.{Causes, Dues}
 use Rattle.txn_first.specs.Lawful.{AllGood, Lawful, IsMail}
 use Rattle.txn_first.specs.Whole.{AllFitCommits}
 use Rattle.txn_first.specs.Clean.{AllEndClean}
-use Rattle.txn_first.proofs.Lines.{good_few}
 use Rattle.txn_first.proofs.Opens.{IsQuietLine}
 use Rattle.txn_first.proofs.Stepped.{StandsSo, quiet_stands, next_is, begin_stands, put_stands, commit_stands}
 use Rattle.txn_first.proofs.Delivered.{deliver_stands}
@@ -137,23 +136,6 @@ stepped_stands es l (Deliver t) ls good s = deliver_stands es l ls t good s
 -- the events are those of the lines
 pub at_history : (es : List Event) (l : Lists) (lines : List Line) → StandsAt es l lines → StandsAt (history l.sent l.outcomes lines) l lines
 at_history es l lines s = subst (λ h. StandsAt h l lines) (sym s.mail.is) s
-
-pub sound_of : (es : List Event) (l : Lists) (lines : List Line) → StandsAt es l lines → IsSound l
-sound_of es l lines s = record {
-  even = record {
-    tickets = s.mail.rowed ∙ sym s.mail.told;
-    rows = s.fits.rowed.counted ∙ sym s.fits.told;
-    ended = s.fits.times.counted;
-    letters = s.mail.lettered;
-  };
-  asks = s.asks;
-  last = s.fits.lone.last;
-  clock = s.fits.lone.clock;
-  few = s.fits.lone.few;
-}
-
-pub few_of : (es : List Event) (l : Lists) (line : Line) (lines : List Line) → why_after lines line ≡ None → StandsAt es l lines → length l.outcomes < 65536
-few_of es l line lines good s = let a = good_few lines line good in let b = s.fits.told in omega arith
 
 -- The note of a step.
 
@@ -274,11 +256,6 @@ note_of_step es l l' ls line note s longer g n = record {
 }
 
 -- A step.
-
-pub step_requires : (m : Machine) (line : Line) (lines : List Line) → StandsFor m lines → why_after lines line ≡ None → HasMemory m → IsSound (lists_of m) × (length m.outcomes.items < 65536)
-step_requires m line lines s good h =
-    let at = (s.stands h).lists in
-    (sound_of (history m.post.sent.items m.outcomes.items lines) (lists_of m) lines at, few_of (history m.post.sent.items m.outcomes.items lines) (lists_of m) line lines good at)
 
 pub step_stands : (old new : Machine) (line : Line) (lines : List Line) → lists_of new ≡ stepped (lists_of old) line → ((ls : List Line) → old.kinds ≡ kinds_of ls → new.kinds ≡ kinds_of (line ∷ ls)) → why_after lines line ≡ None → StandsFor old lines → HasMemory old → StandsFor new (line ∷ lines)
 step_stands old new line lines is kinds good s h =

@@ -75,9 +75,6 @@ follow_posts l l' x q one most turn = over_posts l (sent_by l' x turn.send) x (s
 pub one_more : (l : Lists) (o : Outcome) → length (l.outcomes ++ o ∷ []) ≡ length l.outcomes + 1
 one_more l o = length-append l.outcomes (o ∷ [])
 
-opened_posts : (l : Lists) (row : Row) (o : Outcome) (e : ℕ) → Posts l (opened l row o e)
-opened_posts l row o e = inl (refl, refl)
-
 puts_posts : (l : Lists) (x : ℕ) (k v : List ℕ) (st : Option Status) → Posts l (puts_by st l x k v)
 puts_posts l x k v None = inl (refl, refl)
 puts_posts l x k v (Some Active) = by_row (row_at l.rows x)

@@ -18,7 +18,7 @@ use Rattle.txn_side.specs.declared.turn.Ending.{Ending}
 use Rattle.txn_side.specs.declared.turn.Posting.{Posting}
 use Rattle.txn_side.specs.declared.turn.Posting.TheVariants.{Send, Sleep}
 use Rattle.txn_heartbeats.specs.Beating.{AreBeats, AreFresh, IsLine, beat_ticket}
-use Rattle.txn_heartbeats.proofs.Lists.{front_rises, next_set, raised_rises}
+use Rattle.txn_heartbeats.proofs.Lists.{next_set, raised_rises}
 use Rattle.txn_heartbeats.proofs.Numbers.{AreCalls}
 
 two : true ≡ false → ⊥
@@ -43,13 +43,6 @@ fresh_call beats (Send t to r askers) h call fresh u q has beat = elim has [
 pub fresh_calls : (beats : List ℕ) (ps : List Posting) (h : List Event) → AreCalls ps → AreFresh beats h → AreFresh beats (with_postings ps h)
 fresh_calls beats [] h calls fresh = fresh
 fresh_calls beats (p ∷ ps) h calls fresh = fresh_calls beats ps (with_posting p h) calls.1 (fresh_call beats p h calls.0 fresh)
-
--- one line more
-pub fresh_opened : (beats : List ℕ) (h : List Event) → AreFresh beats h → AreFresh (beats ++ 1 ∷ []) h
-fresh_opened beats h fresh t r has beat =
-    let before = fresh t r has beat in
-    let rises = front_rises beats (1 ∷ []) t.line in
-    omega (arith, before, rises)
 
 fresh_raised : (line : ℕ) (from : List ℕ) (h : List Event) → IsLine from line → AreFresh from h → AreFresh (with_next from line) h
 fresh_raised line from h own fresh t r has beat =

@@ -75,10 +75,3 @@ raised_rises xs line n own = elim (cases_eq n line) [
   | inl same ↦ (let e = next_set xs line (next_at xs line + 1) own in subst (λ k. next_at xs k ≤ next_at (with_next xs line) k) (sym same) (omega (arith, e)))
   | inr apart ↦ (let e = next_other xs line n (next_at xs line + 1) own.first apart in omega (arith, e))
 ]
-
--- a list that is longer at its end
-pub front_rises : (xs ys : List ℕ) (n : ℕ) → next_at xs n ≤ next_at (xs ++ ys) n
-front_rises xs ys zero = omega arith
-front_rises [] ys (suc i) = omega arith
-front_rises (x ∷ xs) ys (suc zero) = omega arith
-front_rises (x ∷ xs) ys (suc (suc i)) = front_rises xs ys (suc i)

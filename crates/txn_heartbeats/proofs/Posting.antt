@@ -76,11 +76,6 @@ holds_so heart line from o p own e b timeless = holds_from heart line from p own
 
 -- what is left of it, as it is handed out
 
-pub timeless_then : (e : Errand) (es : List Errand) → AreTimeless (e ∷ []) → AreTimeless es → AreTimeless (e ∷ es)
-timeless_then (errands.Send k to r) es one rest = rest
-timeless_then (errands.Sleep k ms) es one rest = rest
-timeless_then (errands.Ask k) es one rest = absurd one
-
 -- what is posted so
 
 pub posts_so : (line : ℕ) (from to : List ℕ) (ps qs : List Posting) (p : Posted) → Holds line from p → qs ≡ ps ++ postings_of line p.sends → to ≡ set from (line - 1) p.next → PostsBeats line from ps qs to

@@ -1,12 +1,12 @@
 -- What calls rest on, and the accounts of transactions, where heartbeats post beside the calls.
-use Rattle.std.proofs.Common.{◌≡◌, inl, inr, ℕ, List, [], ◌++◌, length, Some, refl, sym, ap, ◌∙◌, subst, arith}
+use Rattle.std.proofs.Common.{◌≡◌, inl, inr, ℕ, List, [], ◌++◌, length, Some, refl, sym, ap, subst, arith}
 use Rattle.std.proofs.lemmas.List.Elements.{All-nil, All-weaker}
 use Rattle.std.specs.List.{All, Any}
 use Rattle.txn_history.specs.Event.{Event}
 use Rattle.txn_kv.specs.declared.request.Request.{Request}
 use Rattle.txn_kv.specs.declared.ticket.Ticket.{Ticket}
-use Rattle.txn_side.specs.Account.{Account, AreClosed, MayTakeIn, TakesIn, after_endings, awaited_line, closed}
-use Rattle.txn_side.specs.Sight.{Sight, Stand, stand_at}
+use Rattle.txn_side.specs.Account.{Account, closed}
+use Rattle.txn_side.specs.Sight.{Sight, Stand}
 use Rattle.txn_side.specs.Sight.Stand.{Asking, Calling, HasBegun, Idle, IsClient, Past, Working}
 use Rattle.txn_side.specs.Trace.{ActsOn, EndsFor, HasCome, HowCallsFail, IsLonger, IsSend, RestsOn, StillRests, Trace, fails_longer, with_posted}
 use Rattle.txn_lines.specs.declared.act.Act.{Act}
@@ -74,9 +74,6 @@ come_beside before t s beats u event came = record { now = came.now; told = came
 
 -- The accounts
 
-pub takes_then : (act : Act) (x newest : ℕ) (old new : ℕ → Account) (turn later : Turn) → later.ended ≡ turn.ended → MayTakeIn act x newest old new (Some turn) → MayTakeIn act x newest old new (Some later)
-takes_then act x newest old new turn later ended takes = subst (λ v. TakesIn act x newest old new v.items) (sym ended) takes
-
 closed_none : (x : Stand) (account : Account) → closed x [] account ≡ account
 closed_none Idle account = refl
 closed_none (IsClient c) account = refl
@@ -85,6 +82,3 @@ closed_none (HasBegun c m) account = refl
 closed_none (Calling c x b) account = refl
 closed_none (Past c) account = refl
 closed_none (Working c) account = refl
-
-pub closed_deaf : (s : Sight) (es : List Ending) (old new : ℕ → Account) → es ≡ [] → ((n : ℕ) → new n ≡ old n) → AreClosed s es old new
-closed_deaf s es old new none same n = subst (λ fs. new n ≡ after_endings s fs n (old n)) (sym none) (same n ∙ sym (closed_none (stand_at s.stands (awaited_line (stand_at s.stands n))) (old n)))

@@ -8,7 +8,7 @@ use Rattle.txn_kv.specs.declared.reply.Reply.{Reply}
 use Rattle.txn_kv.specs.declared.ticket.Ticket.{Ticket}
 use Rattle.txn_side.specs.Sight.{Acts, Asks, AskersAre, EndsAlone, Goes, IsAsk, IsGiven, LineGoes, Names, NoneGiven, Sight, Stand, client_at, commits, is_free, is_live, line_count, lives, stand_at, ticket_in, with_stand}
 use Rattle.txn_side.specs.Sight.Stand.{Asking, Calling, HasBegun, Idle, IsClient, Past, Working}
-use Rattle.txn_side.specs.Waiting.{Awaited, HearsEnd, HearsReply, WaitsOn}
+use Rattle.txn_side.specs.Waiting.{Awaited, WaitsOn}
 use Rattle.txn_side.specs.Waiting.Awaited.{ReplyTo}
 use Rattle.txn_lines.specs.declared.act.Act.{Act}
 use Rattle.txn_side.specs.declared.turn.Ending.{Ending}
@@ -56,9 +56,6 @@ module _ (beats : List ℕ) where
     a.4,
     a.5,
   )
-
-pub waits_beside : (Hears : ℕ → Awaited → Type 0) (posted : List Posting) (was is : ℕ → Awaited → Type 0) (s t : Sight) (old new : List ℕ) → WaitsOn Hears posted was is s t → WaitsOn Hears posted was is (with_beats old s) (with_beats new t)
-waits_beside Hears posted was is s t old new w = record { lines = w.lines; groups = w.groups }
 
 given_one : (s : Sight) (beats : List ℕ) (t : Ticket) (o : Reply) (line version : ℕ) → IsGiven s t o line version → IsGiven (with_beats beats s) t o line version
 given_one s beats t o line version g = record { group = g.group; out = g.out; ticket = g.ticket; gives = g.gives }
@@ -163,9 +160,3 @@ waits_longer Hears ps qs was is s t old new w = record {
 -- what comes for a heartbeat is waited for by no call
 waits_deaf : (Hears : ℕ → Awaited → Type 0) (ps : List Posting) (was is : ℕ → Awaited → Type 0) (s : Sight) (old new : List ℕ) → ((n : ℕ) (a : Awaited) → Hears n a → ⊥) → ((n : ℕ) (a : Awaited) → is n a → was n a) → WaitsOn Hears ps was is (with_beats old s) (with_beats new s)
 waits_deaf Hears ps was is s old new deaf still = record { lines = λ n a x. inl (still n a x, deaf n a); groups = λ g out. inl (out, deaf g.ticket.line (ReplyTo g.ticket.number)) }
-
-pub waits_unreplied : (t : Ticket) (ps : List Posting) (was is : ℕ → Awaited → Type 0) (s : Sight) (old new : List ℕ) → t.beat ≡ true → ((n : ℕ) (a : Awaited) → is n a → was n a) → WaitsOn (HearsReply t) ps was is (with_beats old s) (with_beats new s)
-waits_unreplied t ps was is s old new beat still = waits_deaf (HearsReply t) ps was is s old new (λ n a h. two (sym beat ∙ h.0)) still
-
-pub waits_unended : (t : Ticket) (ps : List Posting) (was is : ℕ → Awaited → Type 0) (s : Sight) (old new : List ℕ) → t.beat ≡ true → ((n : ℕ) (a : Awaited) → is n a → was n a) → WaitsOn (HearsEnd t) ps was is (with_beats old s) (with_beats new s)
-waits_unended t ps was is s old new beat still = waits_deaf (HearsEnd t) ps was is s old new (λ n a h. two (sym beat ∙ h.0)) still

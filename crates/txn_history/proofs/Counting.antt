@@ -203,22 +203,6 @@ Spends-before {round} {round'} {bad} {fails} {weight} {from} {via} {to} {kept} {
   stopped_rests = let x = s.stopped_rests in omega arith;
 }
 
--- the call may fail for more
-pub Spends-fails : {was is : ℕ → Type 0} {before after round : ℕ → ℕ} {bad fails fails' : Bool} {weight locked width width' : ℕ}
-    {from to : Posted} {kept failed : Bool}
-    → (fails ≡ true → fails' ≡ true)
-    → Spends was is before after round bad fails weight locked width width' from to kept failed
-    → Spends was is before after round bad fails' weight locked width width' from to kept failed
-Spends-fails {fails} {fails'} {failed} f s = record {
-  wider = s.wider;
-  bears = s.bears;
-  allowed = λ e g. f (s.allowed e g);
-  spends = s.spends;
-  stopped = s.stopped;
-  rests = λ e. let x = s.rests e in let y = spare-more fails fails' failed 1 f in omega arith;
-  stopped_rests = let x = s.stopped_rests in let y = spare-more fails fails' false 1 f in omega arith;
-}
-
 -- the call gives up, and posts nothing but a sleep
 pub Spends-failed : {was is : ℕ → Type 0} {before after round : ℕ → ℕ} {bad fails : Bool} {weight locked width width' : ℕ}
     {from to : Posted} {kept failed : Bool}

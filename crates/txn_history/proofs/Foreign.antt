@@ -1,5 +1,5 @@
 -- What a client may send for others it may send later too, and it has its licence, whatever its own transactions mean to write.
-use Rattle.std.proofs.Common.{◌≡◌, inl, inr, ℕ, List}
+use Rattle.std.proofs.Common.{inl, inr, ℕ, List}
 use Rattle.txn_kv.specs.declared.message.TxnInfo.{TxnInfo}
 use Rattle.txn_kv.specs.declared.message.LockInfo.{LockInfo}
 use Rattle.txn_kv.specs.declared.request.locks.CheckTxnStatusRequest.{CheckTxnStatusRequest}
@@ -119,36 +119,3 @@ foreign_licensed h (GetAllStores r) f plans = tt
 foreign_licensed h (UpdateGcSafePoint r) f plans = absurd f
 foreign_licensed h (Tso r) f plans = tt
 foreign_licensed h (Members r) f plans = tt
-
--- it is a request of none of these kinds
-abbrev pub IsBesideOwn : Request → Type 0
-IsBesideOwn (Prewrite r) = ⊥
-IsBesideOwn (Commit r) = ⊥
-IsBesideOwn (BatchRollback r) = ⊥
-IsBesideOwn (PessimisticLock r) = ⊥
-IsBesideOwn (UnsafeDestroyRange r) = ⊥
-IsBesideOwn _ = Unit {0}
-
-pub foreign_beside : (h : List Event) (r : Request) → IsForeign h r → IsBesideOwn r
-foreign_beside h (Get r) f = tt
-foreign_beside h (BatchGet r) f = tt
-foreign_beside h (Scan r) f = tt
-foreign_beside h (Prewrite r) f = f
-foreign_beside h (Commit r) f = f
-foreign_beside h (Cleanup r) f = tt
-foreign_beside h (BatchRollback r) f = f
-foreign_beside h (PessimisticRollback r) f = tt
-foreign_beside h (PessimisticLock r) f = f
-foreign_beside h (ResolveLock r) f = tt
-foreign_beside h (ScanLock r) f = tt
-foreign_beside h (TxnHeartBeat r) f = tt
-foreign_beside h (CheckTxnStatus r) f = tt
-foreign_beside h (CheckSecondaryLocks r) f = tt
-foreign_beside h (UnsafeDestroyRange r) f = f
-foreign_beside h (GetRegion r) f = tt
-foreign_beside h (GetRegionById r) f = tt
-foreign_beside h (GetStore r) f = tt
-foreign_beside h (GetAllStores r) f = tt
-foreign_beside h (UpdateGcSafePoint r) f = absurd f
-foreign_beside h (Tso r) f = tt
-foreign_beside h (Members r) f = tt

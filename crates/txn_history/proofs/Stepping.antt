@@ -1,24 +1,22 @@
 -- The ways in which an event call does what it is to do.
-use Rattle.std.proofs.Common.{◌≡◌, ◌≢◌, ℕ, ◌+◌, ◌≤◌, Bool, true, List, [], ◌∷◌, ◌++◌, refl, ap, arith}
+use Rattle.std.proofs.Common.{◌≡◌, ℕ, ◌+◌, ◌≤◌, Bool, true, [], ◌∷◌, ◌++◌, refl, ap, arith}
 use Rattle.std.proofs.Math.Nat.{le_refl}
 use Rattle.std.proofs.lemmas.Bool.{false≢true}
 use Rattle.txn_kv.specs.declared.outbox.Errand.TheVariants.{Send}
 use Rattle.txn_kv.specs.declared.request.Request.{Request}
 use Rattle.txn_kv.specs.declared.ticket.Target.TheVariants.{Store}
 use Rattle.txn_history.specs.Around.{around, IsRead}
-use Rattle.txn_history.specs.Event.{Event}
 use Rattle.txn_history.specs.Meaning.{Counts, Goes, IsLawful, Meaning, Told}
-use Rattle.txn_history.specs.Moves.{SameJob}
 use Rattle.txn_history.specs.Phase.{Awaited, Phase, phase_after, unheard}
 use Rattle.txn_history.specs.Phase.Phase.{Fresh, Running, Over, GivenUp}
 use Rattle.txn_history.specs.Posted.{HasNumbers, Posted}
 use Rattle.txn_history.specs.Spends.{calls, sleeps}
-use Rattle.txn_history.specs.Turn.{failing, is_kept, Turn}
-use Rattle.txn_history.specs.Turn.Turn.{Stopped, Waits}
+use Rattle.txn_history.specs.Turn.{failing, Turn}
+use Rattle.txn_history.specs.Turn.Turn.{Waits}
 use Rattle.txn_history.proofs.Around.{Counts-around, Goes-around, Tells-around}
 use Rattle.txn_history.proofs.Counting.{calls-more, sleeps-more}
-use Rattle.txn_history.proofs.Telling.{Counts-then, Goes-then, Tells-idle, Tells-then}
-use Rattle.txn_history.specs.Steps.{IsCallable, News, Steps, StepsOn}
+use Rattle.txn_history.proofs.Telling.{Tells-idle}
+use Rattle.txn_history.specs.Steps.{News, Steps}
 
 -- nothing is posted
 pub Counts-quiet : {S A : Type 0} {m : Meaning S A} {bad fails : Bool} {weight locked : ℕ} {old new : S} {o : Posted} {turn : Turn A}
@@ -130,29 +128,4 @@ Steps-around m inner reads more fails touches {old = old} {turn = turn} w i s = 
   client = s.client;
   ready = (s.ready, w.called);
   numbers = s.numbers;
-}
-
--- what a wrapper needs of its caller
-pub callable : {S T A B : Type 0} (m : Meaning S A) (inner : T → S) (reads : T → A → B → Type 0) (more : T → Type 0) (fails : B → Bool) {s : T} {o : Posted} {now : ℕ}
-    → IsCallable (around m inner reads more fails) s o now → IsCallable m (inner s) o now
-callable m inner reads more fails c = record { ready = c.ready.0; numbers = c.numbers; clock = c.clock }
-
--- One step after another of the same state, which may rest on the answer of the first.
-pub Steps-then : {S A B C : Type 0} {m : Meaning S B} {touches : Told → Posted → S → S → C → C → Type 0} {news : News} {old mid new : S} {from via to : Posted} {pd pd' pd'' : C}
-    {gives : List Event → A → Type 0} {fails : A → Bool} {p : Turn A} {turn : Turn B}
-    → (news.fails ≡ true → news.bad ≡ true)
-    → p ≢ Stopped
-    → Steps (record { fits = m.fits; asks = m.asks; gives = λ s h v. gives h v; phase = m.phase; waits = m.waits; ready = m.ready; round = m.round; left = m.left; width = m.width; bears = m.bears; fails = fails }) touches news old mid from via pd pd' p
-    → SameJob m.asks m.gives mid old
-    → is_kept p ≡ true
-    → StepsOn m gives (failing fails p) p mid new via to pd' pd'' turn
-    → ((r : Request) → touches (news.told r) from old new pd pd'')
-    → Steps m touches news old new from to pd pd'' turn
-Steps-then {m = m} {p = p} worse kept s job k t client = record {
-  tells = λ r. Tells-then kept (s.tells r).moves job (s.tells r).expects t.tells;
-  goes = Goes-then p kept s.goes t.goes;
-  counts = Counts-then worse (rw k at s.counts.spends) s.counts.fewer t.counts;
-  client = client;
-  ready = t.ready;
-  numbers = t.numbers;
 }

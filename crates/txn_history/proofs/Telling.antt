@@ -220,13 +220,6 @@ Goes-ended {phase = phase} {old = old} {new = new} (Ends a) t e = over (phase ne
     over Over n = refl
     over GivenUp n = absurd (n (λ (q : GivenUp ≡ Over). cc))
 
--- what is known before may say more
-pub Tells-before : {S A : Type 0} {m : Meaning S A} {known more : List Event → Type 0} {old new : S} {from to : Posted} {turn : Turn A}
-    → ((h : List Event) → more h → known h)
-    → Tells m (further known) old new from to turn
-    → Tells m (further more) old new from to turn
-Tells-before w t = record { moves = Moves-before (λ h f. (f.0, w h f.1)) t.moves; job = t.job; expects = t.expects }
-
 -- an error of the region is an error
 pub region_error_is_error : (o : Reply) → has_region_error o ≡ true → has_error o ≡ true
 region_error_is_error o e = rw e refl

@@ -81,6 +81,3 @@ IfEnds-weaker (Ends v) w d = w v d
 
 pub IfEnds-stopped : {A : Type 0} (t : Turn A) (P : A → Type 0) → t ≡ Stopped → IfEnds t P
 IfEnds-stopped t P e = rw e tt
-
-pub IfEnds-at : {A : Type 0} {t : Turn A} {v : A} (P : A → Type 0) → t ≡ Ends v → IfEnds t P → P v
-IfEnds-at P e d = rw e at d

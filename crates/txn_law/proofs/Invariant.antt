@@ -29,8 +29,7 @@ use Rattle.txn_law.proofs.Phases.{Phase, phase, Move, IsSound}
 use Rattle.txn_law.proofs.Phases.Phase.{Locked, Committed}
 use Rattle.txn_law.proofs.Phases.Move.{Locks, Commits, Rolls}
 use Rattle.txn_law.proofs.Coherent.{IsDecidedAt, Warrant, Coherent, warrant_more}
-use Rattle.txn_law.proofs.Spread.{IsSettled, IsLost, Walk, ToldBound, one_decision, settled_whole}
-use Rattle.txn_law.proofs.Spread.Walk.{Rests}
+use Rattle.txn_law.proofs.Spread.{IsSettled, IsLost, ToldBound, one_decision, settled_whole}
 use Rattle.txn_law.proofs.Moves.{May}
 use Rattle.txn_law.proofs.Paths.{Stays, GoesOn, LandsAll}
 use Rattle.txn_law.proofs.Bounds.{bounds}

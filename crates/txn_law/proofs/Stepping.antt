@@ -21,7 +21,7 @@ use Rattle.txn_law.proofs.Phases.Phase.{Free, Locked, Committed, RolledBack}
 use Rattle.txn_law.proofs.Phases.Move.{Locks, Commits, Rolls}
 use Rattle.txn_law.proofs.Coherent.{Change, coherent_more, warrant_more}
 use Rattle.txn_law.proofs.Replies.{committed_phase, phases, DecidedIn, DecidedBy}
-use Rattle.txn_law.proofs.Spread.{IsSettled, IsLost, Walk}
+use Rattle.txn_law.proofs.Spread.{Walk}
 use Rattle.txn_law.proofs.Spread.Walk.{Rests, Binds, Ends, Misses, Undoes}
 use Rattle.txn_law.proofs.Moves.{May, CellStep, RowStep, bound_in, sound_after, may_lock}
 use Rattle.txn_law.proofs.Rows.{row}

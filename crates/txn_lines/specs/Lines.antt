@@ -2,7 +2,7 @@
 use Rattle.std.specs.Prelude.{ℕ, ◌+◌, Bool, true, false, ◌&&◌, ◌==◌, if◌then◌else◌, List, [], ◌∷◌, length, Option, Some, None, nat_eq, nat_le, nat_lt}
 use Rattle.txn_lines.specs.Deeds.{begins, deed_of}
 use Rattle.txn_lines.specs.declared.deed.Deed.{Deed}
-use Rattle.txn_lines.specs.declared.deed.Deed.TheVariants.{Ask, Connect, Happens, Nothing, Use}
+use Rattle.txn_lines.specs.declared.deed.Deed.TheVariants.{Ask, Connect, Happens, Use}
 use Rattle.txn_lines.specs.declared.happening.Happening.TheVariants.{Clock, Crash, Split}
 use Rattle.txn_lines.specs.declared.line.Line.{Line}
 use Rattle.txn_lines.specs.declared.line_kinds.LineKind.{LineKind}

@@ -9,9 +9,8 @@ use Rattle.txn_lines.specs.declared.deed.Deed.TheVariants as deeds
 use Rattle.txn_lines.specs.declared.line.Line.{Line}
 use Rattle.txn_report.specs.declared.outcome.Outcome.{Outcome}
 use Rattle.txn_report.specs.declared.outcome.Outcome.TheVariants.{Done, Err, Ok, Skipped, Unfinished}
-use Rattle.txn_report.specs.declared.outcome.Payload.TheVariants.{Unit as Nothing, Number, Commit as Committed}
-use Rattle.txn_side.specs.Account.{Account, Status, after_act, awaited_line, closed_by, is_write, made_by, refusal, rolled_by, unless_refused}
-use Rattle.txn_side.specs.Account.Status.{StartedRollback}
+use Rattle.txn_report.specs.declared.outcome.Payload.TheVariants.{Unit as Nothing}
+use Rattle.txn_side.specs.Account.{Account, after_act, awaited_line, closed_by, is_write, made_by, refusal, unless_refused}
 use Rattle.txn_side.specs.Sight.{Stand, commits}
 use Rattle.txn_side.specs.Sight.Stand.{Asking, Calling, HasBegun, Idle, IsClient, Past, Working}
 use Rattle.txn_lines.specs.declared.act.Act.{Act}

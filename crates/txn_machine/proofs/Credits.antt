@@ -8,7 +8,7 @@ use Rattle.txn_lines.specs.declared.deed.Deed.{Deed}
 use Rattle.txn_report.specs.declared.outcome.Outcome.{Outcome}
 use Rattle.txn_report.specs.declared.outcome.Outcome.TheVariants.{Done, Err, Ok, Skipped, Unfinished}
 use Rattle.txn_report.specs.declared.outcome.Payload.TheVariants.{Unit as Nothing}
-use Rattle.txn_side.specs.Account.{Account, AnswersAtOnce, AreKept, MayTakeIn, TakesIn, after_act, after_endings, awaited_line, come_to, made_by, refusal, unless_refused}
+use Rattle.txn_side.specs.Account.{Account, AnswersAtOnce, AreKept, MayTakeIn, TakesIn, after_act, after_endings, awaited_line, come_to, refusal, unless_refused}
 use Rattle.txn_side.specs.Account as sides
 use Rattle.txn_side.specs.Sight.{Sight, Stand, outcomes_of, stand_at}
 use Rattle.txn_side.specs.Sight.Stand.{Asking, Calling, HasBegun, Idle, IsClient, Past, Working}

@@ -1,5 +1,5 @@
 -- A machine stands for its lines, and for one more after each step.
-use Rattle.std.proofs.Common.{◌≡◌, ℕ, zero, suc, ◌+◌, ◌^◌, ◌<◌, ◌≤◌, inl, inr, Bool, true, false, if◌then◌else◌, List, [], ◌∷◌, Option, Some, None, length, reverse, nat_le, nat_lt, refl, sym, ap, ◌∙◌, subst, arith}
+use Rattle.std.proofs.Common.{◌≡◌, ℕ, zero, suc, ◌+◌, ◌^◌, ◌<◌, ◌≤◌, inl, inr, Bool, true, false, if◌then◌else◌, List, [], ◌∷◌, Option, Some, None, length, nat_le, nat_lt, refl, sym, ap, ◌∙◌, subst, arith}
 use Rattle.std.proofs.lemmas.Bool.Decides.{nat_tests}
 use Rattle.txn_lines.specs.Kinds.{kinds_of}
 use Rattle.txn_lines.specs.Lines.{clients_in, clock_in, max_clock, max_lines, named_by, or_else, why_after, why_alone, why_by, why_clock, why_named}
@@ -28,8 +28,7 @@ use Rattle.txn_machine.specs.Steps.{Does, Steps}
 use Rattle.txn_machine.specs.Times.{AllTimed, AreApart, Timely, TimesLines}
 use Rattle.txn_machine.specs.Told.{ArePast}
 use Rattle.txn_machine.specs.declared.machine.Machine.{Machine}
-use Rattle.txn_machine.specs.Script.{FoldsLines, Folded, history, outcome_of, served_tickets, waits}
-use Rattle.txn_law.specs.Run.{store_after}
+use Rattle.txn_machine.specs.Script.{Folded, history, outcome_of, waits}
 use Rattle.txn_machine.proofs.Keepings.{caused_step, timely_step}
 use Rattle.txn_machine.proofs.Coming.{none_in_order}
 use Rattle.txn_machine.proofs.Due.{due_step}
@@ -224,15 +223,6 @@ pub step_lists : (line : Line) (deed : Deed) (old start over new : Lists) (done 
 step_lists line deed old start over new done is a b c = subst (λ d. Does d (opened old) new) is (subst (λ x. Does deed (opened old) x) (sym c) (subst (λ x. Does deed x (closed done over)) a b))
 
 -- The report.
-
-pub report_folds : (l : Lists) (report : Report) (script : List Line) → IsReportOf l report → Folded script l → FoldsLines script report
-report_folds l report script r f = record {
-  store = r.store ∙ f.folds.store ∙ ap (λ es. store_after es) same;
-  served = r.served ∙ f.folds.served ∙ ap (λ es. reverse (served_tickets es)) same;
-}
-  where
-    same : history l.mail.sent l.outcomes script ≡ history report.sent report.outcomes script
-    same = λ i. history (sym r.sent i) (sym r.outcomes i) script
 
 -- Each row answers what its call may.
 pub row_answers : (r : Row) → answers (role_in r) (outcome_in r) ≡ true

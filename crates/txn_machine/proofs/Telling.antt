@@ -1,6 +1,6 @@
 -- What is sent and what ends in a step is what its note tells.
 use Rattle.std.proofs.Common.{◌≡◌, ◌≢◌, ℕ, zero, suc, ◌+◌, ◌-◌, ◌<◌, ◌≤◌, inl, inr, Bool, true, false, ◌&&◌, if◌then◌else◌, List, [], ◌∷◌, ◌++◌, Option, Some, None, length, map, set, nat_eq, refl, sym, ap, ◌∙◌, subst, arith, append-nil, length-append, length-set}
-use Rattle.std.proofs.lemmas.List.{append_assoc, map-append}
+use Rattle.std.proofs.lemmas.List.{append_assoc}
 use Rattle.std.proofs.lemmas.Bool.Decides.{nat_tests}
 use Rattle.std.specs.List.{All, filter}
 use Rattle.std.specs.List.Sorted.{IsNonDecreasing, IsPermutation}
@@ -23,7 +23,7 @@ use Rattle.txn_machine.specs.Lists.{Lists, all_ended, all_posted, ended_at, newe
 use Rattle.txn_machine.specs.Running.{IsEven, IsOrdered, closed, with_own}
 use Rattle.txn_machine.specs.Script.{outcome_of}
 use Rattle.txn_machine.specs.Steps.{ended_in}
-use Rattle.txn_machine.specs.Told.{CanTell, EndOnce, EndingView, EndsOnce, IsNote, IsNoteOf, Joins, OwnEnds, answered_in, ending_at, is_answer, lines_from, sent_in, slept_in, view_of_ending}
+use Rattle.txn_machine.specs.Told.{CanTell, EndOnce, EndsOnce, IsNote, IsNoteOf, Joins, OwnEnds, answered_in, ending_at, is_answer, lines_from, sent_in, slept_in}
 use Rattle.txn_machine.specs.declared.done.Done.{Done as Course}
 use Rattle.txn_machine.specs.declared.note.StepNote.{StepNote}
 use Rattle.txn_machine.proofs.Calms.{or_past, outcome_same, same_line}
@@ -311,20 +311,6 @@ note_is older start l new done note a b ordered past can h =
 
 -- What each function adds.
 
-pub pushed_line : (ended : List Ending) (e : Ending) (rest : List Ending) (before after all : List ℕ) → ended ≡ e ∷ rest → after ≡ before ++ e.line ∷ []
-    → before ++ map (λ (x : Ending). x.line) ended ≡ all → after ++ map (λ (x : Ending). x.line) rest ≡ all
-pushed_line ended e rest before after all a b h =
-    ap (λ ns. ns ++ map (λ (x : Ending). x.line) rest) b ∙ append_assoc before (e.line ∷ []) (map (λ (x : Ending). x.line) rest) ∙ ap (λ es. before ++ map (λ (x : Ending). x.line) es) (sym a) ∙ h
-
-pub pushed_ending : (outs : List Outcome) (lines : List ℕ) (line : ℕ) (rest : List ℕ) (before after : List Ending) (all : List EndingView) (e : Ending) → lines ≡ line ∷ rest → after ≡ before ++ e ∷ [] → view_of_ending e ≡ ending_at outs line
-    → map view_of_ending before ++ map (λ n. ending_at outs n) lines ≡ all → map view_of_ending after ++ map (λ n. ending_at outs n) rest ≡ all
-pushed_ending outs lines line rest before after all e a b c h =
-    ap (λ es. map view_of_ending es ++ map (λ n. ending_at outs n) rest) b
-    ∙ ap (λ es. es ++ map (λ n. ending_at outs n) rest) (map-append view_of_ending before (e ∷ []))
-    ∙ append_assoc (map view_of_ending before) (view_of_ending e ∷ []) (map (λ n. ending_at outs n) rest)
-    ∙ ap (λ x. map view_of_ending before ++ x ∷ map (λ n. ending_at outs n) rest) c
-    ∙ ap (λ ns. map view_of_ending before ++ map (λ n. ending_at outs n) ns) (sym a) ∙ h
-
 -- the lists have yet what was sent and had ended before
 pub record Leaves (old l : Lists) : Type 0 where
   pub outcomes : l.outcomes ≡ old.outcomes
@@ -334,9 +320,6 @@ pub record Leaves (old l : Lists) : Type 0 where
 
 pub leaves_same : (old l : Lists) → l.outcomes ≡ old.outcomes → l.ended ≡ old.ended → l.mail ≡ old.mail → Leaves old l
 leaves_same old l a b c = record { outcomes = a; ended = b; sent = ap (λ (x : Mail). x.sent) c; sleeps = ap (λ (x : Mail). x.sleeps) c }
-
-pub leaves_then : (old mid l : Lists) → Leaves old mid → Leaves mid l → Leaves old l
-leaves_then old mid l a b = record { outcomes = b.outcomes ∙ a.outcomes; ended = b.ended ∙ a.ended; sent = b.sent ∙ a.sent; sleeps = b.sleeps ∙ a.sleeps }
 
 module _ (old l : Lists) (done : Course) (leaves : Leaves old l) where
   tell : OwnEnds done.outcome → EndsOnce (newest l) done.turn.ended.items → CanTell old done l
@@ -363,11 +346,6 @@ module _ (old l : Lists) (done : Course) (leaves : Leaves old l) where
 
   pub tell_made : (o : Outcome) → 1 ≤ newest old → is_answer o ≡ true → OwnEnds done.outcome → done.turn.ended.items ≡ record { line = newest old; outcome = o } ∷ [] → CanTell old done l
   tell_made o low answer own is = tell own (one_ends (newest l) done.turn.ended.items o (let a = same_count in omega arith) answer (is ∙ ap (λ n. record { line = n; outcome = o } ∷ []) (sym same_count)))
-
-pub tell_later : (old mid l : Lists) (done : Course) → Leaves old mid → CanTell mid done l → CanTell old done l
-tell_later old mid l done a b =
-    let c = leaves_then old mid l a (record { outcomes = b.outcomes; ended = b.ended; sent = b.sent; sleeps = b.sleeps }) in
-    record { outcomes = c.outcomes; ended = c.ended; sent = c.sent; sleeps = c.sleeps; own = b.own; once = b.once }
 
 pub tell_came : (old l : Lists) (done : Course) → Leaves old l → (turn : Turn) → Goes turn.posted.items turn.ended.items old.sight l.sight → length old.sight.stands ≡ newest old → done.outcome ≡ Some Done → done.turn ≡ turn → CanTell old done l
 tell_came old l done leaves turn goes count own is = tell_goes old l done leaves turn.posted.items turn.ended.items old.sight goes count (subst (λ o. OwnEnds o) (sym own) refl) (ap (λ (t : Turn). t.ended.items) is)

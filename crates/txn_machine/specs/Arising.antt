@@ -20,7 +20,7 @@ use Rattle.txn_report.specs.declared.outcome.Payload.TheVariants.{Number}
 use Rattle.txn_report.specs.declared.report.Report.{Report}
 use Rattle.txn_report.specs.declared.report.SentNote.{SentNote}
 use Rattle.txn_side.specs.Account.{Account}
-use Rattle.txn_side.specs.Arising.{Arises, answered_at, with_postings}
+use Rattle.txn_side.specs.Arising.{answered_at, with_postings}
 use Rattle.txn_side.specs.Doubt.{SaysDoubt, SpeaksOf}
 use Rattle.txn_side.specs.Sight.{Sight, stand_at}
 use Rattle.txn_side.specs.Sight.Stand.{Idle}

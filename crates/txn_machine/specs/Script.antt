@@ -80,7 +80,10 @@ does looks (deeds.Happens (happenings.Split key)) es = Split key ∷ es
 does looks (deeds.Happens (happenings.Lead region store)) es = Led region store ∷ es
 does looks (deeds.Happens (happenings.Clock ms)) es = Clocked ms ∷ es
 does looks (deeds.Happens (happenings.Crash client)) es = Crashed client ∷ es
-does looks deed es = es
+does looks deeds.Nothing es = es
+does looks deeds.Connect es = es
+does looks (deeds.Ask client act) es = es
+does looks (deeds.Use transaction act) es = es
 
 -- what was sent in the step of line n
 abbrev pub with_sends : List SentNote → ℕ → List Event → List Event

@@ -7,7 +7,7 @@ use Rattle.std.specs.declared.cmp.Ordering.{Ordering}
 use Rattle.std.specs.declared.cmp.Ordering.TheVariants.{Less, Equal, Greater}
 use Rattle.txn_model.specs.declared.cell.Cell.{Cell}
 use Rattle.txn_model.specs.Cells.{Key, key_eq, key_cmp, has_key, no_cell, is_empty_cell, cell_at, with_room, with_rooms, each_changed, changed_at, AllAbove, AreInOrder, NoneEmpty, AreKept}
-use Rattle.txn_model.proofs.Keys.{same_key, key_itself, less_trans, differs_if_less, differs_if_greater, same_if_equal, less_if_greater, order_cases}
+use Rattle.txn_model.proofs.Keys.{same_key, key_itself, less_trans, differs_if_greater, same_if_equal, less_if_greater, order_cases}
 
 -- a cell that is empty is the one of which nothing is known
 pub empty_is_none : (c : Cell) → is_empty_cell c ≡ true → c ≡ no_cell c.key
@@ -41,9 +41,6 @@ key_of_cell (c ∷ cs) k = by (key_eq c.key k) refl (key_of_cell cs k)
 
 cell_first : (c : Cell) (cs : List Cell) → cell_at (c ∷ cs) c.key ≡ c
 cell_first c cs = rw (key_itself c.key) refl
-
-cell_later : (c : Cell) (cs : List Cell) (k : Key) → key_cmp c.key k ≡ Less → cell_at (c ∷ cs) k ≡ cell_at cs k
-cell_later c cs k h = rw (differs_if_less c.key k h) refl
 
 true_is_not_false : {G : Type 0} (b : Bool) → b ≡ true → b ≡ false → G
 true_is_not_false b h i = absurd (cc)

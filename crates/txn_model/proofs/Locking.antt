@@ -1,5 +1,5 @@
 -- A prewrite, mutation by mutation.
-use Rattle.std.proofs.Common.{◌≡◌, ℕ, suc, zero, ◌+◌, ◌<◌, ◌≤◌, Bool, true, false, if◌then◌else◌, List, [], ◌∷◌, ◌++◌, drop, reverse, length, get_or, set, Option, Some, None, refl, sym, ap, ◌∙◌, arith, append_assoc, append-nil}
+use Rattle.std.proofs.Common.{◌≡◌, ℕ, ◌+◌, ◌<◌, Bool, true, false, if◌then◌else◌, List, [], ◌∷◌, ◌++◌, drop, reverse, length, get_or, set, Option, Some, None, refl, sym, ap, ◌∙◌, append_assoc, append-nil}
 use Rattle.std.specs.Prelude.{option_to_list, is_some, not, ◌&&◌, ◌||◌}
 use Rattle.std.specs.List.{insert}
 use Rattle.std.proofs.lemmas.List.{drop_more, drop-drop, reverse-append}
@@ -58,20 +58,6 @@ locked_next before rest p e cs ds step j =
 
 -- the errors
 
-first_flag_at : (fs : List Bool) (i : ℕ) (d : Bool) → i < length fs → get_or fs i d ≡ first_flag (drop i fs)
-first_flag_at [] i d l = absurd (omega arith)
-first_flag_at (f ∷ fs) zero d l = refl
-first_flag_at (f ∷ fs) (suc i) d l = first_flag_at fs i d (omega arith)
-
-pub flag_read : (fs : List Bool) (i : ℕ) (f : Bool) → i < length fs → f ≡ get_or fs i f → f ≡ first_flag (drop i fs)
-flag_read fs i f l e = e ∙ first_flag_at fs i f l
-
-pub flag_missing : (fs : List Bool) (i : ℕ) → length fs ≤ i → false ≡ first_flag (drop i fs)
-flag_missing [] zero l = refl
-flag_missing [] (suc i) l = refl
-flag_missing (f ∷ fs) zero l = absurd (omega arith)
-flag_missing (f ∷ fs) (suc i) l = flag_missing fs i (omega arith)
-
 -- a part more of a list that is made from the front
 one_more : {X : Type 0} (done next part left left' all : List X) → next ≡ done ++ part → left ≡ part ++ left' → done ++ left ≡ all → next ++ left' ≡ all
 one_more done next part left left' all grows splits so_far = rw (grows, append_assoc) (ap (λ x. done ++ x) (sym splits) ∙ so_far)
@@ -93,9 +79,6 @@ pushed_one done next o e some grows = grows ∙ ap (λ x. done ++ option_to_list
 
 pub pushed_none : (done next : List KeyError) (o : Option KeyError) → o ≡ None → next ≡ done → next ≡ done ++ option_to_list o
 pushed_none done next o none same = same ∙ (sym (append-nil done) ∙ ap (λ x. done ++ option_to_list x) (sym none))
-
-pub placings_more : (r : PrewriteRequest) (n : ℕ) (ms : List Mutation) (i : ℕ) (m : Mutation) → i < length ms → m ≡ get_or ms i m → placings r n (drop i ms) ≡ placing_of r n m (kind_of m.op) ++ placings r n (drop (i + 1) ms)
-placings_more r n ms i m l e = ap (placings r n) (drop_more ms i m l ∙ ap (λ x. x ∷ drop (i + 1) ms) (sym e))
 
 -- the mutations of a cell
 

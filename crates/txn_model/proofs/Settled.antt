@@ -54,9 +54,6 @@ committed_key (x ∷ xs) c = committed_key xs (if key_eq x.key c.key then commit
 
 -- A start is settled once.
 
-abbrev with_no_lock : Cell → Cell
-with_no_lock c = record { key = c.key; lock = None; commits = c.commits; rolled = c.rolled }
-
 unlocked_settled : (is : List TxnInfo) (k : Key) (ws : List Write) (rs : List ℕ) → all_settled is (record { key = k; lock = None; commits = ws; rolled = rs }) ≡ (let x : Cell = record { key = k; lock = None; commits = ws; rolled = rs } in x)
 unlocked_settled [] k ws rs = refl
 unlocked_settled (i ∷ is) k ws rs = unlocked_settled is k ws rs

@@ -182,9 +182,6 @@ first_bounds n m some few = by (nat_lt (n % 2 ^ 18 + (m - 1)) (2 ^ 18)) refl
         let over : 2 ^ 18 ≤ n % 2 ^ 18 + (m - 1) = grind (arith, nat_tests) in
         (omega arith, omega (arith, over))
 
-pub last_rises : (last clock m : ℕ) → 1 ≤ m → m ≤ 64 → last + m ≤ last_timestamp last clock m
-last_rises last clock m some few = let h = (first_bounds (next_timestamp last clock) m some few).0 in omega (arith, h)
-
 pub last_small : (last clock m : ℕ) → 1 ≤ m → m ≤ 64 → last_timestamp last clock m ≤ max (last + 1) (clock * 2 ^ 18) + 2 * (m - 1)
 last_small last clock m some few = let h = (first_bounds (next_timestamp last clock) m some few).1 in omega (arith, h)
 

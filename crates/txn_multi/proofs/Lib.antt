@@ -1,4 +1,3 @@
-pub mod Begun
 pub mod Costs
 pub mod Lookings
 pub mod Multis

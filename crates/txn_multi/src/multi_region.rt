@@ -1,11 +1,11 @@
 //! A plan over many regions.
 ghost use Rattle.std.specs.Bool.{MatchBool};
-ghost use Rattle.std.specs.Prelude.{◌≡◌, ◌<◌, ◌^◌, ⊤, ℕ, Err, IfOk, None};
+ghost use Rattle.std.specs.Prelude.{◌≡◌, ◌<◌, ◌^◌, ⊤, Err, IfOk, None};
 ghost use Rattle.txn_history.specs.Meaning.{started, IsUnbegun};
 ghost use Rattle.txn_history.specs.Phase.{phase_after, unheard};
 ghost use Rattle.txn_history.specs.Phase.Phase.{Running};
 ghost use Rattle.txn_history.specs.Posted.{HasNumbers};
-ghost use Rattle.txn_history.specs.Turn.{turn_of, IfEnds, IfKept};
+ghost use Rattle.txn_history.specs.Turn.{turn_of, IfEnds};
 ghost use Rattle.txn_history.specs.Turn.Turn.{Ends, Waits};
 ghost use Rattle.txn_multi.specs.Cutting.{cut_phase, ArePartsOf, IfParts};
 ghost use Rattle.txn_multi.specs.Multi.{multi, multi-lawful, multi_phase, tasks_for, AfterCut, AfterTasks, Begins, Holding, IsAnswer};

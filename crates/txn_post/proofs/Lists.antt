@@ -1,5 +1,5 @@
 -- Elements of lists that are pushed or set.
-use Rattle.std.proofs.Common.{◌≡◌, ◌≢◌, ℕ, zero, suc, ◌<◌, ◌≤◌, ◌⊎◌, inl, inr, List, [], ◌∷◌, ◌++◌, Some, length, get_or, set, slice_get, refl, sym, ap, arith}
+use Rattle.std.proofs.Common.{◌≡◌, ◌≢◌, ℕ, zero, suc, ◌<◌, ◌≤◌, ◌⊎◌, inl, inr, List, [], ◌∷◌, ◌++◌, Some, length, get_or, set, slice_get, refl, ap, arith}
 use Rattle.std.specs.Option.{option_map}
 
 pub get_old : {X : Type 0} (xs ys : List X) (i : ℕ) (x : X) → slice_get xs i ≡ Some x → slice_get (xs ++ ys) i ≡ Some x
@@ -67,9 +67,3 @@ or_ended [] d zero = refl
 or_ended [] d (suc i) = refl
 or_ended (z ∷ xs) d zero = refl
 or_ended (z ∷ xs) d (suc i) = or_ended xs d i
-
--- inside the default does not matter
-pub or_any : {X : Type 0} (xs : List X) (i : ℕ) (x d : X) → i < length xs → x ≡ get_or xs i x → get_or xs i d ≡ x
-or_any [] i x d h e = absurd (omega arith)
-or_any (z ∷ xs) zero x d h e = sym e
-or_any (z ∷ xs) (suc i) x d h e = or_any xs i x d (omega arith) e

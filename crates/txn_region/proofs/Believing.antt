@@ -27,7 +27,7 @@ use Rattle.txn_kv.specs.declared.region.RegionWithLeader.{RegionWithLeader}
 use Rattle.txn_region.specs.Cache.{Cache, answer_refusal, cleared, found_or, found_or_wait, learnt, or_elsewhere, with_region, IsGivenUp, IsRefusal}
 use Rattle.txn_region.specs.Clients.{bad_end, bad_start, no_epoch, no_leader, reversed, IsBadAnswer, IsBadRegion, IsFoundAt, IsFoundOf, IsRefused, IsUsable, MatchLook, OrStarved, UnlessStarved}
 use Rattle.txn_region.specs.Decoded.{stored_key, IsDecoded, IsShownAs}
-use Rattle.txn_region.specs.Placement.{without_record, without_version, AreGood, IsCachedAs, IsGood, IsJudged, IsKept, IsSpoilt, IsText, IsUnknown, Learns}
+use Rattle.txn_region.specs.Placement.{without_record, without_version, AreGood, IsCachedAs, IsGood, IsJudged, IsSpoilt, IsText, IsUnknown, Learns}
 use Rattle.txn_region.specs.Regions.{Key, added, has_id, has_ver_id, in_order, is_below, is_reversed, key_cmp, led_if, placed, region_of_id, region_of_key, region_refusal, same_epoch, stays, IsSoundAt, IsSoundOf}
 use Rattle.txn_region.proofs.Placing.{upright_if_taken}
 use Rattle.txn_region.proofs.RangePieces.{both_of, by_cases, first_of, second_of}
@@ -388,15 +388,6 @@ settled encodes q (answer.Safepoint t) old mid new (Ok x) good taken learns judg
   changed = kept_in _ _ (answer_refusal q (answer.Safepoint t)) taken (judged ∙ learns);
 }
 settled encodes q (answer.Safepoint t) old mid new (Err e) good taken learns judged = absurd judged
-
--- an answer that was refused, or an error that was passed on, leaves the regions as they are
-pub refused_learns : (encodes : Bool) (q : PdQuery) (x : Result PdAnswer Error) (e : Error) (old new : Cache) → new ≡ cleared q old → IsRefusal q x e → (e ≡ OutOfMemory) ⊎ Learns encodes q x old new
-refused_learns encodes q (Ok a) e old new same h = by (answer_refusal q a) h
-  where
-    by : (o : Option Error) → MatchOption o (e ≡ OutOfMemory) (λ refusal. e ≡ refusal) → (e ≡ OutOfMemory) ⊎ MatchOption o (IsKept encodes q a (cleared q old) new) (λ refusal. new ≡ cleared q old)
-    by None h = inl h
-    by (Some refusal) h = inr same
-refused_learns encodes q (Err x) e old new same h = inr same
 
 pub given_up : (b : Bool) (e : Error) → IsGivenUp b e → OrStarved IsText e
 given_up true (StringError message) h = inr tt

@@ -1,7 +1,6 @@
 -- What is kept was not refused.
-use Rattle.std.proofs.Common.{◌≡◌, ℕ, suc, zero, ◌<◌, Bool, true, false, List, [], ◌∷◌, length, get_or, refl, sym, ap, ◌∙◌, subst, arith}
-use Rattle.std.specs.Prelude.{cond, is_none, Some, None}
-use Rattle.std.specs.List.{find}
+use Rattle.std.proofs.Common.{◌≡◌, ℕ, suc, zero, ◌<◌, false, List, [], ◌∷◌, length, get_or, refl, sym, ap, ◌∙◌, arith}
+use Rattle.std.specs.Prelude.{is_none, Some, None}
 use Rattle.txn_kv.specs.declared.message.Region.{Region}
 use Rattle.txn_kv.specs.declared.region.RegionWithLeader.{RegionWithLeader}
 use Rattle.txn_region.specs.Regions.{has_id, is_reversed, region_of_id, region_refusal, AreKept, IsPlaceOf, IsSoundOf}
@@ -23,15 +22,6 @@ get_taken (r ∷ rs) (suc at) d k l = get_taken rs at d (rest_kept r rs k) (omeg
 
 pub taken_at : (rs : List RegionWithLeader) (at : ℕ) (r : RegionWithLeader) → AreKept rs → at < length rs → r ≡ get_or rs at r → region_refusal r.region ≡ None
 taken_at rs at r k l read = ap (λ (x : RegionWithLeader). region_refusal x.region) read ∙ get_taken rs at r k l
-
--- what a search finds
-pub found_kept : (p : RegionWithLeader → Bool) (rs : List RegionWithLeader) (x : RegionWithLeader) → AreKept rs → find p rs ≡ Some x → (p x ≡ true) × (region_refusal x.region ≡ None)
-found_kept p [] x k h = absurd (cc)
-found_kept p (r ∷ rs) x k h = by (p r) refl h (found_kept p rs x (rest_kept r rs k))
-  where
-    by : (b : Bool) → p r ≡ b → cond b (Some r) (find p rs) ≡ Some x → (find p rs ≡ Some x → (p x ≡ true) × (region_refusal x.region ≡ None)) → (p x ≡ true) × (region_refusal x.region ≡ None)
-    by true e h later = let same : r ≡ x = grind arith in subst (λ (q : RegionWithLeader). (p q ≡ true) × (region_refusal q.region ≡ None)) same (e, first_taken r rs k)
-    by false e h later = later h
 
 pub sound_at_place : (id : ℕ) (rs : List RegionWithLeader) (at : ℕ) (r : RegionWithLeader) → AreKept rs → IsPlaceOf id rs at → r ≡ get_or rs at r → IsSoundOf id r
 sound_at_place id rs at r k place read = (same_number r.region.id id (ap (has_id id) read ∙ place.has r), taken_at rs at r k place.in_range read)

@@ -31,9 +31,6 @@ both_of false b h k = absurd (cc)
 
 -- keys in order
 
-is_at_most : Key → Key → Bool
-is_at_most a b = is_le (key_cmp a b)
-
 less_or_same : (a b : Key) {G : Type 0} → is_le (key_cmp a b) ≡ true → (key_cmp a b ≡ Less → G) → (a ≡ b → G) → G
 less_or_same a b {G} h f g = by (key_cmp a b) refl h
   where

@@ -1,5 +1,5 @@
 -- Requests whose fields are all default, and what is told of a reply of another kind.
-use Rattle.std.specs.Prelude.{[], Option, None, false, pos}
+use Rattle.std.specs.Prelude.{[], None, false, pos}
 use Rattle.txn_kv.specs.declared.errors.Error.{Error}
 use Rattle.txn_kv.specs.declared.errors.Error.TheVariants.{InternalError}
 use Rattle.txn_kv.specs.declared.errors.Internal.TheVariants.{WrongReply}

@@ -58,13 +58,6 @@ steps_split : (cuts : List (Option Parts)) (first n : ℕ) → AreLater cuts
     → steps_of cuts (record { first = first; count = suc n }) ≡ steps_for (λ p. sum_by (steps_at (length cuts) cuts) (numbers p)) (get_or cuts first None) + steps_of cuts (record { first = first + 1; count = n })
 steps_split cuts first n later = omega (arith, sum_by-cons (steps_at (length cuts) cuts) first (range_with_len (first + 1) n), steps_here cuts first later)
 
-pub Walks-empty : (cuts : List (Option Parts)) (p : Parts) (runs : List Parts) (order : List ℕ) → p.count ≡ 0 → Walks cuts p runs runs order order
-Walks-empty cuts p runs order e = record {
-  same = let none : numbers p ≡ [] = ap (λ n. range_with_len p.first n) e in rw none refl;
-  made = λ a. a;
-  less = omega arith;
-}
-
 walks_alone : (cuts : List (Option Parts)) (first n : ℕ) (runs : List Parts) (order : List ℕ) → AreLater cuts → first + suc n ≤ length cuts → get_or cuts first None ≡ None
     → Walks cuts (record { first = first; count = suc n }) runs (runs ++ record { first = first + 1; count = n } ∷ []) order (order ++ first ∷ [])
 walks_alone cuts first n runs order later m e =

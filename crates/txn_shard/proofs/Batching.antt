@@ -67,8 +67,3 @@ closed_with size limit done closed (y ∷ ys) x u some full = record {
 pub ended : {X : Type 0} (size : X → ℕ) (limit : ℕ) (done : List X) (closed : List (List X)) (last : List X) → AreUnderWay size limit done closed last → length last ≡ 0 → AreBatches size limit done closed
 ended size limit done closed [] u e = rw (u.0, u.1) (record { in_order = refl; each = All-nil (IsBatch size limit); full = tt })
 ended size limit done closed (x ∷ xs) u e = absurd (omega arith)
-
--- the last batch is the last
-pub ended_with : {X : Type 0} (size : X → ℕ) (limit : ℕ) (done : List X) (closed : List (List X)) (last : List X) → AreUnderWay size limit done closed last → 0 < length last → AreBatches size limit done (closed ++ last ∷ [])
-ended_with size limit done closed [] u some = absurd (omega arith)
-ended_with size limit done closed (x ∷ xs) u some = u

@@ -1,5 +1,5 @@
 -- What is found, once one more group is found.
-use Rattle.std.proofs.Common.{◌≡◌, ℕ, zero, suc, ◌+◌, ◌-◌, ◌<◌, ◌≤◌, Bool, true, false, List, [], ◌∷◌, ◌++◌, length, refl, sym, ap, ◌∙◌, subst, inl, inr, arith}
+use Rattle.std.proofs.Common.{◌≡◌, ℕ, zero, suc, ◌+◌, ◌-◌, ◌≤◌, Bool, true, false, List, [], ◌∷◌, ◌++◌, length, refl, sym, ap, ◌∙◌, subst, inl, inr, arith}
 use Rattle.std.specs.Prelude.{cond, map, take, drop, slice_range, Option, Some, None, IfSome}
 use Rattle.std.specs.List.{All, prefix_len}
 use Rattle.std.proofs.Math.Seq.{take-add}
@@ -153,9 +153,3 @@ group_put {X} key size limit whole old new store end (p ∷ ps) f u g s put next
 -- all is found, or something is left
 pub all_found : {X : Type 0} (key : X → Key) (size : X → ℕ) (limit : Option ℕ) (whole : List X) (found : ShardList (List X)) → KeysAreFound key size limit whole found → length whole ≤ found.next → AreJoined whole (shards_of found)
 all_found key size limit whole found f le = f.front ∙ take_all found.next whole le
-
-pub not_all_found : {X : Type 0} (key : X → Key) (size : X → ℕ) (limit : Option ℕ) (whole : List X) (found : ShardList (List X)) → KeysAreFound key size limit whole found → found.next < length whole → AreJoined whole (shards_of found) → ⊥
-not_all_found key size limit whole found f lt j =
-    let few : length (take found.next whole) ≡ found.next = length-take-le found.next whole (omega arith) in
-    let all : length (take found.next whole) ≡ length whole = ap length (sym f.front ∙ j) in
-    absurd (omega arith)

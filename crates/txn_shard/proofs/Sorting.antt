@@ -28,9 +28,6 @@ ascends_sorted key xs up = ascends_from key xs (sorted_far (comes_before key) (o
 
 -- It keeps the order of items of one key
 
-tied : {X : Type 0} → (X → Key) → X → X → Bool
-tied key x y = ties (comes_before key) x y
-
 not_tied_before : {X : Type 0} (key : X → Key) (w x y : X) → comes_before key y x ≡ true → ties (comes_before key) w y ≡ true → ties (comes_before key) w x ≡ true → ⊥
 not_tied_before {X} key w x y less a b =
     let back : comes_before key y w ≡ false = right (comes_before key w y) (comes_before key y w) a in

@@ -124,14 +124,6 @@ own_refusal acts.Rollback contents = None
 abbrev pub refusal : Act → Account → Option Error
 refusal act account = or_refused (refused_unless (allows act account.status) OperationAfterCommitError) (own_refusal act account.contents)
 
-abbrev pub answer_by : Option Error → Outcome
-answer_by None = Ok Nothing
-answer_by (Some e) = Err e
-
--- what a write answers
-abbrev pub answer_to : Act → Account → Outcome
-answer_to act account = answer_by (refusal act account)
-
 -- What has to be answered at once: that it is refused, and to each write.
 abbrev pub AnswersAtOnce : Act → Option Error → List Outcome → Type 0
 AnswersAtOnce act None outs = is_write act ≡ true → outs ≡ Ok Nothing ∷ []

@@ -1,5 +1,6 @@
 -- A look-up of all stores takes what it waits for.
 use Rattle.std.proofs.Common.{◌≡◌, ℕ, ◌+◌, ◌≤◌, Bool, true, false, ◌∷◌, refl, arith}
+use Rattle.std.proofs.lemmas.Bool.{true_from_ne_false}
 use Rattle.std.specs.Prelude.{is_err, Result}
 use Rattle.txn_history.specs.Arrivals.{tells_failure, told_by}
 use Rattle.txn_history.specs.Event.Event.{Answered as GotTime, Lost as WasLost, Slept as HasSlept, Took}
@@ -98,12 +99,8 @@ looks_slept n now x y turn places waits step moves spent same numbers heeds =
 
 -- the answer to an ask begins no sleep
 
-is_true : (b : Bool) → (b ≡ false → ⊥) → b ≡ true
-is_true true n = refl
-is_true false n = absurd (n refl)
-
 hears_if_asked : (g : Stage) (n : ℕ) → call_waits g (TimeOf n) → hears_answer g n ≡ true
-hears_if_asked g n w = is_true (hears_answer g n) (λ e. deaf_answer g n e (TimeOf n) refl w)
+hears_if_asked g n w = true_from_ne_false (hears_answer g n) (λ e. deaf_answer g n e (TimeOf n) refl w)
 
 pub looks_time : (n : ℕ) (told : Result Timestamp Error) (now : ℕ) (x y : Standing) (turn : Turn (Result PdAnswer Error))
     → asks_of x.call.query ≡ 0

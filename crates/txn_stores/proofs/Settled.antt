@@ -7,7 +7,7 @@ use Rattle.txn_history.proofs.Telling.{Expects-quiet}
 use Rattle.txn_history.specs.Event.{Event}
 use Rattle.txn_history.specs.Event.Event.{Began}
 use Rattle.txn_history.specs.Meaning.{IsLawful, Meaning}
-use Rattle.txn_history.specs.Moves.{Moves-before, Moves-quiet, Moves-slept}
+use Rattle.txn_history.specs.Moves.{Moves-quiet, Moves-slept}
 use Rattle.txn_history.specs.Posted.{Posted, ticket_of, Within-one}
 use Rattle.txn_history.specs.Turn.{Turn}
 use Rattle.txn_history.specs.Turn.Turn.{Stopped, Waits, Ends}
@@ -34,23 +34,6 @@ use Rattle.txn_tasks.specs.declared.step.Step.TheVariants.{End}
 pub step_stopped : {T A : Type 0} (r : Result (Option (Step T A)) NoMemory) → IsErr r → step_turn r ≡ Stopped
 step_stopped (Ok s) e = absurd (false≢true e)
 step_stopped (Err e) i = refl
-
--- more may be known
-pub Settles-before : {S R : Type 0} {m : Meaning S (Result R Error)} {keys : R → List ErrorView} {region : R → Option RegionErr} {known more : List Event → Type 0} {failed : Bool}
-    {old new : StoreTask S} {from to : Posted} {turn : Turn (Step (StoreTask S) R)}
-    → ((h : List Event) → more h → known h)
-    → Settles m keys region known failed old new from to turn
-    → Settles m keys region more failed old new from to turn
-Settles-before w s = record {
-  moves = Moves-before w s.moves;
-  expects = s.expects;
-  stage = s.stage;
-  next = s.next;
-  off = s.off;
-  ends = s.ends;
-  ready = s.ready;
-  spends = s.spends;
-}
 
 -- it answers
 pub Settles-end : {S R : Type 0} {m : Meaning S (Result R Error)} {keys : R → List ErrorView} {region : R → Option RegionErr} {known : List Event → Type 0} {failed : Bool}
@@ -128,10 +111,6 @@ Settles-slept {m = m} {old = old} {from = from} {to = to} law ms left ticket del
     })
 
 -- the backoff where a loss asks for a sleep, and where it does not
-
-pub sleeps_by : (delay : Option ℕ) (r : Next) (ms : ℕ) → r ≡ (on_loss delay).next → r ≡ NapFor ms → delay ≡ Some ms
-sleeps_by (Some k) r ms e i = cc
-sleeps_by None r ms e i = cc
 
 spent_by : (spent : Bool) (k : ℕ) (r : Next) → r ≡ (on_loss (if spent then None else Some k)).next → ((ms : ℕ) → r ≡ NapFor ms → ⊥) → spent ≡ true
 spent_by true k r e n = refl

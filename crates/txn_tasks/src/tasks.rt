@@ -16,7 +16,7 @@ ghost use Rattle.txn_retry.specs.Place.{next_task};
 ghost use Rattle.txn_tasks.specs.Settled.{ended, rested, waiting, Begins, Continues, Finds, GoesOnSo, HasEndedSo, HasGiven, IsMore, IsSettled};
 ghost use Rattle.txn_tasks.specs.Step.{parts_in, step_turn, IsNew};
 ghost use Rattle.txn_tasks.specs.declared.step.Step.{Step};
-ghost use Rattle.txn_tasks.specs.Tasks.{left_at, sum_left, tasks_of, tasks_phase, tasks_turn, AllFit, AreReady, BearAll, LeadsSomewhere};
+ghost use Rattle.txn_tasks.specs.Tasks.{left_at, sum_left, tasks_of, tasks_phase, tasks_turn, AllFit, AreReady, BearAll};
 ghost use Rattle.txn_tasks.specs.TasksStep.{TasksStep};
 ghost use Rattle.txn_tasks.specs.Turns.{Starts};
 
@@ -145,6 +145,7 @@ impl<T: Task> Tasks<T> {
         ensures { TasksStep T.meaning T.load T.AreCut T.IsOf T.cost T.runs (T.touches (touch C.looked C.learns C.leads C.drops)) (arrives arrival out.old) self.old self.new out.old out.new pd.old pd.new (tasks_turn result) }
     {
         let Some(at) = self.find(&arrival) else {
+            drop(arrival);
             return self.stay();
         };
         let posted = out.sends.len();
