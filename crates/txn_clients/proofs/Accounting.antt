@@ -148,11 +148,6 @@ pub progress_kept : {Q A : Type 0} (p : Progress (TxnAnswer Q)) → IfKept (turn
 progress_kept Waiting h = h
 progress_kept (Done v) h = h
 
-pub called_new : (P Q K : Type 0) (turn : Course (Result (TxnAnswer Q) Error)) → IfSome (answer_in {X = Answer P Q K} answers.Called turn) AnswersNew
-called_new P Q K Stopped = tt
-called_new P Q K Waits = tt
-called_new P Q K (Ends v) = tt
-
 -- What a transaction comes to by an answer
 
 stage_rolled : {Q : Type 0} (v : Result (TxnAnswer Q) Error) (s : side.Status) → stage_after false v ≡ side.rolled_by false s (outcome_by false v)

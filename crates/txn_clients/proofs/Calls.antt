@@ -3,11 +3,12 @@ use Rattle.std.proofs.Common.{◌≡◌, ◌≢◌, inl, inr, ℕ, ◌≤◌, Bo
 use Rattle.std.specs.Prelude.{IfSome, Result, Ok, Err}
 use Rattle.txn_kv.specs.declared.errors.Error.{Error}
 use Rattle.txn_kv.specs.declared.request.Request.{Request}
+use Rattle.txn_history.proofs.Arriving.{told_heard}
 use Rattle.txn_history.specs.Event.{Event, Has}
 use Rattle.txn_history.specs.Event.Event.{Sent}
 use Rattle.txn_history.specs.Later.{IsLater}
 use Rattle.txn_history.specs.Meaning.{Goes, Tells, Told as CallTold, started}
-use Rattle.txn_history.specs.Phase.{Awaited, phase_after}
+use Rattle.txn_history.specs.Phase.{phase_after}
 use Rattle.txn_history.specs.Phase.Awaited.{EndOf, ReplyTo, TimeOf}
 use Rattle.txn_history.specs.Phase.Phase.{Fresh}
 use Rattle.txn_history.specs.Posted.{Posted, Within-refl, after, ticket_of}
@@ -47,13 +48,6 @@ no_answer make (Ends v) kept e = absurd (no e)
   where
     no : Some (make v) ≡ None → ⊥
     no q = cc
-
--- what waits for it is what it is heard as
-heard_is : (a : Arrival) (o : Posted) (r : Request) (y : Awaited) → y ≡ awaited_as a → (told_by a o r).heard y
-heard_is (arrivals.Reply n x) o r y f = f
-heard_is (arrivals.Lost n) o r y f = f
-heard_is (arrivals.Slept n) o r y f = f
-heard_is (arrivals.Time n x) o r y f = f
 
 module _ {P Q K : Type 0} where
   pub call_later : {trace : Option Trace} {at : ℕ} (s : ClientCall Pd P Q K) (o later : Posted) (nexts news : List ℕ) → IsLater o later → IsRisen nexts news → AskArises trace at o nexts s → AskArises trace at later news s
@@ -156,7 +150,7 @@ module _ {P Q K : Type 0} where
     call_hears c b a old new from to pd pd' turn t goes = if_kept turn (λ kept. record {
       arises = λ trace longer at met called_so came nexts news o low risen up reached x.
           let r = by kept a refl (owing from.line (tells.Heard a) trace) longer at (owing_met (tells.Heard a) trace longer from to met) (owing_called from.line (tells.Heard a) from.line at trace called_so) (owing_came from.line from a trace came) (counts_heard a from trace longer met.longer) nexts news o low risen up reached x in (r.0, answer_rests w longer at from.line turn r.1);
-      expects = let x = (t members).expects in record { sends = x.sends; pushed = x.pushed; only = λ y z. elim (x.only y z) [ inl u ↦ inl (u.0, λ g. u.1 (heard_is a from members y g)) | inr v ↦ inr v ] };
+      expects = let x = (t members).expects in record { sends = x.sends; pushed = x.pushed; only = λ y z. elim (x.only y z) [ inl u ↦ inl (u.0, λ g. u.1 (told_heard a from members y g)) | inr v ↦ inr v ] };
       runs = λ run none. runs_still (λ (s : ClientCall Pd P Q K). stage_phase s.stage) run goes (no_answer answers.Asked turn kept none);
     })
       where

@@ -3,9 +3,11 @@
 use Rattle.std.proofs.Common.{◌≡◌, ◌≢◌, ◌⊎◌, inl, inr, suc, ℕ, Bool, true, false, List, [], ◌∷◌, Option, Some, None, refl, sym, ap, ◌∙◌, subst, arith}
 use Rattle.std.specs.Prelude.{◌&&◌, is_none, Ok, Err}
 use Rattle.txn_kv.specs.Timestamp.{version_of}
+use Rattle.txn_kv.specs.declared.reply.commits.BatchRollbackResponse.{BatchRollbackResponse}
 use Rattle.txn_kv.specs.declared.reply.commits.PrewriteResponse.{PrewriteResponse}
 use Rattle.txn_kv.specs.declared.reply.Reply.{Reply}
 use Rattle.txn_kv.specs.declared.reply.Reply.TheVariants as replies
+use Rattle.txn_kv.specs.declared.request.commits.BatchRollbackRequest.{BatchRollbackRequest}
 use Rattle.txn_kv.specs.declared.request.commits.CommitRequest.{CommitRequest}
 use Rattle.txn_kv.specs.declared.request.commits.PrewriteRequest.{PrewriteRequest}
 use Rattle.txn_kv.specs.declared.request.Request.{Request}
@@ -14,13 +16,15 @@ use Rattle.txn_kv.specs.declared.ticket.Ticket.{Ticket}
 use Rattle.txn_history.specs.Among.{IsAmong}
 use Rattle.txn_history.specs.Event.{Event, Has}
 use Rattle.txn_history.specs.Event.Event.{Answered, Asked, Began, Clocked, Crashed, Led, Lost, Refused, Sent, Served, Slept, Split, Took}
-use Rattle.txn_history.specs.Licence.{AllAcknowledged, IsAcknowledged, IsPassed, IsWithoutError, WantedAfter, WasGiven, WasNamed}
+use Rattle.txn_history.specs.Licence.{AllAcknowledged, IsAcknowledged, IsPassed, IsWithoutError, PrimaryRolledBack, WantedAfter, WasGiven, WasNamed}
 use Rattle.txn_history.specs.Plan.{Key, Plan}
+use Rattle.txn_buffer.specs.Contents.{Contents}
 use Rattle.txn_commit.specs.Committing.{IsReady}
 use Rattle.txn_commit.specs.Following.{Commits, KnowsCommits, WasRefused, is_commit}
+use Rattle.txn_commit.specs.Plans.{only_key}
 use Rattle.txn_commit.specs.Sending.{plan_of}
 use Rattle.txn_commit.specs.declared.commit_parts.CommitParts.{CommitParts}
-use Rattle.txn_core.specs.Going.{IsUnsent, KnowsParts, NamesReady}
+use Rattle.txn_core.specs.Going.{IsUndone, IsUnsent, KnowsParts, NamesReady}
 use Rattle.txn_side.specs.Trace.{AreOwn, IsHarmless, IsOwn, IsShown, Trace, refused_asks}
 use Rattle.txn_clients.specs.Failing.{ShownIn}
 use Rattle.txn_clients.specs.Waiting.{IsKept}
@@ -230,9 +234,6 @@ shown_cleaned (Some t) at h s = λ x i. let f = back h x i in by x f.0 f.1 (kept
 pub given_cleaned : (h : List Event) (s : ℕ) → WasGiven h s → WasGiven (cleaned h) s
 given_cleaned h s (t, r, o, d, taken, gives, above) = (t, r, o, d, forth h (Took t (Tso r) (replies.Tso o)) (Took t (Tso r) (replies.Tso o)) refl taken, gives, above)
 
-none_so : {X : Type 0} (x : Option X) → x ≡ None → is_none x ≡ true
-none_so x e = ap is_none e
-
 prewrite_kept : (u : Ticket) (r : PrewriteRequest) (o : PrewriteResponse) → IsWithoutError (replies.Prewrite o) → keep (Took u (Prewrite r) (replies.Prewrite o)) ≡ Some (Took u (Prewrite r) (replies.Prewrite o))
 prewrite_kept u r o (region, errors) = by (is_none o.region_error) (no_errors o.errors) (ap is_none region) (ap no_errors errors)
   where
@@ -240,6 +241,24 @@ prewrite_kept u r o (region, errors) = by (is_none o.region_error) (no_errors o.
     by true true e f = refl
     by true false e f = absurd (cc)
     by false b e f = absurd (cc)
+
+rollback_kept : (u : Ticket) (r : BatchRollbackRequest) (o : BatchRollbackResponse) → IsWithoutError (replies.BatchRollback o) → keep (Took u (BatchRollback r) (replies.BatchRollback o)) ≡ Some (Took u (BatchRollback r) (replies.BatchRollback o))
+rollback_kept u r o (region, error) = by (is_none o.region_error) (is_none o.error) (ap is_none region) (ap is_none error)
+  where
+    by : (a b : Bool) → a ≡ true → b ≡ true → kept_took u (BatchRollback r) (replies.BatchRollback o) false (a && b) ≡ Some (Took u (BatchRollback r) (replies.BatchRollback o))
+    by true true e f = refl
+    by true false e f = absurd (cc)
+    by false b e f = absurd (cc)
+
+rolled_cleaned : (plan : Plan) (s : ℕ) (h : List Event) → PrimaryRolledBack plan h s → PrimaryRolledBack plan (cleaned h) s
+rolled_cleaned plan s h (t, r, o, taken, without, same, named) = (t, r, o, forth h (Took t (BatchRollback r) (replies.BatchRollback o)) (Took t (BatchRollback r) (replies.BatchRollback o)) (rollback_kept t r o without) taken, without, same, named)
+
+-- what was undone stays so
+pub undone_cleaned : (s : ℕ) (contents : Contents) (h : List Event) → IsUndone s contents h → IsUndone s contents (cleaned h)
+undone_cleaned s contents h u parts is = elim (u parts is) [
+  | inl none ↦ inl none
+  | inr (primary, others) ↦ inr (λ key named. rolled_cleaned (only_key key) s h (primary key named), λ key named. rolled_cleaned (only_key key) s h (others key named))
+]
 
 module _ (plan : Plan) (s : ℕ) where
   -- each of its Prewrites that was answered without error

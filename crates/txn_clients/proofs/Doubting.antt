@@ -92,7 +92,7 @@ suffix_sent plans (x ∷ h) [] older t r run same i =
 suffix_sent plans (x ∷ h) (y ∷ newer) older t r run same i = suffix_sent plans h newer older t r run.2 (tail_same x y (seen h) (newer ++ older) same) i
 
 -- a Prewrite names the primary of the plan of its start
-prewrite_names : (plans : ℕ → Plan) (h : List Event) (t : Ticket) (r : PrewriteRequest) → IsRun plans h → Has h (Sent t (Prewrite r)) → r.primary_lock ≡ (plans r.start_version).primary
+pub prewrite_names : (plans : ℕ → Plan) (h : List Event) (t : Ticket) (r : PrewriteRequest) → IsRun plans h → Has h (Sent t (Prewrite r)) → r.primary_lock ≡ (plans r.start_version).primary
 prewrite_names plans [] t r run i = absurd i
 prewrite_names plans (e ∷ h) t r run (inl f) = let may : IsAllowed plans h (Sent t (Prewrite r)) = subst (IsAllowed plans h) f run.1 in may.1.primary
 prewrite_names plans (e ∷ h) t r run (inr i) = prewrite_names plans h t r run.2 i

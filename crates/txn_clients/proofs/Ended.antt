@@ -187,7 +187,7 @@ module _ {P Q K : Type 0} where
     -- Between calls it waits for nothing that a line posts.
 
     rest_fits : (t : Standing P Q K) (o p : Posted) (h : List Event) → is_open t.work ≡ false → TransactionFits w t o h → TransactionFits w t p h
-    rest_fits t o p h rests f = record { given = f.given; unsent = f.unsent; settled = f.settled; at = by t.work rests f.at }
+    rest_fits t o p h rests f = record { given = f.given; unsent = f.unsent; settled = f.settled; undone = f.undone; at = by t.work rests f.at }
       where
         by : (g : Work P Q K) → is_open g ≡ false → IsAtWork w t.options.retry_options t.start t.status t.contents t.commits g o h → IsAtWork w t.options.retry_options t.start t.status t.contents t.commits g p h
         by work.Idle e x = x

@@ -255,9 +255,6 @@ module _ {P Q K : Type 0} where
 
 -- Requests for timestamps
 
-paired_by_book : (b d : Book) → d ≡ b → IsPaired b → IsPaired d
-paired_by_book b d e h = subst IsPaired (sym e) h
-
 quiet_so : (b : Book) → IsPaired b → (b.queue ≡ []) ⊎ IsThere b.out → IsQuiet b
 quiet_so b paired (inl e) = inl e
 quiet_so b (inl none) (inr (x, e)) = absurd (two (sym none ∙ e))

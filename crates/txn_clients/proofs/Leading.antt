@@ -45,7 +45,7 @@ use Rattle.txn_tso.specs.declared.asker.Asker.{Asker}
 use Rattle.txn_clients.specs.Arising.{Anyhow, Arisen, CanCome, HasPlan, HasStart, HavePlans, HoldsOf, IsBehind, KeepRight, Leads, RowFits, askers_of, heard_by, oracle_of, pends_answer, postings_of, ticket_or, told_of}
 use Rattle.txn_clients.specs.Clients.{nexts_of, row_at, rows_of, stands_of}
 use Rattle.txn_clients.specs.Failing.{outbox_of}
-use Rattle.txn_clients.specs.Growing.{AreApart, arisen_beside, arisen_fewer, drawn_grows, right_by, right_same, some_run}
+use Rattle.txn_clients.specs.Growing.{arisen_beside, arisen_fewer, drawn_grows, right_by, right_same, some_run}
 use Rattle.txn_clients.specs.Matching.{IsLine}
 use Rattle.txn_clients.specs.Rows.{Tells, stand_of}
 use Rattle.txn_clients.specs.Waiting.{Book, asks_of, book_at, posted_at, voice, voice_at}
@@ -394,19 +394,3 @@ leads_nothing w askers rest ps es where_it_stands s h a = record {
   ends = record { more = []; ended = sym (append-nil es); each = All-nil _; doubts = All-nil _ };
   then = tt;
 }
-
--- Rows that are set stay apart by their starts, where no other row has the start of the new one.
-pub apart_set : {P Q K : Type 0} (rows : List (Row P Q K)) (at : ℕ) (new : Row P Q K) → at < length rows → AreApart rows → ((j v : ℕ) → j ≢ at → HasStart v new → HasStart v (row_at rows j) → ⊥) → AreApart (set rows at new)
-apart_set rows at new inside apart other i j v b d = by (same_line at i) (same_line at j)
-  where
-    own : (x : ℕ) → x ≡ at → HasStart v (row_at (set rows at new) x) → HasStart v new
-    own x e y = subst (HasStart v) (or_same rows at new row.Plain inside) (subst (λ z. HasStart v (row_at (set rows at new) z)) e y)
-
-    old : (x : ℕ) → x ≢ at → HasStart v (row_at (set rows at new) x) → HasStart v (row_at rows x)
-    old x far y = subst (HasStart v) (or_other rows at x new row.Plain far) y
-
-    by : (i ≡ at) ⊎ (i ≢ at) → (j ≡ at) ⊎ (j ≢ at) → i ≡ j
-    by (inl e) (inl f) = e ∙ sym f
-    by (inl e) (inr far) = absurd (other j v far (own i e b) (old j far d))
-    by (inr far) (inl f) = absurd (other i v far (own j f d) (old i far b))
-    by (inr far) (inr off) = apart i j v (old i far b) (old j off d)

@@ -433,14 +433,13 @@ module _ {P Q K A B D : Type 0} (w : Ways P Q K A B D) where
   })
 
   -- what came is this
-  pub heard_moves : {C : Type 0} (b a : Arrival) (meant : Type 0) (old new : Standing P Q K) (from to : Posted) (pd pd' : C) (turn : Turn (Result (TxnAnswer Q) Error)) → b ≡ a → TransactionGoes w meant (record old { commits = new.commits }) new from to pd pd' turn
+  pub heard_moves : {C : Type 0} (a : Arrival) (meant : Type 0) (old new : Standing P Q K) (from to : Posted) (pd pd' : C) (turn : Turn (Result (TxnAnswer Q) Error)) → TransactionGoes w meant (record old { commits = new.commits }) new from to pd pd' turn
       → ((r : Request) → TransactionMoves w (told_by a from r).known (told_by a from r).hear old new from to turn) → IsQuiet old → new.status ≡ moved_by old.status turn
       → new ≡ record old { status = new.status; commits = new.commits; work = new.work; width = new.width } → GivesUp old new turn → (old.work ≡ Idle → (turn ≡ Waits) × (new ≡ old) × (to ≡ from)) → SaysLoss turn new
-      → ((h : List Event) → is_open old.work ≡ true → TransactionFits w old from h → IfKept turn (IsFollowed from (heard a from old.commits) new.commits)) → IsAlone b old
-      → IfKept turn (StandMoves w (tells.Heard b) old new from to (answer_in answers.Called turn))
-  heard_moves b a meant old new from to pd pd' turn e goes told quiet status kept gives deaf says follows alone =
+      → ((h : List Event) → is_open old.work ≡ true → TransactionFits w old from h → IfKept turn (IsFollowed from (heard a from old.commits) new.commits)) → IsAlone a old
+      → IfKept turn (StandMoves w (tells.Heard a) old new from to (answer_in answers.Called turn))
+  heard_moves a meant old new from to pd pd' turn goes told quiet status kept gives deaf says follows alone =
       let contents : new.contents ≡ old.contents = ap (λ (t : Standing P Q K). t.contents) kept in
       let start : new.start ≡ old.start = ap (λ (t : Standing P Q K). t.start) kept in
-      subst (λ d. IfKept turn (StandMoves w (tells.Heard d) old new from to (answer_in answers.Called turn))) (sym e)
-      (hears_move a old new from to turn (λ alive. heard_lives meant old new from to pd pd' turn alive goes) told contents (keeps_heard old new from to turn quiet status start contents gives deaf)
-      (off_heard old new turn quiet status gives (λ e. (deaf e).0)) says start (marks w a old new from to turn follows deaf gives) (subst (λ d. IsAlone d old) e alone))
+      hears_move a old new from to turn (λ alive. heard_lives meant old new from to pd pd' turn alive goes) told contents (keeps_heard old new from to turn quiet status start contents gives deaf)
+      (off_heard old new turn quiet status gives (λ e. (deaf e).0)) says start (marks w a old new from to turn follows deaf gives) alone

@@ -47,7 +47,7 @@ use Rattle.txn_clients.specs.Failing.{CalledIn, CameIn, CountedIn, FailsAt, HasM
 use Rattle.txn_clients.specs.Resting.{called_in_longer, counted_longer, lost_longer, marked_longer, shown_longer, retries_longer}
 use Rattle.txn_clients.specs.Accounts.{SaysLoss}
 use Rattle.txn_clients.specs.Waiting.{IsKept, IsReached, IsRisen, StandArises, StandGoes}
-use Rattle.txn_clients.proofs.Cleaning.{cleaned, given_cleaned, kept_cleaned, own_cleaned, parts_cleaned, refused_cleaned, shown_cleaned, unsent_cleaned}
+use Rattle.txn_clients.proofs.Cleaning.{cleaned, given_cleaned, kept_cleaned, own_cleaned, parts_cleaned, refused_cleaned, shown_cleaned, undone_cleaned, unsent_cleaned}
 use Rattle.txn_clients.proofs.Marking.{lost_came, marked_same, marks, none_marked}
 use Rattle.txn_clients.proofs.Showing.{among_behind, barred_by, counted_after, counts_heard, owing_called, owing_came, owing_met, rolls_longer, known_so, fails_done, fits_known, own_after, own_heard, refused_by, refused_longer_in, sent_shown, shown_after, shown_heard, unheard_ends}
 use Rattle.txn_side.specs.Account.{Account, is_undetermined_view}
@@ -72,9 +72,6 @@ open_so (Open call) e = absurd (no e)
 open_so GaveUp e = inr refl
 
 -- Buffers stay in order.
-
-step_ordered : (contents next : Contents) → IsOrdered next → contents ≡ next → IsOrdered contents
-step_ordered contents next o e = subst IsOrdered (sym e) o
 
 pub written_step : (key : List ℕ) (write : Contents → Write) (call : WriteCall) (c d : Contents) → IsStep (with_write c key (write c)) call c d → IsOrdered c → IsOrdered d
 written_step key write call c d s o = subst IsOrdered (sym s.contents) (written_ordered c key (write c) o)
@@ -191,6 +188,7 @@ module _ {P Q K A B D : Type 0} (w : Ways P Q K A B D) (p : IsLawful w.prewritin
     given = given_cleaned h (version_of t.start) f.given;
     unsent = λ a. unsent_cleaned (version_of t.start) t.commits h (f.unsent a);
     settled = f.settled;
+    undone = λ a. undone_cleaned (version_of t.start) t.contents h (f.undone a);
     at = subst (λ x. IsAtWork w t.options.retry_options t.start t.status t.contents t.commits x later (cleaned h)) (sym e) (at g rests (subst (λ x. IsAtWork w t.options.retry_options t.start t.status t.contents t.commits x later h) e f.at));
   }
     where
@@ -204,7 +202,7 @@ module _ {P Q K A B D : Type 0} (w : Ways P Q K A B D) (p : IsLawful w.prewritin
     where
       by : (t.work ≡ Idle) ⊎ (t.work ≡ GaveUp) → TransactionFits w t later h
       by (inl i) = idle_fits w t o later h i f
-      by (inr g) = record { given = f.given; unsent = f.unsent; settled = f.settled; at = subst (λ x. IsAtWork w t.options.retry_options t.start t.status t.contents t.commits x later h) (sym g) tt }
+      by (inr g) = record { given = f.given; unsent = f.unsent; settled = f.settled; undone = f.undone; at = subst (λ x. IsAtWork w t.options.retry_options t.start t.status t.contents t.commits x later h) (sym g) tt }
 
   pub stand_rests : {trace : Option Trace} {at : ℕ} (t : Standing P Q K) (o later : Posted) (nexts news : List ℕ) → is_open t.work ≡ false → IsRisen nexts news → CountedIn trace later.line 0 → StandArises w trace at o nexts t → StandArises w trace at later news t
   stand_rests {trace} {at} t o later nexts news e risen none a = record {
@@ -375,19 +373,6 @@ module _ {P Q K A B D : Type 0} (w : Ways P Q K A B D) (p : IsLawful w.prewritin
           other : (m : ℕ) → TimeOf n ≡ ReplyTo m → ⊥
           other m q = cc
 
-  -- told of what came
-  pub heard_goes : {C : Type 0} (b a : Arrival) (old new : Standing P Q K) (from to : Posted) (pd pd' : C) (turn : Turn (Result (TxnAnswer Q) Error)) → b ≡ a
-      → ((r : Request) → TransactionMoves w (told_by a from r).known (told_by a from r).hear old new from to turn)
-      → new.start ≡ old.start → new.options ≡ old.options → new.contents ≡ old.contents
-      → TransactionGoes w (work_waits w old.work (awaited_as a)) (record old { commits = new.commits }) new from to pd pd' turn
-      → Expects (work_waits w old.work) (work_waits w new.work) (λ x. x ≡ awaited_as a) from to
-      → ((work_waits w old.work (awaited_as a) → ⊥) → awaits a from old.commits ≡ false → new.commits ≡ old.commits)
-      → (old.work ≡ Idle → (turn ≡ Waits) × (new ≡ old) × (to ≡ from)) → GivesUp old new turn → TransactionReady w old
-      → ((h : List Event) → is_open old.work ≡ true → TransactionFits w old from h → IfKept turn (IsFollowed from (heard a from old.commits) new.commits))
-      → IfKept turn (StandGoes w (owing from.line (tells.Heard b)) (λ x. x ≡ awaited_as b) (is_open old.work ≡ true) (λ trace. CameIn trace from b) old new from to turn)
-  heard_goes b a old new from to pd pd' turn e told start options same goes expects commits deaf gone ready follows =
-      subst (λ d. IfKept turn (StandGoes w (owing from.line (tells.Heard d)) (λ x. x ≡ awaited_as d) (is_open old.work ≡ true) (λ trace. CameIn trace from d) old new from to turn)) (sym e) (hears_goes a old new from to pd pd' turn told start options same goes expects commits deaf gone ready follows)
-
   -- It is asked for something.
 
   expects_none : (old new : Standing P Q K) (o : Posted) → is_open new.work ≡ false → Expects (work_waits w old.work) (work_waits w new.work) (λ a. ⊥) o o
@@ -510,7 +495,7 @@ module _ {P Q K A B D : Type 0} (w : Ways P Q K A B D) (p : IsLawful w.prewritin
         marked = marked_longer trace longer at old l x.marked;
         arisen = record {
           history = x.arisen.history;
-          fits = record { given = x.arisen.fits.given; unsent = x.arisen.fits.unsent; settled = x.arisen.fits.settled; at = tt };
+          fits = record { given = x.arisen.fits.given; unsent = x.arisen.fits.unsent; settled = x.arisen.fits.settled; undone = x.arisen.fits.undone; at = tt };
           kept = kept_risen nexts news x.arisen.history risen x.arisen.kept;
           shown = shown_longer trace longer at x.arisen.history l x.arisen.shown;
           own = subst (λ n. AreOwn n x.arisen.history) (sym reached.line) x.arisen.own;

@@ -1,6 +1,6 @@
 -- What can have arisen from a history can have arisen from a longer one, where what is new does it no harm: no Commit of its own start,
 -- and nothing that a line posts.
-use Rattle.std.specs.Prelude.{◌≡◌, ⊤, ℕ, Bool, true, false, List, [], ◌∷◌, ◌++◌, Option, Some, None, if◌then◌else◌, refl}
+use Rattle.std.specs.Prelude.{◌≡◌, ⊤, ℕ, Bool, true, false, List, [], ◌∷◌, Option, Some, None, if◌then◌else◌, refl}
 use Rattle.std.proofs.Common.{zero, suc, inl, inr, eqb, sym, ap, ◌∙◌, subst}
 use Rattle.std.proofs.lemmas.Bool.Decides.{eqb_tells}
 use Rattle.txn_kv.specs.Timestamp.{version_of}
@@ -14,7 +14,6 @@ use Rattle.txn_history.specs.Meaning.{IsLawful}
 use Rattle.txn_history.specs.Plan.{Key, Plan}
 use Rattle.txn_history.specs.Plan.Way.{TwoPhases}
 use Rattle.txn_history.specs.Posted.{Posted, Within, Within-one}
-use Rattle.txn_law.specs.Part.{IsPart}
 use Rattle.txn_law.specs.Run.{IsPossible, IsRun}
 use Rattle.txn_commit.specs.Committing.{Ways}
 use Rattle.txn_merge.specs.declared.retry_options.RetryOptions.{RetryOptions}
@@ -28,22 +27,19 @@ use Rattle.txn_commit.specs.declared.secondary_job.Stage.{Stage}
 use Rattle.txn_commit.specs.declared.secondary_job.Stage.TheVariants as stage
 use Rattle.txn_core.specs.Others.{AddsNone, AddsNothingOf}
 use Rattle.txn_clients.specs.First.{first_front}
-use Rattle.txn_core.proofs.Others.{adds_further, adds_one, adds_within, newer_or_older, others_fit}
+use Rattle.txn_core.proofs.Others.{adds_one, adds_within, newer_or_older, others_fit}
 use Rattle.txn_client.specs.Calls.{called-lawful}
 use Rattle.txn_report.specs.declared.outcome.Outcome.{Outcome}
 use Rattle.txn_report.specs.declared.outcome.Outcome.TheVariants as outcomes
 use Rattle.txn_report.specs.declared.outcome.Payload.TheVariants as payloads
 use Rattle.txn_side.specs.Arising.{IsOutside}
-use Rattle.txn_trace.specs.Answering.{AreAnswerable, OracleFits}
 use Rattle.txn_trace.specs.Drawing.{IsDrawn}
 use Rattle.txn_trace.specs.Posting.{PostsNothing, SendsNothing}
 use Rattle.txn_trace.proofs.Drawn.{draw_longer, draws_line}
 use Rattle.txn_trace.proofs.Fitting.{fits_longer, fits_more}
 use Rattle.txn_trace.proofs.Growing.{unsent_runs}
 use Rattle.txn_trace.proofs.Lines.{fresh_quiet}
-use Rattle.txn_trace.proofs.Parts.{part_itself}
-use Rattle.txn_trace.proofs.Timing.{answerable_longer, answerable_more}
-use Rattle.txn_tso.specs.Oracle.{Oracle}
+use Rattle.txn_trace.proofs.Timing.{answerable_more}
 use Rattle.txn_tso.specs.Oracle.{Answer as Answered_to}
 use Rattle.txn_clients.specs.Arising.{Arisen, Draws, HasPlan, HasStart, HavePlans, HoldsOf, IsBehind, IsCommittedSo, KeepRight, RowFits}
 use Rattle.txn_clients.specs.Clients.{row_at, rows_of}
@@ -68,16 +64,6 @@ adds_none_of is h longer a = record { newer = a.newer; grown = a.grown; none = �
 pub adds_no_commit : (e : Event) (h : List Event) → IsNoCommit e → AddsNoCommit h (e ∷ h)
 adds_no_commit e h n = adds_one (λ r. ⊤) e h (λ t r f x. subst IsNoCommit f n)
 
-pub adds_no_more : (a b c : List Event) → AddsNoCommit a b → AddsNoCommit b c → AddsNoCommit a c
-adds_no_more a b c n m = adds_further (λ r. ⊤) a b c n m
-
-part_grown : (newer h : List Event) → IsPart (newer ++ h) h
-part_grown [] h = part_itself h
-part_grown (e ∷ newer) h = inr (part_grown newer h)
-
-pub adds_part : (is : CommitRequest → Type 0) (h longer : List Event) → AddsNone is h longer → IsPart longer h
-adds_part is h longer a = subst (λ k. IsPart k h) (sym a.grown) (part_grown a.newer h)
-
 -- each Commit in it was sent before
 pub commits_before : (h longer : List Event) (t : Ticket) (r : CommitRequest) → AddsNoCommit h longer → Has longer (Sent t (Commit r)) → Has h (Sent t (Commit r))
 commits_before h longer t r a i = elim (newer_or_older a.newer h (Sent t (Commit r)) (subst (λ k. Has k (Sent t (Commit r))) a.grown i)) [ inl j ↦ absurd (a.none t r j tt) | inr j ↦ j ]
@@ -99,12 +85,6 @@ outside_posts_nothing (Asked a) n = absurd n
 outside_posts_nothing e n = tt
 
 -- What the oracles hold, what is told, and what was drawn
-
-pub oracle_grows : (o : Oracle) (t : Ticket) (h longer : List Event) → AddsNoCommit h longer → OracleFits o t h → OracleFits o t longer
-oracle_grows o t h longer a f = fits_longer o t h longer (adds_part (λ r. ⊤) h longer a) f
-
-pub answerable_grows : (rest : List Answered_to) (h longer : List Event) → AddsNoCommit h longer → AreAnswerable rest h → AreAnswerable rest longer
-answerable_grows rest h longer a f = answerable_longer rest h longer (adds_part (λ r. ⊤) h longer a) f
 
 pub drawn_grows : (askers : Ticket → List ℕ) (h longer : List Event) (n v : ℕ) → Within h longer → IsDrawn askers h n v → IsDrawn askers longer n v
 drawn_grows askers h longer n v w d = draw_longer askers askers h longer n v w (λ t r o g. refl) d

@@ -12,7 +12,6 @@ use Rattle.txn_kv.specs.declared.request.commits.PrewriteRequest.{PrewriteReques
 use Rattle.txn_kv.specs.declared.request.Request.TheVariants.{BatchRollback, Commit, Prewrite}
 use Rattle.txn_kv.specs.declared.timestamp.Timestamp.{Timestamp}
 use Rattle.txn_history.proofs.Counting.{zero-right, Spends-map, Spends-next, Spends-quiet, Spends-stops}
-use Rattle.txn_history.proofs.Telling.{region_error_is_error}
 use Rattle.txn_history.specs.Event.{Event}
 use Rattle.txn_history.specs.Meaning.{Counts, IsUnbegun, Meaning}
 use Rattle.txn_history.specs.Posted.{Posted}
@@ -28,16 +27,7 @@ use Rattle.txn_commit.specs.declared.committer.CommitterCall.{CommitterCall}
 use Rattle.txn_commit.specs.declared.committer.Stage.{Stage}
 use Rattle.txn_commit.specs.declared.committer.Stage.TheVariants as stage
 use Rattle.txn_commit.specs.declared.timestamp_call.TimestampCall.{TimestampCall}
-use Rattle.txn_history.specs.Arrivals.{tells_error, tells_failure}
-use Rattle.txn_kv.specs.declared.arrival.Arrival.{Arrival}
 use Rattle.txn_kv.specs.declared.arrival.Arrival.TheVariants as arrival
-
--- what a new run may better is an error
-pub failure_is_error : (a : Arrival) → tells_failure a ≡ true → tells_error a ≡ true
-failure_is_error (arrival.Reply n x) e = region_error_is_error x e
-failure_is_error (arrival.Lost n) e = refl
-failure_is_error (arrival.Slept n) e = e
-failure_is_error (arrival.Time n x) e = absurd (false≢true e)
 
 pub is_kept_so : {V : Type 0} (p : Progress V) → is_kept (turn_of (Ok p)) ≡ true
 is_kept_so Waiting = refl

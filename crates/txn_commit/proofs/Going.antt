@@ -17,6 +17,7 @@ use Rattle.txn_history.specs.Phase.Phase.{Fresh, GivenUp, Over, Running}
 use Rattle.txn_history.specs.Posted.{Posted, ticket_of}
 use Rattle.txn_history.specs.Turn.{HasEnded, IfKept-all, IfKept-out, IfKept-stopped, Turn}
 use Rattle.txn_history.specs.Turn.Turn.{Stopped, Waits, Ends}
+use Rattle.txn_history.proofs.Arriving.{told_heard}
 use Rattle.txn_history.proofs.Telling.{Expects-quiet, Expects-then, Goes-then}
 use Rattle.txn_tso.specs.declared.stage.Stage.{Stage as Call_stage}
 use Rattle.txn_tso.specs.declared.stage.Stage.TheVariants as tso
@@ -86,13 +87,6 @@ asks_still t n = by t.call.stage n
     by tso.Stopped n e = n refl
 
 -- What is heard
-
--- an event is heard as what waits for it
-told_heard : (a : Arrival) (o : Posted) (r : Request) (x : Awaited) → x ≡ awaited_as a → (told_by a o r).heard x
-told_heard (arrival.Reply n y) o r x e = e
-told_heard (arrival.Lost n) o r x e = e
-told_heard (arrival.Slept n) o r x e = e
-told_heard (arrival.Time n y) o r x e = e
 
 Expects-map : {was is heard was' is' heard' : Awaited → Type 0} {from to : Posted}
     → ((a : Awaited) → is' a → is a) → ((a : Awaited) → was a → was' a) → ((a : Awaited) → heard' a → heard a)
@@ -188,13 +182,6 @@ relays_goes {turn} kept r = record { deaf = r.deaf; state = r.state; outbox = r.
 pub relays_after : {S A C : Type 0} {m : Meaning S A} {meant : Type 0} {old new : S} {from to : Posted} {pd pd' : C} {turn : Turn A}
     → turn ≢ Stopped → Relays m meant old new from to pd pd' turn → meant → m.phase new ≡ phase_after turn
 relays_after {turn} kept r this = IfKept-out turn kept (r.next this)
-
--- a plan that answered has not given up
-pub relays_kept : {S A C : Type 0} {m : Meaning S A} {meant : Type 0} {old new : S} {from to : Posted} {pd pd' : C} {turn : Turn A}
-    → turn ≢ Stopped → m.phase old ≢ GivenUp → Relays m meant old new from to pd pd' turn → m.phase new ≢ GivenUp
-relays_kept {m} {meant} {turn} kept n r e =
-    let other : meant → ⊥ = λ this. kept_after turn kept (sym (IfKept-out turn kept (r.next this)) ∙ e) in
-    n (sym (ap m.phase (r.state other)) ∙ e)
 
 -- It waits on with its last plan, or is over with it.
 

@@ -12,4 +12,3 @@ pub mod Posting
 pub mod Sending
 pub mod Stages
 pub mod Timing
-pub mod Told

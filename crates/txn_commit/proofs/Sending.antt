@@ -9,7 +9,7 @@ use Rattle.txn_kv.specs.declared.ticket.Ticket.{Ticket}
 use Rattle.txn_history.specs.Among.{IsAmong}
 use Rattle.txn_history.specs.Event.{Event, Has}
 use Rattle.txn_history.specs.Event.Event.{Sent, Began, Asked}
-use Rattle.txn_history.specs.Licence.{AllAcknowledged, CommitsAnswered, PrimaryRolledBack, WantedAfter, WasGiven, WasNamed}
+use Rattle.txn_history.specs.Licence.{AllAcknowledged, CommitsAnswered, PrimaryRolledBack, WasGiven, WasNamed}
 use Rattle.txn_history.specs.Plan.{Key, has_key, Plan}
 use Rattle.txn_history.specs.Plan.Way.{TwoPhases}
 use Rattle.txn_history.specs.Posted.{Errand, Licensed, Within, after, posting}
@@ -158,9 +158,6 @@ given_longer s h k w g = (g.0, g.1, g.2, g.3, w _ g.4, g.5, g.6)
 -- where something was given, so was 0
 pub given_zero : (s : ℕ) (h : List Event) → WasGiven h s → WasGiven h 0
 given_zero s h g = (g.0, g.1, g.2, g.3, g.4, g.5, omega arith)
-
-pub wanted_more : (plan : Plan) (s : ℕ) (a : Ticket) (e : Event) (h : List Event) → WantedAfter plan h s a → WantedAfter plan (e ∷ h) s a
-wanted_more plan s a e h w = inr w
 
 pub rolled_longer : (plan : Plan) (s : ℕ) (h k : List Event) → Within h k → PrimaryRolledBack plan h s → PrimaryRolledBack plan k s
 rolled_longer plan s h k w g = (g.0, g.1, g.2, w _ g.3, g.4, g.5, g.6)

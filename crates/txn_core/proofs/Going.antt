@@ -19,7 +19,7 @@ use Rattle.txn_commit.specs.Committing.{CommitterFits, CommitterGives, Committer
 use Rattle.txn_commit.specs.Following.{Commits, IsFollowed, heard, undetermined}
 use Rattle.txn_commit.specs.Going.{may_commit}
 use Rattle.txn_commit.specs.Parts.{parts_of}
-use Rattle.txn_commit.specs.Plans.{AreRolledBack}
+use Rattle.txn_commit.specs.Plans.{AreRolledBack, only_key}
 use Rattle.txn_commit.specs.Sending.{MaySend, plan_of}
 use Rattle.txn_commit.specs.declared.commit_parts.CommitParts.{CommitParts}
 use Rattle.txn_commit.specs.declared.committer.CommitterAnswer.{CommitterAnswer}
@@ -28,10 +28,10 @@ use Rattle.txn_commit.specs.declared.committer.CommitterCall.{CommitterCall}
 use Rattle.txn_commit.proofs.Following.{IsNoSending, knows_more}
 use Rattle.txn_commit.proofs.Posting.{Hears}
 use Rattle.txn_commit.proofs.Posting.Hears.{Nothing, One}
-use Rattle.txn_commit.proofs.Sending.{given_longer}
+use Rattle.txn_commit.proofs.Sending.{given_longer, rolled_longer}
 use Rattle.txn_core.proofs.Naming.{named_more, names_on}
 use Rattle.txn_merge.specs.declared.retry_options.RetryOptions.{RetryOptions}
-use Rattle.txn_core.specs.Going.{BeginMoves, CallFits, CallMoves, FailsWith, IsAtWork, IsCommittedAt, IsJobFor, IsNamed, IsNewCall, IsSameCall, IsUnderWay, KnowsCall, KnowsContents, KnowsParts, MayBegin, MayGoBack, MaySendFor, MayStart, NamesReady, TakesUp, TransactionFits, TransactionGives, TransactionMoves}
+use Rattle.txn_core.specs.Going.{AreUndone, BeginMoves, CallFits, CallMoves, FailsWith, IsAtWork, IsCommittedAt, IsJobFor, IsNamed, IsNewCall, IsSameCall, IsUnderWay, IsUndone, KnowsCall, KnowsContents, KnowsParts, MayBegin, MayGoBack, MaySendFor, MayStart, NamesReady, TakesUp, TransactionFits, TransactionGives, TransactionMoves}
 use Rattle.txn_core.specs.Status.{allows_data, has_turned_back, may_move}
 use Rattle.txn_core.specs.Transaction.{Standing, has_given_up, is_open, moved}
 use Rattle.txn_core.specs.declared.status.Status.{Status}
@@ -61,6 +61,16 @@ turned_committed StartedCommit e = absurd (cc)
 turned_committed Rolledback e = e
 turned_committed StartedRollback e = e
 turned_committed Dropped e = e
+
+-- and one that is rolled back then was so before
+rolled_committed : (s : Status) → moved s Is_committed ≡ Rolledback → s ≡ Rolledback
+rolled_committed ReadOnly e = e
+rolled_committed Active e = e
+rolled_committed Is_committed e = e
+rolled_committed StartedCommit e = absurd (cc)
+rolled_committed Rolledback e = e
+rolled_committed StartedRollback e = e
+rolled_committed Dropped e = e
 
 turned_rolled : (s : Status) → has_turned_back (moved s Rolledback) ≡ true → has_turned_back s ≡ true
 turned_rolled ReadOnly e = e
@@ -96,6 +106,13 @@ parts_more s c parts e h n k = record {
   ready = named_more (plan_of parts) s e h n k.ready;
 }
 
+-- what was undone stays so
+pub undone_longer : (s : ℕ) (contents : Contents) (h k : List Event) → Within h k → IsUndone s contents h → IsUndone s contents k
+undone_longer s contents h k w u parts is = elim (u parts is) [
+  | inl none ↦ inl none
+  | inr (primary, others) ↦ inr (λ key named. rolled_longer (only_key key) s h k w (primary key named), λ key named. rolled_longer (only_key key) s h k w (others key named))
+]
+
 module _ {P Q K A B D : Type 0} where
   -- what is known of an open call is known of what the buffer holds, which has its parts
   knows_contents : (w : Ways P Q K A B D) (options : RetryOptions) (start : Timestamp) (status : Status) (contents : Contents) (c : Commits) (call : CommitterCall P Q K) (o : Posted) (h : List Event)
@@ -110,11 +127,13 @@ module _ {P Q K A B D : Type 0} where
   -- the open call has ended, and the transaction rests
   pub rests : (w : Ways P Q K A B D) (t new : Standing P Q K) (call : CommitterCall P Q K) (next : Status) (v : ℕ) (o : Posted) (h : List Event)
       → new ≡ record t { status = next; work = Idle; width = v } → allows_data next ≡ false → (has_turned_back next ≡ true → has_turned_back t.status ≡ true)
+      → (next ≡ Rolledback → IsUndone (version_of t.start) t.contents h)
       → CallFits w t call o h → TransactionFits w new o h
-  rests w t new call next v o h e n b f = rw e (record {
+  rests w t new call next v o h e n b r f = rw e (record {
     given = f.given;
     unsent = λ a. absurd (let g = sym n ∙ a in cc);
     settled = λ a. f.settled (b a);
+    undone = r;
     at = knows_contents w t.options.retry_options t.start t.status t.contents t.commits call o h f.under_way;
   })
 
@@ -122,7 +141,7 @@ module _ {P Q K A B D : Type 0} where
   pub takes_waits : (w : Ways P Q K A B D) (call : CommitterCall P Q K) (old new : Standing P Q K) (o : Posted)
       → new ≡ record old { work = Open call } → TakesUp w call old new o Waits Waits
   takes_waits w call old new o e = record {
-    still = λ h k. rw e (record { given = k.0.given; unsent = λ a. absurd (let g = sym k.0.under_way.started ∙ a in cc); settled = k.0.settled; at = k.0.under_way });
+    still = λ h k. rw e (record { given = k.0.given; unsent = λ a. absurd (let g = sym k.0.under_way.started ∙ a in cc); settled = k.0.settled; undone = k.0.undone; at = k.0.under_way });
     done = tt;
   }
 
@@ -133,7 +152,7 @@ module _ {P Q K A B D : Type 0} where
       → IsCommittedAt new.options.retry_options new.start t keys turn
       → TakesUp w call old new o (Ends (Ok (Committed t))) turn
   takes_committed w call old new t keys v o turn e f (job, g, j) = rw g (record {
-    still = λ h k. rests w old new call (moved old.status Is_committed) v o h e (stays_started old.status Is_committed k.0.under_way.started refl) (turned_committed old.status) k.0;
+    still = λ h k. rests w old new call (moved old.status Is_committed) v o h e (stays_started old.status Is_committed k.0.under_way.started refl) (turned_committed old.status) (λ a. k.0.undone (rolled_committed old.status a)) k.0;
     done = λ h k. inl (
       call.parts,
       k.0.under_way.whole,
@@ -149,7 +168,7 @@ module _ {P Q K A B D : Type 0} where
       → new ≡ record old { status = moved old.status Is_committed; work = Idle; width = v }
       → TakesUp w call old new o (Ends (Ok Checked)) (Ends (Ok (answer.Committed None None)))
   takes_checked w call old new v o e = record {
-    still = λ h k. rests w old new call (moved old.status Is_committed) v o h e (stays_started old.status Is_committed k.0.under_way.started refl) (turned_committed old.status) k.0;
+    still = λ h k. rests w old new call (moved old.status Is_committed) v o h e (stays_started old.status Is_committed k.0.under_way.started refl) (turned_committed old.status) (λ a. k.0.undone (rolled_committed old.status a)) k.0;
     done = λ h k. inl (call.parts, k.0.under_way.whole, (k.1.0, subst (λ (x : Timestamp). IsAllPrewritten (version_of x) call.parts h) k.0.under_way.own k.1.1));
   }
 
@@ -158,9 +177,13 @@ module _ {P Q K A B D : Type 0} where
       → new ≡ record old { status = moved old.status Rolledback; work = Idle; width = v }
       → TakesUp w call old new o (Ends (Ok RolledBack)) (Ends (Ok answer.Unit))
   takes_rolled w call old new v o e = record {
-    still = λ h k. rests w old new call (moved old.status Rolledback) v o h e (stays_started old.status Rolledback k.0.under_way.started refl) (turned_rolled old.status) k.0;
-    done = λ h k. inl (call.parts, k.0.under_way.whole, inr (subst (λ (x : Timestamp). AreRolledBack (version_of x) (call.parts.primary ∷ []) h × AreRolledBack (version_of x) call.parts.secondaries h) k.0.under_way.own k.1));
+    still = λ h k. rests w old new call (moved old.status Rolledback) v o h e (stays_started old.status Rolledback k.0.under_way.started refl) (turned_rolled old.status)
+        (λ a parts is. subst (λ (p : CommitParts). AreUndone (version_of old.start) p h) (some_same k.0.under_way.whole is) (inr (all_rolled h k))) k.0;
+    done = λ h k. inl (call.parts, k.0.under_way.whole, inr (all_rolled h k));
   }
+    where
+      all_rolled : (h : List Event) → KnowsCall w call old o (Ends (Ok RolledBack)) h → AreRolledBack (version_of old.start) (call.parts.primary ∷ []) h × AreRolledBack (version_of old.start) call.parts.secondaries h
+      all_rolled h k = subst (λ (x : Timestamp). AreRolledBack (version_of x) (call.parts.primary ∷ []) h × AreRolledBack (version_of x) call.parts.secondaries h) k.0.under_way.own k.1
 
   named_fails : (w : Ways P Q K A B D) (options : RetryOptions) (s r : ℕ) (parts : CommitParts) (lost : Option Ticket) (h : List Event) (inner e : Error)
       → IsNamed lost inner e → CommitterGives w options s parts h (Err inner) → FailsWith w options r parts lost h e
@@ -173,7 +196,7 @@ module _ {P Q K A B D : Type 0} where
       → IsNamed (undetermined old.commits) inner e
       → TakesUp w call old new o (Ends (Err inner)) (Ends (Err e))
   takes_failed w call old new inner e v o f n = record {
-    still = λ h k. rests w old new call old.status v o h f k.0.under_way.started (λ a. a) k.0;
+    still = λ h k. rests w old new call old.status v o h f k.0.under_way.started (λ a. a) k.0.undone k.0;
     done = λ h k. inl (call.parts, k.0.under_way.whole, rw f (named_fails w old.options.retry_options (version_of call.start) (version_of old.start) call.parts (undetermined old.commits) h inner e n (subst (λ (x : RetryOptions). CommitterGives w x (version_of call.start) call.parts h (Err inner)) k.0.under_way.retries k.1)));
   }
 
@@ -206,6 +229,7 @@ module _ {P Q K A B D : Type 0} where
       (λ h u l i x. record {
         given = given_longer (version_of old.start) h l i (k h u).0.given;
         settled = λ a. ap undetermined (b a ((k h u).0.under_way.back a)).0 ∙ (k h u).0.settled a;
+        undone = λ a. undone_longer (version_of old.start) old.contents h l i ((k h u).0.undone a);
         under_way = record {
           own = e.start ∙ (k h u).0.under_way.own;
           retries = e.retries ∙ (k h u).0.under_way.retries;
@@ -240,6 +264,7 @@ module _ {P Q K A B D : Type 0} where
   begin_fits w old call parts o h v e n m = record {
     given = m.given;
     settled = m.settled;
+    undone = λ a. absurd (m.unrolled a);
     under_way = record {
       own = n.own;
       retries = n.retries;
@@ -266,6 +291,7 @@ module _ {P Q K A B D : Type 0} where
         given = u.0.given;
         unsent = λ a. absurd (let g = sym (stays_started old.status Rolledback u.0.started refl) ∙ a in cc);
         settled = λ a. u.0.settled (turned_rolled old.status a);
+        undone = λ a more g. subst (λ (x : CommitParts). AreUndone (version_of old.start) x h) (some_same f g) (inl l);
         at = record {
           of_parts = λ more g. subst (λ (x : CommitParts). KnowsParts (version_of old.start) old.commits h x) (some_same f g) u.0.knows;
           empty = λ g. absurd (let x = sym g ∙ f in cc);
@@ -281,7 +307,7 @@ module _ {P Q K A B D : Type 0} where
   goes_back w old mid new parts from to turn e f m =
       let f' = subst (λ (x : Standing P Q K). parts_of x.contents ≡ Some parts) e f in
       let m' = subst (λ (x : Standing P Q K). BeginMoves w (λ h. MayBegin x parts h × (undetermined x.commits ≡ None)) x new from to turn) e m in
-      Moves-before (λ h u. (record { given = u.given; started = refl; settled = λ a. u.settled; knows = u.knows.of_parts parts f' }, u.settled)) m'
+      Moves-before (λ h u. (record { given = u.given; started = refl; settled = λ a. u.settled; unrolled = λ a. cc; knows = u.knows.of_parts parts f' }, u.settled)) m'
 
   pub back_nothing : (w : Ways P Q K A B D) (old mid new : Standing P Q K) (o : Posted) (turn : Turn (Result (TxnAnswer Q) Error))
       → mid ≡ record old { status = StartedRollback; work = GaveUp } → new ≡ record mid { status = moved mid.status Rolledback; work = Idle }
@@ -294,6 +320,7 @@ module _ {P Q K A B D : Type 0} where
         given = u.given;
         unsent = λ a. absurd (cc);
         settled = λ a. u.settled;
+        undone = λ a parts g. absurd (let x = sym f' ∙ g in cc);
         at = u.knows;
       })
       (λ h u. inr (f', inr refl)))
@@ -311,7 +338,7 @@ module _ {P Q K A B D : Type 0} where
   commits_on w old mid new parts from to turn i e f m =
       let f' = subst (λ (x : Standing P Q K). parts_of x.contents ≡ Some parts) e f in
       let m' = subst (λ (x : Standing P Q K). BeginMoves w (MayBegin x parts) x new from to turn) e m in
-      Moves-before (λ h u. record { given = u.0.given; started = refl; settled = λ a. absurd (cc); knows = (at_rest w old from h i u.0).of_parts parts f' }) m'
+      Moves-before (λ h u. record { given = u.0.given; started = refl; settled = λ a. absurd (cc); unrolled = λ a. cc; knows = (at_rest w old from h i u.0).of_parts parts f' }) m'
 
   pub commits_nothing : (w : Ways P Q K A B D) (old mid new : Standing P Q K) (o : Posted) (turn : Turn (Result (TxnAnswer Q) Error))
       → old.work ≡ Idle → mid ≡ record old { status = StartedCommit; work = GaveUp } → new ≡ record mid { work = Idle }
@@ -324,6 +351,7 @@ module _ {P Q K A B D : Type 0} where
         given = u.0.given;
         unsent = λ a. absurd (cc);
         settled = λ a. absurd (cc);
+        undone = λ a. absurd (cc);
         at = at_rest w old o h i u.0;
       })
       (λ h u. inr (f', inl refl)))
@@ -343,7 +371,7 @@ module _ {P Q K A B D : Type 0} where
       → TransactionMoves w known hear old new from to turn
   tells_open w known hear call old mid new from to turn i e m =
       let m' = subst (λ (x : Standing P Q K). CallMoves w known hear call x new from to turn) e m in
-      Moves-before (λ h u. (record { given = u.0.given; settled = u.0.settled; under_way = subst (λ (x : Work P Q K). IsAtWork w old.options.retry_options old.start old.status old.contents old.commits x from h) i u.0.at }, u.1)) m'
+      Moves-before (λ h u. (record { given = u.0.given; settled = u.0.settled; undone = u.0.undone; under_way = subst (λ (x : Work P Q K). IsAtWork w old.options.retry_options old.start old.status old.contents old.commits x from h) i u.0.at }, u.1)) m'
 
   -- what it knows of the Commits of its primary changes as its open call says
   pub followed_open : (w : Ways P Q K A B D) (a : Arrival) (call : CommitterCall P Q K) (old mid new : Standing P Q K) (o : Posted) (turn : Turn (Result (TxnAnswer Q) Error)) (h : List Event)
@@ -352,13 +380,14 @@ module _ {P Q K A B D : Type 0} where
       → TransactionFits w old o h → IfKept turn (IsFollowed o (heard a o old.commits) new.commits)
   followed_open w a call old mid new o turn h i e k f =
       let k' = subst (λ (x : Standing P Q K). CallFits w x call o h → IfKept turn (IsFollowed o (heard a o x.commits) new.commits)) e k in
-      k' (record { given = f.given; settled = f.settled; under_way = subst (λ (x : Work P Q K). IsAtWork w old.options.retry_options old.start old.status old.contents old.commits x o h) i f.at })
+      k' (record { given = f.given; settled = f.settled; undone = f.undone; under_way = subst (λ (x : Work P Q K). IsAtWork w old.options.retry_options old.start old.status old.contents old.commits x o h) i f.at })
 
   fits_on : (w : Ways P Q K A B D) (t : Standing P Q K) (o : Posted) (h : List Event) (e : Event) → IsNoSending e → t.work ≡ Idle → TransactionFits w t o h → TransactionFits w t o (e ∷ h)
   fits_on w t o h e n i f = record {
     given = given_longer (version_of t.start) h (e ∷ h) (λ x y. inr y) f.given;
     unsent = λ a. record { none = (f.unsent a).none; never = λ t r y q. elim y [ inl x ↦ n t (Commit r) x | inr x ↦ (f.unsent a).never t r x q ] };
     settled = f.settled;
+    undone = λ a. undone_longer (version_of t.start) t.contents h (e ∷ h) (λ x y. inr y) (f.undone a);
     at = rw i (let k = at_rest w t o h i f in record {
       of_parts = λ parts g. parts_more (version_of t.start) t.commits parts e h n (k.of_parts parts g);
       empty = k.empty;

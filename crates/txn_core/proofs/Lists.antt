@@ -110,9 +110,6 @@ pub record HasStepped (ms : List Mutation) (old new : Contents) : Type 0 where
   pub steps : AreSteps ms old new
   pub same : new.is_pessimistic ≡ old.is_pessimistic
 
-pub steps_none : (contents : Contents) → HasStepped [] contents contents
-steps_none contents = record { steps = record { contents = refl; writes = refl }; same = refl }
-
 -- one more mutation
 pub steps_more : (ms : List Mutation) (m : Mutation) (old mid new : Contents) → HasStepped ms old mid → mutated mid m ≡ Some new
     → writes new ≡ after_call mid.is_pessimistic (writes mid) (call_by m.op m.key m.value) → HasStepped (ms ++ m ∷ []) old new

@@ -173,6 +173,7 @@ module _ {P Q K A B D : Type 0} where
     given = g;
     unsent = λ a. record { none = refl; never = u };
     settled = λ a. refl;
+    undone = λ a parts e. absurd (cc);
     at = record { of_parts = λ parts e. absurd (cc); empty = λ e. refl };
   }
 
@@ -182,6 +183,7 @@ module _ {P Q K A B D : Type 0} where
     given = f.given;
     unsent = f.unsent;
     settled = f.settled;
+    undone = λ r. absurd (let no = sym a ∙ ap allows_data r in cc);
     at = rw i (record {
       of_parts = λ parts e. record {
         formed = formed contents parts s e;

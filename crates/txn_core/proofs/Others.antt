@@ -23,7 +23,7 @@ use Rattle.txn_commit.specs.declared.committer.CommitterCall.{CommitterCall}
 use Rattle.txn_commit.specs.declared.committer.Stage.{Stage}
 use Rattle.txn_commit.specs.declared.committer.Stage.TheVariants as stage
 use Rattle.txn_commit.proofs.Sending.{acknowledged_longer, given_longer, rolled_longer}
-use Rattle.txn_core.proofs.Going.{some_same}
+use Rattle.txn_core.proofs.Going.{some_same, undone_longer}
 use Rattle.txn_merge.specs.declared.retry_options.RetryOptions.{RetryOptions}
 use Rattle.txn_core.specs.Going.{IsAtWork, KnowsParts, NamesReady, TransactionFits}
 use Rattle.txn_core.specs.Others.{AddsNone, AddsNoPrimaryOf, AddsNothingOf, IsBeside, SendsNone}
@@ -197,6 +197,7 @@ module _ {P Q K A B D : Type 0} (w : Ways P Q K A B D) (prewriting : IsLawful w.
     given = given_longer (version_of t.start) h (newer ++ h) (older newer h) f.given;
     unsent = λ a. let u = f.unsent a in record { none = u.none; never = λ q r i e. u.never q r (sent_before (λ (x : CommitRequest). x.start_version ≡ version_of t.start) newer h q r (unsent a) e i) e };
     settled = f.settled;
+    undone = λ a. undone_longer (version_of t.start) t.contents h (newer ++ h) (older newer h) (f.undone a);
     at = work_on t.options.retry_options t.start t.status t.contents t.commits t.work o p newer h l unnamed f.at;
   }
 
@@ -219,5 +220,6 @@ idle_fits w t o p h i f = record {
   given = f.given;
   unsent = f.unsent;
   settled = f.settled;
+  undone = f.undone;
   at = subst (λ x. IsAtWork w t.options.retry_options t.start t.status t.contents t.commits x p h) (sym i) (subst (λ x. IsAtWork w t.options.retry_options t.start t.status t.contents t.commits x o h) i f.at);
 }

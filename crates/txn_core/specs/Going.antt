@@ -1,5 +1,5 @@
 -- The commit and the rollback of a transaction in a run: what has happened where it stands, and what its answers stand on.
-use Rattle.std.specs.Prelude.{◌≡◌, ◌⊎◌, ⊤, ℕ, true, false, List, [], ◌∷◌, Option, Some, None, Result, Ok, Err}
+use Rattle.std.specs.Prelude.{◌≡◌, ◌≢◌, ◌⊎◌, ⊤, ℕ, true, false, List, [], ◌∷◌, Option, Some, None, Result, Ok, Err}
 use Rattle.txn_kv.specs.ErrorView.{view_of}
 use Rattle.txn_kv.specs.ErrorView.ErrorView.{undetermined as not_known}
 use Rattle.txn_kv.specs.Timestamp.{HasVersion, version_of}
@@ -36,6 +36,7 @@ use Rattle.txn_commit.specs.declared.secondary_job.Stage.TheVariants.{Fresh}
 use Rattle.txn_core.specs.Status.{allows_data, has_turned_back}
 use Rattle.txn_core.specs.Transaction.{Standing}
 use Rattle.txn_core.specs.declared.status.Status.{Status}
+use Rattle.txn_core.specs.declared.status.Status.TheVariants.{Rolledback}
 use Rattle.txn_core.specs.declared.transaction.Work.{Work}
 use Rattle.txn_core.specs.declared.transaction.Work.TheVariants.{Idle, Open, GaveUp}
 use Rattle.txn_core.specs.declared.txn_answer.TxnAnswer.{TxnAnswer}
@@ -90,18 +91,28 @@ IsAtWork w options start status contents c Idle o h = KnowsContents (version_of 
 IsAtWork w options start status contents c (Open call) o h = IsUnderWay w options start status contents c call o h
 IsAtWork w options start status contents c GaveUp o h = ⊤
 
+-- No key of these parts is locked, or each was rolled back: the primary and the others.
+abbrev pub AreUndone : ℕ → CommitParts → List Event → Type 0
+AreUndone s parts h = (parts.locks ≡ false) ⊎ (AreRolledBack s (parts.primary ∷ []) h × AreRolledBack s parts.secondaries h)
+
+-- so it is of what the buffer holds
+abbrev pub IsUndone : ℕ → Contents → List Event → Type 0
+IsUndone s contents h = (parts : CommitParts) → parts_of contents ≡ Some parts → AreUndone s parts h
+
 -- The transaction can have arisen from the history: its start was given. Once a rollback was begun each Commit of its primary was
--- refused, and stays so.
+-- refused, and stays so. What is rolled back was undone.
 pub record TransactionFits {P Q K A B D : Type 0} (w : Ways P Q K A B D) (t : Standing P Q K) (o : Posted) (h : List Event) : Type 0 where
   pub given : WasGiven h (version_of t.start)
   pub unsent : allows_data t.status ≡ true → IsUnsent (version_of t.start) t.commits h
   pub settled : has_turned_back t.status ≡ true → undetermined t.commits ≡ None
+  pub undone : t.status ≡ Rolledback → IsUndone (version_of t.start) t.contents h
   pub at : IsAtWork w t.options.retry_options t.start t.status t.contents t.commits t.work o h
 
 -- and so it can, while this call is open
 pub record CallFits {P Q K A B D : Type 0} (w : Ways P Q K A B D) (t : Standing P Q K) (call : CommitterCall P Q K) (o : Posted) (h : List Event) : Type 0 where
   pub given : WasGiven h (version_of t.start)
   pub settled : has_turned_back t.status ≡ true → undetermined t.commits ≡ None
+  pub undone : t.status ≡ Rolledback → IsUndone (version_of t.start) t.contents h
   pub under_way : IsUnderWay w t.options.retry_options t.start t.status t.contents t.commits call o h
 
 -- a commit or a rollback of these parts may begin
@@ -109,6 +120,7 @@ pub record MayBegin {P Q K : Type 0} (t : Standing P Q K) (parts : CommitParts) 
   pub given : WasGiven h (version_of t.start)
   pub started : allows_data t.status ≡ false
   pub settled : has_turned_back t.status ≡ true → undetermined t.commits ≡ None
+  pub unrolled : t.status ≢ Rolledback
   pub knows : KnowsParts (version_of t.start) t.commits h parts
 
 -- its open call may be told of something, and waits for something
@@ -156,7 +168,7 @@ FailsWith w options s parts (Some t) h e = (inner : Error) × (view_of e ≡ not
 abbrev pub StandsOn : {P Q K A B D : Type 0} → Ways P Q K A B D → RetryOptions → Timestamp → CommitParts → Commits → List Event → Result (TxnAnswer Q) Error → Type 0
 StandsOn w options start parts c h (Ok (answer.Committed (Some t) job)) = IsCommitted options start t parts job h
 StandsOn w options start parts c h (Ok (answer.Committed None None)) = (parts.locks ≡ false) × IsAllPrewritten (version_of start) parts h
-StandsOn w options start parts c h (Ok answer.Unit) = (parts.locks ≡ false) ⊎ (AreRolledBack (version_of start) (parts.primary ∷ []) h × AreRolledBack (version_of start) parts.secondaries h)
+StandsOn w options start parts c h (Ok answer.Unit) = AreUndone (version_of start) parts h
 StandsOn w options start parts c h (Err e) = FailsWith w options (version_of start) parts (undetermined c) h e
 StandsOn w options start parts c h _ = ⊥
 

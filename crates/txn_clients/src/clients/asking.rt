@@ -156,7 +156,7 @@ where
     }
 
     /// The newest line asks something of a transaction of which no call waits.
-    fn call(
+    fn call_transaction(
         &mut self,
         client: usize,
         transaction: u64,
@@ -353,7 +353,7 @@ where
     fn act(&mut self, transaction: u64, act: Act, now: u64) -> Result<Option<Turn>, NoMemory> {
         match self.free_client(transaction) {
             None => Ok(None),
-            Some(client) => Ok(Some(self.call(client, transaction, act, now)?)),
+            Some(client) => Ok(Some(self.call_transaction(client, transaction, act, now)?)),
         }
     }
 

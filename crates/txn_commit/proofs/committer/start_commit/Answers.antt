@@ -4,7 +4,7 @@ use Rattle.txn_history.specs.Turn.{IfKept-stopped}
 use Rattle.txn_commit.proofs.Stages.{kept_all, sent_since, stopped_is}
 use Rattle.txn_commit.proofs.Counting.{counts_stop}
 use Rattle.txn_commit.proofs.Going.{relays_fails, relays_on, relays_stops}
-use Rattle.txn_commit.proofs.Told.{counts_begun, goes_begun, tells_begun}
+use Rattle.txn_history.proofs.Arriving.{counts_begun, goes_begun, tells_begun}
 use Rattle.txn_commit.proofs.committer.start_commit.Goals as goal
 
 pub returns-in_err-progress-clause-sends : goal.returns-in_err-progress-clause-sends

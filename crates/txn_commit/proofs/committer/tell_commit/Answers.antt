@@ -5,7 +5,7 @@ use Rattle.txn_commit.specs.Following.{sent}
 use Rattle.txn_commit.proofs.Stages.{kept_all, sent_since, stopped_is}
 use Rattle.txn_commit.proofs.Counting.{counts_stop}
 use Rattle.txn_commit.proofs.Going.{never_gone, never_more, quiet_sent, relays_fails, relays_on, relays_stops}
-use Rattle.txn_commit.proofs.Told.{counts_of, goes_of, tells_of}
+use Rattle.txn_history.proofs.Arriving.{counts_of, goes_of, tells_of}
 use Rattle.txn_commit.proofs.committer.tell_commit.Goals as goal
 
 pub returns-in_err-progress-clause-sends : goal.returns-in_err-progress-clause-sends

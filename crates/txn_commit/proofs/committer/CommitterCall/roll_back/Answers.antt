@@ -12,7 +12,7 @@ use Rattle.txn_commit.specs.Counting.{costs_of}
 use Rattle.txn_commit.proofs.Counting.{rolling_starts, gone_wide, is_kept_so, stop_counts, then_counts}
 use Rattle.txn_history.proofs.Telling.{is_kept_ok}
 use Rattle.txn_commit.proofs.Going.{opens_stopped, opens_stops, opens_then}
-use Rattle.txn_commit.proofs.Told.{counts_begun, goes_begun, tells_begun}
+use Rattle.txn_history.proofs.Arriving.{counts_begun, goes_begun, tells_begun}
 use Rattle.txn_commit.proofs.committer.CommitterCall.roll_back.Goals as goal
 
 pub returns-in_err-keys-clause-moves : goal.returns-in_err-keys-clause-moves

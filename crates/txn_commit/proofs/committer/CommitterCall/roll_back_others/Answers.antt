@@ -12,7 +12,7 @@ use Rattle.txn_commit.specs.Counting.{costs_of}
 use Rattle.txn_commit.proofs.Counting.{rolling_others_starts, gone_wide, is_kept_so, stop_counts, then_counts}
 use Rattle.txn_history.proofs.Telling.{is_kept_ok}
 use Rattle.txn_commit.proofs.Going.{opens_over, opens_stopped, opens_stops, opens_then, resumes_settled}
-use Rattle.txn_commit.proofs.Told.{counts_begun, goes_begun, tells_begun}
+use Rattle.txn_history.proofs.Arriving.{counts_begun, goes_begun, tells_begun}
 use Rattle.txn_commit.proofs.committer.CommitterCall.roll_back_others.Goals as goal
 
 pub returns-then-is_empty-clause-moves : goal.returns-then-is_empty-clause-moves

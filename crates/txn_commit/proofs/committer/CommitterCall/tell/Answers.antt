@@ -8,12 +8,12 @@ use Rattle.txn_commit.specs.Going.{stage_phase}
 use Rattle.txn_commit.proofs.Committing.{prewriting_on, rolling_on, rolling_others_on}
 use Rattle.txn_commit.proofs.Posting.{followed_as, followed_same, heard_time, hears_told, knows_heard}
 use Rattle.txn_commit.proofs.Stages.{asking_on, commits_on, followed_sends, over_on, stopped_is}
-use Rattle.txn_commit.proofs.Counting.{asking_counts, committing_counts, failure_is_error, gave_up_counts, idle_counts, is_kept_so, prewriting_counts, rolling_counts, rolling_others_counts, stop_counts, then_counts}
+use Rattle.txn_commit.proofs.Counting.{asking_counts, committing_counts, gave_up_counts, idle_counts, is_kept_so, prewriting_counts, rolling_counts, rolling_others_counts, stop_counts, then_counts}
 use Rattle.txn_history.proofs.Telling.{is_kept_ok}
 use Rattle.txn_tso.specs.Calling.{members}
 use Rattle.txn_commit.specs.Timing.{time_asked}
 use Rattle.txn_commit.proofs.Going.{asks_still, expects_gives_up, expects_idle, expects_stops, expects_then, followed_elsewhere, goes_gives_up, goes_idle, goes_stops, goes_then, heard_other, relays_goes, resumes_settled, unheard_waits}
-use Rattle.txn_commit.proofs.Told.{counts_of, goes_of, tells_of}
+use Rattle.txn_history.proofs.Arriving.{counts_of, goes_of, tells_of, worse}
 use Rattle.txn_commit.proofs.committer.CommitterCall.tell.Goals as goal
 use Rattle.txn_history.specs.Arrivals.{awaited_as, told_by}
 
@@ -57,28 +57,28 @@ pub returns-in_err-progress-in-Prewriting-clause-counts : goal.returns-in_err-pr
 returns-in_err-progress-in-Prewriting-clause-counts g c = stop_counts _ _ (stopped_is _ c.from_residual.ensures.0) (prewriting_counts _ _ c.args.self.now c.in-Prewriting.plan c.tell.new.self c.in-Prewriting.is (counts_of c.args.arrival c.tell.ensures))
 
 pub returns-in_ok-progress-in-Prewriting-clause-counts : goal.returns-in_ok-progress-in-Prewriting-clause-counts
-returns-in_ok-progress-in-Prewriting-clause-counts g c = then_counts _ _ (failure_is_error c.args.arrival) (is_kept_so c.in_ok-progress-in-Prewriting.progress) (prewriting_counts _ _ c.args.self.now c.in-Prewriting.plan c.tell.new.self c.in-Prewriting.is (counts_of c.args.arrival c.in_ok-progress-in-Prewriting.ensures)) (c.after_prewrite.ensures.counts c.tell.new.self refl)
+returns-in_ok-progress-in-Prewriting-clause-counts g c = then_counts _ _ (worse c.args.arrival) (is_kept_so c.in_ok-progress-in-Prewriting.progress) (prewriting_counts _ _ c.args.self.now c.in-Prewriting.plan c.tell.new.self c.in-Prewriting.is (counts_of c.args.arrival c.in_ok-progress-in-Prewriting.ensures)) (c.after_prewrite.ensures.counts c.tell.new.self refl)
 
 pub returns-in-Err-tell_commit-clause-counts : goal.returns-in-Err-tell_commit-clause-counts
 returns-in-Err-tell_commit-clause-counts g c = gave_up_counts _ _ c.give_up-in-Err-tell_commit.ensures.turn c.give_up-in-Err-tell_commit.ensures.state c.give_up-in-Err-tell_commit.ensures.width (committing_counts _ _ c.args.self.now c.in-Committing.plan c.tell_commit.new.plan c.in-Committing.timestamp c.in-Committing.is c.tell_commit.ensures.counts)
 
 pub returns-in-Ok-tell_commit-clause-counts : goal.returns-in-Ok-tell_commit-clause-counts
-returns-in-Ok-tell_commit-clause-counts g c = then_counts _ _ (failure_is_error c.args.arrival) (rw c.in-Ok-tell_commit.is (is_kept_so c.in-Ok-tell_commit.progress)) (committing_counts _ _ c.args.self.now c.in-Committing.plan c.tell_commit.new.plan c.in-Committing.timestamp c.in-Committing.is c.tell_commit.ensures.counts) (c.after_commit.ensures.counts _)
+returns-in-Ok-tell_commit-clause-counts g c = then_counts _ _ (worse c.args.arrival) (rw c.in-Ok-tell_commit.is (is_kept_so c.in-Ok-tell_commit.progress)) (committing_counts _ _ c.args.self.now c.in-Committing.plan c.tell_commit.new.plan c.in-Committing.timestamp c.in-Committing.is c.tell_commit.ensures.counts) (c.after_commit.ensures.counts _)
 
 pub returns-in_err-progress-in-RollingBackPrimary-clause-counts : goal.returns-in_err-progress-in-RollingBackPrimary-clause-counts
 returns-in_err-progress-in-RollingBackPrimary-clause-counts g c = stop_counts _ _ (stopped_is _ c.from_residual-in_err-progress-in-RollingBackPrimary.ensures.0) (rolling_counts _ _ c.args.self.now c.in-RollingBackPrimary.plan c.tell-in-RollingBackPrimary.new.self c.in-RollingBackPrimary.is (counts_of c.args.arrival c.tell-in-RollingBackPrimary.ensures))
 
 pub returns-in_ok-progress-in-RollingBackPrimary-clause-counts : goal.returns-in_ok-progress-in-RollingBackPrimary-clause-counts
-returns-in_ok-progress-in-RollingBackPrimary-clause-counts g c = then_counts _ _ (failure_is_error c.args.arrival) (is_kept_so c.in_ok-progress-in-RollingBackPrimary.progress) (rolling_counts _ _ c.args.self.now c.in-RollingBackPrimary.plan c.tell-in-RollingBackPrimary.new.self c.in-RollingBackPrimary.is (counts_of c.args.arrival c.in_ok-progress-in-RollingBackPrimary.ensures)) (c.after_primary_rollback.ensures.counts c.tell-in-RollingBackPrimary.new.self refl)
+returns-in_ok-progress-in-RollingBackPrimary-clause-counts g c = then_counts _ _ (worse c.args.arrival) (is_kept_so c.in_ok-progress-in-RollingBackPrimary.progress) (rolling_counts _ _ c.args.self.now c.in-RollingBackPrimary.plan c.tell-in-RollingBackPrimary.new.self c.in-RollingBackPrimary.is (counts_of c.args.arrival c.in_ok-progress-in-RollingBackPrimary.ensures)) (c.after_primary_rollback.ensures.counts c.tell-in-RollingBackPrimary.new.self refl)
 
 pub returns-in_err-progress-in-RollingBackOthers-clause-counts : goal.returns-in_err-progress-in-RollingBackOthers-clause-counts
 returns-in_err-progress-in-RollingBackOthers-clause-counts g c = stop_counts _ _ (stopped_is _ c.from_residual-in_err-progress-in-RollingBackOthers.ensures.0) (rolling_others_counts _ _ c.args.self.now c.in-RollingBackOthers.plan c.tell-in-RollingBackOthers.new.self c.in-RollingBackOthers.is (counts_of c.args.arrival c.tell-in-RollingBackOthers.ensures))
 
 pub returns-in_ok-progress-in-RollingBackOthers-clause-counts : goal.returns-in_ok-progress-in-RollingBackOthers-clause-counts
-returns-in_ok-progress-in-RollingBackOthers-clause-counts g c = then_counts _ _ (failure_is_error c.args.arrival) (is_kept_so c.in_ok-progress-in-RollingBackOthers.progress) (rolling_others_counts _ _ c.args.self.now c.in-RollingBackOthers.plan c.tell-in-RollingBackOthers.new.self c.in-RollingBackOthers.is (counts_of c.args.arrival c.in_ok-progress-in-RollingBackOthers.ensures)) (c.after_rollback.ensures.counts _)
+returns-in_ok-progress-in-RollingBackOthers-clause-counts g c = then_counts _ _ (worse c.args.arrival) (is_kept_so c.in_ok-progress-in-RollingBackOthers.progress) (rolling_others_counts _ _ c.args.self.now c.in-RollingBackOthers.plan c.tell-in-RollingBackOthers.new.self c.in-RollingBackOthers.is (counts_of c.args.arrival c.in_ok-progress-in-RollingBackOthers.ensures)) (c.after_rollback.ensures.counts _)
 
 pub returns-in-Ok-clause-counts : goal.returns-in-Ok-clause-counts
-returns-in-Ok-clause-counts g c = then_counts _ _ (failure_is_error c.args.arrival) (rw c.in-Ok.is (is_kept_so c.in-Ok.progress)) (asking_counts _ _ c.args.self.now c.in-Asking.call c.tell-in-Asking.new.self c.in-Asking.is c.tell-in-Asking.ensures.counts) (c.after_time.ensures.counts c.tell-in-Asking.new.self refl)
+returns-in-Ok-clause-counts g c = then_counts _ _ (worse c.args.arrival) (rw c.in-Ok.is (is_kept_so c.in-Ok.progress)) (asking_counts _ _ c.args.self.now c.in-Asking.call c.tell-in-Asking.new.self c.in-Asking.is c.tell-in-Asking.ensures.counts) (c.after_time.ensures.counts c.tell-in-Asking.new.self refl)
 
 pub returns-in-Err-clause-counts : goal.returns-in-Err-clause-counts
 returns-in-Err-clause-counts g c = gave_up_counts _ _ c.give_up.ensures.turn c.give_up.ensures.state c.give_up.ensures.width (asking_counts _ _ c.args.self.now c.in-Asking.call c.tell-in-Asking.new.self c.in-Asking.is c.tell-in-Asking.ensures.counts)

@@ -6,7 +6,7 @@ use Rattle.txn_commit.specs.Jobs.{job_phase, others-lawful}
 use Rattle.txn_commit.specs.declared.secondary_job.Stage.TheVariants as stage
 use Rattle.txn_commit.proofs.Jobs.{counts_on, goes_on, tells_on, unheard_is}
 use Rattle.txn_commit.proofs.Posting.Hears.{Nothing}
-use Rattle.txn_commit.proofs.Told.{counts_begun, goes_begun, tells_begun}
+use Rattle.txn_history.proofs.Arriving.{counts_begun, goes_begun, tells_begun}
 use Rattle.txn_commit.proofs.secondary_job.SecondaryJob.begin.Goals as goal
 
 pub returns-in-Committing-clause-tells : goal.returns-in-Committing-clause-tells

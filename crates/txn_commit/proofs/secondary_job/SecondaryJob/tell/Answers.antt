@@ -4,7 +4,7 @@ use Rattle.txn_commit.specs.Jobs.{job_waits, others-lawful}
 use Rattle.txn_commit.specs.declared.secondary_job.Stage.TheVariants as stage
 use Rattle.txn_commit.proofs.Jobs.{counts_on, goes_on, tells_on, unheard_is, waits_not}
 use Rattle.txn_commit.proofs.Posting.{hears_told}
-use Rattle.txn_commit.proofs.Told.{counts_of, goes_of, tells_of}
+use Rattle.txn_history.proofs.Arriving.{counts_of, goes_of, tells_of}
 use Rattle.txn_commit.proofs.secondary_job.SecondaryJob.tell.Goals as goal
 use Rattle.txn_history.specs.Arrivals.{awaited_as, locked_told, tells_error, tells_failure, told_by, weight_told}
 

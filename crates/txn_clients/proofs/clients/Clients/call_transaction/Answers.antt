@@ -16,7 +16,7 @@ use Rattle.txn_clients.specs.Failing.{CalledIn, KnowsAsk}
 use Rattle.txn_clients.proofs.Coming.{called_since, asked_since}
 use Rattle.txn_clients.proofs.Timestamps.{both_if_ok}
 use Rattle.txn_clients.proofs.Stepped.{call_leads}
-use Rattle.txn_clients.proofs.clients.Clients.call.Goals as goal
+use Rattle.txn_clients.proofs.clients.Clients.call_transaction.Goals as goal
 
 pub step-requires-clause-listens : goal.step-requires-clause-listens
 step-requires-clause-listens g c = called_listens_now c.args.self.now c.set_row.new.self c.newest-line.result c.args.transaction c.args.client c.is_commit.result (newest_is c.args.self.now c.newest-line.result c.requires.line c.newest-line.ensures)
