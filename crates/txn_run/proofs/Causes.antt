@@ -61,14 +61,17 @@ use Rattle.txn_multi.specs.Task.{attempts_left}
 use Rattle.txn_lines.specs.declared.begin_options.BeginOptions.{BeginOptions}
 use Rattle.txn_clients.specs.Failing.{AreRetriesOf, CallFailed, FailsFor, HasFailedFor, KnownTransaction}
 use Rattle.txn_run.specs.Behind.{AreBehind}
+use Rattle.txn_run.specs.Licensed.{AreLicensed}
 use Rattle.txn_run.specs.Program.{RanScript}
 use Rattle.txn_run.specs.Refused.{AreExact}
+use Rattle.txn_run.specs.Settled.{AreSettled}
+use Rattle.txn_run.specs.Whole.{AreWhole}
 use Rattle.txn_run.proofs.Asking.{fewer_refused, refused_again}
 use Rattle.txn_run.proofs.Calming.{not_calm}
 use Rattle.txn_run.proofs.Doubting.{told_of_doubt}
 use Rattle.txn_run.proofs.Matching.{lines_kind}
 use Rattle.txn_run.proofs.Refusing.{all_exact, never_caused, refused_untimed, view-InternalError}
-use Rattle.txn_run.proofs.Wholeness.{lines_whole}
+use Rattle.txn_run.proofs.Wholeness.{lines_hold}
 use Rattle.txn_run.specs.Caused.{HaveCauses, HeardBy, IsCaused, IsExplained, IsRollbackRefused, IsUndetermined, attempts_of, trace_at}
 
 -- In a reply that says without error what was done, and in one with timestamps, no error has its cause.
@@ -313,7 +316,9 @@ ran_script bytes lines items report same script lawful causes behind = record {
   doubts = told_of_doubt (reverse lines) report as_script.events stands.arisen.doubts exact;
   exact = exact;
   calm = causes_meet (λ n e c. not_calm (trace_at (reverse lines) report n) n e c) report.outcomes report.ended (reverse lines) told;
-  whole = lines_whole plans (reverse lines) report stands as_script.folded as_script.told as_script.accounts;
+  whole = holds.0;
+  licensed = holds.1;
+  settled = holds.2;
 }
   where
     as_script : Lawful lines report
@@ -321,6 +326,9 @@ ran_script bytes lines items report same script lawful causes behind = record {
 
     stands : AreBehind plans (reverse lines) report
     stands = subst (λ ls. AreBehind plans (reverse ls) report) same behind
+
+    holds : AreWhole (reverse lines) report × AreLicensed (reverse lines) report × AreSettled (reverse lines) report
+    holds = lines_hold plans (reverse lines) report stands as_script.folded as_script.told as_script.accounts
 
     told : HaveCauses (reverse lines) report
     told = have_causes_told (reverse lines) report stands (subst (λ ls. CausesMeetLines (FailsFor plans) (reverse ls) report) same causes)

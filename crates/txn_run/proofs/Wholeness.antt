@@ -3,18 +3,21 @@ use Rattle.std.proofs.Common.{◌≡◌, ◌≢◌, inl, inr, zero, suc, ℕ, Bo
 use Rattle.std.proofs.lemmas.Bool.Decides.{nat_tests}
 use Rattle.std.specs.Prelude.{◌<◌, ◌+◌, if◌then◌else◌, is_some}
 use Rattle.txn_kv.specs.Timestamp.{version_of}
-use Rattle.txn_kv.specs.declared.request.Request.TheVariants.{Commit, PessimisticLock}
+use Rattle.txn_kv.specs.declared.request.Request.TheVariants.{BatchRollback, Commit, PessimisticLock}
+use Rattle.txn_kv.specs.declared.reply.Reply.TheVariants as replies
 use Rattle.txn_history.specs.Among.{IsAmong}
 use Rattle.txn_history.specs.Event.{Event, Has}
 use Rattle.txn_history.specs.Event.Event.{Sent, Took}
-use Rattle.txn_history.specs.Licence.{PrimaryCommitted}
-use Rattle.txn_history.specs.Plan.{Content, Plan}
+use Rattle.txn_history.specs.Licence.{PrimaryCommitted, PrimaryRolledBack}
+use Rattle.txn_history.specs.Plan.{Content, Key, Plan, has_key, key_eq}
 use Rattle.txn_history.specs.Plan.Way.{TwoPhases}
 use Rattle.txn_history.specs.Posted.{Posted}
 use Rattle.txn_law.specs.Run.{IsOptimistic, IsRun, store_after}
 use Rattle.txn_law.specs.Whole.{FitsAnswers, HasCommit, IsAbsent, IsWholeAt, PrimaryServed}
 use Rattle.txn_law.proofs.Apart.{law_between}
 use Rattle.txn_law.proofs.Kept.{kept}
+use Rattle.txn_law.proofs.Origins.{law_no_lock_left}
+use Rattle.txn_law.proofs.Unlocked.{law_recorded, law_unlocked}
 use Rattle.txn_law.proofs.Wholes.{law_above, law_by_primary, law_fits, law_named, law_served}
 use Rattle.txn_model.specs.Cells.{cell_at}
 use Rattle.txn_model.specs.Store.{Store}
@@ -22,9 +25,10 @@ use Rattle.txn_model.specs.declared.cell.Cell.{Cell}
 use Rattle.txn_commit.specs.Committing.{Ways}
 use Rattle.txn_commit.specs.Following.{KnowsCommits, or_first, undetermined}
 use Rattle.txn_commit.specs.Parts.{parts_of}
+use Rattle.txn_commit.specs.Plans.{only_key}
 use Rattle.txn_commit.specs.Sending.{plan_of}
 use Rattle.txn_commit.specs.declared.commit_parts.CommitParts.{CommitParts}
-use Rattle.txn_core.specs.Going.{IsAtWork}
+use Rattle.txn_core.specs.Going.{AreUndone, IsAtWork}
 use Rattle.txn_core.specs.Status.{allows_data, has_turned_back}
 use Rattle.txn_core.specs.Transaction.{Standing, has_given_up, is_open, locks_nothing}
 use Rattle.txn_core.specs.declared.status.Status.{Status}
@@ -49,7 +53,7 @@ use Rattle.txn_report.specs.declared.outcome.Outcome.{Outcome}
 use Rattle.txn_report.specs.declared.outcome.Outcome.TheVariants as outcomes
 use Rattle.txn_report.specs.declared.outcome.Payload.TheVariants.{Number, Commit as CommittedAt}
 use Rattle.txn_report.specs.declared.report.Report.{Report}
-use Rattle.txn_side.specs.Account.{Account, Status as Stage}
+use Rattle.txn_side.specs.Account.{Account, allows_write, Status as Stage}
 use Rattle.txn_side.specs.Sight.{Stand, stand_at}
 use Rattle.txn_side.specs.Sight.Stand.{HasBegun, Idle}
 use Rattle.txn_trace.specs.Seeing.{seen}
@@ -62,11 +66,14 @@ use Rattle.txn_clients.specs.Clients.{nexts_of, row_at, rows_of, stands_of}
 use Rattle.txn_clients.specs.Growing.{plans_found, plans_in}
 use Rattle.txn_clients.specs.Rows.{stand_of}
 use Rattle.txn_clients.specs.Waiting.{asks_of, posted_at, voice_at}
+use Rattle.txn_clients.proofs.Doubting.{prewrite_names}
 use Rattle.txn_clients.proofs.Tables.{stand_read}
 use Rattle.txn_clients.specs.declared.clients.Clients.{Clients}
 use Rattle.txn_clients.specs.declared.row.Row.{Row}
 use Rattle.txn_clients.specs.declared.row.Row.TheVariants as row
 use Rattle.txn_run.specs.Behind.{AreBehind}
+use Rattle.txn_run.specs.Licensed.{AreLicensed, ArePlansOf}
+use Rattle.txn_run.specs.Settled.{AreSettled, IsFreeOf, IsRolledBackAt}
 use Rattle.txn_run.specs.Whole.{AreWhole, BeganAt, CommitAnswered, CommitAnsweredNone, FitsCommits, IsAlone, MayBeDone, MayHaveCommitted, RollbackAnswered, account_in}
 use Rattle.txn_run.proofs.ServedOnce.{done_unrefused}
 use Rattle.txn_run.proofs.Stages.{CommitCame, IsAtEnd, Tells, stage_tells, stays_rolled}
@@ -125,6 +132,28 @@ held_at holds outs (l ∷ before) n line all e = by (nat_eq (length before + 1) 
         let number : length (l ∷ before) ≡ n = grind (arith, nat_tests) in
         subst (λ k. HoldsBy holds k (role_of line) (outcome_of outs k)) number (subst (λ x. HoldsBy holds (length (l ∷ before)) (role_of x) (outcome_of outs (length (l ∷ before)))) same all.0)
     by false q f later = later f
+
+-- A transaction that is written no more has turned to its commit or its rollback.
+
+is_closed : (status : Status) (busy doubtful : Bool) → allows_write (stage_by status busy doubtful) ≡ false → allows_data status ≡ false
+is_closed ReadOnly busy doubtful e = absurd (cc)
+is_closed Active busy doubtful e = absurd (cc)
+is_closed Committed busy doubtful e = refl
+is_closed StartedCommit busy doubtful e = refl
+is_closed Rolledback busy doubtful e = refl
+is_closed StartedRollback busy doubtful e = refl
+is_closed Dropped busy doubtful e = refl
+
+is_unwritten : (status : Status) (busy doubtful : Bool) → allows_data status ≡ false → allows_write (stage_by status busy doubtful) ≡ false
+is_unwritten ReadOnly busy doubtful e = absurd (cc)
+is_unwritten Active busy doubtful e = absurd (cc)
+is_unwritten Committed busy doubtful e = refl
+is_unwritten StartedCommit true doubtful e = refl
+is_unwritten StartedCommit false true e = refl
+is_unwritten StartedCommit false false e = refl
+is_unwritten Rolledback busy doubtful e = refl
+is_unwritten StartedRollback busy doubtful e = refl
+is_unwritten Dropped busy doubtful e = refl
 
 -- What a machine says of a line
 
@@ -364,14 +393,14 @@ module _ {P Q K A B D : Type 0} (w : Ways P Q K A B D) (script : List Line) (rep
     whole_there : (parts : CommitParts) → plans v ≡ plan_of parts → (c : ℕ) → IsWholeAt (plan_of parts) cells v c → IsWholeAt (plans v) (store_after shown).cells v c
     whole_there parts planned c whole = subst (λ (st : Store). IsWholeAt (plans v) st.cells v c) folds (subst (λ (p : Plan). IsWholeAt p cells v c) (sym planned) whole)
 
+    abbrev own : Posted
+    own = posted_at (nexts_of s) (asks_of s) (voice_at (rows_of s) k.place)
+
+    stand_fits : StandFits w t own h
+    stand_fits = subst (λ (r : Row P Q K). RowFits w (rows_of s) own h r) k.here (arisen.rows k.place)
+
     -- Where it is whole, some commit of it may have done that.
     module _ (parts : CommitParts) (closed : allows_data t.status ≡ false) (is : parts_of t.contents ≡ Some parts) (c : ℕ) (whole : IsWholeAt (plan_of parts) cells v c) where
-      abbrev own : Posted
-      own = posted_at (nexts_of s) (asks_of s) (voice_at (rows_of s) k.place)
-
-      stand_fits : StandFits w t own h
-      stand_fits = subst (λ (r : Row P Q K). RowFits w (rows_of s) own h r) k.here (arisen.rows k.place)
-
       -- what is known of the Commits of its primary
       knows : (g : Work P Q K) → t.work ≡ g → KnowsCommits (plan_of parts) v t.commits h
       knows g e = subst (λ u. KnowsCommits (plan_of parts) u t.commits h) k.start (by g (subst (λ (y : Work P Q K). IsAtWork w t.options.retry_options t.start t.status t.contents t.commits y own h) e stand_fits.1.at) (sym (ap has_given_up e) ∙ stand_fits.2))
@@ -489,12 +518,9 @@ module _ {P Q K A B D : Type 0} (w : Ways P Q K A B D) (script : List Line) (rep
           ],
         )
 
-    -- nor of one that is rolled back
-    rolled_back : (n : ℕ) → RollbackAnswered script report x n → IsAbsent cells v
-    rolled_back n (there, answered) = elim fits_commits [
-      | inl a ↦ a.0
-      | inr b ↦ absurd (never b.1.parts (contents_wrote b.1.parts b.1.wrote) b.0 b.1.whole)
-    ]
+    -- a rollback that was answered is the end of it
+    turned : (n : ℕ) → RollbackAnswered script report x n → t.status ≡ Rolledback
+    turned n (there, answered) = status t.status (is_open t.work) (is_some (undetermined t.commits)) stage
       where
         stage : stage_by t.status (is_open t.work) (is_some (undetermined t.commits)) ≡ Stage.RolledBack
         stage = ap (λ (a : Account). a.status) account_is ∙ stays_rolled report.outcomes report.ended script x n accounted there answered
@@ -511,13 +537,17 @@ module _ {P Q K A B D : Type 0} (w : Ways P Q K A B D) (script : List Line) (rep
         status StartedRollback busy doubtful e = absurd (cc)
         status Dropped busy doubtful e = absurd (cc)
 
-        turned : t.status ≡ Rolledback
-        turned = status t.status (is_open t.work) (is_some (undetermined t.commits)) stage
-
+    -- nor is a commit there of one that is rolled back
+    rolled_back : (n : ℕ) → RollbackAnswered script report x n → IsAbsent cells v
+    rolled_back n answered = elim fits_commits [
+      | inl a ↦ a.0
+      | inr b ↦ absurd (never b.1.parts (contents_wrote b.1.parts b.1.wrote) b.0 b.1.whole)
+    ]
+      where
         never : (parts : CommitParts) → parts_of t.contents ≡ Some parts → (c : ℕ) → IsWholeAt (plan_of parts) cells v c → ⊥
         never parts is c whole =
-            let closed : allows_data t.status ≡ false = ap allows_data turned in
-            never_settled parts closed is c whole ((stand_fits parts closed is c whole).1.settled (ap has_turned_back turned))
+            let closed : allows_data t.status ≡ false = ap allows_data (turned n answered) in
+            never_settled parts closed is c whole (stand_fits.1.settled (ap has_turned_back (turned n answered)))
 
   pub are_whole : AreWhole script report
   are_whole = record {
@@ -528,11 +558,85 @@ module _ {P Q K A B D : Type 0} (w : Ways P Q K A B D) (script : List Line) (rep
     others = λ v never. nothing_there v (λ i start some. absurd (never (suc i) (line_began i v start)));
   }
 
+  -- What was sent, and what was answered
+
+  all_run : IsRun plans shown
+  all_run = subst (IsRun plans) shows (seen_runs plans h (arisen.run plans are))
+
+  -- plans of what the lines wrote are plans of the transactions behind them
+  have_plans : (any : ℕ → Plan) → ArePlansOf any script report → HavePlans any (rows_of s)
+  have_plans any like i = by (row_at (rows_of s) i) refl
+    where
+      by : (r : Row P Q K) → row_at (rows_of s) i ≡ r → HasPlan any r
+      by row.Plain e = tt
+      by (row.Client c) e = tt
+      by (row.Asking c b call) e = tt
+      by (row.Begun c t m) e = λ closed parts is.
+          let account : account_of t ≡ account_in script report (suc i) = sym (ap (λ (r : Row P Q K). account_in_row r) e) ∙ accounts (suc i) in
+          like (suc i) (version_of t.start) (line_began i (version_of t.start) (subst (λ (r : Row P Q K). HasStart (version_of t.start) r) (sym e) refl)) parts (
+            sym (ap (λ (a : Account). allows_write a.status) account) ∙ is_unwritten t.status (is_open t.work) (is_some (undetermined t.commits)) closed,
+            sym (ap (λ (a : Account). parts_of a.contents) account) ∙ is,
+          )
+      by (row.Calling c x b) e = tt
+      by (row.Past c) e = tt
+      by (row.Working c job) e = tt
+
+  -- and the other way round
+  of_lines : ArePlansOf plans script report
+  of_lines x v began parts closed =
+      let k = stands x v began in
+      let t = k.transaction in
+      planned_so x v k parts (is_closed t.status (is_open t.work) (is_some (undetermined t.commits)) (ap (λ (a : Account). allows_write a.status) (account_is x v k) ∙ closed.0)) (contents_wrote x v k parts closed.1)
+
+  pub are_licensed : AreLicensed script report
+  are_licensed = record {
+    plans = plans;
+    are = of_lines;
+    run = λ any of_any. subst (IsRun any) shows (seen_runs any h (arisen.run any (have_plans any of_any)));
+    named = λ x v began parts closed t r sent start. prewrite_names plans shown t r all_run sent ∙ ap (λ u. (plans u).primary) start ∙ ap (λ (p : Plan). p.primary) (of_lines x v began parts closed);
+  }
+
+  -- what stands in the store of the run stands in the report
+  free_there : (k : Key) (v : ℕ) → IsFreeOf (cell_at (store_after shown).cells k) v → IsFreeOf (cell_at cells k) v
+  free_there k v free = subst (λ (st : Store). IsFreeOf (cell_at st.cells k) v) (sym folds) free
+
+  -- a key of a BatchRollback that was answered
+  rolled_there : (v : ℕ) (k : Key) → PrimaryRolledBack (only_key k) h v → IsRolledBackAt (cell_at cells k) v
+  rolled_there v k (t, r, o, took, fine, same, named) =
+      let there : Has shown (Took t (BatchRollback r) (replies.BatchRollback o)) = subst (λ es. Has es (Took t (BatchRollback r) (replies.BatchRollback o))) shows (had_seen h _ tt took) in
+      subst (λ u. IsRolledBackAt (cell_at cells k) u) same (subst (λ (st : Store). IsRolledBackAt (cell_at st.cells k) r.start_version) (sym folds) (law_recorded plans shown all_run t r o there fine k named))
+
+  undone_there : (v : ℕ) (parts : CommitParts) → AreUndone v parts h → parts.locks ≡ true → (k : Key) → has_key (parts.primary ∷ parts.secondaries) k ≡ true → IsRolledBackAt (cell_at cells k) v
+  undone_there v parts (inl none) locks k named = absurd (let no = sym none ∙ locks in cc)
+  undone_there v parts (inr (primary, others)) locks k named = by (key_eq parts.primary k) refl named
+    where
+      by : (b : Bool) → key_eq parts.primary k ≡ b → has_key (parts.primary ∷ parts.secondaries) k ≡ true → IsRolledBackAt (cell_at cells k) v
+      by true e f = rolled_there v k (primary k (rw e refl))
+      by false e f = rolled_there v k (others k (rw e at f))
+
+  pub are_settled : AreSettled script report
+  are_settled = record {
+    committed = λ t r o took fine k has. free_there k r.start_version (law_unlocked plans shown all_run t r o took fine k has);
+    rolled = λ t r o took fine k has.
+        subst (λ (st : Store). IsRolledBackAt (cell_at st.cells k) r.start_version) (sym folds) (law_recorded plans shown all_run t r o took fine k has);
+    none_left = λ x v began parts closed each k.
+        free_there k v (law_no_lock_left plans shown all_run v
+        (λ key c writes. each key c (sym (ap (λ (p : Plan). p.writes key) (of_lines x v began parts closed)) ∙ writes))
+        (λ key unwritten. inl (λ u q o served locks. arisen.optimistic u q (seen_had h (Sent u (PessimisticLock q)) (subst (λ es. Has es (Sent u (PessimisticLock q))) (sym shows) ((kept plans shown all_run).sent u (PessimisticLock q) o served))).0))
+        k);
+    undone = λ x v n began answered parts closed locks.
+        let k = stands x v began in
+        undone_there v parts (subst (λ u. AreUndone u parts h) k.start ((stand_fits x v k).1.undone (turned x v k n answered) parts (contents_wrote x v k parts closed.1))) locks;
+  }
+
 -- So it is where clients that can have arisen from the lines are behind the report.
-pub lines_whole : {P Q K A B D : Type 0} (w : Ways P Q K A B D) (script : List Line) (report : Report)
-    → AreBehind w script report → FoldsLines script report → TellsLines script report → AccountsMeetLines script report → AreWhole script report
-lines_whole w script report a folds told accounted =
-    let now = a.arisen.now in
-    are_whole w script report a.clients now.1 now.2 now.3 now.4 a.arisen.answers a.taken a.rows a.none folds.store (plans_in (rows_of a.clients)) (plans_found (rows_of a.clients) now.4.apart) now.4.apart
-    (λ n x there done. let kind = told.kinds n (lines.Commit x) there in let no = sym (ap (answers (UsesTransaction true x)) done) ∙ kind in absurd (cc))
-    accounted
+pub lines_hold : {P Q K A B D : Type 0} (w : Ways P Q K A B D) (script : List Line) (report : Report)
+    → AreBehind w script report → FoldsLines script report → TellsLines script report → AccountsMeetLines script report → AreWhole script report × AreLicensed script report × AreSettled script report
+lines_hold w script report a folds told accounted = let now = a.arisen.now in (
+  are_whole w script report a.clients now.1 now.2 now.3 now.4 a.arisen.answers a.taken a.rows a.none folds.store (plans_in (rows_of a.clients)) (plans_found (rows_of a.clients) now.4.apart) now.4.apart undone accounted,
+  are_licensed w script report a.clients now.1 now.2 now.3 now.4 a.arisen.answers a.taken a.rows a.none folds.store (plans_in (rows_of a.clients)) (plans_found (rows_of a.clients) now.4.apart) now.4.apart undone accounted,
+  are_settled w script report a.clients now.1 now.2 now.3 now.4 a.arisen.answers a.taken a.rows a.none folds.store (plans_in (rows_of a.clients)) (plans_found (rows_of a.clients) now.4.apart) now.4.apart undone accounted,
+)
+  where
+    undone : (n x : ℕ) → line_at script n ≡ Some (lines.Commit x) → outcome_of report.outcomes n ≢ outcomes.Done
+    undone n x there done = let kind = told.kinds n (lines.Commit x) there in let no = sym (ap (answers (UsesTransaction true x)) done) ∙ kind in absurd (cc)

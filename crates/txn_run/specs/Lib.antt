@@ -2,6 +2,8 @@ pub mod Caused
 pub mod Refused
 pub mod Calm
 pub mod Whole
+pub mod Licensed
+pub mod Settled
 pub mod Doubt
 pub mod Behind
 pub mod Program

@@ -17,7 +17,9 @@ use Rattle.txn_stream.specs.Bytes.{Rose, ReadsAll}
 use Rattle.txn_run.specs.Calm.{AreCalm}
 use Rattle.txn_run.specs.Caused.{HaveCauses}
 use Rattle.txn_run.specs.Doubt.{AreToldOfDoubt}
+use Rattle.txn_run.specs.Licensed.{AreLicensed}
 use Rattle.txn_run.specs.Refused.{AreExact}
+use Rattle.txn_run.specs.Settled.{AreSettled}
 use Rattle.txn_run.specs.Whole.{AreWhole}
 use Rattle.txn_run.specs.declared.program.End.{End}
 use Rattle.txn_run.specs.declared.program.End.TheVariants.{Done, BadWords, BadLine, ReadFault, WriteFault, OutOfMemory}
@@ -48,6 +50,10 @@ pub record RanScript (bytes : List ℕ) (report : Report) : Type 0 where
   pub calm : AreCalm (reverse lines) report
   -- each transaction is whole at one commit timestamp or not there at all, as its commits and its rollbacks answered
   pub whole : AreWhole (reverse lines) report
+  -- each request had its licence when it was sent
+  pub licensed : AreLicensed (reverse lines) report
+  -- and what a reply said of locks is so at the end
+  pub settled : AreSettled (reverse lines) report
 
 -- The lines ran on the machine of the first path, too, of whose report more is promised, and the two reports tell the same. No call sleeps, but
 -- its heartbeat may.
