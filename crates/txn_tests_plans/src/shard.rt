@@ -1,4 +1,0 @@
-mod batches;
-mod fake;
-mod found;
-mod parts;
