@@ -1,7 +1,0 @@
-//! Tests of the plans of commits and rollbacks.
-#![tactic(auto)]
-
-#[cfg(test)]
-mod line;
-#[cfg(test)]
-mod plans;

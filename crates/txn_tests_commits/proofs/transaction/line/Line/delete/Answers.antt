@@ -1,5 +1,0 @@
-use Rattle.txn_tests_commits.proofs.Writes.{written}
-use Rattle.txn_tests_commits.proofs.transaction.line.Line.delete.Goals as goal
-
-pub invariant_of-self : goal.invariant_of-self
-invariant_of-self g c = written _ _ _ c.self.inside.txn c.delete-turn.new.self c.self.inside.out c.delete-turn.new._out _ c.delete-turn.ensures.ends c.delete-turn.ensures.quiet.0 c.self.invariant

@@ -1,3 +1,0 @@
-mod calls;
-pub mod line;
-mod parts;

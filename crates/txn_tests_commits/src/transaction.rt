@@ -1,4 +1,0 @@
-pub mod line;
-mod options;
-mod script;
-mod stories;
