@@ -15,4 +15,9 @@ mod run;
 mod tickets;
 
 pub use bad_line::push_bad_line;
+pub use event::Run;
+pub use line_words::{first_line, first_word};
+pub use pieces::{Piece, push};
+pub use request::push_request;
 pub use run::push_run;
+pub use tickets::{Named, Tickets};

@@ -1,0 +1,5 @@
+use Rattle.txn_words.specs.GoesOn.{GoesOn}
+use Rattle.txn_picture.proofs.marks.push_all_words.Given as goal
+
+abbrev pub invariant-loop-note : goal.invariant-loop-note
+invariant-loop-note l = GoesOn l.fn.out.items l.out.items
