@@ -1,0 +1,4 @@
+pub mod Asking
+pub mod Ending
+pub mod Timestamps
+pub mod Writing
