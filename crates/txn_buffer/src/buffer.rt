@@ -21,12 +21,24 @@ use std::marker::Model;
 use txn_kv::{BoundRange, Error, Key, KvPair, Mutation, NoMemory, Op, Result, TryClone, Value};
 
 /// The writes, locks and reads of a transaction.
-#[derive(Drop)]
 pub struct Buffer {
     primary_key: Option<Key>,
     entry_map: BTreeMap<Key, Entry>,
     is_pessimistic: bool,
     alloc: Global,
+}
+
+impl Drop for Buffer {
+    fn drop(self) {
+        let Buffer {
+            primary_key,
+            entry_map,
+            is_pessimistic: _,
+            alloc: _,
+        } = self;
+        drop(primary_key);
+        drop(entry_map);
+    }
 }
 
 impl Model for Buffer {

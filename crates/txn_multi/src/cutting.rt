@@ -40,7 +40,6 @@ type Turn<T> = std::result::Result<Progress<T>, NoMemory>;
 
 /// Looks up the regions and stores of a plan's request, one after the other, and makes a plan for each shard. The first
 /// look-up that fails is the answer.
-#[derive(Drop)]
 pub struct Cutting<P: ShardPlan> {
     plan: P,
     found: ShardList<P::Shard>,
@@ -48,6 +47,21 @@ pub struct Cutting<P: ShardPlan> {
     /// How many shards were found so far.
     width: usize,
     alloc: Global,
+}
+
+impl<P: ShardPlan> Drop for Cutting<P> {
+    fn drop(self) {
+        let Cutting {
+            plan,
+            found,
+            stage,
+            width: _,
+            alloc: _,
+        } = self;
+        drop(plan);
+        drop(found);
+        drop(stage);
+    }
 }
 
 impl<P: ShardPlan> Model for Cutting<P> {

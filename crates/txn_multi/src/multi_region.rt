@@ -39,7 +39,6 @@ type TasksTurn<P> = std::result::Result<Option<Vec<Result<Result<<P as Plan>::Re
 
 /// A plan whose request is cut into shards, of which each is sent to its region. All shards are found before any is sent. A
 /// shard that meets a region error or a loss is cut into shards again, as often as the backoff has attempts.
-#[derive(Drop)]
 pub struct RetryableMultiRegion<P: RegionPlan>
 where
     P::Result: HasKeyErrors + HasRegionError,
@@ -55,6 +54,26 @@ where
     /// How many shards were found.
     width: usize,
     alloc: Global,
+}
+
+impl<P: RegionPlan> Drop for RetryableMultiRegion<P>
+where
+    P::Result: HasKeyErrors + HasRegionError,
+{
+    fn drop(self) {
+        let RetryableMultiRegion {
+            inner,
+            backoff: _,
+            preserve_region_results: _,
+            stage,
+            tasks,
+            width: _,
+            alloc: _,
+        } = self;
+        drop(inner);
+        drop(stage);
+        drop(tasks);
+    }
 }
 
 impl<P: RegionPlan> RetryableMultiRegion<P>

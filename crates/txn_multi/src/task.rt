@@ -36,7 +36,6 @@ use txn_tasks::{Step, Task};
 type Turn<P> = std::result::Result<Option<Step<RegionTask<P>, <P as Plan>::Result>>, NoMemory>;
 
 /// A plan for one part of a request, with what is done about its failures.
-#[derive(Drop)]
 pub struct RegionTask<P: ShardPlan> {
     /// The plan, which is never begun itself.
     job: P,
@@ -48,6 +47,22 @@ pub struct RegionTask<P: ShardPlan> {
     /// How many parts it gave.
     width: usize,
     alloc: Global,
+}
+
+impl<P: ShardPlan> Drop for RegionTask<P> {
+    fn drop(self) {
+        let RegionTask {
+            job,
+            region: _,
+            backoff: _,
+            before: _,
+            stage,
+            width: _,
+            alloc: _,
+        } = self;
+        drop(job);
+        drop(stage);
+    }
 }
 
 impl<P: RegionPlan> RegionTask<P>

@@ -13,12 +13,24 @@ use txn_kv::{Arrival, Error, NoMemory, Outbox, Progress, StoreId, Target};
 use txn_region::PdClient;
 
 /// Sends one request to one store, once.
-#[derive(Drop)]
 pub struct Dispatch<R: CopyRequest> {
     pub request: R,
     /// Where it goes. It is set before the start.
     pub store: Option<StoreId>,
     stage: Stage,
+}
+
+impl<R: CopyRequest> Drop for Dispatch<R> {
+    fn drop(self) {
+        let Dispatch {
+            request,
+            store,
+            stage,
+        } = self;
+        drop(request);
+        drop(store);
+        drop(stage);
+    }
 }
 
 impl<R: CopyRequest> Dispatch<R> {

@@ -10,10 +10,16 @@ use txn_merge::{HasKeyErrors, HasRegionErrors, extract_error};
 use txn_region::PdClient;
 
 /// A plan whose answer gives way to the errors that it holds (`ExtractedErrors`). An error of the plan stays as it is.
-#[derive(Drop)]
 pub struct ExtractError<P: Plan> {
     pub inner: P,
     alloc: Global,
+}
+
+impl<P: Plan> Drop for ExtractError<P> {
+    fn drop(self) {
+        let ExtractError { inner, alloc: _ } = self;
+        drop(inner);
+    }
 }
 
 impl<P: Plan> ExtractError<P>

@@ -11,7 +11,6 @@ use txn_merge::Merge;
 use txn_region::PdClient;
 
 /// A plan over many shards, whose results are merged into one answer. An error of the plan stays as it is.
-#[derive(Drop)]
 pub struct MergeResponse<
     P: Plan<Result = Vec<txn_kv::Result<In>>>,
     In: Drop,
@@ -21,6 +20,20 @@ pub struct MergeResponse<
     pub merge: M,
     alloc: Global,
     of: PhantomData<In>,
+}
+
+impl<P: Plan<Result = Vec<txn_kv::Result<In>>>, In: Drop, M: Merge<In> + TryClone> Drop
+    for MergeResponse<P, In, M> {
+    fn drop(self) {
+        let MergeResponse {
+            inner,
+            merge,
+            alloc: _,
+            of: _,
+        } = self;
+        drop(inner);
+        drop(merge);
+    }
 }
 
 impl<P: Plan<Result = Vec<txn_kv::Result<In>>>, In: Drop, M: Merge<In> + TryClone> MergeResponse<

@@ -11,7 +11,6 @@ use txn_region::{PdClient, RegionStore};
 use txn_shard::{ShardList, Shardable};
 
 /// A plan that answers its reply beside the shard that it asked for.
-#[derive(Drop)]
 pub struct PreserveShard<P: Plan + Shardable>
 where
     P::Shard: TryClone,
@@ -19,6 +18,17 @@ where
     pub inner: P,
     /// It is set before the start.
     pub shard: Option<P::Shard>,
+}
+
+impl<P: Plan + Shardable> Drop for PreserveShard<P>
+where
+    P::Shard: TryClone,
+{
+    fn drop(self) {
+        let PreserveShard { inner, shard } = self;
+        drop(inner);
+        drop(shard);
+    }
 }
 
 impl<P: Plan + Shardable> PreserveShard<P>

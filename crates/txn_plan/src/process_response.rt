@@ -8,10 +8,17 @@ use txn_merge::Process;
 use txn_region::PdClient;
 
 /// A plan whose answer is made into another.
-#[derive(Drop)]
 pub struct ProcessResponse<P: Plan, Pr: Process<P::Result> + TryClone> {
     pub inner: P,
     pub processor: Pr,
+}
+
+impl<P: Plan, Pr: Process<P::Result> + TryClone> Drop for ProcessResponse<P, Pr> {
+    fn drop(self) {
+        let ProcessResponse { inner, processor } = self;
+        drop(inner);
+        drop(processor);
+    }
 }
 
 impl<P: Plan, Pr: Process<P::Result> + TryClone> ProcessResponse<P, Pr>

@@ -19,11 +19,23 @@ use txn_tso::{Cluster, PdCall, RetryClient};
 ///
 /// A region is believed in only if it can be given out: an answered one whose keys do not decode, or that has no leader, is
 /// refused when it is learnt, and is not kept. What it took the place of is gone.
-#[derive(Drop)]
 pub struct PdRpcClient<Cod: Codec> {
     pd: RetryClient,
     placement: Placement,
     codec: Cod,
+}
+
+impl<Cod: Codec> Drop for PdRpcClient<Cod> {
+    fn drop(self) {
+        let PdRpcClient {
+            pd,
+            placement,
+            codec,
+        } = self;
+        drop(pd);
+        drop(placement);
+        drop(codec);
+    }
 }
 
 impl<Cod: Codec> PdRpcClient<Cod> {

@@ -21,10 +21,19 @@ use txn_kv::{
 
 /// What a client believes of regions and stores, with keys as the placement driver has them. Each region can be given out: its
 /// keys are decoded where they are encoded, and it has a leader.
-#[derive(Drop)]
 pub struct Placement {
     cache: RegionCache,
     enable_mvcc_codec: bool,
+}
+
+impl Drop for Placement {
+    fn drop(self) {
+        let Placement {
+            cache,
+            enable_mvcc_codec: _,
+        } = self;
+        drop(cache);
+    }
 }
 
 impl Model for Placement {

@@ -23,7 +23,6 @@ use txn_kv::{
 const MAX_WAITS: u32 = 5;
 
 /// What a client believes of regions and stores. A call that is refused, also for want of memory, adds and drops nothing.
-#[derive(Drop)]
 pub struct RegionCache {
     regions: Vec<RegionWithLeader>,
     heads: Vec<Option<Head>>,
@@ -31,6 +30,24 @@ pub struct RegionCache {
     stores: Vec<KnownStore>,
     pending: Vec<RegionId>,
     alloc: Global,
+}
+
+impl Drop for RegionCache {
+    fn drop(self) {
+        let RegionCache {
+            regions,
+            heads,
+            starts,
+            stores,
+            pending,
+            alloc: _,
+        } = self;
+        drop(regions);
+        drop(heads);
+        drop(starts);
+        drop(stores);
+        drop(pending);
+    }
 }
 
 impl Model for RegionCache {

@@ -9,10 +9,20 @@ use crate::pd_client::PdClient;
 use txn_kv::{Key, KeyRange, Look, NoMemory, RegionWithLeader, Result, StoreId};
 
 /// A region, and the store that requests for it go to.
-#[derive(Debug, PartialEq, Eq, Drop)]
+#[derive(Debug, PartialEq, Eq)]
 pub struct RegionStore {
     pub region_with_leader: RegionWithLeader,
     pub store: StoreId,
+}
+
+impl Drop for RegionStore {
+    fn drop(self) {
+        let RegionStore {
+            region_with_leader,
+            store: _,
+        } = self;
+        drop(region_with_leader);
+    }
 }
 
 impl RegionStore {

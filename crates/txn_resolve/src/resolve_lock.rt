@@ -13,11 +13,21 @@ use txn_region::PdClient;
 /// order. Every other reply, and each error of the plan, stays as it is.
 ///
 /// It resolves no lock yet, so each backoff counts as one without attempts.
-#[derive(Drop)]
 pub struct ResolveLock<P: Plan> {
     pub inner: P,
     pub backoff: Backoff,
     alloc: Global,
+}
+
+impl<P: Plan> Drop for ResolveLock<P> {
+    fn drop(self) {
+        let ResolveLock {
+            inner,
+            backoff: _,
+            alloc: _,
+        } = self;
+        drop(inner);
+    }
 }
 
 impl<P: Plan> ResolveLock<P>

@@ -15,7 +15,6 @@ pub const MAX_RUNNING: usize = 16;
 
 /// Tasks are numbered from 0 in the order in which they are made, and start in that order. One that is cut gives its place to
 /// its parts, which are made later.
-#[derive(Drop)]
 pub struct Queue<R: Drop> {
     roots: usize,
     places: Vec<Place<R>>,
@@ -23,6 +22,20 @@ pub struct Queue<R: Drop> {
     running: usize,
     unended: usize,
     alloc: Global,
+}
+
+impl<R: Drop> Drop for Queue<R> {
+    fn drop(self) {
+        let Queue {
+            roots: _,
+            places,
+            started: _,
+            running: _,
+            unended: _,
+            alloc: _,
+        } = self;
+        drop(places);
+    }
 }
 
 impl<R: Drop> Model for Queue<R> {
@@ -164,6 +177,14 @@ impl<R: Drop> Queue<R> {
         ensures results { IfOk result (λ v. v.items ≡ results self.places self.order) }
     {
         let order = walk::in_order(self.alloc, self.places.as_slice(), self.roots)?;
-        walk::take_results(self.alloc, self.places, order)
+        let Queue {
+            roots: _,
+            places,
+            started: _,
+            running: _,
+            unended: _,
+            alloc,
+        } = self;
+        walk::take_results(alloc, places, order)
     }
 }

@@ -29,7 +29,6 @@ type Turn<P> = std::result::Result<Progress<Vec<Result<<P as Plan>::Result>>>, N
 type Outcomes<P> = std::result::Result<Option<Vec<Result<Result<<P as Plan>::Result>>>>, NoMemory>;
 
 /// A plan that is sent to every store. A store whose request is lost is tried again, as often as the backoff has attempts.
-#[derive(Drop)]
 pub struct RetryableAllStores<P: StorePlan>
 where
     P::Result: HasKeyErrors + HasRegionError,
@@ -43,14 +42,44 @@ where
     alloc: Global,
 }
 
+impl<P: StorePlan> Drop for RetryableAllStores<P>
+where
+    P::Result: HasKeyErrors + HasRegionError,
+{
+    fn drop(self) {
+        let RetryableAllStores {
+            inner,
+            backoff: _,
+            search,
+            run,
+            stage,
+            alloc: _,
+        } = self;
+        drop(inner);
+        drop(search);
+        drop(run);
+        drop(stage);
+    }
+}
+
 /// The stores, and the tasks for them.
-#[derive(Drop)]
 pub struct StoreTasks<P: StorePlan>
 where
     P::Result: HasKeyErrors + HasRegionError,
 {
     stores: Vec<Store>,
     tasks: Tasks<StoreTask<P>>,
+}
+
+impl<P: StorePlan> Drop for StoreTasks<P>
+where
+    P::Result: HasKeyErrors + HasRegionError,
+{
+    fn drop(self) {
+        let StoreTasks { stores, tasks } = self;
+        drop(stores);
+        drop(tasks);
+    }
 }
 
 impl<P: StorePlan> RetryableAllStores<P>

@@ -31,10 +31,16 @@ type Turn<T> = std::result::Result<Progress<T>, NoMemory>;
 
 /// Asks the placement driver for all stores, and answers those that transactions are sent to, in the order of its answer. The
 /// driver is asked anew, whatever the client knows.
-#[derive(Drop)]
 pub struct StoreSearch {
     stage: SearchStage,
     alloc: Global,
+}
+
+impl Drop for StoreSearch {
+    fn drop(self) {
+        let StoreSearch { stage, alloc: _ } = self;
+        drop(stage);
+    }
 }
 
 impl StoreSearch {

@@ -30,7 +30,6 @@ use txn_tasks::{Step, Task};
 type Turn<P> = std::result::Result<Option<Step<StoreTask<P>, <P as Plan>::Result>>, NoMemory>;
 
 /// A plan for one store, with what is done about its losses.
-#[derive(Drop)]
 pub struct StoreTask<P: Drop> {
     /// What it is to do, at its store. It is never started.
     job: P,
@@ -40,6 +39,23 @@ pub struct StoreTask<P: Drop> {
     backoff: Backoff,
     stage: Stage,
     alloc: Global,
+}
+
+impl<P: Drop> Drop for StoreTask<P> {
+    fn drop(self) {
+        let StoreTask {
+            job,
+            plan,
+            store,
+            backoff: _,
+            stage,
+            alloc: _,
+        } = self;
+        drop(job);
+        drop(plan);
+        drop(store);
+        drop(stage);
+    }
 }
 
 impl<P: StorePlan> StoreTask<P>

@@ -12,11 +12,23 @@ use txn_kv::{Arrival, Errand, NoMemory};
 
 /// The tasks of a plan by what they wait for: the reply to a request and the end of a sleep by its number, and the answer to
 /// an ask by the number of the ask.
-#[derive(Drop)]
 pub struct Routes {
     replies: BTreeMap<u64, usize>,
     sleeps: BTreeMap<u64, usize>,
     asks: BTreeMap<u64, usize>,
+}
+
+impl Drop for Routes {
+    fn drop(self) {
+        let Routes {
+            replies,
+            sleeps,
+            asks,
+        } = self;
+        drop(replies);
+        drop(sleeps);
+        drop(asks);
+    }
 }
 
 impl Model for Routes {

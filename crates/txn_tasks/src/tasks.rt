@@ -34,13 +34,28 @@ type Turn<T> = std::result::Result<Option<Vec<Result<Result<<T as Task>::Answer>
 
 /// The tasks of a plan, by their numbers, and what each has come to. Parts stand in the place of the task that gave them, and
 /// start once there is room.
-#[derive(Drop)]
 pub struct Tasks<T: Task> {
     stage: Stage,
     queue: Queue<Result<Result<T::Answer>>>,
     tasks: Vec<T>,
     routes: Routes,
     alloc: Global,
+}
+
+impl<T: Task> Drop for Tasks<T> {
+    fn drop(self) {
+        let Tasks {
+            stage,
+            queue,
+            tasks,
+            routes,
+            alloc: _,
+        } = self;
+        drop(stage);
+        drop(queue);
+        drop(tasks);
+        drop(routes);
+    }
 }
 
 impl<T: Task> Tasks<T> {

@@ -14,11 +14,22 @@ const MAX_GROUP: usize = 64;
 
 /// A client's asks for timestamps: those that wait, in the order in which they came, and the group that was sent. There is
 /// one group out at most.
-#[derive(Drop)]
 pub struct TimestampOracle {
     queue: Vec<Asker>,
     group: Option<Items<Asker>>,
     alloc: Global,
+}
+
+impl Drop for TimestampOracle {
+    fn drop(self) {
+        let TimestampOracle {
+            queue,
+            group,
+            alloc: _,
+        } = self;
+        drop(queue);
+        drop(group);
+    }
 }
 
 impl Model for TimestampOracle {

@@ -40,12 +40,23 @@ type Turn = std::result::Result<Progress<PdAnswer>, NoMemory>;
 ///
 /// What comes under a number that is not out changes nothing, and once the call has answered nothing does. A call that once
 /// gave up for want of memory gives up ever after.
-#[derive(Drop)]
 pub struct PdCall {
     query: PdQuery,
     /// How many tries have failed.
     failed: u32,
     stage: Stage,
+}
+
+impl Drop for PdCall {
+    fn drop(self) {
+        let PdCall {
+            query,
+            failed: _,
+            stage,
+        } = self;
+        drop(query);
+        drop(stage);
+    }
 }
 
 impl PdCall {
