@@ -1,0 +1,3 @@
+pub mod Licensing
+pub mod Noting
+pub mod Searching

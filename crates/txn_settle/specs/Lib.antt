@@ -1,0 +1,4 @@
+pub mod Expiry
+pub mod Known
+pub mod Requests
+pub mod Search
