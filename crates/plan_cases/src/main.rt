@@ -11,6 +11,7 @@
 //! | `apply REGION get KEY SHARD`, `apply REGION scan START END up|down FROM TO`, `apply REGION scan_lock START END FROM TO NEXT` | a shard that is set into a request; a REGION is `whole`, or `unled`, `bare` or `neither` where its leader, its epoch or both are left out |
 //! | `apply_store`, `next KEY..`, `batches SIZE KEY..`, `sizes KEY VALUE`, `only KEY` | what else requests do: for every store, behind these locks, in batches, in bytes, the only key |
 //! | `dispatch STORE KEY`, `extract STORE KEY`, `resolve STORE KEY`, `resolve_prewrite STORE` | the plan from here on: a request to a store, alone or in a plan around it |
+//! | `first STORE KEY`, `second STORE KEY` | a plan that is one of two: as `dispatch` or as `extract` |
 //! | `get KEY`, `commit ATTEMPTS first|keep KEY..`, `destroy ATTEMPTS` | the same over regions, and to all stores. A Commit answers the first error, or keeps each in its place. A sleep between two attempts is a millisecond |
 //! | `build_one ID STORE KEY`, `build_multi KEY`, `build_merged KEY` | the same by `PlanBuilder` |
 //! | `start`, `copy`, `reply NUMBER REPLY`, `lost NUMBER`, `slept NUMBER`, `time NUMBER` | what the plan is told, what it answers, and what it posts then. `copy` puts a copy into its place, and `time` refuses an ask |

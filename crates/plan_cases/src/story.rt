@@ -7,6 +7,7 @@ use crate::requests::{commit, destroy, get, prewrite};
 use case_words::{flag, number, small, word};
 use std::alloc::Global;
 use txn_builder::PlanBuilder;
+use txn_either::Either;
 use txn_kv::{
     Backoff, CommitRequest, GetRequest, GetResponse, OPTIMISTIC_BACKOFF, PrewriteRequest,
     UnsafeDestroyRangeRequest,
@@ -27,6 +28,7 @@ pub enum Story {
     Sent(Line<Sent>),
     Extracting(Line<ExtractError<Sent>>),
     Resolving(Line<ResolveLock<Sent>>),
+    Either(Line<Either<Sent, ExtractError<Sent>>>),
     Prewriting(Line<ResolveLock<Dispatch<PrewriteRequest>>>),
     Getting(Line<Getting>),
     Committing(Line<RetryableMultiRegion<Dispatch<CommitRequest>>>),
@@ -41,6 +43,7 @@ impl Drop for Story {
             Story::Sent(line) => drop(line),
             Story::Extracting(line) => drop(line),
             Story::Resolving(line) => drop(line),
+            Story::Either(line) => drop(line),
             Story::Prewriting(line) => drop(line),
             Story::Getting(line) => drop(line),
             Story::Committing(line) => drop(line),
@@ -75,6 +78,16 @@ fn resolve_prewrite(alloc: Global, words: &[&str]) -> Story {
     let inner = Dispatch::new(prewrite(alloc), Some(number(words, 1)));
     let plan = ResolveLock::new(alloc, inner, OPTIMISTIC_BACKOFF);
     Story::Prewriting(Line::new(alloc, plan))
+}
+
+fn first(alloc: Global, words: &[&str]) -> Story {
+    let plan = Either::First(sent(alloc, words));
+    Story::Either(Line::new(alloc, plan))
+}
+
+fn second(alloc: Global, words: &[&str]) -> Story {
+    let plan = Either::Second(ExtractError::new(alloc, sent(alloc, words)));
+    Story::Either(Line::new(alloc, plan))
 }
 
 fn getting(alloc: Global, words: &[&str]) -> Story {
@@ -135,6 +148,8 @@ impl Story {
             "extract" => extract(alloc, words),
             "resolve" => resolve(alloc, words),
             "resolve_prewrite" => resolve_prewrite(alloc, words),
+            "first" => first(alloc, words),
+            "second" => second(alloc, words),
             "get" => getting(alloc, words),
             "commit" => committing(alloc, words),
             "destroy" => destroying(alloc, words),
@@ -151,6 +166,7 @@ impl Story {
             Story::Sent(line) => line.tell(rt, pd, words),
             Story::Extracting(line) => line.tell(rt, pd, words),
             Story::Resolving(line) => line.tell(rt, pd, words),
+            Story::Either(line) => line.tell(rt, pd, words),
             Story::Prewriting(line) => line.tell(rt, pd, words),
             Story::Getting(line) => line.tell(rt, pd, words),
             Story::Committing(line) => line.tell(rt, pd, words),
@@ -165,6 +181,7 @@ impl Story {
             Story::Sent(line) => line.posted(rt),
             Story::Extracting(line) => line.posted(rt),
             Story::Resolving(line) => line.posted(rt),
+            Story::Either(line) => line.posted(rt),
             Story::Prewriting(line) => line.posted(rt),
             Story::Getting(line) => line.posted(rt),
             Story::Committing(line) => line.posted(rt),
