@@ -9,35 +9,28 @@ use case_words::{flag, number, say, show, word};
 use std::alloc::Global;
 use std::marker::Model;
 use txn_client::{Client, ClientAnswer, ClientCall};
-use txn_commit::PlanFor;
+use txn_commit::Plans;
 use txn_core::{CheckLevel, Transaction, TransactionOptions};
 use txn_fakes::NoClient;
-use txn_kv::{
-    Arrival, BatchRollbackRequest, CommitRequest, Error, Internal, NoMemory, Outbox,
-    PrewriteRequest, Progress, Timestamp,
-};
+use txn_kv::{Arrival, Error, Internal, NoMemory, Outbox, Progress, Timestamp};
 use txn_region::{ApiV1TxnCodec, PdRpcClient};
 
 type Pd = PdRpcClient<ApiV1TxnCodec>;
 
 /// All that comes does at 5 ms.
-pub struct Calling<P, Q, K>
+pub struct Calling<P>
 where
-    P: PlanFor<PrewriteRequest>,
-    Q: PlanFor<CommitRequest>,
-    K: PlanFor<BatchRollbackRequest>,
+    P: Plans,
 {
-    call: ClientCall<Pd, P, Q, K>,
+    call: ClientCall<Pd, P>,
     pd: NoClient,
     out: Outbox,
 }
 
 /// By one call: a derived drop is opened at each exit that holds such a value.
-impl<P, Q, K> Drop for Calling<P, Q, K>
+impl<P> Drop for Calling<P>
 where
-    P: PlanFor<PrewriteRequest>,
-    Q: PlanFor<CommitRequest>,
-    K: PlanFor<BatchRollbackRequest>,
+    P: Plans,
 {
     fn drop(self) {
         let Calling { call, pd, out } = self;
@@ -47,11 +40,9 @@ where
     }
 }
 
-impl<P, Q, K> Model for Calling<P, Q, K>
+impl<P> Model for Calling<P>
 where
-    P: PlanFor<PrewriteRequest>,
-    Q: PlanFor<CommitRequest>,
-    K: PlanFor<BatchRollbackRequest>,
+    P: Plans,
 {
     ghost use Rattle.txn_client.specs.Calls.{CallReady};
     ghost use Rattle.txn_client.specs.declared.client_call.Stage.{Stage};
@@ -64,11 +55,9 @@ where
     ghost invariant = { λ l. CallReady l.call.stage × HasNumbers l.out };
 }
 
-impl<P, Q, K> Calling<P, Q, K>
+impl<P> Calling<P>
 where
-    P: PlanFor<PrewriteRequest>,
-    Q: PlanFor<CommitRequest>,
-    K: PlanFor<BatchRollbackRequest>,
+    P: Plans,
 {
     /// A new call of a new client, if there is memory.
     pub fn begin(alloc: Global, words: &[&str]) -> Option<Self> {
@@ -91,7 +80,7 @@ where
         show_errands(rt, self.out.sends.as_slice(), posted);
     }
 
-    fn turn(&mut self, words: &[&str]) -> Result<Progress<ClientAnswer<Pd, P, Q, K>>, NoMemory> {
+    fn turn(&mut self, words: &[&str]) -> Result<Progress<ClientAnswer<Pd, P>>, NoMemory> {
         if flag(words, 0, "start") {
             return self.call.start(&mut self.pd, 5, &mut self.out);
         }
@@ -103,11 +92,9 @@ where
     }
 }
 
-fn new_call<P, Q, K>(alloc: Global, words: &[&str]) -> Result<ClientCall<Pd, P, Q, K>, NoMemory>
+fn new_call<P>(alloc: Global, words: &[&str]) -> Result<ClientCall<Pd, P>, NoMemory>
 where
-    P: PlanFor<PrewriteRequest>,
-    Q: PlanFor<CommitRequest>,
-    K: PlanFor<BatchRollbackRequest>,
+    P: Plans,
     ensures { IfOk result (λ call. CallReady call.stage) }
 {
     let client = Client::new(alloc, 0);
@@ -143,11 +130,9 @@ fn time(is_given: bool) -> txn_kv::Result<Timestamp>
     })
 }
 
-fn show_answer<P, Q, K>(rt: &HostRuntime, answer: Progress<ClientAnswer<Pd, P, Q, K>>)
+fn show_answer<P>(rt: &HostRuntime, answer: Progress<ClientAnswer<Pd, P>>)
 where
-    P: PlanFor<PrewriteRequest>,
-    Q: PlanFor<CommitRequest>,
-    K: PlanFor<BatchRollbackRequest>,
+    P: Plans,
 {
     match answer {
         Progress::Waiting => say(rt, &"waits"),
@@ -160,11 +145,9 @@ where
 }
 
 /// When it starts, whether a call of it is open, and what its user is told who lets it go.
-fn show_transaction<P, Q, K>(rt: &HostRuntime, transaction: Transaction<Pd, P, Q, K>)
+fn show_transaction<P>(rt: &HostRuntime, transaction: Transaction<Pd, P>)
 where
-    P: PlanFor<PrewriteRequest>,
-    Q: PlanFor<CommitRequest>,
-    K: PlanFor<BatchRollbackRequest>,
+    P: Plans,
 {
     let mut transaction = transaction;
     let start = transaction.start_timestamp().logical;

@@ -34,33 +34,28 @@ use course::Course;
 use std::alloc::Global;
 use std::process::ExitCode;
 use txn_clients::Clients;
-use txn_commit::PlanFor;
+use txn_commit::Plans;
 use txn_commit_plans::HeartbeatPlan;
 use txn_fakes::Once;
 use txn_heartbeat::PlanForHeartbeats;
 use txn_heartbeats::Heartbeats;
-use txn_kv::{BatchRollbackRequest, CommitRequest, PrewriteRequest};
 
 /// What the rows of a case call.
-enum Subject<P, Q, K, H>
+enum Subject<P, H>
 where
-    P: PlanFor<PrewriteRequest>,
-    Q: PlanFor<CommitRequest>,
-    K: PlanFor<BatchRollbackRequest>,
+    P: Plans,
     H: PlanForHeartbeats,
 {
     Nothing,
-    Call(Calling<P, Q, K>),
+    Call(Calling<P>),
     Heartbeat(Beating<H>),
-    Clients(Course<Heartbeats<Clients<P, Q, K>, H>>),
+    Clients(Course<Heartbeats<Clients<P>, H>>),
 }
 
 /// By one call: a derived drop is opened at each exit that holds such a value.
-impl<P, Q, K, H> Drop for Subject<P, Q, K, H>
+impl<P, H> Drop for Subject<P, H>
 where
-    P: PlanFor<PrewriteRequest>,
-    Q: PlanFor<CommitRequest>,
-    K: PlanFor<BatchRollbackRequest>,
+    P: Plans,
     H: PlanForHeartbeats,
 {
     fn drop(self) {
@@ -74,22 +69,18 @@ where
 }
 
 #[derive(Drop)]
-struct Case<P, Q, K, H>
+struct Case<P, H>
 where
-    P: PlanFor<PrewriteRequest>,
-    Q: PlanFor<CommitRequest>,
-    K: PlanFor<BatchRollbackRequest>,
+    P: Plans,
     H: PlanForHeartbeats,
 {
     alloc: Global,
-    subject: Subject<P, Q, K, H>,
+    subject: Subject<P, H>,
 }
 
-impl<P, Q, K, H> Case<P, Q, K, H>
+impl<P, H> Case<P, H>
 where
-    P: PlanFor<PrewriteRequest>,
-    Q: PlanFor<CommitRequest>,
-    K: PlanFor<BatchRollbackRequest>,
+    P: Plans,
     H: PlanForHeartbeats,
 {
     fn new(alloc: Global) -> Self {
@@ -100,7 +91,7 @@ where
     }
 
     /// What a row makes that stands where nothing is made yet, if it makes something.
-    fn made(&self, words: &[&str]) -> Option<Subject<P, Q, K, H>> {
+    fn made(&self, words: &[&str]) -> Option<Subject<P, H>> {
         match word(words, 0) {
             "begin" | "timestamp" => Some(Subject::Call(Calling::begin(self.alloc, words)?)),
             "heartbeat" => Some(Subject::Heartbeat(Beating::begin(self.alloc))),
@@ -110,7 +101,7 @@ where
     }
 
     /// Clients of no line.
-    fn clients(&self) -> Course<Heartbeats<Clients<P, Q, K>, H>> {
+    fn clients(&self) -> Course<Heartbeats<Clients<P>, H>> {
         let clients = Heartbeats::new(self.alloc, Clients::new(self.alloc));
         Course::new(self.alloc, clients)
     }
@@ -131,11 +122,9 @@ fn others(rt: &HostRuntime, words: &[&str]) {
     }
 }
 
-impl<P, Q, K, H> Rows for Case<P, Q, K, H>
+impl<P, H> Rows for Case<P, H>
 where
-    P: PlanFor<PrewriteRequest>,
-    Q: PlanFor<CommitRequest>,
-    K: PlanFor<BatchRollbackRequest>,
+    P: Plans,
     H: PlanForHeartbeats,
 {
     fn begin(&mut self) {
@@ -154,11 +143,6 @@ where
 
 // All that is said of plans stands in their bounds: one call alone names types that meet them.
 fn main(rt: HostRuntime) -> ExitCode {
-    let mut case: Case<
-        Once<PrewriteRequest>,
-        Once<CommitRequest>,
-        Once<BatchRollbackRequest>,
-        HeartbeatPlan,
-    > = Case::new(rt.alloc());
+    let mut case: Case<Once, HeartbeatPlan> = Case::new(rt.alloc());
     run(&rt, &mut case)
 }

@@ -6,23 +6,19 @@ use case_words::{say, show, word};
 use std::alloc::Global;
 use std::marker::Model;
 use txn_commit::{
-    CommitParts, CommitterAnswer, CommitterCall, PlanFor, PrimaryCommits, SecondaryJob,
+    CommitParts, CommitterAnswer, CommitterCall, Plans, PrimaryCommits, SecondaryJob,
 };
 use txn_fakes::NoClient;
-use txn_kv::{
-    BatchRollbackRequest, CommitRequest, Items, Key, NoMemory, Outbox, PrewriteRequest, Progress,
-};
+use txn_kv::{Items, Key, NoMemory, Outbox, Progress};
 use txn_merge::RetryOptions;
 
 /// All comes at 0 ms.
-pub struct Committing<P, Q, K>
+pub struct Committing<P>
 where
-    P: PlanFor<PrewriteRequest>,
-    Q: PlanFor<CommitRequest>,
-    K: PlanFor<BatchRollbackRequest>,
+    P: Plans,
 {
-    call: CommitterCall<P, Q, K>,
-    job: SecondaryJob<Q>,
+    call: CommitterCall<P>,
+    job: SecondaryJob<P>,
     commits: PrimaryCommits,
     pd: NoClient,
     out: Outbox,
@@ -30,11 +26,9 @@ where
 }
 
 /// By one call: a derived drop is opened at each exit that holds such a value.
-impl<P, Q, K> Drop for Committing<P, Q, K>
+impl<P> Drop for Committing<P>
 where
-    P: PlanFor<PrewriteRequest>,
-    Q: PlanFor<CommitRequest>,
-    K: PlanFor<BatchRollbackRequest>,
+    P: Plans,
 {
     fn drop(self) {
         let Committing {
@@ -53,30 +47,26 @@ where
     }
 }
 
-impl<P, Q, K> Model for Committing<P, Q, K>
+impl<P> Model for Committing<P>
 where
-    P: PlanFor<PrewriteRequest>,
-    Q: PlanFor<CommitRequest>,
-    K: PlanFor<BatchRollbackRequest>,
+    P: Plans,
 {
-    ghost use Rattle.txn_commit.specs.Committing.{StageReady, ways};
+    ghost use Rattle.txn_commit.specs.Committing.{StageReady};
     ghost use Rattle.txn_commit.specs.Jobs.{JobReady};
     ghost use Rattle.txn_commit.specs.declared.committer.CommitterCall.{CommitterCall};
     ghost use Rattle.txn_history.specs.Posted.{HasNumbers};
     ghost use Rattle.txn_kv.specs.Timestamp.{HasVersion};
 
-    ghost Value = { CommitterCall P Q K };
+    ghost Value = { CommitterCall P };
 
     ghost view = { λ l. l.call };
 
-    ghost invariant = { λ l. HasVersion l.call.start × StageReady (ways P.meaning Q.meaning K.meaning P.refuses Q.refuses K.refuses) l.call.stage × JobReady Q.meaning l.job × HasNumbers l.out };
+    ghost invariant = { λ l. HasVersion l.call.start × StageReady P.ways l.call.stage × JobReady P.ways.plan l.job × HasNumbers l.out };
 }
 
-impl<P, Q, K> Committing<P, Q, K>
+impl<P> Committing<P>
 where
-    P: PlanFor<PrewriteRequest>,
-    Q: PlanFor<CommitRequest>,
-    K: PlanFor<BatchRollbackRequest>,
+    P: Plans,
 {
     /// Of a buffer after the changes behind the first word, if it has parts.
     pub fn begin(alloc: Global, words: &[&str]) -> Option<Self> {

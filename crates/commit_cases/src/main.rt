@@ -25,7 +25,7 @@
 //! | `options OPTION..`, `defaults`, `retries` | options |
 //! | `numbered NUMBER`, `opening`, `opening read_only` | a status: what it allows, what who lets go is told at each level, what may come next |
 //! | `ttl SIZE STARTED NOW` | how long a lock lives |
-//! | `plan EVENT..` | a transaction's plan of a Get to store 3: `started`, `replied`, `lost`, `slept`, `timed`, and `copied`, after which the copy is told |
+//! | `plan EVENT..` | a Get to store 3, of which only that it was done is told: `started`, `replied`, `lost`, `slept`, `timed`, and `copied`, after which the copy is told |
 //! | `stored`, `widths`, `moves` | that plan's store, how wide new plans are, that plans can move |
 #![tactic(auto)]
 
@@ -46,30 +46,25 @@ use committing::Committing;
 use std::alloc::Global;
 use std::process::ExitCode;
 use transacting::Transacting;
-use txn_commit::PlanFor;
+use txn_commit::Plans;
 use txn_core::ttl::txn_lock_ttl;
 use txn_fakes::Once;
-use txn_kv::{BatchRollbackRequest, CommitRequest, PrewriteRequest};
 
 /// What the rows of a case call.
-enum Subject<P, Q, K>
+enum Subject<P>
 where
-    P: PlanFor<PrewriteRequest>,
-    Q: PlanFor<CommitRequest>,
-    K: PlanFor<BatchRollbackRequest>,
+    P: Plans,
 {
     Nothing,
     Commits(Followed),
-    Committer(Committing<P, Q, K>),
-    Transaction(Transacting<P, Q, K>),
+    Committer(Committing<P>),
+    Transaction(Transacting<P>),
 }
 
 /// By one call: a derived drop is opened at each exit that holds such a value.
-impl<P, Q, K> Drop for Subject<P, Q, K>
+impl<P> Drop for Subject<P>
 where
-    P: PlanFor<PrewriteRequest>,
-    Q: PlanFor<CommitRequest>,
-    K: PlanFor<BatchRollbackRequest>,
+    P: Plans,
 {
     fn drop(self) {
         match self {
@@ -82,21 +77,17 @@ where
 }
 
 #[derive(Drop)]
-struct Case<P, Q, K>
+struct Case<P>
 where
-    P: PlanFor<PrewriteRequest>,
-    Q: PlanFor<CommitRequest>,
-    K: PlanFor<BatchRollbackRequest>,
+    P: Plans,
 {
     alloc: Global,
-    subject: Subject<P, Q, K>,
+    subject: Subject<P>,
 }
 
-impl<P, Q, K> Case<P, Q, K>
+impl<P> Case<P>
 where
-    P: PlanFor<PrewriteRequest>,
-    Q: PlanFor<CommitRequest>,
-    K: PlanFor<BatchRollbackRequest>,
+    P: Plans,
 {
     fn new(alloc: Global) -> Self {
         Case {
@@ -106,7 +97,7 @@ where
     }
 
     /// What a row makes, if it makes something.
-    fn made(&self, words: &[&str]) -> Option<Subject<P, Q, K>> {
+    fn made(&self, words: &[&str]) -> Option<Subject<P>> {
         match word(words, 0) {
             "begin" => Some(Subject::Transaction(Transacting::begin(self.alloc, words)?)),
             "committer" => Some(Subject::Committer(Committing::begin(self.alloc, words)?)),
@@ -131,11 +122,9 @@ fn serve(rt: &HostRuntime, words: &[&str]) {
     }
 }
 
-impl<P, Q, K> Rows for Case<P, Q, K>
+impl<P> Rows for Case<P>
 where
-    P: PlanFor<PrewriteRequest>,
-    Q: PlanFor<CommitRequest>,
-    K: PlanFor<BatchRollbackRequest>,
+    P: Plans,
 {
     fn begin(&mut self) {
         self.subject = Subject::Nothing;
@@ -157,7 +146,6 @@ where
 
 // All that is said of plans stands in their bounds: one call alone names types that meet them.
 fn main(rt: HostRuntime) -> ExitCode {
-    let mut case: Case<Once<PrewriteRequest>, Once<CommitRequest>, Once<BatchRollbackRequest>> =
-        Case::new(rt.alloc());
+    let mut case: Case<Once> = Case::new(rt.alloc());
     run(&rt, &mut case)
 }

@@ -1,12 +1,12 @@
-//! Plans of commits and rollbacks, and what a transaction's plan does.
+//! The plans of transactions, and what is told of a plan that was done.
 ghost use Rattle.std.specs.Prelude.{IsSome};
 
 use case_words::{rest, say, show, word};
 use std::alloc::Global;
 use std::fmt::Debug;
 use std::marker::Model;
-use txn_commit::PlanFor;
-use txn_commit_plans::{BatchRollbackPlan, CommitPlan, PrewritePlan, TransactionPlan, send};
+use txn_commit::Plans;
+use txn_commit_plans::{Done, TransactionPlan, send};
 use txn_fakes::NoClient;
 use txn_kv::{
     Backoff, Errand, Error, GetRequest, GetResponse, Items, Key, NoMemory, Outbox, Progress, Reply,
@@ -105,8 +105,8 @@ fn show_errands(rt: &HostRuntime, errands: &[Errand], from: usize) {
     }
 }
 
-/// A plan that sends a Get to store 3, as one of a transaction.
-fn getting(alloc: Global) -> TransactionPlan<Dispatch<GetRequest>>
+/// A plan that sends a Get to store 3, of which only that it was done is told.
+fn getting(alloc: Global) -> Done<Dispatch<GetRequest>>
     ensures { IsSome result.store }
 {
     let get = GetRequest {
@@ -114,7 +114,7 @@ fn getting(alloc: Global) -> TransactionPlan<Dispatch<GetRequest>>
         key: Key::empty(alloc),
         version: 5,
     };
-    TransactionPlan::new(Dispatch::new(get, Some(3)))
+    Done::new(Dispatch::new(get, Some(3)))
 }
 
 fn play(rt: &HostRuntime, words: &[&str]) {
@@ -134,23 +134,21 @@ fn options() -> RetryOptions {
     )
 }
 
-// Each plan is named by its own type: a function over all of them would cost far more to prove at these types.
-
 fn prewrite_width(alloc: Global) -> Result<u64, NoMemory> {
     let request = new_prewrite_request(alloc, Items::new(alloc), Key::empty(alloc), 5, 3000);
-    let plan = PrewritePlan::plan_for(alloc, &NoClient::new(), request, options())?;
+    let plan = TransactionPlan::prewrite(alloc, &NoClient::new(), request, options())?;
     Ok(plan.width())
 }
 
 fn commit_width(alloc: Global) -> Result<u64, NoMemory> {
     let request = new_commit_request(Items::new(alloc), 5, 6);
-    let plan = CommitPlan::plan_for(alloc, &NoClient::new(), request, options())?;
+    let plan = TransactionPlan::commit(alloc, &NoClient::new(), request, options())?;
     Ok(plan.width())
 }
 
 fn rollback_width(alloc: Global) -> Result<u64, NoMemory> {
     let request = new_batch_rollback_request(Items::new(alloc), 5);
-    let plan = BatchRollbackPlan::plan_for(alloc, &NoClient::new(), request, options())?;
+    let plan = TransactionPlan::roll_back(alloc, &NoClient::new(), request, options())?;
     Ok(plan.width())
 }
 

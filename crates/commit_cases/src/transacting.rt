@@ -8,32 +8,28 @@ use crate::shown::{show_errands, show_turn};
 use case_words::{number, say, show, word};
 use std::alloc::Global;
 use std::marker::Model;
-use txn_commit::PlanFor;
+use txn_commit::Plans;
 use txn_core::{CloseAnswer, Transaction, TxnAnswer};
 use txn_fakes::NoClient;
-use txn_kv::{BatchRollbackRequest, CommitRequest, NoMemory, Outbox, PrewriteRequest, Progress};
+use txn_kv::{NoMemory, Outbox, Progress};
 
-pub type Turn<Q> = Result<Progress<TxnAnswer<Q>>, NoMemory>;
+pub type Turn<P> = Result<Progress<TxnAnswer<P>>, NoMemory>;
 
 /// It began at 100 ms, and all its calls are made at 350 ms.
-pub struct Transacting<P, Q, K>
+pub struct Transacting<P>
 where
-    P: PlanFor<PrewriteRequest>,
-    Q: PlanFor<CommitRequest>,
-    K: PlanFor<BatchRollbackRequest>,
+    P: Plans,
 {
-    pub(crate) txn: Transaction<NoClient, P, Q, K>,
+    pub(crate) txn: Transaction<NoClient, P>,
     pub(crate) pd: NoClient,
     pub(crate) out: Outbox,
     pub(crate) alloc: Global,
 }
 
 /// By one call: a derived drop is opened at each exit that holds such a value.
-impl<P, Q, K> Drop for Transacting<P, Q, K>
+impl<P> Drop for Transacting<P>
 where
-    P: PlanFor<PrewriteRequest>,
-    Q: PlanFor<CommitRequest>,
-    K: PlanFor<BatchRollbackRequest>,
+    P: Plans,
 {
     fn drop(self) {
         let Transacting {
@@ -48,29 +44,24 @@ where
     }
 }
 
-impl<P, Q, K> Model for Transacting<P, Q, K>
+impl<P> Model for Transacting<P>
 where
-    P: PlanFor<PrewriteRequest>,
-    Q: PlanFor<CommitRequest>,
-    K: PlanFor<BatchRollbackRequest>,
+    P: Plans,
 {
-    ghost use Rattle.txn_commit.specs.Committing.{ways};
     ghost use Rattle.txn_core.specs.Going.{TransactionReady};
     ghost use Rattle.txn_core.specs.Transaction.{Standing};
     ghost use Rattle.txn_history.specs.Posted.{HasNumbers};
 
-    ghost Value = { Standing P Q K };
+    ghost Value = { Standing P };
 
     ghost view = { λ l. l.txn };
 
-    ghost invariant = { λ l. TransactionReady (ways P.meaning Q.meaning K.meaning P.refuses Q.refuses K.refuses) l.txn × HasNumbers l.out };
+    ghost invariant = { λ l. TransactionReady P.ways l.txn × HasNumbers l.out };
 }
 
-impl<P, Q, K> Transacting<P, Q, K>
+impl<P> Transacting<P>
 where
-    P: PlanFor<PrewriteRequest>,
-    Q: PlanFor<CommitRequest>,
-    K: PlanFor<BatchRollbackRequest>,
+    P: Plans,
 {
     /// With the options behind the first word, if there is memory.
     pub fn begin(alloc: Global, words: &[&str]) -> Option<Self> {
@@ -126,7 +117,7 @@ where
     }
 
     /// What comes of a row. No call is made while another is open.
-    fn turn(&mut self, words: &[&str]) -> Option<Turn<Q>> {
+    fn turn(&mut self, words: &[&str]) -> Option<Turn<P>> {
         if let Some(arrival) = arrival(self.alloc, words, 0) {
             return Some(self.txn.tell(arrival, &mut self.pd, 350, &mut self.out));
         }
@@ -136,7 +127,7 @@ where
         self.call(words)
     }
 
-    fn call(&mut self, words: &[&str]) -> Option<Turn<Q>>
+    fn call(&mut self, words: &[&str]) -> Option<Turn<P>>
         requires { is_open self.old.work ≡ false }
     {
         match word(words, 0) {
@@ -147,7 +138,7 @@ where
     }
 
     /// Commits, on a line of this number.
-    fn commit(&mut self, line: u64) -> Turn<Q>
+    fn commit(&mut self, line: u64) -> Turn<P>
         requires { is_open self.old.work ≡ false }
     {
         self.open(line);
@@ -155,7 +146,7 @@ where
     }
 
     /// Rolls back, on a line of this number.
-    fn roll_back(&mut self, line: u64) -> Turn<Q>
+    fn roll_back(&mut self, line: u64) -> Turn<P>
         requires { is_open self.old.work ≡ false }
     {
         self.open(line);

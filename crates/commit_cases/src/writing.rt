@@ -5,18 +5,14 @@ ghost use Rattle.txn_core.specs.Transaction.{is_open};
 use crate::transacting::{Transacting, Turn};
 use case_words::{bytes, word};
 use std::alloc::Global;
-use txn_commit::PlanFor;
-use txn_kv::{
-    Assertion, BatchRollbackRequest, CommitRequest, Key, Mutation, Op, PrewriteRequest, Value,
-};
+use txn_commit::Plans;
+use txn_kv::{Assertion, Key, Mutation, Op, Value};
 
-impl<P, Q, K> Transacting<P, Q, K>
+impl<P> Transacting<P>
 where
-    P: PlanFor<PrewriteRequest>,
-    Q: PlanFor<CommitRequest>,
-    K: PlanFor<BatchRollbackRequest>,
+    P: Plans,
 {
-    pub(crate) fn write(&mut self, words: &[&str]) -> Option<Turn<Q>>
+    pub(crate) fn write(&mut self, words: &[&str]) -> Option<Turn<P>>
         requires { is_open self.old.work ≡ false }
     {
         let name = word(words, 1);
@@ -30,7 +26,7 @@ where
         }
     }
 
-    fn put(&mut self, key: Key) -> Turn<Q>
+    fn put(&mut self, key: Key) -> Turn<P>
         requires { is_open self.old.work ≡ false }
     {
         let value = Value::new(self.alloc);
@@ -38,7 +34,7 @@ where
         turn
     }
 
-    fn insert(&mut self, key: Key) -> Turn<Q>
+    fn insert(&mut self, key: Key) -> Turn<P>
         requires { is_open self.old.work ≡ false }
     {
         let value = Value::new(self.alloc);
@@ -48,14 +44,14 @@ where
         turn
     }
 
-    fn delete(&mut self, key: Key) -> Turn<Q>
+    fn delete(&mut self, key: Key) -> Turn<P>
         requires { is_open self.old.work ≡ false }
     {
         let turn = self.txn.delete(&mut self.pd, key, 350, &mut self.out);
         turn
     }
 
-    fn mutate(&mut self, mutations: Vec<Mutation>) -> Turn<Q>
+    fn mutate(&mut self, mutations: Vec<Mutation>) -> Turn<P>
         requires { is_open self.old.work ≡ false }
     {
         let turn = self
@@ -64,7 +60,7 @@ where
         turn
     }
 
-    fn lock(&mut self, keys: Vec<Key>) -> Turn<Q>
+    fn lock(&mut self, keys: Vec<Key>) -> Turn<P>
         requires { is_open self.old.work ≡ false }
     {
         let turn = self.txn.lock_keys(&mut self.pd, keys, 350, &mut self.out);

@@ -2,14 +2,14 @@
 //! names leave them out.
 
 use txn_blocking::{ClientOver, PlacementClient, TransactionOver};
-use txn_commit_plans::{BatchRollbackPlan, CommitPlan, PrewritePlan};
+use txn_commit_plans::TransactionPlan;
 use txn_region::ApiV1TxnCodec;
 
 /// A client whose calls return once they have ended. It sends its requests by a transport.
-pub type BlockingClient<T> = ClientOver<T, PrewritePlan, CommitPlan, BatchRollbackPlan>;
+pub type BlockingClient<T> = ClientOver<T, TransactionPlan>;
 
 /// A transaction of such a client.
-pub type BlockingTransaction = TransactionOver<PrewritePlan, CommitPlan, BatchRollbackPlan>;
+pub type BlockingTransaction = TransactionOver<TransactionPlan>;
 
 pub type Client = txn_client::Client<ApiV1TxnCodec>;
 
@@ -17,28 +17,13 @@ pub type Client = txn_client::Client<ApiV1TxnCodec>;
 pub type TransactionClient = Client;
 
 /// A call that begins a transaction, or asks for a timestamp.
-pub type ClientCall = txn_client::ClientCall<
-    PlacementClient,
-    PrewritePlan,
-    CommitPlan,
-    BatchRollbackPlan,
->;
+pub type ClientCall = txn_client::ClientCall<PlacementClient, TransactionPlan>;
 
-pub type ClientAnswer = txn_client::ClientAnswer<
-    PlacementClient,
-    PrewritePlan,
-    CommitPlan,
-    BatchRollbackPlan,
->;
+pub type ClientAnswer = txn_client::ClientAnswer<PlacementClient, TransactionPlan>;
 
-pub type Transaction = txn_core::Transaction<
-    PlacementClient,
-    PrewritePlan,
-    CommitPlan,
-    BatchRollbackPlan,
->;
+pub type Transaction = txn_core::Transaction<PlacementClient, TransactionPlan>;
 
-pub type TxnAnswer = txn_core::TxnAnswer<CommitPlan>;
+pub type TxnAnswer = txn_core::TxnAnswer<TransactionPlan>;
 
 /// Commits the keys of a transaction other than its primary, once that is committed.
-pub type SecondaryJob = txn_commit::SecondaryJob<CommitPlan>;
+pub type SecondaryJob = txn_commit::SecondaryJob<TransactionPlan>;

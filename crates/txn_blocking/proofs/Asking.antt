@@ -21,12 +21,12 @@ some_ask = record { line = 0; beat = false; number = 0 }
 abbrev told : Timestamp → List Event
 told t = Answered some_ask (Ok t) ∷ []
 
-made_wanted : (C P Q K : Type 0) (w : Wanted) (now : ℕ) (t : Timestamp) → IsWanted {C = C} {P = P} {Q = Q} {K = K} w (told t) (made w now t)
-made_wanted C P Q K wants.Timestamp now t = (some_ask, inl refl)
-made_wanted C P Q K (wants.Transaction options) now t = (refl, (some_ask, inl refl))
+made_wanted : (C P : Type 0) (w : Wanted) (now : ℕ) (t : Timestamp) → IsWanted {C = C} {P = P} w (told t) (made w now t)
+made_wanted C P wants.Timestamp now t = (some_ask, inl refl)
+made_wanted C P (wants.Transaction options) now t = (refl, (some_ask, inl refl))
 
-pub has_given : {C P Q K : Type 0} (first call : ClientCall C P Q K) (now : ℕ) (a : Arrival) (v : Result (ClientAnswer C P Q K) Error) → StillGives first call → IsMadeOf call.wanted now a v → IfOk v (HasGiven first)
+pub has_given : {C P : Type 0} (first call : ClientCall C P) (now : ℕ) (a : Arrival) (v : Result (ClientAnswer C P) Error) → StillGives first call → IsMadeOf call.wanted now a v → IfOk v (HasGiven first)
 has_given first call now a (Err e) s m = tt
 has_given first call now a (Ok x) s m =
     let t = m.1 in
-    (told t, s (told t) x (subst (IsWanted call.wanted (told t)) (sym m.3) (made_wanted _ _ _ _ call.wanted now t)))
+    (told t, s (told t) x (subst (IsWanted call.wanted (told t)) (sym m.3) (made_wanted _ _ call.wanted now t)))

@@ -9,8 +9,8 @@ use Rattle.txn_history.specs.Turn.Turn.{Stopped, Waits, Ends}
 use Rattle.txn_kv.specs.Timestamp.{HasVersion}
 use Rattle.txn_kv.specs.declared.errors.Error.{Error}
 
-pub start_stays : {P Q K : Type 0} (refusal : Option Error) (wrote : Contents → Contents → Type 0) (old new : Standing P Q K) (turn : Turn (Result (TxnAnswer Q) Error)) → HasVersion old.start → WriteEnds refusal wrote old new turn → HasVersion new.start
-start_stays refusal wrote old new Stopped h e = subst (λ (t : Standing _ _ _). HasVersion t.start) (sym e) h
+pub start_stays : {P : Type 0} (refusal : Option Error) (wrote : Contents → Contents → Type 0) (old new : Standing P) (turn : Turn (Result (TxnAnswer P) Error)) → HasVersion old.start → WriteEnds refusal wrote old new turn → HasVersion new.start
+start_stays refusal wrote old new Stopped h e = subst (λ (t : Standing _). HasVersion t.start) (sym e) h
 start_stays refusal wrote old new Waits h e = absurd e
-start_stays (Some x) wrote old new (Ends v) h e = subst (λ (t : Standing _ _ _). HasVersion t.start) (sym e.1) h
-start_stays None wrote old new (Ends v) h e = subst (λ (t : Standing _ _ _). HasVersion t.start) (sym e.1) h
+start_stays (Some x) wrote old new (Ends v) h e = subst (λ (t : Standing _). HasVersion t.start) (sym e.1) h
+start_stays None wrote old new (Ends v) h e = subst (λ (t : Standing _). HasVersion t.start) (sym e.1) h

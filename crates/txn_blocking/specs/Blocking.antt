@@ -20,19 +20,19 @@ use Rattle.txn_kv.specs.declared.errors.Internal.TheVariants.{WrongReply}
 use Rattle.txn_kv.specs.declared.timestamp.Timestamp.{Timestamp}
 
 -- a transaction that has just begun with these options
-abbrev pub IsNew : {P Q K : Type 0} → TransactionOptions → Standing P Q K → Type 0
+abbrev pub IsNew : {P : Type 0} → TransactionOptions → Standing P → Type 0
 IsNew options t = t ≡ begun t.start options t.began
 
 -- by some history this is what the call was wanted for
-abbrev pub HasGiven : {C P Q K : Type 0} → ClientCall C P Q K → ClientAnswer C P Q K → Type 0
+abbrev pub HasGiven : {C P : Type 0} → ClientCall C P → ClientAnswer C P → Type 0
 HasGiven call answer = (h : List Event) × IsWanted call.wanted h answer
 
 -- what the call gives later, it would have given before
-abbrev pub StillGives : {C P Q K : Type 0} → ClientCall C P Q K → ClientCall C P Q K → Type 0
-StillGives {C} {P} {Q} {K} old new = (h : List Event) (answer : ClientAnswer C P Q K) → IsWanted new.wanted h answer → IsWanted old.wanted h answer
+abbrev pub StillGives : {C P : Type 0} → ClientCall C P → ClientCall C P → Type 0
+StillGives {C} {P} old new = (h : List Event) (answer : ClientAnswer C P) → IsWanted new.wanted h answer → IsWanted old.wanted h answer
 
 -- a call changed nothing of a transaction but how far its commit or rollback has come
-abbrev pub IsSame : {P Q K : Type 0} → Standing P Q K → Standing P Q K → Type 0
+abbrev pub IsSame : {P : Type 0} → Standing P → Standing P → Type 0
 IsSame old new = new ≡ record old { status = new.status; commits = new.commits; work = new.work; width = new.width }
 
 -- where a transaction stands whose commit has answered
@@ -43,28 +43,28 @@ HasCome status (Err e) = status ≡ statuses.StartedCommit
 
 -- What an answer of a transaction is read as. One of another kind is read as an error.
 
-abbrev pub time_in : {Q : Type 0} → Result (TxnAnswer Q) Error → Result (Option Timestamp) Error
+abbrev pub time_in : {P : Type 0} → Result (TxnAnswer P) Error → Result (Option Timestamp) Error
 time_in (Ok (answer.Committed t job)) = Ok t
 time_in (Ok _) = Err (InternalError WrongReply)
 time_in (Err e) = Err e
 
-abbrev pub job_in : {Q : Type 0} → Result (TxnAnswer Q) Error → Option (SecondaryJob Q)
+abbrev pub job_in : {P : Type 0} → Result (TxnAnswer P) Error → Option (SecondaryJob P)
 job_in (Ok (answer.Committed t job)) = job
 job_in (Ok _) = None
 job_in (Err e) = None
 
-abbrev pub unit_in : {Q : Type 0} → Result (TxnAnswer Q) Error → Result (Unit {0}) Error
+abbrev pub unit_in : {P : Type 0} → Result (TxnAnswer P) Error → Result (Unit {0}) Error
 unit_in (Ok answer.Unit) = Ok tt
 unit_in (Ok _) = Err (InternalError WrongReply)
 unit_in (Err e) = Err e
 
 -- a write that is refused changes nothing; another one leaves this in the buffer
-abbrev pub Wrote : {P Q K : Type 0} → Option Error → Contents → Standing P Q K → Standing P Q K → Result (Unit {0}) Error → Type 0
+abbrev pub Wrote : {P : Type 0} → Option Error → Contents → Standing P → Standing P → Result (Unit {0}) Error → Type 0
 Wrote (Some e) next old new v = (v ≡ Err e) × (new ≡ old)
 Wrote None next old new v = (v ≡ Ok tt) × (new ≡ record old { contents = next })
 
 -- what a write answers, read from its turn
-abbrev pub Reads : {Q : Type 0} → Turn (Result (TxnAnswer Q) Error) → Result (Unit {0}) Error → Type 0
+abbrev pub Reads : {P : Type 0} → Turn (Result (TxnAnswer P) Error) → Result (Unit {0}) Error → Type 0
 Reads Stopped v = ⊥
 Reads Waits v = ⊥
 Reads (Ends (Ok x)) v = v ≡ Ok tt

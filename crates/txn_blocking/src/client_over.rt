@@ -10,11 +10,11 @@ use crate::transport::Transport;
 use std::alloc::Global;
 use std::marker::{Model, PhantomData};
 use txn_client::Client;
-use txn_commit::PlanFor;
+use txn_commit::Plans;
 use txn_core::{CloseAnswer, Status, Transaction};
 use txn_kv::{
-    Arrival, BatchRollbackRequest, CommitRequest, Errand, Error, Internal, NoMemory, Outbox,
-    PrewriteRequest, Reply, Request, Target, Timestamp, TsoResponse,
+    Arrival, Errand, Error, Internal, NoMemory, Outbox, Reply, Request, Target, Timestamp,
+    TsoResponse,
 };
 use txn_region::{ApiV1TxnCodec, PdRpcClient};
 use txn_tso::{Asker, TimestampOracle};
@@ -24,38 +24,55 @@ pub type PlacementClient = PdRpcClient<ApiV1TxnCodec>;
 
 /// A client that sends its requests by a transport. One call runs at a time, and returns once it has ended. It sends one request
 /// after another, in the order in which they are posted.
-#[derive(Drop)]
-pub struct ClientOver<T, P, Q, K> {
+pub struct ClientOver<T, P> {
     pub transport: T,
     client: Client<ApiV1TxnCodec>,
     /// How many calls were made. Each is a line of its own, so that no two requests have one ticket.
     calls: u64,
     alloc: Global,
-    begins: PhantomData<Transaction<PlacementClient, P, Q, K>>,
+    begins: PhantomData<Transaction<PlacementClient, P>>,
+}
+
+impl<T: Drop, P: Drop> Drop for ClientOver<T, P> {
+    fn drop(self) {
+        let ClientOver {
+            transport,
+            client,
+            calls: _,
+            alloc: _,
+            begins: _,
+        } = self;
+        drop(transport);
+        drop(client);
+    }
 }
 
 /// A transaction. One whose call ran out of memory stays so: each later call does, too.
-#[derive(Drop)]
-pub struct TransactionOver<P, Q, K> {
-    inner: Transaction<PlacementClient, P, Q, K>,
+pub struct TransactionOver<P> {
+    inner: Transaction<PlacementClient, P>,
 }
 
-impl<P, Q, K> Model for TransactionOver<P, Q, K> {
+impl<P: Drop> Drop for TransactionOver<P> {
+    fn drop(self) {
+        let TransactionOver { inner } = self;
+        drop(inner);
+    }
+}
+
+impl<P> Model for TransactionOver<P> {
     ghost use Rattle.txn_core.specs.Transaction.{Standing};
     ghost use Rattle.txn_kv.specs.Timestamp.{HasVersion};
 
-    ghost Value = { Standing P Q K };
+    ghost Value = { Standing P };
 
     ghost view = { λ t. t.inner };
 
     ghost invariant = { λ t. HasVersion t.inner.start };
 }
 
-impl<P, Q, K> TransactionOver<P, Q, K>
+impl<P> TransactionOver<P>
 where
-    P: PlanFor<PrewriteRequest>,
-    Q: PlanFor<CommitRequest>,
-    K: PlanFor<BatchRollbackRequest>,
+    P: Plans,
 {
     pub fn start_timestamp(&self) -> Timestamp
         ensures is { result ≡ self.now.start }
@@ -72,12 +89,10 @@ where
     }
 }
 
-impl<T, P, Q, K> ClientOver<T, P, Q, K>
+impl<T, P> ClientOver<T, P>
 where
     T: Transport,
-    P: PlanFor<PrewriteRequest>,
-    Q: PlanFor<CommitRequest>,
-    K: PlanFor<BatchRollbackRequest>,
+    P: Plans,
 {
     /// A client that knows no region and has made no call. Takes no memory.
     pub fn new(alloc: Global, transport: T) -> Self

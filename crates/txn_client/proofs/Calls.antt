@@ -34,7 +34,7 @@ use Rattle.txn_commit.specs.Timing.{HasBegun, IsAnswerOf, ReadsTime, WasUntimed,
 use Rattle.txn_kv.specs.declared.arrival.Arrival.{Arrival}
 use Rattle.txn_commit.specs.declared.timestamp_call.TimestampCall.{TimestampCall}
 use Rattle.txn_history.specs.Arrivals.{MayArrive}
-use Rattle.txn_commit.specs.Committing.{Ways}
+use Rattle.txn_commit.specs.Ways.{Ways}
 use Rattle.txn_client.specs.Calls.{called, made, stage_left, stage_phase, stage_waits, AnswerReady, Asks, CallGives, CallReady, Follows, IsAt, IsEnded, IsMade, IsMadeOf, WasTold}
 use Rattle.txn_client.specs.declared.client_answer.ClientAnswer.{ClientAnswer}
 use Rattle.txn_client.specs.declared.client_call.ClientCall.{ClientCall}
@@ -125,7 +125,7 @@ begun_left t o o' n b = rw b.0 refl
 one_ask : (t : TimestampCall) (n : ℕ) → t.call.query ≡ query.Time → time_asked.round t n ≤ 1
 one_ask t n z = subst (λ q. asks_of q ≤ 1) (sym z) (le_refl 1)
 
-made_ready : {P Q K A B D : Type 0} (C : Type 0) (ways : Ways P Q K A B D) (w : Wanted) (now : ℕ) (t : Timestamp) → HasVersion t → AnswerReady ways (Ok (made {C = C} w now t))
+made_ready : {P : Type 0} (C : Type 0) (ways : Ways P) (w : Wanted) (now : ℕ) (t : Timestamp) → HasVersion t → AnswerReady ways (Ok (made {C = C} w now t))
 made_ready C ways wanted.Timestamp now t v = v
 made_ready C ways (wanted.Transaction options) now t v = record { start = v; work = tt }
 
@@ -136,73 +136,73 @@ unheard_only P Running turn e = rw e tt
 unheard_only P Over turn e = rw e tt
 unheard_only P GivenUp turn e = rw e tt
 
-module _ {C P Q K : Type 0} where
-  made_gives : (w : Wanted) (now : ℕ) (h : List Event) (v : Result Timestamp Error) (x : Result (ClientAnswer C P Q K) Error) → IsMade w now v x → Says h v → CallGives w h x
+module _ {C P : Type 0} where
+  made_gives : (w : Wanted) (now : ℕ) (h : List Event) (v : Result Timestamp Error) (x : Result (ClientAnswer C P) Error) → IsMade w now v x → Says h v → CallGives w h x
   made_gives wanted.Timestamp now h (Ok t) x i s = rw i s
   made_gives (wanted.Transaction options) now h (Ok t) x i s = rw i (refl, s)
   made_gives w now h (Err e) x i s = rw i s
 
-  asking_ready : (c : ClientCall C P Q K) (t : TimestampCall) → c.stage ≡ stage.Asking t → CallReady c.stage → time_asked.ready t × (time_asked.phase t ≡ Running)
+  asking_ready : (c : ClientCall C P) (t : TimestampCall) → c.stage ≡ stage.Asking t → CallReady c.stage → time_asked.ready t × (time_asked.phase t ≡ Running)
   asking_ready c t e r = subst CallReady e r
 
-  pub ready_to_tell : (c : ClientCall C P Q K) (t : TimestampCall) → c.stage ≡ stage.Asking t → CallReady c.stage → time_asked.ready t
+  pub ready_to_tell : (c : ClientCall C P) (t : TimestampCall) → c.stage ≡ stage.Asking t → CallReady c.stage → time_asked.ready t
   ready_to_tell c t e r = let x = asking_ready c t e r in x.0
 
-  query_is : (c : ClientCall C P Q K) (t : TimestampCall) → c.stage ≡ stage.Asking t → CallReady c.stage → t.call.query ≡ query.Time
+  query_is : (c : ClientCall C P) (t : TimestampCall) → c.stage ≡ stage.Asking t → CallReady c.stage → t.call.query ≡ query.Time
   query_is c t e r = asks_time t (ready_to_tell c t e r)
 
-  is_out : (c : ClientCall C P Q K) (t : TimestampCall) → c.stage ≡ stage.Asking t → CallReady c.stage → time_asked.phase t ≡ Running
+  is_out : (c : ClientCall C P) (t : TimestampCall) → c.stage ≡ stage.Asking t → CallReady c.stage → time_asked.phase t ≡ Running
   is_out c t e r = let x = asking_ready c t e r in x.1
 
   -- The steps of the call, where its ask took one.
 
-  ended_still : (is : Result (ClientAnswer C P Q K) Error → Type 0) (c c' : ClientCall C P Q K) (turn : Turn (Result (ClientAnswer C P Q K) Error)) (o : Posted) (known : List Event → Type 0)
+  ended_still : (is : Result (ClientAnswer C P) Error → Type 0) (c c' : ClientCall C P) (turn : Turn (Result (ClientAnswer C P) Error)) (o : Posted) (known : List Event → Type 0)
       → IsEnded is c c' turn → IfKept turn ((h : List Event) → known h → IsAt c'.stage o h)
   ended_still is c c' Stopped o known i = tt
   ended_still is c c' Waits o known i = absurd i
   ended_still is c c' (Ends v) o known i = rw i.1 (λ h k. tt)
 
-  still : (now : ℕ) (t' : TimestampCall) (c c' : ClientCall C P Q K) (inner : Turn (Result Timestamp Error)) (turn : Turn (Result (ClientAnswer C P Q K) Error)) (o : Posted)
+  still : (now : ℕ) (t' : TimestampCall) (c c' : ClientCall C P) (inner : Turn (Result Timestamp Error)) (turn : Turn (Result (ClientAnswer C P) Error)) (o : Posted)
       → Follows now inner (record c { stage = stage.Asking t' }) c' turn → IfKept turn ((h : List Event) → Knows inner (λ k. time_asked.fits t' o k) Says h → IsAt c'.stage o h)
   still now t' c c' Stopped turn o i = rw i.0 tt
   still now t' c c' Waits turn o i = rw (i.0, i.1) (λ h k. k.0)
   still now t' c c' (Ends v) turn o i = ended_still (IsMade c.wanted now v) (record c { stage = stage.Asking t' }) c' turn o (Knows (Ends v) (λ k. time_asked.fits t' o k) Says) i
 
-  ended_done : (w : Wanted) (now : ℕ) (v : Result Timestamp Error) (c c' : ClientCall C P Q K) (turn : Turn (Result (ClientAnswer C P Q K) Error)) (is : List Event → Type 0)
+  ended_done : (w : Wanted) (now : ℕ) (v : Result Timestamp Error) (c c' : ClientCall C P) (turn : Turn (Result (ClientAnswer C P) Error)) (is : List Event → Type 0)
       → IsEnded (IsMade w now v) c c' turn → IfEnds turn (λ x. (h : List Event) → Knows (Ends v) is Says h → CallGives w h x)
   ended_done w now v c c' Stopped is i = tt
   ended_done w now v c c' Waits is i = absurd i
   ended_done w now v c c' (Ends x) is i = λ h k. made_gives w now h v x i.0 k.1
 
-  done : (now : ℕ) (t' : TimestampCall) (c c' : ClientCall C P Q K) (inner : Turn (Result Timestamp Error)) (turn : Turn (Result (ClientAnswer C P Q K) Error)) (is : List Event → Type 0)
+  done : (now : ℕ) (t' : TimestampCall) (c c' : ClientCall C P) (inner : Turn (Result Timestamp Error)) (turn : Turn (Result (ClientAnswer C P) Error)) (is : List Event → Type 0)
       → Follows now inner (record c { stage = stage.Asking t' }) c' turn → IfEnds turn (λ x. (h : List Event) → Knows inner is Says h → CallGives c.wanted h x)
   done now t' c c' Stopped turn is i = rw i.0 tt
   done now t' c c' Waits turn is i = rw i.0 tt
   done now t' c c' (Ends v) turn is i = ended_done c.wanted now v (record c { stage = stage.Asking t' }) c' turn is i
 
-  ended_wants : (A : Type 0) (is : A → Type 0) (c c' : ClientCall C P Q K) (turn : Turn A) → IsEnded is c c' turn → c'.wanted ≡ c.wanted
+  ended_wants : (A : Type 0) (is : A → Type 0) (c c' : ClientCall C P) (turn : Turn A) → IsEnded is c c' turn → c'.wanted ≡ c.wanted
   ended_wants A is c c' Stopped i = rw i refl
   ended_wants A is c c' Waits i = absurd i
   ended_wants A is c c' (Ends v) i = rw i.1 refl
 
-  wants : (now : ℕ) (t' : TimestampCall) (c c' : ClientCall C P Q K) (inner : Turn (Result Timestamp Error)) (turn : Turn (Result (ClientAnswer C P Q K) Error))
+  wants : (now : ℕ) (t' : TimestampCall) (c c' : ClientCall C P) (inner : Turn (Result Timestamp Error)) (turn : Turn (Result (ClientAnswer C P) Error))
       → Follows now inner (record c { stage = stage.Asking t' }) c' turn → c'.wanted ≡ c.wanted
   wants now t' c c' Stopped turn i = rw i.1 refl
   wants now t' c c' Waits turn i = rw i.1 refl
-  wants now t' c c' (Ends v) turn i = ended_wants (Result (ClientAnswer C P Q K) Error) (IsMade c.wanted now v) (record c { stage = stage.Asking t' }) c' turn i
+  wants now t' c c' (Ends v) turn i = ended_wants (Result (ClientAnswer C P) Error) (IsMade c.wanted now v) (record c { stage = stage.Asking t' }) c' turn i
 
-  ended_waits : (A : Type 0) (is : A → Type 0) (c c' : ClientCall C P Q K) (turn : Turn A) (a : Awaited) → IsEnded is c c' turn → stage_waits c'.stage a → ⊥
+  ended_waits : (A : Type 0) (is : A → Type 0) (c c' : ClientCall C P) (turn : Turn A) (a : Awaited) → IsEnded is c c' turn → stage_waits c'.stage a → ⊥
   ended_waits A is c c' Stopped a i w = rw i at w
   ended_waits A is c c' Waits a i w = i
   ended_waits A is c c' (Ends v) a i w = rw i.1 at w
 
-  waits : (now : ℕ) (t' : TimestampCall) (c c' : ClientCall C P Q K) (inner : Turn (Result Timestamp Error)) (turn : Turn (Result (ClientAnswer C P Q K) Error)) (a : Awaited)
+  waits : (now : ℕ) (t' : TimestampCall) (c c' : ClientCall C P) (inner : Turn (Result Timestamp Error)) (turn : Turn (Result (ClientAnswer C P) Error)) (a : Awaited)
       → Follows now inner (record c { stage = stage.Asking t' }) c' turn → stage_waits c'.stage a → time_asked.waits t' a
   waits now t' c c' Stopped turn a i w = absurd (rw i.1 at w)
   waits now t' c c' Waits turn a i w = rw i.1 at w
-  waits now t' c c' (Ends v) turn a i w = absurd (ended_waits (Result (ClientAnswer C P Q K) Error) (IsMade c.wanted now v) (record c { stage = stage.Asking t' }) c' turn a i w)
+  waits now t' c c' (Ends v) turn a i w = absurd (ended_waits (Result (ClientAnswer C P) Error) (IsMade c.wanted now v) (record c { stage = stage.Asking t' }) c' turn a i w)
 
-  pub tells_on : (now : ℕ) (told : Told) (t t' : TimestampCall) (c c' : ClientCall C P Q K) (o o' : Posted) (inner : Turn (Result Timestamp Error)) (turn : Turn (Result (ClientAnswer C P Q K) Error))
+  pub tells_on : (now : ℕ) (told : Told) (t t' : TimestampCall) (c c' : ClientCall C P) (o o' : Posted) (inner : Turn (Result Timestamp Error)) (turn : Turn (Result (ClientAnswer C P) Error))
       → c.stage ≡ stage.Asking t → CallReady c.stage
       → Follows now inner (record c { stage = stage.Asking t' }) c' turn
       → Tells time_asked told t t' o o' inner
@@ -226,27 +226,27 @@ module _ {C P Q K : Type 0} where
 
   -- where it stands
 
-  pub follows_waits : (now : ℕ) (inner : Turn (Result Timestamp Error)) (x c' : ClientCall C P Q K) (turn : Turn (Result (ClientAnswer C P Q K) Error))
+  pub follows_waits : (now : ℕ) (inner : Turn (Result Timestamp Error)) (x c' : ClientCall C P) (turn : Turn (Result (ClientAnswer C P) Error))
       → inner ≡ Waits → Follows now inner x c' turn → (turn ≡ Waits) × (c' ≡ x)
   follows_waits now inner x c' turn e i = subst (λ j. Follows now j x c' turn) e i
 
-  ended_phase : {A : Type 0} (is : A → Type 0) (c c' : ClientCall C P Q K) (turn : Turn A) → IsEnded is c c' turn → stage_phase c'.stage ≡ phase_after turn
+  ended_phase : {A : Type 0} (is : A → Type 0) (c c' : ClientCall C P) (turn : Turn A) → IsEnded is c c' turn → stage_phase c'.stage ≡ phase_after turn
   ended_phase is c c' Stopped i = rw i refl
   ended_phase is c c' Waits i = absurd i
   ended_phase is c c' (Ends v) i = rw i.1 refl
 
-  next_phase : (now : ℕ) (t' : TimestampCall) (c c' : ClientCall C P Q K) (inner : Turn (Result Timestamp Error)) (turn : Turn (Result (ClientAnswer C P Q K) Error))
+  next_phase : (now : ℕ) (t' : TimestampCall) (c c' : ClientCall C P) (inner : Turn (Result Timestamp Error)) (turn : Turn (Result (ClientAnswer C P) Error))
       → Follows now inner (record c { stage = stage.Asking t' }) c' turn → time_asked.phase t' ≡ phase_after inner → stage_phase c'.stage ≡ phase_after turn
   next_phase now t' c c' Stopped turn i p = rw (i.0, i.1) refl
   next_phase now t' c c' Waits turn i p = rw (i.0, i.1) p
   next_phase now t' c c' (Ends v) turn i p = ended_phase (IsMade c.wanted now v) (record c { stage = stage.Asking t' }) c' turn i
 
-  pub goes_on : {D : Type 0} (now : ℕ) (a meant : Type 0) (t t' : TimestampCall) (c c' : ClientCall C P Q K) (o o' : Posted) (k k' : D) (inner : Turn (Result Timestamp Error)) (turn : Turn (Result (ClientAnswer C P Q K) Error))
+  pub goes_on : {D : Type 0} (now : ℕ) (a meant : Type 0) (t t' : TimestampCall) (c c' : ClientCall C P) (o o' : Posted) (k k' : D) (inner : Turn (Result Timestamp Error)) (turn : Turn (Result (ClientAnswer C P) Error))
       → c.stage ≡ stage.Asking t → CallReady c.stage
       → (meant → a) → (a → meant)
       → Follows now inner (record c { stage = stage.Asking t' }) c' turn
       → Goes time_asked.phase a t t' o o' k k' inner
-      → Goes (λ (s : ClientCall C P Q K). stage_phase s.stage) meant c c' o o' k k' turn
+      → Goes (λ (s : ClientCall C P). stage_phase s.stage) meant c c' o o' k k' turn
   goes_on now a meant t t' c c' o o' k k' inner turn e ready is of i s = record {
     deaf = λ other. let f = idle other in f.0 ∙ sym (unheard_runs (stage_phase c.stage) runs);
     state = λ other. let f = idle other in f.1 ∙ ap (λ (x : TimestampCall). record c { stage = stage.Asking x }) (s.state (λ x. other (of x))) ∙ ap (λ (g : Stage). record c { stage = g }) (sym e);
@@ -266,12 +266,12 @@ module _ {C P Q K : Type 0} where
 
   -- it may be called again
 
-  ended_ready : {A : Type 0} (is : A → Type 0) (c c' : ClientCall C P Q K) (turn : Turn A) → IsEnded is c c' turn → CallReady c'.stage
+  ended_ready : {A : Type 0} (is : A → Type 0) (c c' : ClientCall C P) (turn : Turn A) → IsEnded is c c' turn → CallReady c'.stage
   ended_ready is c c' Stopped i = rw i tt
   ended_ready is c c' Waits i = absurd i
   ended_ready is c c' (Ends v) i = rw i.1 tt
 
-  pub ready_on : {D : Type 0} (now : ℕ) (a : Type 0) (t t' : TimestampCall) (c c' : ClientCall C P Q K) (o o' : Posted) (k k' : D) (inner : Turn (Result Timestamp Error)) (turn : Turn (Result (ClientAnswer C P Q K) Error))
+  pub ready_on : {D : Type 0} (now : ℕ) (a : Type 0) (t t' : TimestampCall) (c c' : ClientCall C P) (o o' : Posted) (k k' : D) (inner : Turn (Result Timestamp Error)) (turn : Turn (Result (ClientAnswer C P) Error))
       → c.stage ≡ stage.Asking t → CallReady c.stage
       → Follows now inner (record c { stage = stage.Asking t' }) c' turn
       → Goes time_asked.phase a t t' o o' k k' inner
@@ -283,7 +283,7 @@ module _ {C P Q K : Type 0} where
 
   -- what it costs
 
-  pub counts_on : (now : ℕ) (t t' : TimestampCall) (c c' : ClientCall C P Q K) (bad fails : Bool) (weight locked : ℕ) (o o' : Posted) (inner : Turn (Result Timestamp Error)) (turn : Turn (Result (ClientAnswer C P Q K) Error))
+  pub counts_on : (now : ℕ) (t t' : TimestampCall) (c c' : ClientCall C P) (bad fails : Bool) (weight locked : ℕ) (o o' : Posted) (inner : Turn (Result Timestamp Error)) (turn : Turn (Result (ClientAnswer C P) Error))
       → c.stage ≡ stage.Asking t → CallReady c.stage
       → Follows now inner (record c { stage = stage.Asking t' }) c' turn
       → Counts time_asked bad fails weight locked t t' o o' inner
@@ -303,13 +303,13 @@ module _ {C P Q K : Type 0} where
       one : (first failed : Bool) → Spends (time_asked.bears t) (time_asked.bears t') (time_asked.left t) (time_asked.left t') (time_asked.round t) bad fails weight locked 0 0 o o' first failed → Cost (time_asked.left t') first failed
       one first failed x = Spends-map (λ w u. tt) (λ w v l u b. tt) (λ n w l u. one_ask t n z) (λ n w l u. le_refl _) (λ n w l u. omega arith) x
 
-      ends : (v : Result Timestamp Error) (turn : Turn (Result (ClientAnswer C P Q K) Error)) (first failed : Bool) → first ≡ true → IsEnded (IsMade c.wanted now v) (record c { stage = stage.Asking t' }) c' turn
+      ends : (v : Result Timestamp Error) (turn : Turn (Result (ClientAnswer C P) Error)) (first failed : Bool) → first ≡ true → IsEnded (IsMade c.wanted now v) (record c { stage = stage.Asking t' }) c' turn
           → Cost (time_asked.left t') first failed → Cost (stage_left c'.stage) (is_kept turn) (failing (λ v. false) turn)
       ends v Stopped first failed k j x = Spends-stops x refl (λ f. f)
       ends v Waits first failed k j x = absurd j
       ends v (Ends y) first failed k j x = rw j.1 (Spends-after (λ f. absurd (false≢true f)) (λ w b. tt) (λ n. omega arith) (subst (λ b. Cost (time_asked.left t') b failed) k x))
 
-      by : (inner : Turn (Result Timestamp Error)) (turn : Turn (Result (ClientAnswer C P Q K) Error)) → Follows now inner (record c { stage = stage.Asking t' }) c' turn
+      by : (inner : Turn (Result Timestamp Error)) (turn : Turn (Result (ClientAnswer C P) Error)) → Follows now inner (record c { stage = stage.Asking t' }) c' turn
           → Spends (time_asked.bears t) (time_asked.bears t') (time_asked.left t) (time_asked.left t') (time_asked.round t) bad fails weight locked 0 0 o o' (is_kept inner) (failing time_asked.fails inner)
           → Cost (stage_left c'.stage) (is_kept turn) (failing (λ v. false) turn)
       by Stopped turn i x = rw (i.0, i.1) (Spends-stops (one false false x) refl (λ f. f))
@@ -318,17 +318,17 @@ module _ {C P Q K : Type 0} where
 
   -- what it answers is made of what its ask was told
 
-  made_of : (w : Wanted) (now : ℕ) (a : Arrival) (t : TimestampCall) (v : Result Timestamp Error) (x : Result (ClientAnswer C P Q K) Error) → IsMade w now v x → IsAnswerOf t a v → IsMadeOf w now a x
+  made_of : (w : Wanted) (now : ℕ) (a : Arrival) (t : TimestampCall) (v : Result Timestamp Error) (x : Result (ClientAnswer C P) Error) → IsMade w now v x → IsAnswerOf t a v → IsMadeOf w now a x
   made_of w now a t (Ok u) x i (n, asked, same) = rw i (n, u, same, refl)
   made_of w now a t (Err e) x i d = rw i tt
 
-  ended_made : (w : Wanted) (now : ℕ) (a : Arrival) (t : TimestampCall) (v : Result Timestamp Error) (c c' : ClientCall C P Q K) (turn : Turn (Result (ClientAnswer C P Q K) Error))
+  ended_made : (w : Wanted) (now : ℕ) (a : Arrival) (t : TimestampCall) (v : Result Timestamp Error) (c c' : ClientCall C P) (turn : Turn (Result (ClientAnswer C P) Error))
       → IsEnded (IsMade w now v) c c' turn → IsAnswerOf t a v → IfEnds turn (IsMadeOf w now a)
   ended_made w now a t v c c' Stopped i d = tt
   ended_made w now a t v c c' Waits i d = absurd i
   ended_made w now a t v c c' (Ends x) i d = made_of w now a t v x i.0 d
 
-  pub made_on : (now : ℕ) (a : Arrival) (t t' : TimestampCall) (c c' : ClientCall C P Q K) (inner : Turn (Result Timestamp Error)) (turn : Turn (Result (ClientAnswer C P Q K) Error))
+  pub made_on : (now : ℕ) (a : Arrival) (t t' : TimestampCall) (c c' : ClientCall C P) (inner : Turn (Result Timestamp Error)) (turn : Turn (Result (ClientAnswer C P) Error))
       → Follows now inner (record c { stage = stage.Asking t' }) c' turn → IfEnds inner (IsAnswerOf t a) → IfEnds turn (IsMadeOf c.wanted now a)
   made_on now a t t' c c' Stopped turn i d = rw i.0 tt
   made_on now a t t' c c' Waits turn i d = rw i.0 tt
@@ -336,41 +336,41 @@ module _ {C P Q K : Type 0} where
 
   -- and may be called where it is a transaction
 
-  ready_of : {A B D : Type 0} (ways : Ways P Q K A B D) (w : Wanted) (now : ℕ) (a : Arrival) (x : Result (ClientAnswer C P Q K) Error) → MayArrive a → IsMadeOf w now a x → AnswerReady ways x
+  ready_of : (ways : Ways P) (w : Wanted) (now : ℕ) (a : Arrival) (x : Result (ClientAnswer C P) Error) → MayArrive a → IsMadeOf w now a x → AnswerReady ways x
   ready_of ways w now a (Ok x) m (n, t, same, is) = rw is (made_ready C ways w now t (rw same at m))
   ready_of ways w now a (Err e) m i = tt
 
-  pub answer_ready : {A B D : Type 0} (ways : Ways P Q K A B D) (now : ℕ) (a : Arrival) (t t' : TimestampCall) (c c' : ClientCall C P Q K) (inner : Turn (Result Timestamp Error)) (turn : Turn (Result (ClientAnswer C P Q K) Error))
+  pub answer_ready : (ways : Ways P) (now : ℕ) (a : Arrival) (t t' : TimestampCall) (c c' : ClientCall C P) (inner : Turn (Result Timestamp Error)) (turn : Turn (Result (ClientAnswer C P) Error))
       → MayArrive a → Follows now inner (record c { stage = stage.Asking t' }) c' turn → IfEnds inner (IsAnswerOf t a) → IfEnds turn (AnswerReady ways)
   answer_ready ways now a t t' c c' inner turn m i d = IfEnds-weaker turn (λ x y. ready_of ways c.wanted now a x m y) (made_on now a t t' c c' inner turn i d)
 
   -- what is not for it changes nothing
 
-  pub goes_idle : {D A : Type 0} (c : ClientCall C P Q K) (o : Posted) (k : D) (turn : Turn A)
+  pub goes_idle : {D A : Type 0} (c : ClientCall C P) (o : Posted) (k : D) (turn : Turn A)
       → CallReady c.stage → (c.stage ≡ stage.Fresh → ⊥) → turn ≡ unheard (stage_phase c.stage)
-      → Goes (λ (s : ClientCall C P Q K). stage_phase s.stage) (stage_phase c.stage ≡ Fresh) c c o o k k turn
+      → Goes (λ (s : ClientCall C P). stage_phase s.stage) (stage_phase c.stage ≡ Fresh) c c o o k k turn
   goes_idle c o k turn r n e = record { deaf = λ other. e; state = λ other. refl; outbox = λ other. refl; client = λ other. refl; next = λ this. absurd (not_fresh c.stage r n this) }
 
-  pub waits_out : {A : Type 0} (c : ClientCall C P Q K) (t : TimestampCall) → c.stage ≡ stage.Asking t → CallReady c.stage → unheard {A = A} (stage_phase c.stage) ≡ Waits
+  pub waits_out : {A : Type 0} (c : ClientCall C P) (t : TimestampCall) → c.stage ≡ stage.Asking t → CallReady c.stage → unheard {A = A} (stage_phase c.stage) ≡ Waits
   waits_out c t e ready = unheard_runs (stage_phase c.stage) (ap stage_phase e ∙ is_out c t e ready)
 
-  pub waits_not : (c : ClientCall C P Q K) (g : Stage) → c.stage ≡ g → ((a : Awaited) → stage_waits g a → ⊥) → (a : Awaited) → stage_waits c.stage a → ⊥
+  pub waits_not : (c : ClientCall C P) (g : Stage) → c.stage ≡ g → ((a : Awaited) → stage_waits g a → ⊥) → (a : Awaited) → stage_waits c.stage a → ⊥
   waits_not c g e never a w = never a (subst (λ x. stage_waits x a) e w)
 
-  pub unheard_is : {A : Type 0} (c : ClientCall C P Q K) (g : Stage) (turn : Turn A) → c.stage ≡ g → turn ≡ unheard (stage_phase g) → turn ≡ unheard (stage_phase c.stage)
+  pub unheard_is : {A : Type 0} (c : ClientCall C P) (g : Stage) (turn : Turn A) → c.stage ≡ g → turn ≡ unheard (stage_phase g) → turn ≡ unheard (stage_phase c.stage)
   unheard_is c g turn e i = i ∙ ap (λ x. unheard (stage_phase x)) (sym e)
 
   -- It asks.
 
-  pub tells_asks : (c c' : ClientCall C P Q K) (o o' : Posted) (turn : Turn (Result (ClientAnswer C P Q K) Error))
+  pub tells_asks : (c c' : ClientCall C P) (o o' : Posted) (turn : Turn (Result (ClientAnswer C P) Error))
       → Asks c c' o o' turn → Tells called started c c' o o' turn
   tells_asks c c' o o' Stopped i = rw i.0 (Tells-stopped refl i.1 (record { asked = λ h r x. x; given = λ h v x. x; gave = λ h v x. x }) (λ a w. absurd w))
   tells_asks c c' o o' Waits (t, b, is) = rw is (Tells-asked b.1 (λ h f. ask_fits t o o' h b) (record { asked = λ h r x. x; given = λ h v x. x; gave = λ h v x. x }) (λ a w. inr (Ask o.next_ask, inl refl, sym (begun_waits t o o' a b w))))
   tells_asks c c' o o' (Ends v) i = absurd i
 
-  pub goes_asks : {D : Type 0} (c c' : ClientCall C P Q K) (o o' : Posted) (k k' : D) (turn : Turn (Result (ClientAnswer C P Q K) Error))
+  pub goes_asks : {D : Type 0} (c c' : ClientCall C P) (o o' : Posted) (k k' : D) (turn : Turn (Result (ClientAnswer C P) Error))
       → c.stage ≡ stage.Fresh → Asks c c' o o' turn
-      → Goes (λ (s : ClientCall C P Q K). stage_phase s.stage) (stage_phase c.stage ≡ Fresh) c c' o o' k k' turn
+      → Goes (λ (s : ClientCall C P). stage_phase s.stage) (stage_phase c.stage ≡ Fresh) c c' o o' k k' turn
   goes_asks c c' o o' k k' turn e i = record {
     deaf = λ other. absurd (other (ap stage_phase e));
     state = λ other. absurd (other (ap stage_phase e));
@@ -379,28 +379,28 @@ module _ {C P Q K : Type 0} where
     next = λ this. by turn i;
   }
     where
-      by : (turn : Turn (Result (ClientAnswer C P Q K) Error)) → Asks c c' o o' turn → stage_phase c'.stage ≡ phase_after turn
+      by : (turn : Turn (Result (ClientAnswer C P) Error)) → Asks c c' o o' turn → stage_phase c'.stage ≡ phase_after turn
       by Stopped i = rw i.0 refl
       by Waits (t, b, is) = rw is (begun_runs t o o' b)
       by (Ends v) i = absurd i
 
-  pub ready_asks : (c c' : ClientCall C P Q K) (o o' : Posted) (turn : Turn (Result (ClientAnswer C P Q K) Error)) → Asks c c' o o' turn → CallReady c'.stage
+  pub ready_asks : (c c' : ClientCall C P) (o o' : Posted) (turn : Turn (Result (ClientAnswer C P) Error)) → Asks c c' o o' turn → CallReady c'.stage
   ready_asks c c' o o' Stopped i = rw i.0 tt
   ready_asks c c' o o' Waits (t, b, is) = rw is (begun_ready t o o' b)
   ready_asks c c' o o' (Ends v) i = absurd i
 
   -- a start does not answer
-  pub asks_only : (Q' : Result (ClientAnswer C P Q K) Error → Type 0) (c c' : ClientCall C P Q K) (o o' : Posted) (turn : Turn (Result (ClientAnswer C P Q K) Error)) → Asks c c' o o' turn → IfEnds turn Q'
-  asks_only Q' c c' o o' Stopped i = tt
-  asks_only Q' c c' o o' Waits i = tt
-  asks_only Q' c c' o o' (Ends v) i = absurd i
+  pub asks_only : (P' : Result (ClientAnswer C P) Error → Type 0) (c c' : ClientCall C P) (o o' : Posted) (turn : Turn (Result (ClientAnswer C P) Error)) → Asks c c' o o' turn → IfEnds turn P'
+  asks_only P' c c' o o' Stopped i = tt
+  asks_only P' c c' o o' Waits i = tt
+  asks_only P' c c' o o' (Ends v) i = absurd i
 
-  pub counts_asks : (c c' : ClientCall C P Q K) (o o' : Posted) (turn : Turn (Result (ClientAnswer C P Q K) Error))
+  pub counts_asks : (c c' : ClientCall C P) (o o' : Posted) (turn : Turn (Result (ClientAnswer C P) Error))
       → c.stage ≡ stage.Fresh → Asks c c' o o' turn → Counts called false false 0 0 c c' o o' turn
   counts_asks c c' o o' turn e i =
       subst (λ g. Counts called false false 0 0 (record c { stage = g }) c' o o' turn) (sym e) (record { spends = by turn i; fewer = λ n. le_refl 1 })
     where
-      by : (turn : Turn (Result (ClientAnswer C P Q K) Error)) → Asks c c' o o' turn
+      by : (turn : Turn (Result (ClientAnswer C P) Error)) → Asks c c' o o' turn
           → Spends (λ w. Unit {0}) (λ w. Unit {0}) (stage_left stage.Fresh) (stage_left c'.stage) (λ n. 1) false false 0 0 0 0 o o' (is_kept turn) (failing (λ v. false) turn)
       by Stopped i = rw i.1 (Spends-failed refl refl (omega arith) (le_refl 0))
       by Waits (t, b, is) =

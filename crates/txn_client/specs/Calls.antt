@@ -20,7 +20,7 @@ use Rattle.txn_history.specs.Turn.Turn.{Stopped, Waits, Ends}
 use Rattle.txn_tso.specs.Calling.{members}
 use Rattle.txn_tso.specs.Longer.{gives_longer}
 use Rattle.txn_tso.specs.Placement.{fresh}
-use Rattle.txn_commit.specs.Committing.{Ways}
+use Rattle.txn_commit.specs.Ways.{Ways}
 use Rattle.txn_commit.specs.Timing.{HasBegun, WasUntimed, time_asked, time_asked-lawful}
 use Rattle.txn_kv.specs.declared.arrival.Arrival.{Arrival}
 use Rattle.txn_kv.specs.declared.arrival.Arrival.TheVariants as arrivals
@@ -43,29 +43,29 @@ WasTold h t = (ask : Ticket) × Has h (Answered ask (Ok t))
 
 -- A timestamp is one that an ask was answered with. A transaction has just begun at such a one, with the options that it was
 -- wanted with.
-abbrev pub IsWanted : {C P Q K : Type 0} → Wanted → List Event → ClientAnswer C P Q K → Type 0
+abbrev pub IsWanted : {C P : Type 0} → Wanted → List Event → ClientAnswer C P → Type 0
 IsWanted wanted.Timestamp h (Time t) = WasTold h t
 IsWanted wanted.Timestamp h (Begun b) = ⊥
 IsWanted (wanted.Transaction options) h (Time t) = ⊥
 IsWanted (wanted.Transaction options) h (Begun b) = (b ≡ begun b.start options b.began) × WasTold h b.start
 
 -- an error says why there is no timestamp
-abbrev pub CallGives : {C P Q K : Type 0} → Wanted → List Event → Result (ClientAnswer C P Q K) Error → Type 0
+abbrev pub CallGives : {C P : Type 0} → Wanted → List Event → Result (ClientAnswer C P) Error → Type 0
 CallGives w h (Ok x) = IsWanted w h x
 CallGives w h (Err e) = WasUntimed h e
 
 -- what is made of a timestamp that came at this clock
-abbrev pub made : {C P Q K : Type 0} → Wanted → ℕ → Timestamp → ClientAnswer C P Q K
+abbrev pub made : {C P : Type 0} → Wanted → ℕ → Timestamp → ClientAnswer C P
 made wanted.Timestamp now t = Time t
 made (wanted.Transaction options) now t = Begun (begun t options now)
 
 -- An answer is made of the timestamp that it is told of now; an error may come of whatever it is told.
-abbrev pub IsMadeOf : {C P Q K : Type 0} → Wanted → ℕ → Arrival → Result (ClientAnswer C P Q K) Error → Type 0
+abbrev pub IsMadeOf : {C P : Type 0} → Wanted → ℕ → Arrival → Result (ClientAnswer C P) Error → Type 0
 IsMadeOf w now a (Ok x) = (ask : ℕ) × (t : Timestamp) × (a ≡ arrivals.Time ask (Ok t)) × (x ≡ made w now t)
 IsMadeOf w now a (Err e) = ⊤
 
 -- a transaction that it answers may be called, and a timestamp has a version
-abbrev pub AnswerReady : {C P Q K A B D : Type 0} → Ways P Q K A B D → Result (ClientAnswer C P Q K) Error → Type 0
+abbrev pub AnswerReady : {C P : Type 0} → Ways P → Result (ClientAnswer C P) Error → Type 0
 AnswerReady w (Ok (Begun b)) = TransactionReady w b
 AnswerReady w (Ok (Time t)) = HasVersion t
 AnswerReady w (Err e) = ⊤
@@ -105,7 +105,7 @@ stage_left stage.Over n = 0
 stage_left stage.Stopped n = 0
 
 -- It asks for a timestamp, and sends nothing but requests for the members of the placement driver. Nobody runs it again.
-abbrev pub called : {C P Q K : Type 0} → Meaning (ClientCall C P Q K) (Result (ClientAnswer C P Q K) Error)
+abbrev pub called : {C P : Type 0} → Meaning (ClientCall C P) (Result (ClientAnswer C P) Error)
 called = record {
   fits = λ s o h. IsAt s.stage o h;
   asks = λ s h r. r ≡ members;
@@ -121,31 +121,31 @@ called = record {
 }
 
 -- a call for this that is not started
-pub record IsNewCall {C P Q K : Type 0} (w : Wanted) (s : ClientCall C P Q K) : Type 0 where
+pub record IsNewCall {C P : Type 0} (w : Wanted) (s : ClientCall C P) : Type 0 where
   pub wants : s.wanted ≡ w
   pub stage : s.stage ≡ stage.Fresh
 
 -- How it goes on
 
 -- it asks, or gives up
-abbrev pub Asks : {C P Q K A : Type 0} → ClientCall C P Q K → ClientCall C P Q K → Posted → Posted → Turn A → Type 0
+abbrev pub Asks : {C P A : Type 0} → ClientCall C P → ClientCall C P → Posted → Posted → Turn A → Type 0
 Asks old new from to Stopped = (new ≡ record old { stage = stage.Stopped }) × (to ≡ from)
 Asks old new from to Waits = (t : TimestampCall) × HasBegun t from to × (new ≡ record old { stage = stage.Asking t })
 Asks old new from to (Ends v) = ⊥
 
 -- it ends with this, or gives up
-abbrev pub IsEnded : {C P Q K A : Type 0} → (A → Type 0) → ClientCall C P Q K → ClientCall C P Q K → Turn A → Type 0
+abbrev pub IsEnded : {C P A : Type 0} → (A → Type 0) → ClientCall C P → ClientCall C P → Turn A → Type 0
 IsEnded is old new Stopped = new ≡ record old { stage = stage.Stopped }
 IsEnded is old new Waits = ⊥
 IsEnded is old new (Ends v) = is v × (new ≡ record old { stage = stage.Over })
 
 -- what its ask was answered, made to an answer of its own
-abbrev pub IsMade : {C P Q K : Type 0} → Wanted → ℕ → Result Timestamp Error → Result (ClientAnswer C P Q K) Error → Type 0
+abbrev pub IsMade : {C P : Type 0} → Wanted → ℕ → Result Timestamp Error → Result (ClientAnswer C P) Error → Type 0
 IsMade w now (Ok t) v = v ≡ Ok (made w now t)
 IsMade w now (Err e) v = v ≡ Err e
 
 -- it follows its ask
-abbrev pub Follows : {C P Q K : Type 0} → ℕ → Turn (Result Timestamp Error) → ClientCall C P Q K → ClientCall C P Q K → Turn (Result (ClientAnswer C P Q K) Error) → Type 0
+abbrev pub Follows : {C P : Type 0} → ℕ → Turn (Result Timestamp Error) → ClientCall C P → ClientCall C P → Turn (Result (ClientAnswer C P) Error) → Type 0
 Follows now Stopped old new turn = (turn ≡ Stopped) × (new ≡ record old { stage = stage.Stopped })
 Follows now Waits old new turn = (turn ≡ Waits) × (new ≡ old)
 Follows now (Ends v) old new turn = IsEnded (IsMade old.wanted now v) old new turn
@@ -165,13 +165,13 @@ at_longer stage.Stopped o p h longer l w f = tt
 untimed_longer : (h longer : List Event) (e : Error) → Within h longer → WasUntimed h e → WasUntimed longer e
 untimed_longer h longer e w g = (g.0, gives_longer (fresh query.Time) (Err e) h longer (IsLater-refl g.0) w g.1)
 
-wanted_longer : {C P Q K : Type 0} (x : Wanted) (h longer : List Event) (v : ClientAnswer C P Q K) → Within h longer → IsWanted x h v → IsWanted x longer v
+wanted_longer : {C P : Type 0} (x : Wanted) (h longer : List Event) (v : ClientAnswer C P) → Within h longer → IsWanted x h v → IsWanted x longer v
 wanted_longer wanted.Timestamp h longer (Time t) w g = (g.0, w _ g.1)
 wanted_longer wanted.Timestamp h longer (Begun b) w g = absurd g
 wanted_longer (wanted.Transaction options) h longer (Time t) w g = absurd g
 wanted_longer (wanted.Transaction options) h longer (Begun b) w g = (g.0, (g.1.0, w _ g.1.1))
 
-call_gives_longer : {C P Q K : Type 0} (x : Wanted) (h longer : List Event) (v : Result (ClientAnswer C P Q K) Error) → Within h longer → CallGives x h v → CallGives x longer v
+call_gives_longer : {C P : Type 0} (x : Wanted) (h longer : List Event) (v : Result (ClientAnswer C P) Error) → Within h longer → CallGives x h v → CallGives x longer v
 call_gives_longer x h longer (Ok v) w g = wanted_longer x h longer v w g
 call_gives_longer x h longer (Err e) w g = untimed_longer h longer e w g
 
@@ -193,7 +193,7 @@ was_posted (stage.Asking t) o h a f w = time_asked-lawful.posted t o h a f w
 was_posted stage.Over o h a f w = absurd w
 was_posted stage.Stopped o h a f w = absurd w
 
-pub called-lawful : {C P Q K : Type 0} → IsLawful (called {C = C} {P = P} {Q = Q} {K = K})
+pub called-lawful : {C P : Type 0} → IsLawful (called {C = C} {P = P})
 called-lawful = record {
   fits_longer = λ s o p h longer l w f. at_longer s.stage o p h longer l w f;
   gives_longer = λ s h longer v w g. call_gives_longer s.wanted h longer v w g;
@@ -204,7 +204,7 @@ called-lawful = record {
 }
 
 -- a call that is not started
-pub new-unbegun : {C P Q K : Type 0} (w : Wanted) (s : ClientCall C P Q K) → IsNewCall w s → IsUnbegun called s
+pub new-unbegun : {C P : Type 0} (w : Wanted) (s : ClientCall C P) → IsNewCall w s → IsUnbegun called s
 new-unbegun w s n = record {
   phase = rw n.stage refl;
   fits = λ o h. rw n.stage tt;

@@ -10,16 +10,22 @@ ghost use Rattle.txn_client.specs.declared.client_call.Wanted.TheVariants as wan
 
 use crate::client_call::ClientCall;
 use std::alloc::Global;
-use txn_commit::PlanFor;
+use txn_commit::Plans;
 use txn_core::TransactionOptions;
-use txn_kv::{BatchRollbackRequest, CommitRequest, NoMemory, PrewriteRequest};
+use txn_kv::NoMemory;
 use txn_region::{ApiV1TxnCodec, ApiV2TxnCodec, Codec, PdRpcClient};
 
 /// A client of the cluster of id 0. It lends its `pd` to the calls that it makes.
-#[derive(Drop)]
 pub struct Client<Cod: Codec> {
     pd: PdRpcClient<Cod>,
     alloc: Global,
+}
+
+impl<Cod: Codec> Drop for Client<Cod> {
+    fn drop(self) {
+        let Client { pd, alloc: _ } = self;
+        drop(pd);
+    }
 }
 
 impl Client<ApiV1TxnCodec> {
@@ -60,13 +66,9 @@ impl<Cod: Codec> Client<Cod> {
     }
 
     /// A call that begins an optimistic transaction with the usual options.
-    pub fn begin_optimistic<P, Q, K>(
-        &self,
-    ) -> Result<ClientCall<PdRpcClient<Cod>, P, Q, K>, NoMemory>
+    pub fn begin_optimistic<P>(&self) -> Result<ClientCall<PdRpcClient<Cod>, P>, NoMemory>
     where
-        P: PlanFor<PrewriteRequest>,
-        Q: PlanFor<CommitRequest>,
-        K: PlanFor<BatchRollbackRequest>,
+        P: Plans,
         ensures new { IfOk result (λ call. (options : Options) × AreDefault kinds.Optimistic usual_retries options × IsNewCall (wants.Transaction options) call) }
         ensures unbegun { IfOk result (λ call. IsUnbegun called call) }
     {
@@ -74,14 +76,12 @@ impl<Cod: Codec> Client<Cod> {
     }
 
     /// A call that begins a transaction with these options.
-    pub fn begin_with_options<P, Q, K>(
+    pub fn begin_with_options<P>(
         &self,
         options: TransactionOptions,
-    ) -> Result<ClientCall<PdRpcClient<Cod>, P, Q, K>, NoMemory>
+    ) -> Result<ClientCall<PdRpcClient<Cod>, P>, NoMemory>
     where
-        P: PlanFor<PrewriteRequest>,
-        Q: PlanFor<CommitRequest>,
-        K: PlanFor<BatchRollbackRequest>,
+        P: Plans,
         ensures new { IfOk result (λ call. IsNewCall (wants.Transaction options) call) }
         ensures unbegun { IfOk result (λ call. IsUnbegun called call) }
     {
@@ -89,13 +89,9 @@ impl<Cod: Codec> Client<Cod> {
     }
 
     /// A call for a timestamp of now.
-    pub fn current_timestamp<P, Q, K>(
-        &self,
-    ) -> Result<ClientCall<PdRpcClient<Cod>, P, Q, K>, NoMemory>
+    pub fn current_timestamp<P>(&self) -> Result<ClientCall<PdRpcClient<Cod>, P>, NoMemory>
     where
-        P: PlanFor<PrewriteRequest>,
-        Q: PlanFor<CommitRequest>,
-        K: PlanFor<BatchRollbackRequest>,
+        P: Plans,
         ensures new { IfOk result (λ call. IsNewCall wants.Timestamp call) }
         ensures unbegun { IfOk result (λ call. IsUnbegun called call) }
     {

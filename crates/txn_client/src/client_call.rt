@@ -7,7 +7,6 @@ ghost use Rattle.txn_history.specs.Posted.{HasNumbers};
 ghost use Rattle.txn_history.specs.Turn.{turn_of, IfEnds};
 ghost use Rattle.txn_kv.specs.declared.request.Request.{Request as Asked};
 ghost use Rattle.txn_history.specs.Arrivals.{MayArrive, awaited_as, locked_told, tells_error, tells_failure, told_by, weight_told};
-ghost use Rattle.txn_commit.specs.Committing.{ways};
 ghost use Rattle.txn_client.specs.Calls.{called, made, stage_phase, stage_waits, AnswerReady, Asks, CallReady, Follows, IsEnded, IsMade, IsMadeOf, IsNewCall};
 ghost use Rattle.txn_client.specs.declared.client_call.Stage.TheVariants as stages;
 ghost use Rattle.txn_client.specs.declared.client_call.Wanted.TheVariants as wants;
@@ -15,15 +14,12 @@ ghost use Rattle.txn_client.specs.declared.client_call.Wanted.TheVariants as wan
 use crate::client_answer::ClientAnswer;
 use std::alloc::Global;
 use std::marker::PhantomData;
-use txn_commit::{PlanFor, TimestampCall};
+use txn_commit::{Plans, TimestampCall};
 use txn_core::{Transaction, TransactionOptions};
-use txn_kv::{
-    Arrival, BatchRollbackRequest, CommitRequest, NoMemory, Outbox, PrewriteRequest, Progress,
-    Timestamp,
-};
+use txn_kv::{Arrival, NoMemory, Outbox, Progress, Timestamp};
 use txn_region::PdClient;
 
-type Turn<C, P, Q, K> = Result<Progress<ClientAnswer<C, P, Q, K>>, NoMemory>;
+type Turn<C, P> = Result<Progress<ClientAnswer<C, P>>, NoMemory>;
 
 /// What the timestamp is for.
 #[derive(Drop)]
@@ -33,7 +29,6 @@ enum Wanted {
 }
 
 /// How far the call has come.
-#[derive(Drop)]
 enum Stage {
     Fresh,
     Asking(TimestampCall),
@@ -42,22 +37,43 @@ enum Stage {
     Stopped,
 }
 
+impl Drop for Stage {
+    fn drop(self) {
+        match self {
+            Stage::Fresh => {}
+            Stage::Asking(inner) => drop(inner),
+            Stage::Over => {}
+            Stage::Stopped => {}
+        }
+    }
+}
+
 /// A call of a client: it asks for a timestamp, and answers that, or a transaction that begins at it. One that gave up for want
 /// of memory gives up ever after.
-#[derive(Drop)]
-pub struct ClientCall<C, P, Q, K> {
+pub struct ClientCall<C, P> {
     wanted: Wanted,
     stage: Stage,
     alloc: Global,
-    begins: PhantomData<Transaction<C, P, Q, K>>,
+    begins: PhantomData<Transaction<C, P>>,
 }
 
-impl<C, P, Q, K> ClientCall<C, P, Q, K>
+impl<C: Drop, P: Drop> Drop for ClientCall<C, P> {
+    fn drop(self) {
+        let ClientCall {
+            wanted,
+            stage,
+            alloc: _,
+            begins: _,
+        } = self;
+        drop(wanted);
+        drop(stage);
+    }
+}
+
+impl<C, P> ClientCall<C, P>
 where
     C: PdClient,
-    P: PlanFor<PrewriteRequest>,
-    Q: PlanFor<CommitRequest>,
-    K: PlanFor<BatchRollbackRequest>,
+    P: Plans,
 {
     /// A call that begins a transaction, and is not started.
     pub(crate) fn begin(alloc: Global, options: TransactionOptions) -> Self
@@ -88,7 +104,7 @@ where
     }
 
     /// Asks for the timestamp.
-    pub fn start<D: PdClient>(&mut self, pd: &mut D, now: u64, out: &mut Outbox) -> Turn<C, P, Q, K>
+    pub fn start<D: PdClient>(&mut self, pd: &mut D, now: u64, out: &mut Outbox) -> Turn<C, P>
         requires numbers { HasNumbers out.old }
         requires ready { CallReady self.old.stage }
         ensures tells { Tells called started self.old self.new out.old out.new (turn_of result) }
@@ -111,7 +127,7 @@ where
         pd: &mut D,
         now: u64,
         out: &mut Outbox,
-    ) -> Turn<C, P, Q, K>
+    ) -> Turn<C, P>
         requires ready { CallReady self.old.stage }
         requires arrives { MayArrive arrival }
         requires numbers { HasNumbers out.old }
@@ -120,7 +136,7 @@ where
         ensures goes { Goes called.phase (stage_waits self.old.stage (awaited_as arrival)) self.old self.new out.old out.new pd.old pd.new (turn_of result) }
         ensures counts { Counts called (tells_error arrival) (tells_failure arrival) (weight_told arrival) (locked_told arrival) self.old self.new out.old out.new (turn_of result) }
         ensures made { IfEnds (turn_of result) (IsMadeOf self.old.wanted now (arrival)) }
-        ensures answer { IfEnds (turn_of result) (AnswerReady (ways P.meaning Q.meaning K.meaning P.refuses Q.refuses K.refuses)) }
+        ensures answer { IfEnds (turn_of result) (AnswerReady P.ways) }
         ensures ready { CallReady self.new.stage }
         ensures numbers { HasNumbers out.new }
     {
@@ -151,7 +167,7 @@ where
     }
 
     /// What comes of a start that is not the first.
-    fn stay(&self) -> Turn<C, P, Q, K>
+    fn stay(&self) -> Turn<C, P>
         requires ready { CallReady self.now.stage }
         ensures { turn_of result ≡ unheard (stage_phase self.now.stage) }
     {
@@ -163,7 +179,7 @@ where
         }
     }
 
-    fn ask<D: PdClient>(&mut self, pd: &mut D, now: u64, out: &mut Outbox) -> Turn<C, P, Q, K>
+    fn ask<D: PdClient>(&mut self, pd: &mut D, now: u64, out: &mut Outbox) -> Turn<C, P>
         requires numbers { HasNumbers out.old }
         ensures asks { Asks self.old self.new out.old out.new (turn_of result) }
         ensures numbers { HasNumbers out.new }
@@ -181,7 +197,7 @@ where
     }
 
     /// Goes on after its ask did.
-    fn go_on(&mut self, turn: Result<Progress<Timestamp>, NoMemory>, now: u64) -> Turn<C, P, Q, K>
+    fn go_on(&mut self, turn: Result<Progress<Timestamp>, NoMemory>, now: u64) -> Turn<C, P>
         ensures { Follows now (turn_of turn) self.old self.new (turn_of result) }
     {
         match turn {
@@ -194,7 +210,7 @@ where
         }
     }
 
-    fn end(&mut self, answer: txn_kv::Result<Timestamp>, now: u64) -> Turn<C, P, Q, K>
+    fn end(&mut self, answer: txn_kv::Result<Timestamp>, now: u64) -> Turn<C, P>
         ensures { IsEnded (IsMade self.old.wanted now answer) self.old self.new (turn_of result) }
     {
         match self.answer(answer, now) {
@@ -213,7 +229,7 @@ where
         &self,
         answer: txn_kv::Result<Timestamp>,
         now: u64,
-    ) -> Result<txn_kv::Result<ClientAnswer<C, P, Q, K>>, NoMemory>
+    ) -> Result<txn_kv::Result<ClientAnswer<C, P>>, NoMemory>
         ensures { IfOk result (IsMade self.now.wanted now answer) }
     {
         match answer {
@@ -223,7 +239,7 @@ where
     }
 
     /// What was wanted, made of the timestamp that came at this clock.
-    fn make(&self, timestamp: Timestamp, now: u64) -> Result<ClientAnswer<C, P, Q, K>, NoMemory>
+    fn make(&self, timestamp: Timestamp, now: u64) -> Result<ClientAnswer<C, P>, NoMemory>
         ensures { IfOk result (λ answer. answer ≡ made self.now.wanted now timestamp) }
     {
         match &self.wanted {

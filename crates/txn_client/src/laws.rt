@@ -3,7 +3,6 @@ ghost use Rattle.std.specs.Prelude.{ℕ, List, Ok};
 ghost use Rattle.txn_client.specs.Calls.{AnswersAreGiven, CallGives};
 ghost use Rattle.txn_client.specs.declared.client_answer.ClientAnswer.TheVariants.{Begun, Time};
 ghost use Rattle.txn_client.specs.declared.client_call.Wanted.{Wanted};
-ghost use Rattle.txn_commit.specs.Committing.{ways};
 ghost use Rattle.txn_core.specs.Going.{IsUncommitted, TransactionFits};
 ghost use Rattle.txn_core.specs.Transaction.{Standing};
 ghost use Rattle.txn_history.specs.Event.{Event};
@@ -12,19 +11,16 @@ ghost use Rattle.txn_history.specs.Posted.{Posted};
 ghost use Rattle.txn_kv.specs.Timestamp.{version_of};
 ghost use Rattle.txn_kv.specs.declared.timestamp.Timestamp.{Timestamp};
 
-use txn_commit::PlanFor;
-use txn_kv::{BatchRollbackRequest, CommitRequest, PrewriteRequest};
+use txn_commit::Plans;
 use txn_region::PdClient;
 
 /// Where each timestamp that an ask was answered with was given after the ask, so was what a call of a client answers; and a
 /// transaction that it begins can have arisen so, where no Commit of its start was sent.
-pub fn answers_were_given<C, P, Q, K>()
+pub fn answers_were_given<C, P>()
 where
     C: PdClient,
-    P: PlanFor<PrewriteRequest>,
-    Q: PlanFor<CommitRequest>,
-    K: PlanFor<BatchRollbackRequest>,
-    ensures time { (w : Wanted) (h : List Event) (t : Timestamp) → AnswersAreGiven h → CallGives {C = C} {P = P} {Q = Q} {K = K} w h (Ok (Time t)) → WasGiven h (version_of t) }
-    ensures begun { (w : Wanted) (o : Posted) (h : List Event) (b : Standing P Q K) → AnswersAreGiven h → CallGives {C = C} {P = P} {Q = Q} {K = K} w h (Ok (Begun b)) → IsUncommitted (version_of b.start) h
-        → TransactionFits (ways P.meaning Q.meaning K.meaning P.refuses Q.refuses K.refuses) b o h }
+    P: Plans,
+    ensures time { (w : Wanted) (h : List Event) (t : Timestamp) → AnswersAreGiven h → CallGives {C = C} {P = P} w h (Ok (Time t)) → WasGiven h (version_of t) }
+    ensures begun { (w : Wanted) (o : Posted) (h : List Event) (b : Standing P) → AnswersAreGiven h → CallGives {C = C} {P = P} w h (Ok (Begun b)) → IsUncommitted (version_of b.start) h
+        → TransactionFits P.ways b o h }
 {}

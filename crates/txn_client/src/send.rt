@@ -13,7 +13,7 @@ pub fn clients_can_move<Cod: Codec + Send>() {
 }
 
 /// Its calls and their answers do where the plans of the transactions do.
-pub fn calls_can_move<C: Send, P: Send, Q: Send, K: Send>() {
-    can_move::<ClientCall<C, P, Q, K>>();
-    can_move::<ClientAnswer<C, P, Q, K>>();
+pub fn calls_can_move<C: Send, P: Send>() {
+    can_move::<ClientCall<C, P>>();
+    can_move::<ClientAnswer<C, P>>();
 }

@@ -19,7 +19,7 @@ use Rattle.txn_history.specs.Plan.{Key, has_key, AreDistinct, Plan}
 use Rattle.txn_history.specs.Plan.Way.{TwoPhases}
 use Rattle.txn_history.specs.Posted.{Errand, Licensed, Posted, Within, after}
 use Rattle.txn_history.specs.Turn.{Turn, IfEnds-weaker, IfKept-weaker}
-use Rattle.txn_commit.specs.Committing.{CommitterFits, IsAllPrewritten, IsAt, IsCommitting, IsFormed, IsPrewriting, IsWhole, IsReady, IsRollingBack, Ways}
+use Rattle.txn_commit.specs.Committing.{CommitterFits, IsAllPrewritten, IsAt, IsCommitting, IsFormed, IsPrewriting, IsWhole, IsReady, IsRollingBack}
 use Rattle.txn_commit.specs.Following.{Commits, KnowsCommits, sent}
 use Rattle.txn_history.specs.Foreign.{IsForeign}
 use Rattle.txn_commit.specs.Plans.{AreCommitted, ArePrewritten, AreRolledBack, IsOfCommit, IsOfPrewrite, IsOfRollback, IsUnderWay, Says}
@@ -28,6 +28,8 @@ use Rattle.txn_commit.specs.declared.commit_parts.CommitParts.{CommitParts}
 use Rattle.txn_commit.specs.declared.committer.CommitterCall.{CommitterCall}
 use Rattle.txn_commit.specs.declared.committer.Stage.{Stage}
 use Rattle.txn_commit.specs.declared.committer.Stage.TheVariants as stage
+use Rattle.txn_commit.specs.Ways.{Ways}
+use Rattle.txn_commit.specs.declared.fetched.Fetched.{Fetched}
 use Rattle.txn_commit.proofs.Following.{IsNoSending, knows_more}
 use Rattle.txn_commit.proofs.Planned.{parts_planned}
 use Rattle.txn_commit.proofs.Posting.{Hears, IsSameTime, heard_keeps, knows_sent, sent_time}
@@ -160,17 +162,17 @@ commit_part_on plan s c h t _ i (inl w) = absurd w
 named_of : (plan : Plan) (s : ℕ) (c : Commits) (t : Timestamp) (h : List Event) → IsSameTime c t → KnowsCommits plan s c h → IsNamed plan s (version_of t) h
 named_of plan s c t h same k d w = let n = k.named d w in sym n.2 ∙ same n.0 n.1
 
-module _ {P Q K A B D : Type 0} where
+module _ {P : Type 0} where
   -- where the commit stands, the stage in its place
-  pub at_stage : (w : Ways P Q K A B D) (call : CommitterCall P Q K) (g : Stage P Q K) (c : Commits) (o : Posted) (h : List Event)
+  pub at_stage : (w : Ways P) (call : CommitterCall P) (g : Stage P) (c : Commits) (o : Posted) (h : List Event)
       → call.stage ≡ g → CommitterFits w call c o h → IsAt w call.retry_options (version_of call.start) call.parts g c o h
   at_stage w call g c o h e f = subst (λ x. IsAt w call.retry_options (version_of call.start) call.parts x c o h) e f.at
 
-  pub prewriting_on : (w : Ways P Q K A B D) (call : CommitterCall P Q K) (p p' : P) (c : Commits) (told : Told) (o o' : Posted) (turn : Turn (Result A Error))
+  pub prewriting_on : (w : Ways P) (call : CommitterCall P) (p p' : P) (c : Commits) (told : Told) (o o' : Posted) (turn : Turn (Result Fetched Error))
       → call.stage ≡ stage.Prewriting p
       → ((h : List Event) → Hears h (told.hear h))
-      → Moves (w.prewriting.asks p) (λ h. w.prewriting.fits p o h × told.known h) (w.prewriting.fits p' o') (w.prewriting.gives p) told.hear o o' turn
-      → SameJob w.prewriting.asks w.prewriting.gives p' p
+      → Moves (w.plan.asks p) (λ h. w.plan.fits p o h × told.known h) (w.plan.fits p' o') (w.plan.gives p) told.hear o o' turn
+      → SameJob w.plan.asks w.plan.gives p' p
       → Moves (MaySend (plan_of call.parts) (version_of call.start)) (λ h. CommitterFits w call c o h × told.known h) (CommitterFits w (record call { stage = stage.Prewriting p' }) c o')
       (Says (w.unwritten call.retry_options) (IsAllPrewritten (version_of call.start) call.parts)) told.hear o o' turn
   prewriting_on w call p p' c told o o' turn e hears m j =
@@ -189,14 +191,14 @@ module _ {P Q K A B D : Type 0} where
       plan : Plan
       plan = plan_of call.parts
 
-      at : (h : List Event) → CommitterFits w call c o h × told.known h → IsPrewriting w.prewriting (w.unwritten call.retry_options) (version_of call.start) call.parts p c o h
+      at : (h : List Event) → CommitterFits w call c o h × told.known h → IsPrewriting w.plan (w.unwritten call.retry_options) (version_of call.start) call.parts p c o h
       at h u = at_stage w call (stage.Prewriting p) c o h e u.0
 
-  pub rolling_on : (w : Ways P Q K A B D) (call : CommitterCall P Q K) (k k' : K) (c : Commits) (told : Told) (o o' : Posted) (turn : Turn (Result D Error))
+  pub rolling_on : (w : Ways P) (call : CommitterCall P) (k k' : P) (c : Commits) (told : Told) (o o' : Posted) (turn : Turn (Result Fetched Error))
       → call.stage ≡ stage.RollingBackPrimary k
       → ((h : List Event) → Hears h (told.hear h))
-      → Moves (w.rolling.asks k) (λ h. w.rolling.fits k o h × told.known h) (w.rolling.fits k' o') (w.rolling.gives k) told.hear o o' turn
-      → SameJob w.rolling.asks w.rolling.gives k' k
+      → Moves (w.plan.asks k) (λ h. w.plan.fits k o h × told.known h) (w.plan.fits k' o') (w.plan.gives k) told.hear o o' turn
+      → SameJob w.plan.asks w.plan.gives k' k
       → Moves (MaySend (plan_of call.parts) (version_of call.start)) (λ h. CommitterFits w call c o h × told.known h) (CommitterFits w (record call { stage = stage.RollingBackPrimary k' }) c o')
       (Says (w.unrolled call.retry_options) (AreRolledBack (version_of call.start) (call.parts.primary ∷ []))) told.hear o o' turn
   rolling_on w call k k' c told o o' turn e hears m j =
@@ -218,14 +220,14 @@ module _ {P Q K A B D : Type 0} where
       keys : List Key
       keys = call.parts.primary ∷ []
 
-      at : (h : List Event) → CommitterFits w call c o h × told.known h → IsRollingBack w.rolling (w.unrolled call.retry_options) (version_of call.start) call.parts (call.parts.primary ∷ []) k c o h
+      at : (h : List Event) → CommitterFits w call c o h × told.known h → IsRollingBack w.plan (w.unrolled call.retry_options) (version_of call.start) call.parts (call.parts.primary ∷ []) k c o h
       at h u = at_stage w call (stage.RollingBackPrimary k) c o h e u.0
 
-  pub rolling_others_on : (w : Ways P Q K A B D) (call : CommitterCall P Q K) (k k' : K) (c : Commits) (told : Told) (o o' : Posted) (turn : Turn (Result D Error))
+  pub rolling_others_on : (w : Ways P) (call : CommitterCall P) (k k' : P) (c : Commits) (told : Told) (o o' : Posted) (turn : Turn (Result Fetched Error))
       → call.stage ≡ stage.RollingBackOthers k
       → ((h : List Event) → Hears h (told.hear h))
-      → Moves (w.rolling.asks k) (λ h. w.rolling.fits k o h × told.known h) (w.rolling.fits k' o') (w.rolling.gives k) told.hear o o' turn
-      → SameJob w.rolling.asks w.rolling.gives k' k
+      → Moves (w.plan.asks k) (λ h. w.plan.fits k o h × told.known h) (w.plan.fits k' o') (w.plan.gives k) told.hear o o' turn
+      → SameJob w.plan.asks w.plan.gives k' k
       → Moves (MaySend (plan_of call.parts) (version_of call.start)) (λ h. CommitterFits w call c o h × told.known h) (CommitterFits w (record call { stage = stage.RollingBackOthers k' }) c o')
       (Says (w.unrolled call.retry_options) (AreRolledBack (version_of call.start) call.parts.secondaries)) told.hear o o' turn
   rolling_others_on w call k k' c told o o' turn e hears m j =
@@ -253,16 +255,16 @@ module _ {P Q K A B D : Type 0} where
       fact_longer : (x y : List Event) → Within x y → fact x → fact y
       fact_longer x y l f = (first_longer plan s keys x y l f.0, rolled_longer plan s x y l f.1)
 
-      at : (h : List Event) → CommitterFits w call c o h × told.known h → IsRollingBack w.rolling (w.unrolled call.retry_options) (version_of call.start) call.parts call.parts.secondaries k c o h × PrimaryRolledBack (plan_of call.parts) h (version_of call.start)
+      at : (h : List Event) → CommitterFits w call c o h × told.known h → IsRollingBack w.plan (w.unrolled call.retry_options) (version_of call.start) call.parts call.parts.secondaries k c o h × PrimaryRolledBack (plan_of call.parts) h (version_of call.start)
       at h u = at_stage w call (stage.RollingBackOthers k) c o h e u.0
 
-  pub committing_on : (w : Ways P Q K A B D) (call : CommitterCall P Q K) (q q' : Q) (t : Timestamp) (c d : Commits) (told : Told) (o o' : Posted) (turn : Turn (Result B Error))
+  pub committing_on : (w : Ways P) (call : CommitterCall P) (q q' : P) (t : Timestamp) (c d : Commits) (told : Told) (o o' : Posted) (turn : Turn (Result Fetched Error))
       → call.stage ≡ stage.Committing q t
       → ((h : List Event) → Hears h (told.hear h))
       → ((h : List Event) → told.known h → KnowsCommits (plan_of call.parts) (version_of call.start) c h → KnowsCommits (plan_of call.parts) (version_of call.start) d (told.hear h))
       → d.timestamp ≡ c.timestamp
-      → (m : Moves (w.committing.asks q) (λ h. w.committing.fits q o h × told.known h) (w.committing.fits q' o') (w.committing.gives q) told.hear o o' turn)
-      → SameJob w.committing.asks w.committing.gives q' q
+      → (m : Moves (w.plan.asks q) (λ h. w.plan.fits q o h × told.known h) (w.plan.fits q' o') (w.plan.gives q) told.hear o o' turn)
+      → SameJob w.plan.asks w.plan.gives q' q
       → Moves (MaySend (plan_of call.parts) (version_of call.start)) (λ h. CommitterFits w call c o h × told.known h) (CommitterFits w (record call { stage = stage.Committing q' t }) (sent o.line o.beat m.sends t d) o')
       (Says (w.uncommitted call.retry_options) (AreCommitted (version_of call.start) (version_of t) (call.parts.primary ∷ []))) told.hear o o' turn
   committing_on w call q q' t c d told o o' turn e hears heard_so time m j =
@@ -286,12 +288,12 @@ module _ {P Q K A B D : Type 0} where
       plan : Plan
       plan = plan_of call.parts
 
-      at : (h : List Event) → CommitterFits w call c o h × told.known h → IsCommitting w.committing (w.uncommitted call.retry_options) (version_of call.start) call.parts q t c o h
+      at : (h : List Event) → CommitterFits w call c o h × told.known h → IsCommitting w.plan (w.uncommitted call.retry_options) (version_of call.start) call.parts q t c o h
       at h u = at_stage w call (stage.Committing q t) c o h e u.0
 
       same : (h : List Event) → CommitterFits w call c o h × told.known h → IsSameTime d t
       same h u v f = (at h u).same v (sym time ∙ f)
 
-      weaker : (h : List Event) → CommitterFits w call c o h × told.known h → (rs : List Errand) (k : List Event) → Licensed (w.committing.asks q) o.line o.beat k rs
+      weaker : (h : List Event) → CommitterFits w call c o h × told.known h → (rs : List Errand) (k : List Event) → Licensed (w.plan.asks q) o.line o.beat k rs
           → Licensed (λ x r. IsOfCommit s (version_of t) (plan.primary ∷ []) r ⊎ IsForeign x r) o.line o.beat k rs
       weaker h u rs k l = Rattle.txn_history.specs.Posted.Licensed-weaker (at h u).way.asks o.line o.beat k rs l

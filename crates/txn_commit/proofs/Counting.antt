@@ -18,8 +18,9 @@ use Rattle.txn_history.specs.Posted.{Posted}
 use Rattle.txn_history.specs.Spends.{Spends}
 use Rattle.txn_history.specs.Turn.{failing, is_kept, turn_of, Turn}
 use Rattle.txn_history.specs.Turn.Turn.{Stopped}
-use Rattle.txn_commit.specs.Committing.{Ways}
-use Rattle.txn_commit.specs.Counting.{Begins, CommitterCounts, Costs, Pays, ask_costs, call_width, commit_again_costs, commit_costs, others_costs, rollback_costs, stage_bears, stage_left, stage_round, stage_width}
+use Rattle.txn_commit.specs.Ways.{Costs, Ways}
+use Rattle.txn_commit.specs.declared.fetched.Fetched.{Fetched}
+use Rattle.txn_commit.specs.Counting.{Begins, CommitterCounts, Pays, ask_costs, call_width, commit_again_costs, commit_costs, others_costs, rollback_costs, stage_bears, stage_left, stage_round, stage_width}
 use Rattle.txn_commit.specs.Plans.{IsPlanFor}
 use Rattle.txn_commit.specs.Timing.{time_asked}
 use Rattle.txn_commit.specs.declared.committer.CommitterAnswer.{CommitterAnswer}
@@ -53,14 +54,14 @@ Spends-wider a b s = record {
   stopped_rests = s.stopped_rests;
 }
 
-module _ {P Q K A B D : Type 0} (w : Ways P Q K A B D) (costs : Costs) where
+module _ {P : Type 0} (w : Ways P) (costs : Costs) where
   -- a plan of the call went on, and the call stands at this new state then
-  pub record Part (was : ℕ → Type 0) (before round : ℕ → ℕ) (bad fails : Bool) (weight locked : ℕ) (old mid : CommitterCall P Q K) (from via : Posted) (kept failed : Bool) : Type 0 where
+  pub record Part (was : ℕ → Type 0) (before round : ℕ → ℕ) (bad fails : Bool) (weight locked : ℕ) (old mid : CommitterCall P) (from via : Posted) (kept failed : Bool) : Type 0 where
     pub spends : Spends was (stage_bears w mid.stage) before (stage_left w costs mid.parts mid.stage) round bad fails weight locked (call_width w old) (call_width w mid) from via kept failed
     pub fewer : (n : ℕ) → stage_round w costs mid.parts mid.stage n ≤ round n
 
   -- nothing is posted
-  pub quiet_counts : (was : ℕ → Type 0) (before round : ℕ → ℕ) (old new : CommitterCall P Q K) (g : Stage P Q K) (o : Posted) (turn : Turn (Result CommitterAnswer Error))
+  pub quiet_counts : (was : ℕ → Type 0) (before round : ℕ → ℕ) (old new : CommitterCall P) (g : Stage P) (o : Posted) (turn : Turn (Result CommitterAnswer Error))
       → new ≡ record old { stage = g; width = new.width } → new.width ≡ call_width w old
       → ((m : ℕ) → stage_bears w g m) → ((n : ℕ) → stage_left w costs old.parts g n ≤ before n) → ((n : ℕ) → stage_round w costs old.parts g n ≤ round n)
       → Pays w costs was before round false false 0 0 old new o o turn
@@ -72,14 +73,14 @@ module _ {P Q K A B D : Type 0} (w : Ways P Q K A B D) (costs : Costs) where
       wide = subst (λ x. x ≤ max new.width (stage_width w g)) f (le-max_left new.width (stage_width w g))
 
   -- it waits on
-  pub waits_counts : (call : CommitterCall P Q K) (o : Posted) (turn : Turn (Result CommitterAnswer Error)) → CommitterCounts w costs false false 0 0 call call o o turn
+  pub waits_counts : (call : CommitterCall P) (o : Posted) (turn : Turn (Result CommitterAnswer Error)) → CommitterCounts w costs false false 0 0 call call o o turn
   waits_counts call o turn = record {
     spends = Spends-quiet (λ x. absurd (false≢true x)) (λ m b. rw (zero-right m) b) (λ n. le_refl _);
     fewer = λ n. le_refl _;
   }
 
   -- what comes next is paid from what is left
-  pub next_counts : (whole : ℕ → ℕ) (old new : CommitterCall P Q K) (g : Stage P Q K) (from to : Posted) (turn : Turn (Result CommitterAnswer Error))
+  pub next_counts : (whole : ℕ → ℕ) (old new : CommitterCall P) (g : Stage P) (from to : Posted) (turn : Turn (Result CommitterAnswer Error))
       → old.stage ≡ g
       → ((n : ℕ) → whole n ≤ stage_left w costs old.parts g n) → ((n : ℕ) → whole n ≤ stage_round w costs old.parts g n)
       → Begins w costs whole old new from to turn
@@ -96,7 +97,7 @@ module _ {P Q K A B D : Type 0} (w : Ways P Q K A B D) (costs : Costs) where
       round n = subst (λ x. whole n ≤ stage_round w costs old.parts x n) (sym e) (r n)
 
   -- a plan went on, and then the whole
-  pub then_counts : {was : ℕ → Type 0} {before round : ℕ → ℕ} {bad fails : Bool} {weight locked : ℕ} {old mid new : CommitterCall P Q K} {from via to : Posted} {kept first : Bool} {turn : Turn (Result CommitterAnswer Error)}
+  pub then_counts : {was : ℕ → Type 0} {before round : ℕ → ℕ} {bad fails : Bool} {weight locked : ℕ} {old mid new : CommitterCall P} {from via to : Posted} {kept first : Bool} {turn : Turn (Result CommitterAnswer Error)}
       → (fails ≡ true → bad ≡ true) → kept ≡ true
       → Part was before round bad fails weight locked old mid from via kept first
       → CommitterCounts w costs false false 0 0 mid new via to turn
@@ -107,14 +108,14 @@ module _ {P Q K A B D : Type 0} (w : Ways P Q K A B D) (costs : Costs) where
   }
 
   -- a plan gave up, and so does the whole
-  pub stop_counts : {was : ℕ → Type 0} {before round : ℕ → ℕ} {bad fails : Bool} {weight locked : ℕ} {old mid : CommitterCall P Q K} {from via : Posted} {kept first : Bool} {turn : Turn (Result CommitterAnswer Error)}
+  pub stop_counts : {was : ℕ → Type 0} {before round : ℕ → ℕ} {bad fails : Bool} {weight locked : ℕ} {old mid : CommitterCall P} {from via : Posted} {kept first : Bool} {turn : Turn (Result CommitterAnswer Error)}
       → turn ≡ Stopped
       → Part was before round bad fails weight locked old mid from via kept first
       → Pays w costs was before round bad fails weight locked old mid from via turn
   stop_counts e s = record { spends = Spends-stops s.spends (ap is_kept e) (λ x. x); fewer = s.fewer }
 
   -- An event of the plan of a stage: what the stage has beside its plan stays.
-  lift_counts : {S V : Type 0} (m : Meaning S V) (extra : ℕ → ℕ) (old : CommitterCall P Q K) (g g' : Stage P Q K) (s s' : S) {bad fails : Bool} {weight locked : ℕ} {from via : Posted} {turn : Turn V}
+  lift_counts : {S V : Type 0} (m : Meaning S V) (extra : ℕ → ℕ) (old : CommitterCall P) (g g' : Stage P) (s s' : S) {bad fails : Bool} {weight locked : ℕ} {from via : Posted} {turn : Turn V}
       → old.stage ≡ g
       → ((n : ℕ) → stage_left w costs old.parts g n ≡ m.left s n + extra n) → ((n : ℕ) → stage_left w costs old.parts g' n ≡ m.left s' n + extra n)
       → ((n : ℕ) → stage_round w costs old.parts g n ≡ m.round s n + extra n) → ((n : ℕ) → stage_round w costs old.parts g' n ≡ m.round s' n + extra n)
@@ -137,7 +138,7 @@ module _ {P Q K A B D : Type 0} (w : Ways P Q K A B D) (costs : Costs) where
       wider = max-le (le-max_left old.width (stage_width w g')) (le_trans grown (le-max_right old.width (stage_width w g')))
 
   -- a plan that was not begun is started
-  start_counts : {S V : Type 0} (m : Meaning S V) (extra whole : ℕ → ℕ) (old mid : CommitterCall P Q K) (g' : Stage P Q K) (s s' : S) {from via : Posted} {turn : Turn V}
+  start_counts : {S V : Type 0} (m : Meaning S V) (extra whole : ℕ → ℕ) (old mid : CommitterCall P) (g' : Stage P) (s s' : S) {from via : Posted} {turn : Turn V}
       → mid ≡ record old { stage = g'; width = mid.width } → call_width w old ≤ mid.width
       → IsUnbegun m s → ((n : ℕ) → m.round s n + extra n ≤ whole n)
       → ((n : ℕ) → stage_left w costs old.parts g' n ≡ m.left s' n + extra n) → ((n : ℕ) → stage_round w costs old.parts g' n ≡ m.round s' n + extra n)
@@ -154,75 +155,75 @@ module _ {P Q K A B D : Type 0} (w : Ways P Q K A B D) (costs : Costs) where
 
   -- Each stage's plan goes on.
 
-  pub prewriting_counts : (old : CommitterCall P Q K) (p p' : P) {bad fails : Bool} {weight locked : ℕ} {from via : Posted} {turn : Turn (Result A Error)}
-      → old.stage ≡ stage.Prewriting p → Counts w.prewriting bad fails weight locked p p' from via turn
-      → Part (stage_bears w old.stage) (stage_left w costs old.parts old.stage) (stage_round w costs old.parts old.stage) bad fails weight locked old (record old { stage = stage.Prewriting p' }) from via (is_kept turn) (failing w.prewriting.fails turn)
-  prewriting_counts old p p' e c = lift_counts w.prewriting (ask_costs costs) old (stage.Prewriting p) (stage.Prewriting p') p p' e (λ n. refl) (λ n. refl) (λ n. refl) (λ n. refl) (λ x b. b) (λ x b. b) refl refl c
+  pub prewriting_counts : (old : CommitterCall P) (p p' : P) {bad fails : Bool} {weight locked : ℕ} {from via : Posted} {turn : Turn (Result Fetched Error)}
+      → old.stage ≡ stage.Prewriting p → Counts w.plan bad fails weight locked p p' from via turn
+      → Part (stage_bears w old.stage) (stage_left w costs old.parts old.stage) (stage_round w costs old.parts old.stage) bad fails weight locked old (record old { stage = stage.Prewriting p' }) from via (is_kept turn) (failing w.plan.fails turn)
+  prewriting_counts old p p' e c = lift_counts w.plan (ask_costs costs) old (stage.Prewriting p) (stage.Prewriting p') p p' e (λ n. refl) (λ n. refl) (λ n. refl) (λ n. refl) (λ x b. b) (λ x b. b) refl refl c
 
-  pub asking_counts : (old : CommitterCall P Q K) (t t' : TimestampCall) {bad fails : Bool} {weight locked : ℕ} {from via : Posted} {turn : Turn (Result Timestamp Error)}
+  pub asking_counts : (old : CommitterCall P) (t t' : TimestampCall) {bad fails : Bool} {weight locked : ℕ} {from via : Posted} {turn : Turn (Result Timestamp Error)}
       → old.stage ≡ stage.Asking t → Counts time_asked bad fails weight locked t t' from via turn
       → Part (stage_bears w old.stage) (stage_left w costs old.parts old.stage) (stage_round w costs old.parts old.stage) bad fails weight locked old (record old { stage = stage.Asking t' }) from via (is_kept turn) (failing time_asked.fails turn)
   asking_counts old t t' e c = lift_counts time_asked (commit_again_costs costs) old (stage.Asking t) (stage.Asking t') t t' e (λ n. refl) (λ n. refl) (λ n. refl) (λ n. refl) (λ x b. b) (λ x b. b) refl refl c
 
-  pub committing_counts : (old : CommitterCall P Q K) (q q' : Q) (time : Timestamp) {bad fails : Bool} {weight locked : ℕ} {from via : Posted} {turn : Turn (Result B Error)}
-      → old.stage ≡ stage.Committing q time → Counts w.committing bad fails weight locked q q' from via turn
-      → Part (stage_bears w old.stage) (stage_left w costs old.parts old.stage) (stage_round w costs old.parts old.stage) bad fails weight locked old (record old { stage = stage.Committing q' time }) from via (is_kept turn) (failing w.committing.fails turn)
-  committing_counts old q q' time e c = lift_counts w.committing (λ n. 0) old (stage.Committing q time) (stage.Committing q' time) q q' e (λ n. sym (zero-right _)) (λ n. sym (zero-right _)) (λ n. sym (zero-right _)) (λ n. sym (zero-right _)) (λ x b. b) (λ x b. b) refl refl c
+  pub committing_counts : (old : CommitterCall P) (q q' : P) (time : Timestamp) {bad fails : Bool} {weight locked : ℕ} {from via : Posted} {turn : Turn (Result Fetched Error)}
+      → old.stage ≡ stage.Committing q time → Counts w.plan bad fails weight locked q q' from via turn
+      → Part (stage_bears w old.stage) (stage_left w costs old.parts old.stage) (stage_round w costs old.parts old.stage) bad fails weight locked old (record old { stage = stage.Committing q' time }) from via (is_kept turn) (failing w.plan.fails turn)
+  committing_counts old q q' time e c = lift_counts w.plan (λ n. 0) old (stage.Committing q time) (stage.Committing q' time) q q' e (λ n. sym (zero-right _)) (λ n. sym (zero-right _)) (λ n. sym (zero-right _)) (λ n. sym (zero-right _)) (λ x b. b) (λ x b. b) refl refl c
 
-  pub rolling_counts : (old : CommitterCall P Q K) (k k' : K) {bad fails : Bool} {weight locked : ℕ} {from via : Posted} {turn : Turn (Result D Error)}
-      → old.stage ≡ stage.RollingBackPrimary k → Counts w.rolling bad fails weight locked k k' from via turn
-      → Part (stage_bears w old.stage) (stage_left w costs old.parts old.stage) (stage_round w costs old.parts old.stage) bad fails weight locked old (record old { stage = stage.RollingBackPrimary k' }) from via (is_kept turn) (failing w.rolling.fails turn)
-  rolling_counts old k k' e c = lift_counts w.rolling (others_costs costs old.parts) old (stage.RollingBackPrimary k) (stage.RollingBackPrimary k') k k' e (λ n. refl) (λ n. refl) (λ n. refl) (λ n. refl) (λ x b. b) (λ x b. b) refl refl c
+  pub rolling_counts : (old : CommitterCall P) (k k' : P) {bad fails : Bool} {weight locked : ℕ} {from via : Posted} {turn : Turn (Result Fetched Error)}
+      → old.stage ≡ stage.RollingBackPrimary k → Counts w.plan bad fails weight locked k k' from via turn
+      → Part (stage_bears w old.stage) (stage_left w costs old.parts old.stage) (stage_round w costs old.parts old.stage) bad fails weight locked old (record old { stage = stage.RollingBackPrimary k' }) from via (is_kept turn) (failing w.plan.fails turn)
+  rolling_counts old k k' e c = lift_counts w.plan (others_costs costs old.parts) old (stage.RollingBackPrimary k) (stage.RollingBackPrimary k') k k' e (λ n. refl) (λ n. refl) (λ n. refl) (λ n. refl) (λ x b. b) (λ x b. b) refl refl c
 
-  pub rolling_others_counts : (old : CommitterCall P Q K) (k k' : K) {bad fails : Bool} {weight locked : ℕ} {from via : Posted} {turn : Turn (Result D Error)}
-      → old.stage ≡ stage.RollingBackOthers k → Counts w.rolling bad fails weight locked k k' from via turn
-      → Part (stage_bears w old.stage) (stage_left w costs old.parts old.stage) (stage_round w costs old.parts old.stage) bad fails weight locked old (record old { stage = stage.RollingBackOthers k' }) from via (is_kept turn) (failing w.rolling.fails turn)
-  rolling_others_counts old k k' e c = lift_counts w.rolling (λ n. 0) old (stage.RollingBackOthers k) (stage.RollingBackOthers k') k k' e (λ n. sym (zero-right _)) (λ n. sym (zero-right _)) (λ n. sym (zero-right _)) (λ n. sym (zero-right _)) (λ x b. b) (λ x b. b) refl refl c
+  pub rolling_others_counts : (old : CommitterCall P) (k k' : P) {bad fails : Bool} {weight locked : ℕ} {from via : Posted} {turn : Turn (Result Fetched Error)}
+      → old.stage ≡ stage.RollingBackOthers k → Counts w.plan bad fails weight locked k k' from via turn
+      → Part (stage_bears w old.stage) (stage_left w costs old.parts old.stage) (stage_round w costs old.parts old.stage) bad fails weight locked old (record old { stage = stage.RollingBackOthers k' }) from via (is_kept turn) (failing w.plan.fails turn)
+  rolling_others_counts old k k' e c = lift_counts w.plan (λ n. 0) old (stage.RollingBackOthers k) (stage.RollingBackOthers k') k k' e (λ n. sym (zero-right _)) (λ n. sym (zero-right _)) (λ n. sym (zero-right _)) (λ n. sym (zero-right _)) (λ x b. b) (λ x b. b) refl refl c
 
   -- Each stage begins.
 
-  pub prewriting_starts : (old mid : CommitterCall P Q K) (request : PrewriteRequest) (p p' : P) {refuses : List Event → Error → Type 0} {from via : Posted} {turn : Turn (Result A Error)}
+  pub prewriting_starts : (old mid : CommitterCall P) (request : PrewriteRequest) (p p' : P) {refuses : List Event → Error → Type 0} {from via : Posted} {turn : Turn (Result Fetched Error)}
       → mid ≡ record old { stage = stage.Prewriting p'; width = mid.width } → call_width w old ≤ mid.width
       → request.mutations ≡ old.parts.mutations
-      → IsPlanFor w.prewriting refuses costs.prewrites (Prewrite request) p
-      → Counts w.prewriting false false 0 0 p p' from via turn
-      → Part (λ x. ⊤) (commit_costs costs old.parts) (commit_costs costs old.parts) false false 0 0 old mid from via (is_kept turn) (failing w.prewriting.fails turn)
+      → IsPlanFor w.plan refuses costs.prewrites (Prewrite request) p
+      → Counts w.plan false false 0 0 p p' from via turn
+      → Part (λ x. ⊤) (commit_costs costs old.parts) (commit_costs costs old.parts) false false 0 0 old mid from via (is_kept turn) (failing w.plan.fails turn)
   prewriting_starts old mid request p p' e wide same x c =
-      start_counts w.prewriting (ask_costs costs) (commit_costs costs old.parts) old mid (stage.Prewriting p') p p' e wide x.unbegun (λ n. let l = x.light n in let k : costs.prewrites (length request.mutations) n ≡ costs.prewrites (length old.parts.mutations) n = ap (λ ms. costs.prewrites (length ms) n) same in omega arith) (λ n. refl) (λ n. refl) (λ y b. b) refl c
+      start_counts w.plan (ask_costs costs) (commit_costs costs old.parts) old mid (stage.Prewriting p') p p' e wide x.unbegun (λ n. let l = x.light n in let k : costs.prewrites (length request.mutations) n ≡ costs.prewrites (length old.parts.mutations) n = ap (λ ms. costs.prewrites (length ms) n) same in omega arith) (λ n. refl) (λ n. refl) (λ y b. b) refl c
 
-  pub committing_starts : (old mid : CommitterCall P Q K) (request : CommitRequest) (time : Timestamp) (q q' : Q) {refuses : List Event → Error → Type 0} {from via : Posted} {turn : Turn (Result B Error)}
+  pub committing_starts : (old mid : CommitterCall P) (request : CommitRequest) (time : Timestamp) (q q' : P) {refuses : List Event → Error → Type 0} {from via : Posted} {turn : Turn (Result Fetched Error)}
       → mid ≡ record old { stage = stage.Committing q' time; width = mid.width } → call_width w old ≤ mid.width
       → request.keys ≡ old.parts.primary ∷ []
-      → IsPlanFor w.committing refuses costs.commits (Commit request) q
-      → Counts w.committing false false 0 0 q q' from via turn
-      → Part (λ x. ⊤) (commit_again_costs costs) (commit_again_costs costs) false false 0 0 old mid from via (is_kept turn) (failing w.committing.fails turn)
+      → IsPlanFor w.plan refuses costs.commits (Commit request) q
+      → Counts w.plan false false 0 0 q q' from via turn
+      → Part (λ x. ⊤) (commit_again_costs costs) (commit_again_costs costs) false false 0 0 old mid from via (is_kept turn) (failing w.plan.fails turn)
   committing_starts old mid request time q q' e wide same x c =
-      start_counts w.committing (λ n. 0) (commit_again_costs costs) old mid (stage.Committing q' time) q q' e wide x.unbegun (λ n. let l = x.light n in let k : costs.commits (length request.keys) n ≡ costs.commits 1 n = ap (λ ks. costs.commits (length ks) n) same in omega arith) (λ n. sym (zero-right _)) (λ n. sym (zero-right _)) (λ y b. b) refl c
+      start_counts w.plan (λ n. 0) (commit_again_costs costs) old mid (stage.Committing q' time) q q' e wide x.unbegun (λ n. let l = x.light n in let k : costs.commits (length request.keys) n ≡ costs.commits 1 n = ap (λ ks. costs.commits (length ks) n) same in omega arith) (λ n. sym (zero-right _)) (λ n. sym (zero-right _)) (λ y b. b) refl c
 
-  pub rolling_starts : (old mid : CommitterCall P Q K) (request : BatchRollbackRequest) (p p' : K) {refuses : List Event → Error → Type 0} {from via : Posted} {turn : Turn (Result D Error)}
+  pub rolling_starts : (old mid : CommitterCall P) (request : BatchRollbackRequest) (p p' : P) {refuses : List Event → Error → Type 0} {from via : Posted} {turn : Turn (Result Fetched Error)}
       → mid ≡ record old { stage = stage.RollingBackPrimary p'; width = mid.width } → call_width w old ≤ mid.width
       → request.keys ≡ old.parts.primary ∷ []
-      → IsPlanFor w.rolling refuses costs.rollbacks (BatchRollback request) p
-      → Counts w.rolling false false 0 0 p p' from via turn
-      → Part (λ x. ⊤) (rollback_costs costs old.parts) (rollback_costs costs old.parts) false false 0 0 old mid from via (is_kept turn) (failing w.rolling.fails turn)
+      → IsPlanFor w.plan refuses costs.rollbacks (BatchRollback request) p
+      → Counts w.plan false false 0 0 p p' from via turn
+      → Part (λ x. ⊤) (rollback_costs costs old.parts) (rollback_costs costs old.parts) false false 0 0 old mid from via (is_kept turn) (failing w.plan.fails turn)
   rolling_starts old mid request p p' e wide same x c =
-      start_counts w.rolling (others_costs costs old.parts) (rollback_costs costs old.parts) old mid (stage.RollingBackPrimary p') p p' e wide x.unbegun (λ n. let l = x.light n in let k : costs.rollbacks (length request.keys) n ≡ costs.rollbacks 1 n = ap (λ ks. costs.rollbacks (length ks) n) same in omega arith) (λ n. refl) (λ n. refl) (λ y b. b) refl c
+      start_counts w.plan (others_costs costs old.parts) (rollback_costs costs old.parts) old mid (stage.RollingBackPrimary p') p p' e wide x.unbegun (λ n. let l = x.light n in let k : costs.rollbacks (length request.keys) n ≡ costs.rollbacks 1 n = ap (λ ks. costs.rollbacks (length ks) n) same in omega arith) (λ n. refl) (λ n. refl) (λ y b. b) refl c
 
-  pub rolling_others_starts : (old mid : CommitterCall P Q K) (request : BatchRollbackRequest) (p p' : K) {refuses : List Event → Error → Type 0} {from via : Posted} {turn : Turn (Result D Error)}
+  pub rolling_others_starts : (old mid : CommitterCall P) (request : BatchRollbackRequest) (p p' : P) {refuses : List Event → Error → Type 0} {from via : Posted} {turn : Turn (Result Fetched Error)}
       → mid ≡ record old { stage = stage.RollingBackOthers p'; width = mid.width } → call_width w old ≤ mid.width
       → request.keys ≡ old.parts.secondaries
-      → IsPlanFor w.rolling refuses costs.rollbacks (BatchRollback request) p
-      → Counts w.rolling false false 0 0 p p' from via turn
-      → Part (λ x. ⊤) (others_costs costs old.parts) (others_costs costs old.parts) false false 0 0 old mid from via (is_kept turn) (failing w.rolling.fails turn)
+      → IsPlanFor w.plan refuses costs.rollbacks (BatchRollback request) p
+      → Counts w.plan false false 0 0 p p' from via turn
+      → Part (λ x. ⊤) (others_costs costs old.parts) (others_costs costs old.parts) false false 0 0 old mid from via (is_kept turn) (failing w.plan.fails turn)
   rolling_others_starts old mid request p p' e wide same x c =
-      start_counts w.rolling (λ n. 0) (others_costs costs old.parts) old mid (stage.RollingBackOthers p') p p' e wide x.unbegun (λ n. let l = x.light n in let k : costs.rollbacks (length request.keys) n ≡ costs.rollbacks (length old.parts.secondaries) n = ap (λ ks. costs.rollbacks (length ks) n) same in omega arith) (λ n. sym (zero-right _)) (λ n. sym (zero-right _)) (λ y b. b) refl c
+      start_counts w.plan (λ n. 0) (others_costs costs old.parts) old mid (stage.RollingBackOthers p') p p' e wide x.unbegun (λ n. let l = x.light n in let k : costs.rollbacks (length request.keys) n ≡ costs.rollbacks (length old.parts.secondaries) n = ap (λ ks. costs.rollbacks (length ks) n) same in omega arith) (λ n. sym (zero-right _)) (λ n. sym (zero-right _)) (λ y b. b) refl c
 
   -- it has gone through Stopped to a stage
-  pub gone_wide : (old stopped mid : CommitterCall P Q K) → stopped.width ≡ call_width w old → mid.width ≡ call_width w stopped → call_width w old ≤ mid.width
+  pub gone_wide : (old stopped mid : CommitterCall P) → stopped.width ≡ call_width w old → mid.width ≡ call_width w stopped → call_width w old ≤ mid.width
   gone_wide old stopped mid a b = rw (b, ← a) (le-max_left stopped.width (stage_width w stopped.stage))
 
   -- a plan gave up, and the call does
-  pub gave_up_counts : {was : ℕ → Type 0} {before round : ℕ → ℕ} {bad fails : Bool} {weight locked : ℕ} {old mid new : CommitterCall P Q K} {from via : Posted} {kept first : Bool} {turn : Turn (Result CommitterAnswer Error)}
+  pub gave_up_counts : {was : ℕ → Type 0} {before round : ℕ → ℕ} {bad fails : Bool} {weight locked : ℕ} {old mid new : CommitterCall P} {from via : Posted} {kept first : Bool} {turn : Turn (Result CommitterAnswer Error)}
       → turn ≡ Stopped
       → new ≡ record mid { stage = stage.Stopped; width = new.width } → new.width ≡ call_width w mid
       → Part was before round bad fails weight locked old mid from via kept first
@@ -238,7 +239,7 @@ module _ {P Q K A B D : Type 0} (w : Ways P Q K A B D) (costs : Costs) where
       wider = let x = s.spends in x.wider
 
   -- it hears nothing
-  pub idle_counts : (call : CommitterCall P Q K) (g : Stage P Q K) (bad fails : Bool) (weight locked : ℕ) (o : Posted) (turn : Turn (Result CommitterAnswer Error))
+  pub idle_counts : (call : CommitterCall P) (g : Stage P) (bad fails : Bool) (weight locked : ℕ) (o : Posted) (turn : Turn (Result CommitterAnswer Error))
       → call.stage ≡ g → ((m : ℕ) → stage_bears w g m)
       → CommitterCounts w costs bad fails weight locked call call o o turn
   idle_counts call g bad fails weight locked o turn e b = record {

@@ -21,7 +21,7 @@ use Rattle.txn_history.proofs.Arriving.{told_heard}
 use Rattle.txn_history.proofs.Telling.{Expects-quiet, Expects-then, Goes-then}
 use Rattle.txn_tso.specs.declared.stage.Stage.{Stage as Call_stage}
 use Rattle.txn_tso.specs.declared.stage.Stage.TheVariants as tso
-use Rattle.txn_commit.specs.Committing.{CommitterFits, IsAt, Ways}
+use Rattle.txn_commit.specs.Committing.{CommitterFits, IsAt}
 use Rattle.txn_commit.specs.Following.{Commits, IsFollowed, KnowsCommits, awaits, heard, is_done, is_out, lost, or_ticket, sent, without}
 use Rattle.txn_commit.specs.Going.{CommitterExpects, CommitterGoes, Opens, Relays, Resumes, Settles, stage_phase, stage_waits}
 use Rattle.txn_commit.specs.Sending.{plan_of}
@@ -32,6 +32,7 @@ use Rattle.txn_commit.specs.declared.committer.CommitterCall.{CommitterCall}
 use Rattle.txn_commit.specs.declared.committer.Stage.{Stage}
 use Rattle.txn_commit.specs.declared.committer.Stage.TheVariants as stage
 use Rattle.txn_commit.specs.declared.timestamp_call.TimestampCall.{TimestampCall}
+use Rattle.txn_commit.specs.Ways.{Ways}
 use Rattle.txn_commit.proofs.Sending.{settled_out, unsent_out}
 use Rattle.txn_merge.specs.declared.retry_options.RetryOptions.{RetryOptions}
 use Rattle.txn_history.specs.Arrivals.{awaited_as, told_by}
@@ -185,22 +186,22 @@ relays_after {turn} kept r this = IfKept-out turn kept (r.next this)
 
 -- It waits on with its last plan, or is over with it.
 
-pub settles_waits : {P Q K E : Type 0} (call : CommitterCall P Q K) (inner : Turn E) → inner ≡ Waits → Settles inner call call Waits
+pub settles_waits : {P E : Type 0} (call : CommitterCall P) (inner : Turn E) → inner ≡ Waits → Settles inner call call Waits
 settles_waits call inner e = record { deaf = λ x. refl; state = λ x. refl; ended = λ x. absurd (subst HasEnded e x); over = λ x. absurd (subst HasEnded e x) }
 
-pub settles_over : {P Q K E : Type 0} (old new : CommitterCall P Q K) (inner : Turn E) (v : E) (turn : Turn (Result CommitterAnswer Error)) (x : Result CommitterAnswer Error)
+pub settles_over : {P E : Type 0} (old new : CommitterCall P) (inner : Turn E) (v : E) (turn : Turn (Result CommitterAnswer Error)) (x : Result CommitterAnswer Error)
     → inner ≡ Ends v → new ≡ record old { stage = stage.Over; width = new.width } → turn ≡ Ends x → Settles inner old new turn
-settles_over {P} {Q} {K} old new inner v turn x e f g = record {
+settles_over {P} old new inner v turn x e f g = record {
   deaf = λ y. absurd (let z = sym e ∙ y in cc);
   state = λ y. absurd (let z = sym e ∙ y in cc);
   ended = λ y. subst HasEnded (sym g) tt;
-  over = λ y. ap (λ (c : CommitterCall P Q K). c.stage) f;
+  over = λ y. ap (λ (c : CommitterCall P). c.stage) f;
 }
 
-module _ {P Q K A B D : Type 0} (w : Ways P Q K A B D) where
+module _ {P : Type 0} (w : Ways P) where
   -- It begins.
 
-  opens_still : (new : CommitterCall P Q K) (g : Stage P Q K) (from to : Posted) (turn : Turn (Result CommitterAnswer Error)) {was is heard : Awaited → Type 0}
+  opens_still : (new : CommitterCall P) (g : Stage P) (from to : Posted) (turn : Turn (Result CommitterAnswer Error)) {was is heard : Awaited → Type 0}
       → new.stage ≡ g → stage_phase w g ≡ phase_after turn → ((a : Awaited) → stage_waits w g a → ⊥)
       → Expects was is heard from to
       → Opens w new from to turn
@@ -213,22 +214,22 @@ module _ {P Q K A B D : Type 0} (w : Ways P Q K A B D) where
   nothing = Expects-quiet (λ a x. absurd x)
 
   -- it has ended, or gives up, and waits for nothing
-  pub opens_over : (old new : CommitterCall P Q K) (o : Posted) (v : Result CommitterAnswer Error) (turn : Turn (Result CommitterAnswer Error))
+  pub opens_over : (old new : CommitterCall P) (o : Posted) (v : Result CommitterAnswer Error) (turn : Turn (Result CommitterAnswer Error))
       → new ≡ record old { stage = stage.Over; width = new.width } → turn ≡ Ends v → Opens w new o o turn
-  opens_over old new o v turn e f = opens_still new stage.Over o o turn (ap (λ (c : CommitterCall P Q K). c.stage) e) (sym (ap phase_after f)) (λ a x. x) nothing
+  opens_over old new o v turn e f = opens_still new stage.Over o o turn (ap (λ (c : CommitterCall P). c.stage) e) (sym (ap phase_after f)) (λ a x. x) nothing
 
-  pub opens_stopped : (old new : CommitterCall P Q K) (from to : Posted) (turn : Turn (Result CommitterAnswer Error))
+  pub opens_stopped : (old new : CommitterCall P) (from to : Posted) (turn : Turn (Result CommitterAnswer Error))
       → new ≡ record old { stage = stage.Stopped; width = new.width } → turn ≡ Stopped → to ≡ from → Opens w new from to turn
-  opens_stopped old new from to turn e f g = rw g (opens_still new stage.Stopped from from turn (ap (λ (c : CommitterCall P Q K). c.stage) e) (sym (ap phase_after f)) (λ a x. x) nothing)
+  opens_stopped old new from to turn e f g = rw g (opens_still new stage.Stopped from from turn (ap (λ (c : CommitterCall P). c.stage) e) (sym (ap phase_after f)) (λ a x. x) nothing)
 
-  pub opens_gives_up : (old new : CommitterCall P Q K) (from to : Posted) (turn : Turn (Result CommitterAnswer Error)) {was is heard : Awaited → Type 0}
+  pub opens_gives_up : (old new : CommitterCall P) (from to : Posted) (turn : Turn (Result CommitterAnswer Error)) {was is heard : Awaited → Type 0}
       → new ≡ record old { stage = stage.Stopped; width = new.width } → turn ≡ Stopped → Expects was is heard from to → Opens w new from to turn
-  opens_gives_up old new from to turn e f x = opens_still new stage.Stopped from to turn (ap (λ (c : CommitterCall P Q K). c.stage) e) (sym (ap phase_after f)) (λ a y. y) x
+  opens_gives_up old new from to turn e f x = opens_still new stage.Stopped from to turn (ap (λ (c : CommitterCall P). c.stage) e) (sym (ap phase_after f)) (λ a y. y) x
 
   begun_waits : (t : TimestampCall) (from to : Posted) (a : Awaited) → HasBegun t from to → time_asked.waits t a → a ≡ TimeOf from.next_ask
   begun_waits t from to a b x = rw b.0 at x
 
-  pub opens_asks : (new : CommitterCall P Q K) (t : TimestampCall) (from to : Posted)
+  pub opens_asks : (new : CommitterCall P) (t : TimestampCall) (from to : Posted)
       → new.stage ≡ stage.Asking t → HasBegun t from to → Opens w new from to Waits
   opens_asks new t from to e b = record {
     next = ap (stage_phase w) e ∙ rw b.0 refl;
@@ -241,13 +242,13 @@ module _ {P Q K A B D : Type 0} (w : Ways P Q K A B D) where
 
   -- It goes on after a plan.
 
-  pub resumes_waits : {E C : Type 0} (call : CommitterCall P Q K) (o : Posted) (pd : C) (inner : Turn E) → inner ≡ Waits → Resumes w inner call call o o pd pd Waits
+  pub resumes_waits : {E C : Type 0} (call : CommitterCall P) (o : Posted) (pd : C) (inner : Turn E) → inner ≡ Waits → Resumes w inner call call o o pd pd Waits
   resumes_waits call o pd inner e = record {
     goes = record { deaf = λ x. refl; state = λ x. refl; outbox = λ x. refl; client = λ x. refl; next = λ x. absurd (subst HasEnded e x) };
     expects = Expects-quiet (λ a x. (x, λ y. y));
   }
 
-  pub resumes_next : {E C : Type 0} (old new : CommitterCall P Q K) (from to : Posted) (pd pd' : C) (inner : Turn E) (v : E) (turn : Turn (Result CommitterAnswer Error))
+  pub resumes_next : {E C : Type 0} (old new : CommitterCall P) (from to : Posted) (pd pd' : C) (inner : Turn E) (v : E) (turn : Turn (Result CommitterAnswer Error))
       → inner ≡ Ends v → Opens w new from to turn → Resumes w inner old new from to pd pd' turn
   resumes_next old new from to pd pd' inner v turn e x = record {
     goes = record { deaf = λ f. absurd (never f); state = λ f. absurd (never f); outbox = λ f. absurd (never f); client = λ f. absurd (never f); next = λ f. x.next };
@@ -257,11 +258,11 @@ module _ {P Q K A B D : Type 0} (w : Ways P Q K A B D) where
       never : inner ≡ Waits → ⊥
       never f = let g = sym e ∙ f in cc
 
-  pub resumes_over : {E C : Type 0} (old new : CommitterCall P Q K) (o : Posted) (pd : C) (inner : Turn E) (v : E) (turn : Turn (Result CommitterAnswer Error)) (x : Result CommitterAnswer Error)
+  pub resumes_over : {E C : Type 0} (old new : CommitterCall P) (o : Posted) (pd : C) (inner : Turn E) (v : E) (turn : Turn (Result CommitterAnswer Error)) (x : Result CommitterAnswer Error)
       → inner ≡ Ends v → new ≡ record old { stage = stage.Over; width = new.width } → turn ≡ Ends x → Resumes w inner old new o o pd pd turn
   resumes_over old new o pd inner v turn x e f g = resumes_next old new o o pd pd inner v turn e (opens_over old new o x turn f g)
 
-  pub resumes_settled : {E C : Type 0} (old new : CommitterCall P Q K) (o : Posted) (pd : C) (inner : Turn E) (turn : Turn (Result CommitterAnswer Error))
+  pub resumes_settled : {E C : Type 0} (old new : CommitterCall P) (o : Posted) (pd : C) (inner : Turn E) (turn : Turn (Result CommitterAnswer Error))
       → inner ≢ Stopped → Settles inner old new turn → Resumes w inner old new o o pd pd turn
   resumes_settled {E} old new o pd inner turn kept s = record {
     goes = record {
@@ -276,12 +277,12 @@ module _ {P Q K A B D : Type 0} (w : Ways P Q K A B D) where
     where
       by : (inner : Turn E) → inner ≢ Stopped → (inner ≡ Waits → new ≡ old) → (HasEnded inner → new.stage ≡ stage.Over) → (a : Awaited) → stage_waits w new.stage a → stage_waits w old.stage a
       by Stopped n same over a x = absurd (n refl)
-      by Waits n same over a x = subst (λ (c : CommitterCall P Q K). stage_waits w c.stage a) (same refl) x
+      by Waits n same over a x = subst (λ (c : CommitterCall P). stage_waits w c.stage a) (same refl) x
       by (Ends v) n same over a x = absurd (subst (λ s. stage_waits w s a) (over tt) x)
 
   -- It hears nothing.
 
-  pub goes_idle : {C : Type 0} (call : CommitterCall P Q K) (g : Stage P Q K) (a : Awaited) (o : Posted) (pd : C) (turn : Turn (Result CommitterAnswer Error))
+  pub goes_idle : {C : Type 0} (call : CommitterCall P) (g : Stage P) (a : Awaited) (o : Posted) (pd : C) (turn : Turn (Result CommitterAnswer Error))
       → call.stage ≡ g → ((x : Awaited) → stage_waits w g x → ⊥) → turn ≡ unheard (stage_phase w g)
       → CommitterGoes w (stage_waits w call.stage a) call call o o pd pd turn
   goes_idle call g a o pd turn e n t = record {
@@ -292,38 +293,38 @@ module _ {P Q K A B D : Type 0} (w : Ways P Q K A B D) where
     next = λ this. absurd (n a (subst (λ x. stage_waits w x a) e this));
   }
 
-  pub expects_idle : (call : CommitterCall P Q K) (g : Stage P Q K) (heard : Awaited → Type 0) (o : Posted)
+  pub expects_idle : (call : CommitterCall P) (g : Stage P) (heard : Awaited → Type 0) (o : Posted)
       → call.stage ≡ g → ((x : Awaited) → stage_waits w g x → ⊥) → CommitterExpects w heard call call o o
   expects_idle call g heard o e n = Expects-quiet (λ a x. absurd (n a (subst (λ y. stage_waits w y a) e x)))
 
   -- The plan of a stage goes on.
 
-  module _ {S E : Type 0} (m : Meaning S E) (g : S → Stage P Q K)
+  module _ {S E : Type 0} (m : Meaning S E) (g : S → Stage P)
       (stands : (s : S) → stage_phase w (g s) ≡ m.phase s)
       (waits : (s : S) (a : Awaited) → stage_waits w (g s) a → m.waits s a) (waits' : (s : S) (a : Awaited) → m.waits s a → stage_waits w (g s) a) where
-    meant_so : (call : CommitterCall P Q K) (s : S) (a : Awaited) → call.stage ≡ g s → stage_waits w call.stage a → m.waits s a
+    meant_so : (call : CommitterCall P) (s : S) (a : Awaited) → call.stage ≡ g s → stage_waits w call.stage a → m.waits s a
     meant_so call s a e x = waits s a (subst (λ y. stage_waits w y a) e x)
 
-    is_meant : (call : CommitterCall P Q K) (s : S) (a : Awaited) → call.stage ≡ g s → m.waits s a → stage_waits w call.stage a
+    is_meant : (call : CommitterCall P) (s : S) (a : Awaited) → call.stage ≡ g s → m.waits s a → stage_waits w call.stage a
     is_meant call s a e x = subst (λ y. stage_waits w y a) (sym e) (waits' s a x)
 
-    stands_so : (call : CommitterCall P Q K) (s : S) → call.stage ≡ g s → stage_phase w call.stage ≡ m.phase s
+    stands_so : (call : CommitterCall P) (s : S) → call.stage ≡ g s → stage_phase w call.stage ≡ m.phase s
     stands_so call s e = ap (stage_phase w) e ∙ stands s
 
-    pub plan_goes : {C : Type 0} (call : CommitterCall P Q K) (s s' : S) (a : Awaited) (o o' : Posted) (pd pd' : C) (turn : Turn E)
+    pub plan_goes : {C : Type 0} (call : CommitterCall P) (s s' : S) (a : Awaited) (o o' : Posted) (pd pd' : C) (turn : Turn E)
         → call.stage ≡ g s
         → Goes m.phase (m.waits s a) s s' o o' pd pd' turn
-        → Goes (λ (c : CommitterCall P Q K). stage_phase w c.stage) (stage_waits w call.stage a) call (record call { stage = g s' }) o o' pd pd' turn
+        → Goes (λ (c : CommitterCall P). stage_phase w c.stage) (stage_waits w call.stage a) call (record call { stage = g s' }) o o' pd pd' turn
     plan_goes call s s' a o o' pd pd' turn e t = record {
       deaf = λ other. t.deaf (λ x. other (is_meant call s a e x)) ∙ ap (λ x. unheard x) (sym (stands_so call s e));
-      state = λ other. ap (λ (x : S). record call { stage = g x }) (t.state (λ x. other (is_meant call s a e x))) ∙ ap (λ (x : Stage P Q K). record call { stage = x }) (sym e);
+      state = λ other. ap (λ (x : S). record call { stage = g x }) (t.state (λ x. other (is_meant call s a e x))) ∙ ap (λ (x : Stage P). record call { stage = x }) (sym e);
       outbox = λ other. t.outbox (λ x. other (is_meant call s a e x));
       client = λ other. t.client (λ x. other (is_meant call s a e x));
       next = λ this. stands s' ∙ t.next (meant_so call s a e this);
     }
 
     -- and then the whole
-    pub goes_then : {C : Type 0} (call new : CommitterCall P Q K) (s s' : S) (a : Awaited) (o via o' : Posted) (pd mid pd' : C) (p : Turn E) (turn : Turn (Result CommitterAnswer Error))
+    pub goes_then : {C : Type 0} (call new : CommitterCall P) (s s' : S) (a : Awaited) (o via o' : Posted) (pd mid pd' : C) (p : Turn E) (turn : Turn (Result CommitterAnswer Error))
         → call.stage ≡ g s → p ≢ Stopped
         → Goes m.phase (m.waits s a) s s' o via pd mid p
         → Resumes w p (record call { stage = g s' }) new via o' mid pd' turn
@@ -331,7 +332,7 @@ module _ {P Q K A B D : Type 0} (w : Ways P Q K A B D) where
     goes_then call new s s' a o via o' pd mid pd' p turn e kept t r = Goes-then p kept (plan_goes call s s' a o via pd mid p e t) r.goes
 
     -- the plan gives up, and the stage keeps it
-    pub goes_stops : {C : Type 0} (call : CommitterCall P Q K) (s s' : S) (a : Awaited) (o o' : Posted) (pd pd' : C) (p : Turn E) (turn : Turn (Result CommitterAnswer Error))
+    pub goes_stops : {C : Type 0} (call : CommitterCall P) (s s' : S) (a : Awaited) (o o' : Posted) (pd pd' : C) (p : Turn E) (turn : Turn (Result CommitterAnswer Error))
         → call.stage ≡ g s → p ≡ Stopped → turn ≡ Stopped
         → Goes m.phase (m.waits s a) s s' o o' pd pd' p
         → CommitterGoes w (stage_waits w call.stage a) call (record call { stage = g s' }) o o' pd pd' turn
@@ -344,7 +345,7 @@ module _ {P Q K A B D : Type 0} (w : Ways P Q K A B D) where
     }
 
     -- the call gives up, and its plan had not
-    pub goes_gives_up : {C : Type 0} (call new : CommitterCall P Q K) (s s' : S) (a : Awaited) (o o' : Posted) (pd pd' : C) (p : Turn E) (turn : Turn (Result CommitterAnswer Error))
+    pub goes_gives_up : {C : Type 0} (call new : CommitterCall P) (s s' : S) (a : Awaited) (o o' : Posted) (pd pd' : C) (p : Turn E) (turn : Turn (Result CommitterAnswer Error))
         → call.stage ≡ g s → m.phase s ≢ GivenUp → p ≡ Stopped → turn ≡ Stopped
         → new ≡ record (record call { stage = g s' }) { stage = stage.Stopped; width = new.width }
         → ((m.waits s a → ⊥) → p ≡ unheard (m.phase s))
@@ -354,32 +355,32 @@ module _ {P Q K A B D : Type 0} (w : Ways P Q K A B D) where
       state = λ other. absurd (never other);
       outbox = λ other. absurd (never other);
       client = λ other. absurd (never other);
-      next = λ this. ap (λ (c : CommitterCall P Q K). stage_phase w c.stage) i ∙ sym (ap phase_after h);
+      next = λ this. ap (λ (c : CommitterCall P). stage_phase w c.stage) i ∙ sym (ap phase_after h);
     }
       where
         never : (stage_waits w call.stage a → ⊥) → ⊥
         never other = n (unheard_gone (m.phase s) p f (deaf (λ x. other (is_meant call s a e x))))
 
-    plan_expects : (call : CommitterCall P Q K) (s s' : S) (a : Arrival) (r : Request) (o o' : Posted)
+    plan_expects : (call : CommitterCall P) (s s' : S) (a : Arrival) (r : Request) (o o' : Posted)
         → call.stage ≡ g s
         → Expects (m.waits s) (m.waits s') (told_by a o r).heard o o'
         → CommitterExpects w (λ x. x ≡ awaited_as a) call (record call { stage = g s' }) o o'
     plan_expects call s s' a r o o' e x = Expects-map (λ b y. waits s' b y) (λ b y. is_meant call s b e y) (λ b y. told_heard a o r b y) x
 
-    pub expects_then : {C : Type 0} (call new : CommitterCall P Q K) (s s' : S) (a : Arrival) (r : Request) (o via o' : Posted) (pd pd' : C) (p : Turn E) (turn : Turn (Result CommitterAnswer Error))
+    pub expects_then : {C : Type 0} (call new : CommitterCall P) (s s' : S) (a : Arrival) (r : Request) (o via o' : Posted) (pd pd' : C) (p : Turn E) (turn : Turn (Result CommitterAnswer Error))
         → call.stage ≡ g s
         → Expects (m.waits s) (m.waits s') (told_by a o r).heard o via
         → Resumes w p (record call { stage = g s' }) new via o' pd pd' turn
         → CommitterExpects w (λ x. x ≡ awaited_as a) call new o o'
     expects_then call new s s' a r o via o' pd pd' p turn e x y = Expects-then (plan_expects call s s' a r o via e x) y.expects
 
-    pub expects_stops : (call : CommitterCall P Q K) (s s' : S) (a : Arrival) (r : Request) (o o' : Posted)
+    pub expects_stops : (call : CommitterCall P) (s s' : S) (a : Arrival) (r : Request) (o o' : Posted)
         → call.stage ≡ g s
         → Expects (m.waits s) (m.waits s') (told_by a o r).heard o o'
         → CommitterExpects w (λ x. x ≡ awaited_as a) call (record call { stage = g s' }) o o'
     expects_stops = plan_expects
 
-    pub expects_gives_up : (call new : CommitterCall P Q K) (s s' : S) (a : Arrival) (r : Request) (o o' : Posted)
+    pub expects_gives_up : (call new : CommitterCall P) (s s' : S) (a : Arrival) (r : Request) (o o' : Posted)
         → call.stage ≡ g s
         → new ≡ record (record call { stage = g s' }) { stage = stage.Stopped; width = new.width }
         → Expects (m.waits s) (m.waits s') (told_by a o r).heard o o'
@@ -387,18 +388,18 @@ module _ {P Q K A B D : Type 0} (w : Ways P Q K A B D) where
     expects_gives_up call new s s' a r o o' e f x = record {
       sends = x.sends;
       pushed = x.pushed;
-      only = λ b y. absurd (subst (λ (c : CommitterCall P Q K). stage_waits w c.stage b) f y);
+      only = λ b y. absurd (subst (λ (c : CommitterCall P). stage_waits w c.stage b) f y);
     }
 
     -- A plan that is not begun is started.
 
-    begun : (mid : CommitterCall P Q K) (s s' : S) (from via : Posted) {heard : Awaited → Type 0}
+    begun : (mid : CommitterCall P) (s s' : S) (from via : Posted) {heard : Awaited → Type 0}
         → mid.stage ≡ g s' → IsLawful m → IsUnbegun m s
         → Expects (m.waits s) (m.waits s') heard from via
         → Expects (λ a. ⊥) (stage_waits w mid.stage) (λ a. ⊥) from via
     begun mid s s' from via e law u x = Expects-map (λ a y. meant_so mid s' a e y) (λ a y. never_runs (m.phase s) u.phase (law.runs s a y)) (λ a y. absurd y) x
 
-    pub opens_then : {C : Type 0} (mid new : CommitterCall P Q K) (s s' : S) (from via to : Posted) (pd pd' : C) (p : Turn E) (turn : Turn (Result CommitterAnswer Error)) {heard : Awaited → Type 0}
+    pub opens_then : {C : Type 0} (mid new : CommitterCall P) (s s' : S) (from via to : Posted) (pd pd' : C) (p : Turn E) (turn : Turn (Result CommitterAnswer Error)) {heard : Awaited → Type 0}
         → mid.stage ≡ g s' → p ≢ Stopped → IsLawful m → IsUnbegun m s → m.phase s' ≡ phase_after p
         → Expects (m.waits s) (m.waits s') heard from via
         → Resumes w p mid new via to pd pd' turn
@@ -410,10 +411,10 @@ module _ {P Q K A B D : Type 0} (w : Ways P Q K A B D) where
       where
         by : (p : Turn E) → p ≢ Stopped → m.phase s' ≡ phase_after p → Resumes w p mid new via to pd pd' turn → stage_phase w new.stage ≡ phase_after turn
         by Stopped n f r = absurd (n refl)
-        by Waits n f r = let x = r.goes in ap (λ (c : CommitterCall P Q K). stage_phase w c.stage) (x.state refl) ∙ (stands_so mid s' e ∙ (f ∙ sym (ap phase_after (x.deaf refl))))
+        by Waits n f r = let x = r.goes in ap (λ (c : CommitterCall P). stage_phase w c.stage) (x.state refl) ∙ (stands_so mid s' e ∙ (f ∙ sym (ap phase_after (x.deaf refl))))
         by (Ends v) n f r = let x = r.goes in x.next tt
 
-    pub opens_stops : (mid : CommitterCall P Q K) (s s' : S) (from via : Posted) (p : Turn E) (turn : Turn (Result CommitterAnswer Error)) {heard : Awaited → Type 0}
+    pub opens_stops : (mid : CommitterCall P) (s s' : S) (from via : Posted) (p : Turn E) (turn : Turn (Result CommitterAnswer Error)) {heard : Awaited → Type 0}
         → mid.stage ≡ g s' → p ≡ Stopped → turn ≡ Stopped → IsLawful m → IsUnbegun m s → m.phase s' ≡ phase_after p
         → Expects (m.waits s) (m.waits s') heard from via
         → Opens w mid from via turn
@@ -423,14 +424,14 @@ module _ {P Q K A B D : Type 0} (w : Ways P Q K A B D) where
     }
 
 -- while the call sends no Commit of the primary, none is out
-abbrev pub IsElsewhere : {P Q K : Type 0} → Stage P Q K → Type 0
+abbrev pub IsElsewhere : {P : Type 0} → Stage P → Type 0
 IsElsewhere (stage.Committing q t) = ⊥
 IsElsewhere stage.Over = ⊥
 IsElsewhere stage.Stopped = ⊥
 IsElsewhere g = ⊤
 
-module _ {P Q K A B D : Type 0} (w : Ways P Q K A B D) where
-  out_at : (options : RetryOptions) (s : ℕ) (parts : CommitParts) (g : Stage P Q K) (c : Commits) (o : Posted) (h : List Event)
+module _ {P : Type 0} (w : Ways P) where
+  out_at : (options : RetryOptions) (s : ℕ) (parts : CommitParts) (g : Stage P) (c : Commits) (o : Posted) (h : List Event)
       → IsElsewhere g → KnowsCommits (plan_of parts) s c h → IsAt w options s parts g c o h → c.out ≡ []
   out_at options s parts (stage.Prewriting x) c o h e k i = unsent_out (plan_of parts) s c h i.first k
   out_at options s parts (stage.Asking t) c o h e k i = unsent_out (plan_of parts) s c h i.first k
@@ -441,41 +442,41 @@ module _ {P Q K A B D : Type 0} (w : Ways P Q K A B D) where
   out_at options s parts stage.Stopped c o h e k i = absurd e
 
   -- so it hears of none
-  pub followed_elsewhere : (call : CommitterCall P Q K) (g : Stage P Q K) (a : Arrival) (c d : Commits) (o : Posted) (h : List Event)
+  pub followed_elsewhere : (call : CommitterCall P) (g : Stage P) (a : Arrival) (c d : Commits) (o : Posted) (h : List Event)
       → call.stage ≡ g → IsElsewhere g → CommitterFits w call c o h → IsFollowed o c d → IsFollowed o (heard a o c) d
   followed_elsewhere call g a c d o h e i f k = followed_unheard a o c d (out_at call.retry_options (version_of call.start) call.parts call.stage c o h (subst IsElsewhere (sym e) i) f.knows f.at) k
 
 -- A commit or a rollback waits for something exactly while it runs, and that was posted.
-module _ {P Q K A B D : Type 0} (w : Ways P Q K A B D) (p : IsLawful w.prewriting) (q : IsLawful w.committing) (k : IsLawful w.rolling) where
-  pub stage_runs : (g : Stage P Q K) (a : Awaited) → stage_waits w g a → stage_phase w g ≡ Running
+module _ {P : Type 0} (w : Ways P) (p : IsLawful w.plan) where
+  pub stage_runs : (g : Stage P) (a : Awaited) → stage_waits w g a → stage_phase w g ≡ Running
   stage_runs (stage.Prewriting s) a x = p.runs s a x
   stage_runs (stage.Asking t) a x = time_asked-lawful.runs t a x
-  stage_runs (stage.Committing s t) a x = q.runs s a x
-  stage_runs (stage.RollingBackPrimary s) a x = k.runs s a x
-  stage_runs (stage.RollingBackOthers s) a x = k.runs s a x
+  stage_runs (stage.Committing s t) a x = p.runs s a x
+  stage_runs (stage.RollingBackPrimary s) a x = p.runs s a x
+  stage_runs (stage.RollingBackOthers s) a x = p.runs s a x
   stage_runs stage.Over a x = absurd x
   stage_runs stage.Stopped a x = absurd x
 
-  pub call_waits : (call : CommitterCall P Q K) (c : Commits) (o : Posted) (h : List Event) → CommitterFits w call c o h → stage_phase w call.stage ≡ Running → (a : Awaited) × stage_waits w call.stage a
+  pub call_waits : (call : CommitterCall P) (c : Commits) (o : Posted) (h : List Event) → CommitterFits w call c o h → stage_phase w call.stage ≡ Running → (a : Awaited) × stage_waits w call.stage a
   call_waits call c o h f e = by call.stage f.at e
     where
-      by : (g : Stage P Q K) → IsAt w call.retry_options (version_of call.start) call.parts g c o h → stage_phase w g ≡ Running → (a : Awaited) × stage_waits w g a
+      by : (g : Stage P) → IsAt w call.retry_options (version_of call.start) call.parts g c o h → stage_phase w g ≡ Running → (a : Awaited) × stage_waits w g a
       by (stage.Prewriting s) i e = p.waits s o h i.now e
       by (stage.Asking t) i e = time_asked-lawful.waits t o h i.now e
-      by (stage.Committing s t) i e = q.waits s o h i.now e
-      by (stage.RollingBackPrimary s) i e = k.waits s o h i.now e
-      by (stage.RollingBackOthers s) i e = k.waits s o h i.0.now e
+      by (stage.Committing s t) i e = p.waits s o h i.now e
+      by (stage.RollingBackPrimary s) i e = p.waits s o h i.now e
+      by (stage.RollingBackOthers s) i e = p.waits s o h i.0.now e
       by stage.Over i e = absurd (subst IsRunning (sym e) tt)
       by stage.Stopped i e = absurd (subst IsRunning (sym e) tt)
 
-  pub call_posted : (call : CommitterCall P Q K) (c : Commits) (o : Posted) (h : List Event) (a : Awaited) → CommitterFits w call c o h → stage_waits w call.stage a → WasPosted o h a
+  pub call_posted : (call : CommitterCall P) (c : Commits) (o : Posted) (h : List Event) (a : Awaited) → CommitterFits w call c o h → stage_waits w call.stage a → WasPosted o h a
   call_posted call c o h a f x = by call.stage f.at x
     where
-      by : (g : Stage P Q K) → IsAt w call.retry_options (version_of call.start) call.parts g c o h → stage_waits w g a → WasPosted o h a
+      by : (g : Stage P) → IsAt w call.retry_options (version_of call.start) call.parts g c o h → stage_waits w g a → WasPosted o h a
       by (stage.Prewriting s) i x = p.posted s o h a i.now x
       by (stage.Asking t) i x = time_asked-lawful.posted t o h a i.now x
-      by (stage.Committing s t) i x = q.posted s o h a i.now x
-      by (stage.RollingBackPrimary s) i x = k.posted s o h a i.now x
-      by (stage.RollingBackOthers s) i x = k.posted s o h a i.0.now x
+      by (stage.Committing s t) i x = p.posted s o h a i.now x
+      by (stage.RollingBackPrimary s) i x = p.posted s o h a i.now x
+      by (stage.RollingBackOthers s) i x = p.posted s o h a i.0.now x
       by stage.Over i x = absurd x
       by stage.Stopped i x = absurd x

@@ -77,12 +77,12 @@ read_after Stopped turn' i = rw i refl
 read_after Waits turn' i = rw i refl
 read_after (Ends a) turn' i = rw i.1 refl
 
-module _ {Q B : Type 0} where
-  job_at : (m : Meaning Q (Result B Error)) (refuses : RetryOptions → List Event → Error → Type 0) (plan : Plan) (keys : List Key) (job : SecondaryJob Q) (g : Stage Q) (o : Posted) (h : List Event)
+module _ {P B : Type 0} where
+  job_at : (m : Meaning P (Result B Error)) (refuses : RetryOptions → List Event → Error → Type 0) (plan : Plan) (keys : List Key) (job : SecondaryJob P) (g : Stage P) (o : Posted) (h : List Event)
       → job.stage ≡ g → JobFits m refuses plan keys job o h → IsJobAt m (refuses job.retry_options) (version_of job.start) (version_of job.commit) keys job.keys g o h
   job_at m refuses plan keys job g o h e f = subst (λ x. IsJobAt m (refuses job.retry_options) (version_of job.start) (version_of job.commit) keys job.keys x o h) e f.at
 
-  pub job_on : (m : Meaning Q (Result B Error)) (refuses : RetryOptions → List Event → Error → Type 0) (plan : Plan) (keys : List Key) (job : SecondaryJob Q) (q q' : Q) (told : Told) (o o' : Posted) (turn : Turn (Result B Error))
+  pub job_on : (m : Meaning P (Result B Error)) (refuses : RetryOptions → List Event → Error → Type 0) (plan : Plan) (keys : List Key) (job : SecondaryJob P) (q q' : P) (told : Told) (o o' : Posted) (turn : Turn (Result B Error))
       → job.stage ≡ stage.Committing q
       → ((h : List Event) → Hears h (told.hear h))
       → Moves (m.asks q) (λ h. m.fits q o h × told.known h) (m.fits q' o') (m.gives q) told.hear o o' turn
@@ -114,7 +114,7 @@ module _ {Q B : Type 0} where
       at : (h : List Event) → JobFits m refuses plan keys job o h × told.known h → IsOut m (refuses job.retry_options) (version_of job.start) (version_of job.commit) keys q o h
       at h u = job_at m refuses plan keys job (stage.Committing q) o h e u.0
 
-  pub job_begins : (m : Meaning Q (Result B Error)) (refuses : RetryOptions → List Event → Error → Type 0) (costs : ℕ → ℕ → ℕ) (plan : Plan) (keys : List Key) (job : SecondaryJob Q) (kept : List Key) (q : Q) (o : Posted) (request : CommitRequest)
+  pub job_begins : (m : Meaning P (Result B Error)) (refuses : RetryOptions → List Event → Error → Type 0) (costs : ℕ → ℕ → ℕ) (plan : Plan) (keys : List Key) (job : SecondaryJob P) (kept : List Key) (q : P) (o : Posted) (request : CommitRequest)
       → job.stage ≡ stage.Fresh
       → request.start_version ≡ version_of job.start → request.commit_version ≡ version_of job.commit → request.keys ≡ job.keys
       → IsPlanFor m (refuses job.retry_options) costs (Commit request) q
@@ -131,7 +131,7 @@ module _ {Q B : Type 0} where
 
   -- A call of its plan is a call of the job.
 
-  pub tells_on : (m : Meaning Q (Result B Error)) (refuses : RetryOptions → List Event → Error → Type 0) (costs : ℕ → ℕ → ℕ) (plan : Plan) (keys : List Key) (job : SecondaryJob Q) (q q' : Q) (told : Told) (o o' : Posted)
+  pub tells_on : (m : Meaning P (Result B Error)) (refuses : RetryOptions → List Event → Error → Type 0) (costs : ℕ → ℕ → ℕ) (plan : Plan) (keys : List Key) (job : SecondaryJob P) (q q' : P) (told : Told) (o o' : Posted)
       (turn : Turn (Result B Error)) (turn' : Turn (Result (Unit {0}) Error))
       → job.stage ≡ stage.Committing q
       → ((h : List Event) → Hears h (told.hear h))
@@ -146,22 +146,22 @@ module _ {Q B : Type 0} where
     expects = record { sends = t.expects.sends; pushed = t.expects.pushed; only = λ a w. subst (λ g. (job_waits m g a × (told.heard a → ⊥)) ⊎ IsPosted t.expects.sends a) (sym e) (t.expects.only a w) };
   }
 
-  pub goes_on : {C : Type 0} (m : Meaning Q (Result B Error)) (job : SecondaryJob Q) (q q' : Q) (a meant : Type 0) (o o' : Posted) (pd pd' : C)
+  pub goes_on : {C : Type 0} (m : Meaning P (Result B Error)) (job : SecondaryJob P) (q q' : P) (a meant : Type 0) (o o' : Posted) (pd pd' : C)
       (turn : Turn (Result B Error)) (turn' : Turn (Result (Unit {0}) Error))
       → job.stage ≡ stage.Committing q
       → (meant → a) → (a → meant)
       → IsRead ReadsDone turn turn'
       → Goes m.phase a q q' o o' pd pd' turn
-      → Goes (λ (s : SecondaryJob Q). job_phase m s.stage) meant job (record job { stage = stage.Committing q' }) o o' pd pd' turn'
+      → Goes (λ (s : SecondaryJob P). job_phase m s.stage) meant job (record job { stage = stage.Committing q' }) o o' pd pd' turn'
   goes_on m job q q' a meant o o' pd pd' turn turn' e is of i t = record {
     deaf = λ other. read_unheard (m.phase q) turn turn' i (t.deaf (λ x. other (of x))) ∙ ap (λ g. unheard (job_phase m g)) (sym e);
-    state = λ other. ap (λ (x : Q). record job { stage = stage.Committing x }) (t.state (λ x. other (of x))) ∙ ap (λ (x : Stage Q). record job { stage = x }) (sym e);
+    state = λ other. ap (λ (x : P). record job { stage = stage.Committing x }) (t.state (λ x. other (of x))) ∙ ap (λ (x : Stage P). record job { stage = x }) (sym e);
     outbox = λ other. t.outbox (λ x. other (of x));
     client = λ other. t.client (λ x. other (of x));
     next = λ this. t.next (is this) ∙ read_after turn turn' i;
   }
 
-  pub counts_on : (m : Meaning Q (Result B Error)) (refuses : RetryOptions → List Event → Error → Type 0) (costs : ℕ → ℕ → ℕ) (plan : Plan) (keys : List Key) (job : SecondaryJob Q) (q q' : Q)
+  pub counts_on : (m : Meaning P (Result B Error)) (refuses : RetryOptions → List Event → Error → Type 0) (costs : ℕ → ℕ → ℕ) (plan : Plan) (keys : List Key) (job : SecondaryJob P) (q q' : P)
       (bad fails : Bool) (weight locked : ℕ) (o o' : Posted) (turn : Turn (Result B Error)) (turn' : Turn (Result (Unit {0}) Error))
       → job.stage ≡ stage.Committing q
       → IsRead ReadsDone turn turn'
@@ -178,20 +178,20 @@ module _ {Q B : Type 0} where
 
   -- what is not for it changes nothing
 
-  pub waits_not : (m : Meaning Q (Result B Error)) (job : SecondaryJob Q) (g : Stage Q) → job.stage ≡ g → ((a : Awaited) → job_waits m g a → ⊥) → (a : Awaited) → job_waits m job.stage a → ⊥
+  pub waits_not : (m : Meaning P (Result B Error)) (job : SecondaryJob P) (g : Stage P) → job.stage ≡ g → ((a : Awaited) → job_waits m g a → ⊥) → (a : Awaited) → job_waits m job.stage a → ⊥
   waits_not m job g e never a w = never a (subst (λ x. job_waits m x a) e w)
 
-  pub unheard_is : {A : Type 0} (m : Meaning Q (Result B Error)) (job : SecondaryJob Q) (g : Stage Q) (turn : Turn A) → job.stage ≡ g → turn ≡ unheard (job_phase m g) → turn ≡ unheard (job_phase m job.stage)
+  pub unheard_is : {A : Type 0} (m : Meaning P (Result B Error)) (job : SecondaryJob P) (g : Stage P) (turn : Turn A) → job.stage ≡ g → turn ≡ unheard (job_phase m g) → turn ≡ unheard (job_phase m job.stage)
   unheard_is m job g turn e i = i ∙ ap (λ x. unheard (job_phase m x)) (sym e)
 
   -- The job makes its plan, and starts it.
 
-  pub tells_no_plan : (m : Meaning Q (Result B Error)) (refuses : RetryOptions → List Event → Error → Type 0) (costs : ℕ → ℕ → ℕ) (plan : Plan) (keys : List Key) (job mid : SecondaryJob Q) (o : Posted) (turn : Turn (Result (Unit {0}) Error))
+  pub tells_no_plan : (m : Meaning P (Result B Error)) (refuses : RetryOptions → List Event → Error → Type 0) (costs : ℕ → ℕ → ℕ) (plan : Plan) (keys : List Key) (job mid : SecondaryJob P) (o : Posted) (turn : Turn (Result (Unit {0}) Error))
       → turn ≡ Stopped → mid ≡ record job { keys = mid.keys; stage = stage.Stopped }
       → Tells (others m refuses costs plan keys) started job mid o o turn
   tells_no_plan m refuses costs plan keys job mid o turn e is = rw is (Tells-stopped e refl (record { asked = λ h r x. x; given = λ h v x. x; gave = λ h v x. x }) (λ a w. absurd w))
 
-  pub tells_planned : (m : Meaning Q (Result B Error)) (refuses : RetryOptions → List Event → Error → Type 0) (costs : ℕ → ℕ → ℕ) (plan : Plan) (keys : List Key) (job mid new : SecondaryJob Q) (o o' : Posted) (turn : Turn (Result (Unit {0}) Error))
+  pub tells_planned : (m : Meaning P (Result B Error)) (refuses : RetryOptions → List Event → Error → Type 0) (costs : ℕ → ℕ → ℕ) (plan : Plan) (keys : List Key) (job mid new : SecondaryJob P) (o o' : Posted) (turn : Turn (Result (Unit {0}) Error))
       → job.stage ≡ stage.Fresh → IsLawful m → IsPlanned m refuses costs job mid
       → Tells (others m refuses costs plan keys) started mid new o o' turn
       → Tells (others m refuses costs plan keys) started job new o o' turn
@@ -209,22 +209,22 @@ module _ {Q B : Type 0} where
       never : (f : Phase) → f ≡ Fresh → f ≡ Running → ⊥
       never f x y = let z : Fresh ≡ Running = sym x ∙ y in cc
 
-  pub goes_planned : {C : Type 0} (m : Meaning Q (Result B Error)) (refuses : RetryOptions → List Event → Error → Type 0) (costs : ℕ → ℕ → ℕ) (job mid new : SecondaryJob Q) (o o' : Posted) (pd pd' : C) (turn : Turn (Result (Unit {0}) Error))
+  pub goes_planned : {C : Type 0} (m : Meaning P (Result B Error)) (refuses : RetryOptions → List Event → Error → Type 0) (costs : ℕ → ℕ → ℕ) (job mid new : SecondaryJob P) (o o' : Posted) (pd pd' : C) (turn : Turn (Result (Unit {0}) Error))
       → job.stage ≡ stage.Fresh → IsPlanned m refuses costs job mid
-      → Goes (λ (s : SecondaryJob Q). job_phase m s.stage) (job_phase m mid.stage ≡ Fresh) mid new o o' pd pd' turn
-      → Goes (λ (s : SecondaryJob Q). job_phase m s.stage) (job_phase m job.stage ≡ Fresh) job new o o' pd pd' turn
+      → Goes (λ (s : SecondaryJob P). job_phase m s.stage) (job_phase m mid.stage ≡ Fresh) mid new o o' pd pd' turn
+      → Goes (λ (s : SecondaryJob P). job_phase m s.stage) (job_phase m job.stage ≡ Fresh) job new o o' pd pd' turn
   goes_planned m refuses costs job mid new o o' pd pd' turn e (q, request, a, b, k, p, is) t = record {
     deaf = λ other. absurd (other fresh);
     state = λ other. absurd (other fresh);
     outbox = λ other. absurd (other fresh);
     client = λ other. absurd (other fresh);
-    next = λ this. t.next (ap (λ (x : SecondaryJob Q). job_phase m x.stage) is ∙ p.unbegun.phase);
+    next = λ this. t.next (ap (λ (x : SecondaryJob P). job_phase m x.stage) is ∙ p.unbegun.phase);
   }
     where
       fresh : job_phase m job.stage ≡ Fresh
       fresh = ap (job_phase m) e
 
-  pub counts_planned : (m : Meaning Q (Result B Error)) (refuses : RetryOptions → List Event → Error → Type 0) (costs : ℕ → ℕ → ℕ) (plan : Plan) (keys : List Key) (job mid new : SecondaryJob Q) (o o' : Posted) (turn : Turn (Result (Unit {0}) Error))
+  pub counts_planned : (m : Meaning P (Result B Error)) (refuses : RetryOptions → List Event → Error → Type 0) (costs : ℕ → ℕ → ℕ) (plan : Plan) (keys : List Key) (job mid new : SecondaryJob P) (o o' : Posted) (turn : Turn (Result (Unit {0}) Error))
       → job.stage ≡ stage.Fresh → IsPlanned m refuses costs job mid
       → Counts (others m refuses costs plan keys) false false 0 0 mid new o o' turn
       → Counts (others m refuses costs plan keys) false false 0 0 job new o o' turn

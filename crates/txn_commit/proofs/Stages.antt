@@ -33,7 +33,7 @@ use Rattle.txn_history.specs.Turn.{Turn, turn_of, IfEnds, IfKept, IfKept-both, I
 use Rattle.txn_history.specs.Turn.Turn.{Stopped, Waits, Ends}
 use Rattle.txn_tso.specs.declared.stage.Stage.TheVariants.{Asked as Out_with}
 use Rattle.txn_merge.specs.declared.retry_options.RetryOptions.{RetryOptions}
-use Rattle.txn_commit.specs.Committing.{CommitterFits, CommitterGives, CommitterGoesOn, CommitterMoves, IsAllPrewritten, IsAsking, IsFirst, IsRolled, IsWhole, IsWritten, MayCommit, SendsCommits, TimeSays, Ways, whole_of}
+use Rattle.txn_commit.specs.Committing.{CommitterFits, CommitterGives, CommitterGoesOn, CommitterMoves, IsAllPrewritten, IsAsking, IsFirst, IsRolled, IsWhole, IsWritten, MayCommit, SendsCommits, TimeSays, whole_of}
 use Rattle.txn_commit.specs.Following.{Commits, IsFollowed, KnowsCommits, sent, undetermined}
 use Rattle.txn_history.specs.Foreign.{IsForeign}
 use Rattle.txn_commit.specs.Plans.{AreCommitted, AreRolledBack, IsAnswered, IsOfPrewrite, IsPartOf, IsPlanFor, IsUnderWay, PrewritesOnly, Says, prewritten_key, prewritten_passed}
@@ -46,6 +46,8 @@ use Rattle.txn_commit.specs.declared.committer.CommitterCall.{CommitterCall}
 use Rattle.txn_commit.specs.declared.committer.Stage.{Stage}
 use Rattle.txn_commit.specs.declared.committer.Stage.TheVariants as stage
 use Rattle.txn_commit.specs.declared.timestamp_call.TimestampCall.{TimestampCall}
+use Rattle.txn_commit.specs.Ways.{Ways}
+use Rattle.txn_commit.specs.declared.fetched.Fetched.{Fetched}
 use Rattle.txn_commit.proofs.Committing.{Throughout, at_stage, committing_on, throughout_more}
 use Rattle.txn_commit.proofs.Following.{knows_more}
 use Rattle.txn_commit.proofs.Keys.{has_only, locks_key, names_key, only}
@@ -117,30 +119,30 @@ pub followed_sends : {S V : Type 0} {m : Meaning S V} {told : Told} {t : Timesta
     → turn ≢ Stopped → SendsCommits m told t c d old new from to turn → IsFollowed from c d
 followed_sends {t} {c} {from} {turn} n x = rw (IfKept-out turn n x.follows) (followed_sent from x.moves.sends t c)
 
-module _ {P Q K A B D : Type 0} where
-  at_over : (w : Ways P Q K A B D) (call : CommitterCall P Q K) (n : ℕ) (c : Commits) (o : Posted) (h : List Event) → CommitterFits w call c o h → CommitterFits w (record call { stage = stage.Over; width = n }) c o h
+module _ {P : Type 0} where
+  at_over : (w : Ways P) (call : CommitterCall P) (n : ℕ) (c : Commits) (o : Posted) (h : List Event) → CommitterFits w call c o h → CommitterFits w (record call { stage = stage.Over; width = n }) c o h
   at_over w call n c o h f = record { start = f.start; formed = f.formed; knows = f.knows; at = tt }
 
   -- it ends, and says so much
-  pub ends_on : (w : Ways P Q K A B D) (call new : CommitterCall P Q K) (c : Commits) (o : Posted) (known : List Event → Type 0) (v : Result CommitterAnswer Error) (turn : Turn (Result CommitterAnswer Error))
+  pub ends_on : (w : Ways P) (call new : CommitterCall P) (c : Commits) (o : Posted) (known : List Event → Type 0) (v : Result CommitterAnswer Error) (turn : Turn (Result CommitterAnswer Error))
       → new ≡ record call { stage = stage.Over; width = new.width } → turn ≡ Ends v
       → ((h : List Event) → CommitterFits w call c o h → known h → CommitterGives w call.retry_options (version_of call.start) call.parts h v)
       → CommitterMoves w known (λ h. h) call new c c o o turn
   ends_on w call new c o known v turn e t g = rw (e, t) (Moves-quiet refl (λ h f. at_over w call new.width c o h f.0) (λ h f. g h f.0 f.1))
 
   -- after one of its plans it waits, or ends, or does what comes next
-  pub goes_on_waits : {E : Type 0} (w : Ways P Q K A B D) (refuses : List Event → Error → Type 0) (says : List Event → Type 0) (call : CommitterCall P Q K) (c : Commits) (o : Posted) (heard : Turn (Result E Error))
+  pub goes_on_waits : {E : Type 0} (w : Ways P) (refuses : List Event → Error → Type 0) (says : List Event → Type 0) (call : CommitterCall P) (c : Commits) (o : Posted) (heard : Turn (Result E Error))
       → heard ≡ Waits → CommitterGoesOn w refuses says call call c c o o heard Waits
   goes_on_waits w refuses says call c o heard e = rw e (Moves-quiet refl (λ h f. f.0) tt)
 
-  pub goes_on_ends : {E : Type 0} (w : Ways P Q K A B D) (refuses : List Event → Error → Type 0) (says : List Event → Type 0) (call new : CommitterCall P Q K) (c : Commits) (o : Posted)
+  pub goes_on_ends : {E : Type 0} (w : Ways P) (refuses : List Event → Error → Type 0) (says : List Event → Type 0) (call new : CommitterCall P) (c : Commits) (o : Posted)
       (heard : Turn (Result E Error)) (x : Result E Error) (v : Result CommitterAnswer Error) (turn : Turn (Result CommitterAnswer Error))
       → heard ≡ Ends x → new ≡ record call { stage = stage.Over; width = new.width } → turn ≡ Ends v
       → ((h : List Event) → CommitterFits w call c o h → Says refuses says h x → CommitterGives w call.retry_options (version_of call.start) call.parts h v)
       → CommitterGoesOn w refuses says call new c c o o heard turn
   goes_on_ends w refuses says call new c o heard x v turn e n t g = rw (e, n, t) (Moves-quiet refl (λ h f. at_over w call new.width c o h f.0) (λ h f. g h f.0 f.1))
 
-  pub goes_on_next : {E : Type 0} (w : Ways P Q K A B D) (refuses : List Event → Error → Type 0) (says : List Event → Type 0) (call new : CommitterCall P Q K) (c d : Commits) (from to : Posted)
+  pub goes_on_next : {E : Type 0} (w : Ways P) (refuses : List Event → Error → Type 0) (says : List Event → Type 0) (call new : CommitterCall P) (c d : Commits) (from to : Posted)
       (heard : Turn (Result E Error)) (x : Result E Error) (turn : Turn (Result CommitterAnswer Error)) (known : List Event → Type 0)
       → heard ≡ Ends x
       → ((h : List Event) → CommitterFits w call c from h → Says refuses says h x → known h)
@@ -149,7 +151,7 @@ module _ {P Q K A B D : Type 0} where
   goes_on_next w refuses says call new c d from to heard x turn known e k m = rw e (Moves-before (λ h f. (f.0, k h f.0 f.1)) m)
 
   -- it has asked for the timestamp of the commit
-  pub asks_on : (w : Ways P Q K A B D) (call : CommitterCall P Q K) (n : ℕ) (t : TimestampCall) (c : Commits) (from to : Posted)
+  pub asks_on : (w : Ways P) (call : CommitterCall P) (n : ℕ) (t : TimestampCall) (c : Commits) (from to : Posted)
       → HasBegun t from to
       → CommitterMoves w (IsWritten (version_of call.start) call.parts c) (λ h. h) call (record call { stage = stage.Asking t; width = n }) c c from to Waits
   asks_on w call width t c from to b = Moves-asked b.1 (λ h f. record {
@@ -234,21 +236,21 @@ pub prewrites_only : {S V : Type 0} {m : Meaning S (Result V Error)} {refuses : 
 prewrites_only whole e x j h r a = subst (λ w. IsOfPrewrite w r ⊎ IsForeign h r) e (x.asks h r (j.asked h r a))
 
 -- the plan of a stage, and stages without it
-pub prewriting_same : {P Q K : Type 0} {g : Stage P Q K} {p q : P} → g ≡ stage.Prewriting p → g ≡ stage.Prewriting q → p ≡ q
+pub prewriting_same : {P : Type 0} {g : Stage P} {p q : P} → g ≡ stage.Prewriting p → g ≡ stage.Prewriting q → p ≡ q
 prewriting_same e f = let s = sym e ∙ f in cc
 
-pub over_elsewhere : {P Q K : Type 0} {g : Stage P Q K} (p : P) → g ≡ stage.Over → g ≡ stage.Prewriting p → ⊥
+pub over_elsewhere : {P : Type 0} {g : Stage P} (p : P) → g ≡ stage.Over → g ≡ stage.Prewriting p → ⊥
 over_elsewhere p e f = let s = sym e ∙ f in cc
 
-pub stopped_elsewhere : {P Q K : Type 0} {g : Stage P Q K} (p : P) → g ≡ stage.Stopped → g ≡ stage.Prewriting p → ⊥
+pub stopped_elsewhere : {P : Type 0} {g : Stage P} (p : P) → g ≡ stage.Stopped → g ≡ stage.Prewriting p → ⊥
 stopped_elsewhere p e f = let s = sym e ∙ f in cc
 
-pub asking_elsewhere : {P Q K : Type 0} {g : Stage P Q K} (t : TimestampCall) (p : P) → g ≡ stage.Asking t → g ≡ stage.Prewriting p → ⊥
+pub asking_elsewhere : {P : Type 0} {g : Stage P} (t : TimestampCall) (p : P) → g ≡ stage.Asking t → g ≡ stage.Prewriting p → ⊥
 asking_elsewhere t p e f = let s = sym e ∙ f in cc
 
-module _ {P Q K A B D : Type 0} where
+module _ {P : Type 0} where
   -- the call for the timestamp goes on
-  pub asking_on : (w : Ways P Q K A B D) (call : CommitterCall P Q K) (t t' : TimestampCall) (c : Commits) (a : Arrival) (r : Request) (o o' : Posted) (turn : Turn (Result Timestamp Error))
+  pub asking_on : (w : Ways P) (call : CommitterCall P) (t t' : TimestampCall) (c : Commits) (a : Arrival) (r : Request) (o o' : Posted) (turn : Turn (Result Timestamp Error))
       → call.stage ≡ stage.Asking t
       → AsksTime t
       → Tells time_asked (told_by a o r) t t' o o' turn
@@ -320,10 +322,10 @@ module _ {P Q K A B D : Type 0} where
       }
       says h u (Err why) g b = g
 
-  pub prewriting_begins : (w : Ways P Q K A B D) (costs : ℕ → ℕ → ℕ) (call : CommitterCall P Q K) (p : P) (c : Commits) (o : Posted) {options : RetryOptions} (request : PrewriteRequest)
+  pub prewriting_begins : (w : Ways P) (costs : ℕ → ℕ → ℕ) (call : CommitterCall P) (p : P) (c : Commits) (o : Posted) {options : RetryOptions} (request : PrewriteRequest)
       → IsWhole (version_of call.start) call.parts request
       → options ≡ call.retry_options
-      → IsPlanFor w.prewriting (w.unwritten options) costs (Prewrite request) p
+      → IsPlanFor w.plan (w.unwritten options) costs (Prewrite request) p
       → (h : List Event) → CommitterFits w call c o h × IsFirst (version_of call.start) c h → CommitterFits w (record call { stage = stage.Prewriting p }) c o h
   prewriting_begins w costs call p c o request is same x h u = record {
     start = u.0.start;
@@ -339,10 +341,10 @@ module _ {P Q K A B D : Type 0} where
     };
   }
 
-  pub committing_begins : (w : Ways P Q K A B D) (costs : ℕ → ℕ → ℕ) (call : CommitterCall P Q K) (q : Q) (t : Timestamp) (c : Commits) (o : Posted) {options : RetryOptions} (request : CommitRequest)
+  pub committing_begins : (w : Ways P) (costs : ℕ → ℕ → ℕ) (call : CommitterCall P) (q : P) (t : Timestamp) (c : Commits) (o : Posted) {options : RetryOptions} (request : CommitRequest)
       → request.start_version ≡ version_of call.start → request.commit_version ≡ version_of t → request.keys ≡ call.parts.primary ∷ []
       → options ≡ call.retry_options
-      → IsPlanFor w.committing (w.uncommitted options) costs (Commit request) q
+      → IsPlanFor w.plan (w.uncommitted options) costs (Commit request) q
       → (h : List Event) → CommitterFits w call c o h × MayCommit (plan_of call.parts) (version_of call.start) t c h → CommitterFits w (record call { stage = stage.Committing q t }) c o h
   committing_begins w costs call q t c o request e f g same x h u = record {
     start = u.0.start;
@@ -356,10 +358,10 @@ module _ {P Q K A B D : Type 0} where
     };
   }
 
-  pub rolling_begins : (w : Ways P Q K A B D) (costs : ℕ → ℕ → ℕ) (call : CommitterCall P Q K) (k : K) (c : Commits) (o : Posted) {options : RetryOptions} (request : BatchRollbackRequest)
+  pub rolling_begins : (w : Ways P) (costs : ℕ → ℕ → ℕ) (call : CommitterCall P) (k : P) (c : Commits) (o : Posted) {options : RetryOptions} (request : BatchRollbackRequest)
       → request.start_version ≡ version_of call.start → request.keys ≡ call.parts.primary ∷ []
       → options ≡ call.retry_options
-      → IsPlanFor w.rolling (w.unrolled options) costs (BatchRollback request) k
+      → IsPlanFor w.plan (w.unrolled options) costs (BatchRollback request) k
       → (h : List Event) → CommitterFits w call c o h × (undetermined c ≡ None) → CommitterFits w (record call { stage = stage.RollingBackPrimary k }) c o h
   rolling_begins w costs call k c o request e f same x h u = record {
     start = u.0.start;
@@ -373,10 +375,10 @@ module _ {P Q K A B D : Type 0} where
     };
   }
 
-  pub rolling_others_begins : (w : Ways P Q K A B D) (costs : ℕ → ℕ → ℕ) (call : CommitterCall P Q K) (k : K) (c : Commits) (o : Posted) {options : RetryOptions} (request : BatchRollbackRequest)
+  pub rolling_others_begins : (w : Ways P) (costs : ℕ → ℕ → ℕ) (call : CommitterCall P) (k : P) (c : Commits) (o : Posted) {options : RetryOptions} (request : BatchRollbackRequest)
       → request.start_version ≡ version_of call.start → request.keys ≡ call.parts.secondaries
       → options ≡ call.retry_options
-      → IsPlanFor w.rolling (w.unrolled options) costs (BatchRollback request) k
+      → IsPlanFor w.plan (w.unrolled options) costs (BatchRollback request) k
       → (h : List Event) → CommitterFits w call c o h × IsRolled (version_of call.start) call.parts c h → CommitterFits w (record call { stage = stage.RollingBackOthers k }) c o h
   rolling_others_begins w costs call k c o request e f same x h u = record {
     start = u.0.start;
@@ -395,7 +397,7 @@ module _ {P Q K A B D : Type 0} where
 
   -- the width of what was let go says nothing of histories
   widened : {V : Type 0} {may : List Event → Request → Type 0} {was : List Event → Type 0} {gives : List Event → V → Type 0} {hear : List Event → List Event} {from : Posted}
-      (w : Ways P Q K A B D) (call : CommitterCall P Q K) (g : Stage P Q K) (n : ℕ) (c : Commits) (to : Posted) (turn : Turn V)
+      (w : Ways P) (call : CommitterCall P) (g : Stage P) (n : ℕ) (c : Commits) (to : Posted) (turn : Turn V)
       → Moves may was (CommitterFits w (record call { stage = g }) c to) gives hear from to turn
       → Moves may was (CommitterFits w (record call { stage = g; width = n }) c to) gives hear from to turn
   widened w call g n c to turn m = record {
@@ -410,7 +412,7 @@ module _ {P Q K A B D : Type 0} where
   }
 
   -- a plan goes on, and then the whole
-  pub then_goes_on : {E : Type 0} (w : Ways P Q K A B D) (call old new : CommitterCall P Q K) (g : Stage P Q K) (c d d' : Commits) (refuses : CommitterCall P Q K → List Event → Error → Type 0) (answered : CommitterCall P Q K → List Event → Type 0)
+  pub then_goes_on : {E : Type 0} (w : Ways P) (call old new : CommitterCall P) (g : Stage P) (c d d' : Commits) (refuses : CommitterCall P → List Event → Error → Type 0) (answered : CommitterCall P → List Event → Type 0)
       (known : List Event → Type 0) (hear : List Event → List Event) (from via to : Posted) (heard : Turn (Result E Error)) (turn : Turn (Result CommitterAnswer Error))
       → old ≡ record call { stage = g; width = old.width }
       → Moves (MaySend (plan_of call.parts) (version_of call.start)) (λ h. CommitterFits w call c from h × known h) (CommitterFits w (record call { stage = g }) d via) (Says (refuses (record call { stage = g; width = old.width })) (answered (record call { stage = g; width = old.width }))) hear from via heard
@@ -420,7 +422,7 @@ module _ {P Q K A B D : Type 0} where
       Moves-then (widened w call g old.width d via heard m) (subst (λ x. CommitterGoesOn w (refuses x) (answered x) x new d d' via to heard turn) e n)
 
   -- it is over, and hears nothing
-  pub over_on : (w : Ways P Q K A B D) (call : CommitterCall P Q K) (c : Commits) (told : Told) (o : Posted)
+  pub over_on : (w : Ways P) (call : CommitterCall P) (c : Commits) (told : Told) (o : Posted)
       → call.stage ≡ stage.Over
       → ((h : List Event) → Hears h (told.hear h))
       → CommitterMoves w told.known told.hear call call c c o o Waits
@@ -432,19 +434,19 @@ module _ {P Q K A B D : Type 0} where
   }) tt
 
   -- after its call for a timestamp it waits, or ends, or commits
-  pub time_waits : (w : Ways P Q K A B D) (call : CommitterCall P Q K) (c : Commits) (o : Posted) (says : List Event → Result Timestamp Error → Type 0) (heard : Turn (Result Timestamp Error))
+  pub time_waits : (w : Ways P) (call : CommitterCall P) (c : Commits) (o : Posted) (says : List Event → Result Timestamp Error → Type 0) (heard : Turn (Result Timestamp Error))
       → heard ≡ Waits
       → Moves (MaySend (plan_of call.parts) (version_of call.start)) (Knows heard (CommitterFits w call c o) says) (CommitterFits w call c o) (CommitterGives w call.retry_options (version_of call.start) call.parts) (λ h. h) o o Waits
   time_waits w call c o says heard e = rw e (Moves-quiet refl (λ h f. f.0) tt)
 
-  pub time_ends : (w : Ways P Q K A B D) (call new : CommitterCall P Q K) (c : Commits) (o : Posted) (says : List Event → Result Timestamp Error → Type 0)
+  pub time_ends : (w : Ways P) (call new : CommitterCall P) (c : Commits) (o : Posted) (says : List Event → Result Timestamp Error → Type 0)
       (heard : Turn (Result Timestamp Error)) (x : Result Timestamp Error) (v : Result CommitterAnswer Error) (turn : Turn (Result CommitterAnswer Error))
       → heard ≡ Ends x → new ≡ record call { stage = stage.Over; width = new.width } → turn ≡ Ends v
       → ((h : List Event) → CommitterFits w call c o h → says h x → CommitterGives w call.retry_options (version_of call.start) call.parts h v)
       → Moves (MaySend (plan_of call.parts) (version_of call.start)) (Knows heard (CommitterFits w call c o) says) (CommitterFits w new c o) (CommitterGives w call.retry_options (version_of call.start) call.parts) (λ h. h) o o turn
   time_ends w call new c o says heard x v turn e n t g = rw (e, n, t) (Moves-quiet refl (λ h f. at_over w call new.width c o h f.0) (λ h f. g h f.0 f.1))
 
-  pub time_next : (w : Ways P Q K A B D) (call new : CommitterCall P Q K) (c d : Commits) (from to : Posted) (says : List Event → Result Timestamp Error → Type 0)
+  pub time_next : (w : Ways P) (call new : CommitterCall P) (c d : Commits) (from to : Posted) (says : List Event → Result Timestamp Error → Type 0)
       (heard : Turn (Result Timestamp Error)) (x : Result Timestamp Error) (turn : Turn (Result CommitterAnswer Error)) (known : List Event → Type 0)
       → heard ≡ Ends x
       → ((h : List Event) → CommitterFits w call c from h → says h x → known h)
@@ -453,12 +455,12 @@ module _ {P Q K A B D : Type 0} where
   time_next w call new c d from to says heard x turn known e k m = rw e (Moves-before (λ h f. (f.0, k h f.0 f.1)) m)
 
   -- a Commit of the primary goes on, and what it sent is known
-  pub commits_on : (w : Ways P Q K A B D) (call : CommitterCall P Q K) (q q' : Q) (t : Timestamp) (c d d' : Commits) (told : Told) (o o' : Posted) (turn : Turn (Result B Error))
+  pub commits_on : (w : Ways P) (call : CommitterCall P) (q q' : P) (t : Timestamp) (c d d' : Commits) (told : Told) (o o' : Posted) (turn : Turn (Result Fetched Error))
       → call.stage ≡ stage.Committing q t
       → ((h : List Event) → Hears h (told.hear h))
       → ((h : List Event) → told.known h → KnowsCommits (plan_of call.parts) (version_of call.start) c h → KnowsCommits (plan_of call.parts) (version_of call.start) d (told.hear h))
       → d.timestamp ≡ c.timestamp
-      → SendsCommits w.committing told t d d' q q' o o' turn
+      → SendsCommits w.plan told t d d' q q' o o' turn
       → Moves (MaySend (plan_of call.parts) (version_of call.start)) (λ h. CommitterFits w call c o h × told.known h) (CommitterFits w (record call { stage = stage.Committing q' t }) d' o')
       (Says (w.uncommitted call.retry_options) (AreCommitted (version_of call.start) (version_of t) (call.parts.primary ∷ []))) told.hear o o' turn
   commits_on w call q q' t c d d' told o o' turn e hears heard_so time x =

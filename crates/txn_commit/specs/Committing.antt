@@ -19,6 +19,7 @@ use Rattle.txn_merge.specs.declared.retry_options.RetryOptions.{RetryOptions}
 use Rattle.txn_commit.specs.Following.{Commits, KnowsCommits, sent, undetermined}
 use Rattle.txn_commit.specs.Plans.{AreCommitted, ArePrewritten, AreRolledBack, IsOfCommit, IsOfPrewrite, IsOfRollback, IsUnderWay, Says}
 use Rattle.txn_commit.specs.Sending.{MaySend, plan_of}
+use Rattle.txn_commit.specs.Ways.{Ways}
 use Rattle.txn_commit.specs.declared.commit_parts.CommitParts.{CommitParts}
 use Rattle.txn_commit.specs.Timing.{HasAsked, WasUntimed, time_asked}
 use Rattle.txn_commit.specs.declared.committer.CommitterAnswer.{CommitterAnswer}
@@ -27,20 +28,6 @@ use Rattle.txn_commit.specs.declared.committer.CommitterCall.{CommitterCall}
 use Rattle.txn_commit.specs.declared.committer.Stage.{Stage}
 use Rattle.txn_commit.specs.declared.committer.Stage.TheVariants as stage
 use Rattle.txn_commit.specs.declared.timestamp_call.TimestampCall.{TimestampCall}
-
--- The ways in which its requests go: plans of Prewrites, of Commits and of BatchRollbacks, and what the errors of those rest on
--- that were made with these options.
-pub record Ways (P Q K A B D : Type 0) : Type 1 where
-  pub prewriting : Meaning P (Result A Error)
-  pub committing : Meaning Q (Result B Error)
-  pub rolling : Meaning K (Result D Error)
-  pub unwritten : RetryOptions → List Event → Error → Type 0
-  pub uncommitted : RetryOptions → List Event → Error → Type 0
-  pub unrolled : RetryOptions → List Event → Error → Type 0
-
-abbrev pub ways : {P Q K A B D : Type 0} → Meaning P (Result A Error) → Meaning Q (Result B Error) → Meaning K (Result D Error)
-    → (RetryOptions → List Event → Error → Type 0) → (RetryOptions → List Event → Error → Type 0) → (RetryOptions → List Event → Error → Type 0) → Ways P Q K A B D
-ways p q k e f g = record { prewriting = p; committing = q; rolling = k; unwritten = e; uncommitted = f; unrolled = g }
 
 -- each key has one mutation, and the primary is none of the others
 pub record IsFormed (parts : CommitParts) : Type 0 where
@@ -95,30 +82,30 @@ pub record IsAsking (s : ℕ) (parts : CommitParts) (t : TimestampCall) (c : Com
   pub asked : (n : ℕ) → HasAsked t n → WantedAfter (plan_of parts) h s (ticket_of o n)
 
 -- it commits the primary, at the one timestamp
-pub record IsCommitting {Q B : Type 0} (m : Meaning Q (Result B Error)) (refuses : List Event → Error → Type 0) (s : ℕ) (parts : CommitParts) (q : Q) (t : Timestamp) (c : Commits) (o : Posted) (h : List Event) : Type 0 where
+pub record IsCommitting {P B : Type 0} (m : Meaning P (Result B Error)) (refuses : List Event → Error → Type 0) (s : ℕ) (parts : CommitParts) (q : P) (t : Timestamp) (c : Commits) (o : Posted) (h : List Event) : Type 0 where
   pub now : m.fits q o h
   pub way : IsUnderWay m refuses (IsOfCommit s (version_of t) (parts.primary ∷ [])) (AreCommitted s (version_of t) (parts.primary ∷ [])) q
   pub ready : IsReady (plan_of parts) s (version_of t) h
   pub same : (u : Timestamp) → c.timestamp ≡ Some u → version_of u ≡ version_of t
 
 -- it rolls some keys back, the primary first, when each Commit of it was answered
-pub record IsRollingBack {K D : Type 0} (m : Meaning K (Result D Error)) (refuses : List Event → Error → Type 0) (s : ℕ) (parts : CommitParts) (keys : List Key) (k : K) (c : Commits) (o : Posted) (h : List Event) : Type 0 where
+pub record IsRollingBack {P D : Type 0} (m : Meaning P (Result D Error)) (refuses : List Event → Error → Type 0) (s : ℕ) (parts : CommitParts) (keys : List Key) (k : P) (c : Commits) (o : Posted) (h : List Event) : Type 0 where
   pub now : m.fits k o h
   pub way : IsUnderWay m refuses (IsOfRollback s keys) (AreRolledBack s keys) k
   pub settled : undetermined c ≡ None
   pub primary_first : (x : Key) → has_key keys x ≡ true → (x ≡ parts.primary) ⊎ PrimaryRolledBack (plan_of parts) h s
 
-abbrev pub IsAt : {P Q K A B D : Type 0} → Ways P Q K A B D → RetryOptions → ℕ → CommitParts → Stage P Q K → Commits → Posted → List Event → Type 0
-IsAt w options s parts (stage.Prewriting p) c o h = IsPrewriting w.prewriting (w.unwritten options) s parts p c o h
+abbrev pub IsAt : {P : Type 0} → Ways P → RetryOptions → ℕ → CommitParts → Stage P → Commits → Posted → List Event → Type 0
+IsAt w options s parts (stage.Prewriting p) c o h = IsPrewriting w.plan (w.unwritten options) s parts p c o h
 IsAt w options s parts (stage.Asking t) c o h = IsAsking s parts t c o h
-IsAt w options s parts (stage.Committing q t) c o h = IsCommitting w.committing (w.uncommitted options) s parts q t c o h
-IsAt w options s parts (stage.RollingBackPrimary k) c o h = IsRollingBack w.rolling (w.unrolled options) s parts (parts.primary ∷ []) k c o h
-IsAt w options s parts (stage.RollingBackOthers k) c o h = IsRollingBack w.rolling (w.unrolled options) s parts parts.secondaries k c o h × PrimaryRolledBack (plan_of parts) h s
+IsAt w options s parts (stage.Committing q t) c o h = IsCommitting w.plan (w.uncommitted options) s parts q t c o h
+IsAt w options s parts (stage.RollingBackPrimary k) c o h = IsRollingBack w.plan (w.unrolled options) s parts (parts.primary ∷ []) k c o h
+IsAt w options s parts (stage.RollingBackOthers k) c o h = IsRollingBack w.plan (w.unrolled options) s parts parts.secondaries k c o h × PrimaryRolledBack (plan_of parts) h s
 IsAt w options s parts stage.Over c o h = ⊤
 IsAt w options s parts stage.Stopped c o h = ⊤
 
 -- The call can have arisen from the history, where so much is known of the Commits of the primary.
-pub record CommitterFits {P Q K A B D : Type 0} (w : Ways P Q K A B D) (call : CommitterCall P Q K) (c : Commits) (o : Posted) (h : List Event) : Type 0 where
+pub record CommitterFits {P : Type 0} (w : Ways P) (call : CommitterCall P) (c : Commits) (o : Posted) (h : List Event) : Type 0 where
   pub start : HasVersion call.start
   pub formed : IsFormed call.parts
   pub knows : KnowsCommits (plan_of call.parts) (version_of call.start) c h
@@ -126,21 +113,21 @@ pub record CommitterFits {P Q K A B D : Type 0} (w : Ways P Q K A B D) (call : C
 
 -- What the answer stands on: the primary's Commit was answered without error; or all was prewritten and nothing is locked; or
 -- each key was rolled back. An error is one of a plan that was made with these options, or there was no timestamp.
-abbrev pub CommitterGives : {P Q K A B D : Type 0} → Ways P Q K A B D → RetryOptions → ℕ → CommitParts → List Event → Result CommitterAnswer Error → Type 0
+abbrev pub CommitterGives : {P : Type 0} → Ways P → RetryOptions → ℕ → CommitParts → List Event → Result CommitterAnswer Error → Type 0
 CommitterGives w options s parts h (Ok (Committed t)) = PrimaryCommitted (plan_of parts) h s (version_of t)
 CommitterGives w options s parts h (Ok Checked) = (parts.locks ≡ false) × IsAllPrewritten s parts h
 CommitterGives w options s parts h (Ok RolledBack) = AreRolledBack s (parts.primary ∷ []) h × AreRolledBack s parts.secondaries h
 CommitterGives w options s parts h (Err e) = (w.unwritten options h e ⊎ w.uncommitted options h e) ⊎ (w.unrolled options h e ⊎ WasUntimed h e)
 
 -- an event call of it, in a history of which more is known
-abbrev pub CommitterMoves : {P Q K A B D : Type 0} → Ways P Q K A B D → (List Event → Type 0) → (List Event → List Event)
-    → CommitterCall P Q K → CommitterCall P Q K → Commits → Commits → Posted → Posted → Turn (Result CommitterAnswer Error) → Type 0
+abbrev pub CommitterMoves : {P : Type 0} → Ways P → (List Event → Type 0) → (List Event → List Event)
+    → CommitterCall P → CommitterCall P → Commits → Commits → Posted → Posted → Turn (Result CommitterAnswer Error) → Type 0
 CommitterMoves w known hear old new c d from to turn =
     Moves (MaySend (plan_of old.parts) (version_of old.start)) (λ h. CommitterFits w old c from h × known h) (CommitterFits w new d to) (CommitterGives w old.retry_options (version_of old.start) old.parts) hear from to turn
 
 -- it goes on after one of its plans did, with what that one's answer says, if it has one
-abbrev pub CommitterGoesOn : {P Q K A B D E : Type 0} → Ways P Q K A B D → (List Event → Error → Type 0) → (List Event → Type 0)
-    → CommitterCall P Q K → CommitterCall P Q K → Commits → Commits → Posted → Posted → Turn (Result E Error) → Turn (Result CommitterAnswer Error) → Type 0
+abbrev pub CommitterGoesOn : {P E : Type 0} → Ways P → (List Event → Error → Type 0) → (List Event → Type 0)
+    → CommitterCall P → CommitterCall P → Commits → Commits → Posted → Posted → Turn (Result E Error) → Turn (Result CommitterAnswer Error) → Type 0
 CommitterGoesOn w refuses says old new c d from to heard turn =
     Moves (MaySend (plan_of old.parts) (version_of old.start)) (Knows heard (CommitterFits w old c from) (Says refuses says)) (CommitterFits w new d to) (CommitterGives w old.retry_options (version_of old.start) old.parts) (λ h. h) from to turn
 
@@ -179,12 +166,12 @@ pub record SendsCommits {S A : Type 0} (m : Meaning S A) (told : Told) (t : Time
 
 -- The plan of a stage may be told of something, and a timestamp is in range. Where it commits the plan has not given up: with
 -- such a one the call gives up.
-abbrev pub StageReady : {P Q K A B D : Type 0} → Ways P Q K A B D → Stage P Q K → Type 0
-StageReady w (stage.Prewriting p) = w.prewriting.ready p
+abbrev pub StageReady : {P : Type 0} → Ways P → Stage P → Type 0
+StageReady w (stage.Prewriting p) = w.plan.ready p
 StageReady w (stage.Asking t) = time_asked.ready t
-StageReady w (stage.Committing q t) = w.committing.ready q × HasVersion t × (w.committing.phase q ≢ GivenUp)
-StageReady w (stage.RollingBackPrimary k) = w.rolling.ready k
-StageReady w (stage.RollingBackOthers k) = w.rolling.ready k
+StageReady w (stage.Committing q t) = w.plan.ready q × HasVersion t × (w.plan.phase q ≢ GivenUp)
+StageReady w (stage.RollingBackPrimary k) = w.plan.ready k
+StageReady w (stage.RollingBackOthers k) = w.plan.ready k
 StageReady w stage.Over = ⊤
 StageReady w stage.Stopped = ⊤
 

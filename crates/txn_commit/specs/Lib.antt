@@ -7,3 +7,4 @@ pub mod Parts
 pub mod Plans
 pub mod Sending
 pub mod Timing
+pub mod Ways

@@ -6,7 +6,7 @@ use txn_buffer::Buffer;
 use txn_kv::{Items, Key, Mutation, NoMemory, Op};
 
 /// What a commit or a rollback of a transaction works on, as its buffer has it.
-#[derive(Debug, PartialEq, Eq, Drop)]
+#[derive(Debug, PartialEq, Eq)]
 pub struct CommitParts {
     /// All that is to be prewritten, in the order of keys.
     pub mutations: Items<Mutation>,
@@ -16,6 +16,20 @@ pub struct CommitParts {
     pub secondaries: Items<Key>,
     /// Whether any key is locked; the primary is then.
     pub locks: bool,
+}
+
+impl Drop for CommitParts {
+    fn drop(self) {
+        let CommitParts {
+            mutations,
+            primary,
+            secondaries,
+            locks: _,
+        } = self;
+        drop(mutations);
+        drop(primary);
+        drop(secondaries);
+    }
 }
 
 impl CommitParts {
@@ -36,6 +50,21 @@ impl CommitParts {
                 }))
             }
         }
+    }
+
+    /// The other keys alone.
+    pub fn into_secondaries(self) -> Items<Key>
+        ensures { result ≡ self.secondaries }
+    {
+        let CommitParts {
+            mutations,
+            primary,
+            secondaries,
+            locks: _,
+        } = self;
+        drop(mutations);
+        drop(primary);
+        secondaries
     }
 }
 

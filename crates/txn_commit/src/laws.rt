@@ -19,8 +19,8 @@ ghost use Rattle.txn_kv.specs.declared.request.locks.PessimisticLockRequest.{Pes
 ghost use Rattle.txn_kv.specs.declared.request.cluster.UnsafeDestroyRangeRequest.{UnsafeDestroyRangeRequest};
 ghost use Rattle.txn_kv.specs.declared.ticket.Ticket.{Ticket};
 ghost use Rattle.txn_kv.specs.declared.timestamp.Timestamp.{Timestamp};
-ghost use Rattle.txn_commit.specs.Committing.{CommitterFits, ways};
-ghost use Rattle.txn_commit.specs.Counting.{Costs, IsOneEach, commit_costs, rollback_costs};
+ghost use Rattle.txn_commit.specs.Committing.{CommitterFits};
+ghost use Rattle.txn_commit.specs.Counting.{commit_costs, rollback_costs};
 ghost use Rattle.txn_commit.specs.Following.{Commits, CommitsPrimary, IsFollowed, KnowsCommits, MarksLost, WasRefused, answered, awaits, heard, lost, none_sent, undetermined};
 ghost use Rattle.txn_commit.specs.Going.{stage_phase, stage_waits};
 ghost use Rattle.txn_commit.specs.Parts.{parts_of};
@@ -28,11 +28,11 @@ ghost use Rattle.txn_commit.specs.Sending.{MaySend, plan_of};
 ghost use Rattle.txn_commit.specs.declared.commit_parts.CommitParts.{CommitParts};
 ghost use Rattle.txn_commit.specs.declared.committer.CommitterCall.{CommitterCall};
 ghost use Rattle.txn_commit.specs.declared.committer.Stage.{Stage};
+ghost use Rattle.txn_commit.specs.Ways.{Costs, IsOneEach};
 ghost use Rattle.txn_history.specs.Arrivals.{told_by};
 ghost use Rattle.txn_kv.specs.declared.arrival.Arrival.{Arrival};
 
-use crate::plan_for::PlanFor;
-use txn_kv::{BatchRollbackRequest, CommitRequest, PrewriteRequest};
+use crate::plans::Plans;
 
 /// What is known of the Commits of a primary is known of them once a reply was taken, or a request was lost.
 pub fn commits_are_followed()
@@ -75,16 +75,14 @@ pub fn costs_are_bounded()
 {}
 
 /// A commit or a rollback waits for something exactly while it runs, and what it waits for was posted.
-pub fn calls_wait_for_what_was_posted<P, Q, K>()
+pub fn calls_wait_for_what_was_posted<P>()
 where
-    P: PlanFor<PrewriteRequest>,
-    Q: PlanFor<CommitRequest>,
-    K: PlanFor<BatchRollbackRequest>,
-    ensures runs { (g : Stage P Q K) (a : Awaited) → stage_waits (ways P.meaning Q.meaning K.meaning P.refuses Q.refuses K.refuses) g a → stage_phase (ways P.meaning Q.meaning K.meaning P.refuses Q.refuses K.refuses) g ≡ Running }
-    ensures waits { (call : CommitterCall P Q K) (c : Commits) (o : Posted) (h : List Event) → CommitterFits (ways P.meaning Q.meaning K.meaning P.refuses Q.refuses K.refuses) call c o h
-        → stage_phase (ways P.meaning Q.meaning K.meaning P.refuses Q.refuses K.refuses) call.stage ≡ Running → (a : Awaited) × stage_waits (ways P.meaning Q.meaning K.meaning P.refuses Q.refuses K.refuses) call.stage a }
-    ensures posted { (call : CommitterCall P Q K) (c : Commits) (o : Posted) (h : List Event) (a : Awaited) → CommitterFits (ways P.meaning Q.meaning K.meaning P.refuses Q.refuses K.refuses) call c o h
-        → stage_waits (ways P.meaning Q.meaning K.meaning P.refuses Q.refuses K.refuses) call.stage a → WasPosted o h a }
+    P: Plans,
+    ensures runs { (g : Stage P) (a : Awaited) → stage_waits P.ways g a → stage_phase P.ways g ≡ Running }
+    ensures waits { (call : CommitterCall P) (c : Commits) (o : Posted) (h : List Event) → CommitterFits P.ways call c o h
+        → stage_phase P.ways call.stage ≡ Running → (a : Awaited) × stage_waits P.ways call.stage a }
+    ensures posted { (call : CommitterCall P) (c : Commits) (o : Posted) (h : List Event) (a : Awaited) → CommitterFits P.ways call c o h
+        → stage_waits P.ways call.stage a → WasPosted o h a }
 {}
 
 /// What none of the Commits that are out waits for changes nothing of what is known of them.

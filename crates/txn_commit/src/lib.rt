@@ -3,8 +3,9 @@
 
 pub mod commit_parts;
 pub mod committer;
+pub mod fetched;
 pub mod laws;
-pub mod plan_for;
+pub mod plans;
 pub mod primary_commits;
 pub mod secondary_job;
 pub mod send;
@@ -12,7 +13,8 @@ pub mod timestamp_call;
 
 pub use commit_parts::CommitParts;
 pub use committer::{CommitterAnswer, CommitterCall};
-pub use plan_for::PlanFor;
+pub use fetched::Fetched;
+pub use plans::Plans;
 pub use primary_commits::PrimaryCommits;
 pub use secondary_job::SecondaryJob;
 pub use timestamp_call::TimestampCall;

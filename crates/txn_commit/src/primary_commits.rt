@@ -8,13 +8,26 @@ use std::marker::Model;
 use txn_kv::{Arrival, Errand, NoMemory, Outbox, Reply, Request, Ticket, Timestamp, TimestampExt};
 
 /// The Commits of a transaction's primary: the timestamp that all of them name, once one was sent, and what became of them.
-#[derive(Debug, Drop)]
+#[derive(Debug)]
 pub struct PrimaryCommits {
     timestamp: Option<Timestamp>,
     /// Those that are neither refused nor lost.
     out: Vec<Ticket>,
     /// The first that was lost.
     lost: Option<Ticket>,
+}
+
+impl Drop for PrimaryCommits {
+    fn drop(self) {
+        let PrimaryCommits {
+            timestamp,
+            out,
+            lost,
+        } = self;
+        drop(timestamp);
+        drop(out);
+        drop(lost);
+    }
 }
 
 impl Model for PrimaryCommits {

@@ -11,10 +11,10 @@ ghost use Rattle.txn_commit.specs.Jobs.{IsPlanned, JobReady, ReadsDone, job_phas
 ghost use Rattle.txn_commit.specs.declared.secondary_job.Stage.TheVariants as stages;
 ghost use Rattle.txn_history.specs.Arrivals.{MayArrive, awaited_as, locked_told, tells_error, tells_failure, told_by, weight_told};
 
-use crate::plan_for::PlanFor;
+use crate::plans::Plans;
 use std::alloc::Global;
 use std::mem;
-use txn_kv::{Arrival, CommitRequest, Items, Key, NoMemory, Outbox, Progress, Timestamp};
+use txn_kv::{Arrival, Items, Key, NoMemory, Outbox, Progress, Timestamp};
 use txn_merge::RetryOptions;
 use txn_region::PdClient;
 use txn_request::lowering::new_commit_request;
@@ -22,27 +22,51 @@ use txn_request::lowering::new_commit_request;
 type Turn = Result<Progress<()>, NoMemory>;
 
 /// How far the job has come.
-#[derive(Drop)]
-enum Stage<Q> {
+enum Stage<P> {
     Fresh,
     /// It stands where the plan of its Commits does.
-    Committing(Q),
+    Committing(P),
     /// It gave up for want of memory, before there was a plan.
     Stopped,
 }
 
+impl<P: Drop> Drop for Stage<P> {
+    fn drop(self) {
+        match self {
+            Stage::Fresh => {}
+            Stage::Committing(inner) => drop(inner),
+            Stage::Stopped => {}
+        }
+    }
+}
+
 /// Commits the other keys of a transaction whose primary is committed. The transaction does not wait for it.
-#[derive(Drop)]
-pub struct SecondaryJob<Q> {
+pub struct SecondaryJob<P> {
     start: Timestamp,
     commit: Timestamp,
     keys: Items<Key>,
     retry_options: RetryOptions,
-    stage: Stage<Q>,
+    stage: Stage<P>,
     alloc: Global,
 }
 
-impl<Q: PlanFor<CommitRequest>> SecondaryJob<Q> {
+impl<P: Drop> Drop for SecondaryJob<P> {
+    fn drop(self) {
+        let SecondaryJob {
+            start: _,
+            commit: _,
+            keys,
+            retry_options,
+            stage,
+            alloc: _,
+        } = self;
+        drop(keys);
+        drop(retry_options);
+        drop(stage);
+    }
+}
+
+impl<P: Plans> SecondaryJob<P> {
     /// A job that is not started.
     pub fn new(
         alloc: Global,
@@ -50,7 +74,7 @@ impl<Q: PlanFor<CommitRequest>> SecondaryJob<Q> {
         commit: Timestamp,
         keys: Items<Key>,
         retry_options: RetryOptions,
-    ) -> SecondaryJob<Q>
+    ) -> SecondaryJob<P>
         ensures start { result.start ≡ start }
         ensures commit { result.commit ≡ commit }
         ensures keys { result.keys ≡ keys }
@@ -68,13 +92,13 @@ impl<Q: PlanFor<CommitRequest>> SecondaryJob<Q> {
     }
 
     pub fn start<C: PdClient>(&mut self, pd: &mut C, now: u64, out: &mut Outbox) -> Turn
-        requires ready { JobReady Q.meaning self.old }
+        requires ready { JobReady P.ways.plan self.old }
         requires numbers { HasNumbers out.old }
         requires clock { now < 2 ^ 44 }
-        ensures tells { (plan : Writing) (keys : List Name) → Tells (others Q.meaning Q.refuses Q.costs plan keys) started self.old self.new out.old out.new (turn_of result) }
-        ensures goes { Goes (λ (s : SecondaryJob Q). job_phase Q.meaning s.stage) (job_phase Q.meaning self.old.stage ≡ Unbegun) self.old self.new out.old out.new pd.old pd.new (turn_of result) }
-        ensures counts { (plan : Writing) (keys : List Name) → Counts (others Q.meaning Q.refuses Q.costs plan keys) false false 0 0 self.old self.new out.old out.new (turn_of result) }
-        ensures ready { JobReady Q.meaning self.new }
+        ensures tells { (plan : Writing) (keys : List Name) → Tells (others P.ways.plan P.ways.uncommitted P.ways.costs.commits plan keys) started self.old self.new out.old out.new (turn_of result) }
+        ensures goes { Goes (λ (s : SecondaryJob P). job_phase P.ways.plan s.stage) (job_phase P.ways.plan self.old.stage ≡ Unbegun) self.old self.new out.old out.new pd.old pd.new (turn_of result) }
+        ensures counts { (plan : Writing) (keys : List Name) → Counts (others P.ways.plan P.ways.uncommitted P.ways.costs.commits plan keys) false false 0 0 self.old self.new out.old out.new (turn_of result) }
+        ensures ready { JobReady P.ways.plan self.new }
         ensures numbers { HasNumbers out.new }
     {
         if !self.is_fresh() {
@@ -85,13 +109,13 @@ impl<Q: PlanFor<CommitRequest>> SecondaryJob<Q> {
 
     fn start_fresh<C: PdClient>(&mut self, pd: &mut C, now: u64, out: &mut Outbox) -> Turn
         requires fresh { self.old.stage ≡ stages.Fresh }
-        requires ready { JobReady Q.meaning self.old }
+        requires ready { JobReady P.ways.plan self.old }
         requires numbers { HasNumbers out.old }
         requires clock { now < 2 ^ 44 }
-        ensures tells { (plan : Writing) (keys : List Name) → Tells (others Q.meaning Q.refuses Q.costs plan keys) started self.old self.new out.old out.new (turn_of result) }
-        ensures goes { Goes (λ (s : SecondaryJob Q). job_phase Q.meaning s.stage) (job_phase Q.meaning self.old.stage ≡ Unbegun) self.old self.new out.old out.new pd.old pd.new (turn_of result) }
-        ensures counts { (plan : Writing) (keys : List Name) → Counts (others Q.meaning Q.refuses Q.costs plan keys) false false 0 0 self.old self.new out.old out.new (turn_of result) }
-        ensures ready { JobReady Q.meaning self.new }
+        ensures tells { (plan : Writing) (keys : List Name) → Tells (others P.ways.plan P.ways.uncommitted P.ways.costs.commits plan keys) started self.old self.new out.old out.new (turn_of result) }
+        ensures goes { Goes (λ (s : SecondaryJob P). job_phase P.ways.plan s.stage) (job_phase P.ways.plan self.old.stage ≡ Unbegun) self.old self.new out.old out.new pd.old pd.new (turn_of result) }
+        ensures counts { (plan : Writing) (keys : List Name) → Counts (others P.ways.plan P.ways.uncommitted P.ways.costs.commits plan keys) false false 0 0 self.old self.new out.old out.new (turn_of result) }
+        ensures ready { JobReady P.ways.plan self.new }
         ensures numbers { HasNumbers out.new }
     {
         self.make_plan(pd)?;
@@ -106,14 +130,14 @@ impl<Q: PlanFor<CommitRequest>> SecondaryJob<Q> {
         now: u64,
         out: &mut Outbox,
     ) -> Turn
-        requires ready { JobReady Q.meaning self.old }
+        requires ready { JobReady P.ways.plan self.old }
         requires arrives { MayArrive arrival }
         requires numbers { HasNumbers out.old }
         requires clock { now < 2 ^ 44 }
-        ensures tells { (plan : Writing) (keys : List Name) (r : Asked) → Tells (others Q.meaning Q.refuses Q.costs plan keys) (told_by arrival out.old r) self.old self.new out.old out.new (turn_of result) }
-        ensures goes { Goes (λ (s : SecondaryJob Q). job_phase Q.meaning s.stage) (job_waits Q.meaning self.old.stage (awaited_as arrival)) self.old self.new out.old out.new pd.old pd.new (turn_of result) }
-        ensures counts { (plan : Writing) (keys : List Name) → Counts (others Q.meaning Q.refuses Q.costs plan keys) (tells_error arrival) (tells_failure arrival) (weight_told arrival) (locked_told arrival) self.old self.new out.old out.new (turn_of result) }
-        ensures ready { JobReady Q.meaning self.new }
+        ensures tells { (plan : Writing) (keys : List Name) (r : Asked) → Tells (others P.ways.plan P.ways.uncommitted P.ways.costs.commits plan keys) (told_by arrival out.old r) self.old self.new out.old out.new (turn_of result) }
+        ensures goes { Goes (λ (s : SecondaryJob P). job_phase P.ways.plan s.stage) (job_waits P.ways.plan self.old.stage (awaited_as arrival)) self.old self.new out.old out.new pd.old pd.new (turn_of result) }
+        ensures counts { (plan : Writing) (keys : List Name) → Counts (others P.ways.plan P.ways.uncommitted P.ways.costs.commits plan keys) (tells_error arrival) (tells_failure arrival) (weight_told arrival) (locked_told arrival) self.old self.new out.old out.new (turn_of result) }
+        ensures ready { JobReady P.ways.plan self.new }
         ensures numbers { HasNumbers out.new }
     {
         match &mut self.stage {
@@ -134,14 +158,14 @@ impl<Q: PlanFor<CommitRequest>> SecondaryJob<Q> {
 
     /// Makes the plan of its Commits.
     fn make_plan<C: PdClient>(&mut self, pd: &C) -> Result<(), NoMemory>
-        requires ready { JobReady Q.meaning self.old }
-        ensures ok { OnOk result (IsPlanned Q.meaning Q.refuses Q.costs self.old self.new) }
+        requires ready { JobReady P.ways.plan self.old }
+        ensures ok { OnOk result (IsPlanned P.ways.plan P.ways.uncommitted P.ways.costs.commits self.old self.new) }
         ensures err { OnErr result (self.new ≡ record self.old { keys = self.new.keys; stage = stages.Stopped }) }
     {
         self.stage = Stage::Stopped;
         let keys = mem::replace(&mut self.keys, Items::new(self.alloc));
         let request = new_commit_request(keys, self.start, self.commit);
-        let plan = Q::plan_for(self.alloc, pd, request, self.retry_options.clone()?)?;
+        let plan = P::commit(self.alloc, pd, request, self.retry_options.clone()?)?;
         self.stage = Stage::Committing(plan);
         Ok(())
     }
@@ -149,13 +173,13 @@ impl<Q: PlanFor<CommitRequest>> SecondaryJob<Q> {
     /// Starts the plan.
     fn begin<C: PdClient>(&mut self, pd: &mut C, now: u64, out: &mut Outbox) -> Turn
         requires made { self.old.stage ≡ stages.Fresh → ⊥ }
-        requires ready { JobReady Q.meaning self.old }
+        requires ready { JobReady P.ways.plan self.old }
         requires numbers { HasNumbers out.old }
         requires clock { now < 2 ^ 44 }
-        ensures tells { (plan : Writing) (keys : List Name) → Tells (others Q.meaning Q.refuses Q.costs plan keys) started self.old self.new out.old out.new (turn_of result) }
-        ensures goes { Goes (λ (s : SecondaryJob Q). job_phase Q.meaning s.stage) (job_phase Q.meaning self.old.stage ≡ Unbegun) self.old self.new out.old out.new pd.old pd.new (turn_of result) }
-        ensures counts { (plan : Writing) (keys : List Name) → Counts (others Q.meaning Q.refuses Q.costs plan keys) false false 0 0 self.old self.new out.old out.new (turn_of result) }
-        ensures ready { JobReady Q.meaning self.new }
+        ensures tells { (plan : Writing) (keys : List Name) → Tells (others P.ways.plan P.ways.uncommitted P.ways.costs.commits plan keys) started self.old self.new out.old out.new (turn_of result) }
+        ensures goes { Goes (λ (s : SecondaryJob P). job_phase P.ways.plan s.stage) (job_phase P.ways.plan self.old.stage ≡ Unbegun) self.old self.new out.old out.new pd.old pd.new (turn_of result) }
+        ensures counts { (plan : Writing) (keys : List Name) → Counts (others P.ways.plan P.ways.uncommitted P.ways.costs.commits plan keys) false false 0 0 self.old self.new out.old out.new (turn_of result) }
+        ensures ready { JobReady P.ways.plan self.new }
         ensures numbers { HasNumbers out.new }
     {
         match &mut self.stage {

@@ -17,7 +17,7 @@ pub fn parts_can_move() {
 }
 
 /// A commit, and the job behind it, do where their plans do.
-pub fn commits_can_move<P: Send, Q: Send, K: Send>() {
-    can_move::<CommitterCall<P, Q, K>>();
-    can_move::<SecondaryJob<Q>>();
+pub fn commits_can_move<P: Send>() {
+    can_move::<CommitterCall<P>>();
+    can_move::<SecondaryJob<P>>();
 }

@@ -15,9 +15,15 @@ use txn_tso::PdCall;
 
 /// Asks the oracle of the client for a timestamp, as often as any query to the placement driver is tried. One that gave up for
 /// want of memory is not to be told of anything more.
-#[derive(Drop)]
 pub struct TimestampCall {
     call: PdCall,
+}
+
+impl Drop for TimestampCall {
+    fn drop(self) {
+        let TimestampCall { call } = self;
+        drop(call);
+    }
 }
 
 impl TimestampCall {

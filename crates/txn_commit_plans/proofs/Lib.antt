@@ -1,5 +1,6 @@
 pub mod Answering
+pub mod Beating
+pub mod Making
 pub mod Pieces
 pub mod Placing
 pub mod Planning
-pub mod Beating

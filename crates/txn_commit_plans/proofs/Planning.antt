@@ -1,9 +1,8 @@
 -- The plans of a Prewrite, a Commit and a BatchRollback are plans of them.
 use Rattle.std.proofs.Common.{◌≡◌, inl, inr, ℕ, ◌*◌, ◌≤◌, false, List, [], ◌∷◌, Option, length, map, refl, sym, ap, subst, ◌∙◌, arith}
-use Rattle.std.proofs.Math.Nat.{min-le_right}
 use Rattle.std.specs.Global.{Vec}
 use Rattle.std.specs.List.{filter_map}
-use Rattle.std.specs.Prelude.{◌⊎◌, ⊤, max, Result, Ok, Err}
+use Rattle.std.specs.Prelude.{◌⊎◌, ⊤, Result, Ok, Err}
 use Rattle.txn_history.specs.Around.{around-unbegun}
 use Rattle.txn_history.specs.Event.{Event}
 use Rattle.txn_history.specs.Meaning.{IsUnbegun}
@@ -32,7 +31,6 @@ use Rattle.txn_plan.specs.Extracted.{IsAnswer}
 use Rattle.txn_plan.specs.Merged.{IsMerged}
 use Rattle.txn_shard.specs.Parts.{BatchRollbackPart, CommitPart, PrewritePart}
 use Rattle.txn_shard.specs.Shards.{AreJoined, ArePieces}
-use Rattle.txn_commit.specs.Counting.{costs_of, IsOneEach}
 use Rattle.txn_history.specs.Foreign.{IsForeign}
 use Rattle.txn_commit.specs.Plans.{AreCommitted, ArePrewritten, AreRolledBack, IsPartOf, IsPlanFor}
 use Rattle.txn_commit_plans.specs.Failing.{HasGivenWith}
@@ -223,10 +221,3 @@ made_prewrite request context options s m p e f same all tries u r =
     (around-unbegun collected (λ x. x.inner) (λ x. IsAnswer (λ v. first_seen (λ (y : PrewriteResponse). map key y.errors) v.items) (λ v. filter_map (λ (y : PrewriteResponse). y.region_error) v.items)) (λ x. ⊤) (λ b. false) p
     (around-unbegun prewrites (λ x. x.inner) (λ x. IsMerged (λ results result. FirstErrorOr (λ values out. out.items ≡ values) results result)) (λ x. ⊤) (λ b. false) p.inner (subst (IsUnbegun prewrites) (sym g) u)))
     ((subst prewrites.ready (sym g) r, tt), tt))
-
-pub are_one_each : IsOneEach (costs_of by_items by_items by_items)
-are_one_each = record {
-  prewrites = λ keys n. min-le_right (max 1 n) keys;
-  commits = λ keys n. min-le_right (max 1 n) keys;
-  rollbacks = λ keys n. min-le_right (max 1 n) keys;
-}

@@ -5,10 +5,11 @@ use Rattle.txn_buffer.specs.Contents.{Contents}
 use Rattle.txn_causes.specs.Causes.{HasCause, has_cause_more}
 use Rattle.txn_causes.specs.Spent.{IsSpent}
 use Rattle.txn_causes.specs.Heard.{heard_in}
-use Rattle.txn_commit.specs.Committing.{CommitterGives, Ways}
+use Rattle.txn_commit.specs.Committing.{CommitterGives}
 use Rattle.txn_commit.specs.Following.{first_of, or_first, undetermined, Commits, KnowsCommits, MarksLost, PrimaryLost, PrimarySent}
 use Rattle.txn_commit.specs.Timing.{WasUntimed}
 use Rattle.txn_commit.specs.declared.commit_parts.CommitParts.{CommitParts}
+use Rattle.txn_commit.specs.Ways.{Ways}
 use Rattle.txn_core.specs.Going.{FailsWith, IsNothing, TransactionGives}
 use Rattle.txn_history.specs.Among.{IsAmong}
 use Rattle.txn_history.specs.Event.{Event}
@@ -45,7 +46,7 @@ untimed_caused h e w = elim (query_failed h Time w.0 e w.1) [ inl k ↦ inl k | 
 pub untimed_explained : (attempts : ℕ) (h : List Event) (e : Error) → WasUntimed h e → IsExplained attempts h e
 untimed_explained attempts h e w = elim (untimed_caused h e w) [ inl k ↦ inl (has_cause_more (λ x y. y) (λ never. absurd never) (view_of e) k) | inr k ↦ inr k ]
 
-module _ {P Q K A B D : Type 0} (w : Ways P Q K A B D)
+module _ {P : Type 0} (w : Ways P)
     (unwritten : (options : RetryOptions) (h : List Event) (e : Error) → w.unwritten options h e → HasCause (heard_in h) (IsSpentBy options h) (view_of e))
     (uncommitted : (options : RetryOptions) (h : List Event) (e : Error) → w.uncommitted options h e → HasCause (heard_in h) (IsSpentBy options h) (view_of e))
     (unrolled : (options : RetryOptions) (h : List Event) (e : Error) → w.unrolled options h e → HasCause (heard_in h) (IsSpentBy options h) (view_of e)) where
@@ -59,7 +60,7 @@ module _ {P Q K A B D : Type 0} (w : Ways P Q K A B D)
   named_explained options s parts None h e g = committer_explained options s parts h e g
   named_explained options s parts (Some t) h e g = (g.0, g.1, committer_explained options s parts h g.0 g.2)
 
-  never_nothing : (e : Error) → IsNothing {Q = Q} (Err e) → ⊥
+  never_nothing : (e : Error) → IsNothing {P = P} (Err e) → ⊥
   never_nothing e (inl n) = cc
   never_nothing e (inr n) = cc
 

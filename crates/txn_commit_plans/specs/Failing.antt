@@ -4,6 +4,7 @@ use Rattle.std.proofs.Common.{subst}
 use Rattle.txn_causes.specs.Causes.{HasCause}
 use Rattle.txn_causes.specs.Heard.{heard_in}
 use Rattle.txn_causes.specs.Spent.{IsSpent}
+use Rattle.txn_commit.specs.Ways.{Ways}
 use Rattle.txn_history.specs.Event.{Event}
 use Rattle.txn_history.specs.Meaning.{IsLawful, Meaning}
 use Rattle.txn_history.specs.Posted.{Within}
@@ -23,6 +24,12 @@ IsSpentBy options h = IsSpent (heard_in h) (attempts_left options.region_backoff
 -- Each error that a plan of the kind answers has its cause in what was heard. The backoff for its regions has so many attempts.
 abbrev pub FailsForCauses : {S A : Type 0} → Meaning S (Result A Error) → (S → ℕ) → Type 0
 FailsForCauses {S} m attempts = (plan : S) (h : List Event) (e : Error) → m.gives plan h (Err e) → HasCause (heard_in h) (IsSpent (heard_in h) (attempts plan)) (view_of e)
+
+-- so it is of the errors of all plans of a type, whatever options they are made with
+pub record AreCaused {P : Type 0} (w : Ways P) : Type 0 where
+  pub unwritten : (options : RetryOptions) (h : List Event) (e : Error) → w.unwritten options h e → HasCause (heard_in h) (IsSpentBy options h) (view_of e)
+  pub uncommitted : (options : RetryOptions) (h : List Event) (e : Error) → w.uncommitted options h e → HasCause (heard_in h) (IsSpentBy options h) (view_of e)
+  pub unrolled : (options : RetryOptions) (h : List Event) (e : Error) → w.unrolled options h e → HasCause (heard_in h) (IsSpentBy options h) (view_of e)
 
 -- lemmas
 

@@ -2,7 +2,9 @@ pub mod CausesOfCalls
 pub mod CausesOfLookUps
 pub mod CausesOfPlans
 pub mod CausesOfShards
+pub mod Done
 pub mod Failing
 pub mod Kinds
-pub mod OverRegions
 pub mod OneEach
+pub mod OverRegions
+pub mod Transactions

@@ -1,27 +1,23 @@
-ghost use Rattle.std.specs.Prelude.{◌≡◌, Err};
-ghost use Rattle.txn_commit_plans.specs.CausesOfPlans.{rollbacks_caused};
-ghost use Rattle.txn_commit_plans.specs.Failing.{HasGivenWith, given_caused, has_given_longer};
-ghost use Rattle.txn_commit_plans.specs.Kinds.{rollback_plan, rollback_plan-lawful, rollback_retries};
+ghost use Rattle.std.specs.Prelude.{◌≡◌};
+ghost use Rattle.txn_commit_plans.specs.Failing.{HasGivenWith};
+ghost use Rattle.txn_commit_plans.specs.Kinds.{rollback_plan, rollback_retries};
+ghost use Rattle.txn_commit.specs.Plans.{IsPlanFor};
 ghost use Rattle.txn_kv.specs.declared.request.commits.BatchRollbackRequest.{BatchRollbackRequest as Sent};
 ghost use Rattle.txn_kv.specs.declared.request.Request.TheVariants.{BatchRollback};
-ghost use Rattle.txn_commit_plans.specs.OneEach.{few_by_items};
 ghost use Rattle.txn_multi.specs.Few.{by_items};
 ghost use Rattle.txn_request.specs.Defaults.{default_batch_rollback};
 
-use crate::has_causes::Caused;
-use crate::one_each::OneEach;
+use crate::done::Done;
 use crate::over_regions::{OverRegions, plan_over_regions};
-use crate::transaction_plan::TransactionPlan;
 use std::alloc::Global;
-use txn_commit::PlanFor;
-use txn_kv::{BatchRollbackRequest, Items, NoMemory};
+use txn_kv::{BatchRollbackRequest, Items};
 use txn_merge::RetryOptions;
-use txn_plan::{ExtractError, Plan};
+use txn_plan::ExtractError;
 use txn_region::{EncodedRequest, PdClient};
 use txn_request::requests::new_batch_rollback_request;
 
 /// The plan of a BatchRollback: its keys go to their regions, and the first error in the replies is its answer.
-pub type BatchRollbackPlan = TransactionPlan<ExtractError<OverRegions<BatchRollbackRequest>>>;
+pub type BatchRollbackPlan = Done<ExtractError<OverRegions<BatchRollbackRequest>>>;
 
 /// The BatchRollback with the context that the client's codec gives one like it that names nothing.
 fn encoded<C: PdClient>(
@@ -39,34 +35,17 @@ fn encoded<C: PdClient>(
     request
 }
 
-impl PlanFor<BatchRollbackRequest> for BatchRollbackPlan {
-    ghost refuses = { HasGivenWith Self.Plan.meaning rollback_retries };
-
-    ghost costs = { by_items };
-
-    fn plan_for<C: PdClient>(
-        alloc: Global,
-        pd: &C,
-        request: BatchRollbackRequest,
-        retry_options: RetryOptions,
-    ) -> Result<Self, NoMemory> {
-        let request = encoded(alloc, pd, request);
-        let plan = plan_over_regions(alloc, request, retry_options);
-        let extracted = ExtractError::new(alloc, plan);
-        Ok(TransactionPlan::new(extracted))
-    }
-
-    fn width(&self) -> u64 {
-        self.plan().inner.width() as u64
-    }
-
-    ghost refuses_longer = { has_given_longer Self.Plan.meaning rollback_retries rollback_plan-lawful };
-}
-
-impl OneEach<BatchRollbackRequest> for BatchRollbackPlan {
-    ghost one_each = { few_by_items };
-}
-
-impl Caused<BatchRollbackRequest> for BatchRollbackPlan {
-    ghost caused = { given_caused rollback_plan rollback_retries rollbacks_caused };
+/// A plan of the request that is not begun, with these options.
+pub fn plan_of_batch_rollback<C: PdClient>(
+    alloc: Global,
+    pd: &C,
+    request: BatchRollbackRequest,
+    retry_options: RetryOptions,
+) -> BatchRollbackPlan
+    ensures { IsPlanFor rollback_plan (HasGivenWith rollback_plan rollback_retries retry_options) by_items (BatchRollback request) result }
+{
+    let request = encoded(alloc, pd, request);
+    let plan = plan_over_regions(alloc, request, retry_options);
+    let extracted = ExtractError::new(alloc, plan);
+    Done::new(extracted)
 }

@@ -3,7 +3,7 @@ ghost use Rattle.txn_kv.specs.declared.request.Request.TheVariants.{TxnHeartBeat
 ghost use Rattle.txn_kv.specs.declared.request.commits.TxnHeartBeatRequest.{TxnHeartBeatRequest as Sent};
 ghost use Rattle.txn_request.specs.Defaults.{default_txn_heart_beat};
 
-use crate::transaction_plan::TransactionPlan;
+use crate::own::Own;
 use std::alloc::Global;
 use txn_heartbeat::PlanForHeartbeats;
 use txn_kv::{Backoff, Key, NoMemory, TxnHeartBeatRequest, TxnHeartBeatResponse};
@@ -14,7 +14,7 @@ use txn_region::{EncodedRequest, PdClient};
 use txn_request::requests::new_heart_beat_request;
 
 /// The plan of a heartbeat: it goes to the region of its primary, and the one reply is its answer.
-pub type HeartbeatPlan = TransactionPlan<
+pub type HeartbeatPlan = Own<
     MergeResponse<
         RetryableMultiRegion<Dispatch<TxnHeartBeatRequest>>,
         TxnHeartBeatResponse,
@@ -45,6 +45,6 @@ impl PlanForHeartbeats for HeartbeatPlan {
         let sent = Dispatch::new(request, None);
         let plan = RetryableMultiRegion::new(alloc, sent, backoff, false);
         let merged = MergeResponse::new(alloc, plan, CollectSingle);
-        Ok(TransactionPlan::new(merged))
+        Ok(Own::new(merged))
     }
 }

@@ -3,8 +3,7 @@ ghost use Rattle.std.specs.Prelude.{◌≡◌, ◌≤◌, ◌+◌, ◌*◌, ◌�
 ghost use Rattle.txn_buffer.specs.Contents.{Contents, mutations};
 ghost use Rattle.txn_causes.specs.Causes.{HasCause};
 ghost use Rattle.txn_causes.specs.Heard.{heard_in};
-ghost use Rattle.txn_commit.specs.Committing.{ways};
-ghost use Rattle.txn_commit.specs.Counting.{costs_of, IsOneEach};
+ghost use Rattle.txn_commit.specs.Ways.{IsOneEach};
 ghost use Rattle.txn_commit.specs.Following.{Commits as Followed, KnowsCommits, MarksLost, PrimaryLost, PrimarySent, undetermined};
 ghost use Rattle.txn_commit.specs.Jobs.{others};
 ghost use Rattle.txn_commit.specs.Parts.{parts_of};
@@ -15,6 +14,7 @@ ghost use Rattle.txn_commit.specs.declared.secondary_job.Stage.TheVariants.{Fres
 ghost use Rattle.txn_commit_plans.specs.CausesOfCalls.{IsCallExplained, IsExplained};
 ghost use Rattle.txn_commit_plans.specs.Failing.{FailsForCauses, HasGivenWith, IsSpentBy};
 ghost use Rattle.txn_commit_plans.specs.Kinds.{commit_attempts, commit_plan, commit_retries, prewrite_attempts, prewrite_plan, prewrite_retries, rollback_attempts, rollback_plan, rollback_retries, CommitPlan as Committing, PrewritePlan as Prewriting, RollbackPlan as Rolling};
+ghost use Rattle.txn_commit_plans.specs.Transactions.{AnyPlan, transaction_ways};
 ghost use Rattle.txn_core.specs.Counting.{commit_price, errors, posted, rollback_price, weighed, Runs, Step};
 ghost use Rattle.txn_core.specs.Going.{TransactionGives};
 ghost use Rattle.txn_history.specs.Event.{Event};
@@ -33,14 +33,11 @@ ghost use Rattle.txn_kv.specs.declared.request.Request.TheVariants.{BatchRollbac
 ghost use Rattle.txn_kv.specs.declared.ticket.Ticket.{Ticket};
 ghost use Rattle.txn_kv.specs.declared.timestamp.Timestamp.{Timestamp};
 
-use crate::batch_rollback::BatchRollbackPlan;
-use crate::commit::CommitPlan;
 use crate::has_causes::Caused;
 use crate::one_each::OneEach;
-use crate::prewrite::PrewritePlan;
-use txn_commit::PlanFor;
+use crate::transaction_plan::TransactionPlan;
+use txn_commit::Plans;
 use txn_core::laws::commits_are_bounded;
-use txn_kv::{BatchRollbackRequest, CommitRequest, PrewriteRequest};
 
 /// A plan that is not begun, and sends a request in any context to the regions of its keys, is a plan of the request: all that
 /// the request names was answered without error where the plan's answer is no error.
@@ -52,41 +49,39 @@ pub fn plans_are_of_their_requests()
 
 /// Each plan posts no more than one request for each key of its request, whatever it is cut into.
 pub fn plans_cost_one_request_a_key()
-    ensures { IsOneEach (costs_of ⟦<PrewritePlan as PlanFor<PrewriteRequest>>⟧.costs ⟦<CommitPlan as PlanFor<CommitRequest>>⟧.costs ⟦<BatchRollbackPlan as PlanFor<BatchRollbackRequest>>⟧.costs) }
+    ensures { IsOneEach ⟦<TransactionPlan as Plans>⟧.ways.costs }
 {}
 
 /// Where a commit and a rollback of k mutations go by such plans, they post no more than 2k + 9 requests and asks, once more for each
 /// error that comes to them, and what locks may cost.
-pub fn frugal_commits_are_bounded<P, Q, K>()
+pub fn frugal_commits_are_bounded<P>()
 where
-    P: OneEach<PrewriteRequest>,
-    Q: OneEach<CommitRequest>,
-    K: OneEach<BatchRollbackRequest>,
-    ensures commit { (first : Step P Q K) (steps : List (Step P Q K))
-        → Runs (ways P.meaning Q.meaning K.meaning P.refuses Q.refuses K.refuses) (costs_of P.costs Q.costs K.costs) (commit_price (costs_of P.costs Q.costs K.costs) (parts_of first.old.contents) first.old.commits.timestamp) first steps
+    P: OneEach,
+    ensures commit { (first : Step P) (steps : List (Step P))
+        → Runs P.ways P.ways.costs (commit_price P.ways.costs (parts_of first.old.contents) first.old.commits.timestamp) first steps
         → posted (first ∷ steps) ≤ (1 + errors steps) * (2 * length (mutations first.old.contents.entries) + 9 + weighed steps) }
-    ensures rollback { (first : Step P Q K) (steps : List (Step P Q K))
-        → Runs (ways P.meaning Q.meaning K.meaning P.refuses Q.refuses K.refuses) (costs_of P.costs Q.costs K.costs) (rollback_price (costs_of P.costs Q.costs K.costs) (parts_of first.old.contents)) first steps
+    ensures rollback { (first : Step P) (steps : List (Step P))
+        → Runs P.ways P.ways.costs (rollback_price P.ways.costs (parts_of first.old.contents)) first steps
         → posted (first ∷ steps) ≤ (1 + errors steps) * (2 * length (mutations first.old.contents.entries) + 9 + weighed steps) }
 {
-    commits_are_bounded::<P, Q, K>();
+    commits_are_bounded::<P>();
 }
 
 /// The plans of this crate are such plans.
 pub fn commits_by_plans_are_bounded()
-    ensures commit { (first : Step Prewriting Committing Rolling) (steps : List (Step Prewriting Committing Rolling))
-        → Runs (ways ⟦<PrewritePlan as txn_plan::Plan>⟧.meaning ⟦<CommitPlan as txn_plan::Plan>⟧.meaning ⟦<BatchRollbackPlan as txn_plan::Plan>⟧.meaning ⟦<PrewritePlan as PlanFor<PrewriteRequest>>⟧.refuses ⟦<CommitPlan as PlanFor<CommitRequest>>⟧.refuses ⟦<BatchRollbackPlan as PlanFor<BatchRollbackRequest>>⟧.refuses) (costs_of ⟦<PrewritePlan as PlanFor<PrewriteRequest>>⟧.costs ⟦<CommitPlan as PlanFor<CommitRequest>>⟧.costs ⟦<BatchRollbackPlan as PlanFor<BatchRollbackRequest>>⟧.costs) (commit_price (costs_of ⟦<PrewritePlan as PlanFor<PrewriteRequest>>⟧.costs ⟦<CommitPlan as PlanFor<CommitRequest>>⟧.costs ⟦<BatchRollbackPlan as PlanFor<BatchRollbackRequest>>⟧.costs) (parts_of first.old.contents) first.old.commits.timestamp) first steps
+    ensures commit { (first : Step AnyPlan) (steps : List (Step AnyPlan))
+        → Runs ⟦<TransactionPlan as Plans>⟧.ways ⟦<TransactionPlan as Plans>⟧.ways.costs (commit_price ⟦<TransactionPlan as Plans>⟧.ways.costs (parts_of first.old.contents) first.old.commits.timestamp) first steps
         → posted (first ∷ steps) ≤ (1 + errors steps) * (2 * length (mutations first.old.contents.entries) + 9 + weighed steps) }
-    ensures rollback { (first : Step Prewriting Committing Rolling) (steps : List (Step Prewriting Committing Rolling))
-        → Runs (ways ⟦<PrewritePlan as txn_plan::Plan>⟧.meaning ⟦<CommitPlan as txn_plan::Plan>⟧.meaning ⟦<BatchRollbackPlan as txn_plan::Plan>⟧.meaning ⟦<PrewritePlan as PlanFor<PrewriteRequest>>⟧.refuses ⟦<CommitPlan as PlanFor<CommitRequest>>⟧.refuses ⟦<BatchRollbackPlan as PlanFor<BatchRollbackRequest>>⟧.refuses) (costs_of ⟦<PrewritePlan as PlanFor<PrewriteRequest>>⟧.costs ⟦<CommitPlan as PlanFor<CommitRequest>>⟧.costs ⟦<BatchRollbackPlan as PlanFor<BatchRollbackRequest>>⟧.costs) (rollback_price (costs_of ⟦<PrewritePlan as PlanFor<PrewriteRequest>>⟧.costs ⟦<CommitPlan as PlanFor<CommitRequest>>⟧.costs ⟦<BatchRollbackPlan as PlanFor<BatchRollbackRequest>>⟧.costs) (parts_of first.old.contents)) first steps
+    ensures rollback { (first : Step AnyPlan) (steps : List (Step AnyPlan))
+        → Runs ⟦<TransactionPlan as Plans>⟧.ways ⟦<TransactionPlan as Plans>⟧.ways.costs (rollback_price ⟦<TransactionPlan as Plans>⟧.ways.costs (parts_of first.old.contents)) first steps
         → posted (first ∷ steps) ≤ (1 + errors steps) * (2 * length (mutations first.old.contents.entries) + 9 + weighed steps) }
 {
-    frugal_commits_are_bounded::<PrewritePlan, CommitPlan, BatchRollbackPlan>();
+    frugal_commits_are_bounded::<TransactionPlan>();
 }
 
 /// The job of k other keys, which is not started, posts no more than k requests.
 pub fn jobs_by_plans_are_bounded()
-    ensures { (job : SecondaryJob Committing) (plan : Plan) (n : ℕ) → job.stage ≡ Fresh → (others commit_plan (HasGivenWith commit_plan commit_retries) by_items plan job.keys).round job n ≤ length job.keys }
+    ensures { (job : SecondaryJob AnyPlan) (plan : Plan) (n : ℕ) → job.stage ≡ Fresh → (others transaction_ways.plan transaction_ways.uncommitted transaction_ways.costs.commits plan job.keys).round job n ≤ length job.keys }
 {}
 
 /// Each error of a plan has its cause in what was heard, whatever its stage: where it says that a request was lost, that was; what
@@ -103,13 +98,11 @@ pub fn plans_fail_for_causes()
 /// and it is the error with which the oracle refused the tenth ask. Where a Commit of the primary was lost or is out, the answer says
 /// that the end is not known, and holds such an error. A rollback that is refused for that names a Commit of the primary that was
 /// sent, and one that was lost, where one is marked so.
-pub fn failed_calls_have_causes<P, Q, K>()
+pub fn failed_calls_have_causes<P>()
 where
-    P: Caused<PrewriteRequest>,
-    Q: Caused<CommitRequest>,
-    K: Caused<BatchRollbackRequest>,
+    P: Caused,
     ensures failed { (options : RetryOptions) (start : Timestamp) (contents : Contents) (c : Followed) (h : List Event) (e : Error)
-        → TransactionGives (ways P.meaning Q.meaning K.meaning P.refuses Q.refuses K.refuses) options start contents c h (Err e) → IsCallExplained (attempts_left options.region_backoff) (undetermined c) h e }
+        → TransactionGives P.ways options start contents c h (Err e) → IsCallExplained (attempts_left options.region_backoff) (undetermined c) h e }
     ensures refused { (plan : Plan) (s : ℕ) (c : Followed) (h : List Event) (t : Ticket)
         → KnowsCommits plan s c h → undetermined c ≡ Some t → PrimarySent plan s h t }
     // One that is marked as lost is the one that is named, and was lost.
@@ -117,6 +110,6 @@ where
         → MarksLost plan s c h → c.lost ≡ Some t → (undetermined c ≡ Some t) × PrimaryLost plan s h t }
     // A call for a timestamp alone fails so, too, and so does the job of the other keys.
     ensures untimed { (attempts : ℕ) (h : List Event) (e : Error) → WasUntimed h e → IsExplained attempts h e }
-    ensures jobs { (plan : Plan) (keys : List Key) (job : SecondaryJob Q) (h : List Event) (e : Error)
-        → (others Q.meaning Q.refuses Q.costs plan keys).gives job h (Err e) → HasCause (heard_in h) (IsSpentBy job.retry_options h) (view_of e) }
+    ensures jobs { (plan : Plan) (keys : List Key) (job : SecondaryJob P) (h : List Event) (e : Error)
+        → (others P.ways.plan P.ways.uncommitted P.ways.costs.commits plan keys).gives job h (Err e) → HasCause (heard_in h) (IsSpentBy job.retry_options h) (view_of e) }
 {}

@@ -1,12 +1,9 @@
-ghost use Rattle.std.specs.Prelude.{◌≤◌};
+use txn_commit::Plans;
 
-use txn_commit::PlanFor;
-use txn_request::KvRequest;
-
-/// A plan that posts no more than one request for each key of its request, whatever that is cut into, as long as no error and no
+/// Plans that post no more than one request for each key of their request, whatever that is cut into, as long as no error and no
 /// lock comes.
-pub trait OneEach<R: KvRequest>: PlanFor<R> {
-    ghost use Rattle.std.specs.Prelude.{ℕ};
+pub trait OneEach: Plans {
+    ghost use Rattle.txn_commit.specs.Ways.{IsOneEach};
 
-    ghost one_each: { (keys n : ℕ) → Self.PlanFor.costs keys n ≤ keys };
+    ghost one_each: { IsOneEach Self.Plans.ways.costs };
 }

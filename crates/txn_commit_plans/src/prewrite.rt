@@ -1,28 +1,24 @@
-ghost use Rattle.std.specs.Prelude.{◌≡◌, ◌^◌, ◌-◌, Err};
-ghost use Rattle.txn_commit_plans.specs.CausesOfPlans.{prewrites_caused};
-ghost use Rattle.txn_commit_plans.specs.Failing.{HasGivenWith, given_caused, has_given_longer};
-ghost use Rattle.txn_commit_plans.specs.Kinds.{prewrite_plan, prewrite_plan-lawful, prewrite_retries};
+ghost use Rattle.std.specs.Prelude.{◌≡◌, ◌^◌, ◌-◌};
+ghost use Rattle.txn_commit_plans.specs.Failing.{HasGivenWith};
+ghost use Rattle.txn_commit_plans.specs.Kinds.{prewrite_plan, prewrite_retries};
+ghost use Rattle.txn_commit.specs.Plans.{IsPlanFor};
 ghost use Rattle.txn_kv.specs.declared.request.commits.PrewriteRequest.{PrewriteRequest as Sent};
 ghost use Rattle.txn_kv.specs.declared.request.Request.TheVariants.{Prewrite};
-ghost use Rattle.txn_commit_plans.specs.OneEach.{few_by_items};
 ghost use Rattle.txn_multi.specs.Few.{by_items};
 ghost use Rattle.txn_request.specs.Defaults.{default_prewrite};
 
-use crate::has_causes::Caused;
-use crate::one_each::OneEach;
+use crate::done::Done;
 use crate::over_regions::{OverRegions, plan_over_regions};
-use crate::transaction_plan::TransactionPlan;
 use std::alloc::Global;
-use txn_commit::PlanFor;
-use txn_kv::{Items, Key, NoMemory, PrewriteRequest, PrewriteResponse};
+use txn_kv::{Items, Key, PrewriteRequest, PrewriteResponse};
 use txn_merge::{CollectError, RetryOptions};
-use txn_plan::{ExtractError, MergeResponse, Plan};
+use txn_plan::{ExtractError, MergeResponse};
 use txn_region::{EncodedRequest, PdClient};
 use txn_request::requests::new_prewrite_request;
 
 /// The plan of a Prewrite: its mutations go to their regions in batches, and the replies are collected. The first error in
 /// them is its answer.
-pub type PrewritePlan = TransactionPlan<
+pub type PrewritePlan = Done<
     ExtractError<MergeResponse<OverRegions<PrewriteRequest>, PrewriteResponse, CollectError>>,
 >;
 
@@ -38,35 +34,18 @@ fn encoded<C: PdClient>(alloc: Global, pd: &C, request: PrewriteRequest) -> Prew
     request
 }
 
-impl PlanFor<PrewriteRequest> for PrewritePlan {
-    ghost refuses = { HasGivenWith Self.Plan.meaning prewrite_retries };
-
-    ghost costs = { by_items };
-
-    fn plan_for<C: PdClient>(
-        alloc: Global,
-        pd: &C,
-        request: PrewriteRequest,
-        retry_options: RetryOptions,
-    ) -> Result<Self, NoMemory> {
-        let request = encoded(alloc, pd, request);
-        let plan = plan_over_regions(alloc, request, retry_options);
-        let merged = MergeResponse::new(alloc, plan, CollectError);
-        let extracted = ExtractError::new(alloc, merged);
-        Ok(TransactionPlan::new(extracted))
-    }
-
-    fn width(&self) -> u64 {
-        self.plan().inner.inner.width() as u64
-    }
-
-    ghost refuses_longer = { has_given_longer Self.Plan.meaning prewrite_retries prewrite_plan-lawful };
-}
-
-impl OneEach<PrewriteRequest> for PrewritePlan {
-    ghost one_each = { few_by_items };
-}
-
-impl Caused<PrewriteRequest> for PrewritePlan {
-    ghost caused = { given_caused prewrite_plan prewrite_retries prewrites_caused };
+/// A plan of the request that is not begun, with these options.
+pub fn plan_of_prewrite<C: PdClient>(
+    alloc: Global,
+    pd: &C,
+    request: PrewriteRequest,
+    retry_options: RetryOptions,
+) -> PrewritePlan
+    ensures { IsPlanFor prewrite_plan (HasGivenWith prewrite_plan prewrite_retries retry_options) by_items (Prewrite request) result }
+{
+    let request = encoded(alloc, pd, request);
+    let plan = plan_over_regions(alloc, request, retry_options);
+    let merged = MergeResponse::new(alloc, plan, CollectError);
+    let extracted = ExtractError::new(alloc, merged);
+    Done::new(extracted)
 }

@@ -14,8 +14,8 @@ use Rattle.txn_history.specs.Spends.{calls, is_call, sleeps, spare}
 use Rattle.txn_history.specs.Turn.{Turn}
 use Rattle.txn_history.specs.Turn.Turn.{Stopped, Waits, Ends}
 use Rattle.txn_buffer.specs.Contents.{Contents, mutations}
-use Rattle.txn_commit.specs.Committing.{Ways}
-use Rattle.txn_commit.specs.Counting.{Costs, IsOneEach, rollback_costs}
+use Rattle.txn_commit.specs.Ways.{Costs, IsOneEach, Ways}
+use Rattle.txn_commit.specs.Counting.{rollback_costs}
 use Rattle.txn_commit.specs.Parts.{locking_keys, locks, named_primary, parts_of, parts_under, secondary_keys}
 use Rattle.txn_commit.specs.declared.commit_parts.CommitParts.{CommitParts}
 use Rattle.txn_core.specs.Counting.{Follow, IsPushed, Runs, Step, TransactionPays, commit_price, errors, failures, locked, posted, posted_by, rested, rested_by, rollback_price, standing_after, transaction_width, weighed, work_bears, work_left, work_round, work_width}
@@ -68,9 +68,9 @@ add_rest : (fails : Bool) (from to v L F S L' F' S' : ℕ)
 add_rest true from to v L F S L' F' S' s f l a b = let g : F' ≡ 1 + F = f in let x : to ≤ from + 1 + v = a in omega arith
 add_rest false from to v L F S L' F' S' s f l a b = let g : F' ≡ 0 + F = f in let x : to ≤ from + 0 + v = a in omega arith
 
-module _ {P Q K A B D : Type 0} (w : Ways P Q K A B D) (costs : Costs) where
+module _ {P : Type 0} (w : Ways P) (costs : Costs) where
   -- what one call posts, also where it gives up, is paid from what is left
-  pays : {was : ℕ → Type 0} {before round : ℕ → ℕ} {bad fails : Bool} {weight locked width : ℕ} (old new : Standing P Q K) {from to : Posted} (turn : Turn (Result (TxnAnswer Q) Error))
+  pays : {was : ℕ → Type 0} {before round : ℕ → ℕ} {bad fails : Bool} {weight locked width : ℕ} (old new : Standing P) {from to : Posted} (turn : Turn (Result (TxnAnswer P) Error))
       → GivesUp old new turn
       → TransactionPays w costs was before round bad fails weight locked width new from to turn
       → (n m : ℕ) → 1 ≤ n → transaction_width w new ≤ n → was m
@@ -83,7 +83,7 @@ module _ {P Q K A B D : Type 0} (w : Ways P Q K A B D) (costs : Costs) where
   pays old new Waits g p n m u t b = let s = p.spends in s.spends refl n m u t b
   pays old new (Ends v) g p n m u t b = let s = p.spends in s.spends refl n m u t b
 
-  bears : {was : ℕ → Type 0} {before round : ℕ → ℕ} {bad fails : Bool} {weight locked width : ℕ} (old new : Standing P Q K) {from to : Posted} (turn : Turn (Result (TxnAnswer Q) Error))
+  bears : {was : ℕ → Type 0} {before round : ℕ → ℕ} {bad fails : Bool} {weight locked width : ℕ} (old new : Standing P) {from to : Posted} (turn : Turn (Result (TxnAnswer P) Error))
       → GivesUp old new turn
       → TransactionPays w costs was before round bad fails weight locked width new from to turn
       → (m : ℕ) → was m → work_bears w new.work (m + weight)
@@ -92,20 +92,20 @@ module _ {P Q K A B D : Type 0} (w : Ways P Q K A B D) (costs : Costs) where
   bears old new (Ends v) g p m b = let s = p.spends in s.bears refl m b
 
   -- the greatest number of parts grows
-  wider : (steps : List (Step P Q K)) (t : Standing P Q K) → Follow w costs t steps → transaction_width w t ≤ transaction_width w (standing_after t steps)
+  wider : (steps : List (Step P)) (t : Standing P) → Follow w costs t steps → transaction_width w t ≤ transaction_width w (standing_after t steps)
   wider [] t f = le_refl _
   wider (step ∷ steps) t (l, c, f) = le_trans first (wider steps step.new f)
     where
       first : transaction_width w t ≤ transaction_width w step.new
       first = subst (λ x. max x (work_width w t.work) ≤ transaction_width w step.new) l.1 (subst (λ x. max step.old.width (work_width w x) ≤ transaction_width w step.new) l.0 (let p = c.counts in let s = p.spends in s.wider))
 
-  follow_pays : (steps : List (Step P Q K)) (t : Standing P Q K) (n m : ℕ) → 1 ≤ n → transaction_width w (standing_after t steps) ≤ n → work_bears w t.work m → Follow w costs t steps
+  follow_pays : (steps : List (Step P)) (t : Standing P) (n m : ℕ) → 1 ≤ n → transaction_width w (standing_after t steps) ≤ n → work_bears w t.work m → Follow w costs t steps
       → posted steps ≤ work_left w costs t.work n + (errors steps * (work_round w costs t.work n + m + weighed steps) + weighed steps)
   follow_pays [] t n m u e b f = omega arith
   follow_pays (step ∷ steps) t n m u e b (l, c, f) =
       subst (λ x. posted (step ∷ steps) ≤ work_left w costs x n + (errors (step ∷ steps) * (work_round w costs x n + m + weighed (step ∷ steps)) + weighed (step ∷ steps))) l.0
       (add_step step.bad (calls step.from) (calls step.to) (work_left w costs step.old.work n) (work_left w costs step.new.work n) (work_round w costs step.old.work n) (work_round w costs step.new.work n) m step.weight (weighed steps) (errors steps) (posted steps) (weighed (step ∷ steps)) (errors (step ∷ steps)) (posted (step ∷ steps))
-      (sum_by-cons (λ (x : Step P Q K). posted_by x) step steps) (sum_by-cons (λ (x : Step P Q K). cond x.bad 1 0) step steps) (sum_by-cons (λ (x : Step P Q K). x.weight) step steps) (calls_grow step.from step.to c.pushed) one (let p = c.counts in p.fewer n)
+      (sum_by-cons (λ (x : Step P). posted_by x) step steps) (sum_by-cons (λ (x : Step P). cond x.bad 1 0) step steps) (sum_by-cons (λ (x : Step P). x.weight) step steps) (calls_grow step.from step.to c.pushed) one (let p = c.counts in p.fewer n)
       (follow_pays steps step.new n (m + step.weight) u e (bears step.old step.new step.turn c.gives_up c.counts m here) f))
     where
       here : work_bears w step.old.work m
@@ -114,11 +114,11 @@ module _ {P Q K A B D : Type 0} (w : Ways P Q K A B D) (costs : Costs) where
       one : calls step.to + work_left w costs step.new.work n ≤ calls step.from + work_left w costs step.old.work n + spare step.bad false (work_round w costs step.old.work n + m + step.weight) + step.weight
       one = pays step.old step.new step.turn c.gives_up c.counts n m u (le_trans (wider steps step.new f) e) here
 
-  pub runs_pay : (whole : ℕ → ℕ) (first : Step P Q K) (steps : List (Step P Q K)) (n : ℕ) → Runs w costs whole first steps
+  pub runs_pay : (whole : ℕ → ℕ) (first : Step P) (steps : List (Step P)) (n : ℕ) → Runs w costs whole first steps
       → 1 ≤ n → transaction_width w (standing_after first.new steps) ≤ n
       → posted (first ∷ steps) ≤ (1 + errors steps) * (whole n + weighed steps)
   runs_pay whole first steps n r u e =
-      add_first (calls first.from) (calls first.to) (work_left w costs first.new.work n) (work_round w costs first.new.work n) (whole n) (weighed steps) (errors steps) (posted steps) (posted (first ∷ steps)) (sum_by-cons (λ (x : Step P Q K). posted_by x) first steps) (calls_grow first.from first.to r.pushed) one (let p = r.begins in p.fewer n) rest
+      add_first (calls first.from) (calls first.to) (work_left w costs first.new.work n) (work_round w costs first.new.work n) (whole n) (weighed steps) (errors steps) (posted steps) (posted (first ∷ steps)) (sum_by-cons (λ (x : Step P). posted_by x) first steps) (calls_grow first.from first.to r.pushed) one (let p = r.begins in p.fewer n) rest
     where
       one : calls first.to + work_left w costs first.new.work n ≤ calls first.from + whole n
       one = let x : calls first.to + work_left w costs first.new.work n ≤ calls first.from + whole n + 0 + 0 = pays first.old first.new first.turn r.gives_up r.begins n 0 u (le_trans (wider steps first.new r.follow) e) tt in omega arith
@@ -126,18 +126,18 @@ module _ {P Q K A B D : Type 0} (w : Ways P Q K A B D) (costs : Costs) where
       rest : posted steps ≤ work_left w costs first.new.work n + (errors steps * (work_round w costs first.new.work n + 0 + weighed steps) + weighed steps)
       rest = follow_pays steps first.new n 0 u e (bears first.old first.new first.turn r.gives_up r.begins 0 tt) r.follow
 
-  follow_rests : (steps : List (Step P Q K)) (t : Standing P Q K) → Follow w costs t steps → rested steps ≤ failures steps + locked steps
+  follow_rests : (steps : List (Step P)) (t : Standing P) → Follow w costs t steps → rested steps ≤ failures steps + locked steps
   follow_rests [] t f = omega arith
   follow_rests (step ∷ steps) t (l, c, f) =
       add_rest step.fails (sleeps step.from) (sleeps step.to) step.locked (locked steps) (failures steps) (rested steps) (locked (step ∷ steps)) (failures (step ∷ steps)) (rested (step ∷ steps))
-      (sum_by-cons (λ (x : Step P Q K). rested_by x) step steps) (sum_by-cons (λ (x : Step P Q K). cond x.fails 1 0) step steps) (sum_by-cons (λ (x : Step P Q K). x.locked) step steps) (let p = c.counts in let s = p.spends in s.stopped_rests) (follow_rests steps step.new f)
+      (sum_by-cons (λ (x : Step P). rested_by x) step steps) (sum_by-cons (λ (x : Step P). cond x.fails 1 0) step steps) (sum_by-cons (λ (x : Step P). x.locked) step steps) (let p = c.counts in let s = p.spends in s.stopped_rests) (follow_rests steps step.new f)
 
-  pub runs_rest : (whole : ℕ → ℕ) (first : Step P Q K) (steps : List (Step P Q K)) → Runs w costs whole first steps
+  pub runs_rest : (whole : ℕ → ℕ) (first : Step P) (steps : List (Step P)) → Runs w costs whole first steps
       → rested (first ∷ steps) ≤ failures steps + locked steps
   runs_rest whole first steps r =
       let x = first_rests in
       let y = follow_rests steps first.new r.follow in
-      let z : rested (first ∷ steps) ≡ (sleeps first.to - sleeps first.from) + rested steps = sum_by-cons (λ (x : Step P Q K). rested_by x) first steps in
+      let z : rested (first ∷ steps) ≡ (sleeps first.to - sleeps first.from) + rested steps = sum_by-cons (λ (x : Step P). rested_by x) first steps in
       omega arith
     where
       first_rests : sleeps first.to ≤ sleeps first.from + 0 + 0

@@ -8,7 +8,7 @@ use Rattle.txn_history.specs.Licence.{PrimaryCommitted, PrimaryRolledBack}
 use Rattle.txn_history.specs.Plan.{Key}
 use Rattle.txn_history.specs.Posted.{Posted}
 use Rattle.txn_buffer.specs.Contents.{Contents}
-use Rattle.txn_commit.specs.Committing.{Ways}
+use Rattle.txn_commit.specs.Ways.{Ways}
 use Rattle.txn_commit.specs.Following.{Commits}
 use Rattle.txn_commit.specs.Jobs.{JobFits}
 use Rattle.txn_commit.specs.Parts.{parts_of}
@@ -23,7 +23,7 @@ use Rattle.txn_core.specs.Going.{IsCommitted, IsJobFor, IsJobOf, IsNothing, Tran
 use Rattle.txn_core.specs.Transaction.{lock_nothing, locks_nothing}
 use Rattle.txn_core.specs.declared.txn_answer.TxnAnswer.TheVariants as answer
 
-the_job : {Q : Type 0} (options : RetryOptions) (start t : Timestamp) (keys : List Key) (job : SecondaryJob Q) → IsJobFor options start t keys (Some job) → IsJobOf options start t keys job
+the_job : {P : Type 0} (options : RetryOptions) (start t : Timestamp) (keys : List Key) (job : SecondaryJob P) → IsJobFor options start t keys (Some job) → IsJobOf options start t keys job
 the_job options start t [] job j = absurd j
 the_job options start t (k ∷ ks) job j = j
 
@@ -33,16 +33,16 @@ none_locks contents e = ap lock_nothing e
 nothing_locks : (contents : Contents) (parts : CommitParts) → parts_of contents ≡ Some parts → parts.locks ≡ false → locks_nothing contents ≡ true
 nothing_locks contents parts e f = ap lock_nothing e ∙ ap (λ (b : Bool). not b) f
 
-timed_something : {Q : Type 0} (t : Timestamp) (job : Option (SecondaryJob Q)) → IsNothing (Ok (answer.Committed (Some t) job)) → ⊥
+timed_something : {P : Type 0} (t : Timestamp) (job : Option (SecondaryJob P)) → IsNothing (Ok (answer.Committed (Some t) job)) → ⊥
 timed_something t job n = elim n [ inl e ↦ (cc) | inr e ↦ (cc) ]
 
-module _ {P Q K A B D : Type 0} (w : Ways P Q K A B D) where
-  ends_at : (options : RetryOptions) (start t : Timestamp) (contents : Contents) (c : Commits) (h : List Event) (job : Option (SecondaryJob Q)) → TransactionGives w options start contents c h (Ok (answer.Committed (Some t) job))
+module _ {P : Type 0} (w : Ways P) where
+  ends_at : (options : RetryOptions) (start t : Timestamp) (contents : Contents) (c : Commits) (h : List Event) (job : Option (SecondaryJob P)) → TransactionGives w options start contents c h (Ok (answer.Committed (Some t) job))
       → (parts : CommitParts) × (parts_of contents ≡ Some parts) × IsCommitted options start t parts job h
   ends_at options start t contents c h job (inl g) = g
   ends_at options start t contents c h job (inr g) = absurd (timed_something t job g.1)
 
-  pub ends_committed : (options : RetryOptions) (start t : Timestamp) (contents : Contents) (c : Commits) (h : List Event) (job : Option (SecondaryJob Q)) → TransactionGives w options start contents c h (Ok (answer.Committed (Some t) job))
+  pub ends_committed : (options : RetryOptions) (start t : Timestamp) (contents : Contents) (c : Commits) (h : List Event) (job : Option (SecondaryJob P)) → TransactionGives w options start contents c h (Ok (answer.Committed (Some t) job))
       → (parts : CommitParts) × (parts_of contents ≡ Some parts) × PrimaryCommitted (plan_of parts) h (version_of start) (version_of t)
   ends_committed options start t contents c h job g = by (ends_at options start t contents c h job g)
     where
@@ -50,16 +50,16 @@ module _ {P Q K A B D : Type 0} (w : Ways P Q K A B D) where
           → (parts : CommitParts) × (parts_of contents ≡ Some parts) × PrimaryCommitted (plan_of parts) h (version_of start) (version_of t)
       by (parts, e, is) = (parts, e, is.primary)
 
-  pub ends_with_job : (options : RetryOptions) (start t : Timestamp) (contents : Contents) (c : Commits) (o : Posted) (h : List Event) (job : SecondaryJob Q) → TransactionGives w options start contents c h (Ok (answer.Committed (Some t) (Some job)))
-      → (parts : CommitParts) × (parts_of contents ≡ Some parts) × (job.start ≡ start) × (job.commit ≡ t) × JobFits w.committing w.uncommitted (plan_of parts) parts.secondaries job o h
+  pub ends_with_job : (options : RetryOptions) (start t : Timestamp) (contents : Contents) (c : Commits) (o : Posted) (h : List Event) (job : SecondaryJob P) → TransactionGives w options start contents c h (Ok (answer.Committed (Some t) (Some job)))
+      → (parts : CommitParts) × (parts_of contents ≡ Some parts) × (job.start ≡ start) × (job.commit ≡ t) × JobFits w.plan w.uncommitted (plan_of parts) parts.secondaries job o h
   ends_with_job options start t contents c o h job g = by (ends_at options start t contents c h (Some job) g)
     where
       by : (parts : CommitParts) × (parts_of contents ≡ Some parts) × IsCommitted options start t parts (Some job) h
-          → (parts : CommitParts) × (parts_of contents ≡ Some parts) × (job.start ≡ start) × (job.commit ≡ t) × JobFits w.committing w.uncommitted (plan_of parts) parts.secondaries job o h
+          → (parts : CommitParts) × (parts_of contents ≡ Some parts) × (job.start ≡ start) × (job.commit ≡ t) × JobFits w.plan w.uncommitted (plan_of parts) parts.secondaries job o h
       by (parts, e, is) = let j = the_job options start t parts.secondaries job is.others in
           (parts, e, j.own, j.at, record { way = refl; apart = parts_apart contents parts e; committed = rw (j.own, j.at) is.primary; at = rw j.stage j.names })
 
-  pub ends_checked : (options : RetryOptions) (start : Timestamp) (contents : Contents) (c : Commits) (h : List Event) (job : Option (SecondaryJob Q)) → TransactionGives w options start contents c h (Ok (answer.Committed None job)) → locks_nothing contents ≡ true
+  pub ends_checked : (options : RetryOptions) (start : Timestamp) (contents : Contents) (c : Commits) (h : List Event) (job : Option (SecondaryJob P)) → TransactionGives w options start contents c h (Ok (answer.Committed None job)) → locks_nothing contents ≡ true
   ends_checked options start contents c h None (inl (parts, e, s)) = nothing_locks contents parts e s.0
   ends_checked options start contents c h (Some job) (inl (parts, e, s)) = absurd s
   ends_checked options start contents c h job (inr g) = none_locks contents g.0

@@ -15,7 +15,7 @@ use Rattle.txn_history.specs.Posted.{Posted, Within}
 use Rattle.txn_history.specs.Turn.{Turn, IfEnds, IfKept, IfKept-out}
 use Rattle.txn_history.specs.Turn.Turn.{Stopped, Waits, Ends}
 use Rattle.txn_buffer.specs.Contents.{Contents}
-use Rattle.txn_commit.specs.Committing.{CommitterFits, CommitterGives, CommitterMoves, IsAllPrewritten, MayCommit, Ways}
+use Rattle.txn_commit.specs.Committing.{CommitterFits, CommitterGives, CommitterMoves, IsAllPrewritten, MayCommit}
 use Rattle.txn_commit.specs.Following.{Commits, IsFollowed, heard, undetermined}
 use Rattle.txn_commit.specs.Going.{may_commit}
 use Rattle.txn_commit.specs.Parts.{parts_of}
@@ -25,6 +25,7 @@ use Rattle.txn_commit.specs.declared.commit_parts.CommitParts.{CommitParts}
 use Rattle.txn_commit.specs.declared.committer.CommitterAnswer.{CommitterAnswer}
 use Rattle.txn_commit.specs.declared.committer.CommitterAnswer.TheVariants.{Committed, Checked, RolledBack}
 use Rattle.txn_commit.specs.declared.committer.CommitterCall.{CommitterCall}
+use Rattle.txn_commit.specs.Ways.{Ways}
 use Rattle.txn_commit.proofs.Following.{IsNoSending, knows_more}
 use Rattle.txn_commit.proofs.Posting.{Hears}
 use Rattle.txn_commit.proofs.Posting.Hears.{Nothing, One}
@@ -92,12 +93,12 @@ within_heard h k (One x n) e i = inr i
 pub some_same : {X : Type 0} {a b : X} {o : Option X} → o ≡ Some a → o ≡ Some b → a ≡ b
 some_same e f = let g = sym e ∙ f in cc
 
-pub may_start : {P Q K : Type 0} (old : Standing P Q K) (call : CommitterCall P Q K) (parts : CommitParts) (h : List Event)
+pub may_start : {P : Type 0} (old : Standing P) (call : CommitterCall P) (parts : CommitParts) (h : List Event)
     → IsNewCall old.options.retry_options old.start parts call → MayBegin old parts h → MayStart (plan_of call.parts) (version_of call.start) old.commits h
 may_start old call parts h n m = rw (n.own, n.whole) (record { given = m.given; knows = m.knows.knows; ready = m.knows.ready })
 
-pub as_before : {P Q K : Type 0} (old mid new : Standing P Q K) → old.work ≡ Idle → mid ≡ record old { work = GaveUp } → new ≡ record mid { work = Idle } → new ≡ old
-as_before {P} {Q} {K} old mid new i e n = n ∙ ap (λ (x : Standing P Q K). record x { work = Idle }) e ∙ ap (λ (x : Work P Q K). record old { work = x }) (sym i)
+pub as_before : {P : Type 0} (old mid new : Standing P) → old.work ≡ Idle → mid ≡ record old { work = GaveUp } → new ≡ record mid { work = Idle } → new ≡ old
+as_before {P} old mid new i e n = n ∙ ap (λ (x : Standing P). record x { work = Idle }) e ∙ ap (λ (x : Work P). record old { work = x }) (sym i)
 
 parts_more : (s : ℕ) (c : Commits) (parts : CommitParts) (e : Event) (h : List Event) → IsNoSending e → KnowsParts s c h parts → KnowsParts s c (e ∷ h) parts
 parts_more s c parts e h n k = record {
@@ -113,9 +114,9 @@ undone_longer s contents h k w u parts is = elim (u parts is) [
   | inr (primary, others) ↦ inr (λ key named. rolled_longer (only_key key) s h k w (primary key named), λ key named. rolled_longer (only_key key) s h k w (others key named))
 ]
 
-module _ {P Q K A B D : Type 0} where
+module _ {P : Type 0} where
   -- what is known of an open call is known of what the buffer holds, which has its parts
-  knows_contents : (w : Ways P Q K A B D) (options : RetryOptions) (start : Timestamp) (status : Status) (contents : Contents) (c : Commits) (call : CommitterCall P Q K) (o : Posted) (h : List Event)
+  knows_contents : (w : Ways P) (options : RetryOptions) (start : Timestamp) (status : Status) (contents : Contents) (c : Commits) (call : CommitterCall P) (o : Posted) (h : List Event)
       → IsUnderWay w options start status contents c call o h → KnowsContents (version_of start) c h contents
   knows_contents w options start status contents c call o h u = record {
     of_parts = λ parts e.
@@ -125,7 +126,7 @@ module _ {P Q K A B D : Type 0} where
   }
 
   -- the open call has ended, and the transaction rests
-  pub rests : (w : Ways P Q K A B D) (t new : Standing P Q K) (call : CommitterCall P Q K) (next : Status) (v : ℕ) (o : Posted) (h : List Event)
+  pub rests : (w : Ways P) (t new : Standing P) (call : CommitterCall P) (next : Status) (v : ℕ) (o : Posted) (h : List Event)
       → new ≡ record t { status = next; work = Idle; width = v } → allows_data next ≡ false → (has_turned_back next ≡ true → has_turned_back t.status ≡ true)
       → (next ≡ Rolledback → IsUndone (version_of t.start) t.contents h)
       → CallFits w t call o h → TransactionFits w new o h
@@ -138,7 +139,7 @@ module _ {P Q K A B D : Type 0} where
   })
 
   -- it waits still
-  pub takes_waits : (w : Ways P Q K A B D) (call : CommitterCall P Q K) (old new : Standing P Q K) (o : Posted)
+  pub takes_waits : (w : Ways P) (call : CommitterCall P) (old new : Standing P) (o : Posted)
       → new ≡ record old { work = Open call } → TakesUp w call old new o Waits Waits
   takes_waits w call old new o e = record {
     still = λ h k. rw e (record { given = k.0.given; unsent = λ a. absurd (let g = sym k.0.under_way.started ∙ a in cc); settled = k.0.settled; undone = k.0.undone; at = k.0.under_way });
@@ -146,7 +147,7 @@ module _ {P Q K A B D : Type 0} where
   }
 
   -- the primary is committed
-  pub takes_committed : (w : Ways P Q K A B D) (call : CommitterCall P Q K) (old new : Standing P Q K) (t : Timestamp) (keys : List Key) (v : ℕ) (o : Posted) (turn : Turn (Result (TxnAnswer Q) Error))
+  pub takes_committed : (w : Ways P) (call : CommitterCall P) (old new : Standing P) (t : Timestamp) (keys : List Key) (v : ℕ) (o : Posted) (turn : Turn (Result (TxnAnswer P) Error))
       → new ≡ record old { status = moved old.status Is_committed; work = Idle; width = v }
       → keys ≡ call.parts.secondaries
       → IsCommittedAt new.options.retry_options new.start t keys turn
@@ -158,13 +159,13 @@ module _ {P Q K A B D : Type 0} where
       k.0.under_way.whole,
       record {
         primary = subst (λ (x : Timestamp). PrimaryCommitted (plan_of call.parts) h (version_of x) (version_of t)) k.0.under_way.own k.1;
-        others = subst (λ (x : List Key). IsJobFor old.options.retry_options old.start t x job) f (subst (λ (x : Standing P Q K). IsJobFor x.options.retry_options x.start t keys job) e j);
+        others = subst (λ (x : List Key). IsJobFor old.options.retry_options old.start t x job) f (subst (λ (x : Standing P). IsJobFor x.options.retry_options x.start t keys job) e j);
       },
     );
   })
 
   -- all was checked
-  pub takes_checked : (w : Ways P Q K A B D) (call : CommitterCall P Q K) (old new : Standing P Q K) (v : ℕ) (o : Posted)
+  pub takes_checked : (w : Ways P) (call : CommitterCall P) (old new : Standing P) (v : ℕ) (o : Posted)
       → new ≡ record old { status = moved old.status Is_committed; work = Idle; width = v }
       → TakesUp w call old new o (Ends (Ok Checked)) (Ends (Ok (answer.Committed None None)))
   takes_checked w call old new v o e = record {
@@ -173,7 +174,7 @@ module _ {P Q K A B D : Type 0} where
   }
 
   -- all was rolled back
-  pub takes_rolled : (w : Ways P Q K A B D) (call : CommitterCall P Q K) (old new : Standing P Q K) (v : ℕ) (o : Posted)
+  pub takes_rolled : (w : Ways P) (call : CommitterCall P) (old new : Standing P) (v : ℕ) (o : Posted)
       → new ≡ record old { status = moved old.status Rolledback; work = Idle; width = v }
       → TakesUp w call old new o (Ends (Ok RolledBack)) (Ends (Ok answer.Unit))
   takes_rolled w call old new v o e = record {
@@ -185,13 +186,13 @@ module _ {P Q K A B D : Type 0} where
       all_rolled : (h : List Event) → KnowsCall w call old o (Ends (Ok RolledBack)) h → AreRolledBack (version_of old.start) (call.parts.primary ∷ []) h × AreRolledBack (version_of old.start) call.parts.secondaries h
       all_rolled h k = subst (λ (x : Timestamp). AreRolledBack (version_of x) (call.parts.primary ∷ []) h × AreRolledBack (version_of x) call.parts.secondaries h) k.0.under_way.own k.1
 
-  named_fails : (w : Ways P Q K A B D) (options : RetryOptions) (s r : ℕ) (parts : CommitParts) (lost : Option Ticket) (h : List Event) (inner e : Error)
+  named_fails : (w : Ways P) (options : RetryOptions) (s r : ℕ) (parts : CommitParts) (lost : Option Ticket) (h : List Event) (inner e : Error)
       → IsNamed lost inner e → CommitterGives w options s parts h (Err inner) → FailsWith w options r parts lost h e
   named_fails w options s r parts None h inner e n g = rw n g
   named_fails w options s r parts (Some t) h inner e n g = (inner, n, g)
 
   -- it has failed
-  pub takes_failed : (w : Ways P Q K A B D) (call : CommitterCall P Q K) (old new : Standing P Q K) (inner e : Error) (v : ℕ) (o : Posted)
+  pub takes_failed : (w : Ways P) (call : CommitterCall P) (old new : Standing P) (inner e : Error) (v : ℕ) (o : Posted)
       → new ≡ record old { work = Idle; width = v }
       → IsNamed (undetermined old.commits) inner e
       → TakesUp w call old new o (Ends (Err inner)) (Ends (Err e))
@@ -201,12 +202,12 @@ module _ {P Q K A B D : Type 0} where
   }
 
   -- it gave up
-  pub takes_stopped : (w : Ways P Q K A B D) (call : CommitterCall P Q K) (old new : Standing P Q K) (o : Posted) (inner : Turn (Result CommitterAnswer Error)) (turn : Turn (Result (TxnAnswer Q) Error))
+  pub takes_stopped : (w : Ways P) (call : CommitterCall P) (old new : Standing P) (o : Posted) (inner : Turn (Result CommitterAnswer Error)) (turn : Turn (Result (TxnAnswer P) Error))
       → turn ≡ Stopped → TakesUp w call old new o inner turn
   takes_stopped w call old new o inner turn e = rw e (record { still = tt; done = tt })
 
   -- What the open call does, the transaction does.
-  pub lifts : (w : Ways P Q K A B D) (call call' : CommitterCall P Q K) (old mid : Standing P Q K) (d : Commits) (was known : List Event → Type 0) (hear : List Event → List Event)
+  pub lifts : (w : Ways P) (call call' : CommitterCall P) (old mid : Standing P) (d : Commits) (was known : List Event → Type 0) (hear : List Event → List Event)
       (from to : Posted) (inner : Turn (Result CommitterAnswer Error))
       → ((h : List Event) → Hears h (hear h))
       → IsSameCall call call' → mid ≡ record old { commits = d }
@@ -244,8 +245,8 @@ module _ {P Q K A B D : Type 0} where
       (names_on hears (λ h u. (k h u).0.under_way.ready) (Moves-before (λ h u. ((k h u).0.under_way.fits, (k h u).1)) m)))
 
   -- and it goes on after it
-  pub goes_on : (w : Ways P Q K A B D) (call call' : CommitterCall P Q K) (old mid new : Standing P Q K) (d : Commits) (was known : List Event → Type 0) (hear : List Event → List Event)
-      (from to : Posted) (inner : Turn (Result CommitterAnswer Error)) (turn : Turn (Result (TxnAnswer Q) Error))
+  pub goes_on : (w : Ways P) (call call' : CommitterCall P) (old mid new : Standing P) (d : Commits) (was known : List Event → Type 0) (hear : List Event → List Event)
+      (from to : Posted) (inner : Turn (Result CommitterAnswer Error)) (turn : Turn (Result (TxnAnswer P) Error))
       → ((h : List Event) → Hears h (hear h))
       → IsSameCall call call' → mid ≡ record old { commits = d }
       → ((h : List Event) → was h → CallFits w old call from h × known h)
@@ -255,11 +256,11 @@ module _ {P Q K A B D : Type 0} where
       → Moves (MaySendFor old.contents (version_of old.start)) was (TransactionFits w new to) (TransactionGives w old.options.retry_options old.start old.contents new.commits) hear from to turn
   goes_on w call call' old mid new d was known hear from to inner turn hears e f k b m t =
       let lifted = lifts w call call' old mid d was known hear from to inner hears e f k b m in
-      Moves-after lifted t.still (subst (λ (x : Standing P Q K). IfEnds turn (λ v. (h : List Event) → KnowsCall w call' mid to inner h → TransactionGives w x.options.retry_options x.start x.contents new.commits h v)) f t.done)
+      Moves-after lifted t.still (subst (λ (x : Standing P). IfEnds turn (λ v. (h : List Event) → KnowsCall w call' mid to inner h → TransactionGives w x.options.retry_options x.start x.contents new.commits h v)) f t.done)
 
   -- A commit or a rollback begins.
 
-  pub begin_fits : (w : Ways P Q K A B D) (old : Standing P Q K) (call : CommitterCall P Q K) (parts : CommitParts) (o : Posted) (h : List Event)
+  pub begin_fits : (w : Ways P) (old : Standing P) (call : CommitterCall P) (parts : CommitParts) (o : Posted) (h : List Event)
       → HasVersion old.start → parts_of old.contents ≡ Some parts → IsNewCall old.options.retry_options old.start parts call → MayBegin old parts h → CallFits w old call o h
   begin_fits w old call parts o h v e n m = record {
     given = m.given;
@@ -282,7 +283,7 @@ module _ {P Q K A B D : Type 0} where
   }
 
   -- no key is locked, so there is nothing to roll back
-  pub rolls_nothing : (w : Ways P Q K A B D) (old new : Standing P Q K) (parts : CommitParts) (known : List Event → Type 0) (o : Posted) (turn : Turn (Result (TxnAnswer Q) Error))
+  pub rolls_nothing : (w : Ways P) (old new : Standing P) (parts : CommitParts) (known : List Event → Type 0) (o : Posted) (turn : Turn (Result (TxnAnswer P) Error))
       → turn ≡ Ends (Ok answer.Unit) → new ≡ record old { status = moved old.status Rolledback; work = Idle }
       → parts_of old.contents ≡ Some parts → parts.locks ≡ false
       → BeginMoves w (λ h. MayBegin old parts h × known h) old new o o turn
@@ -300,21 +301,21 @@ module _ {P Q K A B D : Type 0} where
       (λ h u. inl (parts, f, inl l)))
 
   -- a rollback of what the buffer holds
-  pub goes_back : (w : Ways P Q K A B D) (old mid new : Standing P Q K) (parts : CommitParts) (from to : Posted) (turn : Turn (Result (TxnAnswer Q) Error))
+  pub goes_back : (w : Ways P) (old mid new : Standing P) (parts : CommitParts) (from to : Posted) (turn : Turn (Result (TxnAnswer P) Error))
       → mid ≡ record old { status = StartedRollback; work = GaveUp } → parts_of mid.contents ≡ Some parts
       → BeginMoves w (λ h. MayBegin mid parts h × (undetermined mid.commits ≡ None)) mid new from to turn
       → BeginMoves w (MayGoBack old) old new from to turn
   goes_back w old mid new parts from to turn e f m =
-      let f' = subst (λ (x : Standing P Q K). parts_of x.contents ≡ Some parts) e f in
-      let m' = subst (λ (x : Standing P Q K). BeginMoves w (λ h. MayBegin x parts h × (undetermined x.commits ≡ None)) x new from to turn) e m in
+      let f' = subst (λ (x : Standing P). parts_of x.contents ≡ Some parts) e f in
+      let m' = subst (λ (x : Standing P). BeginMoves w (λ h. MayBegin x parts h × (undetermined x.commits ≡ None)) x new from to turn) e m in
       Moves-before (λ h u. (record { given = u.given; started = refl; settled = λ a. u.settled; unrolled = λ a. cc; knows = u.knows.of_parts parts f' }, u.settled)) m'
 
-  pub back_nothing : (w : Ways P Q K A B D) (old mid new : Standing P Q K) (o : Posted) (turn : Turn (Result (TxnAnswer Q) Error))
+  pub back_nothing : (w : Ways P) (old mid new : Standing P) (o : Posted) (turn : Turn (Result (TxnAnswer P) Error))
       → mid ≡ record old { status = StartedRollback; work = GaveUp } → new ≡ record mid { status = moved mid.status Rolledback; work = Idle }
       → parts_of mid.contents ≡ None → turn ≡ Ends (Ok answer.Unit)
       → BeginMoves w (MayGoBack old) old new o o turn
   back_nothing w old mid new o turn e n f t =
-      let f' = subst (λ (x : Standing P Q K). parts_of x.contents ≡ None) e f in
+      let f' = subst (λ (x : Standing P). parts_of x.contents ≡ None) e f in
       rw (t, n, e) (Moves-quiet refl
       (λ h u. record {
         given = u.given;
@@ -327,25 +328,25 @@ module _ {P Q K A B D : Type 0} where
 
   -- A commit of what the buffer holds.
 
-  at_rest : (w : Ways P Q K A B D) (t : Standing P Q K) (o : Posted) (h : List Event) → t.work ≡ Idle → TransactionFits w t o h
+  at_rest : (w : Ways P) (t : Standing P) (o : Posted) (h : List Event) → t.work ≡ Idle → TransactionFits w t o h
       → KnowsContents (version_of t.start) t.commits h t.contents
-  at_rest w t o h e f = subst (λ (x : Work P Q K). IsAtWork w t.options.retry_options t.start t.status t.contents t.commits x o h) e f.at
+  at_rest w t o h e f = subst (λ (x : Work P). IsAtWork w t.options.retry_options t.start t.status t.contents t.commits x o h) e f.at
 
-  pub commits_on : (w : Ways P Q K A B D) (old mid new : Standing P Q K) (parts : CommitParts) (from to : Posted) (turn : Turn (Result (TxnAnswer Q) Error))
+  pub commits_on : (w : Ways P) (old mid new : Standing P) (parts : CommitParts) (from to : Posted) (turn : Turn (Result (TxnAnswer P) Error))
       → old.work ≡ Idle → mid ≡ record old { status = StartedCommit; work = GaveUp } → parts_of mid.contents ≡ Some parts
       → BeginMoves w (MayBegin mid parts) mid new from to turn
       → TransactionMoves w (λ h. ⊤) (λ h. h) old new from to turn
   commits_on w old mid new parts from to turn i e f m =
-      let f' = subst (λ (x : Standing P Q K). parts_of x.contents ≡ Some parts) e f in
-      let m' = subst (λ (x : Standing P Q K). BeginMoves w (MayBegin x parts) x new from to turn) e m in
+      let f' = subst (λ (x : Standing P). parts_of x.contents ≡ Some parts) e f in
+      let m' = subst (λ (x : Standing P). BeginMoves w (MayBegin x parts) x new from to turn) e m in
       Moves-before (λ h u. record { given = u.0.given; started = refl; settled = λ a. absurd (cc); unrolled = λ a. cc; knows = (at_rest w old from h i u.0).of_parts parts f' }) m'
 
-  pub commits_nothing : (w : Ways P Q K A B D) (old mid new : Standing P Q K) (o : Posted) (turn : Turn (Result (TxnAnswer Q) Error))
+  pub commits_nothing : (w : Ways P) (old mid new : Standing P) (o : Posted) (turn : Turn (Result (TxnAnswer P) Error))
       → old.work ≡ Idle → mid ≡ record old { status = StartedCommit; work = GaveUp } → new ≡ record mid { work = Idle }
       → parts_of mid.contents ≡ None → turn ≡ Ends (Ok (answer.Committed None None))
       → TransactionMoves w (λ h. ⊤) (λ h. h) old new o o turn
   commits_nothing w old mid new o turn i e n f t =
-      let f' = subst (λ (x : Standing P Q K). parts_of x.contents ≡ None) e f in
+      let f' = subst (λ (x : Standing P). parts_of x.contents ≡ None) e f in
       rw (t, n, e) (Moves-quiet refl
       (λ h u. record {
         given = u.0.given;
@@ -357,7 +358,7 @@ module _ {P Q K A B D : Type 0} where
       (λ h u. inr (f', inl refl)))
 
   -- a rollback may begin
-  pub rolls_on : (w : Ways P Q K A B D) (old new : Standing P Q K) (from to : Posted) (turn : Turn (Result (TxnAnswer Q) Error))
+  pub rolls_on : (w : Ways P) (old new : Standing P) (from to : Posted) (turn : Turn (Result (TxnAnswer P) Error))
       → old.work ≡ Idle → undetermined old.commits ≡ None
       → BeginMoves w (MayGoBack old) old new from to turn
       → TransactionMoves w (λ h. ⊤) (λ h. h) old new from to turn
@@ -365,24 +366,24 @@ module _ {P Q K A B D : Type 0} where
 
   -- The transaction is told of something.
 
-  pub tells_open : (w : Ways P Q K A B D) (known : List Event → Type 0) (hear : List Event → List Event) (call : CommitterCall P Q K) (old mid new : Standing P Q K) (from to : Posted) (turn : Turn (Result (TxnAnswer Q) Error))
+  pub tells_open : (w : Ways P) (known : List Event → Type 0) (hear : List Event → List Event) (call : CommitterCall P) (old mid new : Standing P) (from to : Posted) (turn : Turn (Result (TxnAnswer P) Error))
       → old.work ≡ Open call → mid ≡ record old { work = GaveUp }
       → CallMoves w known hear call mid new from to turn
       → TransactionMoves w known hear old new from to turn
   tells_open w known hear call old mid new from to turn i e m =
-      let m' = subst (λ (x : Standing P Q K). CallMoves w known hear call x new from to turn) e m in
-      Moves-before (λ h u. (record { given = u.0.given; settled = u.0.settled; undone = u.0.undone; under_way = subst (λ (x : Work P Q K). IsAtWork w old.options.retry_options old.start old.status old.contents old.commits x from h) i u.0.at }, u.1)) m'
+      let m' = subst (λ (x : Standing P). CallMoves w known hear call x new from to turn) e m in
+      Moves-before (λ h u. (record { given = u.0.given; settled = u.0.settled; undone = u.0.undone; under_way = subst (λ (x : Work P). IsAtWork w old.options.retry_options old.start old.status old.contents old.commits x from h) i u.0.at }, u.1)) m'
 
   -- what it knows of the Commits of its primary changes as its open call says
-  pub followed_open : (w : Ways P Q K A B D) (a : Arrival) (call : CommitterCall P Q K) (old mid new : Standing P Q K) (o : Posted) (turn : Turn (Result (TxnAnswer Q) Error)) (h : List Event)
+  pub followed_open : (w : Ways P) (a : Arrival) (call : CommitterCall P) (old mid new : Standing P) (o : Posted) (turn : Turn (Result (TxnAnswer P) Error)) (h : List Event)
       → old.work ≡ Open call → mid ≡ record old { work = GaveUp }
       → (CallFits w mid call o h → IfKept turn (IsFollowed o (heard a o mid.commits) new.commits))
       → TransactionFits w old o h → IfKept turn (IsFollowed o (heard a o old.commits) new.commits)
   followed_open w a call old mid new o turn h i e k f =
-      let k' = subst (λ (x : Standing P Q K). CallFits w x call o h → IfKept turn (IsFollowed o (heard a o x.commits) new.commits)) e k in
-      k' (record { given = f.given; settled = f.settled; undone = f.undone; under_way = subst (λ (x : Work P Q K). IsAtWork w old.options.retry_options old.start old.status old.contents old.commits x o h) i f.at })
+      let k' = subst (λ (x : Standing P). CallFits w x call o h → IfKept turn (IsFollowed o (heard a o x.commits) new.commits)) e k in
+      k' (record { given = f.given; settled = f.settled; undone = f.undone; under_way = subst (λ (x : Work P). IsAtWork w old.options.retry_options old.start old.status old.contents old.commits x o h) i f.at })
 
-  fits_on : (w : Ways P Q K A B D) (t : Standing P Q K) (o : Posted) (h : List Event) (e : Event) → IsNoSending e → t.work ≡ Idle → TransactionFits w t o h → TransactionFits w t o (e ∷ h)
+  fits_on : (w : Ways P) (t : Standing P) (o : Posted) (h : List Event) (e : Event) → IsNoSending e → t.work ≡ Idle → TransactionFits w t o h → TransactionFits w t o (e ∷ h)
   fits_on w t o h e n i f = record {
     given = given_longer (version_of t.start) h (e ∷ h) (λ x y. inr y) f.given;
     unsent = λ a. record { none = (f.unsent a).none; never = λ t r y q. elim y [ inl x ↦ n t (Commit r) x | inr x ↦ (f.unsent a).never t r x q ] };
@@ -394,14 +395,14 @@ module _ {P Q K A B D : Type 0} where
     });
   }
 
-  fits_told : (w : Ways P Q K A B D) (t : Standing P Q K) (o : Posted) (h : List Event) (a : Arrival) (r : Request) → t.work ≡ Idle → TransactionFits w t o h → TransactionFits w t o ((told_by a o r).hear h)
+  fits_told : (w : Ways P) (t : Standing P) (o : Posted) (h : List Event) (a : Arrival) (r : Request) → t.work ≡ Idle → TransactionFits w t o h → TransactionFits w t o ((told_by a o r).hear h)
   fits_told w t o h (arrival.Reply n x) r i f = fits_on w t o h _ (λ u q e. cc) i f
   fits_told w t o h (arrival.Lost n) r i f = fits_on w t o h _ (λ u q e. cc) i f
   fits_told w t o h (arrival.Slept n) r i f = fits_on w t o h _ (λ u q e. cc) i f
   fits_told w t o h (arrival.Time n x) r i f = fits_on w t o h _ (λ u q e. cc) i f
 
   -- no call is open, so it is deaf
-  pub tells_idle : (w : Ways P Q K A B D) (a : Arrival) (r : Request) (old mid new : Standing P Q K) (o : Posted) (turn : Turn (Result (TxnAnswer Q) Error))
+  pub tells_idle : (w : Ways P) (a : Arrival) (r : Request) (old mid new : Standing P) (o : Posted) (turn : Turn (Result (TxnAnswer P) Error))
       → old.work ≡ Idle → mid ≡ record old { work = GaveUp } → new ≡ record mid { work = Idle } → turn ≡ Waits
       → TransactionMoves w (told_by a o r).known (told_by a o r).hear old new o o turn
   tells_idle w a r old mid new o turn i e n t = rw (t, as_before old mid new i e n) (Moves-quiet refl (λ h u. fits_told w old o h a r i u.0) tt)
@@ -410,7 +411,7 @@ module _ {P Q K A B D : Type 0} where
 pub followed_on : {V : Type 0} (turn : Turn V) (o : Posted) (c d e : Commits) → turn ≢ Stopped → e ≡ d → IfKept turn (IsFollowed o c d) → IsFollowed o c e
 followed_on turn o c d e n f k = rw f (IfKept-out turn n k)
 
-pub idle_work : {P Q K : Type 0} (w : Work P Q K) → is_open w ≡ false → has_given_up w ≡ false → w ≡ Idle
+pub idle_work : {P : Type 0} (w : Work P) → is_open w ≡ false → has_given_up w ≡ false → w ≡ Idle
 idle_work Idle o g = refl
 idle_work (Open call) o g = absurd (cc)
 idle_work GaveUp o g = absurd (cc)

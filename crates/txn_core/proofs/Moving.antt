@@ -63,11 +63,11 @@ moves Dropped (rolls_back a) = (Dropped, refl, refl)
 
 -- A call that goes on moves the status to what it is to be.
 
-pub commit_follows : {Q : Type 0} (s : Status) (p : Bool) (turn : Turn (Result (TxnAnswer Q) Error)) → allows_commit s ≡ true
+pub commit_follows : {P : Type 0} (s : Status) (p : Bool) (turn : Turn (Result (TxnAnswer P) Error)) → allows_commit s ≡ true
     → moved_by (status_step s (commits None p)) turn ≡ status_step s (commits (commit_outcome turn) true)
-commit_follows {Q} s p turn e = subst (λ b. moved_by (if b then after_commit None p else s) turn ≡ (if b then after_commit (commit_outcome turn) true else s)) (sym e) (by turn)
+commit_follows {P} s p turn e = subst (λ b. moved_by (if b then after_commit None p else s) turn ≡ (if b then after_commit (commit_outcome turn) true else s)) (sym e) (by turn)
   where
-    by : (turn : Turn (Result (TxnAnswer Q) Error)) → moved_by StartedCommit turn ≡ after_commit (commit_outcome turn) true
+    by : (turn : Turn (Result (TxnAnswer P) Error)) → moved_by StartedCommit turn ≡ after_commit (commit_outcome turn) true
     by Stopped = refl
     by Waits = refl
     by (Ends (Err error)) = refl
@@ -80,7 +80,7 @@ commit_follows {Q} s p turn e = subst (λ b. moved_by (if b then after_commit No
     by (Ends (Ok (answer.Committed (Some t) job))) = refl
     by (Ends (Ok (answer.Ttl v))) = refl
 
-rolls : {Q : Type 0} (s : Status) (turn : Turn (Result (TxnAnswer Q) Error)) → IsDetermined turn → moved_by StartedRollback turn ≡ after_rollback s (rollback_outcome turn)
+rolls : {P : Type 0} (s : Status) (turn : Turn (Result (TxnAnswer P) Error)) → IsDetermined turn → moved_by StartedRollback turn ≡ after_rollback s (rollback_outcome turn)
 rolls s Stopped d = refl
 rolls s Waits d = refl
 rolls s (Ends (Err error)) d = subst (λ b. StartedRollback ≡ (if b then s else StartedRollback)) (sym d) refl
@@ -92,11 +92,11 @@ rolls s (Ends (Ok (answer.Keys v))) d = refl
 rolls s (Ends (Ok (answer.Committed t job))) d = refl
 rolls s (Ends (Ok (answer.Ttl v))) d = refl
 
-pub rollback_follows : {Q : Type 0} (s : Status) (turn : Turn (Result (TxnAnswer Q) Error)) → allows_rollback s ≡ true → IsDetermined turn
+pub rollback_follows : {P : Type 0} (s : Status) (turn : Turn (Result (TxnAnswer P) Error)) → allows_rollback s ≡ true → IsDetermined turn
     → moved_by (status_step s (rolls_back None)) turn ≡ status_step s (rolls_back (rollback_outcome turn))
 rollback_follows s turn e d = subst (λ b. moved_by (if b then after_rollback s None else s) turn ≡ (if b then after_rollback s (rollback_outcome turn) else s)) (sym e) (rolls s turn d)
 
-pub closed_stays : {Q : Type 0} (turn : Turn (Result (TxnAnswer Q) Error)) → moved_by Dropped turn ≡ Dropped
+pub closed_stays : {P : Type 0} (turn : Turn (Result (TxnAnswer P) Error)) → moved_by Dropped turn ≡ Dropped
 closed_stays Stopped = refl
 closed_stays Waits = refl
 closed_stays (Ends (Err error)) = refl
@@ -108,7 +108,7 @@ closed_stays (Ends (Ok (answer.Keys v))) = refl
 closed_stays (Ends (Ok (answer.Committed t job))) = refl
 closed_stays (Ends (Ok (answer.Ttl v))) = refl
 
-pub refusal_stays : {Q : Type 0} (s : Status) (t : Ticket) (turn : Turn (Result (TxnAnswer Q) Error)) → IsUndetermined t turn → HasEnded turn
+pub refusal_stays : {P : Type 0} (s : Status) (t : Ticket) (turn : Turn (Result (TxnAnswer P) Error)) → IsUndetermined t turn → HasEnded turn
     → rolled_status s true turn ≡ status_step s (rolls_back (rollback_outcome turn))
 refusal_stays s t Stopped u e = absurd e
 refusal_stays s t Waits u e = absurd e
@@ -119,9 +119,9 @@ refusal_stays s t (Ends (Err error)) u e = by (allows_rollback s) (ap is_undeter
     by true i = subst (λ b. s ≡ (if b then s else StartedRollback)) (sym i) refl
     by false i = refl
 
-pub begun_follows : {Q : Type 0} (s : Status) (turn : Turn (Result (TxnAnswer Q) Error)) → IsDetermined turn
+pub begun_follows : {P : Type 0} (s : Status) (turn : Turn (Result (TxnAnswer P) Error)) → IsDetermined turn
     → rolled_status s false turn ≡ status_step s (rolls_back (rollback_outcome turn))
-begun_follows {Q} s turn d = by (allows_rollback s)
+begun_follows {P} s turn d = by (allows_rollback s)
   where
     by : (b : Bool) → (if b then moved_by StartedRollback turn else s) ≡ (if b then after_rollback s (rollback_outcome turn) else s)
     by true = rolls s turn d

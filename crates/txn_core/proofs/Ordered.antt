@@ -16,7 +16,7 @@ use Rattle.txn_history.specs.Plan.{AreDistinct, Plan, key_eq}
 use Rattle.txn_buffer.specs.declared.entry.Entry.{Entry}
 use Rattle.txn_buffer.specs.declared.entry.Entry.TheVariants as entry
 use Rattle.txn_buffer.specs.Contents.{Contents, entry_at, entry_of, lock_step, locked, locked_at, mutations, mutations_of, sets_primary, with_primary, with_write}
-use Rattle.txn_commit.specs.Committing.{IsFormed, Ways}
+use Rattle.txn_commit.specs.Committing.{IsFormed}
 use Rattle.txn_commit.specs.Parts.{named_primary, parts_of, parts_under}
 use Rattle.txn_commit.specs.declared.commit_parts.CommitParts.{CommitParts}
 use Rattle.txn_commit.proofs.Keys.{same_key}
@@ -29,6 +29,7 @@ use Rattle.txn_history.specs.Posted.{Posted}
 use Rattle.txn_buffer.specs.Writes.{Write}
 use Rattle.txn_commit.specs.Following.{Commits, KnowsCommits}
 use Rattle.txn_commit.specs.Sending.{plan_of}
+use Rattle.txn_commit.specs.Ways.{Ways}
 use Rattle.txn_core.specs.Going.{IsUncommitted, IsUnsent, TransactionFits}
 use Rattle.txn_core.specs.Status.{allows_data}
 use Rattle.txn_core.specs.Transaction.{IsOrdered, Standing, begun}
@@ -166,8 +167,8 @@ nothing_known plan s c h u = rw u.none (record {
   all = λ t r g p. absurd (u.never t r g p.start);
 })
 
-module _ {P Q K A B D : Type 0} where
-  pub begun_fits : (w : Ways P Q K A B D) (start : Timestamp) (options : TransactionOptions) (now : ℕ) (o : Posted) (h : List Event)
+module _ {P : Type 0} where
+  pub begun_fits : (w : Ways P) (start : Timestamp) (options : TransactionOptions) (now : ℕ) (o : Posted) (h : List Event)
       → WasGiven h (version_of start) → IsUncommitted (version_of start) h → TransactionFits w (begun start options now) o h
   begun_fits w start options now o h g u = record {
     given = g;
@@ -177,7 +178,7 @@ module _ {P Q K A B D : Type 0} where
     at = record { of_parts = λ parts e. absurd (cc); empty = λ e. refl };
   }
 
-  pub written_fits : (w : Ways P Q K A B D) (t : Standing P Q K) (contents : Contents) (o : Posted) (h : List Event)
+  pub written_fits : (w : Ways P) (t : Standing P) (contents : Contents) (o : Posted) (h : List Event)
       → allows_data t.status ≡ true → t.work ≡ Idle → IsOrdered contents → TransactionFits w t o h → TransactionFits w (record t { contents = contents }) o h
   written_fits w t contents o h a i s f = record {
     given = f.given;

@@ -13,7 +13,7 @@ use Rattle.txn_history.specs.Meaning.{IsLawful}
 use Rattle.txn_history.specs.Plan.{Key, Plan}
 use Rattle.txn_history.specs.Posted.{Posted, Within, ticket_of}
 use Rattle.txn_buffer.specs.Contents.{Contents}
-use Rattle.txn_commit.specs.Committing.{CommitterFits, IsAt, IsReady, IsRollingBack, Ways}
+use Rattle.txn_commit.specs.Committing.{CommitterFits, IsAt, IsReady, IsRollingBack}
 use Rattle.txn_commit.specs.Following.{Commits, CommitsPrimary, KnowsCommits}
 use Rattle.txn_commit.specs.Parts.{parts_of}
 use Rattle.txn_commit.specs.Sending.{plan_of}
@@ -22,6 +22,7 @@ use Rattle.txn_commit.specs.declared.commit_parts.CommitParts.{CommitParts}
 use Rattle.txn_commit.specs.declared.committer.CommitterCall.{CommitterCall}
 use Rattle.txn_commit.specs.declared.committer.Stage.{Stage}
 use Rattle.txn_commit.specs.declared.committer.Stage.TheVariants as stage
+use Rattle.txn_commit.specs.Ways.{Ways}
 use Rattle.txn_commit.proofs.Sending.{acknowledged_longer, given_longer, rolled_longer}
 use Rattle.txn_core.proofs.Going.{some_same, undone_longer}
 use Rattle.txn_merge.specs.declared.retry_options.RetryOptions.{RetryOptions}
@@ -109,22 +110,22 @@ ready_on plan s c newer h r = record {
 names_on : (plan : Plan) (s : ℕ) (newer h : List Event) → SendsNone (CommitsPrimary plan s) newer → NamesReady plan s h → NamesReady plan s (newer ++ h)
 names_on plan s newer h n k d w = ready_on plan s d newer h (k d (named_before plan s d newer h n w))
 
-module _ {P Q K A B D : Type 0} (w : Ways P Q K A B D) (prewriting : IsLawful w.prewriting) (committing : IsLawful w.committing) (rolling : IsLawful w.rolling) where
+module _ {P : Type 0} (w : Ways P) (lawful : IsLawful w.plan) where
   -- an open call
 
-  back_on : (options : RetryOptions) (s : ℕ) (parts : CommitParts) (keys : List Key) (k : K) (c : Commits) (o p : Posted) (newer h : List Event) → IsLater o p
-      → IsRollingBack w.rolling (w.unrolled options) s parts keys k c o h → IsRollingBack w.rolling (w.unrolled options) s parts keys k c p (newer ++ h)
+  back_on : (options : RetryOptions) (s : ℕ) (parts : CommitParts) (keys : List Key) (k : P) (c : Commits) (o p : Posted) (newer h : List Event) → IsLater o p
+      → IsRollingBack w.plan (w.unrolled options) s parts keys k c o h → IsRollingBack w.plan (w.unrolled options) s parts keys k c p (newer ++ h)
   back_on options s parts keys k c o p newer h l i = record {
-    now = rolling.fits_longer k o p h (newer ++ h) l (older newer h) i.now;
+    now = lawful.fits_longer k o p h (newer ++ h) l (older newer h) i.now;
     way = i.way;
     settled = i.settled;
     primary_first = λ x m. elim (i.primary_first x m) [ inl e ↦ inl e | inr r ↦ inr (rolled_longer (plan_of parts) s h (newer ++ h) (older newer h) r) ];
   }
 
-  at_on : (options : RetryOptions) (s : ℕ) (parts : CommitParts) (g : Stage P Q K) (c : Commits) (o p : Posted) (newer h : List Event) → IsLater o p
+  at_on : (options : RetryOptions) (s : ℕ) (parts : CommitParts) (g : Stage P) (c : Commits) (o p : Posted) (newer h : List Event) → IsLater o p
       → IsAt w options s parts g c o h → IsAt w options s parts g c p (newer ++ h)
   at_on options s parts (stage.Prewriting x) c o p newer h l i = record {
-    now = prewriting.fits_longer x o p h (newer ++ h) l (older newer h) i.now;
+    now = lawful.fits_longer x o p h (newer ++ h) l (older newer h) i.now;
     whole = i.whole;
     is = i.is;
     way = i.way;
@@ -139,7 +140,7 @@ module _ {P Q K A B D : Type 0} (w : Ways P Q K A B D) (prewriting : IsLawful w.
     asked = λ n a. subst (λ (u : Ticket). WantedAfter (plan_of parts) (newer ++ h) s u) (sym (IsLater-ticket l n)) (wanted_on (plan_of parts) s (ticket_of o n) newer h (i.asked n a));
   }
   at_on options s parts (stage.Committing q t) c o p newer h l i = record {
-    now = committing.fits_longer q o p h (newer ++ h) l (older newer h) i.now;
+    now = lawful.fits_longer q o p h (newer ++ h) l (older newer h) i.now;
     way = i.way;
     ready = ready_on (plan_of parts) s (version_of t) newer h i.ready;
     same = i.same;
@@ -149,7 +150,7 @@ module _ {P Q K A B D : Type 0} (w : Ways P Q K A B D) (prewriting : IsLawful w.
   at_on options s parts stage.Over c o p newer h l i = tt
   at_on options s parts stage.Stopped c o p newer h l i = tt
 
-  call_on : (call : CommitterCall P Q K) (c : Commits) (o p : Posted) (newer h : List Event) → IsLater o p
+  call_on : (call : CommitterCall P) (c : Commits) (o p : Posted) (newer h : List Event) → IsLater o p
       → SendsNone (CommitsPrimary (plan_of call.parts) (version_of call.start)) newer
       → CommitterFits w call c o h → CommitterFits w call c p (newer ++ h)
   call_on call c o p newer h l n f = record {
@@ -168,7 +169,7 @@ module _ {P Q K A B D : Type 0} (w : Ways P Q K A B D) (prewriting : IsLawful w.
     ready = names_on (plan_of parts) s newer h n k.ready;
   }
 
-  work_on : (options : RetryOptions) (start : Timestamp) (status : Status) (contents : Contents) (c : Commits) (work : Work P Q K) (o p : Posted) (newer h : List Event) → IsLater o p
+  work_on : (options : RetryOptions) (start : Timestamp) (status : Status) (contents : Contents) (c : Commits) (work : Work P) (o p : Posted) (newer h : List Event) → IsLater o p
       → ((parts : CommitParts) → parts_of contents ≡ Some parts → SendsNone (CommitsPrimary (plan_of parts) (version_of start)) newer)
       → IsAtWork w options start status contents c work o h → IsAtWork w options start status contents c work p (newer ++ h)
   work_on options start status contents c Idle o p newer h l n f = record {
@@ -189,7 +190,7 @@ module _ {P Q K A B D : Type 0} (w : Ways P Q K A B D) (prewriting : IsLawful w.
       own = subst (λ (x : Timestamp). SendsNone (CommitsPrimary (plan_of call.parts) (version_of x)) newer) (sym u.own) (n call.parts u.whole)
   work_on options start status contents c GaveUp o p newer h l n f = tt
 
-  grown_fits : (t : Standing P Q K) (o p : Posted) (newer h : List Event) → IsLater o p
+  grown_fits : (t : Standing P) (o p : Posted) (newer h : List Event) → IsLater o p
       → (allows_data t.status ≡ true → SendsNone (λ r. r.start_version ≡ version_of t.start) newer)
       → ((parts : CommitParts) → parts_of t.contents ≡ Some parts → SendsNone (CommitsPrimary (plan_of parts) (version_of t.start)) newer)
       → TransactionFits w t o h → TransactionFits w t p (newer ++ h)
@@ -202,20 +203,20 @@ module _ {P Q K A B D : Type 0} (w : Ways P Q K A B D) (prewriting : IsLawful w.
   }
 
   -- no Commit of its start is new
-  pub others_fit : (t : Standing P Q K) (o p : Posted) (h longer : List Event) → IsLater o p → AddsNothingOf (version_of t.start) h longer
+  pub others_fit : (t : Standing P) (o p : Posted) (h longer : List Event) → IsLater o p → AddsNothingOf (version_of t.start) h longer
       → TransactionFits w t o h → TransactionFits w t p longer
   others_fit t o p h longer l a f = subst (λ (k : List Event). TransactionFits w t p k) (sym a.grown)
       (grown_fits t o p a.newer h l (λ d. a.none) (λ parts e q r i x. a.none q r i x.start) f)
 
   -- no Commit of its start is new that names its primary, and it is no longer written
-  pub others_fit_still : (t : Standing P Q K) (parts : CommitParts) (o p : Posted) (h longer : List Event) → allows_data t.status ≡ false → parts_of t.contents ≡ Some parts
+  pub others_fit_still : (t : Standing P) (parts : CommitParts) (o p : Posted) (h longer : List Event) → allows_data t.status ≡ false → parts_of t.contents ≡ Some parts
       → IsLater o p → AddsNoPrimaryOf (plan_of parts) (version_of t.start) h longer
       → TransactionFits w t o h → TransactionFits w t p longer
   others_fit_still t parts o p h longer d e l a f = subst (λ (k : List Event). TransactionFits w t p k) (sym a.grown)
       (grown_fits t o p a.newer h l (λ y. absurd (let g = sym d ∙ y in cc)) (λ more g. subst (λ (x : CommitParts). SendsNone (CommitsPrimary (plan_of x) (version_of t.start)) a.newer) (some_same e g) a.none) f)
 
 -- between calls it waits for nothing of an outbox
-pub idle_fits : {P Q K A B D : Type 0} (w : Ways P Q K A B D) (t : Standing P Q K) (o p : Posted) (h : List Event) → t.work ≡ Idle → TransactionFits w t o h → TransactionFits w t p h
+pub idle_fits : {P : Type 0} (w : Ways P) (t : Standing P) (o p : Posted) (h : List Event) → t.work ≡ Idle → TransactionFits w t o h → TransactionFits w t p h
 idle_fits w t o p h i f = record {
   given = f.given;
   unsent = f.unsent;

@@ -21,7 +21,7 @@ use Rattle.txn_history.specs.Turn.{Turn, IfEnds, IfKept}
 use Rattle.txn_history.specs.Turn.Turn.{Stopped, Waits, Ends}
 use Rattle.txn_buffer.specs.Contents.{Contents}
 use Rattle.txn_merge.specs.declared.retry_options.RetryOptions.{RetryOptions}
-use Rattle.txn_commit.specs.Committing.{CommitterFits, CommitterGives, IsAllPrewritten, IsFormed, IsReady, StageReady, Ways}
+use Rattle.txn_commit.specs.Committing.{CommitterFits, CommitterGives, IsAllPrewritten, IsFormed, IsReady, StageReady}
 use Rattle.txn_commit.specs.Following.{Commits, KnowsCommits, none_sent, undetermined}
 use Rattle.txn_commit.specs.Going.{may_commit, stage_phase}
 use Rattle.txn_commit.specs.Parts.{parts_of}
@@ -33,6 +33,7 @@ use Rattle.txn_commit.specs.declared.committer.CommitterCall.{CommitterCall}
 use Rattle.txn_commit.specs.declared.committer.Stage.TheVariants.{Over}
 use Rattle.txn_commit.specs.declared.secondary_job.SecondaryJob.{SecondaryJob}
 use Rattle.txn_commit.specs.declared.secondary_job.Stage.TheVariants.{Fresh}
+use Rattle.txn_commit.specs.Ways.{Ways}
 use Rattle.txn_core.specs.Status.{allows_data, has_turned_back}
 use Rattle.txn_core.specs.Transaction.{Standing}
 use Rattle.txn_core.specs.declared.status.Status.{Status}
@@ -70,7 +71,7 @@ pub record KnowsContents (s : ℕ) (c : Commits) (h : List Event) (contents : Co
 
 -- The open call is of this transaction, with its options, and of what its buffer holds. Nothing is written meanwhile, and once a rollback was begun no
 -- Commit of the primary is on its way.
-pub record IsUnderWay {P Q K A B D : Type 0} (w : Ways P Q K A B D) (options : RetryOptions) (start : Timestamp) (status : Status) (contents : Contents) (c : Commits) (call : CommitterCall P Q K) (o : Posted) (h : List Event) : Type 0 where
+pub record IsUnderWay {P : Type 0} (w : Ways P) (options : RetryOptions) (start : Timestamp) (status : Status) (contents : Contents) (c : Commits) (call : CommitterCall P) (o : Posted) (h : List Event) : Type 0 where
   pub own : call.start ≡ start
   pub retries : call.retry_options ≡ options
   pub started : allows_data status ≡ false
@@ -80,13 +81,13 @@ pub record IsUnderWay {P Q K A B D : Type 0} (w : Ways P Q K A B D) (options : R
   pub fits : CommitterFits w call c o h
 
 -- a call that is not begun
-pub record IsNewCall {P Q K : Type 0} (options : RetryOptions) (start : Timestamp) (parts : CommitParts) (call : CommitterCall P Q K) : Type 0 where
+pub record IsNewCall {P : Type 0} (options : RetryOptions) (start : Timestamp) (parts : CommitParts) (call : CommitterCall P) : Type 0 where
   pub own : call.start ≡ start
   pub retries : call.retry_options ≡ options
   pub whole : call.parts ≡ parts
   pub stage : call.stage ≡ Over
 
-abbrev pub IsAtWork : {P Q K A B D : Type 0} → Ways P Q K A B D → RetryOptions → Timestamp → Status → Contents → Commits → Work P Q K → Posted → List Event → Type 0
+abbrev pub IsAtWork : {P : Type 0} → Ways P → RetryOptions → Timestamp → Status → Contents → Commits → Work P → Posted → List Event → Type 0
 IsAtWork w options start status contents c Idle o h = KnowsContents (version_of start) c h contents
 IsAtWork w options start status contents c (Open call) o h = IsUnderWay w options start status contents c call o h
 IsAtWork w options start status contents c GaveUp o h = ⊤
@@ -101,7 +102,7 @@ IsUndone s contents h = (parts : CommitParts) → parts_of contents ≡ Some par
 
 -- The transaction can have arisen from the history: its start was given. Once a rollback was begun each Commit of its primary was
 -- refused, and stays so. What is rolled back was undone.
-pub record TransactionFits {P Q K A B D : Type 0} (w : Ways P Q K A B D) (t : Standing P Q K) (o : Posted) (h : List Event) : Type 0 where
+pub record TransactionFits {P : Type 0} (w : Ways P) (t : Standing P) (o : Posted) (h : List Event) : Type 0 where
   pub given : WasGiven h (version_of t.start)
   pub unsent : allows_data t.status ≡ true → IsUnsent (version_of t.start) t.commits h
   pub settled : has_turned_back t.status ≡ true → undetermined t.commits ≡ None
@@ -109,14 +110,14 @@ pub record TransactionFits {P Q K A B D : Type 0} (w : Ways P Q K A B D) (t : St
   pub at : IsAtWork w t.options.retry_options t.start t.status t.contents t.commits t.work o h
 
 -- and so it can, while this call is open
-pub record CallFits {P Q K A B D : Type 0} (w : Ways P Q K A B D) (t : Standing P Q K) (call : CommitterCall P Q K) (o : Posted) (h : List Event) : Type 0 where
+pub record CallFits {P : Type 0} (w : Ways P) (t : Standing P) (call : CommitterCall P) (o : Posted) (h : List Event) : Type 0 where
   pub given : WasGiven h (version_of t.start)
   pub settled : has_turned_back t.status ≡ true → undetermined t.commits ≡ None
   pub undone : t.status ≡ Rolledback → IsUndone (version_of t.start) t.contents h
   pub under_way : IsUnderWay w t.options.retry_options t.start t.status t.contents t.commits call o h
 
 -- a commit or a rollback of these parts may begin
-pub record MayBegin {P Q K : Type 0} (t : Standing P Q K) (parts : CommitParts) (h : List Event) : Type 0 where
+pub record MayBegin {P : Type 0} (t : Standing P) (parts : CommitParts) (h : List Event) : Type 0 where
   pub given : WasGiven h (version_of t.start)
   pub started : allows_data t.status ≡ false
   pub settled : has_turned_back t.status ≡ true → undetermined t.commits ≡ None
@@ -124,12 +125,12 @@ pub record MayBegin {P Q K : Type 0} (t : Standing P Q K) (parts : CommitParts) 
   pub knows : KnowsParts (version_of t.start) t.commits h parts
 
 -- its open call may be told of something, and waits for something
-abbrev pub WorkReady : {P Q K A B D : Type 0} → Ways P Q K A B D → Timestamp → Work P Q K → Type 0
+abbrev pub WorkReady : {P : Type 0} → Ways P → Timestamp → Work P → Type 0
 WorkReady w start Idle = ⊤
 WorkReady w start (Open call) = (call.start ≡ start) × StageReady w call.stage × (stage_phase w call.stage ≡ Running)
 WorkReady w start GaveUp = ⊤
 
-pub record TransactionReady {P Q K A B D : Type 0} (w : Ways P Q K A B D) (t : Standing P Q K) : Type 0 where
+pub record TransactionReady {P : Type 0} (w : Ways P) (t : Standing P) : Type 0 where
   pub start : HasVersion t.start
   pub work : WorkReady w t.start t.work
 
@@ -140,7 +141,7 @@ abbrev pub MaySendFor : Contents → ℕ → List Event → Request → Type 0
 MaySendFor contents s h r = (parts : CommitParts) × (parts_of contents ≡ Some parts) × MaySend (plan_of parts) s h r
 
 -- a job of these keys, with these options, that is not started
-pub record IsJobOf {Q : Type 0} (options : RetryOptions) (start commit : Timestamp) (keys : List Key) (job : SecondaryJob Q) : Type 0 where
+pub record IsJobOf {P : Type 0} (options : RetryOptions) (start commit : Timestamp) (keys : List Key) (job : SecondaryJob P) : Type 0 where
   pub own : job.start ≡ start
   pub retries : job.retry_options ≡ options
   pub at : job.commit ≡ commit
@@ -148,24 +149,24 @@ pub record IsJobOf {Q : Type 0} (options : RetryOptions) (start commit : Timesta
   pub stage : job.stage ≡ Fresh
 
 -- there is none where no key is left
-abbrev pub IsJobFor : {Q : Type 0} → RetryOptions → Timestamp → Timestamp → List Key → Option (SecondaryJob Q) → Type 0
+abbrev pub IsJobFor : {P : Type 0} → RetryOptions → Timestamp → Timestamp → List Key → Option (SecondaryJob P) → Type 0
 IsJobFor options start commit [] None = ⊤
 IsJobFor options start commit [] (Some job) = ⊥
 IsJobFor options start commit (k ∷ ks) None = ⊥
 IsJobFor options start commit (k ∷ ks) (Some job) = IsJobOf options start commit (k ∷ ks) job
 
 -- the primary is committed at this timestamp, and the job commits the other keys
-pub record IsCommitted {Q : Type 0} (options : RetryOptions) (start t : Timestamp) (parts : CommitParts) (job : Option (SecondaryJob Q)) (h : List Event) : Type 0 where
+pub record IsCommitted {P : Type 0} (options : RetryOptions) (start t : Timestamp) (parts : CommitParts) (job : Option (SecondaryJob P)) (h : List Event) : Type 0 where
   pub primary : PrimaryCommitted (plan_of parts) h (version_of start) (version_of t)
   pub others : IsJobFor options start t parts.secondaries job
 
 -- An error, where this Commit of the primary was lost or is not refused: the transaction may be committed, and that is what is said,
 -- with the error that it ended with. Where there is none it is that error itself.
-abbrev pub FailsWith : {P Q K A B D : Type 0} → Ways P Q K A B D → RetryOptions → ℕ → CommitParts → Option Ticket → List Event → Error → Type 0
+abbrev pub FailsWith : {P : Type 0} → Ways P → RetryOptions → ℕ → CommitParts → Option Ticket → List Event → Error → Type 0
 FailsWith w options s parts None h e = CommitterGives w options s parts h (Err e)
 FailsWith w options s parts (Some t) h e = (inner : Error) × (view_of e ≡ not_known (view_of inner)) × CommitterGives w options s parts h (Err inner)
 
-abbrev pub StandsOn : {P Q K A B D : Type 0} → Ways P Q K A B D → RetryOptions → Timestamp → CommitParts → Commits → List Event → Result (TxnAnswer Q) Error → Type 0
+abbrev pub StandsOn : {P : Type 0} → Ways P → RetryOptions → Timestamp → CommitParts → Commits → List Event → Result (TxnAnswer P) Error → Type 0
 StandsOn w options start parts c h (Ok (answer.Committed (Some t) job)) = IsCommitted options start t parts job h
 StandsOn w options start parts c h (Ok (answer.Committed None None)) = (parts.locks ≡ false) × IsAllPrewritten (version_of start) parts h
 StandsOn w options start parts c h (Ok answer.Unit) = AreUndone (version_of start) parts h
@@ -173,36 +174,36 @@ StandsOn w options start parts c h (Err e) = FailsWith w options (version_of sta
 StandsOn w options start parts c h _ = ⊥
 
 -- it is committed, or rolled back, and there was nothing to do
-abbrev pub IsNothing : {Q : Type 0} → Result (TxnAnswer Q) Error → Type 0
+abbrev pub IsNothing : {P : Type 0} → Result (TxnAnswer P) Error → Type 0
 IsNothing v = (v ≡ Ok (answer.Committed None None)) ⊎ (v ≡ Ok answer.Unit)
 
-abbrev pub TransactionGives : {P Q K A B D : Type 0} → Ways P Q K A B D → RetryOptions → Timestamp → Contents → Commits → List Event → Result (TxnAnswer Q) Error → Type 0
+abbrev pub TransactionGives : {P : Type 0} → Ways P → RetryOptions → Timestamp → Contents → Commits → List Event → Result (TxnAnswer P) Error → Type 0
 TransactionGives w options start contents c h v =
     ((parts : CommitParts) × (parts_of contents ≡ Some parts) × StandsOn w options start parts c h v) ⊎ ((parts_of contents ≡ None) × IsNothing v)
 
 -- an event call of it, in a history of which more is known
-abbrev pub TransactionMoves : {P Q K A B D : Type 0} → Ways P Q K A B D → (List Event → Type 0) → (List Event → List Event)
-    → Standing P Q K → Standing P Q K → Posted → Posted → Turn (Result (TxnAnswer Q) Error) → Type 0
+abbrev pub TransactionMoves : {P : Type 0} → Ways P → (List Event → Type 0) → (List Event → List Event)
+    → Standing P → Standing P → Posted → Posted → Turn (Result (TxnAnswer P) Error) → Type 0
 TransactionMoves w known hear old new from to turn =
     Moves (MaySendFor old.contents (version_of old.start)) (λ h. TransactionFits w old from h × known h) (TransactionFits w new to) (TransactionGives w old.options.retry_options old.start old.contents new.commits) hear from to turn
 
 -- the same from where this call is open, and from where one may begin
-abbrev pub CallMoves : {P Q K A B D : Type 0} → Ways P Q K A B D → (List Event → Type 0) → (List Event → List Event) → CommitterCall P Q K
-    → Standing P Q K → Standing P Q K → Posted → Posted → Turn (Result (TxnAnswer Q) Error) → Type 0
+abbrev pub CallMoves : {P : Type 0} → Ways P → (List Event → Type 0) → (List Event → List Event) → CommitterCall P
+    → Standing P → Standing P → Posted → Posted → Turn (Result (TxnAnswer P) Error) → Type 0
 CallMoves w known hear call old new from to turn =
     Moves (MaySendFor old.contents (version_of old.start)) (λ h. CallFits w old call from h × known h) (TransactionFits w new to) (TransactionGives w old.options.retry_options old.start old.contents new.commits) hear from to turn
 
-abbrev pub BeginMoves : {P Q K A B D : Type 0} → Ways P Q K A B D → (List Event → Type 0)
-    → Standing P Q K → Standing P Q K → Posted → Posted → Turn (Result (TxnAnswer Q) Error) → Type 0
+abbrev pub BeginMoves : {P : Type 0} → Ways P → (List Event → Type 0)
+    → Standing P → Standing P → Posted → Posted → Turn (Result (TxnAnswer P) Error) → Type 0
 BeginMoves w may old new from to turn =
     Moves (MaySendFor old.contents (version_of old.start)) may (TransactionFits w new to) (TransactionGives w old.options.retry_options old.start old.contents new.commits) (λ h. h) from to turn
 
 -- what is known where the open call has gone on so
-abbrev pub KnowsCall : {P Q K A B D : Type 0} → Ways P Q K A B D → CommitterCall P Q K → Standing P Q K → Posted → Turn (Result CommitterAnswer Error) → List Event → Type 0
+abbrev pub KnowsCall : {P : Type 0} → Ways P → CommitterCall P → Standing P → Posted → Turn (Result CommitterAnswer Error) → List Event → Type 0
 KnowsCall w call t o inner h = Knows inner (CallFits w t call o) (CommitterGives w call.retry_options (version_of call.start) call.parts) h
 
 -- it goes on after its open call did
-pub record TakesUp {P Q K A B D : Type 0} (w : Ways P Q K A B D) (call : CommitterCall P Q K) (old new : Standing P Q K) (o : Posted) (inner : Turn (Result CommitterAnswer Error)) (turn : Turn (Result (TxnAnswer Q) Error)) : Type 0 where
+pub record TakesUp {P : Type 0} (w : Ways P) (call : CommitterCall P) (old new : Standing P) (o : Posted) (inner : Turn (Result CommitterAnswer Error)) (turn : Turn (Result (TxnAnswer P) Error)) : Type 0 where
   pub still : IfKept turn ((h : List Event) → KnowsCall w call old o inner h → TransactionFits w new o h)
   pub done : IfEnds turn (λ v. (h : List Event) → KnowsCall w call old o inner h → TransactionGives w old.options.retry_options old.start old.contents new.commits h v)
 
@@ -219,11 +220,11 @@ HasFailed (Ends (Ok v)) = ⊥
 HasFailed (Ends (Err e)) = ⊤
 
 -- it answers this timestamp, and the job of these keys
-abbrev pub IsCommittedAt : {Q : Type 0} → RetryOptions → Timestamp → Timestamp → List Key → Turn (Result (TxnAnswer Q) Error) → Type 0
-IsCommittedAt {Q} options start t keys turn = (job : Option (SecondaryJob Q)) × (turn ≡ Ends (Ok (answer.Committed (Some t) job))) × IsJobFor options start t keys job
+abbrev pub IsCommittedAt : {P : Type 0} → RetryOptions → Timestamp → Timestamp → List Key → Turn (Result (TxnAnswer P) Error) → Type 0
+IsCommittedAt {P} options start t keys turn = (job : Option (SecondaryJob P)) × (turn ≡ Ends (Ok (answer.Committed (Some t) job))) × IsJobFor options start t keys job
 
 -- a rollback may begin, of whatever the buffer holds
-pub record MayGoBack {P Q K : Type 0} (t : Standing P Q K) (h : List Event) : Type 0 where
+pub record MayGoBack {P : Type 0} (t : Standing P) (h : List Event) : Type 0 where
   pub given : WasGiven h (version_of t.start)
   pub settled : undetermined t.commits ≡ None
   pub knows : KnowsContents (version_of t.start) t.commits h t.contents
@@ -235,13 +236,13 @@ pub record MayStart (plan : Plan) (s : ℕ) (c : Commits) (h : List Event) : Typ
   pub ready : NamesReady plan s h
 
 -- the open call is still the one of the same parts, with the same options
-pub record IsSameCall {P Q K : Type 0} (call now : CommitterCall P Q K) : Type 0 where
+pub record IsSameCall {P : Type 0} (call now : CommitterCall P) : Type 0 where
   pub start : now.start ≡ call.start
   pub parts : now.parts ≡ call.parts
   pub retries : now.retry_options ≡ call.retry_options
 
 -- It is refused: whether it is committed is not known, since this Commit of the primary was lost or is not refused.
-abbrev pub IsUndetermined : {Q : Type 0} → Ticket → Turn (Result (TxnAnswer Q) Error) → Type 0
+abbrev pub IsUndetermined : {P : Type 0} → Ticket → Turn (Result (TxnAnswer P) Error) → Type 0
 IsUndetermined t Stopped = ⊤
 IsUndetermined t Waits = ⊥
 IsUndetermined t (Ends (Ok v)) = ⊥

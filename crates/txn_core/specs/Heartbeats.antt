@@ -26,7 +26,7 @@ commits StartedRollback = false
 commits Dropped = false
 
 -- a commit of it is open, which locks some key, and heartbeats go by themselves
-abbrev pub has_heartbeat : {P Q K : Type 0} → Standing P Q K → Bool
+abbrev pub has_heartbeat : {P : Type 0} → Standing P → Bool
 has_heartbeat t = is_open t.work && (commits t.status && (is_auto t.options.heartbeat_option && is_some (commit_primary t.contents)))
 
 abbrev pub IsInterval : ℕ → HeartbeatOption → Type 0
@@ -34,7 +34,7 @@ IsInterval ms NoHeartbeat = ⊥
 IsInterval ms (FixedTime interval) = ms ≡ in_millis (as_nanos interval)
 
 -- it is of this transaction
-pub record IsHeartbeatOf {P Q K : Type 0} (t : Standing P Q K) (beat : Heartbeat) : Type 0 where
+pub record IsHeartbeatOf {P : Type 0} (t : Standing P) (beat : Heartbeat) : Type 0 where
   pub start : beat.start ≡ t.start
   pub primary : commit_primary t.contents ≡ Some beat.primary
   pub began : beat.began ≡ t.began

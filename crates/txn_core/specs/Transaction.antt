@@ -31,18 +31,18 @@ use Rattle.txn_core.specs.declared.txn_answer.TxnAnswer.TheVariants as answer
 -- What contracts see of a transaction: its start timestamp and its options, the clock as that timestamp came, how far it has
 -- come, what its buffer holds, what is known of the Commits of its primary, the call that is open, and the most parts that a
 -- request of one was cut into that is let go.
-pub record Standing (P Q K : Type 0) : Type 0 where
+pub record Standing (P : Type 0) : Type 0 where
   pub start : Timestamp
   pub options : TransactionOptions
   pub began : ℕ
   pub status : Status
   pub contents : Contents
   pub commits : Commits
-  pub work : Work P Q K
+  pub work : Work P
   pub width : ℕ
 
 -- one that has just begun
-abbrev pub begun : {P Q K : Type 0} → Timestamp → TransactionOptions → ℕ → Standing P Q K
+abbrev pub begun : {P : Type 0} → Timestamp → TransactionOptions → ℕ → Standing P
 begun start options now = record {
   start = start;
   options = options;
@@ -55,12 +55,12 @@ begun start options now = record {
 }
 
 -- a call is open
-abbrev pub is_open : {P Q K : Type 0} → Work P Q K → Bool
+abbrev pub is_open : {P : Type 0} → Work P → Bool
 is_open Idle = false
 is_open (Open call) = true
 is_open GaveUp = false
 
-abbrev pub has_given_up : {P Q K : Type 0} → Work P Q K → Bool
+abbrev pub has_given_up : {P : Type 0} → Work P → Bool
 has_given_up Idle = false
 has_given_up (Open call) = false
 has_given_up GaveUp = true
@@ -139,19 +139,19 @@ pub record AreLocked (keys : List (List ℕ)) (old new : Contents) : Type 0 wher
 
 -- How a write ends. For want of memory it gives up, for good. Where it is refused nothing changes. Else the buffer holds what
 -- it wrote.
-abbrev pub WriteEnds : {P Q K : Type 0} → Option Error → (Contents → Contents → Type 0) → Standing P Q K → Standing P Q K → Turn (Result (TxnAnswer Q) Error) → Type 0
+abbrev pub WriteEnds : {P : Type 0} → Option Error → (Contents → Contents → Type 0) → Standing P → Standing P → Turn (Result (TxnAnswer P) Error) → Type 0
 WriteEnds refusal wrote old new Stopped = new ≡ record old { contents = new.contents; work = GaveUp }
 WriteEnds refusal wrote old new Waits = ⊥
 WriteEnds (Some e) wrote old new (Ends v) = (v ≡ Err e) × (new ≡ old)
 WriteEnds None wrote old new (Ends v) = (v ≡ Ok answer.Unit) × (new ≡ record old { contents = new.contents }) × wrote old.contents new.contents
 
 -- a call that gives up for want of memory does so for good
-pub record GivesUp {P Q K : Type 0} (old new : Standing P Q K) (turn : Turn (Result (TxnAnswer Q) Error)) : Type 0 where
+pub record GivesUp {P : Type 0} (old new : Standing P) (turn : Turn (Result (TxnAnswer P) Error)) : Type 0 where
   pub after : old.work ≡ GaveUp → (turn ≡ Stopped) × (new ≡ old)
   pub stops : turn ≡ Stopped → new.work ≡ GaveUp
 
 -- it is refused, and nothing changes
-abbrev pub IsRefused : {P Q K : Type 0} → Error → Standing P Q K → Standing P Q K → Turn (Result (TxnAnswer Q) Error) → Type 0
+abbrev pub IsRefused : {P : Type 0} → Error → Standing P → Standing P → Turn (Result (TxnAnswer P) Error) → Type 0
 IsRefused e old new Stopped = new ≡ old
 IsRefused e old new Waits = ⊥
 IsRefused e old new (Ends v) = (v ≡ Err e) × (new ≡ old)
@@ -179,14 +179,14 @@ locks_nothing contents = lock_nothing (parts_of contents)
 -- The status
 
 -- what a commit came to, and what a rollback did
-abbrev pub commit_outcome : {Q : Type 0} → Turn (Result (TxnAnswer Q) Error) → Option (Result (Option Timestamp) Error)
+abbrev pub commit_outcome : {P : Type 0} → Turn (Result (TxnAnswer P) Error) → Option (Result (Option Timestamp) Error)
 commit_outcome Stopped = None
 commit_outcome Waits = None
 commit_outcome (Ends (Err e)) = Some (Err e)
 commit_outcome (Ends (Ok (answer.Committed t job))) = Some (Ok t)
 commit_outcome (Ends (Ok _)) = None
 
-abbrev pub rollback_outcome : {Q : Type 0} → Turn (Result (TxnAnswer Q) Error) → Option (Result (Unit {0}) Error)
+abbrev pub rollback_outcome : {P : Type 0} → Turn (Result (TxnAnswer P) Error) → Option (Result (Unit {0}) Error)
 rollback_outcome Stopped = None
 rollback_outcome Waits = None
 rollback_outcome (Ends (Err e)) = Some (Err e)
@@ -194,7 +194,7 @@ rollback_outcome (Ends (Ok answer.Unit)) = Some (Ok tt)
 rollback_outcome (Ends (Ok _)) = None
 
 -- no error says that a commit's end is not known
-abbrev pub IsDetermined : {Q : Type 0} → Turn (Result (TxnAnswer Q) Error) → Type 0
+abbrev pub IsDetermined : {P : Type 0} → Turn (Result (TxnAnswer P) Error) → Type 0
 IsDetermined Stopped = ⊤
 IsDetermined Waits = ⊤
 IsDetermined (Ends (Ok v)) = ⊤
@@ -205,7 +205,7 @@ abbrev pub moved : Status → Status → Status
 moved s next = if may_move s next then next else s
 
 -- how it moves as an open call goes on
-abbrev pub moved_by : {Q : Type 0} → Status → Turn (Result (TxnAnswer Q) Error) → Status
+abbrev pub moved_by : {P : Type 0} → Status → Turn (Result (TxnAnswer P) Error) → Status
 moved_by s Stopped = s
 moved_by s Waits = s
 moved_by s (Ends (Err e)) = s
@@ -214,6 +214,6 @@ moved_by s (Ends (Ok answer.Unit)) = moved s statuses.Rolledback
 moved_by s (Ends (Ok _)) = s
 
 -- and by a rollback, which leaves it where it is refused
-abbrev pub rolled_status : {Q : Type 0} → Status → Bool → Turn (Result (TxnAnswer Q) Error) → Status
+abbrev pub rolled_status : {P : Type 0} → Status → Bool → Turn (Result (TxnAnswer P) Error) → Status
 rolled_status s true turn = s
 rolled_status s false turn = if allows_rollback s then moved_by statuses.StartedRollback turn else s

@@ -8,7 +8,7 @@ use Rattle.txn_history.specs.Phase.Phase.{GivenUp, Over}
 use Rattle.txn_history.specs.Posted.{Posted}
 use Rattle.txn_history.specs.Turn.{HasEnded, Turn}
 use Rattle.txn_history.specs.Turn.Turn.{Waits}
-use Rattle.txn_commit.specs.Committing.{Ways}
+use Rattle.txn_commit.specs.Ways.{Ways}
 use Rattle.txn_commit.specs.Going.{stage_phase, stage_waits}
 use Rattle.txn_commit.specs.Jobs.{JobReady}
 use Rattle.txn_commit.specs.declared.committer.CommitterAnswer.{CommitterAnswer}
@@ -20,41 +20,41 @@ use Rattle.txn_core.specs.declared.txn_answer.TxnAnswer.{TxnAnswer}
 use Rattle.txn_core.specs.declared.txn_answer.TxnAnswer.TheVariants as answer
 
 -- It stands where its open call does. Between calls it has answered.
-abbrev pub work_phase : {P Q K A B D : Type 0} → Ways P Q K A B D → Work P Q K → Phase
+abbrev pub work_phase : {P : Type 0} → Ways P → Work P → Phase
 work_phase w Idle = Over
 work_phase w (Open call) = stage_phase w call.stage
 work_phase w GaveUp = GivenUp
 
 -- and waits for what that one does
-abbrev pub work_waits : {P Q K A B D : Type 0} → Ways P Q K A B D → Work P Q K → Awaited → Type 0
+abbrev pub work_waits : {P : Type 0} → Ways P → Work P → Awaited → Type 0
 work_waits w Idle a = ⊥
 work_waits w (Open call) a = stage_waits w call.stage a
 work_waits w GaveUp a = ⊥
 
 -- an event call of it, which is `meant` for it where it waits for that
-abbrev pub TransactionGoes : {P Q K A B D C : Type 0} → Ways P Q K A B D → Type 0
-    → Standing P Q K → Standing P Q K → Posted → Posted → C → C → Turn (Result (TxnAnswer Q) Error) → Type 0
-TransactionGoes {P} {Q} {K} w meant old new from to pd pd' turn = Goes (λ (t : Standing P Q K). work_phase w t.work) meant old new from to pd pd' turn
+abbrev pub TransactionGoes : {P C : Type 0} → Ways P → Type 0
+    → Standing P → Standing P → Posted → Posted → C → C → Turn (Result (TxnAnswer P) Error) → Type 0
+TransactionGoes {P} w meant old new from to pd pd' turn = Goes (λ (t : Standing P). work_phase w t.work) meant old new from to pd pd' turn
 
 -- It begins a call, and waits for nothing that was posted before.
-pub record Opens {P Q K A B D : Type 0} (w : Ways P Q K A B D) (new : Standing P Q K) (from to : Posted) (turn : Turn (Result (TxnAnswer Q) Error)) : Type 0 where
+pub record Opens {P : Type 0} (w : Ways P) (new : Standing P) (from to : Posted) (turn : Turn (Result (TxnAnswer P) Error)) : Type 0 where
   pub next : work_phase w new.work ≡ phase_after turn
   pub expects : Expects (λ a. ⊥) (work_waits w new.work) (λ a. ⊥) from to
 
 -- no call is open: it has answered, or gave up
-pub record Rests {P Q K A B D : Type 0} (w : Ways P Q K A B D) (new : Standing P Q K) (turn : Turn (Result (TxnAnswer Q) Error)) : Type 0 where
+pub record Rests {P : Type 0} (w : Ways P) (new : Standing P) (turn : Turn (Result (TxnAnswer P) Error)) : Type 0 where
   pub next : work_phase w new.work ≡ phase_after turn
   pub silent : (a : Awaited) → work_waits w new.work a → ⊥
 
 -- it keeps a call that waits, and rests after one that has ended
-pub record Follows {P Q K A B D : Type 0} (w : Ways P Q K A B D) (call : CommitterCall P Q K) (inner : Turn (Result CommitterAnswer Error))
-    (old new : Standing P Q K) (turn : Turn (Result (TxnAnswer Q) Error)) : Type 0 where
+pub record Follows {P : Type 0} (w : Ways P) (call : CommitterCall P) (inner : Turn (Result CommitterAnswer Error))
+    (old new : Standing P) (turn : Turn (Result (TxnAnswer P) Error)) : Type 0 where
   pub deaf : inner ≡ Waits → turn ≡ Waits
   pub state : inner ≡ Waits → new ≡ record old { work = Open call }
   pub ended : HasEnded inner → Rests w new turn
 
 -- the timestamp that it hands out is in range, and the job may be started, where there are such
-abbrev pub HandsOut : {Q B : Type 0} → Meaning Q (Result B Error) → Result (TxnAnswer Q) Error → Type 0
+abbrev pub HandsOut : {P B : Type 0} → Meaning P (Result B Error) → Result (TxnAnswer P) Error → Type 0
 HandsOut m (Ok (answer.Committed t job)) = IfSome t HasVersion × IfSome job (JobReady m)
 HandsOut m (Ok _) = ⊤
 HandsOut m (Err e) = ⊤

@@ -8,7 +8,7 @@ use std::time::Duration;
 use txn_kv::{Backoff, Key, Timestamp};
 
 /// What the heartbeat of a transaction needs to know of it. All times are in milliseconds.
-#[derive(Debug, Drop)]
+#[derive(Drop)]
 pub struct Heartbeat {
     /// Where the transaction began.
     pub start: Timestamp,

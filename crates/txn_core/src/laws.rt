@@ -2,8 +2,8 @@
 ghost use Rattle.std.specs.Prelude.{◌≡◌, ◌≢◌, ◌⊎◌, ◌≤◌, ◌+◌, ◌*◌, ℕ, ◌∷◌, Bool, List, None, Ok, Option, Result, Some, false, length, true};
 ghost use Rattle.txn_buffer.specs.Contents.{Contents, locked, mutations, with_write};
 ghost use Rattle.txn_buffer.specs.Writes.{Write};
-ghost use Rattle.txn_commit.specs.Committing.{IsFormed, ways};
-ghost use Rattle.txn_commit.specs.Counting.{Costs, IsOneEach};
+ghost use Rattle.txn_commit.specs.Committing.{IsFormed};
+ghost use Rattle.txn_commit.specs.Ways.{Costs, IsOneEach};
 ghost use Rattle.txn_commit.specs.Following.{Commits as Followed};
 ghost use Rattle.txn_commit.specs.Jobs.{JobFits};
 ghost use Rattle.txn_commit.specs.Parts.{parts_of};
@@ -42,8 +42,7 @@ ghost use Rattle.txn_kv.specs.declared.request.Request.TheVariants.{Commit};
 ghost use Rattle.txn_kv.specs.declared.ticket.Ticket.{Ticket};
 ghost use Rattle.txn_kv.specs.declared.timestamp.Timestamp.{Timestamp};
 
-use txn_commit::PlanFor;
-use txn_kv::{BatchRollbackRequest, CommitRequest, PrewriteRequest};
+use txn_commit::Plans;
 
 /// Whatever becomes of a call, the status goes there by at most two moves.
 pub fn statuses_move()
@@ -53,29 +52,27 @@ pub fn statuses_move()
 /// As a commit or a rollback goes on that is open, the status becomes what it is to be after a call that came to this: a commit, of
 /// which something was prewritten, or a rollback, of which no error says that a commit's end is not known. One that was let go
 /// meanwhile stays so. A rollback that begins leaves it, or moves it so, by whether a Commit of the primary was lost.
-pub fn statuses_follow<Q: PlanFor<CommitRequest>>()
-    ensures commit { (s : Status) (has_prewritten : Bool) (turn : Turn (Result (TxnAnswer Q) Error)) → allows_commit s ≡ true
+pub fn statuses_follow<P: Plans>()
+    ensures commit { (s : Status) (has_prewritten : Bool) (turn : Turn (Result (TxnAnswer P) Error)) → allows_commit s ≡ true
         → moved_by (status_step s (commits None has_prewritten)) turn ≡ status_step s (commits (commit_outcome turn) true) }
-    ensures rollback { (s : Status) (turn : Turn (Result (TxnAnswer Q) Error)) → allows_rollback s ≡ true → IsDetermined turn
+    ensures rollback { (s : Status) (turn : Turn (Result (TxnAnswer P) Error)) → allows_rollback s ≡ true → IsDetermined turn
         → moved_by (status_step s (rolls_back None)) turn ≡ status_step s (rolls_back (rollback_outcome turn)) }
-    ensures closed { (turn : Turn (Result (TxnAnswer Q) Error)) → moved_by Dropped turn ≡ Dropped }
-    ensures refused { (s : Status) (t : Ticket) (turn : Turn (Result (TxnAnswer Q) Error)) → IsUndetermined t turn → HasEnded turn
+    ensures closed { (turn : Turn (Result (TxnAnswer P) Error)) → moved_by Dropped turn ≡ Dropped }
+    ensures refused { (s : Status) (t : Ticket) (turn : Turn (Result (TxnAnswer P) Error)) → IsUndetermined t turn → HasEnded turn
         → rolled_status s true turn ≡ status_step s (rolls_back (rollback_outcome turn)) }
-    ensures begun { (s : Status) (turn : Turn (Result (TxnAnswer Q) Error)) → IsDetermined turn
+    ensures begun { (s : Status) (turn : Turn (Result (TxnAnswer P) Error)) → IsDetermined turn
         → rolled_status s false turn ≡ status_step s (rolls_back (rollback_outcome turn)) }
 {}
 
 /// A transaction that has begun can have arisen from each history in which its start was given and no Commit of it was sent, and
 /// it still can once it was written, where the keys of its buffer are in order.
-pub fn transactions_arise<P, Q, K>()
+pub fn transactions_arise<P>()
 where
-    P: PlanFor<PrewriteRequest>,
-    Q: PlanFor<CommitRequest>,
-    K: PlanFor<BatchRollbackRequest>,
+    P: Plans,
     ensures begun { (start : Timestamp) (options : TransactionOptions) (now : ℕ) (o : Posted) (h : List Event)
-        → WasGiven h (version_of start) → IsUncommitted (version_of start) h → TransactionFits (ways P.meaning Q.meaning K.meaning P.refuses Q.refuses K.refuses) (begun start options now) o h }
-    ensures written { (t : Standing P Q K) (contents : Contents) (o : Posted) (h : List Event)
-        → allows_data t.status ≡ true → t.work ≡ Idle → IsOrdered contents → TransactionFits (ways P.meaning Q.meaning K.meaning P.refuses Q.refuses K.refuses) t o h → TransactionFits (ways P.meaning Q.meaning K.meaning P.refuses Q.refuses K.refuses) (record t { contents = contents }) o h }
+        → WasGiven h (version_of start) → IsUncommitted (version_of start) h → TransactionFits P.ways (begun start options now) o h }
+    ensures written { (t : Standing P) (contents : Contents) (o : Posted) (h : List Event)
+        → allows_data t.status ≡ true → t.work ≡ Idle → IsOrdered contents → TransactionFits P.ways t o h → TransactionFits P.ways (record t { contents = contents }) o h }
 {}
 
 /// Writes and locks leave the keys of a buffer in order.
@@ -85,79 +82,71 @@ pub fn keys_stay_in_order()
 {}
 
 /// The job that a commit hands out can have arisen so: the primary is committed, and it is of the other keys.
-pub fn jobs_arise<Q: PlanFor<CommitRequest>>()
-    ensures { (options : RetryOptions) (start t : Timestamp) (parts : CommitParts) (job : SecondaryJob Q) (o : Posted) (h : List Event)
+pub fn jobs_arise<P: Plans>()
+    ensures { (options : RetryOptions) (start t : Timestamp) (parts : CommitParts) (job : SecondaryJob P) (o : Posted) (h : List Event)
         → IsFormed parts → PrimaryCommitted (plan_of parts) h (version_of start) (version_of t) → IsJobOf options start t parts.secondaries job
-        → JobFits Q.meaning Q.refuses (plan_of parts) parts.secondaries job o h }
+        → JobFits P.ways.plan P.ways.uncommitted (plan_of parts) parts.secondaries job o h }
 {}
 
 /// A whole call posts no more requests and asks than it costs, once more for each error that comes to it, where locks weigh what
 /// they may cost. It begins no more sleeps than it is told of failures and of replies with locks.
-pub fn whole_calls_are_paid<P, Q, K>()
+pub fn whole_calls_are_paid<P>()
 where
-    P: PlanFor<PrewriteRequest>,
-    Q: PlanFor<CommitRequest>,
-    K: PlanFor<BatchRollbackRequest>,
-    ensures posted { (costs : Costs) (whole : ℕ → ℕ) (first : Step P Q K) (steps : List (Step P Q K)) (n : ℕ)
-        → Runs (ways P.meaning Q.meaning K.meaning P.refuses Q.refuses K.refuses) costs whole first steps
-        → 1 ≤ n → transaction_width (ways P.meaning Q.meaning K.meaning P.refuses Q.refuses K.refuses) (standing_after first.new steps) ≤ n
+    P: Plans,
+    ensures posted { (costs : Costs) (whole : ℕ → ℕ) (first : Step P) (steps : List (Step P)) (n : ℕ)
+        → Runs P.ways costs whole first steps
+        → 1 ≤ n → transaction_width P.ways (standing_after first.new steps) ≤ n
         → posted (first ∷ steps) ≤ (1 + errors steps) * (whole n + weighed steps) }
-    ensures rested { (costs : Costs) (whole : ℕ → ℕ) (first : Step P Q K) (steps : List (Step P Q K))
-        → Runs (ways P.meaning Q.meaning K.meaning P.refuses Q.refuses K.refuses) costs whole first steps
+    ensures rested { (costs : Costs) (whole : ℕ → ℕ) (first : Step P) (steps : List (Step P))
+        → Runs P.ways costs whole first steps
         → rested (first ∷ steps) ≤ failures steps + locked_by steps }
 {}
 
 /// Where a plan posts no more than one request for each of its keys, a commit or a rollback of k mutations posts no more than 2k + 9
 /// requests and asks, once more for each error that comes to it, and what locks may cost.
-pub fn commits_are_bounded<P, Q, K>()
+pub fn commits_are_bounded<P>()
 where
-    P: PlanFor<PrewriteRequest>,
-    Q: PlanFor<CommitRequest>,
-    K: PlanFor<BatchRollbackRequest>,
-    ensures commit { (costs : Costs) (first : Step P Q K) (steps : List (Step P Q K)) → IsOneEach costs
-        → Runs (ways P.meaning Q.meaning K.meaning P.refuses Q.refuses K.refuses) costs (commit_price costs (parts_of first.old.contents) first.old.commits.timestamp) first steps
+    P: Plans,
+    ensures commit { (costs : Costs) (first : Step P) (steps : List (Step P)) → IsOneEach costs
+        → Runs P.ways costs (commit_price costs (parts_of first.old.contents) first.old.commits.timestamp) first steps
         → posted (first ∷ steps) ≤ (1 + errors steps) * (2 * length (mutations first.old.contents.entries) + 9 + weighed steps) }
-    ensures rollback { (costs : Costs) (first : Step P Q K) (steps : List (Step P Q K)) → IsOneEach costs
-        → Runs (ways P.meaning Q.meaning K.meaning P.refuses Q.refuses K.refuses) costs (rollback_price costs (parts_of first.old.contents)) first steps
+    ensures rollback { (costs : Costs) (first : Step P) (steps : List (Step P)) → IsOneEach costs
+        → Runs P.ways costs (rollback_price costs (parts_of first.old.contents)) first steps
         → posted (first ∷ steps) ≤ (1 + errors steps) * (2 * length (mutations first.old.contents.entries) + 9 + weighed steps) }
 {}
 
 /// A transaction waits for something exactly while a call of it runs, and what it waits for was posted. One that may be called
 /// runs while a call of it is open.
-pub fn transactions_wait_for_what_was_posted<P, Q, K>()
+pub fn transactions_wait_for_what_was_posted<P>()
 where
-    P: PlanFor<PrewriteRequest>,
-    Q: PlanFor<CommitRequest>,
-    K: PlanFor<BatchRollbackRequest>,
-    ensures runs { (g : Work P Q K) (a : Awaited) → work_waits (ways P.meaning Q.meaning K.meaning P.refuses Q.refuses K.refuses) g a → work_phase (ways P.meaning Q.meaning K.meaning P.refuses Q.refuses K.refuses) g ≡ Running }
-    ensures busy { (t : Standing P Q K) → TransactionReady (ways P.meaning Q.meaning K.meaning P.refuses Q.refuses K.refuses) t → is_open t.work ≡ true → work_phase (ways P.meaning Q.meaning K.meaning P.refuses Q.refuses K.refuses) t.work ≡ Running }
-    ensures waits { (t : Standing P Q K) (o : Posted) (h : List Event) → TransactionFits (ways P.meaning Q.meaning K.meaning P.refuses Q.refuses K.refuses) t o h
-        → work_phase (ways P.meaning Q.meaning K.meaning P.refuses Q.refuses K.refuses) t.work ≡ Running → (a : Awaited) × work_waits (ways P.meaning Q.meaning K.meaning P.refuses Q.refuses K.refuses) t.work a }
-    ensures posted { (t : Standing P Q K) (o : Posted) (h : List Event) (a : Awaited) → TransactionFits (ways P.meaning Q.meaning K.meaning P.refuses Q.refuses K.refuses) t o h
-        → work_waits (ways P.meaning Q.meaning K.meaning P.refuses Q.refuses K.refuses) t.work a → WasPosted o h a }
+    P: Plans,
+    ensures runs { (g : Work P) (a : Awaited) → work_waits P.ways g a → work_phase P.ways g ≡ Running }
+    ensures busy { (t : Standing P) → TransactionReady P.ways t → is_open t.work ≡ true → work_phase P.ways t.work ≡ Running }
+    ensures waits { (t : Standing P) (o : Posted) (h : List Event) → TransactionFits P.ways t o h
+        → work_phase P.ways t.work ≡ Running → (a : Awaited) × work_waits P.ways t.work a }
+    ensures posted { (t : Standing P) (o : Posted) (h : List Event) (a : Awaited) → TransactionFits P.ways t o h
+        → work_waits P.ways t.work a → WasPosted o h a }
 {}
 
 /// What others send and take changes nothing that a transaction knows, where no Commit of its start is sent beside it. Nor does
 /// what its own job sends, once the transaction is no longer written: no Commit that names its primary. Between calls it waits
 /// for nothing that a line posts.
-pub fn others_change_nothing<P, Q, K>()
+pub fn others_change_nothing<P>()
 where
-    P: PlanFor<PrewriteRequest>,
-    Q: PlanFor<CommitRequest>,
-    K: PlanFor<BatchRollbackRequest>,
-    ensures others { (t : Standing P Q K) (o p : Posted) (h longer : List Event) → IsLater o p → AddsNothingOf (version_of t.start) h longer
-        → TransactionFits (ways P.meaning Q.meaning K.meaning P.refuses Q.refuses K.refuses) t o h → TransactionFits (ways P.meaning Q.meaning K.meaning P.refuses Q.refuses K.refuses) t p longer }
-    ensures own_job { (t : Standing P Q K) (parts : CommitParts) (o p : Posted) (h longer : List Event) → allows_data t.status ≡ false → parts_of t.contents ≡ Some parts
+    P: Plans,
+    ensures others { (t : Standing P) (o p : Posted) (h longer : List Event) → IsLater o p → AddsNothingOf (version_of t.start) h longer
+        → TransactionFits P.ways t o h → TransactionFits P.ways t p longer }
+    ensures own_job { (t : Standing P) (parts : CommitParts) (o p : Posted) (h longer : List Event) → allows_data t.status ≡ false → parts_of t.contents ≡ Some parts
         → IsLater o p → AddsNoPrimaryOf (plan_of parts) (version_of t.start) h longer
-        → TransactionFits (ways P.meaning Q.meaning K.meaning P.refuses Q.refuses K.refuses) t o h → TransactionFits (ways P.meaning Q.meaning K.meaning P.refuses Q.refuses K.refuses) t p longer }
-    ensures idle { (t : Standing P Q K) (o p : Posted) (h : List Event) → t.work ≡ Idle
-        → TransactionFits (ways P.meaning Q.meaning K.meaning P.refuses Q.refuses K.refuses) t o h → TransactionFits (ways P.meaning Q.meaning K.meaning P.refuses Q.refuses K.refuses) t p h }
+        → TransactionFits P.ways t o h → TransactionFits P.ways t p longer }
+    ensures idle { (t : Standing P) (o p : Posted) (h : List Event) → t.work ≡ Idle
+        → TransactionFits P.ways t o h → TransactionFits P.ways t p h }
 {}
 
 /// What others send and take changes nothing that a job knows.
-pub fn jobs_last<Q: PlanFor<CommitRequest>>()
-    ensures { (plan : Plan) (keys : List Key) (job : SecondaryJob Q) (o p : Posted) (h longer : List Event) → IsLater o p → Within h longer
-        → JobFits Q.meaning Q.refuses plan keys job o h → JobFits Q.meaning Q.refuses plan keys job p longer }
+pub fn jobs_last<P: Plans>()
+    ensures { (plan : Plan) (keys : List Key) (job : SecondaryJob P) (o p : Posted) (h longer : List Event) → IsLater o p → Within h longer
+        → JobFits P.ways.plan P.ways.uncommitted plan keys job o h → JobFits P.ways.plan P.ways.uncommitted plan keys job p longer }
 {}
 
 /// A history grows one event at a time, and what it had stays. Each event but a Commit of a start adds nothing of the start.
@@ -189,20 +178,18 @@ pub fn commits_are_owned()
 /// What the end of a commit or a rollback stands on. A timestamp says that the primary of what the buffer holds is committed there,
 /// and the job beside it can have arisen so. No timestamp says that no key is locked. A rollback that did something rolled the
 /// primary back.
-pub fn ends_stand<P, Q, K>()
+pub fn ends_stand<P>()
 where
-    P: PlanFor<PrewriteRequest>,
-    Q: PlanFor<CommitRequest>,
-    K: PlanFor<BatchRollbackRequest>,
-    ensures committed { (options : RetryOptions) (start t : Timestamp) (contents : Contents) (c : Followed) (h : List Event) (job : Option (SecondaryJob Q))
-        → TransactionGives (ways P.meaning Q.meaning K.meaning P.refuses Q.refuses K.refuses) options start contents c h (Ok (answers.Committed (Some t) job))
+    P: Plans,
+    ensures committed { (options : RetryOptions) (start t : Timestamp) (contents : Contents) (c : Followed) (h : List Event) (job : Option (SecondaryJob P))
+        → TransactionGives P.ways options start contents c h (Ok (answers.Committed (Some t) job))
         → (parts : CommitParts) × (parts_of contents ≡ Some parts) × PrimaryCommitted (plan_of parts) h (version_of start) (version_of t) }
-    ensures job { (options : RetryOptions) (start t : Timestamp) (contents : Contents) (c : Followed) (o : Posted) (h : List Event) (job : SecondaryJob Q)
-        → TransactionGives (ways P.meaning Q.meaning K.meaning P.refuses Q.refuses K.refuses) options start contents c h (Ok (answers.Committed (Some t) (Some job)))
-        → (parts : CommitParts) × (parts_of contents ≡ Some parts) × (job.start ≡ start) × (job.commit ≡ t) × JobFits Q.meaning Q.refuses (plan_of parts) parts.secondaries job o h }
-    ensures checked { (options : RetryOptions) (start : Timestamp) (contents : Contents) (c : Followed) (h : List Event) (job : Option (SecondaryJob Q))
-        → TransactionGives (ways P.meaning Q.meaning K.meaning P.refuses Q.refuses K.refuses) options start contents c h (Ok (answers.Committed None job)) → locks_nothing contents ≡ true }
+    ensures job { (options : RetryOptions) (start t : Timestamp) (contents : Contents) (c : Followed) (o : Posted) (h : List Event) (job : SecondaryJob P)
+        → TransactionGives P.ways options start contents c h (Ok (answers.Committed (Some t) (Some job)))
+        → (parts : CommitParts) × (parts_of contents ≡ Some parts) × (job.start ≡ start) × (job.commit ≡ t) × JobFits P.ways.plan P.ways.uncommitted (plan_of parts) parts.secondaries job o h }
+    ensures checked { (options : RetryOptions) (start : Timestamp) (contents : Contents) (c : Followed) (h : List Event) (job : Option (SecondaryJob P))
+        → TransactionGives P.ways options start contents c h (Ok (answers.Committed None job)) → locks_nothing contents ≡ true }
     ensures rolled_back { (options : RetryOptions) (start : Timestamp) (contents : Contents) (c : Followed) (h : List Event)
-        → TransactionGives (ways P.meaning Q.meaning K.meaning P.refuses Q.refuses K.refuses) options start contents c h (Ok answers.Unit)
+        → TransactionGives P.ways options start contents c h (Ok answers.Unit)
         → (locks_nothing contents ≡ true) ⊎ ((parts : CommitParts) × (parts_of contents ≡ Some parts) × PrimaryRolledBack (plan_of parts) h (version_of start)) }
 {}

@@ -18,7 +18,7 @@ pub fn parts_can_move() {
 }
 
 /// A transaction does where its plans do.
-pub fn transactions_can_move<C: Send, P: Send, Q: Send, K: Send>() {
-    can_move::<Transaction<C, P, Q, K>>();
-    can_move::<TxnAnswer<Q>>();
+pub fn transactions_can_move<C: Send, P: Send>() {
+    can_move::<Transaction<C, P>>();
+    can_move::<TxnAnswer<P>>();
 }

@@ -8,8 +8,8 @@ ghost use Rattle.txn_kv.specs.ErrorView.ErrorView.{undetermined as not_known};
 ghost use Rattle.txn_kv.specs.Timestamp.{HasVersion, version_of};
 ghost use Rattle.txn_kv.specs.declared.errors.Error.TheVariants.{OperationAfterCommitError};
 ghost use Rattle.txn_kv.specs.declared.ticket.Ticket.{Ticket as Named};
-ghost use Rattle.txn_commit.specs.Committing.{CommitterMoves, IsInRange, MayCommit, StageReady, ways};
-ghost use Rattle.txn_commit.specs.Counting.{Begins, call_width, commit_again_costs, costs_of};
+ghost use Rattle.txn_commit.specs.Committing.{CommitterMoves, IsInRange, MayCommit, StageReady};
+ghost use Rattle.txn_commit.specs.Counting.{Begins, call_width, commit_again_costs};
 ghost use Rattle.txn_commit.specs.Following.{IsFollowed, undetermined};
 ghost use Rattle.txn_commit.specs.Going.{Opens as CallOpens, stage_phase};
 ghost use Rattle.txn_commit.specs.Parts.{parts_of};
@@ -38,23 +38,20 @@ use std::marker::{Model, PhantomData};
 use std::mem;
 use txn_buffer::Buffer;
 use txn_commit::{
-    CommitParts, CommitterAnswer, CommitterCall, PlanFor, PrimaryCommits, SecondaryJob,
+    CommitParts, CommitterAnswer, CommitterCall, Plans, PrimaryCommits, SecondaryJob,
 };
-use txn_kv::{
-    BatchRollbackRequest, CommitRequest, Error, Items, Key, NoMemory, Outbox, PrewriteRequest,
-    Progress, Ticket, Timestamp,
-};
+use txn_kv::{Error, Items, Key, NoMemory, Outbox, Progress, Ticket, Timestamp};
 use txn_merge::RetryOptions;
 use txn_region::PdClient;
 use writes::{done, refused};
 
-type Turn<Q> = Result<Progress<TxnAnswer<Q>>, NoMemory>;
+type Turn<P> = Result<Progress<TxnAnswer<P>>, NoMemory>;
 
 /// The call that is open, if one is.
 #[derive(Drop)]
-enum Work<P, Q, K> {
+enum Work<P> {
     Idle,
-    Open(CommitterCall<P, Q, K>),
+    Open(CommitterCall<P>),
     /// A call gave up for want of memory, and so does each later one.
     GaveUp,
 }
@@ -63,8 +60,7 @@ enum Work<P, Q, K> {
 ///
 /// A call answers at once, or goes on by the events that it asked for. One call is open at a time. A call that gave up for want
 /// of memory gives up ever after, and so does each later one.
-#[derive(Drop)]
-pub struct Transaction<C, P, Q, K> {
+pub struct Transaction<C, P> {
     timestamp: Timestamp,
     options: TransactionOptions,
     /// The clock as the start timestamp came.
@@ -72,27 +68,47 @@ pub struct Transaction<C, P, Q, K> {
     status: Status,
     buffer: Buffer,
     commits: PrimaryCommits,
-    work: Work<P, Q, K>,
+    work: Work<P>,
     /// The most parts that a request of a call was cut into that is let go.
     width: u64,
     alloc: Global,
     client: PhantomData<C>,
 }
 
-impl<C, P, Q, K> Model for Transaction<C, P, Q, K> {
+impl<C: Drop, P: Drop> Drop for Transaction<C, P> {
+    fn drop(self) {
+        let Transaction {
+            timestamp: _,
+            options,
+            started: _,
+            status,
+            buffer,
+            commits,
+            work,
+            width: _,
+            alloc: _,
+            client: _,
+        } = self;
+        drop(options);
+        drop(status);
+        drop(buffer);
+        drop(commits);
+        drop(work);
+    }
+}
+
+impl<C, P> Model for Transaction<C, P> {
     ghost use Rattle.txn_core.specs.Transaction.{Standing};
 
-    ghost Value = { Standing P Q K };
+    ghost Value = { Standing P };
 
     ghost view = { λ t. record { start = t.timestamp; options = t.options; began = t.started; status = t.status; contents = t.buffer; commits = t.commits; work = t.work; width = t.width } };
 }
 
-impl<C, P, Q, K> Transaction<C, P, Q, K>
+impl<C, P> Transaction<C, P>
 where
     C: PdClient,
-    P: PlanFor<PrewriteRequest>,
-    Q: PlanFor<CommitRequest>,
-    K: PlanFor<BatchRollbackRequest>,
+    P: Plans,
 {
     pub fn new(
         alloc: Global,
@@ -147,23 +163,23 @@ where
     }
 
     /// Commits what was written and locked. Once a Commit of the primary was sent, a further call sends it again.
-    pub fn commit(&mut self, pd: &mut C, now: u64, out: &mut Outbox) -> Turn<Q>
+    pub fn commit(&mut self, pd: &mut C, now: u64, out: &mut Outbox) -> Turn<P>
         requires idle { is_open self.old.work ≡ false }
-        requires ready { TransactionReady (ways P.meaning Q.meaning K.meaning P.refuses Q.refuses K.refuses) self.old }
+        requires ready { TransactionReady P.ways self.old }
         requires numbers { HasNumbers out.old }
         requires clock { now < 2 ^ 44 }
         ensures refused { allows_commit self.old.status ≡ false → IsRefused OperationAfterCommitError self.old self.new (turn_of result) × (out.new ≡ out.old) }
         ensures empty { allows_commit self.old.status ≡ true → parts_of self.old.contents ≡ None → AnswersAtOnce (answers.Committed None None) (turn_of result) × (out.new ≡ out.old) }
-        ensures moves { allows_commit self.old.status ≡ true → TransactionMoves (ways P.meaning Q.meaning K.meaning P.refuses Q.refuses K.refuses) (λ h. ⊤) (λ h. h) self.old self.new out.old out.new (turn_of result) }
-        ensures counts { TransactionBegins (ways P.meaning Q.meaning K.meaning P.refuses Q.refuses K.refuses) (costs_of P.costs Q.costs K.costs) (commit_price (costs_of P.costs Q.costs K.costs) (parts_of self.old.contents) self.old.commits.timestamp) self.old self.new out.old out.new (turn_of result) }
+        ensures moves { allows_commit self.old.status ≡ true → TransactionMoves P.ways (λ h. ⊤) (λ h. h) self.old self.new out.old out.new (turn_of result) }
+        ensures counts { TransactionBegins P.ways P.ways.costs (commit_price P.ways.costs (parts_of self.old.contents) self.old.commits.timestamp) self.old self.new out.old out.new (turn_of result) }
         ensures status { self.old.work ≡ works.Idle → self.new.status ≡ status_step self.old.status (commits (commit_outcome (turn_of result)) (is_some (parts_of self.old.contents))) }
         ensures kept { self.new ≡ record self.old { status = self.new.status; commits = self.new.commits; work = self.new.work; width = self.new.width } }
         ensures follows { IfKept (turn_of result) (IsFollowed out.old self.old.commits self.new.commits) }
         ensures gives_up { GivesUp self.old self.new (turn_of result) }
         ensures busy { is_open self.new.work ≡ is_waiting (turn_of result) }
-        ensures opens { Opens (ways P.meaning Q.meaning K.meaning P.refuses Q.refuses K.refuses) self.new out.old out.new (turn_of result) }
-        ensures job { IfEnds (turn_of result) (HandsOut Q.meaning) }
-        ensures ready { TransactionReady (ways P.meaning Q.meaning K.meaning P.refuses Q.refuses K.refuses) self.new }
+        ensures opens { Opens P.ways self.new out.old out.new (turn_of result) }
+        ensures job { IfEnds (turn_of result) (HandsOut P.ways.plan) }
+        ensures ready { TransactionReady P.ways self.new }
         ensures numbers { HasNumbers out.new }
     {
         if self.has_given_up() {
@@ -181,24 +197,24 @@ where
 
     /// Takes back what a failed commit may have left. Refused where a Commit of the primary was lost: whether it was served is not
     /// known.
-    pub fn rollback(&mut self, pd: &mut C, now: u64, out: &mut Outbox) -> Turn<Q>
+    pub fn rollback(&mut self, pd: &mut C, now: u64, out: &mut Outbox) -> Turn<P>
         requires idle { is_open self.old.work ≡ false }
-        requires ready { TransactionReady (ways P.meaning Q.meaning K.meaning P.refuses Q.refuses K.refuses) self.old }
+        requires ready { TransactionReady P.ways self.old }
         requires numbers { HasNumbers out.old }
         requires clock { now < 2 ^ 44 }
         ensures refused { allows_rollback self.old.status ≡ false → IsRefused OperationAfterCommitError self.old self.new (turn_of result) × (out.new ≡ out.old) }
         ensures undetermined { (t : Named) → allows_rollback self.old.status ≡ true → undetermined self.old.commits ≡ Some t → IsUndetermined t (turn_of result) × (self.new ≡ record self.old { work = self.new.work }) × (out.new ≡ out.old) }
         ensures empty { allows_rollback self.old.status ≡ true → undetermined self.old.commits ≡ None → locks_nothing self.old.contents ≡ true → AnswersAtOnce answers.Unit (turn_of result) × (out.new ≡ out.old) }
-        ensures moves { allows_rollback self.old.status ≡ true → undetermined self.old.commits ≡ None → TransactionMoves (ways P.meaning Q.meaning K.meaning P.refuses Q.refuses K.refuses) (λ h. ⊤) (λ h. h) self.old self.new out.old out.new (turn_of result) }
-        ensures counts { TransactionBegins (ways P.meaning Q.meaning K.meaning P.refuses Q.refuses K.refuses) (costs_of P.costs Q.costs K.costs) (rollback_price (costs_of P.costs Q.costs K.costs) (parts_of self.old.contents)) self.old self.new out.old out.new (turn_of result) }
+        ensures moves { allows_rollback self.old.status ≡ true → undetermined self.old.commits ≡ None → TransactionMoves P.ways (λ h. ⊤) (λ h. h) self.old self.new out.old out.new (turn_of result) }
+        ensures counts { TransactionBegins P.ways P.ways.costs (rollback_price P.ways.costs (parts_of self.old.contents)) self.old self.new out.old out.new (turn_of result) }
         ensures status { self.old.work ≡ works.Idle → self.new.status ≡ rolled_status self.old.status (is_some (undetermined self.old.commits)) (turn_of result) }
         ensures kept { self.new ≡ record self.old { status = self.new.status; commits = self.new.commits; work = self.new.work; width = self.new.width } }
         ensures commits { self.new.commits ≡ self.old.commits }
         ensures gives_up { GivesUp self.old self.new (turn_of result) }
         ensures busy { is_open self.new.work ≡ is_waiting (turn_of result) }
-        ensures opens { Opens (ways P.meaning Q.meaning K.meaning P.refuses Q.refuses K.refuses) self.new out.old out.new (turn_of result) }
-        ensures job { IfEnds (turn_of result) (HandsOut Q.meaning) }
-        ensures ready { TransactionReady (ways P.meaning Q.meaning K.meaning P.refuses Q.refuses K.refuses) self.new }
+        ensures opens { Opens P.ways self.new out.old out.new (turn_of result) }
+        ensures job { IfEnds (turn_of result) (HandsOut P.ways.plan) }
+        ensures ready { TransactionReady P.ways self.new }
         ensures numbers { HasNumbers out.new }
     {
         if self.has_given_up() {
@@ -219,23 +235,23 @@ where
         pd: &mut C,
         now: u64,
         out: &mut Outbox,
-    ) -> Turn<Q>
+    ) -> Turn<P>
         requires aside { self.old.work ≡ works.GaveUp }
         requires start { HasVersion self.old.start }
         requires forward { has_turned_back self.old.status ≡ false }
         requires parts { parts_of self.old.contents ≡ Some parts }
         requires numbers { HasNumbers out.old }
         requires clock { now < 2 ^ 44 }
-        ensures moves { BeginMoves (ways P.meaning Q.meaning K.meaning P.refuses Q.refuses K.refuses) (MayBegin self.old parts) self.old self.new out.old out.new (turn_of result) }
-        ensures counts { TransactionBegins (ways P.meaning Q.meaning K.meaning P.refuses Q.refuses K.refuses) (costs_of P.costs Q.costs K.costs) (commit_price (costs_of P.costs Q.costs K.costs) (Some parts) self.old.commits.timestamp) self.old self.new out.old out.new (turn_of result) }
+        ensures moves { BeginMoves P.ways (MayBegin self.old parts) self.old self.new out.old out.new (turn_of result) }
+        ensures counts { TransactionBegins P.ways P.ways.costs (commit_price P.ways.costs (Some parts) self.old.commits.timestamp) self.old self.new out.old out.new (turn_of result) }
         ensures status { self.new.status ≡ moved_by self.old.status (turn_of result) }
         ensures kept { self.new ≡ record self.old { status = self.new.status; commits = self.new.commits; work = self.new.work; width = self.new.width } }
         ensures follows { IfKept (turn_of result) (IsFollowed out.old self.old.commits self.new.commits) }
         ensures stops { turn_of result ≡ Stopped → self.new.work ≡ works.GaveUp }
         ensures busy { is_open self.new.work ≡ is_waiting (turn_of result) }
-        ensures opens { Opens (ways P.meaning Q.meaning K.meaning P.refuses Q.refuses K.refuses) self.new out.old out.new (turn_of result) }
-        ensures job { IfEnds (turn_of result) (HandsOut Q.meaning) }
-        ensures ready { TransactionReady (ways P.meaning Q.meaning K.meaning P.refuses Q.refuses K.refuses) self.new }
+        ensures opens { Opens P.ways self.new out.old out.new (turn_of result) }
+        ensures job { IfEnds (turn_of result) (HandsOut P.ways.plan) }
+        ensures ready { TransactionReady P.ways self.new }
         ensures numbers { HasNumbers out.new }
     {
         let mut call = self.committer(parts);
@@ -248,7 +264,7 @@ where
     /// Prewrites, or sends the Commit of the primary again once one was sent.
     fn start_call(
         &mut self,
-        call: &mut CommitterCall<P, Q, K>,
+        call: &mut CommitterCall<P>,
         pd: &mut C,
         now: u64,
         out: &mut Outbox,
@@ -257,14 +273,14 @@ where
         requires call { call.old.start ≡ self.old.start }
         requires numbers { HasNumbers out.old }
         requires clock { now < 2 ^ 44 }
-        ensures moves { CommitterMoves (ways P.meaning Q.meaning K.meaning P.refuses Q.refuses K.refuses) (MayStart (plan_of call.old.parts) (version_of call.old.start) self.old.commits) (λ h. h) call.old call.new self.old.commits self.new.commits out.old out.new (turn_of result) }
-        ensures counts { Begins (ways P.meaning Q.meaning K.meaning P.refuses Q.refuses K.refuses) (costs_of P.costs Q.costs K.costs) (commit_price (costs_of P.costs Q.costs K.costs) (Some call.old.parts) self.old.commits.timestamp) call.old call.new out.old out.new (turn_of result) }
+        ensures moves { CommitterMoves P.ways (MayStart (plan_of call.old.parts) (version_of call.old.start) self.old.commits) (λ h. h) call.old call.new self.old.commits self.new.commits out.old out.new (turn_of result) }
+        ensures counts { Begins P.ways P.ways.costs (commit_price P.ways.costs (Some call.old.parts) self.old.commits.timestamp) call.old call.new out.old out.new (turn_of result) }
         ensures job { IsSameCall call.old call.new }
         ensures kept { self.new ≡ record self.old { commits = self.new.commits } }
         ensures follows { IfKept (turn_of result) (IsFollowed out.old self.old.commits self.new.commits) }
-        ensures opens { CallOpens (ways P.meaning Q.meaning K.meaning P.refuses Q.refuses K.refuses) call.new out.old out.new (turn_of result) }
+        ensures opens { CallOpens P.ways call.new out.old out.new (turn_of result) }
         ensures version { IfEnds (turn_of result) IsInRange }
-        ensures ready { StageReady (ways P.meaning Q.meaning K.meaning P.refuses Q.refuses K.refuses) call.new.stage }
+        ensures ready { StageReady P.ways call.new.stage }
         ensures numbers { HasNumbers out.new }
     {
         match self.commit_time() {
@@ -278,7 +294,7 @@ where
 
     fn commit_again(
         &mut self,
-        call: &mut CommitterCall<P, Q, K>,
+        call: &mut CommitterCall<P>,
         timestamp: Timestamp,
         pd: &mut C,
         now: u64,
@@ -288,24 +304,24 @@ where
         requires timestamp { HasVersion timestamp }
         requires numbers { HasNumbers out.old }
         requires clock { now < 2 ^ 44 }
-        ensures moves { CommitterMoves (ways P.meaning Q.meaning K.meaning P.refuses Q.refuses K.refuses) (MayCommit (plan_of call.old.parts) (version_of call.old.start) timestamp self.old.commits) (λ h. h) call.old call.new self.old.commits self.new.commits out.old out.new (turn_of result) }
-        ensures counts { Begins (ways P.meaning Q.meaning K.meaning P.refuses Q.refuses K.refuses) (costs_of P.costs Q.costs K.costs) (commit_again_costs (costs_of P.costs Q.costs K.costs)) call.old call.new out.old out.new (turn_of result) }
+        ensures moves { CommitterMoves P.ways (MayCommit (plan_of call.old.parts) (version_of call.old.start) timestamp self.old.commits) (λ h. h) call.old call.new self.old.commits self.new.commits out.old out.new (turn_of result) }
+        ensures counts { Begins P.ways P.ways.costs (commit_again_costs P.ways.costs) call.old call.new out.old out.new (turn_of result) }
         ensures job { IsSameCall call.old call.new }
         ensures kept { self.new ≡ record self.old { commits = self.new.commits } }
         ensures follows { IfKept (turn_of result) (IsFollowed out.old self.old.commits self.new.commits) }
-        ensures opens { CallOpens (ways P.meaning Q.meaning K.meaning P.refuses Q.refuses K.refuses) call.new out.old out.new (turn_of result) }
+        ensures opens { CallOpens P.ways call.new out.old out.new (turn_of result) }
         ensures version { IfEnds (turn_of result) IsInRange }
-        ensures ready { StageReady (ways P.meaning Q.meaning K.meaning P.refuses Q.refuses K.refuses) call.new.stage }
+        ensures ready { StageReady P.ways call.new.stage }
         ensures numbers { HasNumbers out.new }
     {
         call.commit_again(&mut self.commits, timestamp, pd, now, out)
     }
 
     /// Whether the transaction is committed is not known, since this Commit of its primary was lost or is not refused.
-    fn refuse_rollback(&mut self, ticket: Ticket) -> Turn<Q>
+    fn refuse_rollback(&mut self, ticket: Ticket) -> Turn<P>
         ensures answer { IsUndetermined ticket (turn_of result) }
         ensures state { self.new ≡ record self.old { work = self.new.work } }
-        ensures rests { Rests (ways P.meaning Q.meaning K.meaning P.refuses Q.refuses K.refuses) self.new (turn_of result) }
+        ensures rests { Rests P.ways self.new (turn_of result) }
         ensures stops { turn_of result ≡ Stopped → self.new.work ≡ works.GaveUp }
         ensures busy { is_open self.new.work ≡ false }
     {
@@ -315,22 +331,22 @@ where
         Ok(refused(error))
     }
 
-    fn go_back(&mut self, pd: &mut C, now: u64, out: &mut Outbox) -> Turn<Q>
+    fn go_back(&mut self, pd: &mut C, now: u64, out: &mut Outbox) -> Turn<P>
         requires idle { is_open self.old.work ≡ false }
         requires start { HasVersion self.old.start }
         requires numbers { HasNumbers out.old }
         requires clock { now < 2 ^ 44 }
         ensures empty { locks_nothing self.old.contents ≡ true → AnswersAtOnce answers.Unit (turn_of result) × (out.new ≡ out.old) }
-        ensures moves { BeginMoves (ways P.meaning Q.meaning K.meaning P.refuses Q.refuses K.refuses) (MayGoBack self.old) self.old self.new out.old out.new (turn_of result) }
-        ensures counts { TransactionBegins (ways P.meaning Q.meaning K.meaning P.refuses Q.refuses K.refuses) (costs_of P.costs Q.costs K.costs) (rollback_price (costs_of P.costs Q.costs K.costs) (parts_of self.old.contents)) self.old self.new out.old out.new (turn_of result) }
+        ensures moves { BeginMoves P.ways (MayGoBack self.old) self.old self.new out.old out.new (turn_of result) }
+        ensures counts { TransactionBegins P.ways P.ways.costs (rollback_price P.ways.costs (parts_of self.old.contents)) self.old self.new out.old out.new (turn_of result) }
         ensures status { self.new.status ≡ moved_by statuses.StartedRollback (turn_of result) }
         ensures kept { self.new ≡ record self.old { status = self.new.status; commits = self.new.commits; work = self.new.work; width = self.new.width } }
         ensures commits { self.new.commits ≡ self.old.commits }
         ensures stops { turn_of result ≡ Stopped → self.new.work ≡ works.GaveUp }
         ensures busy { is_open self.new.work ≡ is_waiting (turn_of result) }
-        ensures opens { Opens (ways P.meaning Q.meaning K.meaning P.refuses Q.refuses K.refuses) self.new out.old out.new (turn_of result) }
-        ensures job { IfEnds (turn_of result) (HandsOut Q.meaning) }
-        ensures ready { TransactionReady (ways P.meaning Q.meaning K.meaning P.refuses Q.refuses K.refuses) self.new }
+        ensures opens { Opens P.ways self.new out.old out.new (turn_of result) }
+        ensures job { IfEnds (turn_of result) (HandsOut P.ways.plan) }
+        ensures ready { TransactionReady P.ways self.new }
         ensures numbers { HasNumbers out.new }
     {
         self.begin(Status::StartedRollback);
@@ -346,23 +362,23 @@ where
         pd: &mut C,
         now: u64,
         out: &mut Outbox,
-    ) -> Turn<Q>
+    ) -> Turn<P>
         requires aside { self.old.work ≡ works.GaveUp }
         requires start { HasVersion self.old.start }
         requires parts { parts_of self.old.contents ≡ Some parts }
         requires numbers { HasNumbers out.old }
         requires clock { now < 2 ^ 44 }
         ensures empty { parts.locks ≡ false → AnswersAtOnce answers.Unit (turn_of result) × (out.new ≡ out.old) }
-        ensures moves { BeginMoves (ways P.meaning Q.meaning K.meaning P.refuses Q.refuses K.refuses) (λ h. MayBegin self.old parts h × (undetermined self.old.commits ≡ None)) self.old self.new out.old out.new (turn_of result) }
-        ensures counts { TransactionBegins (ways P.meaning Q.meaning K.meaning P.refuses Q.refuses K.refuses) (costs_of P.costs Q.costs K.costs) (rollback_price (costs_of P.costs Q.costs K.costs) (Some parts)) self.old self.new out.old out.new (turn_of result) }
+        ensures moves { BeginMoves P.ways (λ h. MayBegin self.old parts h × (undetermined self.old.commits ≡ None)) self.old self.new out.old out.new (turn_of result) }
+        ensures counts { TransactionBegins P.ways P.ways.costs (rollback_price P.ways.costs (Some parts)) self.old self.new out.old out.new (turn_of result) }
         ensures status { self.new.status ≡ moved_by self.old.status (turn_of result) }
         ensures kept { self.new ≡ record self.old { status = self.new.status; commits = self.new.commits; work = self.new.work; width = self.new.width } }
         ensures commits { self.new.commits ≡ self.old.commits }
         ensures stops { turn_of result ≡ Stopped → self.new.work ≡ works.GaveUp }
         ensures busy { is_open self.new.work ≡ is_waiting (turn_of result) }
-        ensures opens { Opens (ways P.meaning Q.meaning K.meaning P.refuses Q.refuses K.refuses) self.new out.old out.new (turn_of result) }
-        ensures job { IfEnds (turn_of result) (HandsOut Q.meaning) }
-        ensures ready { TransactionReady (ways P.meaning Q.meaning K.meaning P.refuses Q.refuses K.refuses) self.new }
+        ensures opens { Opens P.ways self.new out.old out.new (turn_of result) }
+        ensures job { IfEnds (turn_of result) (HandsOut P.ways.plan) }
+        ensures ready { TransactionReady P.ways self.new }
         ensures numbers { HasNumbers out.new }
     {
         if !parts.locks {
@@ -376,25 +392,21 @@ where
     }
 
     /// Keeps a call that waits, and answers for one that has ended.
-    fn go_on(
-        &mut self,
-        call: CommitterCall<P, Q, K>,
-        progress: Progress<CommitterAnswer>,
-    ) -> Turn<Q>
+    fn go_on(&mut self, call: CommitterCall<P>, progress: Progress<CommitterAnswer>) -> Turn<P>
         requires aside { self.old.work ≡ works.GaveUp }
         requires start { HasVersion self.old.start }
-        requires call { (call.start ≡ self.old.start) × StageReady (ways P.meaning Q.meaning K.meaning P.refuses Q.refuses K.refuses) call.stage }
-        requires runs { turn_of (Ok progress) ≡ Waits → stage_phase (ways P.meaning Q.meaning K.meaning P.refuses Q.refuses K.refuses) call.stage ≡ Running }
+        requires call { (call.start ≡ self.old.start) × StageReady P.ways call.stage }
+        requires runs { turn_of (Ok progress) ≡ Waits → stage_phase P.ways call.stage ≡ Running }
         requires version { IfEnds (turn_of (Ok progress)) IsInRange }
-        ensures takes_up { (o : Posted) → TakesUp (ways P.meaning Q.meaning K.meaning P.refuses Q.refuses K.refuses) call self.old self.new o (turn_of (Ok progress)) (turn_of result) }
-        ensures keeps { Keeps (ways P.meaning Q.meaning K.meaning P.refuses Q.refuses K.refuses) call self.old self.new }
+        ensures takes_up { (o : Posted) → TakesUp P.ways call self.old self.new o (turn_of (Ok progress)) (turn_of result) }
+        ensures keeps { Keeps P.ways call self.old self.new }
         ensures status { self.new.status ≡ moved_by self.old.status (turn_of result) }
         ensures kept { self.new ≡ record self.old { status = self.new.status; work = self.new.work; width = self.new.width } }
         ensures stops { turn_of result ≡ Stopped → self.new.work ≡ works.GaveUp }
         ensures busy { is_open self.new.work ≡ is_waiting (turn_of result) }
-        ensures follows { Follows (ways P.meaning Q.meaning K.meaning P.refuses Q.refuses K.refuses) call (turn_of (Ok progress)) self.old self.new (turn_of result) }
-        ensures job { IfEnds (turn_of result) (HandsOut Q.meaning) }
-        ensures ready { TransactionReady (ways P.meaning Q.meaning K.meaning P.refuses Q.refuses K.refuses) self.new }
+        ensures follows { Follows P.ways call (turn_of (Ok progress)) self.old self.new (turn_of result) }
+        ensures job { IfEnds (turn_of result) (HandsOut P.ways.plan) }
+        ensures ready { TransactionReady P.ways self.new }
     {
         match progress {
             Progress::Waiting => {
@@ -406,19 +418,15 @@ where
         }
     }
 
-    fn answer(
-        &mut self,
-        call: CommitterCall<P, Q, K>,
-        answer: CommitterAnswer,
-    ) -> Progress<TxnAnswer<Q>>
+    fn answer(&mut self, call: CommitterCall<P>, answer: CommitterAnswer) -> Progress<TxnAnswer<P>>
         requires start { HasVersion self.old.start }
         requires version { IsInRange (Ok answer) }
-        ensures takes_up { (o : Posted) → TakesUp (ways P.meaning Q.meaning K.meaning P.refuses Q.refuses K.refuses) call self.old self.new o (Ends (Ok answer)) (turn_of (Ok result)) }
+        ensures takes_up { (o : Posted) → TakesUp P.ways call self.old self.new o (Ends (Ok answer)) (turn_of (Ok result)) }
         ensures ended { HasEnded (turn_of (Ok result)) }
         ensures status { self.new.status ≡ moved_by self.old.status (turn_of (Ok result)) }
         ensures kept { self.new ≡ record self.old { status = self.new.status; work = works.Idle; width = self.new.width } }
-        ensures job { IfEnds (turn_of (Ok result)) (HandsOut Q.meaning) }
-        ensures width { self.new.width ≡ max self.old.width (call_width (ways P.meaning Q.meaning K.meaning P.refuses Q.refuses K.refuses) call) }
+        ensures job { IfEnds (turn_of (Ok result)) (HandsOut P.ways.plan) }
+        ensures width { self.new.width ≡ max self.old.width (call_width P.ways call) }
     {
         self.let_go(&call);
         match answer {
@@ -438,13 +446,13 @@ where
     }
 
     /// The primary is committed. A job is left for the other keys.
-    fn committed(&self, timestamp: Timestamp, keys: Items<Key>) -> Progress<TxnAnswer<Q>>
+    fn committed(&self, timestamp: Timestamp, keys: Items<Key>) -> Progress<TxnAnswer<P>>
         ensures { IsCommittedAt self.now.options.retry_options self.now.start timestamp keys (turn_of (Ok result)) }
     {
         Progress::Done(Ok(TxnAnswer::Committed(Some(timestamp), self.job(timestamp, keys))))
     }
 
-    fn job(&self, timestamp: Timestamp, keys: Items<Key>) -> Option<SecondaryJob<Q>>
+    fn job(&self, timestamp: Timestamp, keys: Items<Key>) -> Option<SecondaryJob<P>>
         ensures { IsJobFor self.now.options.retry_options self.now.start timestamp keys result }
     {
         if keys.as_slice().is_empty() {
@@ -454,13 +462,13 @@ where
     }
 
     /// A commit or a rollback ended so. Where a Commit of the primary was lost, nobody knows whether it was served.
-    fn fail(&mut self, call: CommitterCall<P, Q, K>, error: Error) -> Turn<Q>
+    fn fail(&mut self, call: CommitterCall<P>, error: Error) -> Turn<P>
         requires aside { self.old.work ≡ works.GaveUp }
-        ensures takes_up { (o : Posted) → TakesUp (ways P.meaning Q.meaning K.meaning P.refuses Q.refuses K.refuses) call self.old self.new o (Ends (Err error)) (turn_of result) }
+        ensures takes_up { (o : Posted) → TakesUp P.ways call self.old self.new o (Ends (Err error)) (turn_of result) }
         ensures fails { HasFailed (turn_of result) }
         ensures kept { self.new ≡ record self.old { work = self.new.work; width = self.new.width } }
-        ensures width { self.new.width ≡ max self.old.width (call_width (ways P.meaning Q.meaning K.meaning P.refuses Q.refuses K.refuses) call) }
-        ensures rests { Rests (ways P.meaning Q.meaning K.meaning P.refuses Q.refuses K.refuses) self.new (turn_of result) }
+        ensures width { self.new.width ≡ max self.old.width (call_width P.ways call) }
+        ensures rests { Rests P.ways self.new (turn_of result) }
         ensures stops { turn_of result ≡ Stopped → self.new.work ≡ works.GaveUp }
         ensures busy { is_open self.new.work ≡ false }
     {
@@ -485,7 +493,7 @@ where
         Ok(Error::UndeterminedError(Box::new(self.alloc, error)?))
     }
 
-    fn committer(&self, parts: CommitParts) -> CommitterCall<P, Q, K>
+    fn committer(&self, parts: CommitParts) -> CommitterCall<P>
         ensures { IsNewCall self.now.options.retry_options self.now.start parts result }
     {
         CommitterCall::new(self.alloc, self.timestamp, parts, self.retries())
@@ -508,7 +516,7 @@ where
         self.set_work(Work::GaveUp);
     }
 
-    fn nothing_committed(&mut self) -> Progress<TxnAnswer<Q>>
+    fn nothing_committed(&mut self) -> Progress<TxnAnswer<P>>
         ensures answer { turn_of (Ok result) ≡ Ends (Ok (answers.Committed None None)) }
         ensures state { self.new ≡ record self.old { work = works.Idle } }
     {
@@ -516,7 +524,7 @@ where
         Progress::Done(Ok(TxnAnswer::Committed(None, None)))
     }
 
-    fn nothing_rolled_back(&mut self) -> Progress<TxnAnswer<Q>>
+    fn nothing_rolled_back(&mut self) -> Progress<TxnAnswer<P>>
         ensures answer { turn_of (Ok result) ≡ Ends (Ok answers.Unit) }
         ensures state { self.new ≡ record self.old { status = moved self.old.status statuses.Rolledback; work = works.Idle } }
     {
@@ -534,7 +542,7 @@ where
         }
     }
 
-    fn wait(&mut self) -> Progress<TxnAnswer<Q>>
+    fn wait(&mut self) -> Progress<TxnAnswer<P>>
         ensures answer { turn_of (Ok result) ≡ Waits }
         ensures state { self.new ≡ record self.old { work = works.Idle } }
     {
@@ -543,14 +551,14 @@ where
     }
 
     /// The call that is open, for a while: until it is set back the transaction has given up.
-    fn take_work(&mut self) -> Work<P, Q, K>
+    fn take_work(&mut self) -> Work<P>
         ensures work { result ≡ self.old.work }
         ensures state { self.new ≡ record self.old { work = works.GaveUp } }
     {
         mem::replace(&mut self.work, Work::GaveUp)
     }
 
-    fn set_work(&mut self, work: Work<P, Q, K>)
+    fn set_work(&mut self, work: Work<P>)
         ensures { self.new ≡ record self.old { work = work } }
     {
         self.work = work;
@@ -598,29 +606,29 @@ where
     }
 
     /// The call has ended. No other is open then.
-    fn let_go(&mut self, call: &CommitterCall<P, Q, K>)
-        ensures { self.new ≡ record self.old { work = works.Idle; width = max self.old.width (call_width (ways P.meaning Q.meaning K.meaning P.refuses Q.refuses K.refuses) call.now) } }
+    fn let_go(&mut self, call: &CommitterCall<P>)
+        ensures { self.new ≡ record self.old { work = works.Idle; width = max self.old.width (call_width P.ways call.now) } }
     {
         self.note_width(call);
         self.set_work(Work::Idle);
     }
 
-    fn note_width(&mut self, call: &CommitterCall<P, Q, K>)
-        ensures { self.new ≡ record self.old { width = max self.old.width (call_width (ways P.meaning Q.meaning K.meaning P.refuses Q.refuses K.refuses) call.now) } }
+    fn note_width(&mut self, call: &CommitterCall<P>)
+        ensures { self.new ≡ record self.old { width = max self.old.width (call_width P.ways call.now) } }
     {
         self.width = self.width.max(call.width());
     }
 
     /// The call gave up, and so does the transaction.
-    fn stop(&mut self, call: CommitterCall<P, Q, K>) -> Turn<Q>
+    fn stop(&mut self, call: CommitterCall<P>) -> Turn<P>
         ensures turn { turn_of result ≡ Stopped }
-        ensures state { self.new ≡ record self.old { work = works.GaveUp; width = max self.old.width (call_width (ways P.meaning Q.meaning K.meaning P.refuses Q.refuses K.refuses) call) } }
+        ensures state { self.new ≡ record self.old { work = works.GaveUp; width = max self.old.width (call_width P.ways call) } }
     {
         self.note_width(&call);
         self.give_up()
     }
 
-    fn give_up(&mut self) -> Turn<Q>
+    fn give_up(&mut self) -> Turn<P>
         ensures turn { turn_of result ≡ Stopped }
         ensures state { self.new ≡ record self.old { work = works.GaveUp } }
     {

@@ -2,6 +2,7 @@
 #![tactic(auto)]
 
 pub mod no_client;
+pub mod own;
 pub mod plans;
 
 pub use no_client::NoClient;

@@ -2,9 +2,11 @@
 ghost use Rattle.std.specs.Prelude.{◌≡◌, ⊤, Some};
 ghost use Rattle.txn_plan.specs.Dispatch.{unsent};
 
+use crate::own::Own;
 use std::alloc::Global;
-use std::marker::Model;
-use txn_commit::PlanFor;
+use txn_commit::{Fetched, Plans};
+use txn_commit_plans::Done;
+use txn_either::Either;
 use txn_kv::{
     Arrival, BatchRollbackRequest, CommitRequest, NoMemory, Outbox, PrewriteRequest, Progress,
     StoreId,
@@ -13,69 +15,24 @@ use txn_merge::{HasKeyErrors, HasRegionErrors, RetryOptions};
 use txn_plan::{CopyRequest, Dispatch, ExtractError, Plan};
 use txn_region::PdClient;
 
-/// A plan as one of this crate, which may be one for requests.
-#[derive(Drop)]
-pub struct Own<P: Plan> {
-    plan: P,
-}
-
 /// Sends the request, and takes the errors out of its reply.
-pub type Once<R> = Own<ExtractError<Dispatch<R>>>;
+type Sent<R> = ExtractError<Dispatch<R>>;
 
-impl<P: Plan> Model for Own<P> {
-    ghost Value = { P };
+type Inner = Either<
+    Done<Sent<PrewriteRequest>>,
+    Either<Done<Sent<CommitRequest>>, Done<Sent<BatchRollbackRequest>>>,
+>;
 
-    ghost view = { λ o. o.plan };
-}
+/// A plan that sends its request once.
+pub type Once = Own<Inner>;
 
-impl<P: Plan> Plan for Own<P> {
-    type Result = P::Result;
-
-    ghost meaning = { P.meaning };
-
-    ghost touches = { λ touch told from old new pd pd'. P.touches touch told from old new pd pd' };
-
-    fn try_clone(&self) -> Result<Self, NoMemory> {
-        Ok(Own {
-            plan: self.plan.try_clone()?,
-        })
-    }
-
-    fn start<C: PdClient>(
-        &mut self,
-        pd: &mut C,
-        now: u64,
-        out: &mut Outbox,
-    ) -> Result<Progress<P::Result>, NoMemory> {
-        self.plan.start(pd, now, out)
-    }
-
-    fn tell<C: PdClient>(
-        &mut self,
-        pd: &mut C,
-        now: u64,
-        arrival: Arrival,
-        out: &mut Outbox,
-    ) -> Result<Progress<P::Result>, NoMemory> {
-        self.plan.tell(pd, now, arrival, out)
-    }
-
-    ghost lawful = { P.lawful };
-}
-
-impl<R: CopyRequest> Own<ExtractError<Dispatch<R>>>
+/// A plan that sends this to a store.
+fn sent<R: CopyRequest>(alloc: Global, request: R, store: StoreId) -> Sent<R>
 where
     R::Response: HasKeyErrors + HasRegionErrors + Drop,
+    ensures { result.inner ≡ unsent request (Some store) }
 {
-    /// A plan that sends this to a store.
-    fn new(alloc: Global, request: R, store: StoreId) -> Once<R>
-        ensures { result.inner ≡ unsent request (Some store) }
-    {
-        let sent = Dispatch::new(request, Some(store));
-        Own {
-            plan: ExtractError::new(alloc, sent),
-        }
-    }
+    ExtractError::new(alloc, Dispatch::new(request, Some(store)))
 }
 
 /// Store 1, or 2 where errors of regions are not retried, or 3 where locks are not, or 4 where nothing is.
@@ -91,68 +48,74 @@ fn store_for(retry_options: &RetryOptions) -> StoreId {
     }
 }
 
-impl PlanFor<PrewriteRequest> for Once<PrewriteRequest> {
-    ghost refuses = { λ _ _ _. ⊤ };
+impl Plans for Once {
+    ghost use Rattle.txn_fakes.specs.Once.{once_ways, once_plan-lawful, onces_last};
 
-    ghost costs = { λ _ _. 1 };
+    ghost ways = { once_ways };
 
-    fn plan_for<C: PdClient>(
+    ghost touches = { λ touch told from old new pd pd'. ⟦<Once as Plan>⟧.touches touch told from old new pd pd' };
+
+    fn prewrite<C: PdClient>(
         alloc: Global,
         _pd: &C,
         request: PrewriteRequest,
         retry_options: RetryOptions,
     ) -> Result<Self, NoMemory> {
         let store = store_for(&retry_options);
-        Ok(Own::new(alloc, request, store))
+        let plan = Done::new(sent(alloc, request, store));
+        Ok(Own::new(Either::First(plan)))
     }
 
-    fn width(&self) -> u64 {
-        0
-    }
-
-    ghost refuses_longer = { λ options h longer e w r. tt };
-}
-
-impl PlanFor<CommitRequest> for Once<CommitRequest> {
-    ghost refuses = { λ _ _ _. ⊤ };
-
-    ghost costs = { λ _ _. 1 };
-
-    fn plan_for<C: PdClient>(
+    fn commit<C: PdClient>(
         alloc: Global,
         _pd: &C,
         request: CommitRequest,
         retry_options: RetryOptions,
     ) -> Result<Self, NoMemory> {
         let store = store_for(&retry_options);
-        Ok(Own::new(alloc, request, store))
+        let plan = Done::new(sent(alloc, request, store));
+        Ok(Own::new(Either::Second(Either::First(plan))))
     }
 
-    fn width(&self) -> u64 {
-        0
-    }
-
-    ghost refuses_longer = { λ options h longer e w r. tt };
-}
-
-impl PlanFor<BatchRollbackRequest> for Once<BatchRollbackRequest> {
-    ghost refuses = { λ _ _ _. ⊤ };
-
-    ghost costs = { λ _ _. 1 };
-
-    fn plan_for<C: PdClient>(
+    fn roll_back<C: PdClient>(
         alloc: Global,
         _pd: &C,
         request: BatchRollbackRequest,
         retry_options: RetryOptions,
     ) -> Result<Self, NoMemory> {
         let store = store_for(&retry_options);
-        Ok(Own::new(alloc, request, store))
+        let plan = Done::new(sent(alloc, request, store));
+        Ok(Own::new(Either::Second(Either::Second(plan))))
     }
 
     fn width(&self) -> u64 {
-        0
+        match self.plan() {
+            Either::First(_) => 0,
+            Either::Second(Either::First(_)) => 0,
+            Either::Second(Either::Second(_)) => 0,
+        }
     }
 
-    ghost refuses_longer = { λ options h longer e w r. tt };
+    fn start<C: PdClient>(
+        &mut self,
+        pd: &mut C,
+        now: u64,
+        out: &mut Outbox,
+    ) -> Result<Progress<Fetched>, NoMemory> {
+        Plan::start(self, pd, now, out)
+    }
+
+    fn tell<C: PdClient>(
+        &mut self,
+        pd: &mut C,
+        now: u64,
+        arrival: Arrival,
+        out: &mut Outbox,
+    ) -> Result<Progress<Fetched>, NoMemory> {
+        Plan::tell(self, pd, now, arrival, out)
+    }
+
+    ghost lawful = { once_plan-lawful };
+
+    ghost lasting = { onces_last };
 }

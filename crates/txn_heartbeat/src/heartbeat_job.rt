@@ -18,7 +18,6 @@ use txn_request::lowering::new_heart_beat_request;
 type Turn = Result<Progress<()>, NoMemory>;
 
 /// How far the job has come.
-#[derive(Drop)]
 enum Stage<H> {
     Fresh,
     /// It sleeps under this number until the next beat.
@@ -30,13 +29,36 @@ enum Stage<H> {
     Stopped,
 }
 
+impl<H: Drop> Drop for Stage<H> {
+    fn drop(self) {
+        match self {
+            Stage::Fresh => {}
+            Stage::Sleeping { number: _ } => {}
+            Stage::Beating { plan } => drop(plan),
+            Stage::Over => {}
+            Stage::Stopped => {}
+        }
+    }
+}
+
 /// Keeps the lock of a transaction's primary alive: it sleeps, sends a beat, and sleeps again, until the transaction has come to its
 /// end or a beat fails. The transaction does not wait for it.
-#[derive(Drop)]
 pub struct HeartbeatJob<H> {
     heartbeat: Heartbeat,
     stage: Stage<H>,
     alloc: Global,
+}
+
+impl<H: Drop> Drop for HeartbeatJob<H> {
+    fn drop(self) {
+        let HeartbeatJob {
+            heartbeat,
+            stage,
+            alloc: _,
+        } = self;
+        drop(heartbeat);
+        drop(stage);
+    }
 }
 
 impl<H: PlanForHeartbeats> HeartbeatJob<H> {

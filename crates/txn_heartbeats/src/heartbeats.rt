@@ -11,12 +11,23 @@ use std::alloc::Global;
 use txn_heartbeat::{HeartHost, PlanForHeartbeats};
 
 /// Clients, and the heartbeats of their transactions. What comes for a heartbeat's ticket is told to its job, all else to the clients.
-#[derive(Drop)]
 pub struct Heartbeats<S, H> {
     side: S,
     /// One for each line.
     pulses: Vec<Pulse<H>>,
     alloc: Global,
+}
+
+impl<S: Drop, H: Drop> Drop for Heartbeats<S, H> {
+    fn drop(self) {
+        let Heartbeats {
+            side,
+            pulses,
+            alloc: _,
+        } = self;
+        drop(side);
+        drop(pulses);
+    }
 }
 
 impl<S: HeartHost, H: PlanForHeartbeats> Heartbeats<S, H> {

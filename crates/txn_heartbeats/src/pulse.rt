@@ -6,7 +6,6 @@ use txn_heartbeat::HeartbeatJob;
 use txn_kv::{NoMemory, Outbox};
 
 /// The heartbeat of a line.
-#[derive(Drop)]
 pub struct Pulse<H> {
     /// The number of its next request or sleep.
     pub next: u64,
@@ -15,6 +14,18 @@ pub struct Pulse<H> {
     /// The line of the transaction that it keeps alive, where one was started here.
     pub transaction: u64,
     pub job: Option<HeartbeatJob<H>>,
+}
+
+impl<H: Drop> Drop for Pulse<H> {
+    fn drop(self) {
+        let Pulse {
+            next: _,
+            started: _,
+            transaction: _,
+            job,
+        } = self;
+        drop(job);
+    }
 }
 
 /// No number is as great as this.

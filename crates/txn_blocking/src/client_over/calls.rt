@@ -3,7 +3,6 @@ ghost use Rattle.std.specs.Prelude.{◌≡◌, IfOk, IfSome, Err, false, true};
 ghost use Rattle.txn_blocking.specs.Blocking.{HasCome, HasGiven, IsNew, IsSame, job_in, time_in, unit_in};
 ghost use Rattle.txn_client.specs.Calls.{AnswerReady};
 ghost use Rattle.txn_client.specs.declared.client_call.Stage.TheVariants as stages;
-ghost use Rattle.txn_commit.specs.Committing.{ways};
 ghost use Rattle.txn_commit.specs.Jobs.{JobReady};
 ghost use Rattle.txn_core.specs.Going.{TransactionReady};
 ghost use Rattle.txn_core.specs.Options.{AreDefault, usual_retries};
@@ -21,12 +20,9 @@ ghost use Rattle.txn_kv.specs.declared.errors.Internal.TheVariants.{WrongReply};
 use crate::client_over::{ClientOver, PlacementClient, TransactionOver};
 use crate::transport::{Answer, Transport};
 use txn_client::{ClientAnswer, ClientCall};
-use txn_commit::{PlanFor, SecondaryJob};
+use txn_commit::{Plans, SecondaryJob};
 use txn_core::{Transaction, TransactionOptions, TxnAnswer};
-use txn_kv::{
-    BatchRollbackRequest, CommitRequest, Error, Internal, NoMemory, Outbox, PrewriteRequest,
-    Progress, Timestamp,
-};
+use txn_kv::{Error, Internal, NoMemory, Outbox, Progress, Timestamp};
 
 /// An answer of another kind than the call's.
 fn odd() -> Error
@@ -38,9 +34,9 @@ fn odd() -> Error
 }
 
 /// What a commit answers, and the job that it leaves.
-fn apart<Q: Drop>(
-    answer: txn_kv::Result<TxnAnswer<Q>>,
-) -> (txn_kv::Result<Option<Timestamp>>, Option<SecondaryJob<Q>>)
+fn apart<P: Drop>(
+    answer: txn_kv::Result<TxnAnswer<P>>,
+) -> (txn_kv::Result<Option<Timestamp>>, Option<SecondaryJob<P>>)
     ensures answer { result.0 ≡ time_in answer }
     ensures job { result.1 ≡ job_in answer }
 {
@@ -52,7 +48,7 @@ fn apart<Q: Drop>(
 }
 
 /// What a rollback answers.
-fn undone<Q: Drop>(answer: txn_kv::Result<TxnAnswer<Q>>) -> txn_kv::Result<()>
+fn undone<P: Drop>(answer: txn_kv::Result<TxnAnswer<P>>) -> txn_kv::Result<()>
     ensures { result ≡ unit_in answer }
 {
     match answer {
@@ -62,25 +58,20 @@ fn undone<Q: Drop>(answer: txn_kv::Result<TxnAnswer<Q>>) -> txn_kv::Result<()>
     }
 }
 
-impl<T, P, Q, K> ClientOver<T, P, Q, K>
+impl<T, P> ClientOver<T, P>
 where
     T: Transport,
-    P: PlanFor<PrewriteRequest>,
-    Q: PlanFor<CommitRequest>,
-    K: PlanFor<BatchRollbackRequest>,
+    P: Plans,
 {
     /// Begins an optimistic transaction with the usual options.
-    pub fn begin_optimistic(&mut self) -> Answer<TransactionOver<P, Q, K>>
+    pub fn begin_optimistic(&mut self) -> Answer<TransactionOver<P>>
         ensures { IfOk result (λ answer. IfOk answer (λ t. (options : Options) × AreDefault kinds.Optimistic usual_retries options × IsNew options t)) }
     {
         self.begin_with_options(TransactionOptions::new_optimistic())
     }
 
     /// Begins a transaction with these options.
-    pub fn begin_with_options(
-        &mut self,
-        options: TransactionOptions,
-    ) -> Answer<TransactionOver<P, Q, K>>
+    pub fn begin_with_options(&mut self, options: TransactionOptions) -> Answer<TransactionOver<P>>
         ensures { IfOk result (λ answer. IfOk answer (IsNew options)) }
     {
         let mut call = self.client.begin_with_options(options)?;
@@ -95,7 +86,7 @@ where
     pub fn current_timestamp(&mut self) -> Answer<Timestamp>
         ensures { IfOk result (λ answer. IfOk answer HasVersion) }
     {
-        let mut call: ClientCall<PlacementClient, P, Q, K> = self.client.current_timestamp()?;
+        let mut call: ClientCall<PlacementClient, P> = self.client.current_timestamp()?;
         match self.ask(&mut call)? {
             Ok(ClientAnswer::Time(timestamp)) => Ok(Ok(timestamp)),
             Ok(ClientAnswer::Begun(_)) => Ok(Err(odd())),
@@ -106,11 +97,11 @@ where
     /// Has a call that is not started run to its end.
     fn ask(
         &mut self,
-        call: &mut ClientCall<PlacementClient, P, Q, K>,
-    ) -> Answer<ClientAnswer<PlacementClient, P, Q, K>>
+        call: &mut ClientCall<PlacementClient, P>,
+    ) -> Answer<ClientAnswer<PlacementClient, P>>
         requires fresh { call.old.stage ≡ stages.Fresh }
         ensures wanted { IfOk result (λ answer. IfOk answer (HasGiven call.old)) }
-        ensures ready { IfOk result (AnswerReady (ways P.meaning Q.meaning K.meaning P.refuses Q.refuses K.refuses)) }
+        ensures ready { IfOk result (AnswerReady P.ways) }
     {
         let mut out = self.outbox()?;
         let now = self.transport.now();
@@ -131,10 +122,7 @@ where
     /// Commits what was written and locked, and gives the timestamp at which it is committed. None where nothing was to be.
     ///
     /// After an `UndeterminedError` the transaction may be committed. A further call sends the Commit again, and tells.
-    pub fn commit(
-        &mut self,
-        transaction: &mut TransactionOver<P, Q, K>,
-    ) -> Answer<Option<Timestamp>>
+    pub fn commit(&mut self, transaction: &mut TransactionOver<P>) -> Answer<Option<Timestamp>>
         ensures refused { allows_commit transaction.old.status ≡ false → IfOk result (λ answer. answer ≡ Err OperationAfterCommitError) × (transaction.new ≡ transaction.old) }
         ensures status { allows_commit transaction.old.status ≡ true → IfOk result (HasCome transaction.new.status) }
         ensures same { IsSame transaction.old transaction.new }
@@ -149,7 +137,7 @@ where
     }
 
     /// Takes back what a failed commit may have left. Refused after an `UndeterminedError`.
-    pub fn rollback(&mut self, transaction: &mut TransactionOver<P, Q, K>) -> Answer<()>
+    pub fn rollback(&mut self, transaction: &mut TransactionOver<P>) -> Answer<()>
         ensures refused { allows_rollback transaction.old.status ≡ false → IfOk result (λ answer. answer ≡ Err OperationAfterCommitError) × (transaction.new ≡ transaction.old) }
         ensures same { IsSame transaction.old transaction.new }
     {
@@ -162,15 +150,15 @@ where
 
     fn run_commit(
         &mut self,
-        transaction: &mut Transaction<PlacementClient, P, Q, K>,
-    ) -> Answer<TxnAnswer<Q>>
+        transaction: &mut Transaction<PlacementClient, P>,
+    ) -> Answer<TxnAnswer<P>>
         requires idle { is_open transaction.old.work ≡ false }
-        requires ready { TransactionReady (ways P.meaning Q.meaning K.meaning P.refuses Q.refuses K.refuses) transaction.old }
+        requires ready { TransactionReady P.ways transaction.old }
         ensures refused { allows_commit transaction.old.status ≡ false → IfOk result (λ answer. answer ≡ Err OperationAfterCommitError) × (transaction.new ≡ transaction.old) }
         ensures status { allows_commit transaction.old.status ≡ true → IfOk result (λ answer. HasCome transaction.new.status (time_in answer)) }
         ensures same { IsSame transaction.old transaction.new }
-        ensures job { IfOk result (HandsOut Q.meaning) }
-        ensures ready { TransactionReady (ways P.meaning Q.meaning K.meaning P.refuses Q.refuses K.refuses) transaction.new }
+        ensures job { IfOk result (HandsOut P.ways.plan) }
+        ensures ready { TransactionReady P.ways transaction.new }
     {
         let mut out = self.outbox()?;
         let now = self.transport.now();
@@ -182,13 +170,13 @@ where
 
     fn run_rollback(
         &mut self,
-        transaction: &mut Transaction<PlacementClient, P, Q, K>,
-    ) -> Answer<TxnAnswer<Q>>
+        transaction: &mut Transaction<PlacementClient, P>,
+    ) -> Answer<TxnAnswer<P>>
         requires idle { is_open transaction.old.work ≡ false }
-        requires ready { TransactionReady (ways P.meaning Q.meaning K.meaning P.refuses Q.refuses K.refuses) transaction.old }
+        requires ready { TransactionReady P.ways transaction.old }
         ensures refused { allows_rollback transaction.old.status ≡ false → IfOk result (λ answer. answer ≡ Err OperationAfterCommitError) × (transaction.new ≡ transaction.old) }
         ensures same { IsSame transaction.old transaction.new }
-        ensures ready { TransactionReady (ways P.meaning Q.meaning K.meaning P.refuses Q.refuses K.refuses) transaction.new }
+        ensures ready { TransactionReady P.ways transaction.new }
     {
         let mut out = self.outbox()?;
         let now = self.transport.now();
@@ -201,15 +189,15 @@ where
     /// Has the open call of a transaction run to its end.
     fn finish(
         &mut self,
-        transaction: &mut Transaction<PlacementClient, P, Q, K>,
+        transaction: &mut Transaction<PlacementClient, P>,
         out: &mut Outbox,
-    ) -> Answer<TxnAnswer<Q>>
-        requires ready { TransactionReady (ways P.meaning Q.meaning K.meaning P.refuses Q.refuses K.refuses) transaction.old }
+    ) -> Answer<TxnAnswer<P>>
+        requires ready { TransactionReady P.ways transaction.old }
         requires numbers { HasNumbers out.old }
         ensures status { IfOk result (λ answer. transaction.new.status ≡ moved_by transaction.old.status (Ends answer)) }
         ensures same { IsSame transaction.old transaction.new }
-        ensures job { IfOk result (HandsOut Q.meaning) }
-        ensures ready { TransactionReady (ways P.meaning Q.meaning K.meaning P.refuses Q.refuses K.refuses) transaction.new }
+        ensures job { IfOk result (HandsOut P.ways.plan) }
+        ensures ready { TransactionReady P.ways transaction.new }
     {
         for at in 0..usize::MAX {
             let Some(arrival) = self.carry_out(out, at) else {
@@ -225,16 +213,16 @@ where
     }
 
     /// Commits the other keys. Its errors are nobody's: whoever meets a lock that stays finds the primary committed.
-    fn commit_others(&mut self, job: Option<SecondaryJob<Q>>)
-        requires { IfSome job (JobReady Q.meaning) }
+    fn commit_others(&mut self, job: Option<SecondaryJob<P>>)
+        requires { IfSome job (JobReady P.ways.plan) }
     {
         if let Some(mut job) = job {
             let _ = self.run_job(&mut job);
         }
     }
 
-    fn run_job(&mut self, job: &mut SecondaryJob<Q>) -> std::result::Result<(), NoMemory>
-        requires { JobReady Q.meaning job.old }
+    fn run_job(&mut self, job: &mut SecondaryJob<P>) -> std::result::Result<(), NoMemory>
+        requires { JobReady P.ways.plan job.old }
     {
         let mut out = self.outbox()?;
         let now = self.transport.now();

@@ -8,14 +8,12 @@ ghost use Rattle.txn_history.specs.Turn.{turn_of};
 
 use crate::client_over::{ClientOver, TransactionOver};
 use crate::transport::{Answer, Transport};
-use txn_commit::PlanFor;
+use txn_commit::Plans;
 use txn_core::TxnAnswer;
-use txn_kv::{
-    BatchRollbackRequest, CommitRequest, Key, NoMemory, PrewriteRequest, Progress, Value,
-};
+use txn_kv::{Key, NoMemory, Progress, Value};
 
 /// What a write answers.
-fn written<Q: Drop>(progress: Progress<TxnAnswer<Q>>) -> Answer<()>
+fn written<P: Drop>(progress: Progress<TxnAnswer<P>>) -> Answer<()>
     ensures { IfOk result (Reads (turn_of (Ok progress))) }
 {
     match progress {
@@ -25,16 +23,14 @@ fn written<Q: Drop>(progress: Progress<TxnAnswer<Q>>) -> Answer<()>
     }
 }
 
-impl<T, P, Q, K> ClientOver<T, P, Q, K>
+impl<T, P> ClientOver<T, P>
 where
     T: Transport,
-    P: PlanFor<PrewriteRequest>,
-    Q: PlanFor<CommitRequest>,
-    K: PlanFor<BatchRollbackRequest>,
+    P: Plans,
 {
     pub fn put(
         &mut self,
-        transaction: &mut TransactionOver<P, Q, K>,
+        transaction: &mut TransactionOver<P>,
         key: Key,
         value: Value,
     ) -> Answer<()>
@@ -52,7 +48,7 @@ where
         written(progress)
     }
 
-    pub fn delete(&mut self, transaction: &mut TransactionOver<P, Q, K>, key: Key) -> Answer<()>
+    pub fn delete(&mut self, transaction: &mut TransactionOver<P>, key: Key) -> Answer<()>
         ensures wrote { IfOk result (Wrote (write_refusal transaction.old.status) (with_write transaction.old.contents key (after_delete transaction.old.contents.is_pessimistic (write_at transaction.old.contents key))) transaction.old transaction.new) }
         ensures sends { self.new.transport ≡ self.old.transport }
     {

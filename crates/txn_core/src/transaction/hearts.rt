@@ -6,16 +6,14 @@ use crate::heartbeat::{Heartbeat, in_millis};
 use crate::options::HeartbeatOption;
 use crate::status::Status;
 use crate::transaction::Transaction;
-use txn_commit::PlanFor;
-use txn_kv::{BatchRollbackRequest, CommitRequest, NoMemory, PrewriteRequest};
+use txn_commit::Plans;
+use txn_kv::NoMemory;
 use txn_region::PdClient;
 
-impl<C, P, Q, K> Transaction<C, P, Q, K>
+impl<C, P> Transaction<C, P>
 where
     C: PdClient,
-    P: PlanFor<PrewriteRequest>,
-    Q: PlanFor<CommitRequest>,
-    K: PlanFor<BatchRollbackRequest>,
+    P: Plans,
 {
     /// What its heartbeat needs, where a commit of it is open that locks some key, unless it was begun without heartbeats.
     pub fn heartbeat(&self) -> Result<Option<Heartbeat>, NoMemory>

@@ -11,19 +11,14 @@ ghost use Rattle.txn_core.specs.declared.txn_answer.TxnAnswer.TheVariants as ans
 use crate::transaction::{Transaction, Turn};
 use crate::txn_answer::TxnAnswer;
 use txn_buffer::Buffer;
-use txn_commit::PlanFor;
-use txn_kv::{
-    BatchRollbackRequest, CommitRequest, Error, Key, Mutation, NoMemory, Op, Outbox,
-    PrewriteRequest, Progress, Value,
-};
+use txn_commit::Plans;
+use txn_kv::{Error, Key, Mutation, NoMemory, Op, Outbox, Progress, Value};
 use txn_region::PdClient;
 
-impl<C, P, Q, K> Transaction<C, P, Q, K>
+impl<C, P> Transaction<C, P>
 where
     C: PdClient,
-    P: PlanFor<PrewriteRequest>,
-    Q: PlanFor<CommitRequest>,
-    K: PlanFor<BatchRollbackRequest>,
+    P: Plans,
 {
     pub fn put(
         &mut self,
@@ -32,7 +27,7 @@ where
         value: Value,
         _now: u64,
         _out: &mut Outbox,
-    ) -> Turn<Q>
+    ) -> Turn<P>
         requires idle { is_open self.old.work ≡ false }
         ensures ends { WriteEnds (write_refusal self.old.status) (λ c d. IsStep (with_write c key (after_put (write_at c key) value)) (put_call key value) c d) self.old self.new (turn_of result) }
         ensures gives_up { GivesUp self.old self.new (turn_of result) }
@@ -58,7 +53,7 @@ where
         value: Value,
         _now: u64,
         _out: &mut Outbox,
-    ) -> Turn<Q>
+    ) -> Turn<P>
         requires idle { is_open self.old.work ≡ false }
         ensures ends { WriteEnds (insert_refusal self.old.status self.old.contents key) (λ c d. IsStep (with_write c key (after_insert (write_at c key) value)) (insert_call key value) c d) self.old self.new (turn_of result) }
         ensures gives_up { GivesUp self.old self.new (turn_of result) }
@@ -77,7 +72,7 @@ where
         }
     }
 
-    pub fn delete(&mut self, _pd: &mut C, key: Key, _now: u64, _out: &mut Outbox) -> Turn<Q>
+    pub fn delete(&mut self, _pd: &mut C, key: Key, _now: u64, _out: &mut Outbox) -> Turn<P>
         requires idle { is_open self.old.work ≡ false }
         ensures ends { WriteEnds (write_refusal self.old.status) (λ c d. IsStep (with_write c key (after_delete c.is_pessimistic (write_at c key))) (delete_call key) c d) self.old self.new (turn_of result) }
         ensures gives_up { GivesUp self.old self.new (turn_of result) }
@@ -102,7 +97,7 @@ where
         mutations: Vec<Mutation>,
         _now: u64,
         _out: &mut Outbox,
-    ) -> Turn<Q>
+    ) -> Turn<P>
         requires idle { is_open self.old.work ≡ false }
         ensures ends { WriteEnds (mutate_refusal self.old.status mutations.items) (AreSteps mutations.items) self.old self.new (turn_of result) }
         ensures gives_up { GivesUp self.old self.new (turn_of result) }
@@ -129,7 +124,7 @@ where
         keys: Vec<Key>,
         _now: u64,
         _out: &mut Outbox,
-    ) -> Turn<Q>
+    ) -> Turn<P>
         requires idle { is_open self.old.work ≡ false }
         ensures ends { WriteEnds (write_refusal self.old.status) (AreLocked keys.items) self.old self.new (turn_of result) }
         ensures gives_up { GivesUp self.old self.new (turn_of result) }
@@ -147,7 +142,7 @@ where
         }
     }
 
-    fn insert_new(&mut self, key: Key, value: Value) -> Turn<Q>
+    fn insert_new(&mut self, key: Key, value: Value) -> Turn<P>
         ensures { WriteEnds None (λ c d. IsStep (with_write c key (after_insert (write_at c key) value)) (insert_call key value) c d) self.old self.new (turn_of result) }
     {
         match self.buffer.insert(key, value) {
@@ -208,13 +203,13 @@ fn lock_all(buffer: &mut Buffer, keys: Vec<Key>) -> Result<(), NoMemory>
     Ok(())
 }
 
-pub(super) fn done<Q>() -> Progress<TxnAnswer<Q>>
+pub(super) fn done<P>() -> Progress<TxnAnswer<P>>
     ensures { turn_of (Ok result) ≡ Ends (Ok answers.Unit) }
 {
     Progress::Done(Ok(TxnAnswer::Unit))
 }
 
-pub(super) fn refused<Q>(error: Error) -> Progress<TxnAnswer<Q>>
+pub(super) fn refused<P>(error: Error) -> Progress<TxnAnswer<P>>
     ensures { turn_of (Ok result) ≡ Ends (Err error) }
 {
     Progress::Done(Err(error))

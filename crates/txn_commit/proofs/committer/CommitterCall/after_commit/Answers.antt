@@ -11,8 +11,8 @@ returns-in-Waiting-clause-moves g c c' o q e = goes_on_waits _ _ _ _ _ _ _ (wait
 pub returns-in-Done-Ok-clause-moves : goal.returns-in-Done-Ok-clause-moves
 returns-in-Done-Ok-clause-moves g c c' o q e = goes_on_ends _ _ _ _ _ _ _ _ _ _ _ (ends_is c.in-Done-Ok.is c.in-Done-Ok.field-0-is) c.end.ensures.state c.end.ensures.turn (λ h f s. primary_committed (plan_of c.args.self.now.parts) (version_of c.args.self.now.start) (version_of c.args.timestamp) h s)
 
-pub returns-clause-moves : goal.returns-clause-moves
-returns-clause-moves g c c' o q e = goes_on_ends _ _ _ _ _ _ _ _ _ _ _ (ends_is c.in-Done-Err.is c.in-Done-Err.field-0-is) c.end-in-Done-Err.ensures.state c.end-in-Done-Err.ensures.turn (λ h f s. inl (inr s))
+pub returns-in-Done-Err-clause-moves : goal.returns-in-Done-Err-clause-moves
+returns-in-Done-Err-clause-moves g c c' o q e = goes_on_ends _ _ _ _ _ _ _ _ _ _ _ (ends_is c.in-Done-Err.is c.in-Done-Err.field-0-is) c.end-in-Done-Err.ensures.state c.end-in-Done-Err.ensures.turn (λ h f s. inl (inr s))
 
 pub returns-in-Waiting-clause-settles : goal.returns-in-Waiting-clause-settles
 returns-in-Waiting-clause-settles g c = settles_waits c.args.self.now _ (waits_is c.in-Waiting.is)
@@ -20,5 +20,5 @@ returns-in-Waiting-clause-settles g c = settles_waits c.args.self.now _ (waits_i
 pub returns-in-Done-Ok-clause-settles : goal.returns-in-Done-Ok-clause-settles
 returns-in-Done-Ok-clause-settles g c = settles_over c.args.self.now c.end.new.self _ _ _ _ (ends_is c.in-Done-Ok.is c.in-Done-Ok.field-0-is) c.end.ensures.state c.end.ensures.turn
 
-pub returns-clause-settles : goal.returns-clause-settles
-returns-clause-settles g c = settles_over c.args.self.now c.end-in-Done-Err.new.self _ _ _ _ (ends_is c.in-Done-Err.is c.in-Done-Err.field-0-is) c.end-in-Done-Err.ensures.state c.end-in-Done-Err.ensures.turn
+pub returns-in-Done-Err-clause-settles : goal.returns-in-Done-Err-clause-settles
+returns-in-Done-Err-clause-settles g c = settles_over c.args.self.now c.end-in-Done-Err.new.self _ _ _ _ (ends_is c.in-Done-Err.is c.in-Done-Err.field-0-is) c.end-in-Done-Err.ensures.state c.end-in-Done-Err.ensures.turn

@@ -13,8 +13,8 @@ returns-in-Waiting-clause-moves g c c' k e = goes_on_waits _ _ _ _ _ _ _ (waits_
 pub returns-in-Done-Ok-clause-moves : goal.returns-in-Done-Ok-clause-moves
 returns-in-Done-Ok-clause-moves g c c' k e = goes_on_next _ _ _ _ _ _ _ _ _ _ _ _ _ (ends_is c.in-Done-Ok.is c.in-Done-Ok.field-0-is) (λ h f s. record { settled = (at_stage _ c.args.self.now (stages.RollingBackPrimary k) c' c.args.out.now h e f).settled; rolled = s }) (c.roll_back_others.ensures.moves c')
 
-pub returns-clause-moves : goal.returns-clause-moves
-returns-clause-moves g c c' k e = goes_on_ends _ _ _ _ _ _ _ _ _ _ _ (ends_is c.in-Done-Err.is c.in-Done-Err.field-0-is) c.end.ensures.state c.end.ensures.turn (λ h f s. inr (inl s))
+pub returns-in-Done-Err-clause-moves : goal.returns-in-Done-Err-clause-moves
+returns-in-Done-Err-clause-moves g c c' k e = goes_on_ends _ _ _ _ _ _ _ _ _ _ _ (ends_is c.in-Done-Err.is c.in-Done-Err.field-0-is) c.end.ensures.state c.end.ensures.turn (λ h f s. inr (inl s))
 
 pub returns-in-Done-Ok-clause-counts : goal.returns-in-Done-Ok-clause-counts
 returns-in-Done-Ok-clause-counts g c k e = next_counts _ _ _ _ _ (stages.RollingBackPrimary k) _ _ _ e (λ n. le-add_left _ _) (λ n. le-add_left _ _) c.roll_back_others.ensures.counts
@@ -25,5 +25,5 @@ returns-in-Waiting-clause-resumes g c = resumes_waits _ c.args.self.now _ _ _ (w
 pub returns-in-Done-Ok-clause-resumes : goal.returns-in-Done-Ok-clause-resumes
 returns-in-Done-Ok-clause-resumes g c = resumes_next _ c.args.self.now c.roll_back_others.new.self _ _ _ _ _ _ _ (ends_is c.in-Done-Ok.is c.in-Done-Ok.field-0-is) c.roll_back_others.ensures.opens
 
-pub returns-clause-resumes : goal.returns-clause-resumes
-returns-clause-resumes g c = resumes_over _ c.args.self.now c.end.new.self _ _ _ _ _ _ (ends_is c.in-Done-Err.is c.in-Done-Err.field-0-is) c.end.ensures.state c.end.ensures.turn
+pub returns-in-Done-Err-clause-resumes : goal.returns-in-Done-Err-clause-resumes
+returns-in-Done-Err-clause-resumes g c = resumes_over _ c.args.self.now c.end.new.self _ _ _ _ _ _ (ends_is c.in-Done-Err.is c.in-Done-Err.field-0-is) c.end.ensures.state c.end.ensures.turn

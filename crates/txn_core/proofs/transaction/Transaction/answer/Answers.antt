@@ -13,4 +13,4 @@ pub returns-in-RolledBack-clause-takes_up : goal.returns-in-RolledBack-clause-ta
 returns-in-RolledBack-clause-takes_up g c o = rw c.in-RolledBack.is (takes_rolled _ c.args.call c.args.self.now c.reach-in-RolledBack.new.self c.reach-in-RolledBack.new.self.width o (rw (c.reach-in-RolledBack.ensures, c.let_go.ensures) refl))
 
 pub returns-in-Committed-clause-job : goal.returns-in-Committed-clause-job
-returns-in-Committed-clause-job g c = hands_committed g.Q.Plan.meaning _ _ c.in-Committed.timestamp _ _ (rw (c.reach.ensures, c.let_go.ensures) c.requires.start) (rw c.in-Committed.is at c.requires.version) c.committed.ensures
+returns-in-Committed-clause-job g c = hands_committed g.P.Plans.ways.plan _ _ c.in-Committed.timestamp _ _ (rw (c.reach.ensures, c.let_go.ensures) c.requires.start) (rw c.in-Committed.is at c.requires.version) c.committed.ensures

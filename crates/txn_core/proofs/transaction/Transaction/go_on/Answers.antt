@@ -26,7 +26,7 @@ pub returns-in-Done-Err-clause-follows : goal.returns-in-Done-Err-clause-follows
 returns-in-Done-Err-clause-follows g c = follows_ends _ c.args.call _ _ c.args.self.now c.fail.new.self _ (ends_is c.in-Done-Err.is c.in-Done-Err.field-0-is) c.fail.ensures.rests
 
 pub returns-in-Done-Err-clause-job : goal.returns-in-Done-Err-clause-job
-returns-in-Done-Err-clause-job g c = hands_nothing g.Q.Plan.meaning _ c.fail.ensures.fails
+returns-in-Done-Err-clause-job g c = hands_nothing g.P.Plans.ways.plan _ c.fail.ensures.fails
 
 pub returns-in-Waiting-clause-ready : goal.returns-in-Waiting-clause-ready
 returns-in-Waiting-clause-ready g c = rw c.set_work.ensures (record { start = c.requires.start; work = (c.requires.call.0, c.requires.call.1, c.requires.runs (waits_is c.in-Waiting.is)) })

@@ -8,7 +8,6 @@ use Rattle.txn_core.proofs.Waiting.{commits_open, expects_open, expects_still, g
 use Rattle.txn_core.specs.Transaction.{is_open}
 use Rattle.txn_core.specs.declared.transaction.Work.TheVariants as works
 use Rattle.txn_history.specs.Arrivals.{awaited_as}
-use Rattle.txn_commit.specs.Committing.{ways}
 use Rattle.txn_core.proofs.transaction.Transaction.tell.Goals as goal
 
 pub returns-in-Idle-clause-tells : goal.returns-in-Idle-clause-tells
@@ -30,28 +29,28 @@ pub returns-in-GaveUp-clause-counts : goal.returns-in-GaveUp-clause-counts
 returns-in-GaveUp-clause-counts g c = rest_pays _ _ c.args.self.now c.take_work.new.self (rw (sym c.take_work.ensures.work ∙ c.in-GaveUp.is) refl) (rw c.take_work.ensures.state refl) (rw c.take_work.ensures.state refl)
 
 pub returns-in-Idle-clause-goes : goal.returns-in-Idle-clause-goes
-returns-in-Idle-clause-goes g c = goes_still (ways g.P.Plan.meaning g.Q.Plan.meaning g.K.Plan.meaning g.P.PlanFor.refuses g.Q.PlanFor.refuses g.K.PlanFor.refuses) (awaited_as c.args.arrival) c.args.self.now c.wait.new.self works.Idle _ _ _ (sym c.take_work.ensures.work ∙ c.in-Idle.is) (λ a x. x) (as_before c.args.self.now c.take_work.new.self c.wait.new.self (sym c.take_work.ensures.work ∙ c.in-Idle.is) c.take_work.ensures.state c.wait.ensures.state) c.wait.ensures.answer
+returns-in-Idle-clause-goes g c = goes_still g.P.Plans.ways (awaited_as c.args.arrival) c.args.self.now c.wait.new.self works.Idle _ _ _ (sym c.take_work.ensures.work ∙ c.in-Idle.is) (λ a x. x) (as_before c.args.self.now c.take_work.new.self c.wait.new.self (sym c.take_work.ensures.work ∙ c.in-Idle.is) c.take_work.ensures.state c.wait.ensures.state) c.wait.ensures.answer
 
 pub returns-in-Open-clause-goes : goal.returns-in-Open-clause-goes
-returns-in-Open-clause-goes g c = goes_open (ways g.P.Plan.meaning g.Q.Plan.meaning g.K.Plan.meaning g.P.PlanFor.refuses g.Q.PlanFor.refuses g.K.PlanFor.refuses) (awaited_as c.args.arrival) c.in-Open.call c.args.self.now c.take_work.new.self c.tell_call.new.self _ _ _ _ _ (sym c.take_work.ensures.work ∙ c.in-Open.is) c.take_work.ensures.state c.tell_call.ensures.goes
+returns-in-Open-clause-goes g c = goes_open g.P.Plans.ways (awaited_as c.args.arrival) c.in-Open.call c.args.self.now c.take_work.new.self c.tell_call.new.self _ _ _ _ _ (sym c.take_work.ensures.work ∙ c.in-Open.is) c.take_work.ensures.state c.tell_call.ensures.goes
 
 pub returns-in-GaveUp-clause-goes : goal.returns-in-GaveUp-clause-goes
-returns-in-GaveUp-clause-goes g c = goes_still (ways g.P.Plan.meaning g.Q.Plan.meaning g.K.Plan.meaning g.P.PlanFor.refuses g.Q.PlanFor.refuses g.K.PlanFor.refuses) (awaited_as c.args.arrival) c.args.self.now c.take_work.new.self works.GaveUp _ _ _ (sym c.take_work.ensures.work ∙ c.in-GaveUp.is) (λ a x. x) (c.take_work.ensures.state ∙ ap (λ x. record c.args.self.now { work = x }) (sym (sym c.take_work.ensures.work ∙ c.in-GaveUp.is))) refl
+returns-in-GaveUp-clause-goes g c = goes_still g.P.Plans.ways (awaited_as c.args.arrival) c.args.self.now c.take_work.new.self works.GaveUp _ _ _ (sym c.take_work.ensures.work ∙ c.in-GaveUp.is) (λ a x. x) (c.take_work.ensures.state ∙ ap (λ x. record c.args.self.now { work = x }) (sym (sym c.take_work.ensures.work ∙ c.in-GaveUp.is))) refl
 
 pub returns-in-Idle-clause-expects : goal.returns-in-Idle-clause-expects
-returns-in-Idle-clause-expects g c = expects_still (ways g.P.Plan.meaning g.Q.Plan.meaning g.K.Plan.meaning g.P.PlanFor.refuses g.Q.PlanFor.refuses g.K.PlanFor.refuses) c.args.self.now c.wait.new.self _ works.Idle _ (rw c.wait.ensures.state refl) (λ a x. x)
+returns-in-Idle-clause-expects g c = expects_still g.P.Plans.ways c.args.self.now c.wait.new.self _ works.Idle _ (rw c.wait.ensures.state refl) (λ a x. x)
 
 pub returns-in-Open-clause-expects : goal.returns-in-Open-clause-expects
-returns-in-Open-clause-expects g c = expects_open (ways g.P.Plan.meaning g.Q.Plan.meaning g.K.Plan.meaning g.P.PlanFor.refuses g.Q.PlanFor.refuses g.K.PlanFor.refuses) c.in-Open.call c.args.self.now (sym c.take_work.ensures.work ∙ c.in-Open.is) c.tell_call.ensures.expects
+returns-in-Open-clause-expects g c = expects_open g.P.Plans.ways c.in-Open.call c.args.self.now (sym c.take_work.ensures.work ∙ c.in-Open.is) c.tell_call.ensures.expects
 
 pub returns-in-GaveUp-clause-expects : goal.returns-in-GaveUp-clause-expects
-returns-in-GaveUp-clause-expects g c = expects_still (ways g.P.Plan.meaning g.Q.Plan.meaning g.K.Plan.meaning g.P.PlanFor.refuses g.Q.PlanFor.refuses g.K.PlanFor.refuses) c.args.self.now c.take_work.new.self _ works.GaveUp _ (rw c.take_work.ensures.state refl) (λ a x. x)
+returns-in-GaveUp-clause-expects g c = expects_still g.P.Plans.ways c.args.self.now c.take_work.new.self _ works.GaveUp _ (rw c.take_work.ensures.state refl) (λ a x. x)
 
 pub returns-in-Idle-clause-commits : goal.returns-in-Idle-clause-commits
 returns-in-Idle-clause-commits g c other out = ap (λ t. t.commits) (as_before c.args.self.now c.take_work.new.self c.wait.new.self (sym c.take_work.ensures.work ∙ c.in-Idle.is) c.take_work.ensures.state c.wait.ensures.state)
 
 pub returns-in-Open-clause-commits : goal.returns-in-Open-clause-commits
-returns-in-Open-clause-commits g c other out = commits_open (ways g.P.Plan.meaning g.Q.Plan.meaning g.K.Plan.meaning g.P.PlanFor.refuses g.Q.PlanFor.refuses g.K.PlanFor.refuses) c.args.arrival c.args.out.now (awaited_as c.args.arrival) c.in-Open.call c.args.self.now c.take_work.new.self c.tell_call.new.self (sym c.take_work.ensures.work ∙ c.in-Open.is) c.take_work.ensures.state c.tell_call.ensures.commits other out
+returns-in-Open-clause-commits g c other out = commits_open g.P.Plans.ways c.args.arrival c.args.out.now (awaited_as c.args.arrival) c.in-Open.call c.args.self.now c.take_work.new.self c.tell_call.new.self (sym c.take_work.ensures.work ∙ c.in-Open.is) c.take_work.ensures.state c.tell_call.ensures.commits other out
 
 pub returns-in-GaveUp-clause-commits : goal.returns-in-GaveUp-clause-commits
 returns-in-GaveUp-clause-commits g c other out = ap (λ t. t.commits) c.take_work.ensures.state
@@ -63,4 +62,4 @@ pub returns-in-Idle-clause-follows : goal.returns-in-Idle-clause-follows
 returns-in-Idle-clause-follows g c h busy f = absurd (let e = sym (ap is_open (sym c.take_work.ensures.work ∙ c.in-Idle.is)) ∙ busy in cc)
 
 pub returns-in-Open-clause-follows : goal.returns-in-Open-clause-follows
-returns-in-Open-clause-follows g c h busy f = followed_open (ways g.P.Plan.meaning g.Q.Plan.meaning g.K.Plan.meaning g.P.PlanFor.refuses g.Q.PlanFor.refuses g.K.PlanFor.refuses) c.args.arrival c.in-Open.call c.args.self.now c.take_work.new.self c.tell_call.new.self c.args.out.now _ h (sym c.take_work.ensures.work ∙ c.in-Open.is) c.take_work.ensures.state (c.tell_call.ensures.follows h) f
+returns-in-Open-clause-follows g c h busy f = followed_open g.P.Plans.ways c.args.arrival c.in-Open.call c.args.self.now c.take_work.new.self c.tell_call.new.self c.args.out.now _ h (sym c.take_work.ensures.work ∙ c.in-Open.is) c.take_work.ensures.state (c.tell_call.ensures.follows h) f

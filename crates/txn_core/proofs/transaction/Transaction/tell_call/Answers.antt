@@ -8,7 +8,6 @@ use Rattle.txn_core.proofs.Going.{followed_on, goes_on, lifts}
 use Rattle.std.proofs.Common.{ap}
 use Rattle.txn_history.proofs.Telling.{is_kept_ok}
 use Rattle.txn_core.proofs.Waiting.{expects_call, expects_gone, goes_call, goes_gone}
-use Rattle.txn_commit.specs.Committing.{ways}
 use Rattle.txn_core.proofs.transaction.Transaction.tell_call.Goals as goal
 
 pub returns-in-Err-clause-moves : goal.returns-in-Err-clause-moves
@@ -24,16 +23,16 @@ pub returns-in-Ok-clause-counts : goal.returns-in-Ok-clause-counts
 returns-in-Ok-clause-counts g c = open_counts _ _ c.args.call c.tell_open.new.call c.args.self.now c.tell_open.new.self c.go_on.new.self _ c.tell_open.ensures.kept c.go_on.ensures.keeps (kept_of_ok _ (turn_of c.tell_open.result) (rw c.in-Ok.is (is_kept_so c.in-Ok.progress))) c.tell_open.ensures.counts
 
 pub returns-in-Ok-clause-goes : goal.returns-in-Ok-clause-goes
-returns-in-Ok-clause-goes g c = goes_call (ways g.P.Plan.meaning g.Q.Plan.meaning g.K.Plan.meaning g.P.PlanFor.refuses g.Q.PlanFor.refuses g.K.PlanFor.refuses) c.args.call c.tell_open.new.call c.args.self.now c.tell_open.new.self c.go_on.new.self _ _ _ _ _ _ _ _ (is_kept_ok c.in-Ok.progress) c.requires.runs c.tell_open.ensures.kept (rw c.in-Ok.is at c.tell_open.ensures.goes) c.go_on.ensures.follows
+returns-in-Ok-clause-goes g c = goes_call g.P.Plans.ways c.args.call c.tell_open.new.call c.args.self.now c.tell_open.new.self c.go_on.new.self _ _ _ _ _ _ _ _ (is_kept_ok c.in-Ok.progress) c.requires.runs c.tell_open.ensures.kept (rw c.in-Ok.is at c.tell_open.ensures.goes) c.go_on.ensures.follows
 
 pub returns-in-Err-clause-goes : goal.returns-in-Err-clause-goes
-returns-in-Err-clause-goes g c = goes_gone (ways g.P.Plan.meaning g.Q.Plan.meaning g.K.Plan.meaning g.P.PlanFor.refuses g.Q.PlanFor.refuses g.K.PlanFor.refuses) c.args.call c.tell_open.new.call c.args.self.now c.stop.new.self _ _ _ _ _ _ _ (rw c.in-Err.is refl) c.stop.ensures.turn c.requires.runs (rw c.stop.ensures.state refl) c.tell_open.ensures.goes
+returns-in-Err-clause-goes g c = goes_gone g.P.Plans.ways c.args.call c.tell_open.new.call c.args.self.now c.stop.new.self _ _ _ _ _ _ _ (rw c.in-Err.is refl) c.stop.ensures.turn c.requires.runs (rw c.stop.ensures.state refl) c.tell_open.ensures.goes
 
 pub returns-in-Ok-clause-expects : goal.returns-in-Ok-clause-expects
-returns-in-Ok-clause-expects g c = expects_call (ways g.P.Plan.meaning g.Q.Plan.meaning g.K.Plan.meaning g.P.PlanFor.refuses g.Q.PlanFor.refuses g.K.PlanFor.refuses) c.args.call c.tell_open.new.call c.tell_open.new.self c.go_on.new.self _ _ _ _ _ (is_kept_ok c.in-Ok.progress) c.go_on.ensures.follows c.tell_open.ensures.expects
+returns-in-Ok-clause-expects g c = expects_call g.P.Plans.ways c.args.call c.tell_open.new.call c.tell_open.new.self c.go_on.new.self _ _ _ _ _ (is_kept_ok c.in-Ok.progress) c.go_on.ensures.follows c.tell_open.ensures.expects
 
 pub returns-in-Err-clause-expects : goal.returns-in-Err-clause-expects
-returns-in-Err-clause-expects g c = expects_gone (ways g.P.Plan.meaning g.Q.Plan.meaning g.K.Plan.meaning g.P.PlanFor.refuses g.Q.PlanFor.refuses g.K.PlanFor.refuses) c.args.call c.tell_open.new.call c.stop.new.self _ _ _ (rw c.stop.ensures.state refl) c.tell_open.ensures.expects
+returns-in-Err-clause-expects g c = expects_gone g.P.Plans.ways c.args.call c.tell_open.new.call c.stop.new.self _ _ _ (rw c.stop.ensures.state refl) c.tell_open.ensures.expects
 
 pub returns-in-Ok-clause-commits : goal.returns-in-Ok-clause-commits
 returns-in-Ok-clause-commits g c other out = ap (λ t. t.commits) c.go_on.ensures.kept ∙ c.tell_open.ensures.commits other out
