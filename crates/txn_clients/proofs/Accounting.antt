@@ -140,17 +140,17 @@ pub closed_kept : (s : Sight) (ended : List Ending) (old mid new : ℕ → Accou
 closed_kept s ended old mid new h k x = k x ∙ h x
 
 -- how the call at a line ends
-pub ends_call : {Q : Type 0} (line c x : ℕ) (b : Bool) (stand : Stand) (v : Result (TxnAnswer Q) Error) (o : Outcome) (from to : List Ending) → stand ≡ Calling c x b → to ≡ from ++ ends_so line o → o ≡ outcome_by b v → EndsCall line stand v from to
+pub ends_call : {P : Type 0} (line c x : ℕ) (b : Bool) (stand : Stand) (v : Result (TxnAnswer P) Error) (o : Outcome) (from to : List Ending) → stand ≡ Calling c x b → to ≡ from ++ ends_so line o → o ≡ outcome_by b v → EndsCall line stand v from to
 ends_call line c x b stand v o from to e items says = subst (λ s. EndsCall line s v from to) (sym e) (items ∙ ap (λ z. from ++ ends_so line z) says)
 
 -- what holds where it did not give up
-pub progress_kept : {Q A : Type 0} (p : Progress (TxnAnswer Q)) → IfKept (turn_of (Ok p)) A → A
+pub progress_kept : {P A : Type 0} (p : Progress (TxnAnswer P)) → IfKept (turn_of (Ok p)) A → A
 progress_kept Waiting h = h
 progress_kept (Done v) h = h
 
 -- What a transaction comes to by an answer
 
-stage_rolled : {Q : Type 0} (v : Result (TxnAnswer Q) Error) (s : side.Status) → stage_after false v ≡ side.rolled_by false s (outcome_by false v)
+stage_rolled : {P : Type 0} (v : Result (TxnAnswer P) Error) (s : side.Status) → stage_after false v ≡ side.rolled_by false s (outcome_by false v)
 stage_rolled (Err e) s = refl
 stage_rolled (Ok (answer.Committed t job)) s = refl
 stage_rolled (Ok answer.Unit) s = refl
@@ -160,7 +160,7 @@ stage_rolled (Ok (answer.Pairs ps)) s = refl
 stage_rolled (Ok (answer.Keys ks)) s = refl
 stage_rolled (Ok (answer.Ttl n)) s = refl
 
-account_closed : {Q : Type 0} (b : Bool) (v : Result (TxnAnswer Q) Error) (old new : Account) → new.contents ≡ old.contents → new.status ≡ stage_after b v → new ≡ closed_by b (outcome_by b v) old
+account_closed : {P : Type 0} (b : Bool) (v : Result (TxnAnswer P) Error) (old new : Account) → new.contents ≡ old.contents → new.status ≡ stage_after b v → new ≡ closed_by b (outcome_by b v) old
 account_closed true v old new c s = λ i. record { status = s i; contents = c i }
 account_closed false v old new c s = λ i. record { status = (s ∙ stage_rolled v old.status) i; contents = c i }
 
@@ -179,44 +179,44 @@ same_call c d x y b e q = cc
 no_idle : (c m : ℕ) → Idle ≡ HasBegun c m → ⊥
 no_idle c m q = cc
 
-write_done : (Q : Type 0) (act : Act) → is_write act ≡ true → outcome_by {Q = Q} (commits act) (Ok answer.Unit) ≡ outcomes.Ok payloads.Unit
-write_done Q (acts.Put k v) w = refl
-write_done Q (acts.Insert k v) w = refl
-write_done Q (acts.Delete k) w = refl
-write_done Q (acts.Mutate ms) w = refl
-write_done Q (acts.Lock ks) w = refl
-write_done Q acts.Commit w = absurd (cc)
-write_done Q acts.Rollback w = absurd (cc)
+write_done : (P : Type 0) (act : Act) → is_write act ≡ true → outcome_by {P = P} (commits act) (Ok answer.Unit) ≡ outcomes.Ok payloads.Unit
+write_done P (acts.Put k v) w = refl
+write_done P (acts.Insert k v) w = refl
+write_done P (acts.Delete k) w = refl
+write_done P (acts.Mutate ms) w = refl
+write_done P (acts.Lock ks) w = refl
+write_done P acts.Commit w = absurd (cc)
+write_done P acts.Rollback w = absurd (cc)
 
-failed_so : (Q : Type 0) (b : Bool) (e : Error) → outcome_by {Q = Q} b (Err e) ≡ outcomes.Err e
-failed_so Q true e = refl
-failed_so Q false e = refl
+failed_so : (P : Type 0) (b : Bool) (e : Error) → outcome_by {P = P} b (Err e) ≡ outcomes.Err e
+failed_so P true e = refl
+failed_so P false e = refl
 
-module _ {P Q K : Type 0} where
-  abbrev accounts : List (Row P Q K) → ℕ → Account
+module _ {P : Type 0} where
+  abbrev accounts : List (Row P) → ℕ → Account
   accounts rows n = account_at rows n
 
   -- Rows.
 
-  pub kept_rows : (rows news : List (Row P Q K)) → news ≡ rows → AreKept (accounts rows) (accounts news)
-  kept_rows rows news e n = ap (λ (rs : List (Row P Q K)). account_at rs n) e
+  pub kept_rows : (rows news : List (Row P)) → news ≡ rows → AreKept (accounts rows) (accounts news)
+  kept_rows rows news e n = ap (λ (rs : List (Row P)). account_at rs n) e
 
-  pub kept_set : (rows : List (Row P Q K)) (i : ℕ) (r : Row P Q K) → account_in r ≡ account_in (row_at rows i) → AreKept (accounts rows) (accounts (set rows i r))
+  pub kept_set : (rows : List (Row P)) (i : ℕ) (r : Row P) → account_in r ≡ account_in (row_at rows i) → AreKept (accounts rows) (accounts (set rows i r))
   kept_set rows i r h zero = refl
   kept_set rows i r h (suc j) = read_set account_in rows i j r row.Plain h
 
-  pub kept_at : (rows news : List (Row P Q K)) (i : ℕ) (r : Row P Q K) → news ≡ set rows i r → account_in r ≡ account_in (row_at rows i) → AreKept (accounts rows) (accounts news)
+  pub kept_at : (rows news : List (Row P)) (i : ℕ) (r : Row P) → news ≡ set rows i r → account_in r ≡ account_in (row_at rows i) → AreKept (accounts rows) (accounts news)
   kept_at rows news i r e h = kept_then (accounts rows) (accounts (set rows i r)) (accounts news) (kept_set rows i r h) (kept_rows (set rows i r) news e)
 
-  pub kept_opened : (rows news : List (Row P Q K)) (r : Row P Q K) → r ≡ row.Plain → news ≡ rows ++ r ∷ [] → AreKept (accounts rows) (accounts news)
+  pub kept_opened : (rows news : List (Row P)) (r : Row P) → r ≡ row.Plain → news ≡ rows ++ r ∷ [] → AreKept (accounts rows) (accounts news)
   kept_opened rows news r plain e zero = refl
-  kept_opened rows news r plain e (suc j) = ap (λ (rs : List (Row P Q K)). account_in (row_at rs j)) (e ∙ ap (λ (x : Row P Q K). rows ++ x ∷ []) plain) ∙ ap account_in (or_ended rows row.Plain j)
+  kept_opened rows news r plain e (suc j) = ap (λ (rs : List (Row P)). account_in (row_at rs j)) (e ∙ ap (λ (x : Row P). rows ++ x ∷ []) plain) ∙ ap account_in (or_ended rows row.Plain j)
 
-  pub none_new : (rows : List (Row P Q K)) → rows ≡ [] → AreNew (accounts rows)
+  pub none_new : (rows : List (Row P)) → rows ≡ [] → AreNew (accounts rows)
   none_new rows e zero = refl
-  none_new rows e (suc j) = ap (λ (rs : List (Row P Q K)). account_in (row_at rs j)) e
+  none_new rows e (suc j) = ap (λ (rs : List (Row P)). account_in (row_at rs j)) e
 
-  pub waits_same : (n : ℕ) (r : Row P Q K) → account_in (with_waits n r) ≡ account_in r
+  pub waits_same : (n : ℕ) (r : Row P) → account_in (with_waits n r) ≡ account_in r
   waits_same n row.Plain = refl
   waits_same n (row.Client c) = refl
   waits_same n (row.Asking c b call) = refl
@@ -226,7 +226,7 @@ module _ {P Q K : Type 0} where
   waits_same n (row.Working c job) = refl
 
   -- nothing was taken in where nothing stands
-  pub idle_new : (r : Row P Q K) → stand_of r ≡ Idle → account_in r ≡ new_account
+  pub idle_new : (r : Row P) → stand_of r ≡ Idle → account_in r ≡ new_account
   idle_new row.Plain e = refl
   idle_new (row.Client c) e = refl
   idle_new (row.Asking c b call) e = refl
@@ -238,12 +238,12 @@ module _ {P Q K : Type 0} where
   idle_new (row.Past c) e = refl
   idle_new (row.Working c job) e = refl
 
-  pub idle_line : (rows : List (Row P Q K)) (line : ℕ) → IsLine (stands_of rows) line → stand_at (stands_of rows) line ≡ Idle → account_in (row_at rows (line - 1)) ≡ new_account
+  pub idle_line : (rows : List (Row P)) (line : ℕ) → IsLine (stands_of rows) line → stand_at (stands_of rows) line ≡ Idle → account_in (row_at rows (line - 1)) ≡ new_account
   idle_line rows line is idle = idle_new (row_at rows (line - 1)) (sym (stand_of_line rows line is.first) ∙ idle)
 
   -- What is told.
 
-  start_same : (r : Row P Q K) (answer : Option (Answer P Q K)) (new : Account) → RowTold tells.Start answer r new → new ≡ account_in r
+  start_same : (r : Row P) (answer : Option (Answer P)) (new : Account) → RowTold tells.Start answer r new → new ≡ account_in r
   start_same row.Plain answer new h = h
   start_same (row.Client c) answer new h = h
   start_same (row.Asking c b call) answer new h = h
@@ -253,7 +253,7 @@ module _ {P Q K : Type 0} where
   start_same (row.Working c job) answer new h = h
 
   -- where nothing is answered, nothing comes further
-  unanswered_same : (a : Arrival) (r : Row P Q K) (new : Account) → RowTold (tells.Heard a) None r new → new ≡ account_in r
+  unanswered_same : (a : Arrival) (r : Row P) (new : Account) → RowTold (tells.Heard a) None r new → new ≡ account_in r
   unanswered_same a row.Plain new h = h
   unanswered_same a (row.Client c) new h = h
   unanswered_same a (row.Asking c b call) new h = h
@@ -263,7 +263,7 @@ module _ {P Q K : Type 0} where
   unanswered_same a (row.Working c job) new h = h
 
   -- nor where a call for a timestamp is
-  asked_same : (a : Arrival) (v : Result (ClientAnswer Pd P Q K) Error) (r : Row P Q K) (new : Account) → IsAnswerOf (stand_of r) (answers.Asked v) → RowTold (tells.Heard a) (Some (answers.Asked v)) r new → new ≡ account_in r
+  asked_same : (a : Arrival) (v : Result (ClientAnswer Pd P) Error) (r : Row P) (new : Account) → IsAnswerOf (stand_of r) (answers.Asked v) → RowTold (tells.Heard a) (Some (answers.Asked v)) r new → new ≡ account_in r
   asked_same a v row.Plain new k h = h
   asked_same a v (row.Client c) new k h = h
   asked_same a v (row.Asking c b call) new k h = h
@@ -272,25 +272,25 @@ module _ {P Q K : Type 0} where
   asked_same a v (row.Past c) new k h = h
   asked_same a v (row.Working c job) new k h = h
 
-  told_same : (told : Told) (at : ℕ) (answer : Option (Answer P Q K)) (old new : List (Row P Q K)) → (RowTold told answer (row_at old at) (account_at new (suc at)) → account_at new (suc at) ≡ account_in (row_at old at)) → AccountsTold told at answer old new → AreKept (accounts old) (accounts new)
+  told_same : (told : Told) (at : ℕ) (answer : Option (Answer P)) (old new : List (Row P)) → (RowTold told answer (row_at old at) (account_at new (suc at)) → account_at new (suc at) ≡ account_in (row_at old at)) → AccountsTold told at answer old new → AreKept (accounts old) (accounts new)
   told_same told at answer old new same h n = elim (same_line (suc at) n) [
     | inl e ↦ subst (λ k. account_at new k ≡ account_at old k) (sym e) (same h.own)
     | inr far ↦ h.others n far
   ]
 
-  pub started : (at : ℕ) (answer : Option (Answer P Q K)) (old new : List (Row P Q K)) → AccountsTold tells.Start at answer old new → AreKept (accounts old) (accounts new)
+  pub started : (at : ℕ) (answer : Option (Answer P)) (old new : List (Row P)) → AccountsTold tells.Start at answer old new → AreKept (accounts old) (accounts new)
   started at answer old new h = told_same tells.Start at answer old new (start_same (row_at old at) answer (account_at new (suc at))) h
 
-  pub told_then : (told : Told) (at : ℕ) (answer : Option (Answer P Q K)) (old mid new : List (Row P Q K)) → AccountsTold told at answer old mid → AreKept (accounts mid) (accounts new) → AccountsTold told at answer old new
+  pub told_then : (told : Told) (at : ℕ) (answer : Option (Answer P)) (old mid new : List (Row P)) → AccountsTold told at answer old mid → AreKept (accounts mid) (accounts new) → AccountsTold told at answer old new
   told_then told at answer old mid new h k = record { own = subst (RowTold told answer (row_at old at)) (sym (k (suc at))) h.own; others = λ n far. k n ∙ h.others n far }
 
-  pub told_rows : (told : Told) (at : ℕ) (answer : Option (Answer P Q K)) (old mid new : List (Row P Q K)) → new ≡ mid → AccountsTold told at answer old mid → AccountsTold told at answer old new
-  told_rows told at answer old mid new e h = subst (λ (rs : List (Row P Q K)). AccountsTold told at answer old rs) (sym e) h
+  pub told_rows : (told : Told) (at : ℕ) (answer : Option (Answer P)) (old mid new : List (Row P)) → new ≡ mid → AccountsTold told at answer old mid → AccountsTold told at answer old new
+  told_rows told at answer old mid new e h = subst (λ (rs : List (Row P)). AccountsTold told at answer old rs) (sym e) h
 
-  pub put_accounts : (s : Clients P Q K) (at : ℕ) (p q : Place P Q K) (told : Told) (answer : Option (Answer P Q K)) → at < length (rows_of s) → p ≡ get_or s.places.items at p → RowTold told answer p.row (account_in q.row)
-      → AccountsTold told at answer (rows_of s) (map (λ (x : Place P Q K). x.row) (set s.places.items at q))
-  put_accounts s at p q told answer low e h = told_rows told at answer (rows_of s) (set (rows_of s) at q.row) (map (λ (x : Place P Q K). x.row) (set s.places.items at q)) (rows_set s.places.items at q) (record {
-    own = subst (λ (r : Row P Q K). RowTold told answer r (account_in (row_at (set (rows_of s) at q.row) at))) (sym (place_row s at p low e)) (subst (RowTold told answer p.row) (sym (ap account_in (or_same (rows_of s) at q.row row.Plain low))) h);
+  pub put_accounts : (s : Clients P) (at : ℕ) (p q : Place P) (told : Told) (answer : Option (Answer P)) → at < length (rows_of s) → p ≡ get_or s.places.items at p → RowTold told answer p.row (account_in q.row)
+      → AccountsTold told at answer (rows_of s) (map (λ (x : Place P). x.row) (set s.places.items at q))
+  put_accounts s at p q told answer low e h = told_rows told at answer (rows_of s) (set (rows_of s) at q.row) (map (λ (x : Place P). x.row) (set s.places.items at q)) (rows_set s.places.items at q) (record {
+    own = subst (λ (r : Row P). RowTold told answer r (account_in (row_at (set (rows_of s) at q.row) at))) (sym (place_row s at p low e)) (subst (RowTold told answer p.row) (sym (ap account_in (or_same (rows_of s) at q.row row.Plain low))) h);
     others = λ n far. others n far;
   })
     where
@@ -298,96 +298,96 @@ module _ {P Q K : Type 0} where
       others zero far = refl
       others (suc j) far = ap account_in (or_other (rows_of s) at j q.row row.Plain (λ z. far (ap (λ k. suc k) z)))
 
-  pub put_answers : (s : Clients P Q K) (at : ℕ) (p : Place P Q K) (told : Told) (o : Option (Answer P Q K)) → at < length (rows_of s) → p ≡ get_or s.places.items at p → AnswersTold told p.row o → AnswersTold told (row_at (rows_of s) at) o
-  put_answers s at p told o low e h = subst (λ (r : Row P Q K). AnswersTold told r o) (sym (place_row s at p low e)) h
+  pub put_answers : (s : Clients P) (at : ℕ) (p : Place P) (told : Told) (o : Option (Answer P)) → at < length (rows_of s) → p ≡ get_or s.places.items at p → AnswersTold told p.row o → AnswersTold told (row_at (rows_of s) at) o
+  put_answers s at p told o low e h = subst (λ (r : Row P). AnswersTold told r o) (sym (place_row s at p low e)) h
 
   -- what a transaction did, by what it answered
-  pub acted_account : (told : Told) (act : Act) (old new : Standing P Q K) (p : Progress (TxnAnswer Q)) (o : Option (Answer P Q K)) → told ≡ tells.Act act → o ≡ answer_in answers.Called (turn_of (Ok p)) → IfKept (turn_of (Ok p)) (HasTaken act old new (turn_of (Ok p))) → AccountTold told o (account_of old) (account_of new)
-  acted_account told act old new p o is e h = subst (λ t. AccountTold t o (account_of old) (account_of new)) (sym is) (subst (λ (x : Option (Answer P Q K)). AccountTold (tells.Act act) x (account_of old) (account_of new)) (sym e) (by p h))
+  pub acted_account : (told : Told) (act : Act) (old new : Standing P) (p : Progress (TxnAnswer P)) (o : Option (Answer P)) → told ≡ tells.Act act → o ≡ answer_in answers.Called (turn_of (Ok p)) → IfKept (turn_of (Ok p)) (HasTaken act old new (turn_of (Ok p))) → AccountTold told o (account_of old) (account_of new)
+  acted_account told act old new p o is e h = subst (λ t. AccountTold t o (account_of old) (account_of new)) (sym is) (subst (λ (x : Option (Answer P)). AccountTold (tells.Act act) x (account_of old) (account_of new)) (sym e) (by p h))
     where
-      by : (p : Progress (TxnAnswer Q)) → IfKept (turn_of (Ok p)) (HasTaken act old new (turn_of (Ok p))) → AccountTold {P = P} {Q = Q} {K = K} (tells.Act act) (answer_in answers.Called (turn_of (Ok p))) (account_of old) (account_of new)
+      by : (p : Progress (TxnAnswer P)) → IfKept (turn_of (Ok p)) (HasTaken act old new (turn_of (Ok p))) → AccountTold {P = P} (tells.Act act) (answer_in answers.Called (turn_of (Ok p))) (account_of old) (account_of new)
       by Waiting h = h.account
       by (Done v) h = h.account
 
-  pub acted_answers : (told : Told) (act : Act) (old new : Standing P Q K) (p : Progress (TxnAnswer Q)) (o : Option (Answer P Q K)) → told ≡ tells.Act act → o ≡ answer_in answers.Called (turn_of (Ok p)) → IfKept (turn_of (Ok p)) (HasTaken act old new (turn_of (Ok p))) → AnswersAsk told (account_of old) o
-  acted_answers told act old new p o is e h = subst (λ t. AnswersAsk t (account_of old) o) (sym is) (subst (λ (x : Option (Answer P Q K)). AnswersSo act (refusal act (account_of old)) x) (sym e) (by p (refusal act (account_of old)) (progress_kept p h).answer))
+  pub acted_answers : (told : Told) (act : Act) (old new : Standing P) (p : Progress (TxnAnswer P)) (o : Option (Answer P)) → told ≡ tells.Act act → o ≡ answer_in answers.Called (turn_of (Ok p)) → IfKept (turn_of (Ok p)) (HasTaken act old new (turn_of (Ok p))) → AnswersAsk told (account_of old) o
+  acted_answers told act old new p o is e h = subst (λ t. AnswersAsk t (account_of old) o) (sym is) (subst (λ (x : Option (Answer P)). AnswersSo act (refusal act (account_of old)) x) (sym e) (by p (refusal act (account_of old)) (progress_kept p h).answer))
     where
-      by : (p : Progress (TxnAnswer Q)) (why : Option Error) → EndsAtOnce act why (turn_of (Ok p)) → AnswersSo {P = P} {Q = Q} {K = K} act why (answer_in answers.Called (turn_of (Ok p)))
-      by p None h = λ w. ap (λ (t : Course (Result (TxnAnswer Q) Error)). answer_in {X = Answer P Q K} answers.Called t) (h w)
-      by p (Some why) h = ap (λ (t : Course (Result (TxnAnswer Q) Error)). answer_in {X = Answer P Q K} answers.Called t) h
+      by : (p : Progress (TxnAnswer P)) (why : Option Error) → EndsAtOnce act why (turn_of (Ok p)) → AnswersSo {P = P} act why (answer_in answers.Called (turn_of (Ok p)))
+      by p None h = λ w. ap (λ (t : Course (Result (TxnAnswer P) Error)). answer_in {X = Answer P} answers.Called t) (h w)
+      by p (Some why) h = ap (λ (t : Course (Result (TxnAnswer P) Error)). answer_in {X = Answer P} answers.Called t) h
 
-  pub heard_account : (told : Told) (a : Arrival) (old new : Standing P Q K) (p : Progress (TxnAnswer Q)) (o : Option (Answer P Q K)) → told ≡ tells.Heard a → o ≡ answer_in answers.Called (turn_of (Ok p)) → IfKept (turn_of (Ok p)) (HasHeard old new (turn_of (Ok p))) → AccountTold told o (account_of old) (account_of new)
-  heard_account told a old new p o is e h = subst (λ t. AccountTold t o (account_of old) (account_of new)) (sym is) (subst (λ (x : Option (Answer P Q K)). AccountTold (tells.Heard a) x (account_of old) (account_of new)) (sym e) (by p h))
+  pub heard_account : (told : Told) (a : Arrival) (old new : Standing P) (p : Progress (TxnAnswer P)) (o : Option (Answer P)) → told ≡ tells.Heard a → o ≡ answer_in answers.Called (turn_of (Ok p)) → IfKept (turn_of (Ok p)) (HasHeard old new (turn_of (Ok p))) → AccountTold told o (account_of old) (account_of new)
+  heard_account told a old new p o is e h = subst (λ t. AccountTold t o (account_of old) (account_of new)) (sym is) (subst (λ (x : Option (Answer P)). AccountTold (tells.Heard a) x (account_of old) (account_of new)) (sym e) (by p h))
     where
-      by : (p : Progress (TxnAnswer Q)) → IfKept (turn_of (Ok p)) (HasHeard old new (turn_of (Ok p))) → AccountTold {P = P} {Q = Q} {K = K} (tells.Heard a) (answer_in answers.Called (turn_of (Ok p))) (account_of old) (account_of new)
+      by : (p : Progress (TxnAnswer P)) → IfKept (turn_of (Ok p)) (HasHeard old new (turn_of (Ok p))) → AccountTold {P = P} (tells.Heard a) (answer_in answers.Called (turn_of (Ok p))) (account_of old) (account_of new)
       by Waiting h = λ i. record { status = h.waits refl i; contents = h.contents i }
       by (Done v) h = h.contents
 
   -- How calls end.
 
   -- a call for a timestamp has ended
-  pub asked_kept : (rows news : List (Row P Q K)) (line c : ℕ) (b : Bool) (call : ClientCall Pd P Q K) (r : Row P Q K) → row_at rows (line - 1) ≡ row.Asking c b call → account_in r ≡ new_account → news ≡ set rows (line - 1) r → AreKept (accounts rows) (accounts news)
+  pub asked_kept : (rows news : List (Row P)) (line c : ℕ) (b : Bool) (call : ClientCall Pd P) (r : Row P) → row_at rows (line - 1) ≡ row.Asking c b call → account_in r ≡ new_account → news ≡ set rows (line - 1) r → AreKept (accounts rows) (accounts news)
   asked_kept rows news line c b call r there new e = kept_at rows news (line - 1) r e (new ∙ sym (ap account_in there))
 
   -- a call of a transaction has ended, which waits no more
-  pub called_kept : (rows news : List (Row P Q K)) (line x c : ℕ) (b : Bool) (r : Row P Q K) → row_at rows (line - 1) ≡ row.Calling c x b → account_in r ≡ new_account
+  pub called_kept : (rows news : List (Row P)) (line x c : ℕ) (b : Bool) (r : Row P) → row_at rows (line - 1) ≡ row.Calling c x b → account_in r ≡ new_account
       → news ≡ set (set rows (x - 1) (with_waits 0 (row_at rows (x - 1)))) (line - 1) r → AreKept (accounts rows) (accounts news)
   called_kept rows news line x c b r there new e = kept_then (accounts rows) (accounts mid) (accounts news) first (kept_at mid news (line - 1) r e (new ∙ sym (first (suc (line - 1)) ∙ ap account_in there)))
     where
-      mid : List (Row P Q K)
+      mid : List (Row P)
       mid = set rows (x - 1) (with_waits 0 (row_at rows (x - 1)))
 
       first : AreKept (accounts rows) (accounts mid)
       first = kept_set rows (x - 1) (with_waits 0 (row_at rows (x - 1))) (waits_same 0 (row_at rows (x - 1)))
 
-  pub started_goes : (line at : ℕ) (stand : Stand) (old new : List (Row P Q K)) (from to : List Ending) → GoesTold tells.Start line at stand old new from to → AreKept (accounts old) (accounts new)
+  pub started_goes : (line at : ℕ) (stand : Stand) (old new : List (Row P)) (from to : List Ending) → GoesTold tells.Start line at stand old new from to → AreKept (accounts old) (accounts new)
   started_goes line at stand old new from to g = started at g.answer old new g.accounts
 
   -- What waits for a line was told of something.
 
-  pub goes_none : (told : Told) (line at : ℕ) (stand : Stand) (old new : List (Row P Q K)) (from to : List Ending) (o : Option (Answer P Q K)) → o ≡ None → AccountsTold told at o old new → AnswersTold told (row_at old at) o → to ≡ from → GoesTold told line at stand old new from to
+  pub goes_none : (told : Told) (line at : ℕ) (stand : Stand) (old new : List (Row P)) (from to : List Ending) (o : Option (Answer P)) → o ≡ None → AccountsTold told at o old new → AnswersTold told (row_at old at) o → to ≡ from → GoesTold told line at stand old new from to
   goes_none told line at stand old new from to o e h a same = record {
     answer = None;
-    accounts = subst (λ (x : Option (Answer P Q K)). AccountsTold told at x old new) e h;
-    answers = subst (λ (x : Option (Answer P Q K)). AnswersTold told (row_at old at) x) e a;
+    accounts = subst (λ (x : Option (Answer P)). AccountsTold told at x old new) e h;
+    answers = subst (λ (x : Option (Answer P)). AnswersTold told (row_at old at) x) e a;
     kind = tt;
     ends = same;
     closes = closes_none told (row_at old at) (account_at new (suc at));
   }
     where
-      closes_none : (told : Told) (r : Row P Q K) (new : Account) → Closes told stand None r new
+      closes_none : (told : Told) (r : Row P) (new : Account) → Closes told stand None r new
       closes_none tells.Start r new = tt
       closes_none (tells.Act act) r new = tt
       closes_none (tells.Heard a) r new = tt
 
-  pub goes_asked : (told : Told) (line at : ℕ) (stand : Stand) (old new : List (Row P Q K)) (from to : List Ending) (o : Option (Answer P Q K)) (v : Result (ClientAnswer Pd P Q K) Error) → o ≡ Some (answers.Asked v) → AccountsTold told at o old new → AnswersTold told (row_at old at) o → IfSome o (IsAnswerOf (stand_of (row_at old at))) → EndsOwn line from to → GoesTold told line at stand old new from to
+  pub goes_asked : (told : Told) (line at : ℕ) (stand : Stand) (old new : List (Row P)) (from to : List Ending) (o : Option (Answer P)) (v : Result (ClientAnswer Pd P) Error) → o ≡ Some (answers.Asked v) → AccountsTold told at o old new → AnswersTold told (row_at old at) o → IfSome o (IsAnswerOf (stand_of (row_at old at))) → EndsOwn line from to → GoesTold told line at stand old new from to
   goes_asked told line at stand old new from to o v e h a k ends = record {
     answer = Some (answers.Asked v);
-    accounts = subst (λ (x : Option (Answer P Q K)). AccountsTold told at x old new) e h;
-    answers = subst (λ (x : Option (Answer P Q K)). AnswersTold told (row_at old at) x) e a;
-    kind = subst (λ (x : Option (Answer P Q K)). IfSome x (IsAnswerOf (stand_of (row_at old at)))) e k;
+    accounts = subst (λ (x : Option (Answer P)). AccountsTold told at x old new) e h;
+    answers = subst (λ (x : Option (Answer P)). AnswersTold told (row_at old at) x) e a;
+    kind = subst (λ (x : Option (Answer P)). IfSome x (IsAnswerOf (stand_of (row_at old at)))) e k;
     ends = ends;
     closes = closes_asked told (row_at old at) (account_at new (suc at));
   }
     where
-      closes_asked : (told : Told) (r : Row P Q K) (new : Account) → Closes told stand (Some (answers.Asked v)) r new
+      closes_asked : (told : Told) (r : Row P) (new : Account) → Closes told stand (Some (answers.Asked v)) r new
       closes_asked tells.Start r new = tt
       closes_asked (tells.Act act) r new = tt
       closes_asked (tells.Heard a) r new = tt
 
-  pub goes_called : (told : Told) (line at : ℕ) (stand : Stand) (old new : List (Row P Q K)) (from to : List Ending) (o : Option (Answer P Q K)) (v : Result (TxnAnswer Q) Error) → o ≡ Some (answers.Called v) → AccountsTold told at o old new → AnswersTold told (row_at old at) o → IfSome o (IsAnswerOf (stand_of (row_at old at))) → EndsCall line stand v from to
+  pub goes_called : (told : Told) (line at : ℕ) (stand : Stand) (old new : List (Row P)) (from to : List Ending) (o : Option (Answer P)) (v : Result (TxnAnswer P) Error) → o ≡ Some (answers.Called v) → AccountsTold told at o old new → AnswersTold told (row_at old at) o → IfSome o (IsAnswerOf (stand_of (row_at old at))) → EndsCall line stand v from to
       → Closes told stand (Some (answers.Called v)) (row_at old at) (account_at new (suc at)) → GoesTold told line at stand old new from to
   goes_called told line at stand old new from to o v e h a k ends closes = record {
     answer = Some (answers.Called v);
-    accounts = subst (λ (x : Option (Answer P Q K)). AccountsTold told at x old new) e h;
-    answers = subst (λ (x : Option (Answer P Q K)). AnswersTold told (row_at old at) x) e a;
-    kind = subst (λ (x : Option (Answer P Q K)). IfSome x (IsAnswerOf (stand_of (row_at old at)))) e k;
+    accounts = subst (λ (x : Option (Answer P)). AccountsTold told at x old new) e h;
+    answers = subst (λ (x : Option (Answer P)). AnswersTold told (row_at old at) x) e a;
+    kind = subst (λ (x : Option (Answer P)). IfSome x (IsAnswerOf (stand_of (row_at old at)))) e k;
     ends = ends;
     closes = closes;
   }
 
   -- a transaction that has come as far as its answer says, once it was told
-  pub closes_so : (told : Told) (stand : Stand) (v : Result (TxnAnswer Q) Error) (old mid : Row P Q K) (new : Account) → stand_of mid ≡ stand_of old → account_in mid ≡ new → RowTold told (Some (answers.Called v)) old new → (is_heard told ≡ true → HasComeTo stand v mid) → Closes told stand (Some (answers.Called v)) old new
+  pub closes_so : (told : Told) (stand : Stand) (v : Result (TxnAnswer P) Error) (old mid : Row P) (new : Account) → stand_of mid ≡ stand_of old → account_in mid ≡ new → RowTold told (Some (answers.Called v)) old new → (is_heard told ≡ true → HasComeTo stand v mid) → Closes told stand (Some (answers.Called v)) old new
   closes_so tells.Start stand v old mid new e m h come = tt
   closes_so (tells.Act act) stand v old mid new e m h come = tt
   closes_so (tells.Heard a) stand v row.Plain mid new e m h come = tt
@@ -398,7 +398,7 @@ module _ {P Q K : Type 0} where
   closes_so (tells.Heard a) stand v (row.Working c job) mid new e m h come = tt
   closes_so (tells.Heard a) stand v (row.Begun c t k) mid new e m h come = by stand mid e m (come refl)
     where
-      there : (b : Bool) (mid : Row P Q K) → stand_of mid ≡ HasBegun c k → account_in mid ≡ new → StandsAt (stage_after b v) mid → new.status ≡ stage_after b v
+      there : (b : Bool) (mid : Row P) → stand_of mid ≡ HasBegun c k → account_in mid ≡ new → StandsAt (stage_after b v) mid → new.status ≡ stage_after b v
       there b (row.Begun d u n) e m s = ap (λ (a : Account). a.status) (sym m) ∙ s
       there b row.Plain e m s = absurd (no e)
         where
@@ -425,7 +425,7 @@ module _ {P Q K : Type 0} where
           no : Working d ≡ HasBegun c k → ⊥
           no q = cc
 
-      by : (stand : Stand) (mid : Row P Q K) → stand_of mid ≡ HasBegun c k → account_in mid ≡ new → HasComeTo stand v mid → ComesTo stand v (account_of t) new
+      by : (stand : Stand) (mid : Row P) → stand_of mid ≡ HasBegun c k → account_in mid ≡ new → HasComeTo stand v mid → ComesTo stand v (account_of t) new
       by (Calling d x b) mid e m s = account_closed b v (account_of t) new h (there b mid e m s)
       by Idle mid e m s = tt
       by (IsClient d) mid e m s = tt
@@ -437,7 +437,7 @@ module _ {P Q K : Type 0} where
   -- Calls that end later than in their own line.
 
   -- of this sight, of which each transaction that waits has a call that does
-  module _ (s : Sight) (old : List (Row P Q K)) (line at : ℕ) (is : s.stands ≡ stands_of old) (matched : AreMatched s.stands) (own : 1 ≤ line) where
+  module _ (s : Sight) (old : List (Row P)) (line at : ℕ) (is : s.stands ≡ stands_of old) (matched : AreMatched s.stands) (own : 1 ≤ line) where
     -- none came further where all ended at a line that stands as no call of a transaction
     closed_alone : (more : List Ending) (a : ℕ → Account) → EndsAlone line more → ((c x : ℕ) (b : Bool) → stand_at s.stands line ≡ Calling c x b → ⊥) → (y : ℕ) → after_endings s more y (a y) ≡ a y
     closed_alone more a alone other y = elim (same_line line (awaited_line (stand_at s.stands y))) [
@@ -466,14 +466,14 @@ module _ {P Q K : Type 0} where
         ]
 
   -- what was told to what stands at this place, for this line
-  row_stand : (rows : List (Row P Q K)) (at : ℕ) → stand_of (row_at rows at) ≡ stand_at (stands_of rows) (suc at)
+  row_stand : (rows : List (Row P)) (at : ℕ) → stand_of (row_at rows at) ≡ stand_at (stands_of rows) (suc at)
   row_stand rows at = sym (stand_read rows at)
 
-  pub row_same : (old mid : List (Row P Q K)) (at : ℕ) → stands_of mid ≡ stands_of old → stand_of (row_at mid at) ≡ stand_of (row_at old at)
+  pub row_same : (old mid : List (Row P)) (at : ℕ) → stands_of mid ≡ stands_of old → stand_of (row_at mid at) ≡ stand_of (row_at old at)
   row_same old mid at e = row_stand mid at ∙ ap (λ ss. stand_at ss (suc at)) e ∙ sym (row_stand old at)
 
   -- the row of a transaction
-  begun_row : (r : Row P Q K) (c m : ℕ) → stand_of r ≡ HasBegun c m → (t : Standing P Q K) × (r ≡ row.Begun c t m)
+  begun_row : (r : Row P) (c m : ℕ) → stand_of r ≡ HasBegun c m → (t : Standing P) × (r ≡ row.Begun c t m)
   begun_row row.Plain c m e = absurd (no_idle c m e)
   begun_row (row.Client d) c m e = absurd (no e)
     where
@@ -503,17 +503,17 @@ module _ {P Q K : Type 0} where
       no : Working d ≡ HasBegun c m → ⊥
       no q = cc
 
-  closes_begun : (a : Arrival) (stand : Stand) (c x : ℕ) (b : Bool) (v : Result (TxnAnswer Q) Error) (r : Row P Q K) (d m : ℕ) (new : Account) → stand ≡ Calling c x b → stand_of r ≡ HasBegun d m → Closes (tells.Heard a) stand (Some (answers.Called v)) r new → new ≡ closed_by b (outcome_by b v) (account_in r)
+  closes_begun : (a : Arrival) (stand : Stand) (c x : ℕ) (b : Bool) (v : Result (TxnAnswer P) Error) (r : Row P) (d m : ℕ) (new : Account) → stand ≡ Calling c x b → stand_of r ≡ HasBegun d m → Closes (tells.Heard a) stand (Some (answers.Called v)) r new → new ≡ closed_by b (outcome_by b v) (account_in r)
   closes_begun a stand c x b v r d m new calls begun h =
       let k = begun_row r d m begun in
-      subst (λ (z : Row P Q K). Closes (tells.Heard a) stand (Some (answers.Called v)) z new → new ≡ closed_by b (outcome_by b v) (account_in z)) (sym k.1)
+      subst (λ (z : Row P). Closes (tells.Heard a) stand (Some (answers.Called v)) z new → new ≡ closed_by b (outcome_by b v) (account_in z)) (sym k.1)
       (λ q. subst (λ st. ComesTo st v (account_of k.0) new) calls q) h
 
-  asked_stand : (r : Row P Q K) (v : Result (ClientAnswer Pd P Q K) Error) (d m : ℕ) → stand_of r ≡ HasBegun d m → IsAnswerOf (stand_of r) (answers.Asked v) → ⊥
-  asked_stand r v d m e k = subst (λ st. IsAnswerOf {P = P} {Q = Q} {K = K} st (answers.Asked v)) e k
+  asked_stand : (r : Row P) (v : Result (ClientAnswer Pd P) Error) (d m : ℕ) → stand_of r ≡ HasBegun d m → IsAnswerOf (stand_of r) (answers.Asked v) → ⊥
+  asked_stand r v d m e k = subst (λ st. IsAnswerOf {P = P} st (answers.Asked v)) e k
 
   -- Something came for a line: its call may have ended, and then its transaction came further by that.
-  pub heard_closes : (s : Sight) (a : Arrival) (line at : ℕ) (old new : List (Row P Q K)) (from to : List Ending) → s.stands ≡ stands_of old → AreMatched s.stands → 1 ≤ line → HearsFor s.stands line at (stand_at s.stands line)
+  pub heard_closes : (s : Sight) (a : Arrival) (line at : ℕ) (old new : List (Row P)) (from to : List Ending) → s.stands ≡ stands_of old → AreMatched s.stands → 1 ≤ line → HearsFor s.stands line at (stand_at s.stands line)
       → GoesTold (tells.Heard a) line at (stand_at s.stands line) old new from to → ClosesIn s old new from to
   heard_closes s a line at old new from to is matched own hears g = by g.answer g.accounts g.kind g.ends g.closes
     where
@@ -524,10 +524,10 @@ module _ {P Q K : Type 0} where
       begun_there : (c x : ℕ) (b : Bool) → stand_at s.stands line ≡ Calling c x b → (suc at ≡ x) × ((d : ℕ) × (stand_at s.stands x ≡ HasBegun d line))
       begun_there c x b e = subst (HearsFor s.stands line at) e hears
 
-      kept : (answer : Option (Answer P Q K)) → AccountsTold (tells.Heard a) at answer old new → (RowTold (tells.Heard a) answer (row_at old at) (account_at new (suc at)) → account_at new (suc at) ≡ account_in (row_at old at)) → AreKept (accounts old) (accounts new)
+      kept : (answer : Option (Answer P)) → AccountsTold (tells.Heard a) at answer old new → (RowTold (tells.Heard a) answer (row_at old at) (account_at new (suc at)) → account_at new (suc at) ≡ account_in (row_at old at)) → AreKept (accounts old) (accounts new)
       kept answer h same = told_same (tells.Heard a) at answer old new same h
 
-      by : (answer : Option (Answer P Q K)) → AccountsTold (tells.Heard a) at answer old new → IfSome answer (IsAnswerOf (stand_of (row_at old at))) → EndsBy line (stand_at s.stands line) answer from to
+      by : (answer : Option (Answer P)) → AccountsTold (tells.Heard a) at answer old new → IfSome answer (IsAnswerOf (stand_of (row_at old at))) → EndsBy line (stand_at s.stands line) answer from to
           → Closes (tells.Heard a) (stand_at s.stands line) answer (row_at old at) (account_at new (suc at)) → ClosesIn s old new from to
       by None h k ends closes = record {
         more = [];
@@ -557,45 +557,45 @@ module _ {P Q K : Type 0} where
           called (IsClient c) e = absurd (subst (HearsFor s.stands line at) e hears)
           called (HasBegun c m) e = absurd (subst (HearsFor s.stands line at) e hears)
           called (Past c) e = absurd (subst (HearsFor s.stands line at) e hears)
-          called (Asking c b) e = absurd (subst (λ st. IsAnswerOf {P = P} {Q = Q} {K = K} st (answers.Called v)) (there ∙ ap (stand_at s.stands) (subst (HearsFor s.stands line at) e hears) ∙ e) k)
-          called (Working c) e = absurd (subst (λ st. IsAnswerOf {P = P} {Q = Q} {K = K} st (answers.Called v)) (there ∙ ap (stand_at s.stands) (subst (HearsFor s.stands line at) e hears) ∙ e) k)
+          called (Asking c b) e = absurd (subst (λ st. IsAnswerOf {P = P} st (answers.Called v)) (there ∙ ap (stand_at s.stands) (subst (HearsFor s.stands line at) e hears) ∙ e) k)
+          called (Working c) e = absurd (subst (λ st. IsAnswerOf {P = P} st (answers.Called v)) (there ∙ ap (stand_at s.stands) (subst (HearsFor s.stands line at) e hears) ∙ e) k)
 
   -- nothing came for anybody
-  pub closes_nothing : (s : Sight) (rows : List (Row P Q K)) (from : List Ending) → ClosesIn s rows rows from from
+  pub closes_nothing : (s : Sight) (rows : List (Row P)) (from : List Ending) → ClosesIn s rows rows from from
   closes_nothing s rows from = record { more = []; ended = sym (append-nil from); closed = nothing_closed s (accounts rows) (accounts rows) (kept_same (accounts rows)) }
 
   -- of a turn in which nothing has ended before
-  pub closes_first : (s : Sight) (old new : List (Row P Q K)) (from to : List Ending) → from ≡ [] → ClosesIn s old new from to → AreClosed s to (accounts old) (accounts new)
+  pub closes_first : (s : Sight) (old new : List (Row P)) (from to : List Ending) → from ≡ [] → ClosesIn s old new from to → AreClosed s to (accounts old) (accounts new)
   closes_first s old new from to e h = closed_so s h.more to (accounts old) (accounts new) (h.ended ∙ ap (λ es. es ++ h.more) e) h.closed
 
   -- where the same stood before
-  pub closed_rows : (s t : Sight) (old mid new : List (Row P Q K)) (ended : List Ending) → t.stands ≡ s.stands → mid ≡ old → AreClosed t ended (accounts mid) (accounts new) → AreClosed s ended (accounts old) (accounts new)
-  closed_rows s t old mid new ended stands e h x = subst (λ (rs : List (Row P Q K)). accounts new x ≡ after_endings t ended x (accounts rs x)) e (h x)
+  pub closed_rows : (s t : Sight) (old mid new : List (Row P)) (ended : List Ending) → t.stands ≡ s.stands → mid ≡ old → AreClosed t ended (accounts mid) (accounts new) → AreClosed s ended (accounts old) (accounts new)
+  closed_rows s t old mid new ended stands e h x = subst (λ (rs : List (Row P)). accounts new x ≡ after_endings t ended x (accounts rs x)) e (h x)
       ∙ ap (λ ss. closed (stand_at ss (awaited_line (stand_at ss x))) (outcomes_of (awaited_line (stand_at ss x)) ended) (accounts old x)) stands
 
   -- A call of a transaction begins.
 
   -- what the newest line comes to by an answer
-  abbrev outs_in : Act → Option (Answer P Q K) → List Outcome
+  abbrev outs_in : Act → Option (Answer P) → List Outcome
   outs_in act None = []
   outs_in act (Some (answers.Asked v)) = []
   outs_in act (Some (answers.Called v)) = outcome_by (commits act) v ∷ []
 
-  come_so : (act : Act) (answer : Option (Answer P Q K)) (outs : List Outcome) → outs ≡ outs_in act answer → side.come_to outs ≡ outcome_in (commits act) answer
+  come_so : (act : Act) (answer : Option (Answer P)) (outs : List Outcome) → outs ≡ outs_in act answer → side.come_to outs ≡ outcome_in (commits act) answer
   come_so act answer outs e = ap side.come_to e ∙ by answer
     where
-      by : (answer : Option (Answer P Q K)) → side.come_to (outs_in act answer) ≡ outcome_in (commits act) answer
+      by : (answer : Option (Answer P)) → side.come_to (outs_in act answer) ≡ outcome_in (commits act) answer
       by None = refl
       by (Some (answers.Asked v)) = refl
       by (Some (answers.Called v)) = refl
 
-  at_once : (act : Act) (why : Option Error) (answer : Option (Answer P Q K)) (outs : List Outcome) → AnswersSo act why answer → outs ≡ outs_in act answer → AnswersAtOnce act why outs
-  at_once act None answer outs h e = λ w. e ∙ ap (outs_in act) (h w) ∙ ap (λ (o : Outcome). o ∷ []) (write_done Q act w)
-  at_once act (Some why) answer outs h e = e ∙ ap (outs_in act) h ∙ ap (λ (o : Outcome). o ∷ []) (failed_so Q (commits act) why)
+  at_once : (act : Act) (why : Option Error) (answer : Option (Answer P)) (outs : List Outcome) → AnswersSo act why answer → outs ≡ outs_in act answer → AnswersAtOnce act why outs
+  at_once act None answer outs h e = λ w. e ∙ ap (outs_in act) (h w) ∙ ap (λ (o : Outcome). o ∷ []) (write_done P act w)
+  at_once act (Some why) answer outs h e = e ∙ ap (outs_in act) h ∙ ap (λ (o : Outcome). o ∷ []) (failed_so P (commits act) why)
 
-  module _ (rows mid : List (Row P Q K)) (line x c : ℕ) (b : Bool) (is : IsLine (stands_of rows) line) (idle : stand_at (stands_of rows) line ≡ Idle) (free : stand_at (stands_of rows) x ≡ HasBegun c 0)
+  module _ (rows mid : List (Row P)) (line x c : ℕ) (b : Bool) (is : IsLine (stands_of rows) line) (idle : stand_at (stands_of rows) line ≡ Idle) (free : stand_at (stands_of rows) x ≡ HasBegun c 0)
       (e : mid ≡ set (set rows (x - 1) (with_waits line (row_at rows (x - 1)))) (line - 1) (row.Calling c x b)) where
-    abbrev first : List (Row P Q K)
+    abbrev first : List (Row P)
     first = set rows (x - 1) (with_waits line (row_at rows (x - 1)))
 
     begun : IsLine (stands_of rows) x
@@ -620,7 +620,7 @@ module _ {P Q K : Type 0} where
     apart z = far (let one = begun.first in let two = is.first in omega (arith, one, two, z))
 
     at_x : row_at mid (x - 1) ≡ with_waits line (row_at rows (x - 1))
-    at_x = ap (λ (rs : List (Row P Q K)). row_at rs (x - 1)) e ∙ or_other first (line - 1) (x - 1) (row.Calling c x b) row.Plain apart
+    at_x = ap (λ (rs : List (Row P)). row_at rs (x - 1)) e ∙ or_other first (line - 1) (x - 1) (row.Calling c x b) row.Plain apart
         ∙ or_same rows (x - 1) (with_waits line (row_at rows (x - 1))) row.Plain (let one = begun.first in let last = begun.last in let long = count in omega (arith, one, last, long))
 
     stands_x : stand_of (row_at mid (x - 1)) ≡ HasBegun c line
@@ -633,29 +633,29 @@ module _ {P Q K : Type 0} where
     same_x = calling_kept (suc (x - 1)) ∙ ap (λ k. account_at rows k) is_x
 
     -- and does what it is asked
-    pub takes_in : (new : List (Row P Q K)) (act : Act) (newest : ℕ) (ended : List Ending) → line ≡ newest → b ≡ commits act → stand_at (stands_of mid) line ≡ Calling c x b
+    pub takes_in : (new : List (Row P)) (act : Act) (newest : ℕ) (ended : List Ending) → line ≡ newest → b ≡ commits act → stand_at (stands_of mid) line ≡ Calling c x b
         → GoesTold (tells.Act act) line (x - 1) (stand_at (stands_of mid) line) mid new [] ended → TakesIn act x newest (accounts rows) (accounts new) ended
     takes_in new act newest ended last kind calls g = by g.answer g.accounts g.answers g.kind g.ends
       where
-        begun_at : (t : Standing P Q K) × (row_at mid (x - 1) ≡ row.Begun c t line)
+        begun_at : (t : Standing P) × (row_at mid (x - 1) ≡ row.Begun c t line)
         begun_at = begun_row (row_at mid (x - 1)) c line stands_x
 
-        own_told : (answer : Option (Answer P Q K)) → RowTold (tells.Act act) answer (row_at mid (x - 1)) (account_at new (suc (x - 1))) → account_at new x ≡ after_act act true (outcome_in (commits act) answer) (account_at rows x)
+        own_told : (answer : Option (Answer P)) → RowTold (tells.Act act) answer (row_at mid (x - 1)) (account_at new (suc (x - 1))) → account_at new x ≡ after_act act true (outcome_in (commits act) answer) (account_at rows x)
         own_told answer h = subst (λ k. account_at new k ≡ after_act act true (outcome_in (commits act) answer) (account_at rows x)) is_x
-            (subst (λ (r : Row P Q K). RowTold (tells.Act act) answer r (account_at new (suc (x - 1))) → account_at new (suc (x - 1)) ≡ after_act act true (outcome_in (commits act) answer) (account_in r)) (sym begun_at.1) (λ q. q) h
+            (subst (λ (r : Row P). RowTold (tells.Act act) answer r (account_at new (suc (x - 1))) → account_at new (suc (x - 1)) ≡ after_act act true (outcome_in (commits act) answer) (account_in r)) (sym begun_at.1) (λ q. q) h
             ∙ ap (after_act act true (outcome_in (commits act) answer)) same_x)
 
-        answered : (answer : Option (Answer P Q K)) → AnswersTold (tells.Act act) (row_at mid (x - 1)) answer → AnswersSo act (refusal act (account_at rows x)) answer
+        answered : (answer : Option (Answer P)) → AnswersTold (tells.Act act) (row_at mid (x - 1)) answer → AnswersSo act (refusal act (account_at rows x)) answer
         answered answer h = subst (λ z. AnswersSo act (refusal act z) answer) same_x
-            (subst (λ (r : Row P Q K). AnswersTold (tells.Act act) r answer → AnswersSo act (refusal act (account_in r)) answer) (sym begun_at.1) (λ q. q) h)
+            (subst (λ (r : Row P). AnswersTold (tells.Act act) r answer → AnswersSo act (refusal act (account_in r)) answer) (sym begun_at.1) (λ q. q) h)
 
         -- what comes of the line so far
-        comes : (answer : Option (Answer P Q K)) → IfSome answer (IsAnswerOf (stand_of (row_at mid (x - 1)))) → EndsBy line (stand_at (stands_of mid) line) answer [] ended → outcomes_of newest ended ≡ outs_in act answer
+        comes : (answer : Option (Answer P)) → IfSome answer (IsAnswerOf (stand_of (row_at mid (x - 1)))) → EndsBy line (stand_at (stands_of mid) line) answer [] ended → outcomes_of newest ended ≡ outs_in act answer
         comes None k ends = ap (outcomes_of newest) ends
         comes (Some (answers.Asked v)) k ends = absurd (asked_stand (row_at mid (x - 1)) v c line stands_x k)
         comes (Some (answers.Called v)) k ends = ap (outcomes_of newest) (subst (λ st. EndsCall line st v [] ended) calls ends) ∙ ap (λ n. outcomes_of n (ends_so line (outcome_by b v))) (sym last) ∙ ends_one line (outcome_by b v) ∙ ap (λ (f : Bool). outcome_by f v ∷ []) kind
 
-        by : (answer : Option (Answer P Q K)) → AccountsTold (tells.Act act) (x - 1) answer mid new → AnswersTold (tells.Act act) (row_at mid (x - 1)) answer → IfSome answer (IsAnswerOf (stand_of (row_at mid (x - 1)))) → EndsBy line (stand_at (stands_of mid) line) answer [] ended
+        by : (answer : Option (Answer P)) → AccountsTold (tells.Act act) (x - 1) answer mid new → AnswersTold (tells.Act act) (row_at mid (x - 1)) answer → IfSome answer (IsAnswerOf (stand_of (row_at mid (x - 1)))) → EndsBy line (stand_at (stands_of mid) line) answer [] ended
             → TakesIn act x newest (accounts rows) (accounts new) ended
         by answer told says k ends = record {
           own = own_told answer told.own ∙ ap (λ o. after_act act true o (account_at rows x)) (sym (come_so act answer (outcomes_of newest ended) (comes answer k ends)));
@@ -665,28 +665,28 @@ module _ {P Q K : Type 0} where
 
   -- What a call that is told of something begins.
 
-  pub begun_answer : (call : ClientCall Pd P Q K) (now : ℕ) (a : Arrival) (turn : Course (Result (ClientAnswer Pd P Q K) Error)) → WantsNew call → IfEnds turn (λ v. IsMadeOf call.wanted now a v) → IfSome (answer_in {X = Answer P Q K} answers.Asked turn) AnswersNew
+  pub begun_answer : (call : ClientCall Pd P) (now : ℕ) (a : Arrival) (turn : Course (Result (ClientAnswer Pd P) Error)) → WantsNew call → IfEnds turn (λ v. IsMadeOf call.wanted now a v) → IfSome (answer_in {X = Answer P} answers.Asked turn) AnswersNew
   begun_answer call now a Stopped wants h = tt
   begun_answer call now a Waits wants h = tt
   begun_answer call now a (Ends v) wants h = begins_new call now a wants v h
 
-  pub none_answer : (turn : Course (Result (ClientAnswer Pd P Q K) Error)) → IfEnds turn (λ v. ⊥) → IfSome (answer_in {X = Answer P Q K} answers.Asked turn) AnswersNew
+  pub none_answer : (turn : Course (Result (ClientAnswer Pd P) Error)) → IfEnds turn (λ v. ⊥) → IfSome (answer_in {X = Answer P} answers.Asked turn) AnswersNew
   none_answer Stopped h = tt
   none_answer Waits h = tt
   none_answer (Ends v) h = absurd h
 
   -- it still wants what it did
-  pub wants_still : (old new : ClientCall Pd P Q K) → SameJob (called {C = Pd} {P = P} {Q = Q} {K = K}).asks (called {C = Pd} {P = P} {Q = Q} {K = K}).gives new old → WantsNew old → WantsNew new
+  pub wants_still : (old new : ClientCall Pd P) → SameJob (called {C = Pd} {P = P}).asks (called {C = Pd} {P = P}).gives new old → WantsNew old → WantsNew new
   wants_still old new job wants h b gives = wants h b (job.given h (Ok (Begun b)) gives)
 
-  pub asked_answer : (o : Option (Answer P Q K)) (turn : Course (Result (TxnAnswer Q) Error)) (r : Result (TxnAnswer Q) Error) → o ≡ answer_in answers.Called turn → turn ≡ Ends r → o ≡ Some (answers.Called r)
-  asked_answer o turn r e k = e ∙ ap (λ (t : Course (Result (TxnAnswer Q) Error)). answer_in {X = Answer P Q K} answers.Called t) k
+  pub asked_answer : (o : Option (Answer P)) (turn : Course (Result (TxnAnswer P) Error)) (r : Result (TxnAnswer P) Error) → o ≡ answer_in answers.Called turn → turn ≡ Ends r → o ≡ Some (answers.Called r)
+  asked_answer o turn r e k = e ∙ ap (λ (t : Course (Result (TxnAnswer P) Error)). answer_in {X = Answer P} answers.Called t) k
 
   -- what stands there is no call of a transaction, which would have come anywhere
-  pub come_other : (r mid : Row P Q K) (stand : Stand) (v : Result (TxnAnswer Q) Error) → stand ≡ stand_of r → ((c x : ℕ) (b : Bool) → r ≡ row.Calling c x b → ⊥) → HasComeTo stand v mid
+  pub come_other : (r mid : Row P) (stand : Stand) (v : Result (TxnAnswer P) Error) → stand ≡ stand_of r → ((c x : ℕ) (b : Bool) → r ≡ row.Calling c x b → ⊥) → HasComeTo stand v mid
   come_other r mid stand v e other = subst (λ s. HasComeTo s v mid) (sym e) (by r other)
     where
-      by : (r : Row P Q K) → ((c x : ℕ) (b : Bool) → r ≡ row.Calling c x b → ⊥) → HasComeTo (stand_of r) v mid
+      by : (r : Row P) → ((c x : ℕ) (b : Bool) → r ≡ row.Calling c x b → ⊥) → HasComeTo (stand_of r) v mid
       by row.Plain other = tt
       by (row.Client c) other = tt
       by (row.Asking c b call) other = tt
@@ -696,10 +696,10 @@ module _ {P Q K : Type 0} where
       by (row.Working c job) other = tt
 
   -- what is no call of a transaction ends so too
-  pub ends_other : (r : Row P Q K) (line : ℕ) (stand : Stand) (v : Result (TxnAnswer Q) Error) (from to : List Ending) → stand ≡ stand_of r → ((c x : ℕ) (b : Bool) → r ≡ row.Calling c x b → ⊥) → EndsCall line stand v from to
+  pub ends_other : (r : Row P) (line : ℕ) (stand : Stand) (v : Result (TxnAnswer P) Error) (from to : List Ending) → stand ≡ stand_of r → ((c x : ℕ) (b : Bool) → r ≡ row.Calling c x b → ⊥) → EndsCall line stand v from to
   ends_other r line stand v from to e other = subst (λ s. EndsCall line s v from to) (sym e) (by r other)
     where
-      by : (r : Row P Q K) → ((c x : ℕ) (b : Bool) → r ≡ row.Calling c x b → ⊥) → EndsCall line (stand_of r) v from to
+      by : (r : Row P) → ((c x : ℕ) (b : Bool) → r ≡ row.Calling c x b → ⊥) → EndsCall line (stand_of r) v from to
       by row.Plain other = tt
       by (row.Client c) other = tt
       by (row.Asking c b call) other = tt

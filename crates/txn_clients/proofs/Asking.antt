@@ -3,7 +3,7 @@ use Rattle.std.proofs.Common.{◌≡◌, ◌≢◌, ℕ, zero, suc, ◌-◌, ◌
 use Rattle.std.proofs.lemmas.List.{length-map, map-append, map-set}
 use Rattle.std.proofs.lemmas.List.Elements.{All-append, All-cons, All-nil}
 use Rattle.std.specs.Prelude.{IfOk, Result}
-use Rattle.txn_commit.specs.Committing.{Ways}
+use Rattle.txn_commit.specs.Ways.{Ways}
 use Rattle.txn_client.specs.Calls.{CallReady}
 use Rattle.txn_client.specs.declared.client_call.ClientCall.{ClientCall}
 use Rattle.txn_core.specs.Transaction.{Standing}
@@ -69,9 +69,9 @@ begun_free s c d m e client none = e ∙ ap (λ i. HasBegun i m) (same (sym (ap 
     same : Some d ≡ Some c → d ≡ c
     same q = cc
 
-module _ {P Q K : Type 0} where
+module _ {P : Type 0} where
   -- what is no transaction is not free
-  pub other_taken : (r : Row P Q K) → ((c : ℕ) (t : Standing P Q K) (m : ℕ) → r ≡ row.Begun c t m → ⊥) → free (stand_of r) ≡ false
+  pub other_taken : (r : Row P) → ((c : ℕ) (t : Standing P) (m : ℕ) → r ≡ row.Begun c t m → ⊥) → free (stand_of r) ≡ false
   other_taken row.Plain h = refl
   other_taken (row.Client c) h = refl
   other_taken (row.Asking c b call) h = refl
@@ -81,20 +81,20 @@ module _ {P Q K : Type 0} where
   other_taken (row.Working c job) h = refl
 
   -- the newest line is there, where there is one
-  pub newest_is : (s : Clients P Q K) (line : ℕ) → 1 ≤ line_count (sight_of s) → line ≡ line_count (sight_of s) → IsLine (sight_of s).stands line
+  pub newest_is : (s : Clients P) (line : ℕ) → 1 ≤ line_count (sight_of s) → line ≡ line_count (sight_of s) → IsLine (sight_of s).stands line
   newest_is s line one e = record { first = omega (arith, one, e); last = omega (arith, e) }
 
-  pub newest_idle : (s : Clients P Q K) (line : ℕ) → line ≡ line_count (sight_of s) → stand_at (sight_of s).stands (line_count (sight_of s)) ≡ Idle → stand_at (sight_of s).stands line ≡ Idle
+  pub newest_idle : (s : Clients P) (line : ℕ) → line ≡ line_count (sight_of s) → stand_at (sight_of s).stands (line_count (sight_of s)) ≡ Idle → stand_at (sight_of s).stands line ≡ Idle
   newest_idle s line e idle = ap (stand_at (sight_of s).stands) e ∙ idle
 
   -- One line more
 
-  pub opened_rows : (s t : Clients P Q K) (p : Place P Q K) → t.places.items ≡ s.places.items ++ p ∷ [] → rows_of t ≡ rows_of s ++ p.row ∷ []
-  opened_rows s t p e = ap (map (λ (q : Place P Q K). q.row)) e ∙ map-append (λ (q : Place P Q K). q.row) s.places.items (p ∷ [])
+  pub opened_rows : (s t : Clients P) (p : Place P) → t.places.items ≡ s.places.items ++ p ∷ [] → rows_of t ≡ rows_of s ++ p.row ∷ []
+  opened_rows s t p e = ap (map (λ (q : Place P). q.row)) e ∙ map-append (λ (q : Place P). q.row) s.places.items (p ∷ [])
 
   -- A client is made, or is gone
 
-  pub connected_sight : (s t : Clients P Q K) (line client : ℕ) → line ≡ line_count (sight_of s) → client ≡ length (crashed_of s) → crashed_of t ≡ crashed_of s ++ false ∷ [] → groups_of t ≡ groups_of s ++ None ∷ [] → rows_of t ≡ set (rows_of s) (line - 1) (row.Client client) → nexts_of t ≡ nexts_of s
+  pub connected_sight : (s t : Clients P) (line client : ℕ) → line ≡ line_count (sight_of s) → client ≡ length (crashed_of s) → crashed_of t ≡ crashed_of s ++ false ∷ [] → groups_of t ≡ groups_of s ++ None ∷ [] → rows_of t ≡ set (rows_of s) (line - 1) (row.Client client) → nexts_of t ≡ nexts_of s
       → sight_of t ≡ connected (sight_of s)
   connected_sight s t line client at new crashed groups rows nexts =
       sight_by (crashed_of t) (crashed_of s ++ false ∷ []) (groups_of t) (groups_of s ++ None ∷ []) (stands_of (rows_of t)) (set (stands_of (rows_of s)) (line_count (sight_of s) - 1) (IsClient (length (crashed_of s)))) (nexts_of t) (nexts_of s) crashed groups stands nexts
@@ -102,70 +102,70 @@ module _ {P Q K : Type 0} where
       stands : stands_of (rows_of t) ≡ set (stands_of (rows_of s)) (line_count (sight_of s) - 1) (IsClient (length (crashed_of s)))
       stands = ap stands_of rows ∙ stands_set (rows_of s) (line - 1) (row.Client client) ∙ ap (λ n. set (stands_of (rows_of s)) (n - 1) (IsClient client)) at ∙ ap (λ n. set (stands_of (rows_of s)) (line_count (sight_of s) - 1) (IsClient n)) new
 
-  pub pushed_crashed : (s t : Clients P Q K) (c : ClientState) → t.clients.items ≡ s.clients.items ++ c ∷ [] → c.crashed ≡ false → crashed_of t ≡ crashed_of s ++ false ∷ []
+  pub pushed_crashed : (s t : Clients P) (c : ClientState) → t.clients.items ≡ s.clients.items ++ c ∷ [] → c.crashed ≡ false → crashed_of t ≡ crashed_of s ++ false ∷ []
   pushed_crashed s t c e new = ap (map (λ (d : ClientState). d.crashed)) e ∙ map-append (λ (d : ClientState). d.crashed) s.clients.items (c ∷ []) ∙ ap (λ b. crashed_of s ++ b ∷ []) new
 
-  pub pushed_groups : (s t : Clients P Q K) (c : ClientState) → t.clients.items ≡ s.clients.items ++ c ∷ [] → c.group ≡ None → groups_of t ≡ groups_of s ++ None ∷ []
+  pub pushed_groups : (s t : Clients P) (c : ClientState) → t.clients.items ≡ s.clients.items ++ c ∷ [] → c.group ≡ None → groups_of t ≡ groups_of s ++ None ∷ []
   pushed_groups s t c e new = ap (map group_of) e ∙ map-append group_of s.clients.items (c ∷ []) ∙ ap (λ g. groups_of s ++ group_by g (lines_out c) ∷ []) new
 
-  pub crashed_put : (s : Clients P Q K) (i : ℕ) (c : ClientState) → map (λ (d : ClientState). d.crashed) (set s.clients.items i c) ≡ set (crashed_of s) i c.crashed
+  pub crashed_put : (s : Clients P) (i : ℕ) (c : ClientState) → map (λ (d : ClientState). d.crashed) (set s.clients.items i c) ≡ set (crashed_of s) i c.crashed
   crashed_put s i c = map-set (λ (d : ClientState). d.crashed) s.clients.items i c
 
-  pub crashed_sight : (s t : Clients P Q K) (line client : ℕ) → client_at (stand_at (sight_of s).stands line) ≡ Some client → crashed_of t ≡ set (crashed_of s) client true → groups_of t ≡ groups_of s → rows_of t ≡ rows_of s → nexts_of t ≡ nexts_of s → sight_of t ≡ crash line (sight_of s)
+  pub crashed_sight : (s t : Clients P) (line client : ℕ) → client_at (stand_at (sight_of s).stands line) ≡ Some client → crashed_of t ≡ set (crashed_of s) client true → groups_of t ≡ groups_of s → rows_of t ≡ rows_of s → nexts_of t ≡ nexts_of s → sight_of t ≡ crash line (sight_of s)
   crashed_sight s t line client e crashed groups rows nexts =
       sight_by (crashed_of t) (set (crashed_of s) client true) (groups_of t) (groups_of s) (stands_of (rows_of t)) (stands_of (rows_of s)) (nexts_of t) (nexts_of s) crashed groups (ap stands_of rows) nexts ∙ sym (crash_there (sight_of s) line client e)
 
   -- A call begins
 
-  pub asked_sight : (s t : Clients P Q K) (line c : ℕ) (b : Bool) (call : ClientCall Pd P Q K) → rows_of t ≡ set (rows_of s) (line - 1) (row.Asking c b call) → nexts_of t ≡ nexts_of s → t.clients ≡ s.clients → sight_of t ≡ with_stand line (Asking c b) (sight_of s)
+  pub asked_sight : (s t : Clients P) (line c : ℕ) (b : Bool) (call : ClientCall Pd P) → rows_of t ≡ set (rows_of s) (line - 1) (row.Asking c b call) → nexts_of t ≡ nexts_of s → t.clients ≡ s.clients → sight_of t ≡ with_stand line (Asking c b) (sight_of s)
   asked_sight s t line c b call rows nexts clients =
       sight_at s t (set (stands_of (rows_of s)) (line - 1) (Asking c b)) (nexts_of s) clients (ap stands_of rows ∙ stands_set (rows_of s) (line - 1) (row.Asking c b call)) nexts
 
-  pub asked_listens_now : (s t : Clients P Q K) (line c : ℕ) (b : Bool) → IsLine (sight_of s).stands line → get_or (crashed_of s) c true ≡ false → sight_of t ≡ with_stand line (Asking c b) (sight_of s) → Listens (sight_of t) line (line - 1) c
+  pub asked_listens_now : (s t : Clients P) (line c : ℕ) (b : Bool) → IsLine (sight_of s).stands line → get_or (crashed_of s) c true ≡ false → sight_of t ≡ with_stand line (Asking c b) (sight_of s) → Listens (sight_of t) line (line - 1) c
   asked_listens_now s t line c b is there e = subst (λ v. Listens v line (line - 1) c) (sym e) (asked_listens (sight_of s) line c b is there)
 
-  pub called_listens_now : (s t : Clients P Q K) (line x c : ℕ) (b : Bool) → IsLine (sight_of s).stands line → stand_at (sight_of s).stands line ≡ Idle → stand_at (sight_of s).stands x ≡ HasBegun c 0 → get_or (crashed_of s) c true ≡ false
+  pub called_listens_now : (s t : Clients P) (line x c : ℕ) (b : Bool) → IsLine (sight_of s).stands line → stand_at (sight_of s).stands line ≡ Idle → stand_at (sight_of s).stands x ≡ HasBegun c 0 → get_or (crashed_of s) c true ≡ false
       → sight_of t ≡ with_stand line (Calling c x b) (with_stand x (HasBegun c line) (sight_of s)) → Listens (sight_of t) line (x - 1) c
   called_listens_now s t line x c b is idle free there e = subst (λ v. Listens v line (x - 1) c) (sym e) (called_listens (sight_of s) line x c b is idle free there)
 
-  pub called_sight : (s t : Clients P Q K) (line x c : ℕ) (b : Bool) → stand_at (sight_of s).stands x ≡ HasBegun c 0 → rows_of t ≡ set (set (rows_of s) (x - 1) (with_waits line (row_at (rows_of s) (x - 1)))) (line - 1) (row.Calling c x b) → nexts_of t ≡ nexts_of s → t.clients ≡ s.clients
+  pub called_sight : (s t : Clients P) (line x c : ℕ) (b : Bool) → stand_at (sight_of s).stands x ≡ HasBegun c 0 → rows_of t ≡ set (set (rows_of s) (x - 1) (with_waits line (row_at (rows_of s) (x - 1)))) (line - 1) (row.Calling c x b) → nexts_of t ≡ nexts_of s → t.clients ≡ s.clients
       → sight_of t ≡ with_stand line (Calling c x b) (with_stand x (HasBegun c line) (sight_of s))
   called_sight s t line x c b free rows nexts clients =
       sight_at s t (set (set (stands_of (rows_of s)) (x - 1) (HasBegun c line)) (line - 1) (Calling c x b)) (nexts_of s) clients
       (ap stands_of rows ∙ called_stands (rows_of s) line x c 0 (row.Calling c x b) (begun_line (stands_of (rows_of s)) x c 0 free) free) nexts
 
-  module _ {A B D : Type 0} (w : Ways P Q K A B D) where
-    pub opened_ready : (rows news : List (Row P Q K)) (p : Place P Q K) → p ≡ record { row = row.Plain; next = 1; next_ask = 1 } → news ≡ rows ++ p.row ∷ [] → AreReady w rows → AreReady w news
-    opened_ready rows news p e so ready = subst (AreReady w) (sym (so ∙ ap (λ (q : Place P Q K). rows ++ q.row ∷ []) e)) (record {
+  module _ (w : Ways P) where
+    pub opened_ready : (rows news : List (Row P)) (p : Place P) → p ≡ record { row = row.Plain; next = 1; next_ask = 1 } → news ≡ rows ++ p.row ∷ [] → AreReady w rows → AreReady w news
+    opened_ready rows news p e so ready = subst (AreReady w) (sym (so ∙ ap (λ (q : Place P). rows ++ q.row ∷ []) e)) (record {
       each = All-append (RowReady w) rows (row.Plain ∷ []) ready.each (All-cons (RowReady w) row.Plain [] tt (All-nil (RowReady w)));
       matched = subst AreMatched (sym (map-append stand_of rows (row.Plain ∷ []))) (matched_opened (stands_of rows) ready.matched);
     })
 
     -- where nothing stands, what waits for nobody may stand
-    pub ready_new : (rows : List (Row P Q K)) (line : ℕ) (r : Row P Q K) → IsLine (stands_of rows) line → stand_at (stands_of rows) line ≡ Idle → AreReady w rows → RowReady w r → ((c m : ℕ) → stand_of r ≢ HasBegun c m) → AreReady w (set rows (line - 1) r)
+    pub ready_new : (rows : List (Row P)) (line : ℕ) (r : Row P) → IsLine (stands_of rows) line → stand_at (stands_of rows) line ≡ Idle → AreReady w rows → RowReady w r → ((c m : ℕ) → stand_of r ≢ HasBegun c m) → AreReady w (set rows (line - 1) r)
     ready_new rows line r is idle ready may waits = ready_set w rows line r is ready may (λ c x b e. no c x b (sym idle ∙ e)) (λ c m e. absurd (waits c m e))
       where
         no : (c x : ℕ) (b : Bool) → Idle ≡ Calling c x b → ⊥
         no c x b q = cc
 
-    pub connected_ready : (rows news : List (Row P Q K)) (line client : ℕ) → IsLine (stands_of rows) line → stand_at (stands_of rows) line ≡ Idle → AreReady w rows → news ≡ set rows (line - 1) (row.Client client) → AreReady w news
+    pub connected_ready : (rows news : List (Row P)) (line client : ℕ) → IsLine (stands_of rows) line → stand_at (stands_of rows) line ≡ Idle → AreReady w rows → news ≡ set rows (line - 1) (row.Client client) → AreReady w news
     connected_ready rows news line client is idle ready e = subst (AreReady w) (sym e) (ready_new rows line (row.Client client) is idle ready tt no)
       where
         no : (c m : ℕ) → IsClient client ≢ HasBegun c m
         no c m q = cc
 
-    pub asking_ready : (rows news : List (Row P Q K)) (line c : ℕ) (b : Bool) (call : ClientCall Pd P Q K) → IsLine (stands_of rows) line → stand_at (stands_of rows) line ≡ Idle → AreReady w rows → CallReady call.stage → WantsNew call → news ≡ set rows (line - 1) (row.Asking c b call) → AreReady w news
+    pub asking_ready : (rows news : List (Row P)) (line c : ℕ) (b : Bool) (call : ClientCall Pd P) → IsLine (stands_of rows) line → stand_at (stands_of rows) line ≡ Idle → AreReady w rows → CallReady call.stage → WantsNew call → news ≡ set rows (line - 1) (row.Asking c b call) → AreReady w news
     asking_ready rows news line c b call is idle ready may wants e = subst (AreReady w) (sym e) (ready_new rows line (row.Asking c b call) is idle ready (may, wants) no)
       where
         no : (d m : ℕ) → Asking c b ≢ HasBegun d m
         no d m q = cc
 
-    pub calling_ready : (rows news : List (Row P Q K)) (line x c : ℕ) (b : Bool) → IsLine (stands_of rows) line → stand_at (stands_of rows) line ≡ Idle → stand_at (stands_of rows) x ≡ HasBegun c 0 → AreReady w rows
+    pub calling_ready : (rows news : List (Row P)) (line x c : ℕ) (b : Bool) → IsLine (stands_of rows) line → stand_at (stands_of rows) line ≡ Idle → stand_at (stands_of rows) x ≡ HasBegun c 0 → AreReady w rows
         → news ≡ set (set rows (x - 1) (with_waits line (row_at rows (x - 1)))) (line - 1) (row.Calling c x b) → AreReady w news
     calling_ready rows news line x c b is idle free ready e = subst (AreReady w) (sym e) (ready_called w rows line x c b is (begun_line (stands_of rows) x c 0 free) idle free ready)
 
     -- a transaction that waits for a new call may be asked for something
-    pub act_hears : (rows news : List (Row P Q K)) (line x c : ℕ) (b : Bool) (act : Act) → IsLine (stands_of rows) line → stand_at (stands_of rows) line ≡ Idle → stand_at (stands_of rows) x ≡ HasBegun c 0 → AreReady w rows
+    pub act_hears : (rows news : List (Row P)) (line x c : ℕ) (b : Bool) (act : Act) → IsLine (stands_of rows) line → stand_at (stands_of rows) line ≡ Idle → stand_at (stands_of rows) x ≡ HasBegun c 0 → AreReady w rows
         → news ≡ set (set rows (x - 1) (with_waits line (row_at rows (x - 1)))) (line - 1) (row.Calling c x b) → MayHear (tells.Act act) (row_at news (x - 1))
     act_hears rows news line x c b act is idle free ready e = subst (MayHear (tells.Act act)) (sym (ap (λ rs. row_at rs (x - 1)) e ∙ same)) (hears (row_at rows (x - 1)) (sym (stand_of_line rows x begun.first) ∙ free) (ready.each (x - 1) row.Plain within_rows))
       where
@@ -190,7 +190,7 @@ module _ {P Q K : Type 0} where
         same : row_at (set (set rows (x - 1) (with_waits line (row_at rows (x - 1)))) (line - 1) (row.Calling c x b)) (x - 1) ≡ with_waits line (row_at rows (x - 1))
         same = or_other (set rows (x - 1) (with_waits line (row_at rows (x - 1)))) (line - 1) (x - 1) (row.Calling c x b) row.Plain apart ∙ or_same rows (x - 1) (with_waits line (row_at rows (x - 1))) row.Plain within_rows
 
-        hears : (r : Row P Q K) → stand_of r ≡ HasBegun c 0 → RowReady w r → MayHear (tells.Act act) (with_waits line r)
+        hears : (r : Row P) → stand_of r ≡ HasBegun c 0 → RowReady w r → MayHear (tells.Act act) (with_waits line r)
         hears row.Plain e may = tt
         hears (row.Client d) e may = tt
         hears (row.Asking d a call) e may = tt
@@ -203,12 +203,12 @@ module _ {P Q K : Type 0} where
         hears (row.Working d job) e may = tt
 
   -- the call stands at its line
-  pub called_stand : (rows mid : List (Row P Q K)) (line x c : ℕ) (b : Bool) → IsLine (stands_of rows) line → mid ≡ set (set rows (x - 1) (with_waits line (row_at rows (x - 1)))) (line - 1) (row.Calling c x b) → stand_at (stands_of mid) line ≡ Calling c x b
+  pub called_stand : (rows mid : List (Row P)) (line x c : ℕ) (b : Bool) → IsLine (stands_of rows) line → mid ≡ set (set rows (x - 1) (with_waits line (row_at rows (x - 1)))) (line - 1) (row.Calling c x b) → stand_at (stands_of mid) line ≡ Calling c x b
   called_stand rows mid line x c b is e =
-      ap (λ (rs : List (Row P Q K)). stand_at (stands_of rs) line) e ∙ ap (λ ss. stand_at ss line) (stands_set first (line - 1) (row.Calling c x b))
+      ap (λ (rs : List (Row P)). stand_at (stands_of rs) line) e ∙ ap (λ ss. stand_at ss line) (stands_set first (line - 1) (row.Calling c x b))
       ∙ stand_same (stands_of first) line (Calling c x b) (record { first = is.first; last = subst (λ n. line ≤ n) (sym long) is.last })
     where
-      first : List (Row P Q K)
+      first : List (Row P)
       first = set rows (x - 1) (with_waits line (row_at rows (x - 1)))
 
       long : length (stands_of first) ≡ length (stands_of rows)

@@ -17,6 +17,7 @@ use Rattle.txn_history.specs.Turn.{IfEnds, IfEnds-weaker, IfKept, IfKept-out, Tu
 use Rattle.txn_kv.specs.declared.outbox.Errand.TheVariants.{Send}
 use Rattle.txn_core.specs.declared.txn_answer.TxnAnswer.{TxnAnswer}
 use Rattle.txn_side.specs.Trace.{AreOwn, Trace, refused_asks}
+use Rattle.txn_side.specs.Trace.CallKind.{ForTimestamp, OfTransaction}
 use Rattle.txn_clients.specs.Failing.{AnswerRests, AskRests, CalledIn, CameIn, CountedIn, FailsAt, HasMet, IfFails, LongerIn, SentIn, ShownIn, owing}
 use Rattle.txn_clients.specs.Resting.{called_in_longer, counted_longer, shown_longer, wanted_longer}
 use Rattle.txn_clients.proofs.Showing.{among_behind, counted_after, counts_heard, owing_called, owing_came, owing_met, fails_by, known_so, own_after, own_heard, sent_shown, shown_after, shown_heard, unheard_ends}
@@ -25,7 +26,7 @@ use Rattle.txn_history.specs.Arrivals.{awaited_as, told_by}
 use Rattle.txn_kv.specs.declared.arrival.Arrival.{Arrival}
 use Rattle.txn_kv.specs.declared.arrival.Arrival.TheVariants as arrivals
 use Rattle.txn_tso.specs.Calling.{members}
-use Rattle.txn_commit.specs.Committing.{Ways}
+use Rattle.txn_commit.specs.Ways.{Ways}
 use Rattle.txn_core.proofs.Waiting.{runs_still}
 use Rattle.txn_client.specs.Calls.{CallGives, IsAt, called, called-lawful, stage_phase, stage_waits}
 use Rattle.txn_client.specs.declared.client_answer.ClientAnswer.{ClientAnswer}
@@ -49,8 +50,8 @@ no_answer make (Ends v) kept e = absurd (no e)
     no : Some (make v) ≡ None → ⊥
     no q = cc
 
-module _ {P Q K : Type 0} where
-  pub call_later : {trace : Option Trace} {at : ℕ} (s : ClientCall Pd P Q K) (o later : Posted) (nexts news : List ℕ) → IsLater o later → IsRisen nexts news → AskArises trace at o nexts s → AskArises trace at later news s
+module _ {P : Type 0} where
+  pub call_later : {trace : Option Trace} {at : ℕ} (s : ClientCall Pd P) (o later : Posted) (nexts news : List ℕ) → IsLater o later → IsRisen nexts news → AskArises trace at o nexts s → AskArises trace at later news s
   call_later {trace} {at} s o later nexts news l risen x =
       let a = x.arisen in
       record {
@@ -65,22 +66,22 @@ module _ {P Q K : Type 0} where
         };
       }
 
-  module _ {A B D : Type 0} (w : Ways P Q K A B D) (trace longer : Option Trace) (at : ℕ) where
+  module _ (w : Ways P) (trace longer : Option Trace) (at : ℕ) where
     -- an error that a call for a timestamp answers rests on what it has heard
-    call_fails : (line : ℕ) (call : ClientCall Pd P Q K) (h : List Event) (v : Result (ClientAnswer Pd P Q K) Error) → ShownIn longer at h → AreOwn line h → CountedIn longer line (refused_asks h) → WantedIn longer at call → CallGives call.wanted h v → AskRests w longer at line v
+    call_fails : (line : ℕ) (call : ClientCall Pd P) (h : List Event) (v : Result (ClientAnswer Pd P) Error) → ShownIn longer at h → AreOwn line h → CountedIn longer line (refused_asks h) → WantedIn longer at call → CallGives call.wanted h v → AskRests w longer at line v
     call_fails line call h (Ok (Time t)) s own counted wants gives = tt
     call_fails line call h (Ok (Begun b)) s own counted wants gives = wants h b gives
-    call_fails line call h (Err e) s own counted wants gives = fails_by w longer at line e h s own counted (λ shows is. inl gives)
+    call_fails line call h (Err e) s own counted wants gives = fails_by w ForTimestamp longer at line e h s own counted (λ shows is. gives)
 
-    call_ends : (line : ℕ) (call : ClientCall Pd P Q K) (h : List Event) (turn : Turn (Result (ClientAnswer Pd P Q K) Error)) → ShownIn longer at h → AreOwn line h → CountedIn longer line (refused_asks h) → WantedIn longer at call → IfEnds turn (λ v. CallGives call.wanted h v) → IfEnds turn (AskRests w longer at line)
+    call_ends : (line : ℕ) (call : ClientCall Pd P) (h : List Event) (turn : Turn (Result (ClientAnswer Pd P) Error)) → ShownIn longer at h → AreOwn line h → CountedIn longer line (refused_asks h) → WantedIn longer at call → IfEnds turn (λ v. CallGives call.wanted h v) → IfEnds turn (AskRests w longer at line)
     call_ends line call h Stopped s own counted wants gives = tt
     call_ends line call h Waits s own counted wants gives = tt
     call_ends line call h (Ends v) s own counted wants gives = call_fails line call h v s own counted wants gives
 
-    abbrev Arises : ℕ → Posted → List ℕ → ClientCall Pd P Q K → Turn (Result (ClientAnswer Pd P Q K) Error) → Type 0
+    abbrev Arises : ℕ → Posted → List ℕ → ClientCall Pd P → Turn (Result (ClientAnswer Pd P) Error) → Type 0
     Arises line o news new turn = AskArises longer at o news new × IfEnds turn (AskRests w longer at line)
 
-    call_moved : (told : CallTold) (old new : ClientCall Pd P Q K) (from to o : Posted) (turn : Turn (Result (ClientAnswer Pd P Q K) Error)) (nexts news : List ℕ) → HasMet trace longer from to → CalledIn trace from.line at
+    call_moved : (told : CallTold) (old new : ClientCall Pd P) (from to o : Posted) (turn : Turn (Result (ClientAnswer Pd P) Error)) (nexts news : List ℕ) → HasMet trace longer from to → CalledIn trace from.line at
         → Tells called told old new from to turn → turn ≢ Stopped
         → ((h : List Event) → IsKept nexts h → IsKept nexts (told.hear h))
         → next_at nexts from.line ≤ from.next → IsRisen nexts news → to.next ≤ next_at news from.line → IsReached from to o
@@ -106,11 +107,11 @@ module _ {P Q K : Type 0} where
           call_ends from.line old after_all turn shown own counted still (IfEnds-weaker turn (λ v gives. gives a.history (a.fits, knows)) m.done),
         )
 
-    call_unknown : {C : Type 0} (a : Arrival) (n : ℕ) (old new : ClientCall Pd P Q K) (from to o : Posted) (pd pd' : C) (turn : Turn (Result (ClientAnswer Pd P Q K) Error)) (nexts news : List ℕ) → LongerIn trace longer
+    call_unknown : {C : Type 0} (a : Arrival) (n : ℕ) (old new : ClientCall Pd P) (from to o : Posted) (pd pd' : C) (turn : Turn (Result (ClientAnswer Pd P) Error)) (nexts news : List ℕ) → LongerIn trace longer
         → awaited_as a ≡ ReplyTo n → Goes called.phase (stage_waits old.stage (awaited_as a)) old new from to pd pd' turn
         → IsRisen nexts news → IsReached from to o → (x : AskArises trace at from nexts old) → ((r : Request) → Has x.arisen.history (Sent (ticket_of from n) r) → ⊥) → Arises from.line o news new turn
     call_unknown a n old new from to o pd pd' turn nexts news l is goes risen reached x never = (
-      subst (λ (s : ClientCall Pd P Q K). AskArises longer at o news s) (sym (goes.state other))
+      subst (λ (s : ClientCall Pd P). AskArises longer at o news s) (sym (goes.state other))
           (longer_call (call_later old from o nexts news (record { line = reached.line; beat = reached.beat; next = subst (λ (y : Posted). y.next ≤ o.next) (goes.outbox other) reached.next; next_ask = subst (λ (y : Posted). y.next_ask ≤ o.next_ask) (goes.outbox other) reached.next_ask }) risen x)),
       unheard_ends turn _ (AskRests w longer at from.line) (goes.deaf other),
     )
@@ -122,18 +123,18 @@ module _ {P Q K : Type 0} where
         other y = let s = called-lawful.posted old from x.arisen.history (ReplyTo n) x.arisen.fits (subst (stage_waits old.stage) is y) in never s.0 s.1
 
   -- the answer that there is rests so
-  pub answer_rests : {A B D : Type 0} (w : Ways P Q K A B D) (longer : Option Trace) (at line : ℕ) (turn : Turn (Result (ClientAnswer Pd P Q K) Error)) → IfEnds turn (AskRests w longer at line) → IfSome (answer_in answers.Asked turn) (AnswerRests w longer at line)
+  pub answer_rests : (w : Ways P) (longer : Option Trace) (at line : ℕ) (turn : Turn (Result (ClientAnswer Pd P) Error)) → IfEnds turn (AskRests w longer at line) → IfSome (answer_in answers.Asked turn) (AnswerRests w longer at line)
   answer_rests w longer at line Stopped f = tt
   answer_rests w longer at line Waits f = tt
   answer_rests w longer at line (Ends v) f = f
 
-  pub call_rests : {A B D : Type 0} (w : Ways P Q K A B D) (longer : Option Trace) (at line : ℕ) (turn : Turn (Result (TxnAnswer Q) Error)) → IfEnds turn (IfFails (FailsAt w longer at line)) → IfSome (answer_in answers.Called turn) (AnswerRests w longer at line)
+  pub call_rests : (w : Ways P) (longer : Option Trace) (at line : ℕ) (turn : Turn (Result (TxnAnswer P) Error)) → IfEnds turn (IfFails (FailsAt w OfTransaction longer at line)) → IfSome (answer_in answers.Called turn) (AnswerRests w longer at line)
   call_rests w longer at line Stopped f = tt
   call_rests w longer at line Waits f = tt
   call_rests w longer at line (Ends v) f = f
 
-  module _ {A B D : Type 0} (w : Ways P Q K A B D) where
-    pub call_starts : {C : Type 0} (c : ℕ) (b : Bool) (old new : ClientCall Pd P Q K) (from to : Posted) (pd pd' : C) (turn : Turn (Result (ClientAnswer Pd P Q K) Error))
+  module _ (w : Ways P) where
+    pub call_starts : {C : Type 0} (c : ℕ) (b : Bool) (old new : ClientCall Pd P) (from to : Posted) (pd pd' : C) (turn : Turn (Result (ClientAnswer Pd P) Error))
         → Tells called started old new from to turn → Goes called.phase (stage_phase old.stage ≡ Fresh) old new from to pd pd' turn
         → IfKept turn (RowGoes w tells.Start (row.Asking c b old) (row.Asking c b new) from to (answer_in answers.Asked turn))
     call_starts c b old new from to pd pd' turn t goes = if_kept turn (λ kept. record {
@@ -144,14 +145,14 @@ module _ {P Q K : Type 0} where
       runs = λ fresh none. goes.next fresh ∙ ap phase_after (no_answer answers.Asked turn kept none);
     })
 
-    pub call_hears : {C : Type 0} (c : ℕ) (b : Bool) (a : Arrival) (old new : ClientCall Pd P Q K) (from to : Posted) (pd pd' : C) (turn : Turn (Result (ClientAnswer Pd P Q K) Error))
+    pub call_hears : {C : Type 0} (c : ℕ) (b : Bool) (a : Arrival) (old new : ClientCall Pd P) (from to : Posted) (pd pd' : C) (turn : Turn (Result (ClientAnswer Pd P) Error))
         → ((r : Request) → Tells called (told_by a from r) old new from to turn) → Goes called.phase (stage_waits old.stage (awaited_as a)) old new from to pd pd' turn
         → IfKept turn (RowGoes w (tells.Heard a) (row.Asking c b old) (row.Asking c b new) from to (answer_in answers.Asked turn))
     call_hears c b a old new from to pd pd' turn t goes = if_kept turn (λ kept. record {
       arises = λ trace longer at met called_so came nexts news o low risen up reached x.
           let r = by kept a refl (owing from.line (tells.Heard a) trace) longer at (owing_met (tells.Heard a) trace longer from to met) (owing_called from.line (tells.Heard a) from.line at trace called_so) (owing_came from.line from a trace came) (counts_heard a from trace longer met.longer) nexts news o low risen up reached x in (r.0, answer_rests w longer at from.line turn r.1);
       expects = let x = (t members).expects in record { sends = x.sends; pushed = x.pushed; only = λ y z. elim (x.only y z) [ inl u ↦ inl (u.0, λ g. u.1 (told_heard a from members y g)) | inr v ↦ inr v ] };
-      runs = λ run none. runs_still (λ (s : ClientCall Pd P Q K). stage_phase s.stage) run goes (no_answer answers.Asked turn kept none);
+      runs = λ run none. runs_still (λ (s : ClientCall Pd P). stage_phase s.stage) run goes (no_answer answers.Asked turn kept none);
     })
       where
         Goal : Type 0

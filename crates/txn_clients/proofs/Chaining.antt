@@ -9,7 +9,7 @@ use Rattle.txn_history.specs.Among.{IsAmong}
 use Rattle.txn_history.specs.Event.{Event, Has}
 use Rattle.txn_history.specs.Event.Event.{Lost}
 use Rattle.txn_history.specs.Posted.{Within, Within-refl, Within-trans}
-use Rattle.txn_commit.specs.Committing.{Ways}
+use Rattle.txn_commit.specs.Ways.{Ways}
 use Rattle.txn_report.specs.declared.outcome.Outcome.{Outcome}
 use Rattle.txn_side.specs.Doubt.{CallOf, itself}
 use Rattle.txn_side.specs.Arising.{answered_at, with_posting, with_postings}
@@ -82,26 +82,26 @@ heard_once es more n (Calling c x b) mid new o os e h k =
 heard_once es more n (Past c) mid new o os e h k = ap (answered_at n) h.1
 heard_once es more n (Working c) mid new o os e h k = ap (answered_at n) h.1
 
-module _ {P Q K : Type 0} where
+module _ {P : Type 0} where
   -- What is right of rows
 
-  pub kept_rows : (olds news : List (Row P Q K)) → news ≡ olds → KeepRight olds news
+  pub kept_rows : (olds news : List (Row P)) → news ≡ olds → KeepRight olds news
   kept_rows olds news e = subst (KeepRight olds) (sym e) (right_same olds)
 
-  pub kept_then : (olds mids news : List (Row P Q K)) → KeepRight olds mids → KeepRight mids news → KeepRight olds news
+  pub kept_then : (olds mids news : List (Row P)) → KeepRight olds mids → KeepRight mids news → KeepRight olds news
   kept_then olds mids news f g x o h longer within right = g x o longer longer (Within-refl longer) (f x o h longer within right)
 
   -- Where what answers a line stands
 
-  pub heard_same : (s m : Clients P Q K) → stands_of (rows_of m) ≡ stands_of (rows_of s) → (n : ℕ) → heard_by m n ≡ heard_by s n
+  pub heard_same : (s m : Clients P) → stands_of (rows_of m) ≡ stands_of (rows_of s) → (n : ℕ) → heard_by m n ≡ heard_by s n
   heard_same s m e n = ap (λ ss. answered_at n (stand_at ss n)) e
 
   -- What ended right
 
-  pub ends_none : (at : ℕ → CallOf) (t : Clients P Q K) (h : List Event) (es fs : List Ending) → fs ≡ es → EndsRight at t h es fs
+  pub ends_none : (at : ℕ → CallOf) (t : Clients P) (h : List Event) (es fs : List Ending) → fs ≡ es → EndsRight at t h es fs
   ends_none at t h es fs e = record { more = []; ended = e ∙ sym (append-nil es); each = All-nil _; doubts = All-nil _ }
 
-  pub ends_at : (at later_at : ℕ → CallOf) (t : Clients P Q K) (h : List Event) (es fs : List Ending) → (f : EndsRight later_at t h es fs) → ((e : Ending) → IsAmong f.more e → later_at e.line ≡ at e.line) → EndsRight at t h es fs
+  pub ends_at : (at later_at : ℕ → CallOf) (t : Clients P) (h : List Event) (es fs : List Ending) → (f : EndsRight later_at t h es fs) → ((e : Ending) → IsAmong f.more e → later_at e.line ≡ at e.line) → EndsRight at t h es fs
   ends_at at later_at t h es fs f same = record {
     more = f.more;
     ended = f.ended;
@@ -110,7 +110,7 @@ module _ {P Q K : Type 0} where
   }
 
   -- it stays right, where no loss is new
-  pub ends_on : (at : ℕ → CallOf) (s t : Clients P Q K) (h longer : List Event) (es fs : List Ending) → Within h longer → ((u : Ticket) (r : Request) → Has longer (Lost u r) → Has h (Lost u r)) → Front (seen h) (seen longer) → KeepRight (rows_of s) (rows_of t) → EndsRight at s h es fs → EndsRight at t longer es fs
+  pub ends_on : (at : ℕ → CallOf) (s t : Clients P) (h longer : List Event) (es fs : List Ending) → Within h longer → ((u : Ticket) (r : Request) → Has longer (Lost u r) → Has h (Lost u r)) → Front (seen h) (seen longer) → KeepRight (rows_of s) (rows_of t) → EndsRight at s h es fs → EndsRight at t longer es fs
   ends_on at s t h longer es fs within unlost front kept f = record {
     more = f.more;
     ended = f.ended;
@@ -118,7 +118,7 @@ module _ {P Q K : Type 0} where
     doubts = All-weaker (λ (e : Ending). EndSpeaks (rows_of s) h (at e.line) e.line e.outcome) (λ (e : Ending). EndSpeaks (rows_of t) longer (at e.line) e.line e.outcome) (λ e speaks. end_speaks_on h longer within unlost front (rows_of s) (rows_of t) (at e.line) e.line e.outcome kept speaks) f.more f.doubts;
   }
 
-  pub ends_then : (at : ℕ → CallOf) (t : Clients P Q K) (h : List Event) (es fs gs : List Ending) → EndsRight at t h es fs → EndsRight at t h fs gs → EndsRight at t h es gs
+  pub ends_then : (at : ℕ → CallOf) (t : Clients P) (h : List Event) (es fs gs : List Ending) → EndsRight at t h es fs → EndsRight at t h fs gs → EndsRight at t h es gs
   ends_then at t h es fs gs f g = record {
     more = f.more ++ g.more;
     ended = g.ended ∙ ap (λ xs. xs ++ g.more) f.ended ∙ append_assoc es f.more g.more;
@@ -126,9 +126,9 @@ module _ {P Q K : Type 0} where
     doubts = All-append (λ (e : Ending). EndSpeaks (rows_of t) h (at e.line) e.line e.outcome) f.more g.more f.doubts g.doubts;
   }
 
-  module _ {A B D : Type 0} (w : Ways P Q K A B D) where
+  module _ (w : Ways P) where
     -- nothing is done
-    pub leads_nothing : (askers : Ticket → List ℕ) (rest : List Answered) (ps : List Posting) (es : List Ending) (at : ℕ → CallOf) (s : Clients P Q K) (h : List Event) → Arisen w s askers rest h → Leads w askers rest ps ps es es at s s (seen h) h Anyhow
+    pub leads_nothing : (askers : Ticket → List ℕ) (rest : List Answered) (ps : List Posting) (es : List Ending) (at : ℕ → CallOf) (s : Clients P) (h : List Event) → Arisen w s askers rest h → Leads w askers rest ps ps es es at s s (seen h) h Anyhow
     leads_nothing askers rest ps es at s h arisen = record {
       later = h;
       more = [];
@@ -142,7 +142,7 @@ module _ {P Q K : Type 0} where
     }
 
     -- one part after another, where the lines that end in the second are answered where they stood before the first
-    pub leads_then : (askers more_askers : Ticket → List ℕ) (rest left : List Answered) (ps qs rs : List Posting) (es fs gs : List Ending) (at later_at : ℕ → CallOf) (s m t : Clients P Q K) (shown h : List Event) (First Then : List Event → Type 0)
+    pub leads_then : (askers more_askers : Ticket → List ℕ) (rest left : List Answered) (ps qs rs : List Posting) (es fs gs : List Ending) (at later_at : ℕ → CallOf) (s m t : Clients P) (shown h : List Event) (First Then : List Event → Type 0)
         → (f : Leads w askers rest ps qs es fs at s m shown h First) (g : Leads w more_askers left qs rs fs gs later_at m t (seen f.later) f.later Then)
         → ((e : Ending) → IsAmong g.ends.more e → later_at e.line ≡ at e.line)
         → Leads w more_askers left ps rs es gs at s t shown h Then
@@ -159,7 +159,7 @@ module _ {P Q K : Type 0} where
     }
 
     -- and where none ends in the second
-    pub leads_unended : (askers more_askers : Ticket → List ℕ) (rest left : List Answered) (ps qs rs : List Posting) (es fs gs : List Ending) (at later_at : ℕ → CallOf) (s m t : Clients P Q K) (shown h : List Event) (First Then : List Event → Type 0)
+    pub leads_unended : (askers more_askers : Ticket → List ℕ) (rest left : List Answered) (ps qs rs : List Posting) (es fs gs : List Ending) (at later_at : ℕ → CallOf) (s m t : Clients P) (shown h : List Event) (First Then : List Event → Type 0)
         → gs ≡ fs → (f : Leads w askers rest ps qs es fs at s m shown h First) (g : Leads w more_askers left qs rs fs gs later_at m t (seen f.later) f.later Then)
         → Leads w more_askers left ps rs es gs at s t shown h Then
     leads_unended askers more_askers rest left ps qs rs es fs gs at later_at s m t shown h First Then e f g = record {
@@ -175,7 +175,7 @@ module _ {P Q K : Type 0} where
     }
 
     -- a part of which more was known before, and less is asked after it
-    pub leads_from : (askers : Ticket → List ℕ) (rest : List Answered) (ps qs : List Posting) (es fs : List Ending) (at : ℕ → CallOf) (s m t : Clients P Q K) (shown h k : List Event) (Then Then' : List Event → Type 0)
+    pub leads_from : (askers : Ticket → List ℕ) (rest : List Answered) (ps qs : List Posting) (es fs : List Ending) (at : ℕ → CallOf) (s m t : Clients P) (shown h k : List Event) (Then Then' : List Event → Type 0)
         → Within h k → KeepRight (rows_of s) (rows_of m) → ((later : List Event) → Then later → Then' later) → Leads w askers rest ps qs es fs at m t shown k Then → Leads w askers rest ps qs es fs at s t shown h Then'
     leads_from askers rest ps qs es fs at s m t shown h k Then Then' within kept weaker f = record {
       later = f.later;
@@ -190,7 +190,7 @@ module _ {P Q K : Type 0} where
     }
 
     -- what answers a line stands there under another name
-    pub leads_at : (askers : Ticket → List ℕ) (rest : List Answered) (ps qs : List Posting) (es fs : List Ending) (at later_at : ℕ → CallOf) (s t : Clients P Q K) (shown h : List Event) (Then : List Event → Type 0)
+    pub leads_at : (askers : Ticket → List ℕ) (rest : List Answered) (ps qs : List Posting) (es fs : List Ending) (at later_at : ℕ → CallOf) (s t : Clients P) (shown h : List Event) (Then : List Event → Type 0)
         → (f : Leads w askers rest ps qs es fs later_at s t shown h Then) → ((e : Ending) → IsAmong f.ends.more e → later_at e.line ≡ at e.line) → Leads w askers rest ps qs es fs at s t shown h Then
     leads_at askers rest ps qs es fs at later_at s t shown h Then f same = record {
       later = f.later;

@@ -32,7 +32,7 @@ pub called_since : (trace : Option Trace) (ps : List Posting) (line at : ℕ) �
 called_since None ps line at c = tt
 called_since (Some t) ps line at c = c
 
-pub wanted_since : {P Q K : Type 0} (trace : Option Trace) (ps : List Posting) (at : ℕ) (call : ClientCall Pd P Q K) → WantedIn trace at call → WantedIn (posting_in ps trace) at call
+pub wanted_since : {P : Type 0} (trace : Option Trace) (ps : List Posting) (at : ℕ) (call : ClientCall Pd P) → WantedIn trace at call → WantedIn (posting_in ps trace) at call
 wanted_since None ps at call wants = wants
 wanted_since (Some t) ps at call wants = wants
 
@@ -66,7 +66,7 @@ group_ticket (Some x) lines g v f h = ap (λ (y : Group). y.ticket) (sym one) �
     two : x ≡ v
     two = cc
 
-pub group_came : {P Q K : Type 0} (before t : Trace) (s : Clients P Q K) (client : ℕ) (u : Ticket) (event : Ticket → Request → Event) → (book_at s client).ticket ≡ Some u → HasCome before t (sight_of s) u (event u) → GroupCameIn (Some t) (get_or (groups_of s) client None) event
+pub group_came : {P : Type 0} (before t : Trace) (s : Clients P) (client : ℕ) (u : Ticket) (event : Ticket → Request → Event) → (book_at s client).ticket ≡ Some u → HasCome before t (sight_of s) u (event u) → GroupCameIn (Some t) (get_or (groups_of s) client None) event
 group_came before t s client u event e came group out =
     let same = group_ticket (book_at s client).ticket _ group u e (sym (group_there s.clients.items client) ∙ out) in
     let fact = came.group group (client, out) same in
@@ -83,7 +83,7 @@ times_both (line ∷ lines) more n = by (nat_eq line n) (times_both lines more n
     by false e = e
 
 -- by so many more were refused as are to be told that now
-pub group_longer : {P Q K : Type 0} (before t : Trace) (s : Clients P Q K) (client : ℕ) (u : Ticket) (event : Ticket → Request → Event) → ((v : Ticket) (q r : TsoRequest) (lines : List ℕ) → refused_as (event v (Tso q)) lines ≡ refused_as (event v (Tso r)) lines)
+pub group_longer : {P : Type 0} (before t : Trace) (s : Clients P) (client : ℕ) (u : Ticket) (event : Ticket → Request → Event) → ((v : Ticket) (q r : TsoRequest) (lines : List ℕ) → refused_as (event v (Tso q)) lines ≡ refused_as (event v (Tso r)) lines)
     → (book_at s client).ticket ≡ Some u → IsLonger before t → HasCome before t (sight_of s) u (event u) → IsLonger before (record t { owed = refused_out event (get_or (groups_of s) client None) ++ t.owed })
 group_longer before t s client u event plain ticket l came = record {
   events = l.events;
@@ -125,8 +125,8 @@ came_as : (t : Trace) (u : Ticket) (event : Ticket → Request → Event) (r : R
 came_as t u event r beat none own sent =
     subst (λ v. Has t.events (event v r)) (sym (ticket_plain u beat)) (own (subst (λ v. IsSentIn t v r) (ticket_plain u beat) (subst (λ ps. IsSentIn (with_posted ps t) (ticket_of (outbox_of u.line) u.number) r) (sym none) sent)))
 
-pub reply_came : {P Q K : Type 0} (before t : Trace) (s : Clients P Q K) (u : Ticket) (o : Reply) → u.beat ≡ false → t.posted ≡ [] → HasCome before t (sight_of s) u (λ r. Took u r o) → CameIn (posting_in [] (Some t)) (outbox_of u.line) (arrivals.Reply u.number o)
+pub reply_came : {P : Type 0} (before t : Trace) (s : Clients P) (u : Ticket) (o : Reply) → u.beat ≡ false → t.posted ≡ [] → HasCome before t (sight_of s) u (λ r. Took u r o) → CameIn (posting_in [] (Some t)) (outbox_of u.line) (arrivals.Reply u.number o)
 reply_came before t s u o beat none came = λ r sent. came_as t u (λ v q. Took v q o) r beat none (came.own r) sent
 
-pub loss_came : {P Q K : Type 0} (before t : Trace) (s : Clients P Q K) (u : Ticket) → u.beat ≡ false → t.posted ≡ [] → HasCome before t (sight_of s) u (λ r. Lost u r) → CameIn (posting_in [] (Some t)) (outbox_of u.line) (arrivals.Lost u.number)
+pub loss_came : {P : Type 0} (before t : Trace) (s : Clients P) (u : Ticket) → u.beat ≡ false → t.posted ≡ [] → HasCome before t (sight_of s) u (λ r. Lost u r) → CameIn (posting_in [] (Some t)) (outbox_of u.line) (arrivals.Lost u.number)
 loss_came before t s u beat none came = λ r sent. came_as t u (λ v q. Lost v q) r beat none (came.own r) sent

@@ -136,9 +136,9 @@ named_alone s c v k plan (t, r, o, inr none, without, start, at, primary) = absu
 
 -- What is right of a row
 
-module _ {P Q K : Type 0} where
+module _ {P : Type 0} where
   -- of what a settled transaction has sent each Commit of its primary was refused
-  settled_undoubted : (plans : ℕ → Plan) (h : List Event) (c n : ℕ) (t : Standing P Q K) → IsRun plans h → IsSettled t h → IsUndoubted {P = P} {Q = Q} {K = K} h (row.Begun c t n)
+  settled_undoubted : (plans : ℕ → Plan) (h : List Event) (c n : ℕ) (t : Standing P) → IsRun plans h → IsSettled t h → IsUndoubted {P = P} h (row.Begun c t n)
   settled_undoubted plans h c n t run s = (
     s.parts,
     s.closed,
@@ -149,59 +149,59 @@ module _ {P Q K : Type 0} where
   )
 
   -- what it names a run shows
-  named_seen : (t : Standing P Q K) (h : List Event) (e : Error) → NamesLost t h e → NamesLost t (seen h) e
+  named_seen : (t : Standing P) (h : List Event) (e : Error) → NamesLost t h e → NamesLost t (seen h) e
   named_seen t h e n = record { parts = n.parts; closed = n.closed; whole = n.whole; ticket = n.ticket; error = n.error; first = first_seen (version_of t.start) n.parts.primary h n.ticket n.first }
 
-  pub settled_speaks : (plans : ℕ → Plan) (h : List Event) (c n : ℕ) (t : Standing P Q K) (turns : Type 0) (e : Error) → IsRun plans h → IsRefusal e ⊎ (((is_undetermined e ≡ true) × HasLostOne t h × (turns → NamesLost t h e)) ⊎ ((is_undetermined e ≡ false) × IsSettled t h))
-      → SpeaksRight {P = P} {Q = Q} {K = K} h turns e (row.Begun c t n)
+  pub settled_speaks : (plans : ℕ → Plan) (h : List Event) (c n : ℕ) (t : Standing P) (turns : Type 0) (e : Error) → IsRun plans h → IsRefusal e ⊎ (((is_undetermined e ≡ true) × HasLostOne t h × (turns → NamesLost t h e)) ⊎ ((is_undetermined e ≡ false) × IsSettled t h))
+      → SpeaksRight {P = P} h turns e (row.Begun c t n)
   settled_speaks plans h c n t turns e run (inl refused) = inl refused
   settled_speaks plans h c n t turns e run (inr (inl (says, lost, named))) = inr (inl (says, lost, λ back. named_seen t h e (named back)))
   settled_speaks plans h c n t turns e run (inr (inr settled)) = inr (inr (settled.0, settled_undoubted plans h c n t run settled.1))
 
   -- it waits for another line
-  undoubted_waits : (n : ℕ) (h : List Event) (r : Row P Q K) → IsUndoubted h r → IsUndoubted h (with_waits n r)
+  undoubted_waits : (n : ℕ) (h : List Event) (r : Row P) → IsUndoubted h r → IsUndoubted h (with_waits n r)
   undoubted_waits n h (row.Begun c t m) x = x
   undoubted_waits n h r x = x
 
-  doubted_waits : (n : ℕ) (h : List Event) (r : Row P Q K) → IsDoubted h r → IsDoubted h (with_waits n r)
+  doubted_waits : (n : ℕ) (h : List Event) (r : Row P) → IsDoubted h r → IsDoubted h (with_waits n r)
   doubted_waits n h (row.Begun c t m) x = x
   doubted_waits n h r x = x
 
-  named_waits : (n : ℕ) (h : List Event) (e : Error) (r : Row P Q K) → IsNamedBy h e r → IsNamedBy h e (with_waits n r)
+  named_waits : (n : ℕ) (h : List Event) (e : Error) (r : Row P) → IsNamedBy h e r → IsNamedBy h e (with_waits n r)
   named_waits n h e (row.Begun c t m) x = x
   named_waits n h e r x = x
 
-  pub speaks_waits : (n : ℕ) (h : List Event) (turns : Type 0) (e : Error) (r : Row P Q K) → SpeaksRight h turns e r → SpeaksRight h turns e (with_waits n r)
+  pub speaks_waits : (n : ℕ) (h : List Event) (turns : Type 0) (e : Error) (r : Row P) → SpeaksRight h turns e r → SpeaksRight h turns e (with_waits n r)
   speaks_waits n h turns e r (inl refused) = inl refused
   speaks_waits n h turns e r (inr (inl (says, lost, named))) = inr (inl (says, doubted_waits n h r lost, λ back. named_waits n h e r (named back)))
   speaks_waits n h turns e r (inr (inr clear)) = inr (inr (clear.0, undoubted_waits n h r clear.1))
 
-  pub speaks_line : (rows : List (Row P Q K)) (h : List Event) (line : ℕ) (turns : Type 0) (e : Error) → 1 ≤ line → SpeaksRight h turns e (row_at rows (line - 1)) → SpeaksRightAt rows h line turns e
+  pub speaks_line : (rows : List (Row P)) (h : List Event) (line : ℕ) (turns : Type 0) (e : Error) → 1 ≤ line → SpeaksRight h turns e (row_at rows (line - 1)) → SpeaksRightAt rows h line turns e
   speaks_line rows h line turns e one x = subst (λ n. SpeaksRightAt rows h n turns e) (hears_own line one) x
 
   -- a line that stands for itself calls no transaction
-  pub speaks_own : (rows : List (Row P Q K)) (h : List Event) (line : ℕ) (o : Outcome) → EndSpeaks rows h (itself line) line o
+  pub speaks_own : (rows : List (Row P)) (h : List Event) (line : ℕ) (o : Outcome) → EndSpeaks rows h (itself line) line o
   speaks_own rows h line (outcomes.Err e) = λ apart. absurd (apart refl)
   speaks_own rows h line o = tt
 
   -- It stays so where no loss is new: a row that keeps what was right of it keeps its start and its primary.
 
   module _ (h longer : List Event) (within : Within h longer) (unlost : (t : Ticket) (r : Request) → Has longer (Lost t r) → Has h (Lost t r)) (front : Front (seen h) (seen longer)) where
-    undoubted_as : (s : ℕ) (k : Key) (new : Row P Q K) → IsCommittedSo (committed_alone s k) 0 new
+    undoubted_as : (s : ℕ) (k : Key) (new : Row P) → IsCommittedSo (committed_alone s k) 0 new
         → ((u : Ticket) (r : CommitRequest) → Has longer (Lost u (Commit r)) → r.start_version ≡ s → has_key r.keys k ≡ true → (o : Reply) × Has longer (Took u (Commit r) o)) → IsUndoubted longer new
     undoubted_as s k (row.Begun c t m) (parts, closed, whole, committed) took =
         let same = named_alone s (version_of t.start) 0 k (plan_of parts) committed in
         (parts, closed, whole, λ u r lost commits. took u r lost (commits.start ∙ same.0) (subst (λ p. has_key r.keys p ≡ true) same.1 commits.primary))
     undoubted_as s k new x took = absurd x
 
-    undoubted_on : (old new : Row P Q K) → ((g : List Event) → IsCommittedSo g 0 old → IsCommittedSo g 0 new) → IsUndoubted h old → IsUndoubted longer new
+    undoubted_on : (old new : Row P) → ((g : List Event) → IsCommittedSo g 0 old → IsCommittedSo g 0 new) → IsUndoubted h old → IsUndoubted longer new
     undoubted_on (row.Begun c t m) new kept (parts, closed, whole, took) =
         undoubted_as (version_of t.start) parts.primary new
         (kept (committed_alone (version_of t.start) parts.primary) (parts, closed, whole, (_, alone (version_of t.start) parts.primary, fine, inl refl, (refl, refl), refl, refl, has_only parts.primary)))
         (λ u r lost start primary. let was = took u r (unlost u (Commit r) lost) (record { start = start; primary = primary }) in (was.0, within _ was.1))
     undoubted_on old new kept x = absurd x
 
-    doubted_as : (s : ℕ) (k : Key) (new : Row P Q K) → IsCommittedSo (committed_alone s k) 0 new → (u : Ticket) (r : CommitRequest) → Has longer (Lost u (Commit r)) → r.start_version ≡ s → has_key r.keys k ≡ true → IsDoubted longer new
+    doubted_as : (s : ℕ) (k : Key) (new : Row P) → IsCommittedSo (committed_alone s k) 0 new → (u : Ticket) (r : CommitRequest) → Has longer (Lost u (Commit r)) → r.start_version ≡ s → has_key r.keys k ≡ true → IsDoubted longer new
     doubted_as s k (row.Begun c t m) (parts, closed, whole, committed) u r lost start primary =
         let same = named_alone s (version_of t.start) 0 k (plan_of parts) committed in
         record {
@@ -213,14 +213,14 @@ module _ {P Q K : Type 0} where
         }
     doubted_as s k new x u r lost start primary = absurd x
 
-    doubted_on : (old new : Row P Q K) → ((g : List Event) → IsCommittedSo g 0 old → IsCommittedSo g 0 new) → IsDoubted h old → IsDoubted longer new
+    doubted_on : (old new : Row P) → ((g : List Event) → IsCommittedSo g 0 old → IsCommittedSo g 0 new) → IsDoubted h old → IsDoubted longer new
     doubted_on (row.Begun c t m) new kept l =
         doubted_as (version_of t.start) l.parts.primary new
         (kept (committed_alone (version_of t.start) l.parts.primary) (l.parts, l.closed, l.whole, (_, alone (version_of t.start) l.parts.primary, fine, inl refl, (refl, refl), refl, refl, has_only l.parts.primary)))
         l.ticket l.lost.0 (within _ l.lost.1) l.lost.2.start l.lost.2.primary
     doubted_on old new kept l = absurd l
 
-    named_as : (s : ℕ) (k : Key) (e : Error) (new : Row P Q K) → IsCommittedSo (committed_alone s k) 0 new → (u : Ticket) → view_of e ≡ not_known (view_of (GrpcAPI u)) → IsFirstLostOfPrimary s k (seen longer) u → IsNamedBy longer e new
+    named_as : (s : ℕ) (k : Key) (e : Error) (new : Row P) → IsCommittedSo (committed_alone s k) 0 new → (u : Ticket) → view_of e ≡ not_known (view_of (GrpcAPI u)) → IsFirstLostOfPrimary s k (seen longer) u → IsNamedBy longer e new
     named_as s k e (row.Begun c t m) (parts, closed, whole, committed) u error first =
         let same = named_alone s (version_of t.start) 0 k (plan_of parts) committed in
         record {
@@ -233,14 +233,14 @@ module _ {P Q K : Type 0} where
         }
     named_as s k e new x u error first = absurd x
 
-    named_on : (e : Error) (old new : Row P Q K) → ((g : List Event) → IsCommittedSo g 0 old → IsCommittedSo g 0 new) → IsNamedBy h e old → IsNamedBy longer e new
+    named_on : (e : Error) (old new : Row P) → ((g : List Event) → IsCommittedSo g 0 old → IsCommittedSo g 0 new) → IsNamedBy h e old → IsNamedBy longer e new
     named_on e (row.Begun c t m) new kept n =
         named_as (version_of t.start) n.parts.primary e new
         (kept (committed_alone (version_of t.start) n.parts.primary) (n.parts, n.closed, n.whole, (_, alone (version_of t.start) n.parts.primary, fine, inl refl, (refl, refl), refl, refl, has_only n.parts.primary)))
         n.ticket n.error (first_front (version_of t.start) n.parts.primary (seen h) (seen longer) n.ticket front n.first)
     named_on e old new kept n = absurd n
 
-    speaks_on : (olds news : List (Row P Q K)) (x : ℕ) (turns : Type 0) (e : Error) → KeepRight olds news → SpeaksRightAt olds h x turns e → SpeaksRightAt news longer x turns e
+    speaks_on : (olds news : List (Row P)) (x : ℕ) (turns : Type 0) (e : Error) → KeepRight olds news → SpeaksRightAt olds h x turns e → SpeaksRightAt news longer x turns e
     speaks_on olds news zero turns e kept s = s
     speaks_on olds news (suc i) turns e kept (inl refused) = inl refused
     speaks_on olds news (suc i) turns e kept (inr (inl (says, lost, named))) =
@@ -249,7 +249,7 @@ module _ {P Q K : Type 0} where
     speaks_on olds news (suc i) turns e kept (inr (inr clear)) =
         inr (inr (clear.0, undoubted_on (row_at olds i) (row_at news i) (λ g x. kept (suc i) (outcomes.Ok (payloads.Commit (Some 0))) g g (Within-refl g) x) clear.1))
 
-    pub end_speaks_on : (olds news : List (Row P Q K)) (call : CallOf) (n : ℕ) (o : Outcome) → KeepRight olds news → EndSpeaks olds h call n o → EndSpeaks news longer call n o
+    pub end_speaks_on : (olds news : List (Row P)) (call : CallOf) (n : ℕ) (o : Outcome) → KeepRight olds news → EndSpeaks olds h call n o → EndSpeaks news longer call n o
     end_speaks_on olds news call n (outcomes.Err e) kept s = λ apart. speaks_on olds news call.at (call.commits ≡ false) e kept (s apart)
     end_speaks_on olds news call n o kept s = tt
 
@@ -257,14 +257,14 @@ module _ {P Q K : Type 0} where
 
   module _ (plans : ℕ → Plan) (h : List Event) (run : IsRun plans h) where
     -- whatever a Prewrite of it names is its primary
-    names_primary : (rows : List (Row P Q K)) (i c m : ℕ) (t : Standing P Q K) (parts : CommitParts) (u : Ticket) (r : PrewriteRequest) → HavePlans plans rows → row_at rows i ≡ row.Begun c t m → allows_data t.status ≡ false → parts_of t.contents ≡ Some parts
+    names_primary : (rows : List (Row P)) (i c m : ℕ) (t : Standing P) (parts : CommitParts) (u : Ticket) (r : PrewriteRequest) → HavePlans plans rows → row_at rows i ≡ row.Begun c t m → allows_data t.status ≡ false → parts_of t.contents ≡ Some parts
         → Has (seen h) (Sent u (Prewrite r)) → r.start_version ≡ version_of t.start → r.primary_lock ≡ parts.primary
     names_primary rows i c m t parts u r have e closed whole sent start =
         let was = seen_had h (Sent u (Prewrite r)) sent in
-        let planned = subst (λ (r : Row P Q K). HasPlan plans r) e (have i) closed parts whole in
+        let planned = subst (λ (r : Row P). HasPlan plans r) e (have i) closed parts whole in
         prewrite_names plans h u r run was.0 ∙ ap (λ s. (plans s).primary) start ∙ ap (λ (p : Plan). p.primary) planned
 
-    not_doubted : (rows : List (Row P Q K)) (i v : ℕ) (r : Row P Q K) → HavePlans plans rows → row_at rows i ≡ r → BeganAt v r → IsUndoubted h r → IsInDoubt v (seen h) → ⊥
+    not_doubted : (rows : List (Row P)) (i v : ℕ) (r : Row P) → HavePlans plans rows → row_at rows i ≡ r → BeganAt v r → IsUndoubted h r → IsInDoubt v (seen h) → ⊥
     not_doubted rows i v (row.Begun c t m) have e began (parts, closed, whole, took) d =
         let l = d.left in
         let p = d.written in
@@ -275,7 +275,7 @@ module _ {P Q K : Type 0} where
     not_doubted rows i v r have e began clear d = clear
 
     -- and one of which a Commit was lost has lost one
-    lost_commit : (rows : List (Row P Q K)) (i v : ℕ) (r : Row P Q K) → HavePlans plans rows → row_at rows i ≡ r → BeganAt v r → IsDoubted h r → HasLostCommit v (seen h)
+    lost_commit : (rows : List (Row P)) (i v : ℕ) (r : Row P) → HavePlans plans rows → row_at rows i ≡ r → BeganAt v r → IsDoubted h r → HasLostCommit v (seen h)
     lost_commit rows i v (row.Begun c t m) have e began l = record {
       ticket = l.ticket;
       commit = l.lost.0;
@@ -286,7 +286,7 @@ module _ {P Q K : Type 0} where
     lost_commit rows i v r have e began l = absurd l
 
     -- and names the first
-    first_commit : (rows : List (Row P Q K)) (i v : ℕ) (e : Error) (r : Row P Q K) → HavePlans plans rows → row_at rows i ≡ r → BeganAt v r → IsNamedBy h e r → NamesFirst v (seen h) e
+    first_commit : (rows : List (Row P)) (i v : ℕ) (e : Error) (r : Row P) → HavePlans plans rows → row_at rows i ≡ r → BeganAt v r → IsNamedBy h e r → NamesFirst v (seen h) e
     first_commit rows i v e (row.Begun c t m) have at began n = record {
       ticket = n.ticket;
       error = n.error;
@@ -314,7 +314,7 @@ module _ {P Q K : Type 0} where
             l.first lost.ticket lost.commit other (suffix_sent plans h _ l.older lost.ticket (Commit lost.commit) run splits lost.lost) lost.lost (lost.same ∙ sym began) (subst (λ k. has_key lost.commit.keys k ≡ true) primary (lost.primary p.0 p.1 p.2 p.3))
     first_commit rows i v e r have at began n = absurd n
 
-    says_doubt : (rows : List (Row P Q K)) (x v : ℕ) (b : Bool) (e : Error) → HavePlans plans rows → HoldsAt rows (seen h) x (outcomes.Ok (payloads.Number v)) → SpeaksRightAt rows h x (b ≡ false) e → SaysDoubt (seen h) v b e
+    says_doubt : (rows : List (Row P)) (x v : ℕ) (b : Bool) (e : Error) → HavePlans plans rows → HoldsAt rows (seen h) x (outcomes.Ok (payloads.Number v)) → SpeaksRightAt rows h x (b ≡ false) e → SaysDoubt (seen h) v b e
     says_doubt rows zero v b e have began s = absurd s
     says_doubt rows (suc i) v b e have began (inl refused) = inl refused
     says_doubt rows (suc i) v b e have began (inr (inl (says, lost, named))) = inr (record {
@@ -329,6 +329,6 @@ module _ {P Q K : Type 0} where
     })
 
     -- so what a call answered tells of it what it has to
-    pub speaks_of : (rows : List (Row P Q K)) (held : ℕ → Outcome → Type 0) (call : CallOf) (n : ℕ) (o : Outcome) → HavePlans plans rows → ((y : ℕ) (p : Outcome) → held y p → HoldsAt rows (seen h) y p) → EndSpeaks rows h call n o → SpeaksOf held (seen h) call n o
+    pub speaks_of : (rows : List (Row P)) (held : ℕ → Outcome → Type 0) (call : CallOf) (n : ℕ) (o : Outcome) → HavePlans plans rows → ((y : ℕ) (p : Outcome) → held y p → HoldsAt rows (seen h) y p) → EndSpeaks rows h call n o → SpeaksOf held (seen h) call n o
     speaks_of rows held call n (outcomes.Err e) have kept s = λ apart v began. says_doubt rows call.at v call.commits e have (kept call.at (outcomes.Ok (payloads.Number v)) began) (s apart)
     speaks_of rows held call n o have kept s = λ apart v began. tt

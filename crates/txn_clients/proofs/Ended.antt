@@ -10,7 +10,7 @@ use Rattle.txn_history.specs.Event.{Event}
 use Rattle.txn_history.specs.Plan.{Plan}
 use Rattle.txn_history.specs.Posted.{Posted, Within, Within-refl}
 use Rattle.txn_buffer.specs.Contents.{Contents}
-use Rattle.txn_commit.specs.Committing.{Ways}
+use Rattle.txn_commit.specs.Ways.{Ways}
 use Rattle.txn_commit.specs.Following.{Commits}
 use Rattle.txn_commit.specs.declared.secondary_job.SecondaryJob.{SecondaryJob}
 use Rattle.txn_merge.specs.declared.retry_options.RetryOptions.{RetryOptions}
@@ -63,9 +63,9 @@ use Rattle.txn_clients.proofs.Telling.{hears_own, stands_at}
 
 -- One row is replaced
 
-module _ {P Q K : Type 0} where
+module _ {P : Type 0} where
   -- what holds of each row, where one is set
-  pub at_set : (Holds : ℕ → Row P Q K → Type 0) (rows : List (Row P Q K)) (at : ℕ) (r : Row P Q K) → at < length rows → Holds at r → ((i : ℕ) → i ≢ at → Holds i (row_at rows i)) → (i : ℕ) → Holds i (row_at (set rows at r) i)
+  pub at_set : (Holds : ℕ → Row P → Type 0) (rows : List (Row P)) (at : ℕ) (r : Row P) → at < length rows → Holds at r → ((i : ℕ) → i ≢ at → Holds i (row_at rows i)) → (i : ℕ) → Holds i (row_at (set rows at r) i)
   at_set Holds rows at r h here there i = by (same_line at i)
     where
       by : (i ≡ at) ⊎ (i ≢ at) → Holds i (row_at (set rows at r) i)
@@ -73,7 +73,7 @@ module _ {P Q K : Type 0} where
       by (inr apart) = subst (Holds i) (sym (or_other rows at i r row.Plain apart)) (there i apart)
 
   -- and what held of each before
-  pub at_unset : (Holds : ℕ → Row P Q K → Type 0) (rows : List (Row P Q K)) (at : ℕ) (r : Row P Q K) → at < length rows → (Holds at r → Holds at (row_at rows at)) → ((i : ℕ) → Holds i (row_at (set rows at r) i)) → (i : ℕ) → Holds i (row_at rows i)
+  pub at_unset : (Holds : ℕ → Row P → Type 0) (rows : List (Row P)) (at : ℕ) (r : Row P) → at < length rows → (Holds at r → Holds at (row_at rows at)) → ((i : ℕ) → Holds i (row_at (set rows at r) i)) → (i : ℕ) → Holds i (row_at rows i)
   at_unset Holds rows at r h back all i = by (same_line at i)
     where
       by : (i ≡ at) ⊎ (i ≢ at) → Holds i (row_at rows i)
@@ -82,14 +82,14 @@ module _ {P Q K : Type 0} where
 
   -- What stands at a place takes the place of what stood there: it has no plan that the other has not, its start was drawn for its line, and
   -- the other's start is its own.
-  pub record Replaces {A B D : Type 0} (w : Ways P Q K A B D) (askers : Ticket → List ℕ) (h : List Event) (at : ℕ) (old new : Row P Q K) : Type 0 where
+  pub record Replaces (w : Ways P) (askers : Ticket → List ℕ) (h : List Event) (at : ℕ) (old new : Row P) : Type 0 where
     pub plan : (plans : ℕ → Plan) → HasPlan plans new → HasPlan plans old
     pub start : (v : ℕ) → HasStart v old → HasStart v new
     pub drawn : (v : ℕ) → HasStart v new → IsDrawn askers h (suc at) v
-    pub behind : (job : SecondaryJob Q) (o : Posted) → IsBehind w job o h old → IsBehind w job o h new
+    pub behind : (job : SecondaryJob P) (o : Posted) → IsBehind w job o h old → IsBehind w job o h new
 
   -- nothing stands there, or a call that has not ended
-  abbrev pub IsUnended : Row P Q K → Type 0
+  abbrev pub IsUnended : Row P → Type 0
   IsUnended row.Plain = ⊤
   IsUnended (row.Client c) = ⊥
   IsUnended (row.Asking c b call) = ⊤
@@ -98,32 +98,32 @@ module _ {P Q K : Type 0} where
   IsUnended (row.Past c) = ⊥
   IsUnended (row.Working c job) = ⊥
 
-  unended_plan : (plans : ℕ → Plan) (r : Row P Q K) → IsUnended r → HasPlan plans r
+  unended_plan : (plans : ℕ → Plan) (r : Row P) → IsUnended r → HasPlan plans r
   unended_plan plans (row.Begun c t m) u = absurd u
   unended_plan plans r u = tt
 
-  pub unended_start : (v : ℕ) (r : Row P Q K) → IsUnended r → HasStart v r → ⊥
+  pub unended_start : (v : ℕ) (r : Row P) → IsUnended r → HasStart v r → ⊥
   unended_start v (row.Begun c t m) u x = u
   unended_start v r u x = x
 
-  unended_behind : {A B D : Type 0} (w : Ways P Q K A B D) (job : SecondaryJob Q) (o : Posted) (h : List Event) (r : Row P Q K) → IsUnended r → IsBehind w job o h r → ⊥
+  unended_behind : (w : Ways P) (job : SecondaryJob P) (o : Posted) (h : List Event) (r : Row P) → IsUnended r → IsBehind w job o h r → ⊥
   unended_behind w job o h (row.Begun c t m) u x = u
   unended_behind w job o h r u x = x
 
-  unended_began : (v : ℕ) (r : Row P Q K) → IsUnended r → BeganAt v r → ⊥
+  unended_began : (v : ℕ) (r : Row P) → IsUnended r → BeganAt v r → ⊥
   unended_began v (row.Begun c t m) u x = u
   unended_began v (row.Past c) u x = u
   unended_began v r u x = x
 
-  unended_committed : (h : List Event) (v : ℕ) (r : Row P Q K) → IsUnended r → IsCommittedSo h v r → ⊥
+  unended_committed : (h : List Event) (v : ℕ) (r : Row P) → IsUnended r → IsCommittedSo h v r → ⊥
   unended_committed h v (row.Begun c t m) u x = u
   unended_committed h v r u x = x
 
-  unended_unlocked : (r : Row P Q K) → IsUnended r → IsCommittedUnlocked r → ⊥
+  unended_unlocked : (r : Row P) → IsUnended r → IsCommittedUnlocked r → ⊥
   unended_unlocked (row.Begun c t m) u x = u
   unended_unlocked r u x = x
 
-  pub unended_replaced : {A B D : Type 0} (w : Ways P Q K A B D) (askers : Ticket → List ℕ) (h : List Event) (at : ℕ) (old new : Row P Q K) → IsUnended old → ((v : ℕ) → HasStart v new → IsDrawn askers h (suc at) v) → Replaces w askers h at old new
+  pub unended_replaced : (w : Ways P) (askers : Ticket → List ℕ) (h : List Event) (at : ℕ) (old new : Row P) → IsUnended old → ((v : ℕ) → HasStart v new → IsDrawn askers h (suc at) v) → Replaces w askers h at old new
   unended_replaced w askers h at old new u drawn = record {
     plan = λ plans x. unended_plan plans old u;
     start = λ v x. absurd (unended_start v old u x);
@@ -132,17 +132,17 @@ module _ {P Q K : Type 0} where
   }
 
   -- a transaction waits for another line
-  pub waits_replaced : {A B D : Type 0} (w : Ways P Q K A B D) (askers : Ticket → List ℕ) (h : List Event) (at n : ℕ) (r : Row P Q K) → ((v : ℕ) → HasStart v r → IsDrawn askers h (suc at) v) → Replaces w askers h at r (with_waits n r)
+  pub waits_replaced : (w : Ways P) (askers : Ticket → List ℕ) (h : List Event) (at n : ℕ) (r : Row P) → ((v : ℕ) → HasStart v r → IsDrawn askers h (suc at) v) → Replaces w askers h at r (with_waits n r)
   waits_replaced w askers h at n (row.Begun c t m) drawn = record { plan = λ plans x. x; start = λ v x. x; drawn = drawn; behind = λ job o x. x }
   waits_replaced w askers h at n r drawn = record { plan = λ plans x. x; start = λ v x. x; drawn = drawn; behind = λ job o x. x }
 
-  module _ {A B D : Type 0} (w : Ways P Q K A B D) where
-    fits_in : (rows news : List (Row P Q K)) (h : List Event) → ((i : ℕ) (job : SecondaryJob Q) (o : Posted) → IsBehind w job o h (row_at rows i) → IsBehind w job o h (row_at news i)) → (o : Posted) (r : Row P Q K) → RowFits w rows o h r → RowFits w news o h r
+  module _ (w : Ways P) where
+    fits_in : (rows news : List (Row P)) (h : List Event) → ((i : ℕ) (job : SecondaryJob P) (o : Posted) → IsBehind w job o h (row_at rows i) → IsBehind w job o h (row_at news i)) → (o : Posted) (r : Row P) → RowFits w rows o h r → RowFits w news o h r
     fits_in rows news h f o (row.Working c job) x = (x.0, f x.0 job o x.1)
     fits_in rows news h f o r x = x
 
     -- the clients can still have arisen from the history
-    pub arisen_set : (s t : Clients P Q K) (askers : Ticket → List ℕ) (rest : List Answered) (h : List Event) (at : ℕ) (r : Row P Q K) → at < length (rows_of s) → rows_of t ≡ set (rows_of s) at r → nexts_of t ≡ nexts_of s → asks_of t ≡ asks_of s → t.clients ≡ s.clients
+    pub arisen_set : (s t : Clients P) (askers : Ticket → List ℕ) (rest : List Answered) (h : List Event) (at : ℕ) (r : Row P) → at < length (rows_of s) → rows_of t ≡ set (rows_of s) at r → nexts_of t ≡ nexts_of s → asks_of t ≡ asks_of s → t.clients ≡ s.clients
         → Replaces w askers h at (row_at (rows_of s) at) r → RowFits w (set (rows_of s) at r) (posted_at (nexts_of s) (asks_of s) (voice at (stand_of r))) h r → Arisen w s askers rest h → Arisen w t askers rest h
     arisen_set s t askers rest h at r within rows nexts asks clients x fits a = record {
       run = λ plans have. a.run plans (at_unset (λ i y. HasPlan plans y) (rows_of s) at r within (x.plan plans) (subst (HavePlans plans) rows have));
@@ -164,7 +164,7 @@ module _ {P Q K : Type 0} where
       optimistic = a.optimistic;
     }
       where
-        new : List (Row P Q K)
+        new : List (Row P)
         new = set (rows_of s) at r
 
         starts : (i v : ℕ) → HasStart v (row_at (rows_of t) i) → IsDrawn askers h (suc i) v
@@ -173,11 +173,11 @@ module _ {P Q K : Type 0} where
         start_in : (i v : ℕ) → HasStart v (row_at (rows_of s) i) → HasStart v (row_at new i)
         start_in i v = at_set (λ j y. HasStart v (row_at (rows_of s) j) → HasStart v y) (rows_of s) at r within (x.start v) (λ j apart b. b) i
 
-        behind : (i : ℕ) (job : SecondaryJob Q) (o : Posted) → IsBehind w job o h (row_at (rows_of s) i) → IsBehind w job o h (row_at new i)
+        behind : (i : ℕ) (job : SecondaryJob P) (o : Posted) → IsBehind w job o h (row_at (rows_of s) i) → IsBehind w job o h (row_at new i)
         behind i job o = at_set (λ j y. IsBehind w job o h (row_at (rows_of s) j) → IsBehind w job o h y) (rows_of s) at r within (x.behind job o) (λ j apart b. b) i
 
     -- no Commit was sent of what is drawn for a line at which no transaction stands
-    uncommitted : (s : Clients P Q K) (askers : Ticket → List ℕ) (rest : List Answered) (h : List Event) (line v : ℕ) → 1 ≤ line → IsUnended (row_at (rows_of s) (line - 1)) → Arisen w s askers rest h → IsDrawn askers h line v → IsUncommitted v h
+    uncommitted : (s : Clients P) (askers : Ticket → List ℕ) (rest : List Answered) (h : List Event) (line v : ℕ) → 1 ≤ line → IsUnended (row_at (rows_of s) (line - 1)) → Arisen w s askers rest h → IsDrawn askers h line v → IsUncommitted v h
     uncommitted s askers rest h line v one u a d ticket q has same =
         let own = a.owned ticket q has in
         let start : HasStart v (row_at (rows_of s) own.0) = subst (λ n. HasStart n (row_at (rows_of s) own.0)) same own.1 in
@@ -186,15 +186,15 @@ module _ {P Q K : Type 0} where
 
     -- Between calls it waits for nothing that a line posts.
 
-    rest_fits : (t : Standing P Q K) (o p : Posted) (h : List Event) → is_open t.work ≡ false → TransactionFits w t o h → TransactionFits w t p h
+    rest_fits : (t : Standing P) (o p : Posted) (h : List Event) → is_open t.work ≡ false → TransactionFits w t o h → TransactionFits w t p h
     rest_fits t o p h rests f = record { given = f.given; unsent = f.unsent; settled = f.settled; undone = f.undone; at = by t.work rests f.at }
       where
-        by : (g : Work P Q K) → is_open g ≡ false → IsAtWork w t.options.retry_options t.start t.status t.contents t.commits g o h → IsAtWork w t.options.retry_options t.start t.status t.contents t.commits g p h
+        by : (g : Work P) → is_open g ≡ false → IsAtWork w t.options.retry_options t.start t.status t.contents t.commits g o h → IsAtWork w t.options.retry_options t.start t.status t.contents t.commits g p h
         by work.Idle e x = x
         by (work.Open call) e x = absurd (cc)
         by work.GaveUp e x = tt
 
-    pub rest_row : (n c m : ℕ) (rows news : List (Row P Q K)) (o p : Posted) (h : List Event) (r : Row P Q K) → stand_of r ≡ HasBegun c m → Rests r → RowFits w rows o h r → RowFits w news p h (with_waits n r)
+    pub rest_row : (n c m : ℕ) (rows news : List (Row P)) (o p : Posted) (h : List Event) (r : Row P) → stand_of r ≡ HasBegun c m → Rests r → RowFits w rows o h r → RowFits w news p h (with_waits n r)
     rest_row n c m rows news o p h row.Plain e rests x = tt
     rest_row n c m rows news o p h (row.Client d) e rests x = tt
     rest_row n c m rows news o p h (row.Asking d b call) e rests x = absurd (no e)
@@ -208,14 +208,14 @@ module _ {P Q K : Type 0} where
 
 -- What was right stays so
 
-module _ {P Q K : Type 0} where
-  right_by : (o : Outcome) (h longer : List Event) (old new : Row P Q K) → ((v : ℕ) → BeganAt v old → BeganAt v new) → ((v : ℕ) → IsCommittedSo h v old → IsCommittedSo longer v new) → (IsCommittedUnlocked old → IsCommittedUnlocked new) → HoldsOf h o old → HoldsOf longer o new
+module _ {P : Type 0} where
+  right_by : (o : Outcome) (h longer : List Event) (old new : Row P) → ((v : ℕ) → BeganAt v old → BeganAt v new) → ((v : ℕ) → IsCommittedSo h v old → IsCommittedSo longer v new) → (IsCommittedUnlocked old → IsCommittedUnlocked new) → HoldsOf h o old → HoldsOf longer o new
   right_by (outcomes.Ok (payloads.Number v)) h longer old new f g u x = f v x
   right_by (outcomes.Ok (payloads.Commit (Some v))) h longer old new f g u x = g v x
   right_by (outcomes.Ok (payloads.Commit None)) h longer old new f g u x = u x
   right_by o h longer old new f g u x = tt
 
-  pub right_set : (rows : List (Row P Q K)) (at : ℕ) (r : Row P Q K) → at < length rows → ((v : ℕ) → BeganAt v (row_at rows at) → BeganAt v r) → ((h longer : List Event) (v : ℕ) → Within h longer → IsCommittedSo h v (row_at rows at) → IsCommittedSo longer v r) → (IsCommittedUnlocked (row_at rows at) → IsCommittedUnlocked r) → KeepRight rows (set rows at r)
+  pub right_set : (rows : List (Row P)) (at : ℕ) (r : Row P) → at < length rows → ((v : ℕ) → BeganAt v (row_at rows at) → BeganAt v r) → ((h longer : List Event) (v : ℕ) → Within h longer → IsCommittedSo h v (row_at rows at) → IsCommittedSo longer v r) → (IsCommittedUnlocked (row_at rows at) → IsCommittedUnlocked r) → KeepRight rows (set rows at r)
   right_set rows at r h began committed unlocked zero o k longer within x = tt
   right_set rows at r h began committed unlocked (suc i) o k longer within x =
       at_set (λ j y. HoldsOf k o (row_at rows j) → HoldsOf longer o y) rows at r h
@@ -223,59 +223,59 @@ module _ {P Q K : Type 0} where
       (λ j apart. right_by o k longer (row_at rows j) (row_at rows j) (λ v y. y) (λ v. committed_grows k longer v (row_at rows j) within) (λ y. y)) i x
 
   -- where nothing had ended
-  pub right_unended : (rows : List (Row P Q K)) (at : ℕ) (r : Row P Q K) → at < length rows → IsUnended (row_at rows at) → KeepRight rows (set rows at r)
+  pub right_unended : (rows : List (Row P)) (at : ℕ) (r : Row P) → at < length rows → IsUnended (row_at rows at) → KeepRight rows (set rows at r)
   right_unended rows at r h u = right_set rows at r h (λ v x. absurd (unended_began v (row_at rows at) u x)) (λ k longer v within x. absurd (unended_committed k v (row_at rows at) u x)) (λ x. absurd (unended_unlocked (row_at rows at) u x))
 
-  waits_began : (n v : ℕ) (r : Row P Q K) → BeganAt v r → BeganAt v (with_waits n r)
+  waits_began : (n v : ℕ) (r : Row P) → BeganAt v r → BeganAt v (with_waits n r)
   waits_began n v (row.Begun c t m) x = x
   waits_began n v r x = x
 
-  pub waits_committed : (n : ℕ) (h : List Event) (v : ℕ) (r : Row P Q K) → IsCommittedSo h v r → IsCommittedSo h v (with_waits n r)
+  pub waits_committed : (n : ℕ) (h : List Event) (v : ℕ) (r : Row P) → IsCommittedSo h v r → IsCommittedSo h v (with_waits n r)
   waits_committed n h v (row.Begun c t m) x = x
   waits_committed n h v r x = x
 
-  waits_unlocked : (n : ℕ) (r : Row P Q K) → IsCommittedUnlocked r → IsCommittedUnlocked (with_waits n r)
+  waits_unlocked : (n : ℕ) (r : Row P) → IsCommittedUnlocked r → IsCommittedUnlocked (with_waits n r)
   waits_unlocked n (row.Begun c t m) x = x
   waits_unlocked n r x = x
 
-  waits_behind : {A B D : Type 0} (w : Ways P Q K A B D) (n : ℕ) (job : SecondaryJob Q) (o : Posted) (h : List Event) (r : Row P Q K) → IsBehind w job o h r → IsBehind w job o h (with_waits n r)
+  waits_behind : (w : Ways P) (n : ℕ) (job : SecondaryJob P) (o : Posted) (h : List Event) (r : Row P) → IsBehind w job o h r → IsBehind w job o h (with_waits n r)
   waits_behind w n job o h (row.Begun c t m) x = x
   waits_behind w n job o h r x = x
 
-  pub right_waits : (rows : List (Row P Q K)) (at n : ℕ) → at < length rows → KeepRight rows (set rows at (with_waits n (row_at rows at)))
+  pub right_waits : (rows : List (Row P)) (at n : ℕ) → at < length rows → KeepRight rows (set rows at (with_waits n (row_at rows at)))
   right_waits rows at n h = right_set rows at (with_waits n (row_at rows at)) h (λ v. waits_began n v (row_at rows at)) (λ k longer v within x. waits_committed n longer v (row_at rows at) (committed_grows k longer v (row_at rows at) within x)) (waits_unlocked n (row_at rows at))
 
-  pub holds_line : (rows : List (Row P Q K)) (h : List Event) (line : ℕ) (o : Outcome) → 1 ≤ line → HoldsOf h o (row_at rows (line - 1)) → HoldsAt rows h line o
+  pub holds_line : (rows : List (Row P)) (h : List Event) (line : ℕ) (o : Outcome) → 1 ≤ line → HoldsOf h o (row_at rows (line - 1)) → HoldsAt rows h line o
   holds_line rows h line o one x = subst (λ n. HoldsAt rows h n o) (hears_own line one) x
 
 -- Calls end
 
-module _ {P Q K A B D : Type 0} (w : Ways P Q K A B D) where
+module _ {P : Type 0} (w : Ways P) where
   -- what stands there once a call for a timestamp has ended
-  pub record Leaves (askers : Ticket → List ℕ) (h : List Event) (line : ℕ) (r : Row P Q K) (o : Outcome) : Type 0 where
+  pub record Leaves (askers : Ticket → List ℕ) (h : List Event) (line : ℕ) (r : Row P) (o : Outcome) : Type 0 where
     pub drawn : (v : ℕ) → HasStart v r → IsDrawn askers h line v
-    pub fits : (rows : List (Row P Q K)) (p : Posted) → RowFits w rows p h r
+    pub fits : (rows : List (Row P)) (p : Posted) → RowFits w rows p h r
     pub right : HoldsOf h o r
 
-  begun_leaves : (askers : Ticket → List ℕ) (h : List Event) (line c : ℕ) (b : Standing P Q K) (options : TransactionOptions) (now : ℕ) → b ≡ begun b.start options now → IsDrawn askers h line (version_of b.start) → IsUncommitted (version_of b.start) h → Leaves askers h line (row.Begun c b 0) (outcomes.Ok (payloads.Number (version_of b.start)))
+  begun_leaves : (askers : Ticket → List ℕ) (h : List Event) (line c : ℕ) (b : Standing P) (options : TransactionOptions) (now : ℕ) → b ≡ begun b.start options now → IsDrawn askers h line (version_of b.start) → IsUncommitted (version_of b.start) h → Leaves askers h line (row.Begun c b 0) (outcomes.Ok (payloads.Number (version_of b.start)))
   begun_leaves askers h line c b options now e drawn never = record {
     drawn = λ v same. subst (IsDrawn askers h line) same drawn;
-    fits = λ rows p. subst (λ (y : Standing P Q K). StandFits w y p h) (sym e) (none_ordered _, begun_fits w b.start options now p h (draw_given askers h line (version_of b.start) drawn) never, refl, λ parts whole u lost. no_mark u lost);
+    fits = λ rows p. subst (λ (y : Standing P). StandFits w y p h) (sym e) (none_ordered _, begun_fits w b.start options now p h (draw_given askers h line (version_of b.start) drawn) never, refl, λ parts whole u lost. no_mark u lost);
     right = refl;
   }
 
-  past_leaves : (askers : Ticket → List ℕ) (h : List Event) (line c : ℕ) (r : Row P Q K) (o : Outcome) → r ≡ row.Past c → HoldsOf {P = P} {Q = Q} {K = K} h o (row.Past c) → Leaves askers h line r o
+  past_leaves : (askers : Ticket → List ℕ) (h : List Event) (line c : ℕ) (r : Row P) (o : Outcome) → r ≡ row.Past c → HoldsOf {P = P} h o (row.Past c) → Leaves askers h line r o
   past_leaves askers h line c r o e right = subst (λ y. Leaves askers h line y o) (sym e) (record { drawn = λ v x. absurd x; fits = λ rows p. tt; right = right })
 
-  ask_leaves : (askers : Ticket → List ℕ) (h : List Event) (line c : ℕ) (v : Result (ClientAnswer Pd P Q K) Error) (r : Row P Q K) (o : Outcome) → AskLeaves c v r o → IsNewAnswer {P = P} {Q = Q} {K = K} (answers.Asked v) → AnswerArises w ⊥ askers line row.Plain (Some (answers.Asked v)) h
+  ask_leaves : (askers : Ticket → List ℕ) (h : List Event) (line c : ℕ) (v : Result (ClientAnswer Pd P) Error) (r : Row P) (o : Outcome) → AskLeaves c v r o → IsNewAnswer {P = P} (answers.Asked v) → AnswerArises w ⊥ askers line row.Plain (Some (answers.Asked v)) h
       → ((n : ℕ) → IsDrawn askers h line n → IsUncommitted n h) → Leaves askers h line r o
   ask_leaves askers h line c (Ok (Begun b)) r o (e, f) (options, now, new) came never =
       subst (λ y. Leaves askers h line y o) (sym e) (subst (Leaves askers h line (row.Begun c b 0)) (sym f) (begun_leaves askers h line c b options now new came (never (version_of b.start) came)))
-  ask_leaves askers h line c (Ok (Time t)) r o (e, f) new came never = past_leaves askers h line c r o e (subst (λ y. HoldsOf {P = P} {Q = Q} {K = K} h y (row.Past c)) (sym f) tt)
-  ask_leaves askers h line c (Err why) r o (e, f) new came never = past_leaves askers h line c r o e (subst (λ y. HoldsOf {P = P} {Q = Q} {K = K} h y (row.Past c)) (sym f) tt)
+  ask_leaves askers h line c (Ok (Time t)) r o (e, f) new came never = past_leaves askers h line c r o e (subst (λ y. HoldsOf {P = P} h y (row.Past c)) (sym f) tt)
+  ask_leaves askers h line c (Err why) r o (e, f) new came never = past_leaves askers h line c r o e (subst (λ y. HoldsOf {P = P} h y (row.Past c)) (sym f) tt)
 
   -- one call ends
-  ended_one : (askers : Ticket → List ℕ) (rest : List Answered) (s t : Clients P Q K) (h : List Event) (line : ℕ) (x : CallOf) (o : Outcome) (ps : List Posting) (es fs : List Ending) → heard_by s line ≡ x → fs ≡ es ++ record { line = line; outcome = o } ∷ []
+  ended_one : (askers : Ticket → List ℕ) (rest : List Answered) (s t : Clients P) (h : List Event) (line : ℕ) (x : CallOf) (o : Outcome) (ps : List Posting) (es fs : List Ending) → heard_by s line ≡ x → fs ≡ es ++ record { line = line; outcome = o } ∷ []
       → Arisen w t askers rest h → KeepRight (rows_of s) (rows_of t) → HoldsAt (rows_of t) h x.at o → EndSpeaks (rows_of t) h x line o → Leads w askers rest ps ps es fs (heard_by s) s t (seen h) h Anyhow
   ended_one askers rest s t h line x o ps es fs heard ended a kept right speaks = record {
     later = h;
@@ -295,8 +295,8 @@ module _ {P Q K A B D : Type 0} (w : Ways P Q K A B D) where
   }
 
   -- the call for a timestamp that stands at a line ends
-  pub ask_ends : (s t : Clients P Q K) (line c : ℕ) (b : Bool) (call : ClientCall Pd P Q K) (r : Row P Q K) (o : Outcome) (v : Result (ClientAnswer Pd P Q K) Error) (ps : List Posting) (es fs : List Ending) → IsLine (stands_of (rows_of s)) line → row_at (rows_of s) (line - 1) ≡ row.Asking c b call
-      → rows_of t ≡ set (rows_of s) (line - 1) r → nexts_of t ≡ nexts_of s → asks_of t ≡ asks_of s → t.clients ≡ s.clients → AskLeaves c v r o → fs ≡ es ++ record { line = line; outcome = o } ∷ [] → IsNewAnswer {P = P} {Q = Q} {K = K} (answers.Asked v)
+  pub ask_ends : (s t : Clients P) (line c : ℕ) (b : Bool) (call : ClientCall Pd P) (r : Row P) (o : Outcome) (v : Result (ClientAnswer Pd P) Error) (ps : List Posting) (es fs : List Ending) → IsLine (stands_of (rows_of s)) line → row_at (rows_of s) (line - 1) ≡ row.Asking c b call
+      → rows_of t ≡ set (rows_of s) (line - 1) r → nexts_of t ≡ nexts_of s → asks_of t ≡ asks_of s → t.clients ≡ s.clients → AskLeaves c v r o → fs ≡ es ++ record { line = line; outcome = o } ∷ [] → IsNewAnswer {P = P} (answers.Asked v)
       → LeadsEnded w (λ askers h. AnswerArises w ⊥ askers line row.Plain (Some (answers.Asked v)) h) ps ps es fs s t
   ask_ends s t line c b call r o v ps es fs is there rows nexts asks clients leaves ended new askers rest h came a =
       ended_one askers rest s t h line (itself line) o ps es fs (ap (answered_at line) (stands_at (rows_of s) line (row.Asking c b call) is there)) ended
@@ -317,26 +317,26 @@ module _ {P Q K A B D : Type 0} (w : Ways P Q K A B D) where
       left = ask_leaves askers h line c v r o leaves new came (λ n d. uncommitted w s askers rest h line n is.first unended a d)
 
   -- no job is handed out where nothing was committed
-  pub jobless : (options : RetryOptions) (start : Timestamp) (contents : Contents) (c : Commits) (h : List Event) (job : SecondaryJob Q) → TransactionGives w options start contents c h (Ok (answer.Committed None (Some job))) → ⊥
+  pub jobless : (options : RetryOptions) (start : Timestamp) (contents : Contents) (c : Commits) (h : List Event) (job : SecondaryJob P) → TransactionGives w options start contents c h (Ok (answer.Committed None (Some job))) → ⊥
   jobless options start contents c h job (inl x) = x.2
   jobless options start contents c h job (inr (e, inl f)) = cc
   jobless options start contents c h job (inr (e, inr f)) = cc
 
   -- the job that a call of a transaction left is behind the transaction
-  job_fits : (askers : Ticket → List ℕ) (h : List Event) (line c n x : ℕ) (v : Result (TxnAnswer Q) Error) (r mine : Row P Q K) (rows : List (Row P Q K)) (p : Posted) → CallLeaves c v r → (turns : Type 0) → AnswerArises w turns askers line mine (Some (answers.Called v)) h → row_at rows x ≡ with_waits n mine → RowFits w rows p h r
+  job_fits : (askers : Ticket → List ℕ) (h : List Event) (line c n x : ℕ) (v : Result (TxnAnswer P) Error) (r mine : Row P) (rows : List (Row P)) (p : Posted) → CallLeaves c v r → (turns : Type 0) → AnswerArises w turns askers line mine (Some (answers.Called v)) h → row_at rows x ≡ with_waits n mine → RowFits w rows p h r
   job_fits askers h line c n x (Ok (answer.Committed (Some t) (Some job))) r mine rows p e turns came here = subst (RowFits w rows p h) (sym e) (x, subst (IsBehind w job p h) (sym here) (waits_behind w n job p h mine (came.1 p)))
   job_fits askers h line c n x (Ok (answer.Committed None (Some job))) r mine rows p e turns came here = absurd came
   job_fits askers h line c n x (Ok (answer.Committed t None)) r mine rows p e turns came here = subst (RowFits w rows p h) (sym e) tt
   job_fits askers h line c n x (Ok v) r mine rows p e turns came here = subst (RowFits w rows p h) (sym e) tt
   job_fits askers h line c n x (Err why) r mine rows p e turns came here = subst (RowFits w rows p h) (sym e) tt
 
-  job_unstarted : (c : ℕ) (v : Result (TxnAnswer Q) Error) (r : Row P Q K) → CallLeaves c v r → (n : ℕ) → HasStart n r → ⊥
+  job_unstarted : (c : ℕ) (v : Result (TxnAnswer P) Error) (r : Row P) → CallLeaves c v r → (n : ℕ) → HasStart n r → ⊥
   job_unstarted c (Ok (answer.Committed t (Some job))) r e n x = subst (HasStart n) e x
   job_unstarted c (Ok (answer.Committed t None)) r e n x = subst (HasStart n) e x
   job_unstarted c (Ok v) r e n x = subst (HasStart n) e x
   job_unstarted c (Err why) r e n x = subst (HasStart n) e x
 
-  called_holds : (askers : Ticket → List ℕ) (h : List Event) (line : ℕ) (b : Bool) (v : Result (TxnAnswer Q) Error) (r : Row P Q K) (turns : Type 0) → AnswerArises w turns askers line r (Some (answers.Called v)) h → HoldsOf h (outcome_by b v) r
+  called_holds : (askers : Ticket → List ℕ) (h : List Event) (line : ℕ) (b : Bool) (v : Result (TxnAnswer P) Error) (r : Row P) (turns : Type 0) → AnswerArises w turns askers line r (Some (answers.Called v)) h → HoldsOf h (outcome_by b v) r
   called_holds askers h line b (Err e) r turns came = tt
   called_holds askers h line true (Ok (answer.Committed (Some t) (Some job))) r turns came = came.0
   called_holds askers h line true (Ok (answer.Committed (Some t) None)) r turns came = came.0
@@ -348,7 +348,7 @@ module _ {P Q K A B D : Type 0} (w : Ways P Q K A B D) where
   called_holds askers h line true (Ok v) r turns came = tt
   called_holds askers h line false (Ok v) r turns came = tt
 
-  called_speaks : (askers : Ticket → List ℕ) (h : List Event) (line x : ℕ) (b : Bool) (v : Result (TxnAnswer Q) Error) (mine : Row P Q K) (rows : List (Row P Q K)) → 1 ≤ x → row_at rows (x - 1) ≡ with_waits 0 mine → AnswerArises w (b ≡ false) askers line mine (Some (answers.Called v)) h → EndSpeaks rows h (record { at = x; commits = b }) line (outcome_by b v)
+  called_speaks : (askers : Ticket → List ℕ) (h : List Event) (line x : ℕ) (b : Bool) (v : Result (TxnAnswer P) Error) (mine : Row P) (rows : List (Row P)) → 1 ≤ x → row_at rows (x - 1) ≡ with_waits 0 mine → AnswerArises w (b ≡ false) askers line mine (Some (answers.Called v)) h → EndSpeaks rows h (record { at = x; commits = b }) line (outcome_by b v)
   called_speaks askers h line x b (Err e) mine rows one here came = λ apart. speaks_line rows h x (b ≡ false) e one (subst (SpeaksRight h (b ≡ false) e) (sym here) (speaks_waits 0 h (b ≡ false) e mine came))
   called_speaks askers h line x true (Ok (answer.Committed t job)) mine rows one here came = tt
   called_speaks askers h line x false (Ok (answer.Committed t job)) mine rows one here came = tt
@@ -357,11 +357,11 @@ module _ {P Q K A B D : Type 0} (w : Ways P Q K A B D) where
   called_speaks askers h line x true (Ok v) mine rows one here came = tt
   called_speaks askers h line x false (Ok v) mine rows one here came = tt
 
-  waits_holds : (n : ℕ) (h : List Event) (o : Outcome) (r : Row P Q K) → HoldsOf h o r → HoldsOf h o (with_waits n r)
+  waits_holds : (n : ℕ) (h : List Event) (o : Outcome) (r : Row P) → HoldsOf h o r → HoldsOf h o (with_waits n r)
   waits_holds n h o r x = right_by o h h r (with_waits n r) (λ v. waits_began n v r) (λ v. waits_committed n h v r) (waits_unlocked n r) x
 
   -- the call of a transaction ends, which waits no more
-  pub call_ends : (s m t : Clients P Q K) (line x c d : ℕ) (b : Bool) (r : Row P Q K) (o : Outcome) (v : Result (TxnAnswer Q) Error) (ps : List Posting) (es fs : List Ending) → IsLine (stands_of (rows_of s)) line → row_at (rows_of s) (line - 1) ≡ row.Calling c x b → stand_at (stands_of (rows_of s)) x ≡ HasBegun d line → Rests (row_at (rows_of s) (x - 1))
+  pub call_ends : (s m t : Clients P) (line x c d : ℕ) (b : Bool) (r : Row P) (o : Outcome) (v : Result (TxnAnswer P) Error) (ps : List Posting) (es fs : List Ending) → IsLine (stands_of (rows_of s)) line → row_at (rows_of s) (line - 1) ≡ row.Calling c x b → stand_at (stands_of (rows_of s)) x ≡ HasBegun d line → Rests (row_at (rows_of s) (x - 1))
       → rows_of m ≡ set (rows_of s) (x - 1) (with_waits 0 (row_at (rows_of s) (x - 1))) → nexts_of m ≡ nexts_of s → asks_of m ≡ asks_of s → m.clients ≡ s.clients
       → rows_of t ≡ set (rows_of m) (line - 1) r → nexts_of t ≡ nexts_of m → asks_of t ≡ asks_of m → t.clients ≡ m.clients → CallLeaves c v r → o ≡ outcome_by b v → fs ≡ es ++ record { line = line; outcome = o } ∷ []
       → LeadsEnded w (CallCame w s line (Some (answers.Called v))) ps ps es fs s t
@@ -378,7 +378,7 @@ module _ {P Q K A B D : Type 0} (w : Ways P Q K A B D) where
       (subst (HoldsOf h o) (sym (or_other (rows_of m) (line - 1) (x - 1) r row.Plain apart ∙ mine_m)) (waits_holds 0 h o mine (subst (λ y. HoldsOf h y mine) (sym outcome) (called_holds askers h line b v mine (b ≡ false) here))))))
       (subst (λ y. EndSpeaks (rows_of t) h (record { at = x; commits = b }) line y) (sym outcome) (called_speaks askers h line x b v mine (rows_of t) at.first (ap (λ rs. row_at rs (x - 1)) rows ∙ or_other (rows_of m) (line - 1) (x - 1) r row.Plain apart ∙ mine_m) here))
     where
-      mine : Row P Q K
+      mine : Row P
       mine = row_at (rows_of s) (x - 1)
 
       calls : stand_at (stands_of (rows_of s)) line ≡ Calling c x b

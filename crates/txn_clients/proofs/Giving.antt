@@ -35,7 +35,7 @@ use Rattle.txn_clients.specs.Groups.{IsRefused, group_by, lines_in}
 use Rattle.txn_clients.specs.Resting.{sound_longer}
 use Rattle.txn_clients.specs.Waiting.{GoesOn, IsPaired, IsSound, IsThere, Takes, book_at, pends}
 use Rattle.txn_clients.specs.declared.told.Told.TheVariants.{Heard}
-use Rattle.txn_commit.specs.Committing.{Ways}
+use Rattle.txn_commit.specs.Ways.{Ways}
 use Rattle.txn_history.specs.Phase.{Awaited}
 use Rattle.txn_clients.specs.declared.clients.Clients.{Clients}
 use Rattle.txn_clients.proofs.Settling.{head_sound}
@@ -101,9 +101,9 @@ first_told given a rest trace e =
     subst (λ xs. LongerIn (owing_all (refused_of xs) trace) (owing_all (refused_of rest) trace)) (sym e)
     (subst (λ x. LongerIn x (owing_all (refused_of rest) trace)) (sym (owing_first a.0.line a.1 (refused_of rest) trace)) (owing_one_longer a.1 a.0.line (owing_all (refused_of rest) trace)))
 
-module _ {P Q K A B D : Type 0} (w : Ways P Q K A B D) where
+module _ {P : Type 0} (w : Ways P) where
   -- before it is
-  pub first_sound : (trace : Option Trace) (ps : List Posting) (s : Clients P Q K) (given : List Answer) (a : Answer) (rest : List Answer) → given ≡ a ∷ rest → IsSound w (posting_in ps (owing_all (refused_of given) trace)) (map (λ (x : Answer). x.0) given) s
+  pub first_sound : (trace : Option Trace) (ps : List Posting) (s : Clients P) (given : List Answer) (a : Answer) (rest : List Answer) → given ≡ a ∷ rest → IsSound w (posting_in ps (owing_all (refused_of given) trace)) (map (λ (x : Answer). x.0) given) s
       → IsSound w (posting_in ps (owing a.0.line (Heard (arrivals.Time a.0.ask a.1)) (owing_all (refused_of rest) trace))) (pends a.0.line (Heard (arrivals.Time a.0.ask a.1)) (map (λ (x : Answer). x.0) rest)) s
   first_sound trace ps s given a rest e sound =
       head_sound w (posting_in ps (owing_one a.1 a.0.line (owing_all (refused_of rest) trace))) s a.0 (map (λ (x : Answer). x.0) rest)
@@ -111,7 +111,7 @@ module _ {P Q K A B D : Type 0} (w : Ways P Q K A B D) where
       (subst (λ xs. IsSound w (posting_in ps (owing_all (refused_of xs) trace)) (map (λ (x : Answer). x.0) xs) s) e sound))
 
   -- what was done before is so then, too
-  pub goes_longer : (trace longer : Option Trace) (s t : Clients P Q K) (client : ℕ) (Hears : ℕ → Awaited → Type 0) (rest : List Asker) (ps qs : List Posting) (es fs : List Ending) → LongerIn trace longer → GoesOn w trace client Hears rest ps qs es fs s t → GoesOn w longer client Hears rest ps qs es fs s t
+  pub goes_longer : (trace longer : Option Trace) (s t : Clients P) (client : ℕ) (Hears : ℕ → Awaited → Type 0) (rest : List Asker) (ps qs : List Posting) (es fs : List Ending) → LongerIn trace longer → GoesOn w trace client Hears rest ps qs es fs s t → GoesOn w longer client Hears rest ps qs es fs s t
   goes_longer trace longer s t client Hears rest ps qs es fs l g = record {
     sound = sound_longer w (posting_in qs trace) (posting_in qs longer) rest t (posting_both trace longer qs l) g.sound;
     ends = record { more = g.ends.more; ended = g.ends.ended; each = all_map (λ e h. reason_longer w (posting_in qs trace) (posting_in qs longer) e (posting_both trace longer qs l) h) g.ends.more g.ends.each };
@@ -151,8 +151,8 @@ none_refused : (event : Ticket → Request → Event) (refused : List ℕ → Li
 none_refused event refused same none None = refl
 none_refused event refused same none (Some u) = same u [] ∙ none
 
-module _ {P Q K : Type 0} where
-  out_refused : (event : Ticket → Request → Event) (refused : List ℕ → List ℕ) → ((u : Ticket) (lines : List ℕ) → refused_as (event u (Tso (record { count = length lines }))) lines ≡ refused lines) → refused [] ≡ [] → (s : Clients P Q K) (client : ℕ) (given : List Answer) → IsPaired (book_at s client)
+module _ {P : Type 0} where
+  out_refused : (event : Ticket → Request → Event) (refused : List ℕ → List ℕ) → ((u : Ticket) (lines : List ℕ) → refused_as (event u (Tso (record { count = length lines }))) lines ≡ refused lines) → refused [] ≡ [] → (s : Clients P) (client : ℕ) (given : List Answer) → IsPaired (book_at s client)
       → refused_of given ≡ refused (lines_in (group_or_none (book_at s client).out)) → refused_of given ≡ refused_out event (get_or (groups_of s) client None)
   out_refused event refused same none s client given paired all = elim paired [
     | inl unsent ↦
@@ -164,12 +164,12 @@ module _ {P Q K : Type 0} where
   ]
 
   -- as its reply was taken
-  pub taken_refused : (s t : Clients P Q K) (client : ℕ) (o : Reply) (given : List Answer) → Takes client given s t → IsPaired (book_at s client) → ((times : TsoResponse) → o ≡ replies.Tso times → given ≡ answered times (oracle_of (book_at s client))) → (((times : TsoResponse) → o ≡ replies.Tso times → ⊥) → All IsRefused given)
+  pub taken_refused : (s t : Clients P) (client : ℕ) (o : Reply) (given : List Answer) → Takes client given s t → IsPaired (book_at s client) → ((times : TsoResponse) → o ≡ replies.Tso times → given ≡ answered times (oracle_of (book_at s client))) → (((times : TsoResponse) → o ≡ replies.Tso times → ⊥) → All IsRefused given)
       → refused_of given ≡ refused_out (λ u r. Took u r o) (get_or (groups_of s) client None)
   taken_refused s t client o given takes paired granted refused = out_refused (λ u r. Took u r o) (refused_lines o) (λ u lines. refl) (no_lines o) s client given paired (reply_refused o given (oracle_of (book_at s client)) takes.askers granted refused)
 
   -- as it was lost
-  pub lost_refused : (s t : Clients P Q K) (client : ℕ) (given : List Answer) → Takes client given s t → IsPaired (book_at s client) → All IsRefused given → refused_of given ≡ refused_out (λ u r. Lost u r) (get_or (groups_of s) client None)
+  pub lost_refused : (s t : Clients P) (client : ℕ) (given : List Answer) → Takes client given s t → IsPaired (book_at s client) → All IsRefused given → refused_of given ≡ refused_out (λ u r. Lost u r) (get_or (groups_of s) client None)
   lost_refused s t client given takes paired refused = out_refused (λ u r. Lost u r) (λ lines. lines) (λ u lines. refl) refl s client given paired (lines_refused given refused ∙ ap lines_in takes.askers)
 
 all_among : {X : Type 0} (P : X → Type 0) (xs : List X) → ((x : X) → IsAmong xs x → P x) → All P xs
@@ -187,9 +187,9 @@ refused_one t event Why asked failed group came all line among (Err e) h =
       now = came.2;
     }
 
-module _ {P Q K : Type 0} where
+module _ {P : Type 0} where
   -- all of them are told why, where the request that is out was lost, or its reply was taken
-  pub given_in : (trace : Option Trace) (s t : Clients P Q K) (client : ℕ) (event : Ticket → Request → Event) (Why : Error → Type 0) (given : List Answer)
+  pub given_in : (trace : Option Trace) (s t : Clients P) (client : ℕ) (event : Ticket → Request → Event) (Why : Error → Type 0) (given : List Answer)
       → ((u : Trace) (x : Ticket) (r : TsoRequest) (e : Error) → Has u.events (event x (Tso r)) → Why e → HasFailed u.events x r (length given) e)
       → Takes client given s t → IsPaired (book_at s client) → GroupCameIn trace (get_or (groups_of s) client None) event → All (Fails Why) given → AreGivenIn trace given
   given_in None s t client event Why given failed takes paired came all = tt
@@ -213,9 +213,9 @@ module _ {P Q K : Type 0} where
       one a h i = elim paired [ inl none ↦ absurd (subst (λ o. IsAmong (group_or_none o) a.0) none i) | inr ticket ↦ there ticket a h i ]
 
   -- its reply was taken
-  pub given_taken : (trace : Option Trace) (s t : Clients P Q K) (client : ℕ) (o : Reply) (given : List Answer) → Takes client given s t → IsPaired (book_at s client) → GroupCameIn trace (get_or (groups_of s) client None) (λ u r. Took u r o) → All (Fails (Refuses (length given) o)) given → AreGivenIn trace given
+  pub given_taken : (trace : Option Trace) (s t : Clients P) (client : ℕ) (o : Reply) (given : List Answer) → Takes client given s t → IsPaired (book_at s client) → GroupCameIn trace (get_or (groups_of s) client None) (λ u r. Took u r o) → All (Fails (Refuses (length given) o)) given → AreGivenIn trace given
   given_taken trace s t client o given takes paired came all = given_in trace s t client (λ u r. Took u r o) (Refuses (length given) o) given (λ u x r e h why. inr (o, h, why)) takes paired came all
 
   -- it was lost
-  pub given_lost : (trace : Option Trace) (s t : Clients P Q K) (client : ℕ) (given : List Answer) → Takes client given s t → IsPaired (book_at s client) → GroupCameIn trace (get_or (groups_of s) client None) (λ u r. Lost u r) → All (Fails (λ e. e ≡ InternalError OracleLost)) given → AreGivenIn trace given
+  pub given_lost : (trace : Option Trace) (s t : Clients P) (client : ℕ) (given : List Answer) → Takes client given s t → IsPaired (book_at s client) → GroupCameIn trace (get_or (groups_of s) client None) (λ u r. Lost u r) → All (Fails (λ e. e ≡ InternalError OracleLost)) given → AreGivenIn trace given
   given_lost trace s t client given takes paired came all = given_in trace s t client (λ u r. Lost u r) (λ e. e ≡ InternalError OracleLost) given (λ u x r e h why. inl (h, why)) takes paired came all

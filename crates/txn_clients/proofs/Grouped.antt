@@ -25,7 +25,7 @@ use Rattle.txn_law.specs.Run.{IsPossible, IsRun, IsUnused}
 use Rattle.txn_law.proofs.Among.{map_among}
 use Rattle.txn_law.proofs.Kept.{kept}
 use Rattle.txn_law.proofs.Tickets.{sent_once, ticket_is, ticket_itself}
-use Rattle.txn_commit.specs.Committing.{Ways}
+use Rattle.txn_commit.specs.Ways.{Ways}
 use Rattle.txn_merge.specs.declared.retry_options.RetryOptions.{RetryOptions}
 use Rattle.txn_commit.specs.Jobs.{JobFits, others-lawful}
 use Rattle.txn_commit.specs.Sending.{plan_of}
@@ -123,8 +123,8 @@ pub taken_sent : (plans : ℕ → Plan) (h : List Event) (u : Ticket) (r : Reque
 taken_sent plans h u r x run taken = took_sent plans h u r x run ((kept plans h run).taken u r x taken)
 
 -- what others post and take changes nothing that a job knows
-pub jobs_last : {Q B : Type 0} (m : Meaning Q (Result B Error)) → IsLawful m → (refuses : RetryOptions → List Event → Error → Type 0) (costs : ℕ → ℕ → ℕ) → ((options : RetryOptions) (h longer : List Event) (e : Error) → Within h longer → refuses options h e → refuses options longer e)
-    → (plan : Plan) (keys : List Key) (job : SecondaryJob Q) (o p : Posted) (h longer : List Event) → IsLater o p → Within h longer → JobFits m refuses plan keys job o h → JobFits m refuses plan keys job p longer
+pub jobs_last : {P B : Type 0} (m : Meaning P (Result B Error)) → IsLawful m → (refuses : RetryOptions → List Event → Error → Type 0) (costs : ℕ → ℕ → ℕ) → ((options : RetryOptions) (h longer : List Event) (e : Error) → Within h longer → refuses options h e → refuses options longer e)
+    → (plan : Plan) (keys : List Key) (job : SecondaryJob P) (o p : Posted) (h longer : List Event) → IsLater o p → Within h longer → JobFits m refuses plan keys job o h → JobFits m refuses plan keys job p longer
 jobs_last m law refuses costs more plan keys job o p h longer l within f = (others-lawful m law refuses costs plan keys more).fits_longer job o p h longer l within f
 
 -- the lines whose asks a request carries, once it goes out
@@ -132,7 +132,7 @@ abbrev pub with_group : Ticket → List ℕ → (Ticket → List ℕ) → Ticket
 with_group ticket lines askers u = cond (same_ticket ticket u) lines (askers u)
 
 -- its ticket is the next of its line
-pub record IsFirst {P Q K : Type 0} (s t : Clients P Q K) (ticket : Ticket) : Type 0 where
+pub record IsFirst {P : Type 0} (s t : Clients P) (ticket : Ticket) : Type 0 where
   pub beat : ticket.beat ≡ false
   pub number : ticket.number ≡ next_at (nexts_of s) ticket.line
   pub past : ticket.number < next_at (nexts_of t) ticket.line
@@ -140,12 +140,12 @@ pub record IsFirst {P Q K : Type 0} (s t : Clients P Q K) (ticket : Ticket) : Ty
 
 -- One event more
 
-module _ {P Q K A B D : Type 0} (w : Ways P Q K A B D) where
+module _ {P : Type 0} (w : Ways P) where
   abbrev pub JobsLast : Type 0
-  JobsLast = (plan : Plan) (keys : List Key) (job : SecondaryJob Q) (o p : Posted) (h longer : List Event) → IsLater o p → Within h longer → JobFits w.committing w.uncommitted plan keys job o h → JobFits w.committing w.uncommitted plan keys job p longer
+  JobsLast = (plan : Plan) (keys : List Key) (job : SecondaryJob P) (o p : Posted) (h longer : List Event) → IsLater o p → Within h longer → JobFits w.plan w.uncommitted plan keys job o h → JobFits w.plan w.uncommitted plan keys job p longer
 
-  module _ (prewriting : IsLawful w.prewriting) (committing : IsLawful w.committing) (rolling : IsLawful w.rolling) (jobs : JobsLast) where
-    behind_on : (job : SecondaryJob Q) (o p : Posted) (h longer : List Event) (r : Row P Q K) → IsLater o p → Within h longer → IsBehind w job o h r → IsBehind w job p longer r
+  module _ (lawful : IsLawful w.plan) (jobs : JobsLast) where
+    behind_on : (job : SecondaryJob P) (o p : Posted) (h longer : List Event) (r : Row P) → IsLater o p → Within h longer → IsBehind w job o h r → IsBehind w job p longer r
     behind_on job o p h longer row.Plain l within f = absurd f
     behind_on job o p h longer (row.Client c) l within f = absurd f
     behind_on job o p h longer (row.Asking c b call) l within f = absurd f
@@ -155,16 +155,16 @@ module _ {P Q K A B D : Type 0} (w : Ways P Q K A B D) where
     behind_on job o p h longer (row.Working c other) l within f = absurd f
 
     -- a row still fits, where no Commit was sent
-    pub row_on : (rows : List (Row P Q K)) (o p : Posted) (h : List Event) (e : Event) (r : Row P Q K) → IsLater o p → ((s : ℕ) → IsBeside s e) → RowFits w rows o h r → RowFits w rows p (e ∷ h) r
+    pub row_on : (rows : List (Row P)) (o p : Posted) (h : List Event) (e : Event) (r : Row P) → IsLater o p → ((s : ℕ) → IsBeside s e) → RowFits w rows o h r → RowFits w rows p (e ∷ h) r
     row_on rows o p h e row.Plain l beside f = tt
     row_on rows o p h e (row.Client c) l beside f = tt
-    row_on rows o p h e (row.Asking c b call) l beside f = (called-lawful {C = Pd} {P = P} {Q = Q} {K = K}).fits_longer call o p h (e ∷ h) l (Within-one e h) f
-    row_on rows o p h e (row.Begun c t m) l beside f = (f.0, others_fit w prewriting committing rolling t o p h (e ∷ h) l (adds_event (version_of t.start) e h (beside (version_of t.start))) f.1, f.2, λ parts whole u lost. first_front (version_of t.start) parts.primary h (e ∷ h) u (e ∷ [], refl) (f.3 parts whole u lost))
+    row_on rows o p h e (row.Asking c b call) l beside f = (called-lawful {C = Pd} {P = P}).fits_longer call o p h (e ∷ h) l (Within-one e h) f
+    row_on rows o p h e (row.Begun c t m) l beside f = (f.0, others_fit w lawful t o p h (e ∷ h) l (adds_event (version_of t.start) e h (beside (version_of t.start))) f.1, f.2, λ parts whole u lost. first_front (version_of t.start) parts.primary h (e ∷ h) u (e ∷ [], refl) (f.3 parts whole u lost))
     row_on rows o p h e (row.Calling c x b) l beside f = tt
     row_on rows o p h e (row.Past c) l beside f = tt
     row_on rows o p h e (row.Working c job) l beside f = (f.0, behind_on job o p h (e ∷ h) (row_at rows f.0) l (Within-one e h) f.1)
 
-    pub rows_on : (s t : Clients P Q K) (h : List Event) (e : Event) → rows_of t ≡ rows_of s → IsRisen (nexts_of s) (nexts_of t) → asks_of t ≡ asks_of s → ((x : ℕ) → IsBeside x e)
+    pub rows_on : (s t : Clients P) (h : List Event) (e : Event) → rows_of t ≡ rows_of s → IsRisen (nexts_of s) (nexts_of t) → asks_of t ≡ asks_of s → ((x : ℕ) → IsBeside x e)
         → ((i : ℕ) → RowFits w (rows_of s) (posted_at (nexts_of s) (asks_of s) (voice_at (rows_of s) i)) h (row_at (rows_of s) i))
         → (i : ℕ) → RowFits w (rows_of t) (posted_at (nexts_of t) (asks_of t) (voice_at (rows_of t) i)) (e ∷ h) (row_at (rows_of t) i)
     rows_on s t h e rows up asks beside f i =
@@ -175,7 +175,7 @@ module _ {P Q K A B D : Type 0} (w : Ways P Q K A B D) where
 
     -- The same of clients whose oracles, rows and numbers are the same
 
-    pub same_arises : (s t : Clients P Q K) (askers : Ticket → List ℕ) (rest : List Answer) (h : List Event) → rows_of t ≡ rows_of s → nexts_of t ≡ nexts_of s → asks_of t ≡ asks_of s → ((c : ℕ) → book_at t c ≡ book_at s c) → Arisen w s askers rest h → Arisen w t askers rest h
+    pub same_arises : (s t : Clients P) (askers : Ticket → List ℕ) (rest : List Answer) (h : List Event) → rows_of t ≡ rows_of s → nexts_of t ≡ nexts_of s → asks_of t ≡ asks_of s → ((c : ℕ) → book_at t c ≡ book_at s c) → Arisen w s askers rest h → Arisen w t askers rest h
     same_arises s t askers rest h rows nexts asks books f = record {
       run = λ plans have. f.run plans (subst (HavePlans plans) rows have);
       apart = λ i j v a b. f.apart i j v (subst (λ rs. HasStart v (row_at rs i)) rows a) (subst (λ rs. HasStart v (row_at rs j)) rows b);
@@ -197,7 +197,7 @@ module _ {P Q K A B D : Type 0} (w : Ways P Q K A B D) where
 
     -- A request for timestamps is over: its reply was taken, or it was lost.
 
-    pub over_arises : (s t : Clients P Q K) (client : ℕ) (given : List Answer) (askers : Ticket → List ℕ) (h : List Event) (e : Event) → Takes client given s t → rows_of t ≡ rows_of s → nexts_of t ≡ nexts_of s
+    pub over_arises : (s t : Clients P) (client : ℕ) (given : List Answer) (askers : Ticket → List ℕ) (h : List Event) (e : Event) → Takes client given s t → rows_of t ≡ rows_of s → nexts_of t ≡ nexts_of s
         → SendsNothing e → PostsNothing e → ((x : ℕ) → IsBeside x e) → IsPossible h e → AreTold askers given (e ∷ h) → Arisen w s askers [] h → Arisen w t askers given (e ∷ h)
     over_arises s t client given askers h e takes rows nexts sends posts beside possible told f = record {
       run = λ plans have. unsent_runs plans h (f.run plans (subst (HavePlans plans) rows have)) e sends possible;
@@ -235,7 +235,7 @@ module _ {P Q K A B D : Type 0} (w : Ways P Q K A B D) where
         noted c u group ticket out (inr apart) = f.draws.groups c u group (ap (λ (b : Book). b.ticket) (sym (takes.books c apart)) ∙ ticket) (ap (λ (b : Book). b.out) (sym (takes.books c apart)) ∙ out)
 
     -- and then those are told who asked
-    over_leads : (s m t : Clients P Q K) (client : ℕ) (given : List Answer) (askers : Ticket → List ℕ) (h : List Event) (e : Event) (ps qs : List Posting) (es fs : List Ending) → Takes client given s m → rows_of m ≡ rows_of s → nexts_of m ≡ nexts_of s
+    over_leads : (s m t : Clients P) (client : ℕ) (given : List Answer) (askers : Ticket → List ℕ) (h : List Event) (e : Event) (ps qs : List Posting) (es fs : List Ending) → Takes client given s m → rows_of m ≡ rows_of s → nexts_of m ≡ nexts_of s
         → SendsNothing e → PostsNothing e → ((x : ℕ) → IsBeside x e) → seen (e ∷ h) ≡ e ∷ seen h → IsPossible h e → AreTold askers given (e ∷ h) → LeadsGiven w given ps qs es fs m t → Arisen w s askers [] h
         → Leads w askers [] ps qs es fs (heard_by s) s t (e ∷ seen h) h Anyhow
     over_leads s m t client given askers h e ps qs es fs takes rows nexts sends posts beside shows possible told give f =
@@ -245,18 +245,18 @@ module _ {P Q K A B D : Type 0} (w : Ways P Q K A B D) where
         (give askers (e ∷ h) (over_arises s m client given askers h e takes rows nexts sends posts beside possible told f))
         (λ x i. heard_same s m (ap stands_of rows) x.line)))
 
-    is_noted : (s : Clients P Q K) (client : ℕ) (askers : Ticket → List ℕ) (h : List Event) (u : Ticket) → (book_at s client).ticket ≡ Some u → Arisen w s askers [] h → IsNoted askers (oracle_of (book_at s client)) u h
+    is_noted : (s : Clients P) (client : ℕ) (askers : Ticket → List ℕ) (h : List Event) (u : Ticket) → (book_at s client).ticket ≡ Some u → Arisen w s askers [] h → IsNoted askers (oracle_of (book_at s client)) u h
     is_noted s client askers h u ticket f = record {
       fits = subst (λ o. OracleFits (oracle_of (book_at s client)) (ticket_or o) h) ticket (f.oracles client);
       noted = λ group out. f.draws.groups client u group ticket out;
     }
 
     -- each that is told something asked
-    told_asked : (s m : Clients P Q K) (client : ℕ) (given : List Answer) (u : Ticket) (h : List Event) → Takes client given s m → OracleFits (oracle_of (book_at s client)) u h → (a : Answer) → IsAmong given a → Has h (Asked (ask_of a.0))
+    told_asked : (s m : Clients P) (client : ℕ) (given : List Answer) (u : Ticket) (h : List Event) → Takes client given s m → OracleFits (oracle_of (book_at s client)) u h → (a : Answer) → IsAmong given a → Has h (Asked (ask_of a.0))
     told_asked s m client given u h takes fits a i = out_asked (oracle_of (book_at s client)) u h fits a.0 (subst (λ xs. IsAmong xs a.0) takes.askers (map_among (λ (b : Answer). b.0) given a i))
 
     -- its reply was taken
-    pub taken_leads : (s m t : Clients P Q K) (client : ℕ) (x : Reply) (given : List Answer) (ps qs : List Posting) (es fs : List Ending) → Takes client given s m → rows_of m ≡ rows_of s → nexts_of m ≡ nexts_of s
+    pub taken_leads : (s m t : Clients P) (client : ℕ) (x : Reply) (given : List Answer) (ps qs : List Posting) (es fs : List Ending) → Takes client given s m → rows_of m ≡ rows_of s → nexts_of m ≡ nexts_of s
         → ((times : TsoResponse) → x ≡ replies.Tso times → given ≡ answered times (oracle_of (book_at s client))) → (((times : TsoResponse) → x ≡ replies.Tso times → ⊥) → All IsRefused given)
         → LeadsGiven w given ps qs es fs m t → LeadsGroup w client (λ u r. Took u r x) ps qs es fs s t
     taken_leads s m t client x given ps qs es fs takes rows nexts granted refused give askers h u r ticket possible f =
@@ -276,7 +276,7 @@ module _ {P Q K A B D : Type 0} (w : Ways P Q K A B D) where
         told (inr other) = refused_told askers (Took u r x ∷ h) given (refused other) (λ a i. inr (told_asked s m client given u h takes noted.fits a i))
 
     -- it was lost
-    pub lost_leads : (s m t : Clients P Q K) (client : ℕ) (given : List Answer) (ps qs : List Posting) (es fs : List Ending) → Takes client given s m → rows_of m ≡ rows_of s → nexts_of m ≡ nexts_of s → All IsRefused given
+    pub lost_leads : (s m t : Clients P) (client : ℕ) (given : List Answer) (ps qs : List Posting) (es fs : List Ending) → Takes client given s m → rows_of m ≡ rows_of s → nexts_of m ≡ nexts_of s → All IsRefused given
         → LeadsGiven w given ps qs es fs m t → LeadsGroup w client (λ u r. Lost u r) ps qs es fs s t
     lost_leads s m t client given ps qs es fs takes rows nexts refused give askers h u r ticket possible f =
         over_leads s m t client given askers h (Lost u r) ps qs es fs takes rows nexts tt tt (λ y. tt) refl possible
@@ -284,10 +284,10 @@ module _ {P Q K A B D : Type 0} (w : Ways P Q K A B D) where
 
     -- The next group goes out.
 
-    first_unused : (s t : Clients P Q K) (askers : Ticket → List ℕ) (rest : List Answer) (h : List Event) (ticket : Ticket) → IsFirst s t ticket → Arisen w s askers rest h → IsUnused h ticket
+    first_unused : (s t : Clients P) (askers : Ticket → List ℕ) (rest : List Answer) (h : List Event) (ticket : Ticket) → IsFirst s t ticket → Arisen w s askers rest h → IsUnused h ticket
     first_unused s t askers rest h ticket is f r sent = let low = (f.fresh ticket.line).sent ticket r sent (refl, is.beat) in let own = is.number in omega (arith, low, own)
 
-    first_fresh : (s t : Clients P Q K) (askers : Ticket → List ℕ) (rest : List Answer) (h : List Event) (ticket : Ticket) (r : Request) → IsFirst s t ticket → asks_of t ≡ asks_of s → Arisen w s askers rest h
+    first_fresh : (s t : Clients P) (askers : Ticket → List ℕ) (rest : List Answer) (h : List Event) (ticket : Ticket) (r : Request) → IsFirst s t ticket → asks_of t ≡ asks_of s → Arisen w s askers rest h
         → (n : ℕ) → IsFreshFor n false (next_at (nexts_of t) n) (next_at (asks_of t) n) (Sent ticket r ∷ h)
     first_fresh s t askers rest h ticket r is asks f n = fresh_on n false (next_at (nexts_of t) n) (next_at (asks_of t) n) (Sent ticket r) h
         (λ u q e of. below u (sent_ticket ticket u r q e) of.0)
@@ -298,7 +298,7 @@ module _ {P Q K A B D : Type 0} (w : Ways P Q K A B D) where
         below : (u : Ticket) → ticket ≡ u → u.line ≡ n → u.number < next_at (nexts_of t) n
         below u e of = subst (λ i. u.number < next_at (nexts_of t) i) of (subst (λ (v : Ticket). v.number < next_at (nexts_of t) v.line) e is.past)
 
-    pub group_arises : (s m t : Clients P Q K) (client : ℕ) (request : TsoRequest) (ticket : Ticket) (lines : List ℕ) (askers : Ticket → List ℕ) (h : List Event) → IsFirst s t ticket → rows_of t ≡ rows_of s → asks_of t ≡ asks_of s
+    pub group_arises : (s m t : Clients P) (client : ℕ) (request : TsoRequest) (ticket : Ticket) (lines : List ℕ) (askers : Ticket → List ℕ) (h : List Event) → IsFirst s t ticket → rows_of t ≡ rows_of s → asks_of t ≡ asks_of s
         → GroupsNext (Some request) (book_at s client) (book_at m client) → book_at t client ≡ record (book_at m client) { ticket = Some ticket } → ((c : ℕ) → c ≢ client → book_at t c ≡ book_at s c)
         → lines ≡ map (λ (a : Asker). a.line) (group_or_none (book_at t client).out)
         → Arisen w s askers [] h → Arisen w t (with_group ticket lines askers) [] (Sent ticket (Tso request) ∷ h)
@@ -359,7 +359,7 @@ module _ {P Q K A B D : Type 0} (w : Ways P Q K A B D) where
             others u (λ same. unused sent.0 (subst (λ v. Has h (Sent v sent.0)) (sym same) sent.1)) ∙ f.draws.groups c u group ticketed grouped
 
     -- or none does
-    pub none_sends : (s t : Clients P Q K) (client : ℕ) (ps : List Posting) (es : List Ending) (at : ℕ → CallOf) → GroupsNext None (book_at s client) (book_at t client) → ((c : ℕ) → c ≢ client → book_at t c ≡ book_at s c)
+    pub none_sends : (s t : Clients P) (client : ℕ) (ps : List Posting) (es : List Ending) (at : ℕ → CallOf) → GroupsNext None (book_at s client) (book_at t client) → ((c : ℕ) → c ≢ client → book_at t c ≡ book_at s c)
         → rows_of t ≡ rows_of s → nexts_of t ≡ nexts_of s → asks_of t ≡ asks_of s → LeadsSent w ps ps es es at s t
     none_sends s t client ps es at next books rows nexts asks askers h f = (
       askers,
@@ -380,7 +380,7 @@ module _ {P Q K A B D : Type 0} (w : Ways P Q K A B D) where
         same c (inl e) = ap (book_at t) e ∙ next.none refl ∙ ap (book_at s) (sym e)
         same c (inr apart) = books c apart
 
-    pub group_sends : (s m t : Clients P Q K) (client : ℕ) (request : TsoRequest) (lines : List ℕ) (ps qs : List Posting) (es fs : List Ending) (at : ℕ → CallOf) → GroupsNext (Some request) (book_at s client) (book_at m client) → ((c : ℕ) → c ≢ client → book_at m c ≡ book_at s c)
+    pub group_sends : (s m t : Clients P) (client : ℕ) (request : TsoRequest) (lines : List ℕ) (ps qs : List Posting) (es fs : List Ending) (at : ℕ → CallOf) → GroupsNext (Some request) (book_at s client) (book_at m client) → ((c : ℕ) → c ≢ client → book_at m c ≡ book_at s c)
         → rows_of m ≡ rows_of s → nexts_of m ≡ nexts_of s → asks_of m ≡ asks_of s → SendsGroup client ps qs m t → PostsGroup client request lines ps qs t → rows_of t ≡ rows_of m → fs ≡ es → LeadsSent w ps qs es fs at s t
     group_sends s m t client request lines ps qs es fs at next books rows nexts asks sends posts rows_too ended askers h f =
         let noted = map (λ (a : Asker). a.line) (group_or_none (book_at t client).out) in (
@@ -411,30 +411,30 @@ module _ {P Q K A B D : Type 0} (w : Ways P Q K A B D) where
 
 -- One of the clients is replaced.
 
-module _ {P Q K : Type 0} where
-  pub next_put : (s : Clients P Q K) (client : ℕ) (request : Option TsoRequest) (new d : ClientState) → client < length (crashed_of s) → d ≡ get_or s.clients.items client d
+module _ {P : Type 0} where
+  pub next_put : (s : Clients P) (client : ℕ) (request : Option TsoRequest) (new d : ClientState) → client < length (crashed_of s) → d ≡ get_or s.clients.items client d
       → GroupsNext request (book_of d) (book_of new) → GroupsNext request (book_at s client) (get_or (map book_of (set s.clients.items client new)) client blank)
   next_put s client request new d h e k =
       subst (λ b. GroupsNext request b (get_or (map book_of (set s.clients.items client new)) client blank)) (sym (book_there s.clients.items client d h e))
       (subst (GroupsNext request (book_of d)) (sym (book_put s.clients.items client new h)) k)
 
-  pub answered_there : (s : Clients P Q K) (client : ℕ) (d : ClientState) (x : Reply) (given : List Answer) → client < length (crashed_of s) → d ≡ get_or s.clients.items client d
+  pub answered_there : (s : Clients P) (client : ℕ) (d : ClientState) (x : Reply) (given : List Answer) → client < length (crashed_of s) → d ≡ get_or s.clients.items client d
       → ((times : TsoResponse) → x ≡ replies.Tso times → given ≡ answered times d.oracle) → (times : TsoResponse) → x ≡ replies.Tso times → given ≡ answered times (oracle_of (book_at s client))
   answered_there s client d x given h e granted times is = granted times is ∙ ap (λ (b : Book). answered times (oracle_of b)) (sym (book_there s.clients.items client d h e))
 
 -- Those of a group are told their answers, one after another.
 
 -- what led so far, where these answers are left
-abbrev pub LeadsGiving : {P Q K A B D : Type 0} → Ways P Q K A B D → List Answer → List Answer → List Posting → List Posting → List Ending → List Ending → Clients P Q K → Clients P Q K → Type 0
+abbrev pub LeadsGiving : {P : Type 0} → Ways P → List Answer → List Answer → List Posting → List Posting → List Ending → List Ending → Clients P → Clients P → Type 0
 LeadsGiving w given left from to ended over s t =
     (askers : Ticket → List ℕ) (h : List Event) → Arisen w s askers given h → Leads w askers left from to ended over (heard_by s) s t (seen h) h Anyhow
 
 pub plain_asker : (a : Asker) → a.beat ≡ false → record { line = a.line; beat = false; ask = a.ask } ≡ a
 plain_asker a e = λ i. record { line = a.line; beat = sym e i; ask = a.ask }
 
-module _ {P Q K A B D : Type 0} (w : Ways P Q K A B D) where
+module _ {P : Type 0} (w : Ways P) where
   -- where nothing was posted and nothing had ended before them
-  pub gives_next : (s m t : Clients P Q K) (askers : Ticket → List ℕ) (rest left : List Answer) (ps qs rs vs : List Posting) (es fs gs : List Ending) (h : List Event) → Goes vs fs (sight_of s) (sight_of m) → Goes rs gs (sight_of s) (sight_of t)
+  pub gives_next : (s m t : Clients P) (askers : Ticket → List ℕ) (rest left : List Answer) (ps qs rs vs : List Posting) (es fs gs : List Ending) (h : List Event) → Goes vs fs (sight_of s) (sight_of m) → Goes rs gs (sight_of s) (sight_of t)
       → (f : Leads w askers rest ps qs es fs (heard_by s) s m (seen h) h Anyhow) → Leads w askers left qs rs fs gs (heard_by m) m t (seen f.later) f.later Anyhow
       → Leads w askers left ps rs es gs (heard_by s) s t (seen h) h Anyhow
   gives_next s m t askers rest left ps qs rs vs es fs gs h before whole f g =

@@ -10,7 +10,7 @@ use Rattle.txn_history.specs.Phase.Awaited.{ReplyTo, EndOf, TimeOf}
 use Rattle.txn_history.specs.Phase.{IsPosted as IsErrand}
 use Rattle.txn_history.specs.Phase.{awaited}
 use Rattle.txn_history.specs.Posted.{AreNumbered, Errand}
-use Rattle.txn_commit.specs.Committing.{Ways}
+use Rattle.txn_commit.specs.Ways.{Ways}
 use Rattle.txn_kv.specs.declared.outbox.Errand.TheVariants.{Send, Sleep, Ask}
 use Rattle.txn_kv.specs.declared.request.Request.{Request}
 use Rattle.txn_kv.specs.declared.ticket.Target.{Target}
@@ -168,8 +168,8 @@ numbered_more line end olds news (Ask n) rest e h = record { ask = h.ask + 1; en
 pub numbered_end : (next end : ℕ) → IsNumberedTo next [] end → end ≡ next
 numbered_end next end h = h.numbered.0
 
-module _ {P Q K : Type 0} where
-  pub hands_nothing : (line client : ℕ) (all : List Errand) (ps : List Posting) (s : Clients P Q K) → HandsOn line client all all ps ps s s
+module _ {P : Type 0} where
+  pub hands_nothing : (line client : ℕ) (all : List Errand) (ps : List Posting) (s : Clients P) → HandsOn line client all all ps ps s s
   hands_nothing line client all ps s = record {
     posted = keeps_none ps;
     done = λ a h. inr h;
@@ -183,12 +183,12 @@ module _ {P Q K : Type 0} where
     books = λ c apart. refl;
   }
 
-  done_more : (s t : Clients P Q K) (ps qs : List Posting) (line client : ℕ) (a : Awaited) → Keeps ps qs → ((n k : ℕ) → HasAsk (book_at s client).queue n k → HasAsk (book_at t client).queue n k) → IsDone s ps line client a → IsDone t qs line client a
+  done_more : (s t : Clients P) (ps qs : List Posting) (line client : ℕ) (a : Awaited) → Keeps ps qs → ((n k : ℕ) → HasAsk (book_at s client).queue n k → HasAsk (book_at t client).queue n k) → IsDone s ps line client a → IsDone t qs line client a
   done_more s t ps qs line client (ReplyTo n) keeps queued h = keeps_any _ ps qs keeps h
   done_more s t ps qs line client (EndOf n) keeps queued h = keeps_any _ ps qs keeps h
   done_more s t ps qs line client (TimeOf k) keeps queued h = queued line k h
 
-  pub hands_then : (line client : ℕ) (all mid left : List Errand) (ps qs rs : List Posting) (s m t : Clients P Q K) → HandsOn line client all mid ps qs s m → HandsOn line client mid left qs rs m t → HandsOn line client all left ps rs s t
+  pub hands_then : (line client : ℕ) (all mid left : List Errand) (ps qs rs : List Posting) (s m t : Clients P) → HandsOn line client all mid ps qs s m → HandsOn line client mid left qs rs m t → HandsOn line client all left ps rs s t
   hands_then line client all mid left ps qs rs s m t f g = record {
     posted = keeps_then ps qs rs f.posted g.posted;
     sent = λ n store r i. elim (f.sent n store r i) [ inl a ↦ inl (keeps_any _ qs rs g.posted a) | inr j ↦ g.sent n store r j ];
@@ -202,11 +202,11 @@ module _ {P Q K : Type 0} where
     books = λ c apart. g.books c apart ∙ f.books c apart;
   }
 
-  nexts_there : (s : Clients P Q K) (line : ℕ) → IsLine (sight_of s).stands line → line ≤ length (nexts_of s)
+  nexts_there : (s : Clients P) (line : ℕ) → IsLine (sight_of s).stands line → line ≤ length (nexts_of s)
   nexts_there s line is = let last = is.last in let long = count s in let short = length-map s.places.items (λ p. p.next) in omega (arith, last, long, short)
 
   -- one is posted that is waited for so
-  pub hands_posted : (line client : ℕ) (r : Errand) (a : side.Awaited) (rest : List Errand) (ps qs : List Posting) (s t : Clients P Q K) → IsLine (sight_of s).stands line
+  pub hands_posted : (line client : ℕ) (r : Errand) (a : side.Awaited) (rest : List Errand) (ps qs : List Posting) (s t : Clients P) → IsLine (sight_of s).stands line
       → ((b : Awaited) → awaited r ≡ b → IsPosted qs line a → IsDone t qs line client b) → ((n : ℕ) (store : Target) (x : Request) → r ≡ Send n store x → Any (IsSend (record { line = line; beat = false; number = n }) x) qs)
       → PostsOne line a ps qs → nexts_of t ≡ with_next (nexts_of s) line → next_after r (next_at (nexts_of s) line) ≡ next_at (nexts_of s) line + 1 → asks_of t ≡ asks_of s → t.clients ≡ s.clients
       → HandsOn line client (r ∷ rest) rest ps qs s t
@@ -226,17 +226,17 @@ module _ {P Q K : Type 0} where
       same : (c : ℕ) → book_at t c ≡ book_at s c
       same = books_same s t clients
 
-  pub hands_sent : (line client n : ℕ) (whom : Target) (x : Request) (rest : List Errand) (ps qs : List Posting) (s t : Clients P Q K) → IsLine (sight_of s).stands line → Any (IsSend (record { line = line; beat = false; number = n }) x) qs → PostsOne line (SideReply n) ps qs → nexts_of t ≡ with_next (nexts_of s) line → asks_of t ≡ asks_of s → t.clients ≡ s.clients
+  pub hands_sent : (line client n : ℕ) (whom : Target) (x : Request) (rest : List Errand) (ps qs : List Posting) (s t : Clients P) → IsLine (sight_of s).stands line → Any (IsSend (record { line = line; beat = false; number = n }) x) qs → PostsOne line (SideReply n) ps qs → nexts_of t ≡ with_next (nexts_of s) line → asks_of t ≡ asks_of s → t.clients ≡ s.clients
       → HandsOn line client (Send n whom x ∷ rest) rest ps qs s t
   hands_sent line client n whom x rest ps qs s t is mail posts nexts asks clients = hands_posted line client (Send n whom x) (SideReply n) rest ps qs s t is (λ b e h. subst (IsDone t qs line client) e h)
       (λ m store y e. let number : n ≡ m = cc in let same : x ≡ y = cc in subst (λ k. Any (IsSend (record { line = line; beat = false; number = k }) y) qs) number (subst (λ z. Any (IsSend (record { line = line; beat = false; number = n }) z) qs) same mail)) posts nexts refl asks clients
 
-  pub hands_slept : (line client n ms : ℕ) (rest : List Errand) (ps qs : List Posting) (s t : Clients P Q K) → IsLine (sight_of s).stands line → PostsOne line (SideEnd n) ps qs → nexts_of t ≡ with_next (nexts_of s) line → asks_of t ≡ asks_of s → t.clients ≡ s.clients
+  pub hands_slept : (line client n ms : ℕ) (rest : List Errand) (ps qs : List Posting) (s t : Clients P) → IsLine (sight_of s).stands line → PostsOne line (SideEnd n) ps qs → nexts_of t ≡ with_next (nexts_of s) line → asks_of t ≡ asks_of s → t.clients ≡ s.clients
       → HandsOn line client (Sleep n ms ∷ rest) rest ps qs s t
   hands_slept line client n ms rest ps qs s t is posts nexts asks clients = hands_posted line client (Sleep n ms) (SideEnd n) rest ps qs s t is (λ b e h. subst (IsDone t qs line client) e h) (λ m store y e. absurd (cc)) posts nexts refl asks clients
 
   -- one is asked of the oracle
-  pub hands_asked : (line client k : ℕ) (rest : List Errand) (ps : List Posting) (s t : Clients P Q K) → AsksOne client (record { line = line; beat = false; ask = k }) s t → nexts_of t ≡ nexts_of s → HandsOn line client (Ask k ∷ rest) rest ps ps s t
+  pub hands_asked : (line client k : ℕ) (rest : List Errand) (ps : List Posting) (s t : Clients P) → AsksOne client (record { line = line; beat = false; ask = k }) s t → nexts_of t ≡ nexts_of s → HandsOn line client (Ask k ∷ rest) rest ps ps s t
   hands_asked line client k rest ps s t asks nexts = record {
     posted = keeps_none ps;
     sent = λ m store y i. elim i [ inl e ↦ absurd (cc) | inr j ↦ inr j ];
@@ -263,16 +263,16 @@ quiet_so b (inl none) (inr (x, e)) = absurd (two (sym none ∙ e))
     two q = cc
 quiet_so b (inr t) (inr there) = inr t
 
-module _ {P Q K A B D : Type 0} (w : Ways P Q K A B D) (p : IsLawful w.prewriting) (q : IsLawful w.committing) (k : IsLawful w.rolling) where
+module _ {P : Type 0} (w : Ways P) (p : IsLawful w.plan) where
   -- What holds where rows are the same, and numbers have risen.
-  pub grown_sound : (trace : Option Trace) (s t : Clients P Q K) (rest left : List Asker) → rows_of t ≡ rows_of s → crashed_of t ≡ crashed_of s → IsRisen (nexts_of s) (nexts_of t) → asks_of t ≡ asks_of s
+  pub grown_sound : (trace : Option Trace) (s t : Clients P) (rest left : List Asker) → rows_of t ≡ rows_of s → crashed_of t ≡ crashed_of s → IsRisen (nexts_of s) (nexts_of t) → asks_of t ≡ asks_of s
       → ((c n i : ℕ) → IsAskedIn (book_at s c) n i ⊎ HasAsk rest n i → IsAskedIn (book_at t c) n i ⊎ HasAsk left n i) → ((c : ℕ) → IsPaired (book_at t c)) → ((c : ℕ) (u : Ticket) → (book_at t c).ticket ≡ Some u → IsOwned (stands_of (rows_of s)) c u)
       → ((c : ℕ) (u : Ticket) → (book_at t c).ticket ≡ Some u → ((book_at s c).ticket ≡ Some u) ⊎ ((u.number < next_at (nexts_of t) u.line) × (Wants w (rows_of s) u.line (ReplyTo u.number) → ⊥)))
       → IsSound w trace rest s → IsSound w trace left t
   grown_sound trace s t rest left rows crashed risen asks asked paired owned named sound = record {
     told = subst (AreToldIn trace) (sym stands) sound.told;
     arisen = λ i. subst (λ rs. RowArises w trace (suc i) (posted_at (nexts_of t) (asks_of t) (voice_at rs i)) (nexts_of t) (row_at rs i)) (sym rows)
-        (row_later w p q k trace (suc i) (row_at (rows_of s) i) _ _ (nexts_of s) (nexts_of t) (record { line = refl; beat = refl; next = risen (voice_at (rows_of s) i); next_ask = le_of _ _ (ap (λ ns. next_at ns (voice_at (rows_of s) i)) (sym asks)) }) risen (sound.arisen i));
+        (row_later w p trace (suc i) (row_at (rows_of s) i) _ _ (nexts_of s) (nexts_of t) (record { line = refl; beat = refl; next = risen (voice_at (rows_of s) i); next_ask = le_of _ _ (ap (λ ns. next_at ns (voice_at (rows_of s) i)) (sym asks)) }) risen (sound.arisen i));
     called = subst AreCalled (sym stands) sound.called;
     known = λ n c e. subst (λ cs. c < length cs) (sym crashed) (sound.known n c (ap (λ ss. client_at (stand_at ss n)) (sym stands) ∙ e));
     asked = λ n c i e l x. asked c n i (sound.asked n c i (ap (λ ss. client_at (stand_at ss n)) (sym stands) ∙ e) (ap (λ cs. lives cs (Some c)) (sym crashed) ∙ l) (subst (λ rs. Wants w rs n (TimeOf i)) rows x));
@@ -287,7 +287,7 @@ module _ {P Q K A B D : Type 0} (w : Ways P Q K A B D) (p : IsLawful w.prewritin
       stands = ap stands_of rows
 
   -- no group goes out
-  pub none_goes : {X : Type 0} (trace : Option Trace) (s t : Clients P Q K) (client : ℕ) (rest : List Asker) (ps : List Posting) (group : Option X) → RegroupsAt client group s t → group ≡ None → rows_of t ≡ rows_of s → nexts_of t ≡ nexts_of s → crashed_of t ≡ crashed_of s
+  pub none_goes : {X : Type 0} (trace : Option Trace) (s t : Clients P) (client : ℕ) (rest : List Asker) (ps : List Posting) (group : Option X) → RegroupsAt client group s t → group ≡ None → rows_of t ≡ rows_of s → nexts_of t ≡ nexts_of s → crashed_of t ≡ crashed_of s
       → IsSound w (posting_in ps trace) rest s → SendsOn w trace client rest ps ps s t
   none_goes trace s t client rest ps group g none rows nexts crashed sound = record {
     sound = grown_sound (posting_in ps trace) s t rest rest rows crashed (λ n. le_of _ _ (ap (λ ns. next_at ns n) (sym nexts))) g.asks (λ c n i h. subst (λ b. IsAskedIn b n i ⊎ HasAsk rest n i) (sym (same c)) h) (λ c. subst IsPaired (sym (same c)) (sound.paired c))
@@ -304,7 +304,7 @@ module _ {P Q K A B D : Type 0} (w : Ways P Q K A B D) (p : IsLawful w.prewritin
       same c = elim (same_line client c) [ inl e ↦ ap (book_at t) e ∙ kept.0 ∙ ap (book_at s) (sym e) | inr apart ↦ g.books c apart ]
 
   -- or one does
-  pub group_goes : {X : Type 0} (trace : Option Trace) (s m t : Clients P Q K) (client : ℕ) (rest : List Asker) (ps qs : List Posting) (group : Option X) → RegroupsAt client group s m → rows_of m ≡ rows_of s → nexts_of m ≡ nexts_of s → crashed_of m ≡ crashed_of s
+  pub group_goes : {X : Type 0} (trace : Option Trace) (s m t : Clients P) (client : ℕ) (rest : List Asker) (ps qs : List Posting) (group : Option X) → RegroupsAt client group s m → rows_of m ≡ rows_of s → nexts_of m ≡ nexts_of s → crashed_of m ≡ crashed_of s
       → SendsGroup client ps qs m t → rows_of t ≡ rows_of m → crashed_of t ≡ crashed_of m
       → IsSound w (posting_in ps trace) rest s → SendsOn w trace client rest ps qs s t
   group_goes trace s m t client rest ps qs group g rows nexts crashed sent rows_too crashed_too sound = record {
@@ -346,14 +346,14 @@ module _ {P Q K A B D : Type 0} (w : Ways P Q K A B D) (p : IsLawful w.prewritin
           one h = cc
 
           fresh : Wants w (rows_of s) sent.ticket.line (ReplyTo sent.ticket.number) → ⊥
-          fresh x = let l = wants_below w p q k (posting_in ps trace) s rest sent.ticket.line sent.ticket.number sound x in let own = sent.number in let f : next_at (nexts_of m) sent.ticket.line ≡ next_at (nexts_of s) sent.ticket.line = ap (λ ns. next_at ns sent.ticket.line) nexts in omega (arith, l, own, f)
+          fresh x = let l = wants_below w p (posting_in ps trace) s rest sent.ticket.line sent.ticket.number sound x in let own = sent.number in let f : next_at (nexts_of m) sent.ticket.line ≡ next_at (nexts_of s) sent.ticket.line = ap (λ ns. next_at ns sent.ticket.line) nexts in omega (arith, l, own, f)
 
           by : (c ≡ client) ⊎ (c ≢ client) → ((book_at s c).ticket ≡ Some u) ⊎ ((u.number < next_at (nexts_of t) u.line) × (Wants w (rows_of s) u.line (ReplyTo u.number) → ⊥))
           by (inl f) = inr (subst (λ v. (v.number < next_at (nexts_of t) v.line) × (Wants w (rows_of s) v.line (ReplyTo v.number) → ⊥)) (one (sym (ap (λ (b : Book). b.ticket) sent.book) ∙ ap (λ j. (book_at t j).ticket) (sym f) ∙ e)) (sent.past, fresh))
           by (inr apart) = inl (ap (λ (b : Book). b.ticket) (sym (sent.books c apart ∙ g.books c apart)) ∙ e)
 
   -- a request is over
-  pub take_sound : (trace : Option Trace) (s t : Clients P Q K) (client : ℕ) (given : List Answer) → Takes client given s t → rows_of t ≡ rows_of s → nexts_of t ≡ nexts_of s → crashed_of t ≡ crashed_of s → IsSound w trace [] s → IsSound w trace (map (λ (a : Answer). a.0) given) t
+  pub take_sound : (trace : Option Trace) (s t : Clients P) (client : ℕ) (given : List Answer) → Takes client given s t → rows_of t ≡ rows_of s → nexts_of t ≡ nexts_of s → crashed_of t ≡ crashed_of s → IsSound w trace [] s → IsSound w trace (map (λ (a : Answer). a.0) given) t
   take_sound trace s t client given takes rows nexts crashed sound =
       grown_sound trace s t [] (map (λ (a : Answer). a.0) given) rows crashed (λ n. le_of _ _ (ap (λ ns. next_at ns n) (sym nexts))) takes.asks asked paired owned named sound
     where
@@ -397,48 +397,48 @@ module _ {P Q K A B D : Type 0} (w : Ways P Q K A B D) (p : IsLawful w.prewritin
               two h = cc
           by (inr apart) = inl (ap (λ (b : Book). b.ticket) (sym (takes.books c apart)) ∙ e)
 
-module _ {P Q K : Type 0} where
+module _ {P : Type 0} where
   -- a client asks once more
-  pub asked_one : (s t : Clients P Q K) (client : ℕ) (asker : Asker) (new d : ClientState) → t.clients.items ≡ set s.clients.items client new → t.places ≡ s.places → client < length (crashed_of s) → d ≡ get_or s.clients.items client d
+  pub asked_one : (s t : Clients P) (client : ℕ) (asker : Asker) (new d : ClientState) → t.clients.items ≡ set s.clients.items client new → t.places ≡ s.places → client < length (crashed_of s) → d ≡ get_or s.clients.items client d
       → book_of new ≡ record (book_of d) { queue = (book_of d).queue ++ asker ∷ [] } → AsksOne client asker s t
   asked_one s t client asker new d items places h e k = record {
     book = ap (λ cs. get_or (map book_of cs) client blank) items ∙ book_put s.clients.items client new h ∙ k ∙ ap (λ (b : Book). record b { queue = b.queue ++ asker ∷ [] }) (sym (book_there s.clients.items client d h e));
     books = λ c apart. ap (λ cs. get_or (map book_of cs) c blank) items ∙ book_other s.clients.items client new c apart;
-    asks = ap (λ v. map (λ (p : Place P Q K). p.next_ask) v.items) places;
+    asks = ap (λ v. map (λ (p : Place P). p.next_ask) v.items) places;
   }
 
   -- its group goes out next
-  pub regrouped : {X : Type 0} (s t : Clients P Q K) (client : ℕ) (group : Option X) (new d : ClientState) → t.clients.items ≡ set s.clients.items client new → t.places ≡ s.places → client < length (crashed_of s) → d ≡ get_or s.clients.items client d
+  pub regrouped : {X : Type 0} (s t : Clients P) (client : ℕ) (group : Option X) (new d : ClientState) → t.clients.items ≡ set s.clients.items client new → t.places ≡ s.places → client < length (crashed_of s) → d ≡ get_or s.clients.items client d
       → Regroups group (book_of d) (book_of new) → RegroupsAt client group s t
   regrouped s t client group new d items places h e k = record {
     book = subst (λ b. Regroups group b (book_at t client)) (sym (book_there s.clients.items client d h e)) (subst (Regroups group (book_of d)) (sym (ap (λ cs. get_or (map book_of cs) client blank) items ∙ book_put s.clients.items client new h)) k);
     books = λ c apart. ap (λ cs. get_or (map book_of cs) c blank) items ∙ book_other s.clients.items client new c apart;
-    asks = ap (λ v. map (λ (p : Place P Q K). p.next_ask) v.items) places;
+    asks = ap (λ v. map (λ (p : Place P). p.next_ask) v.items) places;
   }
 
   -- its group is over
-  pub taken : (s t : Clients P Q K) (client : ℕ) (given : List Answer) (new d : ClientState) → t.clients.items ≡ set s.clients.items client new → t.places ≡ s.places → client < length (crashed_of s) → d ≡ get_or s.clients.items client d
+  pub taken : (s t : Clients P) (client : ℕ) (given : List Answer) (new d : ClientState) → t.clients.items ≡ set s.clients.items client new → t.places ≡ s.places → client < length (crashed_of s) → d ≡ get_or s.clients.items client d
       → book_of new ≡ record (book_of d) { out = None; ticket = None } → map (λ (a : Answer). a.0) given ≡ group_or_none (book_of d).out → Takes client given s t
   taken s t client given new d items places h e k askers = record {
     askers = askers ∙ ap (λ (b : Book). group_or_none b.out) (sym (book_there s.clients.items client d h e));
     book = ap (λ cs. get_or (map book_of cs) client blank) items ∙ book_put s.clients.items client new h ∙ k ∙ ap (λ (b : Book). record b { out = None; ticket = None }) (sym (book_there s.clients.items client d h e));
     books = λ c apart. ap (λ cs. get_or (map book_of cs) c blank) items ∙ book_other s.clients.items client new c apart;
-    asks = ap (λ v. map (λ (p : Place P Q K). p.next_ask) v.items) places;
+    asks = ap (λ v. map (λ (p : Place P). p.next_ask) v.items) places;
   }
 
   -- its request has a ticket
-  pub ticketed : (s t : Clients P Q K) (client : ℕ) (ticket : Ticket) (d : ClientState) → t.clients.items ≡ set s.clients.items client (record d { group = Some ticket }) → t.places ≡ s.places → client < length (crashed_of s) → d ≡ get_or s.clients.items client d
+  pub ticketed : (s t : Clients P) (client : ℕ) (ticket : Ticket) (d : ClientState) → t.clients.items ≡ set s.clients.items client (record d { group = Some ticket }) → t.places ≡ s.places → client < length (crashed_of s) → d ≡ get_or s.clients.items client d
       → SetsTicket client ticket s t
   ticketed s t client ticket d items places h e = record {
     book = ap (λ cs. get_or (map book_of cs) client blank) items ∙ book_put s.clients.items client (record d { group = Some ticket }) h ∙ ap (λ (b : Book). record b { ticket = Some ticket }) (sym (book_there s.clients.items client d h e));
     books = λ c apart. ap (λ cs. get_or (map book_of cs) c blank) items ∙ book_other s.clients.items client (record d { group = Some ticket }) c apart;
-    asks = ap (λ v. map (λ (p : Place P Q K). p.next_ask) v.items) places;
+    asks = ap (λ v. map (λ (p : Place P). p.next_ask) v.items) places;
   }
 
 -- A request for timestamps is posted, and has its ticket
 
-module _ {P Q K : Type 0} where
-  pub group_sent : (s m t : Clients P Q K) (client line : ℕ) (ticket : Ticket) (posting : Posting) (ps qs : List Posting) → IsLine (sight_of s).stands line → client_at (stand_at (sight_of s).stands line) ≡ Some client → ticket.line ≡ line → ticket.beat ≡ false → IsNext (sight_of s).nexts ticket
+module _ {P : Type 0} where
+  pub group_sent : (s m t : Clients P) (client line : ℕ) (ticket : Ticket) (posting : Posting) (ps qs : List Posting) → IsLine (sight_of s).stands line → client_at (stand_at (sight_of s).stands line) ≡ Some client → ticket.line ≡ line → ticket.beat ≡ false → IsNext (sight_of s).nexts ticket
       → qs ≡ ps ++ posting ∷ [] → nexts_of m ≡ with_next (nexts_of s) line → asks_of m ≡ asks_of s → m.clients ≡ s.clients → rows_of m ≡ rows_of s → nexts_of t ≡ nexts_of m → rows_of t ≡ rows_of m → SetsTicket client ticket m t → SendsGroup client ps qs s t
   group_sent s m t client line ticket posting ps qs is own of beat next pushed nexts asks clients rows nexts_t rows_t sets = record {
     ticket = ticket;

@@ -32,8 +32,8 @@ askers_append line (Ask n ∷ rs) qs = ap (λ (xs : List Asker). record { line =
 behind_two : {X : Type 0} (xs ys zs us vs ws : List X) → us ≡ xs ++ ys → vs ≡ us ++ zs → ws ≡ ys ++ zs → vs ≡ xs ++ ws
 behind_two xs ys zs us vs ws e f g = f ∙ ap (λ ts. ts ++ zs) e ∙ append_assoc xs ys zs ∙ ap (λ ts. xs ++ ts) (sym g)
 
-module _ {P Q K : Type 0} where
-  pub all_nothing : (line client : ℕ) (all : List Errand) (ps : List Posting) (s : Clients P Q K) → HandsAll line client all all ps ps s s
+module _ {P : Type 0} where
+  pub all_nothing : (line client : ℕ) (all : List Errand) (ps : List Posting) (s : Clients P) → HandsAll line client all all ps ps s s
   all_nothing line client all ps s = record {
     done = [];
     all_are = refl;
@@ -42,7 +42,7 @@ module _ {P Q K : Type 0} where
     nexts = λ n apart. refl;
   }
 
-  pub all_then : (line client : ℕ) (all mid left : List Errand) (ps qs rs : List Posting) (s m t : Clients P Q K) → HandsAll line client all mid ps qs s m → HandsAll line client mid left qs rs m t → HandsAll line client all left ps rs s t
+  pub all_then : (line client : ℕ) (all mid left : List Errand) (ps qs rs : List Posting) (s m t : Clients P) → HandsAll line client all mid ps qs s m → HandsAll line client mid left qs rs m t → HandsAll line client all left ps rs s t
   all_then line client all mid left ps qs rs s m t f g = record {
     done = f.done ++ g.done;
     all_are = f.all_are ∙ ap (λ es. f.done ++ es) g.all_are ∙ sym (append_assoc f.done g.done left);
@@ -51,13 +51,13 @@ module _ {P Q K : Type 0} where
     nexts = λ n apart. g.nexts n apart ∙ f.nexts n apart;
   }
 
-  same_queue : (s t : Clients P Q K) (client : ℕ) → t.clients ≡ s.clients → (book_at t client).queue ≡ (book_at s client).queue ++ []
+  same_queue : (s t : Clients P) (client : ℕ) → t.clients ≡ s.clients → (book_at t client).queue ≡ (book_at s client).queue ++ []
   same_queue s t client clients = ap (λ (b : Book). b.queue) (books_same s t clients client) ∙ sym (append-nil (book_at s client).queue)
 
-  raised_next : (s t : Clients P Q K) (line : ℕ) → IsLine (sight_of s).stands line → nexts_of t ≡ with_next (nexts_of s) line → (n : ℕ) → n ≢ line → next_at (nexts_of t) n ≡ next_at (nexts_of s) n
+  raised_next : (s t : Clients P) (line : ℕ) → IsLine (sight_of s).stands line → nexts_of t ≡ with_next (nexts_of s) line → (n : ℕ) → n ≢ line → next_at (nexts_of t) n ≡ next_at (nexts_of s) n
   raised_next s t line is nexts n apart = ap (λ ns. next_at ns n) nexts ∙ next_other (nexts_of s) line n (next_at (nexts_of s) line + 1) is.first apart
 
-  pub all_sent : (line client n : ℕ) (whom : Target) (x : Request) (rest : List Errand) (ps qs : List Posting) (s t : Clients P Q K) → IsLine (sight_of s).stands line
+  pub all_sent : (line client n : ℕ) (whom : Target) (x : Request) (rest : List Errand) (ps qs : List Posting) (s t : Clients P) → IsLine (sight_of s).stands line
       → qs ≡ ps ++ postings.Send (record { line = line; beat = false; number = n }) whom x [] ∷ [] → nexts_of t ≡ with_next (nexts_of s) line → t.clients ≡ s.clients
       → HandsAll line client (Send n whom x ∷ rest) rest ps qs s t
   all_sent line client n whom x rest ps qs s t is posted nexts clients = record {
@@ -68,7 +68,7 @@ module _ {P Q K : Type 0} where
     nexts = raised_next s t line is nexts;
   }
 
-  pub all_slept : (line client n ms : ℕ) (rest : List Errand) (ps qs : List Posting) (s t : Clients P Q K) → IsLine (sight_of s).stands line
+  pub all_slept : (line client n ms : ℕ) (rest : List Errand) (ps qs : List Posting) (s t : Clients P) → IsLine (sight_of s).stands line
       → qs ≡ ps ++ postings.Sleep (record { line = line; beat = false; number = n }) ∷ [] → nexts_of t ≡ with_next (nexts_of s) line → t.clients ≡ s.clients
       → HandsAll line client (Sleep n ms ∷ rest) rest ps qs s t
   all_slept line client n ms rest ps qs s t is posted nexts clients = record {
@@ -79,7 +79,7 @@ module _ {P Q K : Type 0} where
     nexts = raised_next s t line is nexts;
   }
 
-  pub all_asked : (line client k : ℕ) (rest : List Errand) (ps : List Posting) (s t : Clients P Q K) → AsksOne client (record { line = line; beat = false; ask = k }) s t → nexts_of t ≡ nexts_of s → HandsAll line client (Ask k ∷ rest) rest ps ps s t
+  pub all_asked : (line client k : ℕ) (rest : List Errand) (ps : List Posting) (s t : Clients P) → AsksOne client (record { line = line; beat = false; ask = k }) s t → nexts_of t ≡ nexts_of s → HandsAll line client (Ask k ∷ rest) rest ps ps s t
   all_asked line client k rest ps s t asks nexts = record {
     done = Ask k ∷ [];
     all_are = refl;

@@ -28,9 +28,9 @@ pub not_begun : (stands : List Stand) (x c m : ℕ) → (x ≡ 0) ⊎ (length st
 not_begun stands x c m (inl z) e = let one = (begun_line stands x c m e).first in omega (arith, one, z)
 not_begun stands x c m (inr l) e = let last = (begun_line stands x c m e).last in omega (arith, last, l)
 
-module _ {P Q K : Type 0} where
+module _ {P : Type 0} where
   -- or one that waits for another line
-  pub waits_not : (rows : List (Row P Q K)) (x line c m d : ℕ) (t : Standing P Q K) → 1 ≤ x → row_at rows (x - 1) ≡ row.Begun c t m → nat_eq m line ≡ false → stand_at (stands_of rows) x ≡ HasBegun d line → ⊥
+  pub waits_not : (rows : List (Row P)) (x line c m d : ℕ) (t : Standing P) → 1 ≤ x → row_at rows (x - 1) ≡ row.Begun c t m → nat_eq m line ≡ false → stand_at (stands_of rows) x ≡ HasBegun d line → ⊥
   waits_not rows x line c m d t one e test k = unequal (waited c d m line (ap stand_of (sym e) ∙ sym (stand_of_line rows x one) ∙ k))
     where
       unequal : m ≡ line → ⊥
@@ -42,7 +42,7 @@ module _ {P Q K : Type 0} where
           two : false ≡ true → ⊥
           two q = cc
 
-  begun_row : (r : Row P Q K) (c m : ℕ) → stand_of r ≡ HasBegun c m → ((d : ℕ) (t : Standing P Q K) (i : ℕ) → r ≡ row.Begun d t i → ⊥) → ⊥
+  begun_row : (r : Row P) (c m : ℕ) → stand_of r ≡ HasBegun c m → ((d : ℕ) (t : Standing P) (i : ℕ) → r ≡ row.Begun d t i → ⊥) → ⊥
   begun_row row.Plain c m e h = absurd (cc)
   begun_row (row.Client d) c m e h = absurd (cc)
   begun_row (row.Asking d b call) c m e h = absurd (cc)
@@ -51,11 +51,11 @@ module _ {P Q K : Type 0} where
   begun_row (row.Past d) c m e h = absurd (cc)
   begun_row (row.Working d job) c m e h = absurd (cc)
 
-  pub other_not : (rows : List (Row P Q K)) (x line c : ℕ) (r : Row P Q K) → 1 ≤ x → r ≡ row_at rows (x - 1) → ((d : ℕ) (t : Standing P Q K) (i : ℕ) → r ≡ row.Begun d t i → ⊥) → stand_at (stands_of rows) x ≡ HasBegun c line → ⊥
+  pub other_not : (rows : List (Row P)) (x line c : ℕ) (r : Row P) → 1 ≤ x → r ≡ row_at rows (x - 1) → ((d : ℕ) (t : Standing P) (i : ℕ) → r ≡ row.Begun d t i → ⊥) → stand_at (stands_of rows) x ≡ HasBegun c line → ⊥
   other_not rows x line c r one e h k = begun_row r c line (ap stand_of e ∙ sym (stand_of_line rows x one) ∙ k) h
 
   -- nobody hears for what is no call and no job
-  none_for : (stands : List Stand) (line : ℕ) (r : Row P Q K) → ((c : ℕ) (b : Bool) (call : ClientCall Pd P Q K) → r ≡ row.Asking c b call → ⊥) → ((c : ℕ) (job : SecondaryJob Q) → r ≡ row.Working c job → ⊥) → ((c x : ℕ) (b : Bool) → r ≡ row.Calling c x b → ⊥)
+  none_for : (stands : List Stand) (line : ℕ) (r : Row P) → ((c : ℕ) (b : Bool) (call : ClientCall Pd P) → r ≡ row.Asking c b call → ⊥) → ((c : ℕ) (job : SecondaryJob P) → r ≡ row.Working c job → ⊥) → ((c x : ℕ) (b : Bool) → r ≡ row.Calling c x b → ⊥)
       → NoneHears stands line (stand_of r)
   none_for stands line row.Plain f g h = tt
   none_for stands line (row.Client c) f g h = tt
@@ -65,15 +65,15 @@ module _ {P Q K : Type 0} where
   none_for stands line (row.Past c) f g h = tt
   none_for stands line (row.Working c job) f g h = absurd (g c job refl)
 
-  pub none_hears : (rows : List (Row P Q K)) (line : ℕ) (r : Row P Q K) → IsLine (stands_of rows) line → r ≡ row_at rows (line - 1) → ((c : ℕ) (b : Bool) (call : ClientCall Pd P Q K) → r ≡ row.Asking c b call → ⊥) → ((c : ℕ) (job : SecondaryJob Q) → r ≡ row.Working c job → ⊥) → ((c x : ℕ) (b : Bool) → r ≡ row.Calling c x b → ⊥)
+  pub none_hears : (rows : List (Row P)) (line : ℕ) (r : Row P) → IsLine (stands_of rows) line → r ≡ row_at rows (line - 1) → ((c : ℕ) (b : Bool) (call : ClientCall Pd P) → r ≡ row.Asking c b call → ⊥) → ((c : ℕ) (job : SecondaryJob P) → r ≡ row.Working c job → ⊥) → ((c x : ℕ) (b : Bool) → r ≡ row.Calling c x b → ⊥)
       → NoneHears (stands_of rows) line (stand_at (stands_of rows) line)
   none_hears rows line r is e f g h = subst (NoneHears (stands_of rows) line) (ap stand_of e ∙ sym (stand_of_line rows line is.first)) (none_for (stands_of rows) line r f g h)
 
-  pub call_unheard : (rows : List (Row P Q K)) (line c x : ℕ) (b : Bool) → IsLine (stands_of rows) line → row_at rows (line - 1) ≡ row.Calling c x b → ((d : ℕ) → stand_at (stands_of rows) x ≡ HasBegun d line → ⊥) → NoneHears (stands_of rows) line (stand_at (stands_of rows) line)
+  pub call_unheard : (rows : List (Row P)) (line c x : ℕ) (b : Bool) → IsLine (stands_of rows) line → row_at rows (line - 1) ≡ row.Calling c x b → ((d : ℕ) → stand_at (stands_of rows) x ≡ HasBegun d line → ⊥) → NoneHears (stands_of rows) line (stand_at (stands_of rows) line)
   call_unheard rows line c x b is e h = subst (NoneHears (stands_of rows) line) (sym (stands_at rows line (row.Calling c x b) is e)) h
 
   -- a client's request goes out, and is posted
-  pub group_posted : (s t : Clients P Q K) (client : ℕ) (h : Group) (ps qs : List Posting) (p : Posting) → qs ≡ ps ++ p ∷ [] → IsAsk h p → client < length (crashed_of s) → groups_of t ≡ set (groups_of s) client (Some h) → GroupsGo qs (sight_of s) (sight_of t)
+  pub group_posted : (s t : Clients P) (client : ℕ) (h : Group) (ps qs : List Posting) (p : Posting) → qs ≡ ps ++ p ∷ [] → IsAsk h p → client < length (crashed_of s) → groups_of t ≡ set (groups_of s) client (Some h) → GroupsGo qs (sight_of s) (sight_of t)
   group_posted s t client h ps qs p pushed ask there groups g (c, e) = elim (sent_in (groups_of s) client h g within (c, ap (λ gs. get_or gs c None) (sym groups) ∙ e)) [
     | inl o ↦ inl o
     | inr same ↦ inr (subst (Any (IsAsk g)) (sym pushed) (any_behind (IsAsk g) ps (p ∷ []) (0, p, omega arith, refl, subst (λ x. IsAsk x p) same ask)))

@@ -22,7 +22,7 @@ use Rattle.txn_history.specs.Posted.{AreNumbered, Errand, Licensed, Posted, With
 use Rattle.txn_law.specs.Run.{IsCovered, IsPossible, IsRun}
 use Rattle.txn_law.proofs.Tickets.{sent_once}
 use Rattle.txn_kv.specs.declared.arrival.Arrival.TheVariants as arrivals
-use Rattle.txn_commit.specs.Committing.{Ways}
+use Rattle.txn_commit.specs.Ways.{Ways}
 use Rattle.txn_commit.specs.Sending.{MaySend}
 use Rattle.txn_commit.specs.declared.secondary_job.SecondaryJob.{SecondaryJob}
 use Rattle.txn_report.specs.declared.outcome.Outcome.{Outcome}
@@ -147,8 +147,8 @@ hear_same (tells.Heard (arrivals.Lost n)) line nexts asks r h = refl
 hear_same (tells.Heard (arrivals.Slept n)) line nexts asks r h = refl
 hear_same (tells.Heard (arrivals.Time n x)) line nexts asks r h = refl
 
-module _ {P Q K A B D : Type 0} (w : Ways P Q K A B D) where
-  pub known_of : (told : Told) (s : Clients P Q K) (askers : Ticket → List ℕ) (rest : List Answered_to) (line : ℕ) (nexts asks : List ℕ) (r : Request) (h : List Event)
+module _ {P : Type 0} (w : Ways P) where
+  pub known_of : (told : Told) (s : Clients P) (askers : Ticket → List ℕ) (rest : List Answered_to) (line : ℕ) (nexts asks : List ℕ) (r : Request) (h : List Event)
       → CanCome told (outbox_of line) r h → Arisen w s askers (pends_answer line told rest) h → (told_of told (posted_at nexts asks line) r).known h
   known_of tells.Start s askers rest line nexts asks r h may a = tt
   known_of (tells.Act act) s askers rest line nexts asks r h may a = tt
@@ -158,7 +158,7 @@ module _ {P Q K A B D : Type 0} (w : Ways P Q K A B D) where
   known_of (tells.Heard (arrivals.Slept n)) s askers rest line nexts asks r h may a = tt
   known_of (tells.Heard (arrivals.Time n x)) s askers rest line nexts asks r h may a = tt
 
-  pub drawn_told : (told : Told) (s : Clients P Q K) (askers : Ticket → List ℕ) (rest : List Answered_to) (line v : ℕ) (h : List Event) → Tells told v → Arisen w s askers (pends_answer line told rest) h → IsDrawn askers h line v
+  pub drawn_told : (told : Told) (s : Clients P) (askers : Ticket → List ℕ) (rest : List Answered_to) (line v : ℕ) (h : List Event) → Tells told v → Arisen w s askers (pends_answer line told rest) h → IsDrawn askers h line v
   drawn_told tells.Start s askers rest line v h x a = absurd x
   drawn_told (tells.Act act) s askers rest line v h x a = absurd x
   drawn_told (tells.Heard (arrivals.Reply n o)) s askers rest line v h x a = absurd x
@@ -167,21 +167,21 @@ module _ {P Q K A B D : Type 0} (w : Ways P Q K A B D) where
   drawn_told (tells.Heard (arrivals.Time n (Ok t))) s askers rest line v h x a = subst (IsDrawn askers h line) x (a.draws.given (record { line = line; beat = false; ask = n }) t (inl refl))
   drawn_told (tells.Heard (arrivals.Time n (Err e))) s askers rest line v h x a = absurd x
 
-  module _ (p : IsLawful w.prewriting) (q : IsLawful w.committing) (k : IsLawful w.rolling) where
+  module _ (p : IsLawful w.plan) where
     -- it is put behind the history
-    pub heard : (told : Told) (s : Clients P Q K) (askers : Ticket → List ℕ) (rest : List Answered_to) (line : ℕ) (nexts asks : List ℕ) (r : Request) (h : List Event)
+    pub heard : (told : Told) (s : Clients P) (askers : Ticket → List ℕ) (rest : List Answered_to) (line : ℕ) (nexts asks : List ℕ) (r : Request) (h : List Event)
         → CanCome told (outbox_of line) r h → Arisen w s askers (pends_answer line told rest) h → Arisen w s askers rest ((told_of told (posted_at nexts asks line) r).hear h)
     heard tells.Start s askers rest line nexts asks r h may a = a
     heard (tells.Act act) s askers rest line nexts asks r h may a = a
-    heard (tells.Heard (arrivals.Reply n x)) s askers rest line nexts asks r h may a = arisen_beside w p q k s askers rest h (Took (ticket_of (outbox_of line) n) r x) tt may a
-    heard (tells.Heard (arrivals.Lost n)) s askers rest line nexts asks r h may a = arisen_beside w p q k s askers rest h (Lost (ticket_of (outbox_of line) n) r) tt may a
-    heard (tells.Heard (arrivals.Slept n)) s askers rest line nexts asks r h may a = arisen_beside w p q k s askers rest h (Slept (ticket_of (outbox_of line) n)) tt tt a
+    heard (tells.Heard (arrivals.Reply n x)) s askers rest line nexts asks r h may a = arisen_beside w p s askers rest h (Took (ticket_of (outbox_of line) n) r x) tt may a
+    heard (tells.Heard (arrivals.Lost n)) s askers rest line nexts asks r h may a = arisen_beside w p s askers rest h (Lost (ticket_of (outbox_of line) n) r) tt may a
+    heard (tells.Heard (arrivals.Slept n)) s askers rest line nexts asks r h may a = arisen_beside w p s askers rest h (Slept (ticket_of (outbox_of line) n)) tt tt a
     heard (tells.Heard (arrivals.Time n x)) s askers rest line nexts asks r h may a =
-        arisen_fewer w s askers _ rest _ (arisen_beside w p q k s askers (pends_answer line (tells.Heard (arrivals.Time n x)) rest) h (Answered (ticket_of (outbox_of line) n) x) tt a.answerable.0 a)
+        arisen_fewer w s askers _ rest _ (arisen_beside w p s askers (pends_answer line (tells.Heard (arrivals.Time n x)) rest) h (Answered (ticket_of (outbox_of line) n) x) tt a.answerable.0 a)
 
 -- What is handed on for a row that is set
 
-pub record Handed {P Q K : Type 0} (s t : Clients P Q K) (line client at : ℕ) (news : List (Row P Q K)) (to : Posted) : Type 0 where
+pub record Handed {P : Type 0} (s t : Clients P) (line client at : ℕ) (news : List (Row P)) (to : Posted) : Type 0 where
   pub is : IsLine (stands_of (rows_of s)) line
   pub rows : rows_of t ≡ news
   pub numbered : AreNumbered (next_at (nexts_of s) line) (next_at (asks_of s) line) to.sends to.next to.next_ask
@@ -195,11 +195,11 @@ pub record Handed {P Q K : Type 0} (s t : Clients P Q K) (line client at : ℕ) 
 
 -- What the row and the others have come to in the longer history, where it has posted so much
 
-pub record Rises {P Q K A B D : Type 0} (w : Ways P Q K A B D) (olds : List (Row P Q K)) (line at : ℕ) (new : Row P Q K) (to : Posted) (h : List Event) : Type 0 where
+pub record Rises {P : Type 0} (w : Ways P) (olds : List (Row P)) (line at : ℕ) (new : Row P) (to : Posted) (h : List Event) : Type 0 where
   pub starts : (v : ℕ) → HasStart v new → HasStart v (row_at olds at)
   pub stays : (v : ℕ) → HasStart v (row_at olds at) → HasStart v new
   pub plans : (plans : ℕ → Plan) → HasPlan plans new → HasPlan plans (row_at olds at)
-  pub behind : (job : SecondaryJob Q) (o : Posted) (g : List Event) → IsBehind w job o g (row_at olds at) → IsBehind w job o g new
+  pub behind : (job : SecondaryJob P) (o : Posted) (g : List Event) → IsBehind w job o g (row_at olds at) → IsBehind w job o g new
   pub right : (o : Outcome) (g : List Event) → HoldsOf g o (row_at olds at) → HoldsOf g o new
   pub licensed : (plans : ℕ → Plan) → HavePlans plans (set olds at new) → Licensed (IsLicensedInRun plans) line false h to.sends
   pub fits : (later : Posted) → IsLater to later → RowFits w (set olds at new) later (after line false h to.sends) new
@@ -207,8 +207,8 @@ pub record Rises {P Q K A B D : Type 0} (w : Ways P Q K A B D) (olds : List (Row
   pub owns : (t : Ticket) (r : CommitRequest) → Has (after line false h to.sends) (Sent t (Commit r)) → Has h (Sent t (Commit r)) ⊎ ((i : ℕ) × HasStart r.start_version (row_at (set olds at new) i))
   pub locks : (t : Ticket) (r : PessimisticLockRequest) → Has (after line false h to.sends) (Sent t (PessimisticLock r)) → Has h (Sent t (PessimisticLock r))
 
-module _ {P Q K A B D : Type 0} (w : Ways P Q K A B D) (olds : List (Row P Q K)) (line at : ℕ) (new : Row P Q K) (to : Posted) (h : List Event) (inside : at < length olds) (rises : Rises w olds line at new to h) where
-  abbrev news : List (Row P Q K)
+module _ {P : Type 0} (w : Ways P) (olds : List (Row P)) (line at : ℕ) (new : Row P) (to : Posted) (h : List Event) (inside : at < length olds) (rises : Rises w olds line at new to h) where
+  abbrev news : List (Row P)
   news = set olds at new
 
   pub here : row_at news at ≡ new
@@ -235,13 +235,13 @@ module _ {P Q K A B D : Type 0} (w : Ways P Q K A B D) (olds : List (Row P Q K))
     | inr apart ↦ subst (HasPlan plans) (there i apart) (have i)
   ]
 
-  behind_now : (i : ℕ) (job : SecondaryJob Q) (o : Posted) (g : List Event) → IsBehind w job o g (row_at olds i) → IsBehind w job o g (row_at news i)
+  behind_now : (i : ℕ) (job : SecondaryJob P) (o : Posted) (g : List Event) → IsBehind w job o g (row_at olds i) → IsBehind w job o g (row_at news i)
   behind_now i job o g b = elim (same_line at i) [
     | inl e ↦ subst (λ j. IsBehind w job o g (row_at news j)) (sym e) (subst (IsBehind w job o g) (sym here) (rises.behind job o g (subst (λ j. IsBehind w job o g (row_at olds j)) e b)))
     | inr apart ↦ subst (IsBehind w job o g) (sym (there i apart)) b
   ]
 
-  fits_now : (o : Posted) (g : List Event) (r : Row P Q K) → RowFits w olds o g r → RowFits w news o g r
+  fits_now : (o : Posted) (g : List Event) (r : Row P) → RowFits w olds o g r → RowFits w news o g r
   fits_now o g row.Plain f = tt
   fits_now o g (row.Client c) f = tt
   fits_now o g (row.Asking c b call) f = f
@@ -256,7 +256,7 @@ module _ {P Q K A B D : Type 0} (w : Ways P Q K A B D) (olds : List (Row P Q K))
     | inr apart ↦ subst (HoldsOf g o) (sym (there i apart)) x
   ])
 
-module _ {P Q K A B D : Type 0} (w : Ways P Q K A B D) (s t : Clients P Q K) (line client at : ℕ) (new : Row P Q K) (to : Posted) (h : List Event) (inside : at < length (rows_of s)) (handed : Handed s t line client at (set (rows_of s) at new) to) (rises : Rises w (rows_of s) line at new to h) (voices : voice at (stand_of new) ≡ line) (posts : (to.line ≡ line) × (to.beat ≡ false)) where
+module _ {P : Type 0} (w : Ways P) (s t : Clients P) (line client at : ℕ) (new : Row P) (to : Posted) (h : List Event) (inside : at < length (rows_of s)) (handed : Handed s t line client at (set (rows_of s) at new) to) (rises : Rises w (rows_of s) line at new to h) (voices : voice at (stand_of new) ≡ line) (posts : (to.line ≡ line) × (to.beat ≡ false)) where
   abbrev later : List Event
   later = after line false h to.sends
 
@@ -366,7 +366,7 @@ module _ {P Q K A B D : Type 0} (w : Ways P Q K A B D) (s t : Clients P Q K) (li
 
 -- Parts of a step
 
-module _ {P Q K A B D : Type 0} (w : Ways P Q K A B D) (askers : Ticket → List ℕ) (rest : List Answered_to) (ps qs : List Posting) (es fs : List Ending) (where_it_stands : ℕ → CallOf) (s t : Clients P Q K) where
+module _ {P : Type 0} (w : Ways P) (askers : Ticket → List ℕ) (rest : List Answered_to) (ps qs : List Posting) (es fs : List Ending) (where_it_stands : ℕ → CallOf) (s t : Clients P) where
   pub leads_weaker : (shown h : List Event) (Then More : List Event → Type 0) → ((g : List Event) → Then g → More g) → Leads w askers rest ps qs es fs where_it_stands s t shown h Then → Leads w askers rest ps qs es fs where_it_stands s t shown h More
   leads_weaker shown h Then More weaker l = record {
     later = l.later;
@@ -381,7 +381,7 @@ module _ {P Q K A B D : Type 0} (w : Ways P Q K A B D) (askers : Ticket → List
   }
 
 -- nothing is done
-pub leads_nothing : {P Q K A B D : Type 0} (w : Ways P Q K A B D) (askers : Ticket → List ℕ) (rest : List Answered_to) (ps : List Posting) (es : List Ending) (where_it_stands : ℕ → CallOf) (s : Clients P Q K) (h : List Event) → Arisen w s askers rest h
+pub leads_nothing : {P : Type 0} (w : Ways P) (askers : Ticket → List ℕ) (rest : List Answered_to) (ps : List Posting) (es : List Ending) (where_it_stands : ℕ → CallOf) (s : Clients P) (h : List Event) → Arisen w s askers rest h
     → Leads w askers rest ps ps es es where_it_stands s s (seen h) h Anyhow
 leads_nothing w askers rest ps es where_it_stands s h a = record {
   later = h;

@@ -12,9 +12,9 @@ on_ok_so (Ok v) a = a
 on_ok_so (Err e) a = tt
 
 -- what is said of the row of a line is said of the line
-row_line : {P Q K : Type 0} (rows : List (Row P Q K)) (i : ℕ) (r : Row P Q K) → r ≡ row_at rows (suc i - 1) → r ≡ row_at rows i
+row_line : {P : Type 0} (rows : List (Row P)) (i : ℕ) (r : Row P) → r ≡ row_at rows (suc i - 1) → r ≡ row_at rows i
 row_line rows i r e = let same : suc i - 1 ≡ i = omega arith in e ∙ ap (row_at rows) same
 
-pub heart_line : {P Q K : Type 0} (rows : List (Row P Q K)) (line : ℕ) (r : Row P Q K) (beat : Option Heartbeat) → 1 ≤ line → r ≡ row_at rows (line - 1) → HeartIn r beat → HeartOf rows line beat
+pub heart_line : {P : Type 0} (rows : List (Row P)) (line : ℕ) (r : Row P) (beat : Option Heartbeat) → 1 ≤ line → r ≡ row_at rows (line - 1) → HeartIn r beat → HeartOf rows line beat
 heart_line rows zero r beat one e h = absurd (omega (arith, one))
 heart_line rows (suc i) r beat one e h = subst (λ x. HeartIn x beat) (row_line rows i r e) h

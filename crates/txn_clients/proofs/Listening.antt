@@ -46,9 +46,9 @@ waits_line stands line at c m one there (Working d) k h = absurd (no (sym there 
     no : HasBegun c m ≡ Working d → ⊥
     no q = cc
 
-module _ {P Q K : Type 0} where
-  hears_so : (rows : List (Row P Q K)) (line at : ℕ) (a : Arrival) → 1 ≤ line → HearsFor (stands_of rows) line at (stand_at (stands_of rows) line)
-      → (r : Row P Q K) → row_at rows at ≡ r → MayHear (Heard a) r
+module _ {P : Type 0} where
+  hears_so : (rows : List (Row P)) (line at : ℕ) (a : Arrival) → 1 ≤ line → HearsFor (stands_of rows) line at (stand_at (stands_of rows) line)
+      → (r : Row P) → row_at rows at ≡ r → MayHear (Heard a) r
   hears_so rows line at a one h row.Plain e = tt
   hears_so rows line at a one h (row.Client c) e = tt
   hears_so rows line at a one h (row.Asking c b call) e = tt
@@ -57,11 +57,11 @@ module _ {P Q K : Type 0} where
   hears_so rows line at a one h (row.Past c) e = tt
   hears_so rows line at a one h (row.Working c job) e = tt
 
-  pub heard_there : (rows : List (Row P Q K)) (line at : ℕ) (a : Arrival) → IsLine (stands_of rows) line → HearsFor (stands_of rows) line at (stand_at (stands_of rows) line) → MayHear (Heard a) (row_at rows at)
+  pub heard_there : (rows : List (Row P)) (line at : ℕ) (a : Arrival) → IsLine (stands_of rows) line → HearsFor (stands_of rows) line at (stand_at (stands_of rows) line) → MayHear (Heard a) (row_at rows at)
   heard_there rows line at a is h = hears_so rows line at a is.first h (row_at rows at) refl
 
   -- and its call may end
-  pub may_end : (rows : List (Row P Q K)) (line at : ℕ) (s : Stand) → HearsFor (stands_of rows) line at s → Rests (row_at rows at) → MayEnd rows line s
+  pub may_end : (rows : List (Row P)) (line at : ℕ) (s : Stand) → HearsFor (stands_of rows) line at s → Rests (row_at rows at) → MayEnd rows line s
   may_end rows line at Idle h rests = tt
   may_end rows line at (IsClient c) h rests = tt
   may_end rows line at (Asking c b) h rests = tt

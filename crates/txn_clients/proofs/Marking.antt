@@ -19,7 +19,7 @@ use Rattle.txn_history.specs.Turn.Turn.{Stopped, Waits}
 use Rattle.txn_history.specs.Arrivals.{told_by}
 use Rattle.txn_kv.specs.declared.arrival.Arrival.{Arrival}
 use Rattle.txn_kv.specs.declared.arrival.Arrival.TheVariants as arrivals
-use Rattle.txn_commit.specs.Committing.{Ways}
+use Rattle.txn_commit.specs.Ways.{Ways}
 use Rattle.txn_commit.specs.Following.{Commits, IsFollowed, KnowsCommits, PrimarySent, heard, is_done, is_out, or_ticket, without}
 use Rattle.txn_commit.specs.Parts.{parts_of}
 use Rattle.txn_commit.specs.Sending.{plan_of}
@@ -73,18 +73,18 @@ heard_marks (arrivals.Time n x) o c u e = inl e
 pub no_mark : {X : Type 0} (u : Ticket) → ◌≡◌ {A = Option Ticket} None (Some u) → X
 no_mark u e = absurd (cc)
 
-pub none_marked : {P Q K A B D : Type 0} (w : Ways P Q K A B D) (t : Standing P Q K) (o : Posted) (h : List Event) (u : Ticket) → allows_data t.status ≡ true → TransactionFits w t o h → t.commits.lost ≡ Some u → {X : Type 0} → X
+pub none_marked : {P : Type 0} (w : Ways P) (t : Standing P) (o : Posted) (h : List Event) (u : Ticket) → allows_data t.status ≡ true → TransactionFits w t o h → t.commits.lost ≡ Some u → {X : Type 0} → X
 none_marked w t o h u on f e = let unsent = f.unsent on in no_mark u (sym (ap (λ (c : Commits). c.lost) unsent.none) ∙ e)
 
-module _ {P Q K A B D : Type 0} (w : Ways P Q K A B D) (a : Arrival) (old new : Standing P Q K) (from to : Posted) (turn : Turn (Result (TxnAnswer Q) Error))
+module _ {P : Type 0} (w : Ways P) (a : Arrival) (old new : Standing P) (from to : Posted) (turn : Turn (Result (TxnAnswer P) Error))
     (follows : (h : List Event) → is_open old.work ≡ true → TransactionFits w old from h → IfKept turn (IsFollowed from (heard a from old.commits) new.commits))
     (deaf : old.work ≡ Idle → (turn ≡ Waits) × (new ≡ old) × (to ≡ from)) (gone : GivesUp old new turn) where
   -- what a transaction marks that heard of something
   pub marks : turn ≢ Stopped → (h : List Event) → TransactionFits w old from h → (u : Ticket) → new.commits.lost ≡ Some u → Marks a from old.commits u
   marks kept h fits u e = by old.work refl
     where
-      by : (g : Work P Q K) → old.work ≡ g → Marks a from old.commits u
-      by Idle i = let d = deaf i in inl (ap (λ (t : Standing P Q K). t.commits.lost) (sym d.1) ∙ e)
+      by : (g : Work P) → old.work ≡ g → Marks a from old.commits u
+      by Idle i = let d = deaf i in inl (ap (λ (t : Standing P). t.commits.lost) (sym d.1) ∙ e)
       by (Open call) i = let f = IfKept-out turn kept (follows h (ap is_open i) fits) in heard_marks a from old.commits u (sym f.lost ∙ e)
       by GaveUp i = let g = gone.after i in absurd (kept g.0)
 
@@ -175,13 +175,13 @@ lost_heard plan s c a o r h u none few k known (n, is, same, out) = by (k.waitin
           first = before;
         })
 
-module _ {P Q K : Type 0} where
+module _ {P : Type 0} where
   -- where as much is marked as before
-  pub marked_kept : (old new : Standing P Q K) (h : List Event) → new.contents ≡ old.contents → new.start ≡ old.start → new.commits.lost ≡ old.commits.lost → IsMarked old h → IsMarked new h
+  pub marked_kept : (old new : Standing P) (h : List Event) → new.contents ≡ old.contents → new.start ≡ old.start → new.commits.lost ≡ old.commits.lost → IsMarked old h → IsMarked new h
   marked_kept old new h contents start lost m parts whole u e = subst (λ s. IsFirstLostOfPrimary (version_of s) parts.primary h u) (sym start) (m parts (ap parts_of (sym contents) ∙ whole) u (sym lost ∙ e))
 
   -- and where that which was out is lost now
-  pub marked_heard : (a : Arrival) (o : Posted) (r : Request) (old new : Standing P Q K) (h : List Event) → new.contents ≡ old.contents → new.start ≡ old.start → IsAlone a old → ((u : Ticket) → new.commits.lost ≡ Some u → Marks a o old.commits u)
+  pub marked_heard : (a : Arrival) (o : Posted) (r : Request) (old new : Standing P) (h : List Event) → new.contents ≡ old.contents → new.start ≡ old.start → IsAlone a old → ((u : Ticket) → new.commits.lost ≡ Some u → Marks a o old.commits u)
       → ((parts : CommitParts) → parts_of old.contents ≡ Some parts → KnowsCommits (plan_of parts) (version_of old.start) old.commits h) → (told_by a o r).known h → IsMarked old h → IsMarked new ((told_by a o r).hear h)
   marked_heard a o r old new h contents start alone marks knows known m parts whole u e =
       let before = ap parts_of (sym contents) ∙ whole in
@@ -192,9 +192,9 @@ module _ {P Q K : Type 0} where
 
 -- In a trace
 
-module _ {P Q K : Type 0} where
+module _ {P : Type 0} where
   -- where as much is marked as before
-  pub marked_same : (trace longer : Option Trace) (at : ℕ) (old new : Standing P Q K) → LongerIn trace longer → new.contents ≡ old.contents → new.start ≡ old.start → new.commits.lost ≡ old.commits.lost → MarkedIn trace at old → MarkedIn longer at new
+  pub marked_same : (trace longer : Option Trace) (at : ℕ) (old new : Standing P) → LongerIn trace longer → new.contents ≡ old.contents → new.start ≡ old.start → new.commits.lost ≡ old.commits.lost → MarkedIn trace at old → MarkedIn longer at new
   marked_same trace longer at old new l contents start lost m parts whole u e =
       subst (λ s. LostIn longer at (plan_of parts) (version_of s) u) (sym start) (marked_longer trace longer at old l m parts (ap parts_of (sym contents) ∙ whole) u (sym lost ∙ e))
 

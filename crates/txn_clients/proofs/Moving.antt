@@ -17,7 +17,7 @@ use Rattle.txn_history.specs.Turn.Turn.{Stopped, Waits, Ends}
 use Rattle.txn_history.specs.Arrivals.{told_by}
 use Rattle.txn_kv.specs.declared.arrival.Arrival.{Arrival}
 use Rattle.txn_buffer.specs.Contents.{Contents}
-use Rattle.txn_commit.specs.Committing.{Ways}
+use Rattle.txn_commit.specs.Ways.{Ways}
 use Rattle.txn_commit.specs.Following.{Commits, IsFollowed, KnowsCommits, heard, none_sent, undetermined, or_first}
 use Rattle.txn_commit.specs.Parts.{parts_of}
 use Rattle.txn_commit.specs.Sending.{plan_of}
@@ -86,9 +86,9 @@ ends_all (Ends v) g = g
 
 -- Plans
 
-module _ {P Q K : Type 0} where
+module _ {P : Type 0} where
   -- only what is known of its Commits, and its work, change
-  keeps_rest : (old new : Standing P Q K) (from to : Posted) → new.start ≡ old.start → new.status ≡ old.status → new.contents ≡ old.contents → to ≡ from → KeepsPlan old new from to
+  keeps_rest : (old new : Standing P) (from to : Posted) → new.start ≡ old.start → new.status ≡ old.status → new.contents ≡ old.contents → to ≡ from → KeepsPlan old new from to
   keeps_rest old new from to start status contents quiet = record {
     start = start;
     closed = λ off. ap allows_data status ∙ off;
@@ -96,11 +96,11 @@ module _ {P Q K : Type 0} where
     quiet = inl quiet;
   }
 
-  pub keeps_same : (old new : Standing P Q K) (from to : Posted) → new ≡ old → to ≡ from → KeepsPlan old new from to
-  keeps_same old new from to e quiet = keeps_rest old new from to (ap (λ (t : Standing P Q K). t.start) e) (ap (λ (t : Standing P Q K). t.status) e) (ap (λ (t : Standing P Q K). t.contents) e) quiet
+  pub keeps_same : (old new : Standing P) (from to : Posted) → new ≡ old → to ≡ from → KeepsPlan old new from to
+  keeps_same old new from to e quiet = keeps_rest old new from to (ap (λ (t : Standing P). t.start) e) (ap (λ (t : Standing P). t.status) e) (ap (λ (t : Standing P). t.contents) e) quiet
 
   -- it may be written no more
-  keeps_off : (old new : Standing P Q K) (from to : Posted) → new.start ≡ old.start → new.contents ≡ old.contents → allows_data new.status ≡ false → KeepsPlan old new from to
+  keeps_off : (old new : Standing P) (from to : Posted) → new.start ≡ old.start → new.contents ≡ old.contents → allows_data new.status ≡ false → KeepsPlan old new from to
   keeps_off old new from to start contents off = record {
     start = start;
     closed = λ any. off;
@@ -109,35 +109,35 @@ module _ {P Q K : Type 0} where
   }
 
   -- it may still be written, and is
-  keeps_written : (old new : Standing P Q K) (from to : Posted) → new ≡ record old { contents = new.contents } → allows_data old.status ≡ true → to ≡ from → KeepsPlan old new from to
+  keeps_written : (old new : Standing P) (from to : Posted) → new ≡ record old { contents = new.contents } → allows_data old.status ≡ true → to ≡ from → KeepsPlan old new from to
   keeps_written old new from to e on quiet = record {
-    start = ap (λ (t : Standing P Q K). t.start) e;
+    start = ap (λ (t : Standing P). t.start) e;
     closed = λ off. absurd (no_flag (allows_data old.status) on off);
-    fixed = λ off. absurd (no_flag (allows_data new.status) (ap (λ (t : Standing P Q K). allows_data t.status) e ∙ on) off);
+    fixed = λ off. absurd (no_flag (allows_data new.status) (ap (λ (t : Standing P). allows_data t.status) e ∙ on) off);
     quiet = inl quiet;
   }
 
   -- One that commits or rolls back is written no more.
 
-  off_commit : (old new : Standing P Q K) (turn : Turn (Result (TxnAnswer Q) Error)) → is_open old.work ≡ false → allows_commit old.status ≡ true
+  off_commit : (old new : Standing P) (turn : Turn (Result (TxnAnswer P) Error)) → is_open old.work ≡ false → allows_commit old.status ≡ true
       → (old.work ≡ Idle → new.status ≡ status_step old.status (commits (commit_outcome turn) (is_some (parts_of old.contents)))) → GivesUp old new turn → IfKept turn (allows_data new.status ≡ false)
   off_commit old new turn idle may status gives = begins old new turn idle gives (λ e.
       let has = is_some (parts_of old.contents) in
       ap allows_data (status e ∙ ap (λ (b : Bool). if b then after_commit (commit_outcome turn) has else old.status) may) ∙ commit_off (commit_outcome turn) has)
 
-  off_rollback : (old new : Standing P Q K) (turn : Turn (Result (TxnAnswer Q) Error)) → is_open old.work ≡ false → allows_rollback old.status ≡ true → undetermined old.commits ≡ None
+  off_rollback : (old new : Standing P) (turn : Turn (Result (TxnAnswer P) Error)) → is_open old.work ≡ false → allows_rollback old.status ≡ true → undetermined old.commits ≡ None
       → (old.work ≡ Idle → new.status ≡ rolled_status old.status (is_some (undetermined old.commits)) turn) → GivesUp old new turn → IfKept turn (allows_data new.status ≡ false)
   off_rollback old new turn idle may known status gives = begins old new turn idle gives (λ i.
       ap allows_data (status i ∙ ap (λ (u : Option Ticket). rolled_status old.status (is_some u) turn) known ∙ ap (λ (b : Bool). if b then moved_by statuses.StartedRollback turn else old.status) may)
       ∙ moved_off statuses.StartedRollback turn refl)
 
-  off_heard : (old new : Standing P Q K) (turn : Turn (Result (TxnAnswer Q) Error)) → IsQuiet old → new.status ≡ moved_by old.status turn → GivesUp old new turn → (old.work ≡ Idle → turn ≡ Waits) → IfKept turn (IfEnds turn (λ v. allows_data new.status ≡ false))
+  off_heard : (old new : Standing P) (turn : Turn (Result (TxnAnswer P) Error)) → IsQuiet old → new.status ≡ moved_by old.status turn → GivesUp old new turn → (old.work ≡ Idle → turn ≡ Waits) → IfKept turn (IfEnds turn (λ v. allows_data new.status ≡ false))
   off_heard old new turn quiet status gives deaf = elim (is_flag (allows_data old.status)) [
-    | inl on ↦ begins old new turn (quiet on).rests gives (λ e. subst (λ (t : Turn (Result (TxnAnswer Q) Error)). IfEnds t (λ v. allows_data new.status ≡ false)) (sym (deaf e)) tt)
+    | inl on ↦ begins old new turn (quiet on).rests gives (λ e. subst (λ (t : Turn (Result (TxnAnswer P) Error)). IfEnds t (λ v. allows_data new.status ≡ false)) (sym (deaf e)) tt)
     | inr off ↦ IfKept-all turn (ends_all turn (ap allows_data status ∙ moved_off old.status turn off))
   ]
 
-  keeps_commit : (old new : Standing P Q K) (from to : Posted) (turn : Turn (Result (TxnAnswer Q) Error)) → is_open old.work ≡ false
+  keeps_commit : (old new : Standing P) (from to : Posted) (turn : Turn (Result (TxnAnswer P) Error)) → is_open old.work ≡ false
       → (allows_commit old.status ≡ false → (new ≡ old) × (to ≡ from))
       → (old.work ≡ Idle → new.status ≡ status_step old.status (commits (commit_outcome turn) (is_some (parts_of old.contents))))
       → new.start ≡ old.start → new.contents ≡ old.contents → GivesUp old new turn → IfKept turn (KeepsPlan old new from to)
@@ -146,7 +146,7 @@ module _ {P Q K : Type 0} where
     | inr bars ↦ let r = refused bars in IfKept-all turn (keeps_same old new from to r.0 r.1)
   ]
 
-  keeps_rollback : (old new : Standing P Q K) (from to : Posted) (turn : Turn (Result (TxnAnswer Q) Error)) → is_open old.work ≡ false
+  keeps_rollback : (old new : Standing P) (from to : Posted) (turn : Turn (Result (TxnAnswer P) Error)) → is_open old.work ≡ false
       → (allows_rollback old.status ≡ false → (new ≡ old) × (to ≡ from))
       → ((t : Ticket) → allows_rollback old.status ≡ true → undetermined old.commits ≡ Some t → (new ≡ record old { work = new.work }) × (to ≡ from))
       → (old.work ≡ Idle → new.status ≡ rolled_status old.status (is_some (undetermined old.commits)) turn)
@@ -157,10 +157,10 @@ module _ {P Q K : Type 0} where
   ]
     where
       by : allows_rollback old.status ≡ true → (o : Option Ticket) → undetermined old.commits ≡ o → IfKept turn (KeepsPlan old new from to)
-      by may (Some t) e = let u = unknown t may e in IfKept-all turn (keeps_rest old new from to start (ap (λ (x : Standing P Q K). x.status) u.0) contents u.1)
+      by may (Some t) e = let u = unknown t may e in IfKept-all turn (keeps_rest old new from to start (ap (λ (x : Standing P). x.status) u.0) contents u.1)
       by may None e = IfKept-weaker turn (λ off. keeps_off old new from to start contents off) (off_rollback old new turn idle may e status gives)
 
-  keeps_heard : (old new : Standing P Q K) (from to : Posted) (turn : Turn (Result (TxnAnswer Q) Error)) → IsQuiet old → new.status ≡ moved_by old.status turn
+  keeps_heard : (old new : Standing P) (from to : Posted) (turn : Turn (Result (TxnAnswer P) Error)) → IsQuiet old → new.status ≡ moved_by old.status turn
       → new.start ≡ old.start → new.contents ≡ old.contents → GivesUp old new turn → (old.work ≡ Idle → (turn ≡ Waits) × (new ≡ old) × (to ≡ from)) → IfKept turn (KeepsPlan old new from to)
   keeps_heard old new from to turn quiet status start contents gives deaf = elim (is_flag (allows_data old.status)) [
     | inl on ↦ begins old new turn (quiet on).rests gives (λ e. let d = deaf e in keeps_same old new from to d.1 d.2)
@@ -169,12 +169,12 @@ module _ {P Q K : Type 0} where
 
 -- What a transaction is told
 
-module _ {P Q K A B D : Type 0} (w : Ways P Q K A B D) where
+module _ {P : Type 0} (w : Ways P) where
   -- what a transaction that lives knows of the Commits of its primary
-  knows_commits : (t : Standing P Q K) (o : Posted) (h : List Event) (parts : CommitParts) → parts_of t.contents ≡ Some parts → StandFits w t o h → KnowsCommits (plan_of parts) (version_of t.start) t.commits h
+  knows_commits : (t : Standing P) (o : Posted) (h : List Event) (parts : CommitParts) → parts_of t.contents ≡ Some parts → StandFits w t o h → KnowsCommits (plan_of parts) (version_of t.start) t.commits h
   knows_commits t o h parts whole fits = by t.work fits.1.at fits.2
     where
-      by : (g : Work P Q K) → IsAtWork w t.options.retry_options t.start t.status t.contents t.commits g o h → has_given_up g ≡ false → KnowsCommits (plan_of parts) (version_of t.start) t.commits h
+      by : (g : Work P) → IsAtWork w t.options.retry_options t.start t.status t.contents t.commits g o h → has_given_up g ≡ false → KnowsCommits (plan_of parts) (version_of t.start) t.commits h
       by Idle at lives = (at.of_parts parts whole).knows
       by (Open call) at lives =
           let same : call.parts ≡ parts = let both = sym at.whole ∙ whole in cc in
@@ -182,26 +182,26 @@ module _ {P Q K A B D : Type 0} (w : Ways P Q K A B D) where
       by GaveUp at lives = absurd (cc)
 
   -- where one of them was lost it has something to commit
-  has_parts : (t : Standing P Q K) (o : Posted) (h : List Event) → StandFits w t o h → is_some t.commits.lost ≡ true → (parts : CommitParts) × (parts_of t.contents ≡ Some parts)
+  has_parts : (t : Standing P) (o : Posted) (h : List Event) → StandFits w t o h → is_some t.commits.lost ≡ true → (parts : CommitParts) × (parts_of t.contents ≡ Some parts)
   has_parts t o h fits some = by t.work fits.1.at fits.2 (parts_of t.contents) refl
     where
       none : t.commits ≡ none_sent → ⊥
       none e = let no = sym some ∙ ap (λ (c : Commits). is_some c.lost) e in cc
 
-      by : (g : Work P Q K) → IsAtWork w t.options.retry_options t.start t.status t.contents t.commits g o h → has_given_up g ≡ false → (found : Option CommitParts) → parts_of t.contents ≡ found → (parts : CommitParts) × (parts_of t.contents ≡ Some parts)
+      by : (g : Work P) → IsAtWork w t.options.retry_options t.start t.status t.contents t.commits g o h → has_given_up g ≡ false → (found : Option CommitParts) → parts_of t.contents ≡ found → (parts : CommitParts) × (parts_of t.contents ≡ Some parts)
       by g at lives (Some parts) e = (parts, e)
       by Idle at lives None e = absurd (none (at.empty e))
       by (Open call) at lives None e = absurd (let no = sym e ∙ at.whole in cc)
       by GaveUp at lives None e = absurd (cc)
 
   -- and may be written no more
-  closed_lost : (t : Standing P Q K) (o : Posted) (h : List Event) → StandFits w t o h → is_some t.commits.lost ≡ true → allows_data t.status ≡ false
+  closed_lost : (t : Standing P) (o : Posted) (h : List Event) → StandFits w t o h → is_some t.commits.lost ≡ true → allows_data t.status ≡ false
   closed_lost t o h fits some = elim (is_flag (allows_data t.status)) [
     | inl on ↦ let u = fits.1.unsent on in absurd (let no = sym some ∙ ap (λ (c : Commits). is_some c.lost) u.none in cc)
     | inr off ↦ off
   ]
 
-  lost_one : (t : Standing P Q K) (o : Posted) (h : List Event) → StandFits w t o h → is_some t.commits.lost ≡ true → HasLostOne t h
+  lost_one : (t : Standing P) (o : Posted) (h : List Event) → StandFits w t o h → is_some t.commits.lost ≡ true → HasLostOne t h
   lost_one t o h fits some = let p = has_parts t o h fits some in by p.0 p.1 t.commits.lost refl some
     where
       by : (parts : CommitParts) → parts_of t.contents ≡ Some parts → (lost : Option Ticket) → t.commits.lost ≡ lost → is_some lost ≡ true → HasLostOne t h
@@ -219,11 +219,11 @@ module _ {P Q K A B D : Type 0} (w : Ways P Q K A B D) where
       by (Some u) e holds = absurd (cc)
 
   -- an error that it ends with says that it is in doubt where one of them was lost or is not refused
-  error_gives : (told : Told) (old new : Standing P Q K) (to : Posted) (h : List Event) (e : Error) → new.contents ≡ old.contents → StandFits w new to h → allows_data new.status ≡ false → (is_undetermined e ≡ true → is_some new.commits.lost ≡ true) → (TurnsBack told new → undetermined new.commits ≡ None)
+  error_gives : (told : Told) (old new : Standing P) (to : Posted) (h : List Event) (e : Error) → new.contents ≡ old.contents → StandFits w new to h → allows_data new.status ≡ false → (is_undetermined e ≡ true → is_some new.commits.lost ≡ true) → (TurnsBack told new → undetermined new.commits ≡ None)
       → TransactionGives w old.options.retry_options old.start old.contents new.commits h (Err e) → CallStands w told old new (Some (answers.Called (Err e))) h
   error_gives told old new to h e same fits off says back (inr (none, nothing)) = absurd (no nothing)
     where
-      no : IsNothing {Q = Q} (Err e) → ⊥
+      no : IsNothing {P = P} (Err e) → ⊥
       no (inl f) = cc
       no (inr f) = cc
   error_gives told old new to h e same fits off says back (inl (parts, whole, fails)) = inr (elim (is_flag (is_undetermined e)) [ inl so ↦ inl (so, lost_one new to h fits (says so), λ turns. never_lost new.commits (back turns) (says so)) | inr untold ↦ inr (untold, settled untold (undetermined new.commits) refl fails) ])
@@ -236,7 +236,7 @@ module _ {P Q K A B D : Type 0} (w : Ways P Q K A B D) where
       settled untold None is f = record { parts = parts; closed = off; whole = now; knows = knows_commits new to h parts now fits; none = is }
 
   -- what it answers stands on what the call gives
-  call_stands : (told : Told) (old new : Standing P Q K) (to : Posted) (h : List Event) (turn : Turn (Result (TxnAnswer Q) Error)) → new.contents ≡ old.contents → StandFits w new to h → IfEnds turn (λ v. allows_data new.status ≡ false) → SaysLoss turn new → (TurnsBack told new → undetermined new.commits ≡ None)
+  call_stands : (told : Told) (old new : Standing P) (to : Posted) (h : List Event) (turn : Turn (Result (TxnAnswer P) Error)) → new.contents ≡ old.contents → StandFits w new to h → IfEnds turn (λ v. allows_data new.status ≡ false) → SaysLoss turn new → (TurnsBack told new → undetermined new.commits ≡ None)
       → IfEnds turn (λ v. TransactionGives w old.options.retry_options old.start old.contents new.commits h v) → CallStands w told old new (answer_in answers.Called turn) h
   call_stands told old new to h Stopped same fits off says back g = tt
   call_stands told old new to h Waits same fits off says back g = tt
@@ -250,21 +250,21 @@ module _ {P Q K A B D : Type 0} (w : Ways P Q K A B D) where
   call_stands told old new to h (Ends (Ok (answer.Ttl n))) same fits off says back g = tt
 
   -- of a refusal nothing else is said
-  error_stands : (told : Told) (old new : Standing P Q K) (h : List Event) (v : Result (TxnAnswer Q) Error) (e : Error) → IsRefusal e → v ≡ Err e → CallStands w told old new (Some (answers.Called v)) h
-  error_stands told old new h v e refusal f = subst (λ (x : Result (TxnAnswer Q) Error). CallStands w told old new (Some (answers.Called x)) h) (sym f) (inl refusal)
+  error_stands : (told : Told) (old new : Standing P) (h : List Event) (v : Result (TxnAnswer P) Error) (e : Error) → IsRefusal e → v ≡ Err e → CallStands w told old new (Some (answers.Called v)) h
+  error_stands told old new h v e refusal f = subst (λ (x : Result (TxnAnswer P) Error). CallStands w told old new (Some (answers.Called x)) h) (sym f) (inl refusal)
 
-  refused_stands : (told : Told) (e : Error) (old new : Standing P Q K) (h : List Event) (turn : Turn (Result (TxnAnswer Q) Error)) → IsRefusal e → IsRefused e old new turn → CallStands w told old new (answer_in answers.Called turn) h
+  refused_stands : (told : Told) (e : Error) (old new : Standing P) (h : List Event) (turn : Turn (Result (TxnAnswer P) Error)) → IsRefusal e → IsRefused e old new turn → CallStands w told old new (answer_in answers.Called turn) h
   refused_stands told e old new h Stopped refusal r = tt
   refused_stands told e old new h Waits refusal r = tt
   refused_stands told e old new h (Ends v) refusal r = error_stands told old new h v e refusal r.0
 
   -- that one was lost is said with the first
-  names_lost : (t : Ticket) (new : Standing P Q K) (to : Posted) (h : List Event) (e : Error) → StandFits w new to h → is_some new.commits.lost ≡ true → undetermined new.commits ≡ Some t → view_of e ≡ not_known (view_of (GrpcAPI t)) → NamesLost new h e
+  names_lost : (t : Ticket) (new : Standing P) (to : Posted) (h : List Event) (e : Error) → StandFits w new to h → is_some new.commits.lost ≡ true → undetermined new.commits ≡ Some t → view_of e ≡ not_known (view_of (GrpcAPI t)) → NamesLost new h e
   names_lost t new to h e fits some left error =
       let p = has_parts new to h fits some in
       record { parts = p.0; closed = closed_lost new to h fits some; whole = p.1; ticket = t; error = error; first = fits.3 p.0 p.1 t (lost_first new.commits t some left) }
 
-  unknown_stands : (told : Told) (t : Ticket) (old new : Standing P Q K) (to : Posted) (h : List Event) (turn : Turn (Result (TxnAnswer Q) Error)) → StandFits w new to h → SaysLoss turn new → undetermined new.commits ≡ Some t → IsUndetermined t turn → CallStands w told old new (answer_in answers.Called turn) h
+  unknown_stands : (told : Told) (t : Ticket) (old new : Standing P) (to : Posted) (h : List Event) (turn : Turn (Result (TxnAnswer P) Error)) → StandFits w new to h → SaysLoss turn new → undetermined new.commits ≡ Some t → IsUndetermined t turn → CallStands w told old new (answer_in answers.Called turn) h
   unknown_stands told t old new to h Stopped fits says left u = tt
   unknown_stands told t old new to h Waits fits says left u = tt
   unknown_stands told t old new to h (Ends (Ok v)) fits says left u = absurd u
@@ -272,31 +272,31 @@ module _ {P Q K A B D : Type 0} (w : Ways P Q K A B D) where
       let so = undetermined_is e (view_of (GrpcAPI t)) u in
       inr (inl (so, lost_one new to h fits (says so), λ turns. names_lost t new to h e fits (says so) left u))
 
-  stand_same : (old new : Standing P Q K) (from to : Posted) (h : List Event) → new ≡ old → to ≡ from → StandFits w old from h → StandFits w new to h
-  stand_same old new from to h e f x = subst (λ (t : Standing P Q K). StandFits w t to h) (sym e) (subst (λ (o : Posted). StandFits w old o h) (sym f) x)
+  stand_same : (old new : Standing P) (from to : Posted) (h : List Event) → new ≡ old → to ≡ from → StandFits w old from h → StandFits w new to h
+  stand_same old new from to h e f x = subst (λ (t : Standing P). StandFits w t to h) (sym e) (subst (λ (o : Posted). StandFits w old o h) (sym f) x)
 
   -- While there is memory it does not give up.
 
-  opened_lives : (work : Work P Q K) (turn : Turn (Result (TxnAnswer Q) Error)) → turn ≢ Stopped → work_phase w work ≡ phase_after turn → has_given_up work ≡ false
+  opened_lives : (work : Work P) (turn : Turn (Result (TxnAnswer P) Error)) → turn ≢ Stopped → work_phase w work ≡ phase_after turn → has_given_up work ≡ false
   opened_lives Idle turn alive next = refl
   opened_lives (Open call) turn alive next = refl
   opened_lives GaveUp Stopped alive next = absurd (alive refl)
   opened_lives GaveUp Waits alive next = absurd (cc)
   opened_lives GaveUp (Ends v) alive next = absurd (cc)
 
-  heard_lives : {C : Type 0} (meant : Type 0) (old new : Standing P Q K) (from to : Posted) (pd pd' : C) (turn : Turn (Result (TxnAnswer Q) Error)) → turn ≢ Stopped
+  heard_lives : {C : Type 0} (meant : Type 0) (old new : Standing P) (from to : Posted) (pd pd' : C) (turn : Turn (Result (TxnAnswer P) Error)) → turn ≢ Stopped
       → TransactionGoes w meant (record old { commits = new.commits }) new from to pd pd' turn → has_given_up old.work ≡ false → has_given_up new.work ≡ false
   heard_lives meant old new from to pd pd' turn alive goes lives = by new.work refl
     where
-      by : (work : Work P Q K) → new.work ≡ work → has_given_up work ≡ false
+      by : (work : Work P) → new.work ≡ work → has_given_up work ≡ false
       by Idle e = refl
       by (Open call) e = refl
       by GaveUp e =
           let never : meant → ⊥ = λ m. let up = opened_lives new.work turn alive (goes.next m) in absurd (let no = sym (ap has_given_up e) ∙ up in cc) in
-          ap has_given_up (sym e ∙ ap (λ (t : Standing P Q K). t.work) (goes.state never)) ∙ lives
+          ap has_given_up (sym e ∙ ap (λ (t : Standing P). t.work) (goes.state never)) ∙ lives
 
   -- it goes on, in a history of which so much is known
-  stand_moved : (told : Told) (known : List Event → Type 0) (hear : List Event → List Event) (old new : Standing P Q K) (from to : Posted) (turn : Turn (Result (TxnAnswer Q) Error)) → turn ≢ Stopped → (has_given_up old.work ≡ false → has_given_up new.work ≡ false) → new.contents ≡ old.contents → IfEnds turn (λ v. allows_data new.status ≡ false) → SaysLoss turn new → ((h : List Event) → StandFits w old from h × known h → IsMarked new (hear h)) → ((h : List Event) → TransactionFits w new to h → TurnsBack told new → undetermined new.commits ≡ None) → TransactionMoves w known hear old new from to turn
+  stand_moved : (told : Told) (known : List Event → Type 0) (hear : List Event → List Event) (old new : Standing P) (from to : Posted) (turn : Turn (Result (TxnAnswer P) Error)) → turn ≢ Stopped → (has_given_up old.work ≡ false → has_given_up new.work ≡ false) → new.contents ≡ old.contents → IfEnds turn (λ v. allows_data new.status ≡ false) → SaysLoss turn new → ((h : List Event) → StandFits w old from h × known h → IsMarked new (hear h)) → ((h : List Event) → TransactionFits w new to h → TurnsBack told new → undetermined new.commits ≡ None) → TransactionMoves w known hear old new from to turn
       → Moved (MaySendFor old.contents (version_of old.start)) (λ h. StandFits w old from h × known h) (λ h. StandFits w new to h) (λ h. CallStands w told old new (answer_in answers.Called turn) h) hear from to
   stand_moved told known hear old new from to turn kept lives same off says marked back m = record {
     sends = m.sends;
@@ -319,21 +319,21 @@ module _ {P Q K A B D : Type 0} (w : Ways P Q K A B D) where
 
   -- It is asked for something.
 
-  asked : (act : Act) (old new : Standing P Q K) (from to : Posted) (turn : Turn (Result (TxnAnswer Q) Error)) → KeepsPlan old new from to
+  asked : (act : Act) (old new : Standing P) (from to : Posted) (turn : Turn (Result (TxnAnswer P) Error)) → KeepsPlan old new from to
       → Moved (MaySendFor old.contents (version_of old.start)) (λ h. StandFits w old from h × ⊤) (λ h. StandFits w new to h) (λ h. CallStands w (tells.Act act) old new (answer_in answers.Called turn) h) (λ h. h) from to
       → StandMoves w (tells.Act act) old new from to (answer_in answers.Called turn)
   asked act old new from to turn keeps moves = record { keeps = keeps; moves = λ r. moves }
 
-  asked_same : (act : Act) (old new : Standing P Q K) (from to : Posted) (turn : Turn (Result (TxnAnswer Q) Error)) → new ≡ old → to ≡ from
+  asked_same : (act : Act) (old new : Standing P) (from to : Posted) (turn : Turn (Result (TxnAnswer P) Error)) → new ≡ old → to ≡ from
       → ((h : List Event) → CallStands w (tells.Act act) old new (answer_in answers.Called turn) h) → StandMoves w (tells.Act act) old new from to (answer_in answers.Called turn)
   asked_same act old new from to turn e quiet stands = asked act old new from to turn (keeps_same old new from to e quiet) (moved_quiet quiet (λ h x. stand_same old new from to h e quiet x.0) (λ h x. stands h))
 
-  written_stands : (old new : Standing P Q K) (contents : Contents) (from to : Posted) (h : List Event) → new ≡ record old { contents = contents } → allows_data old.status ≡ true → old.work ≡ Idle → (IsOrdered old.contents → IsOrdered contents) → to ≡ from → StandFits w old from h → StandFits w new to h
+  written_stands : (old new : Standing P) (contents : Contents) (from to : Posted) (h : List Event) → new ≡ record old { contents = contents } → allows_data old.status ≡ true → old.work ≡ Idle → (IsOrdered old.contents → IsOrdered contents) → to ≡ from → StandFits w old from h → StandFits w new to h
   written_stands old new contents from to h e on idle keeps quiet x =
       let now = keeps x.0 in
-      subst (λ (t : Standing P Q K). StandFits w t to h) (sym e) (now, written_fits w old contents to h on idle now (subst (λ (o : Posted). TransactionFits w old o h) (sym quiet) x.1), x.2, λ parts whole u lost. none_marked w old from h u on x.1 lost)
+      subst (λ (t : Standing P). StandFits w t to h) (sym e) (now, written_fits w old contents to h on idle now (subst (λ (o : Posted). TransactionFits w old o h) (sym quiet) x.1), x.2, λ parts whole u lost. none_marked w old from h u on x.1 lost)
 
-  writes_so : (act : Act) (refusal : Option Error) (wrote : Contents → Contents → Type 0) (old new : Standing P Q K) (from to : Posted) (turn : Turn (Result (TxnAnswer Q) Error))
+  writes_so : (act : Act) (refusal : Option Error) (wrote : Contents → Contents → Type 0) (old new : Standing P) (from to : Posted) (turn : Turn (Result (TxnAnswer P) Error))
       → (refusal ≡ None → allows_data old.status ≡ true) → ((e : Error) → refusal ≡ Some e → IsRefusal e) → ((c d : Contents) → wrote c d → IsOrdered c → IsOrdered d) → WriteEnds refusal wrote old new turn → to ≡ from → old.work ≡ Idle
       → IfKept turn (StandMoves w (tells.Act act) old new from to (answer_in answers.Called turn))
   writes_so act refusal wrote old new from to Stopped may refuses keeps ends quiet idle = tt
@@ -341,10 +341,10 @@ module _ {P Q K A B D : Type 0} (w : Ways P Q K A B D) where
   writes_so act (Some e) wrote old new from to (Ends v) may refuses keeps ends quiet idle = asked_same act old new from to (Ends v) ends.1 quiet (λ h. error_stands (tells.Act act) old new h v e (refuses e refl) ends.0)
   writes_so act None wrote old new from to (Ends v) may refuses keeps ends quiet idle = asked act old new from to (Ends v) (keeps_written old new from to ends.1 (may refl) quiet)
       (moved_quiet quiet (λ h x. written_stands old new new.contents from to h ends.1 (may refl) idle (keeps old.contents new.contents ends.2) quiet x.0)
-      (λ h x. subst (λ (a : Result (TxnAnswer Q) Error). CallStands w (tells.Act act) old new (Some (answers.Called a)) h) (sym ends.0) tt))
+      (λ h x. subst (λ (a : Result (TxnAnswer P) Error). CallStands w (tells.Act act) old new (Some (answers.Called a)) h) (sym ends.0) tt))
 
   -- a write ends at once
-  pub writes_move : (act : Act) (refusal : Option Error) (wrote : Contents → Contents → Type 0) (old new : Standing P Q K) (from to : Posted) (turn : Turn (Result (TxnAnswer Q) Error))
+  pub writes_move : (act : Act) (refusal : Option Error) (wrote : Contents → Contents → Type 0) (old new : Standing P) (from to : Posted) (turn : Turn (Result (TxnAnswer P) Error))
       → (refusal ≡ None → allows_data old.status ≡ true) → ((e : Error) → refusal ≡ Some e → IsRefusal e) → ((c d : Contents) → wrote c d → IsOrdered c → IsOrdered d) → WriteEnds refusal wrote old new turn → is_open old.work ≡ false → GivesUp old new turn → to ≡ from
       → IfKept turn (StandMoves w (tells.Act act) old new from to (answer_in answers.Called turn))
   writes_move act refusal wrote old new from to turn may refuses keeps ends rests gives quiet = by (open_so old.work rests)
@@ -354,7 +354,7 @@ module _ {P Q K A B D : Type 0} (w : Ways P Q K A B D) where
       by (inr e) = IfKept-stopped turn _ (gives.after e).0
 
   -- a commit begins, or is refused
-  pub commits_move : (act : Act) (e : Error) (old new : Standing P Q K) (from to : Posted) (turn : Turn (Result (TxnAnswer Q) Error)) → IsRefusal e → is_open old.work ≡ false
+  pub commits_move : (act : Act) (e : Error) (old new : Standing P) (from to : Posted) (turn : Turn (Result (TxnAnswer P) Error)) → IsRefusal e → is_open old.work ≡ false
       → (allows_commit old.status ≡ false → IsRefused e old new turn × (to ≡ from))
       → (allows_commit old.status ≡ true → TransactionMoves w (λ h. ⊤) (λ h. h) old new from to turn)
       → (old.work ≡ Idle → new.status ≡ status_step old.status (commits (commit_outcome turn) (is_some (parts_of old.contents))))
@@ -367,26 +367,26 @@ module _ {P Q K A B D : Type 0} (w : Ways P Q K A B D) where
   ])
     where
       contents : new.contents ≡ old.contents
-      contents = ap (λ (t : Standing P Q K). t.contents) kept
+      contents = ap (λ (t : Standing P). t.contents) kept
 
       start : new.start ≡ old.start
-      start = ap (λ (t : Standing P Q K). t.start) kept
+      start = ap (λ (t : Standing P). t.start) kept
 
       keeps : IfKept turn (KeepsPlan old new from to)
       keeps = keeps_commit old new from to turn idle (λ bars. let r = refused bars in (refused_stays e old new turn r.0, r.1)) status start contents gives
 
   -- no call of it is open
-  left_fits : (old new : Standing P Q K) (from to : Posted) (turn : Turn (Result (TxnAnswer Q) Error)) (h : List Event) → turn ≢ Stopped → is_open old.work ≡ false → is_open new.work ≡ false → Opens w new from to turn
+  left_fits : (old new : Standing P) (from to : Posted) (turn : Turn (Result (TxnAnswer P) Error)) (h : List Event) → turn ≢ Stopped → is_open old.work ≡ false → is_open new.work ≡ false → Opens w new from to turn
       → new ≡ record old { work = new.work } → to ≡ from → StandFits w old from h → StandFits w new to h
   left_fits old new from to turn h alive rests shut opens e quiet x = by (open_so old.work rests) (open_so new.work shut)
     where
       by : (old.work ≡ Idle) ⊎ (old.work ≡ GaveUp) → (new.work ≡ Idle) ⊎ (new.work ≡ GaveUp) → StandFits w new to h
       by (inr g) later = absurd (let no = sym (ap has_given_up g) ∙ x.2 in cc)
-      by (inl i) (inl j) = stand_same old new from to h (e ∙ ap (λ (y : Work P Q K). record old { work = y }) (j ∙ sym i)) quiet x
+      by (inl i) (inl j) = stand_same old new from to h (e ∙ ap (λ (y : Work P). record old { work = y }) (j ∙ sym i)) quiet x
       by (inl i) (inr g) = absurd (let no = sym (ap has_given_up g) ∙ opened_lives new.work turn alive opens.next in cc)
 
   -- and so does a rollback
-  pub rollbacks_move : (act : Act) (e : Error) (old new : Standing P Q K) (from to : Posted) (turn : Turn (Result (TxnAnswer Q) Error)) → IsRefusal e → is_open old.work ≡ false
+  pub rollbacks_move : (act : Act) (e : Error) (old new : Standing P) (from to : Posted) (turn : Turn (Result (TxnAnswer P) Error)) → IsRefusal e → is_open old.work ≡ false
       → (allows_rollback old.status ≡ false → IsRefused e old new turn × (to ≡ from))
       → ((t : Ticket) → allows_rollback old.status ≡ true → undetermined old.commits ≡ Some t → IsUndetermined t turn × (new ≡ record old { work = new.work }) × (to ≡ from))
       → (allows_rollback old.status ≡ true → undetermined old.commits ≡ None → TransactionMoves w (λ h. ⊤) (λ h. h) old new from to turn)
@@ -399,10 +399,10 @@ module _ {P Q K A B D : Type 0} (w : Ways P Q K A B D) where
   ])
     where
       start : new.start ≡ old.start
-      start = ap (λ (t : Standing P Q K). t.start) kept
+      start = ap (λ (t : Standing P). t.start) kept
 
       contents : new.contents ≡ old.contents
-      contents = ap (λ (t : Standing P Q K). t.contents) kept
+      contents = ap (λ (t : Standing P). t.contents) kept
 
       keeps : IfKept turn (KeepsPlan old new from to)
       keeps = keeps_rollback old new from to turn idle (λ bars. let r = refused bars in (refused_stays e old new turn r.0, r.1)) (λ t may u. let r = unknown t may u in (r.1, r.2)) status start contents gives
@@ -416,13 +416,13 @@ module _ {P Q K A B D : Type 0} (w : Ways P Q K A B D) where
           (λ h x. marked_kept old new h contents start (ap (λ (c : Commits). c.lost) unmarked) x.0.3) (λ h f back. ap undetermined unmarked ∙ u) (moves may u))
 
   -- what was asked is this
-  pub acts_move : (act is : Act) (old new : Standing P Q K) (from to : Posted) (turn : Turn (Result (TxnAnswer Q) Error)) → act ≡ is
+  pub acts_move : (act is : Act) (old new : Standing P) (from to : Posted) (turn : Turn (Result (TxnAnswer P) Error)) → act ≡ is
       → IfKept turn (StandMoves w (tells.Act is) old new from to (answer_in answers.Called turn)) → IfKept turn (StandMoves w (tells.Act act) old new from to (answer_in answers.Called turn))
   acts_move act is old new from to turn e h = subst (λ a. IfKept turn (StandMoves w (tells.Act a) old new from to (answer_in answers.Called turn))) (sym e) h
 
   -- It hears of something.
 
-  hears_move : (a : Arrival) (old new : Standing P Q K) (from to : Posted) (turn : Turn (Result (TxnAnswer Q) Error)) → (turn ≢ Stopped → has_given_up old.work ≡ false → has_given_up new.work ≡ false)
+  hears_move : (a : Arrival) (old new : Standing P) (from to : Posted) (turn : Turn (Result (TxnAnswer P) Error)) → (turn ≢ Stopped → has_given_up old.work ≡ false → has_given_up new.work ≡ false)
       → ((r : Request) → TransactionMoves w (told_by a from r).known (told_by a from r).hear old new from to turn) → new.contents ≡ old.contents → IfKept turn (KeepsPlan old new from to) → IfKept turn (IfEnds turn (λ v. allows_data new.status ≡ false)) → SaysLoss turn new
       → new.start ≡ old.start → (turn ≢ Stopped → (h : List Event) → TransactionFits w old from h → (u : Ticket) → new.commits.lost ≡ Some u → Marks a from old.commits u) → IsAlone a old
       → IfKept turn (StandMoves w (tells.Heard a) old new from to (answer_in answers.Called turn))
@@ -433,13 +433,13 @@ module _ {P Q K A B D : Type 0} (w : Ways P Q K A B D) where
   })
 
   -- what came is this
-  pub heard_moves : {C : Type 0} (a : Arrival) (meant : Type 0) (old new : Standing P Q K) (from to : Posted) (pd pd' : C) (turn : Turn (Result (TxnAnswer Q) Error)) → TransactionGoes w meant (record old { commits = new.commits }) new from to pd pd' turn
+  pub heard_moves : {C : Type 0} (a : Arrival) (meant : Type 0) (old new : Standing P) (from to : Posted) (pd pd' : C) (turn : Turn (Result (TxnAnswer P) Error)) → TransactionGoes w meant (record old { commits = new.commits }) new from to pd pd' turn
       → ((r : Request) → TransactionMoves w (told_by a from r).known (told_by a from r).hear old new from to turn) → IsQuiet old → new.status ≡ moved_by old.status turn
       → new ≡ record old { status = new.status; commits = new.commits; work = new.work; width = new.width } → GivesUp old new turn → (old.work ≡ Idle → (turn ≡ Waits) × (new ≡ old) × (to ≡ from)) → SaysLoss turn new
       → ((h : List Event) → is_open old.work ≡ true → TransactionFits w old from h → IfKept turn (IsFollowed from (heard a from old.commits) new.commits)) → IsAlone a old
       → IfKept turn (StandMoves w (tells.Heard a) old new from to (answer_in answers.Called turn))
   heard_moves a meant old new from to pd pd' turn goes told quiet status kept gives deaf says follows alone =
-      let contents : new.contents ≡ old.contents = ap (λ (t : Standing P Q K). t.contents) kept in
-      let start : new.start ≡ old.start = ap (λ (t : Standing P Q K). t.start) kept in
+      let contents : new.contents ≡ old.contents = ap (λ (t : Standing P). t.contents) kept in
+      let start : new.start ≡ old.start = ap (λ (t : Standing P). t.start) kept in
       hears_move a old new from to turn (λ alive. heard_lives meant old new from to pd pd' turn alive goes) told contents (keeps_heard old new from to turn quiet status start contents gives deaf)
       (off_heard old new turn quiet status gives (λ e. (deaf e).0)) says start (marks w a old new from to turn follows deaf gives) alone

@@ -27,22 +27,22 @@ next_ask_at : (asks : List ℕ) (line : ℕ) → 1 ≤ line → next_at asks lin
 next_ask_at asks zero one = absurd (omega (arith, one))
 next_ask_at asks (suc i) one = let e : suc i - 1 ≡ i = omega arith in rw e refl
 
-module _ {P Q K : Type 0} where
-  pub asks_kept : (s : Clients P Q K) (line : ℕ) (p d : Place P Q K) → IsLine (sight_of s).stands line → d ≡ get_or s.places.items (line - 1) d → p.next_ask ≡ d.next_ask
-      → map (λ (q : Place P Q K). q.next_ask) (set s.places.items (line - 1) p) ≡ asks_of s
-  asks_kept s line p d is e k = map_kept (λ (q : Place P Q K). q.next_ask) s.places.items (line - 1) p d (place_there s line is) (k ∙ ap (λ (q : Place P Q K). q.next_ask) e)
+module _ {P : Type 0} where
+  pub asks_kept : (s : Clients P) (line : ℕ) (p d : Place P) → IsLine (sight_of s).stands line → d ≡ get_or s.places.items (line - 1) d → p.next_ask ≡ d.next_ask
+      → map (λ (q : Place P). q.next_ask) (set s.places.items (line - 1) p) ≡ asks_of s
+  asks_kept s line p d is e k = map_kept (λ (q : Place P). q.next_ask) s.places.items (line - 1) p d (place_there s line is) (k ∙ ap (λ (q : Place P). q.next_ask) e)
 
-  pub asks_put : (s : Clients P Q K) (line : ℕ) (p : Place P Q K) → map (λ (q : Place P Q K). q.next_ask) (set s.places.items (line - 1) p) ≡ set (asks_of s) (line - 1) p.next_ask
-  asks_put s line p = map-set (λ (q : Place P Q K). q.next_ask) s.places.items (line - 1) p
+  pub asks_put : (s : Clients P) (line : ℕ) (p : Place P) → map (λ (q : Place P). q.next_ask) (set s.places.items (line - 1) p) ≡ set (asks_of s) (line - 1) p.next_ask
+  asks_put s line p = map-set (λ (q : Place P). q.next_ask) s.places.items (line - 1) p
 
   -- what stands at a place is told, and its numbers stay
-  pub asks_told : (s : Clients P Q K) (at : ℕ) (p d : Place P Q K) → at < length (rows_of s) → d ≡ get_or s.places.items at d → p.next_ask ≡ d.next_ask → map (λ (q : Place P Q K). q.next_ask) (set s.places.items at p) ≡ asks_of s
-  asks_told s at p d h e k = map_kept (λ (q : Place P Q K). q.next_ask) s.places.items at p d (let long = length-map s.places.items (λ (q : Place P Q K). q.row) in omega (arith, h, long)) (k ∙ ap (λ (q : Place P Q K). q.next_ask) e)
+  pub asks_told : (s : Clients P) (at : ℕ) (p d : Place P) → at < length (rows_of s) → d ≡ get_or s.places.items at d → p.next_ask ≡ d.next_ask → map (λ (q : Place P). q.next_ask) (set s.places.items at p) ≡ asks_of s
+  asks_told s at p d h e k = map_kept (λ (q : Place P). q.next_ask) s.places.items at p d (let long = length-map s.places.items (λ (q : Place P). q.row) in omega (arith, h, long)) (k ∙ ap (λ (q : Place P). q.next_ask) e)
 
-  ask_there : (s : Clients P Q K) (line : ℕ) (d : Place P Q K) → IsLine (sight_of s).stands line → d ≡ get_or s.places.items (line - 1) d → d.next_ask ≡ next_at (asks_of s) line
-  ask_there s line d is e = ap (λ (q : Place P Q K). q.next_ask) e ∙ sym (next_ask_at (asks_of s) line is.first ∙ read_in (λ (q : Place P Q K). q.next_ask) s.places.items (line - 1) d 0 (place_there s line is))
+  ask_there : (s : Clients P) (line : ℕ) (d : Place P) → IsLine (sight_of s).stands line → d ≡ get_or s.places.items (line - 1) d → d.next_ask ≡ next_at (asks_of s) line
+  ask_there s line d is e = ap (λ (q : Place P). q.next_ask) e ∙ sym (next_ask_at (asks_of s) line is.first ∙ read_in (λ (q : Place P). q.next_ask) s.places.items (line - 1) d 0 (place_there s line is))
 
   -- an empty outbox that goes on from the numbers of a line
-  pub posted_so : (s : Clients P Q K) (line : ℕ) (d : Place P Q K) → IsLine (sight_of s).stands line → d ≡ get_or s.places.items (line - 1) d
+  pub posted_so : (s : Clients P) (line : ℕ) (d : Place P) → IsLine (sight_of s).stands line → d ≡ get_or s.places.items (line - 1) d
       → record { line = line; beat = false; next = d.next; next_ask = d.next_ask; sends = [] } ≡ posted_at (nexts_of s) (asks_of s) line
   posted_so s line d is e = let x = next_there s line d is e in let y = ask_there s line d is e in λ i. record { line = line; beat = false; next = x i; next_ask = y i; sends = [] }

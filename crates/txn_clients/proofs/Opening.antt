@@ -5,7 +5,7 @@ use Rattle.txn_history.specs.Meaning.{IsLawful, IsUnbegun}
 use Rattle.txn_history.specs.Phase.{Awaited}
 use Rattle.txn_history.specs.Phase.Awaited.{TimeOf}
 use Rattle.txn_history.specs.Posted.{Posted}
-use Rattle.txn_commit.specs.Committing.{Ways}
+use Rattle.txn_commit.specs.Ways.{Ways}
 use Rattle.txn_client.specs.Calls.{called, stage_waits}
 use Rattle.txn_client.specs.declared.client_call.ClientCall.{ClientCall}
 use Rattle.txn_client.specs.declared.client_call.Stage.TheVariants as stages
@@ -58,24 +58,24 @@ lives_more [] c h e = absurd (omega arith)
 lives_more (b ∷ bs) zero h e = e
 lives_more (b ∷ bs) (suc c) h e = lives_more bs c (omega arith) e
 
-module _ {P Q K : Type 0} where
+module _ {P : Type 0} where
   -- nobody waits in the name of a line where nothing stands
-  idle_unwanted : {A B D : Type 0} (w : Ways P Q K A B D) (rows : List (Row P Q K)) (line : ℕ) (a : Awaited) → AreMatched (stands_of rows) → 1 ≤ line → stand_at (stands_of rows) line ≡ Idle → Wants w rows line a → ⊥
+  idle_unwanted : (w : Ways P) (rows : List (Row P)) (line : ℕ) (a : Awaited) → AreMatched (stands_of rows) → 1 ≤ line → stand_at (stands_of rows) line ≡ Idle → Wants w rows line a → ⊥
   idle_unwanted w rows line a matched one idle (i, v, x) = unheard_voice (stands_of rows) line i matched (λ z. omega (arith, one, z)) (subst (NoneHears (stands_of rows) line) (sym idle) tt) (ap (voice i) (stand_read rows i) ∙ v)
 
-  module _ {A B D : Type 0} (w : Ways P Q K A B D) (p : IsLawful w.prewriting) (q : IsLawful w.committing) (k : IsLawful w.rolling) where
+  module _ (w : Ways P) (p : IsLawful w.plan) where
     -- Where nothing stood, something stands that waits for nothing.
 
-    pub idle_fewer : (s t : Clients P Q K) (line : ℕ) (r : Row P Q K) → IsLine (stands_of (rows_of s)) line → ((a : Awaited) → wants w r a → ⊥) → rows_of t ≡ set (rows_of s) (line - 1) r → (n : ℕ) (a : Awaited) → Wants w (rows_of t) n a → Wants w (rows_of s) n a
+    pub idle_fewer : (s t : Clients P) (line : ℕ) (r : Row P) → IsLine (stands_of (rows_of s)) line → ((a : Awaited) → wants w r a → ⊥) → rows_of t ≡ set (rows_of s) (line - 1) r → (n : ℕ) (a : Awaited) → Wants w (rows_of t) n a → Wants w (rows_of s) n a
     idle_fewer s t line r is silent rows n a x = wants_fewer w (rows_of s) (line - 1) r (row_within (rows_of s) line is) silent n a (subst (λ rs. Wants w rs n a) rows x)
 
-    pub idle_sound : (trace : Option Trace) (s t : Clients P Q K) (line c : ℕ) (r : Row P Q K) (rest : List Asker) → IsLine (stands_of (rows_of s)) line → stand_at (stands_of (rows_of s)) line ≡ Idle → AreMatched (stands_of (rows_of s))
+    pub idle_sound : (trace : Option Trace) (s t : Clients P) (line c : ℕ) (r : Row P) (rest : List Asker) → IsLine (stands_of (rows_of s)) line → stand_at (stands_of (rows_of s)) line ≡ Idle → AreMatched (stands_of (rows_of s))
         → ((a : Awaited) → wants w r a → ⊥) → ((o : Posted) (nexts : List ℕ) → RowArises w trace line o nexts r) → client_at (stand_of r) ≡ Some c → c < length (crashed_of t) → ((d x : ℕ) (a : Bool) → stand_of r ≡ Calling d x a → ⊥) → ((d : ℕ) (a : Bool) → stand_of r ≡ Asking d a → CalledIn trace line line)
         → rows_of t ≡ set (rows_of s) (line - 1) r → nexts_of t ≡ nexts_of s → asks_of t ≡ asks_of s
         → length (crashed_of s) ≤ length (crashed_of t) → ((d : ℕ) → d < length (crashed_of s) → lives (crashed_of t) (Some d) ≡ true → lives (crashed_of s) (Some d) ≡ true) → ((d : ℕ) → book_at t d ≡ book_at s d)
         → IsSound w trace rest s → IsSound w trace rest t
     idle_sound trace s t line c r rest is idle matched silent here own there free told rows nexts asks more live books sound =
-        sound_from w trace s t rest (subst (AreToldIn trace) (sym stands) (told_set trace ss line (stand_of r) is told (λ d x a e. absurd (free d x a e)) sound.told)) (one_set w p q k trace s t line r is rows nexts asks here sound.arisen)
+        sound_from w trace s t rest (subst (AreToldIn trace) (sym stands) (told_set trace ss line (stand_of r) is told (λ d x a e. absurd (free d x a e)) sound.told)) (one_set w p trace s t line r is rows nexts asks here sound.arisen)
         (subst AreCalled (sym stands) (called_set ss line (stand_of r) is free (λ d m e. never d m (sym idle ∙ e)) sound.called)) known wanted kept books (λ n. le_of (next_at (nexts_of s) n) (next_at (nexts_of t) n) (ap (λ ns. next_at ns n) (sym nexts))) (idle_fewer s t line r is silent rows) sound
       where
         ss : List Stand
@@ -121,16 +121,16 @@ module _ {P Q K : Type 0} where
 
     -- A call for a timestamp begins.
 
-    pub fresh_silent : (c : ℕ) (b : Bool) (call : ClientCall Pd P Q K) → call.stage ≡ stages.Fresh → (a : Awaited) → wants w (row.Asking c b call) a → ⊥
+    pub fresh_silent : (c : ℕ) (b : Bool) (call : ClientCall Pd P) → call.stage ≡ stages.Fresh → (a : Awaited) → wants w (row.Asking c b call) a → ⊥
     fresh_silent c b call e a x = subst (λ g. stage_waits g a) e x
 
-    pub fresh_arises : (c : ℕ) (b : Bool) (call : ClientCall Pd P Q K) → IsUnbegun called call → (trace : Option Trace) (at : ℕ) → WantedIn trace at call → ((n : ℕ) → CountedIn trace n 0) → (o : Posted) (nexts : List ℕ) → RowArises w trace at o nexts (row.Asking c b call)
+    pub fresh_arises : (c : ℕ) (b : Bool) (call : ClientCall Pd P) → IsUnbegun called call → (trace : Option Trace) (at : ℕ) → WantedIn trace at call → ((n : ℕ) → CountedIn trace n 0) → (o : Posted) (nexts : List ℕ) → RowArises w trace at o nexts (row.Asking c b call)
     fresh_arises c b call u trace at wants none o nexts = record {
       wanted = wants;
       arisen = record { history = []; fits = u.fits o []; kept = kept_nothing nexts; shown = shown_nothing trace at; own = λ e i. absurd i; counted = none o.line };
     }
 
-    pub asking_sound : (trace : Option Trace) (s t : Clients P Q K) (line c : ℕ) (b : Bool) (call : ClientCall Pd P Q K) (rest : List Asker) → IsLine (stands_of (rows_of s)) line → stand_at (stands_of (rows_of s)) line ≡ Idle → AreMatched (stands_of (rows_of s))
+    pub asking_sound : (trace : Option Trace) (s t : Clients P) (line c : ℕ) (b : Bool) (call : ClientCall Pd P) (rest : List Asker) → IsLine (stands_of (rows_of s)) line → stand_at (stands_of (rows_of s)) line ≡ Idle → AreMatched (stands_of (rows_of s))
         → get_or (crashed_of s) c true ≡ false → call.stage ≡ stages.Fresh → IsUnbegun called call
         → rows_of t ≡ set (rows_of s) (line - 1) (row.Asking c b call) → nexts_of t ≡ nexts_of s → asks_of t ≡ asks_of s → t.clients ≡ s.clients → CalledIn trace line line → WantedIn trace line call → IsSound w trace rest s → IsSound w trace rest t
     asking_sound trace s t line c b call rest is idle matched there fresh unbegun rows nexts asks clients is_called wants sound =
@@ -140,10 +140,10 @@ module _ {P Q K : Type 0} where
 
     -- A call of a transaction begins.
 
-    pub calling_fewer : (s t : Clients P Q K) (line x c : ℕ) (b : Bool) → IsLine (stands_of (rows_of s)) line → stand_at (stands_of (rows_of s)) x ≡ HasBegun c 0 → AreReady w (rows_of s)
+    pub calling_fewer : (s t : Clients P) (line x c : ℕ) (b : Bool) → IsLine (stands_of (rows_of s)) line → stand_at (stands_of (rows_of s)) x ≡ HasBegun c 0 → AreReady w (rows_of s)
         → rows_of t ≡ set (set (rows_of s) (x - 1) (with_waits line (row_at (rows_of s) (x - 1)))) (line - 1) (row.Calling c x b) → (n : ℕ) (a : Awaited) → Wants w (rows_of t) n a → Wants w (rows_of s) n a
     calling_fewer s t line x c b is free ready rows =
-        two_fewer w p q k (rows_of s) (rows_of t) line x (row.Calling c x b) (with_waits line (row_at (rows_of s) (x - 1))) is at rows (λ a z. z)
+        two_fewer w p (rows_of s) (rows_of t) line x (row.Calling c x b) (with_waits line (row_at (rows_of s) (x - 1))) is at rows (λ a z. z)
         (rests_silent w line c 0 (row_at (rows_of s) (x - 1)) begun (rests_when_free w c (row_at (rows_of s) (x - 1)) begun (ready.each (x - 1) row.Plain (row_within (rows_of s) x at))))
       where
         at : IsLine (stands_of (rows_of s)) x
@@ -155,17 +155,17 @@ module _ {P Q K : Type 0} where
         begun : stand_of (row_at (rows_of s) (x - 1)) ≡ HasBegun c 0
         begun = sym (stand_of_line (rows_of s) x at.first) ∙ free
 
-    pub calling_sound : (trace : Option Trace) (s t : Clients P Q K) (line x c : ℕ) (b : Bool) (rest : List Asker) → IsLine (stands_of (rows_of s)) line → stand_at (stands_of (rows_of s)) line ≡ Idle → stand_at (stands_of (rows_of s)) x ≡ HasBegun c 0 → AreReady w (rows_of s)
+    pub calling_sound : (trace : Option Trace) (s t : Clients P) (line x c : ℕ) (b : Bool) (rest : List Asker) → IsLine (stands_of (rows_of s)) line → stand_at (stands_of (rows_of s)) line ≡ Idle → stand_at (stands_of (rows_of s)) x ≡ HasBegun c 0 → AreReady w (rows_of s)
         → rows_of t ≡ set (set (rows_of s) (x - 1) (with_waits line (row_at (rows_of s) (x - 1)))) (line - 1) (row.Calling c x b) → nexts_of t ≡ nexts_of s → asks_of t ≡ asks_of s → t.clients ≡ s.clients → CalledIn trace line x → IsSound w trace rest s → IsSound w trace rest t
     calling_sound trace s t line x c b rest is idle free ready rows nexts asks clients is_called sound =
         sound_from w trace s t rest told
-        (two_arisen w p q k trace s t line x (row.Calling c x b) (with_waits line mine) is at rows nexts asks (λ o. tt) (λ o. rests_arises w p q k trace (suc (x - 1)) line c 0 mine begun rests _ o (nexts_of s) (sound.owing o.line) (sound.arisen (x - 1))) sound.arisen)
+        (two_arisen w p trace s t line x (row.Calling c x b) (with_waits line mine) is at rows nexts asks (λ o. tt) (λ o. rests_arises w p trace (suc (x - 1)) line c 0 mine begun rests _ o (nexts_of s) (sound.owing o.line) (sound.arisen (x - 1))) sound.arisen)
         (subst AreCalled (sym stands) all_called) known wanted kept (books_same s t clients) (λ n. le_of (next_at (nexts_of s) n) (next_at (nexts_of t) n) (ap (λ ns. next_at ns n) (sym nexts))) (calling_fewer s t line x c b is free ready rows) sound
       where
         ss : List Stand
         ss = stands_of (rows_of s)
 
-        mine : Row P Q K
+        mine : Row P
         mine = row_at (rows_of s) (x - 1)
 
         at : IsLine ss x
@@ -283,13 +283,13 @@ module _ {P Q K : Type 0} where
 
     -- One line more.
 
-    opened_row : (s t : Clients P Q K) → rows_of t ≡ rows_of s ++ row.Plain ∷ [] → (i : ℕ) → row_at (rows_of t) i ≡ row_at (rows_of s) i
+    opened_row : (s t : Clients P) → rows_of t ≡ rows_of s ++ row.Plain ∷ [] → (i : ℕ) → row_at (rows_of t) i ≡ row_at (rows_of s) i
     opened_row s t rows i = ap (λ rs. row_at rs i) rows ∙ or_ended (rows_of s) row.Plain i
 
-    pub opened_fewer : (s t : Clients P Q K) → rows_of t ≡ rows_of s ++ row.Plain ∷ [] → (n : ℕ) (a : Awaited) → Wants w (rows_of t) n a → Wants w (rows_of s) n a
-    opened_fewer s t rows n a (i, v, x) = (i, ap (λ (y : Row P Q K). voice i (stand_of y)) (sym (opened_row s t rows i)) ∙ v, subst (λ (y : Row P Q K). wants w y a) (opened_row s t rows i) x)
+    pub opened_fewer : (s t : Clients P) → rows_of t ≡ rows_of s ++ row.Plain ∷ [] → (n : ℕ) (a : Awaited) → Wants w (rows_of t) n a → Wants w (rows_of s) n a
+    opened_fewer s t rows n a (i, v, x) = (i, ap (λ (y : Row P). voice i (stand_of y)) (sym (opened_row s t rows i)) ∙ v, subst (λ (y : Row P). wants w y a) (opened_row s t rows i) x)
 
-    pub opened_sound : (trace : Option Trace) (s t : Clients P Q K) (rest : List Asker) → rows_of t ≡ rows_of s ++ row.Plain ∷ [] → nexts_of t ≡ nexts_of s ++ 1 ∷ [] → asks_of t ≡ asks_of s ++ 1 ∷ [] → t.clients ≡ s.clients → IsSound w trace rest s → IsSound w trace rest t
+    pub opened_sound : (trace : Option Trace) (s t : Clients P) (rest : List Asker) → rows_of t ≡ rows_of s ++ row.Plain ∷ [] → nexts_of t ≡ nexts_of s ++ 1 ∷ [] → asks_of t ≡ asks_of s ++ 1 ∷ [] → t.clients ≡ s.clients → IsSound w trace rest s → IsSound w trace rest t
     opened_sound trace s t rest rows nexts asks clients sound =
         sound_from w trace s t rest (record { asks = λ n c b e. sound.told.asks n c b (sym (stand n) ∙ e); calls = λ n c x b e. sound.told.calls n c x b (sym (stand n) ∙ e) }) arisen called
         (λ n d e. subst (λ cs. d < length cs) (sym crashed) (sound.known n d (ap client_at (sym (stand n)) ∙ e)))
@@ -312,21 +312,21 @@ module _ {P Q K : Type 0} where
         asked n = subst (λ ns. next_at (asks_of s) n ≤ next_at ns n) (sym asks) (next_opened (asks_of s) n)
 
         arisen : (i : ℕ) → RowArises w trace (suc i) (posted_at (nexts_of t) (asks_of t) (voice_at (rows_of t) i)) (nexts_of t) (row_at (rows_of t) i)
-        arisen i = subst (λ (y : Row P Q K). RowArises w trace (suc i) (posted_at (nexts_of t) (asks_of t) (voice i (stand_of y))) (nexts_of t) y) (sym (opened_row s t rows i))
-            (row_later w p q k trace (suc i) (row_at (rows_of s) i) _ _ (nexts_of s) (nexts_of t) (record { line = refl; beat = refl; next = risen (voice_at (rows_of s) i); next_ask = asked (voice_at (rows_of s) i) }) risen (sound.arisen i))
+        arisen i = subst (λ (y : Row P). RowArises w trace (suc i) (posted_at (nexts_of t) (asks_of t) (voice i (stand_of y))) (nexts_of t) y) (sym (opened_row s t rows i))
+            (row_later w p trace (suc i) (row_at (rows_of s) i) _ _ (nexts_of s) (nexts_of t) (record { line = refl; beat = refl; next = risen (voice_at (rows_of s) i); next_ask = asked (voice_at (rows_of s) i) }) risen (sound.arisen i))
 
     -- A client is gone.
 
-    pub crashed_sound : (trace : Option Trace) (s t : Clients P Q K) (client : ℕ) (rest : List Asker) → t.places ≡ s.places → crashed_of t ≡ set (crashed_of s) client true → ((c : ℕ) → book_at t c ≡ book_at s c) → IsSound w trace rest s → IsSound w trace rest t
+    pub crashed_sound : (trace : Option Trace) (s t : Clients P) (client : ℕ) (rest : List Asker) → t.places ≡ s.places → crashed_of t ≡ set (crashed_of s) client true → ((c : ℕ) → book_at t c ≡ book_at s c) → IsSound w trace rest s → IsSound w trace rest t
     crashed_sound trace s t client rest places crashed books sound = sound_from w trace s t rest (subst (AreToldIn trace) (sym stands) sound.told)
-        (λ i. subst (λ v. RowArises w trace (suc i) (posted_at (map (λ (x : Place P Q K). x.next) v.items) (map (λ (x : Place P Q K). x.next_ask) v.items) (voice_at (map (λ (x : Place P Q K). x.row) v.items) i)) (map (λ (x : Place P Q K). x.next) v.items) (row_at (map (λ (x : Place P Q K). x.row) v.items) i)) (sym places) (sound.arisen i))
+        (λ i. subst (λ v. RowArises w trace (suc i) (posted_at (map (λ (x : Place P). x.next) v.items) (map (λ (x : Place P). x.next_ask) v.items) (voice_at (map (λ (x : Place P). x.row) v.items) i)) (map (λ (x : Place P). x.next) v.items) (row_at (map (λ (x : Place P). x.row) v.items) i)) (sym places) (sound.arisen i))
         (subst AreCalled (sym stands) sound.called)
         (λ n d e. let l = sound.known n d (ap (λ ss. client_at (stand_at ss n)) (sym stands) ∙ e) in let long = ap length crashed ∙ length-set (crashed_of s) client true in omega (arith, l, long))
         (λ n d i e l x. (ap (λ ss. client_at (stand_at ss n)) (sym stands) ∙ e, lives_fewer (crashed_of s) client d (ap (λ cs. lives cs (Some d)) (sym crashed) ∙ l), subst (λ rs. Wants w rs n (TimeOf i)) rows x))
-        (λ n d e. ap (λ ss. client_at (stand_at ss n)) stands ∙ e) books (λ n. le_of (next_at (nexts_of s) n) (next_at (nexts_of t) n) (ap (λ v. next_at (map (λ (x : Place P Q K). x.next) v.items) n) (sym places))) (λ n a x. subst (λ rs. Wants w rs n a) rows x) sound
+        (λ n d e. ap (λ ss. client_at (stand_at ss n)) stands ∙ e) books (λ n. le_of (next_at (nexts_of s) n) (next_at (nexts_of t) n) (ap (λ v. next_at (map (λ (x : Place P). x.next) v.items) n) (sym places))) (λ n a x. subst (λ rs. Wants w rs n a) rows x) sound
       where
         rows : rows_of t ≡ rows_of s
-        rows = ap (λ v. map (λ (x : Place P Q K). x.row) v.items) places
+        rows = ap (λ v. map (λ (x : Place P). x.row) v.items) places
 
         stands : stands_of (rows_of t) ≡ stands_of (rows_of s)
         stands = ap stands_of rows

@@ -28,44 +28,44 @@ crashed_kept cs i new d h e k =
     let l = length-map cs (λ (c : ClientState). c.crashed) in
     map_kept (λ (c : ClientState). c.crashed) cs i new d (omega arith) (k ∙ ap (λ (c : ClientState). c.crashed) e)
 
-module _ {P Q K : Type 0} where
-  pub place_there : (s : Clients P Q K) (line : ℕ) → IsLine (sight_of s).stands line → line - 1 < length s.places.items
+module _ {P : Type 0} where
+  pub place_there : (s : Clients P) (line : ℕ) → IsLine (sight_of s).stands line → line - 1 < length s.places.items
   place_there s line is = let one = is.first in let last = is.last in omega (arith, one, last, count s)
 
   -- another row stands there
-  pub rows_set : (ps : List (Place P Q K)) (i : ℕ) (p : Place P Q K) → map (λ (q : Place P Q K). q.row) (set ps i p) ≡ set (map (λ (q : Place P Q K). q.row) ps) i p.row
-  rows_set ps i p = map-set (λ (q : Place P Q K). q.row) ps i p
+  pub rows_set : (ps : List (Place P)) (i : ℕ) (p : Place P) → map (λ (q : Place P). q.row) (set ps i p) ≡ set (map (λ (q : Place P). q.row) ps) i p.row
+  rows_set ps i p = map-set (λ (q : Place P). q.row) ps i p
 
-  pub rows_kept : (s : Clients P Q K) (line : ℕ) (p d : Place P Q K) → IsLine (sight_of s).stands line → d ≡ get_or s.places.items (line - 1) d → p.row ≡ d.row
-      → map (λ (q : Place P Q K). q.row) (set s.places.items (line - 1) p) ≡ rows_of s
-  rows_kept s line p d is e k = map_kept (λ (q : Place P Q K). q.row) s.places.items (line - 1) p d (place_there s line is) (k ∙ ap (λ (q : Place P Q K). q.row) e)
+  pub rows_kept : (s : Clients P) (line : ℕ) (p d : Place P) → IsLine (sight_of s).stands line → d ≡ get_or s.places.items (line - 1) d → p.row ≡ d.row
+      → map (λ (q : Place P). q.row) (set s.places.items (line - 1) p) ≡ rows_of s
+  rows_kept s line p d is e k = map_kept (λ (q : Place P). q.row) s.places.items (line - 1) p d (place_there s line is) (k ∙ ap (λ (q : Place P). q.row) e)
 
-  pub nexts_kept : (s : Clients P Q K) (line : ℕ) (p d : Place P Q K) → IsLine (sight_of s).stands line → d ≡ get_or s.places.items (line - 1) d → p.next ≡ d.next
-      → map (λ (q : Place P Q K). q.next) (set s.places.items (line - 1) p) ≡ nexts_of s
-  nexts_kept s line p d is e k = map_kept (λ (q : Place P Q K). q.next) s.places.items (line - 1) p d (place_there s line is) (k ∙ ap (λ (q : Place P Q K). q.next) e)
+  pub nexts_kept : (s : Clients P) (line : ℕ) (p d : Place P) → IsLine (sight_of s).stands line → d ≡ get_or s.places.items (line - 1) d → p.next ≡ d.next
+      → map (λ (q : Place P). q.next) (set s.places.items (line - 1) p) ≡ nexts_of s
+  nexts_kept s line p d is e k = map_kept (λ (q : Place P). q.next) s.places.items (line - 1) p d (place_there s line is) (k ∙ ap (λ (q : Place P). q.next) e)
 
   -- what stands there
-  pub row_there : (s : Clients P Q K) (line : ℕ) (d : Place P Q K) → IsLine (sight_of s).stands line → d ≡ get_or s.places.items (line - 1) d → d.row ≡ row_at (rows_of s) (line - 1)
-  row_there s line d is e = ap (λ (q : Place P Q K). q.row) e ∙ sym (read_in (λ (q : Place P Q K). q.row) s.places.items (line - 1) d Plain (place_there s line is))
+  pub row_there : (s : Clients P) (line : ℕ) (d : Place P) → IsLine (sight_of s).stands line → d ≡ get_or s.places.items (line - 1) d → d.row ≡ row_at (rows_of s) (line - 1)
+  row_there s line d is e = ap (λ (q : Place P). q.row) e ∙ sym (read_in (λ (q : Place P). q.row) s.places.items (line - 1) d Plain (place_there s line is))
 
-  pub next_there : (s : Clients P Q K) (line : ℕ) (d : Place P Q K) → IsLine (sight_of s).stands line → d ≡ get_or s.places.items (line - 1) d → d.next ≡ next_at (nexts_of s) line
-  next_there s line d is e = ap (λ (q : Place P Q K). q.next) e ∙ sym (next_of_line s line d is.first (place_there s line is))
+  pub next_there : (s : Clients P) (line : ℕ) (d : Place P) → IsLine (sight_of s).stands line → d ≡ get_or s.places.items (line - 1) d → d.next ≡ next_at (nexts_of s) line
+  next_there s line d is e = ap (λ (q : Place P). q.next) e ∙ sym (next_of_line s line d is.first (place_there s line is))
 
-  pub rows_wait : (s : Clients P Q K) (line n : ℕ) (p d : Place P Q K) → IsLine (sight_of s).stands line → d ≡ get_or s.places.items (line - 1) d → p.row ≡ with_waits n d.row
-      → map (λ (q : Place P Q K). q.row) (set s.places.items (line - 1) p) ≡ set (rows_of s) (line - 1) (with_waits n (row_at (rows_of s) (line - 1)))
+  pub rows_wait : (s : Clients P) (line n : ℕ) (p d : Place P) → IsLine (sight_of s).stands line → d ≡ get_or s.places.items (line - 1) d → p.row ≡ with_waits n d.row
+      → map (λ (q : Place P). q.row) (set s.places.items (line - 1) p) ≡ set (rows_of s) (line - 1) (with_waits n (row_at (rows_of s) (line - 1)))
   rows_wait s line n p d is e k = rows_set s.places.items (line - 1) p ∙ ap (set (rows_of s) (line - 1)) (k ∙ ap (with_waits n) (row_there s line d is e))
 
-  pub nexts_raised : (s : Clients P Q K) (line : ℕ) (p d : Place P Q K) → IsLine (sight_of s).stands line → d ≡ get_or s.places.items (line - 1) d → p.next ≡ d.next + 1
-      → map (λ (q : Place P Q K). q.next) (set s.places.items (line - 1) p) ≡ with_next (nexts_of s) line
-  nexts_raised s line p d is e k = map-set (λ (q : Place P Q K). q.next) s.places.items (line - 1) p
+  pub nexts_raised : (s : Clients P) (line : ℕ) (p d : Place P) → IsLine (sight_of s).stands line → d ≡ get_or s.places.items (line - 1) d → p.next ≡ d.next + 1
+      → map (λ (q : Place P). q.next) (set s.places.items (line - 1) p) ≡ with_next (nexts_of s) line
+  nexts_raised s line p d is e k = map-set (λ (q : Place P). q.next) s.places.items (line - 1) p
       ∙ ap (set (nexts_of s) (line - 1)) (k ∙ ap (λ n. n + 1) (next_there s line d is e))
 
   -- the client of a line
-  pub client_of_line : (s : Clients P Q K) (line : ℕ) (r : Row P Q K) → 1 ≤ line → r ≡ row_at (rows_of s) (line - 1) → client_at (stand_of r) ≡ client_at (stand_at (sight_of s).stands line)
-  client_of_line s line r one e = ap (λ (x : Row P Q K). client_at (stand_of x)) e ∙ ap client_at (sym (stand_of_line (rows_of s) line one))
+  pub client_of_line : (s : Clients P) (line : ℕ) (r : Row P) → 1 ≤ line → r ≡ row_at (rows_of s) (line - 1) → client_at (stand_of r) ≡ client_at (stand_at (sight_of s).stands line)
+  client_of_line s line r one e = ap (λ (x : Row P). client_at (stand_of x)) e ∙ ap client_at (sym (stand_of_line (rows_of s) line one))
 
   -- one is posted
-  pub posts_one : (s t : Clients P Q K) (from to : Turn) (p : Posting) (line : ℕ) → to.posted.items ≡ from.posted.items ++ p ∷ [] → to.ended.items ≡ from.ended.items
+  pub posts_one : (s t : Clients P) (from to : Turn) (p : Posting) (line : ℕ) → to.posted.items ≡ from.posted.items ++ p ∷ [] → to.ended.items ≡ from.ended.items
       → (ticket_in p).line ≡ line → (ticket_in p).beat ≡ false → is_live (sight_of s) line ≡ true → IsNext (sight_of s).nexts (ticket_in p) → HasAskers p → AskersAre (line_count (sight_of s)) p
       → t.clients ≡ s.clients → rows_of t ≡ rows_of s → nexts_of t ≡ with_next (nexts_of s) line → Advances from to (sight_of s) (sight_of t)
   posts_one s t from to p line posted ended own beat live next askers lines clients rows nexts =

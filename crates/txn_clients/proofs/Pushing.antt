@@ -14,7 +14,7 @@ use Rattle.txn_kv.specs.declared.outbox.Errand.TheVariants.{Ask, Send, Sleep}
 use Rattle.txn_history.specs.Phase.{IsPosted as IsErrand}
 use Rattle.txn_history.specs.Phase.Awaited.{ReplyTo, EndOf, TimeOf}
 use Rattle.txn_history.specs.Posted.{AreNumbered, Errand, Posted}
-use Rattle.txn_commit.specs.Committing.{Ways}
+use Rattle.txn_commit.specs.Ways.{Ways}
 use Rattle.txn_side.specs.Sight.{next_at}
 use Rattle.txn_side.specs.declared.turn.Posting.{Posting}
 use Rattle.txn_tso.specs.declared.asker.Asker.{Asker}
@@ -59,21 +59,21 @@ pub if_ok_with : {T E : Type 0} {A : Type 0} {B C : T → Type 0} (r : Result T 
 if_ok_with (Ok x) f a b = f x a b
 if_ok_with (Err e) f a b = tt
 
-module _ {P Q K A B D : Type 0} (w : Ways P Q K A B D) where
-  pub row_told : (told : Told) (s t : Clients P Q K) (at client : ℕ) (p q : Place P Q K) (d e : ClientState) (from to : Posted) (answer : Option (Answer P Q K))
+module _ {P : Type 0} (w : Ways P) where
+  pub row_told : (told : Told) (s t : Clients P) (at client : ℕ) (p q : Place P) (d e : ClientState) (from to : Posted) (answer : Option (Answer P))
       → t.places.items ≡ set s.places.items at q → t.clients.items ≡ set s.clients.items client e → at < length (rows_of s) → client < length (crashed_of s) → p ≡ get_or s.places.items at p → d ≡ get_or s.clients.items client d
       → q.next_ask ≡ p.next_ask → book_of e ≡ book_of d → stand_of q.row ≡ stand_of p.row → RowGoes w told p.row q.row from to answer → TellsRow w told at s t from to answer
   row_told told s t at client p q d e from to answer places clients inside there f g ask book stand goes = record {
     row = q.row;
-    rows = ap (map (λ (x : Place P Q K). x.row)) places ∙ rows_set s.places.items at q;
+    rows = ap (map (λ (x : Place P). x.row)) places ∙ rows_set s.places.items at q;
     stand = stand ∙ ap stand_of (sym (place_row s at p inside f));
-    goes = subst (λ (r : Row P Q K). RowGoes w told r q.row from to answer) (sym (place_row s at p inside f)) goes;
-    asks = ap (map (λ (x : Place P Q K). x.next_ask)) places ∙ asks_told s at q p inside f ask;
+    goes = subst (λ (r : Row P). RowGoes w told r q.row from to answer) (sym (place_row s at p inside f)) goes;
+    asks = ap (map (λ (x : Place P). x.next_ask)) places ∙ asks_told s at q p inside f ask;
     books = ap (map book_of) clients ∙ books_kept s.clients.items client e d there g book;
   }
 
-  module _ (p : IsLawful w.prewriting) (q : IsLawful w.committing) (k : IsLawful w.rolling) where
-    pub pushed : (trace : Option Trace) (s m u t : Clients P Q K) (told : Told) (line client at : ℕ) (rest : List Asker) (from to : Posted) (answer : Option (Answer P Q K)) (sends : List Errand) (ps qs : List Posting) (es fs : List Ending)
+  module _ (p : IsLawful w.plan) where
+    pub pushed : (trace : Option Trace) (s m u t : Clients P) (told : Told) (line client at : ℕ) (rest : List Asker) (from to : Posted) (answer : Option (Answer P)) (sends : List Errand) (ps qs : List Posting) (es fs : List Ending)
         → IsLine (stands_of (rows_of s)) line → at < length (rows_of s) → AreMatched (stands_of (rows_of s))
         → from ≡ posted_at (nexts_of s) (asks_of s) line → sends ≡ to.sends → Posts from to
         → TellsRow w told at s m from to answer → nexts_of m ≡ nexts_of s → crashed_of m ≡ crashed_of s
@@ -83,7 +83,7 @@ module _ {P Q K A B D : Type 0} (w : Ways P Q K A B D) where
         → GoesOn w trace client (HearsAt line told) rest ps qs es fs s t × IfSome answer (AnswerRests w (posting_in qs trace) (suc at) line)
     pushed trace s m u t told line client at rest from to answer sends ps qs es fs is inside matched begins sent posts told_row nexts crashed hands rows_u crashed_u rows_t nexts_t asks_t clients_t unended heard knows sound =
         subst (λ xs. GoesOn w trace client (HearsAt line told) rest ps qs es xs s t × IfSome answer (AnswerRests w (posting_in qs trace) (suc at) line)) (sym unended)
-        (push_goes w p q k trace s t told line client at told_row.row rest from to answer sends ps qs es is inside heard.own heard.voiced matched begins sent
+        (push_goes w p trace s t told line client at told_row.row rest from to answer sends ps qs es is inside heard.own heard.voiced matched begins sent
         (rows_t ∙ rows_u ∙ told_row.rows) told_row.stand told_row.goes risen up (asks_t ∙ ap (λ ns. set ns (line - 1) to.next_ask) (hands.asks ∙ told_row.asks)) (crashed_t ∙ crashed_u ∙ crashed) above
         hands.posted done mailed (λ c. ap (λ (b : Book). b.out) (books_same u t clients_t c) ∙ hands.outs c ∙ ap (λ (b : Book). b.out) (before c)) (λ c. ap (λ (b : Book). b.ticket) (books_same u t clients_t c) ∙ hands.tickets c ∙ ap (λ (b : Book). b.ticket) (before c))
         queued (λ c apart. books_same u t clients_t c ∙ hands.books c apart ∙ before c) knows sound)

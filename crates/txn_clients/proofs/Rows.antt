@@ -13,7 +13,7 @@ use Rattle.txn_history.specs.Posted.{Posted}
 use Rattle.txn_history.specs.Turn.{IfEnds, IfKept, Turn}
 use Rattle.txn_history.specs.Turn.Turn.{Stopped, Waits, Ends}
 use Rattle.txn_buffer.specs.Contents.{Contents}
-use Rattle.txn_commit.specs.Committing.{Ways}
+use Rattle.txn_commit.specs.Ways.{Ways}
 use Rattle.txn_core.specs.Going.{TransactionReady, WorkReady}
 use Rattle.txn_core.specs.Transaction.{Standing, WriteEnds, is_open, is_waiting}
 use Rattle.txn_core.specs.Waiting.{HandsOut, work_phase}
@@ -50,28 +50,28 @@ posts_rollback {from = from} {to = to} true None refused undetermined moves = po
 
 -- What a transaction is told
 
-module _ {P Q K A B D : Type 0} (w : Ways P Q K A B D) where
+module _ {P : Type 0} (w : Ways P) where
   -- a write ends at once
-  pub told_write : (refusal : Option Error) (wrote : Contents → Contents → Type 0) (old new : Standing P Q K) (from to : Posted) (turn : Turn (Result (TxnAnswer Q) Error))
+  pub told_write : (refusal : Option Error) (wrote : Contents → Contents → Type 0) (old new : Standing P) (from to : Posted) (turn : Turn (Result (TxnAnswer P) Error))
       → WriteEnds refusal wrote old new turn → is_open old.work ≡ false → TransactionReady w old → to ≡ from → IfKept turn (IsTold w new from to turn)
   told_write refusal wrote old new from to Stopped h idle ready quiet = tt
   told_write refusal wrote old new from to Waits h idle ready quiet = absurd h
-  told_write None wrote old new from to (Ends v) h idle ready quiet = subst (λ (t : Standing P Q K). IsTold w t from to (Ends v)) (sym h.1) (record {
+  told_write None wrote old new from to (Ends v) h idle ready quiet = subst (λ (t : Standing P). IsTold w t from to (Ends v)) (sym h.1) (record {
     posts = posts_none from to quiet;
     ready = record { start = ready.start; work = ready.work };
     rests = idle;
-    hands = subst (HandsOut w.committing) (sym h.0) tt;
+    hands = subst (HandsOut w.plan) (sym h.0) tt;
   })
-  told_write (Some e) wrote old new from to (Ends v) h idle ready quiet = subst (λ (t : Standing P Q K). IsTold w t from to (Ends v)) (sym h.1) (record {
+  told_write (Some e) wrote old new from to (Ends v) h idle ready quiet = subst (λ (t : Standing P). IsTold w t from to (Ends v)) (sym h.1) (record {
     posts = posts_none from to quiet;
     ready = ready;
     rests = idle;
-    hands = subst (HandsOut w.committing) (sym h.0) tt;
+    hands = subst (HandsOut w.plan) (sym h.0) tt;
   })
 
   -- a commit or a rollback begins
-  pub told_call : (new : Standing P Q K) (from to : Posted) (turn : Turn (Result (TxnAnswer Q) Error))
-      → TransactionReady w new → is_open new.work ≡ is_waiting turn → IfEnds turn (HandsOut w.committing) → Posts from to → IfKept turn (IsTold w new from to turn)
+  pub told_call : (new : Standing P) (from to : Posted) (turn : Turn (Result (TxnAnswer P) Error))
+      → TransactionReady w new → is_open new.work ≡ is_waiting turn → IfEnds turn (HandsOut w.plan) → Posts from to → IfKept turn (IsTold w new from to turn)
   told_call new from to Stopped ready busy hands posts = tt
   told_call new from to Waits ready busy hands posts = record { posts = posts; ready = ready; rests = tt; hands = tt }
   told_call new from to (Ends v) ready busy hands posts = record { posts = posts; ready = ready; rests = busy; hands = hands }
@@ -86,17 +86,17 @@ module _ {P Q K A B D : Type 0} (w : Ways P Q K A B D) where
   not_over : Running ≡ Over → ⊥
   not_over e = cc
 
-  rests_after : {C : Type 0} (meant : Type 0) (old new : Standing P Q K) (from to : Posted) (pd pd' : C) (v : Result (TxnAnswer Q) Error)
-      → Goes (λ (t : Standing P Q K). work_phase w t.work) meant old new from to pd pd' (Ends v)
-      → (work : Work P Q K) → new.work ≡ work → WorkReady w new.start work → is_open work ≡ false
+  rests_after : {C : Type 0} (meant : Type 0) (old new : Standing P) (from to : Posted) (pd pd' : C) (v : Result (TxnAnswer P) Error)
+      → Goes (λ (t : Standing P). work_phase w t.work) meant old new from to pd pd' (Ends v)
+      → (work : Work P) → new.work ≡ work → WorkReady w new.start work → is_open work ≡ false
   rests_after meant old new from to pd pd' v g Idle e r = refl
   rests_after meant old new from to pd pd' v g (Open call) e r =
       absurd (never (work_phase w old.work) v (g.deaf (λ this. not_over (sym r.2 ∙ (ap (work_phase w) (sym e) ∙ g.next this)))))
   rests_after meant old new from to pd pd' v g GaveUp e r = refl
 
-  pub told_heard : {C : Type 0} (meant : Type 0) (old new : Standing P Q K) (from to : Posted) (pd pd' : C) (turn : Turn (Result (TxnAnswer Q) Error))
-      → Goes (λ (t : Standing P Q K). work_phase w t.work) meant old new from to pd pd' turn
-      → TransactionReady w new → IfEnds turn (HandsOut w.committing) → Posts from to → IfKept turn (IsTold w new from to turn)
+  pub told_heard : {C : Type 0} (meant : Type 0) (old new : Standing P) (from to : Posted) (pd pd' : C) (turn : Turn (Result (TxnAnswer P) Error))
+      → Goes (λ (t : Standing P). work_phase w t.work) meant old new from to pd pd' turn
+      → TransactionReady w new → IfEnds turn (HandsOut w.plan) → Posts from to → IfKept turn (IsTold w new from to turn)
   told_heard meant old new from to pd pd' Stopped g ready hands posts = tt
   told_heard meant old new from to pd pd' Waits g ready hands posts = record { posts = posts; ready = ready; rests = tt; hands = tt }
   told_heard meant old new from to pd pd' (Ends v) g ready hands posts = record { posts = posts; ready = ready; rests = rests_after meant old new from to pd pd' v g new.work refl ready.work; hands = hands }

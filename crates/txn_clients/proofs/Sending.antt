@@ -77,9 +77,9 @@ out_lines None lines g e = absurd (no e)
     no q = cc
 out_lines (Some t) lines g e = sym (ap askers_in e)
 
-module _ {P Q K : Type 0} where
+module _ {P : Type 0} where
   -- the request of this ticket is out
-  pub has_out : (s : Clients P Q K) (client : ℕ) (t : Ticket) (cs : List ClientState) (d : ClientState) → cs ≡ s.clients.items → client < length cs → d ≡ get_or cs client d → d.group ≡ Some t → HasOut (sight_of s) client t
+  pub has_out : (s : Clients P) (client : ℕ) (t : Ticket) (cs : List ClientState) (d : ClientState) → cs ≡ s.clients.items → client < length cs → d ≡ get_or cs client d → d.group ≡ Some t → HasOut (sight_of s) client t
   has_out s client t cs d same h e out = (
     lines_out d,
     subst (λ ds. get_or (map group_of ds) client None ≡ Some (record { ticket = t; askers = lines_out d })) same
@@ -87,7 +87,7 @@ module _ {P Q K : Type 0} where
   )
 
   -- what its reply gives
-  pub gives_out : (s : Clients P Q K) (client : ℕ) (d : ClientState) (reply : Reply) (given : List Answer) → client < length (crashed_of s) → d ≡ get_or s.clients.items client d
+  pub gives_out : (s : Clients P) (client : ℕ) (d : ClientState) (reply : Reply) (given : List Answer) → client < length (crashed_of s) → d ≡ get_or s.clients.items client d
       → ((times : TsoResponse) → reply ≡ replies.Tso times → given ≡ answered times d.oracle) → (((times : TsoResponse) → reply ≡ replies.Tso times → ⊥) → All IsRefused given)
       → AreGiven (sight_of s) client reply given
   gives_out s client d reply given h e granted refused t (askers, out) line version timed =
@@ -100,11 +100,11 @@ module _ {P Q K : Type 0} where
         gives = gives_in reply askers given (askers_out d.oracle) lines granted refused line version timed;
       }
 
-  pub same_asks : (s t : Clients P Q K) (client : ℕ) → t.clients ≡ s.clients → asks_at t client ≡ asks_at s client
+  pub same_asks : (s t : Clients P) (client : ℕ) → t.clients ≡ s.clients → asks_at t client ≡ asks_at s client
   same_asks s t client e = ap (λ v. get_or (map lines_out v.items) client []) e
 
   -- it goes out
-  pub sends_one : (s t : Clients P Q K) (from to : Turn) (p : Posting) (h : Group) (client line : ℕ) → to.posted.items ≡ from.posted.items ++ p ∷ [] → to.ended.items ≡ from.ended.items
+  pub sends_one : (s t : Clients P) (from to : Turn) (p : Posting) (h : Group) (client line : ℕ) → to.posted.items ≡ from.posted.items ++ p ∷ [] → to.ended.items ≡ from.ended.items
       → (ticket_in p).line ≡ line → (ticket_in p).beat ≡ false → is_live (sight_of s) line ≡ true → IsNext (sight_of s).nexts (ticket_in p) → HasAskers p → AskersAre (line_count (sight_of s)) p → IsAsk h p → client < length (crashed_of s)
       → crashed_of t ≡ crashed_of s → groups_of t ≡ set (groups_of s) client (Some h) → rows_of t ≡ rows_of s → nexts_of t ≡ with_next (nexts_of s) line → Advances from to (sight_of s) (sight_of t)
   sends_one s t from to p h client line posted ended own beat live next askers lines ask inside crashed groups rows nexts =

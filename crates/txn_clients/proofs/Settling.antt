@@ -12,7 +12,7 @@ use Rattle.txn_history.specs.Phase.Awaited.{ReplyTo, EndOf, TimeOf}
 use Rattle.txn_history.specs.Posted.{Posted}
 use Rattle.txn_kv.specs.declared.arrival.Arrival.{Arrival}
 use Rattle.txn_kv.specs.declared.arrival.Arrival.TheVariants as arrivals
-use Rattle.txn_commit.specs.Committing.{Ways}
+use Rattle.txn_commit.specs.Ways.{Ways}
 use Rattle.txn_client.specs.declared.client_call.ClientCall.{ClientCall}
 use Rattle.txn_report.specs.declared.outcome.Outcome.{Outcome}
 use Rattle.txn_report.specs.declared.outcome.Outcome.TheVariants.{Done, Err, Ok, Skipped, Unfinished}
@@ -36,6 +36,7 @@ use Rattle.txn_clients.specs.declared.told.Told.{Told}
 use Rattle.txn_clients.specs.declared.told.Told.TheVariants as tells
 use Rattle.txn_clients.proofs.Sights.{HasSettled}
 use Rattle.txn_side.specs.Trace.{Trace}
+use Rattle.txn_side.specs.Trace.CallKind.{OfTransaction}
 use Rattle.txn_side.specs.declared.turn.Ending.{Ending}
 use Rattle.txn_clients.specs.Failing.{AnswerRests, AreToldIn, CalledIn, CountedIn, EndsMore, FailsAt, IfFails, LongerIn, owing, posting_in, AskRests}
 use Rattle.txn_clients.specs.Resting.{sound_longer}
@@ -80,7 +81,7 @@ settled_client c s (inl e) = ap client_at e
 settled_client c s (inr (inl e)) = ap client_at e
 settled_client c s (inr (inr e)) = ap client_at e
 
-pub settled_runs : {P Q K : Type 0} (c : ℕ) (r : Row P Q K) → HasSettled c (stand_of r) → RowRuns r
+pub settled_runs : {P : Type 0} (c : ℕ) (r : Row P) → HasSettled c (stand_of r) → RowRuns r
 settled_runs c row.Plain h = tt
 settled_runs c (row.Client d) h = tt
 settled_runs c (row.Asking d b call) h = absurd (settled_ask c d b h)
@@ -129,17 +130,17 @@ called_set stands line new is after before calls n c x b e = by (same_line line 
         there : stand_at stands x ≡ HasBegun c n
         there = calls n c x b (sym (stand_other stands line n new is.first apart) ∙ e)
 
-module _ {P Q K : Type 0} where
-  pub books_same : (s t : Clients P Q K) → t.clients ≡ s.clients → (c : ℕ) → book_at t c ≡ book_at s c
+module _ {P : Type 0} where
+  pub books_same : (s t : Clients P) → t.clients ≡ s.clients → (c : ℕ) → book_at t c ≡ book_at s c
   books_same s t e c = ap (λ v. get_or (map book_of v.items) c blank) e
 
-  pub crashed_same : (s t : Clients P Q K) → t.clients ≡ s.clients → crashed_of t ≡ crashed_of s
+  pub crashed_same : (s t : Clients P) → t.clients ≡ s.clients → crashed_of t ≡ crashed_of s
   crashed_same s t e = ap (λ v. map (λ (c : ClientState). c.crashed) v.items) e
 
-  pub row_within : (rows : List (Row P Q K)) (line : ℕ) → IsLine (stands_of rows) line → line - 1 < length rows
+  pub row_within : (rows : List (Row P)) (line : ℕ) → IsLine (stands_of rows) line → line - 1 < length rows
   row_within rows line is = let one = is.first in let last = is.last in let long = length-map rows stand_of in omega (arith, one, last, long)
 
-  pub prepared_act : (a : Act) (c m : ℕ) (r : Row P Q K) → stand_of r ≡ HasBegun c m → IsPrepared (tells.Act a) r
+  pub prepared_act : (a : Act) (c m : ℕ) (r : Row P) → stand_of r ≡ HasBegun c m → IsPrepared (tells.Act a) r
   prepared_act a c m row.Plain e = tt
   prepared_act a c m (row.Client d) e = tt
   prepared_act a c m (row.Asking d b call) e = absurd (cc)
@@ -148,8 +149,8 @@ module _ {P Q K : Type 0} where
   prepared_act a c m (row.Past d) e = tt
   prepared_act a c m (row.Working d job) e = tt
 
-  module _ {A B D : Type 0} (w : Ways P Q K A B D) where
-    pub settled_silent : (c : ℕ) (r : Row P Q K) → HasSettled c (stand_of r) → RowReady w r → (a : Awaited) → wants w r a → ⊥
+  module _ (w : Ways P) where
+    pub settled_silent : (c : ℕ) (r : Row P) → HasSettled c (stand_of r) → RowReady w r → (a : Awaited) → wants w r a → ⊥
     settled_silent c row.Plain h may a x = x
     settled_silent c (row.Client d) h may a x = x
     settled_silent c (row.Asking d b call) h may a x = settled_ask c d b h
@@ -159,7 +160,7 @@ module _ {P Q K : Type 0} where
     settled_silent c (row.Working d job) h may a x = x
 
     -- no transaction stands here
-    pub past_arises : (c : ℕ) (r : Row P Q K) → (stand_of r ≡ Past c) ⊎ (stand_of r ≡ Working c) → (trace : Option Trace) (at : ℕ) (o : Posted) (nexts : List ℕ) → RowArises w trace at o nexts r
+    pub past_arises : (c : ℕ) (r : Row P) → (stand_of r ≡ Past c) ⊎ (stand_of r ≡ Working c) → (trace : Option Trace) (at : ℕ) (o : Posted) (nexts : List ℕ) → RowArises w trace at o nexts r
     past_arises c row.Plain h trace at o nexts = tt
     past_arises c (row.Client d) h trace at o nexts = tt
     past_arises c (row.Asking d b call) h trace at o nexts = absurd (elim h [ inl e ↦ cc | inr e ↦ cc ])
@@ -168,7 +169,7 @@ module _ {P Q K : Type 0} where
     past_arises c (row.Past d) h trace at o nexts = tt
     past_arises c (row.Working d job) h trace at o nexts = tt
 
-    pub rests_silent : (n c m : ℕ) (r : Row P Q K) → stand_of r ≡ HasBegun c m → Rests r → (a : Awaited) → wants w (with_waits n r) a → ⊥
+    pub rests_silent : (n c m : ℕ) (r : Row P) → stand_of r ≡ HasBegun c m → Rests r → (a : Awaited) → wants w (with_waits n r) a → ⊥
     rests_silent n c m row.Plain e rests a x = x
     rests_silent n c m (row.Client d) e rests a x = x
     rests_silent n c m (row.Asking d b call) e rests a x = absurd (no e)
@@ -180,7 +181,7 @@ module _ {P Q K : Type 0} where
     rests_silent n c m (row.Past d) e rests a x = x
     rests_silent n c m (row.Working d job) e rests a x = x
 
-    pub rests_when_free : (c : ℕ) (r : Row P Q K) → stand_of r ≡ HasBegun c 0 → RowReady w r → Rests r
+    pub rests_when_free : (c : ℕ) (r : Row P) → stand_of r ≡ HasBegun c 0 → RowReady w r → Rests r
     rests_when_free c row.Plain e may = tt
     rests_when_free c (row.Client d) e may = tt
     rests_when_free c (row.Asking d b call) e may = tt
@@ -191,7 +192,7 @@ module _ {P Q K : Type 0} where
 
     -- Where no other client and no ask changes.
 
-    pub quiet_goes : (trace : Option Trace) (s t : Clients P Q K) (client : ℕ) (rest : List Asker) (ps : List Posting) (es fs : List Ending) → IsSound w (posting_in ps trace) rest t → EndsMore w (posting_in ps trace) es fs → ((n : ℕ) (a : Awaited) → Wants w (rows_of t) n a → Wants w (rows_of s) n a) → ((c : ℕ) → book_at t c ≡ book_at s c)
+    pub quiet_goes : (trace : Option Trace) (s t : Clients P) (client : ℕ) (rest : List Asker) (ps : List Posting) (es fs : List Ending) → IsSound w (posting_in ps trace) rest t → EndsMore w (posting_in ps trace) es fs → ((n : ℕ) (a : Awaited) → Wants w (rows_of t) n a → Wants w (rows_of s) n a) → ((c : ℕ) → book_at t c ≡ book_at s c)
         → GoesOn w trace client (λ n a. ⊥) rest ps ps es fs s t
     quiet_goes trace s t client rest ps es fs sound ends fewer books = record {
       sound = sound;
@@ -209,7 +210,7 @@ module _ {P Q K : Type 0} where
     met_more ps qs n (TimeOf k) keeps h = tt
 
     -- one part after another
-    pub goes_on : (trace : Option Trace) (s m t : Clients P Q K) (client : ℕ) (Heard More : ℕ → Awaited → Type 0) (rest left : List Asker) (ps qs rs : List Posting) (es fs gs : List Ending) → GoesOn w trace client Heard rest ps qs es fs s m → GoesOn w trace client More left qs rs fs gs m t → GoesOn w trace client Heard left ps rs es gs s t
+    pub goes_on : (trace : Option Trace) (s m t : Clients P) (client : ℕ) (Heard More : ℕ → Awaited → Type 0) (rest left : List Asker) (ps qs rs : List Posting) (es fs gs : List Ending) → GoesOn w trace client Heard rest ps qs es fs s m → GoesOn w trace client More left qs rs fs gs m t → GoesOn w trace client Heard left ps rs es gs s t
     goes_on trace s m t client Heard More rest left ps qs rs es fs gs f g = record {
       sound = g.sound;
       ends = ends_then w trace qs rs es fs gs g.posted f.ends g.ends;
@@ -223,15 +224,15 @@ module _ {P Q K : Type 0} where
       books = λ c apart. g.books c apart ∙ f.books c apart;
     }
 
-    module _ (p : IsLawful w.prewriting) (q : IsLawful w.committing) (k : IsLawful w.rolling) where
-      pub rests_arises : (trace : Option Trace) (at : ℕ) (n c m : ℕ) (r : Row P Q K) → stand_of r ≡ HasBegun c m → Rests r → (o later : Posted) (nexts : List ℕ) → CountedIn trace later.line 0 → RowArises w trace at o nexts r → RowArises w trace at later nexts (with_waits n r)
+    module _ (p : IsLawful w.plan) where
+      pub rests_arises : (trace : Option Trace) (at : ℕ) (n c m : ℕ) (r : Row P) → stand_of r ≡ HasBegun c m → Rests r → (o later : Posted) (nexts : List ℕ) → CountedIn trace later.line 0 → RowArises w trace at o nexts r → RowArises w trace at later nexts (with_waits n r)
       rests_arises trace at n c m row.Plain e rests o later nexts none x = tt
       rests_arises trace at n c m (row.Client d) e rests o later nexts none x = tt
       rests_arises trace at n c m (row.Asking d b call) e rests o later nexts none x = absurd (no e)
         where
           no : Asking d b ≡ HasBegun c m → ⊥
           no f = cc
-      rests_arises trace at n c m (row.Begun d t i) e rests o later nexts none x = stand_rests w p q k t o later nexts nexts rests (λ j. le_of (next_at nexts j) (next_at nexts j) refl) none x
+      rests_arises trace at n c m (row.Begun d t i) e rests o later nexts none x = stand_rests w p t o later nexts nexts rests (λ j. le_of (next_at nexts j) (next_at nexts j) refl) none x
       rests_arises trace at n c m (row.Calling d y b) e rests o later nexts none x = tt
       rests_arises trace at n c m (row.Past d) e rests o later nexts none x = tt
       rests_arises trace at n c m (row.Working d job) e rests o later nexts none x = tt
@@ -239,12 +240,12 @@ module _ {P Q K : Type 0} where
       place_of : (line : ℕ) → 1 ≤ line → line ≡ suc (line - 1)
       place_of line first = omega (arith, first)
 
-      placed : (trace : Option Trace) (line : ℕ) (r : Row P Q K) → 1 ≤ line → ((o : Posted) (nexts : List ℕ) → RowArises w trace line o nexts r)
+      placed : (trace : Option Trace) (line : ℕ) (r : Row P) → 1 ≤ line → ((o : Posted) (nexts : List ℕ) → RowArises w trace line o nexts r)
           → (o : Posted) (nexts : List ℕ) → RowArises w trace (suc (line - 1)) o nexts r
       placed trace line r first here o nexts = subst (λ n. RowArises w trace n o nexts r) (place_of line first) (here o nexts)
 
       -- a row is set that waits for nothing
-      pub one_set : (trace : Option Trace) (s t : Clients P Q K) (line : ℕ) (r : Row P Q K) → IsLine (stands_of (rows_of s)) line → rows_of t ≡ set (rows_of s) (line - 1) r → nexts_of t ≡ nexts_of s → asks_of t ≡ asks_of s
+      pub one_set : (trace : Option Trace) (s t : Clients P) (line : ℕ) (r : Row P) → IsLine (stands_of (rows_of s)) line → rows_of t ≡ set (rows_of s) (line - 1) r → nexts_of t ≡ nexts_of s → asks_of t ≡ asks_of s
           → ((o : Posted) (nexts : List ℕ) → RowArises w trace line o nexts r)
           → ((i : ℕ) → RowArises w trace (suc i) (posted_at (nexts_of s) (asks_of s) (voice_at (rows_of s) i)) (nexts_of s) (row_at (rows_of s) i))
           → (i : ℕ) → RowArises w trace (suc i) (posted_at (nexts_of t) (asks_of t) (voice_at (rows_of t) i)) (nexts_of t) (row_at (rows_of t) i)
@@ -255,7 +256,7 @@ module _ {P Q K : Type 0} where
           (arisen_set w trace (rows_of s) (line - 1) r (nexts_of s) (asks_of s) (row_within (rows_of s) line is) (placed trace line r is.first here _ _) (λ j apart. there j) i)))
 
       -- the call for a timestamp that stands at a line ends
-      pub asked_goes : (trace : Option Trace) (s t : Clients P Q K) (line client c : ℕ) (b : Bool) (r : Row P Q K) (rest : List Asker) (ps : List Posting) (es fs : List Ending) → IsLine (stands_of (rows_of s)) line → stand_at (stands_of (rows_of s)) line ≡ Asking c b
+      pub asked_goes : (trace : Option Trace) (s t : Clients P) (line client c : ℕ) (b : Bool) (r : Row P) (rest : List Asker) (ps : List Posting) (es fs : List Ending) → IsLine (stands_of (rows_of s)) line → stand_at (stands_of (rows_of s)) line ≡ Asking c b
           → HasSettled c (stand_of r) → RowReady w r → ((o : Posted) (nexts : List ℕ) → RowArises w (posting_in ps trace) line o nexts r)
           → rows_of t ≡ set (rows_of s) (line - 1) r → nexts_of t ≡ nexts_of s → asks_of t ≡ asks_of s → t.clients ≡ s.clients → EndsMore w (posting_in ps trace) es fs
           → IsSound w (posting_in ps trace) rest s → GoesOn w trace client (λ n a. ⊥) rest ps ps es fs s t
@@ -287,7 +288,7 @@ module _ {P Q K : Type 0} where
               other d m q = cc
 
       -- two rows are set that wait for nothing
-      pub two_arisen : (trace : Option Trace) (s t : Clients P Q K) (line x : ℕ) (r y : Row P Q K) → IsLine (stands_of (rows_of s)) line → IsLine (stands_of (rows_of s)) x → rows_of t ≡ set (set (rows_of s) (x - 1) y) (line - 1) r → nexts_of t ≡ nexts_of s → asks_of t ≡ asks_of s
+      pub two_arisen : (trace : Option Trace) (s t : Clients P) (line x : ℕ) (r y : Row P) → IsLine (stands_of (rows_of s)) line → IsLine (stands_of (rows_of s)) x → rows_of t ≡ set (set (rows_of s) (x - 1) y) (line - 1) r → nexts_of t ≡ nexts_of s → asks_of t ≡ asks_of s
           → ((o : Posted) → RowArises w trace (suc (line - 1)) o (nexts_of s) r) → ((o : Posted) → RowArises w trace (suc (x - 1)) o (nexts_of s) y)
           → ((i : ℕ) → RowArises w trace (suc i) (posted_at (nexts_of s) (asks_of s) (voice_at (rows_of s) i)) (nexts_of s) (row_at (rows_of s) i))
           → (i : ℕ) → RowArises w trace (suc i) (posted_at (nexts_of t) (asks_of t) (voice_at (rows_of t) i)) (nexts_of t) (row_at (rows_of t) i)
@@ -301,14 +302,14 @@ module _ {P Q K : Type 0} where
           within : line - 1 < length (set (rows_of s) (x - 1) y)
           within = subst (λ n. line - 1 < n) (sym (length-set (rows_of s) (x - 1) y)) (row_within (rows_of s) line is)
 
-      pub two_fewer : (rows news : List (Row P Q K)) (line x : ℕ) (r y : Row P Q K) → IsLine (stands_of rows) line → IsLine (stands_of rows) x → news ≡ set (set rows (x - 1) y) (line - 1) r
+      pub two_fewer : (rows news : List (Row P)) (line x : ℕ) (r y : Row P) → IsLine (stands_of rows) line → IsLine (stands_of rows) x → news ≡ set (set rows (x - 1) y) (line - 1) r
           → ((a : Awaited) → wants w r a → ⊥) → ((a : Awaited) → wants w y a → ⊥) → (n : ℕ) (a : Awaited) → Wants w news n a → Wants w rows n a
       two_fewer rows news line x r y is at e here mine n a z =
           wants_fewer w rows (x - 1) y (row_within rows x at) mine n a
           (wants_fewer w (set rows (x - 1) y) (line - 1) r (subst (λ i. line - 1 < i) (sym (length-set rows (x - 1) y)) (row_within rows line is)) here n a (subst (λ rs. Wants w rs n a) e z))
 
       -- a call of a transaction ends, which waits no more
-      pub called_goes_on : (trace : Option Trace) (s t : Clients P Q K) (line x client c d : ℕ) (b : Bool) (r : Row P Q K) (rest : List Asker) (ps : List Posting) (es fs : List Ending) → IsLine (stands_of (rows_of s)) line → stand_at (stands_of (rows_of s)) line ≡ Calling c x b → stand_at (stands_of (rows_of s)) x ≡ HasBegun d line
+      pub called_goes_on : (trace : Option Trace) (s t : Clients P) (line x client c d : ℕ) (b : Bool) (r : Row P) (rest : List Asker) (ps : List Posting) (es fs : List Ending) → IsLine (stands_of (rows_of s)) line → stand_at (stands_of (rows_of s)) line ≡ Calling c x b → stand_at (stands_of (rows_of s)) x ≡ HasBegun d line
           → Rests (row_at (rows_of s) (x - 1)) → HasSettled c (stand_of r) → RowReady w r → ((at : ℕ) (o : Posted) (nexts : List ℕ) → RowArises w (posting_in ps trace) at o nexts r)
           → rows_of t ≡ set (set (rows_of s) (x - 1) (with_waits 0 (row_at (rows_of s) (x - 1)))) (line - 1) r → nexts_of t ≡ nexts_of s → asks_of t ≡ asks_of s → t.clients ≡ s.clients → EndsMore w (posting_in ps trace) es fs
           → IsSound w (posting_in ps trace) rest s → GoesOn w trace client (λ n a. ⊥) rest ps ps es fs s t
@@ -323,7 +324,7 @@ module _ {P Q K : Type 0} where
               idle : HasBegun d line ≡ Idle → ⊥
               idle q = cc
 
-          mine : Row P Q K
+          mine : Row P
           mine = row_at (rows_of s) (x - 1)
 
           begun : stand_of mine ≡ HasBegun d line
@@ -393,8 +394,8 @@ module _ {P Q K : Type 0} where
 
 -- What stands tells what row it is.
 
-module _ {P Q K : Type 0} where
-  pub asking_row : (r : Row P Q K) (c : ℕ) (b : Bool) → stand_of r ≡ Asking c b → (call : ClientCall Pd P Q K) × (r ≡ row.Asking c b call)
+module _ {P : Type 0} where
+  pub asking_row : (r : Row P) (c : ℕ) (b : Bool) → stand_of r ≡ Asking c b → (call : ClientCall Pd P) × (r ≡ row.Asking c b call)
   asking_row row.Plain c b e = absurd (cc)
   asking_row (row.Client d) c b e = absurd (cc)
   asking_row (row.Asking d a call) c b e = (call, λ i. row.Asking (asker e i) (begins e i) call)
@@ -409,7 +410,7 @@ module _ {P Q K : Type 0} where
   asking_row (row.Past d) c b e = absurd (cc)
   asking_row (row.Working d job) c b e = absurd (cc)
 
-  pub calling_row : (r : Row P Q K) (c x : ℕ) (b : Bool) → stand_of r ≡ Calling c x b → r ≡ row.Calling c x b
+  pub calling_row : (r : Row P) (c x : ℕ) (b : Bool) → stand_of r ≡ Calling c x b → r ≡ row.Calling c x b
   calling_row row.Plain c x b e = absurd (cc)
   calling_row (row.Client d) c x b e = absurd (cc)
   calling_row (row.Asking d a call) c x b e = absurd (cc)
@@ -427,7 +428,7 @@ module _ {P Q K : Type 0} where
   calling_row (row.Past d) c x b e = absurd (cc)
   calling_row (row.Working d job) c x b e = absurd (cc)
 
-  free_runs : (r : Row P Q K) (d m : ℕ) → stand_of r ≡ HasBegun d m → RowRuns (with_waits 0 r)
+  free_runs : (r : Row P) (d m : ℕ) → stand_of r ≡ HasBegun d m → RowRuns (with_waits 0 r)
   free_runs row.Plain d m e = tt
   free_runs (row.Client c) d m e = tt
   free_runs (row.Asking c b call) d m e = absurd (cc)
@@ -436,13 +437,13 @@ module _ {P Q K : Type 0} where
   free_runs (row.Past c) d m e = tt
   free_runs (row.Working c job) d m e = tt
 
-  pub ended_running : (rows : List (Row P Q K)) (line y d c x e : ℕ) (a b : Bool) (r : Row P Q K) → IsLine (stands_of rows) line → stand_at (stands_of rows) line ≡ Calling d y a → stand_at (stands_of rows) line ≡ Calling c x b → stand_at (stands_of rows) x ≡ HasBegun e line
+  pub ended_running : (rows : List (Row P)) (line y d c x e : ℕ) (a b : Bool) (r : Row P) → IsLine (stands_of rows) line → stand_at (stands_of rows) line ≡ Calling d y a → stand_at (stands_of rows) line ≡ Calling c x b → stand_at (stands_of rows) x ≡ HasBegun e line
       → AreRunningBut (y - 1) rows → HasSettled c (stand_of r) → AreRunning (set (set rows (x - 1) (with_waits 0 (row_at rows (x - 1)))) (line - 1) r)
   ended_running rows line y d c x e a b r is calls here waits but settled =
       running_set (set rows (x - 1) mine) (line - 1) r (subst (λ n. line - 1 < n) (sym (length-set rows (x - 1) mine)) (row_within rows line is))
       (λ i apart. running_set rows (x - 1) mine (row_within rows x at) (subst (λ j. AreRunningBut (j - 1) rows) same but) (free_runs (row_at rows (x - 1)) e line begun) i) (settled_runs c r settled)
     where
-      mine : Row P Q K
+      mine : Row P
       mine = with_waits 0 (row_at rows (x - 1))
 
       at : IsLine (stands_of rows) x
@@ -461,12 +462,12 @@ module _ {P Q K : Type 0} where
       same = one (sym calls ∙ here)
 
   -- its line is of the same client
-  pub ended_client : (rows news : List (Row P Q K)) (line x c d : ℕ) (b : Bool) (r : Row P Q K) → IsLine (stands_of rows) line → stand_at (stands_of rows) line ≡ Calling c x b → client_at (stand_at (stands_of rows) line) ≡ Some d → HasSettled c (stand_of r)
+  pub ended_client : (rows news : List (Row P)) (line x c d : ℕ) (b : Bool) (r : Row P) → IsLine (stands_of rows) line → stand_at (stands_of rows) line ≡ Calling c x b → client_at (stand_at (stands_of rows) line) ≡ Some d → HasSettled c (stand_of r)
       → news ≡ set (set rows (x - 1) (with_waits 0 (row_at rows (x - 1)))) (line - 1) r → client_at (stand_at (stands_of news) line) ≡ Some d
   ended_client rows news line x c d b r is calls own settled e =
       ap (λ rs. client_at (stand_at (stands_of rs) line)) e ∙ ap (λ ss. client_at (stand_at ss line)) (stands_set mid (line - 1) r) ∙ ap client_at (stand_same (stands_of mid) line (stand_of r) is_mid) ∙ settled_client c (stand_of r) settled ∙ sym (ap client_at calls) ∙ own
     where
-      mid : List (Row P Q K)
+      mid : List (Row P)
       mid = set rows (x - 1) (with_waits 0 (row_at rows (x - 1)))
 
       is_mid : IsLine (stands_of mid) line
@@ -505,23 +506,23 @@ pub record IsCalledAt (stands : List Stand) (line at : ℕ) : Type 0 where
   pub stand : stand_at stands line ≡ Calling c x b
   pub place : at ≡ x - 1
 
-answers_ask : (P Q K : Type 0) (s : Stand) (v : Result (ClientAnswer Pd P Q K) Error) → IsAnswerOf {P = P} {Q = Q} {K = K} s (answers.Asked v) → (c : ℕ) × (b : Bool) × (s ≡ Asking c b)
-answers_ask P Q K Idle v h = absurd h
-answers_ask P Q K (IsClient c) v h = absurd h
-answers_ask P Q K (Asking c b) v h = (c, b, refl)
-answers_ask P Q K (HasBegun c m) v h = absurd h
-answers_ask P Q K (Calling c x b) v h = absurd h
-answers_ask P Q K (Past c) v h = absurd h
-answers_ask P Q K (Working c) v h = absurd h
+answers_ask : (P : Type 0) (s : Stand) (v : Result (ClientAnswer Pd P) Error) → IsAnswerOf {P = P} s (answers.Asked v) → (c : ℕ) × (b : Bool) × (s ≡ Asking c b)
+answers_ask P Idle v h = absurd h
+answers_ask P (IsClient c) v h = absurd h
+answers_ask P (Asking c b) v h = (c, b, refl)
+answers_ask P (HasBegun c m) v h = absurd h
+answers_ask P (Calling c x b) v h = absurd h
+answers_ask P (Past c) v h = absurd h
+answers_ask P (Working c) v h = absurd h
 
-answers_call : (P Q K : Type 0) (s : Stand) (v : Result (TxnAnswer Q) Error) → IsAnswerOf {P = P} {Q = Q} {K = K} s (answers.Called v) → (c : ℕ) × (m : ℕ) × (s ≡ HasBegun c m)
-answers_call P Q K Idle v h = absurd h
-answers_call P Q K (IsClient c) v h = absurd h
-answers_call P Q K (Asking c b) v h = absurd h
-answers_call P Q K (HasBegun c m) v h = (c, m, refl)
-answers_call P Q K (Calling c x b) v h = absurd h
-answers_call P Q K (Past c) v h = absurd h
-answers_call P Q K (Working c) v h = absurd h
+answers_call : (P : Type 0) (s : Stand) (v : Result (TxnAnswer P) Error) → IsAnswerOf {P = P} s (answers.Called v) → (c : ℕ) × (m : ℕ) × (s ≡ HasBegun c m)
+answers_call P Idle v h = absurd h
+answers_call P (IsClient c) v h = absurd h
+answers_call P (Asking c b) v h = absurd h
+answers_call P (HasBegun c m) v h = (c, m, refl)
+answers_call P (Calling c x b) v h = absurd h
+answers_call P (Past c) v h = absurd h
+answers_call P (Working c) v h = absurd h
 
 pub ask_place : (stands : List Stand) (line at c : ℕ) (b : Bool) → stand_at stands (suc at) ≡ Asking c b → HearsFor stands line at (stand_at stands line) → IsAskedAt stands line at
 ask_place stands line at c b e h = by (stand_at stands line) refl h
@@ -559,35 +560,35 @@ call_place stands line at c m e h = by (stand_at stands line) refl h
         two : HasBegun c m ≡ Working d → ⊥
         two q = cc
 
-module _ {P Q K : Type 0} where
-  pub asked_at : (rows : List (Row P Q K)) (line at : ℕ) (v : Result (ClientAnswer Pd P Q K) Error) → HearsFor (stands_of rows) line at (stand_at (stands_of rows) line) → IsAnswerOf {P = P} {Q = Q} {K = K} (stand_of (row_at rows at)) (answers.Asked v) → IsAskedAt (stands_of rows) line at
-  asked_at rows line at v h k = let a = answers_ask P Q K (stand_of (row_at rows at)) v k in ask_place (stands_of rows) line at a.0 a.1 (stand_read rows at ∙ a.2) h
+module _ {P : Type 0} where
+  pub asked_at : (rows : List (Row P)) (line at : ℕ) (v : Result (ClientAnswer Pd P) Error) → HearsFor (stands_of rows) line at (stand_at (stands_of rows) line) → IsAnswerOf {P = P} (stand_of (row_at rows at)) (answers.Asked v) → IsAskedAt (stands_of rows) line at
+  asked_at rows line at v h k = let a = answers_ask P (stand_of (row_at rows at)) v k in ask_place (stands_of rows) line at a.0 a.1 (stand_read rows at ∙ a.2) h
 
-  pub called_at : (rows : List (Row P Q K)) (line at : ℕ) (v : Result (TxnAnswer Q) Error) → HearsFor (stands_of rows) line at (stand_at (stands_of rows) line) → IsAnswerOf {P = P} {Q = Q} {K = K} (stand_of (row_at rows at)) (answers.Called v) → IsCalledAt (stands_of rows) line at
-  called_at rows line at v h k = let a = answers_call P Q K (stand_of (row_at rows at)) v k in call_place (stands_of rows) line at a.0 a.1 (stand_read rows at ∙ a.2) h
+  pub called_at : (rows : List (Row P)) (line at : ℕ) (v : Result (TxnAnswer P) Error) → HearsFor (stands_of rows) line at (stand_at (stands_of rows) line) → IsAnswerOf {P = P} (stand_of (row_at rows at)) (answers.Called v) → IsCalledAt (stands_of rows) line at
+  called_at rows line at v h k = let a = answers_call P (stand_of (row_at rows at)) v k in call_place (stands_of rows) line at a.0 a.1 (stand_read rows at ∙ a.2) h
 
   -- what it answers rests on what stands there
 
-  module _ {A B D : Type 0} (w : Ways P Q K A B D) where
-    pub asked_rests : (trace : Option Trace) (rows : List (Row P Q K)) (line at : ℕ) (v : Result (ClientAnswer Pd P Q K) Error) (answer : Option (Answer P Q K)) → HearsFor (stands_of rows) line at (stand_at (stands_of rows) line) → IsAnswerOf {P = P} {Q = Q} {K = K} (stand_of (row_at rows at)) (answers.Asked v)
+  module _ (w : Ways P) where
+    pub asked_rests : (trace : Option Trace) (rows : List (Row P)) (line at : ℕ) (v : Result (ClientAnswer Pd P) Error) (answer : Option (Answer P)) → HearsFor (stands_of rows) line at (stand_at (stands_of rows) line) → IsAnswerOf {P = P} (stand_of (row_at rows at)) (answers.Asked v)
         → answer ≡ Some (answers.Asked v) → IfSome answer (AnswerRests w trace (suc at) line) → AskRests w trace line line v
     asked_rests trace rows line at v answer hears kind is rests =
         let a = asked_at rows line at v hears kind in
         subst (λ n. AskRests w trace n line v) (subst (HearsFor (stands_of rows) line at) a.stand hears) (subst (λ x. IfSome x (AnswerRests w trace (suc at) line)) is rests)
 
-    pub called_rests : (trace : Option Trace) (rows news : List (Row P Q K)) (line at : ℕ) (v : Result (TxnAnswer Q) Error) (answer : Option (Answer P Q K)) → stands_of news ≡ stands_of rows → HearsFor (stands_of rows) line at (stand_at (stands_of rows) line)
-        → answer ≡ Some (answers.Called v) → IfSome answer (AnswerRests w trace (suc at) line) → (c x : ℕ) (b : Bool) → stand_at (stands_of news) line ≡ Calling c x b → IfFails (FailsAt w trace x line) v
+    pub called_rests : (trace : Option Trace) (rows news : List (Row P)) (line at : ℕ) (v : Result (TxnAnswer P) Error) (answer : Option (Answer P)) → stands_of news ≡ stands_of rows → HearsFor (stands_of rows) line at (stand_at (stands_of rows) line)
+        → answer ≡ Some (answers.Called v) → IfSome answer (AnswerRests w trace (suc at) line) → (c x : ℕ) (b : Bool) → stand_at (stands_of news) line ≡ Calling c x b → IfFails (FailsAt w OfTransaction trace x line) v
     called_rests trace rows news line at v answer same hears is rests c x b calls =
         let h = subst (HearsFor (stands_of rows) line at) (ap (λ ss. stand_at ss line) (sym same) ∙ calls) hears in
-        subst (λ n. IfFails (FailsAt w trace n line) v) h.0 (subst (λ y. IfSome y (AnswerRests w trace (suc at) line)) is rests)
+        subst (λ n. IfFails (FailsAt w OfTransaction trace n line) v) h.0 (subst (λ y. IfSome y (AnswerRests w trace (suc at) line)) is rests)
 
 -- Who hears, and runs on
 
 pub client_same : (c d : ℕ) → Some c ≡ Some d → c ≡ d
 client_same c d e = cc
 
-module _ {P Q K : Type 0} where
-  prepared_start : (c : ℕ) (r : Row P Q K) → stand_of r ≡ Working c → IsPrepared tells.Start r
+module _ {P : Type 0} where
+  prepared_start : (c : ℕ) (r : Row P) → stand_of r ≡ Working c → IsPrepared tells.Start r
   prepared_start c row.Plain e = tt
   prepared_start c (row.Client d) e = tt
   prepared_start c (row.Asking d b call) e = absurd (cc)
@@ -596,18 +597,18 @@ module _ {P Q K : Type 0} where
   prepared_start c (row.Past d) e = tt
   prepared_start c (row.Working d job) e = tt
 
-  pub job_heard : (rows : List (Row P Q K)) (line client c : ℕ) → IsLine (stands_of rows) line → client_at (stand_at (stands_of rows) line) ≡ Some client → stand_of (row_at rows (line - 1)) ≡ Working c → IsHeard (stands_of rows) line (line - 1) client
+  pub job_heard : (rows : List (Row P)) (line client c : ℕ) → IsLine (stands_of rows) line → client_at (stand_at (stands_of rows) line) ≡ Some client → stand_of (row_at rows (line - 1)) ≡ Working c → IsHeard (stands_of rows) line (line - 1) client
   job_heard rows line client c is own e = record {
     own = own;
     voiced = ap (voice (line - 1)) (stand_read rows (line - 1) ∙ e) ∙ (let one = is.first in omega (arith, one));
   }
 
-  pub job_runs : (rows news : List (Row P Q K)) (at c : ℕ) (answer : Option (Answer P Q K)) → stand_of (row_at rows at) ≡ Working c → IfSome answer (IsAnswerOf (stand_of (row_at rows at))) → RunsOn tells.Start at answer rows news → AreRunning rows → AreRunning news
+  pub job_runs : (rows news : List (Row P)) (at c : ℕ) (answer : Option (Answer P)) → stand_of (row_at rows at) ≡ Working c → IfSome answer (IsAnswerOf (stand_of (row_at rows at))) → RunsOn tells.Start at answer rows news → AreRunning rows → AreRunning news
   job_runs rows news at c None e kind runs running = let r = runs (λ i apart. running i) (prepared_start c (row_at rows at) e) in r.1 refl
   job_runs rows news at c (Some v) e kind runs running = absurd (subst (λ s. IsAnswerOf s v) e kind)
 
-  module _ {A B D : Type 0} (w : Ways P Q K A B D) where
-    pub goes_weaker : (trace : Option Trace) (s t : Clients P Q K) (client : ℕ) (Heard Less : ℕ → Awaited → Type 0) (rest : List Asker) (ps qs : List Posting) (es fs : List Ending) → ((n : ℕ) (a : Awaited) → Less n a → Heard n a) → GoesOn w trace client Heard rest ps qs es fs s t → GoesOn w trace client Less rest ps qs es fs s t
+  module _ (w : Ways P) where
+    pub goes_weaker : (trace : Option Trace) (s t : Clients P) (client : ℕ) (Heard Less : ℕ → Awaited → Type 0) (rest : List Asker) (ps qs : List Posting) (es fs : List Ending) → ((n : ℕ) (a : Awaited) → Less n a → Heard n a) → GoesOn w trace client Heard rest ps qs es fs s t → GoesOn w trace client Less rest ps qs es fs s t
     goes_weaker trace s t client Heard Less rest ps qs es fs f g = record {
       sound = g.sound;
       ends = g.ends;
@@ -619,7 +620,7 @@ module _ {P Q K : Type 0} where
     }
 
     -- nobody hears what is told
-    pub unheard_goes : (trace : Option Trace) (s : Clients P Q K) (line client : ℕ) (told : Told) (rest : List Asker) (ps : List Posting) (es : List Ending) → IsLine (stands_of (rows_of s)) line → AreMatched (stands_of (rows_of s)) → NoneHears (stands_of (rows_of s)) line (stand_at (stands_of (rows_of s)) line)
+    pub unheard_goes : (trace : Option Trace) (s : Clients P) (line client : ℕ) (told : Told) (rest : List Asker) (ps : List Posting) (es : List Ending) → IsLine (stands_of (rows_of s)) line → AreMatched (stands_of (rows_of s)) → NoneHears (stands_of (rows_of s)) line (stand_at (stands_of (rows_of s)) line)
         → IsSound w (posting_in ps (owing line told trace)) (pends line told rest) s → GoesOn w trace client (HearsAt line told) rest ps ps es es s s
     unheard_goes trace s line client told rest ps es is matched none owed = record {
       ends = no_more w (posting_in ps trace) es;
@@ -652,7 +653,7 @@ module _ {P Q K : Type 0} where
         deaf n a e (i, v, x) = unheard_voice (stands_of (rows_of s)) line i matched (λ z. let one = is.first in omega (arith, one, z)) none (ap (voice i) (stand_read (rows_of s) i) ∙ v ∙ e)
 
     -- whether it beats does not matter
-    pub head_sound : (trace : Option Trace) (s : Clients P Q K) (a : Asker) (rest : List Asker) → IsSound w trace (a ∷ rest) s → IsSound w trace (record { line = a.line; beat = false; ask = a.ask } ∷ rest) s
+    pub head_sound : (trace : Option Trace) (s : Clients P) (a : Asker) (rest : List Asker) → IsSound w trace (a ∷ rest) s → IsSound w trace (record { line = a.line; beat = false; ask = a.ask } ∷ rest) s
     head_sound trace s a rest sound = record {
       told = sound.told;
       arisen = sound.arisen;
@@ -673,7 +674,7 @@ module _ {P Q K : Type 0} where
         ]
 
     -- what comes that is no timestamp
-    pub pends_none : (trace : Option Trace) (s : Clients P Q K) (line : ℕ) (a : Arrival) → IsSound w trace [] s → IsSound w trace (pends line (tells.Heard a) []) s
+    pub pends_none : (trace : Option Trace) (s : Clients P) (line : ℕ) (a : Arrival) → IsSound w trace [] s → IsSound w trace (pends line (tells.Heard a) []) s
     pends_none trace s line (arrivals.Reply n x) sound = sound
     pends_none trace s line (arrivals.Lost n) sound = sound
     pends_none trace s line (arrivals.Slept n) sound = sound

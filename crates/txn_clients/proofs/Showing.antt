@@ -1,5 +1,5 @@
 -- What a trace shows of what calls hear and post, and on what the errors that they answer rest.
-use Rattle.std.proofs.Common.{◌≡◌, inl, inr, ℕ, suc, ◌+◌, Bool, true, false, if◌then◌else◌, List, [], ◌∷◌, ◌++◌, nat_eq, arith, Option, Some, None, refl, sym, ap, ◌∙◌, subst, append-nil, append_assoc}
+use Rattle.std.proofs.Common.{◌≡◌, ◌≢◌, inl, inr, ℕ, suc, ◌+◌, Bool, true, false, if◌then◌else◌, List, [], ◌∷◌, ◌++◌, nat_eq, arith, Option, Some, None, refl, sym, ap, ◌∙◌, subst, append-nil, append_assoc}
 use Rattle.std.proofs.lemmas.Bool.Decides.{nat_tests}
 use Rattle.std.specs.List.{All, Any}
 use Rattle.std.specs.Prelude.{IfSome, ⊤, Result, Ok, Err}
@@ -32,7 +32,7 @@ use Rattle.txn_history.specs.Arrivals.{awaited_as, told_by}
 use Rattle.txn_kv.specs.declared.arrival.Arrival.{Arrival}
 use Rattle.txn_kv.specs.declared.arrival.Arrival.TheVariants as arrivals
 use Rattle.txn_buffer.specs.Contents.{Contents}
-use Rattle.txn_commit.specs.Committing.{Ways}
+use Rattle.txn_commit.specs.Ways.{Ways}
 use Rattle.txn_commit.proofs.Following.{IsNoSending, knows_more}
 use Rattle.txn_commit.specs.Following.{Commits, KnowsCommits, none_sent}
 use Rattle.txn_commit.specs.Parts.{parts_of}
@@ -45,8 +45,11 @@ use Rattle.txn_core.specs.declared.transaction.Work.{Work}
 use Rattle.txn_core.specs.declared.transaction.Work.TheVariants.{Idle, Open, GaveUp}
 use Rattle.txn_core.specs.declared.txn_answer.TxnAnswer.{TxnAnswer}
 use Rattle.txn_side.specs.Account.{Account, refusal}
+use Rattle.txn_side.specs.Sight.{Stand, stand_at}
+use Rattle.txn_side.specs.Sight.Stand.{Calling, HasBegun}
 use Rattle.txn_lines.specs.declared.act.Act.{Act}
-use Rattle.txn_side.specs.Trace.{fails_longer, AreOwn, EndsFor, HasRefused, HasRefusedBeside, IsLonger, IsOwn, IsRefusedNow, IsSend, IsShown, Trace, IsBegunAs, and_refused, now_longer, refused_asks, times_in, untimed, untimed_by, untimed_of, with_posted}
+use Rattle.txn_side.specs.Trace.{fails_longer, kind_at, AreOwn, CallKind, EndsFor, HasRefused, HasRefusedBeside, IsLonger, IsOwn, IsRefusedNow, IsSend, IsShown, Trace, IsBegunAs, and_refused, now_longer, refused_asks, times_in, untimed, untimed_by, untimed_of, with_posted}
+use Rattle.txn_side.specs.Trace.CallKind.{ForTimestamp, OfTransaction}
 use Rattle.txn_side.specs.declared.turn.Posting.{Posting}
 use Rattle.std.proofs.lemmas.List.Elements.{All-append, All-cons, All-head, All-nil, All-tail}
 use Rattle.txn_report.specs.declared.outcome.Outcome.{Outcome}
@@ -401,16 +404,16 @@ lost_sends_none u r v q e = cc
 pub notes_so : (line : ℕ) (act : Act) (account : Account) (noted : Option Error) → refusal act account ≡ noted → (trace : Option Trace) → KnowsAsk trace line act account → RefusedIn trace line noted
 notes_so line act account noted e trace k = subst (RefusedIn trace line) e k.0
 
-never_nothing : {Q : Type 0} (e : Error) → IsNothing {Q = Q} (Err e) → ⊥
+never_nothing : {P : Type 0} (e : Error) → IsNothing {P = P} (Err e) → ⊥
 never_nothing e n = elim n [ inl q ↦ (cc) | inr q ↦ (cc) ]
 
-module _ {P Q K A B D : Type 0} (w : Ways P Q K A B D) where
+module _ {P : Type 0} (w : Ways P) where
   -- what is known of a transaction that has not given up
-  module _ (t : Standing P Q K) (o : Posted) (h : List Event) (alive : t.work ≡ GaveUp → ⊥) (f : TransactionFits w t o h) where
+  module _ (t : Standing P) (o : Posted) (h : List Event) (alive : t.work ≡ GaveUp → ⊥) (f : TransactionFits w t o h) where
     pub fits_known : (parts : CommitParts) → parts_of t.contents ≡ Some parts → KnowsCommits (plan_of parts) (version_of t.start) t.commits h
     fits_known parts e = by t.work refl f.at
       where
-        by : (g : Work P Q K) → t.work ≡ g → IsAtWork w t.options.retry_options t.start t.status t.contents t.commits g o h → KnowsCommits (plan_of parts) (version_of t.start) t.commits h
+        by : (g : Work P) → t.work ≡ g → IsAtWork w t.options.retry_options t.start t.status t.contents t.commits g o h → KnowsCommits (plan_of parts) (version_of t.start) t.commits h
         by Idle k at = let a = at.of_parts parts e in a.knows
         by (Open call) k at =
             let same : call.parts ≡ parts = one (sym at.whole ∙ e) in
@@ -424,7 +427,7 @@ module _ {P Q K A B D : Type 0} (w : Ways P Q K A B D) where
     known_with parts whole = record { start = t.start; retry_options = t.options.retry_options; contents = t.contents; parts = parts; whole = whole; commits = t.commits; known = fits_known parts whole }
 
     -- where its buffer holds nothing to commit, no Commit of it was lost or is out
-    empty_sent : (g : Work P Q K) → t.work ≡ g → IsAtWork w t.options.retry_options t.start t.status t.contents t.commits g o h → parts_of t.contents ≡ None → t.commits ≡ none_sent
+    empty_sent : (g : Work P) → t.work ≡ g → IsAtWork w t.options.retry_options t.start t.status t.contents t.commits g o h → parts_of t.contents ≡ None → t.commits ≡ none_sent
     empty_sent Idle k at e = at.empty e
     empty_sent (Open call) k at e = absurd (no_parts call.parts (sym e ∙ at.whole))
       where
@@ -433,14 +436,14 @@ module _ {P Q K A B D : Type 0} (w : Ways P Q K A B D) where
     empty_sent GaveUp k at e = absurd (alive k)
 
     -- it is not rolled back where it marks one as lost, which was
-    pub barred_by : (u : Ticket) → t.commits.lost ≡ Some u → (trace : Option Trace) (at line : ℕ) (e : Error) → view_of e ≡ not_known (view_of (GrpcAPI u)) → ShownIn trace at h → AreOwn line h → CountedIn trace line (refused_asks h) → RollsIn trace line → MarkedIn trace at t → FailsAt w trace at line e
+    pub barred_by : (u : Ticket) → t.commits.lost ≡ Some u → (trace : Option Trace) (at line : ℕ) (e : Error) → view_of e ≡ not_known (view_of (GrpcAPI u)) → ShownIn trace at h → AreOwn line h → CountedIn trace line (refused_asks h) → RollsIn trace line → MarkedIn trace at t → FailsAt w OfTransaction trace at line e
     barred_by u lost None at line e says s own counted rolls marked = tt
     barred_by u lost (Some x) at line e says s own counted rolls marked = by (parts_of t.contents) refl
       where
         no_ticket : ◌≡◌ {A = Option Ticket} None (Some u) → ⊥
         no_ticket q = cc
 
-        by : (found : Option CommitParts) → parts_of t.contents ≡ found → FailsAt w (Some x) at line e
+        by : (found : Option CommitParts) → parts_of t.contents ≡ found → FailsAt w OfTransaction (Some x) at line e
         by None q = absurd (no_ticket (sym (ap (λ (c : Commits). c.lost) (empty_sent t.work refl f.at q)) ∙ lost))
         by (Some parts) q =
             let k = marked parts q u lost in
@@ -465,22 +468,22 @@ module _ {P Q K A B D : Type 0} (w : Ways P Q K A B D) where
             )
 
   -- an error that a call answers rests on what it has heard
-  pub fails_by : (trace : Option Trace) (at line : ℕ) (e : Error) (h : List Event) → ShownIn trace at h → AreOwn line h → CountedIn trace line (refused_asks h) → ((t : Trace) → trace ≡ Some t → HasFailedFor w false (IsBegunAs t at) h e) → FailsAt w trace at line e
-  fails_by None at line e h s own counted f = tt
-  fails_by (Some t) at line e h s own counted f = inl (h, s, own, counted_refused t line (refused_asks h) counted, inl (f t refl))
+  pub fails_by : (kind : CallKind) (trace : Option Trace) (at line : ℕ) (e : Error) (h : List Event) → ShownIn trace at h → AreOwn line h → CountedIn trace line (refused_asks h) → ((t : Trace) → trace ≡ Some t → HasFailedFor w kind (IsBegunAs t at) h e) → FailsAt w kind trace at line e
+  fails_by kind None at line e h s own counted f = tt
+  fails_by kind (Some t) at line e h s own counted f = inl (h, s, own, counted_refused t line (refused_asks h) counted, inl (f t refl))
 
-  pub refused_by : (trace : Option Trace) (at line : ℕ) (e why : Error) → RefusedIn trace line (Some why) → e ≡ why → FailsAt w trace at line e
+  pub refused_by : (trace : Option Trace) (at line : ℕ) (e why : Error) → RefusedIn trace line (Some why) → e ≡ why → FailsAt w OfTransaction trace at line e
   refused_by None at line e why r same = tt
   refused_by (Some t) at line e why r same = inr (r e (ap Some (sym same)))
 
-  fails_gives : (trace : Option Trace) (at line : ℕ) (t : Standing P Q K) (o : Posted) (h : List Event) (v : Result (TxnAnswer Q) Error) → RetriesIn trace at t.options.retry_options → ShownIn trace at h → AreOwn line h → CountedIn trace line (refused_asks h) → (t.work ≡ GaveUp → ⊥) → TransactionFits w t o h → TransactionGives w t.options.retry_options t.start t.contents t.commits h v → IfFails (FailsAt w trace at line) v
+  fails_gives : (trace : Option Trace) (at line : ℕ) (t : Standing P) (o : Posted) (h : List Event) (v : Result (TxnAnswer P) Error) → RetriesIn trace at t.options.retry_options → ShownIn trace at h → AreOwn line h → CountedIn trace line (refused_asks h) → (t.work ≡ GaveUp → ⊥) → TransactionFits w t o h → TransactionGives w t.options.retry_options t.start t.contents t.commits h v → IfFails (FailsAt w OfTransaction trace at line) v
   unfolding known_with
   fails_gives trace at line t o h (Ok v) retries s own counted alive f gives = tt
-  fails_gives trace at line t o h (Err e) retries s own counted alive f (inl (parts, whole, fails)) = fails_by trace at line e h s own counted (λ shows is. inr (record { transaction = known_with t o h alive f parts whole; retries = subst (λ (x : Option Trace). RetriesIn x at t.options.retry_options) is retries; fails = fails }))
-  fails_gives trace at line t o h (Err e) retries s own counted alive f (inr g) = absurd (never_nothing {Q = Q} e g.1)
+  fails_gives trace at line t o h (Err e) retries s own counted alive f (inl (parts, whole, fails)) = fails_by OfTransaction trace at line e h s own counted (λ shows is. record { transaction = known_with t o h alive f parts whole; retries = subst (λ (x : Option Trace). RetriesIn x at t.options.retry_options) is retries; fails = fails })
+  fails_gives trace at line t o h (Err e) retries s own counted alive f (inr g) = absurd (never_nothing {P = P} e g.1)
 
-  pub fails_done : (trace : Option Trace) (at line : ℕ) (old new : Standing P Q K) (o : Posted) (h : List Event) (turn : Turn (Result (TxnAnswer Q) Error)) → RetriesIn trace at new.options.retry_options → ShownIn trace at h → AreOwn line h → CountedIn trace line (refused_asks h) → ((v : Result (TxnAnswer Q) Error) → turn ≡ Ends v → new.work ≡ GaveUp → ⊥) → TransactionFits w new o h → new.start ≡ old.start → new.options ≡ old.options → new.contents ≡ old.contents
-      → IfEnds turn (λ v. TransactionGives w old.options.retry_options old.start old.contents new.commits h v) → IfEnds turn (IfFails (FailsAt w trace at line))
+  pub fails_done : (trace : Option Trace) (at line : ℕ) (old new : Standing P) (o : Posted) (h : List Event) (turn : Turn (Result (TxnAnswer P) Error)) → RetriesIn trace at new.options.retry_options → ShownIn trace at h → AreOwn line h → CountedIn trace line (refused_asks h) → ((v : Result (TxnAnswer P) Error) → turn ≡ Ends v → new.work ≡ GaveUp → ⊥) → TransactionFits w new o h → new.start ≡ old.start → new.options ≡ old.options → new.contents ≡ old.contents
+      → IfEnds turn (λ v. TransactionGives w old.options.retry_options old.start old.contents new.commits h v) → IfEnds turn (IfFails (FailsAt w OfTransaction trace at line))
   fails_done trace at line old new o h Stopped retries s own counted alive f start options contents gives = tt
   fails_done trace at line old new o h Waits retries s own counted alive f start options contents gives = tt
   fails_done trace at line old new o h (Ends v) retries s own counted alive f start options contents gives =
@@ -499,7 +502,7 @@ untimed_internal (InternalError what) is h = ap (λ x. InternalError x) (untimed
 untimed_internal _ is h = absurd (cc)
 
 -- what is told of it came now
-told_last : {P Q K : Type 0} (t : Trace) (o : Posted) (told : Told) (r : Row P Q K) (is : Internal) → MayKnow (Some t) o told r → untimed_told told ≡ Some is → IsRefusedNow t o.line (InternalError is)
+told_last : {P : Type 0} (t : Trace) (o : Posted) (told : Told) (r : Row P) (is : Internal) → MayKnow (Some t) o told r → untimed_told told ≡ Some is → IsRefusedNow t o.line (InternalError is)
 told_last t o tells.Start r is knows e = absurd (cc)
 told_last t o (tells.Act act) r is knows e = absurd (cc)
 told_last t o (tells.Heard (arrivals.Reply n x)) r is knows e = absurd (cc)
@@ -509,7 +512,7 @@ told_last t o (tells.Heard (arrivals.Time k (Ok x))) r is knows e = absurd (cc)
 told_last t o (tells.Heard (arrivals.Time k (Err why))) r is knows e = subst (IsRefusedNow t o.line) (untimed_internal why is e) knows
 
 -- so an error that says it says what came last, and still does as more is posted
-pub says_last : {P Q K X : Type 0} (trace : Option Trace) (ps qs : List Posting) (o : Posted) (told : Told) (r : Row P Q K) (v : Result X Error) → MayKnow (posting_in ps trace) o told r → Keeps ps qs → IfFails (IsToldLast (untimed_told told)) v → IfFails (LastIn (posting_in qs trace) o.line) v
+pub says_last : {P X : Type 0} (trace : Option Trace) (ps qs : List Posting) (o : Posted) (told : Told) (r : Row P) (v : Result X Error) → MayKnow (posting_in ps trace) o told r → Keeps ps qs → IfFails (IsToldLast (untimed_told told)) v → IfFails (LastIn (posting_in qs trace) o.line) v
 says_last trace ps qs o told r (Ok x) knows keeps is = tt
 says_last None ps qs o told r (Err e) knows keeps is = tt
 says_last (Some t) ps qs o told r (Err e) knows keeps is = by (untimed_of e) is
@@ -518,13 +521,29 @@ says_last (Some t) ps qs o told r (Err e) knows keeps is = by (untimed_of e) is
     by None same = tt
     by (Some w) same = let l = posting_longer (Some t) ps qs keeps in now_longer (with_posted ps t) (with_posted qs t) l.0 refl o.line (InternalError w) (told_last (with_posted ps t) o told r w knows same)
 
+-- Of which kind a call is
+
+-- one for a timestamp stands at its own line
+pub own_kind : (line : ℕ) → kind_at line line ≡ ForTimestamp
+own_kind line = let e : nat_eq line line ≡ true = grind (arith, nat_tests) in rw e refl
+
+-- and a transaction at another line than its call
+pub calling_kind : (stands : List Stand) (line x c d : ℕ) (b : Bool) → stand_at stands line ≡ Calling c x b → stand_at stands x ≡ HasBegun d line → kind_at x line ≡ OfTransaction
+calling_kind stands line x c d b calls begun = let e : nat_eq x line ≡ false = (let is = apart in grind (arith, nat_tests, is)) in rw e refl
+  where
+    apart : x ≢ line
+    apart same = absurd (two (sym calls ∙ ap (stand_at stands) (sym same) ∙ begun))
+      where
+        two : Calling c x b ≡ HasBegun d line → ⊥
+        two q = cc
+
 -- Calls that ended
 
 pub all_map : {X : Type 0} {A B : X → Type 0} → ((x : X) → A x → B x) → (xs : List X) → All A xs → All B xs
 all_map {X} {A} {B} f [] h = All-nil B
 all_map {X} {A} {B} f (x ∷ xs) h = All-cons B x xs (f x (All-head A x xs h)) (all_map f xs (All-tail A x xs h))
 
-module _ {P Q K A B D : Type 0} (w : Ways P Q K A B D) where
+module _ {P : Type 0} (w : Ways P) where
   reason_in : (t longer : Trace) (e : Ending) → IsLonger t longer → longer.refused ≡ t.refused → t.begun ≡ longer.begun → t.came ≡ longer.came → EndsFor (FailsFor w) t e → EndsFor (FailsFor w) longer e
   reason_in t longer ending l same begun came f e is = elim (f e is) [
     | inl h ↦ inl (fails_longer t longer l begun came (FailsFor w) ending.line e h)
@@ -549,16 +568,16 @@ module _ {P Q K A B D : Type 0} (w : Ways P Q K A B D) where
   one_more trace es fs e is h = record { more = e ∷ []; ended = is; each = All-cons (HasReason w trace) e [] h (All-nil (HasReason w trace)) }
 
   -- what a call for a timestamp answers that fails
-  pub ask_fails : (trace : Option Trace) (at line : ℕ) (v : Result (ClientAnswer Pd P Q K) Error) → AskRests w trace at line v → IfFails (FailsAt w trace at line) v
+  pub ask_fails : (trace : Option Trace) (at line : ℕ) (v : Result (ClientAnswer Pd P) Error) → AskRests w trace at line v → IfFails (FailsAt w ForTimestamp trace at line) v
   ask_fails trace at line (Ok (Begun b)) r = tt
   ask_fails trace at line (Ok (Time t)) r = tt
   ask_fails trace at line (Err e) r = r
 
   -- the error of a call is the outcome of its line
-  pub reason_so : {X : Type 0} (trace : Option Trace) (line at : ℕ) (o : Outcome) (v : Result X Error) → CalledIn trace line at → ((e : Error) → o ≡ outcomes.Err e → v ≡ Err e) → ((e : Error) → o ≡ outcomes.Err e → wants_memory (view_of e) ≡ false)
-      → IfFails (FailsAt w trace at line) v → IfFails (LastIn trace line) v → HasReason w trace (record { line = line; outcome = o })
-  reason_so None line at o v called same fed f last = tt
-  reason_so (Some t) line at o v called same fed f last = λ e is. elim (subst (IfFails (FailsAt w (Some t) at line)) (same e is) f) [
-    | inl h ↦ inl (record { at = at; called = called; history = h.0; shown = h.1; own = h.2; counted = h.3; last = subst (IfFails (LastIn (Some t) line)) (same e is) last; fails_so = elim h.4 [ inl k ↦ inl (record { why = k; fed = fed e is }) | inr k ↦ inr (record { rolls = k.0; known = k.1; shown = k.2; fails_so = record { why = k.3; fed = fed e is } }) ] })
+  pub reason_so : {X : Type 0} (kind : CallKind) (trace : Option Trace) (line at : ℕ) (o : Outcome) (v : Result X Error) → kind_at at line ≡ kind → CalledIn trace line at → ((e : Error) → o ≡ outcomes.Err e → v ≡ Err e) → ((e : Error) → o ≡ outcomes.Err e → wants_memory (view_of e) ≡ false)
+      → IfFails (FailsAt w kind trace at line) v → IfFails (LastIn trace line) v → HasReason w trace (record { line = line; outcome = o })
+  reason_so kind None line at o v of called same fed f last = tt
+  reason_so kind (Some t) line at o v of called same fed f last = λ e is. elim (subst (IfFails (FailsAt w kind (Some t) at line)) (same e is) f) [
+    | inl h ↦ inl (record { at = at; called = called; history = h.0; shown = h.1; own = h.2; counted = h.3; last = subst (IfFails (LastIn (Some t) line)) (same e is) last; fails_so = elim h.4 [ inl k ↦ inl (subst (λ (x : CallKind). FailsFor w x (IsBegunAs t at) h.0 e) (sym of) (record { why = k; fed = fed e is })) | inr k ↦ inr (record { rolls = k.0; known = k.1; shown = k.2; fails_so = record { why = k.3; fed = fed e is } }) ] })
     | inr i ↦ inr i
   ]

@@ -12,7 +12,7 @@ use Rattle.txn_history.specs.Plan.{Plan}
 use Rattle.txn_history.specs.Posted.{Within}
 use Rattle.txn_law.specs.Run.{IsPossible, IsRun}
 use Rattle.txn_kv.specs.declared.arrival.Arrival.TheVariants as arrivals
-use Rattle.txn_commit.specs.Committing.{Ways}
+use Rattle.txn_commit.specs.Ways.{Ways}
 use Rattle.txn_commit.specs.Sending.{plan_of}
 use Rattle.txn_report.specs.declared.outcome.Outcome.{Outcome}
 use Rattle.txn_report.specs.declared.outcome.Outcome.TheVariants as outcomes
@@ -37,8 +37,8 @@ use Rattle.txn_clients.proofs.Sides.{out_ticket}
 
 -- What is right after a history is right after what is shown of it.
 
-module _ {P Q K : Type 0} (h : List Event) where
-  committed_shown : (v : ℕ) (r : Row P Q K) → IsCommittedSo h v r → IsCommittedSo (seen h) v r
+module _ {P : Type 0} (h : List Event) where
+  committed_shown : (v : ℕ) (r : Row P) → IsCommittedSo h v r → IsCommittedSo (seen h) v r
   committed_shown v (row.Begun c t m) (parts, closed, wrote, x) = (parts, closed, wrote, committed_so (plan_of parts) h (seen h) (version_of t.start) v (took_seen h) x)
   committed_shown v row.Plain x = absurd x
   committed_shown v (row.Client c) x = absurd x
@@ -47,7 +47,7 @@ module _ {P Q K : Type 0} (h : List Event) where
   committed_shown v (row.Past c) x = absurd x
   committed_shown v (row.Working c job) x = absurd x
 
-  right_shown : (o : Outcome) (r : Row P Q K) → HoldsOf h o r → HoldsOf (seen h) o r
+  right_shown : (o : Outcome) (r : Row P) → HoldsOf h o r → HoldsOf (seen h) o r
   right_shown (outcomes.Ok payloads.Unit) r x = tt
   right_shown (outcomes.Ok (payloads.Number v)) r x = x
   right_shown (outcomes.Ok (payloads.Commit None)) r x = x
@@ -57,7 +57,7 @@ module _ {P Q K : Type 0} (h : List Event) where
   right_shown outcomes.Done r x = tt
   right_shown outcomes.Skipped r x = tt
 
-  holds_shown : (rows : List (Row P Q K)) (x : ℕ) (o : Outcome) → HoldsAt rows h x o → HoldsAt rows (seen h) x o
+  holds_shown : (rows : List (Row P)) (x : ℕ) (o : Outcome) → HoldsAt rows h x o → HoldsAt rows (seen h) x o
   holds_shown rows zero o k = tt
   holds_shown rows (suc i) o k = right_shown o (row_at rows i) k
 
@@ -68,9 +68,9 @@ within_shown h longer within e i = let s = seen_had h e i in had_seen longer e s
 all_as : {X : Type 0} {A B : X → Type 0} (xs : List X) → ((x : X) → A x → B x) → All A xs → All B xs
 all_as {X} {A} {B} xs f a = λ k x e. f (get_or xs k x) (a k x e)
 
-module _ {P Q K A B D : Type 0} (w : Ways P Q K A B D) where
+module _ {P : Type 0} (w : Ways P) where
   -- where a step leads on, the clients have arisen from what is shown then
-  pub arises_by : (s t : Clients P Q K) (posted : List Posting) (ended : List Ending) (at : ℕ → CallOf) (shown h before : List Event) → before ≡ seen h → AreLawful w → LeadsWith w [] posted [] ended at s t shown h
+  pub arises_by : (s t : Clients P) (posted : List Posting) (ended : List Ending) (at : ℕ → CallOf) (shown h before : List Event) → before ≡ seen h → AreLawful w → LeadsWith w [] posted [] ended at s t shown h
       → Arises (ArisenFrom w t) (λ h x o. HoldsAt (rows_of t) h x o) (λ x o. HoldsAt (rows_of s) before x o) at (with_postings posted shown) ended
   arises_by s t posted ended at shown h before is laws (askers, l) = record {
     now = (laws, askers, l.later, shows, l.arisen);
@@ -98,22 +98,22 @@ module _ {P Q K A B D : Type 0} (w : Ways P Q K A B D) where
 
   -- Nothing happens to a client that is gone, or to nobody.
 
-  pub passes_by : (s : Clients P Q K) (at : ℕ → CallOf) (e : Event) (h : List Event) → IsOutside e → IsPossible h e → ArisenFrom w s h → Arises (ArisenFrom w s) (λ h x o. HoldsAt (rows_of s) h x o) (λ x o. HoldsAt (rows_of s) h x o) at (e ∷ h) []
+  pub passes_by : (s : Clients P) (at : ℕ → CallOf) (e : Event) (h : List Event) → IsOutside e → IsPossible h e → ArisenFrom w s h → Arises (ArisenFrom w s) (λ h x o. HoldsAt (rows_of s) h x o) (λ x o. HoldsAt (rows_of s) h x o) at (e ∷ h) []
   passes_by s at e h out may a = let r = arises_when_longer w s h e out may a in record { now = r.now; kept = r.kept; answers = All-nil _; doubts = All-nil _ }
 
   -- nobody hears of it, and nothing is posted
-  pub passes_quietly : (s : Clients P Q K) (posted : List Posting) (ended : List Ending) (at : ℕ → CallOf) (e : Event) (h : List Event) → posted ≡ [] → ended ≡ [] → IsOutside e → IsPossible h e → ArisenFrom w s h
+  pub passes_quietly : (s : Clients P) (posted : List Posting) (ended : List Ending) (at : ℕ → CallOf) (e : Event) (h : List Event) → posted ≡ [] → ended ≡ [] → IsOutside e → IsPossible h e → ArisenFrom w s h
       → Arises (ArisenFrom w s) (λ h x o. HoldsAt (rows_of s) h x o) (λ x o. HoldsAt (rows_of s) h x o) at (with_postings posted (e ∷ h)) ended
   passes_quietly s posted ended at e h none over out may a =
       subst (λ ps. Arises (ArisenFrom w s) (λ h x o. HoldsAt (rows_of s) h x o) (λ x o. HoldsAt (rows_of s) h x o) at (with_postings ps (e ∷ h)) ended) (sym none)
       (subst (λ es. Arises (ArisenFrom w s) (λ h x o. HoldsAt (rows_of s) h x o) (λ x o. HoldsAt (rows_of s) h x o) at (e ∷ h) es) (sym over) (passes_by s at e h out may a))
 
   -- nothing happens at all
-  pub arises_still : (s : Clients P Q K) (at : ℕ → CallOf) (h : List Event) → ArisenFrom w s h → Arises (ArisenFrom w s) (λ h x o. HoldsAt (rows_of s) h x o) (λ x o. HoldsAt (rows_of s) h x o) at h []
+  pub arises_still : (s : Clients P) (at : ℕ → CallOf) (h : List Event) → ArisenFrom w s h → Arises (ArisenFrom w s) (λ h x o. HoldsAt (rows_of s) h x o) (λ x o. HoldsAt (rows_of s) h x o) at h []
   arises_still s at h a = record { now = a; kept = λ x o k. k; answers = All-nil _; doubts = All-nil _ }
 
   -- the line calls
-  pub arises_sent : (s t : Clients P Q K) (posted : List Posting) (ended : List Ending) (at : ℕ → CallOf) (h : List Event)
+  pub arises_sent : (s t : Clients P) (posted : List Posting) (ended : List Ending) (at : ℕ → CallOf) (h : List Event)
       → ((askers : Ticket → List ℕ) (h : List Event) → Arisen w s askers [] h → LeadsWith w [] posted [] ended at s t (seen h) h) → ArisenFrom w s h
       → Arises (ArisenFrom w t) (λ h x o. HoldsAt (rows_of t) h x o) (λ x o. HoldsAt (rows_of s) h x o) at (with_postings posted h) ended
   arises_sent s t posted ended at h leads (laws, askers, g, shows, a) =
@@ -121,7 +121,7 @@ module _ {P Q K A B D : Type 0} (w : Ways P Q K A B D) where
       (arises_by s t posted ended at (seen g) g h (sym shows) laws (leads askers g a))
 
   -- Something comes for a line: for a request of its own, or a sleep,
-  module _ (s t : Clients P Q K) (u : Ticket) (client : ℕ) (posted : List Posting) (ended : List Ending) (h : List Event) (beat : u.beat ≡ false) (own : client_at (stand_at (stands_of (rows_of s)) u.line) ≡ Some client) where
+  module _ (s t : Clients P) (u : Ticket) (client : ℕ) (posted : List Posting) (ended : List Ending) (h : List Event) (beat : u.beat ≡ false) (own : client_at (stand_at (stands_of (rows_of s)) u.line) ≡ Some client) where
     abbrev Next : List Event → Type 0
     Next shown = Arises (ArisenFrom w t) (λ h x o. HoldsAt (rows_of t) h x o) (λ x o. HoldsAt (rows_of s) h x o) (heard_by s) (with_postings posted shown) ended
 
@@ -147,7 +147,7 @@ module _ {P Q K A B D : Type 0} (w : Ways P Q K A B D) where
         (arises_by s t posted ended (heard_by s) (Slept named ∷ seen g) g h (sym shows) laws (steps askers g r tt own tt a)))
 
   -- or for its client's request for timestamps
-  pub arises_group : (s t : Clients P Q K) (u : Ticket) (client : ℕ) (event : Ticket → Request → Event) (r : Request) (posted : List Posting) (ended : List Ending) (h : List Event) → IsOutside (event u r) → HasOut (sight_of s) client u
+  pub arises_group : (s t : Clients P) (u : Ticket) (client : ℕ) (event : Ticket → Request → Event) (r : Request) (posted : List Posting) (ended : List Ending) (h : List Event) → IsOutside (event u r) → HasOut (sight_of s) client u
       → StepsGroup w client event posted ended s t → IsPossible h (event u r) → ArisenFrom w s h
       → Arises (ArisenFrom w t) (λ h x o. HoldsAt (rows_of t) h x o) (λ x o. HoldsAt (rows_of s) h x o) (heard_by s) (with_postings posted (event u r ∷ h)) ended
   arises_group s t u client event r posted ended h out here steps may (laws, askers, g, shows, a) =

@@ -9,7 +9,7 @@ use Rattle.txn_history.specs.Phase.{IsPosted as IsErrand}
 use Rattle.txn_history.specs.Phase.Awaited.{ReplyTo, EndOf, TimeOf}
 use Rattle.txn_history.specs.Posted.{Errand, Posted}
 use Rattle.txn_kv.specs.declared.arrival.Arrival.TheVariants as arrivals
-use Rattle.txn_commit.specs.Committing.{Ways}
+use Rattle.txn_commit.specs.Ways.{Ways}
 use Rattle.txn_core.proofs.Waiting.{standing_posted}
 use Rattle.txn_client.specs.Calls.{called-lawful}
 use Rattle.txn_kv.specs.declared.ticket.Ticket.{Ticket}
@@ -81,30 +81,30 @@ paired_by b d e f (inr t) = inr (t.0, f ∙ t.1)
 
 -- Rows
 
-module _ {P Q K A B D : Type 0} (w : Ways P Q K A B D) where
+module _ {P : Type 0} (w : Ways P) where
   -- another row waits for it
-  abbrev pub Away : List (Row P Q K) → ℕ → ℕ → Awaited → Type 0
+  abbrev pub Away : List (Row P) → ℕ → ℕ → Awaited → Type 0
   Away rows at n a = (i : ℕ) × (i ≢ at) × (voice_at rows i ≡ n) × wants w (row_at rows i) a
 
-  pub wants_at : (rows : List (Row P Q K)) (at : ℕ) (r : Row P Q K) (n : ℕ) (a : Awaited) → at < length rows → Wants w (set rows at r) n a → ((voice at (stand_of r) ≡ n) × wants w r a) ⊎ Away rows at n a
+  pub wants_at : (rows : List (Row P)) (at : ℕ) (r : Row P) (n : ℕ) (a : Awaited) → at < length rows → Wants w (set rows at r) n a → ((voice at (stand_of r) ≡ n) × wants w r a) ⊎ Away rows at n a
   wants_at rows at r n a h (i, v, x) = by (same_line at i)
     where
       by : (i ≡ at) ⊎ (i ≢ at) → ((voice at (stand_of r) ≡ n) × wants w r a) ⊎ Away rows at n a
       by (inl same) =
           let e : row_at (set rows at r) i ≡ r = ap (row_at (set rows at r)) same ∙ or_same rows at r row.Plain h in
-          inl (ap (λ j. voice j (stand_of r)) (sym same) ∙ ap (λ (y : Row P Q K). voice i (stand_of y)) (sym e) ∙ v, subst (λ (y : Row P Q K). wants w y a) e x)
+          inl (ap (λ j. voice j (stand_of r)) (sym same) ∙ ap (λ (y : Row P). voice i (stand_of y)) (sym e) ∙ v, subst (λ (y : Row P). wants w y a) e x)
       by (inr apart) =
           let e : row_at (set rows at r) i ≡ row_at rows i = or_other rows at i r row.Plain apart in
-          inr (i, apart, ap (λ (y : Row P Q K). voice i (stand_of y)) (sym e) ∙ v, subst (λ (y : Row P Q K). wants w y a) e x)
+          inr (i, apart, ap (λ (y : Row P). voice i (stand_of y)) (sym e) ∙ v, subst (λ (y : Row P). wants w y a) e x)
 
-  pub away_wants : (rows : List (Row P Q K)) (at n : ℕ) (a : Awaited) → Away rows at n a → Wants w rows n a
+  pub away_wants : (rows : List (Row P)) (at n : ℕ) (a : Awaited) → Away rows at n a → Wants w rows n a
   away_wants rows at n a (i, apart, v, x) = (i, v, x)
 
   -- one that waits for nothing
-  pub wants_fewer : (rows : List (Row P Q K)) (at : ℕ) (r : Row P Q K) → at < length rows → ((a : Awaited) → wants w r a → ⊥) → (n : ℕ) (a : Awaited) → Wants w (set rows at r) n a → Wants w rows n a
+  pub wants_fewer : (rows : List (Row P)) (at : ℕ) (r : Row P) → at < length rows → ((a : Awaited) → wants w r a → ⊥) → (n : ℕ) (a : Awaited) → Wants w (set rows at r) n a → Wants w rows n a
   wants_fewer rows at r h silent n a x = elim (wants_at rows at r n a h x) [ inl y ↦ absurd (silent a y.1) | inr y ↦ away_wants rows at n a y ]
 
-  pub arisen_set : (trace : Option Trace) (rows : List (Row P Q K)) (at : ℕ) (r : Row P Q K) (news asks : List ℕ) → at < length rows → RowArises w trace (suc at) (posted_at news asks (voice at (stand_of r))) news r
+  pub arisen_set : (trace : Option Trace) (rows : List (Row P)) (at : ℕ) (r : Row P) (news asks : List ℕ) → at < length rows → RowArises w trace (suc at) (posted_at news asks (voice at (stand_of r))) news r
       → ((i : ℕ) → i ≢ at → RowArises w trace (suc i) (posted_at news asks (voice_at rows i)) news (row_at rows i))
       → (i : ℕ) → RowArises w trace (suc i) (posted_at news asks (voice_at (set rows at r) i)) news (row_at (set rows at r) i)
   arisen_set trace rows at r news asks h here there i = by (same_line at i)
@@ -112,28 +112,28 @@ module _ {P Q K A B D : Type 0} (w : Ways P Q K A B D) where
       by : (i ≡ at) ⊎ (i ≢ at) → RowArises w trace (suc i) (posted_at news asks (voice_at (set rows at r) i)) news (row_at (set rows at r) i)
       by (inl same) =
           let e : row_at (set rows at r) i ≡ r = ap (row_at (set rows at r)) same ∙ or_same rows at r row.Plain h in
-          subst (λ (y : Row P Q K). RowArises w trace (suc i) (posted_at news asks (voice i (stand_of y))) news y) (sym e) (subst (λ j. RowArises w trace (suc j) (posted_at news asks (voice j (stand_of r))) news r) (sym same) here)
+          subst (λ (y : Row P). RowArises w trace (suc i) (posted_at news asks (voice i (stand_of y))) news y) (sym e) (subst (λ j. RowArises w trace (suc j) (posted_at news asks (voice j (stand_of r))) news r) (sym same) here)
       by (inr apart) =
           let e : row_at (set rows at r) i ≡ row_at rows i = or_other rows at i r row.Plain apart in
-          subst (λ (y : Row P Q K). RowArises w trace (suc i) (posted_at news asks (voice i (stand_of y))) news y) (sym e) (there i apart)
+          subst (λ (y : Row P). RowArises w trace (suc i) (posted_at news asks (voice i (stand_of y))) news y) (sym e) (there i apart)
 
-pub running_set : {P Q K : Type 0} (rows : List (Row P Q K)) (at : ℕ) (r : Row P Q K) → at < length rows → AreRunningBut at rows → RowRuns r → AreRunning (set rows at r)
+pub running_set : {P : Type 0} (rows : List (Row P)) (at : ℕ) (r : Row P) → at < length rows → AreRunningBut at rows → RowRuns r → AreRunning (set rows at r)
 running_set rows at r h but run i = by (same_line at i)
   where
     by : (i ≡ at) ⊎ (i ≢ at) → RowRuns (row_at (set rows at r) i)
     by (inl same) = subst RowRuns (sym (ap (row_at (set rows at r)) same ∙ or_same rows at r row.Plain h)) run
     by (inr apart) = subst RowRuns (sym (or_other rows at i r row.Plain apart)) (but i apart)
 
-pub running_but : {P Q K : Type 0} (rows : List (Row P Q K)) (at : ℕ) (r : Row P Q K) → AreRunningBut at rows → AreRunningBut at (set rows at r)
+pub running_but : {P : Type 0} (rows : List (Row P)) (at : ℕ) (r : Row P) → AreRunningBut at rows → AreRunningBut at (set rows at r)
 running_but rows at r but i apart = subst RowRuns (sym (or_other rows at i r row.Plain apart)) (but i apart)
 
-pub runs_push : {P Q K A B D : Type 0} (w : Ways P Q K A B D) (told : Told) (rows news : List (Row P Q K)) (at : ℕ) (r : Row P Q K) (from to : Posted) (answer : Option (Answer P Q K)) → at < length rows → news ≡ set rows at r → RowGoes w told (row_at rows at) r from to answer → RunsOn told at answer rows news
+pub runs_push : {P : Type 0} (w : Ways P) (told : Told) (rows news : List (Row P)) (at : ℕ) (r : Row P) (from to : Posted) (answer : Option (Answer P)) → at < length rows → news ≡ set rows at r → RowGoes w told (row_at rows at) r from to answer → RunsOn told at answer rows news
 runs_push w told rows news at r from to answer h e goes but prepared =
     (subst (AreRunningBut at) (sym e) (running_but rows at r but), λ none. subst AreRunning (sym e) (running_set rows at r h but (goes.runs prepared none)))
 
 -- What is known as something is told
 
-pub may_know_at : {P Q K : Type 0} (trace : Option Trace) (line next next_ask : ℕ) (sends : List Errand) (told : Told) (r : Row P Q K) → MayKnow trace (outbox_of line) told r → MayKnow trace (record { line = line; beat = false; next = next; next_ask = next_ask; sends = sends }) told r
+pub may_know_at : {P : Type 0} (trace : Option Trace) (line next next_ask : ℕ) (sends : List Errand) (told : Told) (r : Row P) → MayKnow trace (outbox_of line) told r → MayKnow trace (record { line = line; beat = false; next = next; next_ask = next_ask; sends = sends }) told r
 may_know_at trace line next next_ask sends tells.Start r h = tt
 may_know_at trace line next next_ask sends (tells.Act act) row.Plain h = tt
 may_know_at trace line next next_ask sends (tells.Act act) (row.Client c) h = tt
@@ -149,10 +149,10 @@ may_know_at (Some t) line next next_ask sends (tells.Heard (arrivals.Slept n)) r
 may_know_at (Some t) line next next_ask sends (tells.Heard (arrivals.Time k x)) r h = h
 
 -- whom is told what comes for a line
-pub called_for : {P Q K : Type 0} (trace : Option Trace) (rows : List (Row P Q K)) (line at : ℕ) → AreToldIn trace (stands_of rows) → AreMatched (stands_of rows) → line ≢ 0 → voice at (stand_at (stands_of rows) (suc at)) ≡ line → CalledFor trace line (suc at) (row_at rows at)
-called_for {P} {Q} {K} trace rows line at told matched some voiced = by (row_at rows at) (stand_read rows at)
+pub called_for : {P : Type 0} (trace : Option Trace) (rows : List (Row P)) (line at : ℕ) → AreToldIn trace (stands_of rows) → AreMatched (stands_of rows) → line ≢ 0 → voice at (stand_at (stands_of rows) (suc at)) ≡ line → CalledFor trace line (suc at) (row_at rows at)
+called_for {P} trace rows line at told matched some voiced = by (row_at rows at) (stand_read rows at)
   where
-    by : (r : Row P Q K) → stand_at (stands_of rows) (suc at) ≡ stand_of r → CalledFor trace line (suc at) r
+    by : (r : Row P) → stand_at (stands_of rows) (suc at) ≡ stand_of r → CalledFor trace line (suc at) r
     by row.Plain e = tt
     by (row.Client c) e = tt
     by (row.Asking c b call) e = subst (λ n. CalledIn trace n (suc at)) (sym (ap (voice at) e) ∙ voiced) (told.asks (suc at) c b e)
@@ -166,13 +166,13 @@ called_for {P} {Q} {K} trace rows line at told matched some voiced = by (row_at 
     by (row.Past c) e = tt
     by (row.Working c job) e = tt
 
-pub no_more : {P Q K A B D : Type 0} (w : Ways P Q K A B D) (trace : Option Trace) (ends : List Ending) → EndsMore w trace ends ends
+pub no_more : {P : Type 0} (w : Ways P) (trace : Option Trace) (ends : List Ending) → EndsMore w trace ends ends
 no_more w trace ends = record { more = []; ended = sym (append-nil ends); each = All-nil (HasReason w trace) }
 
 -- Clients
 
-module _ {P Q K A B D : Type 0} (w : Ways P Q K A B D) where
-  pub sound_from : (trace : Option Trace) (s t : Clients P Q K) (rest : List Asker)
+module _ {P : Type 0} (w : Ways P) where
+  pub sound_from : (trace : Option Trace) (s t : Clients P) (rest : List Asker)
       → AreToldIn trace (stands_of (rows_of t))
       → ((i : ℕ) → RowArises w trace (suc i) (posted_at (nexts_of t) (asks_of t) (voice_at (rows_of t) i)) (nexts_of t) (row_at (rows_of t) i))
       → AreCalled (stands_of (rows_of t))
@@ -194,22 +194,22 @@ module _ {P Q K A B D : Type 0} (w : Ways P Q K A B D) where
     owing = sound.owing;
   }
 
-  module _ (p : IsLawful w.prewriting) (q : IsLawful w.committing) (k : IsLawful w.rolling) where
-    row_below : (trace : Option Trace) (at : ℕ) (r : Row P Q K) (o : Posted) (nexts : List ℕ) (m : ℕ) → RowArises w trace at o nexts r → wants w r (ReplyTo m) → m < o.next
+  module _ (p : IsLawful w.plan) where
+    row_below : (trace : Option Trace) (at : ℕ) (r : Row P) (o : Posted) (nexts : List ℕ) (m : ℕ) → RowArises w trace at o nexts r → wants w r (ReplyTo m) → m < o.next
     row_below trace at row.Plain o nexts m x y = absurd y
     row_below trace at (row.Client c) o nexts m x y = absurd y
     row_below trace at (row.Asking c b call) o nexts m x y = let s = called-lawful.posted call o x.arisen.history (ReplyTo m) x.arisen.fits y in s.2
-    row_below trace at (row.Begun c t i) o nexts m x y = let s = standing_posted w p q k t o x.arisen.history (ReplyTo m) x.arisen.fits y in s.2
+    row_below trace at (row.Begun c t i) o nexts m x y = let s = standing_posted w p t o x.arisen.history (ReplyTo m) x.arisen.fits y in s.2
     row_below trace at (row.Calling c z b) o nexts m x y = absurd y
     row_below trace at (row.Past c) o nexts m x y = absurd y
     row_below trace at (row.Working c job) o nexts m x y = absurd y
 
     -- what is waited for has a number below the next
-    pub wants_below : (trace : Option Trace) (s : Clients P Q K) (rest : List Asker) (n m : ℕ) → IsSound w trace rest s → Wants w (rows_of s) n (ReplyTo m) → m < next_at (nexts_of s) n
+    pub wants_below : (trace : Option Trace) (s : Clients P) (rest : List Asker) (n m : ℕ) → IsSound w trace rest s → Wants w (rows_of s) n (ReplyTo m) → m < next_at (nexts_of s) n
     wants_below trace s rest n m sound (i, v, x) = subst (λ j. m < next_at (nexts_of s) j) v (row_below trace (suc i) (row_at (rows_of s) i) (posted_at (nexts_of s) (asks_of s) (voice_at (rows_of s) i)) (nexts_of s) m (sound.arisen i) x)
 
     -- What stands at a place was told of something, and what it posted was done.
-    pub push_goes : (trace : Option Trace) (s t : Clients P Q K) (told : Told) (line client at : ℕ) (r : Row P Q K) (rest : List Asker) (from to : Posted) (answer : Option (Answer P Q K)) (sends : List Errand) (ps qs : List Posting) (ends : List Ending)
+    pub push_goes : (trace : Option Trace) (s t : Clients P) (told : Told) (line client at : ℕ) (r : Row P) (rest : List Asker) (from to : Posted) (answer : Option (Answer P)) (sends : List Errand) (ps qs : List Posting) (ends : List Ending)
         → IsLine (stands_of (rows_of s)) line → at < length (rows_of s) → client_at (stand_at (stands_of (rows_of s)) line) ≡ Some client → voice at (stand_at (stands_of (rows_of s)) (suc at)) ≡ line → AreMatched (stands_of (rows_of s))
         → from ≡ posted_at (nexts_of s) (asks_of s) line → sends ≡ to.sends
         → rows_of t ≡ set (rows_of s) at r → stand_of r ≡ stand_of (row_at (rows_of s) at) → RowGoes w told (row_at (rows_of s) at) r from to answer
@@ -244,7 +244,7 @@ module _ {P Q K A B D : Type 0} (w : Ways P Q K A B D) where
       subst (λ n. IfSome answer (AnswerRests w (posting_in qs trace) (suc at) n)) (ap (λ (o : Posted). o.line) begins) come.1,
     )
       where
-        olds : List (Row P Q K)
+        olds : List (Row P)
         olds = rows_of s
 
         -- once it was told, and then what is posted
@@ -270,7 +270,7 @@ module _ {P Q K A B D : Type 0} (w : Ways P Q K A B D) where
         once i apart e = apart (voice_once (stands_of olds) i at line matched some (ap (voice i) (stand_read olds i) ∙ e) voiced)
 
         asks_count : line ≤ length (asks_of s)
-        asks_count = let last = is.last in let long = count s in let short = length-map s.places.items (λ (x : Place P Q K). x.next_ask) in omega (arith, last, long, short)
+        asks_count = let last = is.last in let long = count s in let short = length-map s.places.items (λ (x : Place P). x.next_ask) in omega (arith, last, long, short)
 
         told_ask : next_at (asks_of t) line ≡ to.next_ask
         told_ask = ap (λ ns. next_at ns line) asks ∙ next_same (asks_of s) line to.next_ask is.first asks_count
@@ -313,7 +313,7 @@ module _ {P Q K A B D : Type 0} (w : Ways P Q K A B D) where
         }
 
         there : (i : ℕ) → i ≢ at → RowArises w (posting_in qs trace) (suc i) (posted_at (nexts_of t) (asks_of t) (voice_at olds i)) (nexts_of t) (row_at olds i)
-        there i apart = row_later w p q k (posting_in qs trace) (suc i) (row_at olds i) (posted_at (nexts_of s) (asks_of s) (voice_at olds i)) (posted_at (nexts_of t) (asks_of t) (voice_at olds i)) (nexts_of s) (nexts_of t) (later (voice_at olds i) (once i apart)) risen (row_longer w (posting_in ps (owing line told trace)) (posting_in qs trace) (suc i) _ _ (row_at olds i) went_on (sound.arisen i))
+        there i apart = row_later w p (posting_in qs trace) (suc i) (row_at olds i) (posted_at (nexts_of s) (asks_of s) (voice_at olds i)) (posted_at (nexts_of t) (asks_of t) (voice_at olds i)) (nexts_of s) (nexts_of t) (later (voice_at olds i) (once i apart)) risen (row_longer w (posting_in ps (owing line told trace)) (posting_in qs trace) (suc i) _ _ (row_at olds i) went_on (sound.arisen i))
 
         arisen : (i : ℕ) → RowArises w (posting_in qs trace) (suc i) (posted_at (nexts_of t) (asks_of t) (voice_at (rows_of t) i)) (nexts_of t) (row_at (rows_of t) i)
         arisen i = subst (λ rs. RowArises w (posting_in qs trace) (suc i) (posted_at (nexts_of t) (asks_of t) (voice_at rs i)) (nexts_of t) (row_at rs i)) (sym rows) (arisen_set w (posting_in qs trace) olds at r (nexts_of t) (asks_of t) inside here there i)

@@ -25,7 +25,7 @@ use Rattle.txn_kv.specs.declared.arrival.Arrival.TheVariants as arrivals
 use Rattle.txn_tso.specs.Calling.{members}
 use Rattle.txn_buffer.specs.Contents.{Contents, locked, mutated_by, with_write, write_at}
 use Rattle.txn_buffer.specs.Writes.{Write, WriteCall, after_delete, after_put}
-use Rattle.txn_commit.specs.Committing.{Ways}
+use Rattle.txn_commit.specs.Ways.{Ways}
 use Rattle.txn_commit.specs.Following.{Commits, IsFollowed, awaits, heard, is_out, or_first, undetermined}
 use Rattle.txn_commit.specs.Parts.{parts_of}
 use Rattle.txn_commit.specs.Sending.{plan_of}
@@ -52,6 +52,7 @@ use Rattle.txn_clients.proofs.Marking.{lost_came, marked_same, marks, none_marke
 use Rattle.txn_clients.proofs.Showing.{among_behind, barred_by, counted_after, counts_heard, owing_called, owing_came, owing_met, rolls_longer, known_so, fails_done, fits_known, own_after, own_heard, refused_by, refused_longer_in, sent_shown, shown_after, shown_heard, unheard_ends}
 use Rattle.txn_side.specs.Account.{Account, is_undetermined_view}
 use Rattle.txn_side.specs.Trace.{AreOwn, Trace, refused_asks}
+use Rattle.txn_side.specs.Trace.CallKind.{OfTransaction}
 use Rattle.txn_lines.specs.declared.act.Act.{Act}
 use Rattle.txn_kv.specs.declared.outbox.Errand.TheVariants.{Send}
 use Rattle.txn_history.specs.Among.{IsAmong}
@@ -63,7 +64,7 @@ if_kept Stopped f = tt
 if_kept Waits f = f (λ e. cc)
 if_kept (Ends v) f = f (λ e. cc)
 
-pub open_so : {P Q K : Type 0} (g : Work P Q K) → is_open g ≡ false → (g ≡ Idle) ⊎ (g ≡ GaveUp)
+pub open_so : {P : Type 0} (g : Work P) → is_open g ≡ false → (g ≡ Idle) ⊎ (g ≡ GaveUp)
 open_so Idle e = inl refl
 open_so (Open call) e = absurd (no e)
   where
@@ -132,7 +133,7 @@ reached_later from to o line beat r = record { line = r.line ∙ sym line; beat 
 
 -- Where a call is refused
 
-pub ends_shut : {Q : Type 0} → (t : Ticket) (turn : Turn (Result (TxnAnswer Q) Error)) → IsUndetermined t turn → is_waiting turn ≡ false
+pub ends_shut : {P : Type 0} → (t : Ticket) (turn : Turn (Result (TxnAnswer P) Error)) → IsUndetermined t turn → is_waiting turn ≡ false
 ends_shut t Stopped u = refl
 ends_shut t Waits u = absurd u
 ends_shut t (Ends v) u = refl
@@ -145,27 +146,27 @@ lost_first c t some left = by c.lost refl some left
     by None e holds first = absurd (cc)
     by (Some u) e holds first = e ∙ first
 
-module _ {P Q K : Type 0} where
-  pub refused_stays : (e : Error) (old new : Standing P Q K) (turn : Turn (Result (TxnAnswer Q) Error)) → IsRefused e old new turn → new ≡ old
+module _ {P : Type 0} where
+  pub refused_stays : (e : Error) (old new : Standing P) (turn : Turn (Result (TxnAnswer P) Error)) → IsRefused e old new turn → new ≡ old
   refused_stays e old new Stopped r = r
   refused_stays e old new Waits r = absurd r
   refused_stays e old new (Ends v) r = r.1
 
-module _ {P Q K A B D : Type 0} (w : Ways P Q K A B D) where
+module _ {P : Type 0} (w : Ways P) where
   -- between calls it waits for nothing
-  pub rest_silent : (g : Work P Q K) (a : Awaited) → is_open g ≡ false → work_waits w g a → ⊥
+  pub rest_silent : (g : Work P) (a : Awaited) → is_open g ≡ false → work_waits w g a → ⊥
   rest_silent g a e x = by (open_so g e)
     where
       by : (g ≡ Idle) ⊎ (g ≡ GaveUp) → ⊥
       by (inl i) = subst (λ y. work_waits w y a) i x
       by (inr i) = subst (λ y. work_waits w y a) i x
 
-module _ {P Q K A B D : Type 0} (w : Ways P Q K A B D) (p : IsLawful w.prewriting) (q : IsLawful w.committing) (k : IsLawful w.rolling) where
+module _ {P : Type 0} (w : Ways P) (p : IsLawful w.plan) where
   -- nothing else of its start is in a later outbox
-  later_fits : (t : Standing P Q K) (o later : Posted) (h : List Event) → IsLater o later → TransactionFits w t o h → TransactionFits w t later h
-  later_fits t o later h l f = others_fit w p q k t o later h h l (adds_same (λ r. r.start_version ≡ version_of t.start) h) f
+  later_fits : (t : Standing P) (o later : Posted) (h : List Event) → IsLater o later → TransactionFits w t o h → TransactionFits w t later h
+  later_fits t o later h l f = others_fit w p t o later h h l (adds_same (λ r. r.start_version ≡ version_of t.start) h) f
 
-  pub stand_later : {trace : Option Trace} {at : ℕ} (t : Standing P Q K) (o later : Posted) (nexts news : List ℕ) → IsLater o later → IsRisen nexts news → StandArises w trace at o nexts t → StandArises w trace at later news t
+  pub stand_later : {trace : Option Trace} {at : ℕ} (t : Standing P) (o later : Posted) (nexts news : List ℕ) → IsLater o later → IsRisen nexts news → StandArises w trace at o nexts t → StandArises w trace at later news t
   stand_later {trace} {at} t o later nexts news l risen a = record {
     ordered = a.ordered;
     retries = a.retries;
@@ -174,7 +175,7 @@ module _ {P Q K A B D : Type 0} (w : Ways P Q K A B D) (p : IsLawful w.prewritin
   }
 
   -- and in a longer trace
-  stand_shown : (trace longer : Option Trace) (at : ℕ) (t : Standing P Q K) (o : Posted) (nexts : List ℕ) → LongerIn trace longer → StandArises w trace at o nexts t → StandArises w longer at o nexts t
+  stand_shown : (trace longer : Option Trace) (at : ℕ) (t : Standing P) (o : Posted) (nexts : List ℕ) → LongerIn trace longer → StandArises w trace at o nexts t → StandArises w longer at o nexts t
   stand_shown trace longer at t o nexts l a = record {
     ordered = a.ordered;
     retries = retries_longer trace longer at t.options.retry_options l a.retries;
@@ -183,7 +184,7 @@ module _ {P Q K A B D : Type 0} (w : Ways P Q K A B D) (p : IsLawful w.prewritin
   }
 
   -- between calls, in any outbox, and with what explains no error
-  cleaned_fits : (t : Standing P Q K) (later : Posted) (h : List Event) → TransactionFits w t later h → (g : Work P Q K) → t.work ≡ g → is_open g ≡ false → TransactionFits w t later (cleaned h)
+  cleaned_fits : (t : Standing P) (later : Posted) (h : List Event) → TransactionFits w t later h → (g : Work P) → t.work ≡ g → is_open g ≡ false → TransactionFits w t later (cleaned h)
   cleaned_fits t later h f g e rests = record {
     given = given_cleaned h (version_of t.start) f.given;
     unsent = λ a. unsent_cleaned (version_of t.start) t.commits h (f.unsent a);
@@ -192,19 +193,19 @@ module _ {P Q K A B D : Type 0} (w : Ways P Q K A B D) (p : IsLawful w.prewritin
     at = subst (λ x. IsAtWork w t.options.retry_options t.start t.status t.contents t.commits x later (cleaned h)) (sym e) (at g rests (subst (λ x. IsAtWork w t.options.retry_options t.start t.status t.contents t.commits x later h) e f.at));
   }
     where
-      at : (x : Work P Q K) → is_open x ≡ false → IsAtWork w t.options.retry_options t.start t.status t.contents t.commits x later h → IsAtWork w t.options.retry_options t.start t.status t.contents t.commits x later (cleaned h)
+      at : (x : Work P) → is_open x ≡ false → IsAtWork w t.options.retry_options t.start t.status t.contents t.commits x later h → IsAtWork w t.options.retry_options t.start t.status t.contents t.commits x later (cleaned h)
       at Idle shut k = record { of_parts = λ parts whole. parts_cleaned (version_of t.start) t.commits h parts (k.of_parts parts whole); empty = k.empty }
       at (Open call) shut k = absurd (cc)
       at GaveUp shut k = tt
 
-  rest_fits : (t : Standing P Q K) (o later : Posted) (h : List Event) → is_open t.work ≡ false → TransactionFits w t o h → TransactionFits w t later (cleaned h)
+  rest_fits : (t : Standing P) (o later : Posted) (h : List Event) → is_open t.work ≡ false → TransactionFits w t o h → TransactionFits w t later (cleaned h)
   rest_fits t o later h e f = cleaned_fits t later h (by (open_so t.work e)) t.work refl e
     where
       by : (t.work ≡ Idle) ⊎ (t.work ≡ GaveUp) → TransactionFits w t later h
       by (inl i) = idle_fits w t o later h i f
       by (inr g) = record { given = f.given; unsent = f.unsent; settled = f.settled; undone = f.undone; at = subst (λ x. IsAtWork w t.options.retry_options t.start t.status t.contents t.commits x later h) (sym g) tt }
 
-  pub stand_rests : {trace : Option Trace} {at : ℕ} (t : Standing P Q K) (o later : Posted) (nexts news : List ℕ) → is_open t.work ≡ false → IsRisen nexts news → CountedIn trace later.line 0 → StandArises w trace at o nexts t → StandArises w trace at later news t
+  pub stand_rests : {trace : Option Trace} {at : ℕ} (t : Standing P) (o later : Posted) (nexts news : List ℕ) → is_open t.work ≡ false → IsRisen nexts news → CountedIn trace later.line 0 → StandArises w trace at o nexts t → StandArises w trace at later news t
   stand_rests {trace} {at} t o later nexts news e risen none a = record {
     ordered = a.ordered;
     retries = a.retries;
@@ -222,17 +223,17 @@ module _ {P Q K A B D : Type 0} (w : Ways P Q K A B D) (p : IsLawful w.prewritin
   -- It is told of something.
 
   -- What it comes to: it can have arisen from a longer history, and an error that it answers rests on that.
-  abbrev Arises : Option Trace → ℕ → ℕ → Posted → List ℕ → Standing P Q K → Turn (Result (TxnAnswer Q) Error) → Type 0
-  Arises longer at line o news new turn = StandArises w longer at o news new × IfEnds turn (IfFails (FailsAt w longer at line))
+  abbrev Arises : Option Trace → ℕ → ℕ → Posted → List ℕ → Standing P → Turn (Result (TxnAnswer P) Error) → Type 0
+  Arises longer at line o news new turn = StandArises w longer at o news new × IfEnds turn (IfFails (FailsAt w OfTransaction longer at line))
 
   -- where it has answered it has not given up
-  abbrev Outlives : Standing P Q K → Turn (Result (TxnAnswer Q) Error) → Type 0
-  Outlives new turn = (v : Result (TxnAnswer Q) Error) → turn ≡ Ends v → new.work ≡ GaveUp → ⊥
+  abbrev Outlives : Standing P → Turn (Result (TxnAnswer P) Error) → Type 0
+  Outlives new turn = (v : Result (TxnAnswer P) Error) → turn ≡ Ends v → new.work ≡ GaveUp → ⊥
 
   given_up : GivenUp ≡ Over → ⊥
   given_up e = cc
 
-  opened_alive : (new : Standing P Q K) (turn : Turn (Result (TxnAnswer Q) Error)) → work_phase w new.work ≡ phase_after turn → Outlives new turn
+  opened_alive : (new : Standing P) (turn : Turn (Result (TxnAnswer P) Error)) → work_phase w new.work ≡ phase_after turn → Outlives new turn
   opened_alive new turn next v e g = given_up (sym (ap (work_phase w) g) ∙ next ∙ ap phase_after e)
 
   unheard_answers : {A : Type 0} (phase : Phase) (v : A) → Ends v ≡ unheard phase → ⊥
@@ -241,10 +242,10 @@ module _ {P Q K A B D : Type 0} (w : Ways P Q K A B D) (p : IsLawful w.prewritin
   unheard_answers Over v e = cc
   unheard_answers GivenUp v e = cc
 
-  heard_alive : {C : Type 0} (meant : Type 0) (old new : Standing P Q K) (from to : Posted) (pd pd' : C) (turn : Turn (Result (TxnAnswer Q) Error)) → TransactionGoes w meant old new from to pd pd' turn → Outlives new turn
+  heard_alive : {C : Type 0} (meant : Type 0) (old new : Standing P) (from to : Posted) (pd pd' : C) (turn : Turn (Result (TxnAnswer P) Error)) → TransactionGoes w meant old new from to pd pd' turn → Outlives new turn
   heard_alive meant old new from to pd pd' turn goes v e g = unheard_answers _ v (sym e ∙ goes.deaf (λ m. given_up (sym (ap (work_phase w) g) ∙ goes.next m ∙ ap phase_after e)))
 
-  moved : (trace longer : Option Trace) (at : ℕ) (known : List Event → Type 0) (hear : List Event → List Event) (old new : Standing P Q K) (from to o : Posted) (turn : Turn (Result (TxnAnswer Q) Error)) (nexts news : List ℕ)
+  moved : (trace longer : Option Trace) (at : ℕ) (known : List Event → Type 0) (hear : List Event → List Event) (old new : Standing P) (from to o : Posted) (turn : Turn (Result (TxnAnswer P) Error)) (nexts news : List ℕ)
       → HasMet trace longer from to → CalledIn trace from.line at
       → TransactionMoves w known hear old new from to turn → turn ≢ Stopped → Outlives new turn → new.start ≡ old.start → new.options ≡ old.options → new.contents ≡ old.contents
       → ((h : List Event) → IsKept nexts h → IsKept nexts (hear h))
@@ -275,44 +276,44 @@ module _ {P Q K A B D : Type 0} (w : Ways P Q K A B D) (p : IsLawful w.prewritin
       )
 
   -- nothing changes
-  stays : (trace longer : Option Trace) (at : ℕ) (old new : Standing P Q K) (from to o : Posted) (nexts news : List ℕ) → LongerIn trace longer → new ≡ old → to ≡ from → IsRisen nexts news → IsReached from to o → StandArises w trace at from nexts old → StandArises w longer at o news new
+  stays : (trace longer : Option Trace) (at : ℕ) (old new : Standing P) (from to o : Posted) (nexts news : List ℕ) → LongerIn trace longer → new ≡ old → to ≡ from → IsRisen nexts news → IsReached from to o → StandArises w trace at from nexts old → StandArises w longer at o news new
   stays trace longer at old new from to o nexts news l e f risen reached a =
       subst (StandArises w longer at o news) (sym e) (stand_shown trace longer at old o news l (stand_later old from o nexts news (record { line = reached.line; beat = reached.beat; next = subst (λ (x : Posted). x.next ≤ o.next) f reached.next; next_ask = subst (λ (x : Posted). x.next_ask ≤ o.next_ask) f reached.next_ask }) risen a))
 
   -- of a request of which its own history knows nothing
-  unknown : {C : Type 0} (trace longer : Option Trace) (at : ℕ) (a : Arrival) (n : ℕ) (old new : Standing P Q K) (from to o : Posted) (pd pd' : C) (turn : Turn (Result (TxnAnswer Q) Error)) (nexts news : List ℕ) → LongerIn trace longer
+  unknown : {C : Type 0} (trace longer : Option Trace) (at : ℕ) (a : Arrival) (n : ℕ) (old new : Standing P) (from to o : Posted) (pd pd' : C) (turn : Turn (Result (TxnAnswer P) Error)) (nexts news : List ℕ) → LongerIn trace longer
       → awaited_as a ≡ ReplyTo n → awaits a from old.commits ≡ is_out (ticket_of from n) old.commits
       → TransactionGoes w (work_waits w old.work (awaited_as a)) (record old { commits = new.commits }) new from to pd pd' turn
       → ((work_waits w old.work (awaited_as a) → ⊥) → awaits a from old.commits ≡ false → new.commits ≡ old.commits)
       → (old.work ≡ Idle → (turn ≡ Waits) × (new ≡ old) × (to ≡ from)) → GivesUp old new turn → turn ≢ Stopped
       → IsRisen nexts news → IsReached from to o → (x : StandArises w trace at from nexts old) → ((r : Request) → Has x.arisen.history (Sent (ticket_of from n) r) → ⊥) → Arises longer at from.line o news new turn
   unknown trace longer at a n old new from to o pd pd' turn nexts news l is out goes commits deaf gone kept risen reached x never =
-      (stays trace longer at old new from to o nexts news l (same old.work refl) (goes.outbox other) risen reached x, unheard_ends turn _ (IfFails (FailsAt w longer at from.line)) (goes.deaf other))
+      (stays trace longer at old new from to o nexts news l (same old.work refl) (goes.outbox other) risen reached x, unheard_ends turn _ (IfFails (FailsAt w OfTransaction longer at from.line)) (goes.deaf other))
     where
       h : List Event
       h = x.arisen.history
 
       other : work_waits w old.work (awaited_as a) → ⊥
-      other y = let s = standing_posted w p q k old from h (ReplyTo n) x.arisen.fits (subst (work_waits w old.work) is y) in never s.0 s.1
+      other y = let s = standing_posted w p old from h (ReplyTo n) x.arisen.fits (subst (work_waits w old.work) is y) in never s.0 s.1
 
-      same : (g : Work P Q K) → old.work ≡ g → new ≡ old
+      same : (g : Work P) → old.work ≡ g → new ≡ old
       same Idle e = let d = deaf e in d.1
       same (Open call) e =
           let at : IsAtWork w old.options.retry_options old.start old.status old.contents old.commits (Open call) from h = subst (λ y. IsAtWork w old.options.retry_options old.start old.status old.contents old.commits y from h) e x.arisen.fits.at in
           goes.state other ∙ ap (λ (c : Commits). record old { commits = c }) (commits other (out ∙ none_out (plan_of call.parts) (version_of call.start) old.commits h (ticket_of from n) at.fits.knows never))
       same GaveUp e = let g = gone.after e in absurd (kept g.0)
 
-  runs_open : (g : Work P Q K) → work_phase w g ≡ Running → is_open g ≡ true
+  runs_open : (g : Work P) → work_phase w g ≡ Running → is_open g ≡ true
   runs_open Idle e = absurd (subst IsRunning (sym e) tt)
   runs_open (Open call) e = refl
   runs_open GaveUp e = absurd (subst IsRunning (sym e) tt)
 
   -- a call that is open, and waits on, is still open
-  pub stays_open : {C : Type 0} (meant : Type 0) (old new : Standing P Q K) (from to : Posted) (pd pd' : C) (turn : Turn (Result (TxnAnswer Q) Error)) → TransactionReady w old → TransactionGoes w meant (record old { commits = new.commits }) new from to pd pd' turn
+  pub stays_open : {C : Type 0} (meant : Type 0) (old new : Standing P) (from to : Posted) (pd pd' : C) (turn : Turn (Result (TxnAnswer P) Error)) → TransactionReady w old → TransactionGoes w meant (record old { commits = new.commits }) new from to pd pd' turn
       → is_open old.work ≡ true → turn ≡ Waits → is_open new.work ≡ true
-  stays_open meant old new from to pd pd' turn ready goes busy waits = runs_open new.work (runs_still (λ (t : Standing P Q K). work_phase w t.work) (busy_runs w old ready busy) goes waits)
+  stays_open meant old new from to pd pd' turn ready goes busy waits = runs_open new.work (runs_still (λ (t : Standing P). work_phase w t.work) (busy_runs w old ready busy) goes waits)
 
-  pub hears_goes : {C : Type 0} (a : Arrival) (old new : Standing P Q K) (from to : Posted) (pd pd' : C) (turn : Turn (Result (TxnAnswer Q) Error))
+  pub hears_goes : {C : Type 0} (a : Arrival) (old new : Standing P) (from to : Posted) (pd pd' : C) (turn : Turn (Result (TxnAnswer P) Error))
       → ((r : Request) → TransactionMoves w (told_by a from r).known (told_by a from r).hear old new from to turn)
       → new.start ≡ old.start → new.options ≡ old.options → new.contents ≡ old.contents
       → TransactionGoes w (work_waits w old.work (awaited_as a)) (record old { commits = new.commits }) new from to pd pd' turn
@@ -375,25 +376,25 @@ module _ {P Q K A B D : Type 0} (w : Ways P Q K A B D) (p : IsLawful w.prewritin
 
   -- It is asked for something.
 
-  expects_none : (old new : Standing P Q K) (o : Posted) → is_open new.work ≡ false → Expects (work_waits w old.work) (work_waits w new.work) (λ a. ⊥) o o
+  expects_none : (old new : Standing P) (o : Posted) → is_open new.work ≡ false → Expects (work_waits w old.work) (work_waits w new.work) (λ a. ⊥) o o
   expects_none old new o e = Expects-quiet (λ a x. absurd (rest_silent w new.work a e x))
 
   -- what a trace has to know of something that is asked: with what it is refused
   abbrev Notes : (Option Trace → Type 0) → ℕ → Option Error → Type 0
   Notes knows line refusal = (trace : Option Trace) → knows trace → RefusedIn trace line refusal
 
-  write_fails : (refusal : Option Error) (wrote : Contents → Contents → Type 0) (old new : Standing P Q K) (trace longer : Option Trace) (at line : ℕ) (v : Result (TxnAnswer Q) Error) → WriteEnds refusal wrote old new (Ends v) → LongerIn trace longer → RefusedIn trace line refusal → IfFails (FailsAt w longer at line) v
+  write_fails : (refusal : Option Error) (wrote : Contents → Contents → Type 0) (old new : Standing P) (trace longer : Option Trace) (at line : ℕ) (v : Result (TxnAnswer P) Error) → WriteEnds refusal wrote old new (Ends v) → LongerIn trace longer → RefusedIn trace line refusal → IfFails (FailsAt w OfTransaction longer at line) v
   write_fails refusal wrote old new trace longer at line (Ok v) ends l r = tt
   write_fails None wrote old new trace longer at line (Err e) ends l r = absurd (never ends.0)
     where
-      never : ◌≡◌ {A = Result (TxnAnswer Q) Error} (Err e) (Ok answer.Unit) → ⊥
+      never : ◌≡◌ {A = Result (TxnAnswer P) Error} (Err e) (Ok answer.Unit) → ⊥
       never q = cc
   write_fails (Some why) wrote old new trace longer at line (Err e) ends l r = refused_by w longer at line e why (refused_longer_in trace longer line (Some why) l r) (one ends.0)
     where
-      one : ◌≡◌ {A = Result (TxnAnswer Q) Error} (Err e) (Err why) → e ≡ why
+      one : ◌≡◌ {A = Result (TxnAnswer P) Error} (Err e) (Err why) → e ≡ why
       one q = cc
 
-  writes_idle : (knows : Option Trace → Type 0) (refusal : Option Error) (wrote : Contents → Contents → Type 0) (old new : Standing P Q K) (o : Posted) (turn : Turn (Result (TxnAnswer Q) Error)) → Notes knows o.line refusal
+  writes_idle : (knows : Option Trace → Type 0) (refusal : Option Error) (wrote : Contents → Contents → Type 0) (old new : Standing P) (o : Posted) (turn : Turn (Result (TxnAnswer P) Error)) → Notes knows o.line refusal
       → (refusal ≡ None → allows_data old.status ≡ true) → ((c d : Contents) → wrote c d → IsOrdered c → IsOrdered d) → WriteEnds refusal wrote old new turn → old.work ≡ Idle
       → IfKept turn (StandGoes w (λ trace. trace) (λ a. ⊥) ⊤ knows old new o o turn)
   writes_idle knows refusal wrote old new o Stopped notes may keeps ends idle = tt
@@ -401,13 +402,13 @@ module _ {P Q K A B D : Type 0} (w : Ways P Q K A B D) (p : IsLawful w.prewritin
   writes_idle knows (Some e) wrote old new o (Ends v) notes may keeps ends idle = record {
     arises = λ trace longer at met called known nexts news later low risen up reached x.
         (stays trace longer at old new o o later nexts news met.longer ends.1 refl risen reached x, write_fails (Some e) wrote old new trace longer at o.line v ends met.longer (notes trace known));
-    expects = expects_none old new o (ap (λ (t : Standing P Q K). is_open t.work) ends.1 ∙ ap is_open idle);
+    expects = expects_none old new o (ap (λ (t : Standing P). is_open t.work) ends.1 ∙ ap is_open idle);
     runs = λ any f. absurd (cc);
   }
   writes_idle knows None wrote old new o (Ends v) notes may keeps ends idle = record {
     arises = λ trace longer at met called known nexts news later low risen up reached x.
         (stand_shown trace longer at new later news met.longer (stand_later new o later nexts news (record { line = reached.line; beat = reached.beat; next = reached.next; next_ask = reached.next_ask }) risen (written trace at nexts x)), write_fails None wrote old new trace longer at o.line v ends met.longer (notes trace known));
-    expects = expects_none old new o (ap (λ (t : Standing P Q K). is_open t.work) ends.1 ∙ ap is_open idle);
+    expects = expects_none old new o (ap (λ (t : Standing P). is_open t.work) ends.1 ∙ ap is_open idle);
     runs = λ any f. absurd (cc);
   }
     where
@@ -416,11 +417,11 @@ module _ {P Q K A B D : Type 0} (w : Ways P Q K A B D) (p : IsLawful w.prewritin
           let now = keeps old.contents new.contents ends.2 x.ordered in
           record {
             ordered = now;
-            retries = subst (λ (t : Standing P Q K). RetriesIn trace at t.options.retry_options) (sym ends.1) x.retries;
-            marked = λ parts whole u e. none_marked w old o x.arisen.history u (may refl) x.arisen.fits (ap (λ (t : Standing P Q K). t.commits.lost) (sym ends.1) ∙ e);
+            retries = subst (λ (t : Standing P). RetriesIn trace at t.options.retry_options) (sym ends.1) x.retries;
+            marked = λ parts whole u e. none_marked w old o x.arisen.history u (may refl) x.arisen.fits (ap (λ (t : Standing P). t.commits.lost) (sym ends.1) ∙ e);
             arisen = record {
               history = x.arisen.history;
-              fits = subst (λ (t : Standing P Q K). TransactionFits w t o x.arisen.history) (sym ends.1) (written_fits w old new.contents o x.arisen.history (may refl) idle now x.arisen.fits);
+              fits = subst (λ (t : Standing P). TransactionFits w t o x.arisen.history) (sym ends.1) (written_fits w old new.contents o x.arisen.history (may refl) idle now x.arisen.fits);
               kept = x.arisen.kept;
               shown = x.arisen.shown;
               own = x.arisen.own;
@@ -428,10 +429,10 @@ module _ {P Q K A B D : Type 0} (w : Ways P Q K A B D) (p : IsLawful w.prewritin
             };
           }
 
-  gone_kept : (E : Type 0) (old new : Standing P Q K) (turn : Turn (Result (TxnAnswer Q) Error)) → old.work ≡ GaveUp → GivesUp old new turn → IfKept turn E
+  gone_kept : (E : Type 0) (old new : Standing P) (turn : Turn (Result (TxnAnswer P) Error)) → old.work ≡ GaveUp → GivesUp old new turn → IfKept turn E
   gone_kept E old new turn e gone = let g = gone.after e in subst (λ t. IfKept t E) (sym g.0) tt
 
-  pub writes_goes : (knows : Option Trace → Type 0) (refusal : Option Error) (wrote : Contents → Contents → Type 0) (old new : Standing P Q K) (from to : Posted) (turn : Turn (Result (TxnAnswer Q) Error)) → Notes knows from.line refusal
+  pub writes_goes : (knows : Option Trace → Type 0) (refusal : Option Error) (wrote : Contents → Contents → Type 0) (old new : Standing P) (from to : Posted) (turn : Turn (Result (TxnAnswer P) Error)) → Notes knows from.line refusal
       → (refusal ≡ None → allows_data old.status ≡ true) → ((c d : Contents) → wrote c d → IsOrdered c → IsOrdered d) → WriteEnds refusal wrote old new turn → is_open old.work ≡ false → GivesUp old new turn → to ≡ from
       → IfKept turn (StandGoes w (λ trace. trace) (λ a. ⊥) ⊤ knows old new from to turn)
   writes_goes knows refusal wrote old new from to turn notes may keeps ends rests gone quiet = by (open_so old.work rests)
@@ -440,32 +441,32 @@ module _ {P Q K A B D : Type 0} (w : Ways P Q K A B D) (p : IsLawful w.prewritin
       by (inl idle) = subst (λ o. IfKept turn (StandGoes w (λ trace. trace) (λ a. ⊥) ⊤ knows old new from o turn)) (sym quiet) (writes_idle knows refusal wrote old new from turn notes may keeps ends idle)
       by (inr e) = gone_kept (StandGoes w (λ trace. trace) (λ a. ⊥) ⊤ knows old new from to turn) old new turn e gone
 
-  opened : (old new : Standing P Q K) (from to : Posted) (turn : Turn (Result (TxnAnswer Q) Error)) → Opens w new from to turn → Expects (work_waits w old.work) (work_waits w new.work) (λ a. ⊥) from to
+  opened : (old new : Standing P) (from to : Posted) (turn : Turn (Result (TxnAnswer P) Error)) → Opens w new from to turn → Expects (work_waits w old.work) (work_waits w new.work) (λ a. ⊥) from to
   opened old new from to turn opens = let x = opens.expects in record {
     sends = x.sends;
     pushed = x.pushed;
     only = λ a y. elim (x.only a y) [ inl b ↦ absurd b.0 | inr s ↦ inr s ];
   }
 
-  waiting_open : (turn : Turn (Result (TxnAnswer Q) Error)) (g : Work P Q K) → is_open g ≡ is_waiting turn → turn ≡ Waits → is_open g ≡ true
+  waiting_open : (turn : Turn (Result (TxnAnswer P) Error)) (g : Work P) → is_open g ≡ is_waiting turn → turn ≡ Waits → is_open g ≡ true
   waiting_open turn g e f = e ∙ ap is_waiting f
 
   -- what was asked is this
-  pub acts_as : (act is : Act) (owes : Option Trace → Option Trace) (heard : Awaited → Type 0) (busy : Type 0) (line : ℕ) (account : Account) (old new : Standing P Q K) (from to : Posted) (turn : Turn (Result (TxnAnswer Q) Error)) → act ≡ is
+  pub acts_as : (act is : Act) (owes : Option Trace → Option Trace) (heard : Awaited → Type 0) (busy : Type 0) (line : ℕ) (account : Account) (old new : Standing P) (from to : Posted) (turn : Turn (Result (TxnAnswer P) Error)) → act ≡ is
       → IfKept turn (StandGoes w owes heard busy (λ trace. KnowsAsk trace line is account) old new from to turn) → IfKept turn (StandGoes w owes heard busy (λ trace. KnowsAsk trace line act account) old new from to turn)
   acts_as act is owes heard busy line account old new from to turn e h = subst (λ a. IfKept turn (StandGoes w owes heard busy (λ trace. KnowsAsk trace line a account) old new from to turn)) (sym e) h
 
-  refused_fails : (e : Error) (old new : Standing P Q K) (trace longer : Option Trace) (at line : ℕ) (turn : Turn (Result (TxnAnswer Q) Error)) → IsRefused e old new turn → LongerIn trace longer → RefusedIn trace line (Some e) → IfEnds turn (IfFails (FailsAt w longer at line))
+  refused_fails : (e : Error) (old new : Standing P) (trace longer : Option Trace) (at line : ℕ) (turn : Turn (Result (TxnAnswer P) Error)) → IsRefused e old new turn → LongerIn trace longer → RefusedIn trace line (Some e) → IfEnds turn (IfFails (FailsAt w OfTransaction longer at line))
   refused_fails e old new trace longer at line Stopped r l known = tt
   refused_fails e old new trace longer at line Waits r l known = tt
   refused_fails e old new trace longer at line (Ends (Ok v)) r l known = tt
   refused_fails e old new trace longer at line (Ends (Err f)) r l known = refused_by w longer at line f e (refused_longer_in trace longer line (Some e) l known) (one r.0)
     where
-      one : ◌≡◌ {A = Result (TxnAnswer Q) Error} (Err f) (Err e) → f ≡ e
+      one : ◌≡◌ {A = Result (TxnAnswer P) Error} (Err f) (Err e) → f ≡ e
       one q = cc
 
   -- it begins a commit, or is refused
-  pub commits_goes : (knows : Option Trace → Type 0) (e : Error) (b : Bool) (old new : Standing P Q K) (from to : Posted) (turn : Turn (Result (TxnAnswer Q) Error)) → (b ≡ false → Notes knows from.line (Some e))
+  pub commits_goes : (knows : Option Trace → Type 0) (e : Error) (b : Bool) (old new : Standing P) (from to : Posted) (turn : Turn (Result (TxnAnswer P) Error)) → (b ≡ false → Notes knows from.line (Some e))
       → (b ≡ false → IsRefused e old new turn × (to ≡ from)) → (b ≡ true → TransactionMoves w (λ h. ⊤) (λ h. h) old new from to turn) → new.start ≡ old.start → new.options ≡ old.options → new.contents ≡ old.contents
       → Opens w new from to turn → is_open new.work ≡ is_waiting turn → IfKept turn (new.commits.lost ≡ old.commits.lost)
       → IfKept turn (StandGoes w (λ trace. trace) (λ a. ⊥) ⊤ knows old new from to turn)
@@ -482,14 +483,14 @@ module _ {P Q K A B D : Type 0} (w : Ways P Q K A B D) (p : IsLawful w.prewritin
   })
 
   -- a commit of it was lost, so that it is not known what became of it
-  left_alone : (trace longer : Option Trace) (at : ℕ) (t : Ticket) (old new : Standing P Q K) (from to o : Posted) (turn : Turn (Result (TxnAnswer Q) Error)) (nexts news : List ℕ) → LongerIn trace longer → turn ≢ Stopped → is_open old.work ≡ false → is_open new.work ≡ false → GivesUp old new turn
+  left_alone : (trace longer : Option Trace) (at : ℕ) (t : Ticket) (old new : Standing P) (from to o : Posted) (turn : Turn (Result (TxnAnswer P) Error)) (nexts news : List ℕ) → LongerIn trace longer → turn ≢ Stopped → is_open old.work ≡ false → is_open new.work ≡ false → GivesUp old new turn
       → new ≡ record old { work = new.work } → to ≡ from → IsRisen nexts news → IsReached from to o → StandArises w trace at from nexts old → StandArises w longer at o news new
   left_alone trace longer at t old new from to o turn nexts news l kept rests shut gone e f risen reached x = by (open_so old.work rests) (open_so new.work shut)
     where
       by : (old.work ≡ Idle) ⊎ (old.work ≡ GaveUp) → (new.work ≡ Idle) ⊎ (new.work ≡ GaveUp) → StandArises w longer at o news new
       by (inr g) later = let d = gone.after g in absurd (kept d.0)
-      by (inl i) (inl j) = stays trace longer at old new from to o nexts news l (e ∙ ap (λ (y : Work P Q K). record old { work = y }) (j ∙ sym i)) f risen reached x
-      by (inl i) (inr g) = subst (StandArises w longer at o news) (sym (e ∙ ap (λ (y : Work P Q K). record old { work = y }) g)) (record {
+      by (inl i) (inl j) = stays trace longer at old new from to o nexts news l (e ∙ ap (λ (y : Work P). record old { work = y }) (j ∙ sym i)) f risen reached x
+      by (inl i) (inr g) = subst (StandArises w longer at o news) (sym (e ∙ ap (λ (y : Work P). record old { work = y }) g)) (record {
         ordered = x.ordered;
         retries = retries_longer trace longer at old.options.retry_options l x.retries;
         marked = marked_longer trace longer at old l x.marked;
@@ -503,7 +504,7 @@ module _ {P Q K A B D : Type 0} (w : Ways P Q K A B D) (p : IsLawful w.prewritin
         };
       })
 
-  unknown_fails : (trace longer : Option Trace) (at : ℕ) (t : Ticket) (old : Standing P Q K) (o : Posted) (nexts : List ℕ) (turn : Turn (Result (TxnAnswer Q) Error)) → LongerIn trace longer → RollsIn trace o.line → (old.work ≡ GaveUp → ⊥) → undetermined old.commits ≡ Some t → SaysLoss turn old → IsUndetermined t turn → StandArises w trace at o nexts old → IfEnds turn (IfFails (FailsAt w longer at o.line))
+  unknown_fails : (trace longer : Option Trace) (at : ℕ) (t : Ticket) (old : Standing P) (o : Posted) (nexts : List ℕ) (turn : Turn (Result (TxnAnswer P) Error)) → LongerIn trace longer → RollsIn trace o.line → (old.work ≡ GaveUp → ⊥) → undetermined old.commits ≡ Some t → SaysLoss turn old → IsUndetermined t turn → StandArises w trace at o nexts old → IfEnds turn (IfFails (FailsAt w OfTransaction longer at o.line))
   unknown_fails trace longer at t old o nexts Stopped l rolls alive left says u x = tt
   unknown_fails trace longer at t old o nexts Waits l rolls alive left says u x = tt
   unknown_fails trace longer at t old o nexts (Ends (Ok v)) l rolls alive left says u x = tt
@@ -512,7 +513,7 @@ module _ {P Q K A B D : Type 0} (w : Ways P Q K A B D) (p : IsLawful w.prewritin
       barred_by w old o h alive x.arisen.fits t (lost_first old.commits t (says (ap is_undetermined_view u)) left) longer at o.line e u (shown_longer trace longer at h l x.arisen.shown) x.arisen.own (counted_longer trace longer o.line (refused_asks h) l x.arisen.counted)
       (rolls_longer trace longer o.line l rolls) (marked_longer trace longer at old l x.marked)
 
-  pub rollbacks_goes : (knows : Option Trace → Type 0) (e : Error) (b : Bool) (lost : Option Ticket) (old new : Standing P Q K) (from to : Posted) (turn : Turn (Result (TxnAnswer Q) Error)) → (b ≡ false → Notes knows from.line (Some e)) → ((trace : Option Trace) → knows trace → RollsIn trace from.line) → undetermined old.commits ≡ lost
+  pub rollbacks_goes : (knows : Option Trace → Type 0) (e : Error) (b : Bool) (lost : Option Ticket) (old new : Standing P) (from to : Posted) (turn : Turn (Result (TxnAnswer P) Error)) → (b ≡ false → Notes knows from.line (Some e)) → ((trace : Option Trace) → knows trace → RollsIn trace from.line) → undetermined old.commits ≡ lost
       → (b ≡ false → IsRefused e old new turn × (to ≡ from))
       → ((t : Ticket) → b ≡ true → lost ≡ Some t → IsUndetermined t turn × (new ≡ record old { work = new.work }) × (to ≡ from))
       → (b ≡ true → lost ≡ None → TransactionMoves w (λ h. ⊤) (λ h. h) old new from to turn) → new.start ≡ old.start → new.options ≡ old.options → new.contents ≡ old.contents
@@ -521,7 +522,7 @@ module _ {P Q K A B D : Type 0} (w : Ways P Q K A B D) (p : IsLawful w.prewritin
   rollbacks_goes knows e true None old new from to turn notes rolls is_lost refused unsure moves start options same opens busy rests gone says commits =
       commits_goes knows e true old new from to turn (λ f. absurd (cc)) (λ f. absurd (cc)) (λ f. moves refl refl) start options same opens busy (IfKept-all turn (ap (λ (c : Commits). c.lost) commits))
   rollbacks_goes knows e true (Some t) old new from to turn notes rolls is_lost refused unsure moves start options same opens busy rests gone says commits = let u = unsure t refl refl in if_kept turn (λ kept. record {
-    arises = λ trace longer at met called known nexts news o low risen up reached x. (left_alone trace longer at t old new from to o turn nexts news met.longer kept rests (busy ∙ ends_shut t turn u.0) gone u.1 u.2 risen reached x, unknown_fails trace longer at t old from nexts turn met.longer (rolls trace known) (λ e. let d = gone.after e in kept d.0) is_lost (λ told. ap (λ (y : Standing P Q K). is_some y.commits.lost) (sym u.1) ∙ says told) u.0 x);
+    arises = λ trace longer at met called known nexts news o low risen up reached x. (left_alone trace longer at t old new from to o turn nexts news met.longer kept rests (busy ∙ ends_shut t turn u.0) gone u.1 u.2 risen reached x, unknown_fails trace longer at t old from nexts turn met.longer (rolls trace known) (λ e. let d = gone.after e in kept d.0) is_lost (λ told. ap (λ (y : Standing P). is_some y.commits.lost) (sym u.1) ∙ says told) u.0 x);
     expects = opened old new from to turn opens;
     runs = λ any f. waiting_open turn new.work busy f;
   })

@@ -3,7 +3,7 @@ use Rattle.std.proofs.Common.{◌≡◌, ◌≢◌, ℕ, zero, suc, ◌+◌, ◌
 use Rattle.std.proofs.lemmas.List.{length-map, map-set}
 use Rattle.std.proofs.lemmas.List.Elements.{All-set}
 use Rattle.std.specs.List.{All}
-use Rattle.txn_commit.specs.Committing.{Ways}
+use Rattle.txn_commit.specs.Ways.{Ways}
 use Rattle.txn_kv.specs.declared.ticket.Ticket.{Ticket}
 use Rattle.txn_side.specs.Sight.{Group, IsNext, Sight, Stand, line_count, next_at, raised, stand_at, with_next}
 use Rattle.txn_side.specs.Sight.Stand.{Asking, Calling, HasBegun, Idle, IsClient, Past, Working}
@@ -57,46 +57,46 @@ raised_calls nexts t beat = by (unbeaten_set nexts (t.line - 1) (next_at nexts t
     by : unbeaten (with_next nexts t.line) ≡ unbeaten nexts → of_calls (with_next nexts t.line) ≡ raised false t.line (of_calls nexts)
     by e = λ i. record { calls = with_next nexts t.line; beats = e i }
 
-module _ {P Q K : Type 0} where
-  pub count : (s : Clients P Q K) → line_count (sight_of s) ≡ length s.places.items
+module _ {P : Type 0} where
+  pub count : (s : Clients P) → line_count (sight_of s) ≡ length s.places.items
   count s = length-map (rows_of s) stand_of ∙ length-map s.places.items (λ p. p.row)
 
-  pub stand_read : (rows : List (Row P Q K)) (i : ℕ) → stand_at (stands_of rows) (suc i) ≡ stand_of (row_at rows i)
+  pub stand_read : (rows : List (Row P)) (i : ℕ) → stand_at (stands_of rows) (suc i) ≡ stand_of (row_at rows i)
   stand_read rows i = read stand_of rows i row.Plain
 
-  pub stand_of_line : (rows : List (Row P Q K)) (line : ℕ) → 1 ≤ line → stand_at (stands_of rows) line ≡ stand_of (row_at rows (line - 1))
+  pub stand_of_line : (rows : List (Row P)) (line : ℕ) → 1 ≤ line → stand_at (stands_of rows) line ≡ stand_of (row_at rows (line - 1))
   stand_of_line rows zero one = absurd (omega arith)
   stand_of_line rows (suc i) one = let e : suc i - 1 ≡ i = omega arith in rw e (stand_read rows i)
 
-  pub next_of_line : (s : Clients P Q K) (line : ℕ) (d : Place P Q K) → 1 ≤ line → line - 1 < length s.places.items → next_at (nexts_of s) line ≡ (get_or s.places.items (line - 1) d).next
+  pub next_of_line : (s : Clients P) (line : ℕ) (d : Place P) → 1 ≤ line → line - 1 < length s.places.items → next_at (nexts_of s) line ≡ (get_or s.places.items (line - 1) d).next
   next_of_line s zero d one h = absurd (omega arith)
   next_of_line s (suc i) d one h = let e : suc i - 1 ≡ i = omega arith in rw e (read_in (λ p. p.next) s.places.items i d 0 (rw e at h))
 
-  nexts_count : (s : Clients P Q K) → length (nexts_of s) ≡ line_count (sight_of s)
+  nexts_count : (s : Clients P) → length (nexts_of s) ≡ line_count (sight_of s)
   nexts_count s = length-map s.places.items (λ p. p.next) ∙ sym (count s)
 
   -- what is next of a line
-  pub is_next : (s : Clients P Q K) (line number : ℕ) → IsLine (sight_of s).stands line → number ≡ next_at (nexts_of s) line → IsNext (sight_of s).nexts (record { line = line; beat = false; number = number })
+  pub is_next : (s : Clients P) (line number : ℕ) → IsLine (sight_of s).stands line → number ≡ next_at (nexts_of s) line → IsNext (sight_of s).nexts (record { line = line; beat = false; number = number })
   is_next s line number is e = record { first = is.first; last = subst (λ n. line ≤ n) (sym (nexts_count s)) is.last; number = e }
 
-  pub same_clients : (s t : Clients P Q K) → t.clients ≡ s.clients → crashed_of t ≡ crashed_of s
+  pub same_clients : (s t : Clients P) → t.clients ≡ s.clients → crashed_of t ≡ crashed_of s
   same_clients s t e = ap (λ v. map (λ (c : ClientState). c.crashed) v.items) e
 
-  pub same_groups : (s t : Clients P Q K) → t.clients ≡ s.clients → groups_of t ≡ groups_of s
+  pub same_groups : (s t : Clients P) → t.clients ≡ s.clients → groups_of t ≡ groups_of s
   same_groups s t e = ap (λ v. map group_of v.items) e
 
   -- the clients are the same, but for what stands at their lines, and for what these post
-  pub sight_at : (s t : Clients P Q K) (ss : List Stand) (ns : List ℕ) → t.clients ≡ s.clients → stands_of (rows_of t) ≡ ss → nexts_of t ≡ ns → sight_of t ≡ record (sight_of s) { stands = ss; nexts = of_calls ns }
+  pub sight_at : (s t : Clients P) (ss : List Stand) (ns : List ℕ) → t.clients ≡ s.clients → stands_of (rows_of t) ≡ ss → nexts_of t ≡ ns → sight_of t ≡ record (sight_of s) { stands = ss; nexts = of_calls ns }
   sight_at s t ss ns c r n = sight_by (crashed_of t) (crashed_of s) (groups_of t) (groups_of s) (stands_of (rows_of t)) ss (nexts_of t) ns (same_clients s t c) (same_groups s t c) r n
 
-  pub line_kept : (s t : Clients P Q K) (line : ℕ) → rows_of t ≡ rows_of s → IsLine (sight_of s).stands line → IsLine (sight_of t).stands line
+  pub line_kept : (s t : Clients P) (line : ℕ) → rows_of t ≡ rows_of s → IsLine (sight_of s).stands line → IsLine (sight_of t).stands line
   line_kept s t line r is = subst (λ ss. IsLine ss line) (sym (ap stands_of r)) is
 
   -- another row stands at a line
-  pub stands_set : (rows : List (Row P Q K)) (i : ℕ) (r : Row P Q K) → stands_of (set rows i r) ≡ set (stands_of rows) i (stand_of r)
+  pub stands_set : (rows : List (Row P)) (i : ℕ) (r : Row P) → stands_of (set rows i r) ≡ set (stands_of rows) i (stand_of r)
   stands_set rows i r = map-set stand_of rows i r
 
-  pub waits_stand : (n c m : ℕ) (r : Row P Q K) → stand_of r ≡ HasBegun c m → stand_of (with_waits n r) ≡ HasBegun c n
+  pub waits_stand : (n c m : ℕ) (r : Row P) → stand_of r ≡ HasBegun c m → stand_of (with_waits n r) ≡ HasBegun c n
   waits_stand n c m row.Plain e = absurd (no e)
     where
       no : Idle ≡ HasBegun c m → ⊥
@@ -123,26 +123,26 @@ module _ {P Q K : Type 0} where
       no : Working d ≡ HasBegun c m → ⊥
       no q = cc
 
-  two_stands : (rows : List (Row P Q K)) (line x n c m : ℕ) (r : Row P Q K) → IsLine (stands_of rows) x → stand_at (stands_of rows) x ≡ HasBegun c m
+  two_stands : (rows : List (Row P)) (line x n c m : ℕ) (r : Row P) → IsLine (stands_of rows) x → stand_at (stands_of rows) x ≡ HasBegun c m
       → stands_of (set (set rows (x - 1) (with_waits n (row_at rows (x - 1)))) (line - 1) r) ≡ set (set (stands_of rows) (x - 1) (HasBegun c n)) (line - 1) (stand_of r)
   two_stands rows line x n c m r at e =
       stands_set (set rows (x - 1) (with_waits n (row_at rows (x - 1)))) (line - 1) r
       ∙ ap (λ ss. set ss (line - 1) (stand_of r)) (stands_set rows (x - 1) (with_waits n (row_at rows (x - 1)))
       ∙ ap (set (stands_of rows) (x - 1)) (waits_stand n c m (row_at rows (x - 1)) (sym (stand_of_line rows x at.first) ∙ e)))
 
-  pub called_stands : (rows : List (Row P Q K)) (line x c m : ℕ) (r : Row P Q K) → IsLine (stands_of rows) x → stand_at (stands_of rows) x ≡ HasBegun c m
+  pub called_stands : (rows : List (Row P)) (line x c m : ℕ) (r : Row P) → IsLine (stands_of rows) x → stand_at (stands_of rows) x ≡ HasBegun c m
       → stands_of (set (set rows (x - 1) (with_waits line (row_at rows (x - 1)))) (line - 1) r) ≡ set (set (stands_of rows) (x - 1) (HasBegun c line)) (line - 1) (stand_of r)
   called_stands rows line x c m r at e = two_stands rows line x line c m r at e
 
-  pub ended_stands : (rows : List (Row P Q K)) (line x c m : ℕ) (r : Row P Q K) → IsLine (stands_of rows) x → stand_at (stands_of rows) x ≡ HasBegun c m
+  pub ended_stands : (rows : List (Row P)) (line x c m : ℕ) (r : Row P) → IsLine (stands_of rows) x → stand_at (stands_of rows) x ≡ HasBegun c m
       → stands_of (set (set rows (x - 1) (with_waits 0 (row_at rows (x - 1)))) (line - 1) r) ≡ set (set (stands_of rows) (x - 1) (HasBegun c 0)) (line - 1) (stand_of r)
   ended_stands rows line x c m r at e = two_stands rows line x 0 c m r at e
 
   -- What may be called stays so
 
-  module _ {A B D : Type 0} (w : Ways P Q K A B D) where
+  module _ (w : Ways P) where
     -- a row is set for which nobody waited, and which waits for nobody
-    pub ready_set : (rows : List (Row P Q K)) (line : ℕ) (r : Row P Q K) → IsLine (stands_of rows) line → AreReady w rows → RowReady w r
+    pub ready_set : (rows : List (Row P)) (line : ℕ) (r : Row P) → IsLine (stands_of rows) line → AreReady w rows → RowReady w r
         → ((c x : ℕ) (b : Bool) → stand_at (stands_of rows) line ≢ Calling c x b) → ((c m : ℕ) → stand_of r ≡ HasBegun c m → m ≡ 0)
         → AreReady w (set rows (line - 1) r)
     ready_set rows line r is ready may before after = record {
@@ -150,7 +150,7 @@ module _ {P Q K : Type 0} where
       matched = subst AreMatched (sym (stands_set rows (line - 1) r)) (matched_set (stands_of rows) line (stand_of r) is ready.matched before after);
     }
 
-    waits_ready : (n : ℕ) (r : Row P Q K) → n ≢ 0 → RowReady w r → RowReady w (with_waits n r)
+    waits_ready : (n : ℕ) (r : Row P) → n ≢ 0 → RowReady w r → RowReady w (with_waits n r)
     waits_ready n row.Plain some ready = tt
     waits_ready n (row.Client c) some ready = tt
     waits_ready n (row.Asking c b call) some ready = ready
@@ -159,7 +159,7 @@ module _ {P Q K : Type 0} where
     waits_ready n (row.Past c) some ready = tt
     waits_ready n (row.Working c job) some ready = ready
 
-    rests_ready : (r : Row P Q K) → Rests r → RowReady w r → RowReady w (with_waits 0 r)
+    rests_ready : (r : Row P) → Rests r → RowReady w r → RowReady w (with_waits 0 r)
     rests_ready row.Plain rests ready = tt
     rests_ready (row.Client c) rests ready = tt
     rests_ready (row.Asking c b call) rests ready = ready
@@ -169,11 +169,11 @@ module _ {P Q K : Type 0} where
     rests_ready (row.Working c job) rests ready = ready
 
     -- what holds of each row holds of that of a line
-    at_line : (rows : List (Row P Q K)) (line : ℕ) → IsLine (stands_of rows) line → All (RowReady w) rows → RowReady w (row_at rows (line - 1))
+    at_line : (rows : List (Row P)) (line : ℕ) → IsLine (stands_of rows) line → All (RowReady w) rows → RowReady w (row_at rows (line - 1))
     at_line rows line is all = all (line - 1) row.Plain (let one = is.first in let last = subst (λ n. line ≤ n) (length-map rows stand_of) is.last in omega (arith, one, last))
 
     -- a transaction waits for a new call
-    pub ready_called : (rows : List (Row P Q K)) (line x c : ℕ) (b : Bool) → IsLine (stands_of rows) line → IsLine (stands_of rows) x → stand_at (stands_of rows) line ≡ Idle → stand_at (stands_of rows) x ≡ HasBegun c 0 → AreReady w rows
+    pub ready_called : (rows : List (Row P)) (line x c : ℕ) (b : Bool) → IsLine (stands_of rows) line → IsLine (stands_of rows) x → stand_at (stands_of rows) line ≡ Idle → stand_at (stands_of rows) x ≡ HasBegun c 0 → AreReady w rows
         → AreReady w (set (set rows (x - 1) (with_waits line (row_at rows (x - 1)))) (line - 1) (row.Calling c x b))
     ready_called rows line x c b is at idle free ready = record {
       each = All-set (RowReady w) (set rows (x - 1) (with_waits line (row_at rows (x - 1)))) (line - 1) (row.Calling c x b) tt
@@ -185,7 +185,7 @@ module _ {P Q K : Type 0} where
         some e = let one = is.first in omega (arith, one, e)
 
     -- its call has ended
-    pub ready_ended : (rows : List (Row P Q K)) (line x c d : ℕ) (b : Bool) (r : Row P Q K) → IsLine (stands_of rows) x → stand_at (stands_of rows) line ≡ Calling c x b → stand_at (stands_of rows) x ≡ HasBegun d line → AreReady w rows
+    pub ready_ended : (rows : List (Row P)) (line x c d : ℕ) (b : Bool) (r : Row P) → IsLine (stands_of rows) x → stand_at (stands_of rows) line ≡ Calling c x b → stand_at (stands_of rows) x ≡ HasBegun d line → AreReady w rows
         → Rests (row_at rows (x - 1)) → RowReady w r → ((e m : ℕ) → stand_of r ≡ HasBegun e m → m ≡ 0)
         → AreReady w (set (set rows (x - 1) (with_waits 0 (row_at rows (x - 1)))) (line - 1) r)
     ready_ended rows line x c d b r at calls waits ready rests may after = record {

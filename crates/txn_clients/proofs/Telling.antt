@@ -4,7 +4,7 @@ use Rattle.std.proofs.lemmas.Bool.Decides.{nat_tests}
 use Rattle.std.proofs.lemmas.List.{length-map}
 use Rattle.std.proofs.lemmas.List.Elements.{All-append, All-cons, All-nil, All-set}
 use Rattle.std.specs.Prelude.{IfOk, IfSome, OnOk, Result, Ok, Err}
-use Rattle.txn_commit.specs.Committing.{Ways}
+use Rattle.txn_commit.specs.Ways.{Ways}
 use Rattle.txn_client.specs.declared.client_call.ClientCall.{ClientCall}
 use Rattle.txn_core.specs.Transaction.{Standing}
 use Rattle.txn_report.specs.declared.outcome.Outcome.{Outcome}
@@ -98,41 +98,41 @@ hears_own line one = omega arith
 pub hears_begun : (stands : List Stand) (x d line : ℕ) → stand_at stands x ≡ HasBegun d line → suc (x - 1) ≡ x
 hears_begun stands x d line e = let one = (begun_line stands x d line e).first in omega (arith, one)
 
-module _ {P Q K : Type 0} where
+module _ {P : Type 0} where
   -- a row is told, and stays what it is
-  pub stands_told : (rows : List (Row P Q K)) (at : ℕ) (r : Row P Q K) → at < length rows → stand_of r ≡ stand_of (row_at rows at) → stands_of (set rows at r) ≡ stands_of rows
+  pub stands_told : (rows : List (Row P)) (at : ℕ) (r : Row P) → at < length rows → stand_of r ≡ stand_of (row_at rows at) → stands_of (set rows at r) ≡ stands_of rows
   stands_told rows at r h e = map_kept stand_of rows at r row.Plain h e
 
   -- what stands at a line
-  pub stands_at : (rows : List (Row P Q K)) (line : ℕ) (r : Row P Q K) → IsLine (stands_of rows) line → row_at rows (line - 1) ≡ r → stand_at (stands_of rows) line ≡ stand_of r
+  pub stands_at : (rows : List (Row P)) (line : ℕ) (r : Row P) → IsLine (stands_of rows) line → row_at rows (line - 1) ≡ r → stand_at (stands_of rows) line ≡ stand_of r
   stands_at rows line r is e = stand_of_line rows line is.first ∙ ap stand_of e
 
   -- What stands at a place is told, which stays what it is.
 
-  places_of : (s : Clients P Q K) → length (rows_of s) ≡ length s.places.items
-  places_of s = length-map s.places.items (λ (p : Place P Q K). p.row)
+  places_of : (s : Clients P) → length (rows_of s) ≡ length s.places.items
+  places_of s = length-map s.places.items (λ (p : Place P). p.row)
 
-  pub place_row : (s : Clients P Q K) (at : ℕ) (p : Place P Q K) → at < length (rows_of s) → p ≡ get_or s.places.items at p → row_at (rows_of s) at ≡ p.row
-  place_row s at p h e = read_in (λ (q : Place P Q K). q.row) s.places.items at p row.Plain (let long = places_of s in omega (arith, h, long)) ∙ ap (λ (q : Place P Q K). q.row) (sym e)
+  pub place_row : (s : Clients P) (at : ℕ) (p : Place P) → at < length (rows_of s) → p ≡ get_or s.places.items at p → row_at (rows_of s) at ≡ p.row
+  place_row s at p h e = read_in (λ (q : Place P). q.row) s.places.items at p row.Plain (let long = places_of s in omega (arith, h, long)) ∙ ap (λ (q : Place P). q.row) (sym e)
 
-  pub put_stands : (s : Clients P Q K) (at : ℕ) (p q : Place P Q K) → at < length (rows_of s) → p ≡ get_or s.places.items at p → stand_of q.row ≡ stand_of p.row
-      → stands_of (map (λ (p : Place P Q K). p.row) (set s.places.items at q)) ≡ stands_of (rows_of s)
+  pub put_stands : (s : Clients P) (at : ℕ) (p q : Place P) → at < length (rows_of s) → p ≡ get_or s.places.items at p → stand_of q.row ≡ stand_of p.row
+      → stands_of (map (λ (p : Place P). p.row) (set s.places.items at q)) ≡ stands_of (rows_of s)
   put_stands s at p q h e same = ap stands_of (rows_set s.places.items at q) ∙ stands_told (rows_of s) at q.row h (same ∙ ap stand_of (sym (place_row s at p h e)))
 
-  pub put_nexts : (s : Clients P Q K) (at : ℕ) (p q : Place P Q K) → at < length (rows_of s) → p ≡ get_or s.places.items at p → q.next ≡ p.next
-      → map (λ (p : Place P Q K). p.next) (set s.places.items at q) ≡ nexts_of s
-  put_nexts s at p q h e same = map_kept (λ (p : Place P Q K). p.next) s.places.items at q p (let long = places_of s in omega (arith, h, long)) (same ∙ ap (λ (p : Place P Q K). p.next) e)
+  pub put_nexts : (s : Clients P) (at : ℕ) (p q : Place P) → at < length (rows_of s) → p ≡ get_or s.places.items at p → q.next ≡ p.next
+      → map (λ (p : Place P). p.next) (set s.places.items at q) ≡ nexts_of s
+  put_nexts s at p q h e same = map_kept (λ (p : Place P). p.next) s.places.items at q p (let long = places_of s in omega (arith, h, long)) (same ∙ ap (λ (p : Place P). p.next) e)
 
-  pub put_row : (s : Clients P Q K) (at : ℕ) (q : Place P Q K) → at < length (rows_of s) → row_at (map (λ (p : Place P Q K). p.row) (set s.places.items at q)) at ≡ q.row
+  pub put_row : (s : Clients P) (at : ℕ) (q : Place P) → at < length (rows_of s) → row_at (map (λ (p : Place P). p.row) (set s.places.items at q)) at ≡ q.row
   put_row s at q h = ap (λ rs. row_at rs at) (rows_set s.places.items at q) ∙ or_same (rows_of s) at q.row row.Plain h
 
   -- the number that is kept for a line is its next
-  pub ticket_next : (s : Clients P Q K) (line : ℕ) (p : Place P Q K) → IsLine (sight_of s).stands line → p ≡ get_or s.places.items (line - 1) p → IsNext (sight_of s).nexts (record { line = line; beat = false; number = p.next })
-  ticket_next s line p is e = is_next s line p.next is (ap (λ (q : Place P Q K). q.next) e ∙ sym (next_of_line s line p is.first (let one = is.first in let last = is.last in let long = count s in omega (arith, one, last, long))))
+  pub ticket_next : (s : Clients P) (line : ℕ) (p : Place P) → IsLine (sight_of s).stands line → p ≡ get_or s.places.items (line - 1) p → IsNext (sight_of s).nexts (record { line = line; beat = false; number = p.next })
+  ticket_next s line p is e = is_next s line p.next is (ap (λ (q : Place P). q.next) e ∙ sym (next_of_line s line p is.first (let one = is.first in let last = is.last in let long = count s in omega (arith, one, last, long))))
 
   -- Who hears.
 
-  pub waits_so : (rows : List (Row P Q K)) (x line c m : ℕ) (t : Standing P Q K) → 1 ≤ x → row_at rows (x - 1) ≡ row.Begun c t m → IsTrue (nat_eq m line) → (d : ℕ) × (stand_at (stands_of rows) x ≡ HasBegun d line)
+  pub waits_so : (rows : List (Row P)) (x line c m : ℕ) (t : Standing P) → 1 ≤ x → row_at rows (x - 1) ≡ row.Begun c t m → IsTrue (nat_eq m line) → (d : ℕ) × (stand_at (stands_of rows) x ≡ HasBegun d line)
   waits_so rows x line c m t one e test = (c, stand_of_line rows x one ∙ ap stand_of e ∙ ap (HasBegun c) (by (nat_eq m line) refl test))
     where
       by : (b : Bool) → nat_eq m line ≡ b → IsTrue b → m ≡ line
@@ -142,11 +142,11 @@ module _ {P Q K : Type 0} where
           no : false ≡ true → ⊥
           no q = cc
 
-  pub hears_as : (rows : List (Row P Q K)) (line at : ℕ) (r : Row P Q K) → IsLine (stands_of rows) line → row_at rows (line - 1) ≡ r → HearsFor (stands_of rows) line at (stand_of r) → HearsFor (stands_of rows) line at (stand_at (stands_of rows) line)
+  pub hears_as : (rows : List (Row P)) (line at : ℕ) (r : Row P) → IsLine (stands_of rows) line → row_at rows (line - 1) ≡ r → HearsFor (stands_of rows) line at (stand_of r) → HearsFor (stands_of rows) line at (stand_at (stands_of rows) line)
   hears_as rows line at r is e h = subst (HearsFor (stands_of rows) line at) (sym (stands_at rows line r is e)) h
 
   -- the transaction of the call is there
-  pub call_line : (rows : List (Row P Q K)) (line x c : ℕ) (b : Bool) → IsLine (stands_of rows) line → row_at rows (line - 1) ≡ row.Calling c x b → MayEnd rows line (stand_at (stands_of rows) line) → IsLine (stands_of rows) x
+  pub call_line : (rows : List (Row P)) (line x c : ℕ) (b : Bool) → IsLine (stands_of rows) line → row_at rows (line - 1) ≡ row.Calling c x b → MayEnd rows line (stand_at (stands_of rows) line) → IsLine (stands_of rows) x
   call_line rows line x c b is there may = by (subst (λ s. MayEnd rows line s) (stands_at rows line (row.Calling c x b) is there) may)
     where
       by : MayEnd rows line (Calling c x b) → IsLine (stands_of rows) x
@@ -155,20 +155,20 @@ module _ {P Q K : Type 0} where
           no : HasBegun d line ≡ Idle → ⊥
           no q = cc
 
-  module _ {A B D : Type 0} (w : Ways P Q K A B D) where
-    pub ready_told : (rows : List (Row P Q K)) (at : ℕ) (r : Row P Q K) → at < length rows → stand_of r ≡ stand_of (row_at rows at) → RowReady w r → AreReady w rows → AreReady w (set rows at r)
+  module _ (w : Ways P) where
+    pub ready_told : (rows : List (Row P)) (at : ℕ) (r : Row P) → at < length rows → stand_of r ≡ stand_of (row_at rows at) → RowReady w r → AreReady w rows → AreReady w (set rows at r)
     ready_told rows at r h e may ready = record {
       each = All-set (RowReady w) rows at r may ready.each;
       matched = subst AreMatched (sym (stands_told rows at r h e)) ready.matched;
     }
 
-    pub put_ready : (s : Clients P Q K) (at : ℕ) (p q : Place P Q K) → at < length (rows_of s) → p ≡ get_or s.places.items at p → stand_of q.row ≡ stand_of p.row → RowReady w q.row → AreReady w (rows_of s)
-        → AreReady w (map (λ (p : Place P Q K). p.row) (set s.places.items at q))
+    pub put_ready : (s : Clients P) (at : ℕ) (p q : Place P) → at < length (rows_of s) → p ≡ get_or s.places.items at p → stand_of q.row ≡ stand_of p.row → RowReady w q.row → AreReady w (rows_of s)
+        → AreReady w (map (λ (p : Place P). p.row) (set s.places.items at q))
     put_ready s at p q h e same may ready = subst (AreReady w) (sym (rows_set s.places.items at q)) (ready_told (rows_of s) at q.row h (same ∙ ap stand_of (sym (place_row s at p h e))) may ready)
 
     -- A call for a timestamp has ended.
 
-    pub asked_ready : (rows news : List (Row P Q K)) (line c : ℕ) (b : Bool) (call : ClientCall Pd P Q K) (r : Row P Q K) (o : Outcome) → IsLine (stands_of rows) line → row_at rows (line - 1) ≡ row.Asking c b call → AreReady w rows → RowReady w r → AskEnds c b o (stand_of r)
+    pub asked_ready : (rows news : List (Row P)) (line c : ℕ) (b : Bool) (call : ClientCall Pd P) (r : Row P) (o : Outcome) → IsLine (stands_of rows) line → row_at rows (line - 1) ≡ row.Asking c b call → AreReady w rows → RowReady w r → AskEnds c b o (stand_of r)
         → news ≡ set rows (line - 1) r → AreReady w news
     asked_ready rows news line c b call r o is there ready may ends e = subst (AreReady w) (sym e) (ready_set w rows line r is ready may
         (λ d x a k. no d x a (sym (stands_at rows line (row.Asking c b call) is there) ∙ k))
@@ -177,7 +177,7 @@ module _ {P Q K : Type 0} where
         no : (d x : ℕ) (a : Bool) → Asking c b ≡ Calling d x a → ⊥
         no d x a q = cc
 
-    pub asked_advances : (s t : Clients P Q K) (from to : Turn) (line c : ℕ) (b : Bool) (call : ClientCall Pd P Q K) (r : Row P Q K) (o : Outcome) → IsLine (sight_of s).stands line → is_live (sight_of s) line ≡ true
+    pub asked_advances : (s t : Clients P) (from to : Turn) (line c : ℕ) (b : Bool) (call : ClientCall Pd P) (r : Row P) (o : Outcome) → IsLine (sight_of s).stands line → is_live (sight_of s) line ≡ true
         → row_at (rows_of s) (line - 1) ≡ row.Asking c b call → AreReady w (rows_of s) → AskEnds c b o (stand_of r)
         → rows_of t ≡ set (rows_of s) (line - 1) r → nexts_of t ≡ nexts_of s → t.clients ≡ s.clients
         → to.posted.items ≡ from.posted.items → to.ended.items ≡ from.ended.items ++ record { line = line; outcome = o } ∷ []
@@ -192,7 +192,7 @@ module _ {P Q K : Type 0} where
 
     -- A call of a transaction has ended, which waits no more.
 
-    pub called_ready : (rows news : List (Row P Q K)) (line x c : ℕ) (b : Bool) (r : Row P Q K) (o : Outcome) → IsLine (stands_of rows) line → row_at rows (line - 1) ≡ row.Calling c x b → MayEnd rows line (stand_at (stands_of rows) line) → AreReady w rows → RowReady w r → CallEnds c b o (stand_of r)
+    pub called_ready : (rows news : List (Row P)) (line x c : ℕ) (b : Bool) (r : Row P) (o : Outcome) → IsLine (stands_of rows) line → row_at rows (line - 1) ≡ row.Calling c x b → MayEnd rows line (stand_at (stands_of rows) line) → AreReady w rows → RowReady w r → CallEnds c b o (stand_of r)
         → news ≡ set (set rows (x - 1) (with_waits 0 (row_at rows (x - 1)))) (line - 1) r → AreReady w news
     called_ready rows news line x c b r o is there may ready can ends e = subst (AreReady w) (sym e) (ended (subst (λ s. MayEnd rows line s) calls may))
       where
@@ -202,7 +202,7 @@ module _ {P Q K : Type 0} where
         ended : MayEnd rows line (Calling c x b) → AreReady w (set (set rows (x - 1) (with_waits 0 (row_at rows (x - 1)))) (line - 1) r)
         ended (d, waits, rests) = ready_ended w rows line x c d b r (call_line rows line x c b is there may) calls waits ready rests can (settled_free c (stand_of r) (call_settles c b o (stand_of r) ends))
 
-    pub called_goes : (s t : Clients P Q K) (line x c : ℕ) (b : Bool) (r : Row P Q K) (o : Outcome) → IsLine (sight_of s).stands line → is_live (sight_of s) line ≡ true
+    pub called_goes : (s t : Clients P) (line x c : ℕ) (b : Bool) (r : Row P) (o : Outcome) → IsLine (sight_of s).stands line → is_live (sight_of s) line ≡ true
         → row_at (rows_of s) (line - 1) ≡ row.Calling c x b → MayEnd (rows_of s) line (stand_at (sight_of s).stands line) → AreReady w (rows_of s) → CallEnds c b o (stand_of r)
         → rows_of t ≡ set (set (rows_of s) (x - 1) (with_waits 0 (row_at (rows_of s) (x - 1)))) (line - 1) r → nexts_of t ≡ nexts_of s → t.clients ≡ s.clients
         → Goes [] (record { line = line; outcome = o } ∷ []) (sight_of s) (sight_of t)
@@ -223,7 +223,7 @@ module _ {P Q K : Type 0} where
             seen : sight_of t ≡ with_stand line (stand_of r) (with_stand x (HasBegun d 0) (sight_of s))
             seen = sight_at s t (set (set (stands_of (rows_of s)) (x - 1) (HasBegun d 0)) (line - 1) (stand_of r)) (nexts_of s) clients (ap stands_of rows ∙ ended_stands (rows_of s) line x d line r begun waits) nexts
 
-    pub called_advances : (s t : Clients P Q K) (from to : Turn) (line x c : ℕ) (b : Bool) (r : Row P Q K) (o : Outcome) → IsLine (sight_of s).stands line → is_live (sight_of s) line ≡ true
+    pub called_advances : (s t : Clients P) (from to : Turn) (line x c : ℕ) (b : Bool) (r : Row P) (o : Outcome) → IsLine (sight_of s).stands line → is_live (sight_of s) line ≡ true
         → row_at (rows_of s) (line - 1) ≡ row.Calling c x b → MayEnd (rows_of s) line (stand_at (sight_of s).stands line) → AreReady w (rows_of s) → CallEnds c b o (stand_of r)
         → rows_of t ≡ set (set (rows_of s) (x - 1) (with_waits 0 (row_at (rows_of s) (x - 1)))) (line - 1) r → nexts_of t ≡ nexts_of s → t.clients ≡ s.clients
         → to.posted.items ≡ from.posted.items → to.ended.items ≡ from.ended.items ++ record { line = line; outcome = o } ∷ []
@@ -232,7 +232,7 @@ module _ {P Q K : Type 0} where
         advances_ended from to (record { line = line; outcome = o }) (sight_of s) (sight_of t) posted ended (called_goes s t line x c b r o is live there may ready ends rows nexts clients)
 
     -- and its line is as live as it was
-    pub called_live : (s t : Clients P Q K) (line x c : ℕ) (b : Bool) (r : Row P Q K) (o : Outcome) → IsLine (sight_of s).stands line → is_live (sight_of s) line ≡ true
+    pub called_live : (s t : Clients P) (line x c : ℕ) (b : Bool) (r : Row P) (o : Outcome) → IsLine (sight_of s).stands line → is_live (sight_of s) line ≡ true
         → row_at (rows_of s) (line - 1) ≡ row.Calling c x b → MayEnd (rows_of s) line (stand_at (sight_of s).stands line) → AreReady w (rows_of s) → CallEnds c b o (stand_of r)
         → rows_of t ≡ set (set (rows_of s) (x - 1) (with_waits 0 (row_at (rows_of s) (x - 1)))) (line - 1) r → nexts_of t ≡ nexts_of s → t.clients ≡ s.clients
         → is_live (sight_of t) line ≡ true

@@ -10,7 +10,7 @@ use Rattle.txn_history.specs.Posted.{Within-one, Within-refl, ticket_of}
 use Rattle.txn_law.specs.Run.{IsPossible}
 use Rattle.txn_kv.specs.declared.arrival.Arrival.{Arrival}
 use Rattle.txn_kv.specs.declared.arrival.Arrival.TheVariants as arrivals
-use Rattle.txn_commit.specs.Committing.{Ways}
+use Rattle.txn_commit.specs.Ways.{Ways}
 use Rattle.txn_core.specs.declared.txn_answer.TxnAnswer.{TxnAnswer}
 use Rattle.txn_client.specs.declared.client_answer.ClientAnswer.{ClientAnswer}
 use Rattle.txn_client.specs.declared.client_answer.ClientAnswer.TheVariants.{Begun, Time}
@@ -39,25 +39,25 @@ use Rattle.txn_clients.specs.Accounts.{is_heard}
 use Rattle.txn_clients.specs.Closing.{HasComeTo}
 use Rattle.txn_clients.proofs.Turning.{turned_answer, turned_row}
 
-module _ {P Q K A B D : Type 0} (w : Ways P Q K A B D) where
+module _ {P : Type 0} (w : Ways P) where
   -- Nobody hears it
 
-  module _ (p : IsLawful w.prewriting) (q : IsLawful w.committing) (k : IsLawful w.rolling) where
-    beside_leads : (askers : Ticket → List ℕ) (rest : List Given) (s : Clients P Q K) (h : List Event) (e : Event) (ps : List Posting) (es : List Ending) → PostsNothing e → IsPossible h e → Arisen w s askers rest h → Leads w askers rest ps ps es es (heard_by s) s s (seen (e ∷ h)) h Anyhow
+  module _ (p : IsLawful w.plan) where
+    beside_leads : (askers : Ticket → List ℕ) (rest : List Given) (s : Clients P) (h : List Event) (e : Event) (ps : List Posting) (es : List Ending) → PostsNothing e → IsPossible h e → Arisen w s askers rest h → Leads w askers rest ps ps es es (heard_by s) s s (seen (e ∷ h)) h Anyhow
     beside_leads askers rest s h e ps es quiet may a = record {
       later = e ∷ h;
       more = [];
       posted = sym (append-nil ps);
       shows = refl;
       within = Within-one e h;
-      arisen = arisen_beside w p q k s askers rest h e quiet may a;
+      arisen = arisen_beside w p s askers rest h e quiet may a;
       kept = right_same (rows_of s);
       ends = ends_none (heard_by s) s (e ∷ h) es es refl;
       then = tt;
     }
 
     -- what came is behind the history all the same
-    pub unheard_leads : (s : Clients P Q K) (line client : ℕ) (x : Arrival) (ps : List Posting) (es : List Ending) → LeadsTold w (tells.Heard x) line client ps ps es es s s
+    pub unheard_leads : (s : Clients P) (line client : ℕ) (x : Arrival) (ps : List Posting) (es : List Ending) → LeadsTold w (tells.Heard x) line client ps ps es es s s
     unheard_leads s line client (arrivals.Reply n x) ps es askers rest h r fits own can a = beside_leads askers rest s h (Took (ticket_of (outbox_of line) n) r x) ps es tt can a
     unheard_leads s line client (arrivals.Lost n) ps es askers rest h r fits own can a = beside_leads askers rest s h (Lost (ticket_of (outbox_of line) n) r) ps es tt can a
     unheard_leads s line client (arrivals.Slept n) ps es askers rest h r fits own can a = beside_leads askers rest s h (Slept (ticket_of (outbox_of line) n)) ps es tt tt a
@@ -65,19 +65,19 @@ module _ {P Q K A B D : Type 0} (w : Ways P Q K A B D) where
 
   -- What is pushed, and the call of the line after it
 
-  pub pushed_leads : (told : Told) (line at client : ℕ) (answer : Option (Answer P Q K)) (s m : Clients P Q K) (ps qs : List Posting) (es fs : List Ending) → HearsFor (stands_of (rows_of s)) line at (stand_at (stands_of (rows_of s)) line)
+  pub pushed_leads : (told : Told) (line at client : ℕ) (answer : Option (Answer P)) (s m : Clients P) (ps qs : List Posting) (es fs : List Ending) → HearsFor (stands_of (rows_of s)) line at (stand_at (stands_of (rows_of s)) line)
       → LeadsPushed w told line at client answer ps qs es fs s m → LeadsTold w told line client ps qs es fs s m
   pushed_leads told line at client answer s m ps qs es fs hears f askers rest h r fits own can a =
       leads_from w askers rest ps qs es fs (heard_by s) s s m _ h h _ Anyhow (Within-refl h) (right_same (rows_of s)) (λ later x. tt)
       (f askers rest h r (record { own = own; voiced = hears_voice (stands_of (rows_of s)) line at hears }) can a)
 
   -- only of a transaction it matters what stands there
-  asked_anywhere : (turns : Type 0) (askers : Ticket → List ℕ) (line : ℕ) (r : Row P Q K) (v : Result (ClientAnswer Pd P Q K) Error) (h : List Event) → AnswerArises w turns askers line r (Some (answers.Asked v)) h → AnswerArises w ⊥ askers line row.Plain (Some (answers.Asked v)) h
+  asked_anywhere : (turns : Type 0) (askers : Ticket → List ℕ) (line : ℕ) (r : Row P) (v : Result (ClientAnswer Pd P) Error) (h : List Event) → AnswerArises w turns askers line r (Some (answers.Asked v)) h → AnswerArises w ⊥ askers line row.Plain (Some (answers.Asked v)) h
   asked_anywhere turns askers line r (Ok (Begun b)) h x = x
   asked_anywhere turns askers line r (Ok (Time t)) h x = tt
   asked_anywhere turns askers line r (Err e) h x = tt
 
-  pub asked_leads : (told : Told) (line at client : ℕ) (answer : Option (Answer P Q K)) (v : Result (ClientAnswer Pd P Q K) Error) (s m t : Clients P Q K) (ps qs rs : List Posting) (es fs gs : List Ending) → HearsFor (stands_of (rows_of s)) line at (stand_at (stands_of (rows_of s)) line) → stands_of (rows_of m) ≡ stands_of (rows_of s)
+  pub asked_leads : (told : Told) (line at client : ℕ) (answer : Option (Answer P)) (v : Result (ClientAnswer Pd P) Error) (s m t : Clients P) (ps qs rs : List Posting) (es fs gs : List Ending) → HearsFor (stands_of (rows_of s)) line at (stand_at (stands_of (rows_of s)) line) → stands_of (rows_of m) ≡ stands_of (rows_of s)
       → answer ≡ Some (answers.Asked v) → LeadsPushed w told line at client answer ps qs es fs s m → LeadsEnded w (λ askers h. AnswerArises w ⊥ askers line row.Plain (Some (answers.Asked v)) h) qs rs fs gs m t → LeadsTold w told line client ps rs es gs s t
   asked_leads told line at client answer v s m t ps qs rs es fs gs hears stands is f g askers rest h r fits own can a =
       let first = f askers rest h r (record { own = own; voiced = hears_voice (stands_of (rows_of s)) line at hears }) can a in
@@ -85,7 +85,7 @@ module _ {P Q K A B D : Type 0} (w : Ways P Q K A B D) where
       leads_then w askers askers rest rest ps qs rs es fs gs (heard_by s) (heard_by m) s m t _ h _ Anyhow first (g askers rest first.later came first.arisen) (λ e i. heard_same s m stands e.line)
 
   -- a job may begin then
-  pub called_leads : (told : Told) (line at client : ℕ) (answer : Option (Answer P Q K)) (v : Result (TxnAnswer Q) Error) (s m n t : Clients P Q K) (ps qs rs us : List Posting) (es fs gs ks : List Ending) → HearsFor (stands_of (rows_of s)) line at (stand_at (stands_of (rows_of s)) line) → stands_of (rows_of m) ≡ stands_of (rows_of s)
+  pub called_leads : (told : Told) (line at client : ℕ) (answer : Option (Answer P)) (v : Result (TxnAnswer P) Error) (s m n t : Clients P) (ps qs rs us : List Posting) (es fs gs ks : List Ending) → HearsFor (stands_of (rows_of s)) line at (stand_at (stands_of (rows_of s)) line) → stands_of (rows_of m) ≡ stands_of (rows_of s)
       → answer ≡ Some (answers.Called v) → LeadsPushed w told line at client answer ps qs es fs s m → LeadsEnded w (CallCame w m line (Some (answers.Called v))) qs rs fs gs m n
       → ((c : ℕ) → client_at (stand_at (stands_of (rows_of m)) line) ≡ Some c → client_at (stand_at (stands_of (rows_of n)) line) ≡ Some c) → (client_at (stand_at (stands_of (rows_of n)) line) ≡ Some client → LeadsEnded w (λ askers h. ⊤) rs us gs ks n t) → ks ≡ gs → (is_heard told ≡ true → HasComeTo (stand_at (stands_of (rows_of m)) line) v (row_at (rows_of m) at)) → LeadsTold w told line client ps us es ks s t
   called_leads told line at client answer v s m n t ps qs rs us es fs gs ks hears stands is f g mine job unended come askers rest h r fits own can a =

@@ -4,7 +4,7 @@ use Rattle.std.specs.Prelude.{Result, Ok, Err}
 use Rattle.txn_kv.specs.declared.errors.Error.{Error}
 use Rattle.txn_kv.specs.declared.ticket.Ticket.{Ticket}
 use Rattle.txn_history.specs.Event.{Event}
-use Rattle.txn_commit.specs.Committing.{Ways}
+use Rattle.txn_commit.specs.Ways.{Ways}
 use Rattle.txn_core.specs.Status.{has_turned_back}
 use Rattle.txn_core.specs.Transaction.{is_open}
 use Rattle.txn_core.specs.declared.status.Status.{Status}
@@ -35,8 +35,8 @@ turned_stage Rolledback busy doubtful e = refl
 turned_stage StartedRollback busy doubtful e = refl
 turned_stage Dropped busy doubtful e = absurd (cc)
 
-module _ {P Q K : Type 0} where
-  turned_told : (told : Told) (r : Row P Q K) (c x : ℕ) (e : Error) → FitsCall told (Calling c x false) → (is_heard told ≡ true → HasComeTo {P = P} {Q = Q} {K = K} (Calling c x false) (Err e) r) → TurnsRow told r
+module _ {P : Type 0} where
+  turned_told : (told : Told) (r : Row P) (c x : ℕ) (e : Error) → FitsCall told (Calling c x false) → (is_heard told ≡ true → HasComeTo {P = P} (Calling c x false) (Err e) r) → TurnsRow told r
   turned_told tells.Start (row.Begun d t m) c x e fits come = tt
   turned_told (tells.Act act) (row.Begun d t m) c x e fits come = sym fits
   turned_told (tells.Heard a) (row.Begun d t m) c x e fits come = turned_stage t.status (is_open t.work) _ (come refl)
@@ -48,13 +48,13 @@ module _ {P Q K : Type 0} where
   turned_told told (row.Working d job) c x e fits come = tt
 
   -- where a call fails that does not commit
-  pub turned_row : (told : Told) (r : Row P Q K) (stand : Stand) (c x : ℕ) (b : Bool) (e : Error) (v : Result (TxnAnswer Q) Error) → v ≡ Err e → stand ≡ Calling c x b → b ≡ false → FitsCall told stand → (is_heard told ≡ true → HasComeTo stand v r) → TurnsRow told r
+  pub turned_row : (told : Told) (r : Row P) (stand : Stand) (c x : ℕ) (b : Bool) (e : Error) (v : Result (TxnAnswer P) Error) → v ≡ Err e → stand ≡ Calling c x b → b ≡ false → FitsCall told stand → (is_heard told ≡ true → HasComeTo stand v r) → TurnsRow told r
   turned_row told r stand c x b e v failed calls back fits come =
       let so = calls ∙ ap (λ flag. Calling c x flag) back in
       turned_told told r c x e (subst (FitsCall told) so fits) (λ heard. subst (λ z. HasComeTo (Calling c x false) z r) failed (subst (λ z. HasComeTo z v r) so (come heard)))
 
-module _ {P Q K A B D : Type 0} (w : Ways P Q K A B D) where
-  pub turned_answer : (turns back : Type 0) (askers : Ticket → List ℕ) (line : ℕ) (r : Row P Q K) (v : Result (TxnAnswer Q) Error) (h : List Event) → ((e : Error) → v ≡ Err e → back → turns)
+module _ {P : Type 0} (w : Ways P) where
+  pub turned_answer : (turns back : Type 0) (askers : Ticket → List ℕ) (line : ℕ) (r : Row P) (v : Result (TxnAnswer P) Error) (h : List Event) → ((e : Error) → v ≡ Err e → back → turns)
       → AnswerArises w turns askers line r (Some (answers.Called v)) h → AnswerArises w back askers line r (Some (answers.Called v)) h
   turned_answer turns back askers line r (Ok (answer.Committed (Some t) job)) h so x = x
   turned_answer turns back askers line r (Ok (answer.Committed None (Some job))) h so x = x

@@ -30,7 +30,7 @@ use Rattle.txn_law.specs.Run.{IsPossible, IsRun}
 use Rattle.txn_history.specs.Arrivals.{told_by}
 use Rattle.txn_merge.specs.declared.retry_options.RetryOptions.{RetryOptions}
 use Rattle.txn_kv.specs.declared.arrival.Arrival.TheVariants as arrivals
-use Rattle.txn_commit.specs.Committing.{Ways}
+use Rattle.txn_commit.specs.Ways.{Ways}
 use Rattle.txn_commit.specs.Following.{CommitsPrimary, KnowsCommits, PrimaryLost, undetermined}
 use Rattle.txn_commit.specs.Jobs.{JobFits}
 use Rattle.txn_commit.specs.Parts.{parts_of}
@@ -98,12 +98,12 @@ pub record Moved (may : List Event → Request → Type 0) (was is says : List E
   pub stands : (h : List Event) → was h → says (after from.line from.beat (hear h) sends)
 
 -- what the call for a timestamp answers stands on the history
-abbrev pub AskStands : {P Q K : Type 0} → Wanted → Option (Answer P Q K) → List Event → Type 0
+abbrev pub AskStands : {P : Type 0} → Wanted → Option (Answer P) → List Event → Type 0
 AskStands x (Some (answers.Asked v)) h = CallGives x h v
 AskStands x answer h = ⊤
 
 -- A Commit of its primary was lost, as the transaction knows. It is written no more.
-pub record HasLostOne {P Q K : Type 0} (t : Standing P Q K) (h : List Event) : Type 0 where
+pub record HasLostOne {P : Type 0} (t : Standing P) (h : List Event) : Type 0 where
   pub parts : CommitParts
   pub closed : allows_data t.status ≡ false
   pub whole : parts_of t.contents ≡ Some parts
@@ -111,7 +111,7 @@ pub record HasLostOne {P Q K : Type 0} (t : Standing P Q K) (h : List Event) : T
   pub lost : PrimaryLost (plan_of parts) (version_of t.start) h ticket
 
 -- As far as a transaction knows, and it knows of each Commit of its primary, none was lost. It is written no more.
-pub record IsSettled {P Q K : Type 0} (t : Standing P Q K) (h : List Event) : Type 0 where
+pub record IsSettled {P : Type 0} (t : Standing P) (h : List Event) : Type 0 where
   pub parts : CommitParts
   pub closed : allows_data t.status ≡ false
   pub whole : parts_of t.contents ≡ Some parts
@@ -119,7 +119,7 @@ pub record IsSettled {P Q K : Type 0} (t : Standing P Q K) (h : List Event) : Ty
   pub none : undetermined t.commits ≡ None
 
 -- An error says that it is not known whether the transaction is committed, since that one was lost. It is written no more.
-pub record NamesLost {P Q K : Type 0} (t : Standing P Q K) (h : List Event) (e : Error) : Type 0 where
+pub record NamesLost {P : Type 0} (t : Standing P) (h : List Event) (e : Error) : Type 0 where
   pub parts : CommitParts
   pub closed : allows_data t.status ≡ false
   pub whole : parts_of t.contents ≡ Some parts
@@ -128,7 +128,7 @@ pub record NamesLost {P Q K : Type 0} (t : Standing P Q K) (h : List Event) (e :
   pub first : IsFirstLostOfPrimary (version_of t.start) parts.primary h ticket
 
 -- what it was told was of a call that does not commit it
-abbrev pub TurnsBack : {P Q K : Type 0} → Told → Standing P Q K → Type 0
+abbrev pub TurnsBack : {P : Type 0} → Told → Standing P → Type 0
 TurnsBack tells.Start t = ⊤
 TurnsBack (tells.Act act) t = commits act ≡ false
 TurnsBack (tells.Heard a) t = has_turned_back t.status ≡ true
@@ -136,67 +136,67 @@ TurnsBack (tells.Heard a) t = has_turned_back t.status ≡ true
 -- and what a transaction answers that is committed, which stood so before, and is written no more; or that fails: it was refused, or
 -- says that it is in doubt, and a Commit of its primary was lost, which it names if it does not commit; or it says no such thing, and is
 -- in none
-abbrev pub CallStands : {P Q K A B D : Type 0} → Ways P Q K A B D → Told → Standing P Q K → Standing P Q K → Option (Answer P Q K) → List Event → Type 0
+abbrev pub CallStands : {P : Type 0} → Ways P → Told → Standing P → Standing P → Option (Answer P) → List Event → Type 0
 CallStands w told old new (Some (answers.Called (Ok (answer.Committed t job)))) h = (allows_data new.status ≡ false) × TransactionGives w old.options.retry_options old.start old.contents new.commits h (Ok (answer.Committed t job))
 CallStands w told old new (Some (answers.Called (Err e))) h = IsRefusal e ⊎ (((is_undetermined e ≡ true) × HasLostOne new h × (TurnsBack told new → NamesLost new h e)) ⊎ ((is_undetermined e ≡ false) × IsSettled new h))
 CallStands w told old new answer h = ⊤
 
 -- the Commit of its primary that a transaction marks as lost was the first
-abbrev pub IsMarked : {P Q K : Type 0} → Standing P Q K → List Event → Type 0
+abbrev pub IsMarked : {P : Type 0} → Standing P → List Event → Type 0
 IsMarked t h = (parts : CommitParts) → parts_of t.contents ≡ Some parts → (u : Ticket) → t.commits.lost ≡ Some u → IsFirstLostOfPrimary (version_of t.start) parts.primary h u
 
 -- A transaction can have arisen from the history, the keys of its buffer are in order, it has not given up, and what it marks is right.
-abbrev pub StandFits : {P Q K A B D : Type 0} → Ways P Q K A B D → Standing P Q K → Posted → List Event → Type 0
+abbrev pub StandFits : {P : Type 0} → Ways P → Standing P → Posted → List Event → Type 0
 StandFits w t o h = IsOrdered t.contents × TransactionFits w t o h × (has_given_up t.work ≡ false) × IsMarked t h
 
 -- A transaction stays itself. Once it may be written no more that stays so, and what it writes is what it wrote before; and only then does
 -- it post anything.
-pub record KeepsPlan {P Q K : Type 0} (old new : Standing P Q K) (from to : Posted) : Type 0 where
+pub record KeepsPlan {P : Type 0} (old new : Standing P) (from to : Posted) : Type 0 where
   pub start : new.start ≡ old.start
   pub closed : allows_data old.status ≡ false → allows_data new.status ≡ false
   pub fixed : allows_data new.status ≡ false → new.contents ≡ old.contents
   pub quiet : (to ≡ from) ⊎ (allows_data new.status ≡ false)
 
 -- A transaction is told of something: what it posts, and what it and its answer can have arisen from.
-pub record StandMoves {P Q K A B D : Type 0} (w : Ways P Q K A B D) (told : Told) (old new : Standing P Q K) (from to : Posted) (answer : Option (Answer P Q K)) : Type 0 where
+pub record StandMoves {P : Type 0} (w : Ways P) (told : Told) (old new : Standing P) (from to : Posted) (answer : Option (Answer P)) : Type 0 where
   pub keeps : KeepsPlan old new from to
   pub moves : (r : Request) → Moved (MaySendFor old.contents (version_of old.start)) (λ h. StandFits w old from h × (told_of told from r).known h) (λ h. StandFits w new to h) (λ h. CallStands w told old new answer h) (told_of told from r).hear from to
 
 -- So is a job of other keys, whatever the plan of its transaction is.
-pub record JobMoves {Q B : Type 0} (m : Meaning Q (Result B Error)) (refuses : RetryOptions → List Event → Error → Type 0) (told : Told) (old new : SecondaryJob Q) (from to : Posted) : Type 0 where
+pub record JobMoves {P B : Type 0} (m : Meaning P (Result B Error)) (refuses : RetryOptions → List Event → Error → Type 0) (told : Told) (old new : SecondaryJob P) (from to : Posted) : Type 0 where
   pub start : version_of new.start ≡ version_of old.start
   pub moves : (plan : Plan) (keys : List (List ℕ)) (r : Request) → Moved (MaySendBehind plan (version_of old.start)) (λ h. JobFits m refuses plan keys old from h × (told_of told from r).known h) (λ h. JobFits m refuses plan keys new to h) (λ h. ⊤) (told_of told from r).hear from to
 
 -- and what stands at a line
-abbrev pub RowMoves : {P Q K A B D : Type 0} → Ways P Q K A B D → Told → Row P Q K → Row P Q K → Posted → Posted → Option (Answer P Q K) → Type 0
-RowMoves {P} {Q} {K} w told (row.Asking c b old) (row.Asking d e new) from to answer =
-    (r : Request) → Moved (λ h q. q ≡ members) (λ h. IsAt old.stage from h × (told_of told from r).known h) (λ h. IsAt new.stage to h) (λ h. AskStands {P = P} {Q = Q} {K = K} old.wanted answer h) (told_of told from r).hear from to
+abbrev pub RowMoves : {P : Type 0} → Ways P → Told → Row P → Row P → Posted → Posted → Option (Answer P) → Type 0
+RowMoves {P} w told (row.Asking c b old) (row.Asking d e new) from to answer =
+    (r : Request) → Moved (λ h q. q ≡ members) (λ h. IsAt old.stage from h × (told_of told from r).known h) (λ h. IsAt new.stage to h) (λ h. AskStands {P = P} old.wanted answer h) (told_of told from r).hear from to
 RowMoves w told (row.Begun c old m) (row.Begun d new n) from to answer = StandMoves w told old new from to answer
-RowMoves w told (row.Working c old) (row.Working d new) from to answer = JobMoves w.committing w.uncommitted told old new from to
+RowMoves w told (row.Working c old) (row.Working d new) from to answer = JobMoves w.plan w.uncommitted told old new from to
 RowMoves w told old new from to answer = to ≡ from
 
 -- What stands at the lines
 
 -- this is the plan of a transaction that is written no more
-abbrev pub HasPlan : {P Q K : Type 0} → (ℕ → Plan) → Row P Q K → Type 0
+abbrev pub HasPlan : {P : Type 0} → (ℕ → Plan) → Row P → Type 0
 HasPlan plans (row.Begun c t m) = allows_data t.status ≡ false → (parts : CommitParts) → parts_of t.contents ≡ Some parts → plans (version_of t.start) ≡ plan_of parts
 HasPlan plans r = ⊤
 
-abbrev pub HavePlans : {P Q K : Type 0} → (ℕ → Plan) → List (Row P Q K) → Type 0
+abbrev pub HavePlans : {P : Type 0} → (ℕ → Plan) → List (Row P) → Type 0
 HavePlans plans rows = (i : ℕ) → HasPlan plans (row_at rows i)
 
 -- a transaction of this start
-abbrev pub HasStart : {P Q K : Type 0} → ℕ → Row P Q K → Type 0
+abbrev pub HasStart : {P : Type 0} → ℕ → Row P → Type 0
 HasStart s (row.Begun c t m) = version_of t.start ≡ s
 HasStart s r = ⊥
 
 -- the transaction whose other keys the job commits
-abbrev pub IsBehind : {P Q K A B D : Type 0} → Ways P Q K A B D → SecondaryJob Q → Posted → List Event → Row P Q K → Type 0
-IsBehind w job o h (row.Begun c t m) = (parts : CommitParts) × (version_of t.start ≡ version_of job.start) × (allows_data t.status ≡ false) × (parts_of t.contents ≡ Some parts) × JobFits w.committing w.uncommitted (plan_of parts) parts.secondaries job o h
+abbrev pub IsBehind : {P : Type 0} → Ways P → SecondaryJob P → Posted → List Event → Row P → Type 0
+IsBehind w job o h (row.Begun c t m) = (parts : CommitParts) × (version_of t.start ≡ version_of job.start) × (allows_data t.status ≡ false) × (parts_of t.contents ≡ Some parts) × JobFits w.plan w.uncommitted (plan_of parts) parts.secondaries job o h
 IsBehind w job o h r = ⊥
 
 -- it can have arisen from the history, where the line in whose name it posts has posted so much
-abbrev pub RowFits : {P Q K A B D : Type 0} → Ways P Q K A B D → List (Row P Q K) → Posted → List Event → Row P Q K → Type 0
+abbrev pub RowFits : {P : Type 0} → Ways P → List (Row P) → Posted → List Event → Row P → Type 0
 RowFits w rows o h (row.Asking c b call) = IsAt call.stage o h
 RowFits w rows o h (row.Begun c t m) = StandFits w t o h
 RowFits w rows o h (row.Working c job) = (i : ℕ) × IsBehind w job o h (row_at rows i)
@@ -214,7 +214,7 @@ ticket_or (Some t) = t
 
 -- Each transaction began at a timestamp that its line drew, where these are the lines whose asks each request for timestamps carries; and
 -- so is what is told in this step of the asks of a group.
-pub record Draws {P Q K : Type 0} (s : Clients P Q K) (askers : Ticket → List ℕ) (rest : List Answered) (h : List Event) : Type 0 where
+pub record Draws {P : Type 0} (s : Clients P) (askers : Ticket → List ℕ) (rest : List Answered) (h : List Event) : Type 0 where
   pub starts : (i v : ℕ) → HasStart v (row_at (rows_of s) i) → IsDrawn askers h (suc i) v
   pub groups : (c : ℕ) (t : Ticket) (group : List Asker) → (book_at s c).ticket ≡ Some t → (book_at s c).out ≡ Some group → askers t ≡ map (λ (a : Asker). a.line) group
   pub given : (a : Asker) (time : Timestamp) → IsAmong rest (a, Ok time) → IsDrawn askers h a.line (version_of time)
@@ -223,7 +223,7 @@ pub record Draws {P Q K : Type 0} (s : Clients P Q K) (askers : Ticket → List 
 
 -- All that stands at the lines, and the oracles of the clients, can have arisen from this history, which is a run, whatever the plans of
 -- those are that may still be written. Those of the rest of a group may be told their answers now.
-pub record Arisen {P Q K A B D : Type 0} (w : Ways P Q K A B D) (s : Clients P Q K) (askers : Ticket → List ℕ) (rest : List Answered) (h : List Event) : Type 0 where
+pub record Arisen {P : Type 0} (w : Ways P) (s : Clients P) (askers : Ticket → List ℕ) (rest : List Answered) (h : List Event) : Type 0 where
   pub run : (plans : ℕ → Plan) → HavePlans plans (rows_of s) → IsRun plans h
   pub rows : (i : ℕ) → RowFits w (rows_of s) (posted_at (nexts_of s) (asks_of s) (voice_at (rows_of s) i)) h (row_at (rows_of s) i)
   pub oracles : (c : ℕ) → OracleFits (oracle_of (book_at s c)) (ticket_or (book_at s c).ticket) h
@@ -238,80 +238,78 @@ pub record Arisen {P Q K A B D : Type 0} (w : Ways P Q K A B D) (s : Clients P Q
   pub apart : (i j v : ℕ) → HasStart v (row_at (rows_of s) i) → HasStart v (row_at (rows_of s) j) → i ≡ j
 
 -- the plans of the transactions keep to their laws
-pub record AreLawful {P Q K A B D : Type 0} (w : Ways P Q K A B D) : Type 0 where
-  pub prewriting : IsLawful w.prewriting
-  pub committing : IsLawful w.committing
-  pub rolling : IsLawful w.rolling
+pub record AreLawful {P : Type 0} (w : Ways P) : Type 0 where
+  pub lawful : IsLawful w.plan
 
 -- the clients can have arisen from a history of which a run shows this
-abbrev pub ArisenFrom : {P Q K A B D : Type 0} → Ways P Q K A B D → Clients P Q K → List Event → Type 0
+abbrev pub ArisenFrom : {P : Type 0} → Ways P → Clients P → List Event → Type 0
 ArisenFrom w s shown = AreLawful w × (askers : Ticket → List ℕ) × (h : List Event) × (seen h ≡ shown) × Arisen w s askers [] h
 
 -- What was answered
 
 -- the primary of this transaction was committed at this version
-abbrev pub IsCommittedSo : {P Q K : Type 0} → List Event → ℕ → Row P Q K → Type 0
+abbrev pub IsCommittedSo : {P : Type 0} → List Event → ℕ → Row P → Type 0
 IsCommittedSo h v (row.Begun c t m) = (parts : CommitParts) × (allows_data t.status ≡ false) × (parts_of t.contents ≡ Some parts) × PrimaryCommitted (plan_of parts) h (version_of t.start) v
 IsCommittedSo h v r = ⊥
 
 -- a commit of this transaction locks no key
-abbrev pub IsCommittedUnlocked : {P Q K : Type 0} → Row P Q K → Type 0
+abbrev pub IsCommittedUnlocked : {P : Type 0} → Row P → Type 0
 IsCommittedUnlocked (row.Begun c t m) = (allows_data t.status ≡ false) × (locks_nothing t.contents ≡ true)
 IsCommittedUnlocked r = ⊥
 
 -- the transaction that stands here began at this version; a call for a timestamp alone left nothing
-abbrev pub BeganAt : {P Q K : Type 0} → ℕ → Row P Q K → Type 0
+abbrev pub BeganAt : {P : Type 0} → ℕ → Row P → Type 0
 BeganAt v (row.Begun c t m) = version_of t.start ≡ v
 BeganAt v (row.Past c) = ⊤
 BeganAt v r = ⊥
 
 -- the answer is right of what stands here
-abbrev pub HoldsOf : {P Q K : Type 0} → List Event → Outcome → Row P Q K → Type 0
+abbrev pub HoldsOf : {P : Type 0} → List Event → Outcome → Row P → Type 0
 HoldsOf h (outcomes.Ok (payloads.Number v)) r = BeganAt v r
 HoldsOf h (outcomes.Ok (payloads.Commit (Some v))) r = IsCommittedSo h v r
 HoldsOf h (outcomes.Ok (payloads.Commit None)) r = IsCommittedUnlocked r
 HoldsOf h o r = ⊤
 
-abbrev pub HoldsAt : {P Q K : Type 0} → List (Row P Q K) → List Event → ℕ → Outcome → Type 0
+abbrev pub HoldsAt : {P : Type 0} → List (Row P) → List Event → ℕ → Outcome → Type 0
 HoldsAt rows h zero o = ⊤
 HoldsAt rows h (suc i) o = HoldsOf h o (row_at rows i)
 
 -- Of each Commit of the primary of this transaction that was lost a reply was taken, too. The transaction is written no more.
-abbrev pub IsUndoubted : {P Q K : Type 0} → List Event → Row P Q K → Type 0
+abbrev pub IsUndoubted : {P : Type 0} → List Event → Row P → Type 0
 IsUndoubted h (row.Begun c t m) = (parts : CommitParts) × (allows_data t.status ≡ false) × (parts_of t.contents ≡ Some parts) × ((u : Ticket) (r : CommitRequest) → Has h (Lost u (Commit r)) → CommitsPrimary (plan_of parts) (version_of t.start) r → (o : Reply) × Has h (Took u (Commit r) o))
 IsUndoubted h r = ⊥
 
 -- a Commit of the primary of this transaction was lost
-abbrev pub IsDoubted : {P Q K : Type 0} → List Event → Row P Q K → Type 0
+abbrev pub IsDoubted : {P : Type 0} → List Event → Row P → Type 0
 IsDoubted h (row.Begun c t m) = HasLostOne t h
 IsDoubted h r = ⊥
 
 -- the error names the first that was lost, as a run shows
-abbrev pub IsNamedBy : {P Q K : Type 0} → List Event → Error → Row P Q K → Type 0
+abbrev pub IsNamedBy : {P : Type 0} → List Event → Error → Row P → Type 0
 IsNamedBy h e (row.Begun c t m) = NamesLost t (seen h) e
 IsNamedBy h e r = ⊥
 
 -- What a call of it that fails says is right then, and one that `turns` back names the Commit that was lost first. In a longer history it
 -- need not be.
-abbrev pub SpeaksRight : {P Q K : Type 0} → List Event → Type 0 → Error → Row P Q K → Type 0
+abbrev pub SpeaksRight : {P : Type 0} → List Event → Type 0 → Error → Row P → Type 0
 SpeaksRight h turns e r = IsRefusal e ⊎ (((is_undetermined e ≡ true) × IsDoubted h r × (turns → IsNamedBy h e r)) ⊎ ((is_undetermined e ≡ false) × IsUndoubted h r))
 
-abbrev pub SpeaksRightAt : {P Q K : Type 0} → List (Row P Q K) → List Event → ℕ → Type 0 → Error → Type 0
+abbrev pub SpeaksRightAt : {P : Type 0} → List (Row P) → List Event → ℕ → Type 0 → Error → Type 0
 SpeaksRightAt rows h zero turns e = ⊥
 SpeaksRightAt rows h (suc i) turns e = SpeaksRight h turns e (row_at rows i)
 
 -- so of what is answered line n, of the transaction that stands at another line
-abbrev pub EndSpeaks : {P Q K : Type 0} → List (Row P Q K) → List Event → CallOf → ℕ → Outcome → Type 0
+abbrev pub EndSpeaks : {P : Type 0} → List (Row P) → List Event → CallOf → ℕ → Outcome → Type 0
 EndSpeaks rows h call n (outcomes.Err e) = call.at ≢ n → SpeaksRightAt rows h call.at (call.commits ≡ false) e
 EndSpeaks rows h call n o = ⊤
 
 -- What was right of the rows stays so, in each longer history.
-abbrev pub KeepRight : {P Q K : Type 0} → List (Row P Q K) → List (Row P Q K) → Type 0
+abbrev pub KeepRight : {P : Type 0} → List (Row P) → List (Row P) → Type 0
 KeepRight olds news = (x : ℕ) (o : Outcome) (h longer : List Event) → Within h longer → HoldsAt olds h x o → HoldsAt news longer x o
 
 -- what stands at a place was told of something
-pub record MovesRow {P Q K A B D : Type 0} (w : Ways P Q K A B D) (told : Told) (at : ℕ) (s t : Clients P Q K) (from to : Posted) (answer : Option (Answer P Q K)) : Type 0 where
-  pub row : Row P Q K
+pub record MovesRow {P : Type 0} (w : Ways P) (told : Told) (at : ℕ) (s t : Clients P) (from to : Posted) (answer : Option (Answer P)) : Type 0 where
+  pub row : Row P
   pub rows : rows_of t ≡ slice_set (rows_of s) at row
   pub stand : stand_of row ≡ stand_of (row_at (rows_of s) at)
   pub moves : RowMoves w told (row_at (rows_of s) at) row from to answer
@@ -331,7 +329,7 @@ CanCome told o r h = ⊤
 
 -- What a row answers: a transaction begins at what its line drew; a commit says where its primary is committed, and hands out the job
 -- of the other keys, or that nothing was locked; and a call that fails says whether it is in doubt.
-abbrev pub AnswerArises : {P Q K A B D : Type 0} → Ways P Q K A B D → Type 0 → (Ticket → List ℕ) → ℕ → Row P Q K → Option (Answer P Q K) → List Event → Type 0
+abbrev pub AnswerArises : {P : Type 0} → Ways P → Type 0 → (Ticket → List ℕ) → ℕ → Row P → Option (Answer P) → List Event → Type 0
 AnswerArises w turns askers line r (Some (answers.Asked (Ok (Begun b)))) h = IsDrawn askers h line (version_of b.start)
 AnswerArises w turns askers line r (Some (answers.Called (Ok (answer.Committed (Some t) job)))) h = IsCommittedSo h (version_of t) r × IfSome job (λ j. (o : Posted) → IsBehind w j o h r)
 AnswerArises w turns askers line r (Some (answers.Called (Ok (answer.Committed None None)))) h = IsCommittedUnlocked r
@@ -340,7 +338,7 @@ AnswerArises w turns askers line r (Some (answers.Called (Err e))) h = SpeaksRig
 AnswerArises w turns askers line r answer h = ⊤
 
 -- what is told to a row is of a call that does not commit its transaction
-abbrev pub TurnsRow : {P Q K : Type 0} → Told → Row P Q K → Type 0
+abbrev pub TurnsRow : {P : Type 0} → Told → Row P → Type 0
 TurnsRow told (row.Begun c t m) = TurnsBack told t
 TurnsRow told r = ⊤
 
@@ -357,11 +355,11 @@ FitsCall (tells.Heard a) s = ⊤
 -- Parts of a step
 
 -- where it stands of what a line's call answers
-abbrev pub heard_by : {P Q K : Type 0} → Clients P Q K → ℕ → CallOf
+abbrev pub heard_by : {P : Type 0} → Clients P → ℕ → CallOf
 heard_by s n = answered_at n (stand_at (stands_of (rows_of s)) n)
 
 -- each that ended in a part answered what is right of what stands there, and said then whether that is in doubt
-pub record EndsRight {P Q K : Type 0} (at : ℕ → CallOf) (t : Clients P Q K) (h : List Event) (before over : List Ending) : Type 0 where
+pub record EndsRight {P : Type 0} (at : ℕ → CallOf) (t : Clients P) (h : List Event) (before over : List Ending) : Type 0 where
   pub more : List Ending
   pub ended : over ≡ before ++ more
   pub each : All (λ (e : Ending). HoldsAt (rows_of t) h (at e.line).at e.outcome) more
@@ -369,7 +367,7 @@ pub record EndsRight {P Q K : Type 0} (at : ℕ → CallOf) (t : Clients P Q K) 
 
 -- A part of a step leads on from the history before it: behind that are what was heard, of which a run shows so much, and what was
 -- posted then. The clients can have arisen from the whole.
-pub record Leads {P Q K A B D : Type 0} (w : Ways P Q K A B D) (askers : Ticket → List ℕ) (rest : List Answered) (from to : List Posting) (ended over : List Ending) (at : ℕ → CallOf) (s t : Clients P Q K) (shown h : List Event) (Then : List Event → Type 0) : Type 0 where
+pub record Leads {P : Type 0} (w : Ways P) (askers : Ticket → List ℕ) (rest : List Answered) (from to : List Posting) (ended over : List Ending) (at : ℕ → CallOf) (s t : Clients P) (shown h : List Event) (Then : List Event → Type 0) : Type 0 where
   pub later : List Event
   pub more : List Posting
   pub posted : to ≡ from ++ more
@@ -385,7 +383,7 @@ abbrev pub Anyhow : List Event → Type 0
 Anyhow h = ⊤
 
 -- The next group of a client may go out in it, with lines of its own.
-abbrev pub LeadsWith : {P Q K A B D : Type 0} → Ways P Q K A B D → List Posting → List Posting → List Ending → List Ending → (ℕ → CallOf) → Clients P Q K → Clients P Q K → List Event → List Event → Type 0
+abbrev pub LeadsWith : {P : Type 0} → Ways P → List Posting → List Posting → List Ending → List Ending → (ℕ → CallOf) → Clients P → Clients P → List Event → List Event → Type 0
 LeadsWith w from to ended over at s t shown h = (askers : Ticket → List ℕ) × Leads w askers [] from to ended over at s t shown h Anyhow
 
 -- What is handed on
@@ -405,7 +403,7 @@ askers_of line (Sleep n ms ∷ rest) = askers_of line rest
 askers_of line (Ask n ∷ rest) = record { line = line; beat = false; ask = n } ∷ askers_of line rest
 
 -- All errands are done but those that are left: each is posted or asked, in their order, and only the numbers of their line go on.
-pub record HandsAll {P Q K : Type 0} (line client : ℕ) (all left : List Errand) (from to : List Posting) (s t : Clients P Q K) : Type 0 where
+pub record HandsAll {P : Type 0} (line client : ℕ) (all left : List Errand) (from to : List Posting) (s t : Clients P) : Type 0 where
   pub done : List Errand
   pub all_are : all ≡ done ++ left
   pub posted : to ≡ from ++ postings_of line done
@@ -421,7 +419,7 @@ pub record GroupsNext (request : Option TsoRequest) (old new : Book) : Type 0 wh
   pub none : request ≡ None → new ≡ old
 
 -- and this is posted then, under the ticket that the client keeps
-pub record PostsGroup {P Q K : Type 0} (client : ℕ) (request : TsoRequest) (lines : List ℕ) (from to : List Posting) (t : Clients P Q K) : Type 0 where
+pub record PostsGroup {P : Type 0} (client : ℕ) (request : TsoRequest) (lines : List ℕ) (from to : List Posting) (t : Clients P) : Type 0 where
   pub ticket : Ticket
   pub kept : (book_at t client).ticket ≡ Some ticket
   pub posted : to ≡ from ++ postings.Send ticket Placement (Tso request) lines ∷ []
@@ -429,47 +427,47 @@ pub record PostsGroup {P Q K : Type 0} (client : ℕ) (request : TsoRequest) (li
 -- What the parts of a step make of each history
 
 -- what stands at a place was told of something, in the name of a line, and this is its answer
-abbrev pub LeadsPushed : {P Q K A B D : Type 0} → Ways P Q K A B D → Told → ℕ → ℕ → ℕ → Option (Answer P Q K) → List Posting → List Posting → List Ending → List Ending → Clients P Q K → Clients P Q K → Type 0
+abbrev pub LeadsPushed : {P : Type 0} → Ways P → Told → ℕ → ℕ → ℕ → Option (Answer P) → List Posting → List Posting → List Ending → List Ending → Clients P → Clients P → Type 0
 LeadsPushed w told line at client answer from to ended over s t =
     (askers : Ticket → List ℕ) (rest : List Answered) (h : List Event) (r : Request) → IsHeard (stands_of (rows_of s)) line at client → CanCome told (outbox_of line) r h → Arisen w s askers (pends_answer line told rest) h
     → Leads w askers rest from to ended over (heard_by s) s t (seen ((told_of told (outbox_of line) r).hear h)) h (AnswerArises w (TurnsRow told (row_at (rows_of t) at)) askers line (row_at (rows_of t) at) answer)
 
 -- and the call of the line may have ended
-abbrev pub LeadsTold : {P Q K A B D : Type 0} → Ways P Q K A B D → Told → ℕ → ℕ → List Posting → List Posting → List Ending → List Ending → Clients P Q K → Clients P Q K → Type 0
+abbrev pub LeadsTold : {P : Type 0} → Ways P → Told → ℕ → ℕ → List Posting → List Posting → List Ending → List Ending → Clients P → Clients P → Type 0
 LeadsTold w told line client from to ended over s t =
     (askers : Ticket → List ℕ) (rest : List Answered) (h : List Event) (r : Request) → FitsCall told (stand_at (stands_of (rows_of s)) line) → client_at (stand_at (stands_of (rows_of s)) line) ≡ Some client → CanCome told (outbox_of line) r h → Arisen w s askers (pends_answer line told rest) h
     → Leads w askers rest from to ended over (heard_by s) s t (seen ((told_of told (outbox_of line) r).hear h)) h Anyhow
 
 -- a call ended with an answer that has arisen so
-abbrev pub LeadsEnded : {P Q K A B D : Type 0} → Ways P Q K A B D → ((Ticket → List ℕ) → List Event → Type 0) → List Posting → List Posting → List Ending → List Ending → Clients P Q K → Clients P Q K → Type 0
+abbrev pub LeadsEnded : {P : Type 0} → Ways P → ((Ticket → List ℕ) → List Event → Type 0) → List Posting → List Posting → List Ending → List Ending → Clients P → Clients P → Type 0
 LeadsEnded w Came from to ended over s t =
     (askers : Ticket → List ℕ) (rest : List Answered) (h : List Event) → Came askers h → Arisen w s askers rest h → Leads w askers rest from to ended over (heard_by s) s t (seen h) h Anyhow
 
 -- an answer of the call of a line, to a transaction that stands elsewhere
-abbrev pub CallCame : {P Q K A B D : Type 0} → Ways P Q K A B D → Clients P Q K → ℕ → Option (Answer P Q K) → (Ticket → List ℕ) → List Event → Type 0
+abbrev pub CallCame : {P : Type 0} → Ways P → Clients P → ℕ → Option (Answer P) → (Ticket → List ℕ) → List Event → Type 0
 CallCame w s line answer askers h = (c x : ℕ) (b : Bool) → stand_at (stands_of (rows_of s)) line ≡ Calling c x b → AnswerArises w (b ≡ false) askers line (row_at (rows_of s) (x - 1)) answer h
 
 -- those of a group are told these answers
-abbrev pub LeadsGiven : {P Q K A B D : Type 0} → Ways P Q K A B D → List Answered → List Posting → List Posting → List Ending → List Ending → Clients P Q K → Clients P Q K → Type 0
+abbrev pub LeadsGiven : {P : Type 0} → Ways P → List Answered → List Posting → List Posting → List Ending → List Ending → Clients P → Clients P → Type 0
 LeadsGiven w given from to ended over s t =
     (askers : Ticket → List ℕ) (h : List Event) → Arisen w s askers given h → Leads w askers [] from to ended over (heard_by s) s t (seen h) h Anyhow
 
 -- this came of the request for timestamps of a client
-abbrev pub LeadsGroup : {P Q K A B D : Type 0} → Ways P Q K A B D → ℕ → (Ticket → Request → Event) → List Posting → List Posting → List Ending → List Ending → Clients P Q K → Clients P Q K → Type 0
+abbrev pub LeadsGroup : {P : Type 0} → Ways P → ℕ → (Ticket → Request → Event) → List Posting → List Posting → List Ending → List Ending → Clients P → Clients P → Type 0
 LeadsGroup w client event from to ended over s t =
     (askers : Ticket → List ℕ) (h : List Event) (u : Ticket) (r : Request) → (book_at s client).ticket ≡ Some u → IsPossible h (event u r) → Arisen w s askers [] h → Leads w askers [] from to ended over (heard_by s) s t (event u r ∷ seen h) h Anyhow
 
 -- the next group of a client may go out
-abbrev pub LeadsSent : {P Q K A B D : Type 0} → Ways P Q K A B D → List Posting → List Posting → List Ending → List Ending → (ℕ → CallOf) → Clients P Q K → Clients P Q K → Type 0
+abbrev pub LeadsSent : {P : Type 0} → Ways P → List Posting → List Posting → List Ending → List Ending → (ℕ → CallOf) → Clients P → Clients P → Type 0
 LeadsSent w from to ended over at s t = (askers : Ticket → List ℕ) (h : List Event) → Arisen w s askers [] h → LeadsWith w from to ended over at s t (seen h) h
 
 -- Whole steps
 
-abbrev pub StepsTold : {P Q K A B D : Type 0} → Ways P Q K A B D → Told → ℕ → ℕ → List Posting → List Ending → Clients P Q K → Clients P Q K → Type 0
+abbrev pub StepsTold : {P : Type 0} → Ways P → Told → ℕ → ℕ → List Posting → List Ending → Clients P → Clients P → Type 0
 StepsTold w told line client posted ended s t =
     (askers : Ticket → List ℕ) (h : List Event) (r : Request) → FitsCall told (stand_at (stands_of (rows_of s)) line) → client_at (stand_at (stands_of (rows_of s)) line) ≡ Some client → CanCome told (outbox_of line) r h → Arisen w s askers (pends_answer line told []) h
     → LeadsWith w [] posted [] ended (heard_by s) s t (seen ((told_of told (outbox_of line) r).hear h)) h
 
-abbrev pub StepsGroup : {P Q K A B D : Type 0} → Ways P Q K A B D → ℕ → (Ticket → Request → Event) → List Posting → List Ending → Clients P Q K → Clients P Q K → Type 0
+abbrev pub StepsGroup : {P : Type 0} → Ways P → ℕ → (Ticket → Request → Event) → List Posting → List Ending → Clients P → Clients P → Type 0
 StepsGroup w client event posted ended s t =
     (askers : Ticket → List ℕ) (h : List Event) (u : Ticket) (r : Request) → (book_at s client).ticket ≡ Some u → IsPossible h (event u r) → Arisen w s askers [] h → LeadsWith w [] posted [] ended (heard_by s) s t (event u r ∷ seen h) h

@@ -15,7 +15,7 @@ use Rattle.txn_history.specs.Meaning.{IsLawful}
 use Rattle.txn_history.specs.Plan.{Plan}
 use Rattle.txn_history.specs.Posted.{Within-one}
 use Rattle.txn_law.specs.Run.{IsCovered, IsPossible, IsUnused}
-use Rattle.txn_commit.specs.Committing.{Ways}
+use Rattle.txn_commit.specs.Ways.{Ways}
 use Rattle.txn_side.specs.Doubt.{itself}
 use Rattle.txn_side.specs.Arising.{Arises, IsBeat}
 use Rattle.txn_trace.specs.Posting.{IsFreshFor}
@@ -61,12 +61,12 @@ fresh_beating n next ask t r h beat f = fresh_on n false next ask (Sent t r) h
 
 -- The whole
 
-module _ {P Q K A B D : Type 0} (w : Ways P Q K A B D) where
-  arisen_beating : (s : Clients P Q K) (askers : Ticket → List ℕ) (rest : List Answer) (h : List Event) (t : Ticket) (r : Request) → IsLawful w.prewriting → IsLawful w.committing → IsLawful w.rolling → t.beat ≡ true → IsBeat r → IsUnused h t
+module _ {P : Type 0} (w : Ways P) where
+  arisen_beating : (s : Clients P) (askers : Ticket → List ℕ) (rest : List Answer) (h : List Event) (t : Ticket) (r : Request) → IsLawful w.plan → t.beat ≡ true → IsBeat r → IsUnused h t
       → Arisen w s askers rest h → Arisen w s askers rest (Sent t r ∷ h)
-  arisen_beating s askers rest h t r p q k beat beats unused a = record {
+  arisen_beating s askers rest h t r p beat beats unused a = record {
     run = λ plans have. (unused, beat_allowed plans h r beats, a.run plans have);
-    rows = λ i. row_stays w p q k (rows_of s) _ _ h (Sent t r ∷ h) (row_at (rows_of s) i) (IsLater-refl _) adds (a.rows i);
+    rows = λ i. row_stays w p (rows_of s) _ _ h (Sent t r ∷ h) (row_at (rows_of s) i) (IsLater-refl _) adds (a.rows i);
     oracles = λ c. fits_more _ _ h (Sent t r) (a.oracles c);
     fresh = λ n. fresh_beating n _ _ t r h beat (a.fresh n);
     draws = draws_grow s askers rest h (Sent t r ∷ h) (Within-one (Sent t r) h) a.draws;
@@ -83,10 +83,10 @@ module _ {P Q K A B D : Type 0} (w : Ways P Q K A B D) where
       locks_nothing u x same = subst IsBeat (sent_request t u r (requests.PessimisticLock x) same) beats
 
   -- A heartbeat sends this with a ticket of its own.
-  pub arises_when_beating : (s : Clients P Q K) (h : List Event) (t : Ticket) (r : Request) → t.beat ≡ true → IsBeat r → IsPossible h (Sent t r) → ArisenFrom w s h
+  pub arises_when_beating : (s : Clients P) (h : List Event) (t : Ticket) (r : Request) → t.beat ≡ true → IsBeat r → IsPossible h (Sent t r) → ArisenFrom w s h
       → Arises (ArisenFrom w s) (λ h x o. HoldsAt (rows_of s) h x o) (λ x o. HoldsAt (rows_of s) h x o) itself (Sent t r ∷ h) []
   arises_when_beating s h t r beat beats may (laws, askers, g, shows, a) = record {
-    now = (laws, askers, Sent t r ∷ g, ap (λ x. Sent t r ∷ x) shows, arisen_beating s askers [] g t r laws.prewriting laws.committing laws.rolling beat beats unused a);
+    now = (laws, askers, Sent t r ∷ g, ap (λ x. Sent t r ∷ x) shows, arisen_beating s askers [] g t r laws.lawful beat beats unused a);
     kept = λ x o. right_same (rows_of s) x o h (Sent t r ∷ h) (λ y i. inr i);
     answers = All-nil _;
     doubts = All-nil _;

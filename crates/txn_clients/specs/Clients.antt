@@ -2,7 +2,7 @@
 use Rattle.std.specs.Prelude.{◌≡◌, ◌<◌, ◌-◌, ⊤, ℕ, Bool, true, List, [], length, map, Option, Some, None, slice_index_or}
 use Rattle.std.specs.List.{All}
 use Rattle.std.proofs.Common.{suc}
-use Rattle.txn_commit.specs.Committing.{Ways}
+use Rattle.txn_commit.specs.Ways.{Ways}
 use Rattle.txn_kv.specs.declared.reply.Reply.{Reply}
 use Rattle.txn_kv.specs.declared.ticket.Ticket.{Ticket}
 use Rattle.txn_side.specs.Sight.{Group, IsGiven, Nexts, Sight, Stand, is_live, stand_at}
@@ -16,26 +16,26 @@ use Rattle.txn_clients.specs.declared.clients.Clients.{Clients}
 use Rattle.txn_clients.specs.declared.row.Row.{Row}
 use Rattle.txn_clients.specs.declared.row.Row.TheVariants.{Plain}
 
-abbrev pub rows_of : {P Q K : Type 0} → Clients P Q K → List (Row P Q K)
+abbrev pub rows_of : {P : Type 0} → Clients P → List (Row P)
 rows_of s = map (λ p. p.row) s.places.items
 
-abbrev pub row_at : {P Q K : Type 0} → List (Row P Q K) → ℕ → Row P Q K
+abbrev pub row_at : {P : Type 0} → List (Row P) → ℕ → Row P
 row_at rows at = slice_index_or rows at Plain
 
-abbrev pub stands_of : {P Q K : Type 0} → List (Row P Q K) → List Stand
+abbrev pub stands_of : {P : Type 0} → List (Row P) → List Stand
 stands_of rows = map stand_of rows
 
-abbrev pub crashed_of : {P Q K : Type 0} → Clients P Q K → List Bool
+abbrev pub crashed_of : {P : Type 0} → Clients P → List Bool
 crashed_of s = map (λ c. c.crashed) s.clients.items
 
-abbrev pub groups_of : {P Q K : Type 0} → Clients P Q K → List (Option Group)
+abbrev pub groups_of : {P : Type 0} → Clients P → List (Option Group)
 groups_of s = map group_of s.clients.items
 
 -- the lines whose asks the oracle of a client has sent
-abbrev pub asks_at : {P Q K : Type 0} → Clients P Q K → ℕ → List ℕ
+abbrev pub asks_at : {P : Type 0} → Clients P → ℕ → List ℕ
 asks_at s client = slice_index_or (map lines_out s.clients.items) client []
 
-abbrev pub nexts_of : {P Q K : Type 0} → Clients P Q K → List ℕ
+abbrev pub nexts_of : {P : Type 0} → Clients P → List ℕ
 nexts_of s = map (λ p. p.next) s.places.items
 
 -- no line has a heartbeat
@@ -46,11 +46,11 @@ unbeaten nexts = map (λ n. 1) nexts
 abbrev pub of_calls : List ℕ → Nexts
 of_calls nexts = record { calls = nexts; beats = unbeaten nexts }
 
-abbrev pub sight_of : {P Q K : Type 0} → Clients P Q K → Sight
+abbrev pub sight_of : {P : Type 0} → Clients P → Sight
 sight_of s = record { crashed = crashed_of s; groups = groups_of s; stands = stands_of (rows_of s); nexts = of_calls (nexts_of s) }
 
 -- each row may be called, and each transaction that waits has a call that does
-pub record AreReady {P Q K A B D : Type 0} (w : Ways P Q K A B D) (rows : List (Row P Q K)) : Type 0 where
+pub record AreReady {P : Type 0} (w : Ways P) (rows : List (Row P)) : Type 0 where
   pub each : All (RowReady w) rows
   pub matched : AreMatched (stands_of rows)
 
@@ -74,7 +74,7 @@ pub record Listens (s : Sight) (line at client : ℕ) : Type 0 where
   pub hears : HearsFor s.stands line at (stand_at s.stands line)
 
 -- the call of a line may end: its transaction, if it has one, waits for it, and has no call open
-abbrev pub MayEnd : {P Q K : Type 0} → List (Row P Q K) → ℕ → Stand → Type 0
+abbrev pub MayEnd : {P : Type 0} → List (Row P) → ℕ → Stand → Type 0
 MayEnd rows line (Calling c x b) = (d : ℕ) × (stand_at (stands_of rows) x ≡ HasBegun d line) × Rests (row_at rows (x - 1))
 MayEnd rows line _ = ⊤
 

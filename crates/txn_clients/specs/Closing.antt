@@ -25,7 +25,7 @@ abbrev pub ends_so : ℕ → Outcome → List Ending
 ends_so line o = record { line = line; outcome = o } ∷ []
 
 -- the call of a transaction ends by its answer
-abbrev pub EndsCall : {Q : Type 0} → ℕ → Stand → Result (TxnAnswer Q) Error → List Ending → List Ending → Type 0
+abbrev pub EndsCall : {P : Type 0} → ℕ → Stand → Result (TxnAnswer P) Error → List Ending → List Ending → Type 0
 EndsCall line (Calling c x commits) answer from to = to ≡ from ++ ends_so line (outcome_by commits answer)
 EndsCall line _ answer from to = ⊤
 
@@ -34,46 +34,46 @@ abbrev pub EndsOwn : ℕ → List Ending → List Ending → Type 0
 EndsOwn line from to = (more : List Ending) × (to ≡ from ++ more) × EndsAlone line more
 
 -- and whatever stands at a line ends by its answer, if it has one
-abbrev pub EndsBy : {P Q K : Type 0} → ℕ → Stand → Option (Answer P Q K) → List Ending → List Ending → Type 0
+abbrev pub EndsBy : {P : Type 0} → ℕ → Stand → Option (Answer P) → List Ending → List Ending → Type 0
 EndsBy line stand None from to = to ≡ from
 EndsBy line stand (Some (answers.Asked v)) from to = EndsOwn line from to
 EndsBy line stand (Some (answers.Called v)) from to = EndsCall line stand v from to
 
 -- The status of a transaction once its call has answered later than in its own line.
-abbrev pub status_by : {Q : Type 0} → Bool → Result (TxnAnswer Q) Error → Status
+abbrev pub status_by : {P : Type 0} → Bool → Result (TxnAnswer P) Error → Status
 status_by true (Ok (answer.Committed t job)) = Committed
 status_by true _ = StartedCommit
 status_by false (Ok answer.Unit) = Rolledback
 status_by false _ = StartedRollback
 
 -- and how far it has come
-abbrev pub stage_after : {Q : Type 0} → Bool → Result (TxnAnswer Q) Error → Stage
+abbrev pub stage_after : {P : Type 0} → Bool → Result (TxnAnswer P) Error → Stage
 stage_after true v = committed_by true (outcome_by true v)
 stage_after false (Ok answer.Unit) = Stage.RolledBack
 stage_after false _ = Stage.StartedRollback
 
 -- a transaction that stands there has come so far
-abbrev pub StandsAt : {P Q K : Type 0} → Stage → Row P Q K → Type 0
+abbrev pub StandsAt : {P : Type 0} → Stage → Row P → Type 0
 StandsAt stage (row.Begun d t m) = stage_of t ≡ stage
 StandsAt stage r = ⊤
 
 -- it has come as far as the answer of its call says
-abbrev pub HasComeTo : {P Q K : Type 0} → Stand → Result (TxnAnswer Q) Error → Row P Q K → Type 0
+abbrev pub HasComeTo : {P : Type 0} → Stand → Result (TxnAnswer P) Error → Row P → Type 0
 HasComeTo (Calling c x commits) v r = StandsAt (stage_after commits v) r
 HasComeTo stand v r = ⊤
 
 -- a transaction that answers later comes as far as its line's outcome says
-abbrev pub ComesTo : {Q : Type 0} → Stand → Result (TxnAnswer Q) Error → Account → Account → Type 0
+abbrev pub ComesTo : {P : Type 0} → Stand → Result (TxnAnswer P) Error → Account → Account → Type 0
 ComesTo (Calling c x commits) v old new = new ≡ closed_by commits (outcome_by commits v) old
 ComesTo stand v old new = ⊤
 
-abbrev pub Closes : {P Q K : Type 0} → Told → Stand → Option (Answer P Q K) → Row P Q K → Account → Type 0
+abbrev pub Closes : {P : Type 0} → Told → Stand → Option (Answer P) → Row P → Account → Type 0
 Closes (tells.Heard a) stand (Some (answers.Called v)) (row.Begun c t m) new = ComesTo stand v (account_of t) new
 Closes told stand answer r new = ⊤
 
 -- What waits for a line was told of something, and the call of the line may have ended.
-pub record GoesTold {P Q K : Type 0} (told : Told) (line at : ℕ) (stand : Stand) (old new : List (Row P Q K)) (from to : List Ending) : Type 0 where
-  pub answer : Option (Answer P Q K)
+pub record GoesTold {P : Type 0} (told : Told) (line at : ℕ) (stand : Stand) (old new : List (Row P)) (from to : List Ending) : Type 0 where
+  pub answer : Option (Answer P)
   pub accounts : AccountsTold told at answer old new
   pub answers : AnswersTold told (slice_index_or old at row.Plain) answer
   pub kind : IfSome answer (IsAnswerOf (stand_of (slice_index_or old at row.Plain)))
@@ -81,7 +81,7 @@ pub record GoesTold {P Q K : Type 0} (told : Told) (line at : ℕ) (stand : Stan
   pub closes : Closes told stand answer (slice_index_or old at row.Plain) (account_at new (suc at))
 
 -- calls ended in this part, and with each its transaction came further
-pub record ClosesIn {P Q K : Type 0} (s : Sight) (old new : List (Row P Q K)) (from to : List Ending) : Type 0 where
+pub record ClosesIn {P : Type 0} (s : Sight) (old new : List (Row P)) (from to : List Ending) : Type 0 where
   pub more : List Ending
   pub ended : to ≡ from ++ more
   pub closed : AreClosed s more (account_at old) (account_at new)

@@ -7,7 +7,7 @@ use Rattle.std.proofs.lemmas.List.Elements.{All-head, All-tail}
 use Rattle.txn_history.specs.Meaning.{IsLawful}
 use Rattle.txn_history.specs.Phase.{Awaited}
 use Rattle.txn_history.specs.Phase.Awaited.{ReplyTo, EndOf, TimeOf}
-use Rattle.txn_commit.specs.Committing.{Ways}
+use Rattle.txn_commit.specs.Ways.{Ways}
 use Rattle.txn_core.proofs.Waiting.{busy_runs, standing_waits}
 use Rattle.txn_client.specs.Calls.{called-lawful}
 use Rattle.txn_side.specs.Sight.{Stand, client_at, lives, nobody, stand_at}
@@ -53,15 +53,15 @@ begun_for (Calling c x b) = 0
 begun_for (Past c) = 0
 begun_for (Working c) = 0
 
-module _ {P Q K : Type 0} where
-  stand_there : (rows : List (Row P Q K)) (i : ℕ) → slice_index_or (map stand_of rows) i Idle ≡ stand_of (slice_index_or rows i row.Plain)
+module _ {P : Type 0} where
+  stand_there : (rows : List (Row P)) (i : ℕ) → slice_index_or (map stand_of rows) i Idle ≡ stand_of (slice_index_or rows i row.Plain)
   stand_there [] i = refl
   stand_there (r ∷ rs) zero = refl
   stand_there (r ∷ rs) (suc i) = stand_there rs i
 
-  module _ {A B D : Type 0} (w : Ways P Q K A B D) where
+  module _ (w : Ways P) where
     -- what stands nowhere waits for nothing
-    idle_silent : (r : Row P Q K) (a : Awaited) → stand_of r ≡ Idle → wants w r a → ⊥
+    idle_silent : (r : Row P) (a : Awaited) → stand_of r ≡ Idle → wants w r a → ⊥
     idle_silent row.Plain a e x = x
     idle_silent (row.Client c) a e x = x
     idle_silent (row.Asking c b call) a e x = absurd (never e)
@@ -76,12 +76,12 @@ module _ {P Q K : Type 0} where
     idle_silent (row.Past c) a e x = x
     idle_silent (row.Working c job) a e x = x
 
-    pub nobody_waits_so : (s : Clients P Q K) → sight_of s ≡ nobody → NoneWaits (waits_of w s)
+    pub nobody_waits_so : (s : Clients P) → sight_of s ≡ nobody → NoneWaits (waits_of w s)
     nobody_waits_so s e n a (i, v, x) = idle_silent (row_at (rows_of s) i) _ (sym (stand_there (rows_of s) i) ∙ ap (λ t. slice_index_or t.stands i Idle) e) x
 
-    module _ (p : IsLawful w.prewriting) (q : IsLawful w.committing) (k : IsLawful w.rolling) where
+    module _ (p : IsLawful w.plan) where
       -- what waits for something waits for it, or for its client's request
-      waits_so : (s : Clients P Q K) (n c : ℕ) → IsReady w s → client_at (stand_at (stands_of (rows_of s)) n) ≡ Some c → lives (sight_of s).crashed (Some c) ≡ true → (a : Awaited) → Wants w (rows_of s) n a
+      waits_so : (s : Clients P) (n c : ℕ) → IsReady w s → client_at (stand_at (stands_of (rows_of s)) n) ≡ Some c → lives (sight_of s).crashed (Some c) ≡ true → (a : Awaited) → Wants w (rows_of s) n a
           → ((x : side.Awaited) × waits_of w s n x) ⊎ HasGroup (sight_of s) c
       waits_so s n c ready own live (ReplyTo m) x = inl (SideReply m, x)
       waits_so s n c ready own live (EndOf m) x = inl (SideEnd m, x)
@@ -99,24 +99,24 @@ module _ {P Q K : Type 0} where
             own = let o = ready.sound.owned c t e in o.own;
           }
 
-      pub due_so : (s : Clients P Q K) → IsReady w s → IsDue (waits_of w s) (sight_of s)
+      pub due_so : (s : Clients P) → IsReady w s → IsDue (waits_of w s) (sight_of s)
       due_so s ready zero c e live = absurd (never e)
         where
           never : None ≡ Some c → ⊥
           never q = cc
       due_so s ready (suc i) c e live = by (row_at rows i) refl (sym (ap waiting_at (stand_there rows i)) ∙ e)
         where
-          rows : List (Row P Q K)
+          rows : List (Row P)
           rows = rows_of s
 
           stands : List Stand
           stands = stands_of rows
 
-          at : (r : Row P Q K) → row_at rows i ≡ r → stand_at stands (suc i) ≡ stand_of r
+          at : (r : Row P) → row_at rows i ≡ r → stand_at stands (suc i) ≡ stand_of r
           at r f = stand_there rows i ∙ ap stand_of f
 
           -- a transaction that waits for the line waits for something
-          called : (d j : ℕ) (r : Row P Q K) → row_at rows j ≡ r → stand_of r ≡ HasBegun d (suc i) → (a : Awaited) × Wants w rows (suc i) a
+          called : (d j : ℕ) (r : Row P) → row_at rows j ≡ r → stand_of r ≡ HasBegun d (suc i) → (a : Awaited) × Wants w rows (suc i) a
           called d j row.Plain f g = absurd (cc)
           called d j (row.Client x) f g = absurd (cc)
           called d j (row.Asking x b call) f g = absurd (cc)
@@ -124,7 +124,7 @@ module _ {P Q K : Type 0} where
               let arisen = subst (λ r. RowArises w None (suc j) (posted_at (nexts_of s) (asks_of s) (voice_at rows j)) (nexts_of s) r) f (ready.sound.arisen j) in
               let opens : RowRuns (row.Begun x t m) = subst RowRuns f (ready.running j) in
               let may = subst (RowReady w) f (all_at (RowReady w) rows row.Plain ready.rows.each tt j) in
-              let some = standing_waits w p q k t _ arisen.arisen.history arisen.arisen.fits (busy_runs w t may.0 (opens (λ z. zero_not (sym (ap begun_for g) ∙ z)))) in
+              let some = standing_waits w p t _ arisen.arisen.history arisen.arisen.fits (busy_runs w t may.0 (opens (λ z. zero_not (sym (ap begun_for g) ∙ z)))) in
               (some.0, (j, ap (λ r. voice j (stand_of r)) f ∙ ap begun_for g, subst (λ r. wants w r some.0) (sym f) some.1))
             where
               zero_not : suc i ≡ 0 → ⊥
@@ -137,7 +137,7 @@ module _ {P Q K : Type 0} where
           calls d zero f = absurd (cc)
           calls d (suc j) f = called d j (row_at rows j) refl (sym (stand_there rows j) ∙ f)
 
-          by : (r : Row P Q K) → row_at rows i ≡ r → waiting_at (stand_of r) ≡ Some c → ((x : side.Awaited) × waits_of w s (suc i) x) ⊎ HasGroup (sight_of s) c
+          by : (r : Row P) → row_at rows i ≡ r → waiting_at (stand_of r) ≡ Some c → ((x : side.Awaited) × waits_of w s (suc i) x) ⊎ HasGroup (sight_of s) c
           by row.Plain f g = absurd (cc)
           by (row.Client d) f g = absurd (cc)
           by (row.Asking d b call) f g =
@@ -152,5 +152,5 @@ module _ {P Q K : Type 0} where
           by (row.Past d) f g = absurd (cc)
           by (row.Working d job) f g = absurd (cc)
 
-    pub due_when_ready : (s : Clients P Q K) → IsReady w s → IsDue (waits_of w s) (sight_of s)
-    due_when_ready s ready = due_so ready.prewriting ready.committing ready.rolling s ready
+    pub due_when_ready : (s : Clients P) → IsReady w s → IsDue (waits_of w s) (sight_of s)
+    due_when_ready s ready = due_so ready.lawful s ready

@@ -14,12 +14,12 @@ use Rattle.txn_clients.specs.declared.row.Row.{Row}
 use Rattle.txn_clients.specs.declared.row.Row.TheVariants as row
 
 -- where it was for a timestamp, a transaction that begins, or nothing; and this is its outcome
-abbrev pub AskLeaves : {P Q K : Type 0} → ℕ → Result (ClientAnswer Pd P Q K) Error → Row P Q K → Outcome → Type 0
+abbrev pub AskLeaves : {P : Type 0} → ℕ → Result (ClientAnswer Pd P) Error → Row P → Outcome → Type 0
 AskLeaves client (Ok (Begun b)) r o = (r ≡ row.Begun client b 0) × (o ≡ outcomes.Ok (payloads.Number (version_of b.start)))
 AskLeaves client (Ok (Time t)) r o = (r ≡ row.Past client) × (o ≡ outcomes.Ok (payloads.Number (version_of t)))
 AskLeaves client (Err e) r o = (r ≡ row.Past client) × (o ≡ outcomes.Err e)
 
 -- where it was of a transaction, the job that it hands out, or nothing
-abbrev pub CallLeaves : {P Q K : Type 0} → ℕ → Result (TxnAnswer Q) Error → Row P Q K → Type 0
+abbrev pub CallLeaves : {P : Type 0} → ℕ → Result (TxnAnswer P) Error → Row P → Type 0
 CallLeaves client (Ok (answer.Committed t (Some job))) r = r ≡ row.Working client job
 CallLeaves client v r = r ≡ row.Past client

@@ -1,5 +1,5 @@
 -- How calls fail, by what they had heard, and what a trace shows of that. Where there is no trace nothing is asked of it.
-use Rattle.std.specs.Prelude.{IfSome, ◌≡◌, ◌⊎◌, ⊤, ℕ, Bool, true, false, List, [], ◌∷◌, ◌++◌, length, Option, Some, None, Result, Ok, Err}
+use Rattle.std.specs.Prelude.{IfSome, ◌≡◌, ◌⊎◌, ⊤, ℕ, Bool, false, List, [], ◌∷◌, ◌++◌, length, Option, Some, None, Result, Ok, Err}
 use Rattle.std.specs.List.{All}
 use Rattle.txn_kv.specs.ErrorView.{view_of}
 use Rattle.txn_kv.specs.ErrorView.ErrorView.{undetermined as not_known}
@@ -24,7 +24,7 @@ use Rattle.txn_merge.specs.declared.retry_options.RetryOptions.{RetryOptions}
 use Rattle.txn_kv.specs.declared.arrival.Arrival.{Arrival}
 use Rattle.txn_kv.specs.declared.arrival.Arrival.TheVariants as arrivals
 use Rattle.txn_buffer.specs.Contents.{Contents}
-use Rattle.txn_commit.specs.Committing.{Ways}
+use Rattle.txn_commit.specs.Ways.{Ways}
 use Rattle.txn_commit.specs.Following.{Commits, CommitsPrimary, KnowsCommits, PrimaryLost, undetermined}
 use Rattle.txn_commit.specs.Parts.{parts_of}
 use Rattle.txn_commit.specs.Sending.{plan_of}
@@ -38,7 +38,8 @@ use Rattle.txn_lines.specs.declared.act.Act.{Act}
 use Rattle.txn_lines.specs.declared.act.Act.TheVariants.{Rollback}
 use Rattle.txn_side.specs.Sight.{Group, Stand, stand_at}
 use Rattle.txn_side.specs.Sight.Stand.{Asking, Calling}
-use Rattle.txn_side.specs.Trace.{AreOwn, AreShown, EndsFor, HasRefused, HasRefusedBeside, IsBegunAs, IsCalled, IsLonger, IsRefusedNow, IsSentIn, IsShown, LastTold, Trace, and_refused, refused_as, refused_asks, untimed_by, untimed_of, with_posted}
+use Rattle.txn_side.specs.Trace.{AreOwn, AreShown, CallKind, EndsFor, HasRefused, HasRefusedBeside, IsBegunAs, IsCalled, IsLonger, IsRefusedNow, IsSentIn, IsShown, LastTold, Trace, and_refused, refused_as, refused_asks, untimed_by, untimed_of, with_posted}
+use Rattle.txn_side.specs.Trace.CallKind.{ForTimestamp, OfRollback, OfTransaction}
 use Rattle.txn_side.specs.declared.turn.Ending.{Ending}
 use Rattle.txn_side.specs.declared.turn.Posting.{Posting}
 use Rattle.txn_tso.specs.Oracle.{Answer as Answered}
@@ -72,7 +73,7 @@ abbrev pub AreRetriesOf : (BeginOptions → Type 0) → RetryOptions → Type 0
 AreRetriesOf begun retries = (options : BeginOptions) × begun options × (retries ≡ retries_of options)
 
 -- a commit or a rollback of it failed with this error
-pub record CallFailed {P Q K A B D : Type 0} (w : Ways P Q K A B D) (begun : BeginOptions → Type 0) (h : List Event) (e : Error) : Type 0 where
+pub record CallFailed {P : Type 0} (w : Ways P) (begun : BeginOptions → Type 0) (h : List Event) (e : Error) : Type 0 where
   pub transaction : KnownTransaction h
   pub retries : AreRetriesOf begun transaction.retry_options
   pub fails : FailsWith w transaction.retry_options (version_of transaction.start) transaction.parts (undetermined transaction.commits) h e
@@ -85,14 +86,15 @@ pub record CallRefused (h : List Event) (e : Error) : Type 0 where
   pub lost : PrimaryLost (plan_of transaction.parts) (version_of transaction.start) h ticket
   pub error : view_of e ≡ not_known (view_of (GrpcAPI ticket))
 
--- how a call may fail, or a rollback alone; any call also where there was no timestamp
-abbrev pub HasFailedFor : {P Q K A B D : Type 0} → Ways P Q K A B D → Bool → (BeginOptions → Type 0) → List Event → Error → Type 0
-HasFailedFor w false begun h e = WasUntimed h e ⊎ CallFailed w begun h e
-HasFailedFor w true begun h e = CallRefused h e
+-- How a call of a kind may fail: one for a timestamp only where there was none.
+abbrev pub HasFailedFor : {P : Type 0} → Ways P → CallKind → (BeginOptions → Type 0) → List Event → Error → Type 0
+HasFailedFor w ForTimestamp begun h e = WasUntimed h e
+HasFailedFor w OfTransaction begun h e = CallFailed w begun h e
+HasFailedFor w OfRollback begun h e = CallRefused h e
 
 -- With what a line fails: an error that holds want of memory is told to no line.
-pub record FailsFor {P Q K A B D : Type 0} (w : Ways P Q K A B D) (rolls : Bool) (begun : BeginOptions → Type 0) (h : List Event) (e : Error) : Type 0 where
-  pub why : HasFailedFor w rolls begun h e
+pub record FailsFor {P : Type 0} (w : Ways P) (kind : CallKind) (begun : BeginOptions → Type 0) (h : List Event) (e : Error) : Type 0 where
+  pub why : HasFailedFor w kind begun h e
   pub fed : wants_memory (view_of e) ≡ false
 
 abbrev pub IfFails : {X : Type 0} → (Error → Type 0) → Result X Error → Type 0
@@ -139,7 +141,7 @@ LostIn None at plan s u = ⊤
 LostIn (Some t) at plan s u = (r : CommitRequest) × IsShown t at (Lost u (Commit r)) × CommitsPrimary plan s r
 
 -- so was the one that the transaction marks as lost
-abbrev pub MarkedIn : {P Q K : Type 0} → Option Trace → ℕ → Standing P Q K → Type 0
+abbrev pub MarkedIn : {P : Type 0} → Option Trace → ℕ → Standing P → Type 0
 MarkedIn trace at t = (parts : CommitParts) → parts_of t.contents ≡ Some parts → (u : Ticket) → t.commits.lost ≡ Some u → LostIn trace at (plan_of parts) (version_of t.start) u
 
 -- this was posted in the step so far
@@ -204,14 +206,14 @@ abbrev pub KnowsAsk : Option Trace → ℕ → Act → Account → Type 0
 KnowsAsk trace line act account = RefusedIn trace line (refusal act account) × RollsBackIn trace line act
 
 -- a row may be told this for the line of an outbox
-abbrev pub MayKnow : {P Q K : Type 0} → Option Trace → Posted → Told → Row P Q K → Type 0
+abbrev pub MayKnow : {P : Type 0} → Option Trace → Posted → Told → Row P → Type 0
 MayKnow trace o tells.Start r = ⊤
 MayKnow trace o (tells.Act act) (row.Begun c t m) = KnowsAsk trace o.line act (account_of t)
 MayKnow trace o (tells.Act act) r = ⊤
 MayKnow trace o (tells.Heard a) r = CameIn trace o a
 
 -- what comes for the line is told to what stands there, if that has a history
-abbrev pub CalledFor : {P Q K : Type 0} → Option Trace → ℕ → ℕ → Row P Q K → Type 0
+abbrev pub CalledFor : {P : Type 0} → Option Trace → ℕ → ℕ → Row P → Type 0
 CalledFor trace line at (row.Asking c b call) = CalledIn trace line at
 CalledFor trace line at (row.Begun c t m) = CalledIn trace line at
 CalledFor trace line at r = ⊤
@@ -225,30 +227,30 @@ pub record HasMet (trace later : Option Trace) (from to : Posted) : Type 0 where
 -- What an error rests on
 
 -- a history that is shown as that of what stands there, where the line rolls back
-abbrev pub IsBarredAt : {P Q K A B D : Type 0} → Ways P Q K A B D → Trace → ℕ → ℕ → Error → Type 0
-IsBarredAt w t at line e = IsAmong t.rollbacks line × (known : List Event) × AreShown t at known × HasFailedFor w true (IsBegunAs t at) known e
+abbrev pub IsBarredAt : {P : Type 0} → Ways P → Trace → ℕ → ℕ → Error → Type 0
+IsBarredAt w t at line e = IsAmong t.rollbacks line × (known : List Event) × AreShown t at known × HasFailedFor w OfRollback (IsBegunAs t at) known e
 
--- or one that is the line's own, too; or it was a refusal
-abbrev pub FailsAt : {P Q K A B D : Type 0} → Ways P Q K A B D → Option Trace → ℕ → ℕ → Error → Type 0
-FailsAt w None at line e = ⊤
-FailsAt w (Some t) at line e = ((h : List Event) × AreShown t at h × AreOwn line h × HasRefused t line (refused_asks h) × (HasFailedFor w false (IsBegunAs t at) h e ⊎ IsBarredAt w t at line e)) ⊎ IsAmong t.refused (record { line = line; error = e })
+-- or one that is the line's own, too, after which a call of its kind may fail so; or it was a refusal
+abbrev pub FailsAt : {P : Type 0} → Ways P → CallKind → Option Trace → ℕ → ℕ → Error → Type 0
+FailsAt w kind None at line e = ⊤
+FailsAt w kind (Some t) at line e = ((h : List Event) × AreShown t at h × AreOwn line h × HasRefused t line (refused_asks h) × (HasFailedFor w kind (IsBegunAs t at) h e ⊎ IsBarredAt w t at line e)) ⊎ IsAmong t.refused (record { line = line; error = e })
 
 -- What a call for a timestamp answers: a transaction that begins has the options that its line tells of.
-abbrev pub AskRests : {P Q K A B D : Type 0} → Ways P Q K A B D → Option Trace → ℕ → ℕ → Result (ClientAnswer Pd P Q K) Error → Type 0
+abbrev pub AskRests : {P : Type 0} → Ways P → Option Trace → ℕ → ℕ → Result (ClientAnswer Pd P) Error → Type 0
 AskRests w trace at line (Ok (Begun b)) = RetriesIn trace at b.options.retry_options
 AskRests w trace at line (Ok (Time t)) = ⊤
-AskRests w trace at line (Err e) = FailsAt w trace at line e
+AskRests w trace at line (Err e) = FailsAt w ForTimestamp trace at line e
 
-abbrev pub AnswerRests : {P Q K A B D : Type 0} → Ways P Q K A B D → Option Trace → ℕ → ℕ → Answer P Q K → Type 0
+abbrev pub AnswerRests : {P : Type 0} → Ways P → Option Trace → ℕ → ℕ → Answer P → Type 0
 AnswerRests w trace at line (answers.Asked v) = AskRests w trace at line v
-AnswerRests w trace at line (answers.Called v) = IfFails (FailsAt w trace at line) v
+AnswerRests w trace at line (answers.Called v) = IfFails (FailsAt w OfTransaction trace at line) v
 
-abbrev pub HasReason : {P Q K A B D : Type 0} → Ways P Q K A B D → Option Trace → Ending → Type 0
+abbrev pub HasReason : {P : Type 0} → Ways P → Option Trace → Ending → Type 0
 HasReason w None ending = ⊤
 HasReason w (Some t) ending = EndsFor (FailsFor w) t ending
 
 -- calls ended in a part, and each that failed has its reason
-pub record EndsMore {P Q K A B D : Type 0} (w : Ways P Q K A B D) (trace : Option Trace) (from to : List Ending) : Type 0 where
+pub record EndsMore {P : Type 0} (w : Ways P) (trace : Option Trace) (from to : List Ending) : Type 0 where
   pub more : List Ending
   pub ended : to ≡ from ++ more
   pub each : All (HasReason w trace) more

@@ -14,6 +14,7 @@ pub mod Resting
 pub mod Want
 pub mod Arising
 pub mod Growing
+pub mod Turns
 pub mod Unmoved
 pub mod Beating
 pub mod Hearts

@@ -8,7 +8,7 @@ use Rattle.txn_history.specs.Event.{Event}
 use Rattle.txn_history.specs.Event.Event.{Lost}
 use Rattle.txn_history.specs.Plan.{Plan}
 use Rattle.txn_history.specs.Posted.{Posted}
-use Rattle.txn_commit.specs.Committing.{Ways}
+use Rattle.txn_commit.specs.Ways.{Ways}
 use Rattle.txn_commit.specs.Sending.{plan_of}
 use Rattle.txn_core.specs.Transaction.{Standing}
 use Rattle.txn_side.specs.Sight.{Sight, Stand, client_at, nobody, stand_at}
@@ -28,7 +28,7 @@ use Rattle.txn_client.specs.declared.client_call.ClientCall.{ClientCall}
 use Rattle.txn_merge.specs.declared.retry_options.RetryOptions.{RetryOptions}
 
 -- between steps the calls rest on what a trace has, and on nothing that is yet to come
-abbrev pub RestsIn : {P Q K A B D : Type 0} → Ways P Q K A B D → Clients P Q K → Trace → Type 0
+abbrev pub RestsIn : {P : Type 0} → Ways P → Clients P → Trace → Type 0
 RestsIn w s t = IsSound w (Some t) [] s
 
 -- lemmas
@@ -58,10 +58,10 @@ lost_longer None (Some v) at plan s u l k = absurd l
 lost_longer (Some t) None at plan s u l k = absurd l
 lost_longer (Some t) (Some v) at plan s u l k = (k.0, event_longer t v l.0 at (Lost u (Commit k.0)) k.1, k.2)
 
-pub marked_longer : {P Q K : Type 0} (trace longer : Option Trace) (at : ℕ) (t : Standing P Q K) → LongerIn trace longer → MarkedIn trace at t → MarkedIn longer at t
+pub marked_longer : {P : Type 0} (trace longer : Option Trace) (at : ℕ) (t : Standing P) → LongerIn trace longer → MarkedIn trace at t → MarkedIn longer at t
 marked_longer trace longer at t l m parts whole u e = lost_longer trace longer at (plan_of parts) (version_of t.start) u l (m parts whole u e)
 
-pub wanted_longer : {P Q K : Type 0} (trace longer : Option Trace) (at : ℕ) (call : ClientCall Pd P Q K) → LongerIn trace longer → WantedIn trace at call → WantedIn longer at call
+pub wanted_longer : {P : Type 0} (trace longer : Option Trace) (at : ℕ) (call : ClientCall Pd P) → LongerIn trace longer → WantedIn trace at call → WantedIn longer at call
 wanted_longer trace longer at call l r h b gives = retries_longer trace longer at b.options.retry_options l (r h b gives)
 
 pub counted_longer : (trace longer : Option Trace) (line n : ℕ) → LongerIn trace longer → CountedIn trace line n → CountedIn longer line n
@@ -76,8 +76,8 @@ told_longer trace longer stands l a = record {
   calls = λ n c x b e. called_in_longer trace longer n x l (a.calls n c x b e);
 }
 
-module _ {P Q K A B D : Type 0} (w : Ways P Q K A B D) where
-  pub row_longer : (trace longer : Option Trace) (at : ℕ) (o : Posted) (nexts : List ℕ) (r : Row P Q K) → LongerIn trace longer → RowArises w trace at o nexts r → RowArises w longer at o nexts r
+module _ {P : Type 0} (w : Ways P) where
+  pub row_longer : (trace longer : Option Trace) (at : ℕ) (o : Posted) (nexts : List ℕ) (r : Row P) → LongerIn trace longer → RowArises w trace at o nexts r → RowArises w longer at o nexts r
   row_longer trace longer at o nexts row.Plain l x = tt
   row_longer trace longer at o nexts (row.Client c) l x = tt
   row_longer trace longer at o nexts (row.Asking c b call) l x =
@@ -90,7 +90,7 @@ module _ {P Q K A B D : Type 0} (w : Ways P Q K A B D) where
   row_longer trace longer at o nexts (row.Past c) l x = tt
   row_longer trace longer at o nexts (row.Working c job) l x = tt
 
-  pub sound_longer : (trace longer : Option Trace) (rest : List Asker) (s : Clients P Q K) → LongerIn trace longer → IsSound w trace rest s → IsSound w longer rest s
+  pub sound_longer : (trace longer : Option Trace) (rest : List Asker) (s : Clients P) → LongerIn trace longer → IsSound w trace rest s → IsSound w longer rest s
   sound_longer trace longer rest s l sound = record {
     told = told_longer trace longer (stands_of (rows_of s)) l sound.told;
     arisen = λ i. row_longer trace longer (suc i) _ _ (row_at (rows_of s) i) l (sound.arisen i);
@@ -104,7 +104,7 @@ module _ {P Q K A B D : Type 0} (w : Ways P Q K A B D) where
     owing = λ n. counted_longer trace longer n 0 l (sound.owing n);
   }
 
-  pub rests_when_longer : (s : Clients P Q K) (t longer : Trace) → IsLonger t longer → RestsIn w s t → RestsIn w s longer
+  pub rests_when_longer : (s : Clients P) (t longer : Trace) → IsLonger t longer → RestsIn w s t → RestsIn w s longer
   rests_when_longer s t longer l sound =
       record {
         told = record { asks = λ n c b e. called_longer t longer l n n (sound.told.asks n c b e); calls = λ n c x b e. called_longer t longer l n x (sound.told.calls n c x b e) };
@@ -122,7 +122,7 @@ module _ {P Q K A B D : Type 0} (w : Ways P Q K A B D) where
       retries_any : (at : ℕ) (retries : RetryOptions) → RetriesIn (Some t) at retries → RetriesIn (Some longer) at retries
       retries_any at retries r = (r.0, l.begun (record { line = at; options = r.0 }) r.1, r.2)
 
-      row_any : (at : ℕ) (o : Posted) (nexts : List ℕ) (r : Row P Q K) → RowArises w (Some t) at o nexts r → RowArises w (Some longer) at o nexts r
+      row_any : (at : ℕ) (o : Posted) (nexts : List ℕ) (r : Row P) → RowArises w (Some t) at o nexts r → RowArises w (Some longer) at o nexts r
       row_any at o nexts row.Plain x = tt
       row_any at o nexts (row.Client c) x = tt
       row_any at o nexts (row.Asking c b call) x =
@@ -164,8 +164,8 @@ nobody_at : (n : ℕ) {c : ℕ} → client_at (stand_at [] n) ≡ Some c → ⊥
 nobody_at zero q = cc
 nobody_at (suc n) q = cc
 
-module _ {P Q K A B D : Type 0} (w : Ways P Q K A B D) where
-  pub nothing_rests : (trace : Option Trace) (s : Clients P Q K) → ((n : ℕ) → CountedIn trace n 0) → rows_of s ≡ [] → s.clients.items ≡ [] → IsSound w trace [] s
+module _ {P : Type 0} (w : Ways P) where
+  pub nothing_rests : (trace : Option Trace) (s : Clients P) → ((n : ℕ) → CountedIn trace n 0) → rows_of s ≡ [] → s.clients.items ≡ [] → IsSound w trace [] s
   nothing_rests trace s owing rows clients = record {
     told = record {
       asks = λ n c b e. absurd (never_asks n (subst (λ rs. stand_at (stands_of rs) n ≡ Asking c b) rows e));
@@ -185,5 +185,5 @@ module _ {P Q K A B D : Type 0} (w : Ways P Q K A B D) where
       book : (c : ℕ) → book_at s c ≡ blank
       book c = ap (λ cs. slice_index_or (map book_of cs) c blank) clients
 
-  pub nobody_rests_so : (s : Clients P Q K) → sight_of s ≡ nobody → (t : Trace) → t.owed ≡ [] → RestsIn w s t
+  pub nobody_rests_so : (s : Clients P) → sight_of s ≡ nobody → (t : Trace) → t.owed ≡ [] → RestsIn w s t
   nobody_rests_so s e t told = nothing_rests (Some t) s (λ n. none_owed t n told) (nothing_in stand_of (rows_of s) (ap (λ (v : Sight). v.stands) e)) (nothing_in (λ (c : ClientState). c.crashed) s.clients.items (ap (λ (v : Sight). v.crashed) e))

@@ -8,7 +8,7 @@ use Rattle.txn_history.specs.Event.Event.{Sent, Served, Took, Refused, Lost, Beg
 use Rattle.txn_law.specs.Run.{IsPossible, IsRoomy, IsUnserved}
 use Rattle.txn_model.specs.Store.{Store}
 use Rattle.txn_model.specs.Table.{table}
-use Rattle.txn_commit.specs.Committing.{Ways}
+use Rattle.txn_commit.specs.Ways.{Ways}
 use Rattle.txn_side.specs.Doubt.{itself}
 use Rattle.txn_side.specs.Arising.{Arises, IsOutside}
 use Rattle.txn_side.specs.Sight.{Sight, nobody}
@@ -36,11 +36,11 @@ nothing_in : {X Y : Type 0} (f : X → Y) (xs : List X) → map f xs ≡ [] → 
 nothing_in f [] e = refl
 nothing_in f (x ∷ xs) e = absurd (cc)
 
-module _ {P Q K A B D : Type 0} (w : Ways P Q K A B D) where
-  pub nobody_arisen : (s : Clients P Q K) → rows_of s ≡ [] → s.clients.items ≡ [] → Arisen w s (λ t. []) [] []
+module _ {P : Type 0} (w : Ways P) where
+  pub nobody_arisen : (s : Clients P) → rows_of s ≡ [] → s.clients.items ≡ [] → Arisen w s (λ t. []) [] []
   nobody_arisen s rows clients = record {
     run = λ plans have. tt;
-    rows = λ i. subst (λ (r : Row P Q K). RowFits w (rows_of s) (posted_at (nexts_of s) (asks_of s) (voice i (stand_of r))) [] r) (sym (plain i)) tt;
+    rows = λ i. subst (λ (r : Row P). RowFits w (rows_of s) (posted_at (nexts_of s) (asks_of s) (voice i (stand_of r))) [] r) (sym (plain i)) tt;
     oracles = λ c. subst (λ (b : Book). OracleFits (oracle_of b) (ticket_or b.ticket) []) (sym (book c)) (fits_idle _ []);
     fresh = λ n. fresh_none n false _ _;
     draws = record {
@@ -60,8 +60,8 @@ module _ {P Q K A B D : Type 0} (w : Ways P Q K A B D) where
       book : (c : ℕ) → book_at s c ≡ blank
       book c = ap (λ cs. slice_index_or (map book_of cs) c blank) clients
 
-  pub nobody_arises_so : (s : Clients P Q K) → IsReady w s → sight_of s ≡ nobody → ArisenFrom w s []
-  nobody_arises_so s ready e = (record { prewriting = ready.prewriting; committing = ready.committing; rolling = ready.rolling }, (λ t. []), [], refl, nobody_arisen s (nothing_in stand_of (rows_of s) (ap (λ (v : Sight). v.stands) e)) (nothing_in (λ (c : ClientState). c.crashed) s.clients.items (ap (λ (v : Sight). v.crashed) e)))
+  pub nobody_arises_so : (s : Clients P) → IsReady w s → sight_of s ≡ nobody → ArisenFrom w s []
+  nobody_arises_so s ready e = (record { lawful = ready.lawful }, (λ t. []), [], refl, nobody_arisen s (nothing_in stand_of (rows_of s) (ap (λ (v : Sight). v.stands) e)) (nothing_in (λ (c : ClientState). c.crashed) s.clients.items (ap (λ (v : Sight). v.crashed) e)))
 
 -- What comes from outside is shown, and may come where it may after what is shown.
 
@@ -104,10 +104,10 @@ possible_unseen (Split key) h out may = tt
 possible_unseen (Led region store) h out may = tt
 possible_unseen (Clocked ms) h out may = tt
 
-module _ {P Q K A B D : Type 0} (w : Ways P Q K A B D) where
-  pub arises_when_longer : (s : Clients P Q K) (h : List Event) (e : Event) → IsOutside e → IsPossible h e → ArisenFrom w s h → Arises (ArisenFrom w s) (λ h x o. HoldsAt (rows_of s) h x o) (λ x o. HoldsAt (rows_of s) h x o) itself (e ∷ h) []
+module _ {P : Type 0} (w : Ways P) where
+  pub arises_when_longer : (s : Clients P) (h : List Event) (e : Event) → IsOutside e → IsPossible h e → ArisenFrom w s h → Arises (ArisenFrom w s) (λ h x o. HoldsAt (rows_of s) h x o) (λ x o. HoldsAt (rows_of s) h x o) itself (e ∷ h) []
   arises_when_longer s h e out may (laws, askers, g, shows, a) = record {
-    now = (laws, askers, e ∷ g, shows_outside e g out ∙ ap (λ x. e ∷ x) shows, arisen_outside w laws.prewriting laws.committing laws.rolling s askers [] g e out (possible_unseen e g out (subst (λ x. IsPossible x e) (sym shows) may)) a);
+    now = (laws, askers, e ∷ g, shows_outside e g out ∙ ap (λ x. e ∷ x) shows, arisen_outside w laws.lawful s askers [] g e out (possible_unseen e g out (subst (λ x. IsPossible x e) (sym shows) may)) a);
     kept = λ x o. right_same (rows_of s) x o h (e ∷ h) (λ y i. inr i);
     answers = All-nil _;
     doubts = All-nil _;

@@ -18,7 +18,7 @@ use Rattle.txn_history.specs.Turn.{Turn as CallTurn}
 use Rattle.txn_history.specs.Turn.Turn.{Waits}
 use Rattle.txn_history.specs.Arrivals.{awaited_as}
 use Rattle.txn_kv.specs.declared.arrival.Arrival.TheVariants as arrivals
-use Rattle.txn_commit.specs.Committing.{Ways}
+use Rattle.txn_commit.specs.Ways.{Ways}
 use Rattle.txn_core.specs.Going.{TransactionFits}
 use Rattle.txn_core.specs.Transaction.{IsOrdered, Standing, begun, is_open}
 use Rattle.txn_core.specs.Waiting.{work_waits}
@@ -36,6 +36,7 @@ use Rattle.txn_side.specs.Waiting as side
 use Rattle.txn_side.specs.Waiting.Awaited.{EndOf as SideEnd, ReplyTo as SideReply}
 use Rattle.txn_side.specs.declared.turn.Posting.{Posting}
 use Rattle.txn_side.specs.Trace.{AreOwn, IsSend, Trace, refused_asks}
+use Rattle.txn_side.specs.Trace.CallKind.{OfTransaction}
 use Rattle.txn_side.specs.declared.turn.Ending.{Ending}
 use Rattle.txn_kv.specs.declared.errors.Error.{Error}
 use Rattle.txn_kv.specs.declared.outbox.Errand.TheVariants.{Send}
@@ -67,11 +68,11 @@ voice i (Calling c x b) = 0
 voice i (Past c) = 0
 voice i (Working c) = suc i
 
-abbrev pub voice_at : {P Q K : Type 0} → List (Row P Q K) → ℕ → ℕ
+abbrev pub voice_at : {P : Type 0} → List (Row P) → ℕ → ℕ
 voice_at rows i = voice i (stand_of (row_at rows i))
 
 -- a job's end is waited for by nobody
-abbrev pub wants : {P Q K A B D : Type 0} → Ways P Q K A B D → Row P Q K → Awaited → Type 0
+abbrev pub wants : {P : Type 0} → Ways P → Row P → Awaited → Type 0
 wants w row.Plain a = ⊥
 wants w (row.Client c) a = ⊥
 wants w (row.Asking c b call) a = stage_waits call.stage a
@@ -81,7 +82,7 @@ wants w (row.Past c) a = ⊥
 wants w (row.Working c job) a = ⊥
 
 -- some row waits for this in the name of this line
-abbrev pub Wants : {P Q K A B D : Type 0} → Ways P Q K A B D → List (Row P Q K) → ℕ → Awaited → Type 0
+abbrev pub Wants : {P : Type 0} → Ways P → List (Row P) → ℕ → Awaited → Type 0
 Wants w rows n a = (i : ℕ) × (voice_at rows i ≡ n) × wants w (row_at rows i) a
 
 -- as a call of its own waits for it
@@ -90,7 +91,7 @@ kind (SideReply n) = ReplyTo n
 kind (SideEnd n) = EndOf n
 
 -- what the call of a line waits for, but for timestamps
-abbrev pub waits_of : {P Q K A B D : Type 0} → Ways P Q K A B D → Clients P Q K → ℕ → side.Awaited → Type 0
+abbrev pub waits_of : {P : Type 0} → Ways P → Clients P → ℕ → side.Awaited → Type 0
 waits_of w s n a = Wants w (rows_of s) n (kind a)
 
 -- what was told is not waited for any more
@@ -120,23 +121,23 @@ pub record HasArisen (Fits : List Event → Type 0) (trace : Option Trace) (at l
   pub counted : CountedIn trace line (refused_asks history)
 
 -- a transaction that a call may answer has the options that its line tells of
-abbrev pub WantedIn : {P Q K : Type 0} → Option Trace → ℕ → ClientCall Pd P Q K → Type 0
-WantedIn {P} {Q} {K} trace at call = (h : List Event) (b : Standing P Q K) → CallGives {C = Pd} call.wanted h (Ok (Begun b)) → RetriesIn trace at b.options.retry_options
+abbrev pub WantedIn : {P : Type 0} → Option Trace → ℕ → ClientCall Pd P → Type 0
+WantedIn {P} trace at call = (h : List Event) (b : Standing P) → CallGives {C = Pd} call.wanted h (Ok (Begun b)) → RetriesIn trace at b.options.retry_options
 
 -- a call for a timestamp
-pub record AskArises {P Q K : Type 0} (trace : Option Trace) (at : ℕ) (o : Posted) (nexts : List ℕ) (call : ClientCall Pd P Q K) : Type 0 where
+pub record AskArises {P : Type 0} (trace : Option Trace) (at : ℕ) (o : Posted) (nexts : List ℕ) (call : ClientCall Pd P) : Type 0 where
   pub wanted : WantedIn trace at call
   pub arisen : HasArisen (λ h. IsAt call.stage o h) trace at o.line nexts
 
 -- a transaction whose buffer is in order, and that has the options that its line tells of; which Commit of its primary was lost first it
 -- knows from whatever line of it
-pub record StandArises {P Q K A B D : Type 0} (w : Ways P Q K A B D) (trace : Option Trace) (at : ℕ) (o : Posted) (nexts : List ℕ) (t : Standing P Q K) : Type 0 where
+pub record StandArises {P : Type 0} (w : Ways P) (trace : Option Trace) (at : ℕ) (o : Posted) (nexts : List ℕ) (t : Standing P) : Type 0 where
   pub ordered : IsOrdered t.contents
   pub retries : RetriesIn trace at t.options.retry_options
   pub marked : MarkedIn trace at t
   pub arisen : HasArisen (λ h. TransactionFits w t o h) trace at o.line nexts
 
-abbrev pub RowArises : {P Q K A B D : Type 0} → Ways P Q K A B D → Option Trace → ℕ → Posted → List ℕ → Row P Q K → Type 0
+abbrev pub RowArises : {P : Type 0} → Ways P → Option Trace → ℕ → Posted → List ℕ → Row P → Type 0
 RowArises w trace at o nexts row.Plain = ⊤
 RowArises w trace at o nexts (row.Client c) = ⊤
 RowArises w trace at o nexts (row.Asking c b call) = AskArises trace at o nexts call
@@ -146,7 +147,7 @@ RowArises w trace at o nexts (row.Past c) = ⊤
 RowArises w trace at o nexts (row.Working c job) = ⊤
 
 -- a call waits, and a transaction that waits for a line has a call open
-abbrev pub RowRuns : {P Q K : Type 0} → Row P Q K → Type 0
+abbrev pub RowRuns : {P : Type 0} → Row P → Type 0
 RowRuns row.Plain = ⊤
 RowRuns (row.Client c) = ⊤
 RowRuns (row.Asking c b call) = stage_phase call.stage ≡ Running
@@ -156,7 +157,7 @@ RowRuns (row.Past c) = ⊤
 RowRuns (row.Working c job) = ⊤
 
 -- it begins with what it is told, or runs before
-abbrev pub IsPrepared : {P Q K : Type 0} → Told → Row P Q K → Type 0
+abbrev pub IsPrepared : {P : Type 0} → Told → Row P → Type 0
 IsPrepared tells.Start (row.Asking c b call) = stage_phase call.stage ≡ Fresh
 IsPrepared (tells.Act a) (row.Begun c t m) = ⊤
 IsPrepared told r = RowRuns r
@@ -174,33 +175,33 @@ pub record IsReached (from to later : Posted) : Type 0 where
 
 -- What a row is told: it can have arisen from a longer history, on which an error rests that it answers; it waits for no more than it
 -- did and posts, and runs on where it does not answer.
-pub record RowGoes {P Q K A B D : Type 0} (w : Ways P Q K A B D) (told : Told) (old new : Row P Q K) (from to : Posted) (answer : Option (Answer P Q K)) : Type 0 where
+pub record RowGoes {P : Type 0} (w : Ways P) (told : Told) (old new : Row P) (from to : Posted) (answer : Option (Answer P)) : Type 0 where
   pub arises : (trace longer : Option Trace) (at : ℕ) → HasMet trace longer from to → CalledFor trace from.line at old → MayKnow trace from told old
       → (nexts news : List ℕ) (o : Posted) → next_at nexts from.line ≤ from.next → IsRisen nexts news → to.next ≤ next_at news from.line → IsReached from to o → RowArises w (owing from.line told trace) at from nexts old → RowArises w longer at o news new × IfSome answer (AnswerRests w longer at from.line)
   pub expects : Expects (wants w old) (wants w new) (hears told) from to
   pub runs : IsPrepared told old → answer ≡ None → RowRuns new
 
 -- a transaction is told of something, or asked for something where it was not busy
-pub record StandGoes {P Q K A B D : Type 0} (w : Ways P Q K A B D) (owes : Option Trace → Option Trace) (heard : Awaited → Type 0) (busy : Type 0) (knows : Option Trace → Type 0) (old new : Standing P Q K) (from to : Posted) (turn : CallTurn (Result (TxnAnswer Q) Error)) : Type 0 where
+pub record StandGoes {P : Type 0} (w : Ways P) (owes : Option Trace → Option Trace) (heard : Awaited → Type 0) (busy : Type 0) (knows : Option Trace → Type 0) (old new : Standing P) (from to : Posted) (turn : CallTurn (Result (TxnAnswer P) Error)) : Type 0 where
   pub arises : (trace longer : Option Trace) (at : ℕ) → HasMet trace longer from to → CalledIn trace from.line at → knows trace
-      → (nexts news : List ℕ) (o : Posted) → next_at nexts from.line ≤ from.next → IsRisen nexts news → to.next ≤ next_at news from.line → IsReached from to o → StandArises w (owes trace) at from nexts old → StandArises w longer at o news new × IfEnds turn (IfFails (FailsAt w longer at from.line))
+      → (nexts news : List ℕ) (o : Posted) → next_at nexts from.line ≤ from.next → IsRisen nexts news → to.next ≤ next_at news from.line → IsReached from to o → StandArises w (owes trace) at from nexts old → StandArises w longer at o news new × IfEnds turn (IfFails (FailsAt w OfTransaction longer at from.line))
   pub expects : Expects (work_waits w old.work) (work_waits w new.work) heard from to
   pub runs : busy → turn ≡ Waits → is_open new.work ≡ true
 
 -- a transaction that is answered has just begun
-abbrev pub IsNewAnswer : {P Q K : Type 0} → Answer P Q K → Type 0
+abbrev pub IsNewAnswer : {P : Type 0} → Answer P → Type 0
 IsNewAnswer (answers.Asked (Ok (Begun b))) = (options : TransactionOptions) × (now : ℕ) × (b ≡ begun b.start options now)
 IsNewAnswer a = ⊤
 
 -- a call for a timestamp answers that, and a transaction what it was asked for
-abbrev pub IsAnswerOf : {P Q K : Type 0} → Stand → Answer P Q K → Type 0
+abbrev pub IsAnswerOf : {P : Type 0} → Stand → Answer P → Type 0
 IsAnswerOf (Asking c b) (answers.Asked v) = ⊤
 IsAnswerOf (HasBegun c m) (answers.Called v) = ⊤
 IsAnswerOf s a = ⊥
 
 -- The asks for timestamps
 
-abbrev pub asks_of : {P Q K : Type 0} → Clients P Q K → List ℕ
+abbrev pub asks_of : {P : Type 0} → Clients P → List ℕ
 asks_of s = map (λ p. p.next_ask) s.places.items
 
 -- What a client asks for: the asks that wait, those that are out, and the ticket of the request that is.
@@ -215,10 +216,10 @@ blank = record { queue = []; out = None; ticket = None }
 abbrev pub book_of : ClientState → Book
 book_of c = record { queue = c.oracle.queue; out = c.oracle.out; ticket = c.group }
 
-abbrev pub books_of : {P Q K : Type 0} → Clients P Q K → List Book
+abbrev pub books_of : {P : Type 0} → Clients P → List Book
 books_of s = map book_of s.clients.items
 
-abbrev pub book_at : {P Q K : Type 0} → Clients P Q K → ℕ → Book
+abbrev pub book_at : {P : Type 0} → Clients P → ℕ → Book
 book_at s c = slice_index_or (books_of s) c blank
 
 -- this ask of this line is among them
@@ -270,7 +271,7 @@ AreCalled stands = (n c x : ℕ) (b : Bool) → stand_at stands n ≡ Calling c 
 -- Each row can have arisen from a history of its own. An ask that is waited for, of a client that has not crashed, is with its oracle, or
 -- among those that are told now. Nobody waits for the number of a client's request for timestamps. Only of asks that were refused are
 -- lines still to be told that.
-pub record IsSound {P Q K A B D : Type 0} (w : Ways P Q K A B D) (trace : Option Trace) (rest : List Asker) (s : Clients P Q K) : Type 0 where
+pub record IsSound {P : Type 0} (w : Ways P) (trace : Option Trace) (rest : List Asker) (s : Clients P) : Type 0 where
   pub told : AreToldIn trace (stands_of (rows_of s))
   pub arisen : (i : ℕ) → RowArises w trace (suc i) (posted_at (nexts_of s) (asks_of s) (voice_at (rows_of s) i)) (nexts_of s) (row_at (rows_of s) i)
   pub called : AreCalled (stands_of (rows_of s))
@@ -282,18 +283,16 @@ pub record IsSound {P Q K A B D : Type 0} (w : Ways P Q K A B D) (trace : Option
   pub unwanted : (c : ℕ) (t : Ticket) → (book_at s c).ticket ≡ Some t → Wants w (rows_of s) t.line (ReplyTo t.number) → ⊥
   pub owing : (n : ℕ) → CountedIn trace n 0
 
-abbrev pub AreRunning : {P Q K : Type 0} → List (Row P Q K) → Type 0
+abbrev pub AreRunning : {P : Type 0} → List (Row P) → Type 0
 AreRunning rows = (i : ℕ) → RowRuns (row_at rows i)
 
 -- all but one
-abbrev pub AreRunningBut : {P Q K : Type 0} → ℕ → List (Row P Q K) → Type 0
+abbrev pub AreRunningBut : {P : Type 0} → ℕ → List (Row P) → Type 0
 AreRunningBut at rows = (i : ℕ) → i ≢ at → RowRuns (row_at rows i)
 
 -- They may be called, and the plans of their transactions keep to their laws.
-pub record IsReady {P Q K A B D : Type 0} (w : Ways P Q K A B D) (s : Clients P Q K) : Type 0 where
-  pub prewriting : IsLawful w.prewriting
-  pub committing : IsLawful w.committing
-  pub rolling : IsLawful w.rolling
+pub record IsReady {P : Type 0} (w : Ways P) (s : Clients P) : Type 0 where
+  pub lawful : IsLawful w.plan
   pub rows : AreReady w (rows_of s)
   pub sound : IsSound w None [] s
   pub running : AreRunning (rows_of s)
@@ -315,7 +314,7 @@ pub record IsHeard (stands : List Stand) (line at client : ℕ) : Type 0 where
   pub voiced : voice at (stand_at stands (suc at)) ≡ line
 
 -- What stands at a place was told of something. The others run on, and it does where it has not answered.
-abbrev pub RunsOn : {P Q K : Type 0} → Told → ℕ → Option (Answer P Q K) → List (Row P Q K) → List (Row P Q K) → Type 0
+abbrev pub RunsOn : {P : Type 0} → Told → ℕ → Option (Answer P) → List (Row P) → List (Row P) → Type 0
 RunsOn told at answer rows news = AreRunningBut at rows → IsPrepared told (row_at rows at) → AreRunningBut at news × (answer ≡ None → AreRunning news)
 
 -- A part of a step
@@ -331,7 +330,7 @@ abbrev pub Keeps : List Posting → List Posting → Type 0
 Keeps from to = (more : List Posting) × (to ≡ from ++ more)
 
 -- It goes on: what is waited for then was waited for before and was not heard, or was posted. Only this client asks.
-pub record GoesOn {P Q K A B D : Type 0} (w : Ways P Q K A B D) (trace : Option Trace) (client : ℕ) (Heard : ℕ → Awaited → Type 0) (rest : List Asker) (from to : List Posting) (ended over : List Ending) (s t : Clients P Q K) : Type 0 where
+pub record GoesOn {P : Type 0} (w : Ways P) (trace : Option Trace) (client : ℕ) (Heard : ℕ → Awaited → Type 0) (rest : List Asker) (from to : List Posting) (ended over : List Ending) (s t : Clients P) : Type 0 where
   pub sound : IsSound w (posting_in to trace) rest t
   pub ends : EndsMore w (posting_in to trace) ended over
   pub posted : Keeps from to
@@ -341,8 +340,8 @@ pub record GoesOn {P Q K A B D : Type 0} (w : Ways P Q K A B D) (trace : Option 
   pub books : (c : ℕ) → c ≢ client → book_at t c ≡ book_at s c
 
 -- what stands at a place is told of something
-pub record TellsRow {P Q K A B D : Type 0} (w : Ways P Q K A B D) (told : Told) (at : ℕ) (s t : Clients P Q K) (from to : Posted) (answer : Option (Answer P Q K)) : Type 0 where
-  pub row : Row P Q K
+pub record TellsRow {P : Type 0} (w : Ways P) (told : Told) (at : ℕ) (s t : Clients P) (from to : Posted) (answer : Option (Answer P)) : Type 0 where
+  pub row : Row P
   pub rows : rows_of t ≡ slice_set (rows_of s) at row
   pub stand : stand_of row ≡ stand_of (row_at (rows_of s) at)
   pub goes : RowGoes w told (row_at (rows_of s) at) row from to answer
@@ -350,7 +349,7 @@ pub record TellsRow {P Q K A B D : Type 0} (w : Ways P Q K A B D) (told : Told) 
   pub books : books_of t ≡ books_of s
 
 -- an errand that is waited for so was done: it was posted for the line, or asked of the client's oracle
-abbrev pub IsDone : {P Q K : Type 0} → Clients P Q K → List Posting → ℕ → ℕ → Awaited → Type 0
+abbrev pub IsDone : {P : Type 0} → Clients P → List Posting → ℕ → ℕ → Awaited → Type 0
 IsDone s posted line client (ReplyTo k) = IsPosted posted line (SideReply k)
 IsDone s posted line client (EndOf k) = IsPosted posted line (SideEnd k)
 IsDone s posted line client (TimeOf k) = HasAsk (book_at s client).queue line k
@@ -370,13 +369,13 @@ pub record PostsOne (line : ℕ) (a : side.Awaited) (from to : List Posting) : T
   pub awaited : side.awaited_as posting ≡ a
 
 -- one more asks at a client
-pub record AsksOne {P Q K : Type 0} (client : ℕ) (asker : Asker) (s t : Clients P Q K) : Type 0 where
+pub record AsksOne {P : Type 0} (client : ℕ) (asker : Asker) (s t : Clients P) : Type 0 where
   pub book : book_at t client ≡ record (book_at s client) { queue = (book_at s client).queue ++ asker ∷ [] }
   pub books : (c : ℕ) → c ≢ client → book_at t c ≡ book_at s c
   pub asks : asks_of t ≡ asks_of s
 
 -- all errands are done but those that are left
-pub record HandsOn {P Q K : Type 0} (line client : ℕ) (all left : List Errand) (from to : List Posting) (s t : Clients P Q K) : Type 0 where
+pub record HandsOn {P : Type 0} (line client : ℕ) (all left : List Errand) (from to : List Posting) (s t : Clients P) : Type 0 where
   pub posted : Keeps from to
   pub done : (a : Awaited) → IsErrand all a → IsDone t to line client a ⊎ IsErrand left a
   pub sent : (n : ℕ) (store : Target) (r : Request) → IsAmong all (Send n store r) → Any (IsSend (record { line = line; beat = false; number = n }) r) to ⊎ IsAmong left (Send n store r)
@@ -391,7 +390,7 @@ pub record HandsOn {P Q K : Type 0} (line client : ℕ) (all left : List Errand)
 -- Groups
 
 -- a request for timestamps is over: nothing of this client's is out, and those are told that asked
-pub record Takes {P Q K : Type 0} (client : ℕ) (given : List Answered) (s t : Clients P Q K) : Type 0 where
+pub record Takes {P : Type 0} (client : ℕ) (given : List Answered) (s t : Clients P) : Type 0 where
   pub askers : map (λ (a : Answered). a.0) given ≡ group_or_none (book_at s client).out
   pub book : book_at t client ≡ record (book_at s client) { out = None; ticket = None }
   pub books : (c : ℕ) → c ≢ client → book_at t c ≡ book_at s c
@@ -402,13 +401,13 @@ pub record Regroups {X : Type 0} (group : Option X) (old new : Book) : Type 0 wh
   pub asked : (n k : ℕ) → IsAskedIn old n k → IsAskedIn new n k
   pub none : group ≡ None → (new ≡ old) × ((new.queue ≡ []) ⊎ IsThere new.out)
 
-pub record RegroupsAt {P Q K X : Type 0} (client : ℕ) (group : Option X) (s t : Clients P Q K) : Type 0 where
+pub record RegroupsAt {P X : Type 0} (client : ℕ) (group : Option X) (s t : Clients P) : Type 0 where
   pub book : Regroups group (book_at s client) (book_at t client)
   pub books : (c : ℕ) → c ≢ client → book_at t c ≡ book_at s c
   pub asks : asks_of t ≡ asks_of s
 
 -- a group is sent, and has its ticket
-pub record SendsGroup {P Q K : Type 0} (client : ℕ) (from to : List Posting) (s t : Clients P Q K) : Type 0 where
+pub record SendsGroup {P : Type 0} (client : ℕ) (from to : List Posting) (s t : Clients P) : Type 0 where
   pub ticket : Ticket
   pub owned : IsOwned (stands_of (rows_of s)) client ticket
   pub number : ticket.number ≡ next_at (nexts_of s) ticket.line
@@ -420,20 +419,20 @@ pub record SendsGroup {P Q K : Type 0} (client : ℕ) (from to : List Posting) (
   pub books : (c : ℕ) → c ≢ client → book_at t c ≡ book_at s c
 
 -- The next group of a client went out, if anybody asked: what its lines wait for is out then.
-pub record SendsOn {P Q K A B D : Type 0} (w : Ways P Q K A B D) (trace : Option Trace) (client : ℕ) (rest : List Asker) (from to : List Posting) (s t : Clients P Q K) : Type 0 where
+pub record SendsOn {P : Type 0} (w : Ways P) (trace : Option Trace) (client : ℕ) (rest : List Asker) (from to : List Posting) (s t : Clients P) : Type 0 where
   pub sound : IsSound w (posting_in to trace) rest t
   pub posted : Keeps from to
   pub quiet : IsQuiet (book_at t client)
   pub books : (c : ℕ) → c ≢ client → book_at t c ≡ book_at s c
 
 -- a client's request has this ticket now
-pub record SetsTicket {P Q K : Type 0} (client : ℕ) (ticket : Ticket) (s t : Clients P Q K) : Type 0 where
+pub record SetsTicket {P : Type 0} (client : ℕ) (ticket : Ticket) (s t : Clients P) : Type 0 where
   pub book : book_at t client ≡ record (book_at s client) { ticket = Some ticket }
   pub books : (c : ℕ) → c ≢ client → book_at t c ≡ book_at s c
   pub asks : asks_of t ≡ asks_of s
 
 -- A request for timestamps is over, and all that asked were told.
-pub record EndsGroup {P Q K A B D : Type 0} (w : Ways P Q K A B D) (trace : Option Trace) (client : ℕ) (from to : List Posting) (ended over : List Ending) (s t : Clients P Q K) : Type 0 where
+pub record EndsGroup {P : Type 0} (w : Ways P) (trace : Option Trace) (client : ℕ) (from to : List Posting) (ended over : List Ending) (s t : Clients P) : Type 0 where
   pub sound : IsSound w (posting_in to trace) [] t
   pub ends : EndsMore w (posting_in to trace) ended over
   pub posted : Keeps from to
@@ -442,7 +441,7 @@ pub record EndsGroup {P Q K A B D : Type 0} (w : Ways P Q K A B D) (trace : Opti
   pub books : (c : ℕ) → c ≢ client → book_at t c ≡ book_at s c
 
 -- A whole step: what is waited for then was waited for before and was not heard, or was posted.
-pub record Steps {P Q K A B D : Type 0} (w : Ways P Q K A B D) (trace : Option Trace) (Heard : ℕ → Awaited → Type 0) (posted : List Posting) (ended : List Ending) (s t : Clients P Q K) : Type 0 where
+pub record Steps {P : Type 0} (w : Ways P) (trace : Option Trace) (Heard : ℕ → Awaited → Type 0) (posted : List Posting) (ended : List Ending) (s t : Clients P) : Type 0 where
   pub sound : IsSound w (posting_in posted trace) [] t
   pub ends : All (HasReason w (posting_in posted trace)) ended
   pub running : AreRunning (rows_of t)

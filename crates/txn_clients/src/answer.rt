@@ -13,16 +13,16 @@ pub type Pd = PdRpcClient<ApiV1TxnCodec>;
 
 /// What the call of a line answers.
 #[derive(Drop)]
-pub enum Answer<P, Q, K> {
+pub enum Answer<P> {
     /// A timestamp, or a transaction that begins at one.
-    Asked(txn_kv::Result<ClientAnswer<Pd, P, Q, K>>),
+    Asked(txn_kv::Result<ClientAnswer<Pd, P>>),
     /// What came of what a line asked of a transaction.
-    Called(txn_kv::Result<TxnAnswer<Q>>),
+    Called(txn_kv::Result<TxnAnswer<P>>),
 }
 
-impl<P, Q, K> Answer<P, Q, K> {
+impl<P> Answer<P> {
     /// The answer to a call of a client, once there is one.
-    pub fn asked(progress: Progress<ClientAnswer<Pd, P, Q, K>>) -> Option<Answer<P, Q, K>>
+    pub fn asked(progress: Progress<ClientAnswer<Pd, P>>) -> Option<Answer<P>>
         ensures { result ≡ answer_in answers.Asked (turn_of (Ok progress)) }
     {
         match progress {
@@ -32,7 +32,7 @@ impl<P, Q, K> Answer<P, Q, K> {
     }
 
     /// The answer to a call of a transaction, once there is one.
-    pub fn called(progress: Progress<TxnAnswer<Q>>) -> Option<Answer<P, Q, K>>
+    pub fn called(progress: Progress<TxnAnswer<P>>) -> Option<Answer<P>>
         ensures { result ≡ answer_in answers.Called (turn_of (Ok progress)) }
     {
         match progress {

@@ -20,13 +20,26 @@ use txn_region::ApiV1TxnCodec;
 use txn_tso::{Asker, TimestampOracle};
 
 /// A client of a run.
-#[derive(Drop)]
 pub struct ClientState {
     pub client: Client<ApiV1TxnCodec>,
     pub oracle: TimestampOracle,
     /// The ticket of the request for timestamps that is out.
     pub group: Option<Ticket>,
     pub crashed: bool,
+}
+
+impl Drop for ClientState {
+    fn drop(self) {
+        let ClientState {
+            client,
+            oracle,
+            group,
+            crashed: _,
+        } = self;
+        drop(client);
+        drop(oracle);
+        drop(group);
+    }
 }
 
 /// What each asker of a group is told.

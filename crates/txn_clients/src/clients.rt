@@ -4,7 +4,6 @@ ghost use Rattle.txn_clients.specs.Clients.{IsLine, crashed_of, nexts_of, row_at
 ghost use Rattle.txn_clients.specs.Rows.{with_waits};
 ghost use Rattle.txn_side.specs.Account.{AreNew};
 ghost use Rattle.txn_clients.specs.Waiting.{IsReady, asks_of};
-ghost use Rattle.txn_commit.specs.Committing.{ways};
 ghost use Rattle.txn_side.specs.Sight.{client_at, is_live, line_count, nobody, stand_at};
 
 mod asking;
@@ -17,15 +16,25 @@ use crate::client_state::ClientState;
 use crate::place::Place;
 use crate::row::Row;
 use std::alloc::Global;
-use txn_commit::PlanFor;
-use txn_kv::{BatchRollbackRequest, CommitRequest, PrewriteRequest};
+use txn_commit::Plans;
 
 /// The clients of a run, and what stands at each of its lines.
-#[derive(Drop)]
-pub struct Clients<P, Q, K> {
-    places: Vec<Place<P, Q, K>>,
+pub struct Clients<P> {
+    places: Vec<Place<P>>,
     clients: Vec<ClientState>,
     alloc: Global,
+}
+
+impl<P: Drop> Drop for Clients<P> {
+    fn drop(self) {
+        let Clients {
+            places,
+            clients,
+            alloc: _,
+        } = self;
+        drop(places);
+        drop(clients);
+    }
 }
 
 /// Where it stands what hears what comes for a line, and its client.
@@ -35,18 +44,16 @@ pub struct Listener {
     pub client: usize,
 }
 
-impl<P, Q, K> Clients<P, Q, K>
+impl<P> Clients<P>
 where
-    P: PlanFor<PrewriteRequest>,
-    Q: PlanFor<CommitRequest>,
-    K: PlanFor<BatchRollbackRequest>,
+    P: Plans,
 {
     /// No lines, and no clients. Takes no memory.
-    pub fn new(alloc: Global) -> Clients<P, Q, K>
+    pub fn new(alloc: Global) -> Clients<P>
         ensures sight { sight_of result ≡ nobody }
         ensures rows { rows_of result ≡ [] }
         ensures accounts { AreNew (account_at (rows_of result)) }
-        ensures ready { IsReady (ways P.meaning Q.meaning K.meaning P.refuses Q.refuses K.refuses) result }
+        ensures ready { IsReady P.ways result }
     {
         Clients {
             places: Vec::new(alloc),
@@ -56,7 +63,7 @@ where
     }
 }
 
-impl<P, Q, K> Clients<P, Q, K> {
+impl<P> Clients<P> {
     /// The number of the newest line.
     fn newest(&self) -> u64
         ensures { result ≡ line_count (sight_of self.now) }
@@ -65,7 +72,7 @@ impl<P, Q, K> Clients<P, Q, K> {
     }
 
     /// The row of a line.
-    fn row(&self, line: u64) -> &Row<P, Q, K>
+    fn row(&self, line: u64) -> &Row<P>
         requires { IsLine (sight_of self.now).stands line }
         ensures { result.now ≡ row_at (rows_of self.now) (line - 1) }
     {
@@ -111,9 +118,9 @@ impl<P, Q, K> Clients<P, Q, K> {
     }
 }
 
-impl<P: Drop, Q: Drop, K: Drop> Clients<P, Q, K> {
+impl<P: Drop> Clients<P> {
     /// Another row stands at a line.
-    fn set_row(&mut self, line: u64, row: Row<P, Q, K>)
+    fn set_row(&mut self, line: u64, row: Row<P>)
         requires { IsLine (sight_of self.old).stands line }
         ensures rows { rows_of self.new ≡ slice_set (rows_of self.old) (line - 1) row }
         ensures asks { asks_of self.new ≡ asks_of self.old }

@@ -3,10 +3,9 @@ ghost use Rattle.std.specs.Prelude.{◌≡◌, ℕ, IfOk, IfSome, None, List, On
 ghost use Rattle.txn_clients.specs.Ended.{AskLeaves, CallLeaves};
 ghost use Rattle.txn_clients.specs.Accounts.{BeginsNew, EndsNoAsk, EndsNoCall, IsNew, account_in, outcome_by};
 ghost use Rattle.txn_clients.specs.Rows.{AskFits, IsStamped, RowReady, stand_of};
-ghost use Rattle.txn_clients.specs.Waiting.{IsNewAnswer, RowArises};
+ghost use Rattle.txn_clients.specs.Turns.{AskedArises, BegunArises};
+ghost use Rattle.txn_clients.specs.Waiting.{RowArises};
 ghost use Rattle.txn_clients.specs.Want.{wants_memory};
-ghost use Rattle.txn_clients.specs.declared.answer.Answer.TheVariants.{Asked};
-ghost use Rattle.txn_commit.specs.Committing.{ways};
 ghost use Rattle.txn_commit.specs.Jobs.{JobReady};
 ghost use Rattle.txn_core.specs.Going.{TransactionReady};
 ghost use Rattle.txn_core.specs.Transaction.{is_open};
@@ -22,34 +21,29 @@ ghost use Rattle.txn_report.specs.declared.outcome.Outcome.TheVariants.{Err as F
 ghost use Rattle.txn_kv.specs.declared.errors.Error.{Error as Failure};
 ghost use Rattle.txn_side.specs.Trace.{Trace};
 ghost use Rattle.txn_core.specs.declared.txn_answer.TxnAnswer.TheVariants as answers;
-ghost use Rattle.txn_clients.specs.Failing.{AskRests, CountedIn, RetriesIn};
 
 use crate::answer::Pd;
 use crate::row::Row;
 use crate::want::wants_memory;
 use txn_client::ClientAnswer;
-use txn_commit::{PlanFor, SecondaryJob};
+use txn_commit::{Plans, SecondaryJob};
 use txn_core::{Transaction, TxnAnswer};
-use txn_kv::{
-    BatchRollbackRequest, CommitRequest, Error, NoMemory, PrewriteRequest, Timestamp, TimestampExt,
-};
+use txn_kv::{Error, NoMemory, Timestamp, TimestampExt};
 use txn_report::{Outcome, Payload};
 
 /// What stands at a line whose call has ended, and its outcome.
 #[derive(Drop)]
-pub struct Ended<P, Q, K> {
-    pub row: Row<P, Q, K>,
+pub struct Ended<P> {
+    pub row: Row<P>,
     pub outcome: Outcome,
 }
 
-impl<P, Q, K> Ended<P, Q, K>
+impl<P> Ended<P>
 where
-    P: PlanFor<PrewriteRequest>,
-    Q: PlanFor<CommitRequest>,
-    K: PlanFor<BatchRollbackRequest>,
+    P: Plans,
 {
     /// The call failed. Want of memory is told as such, and is the outcome of no line.
-    fn failed(client: usize, error: Error) -> Result<Ended<P, Q, K>, NoMemory>
+    fn failed(client: usize, error: Error) -> Result<Ended<P>, NoMemory>
         ensures ended { IfOk result (λ ended. ended ≡ record { row = Past client; outcome = Failed error }) }
         ensures fed { OnOk result (wants_memory (view_of error) ≡ false) }
         ensures starved { OnErr result (wants_memory (view_of error) ≡ true) }
@@ -67,14 +61,14 @@ where
     pub fn asked(
         client: usize,
         begins: bool,
-        answer: txn_kv::Result<ClientAnswer<Pd, P, Q, K>>,
-    ) -> Result<Ended<P, Q, K>, NoMemory>
-        requires fits { AskFits (ways P.meaning Q.meaning K.meaning P.refuses Q.refuses K.refuses) answer }
+        answer: txn_kv::Result<ClientAnswer<Pd, P>>,
+    ) -> Result<Ended<P>, NoMemory>
+        requires fits { AskFits P.ways answer }
         requires begins { BeginsNew answer }
         ensures ends { IfOk result (λ ended. AskEnds client begins ended.outcome (stand_of ended.row)) }
         ensures stamped { IfOk result (λ ended. (version : ℕ) → number_of ended.outcome ≡ Some version → IsStamped answer version) }
-        ensures arises { IfOk result (λ ended. IsNewAnswer (Asked answer) → (trace : Option Trace) (at line : ℕ) → AskRests (ways P.meaning Q.meaning K.meaning P.refuses Q.refuses K.refuses) trace at line answer → ((n : ℕ) → CountedIn trace n 0) → (o : Posted) (nexts : List ℕ) → RowArises (ways P.meaning Q.meaning K.meaning P.refuses Q.refuses K.refuses) trace at o nexts ended.row) }
-        ensures ready { IfOk result (λ ended. RowReady (ways P.meaning Q.meaning K.meaning P.refuses Q.refuses K.refuses) ended.row) }
+        ensures arises { IfOk result (λ ended. AskedArises P.ways answer ended.row) }
+        ensures ready { IfOk result (λ ended. RowReady P.ways ended.row) }
         ensures account { IfOk result (λ ended. account_in ended.row ≡ new_account) }
         ensures unlike { OnErr result (EndsNoAsk begins answer) }
         ensures failed { IfOk result (λ ended. (e : Failure) → ended.outcome ≡ Failed e → answer ≡ Err e) }
@@ -91,15 +85,15 @@ where
     fn begun(
         client: usize,
         begins: bool,
-        transaction: Transaction<Pd, P, Q, K>,
-    ) -> Result<Ended<P, Q, K>, NoMemory>
-        requires ready { TransactionReady (ways P.meaning Q.meaning K.meaning P.refuses Q.refuses K.refuses) transaction }
+        transaction: Transaction<Pd, P>,
+    ) -> Result<Ended<P>, NoMemory>
+        requires ready { TransactionReady P.ways transaction }
         requires rests { is_open transaction.work ≡ false }
         requires new { IsNew transaction }
         ensures ends { IfOk result (λ ended. AskEnds client begins ended.outcome (stand_of ended.row)) }
         ensures stamped { IfOk result (λ ended. (version : ℕ) → number_of ended.outcome ≡ Some version → version_of transaction.start ≡ version) }
-        ensures arises { IfOk result (λ ended. IsNewAnswer {P = P} {Q = Q} {K = K} (Asked (Ok (Begun transaction))) → (trace : Option Trace) (at : ℕ) → RetriesIn trace at transaction.options.retry_options → ((n : ℕ) → CountedIn trace n 0) → (o : Posted) (nexts : List ℕ) → RowArises (ways P.meaning Q.meaning K.meaning P.refuses Q.refuses K.refuses) trace at o nexts ended.row) }
-        ensures ready { IfOk result (λ ended. RowReady (ways P.meaning Q.meaning K.meaning P.refuses Q.refuses K.refuses) ended.row) }
+        ensures arises { IfOk result (λ ended. BegunArises P.ways transaction ended.row) }
+        ensures ready { IfOk result (λ ended. RowReady P.ways ended.row) }
         ensures account { IfOk result (λ ended. account_in ended.row ≡ new_account) }
         ensures unlike { OnErr result (begins ≡ false) }
         ensures well { IfOk result (λ ended. (e : Failure) → ended.outcome ≡ Failed e → ⊥) }
@@ -119,16 +113,16 @@ where
         })
     }
 
-    fn timed(client: usize, begins: bool, timestamp: Timestamp) -> Result<Ended<P, Q, K>, NoMemory>
+    fn timed(client: usize, begins: bool, timestamp: Timestamp) -> Result<Ended<P>, NoMemory>
         requires { HasVersion timestamp }
         ensures ends { IfOk result (λ ended. AskEnds client begins ended.outcome (stand_of ended.row)) }
         ensures stamped { IfOk result (λ ended. (version : ℕ) → number_of ended.outcome ≡ Some version → version_of timestamp ≡ version) }
-        ensures arises { IfOk result (λ ended. (trace : Option Trace) (at : ℕ) (o : Posted) (nexts : List ℕ) → RowArises (ways P.meaning Q.meaning K.meaning P.refuses Q.refuses K.refuses) trace at o nexts ended.row) }
-        ensures ready { IfOk result (λ ended. RowReady (ways P.meaning Q.meaning K.meaning P.refuses Q.refuses K.refuses) ended.row) }
+        ensures arises { IfOk result (λ ended. (trace : Option Trace) (at : ℕ) (o : Posted) (nexts : List ℕ) → RowArises P.ways trace at o nexts ended.row) }
+        ensures ready { IfOk result (λ ended. RowReady P.ways ended.row) }
         ensures account { IfOk result (λ ended. account_in ended.row ≡ new_account) }
         ensures unlike { OnErr result (begins ≡ true) }
         ensures well { IfOk result (λ ended. (e : Failure) → ended.outcome ≡ Failed e → ⊥) }
-        ensures leaves { IfOk result (λ ended. AskLeaves {P = P} {Q = Q} {K = K} client (Ok (Time timestamp)) ended.row ended.outcome) }
+        ensures leaves { IfOk result (λ ended. AskLeaves {P = P} client (Ok (Time timestamp)) ended.row ended.outcome) }
     {
         if begins {
             return Err(NoMemory);
@@ -143,12 +137,12 @@ where
     pub fn called(
         client: usize,
         commits: bool,
-        answer: txn_kv::Result<TxnAnswer<Q>>,
-    ) -> Result<Ended<P, Q, K>, NoMemory>
-        requires { HandsOut Q.meaning answer }
+        answer: txn_kv::Result<TxnAnswer<P>>,
+    ) -> Result<Ended<P>, NoMemory>
+        requires { HandsOut P.ways.plan answer }
         ensures ends { IfOk result (λ ended. CallEnds client commits ended.outcome (stand_of ended.row)) }
         ensures number { IfOk result (λ ended. number_of ended.outcome ≡ None) }
-        ensures ready { IfOk result (λ ended. RowReady (ways P.meaning Q.meaning K.meaning P.refuses Q.refuses K.refuses) ended.row) }
+        ensures ready { IfOk result (λ ended. RowReady P.ways ended.row) }
         ensures account { IfOk result (λ ended. account_in ended.row ≡ new_account) }
         ensures outcome { IfOk result (λ ended. ended.outcome ≡ outcome_by commits answer) }
         ensures unlike { OnErr result (EndsNoCall commits answer) }
@@ -167,15 +161,15 @@ where
         }
     }
 
-    fn done(client: usize, commits: bool) -> Result<Ended<P, Q, K>, NoMemory>
+    fn done(client: usize, commits: bool) -> Result<Ended<P>, NoMemory>
         ensures ends { IfOk result (λ ended. CallEnds client commits ended.outcome (stand_of ended.row)) }
         ensures number { IfOk result (λ ended. number_of ended.outcome ≡ None) }
-        ensures ready { IfOk result (λ ended. RowReady (ways P.meaning Q.meaning K.meaning P.refuses Q.refuses K.refuses) ended.row) }
+        ensures ready { IfOk result (λ ended. RowReady P.ways ended.row) }
         ensures account { IfOk result (λ ended. account_in ended.row ≡ new_account) }
         ensures unlike { OnErr result (commits ≡ true) }
         ensures well { IfOk result (λ ended. (e : Failure) → ended.outcome ≡ Failed e → ⊥) }
-        ensures leaves { IfOk result (λ ended. CallLeaves {Q = Q} client (Ok answers.Unit) ended.row) }
-        ensures outcome { IfOk result (λ ended. ended.outcome ≡ outcome_by {Q = Q} commits (Ok answers.Unit)) }
+        ensures leaves { IfOk result (λ ended. CallLeaves {P = P} client (Ok answers.Unit) ended.row) }
+        ensures outcome { IfOk result (λ ended. ended.outcome ≡ outcome_by {P = P} commits (Ok answers.Unit)) }
     {
         if commits {
             return Err(NoMemory);
@@ -190,13 +184,13 @@ where
         client: usize,
         commits: bool,
         timestamp: Option<Timestamp>,
-        job: Option<SecondaryJob<Q>>,
-    ) -> Result<Ended<P, Q, K>, NoMemory>
+        job: Option<SecondaryJob<P>>,
+    ) -> Result<Ended<P>, NoMemory>
         requires time { IfSome timestamp HasVersion }
-        requires job { IfSome job (JobReady Q.meaning) }
+        requires job { IfSome job (JobReady P.ways.plan) }
         ensures ends { IfOk result (λ ended. CallEnds client commits ended.outcome (stand_of ended.row)) }
         ensures number { IfOk result (λ ended. number_of ended.outcome ≡ None) }
-        ensures ready { IfOk result (λ ended. RowReady (ways P.meaning Q.meaning K.meaning P.refuses Q.refuses K.refuses) ended.row) }
+        ensures ready { IfOk result (λ ended. RowReady P.ways ended.row) }
         ensures account { IfOk result (λ ended. account_in ended.row ≡ new_account) }
         ensures unlike { OnErr result (commits ≡ false) }
         ensures well { IfOk result (λ ended. (e : Failure) → ended.outcome ≡ Failed e → ⊥) }

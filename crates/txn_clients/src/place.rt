@@ -7,19 +7,29 @@ use std::alloc::Global;
 use txn_kv::{NoMemory, Outbox};
 
 /// What stands at a line, and the numbers of its next request or sleep, and of its next ask.
-#[derive(Drop)]
-pub struct Place<P, Q, K> {
-    pub row: Row<P, Q, K>,
+pub struct Place<P> {
+    pub row: Row<P>,
     pub next: u64,
     pub next_ask: u64,
+}
+
+impl<P: Drop> Drop for Place<P> {
+    fn drop(self) {
+        let Place {
+            row,
+            next: _,
+            next_ask: _,
+        } = self;
+        drop(row);
+    }
 }
 
 /// No number is as great as this.
 pub const NUMBERS_END: u64 = 9_223_372_036_854_775_808;
 
-impl<P, Q, K> Place<P, Q, K> {
+impl<P> Place<P> {
     /// Nothing stands here yet, and both numbers begin at 1.
-    pub fn new() -> Place<P, Q, K>
+    pub fn new() -> Place<P>
         ensures { result ≡ record { row = Plain; next = 1; next_ask = 1 } }
     {
         Place {

@@ -5,7 +5,6 @@ ghost use Rattle.txn_clients.specs.Accounts.{AccountTold, AnswersAsk, AnswersNew
 ghost use Rattle.txn_clients.specs.Rows.{AnswerFits, IsFreeFor, IsToldIn, MayHear, MayTell, Posts, RowReady, Rests, stand_of, with_waits};
 ghost use Rattle.txn_clients.specs.Waiting.{IsAnswerOf, IsNewAnswer, RowGoes};
 ghost use Rattle.txn_clients.specs.declared.row.Row.TheVariants.{Asking, Begun};
-ghost use Rattle.txn_commit.specs.Committing.{ways};
 ghost use Rattle.txn_commit.specs.Jobs.{JobReady};
 ghost use Rattle.txn_core.specs.Going.{TransactionReady};
 ghost use Rattle.txn_core.specs.Transaction.{is_open};
@@ -16,14 +15,13 @@ use crate::answer::{Answer, Pd};
 use crate::told::Told;
 use crate::transactions::{hear, perform};
 use txn_client::ClientCall;
-use txn_commit::{PlanFor, SecondaryJob};
+use txn_commit::{Plans, SecondaryJob};
 use txn_core::Transaction;
-use txn_kv::{BatchRollbackRequest, CommitRequest, NoMemory, Outbox, PrewriteRequest};
+use txn_kv::{NoMemory, Outbox};
 use txn_lines::Act;
 
 /// What stands at a line. Clients are counted from 0, and lines from 1.
-#[derive(Drop)]
-pub enum Row<P, Q, K> {
+pub enum Row<P> {
     Plain,
     Client {
         client: usize,
@@ -32,12 +30,12 @@ pub enum Row<P, Q, K> {
     Asking {
         client: usize,
         begins: bool,
-        call: ClientCall<Pd, P, Q, K>,
+        call: ClientCall<Pd, P>,
     },
     /// A transaction that has begun. `waits` is the line of its call that is open, or 0.
     Begun {
         client: usize,
-        transaction: Transaction<Pd, P, Q, K>,
+        transaction: Transaction<Pd, P>,
         waits: u64,
     },
     /// A call of the transaction of a line.
@@ -53,8 +51,34 @@ pub enum Row<P, Q, K> {
     /// A job goes on behind a commit, or is over.
     Working {
         client: usize,
-        job: SecondaryJob<Q>,
+        job: SecondaryJob<P>,
     },
+}
+
+impl<P: Drop> Drop for Row<P> {
+    fn drop(self) {
+        match self {
+            Row::Plain => {}
+            Row::Client { client: _ } => {}
+            Row::Asking {
+                client: _,
+                begins: _,
+                call,
+            } => drop(call),
+            Row::Begun {
+                client: _,
+                transaction,
+                waits: _,
+            } => drop(transaction),
+            Row::Calling {
+                client: _,
+                transaction: _,
+                commits: _,
+            } => {}
+            Row::Past { client: _ } => {}
+            Row::Working { client: _, job } => drop(job),
+        }
+    }
 }
 
 /// Whether it commits.
@@ -73,17 +97,15 @@ pub fn is_commit(act: &Act) -> bool
 }
 
 /// A call of a client is told of something.
-fn tell_call<P, Q, K>(
-    call: &mut ClientCall<Pd, P, Q, K>,
+fn tell_call<P>(
+    call: &mut ClientCall<Pd, P>,
     told: Told,
     pd: &mut Pd,
     now: u64,
     out: &mut Outbox,
-) -> Result<Option<Answer<P, Q, K>>, NoMemory>
+) -> Result<Option<Answer<P>>, NoMemory>
 where
-    P: PlanFor<PrewriteRequest>,
-    Q: PlanFor<CommitRequest>,
-    K: PlanFor<BatchRollbackRequest>,
+    P: Plans,
     requires ready { CallReady call.old.stage }
     requires wants { WantsNew call.old }
     requires told { MayTell told }
@@ -92,13 +114,13 @@ where
     ensures ready { OnOk result (CallReady call.new.stage) }
     ensures wants { OnOk result (WantsNew call.new) }
     ensures begins { IfOk result (λ answer. IfSome answer AnswersNew) }
-    ensures goes { IfOk result (λ answer. (c : ℕ) (b : Bool) → RowGoes (ways P.meaning Q.meaning K.meaning P.refuses Q.refuses K.refuses) told (Asking c b call.old) (Asking c b call.new) out.old out.new answer) }
+    ensures goes { IfOk result (λ answer. (c : ℕ) (b : Bool) → RowGoes P.ways told (Asking c b call.old) (Asking c b call.new) out.old out.new answer) }
     ensures new { IfOk result (λ answer. IfSome answer IsNewAnswer) }
     ensures kind { IfOk result (λ answer. (c : ℕ) (b : Bool) → IfSome answer (IsAnswerOf (stand_of (Asking c b call.old)))) }
     ensures posts { OnOk result (Posts out.old out.new) }
-    ensures fits { IfOk result (λ answer. IfSome answer (AnswerFits (ways P.meaning Q.meaning K.meaning P.refuses Q.refuses K.refuses))) }
+    ensures fits { IfOk result (λ answer. IfSome answer (AnswerFits P.ways)) }
     ensures stamped { IfOk result (λ answer. IfSome answer (IsToldIn told)) }
-    ensures moves { IfOk result (λ answer. (c : ℕ) (b : Bool) → RowMoves (ways P.meaning Q.meaning K.meaning P.refuses Q.refuses K.refuses) told (Asking c b call.old) (Asking c b call.new) out.old out.new answer) }
+    ensures moves { IfOk result (λ answer. (c : ℕ) (b : Bool) → RowMoves P.ways told (Asking c b call.old) (Asking c b call.new) out.old out.new answer) }
 {
     match told {
         Told::Start => {
@@ -114,36 +136,34 @@ where
 }
 
 /// A transaction is told of something.
-fn tell_transaction<P, Q, K>(
-    transaction: &mut Transaction<Pd, P, Q, K>,
+fn tell_transaction<P>(
+    transaction: &mut Transaction<Pd, P>,
     told: Told,
     pd: &mut Pd,
     now: u64,
     out: &mut Outbox,
-) -> Result<Option<Answer<P, Q, K>>, NoMemory>
+) -> Result<Option<Answer<P>>, NoMemory>
 where
-    P: PlanFor<PrewriteRequest>,
-    Q: PlanFor<CommitRequest>,
-    K: PlanFor<BatchRollbackRequest>,
-    requires ready { TransactionReady (ways P.meaning Q.meaning K.meaning P.refuses Q.refuses K.refuses) transaction.old }
+    P: Plans,
+    requires ready { TransactionReady P.ways transaction.old }
     requires told { MayTell told }
     requires quiet { IsQuiet transaction.old }
     requires free { IsFreeFor told transaction.old.work }
     requires numbers { HasNumbers out.old }
     requires clock { now < 2 ^ 44 }
-    ensures goes { IfOk result (λ answer. (c m : ℕ) → RowGoes (ways P.meaning Q.meaning K.meaning P.refuses Q.refuses K.refuses) told (Begun c transaction.old m) (Begun c transaction.new m) out.old out.new answer) }
+    ensures goes { IfOk result (λ answer. (c m : ℕ) → RowGoes P.ways told (Begun c transaction.old m) (Begun c transaction.new m) out.old out.new answer) }
     ensures new { IfOk result (λ answer. IfSome answer IsNewAnswer) }
     ensures kind { IfOk result (λ answer. (c m : ℕ) → IfSome answer (IsAnswerOf (stand_of (Begun c transaction.old m)))) }
-    ensures ready { OnOk result (TransactionReady (ways P.meaning Q.meaning K.meaning P.refuses Q.refuses K.refuses) transaction.new) }
+    ensures ready { OnOk result (TransactionReady P.ways transaction.new) }
     ensures quiet { OnOk result (IsQuiet transaction.new) }
     ensures account { IfOk result (λ answer. AccountTold told answer (account_of transaction.old) (account_of transaction.new)) }
     ensures answers { IfOk result (AnswersAsk told (account_of transaction.old)) }
     ensures begins { IfOk result (λ answer. IfSome answer AnswersNew) }
     ensures posts { OnOk result (Posts out.old out.new) }
     ensures rests { IfOk result (λ answer. IfSome answer (λ a. is_open transaction.new.work ≡ false)) }
-    ensures fits { IfOk result (λ answer. IfSome answer (AnswerFits (ways P.meaning Q.meaning K.meaning P.refuses Q.refuses K.refuses))) }
+    ensures fits { IfOk result (λ answer. IfSome answer (AnswerFits P.ways)) }
     ensures stamped { IfOk result (λ answer. IfSome answer (IsToldIn told)) }
-    ensures moves { IfOk result (StandMoves (ways P.meaning Q.meaning K.meaning P.refuses Q.refuses K.refuses) told transaction.old transaction.new out.old out.new) }
+    ensures moves { IfOk result (StandMoves P.ways told transaction.old transaction.new out.old out.new) }
 {
     match told {
         Told::Start => Ok(None),
@@ -159,20 +179,20 @@ where
 }
 
 /// A job is told of something. Nobody waits for its end.
-fn tell_job<Q: PlanFor<CommitRequest>>(
-    job: &mut SecondaryJob<Q>,
+fn tell_job<P: Plans>(
+    job: &mut SecondaryJob<P>,
     told: Told,
     pd: &mut Pd,
     now: u64,
     out: &mut Outbox,
 ) -> Result<(), NoMemory>
-    requires ready { JobReady Q.meaning job.old }
+    requires ready { JobReady P.ways.plan job.old }
     requires told { MayTell told }
     requires numbers { HasNumbers out.old }
     requires clock { now < 2 ^ 44 }
-    ensures ready { OnOk result (JobReady Q.meaning job.new) }
+    ensures ready { OnOk result (JobReady P.ways.plan job.new) }
     ensures posts { OnOk result (Posts out.old out.new) }
-    ensures moves { OnOk result (JobMoves Q.meaning Q.refuses told job.old job.new out.old out.new) }
+    ensures moves { OnOk result (JobMoves P.ways.plan P.ways.uncommitted told job.old job.new out.old out.new) }
 {
     match told {
         Told::Start => {
@@ -187,7 +207,7 @@ fn tell_job<Q: PlanFor<CommitRequest>>(
     }
 }
 
-impl<P, Q, K> Row<P, Q, K> {
+impl<P> Row<P> {
     /// The client of the line, if it has one.
     pub fn client(&self) -> Option<usize>
         ensures { result ≡ client_at (stand_of self.now) }
@@ -219,11 +239,9 @@ impl<P, Q, K> Row<P, Q, K> {
     }
 }
 
-impl<P, Q, K> Row<P, Q, K>
+impl<P> Row<P>
 where
-    P: PlanFor<PrewriteRequest>,
-    Q: PlanFor<CommitRequest>,
-    K: PlanFor<BatchRollbackRequest>,
+    P: Plans,
 {
     /// What stands here is told of something, and posts in `out` what it wants done. It stays what it is.
     pub fn tell(
@@ -232,25 +250,25 @@ where
         pd: &mut Pd,
         now: u64,
         out: &mut Outbox,
-    ) -> Result<Option<Answer<P, Q, K>>, NoMemory>
-        requires ready { RowReady (ways P.meaning Q.meaning K.meaning P.refuses Q.refuses K.refuses) self.old }
+    ) -> Result<Option<Answer<P>>, NoMemory>
+        requires ready { RowReady P.ways self.old }
         requires told { MayTell told }
         requires hears { MayHear told self.old }
         requires numbers { HasNumbers out.old }
         requires clock { now < 2 ^ 44 }
-        ensures goes { IfOk result (λ answer. RowGoes (ways P.meaning Q.meaning K.meaning P.refuses Q.refuses K.refuses) told self.old self.new out.old out.new answer) }
+        ensures goes { IfOk result (λ answer. RowGoes P.ways told self.old self.new out.old out.new answer) }
         ensures new { IfOk result (λ answer. IfSome answer IsNewAnswer) }
         ensures kind { IfOk result (λ answer. IfSome answer (IsAnswerOf (stand_of self.old))) }
         ensures stand { OnOk result (stand_of self.new ≡ stand_of self.old) }
-        ensures ready { OnOk result (RowReady (ways P.meaning Q.meaning K.meaning P.refuses Q.refuses K.refuses) self.new) }
+        ensures ready { OnOk result (RowReady P.ways self.new) }
         ensures account { IfOk result (λ answer. RowTold told answer self.old (account_in self.new)) }
         ensures answers { IfOk result (AnswersTold told self.old) }
         ensures begins { IfOk result (λ answer. IfSome answer AnswersNew) }
         ensures posts { OnOk result (Posts out.old out.new) }
         ensures rests { IfOk result (λ answer. IfSome answer (λ a. Rests self.new)) }
-        ensures fits { IfOk result (λ answer. IfSome answer (AnswerFits (ways P.meaning Q.meaning K.meaning P.refuses Q.refuses K.refuses))) }
+        ensures fits { IfOk result (λ answer. IfSome answer (AnswerFits P.ways)) }
         ensures stamped { IfOk result (λ answer. IfSome answer (IsToldIn told)) }
-        ensures moves { IfOk result (RowMoves (ways P.meaning Q.meaning K.meaning P.refuses Q.refuses K.refuses) told self.old self.new out.old out.new) }
+        ensures moves { IfOk result (RowMoves P.ways told self.old self.new out.old out.new) }
     {
         match self {
             Row::Asking { call, .. } => tell_call(call, told, pd, now, out),

@@ -4,6 +4,6 @@ use crate::clients::Clients;
 use std::marker::Send;
 use txn_kv::send::can_move;
 
-pub fn clients_can_move<P: Send, Q: Send, K: Send>() {
-    can_move::<Clients<P, Q, K>>();
+pub fn clients_can_move<P: Send>() {
+    can_move::<Clients<P>>();
 }

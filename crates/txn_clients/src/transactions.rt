@@ -10,7 +10,6 @@ ghost use Rattle.txn_clients.specs.Closing.{stage_after, status_by};
 ghost use Rattle.txn_clients.specs.Failing.{CameIn, KnowsAsk, owing};
 ghost use Rattle.txn_clients.specs.Rows.{IsTold};
 ghost use Rattle.txn_clients.specs.Waiting.{StandGoes};
-ghost use Rattle.txn_commit.specs.Committing.{ways};
 ghost use Rattle.txn_core.specs.Going.{TransactionReady};
 ghost use Rattle.txn_core.specs.Transaction.{is_open};
 ghost use Rattle.txn_history.specs.Posted.{HasNumbers};
@@ -20,23 +19,20 @@ ghost use Rattle.txn_history.specs.Arrivals.{MayArrive, awaited_as};
 ghost use Rattle.txn_lines.specs.declared.act.Act.TheVariants as acts;
 
 use crate::answer::Pd;
-use txn_commit::PlanFor;
+use txn_commit::Plans;
 use txn_core::{Status, Transaction, TxnAnswer};
-use txn_kv::{
-    Arrival, BatchRollbackRequest, CommitRequest, Error, NoMemory, Outbox, PrewriteRequest,
-    Progress,
-};
+use txn_kv::{Arrival, Error, NoMemory, Outbox, Progress};
 use txn_lines::Act;
 
 /// Whether the answer says that it is not known whether the transaction is committed.
-fn says_undetermined<Q>(answer: &txn_kv::Result<TxnAnswer<Q>>) -> bool
+fn says_undetermined<P>(answer: &txn_kv::Result<TxnAnswer<P>>) -> bool
     ensures { result ≡ says_undetermined (Ends answer.now) }
 {
     matches!(answer, Err(Error::UndeterminedError(_)))
 }
 
 /// Whether the status stayed, where the answer says that it is not known whether the transaction is committed.
-fn fits_status<Q>(progress: &Progress<TxnAnswer<Q>>, before: Status, after: Status) -> bool
+fn fits_status<P>(progress: &Progress<TxnAnswer<P>>, before: Status, after: Status) -> bool
     ensures { IsTrue result → says_undetermined (turn_of (Ok progress.now)) ≡ true → after ≡ before }
 {
     match progress {
@@ -46,14 +42,9 @@ fn fits_status<Q>(progress: &Progress<TxnAnswer<Q>>, before: Status, after: Stat
 }
 
 /// Whether a Commit of the primary was lost, where the answer says that it is not known whether the transaction is committed.
-fn fits_loss<P, Q, K>(
-    progress: &Progress<TxnAnswer<Q>>,
-    transaction: &Transaction<Pd, P, Q, K>,
-) -> bool
+fn fits_loss<P>(progress: &Progress<TxnAnswer<P>>, transaction: &Transaction<Pd, P>) -> bool
 where
-    P: PlanFor<PrewriteRequest>,
-    Q: PlanFor<CommitRequest>,
-    K: PlanFor<BatchRollbackRequest>,
+    P: Plans,
     ensures { IsTrue result → SaysLoss (turn_of (Ok progress.now)) transaction.now }
 {
     match progress {
@@ -63,11 +54,9 @@ where
 }
 
 /// Whether no Commit of the primary is out beside the one that is lost, where none was lost before.
-fn is_alone<P, Q, K>(arrival: &Arrival, transaction: &Transaction<Pd, P, Q, K>) -> bool
+fn is_alone<P>(arrival: &Arrival, transaction: &Transaction<Pd, P>) -> bool
 where
-    P: PlanFor<PrewriteRequest>,
-    Q: PlanFor<CommitRequest>,
-    K: PlanFor<BatchRollbackRequest>,
+    P: Plans,
     ensures { MatchBool result (IsAlone arrival.now transaction.now) (IsAlone arrival.now transaction.now → ⊥) }
 {
     match arrival {
@@ -81,21 +70,16 @@ where
 }
 
 /// Whether a commit may end with the answer.
-fn ends_commit<Q>(answer: &txn_kv::Result<TxnAnswer<Q>>) -> bool
+fn ends_commit<P>(answer: &txn_kv::Result<TxnAnswer<P>>) -> bool
     ensures { IsTrue result → EndsCommit answer.now }
 {
     matches!(answer, Ok(TxnAnswer::Committed(_, _)) | Err(_))
 }
 
 /// Whether the answer of a commit tells how the transaction stands.
-fn tells_end<P, Q, K>(
-    answer: &txn_kv::Result<TxnAnswer<Q>>,
-    transaction: &Transaction<Pd, P, Q, K>,
-) -> bool
+fn tells_end<P>(answer: &txn_kv::Result<TxnAnswer<P>>, transaction: &Transaction<Pd, P>) -> bool
 where
-    P: PlanFor<PrewriteRequest>,
-    Q: PlanFor<CommitRequest>,
-    K: PlanFor<BatchRollbackRequest>,
+    P: Plans,
     ensures { IsTrue result → TellsEnd answer.now transaction.now }
 {
     if !ends_commit(answer) {
@@ -106,14 +90,9 @@ where
 }
 
 /// Whether the answer of a commit, if there is one, tells how the transaction stands.
-fn tells_progress<P, Q, K>(
-    progress: &Progress<TxnAnswer<Q>>,
-    transaction: &Transaction<Pd, P, Q, K>,
-) -> bool
+fn tells_progress<P>(progress: &Progress<TxnAnswer<P>>, transaction: &Transaction<Pd, P>) -> bool
 where
-    P: PlanFor<PrewriteRequest>,
-    Q: PlanFor<CommitRequest>,
-    K: PlanFor<BatchRollbackRequest>,
+    P: Plans,
     ensures { IsTrue result → IfEnds (turn_of (Ok progress.now)) (λ v. TellsEnd v transaction.now) }
 {
     match progress {
@@ -123,7 +102,7 @@ where
 }
 
 /// The status of a transaction whose call, which commits or rolls back, has answered later than in its own line.
-fn status_by<Q>(commits: bool, answer: &txn_kv::Result<TxnAnswer<Q>>) -> Status
+fn status_by<P>(commits: bool, answer: &txn_kv::Result<TxnAnswer<P>>) -> Status
     ensures { result ≡ status_by commits answer.now }
 {
     if commits {
@@ -141,15 +120,13 @@ fn status_by<Q>(commits: bool, answer: &txn_kv::Result<TxnAnswer<Q>>) -> Status
 
 /// Whether a transaction has come as far as the answer of its call says, which commits or rolls back, and came later than in its
 /// own line.
-pub fn has_come_to<P, Q, K>(
-    transaction: &Transaction<Pd, P, Q, K>,
+pub fn has_come_to<P>(
+    transaction: &Transaction<Pd, P>,
     commits: bool,
-    answer: &txn_kv::Result<TxnAnswer<Q>>,
+    answer: &txn_kv::Result<TxnAnswer<P>>,
 ) -> bool
 where
-    P: PlanFor<PrewriteRequest>,
-    Q: PlanFor<CommitRequest>,
-    K: PlanFor<BatchRollbackRequest>,
+    P: Plans,
     ensures { IsTrue result → stage_of transaction.now ≡ stage_after commits answer.now }
 {
     if transaction.status() != status_by(commits, answer) {
@@ -159,25 +136,23 @@ where
 }
 
 /// A transaction is committed.
-fn commit<P, Q, K>(
-    transaction: &mut Transaction<Pd, P, Q, K>,
+fn commit<P>(
+    transaction: &mut Transaction<Pd, P>,
     pd: &mut Pd,
     now: u64,
     out: &mut Outbox,
-) -> Result<Progress<TxnAnswer<Q>>, NoMemory>
+) -> Result<Progress<TxnAnswer<P>>, NoMemory>
 where
-    P: PlanFor<PrewriteRequest>,
-    Q: PlanFor<CommitRequest>,
-    K: PlanFor<BatchRollbackRequest>,
+    P: Plans,
     requires idle { is_open transaction.old.work ≡ false }
-    requires ready { TransactionReady (ways P.meaning Q.meaning K.meaning P.refuses Q.refuses K.refuses) transaction.old }
+    requires ready { TransactionReady P.ways transaction.old }
     requires numbers { HasNumbers out.old }
     requires clock { now < 2 ^ 44 }
     requires quiet { IsQuiet transaction.old }
-    ensures told { IfKept (turn_of result) (IsTold (ways P.meaning Q.meaning K.meaning P.refuses Q.refuses K.refuses) transaction.new out.old out.new (turn_of result)) }
+    ensures told { IfKept (turn_of result) (IsTold P.ways transaction.new out.old out.new (turn_of result)) }
     ensures taken { IfKept (turn_of result) (HasTaken acts.Commit transaction.old transaction.new (turn_of result)) }
-    ensures goes { IfKept (turn_of result) (StandGoes (ways P.meaning Q.meaning K.meaning P.refuses Q.refuses K.refuses) (λ trace. trace) (λ a. ⊥) ⊤ (λ trace. KnowsAsk trace out.old.line acts.Commit (account_of transaction.old)) transaction.old transaction.new out.old out.new (turn_of result)) }
-    ensures moves { IfKept (turn_of result) (StandMoves (ways P.meaning Q.meaning K.meaning P.refuses Q.refuses K.refuses) (tells.Act acts.Commit) transaction.old transaction.new out.old out.new (answer_in Called (turn_of result))) }
+    ensures goes { IfKept (turn_of result) (StandGoes P.ways (λ trace. trace) (λ a. ⊥) ⊤ (λ trace. KnowsAsk trace out.old.line acts.Commit (account_of transaction.old)) transaction.old transaction.new out.old out.new (turn_of result)) }
+    ensures moves { IfKept (turn_of result) (StandMoves P.ways (tells.Act acts.Commit) transaction.old transaction.new out.old out.new (answer_in Called (turn_of result))) }
 {
     let progress = transaction.commit(pd, now, out)?;
     // It answers that its end is not known exactly where a Commit was lost: no plan makes it say otherwise.
@@ -188,25 +163,23 @@ where
 }
 
 /// A transaction is rolled back.
-fn roll_back<P, Q, K>(
-    transaction: &mut Transaction<Pd, P, Q, K>,
+fn roll_back<P>(
+    transaction: &mut Transaction<Pd, P>,
     pd: &mut Pd,
     now: u64,
     out: &mut Outbox,
-) -> Result<Progress<TxnAnswer<Q>>, NoMemory>
+) -> Result<Progress<TxnAnswer<P>>, NoMemory>
 where
-    P: PlanFor<PrewriteRequest>,
-    Q: PlanFor<CommitRequest>,
-    K: PlanFor<BatchRollbackRequest>,
+    P: Plans,
     requires idle { is_open transaction.old.work ≡ false }
-    requires ready { TransactionReady (ways P.meaning Q.meaning K.meaning P.refuses Q.refuses K.refuses) transaction.old }
+    requires ready { TransactionReady P.ways transaction.old }
     requires numbers { HasNumbers out.old }
     requires clock { now < 2 ^ 44 }
     requires quiet { IsQuiet transaction.old }
-    ensures told { IfKept (turn_of result) (IsTold (ways P.meaning Q.meaning K.meaning P.refuses Q.refuses K.refuses) transaction.new out.old out.new (turn_of result)) }
+    ensures told { IfKept (turn_of result) (IsTold P.ways transaction.new out.old out.new (turn_of result)) }
     ensures taken { IfKept (turn_of result) (HasTaken acts.Rollback transaction.old transaction.new (turn_of result)) }
-    ensures goes { IfKept (turn_of result) (StandGoes (ways P.meaning Q.meaning K.meaning P.refuses Q.refuses K.refuses) (λ trace. trace) (λ a. ⊥) ⊤ (λ trace. KnowsAsk trace out.old.line acts.Rollback (account_of transaction.old)) transaction.old transaction.new out.old out.new (turn_of result)) }
-    ensures moves { IfKept (turn_of result) (StandMoves (ways P.meaning Q.meaning K.meaning P.refuses Q.refuses K.refuses) (tells.Act acts.Rollback) transaction.old transaction.new out.old out.new (answer_in Called (turn_of result))) }
+    ensures goes { IfKept (turn_of result) (StandGoes P.ways (λ trace. trace) (λ a. ⊥) ⊤ (λ trace. KnowsAsk trace out.old.line acts.Rollback (account_of transaction.old)) transaction.old transaction.new out.old out.new (turn_of result)) }
+    ensures moves { IfKept (turn_of result) (StandMoves P.ways (tells.Act acts.Rollback) transaction.old transaction.new out.old out.new (answer_in Called (turn_of result))) }
 {
     let before = transaction.status();
     let progress = transaction.rollback(pd, now, out)?;
@@ -218,26 +191,24 @@ where
 }
 
 /// A transaction does what a line asks of it.
-pub fn perform<P, Q, K>(
-    transaction: &mut Transaction<Pd, P, Q, K>,
+pub fn perform<P>(
+    transaction: &mut Transaction<Pd, P>,
     act: Act,
     pd: &mut Pd,
     now: u64,
     out: &mut Outbox,
-) -> Result<Progress<TxnAnswer<Q>>, NoMemory>
+) -> Result<Progress<TxnAnswer<P>>, NoMemory>
 where
-    P: PlanFor<PrewriteRequest>,
-    Q: PlanFor<CommitRequest>,
-    K: PlanFor<BatchRollbackRequest>,
+    P: Plans,
     requires idle { is_open transaction.old.work ≡ false }
-    requires ready { TransactionReady (ways P.meaning Q.meaning K.meaning P.refuses Q.refuses K.refuses) transaction.old }
+    requires ready { TransactionReady P.ways transaction.old }
     requires numbers { HasNumbers out.old }
     requires clock { now < 2 ^ 44 }
     requires quiet { IsQuiet transaction.old }
-    ensures told { IfKept (turn_of result) (IsTold (ways P.meaning Q.meaning K.meaning P.refuses Q.refuses K.refuses) transaction.new out.old out.new (turn_of result)) }
+    ensures told { IfKept (turn_of result) (IsTold P.ways transaction.new out.old out.new (turn_of result)) }
     ensures taken { IfKept (turn_of result) (HasTaken act transaction.old transaction.new (turn_of result)) }
-    ensures goes { IfKept (turn_of result) (StandGoes (ways P.meaning Q.meaning K.meaning P.refuses Q.refuses K.refuses) (λ trace. trace) (λ a. ⊥) ⊤ (λ trace. KnowsAsk trace out.old.line act (account_of transaction.old)) transaction.old transaction.new out.old out.new (turn_of result)) }
-    ensures moves { IfKept (turn_of result) (StandMoves (ways P.meaning Q.meaning K.meaning P.refuses Q.refuses K.refuses) (tells.Act act) transaction.old transaction.new out.old out.new (answer_in Called (turn_of result))) }
+    ensures goes { IfKept (turn_of result) (StandGoes P.ways (λ trace. trace) (λ a. ⊥) ⊤ (λ trace. KnowsAsk trace out.old.line act (account_of transaction.old)) transaction.old transaction.new out.old out.new (turn_of result)) }
+    ensures moves { IfKept (turn_of result) (StandMoves P.ways (tells.Act act) transaction.old transaction.new out.old out.new (answer_in Called (turn_of result))) }
 {
     match act {
         Act::Put(key, value) => transaction.put(pd, key, value, now, out),
@@ -251,26 +222,24 @@ where
 }
 
 /// A transaction hears of something.
-pub fn hear<P, Q, K>(
-    transaction: &mut Transaction<Pd, P, Q, K>,
+pub fn hear<P>(
+    transaction: &mut Transaction<Pd, P>,
     arrival: Arrival,
     pd: &mut Pd,
     now: u64,
     out: &mut Outbox,
-) -> Result<Progress<TxnAnswer<Q>>, NoMemory>
+) -> Result<Progress<TxnAnswer<P>>, NoMemory>
 where
-    P: PlanFor<PrewriteRequest>,
-    Q: PlanFor<CommitRequest>,
-    K: PlanFor<BatchRollbackRequest>,
-    requires ready { TransactionReady (ways P.meaning Q.meaning K.meaning P.refuses Q.refuses K.refuses) transaction.old }
+    P: Plans,
+    requires ready { TransactionReady P.ways transaction.old }
     requires arrives { MayArrive arrival }
     requires numbers { HasNumbers out.old }
     requires clock { now < 2 ^ 44 }
     requires quiet { IsQuiet transaction.old }
-    ensures told { IfKept (turn_of result) (IsTold (ways P.meaning Q.meaning K.meaning P.refuses Q.refuses K.refuses) transaction.new out.old out.new (turn_of result)) }
+    ensures told { IfKept (turn_of result) (IsTold P.ways transaction.new out.old out.new (turn_of result)) }
     ensures heard { IfKept (turn_of result) (HasHeard transaction.old transaction.new (turn_of result)) }
-    ensures goes { IfKept (turn_of result) (StandGoes (ways P.meaning Q.meaning K.meaning P.refuses Q.refuses K.refuses) (owing out.old.line (tells.Heard arrival)) (λ a. a ≡ awaited_as arrival) (is_open transaction.old.work ≡ true) (λ trace. CameIn trace out.old arrival) transaction.old transaction.new out.old out.new (turn_of result)) }
-    ensures moves { IfKept (turn_of result) (StandMoves (ways P.meaning Q.meaning K.meaning P.refuses Q.refuses K.refuses) (tells.Heard arrival) transaction.old transaction.new out.old out.new (answer_in Called (turn_of result))) }
+    ensures goes { IfKept (turn_of result) (StandGoes P.ways (owing out.old.line (tells.Heard arrival)) (λ a. a ≡ awaited_as arrival) (is_open transaction.old.work ≡ true) (λ trace. CameIn trace out.old arrival) transaction.old transaction.new out.old out.new (turn_of result)) }
+    ensures moves { IfKept (turn_of result) (StandMoves P.ways (tells.Heard arrival) transaction.old transaction.new out.old out.new (answer_in Called (turn_of result))) }
 {
     // One Commit of the primary is out at a time.
     if !is_alone(&arrival, transaction) {
@@ -286,26 +255,24 @@ where
 }
 
 /// A transaction is told of something.
-fn tell<P, Q, K>(
-    transaction: &mut Transaction<Pd, P, Q, K>,
+fn tell<P>(
+    transaction: &mut Transaction<Pd, P>,
     arrival: Arrival,
     pd: &mut Pd,
     now: u64,
     out: &mut Outbox,
-) -> Result<Progress<TxnAnswer<Q>>, NoMemory>
+) -> Result<Progress<TxnAnswer<P>>, NoMemory>
 where
-    P: PlanFor<PrewriteRequest>,
-    Q: PlanFor<CommitRequest>,
-    K: PlanFor<BatchRollbackRequest>,
-    requires ready { TransactionReady (ways P.meaning Q.meaning K.meaning P.refuses Q.refuses K.refuses) transaction.old }
+    P: Plans,
+    requires ready { TransactionReady P.ways transaction.old }
     requires arrives { MayArrive arrival }
     requires numbers { HasNumbers out.old }
     requires clock { now < 2 ^ 44 }
     requires quiet { IsQuiet transaction.old }
-    ensures told { IfKept (turn_of result) (IsTold (ways P.meaning Q.meaning K.meaning P.refuses Q.refuses K.refuses) transaction.new out.old out.new (turn_of result)) }
+    ensures told { IfKept (turn_of result) (IsTold P.ways transaction.new out.old out.new (turn_of result)) }
     ensures heard { IfKept (turn_of result) (HasHeard transaction.old transaction.new (turn_of result)) }
-    ensures goes { IfKept (turn_of result) (StandGoes (ways P.meaning Q.meaning K.meaning P.refuses Q.refuses K.refuses) (owing out.old.line (tells.Heard arrival)) (λ a. a ≡ awaited_as arrival) (is_open transaction.old.work ≡ true) (λ trace. CameIn trace out.old arrival) transaction.old transaction.new out.old out.new (turn_of result)) }
-    ensures moves { SaysLoss (turn_of result) transaction.new → IsAlone arrival transaction.old → IfKept (turn_of result) (StandMoves (ways P.meaning Q.meaning K.meaning P.refuses Q.refuses K.refuses) (tells.Heard arrival) transaction.old transaction.new out.old out.new (answer_in Called (turn_of result))) }
+    ensures goes { IfKept (turn_of result) (StandGoes P.ways (owing out.old.line (tells.Heard arrival)) (λ a. a ≡ awaited_as arrival) (is_open transaction.old.work ≡ true) (λ trace. CameIn trace out.old arrival) transaction.old transaction.new out.old out.new (turn_of result)) }
+    ensures moves { SaysLoss (turn_of result) transaction.new → IsAlone arrival transaction.old → IfKept (turn_of result) (StandMoves P.ways (tells.Heard arrival) transaction.old transaction.new out.old out.new (answer_in Called (turn_of result))) }
 {
     transaction.tell(arrival, pd, now, out)
 }

@@ -1,7 +1,6 @@
 -- From what a call that failed had heard to what the report tells.
 use Rattle.std.proofs.Common.{◌≡◌, ◌⊎◌, inl, inr, zero, suc, ℕ, refl, sym, ap, ◌∙◌, subst}
-use Rattle.std.specs.Global.{Vec}
-use Rattle.std.specs.Prelude.{IfSome, Bool, if◌then◌else◌, true, false, List, [], ◌∷◌, Option, Some, None, Result, Err, reverse}
+use Rattle.std.specs.Prelude.{IfSome, Bool, true, false, List, [], ◌∷◌, Option, Some, None, Err, nat_eq, reverse}
 use Rattle.txn_kv.specs.ErrorView.{view_of, ErrorView, ErrorViews}
 use Rattle.txn_kv.specs.ErrorView.ErrorView.{plain, locks, region, undetermined as not_known, key, extracted, multiple, kv, text, pessimistic}
 use Rattle.txn_kv.specs.ErrorView.ErrorViews.{none, more}
@@ -14,9 +13,6 @@ use Rattle.txn_kv.specs.declared.message.KeyError.TheVariants.{Locked}
 use Rattle.txn_kv.specs.declared.message.RegionErr.{RegionErr}
 use Rattle.txn_kv.specs.declared.message.RegionErr.TheVariants.{EpochNotMatch}
 use Rattle.txn_kv.specs.declared.region.RegionWithLeader.{RegionWithLeader}
-use Rattle.txn_kv.specs.declared.reply.commits.BatchRollbackResponse.{BatchRollbackResponse}
-use Rattle.txn_kv.specs.declared.reply.commits.CommitResponse.{CommitResponse}
-use Rattle.txn_kv.specs.declared.reply.commits.PrewriteResponse.{PrewriteResponse}
 use Rattle.txn_kv.specs.declared.reply.Reply.{Reply}
 use Rattle.txn_kv.specs.declared.reply.Reply.TheVariants as replies
 use Rattle.txn_kv.specs.declared.request.Request.{Request}
@@ -36,17 +32,16 @@ use Rattle.txn_causes.specs.Heard.{Heard, heard_in}
 use Rattle.txn_causes.specs.Heard.Heard.{TookReply, WasLost}
 use Rattle.txn_causes.specs.Kinds.{IsOfKind}
 use Rattle.txn_buffer.specs.Contents.{Contents}
-use Rattle.txn_commit.specs.Committing.{Ways, ways}
+use Rattle.txn_commit.specs.Ways.{Ways}
 use Rattle.txn_commit.specs.Following.{Commits, undetermined}
 use Rattle.txn_merge.specs.declared.retry_options.RetryOptions.{RetryOptions}
 use Rattle.txn_commit_plans.specs.CausesOfCalls.{IsCallExplained, call_explained, untimed_caused}
 use Rattle.txn_commit_plans.specs.CausesOfCalls as calls
 use Rattle.txn_commit_plans.specs.CausesOfLookUps.{HasNoTimestamp}
-use Rattle.txn_commit_plans.specs.CausesOfPlans.{commits_caused, prewrites_caused, rollbacks_caused}
-use Rattle.txn_commit_plans.specs.Failing.{HasGivenWith, given_caused}
-use Rattle.txn_commit_plans.specs.Kinds.{CommitPlan, PrewritePlan, RollbackPlan, commit_plan, commit_retries, prewrite_plan, prewrite_retries, rollback_plan, rollback_retries}
+use Rattle.txn_commit_plans.specs.Transactions.{AnyPlan, transaction_ways, transactions_caused}
 use Rattle.txn_core.specs.Going.{TransactionGives}
-use Rattle.txn_side.specs.Trace.{AreOwn, AreShown, FailsIn, HasRefused, IsBarredIn, IsBegunAs, IsHarmless, IsRefusedIn, IsRefusedNow, LastTold, Trace, refused_asks, untimed_by, untimed_view}
+use Rattle.txn_side.specs.Trace.{kind_at, AreOwn, AreShown, FailsIn, HasRefused, IsBarredIn, IsBegunAs, IsHarmless, IsRefusedIn, IsRefusedNow, LastTold, Trace, refused_asks, untimed_by, untimed_view}
+use Rattle.txn_side.specs.Trace.CallKind.{ForTimestamp, OfTransaction}
 use Rattle.txn_report.specs.declared.outcome.Outcome.{Outcome}
 use Rattle.txn_report.specs.declared.report.Report.{Report}
 use Rattle.txn_lines.specs.Text.{IsScript}
@@ -68,6 +63,7 @@ use Rattle.txn_run.specs.Settled.{AreSettled}
 use Rattle.txn_run.specs.Whole.{AreWhole}
 use Rattle.txn_run.proofs.Asking.{fewer_refused, refused_again}
 use Rattle.txn_run.proofs.Calming.{not_calm}
+use Rattle.txn_run.proofs.Certain.{certain_lines}
 use Rattle.txn_run.proofs.Doubting.{told_of_doubt}
 use Rattle.txn_run.proofs.Matching.{lines_kind}
 use Rattle.txn_run.proofs.Refusing.{all_exact, never_caused, refused_untimed, view-InternalError}
@@ -250,7 +246,7 @@ module _ (t : Trace) (at n : ℕ) (h : List Event) (like : (u : Ticket) (r : Req
   untimed e says (inl k) = inl (has_cause (heard_in h) (HeardBy t n) (λ never. absurd never) took_shown lost_shown (view_of e) k)
   untimed e says (inr k) = asked e says k
 
-  module _ {P Q K A B D : Type 0} (w : Ways P Q K A B D)
+  module _ {P : Type 0} (w : Ways P)
       (failed : (options : RetryOptions) (start : Timestamp) (contents : Contents) (c : Commits) (h : List Event) (e : Error) → TransactionGives w options start contents c h (Err e) → IsCallExplained (attempts_left options.region_backoff) (undetermined c) h e) where
     call_failed : (e : Error) → LastTold t n e → CallFailed w (IsBegunAs t at) h e → IsExplained t at n e ⊎ IsUndetermined t at n e
     call_failed e last k = let x = k.transaction in by x k.retries (undetermined x.commits) (failed x.retry_options x.start x.contents x.commits h e (inl (x.parts, x.whole, k.fails)))
@@ -259,12 +255,15 @@ module _ (t : Trace) (at n : ℕ) (h : List Event) (like : (u : Ticket) (r : Req
         by x r None g = inl (explained r.0 r.1 (attempts_left x.retry_options.region_backoff) (attempts_same r.0 x.retry_options r.2) e (says_alone t n e last) g)
         by x r (Some u) g = inr (record { inner = g.0; error = g.1; explained = explained r.0 r.1 (attempts_left x.retry_options.region_backoff) (attempts_same r.0 x.retry_options r.2) g.0 (says_inside t n e g.0 g.1 last) g.2 })
 
-    fails : (e : Error) → LastTold t n e → HasFailedFor w false (IsBegunAs t at) h e → IsExplained t at n e ⊎ IsUndetermined t at n e
-    fails e last (inl k) = inl (untimed e (says_alone t n e last) (untimed_caused h e k))
-    fails e last (inr k) = call_failed e last k
+    fails : (e : Error) → LastTold t n e → HasFailedFor w (kind_at at n) (IsBegunAs t at) h e → IsExplained t at n e ⊎ IsUndetermined t at n e
+    fails e last k = by (nat_eq at n) k
+      where
+        by : (own : Bool) → HasFailedFor w (if own then ForTimestamp else OfTransaction) (IsBegunAs t at) h e → IsExplained t at n e ⊎ IsUndetermined t at n e
+        by true k = inl (untimed e (says_alone t n e last) (untimed_caused h e k))
+        by false k = call_failed e last k
 
 -- A rollback that is refused names a Commit that was lost.
-refused : {P Q K A B D : Type 0} (w : Ways P Q K A B D) (t : Trace) (at n : ℕ) (e : Error) → IsBarredIn (FailsFor w) t at n e → IsRollbackRefused t at n e
+refused : {P : Type 0} (w : Ways P) (t : Trace) (at n : ℕ) (e : Error) → IsBarredIn (FailsFor w) t at n e → IsRollbackRefused t at n e
 refused w t at n e b =
     let k = b.fails_so in
     let why = k.why in
@@ -283,11 +282,11 @@ module _ {Fails Causes : ℕ → Error → Type 0} (weaker : (n : ℕ) (e : Erro
   causes_meet outs ended (line ∷ before) k = (cause_meets _ _ (ask_of line) _ k.0, causes_meet outs ended before k.1)
 
 -- the plans by which the clients of a run commit
-abbrev pub plans : Ways PrewritePlan CommitPlan RollbackPlan (Vec PrewriteResponse) (Vec (Result CommitResponse Error)) (Vec (Result BatchRollbackResponse Error))
-plans = ways prewrite_plan commit_plan rollback_plan (HasGivenWith prewrite_plan prewrite_retries) (HasGivenWith commit_plan commit_retries) (HasGivenWith rollback_plan rollback_retries)
+abbrev pub plans : Ways AnyPlan
+plans = transaction_ways
 
 plans_explained : (options : RetryOptions) (start : Timestamp) (contents : Contents) (c : Commits) (h : List Event) (e : Error) → TransactionGives plans options start contents c h (Err e) → IsCallExplained (attempts_left options.region_backoff) (undetermined c) h e
-plans_explained = call_explained plans (given_caused prewrite_plan prewrite_retries prewrites_caused) (given_caused commit_plan commit_retries commits_caused) (given_caused rollback_plan rollback_retries rollbacks_caused)
+plans_explained = call_explained plans transactions_caused.unwritten transactions_caused.uncommitted transactions_caused.unrolled
 
 pub have_causes_told : (script : List Line) (report : Report) → AreBehind plans script report → CausesMeetLines (FailsFor plans) script report → HaveCauses script report
 have_causes_told script report behind k = causes_meet is_caused report.outcomes report.ended script k
@@ -301,7 +300,7 @@ have_causes_told script report behind k = causes_meet is_caused report.outcomes 
         like : (u : Ticket) (r : Request) (o : Reply) → Has t.events (Took u r o) → IsOfKind r o
         like u r o h = lines_kind plans script report behind (suc (ended_of report.ended n)) u r o h
 
-        by : FailsFor plans false (IsBegunAs t f.at) f.history e ⊎ IsBarredIn (FailsFor plans) t f.at n e → IsCaused t n e
+        by : FailsFor plans (kind_at f.at n) (IsBegunAs t f.at) f.history e ⊎ IsBarredIn (FailsFor plans) t f.at n e → IsCaused t n e
         by (inl so) = record { at = f.at; called = f.called; why = elim (fails t f.at n f.history like f.shown f.own f.counted plans plans_explained e f.last so.why) [ inl k ↦ inl k | inr k ↦ inr (inl k) ]; fed = so.fed }
         by (inr b) = let so = b.fails_so in record { at = f.at; called = f.called; why = inr (inr (refused plans t f.at n e b)); fed = so.fed }
 
@@ -319,6 +318,7 @@ ran_script bytes lines items report same script lawful causes behind = record {
   whole = holds.0;
   licensed = holds.1;
   settled = holds.2;
+  certain = certain_lines plans (reverse lines) report (subst (λ ls. CausesMeetLines (FailsFor plans) (reverse ls) report) same causes);
 }
   where
     as_script : Lawful lines report

@@ -42,12 +42,12 @@ one_calls n (UsesTransaction commits x) c (inr h) = absurd h
 one_calls n NoCall c h = absurd h
 
 -- the line of this number is there, and calls so
-record CallsSo (script : List Line) (c : Call) : Type 0 where
-  line : Line
-  there : line_at script c.line ≡ Some line
-  calls : IsAmong (calls_by c.line (role_of line)) c
+pub record CallsSo (script : List Line) (c : Call) : Type 0 where
+  pub line : Line
+  pub there : line_at script c.line ≡ Some line
+  pub calls : IsAmong (calls_by c.line (role_of line)) c
 
-calls_so : (script : List Line) (c : Call) → IsAmong (calls_of script) c → CallsSo script c
+pub calls_so : (script : List Line) (c : Call) → IsAmong (calls_of script) c → CallsSo script c
 calls_so [] c h = absurd h
 calls_so (l ∷ before) c h = elim (either_among (calls_by (suc (length before)) (role_of l)) (calls_of before) c h) [ inl here ↦ newest here (one_calls (suc (length before)) (role_of l) c here) | inr older ↦ earlier (calls_so before c older) ]
   where
@@ -65,7 +65,7 @@ calls_so (l ∷ before) c h = elim (either_among (calls_by (suc (length before))
         record { line = k.line; there = line_old l before c.line apart ∙ k.there; calls = k.calls }
 
 -- what called in earlier lines calls in the script
-called_before : (script : List Line) (n : ℕ) (c : Call) → IsAmong (calls_of (lines_before script n)) c → IsAmong (calls_of script) c
+pub called_before : (script : List Line) (n : ℕ) (c : Call) → IsAmong (calls_of (lines_before script n)) c → IsAmong (calls_of script) c
 called_before [] n c h = h
 called_before (l ∷ before) n c h = by (nat_lt (length (l ∷ before)) n) (λ k. called_before before n c k) h
   where

@@ -9,5 +9,6 @@ mod Calming
 mod Matching
 mod Asking
 mod Doubting
+mod Certain
 mod Causes
 mod Programs

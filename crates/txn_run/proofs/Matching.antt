@@ -26,7 +26,7 @@ use Rattle.txn_history.specs.Event.{Event, Has}
 use Rattle.txn_history.specs.Event.Event.{Refused, Served, Took}
 use Rattle.txn_history.specs.Plan.{Plan}
 use Rattle.txn_causes.specs.Kinds.{IsOfKind}
-use Rattle.txn_commit.specs.Committing.{Ways}
+use Rattle.txn_commit.specs.Ways.{Ways}
 use Rattle.txn_law.specs.Run.{IsPossible, IsRun, store_after}
 use Rattle.txn_lines.specs.declared.line.Line.{Line}
 use Rattle.txn_lines.specs.Deeds.{deed_of}
@@ -211,7 +211,7 @@ before_more sent outs (line ∷ before) k e h = by (nat_lt (length (line ∷ bef
     by false i more = sends_more sent n _ e (done_more (is_done (outcome_of outs n)) (λ t. find sent n t) (deed_of line) (history sent outs before) e (more i))
 
 -- each reply that was taken by a line is of its request's kind
-pub lines_kind : {P Q K A B D : Type 0} (w : Ways P Q K A B D) (script : List Line) (report : Report) → AreBehind w script report
+pub lines_kind : {P : Type 0} (w : Ways P) (script : List Line) (report : Report) → AreBehind w script report
     → (k : ℕ) (u : Ticket) (r : Request) (o : Reply) → Has (history report.sent report.outcomes (lines_before script k)) (Took u r o) → IsOfKind r o
 lines_kind w script report a k u r o h =
     let now = a.arisen.now in

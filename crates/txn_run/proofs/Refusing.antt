@@ -65,7 +65,7 @@ refused_untimed t line e like r = elim r.failed [ inl h ↦ (OracleLost, h.1, re
         let h = subst (λ x. Refuses (length r.group.askers) x e) kind.1 refuses in
         granted_untimed kind.0.timestamp kind.0.count (length r.group.askers) h.0 e h.2
 
-refused_internal : (t : Trace) (line : ℕ) (e : Error) → IsRefusedIn t line e → (what : Internal) × (e ≡ errors.InternalError what)
+pub refused_internal : (t : Trace) (line : ℕ) (e : Error) → IsRefusedIn t line e → (what : Internal) × (e ≡ errors.InternalError what)
 refused_internal t line e r = elim r.failed [ inl h ↦ (OracleLost, h.1) | inr h ↦ refuses_internal (length r.group.askers) h.0 e h.2 ]
 
 pub view-InternalError : (what : Internal) → view_of (errors.InternalError what) ≡ plain (errors.InternalError what)

@@ -22,7 +22,7 @@ use Rattle.txn_law.proofs.Wholes.{law_above, law_by_primary, law_fits, law_named
 use Rattle.txn_model.specs.Cells.{cell_at}
 use Rattle.txn_model.specs.Store.{Store}
 use Rattle.txn_model.specs.declared.cell.Cell.{Cell}
-use Rattle.txn_commit.specs.Committing.{Ways}
+use Rattle.txn_commit.specs.Ways.{Ways}
 use Rattle.txn_commit.specs.Following.{KnowsCommits, or_first, undetermined}
 use Rattle.txn_commit.specs.Parts.{parts_of}
 use Rattle.txn_commit.specs.Plans.{only_key}
@@ -228,7 +228,7 @@ none_left None [] e = (refl, refl)
 
 -- The clients behind a report
 
-module _ {P Q K A B D : Type 0} (w : Ways P Q K A B D) (script : List Line) (report : Report) (s : Clients P Q K) (askers : Ticket → List ℕ) (h : List Event)
+module _ {P : Type 0} (w : Ways P) (script : List Line) (report : Report) (s : Clients P) (askers : Ticket → List ℕ) (h : List Event)
     (shows : seen h ≡ history report.sent report.outcomes script) (arisen : Arisen w s askers [] h)
     (held : AllHold (λ x o. HoldsAt (rows_of s) (history report.sent report.outcomes script) x o) report.outcomes script)
     (accounts : (x : ℕ) → account_at (rows_of s) x ≡ account_in script report x)
@@ -257,13 +257,13 @@ module _ {P Q K A B D : Type 0} (w : Ways P Q K A B D) (script : List Line) (rep
   still_planned : (v i : ℕ) → IsFree v → HasPlan (without v plans) (row_at (rows_of s) i)
   still_planned v i free = by (row_at (rows_of s) i) (are i) (free i)
     where
-      by : (r : Row P Q K) → HasPlan plans r → (HasStart v r → (some : ℕ → Plan) → HasPlan some r) → HasPlan (without v plans) r
+      by : (r : Row P) → HasPlan plans r → (HasStart v r → (some : ℕ → Plan) → HasPlan some r) → HasPlan (without v plans) r
       by row.Plain has unbound = tt
       by (row.Client c) has unbound = tt
       by (row.Asking c b call) has unbound = tt
       by (row.Begun c t m) has unbound = at (nat_eq (version_of t.start) v) refl
         where
-          at : (b : Bool) → nat_eq (version_of t.start) v ≡ b → HasPlan {P = P} {Q = Q} {K = K} (without v plans) (row.Begun c t m)
+          at : (b : Bool) → nat_eq (version_of t.start) v ≡ b → HasPlan {P = P} (without v plans) (row.Begun c t m)
           at true e = unbound (grind (arith, nat_tests)) (without v plans)
           at false e = λ closed parts is. without_other v (version_of t.start) plans (λ same. grind (arith, nat_tests)) ∙ has closed parts is
       by (row.Calling c x b) has unbound = tt
@@ -285,7 +285,7 @@ module _ {P Q K A B D : Type 0} (w : Ways P Q K A B D) (script : List Line) (rep
   line_began : (i v : ℕ) → HasStart v (row_at (rows_of s) i) → BeganAt script report (suc i) v
   line_began i v start = by (row_at (rows_of s) i) refl start
     where
-      by : (r : Row P Q K) → row_at (rows_of s) i ≡ r → HasStart v r → BeganAt script report (suc i) v
+      by : (r : Row P) → row_at (rows_of s) i ≡ r → HasStart v r → BeganAt script report (suc i) v
       by (row.Begun c t m) e is = elim (has_line script (suc i)) [
         | inl missing ↦ absurd (let idle = sym (none (suc i) missing) ∙ row_here i ∙ ap stand_of e in cc)
         | inr (line, there) ↦
@@ -298,7 +298,7 @@ module _ {P Q K A B D : Type 0} (w : Ways P Q K A B D) (script : List Line) (rep
         where
           began_at : (k u : ℕ) (role : Role) (o : Outcome) → role ≡ AsksTime true k → o ≡ outcomes.Ok (Number u) → HoldsBy (λ x o. HoldsAt (rows_of s) shown x o) (suc i) role o → version_of t.start ≡ u
           began_at k u role o a b says =
-              subst (λ (r : Row P Q K). StartsAt u r) e
+              subst (λ (r : Row P). StartsAt u r) e
               (subst (λ (p : Outcome). HoldsBy (λ x o. HoldsAt (rows_of s) shown x o) (suc i) (AsksTime true k) p) b (subst (λ (z : Role). HoldsBy (λ x o. HoldsAt (rows_of s) shown x o) (suc i) z o) a says))
       by row.Plain e is = absurd is
       by (row.Client c) e is = absurd is
@@ -312,7 +312,7 @@ module _ {P Q K A B D : Type 0} (w : Ways P Q K A B D) (script : List Line) (rep
     pub place : ℕ
     pub is : x ≡ suc place
     pub client : ℕ
-    pub transaction : Standing P Q K
+    pub transaction : Standing P
     pub waits : ℕ
     pub here : row_at (rows_of s) place ≡ row.Begun client transaction waits
     pub start : version_of transaction.start ≡ v
@@ -323,7 +323,7 @@ module _ {P Q K A B D : Type 0} (w : Ways P Q K A B D) (script : List Line) (rep
       let r = row_begins (role_of (lines.Begin client options)) (outcome_of report.outcomes (suc i)) (stand_at (stands_of (rows_of s)) (suc i)) client v refl answered (stood (suc i) (lines.Begin client options) there) in
       by r.0 r.1 (row_at (rows_of s) i) refl (sym (row_here i) ∙ r.2)
     where
-      by : (c m : ℕ) (r : Row P Q K) → row_at (rows_of s) i ≡ r → stand_of (row_at (rows_of s) i) ≡ HasBegun c m → Stands (suc i) v
+      by : (c m : ℕ) (r : Row P) → row_at (rows_of s) i ≡ r → stand_of (row_at (rows_of s) i) ≡ HasBegun c m → Stands (suc i) v
       by c m (row.Begun d t n) e at = record {
         place = i;
         is = refl;
@@ -353,21 +353,21 @@ module _ {P Q K A B D : Type 0} (w : Ways P Q K A B D) (script : List Line) (rep
   unlocked_at i n there answered = ended_at i n _ there answered
 
   module _ (x v : ℕ) (k : Stands x v) where
-    abbrev t : Standing P Q K
+    abbrev t : Standing P
     t = k.transaction
 
     starts : HasStart v (row_at (rows_of s) k.place)
-    starts = subst (λ (r : Row P Q K). HasStart v r) (sym k.here) k.start
+    starts = subst (λ (r : Row P). HasStart v r) (sym k.here) k.start
 
     commits : (n d : ℕ) → CommitAnswered script report x n d → IsCommittedSo shown d (row.Begun k.client t k.waits)
-    commits n d c = subst (λ (r : Row P Q K). IsCommittedSo shown d r) k.here (committed_at k.place n d (subst (λ y. CommitAnswered script report y n d) k.is c))
+    commits n d c = subst (λ (r : Row P). IsCommittedSo shown d r) k.here (committed_at k.place n d (subst (λ y. CommitAnswered script report y n d) k.is c))
 
     unlocks : (n : ℕ) → line_at script n ≡ Some (lines.Commit x) → outcome_of report.outcomes n ≡ outcomes.Ok (CommittedAt None) → IsCommittedUnlocked (row.Begun k.client t k.waits)
-    unlocks n there answered = subst (λ (r : Row P Q K). IsCommittedUnlocked r) k.here (unlocked_at k.place n (subst (λ y. line_at script n ≡ Some (lines.Commit y)) k.is there) answered)
+    unlocks n there answered = subst (λ (r : Row P). IsCommittedUnlocked r) k.here (unlocked_at k.place n (subst (λ y. line_at script n ≡ Some (lines.Commit y)) k.is there) answered)
 
     account_is : account_of t ≡ account_in script report x
     account_is =
-        sym (ap (λ (r : Row P Q K). account_in_row r) k.here)
+        sym (ap (λ (r : Row P). account_in_row r) k.here)
         ∙ subst (λ y. account_at (rows_of s) y ≡ account_in script report x) k.is (accounts x)
 
     contents_are : t.contents ≡ (account_in script report x).contents
@@ -381,13 +381,13 @@ module _ {P Q K A B D : Type 0} (w : Ways P Q K A B D) (script : List Line) (rep
     )
       where
         free : IsFree v
-        free i start some = subst (λ (r : Row P Q K). HasPlan some r) (sym (ap (λ j. row_at (rows_of s) j) (apart i k.place v start starts) ∙ k.here)) (λ closed parts is. absurd (never parts closed is))
+        free i start some = subst (λ (r : Row P). HasPlan some r) (sym (ap (λ j. row_at (rows_of s) j) (apart i k.place v start starts) ∙ k.here)) (λ closed parts is. absurd (never parts closed is))
 
     shown_run : IsRun plans shown
     shown_run = subst (IsRun plans) shows (seen_runs plans h (arisen.run plans are))
 
     planned_so : (parts : CommitParts) → allows_data t.status ≡ false → parts_of t.contents ≡ Some parts → plans v ≡ plan_of parts
-    planned_so parts closed is = ap plans (sym k.start) ∙ subst (λ (r : Row P Q K). HasPlan plans r) k.here (are k.place) closed parts is
+    planned_so parts closed is = ap plans (sym k.start) ∙ subst (λ (r : Row P). HasPlan plans r) k.here (are k.place) closed parts is
 
     -- what is whole in the report is so by the law
     whole_there : (parts : CommitParts) → plans v ≡ plan_of parts → (c : ℕ) → IsWholeAt (plan_of parts) cells v c → IsWholeAt (plans v) (store_after shown).cells v c
@@ -397,15 +397,15 @@ module _ {P Q K A B D : Type 0} (w : Ways P Q K A B D) (script : List Line) (rep
     own = posted_at (nexts_of s) (asks_of s) (voice_at (rows_of s) k.place)
 
     stand_fits : StandFits w t own h
-    stand_fits = subst (λ (r : Row P Q K). RowFits w (rows_of s) own h r) k.here (arisen.rows k.place)
+    stand_fits = subst (λ (r : Row P). RowFits w (rows_of s) own h r) k.here (arisen.rows k.place)
 
     -- Where it is whole, some commit of it may have done that.
     module _ (parts : CommitParts) (closed : allows_data t.status ≡ false) (is : parts_of t.contents ≡ Some parts) (c : ℕ) (whole : IsWholeAt (plan_of parts) cells v c) where
       -- what is known of the Commits of its primary
-      knows : (g : Work P Q K) → t.work ≡ g → KnowsCommits (plan_of parts) v t.commits h
-      knows g e = subst (λ u. KnowsCommits (plan_of parts) u t.commits h) k.start (by g (subst (λ (y : Work P Q K). IsAtWork w t.options.retry_options t.start t.status t.contents t.commits y own h) e stand_fits.1.at) (sym (ap has_given_up e) ∙ stand_fits.2))
+      knows : (g : Work P) → t.work ≡ g → KnowsCommits (plan_of parts) v t.commits h
+      knows g e = subst (λ u. KnowsCommits (plan_of parts) u t.commits h) k.start (by g (subst (λ (y : Work P). IsAtWork w t.options.retry_options t.start t.status t.contents t.commits y own h) e stand_fits.1.at) (sym (ap has_given_up e) ∙ stand_fits.2))
         where
-          by : (g : Work P Q K) → IsAtWork w t.options.retry_options t.start t.status t.contents t.commits g own h → has_given_up g ≡ false → KnowsCommits (plan_of parts) (version_of t.start) t.commits h
+          by : (g : Work P) → IsAtWork w t.options.retry_options t.start t.status t.contents t.commits g own h → has_given_up g ≡ false → KnowsCommits (plan_of parts) (version_of t.start) t.commits h
           by works.Idle at lives = (at.of_parts parts is).knows
           by (works.Open call) at lives = subst (λ (p : CommitParts). KnowsCommits (plan_of p) (version_of t.start) t.commits h) (some_same (sym at.whole ∙ is)) (subst (λ u. KnowsCommits (plan_of call.parts) (version_of u) t.commits h) at.own at.fits.knows)
           by works.GaveUp at lives = absurd (cc)
@@ -491,7 +491,7 @@ module _ {P Q K A B D : Type 0} (w : Ways P Q K A B D) (script : List Line) (rep
             (subst (λ (st : Store). (x : Content) × HasCommit (cell_at st.cells (plans v).primary) v c x) (sym folds)
             (law_by_primary plans shown shown_run v c (ap (λ (p : Plan). p.way) planned) (whole_there parts planned c whole)))
 
-        same_plan : (d : ℕ) → IsCommittedSo {P = P} {Q = Q} {K = K} shown d (row.Begun k.client t k.waits) → PrimaryCommitted (plan_of parts) shown v d
+        same_plan : (d : ℕ) → IsCommittedSo {P = P} shown d (row.Begun k.client t k.waits) → PrimaryCommitted (plan_of parts) shown v d
         same_plan d q =
             let one : q.0 ≡ parts = some_same (sym q.2 ∙ is) in
             subst (λ (p : CommitParts). PrimaryCommitted (plan_of p) shown v d) one (subst (λ u. PrimaryCommitted (plan_of q.0) shown u d) k.start q.3)
@@ -567,13 +567,13 @@ module _ {P Q K A B D : Type 0} (w : Ways P Q K A B D) (script : List Line) (rep
   have_plans : (any : ℕ → Plan) → ArePlansOf any script report → HavePlans any (rows_of s)
   have_plans any like i = by (row_at (rows_of s) i) refl
     where
-      by : (r : Row P Q K) → row_at (rows_of s) i ≡ r → HasPlan any r
+      by : (r : Row P) → row_at (rows_of s) i ≡ r → HasPlan any r
       by row.Plain e = tt
       by (row.Client c) e = tt
       by (row.Asking c b call) e = tt
       by (row.Begun c t m) e = λ closed parts is.
-          let account : account_of t ≡ account_in script report (suc i) = sym (ap (λ (r : Row P Q K). account_in_row r) e) ∙ accounts (suc i) in
-          like (suc i) (version_of t.start) (line_began i (version_of t.start) (subst (λ (r : Row P Q K). HasStart (version_of t.start) r) (sym e) refl)) parts (
+          let account : account_of t ≡ account_in script report (suc i) = sym (ap (λ (r : Row P). account_in_row r) e) ∙ accounts (suc i) in
+          like (suc i) (version_of t.start) (line_began i (version_of t.start) (subst (λ (r : Row P). HasStart (version_of t.start) r) (sym e) refl)) parts (
             sym (ap (λ (a : Account). allows_write a.status) account) ∙ is_unwritten t.status (is_open t.work) (is_some (undetermined t.commits)) closed,
             sym (ap (λ (a : Account). parts_of a.contents) account) ∙ is,
           )
@@ -630,7 +630,7 @@ module _ {P Q K A B D : Type 0} (w : Ways P Q K A B D) (script : List Line) (rep
   }
 
 -- So it is where clients that can have arisen from the lines are behind the report.
-pub lines_hold : {P Q K A B D : Type 0} (w : Ways P Q K A B D) (script : List Line) (report : Report)
+pub lines_hold : {P : Type 0} (w : Ways P) (script : List Line) (report : Report)
     → AreBehind w script report → FoldsLines script report → TellsLines script report → AccountsMeetLines script report → AreWhole script report × AreLicensed script report × AreSettled script report
 lines_hold w script report a folds told accounted = let now = a.arisen.now in (
   are_whole w script report a.clients now.1 now.2 now.3 now.4 a.arisen.answers a.taken a.rows a.none folds.store (plans_in (rows_of a.clients)) (plans_found (rows_of a.clients) now.4.apart) now.4.apart undone accounted,

@@ -1,5 +1,6 @@
 pub mod Caused
 pub mod Refused
+pub mod Certain
 pub mod Calm
 pub mod Whole
 pub mod Licensed

@@ -16,6 +16,7 @@ use Rattle.txn_report.specs.Text.{text_of_report}
 use Rattle.txn_stream.specs.Bytes.{Rose, ReadsAll}
 use Rattle.txn_run.specs.Calm.{AreCalm}
 use Rattle.txn_run.specs.Caused.{HaveCauses}
+use Rattle.txn_run.specs.Certain.{AreCertain}
 use Rattle.txn_run.specs.Doubt.{AreToldOfDoubt}
 use Rattle.txn_run.specs.Licensed.{AreLicensed}
 use Rattle.txn_run.specs.Refused.{AreExact}
@@ -54,6 +55,8 @@ pub record RanScript (bytes : List ℕ) (report : Report) : Type 0 where
   pub licensed : AreLicensed (reverse lines) report
   -- and what a reply said of locks is so at the end
   pub settled : AreSettled (reverse lines) report
+  -- a call for a timestamp is never in doubt
+  pub certain : AreCertain (reverse lines) report
 
 -- The lines ran on the machine of the first path, too, of whose report more is promised, and the two reports tell the same. No call sleeps, but
 -- its heartbeat may.

@@ -6,7 +6,7 @@ ghost use Rattle.txn_run.specs.declared.program.ScriptStop.TheVariants.{Bad, Mem
 use crate::over::run_over;
 use std::alloc::Global;
 use txn_alike::{are_alike, are_beats};
-use txn_commit_plans::{BatchRollbackPlan, CommitPlan, PrewritePlan};
+use txn_commit_plans::TransactionPlan;
 use txn_kv::NoMemory;
 use txn_lines::{BadAt, Why, parse_script};
 use txn_report::{Report, report_text};
@@ -72,7 +72,7 @@ fn run_lines_of(alloc: Global, bytes: &[u8]) -> Result<Report, ScriptStop>
         Err(bad) => Err(ScriptStop::Bad(bad)),
         Ok(script) => {
             let lines = script.lines.into_vec();
-            Ok(run_over::<PrewritePlan, CommitPlan, BatchRollbackPlan>(alloc, lines)?)
+            Ok(run_over::<TransactionPlan>(alloc, lines)?)
         }
     }
 }

@@ -1,5 +1,5 @@
 -- What has happened in a run so far, what the calls of clients have heard of it, and what a call that fails rests on.
-use Rattle.std.specs.Prelude.{IfSome, ◌≡◌, ◌⊎◌, ◌∷◌, ◌+◌, ◌<◌, ◌≤◌, ⊤, ℕ, Bool, true, false, if◌then◌else◌, List, [], length, nat_eq, Option, Some, None, Result, Ok, Err}
+use Rattle.std.specs.Prelude.{IfSome, ◌≡◌, ◌⊎◌, ◌∷◌, ◌+◌, ◌<◌, ◌≤◌, ⊤, ℕ, false, if◌then◌else◌, List, [], length, nat_eq, Option, Some, None, Result, Ok, Err}
 use Rattle.std.proofs.Common.{inl, inr, suc, subst, sym, ◌∙◌}
 use Rattle.std.specs.List.{All, Any}
 use Rattle.txn_kv.specs.ErrorView.{ErrorView, view_of}
@@ -279,20 +279,30 @@ pub record IsLonger (t longer : Trace) : Type 0 where
 
 -- How a call fails
 
--- With which errors a call may fail: any call, or a rollback alone. It depends on what is said of the options with which its transaction
--- was to begin, and on what the call had heard.
+-- Calls that fail in ways of their own: those for a timestamp, those of a transaction, and its rollbacks, which may also be refused.
+pub data CallKind : Type 0 where
+  ForTimestamp : CallKind
+  OfTransaction : CallKind
+  OfRollback : CallKind
+
+-- What a call for a timestamp is told stands at its own line, and what one of a transaction is told at that of the transaction.
+abbrev pub kind_at : ℕ → ℕ → CallKind
+kind_at at line = if nat_eq at line then ForTimestamp else OfTransaction
+
+-- With which errors a call of a kind may fail. It depends on what is said of the options with which its transaction was to begin, and on
+-- what the call had heard.
 abbrev pub HowCallsFail : Type 1
-HowCallsFail = Bool → (BeginOptions → Type 0) → List Event → Error → Type 0
+HowCallsFail = CallKind → (BeginOptions → Type 0) → List Event → Error → Type 0
 
 -- The line rolls back, and fails so after what is known of its transaction, which stands at `at`, and has happened, be it for other lines.
 pub record IsBarredIn (fails : HowCallsFail) (t : Trace) (at line : ℕ) (e : Error) : Type 0 where
   pub rolls : IsAmong t.rollbacks line
   pub known : List Event
   pub shown : AreShown t at known
-  pub fails_so : fails true (IsBegunAs t at) known e
+  pub fails_so : fails OfRollback (IsBegunAs t at) known e
 
--- The call of the line failed with this error after what it had heard, which has happened, and has come for this line: as any call
--- may, where what stands at `at` was to begin with such options; or as a rollback alone. Of the asks of the line that were refused it
+-- The call of the line failed with this error after what it had heard, which has happened, and has come for this line: as a call of its
+-- kind may, where what stands at `at` was to begin with such options; or as a rollback alone. Of the asks of the line that were refused it
 -- has heard each once at most, and where it failed for want of a timestamp it is with the last of them.
 pub record FailsIn (fails : HowCallsFail) (t : Trace) (line : ℕ) (e : Error) : Type 0 where
   pub at : ℕ
@@ -302,7 +312,7 @@ pub record FailsIn (fails : HowCallsFail) (t : Trace) (line : ℕ) (e : Error) :
   pub own : AreOwn line history
   pub counted : HasRefused t line (refused_asks history)
   pub last : LastTold t line e
-  pub fails_so : fails false (IsBegunAs t at) history e ⊎ IsBarredIn fails t at line e
+  pub fails_so : fails (kind_at at line) (IsBegunAs t at) history e ⊎ IsBarredIn fails t at line e
 
 -- or it was refused
 abbrev pub EndsFor : HowCallsFail → Trace → Ending → Type 0
@@ -388,10 +398,10 @@ module _ (t longer : Trace) (l : IsLonger t longer) where
     counted = l.refused line (refused_asks f.history) f.counted;
     last = last_longer quiet line e f.last;
     fails_so = elim f.fails_so [
-      | inl k ↦ inl (as_long false f.history k)
-      | inr k ↦ inr (record { rolls = l.rollbacks line k.rolls; known = k.known; shown = λ x h. shown_longer f.at x (k.shown x h); fails_so = as_long true k.known k.fails_so })
+      | inl k ↦ inl (as_long (kind_at f.at line) f.history k)
+      | inr k ↦ inr (record { rolls = l.rollbacks line k.rolls; known = k.known; shown = λ x h. shown_longer f.at x (k.shown x h); fails_so = as_long OfRollback k.known k.fails_so })
     ];
   }
     where
-      as_long : (rolls : Bool) (h : List Event) → fails rolls (IsBegunAs t f.at) h e → fails rolls (IsBegunAs longer f.at) h e
-      as_long rolls h k = subst (λ (bs : List Begin). fails rolls (λ options. IsAmong bs (record { line = f.at; options = options })) h e) same k
+      as_long : (kind : CallKind) (h : List Event) → fails kind (IsBegunAs t f.at) h e → fails kind (IsBegunAs longer f.at) h e
+      as_long kind h k = subst (λ (bs : List Begin). fails kind (λ options. IsAmong bs (record { line = f.at; options = options })) h e) same k

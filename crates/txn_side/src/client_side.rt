@@ -48,8 +48,7 @@ pub trait ClientSide: Sized + Drop {
     // How far the transaction of a line has come, and what it has taken in: nothing, where none has begun there.
     ghost account: { Self → ℕ → Account };
 
-    // With which errors a call may fail after what it has heard: any call, or a rollback alone, of a transaction that was to begin with
-    // these options.
+    // With which errors a call of a kind may fail after what it has heard, where the transaction was to begin with these options.
     ghost fails: { HowCallsFail };
 
     // What the calls have heard has happened.

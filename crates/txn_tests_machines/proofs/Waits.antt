@@ -13,7 +13,7 @@ none_waits_on Hears posted old new = record { lines = λ line a h. absurd h; gro
 
 -- and nothing fails
 abbrev pub never : HowCallsFail
-never rolls begun heard error = ⊥
+never kind begun heard error = ⊥
 
 pub none_rests : (t : Trace) → ⊤ × All (EndsFor never (with_posted [] t)) []
 none_rests t = (tt, All-nil (EndsFor never (with_posted [] t)))

@@ -31,7 +31,7 @@ impl ClientSide for Nobody {
 
     ghost account = { λ s n. new_account };
 
-    ghost fails = { λ rolls begun heard error. ⊥ };
+    ghost fails = { λ kind begun heard error. ⊥ };
 
     ghost rests = { λ s trace. ⊤ };
 

@@ -6,22 +6,20 @@ ghost use Rattle.txn_client.specs.Calls.{CallReady, called};
 ghost use Rattle.txn_clients.specs.Accounts.{WantsNew, account_at};
 ghost use Rattle.txn_clients.specs.Closing.{GoesTold};
 ghost use Rattle.txn_client.specs.declared.client_call.Stage.TheVariants.{Fresh};
-ghost use Rattle.txn_clients.specs.Clients.{AreReady, HasOut, Listens, crashed_of, groups_of, row_at, rows_of, sight_of};
-ghost use Rattle.txn_clients.specs.Failing.{CalledIn, CameIn, GroupCameIn, KnowsAsk, MayKnow, outbox_of, owing, owing_all, posting_in, refused_out};
+ghost use Rattle.txn_clients.specs.Clients.{AreReady, HasOut, Listens, crashed_of, row_at, rows_of, sight_of};
 ghost use Rattle.txn_clients.specs.Going.{OfLine};
 ghost use Rattle.txn_history.specs.Event.Event.{Lost as Gone, Took};
-ghost use Rattle.txn_side.specs.Trace.{Trace};
 ghost use Rattle.txn_clients.specs.Options.{AreOptionsOf};
 ghost use Rattle.txn_clients.specs.Rows.{Brings, MayHear, MayTell, Tells};
-ghost use Rattle.txn_clients.specs.Waiting.{AreRunningBut, GroupsBeside, HearsAt, IsPrepared, IsQuiet, IsReady, IsSound, Steps, book_at, pends, WantedIn};
+ghost use Rattle.txn_clients.specs.Turns.{AskSteps, CallSteps, CameSteps, GroupSteps, ToldSteps, calling};
+ghost use Rattle.txn_clients.specs.Waiting.{GroupsBeside, IsReady};
 ghost use Rattle.txn_clients.specs.declared.told.Told.TheVariants.{Heard};
-ghost use Rattle.txn_commit.specs.Committing.{ways};
 ghost use Rattle.txn_history.specs.Meaning.{IsUnbegun};
 ghost use Rattle.txn_kv.specs.declared.ticket.Ticket.{Ticket as Name};
 ghost use Rattle.txn_history.specs.Arrivals.{MayArrive};
 ghost use Rattle.txn_side.specs.Doubt.{itself};
 ghost use Rattle.txn_side.specs.Account.{AreClosed, AreKept, TakesIn};
-ghost use Rattle.txn_side.specs.Sight.{EndsAlone, Goes, IsGiven, Names, NoneGiven, commits, is_free, line_count, stand_at, with_stand, client_at, is_live};
+ghost use Rattle.txn_side.specs.Sight.{EndsAlone, Goes, IsGiven, Names, NoneGiven, commits, is_free, line_count, stand_at, with_stand, is_live};
 ghost use Rattle.txn_side.specs.Sight.Stand.{Asking, Calling, HasBegun, Idle};
 
 use crate::answer::Pd;
@@ -31,11 +29,9 @@ use crate::place::Place;
 use crate::row::{Row, is_commit};
 use crate::told::Told;
 use txn_client::ClientCall;
-use txn_commit::PlanFor;
+use txn_commit::Plans;
 use txn_core::TransactionOptions;
-use txn_kv::{
-    Arrival, BatchRollbackRequest, CommitRequest, NoMemory, PrewriteRequest, Reply, Request, Ticket,
-};
+use txn_kv::{Arrival, NoMemory, Reply, Request, Ticket};
 use txn_lines::{Act, BeginOptions, ClientAct};
 use txn_side::{ClientSide, Turn};
 
@@ -53,7 +49,7 @@ fn options_of(options: BeginOptions) -> TransactionOptions
     wanted
 }
 
-impl<P, Q, K> Clients<P, Q, K> {
+impl<P> Clients<P> {
     /// Whether nothing stands at the newest line.
     fn is_new(&self) -> bool
         ensures { IsTrue result → stand_at (sight_of self.now).stands (line_count (sight_of self.now)) ≡ Idle }
@@ -81,18 +77,16 @@ impl<P, Q, K> Clients<P, Q, K> {
     }
 }
 
-impl<P, Q, K> Clients<P, Q, K>
+impl<P> Clients<P>
 where
-    P: PlanFor<PrewriteRequest>,
-    Q: PlanFor<CommitRequest>,
-    K: PlanFor<BatchRollbackRequest>,
+    P: Plans,
 {
     /// The newest line calls for a timestamp of a client.
     fn ask(
         &mut self,
         client: usize,
         begins: bool,
-        call: ClientCall<Pd, P, Q, K>,
+        call: ClientCall<Pd, P>,
         now: u64,
     ) -> Result<Turn, NoMemory>
         requires call { CallReady call.stage }
@@ -101,15 +95,15 @@ where
         requires unbegun { IsUnbegun called call }
         requires client { slice_index_or (crashed_of self.old) client true ≡ false }
         requires line { 1 ≤ line_count (sight_of self.old) }
-        requires ready { AreReady (ways P.meaning Q.meaning K.meaning P.refuses Q.refuses K.refuses) (rows_of self.old) }
+        requires ready { AreReady P.ways (rows_of self.old) }
         requires clock { now < 2 ^ 44 }
         ensures turn { IfOk result (λ turn. Goes turn.posted.items turn.ended.items (with_stand (line_count (sight_of self.old)) (Asking client begins) (sight_of self.old)) (sight_of self.new)) }
         ensures alone { IfOk result (λ turn. EndsAlone (line_count (sight_of self.old)) turn.ended.items) }
         ensures names { IfOk result (λ turn. All (Names NoneGiven) turn.ended.items) }
-        ensures steps { IfOk result (λ turn. (trace : Option Trace) → IsReady (ways P.meaning Q.meaning K.meaning P.refuses Q.refuses K.refuses) self.old → CalledIn trace (line_count (sight_of self.old)) (line_count (sight_of self.old)) → WantedIn trace (line_count (sight_of self.old)) call → IsSound (ways P.meaning Q.meaning K.meaning P.refuses Q.refuses K.refuses) (posting_in [] trace) [] self.old → Steps (ways P.meaning Q.meaning K.meaning P.refuses Q.refuses K.refuses) trace (λ n a. ⊥) turn.posted.items turn.ended.items self.old self.new) }
-        ensures ready { OnOk result (AreReady (ways P.meaning Q.meaning K.meaning P.refuses Q.refuses K.refuses) (rows_of self.new)) }
+        ensures steps { IfOk result (AskSteps P.ways call self.old self.new) }
+        ensures ready { OnOk result (AreReady P.ways (rows_of self.new)) }
         ensures accounts { OnOk result (AreKept (account_at (rows_of self.old)) (account_at (rows_of self.new))) }
-        ensures leads { IfOk result (λ turn. LeadsSent (ways P.meaning Q.meaning K.meaning P.refuses Q.refuses K.refuses) [] turn.posted.items [] turn.ended.items itself self.old self.new) }
+        ensures leads { IfOk result (λ turn. LeadsSent P.ways [] turn.posted.items [] turn.ended.items itself self.old self.new) }
     {
         // A call begins where nothing stands.
         if !self.is_new() {
@@ -137,17 +131,17 @@ where
         now: u64,
     ) -> Result<Turn, NoMemory>
         requires listens { Listens (sight_of self.old) line listener.at listener.client }
-        requires ready { AreReady (ways P.meaning Q.meaning K.meaning P.refuses Q.refuses K.refuses) (rows_of self.old) }
+        requires ready { AreReady P.ways (rows_of self.old) }
         requires told { MayTell told }
         requires hears { MayHear told (row_at (rows_of self.old) listener.at) }
         requires clock { now < 2 ^ 44 }
         ensures turn { IfOk result (λ turn. Goes turn.posted.items turn.ended.items (sight_of self.old) (sight_of self.new)) }
         ensures alone { IfOk result (λ turn. EndsAlone line turn.ended.items) }
         ensures names { IfOk result (λ turn. All (Names (OfLine line (Tells told))) turn.ended.items) }
-        ensures steps { IfOk result (λ turn. (trace : Option Trace) → client_at (stand_at (sight_of self.old).stands line) ≡ Some listener.client → MayKnow (posting_in [] trace) (outbox_of line) told (row_at (rows_of self.old) listener.at) → IsSound (ways P.meaning Q.meaning K.meaning P.refuses Q.refuses K.refuses) (posting_in [] (owing line told trace)) (pends line told []) self.old → ((c : ℕ) → c ≢ listener.client → IsQuiet (book_at self.old c)) → AreRunningBut listener.at (rows_of self.old) → IsPrepared told (row_at (rows_of self.old) listener.at) → Steps (ways P.meaning Q.meaning K.meaning P.refuses Q.refuses K.refuses) trace (HearsAt line told) turn.posted.items turn.ended.items self.old self.new) }
-        ensures ready { OnOk result (AreReady (ways P.meaning Q.meaning K.meaning P.refuses Q.refuses K.refuses) (rows_of self.new)) }
+        ensures steps { IfOk result (ToldSteps P.ways told line listener.at listener.client self.old self.new) }
+        ensures ready { OnOk result (AreReady P.ways (rows_of self.new)) }
         ensures accounts { IfOk result (λ turn. GoesTold told line listener.at (stand_at (sight_of self.old).stands line) (rows_of self.old) (rows_of self.new) [] turn.ended.items) }
-        ensures leads { IfOk result (λ turn. StepsTold (ways P.meaning Q.meaning K.meaning P.refuses Q.refuses K.refuses) told line listener.client turn.posted.items turn.ended.items self.old self.new) }
+        ensures leads { IfOk result (λ turn. StepsTold P.ways told line listener.client turn.posted.items turn.ended.items self.old self.new) }
     {
         let mut turn = Turn::new(self.alloc);
         self.go(line, listener, told, now, &mut turn)?;
@@ -166,15 +160,15 @@ where
         requires transaction { stand_at (sight_of self.old).stands transaction ≡ HasBegun client 0 }
         requires client { slice_index_or (crashed_of self.old) client true ≡ false }
         requires line { 1 ≤ line_count (sight_of self.old) }
-        requires ready { AreReady (ways P.meaning Q.meaning K.meaning P.refuses Q.refuses K.refuses) (rows_of self.old) }
+        requires ready { AreReady P.ways (rows_of self.old) }
         requires clock { now < 2 ^ 44 }
-        ensures turn { IfOk result (λ turn. Goes turn.posted.items turn.ended.items (with_stand (line_count (sight_of self.old)) (Calling client transaction (commits act)) (with_stand transaction (HasBegun client (line_count (sight_of self.old))) (sight_of self.old))) (sight_of self.new)) }
+        ensures turn { IfOk result (λ turn. Goes turn.posted.items turn.ended.items (calling client transaction (commits act) (sight_of self.old)) (sight_of self.new)) }
         ensures alone { IfOk result (λ turn. EndsAlone (line_count (sight_of self.old)) turn.ended.items) }
         ensures names { IfOk result (λ turn. All (Names NoneGiven) turn.ended.items) }
-        ensures steps { IfOk result (λ turn. (trace : Option Trace) → IsReady (ways P.meaning Q.meaning K.meaning P.refuses Q.refuses K.refuses) self.old → CalledIn trace (line_count (sight_of self.old)) transaction → KnowsAsk trace (line_count (sight_of self.old)) act (account_at (rows_of self.old) transaction) → IsSound (ways P.meaning Q.meaning K.meaning P.refuses Q.refuses K.refuses) (posting_in [] trace) [] self.old → Steps (ways P.meaning Q.meaning K.meaning P.refuses Q.refuses K.refuses) trace (λ n a. ⊥) turn.posted.items turn.ended.items self.old self.new) }
-        ensures ready { OnOk result (AreReady (ways P.meaning Q.meaning K.meaning P.refuses Q.refuses K.refuses) (rows_of self.new)) }
+        ensures steps { IfOk result (CallSteps P.ways act transaction self.old self.new) }
+        ensures ready { OnOk result (AreReady P.ways (rows_of self.new)) }
         ensures takes { IfOk result (λ turn. TakesIn act transaction (line_count (sight_of self.old)) (account_at (rows_of self.old)) (account_at (rows_of self.new)) turn.ended.items) }
-        ensures leads { IfOk result (λ turn. LeadsSent (ways P.meaning Q.meaning K.meaning P.refuses Q.refuses K.refuses) [] turn.posted.items [] turn.ended.items (λ n. record { at = transaction; commits = commits act }) self.old self.new) }
+        ensures leads { IfOk result (λ turn. LeadsSent P.ways [] turn.posted.items [] turn.ended.items (λ n. record { at = transaction; commits = commits act }) self.old self.new) }
     {
         // A call begins where nothing stands.
         if !self.is_new() {
@@ -204,14 +198,14 @@ where
     ) -> Result<Turn, NoMemory>
         requires client { client < length (crashed_of self.old) }
         requires arrives { MayArrive arrival }
-        requires ready { AreReady (ways P.meaning Q.meaning K.meaning P.refuses Q.refuses K.refuses) (rows_of self.old) }
+        requires ready { AreReady P.ways (rows_of self.old) }
         requires clock { now < 2 ^ 44 }
         ensures turn { IfOk result (λ turn. Goes turn.posted.items turn.ended.items (sight_of self.old) (sight_of self.new)) }
         ensures names { IfOk result (λ turn. All (Names (OfLine line (Brings arrival))) turn.ended.items) }
-        ensures steps { IfOk result (λ turn. (trace : Option Trace) → is_live (sight_of self.old) line ≡ true → client_at (stand_at (sight_of self.old).stands line) ≡ Some client → IsReady (ways P.meaning Q.meaning K.meaning P.refuses Q.refuses K.refuses) self.old → owing line (Heard arrival) trace ≡ trace → CameIn (posting_in [] trace) (outbox_of line) arrival → IsSound (ways P.meaning Q.meaning K.meaning P.refuses Q.refuses K.refuses) (posting_in [] trace) [] self.old → Steps (ways P.meaning Q.meaning K.meaning P.refuses Q.refuses K.refuses) trace (HearsAt line (Heard arrival)) turn.posted.items turn.ended.items self.old self.new) }
-        ensures ready { OnOk result (AreReady (ways P.meaning Q.meaning K.meaning P.refuses Q.refuses K.refuses) (rows_of self.new)) }
+        ensures steps { IfOk result (CameSteps P.ways arrival line client self.old self.new) }
+        ensures ready { OnOk result (AreReady P.ways (rows_of self.new)) }
         ensures accounts { IfOk result (λ turn. AreClosed (sight_of self.old) turn.ended.items (account_at (rows_of self.old)) (account_at (rows_of self.new))) }
-        ensures leads { IfOk result (λ turn. StepsTold (ways P.meaning Q.meaning K.meaning P.refuses Q.refuses K.refuses) (Heard arrival) line client turn.posted.items turn.ended.items self.old self.new) }
+        ensures leads { IfOk result (λ turn. StepsTold P.ways (Heard arrival) line client turn.posted.items turn.ended.items self.old self.new) }
     {
         let mut turn = Turn::new(self.alloc);
         self.tell(line, arrival, now, &mut turn)?;
@@ -222,15 +216,15 @@ where
     /// The reply to the group of a client came.
     fn hear_group(&mut self, client: usize, reply: Reply, now: u64) -> Result<Turn, NoMemory>
         requires client { client < length (crashed_of self.old) }
-        requires ready { AreReady (ways P.meaning Q.meaning K.meaning P.refuses Q.refuses K.refuses) (rows_of self.old) }
+        requires ready { AreReady P.ways (rows_of self.old) }
         requires clock { now < 2 ^ 44 }
         ensures turn { IfOk result (λ turn. Goes turn.posted.items turn.ended.items (sight_of self.old) (sight_of self.new)) }
         ensures given { IfOk result (λ turn. (t : Name) → HasOut (sight_of self.old) client t → All (Names (IsGiven (sight_of self.old) t reply)) turn.ended.items) }
-        ensures steps { IfOk result (λ turn. (trace : Option Trace) → IsReady (ways P.meaning Q.meaning K.meaning P.refuses Q.refuses K.refuses) self.old → GroupCameIn trace (slice_index_or (groups_of self.old) client None) (λ u r. Took u r reply) → IsSound (ways P.meaning Q.meaning K.meaning P.refuses Q.refuses K.refuses) (posting_in [] (owing_all (refused_out (λ u r. Took u r reply) (slice_index_or (groups_of self.old) client None)) trace)) [] self.old → Steps (ways P.meaning Q.meaning K.meaning P.refuses Q.refuses K.refuses) trace (λ n a. ⊥) turn.posted.items turn.ended.items self.old self.new) }
-        ensures groups { IfOk result (λ turn. IsReady (ways P.meaning Q.meaning K.meaning P.refuses Q.refuses K.refuses) self.old → GroupsBeside client turn.posted.items (sight_of self.old) (sight_of self.new)) }
-        ensures ready { OnOk result (AreReady (ways P.meaning Q.meaning K.meaning P.refuses Q.refuses K.refuses) (rows_of self.new)) }
+        ensures steps { IfOk result (GroupSteps P.ways client (λ u r. Took u r reply) self.old self.new) }
+        ensures groups { IfOk result (λ turn. IsReady P.ways self.old → GroupsBeside client turn.posted.items (sight_of self.old) (sight_of self.new)) }
+        ensures ready { OnOk result (AreReady P.ways (rows_of self.new)) }
         ensures accounts { IfOk result (λ turn. AreClosed (sight_of self.old) turn.ended.items (account_at (rows_of self.old)) (account_at (rows_of self.new))) }
-        ensures leads { IfOk result (λ turn. StepsGroup (ways P.meaning Q.meaning K.meaning P.refuses Q.refuses K.refuses) client (λ u r. Took u r reply) turn.posted.items turn.ended.items self.old self.new) }
+        ensures leads { IfOk result (λ turn. StepsGroup P.ways client (λ u r. Took u r reply) turn.posted.items turn.ended.items self.old self.new) }
     {
         let mut turn = Turn::new(self.alloc);
         self.take_group(client, reply, now, &mut turn)?;
@@ -241,15 +235,15 @@ where
     /// The group of a client was lost.
     fn miss_group(&mut self, client: usize, now: u64) -> Result<Turn, NoMemory>
         requires client { client < length (crashed_of self.old) }
-        requires ready { AreReady (ways P.meaning Q.meaning K.meaning P.refuses Q.refuses K.refuses) (rows_of self.old) }
+        requires ready { AreReady P.ways (rows_of self.old) }
         requires clock { now < 2 ^ 44 }
         ensures turn { IfOk result (λ turn. Goes turn.posted.items turn.ended.items (sight_of self.old) (sight_of self.new)) }
         ensures given { IfOk result (λ turn. All (Names NoneGiven) turn.ended.items) }
-        ensures steps { IfOk result (λ turn. (trace : Option Trace) → IsReady (ways P.meaning Q.meaning K.meaning P.refuses Q.refuses K.refuses) self.old → GroupCameIn trace (slice_index_or (groups_of self.old) client None) (λ u r. Gone u r) → IsSound (ways P.meaning Q.meaning K.meaning P.refuses Q.refuses K.refuses) (posting_in [] (owing_all (refused_out (λ u r. Gone u r) (slice_index_or (groups_of self.old) client None)) trace)) [] self.old → Steps (ways P.meaning Q.meaning K.meaning P.refuses Q.refuses K.refuses) trace (λ n a. ⊥) turn.posted.items turn.ended.items self.old self.new) }
-        ensures groups { IfOk result (λ turn. IsReady (ways P.meaning Q.meaning K.meaning P.refuses Q.refuses K.refuses) self.old → GroupsBeside client turn.posted.items (sight_of self.old) (sight_of self.new)) }
-        ensures ready { OnOk result (AreReady (ways P.meaning Q.meaning K.meaning P.refuses Q.refuses K.refuses) (rows_of self.new)) }
+        ensures steps { IfOk result (GroupSteps P.ways client (λ u r. Gone u r) self.old self.new) }
+        ensures groups { IfOk result (λ turn. IsReady P.ways self.old → GroupsBeside client turn.posted.items (sight_of self.old) (sight_of self.new)) }
+        ensures ready { OnOk result (AreReady P.ways (rows_of self.new)) }
         ensures accounts { IfOk result (λ turn. AreClosed (sight_of self.old) turn.ended.items (account_at (rows_of self.old)) (account_at (rows_of self.new))) }
-        ensures leads { IfOk result (λ turn. StepsGroup (ways P.meaning Q.meaning K.meaning P.refuses Q.refuses K.refuses) client (λ u r. Gone u r) turn.posted.items turn.ended.items self.old self.new) }
+        ensures leads { IfOk result (λ turn. StepsGroup P.ways client (λ u r. Gone u r) turn.posted.items turn.ended.items self.old self.new) }
     {
         let mut turn = Turn::new(self.alloc);
         self.lose_group(client, now, &mut turn)?;
@@ -258,11 +252,9 @@ where
     }
 }
 
-impl<P, Q, K> ClientSide for Clients<P, Q, K>
+impl<P> ClientSide for Clients<P>
 where
-    P: PlanFor<PrewriteRequest> + Drop,
-    Q: PlanFor<CommitRequest> + Drop,
-    K: PlanFor<BatchRollbackRequest> + Drop,
+    P: Plans,
 {
     ghost use Rattle.txn_clients.specs.Accounts.{account_at};
     ghost use Rattle.txn_clients.specs.Clients.{rows_of, sight_of};
@@ -272,35 +264,34 @@ where
     ghost use Rattle.txn_clients.specs.Arising.{ArisenFrom, HoldsAt};
     ghost use Rattle.txn_clients.specs.Unmoved.{arises_when_longer, nobody_arises_so};
     ghost use Rattle.txn_clients.specs.Waiting.{IsReady, waits_of};
-    ghost use Rattle.txn_commit.specs.Committing.{ways};
 
     ghost sight = { sight_of };
 
-    ghost ready = { IsReady (ways P.meaning Q.meaning K.meaning P.refuses Q.refuses K.refuses) };
+    ghost ready = { IsReady P.ways };
 
-    ghost waits = { waits_of (ways P.meaning Q.meaning K.meaning P.refuses Q.refuses K.refuses) };
+    ghost waits = { waits_of P.ways };
 
-    ghost nobody_waits = { nobody_waits_so (ways P.meaning Q.meaning K.meaning P.refuses Q.refuses K.refuses) };
+    ghost nobody_waits = { nobody_waits_so P.ways };
 
-    ghost due = { due_when_ready (ways P.meaning Q.meaning K.meaning P.refuses Q.refuses K.refuses) };
+    ghost due = { due_when_ready P.ways };
 
     ghost account = { λ s. account_at (rows_of s) };
 
-    ghost fails = { FailsFor (ways P.meaning Q.meaning K.meaning P.refuses Q.refuses K.refuses) };
+    ghost fails = { FailsFor P.ways };
 
-    ghost rests = { RestsIn (ways P.meaning Q.meaning K.meaning P.refuses Q.refuses K.refuses) };
+    ghost rests = { RestsIn P.ways };
 
-    ghost rests_longer = { rests_when_longer (ways P.meaning Q.meaning K.meaning P.refuses Q.refuses K.refuses) };
+    ghost rests_longer = { rests_when_longer P.ways };
 
-    ghost nobody_rests = { nobody_rests_so (ways P.meaning Q.meaning K.meaning P.refuses Q.refuses K.refuses) };
+    ghost nobody_rests = { nobody_rests_so P.ways };
 
-    ghost arises = { ArisenFrom (ways P.meaning Q.meaning K.meaning P.refuses Q.refuses K.refuses) };
+    ghost arises = { ArisenFrom P.ways };
 
     ghost holds = { λ s h x o. HoldsAt (rows_of s) h x o };
 
-    ghost nobody_arises = { nobody_arises_so (ways P.meaning Q.meaning K.meaning P.refuses Q.refuses K.refuses) };
+    ghost nobody_arises = { nobody_arises_so P.ways };
 
-    ghost arises_longer = { arises_when_longer (ways P.meaning Q.meaning K.meaning P.refuses Q.refuses K.refuses) };
+    ghost arises_longer = { arises_when_longer P.ways };
 
     fn open(&mut self) -> Result<(), NoMemory> {
         self.places.push(Place::new())?;

@@ -1,18 +1,18 @@
 //! Timestamps: the groups of asks that go out, and what comes of them.
-ghost use Rattle.txn_clients.specs.Arising.{GroupsNext, LeadsGiven, LeadsGroup, LeadsSent, PostsGroup, heard_by, oracle_of};
-ghost use Rattle.std.specs.Prelude.{◌≡◌, ◌<◌, ◌≤◌, ◌^◌, ℕ, [], List, None, Option, Some, false, length, map, option_map, slice_index_or, slice_set, true, IfOk, IfSome, IsTrue, OnOk};
+ghost use Rattle.txn_clients.specs.Arising.{GroupsNext, LeadsGiven, LeadsSent, PostsGroup, heard_by, oracle_of};
+ghost use Rattle.std.specs.Prelude.{◌≡◌, ◌<◌, ◌≤◌, ◌^◌, ℕ, [], None, Option, Some, false, length, option_map, slice_set, true, IfOk, IfSome, IsTrue, OnOk};
 ghost use Rattle.std.specs.List.{All};
 ghost use Rattle.txn_clients.specs.Accounts.{account_at};
 ghost use Rattle.txn_clients.specs.Clients.{AreGiven, AreReady, HasOut, IsLine, asks_at, crashed_of, groups_of, nexts_of, rows_of, sight_of};
-ghost use Rattle.txn_clients.specs.Failing.{AreGivenIn, GroupCameIn, IfFails, owing_all, posting_in, refused_of, refused_out};
+ghost use Rattle.txn_clients.specs.Failing.{IfFails};
 ghost use Rattle.txn_clients.specs.Going.{Advances, NamesIn};
 ghost use Rattle.txn_history.specs.Event.Event.{Lost, Took};
 ghost use Rattle.txn_kv.specs.declared.errors.Error.TheVariants.{InternalError};
 ghost use Rattle.txn_kv.specs.declared.errors.Internal.TheVariants.{OracleLost};
-ghost use Rattle.txn_side.specs.Trace.{Refuses, Trace};
+ghost use Rattle.txn_side.specs.Trace.{Refuses};
 ghost use Rattle.txn_clients.specs.Groups.{IsRefused, IsTimeFor, IsTimed};
-ghost use Rattle.txn_clients.specs.Waiting.{AreRunning, EndsGroup, GoesOn, IsSound, RegroupsAt, SendsGroup, SendsOn, SetsTicket, Takes, book_at};
-ghost use Rattle.txn_commit.specs.Committing.{ways};
+ghost use Rattle.txn_clients.specs.Turns.{GivenGoes, GroupGoes, GroupLeads, NextGoes};
+ghost use Rattle.txn_clients.specs.Waiting.{AreRunning, RegroupsAt, SendsGroup, SetsTicket, Takes, book_at};
 ghost use Rattle.txn_kv.specs.declared.reply.Reply.TheVariants as replies;
 ghost use Rattle.txn_kv.specs.declared.reply.cluster.TsoResponse.{TsoResponse as Times};
 ghost use Rattle.txn_kv.specs.declared.request.Request.TheVariants.{Tso};
@@ -20,19 +20,15 @@ ghost use Rattle.txn_kv.specs.declared.ticket.Ticket.{Ticket as Name};
 ghost use Rattle.txn_side.specs.Account.{AreClosed};
 ghost use Rattle.txn_side.specs.Sight.{AskFor, GroupsGo, IsGiven, IsNext, NoneGiven, is_live, line_count, client_at, stand_at};
 ghost use Rattle.txn_tso.specs.Oracle.{answered};
-ghost use Rattle.txn_tso.specs.declared.asker.Asker.{Asker};
 
 use crate::client_state::{Answers, Group};
 use crate::clients::Clients;
 use crate::clients::posting::ticket_of;
-use txn_commit::PlanFor;
-use txn_kv::{
-    Arrival, BatchRollbackRequest, CommitRequest, NoMemory, PrewriteRequest, Reply, Request,
-    Target, Ticket,
-};
+use txn_commit::Plans;
+use txn_kv::{Arrival, NoMemory, Reply, Request, Target, Ticket};
 use txn_side::{Posting, Turn};
 
-impl<P, Q, K> Clients<P, Q, K> {
+impl<P> Clients<P> {
     /// Whether this is the ticket of the group of a client that is out.
     pub(crate) fn is_group(&self, client: usize, ticket: Ticket) -> bool
         ensures is { IsTrue result → HasOut (sight_of self.now) client ticket }
@@ -163,11 +159,9 @@ impl<P, Q, K> Clients<P, Q, K> {
     }
 }
 
-impl<P, Q, K> Clients<P, Q, K>
+impl<P> Clients<P>
 where
-    P: PlanFor<PrewriteRequest>,
-    Q: PlanFor<CommitRequest>,
-    K: PlanFor<BatchRollbackRequest>,
+    P: Plans,
 {
     /// At the end of a step the next group of a client goes out, unless one is out already or nobody asks.
     pub(crate) fn send_group(&mut self, client: usize, turn: &mut Turn) -> Result<(), NoMemory>
@@ -175,9 +169,9 @@ where
         ensures advances { OnOk result (Advances turn.old turn.new (sight_of self.old) (sight_of self.new)) }
         ensures ended { OnOk result (turn.new.ended ≡ turn.old.ended) }
         ensures rows { OnOk result (rows_of self.new ≡ rows_of self.old) }
-        ensures waits { OnOk result ((trace : Option Trace) (rest : List Asker) → IsSound (ways P.meaning Q.meaning K.meaning P.refuses Q.refuses K.refuses) (posting_in turn.old.posted.items trace) rest self.old → SendsOn (ways P.meaning Q.meaning K.meaning P.refuses Q.refuses K.refuses) trace client rest turn.old.posted.items turn.new.posted.items self.old self.new) }
+        ensures waits { OnOk result (NextGoes P.ways client turn.old turn.new self.old self.new) }
         ensures groups { OnOk result (GroupsGo turn.new.posted.items (sight_of self.old) (sight_of self.new)) }
-        ensures leads { OnOk result (LeadsSent (ways P.meaning Q.meaning K.meaning P.refuses Q.refuses K.refuses) turn.old.posted.items turn.new.posted.items turn.old.ended.items turn.new.ended.items (heard_by self.old) self.old self.new) }
+        ensures leads { OnOk result (LeadsSent P.ways turn.old.posted.items turn.new.posted.items turn.old.ended.items turn.new.ended.items (heard_by self.old) self.old self.new) }
     {
         match self.next_group(client)? {
             None => Ok(()),
@@ -194,16 +188,16 @@ where
         turn: &mut Turn,
     ) -> Result<(), NoMemory>
         requires client { client < length (crashed_of self.old) }
-        requires ready { AreReady (ways P.meaning Q.meaning K.meaning P.refuses Q.refuses K.refuses) (rows_of self.old) }
+        requires ready { AreReady P.ways (rows_of self.old) }
         requires clock { now < 2 ^ 44 }
         ensures advances { OnOk result (Advances turn.old turn.new (sight_of self.old) (sight_of self.new)) }
         ensures names { OnOk result ((t : Name) → HasOut (sight_of self.old) client t → NamesIn (IsGiven (sight_of self.old) t reply) turn.old turn.new) }
-        ensures ready { OnOk result (AreReady (ways P.meaning Q.meaning K.meaning P.refuses Q.refuses K.refuses) (rows_of self.new)) }
+        ensures ready { OnOk result (AreReady P.ways (rows_of self.new)) }
         ensures accounts { OnOk result (turn.old.posted.items ≡ [] → turn.old.ended.items ≡ [] → AreClosed (sight_of self.old) turn.new.ended.items (account_at (rows_of self.old)) (account_at (rows_of self.new))) }
         ensures crashed { OnOk result (crashed_of self.new ≡ crashed_of self.old) }
-        ensures waits { OnOk result ((trace : Option Trace) → GroupCameIn trace (slice_index_or (groups_of self.old) client None) (λ u r. Took u r reply) → IsSound (ways P.meaning Q.meaning K.meaning P.refuses Q.refuses K.refuses) (posting_in turn.old.posted.items (owing_all (refused_out (λ u r. Took u r reply) (slice_index_or (groups_of self.old) client None)) trace)) [] self.old → EndsGroup (ways P.meaning Q.meaning K.meaning P.refuses Q.refuses K.refuses) trace client turn.old.posted.items turn.new.posted.items turn.old.ended.items turn.new.ended.items self.old self.new) }
+        ensures waits { OnOk result (GroupGoes P.ways client (λ u r. Took u r reply) turn.old turn.new self.old self.new) }
         ensures runs { OnOk result (AreRunning (rows_of self.old) → AreRunning (rows_of self.new)) }
-        ensures leads { OnOk result (turn.old.posted.items ≡ [] → turn.old.ended.items ≡ [] → LeadsGroup (ways P.meaning Q.meaning K.meaning P.refuses Q.refuses K.refuses) client (λ u r. Took u r reply) turn.old.posted.items turn.new.posted.items turn.old.ended.items turn.new.ended.items self.old self.new) }
+        ensures leads { OnOk result (GroupLeads P.ways client (λ u r. Took u r reply) turn.old turn.new self.old self.new) }
     {
         let given = self.take_times(client, reply)?;
         self.give(client, given, now, turn)
@@ -217,16 +211,16 @@ where
         turn: &mut Turn,
     ) -> Result<(), NoMemory>
         requires client { client < length (crashed_of self.old) }
-        requires ready { AreReady (ways P.meaning Q.meaning K.meaning P.refuses Q.refuses K.refuses) (rows_of self.old) }
+        requires ready { AreReady P.ways (rows_of self.old) }
         requires clock { now < 2 ^ 44 }
         ensures advances { OnOk result (Advances turn.old turn.new (sight_of self.old) (sight_of self.new)) }
         ensures names { OnOk result (NamesIn NoneGiven turn.old turn.new) }
-        ensures ready { OnOk result (AreReady (ways P.meaning Q.meaning K.meaning P.refuses Q.refuses K.refuses) (rows_of self.new)) }
+        ensures ready { OnOk result (AreReady P.ways (rows_of self.new)) }
         ensures accounts { OnOk result (turn.old.posted.items ≡ [] → turn.old.ended.items ≡ [] → AreClosed (sight_of self.old) turn.new.ended.items (account_at (rows_of self.old)) (account_at (rows_of self.new))) }
         ensures crashed { OnOk result (crashed_of self.new ≡ crashed_of self.old) }
-        ensures waits { OnOk result ((trace : Option Trace) → GroupCameIn trace (slice_index_or (groups_of self.old) client None) (λ u r. Lost u r) → IsSound (ways P.meaning Q.meaning K.meaning P.refuses Q.refuses K.refuses) (posting_in turn.old.posted.items (owing_all (refused_out (λ u r. Lost u r) (slice_index_or (groups_of self.old) client None)) trace)) [] self.old → EndsGroup (ways P.meaning Q.meaning K.meaning P.refuses Q.refuses K.refuses) trace client turn.old.posted.items turn.new.posted.items turn.old.ended.items turn.new.ended.items self.old self.new) }
+        ensures waits { OnOk result (GroupGoes P.ways client (λ u r. Lost u r) turn.old turn.new self.old self.new) }
         ensures runs { OnOk result (AreRunning (rows_of self.old) → AreRunning (rows_of self.new)) }
-        ensures leads { OnOk result (turn.old.posted.items ≡ [] → turn.old.ended.items ≡ [] → LeadsGroup (ways P.meaning Q.meaning K.meaning P.refuses Q.refuses K.refuses) client (λ u r. Lost u r) turn.old.posted.items turn.new.posted.items turn.old.ended.items turn.new.ended.items self.old self.new) }
+        ensures leads { OnOk result (GroupLeads P.ways client (λ u r. Lost u r) turn.old turn.new self.old self.new) }
     {
         let given = self.lose_times(client)?;
         self.give(client, given, now, turn)
@@ -241,16 +235,16 @@ where
         turn: &mut Turn,
     ) -> Result<(), NoMemory>
         requires times { All IsTimeFor given.items }
-        requires ready { AreReady (ways P.meaning Q.meaning K.meaning P.refuses Q.refuses K.refuses) (rows_of self.old) }
+        requires ready { AreReady P.ways (rows_of self.old) }
         requires clock { now < 2 ^ 44 }
         ensures advances { OnOk result (Advances turn.old turn.new (sight_of self.old) (sight_of self.new)) }
         ensures names { OnOk result (NamesIn (IsTimed given.items) turn.old turn.new) }
-        ensures ready { OnOk result (AreReady (ways P.meaning Q.meaning K.meaning P.refuses Q.refuses K.refuses) (rows_of self.new)) }
+        ensures ready { OnOk result (AreReady P.ways (rows_of self.new)) }
         ensures accounts { OnOk result (turn.old.posted.items ≡ [] → turn.old.ended.items ≡ [] → AreClosed (sight_of self.old) turn.new.ended.items (account_at (rows_of self.old)) (account_at (rows_of self.new))) }
         ensures crashed { OnOk result (crashed_of self.new ≡ crashed_of self.old) }
-        ensures waits { OnOk result ((trace : Option Trace) → AreGivenIn trace given.items → IsSound (ways P.meaning Q.meaning K.meaning P.refuses Q.refuses K.refuses) (posting_in turn.old.posted.items (owing_all (refused_of given.items) trace)) (map (λ a. a.0) given.items) self.old → GoesOn (ways P.meaning Q.meaning K.meaning P.refuses Q.refuses K.refuses) trace client (λ n a. ⊥) [] turn.old.posted.items turn.new.posted.items turn.old.ended.items turn.new.ended.items self.old self.new) }
+        ensures waits { OnOk result (GivenGoes P.ways client given.items turn.old turn.new self.old self.new) }
         ensures runs { OnOk result (AreRunning (rows_of self.old) → AreRunning (rows_of self.new)) }
-        ensures leads { OnOk result (turn.old.posted.items ≡ [] → turn.old.ended.items ≡ [] → LeadsGiven (ways P.meaning Q.meaning K.meaning P.refuses Q.refuses K.refuses) given.items turn.old.posted.items turn.new.posted.items turn.old.ended.items turn.new.ended.items self.old self.new) }
+        ensures leads { OnOk result (turn.old.posted.items ≡ [] → turn.old.ended.items ≡ [] → LeadsGiven P.ways given.items turn.old.posted.items turn.new.posted.items turn.old.ended.items turn.new.ended.items self.old self.new) }
     {
         for (asker, answer) in given {
             // Only calls of lines of a client that has not crashed ask its oracle, and no heartbeat.

@@ -1,24 +1,19 @@
 //! What clients lend heartbeats.
 use crate::clients::Clients;
 use crate::row::Row;
-use txn_commit::PlanFor;
+use txn_commit::Plans;
 use txn_core::{Heartbeat, Status};
 use txn_heartbeat::{HeartHost, HeartbeatJob, PlanForHeartbeats};
-use txn_kv::{
-    Arrival, BatchRollbackRequest, CommitRequest, NoMemory, Outbox, PrewriteRequest, Progress,
-};
+use txn_kv::{Arrival, NoMemory, Outbox, Progress};
 
-impl<P, Q, K> HeartHost for Clients<P, Q, K>
+impl<P> HeartHost for Clients<P>
 where
-    P: PlanFor<PrewriteRequest> + Drop,
-    Q: PlanFor<CommitRequest> + Drop,
-    K: PlanFor<BatchRollbackRequest> + Drop,
+    P: Plans,
 {
     ghost use Rattle.std.specs.Prelude.{refl};
     ghost use Rattle.txn_clients.specs.Beating.{arises_when_beating};
     ghost use Rattle.txn_clients.specs.Clients.{rows_of};
     ghost use Rattle.txn_clients.specs.Hearts.{HeartOf, status_of};
-    ghost use Rattle.txn_commit.specs.Committing.{ways};
 
     ghost heart = { λ s. HeartOf (rows_of s) };
 
@@ -26,7 +21,7 @@ where
 
     ghost unbeaten = { λ s. refl };
 
-    ghost arises_beating = { arises_when_beating (ways P.meaning Q.meaning K.meaning P.refuses Q.refuses K.refuses) };
+    ghost arises_beating = { arises_when_beating P.ways };
 
     fn heartbeat(&self, transaction: u64) -> Result<Option<Heartbeat>, NoMemory> {
         if transaction == 0 || transaction > self.newest() {

@@ -26,7 +26,7 @@ fn is_tso(request: &Request) -> bool
     matches!(request, Request::Tso(_))
 }
 
-impl<P, Q, K> Clients<P, Q, K> {
+impl<P> Clients<P> {
     /// An empty outbox for a line.
     pub(crate) fn outbox(&self, line: u64) -> Result<Outbox, NoMemory>
         requires { IsLine (sight_of self.now).stands line }

@@ -3,26 +3,22 @@ ghost use Rattle.txn_clients.specs.Arising.{AnswerArises, CallCame, LeadsEnded, 
 ghost use Rattle.std.specs.Prelude.{⊤};
 ghost use Rattle.txn_clients.specs.declared.answer.Answer.TheVariants.{Called};
 ghost use Rattle.txn_clients.specs.declared.row.Row.TheVariants.{Plain};
-ghost use Rattle.std.specs.Prelude.{◌≡◌, ◌<◌, ◌^◌, ◌-◌, ℕ, Option, true, length, IfOk, IfSome, IsTrue, OnOk, Bool, List, None, Some, false};
+ghost use Rattle.std.specs.Prelude.{◌≡◌, ◌<◌, ◌^◌, ◌-◌, ℕ, Option, true, length, IfOk, IfSome, IsTrue, OnOk, Bool, None, Some, false};
 ghost use Rattle.txn_clients.specs.Accounts.{AccountsTold, AnswersNew, AnswersTold, BeginsNew, account_at, is_heard};
 ghost use Rattle.txn_clients.specs.Closing.{ClosesIn, EndsCall, EndsOwn, GoesTold, HasComeTo, StandsAt, stage_after};
 ghost use Rattle.txn_clients.specs.Clients.{AreReady, HearsFor, IsLine, Listens, MayEnd, crashed_of, groups_of, nexts_of, row_at, rows_of, sight_of};
-ghost use Rattle.std.proofs.Common.{suc};
-ghost use Rattle.txn_clients.specs.Failing.{AnswerRests, CameIn, FailsAt, IfFails, LastIn, MayKnow, outbox_of, owing, posting_in, AskRests};
 ghost use Rattle.txn_clients.specs.Going.{Advances, EndsIn, NamesIn, OfLine};
-ghost use Rattle.txn_side.specs.Trace.{Trace};
 ghost use Rattle.txn_clients.specs.Rows.{AnswerFits, AskFits, Brings, IsStamped, IsToldIn, MayHear, MayTell, Posts, Rests, Tells, stand_of};
-ghost use Rattle.txn_clients.specs.Waiting.{AreRunning, AreRunningBut, GoesOn, HearsAt, IsAnswerOf, IsHeard, IsNewAnswer, IsPrepared, IsSound, NoneHears, RunsOn, TellsRow, pends};
+ghost use Rattle.txn_clients.specs.Turns.{AskGoes, CallGoes, CameGoes, JobGoes, PushGoes, ToldGoes, TurnLeads};
+ghost use Rattle.txn_clients.specs.Waiting.{AreRunning, AreRunningBut, IsAnswerOf, IsNewAnswer, IsPrepared, NoneHears, RunsOn, TellsRow};
 ghost use Rattle.txn_clients.specs.declared.answer.Answer.TheVariants.{Asked};
 ghost use Rattle.txn_clients.specs.declared.told.Told.TheVariants.{Heard, Start};
-ghost use Rattle.txn_commit.specs.Committing.{ways};
 ghost use Rattle.txn_core.specs.Waiting.{HandsOut};
 ghost use Rattle.txn_history.specs.Posted.{HasNumbers};
 ghost use Rattle.txn_history.specs.Arrivals.{MayArrive};
 ghost use Rattle.txn_side.specs.Account.{AreKept};
 ghost use Rattle.txn_side.specs.Sight.{NoneGiven, is_live, stand_at, client_at};
 ghost use Rattle.txn_side.specs.Sight.Stand.{HasBegun, Asking, Calling, Working};
-ghost use Rattle.txn_tso.specs.declared.asker.Asker.{Asker};
 
 use crate::answer::{Answer, Pd};
 use crate::clients::{Clients, Listener};
@@ -33,16 +29,14 @@ use crate::transactions::has_come_to;
 use crate::untimed::is_told_last;
 use std::mem;
 use txn_client::ClientAnswer;
-use txn_commit::PlanFor;
+use txn_commit::Plans;
 use txn_core::TxnAnswer;
-use txn_kv::{Arrival, BatchRollbackRequest, CommitRequest, NoMemory, Outbox, PrewriteRequest};
+use txn_kv::{Arrival, NoMemory, Outbox};
 use txn_side::{Ending, Turn};
 
-impl<P, Q, K> Clients<P, Q, K>
+impl<P> Clients<P>
 where
-    P: PlanFor<PrewriteRequest>,
-    Q: PlanFor<CommitRequest>,
-    K: PlanFor<BatchRollbackRequest>,
+    P: Plans,
 {
     /// What stands at a place is told of something, with the outbox of a line.
     fn tell_row(
@@ -51,10 +45,10 @@ where
         told: Told,
         now: u64,
         out: &mut Outbox,
-    ) -> Result<Option<Answer<P, Q, K>>, NoMemory>
+    ) -> Result<Option<Answer<P>>, NoMemory>
         requires place { listener.at < length (rows_of self.old) }
         requires client { listener.client < length (crashed_of self.old) }
-        requires ready { AreReady (ways P.meaning Q.meaning K.meaning P.refuses Q.refuses K.refuses) (rows_of self.old) }
+        requires ready { AreReady P.ways (rows_of self.old) }
         requires told { MayTell told }
         requires hears { MayHear told (row_at (rows_of self.old) listener.at) }
         requires numbers { HasNumbers out.old }
@@ -63,18 +57,18 @@ where
         ensures nexts { OnOk result (nexts_of self.new ≡ nexts_of self.old) }
         ensures crashed { OnOk result (crashed_of self.new ≡ crashed_of self.old) }
         ensures groups { OnOk result (groups_of self.new ≡ groups_of self.old) }
-        ensures ready { OnOk result (AreReady (ways P.meaning Q.meaning K.meaning P.refuses Q.refuses K.refuses) (rows_of self.new)) }
+        ensures ready { OnOk result (AreReady P.ways (rows_of self.new)) }
         ensures accounts { IfOk result (λ answer. AccountsTold told listener.at answer (rows_of self.old) (rows_of self.new)) }
         ensures answers { IfOk result (AnswersTold told (row_at (rows_of self.old) listener.at)) }
         ensures begins { IfOk result (λ answer. IfSome answer AnswersNew) }
         ensures posts { OnOk result (Posts out.old out.new) }
         ensures rests { IfOk result (λ answer. IfSome answer (λ a. Rests (row_at (rows_of self.new) listener.at))) }
-        ensures fits { IfOk result (λ answer. IfSome answer (AnswerFits (ways P.meaning Q.meaning K.meaning P.refuses Q.refuses K.refuses))) }
+        ensures fits { IfOk result (λ answer. IfSome answer (AnswerFits P.ways)) }
         ensures stamped { IfOk result (λ answer. IfSome answer (IsToldIn told)) }
-        ensures tells { IfOk result (λ answer. TellsRow (ways P.meaning Q.meaning K.meaning P.refuses Q.refuses K.refuses) told listener.at self.old self.new out.old out.new answer) }
+        ensures tells { IfOk result (λ answer. TellsRow P.ways told listener.at self.old self.new out.old out.new answer) }
         ensures new { IfOk result (λ answer. IfSome answer IsNewAnswer) }
         ensures kind { IfOk result (λ answer. IfSome answer (IsAnswerOf (stand_of (row_at (rows_of self.old) listener.at)))) }
-        ensures moves { IfOk result (λ answer. MovesRow (ways P.meaning Q.meaning K.meaning P.refuses Q.refuses K.refuses) told listener.at self.old self.new out.old out.new answer) }
+        ensures moves { IfOk result (λ answer. MovesRow P.ways told listener.at self.old self.new out.old out.new answer) }
     {
         let pd = self.clients[listener.client].client.pd();
         self.places[listener.at].row.tell(told, pd, now, out)
@@ -89,12 +83,12 @@ where
         told: Told,
         now: u64,
         turn: &mut Turn,
-    ) -> Result<Option<Answer<P, Q, K>>, NoMemory>
+    ) -> Result<Option<Answer<P>>, NoMemory>
         requires line { IsLine (sight_of self.old).stands line }
         requires live { is_live (sight_of self.old) line ≡ true }
         requires place { listener.at < length (rows_of self.old) }
         requires client { listener.client < length (crashed_of self.old) }
-        requires ready { AreReady (ways P.meaning Q.meaning K.meaning P.refuses Q.refuses K.refuses) (rows_of self.old) }
+        requires ready { AreReady P.ways (rows_of self.old) }
         requires told { MayTell told }
         requires hears { MayHear told (row_at (rows_of self.old) listener.at) }
         requires clock { now < 2 ^ 44 }
@@ -102,18 +96,18 @@ where
         ensures ended { OnOk result (turn.new.ended ≡ turn.old.ended) }
         ensures stands { OnOk result ((sight_of self.new).stands ≡ (sight_of self.old).stands) }
         ensures crashed { OnOk result (crashed_of self.new ≡ crashed_of self.old) }
-        ensures ready { OnOk result (AreReady (ways P.meaning Q.meaning K.meaning P.refuses Q.refuses K.refuses) (rows_of self.new)) }
+        ensures ready { OnOk result (AreReady P.ways (rows_of self.new)) }
         ensures accounts { IfOk result (λ answer. AccountsTold told listener.at answer (rows_of self.old) (rows_of self.new)) }
         ensures answers { IfOk result (AnswersTold told (row_at (rows_of self.old) listener.at)) }
         ensures begins { IfOk result (λ answer. IfSome answer AnswersNew) }
         ensures rests { IfOk result (λ answer. IfSome answer (λ a. Rests (row_at (rows_of self.new) listener.at))) }
-        ensures fits { IfOk result (λ answer. IfSome answer (AnswerFits (ways P.meaning Q.meaning K.meaning P.refuses Q.refuses K.refuses))) }
+        ensures fits { IfOk result (λ answer. IfSome answer (AnswerFits P.ways)) }
         ensures stamped { IfOk result (λ answer. IfSome answer (IsToldIn told)) }
-        ensures waits { IfOk result (λ answer. (trace : Option Trace) (rest : List Asker) → IsHeard (sight_of self.old).stands line listener.at listener.client → MayKnow (posting_in turn.old.posted.items trace) (outbox_of line) told (row_at (rows_of self.old) listener.at) → IsSound (ways P.meaning Q.meaning K.meaning P.refuses Q.refuses K.refuses) (posting_in turn.old.posted.items (owing line told trace)) (pends line told rest) self.old → GoesOn (ways P.meaning Q.meaning K.meaning P.refuses Q.refuses K.refuses) trace listener.client (HearsAt line told) rest turn.old.posted.items turn.new.posted.items turn.old.ended.items turn.new.ended.items self.old self.new × IfSome answer (AnswerRests (ways P.meaning Q.meaning K.meaning P.refuses Q.refuses K.refuses) (posting_in turn.new.posted.items trace) (suc listener.at) line)) }
+        ensures waits { IfOk result (PushGoes P.ways told line listener.at listener.client turn.old turn.new self.old self.new) }
         ensures runs { IfOk result (λ answer. RunsOn told listener.at answer (rows_of self.old) (rows_of self.new)) }
         ensures new { IfOk result (λ answer. IfSome answer IsNewAnswer) }
         ensures kind { IfOk result (λ answer. IfSome answer (IsAnswerOf (stand_of (row_at (rows_of self.old) listener.at)))) }
-        ensures leads { IfOk result (λ answer. LeadsPushed (ways P.meaning Q.meaning K.meaning P.refuses Q.refuses K.refuses) told line listener.at listener.client answer turn.old.posted.items turn.new.posted.items turn.old.ended.items turn.new.ended.items self.old self.new) }
+        ensures leads { IfOk result (λ answer. LeadsPushed P.ways told line listener.at listener.client answer turn.old.posted.items turn.new.posted.items turn.old.ended.items turn.new.ended.items self.old self.new) }
     {
         let mut out = self.outbox(line)?;
         let answer = self.tell_row(listener, told, now, &mut out)?;
@@ -127,24 +121,24 @@ where
     fn end_ask(
         &mut self,
         line: u64,
-        answer: txn_kv::Result<ClientAnswer<Pd, P, Q, K>>,
+        answer: txn_kv::Result<ClientAnswer<Pd, P>>,
         turn: &mut Turn,
     ) -> Result<(), NoMemory>
         requires line { IsLine (sight_of self.old).stands line }
         requires live { is_live (sight_of self.old) line ≡ true }
-        requires ready { AreReady (ways P.meaning Q.meaning K.meaning P.refuses Q.refuses K.refuses) (rows_of self.old) }
-        requires answer { AskFits (ways P.meaning Q.meaning K.meaning P.refuses Q.refuses K.refuses) answer }
+        requires ready { AreReady P.ways (rows_of self.old) }
+        requires answer { AskFits P.ways answer }
         requires begins { BeginsNew answer }
         ensures advances { OnOk result (Advances turn.old turn.new (sight_of self.old) (sight_of self.new)) }
         ensures alone { OnOk result (EndsIn line turn.old turn.new) }
         ensures names { OnOk result (NamesIn (OfLine line (IsStamped answer)) turn.old turn.new) }
         ensures ends { OnOk result (EndsOwn line turn.old.ended.items turn.new.ended.items) }
-        ensures waits { OnOk result (IsNewAnswer {P = P} {Q = Q} {K = K} (Asked answer) → (trace : Option Trace) (client : ℕ) (rest : List Asker) → AskRests (ways P.meaning Q.meaning K.meaning P.refuses Q.refuses K.refuses) (posting_in turn.old.posted.items trace) line line answer → IfFails (LastIn (posting_in turn.old.posted.items trace) line) answer → IsSound (ways P.meaning Q.meaning K.meaning P.refuses Q.refuses K.refuses) (posting_in turn.old.posted.items trace) rest self.old → GoesOn (ways P.meaning Q.meaning K.meaning P.refuses Q.refuses K.refuses) trace client (λ n a. ⊥) rest turn.old.posted.items turn.new.posted.items turn.old.ended.items turn.new.ended.items self.old self.new) }
+        ensures waits { OnOk result (IsNewAnswer {P = P} (Asked answer) → AskGoes P.ways line answer turn.old turn.new self.old self.new) }
         ensures runs { OnOk result ((c : ℕ) (b : Bool) → stand_at (sight_of self.old).stands line ≡ Asking c b → AreRunningBut (line - 1) (rows_of self.old) → AreRunning (rows_of self.new)) }
-        ensures ready { OnOk result (AreReady (ways P.meaning Q.meaning K.meaning P.refuses Q.refuses K.refuses) (rows_of self.new)) }
+        ensures ready { OnOk result (AreReady P.ways (rows_of self.new)) }
         ensures accounts { OnOk result (AreKept (account_at (rows_of self.old)) (account_at (rows_of self.new))) }
         ensures crashed { OnOk result (crashed_of self.new ≡ crashed_of self.old) }
-        ensures leads { OnOk result (IsNewAnswer {P = P} {Q = Q} {K = K} (Asked answer) → LeadsEnded (ways P.meaning Q.meaning K.meaning P.refuses Q.refuses K.refuses) (λ askers h. AnswerArises (ways P.meaning Q.meaning K.meaning P.refuses Q.refuses K.refuses) ⊥ askers line Plain (Some (Asked answer)) h) turn.old.posted.items turn.new.posted.items turn.old.ended.items turn.new.ended.items self.old self.new) }
+        ensures leads { OnOk result (IsNewAnswer {P = P} (Asked answer) → TurnLeads P.ways (λ askers h. AnswerArises P.ways ⊥ askers line Plain (Some (Asked answer)) h) turn.old turn.new self.old self.new) }
     {
         match self.row(line) {
             Row::Asking { client, begins, .. } => {
@@ -164,27 +158,27 @@ where
     fn end_call(
         &mut self,
         line: u64,
-        answer: txn_kv::Result<TxnAnswer<Q>>,
+        answer: txn_kv::Result<TxnAnswer<P>>,
         turn: &mut Turn,
     ) -> Result<(), NoMemory>
         requires line { IsLine (sight_of self.old).stands line }
         requires live { is_live (sight_of self.old) line ≡ true }
         requires may { MayEnd (rows_of self.old) line (stand_at (sight_of self.old).stands line) }
-        requires ready { AreReady (ways P.meaning Q.meaning K.meaning P.refuses Q.refuses K.refuses) (rows_of self.old) }
-        requires answer { HandsOut Q.meaning answer }
+        requires ready { AreReady P.ways (rows_of self.old) }
+        requires answer { HandsOut P.ways.plan answer }
         ensures advances { OnOk result (Advances turn.old turn.new (sight_of self.old) (sight_of self.new)) }
         ensures alone { OnOk result (EndsIn line turn.old turn.new) }
         ensures names { OnOk result (NamesIn NoneGiven turn.old turn.new) }
-        ensures waits { OnOk result ((trace : Option Trace) (client : ℕ) (rest : List Asker) → ((c x : ℕ) (b : Bool) → stand_at (sight_of self.old).stands line ≡ Calling c x b → IfFails (FailsAt (ways P.meaning Q.meaning K.meaning P.refuses Q.refuses K.refuses) (posting_in turn.old.posted.items trace) x line) answer) → IfFails (LastIn (posting_in turn.old.posted.items trace) line) answer → IsSound (ways P.meaning Q.meaning K.meaning P.refuses Q.refuses K.refuses) (posting_in turn.old.posted.items trace) rest self.old → GoesOn (ways P.meaning Q.meaning K.meaning P.refuses Q.refuses K.refuses) trace client (λ n a. ⊥) rest turn.old.posted.items turn.new.posted.items turn.old.ended.items turn.new.ended.items self.old self.new) }
+        ensures waits { OnOk result (CallGoes P.ways line answer turn.old turn.new self.old self.new) }
         ensures runs { OnOk result ((c x : ℕ) (b : Bool) → stand_at (sight_of self.old).stands line ≡ Calling c x b → AreRunningBut (x - 1) (rows_of self.old) → AreRunning (rows_of self.new)) }
         ensures clients { OnOk result ((c : ℕ) → client_at (stand_at (sight_of self.old).stands line) ≡ Some c → client_at (stand_at (sight_of self.new).stands line) ≡ Some c) }
         ensures live { OnOk result (is_live (sight_of self.new) line ≡ true) }
-        ensures ready { OnOk result (AreReady (ways P.meaning Q.meaning K.meaning P.refuses Q.refuses K.refuses) (rows_of self.new)) }
+        ensures ready { OnOk result (AreReady P.ways (rows_of self.new)) }
         ensures accounts { OnOk result (AreKept (account_at (rows_of self.old)) (account_at (rows_of self.new))) }
         ensures ends { OnOk result (EndsCall line (stand_at (sight_of self.old).stands line) answer turn.old.ended.items turn.new.ended.items) }
         ensures crashed { OnOk result (crashed_of self.new ≡ crashed_of self.old) }
         ensures count { OnOk result (length (sight_of self.new).stands ≡ length (sight_of self.old).stands) }
-        ensures leads { OnOk result (LeadsEnded (ways P.meaning Q.meaning K.meaning P.refuses Q.refuses K.refuses) (CallCame (ways P.meaning Q.meaning K.meaning P.refuses Q.refuses K.refuses) self.old line (Some (Called answer))) turn.old.posted.items turn.new.posted.items turn.old.ended.items turn.new.ended.items self.old self.new) }
+        ensures leads { OnOk result (LeadsEnded P.ways (CallCame P.ways self.old line (Some (Called answer))) turn.old.posted.items turn.new.posted.items turn.old.ended.items turn.new.ended.items self.old self.new) }
     {
         match self.row(line) {
             Row::Calling {
@@ -207,7 +201,7 @@ where
     }
 
     /// Whether a transaction that stands at a place has come as far as the answer of its call says, which commits or rolls back.
-    fn stands_at(&self, at: usize, commits: bool, answer: &txn_kv::Result<TxnAnswer<Q>>) -> bool
+    fn stands_at(&self, at: usize, commits: bool, answer: &txn_kv::Result<TxnAnswer<P>>) -> bool
         requires { at < length (rows_of self.now) }
         ensures { IsTrue result → StandsAt (stage_after commits answer.now) (row_at (rows_of self.now) at) }
     {
@@ -218,7 +212,7 @@ where
     }
 
     /// Whether a transaction has come as far as the answer says that the call of a line has.
-    fn has_come_to(&self, line: u64, at: usize, answer: &txn_kv::Result<TxnAnswer<Q>>) -> bool
+    fn has_come_to(&self, line: u64, at: usize, answer: &txn_kv::Result<TxnAnswer<P>>) -> bool
         requires line { IsLine (sight_of self.now).stands line }
         requires place { at < length (rows_of self.now) }
         ensures { IsTrue result → HasComeTo (stand_at (sight_of self.now).stands line) answer.now (row_at (rows_of self.now) at) }
@@ -235,7 +229,7 @@ where
         heard: bool,
         line: u64,
         at: usize,
-        answer: &txn_kv::Result<TxnAnswer<Q>>,
+        answer: &txn_kv::Result<TxnAnswer<P>>,
     ) -> Result<(), NoMemory>
         requires line { IsLine (sight_of self.now).stands line }
         requires place { at < length (rows_of self.now) }
@@ -267,16 +261,16 @@ where
         requires line { IsLine (sight_of self.old).stands line }
         requires live { is_live (sight_of self.old) line ≡ true }
         requires client { client < length (crashed_of self.old) }
-        requires ready { AreReady (ways P.meaning Q.meaning K.meaning P.refuses Q.refuses K.refuses) (rows_of self.old) }
+        requires ready { AreReady P.ways (rows_of self.old) }
         requires clock { now < 2 ^ 44 }
         ensures advances { OnOk result (Advances turn.old turn.new (sight_of self.old) (sight_of self.new)) }
         ensures ended { OnOk result (turn.new.ended ≡ turn.old.ended) }
-        ensures ready { OnOk result (AreReady (ways P.meaning Q.meaning K.meaning P.refuses Q.refuses K.refuses) (rows_of self.new)) }
+        ensures ready { OnOk result (AreReady P.ways (rows_of self.new)) }
         ensures accounts { OnOk result (AreKept (account_at (rows_of self.old)) (account_at (rows_of self.new))) }
         ensures crashed { OnOk result (crashed_of self.new ≡ crashed_of self.old) }
-        ensures waits { OnOk result ((trace : Option Trace) (rest : List Asker) → client_at (stand_at (sight_of self.old).stands line) ≡ Some client → IsSound (ways P.meaning Q.meaning K.meaning P.refuses Q.refuses K.refuses) (posting_in turn.old.posted.items trace) rest self.old → GoesOn (ways P.meaning Q.meaning K.meaning P.refuses Q.refuses K.refuses) trace client (λ n a. ⊥) rest turn.old.posted.items turn.new.posted.items turn.old.ended.items turn.new.ended.items self.old self.new) }
+        ensures waits { OnOk result (JobGoes P.ways line client turn.old turn.new self.old self.new) }
         ensures runs { OnOk result (AreRunning (rows_of self.old) → AreRunning (rows_of self.new)) }
-        ensures leads { OnOk result (client_at (stand_at (sight_of self.old).stands line) ≡ Some client → LeadsEnded (ways P.meaning Q.meaning K.meaning P.refuses Q.refuses K.refuses) (λ askers h. ⊤) turn.old.posted.items turn.new.posted.items turn.old.ended.items turn.new.ended.items self.old self.new) }
+        ensures leads { OnOk result (client_at (stand_at (sight_of self.old).stands line) ≡ Some client → TurnLeads P.ways (λ askers h. ⊤) turn.old turn.new self.old self.new) }
     {
         if !self.has_job(line) {
             return Ok(());
@@ -296,19 +290,19 @@ where
         turn: &mut Turn,
     ) -> Result<(), NoMemory>
         requires listens { Listens (sight_of self.old) line listener.at listener.client }
-        requires ready { AreReady (ways P.meaning Q.meaning K.meaning P.refuses Q.refuses K.refuses) (rows_of self.old) }
+        requires ready { AreReady P.ways (rows_of self.old) }
         requires told { MayTell told }
         requires hears { MayHear told (row_at (rows_of self.old) listener.at) }
         requires clock { now < 2 ^ 44 }
         ensures advances { OnOk result (Advances turn.old turn.new (sight_of self.old) (sight_of self.new)) }
         ensures alone { OnOk result (EndsIn line turn.old turn.new) }
         ensures names { OnOk result (NamesIn (OfLine line (Tells told)) turn.old turn.new) }
-        ensures ready { OnOk result (AreReady (ways P.meaning Q.meaning K.meaning P.refuses Q.refuses K.refuses) (rows_of self.new)) }
+        ensures ready { OnOk result (AreReady P.ways (rows_of self.new)) }
         ensures accounts { OnOk result (GoesTold told line listener.at (stand_at (sight_of self.old).stands line) (rows_of self.old) (rows_of self.new) turn.old.ended.items turn.new.ended.items) }
         ensures crashed { OnOk result (crashed_of self.new ≡ crashed_of self.old) }
-        ensures waits { OnOk result ((trace : Option Trace) (rest : List Asker) → client_at (stand_at (sight_of self.old).stands line) ≡ Some listener.client → MayKnow (posting_in turn.old.posted.items trace) (outbox_of line) told (row_at (rows_of self.old) listener.at) → IsSound (ways P.meaning Q.meaning K.meaning P.refuses Q.refuses K.refuses) (posting_in turn.old.posted.items (owing line told trace)) (pends line told rest) self.old → GoesOn (ways P.meaning Q.meaning K.meaning P.refuses Q.refuses K.refuses) trace listener.client (HearsAt line told) rest turn.old.posted.items turn.new.posted.items turn.old.ended.items turn.new.ended.items self.old self.new) }
+        ensures waits { OnOk result (ToldGoes P.ways told line listener.at listener.client turn.old turn.new self.old self.new) }
         ensures runs { OnOk result (AreRunningBut listener.at (rows_of self.old) → IsPrepared told (row_at (rows_of self.old) listener.at) → AreRunning (rows_of self.new)) }
-        ensures leads { OnOk result (LeadsTold (ways P.meaning Q.meaning K.meaning P.refuses Q.refuses K.refuses) told line listener.client turn.old.posted.items turn.new.posted.items turn.old.ended.items turn.new.ended.items self.old self.new) }
+        ensures leads { OnOk result (LeadsTold P.ways told line listener.client turn.old.posted.items turn.new.posted.items turn.old.ended.items turn.new.ended.items self.old self.new) }
     {
         let heard = told.is_heard();
         let untimed = told.untimed();
@@ -384,17 +378,17 @@ where
         now: u64,
         turn: &mut Turn,
     ) -> Result<(), NoMemory>
-        requires ready { AreReady (ways P.meaning Q.meaning K.meaning P.refuses Q.refuses K.refuses) (rows_of self.old) }
+        requires ready { AreReady P.ways (rows_of self.old) }
         requires arrives { MayArrive arrival }
         requires clock { now < 2 ^ 44 }
         ensures advances { OnOk result (Advances turn.old turn.new (sight_of self.old) (sight_of self.new)) }
         ensures names { OnOk result (NamesIn (OfLine line (Brings arrival)) turn.old turn.new) }
-        ensures ready { OnOk result (AreReady (ways P.meaning Q.meaning K.meaning P.refuses Q.refuses K.refuses) (rows_of self.new)) }
+        ensures ready { OnOk result (AreReady P.ways (rows_of self.new)) }
         ensures accounts { OnOk result (ClosesIn (sight_of self.old) (rows_of self.old) (rows_of self.new) turn.old.ended.items turn.new.ended.items) }
         ensures crashed { OnOk result (crashed_of self.new ≡ crashed_of self.old) }
-        ensures waits { OnOk result ((trace : Option Trace) (client : ℕ) (rest : List Asker) → is_live (sight_of self.old) line ≡ true → client_at (stand_at (sight_of self.old).stands line) ≡ Some client → CameIn (posting_in turn.old.posted.items trace) (outbox_of line) arrival → IsSound (ways P.meaning Q.meaning K.meaning P.refuses Q.refuses K.refuses) (posting_in turn.old.posted.items (owing line (Heard arrival) trace)) (pends line (Heard arrival) rest) self.old → GoesOn (ways P.meaning Q.meaning K.meaning P.refuses Q.refuses K.refuses) trace client (HearsAt line (Heard arrival)) rest turn.old.posted.items turn.new.posted.items turn.old.ended.items turn.new.ended.items self.old self.new) }
+        ensures waits { OnOk result (CameGoes P.ways arrival line turn.old turn.new self.old self.new) }
         ensures runs { OnOk result (AreRunning (rows_of self.old) → AreRunning (rows_of self.new)) }
-        ensures leads { OnOk result ((client : ℕ) → LeadsTold (ways P.meaning Q.meaning K.meaning P.refuses Q.refuses K.refuses) (Heard arrival) line client turn.old.posted.items turn.new.posted.items turn.old.ended.items turn.new.ended.items self.old self.new) }
+        ensures leads { OnOk result ((client : ℕ) → LeadsTold P.ways (Heard arrival) line client turn.old.posted.items turn.new.posted.items turn.old.ended.items turn.new.ended.items self.old self.new) }
     {
         match self.listener(line) {
             None => Ok(()),

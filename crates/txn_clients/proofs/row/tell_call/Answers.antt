@@ -1,5 +1,4 @@
 use Rattle.txn_tso.specs.Calling.{members}
-use Rattle.txn_commit.specs.Committing.{ways}
 use Rattle.std.proofs.Common.{subst, sym}
 use Rattle.std.specs.Prelude.{IfSome, Ok}
 use Rattle.txn_history.specs.Turn.{turn_of}
@@ -29,7 +28,7 @@ returns-in-Start-clause-goes g c d b = call_started _ c.args.told d b c.args.cal
     c.in_ok-progress-in-Start.ensures.tells c.in_ok-progress-in-Start.ensures.goes
 
 pub returns-in-Act-clause-goes : goal.returns-in-Act-clause-goes
-returns-in-Act-clause-goes g c d b = call_unmoved _ g.met.P.Plan.lawful g.met.Q.Plan.lawful g.met.K.Plan.lawful c.args.told c.in-Act.field-0 d b c.args.call.now c.args.out.now c.in-Act.is
+returns-in-Act-clause-goes g c d b = call_unmoved _ g.met.P.Plans.lawful c.args.told c.in-Act.field-0 d b c.args.call.now c.args.out.now c.in-Act.is
 
 pub returns-clause-goes : goal.returns-clause-goes
 returns-clause-goes g c d b = call_heard _ c.args.told d b c.in-Heard.arrival c.args.call.now c.tell.new.self c.args.out.now c.tell.new.out c.args.pd.now c.tell.new.pd c.in_ok-progress-in-Heard.progress c.asked-in-Heard.result c.in-Heard.is c.asked-in-Heard.ensures
@@ -39,10 +38,10 @@ pub returns-clause-new : goal.returns-clause-new
 returns-clause-new g c = made_new c.in_ok-progress-in-Heard.progress c.args.call.now.wanted c.args.now c.in-Heard.arrival c.asked-in-Heard.result c.asked-in-Heard.ensures c.in_ok-progress-in-Heard.ensures.made
 
 pub returns-in-Start-clause-moves : goal.returns-in-Start-clause-moves
-returns-in-Start-clause-moves g c d b = ask_started (ways g.P.Plan.meaning g.Q.Plan.meaning g.K.Plan.meaning g.P.PlanFor.refuses g.Q.PlanFor.refuses g.K.PlanFor.refuses) c.args.told d b c.args.call.now c.start.new.self c.args.out.now c.start.new.out c.in_ok-progress-in-Start.progress c.asked.result c.in-Start.is c.asked.ensures c.in_ok-progress-in-Start.ensures.tells
+returns-in-Start-clause-moves g c d b = ask_started g.P.Plans.ways c.args.told d b c.args.call.now c.start.new.self c.args.out.now c.start.new.out c.in_ok-progress-in-Start.progress c.asked.result c.in-Start.is c.asked.ensures c.in_ok-progress-in-Start.ensures.tells
 
 pub returns-in-Act-clause-moves : goal.returns-in-Act-clause-moves
-returns-in-Act-clause-moves g c d b = ask_unmoved (ways g.P.Plan.meaning g.Q.Plan.meaning g.K.Plan.meaning g.P.PlanFor.refuses g.Q.PlanFor.refuses g.K.PlanFor.refuses) c.args.told c.in-Act.field-0 d b c.args.call.now c.args.out.now c.in-Act.is
+returns-in-Act-clause-moves g c d b = ask_unmoved g.P.Plans.ways c.args.told c.in-Act.field-0 d b c.args.call.now c.args.out.now c.in-Act.is
 
 pub returns-clause-moves : goal.returns-clause-moves
-returns-clause-moves g c d b = ask_heard (ways g.P.Plan.meaning g.Q.Plan.meaning g.K.Plan.meaning g.P.PlanFor.refuses g.Q.PlanFor.refuses g.K.PlanFor.refuses) c.args.told d b c.in-Heard.arrival c.args.call.now c.tell.new.self c.args.out.now c.tell.new.out c.in_ok-progress-in-Heard.progress c.asked-in-Heard.result c.in-Heard.is c.asked-in-Heard.ensures c.in_ok-progress-in-Heard.ensures.tells
+returns-clause-moves g c d b = ask_heard g.P.Plans.ways c.args.told d b c.in-Heard.arrival c.args.call.now c.tell.new.self c.args.out.now c.tell.new.out c.in_ok-progress-in-Heard.progress c.asked-in-Heard.result c.in-Heard.is c.asked-in-Heard.ensures c.in_ok-progress-in-Heard.ensures.tells

@@ -5,7 +5,7 @@ use Rattle.txn_clients.specs.declared.told.Told.TheVariants as tells
 use Rattle.txn_clients.proofs.row.tell_transaction.Goals as goal
 
 pub returns-in-Start-clause-goes : goal.returns-in-Start-clause-goes
-returns-in-Start-clause-goes g c d m = stand_unmoved _ g.met.P.Plan.lawful g.met.Q.Plan.lawful g.met.K.Plan.lawful c.args.told d m c.args.transaction.now c.args.out.now c.in-Start.is
+returns-in-Start-clause-goes g c d m = stand_unmoved _ g.met.P.Plans.lawful c.args.told d m c.args.transaction.now c.args.out.now c.in-Start.is
 
 pub returns-in_ok-progress-in-Act-clause-goes : goal.returns-in_ok-progress-in-Act-clause-goes
 returns-in_ok-progress-in-Act-clause-goes g c d m = stand_acted _ c.args.told c.in-Act.act d m c.args.transaction.now c.perform.new.transaction c.args.out.now c.perform.new.out c.in_ok-progress-in-Act.progress c.called.result c.in-Act.is c.called.ensures c.in_ok-progress-in-Act.ensures.goes

@@ -23,7 +23,7 @@ returns-clause-taken g c = taken_commit c.args.transaction.now c.commit.new.self
     (c.if-not-tells_progress.ensures refl)
 
 pub returns-clause-goes : goal.returns-clause-goes
-returns-clause-goes g c = commits_goes _ g.met.P.Plan.lawful g.met.Q.Plan.lawful g.met.K.Plan.lawful (λ trace. KnowsAsk trace c.args.out.now.line Commit (account_of c.args.transaction.now)) OperationAfterCommitError (allows_commit c.args.transaction.now.status) c.args.transaction.now c.commit.new.self c.args.out.now c.commit.new.out _
+returns-clause-goes g c = commits_goes _ g.met.P.Plans.lawful (λ trace. KnowsAsk trace c.args.out.now.line Commit (account_of c.args.transaction.now)) OperationAfterCommitError (allows_commit c.args.transaction.now.status) c.args.transaction.now c.commit.new.self c.args.out.now c.commit.new.out _
     (λ bars. notes_so c.args.out.now.line Commit (account_of c.args.transaction.now) _ (commit_barred c.args.transaction.now c.requires.quiet bars)) c.in_ok-progress.ensures.refused c.in_ok-progress.ensures.moves (ap (λ t. t.start) c.in_ok-progress.ensures.kept) (ap (λ t. t.options) c.in_ok-progress.ensures.kept) (ap (λ t. t.contents) c.in_ok-progress.ensures.kept) c.in_ok-progress.ensures.opens c.in_ok-progress.ensures.busy
     (IfKept-weaker _ (λ (f : IsFollowed c.args.out.now c.args.transaction.now.commits c.commit.new.self.commits). f.lost) c.in_ok-progress.ensures.follows)
 

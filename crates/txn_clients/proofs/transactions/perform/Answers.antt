@@ -57,33 +57,33 @@ pub returns-in-Commit-clause-taken : goal.returns-in-Commit-clause-taken
 returns-in-Commit-clause-taken g c = as_act c.args.transaction.now c.commit.new.transaction (turn_of c.commit.result) acts.Commit c.args.act c.in-Commit.is c.commit.ensures.taken
 
 pub returns-in-Put-clause-goes : goal.returns-in-Put-clause-goes
-returns-in-Put-clause-goes g c = writes_goes _ g.met.P.Plan.lawful g.met.Q.Plan.lawful g.met.K.Plan.lawful (λ trace. KnowsAsk trace c.args.out.now.line c.args.act (account_of c.args.transaction.now)) _ _ c.args.transaction.now c.put.new.self c.args.out.now c.put.new._out _ (notes_so c.args.out.now.line _ _ _ (ap (λ a. refusal a (account_of c.args.transaction.now)) c.in-Put.is ∙ sym (write_refused c.args.transaction.now OperationAfterCommitError))) (λ e. may_write_so (allows_data c.args.transaction.now.status) OperationAfterCommitError e) (λ d f. written_step c.in-Put.key (λ d. after_put (write_at d c.in-Put.key) c.in-Put.value) (put_call c.in-Put.key c.in-Put.value) d f)
+returns-in-Put-clause-goes g c = writes_goes _ g.met.P.Plans.lawful (λ trace. KnowsAsk trace c.args.out.now.line c.args.act (account_of c.args.transaction.now)) _ _ c.args.transaction.now c.put.new.self c.args.out.now c.put.new._out _ (notes_so c.args.out.now.line _ _ _ (ap (λ a. refusal a (account_of c.args.transaction.now)) c.in-Put.is ∙ sym (write_refused c.args.transaction.now OperationAfterCommitError))) (λ e. may_write_so (allows_data c.args.transaction.now.status) OperationAfterCommitError e) (λ d f. written_step c.in-Put.key (λ d. after_put (write_at d c.in-Put.key) c.in-Put.value) (put_call c.in-Put.key c.in-Put.value) d f)
     c.put.ensures.ends c.requires.idle c.put.ensures.gives_up c.put.ensures.quiet.0
 
 pub returns-in-Insert-clause-goes : goal.returns-in-Insert-clause-goes
-returns-in-Insert-clause-goes g c = writes_goes _ g.met.P.Plan.lawful g.met.Q.Plan.lawful g.met.K.Plan.lawful (λ trace. KnowsAsk trace c.args.out.now.line c.args.act (account_of c.args.transaction.now)) _ _ c.args.transaction.now c.insert.new.self c.args.out.now c.insert.new._out _ (notes_so c.args.out.now.line _ _ _ (ap (λ a. refusal a (account_of c.args.transaction.now)) c.in-Insert.is ∙ sym (insert_refused c.args.transaction.now (is_none (known_value (known_at c.args.transaction.now.contents c.in-Insert.key))) OperationAfterCommitError DuplicateKeyInsertion))) (λ e. may_write (allows_data c.args.transaction.now.status) OperationAfterCommitError _ e) (λ d f. written_step c.in-Insert.key (λ d. after_insert (write_at d c.in-Insert.key) c.in-Insert.value) (insert_call c.in-Insert.key c.in-Insert.value) d f)
+returns-in-Insert-clause-goes g c = writes_goes _ g.met.P.Plans.lawful (λ trace. KnowsAsk trace c.args.out.now.line c.args.act (account_of c.args.transaction.now)) _ _ c.args.transaction.now c.insert.new.self c.args.out.now c.insert.new._out _ (notes_so c.args.out.now.line _ _ _ (ap (λ a. refusal a (account_of c.args.transaction.now)) c.in-Insert.is ∙ sym (insert_refused c.args.transaction.now (is_none (known_value (known_at c.args.transaction.now.contents c.in-Insert.key))) OperationAfterCommitError DuplicateKeyInsertion))) (λ e. may_write (allows_data c.args.transaction.now.status) OperationAfterCommitError _ e) (λ d f. written_step c.in-Insert.key (λ d. after_insert (write_at d c.in-Insert.key) c.in-Insert.value) (insert_call c.in-Insert.key c.in-Insert.value) d f)
     c.insert.ensures.ends c.requires.idle c.insert.ensures.gives_up c.insert.ensures.quiet.0
 
 pub returns-in-Delete-clause-goes : goal.returns-in-Delete-clause-goes
-returns-in-Delete-clause-goes g c = writes_goes _ g.met.P.Plan.lawful g.met.Q.Plan.lawful g.met.K.Plan.lawful (λ trace. KnowsAsk trace c.args.out.now.line c.args.act (account_of c.args.transaction.now)) _ _ c.args.transaction.now c.delete.new.self c.args.out.now c.delete.new._out _ (notes_so c.args.out.now.line _ _ _ (ap (λ a. refusal a (account_of c.args.transaction.now)) c.in-Delete.is ∙ sym (write_refused c.args.transaction.now OperationAfterCommitError))) (λ e. may_write_so (allows_data c.args.transaction.now.status) OperationAfterCommitError e) (λ d f. written_step c.in-Delete.key (λ d. after_delete d.is_pessimistic (write_at d c.in-Delete.key)) (delete_call c.in-Delete.key) d f)
+returns-in-Delete-clause-goes g c = writes_goes _ g.met.P.Plans.lawful (λ trace. KnowsAsk trace c.args.out.now.line c.args.act (account_of c.args.transaction.now)) _ _ c.args.transaction.now c.delete.new.self c.args.out.now c.delete.new._out _ (notes_so c.args.out.now.line _ _ _ (ap (λ a. refusal a (account_of c.args.transaction.now)) c.in-Delete.is ∙ sym (write_refused c.args.transaction.now OperationAfterCommitError))) (λ e. may_write_so (allows_data c.args.transaction.now.status) OperationAfterCommitError e) (λ d f. written_step c.in-Delete.key (λ d. after_delete d.is_pessimistic (write_at d c.in-Delete.key)) (delete_call c.in-Delete.key) d f)
     c.delete.ensures.ends c.requires.idle c.delete.ensures.gives_up c.delete.ensures.quiet.0
 
 pub returns-in-Mutate-clause-goes : goal.returns-in-Mutate-clause-goes
-returns-in-Mutate-clause-goes g c = writes_goes _ g.met.P.Plan.lawful g.met.Q.Plan.lawful g.met.K.Plan.lawful (λ trace. KnowsAsk trace c.args.out.now.line c.args.act (account_of c.args.transaction.now)) _ _ c.args.transaction.now c.batch_mutate.new.self c.args.out.now c.batch_mutate.new._out _ (notes_so c.args.out.now.line _ _ _ (ap (λ a. refusal a (account_of c.args.transaction.now)) c.in-Mutate.is ∙ sym (ap (mutate_refusal c.args.transaction.now.status) c.into_vec.ensures ∙ mutate_refused c.args.transaction.now c.in-Mutate.mutations OperationAfterCommitError Unimplemented))) (λ e. may_write (allows_data c.args.transaction.now.status) OperationAfterCommitError _ e) (λ d f. mutated_steps _ d f)
+returns-in-Mutate-clause-goes g c = writes_goes _ g.met.P.Plans.lawful (λ trace. KnowsAsk trace c.args.out.now.line c.args.act (account_of c.args.transaction.now)) _ _ c.args.transaction.now c.batch_mutate.new.self c.args.out.now c.batch_mutate.new._out _ (notes_so c.args.out.now.line _ _ _ (ap (λ a. refusal a (account_of c.args.transaction.now)) c.in-Mutate.is ∙ sym (ap (mutate_refusal c.args.transaction.now.status) c.into_vec.ensures ∙ mutate_refused c.args.transaction.now c.in-Mutate.mutations OperationAfterCommitError Unimplemented))) (λ e. may_write (allows_data c.args.transaction.now.status) OperationAfterCommitError _ e) (λ d f. mutated_steps _ d f)
     c.batch_mutate.ensures.ends c.requires.idle c.batch_mutate.ensures.gives_up c.batch_mutate.ensures.quiet.0
 
 pub returns-in-Lock-clause-goes : goal.returns-in-Lock-clause-goes
-returns-in-Lock-clause-goes g c = writes_goes _ g.met.P.Plan.lawful g.met.Q.Plan.lawful g.met.K.Plan.lawful (λ trace. KnowsAsk trace c.args.out.now.line c.args.act (account_of c.args.transaction.now)) _ _ c.args.transaction.now c.lock_keys.new.self c.args.out.now c.lock_keys.new._out _ (notes_so c.args.out.now.line _ _ _ (ap (λ a. refusal a (account_of c.args.transaction.now)) c.in-Lock.is ∙ sym (write_refused c.args.transaction.now OperationAfterCommitError))) (λ e. may_write_so (allows_data c.args.transaction.now.status) OperationAfterCommitError e) (λ d f. locked_steps _ d f)
+returns-in-Lock-clause-goes g c = writes_goes _ g.met.P.Plans.lawful (λ trace. KnowsAsk trace c.args.out.now.line c.args.act (account_of c.args.transaction.now)) _ _ c.args.transaction.now c.lock_keys.new.self c.args.out.now c.lock_keys.new._out _ (notes_so c.args.out.now.line _ _ _ (ap (λ a. refusal a (account_of c.args.transaction.now)) c.in-Lock.is ∙ sym (write_refused c.args.transaction.now OperationAfterCommitError))) (λ e. may_write_so (allows_data c.args.transaction.now.status) OperationAfterCommitError e) (λ d f. locked_steps _ d f)
     c.lock_keys.ensures.ends c.requires.idle c.lock_keys.ensures.gives_up c.lock_keys.ensures.quiet.0
 
 pub returns-in-Commit-clause-goes : goal.returns-in-Commit-clause-goes
-returns-in-Commit-clause-goes g c = acts_as _ g.met.P.Plan.lawful g.met.Q.Plan.lawful g.met.K.Plan.lawful c.args.act acts.Commit _ _ _ c.args.out.now.line (account_of c.args.transaction.now) c.args.transaction.now c.commit.new.transaction c.args.out.now c.commit.new.out (turn_of c.commit.result) c.in-Commit.is c.commit.ensures.goes
+returns-in-Commit-clause-goes g c = acts_as _ g.met.P.Plans.lawful c.args.act acts.Commit _ _ _ c.args.out.now.line (account_of c.args.transaction.now) c.args.transaction.now c.commit.new.transaction c.args.out.now c.commit.new.out (turn_of c.commit.result) c.in-Commit.is c.commit.ensures.goes
 
 pub returns-in-Rollback-clause-taken : goal.returns-in-Rollback-clause-taken
 returns-in-Rollback-clause-taken g c = as_act c.args.transaction.now c.roll_back.new.transaction (turn_of c.roll_back.result) acts.Rollback c.args.act c.in-Rollback.is c.roll_back.ensures.taken
 
 pub returns-in-Rollback-clause-goes : goal.returns-in-Rollback-clause-goes
-returns-in-Rollback-clause-goes g c = acts_as _ g.met.P.Plan.lawful g.met.Q.Plan.lawful g.met.K.Plan.lawful c.args.act acts.Rollback _ _ _ c.args.out.now.line (account_of c.args.transaction.now) c.args.transaction.now c.roll_back.new.transaction c.args.out.now c.roll_back.new.out (turn_of c.roll_back.result) c.in-Rollback.is c.roll_back.ensures.goes
+returns-in-Rollback-clause-goes g c = acts_as _ g.met.P.Plans.lawful c.args.act acts.Rollback _ _ _ c.args.out.now.line (account_of c.args.transaction.now) c.args.transaction.now c.roll_back.new.transaction c.args.out.now c.roll_back.new.out (turn_of c.roll_back.result) c.in-Rollback.is c.roll_back.ensures.goes
 
 pub returns-in-Put-clause-moves : goal.returns-in-Put-clause-moves
 returns-in-Put-clause-moves g c = writes_move _ c.args.act _ _ c.args.transaction.now c.put.new.self c.args.out.now c.put.new._out (turn_of c.put.result) (λ e. may_write_so (allows_data c.args.transaction.now.status) OperationAfterCommitError e) (λ e f. unless_refuses (allows_data c.args.transaction.now.status) OperationAfterCommitError e tt f) (λ d f. written_step c.in-Put.key (λ d. after_put (write_at d c.in-Put.key) c.in-Put.value) (put_call c.in-Put.key c.in-Put.value) d f) c.put.ensures.ends c.requires.idle c.put.ensures.gives_up c.put.ensures.quiet.0

@@ -23,7 +23,7 @@ returns-clause-taken g c = taken_rollback c.args.transaction.now c.rollback.new.
     (λ says. sym c.status.ensures ∙ c.if-not-fits_status.ensures refl says ∙ c.status-before.ensures)
 
 pub returns-clause-goes : goal.returns-clause-goes
-returns-clause-goes g c = rollbacks_goes _ g.met.P.Plan.lawful g.met.Q.Plan.lawful g.met.K.Plan.lawful (λ trace. KnowsAsk trace c.args.out.now.line Rollback (account_of c.args.transaction.now)) OperationAfterCommitError (allows_rollback c.args.transaction.now.status) (undetermined c.args.transaction.now.commits) c.args.transaction.now c.rollback.new.self c.args.out.now c.rollback.new.out _
+returns-clause-goes g c = rollbacks_goes _ g.met.P.Plans.lawful (λ trace. KnowsAsk trace c.args.out.now.line Rollback (account_of c.args.transaction.now)) OperationAfterCommitError (allows_rollback c.args.transaction.now.status) (undetermined c.args.transaction.now.commits) c.args.transaction.now c.rollback.new.self c.args.out.now c.rollback.new.out _
     (λ bars. notes_so c.args.out.now.line Rollback (account_of c.args.transaction.now) _ (rollback_barred c.args.transaction.now c.requires.quiet bars)) (λ trace k. k.1) refl c.in_ok-progress.ensures.refused c.in_ok-progress.ensures.undetermined c.in_ok-progress.ensures.moves (ap (λ t. t.start) c.in_ok-progress.ensures.kept) (ap (λ t. t.options) c.in_ok-progress.ensures.kept) (ap (λ t. t.contents) c.in_ok-progress.ensures.kept) c.in_ok-progress.ensures.opens c.in_ok-progress.ensures.busy c.requires.idle c.in_ok-progress.ensures.gives_up (c.if-not-fits_loss.ensures refl) c.in_ok-progress.ensures.commits
 
 pub returns-clause-moves : goal.returns-clause-moves

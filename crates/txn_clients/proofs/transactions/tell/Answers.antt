@@ -12,10 +12,10 @@ returns-clause-told g c = told_heard _ _ _ c.tell.new.self c.args.out.now c.tell
 
 pub returns-clause-heard : goal.returns-clause-heard
 returns-clause-heard g c = heard_so c.args.transaction.now c.tell.new.self (turn_of c.tell.result) c.requires.quiet c.tell.ensures.status c.tell.ensures.kept c.tell.ensures.gives_up c.tell.ensures.deaf
-    (stays_open _ g.met.P.Plan.lawful g.met.Q.Plan.lawful g.met.K.Plan.lawful _ c.args.transaction.now c.tell.new.self c.args.out.now c.tell.new.out c.args.pd.now c.tell.new.pd _ c.requires.ready c.tell.ensures.goes)
+    (stays_open _ g.met.P.Plans.lawful _ c.args.transaction.now c.tell.new.self c.args.out.now c.tell.new.out c.args.pd.now c.tell.new.pd _ c.requires.ready c.tell.ensures.goes)
 
 pub returns-clause-goes : goal.returns-clause-goes
-returns-clause-goes g c = hears_goes _ g.met.P.Plan.lawful g.met.Q.Plan.lawful g.met.K.Plan.lawful c.args.arrival c.args.transaction.now c.tell.new.self c.args.out.now c.tell.new.out c.args.pd.now c.tell.new.pd _
+returns-clause-goes g c = hears_goes _ g.met.P.Plans.lawful c.args.arrival c.args.transaction.now c.tell.new.self c.args.out.now c.tell.new.out c.args.pd.now c.tell.new.pd _
     c.tell.ensures.tells (ap (λ t. t.start) c.tell.ensures.kept) (ap (λ t. t.options) c.tell.ensures.kept) (ap (λ t. t.contents) c.tell.ensures.kept) c.tell.ensures.goes c.tell.ensures.expects c.tell.ensures.commits c.tell.ensures.deaf c.tell.ensures.gives_up c.requires.ready c.tell.ensures.follows
 
 pub returns-clause-moves : goal.returns-clause-moves

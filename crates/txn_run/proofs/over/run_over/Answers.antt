@@ -4,7 +4,6 @@ use Rattle.std.specs.Prelude.{reverse}
 use Rattle.txn_clients.specs.Accounts.{account_at}
 use Rattle.txn_clients.specs.Arising.{ArisenFrom, HoldsAt}
 use Rattle.txn_clients.specs.Clients.{rows_of, sight_of}
-use Rattle.txn_commit.specs.Committing.{ways}
 use Rattle.txn_side.specs.Account.{AreNew}
 use Rattle.txn_run.proofs.Behind.{clients_behind}
 use Rattle.txn_run.proofs.over.run_over.Goals as goal
@@ -14,5 +13,5 @@ run_lines-requires-clause-accounts g c = subst (λ s. AreNew (account_at (rows_o
 
 pub returns-clause-behind : goal.returns-clause-behind
 returns-clause-behind g c = IfOk-weaker c.run_lines.result _ _
-    (λ report behind. clients_behind sight_of (ArisenFrom (ways g.P.Plan.meaning g.Q.Plan.meaning g.K.Plan.meaning g.P.PlanFor.refuses g.Q.PlanFor.refuses g.K.PlanFor.refuses)) (λ s h x o. HoldsAt (rows_of s) h x o) (λ s. account_at (rows_of s)) (reverse c.args.lines.items) report behind)
+    (λ report behind. clients_behind sight_of (ArisenFrom g.P.Plans.ways) (λ s h x o. HoldsAt (rows_of s) h x o) (λ s. account_at (rows_of s)) (reverse c.args.lines.items) report behind)
     c.run_lines.ensures.arisen

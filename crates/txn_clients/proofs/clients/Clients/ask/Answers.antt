@@ -51,7 +51,7 @@ returns-clause-accounts g c =
 
 pub returns-clause-steps : goal.returns-clause-steps
 returns-clause-steps g c = IfOk-weaker c.step.result _ _
-    (λ turn f trace ready called wants sound. ask_steps _ g.met.P.Plan.lawful g.met.Q.Plan.lawful g.met.K.Plan.lawful trace c.args.self.now c.set_row.new.self c.step.new.self c.newest-line.result c.args.client c.args.begins c.args.call _ turn.posted.items turn.ended.items (newest_is c.args.self.now c.newest-line.result c.requires.line c.newest-line.ensures)
+    (λ turn f trace ready called wants sound. ask_steps _ g.met.P.Plans.lawful trace c.args.self.now c.set_row.new.self c.step.new.self c.newest-line.result c.args.client c.args.begins c.args.call _ turn.posted.items turn.ended.items (newest_is c.args.self.now c.newest-line.result c.requires.line c.newest-line.ensures)
     (newest_idle c.args.self.now c.newest-line.result c.newest-line.ensures (c.if-not-is_new.ensures refl)) c.requires.client c.requires.fresh c.requires.unbegun c.set_row.ensures.rows c.set_row.ensures.nexts c.set_row.ensures.asks c.set_row.ensures.clients ready
     (called_since trace [] c.newest-line.result c.newest-line.result (subst (λ n. CalledIn trace n n) (sym c.newest-line.ensures) called))
     (wanted_since trace [] c.newest-line.result c.args.call (subst (λ n. WantedIn trace n c.args.call) (sym c.newest-line.ensures) wants)) sound (f trace))

@@ -59,7 +59,7 @@ returns-clause-takes g c =
 
 pub returns-clause-steps : goal.returns-clause-steps
 returns-clause-steps g c = IfOk-weaker c.step.result _ _
-    (λ turn f trace ready called refused sound. call_steps _ g.met.P.Plan.lawful g.met.Q.Plan.lawful g.met.K.Plan.lawful trace c.args.self.now c.set_row.new.self c.step.new.self c.newest-line.result c.args.transaction c.args.client c.is_commit.result c.args.act _ turn.posted.items turn.ended.items (newest_is c.args.self.now c.newest-line.result c.requires.line c.newest-line.ensures)
+    (λ turn f trace ready called refused sound. call_steps _ g.met.P.Plans.lawful trace c.args.self.now c.set_row.new.self c.step.new.self c.newest-line.result c.args.transaction c.args.client c.is_commit.result c.args.act _ turn.posted.items turn.ended.items (newest_is c.args.self.now c.newest-line.result c.requires.line c.newest-line.ensures)
     (newest_idle c.args.self.now c.newest-line.result c.newest-line.ensures (c.if-not-is_new.ensures refl)) c.requires.transaction
     (c.set_row.ensures.rows ∙ ap (λ rs. set rs (c.newest-line.result - 1) (row.Calling c.args.client c.args.transaction c.is_commit.result)) c.set_waits.ensures.rows) (c.set_row.ensures.nexts ∙ c.set_waits.ensures.nexts) (c.set_row.ensures.asks ∙ c.set_waits.ensures.asks) (c.set_row.ensures.clients ∙ c.set_waits.ensures.clients) ready
     (called_since trace [] c.newest-line.result c.args.transaction (subst (λ n. CalledIn trace n c.args.transaction) (sym c.newest-line.ensures) called))

@@ -10,9 +10,10 @@ use Rattle.txn_clients.specs.Waiting.{AreRunning}
 use Rattle.txn_clients.specs.declared.row.Row.TheVariants as row
 use Rattle.txn_clients.proofs.Settling.{asked_goes, asking_row, quiet_goes, row_within, settled_runs}
 use Rattle.txn_clients.proofs.Sights.{ask_settles}
-use Rattle.txn_clients.proofs.Showing.{ask_fails, one_more, reason_so}
+use Rattle.txn_clients.proofs.Showing.{ask_fails, one_more, own_kind, reason_so}
 use Rattle.txn_clients.proofs.Sounding.{no_more, running_set}
 use Rattle.txn_clients.specs.Failing.{posting_in}
+use Rattle.txn_side.specs.Trace.CallKind.{ForTimestamp}
 use Rattle.txn_clients.proofs.Tables.{stand_of_line}
 use Rattle.txn_clients.proofs.Chaining.{leads_nothing}
 use Rattle.txn_clients.proofs.Ended.{ask_ends}
@@ -50,11 +51,11 @@ pub returns-in_ok-push-in-Asking-clause-waits : goal.returns-in_ok-push-in-Askin
 returns-in_ok-push-in-Asking-clause-waits g c new trace client rest fails last sound =
     let asks = stands_at (rows_of c.args.self.now) c.args.line (row.Asking c.in-Asking.client c.in-Asking.begins c.in-Asking.call) c.requires.line (sym c.row.ensures ∙ c.in-Asking.is) in
     let now = posting_in c.args.turn.now.posted.items trace in
-    asked_goes _ g.met.P.Plan.lawful g.met.Q.Plan.lawful g.met.K.Plan.lawful trace c.args.self.now c.set_row.new.self c.args.line client c.in-Asking.client c.in-Asking.begins c.in_ok-ended-in-Asking.ended.row rest c.args.turn.now.posted.items c.args.turn.now.ended.items c.push.new.self.items
+    asked_goes _ g.met.P.Plans.lawful trace c.args.self.now c.set_row.new.self c.args.line client c.in-Asking.client c.in-Asking.begins c.in_ok-ended-in-Asking.ended.row rest c.args.turn.now.posted.items c.args.turn.now.ended.items c.push.new.self.items
     c.requires.line asks (ask_settles c.in-Asking.client c.in-Asking.begins c.in_ok-ended-in-Asking.ended.outcome (stand_of c.in_ok-ended-in-Asking.ended.row) c.in_ok-ended-in-Asking.ensures.ends) c.in_ok-ended-in-Asking.ensures.ready (c.in_ok-ended-in-Asking.ensures.arises new now c.args.line c.args.line fails sound.owing)
     c.set_row.ensures.rows c.set_row.ensures.nexts c.set_row.ensures.asks c.set_row.ensures.clients
     (one_more _ now c.args.turn.now.ended.items c.push.new.self.items (record { line = c.args.line; outcome = c.in_ok-ended-in-Asking.ended.outcome }) c.in_ok-push-in-Asking.ensures.items
-    (reason_so _ now c.args.line c.args.line c.in_ok-ended-in-Asking.ended.outcome c.args.answer (sound.told.asks c.args.line c.in-Asking.client c.in-Asking.begins asks) c.in_ok-ended-in-Asking.ensures.failed c.in_ok-ended-in-Asking.ensures.fed (ask_fails _ now c.args.line c.args.line c.args.answer fails) last)) sound
+    (reason_so g.P.Plans.ways ForTimestamp now c.args.line c.args.line c.in_ok-ended-in-Asking.ended.outcome c.args.answer (own_kind c.args.line) (sound.told.asks c.args.line c.in-Asking.client c.in-Asking.begins asks) c.in_ok-ended-in-Asking.ensures.failed c.in_ok-ended-in-Asking.ensures.fed (ask_fails g.P.Plans.ways now c.args.line c.args.line c.args.answer fails) last)) sound
 
 pub returns-in_ok-push-in-Asking-clause-runs : goal.returns-in_ok-push-in-Asking-clause-runs
 returns-in_ok-push-in-Asking-clause-runs g c d b e but =

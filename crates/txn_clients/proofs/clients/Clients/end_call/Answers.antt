@@ -9,9 +9,10 @@ use Rattle.txn_clients.specs.Waiting.{AreRunning}
 use Rattle.txn_clients.specs.declared.row.Row.TheVariants as row
 use Rattle.txn_clients.proofs.Settling.{called_goes_on, calling_row, ended_running, ended_client, past_arises, quiet_goes, call_past}
 use Rattle.txn_clients.proofs.Sights.{call_settles}
-use Rattle.txn_clients.proofs.Showing.{one_more, reason_so}
+use Rattle.txn_clients.proofs.Showing.{calling_kind, one_more, reason_so}
 use Rattle.txn_clients.proofs.Sounding.{no_more}
 use Rattle.txn_clients.specs.Failing.{posting_in}
+use Rattle.txn_side.specs.Trace.CallKind.{OfTransaction}
 use Rattle.txn_clients.proofs.Tables.{stand_of_line}
 use Rattle.txn_clients.proofs.Chaining.{leads_nothing}
 use Rattle.txn_clients.proofs.Ended.{call_ends}
@@ -67,12 +68,12 @@ returns-in_ok-push-in-Calling-clause-waits g c trace client rest fails last soun
     let calls = stands_at (rows_of c.args.self.now) c.args.line (row.Calling c.in-Calling.client c.in-Calling.transaction c.in-Calling.commits) c.requires.line (sym c.row.ensures ∙ c.in-Calling.is) in
     let may = subst (MayEnd (rows_of c.args.self.now) c.args.line) calls c.requires.may in
     let now = posting_in c.args.turn.now.posted.items trace in
-    called_goes_on _ g.met.P.Plan.lawful g.met.Q.Plan.lawful g.met.K.Plan.lawful trace c.args.self.now c.set_row.new.self c.args.line c.in-Calling.transaction client c.in-Calling.client may.0 c.in-Calling.commits c.in_ok-ended-in-Calling.ended.row rest c.args.turn.now.posted.items c.args.turn.now.ended.items c.push.new.self.items
+    called_goes_on _ g.met.P.Plans.lawful trace c.args.self.now c.set_row.new.self c.args.line c.in-Calling.transaction client c.in-Calling.client may.0 c.in-Calling.commits c.in_ok-ended-in-Calling.ended.row rest c.args.turn.now.posted.items c.args.turn.now.ended.items c.push.new.self.items
     c.requires.line calls may.1 may.2 (call_settles c.in-Calling.client c.in-Calling.commits c.in_ok-ended-in-Calling.ended.outcome (stand_of c.in_ok-ended-in-Calling.ended.row) c.in_ok-ended-in-Calling.ensures.ends) c.in_ok-ended-in-Calling.ensures.ready
     (past_arises _ c.in-Calling.client c.in_ok-ended-in-Calling.ended.row (call_past c.in-Calling.client c.in-Calling.commits c.in_ok-ended-in-Calling.ended.outcome (stand_of c.in_ok-ended-in-Calling.ended.row) c.in_ok-ended-in-Calling.ensures.ends) now)
     (c.set_row.ensures.rows ∙ ap (λ rs. set rs (c.args.line - 1) c.in_ok-ended-in-Calling.ended.row) c.set_waits.ensures.rows) (c.set_row.ensures.nexts ∙ c.set_waits.ensures.nexts) (c.set_row.ensures.asks ∙ c.set_waits.ensures.asks) (c.set_row.ensures.clients ∙ c.set_waits.ensures.clients)
     (one_more _ now c.args.turn.now.ended.items c.push.new.self.items (record { line = c.args.line; outcome = c.in_ok-ended-in-Calling.ended.outcome }) c.in_ok-push-in-Calling.ensures.items
-    (reason_so _ now c.args.line c.in-Calling.transaction c.in_ok-ended-in-Calling.ended.outcome c.args.answer (sound.told.calls c.args.line c.in-Calling.client c.in-Calling.transaction c.in-Calling.commits calls) c.in_ok-ended-in-Calling.ensures.failed c.in_ok-ended-in-Calling.ensures.fed
+    (reason_so g.P.Plans.ways OfTransaction now c.args.line c.in-Calling.transaction c.in_ok-ended-in-Calling.ended.outcome c.args.answer (calling_kind (stands_of (rows_of c.args.self.now)) c.args.line c.in-Calling.transaction c.in-Calling.client may.0 c.in-Calling.commits calls may.1) (sound.told.calls c.args.line c.in-Calling.client c.in-Calling.transaction c.in-Calling.commits calls) c.in_ok-ended-in-Calling.ensures.failed c.in_ok-ended-in-Calling.ensures.fed
     (fails c.in-Calling.client c.in-Calling.transaction c.in-Calling.commits calls) last)) sound
 
 pub returns-in_ok-push-in-Calling-clause-runs : goal.returns-in_ok-push-in-Calling-clause-runs

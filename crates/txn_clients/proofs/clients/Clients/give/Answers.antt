@@ -18,7 +18,6 @@ use Rattle.txn_clients.proofs.Settling.{goes_on, quiet_goes}
 use Rattle.txn_tso.specs.Calling.{members}
 use Rattle.txn_tso.specs.Oracle.{Answer}
 use Rattle.txn_clients.proofs.Kept.{nil_so}
-use Rattle.txn_commit.specs.Committing.{ways}
 use Rattle.txn_clients.specs.Failing.{owing_all, posting_in, refused_of}
 use Rattle.txn_clients.proofs.Giving.{first_sound, first_told, given_came, goes_longer, owing_none}
 use Rattle.txn_clients.proofs.Sounding.{no_more}
@@ -36,11 +35,11 @@ loop-asker-init g c = record {
   crashed = refl;
   waits = λ trace given sound.
       let now = c.args.turn.now.posted.items in
-      quiet_goes _ _ c.args.self.now c.args.self.now c.args.client _ now c.args.turn.now.ended.items c.args.turn.now.ended.items (subst (λ xs. IsSound (ways g.P.Plan.meaning g.Q.Plan.meaning g.K.Plan.meaning g.P.PlanFor.refuses g.Q.PlanFor.refuses g.K.PlanFor.refuses) (posting_in now (owing_all (refused_of xs) trace)) (map (λ (a : Answer). a.0) xs) c.args.self.now) (sym c.into_iter-asker-iterator.ensures.into_iter_gives.0) sound)
+      quiet_goes _ _ c.args.self.now c.args.self.now c.args.client _ now c.args.turn.now.ended.items c.args.turn.now.ended.items (subst (λ xs. IsSound g.P.Plans.ways (posting_in now (owing_all (refused_of xs) trace)) (map (λ (a : Answer). a.0) xs) c.args.self.now) (sym c.into_iter-asker-iterator.ensures.into_iter_gives.0) sound)
       (no_more _ _ c.args.turn.now.ended.items) (λ n a x. x) (λ n. refl);
   runs = λ running. running;
   leads = λ posted ended askers h f.
-      leads_nothing (ways g.P.Plan.meaning g.Q.Plan.meaning g.K.Plan.meaning g.P.PlanFor.refuses g.Q.PlanFor.refuses g.K.PlanFor.refuses) askers _ c.args.turn.now.posted.items c.args.turn.now.ended.items _ c.args.self.now h (subst (λ xs. Arisen (ways g.P.Plan.meaning g.Q.Plan.meaning g.K.Plan.meaning g.P.PlanFor.refuses g.Q.PlanFor.refuses g.K.PlanFor.refuses) c.args.self.now askers xs h) (sym c.into_iter-asker-iterator.ensures.into_iter_gives.0) f);
+      leads_nothing g.P.Plans.ways askers _ c.args.turn.now.posted.items c.args.turn.now.ended.items _ c.args.self.now h (subst (λ xs. Arisen g.P.Plans.ways c.args.self.now askers xs h) (sym c.into_iter-asker-iterator.ensures.into_iter_gives.0) f);
   times = subst (All IsTimeFor) (sym c.into_iter-asker-iterator.ensures.into_iter_gives.0) c.requires.times;
   rest = λ a among. subst (λ xs. IsAmong xs a) c.into_iter-asker-iterator.ensures.into_iter_gives.0 among;
 }
@@ -64,8 +63,8 @@ loop-asker-preserved g c =
           let first = c.loop-asker.invariant.waits trace given sound in
           let left = map (λ (a : Answer). a.0) c.next.new.self.rest.items in
           let later = owing_all (refused_of c.next.new.self.rest.items) trace in
-          let here = first_sound (ways g.P.Plan.meaning g.Q.Plan.meaning g.K.Plan.meaning g.P.PlanFor.refuses g.Q.PlanFor.refuses g.K.PlanFor.refuses) trace c.loop-asker.turn.posted.items c.loop-asker.self c.loop-asker.asker-iterator.rest.items (c.in-Some.asker, c.in-Some.answer) c.next.new.self.rest.items c.in-Some.ensures.steps.0 first.sound in
-          let so_far = goes_longer (ways g.P.Plan.meaning g.Q.Plan.meaning g.K.Plan.meaning g.P.PlanFor.refuses g.Q.PlanFor.refuses g.K.PlanFor.refuses) (owing_all (refused_of c.loop-asker.asker-iterator.rest.items) trace) later c.args.self.now c.loop-asker.self c.args.client (λ n a. ⊥) (map (λ (a : Answer). a.0) c.loop-asker.asker-iterator.rest.items) c.args.turn.now.posted.items c.loop-asker.turn.posted.items c.args.turn.now.ended.items c.loop-asker.turn.ended.items
+          let here = first_sound g.P.Plans.ways trace c.loop-asker.turn.posted.items c.loop-asker.self c.loop-asker.asker-iterator.rest.items (c.in-Some.asker, c.in-Some.answer) c.next.new.self.rest.items c.in-Some.ensures.steps.0 first.sound in
+          let so_far = goes_longer g.P.Plans.ways (owing_all (refused_of c.loop-asker.asker-iterator.rest.items) trace) later c.args.self.now c.loop-asker.self c.args.client (λ n a. ⊥) (map (λ (a : Answer). a.0) c.loop-asker.asker-iterator.rest.items) c.args.turn.now.posted.items c.loop-asker.turn.posted.items c.args.turn.now.ended.items c.loop-asker.turn.ended.items
           (first_told c.loop-asker.asker-iterator.rest.items (c.in-Some.asker, c.in-Some.answer) c.next.new.self.rest.items trace c.in-Some.ensures.steps.0) first in
           let came = given_came trace (refused_of c.next.new.self.rest.items) c.loop-asker.turn.posted.items c.args.given.items c.in-Some.asker c.in-Some.answer given here_among in
           goes_on _ later c.args.self.now c.loop-asker.self c.tell.new.self c.args.client (λ n a. ⊥) (HearsAt c.in-Some.asker.line (Heard (Time c.in-Some.asker.ask c.in-Some.answer))) _ left c.args.turn.now.posted.items c.loop-asker.turn.posted.items c.tell.new.turn.posted.items c.args.turn.now.ended.items c.loop-asker.turn.ended.items c.tell.new.turn.ended.items so_far
@@ -73,8 +72,8 @@ loop-asker-preserved g c =
       runs = λ running. c.in_ok-tell.ensures.runs (c.loop-asker.invariant.runs running);
       leads = λ posted ended askers h f.
           let first = c.loop-asker.invariant.leads posted ended askers h f in
-          let here = subst (λ a. Arisen (ways g.P.Plan.meaning g.Q.Plan.meaning g.K.Plan.meaning g.P.PlanFor.refuses g.Q.PlanFor.refuses g.K.PlanFor.refuses) c.loop-asker.self askers ((a, c.in-Some.answer) ∷ c.next.new.self.rest.items) first.later) (sym (plain_asker c.in-Some.asker c.if-asker.false)) (subst (λ xs. Arisen (ways g.P.Plan.meaning g.Q.Plan.meaning g.K.Plan.meaning g.P.PlanFor.refuses g.Q.PlanFor.refuses g.K.PlanFor.refuses) c.loop-asker.self askers xs first.later) c.in-Some.ensures.steps.0 first.arisen) in
-          gives_next (ways g.P.Plan.meaning g.Q.Plan.meaning g.K.Plan.meaning g.P.PlanFor.refuses g.Q.PlanFor.refuses g.K.PlanFor.refuses) c.args.self.now c.loop-asker.self c.tell.new.self askers c.loop-asker.asker-iterator.rest.items c.next.new.self.rest.items c.args.turn.now.posted.items c.loop-asker.turn.posted.items c.tell.new.turn.posted.items c.loop-asker.turn.posted.items c.args.turn.now.ended.items c.loop-asker.turn.ended.items c.tell.new.turn.ended.items h
+          let here = subst (λ a. Arisen g.P.Plans.ways c.loop-asker.self askers ((a, c.in-Some.answer) ∷ c.next.new.self.rest.items) first.later) (sym (plain_asker c.in-Some.asker c.if-asker.false)) (subst (λ xs. Arisen g.P.Plans.ways c.loop-asker.self askers xs first.later) c.in-Some.ensures.steps.0 first.arisen) in
+          gives_next g.P.Plans.ways c.args.self.now c.loop-asker.self c.tell.new.self askers c.loop-asker.asker-iterator.rest.items c.next.new.self.rest.items c.args.turn.now.posted.items c.loop-asker.turn.posted.items c.tell.new.turn.posted.items c.loop-asker.turn.posted.items c.args.turn.now.ended.items c.loop-asker.turn.ended.items c.tell.new.turn.ended.items h
           (advances_all c.args.turn.now c.loop-asker.turn (sight_of c.args.self.now) (sight_of c.loop-asker.self) posted ended c.loop-asker.invariant.advances)
           (advances_all c.args.turn.now c.tell.new.turn (sight_of c.args.self.now) (sight_of c.tell.new.self) posted ended (advances_then c.args.turn.now c.loop-asker.turn c.tell.new.turn (sight_of c.args.self.now) (sight_of c.loop-asker.self) (sight_of c.tell.new.self) c.loop-asker.invariant.advances c.in_ok-tell.ensures.advances))
           first
@@ -88,12 +87,12 @@ returns-clause-waits g c trace given sound =
     let rest = c.loop-asker.asker-iterator.rest in
     let none = c.in-None.ensures.steps.0 in
     let none_left = nil_so rest.items (let ok = rest.ok in omega (arith, ok, none)) in
-    subst (λ x. GoesOn (ways g.P.Plan.meaning g.Q.Plan.meaning g.K.Plan.meaning g.P.PlanFor.refuses g.Q.PlanFor.refuses g.K.PlanFor.refuses) x c.args.client (λ n a. ⊥) [] c.args.turn.now.posted.items c.loop-asker.turn.posted.items c.args.turn.now.ended.items c.loop-asker.turn.ended.items c.args.self.now c.loop-asker.self) (owing_none trace)
-    (subst (λ xs. GoesOn (ways g.P.Plan.meaning g.Q.Plan.meaning g.K.Plan.meaning g.P.PlanFor.refuses g.Q.PlanFor.refuses g.K.PlanFor.refuses) (owing_all (refused_of xs) trace) c.args.client (λ n a. ⊥) (map (λ (a : Answer). a.0) xs) c.args.turn.now.posted.items c.loop-asker.turn.posted.items c.args.turn.now.ended.items c.loop-asker.turn.ended.items c.args.self.now c.loop-asker.self) none_left (c.loop-asker.invariant.waits trace given sound))
+    subst (λ x. GoesOn g.P.Plans.ways x c.args.client (λ n a. ⊥) [] c.args.turn.now.posted.items c.loop-asker.turn.posted.items c.args.turn.now.ended.items c.loop-asker.turn.ended.items c.args.self.now c.loop-asker.self) (owing_none trace)
+    (subst (λ xs. GoesOn g.P.Plans.ways (owing_all (refused_of xs) trace) c.args.client (λ n a. ⊥) (map (λ (a : Answer). a.0) xs) c.args.turn.now.posted.items c.loop-asker.turn.posted.items c.args.turn.now.ended.items c.loop-asker.turn.ended.items c.args.self.now c.loop-asker.self) none_left (c.loop-asker.invariant.waits trace given sound))
 
 pub returns-clause-leads : goal.returns-clause-leads
 returns-clause-leads g c posted ended =
     let rest = c.loop-asker.asker-iterator.rest in
     let none = c.in-None.ensures.steps.0 in
     let none_left = nil_so rest.items (let ok = rest.ok in omega (arith, ok, none)) in
-    subst (λ xs. LeadsGiving (ways g.P.Plan.meaning g.Q.Plan.meaning g.K.Plan.meaning g.P.PlanFor.refuses g.Q.PlanFor.refuses g.K.PlanFor.refuses) c.args.given.items xs c.args.turn.now.posted.items c.loop-asker.turn.posted.items c.args.turn.now.ended.items c.loop-asker.turn.ended.items c.args.self.now c.loop-asker.self) none_left (c.loop-asker.invariant.leads posted ended)
+    subst (λ xs. LeadsGiving g.P.Plans.ways c.args.given.items xs c.args.turn.now.posted.items c.loop-asker.turn.posted.items c.args.turn.now.ended.items c.loop-asker.turn.ended.items c.args.self.now c.loop-asker.self) none_left (c.loop-asker.invariant.leads posted ended)

@@ -12,7 +12,6 @@ use Rattle.txn_clients.proofs.Settling.{pends_none}
 use Rattle.txn_clients.specs.Failing.{CameIn, outbox_of, posting_in}
 use Rattle.txn_clients.specs.Waiting.{IsSound, pends}
 use Rattle.txn_clients.specs.declared.told.Told.TheVariants.{Heard}
-use Rattle.txn_commit.specs.Committing.{ways}
 use Rattle.txn_clients.proofs.Stepped.{told_steps}
 use Rattle.txn_clients.proofs.clients.Clients.hear.Goals as goal
 
@@ -38,8 +37,8 @@ pub returns-clause-steps : goal.returns-clause-steps
 returns-clause-steps g c trace live own ready unowed came sound =
     let none = sym c.new-turn.ensures.posted in
     let went = c.in_ok-tell.ensures.waits trace c.args.client [] live own (subst (λ ps. CameIn (posting_in ps trace) (outbox_of c.args.line) c.args.arrival) none came)
-    (subst (λ x. IsSound (ways g.P.Plan.meaning g.Q.Plan.meaning g.K.Plan.meaning g.P.PlanFor.refuses g.Q.PlanFor.refuses g.K.PlanFor.refuses) (posting_in c.new-turn.result.posted.items x) (pends c.args.line (Heard c.args.arrival) []) c.args.self.now) (sym unowed)
-    (subst (λ ps. IsSound (ways g.P.Plan.meaning g.Q.Plan.meaning g.K.Plan.meaning g.P.PlanFor.refuses g.Q.PlanFor.refuses g.K.PlanFor.refuses) (posting_in ps trace) (pends c.args.line (Heard c.args.arrival) []) c.args.self.now) none (pends_none _ (posting_in [] trace) c.args.self.now c.args.line c.args.arrival sound))) in
+    (subst (λ x. IsSound g.P.Plans.ways (posting_in c.new-turn.result.posted.items x) (pends c.args.line (Heard c.args.arrival) []) c.args.self.now) (sym unowed)
+    (subst (λ ps. IsSound g.P.Plans.ways (posting_in ps trace) (pends c.args.line (Heard c.args.arrival) []) c.args.self.now) none (pends_none _ (posting_in [] trace) c.args.self.now c.args.line c.args.arrival sound))) in
     whole_steps _ trace c.args.self.now c.tell.new.self c.send_group.new.self c.args.client _ c.new-turn.result.posted.items c.tell.new.turn.posted.items c.send_group.new.turn.posted.items c.new-turn.result.ended.items c.tell.new.turn.ended.items c.send_group.new.turn.ended.items
     c.new-turn.ensures.ended (ap (λ v. v.items) c.in_ok-send_group.ensures.ended) went (c.in_ok-send_group.ensures.waits trace [] went.sound) c.in_ok-send_group.ensures.rows (c.in_ok-tell.ensures.runs ready.running) (λ d apart. ready.quiet d)
 

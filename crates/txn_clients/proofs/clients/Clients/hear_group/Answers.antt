@@ -9,7 +9,6 @@ use Rattle.txn_clients.proofs.Stepping.{group_steps, groups_beside}
 use Rattle.std.specs.Prelude.{[]}
 use Rattle.txn_clients.specs.Failing.{owing_all, posting_in, refused_out}
 use Rattle.txn_clients.specs.Waiting.{IsSound}
-use Rattle.txn_commit.specs.Committing.{ways}
 use Rattle.txn_history.specs.Event.Event.{Took}
 use Rattle.txn_clients.proofs.Stepped.{group_leads}
 use Rattle.txn_clients.proofs.clients.Clients.hear_group.Goals as goal
@@ -33,7 +32,7 @@ returns-clause-accounts g c =
 
 pub returns-clause-steps : goal.returns-clause-steps
 returns-clause-steps g c trace ready came sound =
-    let ended = c.in_ok-take_group.ensures.waits trace came (subst (λ ps. IsSound (ways g.P.Plan.meaning g.Q.Plan.meaning g.K.Plan.meaning g.P.PlanFor.refuses g.Q.PlanFor.refuses g.K.PlanFor.refuses) (posting_in ps (owing_all (refused_out (λ u r. Took u r c.args.reply) (get_or (groups_of c.args.self.now) c.args.client None)) trace)) [] c.args.self.now) (sym c.new-turn.ensures.posted) sound) in
+    let ended = c.in_ok-take_group.ensures.waits trace came (subst (λ ps. IsSound g.P.Plans.ways (posting_in ps (owing_all (refused_out (λ u r. Took u r c.args.reply) (get_or (groups_of c.args.self.now) c.args.client None)) trace)) [] c.args.self.now) (sym c.new-turn.ensures.posted) sound) in
     group_steps _ trace c.args.self.now c.take_group.new.self c.send_group.new.self c.args.client c.new-turn.result.posted.items c.take_group.new.turn.posted.items c.send_group.new.turn.posted.items c.new-turn.result.ended.items c.take_group.new.turn.ended.items c.send_group.new.turn.ended.items
     c.new-turn.ensures.ended (ap (λ v. v.items) c.in_ok-send_group.ensures.ended) ended (c.in_ok-send_group.ensures.waits trace [] ended.sound) c.in_ok-send_group.ensures.rows (c.in_ok-take_group.ensures.runs ready.running) ready.quiet
 

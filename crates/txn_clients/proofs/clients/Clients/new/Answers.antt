@@ -8,11 +8,11 @@ use Rattle.txn_clients.proofs.Accounting.{none_new}
 use Rattle.txn_clients.proofs.Sides.{new_all}
 use Rattle.txn_clients.proofs.clients.Clients.new.Goals as goal
 
-none_placed : {P Q K : Type 0} (s : Clients P Q K) → s.places.items ≡ [] → AreNew (account_at (rows_of s))
-none_placed {P} {Q} {K} s e = none_new (rows_of s) (ap (λ (ps : List (Place P Q K)). map (λ (p : Place P Q K). p.row) ps) e)
+none_placed : {P : Type 0} (s : Clients P) → s.places.items ≡ [] → AreNew (account_at (rows_of s))
+none_placed {P} s e = none_new (rows_of s) (ap (λ (ps : List (Place P)). map (λ (p : Place P). p.row) ps) e)
 
 pub returns-clause-accounts : goal.returns-clause-accounts
 returns-clause-accounts g c = none_placed (record { places = c.new.result; clients = c.new-2.result; alloc = c.args.alloc }) c.new.ensures.items
 
 pub returns-clause-ready : goal.returns-clause-ready
-returns-clause-ready g c = new_all _ g.met.P.Plan.lawful g.met.Q.Plan.lawful g.met.K.Plan.lawful _ c.new.ensures.items c.new-2.ensures.items
+returns-clause-ready g c = new_all _ g.met.P.Plans.lawful _ c.new.ensures.items c.new-2.ensures.items

@@ -15,7 +15,7 @@ pub returns-clause-waits : goal.returns-clause-waits
 returns-clause-waits g c trace rest heard knows sound =
     let sent : c.replace-sends.result.items ≡ c.tell_row.new.out.sends = ap (λ v. v.items) c.replace-sends.ensures.value ∙ ap (λ (o : Posted). o.sends) c.out.view_is in
     let ask : c.out.inside.next_ask ≡ c.tell_row.new.out.next_ask = ap (λ (o : Posted). o.next_ask) c.out.view_is in
-    pushed _ g.met.P.Plan.lawful g.met.Q.Plan.lawful g.met.K.Plan.lawful trace c.args.self.now c.tell_row.new.self c.hand_out.new.self c.set_next_ask.new.self c.args.told c.args.line c.args.listener.client c.args.listener.at rest c.in_ok-out.out c.tell_row.new.out c.in_ok-answer.answer c.replace-sends.result.items c.args.turn.now.posted.items c.hand_out.new.turn.posted.items c.args.turn.now.ended.items c.hand_out.new.turn.ended.items
+    pushed _ g.met.P.Plans.lawful trace c.args.self.now c.tell_row.new.self c.hand_out.new.self c.set_next_ask.new.self c.args.told c.args.line c.args.listener.client c.args.listener.at rest c.in_ok-out.out c.tell_row.new.out c.in_ok-answer.answer c.replace-sends.result.items c.args.turn.now.posted.items c.hand_out.new.turn.posted.items c.args.turn.now.ended.items c.hand_out.new.turn.ended.items
     c.requires.line c.requires.place c.requires.ready.matched c.in_ok-out.ensures.is sent c.in_ok-answer.ensures.posts
     c.in_ok-answer.ensures.tells c.in_ok-answer.ensures.nexts c.in_ok-answer.ensures.crashed
     c.in_ok-hand_out.ensures.hands c.in_ok-hand_out.ensures.rows c.in_ok-hand_out.ensures.crashed
@@ -29,7 +29,7 @@ pub returns-clause-leads : goal.returns-clause-leads
 returns-clause-leads g c =
     let sent : c.replace-sends.result.items ≡ c.tell_row.new.out.sends = ap (λ v. v.items) c.replace-sends.ensures.value ∙ ap (λ (o : Posted). o.sends) c.out.view_is in
     let ask : c.out.inside.next_ask ≡ c.tell_row.new.out.next_ask = ap (λ (o : Posted). o.next_ask) c.out.view_is in
-    pushes_from _ g.met.P.Plan.lawful g.met.Q.Plan.lawful g.met.K.Plan.lawful c.args.self.now c.tell_row.new.self c.hand_out.new.self c.set_next_ask.new.self c.args.told c.args.line c.args.listener.client c.args.listener.at c.in_ok-out.out c.tell_row.new.out c.in_ok-answer.answer c.replace-sends.result.items c.args.turn.now.posted.items c.hand_out.new.turn.posted.items c.args.turn.now.ended.items c.hand_out.new.turn.ended.items
+    pushes_from _ g.met.P.Plans.lawful c.args.self.now c.tell_row.new.self c.hand_out.new.self c.set_next_ask.new.self c.args.told c.args.line c.args.listener.client c.args.listener.at c.in_ok-out.out c.tell_row.new.out c.in_ok-answer.answer c.replace-sends.result.items c.args.turn.now.posted.items c.hand_out.new.turn.posted.items c.args.turn.now.ended.items c.hand_out.new.turn.ended.items
     c.requires.place c.requires.line c.in_ok-out.ensures.is sent c.in_ok-answer.ensures.posts
     c.in_ok-answer.ensures.tells c.in_ok-answer.ensures.moves c.in_ok-answer.ensures.nexts c.in_ok-answer.ensures.stamped c.in_ok-answer.ensures.kind
     c.in_ok-hand_out.ensures.hands c.in_ok-hand_out.ensures.exact c.in_ok-hand_out.ensures.rows

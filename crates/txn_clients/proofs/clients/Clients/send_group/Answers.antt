@@ -33,13 +33,13 @@ returns-in-Some-clause-advances g c =
 pub returns-in-None-clause-waits : goal.returns-in-None-clause-waits
 returns-in-None-clause-waits g c trace rest sound =
     let done = c.in_ok-next_group.ensures in
-    none_goes _ g.met.P.Plan.lawful g.met.Q.Plan.lawful g.met.K.Plan.lawful trace c.args.self.now c.next_group.new.self c.args.client rest c.args.turn.now.posted.items _ done.regroups c.in-None.is done.rows done.nexts done.crashed sound
+    none_goes _ g.met.P.Plans.lawful trace c.args.self.now c.next_group.new.self c.args.client rest c.args.turn.now.posted.items _ done.regroups c.in-None.is done.rows done.nexts done.crashed sound
 
 pub returns-in-Some-clause-waits : goal.returns-in-Some-clause-waits
 returns-in-Some-clause-waits g c = ok_three c.send_request.result
     (λ sent rows crashed trace rest sound.
     let done = c.in_ok-next_group.ensures in
-    group_goes _ g.met.P.Plan.lawful g.met.Q.Plan.lawful g.met.K.Plan.lawful trace c.args.self.now c.next_group.new.self c.send_request.new.self c.args.client rest c.args.turn.now.posted.items c.send_request.new.turn.posted.items _ done.regroups done.rows done.nexts done.crashed sent rows crashed sound)
+    group_goes _ g.met.P.Plans.lawful trace c.args.self.now c.next_group.new.self c.send_request.new.self c.args.client rest c.args.turn.now.posted.items c.send_request.new.turn.posted.items _ done.regroups done.rows done.nexts done.crashed sent rows crashed sound)
     c.send_request.ensures.sends c.send_request.ensures.rows c.send_request.ensures.crashed
 
 pub returns-in-None-clause-groups : goal.returns-in-None-clause-groups
@@ -51,13 +51,13 @@ returns-in-Some-clause-groups g c = on_ok c.send_request.result (λ f group out.
 pub returns-in-None-clause-leads : goal.returns-in-None-clause-leads
 returns-in-None-clause-leads g c =
     let done = c.in_ok-next_group.ensures in
-    none_sends _ g.met.P.Plan.lawful g.met.Q.Plan.lawful g.met.K.Plan.lawful (jobs_last g.Q.Plan.meaning g.met.Q.Plan.lawful g.Q.PlanFor.refuses g.Q.PlanFor.costs g.met.Q.PlanFor.refuses_longer) c.args.self.now c.next_group.new.self c.args.client c.args.turn.now.posted.items c.args.turn.now.ended.items _
+    none_sends _ g.met.P.Plans.lawful (jobs_last g.P.Plans.ways.plan g.met.P.Plans.lawful g.P.Plans.ways.uncommitted g.P.Plans.ways.costs.commits g.met.P.Plans.lasting.uncommitted) c.args.self.now c.next_group.new.self c.args.client c.args.turn.now.posted.items c.args.turn.now.ended.items _
     (subst (λ o. GroupsNext (option_map (λ x. x.request) o) (book_at c.args.self.now c.args.client) (book_at c.next_group.new.self c.args.client)) c.in-None.is done.next) done.regroups.books done.rows done.nexts done.regroups.asks
 
 pub returns-in-Some-clause-leads : goal.returns-in-Some-clause-leads
 returns-in-Some-clause-leads g c = ok_four c.send_request.result
     (λ sent posts rows ended.
     let done = c.in_ok-next_group.ensures in
-    group_sends _ g.met.P.Plan.lawful g.met.Q.Plan.lawful g.met.K.Plan.lawful (jobs_last g.Q.Plan.meaning g.met.Q.Plan.lawful g.Q.PlanFor.refuses g.Q.PlanFor.costs g.met.Q.PlanFor.refuses_longer) c.args.self.now c.next_group.new.self c.send_request.new.self c.args.client c.in-Some.group.request c.in-Some.group.askers c.args.turn.now.posted.items c.send_request.new.turn.posted.items c.args.turn.now.ended.items c.send_request.new.turn.ended.items _
+    group_sends _ g.met.P.Plans.lawful (jobs_last g.P.Plans.ways.plan g.met.P.Plans.lawful g.P.Plans.ways.uncommitted g.P.Plans.ways.costs.commits g.met.P.Plans.lasting.uncommitted) c.args.self.now c.next_group.new.self c.send_request.new.self c.args.client c.in-Some.group.request c.in-Some.group.askers c.args.turn.now.posted.items c.send_request.new.turn.posted.items c.args.turn.now.ended.items c.send_request.new.turn.ended.items _
     (subst (λ o. GroupsNext (option_map (λ x. x.request) o) (book_at c.args.self.now c.args.client) (book_at c.next_group.new.self c.args.client)) c.in-Some.is done.next) done.regroups.books done.rows done.nexts done.regroups.asks sent posts rows (ap (λ v. v.items) ended))
     c.send_request.ensures.sends c.send_request.ensures.exact c.send_request.ensures.rows c.send_request.ensures.ended

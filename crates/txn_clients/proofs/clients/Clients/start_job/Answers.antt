@@ -32,4 +32,4 @@ returns-then-not-has_job-clause-leads g c own askers rest h came a = leads_nothi
 pub returns-clause-leads : goal.returns-clause-leads
 returns-clause-leads g c =
     let job = c.if-not-has_job.ensures.job refl in
-    job_leads _ g.met.P.Plan.lawful g.met.Q.Plan.lawful g.met.K.Plan.lawful c.args.self.now c.push.new.self c.args.line c.args.client job.0 c.in_ok-push.field-0 c.args.turn.now.posted.items c.push.new.turn.posted.items c.args.turn.now.ended.items c.push.new.turn.ended.items c.requires.line job.1 c.in_ok-push.ensures.leads
+    job_leads _ g.met.P.Plans.lawful c.args.self.now c.push.new.self c.args.line c.args.client job.0 c.in_ok-push.field-0 c.args.turn.now.posted.items c.push.new.turn.posted.items c.args.turn.now.ended.items c.push.new.turn.ended.items c.requires.line job.1 c.in_ok-push.ensures.leads

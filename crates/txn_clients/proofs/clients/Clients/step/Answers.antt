@@ -1,7 +1,6 @@
 use Rattle.txn_clients.specs.Clients.{sight_of, row_at, rows_of, stands_of}
 use Rattle.txn_clients.specs.Failing.{MayKnow, outbox_of, owing, posting_in}
 use Rattle.txn_clients.specs.Waiting.{IsSound, pends}
-use Rattle.txn_commit.specs.Committing.{ways}
 use Rattle.txn_clients.specs.Going.{OfLine}
 use Rattle.txn_clients.specs.Rows.{Tells}
 use Rattle.txn_clients.proofs.Asking.{goes_whole}
@@ -34,7 +33,7 @@ pub returns-clause-steps : goal.returns-clause-steps
 returns-clause-steps g c trace own knows sound quiet but prepared =
     let none = sym c.new-turn.ensures.posted in
     let went = c.in_ok-go.ensures.waits trace [] own (subst (λ ps. MayKnow (posting_in ps trace) (outbox_of c.args.line) c.args.told (row_at (rows_of c.args.self.now) c.args.listener.at)) none knows)
-    (subst (λ ps. IsSound (ways g.P.Plan.meaning g.Q.Plan.meaning g.K.Plan.meaning g.P.PlanFor.refuses g.Q.PlanFor.refuses g.K.PlanFor.refuses) (posting_in ps (owing c.args.line c.args.told trace)) (pends c.args.line c.args.told []) c.args.self.now) none sound) in
+    (subst (λ ps. IsSound g.P.Plans.ways (posting_in ps (owing c.args.line c.args.told trace)) (pends c.args.line c.args.told []) c.args.self.now) none sound) in
     whole_steps _ trace c.args.self.now c.go.new.self c.send_group.new.self c.args.listener.client _ c.new-turn.result.posted.items c.go.new.turn.posted.items c.send_group.new.turn.posted.items c.new-turn.result.ended.items c.go.new.turn.ended.items c.send_group.new.turn.ended.items
     c.new-turn.ensures.ended (ap (λ v. v.items) c.in_ok-send_group.ensures.ended) went (c.in_ok-send_group.ensures.waits trace [] went.sound) c.in_ok-send_group.ensures.rows (c.in_ok-go.ensures.runs but prepared) quiet
 

@@ -1,5 +1,4 @@
 use Rattle.std.proofs.Common.{map, sym, ap, subst}
-use Rattle.txn_commit.specs.Committing.{ways}
 use Rattle.txn_tso.specs.Oracle.{Answer}
 use Rattle.txn_side.specs.Sight.{IsGiven}
 use Rattle.txn_clients.specs.Clients.{of_calls, rows_of, sight_of, stands_of}
@@ -45,8 +44,8 @@ returns-clause-waits g c = on_ok c.give.result
     let done = c.in_ok-given.ensures in
     let given = given_taken trace c.args.self.now c.take_times.new.self c.args.client c.args.reply c.in_ok-given.given.items done.takes (sound.paired c.args.client) came done.errors in
     group_ends _ trace c.args.self.now c.take_times.new.self c.give.new.self c.args.client c.in_ok-given.given.items c.args.turn.now.posted.items c.give.new.turn.posted.items c.args.turn.now.ended.items c.give.new.turn.ended.items done.takes done.rows
-    (f trace given (subst (λ lines. IsSound (ways g.P.Plan.meaning g.Q.Plan.meaning g.K.Plan.meaning g.P.PlanFor.refuses g.Q.PlanFor.refuses g.K.PlanFor.refuses) (posting_in c.args.turn.now.posted.items (owing_all lines trace)) (map (λ (a : Answer). a.0) c.in_ok-given.given.items) c.take_times.new.self) (sym (taken_refused c.args.self.now c.take_times.new.self c.args.client c.args.reply c.in_ok-given.given.items done.takes (sound.paired c.args.client) done.granted done.refused))
-    (take_sound _ g.met.P.Plan.lawful g.met.Q.Plan.lawful g.met.K.Plan.lawful _ c.args.self.now c.take_times.new.self c.args.client c.in_ok-given.given.items done.takes done.rows done.nexts done.crashed sound))))
+    (f trace given (subst (λ lines. IsSound g.P.Plans.ways (posting_in c.args.turn.now.posted.items (owing_all lines trace)) (map (λ (a : Answer). a.0) c.in_ok-given.given.items) c.take_times.new.self) (sym (taken_refused c.args.self.now c.take_times.new.self c.args.client c.args.reply c.in_ok-given.given.items done.takes (sound.paired c.args.client) done.granted done.refused))
+    (take_sound _ g.met.P.Plans.lawful _ c.args.self.now c.take_times.new.self c.args.client c.in_ok-given.given.items done.takes done.rows done.nexts done.crashed sound))))
     c.give.ensures.waits
 
 pub returns-clause-runs : goal.returns-clause-runs
@@ -56,6 +55,6 @@ pub returns-clause-leads : goal.returns-clause-leads
 returns-clause-leads g c = on_ok c.give.result
     (λ f posted ended.
     let done = c.in_ok-given.ensures in
-    taken_leads _ g.met.P.Plan.lawful g.met.Q.Plan.lawful g.met.K.Plan.lawful (jobs_last g.Q.Plan.meaning g.met.Q.Plan.lawful g.Q.PlanFor.refuses g.Q.PlanFor.costs g.met.Q.PlanFor.refuses_longer) c.args.self.now c.take_times.new.self c.give.new.self c.args.client c.args.reply c.in_ok-given.given.items c.args.turn.now.posted.items c.give.new.turn.posted.items c.args.turn.now.ended.items c.give.new.turn.ended.items
+    taken_leads _ g.met.P.Plans.lawful (jobs_last g.P.Plans.ways.plan g.met.P.Plans.lawful g.P.Plans.ways.uncommitted g.P.Plans.ways.costs.commits g.met.P.Plans.lasting.uncommitted) c.args.self.now c.take_times.new.self c.give.new.self c.args.client c.args.reply c.in_ok-given.given.items c.args.turn.now.posted.items c.give.new.turn.posted.items c.args.turn.now.ended.items c.give.new.turn.ended.items
     done.takes done.rows done.nexts done.granted done.refused (f posted ended))
     c.give.ensures.leads

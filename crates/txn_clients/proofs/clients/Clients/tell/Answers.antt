@@ -11,7 +11,6 @@ use Rattle.txn_clients.specs.Waiting.{GoesOn, HearsAt}
 use Rattle.txn_clients.proofs.Settling.{client_same, unheard_goes}
 use Rattle.txn_clients.proofs.Telling.{live_line, on_ok}
 use Rattle.txn_clients.specs.declared.told.Told.TheVariants.{Heard}
-use Rattle.txn_commit.specs.Committing.{ways}
 use Rattle.txn_clients.proofs.ToldParts.{unheard_leads}
 use Rattle.txn_clients.proofs.clients.Clients.tell.Goals as goal
 
@@ -36,7 +35,7 @@ returns-in-None-clause-waits g c trace client rest live own came sound =
 pub returns-in-Some-clause-waits : goal.returns-in-Some-clause-waits
 returns-in-Some-clause-waits g c = on_ok c.go.result
     (λ f trace client rest live own came sound.
-    subst (λ i. GoesOn (ways g.P.Plan.meaning g.Q.Plan.meaning g.K.Plan.meaning g.P.PlanFor.refuses g.Q.PlanFor.refuses g.K.PlanFor.refuses) trace i (HearsAt c.args.line (Heard c.args.arrival)) rest c.args.turn.now.posted.items c.go.new.turn.posted.items c.args.turn.now.ended.items c.go.new.turn.ended.items c.args.self.now c.go.new.self) (client_same c.in-Some.listener.client client (sym c.in-Some.ensures.own ∙ own)) (f trace rest c.in-Some.ensures.own came sound))
+    subst (λ i. GoesOn g.P.Plans.ways trace i (HearsAt c.args.line (Heard c.args.arrival)) rest c.args.turn.now.posted.items c.go.new.turn.posted.items c.args.turn.now.ended.items c.go.new.turn.ended.items c.args.self.now c.go.new.self) (client_same c.in-Some.listener.client client (sym c.in-Some.ensures.own ∙ own)) (f trace rest c.in-Some.ensures.own came sound))
     c.go.ensures.waits
 
 pub returns-in-None-clause-runs : goal.returns-in-None-clause-runs
@@ -46,7 +45,7 @@ pub returns-in-Some-clause-runs : goal.returns-in-Some-clause-runs
 returns-in-Some-clause-runs g c = on_ok c.go.result (λ f running. f (λ i apart. running i) (running c.in-Some.listener.at)) c.go.ensures.runs
 
 pub returns-in-None-clause-leads : goal.returns-in-None-clause-leads
-returns-in-None-clause-leads g c client = unheard_leads _ g.met.P.Plan.lawful g.met.Q.Plan.lawful g.met.K.Plan.lawful c.args.self.now c.args.line client c.args.arrival c.args.turn.now.posted.items c.args.turn.now.ended.items
+returns-in-None-clause-leads g c client = unheard_leads _ g.met.P.Plans.lawful c.args.self.now c.args.line client c.args.arrival c.args.turn.now.posted.items c.args.turn.now.ended.items
 
 pub returns-in-Some-clause-leads : goal.returns-in-Some-clause-leads
 returns-in-Some-clause-leads g c = on_ok c.go.result (λ f client askers rest h r fits own can arisen. f askers rest h r tt c.in-Some.ensures.own can arisen) c.go.ensures.leads

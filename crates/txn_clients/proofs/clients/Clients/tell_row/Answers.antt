@@ -1,5 +1,4 @@
 use Rattle.std.proofs.Common.{◌≡◌, refl, subst, sym, ap}
-use Rattle.txn_commit.specs.Committing.{ways}
 use Rattle.txn_clients.specs.Rows.{Rests, RowReady, stand_of}
 use Rattle.txn_clients.proofs.Places.{both_ok, crashed_kept}
 use Rattle.txn_clients.proofs.Sending.{groups_kept}
@@ -31,7 +30,7 @@ returns-clause-groups g c = always_ok c.tell.result
 
 pub returns-clause-ready : goal.returns-clause-ready
 returns-clause-ready g c = both_ok c.tell.result
-    (λ (same : stand_of c.tell.new.self ≡ stand_of c.index_mut-2.result.now.row) (may : RowReady (ways g.P.Plan.meaning g.Q.Plan.meaning g.K.Plan.meaning g.P.PlanFor.refuses g.Q.PlanFor.refuses g.K.PlanFor.refuses) c.tell.new.self).
+    (λ (same : stand_of c.tell.new.self ≡ stand_of c.index_mut-2.result.now.row) (may : RowReady g.P.Plans.ways c.tell.new.self).
     put_ready _ c.args.self.now c.args.listener.at c.index_mut-2.result.now (record c.index_mut-2.result.now { row = c.tell.new.self }) c.requires.place c.index_mut-2.ensures.value same may c.requires.ready)
     c.tell.ensures.stand c.tell.ensures.ready
 

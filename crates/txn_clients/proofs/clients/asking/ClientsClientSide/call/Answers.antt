@@ -1,4 +1,3 @@
-use Rattle.txn_commit.specs.Committing.{ways}
 use Rattle.std.proofs.Common.{None, Some, subst}
 use Rattle.txn_lines.specs.Deeds.{begins_with}
 use Rattle.txn_lines.specs.declared.client_act.ClientAct.{ClientAct}
@@ -17,7 +16,7 @@ ask-requires-clause-wants g c = wants_optimistic c.in_ok-call-in-Begin.call c.op
 
 pub returns-in_ok-ask-in-Begin-clause-waits : goal.returns-in_ok-ask-in-Begin-clause-waits
 returns-in_ok-ask-in-Begin-clause-waits g c =
-    waits_none (ways g.P.Plan.meaning g.Q.Plan.meaning g.K.Plan.meaning g.P.PlanFor.refuses g.Q.PlanFor.refuses g.K.PlanFor.refuses) c.args.self.now c.ask.new.self c.in_ok-ask-in-Begin.field-0.posted.items c.in_ok-ask-in-Begin.field-0.ended.items
+    waits_none g.P.Plans.ways c.args.self.now c.ask.new.self c.in_ok-ask-in-Begin.field-0.posted.items c.in_ok-ask-in-Begin.field-0.ended.items
     (c.in_ok-ask-in-Begin.ensures.steps None c.requires.ready tt (λ h b gives. tt) c.requires.ready.sound) c.in_ok-ask-in-Begin.ensures.turn.groups
 
 pub returns-in_ok-ask-in-Begin-clause-ready : goal.returns-in_ok-ask-in-Begin-clause-ready
@@ -26,23 +25,23 @@ returns-in_ok-ask-in-Begin-clause-ready g c =
 
 pub returns-in_ok-ask-in-Begin-clause-rests : goal.returns-in_ok-ask-in-Begin-clause-rests
 returns-in_ok-ask-in-Begin-clause-rests g c t posted called begins was =
-    rests_on (ways g.P.Plan.meaning g.Q.Plan.meaning g.K.Plan.meaning g.P.PlanFor.refuses g.Q.PlanFor.refuses g.K.PlanFor.refuses) t c.args.self.now c.ask.new.self _ c.in_ok-ask-in-Begin.field-0.posted.items c.in_ok-ask-in-Begin.field-0.ended.items (c.in_ok-ask-in-Begin.ensures.steps (Some t) c.requires.ready called (wants_told (Some t) (line_count (sight_of c.args.self.now)) c.in_ok-call-in-Begin.call c.in-Begin.options c.options_of.result c.in_ok-call-in-Begin.ensures.new.wants c.options_of.ensures (subst (λ (a : ClientAct). BeginsAs t (line_count (sight_of c.args.self.now)) (begins_with a)) c.in-Begin.is begins)) (rested _ c.args.self.now t posted was))
+    rests_on g.P.Plans.ways t c.args.self.now c.ask.new.self _ c.in_ok-ask-in-Begin.field-0.posted.items c.in_ok-ask-in-Begin.field-0.ended.items (c.in_ok-ask-in-Begin.ensures.steps (Some t) c.requires.ready called (wants_told (Some t) (line_count (sight_of c.args.self.now)) c.in_ok-call-in-Begin.call c.in-Begin.options c.options_of.result c.in_ok-call-in-Begin.ensures.new.wants c.options_of.ensures (subst (λ (a : ClientAct). BeginsAs t (line_count (sight_of c.args.self.now)) (begins_with a)) c.in-Begin.is begins)) (rested _ c.args.self.now t posted was))
 
 pub returns-in-None-clause-rests : goal.returns-in-None-clause-rests
-returns-in-None-clause-rests g c t posted called begins was = rests_still (ways g.P.Plan.meaning g.Q.Plan.meaning g.K.Plan.meaning g.P.PlanFor.refuses g.Q.PlanFor.refuses g.K.PlanFor.refuses) t c.args.self.now c.args.self.now posted was
+returns-in-None-clause-rests g c t posted called begins was = rests_still g.P.Plans.ways t c.args.self.now c.args.self.now posted was
 
 pub returns-in-None-clause-arises : goal.returns-in-None-clause-arises
-returns-in-None-clause-arises g c h a = arises_still (ways g.P.Plan.meaning g.Q.Plan.meaning g.K.Plan.meaning g.P.PlanFor.refuses g.Q.PlanFor.refuses g.K.PlanFor.refuses) c.args.self.now itself h a
+returns-in-None-clause-arises g c h a = arises_still g.P.Plans.ways c.args.self.now itself h a
 
 pub returns-in_ok-ask-in-Begin-clause-arises : goal.returns-in_ok-ask-in-Begin-clause-arises
-returns-in_ok-ask-in-Begin-clause-arises g c h a = arises_sent (ways g.P.Plan.meaning g.Q.Plan.meaning g.K.Plan.meaning g.P.PlanFor.refuses g.Q.PlanFor.refuses g.K.PlanFor.refuses) c.args.self.now c.ask.new.self c.in_ok-ask-in-Begin.field-0.posted.items c.in_ok-ask-in-Begin.field-0.ended.items itself h c.in_ok-ask-in-Begin.ensures.leads a
+returns-in_ok-ask-in-Begin-clause-arises g c h a = arises_sent g.P.Plans.ways c.args.self.now c.ask.new.self c.in_ok-ask-in-Begin.field-0.posted.items c.in_ok-ask-in-Begin.field-0.ended.items itself h c.in_ok-ask-in-Begin.ensures.leads a
 
 pub ask-requires-in-Timestamp-clause-wants : goal.ask-requires-in-Timestamp-clause-wants
 ask-requires-in-Timestamp-clause-wants g c = wants_time c.in_ok-call-in-Timestamp.call c.in_ok-call-in-Timestamp.ensures.new.wants
 
 pub returns-in_ok-ask-in-Timestamp-clause-waits : goal.returns-in_ok-ask-in-Timestamp-clause-waits
 returns-in_ok-ask-in-Timestamp-clause-waits g c =
-    waits_none (ways g.P.Plan.meaning g.Q.Plan.meaning g.K.Plan.meaning g.P.PlanFor.refuses g.Q.PlanFor.refuses g.K.PlanFor.refuses) c.args.self.now c.ask-in-Timestamp.new.self c.in_ok-ask-in-Timestamp.field-0.posted.items c.in_ok-ask-in-Timestamp.field-0.ended.items
+    waits_none g.P.Plans.ways c.args.self.now c.ask-in-Timestamp.new.self c.in_ok-ask-in-Timestamp.field-0.posted.items c.in_ok-ask-in-Timestamp.field-0.ended.items
     (c.in_ok-ask-in-Timestamp.ensures.steps None c.requires.ready tt (λ h b gives. tt) c.requires.ready.sound) c.in_ok-ask-in-Timestamp.ensures.turn.groups
 
 pub returns-in_ok-ask-in-Timestamp-clause-ready : goal.returns-in_ok-ask-in-Timestamp-clause-ready
@@ -51,7 +50,7 @@ returns-in_ok-ask-in-Timestamp-clause-ready g c =
 
 pub returns-in_ok-ask-in-Timestamp-clause-rests : goal.returns-in_ok-ask-in-Timestamp-clause-rests
 returns-in_ok-ask-in-Timestamp-clause-rests g c t posted called begins was =
-    rests_on (ways g.P.Plan.meaning g.Q.Plan.meaning g.K.Plan.meaning g.P.PlanFor.refuses g.Q.PlanFor.refuses g.K.PlanFor.refuses) t c.args.self.now c.ask-in-Timestamp.new.self _ c.in_ok-ask-in-Timestamp.field-0.posted.items c.in_ok-ask-in-Timestamp.field-0.ended.items (c.in_ok-ask-in-Timestamp.ensures.steps (Some t) c.requires.ready called (wants_untold (Some t) (line_count (sight_of c.args.self.now)) c.in_ok-call-in-Timestamp.call c.in_ok-call-in-Timestamp.ensures.new.wants) (rested _ c.args.self.now t posted was))
+    rests_on g.P.Plans.ways t c.args.self.now c.ask-in-Timestamp.new.self _ c.in_ok-ask-in-Timestamp.field-0.posted.items c.in_ok-ask-in-Timestamp.field-0.ended.items (c.in_ok-ask-in-Timestamp.ensures.steps (Some t) c.requires.ready called (wants_untold (Some t) (line_count (sight_of c.args.self.now)) c.in_ok-call-in-Timestamp.call c.in_ok-call-in-Timestamp.ensures.new.wants) (rested _ c.args.self.now t posted was))
 
 pub returns-in_ok-ask-in-Timestamp-clause-arises : goal.returns-in_ok-ask-in-Timestamp-clause-arises
-returns-in_ok-ask-in-Timestamp-clause-arises g c h a = arises_sent (ways g.P.Plan.meaning g.Q.Plan.meaning g.K.Plan.meaning g.P.PlanFor.refuses g.Q.PlanFor.refuses g.K.PlanFor.refuses) c.args.self.now c.ask-in-Timestamp.new.self c.in_ok-ask-in-Timestamp.field-0.posted.items c.in_ok-ask-in-Timestamp.field-0.ended.items itself h c.in_ok-ask-in-Timestamp.ensures.leads a
+returns-in_ok-ask-in-Timestamp-clause-arises g c h a = arises_sent g.P.Plans.ways c.args.self.now c.ask-in-Timestamp.new.self c.in_ok-ask-in-Timestamp.field-0.posted.items c.in_ok-ask-in-Timestamp.field-0.ended.items itself h c.in_ok-ask-in-Timestamp.ensures.leads a

@@ -1,4 +1,3 @@
-use Rattle.txn_commit.specs.Committing.{ways}
 use Rattle.std.proofs.Common.{◌≡◌, ◌∙◌, arith, length, refl, ◌-◌, sym, ap}
 use Rattle.std.proofs.lemmas.List.{length-map}
 use Rattle.txn_clients.specs.Clients.{crashed_of, rows_of}
@@ -25,7 +24,7 @@ returns-clause-ready g c =
     let pushed = record c.args.self.now { clients = c.push.new.self } in
     let long = length-map c.args.self.now.clients.items (λ (d : ClientState). d.crashed) in
     let new : c.len-client.result ≡ length (crashed_of c.args.self.now) = omega arith in
-    connected_all _ g.met.P.Plan.lawful g.met.Q.Plan.lawful g.met.K.Plan.lawful c.args.self.now c.set_row.new.self c.newest.result c.len-client.result c.new.result (newest_is c.args.self.now c.newest.result c.requires.line c.newest.ensures)
+    connected_all _ g.met.P.Plans.lawful c.args.self.now c.set_row.new.self c.newest.result c.len-client.result c.new.result (newest_is c.args.self.now c.newest.result c.requires.line c.newest.ensures)
     (newest_idle c.args.self.now c.newest.result c.newest.ensures (c.if-not-is_new.ensures refl)) new (ap (λ v. v.items) c.set_row.ensures.clients ∙ c.in_ok-push.ensures.items) c.new.ensures.book
     (same_clients pushed c.set_row.new.self c.set_row.ensures.clients ∙ pushed_crashed c.args.self.now pushed c.new.result c.in_ok-push.ensures.items c.new.ensures.crashed) c.set_row.ensures.rows c.set_row.ensures.nexts c.set_row.ensures.asks
     (connected_ready _ (rows_of c.args.self.now) (rows_of c.set_row.new.self) c.newest.result c.len-client.result (newest_is c.args.self.now c.newest.result c.requires.line c.newest.ensures)
@@ -37,7 +36,7 @@ returns-clause-accounts g c =
     (sym (idle_line (rows_of c.args.self.now) c.newest.result (newest_is c.args.self.now c.newest.result c.requires.line c.newest.ensures) (newest_idle c.args.self.now c.newest.result c.newest.ensures (c.if-not-is_new.ensures refl))))
 
 pub returns-clause-waits : goal.returns-clause-waits
-returns-clause-waits g c = connected_waits (ways g.P.Plan.meaning g.Q.Plan.meaning g.K.Plan.meaning g.P.PlanFor.refuses g.Q.PlanFor.refuses g.K.PlanFor.refuses) g.met.P.Plan.lawful g.met.Q.Plan.lawful g.met.K.Plan.lawful c.args.self.now c.set_row.new.self c.newest.result c.len-client.result c.new.result (newest_is c.args.self.now c.newest.result c.requires.line c.newest.ensures)
+returns-clause-waits g c = connected_waits g.P.Plans.ways g.met.P.Plans.lawful c.args.self.now c.set_row.new.self c.newest.result c.len-client.result c.new.result (newest_is c.args.self.now c.newest.result c.requires.line c.newest.ensures)
     (ap (λ v. v.items) c.set_row.ensures.clients ∙ c.in_ok-push.ensures.items) c.new.ensures.book c.set_row.ensures.rows
 
 pub returns-clause-rests : goal.returns-clause-rests
@@ -45,10 +44,10 @@ returns-clause-rests g c t was =
     let pushed = record c.args.self.now { clients = c.push.new.self } in
     let long = length-map c.args.self.now.clients.items (λ (d : ClientState). d.crashed) in
     let new : c.len-client.result ≡ length (crashed_of c.args.self.now) = omega arith in
-    connected_rests _ g.met.P.Plan.lawful g.met.Q.Plan.lawful g.met.K.Plan.lawful t c.args.self.now c.set_row.new.self c.newest.result c.len-client.result c.new.result (newest_is c.args.self.now c.newest.result c.requires.line c.newest.ensures)
+    connected_rests _ g.met.P.Plans.lawful t c.args.self.now c.set_row.new.self c.newest.result c.len-client.result c.new.result (newest_is c.args.self.now c.newest.result c.requires.line c.newest.ensures)
     (newest_idle c.args.self.now c.newest.result c.newest.ensures (c.if-not-is_new.ensures refl)) new (ap (λ v. v.items) c.set_row.ensures.clients ∙ c.in_ok-push.ensures.items) c.new.ensures.book
     (same_clients pushed c.set_row.new.self c.set_row.ensures.clients ∙ pushed_crashed c.args.self.now pushed c.new.result c.in_ok-push.ensures.items c.new.ensures.crashed) c.set_row.ensures.rows c.set_row.ensures.nexts c.set_row.ensures.asks c.requires.ready.rows.matched was
 
 pub returns-clause-arises : goal.returns-clause-arises
-returns-clause-arises g c = connected_arises (ways g.P.Plan.meaning g.Q.Plan.meaning g.K.Plan.meaning g.P.PlanFor.refuses g.Q.PlanFor.refuses g.K.PlanFor.refuses) g.met.P.Plan.lawful g.met.Q.Plan.lawful g.met.K.Plan.lawful c.args.self.now c.set_row.new.self c.newest.result c.len-client.result c.new.result (newest_is c.args.self.now c.newest.result c.requires.line c.newest.ensures)
+returns-clause-arises g c = connected_arises g.P.Plans.ways g.met.P.Plans.lawful c.args.self.now c.set_row.new.self c.newest.result c.len-client.result c.new.result (newest_is c.args.self.now c.newest.result c.requires.line c.newest.ensures)
     (newest_idle c.args.self.now c.newest.result c.newest.ensures (c.if-not-is_new.ensures refl)) (ap (λ v. v.items) c.set_row.ensures.clients ∙ c.in_ok-push.ensures.items) c.new.ensures.book c.set_row.ensures.rows c.set_row.ensures.nexts c.set_row.ensures.asks

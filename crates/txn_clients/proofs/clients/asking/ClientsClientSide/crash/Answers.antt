@@ -1,4 +1,3 @@
-use Rattle.txn_commit.specs.Committing.{ways}
 use Rattle.std.proofs.Common.{refl, true, ap, get_or, [], Some}
 use Rattle.std.specs.Vec.{with_item}
 use Rattle.txn_clients.specs.Clients.{crashed_of}
@@ -19,18 +18,18 @@ returns-in-Some-clause-gone g c =
     (groups_kept c.args.self.now.clients.items c.in-Some.client gone c.index_mut.result.now (within (crashed_of c.args.self.now) c.in-Some.client c.in-Some.ensures.there) c.index_mut.ensures.value refl) refl refl
 
 pub returns-in-None-clause-waits : goal.returns-in-None-clause-waits
-returns-in-None-clause-waits g c = waits_same (ways g.P.Plan.meaning g.Q.Plan.meaning g.K.Plan.meaning g.P.PlanFor.refuses g.Q.PlanFor.refuses g.K.PlanFor.refuses) c.args.self.now
+returns-in-None-clause-waits g c = waits_same g.P.Plans.ways c.args.self.now
 
 pub returns-in-Some-clause-waits : goal.returns-in-Some-clause-waits
 returns-in-Some-clause-waits g c =
     let gone = record c.index_mut.result.now { crashed = true } in
-    crashed_waits (ways g.P.Plan.meaning g.Q.Plan.meaning g.K.Plan.meaning g.P.PlanFor.refuses g.Q.PlanFor.refuses g.K.PlanFor.refuses) g.met.P.Plan.lawful g.met.Q.Plan.lawful g.met.K.Plan.lawful c.args.self.now (record c.args.self.now { clients = with_item c.args.self.now.clients c.in-Some.client gone }) refl
+    crashed_waits g.P.Plans.ways g.met.P.Plans.lawful c.args.self.now (record c.args.self.now { clients = with_item c.args.self.now.clients c.in-Some.client gone }) refl
     (λ d. ap (λ bs. get_or bs d blank) (books_kept c.args.self.now.clients.items c.in-Some.client gone c.index_mut.result.now (within (crashed_of c.args.self.now) c.in-Some.client c.in-Some.ensures.there) c.index_mut.ensures.value refl))
 
 pub returns-in-Some-clause-ready : goal.returns-in-Some-clause-ready
 returns-in-Some-clause-ready g c =
     let gone = record c.index_mut.result.now { crashed = true } in
-    crashed_all _ g.met.P.Plan.lawful g.met.Q.Plan.lawful g.met.K.Plan.lawful c.args.self.now (record c.args.self.now { clients = with_item c.args.self.now.clients c.in-Some.client gone }) c.in-Some.client refl (crashed_put c.args.self.now c.in-Some.client gone)
+    crashed_all _ g.met.P.Plans.lawful c.args.self.now (record c.args.self.now { clients = with_item c.args.self.now.clients c.in-Some.client gone }) c.in-Some.client refl (crashed_put c.args.self.now c.in-Some.client gone)
     (λ d. ap (λ bs. get_or bs d blank) (books_kept c.args.self.now.clients.items c.in-Some.client gone c.index_mut.result.now (within (crashed_of c.args.self.now) c.in-Some.client c.in-Some.ensures.there) c.index_mut.ensures.value refl))
     c.requires.ready.rows c.requires.ready
 
@@ -40,14 +39,14 @@ returns-in-None-clause-rests g c t was = was
 pub returns-in-Some-clause-rests : goal.returns-in-Some-clause-rests
 returns-in-Some-clause-rests g c t was =
     let gone = record c.index_mut.result.now { crashed = true } in
-    crashed_sound _ g.met.P.Plan.lawful g.met.Q.Plan.lawful g.met.K.Plan.lawful (Some t) c.args.self.now (record c.args.self.now { clients = with_item c.args.self.now.clients c.in-Some.client gone }) c.in-Some.client [] refl (crashed_put c.args.self.now c.in-Some.client gone)
+    crashed_sound _ g.met.P.Plans.lawful (Some t) c.args.self.now (record c.args.self.now { clients = with_item c.args.self.now.clients c.in-Some.client gone }) c.in-Some.client [] refl (crashed_put c.args.self.now c.in-Some.client gone)
     (λ d. ap (λ bs. get_or bs d blank) (books_kept c.args.self.now.clients.items c.in-Some.client gone c.index_mut.result.now (within (crashed_of c.args.self.now) c.in-Some.client c.in-Some.ensures.there) c.index_mut.ensures.value refl)) was
 
 pub returns-in-None-clause-arises : goal.returns-in-None-clause-arises
-returns-in-None-clause-arises g c = unmoved_arises (ways g.P.Plan.meaning g.Q.Plan.meaning g.K.Plan.meaning g.P.PlanFor.refuses g.Q.PlanFor.refuses g.K.PlanFor.refuses) c.args.self.now
+returns-in-None-clause-arises g c = unmoved_arises g.P.Plans.ways c.args.self.now
 
 pub returns-in-Some-clause-arises : goal.returns-in-Some-clause-arises
 returns-in-Some-clause-arises g c =
     let gone = record c.index_mut.result.now { crashed = true } in
-    crashed_arises (ways g.P.Plan.meaning g.Q.Plan.meaning g.K.Plan.meaning g.P.PlanFor.refuses g.Q.PlanFor.refuses g.K.PlanFor.refuses) g.met.P.Plan.lawful g.met.Q.Plan.lawful g.met.K.Plan.lawful c.args.self.now (record c.args.self.now { clients = with_item c.args.self.now.clients c.in-Some.client gone }) refl
+    crashed_arises g.P.Plans.ways g.met.P.Plans.lawful c.args.self.now (record c.args.self.now { clients = with_item c.args.self.now.clients c.in-Some.client gone }) refl
     (λ d. ap (λ bs. get_or bs d blank) (books_kept c.args.self.now.clients.items c.in-Some.client gone c.index_mut.result.now (within (crashed_of c.args.self.now) c.in-Some.client c.in-Some.ensures.there) c.index_mut.ensures.value refl))

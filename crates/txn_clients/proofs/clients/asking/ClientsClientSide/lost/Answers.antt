@@ -8,7 +8,6 @@ use Rattle.txn_clients.specs.Rows.{Brings}
 use Rattle.txn_clients.proofs.Naming.{named_so}
 use Rattle.txn_clients.proofs.Timestamps.{both_if_ok}
 use Rattle.std.proofs.Common.{◌++◌, None, Some, get_or}
-use Rattle.txn_commit.specs.Committing.{ways}
 use Rattle.std.proofs.lemmas.Result.{IfOk-weaker}
 use Rattle.txn_history.specs.Event.Event.{Lost as Gone}
 use Rattle.txn_clients.proofs.Coming.{group_came, group_longer, loss_came}
@@ -40,7 +39,7 @@ returns-else-is_group-clause-ready g c = on_ok_if c.hear.result (λ turn rows st
 
 pub returns-then-is_group-clause-rests : goal.returns-then-is_group-clause-rests
 returns-then-is_group-clause-rests g c = IfOk-weaker c.miss_group.result _ _
-    (λ turn steps before t longer posted came was. rests_on (ways g.P.Plan.meaning g.Q.Plan.meaning g.K.Plan.meaning g.P.PlanFor.refuses g.Q.PlanFor.refuses g.K.PlanFor.refuses) t c.args.self.now c.miss_group.new.self _ turn.posted.items turn.ended.items
+    (λ turn steps before t longer posted came was. rests_on g.P.Plans.ways t c.args.self.now c.miss_group.new.self _ turn.posted.items turn.ended.items
     (steps (Some t) c.requires.ready (group_came before t c.args.self.now c.in-Some.client c.args.ticket (λ u r. Gone u r) (out_ticket c.args.self.now c.in-Some.client c.args.ticket (c.if-is_group.ensures.is refl)) came)
     (rested _ c.args.self.now (record t { owed = refused_out (λ u r. Gone u r) (get_or (groups_of c.args.self.now) c.in-Some.client None) ++ t.owed }) posted
     (rests_when_longer _ c.args.self.now before (record t { owed = refused_out (λ u r. Gone u r) (get_or (groups_of c.args.self.now) c.in-Some.client None) ++ t.owed })
@@ -49,31 +48,31 @@ returns-then-is_group-clause-rests g c = IfOk-weaker c.miss_group.result _ _
 
 pub returns-else-is_group-clause-rests : goal.returns-else-is_group-clause-rests
 returns-else-is_group-clause-rests g c = IfOk-weaker c.hear.result _ _
-    (λ turn steps before t longer posted came was. rests_on (ways g.P.Plan.meaning g.Q.Plan.meaning g.K.Plan.meaning g.P.PlanFor.refuses g.Q.PlanFor.refuses g.K.PlanFor.refuses) t c.args.self.now c.hear.new.self _ turn.posted.items turn.ended.items
+    (λ turn steps before t longer posted came was. rests_on g.P.Plans.ways t c.args.self.now c.hear.new.self _ turn.posted.items turn.ended.items
     (steps (Some t) (sym c.in-Some.ensures.live) c.in-Some.ensures.client c.requires.ready refl (loss_came before t c.args.self.now c.args.ticket c.if-ticket.false posted came) (rested _ c.args.self.now t posted (rests_when_longer _ c.args.self.now before t longer was))))
     c.hear.ensures.steps
 
 pub returns-in-None-clause-rests : goal.returns-in-None-clause-rests
-returns-in-None-clause-rests g c before t longer posted came was = rests_quiet (ways g.P.Plan.meaning g.Q.Plan.meaning g.K.Plan.meaning g.P.PlanFor.refuses g.Q.PlanFor.refuses g.K.PlanFor.refuses) t c.args.self.now c.new-in-None.result.posted.items c.new-in-None.result.ended.items c.new-in-None.ensures.posted c.new-in-None.ensures.ended posted (rests_when_longer _ c.args.self.now before t longer was)
+returns-in-None-clause-rests g c before t longer posted came was = rests_quiet g.P.Plans.ways t c.args.self.now c.new-in-None.result.posted.items c.new-in-None.result.ended.items c.new-in-None.ensures.posted c.new-in-None.ensures.ended posted (rests_when_longer _ c.args.self.now before t longer was)
 
 pub returns-then-ticket-clause-rests : goal.returns-then-ticket-clause-rests
-returns-then-ticket-clause-rests g c before t longer posted came was = rests_quiet (ways g.P.Plan.meaning g.Q.Plan.meaning g.K.Plan.meaning g.P.PlanFor.refuses g.Q.PlanFor.refuses g.K.PlanFor.refuses) t c.args.self.now c.new.result.posted.items c.new.result.ended.items c.new.ensures.posted c.new.ensures.ended posted (rests_when_longer _ c.args.self.now before t longer was)
+returns-then-ticket-clause-rests g c before t longer posted came was = rests_quiet g.P.Plans.ways t c.args.self.now c.new.result.posted.items c.new.result.ended.items c.new.ensures.posted c.new.ensures.ended posted (rests_when_longer _ c.args.self.now before t longer was)
 
 pub returns-then-ticket-clause-waits : goal.returns-then-ticket-clause-waits
-returns-then-ticket-clause-waits g c live = waits_deaf (ways g.P.Plan.meaning g.Q.Plan.meaning g.K.Plan.meaning g.P.PlanFor.refuses g.Q.PlanFor.refuses g.K.PlanFor.refuses) c.args.self.now c.args.ticket c.new.result.posted.items c.if-ticket.true
+returns-then-ticket-clause-waits g c live = waits_deaf g.P.Plans.ways c.args.self.now c.args.ticket c.new.result.posted.items c.if-ticket.true
 
 pub returns-then-is_group-clause-arises : goal.returns-then-is_group-clause-arises
 returns-then-is_group-clause-arises g c = IfOk-weaker c.miss_group.result _ _
-    (λ turn steps h r may a. arises_group (ways g.P.Plan.meaning g.Q.Plan.meaning g.K.Plan.meaning g.P.PlanFor.refuses g.Q.PlanFor.refuses g.K.PlanFor.refuses) c.args.self.now c.miss_group.new.self c.args.ticket c.in-Some.client (λ u r. Gone u r) r turn.posted.items turn.ended.items h tt (c.if-is_group.ensures.is refl) steps may a)
+    (λ turn steps h r may a. arises_group g.P.Plans.ways c.args.self.now c.miss_group.new.self c.args.ticket c.in-Some.client (λ u r. Gone u r) r turn.posted.items turn.ended.items h tt (c.if-is_group.ensures.is refl) steps may a)
     c.miss_group.ensures.leads
 
 pub returns-else-is_group-clause-arises : goal.returns-else-is_group-clause-arises
 returns-else-is_group-clause-arises g c = IfOk-weaker c.hear.result _ _
-    (λ turn steps h r may a. arises_lost (ways g.P.Plan.meaning g.Q.Plan.meaning g.K.Plan.meaning g.P.PlanFor.refuses g.Q.PlanFor.refuses g.K.PlanFor.refuses) c.args.self.now c.hear.new.self c.args.ticket c.in-Some.client turn.posted.items turn.ended.items h c.if-ticket.false c.in-Some.ensures.client r steps may a)
+    (λ turn steps h r may a. arises_lost g.P.Plans.ways c.args.self.now c.hear.new.self c.args.ticket c.in-Some.client turn.posted.items turn.ended.items h c.if-ticket.false c.in-Some.ensures.client r steps may a)
     c.hear.ensures.leads
 
 pub returns-in-None-clause-arises : goal.returns-in-None-clause-arises
-returns-in-None-clause-arises g c h r may a = passes_quietly (ways g.P.Plan.meaning g.Q.Plan.meaning g.K.Plan.meaning g.P.PlanFor.refuses g.Q.PlanFor.refuses g.K.PlanFor.refuses) c.args.self.now c.new-in-None.result.posted.items c.new-in-None.result.ended.items (heard_by c.args.self.now) (Gone c.args.ticket r) h c.new-in-None.ensures.posted c.new-in-None.ensures.ended tt may a
+returns-in-None-clause-arises g c h r may a = passes_quietly g.P.Plans.ways c.args.self.now c.new-in-None.result.posted.items c.new-in-None.result.ended.items (heard_by c.args.self.now) (Gone c.args.ticket r) h c.new-in-None.ensures.posted c.new-in-None.ensures.ended tt may a
 
 pub returns-then-ticket-clause-arises : goal.returns-then-ticket-clause-arises
-returns-then-ticket-clause-arises g c h r may a = passes_quietly (ways g.P.Plan.meaning g.Q.Plan.meaning g.K.Plan.meaning g.P.PlanFor.refuses g.Q.PlanFor.refuses g.K.PlanFor.refuses) c.args.self.now c.new.result.posted.items c.new.result.ended.items (heard_by c.args.self.now) (Gone c.args.ticket r) h c.new.ensures.posted c.new.ensures.ended tt may a
+returns-then-ticket-clause-arises g c h r may a = passes_quietly g.P.Plans.ways c.args.self.now c.new.result.posted.items c.new.result.ended.items (heard_by c.args.self.now) (Gone c.args.ticket r) h c.new.ensures.posted c.new.ensures.ended tt may a

@@ -7,7 +7,6 @@ use Rattle.txn_clients.proofs.Timestamps.{both_if_ok}
 use Rattle.txn_clients.proofs.Sides.{on_ok_if, waits_asleep, waits_end}
 use Rattle.std.proofs.Common.{None, Some}
 use Rattle.std.proofs.lemmas.Result.{IfOk-weaker}
-use Rattle.txn_commit.specs.Committing.{ways}
 use Rattle.txn_clients.proofs.Stepping.{ready_of, rested, rests_on, rests_quiet}
 use Rattle.std.proofs.Common.{refl, sym}
 use Rattle.txn_clients.proofs.Shown.{arises_slept, passes_quietly}
@@ -29,26 +28,26 @@ returns-in-Some-clause-ready g c = on_ok_if c.hear.result (λ turn rows steps. r
 
 pub returns-in-Some-clause-rests : goal.returns-in-Some-clause-rests
 returns-in-Some-clause-rests g c = IfOk-weaker c.hear.result _ _
-    (λ turn steps t posted was. rests_on (ways g.P.Plan.meaning g.Q.Plan.meaning g.K.Plan.meaning g.P.PlanFor.refuses g.Q.PlanFor.refuses g.K.PlanFor.refuses) t c.args.self.now c.hear.new.self _ turn.posted.items turn.ended.items
+    (λ turn steps t posted was. rests_on g.P.Plans.ways t c.args.self.now c.hear.new.self _ turn.posted.items turn.ended.items
     (steps (Some t) (sym c.in-Some.ensures.live) c.in-Some.ensures.client c.requires.ready refl tt (rested _ c.args.self.now t posted was)))
     c.hear.ensures.steps
 
 pub returns-in-None-clause-rests : goal.returns-in-None-clause-rests
-returns-in-None-clause-rests g c t posted was = rests_quiet (ways g.P.Plan.meaning g.Q.Plan.meaning g.K.Plan.meaning g.P.PlanFor.refuses g.Q.PlanFor.refuses g.K.PlanFor.refuses) t c.args.self.now c.new-in-None.result.posted.items c.new-in-None.result.ended.items c.new-in-None.ensures.posted c.new-in-None.ensures.ended posted was
+returns-in-None-clause-rests g c t posted was = rests_quiet g.P.Plans.ways t c.args.self.now c.new-in-None.result.posted.items c.new-in-None.result.ended.items c.new-in-None.ensures.posted c.new-in-None.ensures.ended posted was
 
 pub returns-in-Some-clause-arises : goal.returns-in-Some-clause-arises
 returns-in-Some-clause-arises g c = IfOk-weaker c.hear.result _ _
-    (λ turn steps h a. arises_slept (ways g.P.Plan.meaning g.Q.Plan.meaning g.K.Plan.meaning g.P.PlanFor.refuses g.Q.PlanFor.refuses g.K.PlanFor.refuses) c.args.self.now c.hear.new.self c.args.ticket c.in-Some.client turn.posted.items turn.ended.items h c.if-ticket.false c.in-Some.ensures.client members steps a)
+    (λ turn steps h a. arises_slept g.P.Plans.ways c.args.self.now c.hear.new.self c.args.ticket c.in-Some.client turn.posted.items turn.ended.items h c.if-ticket.false c.in-Some.ensures.client members steps a)
     c.hear.ensures.leads
 
 pub returns-in-None-clause-arises : goal.returns-in-None-clause-arises
-returns-in-None-clause-arises g c h a = passes_quietly (ways g.P.Plan.meaning g.Q.Plan.meaning g.K.Plan.meaning g.P.PlanFor.refuses g.Q.PlanFor.refuses g.K.PlanFor.refuses) c.args.self.now c.new-in-None.result.posted.items c.new-in-None.result.ended.items (heard_by c.args.self.now) (Woke c.args.ticket) h c.new-in-None.ensures.posted c.new-in-None.ensures.ended tt tt a
+returns-in-None-clause-arises g c h a = passes_quietly g.P.Plans.ways c.args.self.now c.new-in-None.result.posted.items c.new-in-None.result.ended.items (heard_by c.args.self.now) (Woke c.args.ticket) h c.new-in-None.ensures.posted c.new-in-None.ensures.ended tt tt a
 
 pub returns-then-ticket-clause-waits : goal.returns-then-ticket-clause-waits
-returns-then-ticket-clause-waits g c live = waits_asleep (ways g.P.Plan.meaning g.Q.Plan.meaning g.K.Plan.meaning g.P.PlanFor.refuses g.Q.PlanFor.refuses g.K.PlanFor.refuses) c.args.self.now c.args.ticket c.new.result.posted.items c.if-ticket.true
+returns-then-ticket-clause-waits g c live = waits_asleep g.P.Plans.ways c.args.self.now c.args.ticket c.new.result.posted.items c.if-ticket.true
 
 pub returns-then-ticket-clause-rests : goal.returns-then-ticket-clause-rests
-returns-then-ticket-clause-rests g c t posted was = rests_quiet (ways g.P.Plan.meaning g.Q.Plan.meaning g.K.Plan.meaning g.P.PlanFor.refuses g.Q.PlanFor.refuses g.K.PlanFor.refuses) t c.args.self.now c.new.result.posted.items c.new.result.ended.items c.new.ensures.posted c.new.ensures.ended posted was
+returns-then-ticket-clause-rests g c t posted was = rests_quiet g.P.Plans.ways t c.args.self.now c.new.result.posted.items c.new.result.ended.items c.new.ensures.posted c.new.ensures.ended posted was
 
 pub returns-then-ticket-clause-arises : goal.returns-then-ticket-clause-arises
-returns-then-ticket-clause-arises g c h a = passes_quietly (ways g.P.Plan.meaning g.Q.Plan.meaning g.K.Plan.meaning g.P.PlanFor.refuses g.Q.PlanFor.refuses g.K.PlanFor.refuses) c.args.self.now c.new.result.posted.items c.new.result.ended.items (heard_by c.args.self.now) (Woke c.args.ticket) h c.new.ensures.posted c.new.ensures.ended tt tt a
+returns-then-ticket-clause-arises g c h a = passes_quietly g.P.Plans.ways c.args.self.now c.new.result.posted.items c.new.result.ended.items (heard_by c.args.self.now) (Woke c.args.ticket) h c.new.ensures.posted c.new.ensures.ended tt tt a

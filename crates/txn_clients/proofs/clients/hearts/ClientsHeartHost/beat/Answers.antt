@@ -1,6 +1,5 @@
 use Rattle.std.proofs.Common.{refl, ap, get_or}
 use Rattle.std.specs.Vec.{with_item}
-use Rattle.txn_commit.specs.Committing.{ways}
 use Rattle.txn_history.specs.Turn.{turn_of}
 use Rattle.txn_heartbeat.proofs.Beating.{has_heard}
 use Rattle.txn_clients.specs.Clients.{crashed_of}
@@ -18,7 +17,7 @@ returns-in-Some-clause-stays g c =
     let was = c.index_mut.result.now in
     let lent = record was { client = record was.client { pd = c.tell.new.pd } } in
     let there = within (crashed_of c.args.self.now) c.in-Some.client c.in-Some.ensures.there in
-    on_ok_so c.tell.result (lent_stays (ways g.P.Plan.meaning g.Q.Plan.meaning g.K.Plan.meaning g.P.PlanFor.refuses g.Q.PlanFor.refuses g.K.PlanFor.refuses) g.met.P.Plan.lawful g.met.Q.Plan.lawful g.met.K.Plan.lawful
+    on_ok_so c.tell.result (lent_stays g.P.Plans.ways g.met.P.Plans.lawful
     c.args.self.now (record c.args.self.now { clients = with_item c.args.self.now.clients c.in-Some.client lent }) refl
     (crashed_kept c.args.self.now.clients.items c.in-Some.client lent was there c.index_mut.ensures.value refl)
     (groups_kept c.args.self.now.clients.items c.in-Some.client lent was there c.index_mut.ensures.value refl)
@@ -29,7 +28,7 @@ returns-in-Some-clause-ready g c =
     let was = c.index_mut.result.now in
     let lent = record was { client = record was.client { pd = c.tell.new.pd } } in
     let there = within (crashed_of c.args.self.now) c.in-Some.client c.in-Some.ensures.there in
-    on_ok_so c.tell.result (lent_ready _ g.met.P.Plan.lawful g.met.Q.Plan.lawful g.met.K.Plan.lawful
+    on_ok_so c.tell.result (lent_ready _ g.met.P.Plans.lawful
     c.args.self.now (record c.args.self.now { clients = with_item c.args.self.now.clients c.in-Some.client lent }) refl
     (crashed_kept c.args.self.now.clients.items c.in-Some.client lent was there c.index_mut.ensures.value refl)
     (λ d. ap (λ bs. get_or bs d blank) (books_kept c.args.self.now.clients.items c.in-Some.client lent was there c.index_mut.ensures.value refl))
