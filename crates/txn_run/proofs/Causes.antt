@@ -1,6 +1,6 @@
 -- From what a call that failed had heard to what the report tells.
 use Rattle.std.proofs.Common.{◌≡◌, ◌⊎◌, inl, inr, zero, suc, ℕ, refl, sym, ap, ◌∙◌, subst}
-use Rattle.std.specs.Prelude.{IfSome, Bool, true, false, List, [], ◌∷◌, Option, Some, None, Err, nat_eq, reverse}
+use Rattle.std.specs.Prelude.{IfSome, Bool, if◌then◌else◌, true, false, List, [], ◌∷◌, Option, Some, None, Err, nat_eq, reverse}
 use Rattle.txn_kv.specs.ErrorView.{view_of, ErrorView, ErrorViews}
 use Rattle.txn_kv.specs.ErrorView.ErrorView.{plain, locks, region, undetermined as not_known, key, extracted, multiple, kv, text, pessimistic}
 use Rattle.txn_kv.specs.ErrorView.ErrorViews.{none, more}
