@@ -10,8 +10,6 @@ use Rattle.txn_history.specs.Event.{Event}
 use Rattle.txn_history.specs.Meaning.{started, Counts, Expects, IsUnbegun, Meaning, Tells, Told}
 use Rattle.txn_history.specs.Moves.{Knows, Moves, Moves-before, Moves-map, Moves-quiet, Moves-then}
 use Rattle.txn_history.specs.Phase.{Awaited}
-use Rattle.txn_history.specs.Phase.Awaited.{EndOf, ReplyTo}
-use Rattle.txn_history.specs.Phase.Phase.{Running}
 use Rattle.txn_history.specs.Posted.{Posted, Within-refl}
 use Rattle.txn_history.specs.Spends.{Spends, calls, sleeps, spare}
 use Rattle.txn_history.specs.Turn.{is_kept, IfEnds, IfKept-out, Turn}
@@ -22,21 +20,22 @@ use Rattle.txn_kv.specs.declared.errors.Error.{Error}
 use Rattle.txn_kv.specs.declared.errors.Error.TheVariants.{OutOfMemory}
 use Rattle.txn_kv.specs.declared.query.PdAnswer.{PdAnswer}
 use Rattle.txn_kv.specs.declared.query.PdQuery.{PdQuery}
-use Rattle.txn_kv.specs.declared.query.PdQuery.TheVariants as query
 use Rattle.txn_kv.specs.declared.request.Request.{Request}
 use Rattle.txn_plan.specs.Applied.{IsApplied}
 use Rattle.txn_plan.specs.LookUp.{call_waits, fresh-unbegun, looked_up}
-use Rattle.txn_plan.proofs.LastPosted.{calls_none, never_fails, one_awaited}
+use Rattle.txn_plan.proofs.LastPosted.{calls_none, never_fails}
 use Rattle.txn_region.specs.Clients.{IsPlaceQuery, IsRefused, OrStarved}
 use Rattle.txn_region.specs.declared.store.RegionStore.{RegionStore}
-use Rattle.txn_multi.specs.Cutting.{cut_phase, cut_waits, cutting, AreApplied, ArePartsOf, AreWithin, CutAt, GivesParts, IfParts, IsLookUpRefused, IsPartOf, IsPlacement, Looking, UnfoundIfErr}
+use Rattle.txn_multi.specs.Cutting.{cutting, AreApplied, ArePartsOf, AreWithin, GivesParts, IfParts, IsLookUpRefused, IsPartOf, IsPlacement, Looking, UnfoundIfErr}
 use Rattle.txn_multi.specs.Few.{AreFew}
-use Rattle.txn_multi.specs.Searching.{Holds, IsTaken, LooksOn}
-use Rattle.txn_multi.specs.declared.cut_stage.CutStage.{CutStage}
-use Rattle.txn_multi.specs.declared.cut_stage.CutStage.TheVariants as search
+use Rattle.txn_multi.specs.Searching.{LooksOn}
 use Rattle.txn_multi.specs.declared.part.Part.{Part}
+use Rattle.txn_search.specs.Search.{search_phase, search_waits, Holds, IsOut, IsTaken, SearchAt}
+use Rattle.txn_search.specs.declared.search_stage.SearchStage.TheVariants as search
+use Rattle.txn_search.specs.declared.search_stage.SearchStage.{SearchStage}
+use Rattle.txn_search.proofs.Held.{asks_none, held_at, held_fits, held_query, held_runs, held_waits, waits_held}
 use Rattle.txn_tso.specs.Calling.{CallFits, MayAsk}
-use Rattle.txn_tso.specs.Counting.{asks_of, CallSpends}
+use Rattle.txn_tso.specs.Counting.{CallSpends}
 use Rattle.txn_tso.specs.Placement.{fresh}
 use Rattle.txn_tso.specs.declared.pd_call.PdCall.{PdCall}
 
@@ -102,52 +101,6 @@ module _ {S A H L : Type 0} (m : Meaning S A) (is_part : S → S → Type 0) (lo
         few = λ n l. rw many (few.few n (rw many at l));
       }
 
--- a look-up of a place asks for no timestamp
-pub asks_none : (q : PdQuery) → IsPlaceQuery q → asks_of q ≡ 0
-asks_none (query.Region key) p = refl
-asks_none (query.RegionId id) p = refl
-asks_none (query.Store id) p = refl
-asks_none query.Stores p = absurd p
-asks_none query.Time p = absurd p
-asks_none (query.Safepoint t) p = absurd p
-
--- A look-up that is out is the one that is waited for.
-
-held_fits : (call : PdCall) (g : CutStage) (o : Posted) (h : List Event) → Holds call g → CutAt g o h → CallFits call o h
-held_fits call search.Fresh o h i f = absurd i
-held_fits call (search.Asking c n) o h i f = subst (λ (d : PdCall). CallFits d o h) i.0 f.0
-held_fits call (search.Resting c n) o h i f = subst (λ (d : PdCall). CallFits d o h) i.0 f.0
-held_fits call search.Over o h i f = absurd i
-held_fits call search.Stopped o h i f = absurd i
-
-held_at : (call : PdCall) (g : CutStage) (o : Posted) (h : List Event) → Holds call g → CallFits call o h → CutAt g o h
-held_at call search.Fresh o h i f = absurd i
-held_at call (search.Asking c n) o h i f = (rw i.0 f, rw i.0 i.1)
-held_at call (search.Resting c n) o h i f = (rw i.0 f, rw i.0 i.1)
-held_at call search.Over o h i f = absurd i
-held_at call search.Stopped o h i f = absurd i
-
-held_waits : (call : PdCall) (g : CutStage) (a : Awaited) → Holds call g → call_waits call.stage a → cut_waits g a
-held_waits call search.Fresh a i w = absurd i
-held_waits call (search.Asking c n) a i w = one_awaited call.stage a (ReplyTo n) w i.1
-held_waits call (search.Resting c n) a i w = one_awaited call.stage a (EndOf n) w i.1
-held_waits call search.Over a i w = absurd i
-held_waits call search.Stopped a i w = absurd i
-
-pub waits_held : (call : PdCall) (g : CutStage) (a : Awaited) → Holds call g → cut_waits g a → call_waits call.stage a
-waits_held call search.Fresh a i w = absurd i
-waits_held call (search.Asking c n) a i w = rw w i.1
-waits_held call (search.Resting c n) a i w = rw w i.1
-waits_held call search.Over a i w = absurd i
-waits_held call search.Stopped a i w = absurd i
-
-held_runs : (call : PdCall) (g : CutStage) → Holds call g → cut_phase g ≡ Running
-held_runs call search.Fresh i = absurd i
-held_runs call (search.Asking c n) i = refl
-held_runs call (search.Resting c n) i = refl
-held_runs call search.Over i = absurd i
-held_runs call search.Stopped i = absurd i
-
 MayAsk-place : (s : PdCall) → IsPlaceQuery s.query → (h : List Event) (r : Request) → MayAsk s h r → IsPlacement h r
 MayAsk-place s place h r (inl a) = inl (s.query, place, a)
 MayAsk-place s place h r (inr a) = inr a
@@ -169,7 +122,7 @@ module _ {S A H L : Type 0} (m : Meaning S A) (is_part : S → S → Type 0) (lo
   stopped {c = c} e = record {
     moves = Moves-quiet refl tt tt;
     expects = Expects-quiet (λ a w. absurd (rw e at w));
-    next = ap cut_phase e;
+    next = ap search_phase e;
     parts = tt;
     wider = le_refl c.width;
     wide = tt;
@@ -185,7 +138,7 @@ module _ {S A H L : Type 0} (m : Meaning S A) (is_part : S → S → Type 0) (lo
   ended v over same width parts unfound wide = record {
     moves = Moves-quiet refl (λ h k. rw over tt) (λ h k. (parts, unfound h k));
     expects = Expects-quiet (λ a w. absurd (rw over at w));
-    next = ap cut_phase over;
+    next = ap search_phase over;
     parts = parts;
     wider = rw width (le_refl _);
     wide = wide;
@@ -216,7 +169,7 @@ module _ {S A H L : Type 0} (m : Meaning S A) (is_part : S → S → Type 0) (lo
       → LooksOn m is_part load are_cut most less (λ a. ⊥) mid new from to turn
       → LooksOn m is_part load are_cut most known was old new from to turn
   from_mid {less = less} {old = old} {mid = mid} {new = new} {from = from} {to = to} {turn = turn} knows same wider s = record {
-    moves = Moves-before knows (subst (λ (p : S). Moves IsPlacement less (λ h. CutAt new.stage to h) (λ h. GivesParts m is_part load are_cut most p h) (λ h. h) from to turn) same s.moves);
+    moves = Moves-before knows (subst (λ (p : S). Moves IsPlacement less (λ h. SearchAt new.stage to h) (λ h. GivesParts m is_part load are_cut most p h) (λ h. h) from to turn) same s.moves);
     expects = let e = s.expects in record { sends = e.sends; pushed = e.pushed; only = λ a w. elim (e.only a w) [ inl x ↦ absurd x.0 | inr p ↦ inr p ] };
     next = s.next;
     parts = subst (λ (p : S). IfEnds turn (IfParts m is_part load are_cut most p)) same s.parts;
@@ -266,24 +219,23 @@ module _ {S A H L : Type 0} (m : Meaning S A) (is_part : S → S → Type 0) (lo
 
   lifted : {told : Told} (old : Looking S H) {call call' : PdCall} {from via : Posted} {p : Turn (Result PdAnswer Error)}
       → Holds call old.stage → IsPlaceQuery call.query → Tells looked_up told call call' from via p
-      → Moves IsPlacement (λ h. CutAt old.stage from h × told.known h) (λ h. CallFits call' via h) (λ h v. looked_up.gives call' h v) told.hear from via p
+      → Moves IsPlacement (λ h. SearchAt old.stage from h × told.known h) (λ h. CallFits call' via h) (λ h v. looked_up.gives call' h v) told.hear from via p
   lifted {told = told} old {call = call} {from = from} held place t =
       Moves-map told.within (λ h f. (held_fits call old.stage from h held f.0, f.1)) (λ h f k r a. MayAsk-place call place k r a) (λ h f k w i. i) (λ h f k v g. t.job.gave k v g) t.moves
 
   -- an event of the look-up is an event of the search
-  pub heard : {told : Told} {old mid new : Looking S H} {a : Awaited} {call call' : PdCall} {from via to : Posted} {p : Turn (Result PdAnswer Error)} {turn : Turn (Result (Vec (Part S)) Error)}
-      → IsTaken a old mid call
+  pub heard : {told : Told} {old new : Looking S H} {g : SearchStage} {a : Awaited} {call call' : PdCall} {from via to : Posted} {p : Turn (Result PdAnswer Error)} {turn : Turn (Result (Vec (Part S)) Error)}
+      → IsOut IsPlaceQuery old.stage → IsTaken a old.stage g call
       → Tells looked_up told call call' from via p
-      → LooksOn m is_part load are_cut most (Knows p (λ h. CallFits call' via h) (λ h v. looked_up.gives call' h v)) (call_waits call'.stage) mid new via to turn
+      → LooksOn m is_part load are_cut most (Knows p (λ h. CallFits call' via h) (λ h v. looked_up.gives call' h v)) (call_waits call'.stage) (record old { stage = g }) new via to turn
       → Tells (cutting m is_part load are_cut most) told old new from to turn
-  heard {told = told} {old = old} {mid = mid} {new = new} {call = call} {call' = call'} {from = from} {via = via} {to = to} {p = p} {turn = turn} taken t s =
-      let plan : mid.plan ≡ old.plan = ap (λ (c : Looking S H). c.plan) taken.same in
+  heard {told = told} {old = old} {call = call} {call' = call'} {from = from} {via = via} out taken t s =
       let e = t.expects in
-      let first : Expects (cut_waits old.stage) (call_waits call'.stage) told.heard from via =
+      let first : Expects (search_waits old.stage) (call_waits call'.stage) told.heard from via =
       record { sends = e.sends; pushed = e.pushed; only = λ b w. elim (e.only b w) [ inl x ↦ inl (held_waits call old.stage b taken.held x.0, x.1) | inr x ↦ inr x ] } in
       record {
-        moves = Moves-then (lifted old taken.held taken.place t) (subst (λ (q : S). Moves IsPlacement (Knows p (λ h. CallFits call' via h) (λ h v. looked_up.gives call' h v)) (λ h. CutAt new.stage to h) (λ h. GivesParts m is_part load are_cut most q h) (λ h. h) via to turn) plan s.moves);
-        job = record { asked = λ h r x. x; given = λ h v g. rw (s.plan ∙ plan) at g; gave = λ h v g. rw (s.plan ∙ plan) g };
+        moves = Moves-then (lifted old taken.held (held_query IsPlaceQuery call old.stage out taken.held) t) s.moves;
+        job = record { asked = λ h r x. x; given = λ h v g. rw s.plan at g; gave = λ h v g. rw s.plan g };
         expects = Expects-then first s.expects;
       }
 
@@ -305,16 +257,16 @@ module _ {S A H L : Type 0} (m : Meaning S A) (is_part : S → S → Type 0) (lo
   }
 
   -- so far the search asked no store, and it goes on so after an event of its look-up
-  pub counted_after : {bad bad' fails : Bool} {weight locked : ℕ} {old mid new : Looking S H} {a : Awaited} {call : PdCall} {from via to : Posted} {turn : Turn (Result (Vec (Part S)) Error)} {known : List Event → Type 0} {was : Awaited → Type 0}
+  pub counted_after : {bad bad' fails : Bool} {weight locked : ℕ} {old new : Looking S H} {g : SearchStage} {a : Awaited} {call : PdCall} {from via to : Posted} {turn : Turn (Result (Vec (Part S)) Error)} {known : List Event → Type 0} {was : Awaited → Type 0}
       (call' : PdCall) (p : Turn (Result PdAnswer Error))
       → (bad ≡ true → fails ≡ true)
-      → IsTaken a old mid call
+      → IsOut IsPlaceQuery old.stage → IsTaken a old.stage g call
       → CallSpends call call' bad from via p
-      → LooksOn m is_part load are_cut most known was mid new via to turn
+      → LooksOn m is_part load are_cut most known was (record old { stage = g }) new via to turn
       → Counts (cutting m is_part load are_cut most) bad' fails weight locked old new from to turn
-  counted_after {bad = bad} {fails = fails} {call = call} {from = from} {via = via} call' p f taken spent s =
-      counted (rw (ap (λ (c : Looking S H). c.width) taken.same) at s.wider)
-      (le_trans s.calls (calls_none bad call call' from via p (asks_none call.query taken.place) spent))
+  counted_after {bad = bad} {fails = fails} {old = old} {call = call} {from = from} {via = via} call' p f out taken spent s =
+      counted s.wider
+      (le_trans s.calls (calls_none bad call call' from via p (asks_none call.query (held_query IsPlaceQuery call old.stage out taken.held)) spent))
       (let x = s.sleeps in let y = spent.stopped_rests in let z = spare-more bad fails false 1 f in omega arith)
 
   -- it sends its first try

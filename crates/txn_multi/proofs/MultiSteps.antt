@@ -17,7 +17,7 @@ use Rattle.txn_kv.specs.ErrorView.{ErrorView}
 use Rattle.txn_kv.specs.declared.arrival.Arrival.{Arrival}
 use Rattle.txn_kv.specs.declared.errors.Error.{Error}
 use Rattle.txn_kv.specs.declared.message.RegionErr.{RegionErr}
-use Rattle.txn_multi.specs.Cutting.{cut_phase, Looking}
+use Rattle.txn_multi.specs.Cutting.{Looking}
 use Rattle.txn_multi.specs.Multi.{multi, multi-lawful, multi_phase, tasks_for, AfterCut, AfterTasks, Begins, MultiWaits}
 use Rattle.txn_multi.specs.MultiSteps.{MultiSteps}
 use Rattle.txn_multi.specs.Searching.{SearchSteps}
@@ -32,6 +32,7 @@ use Rattle.txn_multi.proofs.Multis.{cut_counted, cut_gone, cut_told, fresh_only,
 use Rattle.txn_multi.proofs.Retrying.{still_running}
 use Rattle.txn_multi.proofs.Touchings.{after_kept, nothing, sought, unless_gone}
 use Rattle.txn_plan.specs.Touch.{Touch}
+use Rattle.txn_search.specs.Search.{search_phase}
 use Rattle.txn_tasks.specs.Tasks.{tasks_phase, Outcome}
 use Rattle.txn_tasks.specs.TasksStep.{TasksStep}
 use Rattle.txn_tasks.specs.Turns.{Turns}
@@ -89,7 +90,7 @@ module _ {S R H L : Type 0} (m : Meaning S (Result R Error)) (keys : R → List 
 
   -- the search of its shards takes it, and the plan goes on after that
   pub multi_seeks : (a : Arrival) {s new : RetryableMultiRegion S R H} {c c' : Looking S H} {from via to : Posted} {pd made pd' : C} (p : Turn (Result (Vec (Part S)) Error)) {turn : Turn (Result (Vec (Result R Error)) Error)}
-      → s.stage ≡ stage.Stopped → IsUnbegun m s.inner → s.tasks ≡ None → cut_phase c.stage ≡ Running
+      → s.stage ≡ stage.Stopped → IsUnbegun m s.inner → s.tasks ≡ None → search_phase c.stage ≡ Running
       → SearchSteps m is_part load are_cut most t (arrives a from) c c' from via pd made p
       → AfterCut (multi {H = H} m keys region is_part load are_cut most) p c' s new via to made pd' turn
       → UnlessGone new.stage (FoundTouches (TaskTouches m keys region t touches) s.backoff new.tasks made pd')

@@ -24,7 +24,7 @@ use Rattle.txn_kv.specs.declared.backoff.Backoff.{Backoff}
 use Rattle.txn_kv.specs.declared.errors.Error.{Error}
 use Rattle.txn_kv.specs.declared.message.RegionErr.{RegionErr}
 use Rattle.txn_kv.specs.declared.request.Request.{Request}
-use Rattle.txn_multi.specs.Cutting.{cut_phase, cut_waits, cutting, cutting-lawful, ArePartsOf, CutAt, IsLookUpRefused, IsPartOf, Looking, UnfoundIfErr}
+use Rattle.txn_multi.specs.Cutting.{cutting, cutting-lawful, ArePartsOf, IsLookUpRefused, IsPartOf, Looking, UnfoundIfErr}
 use Rattle.txn_multi.specs.Multi.{multi, multi_phase, number_of, tasks_for, AfterCut, AfterTasks, Begins, IsAnswer, MultiAsks, MultiGives, MultiWaits, StandsReady}
 use Rattle.txn_multi.specs.Task.{attempts_left, limit_of, region_task, shared, stage_left, task_for, IsOutcome, IsTaskOf, Limited, TaskFits}
 use Rattle.txn_multi.specs.declared.multi_region.RetryableMultiRegion.{RetryableMultiRegion}
@@ -32,6 +32,7 @@ use Rattle.txn_multi.specs.declared.multi_stage.MultiStage.{MultiStage}
 use Rattle.txn_multi.specs.declared.multi_stage.MultiStage.TheVariants as stage
 use Rattle.txn_multi.specs.declared.part.Part.{Part}
 use Rattle.txn_multi.specs.declared.task.RegionTask.{RegionTask}
+use Rattle.txn_search.specs.Search.{search_phase, search_waits, SearchAt}
 use Rattle.txn_tasks.specs.Step.{IsNew}
 use Rattle.txn_tasks.specs.Tasks.{tasks_phase, Outcome}
 use Rattle.txn_tasks.specs.declared.stage.Stage.{Stage as Together}
@@ -300,16 +301,16 @@ module _ {S R H L : Type 0} (m : Meaning S (Result R Error)) (keys : R → List 
   -- A call of the search of its shards.
 
   looked : {told : Told} (old : RetryableMultiRegion S R H) (c c' : Looking S H) {from to : Posted} {p : Turn (Result (Vec (Part S)) Error)}
-      → ((h : List Event) → (multi {H = H} m keys region is_part load are_cut most).fits old from h → CutAt c.stage from h)
+      → ((h : List Event) → (multi {H = H} m keys region is_part load are_cut most).fits old from h → SearchAt c.stage from h)
       → Tells (cutting {H = H} m is_part load are_cut most) told c c' from to p
-      → Moves (MultiAsks m is_part old.inner) (λ h. (multi {H = H} m keys region is_part load are_cut most).fits old from h × told.known h) (λ h. CutAt c'.stage to h) (λ h (v : Result (Vec (Part S)) Error). UnfoundIfErr h v) told.hear from to p
+      → Moves (MultiAsks m is_part old.inner) (λ h. (multi {H = H} m keys region is_part load are_cut most).fits old from h × told.known h) (λ h. SearchAt c'.stage to h) (λ h (v : Result (Vec (Part S)) Error). UnfoundIfErr h v) told.hear from to p
   looked {told = told} old c c' fits t = Moves-map told.within (λ h f. (fits h f.0, f.1)) (λ h f k r a. inr a) (λ h f k w i. i) (λ h f k v g. g.1) t.moves
 
   pub cut_told : {C : Type 0} {told : Told} (s new : RetryableMultiRegion S R H) (g : MultiStage S R H) (c c' : Looking S H) {from via to : Posted} (pd pd' : C) (p : Turn (Result (Vec (Part S)) Error)) {turn : Turn (Result (Vec (Result R Error)) Error)}
       → s.stage ≡ stage.Stopped → IsUnbegun m s.inner → s.tasks ≡ None
-      → ((h : List Event) → (multi {H = H} m keys region is_part load are_cut most).fits (record s { stage = g }) from h → CutAt c.stage from h)
-      → ((a : Awaited) → cut_waits c.stage a → (multi {H = H} m keys region is_part load are_cut most).waits (record s { stage = g }) a)
-      → (p ≡ Waits → cut_phase c'.stage ≡ Running)
+      → ((h : List Event) → (multi {H = H} m keys region is_part load are_cut most).fits (record s { stage = g }) from h → SearchAt c.stage from h)
+      → ((a : Awaited) → search_waits c.stage a → (multi {H = H} m keys region is_part load are_cut most).waits (record s { stage = g }) a)
+      → (p ≡ Waits → search_phase c'.stage ≡ Running)
       → Tells (cutting {H = H} m is_part load are_cut most) told c c' from via p
       → AfterCut (multi {H = H} m keys region is_part load are_cut most) p c' s new via to pd pd' turn
       → Tells (multi {H = H} m keys region is_part load are_cut most) told (record s { stage = g }) new from to turn
@@ -377,8 +378,8 @@ module _ {S R H L : Type 0} (m : Meaning S (Result R Error)) (keys : R → List 
   }
 
   pub cut_gone : {C : Type 0} {meant : Type 0} (s new : RetryableMultiRegion S R H) (c c' : Looking S H) {from via to : Posted} {pd pd' pd'' : C} (p : Turn (Result (Vec (Part S)) Error)) {turn : Turn (Result (Vec (Result R Error)) Error)}
-      → s.stage ≡ stage.Stopped → cut_phase c.stage ≡ Running
-      → Goes (λ (c : Looking S H). cut_phase c.stage) meant c c' from via pd pd' p
+      → s.stage ≡ stage.Stopped → search_phase c.stage ≡ Running
+      → Goes (λ (c : Looking S H). search_phase c.stage) meant c c' from via pd pd' p
       → AfterCut (multi {H = H} m keys region is_part load are_cut most) p c' s new via to pd' pd'' turn
       → Goes (multi {H = H} m keys region is_part load are_cut most).phase meant (record s { stage = stage.Cutting c }) new from to pd pd'' turn
   cut_gone s new c c' Stopped gone running t after = record {
@@ -479,7 +480,7 @@ module _ {S R H L : Type 0} (m : Meaning S (Result R Error)) (keys : R → List 
   cut_next s new c' via to pd pd' (Ends v) turn gone after = after.next
 
   -- a search that was not begun waits for nothing
-  pub unbegun_waits : (c : Looking S H) (a : Awaited) → IsUnbegun (cutting {H = H} m is_part load are_cut most) c → cut_waits c.stage a → ⊥
+  pub unbegun_waits : (c : Looking S H) (a : Awaited) → IsUnbegun (cutting {H = H} m is_part load are_cut most) c → search_waits c.stage a → ⊥
   unbegun_waits c a u w = let law = cutting-lawful {H = H} m is_part load are_cut most in fresh_running (sym u.phase ∙ law.runs c a w)
 
   pub not_waiting : (inner : S) (limit : ℕ) (g : MultiStage S R H) (ts : Option (Tasks (RegionTask S R H) R)) (a : Awaited) → ((c : Looking S H) → g ≡ stage.Cutting c → ⊥) → (g ≡ stage.Running → ⊥)

@@ -36,7 +36,7 @@ use Rattle.txn_kv.specs.declared.outbox.Errand.TheVariants.{Sleep}
 use Rattle.txn_kv.specs.declared.region.RegionVerId.{RegionVerId}
 use Rattle.txn_kv.specs.declared.request.Request.{Request}
 use Rattle.txn_kv.specs.declared.ticket.Ticket.{Ticket}
-use Rattle.txn_multi.specs.Cutting.{cut_phase, cutting, cutting-lawful, ArePartsOf, IsPartOf, Looking, UnfoundIfErr}
+use Rattle.txn_multi.specs.Cutting.{cutting, cutting-lawful, ArePartsOf, IsPartOf, Looking, UnfoundIfErr}
 use Rattle.txn_multi.specs.Task.{failed_by_longer, failed_longer, limit_of, owed, region_task, stage_left, stage_phase, stage_runs, task_for, tried, GoesOnAt, GoesOver, HaveFailedBefore, HaveFailedBy, IsChanged, IsEndAt, IsRefused, IsRefusedFor, IsTaskOf, IsUnderWay, MayGoOn, StageWaits, StepGives, TaskFits}
 use Rattle.txn_multi.proofs.Trying.{before_on, before_start, counted, failed_once, is_over, limit_after, Moves-known}
 use Rattle.txn_multi.specs.declared.part.Part.{Part}
@@ -48,6 +48,7 @@ use Rattle.txn_kv.specs.declared.arrival.Arrival.{Arrival}
 use Rattle.txn_retry.specs.Remedy.{after, delay_ms, on_loss, on_region_error}
 use Rattle.txn_retry.specs.declared.remedy.Next.{Next}
 use Rattle.txn_retry.specs.declared.remedy.Next.TheVariants as next
+use Rattle.txn_search.specs.Search.{search_phase}
 use Rattle.txn_tasks.specs.Step.{step_turn, AreInPlace, IsNew, Keeps, MayStand}
 use Rattle.txn_tasks.specs.declared.step.Step.{Step}
 use Rattle.txn_tasks.specs.declared.step.Step.TheVariants.{End, Parts}
@@ -421,7 +422,7 @@ module _ {S R H L : Type 0} (m : Meaning S (Result R Error)) (keys : R → List 
     }
 
     -- its search goes on
-    pub tells_on_search : {told : Told} (t : RegionTask S R H) (c d : Looking S H) {from to : Posted} → cut_phase d.stage ≡ Running
+    pub tells_on_search : {told : Told} (t : RegionTask S R H) (c d : Looking S H) {from to : Posted} → search_phase d.stage ≡ Running
         → Tells (cutting m is_part load are_cut most) told c d from to Waits
         → Tells (region_task m keys region is_part load are_cut most) told (record t { stage = stage.Cutting c }) (record t { stage = stage.Cutting d }) from to Waits
     tells_on_search {told} t c d {from = from} {to = to} runs s = record {
@@ -453,7 +454,7 @@ module _ {S R H L : Type 0} (m : Meaning S (Result R Error)) (keys : R → List 
     }
 
     -- a search that is begun, and goes on
-    pub over_on_search : (t : RegionTask S R H) (c d : Looking S H) {from to : Posted} → IsUnbegun (cutting m is_part load are_cut most) c → cut_phase d.stage ≡ Running
+    pub over_on_search : (t : RegionTask S R H) (c d : Looking S H) {from to : Posted} → IsUnbegun (cutting m is_part load are_cut most) c → search_phase d.stage ≡ Running
         → Tells (cutting m is_part load are_cut most) started c d from to Waits
         → GoesOver (region_task m keys region is_part load are_cut most) (GoesOnAt m keys region t from) t (record t { stage = stage.Cutting d }) from to Waits
     over_on_search t c d {from} {to} u runs s = record {

@@ -21,7 +21,7 @@ use Rattle.txn_kv.specs.declared.arrival.Arrival.TheVariants.{Slept}
 use Rattle.txn_kv.specs.declared.errors.Error.{Error}
 use Rattle.txn_kv.specs.declared.memory.NoMemory.{NoMemory}
 use Rattle.txn_kv.specs.declared.message.RegionErr.{RegionErr}
-use Rattle.txn_multi.specs.Cutting.{cut_phase, Looking, UnfoundIfErr}
+use Rattle.txn_multi.specs.Cutting.{Looking, UnfoundIfErr}
 use Rattle.txn_multi.specs.Searching.{SearchSteps}
 use Rattle.txn_multi.specs.Task.{owed, region_task, region_task-lawful, stage_phase, stage_runs, tried, CostsOver, GoesOnAt, GoesOver, HaveFailedBy, IsReady, IsTaskOf, IsUnderWay, StageWaits, TaskReady}
 use Rattle.txn_multi.specs.TaskSteps.{TaskSteps}
@@ -36,6 +36,7 @@ use Rattle.txn_multi.proofs.Retrying.{keeps_at, keeps_idle, still_running, tells
 use Rattle.txn_multi.proofs.Touchings.{plan_answered, unless_all}
 use Rattle.txn_plan.specs.Touch.{Touch}
 use Rattle.txn_retry.specs.Remedy.{delay_ms}
+use Rattle.txn_search.specs.Search.{search_phase}
 use Rattle.txn_tasks.specs.Step.{step_turn, Keeps}
 use Rattle.txn_tasks.specs.declared.step.Step.{Step}
 use Rattle.txn_tso.specs.Calling.{members}
@@ -172,13 +173,13 @@ module _ {S R H L : Type 0} (m : Meaning S (Result R Error)) (keys : R → List 
 
     -- its search goes on
     pub search_waits : (c d : Looking S H) {to : Posted} {pd' : C}
-        → IsReady m task.job → c.plan ≡ task.job → cut_phase c.stage ≡ Running
+        → IsReady m task.job → c.plan ≡ task.job → search_phase c.stage ≡ Running
         → SearchSteps m is_part load are_cut most t (arrives a from) c d from to pd pd' Waits
         → TaskSteps m keys region is_part load are_cut most t touches (arrives a from) (record task { stage = stage.Cutting c }) (record task { stage = stage.Cutting d }) from to pd pd' Waits
     unfolding arrives
     search_waits c d ready same running s =
         let on = s.steps in
-        let runs : cut_phase d.stage ≡ Running = still_running running on.goes in
+        let runs : search_phase d.stage ≡ Running = still_running running on.goes in
         record {
           steps = record {
             tells = λ r. tells_on_search m keys region is_part load are_cut most law task c d runs (on.tells r);
@@ -194,7 +195,7 @@ module _ {S R H L : Type 0} (m : Meaning S (Result R Error)) (keys : R → List 
 
     -- its search gives up
     pub search_stops : (c d : Looking S H) {to : Posted} {pd' : C} {turn : Turn (Step (RegionTask S R H) R)}
-        → IsReady m task.job → cut_phase c.stage ≡ Running
+        → IsReady m task.job → search_phase c.stage ≡ Running
         → task.stage ≡ stage.Stopped → turn ≡ Stopped
         → SearchSteps m is_part load are_cut most t (arrives a from) c d from to pd pd' Stopped
         → TaskSteps m keys region is_part load are_cut most t touches (arrives a from) (record task { stage = stage.Cutting c }) task from to pd pd' turn
@@ -214,7 +215,7 @@ module _ {S R H L : Type 0} (m : Meaning S (Result R Error)) (keys : R → List 
 
     -- its search has ended, and it goes on after that
     pub search_ends : (c d : Looking S H) (v : Result (Vec (Part S)) Error) {new : RegionTask S R H} {to : Posted} {pd' : C} {turn : Turn (Step (RegionTask S R H) R)}
-        → cut_phase c.stage ≡ Running
+        → search_phase c.stage ≡ Running
         → SearchSteps m is_part load are_cut most t (arrives a from) c d from to pd pd' (Ends v)
         → GoesOver (region_task m keys region is_part load are_cut most) (λ h. GoesOnAt m keys region task to h × UnfoundIfErr h v) task new to to turn
         → CostsOver (region_task m keys region is_part load are_cut most) (owed m most task.job) false task new to to turn

@@ -15,7 +15,7 @@ use Rattle.txn_kv.specs.ErrorView.{ErrorView}
 use Rattle.txn_kv.specs.declared.errors.Error.{Error}
 use Rattle.txn_kv.specs.declared.message.RegionErr.{RegionErr}
 use Rattle.txn_kv.specs.declared.request.Request.{Request}
-use Rattle.txn_multi.specs.Cutting.{cut_phase, cut_waits, cutting, cutting-lawful, CutAt, IsLookUpRefused, IsLookUpRefused-longer, IsPlacement, Looking, UnfoundIfErr}
+use Rattle.txn_multi.specs.Cutting.{cutting, cutting-lawful, IsLookUpRefused, IsLookUpRefused-longer, IsPlacement, Looking, UnfoundIfErr}
 use Rattle.txn_multi.specs.Task.{attempts_left, outcome_longer, region_task, region_task-lawful, shared, stage_runs, IsOutcome, IsTaskOf}
 use Rattle.txn_multi.specs.declared.multi_region.RetryableMultiRegion.{RetryableMultiRegion}
 use Rattle.txn_multi.specs.declared.multi_stage.MultiStage.{MultiStage}
@@ -23,6 +23,7 @@ use Rattle.txn_multi.specs.declared.multi_stage.MultiStage.TheVariants as stage
 use Rattle.txn_multi.specs.declared.part.Part.{Part}
 use Rattle.txn_multi.specs.declared.task.RegionTask.{RegionTask}
 use Rattle.txn_retry.specs.Outcome.{all_or_first, in_place}
+use Rattle.txn_search.specs.Search.{search_phase, search_waits, SearchAt}
 use Rattle.txn_tasks.specs.Lawful.{tasks-lawful}
 use Rattle.txn_tasks.specs.Tasks.{tasks_of, Outcome}
 use Rattle.txn_tasks.specs.declared.tasks.Tasks.{Tasks}
@@ -79,14 +80,14 @@ number_of (Some x) f = f x
 -- What has happened where it stands here. `k` is the meaning of its tasks.
 abbrev pub MultiAt : {S A R H K B : Type 0} → Meaning S A → Meaning K B → S → MultiStage S R H → Option K → Posted → List Event → Type 0
 MultiAt m k inner stage.Fresh ts o h = IsUnbegun m inner × (ts ≡ None)
-MultiAt m k inner (stage.Cutting c) ts o h = CutAt c.stage o h × (cut_phase c.stage ≡ Running)
+MultiAt m k inner (stage.Cutting c) ts o h = SearchAt c.stage o h × (search_phase c.stage ≡ Running)
 MultiAt m k inner stage.Running ts o h = Holding ts (λ t. k.fits t o h × (k.phase t ≡ Running))
 MultiAt m k inner stage.Over ts o h = ⊤
 MultiAt m k inner stage.Stopped ts o h = ⊤
 
 abbrev pub MultiWaits : {S R H K B : Type 0} → Meaning K B → MultiStage S R H → Option K → Awaited → Type 0
 MultiWaits k stage.Fresh ts a = ⊥
-MultiWaits k (stage.Cutting c) ts a = cut_waits c.stage a
+MultiWaits k (stage.Cutting c) ts a = search_waits c.stage a
 MultiWaits k stage.Running ts a = Holding ts (λ t. k.waits t a)
 MultiWaits k stage.Over ts a = ⊥
 MultiWaits k stage.Stopped ts a = ⊥
@@ -94,7 +95,7 @@ MultiWaits k stage.Stopped ts a = ⊥
 -- what holds of it, whatever has happened
 abbrev pub StandsReady : {S R H K B : Type 0} → Meaning K B → S → MultiStage S R H → Option K → Type 0
 StandsReady k inner stage.Fresh ts = ts ≡ None
-StandsReady k inner (stage.Cutting c) ts = (c.plan ≡ inner) × (cut_phase c.stage ≡ Running) × (ts ≡ None)
+StandsReady k inner (stage.Cutting c) ts = (c.plan ≡ inner) × (search_phase c.stage ≡ Running) × (ts ≡ None)
 StandsReady k inner stage.Running ts = Holding ts (λ t. k.ready t × (k.phase t ≡ Running))
 StandsReady k inner stage.Over ts = ⊤
 StandsReady k inner stage.Stopped ts = ⊤

@@ -28,7 +28,7 @@ use Rattle.txn_kv.specs.declared.message.RegionErr.{RegionErr}
 use Rattle.txn_kv.specs.declared.region.RegionVerId.{RegionVerId}
 use Rattle.txn_kv.specs.declared.request.Request.{Request}
 use Rattle.txn_kv.specs.declared.ticket.Ticket.{Ticket}
-use Rattle.txn_multi.specs.Cutting.{cut_phase, cut_waits, cutting, cutting-lawful, ArePartsOf, CutAt, IsLookUpRefused, IsLookUpRefused-longer, IsPlacement}
+use Rattle.txn_multi.specs.Cutting.{cutting, cutting-lawful, ArePartsOf, IsLookUpRefused, IsLookUpRefused-longer, IsPlacement}
 use Rattle.txn_multi.specs.declared.part.Part.{Part}
 use Rattle.txn_multi.specs.declared.stage.Stage.{Stage}
 use Rattle.txn_multi.specs.declared.stage.Stage.TheVariants as stage
@@ -38,6 +38,7 @@ use Rattle.txn_retry.specs.declared.remedy.CacheChange.{CacheChange}
 use Rattle.txn_retry.specs.declared.remedy.CacheChange.TheVariants as change
 use Rattle.txn_retry.specs.declared.remedy.Next.{Next}
 use Rattle.txn_retry.specs.declared.remedy.Next.TheVariants as next
+use Rattle.txn_search.specs.Search.{search_phase, search_waits, SearchAt}
 use Rattle.txn_tasks.specs.declared.step.Step.{Step}
 use Rattle.txn_tasks.specs.declared.step.Step.TheVariants.{End, Parts}
 
@@ -135,7 +136,7 @@ abbrev pub TaskAt : {S R H : Type 0} → Meaning S (Result R Error) → (R → L
 TaskAt m keys region job tries stage.Fresh o h = HaveFailedBy tries o h
 TaskAt m keys region job tries (stage.Running p) o h = m.fits p o h × (m.phase p ≡ Running) × HaveFailedBefore m p tries o h
 TaskAt m keys region job tries (stage.Sleeping n) o h = WasPosted o h (EndOf n) × HasFailed m keys region job h × HaveFailedBy tries o h
-TaskAt m keys region job tries (stage.Cutting c) o h = CutAt c.stage o h × (cut_phase c.stage ≡ Running) × HasFailed m keys region job h × HaveFailedBy tries o h
+TaskAt m keys region job tries (stage.Cutting c) o h = SearchAt c.stage o h × (search_phase c.stage ≡ Running) × HasFailed m keys region job h × HaveFailedBy tries o h
 TaskAt m keys region job tries stage.Cut o h = HaveFailedBy tries o h
 TaskAt m keys region job tries stage.Over o h = ⊤
 TaskAt m keys region job tries stage.Stopped o h = ⊤
@@ -165,7 +166,7 @@ abbrev pub StageWaits : {S A R H : Type 0} → Meaning S A → Stage S R H → A
 StageWaits m stage.Fresh a = ⊥
 StageWaits m (stage.Running p) a = m.waits p a
 StageWaits m (stage.Sleeping n) a = a ≡ EndOf n
-StageWaits m (stage.Cutting c) a = cut_waits c.stage a
+StageWaits m (stage.Cutting c) a = search_waits c.stage a
 StageWaits m stage.Cut a = ⊥
 StageWaits m stage.Over a = ⊥
 StageWaits m stage.Stopped a = ⊥
@@ -188,7 +189,7 @@ abbrev pub StageReady : {S A R H : Type 0} → Meaning S A → S → Stage S R H
 StageReady m job stage.Fresh = ⊤
 StageReady m job (stage.Running p) = IsUnderWay m job p
 StageReady m job (stage.Sleeping n) = ⊤
-StageReady m job (stage.Cutting c) = (c.plan ≡ job) × (cut_phase c.stage ≡ Running)
+StageReady m job (stage.Cutting c) = (c.plan ≡ job) × (search_phase c.stage ≡ Running)
 StageReady m job stage.Cut = ⊤
 StageReady m job stage.Over = ⊤
 StageReady m job stage.Stopped = ⊤

@@ -1,39 +1,35 @@
 //! A plan whose request is being cut into shards.
-ghost use Rattle.std.specs.Bool.{MatchBool};
 ghost use Rattle.std.specs.List.{All};
-ghost use Rattle.std.specs.Prelude.{◌≡◌, ◌≤◌, ◌++◌, ◌∷◌, [], ⊤, ℕ, IfErr, IfOk, IfSome, MatchOption, None, Ok, OnOk, false, length, map};
-ghost use Rattle.txn_history.specs.Arrivals.{arrives, awaited_as, told_by};
+ghost use Rattle.std.specs.Prelude.{◌≡◌, ◌≤◌, ◌++◌, ◌∷◌, [], ⊤, IfErr, IfOk, IfSome, None, Ok, OnOk, false, length, map};
+ghost use Rattle.txn_history.specs.Arrivals.{arrives};
 ghost use Rattle.txn_history.specs.Meaning.{started, Counts, Goes, IsUnbegun, Tells};
 ghost use Rattle.txn_history.specs.Moves.{Knows};
-ghost use Rattle.txn_history.specs.Phase.{unheard};
-ghost use Rattle.txn_history.specs.Phase.Awaited.{EndOf, ReplyTo, TimeOf};
 ghost use Rattle.txn_history.specs.Phase.Phase.{Fresh};
 ghost use Rattle.txn_history.specs.Posted.{HasNumbers, Posted};
 ghost use Rattle.txn_history.specs.Turn.{turn_of, IfEnds, IfKept};
 ghost use Rattle.txn_history.specs.Turn.Turn.{Ends, Stopped, Waits};
 ghost use Rattle.txn_kv.specs.declared.errors.Error.TheVariants.{OutOfMemory};
-ghost use Rattle.txn_kv.specs.declared.request.Request.{Request as Asked};
-ghost use Rattle.txn_multi.specs.Cutting.{cut_phase, cut_waits, cutting, AreApplied, AreUsable, AreWithin, IfParts, IsLookUpRefused};
-ghost use Rattle.txn_multi.specs.Searching.{tells_loss, Holds, IsTaken, LooksOn, SearchSteps, Seeks};
+ghost use Rattle.txn_multi.specs.Cutting.{cutting, AreApplied, AreUsable, AreWithin, IfParts, IsLookUpRefused};
+ghost use Rattle.txn_multi.specs.Searching.{LooksOn, SearchSteps, Seeks};
 ghost use Rattle.txn_plan.specs.LookUp.{call_waits, looked_up, AwaitsLast};
 ghost use Rattle.txn_plan.specs.Touch.{touch};
 ghost use Rattle.txn_region.specs.Clients.{IsPlaceQuery, IsUsable, OrStarved};
+ghost use Rattle.txn_search.specs.Search.{search_phase, Holds, IsOut};
 ghost use Rattle.txn_shard.specs.Shards.{shards_of};
 ghost use Rattle.txn_tso.specs.Calling.{CallFits};
-ghost use Rattle.txn_tso.specs.Counting.{CallSpends};
 
-use crate::cut_stage::CutStage;
 use crate::part::Part;
 use crate::region_plan::RegionPlan;
 use std::alloc::Global;
 use std::marker::Model;
 use std::mem;
-use txn_kv::{Arrival, Errand, Error, NoMemory, Outbox, PdAnswer, PdQuery, Progress, Result};
+use txn_kv::{Arrival, Error, NoMemory, Outbox, PdAnswer, PdQuery, Progress, Result};
 use txn_merge::{HasKeyErrors, HasRegionError};
 use txn_plan::ShardPlan;
 use txn_region::{PdClient, RegionStore};
+use txn_search::{SearchStage, pass_over, tell_query};
 use txn_shard::ShardList;
-use txn_tso::{PdCall, RetryClient};
+use txn_tso::PdCall;
 
 /// What an event of a state answers.
 type Turn<T> = std::result::Result<Progress<T>, NoMemory>;
@@ -43,7 +39,7 @@ type Turn<T> = std::result::Result<Progress<T>, NoMemory>;
 pub struct Cutting<P: ShardPlan> {
     plan: P,
     found: ShardList<P::Shard>,
-    stage: CutStage,
+    stage: SearchStage,
     /// How many shards were found so far.
     width: usize,
     alloc: Global,
@@ -67,13 +63,14 @@ impl<P: ShardPlan> Drop for Cutting<P> {
 impl<P: ShardPlan> Model for Cutting<P> {
     ghost use Rattle.std.specs.Prelude.{◌≤◌, length};
     ghost use Rattle.txn_multi.specs.Cutting.{Looking};
-    ghost use Rattle.txn_multi.specs.Searching.{IsOut};
+    ghost use Rattle.txn_region.specs.Clients.{IsPlaceQuery};
+    ghost use Rattle.txn_search.specs.Search.{IsOut};
 
     ghost Value = { Looking P P.Shard };
 
     ghost view = { λ c. record { plan = c.plan; found = c.found; stage = c.stage; width = c.width } };
 
-    ghost invariant = { λ c. P.IsFound c.plan c.found × (length c.found.shards.items ≤ c.width) × IsOut c.stage };
+    ghost invariant = { λ c. P.IsFound c.plan c.found × (length c.found.shards.items ≤ c.width) × IsOut IsPlaceQuery c.stage };
 }
 
 impl<P: RegionPlan> Cutting<P>
@@ -88,7 +85,7 @@ where
         Cutting {
             plan,
             found: ShardList::new(alloc),
-            stage: CutStage::Fresh,
+            stage: SearchStage::Fresh,
             width: 0,
             alloc,
         }
@@ -104,7 +101,7 @@ where
         requires ready { IsUnbegun P.meaning self.old.plan }
         requires numbers { HasNumbers out.old }
         ensures tells { Tells (cutting P.meaning P.IsPart P.load P.AreCut P.most) started self.old self.new out.old out.new (turn_of result) }
-        ensures goes { Goes (λ c. cut_phase c.stage) (cut_phase self.old.stage ≡ Fresh) self.old self.new out.old out.new pd.old pd.new (turn_of result) }
+        ensures goes { Goes (λ c. search_phase c.stage) (search_phase self.old.stage ≡ Fresh) self.old self.new out.old out.new pd.old pd.new (turn_of result) }
         ensures counts { Counts (cutting P.meaning P.IsPart P.load P.AreCut P.most) false false 0 0 self.old self.new out.old out.new (turn_of result) }
         ensures parts { IfEnds (turn_of result) (IfParts P.meaning P.IsPart P.load P.AreCut P.most self.old.plan) }
         ensures wide { IfEnds (turn_of result) (AreWithin self.new.width) }
@@ -113,11 +110,11 @@ where
         ensures ready { IsUnbegun P.meaning self.new.plan }
         ensures numbers { HasNumbers out.new }
     {
-        if self.is_fresh() {
-            self.stage = CutStage::Stopped;
+        if self.stage.is_fresh() {
+            self.stage = SearchStage::Stopped;
             self.look(pd, now, out)
         } else {
-            self.stay()
+            self.stage.stay()
         }
     }
 
@@ -133,75 +130,15 @@ where
         requires numbers { HasNumbers out.old }
         ensures { SearchSteps P.meaning P.IsPart P.load P.AreCut P.most (touch C.looked C.learns C.leads C.drops) (arrives arrival out.old) self.old self.new out.old out.new pd.old pd.new (turn_of result) }
     {
-        match self.take_out(&arrival) {
+        match self.stage.take(&arrival) {
             Some(call) => {
                 let mut call = call;
-                let turn = tell_call(&mut call, pd.retry_client(), now, arrival, out);
+                let turn = tell_query(&mut call, pd.retry_client(), now, arrival, out);
                 self.hear(call, turn, pd, now, out)
             }
             None => {
                 drop(arrival);
-                self.stay()
-            }
-        }
-    }
-
-    fn is_fresh(&self) -> bool
-        ensures { MatchBool result (self.now.stage ≡ CutStage.Fresh) (cut_phase self.now.stage ≡ Fresh → ⊥) }
-    {
-        matches!(self.stage, CutStage::Fresh)
-    }
-
-    /// What comes of an event that is not for this state. The connection is lent to no look-up then.
-    fn stay(&self) -> Turn<Vec<Part<P>>>
-        ensures { turn_of result ≡ unheard (cut_phase self.now.stage) }
-    {
-        match self.stage {
-            CutStage::Stopped => Err(NoMemory),
-            _ => Ok(Progress::Waiting),
-        }
-    }
-
-    /// Takes the look-up that waits for this. None waits for a timestamp.
-    fn take_out(&mut self, arrival: &Arrival) -> Option<PdCall>
-        ensures { MatchOption result ((self.new ≡ self.old) × (cut_waits self.old.stage (awaited_as arrival.now) → ⊥)) (IsTaken (awaited_as arrival.now) self.old self.new) }
-    {
-        match arrival {
-            Arrival::Reply { number, .. } => self.take_asking(*number),
-            Arrival::Lost { number } => self.take_asking(*number),
-            Arrival::Slept { number } => self.take_resting(*number),
-            Arrival::Time { .. } => None,
-        }
-    }
-
-    /// Takes the look-up that waits for the reply to this request.
-    fn take_asking(&mut self, number: u64) -> Option<PdCall>
-        ensures { MatchOption result ((self.new ≡ self.old) × (cut_waits self.old.stage (ReplyTo number) → ⊥)) (IsTaken (ReplyTo number) self.old self.new) }
-    {
-        match mem::replace(&mut self.stage, CutStage::Stopped) {
-            CutStage::Asking {
-                call,
-                number: asked,
-            } if asked == number => Some(call),
-            stage => {
-                self.stage = stage;
-                None
-            }
-        }
-    }
-
-    /// Takes the look-up that waits for the end of this sleep.
-    fn take_resting(&mut self, number: u64) -> Option<PdCall>
-        ensures { MatchOption result ((self.new ≡ self.old) × (cut_waits self.old.stage (EndOf number) → ⊥)) (IsTaken (EndOf number) self.old self.new) }
-    {
-        match mem::replace(&mut self.stage, CutStage::Stopped) {
-            CutStage::Resting {
-                call,
-                number: begun,
-            } if begun == number => Some(call),
-            stage => {
-                self.stage = stage;
-                None
+                self.stage.stay()
             }
         }
     }
@@ -215,7 +152,7 @@ where
         now: u64,
         out: &mut Outbox,
     ) -> Turn<Vec<Part<P>>>
-        requires stopped { self.old.stage ≡ CutStage.Stopped }
+        requires stopped { self.old.stage ≡ SearchStage.Stopped }
         requires ready { IsUnbegun P.meaning self.old.plan }
         requires place { IsPlaceQuery call.query }
         requires waits { turn_of turn ≡ Waits → AwaitsLast call out.old }
@@ -238,17 +175,7 @@ where
         ensures holds { Holds call self.new.stage }
         ensures state { self.new ≡ record self.old { stage = self.new.stage } }
     {
-        self.stage = match out.sends.as_slice().last() {
-            Some(Errand::Send { number, .. }) => CutStage::Asking {
-                call,
-                number: *number,
-            },
-            Some(Errand::Sleep { number, .. }) => CutStage::Resting {
-                call,
-                number: *number,
-            },
-            _ => unreachable!(),
-        };
+        self.stage.wait(call, out);
         Ok(Progress::Waiting)
     }
 
@@ -261,7 +188,7 @@ where
         now: u64,
         out: &mut Outbox,
     ) -> Turn<Vec<Part<P>>>
-        requires stopped { self.old.stage ≡ CutStage.Stopped }
+        requires stopped { self.old.stage ≡ SearchStage.Stopped }
         requires ready { IsUnbegun P.meaning self.old.plan }
         requires place { IsPlaceQuery call.query }
         requires numbers { HasNumbers out.old }
@@ -276,7 +203,7 @@ where
 
     /// Looks for the next shards.
     fn look<C: PdClient>(&mut self, pd: &mut C, now: u64, out: &mut Outbox) -> Turn<Vec<Part<P>>>
-        requires stopped { self.old.stage ≡ CutStage.Stopped }
+        requires stopped { self.old.stage ≡ SearchStage.Stopped }
         requires ready { IsUnbegun P.meaning self.old.plan }
         requires numbers { HasNumbers out.old }
         ensures on { LooksOn P.meaning P.IsPart P.load P.AreCut P.most (λ h. ⊤) (λ a. ⊥) self.old self.new out.old out.new (turn_of result) }
@@ -312,7 +239,7 @@ where
         now: u64,
         out: &mut Outbox,
     ) -> Turn<Vec<Part<P>>>
-        requires stopped { self.old.stage ≡ CutStage.Stopped }
+        requires stopped { self.old.stage ≡ SearchStage.Stopped }
         requires place { IsPlaceQuery query }
         requires numbers { HasNumbers out.old }
         ensures on { LooksOn P.meaning P.IsPart P.load P.AreCut P.most (λ h. ⊤) (λ a. ⊥) self.old self.new out.old out.new (turn_of result) }
@@ -326,7 +253,7 @@ where
 
     /// All shards are found.
     fn end(&mut self) -> Turn<Vec<Part<P>>>
-        requires stopped { self.old.stage ≡ CutStage.Stopped }
+        requires stopped { self.old.stage ≡ SearchStage.Stopped }
         requires ready { IsUnbegun P.meaning self.old.plan }
         requires all { P.AreCut (P.load self.old.plan) (map P.load_of (shards_of self.old.found)) }
         requires usable { AreUsable self.old.found }
@@ -341,7 +268,7 @@ where
 
     /// An error as the answer. Want of memory is none.
     fn refuse(&mut self, error: Error) -> Turn<Vec<Part<P>>>
-        requires stopped { self.old.stage ≡ CutStage.Stopped }
+        requires stopped { self.old.stage ≡ SearchStage.Stopped }
         ensures on { (o : Posted) → LooksOn P.meaning P.IsPart P.load P.AreCut P.most (λ h. OrStarved (IsLookUpRefused h) error) (λ a. ⊥) self.old self.new o o (turn_of result) }
         ensures kept { IfKept (turn_of result) (error ≡ OutOfMemory → ⊥) }
     {
@@ -353,44 +280,12 @@ where
 
     fn answer(&mut self, answer: Result<Vec<Part<P>>>) -> Turn<Vec<Part<P>>>
         ensures turn { turn_of result ≡ Ends answer }
-        ensures state { self.new ≡ record self.old { stage = CutStage.Over } }
+        ensures state { self.new ≡ record self.old { stage = SearchStage.Over } }
     {
-        self.stage = CutStage::Over;
+        self.stage = SearchStage::Over;
         Ok(Progress::Done(answer))
     }
 }
-
-/// A look-up takes what it waits for, which is no answer to an ask.
-fn tell_call(
-    call: &mut PdCall,
-    client: &mut RetryClient,
-    now: u64,
-    arrival: Arrival,
-    out: &mut Outbox,
-) -> Turn<PdAnswer>
-    requires place { IsPlaceQuery call.old.query }
-    requires waits { call_waits call.old.stage (awaited_as arrival) }
-    requires untimed { (ask : ℕ) → awaited_as arrival ≡ TimeOf ask → ⊥ }
-    requires numbers { HasNumbers out.old }
-    ensures tells { (r : Asked) → Tells looked_up (told_by arrival out.old r) call.old call.new out.old out.new (turn_of result) }
-    ensures spends { CallSpends call.old call.new (tells_loss arrival) out.old out.new (turn_of result) }
-    ensures waits { turn_of result ≡ Waits → AwaitsLast call.new out.new }
-    ensures job { call.new.query ≡ call.old.query }
-    ensures numbers { HasNumbers out.new }
-{
-    match arrival {
-        Arrival::Reply { number, reply } => call.take_reply(client, now, number, reply, out),
-        Arrival::Lost { number } => call.lost(client, now, number, out),
-        Arrival::Slept { number } => call.slept(client, now, number, out),
-        Arrival::Time { ask: _, answer } => {
-            drop(answer);
-            unreachable!()
-        }
-    }
-}
-
-/// A look-up that was begun has no answer yet.
-fn pass_over(_progress: Progress<PdAnswer>) {}
 
 /// A plan for each shard.
 fn parts_of<P: ShardPlan>(

@@ -1,7 +1,6 @@
 //! A plan over many regions: its request is cut into shards, each of which is sent to its region and tried again.
 #![tactic(auto)]
 
-pub mod cut_stage;
 pub mod cutting;
 pub mod multi_region;
 pub mod multi_stage;

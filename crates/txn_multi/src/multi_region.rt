@@ -2,12 +2,12 @@
 ghost use Rattle.std.specs.Bool.{MatchBool};
 ghost use Rattle.std.specs.Prelude.{◌≡◌, ◌<◌, ◌^◌, ⊤, Err, IfOk, None};
 ghost use Rattle.txn_history.specs.Meaning.{started, IsUnbegun};
-ghost use Rattle.txn_history.specs.Phase.{phase_after, unheard};
+ghost use Rattle.txn_history.specs.Phase.{unheard};
 ghost use Rattle.txn_history.specs.Phase.Phase.{Running};
 ghost use Rattle.txn_history.specs.Posted.{HasNumbers};
 ghost use Rattle.txn_history.specs.Turn.{turn_of, IfEnds};
 ghost use Rattle.txn_history.specs.Turn.Turn.{Ends, Waits};
-ghost use Rattle.txn_multi.specs.Cutting.{cut_phase, ArePartsOf, IfParts};
+ghost use Rattle.txn_multi.specs.Cutting.{ArePartsOf, IfParts};
 ghost use Rattle.txn_multi.specs.Multi.{multi, multi-lawful, multi_phase, tasks_for, AfterCut, AfterTasks, Begins, Holding, IsAnswer};
 ghost use Rattle.txn_multi.specs.MultiSteps.{Takes};
 ghost use Rattle.txn_multi.specs.Task.{attempts_left};
@@ -15,6 +15,7 @@ ghost use Rattle.txn_multi.specs.Touching.{FoundTouches, MultiTouches, TaskTouch
 ghost use Rattle.txn_multi.specs.declared.multi_stage.MultiStage.TheVariants as at;
 ghost use Rattle.txn_history.specs.Arrivals.{MayArrive};
 ghost use Rattle.txn_plan.specs.Touch.{touch};
+ghost use Rattle.txn_search.specs.Search.{search_phase};
 ghost use Rattle.txn_tasks.specs.Tasks.{tasks_phase, tasks_turn};
 
 use crate::cutting::Cutting;
@@ -168,7 +169,7 @@ where
         requires inner { IsUnbegun P.meaning self.old.inner }
         requires none { self.old.tasks ≡ None }
         requires same { cutting.plan ≡ self.old.inner }
-        requires running { cut_phase cutting.stage ≡ Running }
+        requires running { search_phase cutting.stage ≡ Running }
         requires numbers { HasNumbers out.old }
         requires clock { now < 2 ^ 44 }
         ensures { Takes P.meaning P.Result.key_errors_in P.Result.region_error_in P.IsPart P.load P.AreCut P.most P.touches (touch C.looked C.learns C.leads C.drops) arrival (at.Cutting cutting) self.old self.new out.old out.new pd.old pd.new result }
@@ -191,7 +192,7 @@ where
         requires inner { IsUnbegun P.meaning self.old.inner }
         requires none { self.old.tasks ≡ None }
         requires same { cutting.plan ≡ self.old.inner }
-        requires running { turn_of turn ≡ Waits → cut_phase cutting.stage ≡ Running }
+        requires running { turn_of turn ≡ Waits → search_phase cutting.stage ≡ Running }
         requires parts { IfEnds (turn_of turn) (IfParts P.meaning P.IsPart P.load P.AreCut P.most self.old.inner) }
         requires numbers { HasNumbers out.old }
         requires clock { now < 2 ^ 44 }

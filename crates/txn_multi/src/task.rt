@@ -6,7 +6,7 @@ ghost use Rattle.txn_history.specs.Phase.Phase.{Fresh, Running};
 ghost use Rattle.txn_history.specs.Posted.{HasNumbers, Posted};
 ghost use Rattle.txn_history.specs.Turn.{IfEnds};
 ghost use Rattle.txn_kv.specs.declared.errors.Error.TheVariants.{GrpcAPI};
-ghost use Rattle.txn_multi.specs.Cutting.{cut_phase, ArePartsOf, IfParts, UnfoundIfErr};
+ghost use Rattle.txn_multi.specs.Cutting.{ArePartsOf, IfParts, UnfoundIfErr};
 ghost use Rattle.txn_multi.specs.Task.{limit_of, owed, region_task, region_task-lawful, runs_running, shared, stage_phase, stage_runs, task_for, tried, CostsOver, GoesOnAt, GoesOver, HaveFailedBy, IsChanged, IsOutcome, IsReady, IsRefused, IsTaskOf, IsUnderWay, Limited, MayGoOn, TaskReady};
 ghost use Rattle.txn_multi.specs.TaskSteps.{Takes};
 ghost use Rattle.txn_multi.specs.Touching.{change_after, IsHeeded, PlanTouches, TaskTouches};
@@ -14,6 +14,7 @@ ghost use Rattle.txn_multi.specs.declared.stage.Stage.TheVariants as at;
 ghost use Rattle.txn_history.specs.Arrivals.{MayArrive};
 ghost use Rattle.txn_plan.specs.Touch.{touch};
 ghost use Rattle.txn_retry.specs.Remedy.{delay_ms, on_loss, on_region_error};
+ghost use Rattle.txn_search.specs.Search.{search_phase};
 ghost use Rattle.txn_tasks.specs.Step.{step_turn, IsEnd, Keeps};
 ghost use Rattle.txn_tasks.specs.Tasks.{greatest};
 
@@ -181,7 +182,7 @@ where
         requires stopped { self.old.stage ≡ Stage.Stopped }
         requires job { IsReady P.meaning self.old.job }
         requires same { cutting.plan ≡ self.old.job }
-        requires running { cut_phase cutting.stage ≡ Running }
+        requires running { search_phase cutting.stage ≡ Running }
         requires numbers { HasNumbers out.old }
         ensures { Takes P.meaning P.Result.key_errors_in P.Result.region_error_in P.IsPart P.load P.AreCut P.most P.touches (touch C.looked C.learns C.leads C.drops) arrival (at.Cutting cutting) self.old self.new out.old out.new pd.old pd.new result }
     {

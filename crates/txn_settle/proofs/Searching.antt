@@ -1,5 +1,5 @@
 -- The look-up of a key's place, call by call.
-use Rattle.std.proofs.Common.{◌≡◌, ◌≢◌, inl, inr, ℕ, ◌+◌, ◌≤◌, Bool, true, false, List, Some, refl, sym, ap, subst, ◌∙◌, arith}
+use Rattle.std.proofs.Common.{◌≡◌, ◌≢◌, inl, inr, ℕ, ◌+◌, ◌≤◌, Bool, false, List, Some, refl, sym, ap, subst, ◌∙◌, arith}
 use Rattle.std.specs.Prelude.{⊤, Result, Err}
 use Rattle.std.proofs.Math.Nat.{le_refl, le_trans}
 use Rattle.std.proofs.lemmas.Bool.{false≢true}
@@ -9,8 +9,7 @@ use Rattle.txn_history.specs.Foreign.{IsForeign}
 use Rattle.txn_history.specs.Meaning.{started, Counts, Expects, Tells, Told}
 use Rattle.txn_history.specs.Moves.{Knows, Moves, Moves-before, Moves-map, Moves-quiet, Moves-then}
 use Rattle.txn_history.specs.Phase.{Awaited, unheard}
-use Rattle.txn_history.specs.Phase.Awaited.{EndOf, ReplyTo}
-use Rattle.txn_history.specs.Phase.Phase.{Fresh, Running}
+use Rattle.txn_history.specs.Phase.Phase.{Fresh}
 use Rattle.txn_history.specs.Plan.{Key}
 use Rattle.txn_history.specs.Posted.{HasNumbers, Posted, Within-refl}
 use Rattle.txn_history.specs.Spends.{Spends, calls, sleeps, spare}
@@ -23,7 +22,6 @@ use Rattle.txn_history.proofs.Numbering.{Moves-numbers}
 use Rattle.txn_history.proofs.Stepping.{Goes-meant, Steps-idle}
 use Rattle.txn_history.proofs.Telling.{Expects-quiet, Expects-then}
 use Rattle.txn_kv.specs.declared.arrival.Arrival.{Arrival}
-use Rattle.txn_kv.specs.declared.arrival.Arrival.TheVariants as arrival
 use Rattle.txn_kv.specs.declared.errors.Error.{Error}
 use Rattle.txn_kv.specs.declared.query.PdAnswer.{PdAnswer}
 use Rattle.txn_kv.specs.declared.query.PdQuery.{PdQuery}
@@ -31,27 +29,20 @@ use Rattle.txn_kv.specs.declared.query.PdQuery.TheVariants as query
 use Rattle.txn_kv.specs.declared.request.Request.{Request}
 use Rattle.txn_kv.specs.declared.request.Request.TheVariants.{GetRegion, GetRegionById, GetStore}
 use Rattle.txn_plan.specs.LookUp.{call_waits, fresh-unbegun, looked_up}
-use Rattle.txn_plan.proofs.LastPosted.{calls_none, never_fails, one_awaited}
+use Rattle.txn_plan.proofs.LastPosted.{calls_none, never_fails}
 use Rattle.txn_region.specs.Clients.{IsPlaceQuery, IsRefused, OrStarved}
-use Rattle.txn_settle.specs.Search.{search_phase, search_waits, searching, searching-lawful, tells_loss, GivesPlace, Holds, IsOut, IsRefusal, IsTaken, SearchAt, SearchesOn}
+use Rattle.txn_search.specs.Search.{search_phase, search_waits, tells_loss, Holds, IsOut, IsTaken, SearchAt}
+use Rattle.txn_search.specs.declared.search_stage.SearchStage.TheVariants as search
+use Rattle.txn_search.specs.declared.search_stage.SearchStage.{SearchStage}
+use Rattle.txn_search.proofs.Held.{asks_none, held_at, held_fits, held_out, held_query, held_runs, held_waits, loss_fails, waits_held}
+use Rattle.txn_settle.specs.Search.{searching, searching-lawful, GivesPlace, IsRefusal, SearchesOn}
 use Rattle.txn_settle.specs.declared.key_search.KeySearch.{KeySearch}
-use Rattle.txn_settle.specs.declared.search_stage.SearchStage.{SearchStage}
-use Rattle.txn_settle.specs.declared.search_stage.SearchStage.TheVariants as search
 use Rattle.txn_tso.specs.Calling.{CallFits, MayAsk}
-use Rattle.txn_tso.specs.Counting.{asks_of, CallSpends}
+use Rattle.txn_tso.specs.Counting.{CallSpends}
 use Rattle.txn_tso.specs.Placement.{fresh, request_of}
 use Rattle.txn_tso.specs.declared.pd_call.PdCall.{PdCall}
 
--- a query for a place asks for no timestamp
-pub asks_none : (q : PdQuery) → IsPlaceQuery q → asks_of q ≡ 0
-asks_none (query.Region key) p = refl
-asks_none (query.RegionId id) p = refl
-asks_none (query.Store id) p = refl
-asks_none query.Stores p = absurd p
-asks_none query.Time p = absurd p
-asks_none (query.Safepoint t) p = absurd p
-
--- and rests on nothing
+-- A query for a place rests on nothing.
 
 the : (a b : Request) → Some a ≡ Some b → a ≡ b
 the a b e = cc
@@ -67,57 +58,6 @@ queried h (query.Safepoint at) r p e = absurd p
 MayAsk-foreign : (call : PdCall) → IsPlaceQuery call.query → (h : List Event) (r : Request) → MayAsk call h r → IsForeign h r
 MayAsk-foreign call place h r (inl a) = queried h call.query r place a
 MayAsk-foreign call place h r (inr e) = subst (IsForeign h) (sym e) tt
-
--- A query that is out is the one that is waited for.
-
-held_fits : (call : PdCall) (g : SearchStage) (o : Posted) (h : List Event) → Holds call g → SearchAt g o h → CallFits call o h
-held_fits call search.Fresh o h i f = absurd i
-held_fits call (search.Asking c n) o h i f = subst (λ (d : PdCall). CallFits d o h) i.0 f.0
-held_fits call (search.Resting c n) o h i f = subst (λ (d : PdCall). CallFits d o h) i.0 f.0
-held_fits call search.Over o h i f = absurd i
-held_fits call search.Stopped o h i f = absurd i
-
-held_at : (call : PdCall) (g : SearchStage) (o : Posted) (h : List Event) → Holds call g → CallFits call o h → SearchAt g o h
-held_at call search.Fresh o h i f = absurd i
-held_at call (search.Asking c n) o h i f = (rw i.0 f, rw i.0 i.1)
-held_at call (search.Resting c n) o h i f = (rw i.0 f, rw i.0 i.1)
-held_at call search.Over o h i f = absurd i
-held_at call search.Stopped o h i f = absurd i
-
-held_out : (call : PdCall) (g : SearchStage) → IsPlaceQuery call.query → Holds call g → IsOut g
-held_out call search.Fresh e i = absurd i
-held_out call (search.Asking c n) e i = (rw i.0 e, rw i.0 i.1)
-held_out call (search.Resting c n) e i = (rw i.0 e, rw i.0 i.1)
-held_out call search.Over e i = absurd i
-held_out call search.Stopped e i = absurd i
-
-held_waits : (call : PdCall) (g : SearchStage) (a : Awaited) → Holds call g → call_waits call.stage a → search_waits g a
-held_waits call search.Fresh a i w = absurd i
-held_waits call (search.Asking c n) a i w = one_awaited call.stage a (ReplyTo n) w i.1
-held_waits call (search.Resting c n) a i w = one_awaited call.stage a (EndOf n) w i.1
-held_waits call search.Over a i w = absurd i
-held_waits call search.Stopped a i w = absurd i
-
-pub waits_held : (call : PdCall) (g : SearchStage) (a : Awaited) → Holds call g → search_waits g a → call_waits call.stage a
-waits_held call search.Fresh a i w = absurd i
-waits_held call (search.Asking c n) a i w = rw w i.1
-waits_held call (search.Resting c n) a i w = rw w i.1
-waits_held call search.Over a i w = absurd i
-waits_held call search.Stopped a i w = absurd i
-
-held_runs : (call : PdCall) (g : SearchStage) → Holds call g → search_phase g ≡ Running
-held_runs call search.Fresh i = absurd i
-held_runs call (search.Asking c n) i = refl
-held_runs call (search.Resting c n) i = refl
-held_runs call search.Over i = absurd i
-held_runs call search.Stopped i = absurd i
-
--- a loss may be bettered by a new run
-loss_fails : (a : Arrival) → tells_loss a ≡ true → tells_failure a ≡ true
-loss_fails (arrival.Reply n x) e = absurd (false≢true e)
-loss_fails (arrival.Lost n) e = refl
-loss_fails (arrival.Slept n) e = absurd (false≢true e)
-loss_fails (arrival.Time n x) e = absurd (false≢true e)
 
 -- The steps of the look-up.
 module _ {T : Type 0} (is_of : Key → T → Type 0) where
@@ -156,7 +96,7 @@ module _ {T : Type 0} (is_of : Key → T → Type 0) where
     moves = Moves-quiet refl (λ h f. held_at call new.stage o h held f) tt;
     expects = Expects-quiet (λ a w. (waits_held call new.stage a held w, λ x. x));
     next = held_runs call new.stage held;
-    ready = held_out call new.stage place held;
+    ready = held_out IsPlaceQuery call new.stage place held;
     key = ap (λ (s : KeySearch T). s.key) e;
     calls = le_refl _;
     sleeps = le_refl _;
@@ -194,20 +134,18 @@ module _ {T : Type 0} (is_of : Key → T → Type 0) where
   }
 
   -- an event of the query is an event of the look-up
-  pub heard : {told : Told} {old mid new : KeySearch T} {a : Awaited} {call call' : PdCall} {from via to : Posted} {p : Turn (Result PdAnswer Error)} {turn : Turn (Result T Error)}
-      → IsTaken a old mid call
+  pub heard : {told : Told} {old new : KeySearch T} {g : SearchStage} {a : Awaited} {call call' : PdCall} {from via to : Posted} {p : Turn (Result PdAnswer Error)} {turn : Turn (Result T Error)}
+      → IsOut IsPlaceQuery old.stage → IsTaken a old.stage g call
       → Tells looked_up told call call' from via p
-      → SearchesOn is_of (Knows p (λ h. CallFits call' via h) (λ h v. looked_up.gives call' h v)) (call_waits call'.stage) mid new via to turn
+      → SearchesOn is_of (Knows p (λ h. CallFits call' via h) (λ h v. looked_up.gives call' h v)) (call_waits call'.stage) (record old { stage = g }) new via to turn
       → Tells (searching is_of) told old new from to turn
-  heard {told = told} {old = old} {mid = mid} {new = new} {call = call} {call' = call'} {from = from} {via = via} {to = to} {p = p} {turn = turn} taken t s =
-      let key : mid.key ≡ old.key = ap (λ (c : KeySearch T). c.key) taken.same in
+  heard {told = told} {old = old} {call = call} {call' = call'} {from = from} {via = via} out taken t s =
       let e = t.expects in
       let first : Expects (search_waits old.stage) (call_waits call'.stage) told.heard from via =
       record { sends = e.sends; pushed = e.pushed; only = λ b w. elim (e.only b w) [ inl x ↦ inl (held_waits call old.stage b taken.held x.0, x.1) | inr x ↦ inr x ] } in
       record {
-        moves = Moves-then (Moves-map told.within (λ h f. (held_fits call old.stage from h taken.held f.0, f.1)) (λ h f k r x. MayAsk-foreign call taken.place k r x) (λ h f k w i. i) (λ h f k v g. t.job.gave k v g) t.moves)
-            (subst (λ (q : Key). Moves IsForeign (Knows p (λ h. CallFits call' via h) (λ h v. looked_up.gives call' h v)) (λ h. SearchAt new.stage to h) (λ h v. GivesPlace is_of q h v) (λ h. h) via to turn) key s.moves);
-        job = record { asked = λ h r x. x; given = λ h v g. subst (λ (q : Key). GivesPlace is_of q h v) (s.key ∙ key) g; gave = λ h v g. subst (λ (q : Key). GivesPlace is_of q h v) (sym (s.key ∙ key)) g };
+        moves = Moves-then (Moves-map told.within (λ h f. (held_fits call old.stage from h taken.held f.0, f.1)) (λ h f k r x. MayAsk-foreign call (held_query IsPlaceQuery call old.stage out taken.held) k r x) (λ h f k w i. i) (λ h f k v g. t.job.gave k v g) t.moves) s.moves;
+        job = record { asked = λ h r x. x; given = λ h v g. subst (λ (q : Key). GivesPlace is_of q h v) s.key g; gave = λ h v g. subst (λ (q : Key). GivesPlace is_of q h v) (sym s.key) g };
         expects = Expects-then first s.expects;
       }
 
@@ -252,18 +190,18 @@ module _ {T : Type 0} (is_of : Key → T → Type 0) where
       }
 
   -- what came is for its query
-  pub Search-steps : {C : Type 0} (a : Arrival) {old mid new : KeySearch T} {call call' : PdCall} {from via to : Posted} {pd pd' : C} {p : Turn (Result PdAnswer Error)} {turn : Turn (Result T Error)}
-      → IsTaken (awaited_as a) old mid call
+  pub Search-steps : {C : Type 0} (a : Arrival) {old new : KeySearch T} {g : SearchStage} {call call' : PdCall} {from via to : Posted} {pd pd' : C} {p : Turn (Result PdAnswer Error)} {turn : Turn (Result T Error)}
+      → IsOut IsPlaceQuery old.stage → IsTaken (awaited_as a) old.stage g call
       → ((r : Request) → Tells looked_up (told_by a from r) call call' from via p)
       → CallSpends call call' (tells_loss a) from via p
       → HasNumbers via
-      → SearchesOn is_of (Knows p (λ h. CallFits call' via h) (λ h v. looked_up.gives call' h v)) (call_waits call'.stage) mid new via to turn
+      → SearchesOn is_of (Knows p (λ h. CallFits call' via h) (λ h v. looked_up.gives call' h v)) (call_waits call'.stage) (record old { stage = g }) new via to turn
       → Steps (searching is_of) (λ told o s t x y. ⊤) (arrives a from) old new from to pd pd' turn
   unfolding arrives
-  Search-steps a {call = call} {call' = call'} {from = from} {via = via} {p = p} taken t spent numbers s = record {
-    tells = λ r. heard taken (t r) s;
+  Search-steps a {old = old} {call = call} {call' = call'} {from = from} {via = via} {p = p} out taken t spent numbers s = record {
+    tells = λ r. heard out taken (t r) s;
     goes = Goes-meant taken.waits s.next;
-    counts = counted (le_trans s.calls (calls_none (tells_loss a) call call' from via p (asks_none call.query taken.place) spent))
+    counts = counted (le_trans s.calls (calls_none (tells_loss a) call call' from via p (asks_none call.query (held_query IsPlaceQuery call old.stage out taken.held)) spent))
         (let x = s.sleeps in let y = spent.stopped_rests in let z = spare-more (tells_loss a) (tells_failure a) false 1 (loss_fails a) in omega arith);
     client = λ r. tt;
     ready = s.ready;
@@ -271,11 +209,11 @@ module _ {T : Type 0} (is_of : Key → T → Type 0) where
   }
 
   -- what came is not for it
-  pub Search-deaf : {C : Type 0} (a : Arrival) {old new : KeySearch T} {o : Posted} {pd : C} {turn : Turn (Result T Error)}
-      → IsOut old.stage → HasNumbers o
-      → (new ≡ old) × (search_waits old.stage (awaited_as a) → ⊥)
-      → turn ≡ unheard (search_phase new.stage)
-      → Steps (searching is_of) (λ told o s t x y. ⊤) (arrives a o) old new o o pd pd turn
+  pub Search-deaf : {C : Type 0} (a : Arrival) {old : KeySearch T} {g : SearchStage} {o : Posted} {pd : C} {turn : Turn (Result T Error)}
+      → IsOut IsPlaceQuery old.stage → HasNumbers o
+      → (g ≡ old.stage) × (search_waits old.stage (awaited_as a) → ⊥)
+      → turn ≡ unheard (search_phase g)
+      → Steps (searching is_of) (λ told o s t x y. ⊤) (arrives a o) old (record old { stage = g }) o o pd pd turn
   Search-deaf a ready numbers stays e = rw stays.0 (Steps-deaf a (searching-lawful is_of) stays.1 (rw stays.0 at e) (λ r. tt) ready numbers)
 
   -- it begins
@@ -300,7 +238,7 @@ module _ {T : Type 0} (is_of : Key → T → Type 0) where
 
   -- it has begun before
   pub Search-begun : {C : Type 0} {old : KeySearch T} {o : Posted} {pd : C} {turn : Turn (Result T Error)}
-      → IsOut old.stage → HasNumbers o
+      → IsOut IsPlaceQuery old.stage → HasNumbers o
       → (search_phase old.stage ≡ Fresh → ⊥)
       → turn ≡ unheard (search_phase old.stage)
       → Steps (searching is_of) (λ told o s t x y. ⊤) begins old old o o pd pd turn

@@ -8,7 +8,6 @@ pub mod key_search;
 pub mod place;
 pub mod requests;
 pub mod resolve_locks_context;
-pub mod search_stage;
 pub mod send;
 
 pub use by_primary::ByPrimary;

@@ -5,7 +5,6 @@ use crate::cleaned_regions::CleanedRegions;
 use crate::expiry::PartedLocks;
 use crate::key_search::KeySearch;
 use crate::resolve_locks_context::ResolveLocksContext;
-use crate::search_stage::SearchStage;
 use std::marker::Send;
 use txn_kv::RegionWithLeader;
 use txn_region::RegionStore;
@@ -19,7 +18,6 @@ pub fn types_can_move() {
     can_move::<CleanedRegions>();
     can_move::<ResolveLocksContext>();
     can_move::<PartedLocks>();
-    can_move::<SearchStage>();
     can_move::<KeySearch<RegionStore>>();
     can_move::<KeySearch<RegionWithLeader>>();
 }

@@ -17,19 +17,20 @@ use Rattle.txn_kv.specs.declared.arrival.Arrival.{Arrival}
 use Rattle.txn_kv.specs.declared.errors.Error.{Error}
 use Rattle.txn_kv.specs.declared.message.RegionErr.{RegionErr}
 use Rattle.txn_region.specs.declared.store.Store.{Store}
+use Rattle.txn_search.specs.Search.{search_phase, IsOut}
+use Rattle.txn_search.specs.declared.search_stage.SearchStage.TheVariants as search_stage
 use Rattle.txn_stores.proofs.AllRunning.{with_run, Tasks-counts, Tasks-goes, Tasks-ready, Tasks-tells}
 use Rattle.txn_stores.proofs.AllSearching.{with_search, Search-counts, Search-goes, Search-ready, Search-tells, Start-goes}
 use Rattle.txn_stores.proofs.Tasking.{stands}
 use Rattle.txn_stores.specs.AllFollows.{SearchFollows, TasksFollow}
 use Rattle.txn_stores.specs.AllLaws.{all_stores-lawful}
 use Rattle.txn_stores.specs.AllStores.{all_phase, all_stores, all_waits, ids_of, AllAt, AllReady, IfRun, IsFreshAll, ReadyAt, TasksReady}
-use Rattle.txn_stores.specs.Search.{search_phase, searching, IsOut}
+use Rattle.txn_stores.specs.Search.{searching, IsStoresQuery}
 use Rattle.txn_stores.specs.StoreTask.{is_running, store_of, store_task, AreStores, IsTaskOf}
 use Rattle.txn_stores.specs.declared.all_stage.AllStage.{AllStage}
 use Rattle.txn_stores.specs.declared.all_stage.AllStage.TheVariants as stage
 use Rattle.txn_stores.specs.declared.all_stores.RetryableAllStores.{RetryableAllStores}
 use Rattle.txn_stores.specs.declared.all_stores.StoreTasks.{StoreTasks}
-use Rattle.txn_stores.specs.declared.search_stage.SearchStage.TheVariants as search_stage
 use Rattle.txn_stores.specs.declared.store_search.StoreSearch.{StoreSearch}
 use Rattle.txn_stores.specs.declared.store_task.StoreTask.{StoreTask}
 use Rattle.txn_tasks.specs.Tasks.{tasks_phase, Outcome}
@@ -75,7 +76,7 @@ module _ {S R : Type 0} (m : Meaning S (Result R Error)) (keys : R → List Erro
 
   -- The stores are looked up.
 
-  out_at : (t : RetryableAllStores S R) → t.stage ≡ stage.Searching → AllReady m keys region t → IsOut t.search.stage × (search_phase t.search.stage ≡ Running) × (t.run ≡ None)
+  out_at : (t : RetryableAllStores S R) → t.stage ≡ stage.Searching → AllReady m keys region t → IsOut IsStoresQuery t.search.stage × (search_phase t.search.stage ≡ Running) × (t.run ≡ None)
   out_at t at r = subst (λ (g : AllStage). ReadyAt m keys region t g) at r.at
 
   -- what came is told to the search
@@ -107,7 +108,7 @@ module _ {S R : Type 0} (m : Meaning S (Result R Error)) (keys : R → List Erro
   fresh_search : (t : RetryableAllStores S R) → IsFreshAll m t → t.search.stage ≡ search_stage.Fresh
   fresh_search t f = ap (λ (s : StoreSearch). s.stage) f.search
 
-  pub begins_out : (t : RetryableAllStores S R) → t.stage ≡ stage.Fresh → AllReady m keys region t → IsOut t.search.stage
+  pub begins_out : (t : RetryableAllStores S R) → t.stage ≡ stage.Fresh → AllReady m keys region t → IsOut IsStoresQuery t.search.stage
   begins_out t at r = rw (fresh_search t (fresh_at t at r)) tt
 
   pub Begin-steps : {C : Type 0} {touches : Told → Posted → StoreSearch → StoreSearch → C → C → Type 0}

@@ -18,10 +18,11 @@ use Rattle.txn_kv.specs.ErrorView.{ErrorView}
 use Rattle.txn_kv.specs.declared.errors.Error.{Error}
 use Rattle.txn_kv.specs.declared.message.RegionErr.{RegionErr}
 use Rattle.txn_region.specs.declared.store.Store.{Store}
+use Rattle.txn_search.specs.Search.{search_phase, search_waits, IsOut}
 use Rattle.txn_stores.proofs.AllRunning.{same_plan}
 use Rattle.txn_stores.specs.AllFollows.{SearchFollows}
 use Rattle.txn_stores.specs.AllStores.{all_bears, all_left, all_phase, all_stores, all_waits, run_left, run_width, AllAsk, AllFits, AllReady}
-use Rattle.txn_stores.specs.Search.{search_phase, search_waits, searching, GivesStores, IsOut}
+use Rattle.txn_stores.specs.Search.{searching, GivesStores, IsStoresQuery}
 use Rattle.txn_stores.specs.declared.all_stage.AllStage.TheVariants as stage
 use Rattle.txn_stores.specs.declared.all_stores.RetryableAllStores.{RetryableAllStores}
 use Rattle.txn_stores.specs.declared.store_search.StoreSearch.{StoreSearch}
@@ -184,7 +185,7 @@ module _ {S R : Type 0} (m : Meaning S (Result R Error)) (keys : R → List Erro
   pub Search-ready : {C : Type 0} (old new : RetryableAllStores S R) (search : StoreSearch) {from to : Posted} {pd pd' : C} (p : Turn (Result (Vec Store) Error)) {turn : Turn (Result (Vec (Result R Error)) Error)}
       → IsUnbegun m old.inner
       → old.run ≡ None
-      → IsOut search.stage
+      → IsOut IsStoresQuery search.stage
       → search_phase search.stage ≡ phase_after p
       → SearchFollows m keys region at_store p (with_search old search) new from to pd pd' turn
       → AllReady m keys region new

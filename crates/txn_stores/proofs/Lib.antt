@@ -2,7 +2,6 @@ pub mod Settled
 pub mod Tasking
 pub mod Waking
 pub mod Running
-pub mod Looking
 pub mod Searching
 pub mod AllRunning
 pub mod AllSearching

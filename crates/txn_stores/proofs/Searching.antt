@@ -4,19 +4,19 @@ use Rattle.std.specs.Prelude.{⊤, Result, Ok, Err}
 use Rattle.std.specs.Global.{Vec}
 use Rattle.std.proofs.Math.Nat.{le_refl, le_trans}
 use Rattle.std.proofs.lemmas.Bool.{false≢true}
-use Rattle.txn_history.specs.Arrivals.{arrives, awaited_as}
+use Rattle.txn_history.specs.Arrivals.{arrives, awaited_as, tells_failure, told_by}
 use Rattle.txn_history.specs.Event.{Event}
 use Rattle.txn_history.specs.Meaning.{started, Counts, Expects, Tells, Told}
 use Rattle.txn_history.specs.Moves.{Moves-before, Moves-map, Moves-quiet, Moves-then}
 use Rattle.txn_history.specs.Phase.{Awaited, unheard}
-use Rattle.txn_history.specs.Phase.Awaited.{EndOf, ReplyTo, TimeOf}
-use Rattle.txn_history.specs.Phase.Phase.{Fresh, Running}
+use Rattle.txn_history.specs.Phase.Phase.{Fresh}
 use Rattle.txn_history.specs.Posted.{HasNumbers, Posted, Within-refl}
 use Rattle.txn_history.specs.Spends.{Spends, calls, sleeps, spare}
 use Rattle.txn_history.specs.Steps.{begins, Steps}
 use Rattle.txn_history.specs.Turn.{is_kept, IfKept-out, Turn}
 use Rattle.txn_history.specs.Turn.Turn.{Stopped, Waits, Ends}
 use Rattle.txn_history.proofs.Arriving.{Steps-deaf}
+use Rattle.txn_history.proofs.Counting.{spare-more}
 use Rattle.txn_history.proofs.Numbering.{Moves-numbers}
 use Rattle.txn_history.proofs.Stepping.{Goes-meant, Steps-idle}
 use Rattle.txn_history.proofs.Telling.{Expects-quiet, Expects-then}
@@ -26,62 +26,21 @@ use Rattle.txn_kv.specs.declared.errors.Error.TheVariants.{OutOfMemory}
 use Rattle.txn_kv.specs.declared.query.PdAnswer.{PdAnswer}
 use Rattle.txn_kv.specs.declared.query.PdQuery.{PdQuery}
 use Rattle.txn_kv.specs.declared.query.PdQuery.TheVariants as query
+use Rattle.txn_kv.specs.declared.request.Request.{Request}
 use Rattle.txn_plan.specs.LookUp.{call_waits, fresh-unbegun, looked_up}
-use Rattle.txn_plan.proofs.LastPosted.{calls_none, never_fails, one_awaited}
+use Rattle.txn_plan.proofs.LastPosted.{calls_none, never_fails}
 use Rattle.txn_region.specs.Clients as clients
 use Rattle.txn_region.specs.declared.store.Store.{Store}
-use Rattle.txn_stores.specs.Search.{search_phase, search_waits, searching, searching-lawful, GivesStores, Holds, IsHeard, IsOut, IsRefusal, IsSearched, IsTaken, Looks, SearchAt, SearchesOn}
-use Rattle.txn_stores.specs.declared.search_stage.SearchStage.{SearchStage}
-use Rattle.txn_stores.specs.declared.search_stage.SearchStage.TheVariants as search
+use Rattle.txn_search.specs.Search.{search_phase, search_waits, tells_loss, Holds, IsOut, IsTaken}
+use Rattle.txn_search.specs.declared.search_stage.SearchStage.TheVariants as search
+use Rattle.txn_search.specs.declared.search_stage.SearchStage.{SearchStage}
+use Rattle.txn_search.proofs.Held.{held_at, held_fits, held_out, held_query, held_runs, held_waits, loss_fails, waits_held}
+use Rattle.txn_stores.specs.Search.{searching, searching-lawful, GivesStores, IsHeard, IsRefusal, IsSearched, IsStoresQuery, SearchesOn}
 use Rattle.txn_stores.specs.declared.store_search.StoreSearch.{StoreSearch}
 use Rattle.txn_tso.specs.Calling.{CallFits, IsRefused, IsTold, MayAsk}
 use Rattle.txn_tso.specs.Counting.{asks_of, CallSpends}
 use Rattle.txn_tso.specs.Placement.{fresh}
 use Rattle.txn_tso.specs.declared.pd_call.PdCall.{PdCall}
-
--- A look-up that is out is the one that is waited for.
-
-held_fits : (call : PdCall) (g : SearchStage) (o : Posted) (h : List Event) → Holds call g → SearchAt g o h → CallFits call o h
-held_fits call search.Fresh o h i f = absurd i
-held_fits call (search.Asking c n) o h i f = subst (λ (d : PdCall). CallFits d o h) i.0 f.0
-held_fits call (search.Resting c n) o h i f = subst (λ (d : PdCall). CallFits d o h) i.0 f.0
-held_fits call search.Over o h i f = absurd i
-held_fits call search.Stopped o h i f = absurd i
-
-held_at : (call : PdCall) (g : SearchStage) (o : Posted) (h : List Event) → Holds call g → CallFits call o h → SearchAt g o h
-held_at call search.Fresh o h i f = absurd i
-held_at call (search.Asking c n) o h i f = (rw i.0 f, rw i.0 i.1)
-held_at call (search.Resting c n) o h i f = (rw i.0 f, rw i.0 i.1)
-held_at call search.Over o h i f = absurd i
-held_at call search.Stopped o h i f = absurd i
-
-held_out : (call : PdCall) (g : SearchStage) → call.query ≡ query.Stores → Holds call g → IsOut g
-held_out call search.Fresh e i = absurd i
-held_out call (search.Asking c n) e i = (rw i.0 e, rw i.0 i.1)
-held_out call (search.Resting c n) e i = (rw i.0 e, rw i.0 i.1)
-held_out call search.Over e i = absurd i
-held_out call search.Stopped e i = absurd i
-
-held_waits : (call : PdCall) (g : SearchStage) (a : Awaited) → Holds call g → call_waits call.stage a → search_waits g a
-held_waits call search.Fresh a i w = absurd i
-held_waits call (search.Asking c n) a i w = one_awaited call.stage a (ReplyTo n) w i.1
-held_waits call (search.Resting c n) a i w = one_awaited call.stage a (EndOf n) w i.1
-held_waits call search.Over a i w = absurd i
-held_waits call search.Stopped a i w = absurd i
-
-pub waits_held : (call : PdCall) (g : SearchStage) (a : Awaited) → Holds call g → search_waits g a → call_waits call.stage a
-waits_held call search.Fresh a i w = absurd i
-waits_held call (search.Asking c n) a i w = rw w i.1
-waits_held call (search.Resting c n) a i w = rw w i.1
-waits_held call search.Over a i w = absurd i
-waits_held call search.Stopped a i w = absurd i
-
-held_runs : (call : PdCall) (g : SearchStage) → Holds call g → search_phase g ≡ Running
-held_runs call search.Fresh i = absurd i
-held_runs call (search.Asking c n) i = refl
-held_runs call (search.Resting c n) i = refl
-held_runs call search.Over i = absurd i
-held_runs call search.Stopped i = absurd i
 
 -- the look-up is that of all stores
 
@@ -127,23 +86,24 @@ waiting {new = new} {call = call} {o = o} e held fits = record {
   moves = Moves-quiet refl (λ h f. held_at call new.stage o h held (fits h f)) tt;
   expects = Expects-quiet (λ a w. (waits_held call new.stage a held w, λ x. x));
   next = held_runs call new.stage held;
-  ready = held_out call new.stage e held;
+  ready = held_out IsStoresQuery call new.stage e held;
   calls = le_refl _;
   sleeps = le_refl _;
 }
 
 -- an event of the look-up is an event of the search
-pub heard : {told : Told} {old mid new : StoreSearch} {a : Awaited} {call call' : PdCall} {from via to : Posted} {p : Turn (Result PdAnswer Error)} {turn : Turn (Result (Vec Store) Error)}
-    → IsTaken a old mid call
+pub heard : {told : Told} {old new : StoreSearch} {g : SearchStage} {a : Awaited} {call call' : PdCall} {from via to : Posted} {p : Turn (Result PdAnswer Error)} {turn : Turn (Result (Vec Store) Error)}
+    → IsOut IsStoresQuery old.stage → IsTaken a old.stage g call
     → Tells looked_up told call call' from via p
     → SearchesOn (λ h. IsHeard call' p via h) (call_waits call'.stage) new via to turn
     → Tells searching told old new from to turn
-heard {told = told} {old = old} {call = call} {call' = call'} {from = from} {via = via} taken t s =
+heard {told = told} {old = old} {call = call} {call' = call'} {from = from} {via = via} out taken t s =
+    let stores : call.query ≡ query.Stores = held_query IsStoresQuery call old.stage out taken.held in
     let e = t.expects in
     let first : Expects (search_waits old.stage) (call_waits call'.stage) told.heard from via =
     record { sends = e.sends; pushed = e.pushed; only = λ b w. elim (e.only b w) [ inl x ↦ inl (held_waits call old.stage b taken.held x.0, x.1) | inr x ↦ inr x ] } in
     record {
-      moves = Moves-then (Moves-map told.within (λ h f. (held_fits call old.stage from h taken.held f.0, f.1)) (λ h f k r x. asks_stores call k r taken.query x) (λ h f k w i. i) (λ h f k v g. gives_stores call k v taken.query g) t.moves) s.moves;
+      moves = Moves-then (Moves-map told.within (λ h f. (held_fits call old.stage from h taken.held f.0, f.1)) (λ h f k r x. asks_stores call k r stores x) (λ h f k w i. i) (λ h f k v g. gives_stores call k v stores g) t.moves) s.moves;
       job = record { asked = λ h r x. x; given = λ h v g. g; gave = λ h v g. g };
       expects = Expects-then first s.expects;
     }
@@ -187,27 +147,30 @@ asked {call = call} {call' = call'} {from = from} {to = to} p e kept t spent s =
     }
 
 -- what came is for its look-up
-pub Search-steps : {C : Type 0} (a : Arrival) {old mid new : StoreSearch} {call call' : PdCall} {from via to : Posted} {pd pd' : C} {p : Turn (Result PdAnswer Error)} {turn : Turn (Result (Vec Store) Error)}
-    → IsTaken (awaited_as a) old mid call
-    → Looks a call call' from via p
+pub Search-steps : {C : Type 0} (a : Arrival) {old new : StoreSearch} {g : SearchStage} {call call' : PdCall} {from via to : Posted} {pd pd' : C} {p : Turn (Result PdAnswer Error)} {turn : Turn (Result (Vec Store) Error)}
+    → IsOut IsStoresQuery old.stage → IsTaken (awaited_as a) old.stage g call
+    → ((r : Request) → Tells looked_up (told_by a from r) call call' from via p)
+    → CallSpends call call' (tells_loss a) from via p
+    → HasNumbers via
     → SearchesOn (λ h. IsHeard call' p via h) (call_waits call'.stage) new via to turn
     → Steps searching (λ told o s t x y. ⊤) (arrives a from) old new from to pd pd' turn
 unfolding arrives
-Search-steps a taken l s = record {
-  tells = λ r. heard taken (l.tells r) s;
+Search-steps a {old = old} {call = call} {call' = call'} {from = from} {via = via} {p = p} out taken t spent numbers s = record {
+  tells = λ r. heard out taken (t r) s;
   goes = Goes-meant taken.waits s.next;
-  counts = counted (le_trans s.calls l.calls) (le_trans s.sleeps l.sleeps);
+  counts = counted (le_trans s.calls (calls_none (tells_loss a) call call' from via p (ap asks_of (held_query IsStoresQuery call old.stage out taken.held)) spent))
+      (let x = s.sleeps in let y = spent.stopped_rests in let z = spare-more (tells_loss a) (tells_failure a) false 1 (loss_fails a) in omega arith);
   client = λ r. tt;
   ready = s.ready;
-  numbers = Moves-numbers s.moves l.numbers;
+  numbers = Moves-numbers s.moves numbers;
 }
 
 -- what came is not for it
-pub Search-deaf : {C : Type 0} (a : Arrival) {old new : StoreSearch} {o : Posted} {pd : C} {turn : Turn (Result (Vec Store) Error)}
-    → IsOut old.stage → HasNumbers o
-    → (new ≡ old) × (search_waits old.stage (awaited_as a) → ⊥)
-    → turn ≡ unheard (search_phase new.stage)
-    → Steps searching (λ told o s t x y. ⊤) (arrives a o) old new o o pd pd turn
+pub Search-deaf : {C : Type 0} (a : Arrival) {old : StoreSearch} {g : SearchStage} {o : Posted} {pd : C} {turn : Turn (Result (Vec Store) Error)}
+    → IsOut IsStoresQuery old.stage → HasNumbers o
+    → (g ≡ old.stage) × (search_waits old.stage (awaited_as a) → ⊥)
+    → turn ≡ unheard (search_phase g)
+    → Steps searching (λ told o s t x y. ⊤) (arrives a o) old (record old { stage = g }) o o pd pd turn
 Search-deaf a ready numbers stays e = rw stays.0 (Steps-deaf a searching-lawful stays.1 (rw stays.0 at e) (λ r. tt) ready numbers)
 
 -- it begins
@@ -232,20 +195,12 @@ Search-begins numbers fresh s = let e = s.expects in record {
 
 -- it has begun before
 pub Search-begun : {C : Type 0} {old : StoreSearch} {o : Posted} {pd : C} {turn : Turn (Result (Vec Store) Error)}
-    → IsOut old.stage → HasNumbers o
+    → IsOut IsStoresQuery old.stage → HasNumbers o
     → (search_phase old.stage ≡ Fresh → ⊥)
     → turn ≡ unheard (search_phase old.stage)
     → Steps searching (λ told o s t x y. ⊤) begins old old o o pd pd turn
 unfolding begins
 Search-begun ready numbers other e = Steps-idle searching-lawful other (λ r a heard w. heard) e (λ r. tt) ready numbers
-
--- it waits for no timestamp
-pub never_timed : (g : SearchStage) (ask : ℕ) → search_waits g (TimeOf ask) → ⊥
-never_timed search.Fresh ask w = w
-never_timed (search.Asking call n) ask w = cc
-never_timed (search.Resting call n) ask w = cc
-never_timed search.Over ask w = w
-never_timed search.Stopped ask w = w
 
 -- it rests on less
 pub from_less : {known more : List Event → Type 0} {was : Awaited → Type 0} {new : StoreSearch} {from to : Posted} {turn : Turn (Result (Vec Store) Error)}

@@ -17,13 +17,14 @@ use Rattle.txn_kv.specs.declared.query.PdQuery.TheVariants as query
 use Rattle.txn_kv.specs.declared.request.Request.{Request}
 use Rattle.txn_plan.specs.LookUp.{looked_up}
 use Rattle.txn_region.specs.declared.store.Store.{Store}
-use Rattle.txn_stores.specs.Search.{search_phase, search_waits, searching, stores_in, GivesStores, IsOut}
+use Rattle.txn_search.specs.Search.{search_phase, search_waits, IsOut}
+use Rattle.txn_search.specs.declared.search_stage.SearchStage.TheVariants as search_stage
+use Rattle.txn_stores.specs.Search.{searching, stores_in, GivesStores, IsStoresQuery}
 use Rattle.txn_stores.specs.StoreTask.{is_running, store_of, store_task, AreStores, IsTaken, IsTaskOf}
 use Rattle.txn_stores.specs.declared.all_stage.AllStage.{AllStage}
 use Rattle.txn_stores.specs.declared.all_stage.AllStage.TheVariants as stage
 use Rattle.txn_stores.specs.declared.all_stores.RetryableAllStores.{RetryableAllStores}
 use Rattle.txn_stores.specs.declared.all_stores.StoreTasks.{StoreTasks}
-use Rattle.txn_stores.specs.declared.search_stage.SearchStage.TheVariants as search_stage
 use Rattle.txn_stores.specs.declared.store_task.StoreTask.{StoreTask}
 use Rattle.txn_tasks.specs.Tasks.{tasks_of, tasks_phase, AreReady, LeadsSomewhere, Outcome}
 use Rattle.txn_tasks.specs.declared.tasks.Tasks.{Tasks}
@@ -100,7 +101,7 @@ TasksReady m keys region ts = AreReady (store_task m keys region) (λ t. is_runn
 
 abbrev pub ReadyAt : {S R : Type 0} → Meaning S (Result R Error) → (R → List ErrorView) → (R → Option RegionErr) → RetryableAllStores S R → AllStage → Type 0
 ReadyAt m keys region t stage.Fresh = IsFreshAll m t
-ReadyAt m keys region t stage.Searching = IsOut t.search.stage × (search_phase t.search.stage ≡ Running) × (t.run ≡ None)
+ReadyAt m keys region t stage.Searching = IsOut IsStoresQuery t.search.stage × (search_phase t.search.stage ≡ Running) × (t.run ≡ None)
 ReadyAt m keys region t stage.Running = IfRun t.run (λ run. TasksReady m keys region run.tasks)
 ReadyAt m keys region t stage.Over = ⊤
 ReadyAt m keys region t stage.Stopped = ⊤

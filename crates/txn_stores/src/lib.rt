@@ -3,7 +3,6 @@
 
 pub mod all_stage;
 pub mod all_stores;
-pub mod search_stage;
 pub mod stage;
 pub mod store_plan;
 pub mod store_search;

@@ -1,11 +1,7 @@
 //! The look-up of all stores.
-ghost use Rattle.std.specs.Bool.{MatchBool};
-ghost use Rattle.std.specs.Prelude.{◌≡◌, ⊤, IfErr, IfOk, MatchOption, map};
-ghost use Rattle.txn_history.specs.Arrivals.{arrives, awaited_as};
+ghost use Rattle.std.specs.Prelude.{◌≡◌, ⊤, IfErr, IfOk, map};
+ghost use Rattle.txn_history.specs.Arrivals.{arrives};
 ghost use Rattle.txn_history.specs.Meaning.{IsUnbegun};
-ghost use Rattle.txn_history.specs.Phase.{unheard};
-ghost use Rattle.txn_history.specs.Phase.Awaited.{EndOf, ReplyTo};
-ghost use Rattle.txn_history.specs.Phase.Phase.{Fresh};
 ghost use Rattle.txn_history.specs.Posted.{HasNumbers, Posted};
 ghost use Rattle.txn_history.specs.Steps.{begins, Steps};
 ghost use Rattle.txn_history.specs.Turn.{turn_of};
@@ -13,18 +9,18 @@ ghost use Rattle.txn_history.specs.Turn.Turn.{Ends, Stopped, Waits};
 ghost use Rattle.txn_kv.specs.declared.query.PdQuery.TheVariants as query;
 ghost use Rattle.txn_plan.specs.LookUp.{call_waits, looked_up, AwaitsLast};
 ghost use Rattle.txn_region.specs.Clients.{IsRefused, OrStarved};
-ghost use Rattle.txn_stores.specs.Search.{search_phase, search_waits, searching, stores_in, Holds, IsHeard, IsOut, IsRefusal, IsSearched, IsTaken, Looks, SearchesOn};
+ghost use Rattle.txn_search.specs.Search.{Holds, IsOut};
+ghost use Rattle.txn_stores.specs.Search.{searching, stores_in, IsHeard, IsRefusal, IsSearched, IsStoresQuery, SearchesOn};
 ghost use Rattle.txn_tso.specs.Placement.{fresh};
 
-use crate::search_stage::SearchStage;
 use std::alloc::Global;
 use std::mem;
 use txn_kv::{
-    Arrival, Errand, Error, Internal, NoMemory, Outbox, PdAnswer, PdQuery, Progress, Result,
-    StoreMeta,
+    Arrival, Error, Internal, NoMemory, Outbox, PdAnswer, PdQuery, Progress, Result, StoreMeta,
 };
 use txn_region::{PdClient, Store, is_valid_tikv_store};
-use txn_tso::{PdCall, RetryClient};
+use txn_search::{SearchStage, pass_over, tell_query};
+use txn_tso::PdCall;
 
 /// What an event answers.
 type Turn<T> = std::result::Result<Progress<T>, NoMemory>;
@@ -48,7 +44,7 @@ impl StoreSearch {
     pub fn new(alloc: Global) -> StoreSearch
         ensures value { result ≡ record { stage = SearchStage.Fresh; alloc = alloc } }
         ensures unbegun { IsUnbegun searching result }
-        ensures ready { IsOut result.stage }
+        ensures ready { IsOut IsStoresQuery result.stage }
     {
         StoreSearch {
             stage: SearchStage::Fresh,
@@ -60,7 +56,7 @@ impl StoreSearch {
     pub fn copy(&self) -> std::result::Result<StoreSearch, NoMemory>
         ensures { IfOk result (λ copy. copy ≡ self.now) }
     {
-        if !self.is_fresh() {
+        if !self.stage.is_fresh() {
             return Err(NoMemory);
         }
         Ok(StoreSearch::new(self.alloc))
@@ -68,15 +64,15 @@ impl StoreSearch {
 
     /// Begins. Nothing is said of what it makes of the client.
     pub fn start<C: PdClient>(&mut self, pd: &mut C, now: u64, out: &mut Outbox) -> Turn<Vec<Store>>
-        requires ready { IsOut self.old.stage }
+        requires ready { IsOut IsStoresQuery self.old.stage }
         requires numbers { HasNumbers out.old }
         ensures { Steps searching (λ told from old new x y. ⊤) begins self.old self.new out.old out.new pd.old pd.new (turn_of result) }
     {
-        if self.is_fresh() {
+        if self.stage.is_fresh() {
             self.stage = SearchStage::Stopped;
             self.ask(pd, now, out)
         } else {
-            self.stay()
+            self.stage.stay()
         }
     }
 
@@ -88,82 +84,19 @@ impl StoreSearch {
         arrival: Arrival,
         out: &mut Outbox,
     ) -> Turn<Vec<Store>>
-        requires ready { IsOut self.old.stage }
+        requires ready { IsOut IsStoresQuery self.old.stage }
         requires numbers { HasNumbers out.old }
         ensures { Steps searching (λ told from old new x y. ⊤) (arrives arrival out.old) self.old self.new out.old out.new pd.old pd.new (turn_of result) }
     {
-        match self.take_call(&arrival) {
+        match self.stage.take(&arrival) {
             Some(call) => {
                 let mut call = call;
-                let turn = tell_call(&mut call, pd.retry_client(), now, arrival, out);
+                let turn = tell_query(&mut call, pd.retry_client(), now, arrival, out);
                 self.hear(call, turn, pd, out)
             }
             None => {
                 drop(arrival);
-                self.stay()
-            }
-        }
-    }
-
-    fn is_fresh(&self) -> bool
-        ensures { MatchBool result (self.now.stage ≡ SearchStage.Fresh) (search_phase self.now.stage ≡ Fresh → ⊥) }
-    {
-        matches!(self.stage, SearchStage::Fresh)
-    }
-
-    /// What comes of an event that is not for this state. The connection is lent to no look-up then.
-    fn stay(&self) -> Turn<Vec<Store>>
-        ensures { turn_of result ≡ unheard (search_phase self.now.stage) }
-    {
-        match self.stage {
-            SearchStage::Stopped => Err(NoMemory),
-            _ => Ok(Progress::Waiting),
-        }
-    }
-
-    /// Takes the look-up that waits for this.
-    fn take_call(&mut self, arrival: &Arrival) -> Option<PdCall>
-        requires { IsOut self.old.stage }
-        ensures { MatchOption result ((self.new ≡ self.old) × (search_waits self.old.stage (awaited_as arrival.now) → ⊥)) (IsTaken (awaited_as arrival.now) self.old self.new) }
-    {
-        match arrival {
-            Arrival::Reply { number, reply: _ } => self.take_asking(*number),
-            Arrival::Lost { number } => self.take_asking(*number),
-            Arrival::Slept { number } => self.take_resting(*number),
-            Arrival::Time { ask: _, answer: _ } => None,
-        }
-    }
-
-    /// Takes the look-up that waits for the reply to this request.
-    fn take_asking(&mut self, number: u64) -> Option<PdCall>
-        requires { IsOut self.old.stage }
-        ensures { MatchOption result ((self.new ≡ self.old) × (search_waits self.old.stage (ReplyTo number) → ⊥)) (IsTaken (ReplyTo number) self.old self.new) }
-    {
-        match mem::replace(&mut self.stage, SearchStage::Stopped) {
-            SearchStage::Asking {
-                call,
-                number: asked,
-            } if asked == number => Some(call),
-            stage => {
-                self.stage = stage;
-                None
-            }
-        }
-    }
-
-    /// Takes the look-up that waits for the end of this sleep.
-    fn take_resting(&mut self, number: u64) -> Option<PdCall>
-        requires { IsOut self.old.stage }
-        ensures { MatchOption result ((self.new ≡ self.old) × (search_waits self.old.stage (EndOf number) → ⊥)) (IsTaken (EndOf number) self.old self.new) }
-    {
-        match mem::replace(&mut self.stage, SearchStage::Stopped) {
-            SearchStage::Resting {
-                call,
-                number: begun,
-            } if begun == number => Some(call),
-            stage => {
-                self.stage = stage;
-                None
+                self.stage.stay()
             }
         }
     }
@@ -207,17 +140,7 @@ impl StoreSearch {
         ensures turn { turn_of result ≡ Waits }
         ensures holds { Holds call self.new.stage }
     {
-        self.stage = match out.sends.as_slice().last() {
-            Some(Errand::Send { number, .. }) => SearchStage::Asking {
-                call,
-                number: *number,
-            },
-            Some(Errand::Sleep { number, .. }) => SearchStage::Resting {
-                call,
-                number: *number,
-            },
-            _ => unreachable!(),
-        };
+        self.stage.wait(call, out);
         Ok(Progress::Waiting)
     }
 
@@ -252,30 +175,6 @@ impl StoreSearch {
         Ok(Progress::Done(answer))
     }
 }
-
-/// Tells a look-up that asks for no timestamp what it waits for.
-fn tell_call(
-    call: &mut PdCall,
-    client: &mut RetryClient,
-    now: u64,
-    arrival: Arrival,
-    out: &mut Outbox,
-) -> Turn<PdAnswer>
-    requires query { call.old.query ≡ query.Stores }
-    requires waits { call_waits call.old.stage (awaited_as arrival) }
-    requires numbers { HasNumbers out.old }
-    ensures { Looks arrival call.old call.new out.old out.new (turn_of result) }
-{
-    match arrival {
-        Arrival::Reply { number, reply } => call.take_reply(client, now, number, reply, out),
-        Arrival::Lost { number } => call.lost(client, now, number, out),
-        Arrival::Slept { number } => call.slept(client, now, number, out),
-        Arrival::Time { ask, answer } => call.take_time(client, now, ask, answer, out),
-    }
-}
-
-/// A look-up that was begun has no answer yet.
-fn pass_over(_progress: Progress<PdAnswer>) {}
 
 /// The stores of an answer that was learnt, or why it was not.
 fn take_stores(alloc: Global, answer: Result<PdAnswer>, learnt: Result<()>) -> Result<Vec<Store>>

@@ -7,7 +7,7 @@ pub returns-then-is_fresh-clause-numbers : goal.returns-then-is_fresh-clause-num
 returns-then-is_fresh-clause-numbers g c = let s = c.look.ensures.on in Moves-numbers s.moves c.requires.numbers
 
 pub returns-else-is_fresh-clause-tells : goal.returns-else-is_fresh-clause-tells
-returns-else-is_fresh-clause-tells g c = Tells-idle (cutting-lawful g.P.Plan.meaning g.P.Shardable.IsPart g.P.Shardable.load g.P.Shardable.AreCut g.P.RegionPlan.most) (λ a heard w. heard) c.stay.ensures
+returns-else-is_fresh-clause-tells g c = rw (← c.self.view_is) (Tells-idle (cutting-lawful g.P.Plan.meaning g.P.Shardable.IsPart g.P.Shardable.load g.P.Shardable.AreCut g.P.RegionPlan.most) (λ a heard w. heard) c.stay.ensures)
 
 pub returns-else-is_fresh-clause-changed : goal.returns-else-is_fresh-clause-changed
 returns-else-is_fresh-clause-changed g c = g.met.C.PdClient.looked_same _

@@ -2,12 +2,11 @@ use Rattle.std.proofs.Common.{false, true}
 use Rattle.txn_history.specs.Meaning.{missed, replied, woken}
 use Rattle.txn_history.specs.Posted.{ticket_of}
 use Rattle.txn_history.specs.Turn.{turn_of}
-use Rattle.txn_multi.proofs.Lookings.{asks_none}
 use Rattle.txn_plan.proofs.LastPosted.{calls_none, goes_on, hears_if_asking, hears_if_resting}
 use Rattle.txn_plan.proofs.LookingUp.{deaf_reply, deaf_waking, tells, tells_of, went, went_loss, went_reply, went_waking}
+use Rattle.txn_search.proofs.telling.tell_query.Goals as goal
 use Rattle.txn_tso.specs.Heeding.{hears_reply, hears_waking}
 use Rattle.txn_tso.specs.Steps.{on_loss, on_waking, standing}
-use Rattle.txn_multi.proofs.cutting.tell_call.Goals as goal
 
 pub returns-in-Reply-clause-tells : goal.returns-in-Reply-clause-tells
 returns-in-Reply-clause-tells c r =
@@ -26,7 +25,7 @@ returns-in-Reply-clause-waits c e =
     let y = standing c.take_reply.new.self c.take_reply.new.client c.take_reply.new.out in
     goes_on (hears_reply x.call.stage n) x y (turn_of c.take_reply.result) (hears_if_asking x.call.stage n (rw c.in-Reply.is at c.requires.waits))
     (went (hears_reply x.call.stage n) x.call.query c.take_reply.ensures.step.0 (turn_of c.take_reply.result) x y c.take_reply.ensures.step.2 (went_reply x.call.stage n c.in-Reply.reply c.args.now x c.take_reply.ensures.step.0 c.take_reply.ensures.step.1))
-    (calls_none false x.call y.call x.out y.out (turn_of c.take_reply.result) (asks_none x.call.query c.requires.place) c.take_reply.ensures.spends) c.take_reply.ensures.heeds e
+    (calls_none false x.call y.call x.out y.out (turn_of c.take_reply.result) c.requires.timeless c.take_reply.ensures.spends) c.take_reply.ensures.heeds e
 
 pub returns-in-Lost-clause-tells : goal.returns-in-Lost-clause-tells
 returns-in-Lost-clause-tells c r =
@@ -45,7 +44,7 @@ returns-in-Lost-clause-waits c e =
     let y = standing c.lost.new.self c.lost.new.client c.lost.new.out in
     goes_on (hears_reply x.call.stage n) x y (turn_of c.lost.result) (hears_if_asking x.call.stage n (rw c.in-Lost.is at c.requires.waits))
     (went (hears_reply x.call.stage n) x.call.query (on_loss x.call.stage n c.args.now x) (turn_of c.lost.result) x y c.lost.ensures.step (went_loss x.call.stage n c.args.now x))
-    (calls_none true x.call y.call x.out y.out (turn_of c.lost.result) (asks_none x.call.query c.requires.place) c.lost.ensures.spends) c.lost.ensures.heeds e
+    (calls_none true x.call y.call x.out y.out (turn_of c.lost.result) c.requires.timeless c.lost.ensures.spends) c.lost.ensures.heeds e
 
 pub returns-in-Slept-clause-tells : goal.returns-in-Slept-clause-tells
 returns-in-Slept-clause-tells c r =
@@ -64,4 +63,4 @@ returns-in-Slept-clause-waits c e =
     let y = standing c.slept.new.self c.slept.new.client c.slept.new.out in
     goes_on (hears_waking x.call.stage n) x y (turn_of c.slept.result) (hears_if_resting x.call.stage n (rw c.in-Slept.is at c.requires.waits))
     (went (hears_waking x.call.stage n) x.call.query (on_waking x.call.stage n c.args.now x) (turn_of c.slept.result) x y c.slept.ensures.step (went_waking x.call.stage n c.args.now x))
-    (calls_none false x.call y.call x.out y.out (turn_of c.slept.result) (asks_none x.call.query c.requires.place) c.slept.ensures.spends) c.slept.ensures.heeds e
+    (calls_none false x.call y.call x.out y.out (turn_of c.slept.result) c.requires.timeless c.slept.ensures.spends) c.slept.ensures.heeds e
