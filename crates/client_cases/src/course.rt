@@ -6,9 +6,9 @@ use crate::shown::{show_ending, show_posting};
 use case_words::{number, number_in, say, show, word};
 use std::alloc::Global;
 use std::marker::Model;
-use txn_kv::{Key, NoMemory, Request, Ticket, TsoRequest, Value};
+use txn_kv::{Key, NoMemory, Ticket, Value};
 use txn_lines::{Act, BeginOptions, ClientAct};
-use txn_side::{ClientSide, Turn};
+use txn_side::{ClientSide, Coming, Turn};
 
 /// All that is done is done at 10300 ms. After a call that found no memory there are no clients any more.
 #[derive(Drop)]
@@ -126,16 +126,18 @@ fn hear<S: ClientSide>(
     requires { S.ClientSide.ready clients.old }
     ensures { OnOk result (S.ClientSide.ready clients.new) }
 {
+    match coming(alloc, verb) {
+        Some(what) => Ok(Some(clients.tell(ticket, what, 10_300)?)),
+        None => Ok(None),
+    }
+}
+
+/// What comes, if it has such a name.
+fn coming(alloc: Global, verb: &str) -> Option<Coming> {
     match verb {
-        "woken" => Ok(Some(clients.slept(ticket, 10_300)?)),
-        "lost" => {
-            let request = Request::Tso(TsoRequest { count: 1 });
-            Ok(Some(clients.lost(ticket, &request, 10_300)?))
-        }
-        _ => match reply(alloc, verb) {
-            Some(reply) => Ok(Some(clients.take_reply(ticket, reply, 10_300)?)),
-            None => Ok(None),
-        },
+        "woken" => Some(Coming::Slept),
+        "lost" => Some(Coming::Lost),
+        _ => reply(alloc, verb).map(Coming::Reply),
     }
 }
 

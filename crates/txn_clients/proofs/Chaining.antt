@@ -99,14 +99,14 @@ module _ {P : Type 0} where
   -- What ended right
 
   pub ends_none : (at : ℕ → CallOf) (t : Clients P) (h : List Event) (es fs : List Ending) → fs ≡ es → EndsRight at t h es fs
-  ends_none at t h es fs e = record { more = []; ended = e ∙ sym (append-nil es); each = All-nil _; doubts = All-nil _ }
+  ends_none at t h es fs e = record { more = []; ended = e ∙ sym (append-nil es); each = All-nil _; says = All-nil _ }
 
   pub ends_at : (at later_at : ℕ → CallOf) (t : Clients P) (h : List Event) (es fs : List Ending) → (f : EndsRight later_at t h es fs) → ((e : Ending) → IsAmong f.more e → later_at e.line ≡ at e.line) → EndsRight at t h es fs
   ends_at at later_at t h es fs f same = record {
     more = f.more;
     ended = f.ended;
     each = all_by (λ (e : Ending). HoldsAt (rows_of t) h (later_at e.line).at e.outcome) (λ (e : Ending). HoldsAt (rows_of t) h (at e.line).at e.outcome) f.more (λ e i right. subst (λ (x : CallOf). HoldsAt (rows_of t) h x.at e.outcome) (same e i) right) f.each;
-    doubts = all_by (λ (e : Ending). EndSpeaks (rows_of t) h (later_at e.line) e.line e.outcome) (λ (e : Ending). EndSpeaks (rows_of t) h (at e.line) e.line e.outcome) f.more (λ e i speaks. subst (λ x. EndSpeaks (rows_of t) h x e.line e.outcome) (same e i) speaks) f.doubts;
+    says = all_by (λ (e : Ending). EndSpeaks (rows_of t) h (later_at e.line) e.line e.outcome) (λ (e : Ending). EndSpeaks (rows_of t) h (at e.line) e.line e.outcome) f.more (λ e i speaks. subst (λ x. EndSpeaks (rows_of t) h x e.line e.outcome) (same e i) speaks) f.says;
   }
 
   -- it stays right, where no loss is new
@@ -115,7 +115,7 @@ module _ {P : Type 0} where
     more = f.more;
     ended = f.ended;
     each = All-weaker (λ (e : Ending). HoldsAt (rows_of s) h (at e.line).at e.outcome) (λ (e : Ending). HoldsAt (rows_of t) longer (at e.line).at e.outcome) (λ e right. kept (at e.line).at e.outcome h longer within right) f.more f.each;
-    doubts = All-weaker (λ (e : Ending). EndSpeaks (rows_of s) h (at e.line) e.line e.outcome) (λ (e : Ending). EndSpeaks (rows_of t) longer (at e.line) e.line e.outcome) (λ e speaks. end_speaks_on h longer within unlost front (rows_of s) (rows_of t) (at e.line) e.line e.outcome kept speaks) f.more f.doubts;
+    says = All-weaker (λ (e : Ending). EndSpeaks (rows_of s) h (at e.line) e.line e.outcome) (λ (e : Ending). EndSpeaks (rows_of t) longer (at e.line) e.line e.outcome) (λ e speaks. end_speaks_on h longer within unlost front (rows_of s) (rows_of t) (at e.line) e.line e.outcome kept speaks) f.more f.says;
   }
 
   pub ends_then : (at : ℕ → CallOf) (t : Clients P) (h : List Event) (es fs gs : List Ending) → EndsRight at t h es fs → EndsRight at t h fs gs → EndsRight at t h es gs
@@ -123,7 +123,7 @@ module _ {P : Type 0} where
     more = f.more ++ g.more;
     ended = g.ended ∙ ap (λ xs. xs ++ g.more) f.ended ∙ append_assoc es f.more g.more;
     each = All-append (λ (e : Ending). HoldsAt (rows_of t) h (at e.line).at e.outcome) f.more g.more f.each g.each;
-    doubts = All-append (λ (e : Ending). EndSpeaks (rows_of t) h (at e.line) e.line e.outcome) f.more g.more f.doubts g.doubts;
+    says = All-append (λ (e : Ending). EndSpeaks (rows_of t) h (at e.line) e.line e.outcome) f.more g.more f.says g.says;
   }
 
   module _ (w : Ways P) where

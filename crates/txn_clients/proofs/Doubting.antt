@@ -31,7 +31,8 @@ use Rattle.txn_report.specs.declared.outcome.Outcome.TheVariants as outcomes
 use Rattle.txn_report.specs.declared.outcome.Payload.TheVariants as payloads
 use Rattle.txn_side.specs.Account.{is_undetermined}
 use Rattle.txn_side.specs.Arising.{with_postings}
-use Rattle.txn_side.specs.Doubt.{HasLostCommit, IsInDoubt, IsRefusal, SaysDoubt, SpeaksOf, CallOf, NamesFirst, WasWritten, itself}
+use Rattle.txn_side.specs.Doubt.{HasLostCommit, IsInDoubt, IsRefusal, SaysDoubt, CallOf, NamesFirst, WasWritten, itself}
+use Rattle.txn_side.specs.Saying.{SpeaksOf}
 use Rattle.txn_side.specs.declared.turn.Posting.{Posting}
 use Rattle.txn_side.specs.declared.turn.Posting.TheVariants.{Send, Sleep}
 use Rattle.txn_trace.specs.Seeing.{seen}
@@ -330,5 +331,5 @@ module _ {P : Type 0} where
 
     -- so what a call answered tells of it what it has to
     pub speaks_of : (rows : List (Row P)) (held : ℕ → Outcome → Type 0) (call : CallOf) (n : ℕ) (o : Outcome) → HavePlans plans rows → ((y : ℕ) (p : Outcome) → held y p → HoldsAt rows (seen h) y p) → EndSpeaks rows h call n o → SpeaksOf held (seen h) call n o
-    speaks_of rows held call n (outcomes.Err e) have kept s = λ apart v began. says_doubt rows call.at v call.commits e have (kept call.at (outcomes.Ok (payloads.Number v)) began) (s apart)
-    speaks_of rows held call n o have kept s = λ apart v began. tt
+    speaks_of rows held call n (outcomes.Err e) have kept s = λ apart v began. record { doubt = says_doubt rows call.at v call.commits e have (kept call.at (outcomes.Ok (payloads.Number v)) began) (s apart) }
+    speaks_of rows held call n o have kept s = λ apart v began. record { doubt = tt }

@@ -289,7 +289,7 @@ module _ {P : Type 0} (w : Ways P) where
       more = record { line = line; outcome = o } ∷ [];
       ended = ended;
       each = All-cons (λ (e : Ending). HoldsAt (rows_of t) h (heard_by s e.line).at e.outcome) (record { line = line; outcome = o }) [] (subst (λ (n : CallOf). HoldsAt (rows_of t) h n.at o) (sym heard) right) (All-nil (λ (e : Ending). HoldsAt (rows_of t) h (heard_by s e.line).at e.outcome));
-      doubts = All-cons (λ (e : Ending). EndSpeaks (rows_of t) h (heard_by s e.line) e.line e.outcome) (record { line = line; outcome = o }) [] (subst (λ n. EndSpeaks (rows_of t) h n line o) (sym heard) speaks) (All-nil (λ (e : Ending). EndSpeaks (rows_of t) h (heard_by s e.line) e.line e.outcome));
+      says = All-cons (λ (e : Ending). EndSpeaks (rows_of t) h (heard_by s e.line) e.line e.outcome) (record { line = line; outcome = o }) [] (subst (λ n. EndSpeaks (rows_of t) h n line o) (sym heard) speaks) (All-nil (λ (e : Ending). EndSpeaks (rows_of t) h (heard_by s e.line) e.line e.outcome));
     };
     then = tt;
   }

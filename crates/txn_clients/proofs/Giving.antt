@@ -31,7 +31,7 @@ use Rattle.txn_tso.specs.declared.asker.Asker.{Asker}
 use Rattle.txn_clients.specs.Clients.{groups_of}
 use Rattle.txn_clients.specs.Arising.{oracle_of}
 use Rattle.txn_clients.specs.Failing.{AreGivenIn, CameIn, GroupCameIn, IfFails, LongerIn, outbox_of, owing, owing_all, owing_one, posting_in, refused_of, refused_out}
-use Rattle.txn_clients.specs.Groups.{IsRefused, group_by, lines_in}
+use Rattle.txn_clients.specs.Groups.{IsRefused, RefusesBy, group_by, lines_in, over_by}
 use Rattle.txn_clients.specs.Resting.{sound_longer}
 use Rattle.txn_clients.specs.Waiting.{GoesOn, IsPaired, IsSound, IsThere, Takes, book_at, pends}
 use Rattle.txn_clients.specs.declared.told.Told.TheVariants.{Heard}
@@ -41,7 +41,7 @@ use Rattle.txn_clients.specs.declared.clients.Clients.{Clients}
 use Rattle.txn_clients.proofs.Settling.{head_sound}
 use Rattle.txn_clients.proofs.Showing.{all_map, owing_one_longer, posting_both, reason_longer}
 use Rattle.txn_clients.proofs.Stepping.{group_there}
-use Rattle.txn_clients.proofs.Timestamps.{among_so}
+use Rattle.txn_clients.proofs.Timestamps.{among_so, none_some, some_same}
 
 abbrev Fails : (Error → Type 0) → Answer → Type 0
 Fails P a = IfFails P a.1
@@ -164,13 +164,19 @@ module _ {P : Type 0} where
   ]
 
   -- as its reply was taken
-  pub taken_refused : (s t : Clients P) (client : ℕ) (o : Reply) (given : List Answer) → Takes client given s t → IsPaired (book_at s client) → ((times : TsoResponse) → o ≡ replies.Tso times → given ≡ answered times (oracle_of (book_at s client))) → (((times : TsoResponse) → o ≡ replies.Tso times → ⊥) → All IsRefused given)
+  taken_refused : (s t : Clients P) (client : ℕ) (o : Reply) (given : List Answer) → Takes client given s t → IsPaired (book_at s client) → ((times : TsoResponse) → o ≡ replies.Tso times → given ≡ answered times (oracle_of (book_at s client))) → (((times : TsoResponse) → o ≡ replies.Tso times → ⊥) → All IsRefused given)
       → refused_of given ≡ refused_out (λ u r. Took u r o) (get_or (groups_of s) client None)
   taken_refused s t client o given takes paired granted refused = out_refused (λ u r. Took u r o) (refused_lines o) (λ u lines. refl) (no_lines o) s client given paired (reply_refused o given (oracle_of (book_at s client)) takes.askers granted refused)
 
   -- as it was lost
-  pub lost_refused : (s t : Clients P) (client : ℕ) (given : List Answer) → Takes client given s t → IsPaired (book_at s client) → All IsRefused given → refused_of given ≡ refused_out (λ u r. Lost u r) (get_or (groups_of s) client None)
+  lost_refused : (s t : Clients P) (client : ℕ) (given : List Answer) → Takes client given s t → IsPaired (book_at s client) → All IsRefused given → refused_of given ≡ refused_out (λ u r. Lost u r) (get_or (groups_of s) client None)
   lost_refused s t client given takes paired refused = out_refused (λ u r. Lost u r) (λ lines. lines) (λ u lines. refl) refl s client given paired (lines_refused given refused ∙ ap lines_in takes.askers)
+
+  pub over_refused : (s t : Clients P) (client : ℕ) (x : Option Reply) (given : List Answer) → Takes client given s t → IsPaired (book_at s client)
+      → ((times : TsoResponse) → x ≡ Some (replies.Tso times) → given ≡ answered times (oracle_of (book_at s client))) → (((times : TsoResponse) → x ≡ Some (replies.Tso times) → ⊥) → All IsRefused given)
+      → refused_of given ≡ refused_out (over_by x) (get_or (groups_of s) client None)
+  over_refused s t client (Some o) given takes paired granted refused = taken_refused s t client o given takes paired (λ times e. granted times (ap Some e)) (λ f. refused (λ times e. f times (some_same e)))
+  over_refused s t client None given takes paired granted refused = lost_refused s t client given takes paired (refused (λ times e. none_some e))
 
 all_among : {X : Type 0} (P : X → Type 0) (xs : List X) → ((x : X) → IsAmong xs x → P x) → All P xs
 all_among P [] f = All-nil P
@@ -213,9 +219,13 @@ module _ {P : Type 0} where
       one a h i = elim paired [ inl none ↦ absurd (subst (λ o. IsAmong (group_or_none o) a.0) none i) | inr ticket ↦ there ticket a h i ]
 
   -- its reply was taken
-  pub given_taken : (trace : Option Trace) (s t : Clients P) (client : ℕ) (o : Reply) (given : List Answer) → Takes client given s t → IsPaired (book_at s client) → GroupCameIn trace (get_or (groups_of s) client None) (λ u r. Took u r o) → All (Fails (Refuses (length given) o)) given → AreGivenIn trace given
+  given_taken : (trace : Option Trace) (s t : Clients P) (client : ℕ) (o : Reply) (given : List Answer) → Takes client given s t → IsPaired (book_at s client) → GroupCameIn trace (get_or (groups_of s) client None) (λ u r. Took u r o) → All (Fails (Refuses (length given) o)) given → AreGivenIn trace given
   given_taken trace s t client o given takes paired came all = given_in trace s t client (λ u r. Took u r o) (Refuses (length given) o) given (λ u x r e h why. inr (o, h, why)) takes paired came all
 
   -- it was lost
-  pub given_lost : (trace : Option Trace) (s t : Clients P) (client : ℕ) (given : List Answer) → Takes client given s t → IsPaired (book_at s client) → GroupCameIn trace (get_or (groups_of s) client None) (λ u r. Lost u r) → All (Fails (λ e. e ≡ InternalError OracleLost)) given → AreGivenIn trace given
+  given_lost : (trace : Option Trace) (s t : Clients P) (client : ℕ) (given : List Answer) → Takes client given s t → IsPaired (book_at s client) → GroupCameIn trace (get_or (groups_of s) client None) (λ u r. Lost u r) → All (Fails (λ e. e ≡ InternalError OracleLost)) given → AreGivenIn trace given
   given_lost trace s t client given takes paired came all = given_in trace s t client (λ u r. Lost u r) (λ e. e ≡ InternalError OracleLost) given (λ u x r e h why. inl (h, why)) takes paired came all
+
+  pub given_over : (trace : Option Trace) (s t : Clients P) (client : ℕ) (x : Option Reply) (given : List Answer) → Takes client given s t → IsPaired (book_at s client) → GroupCameIn trace (get_or (groups_of s) client None) (over_by x) → All (Fails (RefusesBy (length given) x)) given → AreGivenIn trace given
+  given_over trace s t client (Some o) given takes paired came all = given_taken trace s t client o given takes paired came all
+  given_over trace s t client None given takes paired came all = given_lost trace s t client given takes paired came all

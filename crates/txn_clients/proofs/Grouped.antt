@@ -52,7 +52,7 @@ use Rattle.txn_tso.specs.declared.asker.Asker.{Asker}
 use Rattle.txn_clients.specs.Arising.{Anyhow, Arisen, GroupsNext, HasStart, HavePlans, IsBehind, Leads, LeadsGiven, LeadsGroup, LeadsSent, PostsGroup, RowFits, heard_by, oracle_of, ticket_or}
 use Rattle.txn_clients.specs.Clients.{crashed_of, nexts_of, row_at, rows_of, sight_of, stands_of}
 use Rattle.txn_clients.specs.First.{first_front}
-use Rattle.txn_clients.specs.Groups.{IsError, IsRefused}
+use Rattle.txn_clients.specs.Groups.{IsError, IsRefused, over_by}
 use Rattle.txn_clients.specs.Rows.{Pd}
 use Rattle.txn_clients.specs.Waiting.{Book, IsRisen, SendsGroup, Takes, asks_of, blank, book_at, book_of, posted_at, voice_at}
 use Rattle.txn_clients.specs.declared.client_state.ClientState.{ClientState}
@@ -64,7 +64,7 @@ use Rattle.txn_clients.proofs.Grouping.{book_put, book_there}
 use Rattle.txn_clients.specs.Growing.{plans_in, some_run}
 use Rattle.txn_clients.proofs.Sounding.{le_of}
 use Rattle.txn_clients.proofs.Stands.{same_line}
-use Rattle.txn_clients.proofs.Timestamps.{among_so}
+use Rattle.txn_clients.proofs.Timestamps.{among_so, none_some, some_same}
 
 -- What those are told who asked
 
@@ -256,7 +256,7 @@ module _ {P : Type 0} (w : Ways P) where
     told_asked s m client given u h takes fits a i = out_asked (oracle_of (book_at s client)) u h fits a.0 (subst (λ xs. IsAmong xs a.0) takes.askers (map_among (λ (b : Answer). b.0) given a i))
 
     -- its reply was taken
-    pub taken_leads : (s m t : Clients P) (client : ℕ) (x : Reply) (given : List Answer) (ps qs : List Posting) (es fs : List Ending) → Takes client given s m → rows_of m ≡ rows_of s → nexts_of m ≡ nexts_of s
+    taken_leads : (s m t : Clients P) (client : ℕ) (x : Reply) (given : List Answer) (ps qs : List Posting) (es fs : List Ending) → Takes client given s m → rows_of m ≡ rows_of s → nexts_of m ≡ nexts_of s
         → ((times : TsoResponse) → x ≡ replies.Tso times → given ≡ answered times (oracle_of (book_at s client))) → (((times : TsoResponse) → x ≡ replies.Tso times → ⊥) → All IsRefused given)
         → LeadsGiven w given ps qs es fs m t → LeadsGroup w client (λ u r. Took u r x) ps qs es fs s t
     taken_leads s m t client x given ps qs es fs takes rows nexts granted refused give askers h u r ticket possible f =
@@ -276,11 +276,17 @@ module _ {P : Type 0} (w : Ways P) where
         told (inr other) = refused_told askers (Took u r x ∷ h) given (refused other) (λ a i. inr (told_asked s m client given u h takes noted.fits a i))
 
     -- it was lost
-    pub lost_leads : (s m t : Clients P) (client : ℕ) (given : List Answer) (ps qs : List Posting) (es fs : List Ending) → Takes client given s m → rows_of m ≡ rows_of s → nexts_of m ≡ nexts_of s → All IsRefused given
+    lost_leads : (s m t : Clients P) (client : ℕ) (given : List Answer) (ps qs : List Posting) (es fs : List Ending) → Takes client given s m → rows_of m ≡ rows_of s → nexts_of m ≡ nexts_of s → All IsRefused given
         → LeadsGiven w given ps qs es fs m t → LeadsGroup w client (λ u r. Lost u r) ps qs es fs s t
     lost_leads s m t client given ps qs es fs takes rows nexts refused give askers h u r ticket possible f =
         over_leads s m t client given askers h (Lost u r) ps qs es fs takes rows nexts tt tt (λ y. tt) refl possible
         (refused_told askers (Lost u r ∷ h) given refused (λ a i. inr (told_asked s m client given u h takes (is_noted s client askers h u ticket f).fits a i))) give f
+
+    pub come_leads : (s m t : Clients P) (client : ℕ) (x : Option Reply) (given : List Answer) (ps qs : List Posting) (es fs : List Ending) → Takes client given s m → rows_of m ≡ rows_of s → nexts_of m ≡ nexts_of s
+        → ((times : TsoResponse) → x ≡ Some (replies.Tso times) → given ≡ answered times (oracle_of (book_at s client))) → (((times : TsoResponse) → x ≡ Some (replies.Tso times) → ⊥) → All IsRefused given)
+        → LeadsGiven w given ps qs es fs m t → LeadsGroup w client (over_by x) ps qs es fs s t
+    come_leads s m t client (Some o) given ps qs es fs takes rows nexts granted refused give = taken_leads s m t client o given ps qs es fs takes rows nexts (λ times e. granted times (ap Some e)) (λ f. refused (λ times e. f times (some_same e))) give
+    come_leads s m t client None given ps qs es fs takes rows nexts granted refused give = lost_leads s m t client given ps qs es fs takes rows nexts (refused (λ times e. none_some e)) give
 
     -- The next group goes out.
 
@@ -418,8 +424,8 @@ module _ {P : Type 0} where
       subst (λ b. GroupsNext request b (get_or (map book_of (set s.clients.items client new)) client blank)) (sym (book_there s.clients.items client d h e))
       (subst (GroupsNext request (book_of d)) (sym (book_put s.clients.items client new h)) k)
 
-  pub answered_there : (s : Clients P) (client : ℕ) (d : ClientState) (x : Reply) (given : List Answer) → client < length (crashed_of s) → d ≡ get_or s.clients.items client d
-      → ((times : TsoResponse) → x ≡ replies.Tso times → given ≡ answered times d.oracle) → (times : TsoResponse) → x ≡ replies.Tso times → given ≡ answered times (oracle_of (book_at s client))
+  pub answered_there : (s : Clients P) (client : ℕ) (d : ClientState) (x : Option Reply) (given : List Answer) → client < length (crashed_of s) → d ≡ get_or s.clients.items client d
+      → ((times : TsoResponse) → x ≡ Some (replies.Tso times) → given ≡ answered times d.oracle) → (times : TsoResponse) → x ≡ Some (replies.Tso times) → given ≡ answered times (oracle_of (book_at s client))
   answered_there s client d x given h e granted times is = granted times is ∙ ap (λ (b : Book). answered times (oracle_of b)) (sym (book_there s.clients.items client d h e))
 
 -- Those of a group are told their answers, one after another.

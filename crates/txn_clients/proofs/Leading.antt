@@ -360,7 +360,7 @@ module _ {P : Type 0} (w : Ways P) (s t : Clients P) (line client at : ℕ) (new
     within = Within-trans first h later within (Within-after line false h to.sends);
     arisen = arisen_now askers rest a;
     kept = subst (λ rs. KeepRight (rows_of s) rs) (sym handed.rows) (right_now w (rows_of s) line at new to h inside rises);
-    ends = record { more = []; ended = ended ∙ sym (append-nil es); each = All-nil _; doubts = All-nil _ };
+    ends = record { more = []; ended = ended ∙ sym (append-nil es); each = All-nil _; says = All-nil _ };
     then = then (arisen_now askers rest a);
   }
 
@@ -391,6 +391,6 @@ leads_nothing w askers rest ps es where_it_stands s h a = record {
   within = Within-refl h;
   arisen = a;
   kept = right_same (rows_of s);
-  ends = record { more = []; ended = sym (append-nil es); each = All-nil _; doubts = All-nil _ };
+  ends = record { more = []; ended = sym (append-nil es); each = All-nil _; says = All-nil _ };
   then = tt;
 }

@@ -48,5 +48,6 @@ pub mod Ended
 pub mod ToldParts
 pub mod Stepped
 pub mod Grouped
+pub mod Whole
 pub mod Hearts
 pub mod Lent

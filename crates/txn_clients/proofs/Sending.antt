@@ -21,7 +21,7 @@ use Rattle.txn_clients.proofs.Advances.{advances_sent}
 use Rattle.txn_clients.proofs.Groups.{IsIn, left_in}
 use Rattle.txn_clients.proofs.Stands.{or_same}
 use Rattle.txn_clients.proofs.Tables.{map_kept, raised_calls, read_in, sight_by}
-use Rattle.txn_clients.proofs.Timestamps.{gives_in}
+use Rattle.txn_clients.proofs.Timestamps.{gives_in, none_some, refused_none, some_same}
 
 -- One of the clients is replaced
 
@@ -86,19 +86,20 @@ module _ {P : Type 0} where
         (read_in group_of cs client d None h ∙ ap group_of (sym e) ∙ ap (λ o. group_by o (lines_out d)) out),
   )
 
-  -- what its reply gives
-  pub gives_out : (s : Clients P) (client : ℕ) (d : ClientState) (reply : Reply) (given : List Answer) → client < length (crashed_of s) → d ≡ get_or s.clients.items client d
-      → ((times : TsoResponse) → reply ≡ replies.Tso times → given ≡ answered times d.oracle) → (((times : TsoResponse) → reply ≡ replies.Tso times → ⊥) → All IsRefused given)
+  -- what comes for it gives
+  pub gives_out : (s : Clients P) (client : ℕ) (d : ClientState) (reply : Option Reply) (given : List Answer) → client < length (crashed_of s) → d ≡ get_or s.clients.items client d
+      → ((times : TsoResponse) → reply ≡ Some (replies.Tso times) → given ≡ answered times d.oracle) → (((times : TsoResponse) → reply ≡ Some (replies.Tso times) → ⊥) → All IsRefused given)
       → AreGiven (sight_of s) client reply given
-  gives_out s client d reply given h e granted refused t (askers, out) line version timed =
+  gives_out s client d (Some o) given h e granted refused t (askers, out) line version timed =
       let group : group_of d ≡ Some (record { ticket = t; askers = askers }) = sym (group_there s.clients.items client d h e) ∙ out in
       let lines = out_lines d.group (lines_out d) (record { ticket = t; askers = askers }) group in
       record {
         group = record { ticket = t; askers = askers };
         out = (client, out);
         ticket = refl;
-        gives = gives_in reply askers given (askers_out d.oracle) lines granted refused line version timed;
+        gives = gives_in o askers given (askers_out d.oracle) lines (λ times is. granted times (ap Some is)) (λ f. refused (λ times is. f times (some_same is))) line version timed;
       }
+  gives_out s client d None given h e granted refused t out line version timed = refused_none given (refused (λ times is. none_some is)) line version timed
 
   pub same_asks : (s t : Clients P) (client : ℕ) → t.clients ≡ s.clients → asks_at t client ≡ asks_at s client
   same_asks s t client e = ap (λ v. get_or (map lines_out v.items) client []) e

@@ -18,7 +18,8 @@ use Rattle.txn_report.specs.declared.outcome.Outcome.{Outcome}
 use Rattle.txn_report.specs.declared.outcome.Outcome.TheVariants as outcomes
 use Rattle.txn_report.specs.declared.outcome.Payload.TheVariants as payloads
 use Rattle.txn_side.specs.Arising.{Arises, IsOutside, with_postings}
-use Rattle.txn_side.specs.Doubt.{CallOf, SpeaksOf}
+use Rattle.txn_side.specs.Doubt.{CallOf}
+use Rattle.txn_side.specs.Saying.{SpeaksOf}
 use Rattle.txn_side.specs.Sight.{client_at, stand_at}
 use Rattle.txn_side.specs.declared.turn.Ending.{Ending}
 use Rattle.txn_side.specs.declared.turn.Posting.{Posting}
@@ -77,8 +78,8 @@ module _ {P : Type 0} (w : Ways P) where
     kept = λ x o k. subst (λ g. HoldsAt (rows_of t) g x o) shows (still x o k);
     answers = subst (λ es. All (λ (e : Ending). HoldsAt (rows_of t) (with_postings posted shown) (at e.line).at e.outcome) es) (sym l.ends.ended)
         (all_as l.ends.more (λ e k. subst (λ g. HoldsAt (rows_of t) g (at e.line).at e.outcome) shows (holds_shown l.later (rows_of t) (at e.line).at e.outcome k)) l.ends.each);
-    doubts = subst (λ es. All (λ (e : Ending). SpeaksOf (λ x o. HoldsAt (rows_of s) before x o) (with_postings posted shown) (at e.line) e.line e.outcome) es) (sym l.ends.ended)
-        (all_as l.ends.more (λ e speaks. subst (λ g. SpeaksOf (λ x o. HoldsAt (rows_of s) before x o) g (at e.line) e.line e.outcome) shows (speaks_of plans l.later run (rows_of t) (λ x o. HoldsAt (rows_of s) before x o) (at e.line) e.line e.outcome have still speaks)) l.ends.doubts);
+    says = subst (λ es. All (λ (e : Ending). SpeaksOf (λ x o. HoldsAt (rows_of s) before x o) (with_postings posted shown) (at e.line) e.line e.outcome) es) (sym l.ends.ended)
+        (all_as l.ends.more (λ e speaks. subst (λ g. SpeaksOf (λ x o. HoldsAt (rows_of s) before x o) g (at e.line) e.line e.outcome) shows (speaks_of plans l.later run (rows_of t) (λ x o. HoldsAt (rows_of s) before x o) (at e.line) e.line e.outcome have still speaks)) l.ends.says);
   }
     where
       shows : seen l.later ≡ with_postings posted shown
@@ -99,7 +100,7 @@ module _ {P : Type 0} (w : Ways P) where
   -- Nothing happens to a client that is gone, or to nobody.
 
   pub passes_by : (s : Clients P) (at : ℕ → CallOf) (e : Event) (h : List Event) → IsOutside e → IsPossible h e → ArisenFrom w s h → Arises (ArisenFrom w s) (λ h x o. HoldsAt (rows_of s) h x o) (λ x o. HoldsAt (rows_of s) h x o) at (e ∷ h) []
-  passes_by s at e h out may a = let r = arises_when_longer w s h e out may a in record { now = r.now; kept = r.kept; answers = All-nil _; doubts = All-nil _ }
+  passes_by s at e h out may a = let r = arises_when_longer w s h e out may a in record { now = r.now; kept = r.kept; answers = All-nil _; says = All-nil _ }
 
   -- nobody hears of it, and nothing is posted
   pub passes_quietly : (s : Clients P) (posted : List Posting) (ended : List Ending) (at : ℕ → CallOf) (e : Event) (h : List Event) → posted ≡ [] → ended ≡ [] → IsOutside e → IsPossible h e → ArisenFrom w s h
@@ -110,7 +111,7 @@ module _ {P : Type 0} (w : Ways P) where
 
   -- nothing happens at all
   pub arises_still : (s : Clients P) (at : ℕ → CallOf) (h : List Event) → ArisenFrom w s h → Arises (ArisenFrom w s) (λ h x o. HoldsAt (rows_of s) h x o) (λ x o. HoldsAt (rows_of s) h x o) at h []
-  arises_still s at h a = record { now = a; kept = λ x o k. k; answers = All-nil _; doubts = All-nil _ }
+  arises_still s at h a = record { now = a; kept = λ x o k. k; answers = All-nil _; says = All-nil _ }
 
   -- the line calls
   pub arises_sent : (s t : Clients P) (posted : List Posting) (ended : List Ending) (at : ℕ → CallOf) (h : List Event)

@@ -27,6 +27,12 @@ pub both_if_ok : {T E : Type 0} (r : Result T E) (A B C : T → Type 0) → ((x 
 both_if_ok (Ok x) A B C f a b = f x a b
 both_if_ok (Err e) A B C f a b = tt
 
+pub some_same : {X : Type 0} {x y : X} → Some x ≡ Some y → x ≡ y
+some_same e = cc
+
+pub none_some : {X : Type 0} {x : X} → None ≡ Some x → ⊥
+none_some e = cc
+
 -- The group that goes out
 
 abbrev count_in : Option TsoRequest → ℕ

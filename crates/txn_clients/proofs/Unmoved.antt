@@ -198,7 +198,7 @@ module _ {P : Type 0} (w : Ways P) (p : IsLawful w.plan) where
     now = (laws, askers, g, shows, arisen_alike w p s t askers [] g rows nexts asks books a);
     kept = λ x o. holds_follows h (rows_of s) (rows_of t) follows x o;
     answers = All-nil _;
-    doubts = All-nil _;
+    says = All-nil _;
   }
 
   -- one line more
@@ -237,4 +237,4 @@ module _ {P : Type 0} (w : Ways P) (p : IsLawful w.plan) where
 
 module _ {P : Type 0} (w : Ways P) where
   pub unmoved_arises : (s : Clients P) → StillArises (ArisenFrom w s) (ArisenFrom w s) (λ h x o. HoldsAt (rows_of s) h x o) (λ h x o. HoldsAt (rows_of s) h x o)
-  unmoved_arises s h a = record { now = a; kept = λ x o k. k; answers = All-nil _; doubts = All-nil _ }
+  unmoved_arises s h a = record { now = a; kept = λ x o k. k; answers = All-nil _; says = All-nil _ }

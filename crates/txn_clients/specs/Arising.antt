@@ -363,7 +363,7 @@ pub record EndsRight {P : Type 0} (at : ℕ → CallOf) (t : Clients P) (h : Lis
   pub more : List Ending
   pub ended : over ≡ before ++ more
   pub each : All (λ (e : Ending). HoldsAt (rows_of t) h (at e.line).at e.outcome) more
-  pub doubts : All (λ (e : Ending). EndSpeaks (rows_of t) h (at e.line) e.line e.outcome) more
+  pub says : All (λ (e : Ending). EndSpeaks (rows_of t) h (at e.line) e.line e.outcome) more
 
 -- A part of a step leads on from the history before it: behind that are what was heard, of which a run shows so much, and what was
 -- posted then. The clients can have arisen from the whole.

@@ -41,7 +41,6 @@ beat_allowed plans h (requests.GetRegion q) b = (tt, tt)
 beat_allowed plans h (requests.GetRegionById q) b = (tt, tt)
 beat_allowed plans h (requests.GetStore q) b = (tt, tt)
 beat_allowed plans h (requests.GetAllStores q) b = (tt, tt)
-beat_allowed plans h (requests.UpdateGcSafePoint q) b = (tt, tt)
 beat_allowed plans h (requests.Members q) b = (tt, tt)
 beat_allowed plans h r b = absurd b
 
@@ -89,7 +88,7 @@ module _ {P : Type 0} (w : Ways P) where
     now = (laws, askers, Sent t r ∷ g, ap (λ x. Sent t r ∷ x) shows, arisen_beating s askers [] g t r laws.lawful beat beats unused a);
     kept = λ x o. right_same (rows_of s) x o h (Sent t r ∷ h) (λ y i. inr i);
     answers = All-nil _;
-    doubts = All-nil _;
+    says = All-nil _;
   }
     where
       unused : IsUnused g t

@@ -5,10 +5,11 @@ use Rattle.std.proofs.Common.{suc}
 use Rattle.txn_commit.specs.Ways.{Ways}
 use Rattle.txn_kv.specs.declared.reply.Reply.{Reply}
 use Rattle.txn_kv.specs.declared.ticket.Ticket.{Ticket}
-use Rattle.txn_side.specs.Sight.{Group, IsGiven, Nexts, Sight, Stand, is_live, stand_at}
+use Rattle.txn_side.specs.Sight.{Group, Nexts, Sight, Stand, is_live, stand_at}
 use Rattle.txn_side.specs.Sight.Stand.{Asking, Calling, HasBegun, Idle, IsClient, Past, Working}
+use Rattle.txn_side.specs.Steps.{GivesTo}
 use Rattle.txn_tso.specs.Oracle.{Answer}
-use Rattle.txn_clients.specs.Groups.{IsTimed, group_of, lines_out}
+use Rattle.txn_clients.specs.Groups.{IsTimed, coming_as, group_of, lines_out}
 use Rattle.txn_clients.specs.Matching.{AreMatched}
 pub use Rattle.txn_clients.specs.Matching.{IsLine}
 use Rattle.txn_clients.specs.Rows.{Rests, RowReady, stand_of}
@@ -82,6 +83,6 @@ MayEnd rows line _ = ⊤
 abbrev pub HasOut : Sight → ℕ → Ticket → Type 0
 HasOut s client t = (askers : List ℕ) × (slice_index_or s.groups client None ≡ Some (record { ticket = t; askers = askers }))
 
--- what is given is what this reply to the client's request gives
-abbrev pub AreGiven : Sight → ℕ → Reply → List Answer → Type 0
-AreGiven s client o given = (t : Ticket) → HasOut s client t → (line version : ℕ) → IsTimed given line version → IsGiven s t o line version
+-- what is given is what this gives that comes for the client's request
+abbrev pub AreGiven : Sight → ℕ → Option Reply → List Answer → Type 0
+AreGiven s client o given = (t : Ticket) → HasOut s client t → (line version : ℕ) → IsTimed given line version → GivesTo s t (coming_as o) line version

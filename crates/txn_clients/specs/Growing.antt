@@ -36,7 +36,7 @@ use Rattle.txn_side.specs.Arising.{IsOutside}
 use Rattle.txn_trace.specs.Drawing.{IsDrawn}
 use Rattle.txn_trace.specs.Posting.{PostsNothing, SendsNothing}
 use Rattle.txn_trace.proofs.Drawn.{draw_longer, draws_line}
-use Rattle.txn_trace.proofs.Fitting.{fits_longer, fits_more}
+use Rattle.txn_trace.proofs.Fitting.{fits_more}
 use Rattle.txn_trace.proofs.Growing.{unsent_runs}
 use Rattle.txn_trace.proofs.Lines.{fresh_quiet}
 use Rattle.txn_trace.proofs.Timing.{answerable_more}

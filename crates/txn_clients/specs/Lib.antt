@@ -15,6 +15,7 @@ pub mod Want
 pub mod Arising
 pub mod Growing
 pub mod Turns
+pub mod Tickets
 pub mod Unmoved
 pub mod Beating
 pub mod Hearts

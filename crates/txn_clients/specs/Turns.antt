@@ -128,18 +128,6 @@ ToldSteps w told line at client s t turn = (trace : Option Trace) → client_at 
     → ((c : ℕ) → c ≢ client → IsQuiet (book_at s c)) → AreRunningBut at (rows_of s) → IsPrepared told (row_at (rows_of s) at)
     → Steps w trace (HearsAt line told) turn.posted.items turn.ended.items s t
 
--- this came for a line
-abbrev pub CameSteps : {P : Type 0} → Ways P → Arrival → ℕ → ℕ → Clients P → Clients P → Turn → Type 0
-CameSteps w arrival line client s t turn = (trace : Option Trace) → is_live (sight_of s) line ≡ true → client_at (stand_at (sight_of s).stands line) ≡ Some client → IsReady w s
-    → owing line (tells.Heard arrival) trace ≡ trace → CameIn (posting_in [] trace) (outbox_of line) arrival → IsSound w (posting_in [] trace) [] s
-    → Steps w trace (HearsAt line (tells.Heard arrival)) turn.posted.items turn.ended.items s t
-
--- the request that is out for timestamps is over, by this event
-abbrev pub GroupSteps : {P : Type 0} → Ways P → ℕ → (Ticket → Request → Event) → Clients P → Clients P → Turn → Type 0
-GroupSteps w client came s t turn = (trace : Option Trace) → IsReady w s → GroupCameIn trace (slice_index_or (groups_of s) client None) came
-    → IsSound w (posting_in [] (owing_all (refused_out came (slice_index_or (groups_of s) client None)) trace)) [] s
-    → Steps w trace (λ n a. ⊥) turn.posted.items turn.ended.items s t
-
 -- What a row has arisen from once a call ended.
 
 -- a call for a timestamp

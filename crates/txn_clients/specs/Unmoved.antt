@@ -110,5 +110,5 @@ module _ {P : Type 0} (w : Ways P) where
     now = (laws, askers, e ∷ g, shows_outside e g out ∙ ap (λ x. e ∷ x) shows, arisen_outside w laws.lawful s askers [] g e out (possible_unseen e g out (subst (λ x. IsPossible x e) (sym shows) may)) a);
     kept = λ x o. right_same (rows_of s) x o h (e ∷ h) (λ y i. inr i);
     answers = All-nil _;
-    doubts = All-nil _;
+    says = All-nil _;
   }

@@ -1,10 +1,9 @@
-ghost use Rattle.std.specs.Prelude.{◌≡◌, ◌≤◌, ◌++◌, ◌∷◌, ℕ, [], IfOk, IfSome, IsTrue, OnOk, false, length, map, option_map};
+ghost use Rattle.std.specs.Prelude.{◌≡◌, ◌≤◌, ◌++◌, ◌∷◌, ℕ, [], IfOk, IfSome, IsTrue, OnOk, Some, false, length, map, option_map};
 ghost use Rattle.std.specs.List.{All};
 ghost use Rattle.txn_clients.specs.Arising.{GroupsNext};
 ghost use Rattle.txn_clients.specs.Failing.{IfFails};
-ghost use Rattle.txn_clients.specs.Groups.{IsLeft, IsRefused, IsTimeFor, group_of, lines_in, lines_out, why_none};
+ghost use Rattle.txn_clients.specs.Groups.{IsLeft, IsRefused, IsTimeFor, RefusesBy, group_of, lines_in, lines_out, why_none};
 ghost use Rattle.txn_kv.specs.declared.errors.Error.TheVariants.{InternalError};
-ghost use Rattle.txn_kv.specs.declared.errors.Internal.TheVariants.{OracleLost};
 ghost use Rattle.txn_side.specs.Trace.{Refuses};
 ghost use Rattle.txn_clients.specs.Waiting.{Regroups, blank, book_of};
 ghost use Rattle.txn_side.specs.Sight.{AskFor};
@@ -126,21 +125,23 @@ impl ClientState {
         })
     }
 
-    /// What the reply to the group that is out gives each of its askers. A reply of another kind gives none of them a timestamp.
-    pub fn take_group(&mut self, alloc: Global, reply: Reply) -> Result<Answers, NoMemory>
+    /// What the reply to the group that is out gives each of its askers: none where it was lost. A reply of another kind gives none of
+    /// them a timestamp.
+    pub fn take_group(&mut self, alloc: Global, reply: Option<Reply>) -> Result<Answers, NoMemory>
         ensures crashed { OnOk result (self.new.crashed ≡ self.old.crashed) }
         ensures group { OnOk result (group_of self.new ≡ None) }
         ensures times { IfOk result (λ given. All IsTimeFor given.items) }
-        ensures granted { IfOk result (λ given. (times : Times) → reply ≡ replies.Tso times → given.items ≡ answered times self.old.oracle) }
-        ensures refused { IfOk result (λ given. ((times : Times) → reply ≡ replies.Tso times → ⊥) → All IsRefused given.items) }
-        ensures errors { IfOk result (λ given. All (λ a. IfFails (Refuses (length given.items) reply) a.1) given.items) }
+        ensures granted { IfOk result (λ given. (times : Times) → reply ≡ Some (replies.Tso times) → given.items ≡ answered times self.old.oracle) }
+        ensures refused { IfOk result (λ given. ((times : Times) → reply ≡ Some (replies.Tso times) → ⊥) → All IsRefused given.items) }
+        ensures errors { IfOk result (λ given. All (λ a. IfFails (RefusesBy (length given.items) reply) a.1) given.items) }
         ensures book { OnOk result (book_of self.new ≡ record (book_of self.old) { out = None; ticket = None }) }
         ensures askers { IfOk result (λ given. map (λ a. a.0) given.items ≡ group_or_none (book_of self.old).out) }
     {
         self.group = None;
         match &reply {
-            Reply::Tso(reply) => self.take_times(reply),
-            _ => refusals(alloc, self.oracle.lost(), false),
+            None => refusals(alloc, self.oracle.lost(), true),
+            Some(Reply::Tso(reply)) => self.take_times(reply),
+            Some(_) => refusals(alloc, self.oracle.lost(), false),
         }
     }
 
@@ -154,20 +155,6 @@ impl ClientState {
         ensures askers { IfOk result (λ given. map (λ a. a.0) given.items ≡ group_or_none (book_of self.old).out) }
     {
         self.oracle.take_reply(reply)
-    }
-
-    /// The group that is out was lost: none of its askers gets a timestamp.
-    pub fn lose_group(&mut self, alloc: Global) -> Result<Answers, NoMemory>
-        ensures crashed { OnOk result (self.new.crashed ≡ self.old.crashed) }
-        ensures group { OnOk result (group_of self.new ≡ None) }
-        ensures times { IfOk result (λ given. All IsTimeFor given.items) }
-        ensures refused { IfOk result (λ given. All IsRefused given.items) }
-        ensures errors { IfOk result (λ given. All (λ a. IfFails (λ e. e ≡ InternalError OracleLost) a.1) given.items) }
-        ensures book { OnOk result (book_of self.new ≡ record (book_of self.old) { out = None; ticket = None }) }
-        ensures askers { IfOk result (λ given. map (λ a. a.0) given.items ≡ group_or_none (book_of self.old).out) }
-    {
-        self.group = None;
-        refusals(alloc, self.oracle.lost(), true)
     }
 
     /// The group that goes out next, unless one is out already or nobody asks. Whoever sends it sets its ticket. No line is greater

@@ -17,7 +17,7 @@ use Rattle.txn_kv.specs.Timestamp.{HasVersion, version_of}
 use Rattle.txn_kv.specs.declared.errors.Error.{Error}
 use Rattle.txn_kv.specs.declared.outbox.Errand.TheVariants as errands
 use Rattle.txn_kv.specs.declared.request.Request.{Request}
-use Rattle.txn_kv.specs.declared.request.Request.TheVariants.{GetRegion, GetRegionById, GetStore, GetAllStores, Members, TxnHeartBeat, UpdateGcSafePoint}
+use Rattle.txn_kv.specs.declared.request.Request.TheVariants.{GetRegion, GetRegionById, GetStore, GetAllStores, Members, TxnHeartBeat}
 use Rattle.txn_kv.specs.declared.request.commits.TxnHeartBeatRequest.{TxnHeartBeatRequest}
 use Rattle.txn_kv.specs.declared.ticket.Ticket.{Ticket}
 use Rattle.txn_history.specs.Arrivals.{awaited_as, told_by}
@@ -36,13 +36,12 @@ abbrev pub IsSentAs : TxnHeartBeatRequest → Request → Type 0
 IsSentAs request (TxnHeartBeat r) = r ≡ record request { context = r.context }
 IsSentAs request r = ⊥
 
--- what the placement driver is asked for
+-- what the placement driver is asked for: regions, stores and its members
 abbrev pub IsLookUp : Request → Type 0
 IsLookUp (GetRegion r) = ⊤
 IsLookUp (GetRegionById r) = ⊤
 IsLookUp (GetStore r) = ⊤
 IsLookUp (GetAllStores r) = ⊤
-IsLookUp (UpdateGcSafePoint r) = ⊤
 IsLookUp (Members r) = ⊤
 IsLookUp r = ⊥
 

@@ -12,13 +12,14 @@ use Rattle.txn_law.specs.Run.{IsPossible, IsUnused}
 use Rattle.txn_report.specs.declared.outcome.Outcome.{Outcome}
 use Rattle.txn_report.specs.declared.outcome.Outcome.TheVariants as outcomes
 use Rattle.txn_side.specs.Arising.{Arises, IsBeat, with_posting, with_postings}
-use Rattle.txn_side.specs.Doubt.{CallOf, HasLostCommit, IsFirstLostUntaken, IsInDoubt, NamesFirst, SpeaksOf, TellsDoubt, itself}
+use Rattle.txn_side.specs.Doubt.{CallOf, HasLostCommit, IsFirstLostUntaken, IsInDoubt, NamesFirst, TellsDoubt, itself}
+use Rattle.txn_side.specs.Saying.{SpeaksOf}
 use Rattle.txn_side.specs.Sight.{next_at, ticket_in, with_next}
 use Rattle.txn_side.specs.declared.turn.Ending.{Ending}
 use Rattle.txn_side.specs.declared.turn.Posting.{Posting}
 use Rattle.txn_side.specs.declared.turn.Posting.TheVariants.{Send, Sleep}
 use Rattle.txn_heartbeats.specs.Beating.{AreBeats, AreFresh, IsLine, beat_ticket}
-use Rattle.txn_heartbeats.proofs.Lists.{next_set, raised_rises}
+use Rattle.txn_heartbeats.proofs.Lists.{next_opened, next_set, raised_rises}
 use Rattle.txn_heartbeats.proofs.Numbers.{AreCalls}
 
 two : true ≡ false → ⊥
@@ -32,6 +33,13 @@ postings_then [] qs h = refl
 postings_then (p ∷ ps) qs h = postings_then ps qs (with_posting p h)
 
 -- Which tickets were used
+
+-- a line more uses none
+pub fresh_opened : (from to : List ℕ) (h : List Event) → to ≡ from ++ 1 ∷ [] → AreFresh from h → AreFresh to h
+fresh_opened from to h e fresh t r has beat =
+    let before = fresh t r has beat in
+    let rises = next_opened from (1 ∷ []) t.line in
+    subst (λ bs. t.number < next_at bs t.line) (sym e) (omega (arith, before, rises))
 
 fresh_call : (beats : List ℕ) (p : Posting) (h : List Event) → (ticket_in p).beat ≡ false → AreFresh beats h → AreFresh beats (with_posting p h)
 fresh_call beats (Sleep t) h call fresh u q has beat = fresh u q has beat
@@ -151,10 +159,11 @@ tells_still h longer s commits (outcomes.Err e) before after named told = elim t
 ]
 tells_still h longer s commits o before after named told = tt
 
--- what a call said before that of the doubt of a transaction is right still
+-- what a call said before that of its transaction is right still
 speaks_still : (line : ℕ) (from to : List ℕ) (ps : List Posting) (held : ℕ → Outcome → Type 0) (h : List Event) (call : CallOf) (n : ℕ) (o : Outcome) → AreBeats line from ps to → SpeaksOf held h call n o → SpeaksOf held (with_postings ps h) call n o
-speaks_still line from to ps held h call n o b speaks = λ other s began.
-    tells_still h (with_postings ps h) s call.commits o (doubt_before line from to ps h s b) (loss_after line from to ps h s b) (λ e. names_after line from to ps h s e b) (speaks other s began)
+speaks_still line from to ps held h call n o b speaks = λ other s began. record {
+  doubt = tells_still h (with_postings ps h) s call.commits o (doubt_before line from to ps h s b) (loss_after line from to ps h s b) (λ e. names_after line from to ps h s e b) (speaks other s began).doubt;
+}
 
 -- What a heartbeat posts
 
@@ -183,5 +192,5 @@ module _ (arises : List Event → Type 0) (holds : List Event → ℕ → Outcom
         now = (more.now, more.fresh);
         kept = λ x o k. more.kept x o (a.kept x o k);
         answers = All-weaker (λ e. holds (with_postings ps h) (at e.line).at e.outcome) (λ e. holds (with_postings qs (with_postings ps h)) (at e.line).at e.outcome) (λ e k. more.kept (at e.line).at e.outcome k) es a.answers;
-        doubts = All-weaker (λ e. SpeaksOf held (with_postings ps h) (at e.line) e.line e.outcome) (λ e. SpeaksOf held (with_postings qs (with_postings ps h)) (at e.line) e.line e.outcome) (λ e k. speaks_still line from to qs held (with_postings ps h) (at e.line) e.line e.outcome b k) es a.doubts;
+        says = All-weaker (λ e. SpeaksOf held (with_postings ps h) (at e.line) e.line e.outcome) (λ e. SpeaksOf held (with_postings qs (with_postings ps h)) (at e.line) e.line e.outcome) (λ e k. speaks_still line from to qs held (with_postings ps h) (at e.line) e.line e.outcome b k) es a.says;
       })

@@ -8,4 +8,5 @@ pub mod Living
 pub mod Posting
 pub mod Sides
 pub mod Telling
+pub mod Stepping
 pub mod Started

@@ -66,6 +66,13 @@ next_line xs line one = next_is xs line ∙ at_line 0 xs line one
 pub set_next_same : (xs : List ℕ) (line : ℕ) → 1 ≤ line → set xs (line - 1) (next_at xs line) ≡ xs
 set_next_same xs line one = ap (set xs (line - 1)) (next_line xs line one) ∙ set-get_or xs (line - 1) 0
 
+-- none falls where more stand at the end
+pub next_opened : (xs ys : List ℕ) (n : ℕ) → next_at xs n ≤ next_at (xs ++ ys) n
+next_opened xs ys zero = omega arith
+next_opened [] ys (suc i) = omega arith
+next_opened (x ∷ xs) ys (suc zero) = omega arith
+next_opened (x ∷ xs) ys (suc (suc i)) = next_opened xs ys (suc i)
+
 pub line_set : (xs : List ℕ) (i v line : ℕ) → IsLine xs line → IsLine (set xs i v) line
 line_set xs i v line own = record { first = own.first; last = subst (λ n. line ≤ n) (sym (length-set xs i v)) own.last }
 

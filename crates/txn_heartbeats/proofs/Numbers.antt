@@ -112,7 +112,6 @@ beat_asks line (requests.GetRegion q) askers b e = e
 beat_asks line (requests.GetRegionById q) askers b e = e
 beat_asks line (requests.GetStore q) askers b e = e
 beat_asks line (requests.GetAllStores q) askers b e = e
-beat_asks line (requests.UpdateGcSafePoint q) askers b e = e
 beat_asks line (requests.Members q) askers b e = e
 beat_asks line r askers b e = absurd b
 

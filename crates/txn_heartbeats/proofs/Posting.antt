@@ -30,7 +30,6 @@ look_sent (requests.GetRegion q) b = tt
 look_sent (requests.GetRegionById q) b = tt
 look_sent (requests.GetStore q) b = tt
 look_sent (requests.GetAllStores q) b = tt
-look_sent (requests.UpdateGcSafePoint q) b = tt
 look_sent (requests.Members q) b = tt
 look_sent r b = absurd b
 

@@ -74,7 +74,7 @@ come_beside before t s beats u event came = record { now = came.now; told = came
 
 -- The accounts
 
-closed_none : (x : Stand) (account : Account) → closed x [] account ≡ account
+pub closed_none : (x : Stand) (account : Account) → closed x [] account ≡ account
 closed_none Idle account = refl
 closed_none (IsClient c) account = refl
 closed_none (Asking c b) account = refl

@@ -4,13 +4,17 @@ use Rattle.std.proofs.lemmas.Bool.{and_parts, cases_Bool, cases_lt}
 use Rattle.std.proofs.lemmas.List.{length-append, length-set, get_or_append_left}
 use Rattle.std.proofs.lemmas.List.Elements.{All-append, All-nil, All-weaker}
 use Rattle.std.specs.List.{All, Any}
+use Rattle.std.specs.Prelude.{slice_index_or}
 use Rattle.txn_kv.specs.declared.reply.Reply.{Reply}
 use Rattle.txn_kv.specs.declared.ticket.Ticket.{Ticket}
 use Rattle.txn_side.specs.Sight.{Acts, Asks, AskersAre, EndsAlone, Goes, IsAsk, IsGiven, LineGoes, Names, NoneGiven, Sight, Stand, client_at, commits, is_free, is_live, line_count, lives, stand_at, ticket_in, with_stand}
 use Rattle.txn_side.specs.Sight.Stand.{Asking, Calling, HasBegun, Idle, IsClient, Past, Working}
+use Rattle.txn_side.specs.Steps.{GivesTo, HearsOf}
 use Rattle.txn_side.specs.Waiting.{Awaited, WaitsOn}
 use Rattle.txn_side.specs.Waiting.Awaited.{ReplyTo}
 use Rattle.txn_lines.specs.declared.act.Act.{Act}
+use Rattle.txn_side.specs.declared.coming.Coming.{Coming}
+use Rattle.txn_side.specs.declared.coming.Coming.TheVariants as coming
 use Rattle.txn_side.specs.declared.turn.Ending.{Ending}
 use Rattle.txn_side.specs.declared.turn.Posting.{Posting}
 use Rattle.txn_side.specs.declared.turn.Turn.{Turn}
@@ -60,8 +64,21 @@ module _ (beats : List ℕ) where
 given_one : (s : Sight) (beats : List ℕ) (t : Ticket) (o : Reply) (line version : ℕ) → IsGiven s t o line version → IsGiven (with_beats beats s) t o line version
 given_one s beats t o line version g = record { group = g.group; out = g.out; ticket = g.ticket; gives = g.gives }
 
-pub given_beside : (s : Sight) (beats : List ℕ) (t : Ticket) (o : Reply) (es : List Ending) → All (Names (IsGiven s t o)) es → All (Names (IsGiven (with_beats beats s) t o)) es
-given_beside s beats t o es all = All-weaker (Names (IsGiven s t o)) (Names (IsGiven (with_beats beats s) t o)) (λ e names version is. given_one s beats t o e.line version (names version is)) es all
+pub given_beside : (s : Sight) (beats : List ℕ) (t : Ticket) (what : Coming) (es : List Ending) → All (Names (GivesTo s t what)) es → All (Names (GivesTo (with_beats beats s) t what)) es
+given_beside s beats t (coming.Reply o) es all = All-weaker (Names (IsGiven s t o)) (Names (IsGiven (with_beats beats s) t o)) (λ e names version is. given_one s beats t o e.line version (names version is)) es all
+given_beside s beats t coming.Lost es all = all
+given_beside s beats t coming.Slept es all = all
+
+-- how many lines there are
+
+pub asks_count : (begins : Bool) (client : ℕ) (s t : Sight) (turn : Option Turn) → Asks begins client s t turn → line_count t ≡ line_count s
+asks_count begins client s t None a = ap line_count a.1
+asks_count begins client s t (Some turn) a = a.3.count ∙ length-set s.stands (line_count s - 1) (Asking a.0 begins)
+
+pub acts_count : (act : Act) (x : ℕ) (s t : Sight) (turn : Option Turn) → Acts act x s t turn → line_count t ≡ line_count s
+acts_count act x s t None a = ap line_count a.1
+acts_count act x s t (Some turn) a =
+    a.3.count ∙ length-set (set s.stands (x - 1) (HasBegun a.0 (line_count s))) (line_count s - 1) (Calling a.0 x (commits act)) ∙ length-set s.stands (x - 1) (HasBegun a.0 (line_count s))
 
 -- A heartbeat posts
 
@@ -158,5 +175,14 @@ waits_longer Hears ps qs was is s t old new w = record {
 }
 
 -- what comes for a heartbeat is waited for by no call
-waits_deaf : (Hears : ℕ → Awaited → Type 0) (ps : List Posting) (was is : ℕ → Awaited → Type 0) (s : Sight) (old new : List ℕ) → ((n : ℕ) (a : Awaited) → Hears n a → ⊥) → ((n : ℕ) (a : Awaited) → is n a → was n a) → WaitsOn Hears ps was is (with_beats old s) (with_beats new s)
-waits_deaf Hears ps was is s old new deaf still = record { lines = λ n a x. inl (still n a x, deaf n a); groups = λ g out. inl (out, deaf g.ticket.line (ReplyTo g.ticket.number)) }
+
+beat_deaf : (t : Ticket) (what : Coming) → t.beat ≡ true → (n : ℕ) (a : Awaited) → HearsOf t what n a → ⊥
+beat_deaf t (coming.Reply o) beat n a h = two (sym beat ∙ h.0)
+beat_deaf t coming.Lost beat n a h = two (sym beat ∙ h.0)
+beat_deaf t coming.Slept beat n a h = two (sym beat ∙ h.0)
+
+pub waits_deaf : (t : Ticket) (what : Coming) (ps : List Posting) (was is : ℕ → Awaited → Type 0) (old new : Sight) → t.beat ≡ true → new.groups ≡ old.groups → ((n : ℕ) (a : Awaited) → is n a → was n a) → WaitsOn (HearsOf t what) ps was is old new
+waits_deaf t what ps was is old new beat same still = record {
+  lines = λ n a x. inl (still n a x, beat_deaf t what beat n a);
+  groups = λ g out. inl (subst (λ gs. (c : ℕ) × (slice_index_or gs c None ≡ Some g)) same out, beat_deaf t what beat g.ticket.line (ReplyTo g.ticket.number));
+}

@@ -1,20 +1,23 @@
 -- A heartbeat starts, and its job is told of something.
-use Rattle.std.proofs.Common.{◌≡◌, ℕ, ◌-◌, ◌++◌, false, true, set, Option, None, Some, ◌∙◌, subst, sym}
+use Rattle.std.proofs.Common.{◌≡◌, ℕ, ◌-◌, ◌++◌, Bool, false, true, not, refl, set, Option, None, Some, ◌∙◌, subst, sym}
 use Rattle.std.specs.Prelude.{OnOk, Ok, Result}
 use Rattle.txn_core.specs.declared.heartbeat.Heartbeat.{Heartbeat}
 use Rattle.txn_core.specs.declared.status.Status.{Status}
 use Rattle.txn_heartbeat.specs.Beats.{HasHeard, Sleeps}
 use Rattle.txn_heartbeat.specs.declared.heartbeat_job.HeartbeatJob.{HeartbeatJob}
+use Rattle.txn_history.specs.Arrivals.{MayArrive}
 use Rattle.txn_history.specs.Meaning.{Meaning}
 use Rattle.txn_history.specs.Posted.{Posted}
 use Rattle.txn_history.specs.Turn.{Turn as Ending}
 use Rattle.txn_kv.specs.declared.errors.Error.{Error}
 use Rattle.txn_kv.specs.declared.arrival.Arrival.{Arrival}
 use Rattle.txn_side.specs.Sight.{next_at}
+use Rattle.txn_side.specs.declared.coming.Coming.{Coming}
+use Rattle.txn_side.specs.declared.coming.Coming.TheVariants as coming
 use Rattle.txn_side.specs.declared.turn.Turn.{Turn}
 use Rattle.txn_heartbeats.specs.Beating.{postings_of}
 use Rattle.txn_heartbeats.specs.Hearts.{beats_of, jobs_of, outbox_at}
-use Rattle.txn_heartbeats.specs.Started.{BeginsBeat, HasTold, Starts, StartsAsLent, starts_of, transactions_of, was_started, with_started}
+use Rattle.txn_heartbeats.specs.Started.{BeginsBeat, HasTold, Starts, StartsAsLent, arrival_of, starts_of, transactions_of, was_started, with_started}
 use Rattle.txn_heartbeats.specs.declared.heartbeats.Heartbeats.{Heartbeats}
 
 -- one job alone stands at a line
@@ -27,6 +30,16 @@ never_none o x e f = let both : Some x ≡ None = e ∙ f in cc
 -- what holds where it is Ok
 ok_so : {X E P : Type 0} (r : Result X E) (x : X) → r ≡ Ok x → OnOk r P → P
 ok_so {X} {E} {P} r x is k = subst (λ (y : Result X E). OnOk y P) is k
+
+-- what comes for a ticket of a heartbeat is no answer to an ask
+pub may_arrive : (n : ℕ) (what : Coming) → MayArrive (arrival_of n what)
+may_arrive n (coming.Reply o) = tt
+may_arrive n coming.Lost = tt
+may_arrive n coming.Slept = tt
+
+pub not_false : (b : Bool) → not b ≡ false → b ≡ true
+not_false true e = refl
+not_false false e = absurd (cc)
 
 module _ {S H : Type 0} where
   pub begins_so : {X E : Type 0} (r : Result X E) (x : X) → r ≡ Ok x → (Posted : S → Turn → Type 0) (heart : S → Option Heartbeat → Type 0) (line transaction : ℕ) (old new : Heartbeats S H) (mid : S) (before after : Turn) → new.side ≡ mid → Posted mid before → after.ended ≡ before.ended

@@ -2,3 +2,4 @@ pub mod Beating
 pub mod Hearts
 pub mod Standing
 pub mod Started
+pub mod Steps

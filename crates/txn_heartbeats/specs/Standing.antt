@@ -62,5 +62,5 @@ module _ {S H : Type 0} (arises : S → List Event → Type 0) (holds : S → Li
     now = record { side = side.now; fresh = fresh_outside (beats_of b) h e outside was.fresh };
     kept = side.kept;
     answers = side.answers;
-    doubts = side.doubts;
+    says = side.says;
   }

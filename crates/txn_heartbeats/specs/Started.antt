@@ -1,5 +1,5 @@
 -- Which transactions have had their heartbeats, how one starts, and what becomes of one that is told of something.
-use Rattle.std.specs.Prelude.{◌≡◌, ◌++◌, ◌-◌, ℕ, Bool, false, true, List, map, Option, Some, None, Result, slice_index_or, slice_set}
+use Rattle.std.specs.Prelude.{◌≡◌, ◌++◌, ◌-◌, ℕ, Bool, false, true, IfSome, List, length, map, Option, Some, None, Result, slice_index_or, slice_set}
 use Rattle.std.proofs.Common.{zero, suc}
 use Rattle.txn_core.specs.declared.heartbeat.Heartbeat.{Heartbeat}
 use Rattle.txn_core.specs.declared.status.Status.{Status}
@@ -10,12 +10,15 @@ use Rattle.txn_history.specs.Posted.{Posted}
 use Rattle.txn_history.specs.Turn.{Turn as Ending}
 use Rattle.txn_kv.specs.declared.errors.Error.{Error}
 use Rattle.txn_kv.specs.declared.arrival.Arrival.{Arrival}
-use Rattle.txn_side.specs.Sight.{next_at}
+use Rattle.txn_kv.specs.declared.arrival.Arrival.TheVariants as arrivals
+use Rattle.txn_side.specs.Sight.{Acts, Sight, next_at}
 use Rattle.txn_lines.specs.declared.act.Act.{Act}
 use Rattle.txn_lines.specs.declared.act.Act.TheVariants.{Commit}
+use Rattle.txn_side.specs.declared.coming.Coming.{Coming}
+use Rattle.txn_side.specs.declared.coming.Coming.TheVariants as coming
 use Rattle.txn_side.specs.declared.turn.Turn.{Turn}
 use Rattle.txn_heartbeats.specs.Beating.{postings_of}
-use Rattle.txn_heartbeats.specs.Hearts.{beats_of, jobs_of, outbox_at}
+use Rattle.txn_heartbeats.specs.Hearts.{beats_of, job_at, jobs_of, outbox_at}
 use Rattle.txn_heartbeats.specs.declared.heartbeats.Heartbeats.{Heartbeats}
 
 -- whether a heartbeat of the transaction of each line was started
@@ -79,6 +82,17 @@ pub record BeginsBeat {S H : Type 0} (Posted : Turn → Type 0) (heart : Option 
   pub once : was_started (starts_of old) transaction ≡ true → (new ≡ old) × (after ≡ before)
   pub starts : was_started (starts_of old) transaction ≡ false → StartsAsLent heart line transaction old new before after
 
+-- so it does where the newest line begins a commit of the transaction of line x
+abbrev pub BeginsOnCommit : {S H : Type 0} → (S → Sight) → (S → ℕ → Option Heartbeat → Type 0) → Act → ℕ → Heartbeats S H → Heartbeats S H → Option Turn → Type 0
+BeginsOnCommit sight heart act x old new turn =
+    is_commit act ≡ true → IfSome turn (BeginsBeat (λ before. Acts act x (sight old.side) (sight new.side) (Some before)) (heart new.side x) (length (beats_of old)) x (record old { side = new.side }) new)
+
+-- what comes under a number of a heartbeat, as its job is told of it
+abbrev pub arrival_of : ℕ → Coming → Arrival
+arrival_of n (coming.Reply o) = arrivals.Reply n o
+arrival_of n coming.Lost = arrivals.Lost n
+arrival_of n coming.Slept = arrivals.Slept n
+
 -- The job of a line was told of something, while its transaction had come so far: what it is then stands there, and its errands are
 -- posted under the tickets of the line's heartbeat.
 pub record HasTold {S H A : Type 0} (m : Meaning H (Result A Error)) (line : ℕ) (arrival : Arrival) (status : Status) (now : ℕ) (job : HeartbeatJob H) (old new : Heartbeats S H) (turn : Turn) : Type 0 where
@@ -88,3 +102,8 @@ pub record HasTold {S H A : Type 0} (m : Meaning H (Result A Error)) (line : ℕ
   pub heard : HasHeard m arrival status now job after (outbox_at line (next_at (beats_of old) line)) out ending
   pub jobs : jobs_of new ≡ slice_set (jobs_of old) (line - 1) (Some after)
   pub posted : turn.posted.items ≡ postings_of line out.sends
+
+-- so it was, if it has one
+abbrev pub TellsJob : {S H A : Type 0} → Meaning H (Result A Error) → (S → ℕ → Status) → ℕ → Arrival → ℕ → Heartbeats S H → Heartbeats S H → Turn → Type 0
+TellsJob {S} {H} m status_at line arrival now old new turn =
+    (job : HeartbeatJob H) → job_at (jobs_of old) line ≡ Some job → HasTold m line arrival (status_at old.side (transaction_at (transactions_of old) line)) now job old new turn

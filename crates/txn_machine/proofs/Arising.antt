@@ -23,7 +23,8 @@ use Rattle.txn_report.specs.declared.outcome.Outcome.{Outcome}
 use Rattle.txn_report.specs.declared.outcome.Outcome.TheVariants as outcomes
 use Rattle.txn_report.specs.declared.outcome.Payload.TheVariants.{Number}
 use Rattle.txn_side.specs.Arising.{Arises, ArisesAwake, ArisesHearing, ArisesOn, IsOutside, StillArises, answered_at, with_posting, with_postings}
-use Rattle.txn_side.specs.Doubt.{CallOf, SpeaksOf, itself}
+use Rattle.txn_side.specs.Doubt.{CallOf, itself}
+use Rattle.txn_side.specs.Saying.{SpeaksOf}
 use Rattle.txn_side.specs.Sight.{Sight, is_live, stand_at}
 use Rattle.txn_side.specs.declared.turn.Ending.{Ending}
 use Rattle.txn_side.specs.declared.turn.Posting.{Posting}
@@ -47,7 +48,7 @@ use Rattle.txn_machine.proofs.Orders.{line_length}
 use Rattle.txn_machine.proofs.Staying.{own_mail}
 use Rattle.txn_machine.proofs.Timing.{told_either}
 
--- What a call says of the doubt of what stood right before, it says too where less stood so.
+-- What a call says of what stood right before, it says too where less stood so.
 
 speaks_before : (held later : ℕ → Outcome → Type 0) → ((x : ℕ) (o : Outcome) → held x o → later x o) → (h : List Event) (call : CallOf) (n : ℕ) (o : Outcome) → SpeaksOf later h call n o → SpeaksOf held h call n o
 speaks_before held later kept h call n o speaks = λ other s began. speaks other s (kept call.at (outcomes.Ok (Number s)) began)
@@ -63,7 +64,7 @@ all_speak held later kept role s h es speak = λ k d low. let e = slice_index_or
 
 -- Nothing has happened.
 pub arises_same : (was : List Event → Type 0) (held : List Event → ℕ → Outcome → Type 0) → StillArises was was held held
-arises_same was held h w = record { now = w; kept = λ x o k. k; answers = λ k d low. absurd (omega arith); doubts = λ k d low. absurd (omega arith) }
+arises_same was held h w = record { now = w; kept = λ x o k. k; answers = λ k d low. absurd (omega arith); says = λ k d low. absurd (omega arith) }
 
 -- the clients did not do anything of their own
 pub still_moved : {S : Type 0} (arises : S → List Event → Type 0) (holds : S → List Event → ℕ → Outcome → Type 0) (from to : S) → to ≡ from → StillArises (arises from) (arises to) (holds from) (holds to)
@@ -82,9 +83,9 @@ module _ (was is : List Event → Type 0) (held holds : List Event → ℕ → O
       subst (λ (ps : List Posting). GoesOn is holds (held h) (role_for deed) l.sight (with_postings ps (happens looks deed l h)) done.turn.ended.items) (sym posted)
       (subst (λ (es : List Ending). GoesOn is holds (held h) (role_for deed) l.sight (happens looks deed l h) es) (sym ended)
       (elim (comes looks h knows) [
-        | inl same ↦ subst (λ fs. GoesOn is holds (held h) (role_for deed) l.sight fs []) (sym same) (let a = still h w in record { now = a.now; kept = a.kept; answers = λ k d low. absurd (omega arith); doubts = λ k d low. absurd (omega arith) })
+        | inl same ↦ subst (λ fs. GoesOn is holds (held h) (role_for deed) l.sight fs []) (sym same) (let a = still h w in record { now = a.now; kept = a.kept; answers = λ k d low. absurd (omega arith); says = λ k d low. absurd (omega arith) })
         | inr e ↦ subst (λ fs. GoesOn is holds (held h) (role_for deed) l.sight fs []) (sym e.1)
-            (let a = still h w in let b = longer h e.0 e.2 e.3 a.now in record { now = b.now; kept = λ x o k. b.kept x o (a.kept x o k); answers = λ k d low. absurd (omega arith); doubts = λ k d low. absurd (omega arith) })
+            (let a = still h w in let b = longer h e.0 e.2 e.3 a.now in record { now = b.now; kept = λ x o k. b.kept x o (a.kept x o k); answers = λ k d low. absurd (omega arith); says = λ k d low. absurd (omega arith) })
       ]))
 
 -- Calls.
@@ -102,7 +103,7 @@ module _ (was is : List Event → Type 0) (held holds : List Event → ℕ → O
   pub connected_to : (l : Lists) → done.turn.posted.items ≡ [] → StillArises was is held holds → RunsTo was is held holds deeds.Connect l done
   connected_to l posted still looks h knows w =
       subst (λ (ps : List Posting). GoesOn is holds (held h) MakesClient l.sight (with_postings ps h) done.turn.ended.items) (sym posted)
-      (let a = still h w in record { now = a.now; kept = a.kept; answers = λ k d low. tt; doubts = λ k d low. tt })
+      (let a = still h w in record { now = a.now; kept = a.kept; answers = λ k d low. tt; says = λ k d low. tt })
 
 -- the clients hear of what comes of the request of a ticket, after a history from which they can have arisen too
 pub record Comes (was : List Event → Type 0) (held : List Event → ℕ → Outcome → Type 0) (deed : Deed) (l : Lists) (event : Request → Event) (looks : Ticket → Option Request) (h : List Event) : Type 0 where
@@ -124,7 +125,7 @@ module _ (was is : List Event → Type 0) (held holds : List Event → ℕ → O
         now = z.now;
         kept = λ x o k. z.kept x o (kept x o k);
         answers = z.answers;
-        doubts = all_speak (held h) (held past) kept NoCall l.sight (with_postings done.turn.posted.items (e ∷ past)) done.turn.ended.items z.doubts;
+        says = all_speak (held h) (held past) kept NoCall l.sight (with_postings done.turn.posted.items (e ∷ past)) done.turn.ended.items z.says;
       }))
 
   pub hears_to : (event : Request → Event) (r : Result Course NoMemory) → role_for deed ≡ NoCall → ((looks : Ticket → Option Request) (h : List Event) → Knows l looks h → was h → Comes was held deed l event looks h)
@@ -132,7 +133,7 @@ module _ (was is : List Event → Type 0) (held holds : List Event → ℕ → O
   hears_to event (Ok done) role comes a = λ looks h knows w.
       let b = comes looks h knows w in
       let z = a b.past b.request b.possible b.arisen in
-      came_so done h looks (event b.request) b.past role b.is b.kept (record { now = z.now; kept = z.kept; answers = z.answers; doubts = z.doubts })
+      came_so done h looks (event b.request) b.past role b.is b.kept (record { now = z.now; kept = z.kept; answers = z.answers; says = z.says })
   hears_to event (Err e) role comes a = tt
 
   -- the same of a turn that the line came to
@@ -144,7 +145,7 @@ module _ (was is : List Event → Type 0) (held holds : List Event → ℕ → O
       → ArisesAwake was is held holds l.sight t turn → RunsTo was is held holds deed l done
   woken_to t turn done same role here a looks h knows w =
       let z = subst (λ (x : Turn). ArisesAwake was is held holds l.sight t x) (sym same) a h w in
-      came_so done h looks (Slept t) h role (here looks h) (λ x o k. k) (record { now = z.now; kept = z.kept; answers = z.answers; doubts = z.doubts })
+      came_so done h looks (Slept t) h role (here looks h) (λ x o k. k) (record { now = z.now; kept = z.kept; answers = z.answers; says = z.says })
 
 -- What each line does.
 
@@ -343,7 +344,7 @@ module _ (older l : Lists) (done : Course) (can : CanTell (opened older) done l)
         now = r.now;
         kept = r.kept;
         answers = λ k p is. answer_either (λ k o. IsRight (role_for deed) (opened older).sight (holds fs) k o) k (outcomes.Ok p) refl r.answers is;
-        doubts = λ k e is. answer_either (λ k o. Speaks (role_for deed) (opened older).sight (held h) fs k o) k (outcomes.Err e) refl r.doubts is;
+        says = λ k o answers is. answer_either (λ k o. Speaks (role_for deed) (opened older).sight (held h) fs k o) k o answers r.says is;
       })
 
 -- the parts of a step together
@@ -359,5 +360,5 @@ arisen_step arises holds line deed older start l new done from mid last to is a 
       now = r.now;
       kept = λ x o k. r.kept x o (s.kept x o k);
       answers = r.answers;
-      doubts = all_speak (holds from h) (holds mid h) s.kept (role_for deed) (opened older).sight (with_postings done.turn.posted.items (happens looks deed (opened older) h)) done.turn.ended.items r.doubts;
+      says = all_speak (holds from h) (holds mid h) s.kept (role_for deed) (opened older).sight (with_postings done.turn.posted.items (happens looks deed (opened older) h)) done.turn.ended.items r.says;
     }))))

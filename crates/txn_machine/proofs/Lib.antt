@@ -37,7 +37,7 @@ mod Arising
 mod Failures
 pub mod Begun
 mod HeardLines
-mod Doubting
+mod Saying
 mod Origins
 mod OriginLines
 pub mod Scripts

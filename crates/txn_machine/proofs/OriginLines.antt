@@ -23,7 +23,7 @@ use Rattle.txn_machine.proofs.LineByLine.{none_left, turned_over}
 use Rattle.txn_machine.proofs.Origins.{arisen_on}
 
 pub new_arisen : {S : Type 0} (arises : S → List Event → Type 0) (holds : S → List Event → ℕ → Outcome → Type 0) (m : Machine S) → arises m.clients [] → ArisenIn arises holds m []
-new_arisen arises holds m none memory = record { now = none; answers = tt; doubts = λ n x s e f. absurd (let a = f.there in cc) }
+new_arisen arises holds m none memory = record { now = none; answers = tt; says = λ n x s o f. absurd (let a = f.there in cc) }
 
 pub broken_arisen : {S : Type 0} (arises : S → List Event → Type 0) (holds : S → List Event → ℕ → Outcome → Type 0) (m : Machine S) (lines : List Line) → m.broken ≡ true → ArisenIn arises holds m lines
 broken_arisen arises holds m lines broken h = absurd (let e = h.whole in cc)

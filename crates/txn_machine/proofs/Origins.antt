@@ -35,7 +35,7 @@ use Rattle.txn_machine.proofs.Carried.{history_now, looked}
 use Rattle.txn_machine.proofs.Caused.{done_is, mid_count}
 use Rattle.txn_machine.proofs.Courses.{Course, course, only_there, out_there, own_done}
 use Rattle.txn_machine.proofs.Credits.{all_count}
-use Rattle.txn_machine.proofs.Doubting.{speak_now, tells_none}
+use Rattle.txn_machine.proofs.Saying.{speak_now, tells_none}
 use Rattle.txn_machine.proofs.Fates.{fate_of, fates_opened}
 use Rattle.txn_machine.proofs.Finds.{looked_up, request_by}
 use Rattle.txn_machine.proofs.Folds.{Stepped, asked, stepped}
@@ -239,7 +239,7 @@ module _ (line : Line) (ls : List Line) (old : Lists) (told : newest old ≡ len
     arisen_now h speak = record {
       now = r.now;
       answers = (newest_holds, all_still ls (omega arith) (λ j z there. there) h);
-      doubts = speak_now line ls old told ordered good was folded new c stepped steps (held past) h r.doubts speak;
+      says = speak_now line ls old told ordered good was folded new c stepped steps (held past) h r.says speak;
     }
 
 pub arisen_on : (was is : List Event → Type 0) (held holds : List Event → ℕ → Outcome → Type 0) (line : Line) (ls : List Line) (old new : Lists) → newest old ≡ length ls → IsOrdered old → why_after ls line ≡ None → Steps line old new → Folded ls old → Caused ls old
@@ -250,4 +250,4 @@ arisen_on was is held holds line ls old new told ordered good steps folded cause
     let r = subst (λ l. Arisen was is held holds (deed_of line) old l) c.is arisen (looks line ls old told ordered good caused folded new c s) (history old.mail.sent old.outcomes ls) (knows_past line ls old told ordered good caused folded new c s) h.now in
     subst (λ l. HaveArisen is holds (line ∷ ls) l.mail.sent l.outcomes l.ended) (sym c.is)
     (arisen_now line ls old told ordered good caused folded new c s (subst (λ l. Steps line old l) c.is steps) is held holds
-    (subst (λ fs. GoesIn is holds (held (history old.mail.sent old.outcomes ls)) (role_of line) (opened old).sight fs old (followed c.posted c.ended c.mid)) (history_is line ls old told ordered good caused folded new c s) r) h.answers h.doubts)
+    (subst (λ fs. GoesIn is holds (held (history old.mail.sent old.outcomes ls)) (role_of line) (opened old).sight fs old (followed c.posted c.ended c.mid)) (history_is line ls old told ordered good caused folded new c s) r) h.answers h.says)

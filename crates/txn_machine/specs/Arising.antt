@@ -1,8 +1,7 @@
 -- Which clients can have arisen from the history of a report, and what their calls answered. Lines stand here with the newest first.
-use Rattle.std.specs.Prelude.{◌≡◌, ◌⊎◌, ⊤, ℕ, Bool, if◌then◌else◌, List, [], ◌∷◌, length, Option, Some, None}
+use Rattle.std.specs.Prelude.{◌≡◌, ◌⊎◌, ⊤, ℕ, Bool, true, if◌then◌else◌, List, [], ◌∷◌, length, Option, Some, None}
 use Rattle.std.proofs.Common.{suc}
 use Rattle.std.specs.List.{All}
-use Rattle.txn_kv.specs.declared.errors.Error.{Error}
 use Rattle.txn_kv.specs.declared.reply.Reply.{Reply}
 use Rattle.txn_kv.specs.declared.request.Request.{Request}
 use Rattle.txn_kv.specs.declared.ticket.Ticket.{Ticket}
@@ -14,14 +13,14 @@ use Rattle.txn_lines.specs.declared.deed.Deed.{Deed}
 use Rattle.txn_lines.specs.declared.line.Line.{Line}
 use Rattle.txn_post.specs.Mail.{found_unserved, letter_at}
 use Rattle.txn_report.specs.declared.outcome.Outcome.{Outcome}
-use Rattle.txn_report.specs.declared.outcome.Outcome.TheVariants.{Ok, Err}
+use Rattle.txn_report.specs.declared.outcome.Outcome.TheVariants.{Ok}
 use Rattle.txn_report.specs.declared.outcome.Payload.{Payload}
 use Rattle.txn_report.specs.declared.outcome.Payload.TheVariants.{Number}
 use Rattle.txn_report.specs.declared.report.Report.{Report}
 use Rattle.txn_report.specs.declared.report.SentNote.{SentNote}
 use Rattle.txn_side.specs.Account.{Account}
 use Rattle.txn_side.specs.Arising.{answered_at, with_postings}
-use Rattle.txn_side.specs.Doubt.{SaysDoubt, SpeaksOf}
+use Rattle.txn_side.specs.Saying.{SaysRight, SpeaksOf}
 use Rattle.txn_side.specs.Sight.{Sight, stand_at}
 use Rattle.txn_side.specs.Sight.Stand.{Idle}
 use Rattle.txn_side.specs.declared.turn.Ending.{Ending}
@@ -33,6 +32,7 @@ use Rattle.txn_machine.specs.Rows.{IsRow}
 use Rattle.txn_machine.specs.Running.{HasMemory}
 use Rattle.txn_machine.specs.Script.{AllBefore, does, history, outcome_of, with_sends}
 use Rattle.txn_machine.specs.Steps.{does_it, found_out}
+use Rattle.txn_machine.specs.Told.{is_answer}
 use Rattle.txn_machine.specs.declared.done.Done.{Done as Course}
 use Rattle.txn_machine.specs.declared.machine.Machine.{Machine}
 
@@ -46,25 +46,26 @@ abbrev pub AllHold : (ℕ → Outcome → Type 0) → List Outcome → List Line
 AllHold holds outs [] = ⊤
 AllHold holds outs (line ∷ before) = HoldsBy holds (length (line ∷ before)) (role_of line) (outcome_of outs (length (line ∷ before))) × AllHold holds outs before
 
--- The line asks something of the transaction of line x, which began at s, and fails with this error.
-pub record FailsOf (script : List Line) (outs : List Outcome) (n x s : ℕ) (e : Error) : Type 0 where
+-- The line asks something of the transaction of line x, which began at s, and is answered so.
+pub record AnswersOf (script : List Line) (outs : List Outcome) (n x s : ℕ) (o : Outcome) : Type 0 where
   pub commits : Bool
   pub line : Line
   pub there : line_at script n ≡ Some line
   pub role : role_of line ≡ UsesTransaction commits x
   pub began : outcome_of outs x ≡ Ok (Number s)
-  pub failed : outcome_of outs n ≡ Err e
+  pub is : outcome_of outs n ≡ o
+  pub answers : is_answer o ≡ true
 
--- Each line that fails so says that its transaction is in doubt, where that was by what had happened in the lines up to the one in whose
--- step the outcome came; and one that does not commit it names the first Commit of its primary that was lost.
+-- What each line that is answered so says of its transaction is right, by what had happened in the lines up to the one in whose step the
+-- outcome came.
 abbrev pub AllSpeak : List SentNote → List Outcome → List ℕ → List Line → Type 0
-AllSpeak sent outs ended script = (n x s : ℕ) (e : Error) (f : FailsOf script outs n x s e) → SaysDoubt (history sent outs (lines_before script (suc (ended_of ended n)))) s f.commits e
+AllSpeak sent outs ended script = (n x s : ℕ) (o : Outcome) (f : AnswersOf script outs n x s o) → SaysRight (history sent outs (lines_before script (suc (ended_of ended n)))) s f.commits o
 
 -- the clients can have arisen from the history of these lines, and what calls answered is right, and was when it came
 pub record HaveArisen (arises : List Event → Type 0) (holds : List Event → ℕ → Outcome → Type 0) (script : List Line) (sent : List SentNote) (outs : List Outcome) (ended : List ℕ) : Type 0 where
   pub now : arises (history sent outs script)
   pub answers : AllHold (holds (history sent outs script)) outs script
-  pub doubts : AllSpeak sent outs ended script
+  pub says : AllSpeak sent outs ended script
 
 -- where memory was never wanting
 abbrev pub ArisenIn : {S : Type 0} → (S → List Event → Type 0) → (S → List Event → ℕ → Outcome → Type 0) → Machine S → List Line → Type 0
@@ -106,20 +107,20 @@ IsRight (AsksTime begins client) s holds n o = holds n o
 IsRight (UsesTransaction commits x) s holds n o = holds x o
 IsRight NoCall s holds n o = holds (answered_at n (stand_at s.stands n)).at o
 
--- and so says of the doubt of what stands there, if it failed
+-- and so is what it says of it
 abbrev pub Speaks : Role → Sight → (ℕ → Outcome → Type 0) → List Event → ℕ → Outcome → Type 0
 Speaks MakesClient s held h n o = ⊤
 Speaks (AsksTime begins client) s held h n o = ⊤
 Speaks (UsesTransaction commits x) s held h n o = SpeaksOf held h (record { at = x; commits = commits }) n o
 Speaks NoCall s held h n o = SpeaksOf held h (answered_at n (stand_at s.stands n)) n o
 
--- The clients can have arisen from this history. What was right still is, and so is what the calls answered that ended in the step; each
--- that failed says whether its transaction is in doubt then.
+-- The clients can have arisen from this history. What was right still is, and so is what the calls answered that ended in the step, and
+-- what they say of their transactions then.
 pub record GoesOn (arises : List Event → Type 0) (holds : List Event → ℕ → Outcome → Type 0) (held : ℕ → Outcome → Type 0) (role : Role) (s : Sight) (h : List Event) (ended : List Ending) : Type 0 where
   pub now : arises h
   pub kept : (x : ℕ) (o : Outcome) → held x o → holds h x o
   pub answers : All (λ (e : Ending). IsRight role s (holds h) e.line e.outcome) ended
-  pub doubts : All (λ (e : Ending). Speaks role s held h e.line e.outcome) ended
+  pub says : All (λ (e : Ending). Speaks role s held h e.line e.outcome) ended
 
 -- so it goes with each history of which the lists say so much, by what the newest line does and what is posted then
 abbrev pub RunsTo : (List Event → Type 0) → (List Event → Type 0) → (List Event → ℕ → Outcome → Type 0) → (List Event → ℕ → Outcome → Type 0) → Deed → Lists → Course → Type 0
@@ -128,12 +129,12 @@ RunsTo was is held holds deed l done =
 
 -- And by the lists that its step left.
 
--- what a line answers is right, and says whether its transaction is in doubt, or it was answered before
+-- what a line answers is right, and so is what it says of its transaction, or it was answered before
 pub record GoesIn (arises : List Event → Type 0) (holds : List Event → ℕ → Outcome → Type 0) (held : ℕ → Outcome → Type 0) (role : Role) (s : Sight) (h : List Event) (old new : Lists) : Type 0 where
   pub now : arises h
   pub kept : (x : ℕ) (o : Outcome) → held x o → holds h x o
   pub answers : (n : ℕ) (p : Payload) → outcome_of new.outcomes n ≡ Ok p → (outcome_of old.outcomes n ≡ Ok p) ⊎ IsRight role s (holds h) n (Ok p)
-  pub doubts : (n : ℕ) (e : Error) → outcome_of new.outcomes n ≡ Err e → (outcome_of old.outcomes n ≡ Err e) ⊎ Speaks role s held h n (Err e)
+  pub says : (n : ℕ) (o : Outcome) → is_answer o ≡ true → outcome_of new.outcomes n ≡ o → (outcome_of old.outcomes n ≡ o) ⊎ Speaks role s held h n o
 
 -- by what the line does and what was sent in its step
 abbrev pub Arisen : (List Event → Type 0) → (List Event → Type 0) → (List Event → ℕ → Outcome → Type 0) → (List Event → ℕ → Outcome → Type 0) → Deed → Lists → Lists → Type 0

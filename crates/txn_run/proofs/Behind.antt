@@ -15,7 +15,7 @@ module _ {S H : Type 0} (sight : S → Sight) (arises : S → List Event → Typ
       → ArisenLines (λ (b : Heartbeats S H). sight_of sight b) (λ b h. ArisesIn arises b h) (λ b. holds b.side) (λ b. account b.side) script report → ArisenLines sight arises holds account script report
   clients_behind script report a = record {
     clients = a.clients.side;
-    arisen = record { now = a.arisen.now.side; answers = a.arisen.answers; doubts = a.arisen.doubts };
+    arisen = record { now = a.arisen.now.side; answers = a.arisen.answers; says = a.arisen.says };
     taken = a.taken;
     rows = a.rows;
     none = a.none;

@@ -153,7 +153,7 @@ tells_doubt script report events speak n e failed unrefused x s began called = b
         cc
 
     tells : (commits : Bool) → role_of caller.line ≡ UsesTransaction commits x → Tells
-    tells commits role = elim (speak n x s e (record { commits = commits; line = caller.line; there = caller.there; role = role; began = began.3; failed = failed })) [ inl refused ↦ absurd (unrefused refused) | inr says ↦ whether commits (rolled commits role) says ]
+    tells commits role = elim (speak n x s (Err e) (record { commits = commits; line = caller.line; there = caller.there; role = role; began = began.3; is = failed; answers = refl })).doubt [ inl refused ↦ absurd (unrefused refused) | inr says ↦ whether commits (rolled commits role) says ]
 
     by : (role : Role) → role_of caller.line ≡ role → IsAmong (calls_by n role) (record { line = n; at = x }) → Tells
     by MakesClient is h = absurd h

@@ -8,7 +8,8 @@ use Rattle.txn_history.specs.Event.{Event}
 use Rattle.txn_history.specs.Event.Event.{Answered, Asked, Began, Sent, Slept}
 use Rattle.txn_law.specs.Run.{IsPossible}
 use Rattle.txn_report.specs.declared.outcome.Outcome.{Outcome}
-use Rattle.txn_side.specs.Doubt.{CallOf, SpeaksOf, itself}
+use Rattle.txn_side.specs.Doubt.{CallOf, itself}
+use Rattle.txn_side.specs.Saying.{SpeaksOf}
 use Rattle.txn_side.specs.Sight.{Sight, Stand, stand_at}
 use Rattle.txn_side.specs.Sight.Stand.{Calling}
 use Rattle.txn_side.specs.Trace.{ended_in}
@@ -28,14 +29,13 @@ IsOutside (Asked a) = ⊥
 IsOutside (Answered a x) = ⊥
 IsOutside _ = ⊤
 
--- what a heartbeat sends: heartbeats, and what it asks the placement driver for; nothing that writes, locks or settles
+-- What a heartbeat sends: heartbeats, and what it asks the placement driver for. None writes, locks, settles or moves the safepoint.
 abbrev pub IsBeat : Request → Type 0
 IsBeat (requests.TxnHeartBeat r) = ⊤
 IsBeat (requests.GetRegion r) = ⊤
 IsBeat (requests.GetRegionById r) = ⊤
 IsBeat (requests.GetStore r) = ⊤
 IsBeat (requests.GetAllStores r) = ⊤
-IsBeat (requests.UpdateGcSafePoint r) = ⊤
 IsBeat (requests.Members r) = ⊤
 IsBeat r = ⊥
 
@@ -57,12 +57,12 @@ answered_at n (Calling c x b) = record { at = x; commits = b }
 answered_at n _ = itself n
 
 -- The clients can have arisen from the history after a step. What was right of what stands at a line still is, and so is what the calls
--- answered that ended in it. One that failed says of a transaction that had begun that it is in doubt, where it is then.
+-- answered that ended in it, which says rightly what it says of its transaction then.
 pub record Arises (arises : List Event → Type 0) (holds : List Event → ℕ → Outcome → Type 0) (held : ℕ → Outcome → Type 0) (at : ℕ → CallOf) (h : List Event) (ended : List Ending) : Type 0 where
   pub now : arises h
   pub kept : (x : ℕ) (o : Outcome) → held x o → holds h x o
   pub answers : All (λ e. holds h (at e.line).at e.outcome) ended
-  pub doubts : All (λ e. SpeaksOf held h (at e.line) e.line e.outcome) ended
+  pub says : All (λ e. SpeaksOf held h (at e.line) e.line e.outcome) ended
 
 -- nothing has happened
 abbrev pub StillArises : (List Event → Type 0) → (List Event → Type 0) → (List Event → ℕ → Outcome → Type 0) → (List Event → ℕ → Outcome → Type 0) → Type 0

@@ -14,7 +14,6 @@ use Rattle.txn_history.specs.Event.Event.{Lost, Sent, Took}
 use Rattle.txn_history.specs.Plan.{has_key}
 use Rattle.txn_report.specs.declared.outcome.Outcome.{Outcome}
 use Rattle.txn_report.specs.declared.outcome.Outcome.TheVariants as outcomes
-use Rattle.txn_report.specs.declared.outcome.Payload.TheVariants.{Number}
 use Rattle.txn_side.specs.Account.{is_undetermined}
 
 -- a Prewrite of s was sent
@@ -82,7 +81,3 @@ pub record CallOf : Type 0 where
 -- at the line itself, which is no call of a transaction
 abbrev pub itself : ℕ → CallOf
 itself n = record { at = n; commits = false }
-
--- The call of line n answered so of the transaction that stands there. A line that stands for itself calls none.
-abbrev pub SpeaksOf : (ℕ → Outcome → Type 0) → List Event → CallOf → ℕ → Outcome → Type 0
-SpeaksOf held h call n o = call.at ≢ n → (s : ℕ) → held call.at (outcomes.Ok (Number s)) → TellsDoubt h s call.commits o

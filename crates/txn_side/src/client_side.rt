@@ -1,16 +1,11 @@
-ghost use Rattle.std.specs.List.{All};
-ghost use Rattle.std.specs.Prelude.{◌≡◌, ◌<◌, ◌≤◌, ◌^◌, ℕ, [], IfOk, OnOk, true};
-ghost use Rattle.txn_lines.specs.Deeds.{begins, begins_with};
-ghost use Rattle.txn_side.specs.Account.{AreClosed, AreKept, MayTakeIn};
-ghost use Rattle.txn_side.specs.Arising.{ArisesAwake, ArisesHearing, ArisesOn, StillArises};
+ghost use Rattle.std.specs.Prelude.{◌≡◌, ◌<◌, ◌≤◌, ◌^◌, ℕ, [], IfOk, OnOk};
 ghost use Rattle.txn_side.specs.Doubt.{itself};
-ghost use Rattle.txn_side.specs.Sight.{Acts, Asks, Goes, IsGiven, Names, NoneGiven, commits, connected, crash, is_live, line_count, opened};
-ghost use Rattle.txn_history.specs.Event.Event.{Lost, Took};
-ghost use Rattle.txn_side.specs.Trace.{ActsOn, AsksOn, HearsOn, StillRests, WakesOn};
-ghost use Rattle.txn_side.specs.Waiting.{HearsEnd, HearsReply, NoneHeard, WaitsOn, posted_in};
+ghost use Rattle.txn_side.specs.Sight.{connected, crash, is_live, line_count, opened};
+ghost use Rattle.txn_side.specs.Steps.{StaysStill, StepsAsked, StepsTold, StepsUsed};
 
+use crate::coming::Coming;
 use crate::turn::Turn;
-use txn_kv::{NoMemory, Reply, Request, Ticket};
+use txn_kv::{NoMemory, Ticket};
 use txn_lines::{Act, ClientAct};
 
 /// The clients of a run, whatever they are made of. Lines are counted from 1. The clock is in milliseconds.
@@ -75,12 +70,7 @@ pub trait ClientSide: Sized + Drop {
     /// One line more, at which nothing stands.
     fn open(&mut self) -> Result<(), NoMemory>
         requires ready { ready self.old }
-        ensures sight { OnOk result (sight self.new ≡ opened (sight self.old)) }
-        ensures waits { OnOk result (WaitsOn NoneHeard [] (waits self.old) (waits self.new) (sight self.old) (sight self.new)) }
-        ensures ready { OnOk result (ready self.new) }
-        ensures accounts { OnOk result (AreKept (account self.old) (account self.new)) }
-        ensures rests { OnOk result (StillRests (rests self.old) (rests self.new)) }
-        ensures arises { OnOk result (StillArises (arises self.old) (arises self.new) (holds self.old) (holds self.new)) };
+        ensures { OnOk result (StaysStill sight ready waits account rests arises holds (opened (sight self.old)) self.old self.new) };
 
     /// Whether a line has a client that has not crashed.
     fn is_live(&self, line: u64) -> bool
@@ -91,35 +81,20 @@ pub trait ClientSide: Sized + Drop {
         requires ready { ready self.old }
         requires line { 1 ≤ line_count (sight self.old) }
         requires clock { now < 2 ^ 44 }
-        ensures sight { OnOk result (sight self.new ≡ connected (sight self.old)) }
-        ensures waits { OnOk result (WaitsOn NoneHeard [] (waits self.old) (waits self.new) (sight self.old) (sight self.new)) }
-        ensures ready { OnOk result (ready self.new) }
-        ensures accounts { OnOk result (AreKept (account self.old) (account self.new)) }
-        ensures rests { OnOk result (StillRests (rests self.old) (rests self.new)) }
-        ensures arises { OnOk result (StillArises (arises self.old) (arises self.new) (holds self.old) (holds self.new)) };
+        ensures { OnOk result (StaysStill sight ready waits account rests arises holds (connected (sight self.old)) self.old self.new) };
 
     /// The client of a line is gone, and its open calls and jobs with it. Whether it was there.
     fn crash(&mut self, line: u64) -> bool
         requires ready { ready self.old }
         ensures there { result ≡ is_live (sight self.old) line }
-        ensures gone { sight self.new ≡ crash line (sight self.old) }
-        ensures waits { WaitsOn NoneHeard [] (waits self.old) (waits self.new) (sight self.old) (sight self.new) }
-        ensures ready { ready self.new }
-        ensures accounts { AreKept (account self.old) (account self.new) }
-        ensures rests { StillRests (rests self.old) (rests self.new) }
-        ensures arises { StillArises (arises self.old) (arises self.new) (holds self.old) (holds self.new) };
+        ensures gone { StaysStill sight ready waits account rests arises holds (crash line (sight self.old)) self.old self.new };
 
     /// The newest line asks something of a line's client; nothing where that has crashed.
     fn call(&mut self, client: u64, act: ClientAct, now: u64) -> Result<Option<Turn>, NoMemory>
         requires ready { ready self.old }
         requires line { 1 ≤ line_count (sight self.old) }
         requires clock { now < 2 ^ 44 }
-        ensures turn { IfOk result (Asks (begins act) client (sight self.old) (sight self.new)) }
-        ensures waits { IfOk result (λ turn. WaitsOn NoneHeard (posted_in turn) (waits self.old) (waits self.new) (sight self.old) (sight self.new)) }
-        ensures ready { OnOk result (ready self.new) }
-        ensures accounts { OnOk result (AreKept (account self.old) (account self.new)) }
-        ensures rests { IfOk result (AsksOn fails (rests self.old) (rests self.new) (begins_with act) (line_count (sight self.old))) }
-        ensures arises { IfOk result (ArisesOn (arises self.old) (arises self.new) (holds self.old) (holds self.new) itself) };
+        ensures { IfOk result (StepsAsked sight ready waits account fails rests arises holds client act self.old self.new) };
 
     /// The newest line asks something of a transaction; none where its client has crashed, it has not begun, or a call of it is
     /// open.
@@ -127,47 +102,12 @@ pub trait ClientSide: Sized + Drop {
         requires ready { ready self.old }
         requires line { 1 ≤ line_count (sight self.old) }
         requires clock { now < 2 ^ 44 }
-        ensures turn { IfOk result (Acts act transaction (sight self.old) (sight self.new)) }
-        ensures waits { IfOk result (λ turn. WaitsOn NoneHeard (posted_in turn) (waits self.old) (waits self.new) (sight self.old) (sight self.new)) }
-        ensures ready { OnOk result (ready self.new) }
-        ensures accounts { IfOk result (MayTakeIn act transaction (line_count (sight self.old)) (account self.old) (account self.new)) }
-        ensures rests { IfOk result (ActsOn fails (rests self.old) (rests self.new) act transaction (line_count (sight self.old)) (account self.old transaction)) }
-        ensures arises { IfOk result (ArisesOn (arises self.old) (arises self.new) (holds self.old) (holds self.new) (λ n. record { at = transaction; commits = commits act })) };
+        ensures { IfOk result (StepsUsed sight ready waits account fails rests arises holds transaction act self.old self.new) };
 
-    /// A reply comes: to the call of the ticket's line, or from the oracle to those who asked, none of whom gets a timestamp but that
-    /// of its place. Nothing is done where the line's client has crashed.
-    fn take_reply(&mut self, ticket: Ticket, reply: Reply, now: u64) -> Result<Turn, NoMemory>
+    /// This comes for a ticket: to the call of its line, or from the oracle to those who asked, none of whom gets a timestamp but
+    /// that of its place. Nothing is done where the line's client has crashed.
+    fn tell(&mut self, ticket: Ticket, what: Coming, now: u64) -> Result<Turn, NoMemory>
         requires ready { ready self.old }
         requires clock { now < 2 ^ 44 }
-        ensures turn { IfOk result (λ turn. Goes turn.posted.items turn.ended.items (sight self.old) (sight self.new)) }
-        ensures given { IfOk result (λ turn. All (Names (IsGiven (sight self.old) ticket reply)) turn.ended.items) }
-        ensures waits { is_live (sight self.old) ticket.line ≡ true → IfOk result (λ turn. WaitsOn (HearsReply ticket) turn.posted.items (waits self.old) (waits self.new) (sight self.old) (sight self.new)) }
-        ensures ready { OnOk result (ready self.new) }
-        ensures accounts { IfOk result (λ turn. AreClosed (sight self.old) turn.ended.items (account self.old) (account self.new)) }
-        ensures rests { IfOk result (HearsOn fails (rests self.old) (rests self.new) (sight self.old) ticket (λ r. Took ticket r reply)) }
-        ensures arises { IfOk result (ArisesHearing (arises self.old) (arises self.new) (holds self.old) (holds self.new) (sight self.old) (λ r. Took ticket r reply)) };
-
-    /// No reply to the request of the ticket will come.
-    fn lost(&mut self, ticket: Ticket, request: &Request, now: u64) -> Result<Turn, NoMemory>
-        requires ready { ready self.old }
-        requires clock { now < 2 ^ 44 }
-        ensures turn { IfOk result (λ turn. Goes turn.posted.items turn.ended.items (sight self.old) (sight self.new)) }
-        ensures given { IfOk result (λ turn. All (Names NoneGiven) turn.ended.items) }
-        ensures waits { is_live (sight self.old) ticket.line ≡ true → IfOk result (λ turn. WaitsOn (HearsReply ticket) turn.posted.items (waits self.old) (waits self.new) (sight self.old) (sight self.new)) }
-        ensures ready { OnOk result (ready self.new) }
-        ensures accounts { IfOk result (λ turn. AreClosed (sight self.old) turn.ended.items (account self.old) (account self.new)) }
-        ensures rests { IfOk result (HearsOn fails (rests self.old) (rests self.new) (sight self.old) ticket (λ r. Lost ticket r)) }
-        ensures arises { IfOk result (ArisesHearing (arises self.old) (arises self.new) (holds self.old) (holds self.new) (sight self.old) (λ r. Lost ticket r)) };
-
-    /// A sleep has ended.
-    fn slept(&mut self, ticket: Ticket, now: u64) -> Result<Turn, NoMemory>
-        requires ready { ready self.old }
-        requires clock { now < 2 ^ 44 }
-        ensures turn { IfOk result (λ turn. Goes turn.posted.items turn.ended.items (sight self.old) (sight self.new)) }
-        ensures given { IfOk result (λ turn. All (Names NoneGiven) turn.ended.items) }
-        ensures waits { is_live (sight self.old) ticket.line ≡ true → IfOk result (λ turn. WaitsOn (HearsEnd ticket) turn.posted.items (waits self.old) (waits self.new) (sight self.old) (sight self.new)) }
-        ensures ready { OnOk result (ready self.new) }
-        ensures accounts { IfOk result (λ turn. AreClosed (sight self.old) turn.ended.items (account self.old) (account self.new)) }
-        ensures rests { IfOk result (WakesOn fails (rests self.old) (rests self.new)) }
-        ensures arises { IfOk result (ArisesAwake (arises self.old) (arises self.new) (holds self.old) (holds self.new) (sight self.old) ticket) };
+        ensures { IfOk result (StepsTold sight ready waits account fails rests arises holds ticket what self.old self.new) };
 }

@@ -3,8 +3,10 @@
 #![tactic(auto)]
 
 pub mod client_side;
+pub mod coming;
 pub mod send;
 pub mod turn;
 
 pub use client_side::ClientSide;
+pub use coming::Coming;
 pub use turn::{Ending, Posting, Turn};

@@ -16,7 +16,7 @@ nobody_at lines = record { crashed = []; groups = []; stands = map (λ (n : ℕ)
 abbrev pub none : ℕ → Awaited → Type 0
 none line a = ⊥
 
-idle_at : (lines : List ℕ) (n : ℕ) → stand_at (map (λ (k : ℕ). Idle) lines) n ≡ Idle
+pub idle_at : (lines : List ℕ) (n : ℕ) → stand_at (map (λ (k : ℕ). Idle) lines) n ≡ Idle
 idle_at lines zero = refl
 idle_at [] (suc i) = refl
 idle_at (x ∷ lines) (suc zero) = refl
@@ -31,4 +31,4 @@ none_due lines n c waits live = absurd (subst IsNothing (sym (ap waiting_at (idl
 
 -- they can have arisen from each history
 pub none_arises : (at : ℕ → CallOf) (h : List Event) → Arises (λ fs. ⊤) (λ fs x o. ⊤) (λ x o. ⊤) at h []
-none_arises at h = record { now = tt; kept = λ x o k. tt; answers = λ k d low. tt; doubts = λ k d low. absurd (omega arith) }
+none_arises at h = record { now = tt; kept = λ x o k. tt; answers = λ k d low. tt; says = λ k d low. absurd (omega arith) }

@@ -4,10 +4,10 @@ ghost use Rattle.txn_tests_machines.specs.Nobody.{nobody_at, none, none_arises, 
 
 use crate::fixtures::assert_shown;
 use std::alloc::Global;
-use txn_kv::{NoMemory, Reply, Request, Ticket};
+use txn_kv::{NoMemory, Ticket};
 use txn_lines::{Act, ClientAct, Line};
 use txn_machine::*;
-use txn_side::{ClientSide, Turn};
+use txn_side::{ClientSide, Coming, Turn};
 
 /// The clients of a run that has none.
 #[derive(Drop)]
@@ -72,15 +72,7 @@ impl ClientSide for Nobody {
         Ok(None)
     }
 
-    fn take_reply(&mut self, _ticket: Ticket, _reply: Reply, _now: u64) -> Result<Turn, NoMemory> {
-        Err(NoMemory)
-    }
-
-    fn lost(&mut self, _ticket: Ticket, _request: &Request, _now: u64) -> Result<Turn, NoMemory> {
-        Err(NoMemory)
-    }
-
-    fn slept(&mut self, _ticket: Ticket, _now: u64) -> Result<Turn, NoMemory> {
+    fn tell(&mut self, _ticket: Ticket, _what: Coming, _now: u64) -> Result<Turn, NoMemory> {
         Err(NoMemory)
     }
 }

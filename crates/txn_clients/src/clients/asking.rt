@@ -1,5 +1,5 @@
 //! What a machine asks of the clients.
-ghost use Rattle.txn_clients.specs.Arising.{LeadsSent, StepsGroup, StepsTold};
+ghost use Rattle.txn_clients.specs.Arising.{LeadsSent, StepsTold};
 ghost use Rattle.std.specs.List.{All};
 ghost use Rattle.std.specs.Prelude.{◌≡◌, ◌<◌, ◌≤◌, ◌^◌, [], None, Option, IfOk, IfSome, IsTrue, OnOk, false, is_some, length, slice_index_or, true, ◌≢◌, ℕ, Some};
 ghost use Rattle.txn_client.specs.Calls.{CallReady, called};
@@ -8,18 +8,16 @@ ghost use Rattle.txn_clients.specs.Closing.{GoesTold};
 ghost use Rattle.txn_client.specs.declared.client_call.Stage.TheVariants.{Fresh};
 ghost use Rattle.txn_clients.specs.Clients.{AreReady, HasOut, Listens, crashed_of, row_at, rows_of, sight_of};
 ghost use Rattle.txn_clients.specs.Going.{OfLine};
-ghost use Rattle.txn_history.specs.Event.Event.{Lost as Gone, Took};
+ghost use Rattle.txn_clients.specs.Groups.{coming_as};
 ghost use Rattle.txn_clients.specs.Options.{AreOptionsOf};
-ghost use Rattle.txn_clients.specs.Rows.{Brings, MayHear, MayTell, Tells};
-ghost use Rattle.txn_clients.specs.Turns.{AskSteps, CallSteps, CameSteps, GroupSteps, ToldSteps, calling};
-ghost use Rattle.txn_clients.specs.Waiting.{GroupsBeside, IsReady};
-ghost use Rattle.txn_clients.specs.declared.told.Told.TheVariants.{Heard};
+ghost use Rattle.txn_clients.specs.Rows.{MayHear, MayTell, Tells};
+ghost use Rattle.txn_clients.specs.Tickets.{HasTold, HasToldGroup, IsForLine, IsOfLine, arrival_as};
+ghost use Rattle.txn_clients.specs.Turns.{AskSteps, CallSteps, ToldSteps, calling};
+ghost use Rattle.txn_clients.specs.Waiting.{IsReady};
 ghost use Rattle.txn_history.specs.Meaning.{IsUnbegun};
-ghost use Rattle.txn_kv.specs.declared.ticket.Ticket.{Ticket as Name};
-ghost use Rattle.txn_history.specs.Arrivals.{MayArrive};
 ghost use Rattle.txn_side.specs.Doubt.{itself};
-ghost use Rattle.txn_side.specs.Account.{AreClosed, AreKept, TakesIn};
-ghost use Rattle.txn_side.specs.Sight.{EndsAlone, Goes, IsGiven, Names, NoneGiven, commits, is_free, line_count, stand_at, with_stand, is_live};
+ghost use Rattle.txn_side.specs.Account.{AreKept, TakesIn};
+ghost use Rattle.txn_side.specs.Sight.{EndsAlone, Goes, Names, NoneGiven, commits, is_free, line_count, stand_at, with_stand};
 ghost use Rattle.txn_side.specs.Sight.Stand.{Asking, Calling, HasBegun, Idle};
 
 use crate::answer::Pd;
@@ -31,9 +29,9 @@ use crate::told::Told;
 use txn_client::ClientCall;
 use txn_commit::Plans;
 use txn_core::TransactionOptions;
-use txn_kv::{Arrival, NoMemory, Reply, Request, Ticket};
+use txn_kv::{Arrival, NoMemory, Reply, Ticket};
 use txn_lines::{Act, BeginOptions, ClientAct};
-use txn_side::{ClientSide, Turn};
+use txn_side::{ClientSide, Coming, Turn};
 
 /// The options of an optimistic transaction that begins so.
 fn options_of(options: BeginOptions) -> TransactionOptions
@@ -47,6 +45,17 @@ fn options_of(options: BeginOptions) -> TransactionOptions
         wanted = wanted.no_resolve_regions();
     }
     wanted
+}
+
+/// What came, for the number of its ticket.
+fn arrival_of(number: u64, what: Coming) -> Arrival
+    ensures { result ≡ arrival_as number what }
+{
+    match what {
+        Coming::Reply(reply) => Arrival::Reply { number, reply },
+        Coming::Lost => Arrival::Lost { number },
+        Coming::Slept => Arrival::Slept { number },
+    }
 }
 
 impl<P> Clients<P> {
@@ -188,65 +197,63 @@ where
         self.step(line, Listener { at, client }, Told::Act(act), now)
     }
 
-    /// Something came for a line of this client, other than for its group.
+    /// This came for a ticket of a line of this client, for which its group is not told.
     fn hear(
         &mut self,
-        line: u64,
         client: usize,
-        arrival: Arrival,
+        ticket: Ticket,
+        what: Coming,
+        now: u64,
+    ) -> Result<Turn, NoMemory>
+        requires line { IsOfLine client ticket self.old }
+        requires other { IsForLine client ticket what self.old }
+        requires ready { IsReady P.ways self.old }
+        requires clock { now < 2 ^ 44 }
+        ensures { IfOk result (HasTold P.ways ticket what self.old self.new) }
+    {
+        let arrival = arrival_of(ticket.number, what);
+        let mut turn = Turn::new(self.alloc);
+        self.tell_line(ticket.line, arrival, now, &mut turn)?;
+        self.send_group(client, &mut turn)?;
+        Ok(turn)
+    }
+
+    /// This came for the ticket of the group of a client.
+    fn tell_group(
+        &mut self,
+        client: usize,
+        ticket: Ticket,
+        what: Coming,
+        now: u64,
+    ) -> Result<Turn, NoMemory>
+        requires line { IsOfLine client ticket self.old }
+        requires out { HasOut (sight_of self.old) client ticket }
+        requires ready { IsReady P.ways self.old }
+        requires clock { now < 2 ^ 44 }
+        ensures { IfOk result (HasTold P.ways ticket what self.old self.new) }
+    {
+        match what {
+            Coming::Reply(reply) => self.hear_group(client, Some(reply), now),
+            Coming::Lost => self.hear_group(client, None, now),
+            // No sleep is a group's.
+            Coming::Slept => self.hear(client, ticket, Coming::Slept, now),
+        }
+    }
+
+    /// The reply to the group of a client came, or it was lost.
+    fn hear_group(
+        &mut self,
+        client: usize,
+        reply: Option<Reply>,
         now: u64,
     ) -> Result<Turn, NoMemory>
         requires client { client < length (crashed_of self.old) }
-        requires arrives { MayArrive arrival }
-        requires ready { AreReady P.ways (rows_of self.old) }
+        requires ready { IsReady P.ways self.old }
         requires clock { now < 2 ^ 44 }
-        ensures turn { IfOk result (λ turn. Goes turn.posted.items turn.ended.items (sight_of self.old) (sight_of self.new)) }
-        ensures names { IfOk result (λ turn. All (Names (OfLine line (Brings arrival))) turn.ended.items) }
-        ensures steps { IfOk result (CameSteps P.ways arrival line client self.old self.new) }
-        ensures ready { OnOk result (AreReady P.ways (rows_of self.new)) }
-        ensures accounts { IfOk result (λ turn. AreClosed (sight_of self.old) turn.ended.items (account_at (rows_of self.old)) (account_at (rows_of self.new))) }
-        ensures leads { IfOk result (λ turn. StepsTold P.ways (Heard arrival) line client turn.posted.items turn.ended.items self.old self.new) }
-    {
-        let mut turn = Turn::new(self.alloc);
-        self.tell(line, arrival, now, &mut turn)?;
-        self.send_group(client, &mut turn)?;
-        Ok(turn)
-    }
-
-    /// The reply to the group of a client came.
-    fn hear_group(&mut self, client: usize, reply: Reply, now: u64) -> Result<Turn, NoMemory>
-        requires client { client < length (crashed_of self.old) }
-        requires ready { AreReady P.ways (rows_of self.old) }
-        requires clock { now < 2 ^ 44 }
-        ensures turn { IfOk result (λ turn. Goes turn.posted.items turn.ended.items (sight_of self.old) (sight_of self.new)) }
-        ensures given { IfOk result (λ turn. (t : Name) → HasOut (sight_of self.old) client t → All (Names (IsGiven (sight_of self.old) t reply)) turn.ended.items) }
-        ensures steps { IfOk result (GroupSteps P.ways client (λ u r. Took u r reply) self.old self.new) }
-        ensures groups { IfOk result (λ turn. IsReady P.ways self.old → GroupsBeside client turn.posted.items (sight_of self.old) (sight_of self.new)) }
-        ensures ready { OnOk result (AreReady P.ways (rows_of self.new)) }
-        ensures accounts { IfOk result (λ turn. AreClosed (sight_of self.old) turn.ended.items (account_at (rows_of self.old)) (account_at (rows_of self.new))) }
-        ensures leads { IfOk result (λ turn. StepsGroup P.ways client (λ u r. Took u r reply) turn.posted.items turn.ended.items self.old self.new) }
+        ensures { IfOk result (HasToldGroup P.ways client (coming_as reply) self.old self.new) }
     {
         let mut turn = Turn::new(self.alloc);
         self.take_group(client, reply, now, &mut turn)?;
-        self.send_group(client, &mut turn)?;
-        Ok(turn)
-    }
-
-    /// The group of a client was lost.
-    fn miss_group(&mut self, client: usize, now: u64) -> Result<Turn, NoMemory>
-        requires client { client < length (crashed_of self.old) }
-        requires ready { AreReady P.ways (rows_of self.old) }
-        requires clock { now < 2 ^ 44 }
-        ensures turn { IfOk result (λ turn. Goes turn.posted.items turn.ended.items (sight_of self.old) (sight_of self.new)) }
-        ensures given { IfOk result (λ turn. All (Names NoneGiven) turn.ended.items) }
-        ensures steps { IfOk result (GroupSteps P.ways client (λ u r. Gone u r) self.old self.new) }
-        ensures groups { IfOk result (λ turn. IsReady P.ways self.old → GroupsBeside client turn.posted.items (sight_of self.old) (sight_of self.new)) }
-        ensures ready { OnOk result (AreReady P.ways (rows_of self.new)) }
-        ensures accounts { IfOk result (λ turn. AreClosed (sight_of self.old) turn.ended.items (account_at (rows_of self.old)) (account_at (rows_of self.new))) }
-        ensures leads { IfOk result (λ turn. StepsGroup P.ways client (λ u r. Gone u r) turn.posted.items turn.ended.items self.old self.new) }
-    {
-        let mut turn = Turn::new(self.alloc);
-        self.lose_group(client, now, &mut turn)?;
         self.send_group(client, &mut turn)?;
         Ok(turn)
     }
@@ -348,50 +355,22 @@ where
         }
     }
 
-    fn take_reply(&mut self, ticket: Ticket, reply: Reply, now: u64) -> Result<Turn, NoMemory> {
-        // No call waits for the reply to a beat.
+    fn tell(&mut self, ticket: Ticket, what: Coming, now: u64) -> Result<Turn, NoMemory> {
+        // No call waits for what comes for a beat.
         if ticket.beat {
+            drop(what);
             return Ok(Turn::new(self.alloc));
         }
         match self.live_client(ticket.line) {
-            None => Ok(Turn::new(self.alloc)),
+            None => {
+                drop(what);
+                Ok(Turn::new(self.alloc))
+            }
             Some(client) => {
                 if self.is_group(client, ticket) {
-                    return self.hear_group(client, reply, now);
+                    return self.tell_group(client, ticket, what, now);
                 }
-                let number = ticket.number;
-                self.hear(ticket.line, client, Arrival::Reply { number, reply }, now)
-            }
-        }
-    }
-
-    fn lost(&mut self, ticket: Ticket, _request: &Request, now: u64) -> Result<Turn, NoMemory> {
-        // No call waits for the reply to a beat.
-        if ticket.beat {
-            return Ok(Turn::new(self.alloc));
-        }
-        match self.live_client(ticket.line) {
-            None => Ok(Turn::new(self.alloc)),
-            Some(client) => {
-                if self.is_group(client, ticket) {
-                    return self.miss_group(client, now);
-                }
-                let number = ticket.number;
-                self.hear(ticket.line, client, Arrival::Lost { number }, now)
-            }
-        }
-    }
-
-    fn slept(&mut self, ticket: Ticket, now: u64) -> Result<Turn, NoMemory> {
-        // No call waits for the end of a beat's sleep.
-        if ticket.beat {
-            return Ok(Turn::new(self.alloc));
-        }
-        match self.live_client(ticket.line) {
-            None => Ok(Turn::new(self.alloc)),
-            Some(client) => {
-                let number = ticket.number;
-                self.hear(ticket.line, client, Arrival::Slept { number }, now)
+                self.hear(client, ticket, what, now)
             }
         }
     }

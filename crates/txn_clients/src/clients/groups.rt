@@ -6,11 +6,7 @@ ghost use Rattle.txn_clients.specs.Accounts.{account_at};
 ghost use Rattle.txn_clients.specs.Clients.{AreGiven, AreReady, HasOut, IsLine, asks_at, crashed_of, groups_of, nexts_of, rows_of, sight_of};
 ghost use Rattle.txn_clients.specs.Failing.{IfFails};
 ghost use Rattle.txn_clients.specs.Going.{Advances, NamesIn};
-ghost use Rattle.txn_history.specs.Event.Event.{Lost, Took};
-ghost use Rattle.txn_kv.specs.declared.errors.Error.TheVariants.{InternalError};
-ghost use Rattle.txn_kv.specs.declared.errors.Internal.TheVariants.{OracleLost};
-ghost use Rattle.txn_side.specs.Trace.{Refuses};
-ghost use Rattle.txn_clients.specs.Groups.{IsRefused, IsTimeFor, IsTimed};
+ghost use Rattle.txn_clients.specs.Groups.{IsRefused, IsTimeFor, IsTimed, RefusesBy, coming_as, over_by};
 ghost use Rattle.txn_clients.specs.Turns.{GivenGoes, GroupGoes, GroupLeads, NextGoes};
 ghost use Rattle.txn_clients.specs.Waiting.{AreRunning, RegroupsAt, SendsGroup, SetsTicket, Takes, book_at};
 ghost use Rattle.txn_kv.specs.declared.reply.Reply.TheVariants as replies;
@@ -18,7 +14,8 @@ ghost use Rattle.txn_kv.specs.declared.reply.cluster.TsoResponse.{TsoResponse as
 ghost use Rattle.txn_kv.specs.declared.request.Request.TheVariants.{Tso};
 ghost use Rattle.txn_kv.specs.declared.ticket.Ticket.{Ticket as Name};
 ghost use Rattle.txn_side.specs.Account.{AreClosed};
-ghost use Rattle.txn_side.specs.Sight.{AskFor, GroupsGo, IsGiven, IsNext, NoneGiven, is_live, line_count, client_at, stand_at};
+ghost use Rattle.txn_side.specs.Sight.{AskFor, GroupsGo, IsNext, is_live, line_count, client_at, stand_at};
+ghost use Rattle.txn_side.specs.Steps.{GivesTo};
 ghost use Rattle.txn_tso.specs.Oracle.{answered};
 
 use crate::client_state::{Answers, Group};
@@ -57,8 +54,8 @@ impl<P> Clients<P> {
         self.clients[client].next_group(self.alloc, newest)
     }
 
-    /// What the reply to the group of a client that is out gives its askers.
-    fn take_times(&mut self, client: usize, reply: Reply) -> Result<Answers, NoMemory>
+    /// What the reply to the group of a client that is out gives its askers: none where it was lost.
+    fn take_times(&mut self, client: usize, reply: Option<Reply>) -> Result<Answers, NoMemory>
         requires { client < length (crashed_of self.old) }
         ensures rows { OnOk result (rows_of self.new ≡ rows_of self.old) }
         ensures nexts { OnOk result (nexts_of self.new ≡ nexts_of self.old) }
@@ -66,27 +63,12 @@ impl<P> Clients<P> {
         ensures groups { OnOk result (GroupsGo [] (sight_of self.old) (sight_of self.new)) }
         ensures times { IfOk result (λ given. All IsTimeFor given.items) }
         ensures given { IfOk result (λ given. AreGiven (sight_of self.old) client reply given.items) }
-        ensures errors { IfOk result (λ given. All (λ a. IfFails (Refuses (length given.items) reply) a.1) given.items) }
+        ensures errors { IfOk result (λ given. All (λ a. IfFails (RefusesBy (length given.items) reply) a.1) given.items) }
         ensures takes { IfOk result (λ given. Takes client given.items self.old self.new) }
-        ensures granted { IfOk result (λ given. (times : Times) → reply ≡ replies.Tso times → given.items ≡ answered times (oracle_of (book_at self.old client))) }
-        ensures refused { IfOk result (λ given. ((times : Times) → reply ≡ replies.Tso times → ⊥) → All IsRefused given.items) }
+        ensures granted { IfOk result (λ given. (times : Times) → reply ≡ Some (replies.Tso times) → given.items ≡ answered times (oracle_of (book_at self.old client))) }
+        ensures refused { IfOk result (λ given. ((times : Times) → reply ≡ Some (replies.Tso times) → ⊥) → All IsRefused given.items) }
     {
         self.clients[client].take_group(self.alloc, reply)
-    }
-
-    /// What the askers of the group of a client that was lost are told.
-    fn lose_times(&mut self, client: usize) -> Result<Answers, NoMemory>
-        requires { client < length (crashed_of self.old) }
-        ensures rows { OnOk result (rows_of self.new ≡ rows_of self.old) }
-        ensures nexts { OnOk result (nexts_of self.new ≡ nexts_of self.old) }
-        ensures crashed { OnOk result (crashed_of self.new ≡ crashed_of self.old) }
-        ensures groups { OnOk result (GroupsGo [] (sight_of self.old) (sight_of self.new)) }
-        ensures times { IfOk result (λ given. All IsTimeFor given.items) }
-        ensures refused { IfOk result (λ given. All IsRefused given.items) }
-        ensures errors { IfOk result (λ given. All (λ a. IfFails (λ e. e ≡ InternalError OracleLost) a.1) given.items) }
-        ensures takes { IfOk result (λ given. Takes client given.items self.old self.new) }
-    {
-        self.clients[client].lose_group(self.alloc)
     }
 
     /// This is the ticket of the group of a client that is out.
@@ -179,11 +161,11 @@ where
         }
     }
 
-    /// The reply to the group of a client that is out.
+    /// The reply to the group of a client that is out came, or it was lost.
     pub(crate) fn take_group(
         &mut self,
         client: usize,
-        reply: Reply,
+        reply: Option<Reply>,
         now: u64,
         turn: &mut Turn,
     ) -> Result<(), NoMemory>
@@ -191,38 +173,15 @@ where
         requires ready { AreReady P.ways (rows_of self.old) }
         requires clock { now < 2 ^ 44 }
         ensures advances { OnOk result (Advances turn.old turn.new (sight_of self.old) (sight_of self.new)) }
-        ensures names { OnOk result ((t : Name) → HasOut (sight_of self.old) client t → NamesIn (IsGiven (sight_of self.old) t reply) turn.old turn.new) }
+        ensures names { OnOk result ((t : Name) → HasOut (sight_of self.old) client t → NamesIn (GivesTo (sight_of self.old) t (coming_as reply)) turn.old turn.new) }
         ensures ready { OnOk result (AreReady P.ways (rows_of self.new)) }
         ensures accounts { OnOk result (turn.old.posted.items ≡ [] → turn.old.ended.items ≡ [] → AreClosed (sight_of self.old) turn.new.ended.items (account_at (rows_of self.old)) (account_at (rows_of self.new))) }
         ensures crashed { OnOk result (crashed_of self.new ≡ crashed_of self.old) }
-        ensures waits { OnOk result (GroupGoes P.ways client (λ u r. Took u r reply) turn.old turn.new self.old self.new) }
+        ensures waits { OnOk result (GroupGoes P.ways client (over_by reply) turn.old turn.new self.old self.new) }
         ensures runs { OnOk result (AreRunning (rows_of self.old) → AreRunning (rows_of self.new)) }
-        ensures leads { OnOk result (GroupLeads P.ways client (λ u r. Took u r reply) turn.old turn.new self.old self.new) }
+        ensures leads { OnOk result (GroupLeads P.ways client (over_by reply) turn.old turn.new self.old self.new) }
     {
         let given = self.take_times(client, reply)?;
-        self.give(client, given, now, turn)
-    }
-
-    /// No reply to the group of a client that is out will come.
-    pub(crate) fn lose_group(
-        &mut self,
-        client: usize,
-        now: u64,
-        turn: &mut Turn,
-    ) -> Result<(), NoMemory>
-        requires client { client < length (crashed_of self.old) }
-        requires ready { AreReady P.ways (rows_of self.old) }
-        requires clock { now < 2 ^ 44 }
-        ensures advances { OnOk result (Advances turn.old turn.new (sight_of self.old) (sight_of self.new)) }
-        ensures names { OnOk result (NamesIn NoneGiven turn.old turn.new) }
-        ensures ready { OnOk result (AreReady P.ways (rows_of self.new)) }
-        ensures accounts { OnOk result (turn.old.posted.items ≡ [] → turn.old.ended.items ≡ [] → AreClosed (sight_of self.old) turn.new.ended.items (account_at (rows_of self.old)) (account_at (rows_of self.new))) }
-        ensures crashed { OnOk result (crashed_of self.new ≡ crashed_of self.old) }
-        ensures waits { OnOk result (GroupGoes P.ways client (λ u r. Lost u r) turn.old turn.new self.old self.new) }
-        ensures runs { OnOk result (AreRunning (rows_of self.old) → AreRunning (rows_of self.new)) }
-        ensures leads { OnOk result (GroupLeads P.ways client (λ u r. Lost u r) turn.old turn.new self.old self.new) }
-    {
-        let given = self.lose_times(client)?;
         self.give(client, given, now, turn)
     }
 
@@ -258,7 +217,7 @@ where
                 ask: asker.ask,
                 answer,
             };
-            self.tell(asker.line, arrival, now, turn)?;
+            self.tell_line(asker.line, arrival, now, turn)?;
         }
         Ok(())
     }

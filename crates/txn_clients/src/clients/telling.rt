@@ -371,7 +371,7 @@ where
     }
 
     /// Whoever waits for a line hears what came for it, if anybody does.
-    pub(crate) fn tell(
+    pub(crate) fn tell_line(
         &mut self,
         line: u64,
         arrival: Arrival,

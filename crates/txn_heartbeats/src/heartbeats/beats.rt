@@ -1,10 +1,9 @@
 //! Heartbeats start, and are told of what comes for them.
-ghost use Rattle.std.specs.Prelude.{◌≡◌, ◌-◌, ◌<◌, ◌≤◌, ◌++◌, ◌∷◌, ◌^◌, [], IfOk, None, OnOk, Some, false, length, slice_set, true};
+ghost use Rattle.std.specs.Prelude.{◌≡◌, ◌-◌, ◌<◌, ◌≤◌, ◌++◌, ◌∷◌, ◌^◌, [], IfOk, None, OnOk, false, length, slice_set, true};
 ghost use Rattle.txn_heartbeat.specs.Hosting.{StaysSo};
-ghost use Rattle.txn_heartbeat.specs.declared.heartbeat_job.HeartbeatJob.{HeartbeatJob};
 ghost use Rattle.txn_heartbeats.specs.Beating.{AreBeats, AreTimeless, IsLine, PostsBeats, beat_ticket, posted_as, postings_of};
 ghost use Rattle.txn_heartbeats.specs.Hearts.{IsReady, beats_of, job_at, jobs_of};
-ghost use Rattle.txn_heartbeats.specs.Started.{HasTold, StartsAsLent, starts_of, transaction_at, transactions_of, was_started};
+ghost use Rattle.txn_heartbeats.specs.Started.{StartsAsLent, TellsJob, starts_of, transactions_of, was_started};
 ghost use Rattle.txn_history.specs.Arrivals.{MayArrive};
 ghost use Rattle.txn_side.specs.Sight.{is_live};
 
@@ -99,7 +98,12 @@ impl<S: HeartHost, H: PlanForHeartbeats> Heartbeats<S, H> {
     }
 
     /// Something came for the heartbeat of a line.
-    pub(crate) fn tell(&mut self, line: u64, arrival: Arrival, now: u64) -> Result<Turn, NoMemory>
+    pub(crate) fn tell_beat(
+        &mut self,
+        line: u64,
+        arrival: Arrival,
+        now: u64,
+    ) -> Result<Turn, NoMemory>
         requires ready { IsReady S.ready S.sight H.meaning self.old }
         requires arrives { MayArrive arrival }
         requires clock { now < 2 ^ 44 }
@@ -108,7 +112,7 @@ impl<S: HeartHost, H: PlanForHeartbeats> Heartbeats<S, H> {
         ensures beats { IfOk result (λ turn. AreBeats line (beats_of self.old) turn.posted.items (beats_of self.new)) }
         ensures dead { is_live (S.sight self.old.side) line ≡ false → IfOk result (λ turn. turn.posted.items ≡ []) }
         ensures ready { OnOk result (IsReady S.ready S.sight H.meaning self.new) }
-        ensures told { is_live (S.sight self.old.side) line ≡ true → (job : HeartbeatJob H) → job_at (jobs_of self.old) line ≡ Some job → IfOk result (HasTold H.meaning line arrival (S.status_at self.old.side (transaction_at (transactions_of self.old) line)) now job self.old self.new) }
+        ensures told { is_live (S.sight self.old.side) line ≡ true → IfOk result (TellsJob H.meaning S.status_at line arrival now self.old self.new) }
         ensures nobody { job_at (jobs_of self.old) line ≡ None → IfOk result (λ turn. (turn.posted.items ≡ []) × (jobs_of self.new ≡ jobs_of self.old)) }
         ensures kept { OnOk result ((starts_of self.new ≡ starts_of self.old) × (transactions_of self.new ≡ transactions_of self.old)) }
     {

@@ -1,28 +1,32 @@
 //! What a machine asks of clients and their heartbeats.
-ghost use Rattle.std.specs.List.{All};
-ghost use Rattle.std.specs.Prelude.{◌≡◌, ◌<◌, ◌≤◌, ◌^◌, [], IfOk, IfSome, None, OnOk, Some, false, length, true};
-ghost use Rattle.txn_heartbeat.specs.declared.heartbeat_job.HeartbeatJob.{HeartbeatJob};
-ghost use Rattle.txn_heartbeats.specs.Hearts.{ArisesIn, IsReady, RestsIn, beats_of, job_at, jobs_of, sight_of, waits_of};
-ghost use Rattle.txn_heartbeats.specs.Started.{BeginsBeat, HasTold, is_commit, transaction_at, transactions_of};
-ghost use Rattle.txn_history.specs.Event.Event.{Lost, Took};
-ghost use Rattle.txn_kv.specs.declared.arrival.Arrival.TheVariants as arrivals;
-ghost use Rattle.txn_side.specs.Account.{AreClosed, MayTakeIn};
-ghost use Rattle.txn_side.specs.Arising.{ArisesAwake, ArisesHearing, ArisesOn};
-ghost use Rattle.txn_side.specs.Sight.{Acts, Goes, IsGiven, Names, NoneGiven, commits, is_live, line_count};
-ghost use Rattle.txn_side.specs.Trace.{ActsOn, HearsOn, WakesOn};
-ghost use Rattle.txn_side.specs.Waiting.{HearsEnd, HearsReply, NoneHeard, WaitsOn, posted_in};
+ghost use Rattle.std.specs.Prelude.{◌≡◌, ◌<◌, ◌≤◌, ◌^◌, [], IfOk, None, OnOk, false, true};
+ghost use Rattle.txn_heartbeats.specs.Hearts.{IsReady, job_at, jobs_of, sight_of};
+ghost use Rattle.txn_heartbeats.specs.Started.{BeginsOnCommit, TellsJob, arrival_of, is_commit};
+ghost use Rattle.txn_heartbeats.specs.Steps.{ToldWithBeats, UsedWithBeats};
+ghost use Rattle.txn_side.specs.Sight.{is_live, line_count};
 
 use crate::heartbeats::Heartbeats;
 use crate::pulse::Pulse;
 use txn_heartbeat::{HeartHost, PlanForHeartbeats};
-use txn_kv::{Arrival, NoMemory, Reply, Request, Ticket};
+use txn_kv::{Arrival, NoMemory, Ticket};
 use txn_lines::{Act, ClientAct};
-use txn_side::{ClientSide, Turn};
+use txn_side::{ClientSide, Coming, Turn};
 
 fn is_commit(act: &Act) -> bool
     ensures { result ≡ is_commit act.now }
 {
     matches!(act, Act::Commit)
+}
+
+/// What came for a ticket of a heartbeat, as its job is told of it.
+fn arrival_of(number: u64, what: Coming) -> Arrival
+    ensures { result ≡ arrival_of number what }
+{
+    match what {
+        Coming::Reply(reply) => Arrival::Reply { number, reply },
+        Coming::Lost => Arrival::Lost { number },
+        Coming::Slept => Arrival::Slept { number },
+    }
 }
 
 impl<S: HeartHost, H: PlanForHeartbeats> ClientSide for Heartbeats<S, H> {
@@ -83,13 +87,8 @@ impl<S: HeartHost, H: PlanForHeartbeats> ClientSide for Heartbeats<S, H> {
         requires ready { IsReady S.ready S.sight H.meaning self.old }
         requires line { 1 ≤ line_count (sight_of S.sight self.old) }
         requires clock { now < 2 ^ 44 }
-        ensures turn { IfOk result (Acts act transaction (sight_of S.sight self.old) (sight_of S.sight self.new)) }
-        ensures waits { IfOk result (λ turn. WaitsOn NoneHeard (posted_in turn) (waits_of S.sight S.waits self.old) (waits_of S.sight S.waits self.new) (sight_of S.sight self.old) (sight_of S.sight self.new)) }
-        ensures ready { OnOk result (IsReady S.ready S.sight H.meaning self.new) }
-        ensures accounts { IfOk result (MayTakeIn act transaction (line_count (sight_of S.sight self.old)) (S.account self.old.side) (S.account self.new.side)) }
-        ensures rests { IfOk result (ActsOn S.fails (RestsIn S.sight S.rests self.old) (RestsIn S.sight S.rests self.new) act transaction (line_count (sight_of S.sight self.old)) (S.account self.old.side transaction)) }
-        ensures arises { IfOk result (ArisesOn (ArisesIn S.arises self.old) (ArisesIn S.arises self.new) (S.holds self.old.side) (S.holds self.new.side) (λ n. record { at = transaction; commits = commits act })) }
-        ensures begins { is_commit act ≡ true → IfOk result (λ turn. IfSome turn (BeginsBeat (λ before. Acts act transaction (S.sight self.old.side) (S.sight self.new.side) (Some before)) (S.heart self.new.side transaction) (length (beats_of self.old)) transaction (record self.old { side = self.new.side }) self.new)) }
+        ensures step { IfOk result (UsedWithBeats S.sight S.ready H.meaning S.waits S.account S.fails S.rests S.arises S.holds transaction act self.old self.new) }
+        ensures begins { IfOk result (BeginsOnCommit S.sight S.heart act transaction self.old self.new) }
         ensures alone { is_commit act ≡ false → OnOk result (self.new ≡ record self.old { side = self.new.side }) }
     {
         let commits = is_commit(&act);
@@ -105,66 +104,17 @@ impl<S: HeartHost, H: PlanForHeartbeats> ClientSide for Heartbeats<S, H> {
         }
     }
 
-    fn take_reply(&mut self, ticket: Ticket, reply: Reply, now: u64) -> Result<Turn, NoMemory>
+    fn tell(&mut self, ticket: Ticket, what: Coming, now: u64) -> Result<Turn, NoMemory>
         requires ready { IsReady S.ready S.sight H.meaning self.old }
         requires clock { now < 2 ^ 44 }
-        ensures turn { IfOk result (λ turn. Goes turn.posted.items turn.ended.items (sight_of S.sight self.old) (sight_of S.sight self.new)) }
-        ensures given { IfOk result (λ turn. All (Names (IsGiven (sight_of S.sight self.old) ticket reply)) turn.ended.items) }
-        ensures waits { is_live (sight_of S.sight self.old) ticket.line ≡ true → IfOk result (λ turn. WaitsOn (HearsReply ticket) turn.posted.items (waits_of S.sight S.waits self.old) (waits_of S.sight S.waits self.new) (sight_of S.sight self.old) (sight_of S.sight self.new)) }
-        ensures ready { OnOk result (IsReady S.ready S.sight H.meaning self.new) }
-        ensures accounts { IfOk result (λ turn. AreClosed (sight_of S.sight self.old) turn.ended.items (S.account self.old.side) (S.account self.new.side)) }
-        ensures rests { IfOk result (HearsOn S.fails (RestsIn S.sight S.rests self.old) (RestsIn S.sight S.rests self.new) (sight_of S.sight self.old) ticket (λ r. Took ticket r reply)) }
-        ensures arises { IfOk result (ArisesHearing (ArisesIn S.arises self.old) (ArisesIn S.arises self.new) (S.holds self.old.side) (S.holds self.new.side) (sight_of S.sight self.old) (λ r. Took ticket r reply)) }
-        ensures told { ticket.beat ≡ true → is_live (S.sight self.old.side) ticket.line ≡ true → (job : HeartbeatJob H) → job_at (jobs_of self.old) ticket.line ≡ Some job → IfOk result (HasTold H.meaning ticket.line (arrivals.Reply ticket.number reply) (S.status_at self.old.side (transaction_at (transactions_of self.old) ticket.line)) now job self.old self.new) }
+        ensures step { IfOk result (ToldWithBeats S.sight S.ready H.meaning S.waits S.account S.fails S.rests S.arises S.holds ticket what self.old self.new) }
+        ensures told { ticket.beat ≡ true → is_live (S.sight self.old.side) ticket.line ≡ true → IfOk result (TellsJob H.meaning S.status_at ticket.line (arrival_of ticket.number what) now self.old self.new) }
         ensures nobody { ticket.beat ≡ true → job_at (jobs_of self.old) ticket.line ≡ None → IfOk result (λ turn. (turn.posted.items ≡ []) × (jobs_of self.new ≡ jobs_of self.old)) }
         ensures alone { ticket.beat ≡ false → OnOk result (self.new ≡ record self.old { side = self.new.side }) }
     {
         if !ticket.beat {
-            return self.side.take_reply(ticket, reply, now);
+            return self.side.tell(ticket, what, now);
         }
-        let number = ticket.number;
-        self.tell(ticket.line, Arrival::Reply { number, reply }, now)
-    }
-
-    fn lost(&mut self, ticket: Ticket, request: &Request, now: u64) -> Result<Turn, NoMemory>
-        requires ready { IsReady S.ready S.sight H.meaning self.old }
-        requires clock { now < 2 ^ 44 }
-        ensures turn { IfOk result (λ turn. Goes turn.posted.items turn.ended.items (sight_of S.sight self.old) (sight_of S.sight self.new)) }
-        ensures given { IfOk result (λ turn. All (Names NoneGiven) turn.ended.items) }
-        ensures waits { is_live (sight_of S.sight self.old) ticket.line ≡ true → IfOk result (λ turn. WaitsOn (HearsReply ticket) turn.posted.items (waits_of S.sight S.waits self.old) (waits_of S.sight S.waits self.new) (sight_of S.sight self.old) (sight_of S.sight self.new)) }
-        ensures ready { OnOk result (IsReady S.ready S.sight H.meaning self.new) }
-        ensures accounts { IfOk result (λ turn. AreClosed (sight_of S.sight self.old) turn.ended.items (S.account self.old.side) (S.account self.new.side)) }
-        ensures rests { IfOk result (HearsOn S.fails (RestsIn S.sight S.rests self.old) (RestsIn S.sight S.rests self.new) (sight_of S.sight self.old) ticket (λ r. Lost ticket r)) }
-        ensures arises { IfOk result (ArisesHearing (ArisesIn S.arises self.old) (ArisesIn S.arises self.new) (S.holds self.old.side) (S.holds self.new.side) (sight_of S.sight self.old) (λ r. Lost ticket r)) }
-        ensures told { ticket.beat ≡ true → is_live (S.sight self.old.side) ticket.line ≡ true → (job : HeartbeatJob H) → job_at (jobs_of self.old) ticket.line ≡ Some job → IfOk result (HasTold H.meaning ticket.line (arrivals.Lost ticket.number) (S.status_at self.old.side (transaction_at (transactions_of self.old) ticket.line)) now job self.old self.new) }
-        ensures nobody { ticket.beat ≡ true → job_at (jobs_of self.old) ticket.line ≡ None → IfOk result (λ turn. (turn.posted.items ≡ []) × (jobs_of self.new ≡ jobs_of self.old)) }
-        ensures alone { ticket.beat ≡ false → OnOk result (self.new ≡ record self.old { side = self.new.side }) }
-    {
-        if !ticket.beat {
-            return self.side.lost(ticket, request, now);
-        }
-        let number = ticket.number;
-        self.tell(ticket.line, Arrival::Lost { number }, now)
-    }
-
-    fn slept(&mut self, ticket: Ticket, now: u64) -> Result<Turn, NoMemory>
-        requires ready { IsReady S.ready S.sight H.meaning self.old }
-        requires clock { now < 2 ^ 44 }
-        ensures turn { IfOk result (λ turn. Goes turn.posted.items turn.ended.items (sight_of S.sight self.old) (sight_of S.sight self.new)) }
-        ensures given { IfOk result (λ turn. All (Names NoneGiven) turn.ended.items) }
-        ensures waits { is_live (sight_of S.sight self.old) ticket.line ≡ true → IfOk result (λ turn. WaitsOn (HearsEnd ticket) turn.posted.items (waits_of S.sight S.waits self.old) (waits_of S.sight S.waits self.new) (sight_of S.sight self.old) (sight_of S.sight self.new)) }
-        ensures ready { OnOk result (IsReady S.ready S.sight H.meaning self.new) }
-        ensures accounts { IfOk result (λ turn. AreClosed (sight_of S.sight self.old) turn.ended.items (S.account self.old.side) (S.account self.new.side)) }
-        ensures rests { IfOk result (WakesOn S.fails (RestsIn S.sight S.rests self.old) (RestsIn S.sight S.rests self.new)) }
-        ensures arises { IfOk result (ArisesAwake (ArisesIn S.arises self.old) (ArisesIn S.arises self.new) (S.holds self.old.side) (S.holds self.new.side) (sight_of S.sight self.old) ticket) }
-        ensures told { ticket.beat ≡ true → is_live (S.sight self.old.side) ticket.line ≡ true → (job : HeartbeatJob H) → job_at (jobs_of self.old) ticket.line ≡ Some job → IfOk result (HasTold H.meaning ticket.line (arrivals.Slept ticket.number) (S.status_at self.old.side (transaction_at (transactions_of self.old) ticket.line)) now job self.old self.new) }
-        ensures nobody { ticket.beat ≡ true → job_at (jobs_of self.old) ticket.line ≡ None → IfOk result (λ turn. (turn.posted.items ≡ []) × (jobs_of self.new ≡ jobs_of self.old)) }
-        ensures alone { ticket.beat ≡ false → OnOk result (self.new ≡ record self.old { side = self.new.side }) }
-    {
-        if !ticket.beat {
-            return self.side.slept(ticket, now);
-        }
-        let number = ticket.number;
-        self.tell(ticket.line, Arrival::Slept { number }, now)
+        self.tell_beat(ticket.line, arrival_of(ticket.number, what), now)
     }
 }

@@ -21,7 +21,7 @@ use crate::machine::Machine;
 use txn_kv::{Key, NoMemory, Reply, Ticket};
 use txn_lines::{Deed, Happening};
 use txn_report::Outcome;
-use txn_side::{ClientSide, Turn};
+use txn_side::{ClientSide, Coming, Turn};
 
 impl<S: ClientSide> Machine<S> {
     /// Something happens that no client asked for.
@@ -229,7 +229,7 @@ impl<S: ClientSide> Machine<S> {
         ensures arises { IfOk result (λ done. ArisesHearing (S.arises self.old.clients) (S.arises self.new.clients) (S.holds self.old.clients) (S.holds self.new.clients) (S.sight self.old.clients) (λ r. Took ticket r reply) done.turn) }
     {
         let now = self.store.clock();
-        let turn = self.clients.take_reply(ticket, reply, now)?;
+        let turn = self.clients.tell(ticket, Coming::Reply(reply), now)?;
         Ok(self.came(turn))
     }
 
@@ -251,9 +251,7 @@ impl<S: ClientSide> Machine<S> {
             return Ok(self.happened(false));
         };
         self.post.lose(place);
-        let now = self.store.clock();
-        let request = &self.post.sent()[place].request;
-        let turn = self.clients.lost(ticket, request, now)?;
+        let turn = self.clients.tell(ticket, Coming::Lost, self.store.clock())?;
         Ok(self.came(turn))
     }
 
@@ -275,7 +273,9 @@ impl<S: ClientSide> Machine<S> {
             return Ok(self.happened(false));
         };
         self.post.wake(place);
-        let turn = self.clients.slept(ticket, self.store.clock())?;
+        let turn = self
+            .clients
+            .tell(ticket, Coming::Slept, self.store.clock())?;
         Ok(self.came(turn))
     }
 

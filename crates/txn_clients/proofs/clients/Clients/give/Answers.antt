@@ -48,17 +48,17 @@ pub loop-asker-preserved : goal.loop-asker-preserved
 loop-asker-preserved g c =
     let here_among = c.loop-asker.invariant.rest (c.in-Some.asker, c.in-Some.answer) (subst (λ xs. IsAmong xs (c.in-Some.asker, c.in-Some.answer)) (sym c.in-Some.ensures.steps.0) (inl refl)) in
     record {
-      advances = advances_then c.args.turn.now c.loop-asker.turn c.tell.new.turn (sight_of c.args.self.now) (sight_of c.loop-asker.self) (sight_of c.tell.new.self) c.loop-asker.invariant.advances c.in_ok-tell.ensures.advances;
-      names = names_then (IsTimed c.args.given.items) c.args.turn.now c.loop-asker.turn c.tell.new.turn c.loop-asker.invariant.names
-          (names_weaker (OfLine c.in-Some.asker.line (Brings (Time c.in-Some.asker.ask c.in-Some.answer))) (IsTimed c.args.given.items) c.loop-asker.turn c.tell.new.turn
-          (λ n v q. timed_by c.args.given.items c.in-Some.asker c.in-Some.answer n v here_among q.0 q.1) c.in_ok-tell.ensures.names);
-      ready = c.in_ok-tell.ensures.ready;
+      advances = advances_then c.args.turn.now c.loop-asker.turn c.tell_line.new.turn (sight_of c.args.self.now) (sight_of c.loop-asker.self) (sight_of c.tell_line.new.self) c.loop-asker.invariant.advances c.in_ok-tell_line.ensures.advances;
+      names = names_then (IsTimed c.args.given.items) c.args.turn.now c.loop-asker.turn c.tell_line.new.turn c.loop-asker.invariant.names
+          (names_weaker (OfLine c.in-Some.asker.line (Brings (Time c.in-Some.asker.ask c.in-Some.answer))) (IsTimed c.args.given.items) c.loop-asker.turn c.tell_line.new.turn
+          (λ n v q. timed_by c.args.given.items c.in-Some.asker c.in-Some.answer n v here_among q.0 q.1) c.in_ok-tell_line.ensures.names);
+      ready = c.in_ok-tell_line.ensures.ready;
       accounts = λ posted ended.
-          let part = c.in_ok-tell.ensures.accounts in
-          closed_so (sight_of c.args.self.now) (c.loop-asker.turn.ended.items ++ part.more) c.tell.new.turn.ended.items (account_at (rows_of c.args.self.now)) (account_at (rows_of c.tell.new.self)) part.ended
-          (closes_then c.loop-asker.turn.posted.items c.loop-asker.turn.ended.items part.more (sight_of c.args.self.now) (sight_of c.loop-asker.self) (account_at (rows_of c.args.self.now)) (account_at (rows_of c.loop-asker.self)) (account_at (rows_of c.tell.new.self))
+          let part = c.in_ok-tell_line.ensures.accounts in
+          closed_so (sight_of c.args.self.now) (c.loop-asker.turn.ended.items ++ part.more) c.tell_line.new.turn.ended.items (account_at (rows_of c.args.self.now)) (account_at (rows_of c.tell_line.new.self)) part.ended
+          (closes_then c.loop-asker.turn.posted.items c.loop-asker.turn.ended.items part.more (sight_of c.args.self.now) (sight_of c.loop-asker.self) (account_at (rows_of c.args.self.now)) (account_at (rows_of c.loop-asker.self)) (account_at (rows_of c.tell_line.new.self))
           (advances_all c.args.turn.now c.loop-asker.turn (sight_of c.args.self.now) (sight_of c.loop-asker.self) posted ended c.loop-asker.invariant.advances) (c.loop-asker.invariant.accounts posted ended) part.closed);
-      crashed = c.in_ok-tell.ensures.crashed ∙ c.loop-asker.invariant.crashed;
+      crashed = c.in_ok-tell_line.ensures.crashed ∙ c.loop-asker.invariant.crashed;
       waits = λ trace given sound.
           let first = c.loop-asker.invariant.waits trace given sound in
           let left = map (λ (a : Answer). a.0) c.next.new.self.rest.items in
@@ -67,17 +67,17 @@ loop-asker-preserved g c =
           let so_far = goes_longer g.P.Plans.ways (owing_all (refused_of c.loop-asker.asker-iterator.rest.items) trace) later c.args.self.now c.loop-asker.self c.args.client (λ n a. ⊥) (map (λ (a : Answer). a.0) c.loop-asker.asker-iterator.rest.items) c.args.turn.now.posted.items c.loop-asker.turn.posted.items c.args.turn.now.ended.items c.loop-asker.turn.ended.items
           (first_told c.loop-asker.asker-iterator.rest.items (c.in-Some.asker, c.in-Some.answer) c.next.new.self.rest.items trace c.in-Some.ensures.steps.0) first in
           let came = given_came trace (refused_of c.next.new.self.rest.items) c.loop-asker.turn.posted.items c.args.given.items c.in-Some.asker c.in-Some.answer given here_among in
-          goes_on _ later c.args.self.now c.loop-asker.self c.tell.new.self c.args.client (λ n a. ⊥) (HearsAt c.in-Some.asker.line (Heard (Time c.in-Some.asker.ask c.in-Some.answer))) _ left c.args.turn.now.posted.items c.loop-asker.turn.posted.items c.tell.new.turn.posted.items c.args.turn.now.ended.items c.loop-asker.turn.ended.items c.tell.new.turn.ended.items so_far
-          (c.in_ok-tell.ensures.waits later c.args.client left (c.if-not-is_of.ensures.live refl) (c.if-not-is_of.ensures.own refl) came here);
-      runs = λ running. c.in_ok-tell.ensures.runs (c.loop-asker.invariant.runs running);
+          goes_on _ later c.args.self.now c.loop-asker.self c.tell_line.new.self c.args.client (λ n a. ⊥) (HearsAt c.in-Some.asker.line (Heard (Time c.in-Some.asker.ask c.in-Some.answer))) _ left c.args.turn.now.posted.items c.loop-asker.turn.posted.items c.tell_line.new.turn.posted.items c.args.turn.now.ended.items c.loop-asker.turn.ended.items c.tell_line.new.turn.ended.items so_far
+          (c.in_ok-tell_line.ensures.waits later c.args.client left (c.if-not-is_of.ensures.live refl) (c.if-not-is_of.ensures.own refl) came here);
+      runs = λ running. c.in_ok-tell_line.ensures.runs (c.loop-asker.invariant.runs running);
       leads = λ posted ended askers h f.
           let first = c.loop-asker.invariant.leads posted ended askers h f in
           let here = subst (λ a. Arisen g.P.Plans.ways c.loop-asker.self askers ((a, c.in-Some.answer) ∷ c.next.new.self.rest.items) first.later) (sym (plain_asker c.in-Some.asker c.if-asker.false)) (subst (λ xs. Arisen g.P.Plans.ways c.loop-asker.self askers xs first.later) c.in-Some.ensures.steps.0 first.arisen) in
-          gives_next g.P.Plans.ways c.args.self.now c.loop-asker.self c.tell.new.self askers c.loop-asker.asker-iterator.rest.items c.next.new.self.rest.items c.args.turn.now.posted.items c.loop-asker.turn.posted.items c.tell.new.turn.posted.items c.loop-asker.turn.posted.items c.args.turn.now.ended.items c.loop-asker.turn.ended.items c.tell.new.turn.ended.items h
+          gives_next g.P.Plans.ways c.args.self.now c.loop-asker.self c.tell_line.new.self askers c.loop-asker.asker-iterator.rest.items c.next.new.self.rest.items c.args.turn.now.posted.items c.loop-asker.turn.posted.items c.tell_line.new.turn.posted.items c.loop-asker.turn.posted.items c.args.turn.now.ended.items c.loop-asker.turn.ended.items c.tell_line.new.turn.ended.items h
           (advances_all c.args.turn.now c.loop-asker.turn (sight_of c.args.self.now) (sight_of c.loop-asker.self) posted ended c.loop-asker.invariant.advances)
-          (advances_all c.args.turn.now c.tell.new.turn (sight_of c.args.self.now) (sight_of c.tell.new.self) posted ended (advances_then c.args.turn.now c.loop-asker.turn c.tell.new.turn (sight_of c.args.self.now) (sight_of c.loop-asker.self) (sight_of c.tell.new.self) c.loop-asker.invariant.advances c.in_ok-tell.ensures.advances))
+          (advances_all c.args.turn.now c.tell_line.new.turn (sight_of c.args.self.now) (sight_of c.tell_line.new.self) posted ended (advances_then c.args.turn.now c.loop-asker.turn c.tell_line.new.turn (sight_of c.args.self.now) (sight_of c.loop-asker.self) (sight_of c.tell_line.new.self) c.loop-asker.invariant.advances c.in_ok-tell_line.ensures.advances))
           first
-          (c.in_ok-tell.ensures.leads c.args.client askers c.next.new.self.rest.items first.later members tt (c.if-not-is_of.ensures.own refl) tt here);
+          (c.in_ok-tell_line.ensures.leads c.args.client askers c.next.new.self.rest.items first.later members tt (c.if-not-is_of.ensures.own refl) tt here);
       times = All-tail IsTimeFor (c.in-Some.asker, c.in-Some.answer) c.next.new.self.rest.items (subst (All IsTimeFor) c.in-Some.ensures.steps.0 c.loop-asker.invariant.times);
       rest = λ a among. c.loop-asker.invariant.rest a (subst (λ xs. IsAmong xs a) (sym c.in-Some.ensures.steps.0) (inr among));
     }

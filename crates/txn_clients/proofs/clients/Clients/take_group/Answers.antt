@@ -1,9 +1,9 @@
 use Rattle.std.proofs.Common.{map, sym, ap, subst}
 use Rattle.txn_tso.specs.Oracle.{Answer}
-use Rattle.txn_side.specs.Sight.{IsGiven}
+use Rattle.txn_side.specs.Steps.{GivesTo}
 use Rattle.txn_clients.specs.Clients.{of_calls, rows_of, sight_of, stands_of}
 use Rattle.txn_clients.specs.Going.{Advances, NamesIn}
-use Rattle.txn_clients.specs.Groups.{IsTimed}
+use Rattle.txn_clients.specs.Groups.{IsTimed, coming_as}
 use Rattle.txn_clients.proofs.Advances.{advances_left, advances_then}
 use Rattle.txn_clients.proofs.Naming.{names_weaker}
 use Rattle.txn_clients.proofs.Telling.{on_ok}
@@ -12,8 +12,8 @@ use Rattle.txn_clients.proofs.Grouping.{take_sound}
 use Rattle.txn_clients.proofs.Stepping.{group_ends}
 use Rattle.txn_clients.specs.Waiting.{AreRunning, IsSound}
 use Rattle.txn_clients.specs.Failing.{owing_all, posting_in}
-use Rattle.txn_clients.proofs.Giving.{given_taken, taken_refused}
-use Rattle.txn_clients.proofs.Grouped.{jobs_last, taken_leads}
+use Rattle.txn_clients.proofs.Giving.{given_over, over_refused}
+use Rattle.txn_clients.proofs.Grouped.{jobs_last, come_leads}
 use Rattle.txn_clients.proofs.clients.Clients.take_group.Goals as goal
 
 pub returns-clause-advances : goal.returns-clause-advances
@@ -30,7 +30,7 @@ returns-clause-advances g c =
 pub returns-clause-names : goal.returns-clause-names
 returns-clause-names g c = on_ok c.give.result
     (λ (f : NamesIn (IsTimed c.in_ok-given.given.items) c.args.turn.now c.give.new.turn) t out.
-    names_weaker (IsTimed c.in_ok-given.given.items) (IsGiven (sight_of c.args.self.now) t c.args.reply) c.args.turn.now c.give.new.turn (c.in_ok-given.ensures.given t out) f)
+    names_weaker (IsTimed c.in_ok-given.given.items) (GivesTo (sight_of c.args.self.now) t (coming_as c.args.reply)) c.args.turn.now c.give.new.turn (c.in_ok-given.ensures.given t out) f)
     c.give.ensures.names
 
 pub returns-clause-accounts : goal.returns-clause-accounts
@@ -42,9 +42,9 @@ pub returns-clause-waits : goal.returns-clause-waits
 returns-clause-waits g c = on_ok c.give.result
     (λ f trace came sound.
     let done = c.in_ok-given.ensures in
-    let given = given_taken trace c.args.self.now c.take_times.new.self c.args.client c.args.reply c.in_ok-given.given.items done.takes (sound.paired c.args.client) came done.errors in
+    let given = given_over trace c.args.self.now c.take_times.new.self c.args.client c.args.reply c.in_ok-given.given.items done.takes (sound.paired c.args.client) came done.errors in
     group_ends _ trace c.args.self.now c.take_times.new.self c.give.new.self c.args.client c.in_ok-given.given.items c.args.turn.now.posted.items c.give.new.turn.posted.items c.args.turn.now.ended.items c.give.new.turn.ended.items done.takes done.rows
-    (f trace given (subst (λ lines. IsSound g.P.Plans.ways (posting_in c.args.turn.now.posted.items (owing_all lines trace)) (map (λ (a : Answer). a.0) c.in_ok-given.given.items) c.take_times.new.self) (sym (taken_refused c.args.self.now c.take_times.new.self c.args.client c.args.reply c.in_ok-given.given.items done.takes (sound.paired c.args.client) done.granted done.refused))
+    (f trace given (subst (λ lines. IsSound g.P.Plans.ways (posting_in c.args.turn.now.posted.items (owing_all lines trace)) (map (λ (a : Answer). a.0) c.in_ok-given.given.items) c.take_times.new.self) (sym (over_refused c.args.self.now c.take_times.new.self c.args.client c.args.reply c.in_ok-given.given.items done.takes (sound.paired c.args.client) done.granted done.refused))
     (take_sound _ g.met.P.Plans.lawful _ c.args.self.now c.take_times.new.self c.args.client c.in_ok-given.given.items done.takes done.rows done.nexts done.crashed sound))))
     c.give.ensures.waits
 
@@ -55,6 +55,6 @@ pub returns-clause-leads : goal.returns-clause-leads
 returns-clause-leads g c = on_ok c.give.result
     (λ f posted ended.
     let done = c.in_ok-given.ensures in
-    taken_leads _ g.met.P.Plans.lawful (jobs_last g.P.Plans.ways.plan g.met.P.Plans.lawful g.P.Plans.ways.uncommitted g.P.Plans.ways.costs.commits g.met.P.Plans.lasting.uncommitted) c.args.self.now c.take_times.new.self c.give.new.self c.args.client c.args.reply c.in_ok-given.given.items c.args.turn.now.posted.items c.give.new.turn.posted.items c.args.turn.now.ended.items c.give.new.turn.ended.items
+    come_leads _ g.met.P.Plans.lawful (jobs_last g.P.Plans.ways.plan g.met.P.Plans.lawful g.P.Plans.ways.uncommitted g.P.Plans.ways.costs.commits g.met.P.Plans.lasting.uncommitted) c.args.self.now c.take_times.new.self c.give.new.self c.args.client c.args.reply c.in_ok-given.given.items c.args.turn.now.posted.items c.give.new.turn.posted.items c.args.turn.now.ended.items c.give.new.turn.ended.items
     done.takes done.rows done.nexts done.granted done.refused (f posted ended))
     c.give.ensures.leads

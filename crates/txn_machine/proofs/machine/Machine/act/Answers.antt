@@ -9,10 +9,10 @@ use Rattle.txn_machine.proofs.Resting.{used_on}
 use Rattle.txn_machine.proofs.machine.Machine.act.Goals as goal
 
 pub returns-clause-tells : goal.returns-clause-tells
-returns-clause-tells g c = tell_acts (lists_of g.S.ClientSide.sight c.args.self.now) _ _ (leaves_same _ _ refl refl refl) c.args.act c.args.transaction c.in_ok-turn.turn c.in_ok-turn.ensures.turn c.requires.ordered.even c.called.ensures.own c.called.ensures.ended
+returns-clause-tells g c = tell_acts (lists_of g.S.ClientSide.sight c.args.self.now) _ _ (leaves_same _ _ refl refl refl) c.args.act c.args.transaction c.in_ok-turn.turn c.in_ok-turn.ensures.goes c.requires.ordered.even c.called.ensures.own c.called.ensures.ended
 
 pub returns-clause-out : goal.returns-clause-out
-returns-clause-out g c = acts_out (g.S.ClientSide.waits c.args.self.now.clients) _ (lists_of g.S.ClientSide.sight c.args.self.now) _ _ c.args.act c.args.transaction c.in_ok-turn.turn c.in_ok-turn.ensures.turn c.in_ok-turn.ensures.waits c.called.ensures.posted refl c.requires.ordered
+returns-clause-out g c = acts_out (g.S.ClientSide.waits c.args.self.now.clients) _ (lists_of g.S.ClientSide.sight c.args.self.now) _ _ c.args.act c.args.transaction c.in_ok-turn.turn c.in_ok-turn.ensures.goes c.in_ok-turn.ensures.waits c.called.ensures.posted refl c.requires.ordered
 
 pub returns-clause-credits : goal.returns-clause-credits
 returns-clause-credits g c = record {
@@ -28,4 +28,4 @@ returns-clause-rests g c = used_on g.S.ClientSide.fails (g.S.ClientSide.rests c.
 pub returns-clause-arises : goal.returns-clause-arises
 returns-clause-arises g c looks h knows w =
     let a = called_to (g.S.ClientSide.arises c.args.self.now.clients) (g.S.ClientSide.arises c.act.new.self) (g.S.ClientSide.holds c.args.self.now.clients) (g.S.ClientSide.holds c.act.new.self) c.called.result (λ n. record { at = c.args.transaction; commits = commits c.args.act }) c.in_ok-turn.turn c.called.ensures.posted c.called.ensures.ended c.in_ok-turn.ensures.arises h w in
-    record { now = a.now; kept = a.kept; answers = a.answers; doubts = a.doubts }
+    record { now = a.now; kept = a.kept; answers = a.answers; says = a.says }

@@ -1,14 +1,15 @@
-use Rattle.std.specs.Prelude.{[]}
+use Rattle.std.proofs.Common.{[], refl}
 use Rattle.txn_side.specs.Waiting.{NoneHeard}
-use Rattle.txn_tests_machines.proofs.Waits.{none_rests, none_waits_on}
+use Rattle.txn_tests_machines.proofs.Waits.{acts_nobody, none_rests, none_waits_on}
 use Rattle.txn_tests_machines.specs.Nobody.{none_arises}
 use Rattle.txn_tests_machines.proofs.machine.NobodyClientSide.act.Goals as goal
 
-pub returns-clause-waits : goal.returns-clause-waits
-returns-clause-waits c = none_waits_on NoneHeard [] _ _
-
-pub returns-clause-rests : goal.returns-clause-rests
-returns-clause-rests c t posted called refused rolls was = none_rests t
-
-pub returns-clause-arises : goal.returns-clause-arises
-returns-clause-arises c h was = none_arises _ h
+pub returns : goal.returns
+returns c = record {
+  goes = acts_nobody c.args._act c.args.self.now.lines.items c.args._transaction;
+  waits = none_waits_on NoneHeard [] _ _;
+  ready = tt;
+  accounts = λ n. refl;
+  rests = λ t posted called refused rolls was. none_rests t;
+  arises = λ h was. none_arises _ h;
+}

@@ -4,25 +4,20 @@ use Rattle.txn_clients.proofs.Accounting.{kept_opened}
 use Rattle.std.proofs.Common.{ap, refl}
 use Rattle.txn_clients.proofs.Sides.{opened_ready_all, opened_rests, opened_waits_all}
 use Rattle.txn_clients.proofs.Unmoved.{opened_arises}
+use Rattle.txn_clients.proofs.Whole.{opened_sight}
 use Rattle.txn_clients.proofs.clients.asking.ClientsClientSide.open.Goals as goal
 
-pub returns-clause-ready : goal.returns-clause-ready
-returns-clause-ready g c =
-    let t = record c.args.self.now { places = c.push.new.self } in
-    opened_ready_all _ g.met.P.Plans.lawful c.args.self.now t c.new.result c.new.ensures c.in_ok-push.ensures.items refl
-    (opened_ready _ (rows_of c.args.self.now) (rows_of t) c.new.result c.new.ensures (opened_rows c.args.self.now t c.new.result c.in_ok-push.ensures.items) c.requires.ready.rows) c.requires.ready
-
-pub returns-clause-accounts : goal.returns-clause-accounts
-returns-clause-accounts g c =
-    let t = record c.args.self.now { places = c.push.new.self } in
-    kept_opened (rows_of c.args.self.now) (rows_of t) c.new.result.row (ap (λ p. p.row) c.new.ensures) (opened_rows c.args.self.now t c.new.result c.in_ok-push.ensures.items)
-
-pub returns-clause-waits : goal.returns-clause-waits
-returns-clause-waits g c = opened_waits_all g.P.Plans.ways g.met.P.Plans.lawful c.args.self.now (record c.args.self.now { places = c.push.new.self }) c.new.result c.new.ensures c.in_ok-push.ensures.items refl
-
-pub returns-clause-rests : goal.returns-clause-rests
-returns-clause-rests g c t was =
-    opened_rests _ g.met.P.Plans.lawful t c.args.self.now (record c.args.self.now { places = c.push.new.self }) c.new.result c.new.ensures c.in_ok-push.ensures.items refl was
-
-pub returns-clause-arises : goal.returns-clause-arises
-returns-clause-arises g c = opened_arises g.P.Plans.ways g.met.P.Plans.lawful c.args.self.now (record c.args.self.now { places = c.push.new.self }) c.new.result c.new.ensures c.in_ok-push.ensures.items refl
+pub returns : goal.returns
+returns g c =
+    let s = c.args.self.now in
+    let t = record s { places = c.push.new.self } in
+    let lawful = g.met.P.Plans.lawful in
+    let items = c.in_ok-push.ensures.items in
+    record {
+      seen = opened_sight g.P.Plans.ways lawful s t c.new.result c.new.ensures items refl;
+      waits = opened_waits_all g.P.Plans.ways lawful s t c.new.result c.new.ensures items refl;
+      ready = opened_ready_all _ lawful s t c.new.result c.new.ensures items refl (opened_ready _ (rows_of s) (rows_of t) c.new.result c.new.ensures (opened_rows s t c.new.result items) c.requires.ready.rows) c.requires.ready;
+      accounts = kept_opened (rows_of s) (rows_of t) c.new.result.row (ap (λ p. p.row) c.new.ensures) (opened_rows s t c.new.result items);
+      rests = λ trace was. opened_rests _ lawful trace s t c.new.result c.new.ensures items refl was;
+      arises = opened_arises g.P.Plans.ways lawful s t c.new.result c.new.ensures items refl;
+    }

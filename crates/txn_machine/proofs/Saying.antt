@@ -1,6 +1,5 @@
--- Each line keeps what is said of doubt: of a line that fails, by the lines up to the one in whose step it ended.
+-- Each line keeps what its answer says of its transaction: that is right by the lines up to the one in whose step it ended.
 use Rattle.std.proofs.Common.{◌≡◌, ◌≢◌, ℕ, suc, ◌≤◌, ◌⊎◌, inl, inr, Bool, true, false, not, ◌&&◌, ◌||◌, if◌then◌else◌, List, [], ◌∷◌, Option, Some, None, length, nat_lt, refl, sym, ap, ◌∙◌, subst, arith}
-use Rattle.txn_kv.specs.declared.errors.Error.{Error}
 use Rattle.txn_history.specs.Event.{Event}
 use Rattle.txn_lines.specs.Lines.{line_at, why_after}
 use Rattle.txn_lines.specs.Deeds.{deed_of}
@@ -11,9 +10,9 @@ use Rattle.txn_report.specs.declared.outcome.Outcome.{Outcome}
 use Rattle.txn_report.specs.declared.outcome.Outcome.TheVariants.{Ok, Err, Unfinished, Done, Skipped}
 use Rattle.txn_report.specs.declared.outcome.Payload.TheVariants.{Number}
 use Rattle.txn_side.specs.Arising.{answered_at}
-use Rattle.txn_side.specs.Doubt.{SaysDoubt, SpeaksOf}
+use Rattle.txn_side.specs.Saying.{SaysRight, SpeaksOf}
 use Rattle.txn_side.specs.Sight.{stand_at}
-use Rattle.txn_machine.specs.Arising.{AllHold, AllSpeak, FailsOf, HoldsBy, Speaks}
+use Rattle.txn_machine.specs.Arising.{AllHold, AllSpeak, AnswersOf, HoldsBy, Speaks}
 use Rattle.txn_machine.specs.Causes.{AllCallsMeet, CallMeets, Role, answers, client_of, ended_of, is_busy, is_crashed, is_ok, is_skipped, is_unfinished, known, known_of, lines_before, role_for, role_of, tells}
 use Rattle.txn_machine.specs.Causes.Role.{AsksTime, MakesClient, NoCall, UsesTransaction}
 use Rattle.txn_machine.specs.Lists.{Lists, all_posted, followed, newest, opened, with_mail}
@@ -21,6 +20,7 @@ use Rattle.txn_machine.specs.Rows.{Caused, IsRow}
 use Rattle.txn_machine.specs.Running.{IsOrdered}
 use Rattle.txn_machine.specs.Script.{Folded, history, outcome_of}
 use Rattle.txn_machine.specs.Steps.{Steps}
+use Rattle.txn_machine.specs.Told.{is_answer}
 use Rattle.txn_machine.proofs.Accounting.{change, stays}
 use Rattle.txn_machine.proofs.Alive.{before_few, before_next, before_old}
 use Rattle.txn_machine.proofs.Calms.{outcome_past, same_line, stand_opened}
@@ -47,6 +47,21 @@ ok_over (Err e) h = refl
 ok_over Unfinished h = absurd (cc)
 ok_over Done h = refl
 ok_over Skipped h = refl
+
+-- an answer ends a call
+answer_over : (o : Outcome) → is_answer o ≡ true → is_unfinished o ≡ false
+answer_over (Ok p) h = refl
+answer_over (Err e) h = refl
+answer_over Unfinished h = absurd (cc)
+answer_over Done h = refl
+answer_over Skipped h = refl
+
+answer_unskipped : (o : Outcome) → is_answer o ≡ true → is_skipped o ≡ false
+answer_unskipped (Ok p) h = refl
+answer_unskipped (Err e) h = refl
+answer_unskipped Unfinished h = refl
+answer_unskipped Done h = refl
+answer_unskipped Skipped h = absurd (cc)
 
 known_ok : (e n : ℕ) (o : Outcome) → is_ok (known_of e n o) ≡ true → is_ok o ≡ true
 known_ok e n o h = by (nat_lt 0 e && nat_lt e n) h
@@ -111,25 +126,25 @@ module _ (line : Line) (ls : List Line) (old : Lists) (told : newest old ≡ len
   all_newest : newest all ≡ n
   all_newest = all_count c.ended (with_mail (all_posted (newest c.mid) c.posted c.mid.mail) c.mid) ∙ mid_count line ls old told ordered.even good was.rows new c
 
-  -- a line says of doubt by the lines up to the one in whose step it ended, and by whether it commits
-  abbrev Says : ℕ → ℕ → Bool → Error → Type 0
-  Says k s b e = SaysDoubt (history all.mail.sent all.outcomes (lines_before (line ∷ ls) (suc (ended_of all.ended k)))) s b e
+  -- what a line says is right by the lines up to the one in whose step it ended
+  abbrev Says : ℕ → ℕ → Bool → Outcome → Type 0
+  Says k s b o = SaysRight (history all.mail.sent all.outcomes (lines_before (line ∷ ls) (suc (ended_of all.ended k)))) s b o
 
-  says_still : (k s : ℕ) (b : Bool) (e : Error) → ended_of all.ended k ≡ ended_of old.ended k → SaysDoubt (history old.mail.sent old.outcomes (lines_before ls (suc (ended_of old.ended k)))) s b e → Says k s b e
-  says_still k s b e same says =
+  says_still : (k s : ℕ) (b : Bool) (o : Outcome) → ended_of all.ended k ≡ ended_of old.ended k → SaysRight (history old.mail.sent old.outcomes (lines_before ls (suc (ended_of old.ended k)))) s b o → Says k s b o
+  says_still k s b o same says =
       let m = suc (ended_of old.ended k) in
       let low : m ≤ suc (length ls) = let a = caused_past old ls was told k in let d = told in omega arith in
-      subst (λ j. SaysDoubt (history all.mail.sent all.outcomes (lines_before (line ∷ ls) (suc j))) s b e) (sym same)
-      (subst (λ zs. SaysDoubt (history all.mail.sent all.outcomes zs) s b e) (sym (before_old line ls m low))
-      (subst (λ fs. SaysDoubt fs s b e) (same_history line ls old told ordered good was folded new c stepped (lines_before ls m) (before_few ls m)) says))
+      subst (λ j. SaysRight (history all.mail.sent all.outcomes (lines_before (line ∷ ls) (suc j))) s b o) (sym same)
+      (subst (λ zs. SaysRight (history all.mail.sent all.outcomes zs) s b o) (sym (before_old line ls m low))
+      (subst (λ fs. SaysRight fs s b o) (same_history line ls old told ordered good was folded new c stepped (lines_before ls m) (before_few ls m)) says))
 
-  says_now : (k s : ℕ) (b : Bool) (e : Error) → ended_of all.ended k ≡ n → SaysDoubt now s b e → Says k s b e
-  says_now k s b e last says =
-      subst (λ j. SaysDoubt (history all.mail.sent all.outcomes (lines_before (line ∷ ls) (suc j))) s b e) (sym last)
-      (subst (λ zs. SaysDoubt (history all.mail.sent all.outcomes zs) s b e) (sym (before_next (line ∷ ls))) says)
+  says_now : (k s : ℕ) (b : Bool) (o : Outcome) → ended_of all.ended k ≡ n → SaysRight now s b o → Says k s b o
+  says_now k s b o last says =
+      subst (λ j. SaysRight (history all.mail.sent all.outcomes (lines_before (line ∷ ls) (suc j))) s b o) (sym last)
+      (subst (λ zs. SaysRight (history all.mail.sent all.outcomes zs) s b o) (sym (before_next (line ∷ ls))) says)
 
   module _ (steps : Steps line old all) (held : ℕ → Outcome → Type 0) (right : AllHold held old.outcomes ls)
-      (told_now : (k : ℕ) (e : Error) → outcome_of all.outcomes k ≡ Err e → (outcome_of old.outcomes k ≡ Err e) ⊎ Speaks (role_of line) (opened old).sight held now k (Err e)) (before : AllSpeak old.mail.sent old.outcomes old.ended ls) where
+      (told_now : (k : ℕ) (o : Outcome) → is_answer o ≡ true → outcome_of all.outcomes k ≡ o → (outcome_of old.outcomes k ≡ o) ⊎ Speaks (role_of line) (opened old).sight held now k o) (before : AllSpeak old.mail.sent old.outcomes old.ended ls) where
     -- a transaction that had begun before the step
     began_before : (x s : ℕ) → is_ok (outcome_of old.outcomes x) ≡ true → outcome_of all.outcomes x ≡ Ok (Number s) → outcome_of old.outcomes x ≡ Ok (Number s)
     began_before x s begun began = elim (has_line ls x) [
@@ -150,40 +165,40 @@ module _ (line : Line) (ls : List Line) (old : Lists) (told : newest old ≡ len
     ]
 
     -- a call of an earlier line that ends in the step
-    module _ (k x s : ℕ) (e : Error) (f : FailsOf (line ∷ ls) all.outcomes k x s e) (there : line_at ls k ≡ Some f.line) where
-      heard : is_unfinished (outcome_of old.outcomes k) ≡ true → (b : Bool) → tells (deed_of line) ≡ b → Speaks (role_of line) (opened old).sight held now k (Err e) → SaysDoubt now s f.commits e
-      heard waits false quiet speaks = absurd (let a = sym waits ∙ ap is_unfinished (sym (stays line ls old all told all_newest ordered good steps was quiet k (line_range ls k f.line there).1).0 ∙ f.failed) in cc)
+    module _ (k x s : ℕ) (o : Outcome) (f : AnswersOf (line ∷ ls) all.outcomes k x s o) (there : line_at ls k ≡ Some f.line) where
+      heard : is_unfinished (outcome_of old.outcomes k) ≡ true → (b : Bool) → tells (deed_of line) ≡ b → Speaks (role_of line) (opened old).sight held now k o → SaysRight now s f.commits o
+      heard waits false quiet speaks = absurd (let a = sym waits ∙ ap is_unfinished (sym (stays line ls old all told all_newest ordered good steps was quiet k (line_range ls k f.line there).1).0 ∙ f.is) ∙ answer_over o f.answers in cc)
       heard waits true told_so speaks =
           let row : IsRow (role_of f.line) (outcome_of old.outcomes k) (stand_at old.sight.stands k) = was.rows.rows k f.line there in
           let call = waiting_row row.row f.commits x (row.is ∙ f.role) (ap is_unfinished row.outcome ∙ waits) in
           let begun = called_began old.outcomes old.ended ls k x f.commits f.line there f.role (unfinished_unskipped (outcome_of old.outcomes k) waits) was.calls in
           let apart : x ≢ k = λ same. absurd (let a = sym (ok_over (outcome_of old.outcomes x) begun) ∙ subst (λ j. is_unfinished (outcome_of old.outcomes j) ≡ true) (sym same) waits in cc) in
-          let of_it : SpeaksOf held now (answered_at k (stand_at (opened old).sight.stands k)) k (Err e) = subst (λ role. Speaks role (opened old).sight held now k (Err e)) (tells_none (deed_of line) told_so) speaks in
-          let of_call : SpeaksOf held now (record { at = x; commits = f.commits }) k (Err e) = subst (λ stand. SpeaksOf held now (answered_at k stand) k (Err e)) (stand_opened old.sight.stands k ∙ sym row.at ∙ call.1) of_it in
+          let of_it : SpeaksOf held now (answered_at k (stand_at (opened old).sight.stands k)) k o = subst (λ role. Speaks role (opened old).sight held now k o) (tells_none (deed_of line) told_so) speaks in
+          let of_call : SpeaksOf held now (record { at = x; commits = f.commits }) k o = subst (λ stand. SpeaksOf held now (answered_at k stand) k o) (stand_opened old.sight.stands k ∙ sym row.at ∙ call.1) of_it in
           of_call apart s (began_held x s (began_before x s begun f.began))
 
-      older : Says k s f.commits e
+      older : Says k s f.commits o
       older = elim (change line ls old all told all_newest ordered good steps was k (line_range ls k f.line there).1) [
         | inl same ↦
-            let failed : outcome_of old.outcomes k ≡ Err e = sym same.0 ∙ f.failed in
-            let begun = called_began old.outcomes old.ended ls k x f.commits f.line there f.role (ap is_skipped failed) was.calls in
-            says_still k s f.commits e same.1 (before k x s e (record { commits = f.commits; line = f.line; there = there; role = f.role; began = began_before x s begun f.began; failed = failed }))
-        | inr changed ↦ elim (told_now k e f.failed) [
-          | inl failed ↦ absurd (let a = sym (ap is_unfinished failed) ∙ changed.0 in cc)
-          | inr speaks ↦ says_now k s f.commits e changed.1 (heard changed.0 (tells (deed_of line)) refl speaks)
+            let was_so : outcome_of old.outcomes k ≡ o = sym same.0 ∙ f.is in
+            let begun = called_began old.outcomes old.ended ls k x f.commits f.line there f.role (ap is_skipped was_so ∙ answer_unskipped o f.answers) was.calls in
+            says_still k s f.commits o same.1 (before k x s o (record { commits = f.commits; line = f.line; there = there; role = f.role; began = began_before x s begun f.began; is = was_so; answers = f.answers }))
+        | inr changed ↦ elim (told_now k o f.answers f.is) [
+          | inl before ↦ absurd (let a = sym (answer_over o f.answers) ∙ sym (ap is_unfinished before) ∙ changed.0 in cc)
+          | inr speaks ↦ says_now k s f.commits o changed.1 (heard changed.0 (tells (deed_of line)) refl speaks)
         ]
       ]
 
     -- the newest line
-    module _ (k x s : ℕ) (e : Error) (f : FailsOf (line ∷ ls) all.outcomes k x s e) (here : k ≡ n) where
+    module _ (k x s : ℕ) (o : Outcome) (f : AnswersOf (line ∷ ls) all.outcomes k x s o) (here : k ≡ n) where
       same_role : role_of line ≡ UsesTransaction f.commits x
       same_role =
           let is : ◌≡◌ {A = Option Line} (Some line) (Some f.line) = sym (line_new line ls) ∙ ap (λ j. line_at (line ∷ ls) j) (sym here) ∙ f.there in
           let same : line ≡ f.line = cc in
           ap (λ l. role_of l) same ∙ f.role
 
-      failed_now : outcome_of all.outcomes n ≡ Err e
-      failed_now = ap (λ j. outcome_of all.outcomes j) (sym here) ∙ f.failed
+      answered_now : outcome_of all.outcomes n ≡ o
+      answered_now = ap (λ j. outcome_of all.outcomes j) (sym here) ∙ f.is
 
       quiet : tells (deed_of line) ≡ false
       quiet = by (tells (deed_of line)) refl
@@ -192,23 +207,23 @@ module _ (line : Line) (ls : List Line) (old : Lists) (told : newest old ≡ len
           by true q = absurd (let a = sym (tells_none (deed_of line) q) ∙ same_role in cc)
           by false q = refl
 
-      own_says : Speaks (role_of line) (opened old).sight held now n (Err e) → SaysDoubt now s f.commits e
+      own_says : Speaks (role_of line) (opened old).sight held now n o → SaysRight now s f.commits o
       own_says speaks =
           let named : IsBegin (line_at ls x) = subst (λ r. Names ls r) same_role (names ls line good) in
           let low : x ≤ length ls = (line_range ls x named.line named.is).1 in
           let began : outcome_of old.outcomes x ≡ Ok (Number s) = sym (stays line ls old all told all_newest ordered good steps was quiet x low).0 ∙ f.began in
-          let of_it : SpeaksOf held now (record { at = x; commits = f.commits }) n (Err e) = subst (λ r. Speaks r (opened old).sight held now n (Err e)) same_role speaks in
+          let of_it : SpeaksOf held now (record { at = x; commits = f.commits }) n o = subst (λ r. Speaks r (opened old).sight held now n o) same_role speaks in
           let apart : x ≢ n = λ same. absurd (omega arith) in
           of_it apart s (began_held x s began)
 
-      newest_says : Says n s f.commits e
-      newest_says = elim (told_now n e failed_now) [
-        | inl failed ↦ absurd (let a = sym (outcome_past old.outcomes (length ls) told) ∙ failed in cc)
-        | inr speaks ↦ says_now n s f.commits e (new_ended line ls old told ordered.even good was.rows new c (ap is_unfinished failed_now)) (own_says speaks)
+      newest_says : Says n s f.commits o
+      newest_says = elim (told_now n o f.answers answered_now) [
+        | inl before ↦ absurd (let a = sym f.answers ∙ sym (ap is_answer before) ∙ ap is_answer (outcome_past old.outcomes (length ls) told) in cc)
+        | inr speaks ↦ says_now n s f.commits o (new_ended line ls old told ordered.even good was.rows new c (ap is_unfinished answered_now ∙ answer_over o f.answers)) (own_says speaks)
       ]
 
     pub speak_now : AllSpeak all.mail.sent all.outcomes all.ended (line ∷ ls)
-    speak_now k x s e f = elim (same_line n k) [
-      | inl here ↦ subst (λ j. Says j s f.commits e) (sym here) (newest_says k x s e f here)
-      | inr far ↦ older k x s e f (sym (line_old line ls k far) ∙ f.there)
+    speak_now k x s o f = elim (same_line n k) [
+      | inl here ↦ subst (λ j. Says j s f.commits o) (sym here) (newest_says k x s o f here)
+      | inr far ↦ older k x s o f (sym (line_old line ls k far) ∙ f.there)
     ]

@@ -10,7 +10,7 @@ use Rattle.txn_heartbeats.proofs.Posting.{holds_so, posts_all, posts_so}
 use Rattle.txn_heartbeats.proofs.Seen.{live_line}
 use Rattle.txn_heartbeats.proofs.Sides.{beaten_ready, taken_ready}
 use Rattle.txn_heartbeats.proofs.Started.{never_none, same_stands, told_so}
-use Rattle.txn_heartbeats.proofs.heartbeats.Heartbeats.tell.Goals as goal
+use Rattle.txn_heartbeats.proofs.heartbeats.Heartbeats.tell_beat.Goals as goal
 
 pub beat-requires-clause-alive : goal.beat-requires-clause-alive
 beat-requires-clause-alive g c =

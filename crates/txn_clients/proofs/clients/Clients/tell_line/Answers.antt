@@ -12,7 +12,7 @@ use Rattle.txn_clients.proofs.Settling.{client_same, unheard_goes}
 use Rattle.txn_clients.proofs.Telling.{live_line, on_ok}
 use Rattle.txn_clients.specs.declared.told.Told.TheVariants.{Heard}
 use Rattle.txn_clients.proofs.ToldParts.{unheard_leads}
-use Rattle.txn_clients.proofs.clients.Clients.tell.Goals as goal
+use Rattle.txn_clients.proofs.clients.Clients.tell_line.Goals as goal
 
 pub go-requires-clause-hears : goal.go-requires-clause-hears
 go-requires-clause-hears g c = heard_there (rows_of c.args.self.now) c.args.line c.in-Some.listener.at c.args.arrival c.in-Some.ensures.listens.own c.in-Some.ensures.listens.hears
