@@ -1,0 +1,6 @@
+pub mod Cleaning
+pub mod Deciding
+pub mod Keeping
+pub mod Placing
+pub mod Removing
+pub mod Resulting

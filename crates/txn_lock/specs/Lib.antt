@@ -1,0 +1,4 @@
+pub mod Deciding
+pub mod Failing
+pub mod Plans
+pub mod Settling
