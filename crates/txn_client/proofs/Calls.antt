@@ -30,9 +30,9 @@ use Rattle.txn_tso.specs.Counting.{asks_of}
 use Rattle.txn_tso.specs.Placement.{request_of}
 use Rattle.txn_tso.specs.declared.pd_call.PdCall.{PdCall}
 use Rattle.txn_tso.specs.declared.stage.Stage.TheVariants as tso
-use Rattle.txn_commit.specs.Timing.{HasBegun, IsAnswerOf, ReadsTime, WasUntimed, time_asked}
+use Rattle.txn_plan.specs.Timing.{HasBegun, IsAnswerOf, ReadsTime, WasUntimed, time_asked}
 use Rattle.txn_kv.specs.declared.arrival.Arrival.{Arrival}
-use Rattle.txn_commit.specs.declared.timestamp_call.TimestampCall.{TimestampCall}
+use Rattle.txn_plan.specs.declared.timestamp_call.TimestampCall.{TimestampCall}
 use Rattle.txn_history.specs.Arrivals.{MayArrive}
 use Rattle.txn_commit.specs.Ways.{Ways}
 use Rattle.txn_client.specs.Calls.{called, made, stage_left, stage_phase, stage_waits, AnswerReady, Asks, CallGives, CallReady, Follows, IsAt, IsEnded, IsMade, IsMadeOf, WasTold}

@@ -21,10 +21,10 @@ use Rattle.txn_tso.specs.Calling.{members}
 use Rattle.txn_tso.specs.Longer.{gives_longer}
 use Rattle.txn_tso.specs.Placement.{fresh}
 use Rattle.txn_commit.specs.Ways.{Ways}
-use Rattle.txn_commit.specs.Timing.{HasBegun, WasUntimed, time_asked, time_asked-lawful}
+use Rattle.txn_plan.specs.Timing.{HasBegun, WasUntimed, time_asked, time_asked-lawful}
 use Rattle.txn_kv.specs.declared.arrival.Arrival.{Arrival}
 use Rattle.txn_kv.specs.declared.arrival.Arrival.TheVariants as arrivals
-use Rattle.txn_commit.specs.declared.timestamp_call.TimestampCall.{TimestampCall}
+use Rattle.txn_plan.specs.declared.timestamp_call.TimestampCall.{TimestampCall}
 use Rattle.txn_core.specs.Going.{TransactionReady}
 use Rattle.txn_core.specs.Transaction.{begun}
 use Rattle.txn_client.specs.declared.client_answer.ClientAnswer.{ClientAnswer}

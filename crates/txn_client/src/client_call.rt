@@ -14,9 +14,10 @@ ghost use Rattle.txn_client.specs.declared.client_call.Wanted.TheVariants as wan
 use crate::client_answer::ClientAnswer;
 use std::alloc::Global;
 use std::marker::PhantomData;
-use txn_commit::{Plans, TimestampCall};
+use txn_commit::Plans;
 use txn_core::{Transaction, TransactionOptions};
 use txn_kv::{Arrival, NoMemory, Outbox, Progress, Timestamp};
+use txn_plan::TimestampCall;
 use txn_region::PdClient;
 
 type Turn<C, P> = Result<Progress<ClientAnswer<C, P>>, NoMemory>;

@@ -28,7 +28,7 @@ use Rattle.txn_commit.specs.Ways.{Ways}
 use Rattle.txn_commit.specs.Following.{Commits, CommitsPrimary, KnowsCommits, PrimaryLost, undetermined}
 use Rattle.txn_commit.specs.Parts.{parts_of}
 use Rattle.txn_commit.specs.Sending.{plan_of}
-use Rattle.txn_commit.specs.Timing.{WasUntimed}
+use Rattle.txn_plan.specs.Timing.{WasUntimed}
 use Rattle.txn_commit.specs.declared.commit_parts.CommitParts.{CommitParts}
 use Rattle.txn_core.specs.Going.{FailsWith}
 use Rattle.txn_core.specs.Transaction.{Standing}

@@ -22,12 +22,12 @@ use Rattle.txn_commit.specs.Ways.{Costs, Ways}
 use Rattle.txn_commit.specs.declared.fetched.Fetched.{Fetched}
 use Rattle.txn_commit.specs.Counting.{Begins, CommitterCounts, Pays, ask_costs, call_width, commit_again_costs, commit_costs, others_costs, rollback_costs, stage_bears, stage_left, stage_round, stage_width}
 use Rattle.txn_commit.specs.Plans.{IsPlanFor}
-use Rattle.txn_commit.specs.Timing.{time_asked}
+use Rattle.txn_plan.specs.Timing.{time_asked}
 use Rattle.txn_commit.specs.declared.committer.CommitterAnswer.{CommitterAnswer}
 use Rattle.txn_commit.specs.declared.committer.CommitterCall.{CommitterCall}
 use Rattle.txn_commit.specs.declared.committer.Stage.{Stage}
 use Rattle.txn_commit.specs.declared.committer.Stage.TheVariants as stage
-use Rattle.txn_commit.specs.declared.timestamp_call.TimestampCall.{TimestampCall}
+use Rattle.txn_plan.specs.declared.timestamp_call.TimestampCall.{TimestampCall}
 use Rattle.txn_kv.specs.declared.arrival.Arrival.TheVariants as arrival
 
 pub is_kept_so : {V : Type 0} (p : Progress V) → is_kept (turn_of (Ok p)) ≡ true

@@ -25,13 +25,13 @@ use Rattle.txn_commit.specs.Committing.{CommitterFits, IsAt}
 use Rattle.txn_commit.specs.Following.{Commits, IsFollowed, KnowsCommits, awaits, heard, is_done, is_out, lost, or_ticket, sent, without}
 use Rattle.txn_commit.specs.Going.{CommitterExpects, CommitterGoes, Opens, Relays, Resumes, Settles, stage_phase, stage_waits}
 use Rattle.txn_commit.specs.Sending.{plan_of}
-use Rattle.txn_commit.specs.Timing.{HasBegun, time_asked, time_asked-lawful}
+use Rattle.txn_plan.specs.Timing.{HasBegun, time_asked, time_asked-lawful}
 use Rattle.txn_commit.specs.declared.commit_parts.CommitParts.{CommitParts}
 use Rattle.txn_commit.specs.declared.committer.CommitterAnswer.{CommitterAnswer}
 use Rattle.txn_commit.specs.declared.committer.CommitterCall.{CommitterCall}
 use Rattle.txn_commit.specs.declared.committer.Stage.{Stage}
 use Rattle.txn_commit.specs.declared.committer.Stage.TheVariants as stage
-use Rattle.txn_commit.specs.declared.timestamp_call.TimestampCall.{TimestampCall}
+use Rattle.txn_plan.specs.declared.timestamp_call.TimestampCall.{TimestampCall}
 use Rattle.txn_commit.specs.Ways.{Ways}
 use Rattle.txn_commit.proofs.Sending.{settled_out, unsent_out}
 use Rattle.txn_merge.specs.declared.retry_options.RetryOptions.{RetryOptions}

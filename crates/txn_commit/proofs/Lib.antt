@@ -11,4 +11,3 @@ pub mod Planned
 pub mod Posting
 pub mod Sending
 pub mod Stages
-pub mod Timing

@@ -38,14 +38,14 @@ use Rattle.txn_commit.specs.Following.{Commits, IsFollowed, KnowsCommits, sent, 
 use Rattle.txn_history.specs.Foreign.{IsForeign}
 use Rattle.txn_commit.specs.Plans.{AreCommitted, AreRolledBack, IsAnswered, IsOfPrewrite, IsPartOf, IsPlanFor, IsUnderWay, PrewritesOnly, Says, prewritten_key, prewritten_passed}
 use Rattle.txn_commit.specs.Sending.{MaySend, content_at, op_at, plan_of}
-use Rattle.txn_commit.specs.Timing.{AsksTime, HasAsked, HasBegun, IsAnswerOf, time_asked}
-use Rattle.txn_commit.proofs.Timing.{IsTimed, TimeTells, time_tells}
+use Rattle.txn_plan.specs.Timing.{AsksTime, HasAsked, HasBegun, IsAnswerOf, time_asked}
+use Rattle.txn_plan.proofs.Timing.{IsTimed, TimeTells, time_tells}
 use Rattle.txn_commit.specs.declared.commit_parts.CommitParts.{CommitParts}
 use Rattle.txn_commit.specs.declared.committer.CommitterAnswer.{CommitterAnswer}
 use Rattle.txn_commit.specs.declared.committer.CommitterCall.{CommitterCall}
 use Rattle.txn_commit.specs.declared.committer.Stage.{Stage}
 use Rattle.txn_commit.specs.declared.committer.Stage.TheVariants as stage
-use Rattle.txn_commit.specs.declared.timestamp_call.TimestampCall.{TimestampCall}
+use Rattle.txn_plan.specs.declared.timestamp_call.TimestampCall.{TimestampCall}
 use Rattle.txn_commit.specs.Ways.{Ways}
 use Rattle.txn_commit.specs.declared.fetched.Fetched.{Fetched}
 use Rattle.txn_commit.proofs.Committing.{Throughout, at_stage, committing_on, throughout_more}

@@ -21,13 +21,13 @@ use Rattle.txn_commit.specs.Plans.{AreCommitted, ArePrewritten, AreRolledBack, I
 use Rattle.txn_commit.specs.Sending.{MaySend, plan_of}
 use Rattle.txn_commit.specs.Ways.{Ways}
 use Rattle.txn_commit.specs.declared.commit_parts.CommitParts.{CommitParts}
-use Rattle.txn_commit.specs.Timing.{HasAsked, WasUntimed, time_asked}
+use Rattle.txn_plan.specs.Timing.{HasAsked, WasUntimed, time_asked}
 use Rattle.txn_commit.specs.declared.committer.CommitterAnswer.{CommitterAnswer}
 use Rattle.txn_commit.specs.declared.committer.CommitterAnswer.TheVariants.{Committed, Checked, RolledBack}
 use Rattle.txn_commit.specs.declared.committer.CommitterCall.{CommitterCall}
 use Rattle.txn_commit.specs.declared.committer.Stage.{Stage}
 use Rattle.txn_commit.specs.declared.committer.Stage.TheVariants as stage
-use Rattle.txn_commit.specs.declared.timestamp_call.TimestampCall.{TimestampCall}
+use Rattle.txn_plan.specs.declared.timestamp_call.TimestampCall.{TimestampCall}
 
 -- each key has one mutation, and the primary is none of the others
 pub record IsFormed (parts : CommitParts) : Type 0 where

@@ -5,7 +5,7 @@ use Rattle.txn_history.specs.Posted.{Posted}
 use Rattle.txn_history.specs.Spends.{Spends}
 use Rattle.txn_history.specs.Turn.{Turn, is_kept}
 use Rattle.txn_commit.specs.Ways.{Costs, Ways}
-use Rattle.txn_commit.specs.Timing.{time_asked}
+use Rattle.txn_plan.specs.Timing.{time_asked}
 use Rattle.txn_commit.specs.declared.commit_parts.CommitParts.{CommitParts}
 use Rattle.txn_commit.specs.declared.committer.CommitterAnswer.{CommitterAnswer}
 use Rattle.txn_commit.specs.declared.committer.CommitterCall.{CommitterCall}

@@ -8,7 +8,7 @@ use Rattle.txn_history.specs.Turn.{HasEnded, IfKept, Turn}
 use Rattle.txn_history.specs.Turn.Turn.{Waits}
 use Rattle.txn_kv.specs.declared.errors.Error.{Error}
 use Rattle.txn_commit.specs.Ways.{Ways}
-use Rattle.txn_commit.specs.Timing.{time_asked}
+use Rattle.txn_plan.specs.Timing.{time_asked}
 use Rattle.txn_commit.specs.declared.committer.CommitterAnswer.{CommitterAnswer}
 use Rattle.txn_commit.specs.declared.committer.CommitterCall.{CommitterCall}
 use Rattle.txn_commit.specs.declared.committer.Stage.{Stage}

@@ -6,5 +6,4 @@ pub mod Jobs
 pub mod Parts
 pub mod Plans
 pub mod Sending
-pub mod Timing
 pub mod Ways

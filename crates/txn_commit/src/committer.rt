@@ -16,7 +16,7 @@ ghost use Rattle.txn_commit.specs.Following.{Commits, IsFollowed, awaits, heard,
 ghost use Rattle.txn_commit.specs.Going.{CommitterExpects, CommitterGoes, Opens, Relays, Resumes, Settles, may_commit, stage_phase, stage_waits};
 ghost use Rattle.txn_commit.specs.Plans.{AreCommitted, AreRolledBack, IsPlanFor, PrewritesOnly};
 ghost use Rattle.txn_commit.specs.Sending.{MaySend, plan_of};
-ghost use Rattle.txn_commit.specs.Timing.{HasVersionIfDone};
+ghost use Rattle.txn_plan.specs.Timing.{HasVersionIfDone};
 ghost use Rattle.txn_commit.specs.declared.committer.Stage.TheVariants as stages;
 ghost use Rattle.txn_history.specs.Arrivals.{MayArrive, awaited_as, locked_told, tells_error, tells_failure, told_by, weight_told};
 
@@ -24,10 +24,10 @@ use crate::commit_parts::CommitParts;
 use crate::fetched::Fetched;
 use crate::plans::Plans;
 use crate::primary_commits::{PrimaryCommits, count_posted};
-use crate::timestamp_call::TimestampCall;
 use std::alloc::Global;
 use txn_kv::{Arrival, Items, Key, NoMemory, Outbox, Progress, Timestamp};
 use txn_merge::RetryOptions;
+use txn_plan::TimestampCall;
 use txn_region::PdClient;
 use txn_request::lowering::{new_batch_rollback_request, new_commit_request, new_prewrite_request};
 

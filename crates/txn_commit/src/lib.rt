@@ -9,7 +9,6 @@ pub mod plans;
 pub mod primary_commits;
 pub mod secondary_job;
 pub mod send;
-pub mod timestamp_call;
 
 pub use commit_parts::CommitParts;
 pub use committer::{CommitterAnswer, CommitterCall};
@@ -17,4 +16,3 @@ pub use fetched::Fetched;
 pub use plans::Plans;
 pub use primary_commits::PrimaryCommits;
 pub use secondary_job::SecondaryJob;
-pub use timestamp_call::TimestampCall;

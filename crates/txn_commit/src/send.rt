@@ -4,7 +4,6 @@ use crate::commit_parts::CommitParts;
 use crate::committer::{CommitterAnswer, CommitterCall};
 use crate::primary_commits::PrimaryCommits;
 use crate::secondary_job::SecondaryJob;
-use crate::timestamp_call::TimestampCall;
 use std::marker::Send;
 use txn_kv::send::can_move;
 
@@ -13,7 +12,6 @@ pub fn parts_can_move() {
     can_move::<CommitParts>();
     can_move::<CommitterAnswer>();
     can_move::<PrimaryCommits>();
-    can_move::<TimestampCall>();
 }
 
 /// A commit, and the job behind it, do where their plans do.

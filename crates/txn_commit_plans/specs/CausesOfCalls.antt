@@ -7,7 +7,7 @@ use Rattle.txn_causes.specs.Spent.{IsSpent}
 use Rattle.txn_causes.specs.Heard.{heard_in}
 use Rattle.txn_commit.specs.Committing.{CommitterGives}
 use Rattle.txn_commit.specs.Following.{first_of, or_first, undetermined, Commits, KnowsCommits, MarksLost, PrimaryLost, PrimarySent}
-use Rattle.txn_commit.specs.Timing.{WasUntimed}
+use Rattle.txn_plan.specs.Timing.{WasUntimed}
 use Rattle.txn_commit.specs.declared.commit_parts.CommitParts.{CommitParts}
 use Rattle.txn_commit.specs.Ways.{Ways}
 use Rattle.txn_core.specs.Going.{FailsWith, IsNothing, TransactionGives}

@@ -8,7 +8,7 @@ ghost use Rattle.txn_commit.specs.Following.{Commits as Followed, KnowsCommits, 
 ghost use Rattle.txn_commit.specs.Jobs.{others};
 ghost use Rattle.txn_commit.specs.Parts.{parts_of};
 ghost use Rattle.txn_commit.specs.Plans.{IsPlanFor};
-ghost use Rattle.txn_commit.specs.Timing.{WasUntimed};
+ghost use Rattle.txn_plan.specs.Timing.{WasUntimed};
 ghost use Rattle.txn_commit.specs.declared.secondary_job.SecondaryJob.{SecondaryJob};
 ghost use Rattle.txn_commit.specs.declared.secondary_job.Stage.TheVariants.{Fresh};
 ghost use Rattle.txn_commit_plans.specs.CausesOfCalls.{IsCallExplained, IsExplained};

@@ -17,7 +17,7 @@ use Rattle.txn_commit.specs.Committing.{CommitterFits, IsAt, IsReady, IsRollingB
 use Rattle.txn_commit.specs.Following.{Commits, CommitsPrimary, KnowsCommits}
 use Rattle.txn_commit.specs.Parts.{parts_of}
 use Rattle.txn_commit.specs.Sending.{plan_of}
-use Rattle.txn_commit.specs.Timing.{time_asked-lawful}
+use Rattle.txn_plan.specs.Timing.{time_asked-lawful}
 use Rattle.txn_commit.specs.declared.commit_parts.CommitParts.{CommitParts}
 use Rattle.txn_commit.specs.declared.committer.CommitterCall.{CommitterCall}
 use Rattle.txn_commit.specs.declared.committer.Stage.{Stage}

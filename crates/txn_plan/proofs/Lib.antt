@@ -5,3 +5,4 @@ pub mod Preserving
 pub mod Processing
 pub mod LookingUp
 pub mod LastPosted
+pub mod Timing

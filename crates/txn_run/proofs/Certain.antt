@@ -13,7 +13,7 @@ use Rattle.txn_history.specs.Event.Event.{Answered}
 use Rattle.txn_history.specs.Posted.{ticket_of}
 use Rattle.txn_causes.specs.Causes.{HasCause}
 use Rattle.txn_causes.specs.Heard.{Heard, heard_in}
-use Rattle.txn_commit.specs.Timing.{WasUntimed}
+use Rattle.txn_plan.specs.Timing.{WasUntimed}
 use Rattle.txn_commit.specs.Ways.{Ways}
 use Rattle.txn_commit_plans.specs.CausesOfCalls.{untimed_caused}
 use Rattle.txn_commit_plans.specs.CausesOfLookUps.{HasNoTimestamp}

@@ -1,7 +1,7 @@
 use Rattle.std.proofs.Common.{refl}
 use Rattle.txn_history.proofs.Telling.{Tells-idle}
 use Rattle.txn_history.specs.Arrivals.{awaited_as, locked_told, tells_error, tells_failure, told_by, weight_told}
-use Rattle.txn_commit.specs.Timing.{time_asked}
+use Rattle.txn_plan.specs.Timing.{time_asked}
 use Rattle.txn_client.specs.Calls.{called-lawful, stage_waits}
 use Rattle.txn_client.specs.declared.client_call.Stage.TheVariants as stage
 use Rattle.txn_client.proofs.Calls.{answer_ready, counts_on, goes_on, made_on, ready_on, tells_on, unheard_is, waits_not}

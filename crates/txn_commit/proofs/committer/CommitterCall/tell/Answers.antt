@@ -10,7 +10,7 @@ use Rattle.txn_commit.proofs.Stages.{asking_on, commits_on, followed_sends, over
 use Rattle.txn_commit.proofs.Counting.{asking_counts, committing_counts, gave_up_counts, idle_counts, is_kept_so, prewriting_counts, rolling_counts, rolling_others_counts, stop_counts, then_counts}
 use Rattle.txn_history.proofs.Telling.{is_kept_ok}
 use Rattle.txn_tso.specs.Calling.{members}
-use Rattle.txn_commit.specs.Timing.{time_asked}
+use Rattle.txn_plan.specs.Timing.{time_asked}
 use Rattle.txn_commit.proofs.Going.{asks_still, expects_gives_up, expects_idle, expects_stops, expects_then, followed_elsewhere, goes_gives_up, goes_idle, goes_stops, goes_then, heard_other, relays_goes, resumes_settled, unheard_waits}
 use Rattle.txn_history.proofs.Arriving.{counts_of, goes_of, tells_of, worse}
 use Rattle.txn_commit.proofs.committer.CommitterCall.tell.Goals as goal

@@ -19,7 +19,7 @@ use Rattle.txn_history.specs.Posted.{Posted}
 use Rattle.txn_plan.specs.LookUp.{looked_up, looked_up-lawful}
 use Rattle.txn_tso.specs.Calling.{IsRefused}
 use Rattle.txn_tso.specs.declared.stage.Stage.TheVariants.{Asked, Stopped}
-use Rattle.txn_commit.specs.declared.timestamp_call.TimestampCall.{TimestampCall}
+use Rattle.txn_plan.specs.declared.timestamp_call.TimestampCall.{TimestampCall}
 use Rattle.txn_kv.specs.declared.arrival.Arrival.{Arrival}
 use Rattle.txn_kv.specs.declared.arrival.Arrival.TheVariants as arrivals
 

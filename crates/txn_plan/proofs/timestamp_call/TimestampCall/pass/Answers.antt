@@ -2,8 +2,8 @@ use Rattle.std.proofs.Common.{◌∙◌, ap}
 use Rattle.txn_plan.proofs.LookingUp.{counts_reply}
 use Rattle.txn_history.specs.Faults.{has_error, has_region_error}
 use Rattle.txn_history.specs.Spends.{locked_of, weight_of}
-use Rattle.txn_commit.proofs.Timing.{goes_lent, goes_reply, goes_time, goes_waking, tells_loss, tells_reply, tells_time, tells_waking, untold}
-use Rattle.txn_commit.proofs.timestamp_call.TimestampCall.pass.Goals as goal
+use Rattle.txn_plan.proofs.Timing.{goes_lent, goes_reply, goes_time, goes_waking, tells_loss, tells_reply, tells_time, tells_waking, untold}
+use Rattle.txn_plan.proofs.timestamp_call.TimestampCall.pass.Goals as goal
 
 pub returns-in-Reply-clause-tells : goal.returns-in-Reply-clause-tells
 returns-in-Reply-clause-tells g c r = rw c.in-Reply.is (tells_reply _ _ _ _ _ _ c.args.now _ c.take_reply.ensures.job c.in-Reply.number c.in-Reply.reply r c.take_reply.ensures.step (c.take_reply.ensures.moves r))

@@ -21,9 +21,9 @@ use Rattle.txn_kv.specs.declared.query.PdQuery.TheVariants as query
 use Rattle.txn_kv.specs.declared.reply.Reply.{Reply}
 use Rattle.txn_kv.specs.declared.request.Request.{Request}
 use Rattle.txn_kv.specs.declared.timestamp.Timestamp.{Timestamp}
-use Rattle.txn_commit.specs.Timing.{HasAsked, IsAnswerOf, IsToldTo, ReadsTime, WasUntimed, time_asked}
+use Rattle.txn_plan.specs.Timing.{HasAsked, IsAnswerOf, IsToldTo, ReadsTime, WasUntimed, time_asked}
 use Rattle.txn_history.specs.Foreign.{IsForeign}
-use Rattle.txn_commit.specs.declared.timestamp_call.TimestampCall.{TimestampCall}
+use Rattle.txn_plan.specs.declared.timestamp_call.TimestampCall.{TimestampCall}
 use Rattle.txn_plan.proofs.LookingUp.{deaf_answer, deaf_reply, deaf_waking, either, goes, tells, tells_of, went, went_answer, went_loss, went_reply, went_waking}
 use Rattle.txn_kv.specs.declared.arrival.Arrival.{Arrival}
 use Rattle.txn_plan.specs.LookUp.{call_waits, looked_up}

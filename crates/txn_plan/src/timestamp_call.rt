@@ -6,7 +6,7 @@ ghost use Rattle.txn_history.specs.Turn.{turn_of, IfEnds, IfKept};
 ghost use Rattle.txn_kv.specs.declared.request.Request.{Request as Asked};
 ghost use Rattle.txn_plan.specs.LookUp.{looked_up};
 ghost use Rattle.txn_tso.specs.declared.stage.Stage.TheVariants.{Stopped};
-ghost use Rattle.txn_commit.specs.Timing.{HasBegun, HasVersionIfDone, IsAnswerOf, IsToldTo, ReadsTime, time_asked};
+ghost use Rattle.txn_plan.specs.Timing.{HasBegun, HasVersionIfDone, IsAnswerOf, IsToldTo, ReadsTime, time_asked};
 ghost use Rattle.txn_history.specs.Arrivals.{MayArrive, awaited_as, locked_told, tells_error, tells_failure, told_by, weight_told};
 
 use txn_kv::{Arrival, Error, Internal, NoMemory, Outbox, PdAnswer, PdQuery, Progress, Timestamp};
