@@ -16,13 +16,13 @@ use Rattle.txn_kv.specs.declared.errors.Error.{Error}
 use Rattle.txn_kv.specs.declared.query.PdAnswer.{PdAnswer}
 use Rattle.txn_kv.specs.declared.request.Request.{Request}
 use Rattle.txn_multi.specs.Cutting.{cutting-lawful, Looking}
-use Rattle.txn_multi.specs.Searching.{LooksOn, SearchSteps, Seeks}
+use Rattle.txn_multi.specs.Searching.{LooksOn, SearchSteps}
 use Rattle.txn_multi.specs.declared.part.Part.{Part}
 use Rattle.txn_multi.proofs.Lookings.{counted_after, heard}
 use Rattle.txn_multi.proofs.Retrying.{no_end}
 use Rattle.txn_plan.specs.LookUp.{call_waits, looked_up}
 use Rattle.txn_plan.specs.Touch.{Touch}
-use Rattle.txn_search.specs.Search.{search_phase, search_waits, tells_loss, IsOut, IsTaken}
+use Rattle.txn_search.specs.Search.{search_phase, search_waits, tells_loss, IsOut, IsTaken, Seeks}
 use Rattle.txn_search.specs.declared.search_stage.SearchStage.{SearchStage}
 use Rattle.txn_search.proofs.Held.{loss_fails}
 use Rattle.txn_tso.specs.Calling.{CallFits}

@@ -20,7 +20,7 @@ use Rattle.txn_kv.specs.declared.region.RegionVerId.{RegionVerId}
 use Rattle.txn_kv.specs.declared.ticket.Ticket.{Ticket}
 use Rattle.txn_multi.specs.Cutting.{Looking}
 use Rattle.txn_multi.specs.Multi.{AfterCut, AfterTasks}
-use Rattle.txn_multi.specs.Searching.{Seeks}
+use Rattle.txn_search.specs.Search.{Seeks}
 use Rattle.txn_multi.specs.Task.{stage_phase, stage_runs}
 use Rattle.txn_multi.specs.Touching.{change_after, change_replied, IsHeeded, PlanTouches, StageTouches, TaskTouches, TasksTouch, UnlessGone, UnlessStopped}
 use Rattle.txn_multi.specs.Touching.TaskTouches.{acts}

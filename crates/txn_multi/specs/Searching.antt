@@ -10,12 +10,10 @@ use Rattle.txn_history.specs.Spends.{calls, sleeps}
 use Rattle.txn_history.specs.Steps.{News, Steps}
 use Rattle.txn_history.specs.Turn.{IfEnds, IfKept, Turn}
 use Rattle.txn_kv.specs.declared.errors.Error.{Error}
-use Rattle.txn_kv.specs.declared.query.PdAnswer.{PdAnswer}
-use Rattle.txn_kv.specs.declared.query.PdQuery.{PdQuery}
 use Rattle.txn_multi.specs.Cutting.{cutting, AreWithin, GivesParts, IfParts, IsPlacement, Looking}
 use Rattle.txn_multi.specs.declared.part.Part.{Part}
 use Rattle.txn_plan.specs.Touch.{Touch}
-use Rattle.txn_search.specs.Search.{search_phase, search_waits, SearchAt}
+use Rattle.txn_search.specs.Search.{search_phase, search_waits, SearchAt, Seeks}
 
 -- The search goes on, after what is known: it asks further, or ends. So far it waited for what `was` says.
 pub record LooksOn {S A H L : Type 0} (m : Meaning S A) (is_part : S → S → Type 0) (load : S → L) (are_cut : L → List L → Type 0) (most : S → ℕ → ℕ)
@@ -29,20 +27,6 @@ pub record LooksOn {S A H L : Type 0} (m : Meaning S A) (is_part : S → S → T
   pub plan : new.plan ≡ old.plan
   pub calls : calls to ≤ calls from
   pub sleeps : sleeps to ≤ sleeps from
-
--- what came of one query was learnt, between look-ups
-pub record HasLearnt {C : Type 0} (t : Touch C) (old new : C) : Type 0 where
-  pub query : PdQuery
-  pub answer : Result PdAnswer Error
-  pub before : C
-  pub behind : C
-  pub looked : t.looked old before
-  pub learnt : t.learns query answer before behind
-  pub further : t.looked behind new
-
--- The client was looked at alone, and was told at most what came of one query.
-abbrev pub Seeks : {C : Type 0} → Touch C → C → C → Type 0
-Seeks t old new = t.looked old new ⊎ HasLearnt t old new
 
 -- What an event of the search does.
 pub record SearchSteps {S A H L C : Type 0} (m : Meaning S A) (is_part : S → S → Type 0) (load : S → L) (are_cut : L → List L → Type 0) (most : S → ℕ → ℕ) (t : Touch C) (news : News)

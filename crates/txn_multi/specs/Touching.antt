@@ -10,7 +10,7 @@ use Rattle.txn_kv.specs.declared.backoff.Backoff.{Backoff}
 use Rattle.txn_kv.specs.declared.errors.Error.{Error}
 use Rattle.txn_kv.specs.declared.message.RegionErr.{RegionErr}
 use Rattle.txn_kv.specs.declared.region.RegionVerId.{RegionVerId}
-use Rattle.txn_multi.specs.Searching.{Seeks}
+use Rattle.txn_search.specs.Search.{Seeks}
 use Rattle.txn_multi.specs.Task.{task_for, IsChanged}
 use Rattle.txn_multi.specs.declared.multi_region.RetryableMultiRegion.{RetryableMultiRegion}
 use Rattle.txn_multi.specs.declared.multi_stage.MultiStage.{MultiStage}

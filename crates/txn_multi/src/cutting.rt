@@ -10,11 +10,11 @@ ghost use Rattle.txn_history.specs.Turn.{turn_of, IfEnds, IfKept};
 ghost use Rattle.txn_history.specs.Turn.Turn.{Ends, Stopped, Waits};
 ghost use Rattle.txn_kv.specs.declared.errors.Error.TheVariants.{OutOfMemory};
 ghost use Rattle.txn_multi.specs.Cutting.{cutting, AreApplied, AreUsable, AreWithin, IfParts, IsLookUpRefused};
-ghost use Rattle.txn_multi.specs.Searching.{LooksOn, SearchSteps, Seeks};
+ghost use Rattle.txn_multi.specs.Searching.{LooksOn, SearchSteps};
 ghost use Rattle.txn_plan.specs.LookUp.{call_waits, looked_up, AwaitsLast};
 ghost use Rattle.txn_plan.specs.Touch.{touch};
 ghost use Rattle.txn_region.specs.Clients.{IsPlaceQuery, IsUsable, OrStarved};
-ghost use Rattle.txn_search.specs.Search.{search_phase, Holds, IsOut};
+ghost use Rattle.txn_search.specs.Search.{search_phase, Holds, IsOut, Seeks};
 ghost use Rattle.txn_shard.specs.Shards.{shards_of};
 ghost use Rattle.txn_tso.specs.Calling.{CallFits};
 

@@ -1,5 +1,5 @@
 -- Where a search stands that asks the placement driver one query after the other.
-use Rattle.std.specs.Prelude.{◌≡◌, ⊤, ℕ, Bool, false, true, List, refl}
+use Rattle.std.specs.Prelude.{◌≡◌, ◌⊎◌, ⊤, ℕ, Bool, false, true, List, Result, refl}
 use Rattle.std.proofs.Common.{subst, sym}
 use Rattle.txn_history.specs.Event.{Event}
 use Rattle.txn_history.specs.Later.{IsLater}
@@ -10,8 +10,11 @@ use Rattle.txn_history.specs.Phase.Phase.{Fresh, GivenUp, Over, Running}
 use Rattle.txn_history.specs.Posted.{Posted, Within}
 use Rattle.txn_kv.specs.declared.arrival.Arrival.{Arrival}
 use Rattle.txn_kv.specs.declared.arrival.Arrival.TheVariants as arrival
+use Rattle.txn_kv.specs.declared.errors.Error.{Error}
+use Rattle.txn_kv.specs.declared.query.PdAnswer.{PdAnswer}
 use Rattle.txn_kv.specs.declared.query.PdQuery.{PdQuery}
 use Rattle.txn_plan.specs.LookUp.{call_waits, looked_up-lawful}
+use Rattle.txn_plan.specs.Touch.{Touch}
 use Rattle.txn_search.specs.declared.search_stage.SearchStage.TheVariants as stage
 use Rattle.txn_search.specs.declared.search_stage.SearchStage.{SearchStage}
 use Rattle.txn_tso.specs.Calling.{CallFits}
@@ -68,6 +71,20 @@ tells_loss (arrival.Reply n x) = false
 tells_loss (arrival.Lost n) = true
 tells_loss (arrival.Slept n) = false
 tells_loss (arrival.Time n x) = false
+
+-- what came of one query was learnt, between look-ups
+pub record HasLearnt {C : Type 0} (t : Touch C) (old new : C) : Type 0 where
+  pub query : PdQuery
+  pub answer : Result PdAnswer Error
+  pub before : C
+  pub behind : C
+  pub looked : t.looked old before
+  pub learnt : t.learns query answer before behind
+  pub further : t.looked behind new
+
+-- The client was looked at alone, and was told at most what came of one query.
+abbrev pub Seeks : {C : Type 0} → Touch C → C → C → Type 0
+Seeks t old new = t.looked old new ⊎ HasLearnt t old new
 
 -- lemmas
 
