@@ -3,8 +3,10 @@ ghost use Rattle.txn_history.specs.Posted.{HasNumbers};
 ghost use Rattle.std.specs.Bool.{MatchBool};
 ghost use Rattle.txn_history.specs.Meaning.{IsUnbegun};
 ghost use Rattle.txn_history.specs.Phase.{unheard};
-ghost use Rattle.txn_history.specs.Turn.{turn_of};
-ghost use Rattle.txn_plan.specs.Dispatch.{dispatch, dispatch-lawful, stage_phase, unsent, IsSentOnce};
+ghost use Rattle.txn_history.specs.Arrivals.{arrives};
+ghost use Rattle.txn_history.specs.Steps.{IsCallable, Steps};
+ghost use Rattle.txn_history.specs.Turn.{turn_of, IfEnds};
+ghost use Rattle.txn_plan.specs.Dispatch.{dispatch, dispatch-lawful, stage_phase, unsent, IsSentOnce, IsToldBy};
 
 use crate::copy_request::CopyRequest;
 use crate::plan::Plan;
@@ -88,6 +90,47 @@ impl<R: CopyRequest> Dispatch<R> {
     }
 }
 
+impl<R: CopyRequest> Dispatch<R>
+where
+    R::Response: Drop,
+{
+    /// Takes what came. It posts nothing, and answers nothing but what the reply holds that came.
+    pub fn hear<C: PdClient>(
+        &mut self,
+        _pd: &mut C,
+        _now: u64,
+        arrival: Arrival,
+        out: &mut Outbox,
+    ) -> Result<Progress<R::Response>, NoMemory>
+        requires callable { IsCallable (dispatch R.request_of R.reply_of) self.old out.old _now }
+        ensures steps { Steps (dispatch R.request_of R.reply_of) (λ told from old new x y. y ≡ x) (arrives arrival out.old) self.old self.new out.old out.new _pd.old _pd.new (turn_of result) }
+        ensures quiet { out.new ≡ out.old }
+        ensures told { IfEnds (turn_of result) (IsToldBy R.reply_of arrival) }
+    {
+        match arrival {
+            Arrival::Reply { number, reply } => {
+                if !self.is_out(number) {
+                    return self.stay();
+                }
+                self.stage = Stage::Over;
+                Ok(Progress::Done(R::response(reply)))
+            },
+            Arrival::Lost { number } => {
+                if !self.is_out(number) {
+                    return self.stay();
+                }
+                self.stage = Stage::Over;
+                Ok(Progress::Done(Err(Error::GrpcAPI(out.ticket(number)))))
+            },
+            Arrival::Slept { number: _ } => self.stay(),
+            Arrival::Time { ask: _, answer } => {
+                drop(answer);
+                self.stay()
+            },
+        }
+    }
+}
+
 impl<R: CopyRequest> Plan for Dispatch<R>
 where
     R::Response: Drop,
@@ -122,32 +165,12 @@ where
 
     fn tell<C: PdClient>(
         &mut self,
-        _pd: &mut C,
-        _now: u64,
+        pd: &mut C,
+        now: u64,
         arrival: Arrival,
         out: &mut Outbox,
     ) -> Result<Progress<R::Response>, NoMemory> {
-        match arrival {
-            Arrival::Reply { number, reply } => {
-                if !self.is_out(number) {
-                    return self.stay();
-                }
-                self.stage = Stage::Over;
-                Ok(Progress::Done(R::response(reply)))
-            },
-            Arrival::Lost { number } => {
-                if !self.is_out(number) {
-                    return self.stay();
-                }
-                self.stage = Stage::Over;
-                Ok(Progress::Done(Err(Error::GrpcAPI(out.ticket(number)))))
-            },
-            Arrival::Slept { number: _ } => self.stay(),
-            Arrival::Time { ask: _, answer } => {
-                drop(answer);
-                self.stay()
-            },
-        }
+        self.hear(pd, now, arrival, out)
     }
 
     ghost lawful = { dispatch-lawful R.request_of R.reply_of };
