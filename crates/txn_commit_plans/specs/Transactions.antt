@@ -2,12 +2,12 @@
 use Rattle.std.specs.Prelude.{Result}
 use Rattle.txn_commit.specs.Ways.{AreLasting, IsOneEach, Ways}
 use Rattle.txn_commit.specs.declared.fetched.Fetched.{Fetched}
-use Rattle.txn_either.specs.Either.{either, either-lawful}
+use Rattle.txn_either.specs.Either.{either}
 use Rattle.txn_either.specs.declared.either.Either.{Either}
-use Rattle.txn_history.specs.Meaning.{IsLawful, Meaning}
+use Rattle.txn_history.specs.Meaning.{Meaning}
 use Rattle.txn_kv.specs.declared.errors.Error.{Error}
 use Rattle.txn_multi.specs.Few.{by_items}
-use Rattle.txn_commit_plans.specs.Done.{done, done-lawful}
+use Rattle.txn_commit_plans.specs.Done.{done}
 use Rattle.txn_commit_plans.specs.CausesOfPlans.{commits_caused, prewrites_caused, rollbacks_caused}
 use Rattle.txn_commit_plans.specs.Failing.{AreCaused, HasGivenWith, given_caused, has_given_longer}
 use Rattle.txn_commit_plans.specs.Kinds.{CommitPlan, PrewritePlan, RollbackPlan, commit_plan, commit_plan-lawful, commit_retries, prewrite_plan, prewrite_plan-lawful, prewrite_retries, rollback_plan, rollback_plan-lawful, rollback_retries}
@@ -30,11 +30,6 @@ transaction_ways = record {
 }
 
 -- lemmas
-
-pub transaction_plan-lawful : IsLawful transaction_plan
-transaction_plan-lawful =
-    either-lawful (done prewrite_plan) (either (done commit_plan) (done rollback_plan)) (done-lawful prewrite_plan prewrite_plan-lawful)
-    (either-lawful (done commit_plan) (done rollback_plan) (done-lawful commit_plan commit_plan-lawful) (done-lawful rollback_plan rollback_plan-lawful))
 
 pub transactions_last : AreLasting transaction_ways
 transactions_last = record {

@@ -13,6 +13,7 @@ pub mod own;
 pub mod prewrite;
 pub mod send;
 pub mod transaction_plan;
+pub mod transaction_plans;
 
 pub use batch_rollback::BatchRollbackPlan;
 pub use commit::CommitPlan;
@@ -24,3 +25,4 @@ pub use over_regions::OverRegions;
 pub use own::Own;
 pub use prewrite::PrewritePlan;
 pub use transaction_plan::TransactionPlan;
+pub use transaction_plans::TransactionPlans;

@@ -2,11 +2,11 @@
 use Rattle.std.specs.Prelude.{⊤, ℕ, List, map, Result}
 use Rattle.txn_commit.specs.Ways.{AreLasting, Ways}
 use Rattle.txn_commit.specs.declared.fetched.Fetched.{Fetched}
-use Rattle.txn_commit_plans.specs.Done.{done, done-lawful}
-use Rattle.txn_either.specs.Either.{either, either-lawful}
+use Rattle.txn_commit_plans.specs.Done.{done}
+use Rattle.txn_either.specs.Either.{either}
 use Rattle.txn_either.specs.declared.either.Either.{Either}
 use Rattle.txn_history.specs.Event.{Event}
-use Rattle.txn_history.specs.Meaning.{IsLawful, Meaning}
+use Rattle.txn_history.specs.Meaning.{Meaning}
 use Rattle.txn_kv.specs.ErrorView.{key}
 use Rattle.txn_kv.specs.declared.errors.Error.{Error}
 use Rattle.txn_kv.specs.declared.reply.Reply.TheVariants as reply
@@ -20,8 +20,8 @@ use Rattle.txn_kv.specs.declared.request.commits.PrewriteRequest.{PrewriteReques
 use Rattle.txn_merge.specs.KeyErrors.{views_of_error}
 use Rattle.txn_merge.specs.RegionErrors.{listed}
 use Rattle.txn_merge.specs.declared.retry_options.RetryOptions.{RetryOptions}
-use Rattle.txn_plan.specs.Dispatch.{dispatch, dispatch-lawful}
-use Rattle.txn_plan.specs.Extracted.{extracted, extracted-lawful}
+use Rattle.txn_plan.specs.Dispatch.{dispatch}
+use Rattle.txn_plan.specs.Extracted.{extracted}
 use Rattle.txn_plan.specs.declared.dispatch.Dispatch.{Dispatch}
 use Rattle.txn_plan.specs.declared.extract_error.ExtractError.{ExtractError}
 
@@ -60,11 +60,6 @@ once_ways = record {
 }
 
 -- lemmas
-
-pub once_plan-lawful : IsLawful once_plan
-once_plan-lawful =
-    either-lawful (done one_prewrite) (either (done one_commit) (done one_rollback)) (done-lawful one_prewrite (extracted-lawful _ _ _ (dispatch-lawful Prewrite reply.Prewrite)))
-    (either-lawful (done one_commit) (done one_rollback) (done-lawful one_commit (extracted-lawful _ _ _ (dispatch-lawful Commit reply.Commit))) (done-lawful one_rollback (extracted-lawful _ _ _ (dispatch-lawful BatchRollback reply.BatchRollback))))
 
 pub onces_last : AreLasting once_ways
 onces_last = record { unwritten = λ o h longer e w r. tt; uncommitted = λ o h longer e w r. tt; unrolled = λ o h longer e w r. tt }

@@ -4,27 +4,26 @@ ghost use Rattle.txn_plan.specs.Dispatch.{unsent};
 
 use crate::own::Own;
 use std::alloc::Global;
-use txn_commit::{Fetched, Plans};
-use txn_commit_plans::Done;
+use txn_commit_plans::{Done, TransactionPlans};
 use txn_either::Either;
-use txn_kv::{
-    Arrival, BatchRollbackRequest, CommitRequest, NoMemory, Outbox, PrewriteRequest, Progress,
-    StoreId,
-};
+use txn_kv::{BatchRollbackRequest, CommitRequest, PrewriteRequest, StoreId};
 use txn_merge::{HasKeyErrors, HasRegionErrors, RetryOptions};
-use txn_plan::{CopyRequest, Dispatch, ExtractError, Plan};
+use txn_plan::{CopyRequest, Dispatch, ExtractError};
 use txn_region::PdClient;
 
 /// Sends the request, and takes the errors out of its reply.
 type Sent<R> = ExtractError<Dispatch<R>>;
 
-type Inner = Either<
-    Done<Sent<PrewriteRequest>>,
-    Either<Done<Sent<CommitRequest>>, Done<Sent<BatchRollbackRequest>>>,
+/// One of the plans that send a request once. It is of this crate, and so may keep a trait of another.
+type AnyOnce = Own<
+    Either<
+        Done<Sent<PrewriteRequest>>,
+        Either<Done<Sent<CommitRequest>>, Done<Sent<BatchRollbackRequest>>>,
+    >,
 >;
 
-/// A plan that sends its request once.
-pub type Once = Own<Inner>;
+/// A plan that sends its request once, as one by which a transaction may go.
+pub type Once = txn_commit_plans::Own<AnyOnce>;
 
 /// A plan that sends this to a store.
 fn sent<R: CopyRequest>(alloc: Global, request: R, store: StoreId) -> Sent<R>
@@ -48,22 +47,26 @@ fn store_for(retry_options: &RetryOptions) -> StoreId {
     }
 }
 
-impl Plans for Once {
-    ghost use Rattle.txn_fakes.specs.Once.{once_ways, once_plan-lawful, onces_last};
+impl TransactionPlans for AnyOnce {
+    ghost use Rattle.txn_fakes.specs.Once.{once_ways, onces_last};
 
-    ghost ways = { once_ways };
+    ghost unwritten = { once_ways.unwritten };
 
-    ghost touches = { λ touch told from old new pd pd'. ⟦<Once as Plan>⟧.touches touch told from old new pd pd' };
+    ghost uncommitted = { once_ways.uncommitted };
+
+    ghost unrolled = { once_ways.unrolled };
+
+    ghost costs = { once_ways.costs };
 
     fn prewrite<C: PdClient>(
         alloc: Global,
         _pd: &C,
         request: PrewriteRequest,
         retry_options: RetryOptions,
-    ) -> Result<Self, NoMemory> {
+    ) -> Self {
         let store = store_for(&retry_options);
         let plan = Done::new(sent(alloc, request, store));
-        Ok(Own::new(Either::First(plan)))
+        Own::new(Either::First(plan))
     }
 
     fn commit<C: PdClient>(
@@ -71,10 +74,10 @@ impl Plans for Once {
         _pd: &C,
         request: CommitRequest,
         retry_options: RetryOptions,
-    ) -> Result<Self, NoMemory> {
+    ) -> Self {
         let store = store_for(&retry_options);
         let plan = Done::new(sent(alloc, request, store));
-        Ok(Own::new(Either::Second(Either::First(plan))))
+        Own::new(Either::Second(Either::First(plan)))
     }
 
     fn roll_back<C: PdClient>(
@@ -82,10 +85,10 @@ impl Plans for Once {
         _pd: &C,
         request: BatchRollbackRequest,
         retry_options: RetryOptions,
-    ) -> Result<Self, NoMemory> {
+    ) -> Self {
         let store = store_for(&retry_options);
         let plan = Done::new(sent(alloc, request, store));
-        Ok(Own::new(Either::Second(Either::Second(plan))))
+        Own::new(Either::Second(Either::Second(plan)))
     }
 
     fn width(&self) -> u64 {
@@ -95,27 +98,6 @@ impl Plans for Once {
             Either::Second(Either::Second(_)) => 0,
         }
     }
-
-    fn start<C: PdClient>(
-        &mut self,
-        pd: &mut C,
-        now: u64,
-        out: &mut Outbox,
-    ) -> Result<Progress<Fetched>, NoMemory> {
-        Plan::start(self, pd, now, out)
-    }
-
-    fn tell<C: PdClient>(
-        &mut self,
-        pd: &mut C,
-        now: u64,
-        arrival: Arrival,
-        out: &mut Outbox,
-    ) -> Result<Progress<Fetched>, NoMemory> {
-        Plan::tell(self, pd, now, arrival, out)
-    }
-
-    ghost lawful = { once_plan-lawful };
 
     ghost lasting = { onces_last };
 }
