@@ -1,0 +1,4 @@
+use Rattle.txn_commit_plans.proofs.over_regions.OverRegionsPlan.start.Goals as goal
+
+pub returns : goal.returns
+returns g c = rw c.self.view_is at c.start.ensures
