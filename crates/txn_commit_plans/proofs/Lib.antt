@@ -1,5 +1,6 @@
 pub mod Answering
 pub mod Beating
+pub mod Frugal
 pub mod Making
 pub mod Pieces
 pub mod Placing

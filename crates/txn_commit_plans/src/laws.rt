@@ -75,9 +75,7 @@ pub fn commits_by_plans_are_bounded()
     ensures rollback { (first : Step AnyPlan) (steps : List (Step AnyPlan))
         → Runs ⟦<TransactionPlan as Plans>⟧.ways ⟦<TransactionPlan as Plans>⟧.ways.costs (rollback_price ⟦<TransactionPlan as Plans>⟧.ways.costs (parts_of first.old.contents)) first steps
         → posted (first ∷ steps) ≤ (1 + errors steps) * (2 * length (mutations first.old.contents.entries) + 9 + weighed steps) }
-{
-    frugal_commits_are_bounded::<TransactionPlan>();
-}
+{}
 
 /// The job of k other keys, which is not started, posts no more than k requests.
 pub fn jobs_by_plans_are_bounded()

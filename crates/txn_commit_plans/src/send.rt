@@ -1,4 +1,4 @@
-//! Each type of this crate can move between threads.
+//! Each wrapper of this crate can move between threads.
 
 use crate::done::Done;
 use crate::own::Own;

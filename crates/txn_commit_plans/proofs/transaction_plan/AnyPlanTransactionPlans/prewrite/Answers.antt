@@ -1,7 +1,7 @@
 use Rattle.txn_commit_plans.specs.Done.{done}
 use Rattle.txn_commit_plans.specs.Kinds.{commit_plan, prewrite_plan, rollback_plan}
 use Rattle.txn_either.specs.Either.{either}
-use Rattle.txn_commit_plans.proofs.Making.{done_plan_for, first_plan_for, second_plan_for}
+use Rattle.txn_commit_plans.proofs.Making.{done_plan_for, first_plan_for}
 use Rattle.txn_commit_plans.proofs.transaction_plan.AnyPlanTransactionPlans.prewrite.Goals as goal
 
 pub returns : goal.returns
