@@ -1,11 +1,10 @@
 -- Plans that send their request once, as one type.
-use Rattle.std.specs.Prelude.{⊤, ℕ, List, map, Result}
+use Rattle.std.specs.Prelude.{⊤, map, Result}
 use Rattle.txn_commit.specs.Ways.{AreLasting, Ways}
 use Rattle.txn_commit.specs.declared.fetched.Fetched.{Fetched}
 use Rattle.txn_commit_plans.specs.Done.{done}
 use Rattle.txn_either.specs.Either.{either}
 use Rattle.txn_either.specs.declared.either.Either.{Either}
-use Rattle.txn_history.specs.Event.{Event}
 use Rattle.txn_history.specs.Meaning.{Meaning}
 use Rattle.txn_kv.specs.ErrorView.{key}
 use Rattle.txn_kv.specs.declared.errors.Error.{Error}
@@ -19,7 +18,6 @@ use Rattle.txn_kv.specs.declared.request.commits.CommitRequest.{CommitRequest}
 use Rattle.txn_kv.specs.declared.request.commits.PrewriteRequest.{PrewriteRequest}
 use Rattle.txn_merge.specs.KeyErrors.{views_of_error}
 use Rattle.txn_merge.specs.RegionErrors.{listed}
-use Rattle.txn_merge.specs.declared.retry_options.RetryOptions.{RetryOptions}
 use Rattle.txn_plan.specs.Dispatch.{dispatch}
 use Rattle.txn_plan.specs.Extracted.{extracted}
 use Rattle.txn_plan.specs.declared.dispatch.Dispatch.{Dispatch}
