@@ -134,28 +134,28 @@ fn options() -> RetryOptions {
     )
 }
 
-fn prewrite_width(alloc: Global) -> Result<u64, NoMemory> {
+fn prewrite_width<P: Plans>(alloc: Global) -> Result<u64, NoMemory> {
     let request = new_prewrite_request(alloc, Items::new(alloc), Key::empty(alloc), 5, 3000);
-    let plan = TransactionPlan::prewrite(alloc, &NoClient::new(), request, options())?;
+    let plan = P::prewrite(alloc, &NoClient::new(), request, options())?;
     Ok(plan.width())
 }
 
-fn commit_width(alloc: Global) -> Result<u64, NoMemory> {
+fn commit_width<P: Plans>(alloc: Global) -> Result<u64, NoMemory> {
     let request = new_commit_request(Items::new(alloc), 5, 6);
-    let plan = TransactionPlan::commit(alloc, &NoClient::new(), request, options())?;
+    let plan = P::commit(alloc, &NoClient::new(), request, options())?;
     Ok(plan.width())
 }
 
-fn rollback_width(alloc: Global) -> Result<u64, NoMemory> {
+fn rollback_width<P: Plans>(alloc: Global) -> Result<u64, NoMemory> {
     let request = new_batch_rollback_request(Items::new(alloc), 5);
-    let plan = TransactionPlan::roll_back(alloc, &NoClient::new(), request, options())?;
+    let plan = P::roll_back(alloc, &NoClient::new(), request, options())?;
     Ok(plan.width())
 }
 
-fn widths(rt: &HostRuntime) {
-    show(rt, &prewrite_width(rt.alloc()));
-    show(rt, &commit_width(rt.alloc()));
-    show(rt, &rollback_width(rt.alloc()));
+fn widths<P: Plans>(rt: &HostRuntime) {
+    show(rt, &prewrite_width::<P>(rt.alloc()));
+    show(rt, &commit_width::<P>(rt.alloc()));
+    show(rt, &rollback_width::<P>(rt.alloc()));
 }
 
 /// Nothing is done: that each can move is checked as this is compiled.
@@ -168,7 +168,7 @@ pub fn serve(rt: &HostRuntime, words: &[&str]) {
     match word(words, 0) {
         "plan" => play(rt, words),
         "stored" => stored(rt),
-        "widths" => widths(rt),
+        "widths" => widths::<TransactionPlan>(rt),
         _ => moves(),
     }
 }
