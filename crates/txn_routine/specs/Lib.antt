@@ -1,2 +1,4 @@
 pub mod Next
+pub mod OneOf
+pub mod RoutinePlan
 pub mod Way
