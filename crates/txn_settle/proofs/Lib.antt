@@ -1,3 +1,4 @@
 pub mod Licensing
+pub mod Losses
 pub mod Noting
 pub mod Searching

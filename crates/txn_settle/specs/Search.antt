@@ -1,25 +1,27 @@
 -- The look-up of a key's place.
-use Rattle.std.specs.Prelude.{◌≡◌, ◌≢◌, ⊤, ◌≤◌, false, List, Result, Ok, Err, refl}
+use Rattle.std.specs.Prelude.{◌≡◌, ◌≢◌, ⊤, ◌≤◌, Bool, true, false, List, Result, Ok, Err, refl}
 use Rattle.std.proofs.Math.Nat.{le_refl}
 use Rattle.txn_history.specs.Event.{Event}
-use Rattle.txn_history.specs.Foreign.{IsForeign}
+use Rattle.txn_history.specs.Faults.{is_loss}
 use Rattle.txn_history.specs.Meaning.{Expects, IsLawful, IsUnbegun, Meaning}
 use Rattle.txn_history.specs.Moves.{Moves}
 use Rattle.txn_history.specs.Phase.{phase_after, Awaited}
 use Rattle.txn_history.specs.Plan.{Key}
 use Rattle.txn_history.specs.Posted.{Posted, Within}
 use Rattle.txn_history.specs.Spends.{calls, sleeps}
-use Rattle.txn_history.specs.Turn.{Turn}
+use Rattle.txn_history.specs.Turn.{failing, Turn}
 use Rattle.txn_history.specs.Turn.Turn.{Stopped, Waits, Ends}
 use Rattle.txn_kv.specs.declared.errors.Error.{Error}
 use Rattle.txn_kv.specs.declared.errors.Error.TheVariants.{OutOfMemory}
 use Rattle.txn_kv.specs.declared.query.PdAnswer.{PdAnswer}
+use Rattle.txn_kv.specs.declared.request.Request.{Request}
 use Rattle.txn_plan.specs.LookUp.{looked_up, looked_up-lawful}
 use Rattle.txn_region.specs.Clients.{IsPlaceQuery, IsRefused}
 use Rattle.txn_search.specs.Search.{search_phase, search_runs, search_waits, something, was_posted, IsOut, SearchAt, SearchAt-longer}
 use Rattle.txn_search.specs.declared.search_stage.SearchStage.TheVariants as stage
 use Rattle.txn_search.specs.declared.search_stage.SearchStage.{SearchStage}
 use Rattle.txn_settle.specs.declared.key_search.KeySearch.{KeySearch}
+use Rattle.txn_tso.specs.Calling.{MayAsk}
 use Rattle.txn_tso.specs.declared.pd_call.PdCall.{PdCall}
 
 -- Why a place was not found: what came of a query for a region or a store is refused.
@@ -35,11 +37,25 @@ abbrev pub GivesPlace : {T : Type 0} → (Key → T → Type 0) → Key → List
 GivesPlace is_of key h (Ok place) = is_of key place
 GivesPlace is_of key h (Err why) = IsUnplaced h why
 
+-- a query for a region or a store may ask so
+abbrev pub AsksPlace : List Event → Request → Type 0
+AsksPlace h r = (call : PdCall) × IsPlaceQuery call.query × MayAsk call h r
+
+-- the answer is one that a new run may better: a request was lost
+abbrev pub search_fails : {T : Type 0} → Result T Error → Bool
+search_fails (Ok place) = false
+search_fails (Err why) = is_loss why
+
+-- P, unless the look-up gave up for want of memory
+abbrev pub UnlessStopped : SearchStage → Type 0 → Type 0
+UnlessStopped stage.Stopped P = ⊤
+UnlessStopped _ P = P
+
 -- It asks the placement driver alone, which is no call of a store.
 abbrev pub searching : {T : Type 0} → (Key → T → Type 0) → Meaning (KeySearch T) (Result T Error)
 searching is_of = record {
   fits = λ s o h. SearchAt s.stage o h;
-  asks = λ s h r. IsForeign h r;
+  asks = λ s h r. AsksPlace h r;
   gives = λ s h v. GivesPlace is_of s.key h v;
   phase = λ s. search_phase s.stage;
   waits = λ s a. search_waits s.stage a;
@@ -48,16 +64,18 @@ searching is_of = record {
   left = λ s n. 0;
   width = λ s. 0;
   bears = λ s w. ⊤;
-  fails = λ v. false;
+  fails = search_fails;
 }
 
--- The look-up goes on, after what is known: it asks, or waits, or ends. So far it waited for what `was` says.
-pub record SearchesOn {T : Type 0} (is_of : Key → T → Type 0) (known : List Event → Type 0) (was : Awaited → Type 0) (old new : KeySearch T) (from to : Posted) (turn : Turn (Result T Error)) : Type 0 where
-  pub moves : Moves IsForeign known (λ h. SearchAt new.stage to h) (λ h v. GivesPlace is_of old.key h v) (λ h. h) from to turn
+-- The look-up goes on, after what is known: it asks, or waits, or ends. So far it waited for what `was` says, and only where its
+-- query was `lost` its answer is a loss.
+pub record SearchesOn {T : Type 0} (is_of : Key → T → Type 0) (known : List Event → Type 0) (was : Awaited → Type 0) (lost : Bool) (old new : KeySearch T) (from to : Posted) (turn : Turn (Result T Error)) : Type 0 where
+  pub moves : Moves AsksPlace known (λ h. SearchAt new.stage to h) (λ h v. GivesPlace is_of old.key h v) (λ h. h) from to turn
   pub expects : Expects was (search_waits new.stage) (λ a. ⊥) from to
   pub next : search_phase new.stage ≡ phase_after turn
   pub ready : IsOut IsPlaceQuery new.stage
   pub key : new.key ≡ old.key
+  pub fails : failing search_fails turn ≡ true → lost ≡ true
   pub calls : calls to ≤ calls from
   pub sleeps : sleeps to ≤ sleeps from
 

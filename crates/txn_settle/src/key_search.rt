@@ -1,21 +1,22 @@
 //! The look-up of a key's place.
-ghost use Rattle.std.specs.Prelude.{◌≡◌, ⊤};
-ghost use Rattle.txn_history.specs.Arrivals.{arrives};
+ghost use Rattle.std.specs.Prelude.{◌≡◌, ⊤, false};
 ghost use Rattle.txn_history.specs.Meaning.{IsUnbegun};
 ghost use Rattle.txn_history.specs.Moves.{Knows};
 ghost use Rattle.txn_history.specs.Posted.{HasNumbers};
-ghost use Rattle.txn_history.specs.Steps.{begins, Steps};
-ghost use Rattle.txn_history.specs.Turn.{turn_of};
+ghost use Rattle.txn_history.specs.Turn.{turn_of, failing, IfKept};
 ghost use Rattle.txn_history.specs.Turn.Turn.{Ends, Waits};
 ghost use Rattle.txn_plan.specs.LookUp.{call_waits, looked_up, AwaitsLast};
+ghost use Rattle.txn_plan.specs.Touch.{touch};
 ghost use Rattle.txn_region.specs.Clients.{IsPlaceQuery};
-ghost use Rattle.txn_search.specs.Search.{Holds, IsOut};
-ghost use Rattle.txn_settle.specs.Search.{searching, IsRefusal, SearchesOn};
+ghost use Rattle.txn_search.specs.Search.{Holds, IsOut, Seeks};
+ghost use Rattle.txn_settle.specs.Search.{searching, searching-lawful, IsRefusal, SearchesOn, UnlessStopped};
 ghost use Rattle.txn_tso.specs.Calling.{CallFits};
+ghost use Rattle.txn_tso.specs.Counting.{is_loss};
 
 use crate::place::Place;
 use std::marker::PhantomData;
 use txn_kv::{Arrival, Error, Key, Look, NoMemory, Outbox, PdAnswer, PdQuery, Progress, Result};
+use txn_plan::Plan;
 use txn_region::PdClient;
 use txn_search::{SearchStage, pass_over, tell_query};
 use txn_tso::PdCall;
@@ -60,52 +61,12 @@ impl<T: Place> KeySearch<T> {
         &self.key
     }
 
-    /// Begins. Nothing is said of what it makes of the client.
-    pub fn start<C: PdClient>(&mut self, pd: &mut C, now: u64, out: &mut Outbox) -> Turn<T>
-        requires ready { IsOut IsPlaceQuery self.old.stage }
-        requires numbers { HasNumbers out.old }
-        ensures steps { Steps (searching T.is_of) (λ told from old new x y. ⊤) begins self.old self.new out.old out.new pd.old pd.new (turn_of result) }
-        ensures key { self.new.key ≡ self.old.key }
-    {
-        if self.stage.is_fresh() {
-            self.stage = SearchStage::Stopped;
-            self.look(pd, now, out)
-        } else {
-            self.stage.stay()
-        }
-    }
-
-    /// Takes what came. It never waits for a timestamp.
-    pub fn tell<C: PdClient>(
-        &mut self,
-        pd: &mut C,
-        now: u64,
-        arrival: Arrival,
-        out: &mut Outbox,
-    ) -> Turn<T>
-        requires ready { IsOut IsPlaceQuery self.old.stage }
-        requires numbers { HasNumbers out.old }
-        ensures steps { Steps (searching T.is_of) (λ told from old new x y. ⊤) (arrives arrival out.old) self.old self.new out.old out.new pd.old pd.new (turn_of result) }
-        ensures key { self.new.key ≡ self.old.key }
-    {
-        match self.stage.take(&arrival) {
-            Some(call) => {
-                let mut call = call;
-                let turn = tell_query(&mut call, pd.retry_client(), now, arrival, out);
-                self.hear(call, turn, pd, now, out)
-            }
-            None => {
-                drop(arrival);
-                self.stage.stay()
-            }
-        }
-    }
-
     /// Looks for the place, and asks what is not known of it.
     fn look<C: PdClient>(&mut self, pd: &mut C, now: u64, out: &mut Outbox) -> Turn<T>
         requires stopped { self.old.stage ≡ SearchStage.Stopped }
         requires numbers { HasNumbers out.old }
-        ensures on { SearchesOn T.is_of (λ h. ⊤) (λ a. ⊥) self.old self.new out.old out.new (turn_of result) }
+        ensures on { SearchesOn T.is_of (λ h. ⊤) (λ a. ⊥) false self.old self.new out.old out.new (turn_of result) }
+        ensures changed { C.looked pd.old pd.new }
     {
         match T::look(pd, &self.key) {
             Ok(Look::Found(place)) => self.end(Ok(place)),
@@ -129,7 +90,8 @@ impl<T: Place> KeySearch<T> {
         requires stopped { self.old.stage ≡ SearchStage.Stopped }
         requires place { IsPlaceQuery query }
         requires numbers { HasNumbers out.old }
-        ensures on { SearchesOn T.is_of (λ h. ⊤) (λ a. ⊥) self.old self.new out.old out.new (turn_of result) }
+        ensures on { SearchesOn T.is_of (λ h. ⊤) (λ a. ⊥) false self.old self.new out.old out.new (turn_of result) }
+        ensures changed { C.looked pd.old pd.new }
     {
         let mut call = pd.call(query);
         let progress = call.start(pd.retry_client(), now, out)?;
@@ -150,7 +112,8 @@ impl<T: Place> KeySearch<T> {
         requires place { IsPlaceQuery call.query }
         requires waits { turn_of turn ≡ Waits → AwaitsLast call out.old }
         requires numbers { HasNumbers out.old }
-        ensures on { SearchesOn T.is_of (Knows (turn_of turn) (λ h. CallFits call out.old h) (λ h v. looked_up.gives call h v)) (call_waits call.stage) self.old self.new out.old out.new (turn_of result) }
+        ensures on { SearchesOn T.is_of (Knows (turn_of turn) (λ h. CallFits call out.old h) (λ h v. looked_up.gives call h v)) (call_waits call.stage) (failing is_loss (turn_of turn)) self.old self.new out.old out.new (turn_of result) }
+        ensures client { IfKept (turn_of result) (Seeks (touch C.looked C.learns C.leads C.drops) pd.old pd.new) }
     {
         match turn? {
             Progress::Waiting => self.wait(call, out),
@@ -182,7 +145,8 @@ impl<T: Place> KeySearch<T> {
         requires stopped { self.old.stage ≡ SearchStage.Stopped }
         requires place { IsPlaceQuery call.query }
         requires numbers { HasNumbers out.old }
-        ensures on { SearchesOn T.is_of (λ h. looked_up.gives call h answer) (λ a. ⊥) self.old self.new out.old out.new (turn_of result) }
+        ensures on { SearchesOn T.is_of (λ h. looked_up.gives call h answer) (λ a. ⊥) (is_loss answer) self.old self.new out.old out.new (turn_of result) }
+        ensures client { IfKept (turn_of result) (Seeks (touch C.looked C.learns C.leads C.drops) pd.old pd.new) }
     {
         match pd.learn(call.query(), &answer) {
             Ok(()) => self.look(pd, now, out),
@@ -209,4 +173,56 @@ impl<T: Place> KeySearch<T> {
         self.stage = SearchStage::Over;
         Ok(Progress::Done(answer))
     }
+}
+
+impl<T: Place> Plan for KeySearch<T> {
+    type Result = T;
+
+    ghost meaning = { searching T.is_of };
+
+    ghost touches = { λ touch told from old new pd pd'. UnlessStopped new.stage (Seeks touch pd pd') };
+
+    /// Only a look-up that is not begun is copied.
+    fn try_clone(&self) -> std::result::Result<Self, NoMemory> {
+        if !self.stage.is_fresh() {
+            return Err(NoMemory);
+        }
+        Ok(KeySearch {
+            key: self.key.try_clone()?,
+            stage: SearchStage::Fresh,
+            of: PhantomData,
+        })
+    }
+
+    fn start<C: PdClient>(&mut self, pd: &mut C, now: u64, out: &mut Outbox) -> Turn<T> {
+        if self.stage.is_fresh() {
+            self.stage = SearchStage::Stopped;
+            self.look(pd, now, out)
+        } else {
+            self.stage.stay()
+        }
+    }
+
+    /// It never waits for a timestamp.
+    fn tell<C: PdClient>(
+        &mut self,
+        pd: &mut C,
+        now: u64,
+        arrival: Arrival,
+        out: &mut Outbox,
+    ) -> Turn<T> {
+        match self.stage.take(&arrival) {
+            Some(call) => {
+                let mut call = call;
+                let turn = tell_query(&mut call, pd.retry_client(), now, arrival, out);
+                self.hear(call, turn, pd, now, out)
+            }
+            None => {
+                drop(arrival);
+                self.stage.stay()
+            }
+        }
+    }
+
+    ghost lawful = { searching-lawful T.is_of };
 }
