@@ -4,3 +4,4 @@ pub mod Keeping
 pub mod Placing
 pub mod Removing
 pub mod Resulting
+pub mod Trying

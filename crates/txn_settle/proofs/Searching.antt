@@ -34,7 +34,7 @@ use Rattle.txn_search.specs.Search.{search_phase, search_waits, tells_loss, Hold
 use Rattle.txn_search.specs.declared.search_stage.SearchStage.TheVariants as search
 use Rattle.txn_search.specs.declared.search_stage.SearchStage.{SearchStage}
 use Rattle.txn_search.proofs.Held.{asks_none, held_at, held_fits, held_out, held_query, held_runs, held_waits, loss_fails, waits_held}
-use Rattle.txn_settle.specs.Search.{search_fails, searching, searching-lawful, AsksPlace, GivesPlace, IsRefusal, SearchesOn, UnlessStopped}
+use Rattle.txn_settle.specs.Search.{is_lost, searching, searching-lawful, AsksPlace, GivesPlace, IsRefusal, SearchesOn, UnlessStopped}
 use Rattle.txn_settle.proofs.Losses.{refused_lost}
 use Rattle.txn_settle.specs.declared.key_search.KeySearch.{KeySearch}
 use Rattle.txn_tso.specs.Calling.{CallFits}
@@ -112,7 +112,7 @@ module _ {T : Type 0} (is_of : Key → T → Type 0) where
   -- it has answered
   pub ended : {known : List Event → Type 0} {was : Awaited → Type 0} {lost : Bool} {old new : KeySearch T} {o : Posted} (v : Result T Error)
       → new ≡ record old { stage = search.Over } → ((h : List Event) → known h → GivesPlace is_of old.key h v)
-      → (search_fails v ≡ true → lost ≡ true)
+      → (is_lost v ≡ true → lost ≡ true)
       → SearchesOn is_of known was lost old new o o (Ends v)
   ended v e gives fails =
       let over = ap (λ (s : KeySearch T). s.stage) e in
@@ -194,7 +194,7 @@ module _ {T : Type 0} (is_of : Key → T → Type 0) where
   -- No call of a store is made. An answer that is a loss leaves what was allowed for one.
   pub counted : {bad fails : Bool} {weight locked : ℕ} {old new : KeySearch T} {from to : Posted} {turn : Turn (Result T Error)}
       → calls to ≤ calls from → sleeps to ≤ sleeps from + spare fails false 1
-      → (failing search_fails turn ≡ true → (fails ≡ true) × (sleeps to ≤ sleeps from))
+      → (failing is_lost turn ≡ true → (fails ≡ true) × (sleeps to ≤ sleeps from))
       → Counts (searching is_of) bad fails weight locked old new from to turn
   counted {fails = fails} {locked = locked} {from = from} {to = to} {turn = turn} few awake lost = record {
     spends = record {
@@ -203,7 +203,7 @@ module _ {T : Type 0} (is_of : Key → T → Type 0) where
       allowed = λ k f. (lost f).0;
       spends = λ k n w u l b. omega arith;
       stopped = λ n w u l b. omega arith;
-      rests = λ k. let r = rested fails (failing search_fails turn) (sleeps from) (sleeps to) awake (λ f. (lost f).1) in omega arith;
+      rests = λ k. let r = rested fails (failing is_lost turn) (sleeps from) (sleeps to) awake (λ f. (lost f).1) in omega arith;
       stopped_rests = omega arith;
     };
     fewer = λ n. le_refl 0;

@@ -42,9 +42,9 @@ abbrev pub AsksPlace : List Event → Request → Type 0
 AsksPlace h r = (call : PdCall) × IsPlaceQuery call.query × MayAsk call h r
 
 -- the answer is one that a new run may better: a request was lost
-abbrev pub search_fails : {T : Type 0} → Result T Error → Bool
-search_fails (Ok place) = false
-search_fails (Err why) = is_loss why
+abbrev pub is_lost : {T : Type 0} → Result T Error → Bool
+is_lost (Ok place) = false
+is_lost (Err why) = is_loss why
 
 -- P, unless the look-up gave up for want of memory
 abbrev pub UnlessStopped : SearchStage → Type 0 → Type 0
@@ -64,7 +64,7 @@ searching is_of = record {
   left = λ s n. 0;
   width = λ s. 0;
   bears = λ s w. ⊤;
-  fails = search_fails;
+  fails = is_lost;
 }
 
 -- The look-up goes on, after what is known: it asks, or waits, or ends. So far it waited for what `was` says, and only where its
@@ -75,7 +75,7 @@ pub record SearchesOn {T : Type 0} (is_of : Key → T → Type 0) (known : List 
   pub next : search_phase new.stage ≡ phase_after turn
   pub ready : IsOut IsPlaceQuery new.stage
   pub key : new.key ≡ old.key
-  pub fails : failing search_fails turn ≡ true → lost ≡ true
+  pub fails : failing is_lost turn ≡ true → lost ≡ true
   pub calls : calls to ≤ calls from
   pub sleeps : sleeps to ≤ sleeps from
 
